@@ -1,0 +1,60 @@
+ghost use Rattle.std.specs.Prelude.{◌≡◌, ◌↔◌, IsTrue, Some};
+ghost use Rattle.pl_frame.specs.Address.{IsGroup, hex_pair, mac_text, ip4_text};
+
+use std::fmt;
+
+/// A 48-bit MAC address (IEEE 802), its bytes in the order of transmission.
+#[derive(Clone, Copy, Debug, PartialEq, Eq, PartialOrd, Ord, Hash)]
+pub struct Mac(pub [u8; 6]);
+
+impl Mac {
+    pub const BROADCAST: Mac = Mac([0xff; 6]);
+
+    /// Whether the address names a group: the low bit of its first byte is set.
+    pub fn is_group(&self) -> bool
+        ensures { IsTrue result ↔ IsGroup self.now }
+    {
+        self.0[0] % 2 == 1
+    }
+}
+
+/// Six two-digit lower-case hexadecimal numbers joined by colons.
+impl fmt::Display for Mac {
+    ghost output = { λ mac. Some (mac_text mac) };
+
+    fn fmt<W: fmt::Write>(&self, f: &mut fmt::Formatter<W>) -> fmt::Result {
+        let [b0, b1, b2, b3, b4, b5] = self.0.map(HexPair);
+        write!(f, "{b0}:{b1}:{b2}:{b3}:{b4}:{b5}")
+    }
+}
+
+// A byte as two hexadecimal digits.
+#[derive(Clone, Copy)]
+struct HexPair(u8);
+
+impl fmt::Display for HexPair {
+    ghost output = { λ pair. Some (hex_pair pair.0) };
+
+    fn fmt<W: fmt::Write>(&self, f: &mut fmt::Formatter<W>) -> fmt::Result {
+        let byte = self.0;
+        write!(f, "{byte:02x}")
+    }
+}
+
+/// An IPv4 address, its first byte the most significant.
+#[derive(Clone, Copy, Debug, PartialEq, Eq, PartialOrd, Ord, Hash)]
+pub struct Ip4(pub u32);
+
+/// Dotted decimal, as 10.0.0.1.
+impl fmt::Display for Ip4 {
+    ghost output = { λ ip. Some (ip4_text ip) };
+
+    fn fmt<W: fmt::Write>(&self, f: &mut fmt::Formatter<W>) -> fmt::Result {
+        let [b0, b1, b2, b3] = self.0.to_be_bytes();
+        write!(f, "{b0}.{b1}.{b2}.{b3}")
+    }
+}
+
+/// The number that a switch knows itself by, 1 to 2^48 - 1.
+#[derive(Clone, Copy, Debug, PartialEq, Eq, PartialOrd, Ord, Hash)]
+pub struct SwitchId(pub u64);

@@ -1,6 +1,6 @@
 -- The fields of an Ethernet II frame as functions of its bytes (IEEE 802.3, clause 3).
 use Rattle.std.specs.Prelude.{ℕ, List, ◌++◌, take, drop}
-use Rattle.byteorder.specs.Endian.{big_number}
+use Rattle.byteorder.specs.Endian.{big_number, big_bytes}
 use Rattle.pl_frame.specs.declared.address.Mac.{Mac}
 use Rattle.pl_frame.specs.declared.ethernet.FrameView.{FrameView}
 
@@ -29,6 +29,10 @@ payload_of bytes = drop 14 bytes
 
 abbrev pub fields_of : List ℕ → Fields
 fields_of bytes = record { dst = destination_of bytes; src = source_of bytes; kind = kind_of bytes; payload = payload_of bytes }
+
+-- the bytes of a frame with these fields
+abbrev pub frame_of : Fields → List ℕ
+frame_of f = f.dst.0 ++ (f.src.0 ++ (big_bytes 2 f.kind ++ f.payload))
 
 -- the fields that a view has
 abbrev pub fields : FrameView → Fields

@@ -1,4 +1,4 @@
-use Rattle.std.proofs.Common.{◌<◌, ◌^◌, false, arith}
+use Rattle.std.proofs.Common.{◌<◌, false, arith}
 use Rattle.std.proofs.lemmas.Fmt.{hex_byte}
 use Rattle.pl_frame.proofs.address.HexPairDisplay.fmt.Goals as goal
 

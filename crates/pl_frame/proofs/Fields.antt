@@ -3,7 +3,8 @@ use Rattle.std.proofs.Common.{◌≡◌, ℕ, ◌+◌, ◌^◌, ◌<◌, ◌≤�
 use Rattle.std.proofs.lemmas.List.{take-append-drop, drop-drop, length-take-le, length-drop}
 use Rattle.std.proofs.Math.Seq.{take-append_seam, drop-append_seam, drop-append-add}
 use Rattle.byteorder.specs.Endian.{big_number, big_bytes}
-use Rattle.byteorder.specs.Numbers.{big_number-reads_back, length-bytes_high_first}
+use Rattle.byteorder.specs.Numbers.{big_from-take, big_number-reads_back, length-bytes_high_first}
+use Rattle.pl_frame.proofs.Numbers.{IsBytes, bytes-take, bytes-drop, big_bytes-big_number}
 use Rattle.pl_frame.specs.declared.address.Mac.{Mac}
 use Rattle.pl_frame.specs.Ethernet.{Fields, fields_of, frame_of, source_of, kind_of, payload_of, with_source, with_destination}
 
@@ -66,3 +67,19 @@ fields_of-frame_of f h k small =
     fields_of-parts f.dst f.src (bytes ++ f.payload) h k
     ∙ ap (λ n. made f.dst f.src n (drop 2 (bytes ++ f.payload))) (big_number-reads_back 2 f.kind f.payload small)
     ∙ ap (λ p. made f.dst f.src f.kind p) (rest_of 2 bytes f.payload two)
+
+-- what is read is spelled so
+pub frame_of-fields_of : (bytes : List ℕ) → 14 ≤ length bytes → IsBytes bytes → frame_of (fields_of bytes) ≡ bytes
+frame_of-fields_of bytes long small =
+    let after : List ℕ = drop 6 bytes in
+    let rest : List ℕ = drop 12 bytes in
+    let two : length (take 2 rest) ≡ 2 = length-take-le 2 rest (omega (arith, length-drop 12 bytes)) in
+    let kind : big_bytes 2 (kind_of bytes) ≡ take 2 rest =
+    ap (big_bytes 2) (sym (big_from-take 0 2 2 rest (omega arith)))
+    ∙ big_bytes-big_number 2 (take 2 rest) two (bytes-take 2 rest (bytes-drop 12 bytes small)) in
+    ap (λ k. take 6 bytes ++ (take 6 after ++ (k ++ drop 14 bytes))) kind
+    ∙ ap (λ p. take 6 bytes ++ (take 6 after ++ (take 2 rest ++ p))) (sym (drop-drop 2 12 bytes))
+    ∙ ap (λ r. take 6 bytes ++ (take 6 after ++ r)) (take-append-drop 2 rest)
+    ∙ ap (λ r. take 6 bytes ++ (take 6 after ++ r)) (sym (drop-drop 6 6 bytes))
+    ∙ ap (λ r. take 6 bytes ++ r) (take-append-drop 6 after)
+    ∙ take-append-drop 6 bytes

@@ -1,4 +1,4 @@
-ghost use Rattle.std.specs.Prelude.{◌≡◌, ℕ, ◌+◌, ◌^◌, ◌<◌, ◌≤◌, ◌↔◌, List, length, take, drop, IfOk, Err};
+ghost use Rattle.std.specs.Prelude.{◌≡◌, ℕ, ◌+◌, ◌^◌, ◌<◌, ◌≤◌, ◌↔◌, List, length, slice_index, take, drop, IfOk, Err};
 ghost use Rattle.pl_frame.specs.declared.address.Mac.{Mac};
 ghost use Rattle.pl_frame.specs.Ethernet.{Fields, fields, fields_of, frame_of, with_source, with_destination};
 
@@ -100,10 +100,13 @@ pub fn written_is_read()
         length (with_destination bytes to) ≡ length bytes }
 {}
 
-/// A frame that is put together of its fields has these fields.
+/// A frame that is put together of its fields has these fields, and the bytes of a frame are its
+/// fields put together.
 pub fn parts_are_read()
-    ensures { (f : Fields) → length f.dst.0 ≡ 6 → length f.src.0 ≡ 6 → f.kind < 2 ^ 16 →
+    ensures read { (f : Fields) → length f.dst.0 ≡ 6 → length f.src.0 ≡ 6 → f.kind < 2 ^ 16 →
         fields_of (frame_of f) ≡ f }
+    ensures spelled { (bytes : List ℕ) → SHORTEST ≤ length bytes → ((i : ℕ) → slice_index bytes i < 256) →
+        frame_of (fields_of bytes) ≡ bytes }
 {}
 
 #[cfg(test)]

@@ -1,13 +1,11 @@
-// A library with one function.
+//! ARP for Ethernet and IPv4 (RFC 826): the packet, and the table that reception keeps.
+//!
+//! `read` accepts exactly the payloads that begin with the 28 bytes of a packet, and `Cache::receive`
+//! is the reception of RFC 826. Who asks, and when, is left to the crates above.
 #![tactic(auto)]
 
-ghost use Rattle.std.specs.Prelude.{◌≡◌};
-ghost use Rattle.pl_arp.specs.Echo.{echo_of};
+pub use cache::{Cache, Me};
+pub use packet::{Arp, ArpError, LENGTH, REPLY, REQUEST, read, write};
 
-// The `ensures` clause is the contract: what `echo` returns is `echo_of` of its argument, a definition
-// in `specs/Echo.antt`, which a caller's clause can cite too.
-pub fn echo(x: usize) -> usize
-    ensures { result ≡ echo_of x }
-{
-    x
-}
+mod cache;
+mod packet;

@@ -3,15 +3,15 @@ use Rattle.std.proofs.Common.{◌≡◌, ℕ, ◌+◌, ◌^◌, ◌<◌, ◌≤�
 use Rattle.std.proofs.lemmas.List.{take-append-drop, drop-drop, length-take-le, length-drop}
 use Rattle.std.proofs.Math.Seq.{take-append_seam, drop-append_seam, drop-append-add}
 use Rattle.byteorder.specs.Endian.{big_number, big_bytes}
-use Rattle.byteorder.specs.Numbers.{big_from-take, big_number-reads_back, length-bytes_high_first}
-use Rattle.pl_frame.proofs.Numbers.{IsBytes, bytes-take, bytes-drop, big_bytes-big_number}
+use Rattle.byteorder.specs.Numbers.{big_number-reads_back, length-bytes_high_first}
+use Rattle.pl_frame.proofs.Numbers.{IsBytes, bytes-drop, big_bytes-big_number_front}
 use Rattle.pl_frame.specs.declared.address.Mac.{Mac}
 use Rattle.pl_frame.specs.Ethernet.{Fields, fields_of, frame_of, source_of, kind_of, payload_of, with_source, with_destination}
 
-front_of : (n : ℕ) (xs ys : List ℕ) → length xs ≡ n → take n (xs ++ ys) ≡ xs
+pub front_of : (n : ℕ) (xs ys : List ℕ) → length xs ≡ n → take n (xs ++ ys) ≡ xs
 front_of n xs ys h = rw (← h) (take-append_seam xs ys)
 
-rest_of : (n : ℕ) (xs ys : List ℕ) → length xs ≡ n → drop n (xs ++ ys) ≡ ys
+pub rest_of : (n : ℕ) (xs ys : List ℕ) → length xs ≡ n → drop n (xs ++ ys) ≡ ys
 rest_of n xs ys h = rw (← h) (drop-append_seam xs ys)
 
 abbrev mac : List ℕ → Mac
@@ -73,10 +73,8 @@ pub frame_of-fields_of : (bytes : List ℕ) → 14 ≤ length bytes → IsBytes 
 frame_of-fields_of bytes long small =
     let after : List ℕ = drop 6 bytes in
     let rest : List ℕ = drop 12 bytes in
-    let two : length (take 2 rest) ≡ 2 = length-take-le 2 rest (omega (arith, length-drop 12 bytes)) in
     let kind : big_bytes 2 (kind_of bytes) ≡ take 2 rest =
-    ap (big_bytes 2) (sym (big_from-take 0 2 2 rest (omega arith)))
-    ∙ big_bytes-big_number 2 (take 2 rest) two (bytes-take 2 rest (bytes-drop 12 bytes small)) in
+    big_bytes-big_number_front 2 rest (omega (arith, length-drop 12 bytes)) (bytes-drop 12 bytes small) in
     ap (λ k. take 6 bytes ++ (take 6 after ++ (k ++ drop 14 bytes))) kind
     ∙ ap (λ p. take 6 bytes ++ (take 6 after ++ (take 2 rest ++ p))) (sym (drop-drop 2 12 bytes))
     ∙ ap (λ r. take 6 bytes ++ (take 6 after ++ r)) (take-append-drop 2 rest)

@@ -1,11 +1,11 @@
 -- A number has one spelling in n bytes, the most significant first.
-use Rattle.std.proofs.Common.{◌≡◌, ℕ, zero, suc, ◌+◌, ◌*◌, ◌/◌, ◌^◌, ◌<◌, List, [], ◌∷◌, length, slice_index, take, drop, refl, sym, ap, ◌∙◌, arith}
+use Rattle.std.proofs.Common.{◌≡◌, ℕ, zero, suc, ◌+◌, ◌*◌, ◌/◌, ◌^◌, ◌<◌, ◌≤◌, List, [], ◌∷◌, length, slice_index, take, drop, refl, sym, ap, ◌∙◌, arith}
 use Rattle.std.proofs.Math.Nat.{mod-lt}
 use Rattle.std.proofs.lemmas.Nat.{div-mul-add}
-use Rattle.std.proofs.lemmas.List.{append-nil, get_or-drop}
+use Rattle.std.proofs.lemmas.List.{append-nil, get_or-drop, length-take-le}
 use Rattle.std.specs.Int.{byte_at}
 use Rattle.byteorder.specs.Endian.{big_from, big_number, big_bytes}
-use Rattle.byteorder.specs.Numbers.{big_from-cons, big_from-lt, big_number-reads_back, length-bytes_high_first}
+use Rattle.byteorder.specs.Numbers.{big_from-cons, big_from-take, big_from-lt, big_number-reads_back, length-bytes_high_first}
 
 abbrev pub IsBytes : List ℕ → Type 0
 IsBytes xs = (i : ℕ) → slice_index xs i < 256
@@ -58,3 +58,9 @@ big_bytes-big_number n xs long small =
     ap (big_from 0 n) (sym (append-nil written)) ∙ big_number-reads_back n value [] (big_from-lt 0 n xs small) in
     same_spelling written xs (len ∙ sym long) (bytes-big_bytes n value) small
     (ap (λ m. big_from 0 m written) len ∙ back ∙ ap (λ m. big_from 0 m xs) (sym len))
+
+-- the number at the front of some bytes is spelled by the first n of them
+pub big_bytes-big_number_front : (n : ℕ) (xs : List ℕ) → n ≤ length xs → IsBytes xs → big_bytes n (big_number n xs) ≡ take n xs
+big_bytes-big_number_front n xs long small =
+    ap (big_bytes n) (sym (big_from-take 0 n n xs (omega arith)))
+    ∙ big_bytes-big_number n (take n xs) (length-take-le n xs long) (bytes-take n xs small)

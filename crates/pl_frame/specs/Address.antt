@@ -1,8 +1,12 @@
 -- Addresses: which of them name a group, and how they are printed.
-use Rattle.std.specs.Prelude.{◌≡◌, ℕ, ◌/◌, ◌%◌, List, [], ◌∷◌, ◌++◌, false, codes, slice_index}
+use Rattle.std.specs.Prelude.{◌≡◌, ℕ, ◌/◌, ◌%◌, List, [], ◌∷◌, ◌++◌, false, codes, slice_index, take, drop}
 use Rattle.std.specs.Fmt.{decimal, digit_glyph}
 use Rattle.pl_frame.specs.declared.address.Mac.{Mac}
 use Rattle.pl_frame.specs.declared.address.Ip4.{Ip4}
+
+-- the address in the six bytes from a place on
+abbrev pub mac_at : List ℕ → ℕ → Mac
+mac_at bytes at = record { 0 = take 6 (drop at bytes) }
 
 -- a group address has the low bit of its first byte set (IEEE 802)
 abbrev pub IsGroup : Mac → Type 0

@@ -1,5 +1,5 @@
-ghost use Rattle.std.specs.Prelude.{◌≡◌, ◌↔◌, IsTrue, Some};
-ghost use Rattle.pl_frame.specs.Address.{IsGroup, hex_pair, mac_text, ip4_text};
+ghost use Rattle.std.specs.Prelude.{◌≡◌, ◌+◌, ◌≤◌, ◌↔◌, length, IsTrue, Some};
+ghost use Rattle.pl_frame.specs.Address.{IsGroup, hex_pair, mac_at, mac_text, ip4_text};
 
 use std::fmt;
 
@@ -9,6 +9,16 @@ pub struct Mac(pub [u8; 6]);
 
 impl Mac {
     pub const BROADCAST: Mac = Mac([0xff; 6]);
+
+    /// The address in the six bytes from a place on.
+    pub fn read_at(bytes: &[u8], at: usize) -> Mac
+        requires { at + 6 ≤ length bytes.now }
+        ensures { result ≡ mac_at bytes.now at }
+    {
+        let mut address = [0; 6];
+        address.copy_from_slice(&bytes[at..at + 6]);
+        Mac(address)
+    }
 
     /// Whether the address names a group: the low bit of its first byte is set.
     pub fn is_group(&self) -> bool

@@ -52,8 +52,8 @@ pub fn view(bytes: &[u8]) -> Result<FrameView<'_>, FrameError>
         return Err(FrameError::Long);
     }
     Ok(FrameView {
-        dst: address_at(bytes, 0),
-        src: address_at(bytes, 6),
+        dst: Mac::read_at(bytes, 0),
+        src: Mac::read_at(bytes, 6),
         kind: BigEndian::read_u16(&bytes[12..]),
         payload: &bytes[SHORTEST..],
     })
@@ -76,16 +76,6 @@ pub fn set_source(bytes: &mut [u8], to: Mac)
     let (_, after) = bytes.split_at_mut(6);
     let (address, _) = after.split_at_mut(6);
     address.copy_from_slice(&to.0);
-}
-
-// The address that stands at a place.
-fn address_at(bytes: &[u8], at: usize) -> Mac
-    requires { at + 6 ≤ length bytes.now }
-    ensures { result ≡ record { 0 = take 6 (drop at bytes.now) } }
-{
-    let mut address = [0; 6];
-    address.copy_from_slice(&bytes[at..at + 6]);
-    Mac(address)
 }
 
 /// A written address is the one that is read, and every other field is as it was.

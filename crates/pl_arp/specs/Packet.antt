@@ -3,7 +3,6 @@ use Rattle.std.specs.Prelude.{◌≡◌, ℕ, ◌^◌, ◌<◌, List, [], ◌∷
 use Rattle.std.specs.Str.{bytes_eq}
 use Rattle.byteorder.specs.Endian.{big_number, big_bytes}
 use Rattle.pl_frame.specs.Address.{mac_at}
-use Rattle.pl_frame.specs.declared.address.Ip4.{Ip4}
 use Rattle.pl_arp.specs.declared.packet.Arp.{Arp}
 use Rattle.pl_arp.specs.declared.packet.ArpError.{ArpError}
 use Rattle.pl_arp.specs.declared.packet.ArpError.TheVariants.{Cut, OtherKind}

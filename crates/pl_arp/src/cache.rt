@@ -1,5 +1,7 @@
-ghost use Rattle.std.specs.Prelude.{◌≡◌, [], None, IfOk, OnOk, OnErr};
-ghost use Rattle.pl_arp.specs.Reception.{Table, hardware_of, answer_to, table_after};
+ghost use Rattle.std.specs.Prelude.{◌≡◌, ◌≢◌, ◌++◌, [], ◌∷◌, Some, None, IfOk, OnOk, OnErr};
+ghost use Rattle.pl_frame.specs.declared.address.Mac.{Mac};
+ghost use Rattle.pl_frame.specs.declared.address.Ip4.{Ip4};
+ghost use Rattle.pl_arp.specs.Reception.{Table, hardware_of, answer_to, table_after, with_pair};
 
 use crate::packet::{Arp, REPLY, REQUEST};
 use indexmap::IndexMap;
@@ -66,5 +68,70 @@ impl Cache {
             }));
         }
         Ok(None)
+    }
+}
+
+/// Putting a pair in changes what the table has at that address alone, and an unknown address goes
+/// last.
+pub fn a_pair_is_put_in()
+    ensures kept { (table : Table) (ip : Ip4) (mac : Mac) → hardware_of (with_pair table ip mac) ip ≡ Some mac }
+    ensures others { (table : Table) (ip other : Ip4) (mac : Mac) → other.0 ≢ ip.0 →
+        hardware_of (with_pair table ip mac) other ≡ hardware_of table other }
+    ensures unknown { (table : Table) (ip : Ip4) (mac : Mac) → hardware_of table ip ≡ None →
+        with_pair table ip mac ≡ table ++ (ip, mac) ∷ [] }
+{}
+
+#[cfg(test)]
+mod tests {
+    use super::*;
+    use std::test::Fail;
+
+    const A: Mac = Mac([2, 0, 0, 0, 0, 10]);
+
+    const B: Mac = Mac([2, 0, 0, 0, 0, 11]);
+
+    const IP_A: Ip4 = Ip4(0x0a00_0001);
+
+    const IP_B: Ip4 = Ip4(0x0a00_0002);
+
+    const IP_OTHER: Ip4 = Ip4(0x0a00_0009);
+
+    fn of_a(op: u16, sha: Mac, tpa: Ip4) -> Arp {
+        Arp {
+            op,
+            sha,
+            spa: IP_A,
+            tha: Mac([0; 6]),
+            tpa,
+        }
+    }
+
+    #[test]
+    fn host_b_receives_as_rfc_826_says(rt: HostRuntime) -> Result<(), Fail> {
+        let me = Me { mac: B, ip: IP_B };
+        let mut cache = Cache::new(rt.alloc());
+        let unknown = cache.receive(me, &of_a(REQUEST, A, IP_OTHER))?;
+        assert_eq!(rt; (unknown, cache.get(IP_A)), (None, None));
+        let answer = cache.receive(me, &of_a(REQUEST, A, IP_B))?;
+        let reply = Arp {
+            op: 2,
+            sha: B,
+            spa: IP_B,
+            tha: A,
+            tpa: IP_A,
+        };
+        assert_eq!(rt; (answer, cache.get(IP_A)), (Some(reply), Some(A)));
+        let moved = cache.receive(me, &of_a(REQUEST, B, IP_OTHER))?;
+        assert_eq!(rt; (moved, cache.get(IP_A)), (None, Some(B)));
+        Ok(())
+    }
+
+    #[test]
+    fn a_reply_adds_the_pair_and_is_not_answered(rt: HostRuntime) -> Result<(), Fail> {
+        let me = Me { mac: B, ip: IP_B };
+        let mut cache = Cache::new(rt.alloc());
+        let answer = cache.receive(me, &of_a(REPLY, A, IP_B))?;
+        assert_eq!(rt; (answer, cache.get(IP_A)), (None, Some(A)));
+        Ok(())
     }
 }

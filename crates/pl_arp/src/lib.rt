@@ -4,8 +4,8 @@
 //! is the reception of RFC 826. Who asks, and when, is left to the crates above.
 #![tactic(auto)]
 
-pub use cache::{Cache, Me};
-pub use packet::{Arp, ArpError, LENGTH, REPLY, REQUEST, read, write};
+pub use cache::{Cache, Me, a_pair_is_put_in};
+pub use packet::{Arp, ArpError, LENGTH, REPLY, REQUEST, read, spelling_is_exact, write};
 
 mod cache;
 mod packet;

@@ -1,0 +1,47 @@
+// The three calls of a shelf.
+ghost use Rattle.std.specs.Prelude.{◌≡◌, ℕ, ◌<◌, ◌≤◌, List, length, take, IfOk, OnOk, OnErr};
+ghost use Rattle.pl_shelf.specs.Held.{Held, Same, Changes, IsRead, created, with_end};
+ghost use Rattle.pl_shelf.specs.Faults.{Counts};
+
+use crate::{ReadFailed, WriteFailed};
+
+/// Bytes by name. The name `-` is standard output.
+pub trait Shelf {
+    /// What each name holds, where the shelf tells it.
+    ghost held: { Self → List ℕ → Held };
+
+    /// How many calls of `read_at` failed so far. It ends at 2^64 - 1.
+    ghost read_faults: { Self → ℕ };
+
+    /// How many calls of `create` and `write` failed so far. It ends at 2^64 - 1.
+    ghost write_faults: { Self → ℕ };
+
+    /// Reads the bytes from offset `at` on into the front of the buffer, as many as the answer says.
+    /// 0 with room in the buffer is the end of what the name holds. A name that is absent cannot be
+    /// read.
+    fn read_at(&mut self, name: &str, at: u64, buf: &mut [u8]) -> Result<usize, ReadFailed>
+        ensures within { IfOk result (λ n. n ≤ length buf.new) }
+        ensures read { IfOk result (λ n. IsRead (held self.old name.now) at n buf.new) }
+        ensures same { Same (held self.old) (held self.new) }
+        ensures faults { Counts result (read_faults self.old) (read_faults self.new)
+            (write_faults self.old) (write_faults self.new) };
+
+    /// Leaves the name there with nothing in it. Standard output keeps what it has.
+    fn create(&mut self, name: &str) -> Result<(), WriteFailed>
+        ensures ok { OnOk result (Changes (held self.old) (held self.new) name.now
+            (created name.now (held self.old name.now))) }
+        ensures err { OnErr result (Same (held self.old) (held self.new)) }
+        ensures faults { Counts result (write_faults self.old) (write_faults self.new)
+            (read_faults self.old) (read_faults self.new) };
+
+    /// Adds a first part of the bytes at the end of what the name holds, and answers how many. It is
+    /// not 0 unless there are none.
+    fn write(&mut self, name: &str, bytes: &[u8]) -> Result<usize, WriteFailed>
+        ensures within { IfOk result (λ n. n ≤ length bytes.now) }
+        ensures some { IfOk result (λ n. 0 < length bytes.now → 0 < n) }
+        ensures ok { IfOk result (λ n. Changes (held self.old) (held self.new) name.now
+            (with_end (held self.old name.now) (take n bytes.now))) }
+        ensures err { OnErr result (Same (held self.old) (held self.new)) }
+        ensures faults { Counts result (write_faults self.old) (write_faults self.new)
+            (read_faults self.old) (read_faults self.new) };
+}

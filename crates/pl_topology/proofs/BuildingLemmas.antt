@@ -1,7 +1,6 @@
 -- The wiring that the entries make.
-use Rattle.std.proofs.Common.{◌≡◌, ℕ, suc, ◌<◌, List, [], ◌∷◌, ◌++◌, Bool, true, false, cond, length, get_or, Option, Some, None, refl, sym, ap, ◌∙◌, All, IfSome, arith}
-use Rattle.std.specs.List.{find, AllByRecursion}
-use Rattle.std.specs.HashMap.{get, HashMap}
+use Rattle.std.proofs.Common.{ℕ, suc, ◌<◌, List, [], ◌∷◌, Bool, true, false, cond, length, get_or, Some, All, IfSome, arith}
+use Rattle.std.specs.List.{find}
 use Rattle.pl_topology.specs.declared.entries.LinkEntry.{LinkEntry}
 use Rattle.pl_topology.specs.Entries.{is_between}
 use Rattle.pl_topology.specs.FileEntries.{HasPorts, PortsFit}

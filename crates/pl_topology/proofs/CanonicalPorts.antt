@@ -1,5 +1,5 @@
 -- No port of a switch is in two canonical links.
-use Rattle.std.proofs.Common.{◌≡◌, ◌≢◌, ℕ, ◌+◌, ◌-◌, ◌*◌, ◌/◌, ◌%◌, ◌<◌, ◌≤◌, refl, sym, ◌∙◌, ap, arith, inl, inr, ◌⊎◌}
+use Rattle.std.proofs.Common.{◌≡◌, ◌≢◌, ℕ, ◌+◌, ◌*◌, ◌/◌, ◌%◌, ◌<◌, ◌≤◌, refl, sym, ◌∙◌, arith, inl, inr}
 use Rattle.std.proofs.lemmas.Nat.{mul-add-lt, div-add-mod', mod_below, same_from_place}
 use Rattle.pl_topology.specs.declared.label.Label.{Label}
 use Rattle.pl_topology.specs.declared.label.Label.TheVariants.{Edge, Aggregation, Core}
@@ -16,7 +16,7 @@ above-higher k x (Core g m) is low = absurd (omega arith)
 
 -- two switches below one, with one number among those below it, are one
 above-one : (k x : ℕ) (a b : Label) → IsLabel k a → IsLabel k b → number_of k a < edge_count k + edge_count k → number_of k b < edge_count k + edge_count k → x < k / 2 →
-  number_of k (above a x) ≡ number_of k (above b x) → number_below a ≡ number_below b → number_of k a ≡ number_of k b
+    number_of k (above a x) ≡ number_of k (above b x) → number_below a ≡ number_below b → number_of k a ≡ number_of k b
 above-one k x (Edge p i) (Edge q j) ha hb la lb lx e n =
     let places : p * (k / 2) + x ≡ q * (k / 2) + x = omega arith in
     let pods = (same_from_place p x q x (k / 2) lx lx places).0 in
@@ -34,7 +34,7 @@ above-one k x a (Core g m) ha hb la lb lx e n = absurd (omega arith)
 
 -- a port that leads down is not one that leads up
 no_up_port : (k x y s : ℕ) (label : Label) → IsLabel k label → s < edge_count k + edge_count k → number_of k label < edge_count k + edge_count k →
-  number_of k (above label y) ≡ s → k / 2 + x ≡ number_below label → ⊥
+    number_of k (above label y) ≡ s → k / 2 + x ≡ number_below label → ⊥
 no_up_port k x y s (Edge p i) is low below e n = let h = is.1 in omega arith
 no_up_port k x y s (Aggregation p j) is low below e n = omega arith
 no_up_port k x y s (Core g m) is low below e n = omega arith
@@ -62,23 +62,23 @@ canonical_apart k m n arity lm ln differ s p at_m at_n =
     let below_m = lower_at-below k m pos lm in
     let below_n = lower_at-below k n pos ln in
     elim at_m [
-      inl lower_m ↦ elim at_n [
-        inl lower_n ↦
-          let low : lower_at k m ≡ lower_at k n = lower_m.0 ∙ sym lower_n.0 in
-          let ports : k / 2 + m % (k / 2) ≡ k / 2 + n % (k / 2) = lower_m.1 ∙ sym lower_n.1 in
-          differ (same_number k m n low (omega arith))
-      | inr upper_n ↦
-          no_up_port k (m % (k / 2)) (n % (k / 2)) (lower_at k m) (label_of k (lower_at k n)) label_n below_m low_n (upper_n.0 ∙ sym lower_m.0) (lower_m.1 ∙ sym upper_n.1)
+      | inl lower_m ↦ elim at_n [
+        | inl lower_n ↦
+            let low : lower_at k m ≡ lower_at k n = lower_m.0 ∙ sym lower_n.0 in
+            let ports : k / 2 + m % (k / 2) ≡ k / 2 + n % (k / 2) = lower_m.1 ∙ sym lower_n.1 in
+            differ (same_number k m n low (omega arith))
+        | inr upper_n ↦
+            no_up_port k (m % (k / 2)) (n % (k / 2)) (lower_at k m) (label_of k (lower_at k n)) label_n below_m low_n (upper_n.0 ∙ sym lower_m.0) (lower_m.1 ∙ sym upper_n.1)
       ]
-    | inr upper_m ↦ elim at_n [
-        inl lower_n ↦
-          no_up_port k (n % (k / 2)) (m % (k / 2)) (lower_at k n) (label_of k (lower_at k m)) label_m below_n low_m (upper_m.0 ∙ sym lower_n.0) (lower_n.1 ∙ sym upper_m.1)
-      | inr upper_n ↦
-          let upper : upper_at k m ≡ upper_at k n = upper_m.0 ∙ sym upper_n.0 in
-          let place = upper_at-same_place k m n pos lm ln upper in
-          let aligned : number_of k (above (label_of k (lower_at k m)) (n % (k / 2))) ≡ number_of k (above (label_of k (lower_at k n)) (n % (k / 2))) = (rw place at upper) in
-          let low = above-one k (n % (k / 2)) (label_of k (lower_at k m)) (label_of k (lower_at k n)) label_m label_n low_m low_n (mod_below n (k / 2) pos) aligned (upper_m.1 ∙ sym upper_n.1) in
-          differ (same_number k m n (sym (number_of-label_of k (lower_at k m)) ∙ low ∙ number_of-label_of k (lower_at k n)) place)
+      | inr upper_m ↦ elim at_n [
+        | inl lower_n ↦
+            no_up_port k (n % (k / 2)) (m % (k / 2)) (lower_at k n) (label_of k (lower_at k m)) label_m below_n low_m (upper_m.0 ∙ sym lower_n.0) (lower_n.1 ∙ sym upper_m.1)
+        | inr upper_n ↦
+            let upper : upper_at k m ≡ upper_at k n = upper_m.0 ∙ sym upper_n.0 in
+            let place = upper_at-same_place k m n pos lm ln upper in
+            let aligned : number_of k (above (label_of k (lower_at k m)) (n % (k / 2))) ≡ number_of k (above (label_of k (lower_at k n)) (n % (k / 2))) = (rw place at upper) in
+            let low = above-one k (n % (k / 2)) (label_of k (lower_at k m)) (label_of k (lower_at k n)) label_m label_n low_m low_n (mod_below n (k / 2) pos) aligned (upper_m.1 ∙ sym upper_n.1) in
+            differ (same_number k m n (sym (number_of-label_of k (lower_at k m)) ∙ low ∙ number_of-label_of k (lower_at k n)) place)
       ]
     ]
 

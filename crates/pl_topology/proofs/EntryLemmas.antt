@@ -1,5 +1,5 @@
 -- What is read of the tables, one value at a time.
-use Rattle.std.proofs.Common.{◌≡◌, ℕ, ◌<◌, ◌/◌, Bool, true, refl}
+use Rattle.std.proofs.Common.{◌≡◌, ℕ, ◌/◌, Bool}
 use Rattle.std.specs.Bool.{Decides}
 use Rattle.std.proofs.lemmas.Bool.Decides.{same_from_decides, Decides-and, Decides-ltb}
 use Rattle.pl_topology.specs.declared.label.Label.{Label}

@@ -1,11 +1,11 @@
 -- Entries that a list or a map finds.
-use Rattle.std.proofs.Common.{◌≡◌, ℕ, ℤ, pos, ltb, ◌<◌, ◌≤◌, ◌&&◌, ◌||◌, ◌+◌, Bool, true, false, not, cond, map, eqb, List, [], ◌∷◌, ◌++◌, Option, Some, None, is_some, option_map, option_and_then, refl, sym, ap, ◌∙◌, inl, inr, arith}
-use Rattle.std.specs.HashMap.{HashMap, get, Updates}
+use Rattle.std.proofs.Common.{◌≡◌, ℕ, ℤ, pos, ltb, ◌<◌, ◌||◌, ◌+◌, Bool, true, false, not, cond, map, eqb, List, [], ◌∷◌, ◌++◌, Option, Some, None, is_some, option_map, option_and_then, refl, sym, ap, ◌∙◌, inl, inr, arith}
+use Rattle.std.specs.HashMap.{HashMap, Updates}
 use Rattle.std.specs.HashSet.{HashSet}
 use Rattle.std.specs.HashSet as set
 use Rattle.std.specs.List.{find, list_any}
 use Rattle.std.specs.Option.{option_or}
-use Rattle.std.specs.Prelude.{nat_eq, Result, Ok, Err}
+use Rattle.std.specs.Prelude.{nat_eq, Ok, Err}
 use Rattle.std.specs.declared.hash.FoldHasher.{FoldHasher}
 use Rattle.std.specs.declared.hash.BuildHasherDefault.{BuildHasherDefault}
 use Rattle.std.proofs.lemmas.Bool.{cases_Bool, eqb-true, lt-ltb}
@@ -75,9 +75,9 @@ Ids = HashMap ℕ SwitchId (BuildHasherDefault FoldHasher)
 
 -- a map that finds the ids of the entries, and then one more
 pub FindsIds-push : (old new : Ids) (entries : List SwitchEntry) (entry : SwitchEntry) → FindsIds old entries → list_any (is_of entry.switch) entries ≡ false →
-  Updates nat_eq old new entry.switch.0 (Some entry.id) → FindsIds new (entries ++ entry ∷ [])
+    Updates nat_eq old new entry.switch.0 (Some entry.id) → FindsIds new (entries ++ entry ∷ [])
 FindsIds-push old new entries entry finds fresh updates switch = elim (cases_Bool (eqb entry.switch.0 switch.0)) [
-    inl here ↦
+  | inl here ↦
       let same : entry.switch.0 ≡ switch.0 = eqb-true entry.switch.0 switch.0 here in
       let none : list_any (is_of switch) entries ≡ false = ap (λ n. list_any (λ s. eqb s.switch.0 n) entries) (sym same) ∙ fresh in
       updates.0 switch.0 ∙ (rw (here, find_last (is_of switch) entries entry none here) refl)
@@ -120,9 +120,9 @@ list_any-same p q (x ∷ xs) same = rw (same x, list_any-same p q xs same) refl
 
 -- a map that finds the entries of links, and then one more
 pub FindsLinks-push : (old new : ByEnds) (entries : List LinkEntry) (entry : LinkEntry) (ends : ℕ × ℕ) → ends ≡ ends_of entry.a entry.b → FindsLinks old entries → list_any (is_between entry.a entry.b) entries ≡ false →
-  Updates same_pair old new ends (Some entry) → FindsLinks new (entries ++ entry ∷ [])
+    Updates same_pair old new ends (Some entry) → FindsLinks new (entries ++ entry ∷ [])
 FindsLinks-push old new entries entry ends is finds fresh updates a b = elim (cases_Bool (is_between a b entry)) [
-    inl here ↦
+  | inl here ↦
       let none : list_any (is_between a b) entries ≡ false = list_any-same (is_between a b) (is_between entry.a entry.b) entries (λ f. same_link entry f a b here) ∙ fresh in
       updates.0 (ends_of a b) ∙ (rw (is, same_ends entry a b, here, find_last (is_between a b) entries entry none here) refl)
   | inr other ↦ updates.0 (ends_of a b) ∙ (rw (is, same_ends entry a b, other, find_skip (is_between a b) entries entry other) (finds a b))
@@ -198,7 +198,7 @@ or_false false = refl
 
 -- a set of ports with one more
 pub SeesPorts-push : (old new : Used) (uses : List PortUse) (switch : SwitchNo) (port : ℕ) → SeesPorts old uses → set.Updates same_pair old new (switch.0, port) true →
-  SeesPorts new (uses ++ record { switch = switch; port = pos port; counts = true } ∷ [])
+    SeesPorts new (uses ++ record { switch = switch; port = pos port; counts = true } ∷ [])
 SeesPorts-push old new uses switch port sees updates s p =
     let same : is_at s (pos p) (record { switch = switch; port = pos port; counts = true }) ≡ same_pair (switch.0, port) (s, p) = grind (arith, nat_tests) in
     sees_last (is_at s (pos p)) uses (record { switch = switch; port = pos port; counts = true }) _ _ (updates.0 (s, p) ∙ ap (λ t. cond t true (set.contains same_pair old (s, p))) (sym same)) (sees s p)
@@ -217,14 +217,14 @@ unfolding port_is_free
 port_is_free-uncounted k before switch port below = rw (lt-ltb port k below) refl
 
 pub port_is_free-used : (k : ℕ) (before : List PortUse) (switch : SwitchNo) (port : ℕ) → list_any (is_at switch.0 (pos port)) before ≡ true →
-  port_is_free k before (record { switch = switch; port = pos port; counts = true }) ≡ Err (error.BadPort (label_of k switch.0) (pos port))
+    port_is_free k before (record { switch = switch; port = pos port; counts = true }) ≡ Err (error.BadPort (label_of k switch.0) (pos port))
 unfolding port_is_free
 port_is_free-used k before switch port there = elim (cases_Bool (ltb port k)) [
-    inl below ↦ rw (below, there) refl
+  | inl below ↦ rw (below, there) refl
   | inr out ↦ rw out refl
 ]
 
 pub port_is_free-free : (k : ℕ) (before : List PortUse) (switch : SwitchNo) (port : ℕ) → port < k → list_any (is_at switch.0 (pos port)) before ≡ false →
-  port_is_free k before (record { switch = switch; port = pos port; counts = true }) ≡ Ok tt
+    port_is_free k before (record { switch = switch; port = pos port; counts = true }) ≡ Ok tt
 unfolding port_is_free
 port_is_free-free k before switch port below free = rw (lt-ltb port k below, free) refl

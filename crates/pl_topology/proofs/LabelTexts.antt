@@ -1,6 +1,6 @@
 -- A label is read from its text, and from no other.
-use Rattle.std.proofs.Common.{◌≡◌, ◌≢◌, ℕ, zero, suc, ◌+◌, ◌-◌, ◌^◌, ◌<◌, ◌≤◌, Bool, true, false, cond, ◌&&◌, ◌==◌, eqb, ltb, List, [], ◌∷◌, ◌++◌, length, get_or, take, drop, Option, Some, None, option_map, option_and_then, IfSome, IfNone, slice_index, subst, refl, sym, ap, ◌∙◌, arith, append_assoc, inl, inr}
-use Rattle.std.specs.Prelude.{codes, decimal}
+use Rattle.std.proofs.Common.{◌≡◌, ◌≢◌, ℕ, ◌+◌, ◌^◌, ◌<◌, false, cond, ◌&&◌, eqb, ltb, List, [], ◌∷◌, ◌++◌, length, get_or, take, drop, Option, Some, None, option_map, IfSome, IfNone, slice_index, refl, sym, ap, ◌∙◌, arith, append_assoc, inl, inr}
+use Rattle.std.specs.Prelude.{decimal}
 use Rattle.std.specs.List.{after_first, before_first, position_or_len}
 use Rattle.std.specs.Str.{bytes_eq}
 use Rattle.std.specs.Str.Parse.{digits_value}
@@ -60,8 +60,8 @@ first_point : (a b : ℕ) → a < 2 ^ 64 → position_or_len is_point (with_poin
 first_point a b wide =
     let long = length-append (decimal a) (46 ∷ decimal b) in
     position_or_len_is is_point (with_point a b) (length (decimal a)) 0 (omega arith)
-      (λ k less. ap is_point (get_or_append_left (decimal a) (46 ∷ decimal b) 0 k less) ∙ no_point a k wide less)
-      (λ within. ap is_point (get_or-append_seam (decimal a) 46 (decimal b) 0))
+    (λ k less. ap is_point (get_or_append_left (decimal a) (46 ∷ decimal b) 0 k less) ∙ no_point a k wide less)
+    (λ within. ap is_point (get_or-append_seam (decimal a) 46 (decimal b) 0))
 
 -- two numbers with a point between them are read as these numbers
 numbers_of-written : (a b : ℕ) → a < 2 ^ 16 → b < 2 ^ 16 → numbers_of_text (with_point a b) ≡ Some (a, b)
@@ -81,10 +81,10 @@ numbers_of-is text a b is =
     let wide : b < 2 ^ 64 = omega arith in
     let some : 0 < length (after_first is_point text) = rw written_b (decimal_nonempty b wide) in
     let within : position_or_len is_point text < length text = elim (cases_lt (position_or_len is_point text) (length text)) [
-        inl less ↦ less
+      | inl less ↦ less
       | inr past ↦
           absurd (omega (arith, length-drop (position_or_len is_point text + 1) text))
-      ] in
+    ] in
     let point : get_or text (position_or_len is_point text) 0 ≡ 46 = eqb-true _ 46 (passes_at_first is_point text 0 within) in
     (split_at_first is_point text 0 within ∙ rw (written_a, written_b, point) refl, small_a, small_b)
 
@@ -101,27 +101,27 @@ label_of-label_text (Core group m) is =
 -- the label that a letter and two numbers make has them
 made_by : (letter a b : ℕ) (label : Label) → label_from letter (a, b) ≡ Some label → label_text label ≡ letter ∷ with_point a b
 made_by letter a b label is = elim (cases_Bool (eqb letter 101 && ltb b 256)) [
-    inl edge ↦
+  | inl edge ↦
       let (e, small) = and_parts (eqb letter 101) (ltb b 256) edge in
       let same : Edge a b ≡ label = let r = (rw edge at is) in cc in
       let l = eqb-true letter 101 e in
       sym (ap label_text same) ∙ rw l (simp append_assoc)
   | inr no_edge ↦ elim (cases_Bool (eqb letter 97 && ltb b 256)) [
-      inl aggregation ↦
+    | inl aggregation ↦
         let (e, small) = and_parts (eqb letter 97) (ltb b 256) aggregation in
         let same : Aggregation a b ≡ label = let r = (rw (no_edge, aggregation) at is) in cc in
         let l = eqb-true letter 97 e in
         sym (ap label_text same) ∙ rw l (simp append_assoc)
     | inr no_aggregation ↦ elim (cases_Bool (eqb letter 99 && ltb a 256 && ltb b 256)) [
-        inl core ↦
+      | inl core ↦
           let (front, small) = and_parts (eqb letter 99 && ltb a 256) (ltb b 256) core in
           let (e, small_a) = and_parts (eqb letter 99) (ltb a 256) front in
           let same : Core a b ≡ label = let r = (rw (no_edge, no_aggregation, core) at is) in cc in
           let l = eqb-true letter 99 e in
           sym (ap label_text same) ∙ rw l (simp append_assoc)
       | inr no_core ↦ let r = (rw (no_edge, no_aggregation, no_core) at is) in cc
-      ]
     ]
+  ]
 ]
 
 first_and_rest : (text : List ℕ) → 0 < length text → text ≡ slice_index text 0 ∷ drop 1 text

@@ -1,5 +1,5 @@
 -- The hosts of a file: at free ports, and no two alike.
-use Rattle.std.proofs.Common.{◌≡◌, ◌≢◌, ℕ, ℤ, zero, suc, pos, ◌+◌, ◌*◌, ◌/◌, ◌^◌, ◌<◌, ◌≤◌, Bool, true, false, cond, eqb, List, [], ◌∷◌, ◌++◌, length, get_or, map, None, All, AllPairs, subst, refl, sym, ap, ◌∙◌, arith, inl, inr, ◌⊎◌}
+use Rattle.std.proofs.Common.{◌≡◌, ◌≢◌, ℕ, suc, pos, ◌+◌, ◌*◌, ◌/◌, ◌^◌, ◌<◌, ◌≤◌, true, false, eqb, List, [], ◌∷◌, ◌++◌, length, get_or, map, None, All, AllPairs, refl, sym, ap, ◌∙◌, arith, inl, inr}
 use Rattle.std.specs.List.{flat_map, list_any}
 use Rattle.std.proofs.lemmas.Bool.{cases_Bool, eqb-true, false≢true}
 use Rattle.std.proofs.lemmas.Bool.Decides.{Decides-eqb}
@@ -12,10 +12,8 @@ use Rattle.std.proofs.Math.Nat.{mul-le-mul_left, mul-le-mul_right}
 use Rattle.pl_topology.specs.declared.entries.HostEntry.{HostEntry}
 use Rattle.pl_topology.specs.declared.entries.LinkEntry.{LinkEntry}
 use Rattle.pl_topology.specs.declared.entries.PortUse.{PortUse}
-use Rattle.pl_topology.specs.declared.host.Host.{Host}
-use Rattle.pl_topology.specs.declared.link.Link.{Link}
 use Rattle.pl_topology.specs.Checks.{host_uses, is_at, is_port, kept_uses, link_uses}
-use Rattle.pl_topology.specs.FatTree.{IsAt, canonical_link, link_count}
+use Rattle.pl_topology.specs.FatTree.{IsAt, link_count}
 use Rattle.pl_topology.specs.Labels.{IsArity, edge_count}
 use Rattle.pl_topology.specs.Meaning.{host_of, links_of, port_number}
 use Rattle.pl_topology.specs.Plan.{StandsAt}
@@ -53,18 +51,18 @@ hosts_fit k given hosts agree i d within = (free_port k (uses_of_links k given) 
 pub hosts_at_edges : (k : ℕ) (given : List LinkEntry) (hosts : List HostEntry) → AgreeHosts k given hosts → All (λ h. (h.edge.0 < edge_count k) × (h.port < k)) (map host_of hosts)
 hosts_at_edges k given hosts agree =
     All-map (λ h. (h.edge.0 < edge_count k) × (h.port < k)) host_of hosts
-      (λ i d within. (agree.edges i d within, port_number-below k (get_or hosts i d).port (hosts_fit k given hosts agree i d within)))
+    (λ i d within. (agree.edges i d within, port_number-below k (get_or hosts i d).port (hosts_fit k given hosts agree i d within)))
 
 pub hosts_at_free_ports : (k : ℕ) (given : List LinkEntry) (hosts : List HostEntry) → IsArity k → Agree k given → AgreeHosts k given hosts →
-  All (λ h. All (λ l. IsAt l h.edge.0 h.port → ⊥) (links_of k given)) (map host_of hosts)
+    All (λ h. All (λ l. IsAt l h.edge.0 h.port → ⊥) (links_of k given)) (map host_of hosts)
 hosts_at_free_ports k given hosts arity links agree =
     All-map (λ h. All (λ l. IsAt l h.edge.0 h.port → ⊥) (links_of k given)) host_of hosts
-      (λ i d within n e inside at.
-        let host = get_or hosts i d in
-        let many = links_of-length k given in
-        let below : n < link_count k = omega arith in
-        let seen = placed_seen k n given arity links below host.edge.0 (port_number host.port) (is_at_moved _ _ host.edge.0 (port_number host.port) (links_of-at k given n e below) at) in
-        false≢true (sym (free_number k (uses_of_links k given) host (agree.free i d within)) ∙ seen))
+    (λ i d within n e inside at.
+    let host = get_or hosts i d in
+    let many = links_of-length k given in
+    let below : n < link_count k = omega arith in
+    let seen = placed_seen k n given arity links below host.edge.0 (port_number host.port) (is_at_moved _ _ host.edge.0 (port_number host.port) (links_of-at k given n e below) at) in
+    false≢true (sym (free_number k (uses_of_links k given) host (agree.free i d within)) ∙ seen))
 
 taken_place : (g h : HostEntry) (k : ℕ) → is_port k g.port ≡ true → g.edge.0 ≡ h.edge.0 → port_number g.port ≡ port_number h.port → list_any (is_at h.edge.0 (pos (port_number h.port))) (host_uses g) ≡ true
 taken_place g h k fit edge port =
@@ -72,7 +70,7 @@ taken_place g h k fit edge port =
     rw here refl
 
 places_apart : (k : ℕ) (given : List LinkEntry) (hosts : List HostEntry) → AgreeHosts k given hosts →
-  AllPairs (λ g h. (g.edge.0 ≡ h.edge.0) × (port_number g.port ≡ port_number h.port) → ⊥) hosts
+    AllPairs (λ g h. (g.edge.0 ≡ h.edge.0) × (port_number g.port ≡ port_number h.port) → ⊥) hosts
 places_apart k given hosts agree i j d less within same =
     let low : i < length hosts = omega arith in
     let g = get_or hosts i d in
@@ -101,7 +99,7 @@ place k host = host.edge.0 * k + port_number host.port
 any_below : (n q : ℕ) (xs : List ℕ) → All (λ x. x < n) xs → list_any (eqb q) xs ≡ true → q < n
 any_below n q [] all there = cc
 any_below n q (x ∷ xs) all there = elim (cases_Bool (eqb q x)) [
-    inl here ↦ let same = eqb-true q x here in let low = all 0 x (omega arith) in omega arith
+  | inl here ↦ let same = eqb-true q x here in let low = all 0 x (omega arith) in omega arith
   | inr other ↦ any_below n q xs (λ i d within. all (suc i) d (omega arith)) (sym (rw other refl) ∙ there)
 ]
 
@@ -113,18 +111,18 @@ few_hosts k given hosts arity agree =
     let edges : k * (k / 2) ≤ 24 * 12 = omega (arith, mul-le-mul_right (k / 2) most, mul-le-mul_left 24 half) in
     let ports : edge_count k * k ≤ 24 * 12 * 24 = omega (arith, mul-le-mul_right k edges, mul-le-mul_left (24 * 12) most) in
     let apart : AllPairs (λ x y. x ≢ y) (map (place k) hosts) = AllPairs-map (λ x y. x ≢ y) (place k) no_host hosts
-      (λ i j d less within same.
-        let low : i < length hosts = omega arith in
-        let g = get_or hosts i d in
-        let h = get_or hosts j d in
-        let below_g = port_number-below k g.port (hosts_fit k given hosts agree i d low) in
-        let below_h = port_number-below k h.port (hosts_fit k given hosts agree j d within) in
-        places_apart k given hosts agree i j d less within (same_from_place g.edge.0 (port_number g.port) h.edge.0 (port_number h.port) k below_g below_h same)) in
+    (λ i j d less within same.
+    let low : i < length hosts = omega arith in
+    let g = get_or hosts i d in
+    let h = get_or hosts j d in
+    let below_g = port_number-below k g.port (hosts_fit k given hosts agree i d low) in
+    let below_h = port_number-below k h.port (hosts_fit k given hosts agree j d within) in
+    places_apart k given hosts agree i j d less within (same_from_place g.edge.0 (port_number g.port) h.edge.0 (port_number h.port) k below_g below_h same)) in
     let below : All (λ x. x < edge_count k * k) (map (place k) hosts) = All-map (λ x. x < edge_count k * k) (place k) hosts
-      (λ i d within.
-        let h = get_or hosts i d in
-        let inside = mul-add-lt h.edge.0 k (port_number h.port) (edge_count k) (agree.edges i d within) (port_number-below k h.port (hosts_fit k given hosts agree i d within)) in
-        omega arith) in
+    (λ i d within.
+    let h = get_or hosts i d in
+    let inside = mul-add-lt h.edge.0 k (port_number h.port) (edge_count k) (agree.edges i d within) (port_number-below k h.port (hosts_fit k given hosts agree i d within)) in
+    omega arith) in
     let few = length-le_from_distinct_below (map (place k) hosts) (edge_count k * k) (IsDistinct-from_AllPairs Decides-eqb (map (place k) hosts) apart) (λ q there. any_below (edge_count k * k) q (map (place k) hosts) below there) in
     let many : length hosts ≤ edge_count k * k = (rw length-map at few) in
     omega arith

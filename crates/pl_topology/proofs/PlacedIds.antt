@@ -1,5 +1,5 @@
 -- The ids that a file's tables leave: in range, and no two equal.
-use Rattle.std.proofs.Common.{◌≡◌, ◌≢◌, ℕ, zero, suc, ◌+◌, ◌*◌, ◌/◌, ◌^◌, ◌<◌, ◌≤◌, Bool, true, false, not, cond, ◌||◌, eqb, List, [], ◌∷◌, length, get_or, map, Option, Some, None, is_some, option_map, unwrap_or, All, AllPairs, subst, refl, sym, ap, ◌∙◌, arith, inl, inr, ◌⊎◌}
+use Rattle.std.proofs.Common.{◌≡◌, ◌≢◌, ℕ, zero, suc, ◌+◌, ◌*◌, ◌/◌, ◌^◌, ◌<◌, ◌≤◌, Bool, true, false, ◌||◌, List, [], ◌∷◌, length, get_or, map, Option, Some, None, is_some, All, AllPairs, subst, refl, sym, ap, ◌∙◌, arith, inl, inr, ◌⊎◌}
 use Rattle.std.specs.List.{filter, find, list_any, range_with_len}
 use Rattle.std.proofs.lemmas.Bool.{cases_Bool, cases_lt, eqb-true, false≢true}
 use Rattle.std.proofs.lemmas.Bool.Decides.{Decides-eqb}
@@ -7,13 +7,12 @@ use Rattle.std.proofs.lemmas.List.FromFn.{get_or-map-range_with_len, length-map-
 use Rattle.std.proofs.Math.Nat.{mul-le-mul_left, mul-le-mul_right}
 use Rattle.pl_frame.specs.declared.address.SwitchId.{SwitchId}
 use Rattle.pl_topology.specs.declared.entries.SwitchEntry.{SwitchEntry}
-use Rattle.pl_topology.specs.declared.label.SwitchNo.{SwitchNo}
 use Rattle.pl_topology.specs.Checks.{canonical_entry, has_id, is_unnamed, kept_ids}
 use Rattle.pl_topology.specs.Entries.{is_of}
-use Rattle.pl_topology.specs.Labels.{IsArity, edge_count, switch_count}
+use Rattle.pl_topology.specs.Labels.{IsArity, switch_count}
 use Rattle.pl_topology.specs.Meaning.{id_of, ids_of}
 use Rattle.pl_topology.proofs.FoundLemmas.{is_some_found}
-use Rattle.pl_topology.proofs.PlacedLinks.{FoundAt, found_at}
+use Rattle.pl_topology.proofs.PlacedLinks.{found_at}
 
 -- what the checks of the `switch` tables tell
 pub record AgreeIds (k : ℕ) (given : List SwitchEntry) : Type 0 where
@@ -32,8 +31,8 @@ any_filter p q (x ∷ xs) zero d within kept passes = rw (kept, passes) refl
 any_filter p q (x ∷ xs) (suc i) d within kept passes =
     let rest = any_filter p q xs i d (omega arith) kept passes in
     elim (cases_Bool (q x)) [
-      inl here ↦ rw here (or_true (p x) _ rest)
-    | inr other ↦ rw other rest
+      | inl here ↦ rw here (or_true (p x) _ rest)
+      | inr other ↦ rw other rest
     ]
 
 abbrev pub entry_for : List SwitchEntry → ℕ → Option SwitchEntry
@@ -85,32 +84,32 @@ given_given k m n given e f agree differ found_e found_f same =
     let switch_e : e.switch.0 ≡ m = eqb-true e.switch.0 m a.3 in
     let switch_f : f.switch.0 ≡ n = eqb-true f.switch.0 n b.3 in
     elim (cases_lt a.0 b.0) [
-      inl less ↦ agree.apart a.0 b.0 e less b.1 (ap (λ x. x.id.0) (a.2 e) ∙ same ∙ sym (ap (λ x. x.id.0) (b.2 e)))
-    | inr no_less ↦ elim (cases_lt b.0 a.0) [
-        inl more ↦ agree.apart b.0 a.0 e more a.1 (ap (λ x. x.id.0) (b.2 e) ∙ sym same ∙ sym (ap (λ x. x.id.0) (a.2 e)))
-      | inr no_more ↦
-          let one : a.0 ≡ b.0 = omega arith in
-          let entries : e ≡ f = sym (a.2 e) ∙ ap (λ i. get_or given i e) one ∙ b.2 e in
-          differ (sym switch_e ∙ ap (λ x. x.switch.0) entries ∙ switch_f)
+      | inl less ↦ agree.apart a.0 b.0 e less b.1 (ap (λ x. x.id.0) (a.2 e) ∙ same ∙ sym (ap (λ x. x.id.0) (b.2 e)))
+      | inr no_less ↦ elim (cases_lt b.0 a.0) [
+        | inl more ↦ agree.apart b.0 a.0 e more a.1 (ap (λ x. x.id.0) (b.2 e) ∙ sym same ∙ sym (ap (λ x. x.id.0) (a.2 e)))
+        | inr no_more ↦
+            let one : a.0 ≡ b.0 = omega arith in
+            let entries : e ≡ f = sym (a.2 e) ∙ ap (λ i. get_or given i e) one ∙ b.2 e in
+            differ (sym switch_e ∙ ap (λ x. x.switch.0) entries ∙ switch_f)
       ]
     ]
 
 ids_apart : (k m n : ℕ) (given : List SwitchEntry) → AgreeIds k given → m < switch_count k → n < switch_count k → m ≢ n → (id_of given m).0 ≢ (id_of given n).0
 ids_apart k m n given agree lm ln differ same = elim (data_for given m) [
-    inl kept_m ↦ elim (data_for given n) [
-      inl kept_n ↦
+  | inl kept_m ↦ elim (data_for given n) [
+    | inl kept_n ↦
         let numbers : m + 1 ≡ n + 1 = sym (id_of-kept given m kept_m) ∙ same ∙ id_of-kept given n kept_n in
         differ (omega arith)
     | inr given_n ↦
         given_kept k m n given given_n.0 agree lm kept_m given_n.1 (sym (id_of-given given n given_n.0 given_n.1) ∙ sym same ∙ id_of-kept given m kept_m)
-    ]
+  ]
   | inr given_m ↦ elim (data_for given n) [
-      inl kept_n ↦
+    | inl kept_n ↦
         given_kept k n m given given_m.0 agree ln kept_n given_m.1 (sym (id_of-given given m given_m.0 given_m.1) ∙ same ∙ id_of-kept given n kept_n)
     | inr given_n ↦
         given_given k m n given given_m.0 given_n.0 agree differ given_m.1 given_n.1
-          (sym (id_of-given given m given_m.0 given_m.1) ∙ same ∙ id_of-given given n given_n.0 given_n.1)
-    ]
+        (sym (id_of-given given m given_m.0 given_m.1) ∙ same ∙ id_of-given given n given_n.0 given_n.1)
+  ]
 ]
 
 -- there are not more than 720 switches
@@ -126,13 +125,13 @@ id_in_range : (k n : ℕ) (given : List SwitchEntry) → IsArity k → AgreeIds 
 id_in_range k n given arity agree within =
     let few = few_switches k arity in
     elim (data_for given n) [
-      inl kept ↦ let is = id_of-kept given n kept in (omega arith, omega arith)
-    | inr found ↦
-        let at = found_at (is_of (record { 0 = n })) given found.0 found.1 in
-        let P : SwitchEntry → Type 0 = λ e. (1 ≤ e.id.0) × (e.id.0 < 2 ^ 48) in
-        let range = subst P (at.2 found.0) (agree.in_range at.0 found.0 at.1) in
-        let is = id_of-given given n found.0 found.1 in
-        rw is range
+      | inl kept ↦ let is = id_of-kept given n kept in (omega arith, omega arith)
+      | inr found ↦
+          let at = found_at (is_of (record { 0 = n })) given found.0 found.1 in
+          let P : SwitchEntry → Type 0 = λ e. (1 ≤ e.id.0) × (e.id.0 < 2 ^ 48) in
+          let range = subst P (at.2 found.0) (agree.in_range at.0 found.0 at.1) in
+          let is = id_of-given given n found.0 found.1 in
+          rw is range
     ]
 
 pub ids_of-in_range : (k : ℕ) (given : List SwitchEntry) → IsArity k → AgreeIds k given → All (λ id. (1 ≤ id.0) × (id.0 < 2 ^ 48)) (ids_of k given)

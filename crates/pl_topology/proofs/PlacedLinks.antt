@@ -1,35 +1,32 @@
 -- The links that a file's tables leave: in link order, their ports there and apart.
-use Rattle.std.proofs.Common.{◌≡◌, ◌≢◌, ℕ, ℤ, zero, suc, pos, negsuc, ◌+◌, ◌/◌, ◌<◌, ◌≤◌, Bool, true, false, not, cond, ◌&&◌, ◌||◌, ◌==◌, eqb, ltb, List, [], ◌∷◌, ◌++◌, length, get_or, map, Option, Some, None, option_map, Result, Ok, Err, unwrap_or, All, AllPairs, is_some, subst, refl, sym, ap, ◌∙◌, arith, inl, inr, ◌⊎◌}
-use Rattle.std.specs.List.{filter, find, flat_map, list_any, range_with_len}
+use Rattle.std.proofs.Common.{◌≡◌, ◌≢◌, ℕ, ℤ, zero, suc, pos, negsuc, ◌/◌, ◌<◌, Bool, true, false, cond, ◌&&◌, ◌||◌, ◌==◌, eqb, List, [], ◌∷◌, ◌++◌, length, get_or, Option, Some, None, option_map, unwrap_or, All, AllPairs, is_some, subst, refl, sym, ap, ◌∙◌, arith, inl, inr, ◌⊎◌}
+use Rattle.std.specs.List.{filter, find, flat_map, list_any}
 use Rattle.std.specs.Ordering.{int_eq}
-use Rattle.std.proofs.lemmas.Bool.{and_parts, false_from_ne_true, cases_Bool, cases_eq, cases_lt, eqb-true, false≢true, ltb-true}
-use Rattle.std.proofs.lemmas.Bool.Decides.{Decides-eqb, Decides-int_eq, nat_tests}
+use Rattle.std.proofs.lemmas.Bool.{and_parts, false_from_ne_true, cases_Bool, cases_lt, eqb-true, false≢true, ltb-true}
+use Rattle.std.proofs.lemmas.Bool.Decides.{Decides-eqb, Decides-int_eq}
 use Rattle.std.proofs.lemmas.List.{get_or-map, length-map}
 use Rattle.std.proofs.lemmas.List.Folds.{list_any-append}
 use Rattle.std.proofs.lemmas.List.FromFn.{get_or-map-range_with_len, length-map-range_with_len}
 use Rattle.pl_topology.specs.declared.entries.LinkEntry.{LinkEntry}
 use Rattle.pl_topology.specs.declared.entries.PortUse.{PortUse}
-use Rattle.pl_topology.specs.declared.label.SwitchNo.{SwitchNo}
 use Rattle.pl_topology.specs.declared.link.Link.{Link}
-use Rattle.pl_topology.specs.Checks.{are_joined, canonical_uses, is_at, is_port, is_unspoken, kept_uses, link_uses, port_is_free}
+use Rattle.pl_topology.specs.Checks.{are_joined, canonical_uses, is_at, is_port, is_unspoken, kept_uses, link_uses}
 use Rattle.pl_topology.specs.Entries.{is_between}
 use Rattle.pl_topology.specs.FatTree.{IsAt, IsFatTree, IsInLinkOrder, canonical_link, canonical_links, link_count, lower_at, upper_at}
 use Rattle.pl_topology.specs.FileEntries.{HasPorts}
 use Rattle.pl_topology.specs.Labels.{IsArity}
 use Rattle.pl_topology.specs.Meaning.{at_ports, link_of, links_of, port_number}
-use Rattle.pl_topology.specs.Refusal.{each_beside}
 use Rattle.pl_topology.proofs.CanonicalPorts.{canonical_apart, canonical_ports, lower-upper}
 use Rattle.pl_topology.proofs.FoundLemmas.{is_some_found}
 use Rattle.pl_topology.proofs.LabelOrder.{half_at_least}
 use Rattle.pl_topology.proofs.LinkOrder.{IsFatTree-in_order, same_link}
-use Rattle.pl_topology.proofs.PortsApart.{IsFree, groups_apart, groups_free}
-use Rattle.pl_topology.proofs.Readings.{All-head, none_at}
+use Rattle.pl_topology.proofs.PortsApart.{IsFree}
 
 -- the entry's link joins the same switches
 at_ports-ends : (link : Link) (entry : LinkEntry) → ((at_ports link entry).lower ≡ link.lower) × ((at_ports link entry).upper ≡ link.upper)
 at_ports-ends link entry =
     elim (entry.a.0 == link.lower.0) as (λ b. ((cond b (record link { lower_port = port_number entry.port_a; upper_port = port_number entry.port_b }) (record link { lower_port = port_number entry.port_b; upper_port = port_number entry.port_a })).lower ≡ link.lower)
-      × ((cond b (record link { lower_port = port_number entry.port_a; upper_port = port_number entry.port_b }) (record link { lower_port = port_number entry.port_b; upper_port = port_number entry.port_a })).upper ≡ link.upper)) [ true ↦ (refl, refl) | false ↦ (refl, refl) ]
+    × ((cond b (record link { lower_port = port_number entry.port_a; upper_port = port_number entry.port_b }) (record link { lower_port = port_number entry.port_b; upper_port = port_number entry.port_a })).upper ≡ link.upper)) [ true ↦ (refl, refl) | false ↦ (refl, refl) ]
 
 placed-ends : (link : Link) (found : Option LinkEntry) → let placed = unwrap_or (option_map (at_ports link) found) link in (placed.lower ≡ link.lower) × (placed.upper ≡ link.upper)
 placed-ends link None = (refl, refl)
@@ -63,7 +60,7 @@ found_later p y xs x found = (suc found.0, omega (arith, found.1), λ d. found.2
 pub found_at : {A : Type 0} (p : A → Bool) (xs : List A) (x : A) → find p xs ≡ Some x → FoundAt p xs x
 found_at p [] x found = cc
 found_at p (y ∷ xs) x found = elim (cases_Bool (p y)) [
-    inl passes ↦
+  | inl passes ↦
       let is : Some y ≡ Some x = sym (rw passes refl) ∙ found in
       let same : y ≡ x = cc in
       (0, omega arith, λ d. same, (rw same at passes))
@@ -84,14 +81,14 @@ any_group p items (x ∷ xs) (suc i) d within passes =
     list_any-append p (items x) (flat_map items xs) ∙ or_true (list_any p (items x)) _ (any_group p items xs i d (omega arith) passes)
 
 pub any_kept_group : {A B : Type 0} (p : B → Bool) (items : A → List B) (q : A → Bool) (xs : List A) (i : ℕ) (d : A) → i < length xs → q (get_or xs i d) ≡ true → list_any p (items (get_or xs i d)) ≡ true →
-  list_any p (flat_map items (filter q xs)) ≡ true
+    list_any p (flat_map items (filter q xs)) ≡ true
 any_kept_group p items q [] i d within kept passes = absurd (omega arith)
 any_kept_group p items q (x ∷ xs) zero d within kept passes = rw kept (list_any-append p (items x) (flat_map items (filter q xs)) ∙ rw passes refl)
 any_kept_group p items q (x ∷ xs) (suc i) d within kept passes =
     let rest = any_kept_group p items q xs i d (omega arith) kept passes in
     elim (cases_Bool (q x)) [
-      inl here ↦ rw here (list_any-append p (items x) (flat_map items (filter q xs)) ∙ or_true (list_any p (items x)) _ rest)
-    | inr other ↦ rw other rest
+      | inl here ↦ rw here (list_any-append p (items x) (flat_map items (filter q xs)) ∙ or_true (list_any p (items x)) _ rest)
+      | inr other ↦ rw other rest
     ]
 
 int_same : (z : ℤ) → int_eq z z ≡ true
@@ -137,7 +134,7 @@ or_split false b h = inr h
 
 pub oriented : (link : Link) (entry : LinkEntry) → is_between link.lower link.upper entry ≡ true → Oriented link entry
 oriented link entry between = elim (or_split (eqb entry.a.0 link.lower.0 && eqb entry.b.0 link.upper.0) (eqb entry.a.0 link.upper.0 && eqb entry.b.0 link.lower.0) between) [
-    inl straight ↦ let (a, b) = and_parts (eqb entry.a.0 link.lower.0) (eqb entry.b.0 link.upper.0) straight in inl (eqb-true _ _ a, eqb-true _ _ b)
+  | inl straight ↦ let (a, b) = and_parts (eqb entry.a.0 link.lower.0) (eqb entry.b.0 link.upper.0) straight in inl (eqb-true _ _ a, eqb-true _ _ b)
   | inr turned ↦ let (a, b) = and_parts (eqb entry.a.0 link.upper.0) (eqb entry.b.0 link.lower.0) turned in inr (eqb-true _ _ a, eqb-true _ _ b)
 ]
 
@@ -160,16 +157,16 @@ placed_use k link entry (inl straight) apart fit s p at =
     let number_a = port_number-is k entry.port_a fit.0 in
     let number_b = port_number-is k entry.port_b fit.1 in
     elim (is_at_moved _ _ s p (at_ports-straight link entry here) at) [
-      inl lower ↦ inl (straight.0 ∙ lower.0, number_a ∙ ap (λ n. pos n) lower.1)
-    | inr upper ↦ inr (straight.1 ∙ upper.0, number_b ∙ ap (λ n. pos n) upper.1)
+      | inl lower ↦ inl (straight.0 ∙ lower.0, number_a ∙ ap (λ n. pos n) lower.1)
+      | inr upper ↦ inr (straight.1 ∙ upper.0, number_b ∙ ap (λ n. pos n) upper.1)
     ]
 placed_use k link entry (inr turned) apart fit s p at =
     let other : eqb entry.a.0 link.lower.0 ≡ false = false_from_ne_true _ (λ same. apart (sym (eqb-true _ _ same) ∙ turned.0)) in
     let number_a = port_number-is k entry.port_a fit.0 in
     let number_b = port_number-is k entry.port_b fit.1 in
     elim (is_at_moved _ _ s p (at_ports-turned link entry other) at) [
-      inl lower ↦ inr (turned.1 ∙ lower.0, number_b ∙ ap (λ n. pos n) lower.1)
-    | inr upper ↦ inl (turned.0 ∙ upper.0, number_a ∙ ap (λ n. pos n) upper.1)
+      | inl lower ↦ inr (turned.1 ∙ lower.0, number_b ∙ ap (λ n. pos n) lower.1)
+      | inr upper ↦ inl (turned.0 ∙ upper.0, number_a ∙ ap (λ n. pos n) upper.1)
     ]
 
 use_any : (k : ℕ) (entry : LinkEntry) → are_joined k entry.a entry.b ≡ true → (s p : ℕ) → HasUse entry s p → list_any (is_at s (pos p)) (link_uses k entry) ≡ true
@@ -177,7 +174,7 @@ use_any k entry joined s p (inl a) = first_use k entry s p joined a.0 a.1
 use_any k entry joined s p (inr b) = second_use k entry s p joined b.0 b.1
 
 use_free : (k : ℕ) (before : List PortUse) (entry : LinkEntry) → are_joined k entry.a entry.b ≡ true → All (IsFree k before) (link_uses k entry) → (s p : ℕ) → HasUse entry s p →
-  list_any (is_at s (pos p)) before ≡ false
+    list_any (is_at s (pos p)) before ≡ false
 use_free k before entry joined free s p (inl a) =
     let here = (free 0 (record { switch = entry.a; port = entry.port_a; counts = true }) (omega arith)).free joined in
     (rw (a.0, a.1) at here)
@@ -260,7 +257,7 @@ one_link k m n entry half lm ln (inr a) (inl b) =
 
 -- the ports of an entry are none of those of an entry before it
 entries_apart : (k : ℕ) (given : List LinkEntry) (link other : Link) (e f : LinkEntry) → Agree k given → (first : Speaks k given link e) (second : Speaks k given other f) → first.place < second.place →
-  (s p : ℕ) → HasUse e s p → HasUse f s p → ⊥
+    (s p : ℕ) → HasUse e s p → HasUse f s p → ⊥
 entries_apart k given link other e f agree first second less s p at_e at_f =
     let pair = agree.apart first.place second.place e less second.within in
     let P : LinkEntry → Type 0 = λ x. All (IsFree k (link_uses k x)) (link_uses k (get_or given second.place e)) in
@@ -269,17 +266,17 @@ entries_apart k given link other e f agree first second less s p at_e at_f =
     false≢true (sym (use_free k (link_uses k e) f second.joined free s p at_f) ∙ use_any k e first.joined s p at_e)
 
 both_given : (k m n : ℕ) (given : List LinkEntry) (e f : LinkEntry) → 0 < k / 2 → Agree k given → m < link_count k → n < link_count k → m ≢ n →
-  Speaks k given (canonical_link k m) e → Speaks k given (canonical_link k n) f → (s p : ℕ) → HasUse e s p → HasUse f s p → ⊥
+    Speaks k given (canonical_link k m) e → Speaks k given (canonical_link k n) f → (s p : ℕ) → HasUse e s p → HasUse f s p → ⊥
 both_given k m n given e f half agree lm ln differ first second s p at_e at_f = elim (cases_lt first.place second.place) [
-    inl less ↦ entries_apart k given (canonical_link k m) (canonical_link k n) e f agree first second less s p at_e at_f
+  | inl less ↦ entries_apart k given (canonical_link k m) (canonical_link k n) e f agree first second less s p at_e at_f
   | inr no_less ↦ elim (cases_lt second.place first.place) [
-      inl more ↦ entries_apart k given (canonical_link k n) (canonical_link k m) f e agree second first more s p at_f at_e
+    | inl more ↦ entries_apart k given (canonical_link k n) (canonical_link k m) f e agree second first more s p at_f at_e
     | inr no_more ↦
         let one : first.place ≡ second.place = omega arith in
         let same : e ≡ f = sym (first.there e) ∙ ap (λ i. get_or given i e) one ∙ second.there e in
         let P : LinkEntry → Type 0 = λ x. Oriented (canonical_link k n) x in
         differ (one_link k m n e half lm ln first.ends (subst P (sym same) second.ends))
-    ]
+  ]
 ]
 
 -- where a link's ports come from
@@ -291,51 +288,51 @@ data_of given link = go (entry_of given link)
     go (Some e) = inr (e, refl)
 
 pub placed_apart : (k m n : ℕ) (given : List LinkEntry) → IsArity k → Agree k given → m < link_count k → n < link_count k → m ≢ n →
-  (s p : ℕ) → IsAt (link_of given (canonical_link k m)) s p → IsAt (link_of given (canonical_link k n)) s p → ⊥
+    (s p : ℕ) → IsAt (link_of given (canonical_link k m)) s p → IsAt (link_of given (canonical_link k n)) s p → ⊥
 placed_apart k m n given arity agree lm ln differ s p at_m at_n =
     let two = half_at_least k arity in
     let positive : 0 < k / 2 = omega arith in
     elim (data_of given (canonical_link k m)) [
-      inl kept_m ↦
-        let here_m = is_at_moved _ _ s p (link_of-kept given (canonical_link k m) kept_m) at_m in
-        elim (data_of given (canonical_link k n)) [
-          inl kept_n ↦ canonical_apart k m n arity lm ln differ s p here_m (is_at_moved _ _ s p (link_of-kept given (canonical_link k n) kept_n) at_n)
-        | inr given_n ↦
-            let spoken = speaks k given (canonical_link k n) given_n.0 agree given_n.1 in
-            let has = use_of k n given given_n.0 positive ln spoken s p (is_at_moved _ _ s p (link_of-given given (canonical_link k n) given_n.0 given_n.1) at_n) in
-            false≢true (sym (use_free k (kept_uses k given) given_n.0 spoken.joined spoken.free s p has) ∙ kept_any k m given lm kept_m s p here_m)
-        ]
-    | inr given_m ↦
-        let spoken_m = speaks k given (canonical_link k m) given_m.0 agree given_m.1 in
-        let has_m = use_of k m given given_m.0 positive lm spoken_m s p (is_at_moved _ _ s p (link_of-given given (canonical_link k m) given_m.0 given_m.1) at_m) in
-        elim (data_of given (canonical_link k n)) [
-          inl kept_n ↦
-            let here_n = is_at_moved _ _ s p (link_of-kept given (canonical_link k n) kept_n) at_n in
-            false≢true (sym (use_free k (kept_uses k given) given_m.0 spoken_m.joined spoken_m.free s p has_m) ∙ kept_any k n given ln kept_n s p here_n)
-        | inr given_n ↦
-            let spoken = speaks k given (canonical_link k n) given_n.0 agree given_n.1 in
-            let has = use_of k n given given_n.0 positive ln spoken s p (is_at_moved _ _ s p (link_of-given given (canonical_link k n) given_n.0 given_n.1) at_n) in
-            both_given k m n given given_m.0 given_n.0 positive agree lm ln differ spoken_m spoken s p has_m has
-        ]
+      | inl kept_m ↦
+          let here_m = is_at_moved _ _ s p (link_of-kept given (canonical_link k m) kept_m) at_m in
+          elim (data_of given (canonical_link k n)) [
+            | inl kept_n ↦ canonical_apart k m n arity lm ln differ s p here_m (is_at_moved _ _ s p (link_of-kept given (canonical_link k n) kept_n) at_n)
+            | inr given_n ↦
+                let spoken = speaks k given (canonical_link k n) given_n.0 agree given_n.1 in
+                let has = use_of k n given given_n.0 positive ln spoken s p (is_at_moved _ _ s p (link_of-given given (canonical_link k n) given_n.0 given_n.1) at_n) in
+                false≢true (sym (use_free k (kept_uses k given) given_n.0 spoken.joined spoken.free s p has) ∙ kept_any k m given lm kept_m s p here_m)
+          ]
+      | inr given_m ↦
+          let spoken_m = speaks k given (canonical_link k m) given_m.0 agree given_m.1 in
+          let has_m = use_of k m given given_m.0 positive lm spoken_m s p (is_at_moved _ _ s p (link_of-given given (canonical_link k m) given_m.0 given_m.1) at_m) in
+          elim (data_of given (canonical_link k n)) [
+            | inl kept_n ↦
+                let here_n = is_at_moved _ _ s p (link_of-kept given (canonical_link k n) kept_n) at_n in
+                false≢true (sym (use_free k (kept_uses k given) given_m.0 spoken_m.joined spoken_m.free s p has_m) ∙ kept_any k n given ln kept_n s p here_n)
+            | inr given_n ↦
+                let spoken = speaks k given (canonical_link k n) given_n.0 agree given_n.1 in
+                let has = use_of k n given given_n.0 positive ln spoken s p (is_at_moved _ _ s p (link_of-given given (canonical_link k n) given_n.0 given_n.1) at_n) in
+                both_given k m n given given_m.0 given_n.0 positive agree lm ln differ spoken_m spoken s p has_m has
+          ]
     ]
 
 -- a port of a link is among the ports that were seen
 pub placed_seen : (k n : ℕ) (given : List LinkEntry) → IsArity k → Agree k given → n < link_count k → (s p : ℕ) → IsAt (link_of given (canonical_link k n)) s p →
-  list_any (is_at s (pos p)) (kept_uses k given ++ flat_map (link_uses k) given) ≡ true
+    list_any (is_at s (pos p)) (kept_uses k given ++ flat_map (link_uses k) given) ≡ true
 placed_seen k n given arity agree within s p at =
     let two = half_at_least k arity in
     let positive : 0 < k / 2 = omega arith in
     let whole = list_any-append (is_at s (pos p)) (kept_uses k given) (flat_map (link_uses k) given) in
     elim (data_of given (canonical_link k n)) [
-      inl kept ↦
-        let here = is_at_moved _ _ s p (link_of-kept given (canonical_link k n) kept) at in
-        whole ∙ rw (kept_any k n given within kept s p here) refl
-    | inr found ↦
-        let spoken = speaks k given (canonical_link k n) found.0 agree found.1 in
-        let has = use_of k n given found.0 positive within spoken s p (is_at_moved _ _ s p (link_of-given given (canonical_link k n) found.0 found.1) at) in
-        let is = spoken.there found.0 in
-        let used : list_any (is_at s (pos p)) (link_uses k (get_or given spoken.place found.0)) ≡ true = rw is (use_any k found.0 spoken.joined s p has) in
-        whole ∙ or_true (list_any (is_at s (pos p)) (kept_uses k given)) _ (any_group (is_at s (pos p)) (link_uses k) given spoken.place found.0 spoken.within used)
+      | inl kept ↦
+          let here = is_at_moved _ _ s p (link_of-kept given (canonical_link k n) kept) at in
+          whole ∙ rw (kept_any k n given within kept s p here) refl
+      | inr found ↦
+          let spoken = speaks k given (canonical_link k n) found.0 agree found.1 in
+          let has = use_of k n given found.0 positive within spoken s p (is_at_moved _ _ s p (link_of-given given (canonical_link k n) found.0 found.1) at) in
+          let is = spoken.there found.0 in
+          let used : list_any (is_at s (pos p)) (link_uses k (get_or given spoken.place found.0)) ≡ true = rw is (use_any k found.0 spoken.joined s p has) in
+          whole ∙ or_true (list_any (is_at s (pos p)) (kept_uses k given)) _ (any_group (is_at s (pos p)) (link_uses k) given spoken.place found.0 spoken.within used)
     ]
 
 at_ports-below : (k : ℕ) (link : Link) (entry : LinkEntry) → HasPorts k entry → ((at_ports link entry).lower_port < k) × ((at_ports link entry).upper_port < k)
@@ -344,18 +341,18 @@ at_ports-below k link entry fit =
     let b = port_number-below k entry.port_b fit.1 in
     let P : Link → Type 0 = λ l. (l.lower_port < k) × (l.upper_port < k) in
     elim (cases_Bool (eqb entry.a.0 link.lower.0)) [
-      inl same ↦ subst P (sym (at_ports-straight link entry same)) (a, b)
-    | inr other ↦ subst P (sym (at_ports-turned link entry other)) (b, a)
+      | inl same ↦ subst P (sym (at_ports-straight link entry same)) (a, b)
+      | inr other ↦ subst P (sym (at_ports-turned link entry other)) (b, a)
     ]
 
 placed_ports : (k n : ℕ) (given : List LinkEntry) → IsArity k → Agree k given → n < link_count k → ((link_of given (canonical_link k n)).lower_port < k) × ((link_of given (canonical_link k n)).upper_port < k)
 placed_ports k n given arity agree within =
     let P : Link → Type 0 = λ l. (l.lower_port < k) × (l.upper_port < k) in
     elim (data_of given (canonical_link k n)) [
-      inl kept ↦ subst P (sym (link_of-kept given (canonical_link k n) kept)) (canonical_ports k n arity within)
-    | inr found ↦
-        let spoken = speaks k given (canonical_link k n) found.0 agree found.1 in
-        subst P (sym (link_of-given given (canonical_link k n) found.0 found.1)) (at_ports-below k (canonical_link k n) found.0 spoken.fit)
+      | inl kept ↦ subst P (sym (link_of-kept given (canonical_link k n) kept)) (canonical_ports k n arity within)
+      | inr found ↦
+          let spoken = speaks k given (canonical_link k n) found.0 agree found.1 in
+          subst P (sym (link_of-given given (canonical_link k n) found.0 found.1)) (at_ports-below k (canonical_link k n) found.0 spoken.fit)
     ]
 
 -- the links are a fat tree
@@ -364,12 +361,12 @@ links_of-IsFatTree k given arity agree =
     let many = links_of-length k given in
     let P : Link → Type 0 = λ l. (l.lower_port < k) × (l.upper_port < k) in
     IsFatTree-in_order k (links_of k given) arity (links_of-order k given)
-      (λ n d within.
-        let inside : n < link_count k = omega arith in
-        subst P (sym (links_of-at k given n d inside)) (placed_ports k n given arity agree inside))
-      (λ m n d less within s p at_m at_n.
-        let inside : n < link_count k = omega arith in
-        let before : m < link_count k = omega arith in
-        let differ : m ≢ n = omega arith in
-        placed_apart k m n given arity agree before inside differ s p
-          (is_at_moved _ _ s p (links_of-at k given m d before) at_m) (is_at_moved _ _ s p (links_of-at k given n d inside) at_n))
+    (λ n d within.
+    let inside : n < link_count k = omega arith in
+    subst P (sym (links_of-at k given n d inside)) (placed_ports k n given arity agree inside))
+    (λ m n d less within s p at_m at_n.
+    let inside : n < link_count k = omega arith in
+    let before : m < link_count k = omega arith in
+    let differ : m ≢ n = omega arith in
+    placed_apart k m n given arity agree before inside differ s p
+    (is_at_moved _ _ s p (links_of-at k given m d before) at_m) (is_at_moved _ _ s p (links_of-at k given n d inside) at_n))

@@ -1,5 +1,5 @@
 -- What a topology file means is a wiring.
-use Rattle.std.proofs.Common.{◌≡◌, ◌≢◌, ℕ, ℤ, pos, negsuc, zero, suc, ◌+◌, ◌%◌, ◌<◌, ◌≤◌, ◌^◌, Bool, true, false, not, ◌&&◌, ◌||◌, ◌==◌, ltb, leb, eqb, cond, List, [], ◌∷◌, ◌++◌, length, get_or, Option, Some, None, option_and_then, Result, Ok, Err, All, AllPairs, subst, refl, sym, ap, ◌∙◌, arith}
+use Rattle.std.proofs.Common.{◌≡◌, ◌≢◌, ℕ, ℤ, pos, negsuc, ◌%◌, ◌<◌, ◌≤◌, ◌^◌, Bool, true, false, not, ◌&&◌, ◌||◌, ltb, leb, eqb, cond, List, [], ◌∷◌, ◌++◌, get_or, Option, Some, None, option_and_then, Result, Ok, All, AllPairs, subst, refl, sym, ap, ◌∙◌, arith}
 use Rattle.std.specs.Prelude.{codes}
 use Rattle.std.specs.Bool.{⊤}
 use Rattle.std.specs.List.{flat_map, list_any}
@@ -18,18 +18,17 @@ use Rattle.pl_topology.specs.declared.error.TopologyError.TheVariants as error
 use Rattle.pl_topology.specs.declared.key.Key.TheVariants as key
 use Rattle.pl_topology.specs.declared.key.Key.{Key}
 use Rattle.pl_topology.specs.declared.label.SwitchNo.{SwitchNo}
-use Rattle.pl_topology.specs.declared.label.Label.{Label}
 use Rattle.pl_topology.specs.declared.entries.SwitchEntry.{SwitchEntry}
 use Rattle.pl_topology.specs.declared.entries.LinkEntry.{LinkEntry}
 use Rattle.pl_topology.specs.declared.entries.HostEntry.{HostEntry}
 use Rattle.pl_topology.specs.Checks.{addresses_are_new, addresses_differ, are_joined, has_id, has_ip, has_mac, host_uses, id_is_new, ids_differ, is_called, joins_the_tree, kept_ids, kept_uses, link_uses, name_is_new, names_differ, port_is_free, ports_differ}
 use Rattle.pl_topology.specs.Document.{arity_if, arity_of, integer_at, tables_at, text_at, value_at}
 use Rattle.pl_topology.specs.Entries.{HasEdge, HasEnds, capture_of, edge_if, host_entry, id_if, is_again, is_label, is_of, link_entry, name_if, switch_at, switch_entry, switch_named}
-use Rattle.pl_topology.specs.FileEntries.{Entries, HasPort, HasPorts, entries_of, host_entries, link_entries, switch_entries}
+use Rattle.pl_topology.specs.FileEntries.{Entries, entries_of, host_entries, link_entries, switch_entries}
 use Rattle.pl_topology.specs.Labels.{IsArity, edge_count, label_of, number_of, switch_count}
 use Rattle.pl_topology.specs.Meaning.{plan_of_entries}
 use Rattle.pl_topology.specs.Plan.{IsPlan}
-use Rattle.pl_topology.specs.Refusal.{◌>>=◌, all_beside, each, each_beside, or_refused, refused_if}
+use Rattle.pl_topology.specs.Refusal.{all_beside, each, each_beside, or_refused, refused_if}
 use Rattle.pl_topology.specs.Texts.{ip_of_text, label_of_text, mac_of_text}
 use Rattle.pl_topology.proofs.EntryLemmas.{is_label-Decides}
 use Rattle.pl_topology.proofs.LabelOrder.{number_of-below}
@@ -98,9 +97,10 @@ link_entry-is k before found entry given =
     let (port_b, is_b, made) = bind_ok (or_refused (integer_at key.PortB found) (error.BadValue key.PortB)) _ entry rest4 in
     let first : a ≡ entry.a = cc in
     let second : b ≡ entry.b = cc in
-    let P : SwitchNo → Type 0 = λ s. s.0 < switch_count k in
-    ( subst P first (switch_at-below k key.A found a (or_refused_ok _ _ a named))
-    , subst P second (switch_at-below k key.B found b (or_refused_ok _ _ b named_b)))
+    let P : SwitchNo → Type 0 = λ s. s.0 < switch_count k in (
+      subst P first (switch_at-below k key.A found a (or_refused_ok _ _ a named)),
+      subst P second (switch_at-below k key.B found b (or_refused_ok _ _ b named_b)),
+    )
 
 made_edge : (made entry : HostEntry) → (let r : Result HostEntry TopologyError = Ok made in r ≡ Ok entry) → made.edge ≡ entry.edge
 made_edge made entry is = let same : made ≡ entry = cc in ap (λ (h : HostEntry). h.edge) same
@@ -172,7 +172,7 @@ id_differs before entry passed = refused_if_ok (list_any (has_id entry.id) befor
 
 -- what each passes beside the front, and beside those before it
 pub front_pass : {A : Type 0} (check : List A → A → Result ⊤ TopologyError) (p : A → A → Bool) (step : (before : List A) (x : A) → check before x ≡ Ok tt → list_any (p x) before ≡ false)
-  (front xs : List A) → each_beside check front xs ≡ Ok tt → All (λ x. list_any (p x) front ≡ false) xs
+    (front xs : List A) → each_beside check front xs ≡ Ok tt → All (λ x. list_any (p x) front ≡ false) xs
 front_pass check p step front [] passed = All-none (λ x. list_any (p x) front ≡ false)
 front_pass check p step front (x ∷ xs) passed =
     let (u, first, rest) = bind_ok (check front x) (λ _. each_beside check (front ++ x ∷ []) xs) tt passed in
@@ -180,14 +180,14 @@ front_pass check p step front (x ∷ xs) passed =
     All-cons (λ x. list_any (p x) front ≡ false) x xs (step front x first) (λ i d within. (none_of_both (p (get_or xs i d)) front (x ∷ []) (after i d within)).0)
 
 pub pairs_pass : {A : Type 0} (check : List A → A → Result ⊤ TopologyError) (p : A → A → Bool) (step : (before : List A) (x : A) → check before x ≡ Ok tt → list_any (p x) before ≡ false)
-  (front xs : List A) → each_beside check front xs ≡ Ok tt → AllPairs (λ x y. p y x ≡ false) xs
+    (front xs : List A) → each_beside check front xs ≡ Ok tt → AllPairs (λ x y. p y x ≡ false) xs
 pairs_pass check p step front [] passed = AllPairs-none (λ x y. p y x ≡ false)
 pairs_pass check p step front (x ∷ xs) passed =
     let (u, first, rest) = bind_ok (check front x) (λ _. each_beside check (front ++ x ∷ []) xs) tt passed in
     let after = front_pass check p step (front ++ x ∷ []) xs rest in
     AllPairs-cons (λ x y. p y x ≡ false) x xs
-      (λ i d within. none_at (p (get_or xs i d)) (x ∷ []) (none_of_both (p (get_or xs i d)) front (x ∷ []) (after i d within)).1 0 x (omega arith))
-      (pairs_pass check p step (front ++ x ∷ []) xs rest)
+    (λ i d within. none_at (p (get_or xs i d)) (x ∷ []) (none_of_both (p (get_or xs i d)) front (x ∷ []) (after i d within)).1 0 x (omega arith))
+    (pairs_pass check p step (front ++ x ∷ []) xs rest)
 
 differ_by : (m n : ℕ) → eqb m n ≡ false → m ≢ n
 differ_by m n other same = false≢true (sym other ∙ (Decides-eqb m n).1 same)
@@ -197,8 +197,8 @@ agree_ids k given are passed = record {
   in_range = are;
   free = front_pass id_is_new (λ e. has_id e.id) id_differs (kept_ids k given) given passed;
   apart = λ i j d less within same.
-    let pair = pairs_pass id_is_new (λ e. has_id e.id) id_differs (kept_ids k given) given passed i j d less within in
-    differ_by (get_or given i d).id.0 (get_or given j d).id.0 pair same;
+      let pair = pairs_pass id_is_new (λ e. has_id e.id) id_differs (kept_ids k given) given passed i j d less within in
+      differ_by (get_or given i d).id.0 (get_or given j d).id.0 pair same;
 }
 
 -- the tests of the `host` tables
@@ -214,14 +214,14 @@ addresses_differ_by : (before : List HostEntry) (host : HostEntry) → addresses
 unfolding addresses_are_new
 addresses_differ_by before host passed =
     neither (list_any (has_mac host.mac.0) before) (list_any (has_ip host.ip.0) before)
-      (refused_if_ok (list_any (has_mac host.mac.0) before || list_any (has_ip host.ip.0) before) (error.DoubleAddress host.name) tt passed)
+    (refused_if_ok (list_any (has_mac host.mac.0) before || list_any (has_ip host.ip.0) before) (error.DoubleAddress host.name) tt passed)
 
 texts_differ : (xs ys : List ℕ) → bytes_eq xs ys ≡ false → xs ≢ ys
 texts_differ xs ys other same = false≢true (sym other ∙ (bytes_eq-Decides xs ys).1 same)
 
 -- what the ports' test tells
 ports_agree : (k : ℕ) (links : List LinkEntry) (hosts : List HostEntry) → ports_differ k links hosts ≡ Ok tt →
-  (each_beside (port_is_free k) (kept_uses k links) (flat_map (link_uses k) links) ≡ Ok tt) × (each_beside (port_is_free k) (uses_of_links k links) (flat_map host_uses hosts) ≡ Ok tt)
+    (each_beside (port_is_free k) (kept_uses k links) (flat_map (link_uses k) links) ≡ Ok tt) × (each_beside (port_is_free k) (uses_of_links k links) (flat_map host_uses hosts) ≡ Ok tt)
 unfolding ports_differ
 ports_agree k links hosts passed =
     let (u, first, rest) = bind_ok (each_beside (port_is_free k) (kept_uses k links) (flat_map (link_uses k) links)) _ tt passed in (first, rest)
@@ -232,14 +232,14 @@ agree_hosts k links hosts are names addresses ports =
     record {
       edges = are;
       names = λ i j d less within same.
-        let pair = pairs_pass name_is_new (λ h. is_called h.name) name_differs [] hosts names i j d less within in
-        texts_differ (get_or hosts i d).name (get_or hosts j d).name pair same;
+          let pair = pairs_pass name_is_new (λ h. is_called h.name) name_differs [] hosts names i j d less within in
+          texts_differ (get_or hosts i d).name (get_or hosts j d).name pair same;
       macs = λ i j d less within same.
-        let pair = pairs_pass addresses_are_new (λ h. has_mac h.mac.0) (λ before h is. (addresses_differ_by before h is).0) [] hosts addresses i j d less within in
-        texts_differ (get_or hosts i d).mac.0 (get_or hosts j d).mac.0 pair (ap (λ (m : Mac). m.0) same);
+          let pair = pairs_pass addresses_are_new (λ h. has_mac h.mac.0) (λ before h is. (addresses_differ_by before h is).0) [] hosts addresses i j d less within in
+          texts_differ (get_or hosts i d).mac.0 (get_or hosts j d).mac.0 pair (ap (λ (m : Mac). m.0) same);
       ips = λ i j d less within same.
-        let pair = pairs_pass addresses_are_new (λ h. has_ip h.ip.0) (λ before h is. (addresses_differ_by before h is).1) [] hosts addresses i j d less within in
-        differ_by (get_or hosts i d).ip.0 (get_or hosts j d).ip.0 pair (ap (λ (n : Ip4). n.0) same);
+          let pair = pairs_pass addresses_are_new (λ h. has_ip h.ip.0) (λ before h is. (addresses_differ_by before h is).1) [] hosts addresses i j d less within in
+          differ_by (get_or hosts i d).ip.0 (get_or hosts j d).ip.0 pair (ap (λ (n : Ip4). n.0) same);
       free = groups_free k host_uses (uses_of_links k links) hosts passed;
       apart = groups_apart k host_uses (uses_of_links k links) hosts passed;
     }
@@ -254,9 +254,9 @@ agree_links k links hosts ports joined =
     let free = groups_free k (link_uses k) (kept_uses k links) links passed in
     record {
       fit = λ i d within.
-        let e = get_or links i d in
-        let u : PortUse = record { switch = e.a; port = e.port_a; counts = are_joined k e.a e.b } in
-        ((free i d within 0 u (omega arith)).there, (free i d within 1 u (omega arith)).there);
+          let e = get_or links i d in
+          let u : PortUse = record { switch = e.a; port = e.port_a; counts = are_joined k e.a e.b } in
+          ((free i d within 0 u (omega arith)).there, (free i d within 1 u (omega arith)).there);
       joined = each-All (λ e. are_joined k e.a e.b ≡ true) (joins_the_tree k) (joined_by k) links joined;
       free = free;
       apart = groups_apart k (link_uses k) (kept_uses k links) links passed;
@@ -269,7 +269,7 @@ pub record Agrees (k : ℕ) (e : Entries) : Type 0 where
   pub hosts : AgreeHosts k e.links e.hosts
 
 pub agrees : (k : ℕ) (document : Members) (e : Entries) → entries_of k document ≡ Ok e → ids_differ k e.switches ≡ Ok tt → names_differ e.hosts ≡ Ok tt → addresses_differ e.hosts ≡ Ok tt →
-  ports_differ k e.links e.hosts ≡ Ok tt → each (joins_the_tree k) e.links ≡ Ok tt → Agrees k e
+    ports_differ k e.links e.hosts ≡ Ok tt → each (joins_the_tree k) e.links ≡ Ok tt → Agrees k e
 agrees k document e read ids names addresses ports joined =
     let are = entries_are k document e read in
     record {

@@ -1,6 +1,5 @@
 -- A port that is taken, beside the ports before it.
-use Rattle.std.proofs.Common.{◌≡◌, ℕ, ℤ, pos, ◌<◌, ◌++◌, ◌∷◌, [], List, true, false, ◌+◌, length, get_or, take, append_assoc, Option, Some, None, is_some, Result, Ok, Err, refl, sym, ap, ◌∙◌, subst}
-use Rattle.std.specs.Bool.{⊤}
+use Rattle.std.proofs.Common.{◌≡◌, ℕ, ℤ, pos, ◌<◌, ◌++◌, ◌∷◌, [], List, true, false, ◌+◌, length, get_or, take, append_assoc, Option, Some, None, is_some, Ok, Err, refl, sym, ap, ◌∙◌, subst}
 use Rattle.std.specs.List.{filter, find, flat_map, list_any}
 use Rattle.std.proofs.lemmas.Grind.{flat_map-append}
 use Rattle.std.proofs.lemmas.List.{append-nil, take_more}
@@ -16,7 +15,7 @@ use Rattle.pl_topology.specs.declared.entries.PortUse.{PortUse}
 use Rattle.pl_topology.specs.Checks.{canonical_uses, is_at, is_port, is_unspoken, port_is_free}
 use Rattle.pl_topology.specs.Found.{SeesPorts, same_pair}
 use Rattle.pl_topology.specs.Labels.{label_of}
-use Rattle.pl_topology.specs.Refusal.{◌>>=◌, Fails, each_beside}
+use Rattle.pl_topology.specs.Refusal.{Fails}
 use Rattle.pl_topology.proofs.FoundLemmas.{Used, is_some_found, SeesPorts-push, SeesPorts-skip, port_is_free-out_of_range, port_is_free-uncounted, port_is_free-used, port_is_free-free}
 use Rattle.pl_topology.proofs.RefusalLemmas.{Fails-refused}
 
@@ -43,25 +42,25 @@ is_uncounted taken n number counts =
 
 -- a port that the switch does not have
 pub taken_out : (k : ℕ) (before : List PortUse) (taken : PortUse) (e : TopologyError) → e ≡ BadPort (label_of k taken.switch.0) taken.port → is_port k taken.port ≡ false →
-  Fails e (port_is_free k before taken)
+    Fails e (port_is_free k before taken)
 taken_out k before taken e is out = Fails-refused e (port_is_free k before taken) (port_is_free-out_of_range k before taken out ∙ ap (λ x. Err x) (sym is))
 
 -- a port that something before has
 pub taken_used : (k : ℕ) (before : List PortUse) (taken : PortUse) (n : ℕ) (e : TopologyError) → taken.port ≡ pos n → taken.counts ≡ true → e ≡ BadPort (label_of k taken.switch.0) taken.port →
-  list_any (is_at taken.switch.0 (pos n)) before ≡ true → Fails e (port_is_free k before taken)
+    list_any (is_at taken.switch.0 (pos n)) before ≡ true → Fails e (port_is_free k before taken)
 taken_used k before taken n e number counts is there =
     Fails-refused e (port_is_free k before taken) (ap (port_is_free k before) (is_counted taken n number counts) ∙ port_is_free-used k before taken.switch n there
-      ∙ ap (λ x. Err x) (sym (is ∙ ap (BadPort (label_of k taken.switch.0)) number)))
+    ∙ ap (λ x. Err x) (sym (is ∙ ap (BadPort (label_of k taken.switch.0)) number)))
 
 pub taken_free : (k : ℕ) (before : List PortUse) (taken : PortUse) (n : ℕ) → taken.port ≡ pos n → taken.counts ≡ true → n < k →
-  list_any (is_at taken.switch.0 (pos n)) before ≡ false → port_is_free k before taken ≡ Ok tt
+    list_any (is_at taken.switch.0 (pos n)) before ≡ false → port_is_free k before taken ≡ Ok tt
 taken_free k before taken n number counts below free = ap (port_is_free k before) (is_counted taken n number counts) ∙ port_is_free-free k before taken.switch n below free
 
 pub seen_free : (k : ℕ) (before : List PortUse) (taken : PortUse) (n : ℕ) → taken.port ≡ pos n → taken.counts ≡ false → n < k → port_is_free k before taken ≡ Ok tt
 seen_free k before taken n number counts below = ap (port_is_free k before) (is_uncounted taken n number counts) ∙ port_is_free-uncounted k before taken.switch n below
 
 pub taken_push : (old new : Used) (uses : List PortUse) (taken : PortUse) (n : ℕ) → taken.port ≡ pos n → taken.counts ≡ true → SeesPorts old uses → Updates same_pair old new (taken.switch.0, n) true →
-  SeesPorts new (uses ++ taken ∷ [])
+    SeesPorts new (uses ++ taken ∷ [])
 taken_push old new uses taken n number counts sees updates =
     let whole = is_counted taken n number counts in
     let P : PortUse → Type 0 = λ u. SeesPorts new (uses ++ u ∷ []) in
@@ -75,7 +74,7 @@ seen_push seen uses taken n number counts sees =
 
 -- both ports of a link
 pub SeesPorts-link : (old middle new : Used) (before : List PortUse) (link : Link) → SeesPorts old before → Updates same_pair old middle (link.lower.0, link.lower_port) true →
-  Updates same_pair middle new (link.upper.0, link.upper_port) true → SeesPorts new (before ++ canonical_uses link)
+    Updates same_pair middle new (link.upper.0, link.upper_port) true → SeesPorts new (before ++ canonical_uses link)
 SeesPorts-link old middle new before link sees first second =
     let lower = SeesPorts-push old middle before link.lower link.lower_port sees first in
     rw append_assoc at (SeesPorts-push middle new (before ++ counted link.lower (pos link.lower_port) ∷ []) link.upper link.upper_port lower second)
@@ -91,21 +90,21 @@ unspoken : (given : List LinkEntry) (link : Link) → list_any (is_between link.
 unspoken given link none = rw none refl
 
 pub SeesPorts-spoken : (used : Used) (given : List LinkEntry) (before : List PortUse) (link : Link) (found : Option LinkEntry) (entry : LinkEntry) → found ≡ Some entry → found ≡ find (is_between link.lower link.upper) given →
-  SeesPorts used before → SeesPorts used (before ++ kept_of given link)
+    SeesPorts used before → SeesPorts used (before ++ kept_of given link)
 SeesPorts-spoken used given before link found entry is searched sees =
     let there : list_any (is_between link.lower link.upper) given ≡ true = sym (is_some_found (is_between link.lower link.upper) given) ∙ ap is_some (sym searched ∙ is) in
     rw (spoken given link there, append-nil) sees
 
 pub SeesPorts-unspoken : (old middle new : Used) (given : List LinkEntry) (before : List PortUse) (link : Link) (found : Option LinkEntry) → found ≡ None → found ≡ find (is_between link.lower link.upper) given →
-  SeesPorts old before → Updates same_pair old middle (link.lower.0, link.lower_port) true → Updates same_pair middle new (link.upper.0, link.upper_port) true →
-  SeesPorts new (before ++ kept_of given link)
+    SeesPorts old before → Updates same_pair old middle (link.lower.0, link.lower_port) true → Updates same_pair middle new (link.upper.0, link.upper_port) true →
+    SeesPorts new (before ++ kept_of given link)
 SeesPorts-unspoken old middle new given before link found is searched sees first second =
     let none : list_any (is_between link.lower link.upper) given ≡ false = sym (is_some_found (is_between link.lower link.upper) given) ∙ ap is_some (sym searched ∙ is) in
     rw (unspoken given link none) (SeesPorts-link old middle new before link sees first second)
 
 -- the kept ports of one more link
 pub kept-more : (given : List LinkEntry) (links : List Link) (i : ℕ) (d link : Link) → i < length links → link ≡ get_or links i d →
-  flat_map canonical_uses (filter (is_unspoken given) (take (i + 1) links)) ≡ flat_map canonical_uses (filter (is_unspoken given) (take i links)) ++ kept_of given link
+    flat_map canonical_uses (filter (is_unspoken given) (take (i + 1) links)) ≡ flat_map canonical_uses (filter (is_unspoken given) (take i links)) ++ kept_of given link
 kept-more given links i d link within is =
     let same : get_or links i d ≡ link = sym is in
     rw (take_more links i d within, same, filter-append) (flat_map-append canonical_uses (filter (is_unspoken given) (take i links)) (filter (is_unspoken given) (link ∷ [])))

@@ -1,13 +1,12 @@
 -- Ports that passed their check are there and apart.
-use Rattle.std.proofs.Common.{◌≡◌, ℕ, ℤ, pos, ◌<◌, ◌+◌, Bool, true, false, not, ◌&&◌, List, [], ◌∷◌, ◌++◌, length, get_or, Result, Ok, Err, All, AllPairs, refl, sym, ap, ◌∙◌, arith}
-use Rattle.std.specs.Bool.{⊤}
+use Rattle.std.proofs.Common.{◌≡◌, ℕ, Bool, true, false, not, ◌&&◌, List, [], ◌∷◌, ◌++◌, get_or, Ok, All, AllPairs, refl, sym, ◌∙◌}
 use Rattle.std.specs.List.{flat_map, list_any}
 use Rattle.pl_topology.specs.declared.error.TopologyError.{TopologyError}
 use Rattle.pl_topology.specs.declared.error.TopologyError.TheVariants as error
 use Rattle.pl_topology.specs.declared.entries.PortUse.{PortUse}
 use Rattle.pl_topology.specs.Checks.{is_at, is_port, port_is_free}
 use Rattle.pl_topology.specs.Labels.{label_of}
-use Rattle.pl_topology.specs.Refusal.{◌>>=◌, each_beside, refused_if}
+use Rattle.pl_topology.specs.Refusal.{each_beside, refused_if}
 use Rattle.pl_topology.proofs.RefusalLemmas.{bind_ok, each_beside-append, refused_if_ok}
 use Rattle.pl_topology.proofs.Readings.{All-cons, All-groups, All-none, All-weaker, AllPairs-cons, AllPairs-none, none_of_both}
 
@@ -52,21 +51,21 @@ all_free k before [] passed = All-none (IsFree k before)
 all_free k before (taken ∷ uses) passed =
     let (u, first, rest) = bind_ok (port_is_free k before taken) (λ _. each_beside (port_is_free k) (before ++ taken ∷ []) uses) tt passed in
     All-cons (IsFree k before) taken uses (IsFree-passed k before taken first)
-      (All-weaker (IsFree k (before ++ taken ∷ [])) (IsFree k before) uses (IsFree-front k before (taken ∷ [])) (all_free k (before ++ taken ∷ []) uses rest))
+    (All-weaker (IsFree k (before ++ taken ∷ [])) (IsFree k before) uses (IsFree-front k before (taken ∷ [])) (all_free k (before ++ taken ∷ []) uses rest))
 
 -- the ports of each group are free of what was before
 pub groups_free : {A : Type 0} (k : ℕ) (items : A → List PortUse) (before : List PortUse) (xs : List A) → each_beside (port_is_free k) before (flat_map items xs) ≡ Ok tt →
-  All (λ x. All (IsFree k before) (items x)) xs
+    All (λ x. All (IsFree k before) (items x)) xs
 groups_free k items before xs passed = All-groups (IsFree k before) items xs (all_free k before (flat_map items xs) passed)
 
 -- and of those of the groups before
 pub groups_apart : {A : Type 0} (k : ℕ) (items : A → List PortUse) (before : List PortUse) (xs : List A) → each_beside (port_is_free k) before (flat_map items xs) ≡ Ok tt →
-  AllPairs (λ x y. All (IsFree k (items x)) (items y)) xs
+    AllPairs (λ x y. All (IsFree k (items x)) (items y)) xs
 groups_apart k items before [] passed = AllPairs-none (λ x y. All (IsFree k (items x)) (items y))
 groups_apart k items before (x ∷ xs) passed =
     let split = sym (each_beside-append (port_is_free k) before (items x) (flat_map items xs)) ∙ passed in
     let (u, here, rest) = bind_ok (each_beside (port_is_free k) before (items x)) (λ _. each_beside (port_is_free k) (before ++ items x) (flat_map items xs)) tt split in
     let after = groups_free k items (before ++ items x) xs rest in
     AllPairs-cons (λ x y. All (IsFree k (items x)) (items y)) x xs
-      (λ i d within. All-weaker (IsFree k (before ++ items x)) (IsFree k (items x)) (items (get_or xs i d)) (IsFree-back k before (items x)) (after i d within))
-      (groups_apart k items (before ++ items x) xs rest)
+    (λ i d within. All-weaker (IsFree k (before ++ items x)) (IsFree k (items x)) (items (get_or xs i d)) (IsFree-back k before (items x)) (after i d within))
+    (groups_apart k items (before ++ items x) xs rest)

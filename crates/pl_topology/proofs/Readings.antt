@@ -1,15 +1,15 @@
 -- What holds of all that was read, and of all that was checked.
-use Rattle.std.proofs.Common.{◌≡◌, ℕ, zero, suc, ◌+◌, ◌<◌, ◌≤◌, Bool, true, false, ◌||◌, List, [], ◌∷◌, ◌++◌, length, get_or, map, Result, Ok, Err, All, AllPairs, refl, sym, ap, ◌∙◌, arith}
+use Rattle.std.proofs.Common.{◌≡◌, ℕ, zero, suc, ◌<◌, Bool, true, false, ◌||◌, List, [], ◌∷◌, ◌++◌, length, get_or, map, Result, Ok, All, AllPairs, refl, sym, ◌∙◌, arith}
 use Rattle.std.specs.Bool.{⊤}
 use Rattle.std.specs.List.{flat_map, list_any}
 use Rattle.std.proofs.lemmas.Bool.{false≢true, false_from_ne_true}
-use Rattle.std.proofs.lemmas.List.{append-nil, get_or-map, length-map}
+use Rattle.std.proofs.lemmas.List.{get_or-map, length-map}
 use Rattle.std.proofs.lemmas.List.Elements.{All-push}
 use Rattle.std.proofs.lemmas.List.Folds.{list_any-append, list_any_at}
 use Rattle.std.proofs.lemmas.List.Quantifiers.{all_pairs_push}
 use Rattle.toml.specs.Data.{Members}
 use Rattle.pl_topology.specs.declared.error.TopologyError.{TopologyError}
-use Rattle.pl_topology.specs.Refusal.{◌>>=◌, all_beside, each, each_beside}
+use Rattle.pl_topology.specs.Refusal.{all_beside, each}
 use Rattle.pl_topology.proofs.RefusalLemmas.{bind_ok}
 
 -- what none passes fails at each
@@ -48,10 +48,9 @@ AllPairs-map R f d xs pairs i j e less within =
     let low : i < length xs = omega arith in
     rw (get_or-map f xs i d e low, get_or-map f xs j d e inside) (pairs i j d less inside)
 
-
 -- each value that is read has what a reading gives
 pub all_beside-All : {B : Type 0} (P : B → Type 0) (read : List B → Members → Result B TopologyError) (step : (before : List B) (t : Members) (y : B) → read before t ≡ Ok y → P y)
-  (before : List B) (tables : List Members) (ys : List B) → All P before → all_beside read before tables ≡ Ok ys → All P ys
+    (before : List B) (tables : List Members) (ys : List B) → All P before → all_beside read before tables ≡ Ok ys → All P ys
 all_beside-All P read step before [] ys all given =
     let same : before ≡ ys = cc in
     (rw same at all)
@@ -60,8 +59,8 @@ all_beside-All P read step before (t ∷ tables) ys all given =
     all_beside-All P read step (before ++ y ∷ []) tables ys (All-push P before y all (step before t y read_y)) rest
 
 pub all_beside-AllPairs : {B : Type 0} (R : B → B → Type 0) (read : List B → Members → Result B TopologyError)
-  (step : (before : List B) (t : Members) (y : B) → read before t ≡ Ok y → (i : ℕ) (d : B) → i < length before → R (get_or before i d) y)
-  (before : List B) (tables : List Members) (ys : List B) → AllPairs R before → all_beside read before tables ≡ Ok ys → AllPairs R ys
+    (step : (before : List B) (t : Members) (y : B) → read before t ≡ Ok y → (i : ℕ) (d : B) → i < length before → R (get_or before i d) y)
+    (before : List B) (tables : List Members) (ys : List B) → AllPairs R before → all_beside read before tables ≡ Ok ys → AllPairs R ys
 all_beside-AllPairs R read step before [] ys all given =
     let same : before ≡ ys = cc in
     (rw same at all)
@@ -75,7 +74,6 @@ each-All P check step [] passed = All-none P
 each-All P check step (x ∷ xs) passed =
     let (u, first, rest) = bind_ok (check x) (λ _. each check xs) tt passed in
     All-cons P x xs (step x first) (each-All P check step xs rest)
-
 
 pub All-tail : {A : Type 0} (P : A → Type 0) (x : A) (xs : List A) → All P (x ∷ xs) → All P xs
 All-tail P x xs all i d within = all (suc i) d (omega arith)

@@ -1,5 +1,5 @@
 -- Numbers by their texts.
-use Rattle.std.proofs.Common.{◌≡◌, ◌≢◌, ℕ, ◌<◌, ◌^◌, ◌&&◌, Bool, true, false, cond, List, Option, Some, None, Result, Ok, Err, ltb, [], ◌∷◌, ◌+◌, length, drop, slice_index, Bor, MatchOption, refl, sym, ap, ◌∙◌, arith, rules}
+use Rattle.std.proofs.Common.{◌≡◌, ◌≢◌, ℕ, ◌<◌, ◌^◌, ◌&&◌, true, false, List, Option, Some, None, Result, Ok, Err, ltb, [], ◌∷◌, ◌+◌, length, drop, slice_index, Bor, MatchOption, refl, sym, ap, ◌∙◌, arith}
 use Rattle.std.specs.Prelude.{decimal}
 use Rattle.std.specs.Str.{bytes_eq}
 use Rattle.std.specs.Str.Parse.{digits_value, ParsesUnsigned}
@@ -28,9 +28,9 @@ unfolding number_of_text
 number_of-other text other =
     let v = digits_value 10 text in
     let no : (ltb v 65536 && bytes_eq (decimal v) text) ≡ false =
-      false_from_ne_true _ (λ yes.
-        let parts = and_parts (ltb v 65536) (bytes_eq (decimal v) text) yes in
-        other v (ltb-true v 65536 parts.0) ((bytes_eq-Decides (decimal v) text).0 parts.1)) in
+    false_from_ne_true _ (λ yes.
+    let parts = and_parts (ltb v 65536) (bytes_eq (decimal v) text) yes in
+    other v (ltb-true v 65536 parts.0) ((bytes_eq-Decides (decimal v) text).0 parts.1)) in
     rw no refl
 
 -- what `parse` does not take is no such number's text
@@ -52,7 +52,7 @@ number_of-reprinted text m parsed differs = number_of-other text (λ n small wri
 
 -- a text from which no prefix of this one character is stripped does not begin with it
 pub other_first : (c : ℕ) (text : List ℕ) (r : Option (Bor (List ℕ))) → MatchOption r (FindsCharPrefix c text None) (λ x. (n : ℕ) × FindsCharPrefix c text (Some n) × (x.now ≡ drop n text) × (length x.now + n ≡ length text)) →
-  r ≡ None → 0 < c → c < 128 → slice_index text 0 ≢ c
+    r ≡ None → 0 < c → c < 128 → slice_index text 0 ≢ c
 other_first c [] r cases none positive small first = absurd (omega arith)
 other_first c (b ∷ rest) r cases none positive small first =
     let without = (rw none at (strip_prefix_char c (b ∷ rest) r cases small)) in
@@ -60,9 +60,9 @@ other_first c (b ∷ rest) r cases none positive small first =
 
 -- four numbers read one after another
 pub ip_number-read : (text : List ℕ) (b0 b1 b2 b3 : ℕ) →
-  byte_of_text (before_first is_point text) ≡ Some b0 →
-  byte_of_text (before_first is_point (after_first is_point text)) ≡ Some b1 →
-  byte_of_text (before_first is_point (after_first is_point (after_first is_point text))) ≡ Some b2 →
-  byte_of_text (after_first is_point (after_first is_point (after_first is_point text))) ≡ Some b3 →
-  ip_number text ≡ Some (from_be_bytes w32 (b0 ∷ b1 ∷ b2 ∷ b3 ∷ []))
+    byte_of_text (before_first is_point text) ≡ Some b0 →
+    byte_of_text (before_first is_point (after_first is_point text)) ≡ Some b1 →
+    byte_of_text (before_first is_point (after_first is_point (after_first is_point text))) ≡ Some b2 →
+    byte_of_text (after_first is_point (after_first is_point (after_first is_point text))) ≡ Some b3 →
+    ip_number text ≡ Some (from_be_bytes w32 (b0 ∷ b1 ∷ b2 ∷ b3 ∷ []))
 ip_number-read text b0 b1 b2 b3 e0 e1 e2 e3 = rw (e0, e1, e2, e3) refl

@@ -17,7 +17,7 @@ use Rattle.pl_topology.specs.declared.entries.PortUse.{PortUse}
 use Rattle.pl_topology.specs.Entries.{is_of, is_between}
 use Rattle.pl_topology.specs.FatTree.{canonical_links}
 use Rattle.pl_topology.specs.Labels.{label_of, switch_count}
-use Rattle.pl_topology.specs.Refusal.{◌>>=◌, each, each_beside, refused_if}
+use Rattle.pl_topology.specs.Refusal.{◌>>=◌, each_beside, refused_if}
 
 -- a switch that no table names has its place in label order plus 1 as its id
 abbrev pub canonical_entry : ℕ → SwitchEntry

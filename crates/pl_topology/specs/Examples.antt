@@ -1,17 +1,13 @@
 -- Worked examples of what a topology file means.
-use Rattle.std.specs.Prelude.{◌≡◌, ℕ, List, [], ◌∷◌, Ok, Err, codes, refl}
+use Rattle.std.specs.Prelude.{◌≡◌, Err, codes, refl}
 use Rattle.std.specs.Str.{chars, is_utf8}
 use Rattle.toml.proofs.OnLiterals.{toml_on_literals}
 use Rattle.pl_topology.specs.declared.error.TopologyError.TheVariants as error
 use Rattle.pl_topology.specs.declared.key.Key.TheVariants as key
-use Rattle.pl_topology.specs.declared.label.Label.TheVariants.{Edge, Aggregation, Core}
-use Rattle.pl_topology.specs.Checks.{port_is_free, ports_differ}
 use Rattle.pl_topology.specs.Complete.{has_all_keys, has_keys}
 use Rattle.pl_topology.specs.Document.{document_of}
-use Rattle.pl_topology.specs.Entries.{switch_entry, switch_named}
-use Rattle.pl_topology.specs.FileEntries.{entries_of, host_entries, link_entries, switch_entries}
+use Rattle.pl_topology.specs.FileEntries.{entries_of, link_entries, switch_entries}
 use Rattle.pl_topology.specs.Meaning.{topology_of}
-use Rattle.pl_topology.specs.Texts.{number_of_text}
 
 no_arity : topology_of (codes "k = 5") ≡ Err error.BadK
 unfolding toml_on_literals topology_of document_of is_utf8 chars

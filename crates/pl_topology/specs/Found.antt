@@ -1,5 +1,5 @@
 -- Maps that find an entry of a list.
-use Rattle.std.specs.Prelude.{◌≡◌, ℕ, pos, nat_eq, nat_le, if◌then◌else◌, Bool, ◌&&◌, ◌<◌, ◌≤◌, List, option_map}
+use Rattle.std.specs.Prelude.{◌≡◌, ℕ, pos, nat_eq, nat_le, if◌then◌else◌, Bool, ◌&&◌, List, option_map}
 use denote.Ref.{Bor}
 use Rattle.std.specs.HashMap.{get, HashMap}
 use Rattle.std.specs.HashSet.{contains, HashSet}

@@ -1,10 +1,9 @@
 -- The meaning of a topology file: its wiring, or the first thing that is wrong with it.
-use Rattle.std.specs.Prelude.{ℕ, ◌+◌, ℤ, pos, negsuc, ◌==◌, if◌then◌else◌, List, [], ◌++◌, map, Option, Some, None, option_map, unwrap_or, Result, Ok, Err}
-use Rattle.std.specs.List.{find, flat_map, range_with_len}
+use Rattle.std.specs.Prelude.{ℕ, ◌+◌, ℤ, pos, negsuc, ◌==◌, if◌then◌else◌, List, map, option_map, unwrap_or, Result, Ok}
+use Rattle.std.specs.List.{find, range_with_len}
 use Rattle.pl_frame.specs.declared.address.SwitchId.{SwitchId}
 use Rattle.pl_topology.specs.declared.error.TopologyError.{TopologyError}
 use Rattle.pl_topology.specs.declared.error.TopologyError.TheVariants as error
-use Rattle.pl_topology.specs.declared.label.SwitchNo.{SwitchNo}
 use Rattle.pl_topology.specs.declared.link.Link.{Link}
 use Rattle.pl_topology.specs.declared.host.Host.{Host}
 use Rattle.pl_topology.specs.declared.entries.SwitchEntry.{SwitchEntry}
@@ -47,7 +46,12 @@ links_of k given = map (link_of given) (canonical_links k)
 
 abbrev pub host_of : HostEntry → Host
 host_of host = record {
-  name = host.name; mac = host.mac; ip = host.ip; edge = host.edge; port = port_number host.port; capture = host.capture;
+  name = host.name;
+  mac = host.mac;
+  ip = host.ip;
+  edge = host.edge;
+  port = port_number host.port;
+  capture = host.capture;
 }
 
 abbrev pub plan_of_entries : ℕ → Entries → Plan

@@ -1,5 +1,5 @@
 -- The texts of a topology file: numbers, labels, addresses and names.
-use Rattle.std.specs.Prelude.{◌≡◌, ℕ, ◌+◌, ◌*◌, ◌<◌, ◌^◌, ◌%◌, Bool, true, false, not, ◌&&◌, ◌||◌, ◌==◌, nat_lt, nat_le, if◌then◌else◌, List, [], ◌∷◌, length, drop, Option, Some, None, option_map, option_and_then, slice_index, codes, decimal, refl}
+use Rattle.std.specs.Prelude.{ℕ, ◌+◌, ◌*◌, ◌<◌, ◌^◌, ◌%◌, Bool, not, ◌&&◌, ◌||◌, ◌==◌, nat_lt, nat_le, if◌then◌else◌, List, [], ◌∷◌, length, drop, Option, Some, None, option_map, option_and_then, slice_index, codes, decimal}
 use Rattle.std.specs.List.{list_all, before_first, after_first}
 use Rattle.std.specs.Str.{bytes_eq}
 use Rattle.std.specs.Str.Parse.{digits_value}
@@ -42,9 +42,9 @@ abbrev pub mac_bytes : List ℕ → Option (List ℕ)
 mac_bytes text =
     if length text == 17 && is_colon_at text 2 && is_colon_at text 5 && is_colon_at text 8 && is_colon_at text 11 && is_colon_at text 14
     then option_and_then (λ b0. option_and_then (λ b1. option_and_then (λ b2.
-      option_and_then (λ b3. option_and_then (λ b4. option_map (λ b5.
-        b0 ∷ b1 ∷ b2 ∷ b3 ∷ b4 ∷ b5 ∷ [])
-      (hex_at text 15)) (hex_at text 12)) (hex_at text 9)) (hex_at text 6)) (hex_at text 3)) (hex_at text 0)
+    option_and_then (λ b3. option_and_then (λ b4. option_map (λ b5.
+    b0 ∷ b1 ∷ b2 ∷ b3 ∷ b4 ∷ b5 ∷ [])
+    (hex_at text 15)) (hex_at text 12)) (hex_at text 9)) (hex_at text 6)) (hex_at text 3)) (hex_at text 0)
     else None
 
 -- the label of a kind, by its letter, with these two numbers
@@ -71,7 +71,7 @@ ip_number text =
     let after = after_first is_point text in
     let behind = after_first is_point after in
     option_and_then (λ b0. option_and_then (λ b1. option_and_then (λ b2. option_map (λ b3.
-      from_be_bytes w32 (b0 ∷ b1 ∷ b2 ∷ b3 ∷ []))
+    from_be_bytes w32 (b0 ∷ b1 ∷ b2 ∷ b3 ∷ []))
     (byte_of_text (after_first is_point behind))) (byte_of_text (before_first is_point behind)))
     (byte_of_text (before_first is_point after))) (byte_of_text (before_first is_point text))
 

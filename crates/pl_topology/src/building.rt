@@ -32,11 +32,7 @@ pub(crate) fn wiring(alloc: Global, k: u8, entries: FileEntries) -> Result<Wirin
     Wiring::new(alloc, k, ids, links, hosts)
 }
 
-fn switch_ids(
-    alloc: Global,
-    k: u8,
-    given: &HashMap<u32, SwitchId>,
-) -> Result<Vec<SwitchId>, Memory>
+fn switch_ids(alloc: Global, k: u8, given: &HashMap<u32, SwitchId>) -> Result<Vec<SwitchId>, Memory>
     requires { IsArity k }
     ensures { (entries : List SwitchEntry) → FindsIds given.now entries → IfOk result (λ ids. ids.items ≡ ids_of k entries) }
 {

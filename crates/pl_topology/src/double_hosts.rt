@@ -15,10 +15,7 @@ pub(crate) fn names_differ(alloc: Global, hosts: &[HostEntry]) -> Result<(), Top
     let mut seen = HashSet::new(alloc);
     for host in hosts {
         if !seen.insert(host.name.text())? {
-            return Err(TopologyError::DoubleHost(Name::copy(
-                alloc,
-                host.name.text(),
-            )?));
+            return Err(TopologyError::DoubleHost(Name::copy(alloc, host.name.text())?));
         }
     }
     Ok(())
@@ -35,10 +32,7 @@ pub(crate) fn addresses_differ(alloc: Global, hosts: &[HostEntry]) -> Result<(),
         let mac_is_new = macs.insert(host.mac.0)?;
         let ip_is_new = ips.insert(host.ip.0)?;
         if !mac_is_new || !ip_is_new {
-            return Err(TopologyError::DoubleAddress(Name::copy(
-                alloc,
-                host.name.text(),
-            )?));
+            return Err(TopologyError::DoubleAddress(Name::copy(alloc, host.name.text())?));
         }
     }
     Ok(())

@@ -40,10 +40,7 @@ pub(crate) fn join_the_tree(k: u8, entries: &[LinkEntry]) -> Result<(), Topology
 {
     for entry in entries {
         if !are_joined(k, entry.a, entry.b) {
-            return Err(TopologyError::NotFatTree(
-                label_at(k, entry.a),
-                label_at(k, entry.b),
-            ));
+            return Err(TopologyError::NotFatTree(label_at(k, entry.a), label_at(k, entry.b)));
         }
     }
     Ok(())

@@ -36,18 +36,17 @@ mod key;
 mod label;
 mod label_text;
 mod link;
-mod links;
 mod link_tables;
+mod links;
 mod name;
 mod order;
 mod path;
-mod used_ports;
 mod reading;
 mod switch_tables;
 mod tables;
-mod text;
-mod values;
-mod wiring;
-
 #[cfg(test)]
 mod tests;
+mod text;
+mod used_ports;
+mod values;
+mod wiring;

@@ -98,9 +98,5 @@ pub(crate) fn entry_between(by_ends: &EntryByEnds, a: SwitchNo, b: SwitchNo) -> 
 fn ends(a: SwitchNo, b: SwitchNo) -> (u32, u32)
     ensures { result ≡ ends_of a b }
 {
-    if a.0 <= b.0 {
-        (a.0, b.0)
-    } else {
-        (b.0, a.0)
-    }
+    if a.0 <= b.0 { (a.0, b.0) } else { (b.0, a.0) }
 }

@@ -3,7 +3,13 @@ ghost use Rattle.toml.specs.View.{table_view};
 ghost use Rattle.pl_topology.specs.Complete.{has_keys, has_all_keys};
 ghost use Rattle.pl_topology.specs.Document.{lent_tables, tables_at};
 ghost use Rattle.pl_topology.specs.FileEntries.{
-    AreFound, entries_of, entries_view, host_entries, link_entries, switch_entries};
+  AreFound,
+  entries_of,
+  entries_view,
+  host_entries,
+  link_entries,
+  switch_entries,
+};
 ghost use Rattle.pl_topology.specs.Found.{FindsIds, FindsLinks};
 ghost use Rattle.pl_topology.specs.Labels.{IsArity};
 ghost use Rattle.pl_topology.specs.Meaning.{topology_of};
@@ -19,14 +25,16 @@ use crate::file_entries::FileEntries;
 use crate::host_tables::read_hosts;
 use crate::joined::join_the_tree;
 use crate::link_tables::{LinkTables, read_links};
-use crate::used_ports::ports_differ;
 use crate::switch_tables::{SwitchTables, read_switches};
+use crate::used_ports::ports_differ;
 use crate::{Key, TopologyError, Wiring};
 use std::alloc::Global;
 use toml::Table;
 
 const SWITCH_KEYS: [Key; 2] = [Key::Label, Key::Id];
+
 const LINK_KEYS: [Key; 4] = [Key::A, Key::PortA, Key::B, Key::PortB];
+
 const HOST_KEYS: [Key; 5] = [Key::Name, Key::Mac, Key::Ip, Key::Edge, Key::Port];
 
 /// Reads a topology file, a TOML document. Its `k`, an even number from 4 to 24, is the number of
@@ -63,12 +71,7 @@ fn have_all_keys(alloc: Global, document: &Table) -> Result<(), TopologyError>
 }
 
 // What is no array of tables has no table that could lack a key.
-fn have_keys(
-    alloc: Global,
-    document: &Table,
-    key: Key,
-    keys: &[Key],
-) -> Result<(), TopologyError>
+fn have_keys(alloc: Global, document: &Table, key: Key, keys: &[Key]) -> Result<(), TopologyError>
     ensures { Gives (λ u. u) result (each (has_keys keys.now) (unwrap_or (tables_at key (table_view document.now)) [])) }
 {
     match tables_at(alloc, document, key)? {
@@ -120,11 +123,7 @@ fn file_hosts(alloc: Global, k: u8, document: &Table) -> Result<Vec<HostEntry>, 
     read_hosts(alloc, k, &listed(alloc, document, Key::Host)?)
 }
 
-fn listed<'a>(
-    alloc: Global,
-    document: &'a Table,
-    key: Key,
-) -> Result<Vec<&'a Table>, TopologyError>
+fn listed<'a>(alloc: Global, document: &'a Table, key: Key) -> Result<Vec<&'a Table>, TopologyError>
     ensures { Gives (λ tables. lent_tables tables.items) result (or_refused (tables_at key (table_view document.now)) (TopologyError.BadValue key)) }
 {
     match tables_at(alloc, document, key)? {

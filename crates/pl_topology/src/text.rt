@@ -1,8 +1,21 @@
 ghost use Rattle.std.specs.Prelude.{◌≡◌, ◌+◌, ◌<◌, length};
 ghost use Rattle.std.specs.List.{list_all, before_first, after_first};
 ghost use Rattle.pl_topology.specs.Texts.{
-    number_of_text, is_point, numbers_of_text, byte_of_text, hex_at, mac_bytes, mac_of_text, ip_number, ip_of_text,
-    is_name, is_name_byte, is_taken, is_capture, is_capture_byte};
+  number_of_text,
+  is_point,
+  numbers_of_text,
+  byte_of_text,
+  hex_at,
+  mac_bytes,
+  mac_of_text,
+  ip_number,
+  ip_of_text,
+  is_name,
+  is_name_byte,
+  is_taken,
+  is_capture,
+  is_capture_byte,
+};
 
 use pl_frame::{Ip4, Mac};
 
@@ -15,7 +28,11 @@ pub(crate) fn number(text: &str) -> Option<u16>
         Err(_) => return None,
     };
     let mut buffer = itoa::Buffer::new();
-    if buffer.format(n) == text { Some(n) } else { None }
+    if buffer.format(n) == text {
+        Some(n)
+    } else {
+        None
+    }
 }
 
 // The text before its first point and the text behind it: all and nothing where it has no point.

@@ -2,7 +2,16 @@ ghost use Rattle.std.specs.Prelude.{◌≡◌, ◌<◌, [], ◌∷◌, ◌++◌,
 ghost use Rattle.std.specs.List.{filter, flat_map};
 ghost use Rattle.pl_topology.specs.declared.entries.PortUse.{PortUse};
 ghost use Rattle.pl_topology.specs.Checks.{
-    are_joined, canonical_uses, host_uses, is_port, is_unspoken, kept_uses, link_uses, port_is_free, ports_differ};
+  are_joined,
+  canonical_uses,
+  host_uses,
+  is_port,
+  is_unspoken,
+  kept_uses,
+  link_uses,
+  port_is_free,
+  ports_differ,
+};
 ghost use Rattle.pl_topology.specs.FileEntries.{AreFound};
 ghost use Rattle.pl_topology.specs.Entries.{HasEdge, HasEnds};
 ghost use Rattle.pl_topology.specs.Found.{FindsLinks, SeesPorts};
@@ -24,11 +33,7 @@ use std::collections::HashSet;
 pub(crate) type UsedPorts = HashSet<(u32, u8)>;
 
 // The ports of the canonical links of which no table speaks.
-fn kept_ports(
-    alloc: Global,
-    k: u8,
-    by_ends: &EntryByEnds,
-) -> Result<UsedPorts, Memory>
+fn kept_ports(alloc: Global, k: u8, by_ends: &EntryByEnds) -> Result<UsedPorts, Memory>
     requires { IsArity k }
     ensures { (given : List LinkEntry) → FindsLinks by_ends.now given → IfOk result (λ used. SeesPorts used (kept_uses k given)) }
 {
@@ -135,11 +140,7 @@ fn host_uses(host: &HostEntry) -> [PortUse; 1]
 }
 
 // The first port of a `link` table that is not there or that another link is at.
-fn link_ports(
-    k: u8,
-    used: &mut UsedPorts,
-    entries: &[LinkEntry],
-) -> Result<(), TopologyError>
+fn link_ports(k: u8, used: &mut UsedPorts, entries: &[LinkEntry]) -> Result<(), TopologyError>
     requires arity { IsArity k }
     requires in_range { All (HasEnds k) entries.now }
     ensures exact { (before : List PortUse) → SeesPorts used.old before →
@@ -153,11 +154,7 @@ fn link_ports(
 }
 
 // The first port of a `host` table that is not there or that a link or an earlier host is at.
-fn host_ports(
-    k: u8,
-    used: &mut UsedPorts,
-    hosts: &[HostEntry],
-) -> Result<(), TopologyError>
+fn host_ports(k: u8, used: &mut UsedPorts, hosts: &[HostEntry]) -> Result<(), TopologyError>
     requires arity { IsArity k }
     requires in_range { All (HasEdge k) hosts.now }
     ensures { (before : List PortUse) → SeesPorts used.old before → Gives (λ u. u) result (each_beside (port_is_free k) before (flat_map host_uses hosts.now)) }
@@ -170,11 +167,7 @@ fn host_ports(
 
 /// The first port of a table that is not there or that something before has.
 #[tactic(auto, unfolding(crate::specs::Checks::ports_differ))]
-pub(crate) fn ports_differ(
-    alloc: Global,
-    k: u8,
-    entries: &FileEntries,
-) -> Result<(), TopologyError>
+pub(crate) fn ports_differ(alloc: Global, k: u8, entries: &FileEntries) -> Result<(), TopologyError>
     requires arity { IsArity k }
     requires found { AreFound entries.now }
     requires links_in_range { All (HasEnds k) entries.now.links.entries.items }

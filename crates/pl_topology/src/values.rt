@@ -73,7 +73,11 @@ pub(crate) fn name_value<'a>(table: &'a Table, key: Key) -> Option<&'a str>
     ensures { option_map (λ name. name.now) result ≡ option_and_then name_if (text_at key (table_view table.now)) }
 {
     let name = text_at(table, key)?;
-    if text::is_name(name) { Some(name) } else { None }
+    if text::is_name(name) {
+        Some(name)
+    } else {
+        None
+    }
 }
 
 /// The name of a capture file that stands at a key: `Some(None)` where the key is absent.

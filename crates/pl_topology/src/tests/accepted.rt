@@ -2,6 +2,7 @@ use super::{host_file, outcome};
 use std::test::Fail;
 
 const ONE_HOST: &str = "k 4 switches 20 hosts 1";
+
 const NO_HOST: &str = "k 4 switches 20 hosts 0";
 
 #[test]
@@ -30,7 +31,11 @@ fn files_that_are_wirings(rt: HostRuntime) -> Result<(), Fail> {
         ),
     ];
     for (file, expected) in cases {
-        assert_eq!(rt; outcome(rt.alloc(), file.as_bytes())?.as_str(), expected, "{file}");
+        assert_eq!(rt;
+            outcome(rt.alloc(), file.as_bytes())?.as_str(),
+            expected,
+            "{file}"
+        );
     }
     Ok(())
 }
@@ -50,7 +55,11 @@ fn hosts_that_are_accepted(rt: HostRuntime) -> Result<(), Fail> {
     ];
     for (key, value) in cases {
         let file = host_file(rt.alloc(), key, value)?;
-        assert_eq!(rt; outcome(rt.alloc(), file.as_bytes())?.as_str(), ONE_HOST, "{file}");
+        assert_eq!(rt;
+            outcome(rt.alloc(), file.as_bytes())?.as_str(),
+            ONE_HOST,
+            "{file}"
+        );
     }
     Ok(())
 }

@@ -18,7 +18,11 @@ fn what_is_no_document_or_has_no_arity(rt: HostRuntime) -> Result<(), Fail> {
         ("k = 9223372036854775807\n", "BadK"),
     ];
     for (file, expected) in cases {
-        assert_eq!(rt; outcome(rt.alloc(), file.as_bytes())?.as_str(), expected, "{file}");
+        assert_eq!(rt;
+            outcome(rt.alloc(), file.as_bytes())?.as_str(),
+            expected,
+            "{file}"
+        );
     }
     assert_eq!(rt; outcome(rt.alloc(), b"k = 4 # \xff\n")?.as_str(), "NotToml");
     Ok(())
@@ -45,7 +49,11 @@ fn a_key_that_is_missing_or_at_which_no_tables_stand(rt: HostRuntime) -> Result<
     ];
     for (tables, expected) in cases {
         let file = format!(in rt.alloc(); "k = 4\n{tables}")?;
-        assert_eq!(rt; outcome(rt.alloc(), file.as_bytes())?.as_str(), expected, "{file}");
+        assert_eq!(rt;
+            outcome(rt.alloc(), file.as_bytes())?.as_str(),
+            expected,
+            "{file}"
+        );
     }
     Ok(())
 }
@@ -77,7 +85,11 @@ fn a_switch_table_of_no_switch_or_without_an_id(rt: HostRuntime) -> Result<(), F
     ];
     for (label, id, expected) in cases {
         let file = format!(in rt.alloc(); "k = 4\n[[switch]]\nlabel = {label}\nid = {id}\n")?;
-        assert_eq!(rt; outcome(rt.alloc(), file.as_bytes())?.as_str(), expected, "{file}");
+        assert_eq!(rt;
+            outcome(rt.alloc(), file.as_bytes())?.as_str(),
+            expected,
+            "{file}"
+        );
     }
     Ok(())
 }
@@ -96,8 +108,13 @@ fn a_link_table_that_does_not_fit(rt: HostRuntime) -> Result<(), Fail> {
     ];
     for (a, port_a, b, port_b, expected) in cases {
         let file = format!(in rt.alloc();
-            "k = 4\n[[link]]\na = \"{a}\"\nport_a = {port_a}\nb = \"{b}\"\nport_b = {port_b}\n")?;
-        assert_eq!(rt; outcome(rt.alloc(), file.as_bytes())?.as_str(), expected, "{file}");
+            "k = 4\n[[link]]\na = \"{a}\"\nport_a = {port_a}\nb = \"{b}\"\nport_b = {port_b}\n"
+        )?;
+        assert_eq!(rt;
+            outcome(rt.alloc(), file.as_bytes())?.as_str(),
+            expected,
+            "{file}"
+        );
     }
     Ok(())
 }
@@ -112,8 +129,13 @@ fn a_second_table_of_one_link_in_either_order(rt: HostRuntime) -> Result<(), Fai
     for (a, b, c, d) in cases {
         let file = format!(in rt.alloc();
             "k = 4\nlink = [{{ a = \"{a}\", port_a = 2, b = \"{b}\", port_b = 0 }}, \
-             {{ a = \"{c}\", port_a = \"none\", b = \"{d}\", port_b = 2 }}]\n")?;
-        assert_eq!(rt; outcome(rt.alloc(), file.as_bytes())?.as_str(), "BadValue a", "{file}");
+             {{ a = \"{c}\", port_a = \"none\", b = \"{d}\", port_b = 2 }}]\n"
+        )?;
+        assert_eq!(rt;
+            outcome(rt.alloc(), file.as_bytes())?.as_str(),
+            "BadValue a",
+            "{file}"
+        );
     }
     Ok(())
 }
@@ -161,7 +183,11 @@ fn a_value_of_a_host_that_does_not_fit(rt: HostRuntime) -> Result<(), Fail> {
     ];
     for (key, value, expected) in cases {
         let file = host_file(rt.alloc(), key, value)?;
-        assert_eq!(rt; outcome(rt.alloc(), file.as_bytes())?.as_str(), expected, "{file}");
+        assert_eq!(rt;
+            outcome(rt.alloc(), file.as_bytes())?.as_str(),
+            expected,
+            "{file}"
+        );
     }
     Ok(())
 }
@@ -179,14 +205,22 @@ fn a_host_that_stands_in_the_way_of_an_earlier_one(rt: HostRuntime) -> Result<()
     for (name, mac, ip, expected) in cases {
         let file = format!(in rt.alloc();
             "k = 4\n{link}[[host]]\n{first}\nedge = \"e0.0\"\nport = 0\n\
-             [[host]]\nname = \"{name}\"\nmac = \"{mac}\"\nip = \"{ip}\"\nedge = \"e0.0\"\nport = 0\n")?;
-        assert_eq!(rt; outcome(rt.alloc(), file.as_bytes())?.as_str(), expected, "{file}");
+             [[host]]\nname = \"{name}\"\nmac = \"{mac}\"\nip = \"{ip}\"\nedge = \"e0.0\"\nport = 0\n"
+        )?;
+        assert_eq!(rt;
+            outcome(rt.alloc(), file.as_bytes())?.as_str(),
+            expected,
+            "{file}"
+        );
     }
     Ok(())
 }
 
 #[test]
 fn want_of_memory_has_a_name(rt: HostRuntime) -> Result<(), Fail> {
-    assert_eq!(rt; TopologyError::Memory.to_string(rt.alloc())?.as_str(), "Memory");
+    assert_eq!(rt;
+        TopologyError::Memory.to_string(rt.alloc())?.as_str(),
+        "Memory"
+    );
     Ok(())
 }

@@ -1,4 +1,4 @@
-use Rattle.std.proofs.Common.{◌≡◌, ◌<◌, ◌++◌, ◌∷◌, [], length, map, take, sym, ap, ◌∙◌, arith}
+use Rattle.std.proofs.Common.{◌<◌, ◌++◌, ◌∷◌, [], length, map, take, sym, ap, ◌∙◌, arith}
 use Rattle.std.proofs.lemmas.List.{map_more, take_all}
 use Rattle.pl_topology.specs.declared.link.Link.{Link}
 use Rattle.pl_topology.specs.Meaning.{link_of}
@@ -13,10 +13,10 @@ loop-link-preserved c = λ given finds.
     let i = c.loop-link.link-index in
     let within : i < length links = omega arith in
     c.in_ok-push.ensures.items ∙ ap (λ xs. xs ++ c.tree_link.result ∷ []) (c.loop-link.invariant given finds)
-      ∙ ap (λ x. map (link_of given) (take i links) ++ x ∷ []) (c.tree_link.ensures given finds) ∙ sym (map_more (link_of given) links i no_link within)
+    ∙ ap (λ x. map (link_of given) (take i links) ++ x ∷ []) (c.tree_link.ensures given finds) ∙ sym (map_more (link_of given) links i no_link within)
 
 pub returns : goal.returns
 returns c = λ given finds.
     let links = c.deref-link-items.result.now in
     c.loop-link.invariant given finds ∙ ap (map (link_of given)) (take_all c.loop-link.link-index links c.loop-link-test.false
-      ∙ c.deref-link-items.ensures.value ∙ c.in_ok-canonical.ensures)
+    ∙ c.deref-link-items.ensures.value ∙ c.in_ok-canonical.ensures)

@@ -1,4 +1,3 @@
-use Rattle.std.proofs.Common.{sym, ◌∙◌}
 use Rattle.pl_topology.proofs.BuildingLemmas.{PortsFit-found}
 use Rattle.pl_topology.proofs.building.wiring.Goals as goal
 

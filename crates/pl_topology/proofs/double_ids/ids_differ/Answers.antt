@@ -1,4 +1,4 @@
-use Rattle.std.proofs.Common.{◌≡◌, ◌<◌, ◌++◌, false, length, take, get_or, refl, sym, ap, ◌∙◌, arith}
+use Rattle.std.proofs.Common.{◌≡◌, ◌<◌, ◌++◌, false, length, take, get_or, refl, sym, ◌∙◌, arith}
 use Rattle.std.specs.List.{list_any}
 use Rattle.pl_topology.specs.declared.entries.SwitchEntry.{SwitchEntry}
 use Rattle.pl_topology.specs.Checks.{has_id, id_is_new, kept_ids}
@@ -19,9 +19,9 @@ loop-entry-preserved c =
     let entry = get_or entries i no_entry in
     let before = front ++ take i entries in
     let there : list_any (has_id entry.id) before ≡ false =
-      sym (c.loop-entry.invariant.seen entry.id) ∙ not_there _ _ c.in_ok-insert.ensures.added c.if-not-branch.false in
+    sym (c.loop-entry.invariant.seen entry.id) ∙ not_there _ _ c.in_ok-insert.ensures.added c.if-not-branch.false in
     record {
       seen = λ id. rw (front_more front entries i no_entry entry within refl)
-        (sees_last (has_id id) before entry _ _ (c.in_ok-insert.ensures.updates.0 id.0) (c.loop-entry.invariant.seen id));
+          (sees_last (has_id id) before entry _ _ (c.in_ok-insert.ensures.updates.0 id.0) (c.loop-entry.invariant.seen id));
       rest = each_beside-next id_is_new front entries i no_entry entry within refl (id_is_new-passes before entry there) ∙ c.loop-entry.invariant.rest;
     }

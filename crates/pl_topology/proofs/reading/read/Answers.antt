@@ -1,4 +1,4 @@
-use Rattle.std.proofs.Common.{◌≡◌, Ok, Result, sym, subst, ◌∙◌, List}
+use Rattle.std.proofs.Common.{◌≡◌, Ok, sym, subst, ◌∙◌, List}
 use Rattle.std.specs.List.{All}
 use Rattle.toml.specs.View.{table_view}
 use Rattle.pl_topology.specs.declared.entries.LinkEntry.{LinkEntry}
@@ -7,7 +7,7 @@ use Rattle.pl_topology.specs.Entries.{HasEnds}
 use Rattle.pl_topology.specs.FileEntries.{entries_view}
 use Rattle.pl_topology.specs.Refusal.{each}
 use Rattle.pl_topology.proofs.PlacedHosts.{hosts_fit}
-use Rattle.pl_topology.proofs.PlanLemmas.{Agrees, agrees, agree_hosts, agree_links, arity_of-IsArity, entries_are, hosts_in_range, plan_of_entries-IsPlan}
+use Rattle.pl_topology.proofs.PlanLemmas.{Agrees, agrees, arity_of-IsArity, entries_are, hosts_in_range, plan_of_entries-IsPlan}
 use Rattle.pl_topology.proofs.reading.read.Goals as goal
 
 pub ports_differ-requires-clause-links_in_range : goal.ports_differ-requires-clause-links_in_range
@@ -17,7 +17,7 @@ ports_differ-requires-clause-links_in_range c =
 pub ports_differ-requires-clause-hosts_in_range : goal.ports_differ-requires-clause-hosts_in_range
 ports_differ-requires-clause-hosts_in_range c =
     hosts_in_range c.in-Some.k (entries_view c.in_ok-entries.entries)
-      (entries_are c.in-Some.k (table_view c.in_ok-document.document) (entries_view c.in_ok-entries.entries) c.in_ok-entries.ensures.exact)
+    (entries_are c.in-Some.k (table_view c.in_ok-document.document) (entries_view c.in_ok-entries.entries) c.in_ok-entries.ensures.exact)
 
 pub join_the_tree-requires-clause-in_range : goal.join_the_tree-requires-clause-in_range
 join_the_tree-requires-clause-in_range c =

@@ -1,5 +1,4 @@
-use Rattle.std.proofs.Common.{◌≡◌, Some, sym, ap, ◌∙◌}
-use Rattle.pl_topology.specs.Texts.{byte_of_text}
+use Rattle.std.proofs.Common.{Some, sym, ap, ◌∙◌}
 use Rattle.pl_topology.proofs.TextLemmas.{ip_number-read}
 use Rattle.pl_topology.proofs.text.dotted.Goals as goal
 

@@ -1,4 +1,4 @@
-use Rattle.std.proofs.Common.{◌≡◌, true, false, Result, ℕ, Ok, ◌<◌, ◌^◌, ◌≢◌, ap, sym, ◌∙◌, arith}
+use Rattle.std.proofs.Common.{◌≡◌, true, false, ◌<◌, ◌^◌, ◌≢◌, sym, ◌∙◌, arith}
 use Rattle.std.specs.Prelude.{decimal}
 use Rattle.std.proofs.lemmas.Slice.Eq.{bytes_eq-Decides}
 use Rattle.pl_topology.proofs.TextLemmas.{number_of-decimal, number_of-unparsed, number_of-reprinted}
@@ -14,13 +14,13 @@ returns-then-eq c =
     let parsed = (rw c.in-Ok.is at c.parse.ensures.value.0) in
     let small : c.in-Ok.n < 2 ^ 16 = omega (arith, parsed.0.1, parsed.1) in
     let printed : decimal c.in-Ok.n ≡ c.args.text.now =
-      sym c.format.ensures.text ∙ (bytes_eq-Decides _ _).0 (sym c.eq.ensures ∙ c.if-eq.true) in
+    sym c.format.ensures.text ∙ (bytes_eq-Decides _ _).0 (sym c.eq.ensures ∙ c.if-eq.true) in
     sym (number_of-decimal c.in-Ok.n c.args.text.now small printed)
 
 pub returns-else-eq : goal.returns-else-eq
 returns-else-eq c =
     let parsed = (rw c.in-Ok.is at c.parse.ensures.value.0) in
     let differs : decimal c.in-Ok.n ≢ c.args.text.now = λ same.
-      let printed = (bytes_eq-Decides _ _).1 (c.format.ensures.text ∙ same) in
-      let contrary : false ≡ true = sym c.if-eq.false ∙ c.eq.ensures ∙ printed in cc in
+    let printed = (bytes_eq-Decides _ _).1 (c.format.ensures.text ∙ same) in
+    let contrary : false ≡ true = sym c.if-eq.false ∙ c.eq.ensures ∙ printed in cc in
     sym (number_of-reprinted c.args.text.now c.in-Ok.n parsed differs)

@@ -10,6 +10,6 @@ abbrev pub invariant-loop-host : goal.invariant-loop-host
 invariant-loop-host l = record {
   seen : (before : List PortUse) → SeesPorts l.fn.used before → SeesPorts l.used (before ++ flat_map host_uses (take l.host-index l.hosts));
   rest : (before : List PortUse) → SeesPorts l.fn.used before →
-    each_beside (port_is_free l.k) (before ++ flat_map host_uses (take l.host-index l.hosts)) (flat_map host_uses (drop l.host-index l.hosts))
-    ≡ each_beside (port_is_free l.k) before (flat_map host_uses l.hosts);
+      each_beside (port_is_free l.k) (before ++ flat_map host_uses (take l.host-index l.hosts)) (flat_map host_uses (drop l.host-index l.hosts))
+      ≡ each_beside (port_is_free l.k) before (flat_map host_uses l.hosts);
 }

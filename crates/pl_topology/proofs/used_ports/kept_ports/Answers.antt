@@ -1,4 +1,4 @@
-use Rattle.std.proofs.Common.{◌≡◌, ◌<◌, length, take, get_or, refl, sym, ap, ◌∙◌, arith}
+use Rattle.std.proofs.Common.{◌<◌, length, take, refl, arith}
 use Rattle.std.specs.List.{filter, flat_map}
 use Rattle.pl_topology.specs.Checks.{canonical_uses, is_unspoken}
 use Rattle.pl_topology.proofs.PortLemmas.{kept-more}

@@ -10,6 +10,6 @@ abbrev pub invariant-loop-entry : goal.invariant-loop-entry
 invariant-loop-entry l = record {
   seen : (before : List PortUse) → SeesPorts l.fn.used before → SeesPorts l.used (before ++ flat_map (link_uses l.k) (take l.entry-index l.entries));
   rest : (before : List PortUse) → SeesPorts l.fn.used before →
-    each_beside (port_is_free l.k) (before ++ flat_map (link_uses l.k) (take l.entry-index l.entries)) (flat_map (link_uses l.k) (drop l.entry-index l.entries))
-    ≡ each_beside (port_is_free l.k) before (flat_map (link_uses l.k) l.entries);
+      each_beside (port_is_free l.k) (before ++ flat_map (link_uses l.k) (take l.entry-index l.entries)) (flat_map (link_uses l.k) (drop l.entry-index l.entries))
+      ≡ each_beside (port_is_free l.k) before (flat_map (link_uses l.k) l.entries);
 }

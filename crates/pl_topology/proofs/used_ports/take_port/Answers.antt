@@ -17,12 +17,12 @@ returns-then-not-taken-clause-sees c = λ before sees.
 pub returns-then-not-branch-clause-exact : goal.returns-then-not-branch-clause-exact
 returns-then-not-branch-clause-exact c = λ before sees.
     taken_used c.args.k before c.args.taken.now c.in-Some.number c.bad_port-then-not-branch.result c.in-Some.ensures.found c.if-not-taken.false c.bad_port-then-not-branch.ensures
-      (sym (sees c.args.taken.now.switch.0 c.in-Some.number) ∙ was_there _ _ c.in_ok-insert.ensures.added c.if-not-branch.true)
+    (sym (sees c.args.taken.now.switch.0 c.in-Some.number) ∙ was_there _ _ c.in_ok-insert.ensures.added c.if-not-branch.true)
 
 pub returns-clause-exact : goal.returns-clause-exact
 returns-clause-exact c = λ before sees.
     taken_free c.args.k before c.args.taken.now c.in-Some.number c.in-Some.ensures.found c.if-not-taken.false c.in-Some.ensures.below
-      (sym (sees c.args.taken.now.switch.0 c.in-Some.number) ∙ not_there _ _ c.in_ok-insert.ensures.added c.if-not-branch.false)
+    (sym (sees c.args.taken.now.switch.0 c.in-Some.number) ∙ not_there _ _ c.in_ok-insert.ensures.added c.if-not-branch.false)
 
 pub returns-clause-sees : goal.returns-clause-sees
 returns-clause-sees c = λ before sees.

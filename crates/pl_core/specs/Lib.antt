@@ -1,0 +1,13 @@
+pub mod Memberships
+pub mod Frames
+pub mod Places
+pub mod Flights
+pub mod Causes
+pub mod Lossy
+pub mod Text
+pub mod LineExamples
+pub mod ExampleFrames
+pub mod FirstPath
+pub mod Journeys
+pub mod Endings
+pub mod Control

@@ -1,0 +1,89 @@
+ghost use Rattle.std.specs.Prelude.{◌≡◌, ◌↔◌, [], ◌∷◌, ◌++◌, length, slice_get, IsTrue, OnOk, OnErr};
+ghost use Rattle.std.specs.Option.{option_copied};
+
+use crate::{Entry, Memory};
+use std::alloc::Global;
+use std::marker::Model;
+
+/// The entries of a run, the oldest first.
+pub type Journal = Items<Entry>;
+
+/// Items in the order in which they came. Contracts see the list of them.
+#[derive(Debug, Drop)]
+pub struct Items<T> {
+    items: Vec<T>,
+}
+
+impl<T> Model for Items<T> {
+    ghost use Rattle.std.specs.Prelude.{List};
+
+    ghost Value = { List T };
+
+    ghost view = { λ list. list.items.items };
+}
+
+impl<T> Items<T> {
+    pub fn new(alloc: Global) -> Items<T>
+        ensures { result ≡ [] }
+    {
+        Items {
+            items: Vec::new(alloc),
+        }
+    }
+
+    pub fn len(&self) -> usize
+        ensures { result ≡ length self.now }
+    {
+        self.items.len()
+    }
+
+    pub fn is_empty(&self) -> bool
+        ensures { IsTrue result ↔ (self.now ≡ []) }
+    {
+        self.items.is_empty()
+    }
+
+    /// The item at a place, counted from 0; none past the last.
+    pub fn get(&self, n: usize) -> Option<&T>
+        ensures { option_copied result ≡ slice_get self.now n }
+    {
+        self.items.get(n)
+    }
+
+    pub fn as_slice(&self) -> &[T]
+        ensures { result.now ≡ self.now }
+    {
+        self.items.as_slice()
+    }
+}
+
+impl<T: Drop> Items<T> {
+    /// Puts an item behind the last.
+    pub fn push(&mut self, item: T) -> Result<(), Memory>
+        ensures ok { OnOk result (self.new ≡ self.old ++ item ∷ []) }
+        ensures err { OnErr result (self.new ≡ self.old) }
+    {
+        self.items.push(item)?;
+        Ok(())
+    }
+}
+
+#[cfg(test)]
+mod tests {
+    use super::*;
+    use std::test::Fail;
+
+    #[test]
+    fn a_journal_keeps_its_entries_in_order(rt: HostRuntime) -> Result<(), Fail> {
+        let mut journal: Journal = Items::new(rt.alloc());
+        assert!(rt; journal.is_empty());
+        journal.push(Entry::Line(1))?;
+        journal.push(Entry::Settled(2))?;
+        assert_eq!(rt; journal.len(), 2);
+        assert!(rt; matches!(journal.get(0), Some(Entry::Line(1))));
+        assert!(rt; matches!(journal.get(1), Some(Entry::Settled(2))));
+        assert!(rt; journal.get(2).is_none());
+        assert_eq!(rt; journal.as_slice().len(), 2);
+        Ok(())
+    }
+}

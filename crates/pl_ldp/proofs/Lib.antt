@@ -1,0 +1,4 @@
+mod Codes
+mod Refusals
+mod Written
+mod Spelled

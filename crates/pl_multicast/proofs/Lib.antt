@@ -1,0 +1,4 @@
+pub mod Words
+pub mod RecordSteps
+pub mod Sums
+pub mod ReadBack

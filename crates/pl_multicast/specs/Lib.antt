@@ -1,0 +1,5 @@
+pub mod Records
+pub mod Messages
+pub mod Changes
+pub mod Checksum
+pub mod Writing

@@ -1,0 +1,5 @@
+pub mod WordLemmas
+pub mod LineLemmas
+pub mod NumberLemmas
+pub mod NameLemmas
+pub mod Readings

@@ -1,0 +1,12 @@
+pub mod Found
+pub mod Bytes
+pub mod Owners
+pub mod Passing
+pub mod Walks
+pub mod Ports
+pub mod Waiting
+pub mod Entries
+pub mod Crossing
+pub mod Endings
+pub mod Settling
+pub mod Playing

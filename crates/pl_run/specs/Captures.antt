@@ -1,0 +1,21 @@
+-- The records of the hosts' captures.
+use Rattle.std.specs.Prelude.{ℕ, List, map}
+use Rattle.pl_capture.specs.declared.records.Captured.{Captured}
+use Rattle.pl_capture.specs.Spelling.{frame_of}
+use Rattle.pl_run.specs.declared.player.capture.Capture.{Capture}
+use Rattle.pl_run.specs.declared.player.records.RecordedFrame.{RecordedFrame}
+use Rattle.pl_run.specs.Machine.{Recorded}
+
+abbrev pub recorded_in : List ℕ → Captured → Recorded
+recorded_in file c = record { frame = frame_of file c; original = c.original }
+
+abbrev pub records_in : Capture → List Recorded
+records_in capture = map (recorded_in capture.bytes.items) capture.records.items
+
+-- for each host the records of its capture
+abbrev pub records_of : List Capture → List (List Recorded)
+records_of captures = map records_in captures
+
+-- a record that is lent from a capture
+abbrev pub recorded : RecordedFrame → Recorded
+recorded r = record { frame = r.frame.now; original = r.original }

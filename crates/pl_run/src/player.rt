@@ -1,0 +1,41 @@
+ghost use Rattle.pl_run.specs.Captures.{records_of};
+ghost use Rattle.pl_run.specs.Machine.{play};
+ghost use Rattle.pl_run.specs.Outcome.{PlaysTo};
+
+pub(crate) use capture::Capture;
+pub(crate) use error::PlayError;
+use pl_script::ScriptLine;
+use pl_topology::Wiring;
+pub(crate) use played::Played;
+use setting::Setting;
+use std::alloc::Global;
+
+mod arrives;
+mod asks;
+mod capture;
+mod crosses;
+mod directory;
+mod error;
+mod frames;
+mod lines;
+mod played;
+mod queue;
+mod queues;
+mod records;
+mod setting;
+
+/// Plays a script over the hosts' captures, which stand in the order of the hosts.
+#[tactic(auto, unfolding(crate::specs::Machine::play))]
+pub(crate) fn play(
+    alloc: Global,
+    wiring: &Wiring,
+    lines: &[ScriptLine],
+    captures: &[Capture],
+) -> Result<Played, PlayError>
+    ensures { PlaysTo result (play wiring.now (records_of captures.now) lines.now) }
+{
+    let setting = Setting::new(alloc, wiring, captures)?;
+    let mut played = Played::new(alloc, wiring.hosts().len(), usize::from(wiring.k()))?;
+    setting.play_lines(&mut played, lines)?;
+    Ok(played)
+}

@@ -34,6 +34,14 @@ impl Bytes {
     {
         &self.bytes
     }
+
+    /// The same as a vector, without a copy.
+    pub fn into_vec(self) -> Vec<u8>
+        ensures { result.items ≡ self }
+    {
+        let Bytes { bytes } = self;
+        bytes
+    }
 }
 
 /// Reads all that the name holds, at most `limit` bytes. `TooLong` comes where one byte more was

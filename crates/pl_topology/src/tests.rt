@@ -1,9 +1,14 @@
 mod accepted;
+mod paths;
 mod refused;
 mod wired;
 
-use crate::read;
+ghost use Rattle.pl_topology.specs.LiveLinks.{IsFor};
+
+use crate::{LinkStates, SwitchNo, Wiring, read};
 use std::alloc::{AllocError, Global};
+use std::process::Abort;
+use std::test::Fail;
 
 // What is read of a file: its k, and how many switches and hosts it has, or the refusal.
 fn outcome(alloc: Global, file: &[u8]) -> Result<String, AllocError> {
@@ -18,6 +23,12 @@ fn outcome(alloc: Global, file: &[u8]) -> Result<String, AllocError> {
     }
 }
 
+fn assert_outcome(rt: &(impl Abort + AllocGlobal), file: &str, expected: &str) -> Result<(), Fail> {
+    let found = outcome(rt.alloc(), file.as_bytes())?;
+    assert_eq!(rt; found.as_str(), expected, "{file}");
+    Ok(())
+}
+
 const USUAL_HOST: [(&str, &str); 5] = [
     ("name", "\"x\""),
     ("mac", "\"02:00:00:00:00:11\""),
@@ -29,12 +40,22 @@ const USUAL_HOST: [(&str, &str); 5] = [
 // A file with one host that has this value at this key.
 fn host_file(alloc: Global, key: &str, value: &str) -> Result<String, AllocError> {
     let mut text = String::from_str(alloc, "k = 4\n[[host]]\n")?;
-    for (name, usual) in USUAL_HOST {
-        let value = if name == key { value } else { usual };
+    for (name, usual) in &USUAL_HOST {
+        let value = if *name == key { value } else { *usual };
         writeln!(text, "{name} = {value}")?;
     }
     if key == "capture" {
         writeln!(text, "capture = {value}")?;
     }
     Ok(text)
+}
+
+// Makes the link of two switches failed, if there is one.
+fn fail(wiring: &Wiring, links: &mut LinkStates, a: SwitchNo, b: SwitchNo)
+    requires { IsFor wiring.now links.old }
+    ensures { IsFor wiring.now links.new }
+{
+    if wiring.link(a, b).is_some() {
+        links.set(wiring, a, b, false);
+    }
 }

@@ -1,3 +1,4 @@
+use super::fail;
 use crate::{HostNo, Label, LinkStates, Peer, SwitchNo, read};
 use pl_frame::{Ip4, Mac, SwitchId};
 use std::test::Fail;
@@ -77,27 +78,28 @@ fn hosts_are_found_by_name_and_by_place(rt: HostRuntime) -> Result<(), Fail> {
     Ok(())
 }
 
+const LABELS: [(&str, Option<SwitchNo>, Option<Label>); 13] = [
+    ("e0.0", Some(SwitchNo(0)), Some(Label::Edge(0, 0))),
+    ("e3.1", Some(SwitchNo(7)), Some(Label::Edge(3, 1))),
+    ("a2.0", Some(SwitchNo(12)), Some(Label::Aggregation(2, 0))),
+    ("c1.1", Some(SwitchNo(19)), Some(Label::Core(1, 1))),
+    ("c2.0", None, Some(Label::Core(2, 0))),
+    ("e4.0", None, Some(Label::Edge(4, 0))),
+    ("e65535.255", None, Some(Label::Edge(65535, 255))),
+    ("e65536.0", None, None),
+    ("e0.256", None, None),
+    ("e0", None, None),
+    ("e0.00", None, None),
+    ("E0.0", None, None),
+    ("", None, None),
+];
+
 #[test]
 fn switches_are_found_by_their_labels(rt: HostRuntime) -> Result<(), Fail> {
     let wiring = read(rt.alloc(), b"k = 4").expect(&rt, "a wiring");
-    let cases = [
-        ("e0.0", Some(SwitchNo(0)), Some(Label::Edge(0, 0))),
-        ("e3.1", Some(SwitchNo(7)), Some(Label::Edge(3, 1))),
-        ("a2.0", Some(SwitchNo(12)), Some(Label::Aggregation(2, 0))),
-        ("c1.1", Some(SwitchNo(19)), Some(Label::Core(1, 1))),
-        ("c2.0", None, Some(Label::Core(2, 0))),
-        ("e4.0", None, Some(Label::Edge(4, 0))),
-        ("e65535.255", None, Some(Label::Edge(65535, 255))),
-        ("e65536.0", None, None),
-        ("e0.256", None, None),
-        ("e0", None, None),
-        ("e0.00", None, None),
-        ("E0.0", None, None),
-        ("", None, None),
-    ];
-    for (text, switch, label) in cases {
-        assert_eq!(rt; wiring.switch_named(text), switch, "{text}");
-        assert_eq!(rt; Label::read(text), label, "{text}");
+    for (text, switch, label) in &LABELS {
+        assert_eq!(rt; wiring.switch_named(text), *switch, "{text}");
+        assert_eq!(rt; Label::read(text), *label, "{text}");
     }
     Ok(())
 }
@@ -107,8 +109,7 @@ fn a_failed_link_is_failed_at_both_ends(rt: HostRuntime) -> Result<(), Fail> {
     let wiring = read(rt.alloc(), REPLACED.as_bytes()).expect(&rt, "a wiring");
     let mut links = LinkStates::new(rt.alloc(), &wiring)?;
     assert!(rt; links.live(SwitchNo(0), 1) && links.live(SwitchNo(9), 1));
-    assert!(rt; wiring.link(SwitchNo(0), SwitchNo(9)).is_some());
-    links.set(&wiring, SwitchNo(0), SwitchNo(9), false);
+    fail(&wiring, &mut links, SwitchNo(0), SwitchNo(9));
     assert!(rt; !links.live(SwitchNo(0), 1) && !links.live(SwitchNo(9), 1));
     assert!(rt; links.live(SwitchNo(0), 2) && links.live(SwitchNo(9), 0));
     Ok(())

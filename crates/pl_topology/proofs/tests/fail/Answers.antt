@@ -2,7 +2,7 @@ use Rattle.std.proofs.Common.{◌≡◌, ℕ, true, List, Option, Some, None, If
 use Rattle.std.specs.List.{Any, Contains}
 use Rattle.pl_topology.specs.declared.link.Link.{Link}
 use Rattle.pl_topology.specs.Peers.{IsBetween}
-use Rattle.pl_topology.proofs.tests.wired.a_failed_link_is_failed_at_both_ends.Goals as goal
+use Rattle.pl_topology.proofs.tests.fail.Goals as goal
 
 -- a link that was found joins the two
 joined : (links : List Link) (a b : ℕ) (found : Option Link) → is_some found ≡ true →
@@ -11,6 +11,6 @@ joined links a b None some h = absurd (cc)
 joined links a b (Some l) some h = (h.0.0, l, h.0.1, h.0.2, h.1)
 
 pub set-requires-clause-linked : goal.set-requires-clause-linked
-set-requires-clause-linked g c =
+set-requires-clause-linked c =
     let some : is_some c.link.result ≡ true = cc in
-    joined _ 0 9 c.link.result some c.link.ensures.found
+    joined _ _ _ c.link.result some c.link.ensures.found

@@ -33,7 +33,7 @@ abbrev StandsIfOk : Plan → Result State StepReason → Type 0
 StandsIfOk plan r = IfOk r (Stands plan)
 
 -- no queue holds a frame at first
-no_queue : (k n : ℕ) → queue (replicate k []) n ≡ []
+pub no_queue : (k n : ℕ) → queue (replicate k []) n ≡ []
 no_queue k n = elim (cases_lt n k) [
   | inl within ↦ get_or-replicate k n [] [] within
   | inr past ↦ get_or_past (replicate k []) n [] (let long = length-replicate {A = List Flight} k [] in omega arith)

@@ -13,34 +13,34 @@ use Rattle.pl_script.specs.declared.command.Who.TheVariants as who
 use Rattle.pl_script.specs.declared.command.Count.TheVariants.{N}
 use Rattle.pl_run.specs.Machine.{Recorded, play, start_frame, address_of, switch, host_no}
 
-abbrev host_a : Host
+abbrev pub host_a : Host
 host_a = record { name = codes "a"; mac = record { 0 = 2 ∷ 0 ∷ 0 ∷ 0 ∷ 0 ∷ 10 ∷ [] }; ip = record { 0 = 0x0a000001 }; edge = record { 0 = 0 }; port = 0; capture = None }
 
-abbrev host_b : Host
+abbrev pub host_b : Host
 host_b = record { name = codes "b"; mac = record { 0 = 2 ∷ 0 ∷ 0 ∷ 0 ∷ 0 ∷ 11 ∷ [] }; ip = record { 0 = 0x0a000002 }; edge = record { 0 = 0 }; port = 1; capture = None }
 
-abbrev the_plan : Plan
+abbrev pub the_plan : Plan
 the_plan = record { k = 4; ids = []; links = canonical_links 4; hosts = host_a ∷ host_b ∷ [] }
 
 -- 60 bytes from a to b, of a type that nobody reads
 abbrev recorded : List ℕ
 recorded = 2 ∷ 0 ∷ 0 ∷ 0 ∷ 0 ∷ 11 ∷ 2 ∷ 0 ∷ 0 ∷ 0 ∷ 0 ∷ 10 ∷ 0x88 ∷ 0xb6 ∷ replicate 46 0
 
-abbrev sent_bytes : List ℕ
+abbrev pub sent_bytes : List ℕ
 sent_bytes = 0 ∷ 0 ∷ 0 ∷ 1 ∷ 0 ∷ 1 ∷ 2 ∷ 0 ∷ 0 ∷ 0 ∷ 0 ∷ 10 ∷ 0x88 ∷ 0xb6 ∷ replicate 46 0
 
 abbrev arrived_bytes : List ℕ
 arrived_bytes = 2 ∷ 0 ∷ 0 ∷ 0 ∷ 0 ∷ 11 ∷ 0 ∷ 0 ∷ 0 ∷ 0 ∷ 0 ∷ 1 ∷ 0x88 ∷ 0xb6 ∷ replicate 46 0
 
-abbrev script : List ScriptLine
+abbrev pub script : List ScriptLine
 script =
     record { number = 1; command = Start who.All } ∷ record { number = 2; command = Settle 64 }
     ∷ record { number = 3; command = Send (host_no 0) (N 1) } ∷ record { number = 4; command = Settle 64 } ∷ []
 
-abbrev the_records : List (List Recorded)
+abbrev pub the_records : List (List Recorded)
 the_records = (record { frame = recorded; original = 60 } ∷ []) ∷ [] ∷ []
 
-abbrev the_journal : List Entry
+abbrev pub the_journal : List Entry
 the_journal =
     Line 1 ∷ Sent 1 (host_no 0) (start_frame host_a) ∷ Sent 2 (host_no 1) (start_frame host_b)
     ∷ Line 2 ∷ Crossed 1 switch ∷ Granted (address_of host_a) (host_no 0) switch 0 ∷ Taken 1 switch

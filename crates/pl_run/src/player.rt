@@ -7,6 +7,7 @@ pub(crate) use error::PlayError;
 use pl_script::ScriptLine;
 use pl_topology::Wiring;
 pub(crate) use played::Played;
+pub(crate) use records::record_count;
 use setting::Setting;
 use std::alloc::Global;
 

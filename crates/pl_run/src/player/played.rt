@@ -5,13 +5,14 @@ ghost use Rattle.pl_run.specs.Machine.{queue, with_flight, arrives_at, address_o
 ghost use Rattle.pl_run.specs.Played.{state_of};
 ghost use Rattle.pl_run.specs.Carried.{IsCarried};
 
+use crate::numbers::one_more;
 use crate::player::queue::{Flight, Queue};
 use crate::player::queues::{empty_queues, put, take};
 use pl_core::{Cause, Entry, Journal, Skip};
 use pl_frame::{Frame, Memory};
 use pl_pmac::Pmac;
 use pl_topology::{Host, HostNo, SwitchNo};
-use std::alloc::{AllocError, Global};
+use std::alloc::Global;
 
 /// The one switch.
 const EDGE: SwitchNo = SwitchNo(0);
@@ -202,11 +203,4 @@ pub(crate) fn address_of(host: &Host) -> Pmac
         port: host.port,
         vmid: 1,
     }
-}
-
-// No memory holds so many things that their number does not fit.
-fn one_more(n: u64) -> Result<u64, Memory>
-    ensures { IfOk result (λ more. more ≡ n + 1) }
-{
-    n.checked_add(1).ok_or(AllocError)
 }

@@ -1,0 +1,46 @@
+ghost use Rattle.std.specs.Prelude.{◌≡◌, IfOk, IfErr, string_bytes};
+ghost use Rattle.pl_shelf.specs.Held.{Same};
+ghost use Rattle.pl_run.specs.Inputs.{IsLoaded, in_folder};
+ghost use Rattle.pl_run.specs.Loads.{IsUnloaded, Reads};
+
+use crate::status::Status;
+use pl_frame::Memory;
+use pl_shelf::{Bytes, LoadError, Shelf, load};
+use pl_topology::Name;
+use std::alloc::Global;
+
+/// Reads all that the name holds. The name itself was made before, so that a failed read can tell it.
+pub(crate) fn load_named<S: Shelf>(
+    alloc: Global,
+    shelf: &mut S,
+    name: Name,
+    limit: u64,
+) -> Result<Bytes, Status>
+    ensures ok { IfOk result (λ found. IsLoaded (S.held shelf.old) name limit found) }
+    ensures err { IfErr result (λ e. IsUnloaded (S.held shelf.old) name limit e) }
+    ensures same { Same (S.held shelf.old) (S.held shelf.new) }
+    ensures reads { Reads result (S.read_faults shelf.old) (S.read_faults shelf.new) }
+    ensures writes { S.write_faults shelf.new ≡ S.write_faults shelf.old }
+{
+    match load(alloc, shelf, name.text(), limit) {
+        Ok(bytes) => Ok(bytes),
+        Err(LoadError::Fault) => Err(Status::ReadFault(name)),
+        Err(LoadError::TooLong) => Err(Status::TooLong(name)),
+        Err(LoadError::Memory) => Err(Status::OutOfMemory),
+    }
+}
+
+/// The name of a file in a folder.
+pub(crate) fn in_folder(alloc: Global, folder: &str, file: &str) -> Result<Name, Memory>
+    ensures { IfOk result (λ name. name ≡ in_folder folder.now file.now) }
+{
+    let text = path(alloc, folder, file)?;
+    Name::copy(alloc, text.as_str())
+}
+
+fn path(alloc: Global, folder: &str, file: &str) -> Result<String, Memory>
+    ensures { IfOk result (λ text. string_bytes text ≡ in_folder folder.now file.now) }
+{
+    let text = format!(in alloc; "{folder}/{file}")?;
+    Ok(text)
+}

@@ -1,9 +1,9 @@
 -- The control frames of the fabric: how their payloads are laid out. Numbers have their most significant byte first.
-use Rattle.std.specs.Prelude.{◌≡◌, ℕ, ◌+◌, ◌==◌, ◌&&◌, ◌||◌, not, nat_lt, Bool, true, false, if◌then◌else◌, List, [], ◌∷◌, ◌++◌, length, drop, slice_index, Option, Some, None, is_some, is_none, unwrap_or, Result, Ok, Err, refl}
+use Rattle.std.specs.Prelude.{◌≡◌, ℕ, ◌==◌, ◌&&◌, ◌||◌, not, nat_lt, Bool, true, false, if◌then◌else◌, List, [], ◌∷◌, ◌++◌, length, drop, slice_index, Option, Some, None, is_some, is_none, unwrap_or, Result, Ok, Err, refl}
 use Rattle.byteorder.specs.Endian.{big_number, big_bytes}
 use Rattle.pl_frame.specs.declared.address.Mac.{Mac}
 use Rattle.pl_frame.specs.declared.address.SwitchId.{SwitchId}
-use Rattle.pl_frame.specs.Ethernet.{frame_of}
+use Rattle.pl_frame.specs.Ethernet.{frame_of, kind_of}
 use Rattle.pl_core.specs.declared.control.Ldm.{Ldm}
 use Rattle.pl_core.specs.declared.control.Proposal.{Proposal}
 use Rattle.pl_core.specs.declared.control.Vote.{Vote}
@@ -59,6 +59,10 @@ sender_of (control.Vote id v) = id
 -- 03:50:4c:00:00:01
 abbrev pub control_group : Mac
 control_group = record { 0 = 3 ∷ 0x50 ∷ 0x4c ∷ 0 ∷ 0 ∷ 1 ∷ [] }
+
+-- a control frame has type 0x88b5
+abbrev pub is_control : List ℕ → Bool
+is_control frame = kind_of frame == 0x88b5
 
 -- the whole frame: to the group of control frames, from the six bytes of the sender's id
 abbrev pub control_frame : Control → List ℕ

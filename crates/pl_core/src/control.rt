@@ -1,3 +1,6 @@
+ghost use Rattle.std.specs.Prelude.{◌≡◌};
+ghost use Rattle.pl_core.specs.Positions.{counts, gives_way};
+
 use crate::Place;
 use pl_frame::SwitchId;
 use thiserror::Error;
@@ -27,6 +30,29 @@ pub struct Vote {
     pub granted: bool,
     pub holder: Option<SwitchId>,
     pub fixed: bool,
+}
+
+impl Vote {
+    /// Whether the vote counts for a switch at this place that makes this attempt at this position: for an
+    /// edge switch without a position, and on the present attempt and position alone.
+    pub fn counts(&self, place: Place, attempt: u32, position: u8) -> bool
+        ensures { result ≡ counts place attempt position self.now }
+    {
+        place.level == Some(0)
+            && place.position.is_none()
+            && self.attempt == attempt
+            && self.position == position
+    }
+
+    /// Whether the proposer is to try the next position: the holder is fixed there, or has a smaller id.
+    pub fn gives_way(&self, me: SwitchId) -> bool
+        ensures { result ≡ gives_way me self.now }
+    {
+        match self.holder {
+            Some(holder) => self.fixed || holder.0 < me.0,
+            None => self.fixed,
+        }
+    }
 }
 
 /// What a control frame says, with the id of the switch that says it.

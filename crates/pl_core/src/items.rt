@@ -2,11 +2,15 @@ ghost use Rattle.std.specs.Prelude.{◌≡◌, ◌↔◌, [], ◌∷◌, ◌++�
 ghost use Rattle.std.specs.Option.{option_copied};
 
 use crate::{Entry, Memory};
+use pl_arp::Me;
 use std::alloc::Global;
 use std::marker::Model;
 
 /// The entries of a run, the oldest first.
 pub type Journal = Items<Entry>;
+
+/// The hosts of a run, the first one first.
+pub type HostTable = Items<Me>;
 
 /// Items in the order in which they came. Contracts see the list of them.
 #[derive(Debug, Drop)]

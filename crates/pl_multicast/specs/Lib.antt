@@ -1,5 +1,3 @@
 pub mod Records
 pub mod Messages
 pub mod Changes
-pub mod Checksum
-pub mod Writing

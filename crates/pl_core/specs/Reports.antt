@@ -5,7 +5,7 @@ use Rattle.pl_frame.specs.declared.address.Mac.{Mac}
 use Rattle.pl_frame.specs.Ethernet.{frame_of}
 use Rattle.pl_arp.specs.declared.cache.Me.{Me}
 use Rattle.pl_core.specs.declared.membership.Change.{Change}
-use Rattle.pl_multicast.specs.Checksum.{checksum_of, ones_plus}
+use Rattle.pl_core.specs.Checksum.{checksum_of, ones_plus}
 
 -- all routers of the network, 224.0.0.2
 abbrev pub all_routers : ℕ

@@ -1,0 +1,62 @@
+-- What is asked of a switch from outside, by what it knows; and what it knows at first.
+use Rattle.std.specs.Prelude.{◌≡◌, ◌<◌, ◌≤◌, ℕ, ◌/◌, ◌%◌, ◌^◌, ◌==◌, ◌&&◌, Bool, false, if◌then◌else◌, List, [], Option, Some, None, is_none, option_map, replicate, slice_get}
+use Rattle.std.specs.List.{list_any}
+use Rattle.pl_frame.specs.declared.address.SwitchId.{SwitchId}
+use Rattle.pl_core.specs.Announcing.{announcement}
+use Rattle.pl_core.specs.PortRecords.{is_known, new_port, nowhere, port_of}
+use Rattle.pl_core.specs.Positions.{hold_at}
+use Rattle.pl_core.specs.SwitchViews.{Hold, SwitchView}
+
+-- an even number of ports from 4 to 24
+pub record IsTreeSize (k : ℕ) : Type 0 where
+  pub low : 4 ≤ k
+  pub high : k ≤ 24
+  pub even : k % 2 ≡ 0
+
+-- and an id of 48 bits that is not 0
+pub record CanBoot (id : SwitchId) (k : ℕ) : Type 0 where
+  pub named : 1 ≤ id.0
+  pub within : id.0 < 2 ^ 48
+  pub size : IsTreeSize k
+
+-- A switch knows its id and the number of its ports, and nothing else.
+abbrev pub switch_at_boot : SwitchId → ℕ → SwitchView
+switch_at_boot id k = record {
+  id = id;
+  k = k;
+  place = nowhere;
+  ports = replicate k new_port;
+  attempt = 1;
+  proposed = 0;
+  granted = [];
+  holds = replicate (k / 2) None;
+  grants = replicate k [];
+  remembered = replicate k None;
+  members = [];
+  avoid = [];
+  parts = [];
+}
+
+-- the frame is the message that the switch would send out of that port now
+pub record IsAnnounced (v : SwitchView) (port : ℕ) (frame : List ℕ) : Type 0 where
+  pub told : (port_of v port).host ≡ false
+  pub is : frame ≡ announcement v port
+
+-- the attempt and the position that an edge switch without a position proposes
+abbrev pub present_attempt : SwitchView → Option (ℕ × ℕ)
+present_attempt v =
+    if is_known v.place.level 0 && is_none v.place.position then Some (v.attempt, v.proposed) else None
+
+abbrev pub has_granted : SwitchView → ℕ → Bool
+has_granted v port = list_any (λ p. p == port) v.granted
+
+abbrev pub holder_and_mark : Hold → SwitchId × Bool
+holder_and_mark hold = (hold.edge, hold.fixed)
+
+-- who holds a position, and whether it is marked as fixed there
+abbrev pub holder_of : SwitchView → ℕ → Option (SwitchId × Bool)
+holder_of v position = option_map holder_and_mark (hold_at v position)
+
+-- group number n, rising, of those of which a part is known
+abbrev pub group_at : SwitchView → ℕ → Option ℕ
+group_at v n = option_map (λ part. part.0) (slice_get v.parts n)

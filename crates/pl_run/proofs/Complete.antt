@@ -6,7 +6,8 @@ use Rattle.pl_topology.specs.declared.host.Host.{Host}
 use Rattle.pl_topology.specs.Plan.{Plan}
 use Rattle.pl_script.specs.declared.script.ScriptLine.{ScriptLine}
 use Rattle.pl_run.specs.Complete.{AreCapturesTold, AreTold, IsCaptureTold, IsTold}
-use Rattle.pl_run.specs.Inputs.{AreCaptures, AreRead, HasLines, HasPlan, Inputs, IsCaptureAt, in_folder, lines_of, plan_of}
+use Rattle.pl_run.specs.Folders.{in_folder}
+use Rattle.pl_run.specs.Inputs.{AreCaptures, AreRead, HasLines, HasPlan, Inputs, IsCaptureAt, lines_of, plan_of}
 use Rattle.pl_run.specs.Words.{Asked}
 
 pub ok_err : {T E : Type 0} (r : Result T E) (x : T) (e : E) → r ≡ Ok x → r ≡ Err e → ⊥

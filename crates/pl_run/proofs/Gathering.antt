@@ -10,9 +10,10 @@ use Rattle.pl_script.specs.declared.script.ScriptLine.{ScriptLine}
 use Rattle.pl_run.specs.declared.status.Status.{Status}
 use Rattle.pl_run.specs.declared.status.Status.TheVariants as status
 use Rattle.pl_run.specs.Gathered.{IsUngathered, IsUntaken}
-use Rattle.pl_run.specs.Inputs.{AreCaptures, HasLines, HasPlan, IsCapture, IsCaptureAt, IsLoaded, all_bytes, captures_limit, in_folder, text_limit}
+use Rattle.pl_run.specs.Folders.{in_folder}
+use Rattle.pl_run.specs.Inputs.{AreCaptures, HasLines, HasPlan, IsCapture, IsCaptureAt, IsLoaded, all_bytes, captures_limit, text_limit}
 use Rattle.pl_run.specs.Loads.{IsUnplanned, IsUnscripted}
-use Rattle.pl_run.specs.Unread.{AreTextsRead, ComesTo, IsRefusedCapture, IsTooMuch, IsUnread}
+use Rattle.pl_run.specs.Unread.{AreTextsRead, ComesTo, IsNextCapture, IsRefusedCapture, IsTooMuch, IsUnread}
 use Rattle.pl_run.specs.Words.{Asked}
 use Rattle.std.specs.List.{list_all}
 use Rattle.std.proofs.lemmas.Bool.{cases_Bool, cond-false, cond-true, eqb-true}
@@ -61,6 +62,16 @@ same_comes same folder hosts n host comes = record {
   limit = comes.limit;
 }
 
+same_next : {old new : List ℕ → Held} → Same old new → (folder : List ℕ) (hosts : List Host) (name : List ℕ) → IsNextCapture new folder hosts name → IsNextCapture old folder hosts name
+same_next same folder hosts name next = record {
+  n = next.n;
+  host = next.host;
+  comes = same_comes same folder hosts next.n next.host next.comes;
+  file = next.file;
+  names = next.names;
+  is = next.is;
+}
+
 same_too_much : {old new : List ℕ → Held} → Same old new → (folder : List ℕ) (hosts : List Host) (name : List ℕ) → IsTooMuch new folder hosts name → IsTooMuch old folder hosts name
 same_too_much same folder hosts name much = record {
   n = much.n;
@@ -98,7 +109,7 @@ unplanned held asked (status.Refused n reason) u = u
 -- a script that is not played
 pub unscripted : (old new : List ℕ → Held) → Same old new → (asked : Asked) (plan : Plan) → HasPlan old asked.topology plan → (e : Status) →
     IsUnscripted new asked.script plan e → IsUnread old asked e
-unscripted old new same asked plan has (status.ReadFault name) u = inr (inl u)
+unscripted old new same asked plan has (status.ReadFault name) u = inr (inl (plan, has, u))
 unscripted old new same asked plan has (status.TooLong name) u =
     inr (inl (plan, has, u.0, same_longer same name text_limit (subst (λ n. IsLonger (new n) text_limit) (sym u.0) u.1)))
 unscripted old new same asked plan has (status.BadScript n reason) u = (plan, has, (u.0, same_loaded same asked.script text_limit u.0 u.1, u.2))
@@ -118,7 +129,8 @@ texts_read same asked plan lines has written =
 -- captures that were not all read; the second shelf is that of the script, the third that of the captures
 pub ungathered : (old mid new : List ℕ → Held) → Same old mid → Same old new → (asked : Asked) (plan : Plan) (lines : List ScriptLine) →
     HasPlan old asked.topology plan → HasLines mid asked.script plan lines → (e : Status) → IsUngathered new asked.captures plan.hosts e → IsUnread old asked e
-ungathered old mid new first same asked plan lines has written (status.ReadFault name) u = inr (inr (plan, has, u))
+ungathered old mid new first same asked plan lines has written (status.ReadFault name) u =
+    inr (inr (plan, texts_read first asked plan lines has written, same_next same asked.captures plan.hosts name u))
 ungathered old mid new first same asked plan lines has written (status.TooLong name) u =
     inr (inr (plan, texts_read first asked plan lines has written, same_too_much same asked.captures plan.hosts name u))
 ungathered old mid new first same asked plan lines has written (status.BadCapture host e at) u =
@@ -175,8 +187,14 @@ untaken_by old new folder hosts n files left host g stands None is (status.BadSc
 untaken_by old new folder hosts n files left host g stands None is (status.WriteFault name) u = u
 untaken_by old new folder hosts n files left host g stands None is (status.Refused m reason) u = u
 untaken_by old new folder hosts n files left host g stands (Some file) is status.OutOfMemory u = tt
-untaken_by old new folder hosts n files left host g stands (Some file) is (status.ReadFault name) u =
-    record { n = n; host = host; file = file; stands = stands; names = is; is = u }
+untaken_by old new folder hosts n files left host g stands (Some file) is (status.ReadFault name) u = record {
+  n = n;
+  host = host;
+  comes = comes_to old new folder hosts n files left host g stands;
+  file = file;
+  names = is;
+  is = u;
+}
 untaken_by old new folder hosts n files left host g stands (Some file) is (status.TooLong name) u = record {
   n = n;
   host = host;

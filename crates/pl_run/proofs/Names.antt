@@ -10,14 +10,15 @@ use Rattle.pl_topology.specs.Plan.{Plan, IsPlan}
 use Rattle.pl_core.specs.declared.entry.Entry.{Entry}
 use Rattle.pl_core.specs.Text.{journal_text}
 use Rattle.pl_run.specs.declared.saving.texts.Texts.{Texts}
-use Rattle.pl_run.specs.Mail.{capture_name, file_name}
+use Rattle.pl_run.specs.Folders.{in_folder}
+use Rattle.pl_run.specs.Mail.{capture_name}
 use Rattle.pl_run.specs.Receipts.{captures_from, journal_name, saved_texts}
 use Rattle.pl_run.specs.InTurn.{BreaksInTurn, SavedInTurn}
 use Rattle.pl_run.specs.Saved.{AreSaved, BreaksOff, Saving}
 use Rattle.pl_run.specs.Texts.{AreTexts, savings_of}
 use Rattle.pl_run.proofs.Turns.{AreApart, breaks_off, saved_all}
 
-files_same : (out a b : List ℕ) → file_name out a ≡ file_name out b → a ≡ b
+files_same : (out a b : List ℕ) → in_folder out a ≡ in_folder out b → a ≡ b
 files_same out a b same = append_cancel_left (out ++ codes "/") a b same
 
 hosts_same : (out : List ℕ) (g h : Host) → capture_name out g ≡ capture_name out h → g.name ≡ h.name
@@ -31,11 +32,11 @@ no_journal out h same =
     let letter : 46 ≡ 108 = ap (λ l. slice_index_or l 0 0) rest in
     absurd (omega (arith, letter))
 
-no_output : (out file : List ℕ) → 0 < length file → file_name out file ≢ standard_output
+no_output : (out file : List ℕ) → 0 < length file → in_folder out file ≢ standard_output
 no_output out file some same =
-    let long : length (file_name out file) ≡ length (out ++ codes "/") + length file = length-append (out ++ codes "/") file in
+    let long : length (in_folder out file) ≡ length (out ++ codes "/") + length file = length-append (out ++ codes "/") file in
     let longer : length (out ++ codes "/") ≡ length out + 1 = length-append out (codes "/") in
-    let short : length (file_name out file) ≡ 1 = ap length same in
+    let short : length (in_folder out file) ≡ 1 = ap length same in
     absurd (omega (arith, some, long, longer, short))
 
 -- what holds of the hosts' names holds of the captures'

@@ -12,7 +12,8 @@ use Rattle.pl_run.specs.declared.status.Status.{Status}
 use Rattle.pl_run.specs.declared.status.Status.TheVariants as status
 use Rattle.pl_run.specs.declared.status.TopologyReason.{TopologyReason}
 use Rattle.pl_run.specs.Answers.{Moment, run_of}
-use Rattle.pl_run.specs.Inputs.{AreRead, HasPlan, Inputs, IsLoaded, in_folder, lines_of, plan_of, text_limit}
+use Rattle.pl_run.specs.Folders.{in_folder}
+use Rattle.pl_run.specs.Inputs.{AreRead, HasPlan, Inputs, IsLoaded, lines_of, plan_of, text_limit}
 use Rattle.pl_run.specs.Machine.{Refusal, State}
 use Rattle.pl_run.specs.Unread.{AreTextsRead, IsRefusedCapture, IsTooMuch}
 use Rattle.pl_run.specs.Words.{Asked}

@@ -6,12 +6,13 @@ use Rattle.pl_capture.specs.Capture.{reading_of}
 use Rattle.pl_topology.specs.declared.host.Host.{Host}
 use Rattle.pl_run.specs.declared.status.Status.{Status}
 use Rattle.pl_run.specs.declared.status.Status.TheVariants as status
-use Rattle.pl_run.specs.Inputs.{IsCaptureAt, in_folder}
-use Rattle.pl_run.specs.Unread.{IsCaptureName, IsRefusedCapture, IsTooMuch}
+use Rattle.pl_run.specs.Folders.{in_folder}
+use Rattle.pl_run.specs.Inputs.{IsCaptureAt}
+use Rattle.pl_run.specs.Unread.{IsNextCapture, IsRefusedCapture, IsTooMuch}
 
 -- the captures of these hosts
 abbrev pub IsUngathered : (List ℕ → Held) → List ℕ → List Host → Status → Type 0
-IsUngathered held folder hosts (status.ReadFault name) = IsCaptureName folder hosts name
+IsUngathered held folder hosts (status.ReadFault name) = IsNextCapture held folder hosts name
 IsUngathered held folder hosts (status.TooLong name) = IsTooMuch held folder hosts name
 IsUngathered held folder hosts (status.BadCapture host e at) = IsRefusedCapture held folder hosts host.0 e × (at ≡ offset_of e)
 IsUngathered held folder hosts status.OutOfMemory = Unit {0}

@@ -1,5 +1,5 @@
 -- What a run reads: a topology, a script, and the captures of the hosts.
-use Rattle.std.specs.Prelude.{◌≡◌, ℕ, ◌≤◌, ◌==◌, not, Bool, true, false, if◌then◌else◌, List, [], ◌∷◌, ◌++◌, codes, length, Option, None, Some, Result, Ok, Err}
+use Rattle.std.specs.Prelude.{◌≡◌, ℕ, ◌≤◌, ◌==◌, not, Bool, true, false, if◌then◌else◌, List, [], ◌∷◌, length, Option, None, Some, Result, Ok, Err}
 use Rattle.std.specs.List.{find, list_all, sum_by}
 use Rattle.pl_shelf.specs.Held.{Held, IsWhole}
 use Rattle.pl_capture.specs.declared.records.Captured.{Captured}
@@ -17,6 +17,7 @@ use Rattle.pl_script.specs.declared.error.ScriptReason.TheVariants.{Word}
 use Rattle.pl_script.specs.Meaning.{script_of}
 use Rattle.pl_run.specs.declared.status.TopologyReason.{TopologyReason}
 use Rattle.pl_run.specs.declared.status.TopologyReason.TheVariants.{Refused, NotBuilt}
+use Rattle.pl_run.specs.Folders.{in_folder}
 use Rattle.pl_run.specs.Words.{Asked}
 
 -- the most bytes that are read of a topology or of a script, and of all captures together
@@ -57,10 +58,6 @@ built_lines (Err e) = Err e
 
 abbrev pub lines_of : Plan → List ℕ → Result (List ScriptLine) ScriptError
 lines_of plan file = built_lines (script_of plan file)
-
--- the name of a file in a folder
-abbrev pub in_folder : List ℕ → List ℕ → List ℕ
-in_folder folder name = folder ++ codes "/" ++ name
 
 -- A name was read whole, and is within its limit.
 pub record IsLoaded (held : List ℕ → Held) (name : List ℕ) (limit : ℕ) (file : List ℕ) : Type 0 where

@@ -32,3 +32,4 @@ pub mod Texts
 pub mod Answers
 pub mod Plays
 pub mod Complete
+pub mod Folders

@@ -6,6 +6,7 @@ use Rattle.pl_core.specs.declared.entry.Entry.{Entry}
 use Rattle.pl_core.specs.declared.entry.Entry.TheVariants.{Line, Arrived}
 use Rattle.pl_run.specs.declared.saving.receipt.Receipt.{Receipt}
 use Rattle.pl_run.specs.declared.saving.receipt.LastLine.{LastLine}
+use Rattle.pl_run.specs.Folders.{in_folder}
 
 -- the name of the capture that is saved of it; the receipts; the place behind the line at which the last one came, and how many came
 -- since that line, counted to a million
@@ -30,11 +31,8 @@ packet_at journal r = saved_packet r.seconds r.micros (frame_at journal r.entry)
 abbrev pub packets_at : List Entry → List Receipt → List Packet
 packets_at journal receipts = map (packet_at journal) receipts
 
-abbrev pub file_name : List ℕ → List ℕ → List ℕ
-file_name out file = out ++ codes "/" ++ file
-
 abbrev pub capture_name : List ℕ → Host → List ℕ
-capture_name out host = file_name out (host.name ++ codes ".pcap")
+capture_name out host = in_folder out (host.name ++ codes ".pcap")
 
 -- nothing was received yet
 abbrev pub no_mail : List ℕ → Mail

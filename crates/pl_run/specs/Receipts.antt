@@ -6,7 +6,8 @@ use Rattle.pl_topology.specs.Plan.{Plan}
 use Rattle.pl_shelf.specs.Held.{standard_output}
 use Rattle.pl_core.specs.declared.entry.Entry.{Entry}
 use Rattle.pl_core.specs.Text.{journal_text}
-use Rattle.pl_run.specs.Mail.{Mail, capture_name, file_name, packets_at}
+use Rattle.pl_run.specs.Folders.{in_folder}
+use Rattle.pl_run.specs.Mail.{Mail, capture_name, packets_at}
 use Rattle.pl_run.specs.Received.{capture_of, received_by}
 use Rattle.pl_run.specs.Saved.{Saving}
 
@@ -27,7 +28,7 @@ captures_from n out journal (host ∷ hosts) =
     record { name = capture_name out host; text = capture_of n journal } ∷ captures_from (n + 1) out journal hosts
 
 abbrev pub journal_name : List ℕ → List ℕ
-journal_name out = file_name out (codes "journal.txt")
+journal_name out = in_folder out (codes "journal.txt")
 
 -- the journal, and the summary on standard output
 abbrev pub last_texts : List ℕ → Plan → List Entry → List ℕ → List Saving

@@ -13,7 +13,8 @@ use Rattle.pl_run.specs.declared.status.Status.{Status}
 use Rattle.pl_run.specs.declared.status.Status.TheVariants as status
 use Rattle.pl_run.specs.declared.status.TopologyReason.TheVariants.{Refused}
 use Rattle.pl_run.specs.Words.{Asked}
-use Rattle.pl_run.specs.Inputs.{AreCaptures, HasLines, HasPlan, IsCaptureAt, IsLoaded, all_bytes, captures_limit, in_folder, lines_of, plan_of, text_limit}
+use Rattle.pl_run.specs.Folders.{in_folder}
+use Rattle.pl_run.specs.Inputs.{AreCaptures, HasLines, HasPlan, IsCaptureAt, IsLoaded, all_bytes, captures_limit, lines_of, plan_of, text_limit}
 
 -- the topology and the script were accepted
 pub record AreTextsRead (held : List ℕ → Held) (asked : Asked) (plan : Plan) : Type 0 where
@@ -47,20 +48,21 @@ pub record IsTooMuch (held : List ℕ → Held) (folder : List ℕ) (hosts : Lis
   pub is : name ≡ in_folder folder file
   pub longer : IsLonger (held name) (captures_limit - all_bytes comes.files)
 
--- the name of a host's capture
-pub record IsCaptureName (folder : List ℕ) (hosts : List Host) (name : List ℕ) : Type 0 where
+-- the name of a host's capture, once those of the hosts before it were accepted
+pub record IsNextCapture (held : List ℕ → Held) (folder : List ℕ) (hosts : List Host) (name : List ℕ) : Type 0 where
   pub n : ℕ
   pub host : Host
+  pub comes : ComesTo held folder hosts n host
   pub file : List ℕ
-  pub stands : slice_get hosts n ≡ Some host
   pub names : host.capture ≡ Some file
   pub is : name ≡ in_folder folder file
 
--- a name that the run reads
+-- a name that the run reads, once all that is read before it was accepted
 abbrev pub IsReadName : (List ℕ → Held) → Asked → List ℕ → Type 0
 IsReadName held asked name =
-    (name ≡ asked.topology) ⊎ (name ≡ asked.script)
-    ⊎ ((plan : Plan) × HasPlan held asked.topology plan × IsCaptureName asked.captures plan.hosts name)
+    (name ≡ asked.topology)
+    ⊎ ((plan : Plan) × HasPlan held asked.topology plan × (name ≡ asked.script))
+    ⊎ ((plan : Plan) × AreTextsRead held asked plan × IsNextCapture held asked.captures plan.hosts name)
 
 -- what is longer than is allowed
 abbrev pub IsLongName : (List ℕ → Held) → Asked → List ℕ → Type 0

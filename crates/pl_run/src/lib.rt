@@ -16,6 +16,7 @@ pub use status::{Status, TopologyReason};
 pub use step::StepReason;
 
 mod asked_laws;
+mod folders;
 mod laws;
 mod loading;
 mod numbers;

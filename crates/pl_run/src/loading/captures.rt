@@ -6,7 +6,8 @@ ghost use Rattle.pl_run.specs.Inputs.{AreCaptures, IsCaptureAt, all_bytes, captu
 ghost use Rattle.pl_run.specs.Loaded.{files_of};
 ghost use Rattle.pl_run.specs.Loads.{Reads};
 
-use crate::loading::named::{in_folder, load_named};
+use crate::folders::in_folder;
+use crate::loading::named::load_named;
 use crate::loading::walk::{Walk, WalkError, read_records};
 use crate::player::Capture;
 use crate::status::Status;

@@ -1,10 +1,9 @@
-ghost use Rattle.std.specs.Prelude.{◌≡◌, IfOk, IfErr, string_bytes};
+ghost use Rattle.std.specs.Prelude.{◌≡◌, IfOk, IfErr};
 ghost use Rattle.pl_shelf.specs.Held.{Same};
-ghost use Rattle.pl_run.specs.Inputs.{IsLoaded, in_folder};
+ghost use Rattle.pl_run.specs.Inputs.{IsLoaded};
 ghost use Rattle.pl_run.specs.Loads.{IsUnloaded, Reads};
 
 use crate::status::Status;
-use pl_frame::Memory;
 use pl_shelf::{Bytes, LoadError, Shelf, load};
 use pl_topology::Name;
 use std::alloc::Global;
@@ -28,19 +27,4 @@ pub(crate) fn load_named<S: Shelf>(
         Err(LoadError::TooLong) => Err(Status::TooLong(name)),
         Err(LoadError::Memory) => Err(Status::OutOfMemory),
     }
-}
-
-/// The name of a file in a folder.
-pub(crate) fn in_folder(alloc: Global, folder: &str, file: &str) -> Result<Name, Memory>
-    ensures { IfOk result (λ name. name ≡ in_folder folder.now file.now) }
-{
-    let text = path(alloc, folder, file)?;
-    Name::copy(alloc, text.as_str())
-}
-
-fn path(alloc: Global, folder: &str, file: &str) -> Result<String, Memory>
-    ensures { IfOk result (λ text. string_bytes text ≡ in_folder folder.now file.now) }
-{
-    let text = format!(in alloc; "{folder}/{file}")?;
-    Ok(text)
 }

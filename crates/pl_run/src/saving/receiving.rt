@@ -4,6 +4,7 @@ ghost use Rattle.pl_run.specs.Mail.{IsEmpty, arrives_at, capture_name, delivered
 ghost use Rattle.pl_run.specs.Numbered.{number_of};
 ghost use Rattle.pl_run.specs.Receipts.{AreReceived, capture_in, captures_from};
 
+use crate::folders::in_folder;
 use crate::saving::inbox::Inbox;
 use crate::saving::receipt::LastLine;
 use pl_core::{Entry, Journal};
@@ -40,11 +41,9 @@ fn empty_inboxes(alloc: Global, out: &str, hosts: &[Host]) -> Result<Vec<Inbox>,
 fn capture_name(alloc: Global, out: &str, host: &Host) -> Result<Name, Memory>
     ensures { IfOk result (λ name. name ≡ capture_name out.now host.now) }
 {
-    let mut text = String::from_str(alloc, out)?;
-    text.push_str("/")?;
-    text.push_str(host.name.text())?;
-    text.push_str(".pcap")?;
-    Name::copy(alloc, text.as_str())
+    let name = &host.name;
+    let file = format!(in alloc; "{name}.pcap")?;
+    in_folder(alloc, out, file.as_str())
 }
 
 /// Goes over a journal once, and puts a receipt of each arrival into the inbox of its host.

@@ -2,6 +2,7 @@ ghost use Rattle.std.specs.Prelude.{◌≡◌, [], IfOk, codes, string_bytes};
 ghost use Rattle.pl_run.specs.Receipts.{journal_name};
 ghost use Rattle.pl_run.specs.Texts.{AreTexts};
 
+use crate::folders::in_folder;
 use crate::printing::Piece;
 use crate::saving::inbox::Inbox;
 use crate::saving::receiving::receive;
@@ -50,7 +51,5 @@ impl Texts {
 fn journal_name(alloc: Global, out: &str) -> Result<Name, Memory>
     ensures { IfOk result (λ name. name ≡ journal_name out.now) }
 {
-    let mut text = String::from_str(alloc, out)?;
-    text.push_str("/journal.txt")?;
-    Name::copy(alloc, text.as_str())
+    in_folder(alloc, out, "journal.txt")
 }

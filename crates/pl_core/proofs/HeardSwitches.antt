@@ -1,5 +1,5 @@
 -- The fabric manager speaks to switches that it heard, and numbers just the addresses that it learns.
-use Rattle.std.proofs.Common.{◌≡◌, ℕ, ◌+◌, ◌||◌, not, Bool, true, false, cond, List, [], ◌∷◌, ◌++◌, map, Option, Some, None, filter_map, flat_map, refl, sym, ap, append-nil, ◌∙◌, subst, inl, inr}
+use Rattle.std.proofs.Common.{◌≡◌, ◌≤◌, arith, ℕ, ◌+◌, ◌||◌, not, Bool, true, false, cond, List, [], ◌∷◌, ◌++◌, map, Option, Some, None, filter_map, flat_map, refl, sym, ap, append-nil, ◌∙◌, subst, inl, inr}
 use Rattle.std.specs.Prelude.{length, unwrap_or}
 use Rattle.std.specs.List.{find, list_all, list_any}
 use Rattle.std.proofs.lemmas.Bool.{and_from, cond_both, eq-eqb, or_cases, or_left, or_right}
@@ -15,7 +15,7 @@ use Rattle.pl_core.specs.declared.messages.ToSwitch.TheVariants as say
 use Rattle.pl_core.specs.declared.messages.ToManager.{ToManager}
 use Rattle.pl_core.specs.declared.messages.ToManager.TheVariants as tell
 use Rattle.pl_core.specs.ManagerViews.{Learnt, ManagerView, Registration, Told, id_cmp, is_heard, lookup, pod_given, newest, registry, switches}
-use Rattle.pl_core.specs.ManagerRule.{AnswersDuly, acts_of, avoid_acts, changed, changed_of_group, groups, answer_to, numbered_by, with_number, same_avoid_list, same_part, invalidation, is_for_heard, learning, manager_hears, manager_rule, reply, tree_acts, tree_acts_of, view_after}
+use Rattle.pl_core.specs.ManagerRule.{AnswersDuly, IsGrown, acts_of, avoid_acts, changed, changed_of_group, groups, answer_to, numbered_by, with_number, same_avoid_list, same_part, invalidation, is_for_heard, learning, manager_hears, manager_rule, reply, tree_acts, tree_acts_of, view_after}
 use Rattle.pl_core.specs.AvoidLists.{avoid_list}
 use Rattle.pl_core.specs.Trees.{tree_part}
 use Rattle.pl_core.proofs.Among.{IsAmong, all_among, among_filter, among_flat_map, among_map, among_ordered, any_among}
@@ -193,6 +193,66 @@ acts_number view s says =
     ∙ ap (λ ns. filter_map numbered_by own ++ ns) (said_numbers_nothing (λ t. say.Avoid (avoid_list after.told t)) (changed view.told after.told))
     ∙ append-nil (filter_map numbered_by own)
 
+learnt_after : (view : ManagerView) (s t : SwitchId) (says : ToManager) → list_any (λ l. same_switch l.switch t) (view_after view s says).learnt ≡ true →
+    (same_switch s t || list_any (λ l. same_switch l.switch t) view.learnt) ≡ true
+learnt_after view s t (tell.Learned pmac amac ip) h = h
+learnt_after view s t (tell.Query asker asker_ip ip) h = or_right (same_switch s t) (list_any (λ l. same_switch l.switch t) view.learnt) h
+learnt_after view s t (tell.Place place) h = or_right (same_switch s t) (list_any (λ l. same_switch l.switch t) view.learnt) h
+learnt_after view s t (tell.Link u usable) h = or_right (same_switch s t) (list_any (λ l. same_switch l.switch t) view.learnt) h
+learnt_after view s t tell.PodWanted h = or_right (same_switch s t) (list_any (λ l. same_switch l.switch t) view.learnt) h
+learnt_after view s t (tell.Members group any) h = or_right (same_switch s t) (list_any (λ l. same_switch l.switch t) view.learnt) h
+
+heard_of_learnt : (view : ManagerView) (s t : SwitchId) → (same_switch s t || list_any (λ l. same_switch l.switch t) view.learnt) ≡ true →
+    (same_switch s t || is_heard view t) ≡ true
+heard_of_learnt view s t h = elim (or_cases (same_switch s t) (list_any (λ l. same_switch l.switch t) view.learnt) h) [
+  | inl now ↦ or_left (same_switch s t) (is_heard view t) now
+  | inr before ↦ or_right (same_switch s t) (is_heard view t)
+      (or_right (list_any (λ c. same_switch c.switch t) view.told) (list_any (λ l. same_switch l.switch t) view.learnt) before)
+]
+
+-- no switch is heard but the speaker
+heard_after : (view : ManagerView) (s t : SwitchId) (says : ToManager) → is_heard (view_after view s says) t ≡ true →
+    (same_switch s t || is_heard view t) ≡ true
+heard_after view s t says h = let after = view_after view s says in
+    elim (or_cases (list_any (λ c. same_switch c.switch t) after.told) (list_any (λ l. same_switch l.switch t) after.learnt) h) [
+      | inl told ↦ heard_of view s t (told_after view s t says told)
+      | inr learnt ↦ heard_of_learnt view s t (learnt_after view s t says learnt)
+    ]
+
+-- one address is learnt at most
+one_more : (learnt : List Learnt) (l : Learnt) → length (registry (l ∷ learnt)) ≤ length (registry learnt) + 1
+one_more learnt l = by (list_any (λ r. same_pmac r.pmac l.pmac) (registry learnt))
+  where
+    by : (b : Bool) →
+        let new : Registration = record { pmac = l.pmac; amac = l.amac; number = length (registry learnt) + 1; switch = l.switch } in
+        length (cond b (registry learnt) (new ∷ registry learnt)) ≤ length (registry learnt) + 1
+    by true = omega arith
+    by false = omega arith
+
+addresses_after : (view : ManagerView) (s : SwitchId) (says : ToManager) →
+    length (registry (view_after view s says).learnt) ≤ length (registry view.learnt) + 1
+addresses_after view s (tell.Learned pmac amac ip) = one_more view.learnt (record { switch = s; pmac = pmac; amac = amac; ip = ip })
+addresses_after view s (tell.Query asker asker_ip ip) = omega arith
+addresses_after view s (tell.Place place) = omega arith
+addresses_after view s (tell.Link u usable) = omega arith
+addresses_after view s tell.PodWanted = omega arith
+addresses_after view s (tell.Members group any) = omega arith
+
+same_k : (view : ManagerView) (s : SwitchId) (says : ToManager) → (view_after view s says).k ≡ view.k
+same_k view s (tell.Learned pmac amac ip) = refl
+same_k view s (tell.Query asker asker_ip ip) = refl
+same_k view s (tell.Place place) = refl
+same_k view s (tell.Link u usable) = refl
+same_k view s tell.PodWanted = refl
+same_k view s (tell.Members group any) = refl
+
+grown : (view : ManagerView) (s : SwitchId) (says : ToManager) → IsGrown view s (view_after view s says)
+grown view s says = record {
+  k = same_k view s says;
+  heard = λ t h. heard_after view s t says h;
+  addresses = addresses_after view s says;
+}
+
 pub manager_answers : AnswersDuly manager_rule
 unfolding manager_hears
 manager_answers = record {
@@ -200,4 +260,5 @@ manager_answers = record {
   numbered = λ before s says after acts h.
       ap (λ v. map with_number (registry v.learnt)) h.0 ∙ reply_numbers before s says
       ∙ ap (λ ns. ns ++ map with_number (registry before.learnt)) (sym (acts_number before s says) ∙ ap (filter_map numbered_by) (sym h.1));
+  grows = λ before s says after acts h. subst (IsGrown before s) (sym h.0) (grown before s says);
 }

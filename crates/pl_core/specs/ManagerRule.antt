@@ -1,5 +1,5 @@
 -- What the fabric manager does when it hears a switch.
-use Rattle.std.specs.Prelude.{◌≡◌, ℕ, ◌+◌, ◌&&◌, ◌||◌, not, Bool, true, false, if◌then◌else◌, List, [], ◌∷◌, ◌++◌, length, map, Option, Some, None, IsTrue, unwrap_or}
+use Rattle.std.specs.Prelude.{◌≡◌, ◌≤◌, ℕ, ◌+◌, ◌&&◌, ◌||◌, not, Bool, true, false, if◌then◌else◌, List, [], ◌∷◌, ◌++◌, length, map, Option, Some, None, IsTrue, unwrap_or}
 use Rattle.std.specs.List.{filter, filter_map, flat_map, list_all, list_any}
 use Rattle.std.specs.Option.{option_or}
 use Rattle.std.specs.Ordering.{nat_cmp, eq_by_cmp}
@@ -133,11 +133,19 @@ abbrev pub numbered_by : ManagerAct → Option (Pmac × ℕ)
 numbered_by (Say to says) = None
 numbered_by (Number pmac n) = Some (pmac, n)
 
--- What any rule of a fabric manager is to keep: it speaks to switches that it heard, and it says the number of just the addresses that it
--- learns.
+-- With one message it hears of no switch but the speaker, and learns one address at most.
+pub record IsGrown (before : ManagerView) (s : SwitchId) (after : ManagerView) : Type 0 where
+  pub k : after.k ≡ before.k
+  pub heard : (t : SwitchId) → IsTrue (is_heard after t) → IsTrue (same_switch s t || is_heard before t)
+  pub addresses : length (registry after.learnt) ≤ length (registry before.learnt) + 1
+
+-- What any rule of a fabric manager is to keep: it speaks to switches that it heard, it says the number of just the addresses that it
+-- learns, and what it knows grows with what it hears.
 pub record AnswersDuly (rule : ManagerRule) : Type 0 where
   pub heard : (before : ManagerView) (s : SwitchId) (says : ToManager) (after : ManagerView) (acts : List ManagerAct) →
       rule before s says after acts → IsTrue (list_all (is_for_heard before s) acts)
   pub numbered : (before : ManagerView) (s : SwitchId) (says : ToManager) (after : ManagerView) (acts : List ManagerAct) →
       rule before s says after acts →
       map with_number (registry after.learnt) ≡ filter_map numbered_by acts ++ map with_number (registry before.learnt)
+  pub grows : (before : ManagerView) (s : SwitchId) (says : ToManager) (after : ManagerView) (acts : List ManagerAct) →
+      rule before s says after acts → IsGrown before s after

@@ -1,0 +1,4 @@
+pub mod Holding
+pub mod Finding
+pub mod Releasing
+pub mod Stepping

@@ -1,0 +1,4 @@
+pub mod Carried
+pub mod Owners
+pub mod Waiting
+pub mod Host

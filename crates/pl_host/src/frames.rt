@@ -1,0 +1,56 @@
+ghost use Rattle.std.specs.Prelude.{◌≡◌, IfOk};
+ghost use Rattle.pl_core.specs.ArpFrames.{arp_frame};
+ghost use Rattle.pl_core.specs.HostRule.{reply_frame, request_frame};
+ghost use Rattle.pl_core.specs.Reports.{membership_frame};
+
+use crate::carried::Carried;
+use byteorder::{BigEndian, ByteOrder};
+use pl_arp::{Arp, Me, REQUEST};
+use pl_core::{Change, Memory};
+use pl_frame::{Ip4, Mac, TYPE_ARP};
+use pl_multicast::write_igmp;
+use std::alloc::Global;
+
+/// The request by which a host asks all others who has an IPv4 address.
+pub(crate) fn request(alloc: Global, me: Me, ip: Ip4) -> Result<Carried, Memory>
+    ensures { IfOk result (λ frame. frame ≡ request_frame me ip) }
+{
+    let arp = Arp {
+        op: REQUEST,
+        sha: me.mac,
+        spa: me.ip,
+        tha: Mac([0; 6]),
+        tpa: ip,
+    };
+    Carried::copy(alloc, &arp_frame(Mac::BROADCAST, &arp))
+}
+
+/// A reply in a frame to its target.
+pub(crate) fn reply(alloc: Global, arp: &Arp) -> Result<Carried, Memory>
+    ensures { IfOk result (λ frame. frame ≡ reply_frame arp.now) }
+{
+    Carried::copy(alloc, &arp_frame(arp.tha, arp))
+}
+
+/// The frame by which a host joins or leaves a group.
+pub(crate) fn membership(alloc: Global, me: Me, change: Change) -> Result<Carried, Memory>
+    ensures { IfOk result (λ frame. frame ≡ membership_frame me change) }
+{
+    Carried::copy(alloc, &write_igmp(me, change))
+}
+
+// A packet in a frame of its sender.
+#[tactic(auto, unfolding(pl_core::specs::ArpFrames::arp_frame))]
+fn arp_frame(to: Mac, arp: &Arp) -> [u8; 42]
+    ensures { result ≡ arp_frame to arp.now }
+{
+    let mut frame = [0; 42];
+    let (dst, rest) = frame.split_at_mut(6);
+    let (src, rest) = rest.split_at_mut(6);
+    let (kind, payload) = rest.split_at_mut(2);
+    dst.copy_from_slice(&to.0);
+    src.copy_from_slice(&arp.sha.0);
+    BigEndian::write_u16(kind, TYPE_ARP);
+    payload.copy_from_slice(&pl_arp::write(arp));
+    frame
+}

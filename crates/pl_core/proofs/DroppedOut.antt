@@ -14,7 +14,7 @@ use Rattle.pl_core.specs.Delivering.{destination}
 use Rattle.pl_core.specs.DropCauses.{CauseHolds, HasNoPlace, came_in, first_drop, is_for_members, known_source}
 use Rattle.pl_core.specs.Forwarding.{Choice, candidates_by, forwards, leaves_by}
 use Rattle.pl_core.specs.Granting.{is_local}
-use Rattle.pl_core.specs.GroupForwarding.{forwards_group, group_number, group_ports, no_way, passes_or_drops, way_of}
+use Rattle.pl_core.specs.GroupForwarding.{forwards_group, destination_group, group_ports, no_way, passes_or_drops, way_of}
 use Rattle.pl_core.specs.Memberships.{flood, group_of, is_group}
 use Rattle.pl_core.specs.SwitchRule.{IsChoice}
 use Rattle.pl_core.specs.SwitchViews.{SwitchView}
@@ -72,18 +72,18 @@ pub forwards_group_drops : (v : SwitchView) (port : ℕ) (frame : List ℕ) (cam
     IsSentOn v port frame came sent → is_group (destination_of sent) ≡ true →
     first_drop (forwards_group v came sent).acts ≡ Some cause → CauseHolds v port frame cause
 forwards_group_drops v port frame came sent cause on group drop =
-    let number : group_number sent ≡ group_number frame = ap number_to on.same_end in
-    let left = not_passed (group_ports v (way_of v.place came) (group_number sent) (pmac_of (source_of sent))) sent
-    (no_way v came (group_number sent)) cause drop in
+    let number : destination_group sent ≡ destination_group frame = ap number_to on.same_end in
+    let left = not_passed (group_ports v (way_of v.place came) (destination_group sent) (pmac_of (source_of sent))) sent
+    (no_way v came (destination_group sent)) cause drop in
     no_place_holds v port frame (is_for_members v port frame) cause
     (record {
       group = ap is_group (sym on.same_end) ∙ group;
-      places = ap (λ c. group_ports v (way_of v.place c) (group_number frame) (known_source v port frame)) on.came_so
+      places = ap (λ c. group_ports v (way_of v.place c) (destination_group frame) (known_source v port frame)) on.came_so
           ∙ ap (λ g. group_ports v (way_of v.place came) g (known_source v port frame)) (sym number)
-          ∙ ap (group_ports v (way_of v.place came) (group_number sent)) (sym on.known_so) ∙ left.0;
+          ∙ ap (group_ports v (way_of v.place came) (destination_group sent)) (sym on.known_so) ∙ left.0;
       for_members = refl;
     })
-    (ap (λ c. no_way v c (group_number frame)) on.came_so ∙ ap (no_way v came) (sym number) ∙ left.1)
+    (ap (λ c. no_way v c (destination_group frame)) on.came_so ∙ ap (no_way v came) (sym number) ∙ left.1)
 
 -- a unicast frame of that kind
 pub no_way_holds : (v : SwitchView) (port : ℕ) (frame : List ℕ) (came : Option Came) (sent : List ℕ) (cause : Cause) →

@@ -13,7 +13,7 @@ use Rattle.pl_core.specs.declared.came.Way.TheVariants.{Down, Nowhere, ToHosts, 
 use Rattle.pl_core.specs.declared.cause.Cause.{Cause}
 use Rattle.pl_core.specs.declared.cause.Cause.TheVariants.{NoNextHop}
 use Rattle.pl_core.specs.Forwarding.{Choice, candidates, candidates_by, forwards, is_candidate, leaves_by}
-use Rattle.pl_core.specs.GroupForwarding.{at_most_one, forwards_group, group_number, group_ports, no_way, passes_or_drops, way_of}
+use Rattle.pl_core.specs.GroupForwarding.{at_most_one, forwards_group, destination_group, group_ports, no_way, passes_or_drops, way_of}
 use Rattle.pl_core.specs.Intake.{takes}
 use Rattle.pl_core.specs.Accounting.{IsFit, IsMade, IsSent, IsShaped, speech}
 use Rattle.pl_core.specs.Accounting.Speech.{Passed}
@@ -116,5 +116,5 @@ passes_end v (p ∷ ports) frame cause shaped below made = record {
 pub forwards_group_ends : (v : SwitchView) (came : Option Came) (frame : List ℕ) → IsShaped v → IsMade frame →
     IsEnding v (forwards_group v came frame)
 forwards_group_ends v came frame shaped made =
-    passes_end v (group_ports v (way_of v.place came) (group_number frame) (pmac_of (source_of frame))) frame (no_way v came (group_number frame)) shaped
-    (group_below v (way_of v.place came) (group_number frame) (pmac_of (source_of frame))) made
+    passes_end v (group_ports v (way_of v.place came) (destination_group frame) (pmac_of (source_of frame))) frame (no_way v came (destination_group frame)) shaped
+    (group_below v (way_of v.place came) (destination_group frame) (pmac_of (source_of frame))) made

@@ -17,10 +17,10 @@ use Rattle.pl_arp.specs.declared.cache.Me.{Me}
 use Rattle.pl_arp.specs.Packet.{layout}
 use Rattle.pl_core.specs.declared.membership.Change.{Change}
 use Rattle.pl_core.specs.Checksum.{checksum_of}
-use Rattle.pl_core.specs.Memberships.{change_if_routed, changes_in, changes_of, header_length, is_membership, is_routed_group, message_changes}
+use Rattle.pl_core.specs.Memberships.{change_if_routed, changes_in, changes_of, group_number, header_length, is_membership, is_routed_group, message_changes}
 use Rattle.pl_core.specs.Reports.{group_mac, header_of, header_with, message_of_change, message_with}
 use Rattle.pl_core.specs.Lossy.{joined_after}
-use Rattle.pl_core.specs.HostViews.{group_number, groups_after, groups_after_change, has_group, ip_cmp, without_group}
+use Rattle.pl_core.specs.HostViews.{groups_after, groups_after_change, has_group, ip_cmp, without_group}
 use Rattle.pl_core.specs.HostRule.{joined_by, report_frame}
 use Rattle.pl_core.specs.ArpFrames.{arp_frame}
 

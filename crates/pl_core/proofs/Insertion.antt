@@ -33,11 +33,6 @@ module _ {K : Type 0} where
   all_at P (y ∷ ys) zero d a h = a.0
   all_at P (y ∷ ys) (suc k) d a h = all_at P ys k d a.1 (omega arith)
 
--- the place for an item is one of the list or its end
-pub place_within : (r : Result ℕ ℕ) (n : ℕ) → IsSearchInRange r n → IfErr r (λ i. i ≤ n)
-place_within (Ok i) n h = tt
-place_within (Err i) n h = h
-
 module _ {K : Type 0} {R : K → K → Ordering} (o : IsTotalOrder R) where
   greater_back : (x y : K) → R x y ≡ Less → R y x ≡ Greater
   greater_back x y e = o.antisymm y x ∙ ap ordering_reverse e

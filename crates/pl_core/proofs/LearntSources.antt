@@ -16,7 +16,7 @@ use Rattle.pl_core.specs.declared.neighbour.PortRecord.{PortRecord}
 use Rattle.pl_core.specs.declared.place.Place.{Place}
 use Rattle.pl_core.specs.Accounting.{IsShaped}
 use Rattle.pl_core.specs.Granting.{address_at_port, forgets, grant_number, grants_at, grants_next, grants_or_learns, grants_remembered, grants_source, has_no_address, in_use, is_port_spent, learns_ip, learns_source, new_grant, remembered_at, remembers, same_ip, sender_ip, with_grant, with_grants}
-use Rattle.pl_core.specs.Intake.{changes_member, group_told, groups_of, has_members, hears_members}
+use Rattle.pl_core.specs.Intake.{changes_member, group_told, groups_of, has_member_of, hears_members}
 use Rattle.pl_core.specs.Equality.{same_mac}
 use Rattle.pl_core.specs.Levels.{becomes_edge, changes_to, finds_host, has_become_placed, settles_in}
 use Rattle.pl_core.specs.Memberships.{changes_in}
@@ -241,7 +241,7 @@ finds_then_served v port frame shaped within =
 
 tells_group : (old new : List Member) (group : ℕ) → AllGoOn (group_told old new group)
 tells_group old new group =
-    go_on_if (are_alike (has_members old group) (has_members new group)) [] (Tell (Members group (has_members new group)) ∷ []) tt (tt, tt)
+    go_on_if (are_alike (has_member_of old group) (has_member_of new group)) [] (Tell (Members group (has_member_of new group)) ∷ []) tt (tt, tt)
 
 pub hears_members_on : (v : SwitchView) (port : ℕ) (frame : List ℕ) → AllGoOn (hears_members v port frame).acts
 hears_members_on v port frame =

@@ -10,7 +10,7 @@ use Rattle.pl_core.specs.declared.acts.Act.TheVariants.{Tell}
 use Rattle.pl_core.specs.declared.messages.ToManager.TheVariants.{Members}
 use Rattle.pl_core.specs.declared.messages.TreePart.{TreePart}
 use Rattle.pl_core.specs.declared.trap.Trap.{Trap}
-use Rattle.pl_core.specs.Intake.{asks_manager, changes_member, group_told, groups_of, groups_told, has_members, hears_members, is_member, members_become, packet_acts, query, source_pmac, with_members}
+use Rattle.pl_core.specs.Intake.{asks_manager, changes_member, group_told, groups_of, groups_told, has_member_of, hears_members, is_member, members_become, packet_acts, query, source_pmac, with_members}
 use Rattle.pl_core.specs.Accounting.{HasMac, IsShaped}
 use Rattle.pl_core.specs.Levels.{changes_to, with_pod}
 use Rattle.pl_core.specs.Memberships.{changes_in}
@@ -48,7 +48,7 @@ quiet_with_part v group part s = quiet_rests v (record v { parts = with_part gro
 
 tells_group : (k : ℕ) (old new : List Member) (group : ℕ) → AreQuiet k (group_told old new group)
 tells_group k old new group =
-    quiet_if k (are_alike (has_members old group) (has_members new group)) [] (Tell (Members group (has_members new group)) ∷ []) tt (tt, tt)
+    quiet_if k (are_alike (has_member_of old group) (has_member_of new group)) [] (Tell (Members group (has_member_of new group)) ∷ []) tt (tt, tt)
 
 pub same_with_members : (v : SwitchView) (members : List Member) → IsShaped v → IsSame v (with_members v members)
 same_with_members v members s = same_but v v.place v.attempt v.proposed v.granted members s

@@ -14,7 +14,7 @@ use Rattle.pl_core.specs.Delivering.{addresses, destination, last_trap, trap_for
 use Rattle.pl_core.specs.Forwarding.{came_by, candidates_by}
 use Rattle.pl_core.specs.Frames.{is_arp, packet_in}
 use Rattle.pl_core.specs.Granting.{granted, has_no_address, is_local, is_port_spent, learns_source}
-use Rattle.pl_core.specs.GroupForwarding.{group_number, group_ports, is_on_its_way_down, part_of, way_of}
+use Rattle.pl_core.specs.GroupForwarding.{destination_group, group_ports, is_on_its_way_down, part_of, way_of}
 use Rattle.pl_core.specs.Intake.{mac_of_pmac, source_pmac}
 use Rattle.pl_core.specs.Levels.{finds_host}
 use Rattle.pl_core.specs.Memberships.{flood, is_group}
@@ -60,12 +60,12 @@ known_source v port frame =
 
 -- the ports by which a frame to a group would leave
 abbrev pub places : SwitchView → ℕ → List ℕ → List ℕ
-places v port frame = group_ports v (way_of v.place (came_in v port)) (group_number frame) (known_source v port frame)
+places v port frame = group_ports v (way_of v.place (came_in v port)) (destination_group frame) (known_source v port frame)
 
 -- a frame of a routed group of which no part is known, or that is on its way down
 abbrev pub is_for_members : SwitchView → ℕ → List ℕ → Bool
 is_for_members v port frame =
-    not (group_number frame == flood) && (is_none (part_of v (group_number frame)) || is_on_its_way_down v (came_in v port))
+    not (destination_group frame == flood) && (is_none (part_of v (destination_group frame)) || is_on_its_way_down v (came_in v port))
 
 -- a frame to a group has nowhere to go
 pub record HasNoPlace (v : SwitchView) (port : ℕ) (frame : List ℕ) (members : Bool) : Type 0 where

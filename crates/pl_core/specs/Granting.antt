@@ -82,9 +82,6 @@ grants_or_learns v port amac ip (Some vmid) =
     learns_ip v (address_at_port v port vmid) (grant_number (grants_at v port) vmid) ip
 grants_or_learns v port amac ip None = if is_port_spent v port then rests v else grants_next v port amac ip
 
-abbrev pub is_same_source : Mac → Source → Bool
-is_same_source amac source = same_mac source.amac amac
-
 -- the IPv4 address that a remembered source gave
 abbrev pub remembered_ip : Option Source → Mac → Option Ip4
 remembered_ip None amac = None

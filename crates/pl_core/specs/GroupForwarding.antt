@@ -94,10 +94,11 @@ abbrev pub passes_or_drops : List ℕ → List ℕ → Cause → List Act
 passes_or_drops [] frame cause = Drop cause ∷ []
 passes_or_drops (port ∷ ports) frame cause = map (λ p. Pass p frame) (port ∷ ports)
 
-abbrev pub group_number : List ℕ → ℕ
-group_number frame = unwrap_or (group_of (destination_of frame)) flood
+-- the group that a frame goes to
+abbrev pub destination_group : List ℕ → ℕ
+destination_group frame = unwrap_or (group_of (destination_of frame)) flood
 
 -- A frame to a group leaves by each of these ports; behind the first they are copies.
 abbrev pub forwards_group : SwitchView → Option Came → List ℕ → SwitchStep
-forwards_group v came frame = let group = group_number frame in
+forwards_group v came frame = let group = destination_group frame in
     does v (passes_or_drops (group_ports v (way_of v.place came) group (pmac_of (source_of frame))) frame (no_way v came group))

@@ -1,5 +1,5 @@
 -- What a host knows.
-use Rattle.std.specs.Prelude.{ℕ, ◌%◌, ◌^◌, ◌==◌, ◌&&◌, not, nat_le, nat_lt, is_none, length, true, IsTrue, Bool, List, [], ◌∷◌, ◌++◌, filter, fold, sum_by, if◌then◌else◌, unwrap_or}
+use Rattle.std.specs.Prelude.{ℕ, ◌==◌, ◌&&◌, not, nat_le, nat_lt, is_none, length, true, IsTrue, Bool, List, [], ◌∷◌, ◌++◌, filter, fold, sum_by, if◌then◌else◌, unwrap_or}
 use Rattle.std.specs.List.{list_all, list_any}
 use Rattle.std.specs.Map.{keys_of, lookup}
 use Rattle.std.specs.declared.cmp.Ordering.{Ordering}
@@ -10,7 +10,7 @@ use Rattle.pl_frame.specs.declared.address.Ip4.{Ip4}
 use Rattle.pl_arp.specs.declared.cache.Me.{Me}
 use Rattle.pl_arp.specs.Reception.{Table, hardware_of, same_ip}
 use Rattle.pl_core.specs.declared.membership.Change.{Change}
-use Rattle.pl_core.specs.Memberships.{changes_in}
+use Rattle.pl_core.specs.Memberships.{changes_in, group_number}
 
 -- the frames that wait for the hardware address of an IPv4 address, by rising address; those of one address in the order in which they
 -- were played, and none empty
@@ -35,10 +35,6 @@ boot_host me table = record { me = me; table = table; cache = []; joined = []; h
 -- IPv4 addresses rise as numbers do
 abbrev pub ip_cmp : Ip4 → Ip4 → Ordering
 ip_cmp a b = nat_cmp a.0 b.0
-
--- a group's number is the low 23 bits of its address, and groups with one number are one group
-abbrev pub group_number : Ip4 → ℕ
-group_number group = group.0 % 2 ^ 23
 
 -- whether a group with this number is among the joined ones
 abbrev pub has_group : List Ip4 → ℕ → Bool

@@ -1,5 +1,5 @@
 -- What an edge switch does with a frame of a host at one of its ports.
-use Rattle.std.specs.Prelude.{ℕ, ◌%◌, ◌^◌, ◌==◌, ◌&&◌, ◌||◌, not, Bool, false, if◌then◌else◌, List, [], ◌∷◌, ◌++◌, Option, Some, None, is_some, is_none, fold}
+use Rattle.std.specs.Prelude.{ℕ, ◌==◌, ◌&&◌, ◌||◌, not, Bool, false, if◌then◌else◌, List, [], ◌∷◌, ◌++◌, Option, Some, None, is_some, is_none, fold}
 use Rattle.std.specs.List.{filter, flat_map, list_any}
 use Rattle.std.specs.BTreeSet.{insert_key}
 use Rattle.std.specs.Ordering.{match_ordering, nat_cmp}
@@ -21,7 +21,7 @@ use Rattle.pl_core.specs.Frames.{arriving, is_arp, mac_number, packet_in}
 use Rattle.pl_core.specs.Granting.{address_at_port, grants_at, has_no_address, in_use, is_local, learns_source}
 use Rattle.pl_core.specs.GroupForwarding.{forwards_group}
 use Rattle.pl_core.specs.Levels.{finds_host}
-use Rattle.pl_core.specs.Memberships.{changes_in, is_group, membership_in}
+use Rattle.pl_core.specs.Memberships.{changes_in, group_number, is_group, membership_in}
 use Rattle.pl_core.specs.Places.{are_alike}
 use Rattle.pl_core.specs.PortRecords.{is_known, is_placed}
 use Rattle.pl_core.specs.Steps.{SwitchStep, does, ◌▹◌}
@@ -40,10 +40,6 @@ member_cmp a b = then_by (nat_cmp a.group b.group) (then_by (nat_cmp a.port b.po
 abbrev pub is_member : ℕ → Mac → Member → Bool
 is_member port amac m = (m.port == port) && same_mac m.amac amac
 
--- the group's number: the low 23 bits of its address
-abbrev pub number_of_group : Change → ℕ
-number_of_group change = change.group.0 % 2 ^ 23
-
 abbrev pub joins : ℕ → Mac → ℕ → List Member → List Member
 joins port amac group members = insert_key member_cmp members (record { group = group; port = port; amac = amac })
 
@@ -52,13 +48,13 @@ leaves port amac group members = filter (λ m. not ((m.group == group) && is_mem
 
 abbrev pub changes_member : ℕ → Mac → List Member → Change → List Member
 changes_member port amac members change =
-    if change.join then joins port amac (number_of_group change) members else leaves port amac (number_of_group change) members
+    if change.join then joins port amac (group_number change.group) members else leaves port amac (group_number change.group) members
 
 abbrev pub with_members : SwitchView → List Member → SwitchView
 with_members v members = record v { members = members }
 
-abbrev pub has_members : List Member → ℕ → Bool
-has_members members group = list_any (λ m. m.group == group) members
+abbrev pub has_member_of : List Member → ℕ → Bool
+has_member_of members group = list_any (λ m. m.group == group) members
 
 -- the groups of these members, rising
 abbrev pub groups_of : List Member → List ℕ
@@ -66,7 +62,7 @@ groups_of members = fold (λ groups m. insert_key nat_cmp groups m.group) [] mem
 
 abbrev pub group_told : List Member → List Member → ℕ → List Act
 group_told old new group =
-    if are_alike (has_members old group) (has_members new group) then [] else Tell (Members group (has_members new group)) ∷ []
+    if are_alike (has_member_of old group) (has_member_of new group) then [] else Tell (Members group (has_member_of new group)) ∷ []
 
 -- the manager is told of each group whose members became some or none, by rising group
 abbrev pub groups_told : List Member → List Member → List Act

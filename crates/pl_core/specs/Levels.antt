@@ -1,10 +1,11 @@
 -- How a switch learns its level and its pod, from evidence alone.
-use Rattle.std.specs.Prelude.{ℕ, ◌==◌, ◌&&◌, ◌||◌, not, Bool, true, false, if◌then◌else◌, List, [], ◌∷◌, Option, Some, None, is_some, is_none}
+use Rattle.std.specs.Prelude.{ℕ, ◌==◌, ◌&&◌, ◌||◌, not, Bool, true, false, if◌then◌else◌, Option, Some, None, is_some, is_none}
 use Rattle.std.specs.List.{filter_map, list_any}
 use Rattle.pl_frame.specs.declared.address.SwitchId.{SwitchId}
 use Rattle.pl_core.specs.declared.control.Ldm.{Ldm}
 use Rattle.pl_core.specs.declared.neighbour.PortRecord.{PortRecord}
 use Rattle.pl_core.specs.declared.place.Place.{Place}
+use Rattle.pl_core.specs.Flights.{first_of}
 use Rattle.pl_core.specs.Granting.{grants_remembered}
 use Rattle.pl_core.specs.Positions.{notes_position}
 use Rattle.pl_core.specs.PortRecords.{heard_place, is_known, is_placed, port_of, ports_of_switch, with_port}
@@ -83,12 +84,8 @@ hears_message v port id m = changes_to v (after_message v port id m)
 abbrev pub told_pod : PortRecord → Option ℕ
 told_pod r = if is_known (heard_place r.heard).level 1 then (heard_place r.heard).pod else None
 
-abbrev pub first_or : List ℕ → Option ℕ
-first_or [] = None
-first_or (x ∷ xs) = Some x
-
 abbrev pub pod_told_before : SwitchView → Option ℕ
-pod_told_before v = first_or (filter_map told_pod v.ports)
+pod_told_before v = first_of (filter_map told_pod v.ports)
 
 abbrev pub becomes_edge : SwitchView → SwitchView
 becomes_edge v =

@@ -1,6 +1,7 @@
 -- Group membership in a frame (RFC 1112, RFC 2236, RFC 3376).
 use Rattle.std.specs.Prelude.{ℕ, ◌+◌, ◌*◌, ◌/◌, ◌%◌, ◌^◌, zero, suc, ◌==◌, ◌&&◌, ◌||◌, not, nat_lt, nat_le, Bool, true, false, if◌then◌else◌, List, [], ◌∷◌, ◌++◌, length, drop, slice_index, Option, Some, None}
 use Rattle.byteorder.specs.Endian.{big_number}
+use Rattle.pl_frame.specs.declared.address.Ip4.{Ip4}
 use Rattle.pl_frame.specs.declared.address.Mac.{Mac}
 use Rattle.pl_frame.specs.Ethernet.{kind_of, payload_of}
 use Rattle.pl_core.specs.declared.membership.Change.{Change}
@@ -43,6 +44,10 @@ abbrev pub membership_in : List ℕ → Option (List ℕ)
 membership_in frame = let payload = payload_of frame in let message = drop (header_length payload) payload in
     if has_ipv4 frame && (slice_index payload 9 == 2) && nat_le 8 (length message) && is_membership (slice_index message 0) then Some message
     else None
+
+-- a group's number is the low 23 bits of its address, and groups with one number are one group
+abbrev pub group_number : Ip4 → ℕ
+group_number group = group.0 % 2 ^ 23
 
 -- 224.0.0.0 to 239.255.255.255, with a number (the low 23 bits) from 256 on
 abbrev pub is_routed_group : ℕ → Bool

@@ -58,5 +58,5 @@ abbrev pub holder_of : SwitchView → ℕ → Option (SwitchId × Bool)
 holder_of v position = option_map holder_and_mark (hold_at v position)
 
 -- group number n, rising, of those of which a part is known
-abbrev pub group_at : SwitchView → ℕ → Option ℕ
-group_at v n = option_map (λ part. part.0) (slice_get v.parts n)
+abbrev pub group_of_part : SwitchView → ℕ → Option ℕ
+group_of_part v n = option_map (λ part. part.0) (slice_get v.parts n)

@@ -18,12 +18,12 @@ abbrev pub serves : List Told → List SwitchId → SwitchId → Bool
 serves told needed a = list_any (is_alive told a) needed
 
 -- whether an alive aggregation link and an alive edge link lead from a core switch to an edge switch
-abbrev pub is_reached : List Told → SwitchId → SwitchId → Bool
-is_reached told core e = list_any (λ a. is_alive told a e) (alive_at_level told core 1)
+abbrev pub core_reaches : List Told → SwitchId → SwitchId → Bool
+core_reaches told core e = list_any (λ a. is_alive told a e) (alive_at_level told core 1)
 
 -- how many needed edge switches a core switch reaches
 abbrev pub reach : List Told → List SwitchId → SwitchId → ℕ
-reach told needed core = length (filter (is_reached told core) needed)
+reach told needed core = length (filter (core_reaches told core) needed)
 
 -- the switches that told that they are core switches, by rising id
 abbrev pub cores : List Told → List SwitchId

@@ -1,4 +1,4 @@
-ghost use Rattle.std.specs.Prelude.{◌≡◌, ◌↔◌, ◌≤◌, [], IfOk, IfErr, IsTrue, OnOk, OnErr, is_ok, length, slice_get};
+ghost use Rattle.std.specs.Prelude.{◌≡◌, ◌↔◌, ◌≤◌, [], IfErr, IsTrue, OnOk, OnErr, is_ok, length, slice_get};
 ghost use Rattle.std.specs.BTreeSet.{insert_key};
 ghost use Rattle.std.specs.List.{insert, list_any};
 ghost use Rattle.std.specs.List.Sorted.{IsStrictlySortedBy};
@@ -76,15 +76,18 @@ impl<T: Ord> Rising<T> {
         self.search(item).is_ok()
     }
 
-    // Where an item is, or where it would go.
-    fn search(&self, item: &T) -> Result<usize, usize>
-        ensures found { IfOk result (λ n. insert_key T.cmp self.now item.now ≡ self.now) }
+    // That an item is there, or else where it would go.
+    fn search(&self, item: &T) -> Result<(), usize>
+        ensures found { OnOk result (insert_key T.cmp self.now item.now ≡ self.now) }
         ensures bound { IfErr result (λ n. n ≤ length self.now) }
         ensures missed { IfErr result (λ n. insert self.now n item.now ≡ insert_key T.cmp self.now item.now) }
         ensures member { is_ok result ≡ list_any (λ x. is_eq (T.cmp item.now x)) self.now }
         ensures rising { IsStrictlySortedBy T.cmp (insert_key T.cmp self.now item.now) }
     {
-        self.items.binary_search(item)
+        match self.items.binary_search(item) {
+            Ok(_) => Ok(()),
+            Err(place) => Err(place),
+        }
     }
 }
 
@@ -96,7 +99,7 @@ impl<T: Ord + Drop> Rising<T> {
     {
         match self.search(&item) {
             Err(place) => Ok(self.items.insert(place, item)?),
-            Ok(_) => Ok(()),
+            Ok(()) => Ok(()),
         }
     }
 }

@@ -5,7 +5,7 @@ ghost use Rattle.pl_core.specs.Gains.{Gains};
 ghost use Rattle.pl_core.specs.GroupForwarding.{part_of};
 ghost use Rattle.pl_core.specs.Accounting.{AccountsForFrames, IsComing, IsWithin};
 ghost use Rattle.pl_core.specs.PortRecords.{port_of};
-ghost use Rattle.pl_core.specs.SwitchFacts.{CanBoot, IsAnnounced, group_at, has_granted, holder_of, present_attempt, switch_at_boot};
+ghost use Rattle.pl_core.specs.SwitchFacts.{CanBoot, IsAnnounced, group_of_part, has_granted, holder_of, present_attempt, switch_at_boot};
 ghost use Rattle.pl_core.specs.SwitchRule.{Loose, SwitchRule};
 ghost use Rattle.pl_core.specs.SwitchRule.SwitchInput.{Comes, Says, Tick};
 ghost use Rattle.pl_core.specs.SwitchViews.{SwitchView};
@@ -65,7 +65,7 @@ pub trait SwitchFacts: Drop {
 
     /// Group number n, rising, of those of which a part is known; none past the last.
     fn group(&self, n: usize) -> Option<u32>
-        ensures { result ≡ group_at (view self.now) n };
+        ensures { result ≡ group_of_part (view self.now) n };
 }
 
 /// The software of a switch: what it does with what comes. Each call is one step, and puts its acts

@@ -1,7 +1,8 @@
 ghost use Rattle.std.specs.Prelude.{◌≡◌, [], ◌++◌, OnOk, map};
 ghost use Rattle.pl_core.specs.declared.acts.HostAct.TheVariants.{Send};
 ghost use Rattle.pl_core.specs.HostRule.{report_frame};
-ghost use Rattle.pl_core.specs.HostViews.{group_number, groups_after, groups_after_change, has_group, without_group};
+ghost use Rattle.pl_core.specs.HostViews.{groups_after, groups_after_change, has_group, without_group};
+ghost use Rattle.pl_core.specs.Memberships.{group_number};
 
 use crate::carried::Carried;
 use crate::frames::membership;

@@ -1,0 +1,5 @@
+pub mod Places
+pub mod WordBits
+pub mod Marks
+pub mod Banks
+pub mod Counting

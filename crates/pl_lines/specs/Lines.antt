@@ -1,0 +1,30 @@
+-- What a bank of queues is: the queue at a place, and the next queue that has items.
+use Rattle.std.specs.Prelude.{◌≡◌, ℕ, ◌-◌, Bool, true, false, List, [], ◌∷◌, ◌++◌, length, Option, None, Some, slice_index_or, slice_set, refl}
+use Rattle.std.specs.List.{find, range_with_len}
+
+-- the first place that passes, of those from `from` on that are below n
+abbrev pub next_place : (ℕ → Bool) → ℕ → ℕ → Option ℕ
+next_place test n from = find test (range_with_len from (n - from))
+
+-- the queue at a place; past the last it is empty
+abbrev pub line_at : {T : Type 0} → List (List T) → ℕ → List T
+line_at lines at = slice_index_or lines at []
+
+-- an item is put behind the others of a queue
+abbrev pub put_at : {T : Type 0} → List (List T) → ℕ → T → List (List T)
+put_at lines at item = slice_set lines at (line_at lines at ++ item ∷ [])
+
+-- whether a queue has items
+abbrev pub has_items : {T : Type 0} → List T → Bool
+has_items [] = false
+has_items (x ∷ xs) = true
+
+-- the first place from `from` on whose queue has items
+abbrev pub next_filled : {T : Type 0} → List (List T) → ℕ → Option ℕ
+next_filled lines from = next_place (λ at. has_items (line_at lines at)) (length lines) from
+
+-- from place 1 on, the queue at 3 is the next that has items, and from 4 on there is none
+pub the_next_queue_with_items_is_found
+    : (next_filled {T = ℕ} ((7 ∷ []) ∷ [] ∷ [] ∷ (8 ∷ 9 ∷ []) ∷ [] ∷ []) 1 ≡ Some 3)
+    × (next_filled {T = ℕ} ((7 ∷ []) ∷ [] ∷ [] ∷ (8 ∷ 9 ∷ []) ∷ [] ∷ []) 4 ≡ None)
+the_next_queue_with_items_is_found = (refl, refl)

@@ -1,0 +1,117 @@
+ghost use Rattle.std.specs.Prelude.{◌≡◌, IfOk};
+ghost use Rattle.pl_core.specs.HostRule.{start_frame};
+ghost use Rattle.pl_core.specs.HostViews.{boot_host};
+ghost use Rattle.pl_sample.specs.Duties.{joins_no_group, sends_data};
+ghost use Rattle.pl_sample.specs.Sending.{SendsOneFrame};
+
+use byteorder::{BigEndian, ByteOrder};
+use pl_arp::{Arp, Me, REQUEST};
+use pl_core::{HostAct, HostCore, HostOutbox, HostTable, Items, Memory, Reception, Skip};
+use pl_frame::{Frame, Ip4, Mac, TYPE_ARP};
+use std::alloc::Global;
+
+/// A host that sends one frame when it starts, the ARP request for its own address. It plays no
+/// recorded frame, keeps what arrives, and never knows more than at boot.
+#[derive(Drop)]
+pub struct OneFrame {
+    alloc: Global,
+    me: Me,
+    table: HostTable,
+}
+
+fn copied(alloc: Global, table: &HostTable) -> Result<HostTable, Memory>
+    ensures { IfOk result (λ copy. copy ≡ table.now) }
+{
+    let mut copy = Items::new(alloc);
+    for me in table.as_slice() {
+        copy.push(*me)?;
+    }
+    Ok(copy)
+}
+
+// The request of a host for its own address (RFC 826), to all.
+#[tactic(auto, unfolding(pl_core::specs::ArpFrames::arp_frame))]
+fn start_frame(me: Me) -> [u8; 42]
+    ensures { result ≡ start_frame me }
+{
+    let arp = Arp {
+        op: REQUEST,
+        sha: me.mac,
+        spa: me.ip,
+        tha: Mac([0; 6]),
+        tpa: me.ip,
+    };
+    let mut frame = [0; 42];
+    let (dst, rest) = frame.split_at_mut(6);
+    let (src, rest) = rest.split_at_mut(6);
+    let (kind, payload) = rest.split_at_mut(2);
+    dst.copy_from_slice(&Mac::BROADCAST.0);
+    src.copy_from_slice(&me.mac.0);
+    BigEndian::write_u16(kind, TYPE_ARP);
+    payload.copy_from_slice(&pl_arp::write(&arp));
+    frame
+}
+
+impl HostCore for OneFrame {
+    ghost view = { λ host. boot_host host.me host.table };
+
+    ghost rule = { SendsOneFrame };
+
+    ghost sends = { sends_data };
+
+    ghost joins = { joins_no_group };
+
+    fn boot(alloc: Global, me: Me, table: &HostTable) -> Result<OneFrame, Memory> {
+        Ok(OneFrame {
+            alloc,
+            me,
+            table: copied(alloc, table)?,
+        })
+    }
+
+    fn start(&mut self, out: &mut HostOutbox) -> Result<(), Memory> {
+        out.push(HostAct::Send(Frame::copy(self.alloc, &start_frame(self.me))?))
+    }
+
+    fn retry(&mut self, _out: &mut HostOutbox) -> Result<(), Memory> {
+        Ok(())
+    }
+
+    fn moved(&mut self, _out: &mut HostOutbox) -> Result<(), Memory> {
+        Ok(())
+    }
+
+    fn play(
+        &mut self,
+        _frame: &[u8],
+        _original: u32,
+        _out: &mut HostOutbox,
+    ) -> Result<Option<Skip>, Memory> {
+        Ok(Some(Skip::HoldFull))
+    }
+
+    fn raw(
+        &mut self,
+        _frame: &[u8],
+        _original: u32,
+        _out: &mut HostOutbox,
+    ) -> Result<Option<Skip>, Memory> {
+        Ok(Some(Skip::HoldFull))
+    }
+
+    fn join(&mut self, _group: Ip4, _out: &mut HostOutbox) -> Result<(), Memory> {
+        Ok(())
+    }
+
+    fn leave(&mut self, _group: Ip4, _out: &mut HostOutbox) -> Result<(), Memory> {
+        Ok(())
+    }
+
+    fn receive(&mut self, _frame: &[u8], _out: &mut HostOutbox) -> Result<Reception, Memory> {
+        Ok(Reception::Kept)
+    }
+
+    fn held(&self) -> u64 {
+        0
+    }
+}

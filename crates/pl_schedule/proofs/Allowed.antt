@@ -1,0 +1,141 @@
+-- What an event that is not refused has: what it names is there, and what it takes from is not empty.
+use Rattle.std.proofs.Common.{◌≡◌, ℕ, ◌<◌, ◌==◌, ◌&&◌, not, nat_lt, length, Bool, true, false, Option, Some, None, if◌then◌else◌, ◌+◌, nat_le, slice_get, refl, sym, ◌∙◌, subst, arith}
+use Rattle.std.proofs.lemmas.Bool.{and_parts}
+use Rattle.std.proofs.lemmas.Bool.Decides.{nat_tests}
+use Rattle.pl_frame.specs.declared.address.SwitchId.{SwitchId}
+use Rattle.pl_topology.specs.Labels.{switch_count}
+use Rattle.pl_topology.specs.Plan.{Plan}
+use Rattle.pl_core.specs.declared.event.Event.{Event}
+use Rattle.pl_core.specs.HostRule.{HostRule}
+use Rattle.pl_core.specs.ManagerFacts.{CanHear}
+use Rattle.pl_core.specs.ManagerRule.{ManagerRule}
+use Rattle.pl_core.specs.Places.{is_host_port}
+use Rattle.pl_core.specs.SwitchRule.{SwitchRule}
+use Rattle.pl_topology.specs.Peers.{peer_of}
+use Rattle.pl_topology.specs.declared.label.SwitchNo.{SwitchNo}
+use Rattle.pl_schedule.specs.declared.error.StepError.{StepError}
+use Rattle.pl_schedule.specs.declared.error.StepError.TheVariants.{AlreadySo, JournalFull, NoSuch, Occupied, StepsSpent}
+use Rattle.pl_schedule.specs.Changes.{host_at}
+use Rattle.pl_schedule.specs.Flying.{IsAtPort, IsCounted}
+use Rattle.pl_schedule.specs.Hearing.{IsWithinHearing}
+use Rattle.pl_schedule.specs.Refusals.{has_host, has_port, is_for_hosts, is_full, is_linked, refusal, refusal_of_event, refusal_of_move, refusal_of_place, refusal_of_queue, unless_there}
+use Rattle.pl_schedule.specs.WorldRule.{Happens, WorldStep}
+use Rattle.pl_schedule.specs.Worlds.{WorldView}
+use Rattle.pl_schedule.proofs.Hearing.{can_hear_each}
+use Rattle.pl_schedule.proofs.StepBalances.{event_is_not_refused, same_refusal}
+
+is_there : (b : Bool) → unless_there b ≡ None → b ≡ true
+is_there true e = refl
+is_there false e = absurd (cc)
+
+below : (n m : ℕ) → nat_lt n m ≡ true → n < m
+below n m e = grind (arith, nat_tests)
+
+pub there_within : (n m : ℕ) → unless_there (nat_lt n m) ≡ None → n < m
+there_within n m e = below n m (is_there (nat_lt n m) e)
+
+-- a queue that is named is there, and has items
+queue_there : (there empty : Bool) → refusal_of_queue there empty ≡ None → (there ≡ true) × (empty ≡ false)
+queue_there true true e = absurd (cc)
+queue_there true false e = (refl, refl)
+queue_there false empty e = absurd (cc)
+
+pub has_some : (there empty : Bool) → refusal_of_queue there empty ≡ None → empty ≡ false
+has_some there empty e = (queue_there there empty e).1
+
+pub queue_within : (n m : ℕ) (empty : Bool) → refusal_of_queue (nat_lt n m) empty ≡ None → n < m
+queue_within n m empty e = below n m (queue_there (nat_lt n m) empty e).0
+
+pub port_is : (plan : Plan) (s port : ℕ) → has_port plan s port ≡ true → (s < switch_count plan.k) × (port < plan.k)
+port_is plan s port e = let both = and_parts (nat_lt s (switch_count plan.k)) (nat_lt port plan.k) e in (below s (switch_count plan.k) both.0, below port plan.k both.1)
+
+pub queue_port : (plan : Plan) (s port : ℕ) (empty : Bool) → refusal_of_queue (has_port plan s port) empty ≡ None → (s < switch_count plan.k) × (port < plan.k)
+queue_port plan s port empty e = port_is plan s port (queue_there (has_port plan s port) empty e).0
+
+pub linked_port : (plan : Plan) (s port : ℕ) (empty : Bool) → refusal_of_queue (is_linked plan s port) empty ≡ None → (s < switch_count plan.k) × (port < plan.k)
+linked_port plan s port empty e =
+    port_is plan s port (and_parts (has_port plan s port) (not (is_host_port (peer_of plan s port))) (queue_there (is_linked plan s port) empty e).0).0
+
+chosen : (b : Bool) (x : Option StepError) (e : StepError) → (if b then x else Some e) ≡ None → b ≡ true
+chosen true x e h = refl
+chosen false x e h = absurd (cc)
+
+moves_there : (w : WorldView) (h s port : ℕ) → refusal_of_move w h s port ≡ None → (has_host w.plan h ≡ true) × (is_for_hosts w.plan s port ≡ true)
+moves_there w h s port e =
+    and_parts (has_host w.plan h) (is_for_hosts w.plan s port)
+    (chosen (has_host w.plan h && is_for_hosts w.plan s port) (refusal_of_place h (host_at w s port)) NoSuch e)
+
+-- none but the host itself may stand there, and it may not either
+free_from : (h : ℕ) (there : Option ℕ) → refusal_of_place h there ≡ None → there ≡ None
+free_from h None e = refl
+free_from h (Some other) e = elim (other == h) as (λ b. (if b then Some AlreadySo else Some Occupied) ≡ None → Some other ≡ None) [
+  | true ↦ λ f. absurd (cc)
+  | false ↦ λ f. absurd (cc)
+] e
+
+chosen_is : (b : Bool) (x : Option StepError) (e : StepError) → (if b then x else Some e) ≡ None → x ≡ None
+chosen_is true x e h = h
+chosen_is false x e h = absurd (cc)
+
+pub port_free : (w : WorldView) (h s port : ℕ) → refusal_of_move w h s port ≡ None → host_at w s port ≡ None
+port_free w h s port e =
+    free_from h (host_at w s port)
+    (chosen_is (has_host w.plan h && is_for_hosts w.plan s port) (refusal_of_place h (host_at w s port)) NoSuch e)
+
+pub mover_there : (w : WorldView) (h s port : ℕ) → refusal_of_move w h s port ≡ None → h < length w.plan.hosts
+mover_there w h s port e = below h (length w.plan.hosts) (moves_there w h s port e).0
+
+pub port_there : (w : WorldView) (h : ℕ) (s : SwitchNo) (port : ℕ) → refusal_of_move w h s.0 port ≡ None →
+    IsAtPort w.plan.k (record { edge = s; port = port })
+port_there w h s port e =
+    let is = port_is w.plan s.0 port (and_parts (has_port w.plan s.0 port) (is_host_port (peer_of w.plan s.0 port)) (moves_there w h s.0 port e).1).0 in
+    record { edge = is.0; port = is.1 }
+
+-- ---- a step that is not refused
+not_both : (b : Bool) (rest : Option StepError) → (if b then Some StepsSpent else rest) ≡ None → b ≡ false
+not_both true rest h = absurd (cc)
+not_both false rest h = refl
+
+pub not_spent : (w : WorldView) (e : Event) → refusal w e ≡ None → nat_le w.limits.steps w.steps ≡ false
+not_spent w e none = not_both (nat_le w.limits.steps w.steps) (if is_full w then Some JournalFull else refusal_of_event w e) none
+
+module _ (old mid : WorldView) (counted_up : mid ≡ record old { steps = old.steps + 1 }) where
+  pub still_counted : IsCounted old → IsCounted mid
+  still_counted is = subst IsCounted (sym counted_up) (record {
+    formed = record {
+      plan = is.formed.plan;
+      links = is.formed.links;
+      stands = is.formed.stands;
+      at_ports = is.formed.at_ports;
+      heard = is.formed.heard;
+      switches = is.formed.switches;
+      ports = is.formed.ports;
+      hosts = is.formed.hosts;
+      from_hosts = is.formed.from_hosts;
+      out = is.formed.out;
+      to_manager = is.formed.to_manager;
+      from_manager = is.formed.from_manager;
+    };
+    shaped = is.shaped;
+    holding = is.holding;
+    in_host_queues = is.in_host_queues;
+    in_port_queues = is.in_port_queues;
+    begun = is.begun;
+    flights = is.flights;
+  })
+
+  pub still_allowed : (e : Event) → refusal old e ≡ None → refusal_of_event mid e ≡ None
+  still_allowed e none = subst (λ w. refusal_of_event w e ≡ None) (sym counted_up) (same_refusal old e ∙ event_is_not_refused old e none)
+
+  pub hears_each : (e : Event) → IsCounted old → IsWithinHearing old → refusal old e ≡ None →
+      (s : ℕ) (id : SwitchId) → slice_get mid.plan.ids s ≡ Some id → CanHear mid.manager id
+  hears_each e is within none = subst (λ (w : WorldView). ((s : ℕ) (id : SwitchId) → slice_get w.plan.ids s ≡ Some id → CanHear w.manager id)) (sym counted_up)
+      (can_hear_each old.plan old.manager old.steps is.formed.plan within.within
+      (let below = not_spent old e none in let few = within.few_steps in let less : old.steps < old.limits.steps = not_le old.limits.steps old.steps below in omega arith))
+    where
+      not_le : (a b : ℕ) → nat_le a b ≡ false → b < a
+      not_le a b h = grind (arith, nat_tests)
+
+  pub step_made : (switch : SwitchRule) (manager : ManagerRule) (host : HostRule) (e : Event) (new : WorldView) →
+      Happens switch manager host mid e new → WorldStep switch manager host old e new
+  step_made switch manager host e new happens = subst (λ w. Happens switch manager host w e new) counted_up happens

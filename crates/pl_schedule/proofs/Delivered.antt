@@ -1,0 +1,63 @@
+-- The head of a queue was taken, and then it came where it goes to.
+use Rattle.std.proofs.Common.{◌≡◌, ℕ, List, [], ◌∷◌, Some, slice_get, false, sym, subst}
+use Rattle.std.specs.List.{AllByRecursion}
+use Rattle.pl_frame.specs.declared.address.SwitchId.{SwitchId}
+use Rattle.pl_topology.specs.declared.link.Peer.{Peer}
+use Rattle.pl_topology.specs.Index.{place_of}
+use Rattle.pl_topology.specs.Peers.{peer_of}
+use Rattle.pl_core.specs.declared.messages.ToManager.{ToManager}
+use Rattle.pl_core.specs.declared.messages.ToSwitch.{ToSwitch}
+use Rattle.pl_core.specs.HostRule.{HostRule}
+use Rattle.pl_core.specs.ManagerFacts.{CanHear}
+use Rattle.pl_core.specs.ManagerRule.{ManagerRule}
+use Rattle.pl_core.specs.SwitchRule.{SwitchRule}
+use Rattle.pl_core.specs.SwitchRule.SwitchInput.{Says}
+use Rattle.pl_schedule.specs.declared.item.Item.{Item}
+use Rattle.pl_schedule.specs.declared.speech.Speech.TheVariants.{Silent}
+use Rattle.pl_schedule.specs.Changes.{out_of}
+use Rattle.pl_schedule.specs.Flying.{IsItem}
+use Rattle.pl_schedule.specs.Heads.{IsTakenFromHost, IsTakenFromManager, IsTakenOut, IsTakenToManager}
+use Rattle.pl_lines.specs.Lines.{line_at}
+use Rattle.pl_schedule.specs.LinksAndMoves.{item_lost}
+use Rattle.pl_schedule.specs.Refusals.{is_none_left}
+use Rattle.pl_schedule.specs.WorldRule.{ComesIn, ComesOver, DeliversFromHost, DeliversFromManager, DeliversOut, DeliversToManager, Loses, ManagerMoves, SwitchMoves}
+use Rattle.pl_schedule.specs.Worlds.{WorldView}
+use Rattle.pl_schedule.proofs.Balances.{head_is_item}
+
+-- a queue with a head is not empty
+pub not_empty : {T : Type 0} (items : List T) → items ≡ [] → is_none_left items ≡ false → ⊥
+not_empty [] empty there = absurd (cc)
+not_empty (x ∷ items) empty there = absurd (cc)
+
+pub host_item : (w mid : WorldView) (h : ℕ) (item : Item) → IsTakenFromHost w h mid item → AllByRecursion (AllByRecursion IsItem) w.from_hosts → IsItem item
+host_item w mid h item taken all = head_is_item w.from_hosts h item taken.items taken.head all
+
+pub out_item : (w mid : WorldView) (s port : ℕ) (item : Item) → IsTakenOut w s port mid item → AllByRecursion (AllByRecursion IsItem) w.out → IsItem item
+out_item w mid s port item taken all = head_is_item w.out (place_of w.plan.k s port) item taken.items taken.head all
+
+pub host_delivered : (rule : SwitchRule) (w mid new : WorldView) (h : ℕ) (item : Item) → IsTakenFromHost w h mid item →
+    ComesIn rule mid h item (slice_get mid.stands h) new → DeliversFromHost rule w h (line_at w.from_hosts h) new
+host_delivered rule w mid new h item taken comes =
+    rw taken.head (subst (λ m. ComesIn rule m h item (slice_get m.stands h) new) taken.left comes)
+
+pub out_delivered : (switch : SwitchRule) (host : HostRule) (w mid new : WorldView) (s port : ℕ) (item : Item) (peer : Peer) → IsTakenOut w s port mid item →
+    peer ≡ peer_of w.plan s port → ComesOver switch host mid s port item peer new → DeliversOut switch host w s port (out_of w s port) new
+out_delivered switch host w mid new s port item peer taken is comes =
+    rw (taken.head, ← is) (subst (λ m. ComesOver switch host m s port item peer new) taken.left comes)
+
+pub told_delivered : (rule : ManagerRule) (w mid new : WorldView) (s : ℕ) (told : ToManager) → IsTakenToManager w s mid told →
+    ManagerMoves rule mid s told new → DeliversToManager rule w s (line_at w.to_manager s) new
+told_delivered rule w mid new s told taken moves = rw taken.head (subst (λ m. ManagerMoves rule m s told new) taken.left moves)
+
+pub said_delivered : (rule : SwitchRule) (w mid new : WorldView) (s : ℕ) (says : ToSwitch) → IsTakenFromManager w s mid says →
+    SwitchMoves rule mid s (Says says) Silent new → DeliversFromManager rule w s (line_at w.from_manager s) new
+said_delivered rule w mid new s says taken moves = rw taken.head (subst (λ m. SwitchMoves rule m s (Says says) Silent new) taken.left moves)
+
+pub head_lost : (w mid new : WorldView) (s port : ℕ) (item : Item) → IsTakenOut w s port mid item → new ≡ item_lost mid item → Loses w s port (out_of w s port) new
+head_lost w mid new s port item taken is = rw taken.head (subst (λ m. new ≡ item_lost m item) taken.left is)
+
+-- the manager still can hear the switch
+pub still_hears : (w mid : WorldView) (s : ℕ) (told : ToManager) → IsTakenToManager w s mid told →
+    ((id : SwitchId) → slice_get w.plan.ids s ≡ Some id → CanHear w.manager id) → (id : SwitchId) → slice_get mid.plan.ids s ≡ Some id → CanHear mid.manager id
+still_hears w mid s told taken can =
+    subst (λ (m : WorldView). ((id : SwitchId) → slice_get m.plan.ids s ≡ Some id → CanHear m.manager id)) (sym taken.left) can

@@ -1,0 +1,24 @@
+-- What is asked of a world from outside.
+use Rattle.std.specs.Prelude.{ℕ, if◌then◌else◌, length, Option, Some, None}
+use Rattle.pl_core.specs.declared.entry.Entry.{Entry}
+use Rattle.pl_core.specs.declared.entry.Entry.TheVariants.{Line, Settled, Unsettled}
+use Rattle.pl_core.specs.declared.event.QueueName.{QueueName}
+use Rattle.pl_core.specs.declared.event.QueueName.TheVariants as queue
+use Rattle.pl_schedule.specs.Changes.{out_of}
+use Rattle.pl_lines.specs.Lines.{line_at}
+use Rattle.pl_schedule.specs.Refusals.{has_host, has_port, has_switch}
+use Rattle.pl_schedule.specs.Worlds.{WorldView}
+
+-- how many items wait in a queue, if the wiring has it
+abbrev pub queue_len : WorldView → QueueName → Option ℕ
+queue_len w (queue.FromHost h) = if has_host w.plan h.0 then Some (length (line_at w.from_hosts h.0)) else None
+queue_len w (queue.Port s port) = if has_port w.plan s.0 port then Some (length (out_of w s.0 port)) else None
+queue_len w (queue.ToManager s) = if has_switch w.plan s.0 then Some (length (line_at w.to_manager s.0)) else None
+queue_len w (queue.FromManager s) = if has_switch w.plan s.0 then Some (length (line_at w.from_manager s.0)) else None
+
+-- what a script writes of itself: a line of it, or how a settling ended
+abbrev pub IsMark : Entry → Type 0
+IsMark (Line n) = Unit {0}
+IsMark (Settled rounds) = Unit {0}
+IsMark (Unsettled pending) = Unit {0}
+IsMark entry = ⊥

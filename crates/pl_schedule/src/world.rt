@@ -1,0 +1,199 @@
+ghost use Rattle.std.specs.Prelude.{◌≡◌, ◌<◌, ◌+◌, [], length, IfOk, OnOk};
+ghost use Rattle.pl_topology.specs.Index.{place_of};
+ghost use Rattle.pl_topology.specs.Labels.{switch_count};
+ghost use Rattle.pl_schedule.specs.Changes.{all_noted, begun_by, host_of, is_failed_at, noted, said_to_switch, sent_if_live, told_manager};
+ghost use Rattle.pl_schedule.specs.SwitchActs.{granted};
+
+use crate::atlas::Atlas;
+use crate::book::Book;
+use crate::counting::{Says, Told};
+use crate::stands::Stands;
+use crate::switches::Switches;
+use crate::{Item, Limits};
+use pl_core::{
+    Entry, HostCore, Journal, ManagerCore, Memory, Queue, SwitchCore, ToManager, ToSwitch,
+};
+use pl_frame::{Mac, SwitchId};
+use pl_lines::{CountedLines, Lines};
+use pl_pmac::Pmac;
+use pl_topology::{LinkStates, Peer, SwitchNo, Wiring};
+use std::alloc::{AllocError, Global};
+use std::marker::Model;
+
+/// The switches, hosts and manager of a fabric, the queues between them, and the journal of all that
+/// befell its frames. Contracts see it as a `WorldView` (`specs/Worlds.antt`).
+#[derive(Drop)]
+pub struct World<S: SwitchCore, M: ManagerCore, H: HostCore> {
+    alloc: Global,
+    atlas: Atlas,
+    links: LinkStates,
+    stands: Stands,
+    heard: Vec<Option<u32>>,
+    switches: Switches<S>,
+    manager: M,
+    hosts: Vec<H>,
+    from_hosts: Lines<Item>,
+    to_manager: CountedLines<Told>,
+    from_manager: CountedLines<Says>,
+    book: Book,
+    begun: u64,
+    steps: u64,
+    limits: Limits,
+}
+
+impl<S: SwitchCore, M: ManagerCore, H: HostCore> Model for World<S, M, H> {
+    ghost use Rattle.std.specs.Prelude.{map};
+    ghost use Rattle.pl_schedule.specs.Flying.{IsFormed};
+    ghost use Rattle.pl_schedule.specs.Worlds.{WorldView};
+
+    ghost Value = { WorldView };
+
+    ghost view = { λ w. record {
+      plan = w.atlas;
+      links = w.links;
+      stands = w.stands;
+      heard = w.heard.items;
+      switches = w.switches.switches;
+      manager = M.view w.manager;
+      hosts = map H.view w.hosts.items;
+      from_hosts = w.from_hosts;
+      out = w.switches.out;
+      to_manager = w.to_manager;
+      from_manager = w.from_manager;
+      journal = w.book;
+      begun = w.begun;
+      steps = w.steps;
+      limits = w.limits;
+    } };
+
+    ghost invariant = { λ w. IsFormed (view w) };
+}
+
+impl<S: SwitchCore, M: ManagerCore, H: HostCore> World<S, M, H> {
+    pub fn journal(&self) -> &Journal
+        ensures { result.now ≡ self.now.journal }
+    {
+        self.book.journal()
+    }
+
+    pub fn steps(&self) -> u64
+        ensures { result ≡ self.now.steps }
+    {
+        self.steps
+    }
+
+    pub fn wiring(&self) -> &Wiring
+        ensures { result.now ≡ self.now.plan }
+    {
+        self.atlas.wiring()
+    }
+
+    pub fn links(&self) -> &LinkStates
+        ensures { result.now ≡ self.now.links }
+    {
+        &self.links
+    }
+
+    fn note(&mut self, entry: Entry) -> Result<(), Memory>
+        ensures { OnOk result (self.new ≡ noted self.old entry) }
+    {
+        self.book.write(entry)
+    }
+
+    // Whether the port has a link, and that is failed.
+    fn is_failed_at(&self, s: SwitchNo, port: u8) -> bool
+        requires switch { s.0 < switch_count self.now.plan.k }
+        requires port { port < self.now.plan.k }
+        ensures { result ≡ is_failed_at self.now s.0 port }
+    {
+        match self.atlas.wiring().peer(s, port) {
+            Peer::HostPort => false,
+            Peer::Switch(..) => !self.links.live(s, port),
+        }
+    }
+
+    // The place of a port's queue.
+    fn place_out(&self, s: SwitchNo, port: u8) -> usize
+        requires switch { s.0 < switch_count self.now.plan.k }
+        requires port { port < self.now.plan.k }
+        ensures place { result ≡ place_of self.now.plan.k s.0 port }
+        ensures within { result < length self.now.out }
+    {
+        let k = self.atlas.wiring().k();
+        s.0 as usize * k as usize + port as usize
+    }
+
+    fn send_out(&mut self, s: SwitchNo, port: u8, item: Item) -> Result<(), Memory>
+        requires switch { s.0 < switch_count self.old.plan.k }
+        requires port { port < self.old.plan.k }
+        ensures { OnOk result (self.new ≡ sent_if_live self.old s.0 port item) }
+    {
+        if self.is_failed_at(s, port) {
+            return Ok(());
+        }
+        let place = self.place_out(s, port);
+        self.switches.put(place, item)
+    }
+
+    fn tell(&mut self, s: SwitchNo, told: ToManager) -> Result<(), Memory>
+        requires { s.0 < switch_count self.old.plan.k }
+        ensures { OnOk result (self.new ≡ told_manager self.old s.0 told) }
+    {
+        self.to_manager.put(s.0 as usize, Told::new(told))
+    }
+
+    fn say(&mut self, to: SwitchId, says: ToSwitch) -> Result<(), Memory>
+        ensures { OnOk result (self.new ≡ said_to_switch self.old to says) }
+    {
+        match self.atlas.switch_with(to) {
+            None => Ok(()),
+            Some(s) => self.from_manager.put(s.0 as usize, Says::new(says)),
+        }
+    }
+
+    // An address is granted, which the journal says where a host has that hardware address.
+    fn grant(&mut self, s: SwitchNo, pmac: Pmac, amac: Mac) -> Result<(), Memory>
+        ensures { OnOk result (self.new ≡ granted self.old s.0 pmac (host_of self.old.plan amac)) }
+    {
+        match self.atlas.host_with(amac) {
+            None => Ok(()),
+            Some(h) => self.note(Entry::Granted(pmac, h, s, pmac.port)),
+        }
+    }
+
+    // The number of the next frame.
+    fn next_number(&self) -> Result<u64, Memory>
+        ensures { IfOk result (λ n. n ≡ self.now.begun + 1) }
+    {
+        self.begun.checked_add(1).ok_or(AllocError)
+    }
+
+    // A frame begins under the next number.
+    fn begin(&mut self, number: u64, entry: Entry) -> Result<(), Memory>
+        requires { number ≡ self.old.begun + 1 }
+        ensures { OnOk result (self.new ≡ begun_by self.old entry) }
+    {
+        self.book.write(entry)?;
+        self.begun = number;
+        Ok(())
+    }
+
+    fn note_all(&mut self, entries: &mut Queue<Entry>) -> Result<(), Memory>
+        ensures { OnOk result ((self.new ≡ all_noted self.old entries.old) × (entries.new ≡ [])) }
+    {
+        while let Some(entry) = entries.take_first() {
+            self.note(entry)?;
+        }
+        Ok(())
+    }
+}
+
+mod acts;
+mod boot;
+mod deliver;
+mod failures;
+mod happen;
+mod look;
+mod refusing;
+mod step;
+mod steps;

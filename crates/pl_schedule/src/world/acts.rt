@@ -1,0 +1,178 @@
+ghost use Rattle.std.specs.Prelude.{◌≡◌, ◌<◌, [], OnOk};
+ghost use Rattle.std.specs.List.{AllByRecursion};
+ghost use Rattle.pl_topology.specs.Labels.{switch_count};
+ghost use Rattle.pl_core.specs.declared.entry.Entry.TheVariants as entry;
+ghost use Rattle.pl_core.specs.Accounting.{IsFit};
+ghost use Rattle.pl_schedule.specs.SwitchActs.{act_done, acts_done, amid, crossed_again, ended, goes_out, made, passed, place_noted, redirected, with_late};
+
+use crate::Item;
+use crate::aside::Aside;
+use crate::speech::Speech;
+use crate::world::World;
+use pl_core::{Act, Cause, Entry, HostCore, ManagerCore, Memory, Outbox, Place, SwitchCore};
+use pl_frame::Frame;
+use pl_pmac::Pmac;
+use pl_topology::SwitchNo;
+
+impl<S: SwitchCore, M: ManagerCore, H: HostCore> World<S, M, H> {
+    // What one act of a switch brings about.
+    fn do_act(&mut self, s: SwitchNo, act: Act, aside: &mut Aside) -> Result<(), Memory>
+        requires switch { s.0 < switch_count self.old.plan.k }
+        requires fit { IsFit self.old.plan.k act }
+        ensures done { OnOk result (amid self.new aside.new ≡ act_done s.0 (amid self.old aside.old) act) }
+        ensures plan { OnOk result (self.new.plan ≡ self.old.plan) }
+    {
+        match act {
+            Act::Control(port, frame) => self.send_out(s, port, Item::Control(frame)),
+            Act::Tell(told) => self.tell(s, told),
+            Act::Grant { pmac, amac } => self.grant(s, pmac, amac),
+            Act::Make(frame) => self.make(s, frame, aside),
+            Act::Redirect { old, new } => self.redirect(old, new, aside),
+            Act::Pass(port, frame) => self.pass(s, port, frame, aside),
+            Act::Take => self.take(s, aside),
+            Act::Drop(cause) => self.end(s, cause, aside),
+        }
+    }
+
+    fn make(&mut self, s: SwitchNo, frame: Frame, aside: &mut Aside) -> Result<(), Memory>
+        ensures done { OnOk result (amid self.new aside.new ≡ made s.0 (amid self.old aside.old) frame) }
+        ensures plan { OnOk result (self.new.plan ≡ self.old.plan) }
+    {
+        self.note_all(&mut aside.late)?;
+        let number = self.next_number()?;
+        self.begin(number, Entry::Made(number, s, frame))?;
+        self.note(Entry::Crossed(number, s))?;
+        aside.speech = Speech::Waiting(number, false);
+        Ok(())
+    }
+
+    fn redirect(&mut self, old: Pmac, new: Pmac, aside: &mut Aside) -> Result<(), Memory>
+        ensures done { OnOk result (amid self.new aside.new ≡ redirected (amid self.old aside.old) old new aside.old.speech) }
+        ensures plan { OnOk result (self.new.plan ≡ self.old.plan) }
+    {
+        match aside.speech {
+            Speech::Waiting(number, _) => {
+                self.note(Entry::Redirected(number, old, new))?;
+                aside.speech = Speech::Waiting(number, true);
+                Ok(())
+            }
+            _ => Ok(()),
+        }
+    }
+
+    // A frame that was redirected crosses the switch once more before it goes on, or ends.
+    fn cross_again(&mut self, s: SwitchNo, number: u64, again: bool) -> Result<(), Memory>
+        ensures { OnOk result (self.new ≡ crossed_again self.old s.0 number again) }
+    {
+        if again {
+            self.note(Entry::Crossed(number, s))?;
+        }
+        Ok(())
+    }
+
+    fn pass(&mut self, s: SwitchNo, port: u8, frame: Frame, aside: &mut Aside) -> Result<(), Memory>
+        requires switch { s.0 < switch_count self.old.plan.k }
+        requires port { port < self.old.plan.k }
+        ensures done { OnOk result (amid self.new aside.new ≡ passed s.0 (amid self.old aside.old) port frame aside.old.speech) }
+        ensures plan { OnOk result (self.new.plan ≡ self.old.plan) }
+    {
+        match aside.speech {
+            Speech::Waiting(number, again) => {
+                self.cross_again(s, number, again)?;
+                self.go_out(s, number, port, frame, aside)
+            }
+            Speech::Passed(number) => {
+                let copy = self.next_number()?;
+                self.begin(copy, Entry::Copied(number, copy))?;
+                self.go_out(s, copy, port, frame, aside)?;
+                aside.speech = Speech::Passed(number);
+                Ok(())
+            }
+            _ => Ok(()),
+        }
+    }
+
+    // The frame leaves by a port; where the link is failed it ends there.
+    fn go_out(
+        &mut self,
+        s: SwitchNo,
+        number: u64,
+        port: u8,
+        frame: Frame,
+        aside: &mut Aside,
+    ) -> Result<(), Memory>
+        requires switch { s.0 < switch_count self.old.plan.k }
+        requires port { port < self.old.plan.k }
+        ensures done { OnOk result (amid self.new aside.new ≡ goes_out s.0 (amid self.old aside.old) number port frame) }
+        ensures plan { OnOk result (self.new.plan ≡ self.old.plan) }
+    {
+        if self.is_failed_at(s, port) {
+            aside.late.push(Entry::Dropped(number, Cause::LinkDown))?;
+        }
+        self.send_out(s, port, Item::Data(number, frame))?;
+        aside.speech = Speech::Passed(number);
+        Ok(())
+    }
+
+    fn take(&mut self, s: SwitchNo, aside: &mut Aside) -> Result<(), Memory>
+        ensures done { OnOk result (amid self.new aside.new ≡ ended s.0 (amid self.old aside.old) (λ id. entry.Taken id s) aside.old.speech) }
+        ensures plan { OnOk result (self.new.plan ≡ self.old.plan) }
+    {
+        match aside.speech {
+            Speech::Waiting(number, again) => {
+                self.cross_again(s, number, again)?;
+                self.note(Entry::Taken(number, s))?;
+                aside.speech = Speech::Over;
+                Ok(())
+            }
+            _ => Ok(()),
+        }
+    }
+
+    fn end(&mut self, s: SwitchNo, cause: Cause, aside: &mut Aside) -> Result<(), Memory>
+        ensures done { OnOk result (amid self.new aside.new ≡ ended s.0 (amid self.old aside.old) (λ id. entry.Dropped id cause) aside.old.speech) }
+        ensures plan { OnOk result (self.new.plan ≡ self.old.plan) }
+    {
+        match aside.speech {
+            Speech::Waiting(number, again) => {
+                self.cross_again(s, number, again)?;
+                self.note(Entry::Dropped(number, cause))?;
+                aside.speech = Speech::Over;
+                Ok(())
+            }
+            _ => Ok(()),
+        }
+    }
+
+    fn do_acts(&mut self, s: SwitchNo, acts: &mut Outbox, aside: &mut Aside) -> Result<(), Memory>
+        requires switch { s.0 < switch_count self.old.plan.k }
+        requires fit { AllByRecursion (IsFit self.old.plan.k) acts.old }
+        ensures done { OnOk result (amid self.new aside.new ≡ acts_done s.0 (amid self.old aside.old) acts.old) }
+    {
+        while let Some(act) = acts.take_first() {
+            self.do_act(s, act, aside)?;
+        }
+        Ok(())
+    }
+
+    // All that a step of a switch brings about, once it has another view.
+    pub(crate) fn finish(
+        &mut self,
+        s: SwitchNo,
+        old: Place,
+        new: Place,
+        acts: &mut Outbox,
+        aside: &mut Aside,
+    ) -> Result<(), Memory>
+        requires switch { s.0 < switch_count self.old.plan.k }
+        requires fit { AllByRecursion (IsFit self.old.plan.k) acts.old }
+        ensures { OnOk result (self.new ≡ place_noted s.0 old new (with_late (acts_done s.0 (amid self.old aside.old) acts.old))) }
+    {
+        self.do_acts(s, acts, aside)?;
+        self.note_all(&mut aside.late)?;
+        if old != new {
+            self.note(Entry::Placed(s, new))?;
+        }
+        Ok(())
+    }
+}

@@ -1,0 +1,181 @@
+ghost use Rattle.std.specs.Prelude.{◌≡◌, ◌<◌, ◌≤◌, ◌*◌, All, length, map, replicate, slice_get, None, Some, IfOk};
+ghost use Rattle.pl_topology.specs.Labels.{switch_count};
+ghost use Rattle.pl_core.specs.HostViews.{boot_host};
+ghost use Rattle.pl_core.specs.ManagerViews.{booted_manager};
+ghost use Rattle.pl_core.specs.SwitchFacts.{switch_at_boot};
+ghost use Rattle.pl_schedule.specs.Booting.{CanBegin, all_live, booted, me_of};
+ghost use Rattle.pl_schedule.specs.Flying.{IsCounted};
+ghost use Rattle.pl_schedule.specs.Hearing.{IsWithinHearing};
+ghost use Rattle.pl_schedule.specs.Pending.{first_switches};
+
+use crate::Limits;
+use crate::atlas::Atlas;
+use crate::book::Book;
+use crate::stands::Stands;
+use crate::switches::Switches;
+use crate::world::World;
+use pl_arp::Me;
+use pl_core::{HostCore, HostTable, Items, ManagerCore, Memory, SwitchCore};
+use pl_lines::{CountedLines, Lines};
+use pl_topology::{Host, LinkStates, SwitchNo, Wiring};
+use std::alloc::Global;
+
+impl<S: SwitchCore, M: ManagerCore, H: HostCore> World<S, M, H> {
+    /// A world at its beginning: all links are live, each host stands where the wiring has it, nothing
+    /// waits, and the journal is empty.
+    pub fn boot(alloc: Global, wiring: Wiring, limits: Limits) -> Result<World<S, M, H>, Memory>
+        requires { limits.steps ≤ 4000000000 }
+        ensures booted { IfOk result (λ w. w ≡ booted wiring limits) }
+        ensures counted { IfOk result (λ w. IsCounted w) }
+        ensures hearing { IfOk result (λ w. IsWithinHearing w) }
+    {
+        see_addresses(&wiring);
+        let links = live_links(alloc, &wiring)?;
+        let stands = Stands::first(alloc, wiring.hosts())?;
+        let heard = silent_hosts(alloc, &wiring)?;
+        let switches = boot_with_queues(alloc, &wiring)?;
+        let manager = boot_manager(alloc, &wiring)?;
+        let table = host_table(alloc, wiring.hosts())?;
+        let hosts = boot_hosts(alloc, wiring.hosts(), &table)?;
+        let from_hosts = Lines::new(alloc, wiring.host_count() as usize)?;
+        let to_manager = CountedLines::new(alloc, wiring.switch_count() as usize)?;
+        let from_manager = CountedLines::new(alloc, wiring.switch_count() as usize)?;
+        let atlas = Atlas::of_wiring(alloc, wiring)?;
+        Ok(World {
+            alloc,
+            atlas,
+            links,
+            stands,
+            heard,
+            switches,
+            manager,
+            hosts,
+            from_hosts,
+            to_manager,
+            from_manager,
+            book: Book::new(alloc),
+            begun: 0,
+            steps: 0,
+            limits,
+        })
+    }
+}
+
+// A wiring has all that a world begins with. This is known of its hosts' addresses once each was seen.
+fn see_addresses(wiring: &Wiring)
+    ensures { CanBegin wiring.now }
+{
+    let _k = wiring.k();
+    see_each(wiring.hosts());
+}
+
+fn see_each(hosts: &[Host])
+    ensures { All (λ host. length host.mac.0 ≡ 6) hosts.now }
+{
+    for host in hosts {
+        see(host);
+    }
+}
+
+fn see(host: &Host)
+    ensures { length host.now.mac.0 ≡ 6 }
+{
+    see_bytes(host.mac.0);
+}
+
+fn see_bytes(bytes: [u8; 6])
+    ensures { length bytes ≡ 6 }
+{}
+
+// The ports of all switches.
+fn port_count(wiring: &Wiring) -> usize
+    ensures { result ≡ switch_count wiring.now.k * wiring.now.k }
+{
+    let k = wiring.k();
+    wiring.switch_count() as usize * k as usize
+}
+
+fn live_links(alloc: Global, wiring: &Wiring) -> Result<LinkStates, Memory>
+    ensures { IfOk result (λ links. links ≡ all_live wiring.now) }
+{
+    let links = LinkStates::new(alloc, wiring)?;
+    let _k = wiring.k();
+    Ok(links)
+}
+
+// No host is heard at first.
+fn silent_hosts(alloc: Global, wiring: &Wiring) -> Result<Vec<Option<u32>>, Memory>
+    ensures { IfOk result (λ heard. heard.items ≡ replicate (length wiring.now.hosts) None) }
+{
+    let mut heard = Vec::new(alloc);
+    for _ in 0..wiring.host_count() {
+        heard.push(None)?;
+    }
+    Ok(heard)
+}
+
+fn host_table(alloc: Global, hosts: &[Host]) -> Result<HostTable, Memory>
+    ensures { IfOk result (λ table. table ≡ map me_of hosts.now) }
+{
+    let mut table = Items::new(alloc);
+    for host in hosts {
+        table.push(Me {
+            mac: host.mac,
+            ip: host.ip,
+        })?;
+    }
+    Ok(table)
+}
+
+fn boot_hosts<H: HostCore>(
+    alloc: Global,
+    hosts: &[Host],
+    table: &HostTable,
+) -> Result<Vec<H>, Memory>
+    ensures { IfOk result (λ cores. map H.view cores.items ≡ map (λ host. boot_host (me_of host) table.now) hosts.now) }
+{
+    let mut cores = Vec::new(alloc);
+    for host in hosts {
+        let me = Me {
+            mac: host.mac,
+            ip: host.ip,
+        };
+        cores.push(H::boot(alloc, me, table)?)?;
+    }
+    Ok(cores)
+}
+
+fn boot_with_queues<S: SwitchCore>(alloc: Global, wiring: &Wiring) -> Result<Switches<S>, Memory>
+    ensures { IfOk result (λ all. all ≡ first_switches wiring.now) }
+{
+    let k = wiring.k();
+    let cores = boot_switches(alloc, wiring)?;
+    let out = CountedLines::new(alloc, port_count(wiring))?;
+    Ok(Switches::new(k, cores, out))
+}
+
+fn boot_switches<S: SwitchCore>(alloc: Global, wiring: &Wiring) -> Result<Vec<S>, Memory>
+    ensures { IfOk result (λ cores. map S.view cores.items ≡ map (λ id. switch_at_boot id wiring.now.k) wiring.now.ids) }
+{
+    let mut cores = Vec::new(alloc);
+    for n in 0..wiring.switch_count() {
+        cores.push(boot_switch(alloc, wiring, SwitchNo(n))?)?;
+    }
+    Ok(cores)
+}
+
+fn boot_switch<S: SwitchCore>(alloc: Global, wiring: &Wiring, s: SwitchNo) -> Result<S, Memory>
+    requires { s.0 < switch_count wiring.now.k }
+    ensures { IfOk result (λ core. slice_get (map (λ id. switch_at_boot id wiring.now.k) wiring.now.ids) s.0 ≡ Some (S.view core)) }
+{
+    let k = wiring.k();
+    let id = wiring.id(s);
+    S::boot(alloc, id, k)
+}
+
+fn boot_manager<M: ManagerCore>(alloc: Global, wiring: &Wiring) -> Result<M, Memory>
+    ensures { IfOk result (λ core. M.view core ≡ booted_manager wiring.now.k) }
+{
+    let k = wiring.k();
+    M::boot(alloc, k)
+}

@@ -1,0 +1,239 @@
+ghost use Rattle.std.specs.Prelude.{◌≡◌, ◌<◌, length, true, Some};
+ghost use Rattle.std.specs.Option.{option_map};
+ghost use Rattle.pl_topology.specs.Labels.{switch_count};
+ghost use Rattle.pl_core.specs.Places.{is_host_port};
+ghost use Rattle.pl_schedule.specs.Changes.{host_at, out_of};
+ghost use Rattle.pl_lines.specs.Lines.{line_at};
+ghost use Rattle.pl_schedule.specs.LinksAndMoves.{link_between};
+ghost use Rattle.pl_schedule.specs.Refusals.{has_host, has_port, has_queue, has_switch, is_empty_queue, is_for_hosts, is_linked, is_none_left, refusal, refusal_of_event, refusal_of_link, refusal_of_move, refusal_of_place, refusal_of_queue, unless_there};
+
+use crate::StepError;
+use crate::links::link_of;
+use crate::world::World;
+use pl_core::{Event, HostCore, ManagerCore, QueueName, SwitchCore};
+use pl_lines::Lines;
+use pl_topology::{HostNo, Link, Peer, SwitchNo};
+
+impl<S: SwitchCore, M: ManagerCore, H: HostCore> World<S, M, H> {
+    /// Why an event is refused, by the first reason that holds; none where the step is made.
+    pub fn refusal(&self, event: &Event) -> Option<StepError>
+        ensures { result ≡ refusal self.now event.now }
+    {
+        if self.steps >= self.limits.steps {
+            Some(StepError::StepsSpent)
+        } else if self.book.is_full(&self.limits) {
+            Some(StepError::JournalFull)
+        } else {
+            self.refusal_of_event(event)
+        }
+    }
+
+    fn refusal_of_event(&self, event: &Event) -> Option<StepError>
+        ensures { result ≡ refusal_of_event self.now event.now }
+    {
+        match event {
+            Event::Deliver(name) => self.refusal_of_delivery(name),
+            Event::Tick(s) => unless_there(self.has_switch(*s)),
+            Event::Fail(a, b) => self.refusal_between(*a, *b, false),
+            Event::Repair(a, b) => self.refusal_between(*a, *b, true),
+            Event::Lose(s, port) => self.refusal_of_loss(*s, *port),
+            Event::Move(h, s, port) => self.refusal_of_move(*h, *s, *port),
+            Event::Start(h) => unless_there(self.has_host(*h)),
+            Event::Play { host, .. } => unless_there(self.has_host(*host)),
+            Event::Retry(h) => unless_there(self.has_host(*h)),
+            Event::Join(h, _) => unless_there(self.has_host(*h)),
+            Event::Leave(h, _) => unless_there(self.has_host(*h)),
+        }
+    }
+
+    pub(crate) fn has_host(&self, h: HostNo) -> bool
+        ensures { result ≡ has_host self.now.plan h.0 }
+    {
+        h.0 < self.atlas.wiring().host_count()
+    }
+
+    pub(crate) fn has_switch(&self, s: SwitchNo) -> bool
+        ensures { result ≡ has_switch self.now.plan s.0 }
+    {
+        s.0 < self.atlas.wiring().switch_count()
+    }
+
+    pub(crate) fn has_port(&self, s: SwitchNo, port: u8) -> bool
+        ensures { result ≡ has_port self.now.plan s.0 port }
+    {
+        self.has_switch(s) && port < self.atlas.wiring().k()
+    }
+
+    // Whether the wiring has this port, and a host may stand there.
+    fn is_for_hosts(&self, s: SwitchNo, port: u8) -> bool
+        ensures { result ≡ is_for_hosts self.now.plan s.0 port }
+    {
+        if self.has_port(s, port) {
+            is_host_port(&self.atlas.wiring().peer(s, port))
+        } else {
+            false
+        }
+    }
+
+    // Whether the wiring has this port, and a link is there.
+    fn is_linked(&self, s: SwitchNo, port: u8) -> bool
+        ensures { result ≡ is_linked self.now.plan s.0 port }
+    {
+        if self.has_port(s, port) {
+            !is_host_port(&self.atlas.wiring().peer(s, port))
+        } else {
+            false
+        }
+    }
+
+    fn refusal_of_delivery(&self, name: &QueueName) -> Option<StepError>
+        ensures { result ≡ refusal_of_queue (has_queue self.now.plan name.now) (is_empty_queue self.now name.now) }
+    {
+        match name {
+            QueueName::FromHost(h) => self.refusal_from_host(*h),
+            QueueName::Port(s, port) => self.refusal_out(*s, *port),
+            QueueName::ToManager(s) => self.refusal_to_manager(*s),
+            QueueName::FromManager(s) => self.refusal_from_manager(*s),
+        }
+    }
+
+    fn refusal_from_host(&self, h: HostNo) -> Option<StepError>
+        ensures { result ≡ refusal_of_queue (has_host self.now.plan h.0) (is_none_left (line_at self.now.from_hosts h.0)) }
+    {
+        if self.has_host(h) {
+            if_nothing(is_none_left(&self.from_hosts, h.0 as usize))
+        } else {
+            Some(StepError::NoSuch)
+        }
+    }
+
+    fn refusal_out(&self, s: SwitchNo, port: u8) -> Option<StepError>
+        ensures { result ≡ refusal_of_queue (has_port self.now.plan s.0 port) (is_none_left (out_of self.now s.0 port)) }
+    {
+        if self.has_port(s, port) {
+            if_nothing(self.is_out_empty(s, port))
+        } else {
+            Some(StepError::NoSuch)
+        }
+    }
+
+    fn is_out_empty(&self, s: SwitchNo, port: u8) -> bool
+        requires { has_port self.now.plan s.0 port ≡ true }
+        ensures { result ≡ is_none_left (out_of self.now s.0 port) }
+    {
+        let place = self.place_out(s, port);
+        is_none_left(self.switches.out(), place)
+    }
+
+    fn refusal_to_manager(&self, s: SwitchNo) -> Option<StepError>
+        ensures { result ≡ refusal_of_queue (has_switch self.now.plan s.0) (is_none_left (line_at self.now.to_manager s.0)) }
+    {
+        if self.has_switch(s) {
+            if_nothing(is_none_left(self.to_manager.lines(), s.0 as usize))
+        } else {
+            Some(StepError::NoSuch)
+        }
+    }
+
+    fn refusal_from_manager(&self, s: SwitchNo) -> Option<StepError>
+        ensures { result ≡ refusal_of_queue (has_switch self.now.plan s.0) (is_none_left (line_at self.now.from_manager s.0)) }
+    {
+        if self.has_switch(s) {
+            if_nothing(is_none_left(self.from_manager.lines(), s.0 as usize))
+        } else {
+            Some(StepError::NoSuch)
+        }
+    }
+
+    fn refusal_of_loss(&self, s: SwitchNo, port: u8) -> Option<StepError>
+        ensures { result ≡ refusal_of_queue (is_linked self.now.plan s.0 port) (is_none_left (out_of self.now s.0 port)) }
+    {
+        if self.is_linked(s, port) {
+            if_nothing(self.is_out_empty(s, port))
+        } else {
+            Some(StepError::NoSuch)
+        }
+    }
+
+    // A link between two switches is to become live, or failed.
+    fn refusal_between(&self, a: SwitchNo, b: SwitchNo, live: bool) -> Option<StepError>
+        ensures { result ≡ refusal_of_link self.now live (link_between self.now.plan a.0 b.0) }
+    {
+        match link_of(self.atlas.wiring(), a, b) {
+            None => Some(StepError::NoSuch),
+            Some(link) => self.refusal_of_link(&link, live),
+        }
+    }
+
+    fn refusal_of_link(&self, link: &Link, live: bool) -> Option<StepError>
+        ensures { result ≡ refusal_of_link self.now live (Some link.now) }
+    {
+        if self.links.is_live(link) == live {
+            Some(StepError::AlreadySo)
+        } else {
+            None
+        }
+    }
+
+    fn refusal_of_move(&self, h: HostNo, s: SwitchNo, port: u8) -> Option<StepError>
+        ensures { result ≡ refusal_of_move self.now h.0 s.0 port }
+    {
+        if self.has_host(h) && self.is_for_hosts(s, port) {
+            let _ = &self.stands;
+            refusal_of_place(h, self.stands.host_at(s, port))
+        } else {
+            Some(StepError::NoSuch)
+        }
+    }
+}
+
+// What is not there cannot be named.
+fn unless_there(there: bool) -> Option<StepError>
+    ensures { result ≡ unless_there there }
+{
+    if there { None } else { Some(StepError::NoSuch) }
+}
+
+// A queue that is there may be empty.
+fn if_nothing(empty: bool) -> Option<StepError>
+    ensures { result ≡ refusal_of_queue true empty }
+{
+    if empty {
+        Some(StepError::NothingThere)
+    } else {
+        None
+    }
+}
+
+// A host goes to a port where one stands by now.
+fn refusal_of_place(h: HostNo, other: Option<HostNo>) -> Option<StepError>
+    ensures { result ≡ refusal_of_place h.0 (option_map (λ n. n.0) other) }
+{
+    match other {
+        None => None,
+        Some(other) => {
+            if other.0 == h.0 {
+                Some(StepError::AlreadySo)
+            } else {
+                Some(StepError::Occupied)
+            }
+        }
+    }
+}
+
+fn is_host_port(peer: &Peer) -> bool
+    ensures { result ≡ is_host_port peer.now }
+{
+    match peer {
+        Peer::HostPort => true,
+        Peer::Switch(..) => false,
+    }
+}
+
+#[tactic(auto, using(crate::proofs::Refusing::none_left))]
+fn is_none_left<T>(bank: &Lines<T>, at: usize) -> bool
+    requires { at < length bank.now }
+    ensures { result ≡ is_none_left (line_at bank.now at) }
+{
+    bank.is_empty_at(at)
+}

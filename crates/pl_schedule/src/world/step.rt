@@ -1,0 +1,123 @@
+ghost use Rattle.std.specs.Prelude.{◌≡◌, ◌+◌, ℕ, true, false, nat_le, slice_get, IfErr, None, OnOk, Some};
+ghost use Rattle.pl_frame.specs.declared.address.SwitchId.{SwitchId};
+ghost use Rattle.pl_core.specs.ManagerFacts.{CanHear};
+ghost use Rattle.pl_schedule.specs.declared.error.StepError.{StepError};
+ghost use Rattle.pl_schedule.specs.Flying.{IsCounted};
+ghost use Rattle.pl_schedule.specs.Hearing.{IsWithinHearing};
+ghost use Rattle.pl_schedule.specs.LinksAndMoves.{link_between};
+ghost use Rattle.pl_schedule.specs.Refusals.{has_queue, is_empty_queue, refusal, refusal_of_event, refusal_of_link, refusal_of_queue};
+ghost use Rattle.pl_schedule.specs.WorldRule.{Delivers, Fails, Happens, IsRepaired, WorldStep};
+
+use crate::links::link_of;
+use crate::urge::Urge;
+use crate::world::World;
+use crate::{Stand, StepError};
+use pl_core::{Event, HostCore, ManagerCore, Memory, QueueName, SwitchCore};
+use pl_topology::SwitchNo;
+
+impl<S: SwitchCore, M: ManagerCore, H: HostCore> World<S, M, H> {
+    fn deliver(&mut self, name: &QueueName) -> Result<(), Memory>
+        requires counted { IsCounted self.old }
+        requires hears { (s : ℕ) (id : SwitchId) → slice_get self.old.plan.ids s ≡ Some id → CanHear self.old.manager id }
+        requires allowed { refusal_of_queue (has_queue self.old.plan name.now) (is_empty_queue self.old name.now) ≡ None }
+        ensures { OnOk result (Delivers S.rule M.rule H.rule self.old name.now self.new) }
+    {
+        match name {
+            QueueName::FromHost(h) => self.deliver_from_host(*h),
+            QueueName::Port(s, port) => self.deliver_out(*s, *port),
+            QueueName::ToManager(s) => self.deliver_to_manager(*s),
+            QueueName::FromManager(s) => self.deliver_from_manager(*s),
+        }
+    }
+
+    fn fail_between(&mut self, a: SwitchNo, b: SwitchNo) -> Result<(), Memory>
+        requires { refusal_of_link self.old false (link_between self.old.plan a.0 b.0) ≡ None }
+        ensures { OnOk result (Fails self.old (link_between self.old.plan a.0 b.0) self.new) }
+    {
+        match link_of(self.atlas.wiring(), a, b) {
+            None => Ok(()),
+            Some(link) => self.fail(link),
+        }
+    }
+
+    fn repair_between(&mut self, a: SwitchNo, b: SwitchNo) -> Result<(), Memory>
+        requires { refusal_of_link self.old true (link_between self.old.plan a.0 b.0) ≡ None }
+        ensures { OnOk result (IsRepaired self.old (link_between self.old.plan a.0 b.0) self.new) }
+    {
+        match link_of(self.atlas.wiring(), a, b) {
+            None => Ok(()),
+            Some(link) => self.repair(link),
+        }
+    }
+
+    fn happen(&mut self, event: &Event) -> Result<(), Memory>
+        requires counted { IsCounted self.old }
+        requires hears { (s : ℕ) (id : SwitchId) → slice_get self.old.plan.ids s ≡ Some id → CanHear self.old.manager id }
+        requires allowed { refusal_of_event self.old event.now ≡ None }
+        ensures { OnOk result (Happens S.rule M.rule H.rule self.old event.now self.new) }
+    {
+        match event {
+            Event::Deliver(name) => self.deliver(name),
+            Event::Tick(s) => self.tick(*s),
+            Event::Fail(a, b) => self.fail_between(*a, *b),
+            Event::Repair(a, b) => self.repair_between(*a, *b),
+            Event::Lose(s, port) => self.lose(*s, *port),
+            Event::Move(h, s, port) => {
+                let to = Stand {
+                    edge: *s,
+                    port: *port,
+                };
+                self.move_host(*h, to)
+            }
+            Event::Start(h) => self.host_does(*h, Urge::Start),
+            Event::Play {
+                host,
+                frame,
+                original,
+                raw,
+            } => self.host_plays(*host, frame.bytes(), *original, *raw),
+            Event::Retry(h) => self.host_does(*h, Urge::Retry),
+            Event::Join(h, group) => self.host_does(*h, Urge::Join(*group)),
+            Event::Leave(h, group) => self.host_does(*h, Urge::Leave(*group)),
+        }
+    }
+
+    fn count_step(&mut self)
+        requires { nat_le self.old.limits.steps self.old.steps ≡ false }
+        ensures { self.new ≡ record self.old { steps = self.old.steps + 1 } }
+    {
+        let _limit = self.limits.steps;
+        self.steps += 1;
+    }
+
+    // A step that is not refused.
+    fn make_step(&mut self, event: &Event) -> Result<(), Memory>
+        requires counted { IsCounted self.old }
+        requires hearing { IsWithinHearing self.old }
+        requires allowed { refusal self.old event.now ≡ None }
+        ensures { OnOk result (WorldStep S.rule M.rule H.rule self.old event.now self.new) }
+    {
+        self.count_step();
+        self.happen(event)
+    }
+
+    /// Makes one step, which is an event. A step that is refused changes nothing. After want of memory
+    /// the world is not used again.
+    pub fn step(&mut self, event: &Event) -> Result<(), StepError>
+        requires counted { IsCounted self.old }
+        requires hearing { IsWithinHearing self.old }
+        ensures step { OnOk result ((refusal self.old event.now ≡ None) × WorldStep S.rule M.rule H.rule self.old event.now self.new) }
+        ensures refused { (e : StepError) → refusal self.old event.now ≡ Some e → (result ≡ Err e) × (self.new ≡ self.old) }
+        ensures memory { refusal self.old event.now ≡ None → IfErr result (λ e. e ≡ StepError.Memory) }
+        ensures counted { OnOk result (IsCounted self.new) }
+        ensures hearing { OnOk result (IsWithinHearing self.new) }
+    {
+        match self.refusal(event) {
+            Some(refusal) => Err(refusal),
+            None => match self.make_step(event) {
+                Ok(()) => Ok(()),
+                Err(_) => Err(StepError::Memory),
+            },
+        }
+    }
+}

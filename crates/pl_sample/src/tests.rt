@@ -105,24 +105,54 @@ fn tick<S: SwitchCore>(world: &mut Fabric<S>, s: SwitchNo, many: u32) -> Result<
     Ok(())
 }
 
-// Why a step is not made. Neither the journal nor the steps change.
-fn refused<S: SwitchCore>(world: &mut Fabric<S>, event: &Event) -> Result<StepError, Fail>
+// A step is not made for this reason, and neither the journal nor the steps change.
+fn refuse<S: SwitchCore>(world: &mut Fabric<S>, event: &Event, want: StepError) -> Result<(), Fail>
     requires counted { IsCounted world.old }
     requires hearing { IsWithinHearing world.old }
     ensures counted { OnOk result (IsCounted world.new) }
     ensures hearing { OnOk result (IsWithinHearing world.new) }
 {
     let before = (world.journal().len(), world.steps());
-    let Some(refusal) = world.refusal(event) else {
-        return Err(Fail::from("the step is made"));
-    };
-    if world.step(event) != Err(refusal) {
-        return Err(Fail::from("the step was refused for another reason"));
+    if world.refusal(event) != Some(want) {
+        return Err(Fail::from("the step is made, or refused for another reason"));
+    }
+    if world.step(event) != Err(want) {
+        return Err(Fail::from("the step says another reason"));
     }
     if (world.journal().len(), world.steps()) != before {
-        return Err(Fail::from("the world changed"));
+        return Err(Fail::from("a refused step changed the world"));
     }
-    Ok(refusal)
+    Ok(())
+}
+
+// Each of some events is refused for this reason.
+fn refuse_all<S: SwitchCore>(
+    world: &mut Fabric<S>,
+    events: &[Event],
+    want: StepError,
+) -> Result<(), Fail>
+    requires counted { IsCounted world.old }
+    requires hearing { IsWithinHearing world.old }
+    ensures counted { OnOk result (IsCounted world.new) }
+    ensures hearing { OnOk result (IsWithinHearing world.new) }
+{
+    for event in events {
+        refuse(world, event, want)?;
+    }
+    Ok(())
+}
+
+// So many items wait in a queue; none where there is no such queue.
+fn has_len<S: SwitchCore>(
+    world: &Fabric<S>,
+    name: QueueName,
+    want: Option<usize>,
+) -> Result<(), Fail> {
+    if world.queue_len(name) == want {
+        Ok(())
+    } else {
+        Err(Fail::from("a queue has another length"))
+    }
 }
 
 // Whether the wiring has the hosts and switches that an entry names.
@@ -159,4 +189,18 @@ fn lines_from<S: SwitchCore>(
         write_line(&mut text, wiring, entry)?;
     }
     Ok(text)
+}
+
+// The journal has these lines behind its first entries.
+fn has_lines<S: SwitchCore>(
+    alloc: Global,
+    world: &Fabric<S>,
+    first: usize,
+    want: &str,
+) -> Result<(), Fail> {
+    if lines_from(alloc, world, first)?.as_str() == want {
+        Ok(())
+    } else {
+        Err(Fail::from("the journal has other lines"))
+    }
 }

@@ -24,3 +24,5 @@ pub mod Sums
 pub mod Stale
 pub mod Switching
 pub mod Queued
+pub mod NextQueues
+pub mod QueueLists

@@ -16,3 +16,4 @@ pub mod Atlas
 pub mod Stands
 pub mod Pending
 pub mod PendingExamples
+pub mod QueueOrder

@@ -194,6 +194,7 @@ mod deliver;
 mod failures;
 mod happen;
 mod look;
+mod order;
 mod refusing;
 mod step;
 mod steps;

@@ -1,29 +1,49 @@
+ghost use Rattle.pl_schedule.specs.Flying.{IsCounted};
+ghost use Rattle.pl_schedule.specs.Hearing.{IsWithinHearing};
+
 use super::*;
 use crate::NextPort;
-use pl_core::Entry;
 
 // The bytes of the frame with which a host starts: 14 of Ethernet and 28 of ARP (RFC 826).
 const FRAME: u64 = 42;
+
+fn make_three_steps<S: SwitchCore>(world: &mut Fabric<S>) -> Result<(), Fail>
+    requires counted { IsCounted world.old }
+    requires hearing { IsWithinHearing world.old }
+{
+    tick(world, E00, 3)?;
+    refuse(world, &Event::Tick(E00), StepError::StepsSpent)
+}
 
 #[test]
 fn after_the_last_step_none_is_made(rt: HostRuntime) -> Result<(), Fail> {
     let limits = Limits { steps: 3, ..WIDE };
     let mut world: Fabric<NextPort> = booted(rt.alloc(), limits)?;
-    tick(&mut world, E00, 3)?;
-    let tick = Event::Tick(E00);
-    assert_eq!(rt; refused(&mut world, &tick)?, StepError::StepsSpent);
-    assert_eq!(rt; world.steps(), 3);
-    Ok(())
+    make_three_steps(&mut world)
+}
+
+fn send_one<S: SwitchCore>(world: &mut Fabric<S>) -> Result<(), Fail>
+    requires counted { IsCounted world.old }
+    requires hearing { IsWithinHearing world.old }
+{
+    make(world, &Event::Start(A))?;
+    refuse(world, &Event::Start(B), StepError::JournalFull)
 }
 
 #[test]
 fn in_a_full_journal_no_more_is_sent(rt: HostRuntime) -> Result<(), Fail> {
     let limits = Limits { entries: 1, ..WIDE };
     let mut world: Fabric<NextPort> = booted(rt.alloc(), limits)?;
-    make(&mut world, &Event::Start(A))?;
-    let start = Event::Start(B);
-    assert_eq!(rt; refused(&mut world, &start)?, StepError::JournalFull);
-    Ok(())
+    send_one(&mut world)
+}
+
+fn send_two<S: SwitchCore>(world: &mut Fabric<S>) -> Result<(), Fail>
+    requires counted { IsCounted world.old }
+    requires hearing { IsWithinHearing world.old }
+{
+    make(world, &Event::Start(A))?;
+    make(world, &Event::Start(B))?;
+    refuse(world, &Event::Start(C), StepError::JournalFull)
 }
 
 #[test]
@@ -33,11 +53,17 @@ fn the_bytes_of_frames_fill_a_journal(rt: HostRuntime) -> Result<(), Fail> {
         ..WIDE
     };
     let mut world: Fabric<NextPort> = booted(rt.alloc(), limits)?;
-    make(&mut world, &Event::Start(A))?;
-    make(&mut world, &Event::Start(B))?;
-    let start = Event::Start(C);
-    assert_eq!(rt; refused(&mut world, &start)?, StepError::JournalFull);
-    Ok(())
+    send_two(&mut world)
+}
+
+fn mark_two<S: SwitchCore>(alloc: Global, world: &mut Fabric<S>) -> Result<(), Fail>
+    requires counted { IsCounted world.old }
+    requires hearing { IsWithinHearing world.old }
+{
+    world.mark(Entry::Line(7))?;
+    world.mark(Entry::Settled(2))?;
+    has_lines(alloc, world, 0, "line 7\nsettled 2\n")?;
+    refuse(world, &Event::Tick(E00), StepError::JournalFull)
 }
 
 // Only a mark is written past the limit.
@@ -45,13 +71,5 @@ fn the_bytes_of_frames_fill_a_journal(rt: HostRuntime) -> Result<(), Fail> {
 fn a_mark_is_written_on_a_line(rt: HostRuntime) -> Result<(), Fail> {
     let limits = Limits { entries: 1, ..WIDE };
     let mut world: Fabric<NextPort> = booted(rt.alloc(), limits)?;
-    world.mark(Entry::Line(7))?;
-    world.mark(Entry::Settled(2))?;
-    assert_eq!(rt;
-        lines_from(rt.alloc(), &world, 0)?.as_str(),
-        "line 7\nsettled 2\n"
-    );
-    let tick = Event::Tick(E00);
-    assert_eq!(rt; refused(&mut world, &tick)?, StepError::JournalFull);
-    Ok(())
+    mark_two(rt.alloc(), &mut world)
 }

@@ -1,10 +1,18 @@
+ghost use Rattle.std.specs.Prelude.{OnOk};
+ghost use Rattle.pl_schedule.specs.Flying.{IsCounted};
+ghost use Rattle.pl_schedule.specs.Hearing.{IsWithinHearing};
+
 use super::*;
 use crate::NextPort;
 
-#[test]
-fn what_the_wiring_has_not_cannot_be_named(rt: HostRuntime) -> Result<(), Fail> {
-    let mut world: Fabric<NextPort> = booted(rt.alloc(), WIDE)?;
-    let events = &[
+// What the wiring has not cannot be named.
+fn name_what_is_absent<S: SwitchCore>(world: &mut Fabric<S>) -> Result<(), Fail>
+    requires counted { IsCounted world.old }
+    requires hearing { IsWithinHearing world.old }
+    ensures counted { OnOk result (IsCounted world.new) }
+    ensures hearing { OnOk result (IsWithinHearing world.new) }
+{
+    let events = [
         Event::Deliver(QueueName::FromHost(HostNo(3))),
         Event::Deliver(QueueName::Port(E00, 4)),
         Event::Deliver(QueueName::ToManager(SwitchNo(20))),
@@ -19,90 +27,120 @@ fn what_the_wiring_has_not_cannot_be_named(rt: HostRuntime) -> Result<(), Fail> 
         Event::Move(A, A00, 0),
         Event::Lose(E00, 4),
     ];
-    for event in events {
-        assert_eq!(rt; refused(&mut world, event)?, StepError::NoSuch);
-    }
-    Ok(())
+    refuse_all(world, &events, StepError::NoSuch)
 }
 
-// A frame waits at port 1 of e0.0, which has no link.
-#[test]
-fn nothing_is_lost_at_a_host_port(rt: HostRuntime) -> Result<(), Fail> {
-    let mut world: Fabric<NextPort> = booted(rt.alloc(), WIDE)?;
-    send(&mut world, A)?;
-    let lose = Event::Lose(E00, 1);
-    assert_eq!(rt; refused(&mut world, &lose)?, StepError::NoSuch);
-    assert_eq!(rt; world.queue_len(QueueName::Port(E00, 1)), Some(1));
-    Ok(())
-}
-
-#[test]
-fn what_is_so_already_is_refused(rt: HostRuntime) -> Result<(), Fail> {
-    let mut world: Fabric<NextPort> = booted(rt.alloc(), WIDE)?;
-    let fail = Event::Fail(E00, A00);
-    let repair = Event::Repair(A00, E00);
-    let stay = Event::Move(B, E00, 1);
-    let swap = Event::Move(A, E00, 1);
-    assert_eq!(rt; refused(&mut world, &repair)?, StepError::AlreadySo);
-    assert_eq!(rt; refused(&mut world, &stay)?, StepError::AlreadySo);
-    assert_eq!(rt; refused(&mut world, &swap)?, StepError::Occupied);
-    make(&mut world, &fail)?;
-    assert_eq!(rt; refused(&mut world, &fail)?, StepError::AlreadySo);
-    make(&mut world, &repair)?;
-    let lines = lines_from(rt.alloc(), &world, 0)?;
-    assert_eq!(rt; lines.as_str(), "linkdown e0.0 a0.0\nlinkup e0.0 a0.0\n");
-    Ok(())
-}
-
-#[test]
-fn an_empty_queue_has_nothing_to_give(rt: HostRuntime) -> Result<(), Fail> {
-    let mut world: Fabric<NextPort> = booted(rt.alloc(), WIDE)?;
-    let events = &[
+// An empty queue has nothing to give.
+fn take_from_empty_queues<S: SwitchCore>(world: &mut Fabric<S>) -> Result<(), Fail>
+    requires counted { IsCounted world.old }
+    requires hearing { IsWithinHearing world.old }
+    ensures counted { OnOk result (IsCounted world.new) }
+    ensures hearing { OnOk result (IsWithinHearing world.new) }
+{
+    let events = [
         Event::Deliver(QueueName::FromHost(A)),
         Event::Deliver(QueueName::Port(E00, 1)),
         Event::Deliver(QueueName::ToManager(E00)),
         Event::Deliver(QueueName::FromManager(E00)),
         Event::Lose(E00, 2),
     ];
-    for event in events {
-        assert_eq!(rt; refused(&mut world, event)?, StepError::NothingThere);
-    }
-    make(&mut world, &Event::Start(A))?;
-    assert_eq!(rt; world.queue_len(QueueName::FromHost(A)), Some(1));
-    Ok(())
+    refuse_all(world, &events, StepError::NothingThere)
 }
 
-// Each of these may be refused for two reasons.
+// A live link is not repaired, a failed one does not fail, and a host does not move to where it
+// stands, nor to where another one does.
+fn ask_for_what_is_so<S: SwitchCore>(alloc: Global, world: &mut Fabric<S>) -> Result<(), Fail>
+    requires counted { IsCounted world.old }
+    requires hearing { IsWithinHearing world.old }
+    ensures counted { OnOk result (IsCounted world.new) }
+    ensures hearing { OnOk result (IsWithinHearing world.new) }
+{
+    let repair = Event::Repair(A00, E00);
+    let fail = Event::Fail(E00, A00);
+    refuse(world, &repair, StepError::AlreadySo)?;
+    refuse(world, &Event::Move(B, E00, 1), StepError::AlreadySo)?;
+    refuse(world, &Event::Move(A, E00, 1), StepError::Occupied)?;
+    make(world, &fail)?;
+    refuse(world, &fail, StepError::AlreadySo)?;
+    make(world, &repair)?;
+    has_lines(alloc, world, 0, "linkdown e0.0 a0.0\nlinkup e0.0 a0.0\n")
+}
+
+// A frame waits at port 1 of e0.0, which has no link.
+fn lose_at_a_host_port<S: SwitchCore>(world: &mut Fabric<S>) -> Result<(), Fail>
+    requires counted { IsCounted world.old }
+    requires hearing { IsWithinHearing world.old }
+{
+    send(world, A)?;
+    refuse(world, &Event::Lose(E00, 1), StepError::NoSuch)?;
+    has_len(world, QueueName::Port(E00, 1), Some(1))
+}
+
+// A world goes on after each refusal.
+fn refuse_in_turn<S: SwitchCore>(alloc: Global, world: &mut Fabric<S>) -> Result<(), Fail>
+    requires counted { IsCounted world.old }
+    requires hearing { IsWithinHearing world.old }
+{
+    name_what_is_absent(world)?;
+    take_from_empty_queues(world)?;
+    ask_for_what_is_so(alloc, world)?;
+    lose_at_a_host_port(world)
+}
+
 #[test]
-fn the_first_reason_counts(rt: HostRuntime) -> Result<(), Fail> {
+fn a_step_that_is_refused_changes_nothing(rt: HostRuntime) -> Result<(), Fail> {
+    let mut world: Fabric<NextPort> = booted(rt.alloc(), WIDE)?;
+    refuse_in_turn(rt.alloc(), &mut world)
+}
+
+// A host that is not there is to move to where another one stands, at last when no step is left.
+fn move_nobody<S: SwitchCore>(world: &mut Fabric<S>) -> Result<(), Fail>
+    requires counted { IsCounted world.old }
+    requires hearing { IsWithinHearing world.old }
+{
+    let nobody = Event::Move(HostNo(3), E00, 1);
+    refuse(world, &nobody, StepError::NoSuch)?;
+    make(world, &Event::Tick(E00))?;
+    make(world, &Event::Start(A))?;
+    refuse(world, &nobody, StepError::StepsSpent)
+}
+
+#[test]
+fn steps_that_are_spent_come_first(rt: HostRuntime) -> Result<(), Fail> {
     let limits = Limits {
         steps: 2,
         entries: 1,
         ..WIDE
     };
     let mut world: Fabric<NextPort> = booted(rt.alloc(), limits)?;
-    let absent = Event::Move(HostNo(3), E00, 1);
-    assert_eq!(rt; refused(&mut world, &absent)?, StepError::NoSuch);
-    make(&mut world, &Event::Tick(E00))?;
-    make(&mut world, &Event::Start(A))?;
-    assert_eq!(rt; refused(&mut world, &absent)?, StepError::StepsSpent);
+    move_nobody(&mut world)
+}
+
+fn tick_nobody<S: SwitchCore>(world: &mut Fabric<S>) -> Result<(), Fail>
+    requires counted { IsCounted world.old }
+    requires hearing { IsWithinHearing world.old }
+{
+    refuse(world, &Event::Tick(SwitchNo(20)), StepError::JournalFull)
+}
+
+#[test]
+fn a_full_journal_comes_before_what_is_absent(rt: HostRuntime) -> Result<(), Fail> {
     let limits = Limits { entries: 0, ..WIDE };
     let mut world: Fabric<NextPort> = booted(rt.alloc(), limits)?;
-    assert_eq!(rt; refused(&mut world, &absent)?, StepError::JournalFull);
-    Ok(())
+    tick_nobody(&mut world)
+}
+
+fn measure<S: SwitchCore>(world: &Fabric<S>) -> Result<(), Fail> {
+    has_len(world, QueueName::FromHost(C), Some(0))?;
+    has_len(world, QueueName::FromHost(HostNo(3)), None)?;
+    has_len(world, QueueName::Port(E00, 3), Some(0))?;
+    has_len(world, QueueName::Port(E00, 4), None)?;
+    has_len(world, QueueName::ToManager(SwitchNo(19)), Some(0))?;
+    has_len(world, QueueName::FromManager(SwitchNo(20)), None)
 }
 
 #[test]
 fn a_queue_that_is_not_there_has_no_length(rt: HostRuntime) -> Result<(), Fail> {
     let world: Fabric<NextPort> = booted(rt.alloc(), WIDE)?;
-    assert_eq!(rt; world.queue_len(QueueName::FromHost(C)), Some(0));
-    assert_eq!(rt; world.queue_len(QueueName::FromHost(HostNo(3))), None);
-    assert_eq!(rt; world.queue_len(QueueName::Port(E00, 3)), Some(0));
-    assert_eq!(rt; world.queue_len(QueueName::Port(E00, 4)), None);
-    assert_eq!(rt;
-        world.queue_len(QueueName::ToManager(SwitchNo(19))),
-        Some(0)
-    );
-    assert_eq!(rt; world.queue_len(QueueName::FromManager(SwitchNo(20))), None);
-    Ok(())
+    measure(&world)
 }

@@ -1,0 +1,6 @@
+use Rattle.pl_schedule.specs.Flying.{IsCounted}
+use Rattle.pl_schedule.specs.Hearing.{IsWithinHearing}
+use Rattle.pl_sample.proofs.tests.refuse_all.Given as goal
+
+abbrev pub invariant-loop-event : goal.invariant-loop-event
+invariant-loop-event g l = IsCounted l.world × IsWithinHearing l.world

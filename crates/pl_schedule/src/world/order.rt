@@ -1,0 +1,144 @@
+ghost use Rattle.std.specs.Prelude.{◌≡◌, ◌+◌, ◌*◌, ◌<◌, ◌≤◌, ◌^◌, length, slice_get, IfSome, None, Some};
+ghost use Rattle.pl_topology.specs.Plan.{IsPlan};
+ghost use Rattle.pl_schedule.specs.Flying.{IsFormed};
+ghost use Rattle.pl_schedule.specs.QueueOrder.{first_from_manager, first_out, first_to_manager, next_in, next_queue, port_queue, queue_at, queue_count, queue_order};
+ghost use Rattle.pl_schedule.specs.Refusals.{has_queue, is_empty_queue, refusal_of_queue};
+
+use crate::world::World;
+use pl_core::{HostCore, ManagerCore, QueueName, SwitchCore};
+use pl_lines::Lines;
+use pl_topology::{HostNo, SwitchNo, Wiring};
+
+impl<S: SwitchCore, M: ManagerCore, H: HostCore> World<S, M, H> {
+    /// How many queues the wiring has.
+    pub fn queue_count(&self) -> usize
+        ensures count { result ≡ queue_count self.now.plan }
+        ensures order { result ≡ length (queue_order self.now.plan) }
+    {
+        Borders::of(self.atlas.wiring()).end
+    }
+
+    /// A queue by its number in queue order: the hosts' queues in the order of the wiring, the queues out
+    /// of ports by switch and port, the queues to the manager, and the queues from it.
+    pub fn queue_at(&self, n: usize) -> QueueName
+        requires { n < queue_count self.now.plan }
+        ensures name { result ≡ queue_at self.now.plan n }
+        ensures order { slice_get (queue_order self.now.plan) n ≡ Some result }
+    {
+        name_at(self.atlas.wiring(), n)
+    }
+
+    /// The number of the first queue with items, of those from number `from` on; none where there is none.
+    pub fn next_queue(&self, from: usize) -> Option<usize>
+        ensures next { result ≡ next_queue self.now from }
+        ensures there { IfSome result (λ n. (from ≤ n) × (n < queue_count self.now.plan)
+            × (refusal_of_queue (has_queue self.now.plan (queue_at self.now.plan n)) (is_empty_queue self.now (queue_at self.now.plan n)) ≡ None)) }
+    {
+        if let Some(n) = self.next_from_host(from) {
+            return Some(n);
+        }
+        if let Some(n) = self.next_out(from) {
+            return Some(n);
+        }
+        if let Some(n) = self.next_to_manager(from) {
+            return Some(n);
+        }
+        self.next_from_manager(from)
+    }
+
+    // The next one of the hosts' queues, of those out of ports, to the manager, and from it.
+    fn next_from_host(&self, from: usize) -> Option<usize>
+        ensures next { result ≡ next_in 0 self.now.from_hosts from }
+        ensures formed { IsFormed self.now }
+    {
+        next_in(&self.from_hosts, 0, from)
+    }
+
+    fn next_out(&self, from: usize) -> Option<usize>
+        ensures { result ≡ next_in (first_out self.now.plan) self.now.out from }
+    {
+        let borders = Borders::of(self.atlas.wiring());
+        next_in(self.switches.out(), borders.out, from)
+    }
+
+    fn next_to_manager(&self, from: usize) -> Option<usize>
+        ensures { result ≡ next_in (first_to_manager self.now.plan) self.now.to_manager from }
+    {
+        let borders = Borders::of(self.atlas.wiring());
+        next_in(self.to_manager.lines(), borders.to_manager, from)
+    }
+
+    fn next_from_manager(&self, from: usize) -> Option<usize>
+        ensures { result ≡ next_in (first_from_manager self.now.plan) self.now.from_manager from }
+    {
+        let borders = Borders::of(self.atlas.wiring());
+        next_in(self.from_manager.lines(), borders.from_manager, from)
+    }
+}
+
+// The numbers of the first queue out of a port, of the first to the manager and of the first from it, and
+// how many queues there are.
+#[derive(Drop)]
+struct Borders {
+    out: usize,
+    to_manager: usize,
+    from_manager: usize,
+    end: usize,
+}
+
+impl Borders {
+    fn of(wiring: &Wiring) -> Borders
+        ensures out { result.out ≡ first_out wiring.now }
+        ensures to_manager { result.to_manager ≡ first_to_manager wiring.now }
+        ensures from_manager { result.from_manager ≡ first_from_manager wiring.now }
+        ensures end { result.end ≡ queue_count wiring.now }
+    {
+        let switches = wiring.switch_count() as usize;
+        let out = wiring.host_count() as usize;
+        let to_manager = out + switches * wiring.k() as usize;
+        let from_manager = to_manager + switches;
+        Borders {
+            out,
+            to_manager,
+            from_manager,
+            end: from_manager + switches,
+        }
+    }
+}
+
+fn name_at(wiring: &Wiring, n: usize) -> QueueName
+    requires { n < queue_count wiring.now }
+    ensures name { result ≡ queue_at wiring.now n }
+    ensures plan { IsPlan wiring.now }
+{
+    let borders = Borders::of(wiring);
+    let k = wiring.k();
+    if n < borders.out {
+        QueueName::FromHost(HostNo(n as u32))
+    } else if n < borders.to_manager {
+        port_queue(k, n - borders.out)
+    } else if n < borders.from_manager {
+        QueueName::ToManager(SwitchNo((n - borders.to_manager) as u32))
+    } else {
+        QueueName::FromManager(SwitchNo((n - borders.from_manager) as u32))
+    }
+}
+
+// The port that has a place in the row of all ports.
+fn port_queue(k: u8, place: usize) -> QueueName
+    requires ports { 0 < k }
+    requires place { place < 2 ^ 32 }
+    ensures { result ≡ port_queue k place }
+{
+    let k = k as usize;
+    QueueName::Port(SwitchNo((place / k) as u32), (place % k) as u8)
+}
+
+// The number of the next queue with items, of a bank whose first queue has number `first`.
+fn next_in<T>(bank: &Lines<T>, first: usize, from: usize) -> Option<usize>
+    requires { first + length bank.now < 2 ^ 64 }
+    ensures { result ≡ next_in first bank.now from }
+{
+    let place = bank.next_filled(from.saturating_sub(first))?;
+    Some(first + place)
+}

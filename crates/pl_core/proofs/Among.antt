@@ -8,7 +8,9 @@ use Rattle.std.specs.Cmp.{IsTotalOrder}
 use Rattle.std.specs.BTreeSet.{insert_key}
 use Rattle.std.proofs.lemmas.Bool.{and_from, or_left, or_right}
 use Rattle.std.proofs.lemmas.Map.Lookups.{CmpEqualImpliesEq}
-use Rattle.pl_core.specs.ManagerViews.{in_order}
+use Rattle.pl_core.specs.ManagerViews.{in_order, id_cmp}
+use Rattle.std.proofs.lemmas.Cmp.{nat_cmp_total, on_total}
+use Rattle.pl_frame.specs.declared.address.SwitchId.{SwitchId}
 
 abbrev pub IsAmong : {X : Type 0} → X → List X → Type 0
 IsAmong x [] = ⊥
@@ -189,3 +191,7 @@ module _ {K : Type 0} (R : K → K → Ordering) where
     unfolding IsStrictlySortedBy
     rising_in_order [] = tt
     rising_in_order (x ∷ xs) = rising_inserted x (in_order R xs) (rising_in_order xs)
+
+pub id_total : IsTotalOrder id_cmp
+id_total = on_total (λ (s : SwitchId). s.0) nat_cmp_total
+

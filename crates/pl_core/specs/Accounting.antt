@@ -3,10 +3,10 @@ use Rattle.std.specs.Prelude.{◌≡◌, ℕ, ◌/◌, ◌%◌, ◌^◌, ◌<◌
 use Rattle.std.specs.List.{AllByRecursion}
 use Rattle.pl_core.specs.declared.acts.Act.{Act}
 use Rattle.pl_core.specs.declared.acts.Act.TheVariants.{Control, Drop, Grant as GrantAct, Make, Pass, Redirect, Take, Tell}
-use Rattle.pl_core.specs.SwitchRule.{SwitchInput, SwitchRule}
-use Rattle.pl_core.specs.SwitchRule.SwitchInput.{Comes, Says, Tick}
+use Rattle.pl_core.specs.SwitchInputs.{SwitchInput, SwitchRule}
+use Rattle.pl_core.specs.SwitchInputs.SwitchInput.{Comes, Says, Tick}
 use Rattle.pl_core.specs.SwitchViews.{Grant, Source, SwitchView}
-use Rattle.pl_core.specs.Control.{is_control}
+use Rattle.pl_layouts.specs.Control.{is_control}
 
 -- What acts have said so far of the frame that they speak of: there is none yet; it waits for its end; it was passed on, maybe more than once; it
 -- was taken or dropped; or something was said that cannot be.

@@ -6,7 +6,7 @@ use Rattle.std.specs.declared.cmp.Ordering.{Ordering}
 use Rattle.std.specs.Ordering.{nat_cmp, ordering_then}
 use Rattle.pl_frame.specs.declared.address.SwitchId.{SwitchId}
 use Rattle.pl_core.specs.ManagerViews.{Told, PlacedEdge, alive_at_level, has_level, has_pod, id_cmp, in_order, is_alive, neighbours, place_of, placed_edges}
-use Rattle.pl_core.specs.Equality.{same_switch}
+use Rattle.pl_layouts.specs.Equality.{same_switch}
 
 -- From a core switch a frame goes on to an edge switch of a pod by an aggregation switch of that pod, over links that are alive.
 abbrev pub core_leads_to : List Told → ℕ → SwitchId → SwitchId → Bool

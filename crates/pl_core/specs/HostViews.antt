@@ -9,8 +9,8 @@ use Rattle.std.specs.BTreeSet.{insert_key}
 use Rattle.pl_frame.specs.declared.address.Ip4.{Ip4}
 use Rattle.pl_arp.specs.declared.cache.Me.{Me}
 use Rattle.pl_arp.specs.Reception.{Table, hardware_of, same_ip}
-use Rattle.pl_core.specs.declared.membership.Change.{Change}
-use Rattle.pl_core.specs.Memberships.{changes_in, group_number}
+use Rattle.pl_layouts.specs.declared.membership.Change.{Change}
+use Rattle.pl_layouts.specs.Memberships.{changes_in, group_number}
 
 -- the frames that wait for the hardware address of an IPv4 address, by rising address; those of one address in the order in which they
 -- were played, and none empty

@@ -1,12 +1,17 @@
 -- What is asked of the fabric manager from outside, by what it knows.
-use Rattle.std.specs.Prelude.{ℕ, ◌*◌, ◌/◌, ◌<◌, ◌≤◌, List, ◌++◌, length, map, Option, slice_get}
+use Rattle.std.specs.Prelude.{ℕ, ◌*◌, ◌/◌, ◌<◌, ◌≤◌, List, ◌++◌, length, map, Option, slice_get, ◌∷◌, Some, None}
 use Rattle.std.specs.BTreeSet.{insert_key}
 use Rattle.std.specs.Option.{option_map}
 use Rattle.pl_frame.specs.declared.address.Mac.{Mac}
 use Rattle.pl_frame.specs.declared.address.SwitchId.{SwitchId}
 use Rattle.pl_pmac.specs.declared.pmac.Pmac.{Pmac}
-use Rattle.pl_core.specs.ManagerRule.{groups, with_number}
-use Rattle.pl_core.specs.ManagerViews.{Learnt, ManagerView, id_cmp, in_order, newest, registry}
+use Rattle.pl_core.specs.ManagerDuties.{with_number}
+use Rattle.pl_core.specs.ManagerViews.{Learnt, ManagerView, id_cmp, in_order, newest, registry, Told}
+use Rattle.std.specs.List.{filter_map}
+use Rattle.std.specs.Ordering.{nat_cmp}
+use Rattle.pl_core.specs.declared.messages.ToManager.{ToManager}
+use Rattle.pl_core.specs.declared.messages.ToManager.TheVariants as tell
+use Rattle.pl_layouts.specs.Memberships.{flood}
 
 -- the switches that were heard, by rising id
 abbrev pub heard : ManagerView → List SwitchId
@@ -28,3 +33,12 @@ newest_and_number learnt amac = option_map with_number (newest learnt amac)
 -- group number n, rising, of floods and the groups of which members were told
 abbrev pub group_at : ManagerView → ℕ → Option ℕ
 group_at view n = slice_get (groups view.told) n
+
+-- the group that this speaks of, if it speaks of members
+abbrev pub group_in : ToManager → Option ℕ
+group_in (tell.Members group any) = Some group
+group_in says = None
+
+-- floods, and the groups of which a switch told whether it has members, rising
+abbrev pub groups : List Told → List ℕ
+groups told = in_order nat_cmp (flood ∷ filter_map (λ t. group_in t.says) told)

@@ -12,9 +12,9 @@ use Rattle.pl_frame.specs.declared.address.SwitchId.{SwitchId}
 use Rattle.pl_pmac.specs.declared.pmac.Pmac.{Pmac}
 use Rattle.pl_core.specs.declared.messages.ToManager.{ToManager}
 use Rattle.pl_core.specs.declared.messages.ToManager.TheVariants as tell
-use Rattle.pl_core.specs.declared.place.Place.{Place}
-use Rattle.pl_core.specs.Equality.{same_mac, same_pmac, same_switch}
-use Rattle.pl_core.specs.PortRecords.{is_known, nowhere}
+use Rattle.pl_layouts.specs.declared.place.Place.{Place}
+use Rattle.pl_layouts.specs.Equality.{same_mac, same_pmac, same_switch}
+use Rattle.pl_layouts.specs.Placement.{is_known, nowhere}
 
 -- a switch told this: all but addresses and questions
 pub record Told : Type 0 where

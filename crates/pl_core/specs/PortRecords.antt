@@ -1,30 +1,16 @@
 -- Where a switch stands, and what it knows of its ports.
-use Rattle.std.specs.Prelude.{ℕ, ◌==◌, ◌&&◌, ◌||◌, nat_lt, Bool, false, List, Option, Some, None, is_some, is_none, slice_index_or, slice_set}
+use Rattle.std.specs.Prelude.{ℕ, ◌==◌, ◌&&◌, ◌||◌, nat_lt, Bool, false, List, Option, Some, None, is_none, slice_index_or, slice_set, ◌+◌, if◌then◌else◌, is_some}
 use Rattle.std.specs.List.{filter, range_with_len}
 use Rattle.pl_frame.specs.declared.address.SwitchId.{SwitchId}
 use Rattle.pl_core.specs.declared.neighbour.Neighbour.{Neighbour}
 use Rattle.pl_core.specs.declared.neighbour.PortRecord.{PortRecord}
-use Rattle.pl_core.specs.declared.place.Place.{Place}
+use Rattle.pl_layouts.specs.declared.place.Place.{Place}
 use Rattle.pl_core.specs.SwitchViews.{SwitchView}
-
--- a number that is known to be this one
-abbrev pub is_known : Option ℕ → ℕ → Bool
-is_known None n = false
-is_known (Some m) n = m == n
+use Rattle.pl_layouts.specs.Placement.{is_known, nowhere}
 
 abbrev pub is_id : Option SwitchId → SwitchId → Bool
 is_id None id = false
 is_id (Some known) id = known.0 == id.0
-
--- the place of a switch that knows nothing
-abbrev pub nowhere : Place
-nowhere = record { level = None; position = None; pod = None }
-
--- a core switch is placed by its level, an aggregation switch by its pod, an edge switch by its position and its pod
-abbrev pub is_placed : Place → Bool
-is_placed place =
-    is_known place.level 2 || (is_known place.level 1 && is_some place.pod)
-    || (is_known place.level 0 && is_some place.position && is_some place.pod)
 
 -- the ports of a switch of k ports, rising
 abbrev pub ports_of_switch : ℕ → List ℕ
@@ -76,3 +62,7 @@ ports_where v test = filter test (ports_of_switch v.k)
 -- a host is there, or nothing was heard there yet
 abbrev pub is_open_to_hosts : PortRecord → Bool
 is_open_to_hosts r = r.host || is_none r.heard
+
+-- a port at which something was heard has been silent for one tick more, at most three
+abbrev pub aged : PortRecord → PortRecord
+aged r = record r { silent = if is_some r.heard && nat_lt r.silent 3 then r.silent + 1 else r.silent }

@@ -1,11 +1,13 @@
 -- What is asked of a switch from outside, by what it knows; and what it knows at first.
-use Rattle.std.specs.Prelude.{◌≡◌, ◌<◌, ◌≤◌, ℕ, ◌/◌, ◌%◌, ◌^◌, ◌==◌, ◌&&◌, Bool, false, if◌then◌else◌, List, [], Option, Some, None, is_none, option_map, replicate, slice_get}
+use Rattle.std.specs.Prelude.{◌≡◌, ◌<◌, ◌≤◌, ℕ, ◌/◌, ◌%◌, ◌^◌, ◌==◌, ◌&&◌, Bool, false, if◌then◌else◌, List, [], Option, Some, None, is_none, option_map, replicate, slice_get, slice_index_or}
 use Rattle.std.specs.List.{list_any}
 use Rattle.pl_frame.specs.declared.address.SwitchId.{SwitchId}
-use Rattle.pl_core.specs.Announcing.{announcement}
-use Rattle.pl_core.specs.PortRecords.{is_known, new_port, nowhere, port_of}
-use Rattle.pl_core.specs.Positions.{hold_at}
+use Rattle.pl_core.specs.Announcements.{announcement}
+use Rattle.pl_core.specs.PortRecords.{new_port, port_of}
+use Rattle.pl_layouts.specs.Placement.{is_known, nowhere}
 use Rattle.pl_core.specs.SwitchViews.{Hold, SwitchView}
+use Rattle.std.specs.Map.{lookup}
+use Rattle.pl_core.specs.declared.messages.TreePart.{TreePart}
 
 -- an even number of ports from 4 to 24
 pub record IsTreeSize (k : ℕ) : Type 0 where
@@ -60,3 +62,14 @@ holder_of v position = option_map holder_and_mark (hold_at v position)
 -- group number n, rising, of those of which a part is known
 abbrev pub group_of_part : SwitchView → ℕ → Option ℕ
 group_of_part v n = option_map (λ part. part.0) (slice_get v.parts n)
+
+abbrev pub hold_at : SwitchView → ℕ → Option Hold
+hold_at v position = slice_index_or v.holds position None
+
+-- a neighbour through which an edge switch of this pod and position cannot be reached
+abbrev pub is_avoided : SwitchView → Option SwitchId → ℕ → ℕ → Bool
+is_avoided v None pod position = false
+is_avoided v (Some u) pod position = list_any (λ a. (a.0.0 == u.0) && ((a.1 == pod) && (a.2 == position))) v.avoid
+
+abbrev pub part_of : SwitchView → ℕ → Option TreePart
+part_of v group = lookup (λ g. g == group) v.parts

@@ -5,7 +5,7 @@ use Rattle.pl_frame.specs.declared.address.Ip4.{Ip4}
 use Rattle.pl_frame.specs.declared.address.SwitchId.{SwitchId}
 use Rattle.pl_core.specs.declared.messages.TreePart.{TreePart}
 use Rattle.pl_core.specs.declared.neighbour.PortRecord.{PortRecord}
-use Rattle.pl_core.specs.declared.place.Place.{Place}
+use Rattle.pl_layouts.specs.declared.place.Place.{Place}
 use Rattle.pl_core.specs.declared.trap.Trap.{Trap}
 
 -- an aggregation switch holds a position for an edge switch, and has heard that it is fixed there, or not

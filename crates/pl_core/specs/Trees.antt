@@ -4,9 +4,9 @@ use Rattle.std.specs.List.{filter, find, list_any, fold}
 use Rattle.std.specs.Option.{option_and_then, option_map}
 use Rattle.pl_frame.specs.declared.address.SwitchId.{SwitchId}
 use Rattle.pl_core.specs.declared.messages.TreePart.{TreePart}
-use Rattle.pl_core.specs.Memberships.{flood}
+use Rattle.pl_layouts.specs.Memberships.{flood}
 use Rattle.pl_core.specs.ManagerViews.{Told, PlacedEdge, alive_at_level, edge_at, has_level, has_members, has_pod, is_alive, place_of, placed_edges, switches}
-use Rattle.pl_core.specs.Equality.{same_switch}
+use Rattle.pl_layouts.specs.Equality.{same_switch}
 
 -- the edge switches that a group needs: those with members; floods need all that are placed
 abbrev pub needed_edges : List Told → ℕ → List SwitchId

@@ -1,4 +1,5 @@
-use crate::{Cause, ToManager, ToSwitch};
+use pl_journal::Cause;
+use crate::{ToManager, ToSwitch};
 use pl_frame::{Frame, Mac, SwitchId};
 use pl_pmac::Pmac;
 

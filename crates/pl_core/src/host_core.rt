@@ -1,11 +1,13 @@
 ghost use Rattle.std.specs.Prelude.{◌≡◌, IfOk, OnOk, length};
 ghost use Rattle.pl_core.specs.Gains.{Gains};
-ghost use Rattle.pl_core.specs.HostRule.{HostRule, HostsSendData, HostsJoinBySending};
-ghost use Rattle.pl_core.specs.HostRule.HostInput.{HasMoved, Joins, Leaves, Plays, PlaysRaw, Receives, Retries, Starts};
-ghost use Rattle.pl_core.specs.HostRule.HostAnswer.{Nothing, Played, Received};
+ghost use Rattle.pl_core.specs.HostDuties.{HostsSendData, HostsJoinBySending};
+ghost use Rattle.pl_core.specs.HostInputs.{HostRule};
+ghost use Rattle.pl_core.specs.HostInputs.HostInput.{HasMoved, Joins, Leaves, Plays, PlaysRaw, Receives, Retries, Starts};
+ghost use Rattle.pl_core.specs.HostInputs.HostAnswer.{Nothing, Played, Received};
 ghost use Rattle.pl_core.specs.HostViews.{HostView, boot_host, held_count};
 
-use crate::{HostOutbox, HostTable, Memory, Reception, Skip};
+use crate::{HostOutbox, HostTable, Memory, Reception};
+use pl_journal::Skip;
 use pl_arp::Me;
 use pl_frame::Ip4;
 use std::alloc::Global;

@@ -3,12 +3,13 @@ ghost use Rattle.std.specs.Option.{option_copied};
 ghost use Rattle.pl_core.specs.AvoidLists.{avoid_list};
 ghost use Rattle.pl_core.specs.Gains.{Gains};
 ghost use Rattle.pl_core.specs.ManagerFacts.{CanHear, group_at, newest_and_number};
-ghost use Rattle.pl_core.specs.ManagerRule.{AnswersDuly, ManagerRule};
+ghost use Rattle.pl_core.specs.ManagerDuties.{AnswersDuly, ManagerRule};
 ghost use Rattle.pl_core.specs.ManagerViews.{ManagerView, booted_manager, is_told_usable, lookup, place_of};
 ghost use Rattle.pl_core.specs.SwitchFacts.{IsTreeSize};
 ghost use Rattle.pl_core.specs.Trees.{tree_part};
 
-use crate::{AvoidList, ManagerOutbox, Memory, Place, ToManager, TreePart};
+use crate::{AvoidList, ManagerOutbox, Memory, ToManager, TreePart};
+use pl_layouts::Place;
 use pl_frame::{Ip4, Mac, SwitchId};
 use pl_pmac::Pmac;
 use std::alloc::Global;

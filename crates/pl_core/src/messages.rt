@@ -1,4 +1,5 @@
-use crate::{AvoidList, Place, SwitchList};
+use crate::{AvoidList, SwitchList};
+use pl_layouts::Place;
 use pl_frame::{Ip4, Mac, SwitchId};
 use pl_pmac::Pmac;
 

@@ -1,8 +1,7 @@
 ghost use Rattle.std.specs.Prelude.{◌≡◌};
-ghost use Rattle.pl_core.specs.Announcing.{aged};
-ghost use Rattle.pl_core.specs.PortRecords.{is_open_to_hosts, is_usable_record};
+ghost use Rattle.pl_core.specs.PortRecords.{aged, is_open_to_hosts, is_usable_record};
 
-use crate::Place;
+use pl_layouts::Place;
 use pl_frame::SwitchId;
 
 /// What a switch last heard at a port: who is there, its place, and the id that it last heard there

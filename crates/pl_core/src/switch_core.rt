@@ -1,16 +1,15 @@
 ghost use Rattle.std.specs.Prelude.{◌≡◌, ◌↔◌, ◌<◌, ◌/◌, IfOk, OnOk, IsTrue, Some};
 ghost use Rattle.std.specs.Option.{option_copied};
-ghost use Rattle.pl_core.specs.Forwarding.{is_avoided};
+ghost use Rattle.pl_core.specs.SwitchFacts.{is_avoided, part_of, CanBoot, IsAnnounced, group_of_part, has_granted, holder_of, present_attempt, switch_at_boot};
 ghost use Rattle.pl_core.specs.Gains.{Gains};
-ghost use Rattle.pl_core.specs.GroupForwarding.{part_of};
-ghost use Rattle.pl_core.specs.Accounting.{AccountsForFrames, IsComing, IsWithin};
+ghost use Rattle.pl_core.specs.Accounting.{AccountsForFrames, IsComing};
 ghost use Rattle.pl_core.specs.PortRecords.{port_of};
-ghost use Rattle.pl_core.specs.SwitchFacts.{CanBoot, IsAnnounced, group_of_part, has_granted, holder_of, present_attempt, switch_at_boot};
-ghost use Rattle.pl_core.specs.SwitchRule.{Loose, SwitchRule};
-ghost use Rattle.pl_core.specs.SwitchRule.SwitchInput.{Comes, Says, Tick};
+ghost use Rattle.pl_core.specs.SwitchInputs.{SwitchRule};
+ghost use Rattle.pl_core.specs.SwitchInputs.SwitchInput.{Comes, Says, Tick};
 ghost use Rattle.pl_core.specs.SwitchViews.{SwitchView};
 
-use crate::{AvoidList, Memory, Outbox, Place, PortRecord, ToSwitch, TreePart};
+use crate::{AvoidList, Memory, Outbox, PortRecord, ToSwitch, TreePart};
+use pl_layouts::Place;
 use pl_frame::SwitchId;
 use std::alloc::Global;
 
@@ -98,9 +97,4 @@ pub trait SwitchCore: SwitchFacts {
         ensures k { (Self.view self.new).k ≡ (Self.view self.old).k };
 
     ghost accounts: { AccountsForFrames rule };
-}
-
-/// A switch that chooses among the candidate ports as it likes, and does all else by the rule.
-pub trait LooseSwitch: SwitchCore {
-    ghost obeys: { IsWithin Self.rule Loose };
 }

@@ -1,5 +1,5 @@
 ghost use Rattle.std.specs.Prelude.{◌≡◌};
-ghost use Rattle.pl_core.specs.Messages.{newer_trap};
+ghost use Rattle.pl_core.specs.Traps.{newer_trap};
 
 use pl_frame::Ip4;
 use pl_pmac::Pmac;

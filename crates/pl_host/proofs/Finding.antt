@@ -5,7 +5,7 @@ use Rattle.std.specs.Option.{option_or}
 use Rattle.std.proofs.lemmas.List.Folds.{find-append}
 use Rattle.pl_frame.specs.declared.address.Mac.{Mac}
 use Rattle.pl_arp.specs.declared.cache.Me.{Me}
-use Rattle.pl_core.specs.Equality.{same_mac}
+use Rattle.pl_layouts.specs.Equality.{same_mac}
 use Rattle.pl_host.specs.Owners.{AddsHost, Entries, IsIndex}
 
 -- one more host of the table

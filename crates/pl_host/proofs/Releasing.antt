@@ -17,7 +17,7 @@ use Rattle.pl_arp.specs.declared.cache.Me.{Me}
 use Rattle.pl_arp.specs.Reception.{Table, hardware_of, is_target, same_ip, table_after, with_pair}
 use Rattle.pl_arp.proofs.Tables.{hardware_of-others, hardware_of-with_pair}
 use Rattle.pl_core.specs.HostViews.{Held, held_for, ip_cmp}
-use Rattle.pl_core.specs.HostRule.{released, released_by, still_held}
+use Rattle.pl_host_rule.specs.HostRule.{released, released_by, still_held}
 use Rattle.pl_host.specs.Waiting.{AreRising, are_unknown}
 
 -- a packet of one address says nothing of another

@@ -1,7 +1,7 @@
 -- The frames that a host sends.
 use Rattle.std.specs.Prelude.{ℕ, ◌≤◌, List, [], ◌∷◌, length, slice_index, Option, option_map, option_to_list}
 use Rattle.pl_arp.specs.declared.packet.Arp.{Arp}
-use Rattle.pl_core.specs.HostRule.{reply_frame}
+use Rattle.pl_host_rule.specs.HostRule.{reply_frame}
 
 -- 14 to 65,553 bytes
 pub record IsCarried (frame : List ℕ) : Type 0 where

@@ -3,7 +3,8 @@ use Rattle.std.specs.Prelude.{◌≡◌, List}
 use Rattle.pl_core.specs.declared.acts.HostAct.{HostAct}
 use Rattle.pl_core.specs.Gains.{Gains}
 use Rattle.pl_core.specs.HostViews.{HostView}
-use Rattle.pl_core.specs.HostRule.{HostAnswer, HostStep}
+use Rattle.pl_host_rule.specs.HostRule.{HostStep}
+use Rattle.pl_core.specs.HostInputs.{HostAnswer}
 use Rattle.pl_host.specs.declared.host.Host.{Host}
 
 -- what a host keeps

@@ -4,7 +4,7 @@ use Rattle.std.specs.Option.{option_or}
 use Rattle.std.specs.Map.{lookup}
 use Rattle.pl_frame.specs.declared.address.Mac.{Mac}
 use Rattle.pl_arp.specs.declared.cache.Me.{Me}
-use Rattle.pl_core.specs.Equality.{same_mac}
+use Rattle.pl_layouts.specs.Equality.{same_mac}
 
 -- hosts by their hardware addresses
 abbrev pub Entries : Type 0

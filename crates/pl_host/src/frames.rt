@@ -1,12 +1,13 @@
 ghost use Rattle.std.specs.Prelude.{◌≡◌, IfOk};
-ghost use Rattle.pl_core.specs.ArpFrames.{arp_frame};
-ghost use Rattle.pl_core.specs.HostRule.{reply_frame, request_frame};
-ghost use Rattle.pl_core.specs.Reports.{membership_frame};
+ghost use Rattle.pl_layouts.specs.ArpFrames.{arp_frame};
+ghost use Rattle.pl_host_rule.specs.HostRule.{reply_frame, request_frame};
+ghost use Rattle.pl_layouts.specs.Reports.{membership_frame};
 
 use crate::carried::Carried;
 use byteorder::{BigEndian, ByteOrder};
 use pl_arp::{Arp, Me, REQUEST};
-use pl_core::{Change, Memory};
+use pl_layouts::Change;
+use pl_frame::Memory;
 use pl_frame::{Ip4, Mac, TYPE_ARP};
 use pl_multicast::write_igmp;
 use std::alloc::Global;
@@ -40,7 +41,7 @@ pub(crate) fn membership(alloc: Global, me: Me, change: Change) -> Result<Carrie
 }
 
 // A packet in a frame of its sender.
-#[tactic(auto, unfolding(pl_core::specs::ArpFrames::arp_frame))]
+#[tactic(auto, unfolding(pl_layouts::specs::ArpFrames::arp_frame))]
 fn arp_frame(to: Mac, arp: &Arp) -> [u8; 42]
     ensures { result ≡ arp_frame to arp.now }
 {

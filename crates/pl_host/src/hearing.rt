@@ -1,14 +1,15 @@
 ghost use Rattle.std.specs.Prelude.{◌≡◌, IfOk, OnOk, Some};
 ghost use Rattle.pl_core.specs.declared.reception.Reception.TheVariants.{Kept};
-ghost use Rattle.pl_core.specs.HostRule.{hearing, is_not_joined, receiving};
-ghost use Rattle.pl_core.specs.HostRule.HostAnswer.{Received};
+ghost use Rattle.pl_host_rule.specs.HostRule.{hearing, is_not_joined, receiving};
+ghost use Rattle.pl_core.specs.HostInputs.HostAnswer.{Received};
 ghost use Rattle.pl_host.specs.Host.{Takes, host_view};
 
 use crate::host::Host;
 use crate::reading::{group_in, packet_in};
 use crate::sending::{answer, release};
 use pl_arp::Arp;
-use pl_core::{HostOutbox, Memory, Reception};
+use pl_core::{HostOutbox, Reception};
+use pl_frame::Memory;
 use pl_multicast::FLOOD;
 
 impl Host {

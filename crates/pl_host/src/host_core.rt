@@ -1,5 +1,5 @@
-ghost use Rattle.pl_core.specs.HostRule.{host_rule};
-ghost use Rattle.pl_core.proofs.HostSends.{joins_by_sending, owes_sends};
+ghost use Rattle.pl_host_rule.specs.HostRule.{host_rule};
+ghost use Rattle.pl_host_rule.proofs.HostSends.{joins_by_sending, owes_sends};
 ghost use Rattle.pl_host.specs.Host.{host_view};
 
 use crate::carried::Carried;
@@ -10,7 +10,10 @@ use crate::neighbours::Neighbours;
 use crate::owners::Owners;
 use crate::sending::{put, send};
 use pl_arp::Me;
-use pl_core::{Change, HostCore, HostOutbox, HostTable, Memory, Reception, Skip};
+use pl_layouts::Change;
+use pl_core::{HostCore, HostOutbox, HostTable, Reception};
+use pl_frame::Memory;
+use pl_journal::Skip;
 use pl_frame::Ip4;
 use std::alloc::Global;
 

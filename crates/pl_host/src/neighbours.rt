@@ -1,13 +1,14 @@
 ghost use Rattle.std.specs.Prelude.{◌≡◌, [], IfOk, IsTrue, None, OnOk, Some};
 ghost use Rattle.pl_arp.specs.Reception.{answer_to, hardware_of, table_after};
 ghost use Rattle.pl_core.specs.HostViews.{with_held};
-ghost use Rattle.pl_core.specs.HostRule.{released, released_by, still_held};
+ghost use Rattle.pl_host_rule.specs.HostRule.{released, released_by, still_held};
 ghost use Rattle.pl_host.specs.Waiting.{are_unknown};
 
 use crate::carried::Carried;
 use crate::waiting::Waiting;
 use pl_arp::{Arp, Cache, Me};
-use pl_core::{Memory, Queue};
+use pl_frame::Memory;
+use pl_lists::Queue;
 use pl_frame::Ip4;
 use std::alloc::Global;
 

@@ -1,10 +1,11 @@
 ghost use Rattle.std.specs.Prelude.{◌≡◌, ◌&&◌, find, not, IfOk, OnOk};
-ghost use Rattle.pl_core.specs.Equality.{same_mac};
+ghost use Rattle.pl_layouts.specs.Equality.{same_mac};
 ghost use Rattle.pl_host.specs.Owners.{AddsHost};
 
 use indexmap::IndexMap;
 use pl_arp::Me;
-use pl_core::{HostTable, Memory};
+use pl_core::HostTable;
+use pl_frame::Memory;
 use pl_frame::Mac;
 use std::alloc::Global;
 use std::marker::Model;

@@ -1,7 +1,7 @@
 ghost use Rattle.std.specs.Prelude.{◌≡◌, IfOk, None, OnOk};
 ghost use Rattle.pl_arp.specs.Reception.{hardware_of};
-ghost use Rattle.pl_core.specs.HostRule.{holding, playing_frame, sending, sending_to, skip_of, unicast_skip};
-ghost use Rattle.pl_core.specs.HostRule.HostAnswer.{Played};
+ghost use Rattle.pl_host_rule.specs.HostRule.{holding, playing_frame, sending, sending_to, skip_of, unicast_skip};
+ghost use Rattle.pl_core.specs.HostInputs.HostAnswer.{Played};
 ghost use Rattle.pl_host.specs.Carried.{IsCarried};
 ghost use Rattle.pl_host.specs.Host.{Takes, host_view};
 
@@ -11,7 +11,9 @@ use crate::host::Host;
 use crate::reading::{is_foreign, is_group, kind_of};
 use crate::sending::{put, send};
 use pl_arp::Me;
-use pl_core::{HostOutbox, Memory, Skip};
+use pl_core::HostOutbox;
+use pl_frame::Memory;
+use pl_journal::Skip;
 use pl_frame::{Ip4, LONGEST, Mac, SHORTEST, TYPE_ARP, TYPE_CONTROL};
 
 // So many frames wait for an address at most.
@@ -19,7 +21,7 @@ const HOLD_LIMIT: usize = 64;
 
 impl Host {
     /// Why a recorded frame is not played: the first thing that speaks against it.
-    #[tactic(auto, unfolding(pl_core::specs::HostRule::skip_of))]
+    #[tactic(auto, unfolding(pl_host_rule::specs::HostRule::skip_of))]
     pub(crate) fn skip_of(&self, raw: bool, frame: &[u8], original: u32) -> Option<Skip>
         ensures skip { result ≡ skip_of (host_view self.now) raw frame.now original }
         ensures carried { result ≡ None → IsCarried frame.now }

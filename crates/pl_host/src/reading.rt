@@ -1,8 +1,8 @@
 ghost use Rattle.std.specs.Prelude.{◌≡◌, ◌≤◌, length, slice_index};
 ghost use Rattle.pl_frame.specs.Ethernet.{destination_of, kind_of};
-ghost use Rattle.pl_core.specs.Frames.{packet_in};
-ghost use Rattle.pl_core.specs.Memberships.{group_of, is_group};
-ghost use Rattle.pl_core.specs.HostRule.{is_foreign, is_of};
+ghost use Rattle.pl_layouts.specs.Frames.{packet_in};
+ghost use Rattle.pl_layouts.specs.Memberships.{group_of, is_group};
+ghost use Rattle.pl_host_rule.specs.HostRule.{is_foreign, is_of};
 ghost use Rattle.pl_host.specs.Carried.{six_bytes};
 
 use byteorder::{BigEndian, ByteOrder};

@@ -1,14 +1,16 @@
 ghost use Rattle.std.specs.Prelude.{◌≡◌, [], ◌∷◌, ◌++◌, OnOk, Some, fold, map};
 ghost use Rattle.pl_core.specs.declared.acts.HostAct.TheVariants.{Send};
 ghost use Rattle.pl_core.specs.HostViews.{groups_after};
-ghost use Rattle.pl_core.specs.HostRule.{released};
+ghost use Rattle.pl_host_rule.specs.HostRule.{released};
 ghost use Rattle.pl_host.specs.Carried.{replies};
 
 use crate::carried::Carried;
 use crate::frames::reply;
 use crate::groups::Groups;
 use pl_arp::Arp;
-use pl_core::{HostAct, HostOutbox, Memory, Queue};
+use pl_core::{HostAct, HostOutbox};
+use pl_frame::Memory;
+use pl_lists::Queue;
 use pl_frame::Mac;
 use std::alloc::Global;
 

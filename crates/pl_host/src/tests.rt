@@ -1,7 +1,9 @@
 mod recorded;
 
 use crate::Host;
-use pl_core::{HostAct, HostCore, HostOutbox, HostTable, Items, Queue, Reception, Skip};
+use pl_core::{HostAct, HostCore, HostOutbox, HostTable, Reception};
+use pl_lists::{Items, Queue};
+use pl_journal::Skip;
 use pl_frame::Ip4;
 use recorded::*;
 use std::alloc::Global;

@@ -3,14 +3,16 @@ ghost use Rattle.std.specs.Map.{keys_of, values_of, remove_entry};
 ghost use Rattle.pl_arp.specs.Reception.{same_ip};
 ghost use Rattle.pl_core.specs.declared.acts.HostAct.TheVariants.{Send};
 ghost use Rattle.pl_core.specs.HostViews.{held_for, with_held};
-ghost use Rattle.pl_core.specs.HostRule.{request_frame};
+ghost use Rattle.pl_host_rule.specs.HostRule.{request_frame};
 ghost use Rattle.pl_host.specs.Waiting.{AreRising};
 
 use crate::carried::Carried;
 use crate::frames::request;
 use crate::sending::put;
 use pl_arp::Me;
-use pl_core::{HostOutbox, Memory, Queue};
+use pl_core::HostOutbox;
+use pl_frame::Memory;
+use pl_lists::Queue;
 use pl_frame::Ip4;
 use std::alloc::{AllocError, Global};
 use std::collections::BTreeMap;

@@ -3,7 +3,7 @@ use Rattle.std.proofs.Common.{◌≡◌, ℕ, ◌+◌, ◌^◌, ◌<◌, ◌==�
 use Rattle.std.proofs.lemmas.Bool.{eqb-true, eqb-false, eq-eqb, ne_eqb, cases_Bool, ltb-true}
 use Rattle.std.proofs.lemmas.Bool.Decides.{nat_tests}
 use Rattle.pl_frame.specs.declared.address.SwitchId.{SwitchId}
-use Rattle.pl_core.specs.Control.{known_unless, id_code, id_of_code, bit, is_bit, is_level}
+use Rattle.pl_layouts.specs.Control.{known_unless, id_code, id_of_code, bit, is_bit, is_level}
 use Rattle.pl_ldp.specs.Writable.{IsId}
 
 -- what is known keeps clear of the code of what is not

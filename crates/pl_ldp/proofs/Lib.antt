@@ -1,4 +1,4 @@
-mod Codes
-mod Refusals
-mod Written
-mod Spelled
+pub mod Codes
+pub mod Refusals
+pub mod Written
+pub mod Spelled

@@ -3,11 +3,11 @@ use Rattle.std.proofs.Common.{◌≡◌, ◌≢◌, ℕ, ◌<◌, ◌≤◌, ◌
 use Rattle.std.proofs.lemmas.Bool.{cases_Bool, eqb-true, ne_eqb}
 use Rattle.std.proofs.lemmas.Bool.Decides.{nat_tests}
 use Rattle.byteorder.specs.Endian.{big_number}
-use Rattle.pl_core.specs.declared.control.Control.{Control}
-use Rattle.pl_core.specs.declared.control.Control.TheVariants as control
-use Rattle.pl_core.specs.declared.control.ControlError.{ControlError}
-use Rattle.pl_core.specs.declared.control.ControlError.TheVariants.{Cut, BadField}
-use Rattle.pl_core.specs.Control.{known_unless, id_of_code, is_level, is_bit, is_sound, sender_at, ldm_at, vote_at, sound_or_refused}
+use Rattle.pl_layouts.specs.declared.control.Control.{Control}
+use Rattle.pl_layouts.specs.declared.control.Control.TheVariants as control
+use Rattle.pl_layouts.specs.declared.control.ControlError.{ControlError}
+use Rattle.pl_layouts.specs.declared.control.ControlError.TheVariants.{Cut, BadField}
+use Rattle.pl_layouts.specs.Control.{known_unless, id_of_code, is_level, is_bit, is_sound, sender_at, ldm_at, vote_at, sound_or_refused}
 use Rattle.pl_ldp.specs.Refusals.{HasBadField}
 
 abbrev Read : Type 0

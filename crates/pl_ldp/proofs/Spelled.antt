@@ -5,14 +5,14 @@ use Rattle.std.proofs.lemmas.List.{take-append-drop, drop-drop, drop_more, lengt
 use Rattle.byteorder.specs.Endian.{big_number, big_bytes}
 use Rattle.byteorder.specs.Numbers.{big_from-lt}
 use Rattle.pl_frame.proofs.Numbers.{IsBytes, bytes-drop, big_bytes-big_number_front}
-use Rattle.pl_core.specs.declared.control.Ldm.{Ldm}
-use Rattle.pl_core.specs.declared.control.Proposal.{Proposal}
-use Rattle.pl_core.specs.declared.control.Vote.{Vote}
-use Rattle.pl_core.specs.declared.control.Control.{Control}
-use Rattle.pl_core.specs.declared.control.Control.TheVariants as control
-use Rattle.pl_core.specs.declared.control.ControlError.{ControlError}
-use Rattle.pl_core.specs.declared.control.ControlError.TheVariants.{Cut, BadVersion, BadKind, BadField}
-use Rattle.pl_core.specs.Control.{id_code, pod_code, bit, is_bit, sender_at, ldm_at, proposal_at, vote_at, is_sound, is_sound_ldm, is_sound_vote, sound_or_refused, ldm_bytes, proposal_bytes, vote_bytes, control_bytes, control_in}
+use Rattle.pl_layouts.specs.declared.control.Ldm.{Ldm}
+use Rattle.pl_layouts.specs.declared.control.Proposal.{Proposal}
+use Rattle.pl_layouts.specs.declared.control.Vote.{Vote}
+use Rattle.pl_layouts.specs.declared.control.Control.{Control}
+use Rattle.pl_layouts.specs.declared.control.Control.TheVariants as control
+use Rattle.pl_layouts.specs.declared.control.ControlError.{ControlError}
+use Rattle.pl_layouts.specs.declared.control.ControlError.TheVariants.{Cut, BadVersion, BadKind, BadField}
+use Rattle.pl_layouts.specs.Control.{id_code, pod_code, bit, is_bit, sender_at, ldm_at, proposal_at, vote_at, is_sound, is_sound_ldm, is_sound_vote, sound_or_refused, ldm_bytes, proposal_bytes, vote_bytes, control_bytes, control_in}
 use Rattle.pl_ldp.specs.Writable.{IsId, FitsLdm, FitsProposal, FitsVote, IsWritable}
 use Rattle.pl_ldp.proofs.Codes.{unwrap_or-known_unless, known_unless-fits, id_code-id_of_code, id_of_code-fits, bit-of, above_zero}
 

@@ -4,12 +4,12 @@ use Rattle.std.proofs.lemmas.Bool.{le-ltb, and_parts, and_from}
 use Rattle.byteorder.specs.Endian.{big_bytes}
 use Rattle.byteorder.specs.Numbers.{big_number-reads_back}
 use Rattle.pl_frame.specs.declared.address.SwitchId.{SwitchId}
-use Rattle.pl_core.specs.declared.control.Ldm.{Ldm}
-use Rattle.pl_core.specs.declared.control.Proposal.{Proposal}
-use Rattle.pl_core.specs.declared.control.Vote.{Vote}
-use Rattle.pl_core.specs.declared.control.Control.{Control}
-use Rattle.pl_core.specs.declared.control.Control.TheVariants as control
-use Rattle.pl_core.specs.Control.{known_unless, id_code, id_of_code, pod_code, bit, is_bit, sender_at, ldm_at, proposal_at, vote_at, is_level, is_sound, is_sound_ldm, sound_or_refused, ldm_bytes, proposal_bytes, vote_bytes, control_bytes, control_in}
+use Rattle.pl_layouts.specs.declared.control.Ldm.{Ldm}
+use Rattle.pl_layouts.specs.declared.control.Proposal.{Proposal}
+use Rattle.pl_layouts.specs.declared.control.Vote.{Vote}
+use Rattle.pl_layouts.specs.declared.control.Control.{Control}
+use Rattle.pl_layouts.specs.declared.control.Control.TheVariants as control
+use Rattle.pl_layouts.specs.Control.{known_unless, id_code, id_of_code, pod_code, bit, is_bit, sender_at, ldm_at, proposal_at, vote_at, is_level, is_sound, is_sound_ldm, sound_or_refused, ldm_bytes, proposal_bytes, vote_bytes, control_bytes, control_in}
 use Rattle.pl_ldp.specs.Writable.{IsId, FitsLdm, FitsProposal, FitsVote, IsWritable}
 use Rattle.pl_ldp.proofs.Codes.{known_unless-unwrap_or, unwrap_or-fits, id_of_code-id_code, id_code-fits, of-bit, is_bit-bit, is_known_level, level-fits}
 

@@ -1,12 +1,12 @@
 -- What can be told by a control frame.
 use Rattle.std.specs.Prelude.{◌<◌, ◌^◌, IfSome, IsTrue}
 use Rattle.pl_frame.specs.declared.address.SwitchId.{SwitchId}
-use Rattle.pl_core.specs.declared.control.Ldm.{Ldm}
-use Rattle.pl_core.specs.declared.control.Proposal.{Proposal}
-use Rattle.pl_core.specs.declared.control.Vote.{Vote}
-use Rattle.pl_core.specs.declared.control.Control.{Control}
-use Rattle.pl_core.specs.declared.control.Control.TheVariants as control
-use Rattle.pl_core.specs.Control.{is_sound}
+use Rattle.pl_layouts.specs.declared.control.Ldm.{Ldm}
+use Rattle.pl_layouts.specs.declared.control.Proposal.{Proposal}
+use Rattle.pl_layouts.specs.declared.control.Vote.{Vote}
+use Rattle.pl_layouts.specs.declared.control.Control.{Control}
+use Rattle.pl_layouts.specs.declared.control.Control.TheVariants as control
+use Rattle.pl_layouts.specs.Control.{is_sound}
 
 -- an id stands in six bytes and is not 0
 abbrev pub IsId : SwitchId → Type 0

@@ -6,7 +6,7 @@
 //! crates above.
 #![tactic(auto)]
 
-pub use pl_core::{Control, ControlError, Ldm, Proposal, Vote};
+pub use pl_layouts::{Control, ControlError, Ldm, Proposal, Vote};
 pub use read::read_control;
 pub use spelling::spelling_is_exact;
 pub use write::write_control;

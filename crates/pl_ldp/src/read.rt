@@ -1,5 +1,5 @@
 ghost use Rattle.std.specs.Prelude.{◌≡◌, ◌≤◌, ◌↔◌, ◌&&◌, Bool, true, length, nat_lt, slice_index, if◌then◌else◌, IfOk, Ok, Err};
-ghost use Rattle.pl_core.specs.Control.{known_unless, id_of_code, sender_at, ldm_at, proposal_at, vote_at, is_sound, is_sound_ldm, is_sound_vote, is_bit, sound_or_refused, control_in};
+ghost use Rattle.pl_layouts.specs.Control.{known_unless, id_of_code, sender_at, ldm_at, proposal_at, vote_at, is_sound, is_sound_ldm, is_sound_vote, is_bit, sound_or_refused, control_in};
 ghost use Rattle.pl_ldp.specs.Writable.{IsWritable};
 ghost use Rattle.pl_ldp.specs.Refusals.{IsCut, IsOtherVersion, IsOtherKind, HasBadField};
 
@@ -7,7 +7,7 @@ use crate::{
     KIND_LDM, KIND_PROPOSAL, KIND_VOTE, LDM_LENGTH, PROPOSAL_LENGTH, VERSION, VOTE_LENGTH,
 };
 use byteorder::{BigEndian, ByteOrder};
-use pl_core::{Control, ControlError, Ldm, Place, Proposal, Vote};
+use pl_layouts::{Control, ControlError, Ldm, Place, Proposal, Vote};
 use pl_frame::SwitchId;
 
 /// What a control frame's payload says, or the first thing that is wrong with it: fewer bytes than

@@ -1,7 +1,7 @@
 ghost use Rattle.std.specs.Prelude.{◌≡◌, ◌<◌, ◌++◌, ℕ, List, length, drop, slice_index, Ok};
 ghost use Rattle.pl_frame.specs.Ethernet.{payload_of};
-ghost use Rattle.pl_core.specs.declared.control.Control.{Control};
-ghost use Rattle.pl_core.specs.Control.{control_bytes, control_frame, control_in};
+ghost use Rattle.pl_layouts.specs.declared.control.Control.{Control};
+ghost use Rattle.pl_layouts.specs.Control.{control_bytes, control_frame, control_in};
 ghost use Rattle.pl_ldp.specs.Writable.{IsWritable};
 
 /// A message and its bytes determine each other: what is spelled is read, whatever follows it, and

@@ -1,5 +1,5 @@
 use super::*;
-use pl_core::Place;
+use pl_layouts::Place;
 use pl_frame::SwitchId;
 
 // Switch 5 tells that it knows nothing, at a port where it heard nothing.

@@ -1,13 +1,13 @@
 ghost use Rattle.std.specs.Prelude.{◌≡◌, ◌≤◌, ◌<◌, ◌^◌, ◌∷◌, ◌++◌, length, take, drop};
 ghost use Rattle.byteorder.specs.Endian.{big_bytes};
-ghost use Rattle.pl_core.specs.Control.{level_code, pod_code, id_code, ldm_bytes, proposal_bytes, vote_bytes, control_bytes, sender_of, control_frame};
+ghost use Rattle.pl_layouts.specs.Control.{level_code, pod_code, id_code, ldm_bytes, proposal_bytes, vote_bytes, control_bytes, sender_of, control_frame};
 ghost use Rattle.pl_ldp.specs.Writable.{IsWritable, FitsLdm, FitsVote, IsId};
 
 use crate::{
     KIND_LDM, KIND_PROPOSAL, KIND_VOTE, LDM_LENGTH, PROPOSAL_LENGTH, VERSION, VOTE_LENGTH,
 };
 use byteorder::{BigEndian, ByteOrder};
-use pl_core::{Control, Ldm, Proposal, Vote};
+use pl_layouts::{Control, Ldm, Proposal, Vote};
 use pl_frame::{SHORTEST, SwitchId, TYPE_CONTROL};
 
 // The group that every switch is in: 03:50:4c:00:00:01.

@@ -6,11 +6,11 @@ use Rattle.byteorder.specs.Numbers.{big_number-reads_back}
 use Rattle.pl_frame.specs.Ethernet.{Fields}
 use Rattle.pl_frame.proofs.Fields.{fields_of-frame_of}
 use Rattle.pl_arp.specs.declared.cache.Me.{Me}
-use Rattle.pl_core.specs.declared.membership.Change.{Change}
-use Rattle.pl_core.specs.Memberships.{change_if_routed, changes_in, changes_of, is_routed_group, message_changes}
+use Rattle.pl_layouts.specs.declared.membership.Change.{Change}
+use Rattle.pl_layouts.specs.Memberships.{change_if_routed, changes_in, changes_of, is_routed_group, message_changes}
 use Rattle.pl_multicast.specs.Messages.{message_of}
-use Rattle.pl_core.specs.Checksum.{checksum_of}
-use Rattle.pl_core.specs.Reports.{group_mac, header_of, header_with, membership_frame, message_of_change, message_with, receiver_of}
+use Rattle.pl_layouts.specs.Checksum.{checksum_of}
+use Rattle.pl_layouts.specs.Reports.{group_mac, header_of, header_with, membership_frame, message_of_change, message_with, receiver_of}
 
 -- the message behind the header, whatever the checksums
 message_of-written : (src dst first : ℕ) (join : Bool) (group second : ℕ) →

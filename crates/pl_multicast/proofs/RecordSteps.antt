@@ -4,8 +4,8 @@ use Rattle.std.specs.Option.{option_to_list, is_some}
 use Rattle.std.specs.Iterator.{YieldsFirst}
 use Rattle.std.specs.Borrow.{Bor}
 use Rattle.byteorder.specs.Endian.{big_number}
-use Rattle.pl_core.specs.declared.membership.Change.{Change}
-use Rattle.pl_core.specs.Memberships.{record_change, record_length, records_changes}
+use Rattle.pl_layouts.specs.declared.membership.Change.{Change}
+use Rattle.pl_layouts.specs.Memberships.{record_change, record_length, records_changes}
 use Rattle.pl_multicast.specs.declared.reading.Changes.{Changes}
 use Rattle.pl_multicast.specs.Records.{record_end}
 use Rattle.pl_multicast.specs.Changes.{changes_left}

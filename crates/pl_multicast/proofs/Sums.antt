@@ -3,9 +3,9 @@ use Rattle.std.proofs.Common.{◌≡◌, ℕ, ◌+◌, ◌-◌, ◌*◌, ◌/◌
 use Rattle.std.specs.Prelude.{fold, sum}
 use Rattle.std.proofs.lemmas.Grind.{common_steps}
 use Rattle.byteorder.specs.Endian.{big_bytes}
-use Rattle.pl_core.specs.declared.membership.Change.{Change}
-use Rattle.pl_core.specs.Checksum.{words, ones_plus, ones_sum, checksum_of}
-use Rattle.pl_core.specs.Reports.{header_with, header_of, message_with, message_of_change}
+use Rattle.pl_layouts.specs.declared.membership.Change.{Change}
+use Rattle.pl_layouts.specs.Checksum.{words, ones_plus, ones_sum, checksum_of}
+use Rattle.pl_layouts.specs.Reports.{header_with, header_of, message_with, message_of_change}
 
 -- s is n by ones' complement: it differs by a multiple of 65535, and is 0 for 0 alone
 pub record Stands (s n : ℕ) : Type 0 where

@@ -1,6 +1,6 @@
 -- The membership message of a frame, by the type and the payload of the frame.
 use Rattle.std.specs.Prelude.{ℕ, ◌/◌, ◌==◌, ◌&&◌, nat_le, if◌then◌else◌, List, length, drop, slice_index, Option, Some, None}
-use Rattle.pl_core.specs.Memberships.{header_length, is_membership}
+use Rattle.pl_layouts.specs.Memberships.{header_length, is_membership}
 
 -- IPv4 of protocol 2 in a whole header, and at least 8 bytes behind it
 abbrev pub message_of : ℕ → List ℕ → Option (List ℕ)

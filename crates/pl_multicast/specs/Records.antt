@@ -1,6 +1,6 @@
 -- The group records of a version 3 report (RFC 3376, section 4.2.4).
 use Rattle.std.specs.Prelude.{ℕ, ◌||◌, nat_lt, if◌then◌else◌, List, length, Option, Some, None}
-use Rattle.pl_core.specs.Memberships.{record_length}
+use Rattle.pl_layouts.specs.Memberships.{record_length}
 
 -- where the record at the front of some bytes ends, if it is whole
 abbrev pub record_end : List ℕ → Option ℕ

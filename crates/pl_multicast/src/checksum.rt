@@ -1,10 +1,10 @@
 ghost use Rattle.std.specs.Prelude.{◌≡◌, ◌%◌, length};
-ghost use Rattle.pl_core.specs.Checksum.{checksum_of, ones_plus};
+ghost use Rattle.pl_layouts.specs.Checksum.{checksum_of, ones_plus};
 
 use byteorder::{BigEndian, ByteOrder};
 
 // Ones' complement addition.
-#[tactic(auto, unfolding(pl_core::specs::Checksum::ones_plus))]
+#[tactic(auto, unfolding(pl_layouts::specs::Checksum::ones_plus))]
 fn ones_plus(a: u16, b: u16) -> u16
     ensures { result ≡ ones_plus a b }
 {

@@ -1,5 +1,5 @@
 ghost use Rattle.std.specs.Prelude.{◌≡◌, ◌↔◌, false, None};
-ghost use Rattle.pl_core.specs.Memberships.{group_of, is_group};
+ghost use Rattle.pl_layouts.specs.Memberships.{group_of, is_group};
 
 use byteorder::{BigEndian, ByteOrder};
 use pl_frame::Mac;

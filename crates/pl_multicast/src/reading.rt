@@ -1,7 +1,7 @@
 ghost use Rattle.std.specs.Prelude.{◌≡◌, ◌≤◌, ℕ, List, [], length, is_some, IfSome, MatchOption};
 ghost use Rattle.std.specs.Option.{option_copied, option_to_list};
 ghost use Rattle.pl_frame.specs.Ethernet.{fields, fields_of};
-ghost use Rattle.pl_core.specs.Memberships.{membership_in, message_changes, changes_in};
+ghost use Rattle.pl_layouts.specs.Memberships.{membership_in, message_changes, changes_in};
 ghost use Rattle.pl_multicast.specs.Messages.{message_of};
 ghost use Rattle.pl_multicast.specs.Changes.{changes_left};
 
@@ -118,7 +118,7 @@ fn changes_of(message: &[u8]) -> Changes<'_>
 }
 
 // The changes of a version 2 message.
-#[tactic(auto, unfolding(crate::specs::Changes::changes_left, pl_core::specs::Memberships::records_changes))]
+#[tactic(auto, unfolding(crate::specs::Changes::changes_left, pl_layouts::specs::Memberships::records_changes))]
 fn one_at_most<'a>(only: Option<Change>) -> Changes<'a>
     ensures { changes_left result ≡ option_to_list only }
 {

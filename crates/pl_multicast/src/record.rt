@@ -1,7 +1,7 @@
 ghost use Rattle.std.specs.Prelude.{◌≡◌, ◌≤◌, length, drop, slice_index};
 ghost use Rattle.std.specs.Option.{option_to_list};
 ghost use Rattle.byteorder.specs.Endian.{big_number};
-ghost use Rattle.pl_core.specs.Memberships.{change_if_routed, record_change};
+ghost use Rattle.pl_layouts.specs.Memberships.{change_if_routed, record_change};
 ghost use Rattle.pl_multicast.specs.Records.{record_end};
 
 use crate::Change;

@@ -1,9 +1,9 @@
 ghost use Rattle.std.specs.Prelude.{◌≡◌, true, List, [], ◌∷◌, length, slice_range};
 ghost use Rattle.pl_arp.specs.declared.cache.Me.{Me};
-ghost use Rattle.pl_core.specs.declared.membership.Change.{Change};
-ghost use Rattle.pl_core.specs.Memberships.{changes_in, is_routed_group};
-ghost use Rattle.pl_core.specs.Checksum.{ones_sum};
-ghost use Rattle.pl_core.specs.Reports.{receiver_of, group_mac, header_of, message_of_change, membership_frame};
+ghost use Rattle.pl_layouts.specs.declared.membership.Change.{Change};
+ghost use Rattle.pl_layouts.specs.Memberships.{changes_in, is_routed_group};
+ghost use Rattle.pl_layouts.specs.Checksum.{ones_sum};
+ghost use Rattle.pl_layouts.specs.Reports.{receiver_of, group_mac, header_of, message_of_change, membership_frame};
 
 use crate::Change;
 use crate::checksum::checksum;
@@ -62,7 +62,7 @@ fn group_mac(group: Ip4) -> Mac
 }
 
 // The IPv4 header before a message of 8 bytes.
-#[tactic(auto, unfolding(pl_core::specs::Reports::header_of))]
+#[tactic(auto, unfolding(pl_layouts::specs::Reports::header_of))]
 fn header_of(src: Ip4, dst: Ip4) -> [u8; 24]
     ensures { result ≡ header_of src.0 dst.0 }
 {
@@ -75,7 +75,7 @@ fn header_of(src: Ip4, dst: Ip4) -> [u8; 24]
 }
 
 // The message itself.
-#[tactic(auto, unfolding(pl_core::specs::Reports::message_of_change))]
+#[tactic(auto, unfolding(pl_layouts::specs::Reports::message_of_change))]
 fn message_for(change: Change) -> [u8; 8]
     ensures { result ≡ message_of_change change }
 {

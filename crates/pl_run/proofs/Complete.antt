@@ -2,13 +2,13 @@
 use Rattle.std.proofs.Common.{◌≡◌, ℕ, ◌<◌, ◌≤◌, List, [], ◌∷◌, length, Option, Some, None, Result, Ok, Err, refl, sym, ap, ◌∙◌, subst, arith}
 use Rattle.std.proofs.lemmas.List.Elements.{All-head, All-tail}
 use Rattle.pl_shelf.specs.Held.{Held, IsLonger, IsWhole, holds}
-use Rattle.pl_topology.specs.declared.host.Host.{Host}
-use Rattle.pl_topology.specs.Plan.{Plan}
+use Rattle.pl_wiring.specs.declared.host.Host.{Host}
+use Rattle.pl_wiring.specs.Plan.{Plan}
 use Rattle.pl_script.specs.declared.script.ScriptLine.{ScriptLine}
 use Rattle.pl_run.specs.Complete.{AreCapturesTold, AreTold, IsCaptureTold, IsTold}
-use Rattle.pl_run.specs.Folders.{in_folder}
-use Rattle.pl_run.specs.Inputs.{AreCaptures, AreRead, HasLines, HasPlan, Inputs, IsCaptureAt, lines_of, plan_of}
-use Rattle.pl_run.specs.Words.{Asked}
+use Rattle.pl_inputs.specs.Folders.{in_folder}
+use Rattle.pl_inputs.specs.Inputs.{AreCaptures, AreRead, HasLines, HasPlan, Inputs, IsCaptureAt, lines_of, plan_of}
+use Rattle.pl_inputs.specs.Words.{Asked}
 
 pub ok_err : {T E : Type 0} (r : Result T E) (x : T) (e : E) → r ≡ Ok x → r ≡ Err e → ⊥
 ok_err r x e ok err = cc

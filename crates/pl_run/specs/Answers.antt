@@ -3,24 +3,24 @@ use Rattle.std.specs.Prelude.{◌≡◌, ◌<◌, ◌≤◌, ℕ, ◌-◌, suc, 
 use Rattle.std.specs.Option.{option_map_or}
 use Rattle.pl_shelf.specs.Held.{Held, Same}
 use Rattle.pl_shelf.specs.Faults.{Rose}
-use Rattle.pl_core.specs.declared.entry.Entry.{Entry}
-use Rattle.pl_core.specs.Lossy.{GoodTrail, Run}
+use Rattle.pl_journal.specs.declared.entry.Entry.{Entry}
+use Rattle.pl_journal.specs.Lossy.{GoodTrail, Run}
 use Rattle.pl_script.specs.declared.command.Command.{Command}
 use Rattle.pl_script.specs.declared.command.Command.TheVariants.{Settle}
 use Rattle.pl_script.specs.declared.script.ScriptLine.{ScriptLine}
-use Rattle.pl_run.specs.declared.status.Status.{Status}
-use Rattle.pl_run.specs.declared.status.Status.TheVariants as status
-use Rattle.pl_run.specs.declared.step.StepReason.{StepReason}
-use Rattle.pl_run.specs.declared.summary.Rest.{Rest}
-use Rattle.pl_run.specs.Asked.{deeds_asked, deeds_in}
-use Rattle.pl_run.specs.Captures.{records_in_file, tail_of_file}
-use Rattle.pl_run.specs.Inputs.{AreRead, Inputs}
-use Rattle.pl_run.specs.Machine.{Recorded, Refusal, State, play, records_left}
-use Rattle.pl_run.specs.Receipts.{saved_texts}
-use Rattle.pl_run.specs.Saved.{AreSaved, BreaksOff, Saving}
-use Rattle.pl_run.specs.Summary.{summary_text}
-use Rattle.pl_run.specs.Unread.{IsUnread}
-use Rattle.pl_run.specs.Words.{Asked}
+use Rattle.pl_inputs.specs.declared.status.Status.{Status}
+use Rattle.pl_inputs.specs.declared.status.Status.TheVariants as status
+use Rattle.pl_inputs.specs.declared.step.StepReason.{StepReason}
+use Rattle.pl_output.specs.declared.summary.Rest.{Rest}
+use Rattle.pl_one_edge.specs.Asked.{deeds_asked, deeds_in}
+use Rattle.pl_one_edge.specs.Captures.{records_in_file, tail_of_file}
+use Rattle.pl_inputs.specs.Inputs.{AreRead, Inputs}
+use Rattle.pl_one_edge.specs.Machine.{Recorded, Refusal, State, play, records_left}
+use Rattle.pl_output.specs.Receipts.{saved_texts}
+use Rattle.pl_output.specs.Saved.{AreSaved, BreaksOff, Saving}
+use Rattle.pl_output.specs.Summary.{summary_text}
+use Rattle.pl_inputs.specs.Unread.{IsUnread}
+use Rattle.pl_inputs.specs.Words.{Asked}
 
 -- for each host the records of its capture
 abbrev pub records_of : Inputs → List (List Recorded)

@@ -3,20 +3,20 @@ use Rattle.std.specs.Prelude.{◌≡◌, ◌⊎◌, ℕ, ◌+◌, ◌-◌, ◌^�
 use Rattle.pl_shelf.specs.Held.{Held, IsLonger, holds}
 use Rattle.pl_capture.specs.declared.error.CaptureError.{CaptureError}
 use Rattle.pl_capture.specs.CaptureError.{offset_of}
-use Rattle.pl_topology.specs.declared.host.Host.{Host}
-use Rattle.pl_topology.specs.declared.host.HostNo.{HostNo}
-use Rattle.pl_topology.specs.Plan.{Plan}
+use Rattle.pl_wiring.specs.declared.host.Host.{Host}
+use Rattle.pl_wiring.specs.declared.host.HostNo.{HostNo}
+use Rattle.pl_wiring.specs.Plan.{Plan}
 use Rattle.pl_script.specs.declared.error.ScriptError.TheVariants.{Line}
 use Rattle.pl_script.specs.declared.error.ScriptReason.{ScriptReason}
-use Rattle.pl_run.specs.declared.status.Status.{Status}
-use Rattle.pl_run.specs.declared.status.Status.TheVariants as status
-use Rattle.pl_run.specs.declared.status.TopologyReason.{TopologyReason}
+use Rattle.pl_inputs.specs.declared.status.Status.{Status}
+use Rattle.pl_inputs.specs.declared.status.Status.TheVariants as status
+use Rattle.pl_inputs.specs.declared.status.TopologyReason.{TopologyReason}
 use Rattle.pl_run.specs.Answers.{Moment, run_of}
-use Rattle.pl_run.specs.Folders.{in_folder}
-use Rattle.pl_run.specs.Inputs.{AreRead, HasPlan, Inputs, IsLoaded, lines_of, plan_of, text_limit}
-use Rattle.pl_run.specs.Machine.{Refusal, State}
-use Rattle.pl_run.specs.Unread.{AreTextsRead, IsRefusedCapture, IsTooMuch}
-use Rattle.pl_run.specs.Words.{Asked}
+use Rattle.pl_inputs.specs.Folders.{in_folder}
+use Rattle.pl_inputs.specs.Inputs.{AreRead, HasPlan, Inputs, IsLoaded, lines_of, plan_of, text_limit}
+use Rattle.pl_one_edge.specs.Machine.{Refusal, State}
+use Rattle.pl_inputs.specs.Unread.{AreTextsRead, IsRefusedCapture, IsTooMuch}
+use Rattle.pl_inputs.specs.Words.{Asked}
 
 -- the shelf tells what this name holds
 abbrev pub IsTold : (List ℕ → Held) → List ℕ → Type 0

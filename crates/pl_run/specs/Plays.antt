@@ -1,12 +1,12 @@
 -- What comes of a run whose inputs were read.
 use Rattle.std.specs.Prelude.{◌≡◌, ◌≤◌, ℕ, List, Result, Ok, Err}
 use Rattle.pl_shelf.specs.Faults.{Rose}
-use Rattle.pl_run.specs.declared.status.Status.{Status}
-use Rattle.pl_run.specs.declared.status.Status.TheVariants as status
+use Rattle.pl_inputs.specs.declared.status.Status.{Status}
+use Rattle.pl_inputs.specs.declared.status.Status.TheVariants as status
 use Rattle.pl_run.specs.Answers.{IsLossyRun, IsUntouched, Moment, run_of, texts_of}
-use Rattle.pl_run.specs.Inputs.{Inputs}
-use Rattle.pl_run.specs.Machine.{State}
-use Rattle.pl_run.specs.Saved.{AreSaved, BreaksOff}
+use Rattle.pl_inputs.specs.Inputs.{Inputs}
+use Rattle.pl_one_edge.specs.Machine.{State}
+use Rattle.pl_output.specs.Saved.{AreSaved, BreaksOff}
 
 -- it was not played to the end of the script
 abbrev pub IsUnplayed : Inputs → Status → Type 0

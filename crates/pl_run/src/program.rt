@@ -1,20 +1,12 @@
 ghost use Rattle.std.specs.Prelude.{◌≡◌, ◌↔◌, Some, None};
 ghost use Rattle.pl_run.specs.Answers.{Answers, IsUntouched, moment};
-ghost use Rattle.pl_run.specs.Complete.{
-  AnswersBadCapture,
-  AnswersBadScript,
-  AnswersBadTopology,
-  AnswersInputs,
-  AnswersLongCapture,
-  AnswersLongScript,
-  AnswersLongTopology,
-};
-ghost use Rattle.pl_run.specs.Met.{texts};
-ghost use Rattle.pl_run.specs.Words.{Asked, asked_of};
+ghost use Rattle.pl_run.specs.Complete.{AnswersBadCapture, AnswersBadScript, AnswersBadTopology, AnswersInputs, AnswersLongCapture, AnswersLongScript, AnswersLongTopology};
+ghost use Rattle.pl_inputs.specs.Met.{texts};
+ghost use Rattle.pl_inputs.specs.Words.{Asked, asked_of};
 
 use crate::running::run;
-use crate::status::Status;
-use crate::words::files_of;
+use pl_inputs::Status;
+use pl_inputs::files_of;
 use pl_shelf::Shelf;
 use std::alloc::Global;
 

@@ -1,18 +1,17 @@
 ghost use Rattle.std.specs.Prelude.{◌≡◌, All, IfOk, IfErr, Ok};
 ghost use Rattle.pl_run.specs.Answers.{Answers, IsLossyRun, moment, run_of};
-ghost use Rattle.pl_run.specs.Loaded.{inputs_of};
-ghost use Rattle.pl_run.specs.Met.{asked};
-ghost use Rattle.pl_run.specs.Played.{state_of};
+ghost use Rattle.pl_inputs.specs.Loaded.{inputs_of};
+ghost use Rattle.pl_inputs.specs.Met.{asked};
+ghost use Rattle.pl_one_edge.specs.Played.{state_of};
 ghost use Rattle.pl_run.specs.Plays.{EndsRun, IsUnplayed, answer_of};
-ghost use Rattle.pl_run.specs.Savable.{IsSavable};
+ghost use Rattle.pl_journal.specs.Savable.{IsSavable};
 
-use crate::loading::{Inputs, load_inputs};
-use crate::player::{PlayError, Played, play};
+use pl_inputs::{Inputs, load_inputs};
+use pl_one_edge:::{PlayError, Played, play, every_entry_can_be_saved, hosts_do_what_is_asked, one_lossy_switch};
 use crate::running::texts::texts_of;
-use crate::saving::save_all;
-use crate::status::Status;
-use crate::words::Files;
-use crate::{every_entry_can_be_saved, hosts_do_what_is_asked, one_lossy_switch};
+use pl_output::save_all;
+use pl_inputs::Status;
+use pl_inputs::Files;
 use pl_shelf::Shelf;
 use std::alloc::Global;
 

@@ -1,4 +1,5 @@
-use crate::{Status, portland};
+use pl_inputs::Status;
+use crate::portland;
 use pl_shelf::MemoryShelf;
 use std::alloc::{AllocError, Global};
 use std::test::Fail;

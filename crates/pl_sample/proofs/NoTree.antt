@@ -4,7 +4,7 @@ use Rattle.std.specs.List.{filter}
 use Rattle.std.specs.Option.{option_and_then}
 use Rattle.pl_frame.specs.declared.address.SwitchId.{SwitchId}
 use Rattle.pl_core.specs.ManagerViews.{has_members, placed_edges, switches}
-use Rattle.pl_core.specs.Memberships.{flood}
+use Rattle.pl_layouts.specs.Memberships.{flood}
 use Rattle.pl_core.specs.Trees.{core_for, core_of, part_under, tree_part}
 
 nobody : (test : Bool) (group : ℕ) → (if test then map (λ e. e.switch) (placed_edges []) else filter (λ s. has_members [] s group) (switches [])) ≡ []

@@ -6,9 +6,9 @@ use Rattle.pl_core.specs.declared.acts.Act.{Act}
 use Rattle.pl_core.specs.declared.acts.Act.TheVariants.{Pass}
 use Rattle.pl_core.specs.Accounting.{AccountsForFrames, CanCome, IsAccounted, IsFit, IsShaped, IsWhole, is_said, speech}
 use Rattle.pl_core.specs.Accounting.Speech.{Passed, Silent, Waiting}
-use Rattle.pl_core.specs.Control.{is_control}
-use Rattle.pl_core.specs.SwitchRule.{SwitchInput}
-use Rattle.pl_core.specs.SwitchRule.SwitchInput.{Comes, Says, Tick}
+use Rattle.pl_layouts.specs.Control.{is_control}
+use Rattle.pl_core.specs.SwitchInputs.{SwitchInput}
+use Rattle.pl_core.specs.SwitchInputs.SwitchInput.{Comes, Says, Tick}
 use Rattle.pl_core.specs.SwitchViews.{SwitchView}
 use Rattle.pl_sample.specs.Passing.{PassesNext, PassesTwo, passed_next, passed_two, port_after}
 

@@ -5,13 +5,15 @@ use Rattle.std.proofs.lemmas.Bool.{or_right}
 use Rattle.std.specs.List.{filter_map, list_all}
 use Rattle.pl_frame.specs.declared.address.SwitchId.{SwitchId}
 use Rattle.pl_core.specs.declared.acts.HostAct.{HostAct}
-use Rattle.pl_core.specs.Equality.{same_switch}
-use Rattle.pl_core.specs.HostRule.{HoldsData, HostAnswer, HostInput, HostStep, HostsJoinBySending, HostsSendData, JoinsBySending, SendsData}
-use Rattle.pl_core.specs.HostRule.HostInput.{HasMoved, Joins, Leaves, Plays, PlaysRaw, Receives, Retries, Starts}
+use Rattle.pl_layouts.specs.Equality.{same_switch}
+use Rattle.pl_host_rule.specs.HostRule.{HostStep}
+use Rattle.pl_core.specs.HostDuties.{HoldsData, HostsJoinBySending, HostsSendData, JoinsBySending, SendsData}
+use Rattle.pl_core.specs.HostInputs.{HostAnswer, HostInput}
+use Rattle.pl_core.specs.HostInputs.HostInput.{HasMoved, Joins, Leaves, Plays, PlaysRaw, Receives, Retries, Starts}
 use Rattle.pl_core.specs.HostViews.{HostView}
-use Rattle.pl_core.specs.ManagerRule.{AnswersDuly, IsGrown, is_for_heard, numbered_by, with_number}
+use Rattle.pl_core.specs.ManagerDuties.{AnswersDuly, IsGrown, is_for_heard, numbered_by, with_number}
 use Rattle.pl_core.specs.ManagerViews.{ManagerView, is_heard, registry}
-use Rattle.pl_core.proofs.HostSends.{joins_by_sending, owes_sends}
+use Rattle.pl_host_rule.proofs.HostSends.{joins_by_sending, owes_sends}
 use Rattle.pl_sample.specs.Sending.{SendsOneFrame, one_frame_step}
 use Rattle.pl_sample.specs.Silence.{SaysNothing}
 

@@ -3,11 +3,11 @@ use Rattle.std.specs.Prelude.{◌≡◌, ℕ, ◌+◌, ◌%◌, if◌then◌else
 use Rattle.pl_frame.specs.declared.address.SwitchId.{SwitchId}
 use Rattle.pl_core.specs.declared.acts.Act.{Act}
 use Rattle.pl_core.specs.declared.acts.Act.TheVariants.{Pass}
-use Rattle.pl_core.specs.Announcing.{announcement}
-use Rattle.pl_core.specs.Control.{is_control}
+use Rattle.pl_core.specs.Announcements.{announcement}
+use Rattle.pl_layouts.specs.Control.{is_control}
 use Rattle.pl_core.specs.SwitchFacts.{switch_at_boot}
-use Rattle.pl_core.specs.SwitchRule.{SwitchInput, SwitchRule}
-use Rattle.pl_core.specs.SwitchRule.SwitchInput.{Comes}
+use Rattle.pl_core.specs.SwitchInputs.{SwitchInput, SwitchRule}
+use Rattle.pl_core.specs.SwitchInputs.SwitchInput.{Comes}
 use Rattle.pl_core.specs.SwitchViews.{SwitchView}
 
 -- the port that is so many after a port; the first one comes after the last

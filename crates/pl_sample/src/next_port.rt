@@ -1,16 +1,16 @@
 ghost use Rattle.std.specs.Prelude.{◌≡◌, ◌↔◌, ◌<◌, [], ◌∷◌, ◌++◌, ◌≤◌, length, IsTrue, OnOk};
 ghost use Rattle.pl_core.specs.declared.acts.Act.TheVariants.{Pass};
-ghost use Rattle.pl_core.specs.Control.{is_control};
+ghost use Rattle.pl_layouts.specs.Control.{is_control};
 ghost use Rattle.pl_core.specs.SwitchFacts.{CanBoot, IsAnnounced, switch_at_boot};
 ghost use Rattle.pl_ldp.specs.Writable.{IsId};
 ghost use Rattle.pl_sample.specs.Passing.{PassesNext, first_announcement, port_after};
 ghost use Rattle.pl_sample.specs.Accounts.{passes_next_accounts};
 
 use byteorder::{BigEndian, ByteOrder};
-use pl_core::{
-    Act, AvoidList, Control, Ldm, Memory, Outbox, Place, PortRecord, Rising, SwitchCore,
-    SwitchFacts, ToSwitch, TreePart,
-};
+use pl_core::{Act, AvoidList, Outbox, PortRecord, SwitchCore, SwitchFacts, ToSwitch, TreePart};
+use pl_layouts::{Control, Ldm, Place};
+use pl_frame::Memory;
+use pl_lists::Rising;
 use pl_frame::{Frame, SwitchId, TYPE_CONTROL};
 use pl_ldp::write_control;
 use std::alloc::Global;

@@ -1,12 +1,15 @@
 ghost use Rattle.std.specs.Prelude.{◌≡◌, IfOk};
-ghost use Rattle.pl_core.specs.HostRule.{start_frame};
+ghost use Rattle.pl_host_rule.specs.HostRule.{start_frame};
 ghost use Rattle.pl_core.specs.HostViews.{boot_host};
 ghost use Rattle.pl_sample.specs.Duties.{joins_no_group, sends_data};
 ghost use Rattle.pl_sample.specs.Sending.{SendsOneFrame};
 
 use byteorder::{BigEndian, ByteOrder};
 use pl_arp::{Arp, Me, REQUEST};
-use pl_core::{HostAct, HostCore, HostOutbox, HostTable, Items, Memory, Reception, Skip};
+use pl_core::{HostAct, HostCore, HostOutbox, HostTable, Reception};
+use pl_lists::Items;
+use pl_frame::Memory;
+use pl_journal::Skip;
 use pl_frame::{Frame, Ip4, Mac, TYPE_ARP};
 use std::alloc::Global;
 
@@ -30,7 +33,7 @@ fn copied(alloc: Global, table: &HostTable) -> Result<HostTable, Memory>
 }
 
 // The request of a host for its own address (RFC 826), to all.
-#[tactic(auto, unfolding(pl_core::specs::ArpFrames::arp_frame))]
+#[tactic(auto, unfolding(pl_layouts::specs::ArpFrames::arp_frame))]
 fn start_frame(me: Me) -> [u8; 42]
     ensures { result ≡ start_frame me }
 {

@@ -1,7 +1,7 @@
 ghost use Rattle.std.specs.Prelude.{◌≤◌, IfOk, IsTrue, OnOk};
-ghost use Rattle.pl_core.specs.Text.{IsNamed};
-ghost use Rattle.pl_schedule.specs.Flying.{IsCounted};
-ghost use Rattle.pl_schedule.specs.Hearing.{IsWithinHearing};
+ghost use Rattle.pl_journal.specs.Text.{IsNamed};
+ghost use Rattle.pl_world.specs.Flying.{IsCounted};
+ghost use Rattle.pl_world.specs.Hearing.{IsWithinHearing};
 
 mod failures;
 mod hearing;
@@ -10,9 +10,11 @@ mod moves;
 mod refusals;
 
 use crate::{OneFrame, Silent};
-use pl_core::{Entry, Event, QueueName, SwitchCore, write_line};
-use pl_schedule::{Limits, StepError, World};
-use pl_topology::{HostNo, SwitchNo, Wiring};
+use pl_journal::{Entry, write_line};
+use pl_world:::{Event, QueueName, Limits, StepError};
+use pl_core::SwitchCore;
+use pl_schedule::World;
+use pl_wiring::{HostNo, SwitchNo, Wiring};
 use std::alloc::Global;
 use std::test::Fail;
 

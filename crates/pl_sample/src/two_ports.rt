@@ -5,9 +5,9 @@ ghost use Rattle.pl_sample.specs.Passing.{PassesTwo};
 
 use crate::NextPort;
 use crate::next_port::is_control;
-use pl_core::{
-    AvoidList, Memory, Outbox, Place, PortRecord, SwitchCore, SwitchFacts, ToSwitch, TreePart,
-};
+use pl_core::{AvoidList, Outbox, PortRecord, SwitchCore, SwitchFacts, ToSwitch, TreePart};
+use pl_frame::Memory;
+use pl_layouts::Place;
 use pl_frame::SwitchId;
 use std::alloc::Global;
 

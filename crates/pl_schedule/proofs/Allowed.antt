@@ -3,26 +3,26 @@ use Rattle.std.proofs.Common.{◌≡◌, ℕ, ◌<◌, ◌==◌, ◌&&◌, not, 
 use Rattle.std.proofs.lemmas.Bool.{and_parts}
 use Rattle.std.proofs.lemmas.Bool.Decides.{nat_tests}
 use Rattle.pl_frame.specs.declared.address.SwitchId.{SwitchId}
-use Rattle.pl_topology.specs.Labels.{switch_count}
-use Rattle.pl_topology.specs.Plan.{Plan}
-use Rattle.pl_core.specs.declared.event.Event.{Event}
-use Rattle.pl_core.specs.HostRule.{HostRule}
+use Rattle.pl_wiring.specs.Labels.{switch_count}
+use Rattle.pl_wiring.specs.Plan.{Plan}
+use Rattle.pl_world.specs.declared.event.Event.{Event}
+use Rattle.pl_core.specs.HostInputs.{HostRule}
 use Rattle.pl_core.specs.ManagerFacts.{CanHear}
-use Rattle.pl_core.specs.ManagerRule.{ManagerRule}
-use Rattle.pl_core.specs.Places.{is_host_port}
-use Rattle.pl_core.specs.SwitchRule.{SwitchRule}
-use Rattle.pl_topology.specs.Peers.{peer_of}
-use Rattle.pl_topology.specs.declared.label.SwitchNo.{SwitchNo}
-use Rattle.pl_schedule.specs.declared.error.StepError.{StepError}
-use Rattle.pl_schedule.specs.declared.error.StepError.TheVariants.{AlreadySo, JournalFull, NoSuch, Occupied, StepsSpent}
-use Rattle.pl_schedule.specs.Changes.{host_at}
-use Rattle.pl_schedule.specs.Flying.{IsAtPort, IsCounted}
-use Rattle.pl_schedule.specs.Hearing.{IsWithinHearing}
-use Rattle.pl_schedule.specs.Refusals.{has_host, has_port, is_for_hosts, is_full, is_linked, refusal, refusal_of_event, refusal_of_move, refusal_of_place, refusal_of_queue, unless_there}
-use Rattle.pl_schedule.specs.WorldRule.{Happens, WorldStep}
-use Rattle.pl_schedule.specs.Worlds.{WorldView}
-use Rattle.pl_schedule.proofs.Hearing.{can_hear_each}
-use Rattle.pl_schedule.proofs.StepBalances.{event_is_not_refused, same_refusal}
+use Rattle.pl_core.specs.ManagerDuties.{ManagerRule}
+use Rattle.pl_journal.specs.Places.{is_host_port}
+use Rattle.pl_core.specs.SwitchInputs.{SwitchRule}
+use Rattle.pl_wiring.specs.Peers.{peer_of}
+use Rattle.pl_wiring.specs.declared.label.SwitchNo.{SwitchNo}
+use Rattle.pl_world.specs.declared.error.StepError.{StepError}
+use Rattle.pl_world.specs.declared.error.StepError.TheVariants.{AlreadySo, JournalFull, NoSuch, Occupied, StepsSpent}
+use Rattle.pl_world.specs.Changes.{host_at}
+use Rattle.pl_world.specs.Flying.{IsAtPort, IsCounted}
+use Rattle.pl_world.specs.Hearing.{IsWithinHearing}
+use Rattle.pl_world.specs.Refusals.{has_host, has_port, is_for_hosts, is_full, is_linked, refusal, refusal_of_event, refusal_of_move, refusal_of_place, refusal_of_queue, unless_there}
+use Rattle.pl_world.specs.WorldRule.{Happens, WorldStep}
+use Rattle.pl_world.specs.Worlds.{WorldView}
+use Rattle.pl_world.proofs.Hearing.{can_hear_each}
+use Rattle.pl_world.proofs.StepBalances.{event_is_not_refused, same_refusal}
 
 is_there : (b : Bool) → unless_there b ≡ None → b ≡ true
 is_there true e = refl

@@ -2,27 +2,27 @@
 use Rattle.std.proofs.Common.{◌≡◌, ℕ, List, [], ◌∷◌, Some, slice_get, false, sym, subst}
 use Rattle.std.specs.List.{AllByRecursion}
 use Rattle.pl_frame.specs.declared.address.SwitchId.{SwitchId}
-use Rattle.pl_topology.specs.declared.link.Peer.{Peer}
-use Rattle.pl_topology.specs.Index.{place_of}
-use Rattle.pl_topology.specs.Peers.{peer_of}
+use Rattle.pl_wiring.specs.declared.link.Peer.{Peer}
+use Rattle.pl_wiring.specs.Index.{place_of}
+use Rattle.pl_wiring.specs.Peers.{peer_of}
 use Rattle.pl_core.specs.declared.messages.ToManager.{ToManager}
 use Rattle.pl_core.specs.declared.messages.ToSwitch.{ToSwitch}
-use Rattle.pl_core.specs.HostRule.{HostRule}
+use Rattle.pl_core.specs.HostInputs.{HostRule}
 use Rattle.pl_core.specs.ManagerFacts.{CanHear}
-use Rattle.pl_core.specs.ManagerRule.{ManagerRule}
-use Rattle.pl_core.specs.SwitchRule.{SwitchRule}
-use Rattle.pl_core.specs.SwitchRule.SwitchInput.{Says}
-use Rattle.pl_schedule.specs.declared.item.Item.{Item}
-use Rattle.pl_schedule.specs.declared.speech.Speech.TheVariants.{Silent}
-use Rattle.pl_schedule.specs.Changes.{out_of}
-use Rattle.pl_schedule.specs.Flying.{IsItem}
+use Rattle.pl_core.specs.ManagerDuties.{ManagerRule}
+use Rattle.pl_core.specs.SwitchInputs.{SwitchRule}
+use Rattle.pl_core.specs.SwitchInputs.SwitchInput.{Says}
+use Rattle.pl_world.specs.declared.item.Item.{Item}
+use Rattle.pl_world.specs.declared.speech.Speech.TheVariants.{Silent}
+use Rattle.pl_world.specs.Changes.{out_of}
+use Rattle.pl_world.specs.Flying.{IsItem}
 use Rattle.pl_schedule.specs.Heads.{IsTakenFromHost, IsTakenFromManager, IsTakenOut, IsTakenToManager}
-use Rattle.pl_lines.specs.Lines.{line_at}
-use Rattle.pl_schedule.specs.LinksAndMoves.{item_lost}
-use Rattle.pl_schedule.specs.Refusals.{is_none_left}
-use Rattle.pl_schedule.specs.WorldRule.{ComesIn, ComesOver, DeliversFromHost, DeliversFromManager, DeliversOut, DeliversToManager, Loses, ManagerMoves, SwitchMoves}
-use Rattle.pl_schedule.specs.Worlds.{WorldView}
-use Rattle.pl_schedule.proofs.Balances.{head_is_item}
+use Rattle.pl_queues.specs.Lines.{line_at}
+use Rattle.pl_world.specs.LinksAndMoves.{item_lost}
+use Rattle.pl_world.specs.Refusals.{is_none_left}
+use Rattle.pl_world.specs.WorldRule.{ComesIn, ComesOver, DeliversFromHost, DeliversFromManager, DeliversOut, DeliversToManager, Loses, ManagerMoves, SwitchMoves}
+use Rattle.pl_world.specs.Worlds.{WorldView}
+use Rattle.pl_world.proofs.Balances.{head_is_item}
 
 -- a queue with a head is not empty
 pub not_empty : {T : Type 0} (items : List T) → items ≡ [] → is_none_left items ≡ false → ⊥

@@ -1,13 +1,13 @@
 -- A world is in order while its links fail and are repaired.
 use Rattle.std.proofs.Common.{◌≡◌, ℕ, ◌<◌, Contains, subst}
-use Rattle.pl_topology.specs.declared.link.Link.{Link}
-use Rattle.pl_topology.specs.FatTree.{IsTreeLink}
-use Rattle.pl_topology.specs.Labels.{switch_count}
-use Rattle.pl_topology.specs.LiveLinks.{IsFor, LivePorts}
-use Rattle.pl_topology.specs.Plan.{IsPlan, Plan}
-use Rattle.pl_topology.proofs.Entered.{tree_ends}
-use Rattle.pl_schedule.specs.Flying.{IsFormed}
-use Rattle.pl_schedule.specs.Worlds.{WorldView}
+use Rattle.pl_wiring.specs.declared.link.Link.{Link}
+use Rattle.pl_wiring.specs.FatTree.{IsTreeLink}
+use Rattle.pl_wiring.specs.Labels.{switch_count}
+use Rattle.pl_wiring.specs.LiveLinks.{IsFor, LivePorts}
+use Rattle.pl_wiring.specs.Plan.{IsPlan, Plan}
+use Rattle.pl_wiring.proofs.Entered.{tree_ends}
+use Rattle.pl_world.specs.Flying.{IsFormed}
+use Rattle.pl_world.specs.Worlds.{WorldView}
 
 -- the ends of a link are ports of the tree
 pub record HasItsEnds (k : ℕ) (link : Link) : Type 0 where

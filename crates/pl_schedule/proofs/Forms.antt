@@ -1,9 +1,9 @@
 -- What a world that is in order has room for.
 use Rattle.std.proofs.Common.{◌≡◌, ℕ, ◌+◌, ◌*◌, ◌<◌, length, ap, ◌∙◌, subst}
-use Rattle.pl_topology.specs.Labels.{switch_count}
-use Rattle.pl_topology.proofs.Entered.{place_of-below}
-use Rattle.pl_schedule.specs.Flying.{IsFormed}
-use Rattle.pl_schedule.specs.Worlds.{WorldView}
+use Rattle.pl_wiring.specs.Labels.{switch_count}
+use Rattle.pl_wiring.proofs.Entered.{place_of-below}
+use Rattle.pl_world.specs.Flying.{IsFormed}
+use Rattle.pl_world.specs.Worlds.{WorldView}
 
 pub port_place : (v w : WorldView) (s port k : ℕ) → v ≡ w → IsFormed v → s < switch_count w.plan.k → port < w.plan.k → k ≡ v.plan.k →
     s * k + port < length w.out

@@ -1,14 +1,14 @@
 -- What a script writes of itself begins and ends no frame.
 use Rattle.std.proofs.Common.{◌≡◌, ℕ, ◌+◌, [], ◌∷◌, refl, sym, subst}
-use Rattle.pl_core.specs.declared.entry.Entry.{Entry}
-use Rattle.pl_core.specs.declared.entry.Entry.TheVariants.{Arrived, Copied, Crossed, Dropped, Granted, Line, LinkDown, LinkUp, Made, Moved, Placed, Redirected, Registered, Sent, Settled, Skipped, Taken, Unsettled}
-use Rattle.pl_core.specs.Flights.{begun, ends}
-use Rattle.pl_schedule.specs.Changes.{noted}
-use Rattle.pl_schedule.specs.Flying.{IsCounted}
-use Rattle.pl_schedule.specs.Hearing.{IsWithinHearing}
+use Rattle.pl_journal.specs.declared.entry.Entry.{Entry}
+use Rattle.pl_journal.specs.declared.entry.Entry.TheVariants.{Arrived, Copied, Crossed, Dropped, Granted, Line, LinkDown, LinkUp, Made, Moved, Placed, Redirected, Registered, Sent, Settled, Skipped, Taken, Unsettled}
+use Rattle.pl_journal.specs.Flights.{begun, ends}
+use Rattle.pl_world.specs.Changes.{noted}
+use Rattle.pl_world.specs.Flying.{IsCounted}
+use Rattle.pl_world.specs.Hearing.{IsWithinHearing}
 use Rattle.pl_schedule.specs.Looks.{IsMark}
-use Rattle.pl_schedule.specs.Worlds.{WorldView}
-use Rattle.pl_schedule.proofs.StepBalances.{counted, noted_owes, sound}
+use Rattle.pl_world.specs.Worlds.{WorldView}
+use Rattle.pl_world.proofs.StepBalances.{counted, noted_owes, sound}
 
 written : (w : WorldView) (e : Entry) → begun (e ∷ []) ≡ 0 → ((id : ℕ) → 0 ≡ ends (e ∷ []) id + 0) → IsCounted w → IsCounted (noted w e)
 written w e begins ending is = let s = sound w is in

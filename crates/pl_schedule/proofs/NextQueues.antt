@@ -3,17 +3,17 @@ use Rattle.std.proofs.Common.{◌≡◌, ℕ, ◌+◌, ◌-◌, ◌*◌, ◌/◌
 use Rattle.std.specs.Option.{option_map}
 use Rattle.std.proofs.lemmas.Bool.{cases_lt, lt-ltb, le-ltb}
 use Rattle.std.proofs.lemmas.Nat.{div-add-mod', div_below, mod_below}
-use Rattle.pl_topology.specs.Labels.{switch_count}
-use Rattle.pl_topology.specs.Plan.{Plan}
-use Rattle.pl_core.specs.declared.event.QueueName.TheVariants as queue
-use Rattle.pl_lines.specs.Bits.{IsLeast}
-use Rattle.pl_lines.specs.Lines.{has_items, line_at, next_filled, next_place}
-use Rattle.pl_lines.proofs.Places.{next_place_is_least}
-use Rattle.pl_schedule.specs.Changes.{host_no, switch_no}
-use Rattle.pl_schedule.specs.Flying.{IsFormed}
-use Rattle.pl_schedule.specs.QueueOrder.{first_from_manager, first_out, first_to_manager, has_items_at, next_in, next_queue, port_queue, queue_at, queue_count}
-use Rattle.pl_schedule.specs.Refusals.{has_queue, is_empty_queue, is_none_left, refusal_of_queue}
-use Rattle.pl_schedule.specs.Worlds.{WorldView}
+use Rattle.pl_wiring.specs.Labels.{switch_count}
+use Rattle.pl_wiring.specs.Plan.{Plan}
+use Rattle.pl_world.specs.declared.event.QueueName.TheVariants as queue
+use Rattle.pl_queues.specs.Bits.{IsLeast}
+use Rattle.pl_queues.specs.Lines.{has_items, line_at, next_filled, next_place}
+use Rattle.pl_queues.proofs.Places.{next_place_is_least}
+use Rattle.pl_world.specs.Changes.{host_no, switch_no}
+use Rattle.pl_world.specs.Flying.{IsFormed}
+use Rattle.pl_world.specs.QueueOrder.{first_from_manager, first_out, first_to_manager, has_items_at, next_in, next_queue, port_queue, queue_at, queue_count}
+use Rattle.pl_world.specs.Refusals.{has_queue, is_empty_queue, is_none_left, refusal_of_queue}
+use Rattle.pl_world.specs.Worlds.{WorldView}
 
 module _ (test : ℕ → Bool) (from : ℕ) where
   -- the answer is the first number that passes, of those from `from` on and from `low` to `high`

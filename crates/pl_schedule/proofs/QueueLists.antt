@@ -6,12 +6,12 @@ use Rattle.std.proofs.lemmas.List.{get_or_append_left, get_or-append_right, leng
 use Rattle.std.proofs.lemmas.List.FromFn.{length-map-range_with_len, get_or-map-range_with_len}
 use Rattle.std.proofs.lemmas.Nat.{div-add-mod', div_below, mod_below}
 use Rattle.std.proofs.lemmas.Option.{slice_get-get_or}
-use Rattle.pl_topology.specs.Labels.{switch_count}
-use Rattle.pl_topology.specs.Plan.{IsPlan, Plan}
-use Rattle.pl_core.specs.declared.event.QueueName.{QueueName}
-use Rattle.pl_core.specs.declared.event.QueueName.TheVariants as queue
-use Rattle.pl_schedule.specs.Changes.{host_no, switch_no}
-use Rattle.pl_schedule.specs.QueueOrder.{first_from_manager, first_out, first_to_manager, host_queues, queue_at, queue_count, queue_order, queues_out_of, switch_numbers}
+use Rattle.pl_wiring.specs.Labels.{switch_count}
+use Rattle.pl_wiring.specs.Plan.{IsPlan, Plan}
+use Rattle.pl_world.specs.declared.event.QueueName.{QueueName}
+use Rattle.pl_world.specs.declared.event.QueueName.TheVariants as queue
+use Rattle.pl_world.specs.Changes.{host_no, switch_no}
+use Rattle.pl_world.specs.QueueOrder.{first_from_manager, first_out, first_to_manager, host_queues, queue_at, queue_count, queue_order, queues_out_of, switch_numbers}
 use Rattle.pl_schedule.proofs.NextQueues.{queue_at-from_manager, queue_at-host, queue_at-out, queue_at-to_manager}
 
 -- the queues out of k ports of each of `many` switches

@@ -3,11 +3,11 @@ use Rattle.std.proofs.Common.{◌≡◌, ℕ, List, Result, Ok, Err, OnErr, OnOk
 use Rattle.std.specs.List.{AllByRecursion}
 use Rattle.std.proofs.lemmas.List.{length-set}
 use Rattle.pl_core.specs.SwitchViews.{SwitchView}
-use Rattle.pl_lines.specs.Lines.{put_at}
-use Rattle.pl_schedule.specs.declared.item.Item.{Item}
-use Rattle.pl_schedule.specs.Flying.{IsFormed}
-use Rattle.pl_schedule.specs.Pending.{SwitchesView}
-use Rattle.pl_schedule.specs.Worlds.{WorldView}
+use Rattle.pl_queues.specs.Lines.{put_at}
+use Rattle.pl_world.specs.declared.item.Item.{Item}
+use Rattle.pl_world.specs.Flying.{IsFormed}
+use Rattle.pl_world.specs.Pending.{SwitchesView}
+use Rattle.pl_world.specs.Worlds.{WorldView}
 
 formed_same : (v : WorldView) (switches : List SwitchView) (out : List (List Item)) → switches ≡ v.switches → length out ≡ length v.out → IsFormed v →
     IsFormed (record v { switches = switches; out = out })

@@ -1,6 +1,6 @@
 -- Whether a queue is empty, as a test.
 use Rattle.std.proofs.Common.{◌≡◌, ◌↔◌, refl, Bool, true, false, List, [], ◌∷◌, IsTrue}
-use Rattle.pl_schedule.specs.Refusals.{is_none_left}
+use Rattle.pl_world.specs.Refusals.{is_none_left}
 
 pub none_left : {T : Type 0} (b : Bool) (items : List T) → (IsTrue b ↔ (items ≡ [])) → b ≡ is_none_left items
 none_left true [] same = refl

@@ -5,12 +5,12 @@ use Rattle.std.specs.Option.{option_map}
 use Rattle.std.proofs.lemmas.Bool.Decides.{nat_tests}
 use Rattle.std.proofs.lemmas.List.Quantifiers.{position-Some}
 use Rattle.std.proofs.lemmas.Option.{slice_get-get_or}
-use Rattle.pl_topology.specs.declared.host.HostNo.{HostNo}
-use Rattle.pl_schedule.specs.declared.stand.Stand.{Stand}
-use Rattle.pl_schedule.specs.Changes.{stands_at}
-use Rattle.pl_schedule.specs.Flying.{IsAtPort, IsFormed}
-use Rattle.pl_schedule.specs.OtherActs.{heard_after_tick, one_more_tick}
-use Rattle.pl_schedule.specs.Worlds.{WorldView}
+use Rattle.pl_wiring.specs.declared.host.HostNo.{HostNo}
+use Rattle.pl_world.specs.declared.stand.Stand.{Stand}
+use Rattle.pl_world.specs.Changes.{stands_at}
+use Rattle.pl_world.specs.Flying.{IsAtPort, IsFormed}
+use Rattle.pl_world.specs.OtherActs.{heard_after_tick, one_more_tick}
+use Rattle.pl_world.specs.Worlds.{WorldView}
 
 -- one of the first so many ports of the switch
 abbrev pub is_below : ℕ → ℕ → Stand → Bool

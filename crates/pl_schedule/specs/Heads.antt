@@ -1,12 +1,12 @@
 -- The head of a queue is taken, and nothing else changes.
 use Rattle.std.specs.Prelude.{◌≡◌, ℕ, List, ◌∷◌, slice_set}
-use Rattle.pl_topology.specs.Index.{place_of}
+use Rattle.pl_wiring.specs.Index.{place_of}
 use Rattle.pl_core.specs.declared.messages.ToManager.{ToManager}
 use Rattle.pl_core.specs.declared.messages.ToSwitch.{ToSwitch}
-use Rattle.pl_schedule.specs.declared.item.Item.{Item}
-use Rattle.pl_schedule.specs.Changes.{out_of}
-use Rattle.pl_lines.specs.Lines.{line_at}
-use Rattle.pl_schedule.specs.Worlds.{WorldView}
+use Rattle.pl_world.specs.declared.item.Item.{Item}
+use Rattle.pl_world.specs.Changes.{out_of}
+use Rattle.pl_queues.specs.Lines.{line_at}
+use Rattle.pl_world.specs.Worlds.{WorldView}
 
 pub record IsTakenFromHost (w : WorldView) (h : ℕ) (new : WorldView) (item : Item) : Type 0 where
   pub items : List Item

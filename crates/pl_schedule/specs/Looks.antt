@@ -1,13 +1,13 @@
 -- What is asked of a world from outside.
 use Rattle.std.specs.Prelude.{ℕ, if◌then◌else◌, length, Option, Some, None}
-use Rattle.pl_core.specs.declared.entry.Entry.{Entry}
-use Rattle.pl_core.specs.declared.entry.Entry.TheVariants.{Line, Settled, Unsettled}
-use Rattle.pl_core.specs.declared.event.QueueName.{QueueName}
-use Rattle.pl_core.specs.declared.event.QueueName.TheVariants as queue
-use Rattle.pl_schedule.specs.Changes.{out_of}
-use Rattle.pl_lines.specs.Lines.{line_at}
-use Rattle.pl_schedule.specs.Refusals.{has_host, has_port, has_switch}
-use Rattle.pl_schedule.specs.Worlds.{WorldView}
+use Rattle.pl_journal.specs.declared.entry.Entry.{Entry}
+use Rattle.pl_journal.specs.declared.entry.Entry.TheVariants.{Line, Settled, Unsettled}
+use Rattle.pl_world.specs.declared.event.QueueName.{QueueName}
+use Rattle.pl_world.specs.declared.event.QueueName.TheVariants as queue
+use Rattle.pl_world.specs.Changes.{out_of}
+use Rattle.pl_queues.specs.Lines.{line_at}
+use Rattle.pl_world.specs.Refusals.{has_host, has_port, has_switch}
+use Rattle.pl_world.specs.Worlds.{WorldView}
 
 -- how many items wait in a queue, if the wiring has it
 abbrev pub queue_len : WorldView → QueueName → Option ℕ

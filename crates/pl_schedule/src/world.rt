@@ -1,22 +1,23 @@
 ghost use Rattle.std.specs.Prelude.{◌≡◌, ◌<◌, ◌+◌, [], length, IfOk, OnOk};
-ghost use Rattle.pl_topology.specs.Index.{place_of};
-ghost use Rattle.pl_topology.specs.Labels.{switch_count};
-ghost use Rattle.pl_schedule.specs.Changes.{all_noted, begun_by, host_of, is_failed_at, noted, said_to_switch, sent_if_live, told_manager};
-ghost use Rattle.pl_schedule.specs.SwitchActs.{granted};
+ghost use Rattle.pl_wiring.specs.Index.{place_of};
+ghost use Rattle.pl_wiring.specs.Labels.{switch_count};
+ghost use Rattle.pl_world.specs.Changes.{all_noted, begun_by, host_of, is_failed_at, noted, said_to_switch, sent_if_live, told_manager};
+ghost use Rattle.pl_world.specs.SwitchActs.{granted};
 
-use crate::atlas::Atlas;
-use crate::book::Book;
-use crate::counting::{Says, Told};
-use crate::stands::Stands;
-use crate::switches::Switches;
-use crate::{Item, Limits};
-use pl_core::{
-    Entry, HostCore, Journal, ManagerCore, Memory, Queue, SwitchCore, ToManager, ToSwitch,
-};
+use pl_world_parts::Atlas;
+use pl_world_parts::Book;
+use pl_world_parts::{Says, Told};
+use pl_world_parts::Stands;
+use pl_world_parts::Switches;
+use pl_world::{Item, Limits};
+use pl_journal::{Entry, Journal};
+use pl_core::{HostCore, ManagerCore, SwitchCore, ToManager, ToSwitch};
+use pl_frame::Memory;
+use pl_lists::Queue;
 use pl_frame::{Mac, SwitchId};
-use pl_lines::{CountedLines, Lines};
+use pl_queues::{CountedLines, Lines};
 use pl_pmac::Pmac;
-use pl_topology::{LinkStates, Peer, SwitchNo, Wiring};
+use pl_wiring::{LinkStates, Peer, SwitchNo, Wiring};
 use std::alloc::{AllocError, Global};
 use std::marker::Model;
 
@@ -43,8 +44,8 @@ pub struct World<S: SwitchCore, M: ManagerCore, H: HostCore> {
 
 impl<S: SwitchCore, M: ManagerCore, H: HostCore> Model for World<S, M, H> {
     ghost use Rattle.std.specs.Prelude.{map};
-    ghost use Rattle.pl_schedule.specs.Flying.{IsFormed};
-    ghost use Rattle.pl_schedule.specs.Worlds.{WorldView};
+    ghost use Rattle.pl_world.specs.Flying.{IsFormed};
+    ghost use Rattle.pl_world.specs.Worlds.{WorldView};
 
     ghost Value = { WorldView };
 

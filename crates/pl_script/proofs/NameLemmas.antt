@@ -6,9 +6,9 @@ use Rattle.std.specs.Str.{bytes_eq}
 use Rattle.std.proofs.lemmas.Bool.{cases_lt, false_from_ne_true, le-ltb, lt-ltb}
 use Rattle.std.proofs.lemmas.List.Sums.{passes_at_first, position_or_len_is}
 use Rattle.std.proofs.lemmas.Slice.Eq.{bytes_eq-Decides}
-use Rattle.pl_topology.specs.declared.host.Host.{Host}
-use Rattle.pl_topology.specs.declared.host.HostNo.{HostNo}
-use Rattle.pl_topology.specs.Plan.{Plan, IsPlan, HasHost}
+use Rattle.pl_wiring.specs.declared.host.Host.{Host}
+use Rattle.pl_wiring.specs.declared.host.HostNo.{HostNo}
+use Rattle.pl_wiring.specs.Plan.{Plan, IsPlan, HasHost}
 use Rattle.pl_script.specs.Names.{host_named}
 
 abbrev is_called : List ℕ → Host → Bool

@@ -1,6 +1,6 @@
 -- Reading the lines one by one.
 use Rattle.std.proofs.Common.{◌≡◌, ℕ, ◌+◌, List, [], ◌∷◌, ◌++◌, Result, Ok, Err, refl, sym, ap, ◌∙◌, append-nil, append_assoc}
-use Rattle.pl_topology.specs.Plan.{Plan}
+use Rattle.pl_wiring.specs.Plan.{Plan}
 use Rattle.pl_script.specs.Meaning.{line_at, script_from, script_of}
 use Rattle.pl_script.specs.Reading.{◌>>=◌}
 use Rattle.pl_script.specs.Texts.{lines_of}

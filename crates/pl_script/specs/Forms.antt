@@ -1,6 +1,6 @@
 -- The forms of a line: the command that each word makes with the words behind it.
 use Rattle.std.specs.Prelude.{ℕ, List, [], ◌∷◌, Result, Ok, Err}
-use Rattle.pl_topology.specs.Plan.{Plan}
+use Rattle.pl_wiring.specs.Plan.{Plan}
 use Rattle.pl_script.specs.Names.{host, switch, cause, who_of, ticking, end_of}
 use Rattle.pl_script.specs.Numbers.{number_of, count_of, group_of, pmac_named}
 use Rattle.pl_script.specs.Reading.{◌>>=◌, or_refused}

@@ -2,7 +2,7 @@
 use Rattle.std.specs.Prelude.{ℕ, ◌+◌, nat_lt, if◌then◌else◌, List, [], ◌∷◌, ◌++◌, Option, Some, None, Result, Ok, Err}
 use Rattle.std.specs.Str.{is_utf8}
 use Rattle.std.specs.Str.Lines.{strip_carriage_return}
-use Rattle.pl_topology.specs.Plan.{Plan}
+use Rattle.pl_wiring.specs.Plan.{Plan}
 use Rattle.pl_script.specs.Forms.{command_of}
 use Rattle.pl_script.specs.Reading.{◌>>=◌}
 use Rattle.pl_script.specs.Texts.{lines_of, words_of, before_comment}

@@ -1,11 +1,11 @@
 -- What a name means in a wiring.
 use Rattle.std.specs.Prelude.{ℕ, if◌then◌else◌, List, Option, Some, None, option_map, position, Result, Ok, codes}
 use Rattle.std.specs.Str.{bytes_eq}
-use Rattle.pl_core.specs.declared.cause.Cause.{Cause}
-use Rattle.pl_topology.specs.declared.host.HostNo.{HostNo}
-use Rattle.pl_topology.specs.declared.label.SwitchNo.{SwitchNo}
-use Rattle.pl_topology.specs.Entries.{switch_named}
-use Rattle.pl_topology.specs.Plan.{Plan}
+use Rattle.pl_journal.specs.declared.cause.Cause.{Cause}
+use Rattle.pl_wiring.specs.declared.host.HostNo.{HostNo}
+use Rattle.pl_wiring.specs.declared.label.SwitchNo.{SwitchNo}
+use Rattle.pl_wiring.specs.SwitchNames.{switch_named}
+use Rattle.pl_wiring.specs.Plan.{Plan}
 use Rattle.pl_script.specs.Reading.{◌>>=◌, or_refused}
 use Rattle.pl_script.specs.Verbs.{cause_of}
 use Rattle.pl_script.specs.declared.command.Who.{Who}

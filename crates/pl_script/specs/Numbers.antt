@@ -7,7 +7,7 @@ use Rattle.std.specs.Str.Parse.{digits_value}
 use Rattle.pl_frame.specs.declared.address.Ip4.{Ip4}
 use Rattle.pl_pmac.specs.declared.pmac.Pmac.{Pmac}
 use Rattle.pl_pmac.specs.Pmac.{pmac_of}
-use Rattle.pl_topology.specs.Texts.{ip_number, mac_bytes}
+use Rattle.pl_wiring.specs.Texts.{ip_number, mac_bytes}
 use Rattle.pl_script.specs.Reading.{◌>>=◌, or_refused}
 use Rattle.pl_script.specs.declared.command.Count.{Count}
 use Rattle.pl_script.specs.declared.command.Count.TheVariants as counted

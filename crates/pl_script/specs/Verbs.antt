@@ -2,8 +2,8 @@
 use Rattle.std.specs.Prelude.{ℕ, if◌then◌else◌, List, Option, Some, None, codes}
 use Rattle.std.specs.Option.{option_or}
 use Rattle.std.specs.Str.{bytes_eq}
-use Rattle.pl_core.specs.declared.cause.Cause.{Cause}
-use Rattle.pl_core.specs.declared.cause.Cause.TheVariants.{NotPlaced, NoNextHop, NoAddress, HostGone, LinkDown, Lost, Spent, BadArp, NoMember}
+use Rattle.pl_journal.specs.declared.cause.Cause.{Cause}
+use Rattle.pl_journal.specs.declared.cause.Cause.TheVariants.{NotPlaced, NoNextHop, NoAddress, HostGone, LinkDown, Lost, Spent, BadArp, NoMember}
 use Rattle.pl_script.specs.declared.verb.Verb.{Verb}
 use Rattle.pl_script.specs.declared.verb.Verb.TheVariants as verb
 use Rattle.pl_script.specs.declared.verb.Expectation.{Expectation}

@@ -1,7 +1,7 @@
-use pl_core::Cause;
+use pl_journal::Cause;
 use pl_frame::Ip4;
 use pl_pmac::Pmac;
-use pl_topology::{HostNo, SwitchNo};
+use pl_wiring::{HostNo, SwitchNo};
 
 /// One host, or each in the order of the topology.
 #[derive(Clone, Copy, Debug, PartialEq, Eq)]

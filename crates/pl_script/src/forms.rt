@@ -9,7 +9,7 @@ use crate::numbers::{count, group, number, pmac};
 use crate::verb::{Expectation, Verb};
 use crate::words::{Words, next_word};
 use crate::{Command, Count, ScriptReason};
-use pl_topology::Wiring;
+use pl_wiring::Wiring;
 
 /// The command of a first word and what stands behind it.
 pub(crate) fn command(wiring: &Wiring, word: &str, rest: &str) -> Result<Command, ScriptReason>

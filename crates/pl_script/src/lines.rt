@@ -7,7 +7,7 @@ ghost use Rattle.pl_script.specs.Meaning.{command_in_text, command_in, line_at, 
 use crate::forms::command;
 use crate::words::{before_comment, next_word};
 use crate::{Command, Script, ScriptError, ScriptLine, ScriptReason};
-use pl_topology::Wiring;
+use pl_wiring::Wiring;
 use std::alloc::Global;
 use std::str;
 

@@ -3,8 +3,8 @@ ghost use Rattle.pl_script.specs.Names.{host_named, host, switch, cause, who_of,
 
 use crate::verb::cause_named;
 use crate::{End, ScriptReason, Who};
-use pl_core::Cause;
-use pl_topology::{HostNo, SwitchNo, Wiring};
+use pl_journal::Cause;
+use pl_wiring::{HostNo, SwitchNo, Wiring};
 
 // The host of this name. As the names of a wiring's hosts are apart, there is one at most.
 fn host_named(wiring: &Wiring, name: &str) -> Option<HostNo>

@@ -6,7 +6,7 @@ ghost use Rattle.pl_script.specs.Numbers.{is_number, number_of, count_of, group_
 use crate::{Count, ScriptReason};
 use pl_frame::{Ip4, Mac};
 use pl_pmac::{Pmac, unpack};
-use pl_topology::{dotted, six_bytes};
+use pl_wiring::{dotted, six_bytes};
 
 /// A number from `least` to `most`, of 1 to 20 digits.
 pub(crate) fn number(text: &str, least: u64, most: u64) -> Result<u64, ScriptReason>

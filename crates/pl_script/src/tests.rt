@@ -1,8 +1,8 @@
 use super::*;
-use pl_core::Cause;
+use pl_journal::Cause;
 use pl_frame::Ip4;
 use pl_pmac::Pmac;
-use pl_topology::{HostNo, SwitchNo, Wiring};
+use pl_wiring::{HostNo, SwitchNo, Wiring};
 use std::alloc::Global;
 use std::test::Fail;
 

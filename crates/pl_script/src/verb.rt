@@ -1,7 +1,7 @@
 ghost use Rattle.std.specs.Prelude.{◌≡◌};
 ghost use Rattle.pl_script.specs.Verbs.{verb_of, host_verb, fabric_verb, cause_of, expectation_of};
 
-use pl_core::Cause;
+use pl_journal::Cause;
 
 /// The first word of a line.
 #[derive(Clone, Copy)]

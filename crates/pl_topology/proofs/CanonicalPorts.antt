@@ -1,12 +1,12 @@
 -- No port of a switch is in two canonical links.
 use Rattle.std.proofs.Common.{◌≡◌, ◌≢◌, ℕ, ◌+◌, ◌*◌, ◌/◌, ◌%◌, ◌<◌, ◌≤◌, refl, sym, ◌∙◌, arith, inl, inr}
 use Rattle.std.proofs.lemmas.Nat.{mul-add-lt, div-add-mod', mod_below, same_from_place}
-use Rattle.pl_topology.specs.declared.label.Label.{Label}
-use Rattle.pl_topology.specs.declared.label.Label.TheVariants.{Edge, Aggregation, Core}
-use Rattle.pl_topology.specs.Labels.{IsArity, IsLabel, edge_count, number_of, label_of}
-use Rattle.pl_topology.specs.FatTree.{IsAt, above, canonical_link, link_count, lower_at, number_below, upper_at}
-use Rattle.pl_topology.proofs.LabelOrder.{half_at_least, label_of-IsLabel, number_of-label_of, twice_half}
-use Rattle.pl_topology.proofs.LinkOrder.{lower_at-below, upper_at-same_place}
+use Rattle.pl_wiring.specs.declared.label.Label.{Label}
+use Rattle.pl_wiring.specs.declared.label.Label.TheVariants.{Edge, Aggregation, Core}
+use Rattle.pl_wiring.specs.Labels.{IsArity, IsLabel, edge_count, number_of, label_of}
+use Rattle.pl_wiring.specs.FatTree.{IsAt, above, canonical_link, link_count, lower_at, number_below, upper_at}
+use Rattle.pl_wiring.proofs.LabelOrder.{half_at_least, label_of-IsLabel, number_of-label_of, twice_half}
+use Rattle.pl_wiring.proofs.LinkOrder.{lower_at-below, upper_at-same_place}
 
 -- a switch has a smaller number than one above it
 above-higher : (k x : ℕ) (label : Label) → IsLabel k label → number_of k label < edge_count k + edge_count k → number_of k label < number_of k (above label x)

@@ -3,7 +3,7 @@ use Rattle.std.proofs.Common.{◌≡◌, ℕ, ℤ, pos, ltb, ◌<◌, ◌||◌, 
 use Rattle.std.specs.HashMap.{HashMap, Updates}
 use Rattle.std.specs.HashSet.{HashSet}
 use Rattle.std.specs.HashSet as set
-use Rattle.std.specs.List.{find, list_any}
+use Rattle.std.specs.List.{find, list_any, filter, range_with_len}
 use Rattle.std.specs.Option.{option_or}
 use Rattle.std.specs.Prelude.{nat_eq, Ok, Err}
 use Rattle.std.specs.declared.hash.FoldHasher.{FoldHasher}
@@ -15,17 +15,16 @@ use Rattle.toml.specs.Data.{Members}
 use Rattle.pl_frame.specs.declared.address.SwitchId.{SwitchId}
 use Rattle.pl_topology.specs.declared.entries.SwitchEntry.{SwitchEntry}
 use Rattle.pl_topology.specs.declared.entries.LinkEntry.{LinkEntry}
-use Rattle.pl_topology.specs.declared.label.SwitchNo.{SwitchNo}
+use Rattle.pl_wiring.specs.declared.label.SwitchNo.{SwitchNo}
 use Rattle.pl_topology.specs.declared.error.TopologyError.TheVariants as error
 use Rattle.pl_topology.specs.declared.key.Key.TheVariants as key
 use Rattle.pl_topology.specs.Document.{integer_at}
 use Rattle.std.proofs.lemmas.List.{append-nil}
 use Rattle.std.proofs.lemmas.List.Elements.{filter-append}
-use Rattle.std.specs.List.{filter, range_with_len}
 use Rattle.pl_topology.specs.declared.entries.HostEntry.{HostEntry}
 use Rattle.pl_topology.specs.declared.entries.PortUse.{PortUse}
 use Rattle.pl_topology.specs.Checks.{port_is_free, is_at, is_port, addresses_are_new, has_mac, has_ip, canonical_entry, has_id, id_is_new, is_unnamed}
-use Rattle.pl_topology.specs.Labels.{label_of}
+use Rattle.pl_wiring.specs.Labels.{label_of}
 use Rattle.pl_topology.proofs.Steps.{push_next}
 use Rattle.pl_topology.specs.Entries.{is_of, id_if, is_again, is_between, switch_at, switch_entry, link_entry}
 use Rattle.pl_topology.specs.Found.{FindsIds, FindsLinks, SeesPorts, ends_of, same_pair}

@@ -1,15 +1,5 @@
-pub mod Climbing
-pub mod Ends
-pub mod Entered
-pub mod LabelOrder
-pub mod LinkOrder
-pub mod Live
-pub mod Named
-pub mod Ports
 pub mod Steps
-pub mod TextLemmas
 pub mod DocumentLemmas
-pub mod EntryLemmas
 pub mod FoundLemmas
 pub mod RefusalLemmas
 pub mod PortLemmas
@@ -21,4 +11,3 @@ pub mod PlacedLinks
 pub mod PlacedIds
 pub mod PlacedHosts
 pub mod PlanLemmas
-pub mod LabelTexts

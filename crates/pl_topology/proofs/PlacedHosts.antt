@@ -13,10 +13,10 @@ use Rattle.pl_topology.specs.declared.entries.HostEntry.{HostEntry}
 use Rattle.pl_topology.specs.declared.entries.LinkEntry.{LinkEntry}
 use Rattle.pl_topology.specs.declared.entries.PortUse.{PortUse}
 use Rattle.pl_topology.specs.Checks.{host_uses, is_at, is_port, kept_uses, link_uses}
-use Rattle.pl_topology.specs.FatTree.{IsAt, link_count}
-use Rattle.pl_topology.specs.Labels.{IsArity, edge_count}
+use Rattle.pl_wiring.specs.FatTree.{IsAt, link_count}
+use Rattle.pl_wiring.specs.Labels.{IsArity, edge_count}
 use Rattle.pl_topology.specs.Meaning.{host_of, links_of, port_number}
-use Rattle.pl_topology.specs.Plan.{StandsAt}
+use Rattle.pl_wiring.specs.Plan.{StandsAt}
 use Rattle.pl_topology.proofs.PlacedLinks.{Agree, is_at_moved, links_of-at, links_of-length, placed_seen, port_number-below, port_number-is, use_here}
 use Rattle.pl_topology.proofs.PortsApart.{IsFree}
 use Rattle.pl_topology.proofs.Readings.{AllPairs-map}

@@ -9,7 +9,7 @@ use Rattle.pl_frame.specs.declared.address.SwitchId.{SwitchId}
 use Rattle.pl_topology.specs.declared.entries.SwitchEntry.{SwitchEntry}
 use Rattle.pl_topology.specs.Checks.{canonical_entry, has_id, is_unnamed, kept_ids}
 use Rattle.pl_topology.specs.Entries.{is_of}
-use Rattle.pl_topology.specs.Labels.{IsArity, switch_count}
+use Rattle.pl_wiring.specs.Labels.{IsArity, switch_count}
 use Rattle.pl_topology.specs.Meaning.{id_of, ids_of}
 use Rattle.pl_topology.proofs.FoundLemmas.{is_some_found}
 use Rattle.pl_topology.proofs.PlacedLinks.{found_at}

@@ -9,17 +9,17 @@ use Rattle.std.proofs.lemmas.List.Folds.{list_any-append}
 use Rattle.std.proofs.lemmas.List.FromFn.{get_or-map-range_with_len, length-map-range_with_len}
 use Rattle.pl_topology.specs.declared.entries.LinkEntry.{LinkEntry}
 use Rattle.pl_topology.specs.declared.entries.PortUse.{PortUse}
-use Rattle.pl_topology.specs.declared.link.Link.{Link}
+use Rattle.pl_wiring.specs.declared.link.Link.{Link}
 use Rattle.pl_topology.specs.Checks.{are_joined, canonical_uses, is_at, is_port, is_unspoken, kept_uses, link_uses}
 use Rattle.pl_topology.specs.Entries.{is_between}
-use Rattle.pl_topology.specs.FatTree.{IsAt, IsFatTree, IsInLinkOrder, canonical_link, canonical_links, link_count, lower_at, upper_at}
+use Rattle.pl_wiring.specs.FatTree.{IsAt, IsFatTree, IsInLinkOrder, canonical_link, canonical_links, link_count, lower_at, upper_at}
 use Rattle.pl_topology.specs.FileEntries.{HasPorts}
-use Rattle.pl_topology.specs.Labels.{IsArity}
+use Rattle.pl_wiring.specs.Labels.{IsArity}
 use Rattle.pl_topology.specs.Meaning.{at_ports, link_of, links_of, port_number}
 use Rattle.pl_topology.proofs.CanonicalPorts.{canonical_apart, canonical_ports, lower-upper}
 use Rattle.pl_topology.proofs.FoundLemmas.{is_some_found}
-use Rattle.pl_topology.proofs.LabelOrder.{half_at_least}
-use Rattle.pl_topology.proofs.LinkOrder.{IsFatTree-in_order, same_link}
+use Rattle.pl_wiring.proofs.LabelOrder.{half_at_least}
+use Rattle.pl_wiring.proofs.LinkOrder.{IsFatTree-in_order, same_link}
 use Rattle.pl_topology.proofs.PortsApart.{IsFree}
 
 -- the entry's link joins the same switches

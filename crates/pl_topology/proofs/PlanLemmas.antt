@@ -1,5 +1,5 @@
 -- What a topology file means is a wiring.
-use Rattle.std.proofs.Common.{◌≡◌, ◌≢◌, ℕ, ℤ, pos, negsuc, ◌%◌, ◌<◌, ◌≤◌, ◌^◌, Bool, true, false, not, ◌&&◌, ◌||◌, ltb, leb, eqb, cond, List, [], ◌∷◌, ◌++◌, get_or, Option, Some, None, option_and_then, Result, Ok, All, AllPairs, subst, refl, sym, ap, ◌∙◌, arith}
+use Rattle.std.proofs.Common.{◌≡◌, ◌≢◌, ℕ, ℤ, pos, negsuc, ◌%◌, ◌<◌, ◌≤◌, ◌^◌, Bool, true, false, not, ◌&&◌, ◌||◌, ltb, leb, eqb, cond, List, [], ◌∷◌, ◌++◌, get_or, Some, None, option_and_then, Result, Ok, All, AllPairs, subst, refl, sym, ap, ◌∙◌, arith}
 use Rattle.std.specs.Prelude.{codes}
 use Rattle.std.specs.Bool.{⊤}
 use Rattle.std.specs.List.{flat_map, list_any}
@@ -17,35 +17,29 @@ use Rattle.pl_topology.specs.declared.error.TopologyError.{TopologyError}
 use Rattle.pl_topology.specs.declared.error.TopologyError.TheVariants as error
 use Rattle.pl_topology.specs.declared.key.Key.TheVariants as key
 use Rattle.pl_topology.specs.declared.key.Key.{Key}
-use Rattle.pl_topology.specs.declared.label.SwitchNo.{SwitchNo}
+use Rattle.pl_wiring.specs.declared.label.SwitchNo.{SwitchNo}
 use Rattle.pl_topology.specs.declared.entries.SwitchEntry.{SwitchEntry}
 use Rattle.pl_topology.specs.declared.entries.LinkEntry.{LinkEntry}
 use Rattle.pl_topology.specs.declared.entries.HostEntry.{HostEntry}
 use Rattle.pl_topology.specs.Checks.{addresses_are_new, addresses_differ, are_joined, has_id, has_ip, has_mac, host_uses, id_is_new, ids_differ, is_called, joins_the_tree, kept_ids, kept_uses, link_uses, name_is_new, names_differ, port_is_free, ports_differ}
 use Rattle.pl_topology.specs.Document.{arity_if, arity_of, integer_at, tables_at, text_at, value_at}
-use Rattle.pl_topology.specs.Entries.{HasEdge, HasEnds, capture_of, edge_if, host_entry, id_if, is_again, is_label, is_of, link_entry, name_if, switch_at, switch_entry, switch_named}
+use Rattle.pl_topology.specs.Entries.{HasEdge, HasEnds, capture_of, edge_if, host_entry, id_if, is_again, is_of, link_entry, name_if, switch_at, switch_entry}
+use Rattle.pl_wiring.specs.SwitchNames.{is_label, switch_named}
 use Rattle.pl_topology.specs.FileEntries.{Entries, entries_of, host_entries, link_entries, switch_entries}
-use Rattle.pl_topology.specs.Labels.{IsArity, edge_count, label_of, number_of, switch_count}
+use Rattle.pl_wiring.specs.Labels.{IsArity, edge_count, label_of, number_of, switch_count}
 use Rattle.pl_topology.specs.Meaning.{plan_of_entries}
-use Rattle.pl_topology.specs.Plan.{IsPlan}
+use Rattle.pl_wiring.specs.Plan.{IsPlan}
 use Rattle.pl_topology.specs.Refusal.{all_beside, each, each_beside, or_refused, refused_if}
-use Rattle.pl_topology.specs.Texts.{ip_of_text, label_of_text, mac_of_text}
-use Rattle.pl_topology.proofs.EntryLemmas.{is_label-Decides}
-use Rattle.pl_topology.proofs.LabelOrder.{number_of-below}
+use Rattle.pl_wiring.specs.Texts.{ip_of_text, label_of_text, mac_of_text}
+use Rattle.pl_wiring.proofs.EntryLemmas.{is_label-Decides}
+use Rattle.pl_wiring.proofs.LabelOrder.{number_of-below}
 use Rattle.pl_topology.proofs.PlacedHosts.{AgreeHosts, few_hosts, hosts_at_edges, hosts_at_free_ports, hosts_ips_apart, hosts_macs_apart, hosts_names_apart, hosts_places_apart, uses_of_links}
 use Rattle.pl_topology.proofs.PlacedIds.{AgreeIds, ids_of-apart, ids_of-in_range, ids_of-length}
 use Rattle.pl_topology.proofs.PlacedLinks.{Agree, links_of-IsFatTree, links_of-order}
 use Rattle.pl_topology.proofs.PortsApart.{groups_apart, groups_free, not_false}
 use Rattle.pl_topology.proofs.Readings.{All-cons, All-none, AllPairs-cons, AllPairs-none, all_beside-All, each-All, none_at, none_of_both}
 use Rattle.pl_topology.proofs.RefusalLemmas.{bind_ok, or_refused_ok, refused_if_ok}
-
-pub some_if : {A : Type 0} (b : Bool) (x y : A) → cond b (Some x) None ≡ Some y → (b ≡ true) × (x ≡ y)
-some_if true x y is = let same : x ≡ y = cc in (refl, same)
-some_if false x y is = cc
-
-pub then_some : {A B : Type 0} (f : A → Option B) (o : Option A) (y : B) → option_and_then f o ≡ Some y → (x : A) × (o ≡ Some x) × (f x ≡ Some y)
-then_some f None y is = cc
-then_some f (Some x) y is = (x, refl, is)
+use Rattle.pl_wiring.proofs.Choices.{some_if, then_some}
 
 -- a switch that is named is one of the tree
 switch_named-below : (k : ℕ) (text : List ℕ) (switch : SwitchNo) → switch_named k text ≡ Some switch → switch.0 < switch_count k

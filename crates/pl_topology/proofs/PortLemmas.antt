@@ -5,16 +5,16 @@ use Rattle.std.proofs.lemmas.Grind.{flat_map-append}
 use Rattle.std.proofs.lemmas.List.{append-nil, take_more}
 use Rattle.std.proofs.lemmas.List.Elements.{filter-append}
 use Rattle.pl_topology.specs.declared.entries.LinkEntry.{LinkEntry}
-use Rattle.pl_topology.specs.declared.link.Link.{Link}
+use Rattle.pl_wiring.specs.declared.link.Link.{Link}
 use Rattle.pl_topology.specs.Entries.{is_between}
 use Rattle.pl_topology.specs.declared.error.TopologyError.{TopologyError}
 use Rattle.pl_topology.specs.declared.error.TopologyError.TheVariants.{BadPort}
-use Rattle.pl_topology.specs.declared.label.SwitchNo.{SwitchNo}
+use Rattle.pl_wiring.specs.declared.label.SwitchNo.{SwitchNo}
 use Rattle.std.specs.HashSet.{Updates}
 use Rattle.pl_topology.specs.declared.entries.PortUse.{PortUse}
 use Rattle.pl_topology.specs.Checks.{canonical_uses, is_at, is_port, is_unspoken, port_is_free}
 use Rattle.pl_topology.specs.Found.{SeesPorts, same_pair}
-use Rattle.pl_topology.specs.Labels.{label_of}
+use Rattle.pl_wiring.specs.Labels.{label_of}
 use Rattle.pl_topology.specs.Refusal.{Fails}
 use Rattle.pl_topology.proofs.FoundLemmas.{Used, is_some_found, SeesPorts-push, SeesPorts-skip, port_is_free-out_of_range, port_is_free-uncounted, port_is_free-used, port_is_free-free}
 use Rattle.pl_topology.proofs.RefusalLemmas.{Fails-refused}

@@ -5,7 +5,7 @@ use Rattle.pl_topology.specs.declared.error.TopologyError.{TopologyError}
 use Rattle.pl_topology.specs.declared.error.TopologyError.TheVariants as error
 use Rattle.pl_topology.specs.declared.entries.PortUse.{PortUse}
 use Rattle.pl_topology.specs.Checks.{is_at, is_port, port_is_free}
-use Rattle.pl_topology.specs.Labels.{label_of}
+use Rattle.pl_wiring.specs.Labels.{label_of}
 use Rattle.pl_topology.specs.Refusal.{each_beside, refused_if}
 use Rattle.pl_topology.proofs.RefusalLemmas.{bind_ok, each_beside-append, refused_if_ok}
 use Rattle.pl_topology.proofs.Readings.{All-cons, All-groups, All-none, All-weaker, AllPairs-cons, AllPairs-none, none_of_both}

@@ -6,17 +6,17 @@ use Rattle.std.specs.Str.{bytes_eq}
 use Rattle.pl_frame.specs.declared.address.SwitchId.{SwitchId}
 use Rattle.pl_topology.specs.declared.error.TopologyError.{TopologyError}
 use Rattle.pl_topology.specs.declared.error.TopologyError.TheVariants as error
-use Rattle.pl_topology.specs.declared.label.SwitchNo.{SwitchNo}
-use Rattle.pl_topology.specs.declared.label.Label.{Label}
-use Rattle.pl_topology.specs.declared.label.Label.TheVariants.{Edge, Aggregation, Core}
-use Rattle.pl_topology.specs.declared.link.Link.{Link}
+use Rattle.pl_wiring.specs.declared.label.SwitchNo.{SwitchNo}
+use Rattle.pl_wiring.specs.declared.label.Label.{Label}
+use Rattle.pl_wiring.specs.declared.label.Label.TheVariants.{Edge, Aggregation, Core}
+use Rattle.pl_wiring.specs.declared.link.Link.{Link}
 use Rattle.pl_topology.specs.declared.entries.SwitchEntry.{SwitchEntry}
 use Rattle.pl_topology.specs.declared.entries.LinkEntry.{LinkEntry}
 use Rattle.pl_topology.specs.declared.entries.HostEntry.{HostEntry}
 use Rattle.pl_topology.specs.declared.entries.PortUse.{PortUse}
 use Rattle.pl_topology.specs.Entries.{is_of, is_between}
-use Rattle.pl_topology.specs.FatTree.{canonical_links}
-use Rattle.pl_topology.specs.Labels.{label_of, switch_count}
+use Rattle.pl_wiring.specs.FatTree.{canonical_links}
+use Rattle.pl_wiring.specs.Labels.{label_of, switch_count}
 use Rattle.pl_topology.specs.Refusal.{◌>>=◌, each_beside, refused_if}
 
 -- a switch that no table names has its place in label order plus 1 as its id

@@ -1,5 +1,5 @@
 -- What the tables of a topology file say, read one by one.
-use Rattle.std.specs.Prelude.{ℕ, ◌<◌, ℤ, pos, negsuc, Bool, false, ◌&&◌, ◌||◌, ◌==◌, nat_lt, nat_le, if◌then◌else◌, List, Option, Some, None, option_map, option_and_then, Result, Ok, ◌/◌}
+use Rattle.std.specs.Prelude.{ℕ, ◌<◌, ℤ, pos, negsuc, Bool, false, ◌&&◌, ◌||◌, ◌==◌, nat_lt, nat_le, if◌then◌else◌, List, Option, Some, None, option_map, option_and_then, Result, Ok}
 use Rattle.std.specs.List.{list_any}
 use Rattle.toml.specs.Data.{Data, Members, as_str}
 use Rattle.pl_frame.specs.declared.address.SwitchId.{SwitchId}
@@ -7,27 +7,17 @@ use Rattle.pl_topology.specs.declared.error.TopologyError.{TopologyError}
 use Rattle.pl_topology.specs.declared.error.TopologyError.TheVariants as error
 use Rattle.pl_topology.specs.declared.key.Key.TheVariants as key
 use Rattle.pl_topology.specs.declared.key.Key.{Key}
-use Rattle.pl_topology.specs.declared.label.SwitchNo.{SwitchNo}
-use Rattle.pl_topology.specs.declared.label.Label.{Label}
-use Rattle.pl_topology.specs.declared.label.Label.TheVariants.{Edge, Aggregation, Core}
+use Rattle.pl_wiring.specs.declared.label.SwitchNo.{SwitchNo}
+use Rattle.pl_wiring.specs.declared.label.Label.{Label}
+use Rattle.pl_wiring.specs.declared.label.Label.TheVariants.{Edge}
 use Rattle.pl_topology.specs.declared.entries.SwitchEntry.{SwitchEntry}
 use Rattle.pl_topology.specs.declared.entries.LinkEntry.{LinkEntry}
 use Rattle.pl_topology.specs.declared.entries.HostEntry.{HostEntry}
 use Rattle.pl_topology.specs.Document.{value_at, text_at, integer_at}
-use Rattle.pl_topology.specs.Labels.{edge_count, switch_count, number_of}
-use Rattle.pl_topology.specs.Refusal.{◌>>=◌, or_refused, refused_if}
-use Rattle.pl_topology.specs.Texts.{label_of_text, mac_of_text, ip_of_text, is_name, is_capture}
-
--- the label of a switch of this tree
-abbrev pub is_label : ℕ → Label → Bool
-is_label k (Edge pod i) = nat_lt pod k && nat_lt i (k / 2)
-is_label k (Aggregation pod j) = nat_lt pod k && nat_lt j (k / 2)
-is_label k (Core group m) = nat_lt group (k / 2) && nat_lt m (k / 2)
-
--- the switch of this label, where there is one
-unfoldable pub switch_named : ℕ → List ℕ → Option SwitchNo
-switch_named k text =
-    option_and_then (λ label. if is_label k label then Some (record { 0 = number_of k label }) else None) (label_of_text text)
+use Rattle.pl_wiring.specs.Labels.{edge_count, switch_count}
+use Rattle.pl_topology.specs.Refusal.{or_refused, refused_if}
+use Rattle.pl_wiring.specs.Texts.{mac_of_text, ip_of_text, is_name, is_capture}
+use Rattle.pl_wiring.specs.SwitchNames.{switch_named}
 
 abbrev pub switch_at : ℕ → Key → Members → Option SwitchNo
 switch_at k key members = option_and_then (switch_named k) (text_at key members)

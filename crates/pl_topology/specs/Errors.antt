@@ -4,7 +4,7 @@ use Rattle.std.specs.Fmt.{signed_decimal}
 use Rattle.pl_topology.specs.declared.error.TopologyError.{TopologyError}
 use Rattle.pl_topology.specs.declared.error.TopologyError.TheVariants.{NotToml, BadK, Missing, BadValue, DoubleId, DoubleHost, DoubleAddress, BadPort, NotFatTree, Memory}
 use Rattle.pl_topology.specs.Keys.{key_text}
-use Rattle.pl_topology.specs.Labels.{label_text}
+use Rattle.pl_wiring.specs.Labels.{label_text}
 
 abbrev pub error_text : TopologyError → List ℕ
 error_text NotToml = codes "NotToml"

@@ -15,7 +15,7 @@ use Rattle.pl_topology.specs.Checks.{is_port}
 use Rattle.pl_topology.specs.Document.{tables_at}
 use Rattle.pl_topology.specs.Entries.{switch_entry, link_entry, host_entry}
 use Rattle.pl_topology.specs.Found.{FindsIds, FindsLinks, ends_of, same_pair}
-use Rattle.pl_topology.specs.declared.label.SwitchNo.{SwitchNo}
+use Rattle.pl_wiring.specs.declared.label.SwitchNo.{SwitchNo}
 use Rattle.pl_topology.specs.Refusal.{◌>>=◌, all_beside, or_refused}
 
 pub record Entries : Type 0 where

@@ -1,15 +1,5 @@
-pub mod FatTree
-pub mod Index
-pub mod Labels
-pub mod LiveLinks
-pub mod Paths
-pub mod Peers
-pub mod Plan
-pub mod Tables
-pub mod Wired
 pub mod Keys
 pub mod Errors
-pub mod Texts
 pub mod Refusal
 pub mod Document
 pub mod Entries

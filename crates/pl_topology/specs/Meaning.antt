@@ -4,8 +4,8 @@ use Rattle.std.specs.List.{find, range_with_len}
 use Rattle.pl_frame.specs.declared.address.SwitchId.{SwitchId}
 use Rattle.pl_topology.specs.declared.error.TopologyError.{TopologyError}
 use Rattle.pl_topology.specs.declared.error.TopologyError.TheVariants as error
-use Rattle.pl_topology.specs.declared.link.Link.{Link}
-use Rattle.pl_topology.specs.declared.host.Host.{Host}
+use Rattle.pl_wiring.specs.declared.link.Link.{Link}
+use Rattle.pl_wiring.specs.declared.host.Host.{Host}
 use Rattle.pl_topology.specs.declared.entries.SwitchEntry.{SwitchEntry}
 use Rattle.pl_topology.specs.declared.entries.LinkEntry.{LinkEntry}
 use Rattle.pl_topology.specs.declared.entries.HostEntry.{HostEntry}
@@ -14,9 +14,9 @@ use Rattle.pl_topology.specs.Complete.{has_all_keys}
 use Rattle.pl_topology.specs.Document.{document_of, arity_of}
 use Rattle.pl_topology.specs.Entries.{is_of, is_between}
 use Rattle.pl_topology.specs.FileEntries.{Entries, entries_of}
-use Rattle.pl_topology.specs.FatTree.{canonical_links}
-use Rattle.pl_topology.specs.Labels.{switch_count}
-use Rattle.pl_topology.specs.Plan.{Plan}
+use Rattle.pl_wiring.specs.FatTree.{canonical_links}
+use Rattle.pl_wiring.specs.Labels.{switch_count}
+use Rattle.pl_wiring.specs.Plan.{Plan}
 use Rattle.pl_topology.specs.Refusal.{◌>>=◌, or_refused, each}
 
 -- the id that a table gives the switch, or else its canonical one

@@ -3,17 +3,7 @@ ghost use Rattle.std.specs.Option.{option_copied};
 ghost use Rattle.toml.specs.Data.{get_member};
 ghost use Rattle.toml.specs.View.{view, table_view, items_view};
 ghost use Rattle.pl_topology.specs.Refusal.{Gives, or_refused};
-ghost use Rattle.pl_topology.specs.Document.{
-  document_of,
-  value_at,
-  has,
-  text_at,
-  integer_at,
-  tables_in,
-  tables_at,
-  arity_of,
-  lent_tables,
-};
+ghost use Rattle.pl_topology.specs.Document.{document_of, value_at, has, text_at, integer_at, tables_in, tables_at, arity_of, lent_tables};
 
 use crate::{Key, Memory, TopologyError};
 use std::alloc::Global;

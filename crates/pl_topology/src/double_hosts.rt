@@ -3,7 +3,8 @@ ghost use Rattle.pl_topology.specs.Checks.{addresses_differ, names_differ};
 ghost use Rattle.pl_topology.specs.Refusal.{Gives};
 
 use crate::entries::HostEntry;
-use crate::{Name, TopologyError};
+use pl_wiring::Name;
+use crate::TopologyError;
 use std::alloc::Global;
 use std::collections::HashSet;
 

@@ -1,12 +1,12 @@
 ghost use Rattle.std.specs.Prelude.{◌≡◌, List, IfOk};
 ghost use Rattle.pl_topology.specs.Checks.{ids_differ, kept_ids};
 ghost use Rattle.pl_topology.specs.Found.{FindsIds, SeesIds};
-ghost use Rattle.pl_topology.specs.Labels.{IsArity};
+ghost use Rattle.pl_wiring.specs.Labels.{IsArity};
 ghost use Rattle.pl_topology.specs.Refusal.{Gives};
 ghost use Rattle.pl_topology.specs.declared.entries.SwitchEntry.{SwitchEntry};
 
 use crate::entries::SwitchEntry;
-use crate::order::switches;
+use pl_wiring::switches;
 use crate::{Memory, TopologyError};
 use pl_frame::SwitchId;
 use std::alloc::Global;

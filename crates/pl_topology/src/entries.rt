@@ -1,4 +1,4 @@
-use crate::{Name, SwitchNo};
+use pl_wiring::{Name, SwitchNo};
 use pl_frame::{Ip4, Mac, SwitchId};
 
 /// What a `switch` table says: the id of a switch.

@@ -2,7 +2,8 @@ ghost use Rattle.std.specs.Prelude.{◌≡◌, Some};
 ghost use Rattle.pl_topology.specs.Errors.{error_text};
 ghost use Rattle.pl_topology.specs.declared.error.TopologyError.TheVariants.{Memory};
 
-use crate::{Key, Label, Name};
+use crate::Key;
+use pl_wiring::{Label, Name};
 use pl_frame::SwitchId;
 use std::alloc::{AllocError, AllocFailed};
 use std::error::Error;

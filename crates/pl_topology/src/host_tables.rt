@@ -2,13 +2,14 @@ ghost use Rattle.std.specs.Prelude.{◌≡◌, [], IfOk, option_map};
 ghost use Rattle.toml.specs.View.{table_view};
 ghost use Rattle.pl_topology.specs.Document.{lent_tables};
 ghost use Rattle.pl_topology.specs.Entries.{host_entry};
-ghost use Rattle.pl_topology.specs.Labels.{IsArity};
+ghost use Rattle.pl_wiring.specs.Labels.{IsArity};
 ghost use Rattle.pl_topology.specs.Refusal.{Gives, all_beside};
 
 use crate::document::integer_at;
 use crate::entries::HostEntry;
 use crate::values::{capture_value, edge_value, ip_value, mac_value, name_value};
-use crate::{Key, Memory, Name, TopologyError};
+use crate::{Key, Memory, TopologyError};
+use pl_wiring::Name;
 use std::alloc::Global;
 use toml::Table;
 

@@ -1,12 +1,13 @@
 ghost use Rattle.std.specs.Prelude.{◌≡◌, ◌<◌, All};
 ghost use Rattle.pl_topology.specs.Checks.{are_joined, is_below, joins_the_tree};
 ghost use Rattle.pl_topology.specs.Entries.{HasEnds};
-ghost use Rattle.pl_topology.specs.Labels.{IsArity, switch_count};
+ghost use Rattle.pl_wiring.specs.Labels.{IsArity, switch_count};
 ghost use Rattle.pl_topology.specs.Refusal.{each};
 
 use crate::entries::LinkEntry;
-use crate::order::label_at;
-use crate::{Label, SwitchNo, TopologyError};
+use pl_wiring::label_at;
+use pl_wiring::{Label, SwitchNo};
+use crate::TopologyError;
 
 // Whether the first switch has a link up to the second.
 fn is_below(lower: Label, upper: Label) -> bool

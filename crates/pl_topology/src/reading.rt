@@ -2,16 +2,9 @@ ghost use Rattle.std.specs.Prelude.{◌≡◌, [], IfOk, unwrap_or};
 ghost use Rattle.toml.specs.View.{table_view};
 ghost use Rattle.pl_topology.specs.Complete.{has_keys, has_all_keys};
 ghost use Rattle.pl_topology.specs.Document.{lent_tables, tables_at};
-ghost use Rattle.pl_topology.specs.FileEntries.{
-  AreFound,
-  entries_of,
-  entries_view,
-  host_entries,
-  link_entries,
-  switch_entries,
-};
+ghost use Rattle.pl_topology.specs.FileEntries.{AreFound, entries_of, entries_view, host_entries, link_entries, switch_entries};
 ghost use Rattle.pl_topology.specs.Found.{FindsIds, FindsLinks};
-ghost use Rattle.pl_topology.specs.Labels.{IsArity};
+ghost use Rattle.pl_wiring.specs.Labels.{IsArity};
 ghost use Rattle.pl_topology.specs.Meaning.{topology_of};
 ghost use Rattle.pl_topology.specs.Refusal.{Gives, each, or_refused};
 
@@ -27,7 +20,8 @@ use crate::joined::join_the_tree;
 use crate::link_tables::{LinkTables, read_links};
 use crate::switch_tables::{SwitchTables, read_switches};
 use crate::used_ports::ports_differ;
-use crate::{Key, TopologyError, Wiring};
+use crate::{Key, TopologyError};
+use pl_wiring::Wiring;
 use std::alloc::Global;
 use toml::Table;
 

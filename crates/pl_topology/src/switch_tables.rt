@@ -3,7 +3,7 @@ ghost use Rattle.std.specs.List.{find};
 ghost use Rattle.toml.specs.View.{table_view};
 ghost use Rattle.pl_topology.specs.Document.{lent_tables};
 ghost use Rattle.pl_topology.specs.Entries.{switch_entry};
-ghost use Rattle.pl_topology.specs.Labels.{IsArity};
+ghost use Rattle.pl_wiring.specs.Labels.{IsArity};
 ghost use Rattle.pl_topology.specs.Refusal.{Gives, all_beside};
 ghost use Rattle.pl_topology.specs.Found.{FindsIds};
 ghost use Rattle.pl_topology.specs.declared.entries.SwitchEntry.{SwitchEntry};

@@ -3,9 +3,10 @@ mod paths;
 mod refused;
 mod wired;
 
-ghost use Rattle.pl_topology.specs.LiveLinks.{IsFor};
+ghost use Rattle.pl_wiring.specs.LiveLinks.{IsFor};
 
-use crate::{LinkStates, SwitchNo, Wiring, read};
+use pl_wiring::{LinkStates, SwitchNo, Wiring};
+use crate::read;
 use std::alloc::{AllocError, Global};
 use std::process::Abort;
 use std::test::Fail;

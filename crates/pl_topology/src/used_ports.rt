@@ -1,21 +1,11 @@
 ghost use Rattle.std.specs.Prelude.{◌≡◌, ◌<◌, [], ◌∷◌, ◌++◌, List, map, pos, true, false, IfOk, IfSome, IfNone, OnOk, All};
 ghost use Rattle.std.specs.List.{filter, flat_map};
 ghost use Rattle.pl_topology.specs.declared.entries.PortUse.{PortUse};
-ghost use Rattle.pl_topology.specs.Checks.{
-  are_joined,
-  canonical_uses,
-  host_uses,
-  is_port,
-  is_unspoken,
-  kept_uses,
-  link_uses,
-  port_is_free,
-  ports_differ,
-};
+ghost use Rattle.pl_topology.specs.Checks.{are_joined, canonical_uses, host_uses, is_port, is_unspoken, kept_uses, link_uses, port_is_free, ports_differ};
 ghost use Rattle.pl_topology.specs.FileEntries.{AreFound};
 ghost use Rattle.pl_topology.specs.Entries.{HasEdge, HasEnds};
 ghost use Rattle.pl_topology.specs.Found.{FindsLinks, SeesPorts};
-ghost use Rattle.pl_topology.specs.Labels.{IsArity, label_of, switch_count};
+ghost use Rattle.pl_wiring.specs.Labels.{IsArity, label_of, switch_count};
 ghost use Rattle.pl_topology.specs.Refusal.{Gives, each_beside};
 ghost use Rattle.pl_topology.specs.declared.entries.LinkEntry.{LinkEntry};
 
@@ -24,8 +14,9 @@ use crate::entries::{HostEntry, LinkEntry, PortUse};
 use crate::file_entries::FileEntries;
 use crate::joined::are_joined;
 use crate::link_tables::{EntryByEnds, entry_between};
-use crate::order::label_at;
-use crate::{Link, Memory, TopologyError};
+use pl_wiring::label_at;
+use pl_wiring::Link;
+use crate::{Memory, TopologyError};
 use std::alloc::Global;
 use std::collections::HashSet;
 

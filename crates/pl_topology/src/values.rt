@@ -1,29 +1,18 @@
 ghost use Rattle.std.specs.Prelude.{◌≡◌, ◌<◌, IfSome, option_map, option_and_then};
 ghost use Rattle.toml.specs.View.{table_view};
 ghost use Rattle.pl_topology.specs.Document.{integer_at, text_at, value_at};
-ghost use Rattle.pl_topology.specs.Labels.{IsArity, switch_count};
-ghost use Rattle.pl_topology.specs.Entries.{switch_named, switch_at as switch_value_at, id_if, edge_if, name_if, capture_of};
-ghost use Rattle.pl_topology.specs.Texts.{ip_of_text, is_name, mac_of_text};
+ghost use Rattle.pl_wiring.specs.Labels.{IsArity, switch_count};
+ghost use Rattle.pl_topology.specs.Entries.{switch_at as switch_value_at, id_if, edge_if, name_if, capture_of};
+ghost use Rattle.pl_wiring.specs.SwitchNames.{switch_named};
+ghost use Rattle.pl_wiring.specs.Texts.{ip_of_text, is_name, mac_of_text};
 
 use crate::document::{integer_at, text_at, value_at};
-use crate::order::{edges, is_label, switch_at};
-use crate::{Key, Label, SwitchNo, text};
+use pl_wiring::switch_named;
+use pl_wiring::edges;
+use crate::Key;
+use pl_wiring::{SwitchNo, text};
 use pl_frame::{Ip4, Mac, SwitchId};
 use toml::Table;
-
-/// The switch of this label, where the tree has one.
-#[tactic(auto, using(crate::proofs::EntryLemmas::is_label_from), unfolding(crate::specs::Entries::switch_named))]
-pub(crate) fn switch_named(k: u8, text: &str) -> Option<SwitchNo>
-    requires { IsArity k }
-    ensures { result ≡ switch_named k text.now }
-{
-    let label = Label::read(text)?;
-    if is_label(k, label) {
-        Some(switch_at(k, label))
-    } else {
-        None
-    }
-}
 
 /// The switch whose label stands at a key.
 pub(crate) fn switch_value(k: u8, table: &Table, key: Key) -> Option<SwitchNo>

@@ -1,7 +1,8 @@
 //! The program: its words, the system's files and standard output for the one call `portland`.
 #![tactic(auto)]
 
-use pl_run::{Status, portland};
+use pl_inputs::Status;
+use pl_run::portland;
 use pl_shelf::DiskShelf;
 use std::env;
 use std::io::{self, ErrorKind};

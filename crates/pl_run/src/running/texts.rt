@@ -1,19 +1,19 @@
 ghost use Rattle.std.specs.Prelude.{◌≡◌, ◌<◌, ◌^◌, [], IfOk, length, string_bytes};
 ghost use Rattle.pl_run.specs.Answers.{ends_settled, is_settle, rests_from, summary_of};
-ghost use Rattle.pl_run.specs.Captures.{records_of};
-ghost use Rattle.pl_run.specs.Loaded.{files_of, inputs_of};
-ghost use Rattle.pl_run.specs.Machine.{records_left};
-ghost use Rattle.pl_run.specs.Played.{state_of};
-ghost use Rattle.pl_run.specs.Texts.{AreTexts};
+ghost use Rattle.pl_one_edge.specs.Captures.{records_of};
+ghost use Rattle.pl_inputs.specs.Loaded.{files_of, inputs_of};
+ghost use Rattle.pl_one_edge.specs.Machine.{records_left};
+ghost use Rattle.pl_one_edge.specs.Played.{state_of};
+ghost use Rattle.pl_output.specs.Texts.{AreTexts};
 
-use crate::loading::Inputs;
-use crate::player::{Capture, Played, record_count};
-use crate::printing::Piece;
-use crate::saving::Texts;
-use crate::summary::{Rest, summary};
+use pl_inputs::Inputs;
+use pl_one_edge::{Capture, Played, record_count};
+use pl_output::Piece;
+use pl_output::Texts;
+use pl_output::{Rest, summary};
 use pl_frame::Memory;
 use pl_script::{Command, ScriptLine};
-use pl_topology::HostNo;
+use pl_wiring::HostNo;
 use std::alloc::Global;
 
 /// All that is saved of a run, with its names.

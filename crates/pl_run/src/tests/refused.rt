@@ -1,5 +1,6 @@
 use super::{SAVED, first_path, play, untouched};
-use crate::{Status, portland};
+use pl_inputs::Status;
+use crate::portland;
 use pl_shelf::MemoryShelf;
 use std::alloc::Global;
 use std::test::Fail;

@@ -1,5 +1,5 @@
-ghost use Rattle.pl_schedule.specs.Flying.{IsCounted};
-ghost use Rattle.pl_schedule.specs.Hearing.{IsWithinHearing};
+ghost use Rattle.pl_world.specs.Flying.{IsCounted};
+ghost use Rattle.pl_world.specs.Hearing.{IsWithinHearing};
 
 use super::*;
 use crate::{NextPort, TwoPorts};

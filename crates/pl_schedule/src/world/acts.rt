@@ -1,18 +1,21 @@
 ghost use Rattle.std.specs.Prelude.{◌≡◌, ◌<◌, [], OnOk};
 ghost use Rattle.std.specs.List.{AllByRecursion};
-ghost use Rattle.pl_topology.specs.Labels.{switch_count};
-ghost use Rattle.pl_core.specs.declared.entry.Entry.TheVariants as entry;
+ghost use Rattle.pl_wiring.specs.Labels.{switch_count};
+ghost use Rattle.pl_journal.specs.declared.entry.Entry.TheVariants as entry;
 ghost use Rattle.pl_core.specs.Accounting.{IsFit};
-ghost use Rattle.pl_schedule.specs.SwitchActs.{act_done, acts_done, amid, crossed_again, ended, goes_out, made, passed, place_noted, redirected, with_late};
+ghost use Rattle.pl_world.specs.SwitchActs.{act_done, acts_done, amid, crossed_again, ended, goes_out, made, passed, place_noted, redirected, with_late};
 
-use crate::Item;
-use crate::aside::Aside;
-use crate::speech::Speech;
+use pl_world::Item;
+use pl_world::Aside;
+use pl_world::Speech;
 use crate::world::World;
-use pl_core::{Act, Cause, Entry, HostCore, ManagerCore, Memory, Outbox, Place, SwitchCore};
+use pl_core::{Act, HostCore, ManagerCore, Outbox, SwitchCore};
+use pl_journal::{Cause, Entry};
+use pl_frame::Memory;
+use pl_layouts::Place;
 use pl_frame::Frame;
 use pl_pmac::Pmac;
-use pl_topology::SwitchNo;
+use pl_wiring::SwitchNo;
 
 impl<S: SwitchCore, M: ManagerCore, H: HostCore> World<S, M, H> {
     // What one act of a switch brings about.

@@ -1,23 +1,25 @@
 ghost use Rattle.std.specs.Prelude.{◌≡◌, ◌<◌, ◌≤◌, ◌*◌, All, length, map, replicate, slice_get, None, Some, IfOk};
-ghost use Rattle.pl_topology.specs.Labels.{switch_count};
+ghost use Rattle.pl_wiring.specs.Labels.{switch_count};
 ghost use Rattle.pl_core.specs.HostViews.{boot_host};
 ghost use Rattle.pl_core.specs.ManagerViews.{booted_manager};
 ghost use Rattle.pl_core.specs.SwitchFacts.{switch_at_boot};
-ghost use Rattle.pl_schedule.specs.Booting.{CanBegin, all_live, booted, me_of};
-ghost use Rattle.pl_schedule.specs.Flying.{IsCounted};
-ghost use Rattle.pl_schedule.specs.Hearing.{IsWithinHearing};
-ghost use Rattle.pl_schedule.specs.Pending.{first_switches};
+ghost use Rattle.pl_world.specs.Booting.{CanBegin, all_live, booted, me_of};
+ghost use Rattle.pl_world.specs.Flying.{IsCounted};
+ghost use Rattle.pl_world.specs.Hearing.{IsWithinHearing};
+ghost use Rattle.pl_world.specs.Pending.{first_switches};
 
-use crate::Limits;
-use crate::atlas::Atlas;
-use crate::book::Book;
-use crate::stands::Stands;
-use crate::switches::Switches;
+use pl_world::Limits;
+use pl_world_parts::Atlas;
+use pl_world_parts::Book;
+use pl_world_parts::Stands;
+use pl_world_parts::Switches;
 use crate::world::World;
 use pl_arp::Me;
-use pl_core::{HostCore, HostTable, Items, ManagerCore, Memory, SwitchCore};
-use pl_lines::{CountedLines, Lines};
-use pl_topology::{Host, LinkStates, SwitchNo, Wiring};
+use pl_core::{HostCore, HostTable, ManagerCore, SwitchCore};
+use pl_lists::Items;
+use pl_frame::Memory;
+use pl_queues::{CountedLines, Lines};
+use pl_wiring::{Host, LinkStates, SwitchNo, Wiring};
 use std::alloc::Global;
 
 impl<S: SwitchCore, M: ManagerCore, H: HostCore> World<S, M, H> {

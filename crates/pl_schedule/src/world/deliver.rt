@@ -1,27 +1,29 @@
 ghost use Rattle.std.specs.Prelude.{◌≡◌, ◌<◌, ◌≤◌, ◌||◌, [], is_some, length, option_map, slice_get, IfSome, MatchOption, OnOk, Some};
 ghost use Rattle.std.specs.List.{AllByRecursion};
 ghost use Rattle.pl_frame.specs.Ethernet.{destination_of};
-ghost use Rattle.pl_topology.specs.Labels.{switch_count};
-ghost use Rattle.pl_topology.specs.Peers.{IsPort};
+ghost use Rattle.pl_wiring.specs.Labels.{switch_count};
+ghost use Rattle.pl_wiring.specs.Peers.{IsPort};
 ghost use Rattle.pl_core.specs.Accounting.{IsShaped, IsWhole};
-ghost use Rattle.pl_core.specs.Frames.{packet_in};
-ghost use Rattle.pl_core.specs.Lossy.{mac_of_host};
-ghost use Rattle.pl_core.specs.Memberships.{is_group};
-ghost use Rattle.pl_schedule.specs.Changes.{is_address_of, out_of, receiver};
-ghost use Rattle.pl_schedule.specs.Flying.{IsAtPort, IsItem};
-ghost use Rattle.pl_lines.specs.Lines.{line_at};
-ghost use Rattle.pl_schedule.specs.OtherActs.{heard_with};
+ghost use Rattle.pl_layouts.specs.Frames.{packet_in};
+ghost use Rattle.pl_journal.specs.Lossy.{mac_of_host};
+ghost use Rattle.pl_layouts.specs.Memberships.{is_group};
+ghost use Rattle.pl_world.specs.Changes.{is_address_of, out_of, receiver};
+ghost use Rattle.pl_world.specs.Flying.{IsAtPort, IsItem};
+ghost use Rattle.pl_queues.specs.Lines.{line_at};
+ghost use Rattle.pl_world.specs.OtherActs.{heard_with};
 ghost use Rattle.pl_schedule.specs.Heads.{IsTakenFromHost, IsTakenFromManager, IsTakenOut, IsTakenToManager};
-ghost use Rattle.pl_schedule.specs.WorldRule.{ComesAtHost, ComesAtSwitch, ComesIn, ComesOut, ComesOver, heard_item};
+ghost use Rattle.pl_world.specs.WorldRule.{ComesAtHost, ComesAtSwitch, ComesIn, ComesOut, ComesOver, heard_item};
 
-use crate::speech::Speech;
+use pl_world::Speech;
 use crate::world::World;
-use crate::{Item, Stand};
+use pl_world::{Item, Stand};
 use byteorder::{BigEndian, ByteOrder};
 use pl_arp::read;
-use pl_core::{Cause, Entry, HostCore, ManagerCore, Memory, SwitchCore, ToManager, ToSwitch};
+use pl_journal::{Cause, Entry};
+use pl_core::{HostCore, ManagerCore, SwitchCore, ToManager, ToSwitch};
+use pl_frame::Memory;
 use pl_frame::{Frame, Mac, SHORTEST, TYPE_ARP};
-use pl_topology::{HostNo, Peer, SwitchNo};
+use pl_wiring::{HostNo, Peer, SwitchNo};
 
 impl<S: SwitchCore, M: ManagerCore, H: HostCore> World<S, M, H> {
     // An item comes at a port of a switch.

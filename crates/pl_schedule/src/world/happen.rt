@@ -1,24 +1,27 @@
 ghost use Rattle.std.specs.Prelude.{◌≡◌, ◌<◌, [], ◌∷◌, false, length, slice_get, slice_set, None, OnOk, Some};
 ghost use Rattle.std.specs.List.{AllByRecursion};
 ghost use Rattle.pl_frame.specs.declared.address.SwitchId.{SwitchId};
-ghost use Rattle.pl_topology.specs.Labels.{switch_count};
-ghost use Rattle.pl_topology.specs.Peers.{IsPort, peer_of};
+ghost use Rattle.pl_wiring.specs.Labels.{switch_count};
+ghost use Rattle.pl_wiring.specs.Peers.{IsPort, peer_of};
 ghost use Rattle.pl_core.specs.Accounting.{IsShaped};
 ghost use Rattle.pl_core.specs.ManagerFacts.{CanHear};
-ghost use Rattle.pl_schedule.specs.Changes.{all_noted, emptied_from_host, emptied_out, ends_of, host_at, out_of};
-ghost use Rattle.pl_schedule.specs.Flying.{IsAtPort, IsItem};
-ghost use Rattle.pl_lines.specs.Lines.{line_at};
-ghost use Rattle.pl_schedule.specs.LinksAndMoves.{host_moved, item_lost};
-ghost use Rattle.pl_schedule.specs.OtherActs.{heard_after_tick, one_more_tick};
-ghost use Rattle.pl_schedule.specs.Refusals.{is_none_left};
-ghost use Rattle.pl_schedule.specs.WorldRule.{DeliversFromHost, DeliversFromManager, DeliversOut, DeliversToManager, Goes, Loses, Ticks};
+ghost use Rattle.pl_world.specs.Changes.{all_noted, emptied_from_host, emptied_out, ends_of, host_at, out_of};
+ghost use Rattle.pl_world.specs.Flying.{IsAtPort, IsItem};
+ghost use Rattle.pl_queues.specs.Lines.{line_at};
+ghost use Rattle.pl_world.specs.LinksAndMoves.{host_moved, item_lost};
+ghost use Rattle.pl_world.specs.OtherActs.{heard_after_tick, one_more_tick};
+ghost use Rattle.pl_world.specs.Refusals.{is_none_left};
+ghost use Rattle.pl_world.specs.WorldRule.{DeliversFromHost, DeliversFromManager, DeliversOut, DeliversToManager, Goes, Loses, Ticks};
 
-use crate::stands::Stands;
-use crate::urge::Urge;
+use pl_world_parts::Stands;
+use pl_world_parts::Urge;
 use crate::world::World;
-use crate::{Item, Stand};
-use pl_core::{Cause, Entry, HostCore, ManagerCore, Memory, Queue, SwitchCore};
-use pl_topology::{HostNo, Peer, SwitchNo};
+use pl_world::{Item, Stand};
+use pl_journal::{Cause, Entry};
+use pl_core::{HostCore, ManagerCore, SwitchCore};
+use pl_frame::Memory;
+use pl_lists::Queue;
+use pl_wiring::{HostNo, Peer, SwitchNo};
 
 impl<S: SwitchCore, M: ManagerCore, H: HostCore> World<S, M, H> {
     pub(crate) fn deliver_from_host(&mut self, h: HostNo) -> Result<(), Memory>

@@ -1,16 +1,19 @@
 ghost use Rattle.std.specs.Prelude.{◌≡◌, ◌<◌, length, slice_get, Some, OnOk, true};
-ghost use Rattle.pl_topology.specs.Labels.{switch_count};
-ghost use Rattle.pl_schedule.specs.Changes.{noted, out_of};
-ghost use Rattle.pl_schedule.specs.Flying.{IsCounted};
-ghost use Rattle.pl_schedule.specs.Hearing.{IsWithinHearing};
-ghost use Rattle.pl_lines.specs.Lines.{line_at};
+ghost use Rattle.pl_wiring.specs.Labels.{switch_count};
+ghost use Rattle.pl_world.specs.Changes.{noted, out_of};
+ghost use Rattle.pl_world.specs.Flying.{IsCounted};
+ghost use Rattle.pl_world.specs.Hearing.{IsWithinHearing};
+ghost use Rattle.pl_queues.specs.Lines.{line_at};
 ghost use Rattle.pl_schedule.specs.Looks.{IsMark, queue_len};
-ghost use Rattle.pl_schedule.specs.Pending.{pending};
-ghost use Rattle.pl_schedule.specs.Refusals.{has_port};
+ghost use Rattle.pl_world.specs.Pending.{pending};
+ghost use Rattle.pl_world.specs.Refusals.{has_port};
 
 use crate::world::World;
-use pl_core::{Entry, HostCore, ManagerCore, Memory, QueueName, SwitchCore};
-use pl_topology::{HostNo, SwitchNo};
+use pl_journal::Entry;
+use pl_core::{HostCore, ManagerCore, SwitchCore};
+use pl_frame::Memory;
+use pl_world::QueueName;
+use pl_wiring::{HostNo, SwitchNo};
 
 impl<S: SwitchCore, M: ManagerCore, H: HostCore> World<S, M, H> {
     /// How many items wait in a queue; none exactly where the wiring has no such queue.

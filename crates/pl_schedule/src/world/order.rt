@@ -1,13 +1,14 @@
 ghost use Rattle.std.specs.Prelude.{◌≡◌, ◌+◌, ◌*◌, ◌<◌, ◌≤◌, ◌^◌, length, slice_get, IfSome, None, Some};
-ghost use Rattle.pl_topology.specs.Plan.{IsPlan};
-ghost use Rattle.pl_schedule.specs.Flying.{IsFormed};
-ghost use Rattle.pl_schedule.specs.QueueOrder.{first_from_manager, first_out, first_to_manager, next_in, next_queue, port_queue, queue_at, queue_count, queue_order};
-ghost use Rattle.pl_schedule.specs.Refusals.{has_queue, is_empty_queue, refusal_of_queue};
+ghost use Rattle.pl_wiring.specs.Plan.{IsPlan};
+ghost use Rattle.pl_world.specs.Flying.{IsFormed};
+ghost use Rattle.pl_world.specs.QueueOrder.{first_from_manager, first_out, first_to_manager, next_in, next_queue, port_queue, queue_at, queue_count, queue_order};
+ghost use Rattle.pl_world.specs.Refusals.{has_queue, is_empty_queue, refusal_of_queue};
 
 use crate::world::World;
-use pl_core::{HostCore, ManagerCore, QueueName, SwitchCore};
-use pl_lines::Lines;
-use pl_topology::{HostNo, SwitchNo, Wiring};
+use pl_core::{HostCore, ManagerCore, SwitchCore};
+use pl_world::QueueName;
+use pl_queues::Lines;
+use pl_wiring::{HostNo, SwitchNo, Wiring};
 
 impl<S: SwitchCore, M: ManagerCore, H: HostCore> World<S, M, H> {
     /// How many queues the wiring has.

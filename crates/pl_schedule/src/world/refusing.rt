@@ -1,18 +1,19 @@
 ghost use Rattle.std.specs.Prelude.{◌≡◌, ◌<◌, length, true, Some};
 ghost use Rattle.std.specs.Option.{option_map};
-ghost use Rattle.pl_topology.specs.Labels.{switch_count};
-ghost use Rattle.pl_core.specs.Places.{is_host_port};
-ghost use Rattle.pl_schedule.specs.Changes.{host_at, out_of};
-ghost use Rattle.pl_lines.specs.Lines.{line_at};
-ghost use Rattle.pl_schedule.specs.LinksAndMoves.{link_between};
-ghost use Rattle.pl_schedule.specs.Refusals.{has_host, has_port, has_queue, has_switch, is_empty_queue, is_for_hosts, is_linked, is_none_left, refusal, refusal_of_event, refusal_of_link, refusal_of_move, refusal_of_place, refusal_of_queue, unless_there};
+ghost use Rattle.pl_wiring.specs.Labels.{switch_count};
+ghost use Rattle.pl_journal.specs.Places.{is_host_port};
+ghost use Rattle.pl_world.specs.Changes.{host_at, out_of};
+ghost use Rattle.pl_queues.specs.Lines.{line_at};
+ghost use Rattle.pl_world.specs.LinksAndMoves.{link_between};
+ghost use Rattle.pl_world.specs.Refusals.{has_host, has_port, has_queue, has_switch, is_empty_queue, is_for_hosts, is_linked, is_none_left, refusal, refusal_of_event, refusal_of_link, refusal_of_move, refusal_of_place, refusal_of_queue, unless_there};
 
-use crate::StepError;
-use crate::links::link_of;
+use pl_world::StepError;
+use pl_world_parts::link_of;
 use crate::world::World;
-use pl_core::{Event, HostCore, ManagerCore, QueueName, SwitchCore};
-use pl_lines::Lines;
-use pl_topology::{HostNo, Link, Peer, SwitchNo};
+use pl_world::{Event, QueueName};
+use pl_core::{HostCore, ManagerCore, SwitchCore};
+use pl_queues::Lines;
+use pl_wiring::{HostNo, Link, Peer, SwitchNo};
 
 impl<S: SwitchCore, M: ManagerCore, H: HostCore> World<S, M, H> {
     /// Why an event is refused, by the first reason that holds; none where the step is made.

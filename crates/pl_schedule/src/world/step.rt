@@ -1,19 +1,20 @@
 ghost use Rattle.std.specs.Prelude.{◌≡◌, ◌+◌, ℕ, true, false, nat_le, slice_get, IfErr, None, OnOk, Some};
 ghost use Rattle.pl_frame.specs.declared.address.SwitchId.{SwitchId};
 ghost use Rattle.pl_core.specs.ManagerFacts.{CanHear};
-ghost use Rattle.pl_schedule.specs.declared.error.StepError.{StepError};
-ghost use Rattle.pl_schedule.specs.Flying.{IsCounted};
-ghost use Rattle.pl_schedule.specs.Hearing.{IsWithinHearing};
-ghost use Rattle.pl_schedule.specs.LinksAndMoves.{link_between};
-ghost use Rattle.pl_schedule.specs.Refusals.{has_queue, is_empty_queue, refusal, refusal_of_event, refusal_of_link, refusal_of_queue};
-ghost use Rattle.pl_schedule.specs.WorldRule.{Delivers, Fails, Happens, IsRepaired, WorldStep};
+ghost use Rattle.pl_world.specs.declared.error.StepError.{StepError};
+ghost use Rattle.pl_world.specs.Flying.{IsCounted};
+ghost use Rattle.pl_world.specs.Hearing.{IsWithinHearing};
+ghost use Rattle.pl_world.specs.LinksAndMoves.{link_between};
+ghost use Rattle.pl_world.specs.Refusals.{has_queue, is_empty_queue, refusal, refusal_of_event, refusal_of_link, refusal_of_queue};
+ghost use Rattle.pl_world.specs.WorldRule.{Delivers, Fails, Happens, IsRepaired, WorldStep};
 
-use crate::links::link_of;
-use crate::urge::Urge;
+use pl_world_parts::link_of;
+use pl_world_parts::Urge;
 use crate::world::World;
-use crate::{Stand, StepError};
-use pl_core::{Event, HostCore, ManagerCore, Memory, QueueName, SwitchCore};
-use pl_topology::SwitchNo;
+use pl_world:::{Stand, StepError, Event, QueueName};
+use pl_core::{HostCore, ManagerCore, SwitchCore};
+use pl_frame::Memory;
+use pl_wiring::SwitchNo;
 
 impl<S: SwitchCore, M: ManagerCore, H: HostCore> World<S, M, H> {
     fn deliver(&mut self, name: &QueueName) -> Result<(), Memory>

@@ -2,28 +2,28 @@ ghost use Rattle.std.specs.Prelude.{◌≡◌, ◌<◌, [], length, slice_get, S
 ghost use Rattle.pl_frame.specs.declared.address.SwitchId.{SwitchId};
 ghost use Rattle.pl_core.specs.ManagerFacts.{CanHear};
 ghost use Rattle.std.specs.List.{AllByRecursion, fold};
-ghost use Rattle.pl_topology.specs.Labels.{switch_count};
+ghost use Rattle.pl_wiring.specs.Labels.{switch_count};
 ghost use Rattle.pl_core.specs.Accounting.{IsShaped, IsWhole};
-ghost use Rattle.pl_core.specs.HostRule.HostAnswer.{Nothing};
-ghost use Rattle.pl_core.specs.SwitchRule.SwitchInput.{Comes, Says, Tick};
-ghost use Rattle.pl_schedule.specs.declared.speech.Speech.TheVariants.{Silent};
-ghost use Rattle.pl_schedule.specs.Changes.{sent_by_host};
-ghost use Rattle.pl_schedule.specs.Moves.{input_of};
-ghost use Rattle.pl_schedule.specs.OtherActs.{host_act_done, manager_act_done, reception_noted, skip_noted};
-ghost use Rattle.pl_schedule.specs.WorldRule.{HostMoves, HostPlays, HostReceives, ManagerMoves, SwitchMoves, played_as};
+ghost use Rattle.pl_core.specs.HostInputs.HostAnswer.{Nothing};
+ghost use Rattle.pl_core.specs.SwitchInputs.SwitchInput.{Comes, Says, Tick};
+ghost use Rattle.pl_world.specs.declared.speech.Speech.TheVariants.{Silent};
+ghost use Rattle.pl_world.specs.Changes.{sent_by_host};
+ghost use Rattle.pl_world_parts.specs.Moves.{input_of};
+ghost use Rattle.pl_world.specs.OtherActs.{host_act_done, manager_act_done, reception_noted, skip_noted};
+ghost use Rattle.pl_world.specs.WorldRule.{HostMoves, HostPlays, HostReceives, ManagerMoves, SwitchMoves, played_as};
 
-use crate::Item;
-use crate::aside::Aside;
-use crate::moves::{arrive_at, play_at, urge_at};
-use crate::speech::Speech;
-use crate::urge::Urge;
+use pl_world::Item;
+use pl_world::Aside;
+use pl_world_parts::{arrive_at, play_at, urge_at};
+use pl_world::Speech;
+use pl_world_parts::Urge;
 use crate::world::World;
-use pl_core::{
-    Cause, Entry, HostAct, HostCore, HostOutbox, ManagerAct, ManagerCore, ManagerOutbox, Memory,
-    Queue, Reception, Skip, SwitchCore, ToManager, ToSwitch,
-};
+use pl_journal::{Cause, Entry, Skip};
+use pl_core::{HostAct, HostCore, HostOutbox, ManagerAct, ManagerCore, ManagerOutbox, Reception, SwitchCore, ToManager, ToSwitch};
+use pl_frame::Memory;
+use pl_lists::Queue;
 use pl_frame::Frame;
-use pl_topology::{HostNo, SwitchNo};
+use pl_wiring::{HostNo, SwitchNo};
 
 impl<S: SwitchCore, M: ManagerCore, H: HostCore> World<S, M, H> {
     pub(crate) fn switch_ticks(&mut self, s: SwitchNo) -> Result<(), Memory>

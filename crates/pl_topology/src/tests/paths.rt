@@ -1,9 +1,10 @@
 ghost use Rattle.std.specs.Prelude.{◌<◌, IfOk, IfSome};
-ghost use Rattle.pl_topology.specs.Labels.{edge_count, switch_count};
-ghost use Rattle.pl_topology.specs.LiveLinks.{IsFor};
+ghost use Rattle.pl_wiring.specs.Labels.{edge_count, switch_count};
+ghost use Rattle.pl_wiring.specs.LiveLinks.{IsFor};
 
 use super::fail;
-use crate::{LinkStates, Memory, Path, Peer, SwitchNo, Wiring, read};
+use pl_wiring::{LinkStates, Path, Peer, SwitchNo, Wiring};
+use crate::{Memory, read};
 use std::alloc::{AllocError, Global};
 use std::process::Abort;
 use std::test::Fail;

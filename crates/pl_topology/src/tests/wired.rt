@@ -1,5 +1,6 @@
 use super::fail;
-use crate::{HostNo, Label, LinkStates, Peer, SwitchNo, read};
+use pl_wiring::{HostNo, Label, LinkStates, Peer, SwitchNo};
+use crate::read;
 use pl_frame::{Ip4, Mac, SwitchId};
 use std::test::Fail;
 

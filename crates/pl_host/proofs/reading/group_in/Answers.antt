@@ -1,5 +1,5 @@
 use Rattle.std.proofs.Common.{◌∙◌, ap, List, ℕ}
-use Rattle.pl_core.specs.Memberships.{group_of}
+use Rattle.pl_layouts.specs.Memberships.{group_of}
 use Rattle.pl_host.proofs.Stepping.{group_of-six_bytes}
 use Rattle.pl_host.proofs.reading.group_in.Goals as goal
 

@@ -1,6 +1,6 @@
 use Rattle.std.proofs.Common.{◌≡◌, ◌%◌, length}
 use Rattle.std.specs.Prelude.{fold}
-use Rattle.pl_core.specs.Checksum.{ones_plus, words}
+use Rattle.pl_layouts.specs.Checksum.{ones_plus, words}
 use Rattle.pl_multicast.proofs.checksum.checksum.Given as goal
 
 -- the sum so far and the words that are left have the sum of all

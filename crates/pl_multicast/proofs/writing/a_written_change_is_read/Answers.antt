@@ -1,4 +1,4 @@
-use Rattle.pl_core.specs.Reports.{receiver_of}
+use Rattle.pl_layouts.specs.Reports.{receiver_of}
 use Rattle.pl_multicast.proofs.Sums.{ones_sum-header_of, ones_sum-message_of_change}
 use Rattle.pl_multicast.proofs.ReadBack.{changes_in-membership_frame}
 use Rattle.pl_multicast.proofs.writing.a_written_change_is_read.Goals as goal

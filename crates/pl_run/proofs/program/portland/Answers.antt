@@ -1,5 +1,5 @@
 use Rattle.std.proofs.Common.{rules}
-use Rattle.pl_run.specs.declared.status.Status.TheVariants.{Done}
+use Rattle.pl_inputs.specs.declared.status.Status.TheVariants.{Done}
 use Rattle.pl_run.specs.Answers.{Answers, Moment}
 use Rattle.pl_run.proofs.CompleteAnswers.{answers_inputs}
 use Rattle.pl_run.proofs.CompleteStops.{answers_bad_capture, answers_long_capture}

@@ -1,6 +1,6 @@
 use Rattle.pl_run.specs.Answers.{Moment}
-use Rattle.pl_run.specs.Loaded.{inputs_of}
-use Rattle.pl_run.specs.Met.{asked}
+use Rattle.pl_inputs.specs.Loaded.{inputs_of}
+use Rattle.pl_inputs.specs.Met.{asked}
 use Rattle.pl_run.proofs.Ending.{run_answers}
 use Rattle.pl_run.proofs.running.run.Goals as goal
 

@@ -1,6 +1,6 @@
 use Rattle.std.proofs.Common.{◌<◌, ◌++◌, ◌∷◌, [], length, map, take, sym, ap, ◌∙◌, arith}
 use Rattle.std.proofs.lemmas.List.{map_more, take_all}
-use Rattle.pl_topology.specs.declared.link.Link.{Link}
+use Rattle.pl_wiring.specs.declared.link.Link.{Link}
 use Rattle.pl_topology.specs.Meaning.{link_of}
 use Rattle.pl_topology.proofs.building.tree_links.Goals as goal
 

@@ -1,6 +1,6 @@
 use Rattle.std.proofs.Common.{◌≡◌, map}
 use Rattle.std.specs.List.{range_with_len}
-use Rattle.pl_topology.specs.FatTree.{canonical_link}
+use Rattle.pl_wiring.specs.FatTree.{canonical_link}
 use Rattle.pl_topology.proofs.canonical.canonical_links.Given as goal
 
 abbrev pub invariant-loop-number : goal.invariant-loop-number

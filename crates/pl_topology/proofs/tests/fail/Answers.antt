@@ -1,7 +1,7 @@
 use Rattle.std.proofs.Common.{◌≡◌, ℕ, true, List, Option, Some, None, IfSome, is_some}
 use Rattle.std.specs.List.{Any, Contains}
-use Rattle.pl_topology.specs.declared.link.Link.{Link}
-use Rattle.pl_topology.specs.Peers.{IsBetween}
+use Rattle.pl_wiring.specs.declared.link.Link.{Link}
+use Rattle.pl_wiring.specs.Peers.{IsBetween}
 use Rattle.pl_topology.proofs.tests.fail.Goals as goal
 
 -- a link that was found joins the two

@@ -1,6 +1,6 @@
 use Rattle.std.proofs.Common.{◌≡◌, ◌++◌, map}
 use Rattle.pl_core.specs.declared.acts.HostAct.TheVariants.{Send}
-use Rattle.pl_core.specs.HostRule.{report_frame}
+use Rattle.pl_host_rule.specs.HostRule.{report_frame}
 use Rattle.pl_host.proofs.groups.Groups.report.Given as goal
 
 abbrev pub invariant-loop-group : goal.invariant-loop-group

@@ -1,5 +1,5 @@
 use Rattle.std.proofs.Common.{Some}
-use Rattle.pl_core.specs.HostRule.{released}
+use Rattle.pl_host_rule.specs.HostRule.{released}
 use Rattle.pl_host.specs.Host.{host_view}
 use Rattle.pl_host.proofs.Stepping.{hears, on_both}
 use Rattle.pl_host.proofs.host.Host.hear.Goals as goal

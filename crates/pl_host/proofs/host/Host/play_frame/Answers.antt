@@ -2,9 +2,9 @@ use Rattle.std.proofs.Common.{◌≡◌, ◌∙◌, sym, ap, [], None}
 use Rattle.std.proofs.lemmas.List.{append-nil}
 use Rattle.pl_frame.specs.declared.address.Mac.{Mac}
 use Rattle.pl_frame.specs.Ethernet.{destination_of}
-use Rattle.pl_core.specs.Memberships.{is_group}
+use Rattle.pl_layouts.specs.Memberships.{is_group}
 use Rattle.pl_core.specs.HostViews.{HostView}
-use Rattle.pl_core.specs.HostRule.{other_host}
+use Rattle.pl_host_rule.specs.HostRule.{other_host}
 use Rattle.pl_host.specs.Host.{host_view}
 use Rattle.pl_host.proofs.Stepping.{plays_single}
 use Rattle.pl_host.proofs.host.Host.play_frame.Goals as goal

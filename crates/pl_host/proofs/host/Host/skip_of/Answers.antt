@@ -2,9 +2,9 @@ use Rattle.std.proofs.Common.{◌≡◌, ◌∙◌, sym, ap, Option, length, le-
 use Rattle.pl_frame.specs.declared.address.Mac.{Mac}
 use Rattle.pl_frame.specs.Ethernet.{destination_of, kind_of}
 use Rattle.pl_arp.specs.declared.cache.Me.{Me}
-use Rattle.pl_core.specs.Memberships.{is_group}
+use Rattle.pl_layouts.specs.Memberships.{is_group}
 use Rattle.pl_core.specs.HostViews.{HostView}
-use Rattle.pl_core.specs.HostRule.{is_foreign, other_host, skip_of, unicast_skip}
+use Rattle.pl_host_rule.specs.HostRule.{is_foreign, other_host, skip_of, unicast_skip}
 use Rattle.pl_host.specs.Host.{host_view}
 use Rattle.pl_host.proofs.Stepping.{skip_of-last}
 use Rattle.pl_host.proofs.host.Host.skip_of.Goals as goal

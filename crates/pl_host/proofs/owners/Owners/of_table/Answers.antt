@@ -1,10 +1,9 @@
-use Rattle.std.proofs.Common.{sym, subst, List}
+use Rattle.std.proofs.Common.{sym, subst, List, arith}
 use Rattle.std.proofs.lemmas.Grind.{common_steps}
 use Rattle.pl_arp.specs.declared.cache.Me.{Me}
 use Rattle.pl_host.specs.Owners.{IsIndex}
 use Rattle.pl_host.proofs.Finding.{IsIndex-more}
 use Rattle.pl_host.proofs.owners.Owners.of_table.Goals as goal
-use Rattle.std.proofs.Common.{arith}
 
 pub loop-host-preserved : goal.loop-host-preserved
 loop-host-preserved c = record {

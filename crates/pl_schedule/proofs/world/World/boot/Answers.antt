@@ -1,6 +1,6 @@
 use Rattle.std.proofs.Common.{[], map, replicate, ◌∙◌, ap}
-use Rattle.pl_schedule.specs.Booting.{first_stand}
-use Rattle.pl_schedule.proofs.Begun.{begun_counted, begun_within, hosts_first, parts_formed, parts_make}
+use Rattle.pl_world.specs.Booting.{first_stand}
+use Rattle.pl_world.proofs.Begun.{begun_counted, begun_within, hosts_first, parts_formed, parts_make}
 use Rattle.pl_schedule.proofs.world.World.boot.Goals as goal
 
 pub invariant_of-result : goal.invariant_of-result

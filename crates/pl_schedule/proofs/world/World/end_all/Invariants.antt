@@ -1,5 +1,5 @@
 use Rattle.std.proofs.Common.{◌≡◌, length}
-use Rattle.pl_schedule.specs.Changes.{all_noted, ends_of}
+use Rattle.pl_world.specs.Changes.{all_noted, ends_of}
 use Rattle.pl_schedule.proofs.world.World.end_all.Given as goal
 
 abbrev pub invariant-loop-item : goal.invariant-loop-item

@@ -1,5 +1,5 @@
 use Rattle.std.proofs.Common.{◌≡◌, length}
-use Rattle.pl_schedule.specs.Changes.{all_noted}
+use Rattle.pl_world.specs.Changes.{all_noted}
 use Rattle.pl_schedule.proofs.world.World.note_all.Given as goal
 
 abbrev pub invariant-loop-entry : goal.invariant-loop-entry

@@ -1,6 +1,6 @@
 use Rattle.std.proofs.Common.{◌≡◌, ◌∙◌, ap, subst}
-use Rattle.pl_topology.specs.Plan.{IsPlan}
-use Rattle.pl_schedule.specs.QueueOrder.{queue_at}
+use Rattle.pl_wiring.specs.Plan.{IsPlan}
+use Rattle.pl_world.specs.QueueOrder.{queue_at}
 use Rattle.pl_schedule.proofs.QueueLists.{member_of_order}
 use Rattle.pl_schedule.proofs.world.World.queue_at.Goals as goal
 

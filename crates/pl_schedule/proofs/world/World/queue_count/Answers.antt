@@ -1,5 +1,5 @@
 use Rattle.std.proofs.Common.{◌≡◌, ◌∙◌, ap, sym}
-use Rattle.pl_schedule.specs.QueueOrder.{queue_count}
+use Rattle.pl_world.specs.QueueOrder.{queue_count}
 use Rattle.pl_schedule.proofs.QueueLists.{length_of_order}
 use Rattle.pl_schedule.proofs.world.World.queue_count.Goals as goal
 

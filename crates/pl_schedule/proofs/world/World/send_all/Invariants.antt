@@ -1,6 +1,6 @@
 use Rattle.std.proofs.Common.{◌≡◌, length}
 use Rattle.std.specs.List.{fold}
-use Rattle.pl_schedule.specs.OtherActs.{host_act_done}
+use Rattle.pl_world.specs.OtherActs.{host_act_done}
 use Rattle.pl_schedule.proofs.world.World.send_all.Given as goal
 
 abbrev pub invariant-loop-act : goal.invariant-loop-act

@@ -1,7 +1,7 @@
 use Rattle.std.proofs.Common.{◌≡◌, None}
-use Rattle.pl_schedule.specs.Refusals.{refusal}
-use Rattle.pl_schedule.proofs.Knowing.{step_within}
-use Rattle.pl_schedule.proofs.StepBalances.{step_is_counted}
+use Rattle.pl_world.specs.Refusals.{refusal}
+use Rattle.pl_world.proofs.Knowing.{step_within}
+use Rattle.pl_world.proofs.StepBalances.{step_is_counted}
 use Rattle.pl_schedule.proofs.world.World.step.Goals as goal
 
 pub returns-in-Ok-clause-counted : goal.returns-in-Ok-clause-counted

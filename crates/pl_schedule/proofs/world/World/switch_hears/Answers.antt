@@ -1,5 +1,5 @@
-use Rattle.pl_core.specs.SwitchRule.SwitchInput.{Says}
-use Rattle.pl_schedule.proofs.Stepping.{acts_fit, formed_stepped}
+use Rattle.pl_core.specs.SwitchInputs.SwitchInput.{Says}
+use Rattle.pl_world_parts.proofs.Stepping.{acts_fit, formed_stepped}
 use Rattle.pl_schedule.proofs.world.World.switch_hears.Goals as goal
 
 pub invariant_of-self : goal.invariant_of-self

@@ -1,5 +1,5 @@
-use Rattle.pl_core.specs.SwitchRule.SwitchInput.{Comes}
-use Rattle.pl_schedule.proofs.Stepping.{acts_fit, can_come, coming_at, formed_stepped}
+use Rattle.pl_core.specs.SwitchInputs.SwitchInput.{Comes}
+use Rattle.pl_world_parts.proofs.Stepping.{acts_fit, can_come, coming_at, formed_stepped}
 use Rattle.pl_schedule.proofs.world.World.switch_receives.Goals as goal
 
 -- each switch has as many ports as the wiring says

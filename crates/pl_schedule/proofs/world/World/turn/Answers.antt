@@ -1,5 +1,5 @@
 use Rattle.std.proofs.Common.{subst}
-use Rattle.pl_topology.specs.LiveLinks.{IsFor}
+use Rattle.pl_wiring.specs.LiveLinks.{IsFor}
 use Rattle.pl_schedule.proofs.Failing.{formed_links, link_has_ends}
 use Rattle.pl_schedule.proofs.world.World.turn.Goals as goal
 

@@ -1,6 +1,6 @@
 use Rattle.std.proofs.Common.{◌≡◌, map, take}
 use Rattle.pl_core.specs.HostViews.{boot_host}
-use Rattle.pl_schedule.specs.Booting.{me_of}
+use Rattle.pl_world.specs.Booting.{me_of}
 use Rattle.pl_schedule.proofs.world.boot.boot_hosts.Given as goal
 
 abbrev pub invariant-loop-host : goal.invariant-loop-host

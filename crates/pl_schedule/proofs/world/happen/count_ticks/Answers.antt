@@ -1,5 +1,5 @@
 use Rattle.std.proofs.Common.{◌≡◌, arith, ◌∙◌, ap, set}
-use Rattle.pl_schedule.specs.OtherActs.{one_more_tick}
+use Rattle.pl_world.specs.OtherActs.{one_more_tick}
 use Rattle.pl_schedule.proofs.Ticking.{counted_after, heard_first, nobody_counts, one_counts}
 use Rattle.pl_schedule.proofs.world.happen.count_ticks.Goals.{in-Some, in_default}
 use Rattle.pl_schedule.proofs.world.happen.count_ticks.Goals as goal

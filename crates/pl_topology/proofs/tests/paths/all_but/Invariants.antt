@@ -1,4 +1,4 @@
-use Rattle.pl_topology.specs.LiveLinks.{IsFor}
+use Rattle.pl_wiring.specs.LiveLinks.{IsFor}
 use Rattle.pl_topology.proofs.tests.paths.all_but.Given as goal
 
 abbrev pub invariant-loop-pair : goal.invariant-loop-pair

@@ -1,8 +1,0 @@
-use Rattle.pl_core.proofs.HostSends.{boot_holds, owes_sends}
-use Rattle.pl_core.proofs.host_laws.a_host_sends_data_frames.Goals as goal
-
-pub returns-clause-boots : goal.returns-clause-boots
-returns-clause-boots c = boot_holds
-
-pub returns-clause-sends : goal.returns-clause-sends
-returns-clause-sends c = owes_sends

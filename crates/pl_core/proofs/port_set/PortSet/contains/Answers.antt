@@ -1,6 +1,0 @@
-use Rattle.std.proofs.Common.{sym, ◌∙◌}
-use Rattle.pl_core.proofs.PortBits.{has_port_is}
-use Rattle.pl_core.proofs.port_set.PortSet.contains.Goals as goal
-
-pub returns : goal.returns
-returns c = c.has.ensures ∙ sym (has_port_is _ _ c.requires)

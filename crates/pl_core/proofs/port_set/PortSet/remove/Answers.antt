@@ -1,5 +1,0 @@
-use Rattle.pl_core.proofs.PortBits.{ports_of-cleared}
-use Rattle.pl_core.proofs.port_set.PortSet.remove.Goals as goal
-
-pub returns : goal.returns
-returns c = ports_of-cleared c.args.self.now.0 c.args.port c.requires

@@ -1,5 +1,0 @@
-use Rattle.pl_core.proofs.Steps.{run_goes_on, run_went_on}
-use Rattle.pl_core.proofs.run_laws.a_run_goes_on.Goals as goal
-
-pub returns : goal.returns
-returns c = record { begins = λ plan. tt; goes_on = run_goes_on; went_on = run_went_on }

@@ -1,5 +1,0 @@
-use Rattle.pl_core.proofs.Booted.{booted_is_shaped}
-use Rattle.pl_core.proofs.switch_laws.a_new_switch_is_shaped.Goals as goal
-
-pub returns : goal.returns
-returns c = booted_is_shaped

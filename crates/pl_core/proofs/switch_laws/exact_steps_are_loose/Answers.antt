@@ -1,5 +1,0 @@
-use Rattle.pl_core.proofs.AccountedSteps.{exact_is_loose}
-use Rattle.pl_core.proofs.switch_laws.exact_steps_are_loose.Goals as goal
-
-pub returns : goal.returns
-returns c = exact_is_loose

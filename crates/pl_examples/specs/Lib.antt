@@ -1,0 +1,15 @@
+pub mod LineExamples
+pub mod ExampleFrames
+pub mod FirstPath
+pub mod Journeys
+pub mod Endings
+pub mod FlowExamples
+pub mod VoteExamples
+pub mod SwitchExamples
+pub mod EdgeExamples
+pub mod DiscoveryExamples
+pub mod HostExamples
+pub mod ManagerExamples
+pub mod WorldExamples
+pub mod PendingExamples
+pub mod QueueExamples

@@ -1,0 +1,4 @@
+pub mod HostFrames
+pub mod HostSends
+pub mod HostGroups
+pub mod HostOrder

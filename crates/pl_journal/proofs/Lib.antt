@@ -1,0 +1,10 @@
+pub mod Hexadecimal
+pub mod Printed
+pub mod Steps
+pub mod Numbered
+pub mod Unbegun
+pub mod Trails
+pub mod Addresses
+pub mod Hosts
+pub mod Links
+pub mod Copies

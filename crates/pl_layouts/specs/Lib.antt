@@ -1,0 +1,10 @@
+pub mod Memberships
+pub mod Frames
+pub mod Control
+pub mod Equality
+pub mod ArpFrames
+pub mod Placement
+pub mod Votes
+pub mod Flow
+pub mod Checksum
+pub mod Reports

@@ -1,0 +1,117 @@
+ghost use Rattle.std.specs.Prelude.{◌≡◌, ◌↔◌, ◌≤◌, [], IfErr, IsTrue, OnOk, OnErr, is_ok, length, slice_get};
+ghost use Rattle.std.specs.BTreeSet.{insert_key};
+ghost use Rattle.std.specs.List.{insert, list_any};
+ghost use Rattle.std.specs.List.Sorted.{IsStrictlySortedBy};
+ghost use Rattle.std.specs.Option.{option_copied};
+ghost use Rattle.std.specs.Ordering.{is_eq};
+
+use crate::Memory;
+use std::alloc::Global;
+use std::marker::Model;
+
+/// Items in rising order, none twice. Contracts see the list of them.
+#[derive(Debug, Drop)]
+pub struct Rising<T: Ord> {
+    items: Vec<T>,
+}
+
+impl<T: Ord> Model for Rising<T> {
+    ghost use Rattle.std.specs.Prelude.{List};
+    ghost use Rattle.std.specs.List.Sorted.{IsStrictlySortedBy};
+
+    ghost Value = { List T };
+
+    ghost view = { λ list. list.items.items };
+
+    ghost invariant = { λ list. IsStrictlySortedBy T.cmp list.items.items };
+}
+
+impl<T: Ord> Rising<T> {
+    pub fn new(alloc: Global) -> Rising<T>
+        ensures { result ≡ [] }
+    {
+        Rising {
+            items: Vec::new(alloc),
+        }
+    }
+
+    pub fn len(&self) -> usize
+        ensures { result ≡ length self.now }
+    {
+        self.items.len()
+    }
+
+    pub fn is_empty(&self) -> bool
+        ensures { IsTrue result ↔ (self.now ≡ []) }
+    {
+        self.items.is_empty()
+    }
+
+    /// The item at a place, counted from 0; none past the last.
+    pub fn get(&self, n: usize) -> Option<&T>
+        ensures { option_copied result ≡ slice_get self.now n }
+    {
+        self.items.get(n)
+    }
+
+    pub fn as_slice(&self) -> &[T]
+        ensures items { result.now ≡ self.now }
+        ensures rising { IsStrictlySortedBy T.cmp self.now }
+    {
+        self.items.as_slice()
+    }
+
+    /// Whether an item is there.
+    pub fn contains(&self, item: &T) -> bool
+        ensures { result ≡ list_any (λ x. is_eq (T.cmp item.now x)) self.now }
+    {
+        self.search(item).is_ok()
+    }
+
+    // That an item is there, or else where it would go.
+    fn search(&self, item: &T) -> Result<(), usize>
+        ensures found { OnOk result (insert_key T.cmp self.now item.now ≡ self.now) }
+        ensures bound { IfErr result (λ n. n ≤ length self.now) }
+        ensures missed { IfErr result (λ n. insert self.now n item.now ≡ insert_key T.cmp self.now item.now) }
+        ensures member { is_ok result ≡ list_any (λ x. is_eq (T.cmp item.now x)) self.now }
+        ensures rising { IsStrictlySortedBy T.cmp (insert_key T.cmp self.now item.now) }
+    {
+        match self.items.binary_search(item) {
+            Ok(_) => Ok(()),
+            Err(place) => Err(place),
+        }
+    }
+}
+
+impl<T: Ord + Drop> Rising<T> {
+    /// Puts an item at its place, unless it is there already.
+    pub fn insert(&mut self, item: T) -> Result<(), Memory>
+        ensures ok { OnOk result (self.new ≡ insert_key T.cmp self.old item) }
+        ensures err { OnErr result (self.new ≡ self.old) }
+    {
+        match self.search(&item) {
+            Err(place) => Ok(self.items.insert(place, item)?),
+            Ok(()) => Ok(()),
+        }
+    }
+}
+
+#[cfg(test)]
+mod tests {
+    use super::*;
+    use std::test::Fail;
+
+    #[test]
+    fn an_item_is_listed_once_in_its_place(rt: HostRuntime) -> Result<(), Fail> {
+        let mut list: Rising<u8> = Rising::new(rt.alloc());
+        assert!(rt; list.is_empty());
+        list.insert(7)?;
+        list.insert(3)?;
+        list.insert(7)?;
+        assert_eq!(rt; list.len(), 2);
+        assert!(rt; list.contains(&3));
+        assert_eq!(rt; list.get(1), Some(&7));
+        assert_eq!(rt; list.as_slice().len(), 2);
+        Ok(())
+    }
+}

@@ -1,0 +1,195 @@
+-- An avoid list is all that its switch avoids, in rising order.
+use Rattle.std.proofs.Common.{◌≡◌, ℕ, ◌==◌, ◌&&◌, not, Bool, true, false, cond, List, [], ◌∷◌, map, Option, Some, None, Ordering, Less, Equal, Greater, nat_cmp, refl, sym, ap, subst, inl, inr}
+use Rattle.std.specs.Prelude.{Contains}
+use Rattle.std.specs.List.{AllByRecursion, cons_option, filter, filter_map, flat_map}
+use Rattle.std.proofs.lemmas.List.Kept.{IsStrictlySortedBy-filter}
+use Rattle.pl_layouts.specs.Memberships.{flood}
+use Rattle.pl_core.specs.Trees.{needed_edges}
+use Rattle.pl_core.specs.ManagerFacts.{group_in, groups}
+use Rattle.std.specs.List.Sorted.{IsStrictlySortedBy}
+use Rattle.std.specs.Ordering.{ordering_then}
+use Rattle.std.specs.Cmp.{IsTotalOrder}
+use Rattle.std.proofs.lemmas.Bool.{and_from, cond_both, and_parts, eqb-true, not-true, not_from_false}
+use Rattle.std.proofs.lemmas.Cmp.{nat_cmp_total, on_total, then_total}
+use Rattle.std.proofs.lemmas.Map.Lookups.{CmpEqualImpliesEq, exact_unsigned}
+use Rattle.pl_frame.specs.declared.address.SwitchId.{SwitchId}
+use Rattle.pl_layouts.specs.declared.place.Place.{Place}
+use Rattle.pl_core.specs.ManagerViews.{PlacedEdge, Told, alive_at_level, alive_neighbours, has_level, has_members, is_alive, neighbour_in, edge_at, edge_with, id_cmp, neighbours, place_after, place_of, placed_edges, switches}
+use Rattle.pl_core.specs.AvoidLists.{Avoids, avoid_list, avoided_at, avoided_cmp, is_above, is_cut, is_sent_down, leads_to}
+use Rattle.pl_core.proofs.Among.{Contains-of_among, IsAmong, among_filter, among_filter_map, among_filter_mapped, among_filtered, among_flat_map, among_flat_mapped, among_in_order, among_map, among_mapped, among_of_Contains, among_ordered, rising_in_order, id_total}
+use Rattle.pl_layouts.specs.Equality.{same_switch}
+
+-- ---- the orders
+pub id_exact : CmpEqualImpliesEq id_cmp
+id_exact a b e = ap (λ n. let s : SwitchId = record { 0 = n } in s) (exact_unsigned a.0 b.0 e)
+
+pub same_is : (a b : SwitchId) → same_switch a b ≡ true → a ≡ b
+same_is a b e = ap (λ n. let s : SwitchId = record { 0 = n } in s) (eqb-true a.0 b.0 e)
+
+pub avoided_total : IsTotalOrder avoided_cmp
+avoided_total = then_total (then_total (on_total (λ (x : SwitchId × ℕ × ℕ). x.0) id_total) (on_total (λ (x : SwitchId × ℕ × ℕ). x.1) nat_cmp_total))
+    (on_total (λ (x : SwitchId × ℕ × ℕ). x.2) nat_cmp_total)
+
+both_equal : (a b : Ordering) → ordering_then a b ≡ Equal → (a ≡ Equal) × (b ≡ Equal)
+both_equal Less b e = cc
+both_equal Equal b e = (refl, e)
+both_equal Greater b e = cc
+
+pub avoided_exact : CmpEqualImpliesEq avoided_cmp
+avoided_exact x y e =
+    let two = both_equal (ordering_then (id_cmp x.0 y.0) (nat_cmp x.1 y.1)) (nat_cmp x.2 y.2) e in
+    let one = both_equal (id_cmp x.0 y.0) (nat_cmp x.1 y.1) two.0 in
+    let u = id_exact x.0 y.0 one.0 in let p = exact_unsigned x.1 y.1 one.1 in let q = exact_unsigned x.2 y.2 two.1 in
+    λ i. (u i, p i, q i)
+
+-- ---- placed edge switches
+-- one that told a level told something
+heard_place : (told : List Told) (s : SwitchId) (n : ℕ) → (place_of told s).level ≡ Some n → IsAmong s (map (λ t. t.switch) told)
+heard_place [] s n e = let none : None ≡ Some n = e in cc
+heard_place (t ∷ told) s n e = by (λ k. heard_place told s n k) (same_switch t.switch s) refl e
+  where
+    by : ((place_of told s).level ≡ Some n → IsAmong s (map (λ c. c.switch) told)) → (b : Bool) → same_switch t.switch s ≡ b →
+        (cond b (place_after t.says (place_of told s)) (place_of told s)).level ≡ Some n → IsAmong s (map (λ c. c.switch) (t ∷ told))
+    by rest true same k = inl (same_is t.switch s same)
+    by rest false other k = inr (rest k)
+
+pub record IsPlacedAs (s : SwitchId) (at : Place) (e : PlacedEdge) : Type 0 where
+  pub switch : e.switch ≡ s
+  pub place : at ≡ record { level = Some 0; position = Some e.position; pod = Some e.pod }
+
+placed_with : (s : SwitchId) (e : PlacedEdge) (level position pod : Option ℕ) → edge_with s level position pod ≡ Some e →
+    IsPlacedAs s (record { level = level; position = position; pod = pod }) e
+placed_with s e (Some level) (Some position) (Some pod) h = by (level == 0) refl h
+  where
+    by : (b : Bool) → (level == 0) ≡ b →
+        cond b (Some (let x : PlacedEdge = record { switch = s; pod = pod; position = position } in x)) None ≡ Some e →
+        IsPlacedAs s (record { level = Some level; position = Some position; pod = Some pod }) e
+    by true edge k =
+        let x : PlacedEdge = record { switch = s; pod = pod; position = position } in
+        let is : x ≡ e = cc in
+        record {
+          switch = sym (ap (λ r. r.switch) is);
+          place = λ i. record { level = Some (eqb-true level 0 edge i); position = Some (is i).position; pod = Some (is i).pod };
+        }
+    by false other k = let none : None ≡ Some e = k in cc
+placed_with s e None position pod h = let none : None ≡ Some e = h in cc
+placed_with s e (Some level) None pod h = let none : None ≡ Some e = h in cc
+placed_with s e (Some level) (Some position) None h = let none : None ≡ Some e = h in cc
+
+-- the switches of a list of what was told
+pub among_switches : (told : List Told) (s : SwitchId) → IsAmong s (map (λ t. t.switch) told) → IsAmong s (switches told)
+among_switches told s h = among_in_order id_cmp id_exact s (map (λ t. t.switch) told) h
+
+-- a placed edge switch is among those that are listed, and only such a one
+pub among_placed : (told : List Told) (e : PlacedEdge) → IsAmong e (placed_edges told) → IsPlacedAs e.switch (place_of told e.switch) e
+among_placed told e h =
+    let at = among_filter_map (λ s. edge_at s (place_of told s)) e (switches told) h in
+    let is = placed_with at.0 e (place_of told at.0).level (place_of told at.0).position (place_of told at.0).pod at.2 in
+    subst (λ s. IsPlacedAs s (place_of told s) e) (sym is.switch) is
+
+pub placed_among : (told : List Told) (e : PlacedEdge) →
+    place_of told e.switch ≡ record { level = Some 0; position = Some e.position; pod = Some e.pod } →
+    IsAmong e (placed_edges told)
+placed_among told e h =
+    among_filter_mapped (λ s. edge_at s (place_of told s)) e e.switch (switches told)
+    (among_switches told e.switch (heard_place told e.switch 0 (ap (λ p. p.level) h)))
+    (ap (edge_at e.switch) h)
+
+-- ---- the list
+abbrev entry : SwitchId → PlacedEdge → SwitchId × ℕ × ℕ
+entry u e = (u, e.pod, e.position)
+
+avoids_entry : (told : List Told) (s u : SwitchId) (e : PlacedEdge) → IsAmong u (neighbours told s) → is_above told s u ≡ true →
+    IsPlacedAs e.switch (place_of told e.switch) e → is_cut told s u e ≡ true → Avoids told s (entry u e)
+avoids_entry told s u e near above placed cut =
+    let one = and_parts (not (same_switch e.switch s)) (not (is_sent_down told s e.pod) && not (leads_to told e.pod e.switch u)) cut in
+    let two = and_parts (not (is_sent_down told s e.pod)) (not (leads_to told e.pod e.switch u)) one.1 in
+    record {
+      neighbour = Contains-of_among u (neighbours told s) near;
+      above = above;
+      edge = e.switch;
+      placed = placed.place;
+      another = not-true (same_switch e.switch s) one.0;
+      not_down = not-true (is_sent_down told s e.pod) two.0;
+      cut = not-true (leads_to told e.pod e.switch u) two.1;
+    }
+
+pub listed_is_avoided : (told : List Told) (s : SwitchId) (x : SwitchId × ℕ × ℕ) → Contains (avoid_list told s) x → Avoids told s x
+unfolding avoid_list
+listed_is_avoided told s x h =
+    let near = filter (is_above told s) (neighbours told s) in
+    let u = among_flat_map (avoided_at told s) x near (among_ordered avoided_cmp x _ (among_of_Contains x (avoid_list told s) h)) in
+    let above = among_filter (is_above told s) u.0 (neighbours told s) u.1 in
+    let e = among_map (entry u.0) x (filter (is_cut told s u.0) (placed_edges told)) u.2 in
+    let cut = among_filter (is_cut told s u.0) e.0 (placed_edges told) e.1 in
+    subst (Avoids told s) e.2 (avoids_entry told s u.0 e.0 above.0 above.1 (among_placed told e.0 cut.0) cut.1)
+
+pub avoided_is_listed : (told : List Told) (s : SwitchId) (x : SwitchId × ℕ × ℕ) → Avoids told s x → Contains (avoid_list told s) x
+unfolding avoid_list
+avoided_is_listed told s x h =
+    let e : PlacedEdge = record { switch = h.edge; pod = x.1; position = x.2 } in
+    let cut : is_cut told s x.0 e ≡ true =
+    and_from (not (same_switch h.edge s)) (not (is_sent_down told s x.1) && not (leads_to told x.1 h.edge x.0))
+    (not_from_false (same_switch h.edge s) h.another)
+    (and_from (not (is_sent_down told s x.1)) (not (leads_to told x.1 h.edge x.0))
+    (not_from_false (is_sent_down told s x.1) h.not_down) (not_from_false (leads_to told x.1 h.edge x.0) h.cut)) in
+    let at : IsAmong x (avoided_at told s x.0) =
+    among_mapped (entry x.0) e (filter (is_cut told s x.0) (placed_edges told))
+    (among_filtered (is_cut told s x.0) e (placed_edges told) (placed_among told e h.placed) cut) in
+    let near = among_filtered (is_above told s) x.0 (neighbours told s) (among_of_Contains x.0 (neighbours told s) h.neighbour) h.above in
+    Contains-of_among x (avoid_list told s)
+    (among_in_order avoided_cmp avoided_exact x _
+    (among_flat_mapped (avoided_at told s) x x.0 (filter (is_above told s) (neighbours told s)) near at))
+
+pub avoid_list_rises : (told : List Told) (s : SwitchId) → IsStrictlySortedBy avoided_cmp (avoid_list told s)
+unfolding avoid_list
+avoid_list_rises told s = rising_in_order avoided_cmp avoided_total (flat_map (avoided_at told s) (filter (is_above told s) (neighbours told s)))
+
+-- ---- the other lists of switches
+module _ (told : List Told) where
+  abbrev edges : List SwitchId → List SwitchId
+  edges ss = map (λ e. e.switch) (filter_map (λ s. edge_at s (place_of told s)) ss)
+
+  below_edges : (a : SwitchId) (ss : List SwitchId) → AllByRecursion (λ b. id_cmp a b ≡ Less) ss → AllByRecursion (λ b. id_cmp a b ≡ Less) (edges ss)
+  below_edges a [] h = tt
+  below_edges a (s ∷ ss) h = by (below_edges a ss h.1) (edge_at s (place_of told s)) refl
+    where
+      by : AllByRecursion (λ b. id_cmp a b ≡ Less) (edges ss) → (o : Option PlacedEdge) → edge_at s (place_of told s) ≡ o →
+          AllByRecursion (λ b. id_cmp a b ≡ Less) (map (λ e. e.switch) (cons_option o (filter_map (λ c. edge_at c (place_of told c)) ss)))
+      by rest None e = rest
+      by rest (Some x) e =
+          let is = placed_with s x (place_of told s).level (place_of told s).position (place_of told s).pod e in
+          (subst (λ b. id_cmp a b ≡ Less) (sym is.switch) h.0, rest)
+
+  edges_rise : (ss : List SwitchId) → IsStrictlySortedBy id_cmp ss → IsStrictlySortedBy id_cmp (edges ss)
+  unfolding IsStrictlySortedBy
+  edges_rise [] h = tt
+  edges_rise (s ∷ ss) h = by (edges_rise ss h.1) (edge_at s (place_of told s)) refl
+    where
+      by : IsStrictlySortedBy id_cmp (edges ss) → (o : Option PlacedEdge) → edge_at s (place_of told s) ≡ o →
+          IsStrictlySortedBy id_cmp (map (λ e. e.switch) (cons_option o (filter_map (λ c. edge_at c (place_of told c)) ss)))
+      by rest None e = rest
+      by rest (Some x) e =
+          let is = placed_with s x (place_of told s).level (place_of told s).position (place_of told s).pod e in
+          (subst (λ a. AllByRecursion (λ b. id_cmp a b ≡ Less) (edges ss)) (sym is.switch) (below_edges s ss h.0), rest)
+
+  pub switches_rise : IsStrictlySortedBy id_cmp (switches told)
+  switches_rise = rising_in_order id_cmp id_total (map (λ t. t.switch) told)
+
+  pub neighbours_rise : (s : SwitchId) → IsStrictlySortedBy id_cmp (neighbours told s)
+  neighbours_rise s = rising_in_order id_cmp id_total (filter_map (λ t. neighbour_in t.says) (filter (λ t. same_switch t.switch s) told))
+
+  pub alive_rise : (s : SwitchId) (level : ℕ) → IsStrictlySortedBy id_cmp (alive_at_level told s level)
+  alive_rise s level =
+      IsStrictlySortedBy-filter id_cmp (λ u. has_level told u level) (alive_neighbours told s)
+      (IsStrictlySortedBy-filter id_cmp (is_alive told s) (neighbours told s) (neighbours_rise s))
+
+  pub needed_rise : (group : ℕ) → IsStrictlySortedBy id_cmp (needed_edges told group)
+  needed_rise group =
+      cond_both (group == flood) (map (λ e. e.switch) (placed_edges told)) (filter (λ s. has_members told s group) (switches told))
+      (IsStrictlySortedBy id_cmp)
+      (λ all. edges_rise (switches told) switches_rise)
+      (λ some. IsStrictlySortedBy-filter id_cmp (λ s. has_members told s group) (switches told) switches_rise)
+
+  pub groups_rise : IsStrictlySortedBy nat_cmp (groups told)
+  groups_rise = rising_in_order nat_cmp nat_cmp_total (flood ∷ filter_map (λ t. group_in t.says) told)

@@ -1,0 +1,5 @@
+pub mod Avoided
+pub mod HeardSwitches
+pub mod Registered
+pub mod Parts
+pub mod Sameness

@@ -1,0 +1,123 @@
+-- Addresses and pods are numbered in the order in which they come, each once.
+use Rattle.std.proofs.Common.{◌≡◌, ℕ, zero, suc, ◌+◌, ◌&&◌, ◌||◌, not, Bool, true, false, cond, List, [], ◌∷◌, ◌++◌, map, reverse, length, Some, is_some, IsSome, refl, sym, ap, ◌∙◌, arith, eq-eqb}
+use Rattle.std.specs.List.{AllByRecursion, IsDistinct, find, list_any, range_with_len}
+use Rattle.std.specs.Option.{option_map}
+use Rattle.std.proofs.lemmas.Bool.{and_parts, false≢true, not-true, or_parts}
+use Rattle.std.proofs.lemmas.Cmp.{nat_eq_equiv}
+use Rattle.std.proofs.lemmas.List.{length-map, reverse-append}
+use Rattle.pl_frame.specs.declared.address.SwitchId.{SwitchId}
+use Rattle.pl_pmac.specs.declared.pmac.Pmac.{Pmac}
+use Rattle.pl_core.specs.declared.messages.ToManager.TheVariants as tell
+use Rattle.pl_layouts.specs.Equality.{same_pmac, same_switch}
+use Rattle.pl_core.specs.ManagerViews.{Learnt, PodGiven, Registration, Told, asks_for_pod, pod_given, pods_given, registry}
+
+range_more : (a n : ℕ) → range_with_len a (suc n) ≡ range_with_len a n ++ (a + n) ∷ []
+range_more a zero = ap (λ m. m ∷ []) (omega arith)
+range_more a (suc n) =
+    let next : a + 1 + n ≡ a + suc n = omega arith in
+    ap (λ r. a ∷ r) (range_more (a + 1) n ∙ ap (λ m. range_with_len (a + 1) n ++ m ∷ []) next)
+
+-- one more number, the next one
+one_more : (a n : ℕ) (ns : List ℕ) → n ≡ a + length ns → reverse ns ≡ range_with_len a (length ns) →
+    reverse (n ∷ ns) ≡ range_with_len a (suc (length ns))
+one_more a n ns next h =
+    reverse-append (n ∷ []) ns ∙ ap (λ r. r ++ n ∷ []) h ∙ ap (λ m. range_with_len a (length ns) ++ m ∷ []) next ∙ sym (range_more a (length ns))
+
+-- the same of the field of each item
+one_more_item : {X : Type 0} (f : X → ℕ) (a : ℕ) (x : X) (xs : List X) → f x ≡ a + length xs → reverse (map f xs) ≡ range_with_len a (length xs) →
+    reverse (map f (x ∷ xs)) ≡ range_with_len a (suc (length xs))
+one_more_item f a x xs next h =
+    let long : length (map f xs) ≡ length xs = length-map xs f in
+    one_more a (f x) (map f xs) (next ∙ ap (λ n. a + n) (sym long)) (h ∙ ap (range_with_len a) (sym long)) ∙ ap (λ n. range_with_len a (suc n)) long
+
+-- none of them is like this one
+none_like : {X K : Type 0} (f : X → K) (eq : K → K → Bool) → ((a b : K) → eq a b ≡ eq b a) → (k : K) (xs : List X) →
+    list_any (λ x. eq (f x) k) xs ≡ false → AllByRecursion (λ y. eq k y ≡ false) (map f xs)
+none_like f eq turned k [] h = tt
+none_like f eq turned k (x ∷ xs) h =
+    let two = or_parts (eq (f x) k) (list_any (λ y. eq (f y) k) xs) h in (turned k (f x) ∙ two.0, none_like f eq turned k xs two.1)
+
+switch_turned : (a b : SwitchId) → same_switch a b ≡ same_switch b a
+switch_turned a b = nat_eq_equiv.symm a.0 b.0
+
+pmac_turned : (a b : Pmac) → same_pmac a b ≡ same_pmac b a
+pmac_turned a b = λ i. ((nat_eq_equiv.symm a.pod b.pod i && nat_eq_equiv.symm a.position b.position i) && nat_eq_equiv.symm a.port b.port i)
+    && nat_eq_equiv.symm a.vmid b.vmid i
+
+-- ---- addresses
+pub numbers_in_order : (learnt : List Learnt) → reverse (map (λ r. r.number) (registry learnt)) ≡ range_with_len 1 (length (registry learnt))
+numbers_in_order [] = refl
+numbers_in_order (l ∷ learnt) = by (numbers_in_order learnt) (list_any (λ r. same_pmac r.pmac l.pmac) (registry learnt))
+  where
+    by : reverse (map (λ r. r.number) (registry learnt)) ≡ range_with_len 1 (length (registry learnt)) → (b : Bool) →
+        let new : Registration = record { pmac = l.pmac; amac = l.amac; number = length (registry learnt) + 1; switch = l.switch } in
+        let all = cond b (registry learnt) (new ∷ registry learnt) in
+        reverse (map (λ r. r.number) all) ≡ range_with_len 1 (length all)
+    by rest true = rest
+    by rest false =
+        let new : Registration = record { pmac = l.pmac; amac = l.amac; number = length (registry learnt) + 1; switch = l.switch } in
+        one_more_item (λ r. r.number) 1 new (registry learnt) (omega arith) rest
+
+pub addresses_once : (learnt : List Learnt) → IsDistinct same_pmac (map (λ r. r.pmac) (registry learnt))
+unfolding IsDistinct
+addresses_once [] = tt
+addresses_once (l ∷ learnt) = by (addresses_once learnt) (list_any (λ r. same_pmac r.pmac l.pmac) (registry learnt)) refl
+  where
+    by : IsDistinct same_pmac (map (λ r. r.pmac) (registry learnt)) → (b : Bool) → list_any (λ r. same_pmac r.pmac l.pmac) (registry learnt) ≡ b →
+        let new : Registration = record { pmac = l.pmac; amac = l.amac; number = length (registry learnt) + 1; switch = l.switch } in
+        IsDistinct same_pmac (map (λ r. r.pmac) (cond b (registry learnt) (new ∷ registry learnt)))
+    by rest true e = rest
+    by rest false e = (none_like (λ r. r.pmac) same_pmac pmac_turned l.pmac (registry learnt) e, rest)
+
+-- ---- pods
+pub pods_in_order : (told : List Told) → reverse (map (λ g. g.pod) (pods_given told)) ≡ range_with_len 0 (length (pods_given told))
+pods_in_order [] = refl
+pods_in_order (t ∷ told) = by (pods_in_order told) (asks_for_pod t.says && not (list_any (λ g. same_switch g.switch t.switch) (pods_given told)))
+  where
+    by : reverse (map (λ g. g.pod) (pods_given told)) ≡ range_with_len 0 (length (pods_given told)) → (b : Bool) →
+        let new : PodGiven = record { switch = t.switch; pod = length (pods_given told) } in
+        let all = cond b (new ∷ pods_given told) (pods_given told) in
+        reverse (map (λ g. g.pod) all) ≡ range_with_len 0 (length all)
+    by rest true =
+        let new : PodGiven = record { switch = t.switch; pod = length (pods_given told) } in
+        one_more_item (λ g. g.pod) 0 new (pods_given told) (omega arith) rest
+    by rest false = rest
+
+pub askers_once : (told : List Told) → IsDistinct same_switch (map (λ g. g.switch) (pods_given told))
+unfolding IsDistinct
+askers_once [] = tt
+askers_once (t ∷ told) = by (askers_once told) (asks_for_pod t.says && not (list_any (λ g. same_switch g.switch t.switch) (pods_given told))) refl
+  where
+    by : IsDistinct same_switch (map (λ g. g.switch) (pods_given told)) → (b : Bool) →
+        (asks_for_pod t.says && not (list_any (λ g. same_switch g.switch t.switch) (pods_given told))) ≡ b →
+        let new : PodGiven = record { switch = t.switch; pod = length (pods_given told) } in
+        IsDistinct same_switch (map (λ g. g.switch) (cond b (new ∷ pods_given told) (pods_given told)))
+    by rest true e =
+        let fresh = and_parts (asks_for_pod t.says) (not (list_any (λ g. same_switch g.switch t.switch) (pods_given told))) e in (
+          none_like (λ g. g.switch) same_switch switch_turned t.switch (pods_given told)
+              (not-true (list_any (λ g. same_switch g.switch t.switch) (pods_given told)) fresh.1),
+          rest,
+        )
+    by rest false e = rest
+
+found_where_any : (test : PodGiven → Bool) (gs : List PodGiven) → list_any test gs ≡ true → is_some (option_map (λ g. g.pod) (find test gs)) ≡ true
+found_where_any test [] h = absurd (false≢true h)
+found_where_any test (g ∷ gs) h = by (λ k. found_where_any test gs k) (test g) h
+  where
+    by : (list_any test gs ≡ true → is_some (option_map (λ g. g.pod) (find test gs)) ≡ true) → (b : Bool) → (b || list_any test gs) ≡ true →
+        is_some (option_map (λ g. g.pod) (cond b (Some g) (find test gs))) ≡ true
+    by rest true k = refl
+    by rest false k = rest k
+
+-- one that asks has a number then
+pub asker_has_pod : (told : List Told) (s : SwitchId) → IsSome (pod_given (record { switch = s; says = tell.PodWanted } ∷ told) s)
+asker_has_pod told s = by (list_any (λ g. same_switch g.switch s) (pods_given told)) refl
+  where
+    by : (b : Bool) → list_any (λ g. same_switch g.switch s) (pods_given told) ≡ b →
+        let new : PodGiven = record { switch = s; pod = length (pods_given told) } in
+        IsSome (option_map (λ g. g.pod) (find (λ g. same_switch g.switch s) (cond (not b) (new ∷ pods_given told) (pods_given told))))
+    by true e = found_where_any (λ g. same_switch g.switch s) (pods_given told) e
+    by false e =
+        let new : PodGiven = record { switch = s; pod = length (pods_given told) } in
+        let own : same_switch s s ≡ true = eq-eqb s.0 s.0 refl in
+        ap (λ c. is_some (option_map (λ g. g.pod) (cond c (Some new) (find (λ g. same_switch g.switch s) (pods_given told))))) own

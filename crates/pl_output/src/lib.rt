@@ -1,0 +1,10 @@
+//! What a run saves: the journal's text, the captures that hosts receive, and the summary.
+#![tactic(auto)]
+
+pub use printing::Piece;
+pub use saving::{Texts, save_all};
+pub use summary::{Rest, summary};
+
+mod printing;
+mod saving;
+mod summary;

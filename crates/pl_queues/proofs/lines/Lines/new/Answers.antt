@@ -1,0 +1,10 @@
+use Rattle.std.proofs.Common.{◌≡◌, ◌∙◌, [], replicate, map, ap, sym, arith}
+use Rattle.pl_queues.specs.Lines.{has_items}
+use Rattle.pl_queues.proofs.Banks.{no_items_at_first}
+use Rattle.pl_queues.proofs.lines.Lines.new.Goals as goal
+
+pub invariant_of-result : goal.invariant_of-result
+invariant_of-result g c =
+    let all : c.loop.counter ≡ c.args.count = omega arith in
+    c.in_ok-filled.ensures ∙ no_items_at_first g.row.T.Denot c.args.count
+    ∙ ap (map has_items) (sym (c.loop.invariant ∙ ap (λ n. replicate n []) all))

@@ -1,0 +1,184 @@
+ghost use Rattle.std.specs.Prelude.{◌≡◌, ◌<◌, ◌≤◌, ◌+◌, ◌++◌, ◌∷◌, [], cond, count_by, option_to_list, IfOk, MatchOption, OnErr, OnOk, length, replicate, slice_get, slice_set};
+ghost use Rattle.pl_queues.specs.Counts.{counted_in, most};
+ghost use Rattle.pl_queues.specs.Lines.{line_at};
+
+use crate::Lines;
+use pl_frame::Memory;
+use pl_lists::Queue;
+use std::alloc::{AllocError, Global};
+use std::marker::Model;
+
+/// What counts among the items of a bank of queues.
+pub trait Counted {
+    ghost use Rattle.std.specs.Prelude.{Bool};
+
+    ghost counts: { Self → Bool };
+
+    fn counts(&self) -> bool
+        ensures { result ≡ counts self.now };
+}
+
+/// A bank of queues that keeps how many items count. Contracts see it as they see `Lines`.
+#[derive(Drop)]
+pub struct CountedLines<T: Counted> {
+    lines: Lines<T>,
+    counted: u64,
+}
+
+impl<T: Counted> Model for CountedLines<T> {
+    ghost use Rattle.std.specs.Prelude.{List};
+    ghost use Rattle.pl_queues.specs.Counts.{IsKeptCount};
+
+    ghost Value = { List (List T) };
+
+    ghost view = { λ bank. bank.lines };
+
+    ghost invariant = { λ bank. IsKeptCount T.counts bank.lines bank.counted };
+}
+
+impl<T: Counted> CountedLines<T> {
+    /// The queues, to look at.
+    pub fn lines(&self) -> &Lines<T>
+        ensures { result.now ≡ self.now }
+    {
+        &self.lines
+    }
+
+    /// How many items of all queues count.
+    pub fn counted(&self) -> u64
+        ensures counted { result ≡ counted_in T.counts self.now }
+        ensures within { result ≤ most }
+    {
+        self.counted
+    }
+
+    /// Takes the first item of a queue; none where it is empty.
+    pub fn take(&mut self, at: usize) -> Option<T>
+        requires { at < length self.old }
+        ensures { MatchOption result ((line_at self.old at ≡ []) × (self.new ≡ self.old))
+            (λ x. (line_at self.old at ≡ x ∷ line_at self.new at) × (self.new ≡ slice_set self.old at (line_at self.new at))) }
+    {
+        let taken = self.lines.take(at);
+        self.counted -= count_taken(&taken);
+        taken
+    }
+
+    /// Takes a whole queue, and leaves an empty one.
+    pub fn take_all(&mut self, at: usize) -> Queue<T>
+        requires { at < length self.old }
+        ensures taken { result ≡ line_at self.old at }
+        ensures left { self.new ≡ slice_set self.old at [] }
+    {
+        let line = self.lines.take_all(at);
+        self.counted -= count_line(&line);
+        line
+    }
+}
+
+impl<T: Counted + Drop> CountedLines<T> {
+    /// As many empty queues as asked for.
+    pub fn new(alloc: Global, count: usize) -> Result<CountedLines<T>, Memory>
+        ensures { IfOk result (λ bank. bank ≡ replicate count []) }
+    {
+        let lines = Lines::new(alloc, count)?;
+        Ok(CountedLines { lines, counted: 0 })
+    }
+
+    /// Puts an item behind the last of a queue. Where more items would count than can be, this is as want
+    /// of memory.
+    pub fn put(&mut self, at: usize, item: T) -> Result<(), Memory>
+        requires { at < length self.old }
+        ensures ok { OnOk result (self.new ≡ slice_set self.old at (line_at self.old at ++ item ∷ [])) }
+        ensures err { OnErr result (self.new ≡ self.old) }
+    {
+        let counted = with_one_more(self.counted, &item)?;
+        self.lines.put(at, item)?;
+        self.counted = counted;
+        Ok(())
+    }
+}
+
+const MOST: u64 = 1 << 62;
+
+fn one_if(counts: bool) -> u64
+    ensures { result ≡ cond counts 1 0 }
+{
+    if counts { 1 } else { 0 }
+}
+
+// A count, with an item more that may count.
+fn with_one_more<T: Counted>(counted: u64, item: &T) -> Result<u64, Memory>
+    requires { counted ≤ most }
+    ensures { IfOk result (λ n. (n ≡ counted + cond (T.counts item.now) 1 0) × (n ≤ most)) }
+{
+    let more = counted + one_if(item.counts());
+    if more > MOST {
+        Err(AllocError)
+    } else {
+        Ok(more)
+    }
+}
+
+fn count_taken<T: Counted>(taken: &Option<T>) -> u64
+    ensures { result ≡ count_by T.counts (option_to_list taken.now) }
+{
+    match taken {
+        None => 0,
+        Some(item) => one_if(item.counts()),
+    }
+}
+
+// How many items of a queue count.
+fn count_line<T: Counted>(line: &Queue<T>) -> u64
+    ensures { result ≡ count_by T.counts line.now }
+{
+    let mut count = 0;
+    for n in 0..line.len() {
+        count += count_item(line, n);
+    }
+    count
+}
+
+fn count_item<T: Counted>(line: &Queue<T>, n: usize) -> u64
+    ensures { result ≡ count_by T.counts (option_to_list (slice_get line.now n)) }
+{
+    match line.get(n) {
+        None => 0,
+        Some(item) => one_if(item.counts()),
+    }
+}
+
+#[cfg(test)]
+mod tests {
+    use super::*;
+    use std::test::Fail;
+
+    #[derive(Drop)]
+    struct Flag(bool);
+
+    impl Counted for Flag {
+        ghost counts = { λ flag. flag.0 };
+
+        fn counts(&self) -> bool {
+            self.0
+        }
+    }
+
+    #[test]
+    fn a_count_follows_what_is_put_and_taken(rt: HostRuntime) -> Result<(), Fail> {
+        let mut bank: CountedLines<Flag> = CountedLines::new(rt.alloc(), 3)?;
+        bank.put(0, Flag(true))?;
+        bank.put(0, Flag(false))?;
+        bank.put(2, Flag(true))?;
+        bank.put(2, Flag(true))?;
+        assert_eq!(rt; bank.counted(), 3);
+        let first = bank.take(0);
+        assert!(rt; first.is_some());
+        assert_eq!(rt; bank.counted(), 2);
+        let line = bank.take_all(2);
+        assert_eq!(rt; line.len(), 2);
+        assert_eq!(rt; bank.counted(), 0);
+        assert_eq!(rt; bank.lines().len_at(0), 1);
+        Ok(())
+    }
+}

@@ -1,0 +1,11 @@
+//! Queues side by side: a bank of them, which of them have items, and how many of their items count.
+#![tactic(auto)]
+
+pub use bits::BitSet;
+pub use counted::{Counted, CountedLines};
+pub use lines::Lines;
+pub use pl_lists::Memory;
+
+mod bits;
+mod counted;
+mod lines;

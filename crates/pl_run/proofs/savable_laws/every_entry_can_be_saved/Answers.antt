@@ -1,5 +1,0 @@
-use Rattle.pl_run.proofs.CanBeSaved.{played_can_be_saved}
-use Rattle.pl_run.proofs.savable_laws.every_entry_can_be_saved.Goals as goal
-
-pub returns : goal.returns
-returns c = played_can_be_saved

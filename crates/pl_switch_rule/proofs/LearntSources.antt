@@ -1,0 +1,250 @@
+-- While a switch learns the source of a frame it drops nothing, and a host stays at its port. Then the source has an address there, or the port
+-- is spent.
+use Rattle.std.proofs.Common.{◌≡◌, ◌<◌, ℕ, zero, suc, ◌+◌, ◌-◌, ◌==◌, ◌&&◌, not, Bool, true, false, if◌then◌else◌, List, [], ◌∷◌, ◌++◌, length, Option, Some, None, is_some, fold, slice_index_or, slice_set, refl, sym, ap, subst, ◌∙◌}
+use Rattle.std.specs.List.{position_from, slice_get}
+use Rattle.std.proofs.lemmas.Bool.{and_parts, cond_both, false≢true}
+use Rattle.std.proofs.lemmas.List.{get_or-set_same}
+use Rattle.std.proofs.lemmas.Option.{same_Some}
+use Rattle.std.proofs.lemmas.Slice.Eq.{bytes_eq-Decides}
+use Rattle.pl_frame.specs.declared.address.Ip4.{Ip4}
+use Rattle.pl_frame.specs.declared.address.Mac.{Mac}
+use Rattle.pl_frame.specs.Ethernet.{source_of}
+use Rattle.pl_pmac.specs.declared.pmac.Pmac.{Pmac}
+use Rattle.pl_core.specs.declared.acts.Act.TheVariants.{Tell}
+use Rattle.pl_core.specs.declared.messages.ToManager.TheVariants.{Learned, Members}
+use Rattle.pl_core.specs.declared.neighbour.PortRecord.{PortRecord}
+use Rattle.pl_layouts.specs.declared.place.Place.{Place}
+use Rattle.pl_core.specs.Accounting.{IsShaped}
+use Rattle.pl_switch_rule.specs.Granting.{address_at_port, forgets, grant_number, grants_at, grants_next, grants_or_learns, grants_remembered, grants_source, has_no_address, in_use, is_port_spent, learns_ip, learns_source, new_grant, remembered_at, remembers, same_ip, sender_ip, with_grant, with_grants}
+use Rattle.pl_switch_rule.specs.Intake.{changes_member, group_told, groups_of, has_member_of, hears_members}
+use Rattle.pl_layouts.specs.Equality.{same_mac}
+use Rattle.pl_switch_rule.specs.Levels.{becomes_edge, changes_to, finds_host, has_become_placed, settles_in}
+use Rattle.pl_layouts.specs.Memberships.{changes_in}
+use Rattle.pl_journal.specs.Places.{are_alike}
+use Rattle.pl_core.specs.PortRecords.{is_open_to_hosts, new_port, port_of, ports_of_switch, with_port}
+use Rattle.pl_layouts.specs.Placement.{is_placed}
+use Rattle.pl_switch_rule.specs.Steps.{SwitchStep, rests, ◌▹◌}
+use Rattle.pl_core.specs.SwitchViews.{Grant, Member, Source, SwitchView}
+use Rattle.pl_switch_rule.specs.Telling.{changes_told}
+use Rattle.pl_switch_rule.proofs.FirstDrops.{AllGoOn, GoesOn, go_on_flat_map, go_on_if, quiet_go_on}
+use Rattle.pl_switch_rule.proofs.LevelParts.{quiet_changes_told, quiet_finds_host}
+use Rattle.pl_switch_rule.proofs.StepParts.{IsSame, all_append}
+
+-- a part of a step that drops and makes nothing, and leaves the ports as they are
+pub record Hears (v : SwitchView) (s : SwitchStep) : Type 0 where
+  pub ports : s.view.ports ≡ v.ports
+  pub on : AllGoOn s.acts
+
+hears_rests : (v : SwitchView) → Hears v (rests v)
+hears_rests v = record { ports = refl; on = tt }
+
+hears_either : (v : SwitchView) (test : Bool) (s t : SwitchStep) → Hears v s → Hears v t → Hears v (if test then s else t)
+hears_either v true s t a b = a
+hears_either v false s t a b = b
+
+hears_then : (v : SwitchView) (s : SwitchStep) (next : SwitchView → SwitchStep) → Hears v s → ((w : SwitchView) → Hears w (next w)) →
+    Hears v (s ▹ next)
+hears_then v s next a further = let b = further s.view in
+    record { ports = b.ports ∙ a.ports; on = all_append GoesOn s.acts (next s.view).acts a.on b.on }
+
+-- Granting.
+
+hears_grants_next : (v : SwitchView) (port : ℕ) (amac : Mac) (ip : Option Ip4) → Hears v (grants_next v port amac ip)
+hears_grants_next v port amac ip = record { ports = refl; on = (tt, (tt, tt)) }
+
+hears_learns_ip : (v : SwitchView) (address : Pmac) (grant : Option Grant) (ip : Option Ip4) → Hears v (learns_ip v address grant ip)
+hears_learns_ip v address None ip = hears_rests v
+hears_learns_ip v address (Some grant) None = hears_rests v
+hears_learns_ip v address (Some grant) (Some ip) =
+    let new : Grant = record grant { ip = Some ip } in
+    let told : SwitchStep = record { view = with_grant v address new; acts = Tell (Learned address grant.amac (Some ip)) ∷ [] } in
+    hears_either v (same_ip grant.ip ip) (rests v) told (hears_rests v) (record { ports = refl; on = (tt, tt) })
+
+hears_grants_or_learns : (v : SwitchView) (port : ℕ) (amac : Mac) (ip : Option Ip4) (vmid : Option ℕ) →
+    Hears v (grants_or_learns v port amac ip vmid)
+hears_grants_or_learns v port amac ip (Some vmid) =
+    hears_learns_ip v (address_at_port v port vmid) (grant_number (grants_at v port) vmid) ip
+hears_grants_or_learns v port amac ip None =
+    hears_either v (is_port_spent v port) (rests v) (grants_next v port amac ip) (hears_rests v) (hears_grants_next v port amac ip)
+
+hears_remembers : (v : SwitchView) (port : ℕ) (amac : Mac) (ip : Option Ip4) → Hears v (remembers v port amac ip)
+hears_remembers v port amac ip = record { ports = refl; on = tt }
+
+pub hears_learns_source : (v : SwitchView) (port : ℕ) (frame : List ℕ) → Hears v (learns_source v port frame)
+hears_learns_source v port frame =
+    let used = in_use (grants_at v port) (source_of frame) in
+    hears_either v (is_placed v.place) (grants_or_learns v port (source_of frame) (sender_ip frame) used)
+    (remembers v port (source_of frame) (sender_ip frame))
+    (hears_grants_or_learns v port (source_of frame) (sender_ip frame) used) (hears_remembers v port (source_of frame) (sender_ip frame))
+
+hears_grants_source : (v : SwitchView) (port : ℕ) (source : Option Source) → Hears v (grants_source v port source)
+hears_grants_source v port None = hears_rests v
+hears_grants_source v port (Some source) =
+    hears_grants_or_learns v port source.amac source.ip (in_use (grants_at v port) source.amac)
+
+hears_forgets : (port : ℕ) (v : SwitchView) → Hears v (forgets port v)
+hears_forgets port v = record { ports = refl; on = tt }
+
+hears_grants_remembered : (ports : List ℕ) (v : SwitchView) → Hears v (grants_remembered ports v)
+unfolding grants_remembered
+hears_grants_remembered [] v = hears_rests v
+hears_grants_remembered (port ∷ ports) v =
+    let source = grants_source v port (remembered_at v port) in
+    hears_then v (source ▹ forgets port) (grants_remembered ports)
+    (hears_then v source (forgets port) (hears_grants_source v port (remembered_at v port)) (hears_forgets port))
+    (λ w. hears_grants_remembered ports w)
+
+-- The source has an address, or the port is spent.
+
+-- the last one of a list passes the test
+last_found : {X : Type 0} (test : X → Bool) (n : ℕ) (xs : List X) (x : X) → test x ≡ true → is_some (position_from test n (xs ++ x ∷ [])) ≡ true
+last_found test n [] x passes = ap (λ b. is_some (if b then Some n else None)) passes
+last_found test n (y ∷ xs) x passes =
+    cond_both (test y) (Some n) (position_from test (n + 1) (xs ++ x ∷ [])) (λ o. is_some o ≡ true) (λ h. refl)
+    (λ h. last_found test (n + 1) xs x passes)
+
+-- an item is replaced by one that the test does not tell from it
+replaced_found : {X : Type 0} (test : X → Bool) (n : ℕ) (xs : List X) (i : ℕ) (x y : X) → slice_get xs i ≡ Some x → test y ≡ test x →
+    position_from test n (slice_set xs i y) ≡ position_from test n xs
+replaced_found test n [] i x y at same = refl
+replaced_found test n (z ∷ xs) zero x y at same =
+    let as_old = same ∙ ap test (sym (same_Some z x at)) in ap (λ b. if b then Some n else position_from test (n + 1) xs) as_old
+replaced_found test n (z ∷ xs) (suc i) x y at same =
+    ap (λ o. if test z then Some n else o) (replaced_found test (n + 1) xs i x y at same)
+
+-- a grant by its number stands at its place
+numbered_at : (grants : List Grant) (vmid : ℕ) (grant : Grant) → grant_number grants vmid ≡ Some grant → slice_get grants (vmid - 1) ≡ Some grant
+numbered_at grants vmid grant = by (vmid == 0)
+  where
+    by : (test : Bool) → (if test then None else slice_get grants (vmid - 1)) ≡ Some grant → slice_get grants (vmid - 1) ≡ Some grant
+    by true is = absurd (cc)
+    by false is = is
+
+-- what was granted at a port is seen there
+grants_at-with : (v : SwitchView) (port : ℕ) (grants : List Grant) → port < length v.grants → grants_at (with_grants v port grants) port ≡ grants
+grants_at-with v port grants within = get_or-set_same v.grants port grants [] within
+
+-- the source has an address in use at the port
+abbrev HasAddress : SwitchView → ℕ → Mac → Type 0
+HasAddress v port amac = is_some (in_use (grants_at v port) amac) ≡ true
+
+-- where a placed switch has none for it, the port is spent
+abbrev IsServed : ℕ → Mac → SwitchStep → Type 0
+IsServed port amac s = has_no_address s.view port amac ≡ true → is_port_spent s.view port ≡ true
+
+none_in_use : (placed used : Bool) → placed && not used ≡ true → used ≡ true → ⊥
+none_in_use true true lacks uses = false≢true lacks
+none_in_use false true lacks uses = false≢true lacks
+none_in_use placed false lacks uses = false≢true uses
+
+has_served : (port : ℕ) (amac : Mac) (s : SwitchStep) → HasAddress s.view port amac → IsServed port amac s
+has_served port amac s has lacks =
+    absurd (none_in_use (is_placed s.view.place) (is_some (in_use (grants_at s.view port) amac)) lacks has)
+
+served_grants_next : (v : SwitchView) (port : ℕ) (amac : Mac) (ip : Option Ip4) → port < length v.grants →
+    IsServed port amac (grants_next v port amac ip)
+served_grants_next v port amac ip within =
+    let grants : List Grant = grants_at v port ++ new_grant amac ip ∷ [] in
+    has_served port amac (grants_next v port amac ip)
+    (ap (λ gs. is_some (in_use gs amac)) (grants_at-with v port grants within)
+    ∙ last_found (λ grant. grant.in_use && same_mac grant.amac amac) 1 (grants_at v port) (new_grant amac ip) ((bytes_eq-Decides amac.0 amac.0).1 refl))
+
+served_learns_ip : (v : SwitchView) (port vmid : ℕ) (amac : Mac) (o : Option Grant) (ip : Option Ip4) → port < length v.grants →
+    HasAddress v port amac → grant_number (grants_at v port) vmid ≡ o → IsServed port amac (learns_ip v (address_at_port v port vmid) o ip)
+served_learns_ip v port vmid amac None ip within has at = has_served port amac (rests v) has
+served_learns_ip v port vmid amac (Some grant) None within has at = has_served port amac (rests v) has
+served_learns_ip v port vmid amac (Some grant) (Some ip) within has at =
+    let address : Pmac = address_at_port v port vmid in
+    let new : Grant = record grant { ip = Some ip } in
+    let told : SwitchStep = record { view = with_grant v address new; acts = Tell (Learned address grant.amac (Some ip)) ∷ [] } in
+    let grants : List Grant = slice_set (grants_at v port) (vmid - 1) new in
+    cond_both (same_ip grant.ip ip) (rests v) told (IsServed port amac) (λ known. has_served port amac (rests v) has)
+    (λ heard. has_served port amac told
+    (ap (λ gs. is_some (in_use gs amac)) (grants_at-with v port grants within)
+    ∙ ap is_some (replaced_found (λ g. g.in_use && same_mac g.amac amac) 1 (grants_at v port) (vmid - 1) grant new
+    (numbered_at (grants_at v port) vmid grant at) refl) ∙ has))
+
+served_grants_or_learns : (v : SwitchView) (port : ℕ) (amac : Mac) (ip : Option Ip4) (o : Option ℕ) → port < length v.grants →
+    in_use (grants_at v port) amac ≡ o → IsServed port amac (grants_or_learns v port amac ip o)
+served_grants_or_learns v port amac ip (Some vmid) within used =
+    served_learns_ip v port vmid amac (grant_number (grants_at v port) vmid) ip within (ap is_some used) refl
+served_grants_or_learns v port amac ip None within used =
+    cond_both (is_port_spent v port) (rests v) (grants_next v port amac ip) (IsServed port amac) (λ spent lacks. spent)
+    (λ room. served_grants_next v port amac ip within)
+
+served_remembers : (v : SwitchView) (port : ℕ) (amac : Mac) (ip : Option Ip4) → is_placed v.place ≡ false → IsServed port amac (remembers v port amac ip)
+served_remembers v port amac ip unplaced lacks =
+    absurd (false≢true (sym unplaced ∙ (and_parts (is_placed v.place) (not (is_some (in_use (grants_at v port) amac))) lacks).0))
+
+-- Once a source was learnt, it has an address in use at the port, or the vmids of the port are used up.
+pub served_learns_source : (v : SwitchView) (port : ℕ) (frame : List ℕ) → port < length v.grants →
+    IsServed port (source_of frame) (learns_source v port frame)
+served_learns_source v port frame within =
+    let amac : Mac = source_of frame in
+    let used : Option ℕ = in_use (grants_at v port) amac in
+    cond_both (is_placed v.place) (grants_or_learns v port amac (sender_ip frame) used) (remembers v port amac (sender_ip frame))
+    (IsServed port amac) (λ placed. served_grants_or_learns v port amac (sender_ip frame) used within refl)
+    (λ unplaced. served_remembers v port amac (sender_ip frame) unplaced)
+
+-- A host is found.
+
+hears_settles_in : (old : Place) (v : SwitchView) → Hears v (settles_in old v)
+hears_settles_in old v =
+    hears_either v (has_become_placed old v.place) (grants_remembered (ports_of_switch v.k) v) (rests v)
+    (hears_grants_remembered (ports_of_switch v.k) v) (hears_rests v)
+
+hears_changes_to : (old new : SwitchView) → Hears new (changes_to old new)
+hears_changes_to old new = let b = hears_settles_in old.place new in record {
+  ports = b.ports;
+  on = all_append GoesOn (changes_told old new) (settles_in old.place new).acts
+      (quiet_go_on old.k (changes_told old new) (quiet_changes_told old.k old new)) b.on;
+}
+
+-- a host is at the port, and nothing was dropped
+pub record Finds (port : ℕ) (s : SwitchStep) : Type 0 where
+  pub open_to_hosts : is_open_to_hosts (port_of s.view port) ≡ true
+  pub on : AllGoOn s.acts
+
+-- what stands at a place once it was put there, where it is a place of the list
+stands : (test : PortRecord → Bool) (rs : List PortRecord) (i : ℕ) (r d : PortRecord) → test r ≡ true → test d ≡ true →
+    test (slice_index_or (slice_set rs i r) i d) ≡ true
+stands test [] i r d put other = other
+stands test (x ∷ rs) zero r d put other = put
+stands test (x ∷ rs) (suc i) r d put other = stands test rs i r d put other
+
+pub finds_host_finds : (v : SwitchView) (port : ℕ) → Finds port (finds_host v port)
+finds_host_finds v port =
+    let found : PortRecord = record (port_of v port) { host = true } in
+    let heard = hears_changes_to v (becomes_edge (with_port v port found)) in
+    record {
+      open_to_hosts = ap (λ rs. is_open_to_hosts (slice_index_or rs port new_port)) heard.ports
+          ∙ stands is_open_to_hosts v.ports port found new_port refl refl;
+      on = heard.on;
+    }
+
+-- and then more is heard
+pub finds_then : (port : ℕ) (s : SwitchStep) (next : SwitchView → SwitchStep) → Finds port s → ((w : SwitchView) → Hears w (next w)) →
+    Finds port (s ▹ next)
+finds_then port s next a further = let b = further s.view in record {
+  open_to_hosts = ap (λ rs. is_open_to_hosts (slice_index_or rs port new_port)) b.ports ∙ a.open_to_hosts;
+  on = all_append GoesOn s.acts (next s.view).acts a.on b.on;
+}
+
+-- the source of a frame that comes where a host was found is served
+pub finds_then_served : (v : SwitchView) (port : ℕ) (frame : List ℕ) → IsShaped v → port < v.k →
+    IsServed port (source_of frame) (finds_host v port ▹ (λ w. learns_source w port frame))
+finds_then_served v port frame shaped within =
+    let found : SwitchView = (finds_host v port).view in
+    let same : IsSame v found = (quiet_finds_host v port shaped).same in
+    served_learns_source found port frame (subst (λ n. port < n) (sym (same.shaped.grants ∙ same.k)) within)
+
+-- Members.
+
+tells_group : (old new : List Member) (group : ℕ) → AllGoOn (group_told old new group)
+tells_group old new group =
+    go_on_if (are_alike (has_member_of old group) (has_member_of new group)) [] (Tell (Members group (has_member_of new group)) ∷ []) tt (tt, tt)
+
+pub hears_members_on : (v : SwitchView) (port : ℕ) (frame : List ℕ) → AllGoOn (hears_members v port frame).acts
+hears_members_on v port frame =
+    let members = fold (changes_member port (source_of frame)) v.members (changes_in frame) in
+    go_on_flat_map (group_told v.members members) (groups_of (v.members ++ members)) (tells_group v.members members)

@@ -1,0 +1,92 @@
+-- What a switch does with a message of the fabric manager.
+use Rattle.std.specs.Prelude.{ℕ, ◌==◌, ◌&&◌, not, Bool, false, if◌then◌else◌, List, [], ◌∷◌, Option, Some, None, is_none}
+use Rattle.std.specs.BTreeMap.{insert_entry}
+use Rattle.std.specs.List.{filter}
+use Rattle.std.specs.Map.{remove_entry}
+use Rattle.std.specs.Ordering.{nat_cmp}
+use Rattle.pl_frame.specs.declared.address.Ip4.{Ip4}
+use Rattle.pl_frame.specs.declared.address.Mac.{Mac}
+use Rattle.pl_pmac.specs.declared.pmac.Pmac.{Pmac}
+use Rattle.pl_pmac.specs.Pmac.{mac_of}
+use Rattle.pl_core.specs.declared.acts.Act.TheVariants.{Make, Pass}
+use Rattle.pl_switch_rule.specs.declared.came.Came.TheVariants.{FromHost}
+use Rattle.pl_core.specs.declared.messages.ToSwitch.{ToSwitch}
+use Rattle.pl_core.specs.declared.messages.ToSwitch.TheVariants.{Answer, Avoid, Flood, Invalidate, Pod, Tree}
+use Rattle.pl_core.specs.declared.messages.TreePart.{TreePart}
+use Rattle.pl_core.specs.declared.trap.Trap.{Trap}
+use Rattle.pl_switch_rule.specs.Delivering.{makes}
+use Rattle.pl_switch_rule.specs.Forwarding.{Choice}
+use Rattle.pl_layouts.specs.Frames.{arriving}
+use Rattle.pl_switch_rule.specs.Granting.{granted, is_granted, with_grant}
+use Rattle.pl_switch_rule.specs.GroupForwarding.{forwards_group}
+use Rattle.pl_switch_rule.specs.Intake.{is_member, members_become}
+use Rattle.pl_switch_rule.specs.Levels.{changes_to, with_pod}
+use Rattle.pl_layouts.specs.Placement.{is_known}
+use Rattle.pl_switch_rule.specs.Steps.{SwitchStep, does, rests, ◌▹◌}
+use Rattle.pl_core.specs.SwitchViews.{Grant, SwitchView}
+use Rattle.pl_layouts.specs.ArpFrames.{arp_frame, broadcast, no_mac}
+use Rattle.pl_core.specs.Traps.{newer_trap}
+
+-- an edge switch with position 0 and without a pod takes the number of its pod
+abbrev pub takes_pod : SwitchView → ℕ → Bool
+takes_pod v pod = is_known v.place.level 0 && is_known v.place.position 0 && is_none v.place.pod && not (pod == 65535)
+
+abbrev pub hears_pod : SwitchView → ℕ → SwitchStep
+hears_pod v pod = if takes_pod v pod then changes_to v (with_pod v (Some pod)) else rests v
+
+-- its part of a group's tree is replaced, or there is none any more
+abbrev pub with_part : ℕ → Option TreePart → List (ℕ × TreePart) → List (ℕ × TreePart)
+with_part group None parts = remove_entry (λ g. g == group) parts
+with_part group (Some part) parts = insert_entry nat_cmp parts group part
+
+-- the reply to a host that asked: the answered address has the IPv4 address
+abbrev pub answer_frame : Pmac → Ip4 → Ip4 → Pmac → List ℕ
+answer_frame asker asker_ip ip pmac =
+    arp_frame (mac_of asker) (record { op = 2; sha = mac_of pmac; spa = ip; tha = mac_of asker; tpa = asker_ip })
+
+-- the request to all hosts
+abbrev pub flood_frame : Pmac → Ip4 → Ip4 → List ℕ
+flood_frame asker asker_ip ip =
+    arp_frame broadcast (record { op = 1; sha = mac_of asker; spa = asker_ip; tha = no_mac; tpa = ip })
+
+abbrev pub floods : SwitchView → List ℕ → SwitchStep
+floods v frame = does v (Make frame ∷ []) ▹ (λ w. forwards_group w (Some FromHost) frame)
+
+-- The request to a host that may still stand at an old address. Its sender has no host's address: vmid 0.
+abbrev pub probe_frame : Pmac → Ip4 → List ℕ
+probe_frame old ip =
+    arp_frame (mac_of old) (record { op = 1; sha = mac_of (record old { vmid = 0 }); spa = record { 0 = 0 }; tha = no_mac; tpa = ip })
+
+-- a trap stands for an address from then on, and it is in use no more
+abbrev pub sets_trap : SwitchView → Pmac → Grant → Trap → SwitchView
+sets_trap v old grant trap = with_grant v old (record grant { in_use = false; trap = Some (newer_trap trap grant.trap) })
+
+abbrev pub probes_at : Pmac → Mac → Option Ip4 → SwitchView → SwitchStep
+probes_at old amac None v = rests v
+probes_at old amac (Some ip) v =
+    does v (Make (probe_frame old ip) ∷ Pass old.port (arriving (probe_frame old ip) None (Some amac)) ∷ [])
+
+-- where the address was in use, its host is probed
+abbrev pub probes : Pmac → Grant → SwitchView → SwitchStep
+probes old grant v = if grant.in_use then probes_at old grant.amac grant.ip v else rests v
+
+-- what the host at the old port had joined is forgotten
+abbrev pub forgets_members : ℕ → Mac → SwitchView → SwitchStep
+forgets_members port amac v = members_become v (filter (λ m. not (is_member port amac m)) v.members)
+
+abbrev pub invalidates : SwitchView → Pmac → Trap → Option Grant → SwitchStep
+invalidates v old trap None = rests v
+invalidates v old trap (Some grant) =
+    does (sets_trap v old grant trap) [] ▹ forgets_members old.port grant.amac ▹ probes old grant
+
+-- A message about an address that this switch never granted changes nothing.
+abbrev pub hears_manager : Choice → SwitchView → ToSwitch → SwitchStep
+hears_manager choose v (Pod pod) = hears_pod v pod
+hears_manager choose v (Avoid list) = rests (record v { avoid = list })
+hears_manager choose v (Tree group part) = rests (record v { parts = with_part group part v.parts })
+hears_manager choose v (Answer asker asker_ip ip pmac) =
+    if is_granted v asker then makes choose (answer_frame asker asker_ip ip pmac) v else rests v
+hears_manager choose v (Flood asker asker_ip ip) =
+    if is_granted v asker then floods v (flood_frame asker asker_ip ip) else rests v
+hears_manager choose v (Invalidate old new number ip) =
+    invalidates v old (record { new = new; number = number; ip = ip }) (granted v old)

@@ -1,0 +1,16 @@
+ghost use Rattle.std.specs.Prelude.{◌≡◌, ℕ, false, List, Some};
+ghost use Rattle.pl_core.specs.Accounting.{IsComing, IsShaped};
+ghost use Rattle.pl_layouts.specs.Control.{is_control};
+ghost use Rattle.pl_switch_rule.specs.DropCauses.{CauseHolds, first_drop, seen};
+ghost use Rattle.pl_switch_rule.specs.Forwarding.{Choice};
+ghost use Rattle.pl_switch_rule.specs.SwitchRule.{IsChoice, data_comes};
+ghost use Rattle.pl_core.specs.SwitchViews.{SwitchView};
+ghost use Rattle.pl_journal.specs.declared.cause.Cause.{Cause};
+
+/// Where a switch of a fat tree drops a data frame that comes at one of its ports, the cause that it names holds.
+pub fn a_dropped_frame_has_its_cause()
+    ensures { (choose : Choice) (v : SwitchView) (port : ℕ) (frame : List ℕ) (cause : Cause) →
+        IsChoice choose → IsShaped v → IsComing v.k port frame → is_control frame ≡ false →
+        first_drop (data_comes choose v port frame).acts ≡ Some cause →
+        CauseHolds (seen v port frame) port frame cause }
+{}

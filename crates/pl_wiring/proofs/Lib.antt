@@ -1,0 +1,12 @@
+pub mod Climbing
+pub mod Ends
+pub mod Entered
+pub mod LabelOrder
+pub mod LinkOrder
+pub mod Live
+pub mod Named
+pub mod Ports
+pub mod TextLemmas
+pub mod EntryLemmas
+pub mod Choices
+pub mod LabelTexts

@@ -1,0 +1,11 @@
+pub mod FatTree
+pub mod Index
+pub mod Labels
+pub mod LiveLinks
+pub mod Paths
+pub mod Peers
+pub mod Plan
+pub mod Tables
+pub mod Wired
+pub mod Texts
+pub mod SwitchNames

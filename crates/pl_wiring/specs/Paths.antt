@@ -1,0 +1,59 @@
+-- Paths over live links that go up and then down.
+use Rattle.std.specs.Prelude.{◌≡◌, ◌≢◌, ℕ, ◌+◌, ◌*◌, ◌/◌, ◌≤◌, List, [], ◌∷◌, ◌++◌, reverse, length, Some, slice_get, Any, AllPairs, HoldsAt}
+use Rattle.pl_wiring.specs.declared.label.SwitchNo.{SwitchNo}
+use Rattle.pl_wiring.specs.declared.link.Link.{Link}
+use Rattle.pl_wiring.specs.LiveLinks.{LivePorts, IsLive}
+use Rattle.pl_wiring.specs.Plan.{Plan}
+
+-- a live link leads up from the first switch to the second
+abbrev pub Rises : List Link → (Link → Type 0) → SwitchNo → SwitchNo → Type 0
+Rises links Live lower upper = Any (λ l. (l.lower ≡ lower) × (l.upper ≡ upper) × Live l) links
+
+-- a live link leads up from each switch of the list to the next
+abbrev pub Climbs : List Link → (Link → Type 0) → List SwitchNo → Type 0
+Climbs links Live [] = Unit {0}
+Climbs links Live (a ∷ []) = Unit {0}
+Climbs links Live (a ∷ b ∷ more) = Rises links Live a b × Climbs links Live (b ∷ more)
+
+-- from one switch up zero, one or two levels over live links, and down as many to another switch, no switch twice
+pub record IsUpDownPath (links : List Link) (Live : Link → Type 0) (start end : SwitchNo) (path : List SwitchNo) : Type 0 where
+  -- the way up to the top, the top itself, and the way down from it, which is read from its end
+  pub up : List SwitchNo
+  pub top : SwitchNo
+  pub down : List SwitchNo
+  pub whole : path ≡ up ++ top ∷ reverse down
+  pub starts : slice_get (up ++ top ∷ []) 0 ≡ Some start
+  pub ends : slice_get (down ++ top ∷ []) 0 ≡ Some end
+  pub climbs : Climbs links Live (up ++ top ∷ [])
+  pub falls : Climbs links Live (down ++ top ∷ [])
+  pub as_many : length down ≡ length up
+  pub two_at_most : length up ≤ 2
+  pub distinct : AllPairs (λ a b. a ≢ b) path
+
+-- the path is one over the links of a plan that are live in these states
+abbrev pub IsLivePath : Plan → LivePorts → SwitchNo → SwitchNo → List SwitchNo → Type 0
+IsLivePath plan states start end path = IsUpDownPath plan.links (IsLive states) start end path
+
+abbrev pub LeadsUp : Plan → LivePorts → SwitchNo → SwitchNo → Type 0
+LeadsUp plan states lower upper = Rises plan.links (IsLive states) lower upper
+
+-- to no switch do live links lead up from both
+abbrev pub NeverMeet : Plan → LivePorts → SwitchNo → SwitchNo → Type 0
+NeverMeet plan states a b = (top : SwitchNo) → LeadsUp plan states a top → LeadsUp plan states b top → ⊥
+
+-- a live link leads from the lower switch to the upper one, which has this place among those above it
+abbrev pub RisesAt : Plan → (Link → Type 0) → SwitchNo → ℕ → SwitchNo → Type 0
+RisesAt plan Live lower place upper = HoldsAt (λ l. (l.upper ≡ upper) × Live l) plan.links (lower.0 * (plan.k / 2) + place)
+
+abbrev pub LeadsUpAt : Plan → LivePorts → SwitchNo → ℕ → SwitchNo → Type 0
+LeadsUpAt plan states lower place upper = RisesAt plan (IsLive states) lower place upper
+
+-- the same from one place above both switches
+abbrev pub NeverMeetAt : Plan → LivePorts → SwitchNo → SwitchNo → ℕ → Type 0
+NeverMeetAt plan states a b place =
+    (top : SwitchNo) → LeadsUpAt plan states a place top → LeadsUpAt plan states b place top → ⊥
+
+-- nor do they from the switches at one place above these two
+abbrev pub NeverMeetOver : Plan → LivePorts → SwitchNo → SwitchNo → ℕ → Type 0
+NeverMeetOver plan states start end place = (left right : SwitchNo) →
+    LeadsUpAt plan states start place left → LeadsUpAt plan states end place right → NeverMeet plan states left right

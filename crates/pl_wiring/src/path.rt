@@ -1,0 +1,191 @@
+ghost use Rattle.std.specs.Prelude.{◌≡◌, ◌≢◌, ◌+◌, ◌/◌, ◌<◌, List, [], ◌∷◌, IfSome, IfNone, length, slice_get, option_copied};
+ghost use Rattle.pl_wiring.specs.declared.label.SwitchNo.{SwitchNo};
+ghost use Rattle.pl_wiring.specs.Labels.{edge_count};
+ghost use Rattle.pl_wiring.specs.LiveLinks.{IsFor};
+ghost use Rattle.pl_wiring.specs.Paths.{IsLivePath, LeadsUp, LeadsUpAt, NeverMeet, NeverMeetAt, NeverMeetOver};
+ghost use Rattle.pl_wiring.specs.Plan.{IsPlan};
+
+use crate::order::half;
+use crate::{LinkStates, SwitchNo, Wiring};
+use std::marker::Model;
+
+/// The switches that a path goes through, in order: five at most. Contracts see it as their list.
+#[derive(Debug, Drop)]
+pub struct Path {
+    switches: [SwitchNo; 5],
+    len: usize,
+}
+
+impl Model for Path {
+    ghost use Rattle.std.specs.Prelude.{List, ◌≤◌, take};
+    ghost use Rattle.pl_wiring.specs.declared.label.SwitchNo.{SwitchNo};
+
+    ghost Value = { List SwitchNo };
+
+    ghost view = { λ path. take path.len path.switches };
+
+    ghost invariant = { λ path. path.len ≤ 5 };
+}
+
+impl Path {
+    pub fn len(&self) -> usize
+        ensures { result ≡ length self.now }
+    {
+        self.switches().len()
+    }
+
+    pub fn get(&self, n: usize) -> Option<&SwitchNo>
+        ensures { option_copied result ≡ slice_get self.now n }
+    {
+        self.switches().get(n)
+    }
+
+    pub fn switches(&self) -> &[SwitchNo]
+        ensures { result.now ≡ self.now }
+    {
+        &self.switches[..self.len]
+    }
+
+    fn at(switch: SwitchNo) -> Path
+        ensures { result ≡ switch ∷ [] }
+    {
+        Path {
+            switches: [switch; 5],
+            len: 1,
+        }
+    }
+
+    fn over(start: SwitchNo, top: SwitchNo, end: SwitchNo) -> Path
+        ensures { result ≡ start ∷ top ∷ end ∷ [] }
+    {
+        Path {
+            switches: [start, top, end, end, end],
+            len: 3,
+        }
+    }
+
+    fn over_core(switches: [SwitchNo; 5]) -> Path
+        ensures { result ≡ switches }
+    {
+        Path { switches, len: 5 }
+    }
+}
+
+impl Wiring {
+    /// A path over live links between two edge switches that goes up zero, one or two levels and
+    /// down as many, through no switch twice.
+    pub fn live_path(&self, links: &LinkStates, start: SwitchNo, end: SwitchNo) -> Option<Path>
+        requires start { start.0 < edge_count self.now.k }
+        requires end { end.0 < edge_count self.now.k }
+        requires made_for { IsFor self.now links.now }
+        ensures found { IfSome result (IsLivePath self.now links.now start end) }
+        ensures none { IfNone result ((path : List SwitchNo) →
+            IsLivePath self.now links.now start end path → ⊥) }
+    {
+        if start == end {
+            return Some(Path::at(start));
+        }
+        match self.live_above_both(links, start, end) {
+            Some(top) => Some(Path::over(start, top, end)),
+            None => self.live_path_over_core(links, start, end),
+        }
+    }
+
+    // A path by the first aggregation switches from which live links meet in the core.
+    fn live_path_over_core(
+        &self,
+        links: &LinkStates,
+        start: SwitchNo,
+        end: SwitchNo,
+    ) -> Option<Path>
+        requires start { start.0 < edge_count self.now.k }
+        requires end { end.0 < edge_count self.now.k }
+        requires apart { start ≢ end }
+        requires not_below { NeverMeet self.now links.now start end }
+        ensures found { IfSome result (IsLivePath self.now links.now start end) }
+        ensures none { IfNone result ((path : List SwitchNo) →
+            IsLivePath self.now links.now start end path → ⊥) }
+    {
+        for place in 0..half(self.k()) {
+            if let Some(path) = self.live_path_at(links, start, end, place) {
+                return Some(path);
+            }
+        }
+        None
+    }
+
+    // A path by the aggregation switches that have this place above both edge switches.
+    fn live_path_at(
+        &self,
+        links: &LinkStates,
+        start: SwitchNo,
+        end: SwitchNo,
+        place: u32,
+    ) -> Option<Path>
+        requires start { start.0 < edge_count self.now.k }
+        requires end { end.0 < edge_count self.now.k }
+        requires place { place < self.now.k / 2 }
+        requires apart { start ≢ end }
+        requires not_below { NeverMeet self.now links.now start end }
+        ensures found { IfSome result (IsLivePath self.now links.now start end) }
+        ensures none { IfNone result (NeverMeetOver self.now links.now start end place) }
+    {
+        let left = self.live_above(links, start, place)?;
+        let right = self.live_above(links, end, place)?;
+        let core = self.live_above_both(links, left, right)?;
+        Some(Path::over_core([start, left, core, right, end]))
+    }
+
+    // The first switch to which live links lead up from both.
+    fn live_above_both(&self, links: &LinkStates, a: SwitchNo, b: SwitchNo) -> Option<SwitchNo>
+        requires a { a.0 < edge_count self.now.k + edge_count self.now.k }
+        requires b { b.0 < edge_count self.now.k + edge_count self.now.k }
+        ensures found { IfSome result (λ top.
+            LeadsUp self.now links.now a top × LeadsUp self.now links.now b top) }
+        ensures none { IfNone result (NeverMeet self.now links.now a b) }
+        ensures plan { IsPlan self.now }
+    {
+        for place in 0..half(self.k()) {
+            if let Some(top) = self.live_above_both_at(links, a, b, place) {
+                return Some(top);
+            }
+        }
+        None
+    }
+
+    fn live_above_both_at(
+        &self,
+        links: &LinkStates,
+        a: SwitchNo,
+        b: SwitchNo,
+        place: u32,
+    ) -> Option<SwitchNo>
+        requires a { a.0 < edge_count self.now.k + edge_count self.now.k }
+        requires b { b.0 < edge_count self.now.k + edge_count self.now.k }
+        requires place { place < self.now.k / 2 }
+        ensures found { IfSome result (λ top.
+            LeadsUpAt self.now links.now a place top × LeadsUpAt self.now links.now b place top) }
+        ensures none { IfNone result (NeverMeetAt self.now links.now a b place) }
+    {
+        let left = self.live_above(links, a, place)?;
+        let right = self.live_above(links, b, place)?;
+        if left == right { Some(left) } else { None }
+    }
+
+    // The switch at a place above this one, where the link to it is live.
+    fn live_above(&self, links: &LinkStates, lower: SwitchNo, place: u32) -> Option<SwitchNo>
+        requires lower { lower.0 < edge_count self.now.k + edge_count self.now.k }
+        requires place { place < self.now.k / 2 }
+        ensures found { IfSome result (LeadsUpAt self.now links.now lower place) }
+        ensures none { IfNone result ((upper : SwitchNo) →
+            LeadsUpAt self.now links.now lower place upper → ⊥) }
+        ensures plan { IsPlan self.now }
+    {
+        let link = self.link_above(lower, place);
+        if links.is_live(link) {
+            Some(link.upper)
+        } else {
+            None
+        }
+    }
+}

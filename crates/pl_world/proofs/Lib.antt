@@ -1,0 +1,10 @@
+pub mod Counts
+pub mod Balances
+pub mod SwitchActBalances
+pub mod StepBalances
+pub mod BootBalances
+pub mod SameLinks
+pub mod Hearing
+pub mod Knowing
+pub mod Begun
+pub mod Looser

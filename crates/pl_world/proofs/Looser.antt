@@ -1,0 +1,84 @@
+-- A run of switches whose rule allows less is one of switches whose rule allows more.
+use Rattle.std.proofs.Common.{ℕ, ◌+◌, List, [], ◌∷◌, Option, Some, None, set, slice_get}
+use Rattle.pl_wiring.specs.declared.link.Peer.{Peer}
+use Rattle.pl_wiring.specs.declared.link.Peer.TheVariants.{HostPort, Switch}
+use Rattle.pl_wiring.specs.Index.{place_of}
+use Rattle.pl_wiring.specs.Peers.{peer_of}
+use Rattle.pl_world.specs.declared.event.Event.{Event}
+use Rattle.pl_world.specs.declared.event.Event.TheVariants as event
+use Rattle.pl_world.specs.declared.event.QueueName.{QueueName}
+use Rattle.pl_world.specs.declared.event.QueueName.TheVariants as queue
+use Rattle.pl_core.specs.declared.messages.ToSwitch.{ToSwitch}
+use Rattle.pl_core.specs.Accounting.{IsWithin}
+use Rattle.pl_core.specs.HostInputs.{HostRule}
+use Rattle.pl_core.specs.ManagerDuties.{ManagerRule}
+use Rattle.pl_core.specs.SwitchInputs.{SwitchInput, SwitchRule}
+use Rattle.pl_world.specs.declared.item.Item.{Item}
+use Rattle.pl_world.specs.declared.item.Item.TheVariants.{Control, Data}
+use Rattle.pl_world.specs.declared.speech.Speech.{Speech}
+use Rattle.pl_world.specs.declared.stand.Stand.{Stand}
+use Rattle.pl_world.specs.Changes.{out_of}
+use Rattle.pl_queues.specs.Lines.{line_at}
+use Rattle.pl_world.specs.WorldRule.{ComesAtSwitch, ComesIn, ComesOver, Delivers, DeliversFromHost, DeliversFromManager, DeliversOut, Happens, Steps, SwitchMoves, heard_item}
+use Rattle.pl_world.specs.Worlds.{WorldView}
+
+module _ (one other : SwitchRule) (manager : ManagerRule) (host : HostRule) (within : IsWithin one other) where
+  moves : (w : WorldView) (s : ℕ) (input : SwitchInput) (speech : Speech) (new : WorldView) →
+      SwitchMoves one w s input speech new → SwitchMoves other w s input speech new
+  moves w s input speech new m = record {
+    before = m.before;
+    after = m.after;
+    acts = m.acts;
+    found = m.found;
+    ruled = within m.before input m.after m.acts m.ruled;
+    changed = m.changed;
+  }
+
+  at_switch : (w : WorldView) (s port : ℕ) (item : Item) (new : WorldView) → ComesAtSwitch one w s port item new → ComesAtSwitch other w s port item new
+  at_switch w s port (Control frame) new m = moves _ s _ _ new m
+  at_switch w s port (Data id frame) new m = moves _ s _ _ new m
+
+  over : (w : WorldView) (s port : ℕ) (item : Item) (peer : Peer) (new : WorldView) → ComesOver one host w s port item peer new → ComesOver other host w s port item peer new
+  over w s port item (Switch t q) new m = at_switch w t.0 q item new m
+  over w s port item HostPort new m = m
+
+  come_in : (w : WorldView) (h : ℕ) (item : Item) (stand : Option Stand) (new : WorldView) → ComesIn one w h item stand new → ComesIn other w h item stand new
+  come_in w h item None new m = absurd m
+  come_in w h item (Some stand) new m = at_switch (heard_item w h item) stand.edge.0 stand.port item new m
+
+  from_host : (w : WorldView) (h : ℕ) (items : List Item) (new : WorldView) → DeliversFromHost one w h items new → DeliversFromHost other w h items new
+  from_host w h [] new m = absurd m
+  from_host w h (item ∷ items) new m = come_in (record w { from_hosts = set w.from_hosts h items }) h item (slice_get w.stands h) new m
+
+  delivers_out : (w : WorldView) (s port : ℕ) (items : List Item) (new : WorldView) → DeliversOut one host w s port items new → DeliversOut other host w s port items new
+  delivers_out w s port [] new m = absurd m
+  delivers_out w s port (item ∷ items) new m =
+      over (record w { out = set w.out (place_of w.plan.k s port) items }) s port item (peer_of w.plan s port) new m
+
+  from_manager : (w : WorldView) (s : ℕ) (items : List ToSwitch) (new : WorldView) → DeliversFromManager one w s items new → DeliversFromManager other w s items new
+  from_manager w s [] new m = absurd m
+  from_manager w s (says ∷ items) new m = moves _ s _ _ new m
+
+  delivers : (w : WorldView) (name : QueueName) (new : WorldView) → Delivers one manager host w name new → Delivers other manager host w name new
+  delivers w (queue.FromHost h) new m = from_host w h.0 (line_at w.from_hosts h.0) new m
+  delivers w (queue.Port s port) new m = delivers_out w s.0 port (out_of w s.0 port) new m
+  delivers w (queue.ToManager s) new m = m
+  delivers w (queue.FromManager s) new m = from_manager w s.0 (line_at w.from_manager s.0) new m
+
+  happens : (w : WorldView) (e : Event) (new : WorldView) → Happens one manager host w e new → Happens other manager host w e new
+  happens w (event.Deliver name) new m = delivers w name new m
+  happens w (event.Tick s) new m = moves _ s.0 _ _ new m
+  happens w (event.Fail a b) new m = m
+  happens w (event.Repair a b) new m = m
+  happens w (event.Lose s port) new m = m
+  happens w (event.Move h s port) new m = m
+  happens w (event.Start h) new m = m
+  happens w (event.Play h frame original raw) new m = m
+  happens w (event.Retry h) new m = m
+  happens w (event.Join h group) new m = m
+  happens w (event.Leave h group) new m = m
+
+  pub steps_looser : (old : WorldView) (events : List Event) (new : WorldView) → Steps one manager host old events new → Steps other manager host old events new
+  steps_looser old [] new same = same
+  steps_looser old (e ∷ events) new steps =
+      (steps.0, steps.1, happens (record old { steps = old.steps + 1 }) e steps.0 steps.2, steps_looser steps.0 events new steps.3)

@@ -1,0 +1,12 @@
+pub mod Worlds
+pub mod Changes
+pub mod SwitchActs
+pub mod OtherActs
+pub mod LinksAndMoves
+pub mod Refusals
+pub mod WorldRule
+pub mod Booting
+pub mod Flying
+pub mod Hearing
+pub mod Pending
+pub mod QueueOrder

@@ -1,0 +1,11 @@
+use crate::speech::Speech;
+use pl_journal::Entry;
+use pl_lists::Queue;
+
+/// Beside the world, amid the acts of a switch: of which frame they speak by now, and the ends that are
+/// written behind the last copy.
+#[derive(Debug, Drop)]
+pub struct Aside {
+    pub speech: Speech,
+    pub late: Queue<Entry>,
+}

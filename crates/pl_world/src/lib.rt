@@ -1,0 +1,25 @@
+//! The world as definitions: the switches, hosts and manager of a fabric, and the queues between them.
+//!
+//! A world goes on by events. One event is one step of one actor: the head of one queue is delivered, one
+//! switch ticks, one host acts, one link fails or is repaired, one item is lost, or one host moves.
+//! `specs/WorldRule.antt` says what each event does, over whatever rules the switches, the manager and the
+//! hosts have; so what holds of each event holds in each order of events. The laws here hold of any rules.
+#![tactic(auto)]
+
+pub use aside::Aside;
+pub use error::StepError;
+pub use event::{Event, QueueName};
+pub use item::Item;
+pub use limits::Limits;
+pub use speech::Speech;
+pub use stand::Stand;
+pub use world_laws::{a_new_world_has_its_frames_in_order, each_run_keeps_its_frames_in_order, each_run_stays_within_hearing, each_step_keeps_its_frames_in_order};
+
+mod aside;
+mod error;
+mod event;
+mod item;
+mod limits;
+mod speech;
+mod stand;
+mod world_laws;

@@ -1,0 +1,38 @@
+ghost use Rattle.std.specs.Prelude.{◌≡◌, ◌≤◌, List, None};
+ghost use Rattle.pl_wiring.specs.Plan.{Plan};
+ghost use Rattle.pl_world.specs.declared.event.Event.{Event};
+ghost use Rattle.pl_world.specs.declared.limits.Limits.{Limits};
+ghost use Rattle.pl_world.specs.Booting.{CanBegin, booted};
+ghost use Rattle.pl_world.specs.Flying.{IsCounted};
+ghost use Rattle.pl_world.specs.Hearing.{IsWithinHearing};
+ghost use Rattle.pl_world.specs.Refusals.{refusal};
+ghost use Rattle.pl_world.specs.WorldRule.{Steps, WorldStep};
+ghost use Rattle.pl_world.specs.Worlds.{WorldView};
+
+use pl_core::{HostCore, ManagerCore, SwitchCore};
+
+/// A world at its beginning has no frames, and one of each for each host, switch and port.
+pub fn a_new_world_has_its_frames_in_order()
+    ensures { (plan : Plan) (limits : Limits) → CanBegin plan → IsCounted (booted plan limits) }
+{}
+
+/// Whatever the rules of switches, manager and hosts are, as long as switches account for their frames
+/// and hosts send data frames: each frame that began has ended once, or is in one place of one queue,
+/// before and after each event that is not refused.
+pub fn each_step_keeps_its_frames_in_order<S: SwitchCore, M: ManagerCore, H: HostCore>()
+    ensures { (old : WorldView) (happens : Event) (new : WorldView) → IsCounted old →
+        refusal old happens ≡ None → WorldStep S.rule M.rule H.rule old happens new → IsCounted new }
+{}
+
+/// So it is at each moment of each run from the beginning.
+pub fn each_run_keeps_its_frames_in_order<S: SwitchCore, M: ManagerCore, H: HostCore>()
+    ensures { (plan : Plan) (limits : Limits) (events : List Event) (new : WorldView) → CanBegin plan →
+        Steps S.rule M.rule H.rule (booted plan limits) events new → IsCounted new }
+{}
+
+/// At each moment of each run the manager has heard the switches of the wiring alone, and has learnt no
+/// more addresses than steps were made: so it can hear whatever comes next.
+pub fn each_run_stays_within_hearing<S: SwitchCore, M: ManagerCore, H: HostCore>()
+    ensures { (plan : Plan) (limits : Limits) (events : List Event) (new : WorldView) → limits.steps ≤ 4000000000 →
+        Steps S.rule M.rule H.rule (booted plan limits) events new → IsWithinHearing new }
+{}

@@ -1,0 +1,8 @@
+pub mod FirstPlaces
+pub mod Standing
+pub mod Moving
+pub mod Stepping
+pub mod LinkFound
+pub mod Sums
+pub mod Stale
+pub mod Switching

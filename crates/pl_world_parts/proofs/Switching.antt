@@ -1,0 +1,196 @@
+-- The number of stale items that the switches keep.
+use Rattle.std.proofs.Common.{◌≡◌, ℕ, ◌+◌, ◌-◌, ◌*◌, ◌<◌, ◌≤◌, Bool, Option, None, Some, MatchOption, List, [], ◌∷◌, ◌++◌, cond, count_by, get_or, length, map, slice_get, slice_set, option_to_list, replicate, zero, suc, refl, sym, ap, ◌∙◌, subst, lt_of_mul-lt-mul_right, arith}
+use Rattle.std.specs.List.{AllByRecursion}
+use Rattle.std.proofs.Math.ListN.{length-map}
+use Rattle.std.proofs.lemmas.List.{length-replicate, length-set}
+use Rattle.std.proofs.lemmas.List.Sums.{sum_by-cons, sum_by_push}
+use Rattle.pl_frame.specs.declared.address.SwitchId.{SwitchId}
+use Rattle.pl_wiring.specs.Index.{place_of}
+use Rattle.pl_core.specs.SwitchFacts.{switch_at_boot}
+use Rattle.pl_core.specs.SwitchViews.{SwitchView}
+use Rattle.pl_queues.specs.Counts.{counted_in}
+use Rattle.pl_queues.specs.Lines.{line_at, put_at}
+use Rattle.pl_world.specs.declared.item.Item.{Item}
+use Rattle.pl_world.specs.Flying.{IsFormed}
+use Rattle.pl_world_parts.specs.Moves.{IsOneChanged, sizes}
+use Rattle.pl_world.specs.Pending.{HasQueues, KeepsStale, SwitchesView, is_control_item, is_order, is_report, is_stale, pending, stale, stale_at, stale_in}
+use Rattle.pl_world.specs.Worlds.{WorldView}
+use Rattle.pl_world.proofs.Counts.{all_found}
+use Rattle.pl_world_parts.proofs.Moving.{found-map}
+use Rattle.pl_world_parts.proofs.Stale.{none_stale, queue_changes, queue_le, stale_by_wiring, stale_fits, switch_changes, switch_le}
+use Rattle.pl_world_parts.proofs.Stepping.{sizes_many, sizes_same}
+
+abbrev pub all_switches : ℕ → List SwitchView → List (List Item) → SwitchesView
+all_switches k switches out = record { k = k; switches = switches; out = out }
+
+module _ (k : ℕ) (switches : List SwitchView) (out : List (List Item)) where
+  -- a place is one of a switch, and there are ports
+  pub ports_are_there : (at : ℕ) → HasQueues (all_switches k switches out) → at < length out → 0 < k
+  ports_are_there at has there = some_ports k (length switches) (omega (arith, there, has.queues))
+    where
+      some_ports : (k n : ℕ) → 0 < n * k → 0 < k
+      some_ports zero n some = absurd (omega (arith, some))
+      some_ports (suc k) n some = omega arith
+
+  pub switch_is_there : (s port at : ℕ) → HasQueues (all_switches k switches out) → place_of k s port ≡ at → at < length out → s < length switches
+  switch_is_there s port at has place there = lt_of_mul-lt-mul_right k (omega (arith, place, there, has.queues))
+
+  pub kept_fits : (kept : ℕ) → KeepsStale (all_switches k switches out) kept → kept ≤ counted_in is_control_item out
+  kept_fits kept keeps = let fits = stale_fits k out switches keeps.queues.queues in omega (arith, fits, keeps.is)
+
+  pub same_size : (s : ℕ) (v : SwitchView) → HasQueues (all_switches k switches out) → slice_get switches s ≡ Some v → v.k ≡ k
+  same_size s v has found = all_found (λ v. v.k ≡ k) switches s v found has.ports
+
+  module _ (s port at kept : ℕ) (v : SwitchView) (keeps : KeepsStale (all_switches k switches out) kept) (found : slice_get switches s ≡ Some v)
+      (within : port < k) (place : place_of k s port ≡ at) (there : at < length out) where
+    -- a queue becomes another
+    changed : (new : List (List Item)) (line : List Item) → new ≡ slice_set out at line →
+        stale k switches new + count_by (is_stale v port) (line_at out at) ≡ stale k switches out + count_by (is_stale v port) line
+    changed new line same =
+        let low = switch_is_there s port at keeps.queues place there in
+        let all = queue_changes k switches out s port at line within place there low in
+        let was : stale_in (slice_get switches s) port (line_at out at) ≡ count_by (is_stale v port) (line_at out at) =
+        ap (λ o. stale_in o port (line_at out at)) found in
+        let is : stale_in (slice_get switches s) port line ≡ count_by (is_stale v port) line = ap (λ o. stale_in o port line) found in
+        let here : stale k switches new ≡ stale k switches (slice_set out at line) = ap (stale k switches) same in
+        omega (arith, all, was, is, here)
+
+    keeps_with : (new : List (List Item)) (line : List Item) (after : ℕ) → new ≡ slice_set out at line →
+        after + count_by (is_stale v port) (line_at out at) ≡ kept + count_by (is_stale v port) line → KeepsStale (all_switches k switches new) after
+    keeps_with new line after same moved =
+        let sum = changed new line same in
+        record {
+          queues = record { ports = keeps.queues.ports; queues = ap length same ∙ length-set out at line ∙ keeps.queues.queues };
+          is = omega (arith, sum, moved, keeps.is);
+        }
+
+    pub line_le : count_by (is_stale v port) (line_at out at) ≤ kept
+    line_le =
+        let low = switch_is_there s port at keeps.queues place there in
+        let all = queue_le k switches out s port at within place low in
+        let was : stale_in (slice_get switches s) port (line_at out at) ≡ count_by (is_stale v port) (line_at out at) =
+        ap (λ o. stale_in o port (line_at out at)) found in
+        omega (arith, all, was, keeps.is)
+
+    pub keeps_put : (new : List (List Item)) (item : Item) (b : Bool) (more : ℕ) → new ≡ put_at out at item → more ≡ cond b 1 0 →
+        b ≡ is_stale v port item → KeepsStale (all_switches k switches new) (kept + more)
+    keeps_put new item b more same one is =
+        let push = sum_by_push (λ i. cond (is_stale v port i) 1 0) (line_at out at) item in
+        let here : ◌≡◌ {A = ℕ} (cond b 1 0) (cond (is_stale v port item) 1 0) = ap (λ c. cond c 1 0) is in
+        keeps_with new (line_at out at ++ item ∷ []) (kept + more) same (omega (arith, push, one, here))
+
+    pub whole_le : (line : List Item) (less : ℕ) → line ≡ line_at out at → less ≡ count_by (is_stale v port) line → less ≤ kept
+    whole_le line less whole is =
+        let fits = line_le in
+        let here : count_by (is_stale v port) line ≡ count_by (is_stale v port) (line_at out at) = ap (count_by (is_stale v port)) whole in
+        omega (arith, fits, here, is)
+
+    pub keeps_take_all : (new : List (List Item)) (line : List Item) (less : ℕ) → line ≡ line_at out at → new ≡ slice_set out at [] →
+        less ≡ count_by (is_stale v port) line → KeepsStale (all_switches k switches new) (kept - less)
+    keeps_take_all new line less whole same is =
+        let fits = line_le in
+        let here : count_by (is_stale v port) line ≡ count_by (is_stale v port) (line_at out at) = ap (count_by (is_stale v port)) whole in
+        keeps_with new [] (kept - less) same (omega (arith, fits, here, is))
+
+    abbrev pub IsTaken : List (List Item) → Option Item → Type 0
+    IsTaken new taken = MatchOption taken ((line_at out at ≡ []) × (new ≡ out)) (λ x. (line_at out at ≡ x ∷ line_at new at) × (new ≡ slice_set out at (line_at new at)))
+
+    one_more : (x : Item) (line : List Item) → line_at out at ≡ x ∷ line →
+        count_by (is_stale v port) (line_at out at) ≡ count_by (is_stale v port) (x ∷ []) + count_by (is_stale v port) line
+    one_more x line head =
+        let whole = ap (count_by (is_stale v port)) head in
+        let parts = sum_by-cons (λ i. cond (is_stale v port i) 1 0) x line in
+        let one = sum_by-cons (λ i. cond (is_stale v port i) 1 0) x [] in
+        omega (arith, whole, parts, one)
+
+    pub taken_le : (new : List (List Item)) (taken : Option Item) (less : ℕ) → IsTaken new taken →
+        less ≡ count_by (is_stale v port) (option_to_list taken) → less ≤ kept
+    taken_le new None less h is = omega (arith, is)
+    taken_le new (Some x) less h is = let fits = line_le in let head = one_more x (line_at new at) h.0 in omega (arith, fits, head, is)
+
+    pub keeps_take : (new : List (List Item)) (taken : Option Item) (less : ℕ) → IsTaken new taken →
+        less ≡ count_by (is_stale v port) (option_to_list taken) → KeepsStale (all_switches k switches new) (kept - less)
+    keeps_take new None less h is =
+        let same : kept - less ≡ kept = omega (arith, is) in
+        subst (λ o. KeepsStale (all_switches k switches o) (kept - less)) (sym h.1) (subst (KeepsStale (all_switches k switches out)) (sym same) keeps)
+    keeps_take new (Some x) less h is =
+        let fits = line_le in
+        let head = one_more x (line_at new at) h.0 in
+        keeps_with new (line_at new at) (kept - less) h.1 (omega (arith, fits, head, is))
+
+  pub switch_none : (s : ℕ) → HasQueues (all_switches k switches out) → s < length switches → counted_in is_control_item out ≡ 0 →
+      0 ≡ stale_at k switches out s
+  switch_none s has low none =
+      let one = switch_le k switches out s low in
+      let fits = stale_fits k out switches has.queues in
+      omega (arith, one, fits, none)
+
+  -- a switch steps, and what was and what is stale in its queues is counted
+  module _ (s kept first last : ℕ) (new : List SwitchView) (keeps : KeepsStale (all_switches k switches out) kept) (low : s < length switches)
+      (same : sizes new ≡ sizes switches) where
+    pub queues_kept : HasQueues (all_switches k new out)
+    queues_kept = record {
+      ports = sizes_same k switches new same keeps.queues.ports;
+      queues = keeps.queues.queues ∙ ap (λ n. n * k) (sym (sizes_many switches new same));
+    }
+
+    pub first_le : first ≡ stale_at k switches out s → first ≤ kept
+    first_le was = let fits = switch_le k switches out s low in omega (arith, fits, was, keeps.is)
+
+    pub keeps_step : IsOneChanged switches s new → first ≡ stale_at k switches out s → last ≡ stale_at k new out s →
+        KeepsStale (all_switches k new out) (kept - first + last)
+    keeps_step one was is =
+        let fits = first_le was in
+        let all = switch_changes k switches out s new one.0 one.1 low in
+        record { queues = queues_kept; is = omega (arith, fits, all, was, is, keeps.is) }
+
+    pub step_fits : IsOneChanged switches s new → first ≡ stale_at k switches out s → last ≡ stale_at k new out s →
+        kept - first + last ≤ counted_in is_control_item out
+    step_fits one was is =
+        let fits = first_le was in
+        let all = switch_changes k switches out s new one.0 one.1 low in
+        let most = stale_fits k out new queues_kept.queues in
+        omega (arith, fits, all, was, is, most, keeps.is)
+
+-- at first nothing is stale
+pub none_stale_yet : (k : ℕ) (switches : List SwitchView) (out : List (List Item)) (n : ℕ) → AllByRecursion (λ v. v.k ≡ k) switches → length switches * k ≡ n →
+    out ≡ replicate n [] → KeepsStale (all_switches k switches out) 0
+none_stale_yet k switches out n ports many empty =
+    let queues : length out ≡ length switches * k = ap length empty ∙ length-replicate n [] ∙ sym many in
+    record { queues = record { ports = ports; queues = queues }; is = sym (none_stale k n switches out queues empty) }
+
+module _ {T : Type 0} (view : T → SwitchView) (k : ℕ) (cores : List T) (out : List (List Item)) (f : SwitchesView) (s port at : ℕ) (core : T)
+    (has : HasQueues (all_switches k (map view cores) out)) (seen : all_switches k (map view cores) out ≡ f) (low : at < length f.out)
+    (place : place_of k s port ≡ at) (here : core ≡ get_or cores s core) where
+  pub place_there : at < length out
+  place_there = let same = ap (λ a. length a.out) seen in omega (arith, low, same)
+
+  pub core_found : slice_get (map view cores) s ≡ Some (view core)
+  core_found =
+      let there = switch_is_there k (map view cores) out s port at has place place_there in
+      let many = length-map cores view in
+      found-map view cores s core (omega (arith, there, many)) (sym here)
+
+  pub port_there : port < k → port < (view core).k
+  port_there within = let size = same_size k (map view cores) out s (view core) has core_found in omega (arith, within, size)
+
+-- the three counts together, as the world sees them
+pub pending_seen : (f : SwitchesView) (v w : WorldView) (a b c : ℕ) → v ≡ w → IsFormed v → HasQueues f → f.switches ≡ v.switches → f.out ≡ v.out →
+    a ≡ stale f.k f.switches f.out → b ≡ counted_in is_report v.to_manager → c ≡ counted_in is_order v.from_manager → a + b + c ≡ pending w
+pending_seen f v w a b c same formed has switches out first told said =
+    let ports : AllByRecursion (λ u. u.k ≡ v.plan.k) f.switches = subst (AllByRecursion (λ u. u.k ≡ v.plan.k)) (sym switches) formed.ports in
+    let by_wiring = stale_by_wiring f.k v.plan.k f.switches f.out has.ports ports in
+    let seen : stale v.plan.k f.switches f.out ≡ stale v.plan.k v.switches v.out =
+    ap (λ vs. stale v.plan.k vs f.out) switches ∙ ap (stale v.plan.k v.switches) out in
+    let here : a + b + c ≡ pending v = omega (arith, by_wiring, seen, first, told, said) in
+    here ∙ ap pending same
+
+-- the switches and queues of a wiring at first
+first_sizes : (k : ℕ) (ids : List SwitchId) → AllByRecursion (λ v. v.k ≡ k) (map (λ id. switch_at_boot id k) ids)
+first_sizes k [] = tt
+first_sizes k (id ∷ ids) = (refl, first_sizes k ids)
+
+pub first_ports : (j k : ℕ) (ids : List SwitchId) (switches : List SwitchView) → j ≡ k → switches ≡ map (λ id. switch_at_boot id k) ids →
+    AllByRecursion (λ v. v.k ≡ j) switches
+first_ports j k ids switches same first =
+    subst (λ n. AllByRecursion (λ v. v.k ≡ n) switches) (sym same) (subst (AllByRecursion (λ v. v.k ≡ k)) (sym first) (first_sizes k ids))

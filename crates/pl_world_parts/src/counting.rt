@@ -1,0 +1,93 @@
+ghost use Rattle.std.specs.Prelude.{◌≡◌};
+ghost use Rattle.pl_world.specs.Pending.{is_control_item, is_order, is_report};
+
+use pl_world::Item;
+use pl_core::{ToManager, ToSwitch};
+use pl_queues::Counted;
+use std::marker::Model;
+
+/// A message to the manager that waits. It counts, unless a host's question brought it about.
+#[derive(Debug, Drop)]
+pub struct Told(ToManager);
+
+impl Model for Told {
+    ghost use Rattle.pl_core.specs.declared.messages.ToManager.{ToManager};
+
+    ghost Value = { ToManager };
+
+    ghost view = { λ told. told.0 };
+}
+
+impl Told {
+    pub fn new(told: ToManager) -> Told
+        ensures { result ≡ told }
+    {
+        Told(told)
+    }
+
+    pub fn message(self) -> ToManager
+        ensures { result ≡ self }
+    {
+        self.0
+    }
+}
+
+impl Counted for Told {
+    ghost counts = { is_report };
+
+    fn counts(&self) -> bool {
+        match self.0 {
+            ToManager::Query { .. } => false,
+            _ => true,
+        }
+    }
+}
+
+/// A message from the manager that waits. It counts, unless it answers a host's question.
+#[derive(Debug, Drop)]
+pub struct Says(ToSwitch);
+
+impl Model for Says {
+    ghost use Rattle.pl_core.specs.declared.messages.ToSwitch.{ToSwitch};
+
+    ghost Value = { ToSwitch };
+
+    ghost view = { λ says. says.0 };
+}
+
+impl Says {
+    pub fn new(says: ToSwitch) -> Says
+        ensures { result ≡ says }
+    {
+        Says(says)
+    }
+
+    pub fn message(self) -> ToSwitch
+        ensures { result ≡ self }
+    {
+        self.0
+    }
+}
+
+impl Counted for Says {
+    ghost counts = { is_order };
+
+    fn counts(&self) -> bool {
+        match self.0 {
+            ToSwitch::Answer { .. } | ToSwitch::Flood { .. } => false,
+            _ => true,
+        }
+    }
+}
+
+// A control frame counts, since it alone may be stale.
+impl Counted for Item {
+    ghost counts = { is_control_item };
+
+    fn counts(&self) -> bool {
+        match self {
+            Item::Control(_) => true,
+            Item::Data(..) => false,
+        }
+    }
+}

@@ -1,0 +1,21 @@
+//! What stands around the world: maps of its wiring, where hosts stand, the switches with the queues out
+//! of their ports, and the book that the journal is written in.
+#![tactic(auto)]
+
+pub use atlas::Atlas;
+pub use book::Book;
+pub use counting::{Says, Told};
+pub use links::{link_of, set_live};
+pub use moves::{arrive_at, play_at, urge_at};
+pub use stands::Stands;
+pub use switches::Switches;
+pub use urge::Urge;
+
+mod atlas;
+mod book;
+mod counting;
+mod links;
+mod moves;
+mod stands;
+mod switches;
+mod urge;

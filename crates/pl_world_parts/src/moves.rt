@@ -1,0 +1,149 @@
+ghost use Rattle.std.specs.Prelude.{◌≡◌, ◌<◌, length, map, slice_get, vec_len, IfOk, OnOk, Some};
+ghost use Rattle.pl_core.specs.Accounting.{IsComing};
+ghost use Rattle.pl_core.specs.Gains.{Gains};
+ghost use Rattle.pl_core.specs.HostInputs.HostAnswer.{Nothing, Played, Received};
+ghost use Rattle.pl_core.specs.HostInputs.HostInput.{Receives};
+ghost use Rattle.pl_core.specs.SwitchInputs.SwitchInput.{Comes, Says, Tick};
+ghost use Rattle.pl_core.specs.SwitchViews.{SwitchView};
+ghost use Rattle.pl_world_parts.specs.Moves.{HostSteps, IsOneChanged, SwitchSteps, input_of, sizes};
+ghost use Rattle.pl_world.specs.WorldRule.{played_as};
+
+use crate::urge::Urge;
+use pl_core::{HostCore, HostOutbox, Outbox, Reception, SwitchCore, ToSwitch};
+use pl_frame::Memory;
+use pl_layouts::Place;
+use pl_journal::Skip;
+
+/// One of some switches ticks. The answer is its place before and after.
+pub fn tick_at<S: SwitchCore>(
+    switches: &mut Vec<S>,
+    s: usize,
+    out: &mut Outbox,
+) -> Result<(Place, Place), Memory>
+    requires { s < vec_len switches.old }
+    ensures step { IfOk result (λ places. Gains out.old out.new
+        (SwitchSteps S.rule (map S.view switches.old.items) s Tick (map S.view switches.new.items) places.0 places.1)) }
+    ensures kept { sizes (map S.view switches.new.items) ≡ sizes (map S.view switches.old.items) }
+    ensures others { IsOneChanged (map S.view switches.old.items) s (map S.view switches.new.items) }
+{
+    let old = switches[s].place();
+    switches[s].tick(out)?;
+    Ok((old, switches[s].place()))
+}
+
+/// A frame comes at a port of one of them.
+pub fn receive_at<S: SwitchCore>(
+    switches: &mut Vec<S>,
+    s: usize,
+    port: u8,
+    frame: &[u8],
+    out: &mut Outbox,
+) -> Result<(Place, Place), Memory>
+    requires within { s < vec_len switches.old }
+    requires coming { (v : SwitchView) → slice_get (map S.view switches.old.items) s ≡ Some v → IsComing v.k port frame.now }
+    ensures step { IfOk result (λ places. Gains out.old out.new
+        (SwitchSteps S.rule (map S.view switches.old.items) s (Comes port frame.now) (map S.view switches.new.items) places.0 places.1)) }
+    ensures kept { sizes (map S.view switches.new.items) ≡ sizes (map S.view switches.old.items) }
+    ensures others { IsOneChanged (map S.view switches.old.items) s (map S.view switches.new.items) }
+{
+    let old = switches[s].place();
+    switches[s].receive(port, frame, out)?;
+    Ok((old, switches[s].place()))
+}
+
+/// The manager speaks to one of them.
+pub fn says_at<S: SwitchCore>(
+    switches: &mut Vec<S>,
+    s: usize,
+    says: &ToSwitch,
+    out: &mut Outbox,
+) -> Result<(Place, Place), Memory>
+    requires { s < vec_len switches.old }
+    ensures step { IfOk result (λ places. Gains out.old out.new
+        (SwitchSteps S.rule (map S.view switches.old.items) s (Says says.now) (map S.view switches.new.items) places.0 places.1)) }
+    ensures kept { sizes (map S.view switches.new.items) ≡ sizes (map S.view switches.old.items) }
+    ensures others { IsOneChanged (map S.view switches.old.items) s (map S.view switches.new.items) }
+{
+    let old = switches[s].place();
+    switches[s].manager_says(says, out)?;
+    Ok((old, switches[s].place()))
+}
+
+fn urge<H: HostCore>(host: &mut H, urge: Urge, out: &mut HostOutbox) -> Result<(), Memory>
+    ensures { OnOk result (Gains out.old out.new (λ acts. H.rule (H.view host.old) (input_of urge) (H.view host.new) acts Nothing)) }
+{
+    match urge {
+        Urge::Start => host.start(out),
+        Urge::Retry => host.retry(out),
+        Urge::Moved => host.moved(out),
+        Urge::Join(group) => host.join(group, out),
+        Urge::Leave(group) => host.leave(group, out),
+    }
+}
+
+fn play<H: HostCore>(
+    host: &mut H,
+    frame: &[u8],
+    original: u32,
+    raw: bool,
+    out: &mut HostOutbox,
+) -> Result<Option<Skip>, Memory>
+    ensures { IfOk result (λ skip. Gains out.old out.new
+        (λ acts. H.rule (H.view host.old) (played_as raw frame.now original) (H.view host.new) acts (Played skip))) }
+{
+    if raw {
+        host.raw(frame, original, out)
+    } else {
+        host.play(frame, original, out)
+    }
+}
+
+/// One of some hosts does something of itself.
+pub fn urge_at<H: HostCore>(
+    hosts: &mut Vec<H>,
+    h: usize,
+    to: Urge,
+    out: &mut HostOutbox,
+) -> Result<(), Memory>
+    requires { h < vec_len hosts.old }
+    ensures step { OnOk result (Gains out.old out.new
+        (HostSteps H.rule (map H.view hosts.old.items) h (input_of to) Nothing (map H.view hosts.new.items))) }
+    ensures many { vec_len hosts.new ≡ vec_len hosts.old }
+{
+    urge(&mut hosts[h], to, out)?;
+    Ok(())
+}
+
+/// It plays a recorded frame, raw or not.
+pub fn play_at<H: HostCore>(
+    hosts: &mut Vec<H>,
+    h: usize,
+    frame: &[u8],
+    original: u32,
+    raw: bool,
+    out: &mut HostOutbox,
+) -> Result<Option<Skip>, Memory>
+    requires { h < vec_len hosts.old }
+    ensures step { IfOk result (λ skip. Gains out.old out.new
+        (HostSteps H.rule (map H.view hosts.old.items) h (played_as raw frame.now original) (Played skip) (map H.view hosts.new.items))) }
+    ensures many { vec_len hosts.new ≡ vec_len hosts.old }
+{
+    let skip = play(&mut hosts[h], frame, original, raw, out)?;
+    Ok(skip)
+}
+
+/// A frame arrives at it.
+pub fn arrive_at<H: HostCore>(
+    hosts: &mut Vec<H>,
+    h: usize,
+    frame: &[u8],
+    out: &mut HostOutbox,
+) -> Result<Reception, Memory>
+    requires { h < vec_len hosts.old }
+    ensures step { IfOk result (λ reception. Gains out.old out.new
+        (HostSteps H.rule (map H.view hosts.old.items) h (Receives frame.now) (Received reception) (map H.view hosts.new.items))) }
+    ensures many { vec_len hosts.new ≡ vec_len hosts.old }
+{
+    let reception = hosts[h].receive(frame, out)?;
+    Ok(reception)
+}

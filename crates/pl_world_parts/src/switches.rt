@@ -1,0 +1,263 @@
+ghost use Rattle.std.specs.Prelude.{◌≡◌, ◌<◌, ◌≤◌, ◌*◌, ◌∷◌, [], cond, count_by, length, map, option_to_list, replicate, slice_get, slice_set, vec_len, IfOk, MatchOption, OnErr, OnOk, Some};
+ghost use Rattle.std.specs.List.{AllByRecursion};
+ghost use Rattle.pl_wiring.specs.Index.{place_of};
+ghost use Rattle.pl_core.specs.Accounting.{IsComing};
+ghost use Rattle.pl_core.specs.Gains.{Gains};
+ghost use Rattle.pl_core.specs.SwitchInputs.SwitchInput.{Comes, Says, Tick};
+ghost use Rattle.pl_core.specs.SwitchViews.{SwitchView};
+ghost use Rattle.pl_queues.specs.Counts.{most};
+ghost use Rattle.pl_queues.specs.Lines.{line_at, put_at};
+ghost use Rattle.pl_world_parts.specs.Moves.{SwitchSteps, sizes};
+ghost use Rattle.pl_world.specs.Pending.{HasQueues, is_stale, stale, stale_at, stale_at_ports};
+
+use pl_world::Item;
+use crate::moves::{receive_at, says_at, tick_at};
+use pl_frame::Memory;
+use pl_core::{Outbox, SwitchCore, SwitchFacts, ToSwitch};
+use pl_layouts::Place;
+use pl_lists::Queue;
+use pl_queues::{CountedLines, Lines};
+use std::marker::Model;
+
+/// The switches, each with as many ports, and the queues out of their ports, switch by switch. A control
+/// frame there is stale, unless its switch would send it out of that port now; how many are stale is kept.
+#[derive(Drop)]
+pub struct Switches<S: SwitchCore> {
+    k: u8,
+    cores: Vec<S>,
+    out: CountedLines<Item>,
+    stale: u64,
+}
+
+impl<S: SwitchCore> Model for Switches<S> {
+    ghost use Rattle.std.specs.Prelude.{map};
+    ghost use Rattle.pl_world.specs.Pending.{KeepsStale, SwitchesView};
+
+    ghost Value = { SwitchesView };
+
+    ghost view = { λ all. record { k = all.k; switches = map S.view all.cores.items; out = all.out } };
+
+    ghost invariant = { λ all. KeepsStale (view all) all.stale };
+}
+
+impl<S: SwitchCore> Switches<S> {
+    /// Switches with empty queues.
+    pub fn new(k: u8, cores: Vec<S>, out: CountedLines<Item>) -> Switches<S>
+        requires ports { AllByRecursion (λ v. v.k ≡ k) (map S.view cores.items) }
+        requires queues { out ≡ replicate (vec_len cores * k) [] }
+        ensures { result ≡ record { k = k; switches = map S.view cores.items; out = out } }
+    {
+        Switches {
+            k,
+            cores,
+            out,
+            stale: 0,
+        }
+    }
+
+    pub fn core(&self, s: usize) -> &S
+        requires { s < length self.now.switches }
+        ensures { slice_get self.now.switches s ≡ Some (S.view result.now) }
+    {
+        &self.cores[s]
+    }
+
+    /// The queues out of all ports, to look at.
+    pub fn out(&self) -> &Lines<Item>
+        ensures { result.now ≡ self.now.out }
+    {
+        self.out.lines()
+    }
+
+    /// How many items out of ports are stale.
+    pub fn stale(&self) -> u64
+        ensures stale { result ≡ stale self.now.k self.now.switches self.now.out }
+        ensures within { result ≤ most }
+        ensures queues { HasQueues self.now }
+    {
+        let _bound = self.out.counted();
+        self.stale
+    }
+
+    /// Puts an item behind the last of the queue at a place.
+    pub fn put(&mut self, at: usize, item: Item) -> Result<(), Memory>
+        requires { at < length self.old.out }
+        ensures ok { OnOk result (self.new ≡ record self.old { out = put_at self.old.out at item }) }
+        ensures err { OnErr result (self.new ≡ self.old) }
+    {
+        let _bound = self.out.counted();
+        let (s, port) = port_at(self.k, at);
+        let more = count_if(is_stale(&self.cores[s], port, &item));
+        self.out.put(at, item)?;
+        self.stale += more;
+        Ok(())
+    }
+
+    /// Takes the first item of the queue at a place; none where it is empty.
+    pub fn take(&mut self, at: usize) -> Option<Item>
+        requires { at < length self.old.out }
+        ensures { MatchOption result ((line_at self.old.out at ≡ []) × (self.new ≡ self.old))
+            (λ x. (line_at self.old.out at ≡ x ∷ line_at self.new.out at) × (self.new ≡ record self.old { out = slice_set self.old.out at (line_at self.new.out at) })) }
+    {
+        let (s, port) = port_at(self.k, at);
+        let taken = self.out.take(at);
+        self.stale -= stale_taken(&self.cores[s], port, &taken);
+        taken
+    }
+
+    /// Takes the whole queue at a place, and leaves an empty one.
+    pub fn take_all(&mut self, at: usize) -> Queue<Item>
+        requires { at < length self.old.out }
+        ensures taken { result ≡ line_at self.old.out at }
+        ensures left { self.new ≡ record self.old { out = slice_set self.old.out at [] } }
+    {
+        let (s, port) = port_at(self.k, at);
+        let line = self.out.take_all(at);
+        self.stale -= stale_in(&self.cores[s], port, &line);
+        line
+    }
+
+    /// One of the switches ticks. The answer is its place before and after.
+    pub fn tick(&mut self, s: usize, out: &mut Outbox) -> Result<(Place, Place), Memory>
+        requires { s < length self.old.switches }
+        ensures step { IfOk result (λ places. Gains out.old out.new
+            (SwitchSteps S.rule self.old.switches s Tick self.new.switches places.0 places.1)) }
+        ensures kept { sizes self.new.switches ≡ sizes self.old.switches }
+        ensures queues { self.new.out ≡ self.old.out }
+    {
+        let _bound = self.out.counted();
+        let before = stale_at(&self.cores, &self.out, self.k, s);
+        let done = tick_at(&mut self.cores, s, out);
+        let after = stale_at(&self.cores, &self.out, self.k, s);
+        self.stale = self.stale - before + after;
+        done
+    }
+
+    /// A frame comes at a port of one of them.
+    pub fn receive(
+        &mut self,
+        s: usize,
+        port: u8,
+        frame: &[u8],
+        out: &mut Outbox,
+    ) -> Result<(Place, Place), Memory>
+        requires within { s < length self.old.switches }
+        requires coming { (v : SwitchView) → slice_get self.old.switches s ≡ Some v → IsComing v.k port frame.now }
+        ensures step { IfOk result (λ places. Gains out.old out.new
+            (SwitchSteps S.rule self.old.switches s (Comes port frame.now) self.new.switches places.0 places.1)) }
+        ensures kept { sizes self.new.switches ≡ sizes self.old.switches }
+        ensures queues { self.new.out ≡ self.old.out }
+    {
+        let _bound = self.out.counted();
+        let before = stale_at(&self.cores, &self.out, self.k, s);
+        let done = receive_at(&mut self.cores, s, port, frame, out);
+        let after = stale_at(&self.cores, &self.out, self.k, s);
+        self.stale = self.stale - before + after;
+        done
+    }
+
+    /// The manager speaks to one of them.
+    pub fn manager_says(
+        &mut self,
+        s: usize,
+        says: &ToSwitch,
+        out: &mut Outbox,
+    ) -> Result<(Place, Place), Memory>
+        requires { s < length self.old.switches }
+        ensures step { IfOk result (λ places. Gains out.old out.new
+            (SwitchSteps S.rule self.old.switches s (Says says.now) self.new.switches places.0 places.1)) }
+        ensures kept { sizes self.new.switches ≡ sizes self.old.switches }
+        ensures queues { self.new.out ≡ self.old.out }
+    {
+        let _bound = self.out.counted();
+        let before = stale_at(&self.cores, &self.out, self.k, s);
+        let done = says_at(&mut self.cores, s, says, out);
+        let after = stale_at(&self.cores, &self.out, self.k, s);
+        self.stale = self.stale - before + after;
+        done
+    }
+}
+
+// The switch and the port that have a place.
+fn port_at(k: u8, at: usize) -> (usize, u8)
+    requires { 0 < k }
+    ensures place { place_of k result.0 result.1 ≡ at }
+    ensures port { result.1 < k }
+{
+    (at / k as usize, (at % k as usize) as u8)
+}
+
+fn count_if(counts: bool) -> u64
+    ensures { result ≡ cond counts 1 0 }
+{
+    if counts { 1 } else { 0 }
+}
+
+#[tactic(auto, using(crate::proofs::Stale::not_announced_is), unfolding(pl_world::specs::Pending::is_stale))]
+fn is_stale<S: SwitchFacts>(core: &S, port: u8, item: &Item) -> bool
+    requires { port < (S.view core.now).k }
+    ensures { result ≡ is_stale (S.view core.now) port item.now }
+{
+    match item {
+        Item::Control(frame) => !core.announces(port, frame.bytes()),
+        Item::Data(..) => false,
+    }
+}
+
+fn stale_taken<S: SwitchFacts>(core: &S, port: u8, taken: &Option<Item>) -> u64
+    requires { port < (S.view core.now).k }
+    ensures { result ≡ count_by (is_stale (S.view core.now) port) (option_to_list taken.now) }
+{
+    match taken {
+        None => 0,
+        Some(item) => count_if(is_stale(core, port, item)),
+    }
+}
+
+fn stale_item<S: SwitchFacts>(core: &S, port: u8, line: &Queue<Item>, n: usize) -> u64
+    requires { port < (S.view core.now).k }
+    ensures { result ≡ count_by (is_stale (S.view core.now) port) (option_to_list (slice_get line.now n)) }
+{
+    match line.get(n) {
+        None => 0,
+        Some(item) => count_if(is_stale(core, port, item)),
+    }
+}
+
+// How many items are stale in a queue out of a port.
+fn stale_in<S: SwitchFacts>(core: &S, port: u8, line: &Queue<Item>) -> u64
+    requires { port < (S.view core.now).k }
+    ensures { result ≡ count_by (is_stale (S.view core.now) port) line.now }
+{
+    let mut count = 0;
+    for n in 0..line.len() {
+        count += stale_item(core, port, line, n);
+    }
+    count
+}
+
+// And in those out of all ports of a switch. Where no control frame waits at all, none is looked at.
+fn stale_at<S: SwitchFacts>(cores: &Vec<S>, out: &CountedLines<Item>, k: u8, s: usize) -> u64
+    requires switch { s < vec_len cores.now }
+    requires queues { HasQueues (record { k = k; switches = map S.view cores.now.items; out = out.now }) }
+    ensures { result ≡ stale_at k (map S.view cores.now.items) out.now s }
+{
+    if out.counted() == 0 {
+        return 0;
+    }
+    stale_at_ports(&cores[s], out, k, s)
+}
+
+fn stale_at_ports<S: SwitchFacts>(core: &S, out: &CountedLines<Item>, k: u8, s: usize) -> u64
+    requires size { (S.view core.now).k ≡ k }
+    requires queues { place_of k s k ≤ length out.now }
+    ensures { result ≡ stale_at_ports k (Some (S.view core.now)) out.now s }
+{
+    let (_bound, _many) = (out.counted(), out.lines().len());
+    let mut count = 0;
+    for port in 0..k {
+        let place = s * k as usize + port as usize;
+        count += stale_in(core, port, out.lines().line(place));
+    }
+    count
+}

@@ -7,7 +7,7 @@ ghost use Rattle.pl_run.specs.Plays.{EndsRun, IsUnplayed, answer_of};
 ghost use Rattle.pl_journal.specs.Savable.{IsSavable};
 
 use pl_inputs::{Inputs, load_inputs};
-use pl_one_edge:::{PlayError, Played, play, every_entry_can_be_saved, hosts_do_what_is_asked, one_lossy_switch};
+use pl_one_edge::{PlayError, Played, play, every_entry_can_be_saved, hosts_do_what_is_asked, one_lossy_switch};
 use crate::running::texts::texts_of;
 use pl_output::save_all;
 use pl_inputs::Status;

@@ -11,7 +11,7 @@ mod refusals;
 
 use crate::{OneFrame, Silent};
 use pl_journal::{Entry, write_line};
-use pl_world:::{Event, QueueName, Limits, StepError};
+use pl_world::{Event, QueueName, Limits, StepError};
 use pl_core::SwitchCore;
 use pl_schedule::World;
 use pl_wiring::{HostNo, SwitchNo, Wiring};

@@ -11,7 +11,7 @@ ghost use Rattle.pl_world.specs.WorldRule.{Delivers, Fails, Happens, IsRepaired,
 use pl_world_parts::link_of;
 use pl_world_parts::Urge;
 use crate::world::World;
-use pl_world:::{Stand, StepError, Event, QueueName};
+use pl_world::{Stand, StepError, Event, QueueName};
 use pl_core::{HostCore, ManagerCore, SwitchCore};
 use pl_frame::Memory;
 use pl_wiring::SwitchNo;

@@ -39,7 +39,7 @@ impl Model for Wiring {
 
 impl Wiring {
     /// The wiring of a plan, with links in link order.
-    pub(crate) fn new(
+    pub fn new(
         alloc: Global,
         k: u8,
         ids: Vec<SwitchId>,

@@ -8,17 +8,18 @@ use Rattle.pl_core.specs.SwitchInputs.SwitchInput.{Comes, Says, Tick}
 use Rattle.pl_core.specs.SwitchViews.{Grant, Source, SwitchView}
 use Rattle.pl_layouts.specs.Control.{is_control}
 
--- What acts have said so far of the frame that they speak of: there is none yet; it waits for its end; it was passed on, maybe more than once; it
--- was taken or dropped; or something was said that cannot be.
+-- What acts have said so far of the frame that they speak of: there is none yet; it waits for its end; it was redirected, and waits; it was
+-- passed on, maybe more than once; it was taken or dropped; or something was said that cannot be.
 pub data Speech : Type 0 where
   Silent : Speech
   Waiting : Speech
+  Redirected : Speech
   Passed : Speech
   Ended : Speech
   Wrong : Speech
 
--- The frame that was received, or made, is passed on one or more times, or taken or dropped once. Before that it may be redirected. Then
--- another one may be made.
+-- The frame that was received, or made, is passed on one or more times, or taken or dropped once. Before that it may be redirected, and then
+-- nothing is granted until it goes on. Then another one may be made. Control frames and messages to the manager stand anywhere.
 abbrev pub speech_after : Speech → Act → Speech
 speech_after Silent (Control port frame) = Silent
 speech_after Silent (Tell told) = Silent
@@ -27,12 +28,22 @@ speech_after Silent (Make frame) = Waiting
 speech_after Waiting (Control port frame) = Waiting
 speech_after Waiting (Tell told) = Waiting
 speech_after Waiting (GrantAct pmac amac) = Waiting
-speech_after Waiting (Redirect old new) = Waiting
+speech_after Waiting (Redirect old new) = Redirected
 speech_after Waiting (Pass port frame) = Passed
 speech_after Waiting Take = Ended
 speech_after Waiting (Drop cause) = Ended
+speech_after Redirected (Control port frame) = Redirected
+speech_after Redirected (Tell told) = Redirected
+speech_after Redirected (Redirect old new) = Redirected
+speech_after Redirected (Pass port frame) = Passed
+speech_after Redirected Take = Ended
+speech_after Redirected (Drop cause) = Ended
+speech_after Passed (Control port frame) = Passed
+speech_after Passed (Tell told) = Passed
 speech_after Passed (Pass port frame) = Passed
 speech_after Passed (Make frame) = Waiting
+speech_after Ended (Control port frame) = Ended
+speech_after Ended (Tell told) = Ended
 speech_after Ended (Make frame) = Waiting
 speech_after _ _ = Wrong
 
@@ -43,6 +54,7 @@ speech start acts = fold speech_after start acts
 abbrev pub is_said : Speech → Bool
 is_said Silent = true
 is_said Waiting = false
+is_said Redirected = false
 is_said Passed = true
 is_said Ended = true
 is_said Wrong = false
@@ -70,9 +82,11 @@ pub record IsMade (frame : List ℕ) : Type 0 where
   pub kind : is_control frame ≡ false
   pub whole : IsWhole frame
 
--- Control frames go out as control frames and data frames as data frames, by ports that are there.
+-- Control frames go out as control frames and data frames as data frames, by ports that are there. So is the port of an address that is
+-- granted.
 abbrev pub IsFit : ℕ → Act → Type 0
 IsFit k (Control port frame) = IsSent k port true frame
+IsFit k (GrantAct pmac amac) = pmac.port < k
 IsFit k (Pass port frame) = IsSent k port false frame
 IsFit k (Make frame) = IsMade frame
 IsFit k act = Unit {0}

@@ -12,7 +12,7 @@ use Rattle.pl_switch_rule.proofs.Managed.{accounted_answer, accounted_flood, acc
 
 handles_frames : (choose : Choice) → IsChoice choose → HandlesFrames choose
 handles_frames choose is_choice = record {
-  frames = λ v port frame shaped coming kind. data_comes_ends choose v port frame is_choice shaped (record { kind = kind; whole = coming.whole });
+  frames = λ v port frame shaped coming kind. data_comes_ends choose v port frame is_choice shaped coming.within (record { kind = kind; whole = coming.whole });
   answer = λ v asker asker_ip ip pmac shaped. accounted_answer choose v asker asker_ip ip pmac is_choice shaped;
   flood = accounted_flood choose;
   invalidate = accounted_invalidate choose;

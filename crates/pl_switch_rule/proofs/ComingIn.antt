@@ -1,5 +1,5 @@
 -- A data frame that comes at a switch ends in that step.
-use Rattle.std.proofs.Common.{ℕ, ◌&&◌, ◌||◌, not, Bool, true, false, if◌then◌else◌, List, [], ◌∷◌, Option, Some, None, is_some, is_none}
+use Rattle.std.proofs.Common.{ℕ, ◌<◌, ◌&&◌, ◌||◌, not, Bool, true, false, if◌then◌else◌, List, [], ◌∷◌, Option, Some, None, is_some, is_none, sym, subst}
 use Rattle.pl_frame.specs.Ethernet.{destination_of, source_of}
 use Rattle.pl_pmac.specs.declared.pmac.Pmac.{Pmac}
 use Rattle.pl_core.specs.declared.acts.Act.TheVariants.{Drop}
@@ -82,8 +82,8 @@ takes_in_or_spent_ends choose port frame v is_choice shaped made =
     (takes_in_ends choose port frame v is_choice shaped made)
 
 pub comes_from_host_ends : (choose : Choice) (v : SwitchView) (port : ℕ) (frame : List ℕ) → IsChoice choose → IsShaped v →
-    IsMade frame → IsEnding v (comes_from_host choose v port frame)
-comes_from_host_ends choose v port frame is_choice shaped made =
+    port < v.k → IsMade frame → IsEnding v (comes_from_host choose v port frame)
+comes_from_host_ends choose v port frame is_choice shaped within made =
     let learns : SwitchView → SwitchStep = λ w. learns_source w port frame in
     let known : SwitchStep = finds_host v port ▹ learns in
     if_ends v (is_known v.place.level 1 || is_known v.place.level 2) (does v (Drop NotPlaced ∷ []))
@@ -91,7 +91,7 @@ comes_from_host_ends choose v port frame is_choice shaped made =
     (drop_ends v NotPlaced shaped)
     (quiet_then_ending v known (takes_in_or_spent choose port frame)
     (quiet_then_quiet v (finds_host v port) learns (quiet_finds_host v port shaped)
-    (λ w same. quiet_learns_source w port frame same.shaped made.whole.low))
+    (λ w same. quiet_learns_source w port frame same.shaped (subst (λ k. port < k) (sym same.k) within) made.whole.low))
     (λ w same. takes_in_or_spent_ends choose port frame w is_choice same.shaped made))
 
 pub comes_from_switch_ends : (choose : Choice) (v : SwitchView) (port : ℕ) (frame : List ℕ) → IsChoice choose → IsShaped v → IsMade frame →
@@ -106,7 +106,7 @@ comes_from_switch_ends choose v port frame is_choice shaped made =
     (forwards_group_ends v (came_by v port) frame shaped made) (forwards_ends choose v (came_by v port) frame is_choice shaped made))
 
 pub data_comes_ends : (choose : Choice) (v : SwitchView) (port : ℕ) (frame : List ℕ) → IsChoice choose → IsShaped v →
-    IsMade frame → IsEnding v (data_comes choose v port frame)
-data_comes_ends choose v port frame is_choice shaped made =
+    port < v.k → IsMade frame → IsEnding v (data_comes choose v port frame)
+data_comes_ends choose v port frame is_choice shaped within made =
     if_ends v (is_open_to_hosts (port_of v port)) (comes_from_host choose v port frame) (comes_from_switch choose v port frame)
-    (comes_from_host_ends choose v port frame is_choice shaped made) (comes_from_switch_ends choose v port frame is_choice shaped made)
+    (comes_from_host_ends choose v port frame is_choice shaped within made) (comes_from_switch_ends choose v port frame is_choice shaped made)

@@ -3,20 +3,20 @@ use Rattle.std.proofs.Common.{◌≡◌, ℕ, ◌-◌, ◌<◌, ◌==◌, zero, 
 use Rattle.std.proofs.lemmas.Bool.{cond_both}
 use Rattle.std.specs.List.{AllByRecursion}
 use Rattle.pl_frame.specs.declared.address.Ip4.{Ip4}
-use Rattle.pl_frame.specs.Ethernet.{with_destination}
+use Rattle.pl_frame.specs.Ethernet.{destination_of, with_destination}
 use Rattle.pl_pmac.specs.declared.pmac.Pmac.{Pmac}
-use Rattle.pl_pmac.specs.Pmac.{mac_of}
+use Rattle.pl_pmac.specs.Pmac.{mac_of, pmac_of}
 use Rattle.pl_core.specs.declared.acts.Act.{Act}
 use Rattle.pl_core.specs.declared.acts.Act.TheVariants.{Redirect}
 use Rattle.pl_switch_rule.specs.declared.came.Came.TheVariants.{FromHost}
 use Rattle.pl_journal.specs.declared.cause.Cause.TheVariants.{NoAddress}
 use Rattle.pl_core.specs.declared.trap.Trap.{Trap}
 use Rattle.pl_switch_rule.specs.Delivering.{addresses, arrives_home, begins, comes_home, delivers, delivers_or_redirects, delivers_to, destination, goes_on, if_newer, is_trapped, last_trap, makes, newer_address, redirects, redirects_on, tells_newer, tells_sender, trap_for}
-use Rattle.pl_switch_rule.specs.Forwarding.{Choice, forwards}
+use Rattle.pl_switch_rule.specs.Forwarding.{Choice, candidates_by, forwards, leaves_by}
 use Rattle.pl_layouts.specs.Frames.{arriving, is_arp}
 use Rattle.pl_switch_rule.specs.Granting.{grant_number, granted, grants_at, is_local}
 use Rattle.pl_core.specs.Accounting.{HasMac, IsFit, IsMade, IsShaped, IsWhole, speech}
-use Rattle.pl_core.specs.Accounting.Speech.{Waiting}
+use Rattle.pl_core.specs.Accounting.Speech.{Redirected, Waiting}
 use Rattle.pl_switch_rule.specs.Steps.{SwitchStep, does, ◌▹◌}
 use Rattle.pl_switch_rule.specs.SwitchRule.{IsChoice}
 use Rattle.pl_core.specs.SwitchViews.{Grant, SwitchView}
@@ -76,56 +76,74 @@ delivers_ends v frame shaped made =
 
 -- Redirection.
 
--- a part after which the frame waits as before
-pub record IsWaiting (v : SwitchView) (s : SwitchStep) : Type 0 where
-  pub waiting : speech Waiting s.acts ≡ Waiting
+-- a part after which the frame waits, and was redirected
+pub record IsRedirecting (v : SwitchView) (s : SwitchStep) : Type 0 where
+  pub redirected : speech Waiting s.acts ≡ Redirected
   pub fit : AllByRecursion (IsFit v.k) s.acts
   pub same : IsSame v s.view
 
-pub waiting_then_ending : (v : SwitchView) (s : SwitchStep) (next : SwitchView → SwitchStep) → IsWaiting v s →
-    ((w : SwitchView) → IsSame v w → IsEnding w (next w)) → IsEnding v (s ▹ next)
-waiting_then_ending v s next a follows = let b = follows s.view a.same in record {
-  ends = subst HasEnded (sym (speech_append Waiting s.acts (next s.view).acts ∙ ap (λ x. speech x (next s.view).acts) a.waiting)) b.ends;
+-- a part that ends such a frame
+pub record IsEndingOn (v : SwitchView) (s : SwitchStep) : Type 0 where
+  pub ends : HasEnded (speech Redirected s.acts)
+  pub fit : AllByRecursion (IsFit v.k) s.acts
+  pub same : IsSame v s.view
+
+pub redirecting_then_ending : (v : SwitchView) (s : SwitchStep) (next : SwitchView → SwitchStep) → IsRedirecting v s →
+    ((w : SwitchView) → IsSame v w → IsEndingOn w (next w)) → IsEnding v (s ▹ next)
+redirecting_then_ending v s next a follows = let b = follows s.view a.same in record {
+  ends = subst HasEnded (sym (speech_append Waiting s.acts (next s.view).acts ∙ ap (λ x. speech x (next s.view).acts) a.redirected)) b.ends;
   fit = all_append (IsFit v.k) s.acts (next s.view).acts a.fit (fit_at v s.view (next s.view).acts a.same b.fit);
   same = same_then v s.view (next s.view).view a.same b.same;
 }
 
 -- acts that all redirect
 pub record AreRedirects (k : ℕ) (acts : List Act) : Type 0 where
-  pub waiting : speech Waiting acts ≡ Waiting
+  pub redirected : speech Redirected acts ≡ Redirected
   pub fit : AllByRecursion (IsFit k) acts
 
 redirects_more : (k : ℕ) (old new : Pmac) (acts : List Act) → AreRedirects k acts → AreRedirects k (Redirect old new ∷ acts)
-redirects_more k old new acts are = record { waiting = are.waiting; fit = (tt, are.fit) }
+redirects_more k old new acts are = record { redirected = are.redirected; fit = (tt, are.fit) }
 
 on_redirects : (k : ℕ) (further : Trap → List Act) (old : Pmac) (o : Option Trap) → ((trap : Trap) → AreRedirects k (further trap)) →
     AreRedirects k (redirects_on further old o)
-on_redirects k further old None are = record { waiting = refl; fit = tt }
+on_redirects k further old None are = record { redirected = refl; fit = tt }
 on_redirects k further old (Some trap) are = redirects_more k old trap.new (further trap) (are trap)
 
 are_redirects : (k n : ℕ) (v : SwitchView) (trap : Trap) → AreRedirects k (redirects n v trap)
 unfolding redirects
-are_redirects k zero v trap = record { waiting = refl; fit = tt }
+are_redirects k zero v trap = record { redirected = refl; fit = tt }
 are_redirects k (suc n) v trap =
     on_redirects k (redirects n v) trap.new (if_newer trap (trap_for v trap.new)) (λ next. are_redirects k n v next)
 
+-- what ends a frame at once ends a redirected one
+delivers_ends_on : (v : SwitchView) (address : Pmac) (frame : List ℕ) (o : Option Grant) → IsEnding v (delivers_to v address frame o) →
+    IsEndingOn v (delivers_to v address frame o)
+delivers_ends_on v address frame None e = record { ends = inr refl; fit = e.fit; same = e.same }
+delivers_ends_on v address frame (Some grant) e = record { ends = inl refl; fit = e.fit; same = e.same }
+
+leaves_ends_on : (v : SwitchView) (frame : List ℕ) (o : Option ℕ) → IsEnding v (leaves_by v frame o) → IsEndingOn v (leaves_by v frame o)
+leaves_ends_on v frame None e = record { ends = inr refl; fit = e.fit; same = e.same }
+leaves_ends_on v frame (Some port) e = record { ends = inl refl; fit = e.fit; same = e.same }
+
 pub goes_on_ends : (choose : Choice) (v : SwitchView) (frame : List ℕ) → IsChoice choose → IsShaped v → IsMade frame →
-    IsEnding v (goes_on choose v frame)
+    IsEndingOn v (goes_on choose v frame)
 goes_on_ends choose v frame is_choice shaped made =
-    cond_both (is_local v (destination frame)) (delivers v frame) (forwards choose v (Some FromHost) frame) (IsEnding v)
-    (λ yes. delivers_ends v frame shaped made) (λ other. forwards_ends choose v (Some FromHost) frame is_choice shaped made)
+    let ports : List ℕ = candidates_by v (pmac_of (destination_of frame)) (Some FromHost) in
+    cond_both (is_local v (destination frame)) (delivers v frame) (forwards choose v (Some FromHost) frame) (IsEndingOn v)
+    (λ yes. delivers_ends_on v (destination frame) frame (granted v (destination frame)) (delivers_ends v frame shaped made))
+    (λ other. leaves_ends_on v frame (choose ports frame) (forwards_ends choose v (Some FromHost) frame is_choice shaped made))
 
 redirected : (v : SwitchView) (frame : List ℕ) (trap : Trap) → IsShaped v →
-    IsWaiting v (does v (Redirect (destination frame) trap.new ∷ redirects (addresses v) v trap))
+    IsRedirecting v (does v (Redirect (destination frame) trap.new ∷ redirects (addresses v) v trap))
 redirected v frame trap shaped =
     let are = redirects_more v.k (destination frame) trap.new (redirects (addresses v) v trap) (are_redirects v.k (addresses v) v trap) in
-    record { waiting = are.waiting; fit = are.fit; same = same_self v shaped }
+    record { redirected = are.redirected; fit = are.fit; same = same_self v shaped }
 
 pub is_trapped_ends : (choose : Choice) (v : SwitchView) (frame : List ℕ) (trap : Trap) → IsChoice choose → IsShaped v → IsMade frame →
     IsEnding v (is_trapped choose v frame trap)
 is_trapped_ends choose v frame trap is_choice shaped made =
     let to = mac_of (last_trap (addresses v) v trap).new in
-    waiting_then_ending v (does v (Redirect (destination frame) trap.new ∷ redirects (addresses v) v trap))
+    redirecting_then_ending v (does v (Redirect (destination frame) trap.new ∷ redirects (addresses v) v trap))
     (λ w. goes_on choose w (with_destination frame to)) (redirected v frame trap shaped)
     (λ w same. goes_on_ends choose w (with_destination frame to) is_choice same.shaped
     (with_destination_made frame to made (six_of_pmac (last_trap (addresses v) v trap).new)))

@@ -1,5 +1,5 @@
 -- Granting addresses, and learning of hosts, is quiet.
-use Rattle.std.proofs.Common.{◌≡◌, ◌≤◌, ◌+◌, ◌-◌, ◌==◌, ℕ, Bool, true, false, if◌then◌else◌, List, [], ◌∷◌, ◌++◌, length, drop, Option, Some, None, slice_set, arith}
+use Rattle.std.proofs.Common.{◌≡◌, ◌≤◌, ◌<◌, ◌+◌, ◌-◌, ◌==◌, ℕ, Bool, true, false, if◌then◌else◌, List, [], ◌∷◌, ◌++◌, length, drop, Option, Some, None, slice_set, sym, subst, arith}
 use Rattle.std.specs.List.{AllByRecursion, slice_get}
 use Rattle.std.specs.Option.{IfSome}
 use Rattle.std.proofs.lemmas.List.{length-take-le, length-drop}
@@ -39,12 +39,13 @@ same_with_grant v address grant s mac =
     same_with_grants v address.port (slice_set (grants_at v address.port) (address.vmid - 1) grant) s
     (all_set HasMac (grants_at v address.port) (address.vmid - 1) grant (grants_have_macs v address.port s) mac)
 
-pub quiet_grants_next : (v : SwitchView) (port : ℕ) (amac : Mac) (ip : Option Ip4) → IsShaped v → length amac.0 ≡ 6 → IsQuiet v (grants_next v port amac ip)
-quiet_grants_next v port amac ip s mac =
+pub quiet_grants_next : (v : SwitchView) (port : ℕ) (amac : Mac) (ip : Option Ip4) → IsShaped v → port < v.k → length amac.0 ≡ 6 →
+    IsQuiet v (grants_next v port amac ip)
+quiet_grants_next v port amac ip s within mac =
     let address = address_at_port v port (length (grants_at v port) + 1) in
     let grants = grants_at v port ++ new_grant amac ip ∷ [] in
     quiet_step v (with_grants v port grants) (GrantAct address amac ∷ Tell (Learned address amac ip) ∷ [])
-    (same_with_grants v port grants s (all_append HasMac (grants_at v port) (new_grant amac ip ∷ []) (grants_have_macs v port s) (mac, tt))) (tt, (tt, tt))
+    (same_with_grants v port grants s (all_append HasMac (grants_at v port) (new_grant amac ip ∷ []) (grants_have_macs v port s) (mac, tt))) (within, (tt, tt))
 
 pub quiet_learns_ip : (v : SwitchView) (address : Pmac) (grant : Option Grant) (ip : Option Ip4) → IsShaped v → IfSome grant HasMac →
     IsQuiet v (learns_ip v address grant ip)
@@ -56,13 +57,13 @@ quiet_learns_ip v address (Some grant) (Some ip) s mac =
     quiet_either v (same_ip grant.ip ip) (rests v) told (λ h. quiet_self v s)
     (λ h. quiet_step v (with_grant v address new) (Tell (Learned address grant.amac (Some ip)) ∷ []) (same_with_grant v address new s mac) (tt, tt))
 
-pub quiet_grants_or_learns : (v : SwitchView) (port : ℕ) (amac : Mac) (ip : Option Ip4) (vmid : Option ℕ) → IsShaped v → length amac.0 ≡ 6 →
+pub quiet_grants_or_learns : (v : SwitchView) (port : ℕ) (amac : Mac) (ip : Option Ip4) (vmid : Option ℕ) → IsShaped v → port < v.k → length amac.0 ≡ 6 →
     IsQuiet v (grants_or_learns v port amac ip vmid)
-quiet_grants_or_learns v port amac ip (Some vmid) s mac =
+quiet_grants_or_learns v port amac ip (Some vmid) s within mac =
     quiet_learns_ip v (address_at_port v port vmid) (grant_number (grants_at v port) vmid) ip s
     (numbered_has_mac (grants_at v port) vmid (grants_have_macs v port s))
-quiet_grants_or_learns v port amac ip None s mac =
-    quiet_either v (is_port_spent v port) (rests v) (grants_next v port amac ip) (λ h. quiet_self v s) (λ h. quiet_grants_next v port amac ip s mac)
+quiet_grants_or_learns v port amac ip None s within mac =
+    quiet_either v (is_port_spent v port) (rests v) (grants_next v port amac ip) (λ h. quiet_self v s) (λ h. quiet_grants_next v port amac ip s within mac)
 
 pub quiet_remembers : (v : SwitchView) (port : ℕ) (amac : Mac) (ip : Option Ip4) → IsShaped v → length amac.0 ≡ 6 → IsQuiet v (remembers v port amac ip)
 quiet_remembers v port amac ip s mac =
@@ -76,22 +77,27 @@ quiet_forgets v port s = quiet_rests v (record v { remembered = slice_set v.reme
 pub source_has_six : (frame : List ℕ) → 14 ≤ length frame → length (source_of frame).0 ≡ 6
 source_has_six frame long = length-take-le 6 (drop 6 frame) (omega (arith, length-drop 6 frame))
 
-pub quiet_learns_source : (v : SwitchView) (port : ℕ) (frame : List ℕ) → IsShaped v → 14 ≤ length frame → IsQuiet v (learns_source v port frame)
-quiet_learns_source v port frame s long =
+pub quiet_learns_source : (v : SwitchView) (port : ℕ) (frame : List ℕ) → IsShaped v → port < v.k → 14 ≤ length frame →
+    IsQuiet v (learns_source v port frame)
+quiet_learns_source v port frame s within long =
     quiet_either v (is_placed v.place) (grants_or_learns v port (source_of frame) (sender_ip frame) (in_use (grants_at v port) (source_of frame)))
     (remembers v port (source_of frame) (sender_ip frame))
-    (λ h. quiet_grants_or_learns v port (source_of frame) (sender_ip frame) (in_use (grants_at v port) (source_of frame)) s (source_has_six frame long))
+    (λ h. quiet_grants_or_learns v port (source_of frame) (sender_ip frame) (in_use (grants_at v port) (source_of frame)) s within
+    (source_has_six frame long))
     (λ h. quiet_remembers v port (source_of frame) (sender_ip frame) s (source_has_six frame long))
 
-pub quiet_grants_source : (v : SwitchView) (port : ℕ) (source : Option Source) → IsShaped v → RemembersMac source → IsQuiet v (grants_source v port source)
-quiet_grants_source v port None s mac = quiet_self v s
-quiet_grants_source v port (Some source) s mac = quiet_grants_or_learns v port source.amac source.ip (in_use (grants_at v port) source.amac) s mac
+pub quiet_grants_source : (v : SwitchView) (port : ℕ) (source : Option Source) → IsShaped v → port < v.k → RemembersMac source →
+    IsQuiet v (grants_source v port source)
+quiet_grants_source v port None s within mac = quiet_self v s
+quiet_grants_source v port (Some source) s within mac =
+    quiet_grants_or_learns v port source.amac source.ip (in_use (grants_at v port) source.amac) s within mac
 
-pub quiet_grants_remembered : (ports : List ℕ) (v : SwitchView) → IsShaped v → IsQuiet v (grants_remembered ports v)
+pub quiet_grants_remembered : (ports : List ℕ) (v : SwitchView) → IsShaped v → AllByRecursion (λ port. port < v.k) ports →
+    IsQuiet v (grants_remembered ports v)
 unfolding grants_remembered
-quiet_grants_remembered [] v s = quiet_self v s
-quiet_grants_remembered (port ∷ ports) v s =
+quiet_grants_remembered [] v s within = quiet_self v s
+quiet_grants_remembered (port ∷ ports) v s within =
     quiet_then_quiet v (grants_source v port (remembered_at v port) ▹ forgets port) (grants_remembered ports)
     (quiet_then_quiet v (grants_source v port (remembered_at v port)) (forgets port)
-    (quiet_grants_source v port (remembered_at v port) s (source_has_mac v port s)) (λ w same. quiet_forgets w port same.shaped))
-    (λ w same. quiet_grants_remembered ports w same.shaped)
+    (quiet_grants_source v port (remembered_at v port) s within.0 (source_has_mac v port s)) (λ w same. quiet_forgets w port same.shaped))
+    (λ w same. quiet_grants_remembered ports w same.shaped (subst (λ k. AllByRecursion (λ port. port < k) ports) (sym same.k) within.1))

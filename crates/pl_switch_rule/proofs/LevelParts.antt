@@ -1,5 +1,5 @@
 -- What a switch tells the manager of its place, and how it learns it, is quiet.
-use Rattle.std.proofs.Common.{◌&&◌, not, ℕ, Bool, true, if◌then◌else◌, [], ◌∷◌, ◌++◌, Option, Some, None, is_none}
+use Rattle.std.proofs.Common.{◌&&◌, not, ℕ, Bool, true, if◌then◌else◌, [], ◌∷◌, ◌++◌, Option, Some, None, is_none, arith}
 use Rattle.std.specs.List.{flat_map}
 use Rattle.pl_frame.specs.declared.address.SwitchId.{SwitchId}
 use Rattle.pl_core.specs.declared.acts.Act.TheVariants.{Tell}
@@ -17,7 +17,7 @@ use Rattle.pl_switch_rule.specs.Steps.{does, rests}
 use Rattle.pl_core.specs.SwitchViews.{SwitchView}
 use Rattle.pl_switch_rule.specs.Telling.{changes_told, link_to, link_told, place_told, pod_wanted}
 use Rattle.pl_switch_rule.proofs.StepParts.{IsQuiet, IsSame, all_append, quiet_then_quiet, same_then}
-use Rattle.pl_switch_rule.proofs.Shapes.{same_self, same_with_port}
+use Rattle.pl_switch_rule.proofs.Shapes.{all_range, same_self, same_with_port}
 use Rattle.pl_switch_rule.proofs.QuietActs.{AreQuiet, IsQuietAct, quiet_either, quiet_flat_map, quiet_if, quiet_self, quiet_step, same_either}
 use Rattle.pl_switch_rule.proofs.GrantingParts.{quiet_grants_remembered}
 use Rattle.pl_switch_rule.proofs.PositionParts.{same_notes_position, same_with_place}
@@ -48,7 +48,7 @@ quiet_changes_told k old new =
 pub quiet_settles_in : (old : Place) (v : SwitchView) → IsShaped v → IsQuiet v (settles_in old v)
 quiet_settles_in old v s =
     quiet_either v (has_become_placed old v.place) (grants_remembered (ports_of_switch v.k) v) (rests v)
-    (λ h. quiet_grants_remembered (ports_of_switch v.k) v s) (λ h. quiet_self v s)
+    (λ h. quiet_grants_remembered (ports_of_switch v.k) v s (all_range v.k 0 v.k (omega arith))) (λ h. quiet_self v s)
 
 pub quiet_changes_to : (old new : SwitchView) → IsSame old new → IsQuiet old (changes_to old new)
 quiet_changes_to old new same =

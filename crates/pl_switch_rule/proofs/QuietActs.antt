@@ -1,5 +1,5 @@
 -- Acts that speak of no frame's end: control frames, messages to the manager, grants.
-use Rattle.std.proofs.Common.{◌≡◌, ℕ, Bool, true, false, List, [], ◌∷◌, map, if◌then◌else◌, refl}
+use Rattle.std.proofs.Common.{◌≡◌, ◌<◌, ℕ, Bool, true, false, List, [], ◌∷◌, map, if◌then◌else◌, refl}
 use Rattle.std.specs.List.{AllByRecursion, flat_map}
 use Rattle.pl_core.specs.declared.acts.Act.{Act}
 use Rattle.pl_core.specs.declared.acts.Act.TheVariants.{Control, Drop, Grant as GrantAct, Make, Pass, Redirect, Take, Tell}
@@ -13,7 +13,7 @@ use Rattle.pl_switch_rule.proofs.Shapes.{same_self}
 abbrev pub IsQuietAct : ℕ → Act → Type 0
 IsQuietAct k (Control port frame) = IsSent k port true frame
 IsQuietAct k (Tell told) = Unit {0}
-IsQuietAct k (GrantAct pmac amac) = Unit {0}
+IsQuietAct k (GrantAct pmac amac) = pmac.port < k
 IsQuietAct k act = ⊥
 
 abbrev pub AreQuiet : ℕ → List Act → Type 0
@@ -45,7 +45,7 @@ fit_acts : (k : ℕ) (acts : List Act) → AreQuiet k acts → AllByRecursion (I
 fit_acts k [] quiet = tt
 fit_acts k (Control port frame ∷ acts) quiet = (quiet.0, fit_acts k acts quiet.1)
 fit_acts k (Tell told ∷ acts) quiet = (tt, fit_acts k acts quiet.1)
-fit_acts k (GrantAct pmac amac ∷ acts) quiet = (tt, fit_acts k acts quiet.1)
+fit_acts k (GrantAct pmac amac ∷ acts) quiet = (quiet.0, fit_acts k acts quiet.1)
 fit_acts k (Drop cause ∷ acts) quiet = absurd quiet.0
 fit_acts k (Make frame ∷ acts) quiet = absurd quiet.0
 fit_acts k (Pass port frame ∷ acts) quiet = absurd quiet.0

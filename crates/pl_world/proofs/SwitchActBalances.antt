@@ -17,7 +17,7 @@ use Rattle.pl_core.specs.declared.messages.ToManager.{ToManager}
 use Rattle.pl_core.specs.declared.messages.ToSwitch.{ToSwitch}
 use Rattle.pl_layouts.specs.declared.place.Place.{Place}
 use Rattle.pl_core.specs.Accounting.{IsFit, IsSent, IsShaped, Speech as Said, is_said, speech_after}
-use Rattle.pl_core.specs.Accounting.Speech.{Ended as SaidEnded, Passed as SaidPassed, Silent as SaidNone, Waiting as SaidWaiting, Wrong}
+use Rattle.pl_core.specs.Accounting.Speech.{Ended as SaidEnded, Passed as SaidPassed, Redirected as SaidRedirected, Silent as SaidNone, Waiting as SaidWaiting, Wrong}
 use Rattle.pl_journal.specs.Flights.{begun, ends}
 use Rattle.pl_core.specs.HostDuties.{HoldsData}
 use Rattle.pl_core.specs.HostViews.{HostView}
@@ -100,7 +100,8 @@ owed_by Over id = 0
 
 abbrev pub said_by : Speech → Said
 said_by Silent = SaidNone
-said_by (Waiting number again) = SaidWaiting
+said_by (Waiting number false) = SaidWaiting
+said_by (Waiting number true) = SaidRedirected
 said_by (Passed number) = SaidPassed
 said_by Over = SaidEnded
 
@@ -282,6 +283,7 @@ wrong_is_not_said (a ∷ acts) = rw (wrong_stays a) (wrong_is_not_said acts)
 said_is_legal : (said : Said) (acts : List Act) → is_said (fold speech_after said acts) ≡ true → IsLegal said
 said_is_legal SaidNone acts h = tt
 said_is_legal SaidWaiting acts h = tt
+said_is_legal SaidRedirected acts h = tt
 said_is_legal SaidPassed acts h = tt
 said_is_legal SaidEnded acts h = tt
 said_is_legal Wrong acts h = let never = wrong_is_not_said acts in absurd (cc)
@@ -299,9 +301,11 @@ act_steady s k w Silent late act.Take fit legal st = absurd legal
 act_steady s k w Silent late (act.Drop cause) fit legal st = absurd legal
 act_steady s k w (Waiting id again) late (act.Control port frame) fit legal st = control_steady s k w (Waiting id again) late port frame fit st
 act_steady s k w (Waiting id again) late (act.Tell told) fit legal st = tell_steady s k w (Waiting id again) late told st
-act_steady s k w (Waiting id again) late (act.Grant pmac amac) fit legal st =
-    grant_steady s k w (Waiting id again) late pmac (host_of w.plan amac) st
-act_steady s k w (Waiting id again) late (act.Make frame) fit legal st = absurd legal
+act_steady s k w (Waiting id false) late (act.Grant pmac amac) fit legal st =
+    grant_steady s k w (Waiting id false) late pmac (host_of w.plan amac) st
+act_steady s k w (Waiting id true) late (act.Grant pmac amac) fit legal st = absurd legal
+act_steady s k w (Waiting id false) late (act.Make frame) fit legal st = absurd legal
+act_steady s k w (Waiting id true) late (act.Make frame) fit legal st = absurd legal
 act_steady s k w (Waiting id again) late (act.Redirect old new) fit legal st = redirect_steady s k w late id again old new st
 act_steady s k w (Waiting id again) late (act.Pass port frame) fit legal st =
     out_steady s k (crossed_again w s id again) late id port frame again fit (again_steady s k w (Waiting id again) late id again st)
@@ -309,16 +313,16 @@ act_steady s k w (Waiting id again) late act.Take fit legal st =
     end_steady s k (crossed_again w s id again) late id again (Taken id (switch_no s)) refl (λ i. refl) (again_steady s k w (Waiting id again) late id again st)
 act_steady s k w (Waiting id again) late (act.Drop cause) fit legal st =
     end_steady s k (crossed_again w s id again) late id again (Dropped id cause) refl (λ i. refl) (again_steady s k w (Waiting id again) late id again st)
-act_steady s k w (Passed id) late (act.Control port frame) fit legal st = absurd legal
-act_steady s k w (Passed id) late (act.Tell told) fit legal st = absurd legal
+act_steady s k w (Passed id) late (act.Control port frame) fit legal st = control_steady s k w (Passed id) late port frame fit st
+act_steady s k w (Passed id) late (act.Tell told) fit legal st = tell_steady s k w (Passed id) late told st
 act_steady s k w (Passed id) late (act.Grant pmac amac) fit legal st = absurd legal
 act_steady s k w (Passed id) late (act.Make frame) fit legal st = make_steady s k w (Passed id) late frame (λ i. refl) st
 act_steady s k w (Passed id) late (act.Redirect old new) fit legal st = absurd legal
 act_steady s k w (Passed id) late (act.Pass port frame) fit legal st = copy_steady s k w late id port frame fit st
 act_steady s k w (Passed id) late act.Take fit legal st = absurd legal
 act_steady s k w (Passed id) late (act.Drop cause) fit legal st = absurd legal
-act_steady s k w Over late (act.Control port frame) fit legal st = absurd legal
-act_steady s k w Over late (act.Tell told) fit legal st = absurd legal
+act_steady s k w Over late (act.Control port frame) fit legal st = control_steady s k w Over late port frame fit st
+act_steady s k w Over late (act.Tell told) fit legal st = tell_steady s k w Over late told st
 act_steady s k w Over late (act.Grant pmac amac) fit legal st = absurd legal
 act_steady s k w Over late (act.Make frame) fit legal st = make_steady s k w Over late frame (λ i. refl) st
 act_steady s k w Over late (act.Redirect old new) fit legal st = absurd legal
@@ -337,24 +341,32 @@ act_said s w Silent late (act.Redirect old new) legal = absurd legal
 act_said s w Silent late (act.Pass port frame) legal = absurd legal
 act_said s w Silent late act.Take legal = absurd legal
 act_said s w Silent late (act.Drop cause) legal = absurd legal
-act_said s w (Waiting id again) late (act.Control port frame) legal = refl
-act_said s w (Waiting id again) late (act.Tell told) legal = refl
-act_said s w (Waiting id again) late (act.Grant pmac amac) legal = refl
-act_said s w (Waiting id again) late (act.Make frame) legal = absurd legal
-act_said s w (Waiting id again) late (act.Redirect old new) legal = refl
-act_said s w (Waiting id again) late (act.Pass port frame) legal = refl
-act_said s w (Waiting id again) late act.Take legal = refl
-act_said s w (Waiting id again) late (act.Drop cause) legal = refl
-act_said s w (Passed id) late (act.Control port frame) legal = absurd legal
-act_said s w (Passed id) late (act.Tell told) legal = absurd legal
+act_said s w (Waiting id false) late (act.Control port frame) legal = refl
+act_said s w (Waiting id false) late (act.Tell told) legal = refl
+act_said s w (Waiting id false) late (act.Grant pmac amac) legal = refl
+act_said s w (Waiting id false) late (act.Make frame) legal = absurd legal
+act_said s w (Waiting id false) late (act.Redirect old new) legal = refl
+act_said s w (Waiting id false) late (act.Pass port frame) legal = refl
+act_said s w (Waiting id false) late act.Take legal = refl
+act_said s w (Waiting id false) late (act.Drop cause) legal = refl
+act_said s w (Waiting id true) late (act.Control port frame) legal = refl
+act_said s w (Waiting id true) late (act.Tell told) legal = refl
+act_said s w (Waiting id true) late (act.Grant pmac amac) legal = absurd legal
+act_said s w (Waiting id true) late (act.Make frame) legal = absurd legal
+act_said s w (Waiting id true) late (act.Redirect old new) legal = refl
+act_said s w (Waiting id true) late (act.Pass port frame) legal = refl
+act_said s w (Waiting id true) late act.Take legal = refl
+act_said s w (Waiting id true) late (act.Drop cause) legal = refl
+act_said s w (Passed id) late (act.Control port frame) legal = refl
+act_said s w (Passed id) late (act.Tell told) legal = refl
 act_said s w (Passed id) late (act.Grant pmac amac) legal = absurd legal
 act_said s w (Passed id) late (act.Make frame) legal = refl
 act_said s w (Passed id) late (act.Redirect old new) legal = absurd legal
 act_said s w (Passed id) late (act.Pass port frame) legal = refl
 act_said s w (Passed id) late act.Take legal = absurd legal
 act_said s w (Passed id) late (act.Drop cause) legal = absurd legal
-act_said s w Over late (act.Control port frame) legal = absurd legal
-act_said s w Over late (act.Tell told) legal = absurd legal
+act_said s w Over late (act.Control port frame) legal = refl
+act_said s w Over late (act.Tell told) legal = refl
 act_said s w Over late (act.Grant pmac amac) legal = absurd legal
 act_said s w Over late (act.Make frame) legal = refl
 act_said s w Over late (act.Redirect old new) legal = absurd legal
@@ -375,7 +387,8 @@ acts_steady s k w speech late (a ∷ acts) fits said st =
 
 owes_nothing : (speech : Speech) → is_said (said_by speech) ≡ true → (id : ℕ) → owed_by speech id ≡ 0
 owes_nothing Silent said id = refl
-owes_nothing (Waiting number again) said id = absurd (cc)
+owes_nothing (Waiting number false) said id = absurd (cc)
+owes_nothing (Waiting number true) said id = absurd (cc)
 owes_nothing (Passed number) said id = refl
 owes_nothing Over said id = refl
 

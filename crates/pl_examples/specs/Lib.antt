@@ -6,6 +6,7 @@ pub mod Endings
 pub mod FlowExamples
 pub mod VoteExamples
 pub mod SwitchExamples
+pub mod AccountingExamples
 pub mod EdgeExamples
 pub mod DiscoveryExamples
 pub mod HostExamples

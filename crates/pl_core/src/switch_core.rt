@@ -1,4 +1,4 @@
-ghost use Rattle.std.specs.Prelude.{◌≡◌, ◌↔◌, ◌<◌, ◌/◌, IfOk, OnOk, IsTrue, Some};
+ghost use Rattle.std.specs.Prelude.{◌≡◌, ◌↔◌, ◌<◌, ◌≤◌, ◌/◌, IfOk, OnOk, IsTrue, Some};
 ghost use Rattle.std.specs.Option.{option_copied};
 ghost use Rattle.pl_core.specs.SwitchFacts.{is_avoided, part_of, CanBoot, IsAnnounced, group_of_part, has_granted, holder_of, present_attempt, switch_at_boot};
 ghost use Rattle.pl_core.specs.Gains.{Gains};
@@ -21,7 +21,8 @@ pub trait SwitchFacts: Drop {
         ensures { result ≡ (view self.now).id };
 
     fn k(&self) -> u8
-        ensures { result ≡ (view self.now).k };
+        ensures known { result ≡ (view self.now).k }
+        ensures within { result ≤ 24 };
 
     fn place(&self) -> Place
         ensures { result ≡ (view self.now).place };

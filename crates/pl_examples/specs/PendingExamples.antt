@@ -3,6 +3,7 @@ use Rattle.std.specs.Prelude.{◌≡◌, ℕ, List, [], ◌∷◌, refl, slice_s
 use Rattle.pl_core.specs.declared.messages.ToManager.TheVariants.{PodWanted, Query}
 use Rattle.pl_core.specs.declared.messages.ToSwitch.TheVariants.{Flood, Pod}
 use Rattle.pl_core.specs.Announcements.{announcement}
+use Rattle.pl_layouts.specs.Control.{control_bytes, control_frame}
 use Rattle.pl_examples.specs.ExampleFrames.{pmac_a}
 use Rattle.pl_core.specs.SwitchFacts.{switch_at_boot}
 use Rattle.pl_world.specs.declared.item.Item.TheVariants.{Control, Data}
@@ -18,12 +19,12 @@ nothing_is_pending_at_first : pending start ≡ 0
 nothing_is_pending_at_first = refl
 
 a_message_that_is_sent_again_is_not_pending : pending (with_queue start 2 (Control e00_announces ∷ Data 1 [] ∷ [])) ≡ 0
-unfolding is_stale
+unfolding control_bytes control_frame is_stale
 a_message_that_is_sent_again_is_not_pending = refl
 
 -- out of port 0 of a0.0
 the_message_of_another_switch_is : pending (with_queue start 32 (Control e00_announces ∷ Data 1 [] ∷ [])) ≡ 1
-unfolding is_stale
+unfolding control_bytes control_frame is_stale
 the_message_of_another_switch_is = refl
 
 -- e0.0 asks who has an address, and wants a pod; all hosts are to be asked, and e0.1 gets its pod

@@ -34,6 +34,15 @@ put_at (Some mac) n front old rest long six has =
     ∙ ap (λ f. f ++ mac.0 ++ rest) (front_of n front (old ++ rest) long)
     ∙ append_assoc front mac.0 rest
 
+-- an address is put, or it is not
+put_if_true : (mac : Option Mac) (at : ℕ) (bytes : List ℕ) → put_if true mac at bytes ≡ put mac at bytes
+put_if_true None at bytes = refl
+put_if_true (Some mac) at bytes = refl
+
+put_if_false : (mac : Option Mac) (at : ℕ) (bytes : List ℕ) → put_if false mac at bytes ≡ bytes
+put_if_false None at bytes = refl
+put_if_false (Some mac) at bytes = refl
+
 -- a frame whose packet can be read, in its parts
 abbrev pub parts : List ℕ → List ℕ → List ℕ → List ℕ → List ℕ → List ℕ → List ℕ → List ℕ
 parts dst src head sha spa tha rest = dst ++ (src ++ (head ++ (sha ++ (spa ++ (tha ++ rest)))))
@@ -75,19 +84,21 @@ arriving_parts dst src head sha spa tha rest from to long six_from six_to =
     ) in
     let group_tha : (x : List ℕ) → parts dst src head sha spa x rest ≡ to_tha ++ (x ++ rest) = λ x. simp append_assoc in
     let group_sha : (x : List ℕ) → parts dst src head x spa tha' rest ≡ to_sha ++ (x ++ (spa ++ (tha' ++ rest))) = λ x. simp append_assoc in
-    let one : put to 32 (parts dst src head sha spa tha rest) ≡ parts dst src head sha spa tha' rest =
-    ap (put to 32) (group_tha tha) ∙ put_at to 32 to_tha tha rest n_tha long.tha six_to ∙ sym (group_tha tha') in
-    let two : put from 22 (parts dst src head sha spa tha' rest) ≡ parts dst src head sha' spa tha' rest =
-    ap (put from 22) (group_sha sha) ∙ put_at from 22 to_sha sha (spa ++ (tha' ++ rest)) n_sha long.sha six_from ∙ sym (group_sha sha') in
+    let one : put_if true to 32 (parts dst src head sha spa tha rest) ≡ parts dst src head sha spa tha' rest =
+    put_if_true to 32 (parts dst src head sha spa tha rest) ∙ ap (put to 32) (group_tha tha) ∙ put_at to 32 to_tha tha rest n_tha long.tha six_to ∙ sym (group_tha tha') in
+    let two : put_if true from 22 (parts dst src head sha spa tha' rest) ≡ parts dst src head sha' spa tha' rest =
+    put_if_true from 22 (parts dst src head sha spa tha' rest) ∙ ap (put from 22) (group_sha sha) ∙ put_at from 22 to_sha sha (spa ++ (tha' ++ rest)) n_sha long.sha six_from ∙ sym (group_sha sha') in
     let three = put_at from 6 dst src (head ++ (sha' ++ (spa ++ (tha' ++ rest)))) long.dst long.src six_from in
     let four = put_at to 0 [] dst (src' ++ (head ++ (sha' ++ (spa ++ (tha' ++ rest))))) refl long.dst six_to in
-    ap (λ f. put to 0 (put from 6 (put from 22 f))) one ∙ ap (λ f. put to 0 (put from 6 f)) two ∙ ap (put to 0) three ∙ four
+    ap (λ f. put to 0 (put from 6 (put_if true from 22 f))) one ∙ ap (λ f. put to 0 (put from 6 f)) two ∙ ap (put to 0) three ∙ four
 
 -- a frame in two addresses and what follows
 pub unreadable_parts : (dst src rest : List ℕ) (from to : Option Mac) → length dst ≡ 6 → length src ≡ 6 → HasSixBytes from → HasSixBytes to →
     arriving_by false (dst ++ (src ++ rest)) from to ≡ bytes_or to dst ++ (bytes_or from src ++ rest)
 unreadable_parts dst src rest from to six_dst six_src six_from six_to =
-    ap (put to 0) (put_at from 6 dst src rest six_dst six_src six_from) ∙ put_at to 0 [] dst (bytes_or from src ++ rest) refl six_dst six_to
+    let frame : List ℕ = dst ++ (src ++ rest) in
+    ap (λ f. put to 0 (put from 6 (put_if false from 22 f))) (put_if_false to 32 frame) ∙ ap (λ f. put to 0 (put from 6 f)) (put_if_false from 22 frame)
+    ∙ ap (put to 0) (put_at from 6 dst src rest six_dst six_src six_from) ∙ put_at to 0 [] dst (bytes_or from src ++ rest) refl six_dst six_to
 
 -- the next n bytes from a place on, and what follows them
 next : (n at : ℕ) (p : List ℕ) → drop at p ≡ take n (drop at p) ++ drop (at + n) p

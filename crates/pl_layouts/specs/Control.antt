@@ -46,7 +46,7 @@ abbrev pub vote_bytes : SwitchId → Vote → List ℕ
 vote_bytes id v =
     1 ∷ 3 ∷ (big_bytes 6 id.0 ++ (big_bytes 4 v.attempt ++ (v.position ∷ bit v.granted ∷ (big_bytes 6 (id_code v.holder) ++ (bit v.fixed ∷ [])))))
 
-abbrev pub control_bytes : Control → List ℕ
+unfoldable pub control_bytes : Control → List ℕ
 control_bytes (control.Ldm id m) = ldm_bytes id m
 control_bytes (control.Proposal id p) = proposal_bytes id p
 control_bytes (control.Vote id v) = vote_bytes id v
@@ -65,7 +65,7 @@ abbrev pub is_control : List ℕ → Bool
 is_control frame = kind_of frame == 0x88b5
 
 -- the whole frame: to the group of control frames, from the six bytes of the sender's id
-abbrev pub control_frame : Control → List ℕ
+unfoldable pub control_frame : Control → List ℕ
 control_frame c = frame_of (record {
   dst = control_group;
   src = record { 0 = big_bytes 6 (sender_of c).0 };
@@ -135,7 +135,7 @@ abbrev pub sound_or_refused : Bool → Control → Result Control ControlError
 sound_or_refused bits c = if bits && is_sound c then Ok c else Err BadField
 
 -- a payload's first bytes by their kind, or the first thing that is wrong; bytes behind them are accepted
-abbrev pub control_in : List ℕ → Result Control ControlError
+unfoldable pub control_in : List ℕ → Result Control ControlError
 control_in payload =
     if nat_lt (length payload) 2 then Err Cut
     else if not (slice_index payload 0 == 1) then Err BadVersion
@@ -151,9 +151,11 @@ control_in payload =
 -- the first message of switch 5 at a port where it heard nothing
 first_message : control_frame (control.Ldm (record { 0 = 5 }) (record { place = record { level = None; position = None; pod = None }; direction = 0; echo = None }))
     ≡ 0x03 ∷ 0x50 ∷ 0x4c ∷ 0 ∷ 0 ∷ 1 ∷ 0 ∷ 0 ∷ 0 ∷ 0 ∷ 0 ∷ 5 ∷ 0x88 ∷ 0xb5 ∷ 1 ∷ 1 ∷ 0 ∷ 0 ∷ 0 ∷ 0 ∷ 0 ∷ 5 ∷ 255 ∷ 255 ∷ 255 ∷ 255 ∷ 0 ∷ 0 ∷ 0 ∷ 0 ∷ 0 ∷ 0 ∷ 0 ∷ []
+unfolding control_bytes control_frame
 first_message = refl
 
 -- switch 17 grants position 0 to attempt 1
 a_grant : control_frame (control.Vote (record { 0 = 17 }) (record { attempt = 1; position = 0; granted = true; holder = None; fixed = false }))
     ≡ 0x03 ∷ 0x50 ∷ 0x4c ∷ 0 ∷ 0 ∷ 1 ∷ 0 ∷ 0 ∷ 0 ∷ 0 ∷ 0 ∷ 0x11 ∷ 0x88 ∷ 0xb5 ∷ 1 ∷ 3 ∷ 0 ∷ 0 ∷ 0 ∷ 0 ∷ 0 ∷ 0x11 ∷ 0 ∷ 0 ∷ 0 ∷ 1 ∷ 0 ∷ 1 ∷ 0 ∷ 0 ∷ 0 ∷ 0 ∷ 0 ∷ 0 ∷ 0 ∷ []
+unfolding control_bytes control_frame
 a_grant = refl

@@ -51,7 +51,8 @@ put None at bytes = bytes
 put (Some mac) at bytes = with_bytes bytes at mac.0
 
 abbrev pub put_if : Bool → Option Mac → ℕ → List ℕ → List ℕ
-put_if b mac at bytes = if b then put mac at bytes else bytes
+put_if b None at bytes = bytes
+put_if b (Some mac) at bytes = if b then with_bytes bytes at mac.0 else bytes
 
 -- A frame as it arrives: with this source and this destination where there is one, in the frame and in an ARP packet that can be
 -- read. Every other byte is as it was.

@@ -105,7 +105,7 @@ Spelled p c = IsWritable c × (p ≡ control_bytes c ++ drop (length (control_by
 
 ldm_read : (p : List ℕ) (c : Control) → IsBytes p → slice_index p 0 ≡ 1 → slice_index p 1 ≡ 1 →
     cond (nat_lt (length p) 19) (Err Cut) (sound_or_refused true (control.Ldm (sender_at p) (ldm_at p))) ≡ Ok c → Spelled p c
-unfolding Spelled
+unfolding Spelled control_bytes
 ldm_read p c small version kind h =
     let found : Control = control.Ldm (sender_at p) (ldm_at p) in
     let whole = chosen (nat_lt (length p) 19) Cut (sound_or_refused true found) c h in
@@ -121,7 +121,7 @@ ldm_read p c small version kind h =
 
 proposal_read : (p : List ℕ) (c : Control) → IsBytes p → slice_index p 0 ≡ 1 → slice_index p 1 ≡ 2 →
     cond (nat_lt (length p) 13) (Err Cut) (sound_or_refused true (control.Proposal (sender_at p) (proposal_at p))) ≡ Ok c → Spelled p c
-unfolding Spelled
+unfolding Spelled control_bytes
 proposal_read p c small version kind h =
     let found : Control = control.Proposal (sender_at p) (proposal_at p) in
     let whole = chosen (nat_lt (length p) 13) Cut (sound_or_refused true found) c h in
@@ -136,7 +136,7 @@ proposal_read p c small version kind h =
 
 vote_read : (p : List ℕ) (c : Control) → IsBytes p → slice_index p 0 ≡ 1 → slice_index p 1 ≡ 3 →
     cond (nat_lt (length p) 21) (Err Cut) (sound_or_refused (is_bit (slice_index p 13) && is_bit (slice_index p 20)) (control.Vote (sender_at p) (vote_at p))) ≡ Ok c → Spelled p c
-unfolding Spelled
+unfolding Spelled control_bytes
 vote_read p c small version kind h =
     let found : Control = control.Vote (sender_at p) (vote_at p) in
     let bits : Bool = is_bit (slice_index p 13) && is_bit (slice_index p 20) in
@@ -155,7 +155,7 @@ vote_read p c small version kind h =
 
 pub control_bytes-control_in : (p : List ℕ) (c : Control) → IsBytes p → control_in p ≡ Ok c →
     IsWritable c × (p ≡ control_bytes c ++ drop (length (control_bytes c)) p)
-unfolding Spelled
+unfolding Spelled control_in
 control_bytes-control_in p c small h =
     let kind : ℕ = slice_index p 1 in
     let ldm : Read = cond (nat_lt (length p) 19) (Err Cut) (sound_or_refused true (control.Ldm (sender_at p) (ldm_at p))) in

@@ -30,6 +30,7 @@ made_vote id attempt position granted holder fixed =
 -- a payload that is long enough for its kind is judged by its fields
 pub control_in-ldm : (p : List ℕ) → 19 ≤ length p → slice_index p 0 ≡ 1 → slice_index p 1 ≡ 1 →
     control_in p ≡ sound_or_refused true (control.Ldm (sender_at p) (ldm_at p))
+unfolding control_in
 control_in-ldm p long version kind =
     let two : nat_lt (length p) 2 ≡ false = le-ltb (length p) 2 (omega arith) in
     let whole : nat_lt (length p) 19 ≡ false = le-ltb (length p) 19 long in
@@ -37,6 +38,7 @@ control_in-ldm p long version kind =
 
 pub control_in-proposal : (p : List ℕ) → 13 ≤ length p → slice_index p 0 ≡ 1 → slice_index p 1 ≡ 2 →
     control_in p ≡ sound_or_refused true (control.Proposal (sender_at p) (proposal_at p))
+unfolding control_in
 control_in-proposal p long version kind =
     let two : nat_lt (length p) 2 ≡ false = le-ltb (length p) 2 (omega arith) in
     let whole : nat_lt (length p) 13 ≡ false = le-ltb (length p) 13 long in
@@ -44,6 +46,7 @@ control_in-proposal p long version kind =
 
 pub control_in-vote : (p : List ℕ) → 21 ≤ length p → slice_index p 0 ≡ 1 → slice_index p 1 ≡ 3 →
     control_in p ≡ sound_or_refused (is_bit (slice_index p 13) && is_bit (slice_index p 20)) (control.Vote (sender_at p) (vote_at p))
+unfolding control_in
 control_in-vote p long version kind =
     let two : nat_lt (length p) 2 ≡ false = le-ltb (length p) 2 (omega arith) in
     let whole : nat_lt (length p) 21 ≡ false = le-ltb (length p) 21 long in
@@ -124,6 +127,7 @@ vote_again id m rest some fits sound =
 
 -- whatever follows it
 pub control_in-control_bytes : (c : Control) (rest : List ℕ) → IsWritable c → control_in (control_bytes c ++ rest) ≡ Ok c
+unfolding control_bytes
 control_in-control_bytes (control.Ldm id m) rest w = ldm_again id m rest w.fits.0 w.fits.1 w.sound
 control_in-control_bytes (control.Proposal id m) rest w = proposal_again id m rest w.fits.0 w.fits.1 w.sound
 control_in-control_bytes (control.Vote id m) rest w = vote_again id m rest w.fits.0 w.fits.1 w.sound

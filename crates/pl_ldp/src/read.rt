@@ -13,6 +13,7 @@ use pl_frame::SwitchId;
 /// What a control frame's payload says, or the first thing that is wrong with it: fewer bytes than
 /// version and kind take, then the version, the kind, fewer bytes than the kind takes, and a field.
 /// Bytes after the message are accepted, since short frames may be padded.
+#[tactic(auto, unfolding(pl_layouts::specs::Control::control_in))]
 pub fn read_control(payload: &[u8]) -> Result<Control, ControlError>
     ensures exact { result ≡ control_in payload.now }
     ensures writable { IfOk result IsWritable }

@@ -24,6 +24,7 @@ const GROUP: [u8; 6] = [0x03, 0x50, 0x4c, 0, 0, 1];
 ///
 /// Numbers have their most significant byte first. A level, position or pod that is not known has all
 /// its bits set, and an id that is not there is 0.
+#[tactic(auto, unfolding(pl_layouts::specs::Control::control_frame))]
 pub fn write_control(control: &Control, to: &mut [u8; 35]) -> usize
     requires { IsWritable control.now }
     ensures length { result ≡ length (control_frame control.now) }
@@ -57,6 +58,7 @@ fn write_head(id: SwitchId, to: &mut [u8])
     BigEndian::write_u16(kind, TYPE_CONTROL);
 }
 
+#[tactic(auto, unfolding(pl_layouts::specs::Control::control_bytes))]
 fn write_payload(control: &Control, to: &mut [u8]) -> usize
     requires room { 21 ≤ length to.old }
     requires writable { IsWritable control.now }

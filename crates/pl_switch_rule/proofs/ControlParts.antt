@@ -84,11 +84,13 @@ length-vote id v =
     )
 
 short_payload : (c : declared.Control) → length (control_bytes c) ≤ 21
+unfolding control_bytes
 short_payload (control.Ldm id m) = let e = length-ldm id m in omega (arith, e)
 short_payload (control.Proposal id p) = let e = length-proposal id p in omega (arith, e)
 short_payload (control.Vote id v) = let e = length-vote id v in omega (arith, e)
 
 pub control_is_sent : (k port : ℕ) (c : declared.Control) → port < k → IsSent k port true (control_frame c)
+unfolding control_frame
 control_is_sent k port c within =
     let f : Fields = record {
       dst = control_group;

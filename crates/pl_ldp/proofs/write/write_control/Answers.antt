@@ -14,11 +14,13 @@ head_of id = 3 ∷ 0x50 ∷ 0x4c ∷ 0 ∷ 0 ∷ 1 ∷ (big_bytes 6 id.0 ++ big_
 joined : (control : Control) (id : SwitchId) (head payload rest old : List ℕ) (n : ℕ) →
     id ≡ sender_of control → head ≡ head_of id → payload ≡ control_bytes control ++ drop n rest → rest ≡ drop 14 old →
     head ++ payload ≡ control_frame control ++ drop (14 + n) old
+unfolding control_frame
 joined control id head payload rest old n sender h p r =
     ap (λ (bytes : List ℕ). bytes ++ payload) (h ∙ ap head_of sender)
     ∙ ap (λ (bytes : List ℕ). head_of (sender_of control) ++ bytes) (p ∙ ap (λ (behind : List ℕ). control_bytes control ++ behind) (ap (drop n) r ∙ drop-drop n 14 old))
 
 pub returns-clause-frame : goal.returns-clause-frame
+unfolding control_frame
 returns-clause-frame c =
     let control : Control = c.args.control.now in
     let n : ℕ = c.write_payload.result in
@@ -28,6 +30,7 @@ returns-clause-frame c =
     ap (take (14 + n)) whole ∙ front_of (14 + n) (control_frame control) (drop (14 + n) old) long
 
 pub returns-clause-behind : goal.returns-clause-behind
+unfolding control_frame
 returns-clause-behind c =
     let control : Control = c.args.control.now in
     let n : ℕ = c.write_payload.result in

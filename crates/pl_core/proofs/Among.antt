@@ -194,4 +194,3 @@ module _ {K : Type 0} (R : K → K → Ordering) where
 
 pub id_total : IsTotalOrder id_cmp
 id_total = on_total (λ (s : SwitchId). s.0) nat_cmp_total
-

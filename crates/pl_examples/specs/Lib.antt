@@ -8,6 +8,7 @@ pub mod VoteExamples
 pub mod SwitchExamples
 pub mod AccountingExamples
 pub mod EdgeExamples
+pub mod DropExamples
 pub mod DiscoveryExamples
 pub mod HostExamples
 pub mod ManagerExamples

@@ -1,5 +1,5 @@
 -- Why a frame for the edge switch itself is dropped.
-use Rattle.std.proofs.Common.{◌≡◌, ◌⊎◌, ℕ, zero, suc, true, false, List, [], ◌∷◌, Option, Some, None, drop, refl, sym, ap, subst, ◌∙◌, inl, inr}
+use Rattle.std.proofs.Common.{◌≡◌, ◌⊎◌, ℕ, zero, suc, true, false, List, [], ◌∷◌, Option, Some, None, IsSome, drop, refl, sym, ap, subst, ◌∙◌, inl, inr}
 use Rattle.std.proofs.lemmas.Bool.{cond_both}
 use Rattle.std.proofs.lemmas.Option.{same_Some}
 use Rattle.pl_frame.specs.declared.address.Ip4.{Ip4}
@@ -15,7 +15,7 @@ use Rattle.pl_journal.specs.declared.cause.Cause.{Cause}
 use Rattle.pl_journal.specs.declared.cause.Cause.TheVariants.{NoAddress}
 use Rattle.pl_core.specs.declared.trap.Trap.{Trap}
 use Rattle.pl_switch_rule.specs.Delivering.{addresses, arrives_home, comes_home, delivers, delivers_or_redirects, delivers_to, destination, goes_on, if_newer, is_trapped, last_trap, redirects, redirects_on, tells_newer, tells_sender, trap_for}
-use Rattle.pl_switch_rule.specs.DropCauses.{CauseHolds, address_after, first_drop, last_address}
+use Rattle.pl_switch_rule.specs.DropCauses.{CauseHolds, address_after, first_drop}
 use Rattle.pl_switch_rule.specs.Forwarding.{Choice, forwards}
 use Rattle.pl_layouts.specs.Frames.{is_arp}
 use Rattle.pl_switch_rule.specs.Granting.{granted, is_local}
@@ -85,11 +85,25 @@ is_trapped_loses choose v sent trap cause is_choice drop =
     let lost = sym (first_behind before (goes_on choose v turned).acts (tt, redirects_go_on (addresses v) v trap)) ∙ drop in
     subst (λ a. LosesAt v a cause) (new_destination sent last) (goes_on_loses choose v turned cause is_choice lost)
 
+-- an address never granted here; or the frame met a trap, and goes on to another edge switch, and there is no candidate
+abbrev LosesHome : SwitchView → Pmac → Option Trap → Cause → Type 0
+LosesHome v address o cause =
+    (IsNobodys v (address_after v address o) × (NoAddress ≡ cause))
+    ⊎ (IsSome o × (is_local v (address_after v address o) ≡ false) × HasNoWay v (Some FromHost) (address_after v address o) cause)
+
+trapped_loses : (v : SwitchView) (address : Pmac) (trap : Trap) (cause : Cause) → LosesAt v (address_after v address (Some trap)) cause →
+    LosesHome v address (Some trap) cause
+trapped_loses v address trap cause (inl host) = inl host
+trapped_loses v address trap cause (inr way) = inr (refl, way.0, way.1)
+
 home_loses : (choose : Choice) (v : SwitchView) (sent : List ℕ) (o : Option Trap) (cause : Cause) → IsChoice choose →
     is_local v (destination sent) ≡ true → first_drop (delivers_or_redirects choose v sent o).acts ≡ Some cause →
-    LosesAt v (address_after v (destination sent) o) cause
-home_loses choose v sent None cause is_choice here drop = delivers_loses v sent cause here drop
-home_loses choose v sent (Some trap) cause is_choice here drop = is_trapped_loses choose v sent trap cause is_choice drop
+    LosesHome v (destination sent) o cause
+home_loses choose v sent None cause is_choice here drop =
+    let left = not_delivered v (destination sent) sent (granted v (destination sent)) cause drop in
+    inl (record { here = here; never = left.0 }, left.1)
+home_loses choose v sent (Some trap) cause is_choice here drop =
+    trapped_loses v (destination sent) trap cause (is_trapped_loses choose v sent trap cause is_choice drop)
 
 -- Whoever is told of a newer address, the frame that came was dropped before or not at all.
 
@@ -106,11 +120,11 @@ sender_drops_none choose sent (Some trap) v =
     (λ yes. refl) (λ other. newer_drops_none choose sent last.new last.ip v)
 
 loses_holds : (v : SwitchView) (port : ℕ) (frame : List ℕ) (cause : Cause) → is_group (destination_of frame) ≡ false →
-    LosesAt v (last_address v frame) cause → CauseHolds v port frame cause
+    LosesHome v (destination frame) (trap_for v (destination frame)) cause → CauseHolds v port frame cause
 loses_holds v port frame cause unicast (inl host) =
     subst (CauseHolds v port frame) host.1 (record { unicast = unicast; here = host.0.here; never = host.0.never })
-loses_holds v port frame cause unicast (inr way) = subst (CauseHolds v port frame) way.1.named
-    (inr (inr (record { unicast = unicast; elsewhere = way.0; candidates = way.1.candidates })))
+loses_holds v port frame cause unicast (inr way) = subst (CauseHolds v port frame) way.2.named
+    (inr (inr (record { trapped = way.0; led = record { unicast = unicast; elsewhere = way.1; candidates = way.2.candidates } })))
 
 pub arrives_home_drops : (choose : Choice) (v : SwitchView) (port : ℕ) (frame sent : List ℕ) (cause : Cause) → IsChoice choose →
     destination_of sent ≡ destination_of frame → is_group (destination_of sent) ≡ false → is_local v (destination sent) ≡ true →
@@ -120,5 +134,5 @@ arrives_home_drops choose v port frame sent cause is_choice same unicast here dr
     let home = comes_home choose v sent in
     let lost = sym (first_before home.acts (tells_sender choose sent trap home.view).acts (sender_drops_none choose sent trap home.view)) ∙ drop in
     loses_holds v port frame cause (ap is_group (sym same) ∙ unicast)
-    (subst (λ to. LosesAt v (address_after v (pmac_of to) (trap_for v (pmac_of to))) cause) same
+    (subst (λ to. LosesHome v (pmac_of to) (trap_for v (pmac_of to)) cause) same
     (home_loses choose v sent trap cause is_choice here lost))

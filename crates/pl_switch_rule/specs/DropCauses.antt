@@ -1,5 +1,5 @@
 -- Why a switch drops a data frame that comes: each cause by what the switch knows then, whatever the rows of its rule.
-use Rattle.std.specs.Prelude.{◌≡◌, ◌⊎◌, ℕ, ◌==◌, ◌&&◌, ◌||◌, not, Bool, true, false, if◌then◌else◌, List, [], ◌∷◌, Option, Some, None, is_none, unwrap_or, IsTrue}
+use Rattle.std.specs.Prelude.{◌≡◌, ◌⊎◌, ℕ, ◌==◌, ◌&&◌, ◌||◌, not, Bool, true, false, if◌then◌else◌, List, [], ◌∷◌, Option, Some, None, is_none, unwrap_or, IsSome, IsTrue}
 use Rattle.pl_frame.specs.Ethernet.{destination_of, source_of}
 use Rattle.pl_pmac.specs.declared.pmac.Pmac.{Pmac}
 use Rattle.pl_pmac.specs.Pmac.{mac_of, pmac_of}
@@ -81,6 +81,11 @@ pub record HasNoCandidate (v : SwitchView) (came : Option Came) (frame : List �
   pub elsewhere : is_local v address ≡ false
   pub candidates : candidates_by v address came ≡ []
 
+-- a unicast frame met a trap, which leads to another edge switch, and has no candidate there
+pub record IsLedNowhere (v : SwitchView) (frame : List ℕ) : Type 0 where
+  pub trapped : IsSome (trap_for v (destination frame))
+  pub led : HasNoCandidate v (Some FromHost) frame (last_address v frame)
+
 -- a unicast frame is for an address that nobody here was granted
 pub record HasNoHost (v : SwitchView) (frame : List ℕ) (address : Pmac) : Type 0 where
   pub unicast : is_group (destination_of frame) ≡ false
@@ -93,8 +98,7 @@ abbrev pub CauseHolds : SwitchView → ℕ → List ℕ → Cause → Type 0
 CauseHolds v port frame NotPlaced =
     IsTrue (not (is_placed v.place) || (if is_of_host v port then has_no_hosts v else is_none (place_at v port).level))
 CauseHolds v port frame NoNextHop =
-    HasNoPlace v port frame false ⊎ HasNoCandidate v (came_in v port) frame (destination frame)
-    ⊎ HasNoCandidate v (Some FromHost) frame (last_address v frame)
+    HasNoPlace v port frame false ⊎ HasNoCandidate v (came_in v port) frame (destination frame) ⊎ IsLedNowhere v frame
 CauseHolds v port frame NoAddress = HasNoHost v frame (last_address v frame)
 CauseHolds v port frame Spent = IsTrue (is_of_host v port && (has_no_address v port (source_of frame) && is_port_spent v port))
 CauseHolds v port frame BadArp = IsTrue (is_of_host v port && (is_arp frame && is_none (packet_in frame)))

@@ -3,9 +3,9 @@ ghost use Rattle.pl_switch_rule.specs.HostsAlone.{hosts_alone};
 
 use super::*;
 use pl_core::{AvoidList, PortRecord, TreePart};
+use pl_frame::SwitchId;
 use pl_layouts::Place;
 use pl_lists::Rising;
-use pl_frame::SwitchId;
 use std::test::Fail;
 
 // Switch 5, of four ports, with a host at each.

@@ -3,3 +3,5 @@ pub mod HeardSwitches
 pub mod Registered
 pub mod Parts
 pub mod Sameness
+pub mod Tables
+pub mod Speakers

@@ -32,7 +32,7 @@ pub avoided_total : IsTotalOrder avoided_cmp
 avoided_total = then_total (then_total (on_total (λ (x : SwitchId × ℕ × ℕ). x.0) id_total) (on_total (λ (x : SwitchId × ℕ × ℕ). x.1) nat_cmp_total))
     (on_total (λ (x : SwitchId × ℕ × ℕ). x.2) nat_cmp_total)
 
-both_equal : (a b : Ordering) → ordering_then a b ≡ Equal → (a ≡ Equal) × (b ≡ Equal)
+pub both_equal : (a b : Ordering) → ordering_then a b ≡ Equal → (a ≡ Equal) × (b ≡ Equal)
 both_equal Less b e = cc
 both_equal Equal b e = (refl, e)
 both_equal Greater b e = cc

@@ -5,3 +5,6 @@ pub mod Parts
 pub mod Sameness
 pub mod Tables
 pub mod Speakers
+pub mod Kept
+pub mod Repeated
+pub mod ToldLast

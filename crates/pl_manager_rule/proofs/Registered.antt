@@ -37,10 +37,10 @@ none_like f eq turned k [] h = tt
 none_like f eq turned k (x ∷ xs) h =
     let two = or_parts (eq (f x) k) (list_any (λ y. eq (f y) k) xs) h in (turned k (f x) ∙ two.0, none_like f eq turned k xs two.1)
 
-switch_turned : (a b : SwitchId) → same_switch a b ≡ same_switch b a
+pub switch_turned : (a b : SwitchId) → same_switch a b ≡ same_switch b a
 switch_turned a b = nat_eq_equiv.symm a.0 b.0
 
-pmac_turned : (a b : Pmac) → same_pmac a b ≡ same_pmac b a
+pub pmac_turned : (a b : Pmac) → same_pmac a b ≡ same_pmac b a
 pmac_turned a b = λ i. ((nat_eq_equiv.symm a.pod b.pod i && nat_eq_equiv.symm a.position b.position i) && nat_eq_equiv.symm a.port b.port i)
     && nat_eq_equiv.symm a.vmid b.vmid i
 
@@ -94,7 +94,7 @@ askers_once (s ∷ askers) = by (askers_once askers) (list_any (λ g. same_switc
     by rest true e = rest
     by rest false e = (none_like (λ g. g.switch) same_switch switch_turned s (pods_given askers) e, rest)
 
-found_where_any : (test : PodGiven → Bool) (gs : List PodGiven) → list_any test gs ≡ true → is_some (option_map (λ g. g.pod) (find test gs)) ≡ true
+pub found_where_any : (test : PodGiven → Bool) (gs : List PodGiven) → list_any test gs ≡ true → is_some (option_map (λ g. g.pod) (find test gs)) ≡ true
 found_where_any test [] h = absurd (false≢true h)
 found_where_any test (g ∷ gs) h = by (λ k. found_where_any test gs k) (test g) h
   where

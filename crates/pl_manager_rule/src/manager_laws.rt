@@ -5,10 +5,12 @@ ghost use Rattle.std.specs.Ordering.{nat_cmp};
 ghost use Rattle.pl_frame.specs.declared.address.SwitchId.{SwitchId};
 ghost use Rattle.pl_core.specs.declared.messages.TreePart.{TreePart};
 ghost use Rattle.pl_layouts.specs.Equality.{same_pmac, same_switch};
-ghost use Rattle.pl_core.specs.ManagerViews.{Learnt, Members, Told, alive_at_level, id_cmp, neighbours, pod_given, pods_given, registry, switches};
+ghost use Rattle.pl_core.specs.ManagerViews.{Learnt, ManagerView, Members, Told, alive_at_level, booted_manager, id_cmp, neighbours, pod_given, pods_given, registry, switches};
 ghost use Rattle.pl_core.specs.AvoidLists.{Avoids, avoid_list, avoided_cmp};
 ghost use Rattle.pl_core.specs.Trees.{needed_edges, tree_part};
-ghost use Rattle.pl_manager_rule.specs.ManagerRule.{manager_rule, same_avoid_list, same_part, with_asker};
+ghost use Rattle.pl_manager_rule.specs.ManagerRule.{manager_hears, manager_rule, same_avoid_list, same_part, with_asker};
+ghost use Rattle.pl_manager_rule.specs.Repeats.{HasToldLast, IsInOrder, answers};
+ghost use Rattle.pl_core.specs.declared.messages.ToManager.{ToManager};
 ghost use Rattle.pl_core.specs.ManagerFacts.{groups};
 ghost use Rattle.pl_core.specs.ManagerDuties.{AnswersDuly};
 
@@ -63,4 +65,19 @@ pub fn pods_are_numbered_in_order()
 /// numbers just the addresses that it learns.
 pub fn the_manager_answers_duly()
     ensures { AnswersDuly manager_rule }
+{}
+
+/// What the manager knows is in order from the beginning, and stays so with all that it hears.
+pub fn what_is_known_stays_in_order()
+    ensures boots { (k : ℕ) → IsInOrder (booted_manager k) }
+    ensures stays { (view : ManagerView) (s : SwitchId) (says : ToManager) →
+        IsInOrder view → IsInOrder (manager_hears view s says).view }
+{}
+
+/// A word that a switch told last already changes nothing that is known and brings no act about: only a
+/// wish for a pod and a question are answered again. And each word is told last once it was heard.
+pub fn a_repeated_word_changes_nothing()
+    ensures nothing { (view : ManagerView) (s : SwitchId) (says : ToManager) → IsInOrder view → HasToldLast view s says →
+        manager_hears view s says ≡ record { view = view; acts = answers view s says } }
+    ensures last { (view : ManagerView) (s : SwitchId) (says : ToManager) → HasToldLast (manager_hears view s says).view s says }
 {}

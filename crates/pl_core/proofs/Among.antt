@@ -117,7 +117,7 @@ module _ {X Y : Type 0} where
       by rest (Some w) = inr rest
 
 module _ {K : Type 0} (R : K → K → Ordering) where
-  among_insert : (k x : K) (xs : List K) → IsAmong x (insert_key R xs k) → (k ≡ x) ⊎ IsAmong x xs
+  pub among_insert : (k x : K) (xs : List K) → IsAmong x (insert_key R xs k) → (k ≡ x) ⊎ IsAmong x xs
   among_insert k x [] (inl is) = inl is
   among_insert k x [] (inr h) = absurd h
   among_insert k x (y ∷ xs) h = by (λ j. among_insert k x xs j) (R k y) h
@@ -176,7 +176,7 @@ module _ {K : Type 0} (R : K → K → Ordering) where
   all_weaker P Q f (x ∷ xs) h = (f x h.0, all_weaker P Q f xs h.1)
 
   module _ (o : IsTotalOrder R) where
-    rising_inserted : (k : K) (xs : List K) → IsStrictlySortedBy R xs → IsStrictlySortedBy R (insert_key R xs k)
+    pub rising_inserted : (k : K) (xs : List K) → IsStrictlySortedBy R xs → IsStrictlySortedBy R (insert_key R xs k)
     unfolding IsStrictlySortedBy
     rising_inserted k [] s = (tt, tt)
     rising_inserted k (y ∷ xs) s = by (rising_inserted k xs s.1) (R k y) refl

@@ -63,7 +63,7 @@ pub trait ManagerCore: Drop {
 
     /// Whether that is the switch's part of a group's tree.
     fn part_is(&self, switch: SwitchId, group: u32, part: Option<&TreePart>) -> bool
-        ensures { IsTrue result ↔ (option_copied part.entry ≡ tree_part (view self.now).told group switch) };
+        ensures { IsTrue result ↔ (option_copied part.entry ≡ tree_part (view self.now).told (view self.now).members group switch) };
 
     ghost answers: { AnswersDuly rule };
 }

@@ -14,17 +14,14 @@ use Rattle.pl_core.specs.declared.messages.ToSwitch.TheVariants as say
 use Rattle.pl_core.specs.declared.messages.TreePart.{TreePart}
 use Rattle.pl_layouts.specs.declared.place.Place.{Place}
 use Rattle.pl_layouts.specs.Memberships.{flood}
-use Rattle.pl_core.specs.ManagerViews.{ManagerView, PodGiven, Told, booted_manager, pods_given, switches}
+use Rattle.pl_core.specs.ManagerViews.{ManagerView, Members, PodGiven, Told, booted_manager, pods_given, switches}
 use Rattle.pl_core.specs.AvoidLists.{avoid_list}
 use Rattle.pl_core.specs.Trees.{core_of, tree_part}
-use Rattle.pl_manager_rule.specs.ManagerRule.{changed, manager_hears}
+use Rattle.pl_manager_rule.specs.ManagerRule.{changed, manager_hears, with_link}
 
--- a switch by its id, and what it told
+-- a switch by its id
 abbrev the_switch : ℕ → SwitchId
 the_switch n = record { 0 = n }
-
-abbrev told_by : ℕ → ToManager → Told
-told_by n says = record { switch = the_switch n; says = says }
 
 -- ---- the whole tree, and one in which a link is cut
 abbrev place_in_tree : ℕ → Place
@@ -33,25 +30,27 @@ place_in_tree n =
     else if nat_lt n 17 then record { level = Some 1; position = None; pod = Some ((n - 9) / 2) }
     else record { level = Some 2; position = None; pod = None }
 
--- an edge or an aggregation switch is linked to two switches above it, with ids that follow each other; this is the first
-abbrev first_above : ℕ → ℕ
-first_above n = if nat_lt n 9 then 9 + (n - 1) / 2 * 2 else 17 + (n - 9) % 2 * 2
+-- the switches to which a switch is linked, by rising id
+abbrev linked_to : ℕ → List ℕ
+linked_to n =
+    if nat_lt n 9 then range_with_len (9 + (n - 1) / 2 * 2) 2
+    else if nat_lt n 17 then range_with_len (1 + (n - 9) / 2 * 2) 2 ++ range_with_len (17 + (n - 9) % 2 * 2) 2
+    else map (λ pod. 9 + (n - 17) / 2 + 2 * pod) (range_with_len 0 4)
 
--- both ends of a link told that it is usable
-abbrev link_told : ℕ → ℕ → List Told
-link_told a b = told_by a (tell.Link (the_switch b) true) ∷ told_by b (tell.Link (the_switch a) true) ∷ []
+-- a switch told that it can use all its links
+abbrev links_told : ℕ → List ((SwitchId × SwitchId) × Bool)
+links_told n = map (λ m. ((the_switch n, the_switch m), true)) (linked_to n)
 
--- the two links of a switch to those above it
-abbrev links_above : ℕ → List Told
-links_above n = link_told n (first_above n) ++ link_told n (first_above n + 1)
-
--- all switches told their places, and then their links
-abbrev whole_tree : List Told
-whole_tree = flat_map links_above (range_with_len 1 16) ++ map (λ n. told_by n (tell.Place (place_in_tree n))) (range_with_len 1 20)
+-- all switches told their places and their links
+abbrev whole_tree : Told
+whole_tree = record {
+  places = map (λ n. (the_switch n, place_in_tree n)) (range_with_len 1 20);
+  links = flat_map links_told (range_with_len 1 20);
+}
 
 -- the first aggregation switch of pod 1 tells that its link to the first edge switch of that pod is usable no more
-abbrev cut_tree : List Told
-cut_tree = told_by 11 (tell.Link (the_switch 3) false) ∷ whole_tree
+abbrev cut_tree : Told
+cut_tree = with_link whole_tree (the_switch 11) (the_switch 3) false
 
 -- a neighbour to avoid for a pod and a position
 abbrev avoids_at : ℕ → ℕ → ℕ → SwitchId × ℕ × ℕ
@@ -85,8 +84,8 @@ unfolding avoid_list
 the_switch_that_is_cut_off_avoids_nothing = refl
 
 -- ---- trees: a group with members at the second edge switch of pod 0 and the first of pod 1
-abbrev with_members : Bool → List Told → List Told
-with_members any tree = told_by 2 (tell.Members 256 any) ∷ told_by 3 (tell.Members 256 any) ∷ tree
+abbrev two_edges : Bool → Members
+two_edges any = ((the_switch 2, 256), any) ∷ ((the_switch 3, 256), any) ∷ []
 
 -- parts with a neighbour above, and none or one below
 abbrev up_only : ℕ → Option TreePart
@@ -96,12 +95,12 @@ abbrev up_and_down : ℕ → ℕ → Option TreePart
 up_and_down n m = Some (record { up = Some (the_switch n); down = the_switch m ∷ [] })
 
 -- each of the four core switches reaches both edge switches; 256 modulo 4 is 0
-the_first_core_switch_is_chosen : core_of (with_members true whole_tree) 256 ≡ Some (the_switch 17)
+the_first_core_switch_is_chosen : core_of whole_tree (two_edges true) 256 ≡ Some (the_switch 17)
 unfolding core_of
 the_first_core_switch_is_chosen = refl
 
 -- switches 1 to 20: edge switches send up to the first aggregation switch of their pod; the other aggregation and core switches have no part
-parts_in_the_whole_tree : map (tree_part (with_members true whole_tree) 256) (switches whole_tree)
+parts_in_the_whole_tree : map (tree_part whole_tree (two_edges true) 256) (switches whole_tree)
     ≡ up_only 9 ∷ up_only 9 ∷ up_only 11 ∷ up_only 11 ∷ up_only 13 ∷ up_only 13 ∷ up_only 15 ∷ up_only 15
     ∷ up_and_down 17 2 ∷ None ∷ up_and_down 17 3 ∷ None ∷ up_only 17 ∷ None ∷ up_only 17 ∷ None
     ∷ Some (record { up = None; down = the_switch 9 ∷ the_switch 11 ∷ [] }) ∷ None ∷ None ∷ None ∷ []
@@ -109,11 +108,11 @@ unfolding tree_part core_of
 parts_in_the_whole_tree = refl
 
 -- after the cut only 19 and 20 reach both; 256 modulo 2 is 0
-the_core_switch_after_the_cut : core_of (with_members true cut_tree) 256 ≡ Some (the_switch 19)
+the_core_switch_after_the_cut : core_of cut_tree (two_edges true) 256 ≡ Some (the_switch 19)
 unfolding core_of
 the_core_switch_after_the_cut = refl
 
-parts_after_the_cut : map (tree_part (with_members true cut_tree) 256) (switches cut_tree)
+parts_after_the_cut : map (tree_part cut_tree (two_edges true) 256) (switches cut_tree)
     ≡ up_only 10 ∷ up_only 10 ∷ up_only 12 ∷ up_only 12 ∷ up_only 14 ∷ up_only 14 ∷ up_only 16 ∷ up_only 16
     ∷ None ∷ up_and_down 19 2 ∷ None ∷ up_and_down 19 3 ∷ None ∷ up_only 19 ∷ None ∷ up_only 19
     ∷ None ∷ None ∷ Some (record { up = None; down = the_switch 10 ∷ the_switch 12 ∷ [] }) ∷ None ∷ []
@@ -121,13 +120,13 @@ unfolding tree_part core_of
 parts_after_the_cut = refl
 
 -- a group that nobody needs any more
-nobody_has_a_part_without_members : map (tree_part (with_members false (with_members true whole_tree)) 256) (switches whole_tree)
+nobody_has_a_part_without_members : map (tree_part whole_tree (two_edges false) 256) (switches whole_tree)
     ≡ map (λ n. None) (range_with_len 1 20)
 unfolding tree_part core_of
 nobody_has_a_part_without_members = refl
 
 -- floods need all edge switches
-floods_go_down_to_both_edge_switches_of_a_pod : tree_part whole_tree flood (the_switch 9)
+floods_go_down_to_both_edge_switches_of_a_pod : tree_part whole_tree [] flood (the_switch 9)
     ≡ Some (record { up = Some (the_switch 17); down = the_switch 1 ∷ the_switch 2 ∷ [] })
 unfolding tree_part core_of
 floods_go_down_to_both_edge_switches_of_a_pod = refl
@@ -140,8 +139,8 @@ receiver (Number pmac n) = None
 abbrev receivers : List ManagerAct → List ℕ
 receivers acts = filter_map receiver acts
 
-abbrev view_with : List Told → ManagerView
-view_with told = record { k = 4; told = told; learnt = [] }
+abbrev view_with : Told → ManagerView
+view_with told = record (booted_manager 4) { told = told }
 
 -- first the avoid lists, then the parts of floods, whose core switch is 19 in place of 17
 receivers_at_the_cut : receivers (manager_hears (view_with whole_tree) (the_switch 11) (tell.Link (the_switch 3) false)).acts
@@ -150,18 +149,19 @@ unfolding manager_hears avoid_list tree_part core_of
 receivers_at_the_cut = refl
 
 -- ---- pods
-abbrev asked_by : ℕ → Told
-asked_by n = told_by n tell.PodWanted
+abbrev asks : ManagerView → ℕ → ManagerView
+asks view n = (manager_hears view (the_switch n) tell.PodWanted).view
 
 -- switches 5, 1 and 3 ask in this order, and 5 asks again
 abbrev three_askers : ManagerView
-three_askers = view_with (asked_by 5 ∷ asked_by 3 ∷ asked_by 1 ∷ asked_by 5 ∷ [])
+three_askers = asks (asks (asks (asks (booted_manager 4) 5) 1) 3) 5
 
 -- a pod that was given
 abbrev given : ℕ → ℕ → PodGiven
 given n pod = record { switch = the_switch n; pod = pod }
 
-pods_go_by_the_order_of_asking : pods_given three_askers.told ≡ given 3 2 ∷ given 1 1 ∷ given 5 0 ∷ []
+pods_go_by_the_order_of_asking : pods_given three_askers.askers ≡ given 3 2 ∷ given 1 1 ∷ given 5 0 ∷ []
+unfolding manager_hears
 pods_go_by_the_order_of_asking = refl
 
 the_same_pod_again : (manager_hears three_askers (the_switch 1) tell.PodWanted).acts ≡ Say (the_switch 1) (say.Pod 1) ∷ []

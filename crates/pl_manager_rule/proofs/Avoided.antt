@@ -1,11 +1,13 @@
 -- An avoid list is all that its switch avoids, in rising order.
 use Rattle.std.proofs.Common.{◌≡◌, ℕ, ◌==◌, ◌&&◌, not, Bool, true, false, cond, List, [], ◌∷◌, map, Option, Some, None, Ordering, Less, Equal, Greater, nat_cmp, refl, sym, ap, subst, inl, inr}
-use Rattle.std.specs.Prelude.{Contains}
+use Rattle.std.specs.Prelude.{Contains, unwrap_or}
 use Rattle.std.specs.List.{AllByRecursion, cons_option, filter, filter_map, flat_map}
 use Rattle.std.proofs.lemmas.List.Kept.{IsStrictlySortedBy-filter}
 use Rattle.pl_layouts.specs.Memberships.{flood}
+use Rattle.pl_layouts.specs.Placement.{nowhere}
+use Rattle.pl_manager_rule.proofs.Tables.{found_key}
 use Rattle.pl_core.specs.Trees.{needed_edges}
-use Rattle.pl_core.specs.ManagerFacts.{group_in, groups}
+use Rattle.pl_core.specs.ManagerFacts.{groups}
 use Rattle.std.specs.List.Sorted.{IsStrictlySortedBy}
 use Rattle.std.specs.Ordering.{ordering_then}
 use Rattle.std.specs.Cmp.{IsTotalOrder}
@@ -14,9 +16,9 @@ use Rattle.std.proofs.lemmas.Cmp.{nat_cmp_total, on_total, then_total}
 use Rattle.std.proofs.lemmas.Map.Lookups.{CmpEqualImpliesEq, exact_unsigned}
 use Rattle.pl_frame.specs.declared.address.SwitchId.{SwitchId}
 use Rattle.pl_layouts.specs.declared.place.Place.{Place}
-use Rattle.pl_core.specs.ManagerViews.{PlacedEdge, Told, alive_at_level, alive_neighbours, has_level, has_members, is_alive, neighbour_in, edge_at, edge_with, id_cmp, neighbours, place_after, place_of, placed_edges, switches}
+use Rattle.pl_core.specs.ManagerViews.{Members, PlacedEdge, Told, alive_at_level, alive_neighbours, edge_at, edge_with, has_level, id_cmp, is_alive, neighbours, place_of, placed_edges, switches, tellers, value_at, with_members}
 use Rattle.pl_core.specs.AvoidLists.{Avoids, avoid_list, avoided_at, avoided_cmp, is_above, is_cut, is_sent_down, leads_to}
-use Rattle.pl_core.proofs.Among.{Contains-of_among, IsAmong, among_filter, among_filter_map, among_filter_mapped, among_filtered, among_flat_map, among_flat_mapped, among_in_order, among_map, among_mapped, among_of_Contains, among_ordered, rising_in_order, id_total}
+use Rattle.pl_core.proofs.Among.{Contains-of_among, IsAmong, among_filter, among_left, among_filter_map, among_filter_mapped, among_filtered, among_flat_map, among_flat_mapped, among_in_order, among_map, among_mapped, among_of_Contains, among_ordered, rising_in_order, id_total}
 use Rattle.pl_layouts.specs.Equality.{same_switch}
 
 -- ---- the orders
@@ -30,7 +32,7 @@ pub avoided_total : IsTotalOrder avoided_cmp
 avoided_total = then_total (then_total (on_total (λ (x : SwitchId × ℕ × ℕ). x.0) id_total) (on_total (λ (x : SwitchId × ℕ × ℕ). x.1) nat_cmp_total))
     (on_total (λ (x : SwitchId × ℕ × ℕ). x.2) nat_cmp_total)
 
-both_equal : (a b : Ordering) → ordering_then a b ≡ Equal → (a ≡ Equal) × (b ≡ Equal)
+pub both_equal : (a b : Ordering) → ordering_then a b ≡ Equal → (a ≡ Equal) × (b ≡ Equal)
 both_equal Less b e = cc
 both_equal Equal b e = (refl, e)
 both_equal Greater b e = cc
@@ -44,14 +46,13 @@ avoided_exact x y e =
 
 -- ---- placed edge switches
 -- one that told a level told something
-heard_place : (told : List Told) (s : SwitchId) (n : ℕ) → (place_of told s).level ≡ Some n → IsAmong s (map (λ t. t.switch) told)
-heard_place [] s n e = let none : None ≡ Some n = e in cc
-heard_place (t ∷ told) s n e = by (λ k. heard_place told s n k) (same_switch t.switch s) refl e
+heard_place : (told : Told) (s : SwitchId) (n : ℕ) → (place_of told s).level ≡ Some n → IsAmong s (tellers told)
+heard_place told s n e = by (value_at id_cmp told.places s) refl e
   where
-    by : ((place_of told s).level ≡ Some n → IsAmong s (map (λ c. c.switch) told)) → (b : Bool) → same_switch t.switch s ≡ b →
-        (cond b (place_after t.says (place_of told s)) (place_of told s)).level ≡ Some n → IsAmong s (map (λ c. c.switch) (t ∷ told))
-    by rest true same k = inl (same_is t.switch s same)
-    by rest false other k = inr (rest k)
+    by : (o : Option Place) → value_at id_cmp told.places s ≡ o → (unwrap_or o nowhere).level ≡ Some n → IsAmong s (tellers told)
+    by None found k = let none : None ≡ Some n = k in cc
+    by (Some place) found k =
+        among_left s (map (λ p. p.0) told.places) (map (λ l. l.0.0) told.links) (found_key id_cmp id_exact told.places s place found)
 
 pub record IsPlacedAs (s : SwitchId) (at : Place) (e : PlacedEdge) : Type 0 where
   pub switch : e.switch ≡ s
@@ -77,17 +78,17 @@ placed_with s e (Some level) None pod h = let none : None ≡ Some e = h in cc
 placed_with s e (Some level) (Some position) None h = let none : None ≡ Some e = h in cc
 
 -- the switches of a list of what was told
-pub among_switches : (told : List Told) (s : SwitchId) → IsAmong s (map (λ t. t.switch) told) → IsAmong s (switches told)
-among_switches told s h = among_in_order id_cmp id_exact s (map (λ t. t.switch) told) h
+pub among_switches : (told : Told) (s : SwitchId) → IsAmong s (tellers told) → IsAmong s (switches told)
+among_switches told s h = among_in_order id_cmp id_exact s (tellers told) h
 
 -- a placed edge switch is among those that are listed, and only such a one
-pub among_placed : (told : List Told) (e : PlacedEdge) → IsAmong e (placed_edges told) → IsPlacedAs e.switch (place_of told e.switch) e
+pub among_placed : (told : Told) (e : PlacedEdge) → IsAmong e (placed_edges told) → IsPlacedAs e.switch (place_of told e.switch) e
 among_placed told e h =
     let at = among_filter_map (λ s. edge_at s (place_of told s)) e (switches told) h in
     let is = placed_with at.0 e (place_of told at.0).level (place_of told at.0).position (place_of told at.0).pod at.2 in
     subst (λ s. IsPlacedAs s (place_of told s) e) (sym is.switch) is
 
-pub placed_among : (told : List Told) (e : PlacedEdge) →
+pub placed_among : (told : Told) (e : PlacedEdge) →
     place_of told e.switch ≡ record { level = Some 0; position = Some e.position; pod = Some e.pod } →
     IsAmong e (placed_edges told)
 placed_among told e h =
@@ -99,7 +100,7 @@ placed_among told e h =
 abbrev entry : SwitchId → PlacedEdge → SwitchId × ℕ × ℕ
 entry u e = (u, e.pod, e.position)
 
-avoids_entry : (told : List Told) (s u : SwitchId) (e : PlacedEdge) → IsAmong u (neighbours told s) → is_above told s u ≡ true →
+avoids_entry : (told : Told) (s u : SwitchId) (e : PlacedEdge) → IsAmong u (neighbours told s) → is_above told s u ≡ true →
     IsPlacedAs e.switch (place_of told e.switch) e → is_cut told s u e ≡ true → Avoids told s (entry u e)
 avoids_entry told s u e near above placed cut =
     let one = and_parts (not (same_switch e.switch s)) (not (is_sent_down told s e.pod) && not (leads_to told e.pod e.switch u)) cut in
@@ -114,7 +115,7 @@ avoids_entry told s u e near above placed cut =
       cut = not-true (leads_to told e.pod e.switch u) two.1;
     }
 
-pub listed_is_avoided : (told : List Told) (s : SwitchId) (x : SwitchId × ℕ × ℕ) → Contains (avoid_list told s) x → Avoids told s x
+pub listed_is_avoided : (told : Told) (s : SwitchId) (x : SwitchId × ℕ × ℕ) → Contains (avoid_list told s) x → Avoids told s x
 unfolding avoid_list
 listed_is_avoided told s x h =
     let near = filter (is_above told s) (neighbours told s) in
@@ -124,7 +125,7 @@ listed_is_avoided told s x h =
     let cut = among_filter (is_cut told s u.0) e.0 (placed_edges told) e.1 in
     subst (Avoids told s) e.2 (avoids_entry told s u.0 e.0 above.0 above.1 (among_placed told e.0 cut.0) cut.1)
 
-pub avoided_is_listed : (told : List Told) (s : SwitchId) (x : SwitchId × ℕ × ℕ) → Avoids told s x → Contains (avoid_list told s) x
+pub avoided_is_listed : (told : Told) (s : SwitchId) (x : SwitchId × ℕ × ℕ) → Avoids told s x → Contains (avoid_list told s) x
 unfolding avoid_list
 avoided_is_listed told s x h =
     let e : PlacedEdge = record { switch = h.edge; pod = x.1; position = x.2 } in
@@ -141,12 +142,12 @@ avoided_is_listed told s x h =
     (among_in_order avoided_cmp avoided_exact x _
     (among_flat_mapped (avoided_at told s) x x.0 (filter (is_above told s) (neighbours told s)) near at))
 
-pub avoid_list_rises : (told : List Told) (s : SwitchId) → IsStrictlySortedBy avoided_cmp (avoid_list told s)
+pub avoid_list_rises : (told : Told) (s : SwitchId) → IsStrictlySortedBy avoided_cmp (avoid_list told s)
 unfolding avoid_list
 avoid_list_rises told s = rising_in_order avoided_cmp avoided_total (flat_map (avoided_at told s) (filter (is_above told s) (neighbours told s)))
 
 -- ---- the other lists of switches
-module _ (told : List Told) where
+module _ (told : Told) where
   abbrev edges : List SwitchId → List SwitchId
   edges ss = map (λ e. e.switch) (filter_map (λ s. edge_at s (place_of told s)) ss)
 
@@ -174,22 +175,22 @@ module _ (told : List Told) where
           (subst (λ a. AllByRecursion (λ b. id_cmp a b ≡ Less) (edges ss)) (sym is.switch) (below_edges s ss h.0), rest)
 
   pub switches_rise : IsStrictlySortedBy id_cmp (switches told)
-  switches_rise = rising_in_order id_cmp id_total (map (λ t. t.switch) told)
+  switches_rise = rising_in_order id_cmp id_total (tellers told)
 
   pub neighbours_rise : (s : SwitchId) → IsStrictlySortedBy id_cmp (neighbours told s)
-  neighbours_rise s = rising_in_order id_cmp id_total (filter_map (λ t. neighbour_in t.says) (filter (λ t. same_switch t.switch s) told))
+  neighbours_rise s = rising_in_order id_cmp id_total (map (λ l. l.0.1) (filter (λ l. same_switch l.0.0 s) told.links))
 
   pub alive_rise : (s : SwitchId) (level : ℕ) → IsStrictlySortedBy id_cmp (alive_at_level told s level)
   alive_rise s level =
       IsStrictlySortedBy-filter id_cmp (λ u. has_level told u level) (alive_neighbours told s)
       (IsStrictlySortedBy-filter id_cmp (is_alive told s) (neighbours told s) (neighbours_rise s))
 
-  pub needed_rise : (group : ℕ) → IsStrictlySortedBy id_cmp (needed_edges told group)
-  needed_rise group =
-      cond_both (group == flood) (map (λ e. e.switch) (placed_edges told)) (filter (λ s. has_members told s group) (switches told))
+  pub needed_rise : (members : Members) (group : ℕ) → IsStrictlySortedBy id_cmp (needed_edges told members group)
+  needed_rise members group =
+      cond_both (group == flood) (map (λ e. e.switch) (placed_edges told)) (with_members members group)
       (IsStrictlySortedBy id_cmp)
       (λ all. edges_rise (switches told) switches_rise)
-      (λ some. IsStrictlySortedBy-filter id_cmp (λ s. has_members told s group) (switches told) switches_rise)
+      (λ some. rising_in_order id_cmp id_total (map (λ m. m.0.0) (filter (λ m. m.0.1 == group && m.1) members)))
 
-  pub groups_rise : IsStrictlySortedBy nat_cmp (groups told)
-  groups_rise = rising_in_order nat_cmp nat_cmp_total (flood ∷ filter_map (λ t. group_in t.says) told)
+pub groups_rise : (members : Members) → IsStrictlySortedBy nat_cmp (groups members)
+groups_rise members = rising_in_order nat_cmp nat_cmp_total (flood ∷ map (λ m. m.0.1) members)

@@ -3,3 +3,8 @@ pub mod HeardSwitches
 pub mod Registered
 pub mod Parts
 pub mod Sameness
+pub mod Tables
+pub mod Speakers
+pub mod Kept
+pub mod Repeated
+pub mod ToldLast

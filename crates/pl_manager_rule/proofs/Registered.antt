@@ -1,15 +1,15 @@
 -- Addresses and pods are numbered in the order in which they come, each once.
-use Rattle.std.proofs.Common.{◌≡◌, ℕ, zero, suc, ◌+◌, ◌&&◌, ◌||◌, not, Bool, true, false, cond, List, [], ◌∷◌, ◌++◌, map, reverse, length, Some, is_some, IsSome, refl, sym, ap, ◌∙◌, arith, eq-eqb}
+use Rattle.std.proofs.Common.{◌≡◌, ℕ, zero, suc, ◌+◌, ◌&&◌, ◌||◌, Bool, true, false, cond, List, [], ◌∷◌, ◌++◌, map, reverse, length, Some, is_some, IsSome, refl, sym, ap, ◌∙◌, subst, arith, eq-eqb}
 use Rattle.std.specs.List.{AllByRecursion, IsDistinct, find, list_any, range_with_len}
 use Rattle.std.specs.Option.{option_map}
-use Rattle.std.proofs.lemmas.Bool.{and_parts, false≢true, not-true, or_parts}
+use Rattle.std.proofs.lemmas.Bool.{false≢true, or_parts}
 use Rattle.std.proofs.lemmas.Cmp.{nat_eq_equiv}
 use Rattle.std.proofs.lemmas.List.{length-map, reverse-append}
 use Rattle.pl_frame.specs.declared.address.SwitchId.{SwitchId}
 use Rattle.pl_pmac.specs.declared.pmac.Pmac.{Pmac}
-use Rattle.pl_core.specs.declared.messages.ToManager.TheVariants as tell
 use Rattle.pl_layouts.specs.Equality.{same_pmac, same_switch}
-use Rattle.pl_core.specs.ManagerViews.{Learnt, PodGiven, Registration, Told, asks_for_pod, pod_given, pods_given, registry}
+use Rattle.pl_core.specs.ManagerViews.{LearntAddress, PodGiven, Registration, numbered, pod_given, pods_given}
+use Rattle.pl_manager_rule.specs.ManagerRule.{with_asker}
 
 range_more : (a n : ℕ) → range_with_len a (suc n) ≡ range_with_len a n ++ (a + n) ∷ []
 range_more a zero = ap (λ m. m ∷ []) (omega arith)
@@ -37,70 +37,64 @@ none_like f eq turned k [] h = tt
 none_like f eq turned k (x ∷ xs) h =
     let two = or_parts (eq (f x) k) (list_any (λ y. eq (f y) k) xs) h in (turned k (f x) ∙ two.0, none_like f eq turned k xs two.1)
 
-switch_turned : (a b : SwitchId) → same_switch a b ≡ same_switch b a
+pub switch_turned : (a b : SwitchId) → same_switch a b ≡ same_switch b a
 switch_turned a b = nat_eq_equiv.symm a.0 b.0
 
-pmac_turned : (a b : Pmac) → same_pmac a b ≡ same_pmac b a
+pub pmac_turned : (a b : Pmac) → same_pmac a b ≡ same_pmac b a
 pmac_turned a b = λ i. ((nat_eq_equiv.symm a.pod b.pod i && nat_eq_equiv.symm a.position b.position i) && nat_eq_equiv.symm a.port b.port i)
     && nat_eq_equiv.symm a.vmid b.vmid i
 
 -- ---- addresses
-pub numbers_in_order : (learnt : List Learnt) → reverse (map (λ r. r.number) (registry learnt)) ≡ range_with_len 1 (length (registry learnt))
+pub numbers_in_order : (addresses : List LearntAddress) → reverse (map (λ r. r.number) (numbered addresses)) ≡ range_with_len 1 (length (numbered addresses))
 numbers_in_order [] = refl
-numbers_in_order (l ∷ learnt) = by (numbers_in_order learnt) (list_any (λ r. same_pmac r.pmac l.pmac) (registry learnt))
+numbers_in_order (a ∷ addresses) = by (numbers_in_order addresses) (list_any (λ r. same_pmac r.pmac a.pmac) (numbered addresses))
   where
-    by : reverse (map (λ r. r.number) (registry learnt)) ≡ range_with_len 1 (length (registry learnt)) → (b : Bool) →
-        let new : Registration = record { pmac = l.pmac; amac = l.amac; number = length (registry learnt) + 1; switch = l.switch } in
-        let all = cond b (registry learnt) (new ∷ registry learnt) in
+    by : reverse (map (λ r. r.number) (numbered addresses)) ≡ range_with_len 1 (length (numbered addresses)) → (b : Bool) →
+        let new : Registration = record { pmac = a.pmac; amac = a.amac; number = length (numbered addresses) + 1; switch = a.switch } in
+        let all = cond b (numbered addresses) (new ∷ numbered addresses) in
         reverse (map (λ r. r.number) all) ≡ range_with_len 1 (length all)
     by rest true = rest
     by rest false =
-        let new : Registration = record { pmac = l.pmac; amac = l.amac; number = length (registry learnt) + 1; switch = l.switch } in
-        one_more_item (λ r. r.number) 1 new (registry learnt) (omega arith) rest
+        let new : Registration = record { pmac = a.pmac; amac = a.amac; number = length (numbered addresses) + 1; switch = a.switch } in
+        one_more_item (λ r. r.number) 1 new (numbered addresses) (omega arith) rest
 
-pub addresses_once : (learnt : List Learnt) → IsDistinct same_pmac (map (λ r. r.pmac) (registry learnt))
+pub addresses_once : (addresses : List LearntAddress) → IsDistinct same_pmac (map (λ r. r.pmac) (numbered addresses))
 unfolding IsDistinct
 addresses_once [] = tt
-addresses_once (l ∷ learnt) = by (addresses_once learnt) (list_any (λ r. same_pmac r.pmac l.pmac) (registry learnt)) refl
+addresses_once (a ∷ addresses) = by (addresses_once addresses) (list_any (λ r. same_pmac r.pmac a.pmac) (numbered addresses)) refl
   where
-    by : IsDistinct same_pmac (map (λ r. r.pmac) (registry learnt)) → (b : Bool) → list_any (λ r. same_pmac r.pmac l.pmac) (registry learnt) ≡ b →
-        let new : Registration = record { pmac = l.pmac; amac = l.amac; number = length (registry learnt) + 1; switch = l.switch } in
-        IsDistinct same_pmac (map (λ r. r.pmac) (cond b (registry learnt) (new ∷ registry learnt)))
+    by : IsDistinct same_pmac (map (λ r. r.pmac) (numbered addresses)) → (b : Bool) → list_any (λ r. same_pmac r.pmac a.pmac) (numbered addresses) ≡ b →
+        let new : Registration = record { pmac = a.pmac; amac = a.amac; number = length (numbered addresses) + 1; switch = a.switch } in
+        IsDistinct same_pmac (map (λ r. r.pmac) (cond b (numbered addresses) (new ∷ numbered addresses)))
     by rest true e = rest
-    by rest false e = (none_like (λ r. r.pmac) same_pmac pmac_turned l.pmac (registry learnt) e, rest)
+    by rest false e = (none_like (λ r. r.pmac) same_pmac pmac_turned a.pmac (numbered addresses) e, rest)
 
 -- ---- pods
-pub pods_in_order : (told : List Told) → reverse (map (λ g. g.pod) (pods_given told)) ≡ range_with_len 0 (length (pods_given told))
+pub pods_in_order : (askers : List SwitchId) → reverse (map (λ g. g.pod) (pods_given askers)) ≡ range_with_len 0 (length (pods_given askers))
 pods_in_order [] = refl
-pods_in_order (t ∷ told) = by (pods_in_order told) (asks_for_pod t.says && not (list_any (λ g. same_switch g.switch t.switch) (pods_given told)))
+pods_in_order (s ∷ askers) = by (pods_in_order askers) (list_any (λ g. same_switch g.switch s) (pods_given askers))
   where
-    by : reverse (map (λ g. g.pod) (pods_given told)) ≡ range_with_len 0 (length (pods_given told)) → (b : Bool) →
-        let new : PodGiven = record { switch = t.switch; pod = length (pods_given told) } in
-        let all = cond b (new ∷ pods_given told) (pods_given told) in
+    by : reverse (map (λ g. g.pod) (pods_given askers)) ≡ range_with_len 0 (length (pods_given askers)) → (b : Bool) →
+        let new : PodGiven = record { switch = s; pod = length (pods_given askers) } in
+        let all = cond b (pods_given askers) (new ∷ pods_given askers) in
         reverse (map (λ g. g.pod) all) ≡ range_with_len 0 (length all)
-    by rest true =
-        let new : PodGiven = record { switch = t.switch; pod = length (pods_given told) } in
-        one_more_item (λ g. g.pod) 0 new (pods_given told) (omega arith) rest
-    by rest false = rest
+    by rest true = rest
+    by rest false =
+        let new : PodGiven = record { switch = s; pod = length (pods_given askers) } in
+        one_more_item (λ g. g.pod) 0 new (pods_given askers) (omega arith) rest
 
-pub askers_once : (told : List Told) → IsDistinct same_switch (map (λ g. g.switch) (pods_given told))
+pub askers_once : (askers : List SwitchId) → IsDistinct same_switch (map (λ g. g.switch) (pods_given askers))
 unfolding IsDistinct
 askers_once [] = tt
-askers_once (t ∷ told) = by (askers_once told) (asks_for_pod t.says && not (list_any (λ g. same_switch g.switch t.switch) (pods_given told))) refl
+askers_once (s ∷ askers) = by (askers_once askers) (list_any (λ g. same_switch g.switch s) (pods_given askers)) refl
   where
-    by : IsDistinct same_switch (map (λ g. g.switch) (pods_given told)) → (b : Bool) →
-        (asks_for_pod t.says && not (list_any (λ g. same_switch g.switch t.switch) (pods_given told))) ≡ b →
-        let new : PodGiven = record { switch = t.switch; pod = length (pods_given told) } in
-        IsDistinct same_switch (map (λ g. g.switch) (cond b (new ∷ pods_given told) (pods_given told)))
-    by rest true e =
-        let fresh = and_parts (asks_for_pod t.says) (not (list_any (λ g. same_switch g.switch t.switch) (pods_given told))) e in (
-          none_like (λ g. g.switch) same_switch switch_turned t.switch (pods_given told)
-              (not-true (list_any (λ g. same_switch g.switch t.switch) (pods_given told)) fresh.1),
-          rest,
-        )
-    by rest false e = rest
+    by : IsDistinct same_switch (map (λ g. g.switch) (pods_given askers)) → (b : Bool) → list_any (λ g. same_switch g.switch s) (pods_given askers) ≡ b →
+        let new : PodGiven = record { switch = s; pod = length (pods_given askers) } in
+        IsDistinct same_switch (map (λ g. g.switch) (cond b (pods_given askers) (new ∷ pods_given askers)))
+    by rest true e = rest
+    by rest false e = (none_like (λ g. g.switch) same_switch switch_turned s (pods_given askers) e, rest)
 
-found_where_any : (test : PodGiven → Bool) (gs : List PodGiven) → list_any test gs ≡ true → is_some (option_map (λ g. g.pod) (find test gs)) ≡ true
+pub found_where_any : (test : PodGiven → Bool) (gs : List PodGiven) → list_any test gs ≡ true → is_some (option_map (λ g. g.pod) (find test gs)) ≡ true
 found_where_any test [] h = absurd (false≢true h)
 found_where_any test (g ∷ gs) h = by (λ k. found_where_any test gs k) (test g) h
   where
@@ -110,14 +104,18 @@ found_where_any test (g ∷ gs) h = by (λ k. found_where_any test gs k) (test g
     by rest false k = rest k
 
 -- one that asks has a number then
-pub asker_has_pod : (told : List Told) (s : SwitchId) → IsSome (pod_given (record { switch = s; says = tell.PodWanted } ∷ told) s)
-asker_has_pod told s = by (list_any (λ g. same_switch g.switch s) (pods_given told)) refl
+pub asker_has_pod : (askers : List SwitchId) (s : SwitchId) → IsSome (pod_given (with_asker askers s) s)
+asker_has_pod askers s = by (list_any (λ g. same_switch g.switch s) (pods_given askers)) refl
   where
-    by : (b : Bool) → list_any (λ g. same_switch g.switch s) (pods_given told) ≡ b →
-        let new : PodGiven = record { switch = s; pod = length (pods_given told) } in
-        IsSome (option_map (λ g. g.pod) (find (λ g. same_switch g.switch s) (cond (not b) (new ∷ pods_given told) (pods_given told))))
-    by true e = found_where_any (λ g. same_switch g.switch s) (pods_given told) e
-    by false e =
-        let new : PodGiven = record { switch = s; pod = length (pods_given told) } in
+    -- the first one that asks is given the next number
+    first : list_any (λ g. same_switch g.switch s) (pods_given askers) ≡ false → IsSome (pod_given (s ∷ askers) s)
+    first e =
+        let new : PodGiven = record { switch = s; pod = length (pods_given askers) } in
         let own : same_switch s s ≡ true = eq-eqb s.0 s.0 refl in
-        ap (λ c. is_some (option_map (λ g. g.pod) (cond c (Some new) (find (λ g. same_switch g.switch s) (pods_given told))))) own
+        subst (λ gs. IsSome (option_map (λ g. g.pod) (find (λ g. same_switch g.switch s) gs)))
+        (sym (ap (λ b. cond b (pods_given askers) (new ∷ pods_given askers)) e))
+        (ap (λ c. is_some (option_map (λ g. g.pod) (cond c (Some new) (find (λ g. same_switch g.switch s) (pods_given askers))))) own)
+
+    by : (b : Bool) → list_any (λ g. same_switch g.switch s) (pods_given askers) ≡ b → IsSome (pod_given (cond b askers (s ∷ askers)) s)
+    by true e = found_where_any (λ g. same_switch g.switch s) (pods_given askers) e
+    by false e = first e

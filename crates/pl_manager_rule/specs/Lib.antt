@@ -1,1 +1,3 @@
 pub mod ManagerRule
+pub mod Repeats
+pub mod Lawful

@@ -3,11 +3,14 @@ use Rattle.std.specs.Prelude.{◌≡◌, ℕ, ◌+◌, ◌&&◌, not, Bool, true
 use Rattle.std.specs.List.{filter, flat_map, list_any}
 use Rattle.std.specs.Option.{option_or}
 use Rattle.std.specs.Ordering.{eq_by_cmp}
+use Rattle.std.specs.BTreeMap.{insert_entry}
 use Rattle.std.specs.Cmp.Lexicographic.{pointwise}
 use Rattle.pl_frame.specs.declared.address.Ip4.{Ip4}
 use Rattle.pl_frame.specs.declared.address.Mac.{Mac}
 use Rattle.pl_frame.specs.declared.address.SwitchId.{SwitchId}
 use Rattle.pl_pmac.specs.declared.pmac.Pmac.{Pmac}
+use Rattle.pl_layouts.specs.declared.place.Place.{Place}
+use Rattle.pl_layouts.specs.Equality.{same_pmac, same_switch}
 use Rattle.pl_core.specs.declared.acts.ManagerAct.{ManagerAct}
 use Rattle.pl_core.specs.declared.acts.ManagerAct.TheVariants.{Say, Number}
 use Rattle.pl_core.specs.declared.messages.ToManager.{ToManager}
@@ -15,29 +18,62 @@ use Rattle.pl_core.specs.declared.messages.ToManager.TheVariants as tell
 use Rattle.pl_core.specs.declared.messages.ToSwitch.{ToSwitch}
 use Rattle.pl_core.specs.declared.messages.ToSwitch.TheVariants as say
 use Rattle.pl_core.specs.declared.messages.TreePart.{TreePart}
-use Rattle.pl_core.specs.ManagerViews.{Told, Learnt, ManagerView, Registration, ip_of, lookup, newest, pod_given, registry, switches}
+use Rattle.pl_core.specs.HostViews.{ip_cmp}
+use Rattle.pl_core.specs.ManagerViews.{Told, Learnt, LearntAddress, ManagerView, Registration, id_cmp, ip_of, link_cmp, lookup, members_cmp, newest, numbered, pod_given, pods_given, registry, switches}
 use Rattle.pl_core.specs.AvoidLists.{avoid_list, avoided_cmp}
 use Rattle.pl_core.specs.Trees.{tree_part}
-use Rattle.pl_layouts.specs.Equality.{same_pmac, same_switch}
 use Rattle.pl_core.specs.ManagerDuties.{ManagerRule}
 use Rattle.pl_core.specs.ManagerFacts.{groups}
 
--- the view once this was told: an address is learnt, a question leaves no trace
+-- the places and links that are known once a switch told its place, or whether a link of it is usable
+abbrev pub with_place : Told → SwitchId → Place → Told
+with_place told s place = record told { places = insert_entry id_cmp told.places s place }
+
+abbrev pub with_link : Told → SwitchId → SwitchId → Bool → Told
+with_link told s u usable = record told { links = insert_entry link_cmp told.links (s, u) usable }
+
+-- who asked for a pod once a switch asks
+abbrev pub with_asker : List SwitchId → SwitchId → List SwitchId
+with_asker askers s = if list_any (λ g. same_switch g.switch s) (pods_given askers) then askers else s ∷ askers
+
+-- the IPv4 address of a pseudo address once it was told with this one
+abbrev pub told_again : LearntAddress → LearntAddress → LearntAddress
+told_again new a = record a { ip = if same_pmac a.pmac new.pmac then option_or new.ip a.ip else a.ip }
+
+-- An address that was learnt before keeps its place and its host, and takes the IPv4 address where one is told. Another one is the newest.
+abbrev pub with_address : List LearntAddress → LearntAddress → List LearntAddress
+with_address addresses new =
+    if list_any (λ r. same_pmac r.pmac new.pmac) (numbered addresses) then map (told_again new) addresses else new ∷ addresses
+
+-- with which pseudo address an IPv4 address was told last
+abbrev pub with_owner : List (Ip4 × Pmac) → Option Ip4 → Pmac → List (Ip4 × Pmac)
+with_owner owners None pmac = owners
+with_owner owners (Some ip) pmac = insert_entry ip_cmp owners ip pmac
+
+-- what was learnt of addresses once this is told
+abbrev pub with_learnt : Learnt → LearntAddress → Learnt
+with_learnt learnt new =
+    record { addresses = with_address learnt.addresses new; owners = with_owner learnt.owners new.ip new.pmac }
+
+-- the view once this was told: a later word takes the place of the one before, and a question leaves no trace
 abbrev pub view_after : ManagerView → SwitchId → ToManager → ManagerView
+view_after view s (tell.Place place) = record view { told = with_place view.told s place }
+view_after view s (tell.Link u usable) = record view { told = with_link view.told s u usable }
+view_after view s tell.PodWanted = record view { askers = with_asker view.askers s }
 view_after view s (tell.Learned pmac amac ip) =
-    record view { learnt = record { switch = s; pmac = pmac; amac = amac; ip = ip } ∷ view.learnt }
+    record view { learnt = with_learnt view.learnt (record { switch = s; pmac = pmac; amac = amac; ip = ip }) }
 view_after view s (tell.Query asker asker_ip ip) = view
-view_after view s says = record view { told = record { switch = s; says = says } ∷ view.told }
+view_after view s (tell.Members group any) = record view { members = insert_entry members_cmp view.members (s, group) any }
 
 -- The newest address of a host is replaced: the switch that told it first is sent the new one, with the IPv4 address that is known for
 -- the new one, else for the old one.
-abbrev pub invalidation : List Learnt → Pmac → ℕ → Option Registration → List ManagerAct
+abbrev pub invalidation : Learnt → Pmac → ℕ → Option Registration → List ManagerAct
 invalidation learnt new number None = []
 invalidation learnt new number (Some old) =
     Say old.switch (say.Invalidate old.pmac new number (option_or (ip_of learnt new) (ip_of learnt old.pmac))) ∷ []
 
 -- An address that was learnt before says nothing new. Another one gets the next number.
-abbrev pub learning : List Learnt → List Learnt → Pmac → Mac → List ManagerAct
+abbrev pub learning : Learnt → Learnt → Pmac → Mac → List ManagerAct
 learning before after pmac amac =
     if list_any (λ r. same_pmac r.pmac pmac) (registry before) then []
     else Number pmac (length (registry before) + 1) ∷ invalidation after pmac (length (registry before) + 1) (newest before amac)
@@ -49,7 +85,7 @@ answer_to asker asker_ip ip (Some pmac) = say.Answer asker asker_ip ip pmac
 
 -- what the message itself brings about; every pod that is asked for was given a number
 abbrev pub reply : ManagerView → ManagerView → SwitchId → ToManager → List ManagerAct
-reply before after s tell.PodWanted = Say s (say.Pod (unwrap_or (pod_given after.told s) 0)) ∷ []
+reply before after s tell.PodWanted = Say s (say.Pod (unwrap_or (pod_given after.askers s) 0)) ∷ []
 reply before after s (tell.Learned pmac amac ip) = learning before.learnt after.learnt pmac amac
 reply before after s (tell.Query asker asker_ip ip) = Say s (answer_to asker asker_ip ip (lookup after.learnt ip)) ∷ []
 reply before after s says = []
@@ -59,11 +95,11 @@ abbrev pub same_avoid_list : List (SwitchId × ℕ × ℕ) → List (SwitchId ×
 same_avoid_list = pointwise (eq_by_cmp avoided_cmp)
 
 -- the switches whose avoid list changed, by rising id
-abbrev pub changed : List Told → List Told → List SwitchId
+abbrev pub changed : Told → Told → List SwitchId
 changed before after = filter (λ s. not (same_avoid_list (avoid_list before s) (avoid_list after s))) (switches after)
 
 -- each is sent its new list
-abbrev pub avoid_acts : List Told → List Told → List ManagerAct
+abbrev pub avoid_acts : Told → Told → List ManagerAct
 avoid_acts before after = map (λ s. Say s (say.Avoid (avoid_list after s))) (changed before after)
 
 -- the same neighbour above, or none twice
@@ -78,17 +114,22 @@ same_part None None = true
 same_part (Some x) (Some y) = same_up x.up y.up && pointwise same_switch x.down y.down
 same_part x y = false
 
+-- the part of a switch by what is known
+abbrev pub part_in : ManagerView → ℕ → SwitchId → Option TreePart
+part_in view group s = tree_part view.told view.members group s
+
 -- the switches whose part of a group changed, by rising id
-abbrev pub changed_of_group : List Told → List Told → ℕ → List SwitchId
-changed_of_group before after group = filter (λ s. not (same_part (tree_part before group s) (tree_part after group s))) (switches after)
+abbrev pub changed_of_group : ManagerView → ManagerView → ℕ → List SwitchId
+changed_of_group before after group =
+    filter (λ s. not (same_part (part_in before group s) (part_in after group s))) (switches after.told)
 
 -- each is sent its new part, or that it has none
-abbrev pub tree_acts_of : List Told → List Told → ℕ → List ManagerAct
-tree_acts_of before after group = map (λ s. Say s (say.Tree group (tree_part after group s))) (changed_of_group before after group)
+abbrev pub tree_acts_of : ManagerView → ManagerView → ℕ → List ManagerAct
+tree_acts_of before after group = map (λ s. Say s (say.Tree group (part_in after group s))) (changed_of_group before after group)
 
 -- by rising group
-abbrev pub tree_acts : List Told → List Told → List ManagerAct
-tree_acts before after = flat_map (tree_acts_of before after) (groups after)
+abbrev pub tree_acts : ManagerView → ManagerView → List ManagerAct
+tree_acts before after = flat_map (tree_acts_of before after) (groups after.members)
 
 -- what it knows then, and what it does
 pub record ManagerStep : Type 0 where
@@ -97,7 +138,7 @@ pub record ManagerStep : Type 0 where
 
 -- first what the message itself brings about, then avoid lists, then parts of trees
 abbrev pub acts_of : ManagerView → ManagerView → SwitchId → ToManager → List ManagerAct
-acts_of before after s says = reply before after s says ++ avoid_acts before.told after.told ++ tree_acts before.told after.told
+acts_of before after s says = reply before after s says ++ avoid_acts before.told after.told ++ tree_acts before after
 
 -- the step: a switch says this
 unfoldable pub manager_hears : ManagerView → SwitchId → ToManager → ManagerStep

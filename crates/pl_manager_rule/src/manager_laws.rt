@@ -1,40 +1,41 @@
-ghost use Rattle.std.specs.Prelude.{◌≡◌, ◌↔◌, ℕ, List, Contains, reverse, length, map, Option, IfSome, IsSome, IsTrue, ◌∷◌};
+ghost use Rattle.std.specs.Prelude.{◌≡◌, ◌↔◌, ℕ, List, Contains, reverse, length, map, Option, IfSome, IsSome, IsTrue};
 ghost use Rattle.std.specs.List.{IsDistinct, range_with_len};
 ghost use Rattle.std.specs.List.Sorted.{IsStrictlySortedBy};
 ghost use Rattle.std.specs.Ordering.{nat_cmp};
 ghost use Rattle.pl_frame.specs.declared.address.SwitchId.{SwitchId};
-ghost use Rattle.pl_core.specs.declared.messages.ToManager.TheVariants.{PodWanted};
 ghost use Rattle.pl_core.specs.declared.messages.TreePart.{TreePart};
 ghost use Rattle.pl_layouts.specs.Equality.{same_pmac, same_switch};
-ghost use Rattle.pl_core.specs.ManagerViews.{Learnt, Told, alive_at_level, id_cmp, neighbours, pod_given, pods_given, registry, switches};
+ghost use Rattle.pl_core.specs.ManagerViews.{Learnt, ManagerView, Members, Told, alive_at_level, booted_manager, id_cmp, neighbours, pod_given, pods_given, registry, switches};
 ghost use Rattle.pl_core.specs.AvoidLists.{Avoids, avoid_list, avoided_cmp};
 ghost use Rattle.pl_core.specs.Trees.{needed_edges, tree_part};
-ghost use Rattle.pl_manager_rule.specs.ManagerRule.{manager_rule, same_avoid_list, same_part};
+ghost use Rattle.pl_manager_rule.specs.ManagerRule.{manager_hears, manager_rule, same_avoid_list, same_part, with_asker};
+ghost use Rattle.pl_manager_rule.specs.Repeats.{HasToldLast, IsInOrder, answers};
+ghost use Rattle.pl_core.specs.declared.messages.ToManager.{ToManager};
 ghost use Rattle.pl_core.specs.ManagerFacts.{groups};
 ghost use Rattle.pl_core.specs.ManagerDuties.{AnswersDuly};
 
 /// The avoid list of a switch has all that the switch avoids and nothing else, in rising order and
 /// nothing twice.
 pub fn an_avoid_list_is_what_its_switch_avoids()
-    ensures listed { (told : List Told) (s : SwitchId) (avoided : SwitchId × ℕ × ℕ) →
+    ensures listed { (told : Told) (s : SwitchId) (avoided : SwitchId × ℕ × ℕ) →
         Contains (avoid_list told s) avoided ↔ Avoids told s avoided }
-    ensures rising { (told : List Told) (s : SwitchId) →
+    ensures rising { (told : Told) (s : SwitchId) →
         IsStrictlySortedBy avoided_cmp (avoid_list told s) }
 {}
 
 /// The manager's lists of switches and of groups rise, with nothing twice; so does what stands below
 /// in a part of a tree.
 pub fn lists_of_switches_rise()
-    ensures switches { (told : List Told) → IsStrictlySortedBy id_cmp (switches told) }
-    ensures neighbours { (told : List Told) (s : SwitchId) →
+    ensures switches { (told : Told) → IsStrictlySortedBy id_cmp (switches told) }
+    ensures neighbours { (told : Told) (s : SwitchId) →
         IsStrictlySortedBy id_cmp (neighbours told s) }
-    ensures alive { (told : List Told) (s : SwitchId) (level : ℕ) →
+    ensures alive { (told : Told) (s : SwitchId) (level : ℕ) →
         IsStrictlySortedBy id_cmp (alive_at_level told s level) }
-    ensures needed { (told : List Told) (group : ℕ) →
-        IsStrictlySortedBy id_cmp (needed_edges told group) }
-    ensures groups { (told : List Told) → IsStrictlySortedBy nat_cmp (groups told) }
-    ensures parts { (told : List Told) (group : ℕ) (s : SwitchId) →
-        IfSome (tree_part told group s) (λ part. IsStrictlySortedBy id_cmp part.down) }
+    ensures needed { (told : Told) (members : Members) (group : ℕ) →
+        IsStrictlySortedBy id_cmp (needed_edges told members group) }
+    ensures groups { (members : Members) → IsStrictlySortedBy nat_cmp (groups members) }
+    ensures parts { (told : Told) (members : Members) (group : ℕ) (s : SwitchId) →
+        IfSome (tree_part told members group s) (λ part. IsStrictlySortedBy id_cmp part.down) }
 {}
 
 /// The manager's tests of avoid lists and of parts of trees tell just those apart that differ.
@@ -46,23 +47,37 @@ pub fn a_change_is_seen()
 /// Addresses have the numbers 1, 2, 3 and so on in the order in which they were first learnt, each
 /// address once.
 pub fn addresses_are_numbered_in_order()
-    ensures numbers { (learnt : List Learnt) → reverse (map (λ r. r.number) (registry learnt))
+    ensures numbers { (learnt : Learnt) → reverse (map (λ r. r.number) (registry learnt))
         ≡ range_with_len 1 (length (registry learnt)) }
-    ensures once { (learnt : List Learnt) → IsDistinct same_pmac (map (λ r. r.pmac) (registry learnt)) }
+    ensures once { (learnt : Learnt) → IsDistinct same_pmac (map (λ r. r.pmac) (registry learnt)) }
 {}
 
 /// Pods have the numbers 0, 1, 2 and so on in the order in which switches first asked, each switch
 /// once; and one that asks has a number then.
 pub fn pods_are_numbered_in_order()
-    ensures numbers { (told : List Told) → reverse (map (λ g. g.pod) (pods_given told))
-        ≡ range_with_len 0 (length (pods_given told)) }
-    ensures once { (told : List Told) → IsDistinct same_switch (map (λ g. g.switch) (pods_given told)) }
-    ensures asked { (told : List Told) (s : SwitchId) →
-        IsSome (pod_given (record { switch = s; says = PodWanted } ∷ told) s) }
+    ensures numbers { (askers : List SwitchId) → reverse (map (λ g. g.pod) (pods_given askers))
+        ≡ range_with_len 0 (length (pods_given askers)) }
+    ensures once { (askers : List SwitchId) → IsDistinct same_switch (map (λ g. g.switch) (pods_given askers)) }
+    ensures asked { (askers : List SwitchId) (s : SwitchId) → IsSome (pod_given (with_asker askers s) s) }
 {}
 
 /// The manager sends messages to switches that it heard before, and to the one that speaks; and it
 /// numbers just the addresses that it learns.
 pub fn the_manager_answers_duly()
     ensures { AnswersDuly manager_rule }
+{}
+
+/// What the manager knows is in order from the beginning, and stays so with all that it hears.
+pub fn what_is_known_stays_in_order()
+    ensures boots { (k : ℕ) → IsInOrder (booted_manager k) }
+    ensures stays { (view : ManagerView) (s : SwitchId) (says : ToManager) →
+        IsInOrder view → IsInOrder (manager_hears view s says).view }
+{}
+
+/// A word that a switch told last already changes nothing that is known and brings no act about: only a
+/// wish for a pod and a question are answered again. And each word is told last once it was heard.
+pub fn a_repeated_word_changes_nothing()
+    ensures nothing { (view : ManagerView) (s : SwitchId) (says : ToManager) → IsInOrder view → HasToldLast view s says →
+        manager_hears view s says ≡ record { view = view; acts = answers view s says } }
+    ensures last { (view : ManagerView) (s : SwitchId) (says : ToManager) → HasToldLast (manager_hears view s says).view s says }
 {}

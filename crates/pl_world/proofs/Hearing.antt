@@ -3,7 +3,7 @@ use Rattle.std.proofs.Common.{◌≡◌, ℕ, zero, suc, ◌+◌, ◌*◌, ◌/�
 use Rattle.std.specs.List.{AllByRecursion, list_any}
 use Rattle.std.specs.List.Sorted.{IsStrictlySortedBy}
 use Rattle.std.specs.Ordering.{ordering_reverse}
-use Rattle.std.proofs.lemmas.Bool.{eq-eqb, eqb-true, or_cases, or_left, or_right}
+use Rattle.std.proofs.lemmas.Bool.{eq-eqb, eqb-true, or_cases}
 use Rattle.pl_frame.specs.declared.address.SwitchId.{SwitchId}
 use Rattle.pl_wiring.specs.Labels.{IsArity, switch_count}
 use Rattle.pl_wiring.specs.Plan.{IsPlan, Plan}
@@ -11,8 +11,8 @@ use Rattle.pl_layouts.specs.Equality.{same_switch}
 use Rattle.pl_core.specs.ManagerFacts.{CanHear, heard}
 use Rattle.pl_core.specs.ManagerFacts as facts
 use Rattle.pl_core.specs.ManagerDuties.{IsGrown}
-use Rattle.pl_core.specs.ManagerViews.{Learnt, ManagerView, Told, id_cmp, in_order, is_heard}
-use Rattle.pl_core.proofs.Among.{IsAmong, among_append, among_map, among_of_Contains, among_ordered, any_among, rising_in_order, id_total}
+use Rattle.pl_core.specs.ManagerViews.{ManagerView, id_cmp, in_order, is_heard, speakers}
+use Rattle.pl_core.proofs.Among.{IsAmong, among_of_Contains, among_ordered, any_among, rising_in_order, id_total}
 use Rattle.pl_world.specs.Hearing.{HeardWithin}
 
 -- ---- a rising list of some ids is no longer than they are many
@@ -81,24 +81,17 @@ found_among (i ∷ ids) (suc n) id found = inr (found_among ids n id found)
 same_itself : (s : SwitchId) → same_switch s s ≡ true
 same_itself s = eq-eqb s.0 s.0 refl
 
-told_is_heard : (view : ManagerView) (q : SwitchId) → IsAmong q (map (λ t. t.switch) view.told ++ map (λ l. l.switch) view.learnt) → IsTrue (is_heard view q)
-told_is_heard view q h = elim (among_append q (map (λ t. t.switch) view.told) (map (λ l. l.switch) view.learnt) h) [
-  | inl told ↦ let at = among_map (λ (t : Told). t.switch) q view.told told in
-      or_left (list_any (λ t. same_switch t.switch q) view.told) (list_any (λ l. same_switch l.switch q) view.learnt)
-      (any_among (λ t. same_switch t.switch q) at.0 view.told at.1 (subst (λ u. same_switch u q ≡ true) (sym at.2) (same_itself q)))
-  | inr learnt ↦ let at = among_map (λ (l : Learnt). l.switch) q view.learnt learnt in
-      or_right (list_any (λ t. same_switch t.switch q) view.told) (list_any (λ l. same_switch l.switch q) view.learnt)
-      (any_among (λ l. same_switch l.switch q) at.0 view.learnt at.1 (subst (λ u. same_switch u q ≡ true) (sym at.2) (same_itself q)))
-]
+among_is_heard : (q : SwitchId) (xs : List SwitchId) → IsAmong q xs → IsTrue (list_any (λ t. same_switch t q) xs)
+among_is_heard q xs h = any_among (λ t. same_switch t q) q xs h (same_itself q)
 
 pub can_hear_each : (plan : Plan) (view : ManagerView) (steps : ℕ) → IsPlan plan → HeardWithin plan view steps → steps < 4294967295 →
     (s : ℕ) (id : SwitchId) → slice_get plan.ids s ≡ Some id → CanHear view id
 can_hear_each plan view steps is within few s id found =
-    let those : List SwitchId = id ∷ (map (λ t. t.switch) view.told ++ map (λ l. l.switch) view.learnt) in
+    let those : List SwitchId = id ∷ speakers view in
     let fits : length (in_order id_cmp those) ≤ length plan.ids =
     no_more (in_order id_cmp those) plan.ids (rising_in_order id_cmp id_total those) (λ q h. elim (among_ordered id_cmp q those h) [
       | inl same ↦ subst (λ x. IsAmong x plan.ids) same (found_among plan.ids s id found)
-      | inr before ↦ among_of_Contains q plan.ids (within.heard q (told_is_heard view q before))
+      | inr before ↦ among_of_Contains q plan.ids (within.heard q (among_is_heard q (speakers view) before))
     ]) in
     let many : length plan.ids ≡ facts.switch_count view.k = is.ids_many ∙ switches_of_tree plan.k is.arity ∙ ap facts.switch_count (sym within.same_k) in
     record {

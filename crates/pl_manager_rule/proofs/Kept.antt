@@ -1,0 +1,186 @@
+-- What the fabric manager knows stays in order.
+use Rattle.std.proofs.Common.{◌≡◌, ◌⊎◌, ℕ, ◌+◌, ◌==◌, ◌&&◌, ◌||◌, Bool, true, false, cond, List, [], ◌∷◌, length, map, Option, Some, None, Ordering, Equal, nat_cmp, refl, sym, ap, ◌∙◌, subst, inl, inr}
+use Rattle.std.specs.List.{AllByRecursion, IsDistinct, list_any}
+use Rattle.std.specs.List.Sorted.{IsStrictlySortedBy}
+use Rattle.std.specs.Map.{keys_of}
+use Rattle.std.specs.Cmp.{IsTotalOrder}
+use Rattle.std.proofs.lemmas.Bool.{and_from, and_parts, cond_both, eq-eqb, eqb-true, false≢true, or_cases, or_left, or_parts, or_right}
+use Rattle.std.proofs.lemmas.Cmp.{nat_cmp_total, on_total, then_total}
+use Rattle.std.proofs.lemmas.Map.Lookups.{CmpEqualImpliesEq, exact_unsigned}
+use Rattle.pl_frame.specs.declared.address.Ip4.{Ip4}
+use Rattle.pl_frame.specs.declared.address.SwitchId.{SwitchId}
+use Rattle.pl_pmac.specs.declared.pmac.Pmac.{Pmac}
+use Rattle.pl_layouts.specs.Equality.{same_pmac, same_switch}
+use Rattle.pl_core.specs.declared.messages.ToManager.{ToManager}
+use Rattle.pl_core.specs.declared.messages.ToManager.TheVariants as tell
+use Rattle.pl_core.specs.HostViews.{ip_cmp}
+use Rattle.pl_core.specs.ManagerViews.{LearntAddress, ManagerView, PodGiven, Registration, booted_manager, id_cmp, link_cmp, members_cmp, numbered, pods_given}
+use Rattle.pl_core.proofs.Among.{id_total}
+use Rattle.pl_manager_rule.specs.ManagerRule.{manager_hears, told_again, view_after, with_address, with_asker, with_owner}
+use Rattle.pl_manager_rule.specs.Repeats.{IsInOrder}
+use Rattle.pl_manager_rule.proofs.Avoided.{both_equal, id_exact, same_is}
+use Rattle.pl_manager_rule.proofs.Registered.{pmac_turned, switch_turned}
+use Rattle.pl_manager_rule.proofs.Tables.{rising_put}
+
+-- ---- the orders of the tables
+pub link_total : IsTotalOrder link_cmp
+link_total = then_total (on_total (λ (k : SwitchId × SwitchId). k.0) id_total) (on_total (λ (k : SwitchId × SwitchId). k.1) id_total)
+
+pub members_total : IsTotalOrder members_cmp
+members_total = then_total (on_total (λ (k : SwitchId × ℕ). k.0) id_total) (on_total (λ (k : SwitchId × ℕ). k.1) nat_cmp_total)
+
+pub ip_total : IsTotalOrder ip_cmp
+ip_total = on_total (λ (ip : Ip4). ip.0) nat_cmp_total
+
+pub link_exact : CmpEqualImpliesEq link_cmp
+link_exact a b e =
+    let both = both_equal (id_cmp a.0 b.0) (id_cmp a.1 b.1) e in
+    let s = id_exact a.0 b.0 both.0 in let u = id_exact a.1 b.1 both.1 in λ i. (s i, u i)
+
+pub members_exact : CmpEqualImpliesEq members_cmp
+members_exact a b e =
+    let both = both_equal (id_cmp a.0 b.0) (nat_cmp a.1 b.1) e in
+    let s = id_exact a.0 b.0 both.0 in let g = exact_unsigned a.1 b.1 both.1 in λ i. (s i, g i)
+
+pub ip_exact : CmpEqualImpliesEq ip_cmp
+ip_exact a b e = ap (λ n. let ip : Ip4 = record { 0 = n } in ip) (exact_unsigned a.0 b.0 e)
+
+pub pmac_is : (a b : Pmac) → same_pmac a b ≡ true → a ≡ b
+pmac_is a b e =
+    let three = and_parts ((a.pod == b.pod) && (a.position == b.position) && (a.port == b.port)) (a.vmid == b.vmid) e in
+    let two = and_parts ((a.pod == b.pod) && (a.position == b.position)) (a.port == b.port) three.0 in
+    let one = and_parts (a.pod == b.pod) (a.position == b.position) two.0 in
+    let pod = eqb-true a.pod b.pod one.0 in let position = eqb-true a.position b.position one.1 in
+    let port = eqb-true a.port b.port two.1 in let vmid = eqb-true a.vmid b.vmid three.1 in
+    λ i. record { pod = pod i; position = position i; port = port i; vmid = vmid i }
+
+pub pmac_itself : (x : Pmac) → same_pmac x x ≡ true
+pmac_itself x =
+    and_from ((x.pod == x.pod) && (x.position == x.position) && (x.port == x.port)) (x.vmid == x.vmid)
+    (and_from ((x.pod == x.pod) && (x.position == x.position)) (x.port == x.port)
+    (and_from (x.pod == x.pod) (x.position == x.position) (eq-eqb x.pod x.pod refl) (eq-eqb x.position x.position refl))
+    (eq-eqb x.port x.port refl)) (eq-eqb x.vmid x.vmid refl)
+
+-- ---- askers
+-- each that asked is given a pod
+pub asked_is_given : (askers : List SwitchId) (t : SwitchId) → list_any (λ q. same_switch q t) askers ≡ true →
+    list_any (λ g. same_switch g.switch t) (pods_given askers) ≡ true
+asked_is_given [] t h = absurd (false≢true h)
+asked_is_given (s ∷ askers) t h =
+    by (λ k. asked_is_given askers t k) (list_any (λ g. same_switch g.switch s) (pods_given askers)) refl
+    (or_cases (same_switch s t) (list_any (λ q. same_switch q t) askers) h)
+  where
+    new : PodGiven
+    new = record { switch = s; pod = length (pods_given askers) }
+
+    by : (list_any (λ q. same_switch q t) askers ≡ true → list_any (λ g. same_switch g.switch t) (pods_given askers) ≡ true) →
+        (b : Bool) → list_any (λ g. same_switch g.switch s) (pods_given askers) ≡ b →
+        (same_switch s t ≡ true) ⊎ (list_any (λ q. same_switch q t) askers ≡ true) →
+        list_any (λ g. same_switch g.switch t) (cond b (pods_given askers) (new ∷ pods_given askers)) ≡ true
+    by rest true given (inl is) = subst (λ u. list_any (λ g. same_switch g.switch u) (pods_given askers) ≡ true) (same_is s t is) given
+    by rest true given (inr k) = rest k
+    by rest false given (inl is) = or_left (same_switch s t) (list_any (λ g. same_switch g.switch t) (pods_given askers)) is
+    by rest false given (inr k) = or_right (same_switch s t) (list_any (λ g. same_switch g.switch t) (pods_given askers)) (rest k)
+
+-- a test that would hold elsewhere holds nowhere
+none_where : (a b : Bool) → (a ≡ true → b ≡ true) → b ≡ false → a ≡ false
+none_where true b f e = absurd (false≢true (sym e ∙ f refl))
+none_where false b f e = refl
+
+-- none of them is like this one
+none_alike : {K : Type 0} (eq : K → K → Bool) → ((a b : K) → eq a b ≡ eq b a) → (k : K) (ks : List K) →
+    list_any (λ q. eq q k) ks ≡ false → AllByRecursion (λ q. eq k q ≡ false) ks
+none_alike eq turned k [] h = tt
+none_alike eq turned k (q ∷ ks) h =
+    let two = or_parts (eq q k) (list_any (λ p. eq p k) ks) h in (turned k q ∙ two.0, none_alike eq turned k ks two.1)
+
+askers_kept : (askers : List SwitchId) (s : SwitchId) → IsDistinct same_switch askers → IsDistinct same_switch (with_asker askers s)
+unfolding IsDistinct
+askers_kept askers s once =
+    cond_both (list_any (λ g. same_switch g.switch s) (pods_given askers)) askers (s ∷ askers) (IsDistinct same_switch) (λ asked. once)
+    (λ first. (
+      none_alike same_switch switch_turned s askers
+          (none_where (list_any (λ q. same_switch q s) askers) (list_any (λ g. same_switch g.switch s) (pods_given askers)) (asked_is_given askers s) first),
+      once,
+    ))
+
+-- ---- addresses
+-- each address that was learnt is registered
+pub learnt_is_registered : (addresses : List LearntAddress) (x : Pmac) → list_any (λ p. same_pmac p x) (map (λ a. a.pmac) addresses) ≡ true →
+    list_any (λ r. same_pmac r.pmac x) (numbered addresses) ≡ true
+learnt_is_registered [] x h = absurd (false≢true h)
+learnt_is_registered (a ∷ addresses) x h =
+    by (λ k. learnt_is_registered addresses x k) (list_any (λ r. same_pmac r.pmac a.pmac) (numbered addresses)) refl
+    (or_cases (same_pmac a.pmac x) (list_any (λ p. same_pmac p x) (map (λ c. c.pmac) addresses)) h)
+  where
+    new : Registration
+    new = record { pmac = a.pmac; amac = a.amac; number = length (numbered addresses) + 1; switch = a.switch }
+
+    by : (list_any (λ p. same_pmac p x) (map (λ c. c.pmac) addresses) ≡ true → list_any (λ r. same_pmac r.pmac x) (numbered addresses) ≡ true) →
+        (b : Bool) → list_any (λ r. same_pmac r.pmac a.pmac) (numbered addresses) ≡ b →
+        (same_pmac a.pmac x ≡ true) ⊎ (list_any (λ p. same_pmac p x) (map (λ c. c.pmac) addresses) ≡ true) →
+        list_any (λ r. same_pmac r.pmac x) (cond b (numbered addresses) (new ∷ numbered addresses)) ≡ true
+    by rest true there (inl is) = subst (λ p. list_any (λ r. same_pmac r.pmac p) (numbered addresses) ≡ true) (pmac_is a.pmac x is) there
+    by rest true there (inr k) = rest k
+    by rest false there (inl is) = or_left (same_pmac a.pmac x) (list_any (λ r. same_pmac r.pmac x) (numbered addresses)) is
+    by rest false there (inr k) = or_right (same_pmac a.pmac x) (list_any (λ r. same_pmac r.pmac x) (numbered addresses)) (rest k)
+
+same_pmacs : (new : LearntAddress) (addresses : List LearntAddress) → map (λ a. a.pmac) (map (told_again new) addresses) ≡ map (λ a. a.pmac) addresses
+same_pmacs new [] = refl
+same_pmacs new (a ∷ addresses) = ap (λ ps. a.pmac ∷ ps) (same_pmacs new addresses)
+
+addresses_kept : (addresses : List LearntAddress) (new : LearntAddress) → IsDistinct same_pmac (map (λ a. a.pmac) addresses) →
+    IsDistinct same_pmac (map (λ a. a.pmac) (with_address addresses new))
+unfolding IsDistinct
+addresses_kept addresses new once =
+    let pmacs = map (λ a. a.pmac) addresses in
+    cond_both (list_any (λ r. same_pmac r.pmac new.pmac) (numbered addresses)) (map (told_again new) addresses) (new ∷ addresses)
+    (λ those. IsDistinct same_pmac (map (λ a. a.pmac) those))
+    (λ again. subst (IsDistinct same_pmac) (sym (same_pmacs new addresses)) once)
+    (λ first. (
+      none_alike same_pmac pmac_turned new.pmac pmacs
+          (none_where (list_any (λ p. same_pmac p new.pmac) pmacs) (list_any (λ r. same_pmac r.pmac new.pmac) (numbered addresses))
+          (learnt_is_registered addresses new.pmac) first),
+      once,
+    ))
+
+owners_kept : (owners : List (Ip4 × Pmac)) (ip : Option Ip4) (pmac : Pmac) → IsStrictlySortedBy ip_cmp (keys_of owners) →
+    IsStrictlySortedBy ip_cmp (keys_of (with_owner owners ip pmac))
+owners_kept owners None pmac rising = rising
+owners_kept owners (Some ip) pmac rising = rising_put ip_cmp ip_total owners ip pmac rising
+
+-- ---- the view
+pub boots_in_order : (k : ℕ) → IsInOrder (booted_manager k)
+unfolding IsDistinct IsStrictlySortedBy
+boots_in_order k = record { places = tt; links = tt; members = tt; askers = tt; addresses = tt; owners = tt }
+
+kept : (view : ManagerView) (s : SwitchId) (says : ToManager) → IsInOrder view → IsInOrder (view_after view s says)
+kept view s (tell.Place place) o = record {
+  places = rising_put id_cmp id_total view.told.places s place o.places;
+  links = o.links; members = o.members; askers = o.askers; addresses = o.addresses; owners = o.owners;
+}
+kept view s (tell.Link u usable) o = record {
+  places = o.places;
+  links = rising_put link_cmp link_total view.told.links (s, u) usable o.links;
+  members = o.members; askers = o.askers; addresses = o.addresses; owners = o.owners;
+}
+kept view s tell.PodWanted o = record {
+  places = o.places; links = o.links; members = o.members;
+  askers = askers_kept view.askers s o.askers;
+  addresses = o.addresses; owners = o.owners;
+}
+kept view s (tell.Learned pmac amac ip) o = record {
+  places = o.places; links = o.links; members = o.members; askers = o.askers;
+  addresses = addresses_kept view.learnt.addresses (record { switch = s; pmac = pmac; amac = amac; ip = ip }) o.addresses;
+  owners = owners_kept view.learnt.owners ip pmac o.owners;
+}
+kept view s (tell.Query asker asker_ip ip) o = o
+kept view s (tell.Members group any) o = record {
+  places = o.places; links = o.links;
+  members = rising_put members_cmp members_total view.members (s, group) any o.members;
+  askers = o.askers; addresses = o.addresses; owners = o.owners;
+}
+
+pub stays_in_order : (view : ManagerView) (s : SwitchId) (says : ToManager) → IsInOrder view → IsInOrder (manager_hears view s says).view
+unfolding manager_hears
+stays_in_order view s says o = kept view s says o

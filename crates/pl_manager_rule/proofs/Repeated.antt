@@ -1,0 +1,168 @@
+-- A word that was told last already changes nothing.
+use Rattle.std.proofs.Common.{◌≡◌, ℕ, ◌==◌, ◌&&◌, ◌||◌, not, Bool, true, false, cond, List, [], ◌∷◌, ◌++◌, ◌+◌, length, map, Option, Some, None, is_some, IsSome, filter, flat_map, refl, sym, ap, ◌∙◌, subst, append-nil, inl, inr}
+use Rattle.std.specs.List.{AllByRecursion, IsDistinct, find, list_any}
+use Rattle.std.specs.Option.{option_and_then, option_map, option_or}
+use Rattle.std.proofs.lemmas.Bool.{cond_both, false≢true, or_cases, or_left, or_right}
+use Rattle.pl_frame.specs.declared.address.Ip4.{Ip4}
+use Rattle.pl_frame.specs.declared.address.Mac.{Mac}
+use Rattle.pl_frame.specs.declared.address.SwitchId.{SwitchId}
+use Rattle.pl_pmac.specs.declared.pmac.Pmac.{Pmac}
+use Rattle.pl_layouts.specs.Equality.{same_pmac, same_switch}
+use Rattle.pl_core.specs.declared.acts.ManagerAct.TheVariants.{Number}
+use Rattle.pl_core.specs.declared.messages.ToManager.{ToManager}
+use Rattle.pl_core.specs.declared.messages.ToManager.TheVariants as tell
+use Rattle.pl_core.specs.HostViews.{ip_cmp}
+use Rattle.pl_core.specs.ManagerFacts.{groups}
+use Rattle.pl_core.specs.ManagerViews.{Learnt, LearntAddress, ManagerView, PodGiven, Registration, Told, id_cmp, ip_of, link_cmp, members_cmp, newest, numbered, pod_given, pods_given, registration, registry, switches, told_with}
+use Rattle.pl_core.specs.AvoidLists.{avoid_list}
+use Rattle.pl_manager_rule.specs.ManagerRule.{ManagerStep, acts_of, avoid_acts, changed, invalidation, learning, manager_hears, part_in, reply, same_avoid_list, same_part, told_again, tree_acts, tree_acts_of, view_after, with_address, with_asker, with_learnt, with_owner}
+use Rattle.pl_manager_rule.specs.Repeats.{HasToldLast, IsInOrder, IsKnownAddress, answers}
+use Rattle.pl_manager_rule.proofs.Kept.{ip_exact, ip_total, link_exact, link_total, members_exact, members_total, pmac_is, pmac_itself}
+use Rattle.pl_manager_rule.proofs.Avoided.{id_exact}
+use Rattle.pl_manager_rule.proofs.Sameness.{avoid_lists_alike, parts_alike}
+use Rattle.pl_manager_rule.proofs.Tables.{put_again}
+use Rattle.pl_core.proofs.Among.{id_total}
+
+-- ---- what is the same brings no act about
+none_differ : {X : Type 0} (same : X → Bool) → ((x : X) → same x ≡ true) → (xs : List X) → filter (λ x. not (same x)) xs ≡ []
+none_differ same each [] = refl
+none_differ same each (x ∷ xs) =
+    ap (λ b. cond (not b) (x ∷ filter (λ y. not (same y)) xs) (filter (λ y. not (same y)) xs)) (each x) ∙ none_differ same each xs
+
+no_avoid_acts : (told : Told) → avoid_acts told told ≡ []
+no_avoid_acts told =
+    ap (map _) (none_differ (λ s. same_avoid_list (avoid_list told s) (avoid_list told s))
+    (λ s. (avoid_lists_alike (avoid_list told s) (avoid_list told s)).1 refl) (switches told))
+
+no_acts_of_group : (view : ManagerView) (group : ℕ) → tree_acts_of view view group ≡ []
+no_acts_of_group view group =
+    ap (map _) (none_differ (λ s. same_part (part_in view group s) (part_in view group s))
+    (λ s. (parts_alike (part_in view group s) (part_in view group s)).1 refl) (switches view.told))
+
+no_tree_acts : (view : ManagerView) → tree_acts view view ≡ []
+no_tree_acts view = none (groups view.members)
+  where
+    none : (gs : List ℕ) → flat_map (tree_acts_of view view) gs ≡ []
+    none [] = refl
+    none (g ∷ gs) = ap (λ acts. acts ++ flat_map (tree_acts_of view view) gs) (no_acts_of_group view g) ∙ none gs
+
+-- ---- found, and so among them
+found_any : {X Y : Type 0} (f : X → Y) (test : X → Bool) (xs : List X) → is_some (option_map f (find test xs)) ≡ true → list_any test xs ≡ true
+found_any f test [] h = absurd (false≢true h)
+found_any f test (x ∷ xs) h = by (λ k. found_any f test xs k) (test x) h
+  where
+    by : (is_some (option_map f (find test xs)) ≡ true → list_any test xs ≡ true) → (b : Bool) →
+        is_some (option_map f (cond b (Some x) (find test xs))) ≡ true → (b || list_any test xs) ≡ true
+    by rest true k = refl
+    by rest false k = rest k
+
+found_any_item : {X : Type 0} (test : X → Bool) (xs : List X) → is_some (find test xs) ≡ true → list_any test xs ≡ true
+found_any_item test [] h = absurd (false≢true h)
+found_any_item test (x ∷ xs) h = by (λ k. found_any_item test xs k) (test x) h
+  where
+    by : (is_some (find test xs) ≡ true → list_any test xs ≡ true) → (b : Bool) →
+        is_some (cond b (Some x) (find test xs)) ≡ true → (b || list_any test xs) ≡ true
+    by rest true k = refl
+    by rest false k = rest k
+
+-- ---- the address that is told again
+-- its own IPv4 address, told again, leaves it as it is
+same_with : (new a : LearntAddress) → (same_pmac a.pmac new.pmac ≡ true → option_or new.ip a.ip ≡ a.ip) → told_again new a ≡ a
+same_with new a own =
+    ap (λ ip. record a { ip = ip })
+    (cond_both (same_pmac a.pmac new.pmac) (option_or new.ip a.ip) a.ip (λ ip. ip ≡ a.ip) own (λ other. refl))
+
+all_same : (new : LearntAddress) (addresses : List LearntAddress) →
+    AllByRecursion (λ a. same_pmac a.pmac new.pmac ≡ true → option_or new.ip a.ip ≡ a.ip) addresses → map (told_again new) addresses ≡ addresses
+all_same new [] h = refl
+all_same new (a ∷ addresses) h = λ i. same_with new a h.0 i ∷ all_same new addresses h.1 i
+
+-- where each address is there once, the first that is found is the only one
+others : (new : LearntAddress) (p : Pmac) (addresses : List LearntAddress) → AllByRecursion (λ q. same_pmac p q ≡ false) (map (λ a. a.pmac) addresses) →
+    p ≡ new.pmac → AllByRecursion (λ a. same_pmac a.pmac new.pmac ≡ true → option_or new.ip a.ip ≡ a.ip) addresses
+others new p [] h is = tt
+others new p (a ∷ addresses) h is = (
+  λ same. absurd (false≢true (sym h.0 ∙ subst (λ q. same_pmac p q ≡ true) (is ∙ sym (pmac_is a.pmac new.pmac same)) (pmac_itself p))),
+  others new p addresses h.1 is,
+)
+
+only_one : (new : LearntAddress) (ip : Ip4) → new.ip ≡ Some ip → (addresses : List LearntAddress) → IsDistinct same_pmac (map (λ a. a.pmac) addresses) →
+    option_and_then (λ a. a.ip) (find (λ a. same_pmac a.pmac new.pmac) addresses) ≡ Some ip →
+    AllByRecursion (λ a. same_pmac a.pmac new.pmac ≡ true → option_or new.ip a.ip ≡ a.ip) addresses
+unfolding IsDistinct
+only_one new ip names [] once found = tt
+only_one new ip names (a ∷ addresses) once found = by (λ k. only_one new ip names addresses once.1 k) (same_pmac a.pmac new.pmac) refl found
+  where
+    by : (option_and_then (λ c. c.ip) (find (λ c. same_pmac c.pmac new.pmac) addresses) ≡ Some ip →
+          AllByRecursion (λ c. same_pmac c.pmac new.pmac ≡ true → option_or new.ip c.ip ≡ c.ip) addresses) →
+        (b : Bool) → same_pmac a.pmac new.pmac ≡ b →
+        option_and_then (λ c. c.ip) (cond b (Some a) (find (λ c. same_pmac c.pmac new.pmac) addresses)) ≡ Some ip →
+        AllByRecursion (λ c. same_pmac c.pmac new.pmac ≡ true → option_or new.ip c.ip ≡ c.ip) (a ∷ addresses)
+    by rest true is k = (λ same. ap (λ o. option_or o a.ip) names ∙ sym k, others new a.pmac addresses once.0 (pmac_is a.pmac new.pmac is))
+    by rest false not k = (λ same. absurd (false≢true (sym not ∙ same)), rest k)
+
+-- where no IPv4 address is named, none changes
+all_silent : (new : LearntAddress) → new.ip ≡ None → (addresses : List LearntAddress) →
+    AllByRecursion (λ a. same_pmac a.pmac new.pmac ≡ true → option_or new.ip a.ip ≡ a.ip) addresses
+all_silent new silent [] = tt
+all_silent new silent (a ∷ addresses) = (λ same. ap (λ o. option_or o a.ip) silent, all_silent new silent addresses)
+
+addresses_same : (view : ManagerView) (new : LearntAddress) → IsInOrder view → IsSome (registration view.learnt new.pmac) →
+    AllByRecursion (λ a. same_pmac a.pmac new.pmac ≡ true → option_or new.ip a.ip ≡ a.ip) view.learnt.addresses →
+    with_address view.learnt.addresses new ≡ view.learnt.addresses
+addresses_same view new order there own =
+    let addresses = view.learnt.addresses in
+    ap (λ b. cond b (map (told_again new) addresses) (new ∷ addresses)) (found_any_item (λ r. same_pmac r.pmac new.pmac) (numbered addresses) there)
+    ∙ all_same new addresses own
+
+learnt_same : (view : ManagerView) (s : SwitchId) (pmac : Pmac) (amac : Mac) (ip : Option Ip4) → IsInOrder view →
+    IsSome (registration view.learnt pmac) → IsKnownAddress view.learnt pmac ip →
+    with_learnt view.learnt (record { switch = s; pmac = pmac; amac = amac; ip = ip }) ≡ view.learnt
+learnt_same view s pmac amac None order there known =
+    let new : LearntAddress = record { switch = s; pmac = pmac; amac = amac; ip = None } in
+    ap (λ those. let l : Learnt = record { addresses = those; owners = view.learnt.owners } in l)
+    (addresses_same view new order there (all_silent new refl view.learnt.addresses))
+learnt_same view s pmac amac (Some ip) order there known =
+    let new : LearntAddress = record { switch = s; pmac = pmac; amac = amac; ip = Some ip } in
+    let those = addresses_same view new order there (only_one new ip refl view.learnt.addresses order.addresses known.0) in
+    let owners = put_again ip_cmp ip_total ip_exact view.learnt.owners ip pmac order.owners known.1 in
+    λ i. record { addresses = those i; owners = owners i }
+
+-- ---- the whole step
+view_same : (view : ManagerView) (s : SwitchId) (says : ToManager) → IsInOrder view → HasToldLast view s says → view_after view s says ≡ view
+view_same view s (tell.Place place) order last =
+    let same = put_again id_cmp id_total id_exact view.told.places s place order.places last in
+    ap (λ table. record view { told = record view.told { places = table } }) same
+view_same view s (tell.Link u usable) order last =
+    let same = put_again link_cmp link_total link_exact view.told.links (s, u) usable order.links last in
+    ap (λ table. record view { told = record view.told { links = table } }) same
+view_same view s tell.PodWanted order last =
+    ap (λ b. record view { askers = cond b view.askers (s ∷ view.askers) })
+    (found_any (λ g. g.pod) (λ g. same_switch g.switch s) (pods_given view.askers) last)
+view_same view s (tell.Learned pmac amac ip) order last = ap (λ learnt. record view { learnt = learnt }) (learnt_same view s pmac amac ip order last.0 last.1)
+view_same view s (tell.Query asker asker_ip ip) order last = refl
+view_same view s (tell.Members group any) order last =
+    ap (λ table. record view { members = table }) (put_again members_cmp members_total members_exact view.members (s, group) any order.members last)
+
+only_answers : (view : ManagerView) (s : SwitchId) (says : ToManager) → HasToldLast view s says → reply view view s says ≡ answers view s says
+only_answers view s (tell.Place place) last = refl
+only_answers view s (tell.Link u usable) last = refl
+only_answers view s tell.PodWanted last = refl
+only_answers view s (tell.Learned pmac amac ip) last =
+    let n = length (registry view.learnt) + 1 in
+    ap (λ b. cond b [] (Number pmac n ∷ invalidation view.learnt pmac n (newest view.learnt amac))) (found_any_item (λ r. same_pmac r.pmac pmac) (registry view.learnt) last.0)
+only_answers view s (tell.Query asker asker_ip ip) last = refl
+only_answers view s (tell.Members group any) last = refl
+
+acts_same : (view : ManagerView) (s : SwitchId) (says : ToManager) → HasToldLast view s says → acts_of view view s says ≡ answers view s says
+acts_same view s says last =
+    (λ i. only_answers view s says last i ++ no_avoid_acts view.told i ++ no_tree_acts view i)
+    ∙ append-nil (answers view s says ++ []) ∙ append-nil (answers view s says)
+
+pub nothing_changes : (view : ManagerView) (s : SwitchId) (says : ToManager) → IsInOrder view → HasToldLast view s says →
+    manager_hears view s says ≡ record { view = view; acts = answers view s says }
+unfolding manager_hears
+nothing_changes view s says order last =
+    let same = view_same view s says order last in
+    (λ i. let step : ManagerStep = record { view = same i; acts = acts_of view (same i) s says } in step)
+    ∙ ap (λ acts. let step : ManagerStep = record { view = view; acts = acts } in step) (acts_same view s says last)

@@ -1,0 +1,140 @@
+-- With each message the fabric manager hears of no switch but the one that speaks.
+use Rattle.std.proofs.Common.{◌≡◌, ◌⊎◌, ◌||◌, ℕ, Bool, true, false, cond, List, [], ◌∷◌, ◌++◌, map, Ordering, refl, sym, ap, subst, inl, inr, eq-eqb, ◌∙◌, ◌+◌, length}
+use Rattle.std.specs.List.{list_any}
+use Rattle.std.specs.BTreeMap.{insert_entry}
+use Rattle.std.proofs.lemmas.Bool.{cond_both, or_cases, or_left, or_right}
+use Rattle.pl_frame.specs.declared.address.SwitchId.{SwitchId}
+use Rattle.pl_layouts.specs.Equality.{same_pmac, same_switch}
+use Rattle.pl_core.specs.declared.messages.ToManager.{ToManager}
+use Rattle.pl_core.specs.declared.messages.ToManager.TheVariants as tell
+use Rattle.pl_core.specs.ManagerViews.{LearntAddress, ManagerView, Registration, id_cmp, is_heard, link_cmp, members_cmp, numbered, pods_given, speakers, switches, tellers}
+use Rattle.pl_core.proofs.Among.{IsAmong, among_append, among_left, among_map, among_mapped, among_ordered, among_right, any_among}
+use Rattle.pl_manager_rule.specs.ManagerRule.{told_again, view_after, with_address, with_asker}
+use Rattle.pl_manager_rule.proofs.Tables.{among_put}
+use Rattle.pl_manager_rule.proofs.Avoided.{same_is}
+
+pub same_itself : (s : SwitchId) → same_switch s s ≡ true
+same_itself s = eq-eqb s.0 s.0 refl
+
+-- ---- lists with one more switch at most
+abbrev IsWithOne : SwitchId → List SwitchId → List SwitchId → Type 0
+IsWithOne s after before = (t : SwitchId) → IsAmong t after → (s ≡ t) ⊎ IsAmong t before
+
+same_ones : (s : SwitchId) (xs : List SwitchId) → IsWithOne s xs xs
+same_ones s xs t h = inr h
+
+both_ones : (s : SwitchId) (xs ys us vs : List SwitchId) → IsWithOne s xs us → IsWithOne s ys vs → IsWithOne s (xs ++ ys) (us ++ vs)
+both_ones s xs ys us vs f g t h = elim (among_append t xs ys h) [
+  | inl left ↦ elim (f t left) [ inl is ↦ inl is | inr k ↦ inr (among_left t us vs k) ]
+  | inr right ↦ elim (g t right) [ inl is ↦ inl is | inr k ↦ inr (among_right t us vs k) ]
+]
+
+-- a table by two keys, of which the first is a switch
+put_ones : {B X : Type 0} (R : SwitchId × B → SwitchId × B → Ordering) (es : List ((SwitchId × B) × X)) (s : SwitchId) (b : B) (v : X) →
+    IsWithOne s (map (λ e. e.0.0) (insert_entry R es (s, b) v)) (map (λ e. e.0.0) es)
+put_ones {B} {X} R es s b v t h =
+    let at = among_map (λ (e : (SwitchId × B) × X). e.0.0) t (insert_entry R es (s, b) v) h in
+    elim (among_put R es (s, b) at.0.0 v (among_mapped (λ (e : (SwitchId × B) × X). e.0) at.0 (insert_entry R es (s, b) v) at.1)) [
+      | inl is ↦ inl (ap (λ (k : SwitchId × B). k.0) is ∙ at.2)
+      | inr k ↦ let was = among_map (λ (e : (SwitchId × B) × X). e.0) at.0.0 es k in
+          inr (subst (λ u. IsAmong u (map (λ (e : (SwitchId × B) × X). e.0.0) es)) (ap (λ (k : SwitchId × B). k.0) was.2 ∙ at.2)
+          (among_mapped (λ (e : (SwitchId × B) × X). e.0.0) was.0 es was.1))
+    ]
+
+asker_ones : (askers : List SwitchId) (s : SwitchId) → IsWithOne s (with_asker askers s) askers
+asker_ones askers s =
+    cond_both (list_any (λ g. same_switch g.switch s) (pods_given askers)) askers (s ∷ askers) (λ xs. IsWithOne s xs askers)
+    (λ asked. same_ones s askers) (λ first t h. h)
+
+same_switches : (new : LearntAddress) (addresses : List LearntAddress) → map (λ a. a.switch) (map (told_again new) addresses) ≡ map (λ a. a.switch) addresses
+same_switches new [] = refl
+same_switches new (a ∷ addresses) = ap (λ ss. a.switch ∷ ss) (same_switches new addresses)
+
+address_ones : (addresses : List LearntAddress) (new : LearntAddress) →
+    IsWithOne new.switch (map (λ a. a.switch) (with_address addresses new)) (map (λ a. a.switch) addresses)
+address_ones addresses new =
+    cond_both (list_any (λ r. same_pmac r.pmac new.pmac) (numbered addresses)) (map (told_again new) addresses) (new ∷ addresses)
+    (λ those. IsWithOne new.switch (map (λ a. a.switch) those) (map (λ a. a.switch) addresses))
+    (λ again t h. inr (subst (IsAmong t) (same_switches new addresses) h))
+    (λ first t h. h)
+
+-- ---- the switches of which something is known
+module _ (view : ManagerView) (s : SwitchId) where
+  abbrev places : List SwitchId
+  places = map (λ p. p.0) view.told.places
+
+  abbrev links : List SwitchId
+  links = map (λ l. l.0.0) view.told.links
+
+  abbrev members : List SwitchId
+  members = map (λ m. m.0.0) view.members
+
+  abbrev learners : List SwitchId
+  learners = map (λ a. a.switch) view.learnt.addresses
+
+  with_one : (ps ls ms qs rs : List SwitchId) → IsWithOne s ps places → IsWithOne s ls links → IsWithOne s ms members →
+      IsWithOne s qs view.askers → IsWithOne s rs learners → IsWithOne s ((ps ++ ls) ++ (ms ++ (qs ++ rs))) (speakers view)
+  with_one ps ls ms qs rs p l m a r =
+      both_ones s (ps ++ ls) (ms ++ (qs ++ rs)) (places ++ links) (members ++ (view.askers ++ learners))
+      (both_ones s ps ls places links p l)
+      (both_ones s ms (qs ++ rs) members (view.askers ++ learners) m (both_ones s qs rs view.askers learners a r))
+
+  pub speakers_after : (says : ToManager) → IsWithOne s (speakers (view_after view s says)) (speakers view)
+  speakers_after (tell.Place place) =
+      with_one _ links members view.askers learners (λ t h. among_put id_cmp view.told.places s t place h)
+      (same_ones s links) (same_ones s members) (same_ones s view.askers) (same_ones s learners)
+  speakers_after (tell.Link u usable) =
+      with_one places _ members view.askers learners (same_ones s places)
+      (put_ones link_cmp view.told.links s u usable) (same_ones s members) (same_ones s view.askers) (same_ones s learners)
+  speakers_after tell.PodWanted =
+      with_one places links members _ learners (same_ones s places)
+      (same_ones s links) (same_ones s members) (asker_ones view.askers s) (same_ones s learners)
+  speakers_after (tell.Learned pmac amac ip) =
+      with_one places links members view.askers _ (same_ones s places)
+      (same_ones s links) (same_ones s members) (same_ones s view.askers)
+      (address_ones view.learnt.addresses (record { switch = s; pmac = pmac; amac = amac; ip = ip }))
+  speakers_after (tell.Query asker asker_ip ip) = same_ones s (speakers view)
+  speakers_after (tell.Members group any) =
+      with_one places links _ view.askers learners (same_ones s places)
+      (same_ones s links) (put_ones members_cmp view.members s group any) (same_ones s view.askers) (same_ones s learners)
+
+  pub among_is_heard : (t : SwitchId) → IsAmong t (speakers view) → is_heard view t ≡ true
+  among_is_heard t h = any_among (λ c. same_switch c t) t (speakers view) h (same_itself t)
+
+  pub now_or_before : (t : SwitchId) → (s ≡ t) ⊎ IsAmong t (speakers view) → (same_switch s t || is_heard view t) ≡ true
+  now_or_before t (inl is) = or_left (same_switch s t) (is_heard view t) (subst (λ u. same_switch s u ≡ true) is (same_itself s))
+  now_or_before t (inr h) = or_right (same_switch s t) (is_heard view t) (among_is_heard t h)
+
+  -- so each switch of the list is one to speak to
+  pub listed_is_heard : (says : ToManager) (t : SwitchId) → IsAmong t (switches (view_after view s says).told) →
+      (same_switch s t || is_heard view t) ≡ true
+  listed_is_heard says t h =
+      let after = view_after view s says in
+      now_or_before t (speakers_after says t
+      (among_left t (tellers after.told) (map (λ m. m.0.0) after.members ++ (after.askers ++ map (λ a. a.switch) after.learnt.addresses))
+      (among_ordered id_cmp t (tellers after.told) h)))
+
+heard_is_among : (t : SwitchId) (xs : List SwitchId) → list_any (λ c. same_switch c t) xs ≡ true → IsAmong t xs
+heard_is_among t [] h = absurd (cc)
+heard_is_among t (x ∷ xs) h = elim (or_cases (same_switch x t) (list_any (λ c. same_switch c t) xs) h) [
+  | inl here ↦ inl (same_is x t here)
+  | inr there ↦ inr (heard_is_among t xs there)
+]
+
+-- no switch is heard but the speaker
+pub heard_after : (view : ManagerView) (s t : SwitchId) (says : ToManager) → is_heard (view_after view s says) t ≡ true →
+    (same_switch s t || is_heard view t) ≡ true
+heard_after view s t says h = now_or_before view s t (speakers_after view s says t (heard_is_among t (speakers (view_after view s says)) h))
+
+-- the switch of a registration told of that address
+pub registered_heard : (addresses : List LearntAddress) (r : Registration) → IsAmong r (numbered addresses) →
+    IsAmong r.switch (map (λ a. a.switch) addresses)
+registered_heard [] r h = absurd h
+registered_heard (a ∷ addresses) r h = by (λ k. registered_heard addresses r k) (list_any (λ q. same_pmac q.pmac a.pmac) (numbered addresses)) h
+  where
+    by : (IsAmong r (numbered addresses) → IsAmong r.switch (map (λ c. c.switch) addresses)) → (b : Bool) →
+        let new : Registration = record { pmac = a.pmac; amac = a.amac; number = length (numbered addresses) + 1; switch = a.switch } in
+        IsAmong r (cond b (numbered addresses) (new ∷ numbered addresses)) → IsAmong r.switch (map (λ c. c.switch) (a ∷ addresses))
+    by rest true k = inr (rest k)
+    by rest false (inl is) = inl (ap (λ q. q.switch) is)
+    by rest false (inr k) = inr (rest k)

@@ -1,0 +1,13 @@
+-- A rule that is just the one of the fabric manager.
+use Rattle.std.specs.Prelude.{◌↔◌, List}
+use Rattle.pl_frame.specs.declared.address.SwitchId.{SwitchId}
+use Rattle.pl_core.specs.declared.acts.ManagerAct.{ManagerAct}
+use Rattle.pl_core.specs.declared.messages.ToManager.{ToManager}
+use Rattle.pl_core.specs.ManagerDuties.{ManagerRule}
+use Rattle.pl_core.specs.ManagerViews.{ManagerView}
+use Rattle.pl_manager_rule.specs.ManagerRule.{manager_rule}
+
+-- it allows each step of the manager, and no other
+abbrev pub IsManagerRule : ManagerRule → Type 0
+IsManagerRule rule = (before : ManagerView) (s : SwitchId) (says : ToManager) (after : ManagerView) (acts : List ManagerAct) →
+    rule before s says after acts ↔ manager_rule before s says after acts

@@ -1,0 +1,47 @@
+-- A word that the manager knows already: it is just what was told last of the same thing.
+use Rattle.std.specs.Prelude.{◌≡◌, List, [], ◌∷◌, map, Option, Some, None, unwrap_or, IsSome, IsTrue}
+use Rattle.std.specs.List.{IsDistinct, list_any}
+use Rattle.std.specs.List.Sorted.{IsStrictlySortedBy}
+use Rattle.std.specs.Map.{keys_of}
+use Rattle.pl_frame.specs.declared.address.Ip4.{Ip4}
+use Rattle.pl_frame.specs.declared.address.SwitchId.{SwitchId}
+use Rattle.pl_pmac.specs.declared.pmac.Pmac.{Pmac}
+use Rattle.pl_layouts.specs.Equality.{same_pmac, same_switch}
+use Rattle.pl_core.specs.declared.acts.ManagerAct.{ManagerAct}
+use Rattle.pl_core.specs.declared.acts.ManagerAct.TheVariants.{Say}
+use Rattle.pl_core.specs.declared.messages.ToManager.{ToManager}
+use Rattle.pl_core.specs.declared.messages.ToManager.TheVariants as tell
+use Rattle.pl_core.specs.declared.messages.ToSwitch.TheVariants as say
+use Rattle.pl_core.specs.HostViews.{ip_cmp}
+use Rattle.pl_core.specs.ManagerViews.{Learnt, ManagerView, id_cmp, ip_of, link_cmp, lookup, members_cmp, pod_given, registration, told_with, value_at}
+use Rattle.pl_manager_rule.specs.ManagerRule.{answer_to}
+
+-- Each table rises by its keys, and each asker and each address is there once: so two views that say the same are the same.
+pub record IsInOrder (view : ManagerView) : Type 0 where
+  pub places : IsStrictlySortedBy id_cmp (keys_of view.told.places)
+  pub links : IsStrictlySortedBy link_cmp (keys_of view.told.links)
+  pub members : IsStrictlySortedBy members_cmp (keys_of view.members)
+  pub askers : IsDistinct same_switch view.askers
+  pub addresses : IsDistinct same_pmac (map (λ a. a.pmac) view.learnt.addresses)
+  pub owners : IsStrictlySortedBy ip_cmp (keys_of view.learnt.owners)
+
+-- the IPv4 address was told last with this pseudo address, and none was told later with it; none says nothing
+abbrev pub IsKnownAddress : Learnt → Pmac → Option Ip4 → Type 0
+IsKnownAddress learnt pmac None = Unit {0}
+IsKnownAddress learnt pmac (Some ip) = (ip_of learnt pmac ≡ Some ip) × (told_with learnt ip ≡ Some pmac)
+
+-- This is what the switch told last of that place, link or group; it asked for a pod; or the address is known, with that IPv4 address.
+-- A question tells nothing.
+abbrev pub HasToldLast : ManagerView → SwitchId → ToManager → Type 0
+HasToldLast view s (tell.Place place) = value_at id_cmp view.told.places s ≡ Some place
+HasToldLast view s (tell.Link u usable) = value_at link_cmp view.told.links (s, u) ≡ Some usable
+HasToldLast view s tell.PodWanted = IsSome (pod_given view.askers s)
+HasToldLast view s (tell.Learned pmac amac ip) = IsSome (registration view.learnt pmac) × IsKnownAddress view.learnt pmac ip
+HasToldLast view s (tell.Query asker asker_ip ip) = Unit {0}
+HasToldLast view s (tell.Members group any) = value_at members_cmp view.members (s, group) ≡ Some any
+
+-- a wish for a pod and a question are answered each time
+abbrev pub answers : ManagerView → SwitchId → ToManager → List ManagerAct
+answers view s tell.PodWanted = Say s (say.Pod (unwrap_or (pod_given view.askers s) 0)) ∷ []
+answers view s (tell.Query asker asker_ip ip) = Say s (answer_to asker asker_ip ip (lookup view.learnt ip)) ∷ []
+answers view s says = []

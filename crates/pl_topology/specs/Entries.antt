@@ -15,7 +15,7 @@ use Rattle.pl_topology.specs.declared.entries.LinkEntry.{LinkEntry}
 use Rattle.pl_topology.specs.declared.entries.HostEntry.{HostEntry}
 use Rattle.pl_topology.specs.Document.{value_at, text_at, integer_at}
 use Rattle.pl_wiring.specs.Labels.{edge_count, switch_count}
-use Rattle.pl_topology.specs.Refusal.{or_refused, refused_if}
+use Rattle.pl_topology.specs.Refusal.{◌>>=◌, or_refused, refused_if}
 use Rattle.pl_wiring.specs.Texts.{mac_of_text, ip_of_text, is_name, is_capture}
 use Rattle.pl_wiring.specs.SwitchNames.{switch_named}
 

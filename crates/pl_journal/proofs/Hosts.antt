@@ -80,7 +80,7 @@ none_there plan past there (suc n) k free lt =
       ]
     ]
 
-same_spot_itself : (s : Spot) → same_spot s s ≡ true
+pub same_spot_itself : (s : Spot) → same_spot s s ≡ true
 same_spot_itself s = and_from (s.edge == s.edge) (s.port == s.port) (eq-eqb s.edge s.edge refl) (eq-eqb s.port s.port refl)
 
 -- no host stands where another one moves to

@@ -8,3 +8,5 @@ pub mod Addresses
 pub mod Hosts
 pub mod Links
 pub mod Copies
+pub mod Groups
+pub mod LiveLegs

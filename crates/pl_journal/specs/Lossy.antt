@@ -169,3 +169,12 @@ copies_at plan (Arrived id h f ∷ past) r there =
     if goes_to_group past id && ((root past id == r) && is_at (spot_of plan past h.0) there) then copies_at plan past r there + 1
     else copies_at plan past r there
 copies_at plan (entry ∷ past) r there = copies_at plan past r there
+
+-- how many frames of a group with this root arrived at this host since it moved last
+abbrev pub copies_since_move : List Entry → ℕ → ℕ → ℕ
+copies_since_move [] r host = 0
+copies_since_move (Arrived id h f ∷ past) r host =
+    if goes_to_group past id && ((root past id == r) && (h.0 == host)) then copies_since_move past r host + 1
+    else copies_since_move past r host
+copies_since_move (Moved h e p ∷ past) r host = if h.0 == host then 0 else copies_since_move past r host
+copies_since_move (entry ∷ past) r host = copies_since_move past r host

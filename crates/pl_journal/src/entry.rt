@@ -1,6 +1,6 @@
 use crate::{Cause, Skip};
-use pl_layouts::Place;
 use pl_frame::Frame;
+use pl_layouts::Place;
 use pl_pmac::Pmac;
 use pl_wiring::{HostNo, SwitchNo};
 

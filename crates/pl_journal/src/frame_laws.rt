@@ -1,4 +1,4 @@
-ghost use Rattle.std.specs.Prelude.{◌≡◌, ◌≢◌, ◌⊎◌, ◌↔◌, ℕ, ◌+◌, ◌≤◌, List, ◌∷◌, reverse, filter_map, Some, None, IsTrue};
+ghost use Rattle.std.specs.Prelude.{◌≡◌, ◌≢◌, ◌⊎◌, ◌↔◌, ℕ, ◌+◌, ◌≤◌, List, ◌∷◌, ◌++◌, reverse, filter_map, Some, None, IsTrue};
 ghost use Rattle.std.specs.List.{range_with_len};
 ghost use Rattle.std.specs.Bool.{IsFalse};
 ghost use Rattle.pl_frame.specs.Ethernet.{destination_of};
@@ -6,11 +6,11 @@ ghost use Rattle.pl_wiring.specs.declared.label.SwitchNo.{SwitchNo};
 ghost use Rattle.pl_wiring.specs.declared.host.HostNo.{HostNo};
 ghost use Rattle.pl_wiring.specs.Plan.{Plan};
 ghost use Rattle.pl_journal.specs.declared.entry.Entry.{Entry};
-ghost use Rattle.pl_journal.specs.declared.entry.Entry.TheVariants.{Sent, Made, Copied};
+ghost use Rattle.pl_journal.specs.declared.entry.Entry.TheVariants.{Sent, Made, Copied, Crossed};
 ghost use Rattle.pl_layouts.specs.Frames.{mac_number};
-ghost use Rattle.pl_journal.specs.Places.{Spot};
+ghost use Rattle.pl_journal.specs.Places.{Spot, is_failed, is_joined};
 ghost use Rattle.pl_journal.specs.Flights.{are_joined, begun, begun_by, ends, first_flight, flight_of, is_begun, is_flying, is_good_leg, leg, no_flight, root, was_live};
-ghost use Rattle.pl_journal.specs.Causes.{goes_to_group};
+ghost use Rattle.pl_journal.specs.Causes.{goes_to_group, has_crossed};
 ghost use Rattle.pl_journal.specs.Lossy.{GoodTrailTo, Run, RunTo, copies_at};
 
 /// In a run the frames that begin are numbers 1, 2, 3 and so on, and those alone have begun.
@@ -69,4 +69,20 @@ pub fn legs_are_good()
     ensures joined { (plan : Plan) (past : List Entry) (id : ℕ) → RunTo plan past →
         GoodTrailTo plan past → IsFalse (goes_to_group past id) →
         IsTrue (are_joined plan (leg past id)) }
+{}
+
+/// In a run with good trails a frame to one host comes from the last switch of its leg to the next
+/// one by a link of the wiring, and that link was live at each moment since the frame crossed the
+/// last switch.
+pub fn the_links_of_a_leg_were_live()
+    ensures joined { (plan : Plan) (newer past : List Entry) (id last : ℕ) (next : SwitchNo)
+        (earlier : List ℕ) →
+        GoodTrailTo plan (newer ++ Crossed id next ∷ past) → IsFalse (goes_to_group past id) →
+        leg past id ≡ last ∷ earlier → IsTrue (is_joined plan last next.0) }
+    ensures live { (plan : Plan) (newer since past : List Entry) (id last : ℕ) (next : SwitchNo)
+        (earlier : List ℕ) →
+        RunTo plan (newer ++ Crossed id next ∷ (since ++ past)) →
+        GoodTrailTo plan (newer ++ Crossed id next ∷ (since ++ past)) →
+        IsFalse (goes_to_group (since ++ past) id) → leg (since ++ past) id ≡ last ∷ earlier →
+        IsFalse (has_crossed since id) → IsFalse (is_failed past last next.0) }
 {}

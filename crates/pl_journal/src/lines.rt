@@ -3,8 +3,8 @@ ghost use Rattle.hex.specs.Hex.{encode_lower};
 ghost use Rattle.pl_journal.specs.Text.{IsHost, IsNamed, IsSwitch, address_text, field_text, host_text, line_of, part_text, place_texts, switch_text, texts, words_of};
 
 use crate::{Entry, Field, Memory, Words};
-use pl_layouts::Place;
 use pl_frame::Frame;
+use pl_layouts::Place;
 use pl_pmac::{Pmac, pack};
 use pl_wiring::{HostNo, SwitchNo, Wiring};
 

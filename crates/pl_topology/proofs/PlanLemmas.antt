@@ -27,8 +27,8 @@ use Rattle.pl_topology.specs.Entries.{HasEdge, HasEnds, capture_of, edge_if, hos
 use Rattle.pl_wiring.specs.SwitchNames.{is_label, switch_named}
 use Rattle.pl_topology.specs.FileEntries.{Entries, entries_of, host_entries, link_entries, switch_entries}
 use Rattle.pl_wiring.specs.Labels.{IsArity, edge_count, label_of, number_of, switch_count}
-use Rattle.pl_topology.specs.Meaning.{plan_of_entries}
-use Rattle.pl_wiring.specs.Plan.{IsPlan}
+use Rattle.pl_topology.specs.Meaning.{host_of, plan_of_entries}
+use Rattle.pl_wiring.specs.Plan.{IsHostIp, IsHostMac, IsPlan}
 use Rattle.pl_topology.specs.Refusal.{all_beside, each, each_beside, or_refused, refused_if}
 use Rattle.pl_wiring.specs.Texts.{ip_of_text, label_of_text, mac_of_text}
 use Rattle.pl_wiring.proofs.EntryLemmas.{is_label-Decides}
@@ -37,9 +37,11 @@ use Rattle.pl_topology.proofs.PlacedHosts.{AgreeHosts, few_hosts, hosts_at_edges
 use Rattle.pl_topology.proofs.PlacedIds.{AgreeIds, ids_of-apart, ids_of-in_range, ids_of-length}
 use Rattle.pl_topology.proofs.PlacedLinks.{Agree, links_of-IsFatTree, links_of-order}
 use Rattle.pl_topology.proofs.PortsApart.{groups_apart, groups_free, not_false}
-use Rattle.pl_topology.proofs.Readings.{All-cons, All-none, AllPairs-cons, AllPairs-none, all_beside-All, each-All, none_at, none_of_both}
+use Rattle.pl_topology.proofs.Readings.{All-cons, All-none, All-weaker, AllPairs-cons, AllPairs-none, all_beside-All, each-All, none_at, none_of_both}
 use Rattle.pl_topology.proofs.RefusalLemmas.{bind_ok, or_refused_ok, refused_if_ok}
 use Rattle.pl_wiring.proofs.Choices.{some_if, then_some}
+use Rattle.pl_wiring.proofs.HostAddresses.{ip_of_text-one, mac_of_text-one}
+use Rattle.std.proofs.lemmas.List.Elements.{All-map}
 
 -- a switch that is named is one of the tree
 switch_named-below : (k : ℕ) (text : List ℕ) (switch : SwitchNo) → switch_named k text ≡ Some switch → switch.0 < switch_count k
@@ -96,10 +98,16 @@ link_entry-is k before found entry given =
       subst P second (switch_at-below k key.B found b (or_refused_ok _ _ b named_b)),
     )
 
-made_edge : (made entry : HostEntry) → (let r : Result HostEntry TopologyError = Ok made in r ≡ Ok entry) → made.edge ≡ entry.edge
-made_edge made entry is = let same : made ≡ entry = cc in ap (λ (h : HostEntry). h.edge) same
+made_host : (made entry : HostEntry) → (let r : Result HostEntry TopologyError = Ok made in r ≡ Ok entry) → made ≡ entry
+made_host made entry is = cc
 
-host_entry-is : (k : ℕ) (found : Members) (entry : HostEntry) → host_entry k found ≡ Ok entry → entry.edge.0 < edge_count k
+-- what a host table says is of one host at an edge switch
+pub record IsHostEntry (k : ℕ) (host : HostEntry) : Type 0 where
+  pub at_edge : host.edge.0 < edge_count k
+  pub of_one_mac : IsHostMac host.mac
+  pub of_one_ip : IsHostIp host.ip
+
+host_entry-is : (k : ℕ) (found : Members) (entry : HostEntry) → host_entry k found ≡ Ok entry → IsHostEntry k entry
 unfolding host_entry
 host_entry-is k found entry given =
     let (name, is_name, rest) = bind_ok (or_refused (option_and_then name_if (text_at key.Name found)) (error.BadValue key.Name)) _ entry given in
@@ -108,11 +116,17 @@ host_entry-is k found entry given =
     let (edge, is_edge, rest4) = bind_ok (or_refused (option_and_then (edge_if k) (switch_at k key.Edge found)) (error.BadValue key.Edge)) _ entry rest3 in
     let (port, is_port, rest5) = bind_ok (or_refused (integer_at key.Port found) (error.BadValue key.Port)) _ entry rest4 in
     let (capture, is_capture, made) = bind_ok (or_refused (capture_of (value_at key.Capture found)) (error.BadValue key.Capture)) _ entry rest5 in
-    let same : edge ≡ entry.edge = made_edge (record { name = name; mac = mac; ip = ip; edge = edge; port = port; capture = capture }) entry made in
+    let same = made_host (record { name = name; mac = mac; ip = ip; edge = edge; port = port; capture = capture }) entry made in
+    let (mac_text, mac_there, mac_read) = then_some mac_of_text (text_at key.Mac found) mac (or_refused_ok _ _ mac is_mac) in
+    let (ip_text, ip_there, ip_read) = then_some ip_of_text (text_at key.Ip found) ip (or_refused_ok _ _ ip is_ip) in
     let (switch, named, low) = then_some (edge_if k) (switch_at k key.Edge found) edge (or_refused_ok _ _ edge is_edge) in
     let (below, is) = some_if (ltb switch.0 (edge_count k)) switch edge low in
     let P : SwitchNo → Type 0 = λ s. s.0 < edge_count k in
-    subst P same (subst P is (ltb-true switch.0 (edge_count k) below))
+    subst (IsHostEntry k) same (record {
+      at_edge = subst P is (ltb-true switch.0 (edge_count k) below);
+      of_one_mac = mac_of_text-one mac_text mac mac_read;
+      of_one_ip = ip_of_text-one ip_text ip ip_read;
+    })
 
 switches_are : (k : ℕ) (document : Members) (entries : List SwitchEntry) → switch_entries k document ≡ Ok entries → All IsSwitchEntry entries
 unfolding switch_entries
@@ -126,20 +140,17 @@ links_are k document entries given =
     let (tables, listed, read) = bind_ok (or_refused (tables_at key.Link document) (error.BadValue key.Link)) (λ tables. all_beside (link_entry k) [] tables) entries given in
     all_beside-All (HasEnds k) (link_entry k) (link_entry-is k) [] tables entries (All-none (HasEnds k)) read
 
-abbrev pub IsAtEdge : ℕ → HostEntry → Type 0
-IsAtEdge k host = host.edge.0 < edge_count k
-
-hosts_are : (k : ℕ) (document : Members) (entries : List HostEntry) → host_entries k document ≡ Ok entries → All (IsAtEdge k) entries
+hosts_are : (k : ℕ) (document : Members) (entries : List HostEntry) → host_entries k document ≡ Ok entries → All (IsHostEntry k) entries
 unfolding host_entries
 hosts_are k document entries given =
     let (tables, listed, read) = bind_ok (or_refused (tables_at key.Host document) (error.BadValue key.Host)) (λ tables. all_beside (λ _. host_entry k) [] tables) entries given in
-    all_beside-All (IsAtEdge k) (λ _. host_entry k) (λ before t y is. host_entry-is k t y is) [] tables entries (All-none (IsAtEdge k)) read
+    all_beside-All (IsHostEntry k) (λ _. host_entry k) (λ before t y is. host_entry-is k t y is) [] tables entries (All-none (IsHostEntry k)) read
 
 -- what the entries of a file are
 pub record Are (k : ℕ) (e : Entries) : Type 0 where
   pub switches : All IsSwitchEntry e.switches
   pub links : All (HasEnds k) e.links
-  pub hosts : All (IsAtEdge k) e.hosts
+  pub hosts : All (IsHostEntry k) e.hosts
 
 pub entries_are : (k : ℕ) (document : Members) (e : Entries) → entries_of k document ≡ Ok e → Are k e
 unfolding entries_of
@@ -153,11 +164,11 @@ entries_are k document e given =
     record {
       switches = subst (λ (xs : List SwitchEntry). All IsSwitchEntry xs) s (switches_are k document switches first);
       links = subst (λ (xs : List LinkEntry). All (HasEnds k) xs) l (links_are k document links second);
-      hosts = subst (λ (xs : List HostEntry). All (IsAtEdge k) xs) h (hosts_are k document hosts third);
+      hosts = subst (λ (xs : List HostEntry). All (IsHostEntry k) xs) h (hosts_are k document hosts third);
     }
 
 pub hosts_in_range : (k : ℕ) (e : Entries) → Are k e → All (HasEdge k) e.hosts
-hosts_in_range k e are i d within = let low = are.hosts i d within in omega arith
+hosts_in_range k e are i d within = let low = (are.hosts i d within).at_edge in omega arith
 
 -- the tests of the `switch` tables
 id_differs : (before : List SwitchEntry) (entry : SwitchEntry) → id_is_new before entry ≡ Ok tt → list_any (has_id entry.id) before ≡ false
@@ -220,11 +231,13 @@ unfolding ports_differ
 ports_agree k links hosts passed =
     let (u, first, rest) = bind_ok (each_beside (port_is_free k) (kept_uses k links) (flat_map (link_uses k) links)) _ tt passed in (first, rest)
 
-pub agree_hosts : (k : ℕ) (links : List LinkEntry) (hosts : List HostEntry) → All (IsAtEdge k) hosts → names_differ hosts ≡ Ok tt → addresses_differ hosts ≡ Ok tt → ports_differ k links hosts ≡ Ok tt → AgreeHosts k links hosts
+pub agree_hosts : (k : ℕ) (links : List LinkEntry) (hosts : List HostEntry) → All (IsHostEntry k) hosts → names_differ hosts ≡ Ok tt → addresses_differ hosts ≡ Ok tt → ports_differ k links hosts ≡ Ok tt → AgreeHosts k links hosts
 agree_hosts k links hosts are names addresses ports =
     let passed = (ports_agree k links hosts ports).1 in
     record {
-      edges = are;
+      edges = All-weaker (IsHostEntry k) (λ h. h.edge.0 < edge_count k) hosts (λ h is. is.at_edge) are;
+      of_one_mac = All-weaker (IsHostEntry k) (λ h. IsHostMac h.mac) hosts (λ h is. is.of_one_mac) are;
+      of_one_ip = All-weaker (IsHostEntry k) (λ h. IsHostIp h.ip) hosts (λ h is. is.of_one_ip) are;
       names = λ i j d less within same.
           let pair = pairs_pass name_is_new (λ h. is_called h.name) name_differs [] hosts names i j d less within in
           texts_differ (get_or hosts i d).name (get_or hosts j d).name pair same;
@@ -283,6 +296,8 @@ plan_of_entries-IsPlan k e arity agree = record {
   at_edges = hosts_at_edges k e.links e.hosts agree.hosts;
   at_free_ports = hosts_at_free_ports k e.links e.hosts arity agree.links agree.hosts;
   places_apart = hosts_places_apart k e.links e.hosts agree.hosts;
+  host_macs = All-map (λ h. IsHostMac h.mac) host_of e.hosts agree.hosts.of_one_mac;
+  host_ips = All-map (λ h. IsHostIp h.ip) host_of e.hosts agree.hosts.of_one_ip;
   names_apart = hosts_names_apart k e.links e.hosts agree.hosts;
   macs_apart = hosts_macs_apart k e.links e.hosts agree.hosts;
   ips_apart = hosts_ips_apart k e.links e.hosts agree.hosts;

@@ -8,14 +8,13 @@ ghost use Rattle.pl_wiring.specs.Plan.{IsPlan};
 ghost use Rattle.pl_topology.specs.declared.entries.LinkEntry.{LinkEntry};
 ghost use Rattle.pl_topology.specs.declared.entries.SwitchEntry.{SwitchEntry};
 
+use crate::Memory;
 use crate::canonical::canonical_links;
 use crate::entries::{HostEntry, LinkEntry};
 use crate::file_entries::FileEntries;
 use crate::link_tables::{EntryByEnds, entry_between};
-use pl_wiring::switches;
-use pl_wiring::{Host, Link, Wiring};
-use crate::Memory;
 use pl_frame::SwitchId;
+use pl_wiring::{Host, Link, Wiring, switches};
 use std::alloc::Global;
 use std::collections::HashMap;
 

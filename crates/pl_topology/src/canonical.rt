@@ -2,8 +2,8 @@ ghost use Rattle.std.specs.Prelude.{◌≡◌, ◌+◌, ◌/◌, ◌<◌, IfOk};
 ghost use Rattle.pl_wiring.specs.Labels.{IsArity, IsLabel, edge_count, number_of};
 ghost use Rattle.pl_wiring.specs.FatTree.{above, number_below, link_count, canonical_link as canonical_link_of, canonical_links as canonical_links_of};
 
-use pl_wiring::{edges, half, label_at, switch_at, Label, Link, SwitchNo};
 use crate::Memory;
+use pl_wiring::{Label, Link, SwitchNo, edges, half, label_at, switch_at};
 use std::alloc::Global;
 
 /// The links of the canonical wiring, in link order: port k/2 + j of an edge switch joins the

@@ -2,9 +2,9 @@ ghost use Rattle.std.specs.Prelude.{◌≡◌};
 ghost use Rattle.pl_topology.specs.Checks.{addresses_differ, names_differ};
 ghost use Rattle.pl_topology.specs.Refusal.{Gives};
 
+use crate::TopologyError;
 use crate::entries::HostEntry;
 use pl_wiring::Name;
-use crate::TopologyError;
 use std::alloc::Global;
 use std::collections::HashSet;
 

@@ -6,9 +6,9 @@ ghost use Rattle.pl_topology.specs.Refusal.{Gives};
 ghost use Rattle.pl_topology.specs.declared.entries.SwitchEntry.{SwitchEntry};
 
 use crate::entries::SwitchEntry;
-use pl_wiring::switches;
 use crate::{Memory, TopologyError};
 use pl_frame::SwitchId;
+use pl_wiring::switches;
 use std::alloc::Global;
 use std::collections::{HashMap, HashSet};
 

@@ -1,5 +1,5 @@
-use pl_wiring::{Name, SwitchNo};
 use pl_frame::{Ip4, Mac, SwitchId};
+use pl_wiring::{Name, SwitchNo};
 
 /// What a `switch` table says: the id of a switch.
 #[derive(Clone, Copy, Debug, PartialEq, Eq)]

@@ -3,8 +3,8 @@ ghost use Rattle.pl_topology.specs.Errors.{error_text};
 ghost use Rattle.pl_topology.specs.declared.error.TopologyError.TheVariants.{Memory};
 
 use crate::Key;
-use pl_wiring::{Label, Name};
 use pl_frame::SwitchId;
+use pl_wiring::{Label, Name};
 use std::alloc::{AllocError, AllocFailed};
 use std::error::Error;
 use std::fmt;

@@ -4,10 +4,9 @@ ghost use Rattle.pl_topology.specs.Entries.{HasEnds};
 ghost use Rattle.pl_wiring.specs.Labels.{IsArity, switch_count};
 ghost use Rattle.pl_topology.specs.Refusal.{each};
 
-use crate::entries::LinkEntry;
-use pl_wiring::label_at;
-use pl_wiring::{Label, SwitchNo};
 use crate::TopologyError;
+use crate::entries::LinkEntry;
+use pl_wiring::{Label, SwitchNo, label_at};
 
 // Whether the first switch has a link up to the second.
 fn is_below(lower: Label, upper: Label) -> bool

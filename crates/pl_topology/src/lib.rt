@@ -3,9 +3,9 @@
 
 pub use error::TopologyError;
 pub use key::Key;
-pub use reading::read;
 pub use pl_frame::Memory;
 pub use pl_wiring::{Host, HostNo, Label, Link, LinkStates, Name, Path, Peer, SwitchNo, Wiring};
+pub use reading::read;
 
 mod building;
 mod canonical;

@@ -5,8 +5,8 @@ mod wired;
 
 ghost use Rattle.pl_wiring.specs.LiveLinks.{IsFor};
 
-use pl_wiring::{LinkStates, SwitchNo, Wiring};
 use crate::read;
+use pl_wiring::{LinkStates, SwitchNo, Wiring};
 use std::alloc::{AllocError, Global};
 use std::process::Abort;
 use std::test::Fail;

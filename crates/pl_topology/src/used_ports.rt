@@ -14,9 +14,8 @@ use crate::entries::{HostEntry, LinkEntry, PortUse};
 use crate::file_entries::FileEntries;
 use crate::joined::are_joined;
 use crate::link_tables::{EntryByEnds, entry_between};
-use pl_wiring::label_at;
-use pl_wiring::Link;
 use crate::{Memory, TopologyError};
+use pl_wiring::{Link, label_at};
 use std::alloc::Global;
 use std::collections::HashSet;
 

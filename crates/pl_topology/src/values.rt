@@ -6,12 +6,10 @@ ghost use Rattle.pl_topology.specs.Entries.{switch_at as switch_value_at, id_if,
 ghost use Rattle.pl_wiring.specs.SwitchNames.{switch_named};
 ghost use Rattle.pl_wiring.specs.Texts.{ip_of_text, is_name, mac_of_text};
 
-use crate::document::{integer_at, text_at, value_at};
-use pl_wiring::switch_named;
-use pl_wiring::edges;
 use crate::Key;
-use pl_wiring::{SwitchNo, text};
+use crate::document::{integer_at, text_at, value_at};
 use pl_frame::{Ip4, Mac, SwitchId};
+use pl_wiring::{SwitchNo, edges, switch_named, text};
 use toml::Table;
 
 /// The switch whose label stands at a key.

@@ -10,3 +10,4 @@ pub mod TextLemmas
 pub mod EntryLemmas
 pub mod Choices
 pub mod LabelTexts
+pub mod HostAddresses

@@ -14,9 +14,9 @@ pub use links::LinkStates;
 pub use name::Name;
 pub use order::{edges, half, label_at, switch_at, switches};
 pub use path::Path;
+pub use pl_frame::Memory;
 pub use text::{dotted, six_bytes};
 pub use wiring::Wiring;
-pub use pl_frame::Memory;
 
 mod host;
 mod label;

@@ -3,8 +3,8 @@ ghost use Rattle.pl_wiring.specs.Labels.{edge_count, switch_count};
 ghost use Rattle.pl_wiring.specs.LiveLinks.{IsFor};
 
 use super::fail;
-use pl_wiring::{LinkStates, Path, Peer, SwitchNo, Wiring};
 use crate::{Memory, read};
+use pl_wiring::{LinkStates, Path, Peer, SwitchNo, Wiring};
 use std::alloc::{AllocError, Global};
 use std::process::Abort;
 use std::test::Fail;

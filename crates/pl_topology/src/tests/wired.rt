@@ -1,7 +1,7 @@
 use super::fail;
-use pl_wiring::{HostNo, Label, LinkStates, Peer, SwitchNo};
 use crate::read;
 use pl_frame::{Ip4, Mac, SwitchId};
+use pl_wiring::{HostNo, Label, LinkStates, Peer, SwitchNo};
 use std::test::Fail;
 
 // Other ids and ports: the host ports of e0.0 are 0 and 3.

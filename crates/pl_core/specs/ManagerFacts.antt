@@ -30,10 +30,6 @@ pub record CanHear (view : ManagerView) (s : SwitchId) : Type 0 where
 abbrev pub newest_and_number : List Learnt → Mac → Option (Pmac × ℕ)
 newest_and_number learnt amac = option_map with_number (newest learnt amac)
 
--- group number n, rising, of floods and the groups of which members were told
-abbrev pub group_at : ManagerView → ℕ → Option ℕ
-group_at view n = slice_get (groups view.told) n
-
 -- the group that this speaks of, if it speaks of members
 abbrev pub group_in : ToManager → Option ℕ
 group_in (tell.Members group any) = Some group
@@ -42,3 +38,7 @@ group_in says = None
 -- floods, and the groups of which a switch told whether it has members, rising
 abbrev pub groups : List Told → List ℕ
 groups told = in_order nat_cmp (flood ∷ filter_map (λ t. group_in t.says) told)
+
+-- group number n, rising, of floods and the groups of which members were told
+abbrev pub group_at : ManagerView → ℕ → Option ℕ
+group_at view n = slice_get (groups view.told) n

@@ -55,6 +55,9 @@ has_granted v port = list_any (λ p. p == port) v.granted
 abbrev pub holder_and_mark : Hold → SwitchId × Bool
 holder_and_mark hold = (hold.edge, hold.fixed)
 
+abbrev pub hold_at : SwitchView → ℕ → Option Hold
+hold_at v position = slice_index_or v.holds position None
+
 -- who holds a position, and whether it is marked as fixed there
 abbrev pub holder_of : SwitchView → ℕ → Option (SwitchId × Bool)
 holder_of v position = option_map holder_and_mark (hold_at v position)
@@ -62,9 +65,6 @@ holder_of v position = option_map holder_and_mark (hold_at v position)
 -- group number n, rising, of those of which a part is known
 abbrev pub group_of_part : SwitchView → ℕ → Option ℕ
 group_of_part v n = option_map (λ part. part.0) (slice_get v.parts n)
-
-abbrev pub hold_at : SwitchView → ℕ → Option Hold
-hold_at v position = slice_index_or v.holds position None
 
 -- a neighbour through which an edge switch of this pod and position cannot be reached
 abbrev pub is_avoided : SwitchView → Option SwitchId → ℕ → ℕ → Bool

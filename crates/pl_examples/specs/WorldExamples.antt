@@ -23,7 +23,7 @@ use Rattle.pl_core.specs.SwitchInputs.SwitchInput.{Comes}
 use Rattle.pl_world.specs.declared.error.StepError.TheVariants.{AlreadySo, NoSuch, NothingThere, Occupied, StepsSpent}
 use Rattle.pl_world.specs.declared.item.Item.{Item}
 use Rattle.pl_world.specs.declared.item.Item.TheVariants.{Control, Data}
-use Rattle.pl_world.specs.declared.speech.Speech.TheVariants.{Waiting}
+use Rattle.pl_world.specs.declared.spoken_frame.SpokenFrame.TheVariants.{Waiting}
 use Rattle.pl_world.specs.Booting.{booted}
 use Rattle.pl_world.specs.LinksAndMoves.{with_link}
 use Rattle.pl_world.specs.Refusals.{refusal}

@@ -6,7 +6,7 @@ use Rattle.std.proofs.lemmas.List.{get_or_past, get_or-set_same, get_or-set_othe
 use Rattle.std.proofs.lemmas.List.FromFn.{length-map-range_with_len, get_or-map-range_with_len}
 use Rattle.std.proofs.lemmas.Nat.{and_le_l}
 use Rattle.std.proofs.lemmas.Nat.Bits.{bit_at_set_same, bit_at_set_other, bit_at_clear_same, bit_at_clear_other}
-use Rattle.pl_queues.specs.Lines.{next_place}
+use Rattle.pl_queues.specs.Queues.{next_place}
 use Rattle.pl_queues.specs.Bits.{is_marked, next_marked, is_set, has_bit, with_bit, without_bit, marks_of, IsNext, IsTwoLevel}
 use Rattle.pl_queues.proofs.Places.{find_same, next_place_is}
 use Rattle.pl_queues.proofs.WordBits.{is_set-zero, has_bit-changed_same, has_bit-changed_other}

@@ -2,7 +2,7 @@
 use Rattle.std.proofs.Common.{◌≡◌, ℕ, zero, suc, ◌+◌, ◌-◌, ◌<◌, ◌≤◌, Bool, true, false, cond, List, [], ◌∷◌, Option, None, Some, MatchOption, sym, refl, ap, subst, ◌∙◌, inl, inr, arith}
 use Rattle.std.specs.List.{find, range_with_len}
 use Rattle.std.proofs.lemmas.Bool.{cases_eq}
-use Rattle.pl_queues.specs.Lines.{next_place}
+use Rattle.pl_queues.specs.Queues.{next_place}
 use Rattle.pl_queues.specs.Bits.{IsLeast, IsNext}
 
 -- tests that agree find the same

@@ -2,7 +2,7 @@
 use Rattle.std.specs.Prelude.{◌≡◌, ℕ, ◌*◌, ◌/◌, ◌%◌, ◌^◌, ◌<◌, ◌≤◌, ◌==◌, Bool, true, false, not, List, [], ◌∷◌, length, map, Option, None, Some, MatchOption, slice_index, slice_index_or, bit_and, bit_or, refl}
 use Rattle.std.specs.Int.{bit_at, bit_not, w64}
 use Rattle.std.specs.List.{range_with_len}
-use Rattle.pl_queues.specs.Lines.{next_place}
+use Rattle.pl_queues.specs.Queues.{next_place}
 
 -- whether a place is marked; past the last none is
 abbrev pub is_marked : List Bool → ℕ → Bool

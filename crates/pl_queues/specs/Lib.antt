@@ -1,3 +1,3 @@
 pub mod Bits
-pub mod Lines
+pub mod Queues
 pub mod Counts

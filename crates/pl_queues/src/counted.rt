@@ -1,8 +1,8 @@
 ghost use Rattle.std.specs.Prelude.{◌≡◌, ◌<◌, ◌≤◌, ◌+◌, ◌++◌, ◌∷◌, [], cond, count_by, option_to_list, IfOk, MatchOption, OnErr, OnOk, length, replicate, slice_get, slice_set};
 ghost use Rattle.pl_queues.specs.Counts.{counted_in, most};
-ghost use Rattle.pl_queues.specs.Lines.{line_at};
+ghost use Rattle.pl_queues.specs.Queues.{items_at};
 
-use crate::Lines;
+use crate::Queues;
 use pl_frame::Memory;
 use pl_lists::Queue;
 use std::alloc::{AllocError, Global};
@@ -18,30 +18,30 @@ pub trait Counted {
         ensures { result ≡ counts self.now };
 }
 
-/// A bank of queues that keeps how many items count. Contracts see it as they see `Lines`.
+/// A bank of queues that keeps how many items count. Contracts see it as they see `Queues`.
 #[derive(Drop)]
-pub struct CountedLines<T: Counted> {
-    lines: Lines<T>,
+pub struct CountedQueues<T: Counted> {
+    queues: Queues<T>,
     counted: u64,
 }
 
-impl<T: Counted> Model for CountedLines<T> {
+impl<T: Counted> Model for CountedQueues<T> {
     ghost use Rattle.std.specs.Prelude.{List};
     ghost use Rattle.pl_queues.specs.Counts.{IsKeptCount};
 
     ghost Value = { List (List T) };
 
-    ghost view = { λ bank. bank.lines };
+    ghost view = { λ bank. bank.queues };
 
-    ghost invariant = { λ bank. IsKeptCount T.counts bank.lines bank.counted };
+    ghost invariant = { λ bank. IsKeptCount T.counts bank.queues bank.counted };
 }
 
-impl<T: Counted> CountedLines<T> {
+impl<T: Counted> CountedQueues<T> {
     /// The queues, to look at.
-    pub fn lines(&self) -> &Lines<T>
+    pub fn queues(&self) -> &Queues<T>
         ensures { result.now ≡ self.now }
     {
-        &self.lines
+        &self.queues
     }
 
     /// How many items of all queues count.
@@ -55,10 +55,10 @@ impl<T: Counted> CountedLines<T> {
     /// Takes the first item of a queue; none where it is empty.
     pub fn take(&mut self, at: usize) -> Option<T>
         requires { at < length self.old }
-        ensures { MatchOption result ((line_at self.old at ≡ []) × (self.new ≡ self.old))
-            (λ x. (line_at self.old at ≡ x ∷ line_at self.new at) × (self.new ≡ slice_set self.old at (line_at self.new at))) }
+        ensures { MatchOption result ((items_at self.old at ≡ []) × (self.new ≡ self.old))
+            (λ x. (items_at self.old at ≡ x ∷ items_at self.new at) × (self.new ≡ slice_set self.old at (items_at self.new at))) }
     {
-        let taken = self.lines.take(at);
+        let taken = self.queues.take(at);
         self.counted -= count_taken(&taken);
         taken
     }
@@ -66,33 +66,33 @@ impl<T: Counted> CountedLines<T> {
     /// Takes a whole queue, and leaves an empty one.
     pub fn take_all(&mut self, at: usize) -> Queue<T>
         requires { at < length self.old }
-        ensures taken { result ≡ line_at self.old at }
+        ensures taken { result ≡ items_at self.old at }
         ensures left { self.new ≡ slice_set self.old at [] }
     {
-        let line = self.lines.take_all(at);
-        self.counted -= count_line(&line);
-        line
+        let queue = self.queues.take_all(at);
+        self.counted -= count_queue(&queue);
+        queue
     }
 }
 
-impl<T: Counted + Drop> CountedLines<T> {
+impl<T: Counted + Drop> CountedQueues<T> {
     /// As many empty queues as asked for.
-    pub fn new(alloc: Global, count: usize) -> Result<CountedLines<T>, Memory>
+    pub fn new(alloc: Global, count: usize) -> Result<CountedQueues<T>, Memory>
         ensures { IfOk result (λ bank. bank ≡ replicate count []) }
     {
-        let lines = Lines::new(alloc, count)?;
-        Ok(CountedLines { lines, counted: 0 })
+        let queues = Queues::new(alloc, count)?;
+        Ok(CountedQueues { queues, counted: 0 })
     }
 
     /// Puts an item behind the last of a queue. Where more items would count than can be, this is as want
     /// of memory.
     pub fn put(&mut self, at: usize, item: T) -> Result<(), Memory>
         requires { at < length self.old }
-        ensures ok { OnOk result (self.new ≡ slice_set self.old at (line_at self.old at ++ item ∷ [])) }
+        ensures ok { OnOk result (self.new ≡ slice_set self.old at (items_at self.old at ++ item ∷ [])) }
         ensures err { OnErr result (self.new ≡ self.old) }
     {
         let counted = with_one_more(self.counted, &item)?;
-        self.lines.put(at, item)?;
+        self.queues.put(at, item)?;
         self.counted = counted;
         Ok(())
     }
@@ -129,20 +129,20 @@ fn count_taken<T: Counted>(taken: &Option<T>) -> u64
 }
 
 // How many items of a queue count.
-fn count_line<T: Counted>(line: &Queue<T>) -> u64
-    ensures { result ≡ count_by T.counts line.now }
+fn count_queue<T: Counted>(queue: &Queue<T>) -> u64
+    ensures { result ≡ count_by T.counts queue.now }
 {
     let mut count = 0;
-    for n in 0..line.len() {
-        count += count_item(line, n);
+    for n in 0..queue.len() {
+        count += count_item(queue, n);
     }
     count
 }
 
-fn count_item<T: Counted>(line: &Queue<T>, n: usize) -> u64
-    ensures { result ≡ count_by T.counts (option_to_list (slice_get line.now n)) }
+fn count_item<T: Counted>(queue: &Queue<T>, n: usize) -> u64
+    ensures { result ≡ count_by T.counts (option_to_list (slice_get queue.now n)) }
 {
-    match line.get(n) {
+    match queue.get(n) {
         None => 0,
         Some(item) => one_if(item.counts()),
     }
@@ -166,7 +166,7 @@ mod tests {
 
     #[test]
     fn a_count_follows_what_is_put_and_taken(rt: HostRuntime) -> Result<(), Fail> {
-        let mut bank: CountedLines<Flag> = CountedLines::new(rt.alloc(), 3)?;
+        let mut bank: CountedQueues<Flag> = CountedQueues::new(rt.alloc(), 3)?;
         bank.put(0, Flag(true))?;
         bank.put(0, Flag(false))?;
         bank.put(2, Flag(true))?;
@@ -175,10 +175,10 @@ mod tests {
         let first = bank.take(0);
         assert!(rt; first.is_some());
         assert_eq!(rt; bank.counted(), 2);
-        let line = bank.take_all(2);
-        assert_eq!(rt; line.len(), 2);
+        let queue = bank.take_all(2);
+        assert_eq!(rt; queue.len(), 2);
         assert_eq!(rt; bank.counted(), 0);
-        assert_eq!(rt; bank.lines().len_at(0), 1);
+        assert_eq!(rt; bank.queues().len_at(0), 1);
         Ok(())
     }
 }

@@ -2,10 +2,10 @@
 #![tactic(auto)]
 
 pub use bits::BitSet;
-pub use counted::{Counted, CountedLines};
-pub use lines::Lines;
+pub use counted::{Counted, CountedQueues};
+pub use queues::Queues;
 pub use pl_lists::Memory;
 
 mod bits;
 mod counted;
-mod lines;
+mod queues;

@@ -13,11 +13,11 @@ use Rattle.pl_core.specs.ManagerDuties.{ManagerRule}
 use Rattle.pl_core.specs.SwitchInputs.{SwitchRule}
 use Rattle.pl_core.specs.SwitchInputs.SwitchInput.{Says}
 use Rattle.pl_world.specs.declared.item.Item.{Item}
-use Rattle.pl_world.specs.declared.speech.Speech.TheVariants.{Silent}
+use Rattle.pl_world.specs.declared.spoken_frame.SpokenFrame.TheVariants.{Silent}
 use Rattle.pl_world.specs.Changes.{out_of}
 use Rattle.pl_world.specs.Flying.{IsItem}
 use Rattle.pl_schedule.specs.Heads.{IsTakenFromHost, IsTakenFromManager, IsTakenOut, IsTakenToManager}
-use Rattle.pl_queues.specs.Lines.{line_at}
+use Rattle.pl_queues.specs.Queues.{items_at}
 use Rattle.pl_world.specs.LinksAndMoves.{item_lost}
 use Rattle.pl_world.specs.Refusals.{is_none_left}
 use Rattle.pl_world.specs.WorldRule.{ComesIn, ComesOver, DeliversFromHost, DeliversFromManager, DeliversOut, DeliversToManager, Loses, ManagerMoves, SwitchMoves}
@@ -36,7 +36,7 @@ pub out_item : (w mid : WorldView) (s port : ℕ) (item : Item) → IsTakenOut w
 out_item w mid s port item taken all = head_is_item w.out (place_of w.plan.k s port) item taken.items taken.head all
 
 pub host_delivered : (rule : SwitchRule) (w mid new : WorldView) (h : ℕ) (item : Item) → IsTakenFromHost w h mid item →
-    ComesIn rule mid h item (slice_get mid.stands h) new → DeliversFromHost rule w h (line_at w.from_hosts h) new
+    ComesIn rule mid h item (slice_get mid.stands h) new → DeliversFromHost rule w h (items_at w.from_hosts h) new
 host_delivered rule w mid new h item taken comes =
     rw taken.head (subst (λ m. ComesIn rule m h item (slice_get m.stands h) new) taken.left comes)
 
@@ -46,11 +46,11 @@ out_delivered switch host w mid new s port item peer taken is comes =
     rw (taken.head, ← is) (subst (λ m. ComesOver switch host m s port item peer new) taken.left comes)
 
 pub told_delivered : (rule : ManagerRule) (w mid new : WorldView) (s : ℕ) (told : ToManager) → IsTakenToManager w s mid told →
-    ManagerMoves rule mid s told new → DeliversToManager rule w s (line_at w.to_manager s) new
+    ManagerMoves rule mid s told new → DeliversToManager rule w s (items_at w.to_manager s) new
 told_delivered rule w mid new s told taken moves = rw taken.head (subst (λ m. ManagerMoves rule m s told new) taken.left moves)
 
 pub said_delivered : (rule : SwitchRule) (w mid new : WorldView) (s : ℕ) (says : ToSwitch) → IsTakenFromManager w s mid says →
-    SwitchMoves rule mid s (Says says) Silent new → DeliversFromManager rule w s (line_at w.from_manager s) new
+    SwitchMoves rule mid s (Says says) Silent new → DeliversFromManager rule w s (items_at w.from_manager s) new
 said_delivered rule w mid new s says taken moves = rw taken.head (subst (λ m. SwitchMoves rule m s (Says says) Silent new) taken.left moves)
 
 pub head_lost : (w mid new : WorldView) (s port : ℕ) (item : Item) → IsTakenOut w s port mid item → new ≡ item_lost mid item → Loses w s port (out_of w s port) new

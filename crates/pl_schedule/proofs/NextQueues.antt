@@ -7,7 +7,7 @@ use Rattle.pl_wiring.specs.Labels.{switch_count}
 use Rattle.pl_wiring.specs.Plan.{Plan}
 use Rattle.pl_world.specs.declared.event.QueueName.TheVariants as queue
 use Rattle.pl_queues.specs.Bits.{IsLeast}
-use Rattle.pl_queues.specs.Lines.{has_items, line_at, next_filled, next_place}
+use Rattle.pl_queues.specs.Queues.{has_items, items_at, next_filled, next_place}
 use Rattle.pl_queues.proofs.Places.{next_place_is_least}
 use Rattle.pl_world.specs.Changes.{host_no, switch_no}
 use Rattle.pl_world.specs.Flying.{IsFormed}
@@ -67,20 +67,20 @@ module _ (test : ℕ → Bool) (from : ℕ) where
 
   -- a bank whose queues have the numbers from `first` on
   pub first_in_bank : {T : Type 0} (first : ℕ) (bank : List (List T)) (answer : Option ℕ)
-      → ((place : ℕ) → place < length bank → test (first + place) ≡ has_items (line_at bank place))
+      → ((place : ℕ) → place < length bank → test (first + place) ≡ has_items (items_at bank place))
       → answer ≡ next_in first bank from → IsFirst first (first + length bank) answer
   first_in_bank first bank answer same is =
       subst (IsFirst first (first + length bank)) (sym is)
-      (found (next_filled bank (from - first)) (next_place_is_least (λ at. has_items (line_at bank at)) (length bank) (from - first) (next_filled bank (from - first)) refl))
+      (found (next_filled bank (from - first)) (next_place_is_least (λ at. has_items (items_at bank at)) (length bank) (from - first) (next_filled bank (from - first)) refl))
     where
-      at_place : (k : ℕ) → first ≤ k → k < first + length bank → test k ≡ has_items (line_at bank (k - first))
+      at_place : (k : ℕ) → first ≤ k → k < first + length bank → test k ≡ has_items (items_at bank (k - first))
       at_place k above below =
           let back : k ≡ first + (k - first) = omega arith in
           ap test back ∙ same (k - first) (omega arith)
 
       found : (o : Option ℕ)
-          → MatchOption o ((k : ℕ) → from - first ≤ k → k < length bank → has_items (line_at bank k) ≡ false)
-          (λ at. IsLeast (λ at. has_items (line_at bank at)) (from - first) at × (at < length bank))
+          → MatchOption o ((k : ℕ) → from - first ≤ k → k < length bank → has_items (items_at bank k) ≡ false)
+          (λ at. IsLeast (λ at. has_items (items_at bank at)) (from - first) at × (at < length bank))
           → IsFirst first (first + length bank) (option_map (λ place. first + place) o)
       found None h = λ k late above below. at_place k above below ∙ h (k - first) (omega arith) (omega arith)
       found (Some place) h =
@@ -128,27 +128,27 @@ not_none_left (x ∷ items) = refl
 
 -- each bank of a world has the queues of its numbers
 module _ (w : WorldView) (formed : IsFormed w) where
-  items_from_host : (place : ℕ) → place < length w.from_hosts → has_items_at w (0 + place) ≡ has_items (line_at w.from_hosts place)
+  items_from_host : (place : ℕ) → place < length w.from_hosts → has_items_at w (0 + place) ≡ has_items (items_at w.from_hosts place)
   items_from_host place h =
       ap (has_items_at w) (zero-add place)
       ∙ ap (λ q. not (is_empty_queue w q)) (queue_at-host w.plan place (omega (arith, h, formed.from_hosts)))
-      ∙ not_none_left (line_at w.from_hosts place)
+      ∙ not_none_left (items_at w.from_hosts place)
 
-  items_out : (place : ℕ) → place < length w.out → has_items_at w (first_out w.plan + place) ≡ has_items (line_at w.out place)
+  items_out : (place : ℕ) → place < length w.out → has_items_at w (first_out w.plan + place) ≡ has_items (items_at w.out place)
   items_out place h =
       ap (λ q. not (is_empty_queue w q)) (queue_at-out w.plan place (omega (arith, h, formed.out)))
-      ∙ not_none_left (line_at w.out (place / w.plan.k * w.plan.k + place % w.plan.k))
-      ∙ ap (λ at. has_items (line_at w.out at)) (div-add-mod' place w.plan.k)
+      ∙ not_none_left (items_at w.out (place / w.plan.k * w.plan.k + place % w.plan.k))
+      ∙ ap (λ at. has_items (items_at w.out at)) (div-add-mod' place w.plan.k)
 
-  items_to_manager : (s : ℕ) → s < length w.to_manager → has_items_at w (first_to_manager w.plan + s) ≡ has_items (line_at w.to_manager s)
+  items_to_manager : (s : ℕ) → s < length w.to_manager → has_items_at w (first_to_manager w.plan + s) ≡ has_items (items_at w.to_manager s)
   items_to_manager s h =
       ap (λ q. not (is_empty_queue w q)) (queue_at-to_manager w.plan s (omega (arith, h, formed.to_manager)))
-      ∙ not_none_left (line_at w.to_manager s)
+      ∙ not_none_left (items_at w.to_manager s)
 
-  items_from_manager : (s : ℕ) → s < length w.from_manager → has_items_at w (first_from_manager w.plan + s) ≡ has_items (line_at w.from_manager s)
+  items_from_manager : (s : ℕ) → s < length w.from_manager → has_items_at w (first_from_manager w.plan + s) ≡ has_items (items_at w.from_manager s)
   items_from_manager s h =
       ap (λ q. not (is_empty_queue w q)) (queue_at-from_manager w.plan s)
-      ∙ not_none_left (line_at w.from_manager s)
+      ∙ not_none_left (items_at w.from_manager s)
 
   module _ (from : ℕ) where
     first_of_hosts : (answer : Option ℕ) → answer ≡ next_in 0 w.from_hosts from → IsFirst (has_items_at w) from 0 (first_out w.plan) answer

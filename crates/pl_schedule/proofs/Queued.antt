@@ -3,7 +3,7 @@ use Rattle.std.proofs.Common.{◌≡◌, ℕ, List, Result, Ok, Err, OnErr, OnOk
 use Rattle.std.specs.List.{AllByRecursion}
 use Rattle.std.proofs.lemmas.List.{length-set}
 use Rattle.pl_core.specs.SwitchViews.{SwitchView}
-use Rattle.pl_queues.specs.Lines.{put_at}
+use Rattle.pl_queues.specs.Queues.{put_at}
 use Rattle.pl_world.specs.declared.item.Item.{Item}
 use Rattle.pl_world.specs.Flying.{IsFormed}
 use Rattle.pl_world.specs.Pending.{SwitchesView}
@@ -27,10 +27,10 @@ formed_same v switches out same many f = record {
 }
 
 module _ (v : WorldView) (old new : SwitchesView) (at : ℕ) (switches : v.switches ≡ old.switches) (out : v.out ≡ old.out) (formed : IsFormed v) where
-  formed_with : (line : List Item) → new ≡ record old { out = slice_set old.out at line } → IsFormed (record v { switches = new.switches; out = new.out })
-  formed_with line changed =
+  formed_with : (queue : List Item) → new ≡ record old { out = slice_set old.out at queue } → IsFormed (record v { switches = new.switches; out = new.out })
+  formed_with queue changed =
       formed_same v new.switches new.out (ap (λ a. a.switches) changed ∙ sym switches)
-      (ap (λ a. length a.out) changed ∙ length-set old.out at line ∙ ap length (sym out)) formed
+      (ap (λ a. length a.out) changed ∙ length-set old.out at queue ∙ ap length (sym out)) formed
 
   formed_yet : new ≡ old → IsFormed (record v { switches = new.switches; out = new.out })
   formed_yet same =

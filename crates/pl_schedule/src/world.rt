@@ -6,7 +6,7 @@ ghost use Rattle.pl_world.specs.SwitchActs.{granted};
 
 use pl_world_parts::Atlas;
 use pl_world_parts::Book;
-use pl_world_parts::{Says, Told};
+use pl_world_parts::{WaitingToManager, WaitingToSwitch};
 use pl_world_parts::Stands;
 use pl_world_parts::Switches;
 use pl_world::{Item, Limits};
@@ -15,7 +15,7 @@ use pl_core::{HostCore, ManagerCore, SwitchCore, ToManager, ToSwitch};
 use pl_frame::Memory;
 use pl_lists::Queue;
 use pl_frame::{Mac, SwitchId};
-use pl_queues::{CountedLines, Lines};
+use pl_queues::{CountedQueues, Queues};
 use pl_pmac::Pmac;
 use pl_wiring::{LinkStates, Peer, SwitchNo, Wiring};
 use std::alloc::{AllocError, Global};
@@ -33,9 +33,9 @@ pub struct World<S: SwitchCore, M: ManagerCore, H: HostCore> {
     switches: Switches<S>,
     manager: M,
     hosts: Vec<H>,
-    from_hosts: Lines<Item>,
-    to_manager: CountedLines<Told>,
-    from_manager: CountedLines<Says>,
+    from_hosts: Queues<Item>,
+    to_manager: CountedQueues<WaitingToManager>,
+    from_manager: CountedQueues<WaitingToSwitch>,
     book: Book,
     begun: u64,
     steps: u64,
@@ -140,7 +140,7 @@ impl<S: SwitchCore, M: ManagerCore, H: HostCore> World<S, M, H> {
         requires { s.0 < switch_count self.old.plan.k }
         ensures { OnOk result (self.new ≡ told_manager self.old s.0 told) }
     {
-        self.to_manager.put(s.0 as usize, Told::new(told))
+        self.to_manager.put(s.0 as usize, WaitingToManager::new(told))
     }
 
     fn say(&mut self, to: SwitchId, says: ToSwitch) -> Result<(), Memory>
@@ -148,7 +148,7 @@ impl<S: SwitchCore, M: ManagerCore, H: HostCore> World<S, M, H> {
     {
         match self.atlas.switch_with(to) {
             None => Ok(()),
-            Some(s) => self.from_manager.put(s.0 as usize, Says::new(says)),
+            Some(s) => self.from_manager.put(s.0 as usize, WaitingToSwitch::new(says)),
         }
     }
 

@@ -13,7 +13,7 @@ use Rattle.pl_world.specs.declared.item.Item.{Item}
 use Rattle.pl_world.specs.Changes.{ends_of}
 use Rattle.pl_world.specs.Flying.{IsItem, born, times_in, times_in_all}
 use Rattle.pl_world.specs.Worlds.{WorldView}
-use Rattle.pl_world.proofs.Counts.{all_append, all_at, all_set, begun-append, born_more, ends-append, ends_of-begun, ends_of-ends, one, times_in-append, times_in-cons, times_in_all-set, within_line}
+use Rattle.pl_world.proofs.Counts.{all_append, all_at, all_set, begun-append, born_more, ends-append, ends_of-begun, ends_of-ends, one, times_in-append, times_in-cons, times_in_all-set, within_queue}
 
 pub record Balanced (plan : Plan) (from_hosts out : List (List Item)) (journal : List Entry) (many : ℕ) (owed : ℕ → ℕ) : Type 0 where
   pub hosts : length from_hosts ≡ length plan.hosts
@@ -53,28 +53,28 @@ module _ (plan : Plan) (from_hosts out : List (List Item)) (journal : List Entry
   }
 
   -- another queue out of a port, and another queue of a host
-  pub out_balance : (at : ℕ) (line : List Item) → at < length out → AllByRecursion IsItem line →
-      ((id : ℕ) → times_in id line + g id ≡ times_in id (get_or out at []) + f id) →
-      Balanced plan from_hosts out journal many f → Balanced plan from_hosts (set out at line) journal many g
-  out_balance at line within items owes b = record {
+  pub out_balance : (at : ℕ) (queue : List Item) → at < length out → AllByRecursion IsItem queue →
+      ((id : ℕ) → times_in id queue + g id ≡ times_in id (get_or out at []) + f id) →
+      Balanced plan from_hosts out journal many f → Balanced plan from_hosts (set out at queue) journal many g
+  out_balance at queue within items owes b = record {
     hosts = b.hosts;
-    ports = length-set out at line ∙ b.ports;
+    ports = length-set out at queue ∙ b.ports;
     host_items = b.host_items;
-    port_items = all_set (AllByRecursion IsItem) out at line items b.port_items;
+    port_items = all_set (AllByRecursion IsItem) out at queue items b.port_items;
     begins = b.begins;
-    flights = λ id. omega (arith, b.flights id, owes id, times_in_all-set id out at line within);
+    flights = λ id. omega (arith, b.flights id, owes id, times_in_all-set id out at queue within);
   }
 
-  pub host_balance : (at : ℕ) (line : List Item) → at < length from_hosts → AllByRecursion IsItem line →
-      ((id : ℕ) → times_in id line + g id ≡ times_in id (get_or from_hosts at []) + f id) →
-      Balanced plan from_hosts out journal many f → Balanced plan (set from_hosts at line) out journal many g
-  host_balance at line within items owes b = record {
-    hosts = length-set from_hosts at line ∙ b.hosts;
+  pub host_balance : (at : ℕ) (queue : List Item) → at < length from_hosts → AllByRecursion IsItem queue →
+      ((id : ℕ) → times_in id queue + g id ≡ times_in id (get_or from_hosts at []) + f id) →
+      Balanced plan from_hosts out journal many f → Balanced plan (set from_hosts at queue) out journal many g
+  host_balance at queue within items owes b = record {
+    hosts = length-set from_hosts at queue ∙ b.hosts;
     ports = b.ports;
-    host_items = all_set (AllByRecursion IsItem) from_hosts at line items b.host_items;
+    host_items = all_set (AllByRecursion IsItem) from_hosts at queue items b.host_items;
     port_items = b.port_items;
     begins = b.begins;
-    flights = λ id. omega (arith, b.flights id, owes id, times_in_all-set id from_hosts at line within);
+    flights = λ id. omega (arith, b.flights id, owes id, times_in_all-set id from_hosts at queue within);
   }
 
   pub same_balance : ((id : ℕ) → f id ≡ g id) → Balanced plan from_hosts out journal many f → Balanced plan from_hosts out journal many g
@@ -103,21 +103,21 @@ module _ (plan : Plan) (from_hosts out : List (List Item)) (journal : List Entry
   -- the head of a queue is taken, and owed
   pub took_out_balance : (at : ℕ) (item : Item) (items : List Item) → get_or out at [] ≡ item ∷ items → ((id : ℕ) → g id ≡ times_in id (item ∷ []) + f id) →
       Balanced plan from_hosts out journal many f → Balanced plan from_hosts (set out at items) journal many g
-  took_out_balance at item items is owes b = out_balance at items (within_line out at item items is)
+  took_out_balance at item items is owes b = out_balance at items (within_queue out at item items is)
       (let all : AllByRecursion IsItem (item ∷ items) = subst (AllByRecursion IsItem) is (all_at (AllByRecursion IsItem) out at [] tt b.port_items) in all.1)
       (λ id. omega (arith, ap (times_in id) is, times_in-cons id item items, owes id)) b
 
   pub took_host_balance : (at : ℕ) (item : Item) (items : List Item) → get_or from_hosts at [] ≡ item ∷ items → ((id : ℕ) → g id ≡ times_in id (item ∷ []) + f id) →
       Balanced plan from_hosts out journal many f → Balanced plan (set from_hosts at items) out journal many g
-  took_host_balance at item items is owes b = host_balance at items (within_line from_hosts at item items is)
+  took_host_balance at item items is owes b = host_balance at items (within_queue from_hosts at item items is)
       (let all : AllByRecursion IsItem (item ∷ items) = subst (AllByRecursion IsItem) is (all_at (AllByRecursion IsItem) from_hosts at [] tt b.host_items) in all.1)
       (λ id. omega (arith, ap (times_in id) is, times_in-cons id item items, owes id)) b
 
 -- a head is an item
-pub head_is_item : (lines : List (List Item)) (at : ℕ) (item : Item) (items : List Item) → get_or lines at [] ≡ item ∷ items →
-    AllByRecursion (AllByRecursion IsItem) lines → IsItem item
-head_is_item lines at item items is all =
-    let here : AllByRecursion IsItem (item ∷ items) = subst (AllByRecursion IsItem) is (all_at (AllByRecursion IsItem) lines at [] tt all) in here.0
+pub head_is_item : (queues : List (List Item)) (at : ℕ) (item : Item) (items : List Item) → get_or queues at [] ≡ item ∷ items →
+    AllByRecursion (AllByRecursion IsItem) queues → IsItem item
+head_is_item queues at item items is all =
+    let here : AllByRecursion IsItem (item ∷ items) = subst (AllByRecursion IsItem) is (all_at (AllByRecursion IsItem) queues at [] tt all) in here.0
 
 module _ (plan : Plan) (from_hosts out : List (List Item)) (journal : List Entry) (many : ℕ) (f : ℕ → ℕ) (cause : Cause) (at : ℕ) where
   -- the frames in a queue end

@@ -30,11 +30,11 @@ pub times_in-append : (id : ℕ) (xs ys : List Item) → times_in id (xs ++ ys) 
 times_in-append id [] ys = omega arith
 times_in-append id (x ∷ xs) ys = omega (arith, times_in-cons id x (xs ++ ys), times_in-cons id x xs, times_in-append id xs ys)
 
-pub times_in_all-set : (id : ℕ) (lines : List (List Item)) (n : ℕ) (line : List Item) → n < length lines →
-    times_in_all id (set lines n line) + times_in id (get_or lines n []) ≡ times_in_all id lines + times_in id line
-times_in_all-set id [] n line within = absurd (omega arith)
-times_in_all-set id (l ∷ lines) zero line within = omega arith
-times_in_all-set id (l ∷ lines) (suc n) line within = omega (arith, times_in_all-set id lines n line (omega arith))
+pub times_in_all-set : (id : ℕ) (queues : List (List Item)) (n : ℕ) (queue : List Item) → n < length queues →
+    times_in_all id (set queues n queue) + times_in id (get_or queues n []) ≡ times_in_all id queues + times_in id queue
+times_in_all-set id [] n queue within = absurd (omega arith)
+times_in_all-set id (l ∷ queues) zero queue within = omega arith
+times_in_all-set id (l ∷ queues) (suc n) queue within = omega (arith, times_in_all-set id queues n queue (omega arith))
 
 pub ends-cons : (e : Entry) (past : List Entry) (id : ℕ) → ends (e ∷ past) id ≡ ends (e ∷ []) id + ends past id
 ends-cons e past id = one_more (is_frame (ended_by e) id) (ends past id)
@@ -87,7 +87,7 @@ all_append P [] ys all more = more
 all_append P (x ∷ xs) ys all more = (all.0, all_append P xs ys all.1 more)
 
 -- a queue that has a first item is there
-pub within_line : {T : Type 0} (lines : List (List T)) (n : ℕ) (x : T) (xs : List T) → get_or lines n [] ≡ x ∷ xs → n < length lines
-within_line [] n x xs is = absurd (cc)
-within_line (l ∷ lines) zero x xs is = omega arith
-within_line (l ∷ lines) (suc n) x xs is = omega (arith, within_line lines n x xs is)
+pub within_queue : {T : Type 0} (queues : List (List T)) (n : ℕ) (x : T) (xs : List T) → get_or queues n [] ≡ x ∷ xs → n < length queues
+within_queue [] n x xs is = absurd (cc)
+within_queue (l ∷ queues) zero x xs is = omega arith
+within_queue (l ∷ queues) (suc n) x xs is = omega (arith, within_queue queues n x xs is)

@@ -30,12 +30,12 @@ use Rattle.pl_core.specs.SwitchInputs.{SwitchInput, SwitchRule}
 use Rattle.pl_world.specs.declared.item.Item.{Item}
 use Rattle.pl_world.specs.declared.item.Item.TheVariants.{Control, Data}
 use Rattle.pl_world.specs.declared.limits.Limits.{Limits}
-use Rattle.pl_world.specs.declared.speech.Speech.{Speech}
-use Rattle.pl_world.specs.declared.speech.Speech.TheVariants.{Over, Passed, Silent, Waiting}
+use Rattle.pl_world.specs.declared.spoken_frame.SpokenFrame.{SpokenFrame as Speech}
+use Rattle.pl_world.specs.declared.spoken_frame.SpokenFrame.TheVariants.{Over, Passed, Silent, Waiting}
 use Rattle.pl_world.specs.declared.stand.Stand.{Stand}
 use Rattle.pl_world.specs.Changes.{host_of, out_of, receiver, said_to}
 use Rattle.pl_world.specs.Hearing.{HeardWithin, IsWithinHearing}
-use Rattle.pl_queues.specs.Lines.{line_at}
+use Rattle.pl_queues.specs.Queues.{items_at}
 use Rattle.pl_world.specs.LinksAndMoves.{item_lost, link_between}
 use Rattle.pl_world.specs.OtherActs.{host_act_done, manager_act_done, reception_noted, skip_noted}
 use Rattle.pl_world.specs.SwitchActs.{Doing, act_done, acts_done, begins, ended, granted, passed, redirected}
@@ -221,10 +221,10 @@ module _ (n : ℕ) where
     delivers_told w s (says ∷ items) new within moves = told manager answers (record w { to_manager = set w.to_manager s items }) s says new within moves
 
     delivers : (w : WorldView) (name : QueueName) (new : WorldView) → HeardBy w n → Delivers switch manager host w name new → After w (knows new)
-    delivers w (queue.FromHost h) new within comes = no_more w new within (from_host_knows switch w h.0 (line_at w.from_hosts h.0) new comes)
+    delivers w (queue.FromHost h) new within comes = no_more w new within (from_host_knows switch w h.0 (items_at w.from_hosts h.0) new comes)
     delivers w (queue.Port s port) new within comes = no_more w new within (delivers_out_knows switch host w s.0 port (out_of w s.0 port) new comes)
-    delivers w (queue.ToManager s) new within comes = delivers_told w s.0 (line_at w.to_manager s.0) new within comes
-    delivers w (queue.FromManager s) new within comes = no_more w new within (from_manager_knows switch w s.0 (line_at w.from_manager s.0) new comes)
+    delivers w (queue.ToManager s) new within comes = delivers_told w s.0 (items_at w.to_manager s.0) new within comes
+    delivers w (queue.FromManager s) new within comes = no_more w new within (from_manager_knows switch w s.0 (items_at w.from_manager s.0) new comes)
 
     happens : (w : WorldView) (e : Event) (new : WorldView) → HeardBy w n → Happens switch manager host w e new → After w (knows new)
     happens w (event.Deliver name) new within is = delivers w name new within is

@@ -15,15 +15,15 @@ use Rattle.pl_core.specs.ManagerDuties.{ManagerRule}
 use Rattle.pl_core.specs.SwitchInputs.{SwitchInput, SwitchRule}
 use Rattle.pl_world.specs.declared.item.Item.{Item}
 use Rattle.pl_world.specs.declared.item.Item.TheVariants.{Control, Data}
-use Rattle.pl_world.specs.declared.speech.Speech.{Speech}
+use Rattle.pl_world.specs.declared.spoken_frame.SpokenFrame.{SpokenFrame}
 use Rattle.pl_world.specs.declared.stand.Stand.{Stand}
 use Rattle.pl_world.specs.Changes.{out_of}
-use Rattle.pl_queues.specs.Lines.{line_at}
+use Rattle.pl_queues.specs.Queues.{items_at}
 use Rattle.pl_world.specs.WorldRule.{ComesAtSwitch, ComesIn, ComesOver, Delivers, DeliversFromHost, DeliversFromManager, DeliversOut, Happens, Steps, SwitchMoves, heard_item}
 use Rattle.pl_world.specs.Worlds.{WorldView}
 
 module _ (one other : SwitchRule) (manager : ManagerRule) (host : HostRule) (within : IsWithin one other) where
-  moves : (w : WorldView) (s : ℕ) (input : SwitchInput) (speech : Speech) (new : WorldView) →
+  moves : (w : WorldView) (s : ℕ) (input : SwitchInput) (speech : SpokenFrame) (new : WorldView) →
       SwitchMoves one w s input speech new → SwitchMoves other w s input speech new
   moves w s input speech new m = record {
     before = m.before;
@@ -60,10 +60,10 @@ module _ (one other : SwitchRule) (manager : ManagerRule) (host : HostRule) (wit
   from_manager w s (says ∷ items) new m = moves _ s _ _ new m
 
   delivers : (w : WorldView) (name : QueueName) (new : WorldView) → Delivers one manager host w name new → Delivers other manager host w name new
-  delivers w (queue.FromHost h) new m = from_host w h.0 (line_at w.from_hosts h.0) new m
+  delivers w (queue.FromHost h) new m = from_host w h.0 (items_at w.from_hosts h.0) new m
   delivers w (queue.Port s port) new m = delivers_out w s.0 port (out_of w s.0 port) new m
   delivers w (queue.ToManager s) new m = m
-  delivers w (queue.FromManager s) new m = from_manager w s.0 (line_at w.from_manager s.0) new m
+  delivers w (queue.FromManager s) new m = from_manager w s.0 (items_at w.from_manager s.0) new m
 
   happens : (w : WorldView) (e : Event) (new : WorldView) → Happens one manager host w e new → Happens other manager host w e new
   happens w (event.Deliver name) new m = delivers w name new m

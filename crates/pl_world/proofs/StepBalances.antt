@@ -49,12 +49,12 @@ use Rattle.pl_world.specs.declared.error.StepError.{StepError}
 use Rattle.pl_world.specs.declared.error.StepError.TheVariants.{JournalFull, NoSuch, StepsSpent}
 use Rattle.pl_world.specs.declared.item.Item.{Item}
 use Rattle.pl_world.specs.declared.item.Item.TheVariants.{Control, Data}
-use Rattle.pl_world.specs.declared.speech.Speech.{Speech}
-use Rattle.pl_world.specs.declared.speech.Speech.TheVariants.{Silent, Waiting}
+use Rattle.pl_world.specs.declared.spoken_frame.SpokenFrame.{SpokenFrame}
+use Rattle.pl_world.specs.declared.spoken_frame.SpokenFrame.TheVariants.{Silent, Waiting}
 use Rattle.pl_world.specs.declared.stand.Stand.{Stand}
 use Rattle.pl_world.specs.Changes.{all_noted, host_no, noted, out_of, receiver, said_to, switch_no}
 use Rattle.pl_world.specs.Flying.{IsAtPort, IsCounted, IsFrame, IsItem, times_in}
-use Rattle.pl_queues.specs.Lines.{line_at}
+use Rattle.pl_queues.specs.Queues.{items_at}
 use Rattle.pl_world.specs.LinksAndMoves.{host_moved, item_lost, joins, link_between, with_link}
 use Rattle.pl_world.specs.OtherActs.{heard_after_tick, host_act_done, manager_act_done, reception_noted, skip_noted}
 use Rattle.pl_world.specs.Refusals.{has_host, has_port, has_switch, is_full, is_for_hosts, refusal, refusal_of_event, refusal_of_link, refusal_of_move}
@@ -204,7 +204,7 @@ pub noted_owes : (w : WorldView) (f g : ℕ → ℕ) (entries : List Entry) → 
 noted_owes w f g entries begins ends b = noted_balance w.plan w.from_hosts w.out w.journal w.begun f g entries begins ends b
 
 -- a switch steps
-switch_moves : (rule : SwitchRule) → AccountsForFrames rule → (w : WorldView) (s : ℕ) (input : SwitchInput) (speech : Speech) (new : WorldView) →
+switch_moves : (rule : SwitchRule) → AccountsForFrames rule → (w : WorldView) (s : ℕ) (input : SwitchInput) (speech : SpokenFrame) (new : WorldView) →
     said_by speech ≡ first_speech input → ((v : SwitchView) → v.k ≡ w.plan.k → CanCome v input) →
     Owes w (λ id. owed_by speech id + 0) → HasRest w → SwitchMoves rule w s input speech new → Sound new
 switch_moves rule accounts w s input speech new same can owes r moves =
@@ -388,7 +388,7 @@ module _ (switch : SwitchRule) (host : HostRule) (accounts : AccountsForFrames s
       let heard = heard_sound w h item (λ id. times_in id (item ∷ [])) owes r in
       comes_at_switch switch accounts (heard_item w h item) stand.edge.0 stand.port item new (rw (heard_plan w h item) there.port) is heard.0 heard.1 comes
 
-  delivers_from_host : (w : WorldView) (h : ℕ) (items : List Item) (new : WorldView) → line_at w.from_hosts h ≡ items → Sound w →
+  delivers_from_host : (w : WorldView) (h : ℕ) (items : List Item) (new : WorldView) → items_at w.from_hosts h ≡ items → Sound w →
       DeliversFromHost switch w h items new → Sound new
   delivers_from_host w h [] new is s comes = absurd comes
   delivers_from_host w h (item ∷ items) new is s comes =
@@ -421,10 +421,10 @@ module _ (switch : SwitchRule) (host : HostRule) (accounts : AccountsForFrames s
       s.balance (says_rest w.from_manager _ (length-set w.from_manager t _) s.rest) moves
 
   delivers : (manager : ManagerRule) (w : WorldView) (name : QueueName) (new : WorldView) → Sound w → Delivers switch manager host w name new → Sound new
-  delivers manager w (queue.FromHost h) new s comes = delivers_from_host w h.0 (line_at w.from_hosts h.0) new refl s comes
+  delivers manager w (queue.FromHost h) new s comes = delivers_from_host w h.0 (items_at w.from_hosts h.0) new refl s comes
   delivers manager w (queue.Port t port) new s comes = delivers_out w t.0 port (out_of w t.0 port) new refl s comes
-  delivers manager w (queue.ToManager t) new s comes = delivers_to_manager manager w t.0 (line_at w.to_manager t.0) new s comes
-  delivers manager w (queue.FromManager t) new s comes = delivers_from_manager w t.0 (line_at w.from_manager t.0) new s comes
+  delivers manager w (queue.ToManager t) new s comes = delivers_to_manager manager w t.0 (items_at w.to_manager t.0) new s comes
+  delivers manager w (queue.FromManager t) new s comes = delivers_from_manager w t.0 (items_at w.from_manager t.0) new s comes
 
   ticked_heard : (t : ℕ) (stands : List Stand) (heard : List (Option ℕ)) → length (heard_after_tick t stands heard) ≡ length heard
   ticked_heard t [] heard = refl

@@ -24,8 +24,8 @@ use Rattle.pl_core.specs.HostViews.{HostView}
 use Rattle.pl_core.specs.SwitchViews.{SwitchView}
 use Rattle.pl_layouts.specs.Placement.{same_place}
 use Rattle.pl_world.specs.declared.item.Item.TheVariants.{Control, Data}
-use Rattle.pl_world.specs.declared.speech.Speech.{Speech}
-use Rattle.pl_world.specs.declared.speech.Speech.TheVariants.{Over, Passed, Silent, Waiting}
+use Rattle.pl_world.specs.declared.spoken_frame.SpokenFrame.{SpokenFrame as Speech}
+use Rattle.pl_world.specs.declared.spoken_frame.SpokenFrame.TheVariants.{Over, Passed, Silent, Waiting}
 use Rattle.pl_world.specs.declared.stand.Stand.{Stand}
 use Rattle.pl_world.specs.Changes.{all_noted, begun_by, host_no, host_of, is_failed_at, noted, sent_if_live, switch_no, told_manager}
 use Rattle.pl_world.specs.Flying.{IsAtPort, IsFrame}

@@ -22,7 +22,7 @@ use Rattle.pl_journal.specs.Places.{is_host_port}
 use Rattle.pl_world.specs.declared.item.Item.{Item}
 use Rattle.pl_world.specs.declared.item.Item.TheVariants.{Control, Data}
 use Rattle.pl_world.specs.declared.stand.Stand.{Stand}
-use Rattle.pl_queues.specs.Lines.{line_at, put_at}
+use Rattle.pl_queues.specs.Queues.{items_at, put_at}
 use Rattle.pl_world.specs.Worlds.{WorldView}
 
 abbrev pub switch_no : ℕ → SwitchNo
@@ -49,7 +49,7 @@ is_failed_at w s port = not (is_host_port (peer_of w.plan s port)) && not (is_li
 
 -- the queue out of a port
 abbrev pub out_of : WorldView → ℕ → ℕ → List Item
-out_of w s port = line_at w.out (place_of w.plan.k s port)
+out_of w s port = items_at w.out (place_of w.plan.k s port)
 
 -- an item waits in the queue out of a port
 abbrev pub sent_out : WorldView → ℕ → ℕ → Item → WorldView
@@ -112,12 +112,12 @@ ends_of cause (Data id frame ∷ items) = Dropped id cause ∷ ends_of cause ite
 abbrev pub emptied_out : WorldView → ℕ → ℕ → Cause → WorldView
 emptied_out w s port cause = record w {
   out = slice_set w.out (place_of w.plan.k s port) [];
-  journal = w.journal ++ ends_of cause (line_at w.out (place_of w.plan.k s port));
+  journal = w.journal ++ ends_of cause (items_at w.out (place_of w.plan.k s port));
 }
 
 -- and a host's queue
 abbrev pub emptied_from_host : WorldView → ℕ → Cause → WorldView
 emptied_from_host w h cause = record w {
   from_hosts = slice_set w.from_hosts h [];
-  journal = w.journal ++ ends_of cause (line_at w.from_hosts h);
+  journal = w.journal ++ ends_of cause (items_at w.from_hosts h);
 }

@@ -21,7 +21,7 @@ times_in id (Data number frame ∷ items) = if number == id then times_in id ite
 
 abbrev pub times_in_all : ℕ → List (List Item) → ℕ
 times_in_all id [] = 0
-times_in_all id (line ∷ lines) = times_in id line + times_in_all id lines
+times_in_all id (queue ∷ queues) = times_in id queue + times_in_all id queues
 
 -- in how many places of queues a frame is
 abbrev pub flying : ℕ → WorldView → ℕ

@@ -13,7 +13,7 @@ use Rattle.pl_core.specs.PortRecords.{port_of, ports_of_switch}
 use Rattle.pl_core.specs.SwitchFacts.{switch_at_boot}
 use Rattle.pl_core.specs.SwitchViews.{SwitchView}
 use Rattle.pl_queues.specs.Counts.{counted_in}
-use Rattle.pl_queues.specs.Lines.{line_at}
+use Rattle.pl_queues.specs.Queues.{items_at}
 use Rattle.pl_world.specs.declared.item.Item.{Item}
 use Rattle.pl_world.specs.declared.item.Item.TheVariants.{Control, Data}
 use Rattle.pl_world.specs.Worlds.{WorldView}
@@ -34,7 +34,7 @@ stale_in (Some v) port items = count_by (is_stale v port) items
 
 -- in the queues out of all ports of switch number s
 abbrev pub stale_at_ports : ℕ → Option SwitchView → List (List Item) → ℕ → ℕ
-stale_at_ports k v out s = sum_by (λ port. stale_in v port (line_at out (place_of k s port))) (ports_of_switch k)
+stale_at_ports k v out s = sum_by (λ port. stale_in v port (items_at out (place_of k s port))) (ports_of_switch k)
 
 abbrev pub stale_at : ℕ → List SwitchView → List (List Item) → ℕ → ℕ
 stale_at k switches out s = stale_at_ports k (slice_get switches s) out s

@@ -6,7 +6,7 @@ use Rattle.pl_wiring.specs.Labels.{switch_count}
 use Rattle.pl_wiring.specs.Plan.{Plan}
 use Rattle.pl_world.specs.declared.event.QueueName.{QueueName}
 use Rattle.pl_world.specs.declared.event.QueueName.TheVariants as queue
-use Rattle.pl_queues.specs.Lines.{next_filled, next_place}
+use Rattle.pl_queues.specs.Queues.{next_filled, next_place}
 use Rattle.pl_world.specs.Changes.{host_no, switch_no}
 use Rattle.pl_world.specs.Refusals.{is_empty_queue}
 use Rattle.pl_world.specs.Worlds.{WorldView}

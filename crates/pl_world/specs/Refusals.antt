@@ -17,7 +17,7 @@ use Rattle.pl_world.specs.declared.error.StepError.TheVariants.{AlreadySo, Journ
 use Rattle.pl_world.specs.declared.limits.Limits.{Limits}
 use Rattle.pl_world.specs.Changes.{host_at, out_of}
 use Rattle.pl_world.specs.LinksAndMoves.{link_between}
-use Rattle.pl_queues.specs.Lines.{line_at}
+use Rattle.pl_queues.specs.Queues.{items_at}
 use Rattle.pl_world.specs.Worlds.{WorldView}
 
 abbrev pub frame_bytes : Entry → ℕ
@@ -60,10 +60,10 @@ is_none_left [] = true
 is_none_left (x ∷ xs) = false
 
 abbrev pub is_empty_queue : WorldView → QueueName → Bool
-is_empty_queue w (queue.FromHost h) = is_none_left (line_at w.from_hosts h.0)
+is_empty_queue w (queue.FromHost h) = is_none_left (items_at w.from_hosts h.0)
 is_empty_queue w (queue.Port s port) = is_none_left (out_of w s.0 port)
-is_empty_queue w (queue.ToManager s) = is_none_left (line_at w.to_manager s.0)
-is_empty_queue w (queue.FromManager s) = is_none_left (line_at w.from_manager s.0)
+is_empty_queue w (queue.ToManager s) = is_none_left (items_at w.to_manager s.0)
+is_empty_queue w (queue.FromManager s) = is_none_left (items_at w.from_manager s.0)
 
 -- what is not there cannot be named
 abbrev pub unless_there : Bool → Option StepError

@@ -11,8 +11,8 @@ use Rattle.pl_core.specs.SwitchViews.{SwitchView}
 use Rattle.pl_layouts.specs.Placement.{same_place}
 use Rattle.pl_world.specs.declared.aside.Aside.{Aside}
 use Rattle.pl_world.specs.declared.item.Item.TheVariants.{Control, Data}
-use Rattle.pl_world.specs.declared.speech.Speech.{Speech}
-use Rattle.pl_world.specs.declared.speech.Speech.TheVariants.{Over, Passed, Waiting}
+use Rattle.pl_world.specs.declared.spoken_frame.SpokenFrame.{SpokenFrame}
+use Rattle.pl_world.specs.declared.spoken_frame.SpokenFrame.TheVariants.{Over, Passed, Waiting}
 use Rattle.pl_world.specs.Changes.{all_noted, begun_by, host_no, host_of, is_failed_at, noted, sent_if_live, switch_no, told_manager}
 use Rattle.pl_world.specs.Worlds.{WorldView}
 
@@ -20,10 +20,10 @@ use Rattle.pl_world.specs.Worlds.{WorldView}
 -- written behind the last copy.
 pub record Doing : Type 0 where
   pub world : WorldView
-  pub speech : Speech
+  pub speech : SpokenFrame
   pub late : List Entry
 
-abbrev pub begins : WorldView → Speech → Doing
+abbrev pub begins : WorldView → SpokenFrame → Doing
 begins w speech = record { world = w; speech = speech; late = [] }
 
 abbrev pub amid : WorldView → Aside → Doing
@@ -49,7 +49,7 @@ made s d frame = record {
   late = [];
 }
 
-abbrev pub redirected : Doing → Pmac → Pmac → Speech → Doing
+abbrev pub redirected : Doing → Pmac → Pmac → SpokenFrame → Doing
 redirected d old new (Waiting id again) = record {
   world = noted d.world (Redirected id old new);
   speech = Waiting id true;
@@ -70,13 +70,13 @@ goes_out s d id port frame = record {
 }
 
 -- the first time it goes out under its number, then as a copy under a number of its own
-abbrev pub passed : ℕ → Doing → ℕ → List ℕ → Speech → Doing
+abbrev pub passed : ℕ → Doing → ℕ → List ℕ → SpokenFrame → Doing
 passed s d port frame (Waiting id again) = goes_out s (in_world d (crossed_again d.world s id again)) id port frame
 passed s d port frame (Passed id) =
     record (goes_out s (in_world d (begun_by d.world (Copied id (d.world.begun + 1)))) (d.world.begun + 1) port frame) { speech = Passed id }
 passed s d port frame speech = d
 
-abbrev pub ended : ℕ → Doing → (ℕ → Entry) → Speech → Doing
+abbrev pub ended : ℕ → Doing → (ℕ → Entry) → SpokenFrame → Doing
 ended s d end (Waiting id again) = record { world = noted (crossed_again d.world s id again) (end id); speech = Over; late = d.late }
 ended s d end speech = d
 
@@ -100,6 +100,6 @@ abbrev pub place_noted : ℕ → Place → Place → WorldView → WorldView
 place_noted s old new w = all_noted w (if same_place old new then [] else Placed (switch_no s) new ∷ [])
 
 -- a switch steps from one view to another, with these acts
-abbrev pub switch_stepped : WorldView → ℕ → SwitchView → SwitchView → Speech → List Act → WorldView
+abbrev pub switch_stepped : WorldView → ℕ → SwitchView → SwitchView → SpokenFrame → List Act → WorldView
 switch_stepped w s before after speech acts =
     place_noted s before.place after.place (with_late (acts_done s (begins (record w { switches = slice_set w.switches s after }) speech) acts))

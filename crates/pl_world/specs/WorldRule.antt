@@ -30,19 +30,19 @@ use Rattle.pl_core.specs.SwitchInputs.SwitchInput.{Comes, Says, Tick}
 use Rattle.pl_core.specs.SwitchViews.{SwitchView}
 use Rattle.pl_world.specs.declared.item.Item.{Item}
 use Rattle.pl_world.specs.declared.item.Item.TheVariants.{Control, Data}
-use Rattle.pl_world.specs.declared.speech.Speech.{Speech}
-use Rattle.pl_world.specs.declared.speech.Speech.TheVariants.{Silent, Waiting}
+use Rattle.pl_world.specs.declared.spoken_frame.SpokenFrame.{SpokenFrame}
+use Rattle.pl_world.specs.declared.spoken_frame.SpokenFrame.TheVariants.{Silent, Waiting}
 use Rattle.pl_world.specs.declared.stand.Stand.{Stand}
 use Rattle.pl_world.specs.Changes.{noted, out_of, receiver, switch_no}
 use Rattle.pl_world.specs.LinksAndMoves.{host_moved, item_lost, link_between, link_failed, link_repaired}
 use Rattle.pl_world.specs.OtherActs.{heard_after_tick, heard_with, host_stepped, manager_stepped, reception_noted, skip_noted}
-use Rattle.pl_queues.specs.Lines.{line_at}
+use Rattle.pl_queues.specs.Queues.{items_at}
 use Rattle.pl_world.specs.Refusals.{refusal}
 use Rattle.pl_world.specs.SwitchActs.{switch_stepped}
 use Rattle.pl_world.specs.Worlds.{WorldView}
 
 -- a switch steps by its rule, and its acts are done
-pub record SwitchMoves (rule : SwitchRule) (w : WorldView) (s : ℕ) (input : SwitchInput) (speech : Speech) (new : WorldView) : Type 0 where
+pub record SwitchMoves (rule : SwitchRule) (w : WorldView) (s : ℕ) (input : SwitchInput) (speech : SpokenFrame) (new : WorldView) : Type 0 where
   pub before : SwitchView
   pub after : SwitchView
   pub acts : List Act
@@ -129,10 +129,10 @@ DeliversFromManager rule w s (says ∷ items) new =
     SwitchMoves rule (record w { from_manager = slice_set w.from_manager s items }) s (Says says) Silent new
 
 abbrev pub Delivers : SwitchRule → ManagerRule → HostRule → WorldView → QueueName → WorldView → Type 0
-Delivers switch manager host w (queue.FromHost h) new = DeliversFromHost switch w h.0 (line_at w.from_hosts h.0) new
+Delivers switch manager host w (queue.FromHost h) new = DeliversFromHost switch w h.0 (items_at w.from_hosts h.0) new
 Delivers switch manager host w (queue.Port s port) new = DeliversOut switch host w s.0 port (out_of w s.0 port) new
-Delivers switch manager host w (queue.ToManager s) new = DeliversToManager manager w s.0 (line_at w.to_manager s.0) new
-Delivers switch manager host w (queue.FromManager s) new = DeliversFromManager switch w s.0 (line_at w.from_manager s.0) new
+Delivers switch manager host w (queue.ToManager s) new = DeliversToManager manager w s.0 (items_at w.to_manager s.0) new
+Delivers switch manager host w (queue.FromManager s) new = DeliversFromManager switch w s.0 (items_at w.from_manager s.0) new
 
 -- a switch ticks; so each host that stands there is not heard for one tick more
 abbrev pub Ticks : SwitchRule → WorldView → ℕ → WorldView → Type 0

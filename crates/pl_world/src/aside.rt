@@ -1,4 +1,4 @@
-use crate::speech::Speech;
+use crate::spoken_frame::SpokenFrame;
 use pl_journal::Entry;
 use pl_lists::Queue;
 
@@ -6,6 +6,6 @@ use pl_lists::Queue;
 /// written behind the last copy.
 #[derive(Debug, Drop)]
 pub struct Aside {
-    pub speech: Speech,
+    pub speech: SpokenFrame,
     pub late: Queue<Entry>,
 }

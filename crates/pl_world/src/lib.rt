@@ -11,7 +11,7 @@ pub use error::StepError;
 pub use event::{Event, QueueName};
 pub use item::Item;
 pub use limits::Limits;
-pub use speech::Speech;
+pub use spoken_frame::SpokenFrame;
 pub use stand::Stand;
 pub use world_laws::{a_new_world_has_its_frames_in_order, each_run_keeps_its_frames_in_order, each_run_stays_within_hearing, each_step_keeps_its_frames_in_order};
 
@@ -20,6 +20,6 @@ mod error;
 mod event;
 mod item;
 mod limits;
-mod speech;
+mod spoken_frame;
 mod stand;
 mod world_laws;

@@ -13,7 +13,7 @@ use Rattle.pl_core.specs.PortRecords.{port_of}
 use Rattle.pl_core.specs.SwitchFacts.{IsAnnounced}
 use Rattle.pl_core.specs.SwitchViews.{SwitchView}
 use Rattle.pl_queues.specs.Counts.{counted_in}
-use Rattle.pl_queues.specs.Lines.{line_at}
+use Rattle.pl_queues.specs.Queues.{items_at}
 use Rattle.pl_world.specs.declared.item.Item.{Item}
 use Rattle.pl_world.specs.declared.item.Item.TheVariants.{Control, Data}
 use Rattle.pl_world.specs.Pending.{is_announced, is_control_item, is_stale, stale, stale_at, stale_at_ports, stale_in}
@@ -33,49 +33,49 @@ pub not_announced_is : (b : Bool) (v : SwitchView) (port : ℕ) (frame : List �
 not_announced_is b v port frame h = ap not (announced_is b v port frame h)
 
 module _ (k : ℕ) (switches : List SwitchView) (out : List (List Item)) (s port at : ℕ) where
-  module _ (line : List Item) where
+  module _ (queue : List Item) where
     at_other : (t q : ℕ) → q < k → port < k → place_of k s port ≡ at → ((t ≡ s) × (q ≡ port) → ⊥) →
-        line_at (slice_set out at line) (place_of k t q) ≡ line_at out (place_of k t q)
+        items_at (slice_set out at queue) (place_of k t q) ≡ items_at out (place_of k t q)
     at_other t q low within place apart =
-        get_or-set_other out at (place_of k t q) line [] (λ e. apart (same_from_place t q s port k low within (e ∙ sym place)))
+        get_or-set_other out at (place_of k t q) queue [] (λ e. apart (same_from_place t q s port k low within (e ∙ sym place)))
 
     at_this : port < k → place_of k s port ≡ at → at < length out →
-        stale_at k switches (slice_set out at line) s + stale_in (slice_get switches s) port (line_at out at)
-        ≡ stale_at k switches out s + stale_in (slice_get switches s) port line
+        stale_at k switches (slice_set out at queue) s + stale_in (slice_get switches s) port (items_at out at)
+        ≡ stale_at k switches out s + stale_in (slice_get switches s) port queue
     at_this within place there =
         let v : Option SwitchView = slice_get switches s in
-        let new : ℕ → ℕ = λ q. stale_in v q (line_at (slice_set out at line) (place_of k s q)) in
-        let old : ℕ → ℕ = λ q. stale_in v q (line_at out (place_of k s q)) in
-        let sums : stale_at k switches (slice_set out at line) s + old port ≡ stale_at k switches out s + new port =
+        let new : ℕ → ℕ = λ q. stale_in v q (items_at (slice_set out at queue) (place_of k s q)) in
+        let old : ℕ → ℕ = λ q. stale_in v q (items_at out (place_of k s q)) in
+        let sums : stale_at k switches (slice_set out at queue) s + old port ≡ stale_at k switches out s + new port =
         sums_changed new old k 0 port (omega arith) (omega (arith, within))
         (λ q low high apart. ap (stale_in v q) (at_other s q (omega (arith, high)) within place (λ e. apart e.1))) in
-        let was : old port ≡ stale_in v port (line_at out at) = ap (λ n. stale_in v port (line_at out n)) place in
-        let is : new port ≡ stale_in v port line =
-        ap (λ n. stale_in v port (line_at (slice_set out at line) n)) place ∙ ap (stale_in v port) (get_or-set_same out at line [] there) in
+        let was : old port ≡ stale_in v port (items_at out at) = ap (λ n. stale_in v port (items_at out n)) place in
+        let is : new port ≡ stale_in v port queue =
+        ap (λ n. stale_in v port (items_at (slice_set out at queue) n)) place ∙ ap (stale_in v port) (get_or-set_same out at queue [] there) in
         omega (arith, sums, was, is)
 
     -- a queue becomes another
     pub queue_changes : port < k → place_of k s port ≡ at → at < length out → s < length switches →
-        stale k switches (slice_set out at line) + stale_in (slice_get switches s) port (line_at out at)
-        ≡ stale k switches out + stale_in (slice_get switches s) port line
+        stale k switches (slice_set out at queue) + stale_in (slice_get switches s) port (items_at out at)
+        ≡ stale k switches out + stale_in (slice_get switches s) port queue
     queue_changes within place there low =
-        let sums : stale k switches (slice_set out at line) + stale_at k switches out s ≡ stale k switches out + stale_at k switches (slice_set out at line) s =
-        sums_changed (stale_at k switches (slice_set out at line)) (stale_at k switches out) (length switches) 0 s (omega arith) (omega (arith, low))
+        let sums : stale k switches (slice_set out at queue) + stale_at k switches out s ≡ stale k switches out + stale_at k switches (slice_set out at queue) s =
+        sums_changed (stale_at k switches (slice_set out at queue)) (stale_at k switches out) (length switches) 0 s (omega arith) (omega (arith, low))
         (λ t above below apart.
-        sums_same (λ q. stale_in (slice_get switches t) q (line_at (slice_set out at line) (place_of k t q)))
-        (λ q. stale_in (slice_get switches t) q (line_at out (place_of k t q))) k 0
+        sums_same (λ q. stale_in (slice_get switches t) q (items_at (slice_set out at queue) (place_of k t q)))
+        (λ q. stale_in (slice_get switches t) q (items_at out (place_of k t q))) k 0
         (λ q above below. ap (stale_in (slice_get switches t) q) (at_other t q (omega (arith, below)) within place (λ e. apart e.0)))) in
         let here = at_this within place there in
         omega (arith, sums, here)
 
   -- one queue has no more than all
-  pub queue_le : port < k → place_of k s port ≡ at → s < length switches → stale_in (slice_get switches s) port (line_at out at) ≤ stale k switches out
+  pub queue_le : port < k → place_of k s port ≡ at → s < length switches → stale_in (slice_get switches s) port (items_at out at) ≤ stale k switches out
   queue_le within place low =
       let one : stale_at k switches out s ≤ stale k switches out = one_le_sum (stale_at k switches out) (length switches) 0 s (omega arith) (omega (arith, low)) in
-      let mine : stale_in (slice_get switches s) port (line_at out (place_of k s port)) ≤ stale_at k switches out s =
-      one_le_sum (λ q. stale_in (slice_get switches s) q (line_at out (place_of k s q))) k 0 port (omega arith) (omega (arith, within)) in
-      let here : stale_in (slice_get switches s) port (line_at out (place_of k s port)) ≡ stale_in (slice_get switches s) port (line_at out at) =
-      ap (λ n. stale_in (slice_get switches s) port (line_at out n)) place in
+      let mine : stale_in (slice_get switches s) port (items_at out (place_of k s port)) ≤ stale_at k switches out s =
+      one_le_sum (λ q. stale_in (slice_get switches s) q (items_at out (place_of k s q))) k 0 port (omega arith) (omega (arith, within)) in
+      let here : stale_in (slice_get switches s) port (items_at out (place_of k s port)) ≡ stale_in (slice_get switches s) port (items_at out at) =
+      ap (λ n. stale_in (slice_get switches s) port (items_at out n)) place in
       omega (arith, one, mine, here)
 
 slice_get-set_other : (xs : List SwitchView) (n m : ℕ) (x : SwitchView) → (m ≡ n → ⊥) → slice_get (slice_set xs n x) m ≡ slice_get xs m
@@ -122,7 +122,7 @@ module _ (k : ℕ) (out : List (List Item)) where
 
   module _ (v : Option SwitchView) (s : ℕ) where
     abbrev pub port_part : ℕ → ℕ
-    port_part q = stale_in v q (line_at out (place_of k s q))
+    port_part q = stale_in v q (items_at out (place_of k s q))
 
     ports_le : (q : ℕ) → place_of k s q ≤ length out → before (s * k) + sum_from port_part 0 q ≤ before (place_of k s q)
     ports_le zero within =
@@ -131,10 +131,10 @@ module _ (k : ℕ) (out : List (List Item)) where
     ports_le (suc q) within =
         let less = ports_le q (omega (arith, within)) in
         let last = sum_last port_part q in
-        let more : before (place_of k s q + 1) ≡ before (place_of k s q) + count_by is_control_item (line_at out (place_of k s q)) =
+        let more : before (place_of k s q + 1) ≡ before (place_of k s q) + count_by is_control_item (items_at out (place_of k s q)) =
         sum_by_more (count_by is_control_item) out (place_of k s q) [] (omega (arith, within)) in
         let here : before (place_of k s (suc q)) ≡ before (place_of k s q + 1) = ap before (omega arith) in
-        let fits : port_part q ≤ count_by is_control_item (line_at out (place_of k s q)) = stale_in_le v q (line_at out (place_of k s q)) in
+        let fits : port_part q ≤ count_by is_control_item (items_at out (place_of k s q)) = stale_in_le v q (items_at out (place_of k s q)) in
         omega (arith, less, last, more, here, fits)
 
     pub ports_fit : (q : ℕ) → place_of k s q ≤ length out → sum_from port_part 0 q ≤ counted_in is_control_item out

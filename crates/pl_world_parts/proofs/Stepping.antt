@@ -18,7 +18,7 @@ use Rattle.pl_core.specs.ManagerViews.{ManagerView}
 use Rattle.pl_core.specs.SwitchInputs.{SwitchInput, SwitchRule}
 use Rattle.pl_core.specs.SwitchViews.{SwitchView}
 use Rattle.pl_world.specs.declared.item.Item.{Item}
-use Rattle.pl_world.specs.declared.speech.Speech.{Speech}
+use Rattle.pl_world.specs.declared.spoken_frame.SpokenFrame.{SpokenFrame}
 use Rattle.pl_world.specs.Flying.{IsFormed}
 use Rattle.pl_world_parts.specs.Moves.{HostSteps, SwitchSteps, sizes}
 use Rattle.pl_world.specs.OtherActs.{host_act_done, manager_act_done}
@@ -89,7 +89,7 @@ module _ (rule : SwitchRule) (v w : WorldView) (s : ℕ) (input : SwitchInput) (
       let fits = (accounts step.before input step.after steps.items is_shaped (can step.before k) step.ruled).fit in
       rw (sym private_items) (subst (λ n. AllByRecursion (IsFit n) steps.items) k fits)
 
-  pub switch_moved : (speech : Speech) (new : WorldView) →
+  pub switch_moved : (speech : SpokenFrame) (new : WorldView) →
       new ≡ place_noted s was is (with_late (acts_done s (begins (record v { switches = switches }) speech) out)) → SwitchMoves rule w s input speech new
   switch_moved speech new is_new =
       let step = steps.holds in

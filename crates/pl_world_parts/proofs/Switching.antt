@@ -9,7 +9,7 @@ use Rattle.pl_wiring.specs.Index.{place_of}
 use Rattle.pl_core.specs.SwitchFacts.{switch_at_boot}
 use Rattle.pl_core.specs.SwitchViews.{SwitchView}
 use Rattle.pl_queues.specs.Counts.{counted_in}
-use Rattle.pl_queues.specs.Lines.{line_at, put_at}
+use Rattle.pl_queues.specs.Queues.{items_at, put_at}
 use Rattle.pl_world.specs.declared.item.Item.{Item}
 use Rattle.pl_world.specs.Flying.{IsFormed}
 use Rattle.pl_world_parts.specs.Moves.{IsOneChanged, sizes}
@@ -44,69 +44,69 @@ module _ (k : ℕ) (switches : List SwitchView) (out : List (List Item)) where
   module _ (s port at kept : ℕ) (v : SwitchView) (keeps : KeepsStale (all_switches k switches out) kept) (found : slice_get switches s ≡ Some v)
       (within : port < k) (place : place_of k s port ≡ at) (there : at < length out) where
     -- a queue becomes another
-    changed : (new : List (List Item)) (line : List Item) → new ≡ slice_set out at line →
-        stale k switches new + count_by (is_stale v port) (line_at out at) ≡ stale k switches out + count_by (is_stale v port) line
-    changed new line same =
+    changed : (new : List (List Item)) (queue : List Item) → new ≡ slice_set out at queue →
+        stale k switches new + count_by (is_stale v port) (items_at out at) ≡ stale k switches out + count_by (is_stale v port) queue
+    changed new queue same =
         let low = switch_is_there s port at keeps.queues place there in
-        let all = queue_changes k switches out s port at line within place there low in
-        let was : stale_in (slice_get switches s) port (line_at out at) ≡ count_by (is_stale v port) (line_at out at) =
-        ap (λ o. stale_in o port (line_at out at)) found in
-        let is : stale_in (slice_get switches s) port line ≡ count_by (is_stale v port) line = ap (λ o. stale_in o port line) found in
-        let here : stale k switches new ≡ stale k switches (slice_set out at line) = ap (stale k switches) same in
+        let all = queue_changes k switches out s port at queue within place there low in
+        let was : stale_in (slice_get switches s) port (items_at out at) ≡ count_by (is_stale v port) (items_at out at) =
+        ap (λ o. stale_in o port (items_at out at)) found in
+        let is : stale_in (slice_get switches s) port queue ≡ count_by (is_stale v port) queue = ap (λ o. stale_in o port queue) found in
+        let here : stale k switches new ≡ stale k switches (slice_set out at queue) = ap (stale k switches) same in
         omega (arith, all, was, is, here)
 
-    keeps_with : (new : List (List Item)) (line : List Item) (after : ℕ) → new ≡ slice_set out at line →
-        after + count_by (is_stale v port) (line_at out at) ≡ kept + count_by (is_stale v port) line → KeepsStale (all_switches k switches new) after
-    keeps_with new line after same moved =
-        let sum = changed new line same in
+    keeps_with : (new : List (List Item)) (queue : List Item) (after : ℕ) → new ≡ slice_set out at queue →
+        after + count_by (is_stale v port) (items_at out at) ≡ kept + count_by (is_stale v port) queue → KeepsStale (all_switches k switches new) after
+    keeps_with new queue after same moved =
+        let sum = changed new queue same in
         record {
-          queues = record { ports = keeps.queues.ports; queues = ap length same ∙ length-set out at line ∙ keeps.queues.queues };
+          queues = record { ports = keeps.queues.ports; queues = ap length same ∙ length-set out at queue ∙ keeps.queues.queues };
           is = omega (arith, sum, moved, keeps.is);
         }
 
-    pub line_le : count_by (is_stale v port) (line_at out at) ≤ kept
+    pub line_le : count_by (is_stale v port) (items_at out at) ≤ kept
     line_le =
         let low = switch_is_there s port at keeps.queues place there in
         let all = queue_le k switches out s port at within place low in
-        let was : stale_in (slice_get switches s) port (line_at out at) ≡ count_by (is_stale v port) (line_at out at) =
-        ap (λ o. stale_in o port (line_at out at)) found in
+        let was : stale_in (slice_get switches s) port (items_at out at) ≡ count_by (is_stale v port) (items_at out at) =
+        ap (λ o. stale_in o port (items_at out at)) found in
         omega (arith, all, was, keeps.is)
 
     pub keeps_put : (new : List (List Item)) (item : Item) (b : Bool) (more : ℕ) → new ≡ put_at out at item → more ≡ cond b 1 0 →
         b ≡ is_stale v port item → KeepsStale (all_switches k switches new) (kept + more)
     keeps_put new item b more same one is =
-        let push = sum_by_push (λ i. cond (is_stale v port i) 1 0) (line_at out at) item in
+        let push = sum_by_push (λ i. cond (is_stale v port i) 1 0) (items_at out at) item in
         let here : ◌≡◌ {A = ℕ} (cond b 1 0) (cond (is_stale v port item) 1 0) = ap (λ c. cond c 1 0) is in
-        keeps_with new (line_at out at ++ item ∷ []) (kept + more) same (omega (arith, push, one, here))
+        keeps_with new (items_at out at ++ item ∷ []) (kept + more) same (omega (arith, push, one, here))
 
-    pub whole_le : (line : List Item) (less : ℕ) → line ≡ line_at out at → less ≡ count_by (is_stale v port) line → less ≤ kept
-    whole_le line less whole is =
+    pub whole_le : (queue : List Item) (less : ℕ) → queue ≡ items_at out at → less ≡ count_by (is_stale v port) queue → less ≤ kept
+    whole_le queue less whole is =
         let fits = line_le in
-        let here : count_by (is_stale v port) line ≡ count_by (is_stale v port) (line_at out at) = ap (count_by (is_stale v port)) whole in
+        let here : count_by (is_stale v port) queue ≡ count_by (is_stale v port) (items_at out at) = ap (count_by (is_stale v port)) whole in
         omega (arith, fits, here, is)
 
-    pub keeps_take_all : (new : List (List Item)) (line : List Item) (less : ℕ) → line ≡ line_at out at → new ≡ slice_set out at [] →
-        less ≡ count_by (is_stale v port) line → KeepsStale (all_switches k switches new) (kept - less)
-    keeps_take_all new line less whole same is =
+    pub keeps_take_all : (new : List (List Item)) (queue : List Item) (less : ℕ) → queue ≡ items_at out at → new ≡ slice_set out at [] →
+        less ≡ count_by (is_stale v port) queue → KeepsStale (all_switches k switches new) (kept - less)
+    keeps_take_all new queue less whole same is =
         let fits = line_le in
-        let here : count_by (is_stale v port) line ≡ count_by (is_stale v port) (line_at out at) = ap (count_by (is_stale v port)) whole in
+        let here : count_by (is_stale v port) queue ≡ count_by (is_stale v port) (items_at out at) = ap (count_by (is_stale v port)) whole in
         keeps_with new [] (kept - less) same (omega (arith, fits, here, is))
 
     abbrev pub IsTaken : List (List Item) → Option Item → Type 0
-    IsTaken new taken = MatchOption taken ((line_at out at ≡ []) × (new ≡ out)) (λ x. (line_at out at ≡ x ∷ line_at new at) × (new ≡ slice_set out at (line_at new at)))
+    IsTaken new taken = MatchOption taken ((items_at out at ≡ []) × (new ≡ out)) (λ x. (items_at out at ≡ x ∷ items_at new at) × (new ≡ slice_set out at (items_at new at)))
 
-    one_more : (x : Item) (line : List Item) → line_at out at ≡ x ∷ line →
-        count_by (is_stale v port) (line_at out at) ≡ count_by (is_stale v port) (x ∷ []) + count_by (is_stale v port) line
-    one_more x line head =
+    one_more : (x : Item) (queue : List Item) → items_at out at ≡ x ∷ queue →
+        count_by (is_stale v port) (items_at out at) ≡ count_by (is_stale v port) (x ∷ []) + count_by (is_stale v port) queue
+    one_more x queue head =
         let whole = ap (count_by (is_stale v port)) head in
-        let parts = sum_by-cons (λ i. cond (is_stale v port i) 1 0) x line in
+        let parts = sum_by-cons (λ i. cond (is_stale v port i) 1 0) x queue in
         let one = sum_by-cons (λ i. cond (is_stale v port i) 1 0) x [] in
         omega (arith, whole, parts, one)
 
     pub taken_le : (new : List (List Item)) (taken : Option Item) (less : ℕ) → IsTaken new taken →
         less ≡ count_by (is_stale v port) (option_to_list taken) → less ≤ kept
     taken_le new None less h is = omega (arith, is)
-    taken_le new (Some x) less h is = let fits = line_le in let head = one_more x (line_at new at) h.0 in omega (arith, fits, head, is)
+    taken_le new (Some x) less h is = let fits = line_le in let head = one_more x (items_at new at) h.0 in omega (arith, fits, head, is)
 
     pub keeps_take : (new : List (List Item)) (taken : Option Item) (less : ℕ) → IsTaken new taken →
         less ≡ count_by (is_stale v port) (option_to_list taken) → KeepsStale (all_switches k switches new) (kept - less)
@@ -115,8 +115,8 @@ module _ (k : ℕ) (switches : List SwitchView) (out : List (List Item)) where
         subst (λ o. KeepsStale (all_switches k switches o) (kept - less)) (sym h.1) (subst (KeepsStale (all_switches k switches out)) (sym same) keeps)
     keeps_take new (Some x) less h is =
         let fits = line_le in
-        let head = one_more x (line_at new at) h.0 in
-        keeps_with new (line_at new at) (kept - less) h.1 (omega (arith, fits, head, is))
+        let head = one_more x (items_at new at) h.0 in
+        keeps_with new (items_at new at) (kept - less) h.1 (omega (arith, fits, head, is))
 
   pub switch_none : (s : ℕ) → HasQueues (all_switches k switches out) → s < length switches → counted_in is_control_item out ≡ 0 →
       0 ≡ stale_at k switches out s

@@ -8,9 +8,9 @@ use std::marker::Model;
 
 /// A message to the manager that waits. It counts, unless a host's question brought it about.
 #[derive(Debug, Drop)]
-pub struct Told(ToManager);
+pub struct WaitingToManager(ToManager);
 
-impl Model for Told {
+impl Model for WaitingToManager {
     ghost use Rattle.pl_core.specs.declared.messages.ToManager.{ToManager};
 
     ghost Value = { ToManager };
@@ -18,11 +18,11 @@ impl Model for Told {
     ghost view = { λ told. told.0 };
 }
 
-impl Told {
-    pub fn new(told: ToManager) -> Told
+impl WaitingToManager {
+    pub fn new(told: ToManager) -> WaitingToManager
         ensures { result ≡ told }
     {
-        Told(told)
+        WaitingToManager(told)
     }
 
     pub fn message(self) -> ToManager
@@ -32,7 +32,7 @@ impl Told {
     }
 }
 
-impl Counted for Told {
+impl Counted for WaitingToManager {
     ghost counts = { is_report };
 
     fn counts(&self) -> bool {
@@ -45,9 +45,9 @@ impl Counted for Told {
 
 /// A message from the manager that waits. It counts, unless it answers a host's question.
 #[derive(Debug, Drop)]
-pub struct Says(ToSwitch);
+pub struct WaitingToSwitch(ToSwitch);
 
-impl Model for Says {
+impl Model for WaitingToSwitch {
     ghost use Rattle.pl_core.specs.declared.messages.ToSwitch.{ToSwitch};
 
     ghost Value = { ToSwitch };
@@ -55,11 +55,11 @@ impl Model for Says {
     ghost view = { λ says. says.0 };
 }
 
-impl Says {
-    pub fn new(says: ToSwitch) -> Says
+impl WaitingToSwitch {
+    pub fn new(says: ToSwitch) -> WaitingToSwitch
         ensures { result ≡ says }
     {
-        Says(says)
+        WaitingToSwitch(says)
     }
 
     pub fn message(self) -> ToSwitch
@@ -69,7 +69,7 @@ impl Says {
     }
 }
 
-impl Counted for Says {
+impl Counted for WaitingToSwitch {
     ghost counts = { is_order };
 
     fn counts(&self) -> bool {

@@ -4,7 +4,7 @@
 
 pub use atlas::Atlas;
 pub use book::Book;
-pub use counting::{Says, Told};
+pub use counting::{WaitingToManager, WaitingToSwitch};
 pub use links::{link_of, set_live};
 pub use moves::{arrive_at, play_at, urge_at};
 pub use stands::Stands;

@@ -6,7 +6,7 @@ ghost use Rattle.pl_core.specs.Gains.{Gains};
 ghost use Rattle.pl_core.specs.SwitchInputs.SwitchInput.{Comes, Says, Tick};
 ghost use Rattle.pl_core.specs.SwitchViews.{SwitchView};
 ghost use Rattle.pl_queues.specs.Counts.{most};
-ghost use Rattle.pl_queues.specs.Lines.{line_at, put_at};
+ghost use Rattle.pl_queues.specs.Queues.{items_at, put_at};
 ghost use Rattle.pl_world_parts.specs.Moves.{SwitchSteps, sizes};
 ghost use Rattle.pl_world.specs.Pending.{HasQueues, is_stale, stale, stale_at, stale_at_ports};
 
@@ -16,7 +16,7 @@ use pl_frame::Memory;
 use pl_core::{Outbox, SwitchCore, SwitchFacts, ToSwitch};
 use pl_layouts::Place;
 use pl_lists::Queue;
-use pl_queues::{CountedLines, Lines};
+use pl_queues::{CountedQueues, Queues};
 use std::marker::Model;
 
 /// The switches, each with as many ports, and the queues out of their ports, switch by switch. A control
@@ -25,7 +25,7 @@ use std::marker::Model;
 pub struct Switches<S: SwitchCore> {
     k: u8,
     cores: Vec<S>,
-    out: CountedLines<Item>,
+    out: CountedQueues<Item>,
     stale: u64,
 }
 
@@ -42,7 +42,7 @@ impl<S: SwitchCore> Model for Switches<S> {
 
 impl<S: SwitchCore> Switches<S> {
     /// Switches with empty queues.
-    pub fn new(k: u8, cores: Vec<S>, out: CountedLines<Item>) -> Switches<S>
+    pub fn new(k: u8, cores: Vec<S>, out: CountedQueues<Item>) -> Switches<S>
         requires ports { AllByRecursion (λ v. v.k ≡ k) (map S.view cores.items) }
         requires queues { out ≡ replicate (vec_len cores * k) [] }
         ensures { result ≡ record { k = k; switches = map S.view cores.items; out = out } }
@@ -63,10 +63,10 @@ impl<S: SwitchCore> Switches<S> {
     }
 
     /// The queues out of all ports, to look at.
-    pub fn out(&self) -> &Lines<Item>
+    pub fn out(&self) -> &Queues<Item>
         ensures { result.now ≡ self.now.out }
     {
-        self.out.lines()
+        self.out.queues()
     }
 
     /// How many items out of ports are stale.
@@ -96,8 +96,8 @@ impl<S: SwitchCore> Switches<S> {
     /// Takes the first item of the queue at a place; none where it is empty.
     pub fn take(&mut self, at: usize) -> Option<Item>
         requires { at < length self.old.out }
-        ensures { MatchOption result ((line_at self.old.out at ≡ []) × (self.new ≡ self.old))
-            (λ x. (line_at self.old.out at ≡ x ∷ line_at self.new.out at) × (self.new ≡ record self.old { out = slice_set self.old.out at (line_at self.new.out at) })) }
+        ensures { MatchOption result ((items_at self.old.out at ≡ []) × (self.new ≡ self.old))
+            (λ x. (items_at self.old.out at ≡ x ∷ items_at self.new.out at) × (self.new ≡ record self.old { out = slice_set self.old.out at (items_at self.new.out at) })) }
     {
         let (s, port) = port_at(self.k, at);
         let taken = self.out.take(at);
@@ -108,13 +108,13 @@ impl<S: SwitchCore> Switches<S> {
     /// Takes the whole queue at a place, and leaves an empty one.
     pub fn take_all(&mut self, at: usize) -> Queue<Item>
         requires { at < length self.old.out }
-        ensures taken { result ≡ line_at self.old.out at }
+        ensures taken { result ≡ items_at self.old.out at }
         ensures left { self.new ≡ record self.old { out = slice_set self.old.out at [] } }
     {
         let (s, port) = port_at(self.k, at);
-        let line = self.out.take_all(at);
-        self.stale -= stale_in(&self.cores[s], port, &line);
-        line
+        let queue = self.out.take_all(at);
+        self.stale -= stale_in(&self.cores[s], port, &queue);
+        queue
     }
 
     /// One of the switches ticks. The answer is its place before and after.
@@ -214,30 +214,30 @@ fn stale_taken<S: SwitchFacts>(core: &S, port: u8, taken: &Option<Item>) -> u64
     }
 }
 
-fn stale_item<S: SwitchFacts>(core: &S, port: u8, line: &Queue<Item>, n: usize) -> u64
+fn stale_item<S: SwitchFacts>(core: &S, port: u8, queue: &Queue<Item>, n: usize) -> u64
     requires { port < (S.view core.now).k }
-    ensures { result ≡ count_by (is_stale (S.view core.now) port) (option_to_list (slice_get line.now n)) }
+    ensures { result ≡ count_by (is_stale (S.view core.now) port) (option_to_list (slice_get queue.now n)) }
 {
-    match line.get(n) {
+    match queue.get(n) {
         None => 0,
         Some(item) => count_if(is_stale(core, port, item)),
     }
 }
 
 // How many items are stale in a queue out of a port.
-fn stale_in<S: SwitchFacts>(core: &S, port: u8, line: &Queue<Item>) -> u64
+fn stale_in<S: SwitchFacts>(core: &S, port: u8, queue: &Queue<Item>) -> u64
     requires { port < (S.view core.now).k }
-    ensures { result ≡ count_by (is_stale (S.view core.now) port) line.now }
+    ensures { result ≡ count_by (is_stale (S.view core.now) port) queue.now }
 {
     let mut count = 0;
-    for n in 0..line.len() {
-        count += stale_item(core, port, line, n);
+    for n in 0..queue.len() {
+        count += stale_item(core, port, queue, n);
     }
     count
 }
 
 // And in those out of all ports of a switch. Where no control frame waits at all, none is looked at.
-fn stale_at<S: SwitchFacts>(cores: &Vec<S>, out: &CountedLines<Item>, k: u8, s: usize) -> u64
+fn stale_at<S: SwitchFacts>(cores: &Vec<S>, out: &CountedQueues<Item>, k: u8, s: usize) -> u64
     requires switch { s < vec_len cores.now }
     requires queues { HasQueues (record { k = k; switches = map S.view cores.now.items; out = out.now }) }
     ensures { result ≡ stale_at k (map S.view cores.now.items) out.now s }
@@ -248,16 +248,16 @@ fn stale_at<S: SwitchFacts>(cores: &Vec<S>, out: &CountedLines<Item>, k: u8, s: 
     stale_at_ports(&cores[s], out, k, s)
 }
 
-fn stale_at_ports<S: SwitchFacts>(core: &S, out: &CountedLines<Item>, k: u8, s: usize) -> u64
+fn stale_at_ports<S: SwitchFacts>(core: &S, out: &CountedQueues<Item>, k: u8, s: usize) -> u64
     requires size { (S.view core.now).k ≡ k }
     requires queues { place_of k s k ≤ length out.now }
     ensures { result ≡ stale_at_ports k (Some (S.view core.now)) out.now s }
 {
-    let (_bound, _many) = (out.counted(), out.lines().len());
+    let (_bound, _many) = (out.counted(), out.queues().len());
     let mut count = 0;
     for port in 0..k {
         let place = s * k as usize + port as usize;
-        count += stale_in(core, port, out.lines().line(place));
+        count += stale_in(core, port, out.queues().queue(place));
     }
     count
 }

@@ -7,7 +7,7 @@ ghost use Rattle.pl_world.specs.SwitchActs.{act_done, acts_done, amid, crossed_a
 
 use pl_world::Item;
 use pl_world::Aside;
-use pl_world::Speech;
+use pl_world::SpokenFrame;
 use crate::world::World;
 use pl_core::{Act, HostCore, ManagerCore, Outbox, SwitchCore};
 use pl_journal::{Cause, Entry};
@@ -45,7 +45,7 @@ impl<S: SwitchCore, M: ManagerCore, H: HostCore> World<S, M, H> {
         let number = self.next_number()?;
         self.begin(number, Entry::Made(number, s, frame))?;
         self.note(Entry::Crossed(number, s))?;
-        aside.speech = Speech::Waiting(number, false);
+        aside.speech = SpokenFrame::Waiting(number, false);
         Ok(())
     }
 
@@ -54,9 +54,9 @@ impl<S: SwitchCore, M: ManagerCore, H: HostCore> World<S, M, H> {
         ensures plan { OnOk result (self.new.plan ≡ self.old.plan) }
     {
         match aside.speech {
-            Speech::Waiting(number, _) => {
+            SpokenFrame::Waiting(number, _) => {
                 self.note(Entry::Redirected(number, old, new))?;
-                aside.speech = Speech::Waiting(number, true);
+                aside.speech = SpokenFrame::Waiting(number, true);
                 Ok(())
             }
             _ => Ok(()),
@@ -80,15 +80,15 @@ impl<S: SwitchCore, M: ManagerCore, H: HostCore> World<S, M, H> {
         ensures plan { OnOk result (self.new.plan ≡ self.old.plan) }
     {
         match aside.speech {
-            Speech::Waiting(number, again) => {
+            SpokenFrame::Waiting(number, again) => {
                 self.cross_again(s, number, again)?;
                 self.go_out(s, number, port, frame, aside)
             }
-            Speech::Passed(number) => {
+            SpokenFrame::Passed(number) => {
                 let copy = self.next_number()?;
                 self.begin(copy, Entry::Copied(number, copy))?;
                 self.go_out(s, copy, port, frame, aside)?;
-                aside.speech = Speech::Passed(number);
+                aside.speech = SpokenFrame::Passed(number);
                 Ok(())
             }
             _ => Ok(()),
@@ -113,7 +113,7 @@ impl<S: SwitchCore, M: ManagerCore, H: HostCore> World<S, M, H> {
             aside.late.push(Entry::Dropped(number, Cause::LinkDown))?;
         }
         self.send_out(s, port, Item::Data(number, frame))?;
-        aside.speech = Speech::Passed(number);
+        aside.speech = SpokenFrame::Passed(number);
         Ok(())
     }
 
@@ -122,10 +122,10 @@ impl<S: SwitchCore, M: ManagerCore, H: HostCore> World<S, M, H> {
         ensures plan { OnOk result (self.new.plan ≡ self.old.plan) }
     {
         match aside.speech {
-            Speech::Waiting(number, again) => {
+            SpokenFrame::Waiting(number, again) => {
                 self.cross_again(s, number, again)?;
                 self.note(Entry::Taken(number, s))?;
-                aside.speech = Speech::Over;
+                aside.speech = SpokenFrame::Over;
                 Ok(())
             }
             _ => Ok(()),
@@ -137,10 +137,10 @@ impl<S: SwitchCore, M: ManagerCore, H: HostCore> World<S, M, H> {
         ensures plan { OnOk result (self.new.plan ≡ self.old.plan) }
     {
         match aside.speech {
-            Speech::Waiting(number, again) => {
+            SpokenFrame::Waiting(number, again) => {
                 self.cross_again(s, number, again)?;
                 self.note(Entry::Dropped(number, cause))?;
-                aside.speech = Speech::Over;
+                aside.speech = SpokenFrame::Over;
                 Ok(())
             }
             _ => Ok(()),

@@ -18,7 +18,7 @@ use pl_arp::Me;
 use pl_core::{HostCore, HostTable, ManagerCore, SwitchCore};
 use pl_lists::Items;
 use pl_frame::Memory;
-use pl_queues::{CountedLines, Lines};
+use pl_queues::{CountedQueues, Queues};
 use pl_wiring::{Host, LinkStates, SwitchNo, Wiring};
 use std::alloc::Global;
 
@@ -39,9 +39,9 @@ impl<S: SwitchCore, M: ManagerCore, H: HostCore> World<S, M, H> {
         let manager = boot_manager(alloc, &wiring)?;
         let table = host_table(alloc, wiring.hosts())?;
         let hosts = boot_hosts(alloc, wiring.hosts(), &table)?;
-        let from_hosts = Lines::new(alloc, wiring.host_count() as usize)?;
-        let to_manager = CountedLines::new(alloc, wiring.switch_count() as usize)?;
-        let from_manager = CountedLines::new(alloc, wiring.switch_count() as usize)?;
+        let from_hosts = Queues::new(alloc, wiring.host_count() as usize)?;
+        let to_manager = CountedQueues::new(alloc, wiring.switch_count() as usize)?;
+        let from_manager = CountedQueues::new(alloc, wiring.switch_count() as usize)?;
         let atlas = Atlas::of_wiring(alloc, wiring)?;
         Ok(World {
             alloc,
@@ -152,7 +152,7 @@ fn boot_with_queues<S: SwitchCore>(alloc: Global, wiring: &Wiring) -> Result<Swi
 {
     let k = wiring.k();
     let cores = boot_switches(alloc, wiring)?;
-    let out = CountedLines::new(alloc, port_count(wiring))?;
+    let out = CountedQueues::new(alloc, port_count(wiring))?;
     Ok(Switches::new(k, cores, out))
 }
 

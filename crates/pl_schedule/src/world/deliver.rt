@@ -9,12 +9,12 @@ ghost use Rattle.pl_journal.specs.Lossy.{mac_of_host};
 ghost use Rattle.pl_layouts.specs.Memberships.{is_group};
 ghost use Rattle.pl_world.specs.Changes.{is_address_of, out_of, receiver};
 ghost use Rattle.pl_world.specs.Flying.{IsAtPort, IsItem};
-ghost use Rattle.pl_queues.specs.Lines.{line_at};
+ghost use Rattle.pl_queues.specs.Queues.{items_at};
 ghost use Rattle.pl_world.specs.OtherActs.{heard_with};
 ghost use Rattle.pl_schedule.specs.Heads.{IsTakenFromHost, IsTakenFromManager, IsTakenOut, IsTakenToManager};
 ghost use Rattle.pl_world.specs.WorldRule.{ComesAtHost, ComesAtSwitch, ComesIn, ComesOut, ComesOver, heard_item};
 
-use pl_world::Speech;
+use pl_world::SpokenFrame;
 use crate::world::World;
 use pl_world::{Item, Stand};
 use byteorder::{BigEndian, ByteOrder};
@@ -35,10 +35,10 @@ impl<S: SwitchCore, M: ManagerCore, H: HostCore> World<S, M, H> {
         ensures { OnOk result (ComesAtSwitch S.rule self.old s.0 port item self.new) }
     {
         match item {
-            Item::Control(frame) => self.switch_receives(s, port, frame.bytes(), Speech::Silent),
+            Item::Control(frame) => self.switch_receives(s, port, frame.bytes(), SpokenFrame::Silent),
             Item::Data(number, frame) => {
                 self.note(Entry::Crossed(number, s))?;
-                self.switch_receives(s, port, frame.bytes(), Speech::Waiting(number, false))
+                self.switch_receives(s, port, frame.bytes(), SpokenFrame::Waiting(number, false))
             }
         }
     }
@@ -150,7 +150,7 @@ impl<S: SwitchCore, M: ManagerCore, H: HostCore> World<S, M, H> {
     // The head of a host's queue is taken; none where it is empty.
     pub(crate) fn take_from_host(&mut self, h: HostNo) -> Option<Item>
         requires { h.0 < length self.old.plan.hosts }
-        ensures { MatchOption result (line_at self.old.from_hosts h.0 ≡ []) (IsTakenFromHost self.old h.0 self.new) }
+        ensures { MatchOption result (items_at self.old.from_hosts h.0 ≡ []) (IsTakenFromHost self.old h.0 self.new) }
     {
         self.from_hosts.take(h.0 as usize)
     }
@@ -166,7 +166,7 @@ impl<S: SwitchCore, M: ManagerCore, H: HostCore> World<S, M, H> {
 
     pub(crate) fn take_to_manager(&mut self, s: SwitchNo) -> Option<ToManager>
         requires { s.0 < switch_count self.old.plan.k }
-        ensures { MatchOption result (line_at self.old.to_manager s.0 ≡ []) (IsTakenToManager self.old s.0 self.new) }
+        ensures { MatchOption result (items_at self.old.to_manager s.0 ≡ []) (IsTakenToManager self.old s.0 self.new) }
     {
         match self.to_manager.take(s.0 as usize) {
             None => None,
@@ -176,7 +176,7 @@ impl<S: SwitchCore, M: ManagerCore, H: HostCore> World<S, M, H> {
 
     pub(crate) fn take_from_manager(&mut self, s: SwitchNo) -> Option<ToSwitch>
         requires { s.0 < switch_count self.old.plan.k }
-        ensures { MatchOption result (line_at self.old.from_manager s.0 ≡ []) (IsTakenFromManager self.old s.0 self.new) }
+        ensures { MatchOption result (items_at self.old.from_manager s.0 ≡ []) (IsTakenFromManager self.old s.0 self.new) }
     {
         match self.from_manager.take(s.0 as usize) {
             None => None,

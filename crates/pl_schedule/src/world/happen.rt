@@ -7,7 +7,7 @@ ghost use Rattle.pl_core.specs.Accounting.{IsShaped};
 ghost use Rattle.pl_core.specs.ManagerFacts.{CanHear};
 ghost use Rattle.pl_world.specs.Changes.{all_noted, emptied_from_host, emptied_out, ends_of, host_at, out_of};
 ghost use Rattle.pl_world.specs.Flying.{IsAtPort, IsItem};
-ghost use Rattle.pl_queues.specs.Lines.{line_at};
+ghost use Rattle.pl_queues.specs.Queues.{items_at};
 ghost use Rattle.pl_world.specs.LinksAndMoves.{host_moved, item_lost};
 ghost use Rattle.pl_world.specs.OtherActs.{heard_after_tick, one_more_tick};
 ghost use Rattle.pl_world.specs.Refusals.{is_none_left};
@@ -28,8 +28,8 @@ impl<S: SwitchCore, M: ManagerCore, H: HostCore> World<S, M, H> {
         requires host { h.0 < length self.old.plan.hosts }
         requires items { AllByRecursion (AllByRecursion IsItem) self.old.from_hosts }
         requires shaped { AllByRecursion IsShaped self.old.switches }
-        requires there { is_none_left (line_at self.old.from_hosts h.0) ≡ false }
-        ensures { OnOk result (DeliversFromHost S.rule self.old h.0 (line_at self.old.from_hosts h.0) self.new) }
+        requires there { is_none_left (items_at self.old.from_hosts h.0) ≡ false }
+        ensures { OnOk result (DeliversFromHost S.rule self.old h.0 (items_at self.old.from_hosts h.0) self.new) }
     {
         match self.take_from_host(h) {
             None => Ok(()),
@@ -70,8 +70,8 @@ impl<S: SwitchCore, M: ManagerCore, H: HostCore> World<S, M, H> {
     pub(crate) fn deliver_to_manager(&mut self, s: SwitchNo) -> Result<(), Memory>
         requires switch { s.0 < switch_count self.old.plan.k }
         requires hears { (id : SwitchId) → slice_get self.old.plan.ids s.0 ≡ Some id → CanHear self.old.manager id }
-        requires there { is_none_left (line_at self.old.to_manager s.0) ≡ false }
-        ensures { OnOk result (DeliversToManager M.rule self.old s.0 (line_at self.old.to_manager s.0) self.new) }
+        requires there { is_none_left (items_at self.old.to_manager s.0) ≡ false }
+        ensures { OnOk result (DeliversToManager M.rule self.old s.0 (items_at self.old.to_manager s.0) self.new) }
     {
         match self.take_to_manager(s) {
             None => Ok(()),
@@ -85,8 +85,8 @@ impl<S: SwitchCore, M: ManagerCore, H: HostCore> World<S, M, H> {
     pub(crate) fn deliver_from_manager(&mut self, s: SwitchNo) -> Result<(), Memory>
         requires switch { s.0 < switch_count self.old.plan.k }
         requires shaped { AllByRecursion IsShaped self.old.switches }
-        requires there { is_none_left (line_at self.old.from_manager s.0) ≡ false }
-        ensures { OnOk result (DeliversFromManager S.rule self.old s.0 (line_at self.old.from_manager s.0) self.new) }
+        requires there { is_none_left (items_at self.old.from_manager s.0) ≡ false }
+        ensures { OnOk result (DeliversFromManager S.rule self.old s.0 (items_at self.old.from_manager s.0) self.new) }
     {
         match self.take_from_manager(s) {
             None => Ok(()),

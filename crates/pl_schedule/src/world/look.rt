@@ -3,7 +3,7 @@ ghost use Rattle.pl_wiring.specs.Labels.{switch_count};
 ghost use Rattle.pl_world.specs.Changes.{noted, out_of};
 ghost use Rattle.pl_world.specs.Flying.{IsCounted};
 ghost use Rattle.pl_world.specs.Hearing.{IsWithinHearing};
-ghost use Rattle.pl_queues.specs.Lines.{line_at};
+ghost use Rattle.pl_queues.specs.Queues.{items_at};
 ghost use Rattle.pl_schedule.specs.Looks.{IsMark, queue_len};
 ghost use Rattle.pl_world.specs.Pending.{pending};
 ghost use Rattle.pl_world.specs.Refusals.{has_port};
@@ -60,7 +60,7 @@ impl<S: SwitchCore, M: ManagerCore, H: HostCore> World<S, M, H> {
         ensures { result ≡ queue_len self.now (QueueName.ToManager s) }
     {
         if self.has_switch(s) {
-            Some(self.to_manager.lines().len_at(s.0 as usize))
+            Some(self.to_manager.queues().len_at(s.0 as usize))
         } else {
             None
         }
@@ -70,7 +70,7 @@ impl<S: SwitchCore, M: ManagerCore, H: HostCore> World<S, M, H> {
         ensures { result ≡ queue_len self.now (QueueName.FromManager s) }
     {
         if self.has_switch(s) {
-            Some(self.from_manager.lines().len_at(s.0 as usize))
+            Some(self.from_manager.queues().len_at(s.0 as usize))
         } else {
             None
         }

@@ -7,7 +7,7 @@ ghost use Rattle.pl_world.specs.Refusals.{has_queue, is_empty_queue, refusal_of_
 use crate::world::World;
 use pl_core::{HostCore, ManagerCore, SwitchCore};
 use pl_world::QueueName;
-use pl_queues::Lines;
+use pl_queues::Queues;
 use pl_wiring::{HostNo, SwitchNo, Wiring};
 
 impl<S: SwitchCore, M: ManagerCore, H: HostCore> World<S, M, H> {
@@ -66,14 +66,14 @@ impl<S: SwitchCore, M: ManagerCore, H: HostCore> World<S, M, H> {
         ensures { result ≡ next_in (first_to_manager self.now.plan) self.now.to_manager from }
     {
         let borders = Borders::of(self.atlas.wiring());
-        next_in(self.to_manager.lines(), borders.to_manager, from)
+        next_in(self.to_manager.queues(), borders.to_manager, from)
     }
 
     fn next_from_manager(&self, from: usize) -> Option<usize>
         ensures { result ≡ next_in (first_from_manager self.now.plan) self.now.from_manager from }
     {
         let borders = Borders::of(self.atlas.wiring());
-        next_in(self.from_manager.lines(), borders.from_manager, from)
+        next_in(self.from_manager.queues(), borders.from_manager, from)
     }
 }
 
@@ -136,7 +136,7 @@ fn port_queue(k: u8, place: usize) -> QueueName
 }
 
 // The number of the next queue with items, of a bank whose first queue has number `first`.
-fn next_in<T>(bank: &Lines<T>, first: usize, from: usize) -> Option<usize>
+fn next_in<T>(bank: &Queues<T>, first: usize, from: usize) -> Option<usize>
     requires { first + length bank.now < 2 ^ 64 }
     ensures { result ≡ next_in first bank.now from }
 {

@@ -3,7 +3,7 @@ ghost use Rattle.std.specs.Option.{option_map};
 ghost use Rattle.pl_wiring.specs.Labels.{switch_count};
 ghost use Rattle.pl_journal.specs.Places.{is_host_port};
 ghost use Rattle.pl_world.specs.Changes.{host_at, out_of};
-ghost use Rattle.pl_queues.specs.Lines.{line_at};
+ghost use Rattle.pl_queues.specs.Queues.{items_at};
 ghost use Rattle.pl_world.specs.LinksAndMoves.{link_between};
 ghost use Rattle.pl_world.specs.Refusals.{has_host, has_port, has_queue, has_switch, is_empty_queue, is_for_hosts, is_linked, is_none_left, refusal, refusal_of_event, refusal_of_link, refusal_of_move, refusal_of_place, refusal_of_queue, unless_there};
 
@@ -12,7 +12,7 @@ use pl_world_parts::link_of;
 use crate::world::World;
 use pl_world::{Event, QueueName};
 use pl_core::{HostCore, ManagerCore, SwitchCore};
-use pl_queues::Lines;
+use pl_queues::Queues;
 use pl_wiring::{HostNo, Link, Peer, SwitchNo};
 
 impl<S: SwitchCore, M: ManagerCore, H: HostCore> World<S, M, H> {
@@ -99,7 +99,7 @@ impl<S: SwitchCore, M: ManagerCore, H: HostCore> World<S, M, H> {
     }
 
     fn refusal_from_host(&self, h: HostNo) -> Option<StepError>
-        ensures { result ≡ refusal_of_queue (has_host self.now.plan h.0) (is_none_left (line_at self.now.from_hosts h.0)) }
+        ensures { result ≡ refusal_of_queue (has_host self.now.plan h.0) (is_none_left (items_at self.now.from_hosts h.0)) }
     {
         if self.has_host(h) {
             if_nothing(is_none_left(&self.from_hosts, h.0 as usize))
@@ -127,20 +127,20 @@ impl<S: SwitchCore, M: ManagerCore, H: HostCore> World<S, M, H> {
     }
 
     fn refusal_to_manager(&self, s: SwitchNo) -> Option<StepError>
-        ensures { result ≡ refusal_of_queue (has_switch self.now.plan s.0) (is_none_left (line_at self.now.to_manager s.0)) }
+        ensures { result ≡ refusal_of_queue (has_switch self.now.plan s.0) (is_none_left (items_at self.now.to_manager s.0)) }
     {
         if self.has_switch(s) {
-            if_nothing(is_none_left(self.to_manager.lines(), s.0 as usize))
+            if_nothing(is_none_left(self.to_manager.queues(), s.0 as usize))
         } else {
             Some(StepError::NoSuch)
         }
     }
 
     fn refusal_from_manager(&self, s: SwitchNo) -> Option<StepError>
-        ensures { result ≡ refusal_of_queue (has_switch self.now.plan s.0) (is_none_left (line_at self.now.from_manager s.0)) }
+        ensures { result ≡ refusal_of_queue (has_switch self.now.plan s.0) (is_none_left (items_at self.now.from_manager s.0)) }
     {
         if self.has_switch(s) {
-            if_nothing(is_none_left(self.from_manager.lines(), s.0 as usize))
+            if_nothing(is_none_left(self.from_manager.queues(), s.0 as usize))
         } else {
             Some(StepError::NoSuch)
         }
@@ -232,9 +232,9 @@ fn is_host_port(peer: &Peer) -> bool
 }
 
 #[tactic(auto, using(crate::proofs::Refusing::none_left))]
-fn is_none_left<T>(bank: &Lines<T>, at: usize) -> bool
+fn is_none_left<T>(bank: &Queues<T>, at: usize) -> bool
     requires { at < length bank.now }
-    ensures { result ≡ is_none_left (line_at bank.now at) }
+    ensures { result ≡ is_none_left (items_at bank.now at) }
 {
     bank.is_empty_at(at)
 }

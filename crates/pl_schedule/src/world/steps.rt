@@ -6,7 +6,7 @@ ghost use Rattle.pl_wiring.specs.Labels.{switch_count};
 ghost use Rattle.pl_core.specs.Accounting.{IsShaped, IsWhole};
 ghost use Rattle.pl_core.specs.HostInputs.HostAnswer.{Nothing};
 ghost use Rattle.pl_core.specs.SwitchInputs.SwitchInput.{Comes, Says, Tick};
-ghost use Rattle.pl_world.specs.declared.speech.Speech.TheVariants.{Silent};
+ghost use Rattle.pl_world.specs.declared.spoken_frame.SpokenFrame.TheVariants.{Silent};
 ghost use Rattle.pl_world.specs.Changes.{sent_by_host};
 ghost use Rattle.pl_world_parts.specs.Moves.{input_of};
 ghost use Rattle.pl_world.specs.OtherActs.{host_act_done, manager_act_done, reception_noted, skip_noted};
@@ -15,7 +15,7 @@ ghost use Rattle.pl_world.specs.WorldRule.{HostMoves, HostPlays, HostReceives, M
 use pl_world::Item;
 use pl_world::Aside;
 use pl_world_parts::{arrive_at, play_at, urge_at};
-use pl_world::Speech;
+use pl_world::SpokenFrame;
 use pl_world_parts::Urge;
 use crate::world::World;
 use pl_journal::{Cause, Entry, Skip};
@@ -33,7 +33,7 @@ impl<S: SwitchCore, M: ManagerCore, H: HostCore> World<S, M, H> {
     {
         let mut acts = Queue::new(self.alloc);
         let mut aside = Aside {
-            speech: Speech::Silent,
+            speech: SpokenFrame::Silent,
             late: Queue::new(self.alloc),
         };
         let (old, new) = self.switches.tick(s.0 as usize, &mut acts)?;
@@ -46,7 +46,7 @@ impl<S: SwitchCore, M: ManagerCore, H: HostCore> World<S, M, H> {
         s: SwitchNo,
         port: u8,
         frame: &[u8],
-        speech: Speech,
+        speech: SpokenFrame,
     ) -> Result<(), Memory>
         requires switch { s.0 < switch_count self.old.plan.k }
         requires port { port < self.old.plan.k }
@@ -71,7 +71,7 @@ impl<S: SwitchCore, M: ManagerCore, H: HostCore> World<S, M, H> {
     {
         let mut acts = Queue::new(self.alloc);
         let mut aside = Aside {
-            speech: Speech::Silent,
+            speech: SpokenFrame::Silent,
             late: Queue::new(self.alloc),
         };
         let (old, new) = self.switches.manager_says(s.0 as usize, says, &mut acts)?;

@@ -13,7 +13,7 @@ overflow_sub-self g c = whole_le c.self.inside.k (map g.S.SwitchFacts.view c.sel
     c.index.result.now c.self.invariant.queues c.self.view_is c.requires c.port_at-s.ensures.place c.index.ensures)
     c.port_at-s.ensures.port c.port_at-s.ensures.place (place_there g.S.SwitchFacts.view c.self.inside.k c.self.inside.cores.items c.self.inside.out c.args.self.now c.port_at-s.result.0 c.port_at-s.result.1 c.args.at
     c.index.result.now c.self.invariant.queues c.self.view_is c.requires c.port_at-s.ensures.place c.index.ensures)
-    c.take_all-line.result c.stale_in.result c.take_all-line.ensures.taken c.stale_in.ensures
+    c.take_all-queue.result c.stale_in.result c.take_all-queue.ensures.taken c.stale_in.ensures
 
 pub invariant_of-self : goal.invariant_of-self
 invariant_of-self g c = keeps_take_all c.self.inside.k (map g.S.SwitchFacts.view c.self.inside.cores.items) c.self.inside.out c.port_at-s.result.0 c.port_at-s.result.1 c.args.at c.self.inside.stale
@@ -21,4 +21,4 @@ invariant_of-self g c = keeps_take_all c.self.inside.k (map g.S.SwitchFacts.view
     c.index.result.now c.self.invariant.queues c.self.view_is c.requires c.port_at-s.ensures.place c.index.ensures)
     c.port_at-s.ensures.port c.port_at-s.ensures.place (place_there g.S.SwitchFacts.view c.self.inside.k c.self.inside.cores.items c.self.inside.out c.args.self.now c.port_at-s.result.0 c.port_at-s.result.1 c.args.at
     c.index.result.now c.self.invariant.queues c.self.view_is c.requires c.port_at-s.ensures.place c.index.ensures)
-    c.take_all-line.new.self c.take_all-line.result c.stale_in.result c.take_all-line.ensures.taken c.take_all-line.ensures.left c.stale_in.ensures
+    c.take_all-queue.new.self c.take_all-queue.result c.stale_in.result c.take_all-queue.ensures.taken c.take_all-queue.ensures.left c.stale_in.ensures

@@ -7,12 +7,12 @@ abbrev pub next_place : (ℕ → Bool) → ℕ → ℕ → Option ℕ
 next_place test n from = find test (range_with_len from (n - from))
 
 -- the queue at a place; past the last it is empty
-abbrev pub line_at : {T : Type 0} → List (List T) → ℕ → List T
-line_at lines at = slice_index_or lines at []
+abbrev pub items_at : {T : Type 0} → List (List T) → ℕ → List T
+items_at queues at = slice_index_or queues at []
 
 -- an item is put behind the others of a queue
 abbrev pub put_at : {T : Type 0} → List (List T) → ℕ → T → List (List T)
-put_at lines at item = slice_set lines at (line_at lines at ++ item ∷ [])
+put_at queues at item = slice_set queues at (items_at queues at ++ item ∷ [])
 
 -- whether a queue has items
 abbrev pub has_items : {T : Type 0} → List T → Bool
@@ -21,7 +21,7 @@ has_items (x ∷ xs) = true
 
 -- the first place from `from` on whose queue has items
 abbrev pub next_filled : {T : Type 0} → List (List T) → ℕ → Option ℕ
-next_filled lines from = next_place (λ at. has_items (line_at lines at)) (length lines) from
+next_filled queues from = next_place (λ at. has_items (items_at queues at)) (length queues) from
 
 -- from place 1 on, the queue at 3 is the next that has items, and from 4 on there is none
 pub the_next_queue_with_items_is_found

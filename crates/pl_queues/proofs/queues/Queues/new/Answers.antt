@@ -1,7 +1,7 @@
 use Rattle.std.proofs.Common.{◌≡◌, ◌∙◌, [], replicate, map, ap, sym, arith}
-use Rattle.pl_queues.specs.Lines.{has_items}
+use Rattle.pl_queues.specs.Queues.{has_items}
 use Rattle.pl_queues.proofs.Banks.{no_items_at_first}
-use Rattle.pl_queues.proofs.lines.Lines.new.Goals as goal
+use Rattle.pl_queues.proofs.queues.Queues.new.Goals as goal
 
 pub invariant_of-result : goal.invariant_of-result
 invariant_of-result g c =

@@ -1,10 +1,10 @@
 use Rattle.std.proofs.Common.{◌∙◌, false, ap}
-use Rattle.pl_queues.specs.Lines.{has_items}
+use Rattle.pl_queues.specs.Queues.{has_items}
 use Rattle.pl_queues.proofs.Banks.{marks-changed}
-use Rattle.pl_queues.proofs.lines.Lines.take_all.Goals as goal
+use Rattle.pl_queues.proofs.queues.Queues.take_all.Goals as goal
 
 pub invariant_of-self : goal.invariant_of-self
 invariant_of-self g c =
     c.remove.ensures
-    ∙ marks-changed c.self.inside.filled c.self.inside.lines.items c.args.at c.replace.new.dest false c.self.invariant
+    ∙ marks-changed c.self.inside.filled c.self.inside.queues.items c.args.at c.replace.new.dest false c.self.invariant
     (ap has_items (c.replace.ensures.after ∙ c.new-empty.ensures))

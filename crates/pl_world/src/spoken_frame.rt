@@ -1,6 +1,6 @@
 /// Which frame a switch's acts speak of by now.
 #[derive(Clone, Copy, Debug, PartialEq, Eq)]
-pub enum Speech {
+pub enum SpokenFrame {
     /// Of none.
     Silent,
     /// Of one that waits for its end: its number, and whether it was redirected since it crossed the

@@ -1,15 +1,15 @@
 ghost use Rattle.std.specs.Prelude.{◌≡◌, IfOk, OnOk, length};
 ghost use Rattle.pl_core.specs.Gains.{Gains};
-ghost use Rattle.pl_core.specs.HostDuties.{HostsSendData, HostsJoinBySending};
+ghost use Rattle.pl_core.specs.HostDuties.{HostsJoinBySending, HostsKeepFrames, HostsSendData, HostsSendOwn};
 ghost use Rattle.pl_core.specs.HostInputs.{HostRule};
 ghost use Rattle.pl_core.specs.HostInputs.HostInput.{HasMoved, Joins, Leaves, Plays, PlaysRaw, Receives, Retries, Starts};
 ghost use Rattle.pl_core.specs.HostInputs.HostAnswer.{Nothing, Played, Received};
 ghost use Rattle.pl_core.specs.HostViews.{HostView, boot_host, held_count};
 
 use crate::{HostOutbox, HostTable, Memory, Reception};
-use pl_journal::Skip;
 use pl_arp::Me;
 use pl_frame::Ip4;
+use pl_journal::Skip;
 use std::alloc::Global;
 
 /// The software of a host that plays recorded frames. Each call is one step, and puts its acts behind
@@ -90,4 +90,8 @@ pub trait HostCore: Drop {
     ghost sends: { HostsSendData rule };
 
     ghost joins: { HostsJoinBySending rule };
+
+    ghost owns: { HostsSendOwn rule };
+
+    ghost keeps: { HostsKeepFrames rule };
 }

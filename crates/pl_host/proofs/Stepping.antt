@@ -14,7 +14,8 @@ use Rattle.pl_core.specs.declared.acts.HostAct.TheVariants.{Send}
 use Rattle.pl_core.specs.declared.reception.Reception.TheVariants.{Kept}
 use Rattle.pl_layouts.specs.Memberships.{group_of, is_group}
 use Rattle.pl_core.specs.HostViews.{Held, HostView, groups_after}
-use Rattle.pl_host_rule.specs.HostRule.{HostStep, Received, hearing, is_foreign, other_host, playing_frame, released_by, report_frame, request_frame, sending, sending_to_host, skip_of, still_held, unicast_skip}
+use Rattle.pl_core.specs.HostInputs.HostAnswer.{Received}
+use Rattle.pl_host_rule.specs.HostRule.{HostStep, hearing, is_foreign, other_host, playing_frame, released_by, report_frame, request_frame, sending, sending_to_host, skip_of, still_held, unicast_skip}
 use Rattle.pl_host.specs.Carried.{replies, six_bytes}
 use Rattle.pl_host.specs.Host.{Takes}
 

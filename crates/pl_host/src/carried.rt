@@ -2,8 +2,7 @@ ghost use Rattle.std.specs.Prelude.{◌≡◌, IfOk, length};
 ghost use Rattle.pl_frame.specs.Ethernet.{fields, fields_of, with_destination};
 ghost use Rattle.pl_host.specs.Carried.{IsCarried};
 
-use pl_frame::Memory;
-use pl_frame::{Frame, FrameView, Mac};
+use pl_frame::{Frame, FrameView, Mac, Memory};
 use std::alloc::Global;
 use std::marker::Model;
 

@@ -1,14 +1,12 @@
 ghost use Rattle.std.specs.Prelude.{◌≡◌, IfOk};
-ghost use Rattle.pl_layouts.specs.ArpFrames.{arp_frame};
 ghost use Rattle.pl_host_rule.specs.HostRule.{reply_frame, request_frame};
 ghost use Rattle.pl_layouts.specs.Reports.{membership_frame};
 
 use crate::carried::Carried;
-use byteorder::{BigEndian, ByteOrder};
 use pl_arp::{Arp, Me, REQUEST};
+use pl_frame::{Ip4, Mac, Memory};
 use pl_layouts::Change;
-use pl_frame::Memory;
-use pl_frame::{Ip4, Mac, TYPE_ARP};
+use pl_layouts::frames::arp_frame;
 use pl_multicast::write_igmp;
 use std::alloc::Global;
 
@@ -38,20 +36,4 @@ pub(crate) fn membership(alloc: Global, me: Me, change: Change) -> Result<Carrie
     ensures { IfOk result (λ frame. frame ≡ membership_frame me change) }
 {
     Carried::copy(alloc, &write_igmp(me, change))
-}
-
-// A packet in a frame of its sender.
-#[tactic(auto, unfolding(pl_layouts::specs::ArpFrames::arp_frame))]
-fn arp_frame(to: Mac, arp: &Arp) -> [u8; 42]
-    ensures { result ≡ arp_frame to arp.now }
-{
-    let mut frame = [0; 42];
-    let (dst, rest) = frame.split_at_mut(6);
-    let (src, rest) = rest.split_at_mut(6);
-    let (kind, payload) = rest.split_at_mut(2);
-    dst.copy_from_slice(&to.0);
-    src.copy_from_slice(&arp.sha.0);
-    BigEndian::write_u16(kind, TYPE_ARP);
-    payload.copy_from_slice(&pl_arp::write(arp));
-    frame
 }

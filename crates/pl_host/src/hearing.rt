@@ -5,11 +5,12 @@ ghost use Rattle.pl_core.specs.HostInputs.HostAnswer.{Received};
 ghost use Rattle.pl_host.specs.Host.{Takes, host_view};
 
 use crate::host::Host;
-use crate::reading::{group_in, packet_in};
+use crate::reading::group_in;
 use crate::sending::{answer, release};
 use pl_arp::Arp;
 use pl_core::{HostOutbox, Reception};
 use pl_frame::Memory;
+use pl_layouts::frames::packet_in;
 use pl_multicast::FLOOD;
 
 impl Host {

@@ -1,5 +1,7 @@
 ghost use Rattle.pl_host_rule.specs.HostRule.{host_rule};
+ghost use Rattle.pl_host_rule.proofs.HostOwn.{keeps_frames, sends_own};
 ghost use Rattle.pl_host_rule.proofs.HostSends.{joins_by_sending, owes_sends};
+ghost use Rattle.pl_host_rule.proofs.Lawful.{host_rule_is_lawful};
 ghost use Rattle.pl_host.specs.Host.{host_view};
 
 use crate::carried::Carried;
@@ -10,12 +12,16 @@ use crate::neighbours::Neighbours;
 use crate::owners::Owners;
 use crate::sending::{put, send};
 use pl_arp::Me;
-use pl_layouts::Change;
 use pl_core::{HostCore, HostOutbox, HostTable, Reception};
-use pl_frame::Memory;
+use pl_frame::{Ip4, Memory};
+use pl_host_rule::LawfulHost;
 use pl_journal::Skip;
-use pl_frame::Ip4;
+use pl_layouts::Change;
 use std::alloc::Global;
+
+impl LawfulHost for Host {
+    ghost lawful = { host_rule_is_lawful };
+}
 
 impl HostCore for Host {
     ghost view = { host_view };
@@ -25,6 +31,10 @@ impl HostCore for Host {
     ghost sends = { owes_sends };
 
     ghost joins = { joins_by_sending };
+
+    ghost owns = { sends_own };
+
+    ghost keeps = { keeps_frames };
 
     fn boot(alloc: Global, me: Me, table: &HostTable) -> Result<Host, Memory> {
         Ok(Host {

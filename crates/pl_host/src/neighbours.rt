@@ -7,9 +7,8 @@ ghost use Rattle.pl_host.specs.Waiting.{are_unknown};
 use crate::carried::Carried;
 use crate::waiting::Waiting;
 use pl_arp::{Arp, Cache, Me};
-use pl_frame::Memory;
+use pl_frame::{Ip4, Memory};
 use pl_lists::Queue;
-use pl_frame::Ip4;
 use std::alloc::Global;
 
 /// The addresses that a host knows, and the frames that wait for those that it does not.

@@ -5,8 +5,7 @@ ghost use Rattle.pl_host.specs.Owners.{AddsHost};
 use indexmap::IndexMap;
 use pl_arp::Me;
 use pl_core::HostTable;
-use pl_frame::Memory;
-use pl_frame::Mac;
+use pl_frame::{Mac, Memory};
 use std::alloc::Global;
 use std::marker::Model;
 

@@ -8,13 +8,13 @@ ghost use Rattle.pl_host.specs.Host.{Takes, host_view};
 use crate::carried::Carried;
 use crate::frames::request;
 use crate::host::Host;
-use crate::reading::{is_foreign, is_group, kind_of};
+use crate::reading::{is_foreign, is_group};
 use crate::sending::{put, send};
 use pl_arp::Me;
 use pl_core::HostOutbox;
-use pl_frame::Memory;
+use pl_frame::{Ip4, LONGEST, Mac, Memory, SHORTEST};
 use pl_journal::Skip;
-use pl_frame::{Ip4, LONGEST, Mac, SHORTEST, TYPE_ARP, TYPE_CONTROL};
+use pl_layouts::frames::{is_arp, is_control};
 
 // So many frames wait for an address at most.
 const HOLD_LIMIT: usize = 64;
@@ -38,14 +38,13 @@ impl Host {
         if is_foreign(self.me, raw, frame) {
             return Some(Skip::ForeignSource);
         }
-        let kind = kind_of(frame);
-        if kind == TYPE_CONTROL {
+        if is_control(frame) {
             return Some(Skip::ControlType);
         }
         if raw {
             return None;
         }
-        if kind == TYPE_ARP {
+        if is_arp(frame) {
             return Some(Skip::RecordedArp);
         }
         let dst = Mac::read_at(frame, 0);

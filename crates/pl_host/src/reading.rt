@@ -1,38 +1,20 @@
 ghost use Rattle.std.specs.Prelude.{◌≡◌, ◌≤◌, length, slice_index};
-ghost use Rattle.pl_frame.specs.Ethernet.{destination_of, kind_of};
-ghost use Rattle.pl_layouts.specs.Frames.{packet_in};
+ghost use Rattle.pl_frame.specs.Ethernet.{destination_of};
 ghost use Rattle.pl_layouts.specs.Memberships.{group_of, is_group};
-ghost use Rattle.pl_host_rule.specs.HostRule.{is_foreign, is_of};
+ghost use Rattle.pl_core.specs.HostDuties.{is_of};
+ghost use Rattle.pl_host_rule.specs.HostRule.{is_foreign};
 ghost use Rattle.pl_host.specs.Carried.{six_bytes};
 
-use byteorder::{BigEndian, ByteOrder};
 use pl_arp::{Arp, Me};
-use pl_frame::{Mac, SHORTEST, TYPE_ARP};
+use pl_frame::Mac;
+use pl_layouts::frames::packet_in;
 use pl_multicast::group_of;
-
-/// The type of a frame.
-pub(crate) fn kind_of(frame: &[u8]) -> u16
-    requires { 14 ≤ length frame.now }
-    ensures { result ≡ kind_of frame.now }
-{
-    BigEndian::read_u16(&frame[12..])
-}
 
 /// Whether an address is one of a group.
 pub(crate) fn is_group(mac: Mac) -> bool
     ensures { result ≡ is_group mac }
 {
     mac.is_group()
-}
-
-/// The packet of a frame, where it can be read.
-pub(crate) fn packet_in(frame: &[u8]) -> Option<Arp>
-    ensures { result ≡ packet_in frame.now }
-{
-    if frame.len() < SHORTEST || kind_of(frame) != TYPE_ARP {
-        return None;
-    }
-    pl_arp::read(&frame[SHORTEST..]).ok()
 }
 
 /// The group that a frame goes to.

@@ -9,9 +9,8 @@ use crate::frames::reply;
 use crate::groups::Groups;
 use pl_arp::Arp;
 use pl_core::{HostAct, HostOutbox};
-use pl_frame::Memory;
+use pl_frame::{Mac, Memory};
 use pl_lists::Queue;
-use pl_frame::Mac;
 use std::alloc::Global;
 
 /// A frame is sent, whatever it says.

@@ -2,9 +2,9 @@ mod recorded;
 
 use crate::Host;
 use pl_core::{HostAct, HostCore, HostOutbox, HostTable, Reception};
-use pl_lists::{Items, Queue};
-use pl_journal::Skip;
 use pl_frame::Ip4;
+use pl_journal::Skip;
+use pl_lists::{Items, Queue};
 use recorded::*;
 use std::alloc::Global;
 use std::test::Fail;

@@ -21,7 +21,9 @@ use Rattle.pl_core.specs.declared.reception.Reception.TheVariants as reception
 use Rattle.pl_layouts.specs.Frames.{is_arp, packet_in}
 use Rattle.pl_layouts.specs.Memberships.{changes_in, group_number, group_of, is_group}
 use Rattle.pl_core.specs.HostViews.{Held, HostView, IsOrderly, are_apart, are_rising, boot_host, groups_after, groups_after_change, has_group, held_for, hold_limit, ip_cmp, is_waiting, with_held, without_group}
-use Rattle.pl_host_rule.specs.HostRule.{HostStep, leave_frame, report_frame, HasMoved, Joins, Leaves, PlaysRaw, Plays, Receives, Retries, Starts, Received, having_sent, hearing, host_rule, host_step, is_foreign, is_full, is_not_joined, other_host, playing_frame, receiving, released_by, reply_frame, sending, sending_on, sending_to, sending_to_host, skip_of, step_to, still_held, unicast_skip, unless_skipped}
+use Rattle.pl_host_rule.specs.HostRule.{HostStep, leave_frame, report_frame, having_sent, hearing, host_rule, host_step, is_foreign, is_full, is_not_joined, other_host, playing_frame, receiving, released_by, reply_frame, sending, sending_on, sending_to, sending_to_host, skip_of, step_to, still_held, unicast_skip, unless_skipped}
+use Rattle.pl_core.specs.HostInputs.HostInput.{HasMoved, Joins, Leaves, PlaysRaw, Plays, Receives, Retries, Starts}
+use Rattle.pl_core.specs.HostInputs.HostAnswer.{Received}
 use Rattle.pl_core.specs.HostInputs.{HostAnswer, HostInput}
 use Rattle.pl_host_rule.proofs.HostGroups.{has_group-insert, has_group-without, turned_away}
 use Rattle.pl_host_rule.proofs.HostSends.{unskipped}

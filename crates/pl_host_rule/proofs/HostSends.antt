@@ -23,7 +23,9 @@ use Rattle.pl_layouts.specs.Memberships.{changes_in, group_of, is_group}
 use Rattle.pl_journal.specs.Lossy.{joined_after}
 use Rattle.pl_core.specs.HostViews.{has_group, Held, HostView, boot_host, held_for, ip_cmp, with_held}
 use Rattle.pl_layouts.specs.Reports.{membership_frame}
-use Rattle.pl_host_rule.specs.HostRule.{HostStep, HasMoved, Joins, Leaves, Nothing, Played, PlaysRaw, Plays, Received, Receives, Retries, Starts, first_request, having_sent, hearing, holding, host_rule, host_step, is_foreign, is_not_joined, other_host, playing, playing_frame, playing_raw, receiving, released, released_by, reply_frame, report_frame, request_frame, sending, sending_on, sending_to, sending_to_host, skip_of, skipping, start_frame, step_to, still_held, unless_skipped}
+use Rattle.pl_host_rule.specs.HostRule.{HostStep, first_request, having_sent, hearing, holding, host_rule, host_step, is_foreign, is_not_joined, other_host, playing, playing_frame, playing_raw, receiving, released, released_by, reply_frame, report_frame, request_frame, sending, sending_on, sending_to, sending_to_host, skip_of, skipping, start_frame, step_to, still_held, unless_skipped}
+use Rattle.pl_core.specs.HostInputs.HostInput.{HasMoved, Joins, Leaves, PlaysRaw, Plays, Receives, Retries, Starts}
+use Rattle.pl_core.specs.HostInputs.HostAnswer.{Nothing, Played, Received}
 use Rattle.pl_core.specs.HostDuties.{JoinsBySending, joined_by, HoldsData, SendsData, are_data, is_data, sent_by}
 use Rattle.pl_core.specs.HostInputs.{HostAnswer, HostInput}
 use Rattle.pl_host_rule.proofs.HostGroups.{arp_frame_is_silent, has_group-sent, reports_change_nothing}
@@ -43,7 +45,7 @@ record Stays (before after : HostView) : Type 0 where
   pub me : after.me ≡ before.me
   pub table : after.table ≡ before.table
 
-sent-Send : (frames : List (List ℕ)) → map sent_by (map Send frames) ≡ frames
+pub sent-Send : (frames : List (List ℕ)) → map sent_by (map Send frames) ≡ frames
 sent-Send [] = refl
 sent-Send (frame ∷ frames) = ap (λ r. frame ∷ r) (sent-Send frames)
 
@@ -92,16 +94,16 @@ reports_are_data view (group ∷ joined) holds =
     (report_is_data view group true holds) (reports_are_data view joined holds)
 
 -- the cache
-abbrev is_six : Ip4 × Mac → Bool
+abbrev pub is_six : Ip4 × Mac → Bool
 is_six entry = length entry.1.0 == 6
 
-abbrev are_six : Table → Bool
+abbrev pub are_six : Table → Bool
 are_six cache = list_all is_six cache
 
 six_true : (ip : Ip4) (mac : Mac) → length mac.0 ≡ 6 → is_six (ip, mac) ≡ true
 six_true ip mac long = (Decides-eqb (length mac.0) 6).1 long
 
-knows_six : (cache : Table) (ip : Ip4) (mac : Mac) → are_six cache ≡ true → hardware_of cache ip ≡ Some mac → length mac.0 ≡ 6
+pub knows_six : (cache : Table) (ip : Ip4) (mac : Mac) → are_six cache ≡ true → hardware_of cache ip ≡ Some mac → length mac.0 ≡ 6
 knows_six [] ip mac six has = absurd (cc)
 knows_six (entry ∷ cache) ip mac six has =
     let parts = and_parts (is_six entry) (are_six cache) six in
@@ -119,7 +121,7 @@ six_with_pair (entry ∷ cache) ip mac long six =
       | false ↦ and_from (is_six entry) (are_six (with_pair cache ip mac)) parts.0 (six_with_pair cache ip mac long parts.1)
     ]
 
-six_after : (cache : Table) (me : Me) (arp : Arp) → length arp.sha.0 ≡ 6 → are_six cache ≡ true → are_six (table_after cache me arp) ≡ true
+pub six_after : (cache : Table) (me : Me) (arp : Arp) → length arp.sha.0 ≡ 6 → are_six cache ≡ true → are_six (table_after cache me arp) ≡ true
 six_after cache me arp long six =
     elim (is_some (hardware_of cache arp.spa) || is_target me arp)
     as (λ b. are_six (cond b (with_pair cache arp.spa arp.sha) cache) ≡ true)

@@ -2,3 +2,5 @@ pub mod HostFrames
 pub mod HostSends
 pub mod HostGroups
 pub mod HostOrder
+pub mod HostOwn
+pub mod Lawful

@@ -1,5 +1,5 @@
 -- What a host does: one definition for each thing that it is told to do, and for a frame that arrives at it.
-use Rattle.std.specs.Prelude.{◌≡◌, ℕ, ◌==◌, ◌&&◌, ◌||◌, not, nat_lt, nat_le, Bool, true, false, if◌then◌else◌, List, [], ◌∷◌, ◌++◌, map, filter, find, flat_map, fold, length, Option, Some, None, is_none, option_map, option_to_list}
+use Rattle.std.specs.Prelude.{◌≡◌, ◌↔◌, ℕ, ◌==◌, ◌&&◌, ◌||◌, not, nat_lt, nat_le, Bool, true, false, if◌then◌else◌, List, [], ◌∷◌, ◌++◌, map, filter, find, flat_map, fold, length, Option, Some, None, is_none, option_map, option_to_list}
 use Rattle.pl_frame.specs.declared.address.Mac.{Mac}
 use Rattle.pl_frame.specs.declared.address.Ip4.{Ip4}
 use Rattle.pl_frame.specs.Ethernet.{destination_of, source_of, with_destination}
@@ -18,6 +18,7 @@ use Rattle.pl_layouts.specs.Reports.{membership_frame}
 use Rattle.pl_core.specs.HostViews.{Held, HostView, groups_after, has_group, held_for, hold_limit, with_held}
 use Rattle.pl_layouts.specs.ArpFrames.{arp_frame, broadcast, no_mac}
 use Rattle.pl_layouts.specs.Equality.{same_mac}
+use Rattle.pl_core.specs.HostDuties.{is_of}
 use Rattle.pl_core.specs.HostInputs.{HostInput, HostAnswer, HostRule}
 use Rattle.pl_core.specs.HostInputs.HostInput.{Starts, Retries, HasMoved, Plays, PlaysRaw, Joins, Leaves, Receives}
 use Rattle.pl_core.specs.HostInputs.HostAnswer.{Nothing, Played, Received}
@@ -75,11 +76,6 @@ joining view group = let report = report_frame view.me group in step_to (having_
 -- and the same for a leave
 abbrev pub leaving : HostView → Ip4 → HostStep
 leaving view group = let leave = leave_frame view.me group in step_to (having_sent view (leave ∷ [])) (leave ∷ []) Nothing
-
--- whether the sender of a packet that can be read is the host itself
-abbrev pub is_of : Me → Option Arp → Bool
-is_of me None = true
-is_of me (Some arp) = same_mac arp.sha me.mac && same_ip arp.spa me.ip
 
 -- a frame of another source; of the packets only those are looked at that are played raw, since no other is played
 abbrev pub is_foreign : Me → Bool → List ℕ → Bool
@@ -201,3 +197,8 @@ host_step view (Receives frame) = receiving view frame
 -- the rule of the hosts here: just that step
 abbrev pub host_rule : HostRule
 host_rule view input after acts answer = host_step view input ≡ record { view = after; acts = acts; answer = answer }
+
+-- a rule of just these steps
+abbrev pub IsHostRule : HostRule → Type 0
+IsHostRule rule = (view : HostView) (input : HostInput) (after : HostView) (acts : List HostAct) (answer : HostAnswer) →
+    rule view input after acts answer ↔ host_rule view input after acts answer

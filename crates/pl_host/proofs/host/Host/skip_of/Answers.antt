@@ -1,6 +1,6 @@
-use Rattle.std.proofs.Common.{◌≡◌, ◌∙◌, sym, ap, Option, length, le-ltb, ne_eqb}
+use Rattle.std.proofs.Common.{◌≡◌, ◌∙◌, sym, ap, Option, length, le-ltb}
 use Rattle.pl_frame.specs.declared.address.Mac.{Mac}
-use Rattle.pl_frame.specs.Ethernet.{destination_of, kind_of}
+use Rattle.pl_frame.specs.Ethernet.{destination_of}
 use Rattle.pl_arp.specs.declared.cache.Me.{Me}
 use Rattle.pl_layouts.specs.Memberships.{is_group}
 use Rattle.pl_core.specs.HostViews.{HostView}
@@ -19,7 +19,7 @@ returns-clause-skip c =
     ∙ sym (skip_of-last view frame c.args.original (le-ltb (length frame) c.args.original c.if-frame-original.false)
     (le-ltb (length frame) 14 c.if-frame-lt-SHORTEST.false) (le-ltb 65553 (length frame) c.if-frame-gt-LONGEST.false)
     (ap (λ raw. is_foreign c.args.self.now.me raw frame) (sym c.if-raw.false) ∙ sym c.is_foreign.ensures ∙ c.if-is_foreign.false)
-    (ne_eqb (kind_of frame) 0x88b5 (λ e. c.if-kind.false (c.kind_of-kind.ensures ∙ e)))
-    (ne_eqb (kind_of frame) 0x0806 (λ e. c.if-kind-eq-TYPE_ARP.false (c.kind_of-kind.ensures ∙ e)))
+    (sym c.is_control.ensures ∙ c.if-is_control.false)
+    (sym c.is_arp.ensures ∙ c.if-is_arp.false)
     (ap (λ (mac : Mac). is_group mac) (sym dst) ∙ sym c.is_group.ensures ∙ c.if-is_group.false))
     ∙ ap (λ raw. skip_of view raw frame c.args.original) (sym c.if-raw.false)

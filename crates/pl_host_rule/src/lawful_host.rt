@@ -1,0 +1,8 @@
+ghost use Rattle.pl_host_rule.specs.HostRule.{IsHostRule};
+
+use pl_core::HostCore;
+
+/// A host that takes each step that a host is to take, and no other.
+pub trait LawfulHost: HostCore {
+    ghost lawful: { IsHostRule Self.rule };
+}

@@ -7,7 +7,7 @@ use pl_wiring::Wiring;
 /// What a run has read. The captures stand in the order of the hosts, and each host at the first edge
 /// switch.
 #[derive(Debug, Drop)]
-pub(crate) struct Inputs {
+pub struct Inputs {
     pub wiring: Wiring,
     pub script: Script,
     pub captures: Vec<Capture>,

@@ -31,7 +31,7 @@ impl<T: Drop> From<AllocFailed<T>> for StepError {
 
 /// Why a script was not played to its end.
 #[derive(Clone, Copy, Debug, PartialEq, Eq)]
-pub(crate) enum PlayError {
+pub enum PlayError {
     /// The number of the line whose step was refused, and why.
     Refused(u32, StepReason),
     Memory,

@@ -19,7 +19,7 @@ const EDGE: SwitchNo = SwitchNo(0);
 
 /// What a run has come to.
 #[derive(Debug, Drop)]
-pub(crate) struct Played {
+pub struct Played {
     pub journal: Journal,
     /// How many frames were sent.
     pub begun: u64,

@@ -7,14 +7,14 @@ use std::marker::Model;
 
 /// A frame on its way, by its number.
 #[derive(Debug, Drop)]
-pub(crate) struct Flight {
+pub struct Flight {
     pub id: u64,
     pub frame: Frame,
 }
 
 /// Frames that wait, the first to come at the front. Each is as long as a frame may be.
 #[derive(Debug, Drop)]
-pub(crate) struct Queue {
+pub struct Queue {
     flights: Vec<Flight>,
 }
 

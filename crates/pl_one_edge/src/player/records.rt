@@ -26,7 +26,7 @@ pub(crate) fn record_at(captures: &[Capture], host: HostNo, n: u64) -> Option<Re
 }
 
 /// How many records a host has.
-pub(crate) fn record_count(captures: &[Capture], host: HostNo) -> u64
+pub fn record_count(captures: &[Capture], host: HostNo) -> u64
     ensures { result ≡ length (slice_index_or (records_of captures.now) host.0 []) }
 {
     match captures.get(host.0 as usize) {

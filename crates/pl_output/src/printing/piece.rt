@@ -13,7 +13,7 @@ const PIECE_LEN: usize = 65_536;
 
 /// The text that was printed last and is not on the shelf yet, in memory that was taken before.
 #[derive(Drop)]
-pub(crate) struct Piece {
+pub struct Piece {
     bytes: Vec<u8>,
 }
 

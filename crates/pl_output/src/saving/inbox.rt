@@ -12,7 +12,7 @@ const LAST_MICRO: u32 = 999_999;
 
 /// What a host received, and the name of the capture that is saved of it.
 #[derive(Debug, Drop)]
-pub(crate) struct Inbox {
+pub struct Inbox {
     name: Name,
     receipts: Vec<Receipt>,
     /// The place behind the line at which the last receipt came.

@@ -1,6 +1,6 @@
 /// An arrival of the journal by the place of its entry, with its time stamp.
 #[derive(Clone, Copy, Debug)]
-pub(crate) struct Receipt {
+pub struct Receipt {
     pub seconds: u32,
     pub micros: u32,
     pub entry: usize,
@@ -9,7 +9,7 @@ pub(crate) struct Receipt {
 /// The last line before a place of the journal: its number, and the place behind its entry. Both are
 /// 0 where there is none.
 #[derive(Clone, Copy, Debug)]
-pub(crate) struct LastLine {
+pub struct LastLine {
     pub number: u32,
     pub behind: usize,
 }

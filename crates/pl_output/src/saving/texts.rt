@@ -13,7 +13,7 @@ use std::alloc::Global;
 
 /// All that is saved of a run, with the names, made before the first of them is created.
 #[derive(Drop)]
-pub(crate) struct Texts {
+pub struct Texts {
     /// The captures, in the order of the hosts.
     pub inboxes: Vec<Inbox>,
     /// The name of the journal, whose text is printed as it is saved.

@@ -58,9 +58,6 @@ hold_at v position = slice_index_or v.holds position None
 abbrev pub holder_and_mark : Hold → SwitchId × Bool
 holder_and_mark hold = (hold.edge, hold.fixed)
 
-abbrev pub hold_at : SwitchView → ℕ → Option Hold
-hold_at v position = slice_index_or v.holds position None
-
 -- who holds a position, and whether it is marked as fixed there
 abbrev pub holder_of : SwitchView → ℕ → Option (SwitchId × Bool)
 holder_of v position = option_map holder_and_mark (hold_at v position)

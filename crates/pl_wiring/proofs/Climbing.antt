@@ -173,8 +173,11 @@ below_apart a b less e = let same : a.0 ≡ b.0 = ap (λ s. s.0) e in absurd (om
 above_apart : (a b : SwitchNo) → b.0 < a.0 → a ≢ b
 above_apart a b less e = let same : a.0 ≡ b.0 = ap (λ s. s.0) e in absurd (omega arith)
 
-pub path_at : (links : List Link) (IsLive : Link → Type 0) (start end : SwitchNo) → start ≡ end → IsUpDownPath links IsLive start end (start ∷ [])
-path_at links IsLive start end same = record {
+pub path_at : (k : ℕ) (links : List Link) (IsLive : Link → Type 0) (start end : SwitchNo) → start.0 < edge_count k → end.0 < edge_count k → start ≡ end →
+    IsUpDownPath k links IsLive start end (start ∷ [])
+path_at k links IsLive start end ls le same = record {
+  from_edge = ls;
+  to_edge = le;
   up = [];
   top = start;
   down = [];
@@ -188,12 +191,15 @@ path_at links IsLive start end same = record {
   distinct = more_pairs start [] (none_of start) no_pairs;
 }
 
-pub path_over : (plan : Plan) (IsLive : Link → Type 0) (start top end : SwitchNo) → IsPlan plan → start ≢ end →
-    Rises plan.links IsLive start top → Rises plan.links IsLive end top → IsUpDownPath plan.links IsLive start end (start ∷ top ∷ end ∷ [])
-path_over plan IsLive start top end is apart up down =
+pub path_over : (plan : Plan) (IsLive : Link → Type 0) (start top end : SwitchNo) → IsPlan plan →
+    start.0 < edge_count plan.k → end.0 < edge_count plan.k → start ≢ end →
+    Rises plan.links IsLive start top → Rises plan.links IsLive end top → IsUpDownPath plan.k plan.links IsLive start end (start ∷ top ∷ end ∷ [])
+path_over plan IsLive start top end is ls le apart up down =
     let s = rise_up plan IsLive start top is up in
     let e = rise_up plan IsLive end top is down in
     record {
+      from_edge = ls;
+      to_edge = le;
       up = start ∷ [];
       top = top;
       down = end ∷ [];
@@ -212,7 +218,7 @@ pub path_over_core : (plan : Plan) (IsLive : Link → Type 0) (start left top ri
     start.0 < edge_count plan.k → end.0 < edge_count plan.k → place < plan.k / 2 → start ≢ end →
     ((t : SwitchNo) → Rises plan.links IsLive start t → Rises plan.links IsLive end t → ⊥) →
     RisesAt plan IsLive start place left → RisesAt plan IsLive end place right → Rises plan.links IsLive left top → Rises plan.links IsLive right top →
-    IsUpDownPath plan.links IsLive start end (start ∷ left ∷ top ∷ right ∷ end ∷ [])
+    IsUpDownPath plan.k plan.links IsLive start end (start ∷ left ∷ top ∷ right ∷ end ∷ [])
 path_over_core plan IsLive start left top right end place is ls le less apart no_common rl rr tl tr =
     let to_left : Rises plan.links IsLive start left = Rises-at plan IsLive start place left is (omega arith) less rl in
     let to_right : Rises plan.links IsLive end right = Rises-at plan IsLive end place right is (omega arith) less rr in
@@ -222,6 +228,8 @@ path_over_core plan IsLive start left top right end place is ls le less apart no
     let top_left = rise_up plan IsLive left top is tl in
     let top_right = rise_up plan IsLive right top is tr in
     record {
+      from_edge = ls;
+      to_edge = le;
       up = start ∷ left ∷ [];
       top = top;
       down = end ∷ right ∷ [];
@@ -255,9 +263,11 @@ edge_1 = record { 0 = 1 }
 aggregation_0 : SwitchNo
 aggregation_0 = record { 0 = 8 }
 
-path_in_a_pod : IsUpDownPath (canonical_links 4) (λ _. Unit {0}) edge_0 edge_1 (edge_0 ∷ aggregation_0 ∷ edge_1 ∷ [])
+path_in_a_pod : IsUpDownPath 4 (canonical_links 4) (λ _. Unit {0}) edge_0 edge_1 (edge_0 ∷ aggregation_0 ∷ edge_1 ∷ [])
 unfolding edge_0 edge_1 aggregation_0
 path_in_a_pod = record {
+  from_edge = omega arith;
+  to_edge = omega arith;
   up = edge_0 ∷ [];
   top = aggregation_0;
   down = edge_1 ∷ [];
@@ -273,3 +283,8 @@ path_in_a_pod = record {
       (more_pairs aggregation_0 (edge_1 ∷ []) (one_more aggregation_0 edge_1 [] (above_apart aggregation_0 edge_1 (omega arith)) (none_of aggregation_0))
       (more_pairs edge_1 [] (none_of edge_1) no_pairs));
 }
+
+-- and none leads from a0.0, which is no edge switch, to itself
+none_from_above : (path : List SwitchNo) → IsUpDownPath 4 (canonical_links 4) (λ _. Unit {0}) aggregation_0 aggregation_0 path → ⊥
+unfolding aggregation_0
+none_from_above path is = let low = is.from_edge in absurd (omega arith)

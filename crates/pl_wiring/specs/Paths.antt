@@ -1,7 +1,8 @@
 -- Paths over live links that go up and then down.
-use Rattle.std.specs.Prelude.{◌≡◌, ◌≢◌, ℕ, ◌+◌, ◌*◌, ◌/◌, ◌≤◌, List, [], ◌∷◌, ◌++◌, reverse, length, Some, slice_get, Any, AllPairs, HoldsAt}
+use Rattle.std.specs.Prelude.{◌≡◌, ◌≢◌, ℕ, ◌+◌, ◌*◌, ◌/◌, ◌<◌, ◌≤◌, List, [], ◌∷◌, ◌++◌, reverse, length, Some, slice_get, Any, AllPairs, HoldsAt}
 use Rattle.pl_wiring.specs.declared.label.SwitchNo.{SwitchNo}
 use Rattle.pl_wiring.specs.declared.link.Link.{Link}
+use Rattle.pl_wiring.specs.Labels.{edge_count}
 use Rattle.pl_wiring.specs.LiveLinks.{LivePorts, IsLive}
 use Rattle.pl_wiring.specs.Plan.{Plan}
 
@@ -15,8 +16,10 @@ Climbs links Live [] = Unit {0}
 Climbs links Live (a ∷ []) = Unit {0}
 Climbs links Live (a ∷ b ∷ more) = Rises links Live a b × Climbs links Live (b ∷ more)
 
--- from one switch up zero, one or two levels over live links, and down as many to another switch, no switch twice
-pub record IsUpDownPath (links : List Link) (Live : Link → Type 0) (start end : SwitchNo) (path : List SwitchNo) : Type 0 where
+-- from an edge switch up zero, one or two levels over live links, and down as many to an edge switch, no switch twice
+pub record IsUpDownPath (k : ℕ) (links : List Link) (Live : Link → Type 0) (start end : SwitchNo) (path : List SwitchNo) : Type 0 where
+  pub from_edge : start.0 < edge_count k
+  pub to_edge : end.0 < edge_count k
   -- the way up to the top, the top itself, and the way down from it, which is read from its end
   pub up : List SwitchNo
   pub top : SwitchNo
@@ -32,7 +35,7 @@ pub record IsUpDownPath (links : List Link) (Live : Link → Type 0) (start end 
 
 -- the path is one over the links of a plan that are live in these states
 abbrev pub IsLivePath : Plan → LivePorts → SwitchNo → SwitchNo → List SwitchNo → Type 0
-IsLivePath plan states start end path = IsUpDownPath plan.links (IsLive states) start end path
+IsLivePath plan states start end path = IsUpDownPath plan.k plan.links (IsLive states) start end path
 
 abbrev pub LeadsUp : Plan → LivePorts → SwitchNo → SwitchNo → Type 0
 LeadsUp plan states lower upper = Rises plan.links (IsLive states) lower upper

@@ -72,8 +72,8 @@ impl Path {
 }
 
 impl Wiring {
-    /// A path over live links between two edge switches that goes up zero, one or two levels and
-    /// down as many, through no switch twice.
+    /// A path over live links from one edge switch to another one, or to itself, that goes up zero,
+    /// one or two levels and down as many, through no switch twice.
     pub fn live_path(&self, links: &LinkStates, start: SwitchNo, end: SwitchNo) -> Option<Path>
         requires start { start.0 < edge_count self.now.k }
         requires end { end.0 < edge_count self.now.k }

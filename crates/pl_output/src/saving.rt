@@ -19,8 +19,6 @@ mod captures;
 mod inbox;
 mod receipt;
 mod receiving;
-#[cfg(test)]
-mod tests;
 mod texts;
 
 /// Saves the texts of a run: each host's capture in the order of the hosts, the journal, and the

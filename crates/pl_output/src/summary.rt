@@ -7,8 +7,8 @@ ghost use Rattle.pl_output.specs.Tallied.{IsTally};
 use crate::summary::lines::{CauseLine, FabricLine, HostLine, StepsLine, settled_line};
 use crate::summary::tally::Tally;
 use crate::summary::totals::Totals;
-use pl_journal::{Cause, Journal};
 use pl_frame::Memory;
+use pl_journal::{Cause, Journal};
 use pl_wiring::{Host, Wiring};
 use std::alloc::Global;
 

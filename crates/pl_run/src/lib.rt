@@ -1,8 +1,8 @@
 //! The one call that does all that the program does, with its theorem.
 #![tactic(auto)]
 
-pub use program::portland;
 pub use pl_inputs::{Status, StepReason, TopologyReason};
+pub use program::portland;
 
 mod program;
 mod running;

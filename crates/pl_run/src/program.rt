@@ -5,8 +5,7 @@ ghost use Rattle.pl_inputs.specs.Met.{texts};
 ghost use Rattle.pl_inputs.specs.Words.{Asked, asked_of};
 
 use crate::running::run;
-use pl_inputs::Status;
-use pl_inputs::files_of;
+use pl_inputs::{Status, files_of};
 use pl_shelf::Shelf;
 use std::alloc::Global;
 

@@ -6,12 +6,12 @@ ghost use Rattle.pl_one_edge.specs.Played.{state_of};
 ghost use Rattle.pl_run.specs.Plays.{EndsRun, IsUnplayed, answer_of};
 ghost use Rattle.pl_journal.specs.Savable.{IsSavable};
 
-use pl_inputs::{Inputs, load_inputs};
-use pl_one_edge::{PlayError, Played, play, every_entry_can_be_saved, hosts_do_what_is_asked, one_lossy_switch};
 use crate::running::texts::texts_of;
+use pl_inputs::{Files, Inputs, Status, load_inputs};
+use pl_one_edge::{
+    PlayError, Played, every_entry_can_be_saved, hosts_do_what_is_asked, one_lossy_switch, play,
+};
 use pl_output::save_all;
-use pl_inputs::Status;
-use pl_inputs::Files;
 use pl_shelf::Shelf;
 use std::alloc::Global;
 

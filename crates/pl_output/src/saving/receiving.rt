@@ -4,11 +4,11 @@ ghost use Rattle.pl_output.specs.Mail.{IsEmpty, arrives_at, capture_name, delive
 ghost use Rattle.pl_inputs.specs.Numbered.{number_of};
 ghost use Rattle.pl_output.specs.Receipts.{AreReceived, capture_in, captures_from};
 
-use pl_inputs::in_folder;
 use crate::saving::inbox::Inbox;
 use crate::saving::receipt::LastLine;
-use pl_journal::{Entry, Journal};
 use pl_frame::Memory;
+use pl_inputs::in_folder;
+use pl_journal::{Entry, Journal};
 use pl_wiring::{Host, HostNo, Name};
 use std::alloc::Global;
 

@@ -2,12 +2,12 @@ ghost use Rattle.std.specs.Prelude.{◌≡◌, [], IfOk, codes, string_bytes};
 ghost use Rattle.pl_output.specs.Receipts.{journal_name};
 ghost use Rattle.pl_output.specs.Texts.{AreTexts};
 
-use pl_inputs::in_folder;
 use crate::printing::Piece;
 use crate::saving::inbox::Inbox;
 use crate::saving::receiving::receive;
-use pl_journal::Journal;
 use pl_frame::Memory;
+use pl_inputs::in_folder;
+use pl_journal::Journal;
 use pl_wiring::{Name, Wiring};
 use std::alloc::Global;
 

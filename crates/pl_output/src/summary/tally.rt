@@ -3,11 +3,11 @@ ghost use Rattle.pl_journal.specs.declared.entry.Entry.{Entry};
 ghost use Rattle.pl_output.specs.Summary.{count_of, counts_of, ending_of, place_of, receiver_of, sender_of, skipper_of};
 ghost use Rattle.pl_output.specs.Tallied.{IsTally, with_one};
 
-use pl_inputs::one_more;
 use crate::summary::host_counts::HostCounts;
 use crate::summary::totals::Totals;
-use pl_journal::{Cause, Entry};
 use pl_frame::Memory;
+use pl_inputs::one_more;
+use pl_journal::{Cause, Entry};
 use std::alloc::Global;
 
 /// How many causes there are.

@@ -1,6 +1,6 @@
 use crate::summary::{Rest, summary};
-use pl_journal::{Cause, Entry, Journal, Skip};
 use pl_frame::Frame;
+use pl_journal::{Cause, Entry, Journal, Skip};
 use pl_wiring::HostNo;
 use std::test::Fail;
 

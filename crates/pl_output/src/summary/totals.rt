@@ -2,9 +2,9 @@ ghost use Rattle.std.specs.Prelude.{◌≡◌, ◌+◌, [], ◌∷◌, Some, OnO
 ghost use Rattle.pl_output.specs.Summary.{begun_text, ended_text, flying, frames_line, totals_of};
 ghost use Rattle.pl_output.specs.Tallied.{plus};
 
+use pl_frame::Memory;
 use pl_inputs::one_more;
 use pl_journal::Entry;
-use pl_frame::Memory;
 use std::fmt;
 
 /// How many entries there are of each kind.

@@ -6,12 +6,10 @@ ghost use Rattle.pl_one_edge.specs.Machine.{records_left};
 ghost use Rattle.pl_one_edge.specs.Played.{state_of};
 ghost use Rattle.pl_output.specs.Texts.{AreTexts};
 
+use pl_frame::Memory;
 use pl_inputs::{Capture, Inputs};
 use pl_one_edge::{Played, record_count};
-use pl_output::Piece;
-use pl_output::Texts;
-use pl_output::{Rest, summary};
-use pl_frame::Memory;
+use pl_output::{Piece, Rest, Texts, summary};
 use pl_script::{Command, ScriptLine};
 use pl_wiring::HostNo;
 use std::alloc::Global;

@@ -1,5 +1,5 @@
 -- Data frames: what rewriting and making leaves of the length and the type of a frame.
-use Rattle.std.proofs.Common.{◌≡◌, ℕ, ◌+◌, ◌*◌, ◌^◌, ◌<◌, ◌==◌, false, List, ◌++◌, length, drop, slice_index, Option, refl, sym, ap, ap₂, ◌∙◌, inl, arith, length-append, length-drop}
+use Rattle.std.proofs.Common.{◌≡◌, ℕ, ◌+◌, ◌*◌, ◌^◌, ◌<◌, ◌≤◌, ◌==◌, false, List, ◌++◌, length, drop, slice_index, Option, refl, sym, ap, ap₂, ◌∙◌, inl, arith, length-append, length-drop}
 use Rattle.std.proofs.lemmas.List.{get_or-drop}
 use Rattle.byteorder.specs.Endian.{big_bytes}
 use Rattle.byteorder.specs.Numbers.{length-bytes_high_first}
@@ -35,15 +35,19 @@ made_like f g long kind made = record {
   whole = record { low = omega (arith, long, made.whole.low); high = omega (arith, long, made.whole.high) };
 }
 
+pub kind_of-arriving : (frame : List ℕ) (from to : Option Mac) → 14 ≤ length frame → HasSixBytes from → HasSixBytes to →
+    kind_of (arriving frame from to) ≡ kind_of frame
+kind_of-arriving frame from to long six_from six_to =
+    let kept = others_are_kept frame from to in
+    kind_same (arriving frame from to) frame
+    (kept 12 long six_from six_to (record { behind = omega arith; outside = λ readable. (inl (omega arith), inl (omega arith)) }))
+    (kept 13 long six_from six_to (record { behind = omega arith; outside = λ readable. (inl (omega arith), inl (omega arith)) }))
+
 pub arriving_made : (frame : List ℕ) (from to : Option Mac) → IsMade frame → HasSixBytes from → HasSixBytes to →
     IsMade (arriving frame from to)
 arriving_made frame from to made six_from six_to =
-    let kept = others_are_kept frame from to in
     made_like (arriving frame from to) frame (length-arriving frame from to made.whole.low six_from six_to)
-    (kind_same (arriving frame from to) frame
-    (kept 12 made.whole.low six_from six_to (record { behind = omega arith; outside = λ readable. (inl (omega arith), inl (omega arith)) }))
-    (kept 13 made.whole.low six_from six_to (record { behind = omega arith; outside = λ readable. (inl (omega arith), inl (omega arith)) })))
-    made
+    (kind_of-arriving frame from to made.whole.low six_from six_to) made
 
 pub with_destination_made : (frame : List ℕ) (to : Mac) → IsMade frame → length to.0 ≡ 6 → IsMade (with_destination frame to)
 with_destination_made frame to made six =

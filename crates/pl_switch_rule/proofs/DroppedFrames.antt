@@ -1,5 +1,5 @@
 -- The cause of a data frame that comes at a switch and is dropped.
-use Rattle.std.proofs.Common.{◌≡◌, ℕ, ◌&&◌, ◌||◌, not, Bool, true, false, if◌then◌else◌, List, [], ◌∷◌, Option, Some, None, is_some, is_none, refl, sym, ap, ◌∙◌, unwrap_or}
+use Rattle.std.proofs.Common.{◌≡◌, ℕ, ◌&&◌, ◌||◌, ◌==◌, not, Bool, true, false, if◌then◌else◌, List, [], ◌∷◌, Option, Some, None, is_some, is_none, refl, sym, ap, ◌∙◌, arith, unwrap_or}
 use Rattle.std.proofs.lemmas.Bool.{and_from}
 use Rattle.pl_frame.specs.declared.address.Mac.{Mac}
 use Rattle.pl_frame.specs.Ethernet.{destination_of, source_of}
@@ -26,8 +26,8 @@ use Rattle.pl_layouts.specs.Placement.{is_placed}
 use Rattle.pl_switch_rule.specs.Steps.{SwitchStep, does, ◌▹◌}
 use Rattle.pl_switch_rule.specs.SwitchRule.{IsChoice, comes_from_switch, data_comes}
 use Rattle.pl_core.specs.SwitchViews.{SwitchView}
-use Rattle.pl_layouts.proofs.Arrived.{destination_of-arriving, source_of-arriving}
-use Rattle.pl_switch_rule.proofs.DataFrames.{six_of_pmac}
+use Rattle.pl_layouts.proofs.Arrived.{destination_of-arriving, length-arriving, source_of-arriving}
+use Rattle.pl_switch_rule.proofs.DataFrames.{kind_of-arriving, six_of_pmac}
 use Rattle.pl_switch_rule.proofs.DroppedHome.{arrives_home_drops}
 use Rattle.pl_switch_rule.proofs.DroppedOut.{IsSentOn, forwards_drops, forwards_group_drops, no_way_holds}
 use Rattle.pl_switch_rule.proofs.FirstDrops.{AllGoOn, GoesOn, drop_holds, drops_none, either_drops, first_behind, quiet_go_on}
@@ -36,7 +36,7 @@ use Rattle.pl_switch_rule.proofs.MessageParts.{are_quiet_packet_acts}
 use Rattle.pl_switch_rule.proofs.StepParts.{all_append}
 
 -- to a group, to this switch's own hosts, or to others
-abbrev goes_where : Choice → SwitchView → Option Came → List ℕ → SwitchStep
+abbrev pub goes_where : Choice → SwitchView → Option Came → List ℕ → SwitchStep
 goes_where choose v came sent =
     if is_group (destination_of sent) then forwards_group v came sent
     else if is_local v (destination sent) then arrives_home choose v sent
@@ -60,7 +60,7 @@ six_of_mac : (o : Option Pmac) → HasSixBytes (mac_of_pmac o)
 six_of_mac None = tt
 six_of_mac (Some a) = six_of_pmac a
 
-host_sent_on : (v : SwitchView) (port : ℕ) (frame : List ℕ) → IsWhole frame → is_of_host v port ≡ true →
+pub host_sent_on : (v : SwitchView) (port : ℕ) (frame : List ℕ) → IsWhole frame → is_of_host v port ≡ true →
     IsSentOn v port frame (Some FromHost) (with_pmac v port frame)
 host_sent_on v port frame whole host =
     let from : Option Mac = mac_of_pmac (source_pmac v port frame) in
@@ -70,6 +70,8 @@ host_sent_on v port frame whole host =
       same_end = destination_of-arriving frame from None whole.low six tt;
       known_so = ap pmac_of (source_of-arriving frame from None whole.low six tt)
           ∙ sym (ap (λ b. if◌then◌else◌ {A = Pmac} b (pmac_of (unwrap_or from (source_of frame))) (pmac_of (source_of frame))) host);
+      same_kind = ap (λ n. n == 0x0806) (kind_of-arriving frame from None whole.low six tt);
+      long = omega (arith, length-arriving frame from None whole.low six tt, whole.low);
     }
 
 takes_none : (C : Type 0) (s : SwitchStep) (cause : Cause) → AllGoOn s.acts → first_drop (s ▹ takes).acts ≡ Some cause → C
@@ -111,19 +113,25 @@ host_drops choose port frame v cause is_choice whole host served drop =
 
 -- A frame of another switch.
 
-switch_drops : (choose : Choice) (v : SwitchView) (port : ℕ) (frame : List ℕ) (cause : Cause) → IsChoice choose →
+pub switch_sent_on : (v : SwitchView) (port : ℕ) (frame : List ℕ) → IsWhole frame → is_of_host v port ≡ false →
+    IsSentOn v port frame (came_by v port) frame
+switch_sent_on v port frame whole switch = record {
+  came_so = ap (λ b. if◌then◌else◌ {A = Option Came} b (Some FromHost) (came_by v port)) switch;
+  same_end = refl;
+  known_so = sym (ap (λ b. if◌then◌else◌ {A = Pmac} b
+      (pmac_of (unwrap_or (mac_of_pmac (source_pmac v port frame)) (source_of frame))) (pmac_of (source_of frame))) switch);
+  same_kind = refl;
+  long = whole.low;
+}
+
+switch_drops : (choose : Choice) (v : SwitchView) (port : ℕ) (frame : List ℕ) (cause : Cause) → IsChoice choose → IsWhole frame →
     is_of_host v port ≡ false → first_drop (comes_from_switch choose v port frame).acts ≡ Some cause → CauseHolds v port frame cause
-switch_drops choose v port frame cause is_choice switch drop =
+switch_drops choose v port frame cause is_choice whole switch drop =
     let came : Option Came = came_by v port in
     let home : SwitchStep = if is_local v (destination frame) then arrives_home choose v frame else forwards choose v came frame in
     let sent : SwitchStep = if is_group (destination_of frame) then forwards_group v came frame else home in
     let unknown : Bool = is_none (place_at v port).level in
-    let on : IsSentOn v port frame came frame = record {
-      came_so = ap (λ b. if◌then◌else◌ {A = Option Came} b (Some FromHost) came) switch;
-      same_end = refl;
-      known_so = sym (ap (λ b. if◌then◌else◌ {A = Pmac} b
-          (pmac_of (unwrap_or (mac_of_pmac (source_pmac v port frame)) (source_of frame))) (pmac_of (source_of frame))) switch);
-    } in
+    let on : IsSentOn v port frame came frame = switch_sent_on v port frame whole switch in
     either_drops (CauseHolds v port frame cause) (not (is_placed v.place) || unknown) (does v (Drop NotPlaced ∷ [])) sent cause
     (λ nowhere lost. drop_holds v port frame NotPlaced cause
     (ap (λ b. not (is_placed v.place) || (if◌then◌else◌ {A = Bool} b (has_no_hosts v) unknown)) switch ∙ nowhere) lost)
@@ -161,4 +169,4 @@ dropped_frames_have_causes choose v port frame cause is_choice shaped coming dat
     by true false host away lost = host_drops choose port frame known.view cause is_choice coming.whole found.open_to_hosts
         (finds_then_served v port frame shaped coming.within)
         (sym (first_behind known.acts (takes_in_or_spent choose port frame known.view).acts found.on) ∙ lost)
-    by false away host at lost = switch_drops choose v port frame cause is_choice host lost
+    by false away host at lost = switch_drops choose v port frame cause is_choice coming.whole host lost

@@ -63,14 +63,14 @@ redirects_on_go_on : (further : Trap → List Act) (old : Pmac) (o : Option Trap
 redirects_on_go_on further old None each = tt
 redirects_on_go_on further old (Some trap) each = (tt, each trap)
 
-redirects_go_on : (n : ℕ) (v : SwitchView) (trap : Trap) → AllGoOn (redirects n v trap)
+pub redirects_go_on : (n : ℕ) (v : SwitchView) (trap : Trap) → AllGoOn (redirects n v trap)
 unfolding redirects
 redirects_go_on zero v trap = tt
 redirects_go_on (suc n) v trap =
     redirects_on_go_on (redirects n v) trap.new (if_newer trap (trap_for v trap.new)) (λ next. redirects_go_on n v next)
 
 -- the destination that was put into the frame
-new_destination : (sent : List ℕ) (address : Pmac) → destination (with_destination sent (mac_of address)) ≡ pmac_of (mac_of address)
+pub new_destination : (sent : List ℕ) (address : Pmac) → destination (with_destination sent (mac_of address)) ≡ pmac_of (mac_of address)
 new_destination sent address =
     let bytes : List ℕ = (mac_of address).0 in
     let to : List ℕ → Mac = λ front. record { 0 = front } in

@@ -1,5 +1,5 @@
 -- Why a frame that leaves a switch is dropped: a unicast frame, and a frame to a group.
-use Rattle.std.proofs.Common.{◌≡◌, ℕ, Bool, true, false, if◌then◌else◌, List, [], ◌∷◌, map, Option, Some, None, refl, sym, ap, subst, ◌∙◌, inl, inr}
+use Rattle.std.proofs.Common.{◌≡◌, ◌≤◌, ℕ, Bool, true, false, if◌then◌else◌, List, [], ◌∷◌, length, map, Option, Some, None, refl, sym, ap, subst, ◌∙◌, inl, inr}
 use Rattle.std.proofs.lemmas.Option.{same_Some}
 use Rattle.std.specs.Option.{unwrap_or}
 use Rattle.pl_frame.specs.declared.address.Mac.{Mac}
@@ -15,6 +15,7 @@ use Rattle.pl_switch_rule.specs.DropCauses.{CauseHolds, HasNoPlace, came_in, fir
 use Rattle.pl_switch_rule.specs.Forwarding.{Choice, candidates_by, forwards, leaves_by}
 use Rattle.pl_switch_rule.specs.Granting.{is_local}
 use Rattle.pl_switch_rule.specs.GroupForwarding.{forwards_group, destination_group, group_ports, no_way, passes_or_drops, way_of}
+use Rattle.pl_layouts.specs.Frames.{is_arp}
 use Rattle.pl_layouts.specs.Memberships.{flood, group_of, is_group}
 use Rattle.pl_switch_rule.specs.SwitchRule.{IsChoice}
 use Rattle.pl_core.specs.SwitchViews.{SwitchView}
@@ -49,8 +50,10 @@ pub record IsSentOn (v : SwitchView) (port : ℕ) (frame : List ℕ) (came : Opt
   pub came_so : came_in v port ≡ came
   pub same_end : destination_of sent ≡ destination_of frame
   pub known_so : pmac_of (source_of sent) ≡ known_source v port frame
+  pub same_kind : is_arp sent ≡ is_arp frame
+  pub long : 14 ≤ length sent
 
-passes_drop_none : (ports sent : List ℕ) → first_drop (map (λ p. Pass p sent) ports) ≡ None
+pub passes_drop_none : (ports sent : List ℕ) → first_drop (map (λ p. Pass p sent) ports) ≡ None
 passes_drop_none [] sent = refl
 passes_drop_none (p ∷ ports) sent = passes_drop_none ports sent
 
@@ -65,7 +68,7 @@ no_place_holds v port frame true cause lost named = subst (CauseHolds v port fra
 no_place_holds v port frame false cause lost named = subst (CauseHolds v port frame) named (inl lost)
 
 -- the number of the group of this destination
-abbrev number_to : Mac → ℕ
+abbrev pub number_to : Mac → ℕ
 number_to to = unwrap_or (group_of to) flood
 
 pub forwards_group_drops : (v : SwitchView) (port : ℕ) (frame : List ℕ) (came : Option Came) (sent : List ℕ) (cause : Cause) →

@@ -193,7 +193,7 @@ hears_settles_in old v =
     hears_either v (has_become_placed old v.place) (grants_remembered (ports_of_switch v.k) v) (rests v)
     (hears_grants_remembered (ports_of_switch v.k) v) (hears_rests v)
 
-hears_changes_to : (old new : SwitchView) → Hears new (changes_to old new)
+pub hears_changes_to : (old new : SwitchView) → Hears new (changes_to old new)
 hears_changes_to old new = let b = hears_settles_in old.place new in record {
   ports = b.ports;
   on = all_append GoesOn (changes_told old new) (settles_in old.place new).acts
@@ -240,7 +240,7 @@ finds_then_served v port frame shaped within =
 
 -- Members.
 
-tells_group : (old new : List Member) (group : ℕ) → AllGoOn (group_told old new group)
+pub tells_group : (old new : List Member) (group : ℕ) → AllGoOn (group_told old new group)
 tells_group old new group =
     go_on_if (are_alike (has_member_of old group) (has_member_of new group)) [] (Tell (Members group (has_member_of new group)) ∷ []) tt (tt, tt)
 

@@ -19,3 +19,7 @@ pub mod LearntSources
 pub mod DroppedOut
 pub mod DroppedHome
 pub mod DroppedFrames
+pub mod FirstCauses
+pub mod CausesHere
+pub mod CausesOfData
+pub mod CausesOfSteps

@@ -11,4 +11,5 @@ pub mod Intake
 pub mod Messages
 pub mod SwitchRule
 pub mod DropCauses
+pub mod CauseOf
 pub mod HostsAlone

@@ -1,0 +1,181 @@
+-- In each step frames are dropped for the first cause that holds.
+use Rattle.std.proofs.Common.{◌≡◌, ◌&&◌, not, nat_lt, ℕ, Bool, true, false, if◌then◌else◌, List, [], ◌∷◌, ◌++◌, map, Option, Some, None, Result, Ok, Err, refl, sym, ap, subst, ◌∙◌}
+use Rattle.std.specs.List.{filter}
+use Rattle.std.proofs.lemmas.Bool.{cond_both}
+use Rattle.pl_frame.specs.declared.address.Ip4.{Ip4}
+use Rattle.pl_frame.specs.declared.address.Mac.{Mac}
+use Rattle.pl_frame.specs.declared.address.SwitchId.{SwitchId}
+use Rattle.pl_frame.specs.Ethernet.{destination_of, payload_of, source_of}
+use Rattle.pl_arp.specs.declared.packet.Arp.{Arp}
+use Rattle.pl_pmac.specs.declared.pmac.Pmac.{Pmac}
+use Rattle.pl_pmac.specs.Pmac.{mac_of, pmac_of}
+use Rattle.pl_core.specs.Accounting.{CanCome, IsComing, IsShaped}
+use Rattle.pl_core.specs.Announcements.{announcement}
+use Rattle.pl_core.specs.PortRecords.{place_at, port_of, ports_where}
+use Rattle.pl_core.specs.SwitchInputs.{SwitchInput}
+use Rattle.pl_core.specs.SwitchInputs.SwitchInput.{Comes, Says, Tick}
+use Rattle.pl_core.specs.SwitchViews.{Grant, SwitchView}
+use Rattle.pl_core.specs.declared.acts.Act.{Act}
+use Rattle.pl_core.specs.declared.acts.Act.TheVariants.{Control as ControlAct, Make}
+use Rattle.pl_core.specs.declared.messages.ToSwitch.{ToSwitch}
+use Rattle.pl_core.specs.declared.messages.ToSwitch.TheVariants.{Answer, Avoid, Flood, Invalidate, Pod, Tree}
+use Rattle.pl_core.specs.declared.trap.Trap.{Trap}
+use Rattle.pl_journal.specs.declared.cause.Cause.{Cause}
+use Rattle.pl_journal.specs.declared.cause.Cause.TheVariants.{NoNextHop}
+use Rattle.pl_layouts.specs.ArpFrames.{arp_frame, broadcast, no_mac}
+use Rattle.pl_layouts.specs.Control.{control_in, is_control}
+use Rattle.pl_layouts.specs.Memberships.{flood}
+use Rattle.pl_layouts.specs.Placement.{is_known}
+use Rattle.pl_layouts.specs.declared.control.Control.{Control}
+use Rattle.pl_layouts.specs.declared.control.Control.TheVariants as control
+use Rattle.pl_layouts.specs.declared.control.ControlError.{ControlError}
+use Rattle.pl_layouts.specs.declared.control.Proposal.{Proposal}
+use Rattle.pl_switch_rule.specs.declared.came.Came.TheVariants.{FromHost}
+use Rattle.pl_switch_rule.specs.Announcing.{announcements, announces_at, proposal, proposes_at, ticks, with_aged_ports}
+use Rattle.pl_switch_rule.specs.CauseOf.{DropsFor, DropsForFirstCause, by_intake, cause_from_here, cause_of, cause_of_made, cause_of_message, cause_to, if_nowhere, if_sent_on, intake, reply_to}
+use Rattle.pl_switch_rule.specs.Delivering.{makes}
+use Rattle.pl_switch_rule.specs.DropCauses.{first_drop, seen}
+use Rattle.pl_switch_rule.specs.Forwarding.{Choice}
+use Rattle.pl_switch_rule.specs.Granting.{granted, is_granted}
+use Rattle.pl_switch_rule.specs.GroupForwarding.{destination_group, forwards_group, group_ports, group_ports_up, no_way}
+use Rattle.pl_switch_rule.specs.Intake.{group_told, groups_of, is_member}
+use Rattle.pl_switch_rule.specs.Levels.{after_message, changes_to, with_pod}
+use Rattle.pl_switch_rule.specs.Messages.{answer_frame, flood_frame, floods, forgets_members, hears_manager, hears_pod, invalidates, probes, probes_at, sets_trap, takes_pod}
+use Rattle.pl_switch_rule.specs.Positions.{after_vote, answers_proposal, frees_others, half, hears_proposal}
+use Rattle.pl_switch_rule.specs.Steps.{SwitchStep, does, rests, ◌▹◌}
+use Rattle.pl_switch_rule.specs.SwitchRule.{Exact, IsChoice, Loose, Steps, by_flow, control_comes, data_comes, hears_control, switch_step}
+use Rattle.pl_switch_rule.specs.Telling.{changes_told}
+use Rattle.pl_switch_rule.proofs.AccountedSteps.{exact_is_loose}
+use Rattle.pl_switch_rule.proofs.CausesHere.{destination_of-arp_frame, makes_drops_for}
+use Rattle.pl_switch_rule.proofs.CausesOfData.{data_drops_for, passes_cause, passes_make_none}
+use Rattle.pl_switch_rule.proofs.DataFrames.{six_of_pmac}
+use Rattle.pl_switch_rule.proofs.DroppedOut.{number_to}
+use Rattle.pl_switch_rule.proofs.FirstCauses.{drops_behind, drops_made, drops_nothing}
+use Rattle.pl_switch_rule.proofs.FirstDrops.{AllGoOn, GoesOn, go_on_flat_map, quiet_go_on}
+use Rattle.pl_switch_rule.proofs.LearntSources.{hears_changes_to, tells_group}
+use Rattle.pl_switch_rule.proofs.LevelParts.{quiet_changes_told}
+use Rattle.pl_switch_rule.proofs.StepParts.{all_append}
+
+-- A control frame, and a tick.
+
+proposal_goes_on : (v : SwitchView) (port : ℕ) (edge : SwitchId) (p : Proposal) → AllGoOn (hears_proposal v port edge p).acts
+proposal_goes_on v port edge p =
+    cond_both (is_known v.place.level 1 && is_known (place_at v port).level 0 && nat_lt p.position (half v.k))
+    (answers_proposal (frees_others v edge p.position) port edge p) (rests v) (λ s. AllGoOn s.acts) (λ yes. (tt, tt)) (λ no_answer. tt)
+
+control_goes_on : (v : SwitchView) (port : ℕ) (read : Result Control ControlError) → AllGoOn (hears_control v port read).acts
+control_goes_on v port (Err e) = tt
+control_goes_on v port (Ok (control.Ldm id m)) = let heard = hears_changes_to v (after_message v port id m) in heard.on
+control_goes_on v port (Ok (control.Proposal id p)) = proposal_goes_on v port id p
+control_goes_on v port (Ok (control.Vote id vote)) = let heard = hears_changes_to v (after_vote v port vote) in heard.on
+
+control_comes_goes_on : (v : SwitchView) (port : ℕ) (frame : List ℕ) → AllGoOn (control_comes v port frame).acts
+control_comes_goes_on v port frame =
+    let read = control_in (payload_of frame) in
+    cond_both (port_of v port).host (rests v) (hears_control v port read) (λ s. AllGoOn s.acts) (λ host. tt) (λ other. control_goes_on v port read)
+
+controls_go_on : (frame : ℕ → List ℕ) (ports : List ℕ) → AllGoOn (map (λ port. ControlAct port (frame port)) ports)
+controls_go_on frame [] = tt
+controls_go_on frame (port ∷ ports) = (tt, controls_go_on frame ports)
+
+tick_goes_on : (v : SwitchView) → AllGoOn (ticks v).acts
+tick_goes_on v =
+    let new : SwitchView = with_aged_ports v in
+    let told : List Act = map (λ port. ControlAct port (announcement new port)) (ports_where new (announces_at new)) in
+    let asked : List Act = map (λ port. ControlAct port (proposal new)) (ports_where new (proposes_at new)) in
+    all_append GoesOn (changes_told v new) (told ++ asked) (quiet_go_on v.k (changes_told v new) (quiet_changes_told v.k v new))
+    (all_append GoesOn told asked (controls_go_on (announcement new) (ports_where new (announces_at new)))
+    (controls_go_on (λ port. proposal new) (ports_where new (proposes_at new))))
+
+-- Messages of the manager.
+
+pod_goes_on : (v : SwitchView) (pod : ℕ) → AllGoOn (hears_pod v pod).acts
+pod_goes_on v pod =
+    cond_both (takes_pod v pod) (changes_to v (with_pod v (Some pod))) (rests v) (λ s. AllGoOn s.acts)
+    (λ yes. let heard = hears_changes_to v (with_pod v (Some pod)) in heard.on) (λ other. tt)
+
+-- one of two parts, the other of which does nothing
+either_or_rests : (v : SwitchView) (test : Bool) (s : SwitchStep) (y : Option Cause) → DropsFor s.acts None y →
+    DropsFor (if test then s else rests v).acts None (if test then y else None)
+either_or_rests v true s y d = d
+either_or_rests v false s y d = drops_nothing [] tt
+
+answer_drops_for : (choose : Choice) (v : SwitchView) (asker : Pmac) (asker_ip ip : Ip4) (pmac : Pmac) → IsChoice choose →
+    DropsFor (hears_manager choose v (Answer asker asker_ip ip pmac)).acts None (cause_of_message v (Answer asker asker_ip ip pmac))
+answer_drops_for choose v asker asker_ip ip pmac is_choice =
+    let arp : Arp = record { op = 2; sha = mac_of pmac; spa = ip; tha = mac_of asker; tpa = asker_ip } in
+    either_or_rests v (is_granted v asker) (makes choose (answer_frame asker asker_ip ip pmac) v) (cause_from_here v (pmac_of (mac_of asker)))
+    (makes_drops_for choose v (mac_of asker) arp is_choice (six_of_pmac asker))
+
+flood_drops_for : (choose : Choice) (v : SwitchView) (asker : Pmac) (asker_ip ip : Ip4) →
+    DropsFor (hears_manager choose v (Flood asker asker_ip ip)).acts None (cause_of_message v (Flood asker asker_ip ip))
+flood_drops_for choose v asker asker_ip ip =
+    let arp : Arp = record { op = 1; sha = mac_of asker; spa = asker_ip; tha = no_mac; tpa = ip } in
+    let frame : List ℕ = flood_frame asker asker_ip ip in
+    let number : destination_group frame ≡ flood = ap number_to (destination_of-arp_frame broadcast arp refl) in
+    let ports : List ℕ = group_ports_up v (destination_group frame) in
+    let named : Cause = no_way v (Some FromHost) (destination_group frame) in
+    either_or_rests v (is_granted v asker) (floods v frame) (if_nowhere (group_ports_up v flood) NoNextHop)
+    (drops_made frame (forwards_group v (Some FromHost) frame).acts (if_nowhere (group_ports_up v flood) NoNextHop)
+    (passes_make_none ports frame named)
+    (passes_cause ports frame named ∙ ap (λ g. if_nowhere (group_ports_up v g) (no_way v (Some FromHost) g)) number))
+
+probe_drops_for : (old : Pmac) (amac : Mac) (o : Option Ip4) (v : SwitchView) → DropsFor (probes_at old amac o v).acts None None
+probe_drops_for old amac None v = drops_nothing [] tt
+probe_drops_for old amac (Some ip) v = record { came = refl; made = refl; once = refl }
+
+probes_drop_for : (old : Pmac) (grant : Grant) (v : SwitchView) → DropsFor (probes old grant v).acts None None
+probes_drop_for old grant v =
+    cond_both grant.in_use (probes_at old grant.amac grant.ip v) (rests v) (λ s. DropsFor s.acts None None)
+    (λ used. probe_drops_for old grant.amac grant.ip v) (λ other. drops_nothing [] tt)
+
+members_go_on : (v : SwitchView) (port : ℕ) (amac : Mac) → AllGoOn (forgets_members port amac v).acts
+members_go_on v port amac =
+    let members = filter (λ m. not (is_member port amac m)) v.members in
+    go_on_flat_map (group_told v.members members) (groups_of (v.members ++ members)) (tells_group v.members members)
+
+invalidate_drops_for : (v : SwitchView) (old : Pmac) (trap : Trap) (o : Option Grant) → DropsFor (invalidates v old trap o).acts None None
+invalidate_drops_for v old trap None = drops_nothing [] tt
+invalidate_drops_for v old trap (Some grant) =
+    let set : SwitchView = sets_trap v old grant trap in
+    let forgot : SwitchStep = forgets_members old.port grant.amac set in
+    drops_behind forgot.acts (probes old grant forgot.view).acts None None (members_go_on set old.port grant.amac)
+    (probes_drop_for old grant forgot.view)
+
+says_drops_for : (choose : Choice) (v : SwitchView) (says : ToSwitch) → IsChoice choose →
+    DropsFor (hears_manager choose v says).acts None (cause_of_message v says)
+says_drops_for choose v (Pod pod) is_choice = drops_nothing (hears_pod v pod).acts (pod_goes_on v pod)
+says_drops_for choose v (Avoid list) is_choice = drops_nothing [] tt
+says_drops_for choose v (Tree group part) is_choice = drops_nothing [] tt
+says_drops_for choose v (Answer asker asker_ip ip pmac) is_choice = answer_drops_for choose v asker asker_ip ip pmac is_choice
+says_drops_for choose v (Flood asker asker_ip ip) is_choice = flood_drops_for choose v asker asker_ip ip
+says_drops_for choose v (Invalidate old new number ip) is_choice =
+    invalidate_drops_for v old (record { new = new; number = number; ip = ip }) (granted v old)
+
+-- Each step.
+
+comes_drops_for : (choose : Choice) (v : SwitchView) (port : ℕ) (frame : List ℕ) (test : Bool) (x y : Option Cause) →
+    DropsFor (data_comes choose v port frame).acts x y →
+    DropsFor (if test then control_comes v port frame else data_comes choose v port frame).acts (if test then None else x) (if test then None else y)
+comes_drops_for choose v port frame true x y d = drops_nothing (control_comes v port frame).acts (control_comes_goes_on v port frame)
+comes_drops_for choose v port frame false x y d = d
+
+step_drops_for : (choose : Choice) (v : SwitchView) (input : SwitchInput) → IsChoice choose → IsShaped v → CanCome v input →
+    DropsFor (switch_step choose v input).acts (cause_of v input) (cause_of_made v input)
+step_drops_for choose v (Comes port frame) is_choice shaped coming =
+    let now : SwitchView = seen v port frame in
+    comes_drops_for choose v port frame (is_control frame)
+    (by_intake (intake v port frame) (cause_to now port frame (destination_of frame)))
+    (if_sent_on (intake v port frame) (reply_to now port frame (destination_of frame)))
+    (data_drops_for choose v port frame is_choice shaped coming)
+step_drops_for choose v Tick is_choice shaped coming = drops_nothing (ticks v).acts (tick_goes_on v)
+step_drops_for choose v (Says says) is_choice shaped coming = says_drops_for choose v says is_choice
+
+pub loose_drops_for_first_cause : DropsForFirstCause Loose
+loose_drops_for_first_cause old input new acts shaped coming loose =
+    subst (λ done. DropsFor done (cause_of old input) (cause_of_made old input)) (sym loose.steps.done)
+    (step_drops_for loose.choose old input loose.is_choice shaped coming)
+
+pub exact_drops_for_first_cause : DropsForFirstCause Exact
+exact_drops_for_first_cause old input new acts shaped coming steps =
+    loose_drops_for_first_cause old input new acts shaped coming (exact_is_loose old input new acts steps)

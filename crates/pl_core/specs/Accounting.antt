@@ -137,3 +137,7 @@ AccountsForFrames rule = (old : SwitchView) (input : SwitchInput) (new : SwitchV
 abbrev pub IsWithin : SwitchRule → SwitchRule → Type 0
 IsWithin rule other = (old : SwitchView) (input : SwitchInput) (new : SwitchView) (acts : List Act) →
     rule old input new acts → other old input new acts
+
+-- two rules allow the same
+abbrev pub AreOneRule : SwitchRule → SwitchRule → Type 0
+AreOneRule rule other = IsWithin rule other × IsWithin other rule

@@ -4,6 +4,7 @@
 pub use came::{Came, Way};
 pub use candidate::is_candidate;
 pub use cause_laws::{a_dropped_frame_has_its_cause, each_drop_is_for_the_first_cause};
+pub use lawful_switch::{LawfulSwitch, a_lawful_switch_is_loose};
 pub use loose_switch::LooseSwitch;
 pub use switch_laws::{
     a_new_switch_is_shaped, each_step_accounts_for_its_frames, exact_steps_are_loose,
@@ -12,5 +13,6 @@ pub use switch_laws::{
 mod came;
 mod candidate;
 mod cause_laws;
+mod lawful_switch;
 mod loose_switch;
 mod switch_laws;

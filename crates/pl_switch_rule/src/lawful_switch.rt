@@ -1,0 +1,14 @@
+ghost use Rattle.pl_core.specs.Accounting.{AreOneRule, IsWithin};
+ghost use Rattle.pl_switch_rule.specs.SwitchRule.{Exact, Loose};
+
+use pl_core::SwitchCore;
+
+/// A switch that does all by the rule, and takes of the candidate ports the one that the flow names.
+pub trait LawfulSwitch: SwitchCore {
+    ghost lawful: { AreOneRule Self.rule Exact };
+}
+
+/// Such a switch does no more than one that chooses among the candidate ports as it likes.
+pub fn a_lawful_switch_is_loose<S: LawfulSwitch>()
+    ensures { IsWithin S.rule Loose }
+{}

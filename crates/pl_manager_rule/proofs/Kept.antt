@@ -83,7 +83,7 @@ asked_is_given (s ∷ askers) t h =
     by rest false given (inr k) = or_right (same_switch s t) (list_any (λ g. same_switch g.switch t) (pods_given askers)) (rest k)
 
 -- a test that would hold elsewhere holds nowhere
-none_where : (a b : Bool) → (a ≡ true → b ≡ true) → b ≡ false → a ≡ false
+pub none_where : (a b : Bool) → (a ≡ true → b ≡ true) → b ≡ false → a ≡ false
 none_where true b f e = absurd (false≢true (sym e ∙ f refl))
 none_where false b f e = refl
 

@@ -30,7 +30,7 @@ found_where_any test (x ∷ xs) h = by (λ k. found_where_any test xs k) (test x
     by rest false k = rest k
 
 -- an address that is registered was learnt
-registered_is_learnt : (addresses : List LearntAddress) (x : Pmac) → list_any (λ r. same_pmac r.pmac x) (numbered addresses) ≡ true →
+pub registered_is_learnt : (addresses : List LearntAddress) (x : Pmac) → list_any (λ r. same_pmac r.pmac x) (numbered addresses) ≡ true →
     list_any (λ a. same_pmac a.pmac x) addresses ≡ true
 registered_is_learnt [] x h = h
 registered_is_learnt (a ∷ addresses) x h = by (λ k. registered_is_learnt addresses x k) (list_any (λ r. same_pmac r.pmac a.pmac) (numbered addresses)) h

@@ -17,6 +17,7 @@ use Rattle.pl_core.specs.HostViews.{ip_cmp}
 use Rattle.pl_core.specs.ManagerViews.{LearntAddress, ManagerView, PodGiven, Registration, booted_manager, id_cmp, link_cmp, members_cmp, numbered, pods_given}
 use Rattle.pl_core.proofs.Among.{id_total}
 use Rattle.pl_manager_rule.specs.ManagerRule.{manager_hears, told_again, view_after, with_address, with_asker, with_owner}
+use Rattle.pl_manager_rule.specs.Histories.{Word, known}
 use Rattle.pl_manager_rule.specs.Repeats.{IsInOrder}
 use Rattle.pl_manager_rule.proofs.Avoided.{both_equal, id_exact, same_is}
 use Rattle.pl_manager_rule.proofs.Registered.{pmac_turned, switch_turned}
@@ -184,3 +185,7 @@ kept view s (tell.Members group any) o = record {
 pub stays_in_order : (view : ManagerView) (s : SwitchId) (says : ToManager) → IsInOrder view → IsInOrder (manager_hears view s says).view
 unfolding manager_hears
 stays_in_order view s says o = kept view s says o
+
+pub reached_in_order : (k : ℕ) (words : List Word) → IsInOrder (known k words)
+reached_in_order k [] = boots_in_order k
+reached_in_order k (w ∷ before) = stays_in_order (known k before) w.switch w.says (reached_in_order k before)

@@ -75,6 +75,7 @@ pub fn what_is_known_stays_in_order()
     ensures boots { (k : ℕ) → IsInOrder (booted_manager k) }
     ensures stays { (view : ManagerView) (s : SwitchId) (says : ToManager) →
         IsInOrder view → IsInOrder (manager_hears view s says).view }
+    ensures reached { (k : ℕ) (words : List Word) → IsInOrder (known k words) }
 {}
 
 /// A word that a switch told last already changes nothing that is known and brings no act about: only a

@@ -1,7 +1,7 @@
 -- What the fabric manager knows is what was told last.
-use Rattle.std.proofs.Common.{◌≡◌, ◌⊎◌, ℕ, ◌+◌, ◌==◌, ◌&&◌, ◌||◌, Bool, true, false, cond, List, [], ◌∷◌, length, map, Option, Some, None, Ordering, Less, Equal, Greater, refl, sym, ap, ◌∙◌, subst, inl, inr}
+use Rattle.std.proofs.Common.{◌≡◌, ℕ, ◌+◌, ◌==◌, ◌&&◌, ◌||◌, Bool, true, false, cond, List, [], ◌∷◌, length, map, Option, Some, None, Ordering, Less, Equal, Greater, refl, sym, ap, ◌∙◌, subst}
 use Rattle.std.specs.List.{find, list_any}
-use Rattle.std.specs.Option.{option_and_then, option_map, option_or}
+use Rattle.std.specs.Option.{option_and_then, option_or}
 use Rattle.std.specs.BTreeMap.{insert_entry}
 use Rattle.std.specs.Cmp.{Equal-is, IsTotalOrder}
 use Rattle.std.specs.Ordering.{is_eq, match_ordering}
@@ -18,10 +18,10 @@ use Rattle.pl_core.specs.HostViews.{ip_cmp}
 use Rattle.pl_core.specs.ManagerViews.{LearntAddress, PodGiven, Registration, id_cmp, ip_of, link_cmp, members_cmp, numbered, pods_given, registry, told_with, value_at}
 use Rattle.pl_core.proofs.Among.{id_total}
 use Rattle.pl_manager_rule.specs.ManagerRule.{manager_hears, told_again, view_after, with_address, with_asker}
-use Rattle.pl_manager_rule.specs.Histories.{Word, ip_said, is_ip, known, link_said, members_said, owner_said, place_said, pods_after, pods_asked, registered, registered_after, said_by, said_last}
+use Rattle.pl_manager_rule.specs.Histories.{Word, ip_said, known, link_said, members_said, owner_said, place_said, pods_after, pods_asked, registered, registered_after, said_by, said_last}
 use Rattle.pl_manager_rule.proofs.Avoided.{id_exact, same_is}
 use Rattle.pl_manager_rule.proofs.HeardSwitches.{same_numbers}
-use Rattle.pl_manager_rule.proofs.Kept.{ip_exact, ip_total, learnt_is_registered, link_exact, link_total, members_exact, members_total, none_where, pmac_is, pmac_itself}
+use Rattle.pl_manager_rule.proofs.Kept.{ip_exact, ip_total, learnt_is_registered, link_exact, link_total, members_exact, members_total, none_where, pmac_is}
 use Rattle.pl_manager_rule.proofs.Speakers.{same_itself}
 use Rattle.pl_manager_rule.proofs.ToldLast.{registered_is_learnt}
 
@@ -120,10 +120,10 @@ module _ (k : ℕ) where
       by (tell.Link v usable) =
           word_after link_cmp link_total link_exact (known k before).told.links (w.switch, v) (s, u) usable (same_switch w.switch s && same_switch v u)
           (λ h. let two = and_parts (same_switch w.switch s) (same_switch v u) h in
-              λ i. (sym (same_is w.switch s two.0) i, sym (same_is v u two.1) i))
+          λ i. (sym (same_is w.switch s two.0) i, sym (same_is v u two.1) i))
           (λ e. and_from (same_switch w.switch s) (same_switch v u)
-              (subst (λ t. same_switch t s ≡ true) (ap (λ (p : SwitchId × SwitchId). p.0) e) (same_itself s))
-              (subst (λ t. same_switch t u ≡ true) (ap (λ (p : SwitchId × SwitchId). p.1) e) (same_itself u)))
+          (subst (λ t. same_switch t s ≡ true) (ap (λ (p : SwitchId × SwitchId). p.0) e) (same_itself s))
+          (subst (λ t. same_switch t u ≡ true) (ap (λ (p : SwitchId × SwitchId). p.1) e) (same_itself u)))
           ∙ ap (λ x. option_or x (value_at link_cmp (known k before).told.links (s, u))) (nested (same_switch w.switch s) (same_switch v u) (Some usable))
       by (tell.Place place) = silent (same_switch w.switch s) (value_at link_cmp (known k before).told.links (s, u))
       by tell.PodWanted = silent (same_switch w.switch s) (value_at link_cmp (known k before).told.links (s, u))
@@ -142,10 +142,10 @@ module _ (k : ℕ) where
       by (tell.Members g any) =
           word_after members_cmp members_total members_exact (known k before).members (w.switch, g) (s, group) any (same_switch w.switch s && (g == group))
           (λ h. let two = and_parts (same_switch w.switch s) (g == group) h in
-              λ i. (sym (same_is w.switch s two.0) i, sym (eqb-true g group two.1) i))
+          λ i. (sym (same_is w.switch s two.0) i, sym (eqb-true g group two.1) i))
           (λ e. and_from (same_switch w.switch s) (g == group)
-              (subst (λ t. same_switch t s ≡ true) (ap (λ (p : SwitchId × ℕ). p.0) e) (same_itself s))
-              (eq-eqb g group (sym (ap (λ (p : SwitchId × ℕ). p.1) e))))
+          (subst (λ t. same_switch t s ≡ true) (ap (λ (p : SwitchId × ℕ). p.0) e) (same_itself s))
+          (eq-eqb g group (sym (ap (λ (p : SwitchId × ℕ). p.1) e))))
           ∙ ap (λ x. option_or x (value_at members_cmp (known k before).members (s, group))) (nested (same_switch w.switch s) (g == group) (Some any))
       by (tell.Place place) = silent (same_switch w.switch s) (value_at members_cmp (known k before).members (s, group))
       by (tell.Link u usable) = silent (same_switch w.switch s) (value_at members_cmp (known k before).members (s, group))
@@ -230,8 +230,8 @@ ip_first addresses new x fresh = by (same_pmac new.pmac x) refl
     by true is =
         let pmacs = map (λ a. a.pmac) addresses in
         let none = none_there addresses new.pmac
-            (none_where (list_any (λ p. same_pmac p new.pmac) pmacs) (list_any (λ r. same_pmac r.pmac new.pmac) (numbered addresses))
-            (learnt_is_registered addresses new.pmac) fresh) in
+        (none_where (list_any (λ p. same_pmac p new.pmac) pmacs) (list_any (λ r. same_pmac r.pmac new.pmac) (numbered addresses))
+        (learnt_is_registered addresses new.pmac) fresh) in
         only new.ip ∙ ap (option_or new.ip) (sym none ∙ ap (ip_in addresses) (pmac_is new.pmac x is))
     by false is = refl
 
@@ -242,7 +242,7 @@ ip_same new [] h = absurd (false≢true h)
 ip_same new (a ∷ addresses) h = step (λ j. ip_same new addresses j) (same_pmac a.pmac new.pmac) refl h
   where
     step : (list_any (λ c. same_pmac c.pmac new.pmac) addresses ≡ true →
-          ip_in (map (told_again new) addresses) new.pmac ≡ option_or new.ip (ip_in addresses new.pmac)) →
+        ip_in (map (told_again new) addresses) new.pmac ≡ option_or new.ip (ip_in addresses new.pmac)) →
         (b : Bool) → same_pmac a.pmac new.pmac ≡ b → (b || list_any (λ c. same_pmac c.pmac new.pmac) addresses) ≡ true →
         option_and_then (λ (c : LearntAddress). c.ip) (cond b (Some (told_again new a)) (find (λ c. same_pmac c.pmac new.pmac) (map (told_again new) addresses)))
         ≡ option_or new.ip (option_and_then (λ (c : LearntAddress). c.ip) (cond b (Some a) (find (λ c. same_pmac c.pmac new.pmac) addresses)))

@@ -1,5 +1,5 @@
 -- What the fabric manager knows stays in order.
-use Rattle.std.proofs.Common.{◌≡◌, ◌⊎◌, ℕ, ◌+◌, ◌==◌, ◌&&◌, ◌||◌, Bool, true, false, cond, List, [], ◌∷◌, length, map, Option, Some, None, Ordering, Equal, nat_cmp, refl, sym, ap, ◌∙◌, subst, inl, inr}
+use Rattle.std.proofs.Common.{◌≡◌, ◌⊎◌, ℕ, ◌+◌, ◌==◌, ◌&&◌, Bool, true, false, cond, List, [], ◌∷◌, length, map, Option, Some, None, nat_cmp, refl, sym, ap, ◌∙◌, subst, inl, inr}
 use Rattle.std.specs.List.{AllByRecursion, IsDistinct, list_any}
 use Rattle.std.specs.List.Sorted.{IsStrictlySortedBy}
 use Rattle.std.specs.Map.{keys_of}
@@ -158,28 +158,44 @@ boots_in_order k = record { places = tt; links = tt; members = tt; askers = tt; 
 kept : (view : ManagerView) (s : SwitchId) (says : ToManager) → IsInOrder view → IsInOrder (view_after view s says)
 kept view s (tell.Place place) o = record {
   places = rising_put id_cmp id_total view.told.places s place o.places;
-  links = o.links; members = o.members; askers = o.askers; addresses = o.addresses; owners = o.owners;
+  links = o.links;
+  members = o.members;
+  askers = o.askers;
+  addresses = o.addresses;
+  owners = o.owners;
 }
 kept view s (tell.Link u usable) o = record {
   places = o.places;
   links = rising_put link_cmp link_total view.told.links (s, u) usable o.links;
-  members = o.members; askers = o.askers; addresses = o.addresses; owners = o.owners;
+  members = o.members;
+  askers = o.askers;
+  addresses = o.addresses;
+  owners = o.owners;
 }
 kept view s tell.PodWanted o = record {
-  places = o.places; links = o.links; members = o.members;
+  places = o.places;
+  links = o.links;
+  members = o.members;
   askers = askers_kept view.askers s o.askers;
-  addresses = o.addresses; owners = o.owners;
+  addresses = o.addresses;
+  owners = o.owners;
 }
 kept view s (tell.Learned pmac amac ip) o = record {
-  places = o.places; links = o.links; members = o.members; askers = o.askers;
+  places = o.places;
+  links = o.links;
+  members = o.members;
+  askers = o.askers;
   addresses = addresses_kept view.learnt.addresses (record { switch = s; pmac = pmac; amac = amac; ip = ip }) o.addresses;
   owners = owners_kept view.learnt.owners ip pmac o.owners;
 }
 kept view s (tell.Query asker asker_ip ip) o = o
 kept view s (tell.Members group any) o = record {
-  places = o.places; links = o.links;
+  places = o.places;
+  links = o.links;
   members = rising_put members_cmp members_total view.members (s, group) any o.members;
-  askers = o.askers; addresses = o.addresses; owners = o.owners;
+  askers = o.askers;
+  addresses = o.addresses;
+  owners = o.owners;
 }
 
 pub stays_in_order : (view : ManagerView) (s : SwitchId) (says : ToManager) → IsInOrder view → IsInOrder (manager_hears view s says).view

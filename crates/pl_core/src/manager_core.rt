@@ -9,8 +9,8 @@ ghost use Rattle.pl_core.specs.SwitchFacts.{IsTreeSize};
 ghost use Rattle.pl_core.specs.Trees.{tree_part};
 
 use crate::{AvoidList, ManagerOutbox, Memory, ToManager, TreePart};
-use pl_layouts::Place;
 use pl_frame::{Ip4, Mac, SwitchId};
+use pl_layouts::Place;
 use pl_pmac::Pmac;
 use std::alloc::Global;
 

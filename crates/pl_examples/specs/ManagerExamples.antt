@@ -1,6 +1,7 @@
 -- The fabric manager of a fat tree with k = 4, computed. Edge switches are 1 to 8, two to a pod, aggregation switches 9 to 16, two to a
 -- pod, and core switches 17 to 20; the first aggregation switch of a pod is linked to 17 and 18, the second to 19 and 20.
-use Rattle.std.specs.Prelude.{◌≡◌, ℕ, ◌+◌, ◌-◌, ◌*◌, ◌/◌, ◌%◌, nat_lt, Bool, true, false, if◌then◌else◌, List, [], ◌∷◌, ◌++◌, map, Option, Some, None, refl}
+use Rattle.std.specs.Prelude.{◌≡◌, ℕ, ◌+◌, ◌-◌, ◌*◌, ◌/◌, ◌%◌, nat_lt, Bool, true, false, if◌then◌else◌, List, [], ◌∷◌, ◌++◌, map, reverse, Option, Some, None, refl}
+use Rattle.std.specs.BTreeMap.{insert_entry}
 use Rattle.std.specs.List.{filter_map, flat_map, range_with_len}
 use Rattle.pl_frame.specs.declared.address.Ip4.{Ip4}
 use Rattle.pl_frame.specs.declared.address.Mac.{Mac}
@@ -14,9 +15,10 @@ use Rattle.pl_core.specs.declared.messages.ToSwitch.TheVariants as say
 use Rattle.pl_core.specs.declared.messages.TreePart.{TreePart}
 use Rattle.pl_layouts.specs.declared.place.Place.{Place}
 use Rattle.pl_layouts.specs.Memberships.{flood}
-use Rattle.pl_core.specs.ManagerViews.{ManagerView, Members, PodGiven, Told, booted_manager, pods_given, switches}
+use Rattle.pl_core.specs.ManagerViews.{ManagerView, Members, PodGiven, Told, booted_manager, members_cmp, pods_given, switches}
 use Rattle.pl_core.specs.AvoidLists.{avoid_list}
 use Rattle.pl_core.specs.Trees.{core_of, tree_part}
+use Rattle.pl_manager_rule.specs.Histories.{Word, known}
 use Rattle.pl_manager_rule.specs.ManagerRule.{changed, manager_hears, with_link}
 
 -- a switch by its id
@@ -84,8 +86,8 @@ unfolding avoid_list
 the_switch_that_is_cut_off_avoids_nothing = refl
 
 -- ---- trees: a group with members at the second edge switch of pod 0 and the first of pod 1
-abbrev two_edges : Bool → Members
-two_edges any = ((the_switch 2, 256), any) ∷ ((the_switch 3, 256), any) ∷ []
+abbrev two_edges : Bool → Members → Members
+two_edges any members = insert_entry members_cmp (insert_entry members_cmp members (the_switch 2, 256) any) (the_switch 3, 256) any
 
 -- parts with a neighbour above, and none or one below
 abbrev up_only : ℕ → Option TreePart
@@ -95,12 +97,12 @@ abbrev up_and_down : ℕ → ℕ → Option TreePart
 up_and_down n m = Some (record { up = Some (the_switch n); down = the_switch m ∷ [] })
 
 -- each of the four core switches reaches both edge switches; 256 modulo 4 is 0
-the_first_core_switch_is_chosen : core_of whole_tree (two_edges true) 256 ≡ Some (the_switch 17)
+the_first_core_switch_is_chosen : core_of whole_tree (two_edges true []) 256 ≡ Some (the_switch 17)
 unfolding core_of
 the_first_core_switch_is_chosen = refl
 
 -- switches 1 to 20: edge switches send up to the first aggregation switch of their pod; the other aggregation and core switches have no part
-parts_in_the_whole_tree : map (tree_part whole_tree (two_edges true) 256) (switches whole_tree)
+parts_in_the_whole_tree : map (tree_part whole_tree (two_edges true []) 256) (switches whole_tree)
     ≡ up_only 9 ∷ up_only 9 ∷ up_only 11 ∷ up_only 11 ∷ up_only 13 ∷ up_only 13 ∷ up_only 15 ∷ up_only 15
     ∷ up_and_down 17 2 ∷ None ∷ up_and_down 17 3 ∷ None ∷ up_only 17 ∷ None ∷ up_only 17 ∷ None
     ∷ Some (record { up = None; down = the_switch 9 ∷ the_switch 11 ∷ [] }) ∷ None ∷ None ∷ None ∷ []
@@ -108,11 +110,11 @@ unfolding tree_part core_of
 parts_in_the_whole_tree = refl
 
 -- after the cut only 19 and 20 reach both; 256 modulo 2 is 0
-the_core_switch_after_the_cut : core_of cut_tree (two_edges true) 256 ≡ Some (the_switch 19)
+the_core_switch_after_the_cut : core_of cut_tree (two_edges true []) 256 ≡ Some (the_switch 19)
 unfolding core_of
 the_core_switch_after_the_cut = refl
 
-parts_after_the_cut : map (tree_part cut_tree (two_edges true) 256) (switches cut_tree)
+parts_after_the_cut : map (tree_part cut_tree (two_edges true []) 256) (switches cut_tree)
     ≡ up_only 10 ∷ up_only 10 ∷ up_only 12 ∷ up_only 12 ∷ up_only 14 ∷ up_only 14 ∷ up_only 16 ∷ up_only 16
     ∷ None ∷ up_and_down 19 2 ∷ None ∷ up_and_down 19 3 ∷ None ∷ up_only 19 ∷ None ∷ up_only 19
     ∷ None ∷ None ∷ Some (record { up = None; down = the_switch 10 ∷ the_switch 12 ∷ [] }) ∷ None ∷ []
@@ -120,7 +122,7 @@ unfolding tree_part core_of
 parts_after_the_cut = refl
 
 -- a group that nobody needs any more
-nobody_has_a_part_without_members : map (tree_part whole_tree (two_edges false) 256) (switches whole_tree)
+nobody_has_a_part_without_members : map (tree_part whole_tree (two_edges false (two_edges true [])) 256) (switches whole_tree)
     ≡ map (λ n. None) (range_with_len 1 20)
 unfolding tree_part core_of
 nobody_has_a_part_without_members = refl
@@ -172,6 +174,45 @@ the_next_pod : (manager_hears three_askers (the_switch 7) tell.PodWanted).acts �
 unfolding manager_hears avoid_list tree_part core_of
 the_next_pod = refl
 
+-- ---- what was told last
+-- a switch by its number, and what it told
+abbrev told_by : ℕ → ToManager → Word
+told_by n says = record { switch = the_switch n; says = says }
+
+-- all switches told their places, and then their links, the last switch first
+abbrev words_of_the_tree : List Word
+words_of_the_tree =
+    flat_map (λ n. map (λ m. told_by n (tell.Link (the_switch m) true)) (linked_to n)) (range_with_len 1 20)
+    ++ map (λ n. told_by n (tell.Place (place_in_tree n))) (range_with_len 1 20)
+
+the_tables_of_the_tree : (known 4 words_of_the_tree).told ≡ whole_tree
+unfolding manager_hears
+the_tables_of_the_tree = refl
+
+-- the order in which the switches tell it is not known afterwards
+the_same_tables_in_another_order : (known 4 (reverse words_of_the_tree)).told ≡ whole_tree
+unfolding manager_hears
+the_same_tables_in_another_order = refl
+
+-- a switch tells its place, and the same again
+abbrev place_told_twice : List Word
+place_told_twice = told_by 9 (tell.Place (place_in_tree 9)) ∷ told_by 9 (tell.Place (place_in_tree 9)) ∷ []
+
+one_place_is_known : (known 4 place_told_twice).told ≡ record { places = (the_switch 9, place_in_tree 9) ∷ []; links = [] }
+unfolding manager_hears
+one_place_is_known = refl
+
+the_later_word_on_a_link_stands :
+    (known 4 (told_by 9 (tell.Link (the_switch 1) false) ∷ told_by 9 (tell.Link (the_switch 1) true) ∷ [])).told.links
+    ≡ ((the_switch 9, the_switch 1), false) ∷ []
+unfolding manager_hears
+the_later_word_on_a_link_stands = refl
+
+-- a switch that asks again is answered, and nothing else is known then
+nothing_more_is_known_of_an_asker : (manager_hears three_askers (the_switch 1) tell.PodWanted).view ≡ three_askers
+unfolding manager_hears
+nothing_more_is_known_of_an_asker = refl
+
 -- ---- addresses: a host 02:00:00:00:00:0d, 10.0.0.4, that switch 3 granted an address and that moved to switch 2
 abbrev the_host : Mac
 the_host = record { 0 = 2 ∷ 0 ∷ 0 ∷ 0 ∷ 0 ∷ 0x0d ∷ [] }
@@ -206,6 +247,23 @@ the_older_address_is_made_invalid_with_its_own_ip = refl
 nothing_is_said_of_an_address_again : (manager_hears at_its_second_place (the_switch 3) (tell.Learned its_first the_host None)).acts ≡ []
 unfolding manager_hears avoid_list tree_part core_of
 nothing_is_said_of_an_address_again = refl
+
+-- and leaves what is known as it is
+nothing_more_is_known_of_an_address : (manager_hears at_its_second_place (the_switch 3) (tell.Learned its_first the_host (Some its_ip))).view
+    ≡ at_its_second_place
+unfolding manager_hears
+nothing_more_is_known_of_an_address = refl
+
+-- the host's IPv4 address is told with its second address too
+the_ip_of_the_newest_address :
+    (manager_hears at_its_second_place (the_switch 2) (tell.Learned its_second the_host (Some its_ip))).view.learnt
+    ≡ record {
+      addresses = record { switch = the_switch 2; pmac = its_second; amac = the_host; ip = Some its_ip }
+        ∷ record { switch = the_switch 3; pmac = its_first; amac = the_host; ip = Some its_ip } ∷ [];
+      owners = (its_ip, its_second) ∷ [];
+    }
+unfolding manager_hears
+the_ip_of_the_newest_address = refl
 
 -- the host that asks, and an IPv4 address that nobody has
 abbrev asker : Pmac

@@ -38,7 +38,7 @@ invalidation_heard view s learnt new n amac (Some old) e =
     let addresses = view.learnt.addresses in let learners = map (λ a. a.switch) addresses in let members = map (λ m. m.0.0) view.members in
     let told = registered_heard addresses old (found_among (λ r. same_mac r.amac amac) old (registry view.learnt) e) in
     let among = among_right old.switch (tellers view.told) (members ++ (view.askers ++ learners))
-        (among_right old.switch members (view.askers ++ learners) (among_right old.switch view.askers learners told)) in
+    (among_right old.switch members (view.askers ++ learners) (among_right old.switch view.askers learners told)) in
     and_from (same_switch s old.switch || is_heard view old.switch) true (now_or_before view s old.switch (inr among)) refl
 
 learning_heard : (view : ManagerView) (s : SwitchId) (after : Learnt) (pmac : Pmac) (amac : Mac) →

@@ -1,5 +1,5 @@
 -- What the fabric manager knows stays in order.
-use Rattle.std.proofs.Common.{◌≡◌, ◌⊎◌, ℕ, ◌+◌, ◌==◌, ◌&&◌, ◌||◌, Bool, true, false, cond, List, [], ◌∷◌, length, map, Option, Some, None, Ordering, Equal, nat_cmp, refl, sym, ap, ◌∙◌, subst, inl, inr}
+use Rattle.std.proofs.Common.{◌≡◌, ◌⊎◌, ℕ, ◌+◌, ◌==◌, ◌&&◌, Bool, true, false, cond, List, [], ◌∷◌, length, map, Option, Some, None, nat_cmp, refl, sym, ap, ◌∙◌, subst, inl, inr}
 use Rattle.std.specs.List.{AllByRecursion, IsDistinct, list_any}
 use Rattle.std.specs.List.Sorted.{IsStrictlySortedBy}
 use Rattle.std.specs.Map.{keys_of}
@@ -17,6 +17,7 @@ use Rattle.pl_core.specs.HostViews.{ip_cmp}
 use Rattle.pl_core.specs.ManagerViews.{LearntAddress, ManagerView, PodGiven, Registration, booted_manager, id_cmp, link_cmp, members_cmp, numbered, pods_given}
 use Rattle.pl_core.proofs.Among.{id_total}
 use Rattle.pl_manager_rule.specs.ManagerRule.{manager_hears, told_again, view_after, with_address, with_asker, with_owner}
+use Rattle.pl_manager_rule.specs.Histories.{Word, known}
 use Rattle.pl_manager_rule.specs.Repeats.{IsInOrder}
 use Rattle.pl_manager_rule.proofs.Avoided.{both_equal, id_exact, same_is}
 use Rattle.pl_manager_rule.proofs.Registered.{pmac_turned, switch_turned}
@@ -83,7 +84,7 @@ asked_is_given (s ∷ askers) t h =
     by rest false given (inr k) = or_right (same_switch s t) (list_any (λ g. same_switch g.switch t) (pods_given askers)) (rest k)
 
 -- a test that would hold elsewhere holds nowhere
-none_where : (a b : Bool) → (a ≡ true → b ≡ true) → b ≡ false → a ≡ false
+pub none_where : (a b : Bool) → (a ≡ true → b ≡ true) → b ≡ false → a ≡ false
 none_where true b f e = absurd (false≢true (sym e ∙ f refl))
 none_where false b f e = refl
 
@@ -157,30 +158,50 @@ boots_in_order k = record { places = tt; links = tt; members = tt; askers = tt; 
 kept : (view : ManagerView) (s : SwitchId) (says : ToManager) → IsInOrder view → IsInOrder (view_after view s says)
 kept view s (tell.Place place) o = record {
   places = rising_put id_cmp id_total view.told.places s place o.places;
-  links = o.links; members = o.members; askers = o.askers; addresses = o.addresses; owners = o.owners;
+  links = o.links;
+  members = o.members;
+  askers = o.askers;
+  addresses = o.addresses;
+  owners = o.owners;
 }
 kept view s (tell.Link u usable) o = record {
   places = o.places;
   links = rising_put link_cmp link_total view.told.links (s, u) usable o.links;
-  members = o.members; askers = o.askers; addresses = o.addresses; owners = o.owners;
+  members = o.members;
+  askers = o.askers;
+  addresses = o.addresses;
+  owners = o.owners;
 }
 kept view s tell.PodWanted o = record {
-  places = o.places; links = o.links; members = o.members;
+  places = o.places;
+  links = o.links;
+  members = o.members;
   askers = askers_kept view.askers s o.askers;
-  addresses = o.addresses; owners = o.owners;
+  addresses = o.addresses;
+  owners = o.owners;
 }
 kept view s (tell.Learned pmac amac ip) o = record {
-  places = o.places; links = o.links; members = o.members; askers = o.askers;
+  places = o.places;
+  links = o.links;
+  members = o.members;
+  askers = o.askers;
   addresses = addresses_kept view.learnt.addresses (record { switch = s; pmac = pmac; amac = amac; ip = ip }) o.addresses;
   owners = owners_kept view.learnt.owners ip pmac o.owners;
 }
 kept view s (tell.Query asker asker_ip ip) o = o
 kept view s (tell.Members group any) o = record {
-  places = o.places; links = o.links;
+  places = o.places;
+  links = o.links;
   members = rising_put members_cmp members_total view.members (s, group) any o.members;
-  askers = o.askers; addresses = o.addresses; owners = o.owners;
+  askers = o.askers;
+  addresses = o.addresses;
+  owners = o.owners;
 }
 
 pub stays_in_order : (view : ManagerView) (s : SwitchId) (says : ToManager) → IsInOrder view → IsInOrder (manager_hears view s says).view
 unfolding manager_hears
 stays_in_order view s says o = kept view s says o
+
+pub reached_in_order : (k : ℕ) (words : List Word) → IsInOrder (known k words)
+reached_in_order k [] = boots_in_order k
+reached_in_order k (w ∷ before) = stays_in_order (known k before) w.switch w.says (reached_in_order k before)

@@ -8,3 +8,4 @@ pub mod Speakers
 pub mod Kept
 pub mod Repeated
 pub mod ToldLast
+pub mod History

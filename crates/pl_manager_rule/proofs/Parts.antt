@@ -1,5 +1,5 @@
 -- The neighbours below in a part of a tree stand in rising order.
-use Rattle.std.proofs.Common.{ℕ, ◌&&◌, cond, List, Option, Some, None, IfSome}
+use Rattle.std.proofs.Common.{ℕ, ◌&&◌, cond, Option, Some, None, IfSome}
 use Rattle.std.specs.List.Sorted.{IsStrictlySortedBy}
 use Rattle.std.specs.Option.{option_and_then, option_map}
 use Rattle.std.proofs.lemmas.Bool.{cond_both}

@@ -1,8 +1,8 @@
 -- A word that was told last already changes nothing.
-use Rattle.std.proofs.Common.{◌≡◌, ℕ, ◌==◌, ◌&&◌, ◌||◌, not, Bool, true, false, cond, List, [], ◌∷◌, ◌++◌, ◌+◌, length, map, Option, Some, None, is_some, IsSome, filter, flat_map, refl, sym, ap, ◌∙◌, subst, append-nil, inl, inr}
+use Rattle.std.proofs.Common.{◌≡◌, ℕ, ◌||◌, not, Bool, true, false, cond, List, [], ◌∷◌, ◌++◌, ◌+◌, length, map, Option, Some, None, is_some, IsSome, filter, flat_map, refl, sym, ap, ◌∙◌, subst, append-nil}
 use Rattle.std.specs.List.{AllByRecursion, IsDistinct, find, list_any}
 use Rattle.std.specs.Option.{option_and_then, option_map, option_or}
-use Rattle.std.proofs.lemmas.Bool.{cond_both, false≢true, or_cases, or_left, or_right}
+use Rattle.std.proofs.lemmas.Bool.{cond_both, false≢true}
 use Rattle.pl_frame.specs.declared.address.Ip4.{Ip4}
 use Rattle.pl_frame.specs.declared.address.Mac.{Mac}
 use Rattle.pl_frame.specs.declared.address.SwitchId.{SwitchId}
@@ -13,9 +13,9 @@ use Rattle.pl_core.specs.declared.messages.ToManager.{ToManager}
 use Rattle.pl_core.specs.declared.messages.ToManager.TheVariants as tell
 use Rattle.pl_core.specs.HostViews.{ip_cmp}
 use Rattle.pl_core.specs.ManagerFacts.{groups}
-use Rattle.pl_core.specs.ManagerViews.{Learnt, LearntAddress, ManagerView, PodGiven, Registration, Told, id_cmp, ip_of, link_cmp, members_cmp, newest, numbered, pod_given, pods_given, registration, registry, switches, told_with}
+use Rattle.pl_core.specs.ManagerViews.{Learnt, LearntAddress, ManagerView, Told, id_cmp, link_cmp, members_cmp, newest, numbered, pods_given, registration, registry, switches}
 use Rattle.pl_core.specs.AvoidLists.{avoid_list}
-use Rattle.pl_manager_rule.specs.ManagerRule.{ManagerStep, acts_of, avoid_acts, changed, invalidation, learning, manager_hears, part_in, reply, same_avoid_list, same_part, told_again, tree_acts, tree_acts_of, view_after, with_address, with_asker, with_learnt, with_owner}
+use Rattle.pl_manager_rule.specs.ManagerRule.{ManagerStep, acts_of, avoid_acts, invalidation, manager_hears, part_in, reply, same_avoid_list, same_part, told_again, tree_acts, tree_acts_of, view_after, with_address, with_learnt}
 use Rattle.pl_manager_rule.specs.Repeats.{HasToldLast, IsInOrder, IsKnownAddress, answers}
 use Rattle.pl_manager_rule.proofs.Kept.{ip_exact, ip_total, link_exact, link_total, members_exact, members_total, pmac_is, pmac_itself}
 use Rattle.pl_manager_rule.proofs.Avoided.{id_exact}
@@ -94,7 +94,7 @@ only_one new ip names [] once found = tt
 only_one new ip names (a ∷ addresses) once found = by (λ k. only_one new ip names addresses once.1 k) (same_pmac a.pmac new.pmac) refl found
   where
     by : (option_and_then (λ c. c.ip) (find (λ c. same_pmac c.pmac new.pmac) addresses) ≡ Some ip →
-          AllByRecursion (λ c. same_pmac c.pmac new.pmac ≡ true → option_or new.ip c.ip ≡ c.ip) addresses) →
+        AllByRecursion (λ c. same_pmac c.pmac new.pmac ≡ true → option_or new.ip c.ip ≡ c.ip) addresses) →
         (b : Bool) → same_pmac a.pmac new.pmac ≡ b →
         option_and_then (λ c. c.ip) (cond b (Some a) (find (λ c. same_pmac c.pmac new.pmac) addresses)) ≡ Some ip →
         AllByRecursion (λ c. same_pmac c.pmac new.pmac ≡ true → option_or new.ip c.ip ≡ c.ip) (a ∷ addresses)

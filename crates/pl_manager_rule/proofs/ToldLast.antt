@@ -1,5 +1,5 @@
 -- What a switch has just told is what it told last.
-use Rattle.std.proofs.Common.{◌≡◌, ◌⊎◌, ◌||◌, Bool, true, false, cond, List, [], ◌∷◌, ◌+◌, length, map, Option, Some, None, is_some, IsSome, refl, sym, ap, ◌∙◌, subst, inl, inr}
+use Rattle.std.proofs.Common.{◌≡◌, ◌||◌, Bool, true, false, cond, List, [], ◌∷◌, ◌+◌, length, map, Option, Some, None, is_some, IsSome, refl, ap, ◌∙◌, inl, inr}
 use Rattle.std.specs.List.{find, list_any}
 use Rattle.std.specs.Option.{option_and_then, option_or}
 use Rattle.std.proofs.lemmas.Bool.{cond_both, false≢true, or_cases, or_left, or_right}
@@ -11,7 +11,7 @@ use Rattle.pl_layouts.specs.Equality.{same_pmac}
 use Rattle.pl_core.specs.declared.messages.ToManager.{ToManager}
 use Rattle.pl_core.specs.declared.messages.ToManager.TheVariants as tell
 use Rattle.pl_core.specs.HostViews.{ip_cmp}
-use Rattle.pl_core.specs.ManagerViews.{Learnt, LearntAddress, ManagerView, Registration, id_cmp, ip_of, link_cmp, members_cmp, numbered, registration}
+use Rattle.pl_core.specs.ManagerViews.{Learnt, LearntAddress, ManagerView, Registration, id_cmp, link_cmp, members_cmp, numbered}
 use Rattle.pl_core.proofs.Among.{id_total}
 use Rattle.pl_manager_rule.specs.ManagerRule.{manager_hears, told_again, view_after, with_address, with_learnt}
 use Rattle.pl_manager_rule.specs.Repeats.{HasToldLast, IsKnownAddress}
@@ -30,7 +30,7 @@ found_where_any test (x ∷ xs) h = by (λ k. found_where_any test xs k) (test x
     by rest false k = rest k
 
 -- an address that is registered was learnt
-registered_is_learnt : (addresses : List LearntAddress) (x : Pmac) → list_any (λ r. same_pmac r.pmac x) (numbered addresses) ≡ true →
+pub registered_is_learnt : (addresses : List LearntAddress) (x : Pmac) → list_any (λ r. same_pmac r.pmac x) (numbered addresses) ≡ true →
     list_any (λ a. same_pmac a.pmac x) addresses ≡ true
 registered_is_learnt [] x h = h
 registered_is_learnt (a ∷ addresses) x h = by (λ k. registered_is_learnt addresses x k) (list_any (λ r. same_pmac r.pmac a.pmac) (numbered addresses)) h
@@ -69,7 +69,7 @@ told_now new ip names [] h = absurd (false≢true h)
 told_now new ip names (a ∷ addresses) h = by (λ k. told_now new ip names addresses k) (same_pmac a.pmac new.pmac) refl h
   where
     by : (list_any (λ c. same_pmac c.pmac new.pmac) addresses ≡ true →
-          option_and_then (λ c. c.ip) (find (λ c. same_pmac c.pmac new.pmac) (map (told_again new) addresses)) ≡ Some ip) →
+        option_and_then (λ c. c.ip) (find (λ c. same_pmac c.pmac new.pmac) (map (told_again new) addresses)) ≡ Some ip) →
         (b : Bool) → same_pmac a.pmac new.pmac ≡ b → (b || list_any (λ c. same_pmac c.pmac new.pmac) addresses) ≡ true →
         option_and_then (λ c. c.ip) (cond b (Some (told_again new a)) (find (λ c. same_pmac c.pmac new.pmac) (map (told_again new) addresses))) ≡ Some ip
     by rest true is k = ap (λ b. cond b (option_or new.ip a.ip) a.ip) is ∙ ap (λ o. option_or o a.ip) names

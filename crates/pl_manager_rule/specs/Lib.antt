@@ -1,3 +1,4 @@
 pub mod ManagerRule
 pub mod Repeats
 pub mod Lawful
+pub mod Histories

@@ -5,10 +5,13 @@ ghost use Rattle.std.specs.Ordering.{nat_cmp};
 ghost use Rattle.pl_frame.specs.declared.address.SwitchId.{SwitchId};
 ghost use Rattle.pl_core.specs.declared.messages.TreePart.{TreePart};
 ghost use Rattle.pl_layouts.specs.Equality.{same_pmac, same_switch};
-ghost use Rattle.pl_core.specs.ManagerViews.{Learnt, ManagerView, Members, Told, alive_at_level, booted_manager, id_cmp, neighbours, pod_given, pods_given, registry, switches};
+ghost use Rattle.pl_core.specs.ManagerViews.{Learnt, ManagerView, Members, Told, alive_at_level, booted_manager, id_cmp, ip_of, link_cmp, members_cmp, neighbours, pod_given, pods_given, registry, switches, told_with, value_at};
 ghost use Rattle.pl_core.specs.AvoidLists.{Avoids, avoid_list, avoided_cmp};
 ghost use Rattle.pl_core.specs.Trees.{needed_edges, tree_part};
 ghost use Rattle.pl_manager_rule.specs.ManagerRule.{manager_hears, manager_rule, same_avoid_list, same_part, with_asker};
+ghost use Rattle.pl_frame.specs.declared.address.Ip4.{Ip4};
+ghost use Rattle.pl_pmac.specs.declared.pmac.Pmac.{Pmac};
+ghost use Rattle.pl_manager_rule.specs.Histories.{Word, ip_said, known, link_said, members_said, owner_said, place_said, pods_asked, registered, said_by, said_last};
 ghost use Rattle.pl_manager_rule.specs.Repeats.{HasToldLast, IsInOrder, answers};
 ghost use Rattle.pl_core.specs.declared.messages.ToManager.{ToManager};
 ghost use Rattle.pl_core.specs.ManagerFacts.{groups};
@@ -72,6 +75,7 @@ pub fn what_is_known_stays_in_order()
     ensures boots { (k : ℕ) → IsInOrder (booted_manager k) }
     ensures stays { (view : ManagerView) (s : SwitchId) (says : ToManager) →
         IsInOrder view → IsInOrder (manager_hears view s says).view }
+    ensures reached { (k : ℕ) (words : List Word) → IsInOrder (known k words) }
 {}
 
 /// A word that a switch told last already changes nothing that is known and brings no act about: only a
@@ -80,4 +84,21 @@ pub fn a_repeated_word_changes_nothing()
     ensures nothing { (view : ManagerView) (s : SwitchId) (says : ToManager) → IsInOrder view → HasToldLast view s says →
         manager_hears view s says ≡ record { view = view; acts = answers view s says } }
     ensures last { (view : ManagerView) (s : SwitchId) (says : ToManager) → HasToldLast (manager_hears view s says).view s says }
+{}
+
+/// What the manager knows, however long its history, is the last that was said of each place, link, group and
+/// IPv4 address; and the pods and the addresses, in the order of first asking and of first telling.
+pub fn what_is_known_is_what_was_told_last()
+    ensures places { (k : ℕ) (words : List Word) (s : SwitchId) →
+        value_at id_cmp (known k words).told.places s ≡ said_last (said_by s place_said) words }
+    ensures links { (k : ℕ) (words : List Word) (s u : SwitchId) →
+        value_at link_cmp (known k words).told.links (s, u) ≡ said_last (said_by s (link_said u)) words }
+    ensures members { (k : ℕ) (words : List Word) (s : SwitchId) (group : ℕ) →
+        value_at members_cmp (known k words).members (s, group) ≡ said_last (said_by s (members_said group)) words }
+    ensures pods { (k : ℕ) (words : List Word) → pods_given (known k words).askers ≡ pods_asked words }
+    ensures registrations { (k : ℕ) (words : List Word) → registry (known k words).learnt ≡ registered words }
+    ensures ips { (k : ℕ) (words : List Word) (x : Pmac) →
+        ip_of (known k words).learnt x ≡ said_last (λ w. ip_said x w.says) words }
+    ensures owners { (k : ℕ) (words : List Word) (ip : Ip4) →
+        told_with (known k words).learnt ip ≡ said_last (λ w. owner_said ip w.says) words }
 {}

@@ -1,0 +1,314 @@
+-- What the fabric manager knows is what was told last.
+use Rattle.std.proofs.Common.{◌≡◌, ℕ, ◌+◌, ◌==◌, ◌&&◌, ◌||◌, Bool, true, false, cond, List, [], ◌∷◌, length, map, Option, Some, None, Ordering, Less, Equal, Greater, refl, sym, ap, ◌∙◌, subst}
+use Rattle.std.specs.List.{find, list_any}
+use Rattle.std.specs.Option.{option_and_then, option_or}
+use Rattle.std.specs.BTreeMap.{insert_entry}
+use Rattle.std.specs.Cmp.{Equal-is, IsTotalOrder}
+use Rattle.std.specs.Ordering.{is_eq, match_ordering}
+use Rattle.std.proofs.lemmas.Bool.{and_from, and_parts, cond_both, eq-eqb, eqb-true, false≢true, or_parts}
+use Rattle.std.proofs.lemmas.Cmp.{tied_itself}
+use Rattle.std.proofs.lemmas.Map.Lookups.{CmpEqualImpliesEq}
+use Rattle.pl_frame.specs.declared.address.Ip4.{Ip4}
+use Rattle.pl_frame.specs.declared.address.SwitchId.{SwitchId}
+use Rattle.pl_pmac.specs.declared.pmac.Pmac.{Pmac}
+use Rattle.pl_layouts.specs.Equality.{same_pmac, same_switch}
+use Rattle.pl_core.specs.declared.messages.ToManager.{ToManager}
+use Rattle.pl_core.specs.declared.messages.ToManager.TheVariants as tell
+use Rattle.pl_core.specs.HostViews.{ip_cmp}
+use Rattle.pl_core.specs.ManagerViews.{LearntAddress, PodGiven, Registration, id_cmp, ip_of, link_cmp, members_cmp, numbered, pods_given, registry, told_with, value_at}
+use Rattle.pl_core.proofs.Among.{id_total}
+use Rattle.pl_manager_rule.specs.ManagerRule.{manager_hears, told_again, view_after, with_address, with_asker}
+use Rattle.pl_manager_rule.specs.Histories.{Word, ip_said, known, link_said, members_said, owner_said, place_said, pods_after, pods_asked, registered, registered_after, said_by, said_last}
+use Rattle.pl_manager_rule.proofs.Avoided.{id_exact, same_is}
+use Rattle.pl_manager_rule.proofs.HeardSwitches.{same_numbers}
+use Rattle.pl_manager_rule.proofs.Kept.{ip_exact, ip_total, learnt_is_registered, link_exact, link_total, members_exact, members_total, none_where, pmac_is}
+use Rattle.pl_manager_rule.proofs.Speakers.{same_itself}
+use Rattle.pl_manager_rule.proofs.ToldLast.{registered_is_learnt}
+
+-- ---- two tests that hold of the same
+both_hold : (a b : Bool) → (a ≡ true → b ≡ true) → (b ≡ true → a ≡ true) → a ≡ b
+both_hold true b f g = sym (f refl)
+both_hold false true f g = g refl
+both_hold false false f g = refl
+
+is_key : {K : Type 0} (R : K → K → Ordering) → IsTotalOrder R → CmpEqualImpliesEq R → (q k : K) (b : Bool) → (b ≡ true → q ≡ k) →
+    (q ≡ k → b ≡ true) → is_eq (R q k) ≡ b
+is_key R o exact q k b f g =
+    both_hold (is_eq (R q k)) b (λ h. g (exact q k ((Equal-is (R q k)).0 h)))
+    (λ h. ap (λ x. is_eq (R q x)) (sym (f h)) ∙ ap is_eq (tied_itself o q))
+
+-- ---- a table with one more word
+module _ {K X : Type 0} (R : K → K → Ordering) (o : IsTotalOrder R) (exact : CmpEqualImpliesEq R) where
+  pub value_after : (es : List (K × X)) (k q : K) (v : X) → value_at R (insert_entry R es k v) q ≡ cond (is_eq (R q k)) (Some v) (value_at R es q)
+  value_after [] k q v = refl
+  value_after (e ∷ es) k q v = by (value_after es k q v) (R k e.0) refl
+    where
+      -- two keys in the table are not the same
+      skips : R k e.0 ≡ Greater → cond (is_eq (R q e.0)) (Some e.1) (cond (is_eq (R q k)) (Some v) (value_at R es q))
+          ≡ cond (is_eq (R q k)) (Some v) (cond (is_eq (R q e.0)) (Some e.1) (value_at R es q))
+      skips is = swap (is_eq (R q e.0)) (is_eq (R q k)) refl refl
+        where
+          swap : (a b : Bool) → is_eq (R q e.0) ≡ a → is_eq (R q k) ≡ b → cond a (Some e.1) (cond b (Some v) (value_at R es q))
+              ≡ cond b (Some v) (cond a (Some e.1) (value_at R es q))
+          swap true true here there =
+              let one = exact q e.0 ((Equal-is (R q e.0)).0 here) in let two = exact q k ((Equal-is (R q k)).0 there) in
+              let same : R k e.0 ≡ Equal = ap (R k) (sym one ∙ two) ∙ tied_itself o k in absurd (cc)
+          swap true false here there = refl
+          swap false true here there = refl
+          swap false false here there = refl
+
+      by : value_at R (insert_entry R es k v) q ≡ cond (is_eq (R q k)) (Some v) (value_at R es q) → (r : Ordering) → R k e.0 ≡ r →
+          value_at R (match_ordering r ((k, v) ∷ e ∷ es) ((e.0, v) ∷ es) (e ∷ insert_entry R es k v)) q
+          ≡ cond (is_eq (R q k)) (Some v) (cond (is_eq (R q e.0)) (Some e.1) (value_at R es q))
+      by rest Less is = refl
+      by rest Equal is =
+          let same = exact k e.0 is in
+          ap (λ x. cond (is_eq (R q x)) (Some v) (value_at R es q)) (sym same)
+          ∙ over (is_eq (R q k)) (is_eq (R q e.0)) (ap (λ x. is_eq (R q x)) same)
+        where
+          over : (a b : Bool) → a ≡ b → cond a (Some v) (value_at R es q) ≡ cond a (Some v) (cond b (Some e.1) (value_at R es q))
+          over true b e = refl
+          over false true e = absurd (false≢true e)
+          over false false e = refl
+      by rest Greater is = ap (λ w. cond (is_eq (R q e.0)) (Some e.1) w) rest ∙ skips is
+
+  -- as what is said of the key that is asked for
+  pub word_after : (es : List (K × X)) (k q : K) (v : X) (b : Bool) → (b ≡ true → q ≡ k) → (q ≡ k → b ≡ true) →
+      value_at R (insert_entry R es k v) q ≡ option_or (cond b (Some v) None) (value_at R es q)
+  word_after es k q v b f g =
+      value_after es k q v ∙ ap (λ c. cond c (Some v) (value_at R es q)) (is_key R o exact q k b f g) ∙ either b
+    where
+      either : (c : Bool) → cond c (Some v) (value_at R es q) ≡ option_or (cond c (Some v) None) (value_at R es q)
+      either true = refl
+      either false = refl
+
+-- another word says nothing
+silent : {X : Type 0} (b : Bool) (rest : Option X) → rest ≡ option_or (cond b None None) rest
+silent true rest = refl
+silent false rest = refl
+
+-- a word of another switch, or of another thing
+nested : {X : Type 0} (a b : Bool) (x : Option X) → cond (a && b) x None ≡ cond a (cond b x None) None
+nested true b x = refl
+nested false b x = refl
+
+-- ---- places, links and members
+module _ (k : ℕ) where
+  pub places_said : (words : List Word) (s : SwitchId) → value_at id_cmp (known k words).told.places s ≡ said_last (said_by s place_said) words
+  unfolding manager_hears
+  places_said [] s = refl
+  places_said (w ∷ before) s = by w.says ∙ ap (option_or (said_by s place_said w)) (places_said before s)
+    where
+      by : (says : ToManager) → value_at id_cmp (view_after (known k before) w.switch says).told.places s
+          ≡ option_or (cond (same_switch w.switch s) (place_said says) None) (value_at id_cmp (known k before).told.places s)
+      by (tell.Place place) =
+          word_after id_cmp id_total id_exact (known k before).told.places w.switch s place (same_switch w.switch s)
+          (λ h. sym (same_is w.switch s h)) (λ e. subst (λ t. same_switch t s ≡ true) e (same_itself s))
+      by (tell.Link u usable) = silent (same_switch w.switch s) (value_at id_cmp (known k before).told.places s)
+      by tell.PodWanted = silent (same_switch w.switch s) (value_at id_cmp (known k before).told.places s)
+      by (tell.Learned pmac amac ip) = silent (same_switch w.switch s) (value_at id_cmp (known k before).told.places s)
+      by (tell.Query asker asker_ip ip) = silent (same_switch w.switch s) (value_at id_cmp (known k before).told.places s)
+      by (tell.Members group any) = silent (same_switch w.switch s) (value_at id_cmp (known k before).told.places s)
+
+  pub links_said : (words : List Word) (s u : SwitchId) → value_at link_cmp (known k words).told.links (s, u) ≡ said_last (said_by s (link_said u)) words
+  unfolding manager_hears
+  links_said [] s u = refl
+  links_said (w ∷ before) s u = by w.says ∙ ap (option_or (said_by s (link_said u) w)) (links_said before s u)
+    where
+      by : (says : ToManager) → value_at link_cmp (view_after (known k before) w.switch says).told.links (s, u)
+          ≡ option_or (cond (same_switch w.switch s) (link_said u says) None) (value_at link_cmp (known k before).told.links (s, u))
+      by (tell.Link v usable) =
+          word_after link_cmp link_total link_exact (known k before).told.links (w.switch, v) (s, u) usable (same_switch w.switch s && same_switch v u)
+          (λ h. let two = and_parts (same_switch w.switch s) (same_switch v u) h in
+          λ i. (sym (same_is w.switch s two.0) i, sym (same_is v u two.1) i))
+          (λ e. and_from (same_switch w.switch s) (same_switch v u)
+          (subst (λ t. same_switch t s ≡ true) (ap (λ (p : SwitchId × SwitchId). p.0) e) (same_itself s))
+          (subst (λ t. same_switch t u ≡ true) (ap (λ (p : SwitchId × SwitchId). p.1) e) (same_itself u)))
+          ∙ ap (λ x. option_or x (value_at link_cmp (known k before).told.links (s, u))) (nested (same_switch w.switch s) (same_switch v u) (Some usable))
+      by (tell.Place place) = silent (same_switch w.switch s) (value_at link_cmp (known k before).told.links (s, u))
+      by tell.PodWanted = silent (same_switch w.switch s) (value_at link_cmp (known k before).told.links (s, u))
+      by (tell.Learned pmac amac ip) = silent (same_switch w.switch s) (value_at link_cmp (known k before).told.links (s, u))
+      by (tell.Query asker asker_ip ip) = silent (same_switch w.switch s) (value_at link_cmp (known k before).told.links (s, u))
+      by (tell.Members group any) = silent (same_switch w.switch s) (value_at link_cmp (known k before).told.links (s, u))
+
+  pub members_are_said : (words : List Word) (s : SwitchId) (group : ℕ) →
+      value_at members_cmp (known k words).members (s, group) ≡ said_last (said_by s (members_said group)) words
+  unfolding manager_hears
+  members_are_said [] s group = refl
+  members_are_said (w ∷ before) s group = by w.says ∙ ap (option_or (said_by s (members_said group) w)) (members_are_said before s group)
+    where
+      by : (says : ToManager) → value_at members_cmp (view_after (known k before) w.switch says).members (s, group)
+          ≡ option_or (cond (same_switch w.switch s) (members_said group says) None) (value_at members_cmp (known k before).members (s, group))
+      by (tell.Members g any) =
+          word_after members_cmp members_total members_exact (known k before).members (w.switch, g) (s, group) any (same_switch w.switch s && (g == group))
+          (λ h. let two = and_parts (same_switch w.switch s) (g == group) h in
+          λ i. (sym (same_is w.switch s two.0) i, sym (eqb-true g group two.1) i))
+          (λ e. and_from (same_switch w.switch s) (g == group)
+          (subst (λ t. same_switch t s ≡ true) (ap (λ (p : SwitchId × ℕ). p.0) e) (same_itself s))
+          (eq-eqb g group (sym (ap (λ (p : SwitchId × ℕ). p.1) e))))
+          ∙ ap (λ x. option_or x (value_at members_cmp (known k before).members (s, group))) (nested (same_switch w.switch s) (g == group) (Some any))
+      by (tell.Place place) = silent (same_switch w.switch s) (value_at members_cmp (known k before).members (s, group))
+      by (tell.Link u usable) = silent (same_switch w.switch s) (value_at members_cmp (known k before).members (s, group))
+      by tell.PodWanted = silent (same_switch w.switch s) (value_at members_cmp (known k before).members (s, group))
+      by (tell.Learned pmac amac ip) = silent (same_switch w.switch s) (value_at members_cmp (known k before).members (s, group))
+      by (tell.Query asker asker_ip ip) = silent (same_switch w.switch s) (value_at members_cmp (known k before).members (s, group))
+
+  -- ---- pods and registrations
+  pub pods_are_asked : (words : List Word) → pods_given (known k words).askers ≡ pods_asked words
+  unfolding manager_hears
+  pods_are_asked [] = refl
+  pods_are_asked (w ∷ before) = by w.says ∙ ap (λ pods. pods_after pods w.switch w.says) (pods_are_asked before)
+    where
+      asked : (askers : List SwitchId) (s : SwitchId) → pods_given (with_asker askers s) ≡ pods_after (pods_given askers) s tell.PodWanted
+      asked askers s = step (list_any (λ g. same_switch g.switch s) (pods_given askers)) refl
+        where
+          step : (b : Bool) → list_any (λ g. same_switch g.switch s) (pods_given askers) ≡ b →
+              let new : PodGiven = record { switch = s; pod = length (pods_given askers) } in
+              pods_given (cond b askers (s ∷ askers)) ≡ cond b (pods_given askers) (new ∷ pods_given askers)
+          step true e = refl
+          step false e =
+              let new : PodGiven = record { switch = s; pod = length (pods_given askers) } in
+              ap (λ b. cond b (pods_given askers) (new ∷ pods_given askers)) e
+
+      by : (says : ToManager) → pods_given (view_after (known k before) w.switch says).askers ≡ pods_after (pods_given (known k before).askers) w.switch says
+      by tell.PodWanted = asked (known k before).askers w.switch
+      by (tell.Place place) = refl
+      by (tell.Link u usable) = refl
+      by (tell.Learned pmac amac ip) = refl
+      by (tell.Query asker asker_ip ip) = refl
+      by (tell.Members group any) = refl
+
+  pub registrations_are_told : (words : List Word) → registry (known k words).learnt ≡ registered words
+  unfolding manager_hears
+  registrations_are_told [] = refl
+  registrations_are_told (w ∷ before) = by w.says ∙ ap (λ rs. registered_after rs w.switch w.says) (registrations_are_told before)
+    where
+      told : (addresses : List LearntAddress) (new : LearntAddress) →
+          numbered (with_address addresses new) ≡ registered_after (numbered addresses) new.switch (tell.Learned new.pmac new.amac new.ip)
+      told addresses new = step (list_any (λ r. same_pmac r.pmac new.pmac) (numbered addresses)) refl
+        where
+          step : (b : Bool) → list_any (λ r. same_pmac r.pmac new.pmac) (numbered addresses) ≡ b →
+              let r : Registration = record { pmac = new.pmac; amac = new.amac; number = length (numbered addresses) + 1; switch = new.switch } in
+              numbered (cond b (map (told_again new) addresses) (new ∷ addresses)) ≡ cond b (numbered addresses) (r ∷ numbered addresses)
+          step true e = same_numbers new addresses
+          step false e =
+              let r : Registration = record { pmac = new.pmac; amac = new.amac; number = length (numbered addresses) + 1; switch = new.switch } in
+              ap (λ b. cond b (numbered addresses) (r ∷ numbered addresses)) e
+
+      by : (says : ToManager) → registry (view_after (known k before) w.switch says).learnt ≡ registered_after (registry (known k before).learnt) w.switch says
+      by (tell.Learned pmac amac ip) = told (known k before).learnt.addresses (record { switch = w.switch; pmac = pmac; amac = amac; ip = ip })
+      by tell.PodWanted = refl
+      by (tell.Place place) = refl
+      by (tell.Link u usable) = refl
+      by (tell.Query asker asker_ip ip) = refl
+      by (tell.Members group any) = refl
+
+-- ---- the IPv4 address of a pseudo address
+abbrev ip_in : List LearntAddress → Pmac → Option Ip4
+ip_in addresses x = option_and_then (λ a. a.ip) (find (λ a. same_pmac a.pmac x) addresses)
+
+-- an address that is not there has none
+none_there : (addresses : List LearntAddress) (x : Pmac) → list_any (λ p. same_pmac p x) (map (λ a. a.pmac) addresses) ≡ false → ip_in addresses x ≡ None
+none_there [] x h = refl
+none_there (a ∷ addresses) x h =
+    let two = or_parts (same_pmac a.pmac x) (list_any (λ p. same_pmac p x) (map (λ c. c.pmac) addresses)) h in
+    ap (λ b. option_and_then (λ (c : LearntAddress). c.ip) (cond b (Some a) (find (λ c. same_pmac c.pmac x) addresses))) two.0
+    ∙ none_there addresses x two.1
+
+-- a new one
+ip_first : (addresses : List LearntAddress) (new : LearntAddress) (x : Pmac) → list_any (λ r. same_pmac r.pmac new.pmac) (numbered addresses) ≡ false →
+    ip_in (new ∷ addresses) x ≡ option_or (cond (same_pmac new.pmac x) new.ip None) (ip_in addresses x)
+ip_first addresses new x fresh = by (same_pmac new.pmac x) refl
+  where
+    only : (o : Option Ip4) → o ≡ option_or o None
+    only None = refl
+    only (Some ip) = refl
+
+    by : (b : Bool) → same_pmac new.pmac x ≡ b →
+        option_and_then (λ (c : LearntAddress). c.ip) (cond b (Some new) (find (λ c. same_pmac c.pmac x) addresses))
+        ≡ option_or (cond b new.ip None) (ip_in addresses x)
+    by true is =
+        let pmacs = map (λ a. a.pmac) addresses in
+        let none = none_there addresses new.pmac
+        (none_where (list_any (λ p. same_pmac p new.pmac) pmacs) (list_any (λ r. same_pmac r.pmac new.pmac) (numbered addresses))
+        (learnt_is_registered addresses new.pmac) fresh) in
+        only new.ip ∙ ap (option_or new.ip) (sym none ∙ ap (ip_in addresses) (pmac_is new.pmac x is))
+    by false is = refl
+
+-- one that is there takes the IPv4 address that is told
+ip_same : (new : LearntAddress) (addresses : List LearntAddress) → list_any (λ a. same_pmac a.pmac new.pmac) addresses ≡ true →
+    ip_in (map (told_again new) addresses) new.pmac ≡ option_or new.ip (ip_in addresses new.pmac)
+ip_same new [] h = absurd (false≢true h)
+ip_same new (a ∷ addresses) h = step (λ j. ip_same new addresses j) (same_pmac a.pmac new.pmac) refl h
+  where
+    step : (list_any (λ c. same_pmac c.pmac new.pmac) addresses ≡ true →
+        ip_in (map (told_again new) addresses) new.pmac ≡ option_or new.ip (ip_in addresses new.pmac)) →
+        (b : Bool) → same_pmac a.pmac new.pmac ≡ b → (b || list_any (λ c. same_pmac c.pmac new.pmac) addresses) ≡ true →
+        option_and_then (λ (c : LearntAddress). c.ip) (cond b (Some (told_again new a)) (find (λ c. same_pmac c.pmac new.pmac) (map (told_again new) addresses)))
+        ≡ option_or new.ip (option_and_then (λ (c : LearntAddress). c.ip) (cond b (Some a) (find (λ c. same_pmac c.pmac new.pmac) addresses)))
+    step rest true is j = ap (λ b. cond b (option_or new.ip a.ip) a.ip) is
+    step rest false is j = rest j
+
+-- another one stays
+ip_other : (new : LearntAddress) (x : Pmac) → same_pmac new.pmac x ≡ false → (addresses : List LearntAddress) →
+    ip_in (map (told_again new) addresses) x ≡ ip_in addresses x
+ip_other new x apart [] = refl
+ip_other new x apart (a ∷ addresses) = step (ip_other new x apart addresses) (same_pmac a.pmac x) refl
+  where
+    step : ip_in (map (told_again new) addresses) x ≡ ip_in addresses x → (b : Bool) → same_pmac a.pmac x ≡ b →
+        option_and_then (λ (c : LearntAddress). c.ip) (cond b (Some (told_again new a)) (find (λ c. same_pmac c.pmac x) (map (told_again new) addresses)))
+        ≡ option_and_then (λ (c : LearntAddress). c.ip) (cond b (Some a) (find (λ c. same_pmac c.pmac x) addresses))
+    step rest true is =
+        let differ : same_pmac a.pmac new.pmac ≡ false =
+        none_where (same_pmac a.pmac new.pmac) (same_pmac new.pmac x)
+        (λ h. subst (λ p. same_pmac p x ≡ true) (pmac_is a.pmac new.pmac h) is) apart in
+        ap (λ b. cond b (option_or new.ip a.ip) a.ip) differ
+    step rest false is = rest
+
+ip_again : (addresses : List LearntAddress) (new : LearntAddress) (x : Pmac) → list_any (λ a. same_pmac a.pmac new.pmac) addresses ≡ true →
+    ip_in (map (told_again new) addresses) x ≡ option_or (cond (same_pmac new.pmac x) new.ip None) (ip_in addresses x)
+ip_again addresses new x there = by (same_pmac new.pmac x) refl
+  where
+    by : (b : Bool) → same_pmac new.pmac x ≡ b → ip_in (map (told_again new) addresses) x ≡ option_or (cond b new.ip None) (ip_in addresses x)
+    by true is =
+        subst (λ y. ip_in (map (told_again new) addresses) y ≡ option_or new.ip (ip_in addresses y)) (pmac_is new.pmac x is) (ip_same new addresses there)
+    by false is = ip_other new x is addresses
+
+ip_after : (addresses : List LearntAddress) (new : LearntAddress) (x : Pmac) →
+    ip_in (with_address addresses new) x ≡ option_or (cond (same_pmac new.pmac x) new.ip None) (ip_in addresses x)
+ip_after addresses new x =
+    cond_both (list_any (λ r. same_pmac r.pmac new.pmac) (numbered addresses)) (map (told_again new) addresses) (new ∷ addresses)
+    (λ those. ip_in those x ≡ option_or (cond (same_pmac new.pmac x) new.ip None) (ip_in addresses x))
+    (λ again. ip_again addresses new x (registered_is_learnt addresses new.pmac again))
+    (λ fresh. ip_first addresses new x fresh)
+
+module _ (k : ℕ) where
+  pub ips_said : (words : List Word) (x : Pmac) → ip_of (known k words).learnt x ≡ said_last (λ w. ip_said x w.says) words
+  unfolding manager_hears
+  ips_said [] x = refl
+  ips_said (w ∷ before) x = by w.says ∙ ap (option_or (ip_said x w.says)) (ips_said before x)
+    where
+      by : (says : ToManager) → ip_of (view_after (known k before) w.switch says).learnt x ≡ option_or (ip_said x says) (ip_of (known k before).learnt x)
+      by (tell.Learned pmac amac ip) = ip_after (known k before).learnt.addresses (record { switch = w.switch; pmac = pmac; amac = amac; ip = ip }) x
+      by tell.PodWanted = refl
+      by (tell.Place place) = refl
+      by (tell.Link u usable) = refl
+      by (tell.Query asker asker_ip ip) = refl
+      by (tell.Members group any) = refl
+
+  pub owners_said : (words : List Word) (ip : Ip4) → told_with (known k words).learnt ip ≡ said_last (λ w. owner_said ip w.says) words
+  unfolding manager_hears
+  owners_said [] ip = refl
+  owners_said (w ∷ before) ip = by w.says ∙ ap (option_or (owner_said ip w.says)) (owners_said before ip)
+    where
+      by : (says : ToManager) → told_with (view_after (known k before) w.switch says).learnt ip ≡ option_or (owner_said ip says) (told_with (known k before).learnt ip)
+      by (tell.Learned pmac amac None) = refl
+      by (tell.Learned pmac amac (Some told)) =
+          word_after ip_cmp ip_total ip_exact (known k before).learnt.owners told ip pmac (told.0 == ip.0)
+          (λ h. ap (λ n. let a : Ip4 = record { 0 = n } in a) (sym (eqb-true told.0 ip.0 h)))
+          (λ e. eq-eqb told.0 ip.0 (sym (ap (λ (a : Ip4). a.0) e)))
+      by tell.PodWanted = refl
+      by (tell.Place place) = refl
+      by (tell.Link u usable) = refl
+      by (tell.Query asker asker_ip other) = refl
+      by (tell.Members group any) = refl

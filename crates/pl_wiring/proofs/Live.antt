@@ -12,7 +12,7 @@ use Rattle.pl_wiring.specs.Peers.{IsBetween}
 use Rattle.pl_wiring.specs.Plan.{Plan}
 use Rattle.pl_wiring.specs.LiveLinks.{LivePorts, is_live_at, is_live, IsFor}
 use Rattle.pl_wiring.proofs.LinkOrder.{no_link}
-use Rattle.pl_wiring.proofs.Ends.{link_rises, same_switch, at_contained}
+use Rattle.pl_wiring.proofs.Ends.{at_contained}
 use Rattle.pl_wiring.proofs.Linked.{one_between}
 use Rattle.pl_wiring.proofs.Entered.{entry_at-in_range, entry_at-out_of_range, tree_ends, cases_IsAt, place_of-below, with_link, wrote_link, kept_link}
 

@@ -1,11 +1,10 @@
 -- The addresses that a topology file gives hosts are those of one host.
-use Rattle.std.proofs.Common.{◌≡◌, ◌≢◌, ℕ, ◌%◌, ◌<◌, Bool, true, false, ◌==◌, ◌||◌, ◌&&◌, cond, ltb, List, [], ◌∷◌, length, slice_index, Option, Some, None, option_map, option_and_then, refl, sym, ap, ◌∙◌, subst, arith}
+use Rattle.std.proofs.Common.{◌≡◌, ℕ, ◌%◌, ◌<◌, Bool, true, false, ◌==◌, ◌||◌, ◌&&◌, ltb, List, [], ◌∷◌, length, slice_index, Some, refl, sym, ap, ◌∙◌, subst, arith}
 use Rattle.std.specs.Str.{bytes_eq}
 use Rattle.std.proofs.lemmas.Bool.{and_parts, false≢true, ltb-true, eq-eqb}
 use Rattle.std.proofs.lemmas.Slice.Eq.{bytes_eq-Decides}
 use Rattle.pl_frame.specs.declared.address.Mac.{Mac}
 use Rattle.pl_frame.specs.declared.address.Ip4.{Ip4}
-use Rattle.pl_frame.specs.Address.{IsGroup}
 use Rattle.pl_wiring.specs.Plan.{IsHostMac, IsHostIp}
 use Rattle.pl_wiring.specs.Texts.{hex_at, ip_number, ip_of_text, mac_bytes, mac_of_text}
 use Rattle.pl_wiring.proofs.Choices.{some_if, some_unless, then_some, mapped_some, where_true}

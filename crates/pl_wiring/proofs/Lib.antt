@@ -11,3 +11,4 @@ pub mod EntryLemmas
 pub mod Choices
 pub mod LabelTexts
 pub mod HostAddresses
+pub mod Linked

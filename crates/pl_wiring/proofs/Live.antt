@@ -12,7 +12,8 @@ use Rattle.pl_wiring.specs.Peers.{IsBetween}
 use Rattle.pl_wiring.specs.Plan.{Plan}
 use Rattle.pl_wiring.specs.LiveLinks.{LivePorts, is_live_at, is_live, IsFor}
 use Rattle.pl_wiring.proofs.LinkOrder.{no_link}
-use Rattle.pl_wiring.proofs.Ends.{link_rises, same_switch, at_contained}
+use Rattle.pl_wiring.proofs.Ends.{at_contained}
+use Rattle.pl_wiring.proofs.Linked.{one_between}
 use Rattle.pl_wiring.proofs.Entered.{entry_at-in_range, entry_at-out_of_range, tree_ends, cases_IsAt, place_of-below, with_link, wrote_link, kept_link}
 
 pub if_ok : {T E : Type 0} {P Q : T → Type 0} (r : Result T E) → ((x : T) → P x → Q x) → IfOk r P → IfOk r Q
@@ -88,25 +89,6 @@ live_says plan states s p for = (
       ],
 )
 
--- two links between the same switches are one
-between_one : (k : ℕ) (links : List Link) (m n : ℕ) (d : Link) (a b : ℕ) → IsFatTree k links → m < length links → n < length links →
-    IsBetween (get_or links m d) a b → IsBetween (get_or links n d) a b → m ≡ n
-between_one k links m n d a b tree hm hn bm bn =
-    let rm = link_rises k (get_or links m d) (tree.no_other m d hm) in
-    let rn = link_rises k (get_or links n d) (tree.no_other n d hn) in
-    let ends : ((get_or links m d).lower.0 ≡ (get_or links n d).lower.0) × ((get_or links m d).upper.0 ≡ (get_or links n d).upper.0) =
-    elim bm [
-      | inl em ↦ elim bn [ inl en ↦ (em.0 ∙ sym en.0, em.1 ∙ sym en.1) | inr en ↦ absurd (omega (arith, em.0, em.1, en.0, en.1)) ]
-      | inr em ↦ elim bn [ inl en ↦ absurd (omega (arith, em.0, em.1, en.0, en.1)) | inr en ↦ (em.0 ∙ sym en.0, em.1 ∙ sym en.1) ]
-    ] in
-    elim (cases_lt m n) [
-      | inl less ↦ absurd (tree.once m n d less hn (same_switch _ _ ends.0, same_switch _ _ ends.1))
-      | inr more ↦ elim (cases_eq m n) [
-        | inl same ↦ same
-        | inr differ ↦ absurd (tree.once n m d (omega arith) hm (same_switch _ _ (sym ends.0), same_switch _ _ (sym ends.1)))
-      ]
-    ]
-
 -- the flags with one link changed, at both its ends
 abbrev pub with_live : LivePorts → Link → Bool → LivePorts
 with_live states link live = record { k = states.k; flags = with_link states.k states.flags link live }
@@ -148,7 +130,7 @@ pub changed : (plan : Plan) (states : LivePorts) (link : Link) (live : Bool) (a 
 changed plan states link live a b tree for there between n d within now =
     let m = there.0 in
     let is : get_or plan.links m d ≡ link = get_or_default plan.links m d link there.1 ∙ there.2 in
-    let same : m ≡ n = between_one plan.k plan.links m n d a b tree there.1 within (rw is between) now in
+    let same : m ≡ n = one_between plan.k plan.links m n d a b tree there.1 within (rw is between) now in
     let one : get_or plan.links n d ≡ link = ap (λ i. get_or plan.links i d) (sym same) ∙ is in
     let change = changes plan states link live tree for there in
     rw one (change.at_link link.lower.0 link.lower_port (inl (refl, refl)))

@@ -6,5 +6,6 @@ pub mod BootBalances
 pub mod SameLinks
 pub mod Hearing
 pub mod Knowing
+pub mod Runs
 pub mod Begun
 pub mod Looser

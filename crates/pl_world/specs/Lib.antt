@@ -5,6 +5,7 @@ pub mod OtherActs
 pub mod LinksAndMoves
 pub mod Refusals
 pub mod WorldRule
+pub mod Runs
 pub mod Booting
 pub mod Flying
 pub mod Hearing

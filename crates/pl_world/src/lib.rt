@@ -16,6 +16,7 @@ pub use stand::Stand;
 pub use world_laws::{a_new_world_has_its_frames_in_order, each_run_keeps_its_frames_in_order, each_run_stays_within_hearing, each_step_keeps_its_frames_in_order};
 
 mod aside;
+mod counting;
 mod error;
 mod event;
 mod item;

@@ -6,7 +6,8 @@ ghost use Rattle.pl_world.specs.Booting.{CanBegin, booted};
 ghost use Rattle.pl_world.specs.Flying.{IsCounted};
 ghost use Rattle.pl_world.specs.Hearing.{IsWithinHearing};
 ghost use Rattle.pl_world.specs.Refusals.{refusal};
-ghost use Rattle.pl_world.specs.WorldRule.{Steps, WorldStep};
+ghost use Rattle.pl_world.specs.Runs.{Moment, WorldRun};
+ghost use Rattle.pl_world.specs.WorldRule.{WorldStep};
 ghost use Rattle.pl_world.specs.Worlds.{WorldView};
 
 use pl_core::{HostCore, ManagerCore, SwitchCore};
@@ -24,15 +25,16 @@ pub fn each_step_keeps_its_frames_in_order<S: SwitchCore, M: ManagerCore, H: Hos
         refusal old happens ≡ None → WorldStep S.rule M.rule H.rule old happens new → IsCounted new }
 {}
 
-/// So it is at each moment of each run from the beginning.
+/// So it is at each moment of each run from the beginning, whatever a script writes of itself between the
+/// steps.
 pub fn each_run_keeps_its_frames_in_order<S: SwitchCore, M: ManagerCore, H: HostCore>()
-    ensures { (plan : Plan) (limits : Limits) (events : List Event) (new : WorldView) → CanBegin plan →
-        Steps S.rule M.rule H.rule (booted plan limits) events new → IsCounted new }
+    ensures { (plan : Plan) (limits : Limits) (moments : List Moment) (new : WorldView) → CanBegin plan →
+        WorldRun S.rule M.rule H.rule (booted plan limits) moments new → IsCounted new }
 {}
 
 /// At each moment of each run the manager has heard the switches of the wiring alone, and has learnt no
 /// more addresses than steps were made: so it can hear whatever comes next.
 pub fn each_run_stays_within_hearing<S: SwitchCore, M: ManagerCore, H: HostCore>()
-    ensures { (plan : Plan) (limits : Limits) (events : List Event) (new : WorldView) → limits.steps ≤ 4000000000 →
-        Steps S.rule M.rule H.rule (booted plan limits) events new → IsWithinHearing new }
+    ensures { (plan : Plan) (limits : Limits) (moments : List Moment) (new : WorldView) → limits.steps ≤ 4000000000 →
+        WorldRun S.rule M.rule H.rule (booted plan limits) moments new → IsWithinHearing new }
 {}

@@ -7,5 +7,6 @@ pub mod SameLinks
 pub mod Hearing
 pub mod Knowing
 pub mod Runs
+pub mod SettledQueues
 pub mod Begun
 pub mod Looser

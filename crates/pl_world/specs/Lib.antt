@@ -10,4 +10,5 @@ pub mod Booting
 pub mod Flying
 pub mod Hearing
 pub mod Pending
+pub mod SettledQueues
 pub mod QueueOrder

@@ -1,12 +1,16 @@
-ghost use Rattle.std.specs.Prelude.{◌≡◌, ◌≤◌, List, None};
+ghost use Rattle.std.specs.Prelude.{◌≡◌, ◌≤◌, ◌↔◌, ℕ, Contains, List, None};
 ghost use Rattle.pl_wiring.specs.Plan.{Plan};
 ghost use Rattle.pl_world.specs.declared.event.Event.{Event};
+ghost use Rattle.pl_queues.specs.Queues.{items_at};
+ghost use Rattle.pl_world.specs.declared.item.Item.TheVariants.{Control};
 ghost use Rattle.pl_world.specs.declared.limits.Limits.{Limits};
 ghost use Rattle.pl_world.specs.Booting.{CanBegin, booted};
 ghost use Rattle.pl_world.specs.Flying.{IsCounted};
 ghost use Rattle.pl_world.specs.Hearing.{IsWithinHearing};
+ghost use Rattle.pl_world.specs.Pending.{pending};
 ghost use Rattle.pl_world.specs.Refusals.{refusal};
 ghost use Rattle.pl_world.specs.Runs.{Moment, WorldRun};
+ghost use Rattle.pl_world.specs.SettledQueues.{HasSettledQueues};
 ghost use Rattle.pl_world.specs.WorldRule.{WorldStep};
 ghost use Rattle.pl_world.specs.Worlds.{WorldView};
 
@@ -37,4 +41,18 @@ pub fn each_run_keeps_its_frames_in_order<S: SwitchCore, M: ManagerCore, H: Host
 pub fn each_run_stays_within_hearing<S: SwitchCore, M: ManagerCore, H: HostCore>()
     ensures { (plan : Plan) (limits : Limits) (moments : List Moment) (new : WorldView) → limits.steps ≤ 4000000000 →
         WorldRun S.rule M.rule H.rule (booted plan limits) moments new → IsWithinHearing new }
+{}
+
+/// Nothing is pending exactly where the queues are those of a settled fabric: each control frame in them is
+/// the message that its sender would send there now, and no message to or from the manager waits but the
+/// questions of hosts and what they bring about.
+pub fn nothing_is_pending_exactly_where_the_queues_are_settled()
+    ensures { (w : WorldView) → IsCounted w → (pending w ≡ 0) ↔ HasSettledQueues w }
+{}
+
+/// At each moment of each run a host's queue holds data frames alone.
+pub fn hosts_have_no_control_frames_in_their_queues<S: SwitchCore, M: ManagerCore, H: HostCore>()
+    ensures { (plan : Plan) (limits : Limits) (moments : List Moment) (new : WorldView) → CanBegin plan →
+        WorldRun S.rule M.rule H.rule (booted plan limits) moments new →
+        (h : ℕ) (frame : List ℕ) → Contains (items_at new.from_hosts h) (Control frame) → ⊥ }
 {}

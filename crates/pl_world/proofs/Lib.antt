@@ -8,5 +8,6 @@ pub mod Hearing
 pub mod Knowing
 pub mod Runs
 pub mod SettledQueues
+pub mod Drops
 pub mod Begun
 pub mod Looser

@@ -11,4 +11,5 @@ pub mod Flying
 pub mod Hearing
 pub mod Pending
 pub mod SettledQueues
+pub mod Drops
 pub mod QueueOrder

@@ -1,10 +1,14 @@
 ghost use Rattle.std.specs.Prelude.{◌≡◌, ◌≤◌, ◌↔◌, ℕ, Contains, List, None};
 ghost use Rattle.pl_wiring.specs.Plan.{Plan};
 ghost use Rattle.pl_world.specs.declared.event.Event.{Event};
+ghost use Rattle.pl_journal.specs.declared.cause.Cause.{Cause};
+ghost use Rattle.pl_journal.specs.declared.cause.Cause.TheVariants.{NoMember};
+ghost use Rattle.pl_journal.specs.declared.entry.Entry.TheVariants.{Dropped};
 ghost use Rattle.pl_queues.specs.Queues.{items_at};
 ghost use Rattle.pl_world.specs.declared.item.Item.TheVariants.{Control};
 ghost use Rattle.pl_world.specs.declared.limits.Limits.{Limits};
 ghost use Rattle.pl_world.specs.Booting.{CanBegin, booted};
+ghost use Rattle.pl_world.specs.Drops.{IsDroppedFor, IsOfSwitch, written};
 ghost use Rattle.pl_world.specs.Flying.{IsCounted};
 ghost use Rattle.pl_world.specs.Hearing.{IsWithinHearing};
 ghost use Rattle.pl_world.specs.Pending.{pending};
@@ -55,4 +59,14 @@ pub fn hosts_have_no_control_frames_in_their_queues<S: SwitchCore, M: ManagerCor
     ensures { (plan : Plan) (limits : Limits) (moments : List Moment) (new : WorldView) → CanBegin plan →
         WorldRun S.rule M.rule H.rule (booted plan limits) moments new →
         (h : ℕ) (frame : List ℕ) → Contains (items_at new.from_hosts h) (Control frame) → ⊥ }
+{}
+
+/// A step that is no switch's drops a frame exactly in these places: a lose event takes it, as `Lost`; its
+/// link fails while it waits there, as `LinkDown`; its host moves while it waits in the host's queue or in
+/// the queue to the host, or it comes out of a port where no host stands that it is for, as `HostGone`.
+/// A host that is no member of a frame's group is not spoken of here.
+pub fn a_step_that_is_no_switchs_drops_frames_for_their_causes_alone<S: SwitchCore, M: ManagerCore, H: HostCore>()
+    ensures { (old : WorldView) (happens : Event) (new : WorldView) (id : ℕ) (cause : Cause) →
+        WorldStep S.rule M.rule H.rule old happens new → (IsOfSwitch old happens → ⊥) → (cause ≡ NoMember → ⊥) →
+        Contains (written old new) (Dropped id cause) ↔ IsDroppedFor old happens id cause }
 {}

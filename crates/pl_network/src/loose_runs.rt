@@ -1,7 +1,6 @@
 ghost use Rattle.std.specs.Prelude.{List};
-ghost use Rattle.pl_world.specs.declared.event.Event.{Event};
 ghost use Rattle.pl_switch_rule.specs.SwitchRule.{Loose};
-ghost use Rattle.pl_world.specs.WorldRule.{Steps};
+ghost use Rattle.pl_world.specs.Runs.{Moment, WorldRun};
 ghost use Rattle.pl_world.specs.Worlds.{WorldView};
 
 use pl_core::{HostCore, ManagerCore};
@@ -10,6 +9,6 @@ use pl_switch_rule::LooseSwitch;
 /// Each run of switches that choose among the candidate ports as they like is one under the loose rule.
 /// So what holds of each run under that rule holds of each run of theirs.
 pub fn each_run_is_a_loose_run<S: LooseSwitch, M: ManagerCore, H: HostCore>()
-    ensures { (old : WorldView) (events : List Event) (new : WorldView) →
-        Steps S.rule M.rule H.rule old events new → Steps Loose M.rule H.rule old events new }
+    ensures { (old : WorldView) (moments : List Moment) (new : WorldView) →
+        WorldRun S.rule M.rule H.rule old moments new → WorldRun Loose M.rule H.rule old moments new }
 {}

@@ -100,7 +100,8 @@ impl<T: Counted + Drop> CountedQueues<T> {
 
 const MOST: u64 = 1 << 62;
 
-fn one_if(counts: bool) -> u64
+/// 1 for what counts, and 0 for what does not.
+pub fn one_if(counts: bool) -> u64
     ensures { result ≡ cond counts 1 0 }
 {
     if counts { 1 } else { 0 }

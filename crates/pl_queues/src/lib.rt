@@ -2,7 +2,7 @@
 #![tactic(auto)]
 
 pub use bits::BitSet;
-pub use counted::{Counted, CountedQueues};
+pub use counted::{Counted, CountedQueues, one_if};
 pub use queues::Queues;
 pub use pl_lists::Memory;
 

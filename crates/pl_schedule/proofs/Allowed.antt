@@ -35,26 +35,26 @@ pub there_within : (n m : ℕ) → unless_there (nat_lt n m) ≡ None → n < m
 there_within n m e = below n m (is_there (nat_lt n m) e)
 
 -- a queue that is named is there, and has items
-queue_there : (there empty : Bool) → refusal_of_queue there empty ≡ None → (there ≡ true) × (empty ≡ false)
-queue_there true true e = absurd (cc)
-queue_there true false e = (refl, refl)
-queue_there false empty e = absurd (cc)
+queue_there : (there filled : Bool) → refusal_of_queue there filled ≡ None → (there ≡ true) × (filled ≡ true)
+queue_there true true e = (refl, refl)
+queue_there true false e = absurd (cc)
+queue_there false filled e = absurd (cc)
 
-pub has_some : (there empty : Bool) → refusal_of_queue there empty ≡ None → empty ≡ false
-has_some there empty e = (queue_there there empty e).1
+pub has_some : (there filled : Bool) → refusal_of_queue there filled ≡ None → filled ≡ true
+has_some there filled e = (queue_there there filled e).1
 
-pub queue_within : (n m : ℕ) (empty : Bool) → refusal_of_queue (nat_lt n m) empty ≡ None → n < m
-queue_within n m empty e = below n m (queue_there (nat_lt n m) empty e).0
+pub queue_within : (n m : ℕ) (filled : Bool) → refusal_of_queue (nat_lt n m) filled ≡ None → n < m
+queue_within n m filled e = below n m (queue_there (nat_lt n m) filled e).0
 
 pub port_is : (plan : Plan) (s port : ℕ) → has_port plan s port ≡ true → (s < switch_count plan.k) × (port < plan.k)
 port_is plan s port e = let both = and_parts (nat_lt s (switch_count plan.k)) (nat_lt port plan.k) e in (below s (switch_count plan.k) both.0, below port plan.k both.1)
 
-pub queue_port : (plan : Plan) (s port : ℕ) (empty : Bool) → refusal_of_queue (has_port plan s port) empty ≡ None → (s < switch_count plan.k) × (port < plan.k)
-queue_port plan s port empty e = port_is plan s port (queue_there (has_port plan s port) empty e).0
+pub queue_port : (plan : Plan) (s port : ℕ) (filled : Bool) → refusal_of_queue (has_port plan s port) filled ≡ None → (s < switch_count plan.k) × (port < plan.k)
+queue_port plan s port filled e = port_is plan s port (queue_there (has_port plan s port) filled e).0
 
-pub linked_port : (plan : Plan) (s port : ℕ) (empty : Bool) → refusal_of_queue (is_linked plan s port) empty ≡ None → (s < switch_count plan.k) × (port < plan.k)
-linked_port plan s port empty e =
-    port_is plan s port (and_parts (has_port plan s port) (not (is_host_port (peer_of plan s port))) (queue_there (is_linked plan s port) empty e).0).0
+pub linked_port : (plan : Plan) (s port : ℕ) (filled : Bool) → refusal_of_queue (is_linked plan s port) filled ≡ None → (s < switch_count plan.k) × (port < plan.k)
+linked_port plan s port filled e =
+    port_is plan s port (and_parts (has_port plan s port) (not (is_host_port (peer_of plan s port))) (queue_there (is_linked plan s port) filled e).0).0
 
 chosen : (b : Bool) (x : Option StepError) (e : StepError) → (if b then x else Some e) ≡ None → b ≡ true
 chosen true x e h = refl

@@ -1,5 +1,5 @@
 -- The head of a queue was taken, and then it came where it goes to.
-use Rattle.std.proofs.Common.{◌≡◌, ℕ, List, [], ◌∷◌, Some, slice_get, false, sym, subst}
+use Rattle.std.proofs.Common.{◌≡◌, ℕ, List, [], ◌∷◌, Some, slice_get, true, sym, subst}
 use Rattle.std.specs.List.{AllByRecursion}
 use Rattle.pl_frame.specs.declared.address.SwitchId.{SwitchId}
 use Rattle.pl_wiring.specs.declared.link.Peer.{Peer}
@@ -15,22 +15,21 @@ use Rattle.pl_core.specs.SwitchInputs.SwitchInput.{Says}
 use Rattle.pl_world.specs.declared.item.Item.{Item}
 use Rattle.pl_world.specs.declared.spoken_frame.SpokenFrame.TheVariants.{Silent}
 use Rattle.pl_world.specs.Changes.{out_of}
-use Rattle.pl_world.specs.Flying.{IsItem}
+use Rattle.pl_world.specs.Flying.{IsDataItem, IsItem}
 use Rattle.pl_schedule.specs.Heads.{IsTakenFromHost, IsTakenFromManager, IsTakenOut, IsTakenToManager}
-use Rattle.pl_queues.specs.Queues.{items_at}
+use Rattle.pl_queues.specs.Queues.{has_items, items_at}
 use Rattle.pl_world.specs.LinksAndMoves.{item_lost}
-use Rattle.pl_world.specs.Refusals.{is_none_left}
 use Rattle.pl_world.specs.WorldRule.{ComesIn, ComesOver, DeliversFromHost, DeliversFromManager, DeliversOut, DeliversToManager, Loses, ManagerMoves, SwitchMoves}
 use Rattle.pl_world.specs.Worlds.{WorldView}
-use Rattle.pl_world.proofs.Balances.{head_is_item}
+use Rattle.pl_world.proofs.Balances.{head_is_item, sent_is_item}
 
 -- a queue with a head is not empty
-pub not_empty : {T : Type 0} (items : List T) → items ≡ [] → is_none_left items ≡ false → ⊥
+pub not_empty : {T : Type 0} (items : List T) → items ≡ [] → has_items items ≡ true → ⊥
 not_empty [] empty there = absurd (cc)
 not_empty (x ∷ items) empty there = absurd (cc)
 
-pub host_item : (w mid : WorldView) (h : ℕ) (item : Item) → IsTakenFromHost w h mid item → AllByRecursion (AllByRecursion IsItem) w.from_hosts → IsItem item
-host_item w mid h item taken all = head_is_item w.from_hosts h item taken.items taken.head all
+pub host_item : (w mid : WorldView) (h : ℕ) (item : Item) → IsTakenFromHost w h mid item → AllByRecursion (AllByRecursion IsDataItem) w.from_hosts → IsItem item
+host_item w mid h item taken all = sent_is_item w.from_hosts h item taken.items taken.head all
 
 pub out_item : (w mid : WorldView) (s port : ℕ) (item : Item) → IsTakenOut w s port mid item → AllByRecursion (AllByRecursion IsItem) w.out → IsItem item
 out_item w mid s port item taken all = head_is_item w.out (place_of w.plan.k s port) item taken.items taken.head all

@@ -4,7 +4,6 @@ pub mod Delivered
 pub mod Failing
 pub mod Refusing
 pub mod Allowed
-pub mod Marked
 pub mod Queued
 pub mod NextQueues
 pub mod QueueLists

@@ -12,7 +12,7 @@ use Rattle.pl_queues.proofs.Places.{next_place_is_least}
 use Rattle.pl_world.specs.Changes.{host_no, switch_no}
 use Rattle.pl_world.specs.Flying.{IsFormed}
 use Rattle.pl_world.specs.QueueOrder.{first_from_manager, first_out, first_to_manager, has_items_at, next_in, next_queue, port_queue, queue_at, queue_count}
-use Rattle.pl_world.specs.Refusals.{has_queue, is_empty_queue, is_none_left, refusal_of_queue}
+use Rattle.pl_world.specs.Refusals.{has_queue, is_filled, refusal_of_queue}
 use Rattle.pl_world.specs.Worlds.{WorldView}
 
 module _ (test : ℕ → Bool) (from : ℕ) where
@@ -122,33 +122,26 @@ module _ (plan : Plan) where
         back,
       ) refl
 
-not_none_left : {T : Type 0} (items : List T) → not (is_none_left items) ≡ has_items items
-not_none_left [] = refl
-not_none_left (x ∷ items) = refl
 
 -- each bank of a world has the queues of its numbers
 module _ (w : WorldView) (formed : IsFormed w) where
   items_from_host : (place : ℕ) → place < length w.from_hosts → has_items_at w (0 + place) ≡ has_items (items_at w.from_hosts place)
   items_from_host place h =
       ap (has_items_at w) (zero-add place)
-      ∙ ap (λ q. not (is_empty_queue w q)) (queue_at-host w.plan place (omega (arith, h, formed.from_hosts)))
-      ∙ not_none_left (items_at w.from_hosts place)
+      ∙ ap (is_filled w) (queue_at-host w.plan place (omega (arith, h, formed.from_hosts)))
 
   items_out : (place : ℕ) → place < length w.out → has_items_at w (first_out w.plan + place) ≡ has_items (items_at w.out place)
   items_out place h =
-      ap (λ q. not (is_empty_queue w q)) (queue_at-out w.plan place (omega (arith, h, formed.out)))
-      ∙ not_none_left (items_at w.out (place / w.plan.k * w.plan.k + place % w.plan.k))
+      ap (is_filled w) (queue_at-out w.plan place (omega (arith, h, formed.out)))
       ∙ ap (λ at. has_items (items_at w.out at)) (div-add-mod' place w.plan.k)
 
   items_to_manager : (s : ℕ) → s < length w.to_manager → has_items_at w (first_to_manager w.plan + s) ≡ has_items (items_at w.to_manager s)
   items_to_manager s h =
-      ap (λ q. not (is_empty_queue w q)) (queue_at-to_manager w.plan s (omega (arith, h, formed.to_manager)))
-      ∙ not_none_left (items_at w.to_manager s)
+      ap (is_filled w) (queue_at-to_manager w.plan s (omega (arith, h, formed.to_manager)))
 
   items_from_manager : (s : ℕ) → s < length w.from_manager → has_items_at w (first_from_manager w.plan + s) ≡ has_items (items_at w.from_manager s)
   items_from_manager s h =
-      ap (λ q. not (is_empty_queue w q)) (queue_at-from_manager w.plan s)
-      ∙ not_none_left (items_at w.from_manager s)
+      ap (is_filled w) (queue_at-from_manager w.plan s)
 
   module _ (from : ℕ) where
     first_of_hosts : (answer : Option ℕ) → answer ≡ next_in 0 w.from_hosts from → IsFirst (has_items_at w) from 0 (first_out w.plan) answer
@@ -229,15 +222,15 @@ queue_is_there plan n ports within = elim (cases_lt n (first_out plan)) [
   ]
 ]
 
-not_refused : (there empty : Bool) → there ≡ true → not empty ≡ true → refusal_of_queue there empty ≡ None
-not_refused true false there some = refl
-not_refused true true there some = absurd (cc)
-not_refused false empty there some = absurd (cc)
+not_refused : (there filled : Bool) → there ≡ true → filled ≡ true → refusal_of_queue there filled ≡ None
+not_refused true true there some = refl
+not_refused true false there some = absurd (cc)
+not_refused false filled there some = absurd (cc)
 
 -- what is found is there, and has items
 abbrev pub Waits : WorldView → ℕ → ℕ → Type 0
 Waits w from n =
-    (from ≤ n) × (n < queue_count w.plan) × (refusal_of_queue (has_queue w.plan (queue_at w.plan n)) (is_empty_queue w (queue_at w.plan n)) ≡ None)
+    (from ≤ n) × (n < queue_count w.plan) × (refusal_of_queue (has_queue w.plan (queue_at w.plan n)) (is_filled w (queue_at w.plan n)) ≡ None)
 
 module _ (w : WorldView) (formed : IsFormed w) (from : ℕ) where
   it_waits : (n : ℕ) → IsFirst (has_items_at w) from 0 (queue_count w.plan) (Some n) → Waits w from n
@@ -245,7 +238,7 @@ module _ (w : WorldView) (formed : IsFormed w) (from : ℕ) where
       let ports : 0 < w.plan.k = omega (arith, formed.plan.arity.least) in (
         first.2,
         first.1,
-        not_refused (has_queue w.plan (queue_at w.plan n)) (is_empty_queue w (queue_at w.plan n)) (queue_is_there w.plan n ports first.1) first.3,
+        not_refused (has_queue w.plan (queue_at w.plan n)) (is_filled w (queue_at w.plan n)) (queue_is_there w.plan n ports first.1) first.3,
       )
 
   abbrev pub IsAnswer : Option ℕ → Type 0

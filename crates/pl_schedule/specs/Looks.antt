@@ -1,7 +1,7 @@
 -- What is asked of a world from outside.
-use Rattle.std.specs.Prelude.{ℕ, if◌then◌else◌, length, Option, Some, None}
-use Rattle.pl_journal.specs.declared.entry.Entry.{Entry}
-use Rattle.pl_journal.specs.declared.entry.Entry.TheVariants.{Line, Settled, Unsettled}
+use Rattle.std.specs.Prelude.{ℕ, ◌==◌, if◌then◌else◌, length, Option, Some, None}
+use Rattle.pl_world.specs.declared.error.StepError.{StepError}
+use Rattle.pl_world.specs.declared.error.StepError.TheVariants.{NoSuch, NothingThere}
 use Rattle.pl_world.specs.declared.event.QueueName.{QueueName}
 use Rattle.pl_world.specs.declared.event.QueueName.TheVariants as queue
 use Rattle.pl_world.specs.Changes.{out_of}
@@ -16,9 +16,7 @@ queue_len w (queue.Port s port) = if has_port w.plan s.0 port then Some (length 
 queue_len w (queue.ToManager s) = if has_switch w.plan s.0 then Some (length (items_at w.to_manager s.0)) else None
 queue_len w (queue.FromManager s) = if has_switch w.plan s.0 then Some (length (items_at w.from_manager s.0)) else None
 
--- what a script writes of itself: a line of it, or how a settling ended
-abbrev pub IsMark : Entry → Type 0
-IsMark (Line n) = Unit {0}
-IsMark (Settled rounds) = Unit {0}
-IsMark (Unsettled pending) = Unit {0}
-IsMark entry = ⊥
+-- why nothing can be delivered from a queue of this length
+abbrev pub refusal_of_len : Option ℕ → Option StepError
+refusal_of_len None = Some NoSuch
+refusal_of_len (Some many) = if many == 0 then Some NothingThere else None

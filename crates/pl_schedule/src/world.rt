@@ -1,4 +1,4 @@
-ghost use Rattle.std.specs.Prelude.{◌≡◌, ◌<◌, ◌+◌, [], length, IfOk, OnOk};
+ghost use Rattle.std.specs.Prelude.{◌≡◌, ◌<◌, ◌+◌, [], length, IfOk, OnErr, OnOk};
 ghost use Rattle.pl_wiring.specs.Index.{place_of};
 ghost use Rattle.pl_wiring.specs.Labels.{switch_count};
 ghost use Rattle.pl_world.specs.Changes.{all_noted, begun_by, host_of, is_failed_at, noted, said_to_switch, sent_if_live, told_manager};
@@ -96,7 +96,8 @@ impl<S: SwitchCore, M: ManagerCore, H: HostCore> World<S, M, H> {
     }
 
     fn note(&mut self, entry: Entry) -> Result<(), Memory>
-        ensures { OnOk result (self.new ≡ noted self.old entry) }
+        ensures ok { OnOk result (self.new ≡ noted self.old entry) }
+        ensures err { OnErr result (self.new ≡ self.old) }
     {
         self.book.write(entry)
     }

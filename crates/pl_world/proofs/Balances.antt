@@ -10,15 +10,16 @@ use Rattle.pl_journal.specs.declared.cause.Cause.{Cause}
 use Rattle.pl_journal.specs.declared.entry.Entry.{Entry}
 use Rattle.pl_journal.specs.Flights.{begun, ends}
 use Rattle.pl_world.specs.declared.item.Item.{Item}
+use Rattle.pl_world.specs.declared.item.Item.TheVariants.{Control, Data}
 use Rattle.pl_world.specs.Changes.{ends_of}
-use Rattle.pl_world.specs.Flying.{IsItem, born, times_in, times_in_all}
+use Rattle.pl_world.specs.Flying.{IsDataItem, IsItem, born, times_in, times_in_all}
 use Rattle.pl_world.specs.Worlds.{WorldView}
 use Rattle.pl_world.proofs.Counts.{all_append, all_at, all_set, begun-append, born_more, ends-append, ends_of-begun, ends_of-ends, one, times_in-append, times_in-cons, times_in_all-set, within_queue}
 
 pub record Balanced (plan : Plan) (from_hosts out : List (List Item)) (journal : List Entry) (many : ℕ) (owed : ℕ → ℕ) : Type 0 where
   pub hosts : length from_hosts ≡ length plan.hosts
   pub ports : length out ≡ switch_count plan.k * plan.k
-  pub host_items : AllByRecursion (AllByRecursion IsItem) from_hosts
+  pub host_items : AllByRecursion (AllByRecursion IsDataItem) from_hosts
   pub port_items : AllByRecursion (AllByRecursion IsItem) out
   pub begins : begun journal ≡ many
   pub flights : (id : ℕ) → ends journal id + (times_in_all id from_hosts + times_in_all id out) + owed id ≡ born id many
@@ -65,13 +66,13 @@ module _ (plan : Plan) (from_hosts out : List (List Item)) (journal : List Entry
     flights = λ id. omega (arith, b.flights id, owes id, times_in_all-set id out at queue within);
   }
 
-  pub host_balance : (at : ℕ) (queue : List Item) → at < length from_hosts → AllByRecursion IsItem queue →
+  pub host_balance : (at : ℕ) (queue : List Item) → at < length from_hosts → AllByRecursion IsDataItem queue →
       ((id : ℕ) → times_in id queue + g id ≡ times_in id (get_or from_hosts at []) + f id) →
       Balanced plan from_hosts out journal many f → Balanced plan (set from_hosts at queue) out journal many g
   host_balance at queue within items owes b = record {
     hosts = length-set from_hosts at queue ∙ b.hosts;
     ports = b.ports;
-    host_items = all_set (AllByRecursion IsItem) from_hosts at queue items b.host_items;
+    host_items = all_set (AllByRecursion IsDataItem) from_hosts at queue items b.host_items;
     port_items = b.port_items;
     begins = b.begins;
     flights = λ id. omega (arith, b.flights id, owes id, times_in_all-set id from_hosts at queue within);
@@ -94,10 +95,10 @@ module _ (plan : Plan) (from_hosts out : List (List Item)) (journal : List Entry
       (all_append IsItem (get_or out at []) (item ∷ []) (all_at (AllByRecursion IsItem) out at [] tt b.port_items) (is, tt))
       (λ id. omega (arith, times_in-append id (get_or out at []) (item ∷ []), owes id)) b
 
-  pub put_host_balance : (at : ℕ) (item : Item) → at < length from_hosts → IsItem item → ((id : ℕ) → f id ≡ times_in id (item ∷ []) + g id) →
+  pub put_host_balance : (at : ℕ) (item : Item) → at < length from_hosts → IsDataItem item → ((id : ℕ) → f id ≡ times_in id (item ∷ []) + g id) →
       Balanced plan from_hosts out journal many f → Balanced plan (set from_hosts at (get_or from_hosts at [] ++ item ∷ [])) out journal many g
   put_host_balance at item within is owes b = host_balance at (get_or from_hosts at [] ++ item ∷ []) within
-      (all_append IsItem (get_or from_hosts at []) (item ∷ []) (all_at (AllByRecursion IsItem) from_hosts at [] tt b.host_items) (is, tt))
+      (all_append IsDataItem (get_or from_hosts at []) (item ∷ []) (all_at (AllByRecursion IsDataItem) from_hosts at [] tt b.host_items) (is, tt))
       (λ id. omega (arith, times_in-append id (get_or from_hosts at []) (item ∷ []), owes id)) b
 
   -- the head of a queue is taken, and owed
@@ -110,14 +111,27 @@ module _ (plan : Plan) (from_hosts out : List (List Item)) (journal : List Entry
   pub took_host_balance : (at : ℕ) (item : Item) (items : List Item) → get_or from_hosts at [] ≡ item ∷ items → ((id : ℕ) → g id ≡ times_in id (item ∷ []) + f id) →
       Balanced plan from_hosts out journal many f → Balanced plan (set from_hosts at items) out journal many g
   took_host_balance at item items is owes b = host_balance at items (within_queue from_hosts at item items is)
-      (let all : AllByRecursion IsItem (item ∷ items) = subst (AllByRecursion IsItem) is (all_at (AllByRecursion IsItem) from_hosts at [] tt b.host_items) in all.1)
+      (let all : AllByRecursion IsDataItem (item ∷ items) = subst (AllByRecursion IsDataItem) is (all_at (AllByRecursion IsDataItem) from_hosts at [] tt b.host_items) in all.1)
       (λ id. omega (arith, ap (times_in id) is, times_in-cons id item items, owes id)) b
+
+head_is : (P : Item → Type 0) (queues : List (List Item)) (at : ℕ) (item : Item) (items : List Item) → get_or queues at [] ≡ item ∷ items →
+    AllByRecursion (AllByRecursion P) queues → P item
+head_is P queues at item items is all =
+    let here : AllByRecursion P (item ∷ items) = subst (AllByRecursion P) is (all_at (AllByRecursion P) queues at [] tt all) in here.0
 
 -- a head is an item
 pub head_is_item : (queues : List (List Item)) (at : ℕ) (item : Item) (items : List Item) → get_or queues at [] ≡ item ∷ items →
     AllByRecursion (AllByRecursion IsItem) queues → IsItem item
-head_is_item queues at item items is all =
-    let here : AllByRecursion IsItem (item ∷ items) = subst (AllByRecursion IsItem) is (all_at (AllByRecursion IsItem) queues at [] tt all) in here.0
+head_is_item queues at item items is all = head_is IsItem queues at item items is all
+
+data_is_item : (item : Item) → IsDataItem item → IsItem item
+data_is_item (Control frame) is = absurd is
+data_is_item (Data id frame) is = is
+
+-- and so is that of a host's queue
+pub sent_is_item : (queues : List (List Item)) (at : ℕ) (item : Item) (items : List Item) → get_or queues at [] ≡ item ∷ items →
+    AllByRecursion (AllByRecursion IsDataItem) queues → IsItem item
+sent_is_item queues at item items is all = data_is_item item (head_is IsDataItem queues at item items is all)
 
 module _ (plan : Plan) (from_hosts out : List (List Item)) (journal : List Entry) (many : ℕ) (f : ℕ → ℕ) (cause : Cause) (at : ℕ) where
   -- the frames in a queue end

@@ -29,7 +29,7 @@ use Rattle.pl_core.specs.SwitchViews.{SwitchView}
 use Rattle.pl_core.proofs.Booted.{booted_is_shaped}
 use Rattle.pl_world.specs.declared.limits.Limits.{Limits}
 use Rattle.pl_world.specs.Booting.{CanBegin, all_live, booted, first_stand, host_table, me_of}
-use Rattle.pl_world.specs.Flying.{IsAtPort, IsCounted, IsItem, times_in_all}
+use Rattle.pl_world.specs.Flying.{IsAtPort, IsCounted, IsDataItem, IsItem, times_in_all}
 use Rattle.pl_world.proofs.Counts.{born_none}
 
 -- what holds of each, of a list and of what is made of it
@@ -150,7 +150,7 @@ booted_is_counted plan limits can = let is = can.is_plan in record {
       (λ id within. booted_is_shaped id plan.k (can_boot plan is id within)) plan.ids is.ids_in_range;
   holding = all_mapped (λ (h : Host). length h.mac.0 ≡ 6) HoldsData (λ host. boot_host (me_of host) (host_table plan))
       (λ h six. record { me = six; cache = refl; held = refl }) plan.hosts can.addresses;
-  in_host_queues = all_same (AllByRecursion IsItem) (length plan.hosts) [] tt;
+  in_host_queues = all_same (AllByRecursion IsDataItem) (length plan.hosts) [] tt;
   in_port_queues = all_same (AllByRecursion IsItem) (switch_count plan.k * plan.k) [] tt;
   begun = refl;
   flights = λ id. omega (arith, no_times id (length plan.hosts), no_times id (switch_count plan.k * plan.k), born_none id);

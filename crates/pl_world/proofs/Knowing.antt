@@ -39,7 +39,7 @@ use Rattle.pl_queues.specs.Queues.{items_at}
 use Rattle.pl_world.specs.LinksAndMoves.{item_lost, link_between}
 use Rattle.pl_world.specs.OtherActs.{host_act_done, manager_act_done, reception_noted, skip_noted}
 use Rattle.pl_world.specs.SwitchActs.{Doing, act_done, acts_done, begins, ended, granted, passed, redirected}
-use Rattle.pl_world.specs.WorldRule.{ComesAtHost, ComesAtSwitch, ComesIn, ComesOut, ComesOver, Delivers, DeliversFromHost, DeliversFromManager, DeliversOut, DeliversToManager, Fails, Goes, Happens, HostMoves, HostPlays, IsRepaired, Loses, ManagerMoves, Steps, SwitchMoves, WorldStep, heard_item}
+use Rattle.pl_world.specs.WorldRule.{ComesAtHost, ComesAtSwitch, ComesIn, ComesOut, ComesOver, Delivers, DeliversFromHost, DeliversFromManager, DeliversOut, DeliversToManager, Fails, Goes, Happens, HostMoves, HostPlays, IsRepaired, Loses, ManagerMoves, SwitchMoves, WorldStep, heard_item}
 use Rattle.pl_world.specs.Worlds.{WorldView}
 use Rattle.pl_world.proofs.Hearing.{heard_no_more, heard_one_more}
 
@@ -249,10 +249,3 @@ step_within switch manager host answers old e new within step =
       within = subst (HeardWithin new.plan new.manager) (sym after.2) after.0;
       few_steps = subst (λ (l : Limits). l.steps ≤ 4000000000) (sym after.1) within.few_steps;
     }
-
--- and so do steps one after the other
-pub steps_within : (switch : SwitchRule) (manager : ManagerRule) (host : HostRule) → AnswersDuly manager → (old : WorldView) (events : List Event)
-    (new : WorldView) → IsWithinHearing old → Steps switch manager host old events new → IsWithinHearing new
-steps_within switch manager host answers old [] new within same = subst IsWithinHearing (sym same) within
-steps_within switch manager host answers old (e ∷ events) new within steps =
-    steps_within switch manager host answers steps.0 events new (step_within switch manager host answers old e steps.0 within steps.2) steps.3

@@ -6,5 +6,8 @@ pub mod BootBalances
 pub mod SameLinks
 pub mod Hearing
 pub mod Knowing
+pub mod Runs
+pub mod SettledQueues
+pub mod Drops
 pub mod Begun
 pub mod Looser

@@ -19,7 +19,9 @@ use Rattle.pl_world.specs.declared.spoken_frame.SpokenFrame.{SpokenFrame}
 use Rattle.pl_world.specs.declared.stand.Stand.{Stand}
 use Rattle.pl_world.specs.Changes.{out_of}
 use Rattle.pl_queues.specs.Queues.{items_at}
-use Rattle.pl_world.specs.WorldRule.{ComesAtSwitch, ComesIn, ComesOver, Delivers, DeliversFromHost, DeliversFromManager, DeliversOut, Happens, Steps, SwitchMoves, heard_item}
+use Rattle.pl_world.specs.Runs.{Moment, WorldRun}
+use Rattle.pl_world.specs.Runs.Moment.{Mark, Step}
+use Rattle.pl_world.specs.WorldRule.{ComesAtSwitch, ComesIn, ComesOver, Delivers, DeliversFromHost, DeliversFromManager, DeliversOut, Happens, SwitchMoves, heard_item}
 use Rattle.pl_world.specs.Worlds.{WorldView}
 
 module _ (one other : SwitchRule) (manager : ManagerRule) (host : HostRule) (within : IsWithin one other) where
@@ -78,7 +80,9 @@ module _ (one other : SwitchRule) (manager : ManagerRule) (host : HostRule) (wit
   happens w (event.Join h group) new m = m
   happens w (event.Leave h group) new m = m
 
-  pub steps_looser : (old : WorldView) (events : List Event) (new : WorldView) → Steps one manager host old events new → Steps other manager host old events new
-  steps_looser old [] new same = same
-  steps_looser old (e ∷ events) new steps =
-      (steps.0, steps.1, happens (record old { steps = old.steps + 1 }) e steps.0 steps.2, steps_looser steps.0 events new steps.3)
+  pub run_looser : (old : WorldView) (moments : List Moment) (new : WorldView) → WorldRun one manager host old moments new →
+      WorldRun other manager host old moments new
+  run_looser old [] new same = same
+  run_looser old (Step e ∷ moments) new run =
+      (run.0, (run.1.0, happens (record old { steps = old.steps + 1 }) e run.0 run.1.1), run_looser run.0 moments new run.2)
+  run_looser old (Mark entry ∷ moments) new run = (run.0, run.1, run_looser run.0 moments new run.2)

@@ -58,9 +58,9 @@ use Rattle.pl_queues.specs.Queues.{items_at}
 use Rattle.pl_world.specs.LinksAndMoves.{host_moved, item_lost, joins, link_between, with_link}
 use Rattle.pl_world.specs.OtherActs.{heard_after_tick, host_act_done, manager_act_done, reception_noted, skip_noted}
 use Rattle.pl_world.specs.Refusals.{has_host, has_port, has_switch, is_full, is_for_hosts, refusal, refusal_of_event, refusal_of_link, refusal_of_move}
-use Rattle.pl_world.specs.WorldRule.{ComesAtHost, ComesAtSwitch, ComesIn, ComesOut, ComesOver, Delivers, DeliversFromHost, DeliversFromManager, DeliversOut, DeliversToManager, Fails, Goes, Happens, HostMoves, HostPlays, HostReceives, IsRepaired, Loses, ManagerMoves, Steps, SwitchMoves, Ticks, WorldStep, heard_item}
+use Rattle.pl_world.specs.WorldRule.{ComesAtHost, ComesAtSwitch, ComesIn, ComesOut, ComesOver, Delivers, DeliversFromHost, DeliversFromManager, DeliversOut, DeliversToManager, Fails, Goes, Happens, HostMoves, HostPlays, HostReceives, IsRepaired, Loses, ManagerMoves, SwitchMoves, Ticks, WorldStep, heard_item}
 use Rattle.pl_world.specs.Worlds.{WorldView}
-use Rattle.pl_world.proofs.Balances.{Owes, begun_balance, emptied_host_balance, emptied_out_balance, head_is_item, noted_balance, put_host_balance, took_host_balance, took_out_balance}
+use Rattle.pl_world.proofs.Balances.{Owes, begun_balance, emptied_host_balance, emptied_out_balance, head_is_item, noted_balance, put_host_balance, sent_is_item, took_host_balance, took_out_balance}
 use Rattle.pl_world.proofs.Counts.{all_found, all_set, one, times_in-data}
 use Rattle.pl_world.proofs.SwitchActBalances.{HasRest, Steady, all_acts_steady, owed_by, said_by, says_rest, told_rest}
 
@@ -393,7 +393,7 @@ module _ (switch : SwitchRule) (host : HostRule) (accounts : AccountsForFrames s
   delivers_from_host w h [] new is s comes = absurd comes
   delivers_from_host w h (item ∷ items) new is s comes =
       comes_in (record w { from_hosts = set w.from_hosts h items }) h item (slice_get w.stands h) new refl
-      (head_is_item w.from_hosts h item items is s.balance.host_items)
+      (sent_is_item w.from_hosts h item items is s.balance.host_items)
       (took_host_balance w.plan w.from_hosts w.out w.journal w.begun (λ id. 0) (λ id. times_in id (item ∷ [])) h item items is (λ id. omega arith) s.balance)
       s.rest comes
 
@@ -556,9 +556,3 @@ module _ (switch : SwitchRule) (manager : ManagerRule) (host : HostRule) (accoun
       let s = sound old is in
       counted new (happens_soundly (record old { steps = old.steps + 1 }) happens new (same_refusal old happens ∙ event_is_not_refused old happens none)
       (record { balance = s.balance; rest = s.rest }) step)
-
-  -- and so do steps one after the other
-  pub steps_are_counted : (old : WorldView) (events : List Event) (new : WorldView) → IsCounted old → Steps switch manager host old events new → IsCounted new
-  steps_are_counted old [] new is same = subst IsCounted (sym same) is
-  steps_are_counted old (happens ∷ events) new is steps =
-      steps_are_counted steps.0 events new (step_is_counted old happens steps.0 is steps.1 steps.2) steps.3

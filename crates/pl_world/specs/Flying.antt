@@ -40,6 +40,11 @@ abbrev pub IsItem : Item → Type 0
 IsItem (Control frame) = IsFrame true frame
 IsItem (Data id frame) = IsFrame false frame
 
+-- what waits in a queue of a host: a data frame
+abbrev pub IsDataItem : Item → Type 0
+IsDataItem (Control frame) = ⊥
+IsDataItem (Data id frame) = IsFrame false frame
+
 -- a port that a fat tree of switches with k ports has
 pub record IsAtPort (k : ℕ) (stand : Stand) : Type 0 where
   pub edge : stand.edge.0 < switch_count k
@@ -65,7 +70,7 @@ pub record IsCounted (w : WorldView) : Type 0 where
   pub formed : IsFormed w
   pub shaped : AllByRecursion IsShaped w.switches
   pub holding : AllByRecursion HoldsData w.hosts
-  pub in_host_queues : AllByRecursion (AllByRecursion IsItem) w.from_hosts
+  pub in_host_queues : AllByRecursion (AllByRecursion IsDataItem) w.from_hosts
   pub in_port_queues : AllByRecursion (AllByRecursion IsItem) w.out
   -- frames are numbered as the journal begins them
   pub begun : begun w.journal ≡ w.begun

@@ -5,8 +5,11 @@ pub mod OtherActs
 pub mod LinksAndMoves
 pub mod Refusals
 pub mod WorldRule
+pub mod Runs
 pub mod Booting
 pub mod Flying
 pub mod Hearing
 pub mod Pending
+pub mod SettledQueues
+pub mod Drops
 pub mod QueueOrder

@@ -1,5 +1,5 @@
 -- The queues of a wiring in queue order, and the next of them that has items.
-use Rattle.std.specs.Prelude.{ℕ, ◌+◌, ◌-◌, ◌*◌, ◌/◌, ◌%◌, not, nat_lt, Bool, if◌then◌else◌, List, ◌++◌, length, map, Option}
+use Rattle.std.specs.Prelude.{ℕ, ◌+◌, ◌-◌, ◌*◌, ◌/◌, ◌%◌, nat_lt, Bool, if◌then◌else◌, List, ◌++◌, length, map, Option}
 use Rattle.std.specs.List.{flat_map, range_with_len}
 use Rattle.std.specs.Option.{option_map}
 use Rattle.pl_wiring.specs.Labels.{switch_count}
@@ -8,7 +8,7 @@ use Rattle.pl_world.specs.declared.event.QueueName.{QueueName}
 use Rattle.pl_world.specs.declared.event.QueueName.TheVariants as queue
 use Rattle.pl_queues.specs.Queues.{next_filled, next_place}
 use Rattle.pl_world.specs.Changes.{host_no, switch_no}
-use Rattle.pl_world.specs.Refusals.{is_empty_queue}
+use Rattle.pl_world.specs.Refusals.{is_filled}
 use Rattle.pl_world.specs.Worlds.{WorldView}
 
 abbrev pub host_queues : Plan → List QueueName
@@ -56,7 +56,7 @@ queue_at plan n =
     else queue.FromManager (switch_no (n - first_from_manager plan))
 
 abbrev pub has_items_at : WorldView → ℕ → Bool
-has_items_at w n = not (is_empty_queue w (queue_at w.plan n))
+has_items_at w n = is_filled w (queue_at w.plan n)
 
 -- the number of the first queue from number `from` on that has items
 abbrev pub next_queue : WorldView → ℕ → Option ℕ

@@ -1,5 +1,5 @@
 -- When a step is refused.
-use Rattle.std.specs.Prelude.{ℕ, ◌==◌, ◌&&◌, ◌||◌, not, nat_le, nat_lt, Bool, true, false, if◌then◌else◌, List, [], ◌∷◌, length, sum_by, Option, Some, None}
+use Rattle.std.specs.Prelude.{ℕ, ◌==◌, ◌&&◌, ◌||◌, not, nat_le, nat_lt, Bool, true, false, if◌then◌else◌, List, length, sum_by, Option, Some, None}
 use Rattle.pl_wiring.specs.declared.link.Link.{Link}
 use Rattle.pl_wiring.specs.Labels.{switch_count}
 use Rattle.pl_wiring.specs.LiveLinks.{is_live}
@@ -17,7 +17,7 @@ use Rattle.pl_world.specs.declared.error.StepError.TheVariants.{AlreadySo, Journ
 use Rattle.pl_world.specs.declared.limits.Limits.{Limits}
 use Rattle.pl_world.specs.Changes.{host_at, out_of}
 use Rattle.pl_world.specs.LinksAndMoves.{link_between}
-use Rattle.pl_queues.specs.Queues.{items_at}
+use Rattle.pl_queues.specs.Queues.{has_items, items_at}
 use Rattle.pl_world.specs.Worlds.{WorldView}
 
 abbrev pub frame_bytes : Entry → ℕ
@@ -55,22 +55,20 @@ has_queue plan (queue.Port s port) = has_port plan s.0 port
 has_queue plan (queue.ToManager s) = has_switch plan s.0
 has_queue plan (queue.FromManager s) = has_switch plan s.0
 
-abbrev pub is_none_left : {T : Type 0} → List T → Bool
-is_none_left [] = true
-is_none_left (x ∷ xs) = false
-
-abbrev pub is_empty_queue : WorldView → QueueName → Bool
-is_empty_queue w (queue.FromHost h) = is_none_left (items_at w.from_hosts h.0)
-is_empty_queue w (queue.Port s port) = is_none_left (out_of w s.0 port)
-is_empty_queue w (queue.ToManager s) = is_none_left (items_at w.to_manager s.0)
-is_empty_queue w (queue.FromManager s) = is_none_left (items_at w.from_manager s.0)
+-- whether a queue has items
+abbrev pub is_filled : WorldView → QueueName → Bool
+is_filled w (queue.FromHost h) = has_items (items_at w.from_hosts h.0)
+is_filled w (queue.Port s port) = has_items (out_of w s.0 port)
+is_filled w (queue.ToManager s) = has_items (items_at w.to_manager s.0)
+is_filled w (queue.FromManager s) = has_items (items_at w.from_manager s.0)
 
 -- what is not there cannot be named
 abbrev pub unless_there : Bool → Option StepError
 unless_there there = if there then None else Some NoSuch
 
+-- a queue is there and has items, or not
 abbrev pub refusal_of_queue : Bool → Bool → Option StepError
-refusal_of_queue there empty = if not there then Some NoSuch else if empty then Some NothingThere else None
+refusal_of_queue there filled = if not there then Some NoSuch else if filled then None else Some NothingThere
 
 -- a link that fails is live before, and one that is repaired is not
 abbrev pub refusal_of_link : WorldView → Bool → Option Link → Option StepError
@@ -86,11 +84,11 @@ refusal_of_move w h s port =
     if has_host w.plan h && is_for_hosts w.plan s port then refusal_of_place h (host_at w s port) else Some NoSuch
 
 abbrev pub refusal_of_event : WorldView → Event → Option StepError
-refusal_of_event w (event.Deliver name) = refusal_of_queue (has_queue w.plan name) (is_empty_queue w name)
+refusal_of_event w (event.Deliver name) = refusal_of_queue (has_queue w.plan name) (is_filled w name)
 refusal_of_event w (event.Tick s) = unless_there (has_switch w.plan s.0)
 refusal_of_event w (event.Fail a b) = refusal_of_link w false (link_between w.plan a.0 b.0)
 refusal_of_event w (event.Repair a b) = refusal_of_link w true (link_between w.plan a.0 b.0)
-refusal_of_event w (event.Lose s port) = refusal_of_queue (is_linked w.plan s.0 port) (is_none_left (out_of w s.0 port))
+refusal_of_event w (event.Lose s port) = refusal_of_queue (is_linked w.plan s.0 port) (has_items (out_of w s.0 port))
 refusal_of_event w (event.Move h s port) = refusal_of_move w h.0 s.0 port
 refusal_of_event w (event.Start h) = unless_there (has_host w.plan h.0)
 refusal_of_event w (event.Play h frame original raw) = unless_there (has_host w.plan h.0)

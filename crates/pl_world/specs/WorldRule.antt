@@ -37,7 +37,6 @@ use Rattle.pl_world.specs.Changes.{noted, out_of, receiver, switch_no}
 use Rattle.pl_world.specs.LinksAndMoves.{host_moved, item_lost, link_between, link_failed, link_repaired}
 use Rattle.pl_world.specs.OtherActs.{heard_after_tick, heard_with, host_stepped, manager_stepped, reception_noted, skip_noted}
 use Rattle.pl_queues.specs.Queues.{items_at}
-use Rattle.pl_world.specs.Refusals.{refusal}
 use Rattle.pl_world.specs.SwitchActs.{switch_stepped}
 use Rattle.pl_world.specs.Worlds.{WorldView}
 
@@ -177,9 +176,3 @@ Happens switch manager host w (event.Leave h group) new = HostMoves host w h.0 (
 -- A step of the world is an event, and is counted.
 abbrev pub WorldStep : SwitchRule → ManagerRule → HostRule → WorldView → Event → WorldView → Type 0
 WorldStep switch manager host old happens new = Happens switch manager host (record old { steps = old.steps + 1 }) happens new
-
--- Steps one after the other. None of them was refused.
-abbrev pub Steps : SwitchRule → ManagerRule → HostRule → WorldView → List Event → WorldView → Type 0
-Steps switch manager host old [] new = new ≡ old
-Steps switch manager host old (happens ∷ events) new =
-    (next : WorldView) × (refusal old happens ≡ None) × WorldStep switch manager host old happens next × Steps switch manager host next events new

@@ -1,12 +1,21 @@
-ghost use Rattle.std.specs.Prelude.{◌≡◌, ◌≤◌, List, None};
+ghost use Rattle.std.specs.Prelude.{◌≡◌, ◌≤◌, ◌↔◌, ℕ, Contains, List, None};
 ghost use Rattle.pl_wiring.specs.Plan.{Plan};
 ghost use Rattle.pl_world.specs.declared.event.Event.{Event};
+ghost use Rattle.pl_journal.specs.declared.cause.Cause.{Cause};
+ghost use Rattle.pl_journal.specs.declared.cause.Cause.TheVariants.{NoMember};
+ghost use Rattle.pl_journal.specs.declared.entry.Entry.TheVariants.{Dropped};
+ghost use Rattle.pl_queues.specs.Queues.{items_at};
+ghost use Rattle.pl_world.specs.declared.item.Item.TheVariants.{Control};
 ghost use Rattle.pl_world.specs.declared.limits.Limits.{Limits};
 ghost use Rattle.pl_world.specs.Booting.{CanBegin, booted};
+ghost use Rattle.pl_world.specs.Drops.{IsDroppedFor, IsOfSwitch, written};
 ghost use Rattle.pl_world.specs.Flying.{IsCounted};
 ghost use Rattle.pl_world.specs.Hearing.{IsWithinHearing};
+ghost use Rattle.pl_world.specs.Pending.{pending};
 ghost use Rattle.pl_world.specs.Refusals.{refusal};
-ghost use Rattle.pl_world.specs.WorldRule.{Steps, WorldStep};
+ghost use Rattle.pl_world.specs.Runs.{Moment, WorldRun};
+ghost use Rattle.pl_world.specs.SettledQueues.{HasSettledQueues};
+ghost use Rattle.pl_world.specs.WorldRule.{WorldStep};
 ghost use Rattle.pl_world.specs.Worlds.{WorldView};
 
 use pl_core::{HostCore, ManagerCore, SwitchCore};
@@ -24,15 +33,40 @@ pub fn each_step_keeps_its_frames_in_order<S: SwitchCore, M: ManagerCore, H: Hos
         refusal old happens ≡ None → WorldStep S.rule M.rule H.rule old happens new → IsCounted new }
 {}
 
-/// So it is at each moment of each run from the beginning.
+/// So it is at each moment of each run from the beginning, whatever a script writes of itself between the
+/// steps.
 pub fn each_run_keeps_its_frames_in_order<S: SwitchCore, M: ManagerCore, H: HostCore>()
-    ensures { (plan : Plan) (limits : Limits) (events : List Event) (new : WorldView) → CanBegin plan →
-        Steps S.rule M.rule H.rule (booted plan limits) events new → IsCounted new }
+    ensures { (plan : Plan) (limits : Limits) (moments : List Moment) (new : WorldView) → CanBegin plan →
+        WorldRun S.rule M.rule H.rule (booted plan limits) moments new → IsCounted new }
 {}
 
 /// At each moment of each run the manager has heard the switches of the wiring alone, and has learnt no
 /// more addresses than steps were made: so it can hear whatever comes next.
 pub fn each_run_stays_within_hearing<S: SwitchCore, M: ManagerCore, H: HostCore>()
-    ensures { (plan : Plan) (limits : Limits) (events : List Event) (new : WorldView) → limits.steps ≤ 4000000000 →
-        Steps S.rule M.rule H.rule (booted plan limits) events new → IsWithinHearing new }
+    ensures { (plan : Plan) (limits : Limits) (moments : List Moment) (new : WorldView) → limits.steps ≤ 4000000000 →
+        WorldRun S.rule M.rule H.rule (booted plan limits) moments new → IsWithinHearing new }
+{}
+
+/// Nothing is pending exactly where the queues are those of a settled fabric: each control frame in them is
+/// the message that its sender would send there now, and no message to or from the manager waits but the
+/// questions of hosts and what they bring about.
+pub fn nothing_is_pending_exactly_where_the_queues_are_settled()
+    ensures { (w : WorldView) → IsCounted w → (pending w ≡ 0) ↔ HasSettledQueues w }
+{}
+
+/// At each moment of each run a host's queue holds data frames alone.
+pub fn hosts_have_no_control_frames_in_their_queues<S: SwitchCore, M: ManagerCore, H: HostCore>()
+    ensures { (plan : Plan) (limits : Limits) (moments : List Moment) (new : WorldView) → CanBegin plan →
+        WorldRun S.rule M.rule H.rule (booted plan limits) moments new →
+        (h : ℕ) (frame : List ℕ) → Contains (items_at new.from_hosts h) (Control frame) → ⊥ }
+{}
+
+/// A step that is no switch's drops a frame exactly in these places: a lose event takes it, as `Lost`; its
+/// link fails while it waits there, as `LinkDown`; its host moves while it waits in the host's queue or in
+/// the queue to the host, or it comes out of a port where no host stands that it is for, as `HostGone`.
+/// A host that is no member of a frame's group is not spoken of here.
+pub fn a_step_that_is_no_switchs_drops_frames_for_their_causes_alone<S: SwitchCore, M: ManagerCore, H: HostCore>()
+    ensures { (old : WorldView) (happens : Event) (new : WorldView) (id : ℕ) (cause : Cause) →
+        WorldStep S.rule M.rule H.rule old happens new → (IsOfSwitch old happens → ⊥) → (cause ≡ NoMember → ⊥) →
+        Contains (written old new) (Dropped id cause) ↔ IsDroppedFor old happens id cause }
 {}

@@ -1,12 +1,11 @@
 -- How the number of stale items goes on.
 use Rattle.std.proofs.Common.{◌≡◌, ℕ, ◌+◌, ◌*◌, ◌<◌, ◌≤◌, ◌&&◌, not, Bool, true, false, IsTrue, ◌↔◌, Option, None, Some, List, [], ◌∷◌, bytes_eq, cond, count_by, sum_by, length, slice_get, slice_set, take, replicate, zero, suc, refl, sym, ap, ◌∙◌, suc-mul, arith}
 use Rattle.std.specs.List.{AllByRecursion}
-use Rattle.std.specs.Bool.{Decides, one_answer}
+use Rattle.std.specs.Bool.{one_answer}
 use Rattle.std.proofs.lemmas.List.{get_or-set_other, get_or-set_same, length-set}
 use Rattle.std.proofs.lemmas.List.Sums.{sum_by-le-sum_by, sum_by-take-le, sum_by_more}
 use Rattle.std.proofs.lemmas.List.Folds.{sum_by-replicate}
 use Rattle.std.proofs.lemmas.Nat.{same_from_place}
-use Rattle.std.proofs.lemmas.Slice.Eq.{bytes_eq-Decides}
 use Rattle.pl_wiring.specs.Index.{place_of}
 use Rattle.pl_core.specs.Announcements.{announcement}
 use Rattle.pl_core.specs.PortRecords.{port_of}
@@ -17,12 +16,8 @@ use Rattle.pl_queues.specs.Queues.{items_at}
 use Rattle.pl_world.specs.declared.item.Item.{Item}
 use Rattle.pl_world.specs.declared.item.Item.TheVariants.{Control, Data}
 use Rattle.pl_world.specs.Pending.{is_announced, is_control_item, is_stale, stale, stale_at, stale_at_ports, stale_in}
+use Rattle.pl_world.proofs.SettledQueues.{is_announced-decides}
 use Rattle.pl_world_parts.proofs.Sums.{one_le_sum, sum_from, sum_last, sums_changed, sums_same}
-
--- the test of a frame
-is_announced-decides : (host : Bool) (xs ys : List ℕ) → Decides (not host && bytes_eq xs ys) ((host ≡ false) × (xs ≡ ys))
-is_announced-decides true xs ys = (λ e. absurd (cc), λ h. absurd (cc))
-is_announced-decides false xs ys = (λ e. (refl, (bytes_eq-Decides xs ys).0 e), λ h. (bytes_eq-Decides xs ys).1 h.1)
 
 announced_is : (b : Bool) (v : SwitchView) (port : ℕ) (frame : List ℕ) → (IsTrue b ↔ IsAnnounced v port frame) → b ≡ is_announced v port frame
 announced_is b v port frame h =

@@ -8,7 +8,7 @@ use Rattle.pl_core.specs.declared.acts.HostAct.{HostAct}
 use Rattle.pl_core.specs.declared.acts.ManagerAct.{ManagerAct}
 use Rattle.pl_core.specs.declared.messages.ToManager.{ToManager}
 use Rattle.pl_layouts.specs.declared.place.Place.{Place}
-use Rattle.pl_core.specs.Accounting.{AccountsForFrames, CanCome, IsComing, IsFit, IsShaped, IsWhole}
+use Rattle.pl_core.specs.Accounting.{AccountsForFrames, CanCome, IsFit, IsShaped}
 use Rattle.pl_core.specs.Gains.{Gains}
 use Rattle.pl_core.specs.HostInputs.{HostAnswer, HostInput, HostRule}
 use Rattle.pl_core.specs.HostViews.{HostView}
@@ -116,17 +116,15 @@ module _ (rule : HostRule) (v w : WorldView) (h : ℕ) (input : HostInput) (answ
         changed = rw (sym (steps.gained ∙ ap (λ xs. xs ++ steps.items) empty), ← step.changed) is_new;
       })
 
--- a frame may come at a port that the wiring has
-pub can_come : (v w : WorldView) (port : ℕ) (frame : List ℕ) → v ≡ w → port < w.plan.k → IsWhole frame → (u : SwitchView) → u.k ≡ v.plan.k → IsComing u.k port frame
-can_come v w port frame same within whole u size = record {
-  within = let here : port < v.plan.k = subst (λ x. port < x.plan.k) (sym same) within in rw size here;
-  whole = whole;
-}
+-- what comes may come at each switch that has as many ports as the wiring says
+pub can_come : (v w : WorldView) (input : SwitchInput) → v ≡ w → ((u : SwitchView) → u.k ≡ w.plan.k → CanCome u input) →
+    (u : SwitchView) → u.k ≡ v.plan.k → CanCome u input
+can_come v w input same can = subst (λ (x : WorldView). (u : SwitchView) → u.k ≡ x.plan.k → CanCome u input) (sym same) can
 
-pub coming_at : (v w : WorldView) (s port : ℕ) (frame : List ℕ) → v ≡ w → IsFormed v → port < w.plan.k → IsWhole frame →
-    (u : SwitchView) → slice_get v.switches s ≡ Some u → IsComing u.k port frame
-coming_at v w s port frame same formed within whole u found =
-    can_come v w port frame same within whole u (all_found (λ (x : SwitchView). x.k ≡ v.plan.k) v.switches s u found formed.ports)
+pub coming_at : (v w : WorldView) (s : ℕ) (input : SwitchInput) → v ≡ w → IsFormed v → ((u : SwitchView) → u.k ≡ w.plan.k → CanCome u input) →
+    (u : SwitchView) → slice_get v.switches s ≡ Some u → CanCome u input
+coming_at v w s input same formed can u found =
+    can_come v w input same can u (all_found (λ (x : SwitchView). x.k ≡ v.plan.k) v.switches s u found formed.ports)
 
 -- the manager hears a switch
 pub can_hear : (v w : WorldView) (s : ℕ) (id : SwitchId) → v ≡ w → ((i : SwitchId) → slice_get w.plan.ids s ≡ Some i → CanHear w.manager i) →

@@ -6,8 +6,12 @@ use Rattle.pl_layouts.specs.declared.place.Place.{Place}
 use Rattle.pl_core.specs.HostInputs.{HostAnswer, HostInput, HostRule}
 use Rattle.pl_core.specs.HostViews.{HostView}
 use Rattle.pl_core.specs.SwitchInputs.{SwitchInput, SwitchRule}
+use Rattle.pl_core.specs.SwitchInputs.SwitchInput.{Comes, Says, Tick}
 use Rattle.pl_core.specs.HostInputs.HostInput.{HasMoved, Joins, Leaves, Retries, Starts}
 use Rattle.pl_core.specs.SwitchViews.{SwitchView}
+use Rattle.pl_world_parts.specs.declared.incoming.Incoming.{Incoming}
+use Rattle.pl_world_parts.specs.declared.incoming.Incoming.TheVariants as incoming
+use Rattle.pl_world_parts.specs.declared.incoming.Incoming.TheVariants.{Frame, Message}
 use Rattle.pl_world_parts.specs.declared.urge.Urge.{Urge}
 use Rattle.pl_world_parts.specs.declared.urge.Urge.TheVariants.{Join, Leave, Moved, Retry, Start}
 
@@ -45,3 +49,9 @@ input_of Retry = Retries
 input_of Moved = HasMoved
 input_of (Join group) = Joins group
 input_of (Leave group) = Leaves group
+
+-- what a switch hears, as its rule has it
+abbrev pub input_from : Incoming → SwitchInput
+input_from (Frame port frame) = Comes port frame.now
+input_from incoming.Tick = Tick
+input_from (Message says) = Says says.now

@@ -1,7 +1,6 @@
 ghost use Rattle.std.specs.Prelude.{◌≡◌};
-ghost use Rattle.pl_world.specs.Pending.{is_control_item, is_order, is_report};
+ghost use Rattle.pl_world.specs.Pending.{is_order, is_report};
 
-use pl_world::Item;
 use pl_core::{ToManager, ToSwitch};
 use pl_queues::Counted;
 use std::marker::Model;
@@ -76,18 +75,6 @@ impl Counted for WaitingToSwitch {
         match self.0 {
             ToSwitch::Answer { .. } | ToSwitch::Flood { .. } => false,
             _ => true,
-        }
-    }
-}
-
-// A control frame counts, since it alone may be stale.
-impl Counted for Item {
-    ghost counts = { is_control_item };
-
-    fn counts(&self) -> bool {
-        match self {
-            Item::Control(_) => true,
-            Item::Data(..) => false,
         }
     }
 }

@@ -5,6 +5,7 @@
 pub use atlas::Atlas;
 pub use book::Book;
 pub use counting::{WaitingToManager, WaitingToSwitch};
+pub use incoming::Incoming;
 pub use links::{link_of, set_live};
 pub use moves::{arrive_at, play_at, urge_at};
 pub use stands::Stands;
@@ -14,6 +15,7 @@ pub use urge::Urge;
 mod atlas;
 mod book;
 mod counting;
+mod incoming;
 mod links;
 mod moves;
 mod stands;

@@ -1,71 +1,51 @@
 ghost use Rattle.std.specs.Prelude.{◌≡◌, ◌<◌, length, map, slice_get, vec_len, IfOk, OnOk, Some};
-ghost use Rattle.pl_core.specs.Accounting.{IsComing};
+ghost use Rattle.pl_core.specs.Accounting.{CanCome};
 ghost use Rattle.pl_core.specs.Gains.{Gains};
 ghost use Rattle.pl_core.specs.HostInputs.HostAnswer.{Nothing, Played, Received};
 ghost use Rattle.pl_core.specs.HostInputs.HostInput.{Receives};
-ghost use Rattle.pl_core.specs.SwitchInputs.SwitchInput.{Comes, Says, Tick};
 ghost use Rattle.pl_core.specs.SwitchViews.{SwitchView};
-ghost use Rattle.pl_world_parts.specs.Moves.{HostSteps, IsOneChanged, SwitchSteps, input_of, sizes};
+ghost use Rattle.pl_world_parts.specs.Moves.{HostSteps, IsOneChanged, SwitchSteps, input_from, input_of, sizes};
 ghost use Rattle.pl_world.specs.WorldRule.{played_as};
 
+use crate::incoming::Incoming;
 use crate::urge::Urge;
-use pl_core::{HostCore, HostOutbox, Outbox, Reception, SwitchCore, ToSwitch};
+use pl_core::{HostCore, HostOutbox, Outbox, Reception, SwitchCore};
 use pl_frame::Memory;
 use pl_layouts::Place;
 use pl_journal::Skip;
 
-/// One of some switches ticks. The answer is its place before and after.
-pub fn tick_at<S: SwitchCore>(
-    switches: &mut Vec<S>,
-    s: usize,
+fn hear<S: SwitchCore>(
+    switch: &mut S,
+    incoming: Incoming,
     out: &mut Outbox,
-) -> Result<(Place, Place), Memory>
-    requires { s < vec_len switches.old }
-    ensures step { IfOk result (λ places. Gains out.old out.new
-        (SwitchSteps S.rule (map S.view switches.old.items) s Tick (map S.view switches.new.items) places.0 places.1)) }
-    ensures kept { sizes (map S.view switches.new.items) ≡ sizes (map S.view switches.old.items) }
-    ensures others { IsOneChanged (map S.view switches.old.items) s (map S.view switches.new.items) }
+) -> Result<(), Memory>
+    requires { CanCome (S.view switch.old) (input_from incoming) }
+    ensures step { OnOk result (Gains out.old out.new (S.rule (S.view switch.old) (input_from incoming.entry) (S.view switch.new))) }
+    ensures k { (S.view switch.new).k ≡ (S.view switch.old).k }
 {
-    let old = switches[s].place();
-    switches[s].tick(out)?;
-    Ok((old, switches[s].place()))
+    match incoming {
+        Incoming::Frame(port, frame) => switch.receive(port, frame, out),
+        Incoming::Tick => switch.tick(out),
+        Incoming::Message(says) => switch.manager_says(says, out),
+    }
 }
 
-/// A frame comes at a port of one of them.
-pub fn receive_at<S: SwitchCore>(
+/// Something comes at one of some switches. The answer is its place before and after.
+pub fn hear_at<S: SwitchCore>(
     switches: &mut Vec<S>,
     s: usize,
-    port: u8,
-    frame: &[u8],
+    incoming: Incoming,
     out: &mut Outbox,
 ) -> Result<(Place, Place), Memory>
     requires within { s < vec_len switches.old }
-    requires coming { (v : SwitchView) → slice_get (map S.view switches.old.items) s ≡ Some v → IsComing v.k port frame.now }
+    requires coming { (v : SwitchView) → slice_get (map S.view switches.old.items) s ≡ Some v → CanCome v (input_from incoming) }
     ensures step { IfOk result (λ places. Gains out.old out.new
-        (SwitchSteps S.rule (map S.view switches.old.items) s (Comes port frame.now) (map S.view switches.new.items) places.0 places.1)) }
+        (SwitchSteps S.rule (map S.view switches.old.items) s (input_from incoming.entry) (map S.view switches.new.items) places.0 places.1)) }
     ensures kept { sizes (map S.view switches.new.items) ≡ sizes (map S.view switches.old.items) }
     ensures others { IsOneChanged (map S.view switches.old.items) s (map S.view switches.new.items) }
 {
     let old = switches[s].place();
-    switches[s].receive(port, frame, out)?;
-    Ok((old, switches[s].place()))
-}
-
-/// The manager speaks to one of them.
-pub fn says_at<S: SwitchCore>(
-    switches: &mut Vec<S>,
-    s: usize,
-    says: &ToSwitch,
-    out: &mut Outbox,
-) -> Result<(Place, Place), Memory>
-    requires { s < vec_len switches.old }
-    ensures step { IfOk result (λ places. Gains out.old out.new
-        (SwitchSteps S.rule (map S.view switches.old.items) s (Says says.now) (map S.view switches.new.items) places.0 places.1)) }
-    ensures kept { sizes (map S.view switches.new.items) ≡ sizes (map S.view switches.old.items) }
-    ensures others { IsOneChanged (map S.view switches.old.items) s (map S.view switches.new.items) }
-{
-    let old = switches[s].place();
-    switches[s].manager_says(says, out)?;
+    hear(&mut switches[s], incoming, out)?;
     Ok((old, switches[s].place()))
 }
 

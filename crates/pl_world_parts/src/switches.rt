@@ -1,22 +1,22 @@
 ghost use Rattle.std.specs.Prelude.{◌≡◌, ◌<◌, ◌≤◌, ◌*◌, ◌∷◌, [], cond, count_by, length, map, option_to_list, replicate, slice_get, slice_set, vec_len, IfOk, MatchOption, OnErr, OnOk, Some};
 ghost use Rattle.std.specs.List.{AllByRecursion};
 ghost use Rattle.pl_wiring.specs.Index.{place_of};
-ghost use Rattle.pl_core.specs.Accounting.{IsComing};
+ghost use Rattle.pl_core.specs.Accounting.{CanCome};
 ghost use Rattle.pl_core.specs.Gains.{Gains};
-ghost use Rattle.pl_core.specs.SwitchInputs.SwitchInput.{Comes, Says, Tick};
 ghost use Rattle.pl_core.specs.SwitchViews.{SwitchView};
 ghost use Rattle.pl_queues.specs.Counts.{most};
 ghost use Rattle.pl_queues.specs.Queues.{items_at, put_at};
-ghost use Rattle.pl_world_parts.specs.Moves.{SwitchSteps, sizes};
+ghost use Rattle.pl_world_parts.specs.Moves.{SwitchSteps, input_from, sizes};
 ghost use Rattle.pl_world.specs.Pending.{HasQueues, is_stale, stale, stale_at, stale_at_ports};
 
 use pl_world::Item;
-use crate::moves::{receive_at, says_at, tick_at};
+use crate::incoming::Incoming;
+use crate::moves::hear_at;
 use pl_frame::Memory;
-use pl_core::{Outbox, SwitchCore, SwitchFacts, ToSwitch};
+use pl_core::{Outbox, SwitchCore, SwitchFacts};
 use pl_layouts::Place;
 use pl_lists::Queue;
-use pl_queues::{CountedQueues, Queues};
+use pl_queues::{CountedQueues, Queues, one_if};
 use std::marker::Model;
 
 /// The switches, each with as many ports, and the queues out of their ports, switch by switch. A control
@@ -87,7 +87,7 @@ impl<S: SwitchCore> Switches<S> {
     {
         let _bound = self.out.counted();
         let (s, port) = port_at(self.k, at);
-        let more = count_if(is_stale(&self.cores[s], port, &item));
+        let more = one_if(is_stale(&self.cores[s], port, &item));
         self.out.put(at, item)?;
         self.stale += more;
         Ok(())
@@ -117,61 +117,23 @@ impl<S: SwitchCore> Switches<S> {
         queue
     }
 
-    /// One of the switches ticks. The answer is its place before and after.
-    pub fn tick(&mut self, s: usize, out: &mut Outbox) -> Result<(Place, Place), Memory>
-        requires { s < length self.old.switches }
-        ensures step { IfOk result (λ places. Gains out.old out.new
-            (SwitchSteps S.rule self.old.switches s Tick self.new.switches places.0 places.1)) }
-        ensures kept { sizes self.new.switches ≡ sizes self.old.switches }
-        ensures queues { self.new.out ≡ self.old.out }
-    {
-        let _bound = self.out.counted();
-        let before = stale_at(&self.cores, &self.out, self.k, s);
-        let done = tick_at(&mut self.cores, s, out);
-        let after = stale_at(&self.cores, &self.out, self.k, s);
-        self.stale = self.stale - before + after;
-        done
-    }
-
-    /// A frame comes at a port of one of them.
-    pub fn receive(
+    /// Something comes at one of the switches. The answer is its place before and after.
+    pub fn hear(
         &mut self,
         s: usize,
-        port: u8,
-        frame: &[u8],
+        incoming: Incoming,
         out: &mut Outbox,
     ) -> Result<(Place, Place), Memory>
         requires within { s < length self.old.switches }
-        requires coming { (v : SwitchView) → slice_get self.old.switches s ≡ Some v → IsComing v.k port frame.now }
+        requires coming { (v : SwitchView) → slice_get self.old.switches s ≡ Some v → CanCome v (input_from incoming) }
         ensures step { IfOk result (λ places. Gains out.old out.new
-            (SwitchSteps S.rule self.old.switches s (Comes port frame.now) self.new.switches places.0 places.1)) }
+            (SwitchSteps S.rule self.old.switches s (input_from incoming.entry) self.new.switches places.0 places.1)) }
         ensures kept { sizes self.new.switches ≡ sizes self.old.switches }
         ensures queues { self.new.out ≡ self.old.out }
     {
         let _bound = self.out.counted();
         let before = stale_at(&self.cores, &self.out, self.k, s);
-        let done = receive_at(&mut self.cores, s, port, frame, out);
-        let after = stale_at(&self.cores, &self.out, self.k, s);
-        self.stale = self.stale - before + after;
-        done
-    }
-
-    /// The manager speaks to one of them.
-    pub fn manager_says(
-        &mut self,
-        s: usize,
-        says: &ToSwitch,
-        out: &mut Outbox,
-    ) -> Result<(Place, Place), Memory>
-        requires { s < length self.old.switches }
-        ensures step { IfOk result (λ places. Gains out.old out.new
-            (SwitchSteps S.rule self.old.switches s (Says says.now) self.new.switches places.0 places.1)) }
-        ensures kept { sizes self.new.switches ≡ sizes self.old.switches }
-        ensures queues { self.new.out ≡ self.old.out }
-    {
-        let _bound = self.out.counted();
-        let before = stale_at(&self.cores, &self.out, self.k, s);
-        let done = says_at(&mut self.cores, s, says, out);
+        let done = hear_at(&mut self.cores, s, incoming, out);
         let after = stale_at(&self.cores, &self.out, self.k, s);
         self.stale = self.stale - before + after;
         done
@@ -185,12 +147,6 @@ fn port_at(k: u8, at: usize) -> (usize, u8)
     ensures port { result.1 < k }
 {
     (at / k as usize, (at % k as usize) as u8)
-}
-
-fn count_if(counts: bool) -> u64
-    ensures { result ≡ cond counts 1 0 }
-{
-    if counts { 1 } else { 0 }
 }
 
 #[tactic(auto, using(crate::proofs::Stale::not_announced_is), unfolding(pl_world::specs::Pending::is_stale))]
@@ -210,7 +166,7 @@ fn stale_taken<S: SwitchFacts>(core: &S, port: u8, taken: &Option<Item>) -> u64
 {
     match taken {
         None => 0,
-        Some(item) => count_if(is_stale(core, port, item)),
+        Some(item) => one_if(is_stale(core, port, item)),
     }
 }
 
@@ -220,7 +176,7 @@ fn stale_item<S: SwitchFacts>(core: &S, port: u8, queue: &Queue<Item>, n: usize)
 {
     match queue.get(n) {
         None => 0,
-        Some(item) => count_if(is_stale(core, port, item)),
+        Some(item) => one_if(is_stale(core, port, item)),
     }
 }
 

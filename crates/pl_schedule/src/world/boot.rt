@@ -116,15 +116,21 @@ fn silent_hosts(alloc: Global, wiring: &Wiring) -> Result<Vec<Option<u32>>, Memo
     Ok(heard)
 }
 
+fn me_of(host: &Host) -> Me
+    ensures { result ≡ me_of host.now }
+{
+    Me {
+        mac: host.mac,
+        ip: host.ip,
+    }
+}
+
 fn host_table(alloc: Global, hosts: &[Host]) -> Result<HostTable, Memory>
     ensures { IfOk result (λ table. table ≡ map me_of hosts.now) }
 {
     let mut table = Items::new(alloc);
     for host in hosts {
-        table.push(Me {
-            mac: host.mac,
-            ip: host.ip,
-        })?;
+        table.push(me_of(host))?;
     }
     Ok(table)
 }
@@ -138,11 +144,7 @@ fn boot_hosts<H: HostCore>(
 {
     let mut cores = Vec::new(alloc);
     for host in hosts {
-        let me = Me {
-            mac: host.mac,
-            ip: host.ip,
-        };
-        cores.push(H::boot(alloc, me, table)?)?;
+        cores.push(H::boot(alloc, me_of(host), table)?)?;
     }
     Ok(cores)
 }

@@ -3,7 +3,7 @@ ghost use Rattle.std.specs.List.{AllByRecursion};
 ghost use Rattle.pl_frame.specs.Ethernet.{destination_of};
 ghost use Rattle.pl_wiring.specs.Labels.{switch_count};
 ghost use Rattle.pl_wiring.specs.Peers.{IsPort};
-ghost use Rattle.pl_core.specs.Accounting.{IsShaped, IsWhole};
+ghost use Rattle.pl_core.specs.Accounting.{IsShaped};
 ghost use Rattle.pl_layouts.specs.Frames.{packet_in};
 ghost use Rattle.pl_journal.specs.Lossy.{mac_of_host};
 ghost use Rattle.pl_layouts.specs.Memberships.{is_group};
@@ -17,6 +17,7 @@ ghost use Rattle.pl_world.specs.WorldRule.{ComesAtHost, ComesAtSwitch, ComesIn, 
 use pl_world::SpokenFrame;
 use crate::world::World;
 use pl_world::{Item, Stand};
+use pl_world_parts::Incoming;
 use byteorder::{BigEndian, ByteOrder};
 use pl_arp::read;
 use pl_journal::{Cause, Entry};
@@ -35,10 +36,14 @@ impl<S: SwitchCore, M: ManagerCore, H: HostCore> World<S, M, H> {
         ensures { OnOk result (ComesAtSwitch S.rule self.old s.0 port item self.new) }
     {
         match item {
-            Item::Control(frame) => self.switch_receives(s, port, frame.bytes(), SpokenFrame::Silent),
+            Item::Control(frame) => {
+                let incoming = Incoming::Frame(port, frame.bytes());
+                self.switch_hears(s, incoming, SpokenFrame::Silent)
+            }
             Item::Data(number, frame) => {
                 self.note(Entry::Crossed(number, s))?;
-                self.switch_receives(s, port, frame.bytes(), SpokenFrame::Waiting(number, false))
+                let incoming = Incoming::Frame(port, frame.bytes());
+                self.switch_hears(s, incoming, SpokenFrame::Waiting(number, false))
             }
         }
     }

@@ -1,4 +1,4 @@
-ghost use Rattle.std.specs.Prelude.{◌≡◌, ◌<◌, [], ◌∷◌, false, length, slice_get, slice_set, None, OnOk, Some};
+ghost use Rattle.std.specs.Prelude.{◌≡◌, ◌<◌, [], ◌∷◌, length, slice_get, slice_set, true, None, OnOk, Some};
 ghost use Rattle.std.specs.List.{AllByRecursion};
 ghost use Rattle.pl_frame.specs.declared.address.SwitchId.{SwitchId};
 ghost use Rattle.pl_wiring.specs.Labels.{switch_count};
@@ -6,17 +6,17 @@ ghost use Rattle.pl_wiring.specs.Peers.{IsPort, peer_of};
 ghost use Rattle.pl_core.specs.Accounting.{IsShaped};
 ghost use Rattle.pl_core.specs.ManagerFacts.{CanHear};
 ghost use Rattle.pl_world.specs.Changes.{all_noted, emptied_from_host, emptied_out, ends_of, host_at, out_of};
-ghost use Rattle.pl_world.specs.Flying.{IsAtPort, IsItem};
-ghost use Rattle.pl_queues.specs.Queues.{items_at};
+ghost use Rattle.pl_world.specs.Flying.{IsAtPort, IsDataItem, IsItem};
+ghost use Rattle.pl_queues.specs.Queues.{has_items, items_at};
 ghost use Rattle.pl_world.specs.LinksAndMoves.{host_moved, item_lost};
 ghost use Rattle.pl_world.specs.OtherActs.{heard_after_tick, one_more_tick};
-ghost use Rattle.pl_world.specs.Refusals.{is_none_left};
 ghost use Rattle.pl_world.specs.WorldRule.{DeliversFromHost, DeliversFromManager, DeliversOut, DeliversToManager, Goes, Loses, Ticks};
 
+use pl_world_parts::Incoming;
 use pl_world_parts::Stands;
 use pl_world_parts::Urge;
 use crate::world::World;
-use pl_world::{Item, Stand};
+use pl_world::{Item, SpokenFrame, Stand};
 use pl_journal::{Cause, Entry};
 use pl_core::{HostCore, ManagerCore, SwitchCore};
 use pl_frame::Memory;
@@ -26,9 +26,9 @@ use pl_wiring::{HostNo, Peer, SwitchNo};
 impl<S: SwitchCore, M: ManagerCore, H: HostCore> World<S, M, H> {
     pub(crate) fn deliver_from_host(&mut self, h: HostNo) -> Result<(), Memory>
         requires host { h.0 < length self.old.plan.hosts }
-        requires items { AllByRecursion (AllByRecursion IsItem) self.old.from_hosts }
+        requires items { AllByRecursion (AllByRecursion IsDataItem) self.old.from_hosts }
         requires shaped { AllByRecursion IsShaped self.old.switches }
-        requires there { is_none_left (items_at self.old.from_hosts h.0) ≡ false }
+        requires there { has_items (items_at self.old.from_hosts h.0) ≡ true }
         ensures { OnOk result (DeliversFromHost S.rule self.old h.0 (items_at self.old.from_hosts h.0) self.new) }
     {
         match self.take_from_host(h) {
@@ -54,7 +54,7 @@ impl<S: SwitchCore, M: ManagerCore, H: HostCore> World<S, M, H> {
         requires port { port < self.old.plan.k }
         requires items { AllByRecursion (AllByRecursion IsItem) self.old.out }
         requires shaped { AllByRecursion IsShaped self.old.switches }
-        requires there { is_none_left (out_of self.old s.0 port) ≡ false }
+        requires there { has_items (out_of self.old s.0 port) ≡ true }
         ensures { OnOk result (DeliversOut S.rule H.rule self.old s.0 port (out_of self.old s.0 port) self.new) }
     {
         let peer = self.peer(s, port);
@@ -70,7 +70,7 @@ impl<S: SwitchCore, M: ManagerCore, H: HostCore> World<S, M, H> {
     pub(crate) fn deliver_to_manager(&mut self, s: SwitchNo) -> Result<(), Memory>
         requires switch { s.0 < switch_count self.old.plan.k }
         requires hears { (id : SwitchId) → slice_get self.old.plan.ids s.0 ≡ Some id → CanHear self.old.manager id }
-        requires there { is_none_left (items_at self.old.to_manager s.0) ≡ false }
+        requires there { has_items (items_at self.old.to_manager s.0) ≡ true }
         ensures { OnOk result (DeliversToManager M.rule self.old s.0 (items_at self.old.to_manager s.0) self.new) }
     {
         match self.take_to_manager(s) {
@@ -85,13 +85,13 @@ impl<S: SwitchCore, M: ManagerCore, H: HostCore> World<S, M, H> {
     pub(crate) fn deliver_from_manager(&mut self, s: SwitchNo) -> Result<(), Memory>
         requires switch { s.0 < switch_count self.old.plan.k }
         requires shaped { AllByRecursion IsShaped self.old.switches }
-        requires there { is_none_left (items_at self.old.from_manager s.0) ≡ false }
+        requires there { has_items (items_at self.old.from_manager s.0) ≡ true }
         ensures { OnOk result (DeliversFromManager S.rule self.old s.0 (items_at self.old.from_manager s.0) self.new) }
     {
         match self.take_from_manager(s) {
             None => Ok(()),
             Some(says) => {
-                self.switch_hears(s, &says)?;
+                self.switch_hears(s, Incoming::Message(&says), SpokenFrame::Silent)?;
                 Ok(())
             }
         }
@@ -103,7 +103,7 @@ impl<S: SwitchCore, M: ManagerCore, H: HostCore> World<S, M, H> {
         ensures { OnOk result (Ticks S.rule self.old s.0 self.new) }
     {
         self.count_tick(s);
-        self.switch_ticks(s)?;
+        self.switch_hears(s, Incoming::Tick, SpokenFrame::Silent)?;
         Ok(())
     }
 
@@ -118,7 +118,7 @@ impl<S: SwitchCore, M: ManagerCore, H: HostCore> World<S, M, H> {
     pub(crate) fn lose(&mut self, s: SwitchNo, port: u8) -> Result<(), Memory>
         requires switch { s.0 < switch_count self.old.plan.k }
         requires port { port < self.old.plan.k }
-        requires there { is_none_left (out_of self.old s.0 port) ≡ false }
+        requires there { has_items (out_of self.old s.0 port) ≡ true }
         ensures { OnOk result (Loses self.old s.0 port (out_of self.old s.0 port) self.new) }
     {
         match self.take_out(s, port) {

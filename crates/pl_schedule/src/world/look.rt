@@ -1,12 +1,13 @@
-ghost use Rattle.std.specs.Prelude.{◌≡◌, ◌<◌, length, slice_get, Some, OnOk, true};
+ghost use Rattle.std.specs.Prelude.{◌≡◌, ◌<◌, length, slice_get, Some, OnErr, OnOk, true};
 ghost use Rattle.pl_wiring.specs.Labels.{switch_count};
 ghost use Rattle.pl_world.specs.Changes.{noted, out_of};
 ghost use Rattle.pl_world.specs.Flying.{IsCounted};
 ghost use Rattle.pl_world.specs.Hearing.{IsWithinHearing};
 ghost use Rattle.pl_queues.specs.Queues.{items_at};
-ghost use Rattle.pl_schedule.specs.Looks.{IsMark, queue_len};
+ghost use Rattle.pl_schedule.specs.Looks.{queue_len};
 ghost use Rattle.pl_world.specs.Pending.{pending};
 ghost use Rattle.pl_world.specs.Refusals.{has_port};
+ghost use Rattle.pl_world.specs.Runs.{IsMark};
 
 use crate::world::World;
 use pl_journal::Entry;
@@ -113,10 +114,12 @@ impl<S: SwitchCore, M: ManagerCore, H: HostCore> World<S, M, H> {
         self.heard[h.0 as usize]
     }
 
-    /// Writes of a script what no step writes: one of its lines, or how a settling ended.
+    /// Writes of a script what no step writes: one of its lines, or how a settling ended. After want of
+    /// memory the world is as it was.
     pub fn mark(&mut self, entry: Entry) -> Result<(), Memory>
         requires { IsMark entry }
         ensures marked { OnOk result (self.new ≡ noted self.old entry) }
+        ensures err { OnErr result (self.new ≡ self.old) }
         ensures counted { OnOk result (IsCounted self.old → IsCounted self.new) }
         ensures hearing { OnOk result (IsWithinHearing self.old → IsWithinHearing self.new) }
     {

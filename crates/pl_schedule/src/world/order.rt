@@ -2,7 +2,7 @@ ghost use Rattle.std.specs.Prelude.{◌≡◌, ◌+◌, ◌*◌, ◌<◌, ◌≤
 ghost use Rattle.pl_wiring.specs.Plan.{IsPlan};
 ghost use Rattle.pl_world.specs.Flying.{IsFormed};
 ghost use Rattle.pl_world.specs.QueueOrder.{first_from_manager, first_out, first_to_manager, next_in, next_queue, port_queue, queue_at, queue_count, queue_order};
-ghost use Rattle.pl_world.specs.Refusals.{has_queue, is_empty_queue, refusal_of_queue};
+ghost use Rattle.pl_world.specs.Refusals.{has_queue, is_filled, refusal_of_queue};
 
 use crate::world::World;
 use pl_core::{HostCore, ManagerCore, SwitchCore};
@@ -33,7 +33,7 @@ impl<S: SwitchCore, M: ManagerCore, H: HostCore> World<S, M, H> {
     pub fn next_queue(&self, from: usize) -> Option<usize>
         ensures next { result ≡ next_queue self.now from }
         ensures there { IfSome result (λ n. (from ≤ n) × (n < queue_count self.now.plan)
-            × (refusal_of_queue (has_queue self.now.plan (queue_at self.now.plan n)) (is_empty_queue self.now (queue_at self.now.plan n)) ≡ None)) }
+            × (refusal_of_queue (has_queue self.now.plan (queue_at self.now.plan n)) (is_filled self.now (queue_at self.now.plan n)) ≡ None)) }
     {
         if let Some(n) = self.next_from_host(from) {
             return Some(n);

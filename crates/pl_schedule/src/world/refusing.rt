@@ -1,18 +1,18 @@
-ghost use Rattle.std.specs.Prelude.{◌≡◌, ◌<◌, length, true, Some};
+ghost use Rattle.std.specs.Prelude.{◌≡◌, Some};
 ghost use Rattle.std.specs.Option.{option_map};
 ghost use Rattle.pl_wiring.specs.Labels.{switch_count};
 ghost use Rattle.pl_journal.specs.Places.{is_host_port};
 ghost use Rattle.pl_world.specs.Changes.{host_at, out_of};
-ghost use Rattle.pl_queues.specs.Queues.{items_at};
+ghost use Rattle.pl_queues.specs.Queues.{has_items};
+ghost use Rattle.pl_schedule.specs.Looks.{refusal_of_len};
 ghost use Rattle.pl_world.specs.LinksAndMoves.{link_between};
-ghost use Rattle.pl_world.specs.Refusals.{has_host, has_port, has_queue, has_switch, is_empty_queue, is_for_hosts, is_linked, is_none_left, refusal, refusal_of_event, refusal_of_link, refusal_of_move, refusal_of_place, refusal_of_queue, unless_there};
+ghost use Rattle.pl_world.specs.Refusals.{has_host, has_port, has_queue, has_switch, is_filled, is_for_hosts, is_linked, refusal, refusal_of_event, refusal_of_link, refusal_of_move, refusal_of_place, refusal_of_queue, unless_there};
 
 use pl_world::StepError;
 use pl_world_parts::link_of;
 use crate::world::World;
 use pl_world::{Event, QueueName};
 use pl_core::{HostCore, ManagerCore, SwitchCore};
-use pl_queues::Queues;
 use pl_wiring::{HostNo, Link, Peer, SwitchNo};
 
 impl<S: SwitchCore, M: ManagerCore, H: HostCore> World<S, M, H> {
@@ -88,69 +88,16 @@ impl<S: SwitchCore, M: ManagerCore, H: HostCore> World<S, M, H> {
     }
 
     fn refusal_of_delivery(&self, name: &QueueName) -> Option<StepError>
-        ensures { result ≡ refusal_of_queue (has_queue self.now.plan name.now) (is_empty_queue self.now name.now) }
+        ensures { result ≡ refusal_of_queue (has_queue self.now.plan name.now) (is_filled self.now name.now) }
     {
-        match name {
-            QueueName::FromHost(h) => self.refusal_from_host(*h),
-            QueueName::Port(s, port) => self.refusal_out(*s, *port),
-            QueueName::ToManager(s) => self.refusal_to_manager(*s),
-            QueueName::FromManager(s) => self.refusal_from_manager(*s),
-        }
-    }
-
-    fn refusal_from_host(&self, h: HostNo) -> Option<StepError>
-        ensures { result ≡ refusal_of_queue (has_host self.now.plan h.0) (is_none_left (items_at self.now.from_hosts h.0)) }
-    {
-        if self.has_host(h) {
-            if_nothing(is_none_left(&self.from_hosts, h.0 as usize))
-        } else {
-            Some(StepError::NoSuch)
-        }
-    }
-
-    fn refusal_out(&self, s: SwitchNo, port: u8) -> Option<StepError>
-        ensures { result ≡ refusal_of_queue (has_port self.now.plan s.0 port) (is_none_left (out_of self.now s.0 port)) }
-    {
-        if self.has_port(s, port) {
-            if_nothing(self.is_out_empty(s, port))
-        } else {
-            Some(StepError::NoSuch)
-        }
-    }
-
-    fn is_out_empty(&self, s: SwitchNo, port: u8) -> bool
-        requires { has_port self.now.plan s.0 port ≡ true }
-        ensures { result ≡ is_none_left (out_of self.now s.0 port) }
-    {
-        let place = self.place_out(s, port);
-        is_none_left(self.switches.out(), place)
-    }
-
-    fn refusal_to_manager(&self, s: SwitchNo) -> Option<StepError>
-        ensures { result ≡ refusal_of_queue (has_switch self.now.plan s.0) (is_none_left (items_at self.now.to_manager s.0)) }
-    {
-        if self.has_switch(s) {
-            if_nothing(is_none_left(self.to_manager.queues(), s.0 as usize))
-        } else {
-            Some(StepError::NoSuch)
-        }
-    }
-
-    fn refusal_from_manager(&self, s: SwitchNo) -> Option<StepError>
-        ensures { result ≡ refusal_of_queue (has_switch self.now.plan s.0) (is_none_left (items_at self.now.from_manager s.0)) }
-    {
-        if self.has_switch(s) {
-            if_nothing(is_none_left(self.from_manager.queues(), s.0 as usize))
-        } else {
-            Some(StepError::NoSuch)
-        }
+        refusal_of_len(self.queue_len(*name))
     }
 
     fn refusal_of_loss(&self, s: SwitchNo, port: u8) -> Option<StepError>
-        ensures { result ≡ refusal_of_queue (is_linked self.now.plan s.0 port) (is_none_left (out_of self.now s.0 port)) }
+        ensures { result ≡ refusal_of_queue (is_linked self.now.plan s.0 port) (has_items (out_of self.now s.0 port)) }
     {
         if self.is_linked(s, port) {
-            if_nothing(self.is_out_empty(s, port))
+            refusal_of_len(self.queue_len(QueueName::Port(s, port)))
         } else {
             Some(StepError::NoSuch)
         }
@@ -196,13 +143,12 @@ fn unless_there(there: bool) -> Option<StepError>
 }
 
 // A queue that is there may be empty.
-fn if_nothing(empty: bool) -> Option<StepError>
-    ensures { result ≡ refusal_of_queue true empty }
+fn refusal_of_len(len: Option<usize>) -> Option<StepError>
+    ensures { result ≡ refusal_of_len len }
 {
-    if empty {
-        Some(StepError::NothingThere)
-    } else {
-        None
+    match len {
+        None => Some(StepError::NoSuch),
+        Some(len) => { if len == 0 { Some(StepError::NothingThere) } else { None } }
     }
 }
 
@@ -229,12 +175,4 @@ fn is_host_port(peer: &Peer) -> bool
         Peer::HostPort => true,
         Peer::Switch(..) => false,
     }
-}
-
-#[tactic(auto, using(crate::proofs::Refusing::none_left))]
-fn is_none_left<T>(bank: &Queues<T>, at: usize) -> bool
-    requires { at < length bank.now }
-    ensures { result ≡ is_none_left (items_at bank.now at) }
-{
-    bank.is_empty_at(at)
 }

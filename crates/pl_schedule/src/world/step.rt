@@ -5,7 +5,7 @@ ghost use Rattle.pl_world.specs.declared.error.StepError.{StepError};
 ghost use Rattle.pl_world.specs.Flying.{IsCounted};
 ghost use Rattle.pl_world.specs.Hearing.{IsWithinHearing};
 ghost use Rattle.pl_world.specs.LinksAndMoves.{link_between};
-ghost use Rattle.pl_world.specs.Refusals.{has_queue, is_empty_queue, refusal, refusal_of_event, refusal_of_link, refusal_of_queue};
+ghost use Rattle.pl_world.specs.Refusals.{has_queue, is_filled, refusal, refusal_of_event, refusal_of_link, refusal_of_queue};
 ghost use Rattle.pl_world.specs.WorldRule.{Delivers, Fails, Happens, IsRepaired, WorldStep};
 
 use pl_world_parts::link_of;
@@ -20,7 +20,7 @@ impl<S: SwitchCore, M: ManagerCore, H: HostCore> World<S, M, H> {
     fn deliver(&mut self, name: &QueueName) -> Result<(), Memory>
         requires counted { IsCounted self.old }
         requires hears { (s : ℕ) (id : SwitchId) → slice_get self.old.plan.ids s ≡ Some id → CanHear self.old.manager id }
-        requires allowed { refusal_of_queue (has_queue self.old.plan name.now) (is_empty_queue self.old name.now) ≡ None }
+        requires allowed { refusal_of_queue (has_queue self.old.plan name.now) (is_filled self.old name.now) ≡ None }
         ensures { OnOk result (Delivers S.rule M.rule H.rule self.old name.now self.new) }
     {
         match name {

@@ -3,78 +3,46 @@ ghost use Rattle.pl_frame.specs.declared.address.SwitchId.{SwitchId};
 ghost use Rattle.pl_core.specs.ManagerFacts.{CanHear};
 ghost use Rattle.std.specs.List.{AllByRecursion, fold};
 ghost use Rattle.pl_wiring.specs.Labels.{switch_count};
-ghost use Rattle.pl_core.specs.Accounting.{IsShaped, IsWhole};
+ghost use Rattle.pl_core.specs.Accounting.{CanCome, IsShaped};
 ghost use Rattle.pl_core.specs.HostInputs.HostAnswer.{Nothing};
-ghost use Rattle.pl_core.specs.SwitchInputs.SwitchInput.{Comes, Says, Tick};
-ghost use Rattle.pl_world.specs.declared.spoken_frame.SpokenFrame.TheVariants.{Silent};
+ghost use Rattle.pl_core.specs.SwitchViews.{SwitchView};
 ghost use Rattle.pl_world.specs.Changes.{sent_by_host};
-ghost use Rattle.pl_world_parts.specs.Moves.{input_of};
+ghost use Rattle.pl_world_parts.specs.Moves.{input_from, input_of};
 ghost use Rattle.pl_world.specs.OtherActs.{host_act_done, manager_act_done, reception_noted, skip_noted};
 ghost use Rattle.pl_world.specs.WorldRule.{HostMoves, HostPlays, HostReceives, ManagerMoves, SwitchMoves, played_as};
 
 use pl_world::Item;
 use pl_world::Aside;
-use pl_world_parts::{arrive_at, play_at, urge_at};
+use pl_world_parts::{Incoming, arrive_at, play_at, urge_at};
 use pl_world::SpokenFrame;
 use pl_world_parts::Urge;
 use crate::world::World;
 use pl_journal::{Cause, Entry, Skip};
-use pl_core::{HostAct, HostCore, HostOutbox, ManagerAct, ManagerCore, ManagerOutbox, Reception, SwitchCore, ToManager, ToSwitch};
+use pl_core::{HostAct, HostCore, HostOutbox, ManagerAct, ManagerCore, ManagerOutbox, Reception, SwitchCore, ToManager};
 use pl_frame::Memory;
 use pl_lists::Queue;
 use pl_frame::Frame;
 use pl_wiring::{HostNo, SwitchNo};
 
 impl<S: SwitchCore, M: ManagerCore, H: HostCore> World<S, M, H> {
-    pub(crate) fn switch_ticks(&mut self, s: SwitchNo) -> Result<(), Memory>
-        requires switch { s.0 < switch_count self.old.plan.k }
-        requires shaped { AllByRecursion IsShaped self.old.switches }
-        ensures { OnOk result (SwitchMoves S.rule self.old s.0 Tick Silent self.new) }
-    {
-        let mut acts = Queue::new(self.alloc);
-        let mut aside = Aside {
-            speech: SpokenFrame::Silent,
-            late: Queue::new(self.alloc),
-        };
-        let (old, new) = self.switches.tick(s.0 as usize, &mut acts)?;
-        self.finish(s, old, new, &mut acts, &mut aside)
-    }
-
-    // A frame comes at a port of a switch. The switch's acts speak first of what is said here.
-    pub(crate) fn switch_receives(
+    // Something comes at a switch. The switch's acts speak first of the frame that is said here.
+    pub(crate) fn switch_hears(
         &mut self,
         s: SwitchNo,
-        port: u8,
-        frame: &[u8],
-        speech: SpokenFrame,
+        incoming: Incoming,
+        first: SpokenFrame,
     ) -> Result<(), Memory>
         requires switch { s.0 < switch_count self.old.plan.k }
-        requires port { port < self.old.plan.k }
-        requires whole { IsWhole frame.now }
+        requires coming { (v : SwitchView) → v.k ≡ self.old.plan.k → CanCome v (input_from incoming) }
         requires shaped { AllByRecursion IsShaped self.old.switches }
-        ensures { OnOk result (SwitchMoves S.rule self.old s.0 (Comes port frame.now) speech self.new) }
+        ensures { OnOk result (SwitchMoves S.rule self.old s.0 (input_from incoming.entry) first self.new) }
     {
         let mut acts = Queue::new(self.alloc);
         let mut aside = Aside {
-            speech,
+            speech: first,
             late: Queue::new(self.alloc),
         };
-        let (old, new) = self.switches.receive(s.0 as usize, port, frame, &mut acts)?;
-        self.finish(s, old, new, &mut acts, &mut aside)
-    }
-
-    // The manager speaks to a switch.
-    pub(crate) fn switch_hears(&mut self, s: SwitchNo, says: &ToSwitch) -> Result<(), Memory>
-        requires switch { s.0 < switch_count self.old.plan.k }
-        requires shaped { AllByRecursion IsShaped self.old.switches }
-        ensures { OnOk result (SwitchMoves S.rule self.old s.0 (Says says.now) Silent self.new) }
-    {
-        let mut acts = Queue::new(self.alloc);
-        let mut aside = Aside {
-            speech: SpokenFrame::Silent,
-            late: Queue::new(self.alloc),
-        };
-        let (old, new) = self.switches.manager_says(s.0 as usize, says, &mut acts)?;
+        let (old, new) = self.switches.hear(s.0 as usize, incoming, &mut acts)?;
         self.finish(s, old, new, &mut acts, &mut aside)
     }
 

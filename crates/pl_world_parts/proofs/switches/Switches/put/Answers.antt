@@ -15,7 +15,7 @@ overflow_add-self g c =
     let fits = kept_fits c.self.inside.k (map g.S.SwitchFacts.view c.self.inside.cores.items) c.self.inside.out c.self.inside.stale c.self.invariant in
     let bound : c.counted-bound.result ≡ counted_in is_control_item c.self.inside.out = c.counted-bound.ensures.counted in
     let one = one_at_most c.is_stale.result in
-    omega (arith, fits, bound, one, c.counted-bound.ensures.within, c.count_if-more.ensures)
+    omega (arith, fits, bound, one, c.counted-bound.ensures.within, c.one_if-more.ensures)
 
 pub invariant_of-self-2 : goal.invariant_of-self-2
 invariant_of-self-2 g c = keeps_put c.self.inside.k (map g.S.SwitchFacts.view c.self.inside.cores.items) c.self.inside.out c.port_at-s.result.0 c.port_at-s.result.1 c.args.at c.self.inside.stale
@@ -23,4 +23,4 @@ invariant_of-self-2 g c = keeps_put c.self.inside.k (map g.S.SwitchFacts.view c.
     c.index.result.now c.self.invariant.queues c.self.view_is c.requires c.port_at-s.ensures.place c.index.ensures)
     c.port_at-s.ensures.port c.port_at-s.ensures.place (place_there g.S.SwitchFacts.view c.self.inside.k c.self.inside.cores.items c.self.inside.out c.args.self.now c.port_at-s.result.0 c.port_at-s.result.1 c.args.at
     c.index.result.now c.self.invariant.queues c.self.view_is c.requires c.port_at-s.ensures.place c.index.ensures)
-    c.put.new.self c.args.item c.is_stale.result c.count_if-more.result c.in_ok-put.ensures.ok c.count_if-more.ensures c.is_stale.ensures
+    c.put.new.self c.args.item c.is_stale.result c.one_if-more.result c.in_ok-put.ensures.ok c.one_if-more.ensures c.is_stale.ensures

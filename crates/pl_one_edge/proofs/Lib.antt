@@ -1,5 +1,4 @@
 pub mod Found
-pub mod Bytes
 pub mod Owners
 pub mod Passing
 pub mod Walks

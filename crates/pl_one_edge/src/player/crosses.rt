@@ -4,7 +4,8 @@ ghost use Rattle.pl_layouts.specs.Frames.{packet_in};
 ghost use Rattle.pl_one_edge.specs.Carried.{IsCarried};
 ghost use Rattle.pl_one_edge.specs.Played.{state_of};
 
-use crate::player::frames::{packet_in, rewrite};
+use crate::player::frames::rewrite;
+use pl_layouts::frames::packet_in;
 use crate::player::played::{Played, address_of};
 use crate::player::queue::Flight;
 use crate::player::setting::Setting;

@@ -5,8 +5,8 @@ ghost use Rattle.pl_inputs.specs.declared.status.Status.TheVariants.{OutOfMemory
 use crate::StepReason;
 use pl_capture::CaptureError;
 use pl_script::ScriptReason;
-use pl_wiring::{HostNo, Name};
 use pl_topology::TopologyError;
+use pl_wiring::{HostNo, Name};
 use std::alloc::{AllocError, AllocFailed};
 use std::fmt;
 

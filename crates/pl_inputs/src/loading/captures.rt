@@ -6,10 +6,10 @@ ghost use Rattle.pl_inputs.specs.Inputs.{AreCaptures, IsCaptureAt, all_bytes, ca
 ghost use Rattle.pl_inputs.specs.Loaded.{files_of};
 ghost use Rattle.pl_inputs.specs.Loads.{Reads};
 
+use crate::capture::Capture;
 use crate::folders::in_folder;
 use crate::loading::named::load_named;
 use crate::loading::walk::{Walk, WalkError, read_records};
-use crate::capture::Capture;
 use crate::status::Status;
 use pl_capture::records_are_within;
 use pl_shelf::Shelf;

@@ -9,8 +9,8 @@ use crate::loading::named::load_named;
 use crate::status::{Status, TopologyReason};
 use pl_script::{Command, Script, ScriptError, ScriptLine, ScriptReason};
 use pl_shelf::Shelf;
-use pl_wiring::{Host, Name, SwitchNo, Wiring};
 use pl_topology::TopologyError;
+use pl_wiring::{Host, Name, SwitchNo, Wiring};
 use std::alloc::Global;
 
 const TEXT_LIMIT: u64 = 16 << 20;

@@ -8,15 +8,15 @@ ghost use Rattle.pl_inputs.specs.Numbered.{number_of};
 ghost use Rattle.pl_one_edge.specs.Outcome.{Comes};
 ghost use Rattle.pl_one_edge.specs.Played.{state_of};
 
-use pl_inputs::StepReason;
 use crate::player::directory::look_up;
 use crate::player::error::StepError;
 use crate::player::frames::readdress;
 use crate::player::played::{Played, address_of};
 use crate::player::records::{RecordedFrame, record_at, record_count};
 use crate::player::setting::Setting;
-use pl_journal::Skip;
 use pl_frame::{Frame, FrameError, FrameView, Mac, TYPE_ARP, TYPE_CONTROL, view};
+use pl_inputs::StepReason;
+use pl_journal::Skip;
 use pl_pmac::pack;
 use pl_wiring::{Host, HostNo};
 

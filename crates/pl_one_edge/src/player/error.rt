@@ -2,8 +2,8 @@ ghost use Rattle.std.specs.Prelude.{◌≡◌};
 ghost use Rattle.pl_one_edge.specs.declared.player.error.StepError.TheVariants as step;
 ghost use Rattle.pl_one_edge.specs.declared.player.error.PlayError.TheVariants as play;
 
-use pl_inputs::StepReason;
 use pl_frame::Memory;
+use pl_inputs::StepReason;
 use std::alloc::AllocFailed;
 
 /// Why a step was not done.

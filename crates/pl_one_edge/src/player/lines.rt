@@ -4,12 +4,12 @@ ghost use Rattle.pl_one_edge.specs.Machine.{does, goes_on, how_many, line_begins
 ghost use Rattle.pl_one_edge.specs.Outcome.{Comes, ComesAlong};
 ghost use Rattle.pl_one_edge.specs.Played.{state_of};
 
-use pl_inputs::StepReason;
 use crate::player::error::{PlayError, StepError};
 use crate::player::frames::start_frame;
 use crate::player::played::Played;
 use crate::player::setting::Setting;
 use pl_frame::{Frame, Memory};
+use pl_inputs::StepReason;
 use pl_script::{Command, Count, ScriptLine, Who};
 use pl_wiring::{Host, HostNo};
 

@@ -5,11 +5,11 @@ ghost use Rattle.pl_one_edge.specs.Machine.{queue, with_flight, arrives_at, addr
 ghost use Rattle.pl_one_edge.specs.Played.{state_of};
 ghost use Rattle.pl_one_edge.specs.Carried.{IsCarried};
 
-use pl_inputs::one_more;
 use crate::player::queue::{Flight, Queue};
 use crate::player::queues::{empty_queues, put, take};
-use pl_journal::{Cause, Entry, Journal, Skip};
 use pl_frame::{Frame, Memory};
+use pl_inputs::one_more;
+use pl_journal::{Cause, Entry, Journal, Skip};
 use pl_pmac::Pmac;
 use pl_wiring::{Host, HostNo, SwitchNo};
 use std::alloc::Global;

@@ -4,9 +4,9 @@ ghost use Rattle.pl_pmac.specs.Pmac.{mac_of};
 ghost use Rattle.pl_one_edge.specs.Directory.{FindsBy};
 ghost use Rattle.pl_one_edge.specs.Machine.{address_of, holder_of};
 
-use pl_inputs::Capture;
 use crate::player::directory::{Directory, by_own_address, by_pseudo_address, look_up};
 use pl_frame::{Mac, Memory};
+use pl_inputs::Capture;
 use pl_wiring::{Host, Wiring};
 use std::alloc::Global;
 

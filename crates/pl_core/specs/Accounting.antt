@@ -5,7 +5,9 @@ use Rattle.pl_core.specs.declared.acts.Act.{Act}
 use Rattle.pl_core.specs.declared.acts.Act.TheVariants.{Control, Drop, Grant as GrantAct, Make, Pass, Redirect, Take, Tell}
 use Rattle.pl_core.specs.SwitchInputs.{SwitchInput, SwitchRule}
 use Rattle.pl_core.specs.SwitchInputs.SwitchInput.{Comes, Says, Tick}
-use Rattle.pl_core.specs.SwitchViews.{Grant, Source, SwitchView}
+use Rattle.pl_core.specs.declared.switch_records.Grant.{Grant}
+use Rattle.pl_core.specs.declared.switch_records.Source.{Source}
+use Rattle.pl_core.specs.SwitchViews.{SwitchView}
 use Rattle.pl_layouts.specs.Control.{is_control}
 
 -- What acts have said so far of the frame that they speak of: there is none yet; it waits for its end; it was redirected, and waits; it was

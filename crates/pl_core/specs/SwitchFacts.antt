@@ -5,7 +5,8 @@ use Rattle.pl_frame.specs.declared.address.SwitchId.{SwitchId}
 use Rattle.pl_core.specs.Announcements.{announcement}
 use Rattle.pl_core.specs.PortRecords.{new_port, port_of}
 use Rattle.pl_layouts.specs.Placement.{is_known, nowhere}
-use Rattle.pl_core.specs.SwitchViews.{Hold, SwitchView}
+use Rattle.pl_core.specs.declared.switch_records.Hold.{Hold}
+use Rattle.pl_core.specs.SwitchViews.{SwitchView}
 use Rattle.std.specs.Map.{lookup}
 use Rattle.pl_core.specs.declared.messages.TreePart.{TreePart}
 

@@ -26,7 +26,8 @@ use Rattle.pl_switch_rule.specs.HostsAlone.{host_port}
 use Rattle.pl_core.specs.SwitchFacts.{switch_at_boot}
 use Rattle.pl_switch_rule.specs.SwitchRule.{by_flow, switch_step}
 use Rattle.pl_core.specs.SwitchInputs.SwitchInput.{Comes, Says}
-use Rattle.pl_core.specs.SwitchViews.{Grant, SwitchView}
+use Rattle.pl_core.specs.declared.switch_records.Grant.{Grant}
+use Rattle.pl_core.specs.SwitchViews.{SwitchView}
 use Rattle.pl_examples.specs.VoteExamples.{level, port_to, switch}
 
 abbrev pub acts_of : SwitchView → ℕ → List ℕ → List Act

@@ -16,7 +16,8 @@ use Rattle.pl_switch_rule.specs.Levels.{changes_to}
 use Rattle.pl_core.specs.PortRecords.{new_port}
 use Rattle.pl_switch_rule.specs.Positions.{after_vote, hears_proposal, notes_position}
 use Rattle.pl_core.specs.SwitchFacts.{switch_at_boot}
-use Rattle.pl_core.specs.SwitchViews.{Hold, SwitchView}
+use Rattle.pl_core.specs.declared.switch_records.Hold.{Hold}
+use Rattle.pl_core.specs.SwitchViews.{SwitchView}
 
 abbrev pub switch : ℕ → SwitchId
 switch n = record { 0 = n }

@@ -14,7 +14,8 @@ use Rattle.pl_core.specs.Announcements.{announcement}
 use Rattle.pl_core.specs.PortRecords.{place_at, port_of, ports_where}
 use Rattle.pl_core.specs.SwitchInputs.{SwitchInput}
 use Rattle.pl_core.specs.SwitchInputs.SwitchInput.{Comes, Says, Tick}
-use Rattle.pl_core.specs.SwitchViews.{Grant, SwitchView}
+use Rattle.pl_core.specs.declared.switch_records.Grant.{Grant}
+use Rattle.pl_core.specs.SwitchViews.{SwitchView}
 use Rattle.pl_core.specs.declared.acts.Act.{Act}
 use Rattle.pl_core.specs.declared.acts.Act.TheVariants.{Control as ControlAct, Make}
 use Rattle.pl_core.specs.declared.messages.ToSwitch.{ToSwitch}

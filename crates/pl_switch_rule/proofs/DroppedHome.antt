@@ -22,7 +22,8 @@ use Rattle.pl_switch_rule.specs.Granting.{granted, is_local}
 use Rattle.pl_layouts.specs.Memberships.{is_group}
 use Rattle.pl_switch_rule.specs.Steps.{does}
 use Rattle.pl_switch_rule.specs.SwitchRule.{IsChoice}
-use Rattle.pl_core.specs.SwitchViews.{Grant, SwitchView}
+use Rattle.pl_core.specs.declared.switch_records.Grant.{Grant}
+use Rattle.pl_core.specs.SwitchViews.{SwitchView}
 use Rattle.pl_switch_rule.proofs.DataFrames.{six_of_pmac}
 use Rattle.pl_switch_rule.proofs.DroppedOut.{HasNoWay, forwards_drops}
 use Rattle.pl_switch_rule.proofs.FirstDrops.{AllGoOn, either_drops, first_before, first_behind}

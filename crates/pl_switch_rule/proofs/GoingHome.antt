@@ -19,7 +19,8 @@ use Rattle.pl_core.specs.Accounting.{HasMac, IsFit, IsMade, IsShaped, IsWhole, s
 use Rattle.pl_core.specs.Accounting.Speech.{Redirected, Waiting}
 use Rattle.pl_switch_rule.specs.Steps.{SwitchStep, does, ◌▹◌}
 use Rattle.pl_switch_rule.specs.SwitchRule.{IsChoice}
-use Rattle.pl_core.specs.SwitchViews.{Grant, SwitchView}
+use Rattle.pl_core.specs.declared.switch_records.Grant.{Grant}
+use Rattle.pl_core.specs.SwitchViews.{SwitchView}
 use Rattle.pl_switch_rule.proofs.DataFrames.{arriving_made, newer_address_made, six_of_pmac, with_destination_made}
 use Rattle.pl_switch_rule.proofs.GoingOut.{drop_ends, forwards_ends, pass_ends}
 use Rattle.pl_switch_rule.proofs.Shapes.{same_self}

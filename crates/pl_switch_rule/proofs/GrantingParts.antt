@@ -13,7 +13,9 @@ use Rattle.pl_switch_rule.specs.Granting.{address_at_port, forgets, grant_number
 use Rattle.pl_core.specs.Accounting.{HasMac, IsShaped, RemembersMac}
 use Rattle.pl_layouts.specs.Placement.{is_placed}
 use Rattle.pl_switch_rule.specs.Steps.{SwitchStep, rests, ◌▹◌}
-use Rattle.pl_core.specs.SwitchViews.{Grant, Source, SwitchView}
+use Rattle.pl_core.specs.declared.switch_records.Grant.{Grant}
+use Rattle.pl_core.specs.declared.switch_records.Source.{Source}
+use Rattle.pl_core.specs.SwitchViews.{SwitchView}
 use Rattle.pl_switch_rule.proofs.StepParts.{IsQuiet, IsSame, all_append, quiet_then_quiet}
 use Rattle.pl_switch_rule.proofs.Shapes.{all_get, all_set, grants_have_macs, same_with_grants, same_with_source, source_has_mac}
 use Rattle.pl_switch_rule.proofs.QuietActs.{quiet_either, quiet_rests, quiet_self, quiet_step}

@@ -24,7 +24,10 @@ use Rattle.pl_journal.specs.Places.{are_alike}
 use Rattle.pl_core.specs.PortRecords.{is_open_to_hosts, new_port, port_of, ports_of_switch, with_port}
 use Rattle.pl_layouts.specs.Placement.{is_placed}
 use Rattle.pl_switch_rule.specs.Steps.{SwitchStep, rests, ◌▹◌}
-use Rattle.pl_core.specs.SwitchViews.{Grant, Member, Source, SwitchView}
+use Rattle.pl_core.specs.declared.switch_records.Grant.{Grant}
+use Rattle.pl_core.specs.declared.switch_records.Member.{Member}
+use Rattle.pl_core.specs.declared.switch_records.Source.{Source}
+use Rattle.pl_core.specs.SwitchViews.{SwitchView}
 use Rattle.pl_switch_rule.specs.Telling.{changes_told}
 use Rattle.pl_switch_rule.proofs.FirstDrops.{AllGoOn, GoesOn, go_on_flat_map, go_on_if, quiet_go_on}
 use Rattle.pl_switch_rule.proofs.LevelParts.{quiet_changes_told, quiet_finds_host}

@@ -19,7 +19,8 @@ use Rattle.pl_switch_rule.specs.Messages.{answer_frame, flood_frame, floods, for
 use Rattle.pl_switch_rule.specs.Steps.{SwitchStep, does, rests, ◌▹◌}
 use Rattle.pl_switch_rule.specs.SwitchRule.{IsChoice}
 use Rattle.pl_core.specs.SwitchInputs.SwitchInput.{Says}
-use Rattle.pl_core.specs.SwitchViews.{Grant, SwitchView}
+use Rattle.pl_core.specs.declared.switch_records.Grant.{Grant}
+use Rattle.pl_core.specs.SwitchViews.{SwitchView}
 use Rattle.pl_switch_rule.proofs.AllSteps.{IsAccountedStep}
 use Rattle.pl_switch_rule.proofs.ControlSteps.{ended_is_said}
 use Rattle.pl_switch_rule.proofs.DataFrames.{answer_frame_made, arriving_made, flood_frame_made, probe_frame_made}

@@ -19,7 +19,9 @@ use Rattle.pl_core.specs.Traps.{newer_trap}
 use Rattle.pl_journal.specs.Places.{are_alike}
 use Rattle.pl_layouts.specs.Placement.{is_placed}
 use Rattle.pl_switch_rule.specs.Steps.{does, rests}
-use Rattle.pl_core.specs.SwitchViews.{Grant, Member, SwitchView}
+use Rattle.pl_core.specs.declared.switch_records.Grant.{Grant}
+use Rattle.pl_core.specs.declared.switch_records.Member.{Member}
+use Rattle.pl_core.specs.SwitchViews.{SwitchView}
 use Rattle.pl_switch_rule.proofs.StepParts.{IsQuiet, IsSame}
 use Rattle.pl_switch_rule.proofs.Shapes.{same_but, same_self, same_shape}
 use Rattle.pl_switch_rule.proofs.QuietActs.{AreQuiet, quiet_either, quiet_flat_map, quiet_if, quiet_rests, quiet_self, quiet_step}

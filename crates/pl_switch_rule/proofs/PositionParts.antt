@@ -10,7 +10,8 @@ use Rattle.pl_core.specs.Accounting.{IsShaped}
 use Rattle.pl_switch_rule.specs.Positions.{after_vote, counted, fixes_position, freed_but, frees_others, half, holds_for, is_majority, kept_or_new, marked_for, marks, moves_on, notes_position, with_granted}
 use Rattle.pl_core.specs.SwitchFacts.{hold_at}
 use Rattle.pl_layouts.specs.Votes.{counts, gives_way}
-use Rattle.pl_core.specs.SwitchViews.{Hold, SwitchView}
+use Rattle.pl_core.specs.declared.switch_records.Hold.{Hold}
+use Rattle.pl_core.specs.SwitchViews.{SwitchView}
 use Rattle.pl_switch_rule.proofs.StepParts.{IsSame, same_then}
 use Rattle.pl_switch_rule.proofs.Shapes.{same_but, same_self, same_with_holds}
 use Rattle.pl_switch_rule.proofs.QuietActs.{same_either}

@@ -9,7 +9,11 @@ use Rattle.pl_layouts.specs.declared.place.Place.{Place}
 use Rattle.pl_switch_rule.specs.Granting.{grants_at, remembered_at, with_grants}
 use Rattle.pl_core.specs.Accounting.{HasMac, IsShaped, RemembersMac}
 use Rattle.pl_core.specs.PortRecords.{with_port}
-use Rattle.pl_core.specs.SwitchViews.{Grant, Hold, Member, Source, SwitchView}
+use Rattle.pl_core.specs.declared.switch_records.Grant.{Grant}
+use Rattle.pl_core.specs.declared.switch_records.Hold.{Hold}
+use Rattle.pl_core.specs.declared.switch_records.Member.{Member}
+use Rattle.pl_core.specs.declared.switch_records.Source.{Source}
+use Rattle.pl_core.specs.SwitchViews.{SwitchView}
 use Rattle.pl_switch_rule.proofs.StepParts.{IsSame}
 
 -- Lists.

@@ -1,6 +1,5 @@
 -- What a switch tells its neighbours at a tick.
 use Rattle.std.specs.Prelude.{ℕ, ◌==◌, ◌&&◌, not, Bool, List, ◌++◌, is_none, map}
-use Rattle.std.specs.List.{list_any}
 use Rattle.pl_core.specs.declared.acts.Act.{Act}
 use Rattle.pl_core.specs.declared.acts.Act.TheVariants.{Control}
 use Rattle.pl_layouts.specs.declared.control.Control.TheVariants as control
@@ -8,6 +7,7 @@ use Rattle.pl_layouts.specs.Control.{control_frame}
 use Rattle.pl_core.specs.PortRecords.{is_usable_to, port_of, ports_where, aged}
 use Rattle.pl_layouts.specs.Placement.{is_known}
 use Rattle.pl_switch_rule.specs.Steps.{SwitchStep}
+use Rattle.pl_core.specs.SwitchFacts.{has_granted}
 use Rattle.pl_core.specs.SwitchViews.{SwitchView}
 use Rattle.pl_switch_rule.specs.Telling.{changes_told}
 use Rattle.pl_core.specs.Announcements.{announcement}
@@ -18,7 +18,7 @@ announces_at v port = not (port_of v port).host
 -- an edge switch without a position asks those above it that have not granted its present attempt
 abbrev pub proposes_at : SwitchView → ℕ → Bool
 proposes_at v port =
-    is_known v.place.level 0 && is_none v.place.position && is_usable_to v 1 port && not (list_any (λ p. p == port) v.granted)
+    is_known v.place.level 0 && is_none v.place.position && is_usable_to v 1 port && not (has_granted v port)
 
 abbrev pub proposal : SwitchView → List ℕ
 proposal v = control_frame (control.Proposal v.id (record { attempt = v.attempt; position = v.proposed }))

@@ -10,7 +10,9 @@ use Rattle.pl_core.specs.declared.messages.ToManager.TheVariants.{Learned}
 use Rattle.pl_layouts.specs.Frames.{packet_in}
 use Rattle.pl_layouts.specs.Placement.{is_known, is_placed}
 use Rattle.pl_switch_rule.specs.Steps.{SwitchStep, rests, ◌▹◌}
-use Rattle.pl_core.specs.SwitchViews.{Grant, Source, SwitchView}
+use Rattle.pl_core.specs.declared.switch_records.Grant.{Grant}
+use Rattle.pl_core.specs.declared.switch_records.Source.{Source}
+use Rattle.pl_core.specs.SwitchViews.{SwitchView}
 use Rattle.pl_layouts.specs.Equality.{same_mac}
 
 -- the address number vmid of a port; vmids begin at 1

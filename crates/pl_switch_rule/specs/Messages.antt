@@ -23,7 +23,8 @@ use Rattle.pl_switch_rule.specs.Intake.{is_member, members_become}
 use Rattle.pl_switch_rule.specs.Levels.{changes_to, with_pod}
 use Rattle.pl_layouts.specs.Placement.{is_known}
 use Rattle.pl_switch_rule.specs.Steps.{SwitchStep, does, rests, ◌▹◌}
-use Rattle.pl_core.specs.SwitchViews.{Grant, SwitchView}
+use Rattle.pl_core.specs.declared.switch_records.Grant.{Grant}
+use Rattle.pl_core.specs.SwitchViews.{SwitchView}
 use Rattle.pl_layouts.specs.ArpFrames.{arp_frame, broadcast, no_mac}
 use Rattle.pl_core.specs.Traps.{newer_trap}
 

@@ -1,6 +1,6 @@
-use pl_journal::Cause;
 use crate::{ToManager, ToSwitch};
 use pl_frame::{Frame, Mac, SwitchId};
+use pl_journal::Cause;
 use pl_pmac::Pmac;
 
 /// One thing that a switch does in a step.

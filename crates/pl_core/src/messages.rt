@@ -1,6 +1,6 @@
 use crate::{AvoidList, SwitchList};
-use pl_layouts::Place;
 use pl_frame::{Ip4, Mac, SwitchId};
+use pl_layouts::Place;
 use pl_pmac::Pmac;
 
 /// What a switch tells the fabric manager.

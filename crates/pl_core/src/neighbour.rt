@@ -1,8 +1,8 @@
 ghost use Rattle.std.specs.Prelude.{◌≡◌};
 ghost use Rattle.pl_core.specs.PortRecords.{aged, is_open_to_hosts, is_usable_record};
 
-use pl_layouts::Place;
 use pl_frame::SwitchId;
+use pl_layouts::Place;
 
 /// What a switch last heard at a port: who is there, its place, and the id that it last heard there
 /// itself, its echo.

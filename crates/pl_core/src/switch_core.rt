@@ -9,8 +9,8 @@ ghost use Rattle.pl_core.specs.SwitchInputs.SwitchInput.{Comes, Says, Tick};
 ghost use Rattle.pl_core.specs.SwitchViews.{SwitchView};
 
 use crate::{AvoidList, Memory, Outbox, PortRecord, ToSwitch, TreePart};
-use pl_layouts::Place;
 use pl_frame::SwitchId;
+use pl_layouts::Place;
 use std::alloc::Global;
 
 /// What can be asked of a switch. No call takes memory.

@@ -1,5 +1,5 @@
-use pl_lists::Rising;
 use pl_frame::SwitchId;
+use pl_lists::Rising;
 
 /// The neighbours above a switch through which a pod and position cannot be reached: id, pod and
 /// position, rising.

@@ -7,8 +7,8 @@ use crate::{
     KIND_LDM, KIND_PROPOSAL, KIND_VOTE, LDM_LENGTH, PROPOSAL_LENGTH, VERSION, VOTE_LENGTH,
 };
 use byteorder::{BigEndian, ByteOrder};
-use pl_layouts::{Control, ControlError, Ldm, Place, Proposal, Vote};
 use pl_frame::SwitchId;
+use pl_layouts::{Control, ControlError, Ldm, Place, Proposal, Vote};
 
 /// What a control frame's payload says, or the first thing that is wrong with it: fewer bytes than
 /// version and kind take, then the version, the kind, fewer bytes than the kind takes, and a field.

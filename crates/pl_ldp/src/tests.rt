@@ -1,6 +1,6 @@
 use super::*;
-use pl_layouts::Place;
 use pl_frame::SwitchId;
+use pl_layouts::Place;
 
 // Switch 5 tells that it knows nothing, at a port where it heard nothing.
 const FIRST_MESSAGE: [u8; 33] = [

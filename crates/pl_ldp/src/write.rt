@@ -7,8 +7,8 @@ use crate::{
     KIND_LDM, KIND_PROPOSAL, KIND_VOTE, LDM_LENGTH, PROPOSAL_LENGTH, VERSION, VOTE_LENGTH,
 };
 use byteorder::{BigEndian, ByteOrder};
-use pl_layouts::{Control, Ldm, Proposal, Vote};
 use pl_frame::{SHORTEST, SwitchId, TYPE_CONTROL};
+use pl_layouts::{Control, Ldm, Proposal, Vote};
 
 // The group that every switch is in: 03:50:4c:00:00:01.
 const GROUP: [u8; 6] = [0x03, 0x50, 0x4c, 0, 0, 1];

@@ -3,8 +3,8 @@
 
 pub use bits::BitSet;
 pub use counted::{Counted, CountedQueues, one_if};
-pub use queues::Queues;
 pub use pl_lists::Memory;
+pub use queues::Queues;
 
 mod bits;
 mod counted;

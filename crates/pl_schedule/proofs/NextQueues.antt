@@ -122,7 +122,6 @@ module _ (plan : Plan) where
         back,
       ) refl
 
-
 -- each bank of a world has the queues of its numbers
 module _ (w : WorldView) (formed : IsFormed w) where
   items_from_host : (place : ℕ) → place < length w.from_hosts → has_items_at w (0 + place) ≡ has_items (items_at w.from_hosts place)

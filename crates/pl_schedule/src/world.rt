@@ -4,20 +4,15 @@ ghost use Rattle.pl_wiring.specs.Labels.{switch_count};
 ghost use Rattle.pl_world.specs.Changes.{all_noted, begun_by, host_of, is_failed_at, noted, said_to_switch, sent_if_live, told_manager};
 ghost use Rattle.pl_world.specs.SwitchActs.{granted};
 
-use pl_world_parts::Atlas;
-use pl_world_parts::Book;
-use pl_world_parts::{WaitingToManager, WaitingToSwitch};
-use pl_world_parts::Stands;
-use pl_world_parts::Switches;
-use pl_world::{Item, Limits};
-use pl_journal::{Entry, Journal};
 use pl_core::{HostCore, ManagerCore, SwitchCore, ToManager, ToSwitch};
-use pl_frame::Memory;
+use pl_frame::{Mac, Memory, SwitchId};
+use pl_journal::{Entry, Journal};
 use pl_lists::Queue;
-use pl_frame::{Mac, SwitchId};
-use pl_queues::{CountedQueues, Queues};
 use pl_pmac::Pmac;
+use pl_queues::{CountedQueues, Queues};
 use pl_wiring::{LinkStates, Peer, SwitchNo, Wiring};
+use pl_world::{Item, Limits};
+use pl_world_parts::{Atlas, Book, Stands, Switches, WaitingToManager, WaitingToSwitch};
 use std::alloc::{AllocError, Global};
 use std::marker::Model;
 
@@ -141,7 +136,8 @@ impl<S: SwitchCore, M: ManagerCore, H: HostCore> World<S, M, H> {
         requires { s.0 < switch_count self.old.plan.k }
         ensures { OnOk result (self.new ≡ told_manager self.old s.0 told) }
     {
-        self.to_manager.put(s.0 as usize, WaitingToManager::new(told))
+        self.to_manager
+            .put(s.0 as usize, WaitingToManager::new(told))
     }
 
     fn say(&mut self, to: SwitchId, says: ToSwitch) -> Result<(), Memory>
@@ -149,7 +145,9 @@ impl<S: SwitchCore, M: ManagerCore, H: HostCore> World<S, M, H> {
     {
         match self.atlas.switch_with(to) {
             None => Ok(()),
-            Some(s) => self.from_manager.put(s.0 as usize, WaitingToSwitch::new(says)),
+            Some(s) => self
+                .from_manager
+                .put(s.0 as usize, WaitingToSwitch::new(says)),
         }
     }
 

@@ -255,9 +255,12 @@ module _ (w : WorldView) (n : ℕ) where
         | inl none ↦ absurd none
         | inr here ↦ (here.0, record { link = link; found = found; waits = waits_of _ _ id here.1 })
       ])
-      (λ id c d. inr (d.0, let same : Some d.1.link ≡ Some link = sym d.1.found ∙ found in
-      subst (λ (l : Link). HasData (out_of w l.lower.0 l.lower_port) id ⊎ HasData (out_of w l.upper.0 l.upper_port) id) (some_same d.1.link link same)
-      (of_waits _ _ id d.1.waits)))
+      (λ id c d. inr (
+        d.0,
+        let same : Some d.1.link ≡ Some link = sym d.1.found ∙ found in
+            subst (λ (l : Link). HasData (out_of w l.lower.0 l.lower_port) id ⊎ HasData (out_of w l.upper.0 l.upper_port) id) (some_same d.1.link link same)
+            (of_waits _ _ id d.1.waits),
+      ))
       (adds_then (adds_quiet w.journal (WentDown link.lower link.upper) (λ id c is. absurd (cc)))
       (adds_both LinkDown w.out (place_of w.plan.k link.lower.0 link.lower_port) (place_of w.plan.k link.upper.0 link.upper_port) (w.journal ++ WentDown link.lower link.upper ∷ []))))
     where
@@ -411,8 +414,7 @@ pub step_drops : (switch : SwitchRule) (manager : ManagerRule) (host : HostRule)
     Contains (written old new) (Dropped id c) ↔ IsDroppedFor old happens id c
 step_drops switch manager host old happens new id c step other member =
     let x = drops switch manager host old (old.steps + 1) happens new step other in
-    let same : written old new ≡ x.entries = ap (drop (length old.journal)) x.added ∙ drop-append_seam old.journal x.entries in
-    (
+    let same : written old new ≡ x.entries = ap (drop (length old.journal)) x.added ∙ drop-append_seam old.journal x.entries in (
       (λ there. x.only id c member (among_of_Contains (Dropped id c) x.entries (subst (λ es. Contains es (Dropped id c)) same there))),
       (λ is. subst (λ es. Contains es (Dropped id c)) (sym same) (Contains-of_among (Dropped id c) x.entries (x.all id c is))),
     )

@@ -13,7 +13,13 @@ pub use item::Item;
 pub use limits::Limits;
 pub use spoken_frame::SpokenFrame;
 pub use stand::Stand;
-pub use world_laws::{a_step_that_is_no_switchs_drops_frames_for_their_causes_alone, a_new_world_has_its_frames_in_order, each_run_keeps_its_frames_in_order, each_run_stays_within_hearing, each_step_keeps_its_frames_in_order, hosts_have_no_control_frames_in_their_queues, nothing_is_pending_exactly_where_the_queues_are_settled};
+pub use world_laws::{
+    a_new_world_has_its_frames_in_order,
+    a_step_that_is_no_switchs_drops_frames_for_their_causes_alone,
+    each_run_keeps_its_frames_in_order, each_run_stays_within_hearing,
+    each_step_keeps_its_frames_in_order, hosts_have_no_control_frames_in_their_queues,
+    nothing_is_pending_exactly_where_the_queues_are_settled,
+};
 
 mod aside;
 mod counting;

@@ -65,7 +65,11 @@ pub fn hosts_have_no_control_frames_in_their_queues<S: SwitchCore, M: ManagerCor
 /// link fails while it waits there, as `LinkDown`; its host moves while it waits in the host's queue or in
 /// the queue to the host, or it comes out of a port where no host stands that it is for, as `HostGone`.
 /// A host that is no member of a frame's group is not spoken of here.
-pub fn a_step_that_is_no_switchs_drops_frames_for_their_causes_alone<S: SwitchCore, M: ManagerCore, H: HostCore>()
+pub fn a_step_that_is_no_switchs_drops_frames_for_their_causes_alone<
+    S: SwitchCore,
+    M: ManagerCore,
+    H: HostCore,
+>()
     ensures { (old : WorldView) (happens : Event) (new : WorldView) (id : ℕ) (cause : Cause) →
         WorldStep S.rule M.rule H.rule old happens new → (IsOfSwitch old happens → ⊥) → (cause ≡ NoMember → ⊥) →
         Contains (written old new) (Dropped id cause) ↔ IsDroppedFor old happens id cause }

@@ -4,8 +4,7 @@ ghost use Rattle.pl_layouts.specs.Equality.{same_mac, same_switch};
 ghost use Rattle.pl_world_parts.specs.Atlas.{AddsHost, AddsSwitch, FindsHosts, FindsSwitches};
 
 use indexmap::IndexMap;
-use pl_frame::Memory;
-use pl_frame::{Mac, SwitchId};
+use pl_frame::{Mac, Memory, SwitchId};
 use pl_wiring::{Host, HostNo, SwitchNo, Wiring};
 use std::alloc::Global;
 use std::marker::Model;

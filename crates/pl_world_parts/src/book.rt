@@ -1,10 +1,10 @@
 ghost use Rattle.std.specs.Prelude.{◌≡◌, [], ◌∷◌, ◌++◌, length, OnErr, OnOk};
 ghost use Rattle.pl_world.specs.Refusals.{frame_bytes, is_book_full};
 
-use pl_world::Limits;
+use pl_frame::Memory;
 use pl_journal::{Entry, Journal};
 use pl_lists::Items;
-use pl_frame::Memory;
+use pl_world::Limits;
 use std::alloc::Global;
 use std::marker::Model;
 

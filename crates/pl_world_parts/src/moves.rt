@@ -11,14 +11,10 @@ use crate::incoming::Incoming;
 use crate::urge::Urge;
 use pl_core::{HostCore, HostOutbox, Outbox, Reception, SwitchCore};
 use pl_frame::Memory;
-use pl_layouts::Place;
 use pl_journal::Skip;
+use pl_layouts::Place;
 
-fn hear<S: SwitchCore>(
-    switch: &mut S,
-    incoming: Incoming,
-    out: &mut Outbox,
-) -> Result<(), Memory>
+fn hear<S: SwitchCore>(switch: &mut S, incoming: Incoming, out: &mut Outbox) -> Result<(), Memory>
     requires { CanCome (S.view switch.old) (input_from incoming) }
     ensures step { OnOk result (Gains out.old out.new (S.rule (S.view switch.old) (input_from incoming.entry) (S.view switch.new))) }
     ensures k { (S.view switch.new).k ≡ (S.view switch.old).k }

@@ -7,10 +7,10 @@ ghost use Rattle.pl_world.specs.Booting.{first_stand};
 ghost use Rattle.pl_world.specs.Changes.{stands_at};
 ghost use Rattle.pl_world_parts.specs.Stands.{same_stand};
 
-use pl_world::Stand;
 use indexmap::IndexMap;
 use pl_frame::Memory;
 use pl_wiring::{Host, HostNo, SwitchNo};
+use pl_world::Stand;
 use std::alloc::Global;
 use std::marker::Model;
 

@@ -9,14 +9,14 @@ ghost use Rattle.pl_queues.specs.Queues.{items_at, put_at};
 ghost use Rattle.pl_world_parts.specs.Moves.{SwitchSteps, input_from, sizes};
 ghost use Rattle.pl_world.specs.Pending.{HasQueues, is_stale, stale, stale_at, stale_at_ports};
 
-use pl_world::Item;
 use crate::incoming::Incoming;
 use crate::moves::hear_at;
-use pl_frame::Memory;
 use pl_core::{Outbox, SwitchCore, SwitchFacts};
+use pl_frame::Memory;
 use pl_layouts::Place;
 use pl_lists::Queue;
 use pl_queues::{CountedQueues, Queues, one_if};
+use pl_world::Item;
 use std::marker::Model;
 
 /// The switches, each with as many ports, and the queues out of their ports, switch by switch. A control

@@ -5,17 +5,14 @@ ghost use Rattle.pl_journal.specs.declared.entry.Entry.TheVariants as entry;
 ghost use Rattle.pl_core.specs.Accounting.{IsFit};
 ghost use Rattle.pl_world.specs.SwitchActs.{act_done, acts_done, amid, crossed_again, ended, goes_out, made, passed, place_noted, redirected, with_late};
 
-use pl_world::Item;
-use pl_world::Aside;
-use pl_world::SpokenFrame;
 use crate::world::World;
 use pl_core::{Act, HostCore, ManagerCore, Outbox, SwitchCore};
+use pl_frame::{Frame, Memory};
 use pl_journal::{Cause, Entry};
-use pl_frame::Memory;
 use pl_layouts::Place;
-use pl_frame::Frame;
 use pl_pmac::Pmac;
 use pl_wiring::SwitchNo;
+use pl_world::{Aside, Item, SpokenFrame};
 
 impl<S: SwitchCore, M: ManagerCore, H: HostCore> World<S, M, H> {
     // What one act of a switch brings about.

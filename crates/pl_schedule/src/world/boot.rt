@@ -8,18 +8,15 @@ ghost use Rattle.pl_world.specs.Flying.{IsCounted};
 ghost use Rattle.pl_world.specs.Hearing.{IsWithinHearing};
 ghost use Rattle.pl_world.specs.Pending.{first_switches};
 
-use pl_world::Limits;
-use pl_world_parts::Atlas;
-use pl_world_parts::Book;
-use pl_world_parts::Stands;
-use pl_world_parts::Switches;
 use crate::world::World;
 use pl_arp::Me;
 use pl_core::{HostCore, HostTable, ManagerCore, SwitchCore};
-use pl_lists::Items;
 use pl_frame::Memory;
+use pl_lists::Items;
 use pl_queues::{CountedQueues, Queues};
 use pl_wiring::{Host, LinkStates, SwitchNo, Wiring};
+use pl_world::Limits;
+use pl_world_parts::{Atlas, Book, Stands, Switches};
 use std::alloc::Global;
 
 impl<S: SwitchCore, M: ManagerCore, H: HostCore> World<S, M, H> {

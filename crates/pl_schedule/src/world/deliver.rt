@@ -14,17 +14,15 @@ ghost use Rattle.pl_world.specs.OtherActs.{heard_with};
 ghost use Rattle.pl_schedule.specs.Heads.{IsTakenFromHost, IsTakenFromManager, IsTakenOut, IsTakenToManager};
 ghost use Rattle.pl_world.specs.WorldRule.{ComesAtHost, ComesAtSwitch, ComesIn, ComesOut, ComesOver, heard_item};
 
-use pl_world::SpokenFrame;
 use crate::world::World;
-use pl_world::{Item, Stand};
-use pl_world_parts::Incoming;
 use byteorder::{BigEndian, ByteOrder};
 use pl_arp::read;
-use pl_journal::{Cause, Entry};
 use pl_core::{HostCore, ManagerCore, SwitchCore, ToManager, ToSwitch};
-use pl_frame::Memory;
-use pl_frame::{Frame, Mac, SHORTEST, TYPE_ARP};
+use pl_frame::{Frame, Mac, Memory, SHORTEST, TYPE_ARP};
+use pl_journal::{Cause, Entry};
 use pl_wiring::{HostNo, Peer, SwitchNo};
+use pl_world::{Item, SpokenFrame, Stand};
+use pl_world_parts::Incoming;
 
 impl<S: SwitchCore, M: ManagerCore, H: HostCore> World<S, M, H> {
     // An item comes at a port of a switch.

@@ -2,12 +2,12 @@ ghost use Rattle.std.specs.Prelude.{◌≡◌, ◌<◌, Contains, OnOk};
 ghost use Rattle.pl_wiring.specs.Labels.{switch_count};
 ghost use Rattle.pl_world.specs.LinksAndMoves.{link_failed, link_repaired, with_link};
 
-use pl_world_parts::set_live;
 use crate::world::World;
-use pl_journal::{Cause, Entry};
 use pl_core::{HostCore, ManagerCore, SwitchCore};
 use pl_frame::Memory;
+use pl_journal::{Cause, Entry};
 use pl_wiring::Link;
+use pl_world_parts::set_live;
 
 impl<S: SwitchCore, M: ManagerCore, H: HostCore> World<S, M, H> {
     // A link fails. What waits at its ends goes no further.

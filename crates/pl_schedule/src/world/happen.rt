@@ -12,16 +12,14 @@ ghost use Rattle.pl_world.specs.LinksAndMoves.{host_moved, item_lost};
 ghost use Rattle.pl_world.specs.OtherActs.{heard_after_tick, one_more_tick};
 ghost use Rattle.pl_world.specs.WorldRule.{DeliversFromHost, DeliversFromManager, DeliversOut, DeliversToManager, Goes, Loses, Ticks};
 
-use pl_world_parts::Incoming;
-use pl_world_parts::Stands;
-use pl_world_parts::Urge;
 use crate::world::World;
-use pl_world::{Item, SpokenFrame, Stand};
-use pl_journal::{Cause, Entry};
 use pl_core::{HostCore, ManagerCore, SwitchCore};
 use pl_frame::Memory;
+use pl_journal::{Cause, Entry};
 use pl_lists::Queue;
 use pl_wiring::{HostNo, Peer, SwitchNo};
+use pl_world::{Item, SpokenFrame, Stand};
+use pl_world_parts::{Incoming, Stands, Urge};
 
 impl<S: SwitchCore, M: ManagerCore, H: HostCore> World<S, M, H> {
     pub(crate) fn deliver_from_host(&mut self, h: HostNo) -> Result<(), Memory>

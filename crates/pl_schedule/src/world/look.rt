@@ -10,11 +10,11 @@ ghost use Rattle.pl_world.specs.Refusals.{has_port};
 ghost use Rattle.pl_world.specs.Runs.{IsMark};
 
 use crate::world::World;
-use pl_journal::Entry;
 use pl_core::{HostCore, ManagerCore, SwitchCore};
 use pl_frame::Memory;
-use pl_world::QueueName;
+use pl_journal::Entry;
 use pl_wiring::{HostNo, SwitchNo};
+use pl_world::QueueName;
 
 impl<S: SwitchCore, M: ManagerCore, H: HostCore> World<S, M, H> {
     /// How many items wait in a queue; none exactly where the wiring has no such queue.

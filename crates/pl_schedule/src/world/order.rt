@@ -6,9 +6,9 @@ ghost use Rattle.pl_world.specs.Refusals.{has_queue, is_filled, refusal_of_queue
 
 use crate::world::World;
 use pl_core::{HostCore, ManagerCore, SwitchCore};
-use pl_world::QueueName;
 use pl_queues::Queues;
 use pl_wiring::{HostNo, SwitchNo, Wiring};
+use pl_world::QueueName;
 
 impl<S: SwitchCore, M: ManagerCore, H: HostCore> World<S, M, H> {
     /// How many queues the wiring has.

@@ -8,12 +8,11 @@ ghost use Rattle.pl_schedule.specs.Looks.{refusal_of_len};
 ghost use Rattle.pl_world.specs.LinksAndMoves.{link_between};
 ghost use Rattle.pl_world.specs.Refusals.{has_host, has_port, has_queue, has_switch, is_filled, is_for_hosts, is_linked, refusal, refusal_of_event, refusal_of_link, refusal_of_move, refusal_of_place, refusal_of_queue, unless_there};
 
-use pl_world::StepError;
-use pl_world_parts::link_of;
 use crate::world::World;
-use pl_world::{Event, QueueName};
 use pl_core::{HostCore, ManagerCore, SwitchCore};
 use pl_wiring::{HostNo, Link, Peer, SwitchNo};
+use pl_world::{Event, QueueName, StepError};
+use pl_world_parts::link_of;
 
 impl<S: SwitchCore, M: ManagerCore, H: HostCore> World<S, M, H> {
     /// Why an event is refused, by the first reason that holds; none where the step is made.
@@ -148,7 +147,13 @@ fn refusal_of_len(len: Option<usize>) -> Option<StepError>
 {
     match len {
         None => Some(StepError::NoSuch),
-        Some(len) => { if len == 0 { Some(StepError::NothingThere) } else { None } }
+        Some(len) => {
+            if len == 0 {
+                Some(StepError::NothingThere)
+            } else {
+                None
+            }
+        }
     }
 }
 

@@ -8,13 +8,12 @@ ghost use Rattle.pl_world.specs.LinksAndMoves.{link_between};
 ghost use Rattle.pl_world.specs.Refusals.{has_queue, is_filled, refusal, refusal_of_event, refusal_of_link, refusal_of_queue};
 ghost use Rattle.pl_world.specs.WorldRule.{Delivers, Fails, Happens, IsRepaired, WorldStep};
 
-use pl_world_parts::link_of;
-use pl_world_parts::Urge;
 use crate::world::World;
-use pl_world::{Stand, StepError, Event, QueueName};
 use pl_core::{HostCore, ManagerCore, SwitchCore};
 use pl_frame::Memory;
 use pl_wiring::SwitchNo;
+use pl_world::{Event, QueueName, Stand, StepError};
+use pl_world_parts::{Urge, link_of};
 
 impl<S: SwitchCore, M: ManagerCore, H: HostCore> World<S, M, H> {
     fn deliver(&mut self, name: &QueueName) -> Result<(), Memory>

@@ -11,18 +11,17 @@ ghost use Rattle.pl_world_parts.specs.Moves.{input_from, input_of};
 ghost use Rattle.pl_world.specs.OtherActs.{host_act_done, manager_act_done, reception_noted, skip_noted};
 ghost use Rattle.pl_world.specs.WorldRule.{HostMoves, HostPlays, HostReceives, ManagerMoves, SwitchMoves, played_as};
 
-use pl_world::Item;
-use pl_world::Aside;
-use pl_world_parts::{Incoming, arrive_at, play_at, urge_at};
-use pl_world::SpokenFrame;
-use pl_world_parts::Urge;
 use crate::world::World;
+use pl_core::{
+    HostAct, HostCore, HostOutbox, ManagerAct, ManagerCore, ManagerOutbox, Reception, SwitchCore,
+    ToManager,
+};
+use pl_frame::{Frame, Memory};
 use pl_journal::{Cause, Entry, Skip};
-use pl_core::{HostAct, HostCore, HostOutbox, ManagerAct, ManagerCore, ManagerOutbox, Reception, SwitchCore, ToManager};
-use pl_frame::Memory;
 use pl_lists::Queue;
-use pl_frame::Frame;
 use pl_wiring::{HostNo, SwitchNo};
+use pl_world::{Aside, Item, SpokenFrame};
+use pl_world_parts::{Incoming, Urge, arrive_at, play_at, urge_at};
 
 impl<S: SwitchCore, M: ManagerCore, H: HostCore> World<S, M, H> {
     // Something comes at a switch. The switch's acts speak first of the frame that is said here.

@@ -3,8 +3,7 @@
 
 pub use printing::Piece;
 pub use saving::{Texts, save_all};
-pub use summary::{Rest, summary};
 
 mod printing;
 mod saving;
-mod summary;
+pub mod summary;

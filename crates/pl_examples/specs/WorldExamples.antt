@@ -95,7 +95,7 @@ a_frame_crosses_the_switch_of_its_host =
 it_arrives_at_the_host_at_the_other_port : WorldStep PassesOn Rests Keeps e00_has_passed_it_on (Deliver (queue.Port e00 1)) b_has_it
 unfolding arp_frame
 it_arrives_at_the_host_at_the_other_port =
-    record { reception = Kept; moves = record { before = _; after = _; acts = []; found = refl; ruled = (refl, refl, refl); changed = refl } }
+    record { reception = Kept; turn = record { before = _; after = _; acts = []; found = refl; ruled = (refl, refl, refl); changed = refl } }
 
 -- Items wait on both ways of the link of e0.0 and a0.0, which is at port 2 of the one and port 0 of the other.
 abbrev pub crowded_link : WorldView

@@ -1,7 +1,7 @@
 pub mod Machine
 pub mod FirstPath
 pub mod Carried
-pub mod Played
+pub mod MachineStates
 pub mod Captures
 pub mod Directory
 pub mod Outcome

@@ -5,9 +5,9 @@ use Rattle.pl_one_edge.specs.declared.player.error.StepError.{StepError}
 use Rattle.pl_one_edge.specs.declared.player.error.StepError.TheVariants as step
 use Rattle.pl_one_edge.specs.declared.player.error.PlayError.{PlayError}
 use Rattle.pl_one_edge.specs.declared.player.error.PlayError.TheVariants as play
-use Rattle.pl_one_edge.specs.declared.player.played.Played.{Played}
+use Rattle.pl_one_edge.specs.declared.player.state.MachineState.{MachineState}
 use Rattle.pl_one_edge.specs.Machine.{State, Refusal}
-use Rattle.pl_one_edge.specs.Played.{state_of}
+use Rattle.pl_one_edge.specs.MachineStates.{state_of}
 
 -- the machine comes to this state, or refuses the step for this reason; nothing is said where memory was wanting
 abbrev pub Comes : {T : Type 0} → Result T StepError → State → Result State StepReason → Type 0
@@ -22,7 +22,7 @@ ComesAlong (Err (play.Refused number reason)) after meaning = meaning ≡ Err (n
 ComesAlong (Err play.Memory) after meaning = Unit {0}
 
 -- the same of a whole script
-abbrev pub PlaysTo : Result Played PlayError → Result State Refusal → Type 0
+abbrev pub PlaysTo : Result MachineState PlayError → Result State Refusal → Type 0
 PlaysTo (Ok played) meaning = meaning ≡ Ok (state_of played)
 PlaysTo (Err (play.Refused number reason)) meaning = meaning ≡ Err (number, reason)
 PlaysTo (Err play.Memory) meaning = Unit {0}

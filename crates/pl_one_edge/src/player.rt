@@ -6,7 +6,7 @@ pub use error::PlayError;
 use pl_inputs::Capture;
 use pl_script::ScriptLine;
 use pl_wiring::Wiring;
-pub use played::Played;
+pub use state::MachineState;
 pub use records::record_count;
 use setting::Setting;
 use std::alloc::Global;
@@ -18,7 +18,7 @@ mod directory;
 mod error;
 mod frames;
 mod lines;
-mod played;
+mod state;
 mod queue;
 mod queues;
 mod records;
@@ -31,11 +31,11 @@ pub fn play(
     wiring: &Wiring,
     lines: &[ScriptLine],
     captures: &[Capture],
-) -> Result<Played, PlayError>
+) -> Result<MachineState, PlayError>
     ensures { PlaysTo result (play wiring.now (records_of captures.now) lines.now) }
 {
     let setting = Setting::new(alloc, wiring, captures)?;
-    let mut played = Played::new(alloc, wiring.hosts().len(), usize::from(wiring.k()))?;
+    let mut played = MachineState::new(alloc, wiring.hosts().len(), usize::from(wiring.k()))?;
     setting.play_lines(&mut played, lines)?;
     Ok(played)
 }

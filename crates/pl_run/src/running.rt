@@ -2,14 +2,14 @@ ghost use Rattle.std.specs.Prelude.{◌≡◌, All, IfOk, IfErr, Ok};
 ghost use Rattle.pl_run.specs.Answers.{Answers, IsLossyRun, moment, run_of};
 ghost use Rattle.pl_inputs.specs.Loaded.{inputs_of};
 ghost use Rattle.pl_inputs.specs.Met.{asked};
-ghost use Rattle.pl_one_edge.specs.Played.{state_of};
+ghost use Rattle.pl_one_edge.specs.MachineStates.{state_of};
 ghost use Rattle.pl_run.specs.Plays.{EndsRun, IsUnplayed, answer_of};
 ghost use Rattle.pl_journal.specs.Savable.{IsSavable};
 
 use crate::running::texts::texts_of;
 use pl_inputs::{Files, Inputs, Status, load_inputs};
 use pl_one_edge::{
-    PlayError, Played, every_entry_can_be_saved, hosts_do_what_is_asked, one_lossy_switch, play,
+    PlayError, MachineState, every_entry_can_be_saved, hosts_do_what_is_asked, one_lossy_switch, play,
 };
 use pl_output::save_all;
 use pl_shelf::Shelf;
@@ -48,7 +48,7 @@ fn play_and_save<S: Shelf>(
 }
 
 /// Plays the script over the captures. What comes of it is a run of the lossy switch, and can be saved.
-fn play_inputs(alloc: Global, inputs: &Inputs) -> Result<Played, Status>
+fn play_inputs(alloc: Global, inputs: &Inputs) -> Result<MachineState, Status>
     ensures ok { IfOk result (λ played. run_of (inputs_of inputs.now) ≡ Ok (state_of played)) }
     ensures lossy { IfOk result (λ played. IsLossyRun (inputs_of inputs.now) played.journal) }
     ensures savable { IfOk result (λ played. All (IsSavable inputs.now.wiring) played.journal) }
@@ -62,7 +62,7 @@ fn play_inputs(alloc: Global, inputs: &Inputs) -> Result<Played, Status>
     play_script(alloc, inputs)
 }
 
-fn play_script(alloc: Global, inputs: &Inputs) -> Result<Played, Status>
+fn play_script(alloc: Global, inputs: &Inputs) -> Result<MachineState, Status>
     ensures ok { IfOk result (λ played. run_of (inputs_of inputs.now) ≡ Ok (state_of played)) }
     ensures err { IfErr result (λ e. IsUnplayed (inputs_of inputs.now) e) }
 {

@@ -3,7 +3,7 @@ use Rattle.std.proofs.Common.{◌≡◌, ℕ, List, [], ◌∷◌, Some, slice_g
 use Rattle.std.specs.List.{AllByRecursion}
 use Rattle.pl_frame.specs.declared.address.SwitchId.{SwitchId}
 use Rattle.pl_wiring.specs.declared.link.Peer.{Peer}
-use Rattle.pl_wiring.specs.Index.{place_of}
+use Rattle.pl_wiring.specs.Index.{port_index}
 use Rattle.pl_wiring.specs.Peers.{peer_of}
 use Rattle.pl_core.specs.declared.messages.ToManager.{ToManager}
 use Rattle.pl_core.specs.declared.messages.ToSwitch.{ToSwitch}
@@ -19,7 +19,7 @@ use Rattle.pl_world.specs.Flying.{IsDataItem, IsItem}
 use Rattle.pl_schedule.specs.Heads.{IsTakenFromHost, IsTakenFromManager, IsTakenOut, IsTakenToManager}
 use Rattle.pl_queues.specs.Queues.{has_items, items_at}
 use Rattle.pl_world.specs.LinksAndMoves.{item_lost}
-use Rattle.pl_world.specs.WorldRule.{ComesIn, ComesOver, DeliversFromHost, DeliversFromManager, DeliversOut, DeliversToManager, Loses, ManagerMoves, SwitchMoves}
+use Rattle.pl_world.specs.WorldRule.{ComesIn, ComesOver, DeliversFromHost, DeliversFromManager, DeliversOut, DeliversToManager, Loses, ManagerTurn, SwitchTurn}
 use Rattle.pl_world.specs.Worlds.{WorldView}
 use Rattle.pl_world.proofs.Balances.{head_is_item, sent_is_item}
 
@@ -32,7 +32,7 @@ pub host_item : (w mid : WorldView) (h : ℕ) (item : Item) → IsTakenFromHost 
 host_item w mid h item taken all = sent_is_item w.from_hosts h item taken.items taken.head all
 
 pub out_item : (w mid : WorldView) (s port : ℕ) (item : Item) → IsTakenOut w s port mid item → AllByRecursion (AllByRecursion IsItem) w.out → IsItem item
-out_item w mid s port item taken all = head_is_item w.out (place_of w.plan.k s port) item taken.items taken.head all
+out_item w mid s port item taken all = head_is_item w.out (port_index w.plan.k s port) item taken.items taken.head all
 
 pub host_delivered : (rule : SwitchRule) (w mid new : WorldView) (h : ℕ) (item : Item) → IsTakenFromHost w h mid item →
     ComesIn rule mid h item (slice_get mid.stands h) new → DeliversFromHost rule w h (items_at w.from_hosts h) new
@@ -45,12 +45,12 @@ out_delivered switch host w mid new s port item peer taken is comes =
     rw (taken.head, ← is) (subst (λ m. ComesOver switch host m s port item peer new) taken.left comes)
 
 pub told_delivered : (rule : ManagerRule) (w mid new : WorldView) (s : ℕ) (told : ToManager) → IsTakenToManager w s mid told →
-    ManagerMoves rule mid s told new → DeliversToManager rule w s (items_at w.to_manager s) new
-told_delivered rule w mid new s told taken moves = rw taken.head (subst (λ m. ManagerMoves rule m s told new) taken.left moves)
+    ManagerTurn rule mid s told new → DeliversToManager rule w s (items_at w.to_manager s) new
+told_delivered rule w mid new s told taken turn = rw taken.head (subst (λ m. ManagerTurn rule m s told new) taken.left moves)
 
 pub said_delivered : (rule : SwitchRule) (w mid new : WorldView) (s : ℕ) (says : ToSwitch) → IsTakenFromManager w s mid says →
-    SwitchMoves rule mid s (Says says) Silent new → DeliversFromManager rule w s (items_at w.from_manager s) new
-said_delivered rule w mid new s says taken moves = rw taken.head (subst (λ m. SwitchMoves rule m s (Says says) Silent new) taken.left moves)
+    SwitchTurn rule mid s (Says says) Silent new → DeliversFromManager rule w s (items_at w.from_manager s) new
+said_delivered rule w mid new s says taken turn = rw taken.head (subst (λ m. SwitchTurn rule m s (Says says) Silent new) taken.left moves)
 
 pub head_lost : (w mid new : WorldView) (s port : ℕ) (item : Item) → IsTakenOut w s port mid item → new ≡ item_lost mid item → Loses w s port (out_of w s port) new
 head_lost w mid new s port item taken is = rw taken.head (subst (λ m. new ≡ item_lost m item) taken.left is)

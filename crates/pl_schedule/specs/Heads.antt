@@ -1,6 +1,6 @@
 -- The head of a queue is taken, and nothing else changes.
 use Rattle.std.specs.Prelude.{◌≡◌, ℕ, List, ◌∷◌, slice_set}
-use Rattle.pl_wiring.specs.Index.{place_of}
+use Rattle.pl_wiring.specs.Index.{port_index}
 use Rattle.pl_core.specs.declared.messages.ToManager.{ToManager}
 use Rattle.pl_core.specs.declared.messages.ToSwitch.{ToSwitch}
 use Rattle.pl_world.specs.declared.item.Item.{Item}
@@ -16,7 +16,7 @@ pub record IsTakenFromHost (w : WorldView) (h : ℕ) (new : WorldView) (item : I
 pub record IsTakenOut (w : WorldView) (s port : ℕ) (new : WorldView) (item : Item) : Type 0 where
   pub items : List Item
   pub head : out_of w s port ≡ item ∷ items
-  pub left : new ≡ record w { out = slice_set w.out (place_of w.plan.k s port) items }
+  pub left : new ≡ record w { out = slice_set w.out (port_index w.plan.k s port) items }
 
 pub record IsTakenToManager (w : WorldView) (s : ℕ) (new : WorldView) (told : ToManager) : Type 0 where
   pub items : List ToManager

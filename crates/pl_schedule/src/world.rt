@@ -1,5 +1,5 @@
 ghost use Rattle.std.specs.Prelude.{◌≡◌, ◌<◌, ◌+◌, [], length, IfOk, OnErr, OnOk};
-ghost use Rattle.pl_wiring.specs.Index.{place_of};
+ghost use Rattle.pl_wiring.specs.Index.{port_index};
 ghost use Rattle.pl_wiring.specs.Labels.{switch_count};
 ghost use Rattle.pl_world.specs.Changes.{all_noted, begun_by, host_of, is_failed_at, noted, said_to_switch, sent_if_live, told_manager};
 ghost use Rattle.pl_world.specs.SwitchActs.{granted};
@@ -110,10 +110,10 @@ impl<S: SwitchCore, M: ManagerCore, H: HostCore> World<S, M, H> {
     }
 
     // The place of a port's queue.
-    fn place_out(&self, s: SwitchNo, port: u8) -> usize
+    fn queue_index(&self, s: SwitchNo, port: u8) -> usize
         requires switch { s.0 < switch_count self.now.plan.k }
         requires port { port < self.now.plan.k }
-        ensures place { result ≡ place_of self.now.plan.k s.0 port }
+        ensures place { result ≡ port_index self.now.plan.k s.0 port }
         ensures within { result < length self.now.out }
     {
         let k = self.atlas.wiring().k();
@@ -128,7 +128,7 @@ impl<S: SwitchCore, M: ManagerCore, H: HostCore> World<S, M, H> {
         if self.is_failed_at(s, port) {
             return Ok(());
         }
-        let place = self.place_out(s, port);
+        let place = self.queue_index(s, port);
         self.switches.put(place, item)
     }
 

@@ -7,7 +7,7 @@ use Rattle.pl_core.specs.declared.messages.ToSwitch.{ToSwitch}
 use Rattle.pl_core.specs.declared.messages.ToSwitch.TheVariants.{Answer, Avoid, Flood, Invalidate, Pod, Tree}
 use Rattle.pl_switch_rule.specs.Forwarding.{Choice}
 use Rattle.pl_core.specs.Accounting.{AccountsForFrames, CanCome, IsComing, IsAccounted, IsShaped}
-use Rattle.pl_switch_rule.specs.SwitchRule.{Exact, IsChoice, Loose, Steps, by_flow, data_comes, switch_step}
+use Rattle.pl_switch_rule.specs.SwitchRule.{Exact, IsChoice, Loose, StepsBy, by_flow, data_comes, switch_step}
 use Rattle.pl_core.specs.SwitchInputs.{SwitchInput}
 use Rattle.pl_core.specs.SwitchInputs.SwitchInput.{Comes, Says, Tick}
 use Rattle.pl_core.specs.SwitchViews.{SwitchView}
@@ -46,7 +46,7 @@ accounted_step choose h v (Comes port frame) s can = comes_accounted choose h v 
 accounted_step choose h v Tick s can = accounted_tick choose v s
 accounted_step choose h v (Says says) s can = says_accounted choose h v says s
 
-pub steps_are_accounted : (choose : Choice) → HandlesFrames choose → AccountsForFrames (Steps choose)
+pub steps_are_accounted : (choose : Choice) → HandlesFrames choose → AccountsForFrames (StepsBy choose)
 steps_are_accounted choose h old input new acts s can steps =
     subst₂ (λ w done. IsAccounted old input w done) (sym steps.view) (sym steps.done) (accounted_step choose h old input s can)
 

@@ -56,7 +56,7 @@ switch_step choose v Tick = ticks v
 switch_step choose v (Says says) = hears_manager choose v says
 
 -- the old view and the input lead to the new view, with these acts
-pub record Steps (choose : Choice) (old : SwitchView) (input : SwitchInput) (new : SwitchView) (acts : List Act) : Type 0 where
+pub record StepsBy (choose : Choice) (old : SwitchView) (input : SwitchInput) (new : SwitchView) (acts : List Act) : Type 0 where
   pub view : new ≡ (switch_step choose old input).view
   pub done : acts ≡ (switch_step choose old input).acts
 
@@ -69,7 +69,7 @@ pub record IsChoice (choose : Choice) : Type 0 where
 pub record Loose (old : SwitchView) (input : SwitchInput) (new : SwitchView) (acts : List Act) : Type 0 where
   pub choose : Choice
   pub is_choice : IsChoice choose
-  pub steps : Steps choose old input new acts
+  pub steps : StepsBy choose old input new acts
 
 -- the frames of a flow take one way: candidate number `hash modulo count`
 abbrev pub by_flow : Choice
@@ -77,4 +77,4 @@ by_flow ports frame = slice_get ports (flow_hash frame % length ports)
 
 -- A switch chooses by the flow.
 abbrev pub Exact : SwitchRule
-Exact = Steps by_flow
+Exact = StepsBy by_flow

@@ -10,7 +10,7 @@ use Rattle.pl_wiring.specs.declared.host.Host.{Host}
 use Rattle.pl_wiring.specs.Labels.{switch_count}
 use Rattle.pl_wiring.specs.Plan.{StandsAt}
 use Rattle.pl_wiring.specs.FatTree.{IsAt, IsTreeLink, IsFatTree}
-use Rattle.pl_wiring.specs.Index.{IsIndex, place_of, entry_at, look_at}
+use Rattle.pl_wiring.specs.Index.{IsIndex, port_index, entry_at, look_at}
 use Rattle.pl_wiring.proofs.LabelOrder.{number_of-below}
 
 pub IsIndex-none : {K X : Type 0} (look : K → Option ℕ) (IsAtKey : X → K → Type 0) (items : List X) → ((key : K) → look key ≡ None) → IsIndex look IsAtKey items 0
@@ -50,29 +50,29 @@ IsIndex-more {K} {X} old new IsAtKey items m d0 within index decide wrote kept a
 }
 
 -- the place of a port is within the table
-pub place_of-below : (k s p count : ℕ) → s < count → p < k → place_of k s p < count * k
-place_of-below k s p count hs hp = omega (arith, mul-add-lt s k p count hs hp)
+pub port_index-below : (k s p count : ℕ) → s < count → p < k → port_index k s p < count * k
+port_index-below k s p count hs hp = omega (arith, mul-add-lt s k p count hs hp)
 
-pub entry_at-in_range : {X : Type 0} (none : X) (k : ℕ) (table : List X) (s p : ℕ) → p < k → entry_at none k table s p ≡ get_or table (place_of k s p) none
+pub entry_at-in_range : {X : Type 0} (none : X) (k : ℕ) (table : List X) (s p : ℕ) → p < k → entry_at none k table s p ≡ get_or table (port_index k s p) none
 entry_at-in_range none k table s p less = grind (arith, nat_tests)
 
 pub entry_at-out_of_range : {X : Type 0} (none : X) (k : ℕ) (table : List X) (s p : ℕ) → k ≤ p → entry_at none k table s p ≡ none
 entry_at-out_of_range none k table s p less = grind (arith, nat_tests)
 
 -- a write at one port is seen there, and nowhere else
-pub entry_at-set_same : {X : Type 0} (none : X) (k : ℕ) (table : List X) (s p : ℕ) (v : X) → p < k → place_of k s p < length table →
-    entry_at none k (set table (place_of k s p) v) s p ≡ v
+pub entry_at-set_same : {X : Type 0} (none : X) (k : ℕ) (table : List X) (s p : ℕ) (v : X) → p < k → port_index k s p < length table →
+    entry_at none k (set table (port_index k s p) v) s p ≡ v
 entry_at-set_same none k table s p v less within =
-    entry_at-in_range none k (set table (place_of k s p) v) s p less ∙ get_or-set_same table (place_of k s p) v none within
+    entry_at-in_range none k (set table (port_index k s p) v) s p less ∙ get_or-set_same table (port_index k s p) v none within
 
 pub entry_at-set_other : {X : Type 0} (none : X) (k : ℕ) (table : List X) (s p : ℕ) (v : X) (t q : ℕ) → p < k → ((s ≡ t) × (p ≡ q) → ⊥) →
-    entry_at none k (set table (place_of k s p) v) t q ≡ entry_at none k table t q
+    entry_at none k (set table (port_index k s p) v) t q ≡ entry_at none k table t q
 entry_at-set_other none k table s p v t q less apart = elim (cases_lt q k) [
   | inl below ↦
-      let differ : place_of k t q ≢ place_of k s p = (λ e. (let same = same_from_place t q s p k below less e in apart (sym same.0, sym same.1))) in
-      entry_at-in_range none k (set table (place_of k s p) v) t q below ∙ get_or-set_other table (place_of k s p) (place_of k t q) v none differ
+      let differ : port_index k t q ≢ port_index k s p = (λ e. (let same = same_from_place t q s p k below less e in apart (sym same.0, sym same.1))) in
+      entry_at-in_range none k (set table (port_index k s p) v) t q below ∙ get_or-set_other table (port_index k s p) (port_index k t q) v none differ
       ∙ sym (entry_at-in_range none k table t q below)
-  | inr above ↦ entry_at-out_of_range none k (set table (place_of k s p) v) t q above ∙ sym (entry_at-out_of_range none k table t q above)
+  | inr above ↦ entry_at-out_of_range none k (set table (port_index k s p) v) t q above ∙ sym (entry_at-out_of_range none k table t q above)
 ]
 
 -- two numbers and two others
@@ -101,16 +101,16 @@ tree_ends k link tree =
 -- both ends of a link written
 abbrev pub with_link : {X : Type 0} → ℕ → List X → Link → X → List X
 with_link k table link v =
-    set (set table (place_of k link.lower.0 link.lower_port) v) (place_of k link.upper.0 link.upper_port) v
+    set (set table (port_index k link.lower.0 link.lower_port) v) (port_index k link.upper.0 link.upper_port) v
 
 pub wrote_link : {X : Type 0} (none : X) (k : ℕ) (table : List X) (link : Link) (v : X) → length table ≡ switch_count k * k →
     (link.lower.0 < switch_count k) × (link.upper.0 < switch_count k) → (link.lower_port < k) × (link.upper_port < k) →
     (s p : ℕ) → IsAt link s p → entry_at none k (with_link k table link v) s p ≡ v
 wrote_link none k table link v long ends ports s p here =
-    let low : place_of k link.lower.0 link.lower_port < length table = rw long (place_of-below k link.lower.0 link.lower_port (switch_count k) ends.0 ports.0) in
-    let up : place_of k link.upper.0 link.upper_port < length table = rw long (place_of-below k link.upper.0 link.upper_port (switch_count k) ends.1 ports.1) in
-    let first = set table (place_of k link.lower.0 link.lower_port) v in
-    let up_too : place_of k link.upper.0 link.upper_port < length first = rw length-set up in
+    let low : port_index k link.lower.0 link.lower_port < length table = rw long (port_index-below k link.lower.0 link.lower_port (switch_count k) ends.0 ports.0) in
+    let up : port_index k link.upper.0 link.upper_port < length table = rw long (port_index-below k link.upper.0 link.upper_port (switch_count k) ends.1 ports.1) in
+    let first = set table (port_index k link.lower.0 link.lower_port) v in
+    let up_too : port_index k link.upper.0 link.upper_port < length first = rw length-set up in
     elim (same_port link.upper.0 link.upper_port s p) [
       | inl at_up ↦ rw (← at_up.0, ← at_up.1) (entry_at-set_same none k first link.upper.0 link.upper_port v ports.1 up_too)
       | inr away ↦ elim here [
@@ -124,7 +124,7 @@ wrote_link none k table link v long ends ports s p here =
 pub kept_link : {X : Type 0} (none : X) (k : ℕ) (table : List X) (link : Link) (v : X) → (link.lower_port < k) × (link.upper_port < k) →
     (s p : ℕ) → (IsAt link s p → ⊥) → entry_at none k (with_link k table link v) s p ≡ entry_at none k table s p
 kept_link none k table link v ports s p away =
-    entry_at-set_other none k (set table (place_of k link.lower.0 link.lower_port) v) link.upper.0 link.upper_port v s p ports.1 (λ h. away (inr h))
+    entry_at-set_other none k (set table (port_index k link.lower.0 link.lower_port) v) link.upper.0 link.upper_port v s p ports.1 (λ h. away (inr h))
     ∙ entry_at-set_other none k table link.lower.0 link.lower_port v s p ports.0 (λ h. away (inl h))
 
 pub enter_link : (k m : ℕ) (links : List Link) (table : List (Option ℕ)) (d : Link) → IsFatTree k links → m < length links →
@@ -143,13 +143,13 @@ enter_link k m links table d tree within long index =
 pub enter_host : (k m : ℕ) (hosts : List Host) (table : List (Option ℕ)) (d : Host) →
     All (λ h. (h.edge.0 < switch_count k) × (h.port < k)) hosts → AllPairs (λ g h. StandsAt g h.edge.0 h.port → ⊥) hosts → m < length hosts →
     length table ≡ switch_count k * k → IsIndex (look_at k table) (λ (h : Host) (key : ℕ × ℕ). StandsAt h key.0 key.1) hosts m →
-    IsIndex (look_at k (set table (place_of k (get_or hosts m d).edge.0 (get_or hosts m d).port) (Some m)))
+    IsIndex (look_at k (set table (port_index k (get_or hosts m d).edge.0 (get_or hosts m d).port) (Some m)))
     (λ (h : Host) (key : ℕ × ℕ). StandsAt h key.0 key.1) hosts (m + 1)
 enter_host k m hosts table d in_range apart within long index =
     let here = in_range m d within in
-    let place : place_of k (get_or hosts m d).edge.0 (get_or hosts m d).port < length table =
-    rw long (place_of-below k (get_or hosts m d).edge.0 (get_or hosts m d).port (switch_count k) here.0 here.1) in
-    IsIndex-more (look_at k table) (look_at k (set table (place_of k (get_or hosts m d).edge.0 (get_or hosts m d).port) (Some m)))
+    let place : port_index k (get_or hosts m d).edge.0 (get_or hosts m d).port < length table =
+    rw long (port_index-below k (get_or hosts m d).edge.0 (get_or hosts m d).port (switch_count k) here.0 here.1) in
+    IsIndex-more (look_at k table) (look_at k (set table (port_index k (get_or hosts m d).edge.0 (get_or hosts m d).port) (Some m)))
     (λ (h : Host) (key : ℕ × ℕ). StandsAt h key.0 key.1) hosts m d within index
     (λ key. same_port (get_or hosts m d).edge.0 (get_or hosts m d).port key.0 key.1)
     (λ key at. rw (← at.0, ← at.1) (entry_at-set_same None k table (get_or hosts m d).edge.0 (get_or hosts m d).port (Some m) here.1 place))
@@ -158,17 +158,17 @@ enter_host k m hosts table d in_range apart within long index =
 
 -- the places of a link's ends are within the table
 pub link_places : (k m : ℕ) (links : List Link) (d : Link) → IsFatTree k links → m < length links →
-    (place_of k (get_or links m d).lower.0 (get_or links m d).lower_port < switch_count k * k)
-    × (place_of k (get_or links m d).upper.0 (get_or links m d).upper_port < switch_count k * k)
+    (port_index k (get_or links m d).lower.0 (get_or links m d).lower_port < switch_count k * k)
+    × (port_index k (get_or links m d).upper.0 (get_or links m d).upper_port < switch_count k * k)
 link_places k m links d tree within =
     let ends = tree_ends k (get_or links m d) (tree.no_other m d within) in
     let ports = tree.ports_in_range m d within in
-    (place_of-below k _ _ (switch_count k) ends.0 ports.0, place_of-below k _ _ (switch_count k) ends.1 ports.1)
+    (port_index-below k _ _ (switch_count k) ends.0 ports.0, port_index-below k _ _ (switch_count k) ends.1 ports.1)
 
 pub host_place : (k m : ℕ) (hosts : List Host) (host : Host) → All (λ h. (h.edge.0 < switch_count k) × (h.port < k)) hosts → m < length hosts →
-    host ≡ get_or hosts m host → place_of k host.edge.0 host.port < switch_count k * k
+    host ≡ get_or hosts m host → port_index k host.edge.0 host.port < switch_count k * k
 host_place k m hosts host in_range within is =
-    let here = in_range m host within in rw is (place_of-below k _ _ (switch_count k) here.0 here.1)
+    let here = in_range m host within in rw is (port_index-below k _ _ (switch_count k) here.0 here.1)
 
 -- where the table has nothing no item is at the key
 pub IsIndex-nothing : {K X : Type 0} (look : K → Option ℕ) (IsAtKey : X → K → Type 0) (items : List X) (key : K) → IsIndex look IsAtKey items (length items) →

@@ -6,7 +6,7 @@ use Rattle.std.proofs.lemmas.List.{get_or_default}
 use Rattle.pl_wiring.specs.declared.link.Link.{Link}
 use Rattle.pl_wiring.specs.Labels.{switch_count}
 use Rattle.pl_wiring.specs.FatTree.{IsAt, IsTreeLink, IsFatTree}
-use Rattle.pl_wiring.specs.Index.{place_of, entry_at, look_at}
+use Rattle.pl_wiring.specs.Index.{port_index, entry_at, look_at}
 use Rattle.pl_wiring.specs.Tables.{FindsLinks}
 use Rattle.pl_wiring.specs.Peers.{IsBetween}
 use Rattle.pl_wiring.specs.Plan.{Plan}
@@ -14,7 +14,7 @@ use Rattle.pl_wiring.specs.LiveLinks.{LivePorts, is_live_at, is_live, IsFor}
 use Rattle.pl_wiring.proofs.LinkOrder.{no_link}
 use Rattle.pl_wiring.proofs.Ends.{at_contained}
 use Rattle.pl_wiring.proofs.Linked.{one_between}
-use Rattle.pl_wiring.proofs.Entered.{entry_at-in_range, entry_at-out_of_range, tree_ends, cases_IsAt, place_of-below, with_link, wrote_link, kept_link}
+use Rattle.pl_wiring.proofs.Entered.{entry_at-in_range, entry_at-out_of_range, tree_ends, cases_IsAt, port_index-below, with_link, wrote_link, kept_link}
 
 pub if_ok : {T E : Type 0} {P Q : T → Type 0} (r : Result T E) → ((x : T) → P x → Q x) → IfOk r P → IfOk r Q
 if_ok (Ok x) f h = f x h
@@ -27,7 +27,7 @@ get_or_mapped f (x ∷ xs) (suc i) d = get_or_mapped f xs i d
 
 entry_at-present : (k : ℕ) (table : List (Option ℕ)) (s p : ℕ) → entry_at false k (map is_some table) s p ≡ is_some (look_at k table (s, p))
 entry_at-present k table s p = elim (cases_lt p k) [
-  | inl less ↦ entry_at-in_range false k (map is_some table) s p less ∙ get_or_mapped is_some table (place_of k s p) None
+  | inl less ↦ entry_at-in_range false k (map is_some table) s p less ∙ get_or_mapped is_some table (port_index k s p) None
       ∙ ap is_some (sym (entry_at-in_range None k table s p less))
   | inr more ↦ entry_at-out_of_range false k (map is_some table) s p more ∙ ap is_some (sym (entry_at-out_of_range None k table s p more))
 ]
@@ -111,11 +111,11 @@ changes plan states link live tree for there =
     }
 
 pub flags_within : (plan : Plan) (states : LivePorts) (link : Link) → IsFatTree plan.k plan.links → IsFor plan states → Contains plan.links link →
-    (place_of states.k link.lower.0 link.lower_port < length states.flags) × (place_of states.k link.upper.0 link.upper_port < length states.flags)
+    (port_index states.k link.lower.0 link.lower_port < length states.flags) × (port_index states.k link.upper.0 link.upper_port < length states.flags)
 flags_within plan states link tree for there =
     let ends = tree_ends plan.k link (at_contained (IsTreeLink plan.k) plan.links link tree.no_other there) in
     let ports = at_contained (λ l. (l.lower_port < plan.k) × (l.upper_port < plan.k)) plan.links link tree.ports_in_range there in
-    rw (for.same_k, for.places) (place_of-below plan.k _ _ (switch_count plan.k) ends.0 ports.0, place_of-below plan.k _ _ (switch_count plan.k) ends.1 ports.1)
+    rw (for.same_k, for.places) (port_index-below plan.k _ _ (switch_count plan.k) ends.0 ports.0, port_index-below plan.k _ _ (switch_count plan.k) ends.1 ports.1)
 
 -- the number of a link, and those that share no port with it
 apart_from : (k : ℕ) (links : List Link) (m n : ℕ) (d : Link) → IsFatTree k links → m < length links → n < length links → m ≢ n →

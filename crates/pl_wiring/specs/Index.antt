@@ -7,12 +7,12 @@ pub record IsIndex {K X : Type 0} (look : K → Option ℕ) (IsAtKey : X → K �
   pub knows : (n : ℕ) (d : X) (key : K) → n < many → IsAtKey (slice_index_or items n d) key → look key ≡ Some n
 
 -- where a port stands in a table of all ports, switch by switch
-abbrev pub place_of : ℕ → ℕ → ℕ → ℕ
-place_of k switch port = switch * k + port
+abbrev pub port_index : ℕ → ℕ → ℕ → ℕ
+port_index k switch port = switch * k + port
 
 -- what such a table has for a port, and `none` where there is no such port
 abbrev pub entry_at : {X : Type 0} → X → ℕ → List X → ℕ → ℕ → X
-entry_at none k table switch port = if nat_lt port k then slice_index_or table (place_of k switch port) none else none
+entry_at none k table switch port = if nat_lt port k then slice_index_or table (port_index k switch port) none else none
 
 -- the number of the item at a port
 abbrev pub look_at : ℕ → List (Option ℕ) → ℕ × ℕ → Option ℕ

@@ -4,7 +4,7 @@ ghost use Rattle.pl_wiring.specs.Plan.{Plan};
 ghost use Rattle.pl_wiring.specs.Peers.{IsBetween};
 ghost use Rattle.pl_wiring.specs.LiveLinks.{IsFor, IsLive, is_live_at, is_live};
 
-use crate::tables::place_in_table;
+use crate::tables::index_in_table;
 use crate::{Link, Memory, SwitchNo, Wiring};
 use std::alloc::Global;
 use std::marker::Model;
@@ -48,8 +48,8 @@ impl LinkStates {
             is_live self.new l ≡ is_live self.old l) wiring.now.links }
     {
         let link = wiring.link(a, b).unwrap();
-        self.flags[place_in_table(self.k, link.lower, link.lower_port)] = live;
-        self.flags[place_in_table(self.k, link.upper, link.upper_port)] = live;
+        self.flags[index_in_table(self.k, link.lower, link.lower_port)] = live;
+        self.flags[index_in_table(self.k, link.upper, link.upper_port)] = live;
     }
 
     /// Whether a live link is at a port. No link is at a port that is not there.
@@ -64,7 +64,7 @@ impl LinkStates {
     fn flag(&self, switch: SwitchNo, port: u8) -> bool
         ensures { result ≡ is_live_at self.now switch.0 port }
     {
-        port < self.k && flag_at(&self.flags, place_in_table(self.k, switch, port))
+        port < self.k && flag_at(&self.flags, index_in_table(self.k, switch, port))
     }
 
     /// Whether a link is live.

@@ -2,7 +2,7 @@ ghost use Rattle.std.specs.Prelude.{◌≡◌, ◌≢◌, ℕ, ◌*◌, ◌^◌,
 ghost use Rattle.pl_wiring.specs.Labels.{IsArity, switch_count};
 ghost use Rattle.pl_wiring.specs.FatTree.{IsFatTree};
 ghost use Rattle.pl_wiring.specs.Plan.{StandsAt};
-ghost use Rattle.pl_wiring.specs.Index.{look_at, place_of};
+ghost use Rattle.pl_wiring.specs.Index.{look_at, port_index};
 ghost use Rattle.pl_wiring.specs.Tables.{FindsLinks, FindsHosts, FindsNames};
 
 use crate::order::switches;
@@ -13,8 +13,8 @@ use std::collections::HashMap;
 // For each port of each switch the number of the item that is there, if there is one.
 pub(crate) type PortTable = Vec<Option<u32>>;
 
-pub(crate) fn place_in_table(k: u8, switch: SwitchNo, port: u8) -> usize
-    ensures { result ≡ place_of k switch.0 port }
+pub(crate) fn index_in_table(k: u8, switch: SwitchNo, port: u8) -> usize
+    ensures { result ≡ port_index k switch.0 port }
 {
     switch.0 as usize * usize::from(k) + usize::from(port)
 }
@@ -26,7 +26,7 @@ pub(crate) fn look_at(table: &[Option<u32>], k: u8, switch: SwitchNo, port: u8) 
     requires port { port < k }
     ensures { result ≡ look_at k table.now (switch.0, port) }
 {
-    table[place_in_table(k, switch, port)]
+    table[index_in_table(k, switch, port)]
 }
 
 fn empty_table(alloc: Global, k: u8) -> Result<PortTable, Memory>
@@ -53,8 +53,8 @@ pub(crate) fn link_table(alloc: Global, k: u8, links: &[Link]) -> Result<PortTab
 {
     let mut table = empty_table(alloc, k)?;
     for (number, link) in links.iter().enumerate() {
-        table[place_in_table(k, link.lower, link.lower_port)] = Some(number as u32);
-        table[place_in_table(k, link.upper, link.upper_port)] = Some(number as u32);
+        table[index_in_table(k, link.lower, link.lower_port)] = Some(number as u32);
+        table[index_in_table(k, link.upper, link.upper_port)] = Some(number as u32);
     }
     Ok(table)
 }
@@ -69,7 +69,7 @@ pub(crate) fn host_table(alloc: Global, k: u8, hosts: &[Host]) -> Result<PortTab
 {
     let mut table = empty_table(alloc, k)?;
     for (number, host) in hosts.iter().enumerate() {
-        table[place_in_table(k, host.edge, host.port)] = Some(number as u32);
+        table[index_in_table(k, host.edge, host.port)] = Some(number as u32);
     }
     Ok(table)
 }

@@ -13,13 +13,13 @@ use Rattle.pl_wiring.specs.declared.link.Link.{Link}
 use Rattle.pl_wiring.specs.declared.link.Peer.{Peer}
 use Rattle.pl_wiring.specs.declared.link.Peer.TheVariants.{Switch}
 use Rattle.pl_wiring.specs.FatTree.{IsAt}
-use Rattle.pl_wiring.specs.Index.{place_of}
+use Rattle.pl_wiring.specs.Index.{port_index}
 use Rattle.pl_wiring.specs.Labels.{edge_count, switch_count}
 use Rattle.pl_wiring.specs.LiveLinks.{IsFor, is_live_at}
 use Rattle.pl_wiring.specs.Peers.{peer_among, peer_of}
 use Rattle.pl_wiring.specs.Plan.{IsPlan, Plan}
 use Rattle.pl_wiring.proofs.Ends.{IsPeer-is, contained_at}
-use Rattle.pl_wiring.proofs.Entered.{entry_at-in_range, entry_at-out_of_range, place_of-below, tree_ends}
+use Rattle.pl_wiring.proofs.Entered.{entry_at-in_range, entry_at-out_of_range, port_index-below, tree_ends}
 use Rattle.pl_core.specs.Accounting.{IsShaped}
 use Rattle.pl_core.specs.HostDuties.{HoldsData}
 use Rattle.pl_core.specs.HostViews.{boot_host}
@@ -52,8 +52,8 @@ has_link plan s p = not (is_host_port (peer_of plan s p))
 live_is : (plan : Plan) (s p : ℕ) → s < switch_count plan.k → p < plan.k → is_live_at (all_live plan) s p ≡ has_link plan s p
 live_is plan s p hs hp =
     entry_at-in_range false plan.k (all_live plan).flags s p hp
-    ∙ get_or-map-range_with_len (λ n. has_link plan (n / plan.k) (n % plan.k)) 0 (switch_count plan.k * plan.k) (place_of plan.k s p) (s * plan.k + p) false
-    (place_of-below plan.k s p (switch_count plan.k) hs hp) (omega arith)
+    ∙ get_or-map-range_with_len (λ n. has_link plan (n / plan.k) (n % plan.k)) 0 (switch_count plan.k * plan.k) (port_index plan.k s p) (s * plan.k + p) false
+    (port_index-below plan.k s p (switch_count plan.k) hs hp) (omega arith)
     ∙ ap (λ t. has_link plan t ((s * plan.k + p) % plan.k)) (div-mul-add s plan.k p hp) ∙ ap (λ q. has_link plan s q) (mod-mul-add s plan.k p hp)
 
 linked_by : (plan : Plan) (s p : ℕ) (peer : Peer) → peer ≡ peer_of plan s p → is_host_port peer ≡ false → has_link plan s p ≡ true
@@ -105,7 +105,7 @@ live_has_link plan s p live = elim (cases_lt p plan.k) [
         let many : length (all_live plan).flags ≡ switch_count plan.k * plan.k =
         length-map-range_with_len (λ n. has_link plan (n / plan.k) (n % plan.k)) 0 (switch_count plan.k * plan.k) in
         let rows : switch_count plan.k * plan.k ≤ s * plan.k = mul-le-mul_right plan.k past in
-        let dead = entry_at-in_range false plan.k (all_live plan).flags s p hp ∙ get_or_past (all_live plan).flags (place_of plan.k s p) false (omega (arith, many, rows)) in
+        let dead = entry_at-in_range false plan.k (all_live plan).flags s p hp ∙ get_or_past (all_live plan).flags (port_index plan.k s p) false (omega (arith, many, rows)) in
         absurd (cc)
   ]
 ]

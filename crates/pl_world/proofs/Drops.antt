@@ -8,7 +8,7 @@ use Rattle.pl_wiring.specs.declared.label.SwitchNo.{SwitchNo}
 use Rattle.pl_wiring.specs.declared.link.Link.{Link}
 use Rattle.pl_wiring.specs.declared.link.Peer.{Peer}
 use Rattle.pl_wiring.specs.declared.link.Peer.TheVariants.{HostPort, Switch}
-use Rattle.pl_wiring.specs.Index.{place_of}
+use Rattle.pl_wiring.specs.Index.{port_index}
 use Rattle.pl_wiring.specs.Peers.{peer_of}
 use Rattle.pl_core.specs.declared.acts.HostAct.{HostAct}
 use Rattle.pl_core.specs.declared.acts.HostAct.TheVariants.{Send}
@@ -38,7 +38,7 @@ use Rattle.pl_world.specs.Changes.{ends_of, host_no, out_of, receiver, said_to}
 use Rattle.pl_world.specs.Drops.{ComesToNobody, IsDroppedFor, IsFirstIn, IsOfSwitch, IsSwitch, IsTakenAway, WaitsForMover, WaitsIn, WaitsOnLink, written}
 use Rattle.pl_world.specs.LinksAndMoves.{link_between}
 use Rattle.pl_world.specs.OtherActs.{host_act_done, manager_act_done, reception_noted, skip_noted}
-use Rattle.pl_world.specs.WorldRule.{ComesAtHost, ComesOut, ComesOver, Delivers, DeliversOut, DeliversToManager, Fails, Goes, Happens, HostMoves, HostPlays, HostReceives, IsRepaired, Loses, ManagerMoves, WorldStep}
+use Rattle.pl_world.specs.WorldRule.{ComesAtHost, ComesOut, ComesOver, Delivers, DeliversOut, DeliversToManager, Fails, Goes, Happens, HostTurn, HostPlays, HostReceives, IsRepaired, Loses, ManagerTurn, WorldStep}
 use Rattle.pl_world.specs.Worlds.{WorldView}
 
 -- a journal becomes another one, and just these frames were dropped for these causes
@@ -139,14 +139,14 @@ adds_host_acts w h [] = adds_nothing w.journal
 adds_host_acts w h (Send frame ∷ acts) = adds_same (λ id c d. elim d [ inl a ↦ a | inr b ↦ b ]) (λ id c d. absurd d)
     (adds_then (adds_quiet w.journal (Sent (w.begun + 1) (host_no h) frame) (λ id c is. absurd (cc))) (adds_host_acts (host_act_done h w (Send frame)) h acts))
 
-adds_moves : (rule : HostRule) (w : WorldView) (h : ℕ) (input : HostInput) (answer : HostAnswer) (new : WorldView) → HostMoves rule w h input answer new →
+adds_moves : (rule : HostRule) (w : WorldView) (h : ℕ) (input : HostInput) (answer : HostAnswer) (new : WorldView) → HostTurn rule w h input answer new →
     Adds w.journal new.journal Never
-adds_moves rule w h input answer new moves = subst (λ (x : WorldView). Adds w.journal x.journal Never) (sym moves.changed)
+adds_moves rule w h input answer new turn = subst (λ (x : WorldView). Adds w.journal x.journal Never) (sym moves.changed)
     (adds_host_acts (record w { hosts = set w.hosts h moves.after }) h moves.acts)
 
 -- what was dropped before a host's acts is all that was
 adds_before : {D : ℕ → Cause → Type 0} (rule : HostRule) (before : List Entry) (w : WorldView) (h : ℕ) (input : HostInput) (answer : HostAnswer) (new : WorldView) →
-    HostMoves rule w h input answer new → Adds before w.journal D → Adds before new.journal D
+    HostTurn rule w h input answer new → Adds before w.journal D → Adds before new.journal D
 adds_before rule before w h input answer new moves x =
     adds_same (λ id c d. elim d [ inl a ↦ a | inr b ↦ absurd b ]) (λ id c d. inl d) (adds_then x (adds_moves rule w h input answer new moves))
 
@@ -163,7 +163,7 @@ adds_manager_acts w (Number pmac n ∷ acts) = adds_same (λ id c d. elim d [ in
     (adds_then (adds_quiet w.journal (Registered pmac n) (λ id c is. absurd (cc))) (adds_manager_acts (manager_act_done w (Number pmac n)) acts))
 
 adds_played : (rule : HostRule) (w : WorldView) (h : ℕ) (input : HostInput) (new : WorldView) → HostPlays rule w h input new → Adds w.journal new.journal Never
-adds_played rule w h input new plays = adds_before rule w.journal (skip_noted w h plays.skip) h input _ new plays.moves (skipped plays.skip)
+adds_played rule w h input new plays = adds_before rule w.journal (skip_noted w h plays.skip) h input _ new plays.turn (skipped plays.skip)
   where
     skipped : (skip : Option Skip) → Adds w.journal (skip_noted w h skip).journal Never
     skipped None = adds_nothing w.journal
@@ -262,7 +262,7 @@ module _ (w : WorldView) (n : ℕ) where
             (of_waits _ _ id d.1.waits),
       ))
       (adds_then (adds_quiet w.journal (WentDown link.lower link.upper) (λ id c is. absurd (cc)))
-      (adds_both LinkDown w.out (place_of w.plan.k link.lower.0 link.lower_port) (place_of w.plan.k link.upper.0 link.upper_port) (w.journal ++ WentDown link.lower link.upper ∷ []))))
+      (adds_both LinkDown w.out (port_index w.plan.k link.lower.0 link.lower_port) (port_index w.plan.k link.upper.0 link.upper_port) (w.journal ++ WentDown link.lower link.upper ∷ []))))
     where
       some_same : (x y : Link) → Some x ≡ Some y → x ≡ y
       some_same x y e = cc
@@ -347,7 +347,7 @@ module _ (switch : SwitchRule) (manager : ManagerRule) (host : HostRule) (w : Wo
 
     at_host : (number : ℕ) (frame : List ℕ) (items : List Item) (to : Option ℕ) (new : WorldView) → out_of w s.0 port ≡ Data number frame ∷ items →
         receiver w s.0 port frame ≡ to →
-        ComesAtHost host (record w { steps = n; out = set w.out (place_of w.plan.k s.0 port) items }) number frame to new →
+        ComesAtHost host (record w { steps = n; out = set w.out (port_index w.plan.k s.0 port) items }) number frame to new →
         AddsFor w (event.Deliver (queue.Port s port)) new
     at_host number frame items None new is nobody comes = adds_for w (event.Deliver (queue.Port s port)) new
         (λ id c apart d. subst (IsDroppedFor w (event.Deliver (queue.Port s port)) id) d.1 (record {
@@ -365,12 +365,12 @@ module _ (switch : SwitchRule) (manager : ManagerRule) (host : HostRule) (w : Wo
         let frames : frame ≡ gone.1.frame = cc in
         let none : receiver w s.0 port frame ≡ None = subst (λ f. receiver w s.0 port f ≡ None) (sym frames) gone.1.nobody in
         absurd (let both : Some h ≡ None = sym there ∙ none in cc))
-        (adds_before host w.journal _ h _ _ new comes.moves
-        (reception_adds (record w { steps = n; out = set w.out (place_of w.plan.k s.0 port) items }) n h number frame comes.reception))
+        (adds_before host w.journal _ h _ _ new comes.turn
+        (reception_adds (record w { steps = n; out = set w.out (port_index w.plan.k s.0 port) items }) n h number frame comes.reception))
 
     out_of_port : (item : Item) (items : List Item) (peer : Peer) (new : WorldView) → out_of w s.0 port ≡ item ∷ items → peer_of w.plan s.0 port ≡ peer →
         (IsSwitch peer → ⊥) →
-        ComesOver switch host (record w { steps = n; out = set w.out (place_of w.plan.k s.0 port) items }) s.0 port item peer new →
+        ComesOver switch host (record w { steps = n; out = set w.out (port_index w.plan.k s.0 port) items }) s.0 port item peer new →
         AddsFor w (event.Deliver (queue.Port s port)) new
     out_of_port item items (Switch t q) new is there apart comes = absurd (apart tt)
     out_of_port (Control frame) items HostPort new is there apart comes = quietly (event.Deliver (queue.Port s port)) new
@@ -384,8 +384,8 @@ module _ (switch : SwitchRule) (manager : ManagerRule) (host : HostRule) (w : Wo
     delivered (item ∷ items) new is apart comes = out_of_port item items (peer_of w.plan s.0 port) new is refl apart comes
 
   told : (s : SwitchNo) (items : List ToManager) (new : WorldView) → DeliversToManager manager (record w { steps = n }) s.0 items new → Adds w.journal new.journal Never
-  told s [] new moves = absurd moves
-  told s (message ∷ items) new moves = subst (λ (x : WorldView). Adds w.journal x.journal Never) (sym moves.changed)
+  told s [] new turn = absurd moves
+  told s (message ∷ items) new turn = subst (λ (x : WorldView). Adds w.journal x.journal Never) (sym moves.changed)
       (adds_manager_acts (record w { steps = n; to_manager = set w.to_manager s.0 items; manager = moves.after }) moves.acts)
 
   repaired : (link : Option Link) (new : WorldView) → IsRepaired (record w { steps = n }) link new → Adds w.journal new.journal Never

@@ -4,7 +4,7 @@ use Rattle.pl_pmac.specs.declared.pmac.Pmac.{Pmac}
 use Rattle.pl_wiring.specs.declared.link.Link.{Link}
 use Rattle.pl_wiring.specs.declared.link.Peer.{Peer}
 use Rattle.pl_wiring.specs.declared.link.Peer.TheVariants.{HostPort, Switch}
-use Rattle.pl_wiring.specs.Index.{place_of}
+use Rattle.pl_wiring.specs.Index.{port_index}
 use Rattle.pl_wiring.specs.Peers.{peer_of}
 use Rattle.pl_wiring.specs.Plan.{Plan}
 use Rattle.pl_core.specs.declared.acts.Act.{Act}
@@ -39,7 +39,7 @@ use Rattle.pl_queues.specs.Queues.{items_at}
 use Rattle.pl_world.specs.LinksAndMoves.{item_lost, link_between}
 use Rattle.pl_world.specs.OtherActs.{host_act_done, manager_act_done, reception_noted, skip_noted}
 use Rattle.pl_world.specs.SwitchActs.{Doing, act_done, acts_done, begins, ended, granted, passed, redirected}
-use Rattle.pl_world.specs.WorldRule.{ComesAtHost, ComesAtSwitch, ComesIn, ComesOut, ComesOver, Delivers, DeliversFromHost, DeliversFromManager, DeliversOut, DeliversToManager, Fails, Goes, Happens, HostMoves, HostPlays, IsRepaired, Loses, ManagerMoves, SwitchMoves, WorldStep, heard_item}
+use Rattle.pl_world.specs.WorldRule.{ComesAtHost, ComesAtSwitch, ComesIn, ComesOut, ComesOver, Delivers, DeliversFromHost, DeliversFromManager, DeliversOut, DeliversToManager, Fails, Goes, Happens, HostTurn, HostPlays, IsRepaired, Loses, ManagerTurn, SwitchTurn, WorldStep, heard_item}
 use Rattle.pl_world.specs.Worlds.{WorldView}
 use Rattle.pl_world.proofs.Hearing.{heard_no_more, heard_one_more}
 
@@ -91,7 +91,7 @@ acts_know s d [] = refl
 acts_know s d (a ∷ acts) = acts_know s (act_done s d a) acts ∙ act_knows s d a
 
 switch_knows : (rule : SwitchRule) (w : WorldView) (s : ℕ) (input : SwitchInput) (speech : Speech) (new : WorldView) →
-    SwitchMoves rule w s input speech new → knows new ≡ knows w
+    SwitchTurn rule w s input speech new → knows new ≡ knows w
 switch_knows rule w s input speech new moves =
     ap knows moves.changed ∙ acts_know s (begins (record w { switches = set w.switches s moves.after }) speech) moves.acts
 
@@ -101,15 +101,15 @@ host_acts_know w h [] = refl
 host_acts_know w h (Send frame ∷ acts) = host_acts_know (host_act_done h w (Send frame)) h acts
 
 host_knows : (rule : HostRule) (w : WorldView) (h : ℕ) (input : HostInput) (answer : HostAnswer) (new : WorldView) →
-    HostMoves rule w h input answer new → knows new ≡ knows w
-host_knows rule w h input answer new moves = ap knows moves.changed ∙ host_acts_know (record w { hosts = set w.hosts h moves.after }) h moves.acts
+    HostTurn rule w h input answer new → knows new ≡ knows w
+host_knows rule w h input answer new turn = ap knows moves.changed ∙ host_acts_know (record w { hosts = set w.hosts h moves.after }) h moves.acts
 
 skip_knows : (w : WorldView) (h : ℕ) (skip : Option Skip) → knows (skip_noted w h skip) ≡ knows w
 skip_knows w h None = refl
 skip_knows w h (Some skip) = refl
 
 plays_know : (rule : HostRule) (w : WorldView) (h : ℕ) (input : HostInput) (new : WorldView) → HostPlays rule w h input new → knows new ≡ knows w
-plays_know rule w h input new plays = host_knows rule (skip_noted w h plays.skip) h input _ new plays.moves ∙ skip_knows w h plays.skip
+plays_know rule w h input new plays = host_knows rule (skip_noted w h plays.skip) h input _ new plays.turn ∙ skip_knows w h plays.skip
 
 reception_knows : (w : WorldView) (h id : ℕ) (frame : List ℕ) (reception : Reception) → knows (reception_noted w h id frame reception) ≡ knows w
 reception_knows w h id frame Kept = refl
@@ -118,12 +118,12 @@ reception_knows w h id frame NotMember = refl
 at_host_knows : (rule : HostRule) (w : WorldView) (id : ℕ) (frame : List ℕ) (to : Option ℕ) (new : WorldView) → ComesAtHost rule w id frame to new → knows new ≡ knows w
 at_host_knows rule w id frame None new is = ap knows is
 at_host_knows rule w id frame (Some h) new receives =
-    host_knows rule (reception_noted w h id frame receives.reception) h _ _ new receives.moves ∙ reception_knows w h id frame receives.reception
+    host_knows rule (reception_noted w h id frame receives.reception) h _ _ new receives.turn ∙ reception_knows w h id frame receives.reception
 
 -- ---- what comes
 at_switch_knows : (rule : SwitchRule) (w : WorldView) (s port : ℕ) (item : Item) (new : WorldView) → ComesAtSwitch rule w s port item new → knows new ≡ knows w
-at_switch_knows rule w s port (Control frame) new moves = switch_knows rule w s _ _ new moves
-at_switch_knows rule w s port (Data id frame) new moves = switch_knows rule _ s _ _ new moves
+at_switch_knows rule w s port (Control frame) new turn = switch_knows rule w s _ _ new moves
+at_switch_knows rule w s port (Data id frame) new turn = switch_knows rule _ s _ _ new moves
 
 out_knows : (rule : HostRule) (w : WorldView) (s port : ℕ) (item : Item) (new : WorldView) → ComesOut rule w s port item new → knows new ≡ knows w
 out_knows rule w s port (Control frame) new is = ap knows is
@@ -151,12 +151,12 @@ delivers_out_knows : (switch : SwitchRule) (host : HostRule) (w : WorldView) (s 
     DeliversOut switch host w s port items new → knows new ≡ knows w
 delivers_out_knows switch host w s port [] new comes = absurd comes
 delivers_out_knows switch host w s port (item ∷ items) new comes =
-    over_knows switch host (record w { out = set w.out (place_of w.plan.k s port) items }) s port item (peer_of w.plan s port) new comes
+    over_knows switch host (record w { out = set w.out (port_index w.plan.k s port) items }) s port item (peer_of w.plan s port) new comes
 
 from_manager_knows : (rule : SwitchRule) (w : WorldView) (s : ℕ) (items : List ToSwitch) (new : WorldView) →
     DeliversFromManager rule w s items new → knows new ≡ knows w
-from_manager_knows rule w s [] new moves = absurd moves
-from_manager_knows rule w s (says ∷ items) new moves = switch_knows rule (record w { from_manager = set w.from_manager s items }) s _ _ new moves
+from_manager_knows rule w s [] new turn = absurd moves
+from_manager_knows rule w s (says ∷ items) new turn = switch_knows rule (record w { from_manager = set w.from_manager s items }) s _ _ new moves
 
 -- ---- links and moves
 fails_knows : (w : WorldView) (link : Option Link) (new : WorldView) → Fails w link new → knows new ≡ knows w
@@ -173,11 +173,11 @@ lost_knows w (Data id frame) = refl
 
 loses_knows : (w : WorldView) (s port : ℕ) (items : List Item) (new : WorldView) → Loses w s port items new → knows new ≡ knows w
 loses_knows w s port [] new is = absurd is
-loses_knows w s port (item ∷ items) new is = ap knows is ∙ lost_knows (record w { out = set w.out (place_of w.plan.k s port) items }) item
+loses_knows w s port (item ∷ items) new is = ap knows is ∙ lost_knows (record w { out = set w.out (port_index w.plan.k s port) items }) item
 
 goes_knows : (rule : HostRule) (w : WorldView) (h : ℕ) (to : Stand) (from : Option Stand) (new : WorldView) → Goes rule w h to from new → knows new ≡ knows w
-goes_knows rule w h to None new moves = absurd moves
-goes_knows rule w h to (Some from) new moves = host_knows rule _ h _ _ new moves
+goes_knows rule w h to None new turn = absurd moves
+goes_knows rule w h to (Some from) new turn = host_knows rule _ h _ _ new moves
 
 -- ---- the manager
 said_knows : (w : WorldView) (says : ToSwitch) (to : Option ℕ) → knows (said_to w says to) ≡ knows w
@@ -207,7 +207,7 @@ module _ (n : ℕ) where
   no_more w new within same = subst (After w) (sym same) (heard_no_more w.plan w.manager n within, refl, refl)
 
   told : (rule : ManagerRule) → AnswersDuly rule → (w : WorldView) (s : ℕ) (told : ToManager) (new : WorldView) → HeardBy w n →
-      ManagerMoves rule w s told new → After w (knows new)
+      ManagerTurn rule w s told new → After w (knows new)
   unfolding After
   told rule answers w s says new within moves =
       let grown = answers.grows w.manager moves.id says moves.after moves.acts moves.ruled in
@@ -217,8 +217,8 @@ module _ (n : ℕ) where
   module _ (switch : SwitchRule) (manager : ManagerRule) (host : HostRule) (answers : AnswersDuly manager) where
     delivers_told : (w : WorldView) (s : ℕ) (items : List ToManager) (new : WorldView) → HeardBy w n → DeliversToManager manager w s items new → After w (knows new)
     unfolding After
-    delivers_told w s [] new within moves = absurd moves
-    delivers_told w s (says ∷ items) new within moves = told manager answers (record w { to_manager = set w.to_manager s items }) s says new within moves
+    delivers_told w s [] new within turn = absurd moves
+    delivers_told w s (says ∷ items) new within turn = told manager answers (record w { to_manager = set w.to_manager s items }) s says new within moves
 
     delivers : (w : WorldView) (name : QueueName) (new : WorldView) → HeardBy w n → Delivers switch manager host w name new → After w (knows new)
     delivers w (queue.FromHost h) new within comes = no_more w new within (from_host_knows switch w h.0 (items_at w.from_hosts h.0) new comes)

@@ -2,7 +2,7 @@
 use Rattle.std.proofs.Common.{ℕ, ◌+◌, List, [], ◌∷◌, Option, Some, None, set, slice_get}
 use Rattle.pl_wiring.specs.declared.link.Peer.{Peer}
 use Rattle.pl_wiring.specs.declared.link.Peer.TheVariants.{HostPort, Switch}
-use Rattle.pl_wiring.specs.Index.{place_of}
+use Rattle.pl_wiring.specs.Index.{port_index}
 use Rattle.pl_wiring.specs.Peers.{peer_of}
 use Rattle.pl_world.specs.declared.event.Event.{Event}
 use Rattle.pl_world.specs.declared.event.Event.TheVariants as event
@@ -21,12 +21,12 @@ use Rattle.pl_world.specs.Changes.{out_of}
 use Rattle.pl_queues.specs.Queues.{items_at}
 use Rattle.pl_world.specs.Runs.{Moment, WorldRun}
 use Rattle.pl_world.specs.Runs.Moment.{Mark, Step}
-use Rattle.pl_world.specs.WorldRule.{ComesAtSwitch, ComesIn, ComesOver, Delivers, DeliversFromHost, DeliversFromManager, DeliversOut, Happens, SwitchMoves, heard_item}
+use Rattle.pl_world.specs.WorldRule.{ComesAtSwitch, ComesIn, ComesOver, Delivers, DeliversFromHost, DeliversFromManager, DeliversOut, Happens, SwitchTurn, heard_item}
 use Rattle.pl_world.specs.Worlds.{WorldView}
 
 module _ (one other : SwitchRule) (manager : ManagerRule) (host : HostRule) (within : IsWithin one other) where
   moves : (w : WorldView) (s : ℕ) (input : SwitchInput) (speech : SpokenFrame) (new : WorldView) →
-      SwitchMoves one w s input speech new → SwitchMoves other w s input speech new
+      SwitchTurn one w s input speech new → SwitchTurn other w s input speech new
   moves w s input speech new m = record {
     before = m.before;
     after = m.after;
@@ -55,7 +55,7 @@ module _ (one other : SwitchRule) (manager : ManagerRule) (host : HostRule) (wit
   delivers_out : (w : WorldView) (s port : ℕ) (items : List Item) (new : WorldView) → DeliversOut one host w s port items new → DeliversOut other host w s port items new
   delivers_out w s port [] new m = absurd m
   delivers_out w s port (item ∷ items) new m =
-      over (record w { out = set w.out (place_of w.plan.k s port) items }) s port item (peer_of w.plan s port) new m
+      over (record w { out = set w.out (port_index w.plan.k s port) items }) s port item (peer_of w.plan s port) new m
 
   from_manager : (w : WorldView) (s : ℕ) (items : List ToSwitch) (new : WorldView) → DeliversFromManager one w s items new → DeliversFromManager other w s items new
   from_manager w s [] new m = absurd m

@@ -6,7 +6,7 @@ use Rattle.std.proofs.lemmas.Bool.{cases_eq}
 use Rattle.std.proofs.lemmas.List.Sums.{sum_by-cons}
 use Rattle.std.proofs.lemmas.Option.{slice_get_within}
 use Rattle.std.proofs.lemmas.Slice.Eq.{bytes_eq-Decides}
-use Rattle.pl_wiring.specs.Index.{place_of}
+use Rattle.pl_wiring.specs.Index.{port_index}
 use Rattle.pl_core.specs.declared.messages.ToManager.{ToManager}
 use Rattle.pl_core.specs.declared.messages.ToManager.TheVariants as tell
 use Rattle.pl_core.specs.declared.messages.ToSwitch.{ToSwitch}
@@ -157,13 +157,13 @@ module _ (w : WorldView) where
       let within = slice_get_within w.switches s v found in
       let here = none_summed_at (stale_at w.plan.k w.switches w.out) (length w.switches) 0 s none (omega arith) (omega (arith, within)) in
       let queue : stale_in (slice_get w.switches s) port (out_of w s port) ≡ 0 =
-      none_summed_at (λ q. stale_in (slice_get w.switches s) q (items_at w.out (place_of w.plan.k s q))) w.plan.k 0 port here (omega arith) (omega (arith, low)) in
+      none_summed_at (λ q. stale_in (slice_get w.switches s) q (items_at w.out (port_index w.plan.k s q))) w.plan.k 0 port here (omega arith) (omega (arith, low)) in
       let is : count_by (is_stale v port) (out_of w s port) ≡ 0 = ap (λ o. stale_in o port (out_of w s port)) (sym found) ∙ queue in
       timely_is v port frame (none_contained (is_stale v port) (out_of w s port) (Control frame) is there)
 
   stale_none : HasSettledQueues w → stale w.plan.k w.switches w.out ≡ 0
   stale_none settled = none_summed (stale_at w.plan.k w.switches w.out) (length w.switches) 0 (λ s above below.
-      none_summed (λ q. stale_in (slice_get w.switches s) q (items_at w.out (place_of w.plan.k s q))) w.plan.k 0 (λ port low high.
+      none_summed (λ q. stale_in (slice_get w.switches s) q (items_at w.out (port_index w.plan.k s q))) w.plan.k 0 (λ port low high.
       at_queue s port (omega (arith, high)) (slice_get w.switches s) refl))
     where
       at_queue : (s port : ℕ) → port < w.plan.k → (v : Option SwitchView) → slice_get w.switches s ≡ v → stale_in v port (out_of w s port) ≡ 0

@@ -9,7 +9,7 @@ use Rattle.pl_wiring.specs.declared.link.Link.{Link}
 use Rattle.pl_wiring.specs.declared.link.Peer.{Peer}
 use Rattle.pl_wiring.specs.declared.link.Peer.TheVariants.{HostPort, Switch}
 use Rattle.pl_wiring.specs.FatTree.{IsTreeLink}
-use Rattle.pl_wiring.specs.Index.{place_of}
+use Rattle.pl_wiring.specs.Index.{port_index}
 use Rattle.pl_wiring.specs.Labels.{switch_count}
 use Rattle.pl_wiring.specs.LiveLinks.{IsFor, LivePorts}
 use Rattle.pl_wiring.specs.Peers.{IsPort, peer_among, peer_of}
@@ -58,7 +58,7 @@ use Rattle.pl_queues.specs.Queues.{items_at}
 use Rattle.pl_world.specs.LinksAndMoves.{host_moved, item_lost, joins, link_between, with_link}
 use Rattle.pl_world.specs.OtherActs.{heard_after_tick, host_act_done, manager_act_done, reception_noted, skip_noted}
 use Rattle.pl_world.specs.Refusals.{has_host, has_port, has_switch, is_full, is_for_hosts, refusal, refusal_of_event, refusal_of_link, refusal_of_move}
-use Rattle.pl_world.specs.WorldRule.{ComesAtHost, ComesAtSwitch, ComesIn, ComesOut, ComesOver, Delivers, DeliversFromHost, DeliversFromManager, DeliversOut, DeliversToManager, Fails, Goes, Happens, HostMoves, HostPlays, HostReceives, IsRepaired, Loses, ManagerMoves, SwitchMoves, Ticks, WorldStep, heard_item}
+use Rattle.pl_world.specs.WorldRule.{ComesAtHost, ComesAtSwitch, ComesIn, ComesOut, ComesOver, Delivers, DeliversFromHost, DeliversFromManager, DeliversOut, DeliversToManager, Fails, Goes, Happens, HostTurn, HostPlays, HostReceives, IsRepaired, Loses, ManagerTurn, SwitchTurn, Ticks, WorldStep, heard_item}
 use Rattle.pl_world.specs.Worlds.{WorldView}
 use Rattle.pl_world.proofs.Balances.{Owes, begun_balance, emptied_host_balance, emptied_out_balance, head_is_item, noted_balance, put_host_balance, sent_is_item, took_host_balance, took_out_balance}
 use Rattle.pl_world.proofs.Counts.{all_found, all_set, one, times_in-data}
@@ -206,7 +206,7 @@ noted_owes w f g entries begins ends b = noted_balance w.plan w.from_hosts w.out
 -- a switch steps
 switch_moves : (rule : SwitchRule) → AccountsForFrames rule → (w : WorldView) (s : ℕ) (input : SwitchInput) (speech : SpokenFrame) (new : WorldView) →
     said_by speech ≡ first_speech input → ((v : SwitchView) → v.k ≡ w.plan.k → CanCome v input) →
-    Owes w (λ id. owed_by speech id + 0) → HasRest w → SwitchMoves rule w s input speech new → Sound new
+    Owes w (λ id. owed_by speech id + 0) → HasRest w → SwitchTurn rule w s input speech new → Sound new
 switch_moves rule accounts w s input speech new same can owes r moves =
     let size : moves.before.k ≡ w.plan.k = all_found (λ (u : SwitchView). u.k ≡ w.plan.k) w.switches s moves.before moves.found r.ports in
     let shaped : IsShaped moves.before = all_found IsShaped w.switches s moves.before moves.found r.shaped in
@@ -259,7 +259,7 @@ host_acts w h (a ∷ acts) within are s =
     host_acts (host_act_done h w a) h acts (hosts_within w h a within) both.1 (host_act w h a within both.0 s)
 
 host_moves : (rule : HostRule) → HostsSendData rule → (w : WorldView) (h : ℕ) (input : HostInput) (answer : HostAnswer) (new : WorldView) →
-    Sound w → HostMoves rule w h input answer new → Sound new
+    Sound w → HostTurn rule w h input answer new → Sound new
 host_moves rule sends w h input answer new s moves =
     let holds : HoldsData moves.before = all_found HoldsData w.hosts h moves.before moves.found s.rest.holding in
     let owed = sends moves.before input moves.after moves.acts answer holds moves.ruled in
@@ -270,7 +270,7 @@ host_moves rule sends w h input answer new s moves =
     (record { balance = s.balance; rest = hosts_rest w h moves.after owed.holds s.rest }))
 
 host_plays : (rule : HostRule) → HostsSendData rule → (w : WorldView) (h : ℕ) (input : HostInput) (new : WorldView) → Sound w → HostPlays rule w h input new → Sound new
-host_plays rule sends w h input new s plays = host_moves rule sends (skip_noted w h plays.skip) h input _ new (noted_skip plays.skip) plays.moves
+host_plays rule sends w h input new s plays = host_moves rule sends (skip_noted w h plays.skip) h input _ new (noted_skip plays.skip) plays.turn
   where
     noted_skip : (skip : Option Skip) → Sound (skip_noted w h skip)
     noted_skip None = s
@@ -282,7 +282,7 @@ host_plays rule sends w h input new s plays = host_moves rule sends (skip_noted 
 host_receives : (rule : HostRule) → HostsSendData rule → (w : WorldView) (h id : ℕ) (frame : List ℕ) (new : WorldView) → Owes w (one id) → HasRest w →
     HostReceives rule w h id frame new → Sound new
 host_receives rule sends w h id frame new owes r receives =
-    host_moves rule sends (reception_noted w h id frame receives.reception) h _ _ new (noted_reception receives.reception) receives.moves
+    host_moves rule sends (reception_noted w h id frame receives.reception) h _ _ new (noted_reception receives.reception) receives.turn
   where
     noted_reception : (reception : Reception) → Sound (reception_noted w h id frame reception)
     noted_reception Kept = record { balance = noted_owes w (one id) (λ i. 0) (Arrived id (host_no h) frame ∷ []) refl (λ i. omega arith) owes; rest = r }
@@ -304,7 +304,7 @@ manager_acts : (w : WorldView) (acts : List ManagerAct) → Sound w → Sound (f
 manager_acts w [] s = s
 manager_acts w (a ∷ acts) s = manager_acts (manager_act_done w a) acts (manager_act w a s)
 
-manager_moves : (rule : ManagerRule) (w : WorldView) (s : ℕ) (told : ToManager) (new : WorldView) → Sound w → ManagerMoves rule w s told new → Sound new
+manager_moves : (rule : ManagerRule) (w : WorldView) (s : ℕ) (told : ToManager) (new : WorldView) → Sound w → ManagerTurn rule w s told new → Sound new
 manager_moves rule w s told new is moves =
     subst Sound (sym moves.changed) (manager_acts (record w { manager = moves.after }) moves.acts (record { balance = is.balance; rest = is.rest }))
 
@@ -401,21 +401,21 @@ module _ (switch : SwitchRule) (host : HostRule) (accounts : AccountsForFrames s
       DeliversOut switch host w t port items new → Sound new
   delivers_out w t port [] new is s comes = absurd comes
   delivers_out w t port (item ∷ items) new is s comes =
-      comes_over (record w { out = set w.out (place_of w.plan.k t port) items }) t port item (peer_of w.plan t port) new
+      comes_over (record w { out = set w.out (port_index w.plan.k t port) items }) t port item (peer_of w.plan t port) new
       (peer_is_port w.plan t port s.rest.is_plan)
-      (head_is_item w.out (place_of w.plan.k t port) item items is s.balance.port_items)
-      (took_out_balance w.plan w.from_hosts w.out w.journal w.begun (λ id. 0) (λ id. times_in id (item ∷ [])) (place_of w.plan.k t port) item items is (λ id. omega arith) s.balance)
+      (head_is_item w.out (port_index w.plan.k t port) item items is s.balance.port_items)
+      (took_out_balance w.plan w.from_hosts w.out w.journal w.begun (λ id. 0) (λ id. times_in id (item ∷ [])) (port_index w.plan.k t port) item items is (λ id. omega arith) s.balance)
       s.rest comes
 
   delivers_to_manager : (manager : ManagerRule) (w : WorldView) (t : ℕ) (items : List ToManager) (new : WorldView) → Sound w →
       DeliversToManager manager w t items new → Sound new
-  delivers_to_manager manager w t [] new s moves = absurd moves
+  delivers_to_manager manager w t [] new s turn = absurd moves
   delivers_to_manager manager w t (told ∷ items) new s moves =
       manager_moves manager (record w { to_manager = set w.to_manager t items }) t told new
       (record { balance = s.balance; rest = told_rest w.to_manager _ (length-set w.to_manager t _) s.rest }) moves
 
   delivers_from_manager : (w : WorldView) (t : ℕ) (items : List ToSwitch) (new : WorldView) → Sound w → DeliversFromManager switch w t items new → Sound new
-  delivers_from_manager w t [] new s moves = absurd moves
+  delivers_from_manager w t [] new s turn = absurd moves
   delivers_from_manager w t (says ∷ items) new s moves =
       switch_moves switch accounts (record w { from_manager = set w.from_manager t items }) t (Says says) Silent new refl (λ v size. tt)
       s.balance (says_rest w.from_manager _ (length-set w.from_manager t _) s.rest) moves
@@ -437,10 +437,10 @@ module _ (switch : SwitchRule) (host : HostRule) (accounts : AccountsForFrames s
       s.balance (heard_rest w _ (ticked_heard t w.stands w.heard) s.rest) moves
 
   goes : (w : WorldView) (h : ℕ) (to : Stand) (from : Option Stand) (new : WorldView) → IsAtPort w.plan.k to → Sound w → Goes host w h to from new → Sound new
-  goes w h to None new there s moves = absurd moves
+  goes w h to None new there s turn = absurd moves
   goes w h to (Some from) new there s moves =
       host_moves host sends (host_moved w h from to) h _ _ new (record {
-        balance = emptied_out_balance w.plan (set w.from_hosts h []) w.out _ w.begun (λ id. 0) cause.HostGone (place_of w.plan.k from.edge.0 from.port)
+        balance = emptied_out_balance w.plan (set w.from_hosts h []) w.out _ w.begun (λ id. 0) cause.HostGone (port_index w.plan.k from.edge.0 from.port)
             (emptied_host_balance w.plan w.from_hosts w.out _ w.begun (λ id. 0) cause.HostGone h
             (noted_owes w (λ id. 0) (λ id. 0) (Moved (host_no h) to.edge to.port ∷ []) refl (λ id. refl) s.balance));
         rest = heard_rest (record w { stands = set w.stands h to }) _ (length-set w.heard h _) (stands_rest w h to there s.rest);
@@ -460,8 +460,8 @@ link_set w link live there r = links_rest w (with_link w.links link live) (made_
 fails : (w : WorldView) (a b : ℕ) (link : Option Link) (new : WorldView) → link_between w.plan a b ≡ link → Sound w → Fails w link new → Sound new
 fails w a b None new found s is = absurd is
 fails w a b (Some link) new found s is = subst Sound (sym is) (record {
-  balance = emptied_out_balance w.plan w.from_hosts _ _ w.begun (λ id. 0) cause.LinkDown (place_of w.plan.k link.upper.0 link.upper_port)
-      (emptied_out_balance w.plan w.from_hosts w.out _ w.begun (λ id. 0) cause.LinkDown (place_of w.plan.k link.lower.0 link.lower_port)
+  balance = emptied_out_balance w.plan w.from_hosts _ _ w.begun (λ id. 0) cause.LinkDown (port_index w.plan.k link.upper.0 link.upper_port)
+      (emptied_out_balance w.plan w.from_hosts w.out _ w.begun (λ id. 0) cause.LinkDown (port_index w.plan.k link.lower.0 link.lower_port)
       (noted_owes w (λ id. 0) (λ id. 0) (LinkDown link.lower link.upper ∷ []) refl (λ id. refl) s.balance));
   rest = link_set w link false (found_contained (joins a b) w.plan.links link found) s.rest;
 })
@@ -483,8 +483,8 @@ lost w (Data id frame) owes r = record {
 loses : (w : WorldView) (t port : ℕ) (items : List Item) (new : WorldView) → out_of w t port ≡ items → Sound w → Loses w t port items new → Sound new
 loses w t port [] new is s gone = absurd gone
 loses w t port (item ∷ items) new is s gone = subst Sound (sym gone)
-    (lost (record w { out = set w.out (place_of w.plan.k t port) items }) item
-    (took_out_balance w.plan w.from_hosts w.out w.journal w.begun (λ id. 0) (λ id. times_in id (item ∷ [])) (place_of w.plan.k t port) item items is (λ id. omega arith) s.balance)
+    (lost (record w { out = set w.out (port_index w.plan.k t port) items }) item
+    (took_out_balance w.plan w.from_hosts w.out w.journal w.begun (λ id. 0) (λ id. times_in id (item ∷ [])) (port_index w.plan.k t port) item items is (λ id. omega arith) s.balance)
     s.rest)
 
 -- what a step that is not refused may rely on

@@ -3,11 +3,11 @@ use Rattle.std.proofs.Common.{◌≡◌, ℕ, ◌+◌, ◌*◌, ◌<◌, Bool, t
 use Rattle.std.specs.List.{AllByRecursion, fold}
 use Rattle.std.proofs.Math.ListN.{length-set}
 use Rattle.pl_pmac.specs.declared.pmac.Pmac.{Pmac}
-use Rattle.pl_wiring.specs.Index.{place_of}
+use Rattle.pl_wiring.specs.Index.{port_index}
 use Rattle.pl_wiring.specs.Labels.{switch_count}
 use Rattle.pl_wiring.specs.LiveLinks.{IsFor, LivePorts}
 use Rattle.pl_wiring.specs.Plan.{IsPlan, Plan}
-use Rattle.pl_wiring.proofs.Entered.{place_of-below}
+use Rattle.pl_wiring.proofs.Entered.{port_index-below}
 use Rattle.pl_core.specs.declared.acts.Act.{Act}
 use Rattle.pl_core.specs.declared.acts.Act.TheVariants as act
 use Rattle.pl_journal.specs.declared.cause.Cause.TheVariants as cause
@@ -121,9 +121,9 @@ IsSteady s k d = Steady s k d.world d.speech d.late
 
 module _ (s k : ℕ) (w : WorldView) where
   place_below : (port : ℕ) → w.plan.k ≡ k → s < switch_count k → port < k → length w.out ≡ switch_count w.plan.k * w.plan.k →
-      place_of w.plan.k s port < length w.out
+      port_index w.plan.k s port < length w.out
   place_below port size switch within long =
-      rw (long, size) (place_of-below k s port (switch_count k) switch within)
+      rw (long, size) (port_index-below k s port (switch_count k) switch within)
 
   -- an item is sent out unless the link is failed
   control_out : (b : Bool) (f : ℕ → ℕ) (at : ℕ) (frame : List ℕ) → at < length w.out → IsFrame true frame → Owes w f →
@@ -151,7 +151,7 @@ module _ (s k : ℕ) (w : WorldView) where
     size = st.size;
     switch = st.switch;
     none = st.none;
-    balance = control_out (is_failed_at w s port) _ (place_of w.plan.k s port) frame
+    balance = control_out (is_failed_at w s port) _ (port_index w.plan.k s port) frame
         (place_below port st.size st.switch fit.within st.balance.ports) (record { kind = fit.kind; whole = fit.whole }) st.balance;
     rest = st.rest;
   }
@@ -198,7 +198,7 @@ module _ (s k : ℕ) (w : WorldView) where
     size = st.size;
     switch = st.switch;
     none = late_begins_none (is_failed_at w s port) late id st.none;
-    balance = data_out (is_failed_at w s port) late _ id (place_of w.plan.k s port) frame
+    balance = data_out (is_failed_at w s port) late _ id (port_index w.plan.k s port) frame
         (place_below port st.size st.switch fit.within st.balance.ports) (record { kind = fit.kind; whole = fit.whole }) (λ i. refl) st.balance;
     rest = st.rest;
   }

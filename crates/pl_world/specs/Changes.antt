@@ -6,7 +6,7 @@ use Rattle.pl_frame.specs.declared.address.SwitchId.{SwitchId}
 use Rattle.pl_frame.specs.Ethernet.{destination_of}
 use Rattle.pl_wiring.specs.declared.host.HostNo.{HostNo}
 use Rattle.pl_wiring.specs.declared.label.SwitchNo.{SwitchNo}
-use Rattle.pl_wiring.specs.Index.{place_of}
+use Rattle.pl_wiring.specs.Index.{port_index}
 use Rattle.pl_wiring.specs.LiveLinks.{is_live_at}
 use Rattle.pl_wiring.specs.Peers.{peer_of}
 use Rattle.pl_wiring.specs.Plan.{Plan}
@@ -49,15 +49,15 @@ is_failed_at w s port = not (is_host_port (peer_of w.plan s port)) && not (is_li
 
 -- the queue out of a port
 abbrev pub out_of : WorldView → ℕ → ℕ → List Item
-out_of w s port = items_at w.out (place_of w.plan.k s port)
+out_of w s port = items_at w.out (port_index w.plan.k s port)
 
 -- an item waits in the queue out of a port
 abbrev pub sent_out : WorldView → ℕ → ℕ → Item → WorldView
-sent_out w s port item = record w { out = put_at w.out (place_of w.plan.k s port) item }
+sent_out w s port item = record w { out = put_at w.out (port_index w.plan.k s port) item }
 
 -- the same, unless the port's link is failed
 abbrev pub sent_if_live : WorldView → ℕ → ℕ → Item → WorldView
-sent_if_live w s port item = record w { out = if is_failed_at w s port then w.out else put_at w.out (place_of w.plan.k s port) item }
+sent_if_live w s port item = record w { out = if is_failed_at w s port then w.out else put_at w.out (port_index w.plan.k s port) item }
 
 abbrev pub told_manager : WorldView → ℕ → ToManager → WorldView
 told_manager w s told = record w { to_manager = put_at w.to_manager s told }
@@ -111,8 +111,8 @@ ends_of cause (Data id frame ∷ items) = Dropped id cause ∷ ends_of cause ite
 -- a queue out of a port is emptied: its data frames end for a cause
 abbrev pub emptied_out : WorldView → ℕ → ℕ → Cause → WorldView
 emptied_out w s port cause = record w {
-  out = slice_set w.out (place_of w.plan.k s port) [];
-  journal = w.journal ++ ends_of cause (items_at w.out (place_of w.plan.k s port));
+  out = slice_set w.out (port_index w.plan.k s port) [];
+  journal = w.journal ++ ends_of cause (items_at w.out (port_index w.plan.k s port));
 }
 
 -- and a host's queue

@@ -1,7 +1,7 @@
 -- Links that fail and are repaired, items that are lost, and hosts that move.
 use Rattle.std.specs.Prelude.{ℕ, ◌==◌, ◌&&◌, ◌||◌, Bool, true, false, None, Option, find, slice_set}
 use Rattle.pl_wiring.specs.declared.link.Link.{Link}
-use Rattle.pl_wiring.specs.Index.{place_of}
+use Rattle.pl_wiring.specs.Index.{port_index}
 use Rattle.pl_wiring.specs.LiveLinks.{LivePorts}
 use Rattle.pl_wiring.specs.Plan.{Plan}
 use Rattle.pl_journal.specs.declared.cause.Cause.TheVariants as cause
@@ -23,8 +23,8 @@ link_between plan a b = find (joins a b) plan.links
 abbrev pub with_link : LivePorts → Link → Bool → LivePorts
 with_link links link live = record links {
   flags = slice_set
-      (slice_set links.flags (place_of links.k link.lower.0 link.lower_port) live)
-      (place_of links.k link.upper.0 link.upper_port) live;
+      (slice_set links.flags (port_index links.k link.lower.0 link.lower_port) live)
+      (port_index links.k link.upper.0 link.upper_port) live;
 }
 
 -- A link fails: the data frames in its queues end, those on their way up first, and control frames vanish. The lower end of a link is the

@@ -1,7 +1,7 @@
 -- What waits in queues and stands against a settled fabric.
 use Rattle.std.specs.Prelude.{◌≡◌, ℕ, ◌+◌, ◌*◌, ◌&&◌, not, Bool, true, false, bytes_eq, count_by, sum_by, map, replicate, List, [], Option, Some, None, length, slice_get}
 use Rattle.std.specs.List.{AllByRecursion, range_with_len}
-use Rattle.pl_wiring.specs.Index.{place_of}
+use Rattle.pl_wiring.specs.Index.{port_index}
 use Rattle.pl_wiring.specs.Labels.{switch_count}
 use Rattle.pl_wiring.specs.Plan.{Plan}
 use Rattle.pl_core.specs.declared.messages.ToManager.{ToManager}
@@ -34,7 +34,7 @@ stale_in (Some v) port items = count_by (is_stale v port) items
 
 -- in the queues out of all ports of switch number s
 abbrev pub stale_at_ports : ℕ → Option SwitchView → List (List Item) → ℕ → ℕ
-stale_at_ports k v out s = sum_by (λ port. stale_in v port (items_at out (place_of k s port))) (ports_of_switch k)
+stale_at_ports k v out s = sum_by (λ port. stale_in v port (items_at out (port_index k s port))) (ports_of_switch k)
 
 abbrev pub stale_at : ℕ → List SwitchView → List (List Item) → ℕ → ℕ
 stale_at k switches out s = stale_at_ports k (slice_get switches s) out s

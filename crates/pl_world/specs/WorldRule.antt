@@ -4,7 +4,7 @@ use Rattle.pl_frame.specs.declared.address.SwitchId.{SwitchId}
 use Rattle.pl_wiring.specs.declared.link.Link.{Link}
 use Rattle.pl_wiring.specs.declared.link.Peer.{Peer}
 use Rattle.pl_wiring.specs.declared.link.Peer.TheVariants.{HostPort, Switch}
-use Rattle.pl_wiring.specs.Index.{place_of}
+use Rattle.pl_wiring.specs.Index.{port_index}
 use Rattle.pl_wiring.specs.Peers.{peer_of}
 use Rattle.pl_core.specs.declared.acts.Act.{Act}
 use Rattle.pl_core.specs.declared.acts.HostAct.{HostAct}
@@ -41,7 +41,7 @@ use Rattle.pl_world.specs.SwitchActs.{switch_stepped}
 use Rattle.pl_world.specs.Worlds.{WorldView}
 
 -- a switch steps by its rule, and its acts are done
-pub record SwitchMoves (rule : SwitchRule) (w : WorldView) (s : ℕ) (input : SwitchInput) (speech : SpokenFrame) (new : WorldView) : Type 0 where
+pub record SwitchTurn (rule : SwitchRule) (w : WorldView) (s : ℕ) (input : SwitchInput) (speech : SpokenFrame) (new : WorldView) : Type 0 where
   pub before : SwitchView
   pub after : SwitchView
   pub acts : List Act
@@ -50,7 +50,7 @@ pub record SwitchMoves (rule : SwitchRule) (w : WorldView) (s : ℕ) (input : Sw
   pub changed : new ≡ switch_stepped w s before after speech acts
 
 -- a host steps by its rule with this answer, and its frames are sent
-pub record HostMoves (rule : HostRule) (w : WorldView) (h : ℕ) (input : HostInput) (answer : HostAnswer) (new : WorldView) : Type 0 where
+pub record HostTurn (rule : HostRule) (w : WorldView) (h : ℕ) (input : HostInput) (answer : HostAnswer) (new : WorldView) : Type 0 where
   pub before : HostView
   pub after : HostView
   pub acts : List HostAct
@@ -61,15 +61,15 @@ pub record HostMoves (rule : HostRule) (w : WorldView) (h : ℕ) (input : HostIn
 -- a recorded frame is played, or passed over for a reason that is written down
 pub record HostPlays (rule : HostRule) (w : WorldView) (h : ℕ) (input : HostInput) (new : WorldView) : Type 0 where
   pub skip : Option Skip
-  pub moves : HostMoves rule (skip_noted w h skip) h input (Played skip) new
+  pub turn : HostTurn rule (skip_noted w h skip) h input (Played skip) new
 
 -- a frame arrives at a host, or ends there
 pub record HostReceives (rule : HostRule) (w : WorldView) (h id : ℕ) (frame : List ℕ) (new : WorldView) : Type 0 where
   pub reception : Reception
-  pub moves : HostMoves rule (reception_noted w h id frame reception) h (Receives frame) (Received reception) new
+  pub turn : HostTurn rule (reception_noted w h id frame reception) h (Receives frame) (Received reception) new
 
 -- the manager steps by its rule on what a switch told it
-pub record ManagerMoves (rule : ManagerRule) (w : WorldView) (s : ℕ) (told : ToManager) (new : WorldView) : Type 0 where
+pub record ManagerTurn (rule : ManagerRule) (w : WorldView) (s : ℕ) (told : ToManager) (new : WorldView) : Type 0 where
   pub id : SwitchId
   pub after : ManagerView
   pub acts : List ManagerAct
@@ -79,8 +79,8 @@ pub record ManagerMoves (rule : ManagerRule) (w : WorldView) (s : ℕ) (told : T
 
 -- an item comes at a port of a switch; a data frame crosses the switch
 abbrev pub ComesAtSwitch : SwitchRule → WorldView → ℕ → ℕ → Item → WorldView → Type 0
-ComesAtSwitch rule w s port (Control frame) new = SwitchMoves rule w s (Comes port frame) Silent new
-ComesAtSwitch rule w s port (Data id frame) new = SwitchMoves rule (noted w (Crossed id (switch_no s))) s (Comes port frame) (Waiting id false) new
+ComesAtSwitch rule w s port (Control frame) new = SwitchTurn rule w s (Comes port frame) Silent new
+ComesAtSwitch rule w s port (Data id frame) new = SwitchTurn rule (noted w (Crossed id (switch_no s))) s (Comes port frame) (Waiting id false) new
 
 -- a data frame comes out of a host port, to the host that gets it; where there is none it ends
 abbrev pub ComesAtHost : HostRule → WorldView → ℕ → List ℕ → Option ℕ → WorldView → Type 0
@@ -116,16 +116,16 @@ DeliversFromHost rule w h (item ∷ items) new =
 abbrev pub DeliversOut : SwitchRule → HostRule → WorldView → ℕ → ℕ → List Item → WorldView → Type 0
 DeliversOut switch host w s port [] new = ⊥
 DeliversOut switch host w s port (item ∷ items) new =
-    ComesOver switch host (record w { out = slice_set w.out (place_of w.plan.k s port) items }) s port item (peer_of w.plan s port) new
+    ComesOver switch host (record w { out = slice_set w.out (port_index w.plan.k s port) items }) s port item (peer_of w.plan s port) new
 
 abbrev pub DeliversToManager : ManagerRule → WorldView → ℕ → List ToManager → WorldView → Type 0
 DeliversToManager rule w s [] new = ⊥
-DeliversToManager rule w s (told ∷ items) new = ManagerMoves rule (record w { to_manager = slice_set w.to_manager s items }) s told new
+DeliversToManager rule w s (told ∷ items) new = ManagerTurn rule (record w { to_manager = slice_set w.to_manager s items }) s told new
 
 abbrev pub DeliversFromManager : SwitchRule → WorldView → ℕ → List ToSwitch → WorldView → Type 0
 DeliversFromManager rule w s [] new = ⊥
 DeliversFromManager rule w s (says ∷ items) new =
-    SwitchMoves rule (record w { from_manager = slice_set w.from_manager s items }) s (Says says) Silent new
+    SwitchTurn rule (record w { from_manager = slice_set w.from_manager s items }) s (Says says) Silent new
 
 abbrev pub Delivers : SwitchRule → ManagerRule → HostRule → WorldView → QueueName → WorldView → Type 0
 Delivers switch manager host w (queue.FromHost h) new = DeliversFromHost switch w h.0 (items_at w.from_hosts h.0) new
@@ -135,7 +135,7 @@ Delivers switch manager host w (queue.FromManager s) new = DeliversFromManager s
 
 -- a switch ticks; so each host that stands there is not heard for one tick more
 abbrev pub Ticks : SwitchRule → WorldView → ℕ → WorldView → Type 0
-Ticks rule w s new = SwitchMoves rule (record w { heard = heard_after_tick s w.stands w.heard }) s Tick Silent new
+Ticks rule w s new = SwitchTurn rule (record w { heard = heard_after_tick s w.stands w.heard }) s Tick Silent new
 
 abbrev pub Fails : WorldView → Option Link → WorldView → Type 0
 Fails w None new = ⊥
@@ -148,12 +148,12 @@ IsRepaired w (Some link) new = new ≡ link_repaired w link
 -- the head of the queue out of a port is lost
 abbrev pub Loses : WorldView → ℕ → ℕ → List Item → WorldView → Type 0
 Loses w s port [] new = ⊥
-Loses w s port (item ∷ items) new = new ≡ item_lost (record w { out = slice_set w.out (place_of w.plan.k s port) items }) item
+Loses w s port (item ∷ items) new = new ≡ item_lost (record w { out = slice_set w.out (port_index w.plan.k s port) items }) item
 
 -- a host moves from where it stands, and does there what it does after a move
 abbrev pub Goes : HostRule → WorldView → ℕ → Stand → Option Stand → WorldView → Type 0
 Goes rule w h to None new = ⊥
-Goes rule w h to (Some from) new = HostMoves rule (host_moved w h from to) h HasMoved Nothing new
+Goes rule w h to (Some from) new = HostTurn rule (host_moved w h from to) h HasMoved Nothing new
 
 abbrev pub played_as : Bool → List ℕ → ℕ → HostInput
 played_as raw frame original = if raw then PlaysRaw frame original else Plays frame original
@@ -167,11 +167,11 @@ Happens switch manager host w (event.Repair a b) new = IsRepaired w (link_betwee
 Happens switch manager host w (event.Lose s port) new = Loses w s.0 port (out_of w s.0 port) new
 Happens switch manager host w (event.Move h s port) new =
     Goes host w h.0 (record { edge = s; port = port }) (slice_get w.stands h.0) new
-Happens switch manager host w (event.Start h) new = HostMoves host w h.0 Starts Nothing new
+Happens switch manager host w (event.Start h) new = HostTurn host w h.0 Starts Nothing new
 Happens switch manager host w (event.Play h frame original raw) new = HostPlays host w h.0 (played_as raw frame original) new
-Happens switch manager host w (event.Retry h) new = HostMoves host w h.0 Retries Nothing new
-Happens switch manager host w (event.Join h group) new = HostMoves host w h.0 (Joins group) Nothing new
-Happens switch manager host w (event.Leave h group) new = HostMoves host w h.0 (Leaves group) Nothing new
+Happens switch manager host w (event.Retry h) new = HostTurn host w h.0 Retries Nothing new
+Happens switch manager host w (event.Join h group) new = HostTurn host w h.0 (Joins group) Nothing new
+Happens switch manager host w (event.Leave h group) new = HostTurn host w h.0 (Leaves group) Nothing new
 
 -- A step of the world is an event, and is counted.
 abbrev pub WorldStep : SwitchRule → ManagerRule → HostRule → WorldView → Event → WorldView → Type 0

@@ -1,6 +1,6 @@
 pub mod FirstPlaces
 pub mod Standing
-pub mod Moving
+pub mod OneChanged
 pub mod Stepping
 pub mod LinkFound
 pub mod Sums

@@ -6,7 +6,7 @@ use Rattle.std.proofs.lemmas.List.{get_or-set_other, get_or-set_same, length-set
 use Rattle.std.proofs.lemmas.List.Sums.{sum_by-le-sum_by, sum_by-take-le, sum_by_more}
 use Rattle.std.proofs.lemmas.List.Folds.{sum_by-replicate}
 use Rattle.std.proofs.lemmas.Nat.{same_from_place}
-use Rattle.pl_wiring.specs.Index.{place_of}
+use Rattle.pl_wiring.specs.Index.{port_index}
 use Rattle.pl_core.specs.Announcements.{announcement}
 use Rattle.pl_core.specs.PortRecords.{port_of}
 use Rattle.pl_core.specs.SwitchFacts.{IsAnnounced}
@@ -29,18 +29,18 @@ not_announced_is b v port frame h = ap not (announced_is b v port frame h)
 
 module _ (k : ℕ) (switches : List SwitchView) (out : List (List Item)) (s port at : ℕ) where
   module _ (queue : List Item) where
-    at_other : (t q : ℕ) → q < k → port < k → place_of k s port ≡ at → ((t ≡ s) × (q ≡ port) → ⊥) →
-        items_at (slice_set out at queue) (place_of k t q) ≡ items_at out (place_of k t q)
+    at_other : (t q : ℕ) → q < k → port < k → port_index k s port ≡ at → ((t ≡ s) × (q ≡ port) → ⊥) →
+        items_at (slice_set out at queue) (port_index k t q) ≡ items_at out (port_index k t q)
     at_other t q low within place apart =
-        get_or-set_other out at (place_of k t q) queue [] (λ e. apart (same_from_place t q s port k low within (e ∙ sym place)))
+        get_or-set_other out at (port_index k t q) queue [] (λ e. apart (same_from_place t q s port k low within (e ∙ sym place)))
 
-    at_this : port < k → place_of k s port ≡ at → at < length out →
+    at_this : port < k → port_index k s port ≡ at → at < length out →
         stale_at k switches (slice_set out at queue) s + stale_in (slice_get switches s) port (items_at out at)
         ≡ stale_at k switches out s + stale_in (slice_get switches s) port queue
     at_this within place there =
         let v : Option SwitchView = slice_get switches s in
-        let new : ℕ → ℕ = λ q. stale_in v q (items_at (slice_set out at queue) (place_of k s q)) in
-        let old : ℕ → ℕ = λ q. stale_in v q (items_at out (place_of k s q)) in
+        let new : ℕ → ℕ = λ q. stale_in v q (items_at (slice_set out at queue) (port_index k s q)) in
+        let old : ℕ → ℕ = λ q. stale_in v q (items_at out (port_index k s q)) in
         let sums : stale_at k switches (slice_set out at queue) s + old port ≡ stale_at k switches out s + new port =
         sums_changed new old k 0 port (omega arith) (omega (arith, within))
         (λ q low high apart. ap (stale_in v q) (at_other s q (omega (arith, high)) within place (λ e. apart e.1))) in
@@ -50,26 +50,26 @@ module _ (k : ℕ) (switches : List SwitchView) (out : List (List Item)) (s port
         omega (arith, sums, was, is)
 
     -- a queue becomes another
-    pub queue_changes : port < k → place_of k s port ≡ at → at < length out → s < length switches →
+    pub queue_changes : port < k → port_index k s port ≡ at → at < length out → s < length switches →
         stale k switches (slice_set out at queue) + stale_in (slice_get switches s) port (items_at out at)
         ≡ stale k switches out + stale_in (slice_get switches s) port queue
     queue_changes within place there low =
         let sums : stale k switches (slice_set out at queue) + stale_at k switches out s ≡ stale k switches out + stale_at k switches (slice_set out at queue) s =
         sums_changed (stale_at k switches (slice_set out at queue)) (stale_at k switches out) (length switches) 0 s (omega arith) (omega (arith, low))
         (λ t above below apart.
-        sums_same (λ q. stale_in (slice_get switches t) q (items_at (slice_set out at queue) (place_of k t q)))
-        (λ q. stale_in (slice_get switches t) q (items_at out (place_of k t q))) k 0
+        sums_same (λ q. stale_in (slice_get switches t) q (items_at (slice_set out at queue) (port_index k t q)))
+        (λ q. stale_in (slice_get switches t) q (items_at out (port_index k t q))) k 0
         (λ q above below. ap (stale_in (slice_get switches t) q) (at_other t q (omega (arith, below)) within place (λ e. apart e.0)))) in
         let here = at_this within place there in
         omega (arith, sums, here)
 
   -- one queue has no more than all
-  pub queue_le : port < k → place_of k s port ≡ at → s < length switches → stale_in (slice_get switches s) port (items_at out at) ≤ stale k switches out
+  pub queue_le : port < k → port_index k s port ≡ at → s < length switches → stale_in (slice_get switches s) port (items_at out at) ≤ stale k switches out
   queue_le within place low =
       let one : stale_at k switches out s ≤ stale k switches out = one_le_sum (stale_at k switches out) (length switches) 0 s (omega arith) (omega (arith, low)) in
-      let mine : stale_in (slice_get switches s) port (items_at out (place_of k s port)) ≤ stale_at k switches out s =
-      one_le_sum (λ q. stale_in (slice_get switches s) q (items_at out (place_of k s q))) k 0 port (omega arith) (omega (arith, within)) in
-      let here : stale_in (slice_get switches s) port (items_at out (place_of k s port)) ≡ stale_in (slice_get switches s) port (items_at out at) =
+      let mine : stale_in (slice_get switches s) port (items_at out (port_index k s port)) ≤ stale_at k switches out s =
+      one_le_sum (λ q. stale_in (slice_get switches s) q (items_at out (port_index k s q))) k 0 port (omega arith) (omega (arith, within)) in
+      let here : stale_in (slice_get switches s) port (items_at out (port_index k s port)) ≡ stale_in (slice_get switches s) port (items_at out at) =
       ap (λ n. stale_in (slice_get switches s) port (items_at out n)) place in
       omega (arith, one, mine, here)
 
@@ -117,25 +117,25 @@ module _ (k : ℕ) (out : List (List Item)) where
 
   module _ (v : Option SwitchView) (s : ℕ) where
     abbrev pub port_part : ℕ → ℕ
-    port_part q = stale_in v q (items_at out (place_of k s q))
+    port_part q = stale_in v q (items_at out (port_index k s q))
 
-    ports_le : (q : ℕ) → place_of k s q ≤ length out → before (s * k) + sum_from port_part 0 q ≤ before (place_of k s q)
+    ports_le : (q : ℕ) → port_index k s q ≤ length out → before (s * k) + sum_from port_part 0 q ≤ before (port_index k s q)
     ports_le zero within =
-        let here : before (place_of k s 0) ≡ before (s * k) = ap before (omega arith) in
+        let here : before (port_index k s 0) ≡ before (s * k) = ap before (omega arith) in
         omega (arith, here)
     ports_le (suc q) within =
         let less = ports_le q (omega (arith, within)) in
         let last = sum_last port_part q in
-        let more : before (place_of k s q + 1) ≡ before (place_of k s q) + count_by is_control_item (items_at out (place_of k s q)) =
-        sum_by_more (count_by is_control_item) out (place_of k s q) [] (omega (arith, within)) in
-        let here : before (place_of k s (suc q)) ≡ before (place_of k s q + 1) = ap before (omega arith) in
-        let fits : port_part q ≤ count_by is_control_item (items_at out (place_of k s q)) = stale_in_le v q (items_at out (place_of k s q)) in
+        let more : before (port_index k s q + 1) ≡ before (port_index k s q) + count_by is_control_item (items_at out (port_index k s q)) =
+        sum_by_more (count_by is_control_item) out (port_index k s q) [] (omega (arith, within)) in
+        let here : before (port_index k s (suc q)) ≡ before (port_index k s q + 1) = ap before (omega arith) in
+        let fits : port_part q ≤ count_by is_control_item (items_at out (port_index k s q)) = stale_in_le v q (items_at out (port_index k s q)) in
         omega (arith, less, last, more, here, fits)
 
-    pub ports_fit : (q : ℕ) → place_of k s q ≤ length out → sum_from port_part 0 q ≤ counted_in is_control_item out
+    pub ports_fit : (q : ℕ) → port_index k s q ≤ length out → sum_from port_part 0 q ≤ counted_in is_control_item out
     ports_fit q within =
         let less = ports_le q within in
-        let part : before (place_of k s q) ≤ counted_in is_control_item out = sum_by-take-le (count_by is_control_item) out (place_of k s q) in
+        let part : before (port_index k s q) ≤ counted_in is_control_item out = sum_by-take-le (count_by is_control_item) out (port_index k s q) in
         omega (arith, less, part)
 
   switches_le : (switches : List SwitchView) (n : ℕ) → n * k ≤ length out → sum_from (stale_at k switches out) 0 n ≤ before (n * k)
@@ -144,8 +144,8 @@ module _ (k : ℕ) (out : List (List Item)) where
       let row : suc n * k ≡ n * k + k = suc-mul n k in
       let less = switches_le switches n (omega (arith, within, row)) in
       let last = sum_last (stale_at k switches out) n in
-      let mine : before (n * k) + stale_at k switches out n ≤ before (place_of k n k) = ports_le (slice_get switches n) n k (omega (arith, within, row)) in
-      let here : before (suc n * k) ≡ before (place_of k n k) = ap before row in
+      let mine : before (n * k) + stale_at k switches out n ≤ before (port_index k n k) = ports_le (slice_get switches n) n k (omega (arith, within, row)) in
+      let here : before (suc n * k) ≡ before (port_index k n k) = ap before row in
       omega (arith, less, last, mine, here)
 
   pub stale_fits : (switches : List SwitchView) → length out ≡ length switches * k → stale k switches out ≤ counted_in is_control_item out

@@ -20,10 +20,10 @@ use Rattle.pl_core.specs.SwitchViews.{SwitchView}
 use Rattle.pl_world.specs.declared.item.Item.{Item}
 use Rattle.pl_world.specs.declared.spoken_frame.SpokenFrame.{SpokenFrame}
 use Rattle.pl_world.specs.Flying.{IsFormed}
-use Rattle.pl_world_parts.specs.Moves.{HostSteps, SwitchSteps, sizes}
+use Rattle.pl_world_parts.specs.OneStep.{HostSteps, SwitchSteps, sizes}
 use Rattle.pl_world.specs.OtherActs.{host_act_done, manager_act_done}
 use Rattle.pl_world.specs.SwitchActs.{acts_done, begins, place_noted, with_late}
-use Rattle.pl_world.specs.WorldRule.{HostMoves, ManagerMoves, SwitchMoves}
+use Rattle.pl_world.specs.WorldRule.{HostTurn, ManagerTurn, SwitchTurn}
 use Rattle.pl_world.specs.Worlds.{WorldView}
 use Rattle.pl_world.proofs.Counts.{all_found}
 
@@ -90,10 +90,10 @@ module _ (rule : SwitchRule) (v w : WorldView) (s : ℕ) (input : SwitchInput) (
       rw (sym private_items) (subst (λ n. AllByRecursion (IsFit n) steps.items) k fits)
 
   pub switch_moved : (speech : SpokenFrame) (new : WorldView) →
-      new ≡ place_noted s was is (with_late (acts_done s (begins (record v { switches = switches }) speech) out)) → SwitchMoves rule w s input speech new
+      new ≡ place_noted s was is (with_late (acts_done s (begins (record v { switches = switches }) speech) out)) → SwitchTurn rule w s input speech new
   switch_moved speech new is_new =
       let step = steps.holds in
-      subst (λ x. SwitchMoves rule x s input speech new) same (record {
+      subst (λ x. SwitchTurn rule x s input speech new) same (record {
         before = step.before;
         after = step.after;
         acts = steps.items;
@@ -104,10 +104,10 @@ module _ (rule : SwitchRule) (v w : WorldView) (s : ℕ) (input : SwitchInput) (
 
 module _ (rule : HostRule) (v w : WorldView) (h : ℕ) (input : HostInput) (answer : HostAnswer) (hosts : List HostView) (start out : List HostAct) (same : v ≡ w)
     (empty : start ≡ []) (steps : Gains start out (HostSteps rule v.hosts h input answer hosts)) where
-  pub host_moved : (new : WorldView) → new ≡ fold (host_act_done h) (record v { hosts = hosts }) out → HostMoves rule w h input answer new
+  pub host_moved : (new : WorldView) → new ≡ fold (host_act_done h) (record v { hosts = hosts }) out → HostTurn rule w h input answer new
   host_moved new is_new =
       let step = steps.holds in
-      subst (λ x. HostMoves rule x h input answer new) same (record {
+      subst (λ x. HostTurn rule x h input answer new) same (record {
         before = step.before;
         after = step.after;
         acts = steps.items;
@@ -133,8 +133,8 @@ can_hear v w s id same can found = subst (λ (x : WorldView). ((i : SwitchId) �
 
 pub manager_moved : (rule : ManagerRule) (v w : WorldView) (s : ℕ) (told : ToManager) (id : SwitchId) (after : ManagerView) (start out : List ManagerAct) (new : WorldView) →
     v ≡ w → start ≡ [] → slice_get v.plan.ids s ≡ Some id → Gains start out (rule v.manager id told after) →
-    new ≡ fold manager_act_done (record v { manager = after }) out → ManagerMoves rule w s told new
-manager_moved rule v w s told id after start out new same empty found gains is_new = subst (λ x. ManagerMoves rule x s told new) same (record {
+    new ≡ fold manager_act_done (record v { manager = after }) out → ManagerTurn rule w s told new
+manager_moved rule v w s told id after start out new same empty found gains is_new = subst (λ x. ManagerTurn rule x s told new) same (record {
   id = id;
   after = after;
   acts = gains.items;

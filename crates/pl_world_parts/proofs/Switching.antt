@@ -5,18 +5,18 @@ use Rattle.std.proofs.Math.ListN.{length-map}
 use Rattle.std.proofs.lemmas.List.{length-replicate, length-set}
 use Rattle.std.proofs.lemmas.List.Sums.{sum_by-cons, sum_by_push}
 use Rattle.pl_frame.specs.declared.address.SwitchId.{SwitchId}
-use Rattle.pl_wiring.specs.Index.{place_of}
+use Rattle.pl_wiring.specs.Index.{port_index}
 use Rattle.pl_core.specs.SwitchFacts.{switch_at_boot}
 use Rattle.pl_core.specs.SwitchViews.{SwitchView}
 use Rattle.pl_queues.specs.Counts.{counted_in}
 use Rattle.pl_queues.specs.Queues.{items_at, put_at}
 use Rattle.pl_world.specs.declared.item.Item.{Item}
 use Rattle.pl_world.specs.Flying.{IsFormed}
-use Rattle.pl_world_parts.specs.Moves.{IsOneChanged, sizes}
+use Rattle.pl_world_parts.specs.OneStep.{IsOneChanged, sizes}
 use Rattle.pl_world.specs.Pending.{HasQueues, KeepsStale, SwitchesView, is_control_item, is_order, is_report, is_stale, pending, stale, stale_at, stale_in}
 use Rattle.pl_world.specs.Worlds.{WorldView}
 use Rattle.pl_world.proofs.Counts.{all_found}
-use Rattle.pl_world_parts.proofs.Moving.{found-map}
+use Rattle.pl_world_parts.proofs.OneChanged.{found-map}
 use Rattle.pl_world_parts.proofs.Stale.{none_stale, queue_changes, queue_le, stale_by_wiring, stale_fits, switch_changes, switch_le}
 use Rattle.pl_world_parts.proofs.Stepping.{sizes_many, sizes_same}
 
@@ -32,7 +32,7 @@ module _ (k : ℕ) (switches : List SwitchView) (out : List (List Item)) where
       some_ports zero n some = absurd (omega (arith, some))
       some_ports (suc k) n some = omega arith
 
-  pub switch_is_there : (s port at : ℕ) → HasQueues (all_switches k switches out) → place_of k s port ≡ at → at < length out → s < length switches
+  pub switch_is_there : (s port at : ℕ) → HasQueues (all_switches k switches out) → port_index k s port ≡ at → at < length out → s < length switches
   switch_is_there s port at has place there = lt_of_mul-lt-mul_right k (omega (arith, place, there, has.queues))
 
   pub kept_fits : (kept : ℕ) → KeepsStale (all_switches k switches out) kept → kept ≤ counted_in is_control_item out
@@ -42,7 +42,7 @@ module _ (k : ℕ) (switches : List SwitchView) (out : List (List Item)) where
   same_size s v has found = all_found (λ v. v.k ≡ k) switches s v found has.ports
 
   module _ (s port at kept : ℕ) (v : SwitchView) (keeps : KeepsStale (all_switches k switches out) kept) (found : slice_get switches s ≡ Some v)
-      (within : port < k) (place : place_of k s port ≡ at) (there : at < length out) where
+      (within : port < k) (place : port_index k s port ≡ at) (there : at < length out) where
     -- a queue becomes another
     changed : (new : List (List Item)) (queue : List Item) → new ≡ slice_set out at queue →
         stale k switches new + count_by (is_stale v port) (items_at out at) ≡ stale k switches out + count_by (is_stale v port) queue
@@ -161,7 +161,7 @@ none_stale_yet k switches out n ports many empty =
 
 module _ {T : Type 0} (view : T → SwitchView) (k : ℕ) (cores : List T) (out : List (List Item)) (f : SwitchesView) (s port at : ℕ) (core : T)
     (has : HasQueues (all_switches k (map view cores) out)) (seen : all_switches k (map view cores) out ≡ f) (low : at < length f.out)
-    (place : place_of k s port ≡ at) (here : core ≡ get_or cores s core) where
+    (place : port_index k s port ≡ at) (here : core ≡ get_or cores s core) where
   pub place_there : at < length out
   place_there = let same = ap (λ a. length a.out) seen in omega (arith, low, same)
 

@@ -1,3 +1,3 @@
-pub mod Moves
+pub mod OneStep
 pub mod Atlas
 pub mod Stands

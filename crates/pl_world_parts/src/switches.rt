@@ -1,16 +1,16 @@
 ghost use Rattle.std.specs.Prelude.{◌≡◌, ◌<◌, ◌≤◌, ◌*◌, ◌∷◌, [], cond, count_by, length, map, option_to_list, replicate, slice_get, slice_set, vec_len, IfOk, MatchOption, OnErr, OnOk, Some};
 ghost use Rattle.std.specs.List.{AllByRecursion};
-ghost use Rattle.pl_wiring.specs.Index.{place_of};
+ghost use Rattle.pl_wiring.specs.Index.{port_index};
 ghost use Rattle.pl_core.specs.Accounting.{CanCome};
 ghost use Rattle.pl_core.specs.Gains.{Gains};
 ghost use Rattle.pl_core.specs.SwitchViews.{SwitchView};
 ghost use Rattle.pl_queues.specs.Counts.{most};
 ghost use Rattle.pl_queues.specs.Queues.{items_at, put_at};
-ghost use Rattle.pl_world_parts.specs.Moves.{SwitchSteps, input_from, sizes};
+ghost use Rattle.pl_world_parts.specs.OneStep.{SwitchSteps, input_from, sizes};
 ghost use Rattle.pl_world.specs.Pending.{HasQueues, is_stale, stale, stale_at, stale_at_ports};
 
 use crate::incoming::Incoming;
-use crate::moves::hear_at;
+use crate::one_step::hear_at;
 use pl_core::{Outbox, SwitchCore, SwitchFacts};
 use pl_frame::Memory;
 use pl_layouts::Place;
@@ -143,7 +143,7 @@ impl<S: SwitchCore> Switches<S> {
 // The switch and the port that have a place.
 fn port_at(k: u8, at: usize) -> (usize, u8)
     requires { 0 < k }
-    ensures place { place_of k result.0 result.1 ≡ at }
+    ensures place { port_index k result.0 result.1 ≡ at }
     ensures port { result.1 < k }
 {
     (at / k as usize, (at % k as usize) as u8)
@@ -206,7 +206,7 @@ fn stale_at<S: SwitchFacts>(cores: &Vec<S>, out: &CountedQueues<Item>, k: u8, s:
 
 fn stale_at_ports<S: SwitchFacts>(core: &S, out: &CountedQueues<Item>, k: u8, s: usize) -> u64
     requires size { (S.view core.now).k ≡ k }
-    requires queues { place_of k s k ≤ length out.now }
+    requires queues { port_index k s k ≤ length out.now }
     ensures { result ≡ stale_at_ports k (Some (S.view core.now)) out.now s }
 {
     let (_bound, _many) = (out.counted(), out.queues().len());

@@ -3,16 +3,16 @@ ghost use Rattle.std.specs.List.{position, range_with_len};
 ghost use Rattle.std.specs.Option.{option_map};
 ghost use Rattle.pl_one_edge.specs.Machine.{arrive_queue, arrive_all, host_at, settles};
 ghost use Rattle.pl_inputs.specs.Numbered.{number_of};
-ghost use Rattle.pl_one_edge.specs.Played.{state_of};
+ghost use Rattle.pl_one_edge.specs.MachineStates.{state_of};
 
-use crate::player::played::Played;
+use crate::player::state::MachineState;
 use crate::player::setting::Setting;
 use pl_frame::Memory;
 use pl_wiring::{Host, HostNo};
 
 impl Setting<'_> {
     /// All frames cross the switch, and arrive.
-    pub fn settle(&self, played: &mut Played) -> Result<(), Memory>
+    pub fn settle(&self, played: &mut MachineState) -> Result<(), Memory>
         ensures { OnOk result (state_of played.new ≡ settles self.now.wiring.now (state_of played.old)) }
     {
         self.cross_all(played)?;
@@ -21,7 +21,7 @@ impl Setting<'_> {
     }
 
     /// All frames that wait arrive, those of the first port first.
-    fn arrive_all(&self, played: &mut Played) -> Result<(), Memory>
+    fn arrive_all(&self, played: &mut MachineState) -> Result<(), Memory>
         ensures { OnOk result (state_of played.new ≡ arrive_all self.now.wiring.now (range_with_len 0 self.now.wiring.now.k) (state_of played.old)) }
     {
         let k = self.wiring.k();
@@ -31,7 +31,7 @@ impl Setting<'_> {
         Ok(())
     }
 
-    fn arrive_queue(&self, played: &mut Played, port: u8) -> Result<(), Memory>
+    fn arrive_queue(&self, played: &mut MachineState, port: u8) -> Result<(), Memory>
         ensures { OnOk result (state_of played.new ≡ arrive_queue self.now.wiring.now (state_of played.old) port) }
     {
         let host = self.host_at(port);

@@ -6,12 +6,12 @@ ghost use Rattle.pl_one_edge.specs.Captures.{recorded, records_of};
 ghost use Rattle.pl_one_edge.specs.Carried.{IsCarried};
 ghost use Rattle.pl_inputs.specs.Numbered.{number_of};
 ghost use Rattle.pl_one_edge.specs.Outcome.{Comes};
-ghost use Rattle.pl_one_edge.specs.Played.{state_of};
+ghost use Rattle.pl_one_edge.specs.MachineStates.{state_of};
 
 use crate::player::directory::look_up;
 use crate::player::error::StepError;
 use crate::player::frames::readdress;
-use crate::player::played::{Played, address_of};
+use crate::player::state::{MachineState, address_of};
 use crate::player::records::{RecordedFrame, record_at, record_count};
 use crate::player::setting::Setting;
 use pl_frame::{Frame, FrameError, FrameView, Mac, TYPE_ARP, TYPE_CONTROL, view};
@@ -33,7 +33,7 @@ impl Setting<'_> {
     }
 
     /// The address that a host was granted.
-    fn granted_to(&self, played: &Played, host: Option<HostNo>) -> Option<Mac>
+    fn granted_to(&self, played: &MachineState, host: Option<HostNo>) -> Option<Mac>
         ensures { result ≡ granted_to self.now.wiring.now (state_of played.now) (option_map number_of host) }
     {
         let number = host?;
@@ -83,7 +83,7 @@ impl Setting<'_> {
     /// A record is sent to the address that its destination's owner was granted.
     fn send_record(
         &self,
-        played: &mut Played,
+        played: &mut MachineState,
         number: HostNo,
         frame: &RecordedFrame<'_>,
     ) -> Result<(), StepError>
@@ -102,7 +102,7 @@ impl Setting<'_> {
 
     fn play_record(
         &self,
-        played: &mut Played,
+        played: &mut MachineState,
         number: HostNo,
         host: &Host,
         frame: &RecordedFrame<'_>,
@@ -119,7 +119,7 @@ impl Setting<'_> {
     }
 
     /// The next record of a host is asked for.
-    pub fn ask(&self, played: &mut Played, number: HostNo, host: &Host) -> Result<(), StepError>
+    pub fn ask(&self, played: &mut MachineState, number: HostNo, host: &Host) -> Result<(), StepError>
         ensures { Comes result (state_of played.new) (asks self.now.wiring.now (records_of self.now.captures.now) number.0 host.now (state_of played.old)) }
     {
         let Some(frame) = record_at(self.captures, number, played.asked_of(number)) else {
@@ -132,7 +132,7 @@ impl Setting<'_> {
     /// So many records of a host are asked for, one after the other.
     pub fn ask_times(
         &self,
-        played: &mut Played,
+        played: &mut MachineState,
         number: HostNo,
         host: &Host,
         times: u64,
@@ -146,7 +146,7 @@ impl Setting<'_> {
     }
 
     /// How many records of a host were not asked for.
-    pub fn records_left(&self, played: &Played, number: HostNo) -> u64
+    pub fn records_left(&self, played: &MachineState, number: HostNo) -> u64
         ensures { result ≡ records_left (records_of self.now.captures.now) (state_of played.now) number.0 }
     {
         record_count(self.captures, number).saturating_sub(played.asked_of(number))

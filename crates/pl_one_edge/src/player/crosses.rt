@@ -2,11 +2,11 @@ ghost use Rattle.std.specs.Prelude.{◌≡◌, OnOk};
 ghost use Rattle.pl_one_edge.specs.Machine.{crosses, cross_queue, cross_all, is_request, passes};
 ghost use Rattle.pl_layouts.specs.Frames.{packet_in};
 ghost use Rattle.pl_one_edge.specs.Carried.{IsCarried};
-ghost use Rattle.pl_one_edge.specs.Played.{state_of};
+ghost use Rattle.pl_one_edge.specs.MachineStates.{state_of};
 
 use crate::player::frames::rewrite;
 use pl_layouts::frames::packet_in;
-use crate::player::played::{Played, address_of};
+use crate::player::state::{MachineState, address_of};
 use crate::player::queue::Flight;
 use crate::player::setting::Setting;
 use pl_arp::REQUEST;
@@ -16,7 +16,7 @@ use pl_wiring::{Host, HostNo};
 
 impl Setting<'_> {
     /// All frames that hosts sent come to the switch, those of the first host first.
-    pub fn cross_all(&self, played: &mut Played) -> Result<(), Memory>
+    pub fn cross_all(&self, played: &mut MachineState) -> Result<(), Memory>
         ensures { OnOk result (state_of played.new ≡ cross_all self.now.wiring.now 0 self.now.wiring.now.hosts (state_of played.old)) }
     {
         let hosts = self.wiring.hosts();
@@ -26,7 +26,7 @@ impl Setting<'_> {
         Ok(())
     }
 
-    fn cross_queue(&self, played: &mut Played, number: HostNo, host: &Host) -> Result<(), Memory>
+    fn cross_queue(&self, played: &mut MachineState, number: HostNo, host: &Host) -> Result<(), Memory>
         ensures { OnOk result (state_of played.new ≡ cross_queue self.now.wiring.now number.0 host.now (state_of played.old)) }
     {
         for flight in played.take_sent(self.alloc, number).into_flights() {
@@ -38,7 +38,7 @@ impl Setting<'_> {
     /// A frame of a host comes to the switch.
     fn cross(
         &self,
-        played: &mut Played,
+        played: &mut MachineState,
         number: HostNo,
         host: &Host,
         flight: Flight,
@@ -52,7 +52,7 @@ impl Setting<'_> {
     }
 
     /// A request is taken, and every other frame waits for the host that holds its destination.
-    fn pass(&self, played: &mut Played, from: &Host, mut flight: Flight) -> Result<(), Memory>
+    fn pass(&self, played: &mut MachineState, from: &Host, mut flight: Flight) -> Result<(), Memory>
         requires { IsCarried flight.frame }
         ensures { OnOk result (state_of played.new ≡ passes self.now.wiring.now (state_of played.old) from.now flight) }
     {

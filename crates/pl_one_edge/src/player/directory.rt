@@ -5,7 +5,7 @@ ghost use Rattle.pl_pmac.specs.Pmac.{mac_of};
 ghost use Rattle.pl_one_edge.specs.Machine.{address_of};
 ghost use Rattle.pl_one_edge.specs.Directory.{FindsBy};
 
-use crate::player::played::address_of;
+use crate::player::state::address_of;
 use pl_frame::{Mac, Memory};
 use pl_pmac::pack;
 use pl_wiring::Host;

@@ -3,12 +3,12 @@ ghost use Rattle.pl_run.specs.Answers.{ends_settled, is_settle, rests_from, summ
 ghost use Rattle.pl_one_edge.specs.Captures.{records_of};
 ghost use Rattle.pl_inputs.specs.Loaded.{files_of, inputs_of};
 ghost use Rattle.pl_one_edge.specs.Machine.{records_left};
-ghost use Rattle.pl_one_edge.specs.Played.{state_of};
+ghost use Rattle.pl_one_edge.specs.MachineStates.{state_of};
 ghost use Rattle.pl_output.specs.Texts.{AreTexts};
 
 use pl_frame::Memory;
 use pl_inputs::{Capture, Inputs};
-use pl_one_edge::{Played, record_count};
+use pl_one_edge::{MachineState, record_count};
 use pl_output::summary::{Rest, summary};
 use pl_output::{Piece, Texts};
 use pl_script::{Command, ScriptLine};
@@ -20,7 +20,7 @@ pub(crate) fn texts_of(
     alloc: Global,
     out: &str,
     inputs: &Inputs,
-    played: &Played,
+    played: &MachineState,
 ) -> Result<Texts, Memory>
     ensures are { IfOk result (λ texts. AreTexts out.now inputs.now.wiring played.now.journal texts) }
     ensures summary { IfOk result (λ texts. string_bytes texts.summary ≡ summary_of (inputs_of inputs.now) (state_of played.now)) }
@@ -31,7 +31,7 @@ pub(crate) fn texts_of(
     Texts::new(alloc, out, &inputs.wiring, &played.journal, summary, piece)
 }
 
-fn summary_of(alloc: Global, inputs: &Inputs, played: &Played) -> Result<String, Memory>
+fn summary_of(alloc: Global, inputs: &Inputs, played: &MachineState) -> Result<String, Memory>
     ensures { IfOk result (λ text. string_bytes text ≡ summary_of (inputs_of inputs.now) (state_of played.now)) }
 {
     // A wiring has few hosts, and there are as many captures.
@@ -49,7 +49,7 @@ fn summary_of(alloc: Global, inputs: &Inputs, played: &Played) -> Result<String,
 }
 
 /// What is left of each host at the end.
-fn rests(alloc: Global, captures: &[Capture], played: &Played) -> Result<Vec<Rest>, Memory>
+fn rests(alloc: Global, captures: &[Capture], played: &MachineState) -> Result<Vec<Rest>, Memory>
     requires { length captures.now < 2 ^ 32 }
     ensures rests { IfOk result (λ rests. rests.items ≡ rests_from 0 (files_of captures.now) (records_of captures.now) (state_of played.now)) }
     ensures many { IfOk result (λ rests. length rests.items ≡ length captures.now) }
@@ -66,7 +66,7 @@ fn rests(alloc: Global, captures: &[Capture], played: &Played) -> Result<Vec<Res
 }
 
 /// How many records of a host no line asked for.
-fn unread(captures: &[Capture], played: &Played, host: HostNo) -> u64
+fn unread(captures: &[Capture], played: &MachineState, host: HostNo) -> u64
     ensures { result ≡ records_left (records_of captures.now) (state_of played.now) host.0 }
 {
     record_count(captures, host).saturating_sub(played.asked_of(host))

@@ -24,7 +24,7 @@ const NAMES: [&str; 7] = [
 ];
 
 // The place of the name at which a call failed.
-fn place_of(alloc: Global, status: &Status) -> Result<usize, Fail> {
+fn port_index(alloc: Global, status: &Status) -> Result<usize, Fail> {
     let line = format!(in alloc; "{status}")?;
     for (place, name) in NAMES.iter().enumerate() {
         let does = if place < 3 { "read" } else { "write" };
@@ -71,7 +71,7 @@ fn each_call_that_fails_is_told_by_its_name(rt: HostRuntime) -> Result<(), Fail>
     for call in 1..=whole.calls() {
         let mut shelf = first_path(alloc)?;
         shelf.fail_at(call)?;
-        let place = place_of(alloc, &play(alloc, &mut shelf))?;
+        let place = port_index(alloc, &play(alloc, &mut shelf))?;
         assert!(rt; last <= place && place - last <= 1, "at call {call}");
         assert!(rt; is_broken_off(&shelf, &whole, place), "at call {call}");
         last = place;

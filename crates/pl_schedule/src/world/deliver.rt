@@ -163,7 +163,7 @@ impl<S: SwitchCore, M: ManagerCore, H: HostCore> World<S, M, H> {
         requires port { port < self.old.plan.k }
         ensures { MatchOption result (out_of self.old s.0 port ≡ []) (IsTakenOut self.old s.0 port self.new) }
     {
-        let place = self.place_out(s, port);
+        let place = self.queue_index(s, port);
         self.switches.take(place)
     }
 

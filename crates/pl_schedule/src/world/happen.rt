@@ -189,7 +189,7 @@ impl<S: SwitchCore, M: ManagerCore, H: HostCore> World<S, M, H> {
         requires port { port < self.old.plan.k }
         ensures { OnOk result (self.new ≡ emptied_out self.old s.0 port cause) }
     {
-        let place = self.place_out(s, port);
+        let place = self.queue_index(s, port);
         let mut items = self.switches.take_all(place);
         self.end_all(&mut items, cause)
     }

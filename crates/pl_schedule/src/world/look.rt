@@ -53,7 +53,7 @@ impl<S: SwitchCore, M: ManagerCore, H: HostCore> World<S, M, H> {
         requires { has_port self.now.plan s.0 port ≡ true }
         ensures { result ≡ length (out_of self.now s.0 port) }
     {
-        let place = self.place_out(s, port);
+        let place = self.queue_index(s, port);
         self.switches.out().len_at(place)
     }
 

@@ -7,9 +7,9 @@ ghost use Rattle.pl_core.specs.Accounting.{CanCome, IsShaped};
 ghost use Rattle.pl_core.specs.HostInputs.HostAnswer.{Nothing};
 ghost use Rattle.pl_core.specs.SwitchViews.{SwitchView};
 ghost use Rattle.pl_world.specs.Changes.{sent_by_host};
-ghost use Rattle.pl_world_parts.specs.Moves.{input_from, input_of};
+ghost use Rattle.pl_world_parts.specs.OneStep.{input_from, input_of};
 ghost use Rattle.pl_world.specs.OtherActs.{host_act_done, manager_act_done, reception_noted, skip_noted};
-ghost use Rattle.pl_world.specs.WorldRule.{HostMoves, HostPlays, HostReceives, ManagerMoves, SwitchMoves, played_as};
+ghost use Rattle.pl_world.specs.WorldRule.{HostTurn, HostPlays, HostReceives, ManagerTurn, SwitchTurn, played_as};
 
 use crate::world::World;
 use pl_core::{
@@ -34,7 +34,7 @@ impl<S: SwitchCore, M: ManagerCore, H: HostCore> World<S, M, H> {
         requires switch { s.0 < switch_count self.old.plan.k }
         requires coming { (v : SwitchView) → v.k ≡ self.old.plan.k → CanCome v (input_from incoming) }
         requires shaped { AllByRecursion IsShaped self.old.switches }
-        ensures { OnOk result (SwitchMoves S.rule self.old s.0 (input_from incoming.entry) first self.new) }
+        ensures { OnOk result (SwitchTurn S.rule self.old s.0 (input_from incoming.entry) first self.new) }
     {
         let mut acts = Queue::new(self.alloc);
         let mut aside = Aside {
@@ -71,7 +71,7 @@ impl<S: SwitchCore, M: ManagerCore, H: HostCore> World<S, M, H> {
 
     pub(crate) fn host_does(&mut self, h: HostNo, urge: Urge) -> Result<(), Memory>
         requires { h.0 < length self.old.plan.hosts }
-        ensures { OnOk result (HostMoves H.rule self.old h.0 (input_of urge) Nothing self.new) }
+        ensures { OnOk result (HostTurn H.rule self.old h.0 (input_of urge) Nothing self.new) }
     {
         let mut acts = Queue::new(self.alloc);
         urge_at(&mut self.hosts, h.0 as usize, urge, &mut acts)?;
@@ -146,7 +146,7 @@ impl<S: SwitchCore, M: ManagerCore, H: HostCore> World<S, M, H> {
     pub(crate) fn manager_hears(&mut self, s: SwitchNo, told: &ToManager) -> Result<(), Memory>
         requires switch { s.0 < switch_count self.old.plan.k }
         requires hears { (id : SwitchId) → slice_get self.old.plan.ids s.0 ≡ Some id → CanHear self.old.manager id }
-        ensures { OnOk result (ManagerMoves M.rule self.old s.0 told.now self.new) }
+        ensures { OnOk result (ManagerTurn M.rule self.old s.0 told.now self.new) }
     {
         let mut acts = Queue::new(self.alloc);
         let id = self.atlas.wiring().id(s);

@@ -2,7 +2,7 @@ use Rattle.std.proofs.Common.{◌≡◌, All, Ok}
 use Rattle.std.proofs.lemmas.Result.{IfOk-weaker}
 use Rattle.pl_run.specs.Answers.{IsLossyRun, records_of, run_of}
 use Rattle.pl_inputs.specs.Loaded.{inputs_of}
-use Rattle.pl_one_edge.specs.Played.{state_of}
+use Rattle.pl_one_edge.specs.MachineStates.{state_of}
 use Rattle.pl_journal.specs.Savable.{IsSavable}
 use Rattle.pl_run.proofs.running.play_inputs.Goals as goal
 

@@ -6,11 +6,11 @@ use Rattle.pl_wiring.proofs.tables.host_table.Goals as goal
 pub index_mut-requires : goal.index_mut-requires
 index_mut-requires c =
     let place = host_place c.args.k c.loop-number.number c.args.hosts.now c.index-hosts-number.result c.requires.in_range c.loop-number-test.true c.index-hosts-number.is in
-    omega (arith, place, c.place_in_table.ensures)
+    omega (arith, place, c.index_in_table.ensures)
 
 pub loop-number-preserved : goal.loop-number-preserved
 loop-number-preserved c =
     let long : length c.loop-number.table.items ≡ switch_count c.args.k * c.args.k = (let ok = c.loop-number.table.ok in omega (arith, c.loop-number.invariant.0)) in
     let entered = enter_host c.args.k c.loop-number.number c.args.hosts.now c.loop-number.table.items c.index-hosts-number.result
     c.requires.in_range c.requires.apart c.loop-number-test.true long c.loop-number.invariant.1 in
-    (c.loop-number.invariant.0, rw c.place_in_table.ensures (rw (sym c.index-hosts-number.is) at entered))
+    (c.loop-number.invariant.0, rw c.index_in_table.ensures (rw (sym c.index-hosts-number.is) at entered))

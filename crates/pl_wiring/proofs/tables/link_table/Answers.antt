@@ -7,18 +7,18 @@ use Rattle.pl_wiring.proofs.tables.link_table.Goals as goal
 pub index_mut-requires : goal.index_mut-requires
 index_mut-requires c =
     let places = link_places c.args.k c.loop-number.number c.args.links.now no_link c.requires.tree c.loop-number-test.true in
-    omega (arith, places.0, c.place_in_table.ensures)
+    omega (arith, places.0, c.index_in_table.ensures)
 
 pub index_mut-requires-in-loop-number : goal.index_mut-requires-in-loop-number
 index_mut-requires-in-loop-number c =
     let places = link_places c.args.k c.loop-number.number c.args.links.now no_link c.requires.tree c.loop-number-test.true in
-    omega (arith, places.1, c.place_in_table-in-loop-number.ensures)
+    omega (arith, places.1, c.index_in_table-in-loop-number.ensures)
 
 pub loop-number-preserved : goal.loop-number-preserved
 loop-number-preserved c =
     let long : length c.loop-number.table.items ≡ switch_count c.args.k * c.args.k = (let ok = c.loop-number.table.ok in omega (arith, c.loop-number.invariant.0)) in (
       c.loop-number.invariant.0,
-      rw (c.place_in_table.ensures, c.place_in_table-in-loop-number.ensures)
+      rw (c.index_in_table.ensures, c.index_in_table-in-loop-number.ensures)
           (enter_link c.args.k c.loop-number.number c.args.links.now c.loop-number.table.items no_link c.requires.tree c.loop-number-test.true long c.loop-number.invariant.1),
     )
 

@@ -2,7 +2,7 @@ use Rattle.std.proofs.Common.{◌≡◌, ◌∙◌, ap, map, sym, arith}
 use Rattle.std.proofs.Math.ListN.{length-map}
 use Rattle.pl_queues.specs.Counts.{counted_in}
 use Rattle.pl_world.specs.Pending.{is_control_item, stale_at_ports}
-use Rattle.pl_world_parts.proofs.Moving.{found-map}
+use Rattle.pl_world_parts.proofs.OneChanged.{found-map}
 use Rattle.pl_world_parts.proofs.Switching.{same_size, switch_none}
 use Rattle.pl_world_parts.proofs.switches.stale_at.Goals as goal
 

@@ -2,7 +2,7 @@ use Rattle.std.proofs.Common.{◌≡◌, ◌++◌, length, drop}
 use Rattle.pl_run.specs.Answers.{rests_from}
 use Rattle.pl_one_edge.specs.Captures.{records_of}
 use Rattle.pl_inputs.specs.Loaded.{files_of}
-use Rattle.pl_one_edge.specs.Played.{state_of}
+use Rattle.pl_one_edge.specs.MachineStates.{state_of}
 use Rattle.pl_run.proofs.running.texts.rests.Given as goal
 
 abbrev pub invariant-loop-n : goal.invariant-loop-n

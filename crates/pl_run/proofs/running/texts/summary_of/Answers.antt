@@ -1,5 +1,5 @@
 use Rattle.std.proofs.Common.{◌≡◌, IfOk, string_bytes, subst, ◌∙◌}
-use Rattle.pl_one_edge.specs.Played.{state_of}
+use Rattle.pl_one_edge.specs.MachineStates.{state_of}
 use Rattle.pl_run.proofs.Remaining.{summary_is}
 use Rattle.pl_run.proofs.running.texts.summary_of.Goals as goal
 

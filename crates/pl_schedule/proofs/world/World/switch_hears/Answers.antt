@@ -1,4 +1,4 @@
-use Rattle.pl_world_parts.specs.Moves.{input_from}
+use Rattle.pl_world_parts.specs.OneStep.{input_from}
 use Rattle.pl_world_parts.proofs.Stepping.{acts_fit, coming_at, can_come, formed_stepped}
 use Rattle.pl_schedule.proofs.world.World.switch_hears.Goals as goal
 

@@ -21,7 +21,7 @@ index_mut-requires c =
     let states : LivePorts = record { k = c.self.inside.k; flags = c.self.inside.flags.items } in
     let for : IsFor c.args.wiring.now states = rw c.self.view_is c.requires.made_for in
     let within = flags_within c.args.wiring.now states c.unwrap-link.result c.link.ensures.plan.tree for found.0 in
-    let ok = c.self.inside.flags.ok in omega (arith, within.0, c.place_in_table.ensures)
+    let ok = c.self.inside.flags.ok in omega (arith, within.0, c.index_in_table.ensures)
 
 pub index_mut-requires-2 : goal.index_mut-requires-2
 index_mut-requires-2 c =
@@ -29,14 +29,14 @@ index_mut-requires-2 c =
     let states : LivePorts = record { k = c.self.inside.k; flags = c.self.inside.flags.items } in
     let for : IsFor c.args.wiring.now states = rw c.self.view_is c.requires.made_for in
     let within = flags_within c.args.wiring.now states c.unwrap-link.result c.link.ensures.plan.tree for found.0 in
-    let ok = c.self.inside.flags.ok in omega (arith, within.1, c.place_in_table-2.ensures)
+    let ok = c.self.inside.flags.ok in omega (arith, within.1, c.index_in_table-2.ensures)
 
 pub returns-clause-made_for : goal.returns-clause-made_for
 returns-clause-made_for c =
     let found = (rw c.unwrap-link.ensures at c.link.ensures.found) in
     let states : LivePorts = record { k = c.self.inside.k; flags = c.self.inside.flags.items } in
     let for : IsFor c.args.wiring.now states = rw c.self.view_is c.requires.made_for in
-    rw (c.place_in_table.ensures, c.place_in_table-2.ensures)
+    rw (c.index_in_table.ensures, c.index_in_table-2.ensures)
     (made_for_changed c.args.wiring.now states c.unwrap-link.result c.args.live c.link.ensures.plan.tree for found.0)
 
 pub returns-clause-changed : goal.returns-clause-changed
@@ -44,7 +44,7 @@ returns-clause-changed c =
     let found = (rw c.unwrap-link.ensures at c.link.ensures.found) in
     let states : LivePorts = record { k = c.self.inside.k; flags = c.self.inside.flags.items } in
     let for : IsFor c.args.wiring.now states = rw c.self.view_is c.requires.made_for in
-    rw (c.place_in_table.ensures, c.place_in_table-2.ensures)
+    rw (c.index_in_table.ensures, c.index_in_table-2.ensures)
     (changed c.args.wiring.now states c.unwrap-link.result c.args.live c.args.a.0 c.args.b.0 c.link.ensures.plan.tree for found.0 found.1)
 
 pub returns-clause-others : goal.returns-clause-others
@@ -52,5 +52,5 @@ returns-clause-others c =
     let found = (rw c.unwrap-link.ensures at c.link.ensures.found) in
     let states : LivePorts = record { k = c.self.inside.k; flags = c.self.inside.flags.items } in
     let for : IsFor c.args.wiring.now states = rw c.self.view_is c.requires.made_for in
-    rw (c.place_in_table.ensures, c.place_in_table-2.ensures, ← c.self.view_is)
+    rw (c.index_in_table.ensures, c.index_in_table-2.ensures, ← c.self.view_is)
     (others c.args.wiring.now states c.unwrap-link.result c.args.live c.args.a.0 c.args.b.0 c.link.ensures.plan.tree for found.0 found.1)

@@ -1,5 +1,5 @@
 use Rattle.std.proofs.Common.{arith}
-use Rattle.pl_one_edge.specs.Played.{state_of}
+use Rattle.pl_one_edge.specs.MachineStates.{state_of}
 use Rattle.pl_one_edge.proofs.Walks.{ports-next}
 use Rattle.pl_one_edge.proofs.player.setting.Setting.arrive_all.Goals as goal
 

@@ -1,7 +1,7 @@
 use Rattle.std.proofs.Common.{◌≡◌, ◌-◌}
 use Rattle.std.specs.List.{range_with_len}
 use Rattle.pl_one_edge.specs.Machine.{arrive_all}
-use Rattle.pl_one_edge.specs.Played.{state_of}
+use Rattle.pl_one_edge.specs.MachineStates.{state_of}
 use Rattle.pl_one_edge.proofs.player.setting.Setting.arrive_all.Given as goal
 
 abbrev pub invariant-loop-port : goal.invariant-loop-port

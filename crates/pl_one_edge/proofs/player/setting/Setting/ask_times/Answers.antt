@@ -2,7 +2,7 @@ use Rattle.std.specs.Prelude.{⊤}
 use Rattle.std.proofs.Common.{arith}
 use Rattle.std.proofs.lemmas.Result.{err_from_is_err_and}
 use Rattle.pl_one_edge.specs.Captures.{records_of}
-use Rattle.pl_one_edge.specs.Played.{state_of}
+use Rattle.pl_one_edge.specs.MachineStates.{state_of}
 use Rattle.pl_one_edge.proofs.Walks.{asks-next, asks-done, asks-refused}
 use Rattle.pl_one_edge.proofs.player.setting.Setting.ask_times.Goals as goal
 

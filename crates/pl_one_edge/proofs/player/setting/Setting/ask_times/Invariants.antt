@@ -1,7 +1,7 @@
 use Rattle.std.proofs.Common.{◌≡◌, ◌-◌}
 use Rattle.pl_one_edge.specs.Captures.{records_of}
 use Rattle.pl_one_edge.specs.Machine.{asks_times}
-use Rattle.pl_one_edge.specs.Played.{state_of}
+use Rattle.pl_one_edge.specs.MachineStates.{state_of}
 use Rattle.pl_one_edge.proofs.player.setting.Setting.ask_times.Given as goal
 
 abbrev pub invariant-loop : goal.invariant-loop

@@ -3,7 +3,7 @@ use Rattle.std.specs.Vec.Iter.{into_iter_items, into_iter_len}
 use Rattle.pl_one_edge.specs.Carried.{IsCarried}
 use Rattle.pl_one_edge.specs.declared.player.queue.Flight.{Flight}
 use Rattle.pl_one_edge.specs.Machine.{cross_each}
-use Rattle.pl_one_edge.specs.Played.{state_of}
+use Rattle.pl_one_edge.specs.MachineStates.{state_of}
 use Rattle.pl_one_edge.proofs.player.setting.Setting.cross_queue.Given as goal
 
 abbrev pub invariant-loop-flight : goal.invariant-loop-flight

@@ -3,7 +3,7 @@ use Rattle.pl_pmac.specs.Pmac.{mac_of}
 use Rattle.pl_frame.specs.Address.{mac_at}
 use Rattle.pl_layouts.specs.Frames.{packet_in}
 use Rattle.pl_one_edge.specs.Machine.{holder_of, is_request}
-use Rattle.pl_one_edge.specs.Played.{state_of}
+use Rattle.pl_one_edge.specs.MachineStates.{state_of}
 use Rattle.pl_one_edge.proofs.Passing.{passes-waits}
 use Rattle.pl_one_edge.proofs.player.setting.Setting.pass.Goals as goal
 

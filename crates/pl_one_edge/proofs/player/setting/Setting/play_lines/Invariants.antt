@@ -1,7 +1,7 @@
 use Rattle.std.proofs.Common.{◌≡◌, drop}
 use Rattle.pl_one_edge.specs.Captures.{records_of}
 use Rattle.pl_one_edge.specs.Machine.{plays_from}
-use Rattle.pl_one_edge.specs.Played.{state_of}
+use Rattle.pl_one_edge.specs.MachineStates.{state_of}
 use Rattle.pl_one_edge.proofs.player.setting.Setting.play_lines.Given as goal
 
 abbrev pub invariant-loop-line : goal.invariant-loop-line

@@ -1,6 +1,6 @@
 use Rattle.std.proofs.Common.{◌≡◌, drop}
 use Rattle.pl_one_edge.specs.Machine.{starts_all}
-use Rattle.pl_one_edge.specs.Played.{state_of}
+use Rattle.pl_one_edge.specs.MachineStates.{state_of}
 use Rattle.pl_one_edge.proofs.player.setting.Setting.start_all.Given as goal
 
 abbrev pub invariant-loop-n : goal.invariant-loop-n

@@ -9,7 +9,7 @@ use Rattle.pl_core.specs.HostInputs.{HostAnswer, HostInput, HostRule}
 use Rattle.pl_core.specs.HostViews.{HostView}
 use Rattle.pl_core.specs.SwitchInputs.{SwitchInput, SwitchRule}
 use Rattle.pl_core.specs.SwitchViews.{SwitchView}
-use Rattle.pl_world_parts.specs.Moves.{HostSteps, SwitchSteps, sizes}
+use Rattle.pl_world_parts.specs.OneStep.{HostSteps, SwitchSteps, sizes}
 
 module _ {T V : Type 0} (view : T → V) where
   pub map-set : (xs : List T) (n : ℕ) (x : T) → map view (set xs n x) ≡ set (map view xs) n (view x)

@@ -1,7 +1,7 @@
 use Rattle.std.proofs.Common.{arith, sym}
-use Rattle.pl_world_parts.specs.Moves.{input_from}
-use Rattle.pl_world_parts.proofs.Moving.{found-map, map-set, sizes_kept, switch_steps}
-use Rattle.pl_world_parts.proofs.moves.hear_at.Goals as goal
+use Rattle.pl_world_parts.specs.OneStep.{input_from}
+use Rattle.pl_world_parts.proofs.OneChanged.{found-map, map-set, sizes_kept, switch_steps}
+use Rattle.pl_world_parts.proofs.one_step.hear_at.Goals as goal
 
 pub hear-requires : goal.hear-requires
 hear-requires g c = c.requires.coming (g.S.SwitchFacts.view c.index_mut.result.now)

@@ -1,6 +1,6 @@
 use Rattle.std.proofs.Common.{◌∙◌, ap}
 use Rattle.pl_schedule.proofs.Forms.{port_place}
-use Rattle.pl_schedule.proofs.world.World.place_out.Goals as goal
+use Rattle.pl_schedule.proofs.world.World.queue_index.Goals as goal
 
 pub returns-clause-within : goal.returns-clause-within
 returns-clause-within g c =

@@ -1,8 +1,8 @@
 use Rattle.std.proofs.Common.{arith}
 use Rattle.pl_core.specs.HostInputs.HostAnswer.{Nothing}
-use Rattle.pl_world_parts.specs.Moves.{input_of}
-use Rattle.pl_world_parts.proofs.Moving.{host_steps}
-use Rattle.pl_world_parts.proofs.moves.urge_at.Goals as goal
+use Rattle.pl_world_parts.specs.OneStep.{input_of}
+use Rattle.pl_world_parts.proofs.OneChanged.{host_steps}
+use Rattle.pl_world_parts.proofs.one_step.urge_at.Goals as goal
 
 pub returns-clause-step : goal.returns-clause-step
 returns-clause-step g c = host_steps g.H.HostCore.view c.args.hosts.now.items c.args.h c.index_mut.result.now c.urge.new.host g.H.HostCore.rule (input_of c.args.to) Nothing

@@ -2,7 +2,7 @@ ghost use Rattle.std.specs.Prelude.{◌≡◌, ◌+◌, ◌++◌, ◌∷◌, OnO
 ghost use Rattle.std.specs.Option.{option_map};
 ghost use Rattle.pl_inputs.specs.Numbered.{number_of};
 ghost use Rattle.pl_one_edge.specs.Machine.{queue, with_flight, arrives_at, address_of, line_begins, sends, skips, asked_more, crossed_now, granted_now, taken_now, dropped_now};
-ghost use Rattle.pl_one_edge.specs.Played.{state_of};
+ghost use Rattle.pl_one_edge.specs.MachineStates.{state_of};
 ghost use Rattle.pl_one_edge.specs.Carried.{IsCarried};
 
 use crate::player::queue::{Flight, Queue};
@@ -19,7 +19,7 @@ const EDGE: SwitchNo = SwitchNo(0);
 
 /// What a run has come to.
 #[derive(Debug, Drop)]
-pub struct Played {
+pub struct MachineState {
     pub journal: Journal,
     /// How many frames were sent.
     pub begun: u64,
@@ -34,9 +34,9 @@ pub struct Played {
     pub passed: Vec<Queue>,
 }
 
-impl Played {
+impl MachineState {
     /// Nothing was done yet.
-    pub fn new(alloc: Global, hosts: usize, ports: usize) -> Result<Played, Memory>
+    pub fn new(alloc: Global, hosts: usize, ports: usize) -> Result<MachineState, Memory>
         ensures { IfOk result (λ played. state_of played ≡ record {
           journal = [];
           begun = 0;
@@ -47,7 +47,7 @@ impl Played {
           passed = replicate ports [];
         }) }
     {
-        Ok(Played {
+        Ok(MachineState {
             journal: Journal::new(alloc),
             begun: 0,
             steps: 0,

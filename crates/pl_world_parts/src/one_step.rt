@@ -4,7 +4,7 @@ ghost use Rattle.pl_core.specs.Gains.{Gains};
 ghost use Rattle.pl_core.specs.HostInputs.HostAnswer.{Nothing, Played, Received};
 ghost use Rattle.pl_core.specs.HostInputs.HostInput.{Receives};
 ghost use Rattle.pl_core.specs.SwitchViews.{SwitchView};
-ghost use Rattle.pl_world_parts.specs.Moves.{HostSteps, IsOneChanged, SwitchSteps, input_from, input_of, sizes};
+ghost use Rattle.pl_world_parts.specs.OneStep.{HostSteps, IsOneChanged, SwitchSteps, input_from, input_of, sizes};
 ghost use Rattle.pl_world.specs.WorldRule.{played_as};
 
 use crate::incoming::Incoming;

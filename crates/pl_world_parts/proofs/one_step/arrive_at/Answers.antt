@@ -1,8 +1,8 @@
 use Rattle.std.proofs.Common.{arith}
 use Rattle.pl_core.specs.HostInputs.HostAnswer.{Received}
 use Rattle.pl_core.specs.HostInputs.HostInput.{Receives}
-use Rattle.pl_world_parts.proofs.Moving.{host_steps}
-use Rattle.pl_world_parts.proofs.moves.arrive_at.Goals as goal
+use Rattle.pl_world_parts.proofs.OneChanged.{host_steps}
+use Rattle.pl_world_parts.proofs.one_step.arrive_at.Goals as goal
 
 pub returns-clause-step : goal.returns-clause-step
 returns-clause-step g c = host_steps g.H.HostCore.view c.args.hosts.now.items c.args.h c.index_mut.result.now c.receive.new.self g.H.HostCore.rule (Receives c.args.frame.now) (Received _)

@@ -1,8 +1,8 @@
 -- The state that a machine in memory is in.
-use Rattle.pl_one_edge.specs.declared.player.played.Played.{Played}
+use Rattle.pl_one_edge.specs.declared.player.state.MachineState.{MachineState}
 use Rattle.pl_one_edge.specs.Machine.{State}
 
-abbrev pub state_of : Played → State
+abbrev pub state_of : MachineState → State
 state_of p = record {
   journal = p.journal;
   begun = p.begun;

@@ -46,11 +46,11 @@ out_delivered switch host w mid new s port item peer taken is comes =
 
 pub told_delivered : (rule : ManagerRule) (w mid new : WorldView) (s : ℕ) (told : ToManager) → IsTakenToManager w s mid told →
     ManagerTurn rule mid s told new → DeliversToManager rule w s (items_at w.to_manager s) new
-told_delivered rule w mid new s told taken turn = rw taken.head (subst (λ m. ManagerTurn rule m s told new) taken.left moves)
+told_delivered rule w mid new s told taken turn = rw taken.head (subst (λ m. ManagerTurn rule m s told new) taken.left turn)
 
 pub said_delivered : (rule : SwitchRule) (w mid new : WorldView) (s : ℕ) (says : ToSwitch) → IsTakenFromManager w s mid says →
     SwitchTurn rule mid s (Says says) Silent new → DeliversFromManager rule w s (items_at w.from_manager s) new
-said_delivered rule w mid new s says taken turn = rw taken.head (subst (λ m. SwitchTurn rule m s (Says says) Silent new) taken.left moves)
+said_delivered rule w mid new s says taken turn = rw taken.head (subst (λ m. SwitchTurn rule m s (Says says) Silent new) taken.left turn)
 
 pub head_lost : (w mid new : WorldView) (s port : ℕ) (item : Item) → IsTakenOut w s port mid item → new ≡ item_lost mid item → Loses w s port (out_of w s port) new
 head_lost w mid new s port item taken is = rw taken.head (subst (λ m. new ≡ item_lost m item) taken.left is)

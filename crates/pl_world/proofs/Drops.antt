@@ -139,16 +139,16 @@ adds_host_acts w h [] = adds_nothing w.journal
 adds_host_acts w h (Send frame ∷ acts) = adds_same (λ id c d. elim d [ inl a ↦ a | inr b ↦ b ]) (λ id c d. absurd d)
     (adds_then (adds_quiet w.journal (Sent (w.begun + 1) (host_no h) frame) (λ id c is. absurd (cc))) (adds_host_acts (host_act_done h w (Send frame)) h acts))
 
-adds_moves : (rule : HostRule) (w : WorldView) (h : ℕ) (input : HostInput) (answer : HostAnswer) (new : WorldView) → HostTurn rule w h input answer new →
+adds_turn : (rule : HostRule) (w : WorldView) (h : ℕ) (input : HostInput) (answer : HostAnswer) (new : WorldView) → HostTurn rule w h input answer new →
     Adds w.journal new.journal Never
-adds_moves rule w h input answer new turn = subst (λ (x : WorldView). Adds w.journal x.journal Never) (sym moves.changed)
-    (adds_host_acts (record w { hosts = set w.hosts h moves.after }) h moves.acts)
+adds_turn rule w h input answer new turn = subst (λ (x : WorldView). Adds w.journal x.journal Never) (sym turn.changed)
+    (adds_host_acts (record w { hosts = set w.hosts h turn.after }) h turn.acts)
 
 -- what was dropped before a host's acts is all that was
 adds_before : {D : ℕ → Cause → Type 0} (rule : HostRule) (before : List Entry) (w : WorldView) (h : ℕ) (input : HostInput) (answer : HostAnswer) (new : WorldView) →
     HostTurn rule w h input answer new → Adds before w.journal D → Adds before new.journal D
-adds_before rule before w h input answer new moves x =
-    adds_same (λ id c d. elim d [ inl a ↦ a | inr b ↦ absurd b ]) (λ id c d. inl d) (adds_then x (adds_moves rule w h input answer new moves))
+adds_before rule before w h input answer new turn x =
+    adds_same (λ id c d. elim d [ inl a ↦ a | inr b ↦ absurd b ]) (λ id c d. inl d) (adds_then x (adds_turn rule w h input answer new turn))
 
 said_journal : (w : WorldView) (says : ToSwitch) (to : Option ℕ) → (said_to w says to).journal ≡ w.journal
 said_journal w says None = refl
@@ -384,9 +384,9 @@ module _ (switch : SwitchRule) (manager : ManagerRule) (host : HostRule) (w : Wo
     delivered (item ∷ items) new is apart comes = out_of_port item items (peer_of w.plan s.0 port) new is refl apart comes
 
   told : (s : SwitchNo) (items : List ToManager) (new : WorldView) → DeliversToManager manager (record w { steps = n }) s.0 items new → Adds w.journal new.journal Never
-  told s [] new turn = absurd moves
-  told s (message ∷ items) new turn = subst (λ (x : WorldView). Adds w.journal x.journal Never) (sym moves.changed)
-      (adds_manager_acts (record w { steps = n; to_manager = set w.to_manager s.0 items; manager = moves.after }) moves.acts)
+  told s [] new turn = absurd turn
+  told s (message ∷ items) new turn = subst (λ (x : WorldView). Adds w.journal x.journal Never) (sym turn.changed)
+      (adds_manager_acts (record w { steps = n; to_manager = set w.to_manager s.0 items; manager = turn.after }) turn.acts)
 
   repaired : (link : Option Link) (new : WorldView) → IsRepaired (record w { steps = n }) link new → Adds w.journal new.journal Never
   repaired None new is = absurd is
@@ -403,11 +403,11 @@ module _ (switch : SwitchRule) (manager : ManagerRule) (host : HostRule) (w : Wo
   drops (event.Repair a b) new is apart = quietly _ new (λ id c d. d) (repaired (link_between w.plan a.0 b.0) new is)
   drops (event.Lose s port) new is apart = of_lost s port new is
   drops (event.Move h s port) new is apart = of_gone h s port new is
-  drops (event.Start h) new is apart = quietly _ new (λ id c d. d) (adds_moves host _ h.0 _ _ new is)
+  drops (event.Start h) new is apart = quietly _ new (λ id c d. d) (adds_turn host _ h.0 _ _ new is)
   drops (event.Play h frame original raw) new is apart = quietly _ new (λ id c d. d) (adds_played host _ h.0 _ new is)
-  drops (event.Retry h) new is apart = quietly _ new (λ id c d. d) (adds_moves host _ h.0 _ _ new is)
-  drops (event.Join h group) new is apart = quietly _ new (λ id c d. d) (adds_moves host _ h.0 _ _ new is)
-  drops (event.Leave h group) new is apart = quietly _ new (λ id c d. d) (adds_moves host _ h.0 _ _ new is)
+  drops (event.Retry h) new is apart = quietly _ new (λ id c d. d) (adds_turn host _ h.0 _ _ new is)
+  drops (event.Join h group) new is apart = quietly _ new (λ id c d. d) (adds_turn host _ h.0 _ _ new is)
+  drops (event.Leave h group) new is apart = quietly _ new (λ id c d. d) (adds_turn host _ h.0 _ _ new is)
 
 pub step_drops : (switch : SwitchRule) (manager : ManagerRule) (host : HostRule) (old : WorldView) (happens : Event) (new : WorldView) (id : ℕ) (c : Cause) →
     WorldStep switch manager host old happens new → (IsOfSwitch old happens → ⊥) → (c ≡ NoMember → ⊥) →

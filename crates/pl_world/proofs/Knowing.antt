@@ -92,8 +92,8 @@ acts_know s d (a ∷ acts) = acts_know s (act_done s d a) acts ∙ act_knows s d
 
 switch_knows : (rule : SwitchRule) (w : WorldView) (s : ℕ) (input : SwitchInput) (speech : Speech) (new : WorldView) →
     SwitchTurn rule w s input speech new → knows new ≡ knows w
-switch_knows rule w s input speech new moves =
-    ap knows moves.changed ∙ acts_know s (begins (record w { switches = set w.switches s moves.after }) speech) moves.acts
+switch_knows rule w s input speech new turn =
+    ap knows turn.changed ∙ acts_know s (begins (record w { switches = set w.switches s turn.after }) speech) turn.acts
 
 -- ---- hosts
 host_acts_know : (w : WorldView) (h : ℕ) (acts : List HostAct) → knows (fold (host_act_done h) w acts) ≡ knows w
@@ -102,7 +102,7 @@ host_acts_know w h (Send frame ∷ acts) = host_acts_know (host_act_done h w (Se
 
 host_knows : (rule : HostRule) (w : WorldView) (h : ℕ) (input : HostInput) (answer : HostAnswer) (new : WorldView) →
     HostTurn rule w h input answer new → knows new ≡ knows w
-host_knows rule w h input answer new turn = ap knows moves.changed ∙ host_acts_know (record w { hosts = set w.hosts h moves.after }) h moves.acts
+host_knows rule w h input answer new turn = ap knows turn.changed ∙ host_acts_know (record w { hosts = set w.hosts h turn.after }) h turn.acts
 
 skip_knows : (w : WorldView) (h : ℕ) (skip : Option Skip) → knows (skip_noted w h skip) ≡ knows w
 skip_knows w h None = refl
@@ -122,8 +122,8 @@ at_host_knows rule w id frame (Some h) new receives =
 
 -- ---- what comes
 at_switch_knows : (rule : SwitchRule) (w : WorldView) (s port : ℕ) (item : Item) (new : WorldView) → ComesAtSwitch rule w s port item new → knows new ≡ knows w
-at_switch_knows rule w s port (Control frame) new turn = switch_knows rule w s _ _ new moves
-at_switch_knows rule w s port (Data id frame) new turn = switch_knows rule _ s _ _ new moves
+at_switch_knows rule w s port (Control frame) new turn = switch_knows rule w s _ _ new turn
+at_switch_knows rule w s port (Data id frame) new turn = switch_knows rule _ s _ _ new turn
 
 out_knows : (rule : HostRule) (w : WorldView) (s port : ℕ) (item : Item) (new : WorldView) → ComesOut rule w s port item new → knows new ≡ knows w
 out_knows rule w s port (Control frame) new is = ap knows is
@@ -155,8 +155,8 @@ delivers_out_knows switch host w s port (item ∷ items) new comes =
 
 from_manager_knows : (rule : SwitchRule) (w : WorldView) (s : ℕ) (items : List ToSwitch) (new : WorldView) →
     DeliversFromManager rule w s items new → knows new ≡ knows w
-from_manager_knows rule w s [] new turn = absurd moves
-from_manager_knows rule w s (says ∷ items) new turn = switch_knows rule (record w { from_manager = set w.from_manager s items }) s _ _ new moves
+from_manager_knows rule w s [] new turn = absurd turn
+from_manager_knows rule w s (says ∷ items) new turn = switch_knows rule (record w { from_manager = set w.from_manager s items }) s _ _ new turn
 
 -- ---- links and moves
 fails_knows : (w : WorldView) (link : Option Link) (new : WorldView) → Fails w link new → knows new ≡ knows w
@@ -176,8 +176,8 @@ loses_knows w s port [] new is = absurd is
 loses_knows w s port (item ∷ items) new is = ap knows is ∙ lost_knows (record w { out = set w.out (port_index w.plan.k s port) items }) item
 
 goes_knows : (rule : HostRule) (w : WorldView) (h : ℕ) (to : Stand) (from : Option Stand) (new : WorldView) → Goes rule w h to from new → knows new ≡ knows w
-goes_knows rule w h to None new turn = absurd moves
-goes_knows rule w h to (Some from) new turn = host_knows rule _ h _ _ new moves
+goes_knows rule w h to None new turn = absurd turn
+goes_knows rule w h to (Some from) new turn = host_knows rule _ h _ _ new turn
 
 -- ---- the manager
 said_knows : (w : WorldView) (says : ToSwitch) (to : Option ℕ) → knows (said_to w says to) ≡ knows w
@@ -209,16 +209,16 @@ module _ (n : ℕ) where
   told : (rule : ManagerRule) → AnswersDuly rule → (w : WorldView) (s : ℕ) (told : ToManager) (new : WorldView) → HeardBy w n →
       ManagerTurn rule w s told new → After w (knows new)
   unfolding After
-  told rule answers w s says new within moves =
-      let grown = answers.grows w.manager moves.id says moves.after moves.acts moves.ruled in
-      let same : knows new ≡ knows (record w { manager = moves.after }) = ap knows moves.changed ∙ manager_acts_know (record w { manager = moves.after }) moves.acts in
-      subst (After w) (sym same) (heard_one_more w.plan w.manager moves.after n s moves.id moves.found grown within, refl, refl)
+  told rule answers w s says new within turn =
+      let grown = answers.grows w.manager turn.id says turn.after turn.acts turn.ruled in
+      let same : knows new ≡ knows (record w { manager = turn.after }) = ap knows turn.changed ∙ manager_acts_know (record w { manager = turn.after }) turn.acts in
+      subst (After w) (sym same) (heard_one_more w.plan w.manager turn.after n s turn.id turn.found grown within, refl, refl)
 
   module _ (switch : SwitchRule) (manager : ManagerRule) (host : HostRule) (answers : AnswersDuly manager) where
     delivers_told : (w : WorldView) (s : ℕ) (items : List ToManager) (new : WorldView) → HeardBy w n → DeliversToManager manager w s items new → After w (knows new)
     unfolding After
-    delivers_told w s [] new within turn = absurd moves
-    delivers_told w s (says ∷ items) new within turn = told manager answers (record w { to_manager = set w.to_manager s items }) s says new within moves
+    delivers_told w s [] new within turn = absurd turn
+    delivers_told w s (says ∷ items) new within turn = told manager answers (record w { to_manager = set w.to_manager s items }) s says new within turn
 
     delivers : (w : WorldView) (name : QueueName) (new : WorldView) → HeardBy w n → Delivers switch manager host w name new → After w (knows new)
     delivers w (queue.FromHost h) new within comes = no_more w new within (from_host_knows switch w h.0 (items_at w.from_hosts h.0) new comes)

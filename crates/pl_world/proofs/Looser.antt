@@ -25,9 +25,9 @@ use Rattle.pl_world.specs.WorldRule.{ComesAtSwitch, ComesIn, ComesOver, Delivers
 use Rattle.pl_world.specs.Worlds.{WorldView}
 
 module _ (one other : SwitchRule) (manager : ManagerRule) (host : HostRule) (within : IsWithin one other) where
-  moves : (w : WorldView) (s : ℕ) (input : SwitchInput) (speech : SpokenFrame) (new : WorldView) →
+  turns : (w : WorldView) (s : ℕ) (input : SwitchInput) (speech : SpokenFrame) (new : WorldView) →
       SwitchTurn one w s input speech new → SwitchTurn other w s input speech new
-  moves w s input speech new m = record {
+  turns w s input speech new m = record {
     before = m.before;
     after = m.after;
     acts = m.acts;
@@ -37,8 +37,8 @@ module _ (one other : SwitchRule) (manager : ManagerRule) (host : HostRule) (wit
   }
 
   at_switch : (w : WorldView) (s port : ℕ) (item : Item) (new : WorldView) → ComesAtSwitch one w s port item new → ComesAtSwitch other w s port item new
-  at_switch w s port (Control frame) new m = moves _ s _ _ new m
-  at_switch w s port (Data id frame) new m = moves _ s _ _ new m
+  at_switch w s port (Control frame) new m = turns _ s _ _ new m
+  at_switch w s port (Data id frame) new m = turns _ s _ _ new m
 
   over : (w : WorldView) (s port : ℕ) (item : Item) (peer : Peer) (new : WorldView) → ComesOver one host w s port item peer new → ComesOver other host w s port item peer new
   over w s port item (Switch t q) new m = at_switch w t.0 q item new m
@@ -59,7 +59,7 @@ module _ (one other : SwitchRule) (manager : ManagerRule) (host : HostRule) (wit
 
   from_manager : (w : WorldView) (s : ℕ) (items : List ToSwitch) (new : WorldView) → DeliversFromManager one w s items new → DeliversFromManager other w s items new
   from_manager w s [] new m = absurd m
-  from_manager w s (says ∷ items) new m = moves _ s _ _ new m
+  from_manager w s (says ∷ items) new m = turns _ s _ _ new m
 
   delivers : (w : WorldView) (name : QueueName) (new : WorldView) → Delivers one manager host w name new → Delivers other manager host w name new
   delivers w (queue.FromHost h) new m = from_host w h.0 (items_at w.from_hosts h.0) new m
@@ -69,7 +69,7 @@ module _ (one other : SwitchRule) (manager : ManagerRule) (host : HostRule) (wit
 
   happens : (w : WorldView) (e : Event) (new : WorldView) → Happens one manager host w e new → Happens other manager host w e new
   happens w (event.Deliver name) new m = delivers w name new m
-  happens w (event.Tick s) new m = moves _ s.0 _ _ new m
+  happens w (event.Tick s) new m = turns _ s.0 _ _ new m
   happens w (event.Fail a b) new m = m
   happens w (event.Repair a b) new m = m
   happens w (event.Lose s port) new m = m

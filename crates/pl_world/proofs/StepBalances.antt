@@ -204,26 +204,26 @@ pub noted_owes : (w : WorldView) (f g : ℕ → ℕ) (entries : List Entry) → 
 noted_owes w f g entries begins ends b = noted_balance w.plan w.from_hosts w.out w.journal w.begun f g entries begins ends b
 
 -- a switch steps
-switch_moves : (rule : SwitchRule) → AccountsForFrames rule → (w : WorldView) (s : ℕ) (input : SwitchInput) (speech : SpokenFrame) (new : WorldView) →
+switch_turn : (rule : SwitchRule) → AccountsForFrames rule → (w : WorldView) (s : ℕ) (input : SwitchInput) (speech : SpokenFrame) (new : WorldView) →
     said_by speech ≡ first_speech input → ((v : SwitchView) → v.k ≡ w.plan.k → CanCome v input) →
     Owes w (λ id. owed_by speech id + 0) → HasRest w → SwitchTurn rule w s input speech new → Sound new
-switch_moves rule accounts w s input speech new same can owes r moves =
-    let size : moves.before.k ≡ w.plan.k = all_found (λ (u : SwitchView). u.k ≡ w.plan.k) w.switches s moves.before moves.found r.ports in
-    let shaped : IsShaped moves.before = all_found IsShaped w.switches s moves.before moves.found r.shaped in
-    let within : s < length w.switches = slice_get_within w.switches s moves.before moves.found in
-    let kept = accounts moves.before input moves.after moves.acts shaped (can moves.before size) moves.ruled in
-    let k : ℕ = moves.before.k in
-    let w1 : WorldView = record w { switches = set w.switches s moves.after } in
+switch_turn rule accounts w s input speech new same can owes r turn =
+    let size : turn.before.k ≡ w.plan.k = all_found (λ (u : SwitchView). u.k ≡ w.plan.k) w.switches s turn.before turn.found r.ports in
+    let shaped : IsShaped turn.before = all_found IsShaped w.switches s turn.before turn.found r.shaped in
+    let within : s < length w.switches = slice_get_within w.switches s turn.before turn.found in
+    let kept = accounts turn.before input turn.after turn.acts shaped (can turn.before size) turn.ruled in
+    let k : ℕ = turn.before.k in
+    let w1 : WorldView = record w { switches = set w.switches s turn.after } in
     let start : Steady s k w1 speech [] = record {
       size = sym size;
       switch = rw size (let many = r.switches_many in omega arith);
       none = refl;
       balance = owes;
-      rest = switches_rest w s moves.after (kept.k ∙ size) kept.shaped r;
+      rest = switches_rest w s turn.after (kept.k ∙ size) kept.shaped r;
     } in
-    let said : is_said (fold speech_after (said_by speech) moves.acts) ≡ true = rw same kept.said in
-    let done = all_acts_steady s k w1 speech moves.before.place moves.after.place moves.acts kept.fit said start in
-    subst Sound (sym moves.changed) (record { balance = done.balance; rest = done.rest })
+    let said : is_said (fold speech_after (said_by speech) turn.acts) ≡ true = rw same kept.said in
+    let done = all_acts_steady s k w1 speech turn.before.place turn.after.place turn.acts kept.fit said start in
+    subst Sound (sym turn.changed) (record { balance = done.balance; rest = done.rest })
 
 is_false : (b : Bool) → not b ≡ true → b ≡ false
 is_false true h = absurd (cc)
@@ -258,19 +258,19 @@ host_acts w h (a ∷ acts) within are s =
     let both = and_parts (is_data (sent_by a)) (are_data (map sent_by acts)) are in
     host_acts (host_act_done h w a) h acts (hosts_within w h a within) both.1 (host_act w h a within both.0 s)
 
-host_moves : (rule : HostRule) → HostsSendData rule → (w : WorldView) (h : ℕ) (input : HostInput) (answer : HostAnswer) (new : WorldView) →
+host_turn : (rule : HostRule) → HostsSendData rule → (w : WorldView) (h : ℕ) (input : HostInput) (answer : HostAnswer) (new : WorldView) →
     Sound w → HostTurn rule w h input answer new → Sound new
-host_moves rule sends w h input answer new s moves =
-    let holds : HoldsData moves.before = all_found HoldsData w.hosts h moves.before moves.found s.rest.holding in
-    let owed = sends moves.before input moves.after moves.acts answer holds moves.ruled in
-    let within : h < length w.hosts = slice_get_within w.hosts h moves.before moves.found in
+host_turn rule sends w h input answer new s turn =
+    let holds : HoldsData turn.before = all_found HoldsData w.hosts h turn.before turn.found s.rest.holding in
+    let owed = sends turn.before input turn.after turn.acts answer holds turn.ruled in
+    let within : h < length w.hosts = slice_get_within w.hosts h turn.before turn.found in
     let in_queues : h < length w.from_hosts = let e = s.rest.hosts_many in let e2 = s.balance.hosts in omega arith in
-    subst Sound (sym moves.changed)
-    (host_acts (record w { hosts = set w.hosts h moves.after }) h moves.acts in_queues owed.sends
-    (record { balance = s.balance; rest = hosts_rest w h moves.after owed.holds s.rest }))
+    subst Sound (sym turn.changed)
+    (host_acts (record w { hosts = set w.hosts h turn.after }) h turn.acts in_queues owed.sends
+    (record { balance = s.balance; rest = hosts_rest w h turn.after owed.holds s.rest }))
 
 host_plays : (rule : HostRule) → HostsSendData rule → (w : WorldView) (h : ℕ) (input : HostInput) (new : WorldView) → Sound w → HostPlays rule w h input new → Sound new
-host_plays rule sends w h input new s plays = host_moves rule sends (skip_noted w h plays.skip) h input _ new (noted_skip plays.skip) plays.turn
+host_plays rule sends w h input new s plays = host_turn rule sends (skip_noted w h plays.skip) h input _ new (noted_skip plays.skip) plays.turn
   where
     noted_skip : (skip : Option Skip) → Sound (skip_noted w h skip)
     noted_skip None = s
@@ -282,7 +282,7 @@ host_plays rule sends w h input new s plays = host_moves rule sends (skip_noted 
 host_receives : (rule : HostRule) → HostsSendData rule → (w : WorldView) (h id : ℕ) (frame : List ℕ) (new : WorldView) → Owes w (one id) → HasRest w →
     HostReceives rule w h id frame new → Sound new
 host_receives rule sends w h id frame new owes r receives =
-    host_moves rule sends (reception_noted w h id frame receives.reception) h _ _ new (noted_reception receives.reception) receives.turn
+    host_turn rule sends (reception_noted w h id frame receives.reception) h _ _ new (noted_reception receives.reception) receives.turn
   where
     noted_reception : (reception : Reception) → Sound (reception_noted w h id frame reception)
     noted_reception Kept = record { balance = noted_owes w (one id) (λ i. 0) (Arrived id (host_no h) frame ∷ []) refl (λ i. omega arith) owes; rest = r }
@@ -304,9 +304,9 @@ manager_acts : (w : WorldView) (acts : List ManagerAct) → Sound w → Sound (f
 manager_acts w [] s = s
 manager_acts w (a ∷ acts) s = manager_acts (manager_act_done w a) acts (manager_act w a s)
 
-manager_moves : (rule : ManagerRule) (w : WorldView) (s : ℕ) (told : ToManager) (new : WorldView) → Sound w → ManagerTurn rule w s told new → Sound new
-manager_moves rule w s told new is moves =
-    subst Sound (sym moves.changed) (manager_acts (record w { manager = moves.after }) moves.acts (record { balance = is.balance; rest = is.rest }))
+manager_turn : (rule : ManagerRule) (w : WorldView) (s : ℕ) (told : ToManager) (new : WorldView) → Sound w → ManagerTurn rule w s told new → Sound new
+manager_turn rule w s told new is turn =
+    subst Sound (sym turn.changed) (manager_acts (record w { manager = turn.after }) turn.acts (record { balance = is.balance; rest = is.rest }))
 
 -- an item comes at a switch
 comes_control : (frame : List ℕ) → is_control frame ≡ true → SaidNone ≡ speech_of_frame frame
@@ -317,14 +317,14 @@ comes_data frame kind = rw kind refl
 
 comes_at_switch : (rule : SwitchRule) → AccountsForFrames rule → (w : WorldView) (s port : ℕ) (item : Item) (new : WorldView) → port < w.plan.k → IsItem item →
     Owes w (λ id. times_in id (item ∷ [])) → HasRest w → ComesAtSwitch rule w s port item new → Sound new
-comes_at_switch rule accounts w s port (Control frame) new within is owes r moves =
-    switch_moves rule accounts w s (Comes port frame) Silent new (comes_control frame is.kind)
-    (λ v size. record { within = rw size within; whole = is.whole }) owes r moves
-comes_at_switch rule accounts w s port (Data id frame) new within is owes r moves =
-    switch_moves rule accounts (noted w (Crossed id (switch_no s))) s (Comes port frame) (Waiting id false) new (comes_data frame is.kind)
+comes_at_switch rule accounts w s port (Control frame) new within is owes r turn =
+    switch_turn rule accounts w s (Comes port frame) Silent new (comes_control frame is.kind)
+    (λ v size. record { within = rw size within; whole = is.whole }) owes r turn
+comes_at_switch rule accounts w s port (Data id frame) new within is owes r turn =
+    switch_turn rule accounts (noted w (Crossed id (switch_no s))) s (Comes port frame) (Waiting id false) new (comes_data frame is.kind)
     (λ v size. record { within = rw size within; whole = is.whole })
     (noted_owes w (λ i. times_in i (Data id frame ∷ [])) (λ i. one id i + 0) (Crossed id (switch_no s) ∷ []) refl (λ i. omega (arith, times_in-data i id frame [])) owes)
-    r moves
+    r turn
 
 -- and at a host port
 comes_at_host : (rule : HostRule) → HostsSendData rule → (w : WorldView) (id : ℕ) (frame : List ℕ) (to : Option ℕ) (new : WorldView) → Owes w (one id) → HasRest w →
@@ -409,16 +409,16 @@ module _ (switch : SwitchRule) (host : HostRule) (accounts : AccountsForFrames s
 
   delivers_to_manager : (manager : ManagerRule) (w : WorldView) (t : ℕ) (items : List ToManager) (new : WorldView) → Sound w →
       DeliversToManager manager w t items new → Sound new
-  delivers_to_manager manager w t [] new s turn = absurd moves
-  delivers_to_manager manager w t (told ∷ items) new s moves =
-      manager_moves manager (record w { to_manager = set w.to_manager t items }) t told new
-      (record { balance = s.balance; rest = told_rest w.to_manager _ (length-set w.to_manager t _) s.rest }) moves
+  delivers_to_manager manager w t [] new s turn = absurd turn
+  delivers_to_manager manager w t (told ∷ items) new s turn =
+      manager_turn manager (record w { to_manager = set w.to_manager t items }) t told new
+      (record { balance = s.balance; rest = told_rest w.to_manager _ (length-set w.to_manager t _) s.rest }) turn
 
   delivers_from_manager : (w : WorldView) (t : ℕ) (items : List ToSwitch) (new : WorldView) → Sound w → DeliversFromManager switch w t items new → Sound new
-  delivers_from_manager w t [] new s turn = absurd moves
-  delivers_from_manager w t (says ∷ items) new s moves =
-      switch_moves switch accounts (record w { from_manager = set w.from_manager t items }) t (Says says) Silent new refl (λ v size. tt)
-      s.balance (says_rest w.from_manager _ (length-set w.from_manager t _) s.rest) moves
+  delivers_from_manager w t [] new s turn = absurd turn
+  delivers_from_manager w t (says ∷ items) new s turn =
+      switch_turn switch accounts (record w { from_manager = set w.from_manager t items }) t (Says says) Silent new refl (λ v size. tt)
+      s.balance (says_rest w.from_manager _ (length-set w.from_manager t _) s.rest) turn
 
   delivers : (manager : ManagerRule) (w : WorldView) (name : QueueName) (new : WorldView) → Sound w → Delivers switch manager host w name new → Sound new
   delivers manager w (queue.FromHost h) new s comes = delivers_from_host w h.0 (items_at w.from_hosts h.0) new refl s comes
@@ -432,19 +432,19 @@ module _ (switch : SwitchRule) (host : HostRule) (accounts : AccountsForFrames s
   ticked_heard t (stand ∷ stands) (ticks ∷ heard) = ap suc (ticked_heard t stands heard)
 
   ticks : (w : WorldView) (t : ℕ) (new : WorldView) → Sound w → Ticks switch w t new → Sound new
-  ticks w t new s moves =
-      switch_moves switch accounts (record w { heard = heard_after_tick t w.stands w.heard }) t Tick Silent new refl (λ v size. tt)
-      s.balance (heard_rest w _ (ticked_heard t w.stands w.heard) s.rest) moves
+  ticks w t new s turn =
+      switch_turn switch accounts (record w { heard = heard_after_tick t w.stands w.heard }) t Tick Silent new refl (λ v size. tt)
+      s.balance (heard_rest w _ (ticked_heard t w.stands w.heard) s.rest) turn
 
   goes : (w : WorldView) (h : ℕ) (to : Stand) (from : Option Stand) (new : WorldView) → IsAtPort w.plan.k to → Sound w → Goes host w h to from new → Sound new
-  goes w h to None new there s turn = absurd moves
-  goes w h to (Some from) new there s moves =
-      host_moves host sends (host_moved w h from to) h _ _ new (record {
+  goes w h to None new there s turn = absurd turn
+  goes w h to (Some from) new there s turn =
+      host_turn host sends (host_moved w h from to) h _ _ new (record {
         balance = emptied_out_balance w.plan (set w.from_hosts h []) w.out _ w.begun (λ id. 0) cause.HostGone (port_index w.plan.k from.edge.0 from.port)
             (emptied_host_balance w.plan w.from_hosts w.out _ w.begun (λ id. 0) cause.HostGone h
             (noted_owes w (λ id. 0) (λ id. 0) (Moved (host_no h) to.edge to.port ∷ []) refl (λ id. refl) s.balance));
         rest = heard_rest (record w { stands = set w.stands h to }) _ (length-set w.heard h _) (stands_rest w h to there s.rest);
-      }) moves
+      }) turn
 
 found_contained : (p : Link → Bool) (links : List Link) (link : Link) → find p links ≡ Some link → Contains links link
 found_contained p [] link is = absurd (cc)
@@ -543,11 +543,11 @@ module _ (switch : SwitchRule) (manager : ManagerRule) (host : HostRule) (accoun
   happens_soundly w (event.Lose t port) new none s happens = loses w t.0 port (out_of w t.0 port) new refl s happens
   happens_soundly w (event.Move h t port) new none s happens =
       goes switch host accounts sends w h.0 (record { edge = t; port = port }) (slice_get w.stands h.0) new (moves_to_a_port w h.0 t.0 port t refl none) s happens
-  happens_soundly w (event.Start h) new none s happens = host_moves host sends w h.0 _ _ new s happens
+  happens_soundly w (event.Start h) new none s happens = host_turn host sends w h.0 _ _ new s happens
   happens_soundly w (event.Play h frame original raw) new none s happens = host_plays host sends w h.0 _ new s happens
-  happens_soundly w (event.Retry h) new none s happens = host_moves host sends w h.0 _ _ new s happens
-  happens_soundly w (event.Join h group) new none s happens = host_moves host sends w h.0 _ _ new s happens
-  happens_soundly w (event.Leave h group) new none s happens = host_moves host sends w h.0 _ _ new s happens
+  happens_soundly w (event.Retry h) new none s happens = host_turn host sends w h.0 _ _ new s happens
+  happens_soundly w (event.Join h group) new none s happens = host_turn host sends w h.0 _ _ new s happens
+  happens_soundly w (event.Leave h group) new none s happens = host_turn host sends w h.0 _ _ new s happens
 
   -- a step keeps the count
   pub step_is_counted : (old : WorldView) (happens : Event) (new : WorldView) → IsCounted old → refusal old happens ≡ None →

@@ -1,5 +1,5 @@
 -- What a step that is no switch's writes of dropped frames.
-use Rattle.std.proofs.Common.{◌≡◌, ℕ, zero, suc, ◌+◌, ◌⊎◌, ◌↔◌, List, [], ◌∷◌, ◌++◌, Contains, drop, fold, length, Option, None, Some, get_or, set, slice_get, refl, sym, ◌∙◌, ap, subst, inl, inr, append-nil, append_assoc}
+use Rattle.std.proofs.Common.{◌≡◌, ℕ, zero, suc, ◌+◌, ◌⊎◌, ◌↔◌, List, [], ◌∷◌, ◌++◌, Contains, drop, fold, length, Option, None, Some, set, slice_get, refl, sym, ◌∙◌, ap, subst, inl, inr, append-nil, append_assoc}
 use Rattle.std.proofs.Math.Seq.{drop-append_seam}
 use Rattle.std.proofs.lemmas.Bool.{cases_eq}
 use Rattle.std.proofs.lemmas.List.{get_or-set_other}
@@ -19,6 +19,8 @@ use Rattle.pl_core.specs.declared.messages.ToSwitch.{ToSwitch}
 use Rattle.pl_core.specs.declared.reception.Reception.{Reception}
 use Rattle.pl_core.specs.declared.reception.Reception.TheVariants.{Kept, NotMember}
 use Rattle.pl_core.specs.HostInputs.{HostAnswer, HostInput, HostRule}
+use Rattle.pl_core.specs.HostInputs.HostAnswer.{Received}
+use Rattle.pl_core.specs.HostInputs.HostInput.{Receives}
 use Rattle.pl_core.specs.ManagerDuties.{ManagerRule}
 use Rattle.pl_core.specs.SwitchInputs.{SwitchRule}
 use Rattle.pl_core.proofs.Among.{Contains-of_among, IsAmong, among_append, among_left, among_of_Contains, among_right}
@@ -35,10 +37,10 @@ use Rattle.pl_world.specs.declared.item.Item.{Item}
 use Rattle.pl_world.specs.declared.item.Item.TheVariants.{Control, Data}
 use Rattle.pl_world.specs.declared.stand.Stand.{Stand}
 use Rattle.pl_world.specs.Changes.{ends_of, host_no, out_of, receiver, said_to}
-use Rattle.pl_world.specs.Drops.{ComesToNobody, IsDroppedFor, IsFirstIn, IsOfSwitch, IsSwitch, IsTakenAway, WaitsForMover, WaitsIn, WaitsOnLink, written}
+use Rattle.pl_world.specs.Drops.{AnswersOneWay, ComesToNobody, IsDroppedFor, IsFirstIn, IsOfSwitch, IsRefusedByHost, IsSwitch, IsTakenAway, WaitsForMover, WaitsIn, WaitsOnLink, written}
 use Rattle.pl_world.specs.LinksAndMoves.{link_between}
 use Rattle.pl_world.specs.OtherActs.{host_act_done, manager_act_done, reception_noted, skip_noted}
-use Rattle.pl_world.specs.WorldRule.{ComesAtHost, ComesOut, ComesOver, Delivers, DeliversOut, DeliversToManager, Fails, Goes, Happens, HostTurn, HostPlays, HostReceives, IsRepaired, Loses, ManagerTurn, WorldStep}
+use Rattle.pl_world.specs.WorldRule.{ComesAtHost, ComesOver, DeliversOut, DeliversToManager, Fails, Goes, Happens, HostTurn, HostPlays, IsRepaired, Loses, WorldStep}
 use Rattle.pl_world.specs.Worlds.{WorldView}
 
 -- a journal becomes another one, and just these frames were dropped for these causes
@@ -141,14 +143,14 @@ adds_host_acts w h (Send frame ∷ acts) = adds_same (λ id c d. elim d [ inl a 
 
 adds_turn : (rule : HostRule) (w : WorldView) (h : ℕ) (input : HostInput) (answer : HostAnswer) (new : WorldView) → HostTurn rule w h input answer new →
     Adds w.journal new.journal Never
-adds_turn rule w h input answer new turn = subst (λ (x : WorldView). Adds w.journal x.journal Never) (sym turn.changed)
-    (adds_host_acts (record w { hosts = set w.hosts h turn.after }) h turn.acts)
+adds_turn rule w h input answer new moves = subst (λ (x : WorldView). Adds w.journal x.journal Never) (sym moves.changed)
+    (adds_host_acts (record w { hosts = set w.hosts h moves.after }) h moves.acts)
 
 -- what was dropped before a host's acts is all that was
 adds_before : {D : ℕ → Cause → Type 0} (rule : HostRule) (before : List Entry) (w : WorldView) (h : ℕ) (input : HostInput) (answer : HostAnswer) (new : WorldView) →
     HostTurn rule w h input answer new → Adds before w.journal D → Adds before new.journal D
-adds_before rule before w h input answer new turn x =
-    adds_same (λ id c d. elim d [ inl a ↦ a | inr b ↦ absurd b ]) (λ id c d. inl d) (adds_then x (adds_turn rule w h input answer new turn))
+adds_before rule before w h input answer new moves x =
+    adds_same (λ id c d. elim d [ inl a ↦ a | inr b ↦ absurd b ]) (λ id c d. inl d) (adds_then x (adds_turn rule w h input answer new moves))
 
 said_journal : (w : WorldView) (says : ToSwitch) (to : Option ℕ) → (said_to w says to).journal ≡ w.journal
 said_journal w says None = refl
@@ -294,37 +296,47 @@ module _ (w : WorldView) (n : ℕ) where
       (adds_quiet w.journal (Arrived number (host_no h) frame) (λ id c is. absurd (cc)))
   reception_adds h number frame NotMember = adds_same (λ id c d. (refl, d)) (λ id c d. d.1) (adds_drop w.journal number NoMember)
 
--- ---- what a step that is no switch's drops, for each cause but that a host is no member
-record AddsFor (w : WorldView) (happens : Event) (new : WorldView) : Type 0 where
+-- ---- what a step that is no switch's drops, for each cause but that a host is no member, and for that
+record AddsFor (host : HostRule) (w : WorldView) (happens : Event) (new : WorldView) : Type 0 where
   entries : List Entry
   added : new.journal ≡ w.journal ++ entries
   only : (id : ℕ) (c : Cause) → (c ≡ NoMember → ⊥) → IsAmong (Dropped id c) entries → IsDroppedFor w happens id c
   all : (id : ℕ) (c : Cause) → IsDroppedFor w happens id c → IsAmong (Dropped id c) entries
+  refused : (id : ℕ) → IsAmong (Dropped id NoMember) entries → IsRefusedByHost host w happens id
+  refuses : AnswersOneWay host → (id : ℕ) → IsRefusedByHost host w happens id → IsAmong (Dropped id NoMember) entries
 
-adds_for : {D : ℕ → Cause → Type 0} (w : WorldView) (happens : Event) (new : WorldView) →
+adds_for : {D : ℕ → Cause → Type 0} (host : HostRule) (w : WorldView) (happens : Event) (new : WorldView) →
     ((id : ℕ) (c : Cause) → (c ≡ NoMember → ⊥) → D id c → IsDroppedFor w happens id c) →
-    ((id : ℕ) (c : Cause) → IsDroppedFor w happens id c → D id c) → Adds w.journal new.journal D → AddsFor w happens new
-adds_for w happens new to back x = record {
+    ((id : ℕ) (c : Cause) → IsDroppedFor w happens id c → D id c) →
+    ((id : ℕ) → D id NoMember → IsRefusedByHost host w happens id) →
+    (AnswersOneWay host → (id : ℕ) → IsRefusedByHost host w happens id → D id NoMember) → Adds w.journal new.journal D → AddsFor host w happens new
+adds_for host w happens new to back refused refuses x = record {
   entries = x.entries;
   added = x.added;
   only = λ id c apart h. to id c apart (x.only id c h);
   all = λ id c d. x.all id c (back id c d);
+  refused = λ id h. refused id (x.only id NoMember h);
+  refuses = λ one id d. x.all id NoMember (refuses one id d);
 }
 
 module _ (switch : SwitchRule) (manager : ManagerRule) (host : HostRule) (w : WorldView) (n : ℕ) where
-  quietly : (happens : Event) (new : WorldView) → ((id : ℕ) (c : Cause) → IsDroppedFor w happens id c → ⊥) → Adds w.journal new.journal Never → AddsFor w happens new
-  quietly happens new never x = adds_for w happens new (λ id c apart d. absurd d) (λ id c d. never id c d) x
+  quietly : (happens : Event) (new : WorldView) → ((id : ℕ) (c : Cause) → IsDroppedFor w happens id c → ⊥) → ((id : ℕ) → IsRefusedByHost host w happens id → ⊥) →
+      Adds w.journal new.journal Never → AddsFor host w happens new
+  quietly happens new never nobody x =
+      adds_for host w happens new (λ id c apart d. absurd d) (λ id c d. never id c d) (λ id d. absurd d) (λ one id d. nobody id d) x
 
-  of_lost : (s : SwitchNo) (port : ℕ) (new : WorldView) → Loses (record w { steps = n }) s.0 port (out_of w s.0 port) new → AddsFor w (event.Lose s port) new
-  of_lost s port new gone = adds_for w (event.Lose s port) new (λ id c apart d. subst (IsDroppedFor w (event.Lose s port) id) d.0 d.1) back
+  of_lost : (s : SwitchNo) (port : ℕ) (new : WorldView) → Loses (record w { steps = n }) s.0 port (out_of w s.0 port) new → AddsFor host w (event.Lose s port) new
+  of_lost s port new gone = adds_for host w (event.Lose s port) new (λ id c apart d. subst (IsDroppedFor w (event.Lose s port) id) d.0 d.1) back
+      (λ id d. let is = d.0 in absurd (cc)) (λ one id d. absurd d)
       (adds_lost w n s.0 port (out_of w s.0 port) new refl gone)
     where
       back : (id : ℕ) (c : Cause) → IsDroppedFor w (event.Lose s port) id c → (Lost ≡ c) × IsTakenAway w s.0 port id
       back id Lost d = (refl, d)
       back id c d = absurd d
 
-  of_failed : (a b : SwitchNo) (new : WorldView) → Fails (record w { steps = n }) (link_between w.plan a.0 b.0) new → AddsFor w (event.Fail a b) new
-  of_failed a b new is = adds_for w (event.Fail a b) new (λ id c apart d. subst (IsDroppedFor w (event.Fail a b) id) d.0 d.1) back
+  of_failed : (a b : SwitchNo) (new : WorldView) → Fails (record w { steps = n }) (link_between w.plan a.0 b.0) new → AddsFor host w (event.Fail a b) new
+  of_failed a b new is = adds_for host w (event.Fail a b) new (λ id c apart d. subst (IsDroppedFor w (event.Fail a b) id) d.0 d.1) back
+      (λ id d. let is = d.0 in absurd (cc)) (λ one id d. absurd d)
       (adds_failed w n a.0 b.0 (link_between w.plan a.0 b.0) new refl is)
     where
       back : (id : ℕ) (c : Cause) → IsDroppedFor w (event.Fail a b) id c → (LinkDown ≡ c) × WaitsOnLink w a.0 b.0 id
@@ -332,8 +344,9 @@ module _ (switch : SwitchRule) (manager : ManagerRule) (host : HostRule) (w : Wo
       back id c d = absurd d
 
   of_gone : (h : HostNo) (s : SwitchNo) (port : ℕ) (new : WorldView) →
-      Goes host (record w { steps = n }) h.0 (record { edge = s; port = port }) (slice_get w.stands h.0) new → AddsFor w (event.Move h s port) new
-  of_gone h s port new goes = adds_for w (event.Move h s port) new (λ id c apart d. subst (IsDroppedFor w (event.Move h s port) id) d.0 d.1) back
+      Goes host (record w { steps = n }) h.0 (record { edge = s; port = port }) (slice_get w.stands h.0) new → AddsFor host w (event.Move h s port) new
+  of_gone h s port new goes = adds_for host w (event.Move h s port) new (λ id c apart d. subst (IsDroppedFor w (event.Move h s port) id) d.0 d.1) back
+      (λ id d. let is = d.0 in absurd (cc)) (λ one id d. absurd d)
       (adds_gone w n host h.0 (record { edge = s; port = port }) (slice_get w.stands h.0) new refl goes)
     where
       back : (id : ℕ) (c : Cause) → IsDroppedFor w (event.Move h s port) id c → (HostGone ≡ c) × WaitsForMover w h.0 id
@@ -345,11 +358,22 @@ module _ (switch : SwitchRule) (manager : ManagerRule) (host : HostRule) (w : Wo
     back_out id HostGone d = (refl, d)
     back_out id c d = absurd d
 
+    -- a frame at the front is the only one there
+    other_receiver : (number : ℕ) (frame : List ℕ) (items : List Item) (id : ℕ) (other : List ℕ) → out_of w s.0 port ≡ Data number frame ∷ items →
+        IsFirstIn (out_of w s.0 port) id other → receiver w s.0 port frame ≡ None → receiver w s.0 port other ≡ None
+    other_receiver number frame items id other is first none =
+        let same = first_is (out_of w s.0 port) (Data number frame) items id other is first in
+        let frames : other ≡ frame = cc in ap (receiver w s.0 port) frames ∙ none
+
+    hosts_same : (v : WorldView) (h number : ℕ) (frame : List ℕ) (reception : Reception) → (reception_noted v h number frame reception).hosts ≡ v.hosts
+    hosts_same v h number frame Kept = refl
+    hosts_same v h number frame NotMember = refl
+
     at_host : (number : ℕ) (frame : List ℕ) (items : List Item) (to : Option ℕ) (new : WorldView) → out_of w s.0 port ≡ Data number frame ∷ items →
         receiver w s.0 port frame ≡ to →
         ComesAtHost host (record w { steps = n; out = set w.out (port_index w.plan.k s.0 port) items }) number frame to new →
-        AddsFor w (event.Deliver (queue.Port s port)) new
-    at_host number frame items None new is nobody comes = adds_for w (event.Deliver (queue.Port s port)) new
+        AddsFor host w (event.Deliver (queue.Port s port)) new
+    at_host number frame items None new is nobody comes = adds_for host w (event.Deliver (queue.Port s port)) new
         (λ id c apart d. subst (IsDroppedFor w (event.Deliver (queue.Port s port)) id) d.1 (record {
           frame = frame;
           first = subst (λ m. IsFirstIn (out_of w s.0 port) m frame) d.0 (is_first (out_of w s.0 port) items number frame is);
@@ -357,57 +381,84 @@ module _ (switch : SwitchRule) (manager : ManagerRule) (host : HostRule) (w : Wo
         }))
         (λ id c d. let gone = back_out id c d in
         let same = first_is (out_of w s.0 port) (Data number frame) items id gone.1.frame is gone.1.first in (cc, gone.0))
+        (λ id d. let other = d.1 in absurd (cc))
+        (λ one id d. absurd (let both : Some d.host ≡ None = sym d.there ∙ other_receiver number frame items id d.frame is d.first nobody in cc))
         (subst (λ (x : WorldView). Adds w.journal x.journal (ThatOne number HostGone)) (sym comes) (adds_drop w.journal number HostGone))
-    at_host number frame items (Some h) new is there comes = adds_for w (event.Deliver (queue.Port s port)) new
+    at_host number frame items (Some h) new is there comes = adds_for host w (event.Deliver (queue.Port s port)) new
         (λ id c apart d. absurd (apart (sym d.1.1)))
         (λ id c d. let gone = back_out id c d in
         let same = first_is (out_of w s.0 port) (Data number frame) items id gone.1.frame is gone.1.first in
         let frames : frame ≡ gone.1.frame = cc in
         let none : receiver w s.0 port frame ≡ None = subst (λ f. receiver w s.0 port f ≡ None) (sym frames) gone.1.nobody in
         absurd (let both : Some h ≡ None = sym there ∙ none in cc))
+        (λ id d. record {
+          frame = frame;
+          first = subst (λ m. IsFirstIn (out_of w s.0 port) m frame) d.1.0 (is_first (out_of w s.0 port) items number frame is);
+          host = h;
+          there = there;
+          before = comes.turn.before;
+          after = comes.turn.after;
+          acts = comes.turn.acts;
+          found = ap (λ hosts. slice_get hosts h) (sym (hosts_same _ h number frame comes.reception)) ∙ comes.turn.found;
+          answered = subst (λ r. host comes.turn.before (Receives frame) comes.turn.after comes.turn.acts (Received r)) d.0 comes.turn.ruled;
+        })
+        (λ one id d.
+        let same = first_is (out_of w s.0 port) (Data number frame) items id d.frame is d.first in
+        let frames : d.frame ≡ frame = cc in
+        let here : Some d.host ≡ Some h = sym d.there ∙ ap (receiver w s.0 port) frames ∙ there in
+        let hosts : d.host ≡ h = cc in
+        let found : slice_get w.hosts h ≡ Some comes.turn.before =
+        ap (λ hs. slice_get hs h) (sym (hosts_same _ h number frame comes.reception)) ∙ comes.turn.found in
+        let views : Some d.before ≡ Some comes.turn.before = sym d.found ∙ ap (slice_get w.hosts) hosts ∙ found in
+        let view : d.before ≡ comes.turn.before = cc in
+        let answered : host comes.turn.before (Receives frame) d.after d.acts (Received NotMember) =
+        subst (λ v. host v (Receives frame) d.after d.acts (Received NotMember)) view
+        (subst (λ f. host d.before (Receives f) d.after d.acts (Received NotMember)) frames d.answered) in
+        (one comes.turn.before frame comes.turn.after d.after comes.turn.acts d.acts comes.reception NotMember comes.turn.ruled answered, (cc, refl)))
         (adds_before host w.journal _ h _ _ new comes.turn
         (reception_adds (record w { steps = n; out = set w.out (port_index w.plan.k s.0 port) items }) n h number frame comes.reception))
 
     out_of_port : (item : Item) (items : List Item) (peer : Peer) (new : WorldView) → out_of w s.0 port ≡ item ∷ items → peer_of w.plan s.0 port ≡ peer →
         (IsSwitch peer → ⊥) →
         ComesOver switch host (record w { steps = n; out = set w.out (port_index w.plan.k s.0 port) items }) s.0 port item peer new →
-        AddsFor w (event.Deliver (queue.Port s port)) new
+        AddsFor host w (event.Deliver (queue.Port s port)) new
     out_of_port item items (Switch t q) new is there apart comes = absurd (apart tt)
     out_of_port (Control frame) items HostPort new is there apart comes = quietly (event.Deliver (queue.Port s port)) new
         (λ id c d. let gone = back_out id c d in no_first (out_of w s.0 port) frame items id gone.1.frame is gone.1.first)
+        (λ id d. no_first (out_of w s.0 port) frame items id d.frame is d.first)
         (subst (λ (x : WorldView). Adds w.journal x.journal Never) (sym comes) (adds_nothing w.journal))
     out_of_port (Data number frame) items HostPort new is there apart comes = at_host number frame items (receiver w s.0 port frame) new is refl comes
 
     delivered : (items : List Item) (new : WorldView) → out_of w s.0 port ≡ items → (IsSwitch (peer_of w.plan s.0 port) → ⊥) →
-        DeliversOut switch host (record w { steps = n }) s.0 port items new → AddsFor w (event.Deliver (queue.Port s port)) new
+        DeliversOut switch host (record w { steps = n }) s.0 port items new → AddsFor host w (event.Deliver (queue.Port s port)) new
     delivered [] new is apart comes = absurd comes
     delivered (item ∷ items) new is apart comes = out_of_port item items (peer_of w.plan s.0 port) new is refl apart comes
 
   told : (s : SwitchNo) (items : List ToManager) (new : WorldView) → DeliversToManager manager (record w { steps = n }) s.0 items new → Adds w.journal new.journal Never
-  told s [] new turn = absurd turn
-  told s (message ∷ items) new turn = subst (λ (x : WorldView). Adds w.journal x.journal Never) (sym turn.changed)
-      (adds_manager_acts (record w { steps = n; to_manager = set w.to_manager s.0 items; manager = turn.after }) turn.acts)
+  told s [] new moves = absurd moves
+  told s (message ∷ items) new moves = subst (λ (x : WorldView). Adds w.journal x.journal Never) (sym moves.changed)
+      (adds_manager_acts (record w { steps = n; to_manager = set w.to_manager s.0 items; manager = moves.after }) moves.acts)
 
   repaired : (link : Option Link) (new : WorldView) → IsRepaired (record w { steps = n }) link new → Adds w.journal new.journal Never
   repaired None new is = absurd is
   repaired (Some link) new is = subst (λ (x : WorldView). Adds w.journal x.journal Never) (sym is)
       (adds_quiet w.journal (LinkUp link.lower link.upper) (λ id c e. absurd (cc)))
 
-  drops : (happens : Event) (new : WorldView) → Happens switch manager host (record w { steps = n }) happens new → (IsOfSwitch w happens → ⊥) → AddsFor w happens new
+  drops : (happens : Event) (new : WorldView) → Happens switch manager host (record w { steps = n }) happens new → (IsOfSwitch w happens → ⊥) → AddsFor host w happens new
   drops (event.Deliver (queue.FromHost h)) new is apart = absurd (apart tt)
   drops (event.Deliver (queue.Port s port)) new is apart = delivered s port (out_of w s.0 port) new refl apart is
-  drops (event.Deliver (queue.ToManager s)) new is apart = quietly _ new (λ id c d. d) (told s (items_at w.to_manager s.0) new is)
+  drops (event.Deliver (queue.ToManager s)) new is apart = quietly _ new (λ id c d. d) (λ id d. d) (told s (items_at w.to_manager s.0) new is)
   drops (event.Deliver (queue.FromManager s)) new is apart = absurd (apart tt)
   drops (event.Tick s) new is apart = absurd (apart tt)
   drops (event.Fail a b) new is apart = of_failed a b new is
-  drops (event.Repair a b) new is apart = quietly _ new (λ id c d. d) (repaired (link_between w.plan a.0 b.0) new is)
+  drops (event.Repair a b) new is apart = quietly _ new (λ id c d. d) (λ id d. d) (repaired (link_between w.plan a.0 b.0) new is)
   drops (event.Lose s port) new is apart = of_lost s port new is
   drops (event.Move h s port) new is apart = of_gone h s port new is
-  drops (event.Start h) new is apart = quietly _ new (λ id c d. d) (adds_turn host _ h.0 _ _ new is)
-  drops (event.Play h frame original raw) new is apart = quietly _ new (λ id c d. d) (adds_played host _ h.0 _ new is)
-  drops (event.Retry h) new is apart = quietly _ new (λ id c d. d) (adds_turn host _ h.0 _ _ new is)
-  drops (event.Join h group) new is apart = quietly _ new (λ id c d. d) (adds_turn host _ h.0 _ _ new is)
-  drops (event.Leave h group) new is apart = quietly _ new (λ id c d. d) (adds_turn host _ h.0 _ _ new is)
+  drops (event.Start h) new is apart = quietly _ new (λ id c d. d) (λ id d. d) (adds_turn host _ h.0 _ _ new is)
+  drops (event.Play h frame original raw) new is apart = quietly _ new (λ id c d. d) (λ id d. d) (adds_played host _ h.0 _ new is)
+  drops (event.Retry h) new is apart = quietly _ new (λ id c d. d) (λ id d. d) (adds_turn host _ h.0 _ _ new is)
+  drops (event.Join h group) new is apart = quietly _ new (λ id c d. d) (λ id d. d) (adds_turn host _ h.0 _ _ new is)
+  drops (event.Leave h group) new is apart = quietly _ new (λ id c d. d) (λ id d. d) (adds_turn host _ h.0 _ _ new is)
 
 pub step_drops : (switch : SwitchRule) (manager : ManagerRule) (host : HostRule) (old : WorldView) (happens : Event) (new : WorldView) (id : ℕ) (c : Cause) →
     WorldStep switch manager host old happens new → (IsOfSwitch old happens → ⊥) → (c ≡ NoMember → ⊥) →
@@ -418,3 +469,14 @@ step_drops switch manager host old happens new id c step other member =
       (λ there. x.only id c member (among_of_Contains (Dropped id c) x.entries (subst (λ es. Contains es (Dropped id c)) same there))),
       (λ is. subst (λ es. Contains es (Dropped id c)) (sym same) (Contains-of_among (Dropped id c) x.entries (x.all id c is))),
     )
+
+module _ (switch : SwitchRule) (manager : ManagerRule) (host : HostRule) (old : WorldView) (happens : Event) (new : WorldView) (id : ℕ)
+    (step : WorldStep switch manager host old happens new) (other : IsOfSwitch old happens → ⊥) where
+  pub step_refuses : (Contains (written old new) (Dropped id NoMember) → IsRefusedByHost host old happens id)
+      × (AnswersOneWay host → IsRefusedByHost host old happens id → Contains (written old new) (Dropped id NoMember))
+  step_refuses =
+      let x = drops switch manager host old (old.steps + 1) happens new step other in
+      let same : written old new ≡ x.entries = ap (drop (length old.journal)) x.added ∙ drop-append_seam old.journal x.entries in (
+        (λ there. x.refused id (among_of_Contains (Dropped id NoMember) x.entries (subst (λ es. Contains es (Dropped id NoMember)) same there))),
+        (λ one is. subst (λ es. Contains es (Dropped id NoMember)) (sym same) (Contains-of_among (Dropped id NoMember) x.entries (x.refuses one id is))),
+      )

@@ -9,5 +9,6 @@ pub mod Knowing
 pub mod Runs
 pub mod SettledQueues
 pub mod Drops
+pub mod SwitchDrops
 pub mod Begun
 pub mod Looser

@@ -1,9 +1,20 @@
--- Which frames a step drops that is no switch's, and for which cause.
-use Rattle.std.specs.Prelude.{◌≡◌, ℕ, ◌⊎◌, Contains, List, None, Some, drop, length, slice_get}
+-- Which frames a step drops, and for which cause.
+use Rattle.std.specs.Prelude.{◌≡◌, ℕ, ◌⊎◌, true, Contains, List, None, Some, drop, length, slice_get}
 use Rattle.pl_wiring.specs.declared.link.Link.{Link}
 use Rattle.pl_wiring.specs.declared.link.Peer.{Peer}
 use Rattle.pl_wiring.specs.declared.link.Peer.TheVariants.{HostPort, Switch}
 use Rattle.pl_wiring.specs.Peers.{peer_of}
+use Rattle.pl_core.specs.declared.acts.Act.{Act}
+use Rattle.pl_core.specs.declared.acts.Act.TheVariants as act
+use Rattle.pl_core.specs.declared.acts.HostAct.{HostAct}
+use Rattle.pl_core.specs.declared.reception.Reception.{Reception}
+use Rattle.pl_core.specs.declared.reception.Reception.TheVariants.{NotMember}
+use Rattle.pl_core.specs.HostInputs.{HostRule}
+use Rattle.pl_core.specs.HostInputs.HostAnswer.{Received}
+use Rattle.pl_core.specs.HostInputs.HostInput.{Receives}
+use Rattle.pl_core.specs.HostViews.{HostView}
+use Rattle.pl_core.specs.SwitchInputs.{SwitchInput, SwitchRule}
+use Rattle.pl_core.specs.SwitchViews.{SwitchView}
 use Rattle.pl_journal.specs.declared.cause.Cause.{Cause}
 use Rattle.pl_journal.specs.declared.cause.Cause.TheVariants.{HostGone, LinkDown, Lost}
 use Rattle.pl_journal.specs.declared.entry.Entry.{Entry}
@@ -14,7 +25,7 @@ use Rattle.pl_world.specs.declared.event.QueueName.TheVariants as queue
 use Rattle.pl_world.specs.declared.item.Item.{Item}
 use Rattle.pl_world.specs.declared.item.Item.TheVariants.{Data}
 use Rattle.pl_world.specs.declared.stand.Stand.{Stand}
-use Rattle.pl_world.specs.Changes.{out_of, receiver}
+use Rattle.pl_world.specs.Changes.{is_failed_at, out_of, receiver}
 use Rattle.pl_world.specs.LinksAndMoves.{link_between}
 use Rattle.pl_world.specs.Worlds.{WorldView}
 
@@ -71,3 +82,46 @@ IsDroppedFor w (event.Fail a b) id LinkDown = WaitsOnLink w a.0 b.0 id
 IsDroppedFor w (event.Move h s port) id HostGone = WaitsForMover w h.0 id
 IsDroppedFor w (event.Deliver (queue.Port s port)) id HostGone = ComesToNobody w s.0 port id
 IsDroppedFor w happens id cause = ⊥
+
+-- the host that the frame is for answers that it is no member of its group
+pub record ComesToNoMember (rule : HostRule) (w : WorldView) (s port id : ℕ) : Type 0 where
+  pub frame : List ℕ
+  pub first : IsFirstIn (out_of w s port) id frame
+  pub host : ℕ
+  pub there : receiver w s port frame ≡ Some host
+  pub before : HostView
+  pub after : HostView
+  pub acts : List HostAct
+  pub found : slice_get w.hosts host ≡ Some before
+  pub answered : rule before (Receives frame) after acts (Received NotMember)
+
+abbrev pub IsRefusedByHost : HostRule → WorldView → Event → ℕ → Type 0
+IsRefusedByHost rule w (event.Deliver (queue.Port s port)) id = ComesToNoMember rule w s.0 port id
+IsRefusedByHost rule w happens id = ⊥
+
+-- a host's answer to a frame is not left open
+abbrev pub AnswersOneWay : HostRule → Type 0
+AnswersOneWay rule = (before : HostView) (frame : List ℕ) (one other : HostView) (acts more : List HostAct) (first second : Reception) →
+    rule before (Receives frame) one acts (Received first) → rule before (Receives frame) other more (Received second) → first ≡ second
+
+-- a switch passes a frame on by a port whose link is failed
+pub record IsPutOnFailedLink (w : WorldView) (s : ℕ) (acts : List Act) : Type 0 where
+  pub port : ℕ
+  pub frame : List ℕ
+  pub passed : Contains acts (act.Pass port frame)
+  pub failed : is_failed_at w s port ≡ true
+
+-- one of a switch's acts is such a drop, or puts a frame on a failed link
+abbrev pub IsDroppedByActs : WorldView → ℕ → List Act → Cause → Type 0
+IsDroppedByActs w s acts cause = Contains acts (act.Drop cause) ⊎ ((LinkDown ≡ cause) × IsPutOnFailedLink w s acts)
+
+-- and its rule lets it
+pub record IsDroppedBySwitch (rule : SwitchRule) (w : WorldView) (cause : Cause) : Type 0 where
+  pub switch : ℕ
+  pub before : SwitchView
+  pub after : SwitchView
+  pub input : SwitchInput
+  pub acts : List Act
+  pub found : slice_get w.switches switch ≡ Some before
+  pub ruled : rule before input after acts
+  pub drops : IsDroppedByActs w switch acts cause

@@ -8,7 +8,7 @@ ghost use Rattle.pl_queues.specs.Queues.{items_at};
 ghost use Rattle.pl_world.specs.declared.item.Item.TheVariants.{Control};
 ghost use Rattle.pl_world.specs.declared.limits.Limits.{Limits};
 ghost use Rattle.pl_world.specs.Booting.{CanBegin, booted};
-ghost use Rattle.pl_world.specs.Drops.{IsDroppedFor, IsOfSwitch, written};
+ghost use Rattle.pl_world.specs.Drops.{AnswersOneWay, IsDroppedBySwitch, IsDroppedFor, IsOfSwitch, IsRefusedByHost, written};
 ghost use Rattle.pl_world.specs.Flying.{IsCounted};
 ghost use Rattle.pl_world.specs.Hearing.{IsWithinHearing};
 ghost use Rattle.pl_world.specs.Pending.{pending};
@@ -64,7 +64,7 @@ pub fn hosts_have_no_control_frames_in_their_queues<S: SwitchCore, M: ManagerCor
 /// A step that is no switch's drops a frame exactly in these places: a lose event takes it, as `Lost`; its
 /// link fails while it waits there, as `LinkDown`; its host moves while it waits in the host's queue or in
 /// the queue to the host, or it comes out of a port where no host stands that it is for, as `HostGone`.
-/// A host that is no member of a frame's group is not spoken of here.
+/// That a host is no member of a frame's group is said by the next law.
 pub fn a_step_that_is_no_switchs_drops_frames_for_their_causes_alone<
     S: SwitchCore,
     M: ManagerCore,
@@ -73,4 +73,31 @@ pub fn a_step_that_is_no_switchs_drops_frames_for_their_causes_alone<
     ensures { (old : WorldView) (happens : Event) (new : WorldView) (id : ℕ) (cause : Cause) →
         WorldStep S.rule M.rule H.rule old happens new → (IsOfSwitch old happens → ⊥) → (cause ≡ NoMember → ⊥) →
         Contains (written old new) (Dropped id cause) ↔ IsDroppedFor old happens id cause }
+{}
+
+/// Such a step drops a frame as `NoMember` only where it comes out of a port to a host that answers so; and
+/// wherever one does, if its rule leaves its answers to a frame no choice.
+pub fn a_step_that_is_no_switchs_drops_a_frame_where_a_host_is_no_member<
+    S: SwitchCore,
+    M: ManagerCore,
+    H: HostCore,
+>()
+    ensures only { (old : WorldView) (happens : Event) (new : WorldView) (id : ℕ) →
+        WorldStep S.rule M.rule H.rule old happens new → (IsOfSwitch old happens → ⊥) →
+        Contains (written old new) (Dropped id NoMember) → IsRefusedByHost H.rule old happens id }
+    ensures always { (old : WorldView) (happens : Event) (new : WorldView) (id : ℕ) →
+        WorldStep S.rule M.rule H.rule old happens new → (IsOfSwitch old happens → ⊥) → AnswersOneWay H.rule →
+        IsRefusedByHost H.rule old happens id → Contains (written old new) (Dropped id NoMember) }
+{}
+
+/// A step of a switch drops a frame only for a cause that its rule names in an act, or as `LinkDown` where
+/// it passes a frame on by a port whose link is failed.
+pub fn a_switch_drops_frames_by_its_rule_or_on_a_failed_link<
+    S: SwitchCore,
+    M: ManagerCore,
+    H: HostCore,
+>()
+    ensures { (old : WorldView) (happens : Event) (new : WorldView) (id : ℕ) (cause : Cause) →
+        WorldStep S.rule M.rule H.rule old happens new → IsOfSwitch old happens →
+        Contains (written old new) (Dropped id cause) → IsDroppedBySwitch S.rule old cause }
 {}

@@ -11,7 +11,9 @@ use Rattle.pl_layouts.specs.Checksum.{ones_plus}
 use Rattle.pl_examples.specs.ExampleFrames.{a_joins, a_starts, bytes_of, mac_a, mac_b, pmac_b}
 use Rattle.pl_layouts.specs.Reports.{header_of, message_of_change}
 use Rattle.pl_core.specs.HostViews.{HostView, boot_host, groups_after}
-use Rattle.pl_host_rule.specs.HostRule.{Starts, Retries, HasMoved, Plays, PlaysRaw, Joins, Leaves, Receives, Nothing, Played, Received, host_step, skip_of, step_to}
+use Rattle.pl_host_rule.specs.HostRule.{host_step, skip_of, step_to}
+use Rattle.pl_core.specs.HostInputs.HostInput.{Starts, Retries, HasMoved, Plays, PlaysRaw, Joins, Leaves, Receives}
+use Rattle.pl_core.specs.HostInputs.HostAnswer.{Nothing, Played, Received}
 use Rattle.pl_core.specs.HostInputs.{HostInput}
 use Rattle.pl_layouts.specs.ArpFrames.{arp_frame}
 

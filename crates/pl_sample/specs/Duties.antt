@@ -1,5 +1,5 @@
 -- A manager that says nothing owes nothing, and a host that sends its first frame alone sends data and joins no group.
-use Rattle.std.proofs.Common.{IsTrue, List, [], ◌++◌, map, length, refl, sym, ap, subst, ◌∙◌}
+use Rattle.std.proofs.Common.{◌≡◌, IsTrue, List, [], ◌++◌, map, length, refl, sym, ap, subst, ◌∙◌}
 use Rattle.std.proofs.Math.Nat.{le-add_right}
 use Rattle.std.proofs.lemmas.Bool.{or_right}
 use Rattle.std.specs.List.{filter_map, list_all}
@@ -7,17 +7,21 @@ use Rattle.pl_frame.specs.declared.address.SwitchId.{SwitchId}
 use Rattle.pl_core.specs.declared.acts.HostAct.{HostAct}
 use Rattle.pl_layouts.specs.Equality.{same_switch}
 use Rattle.pl_host_rule.specs.HostRule.{HostStep}
-use Rattle.pl_core.specs.HostDuties.{HoldsData, HostsJoinBySending, HostsSendData, JoinsBySending, SendsData}
+use Rattle.pl_core.specs.HostDuties.{HoldsData, HoldsOwn, HostsJoinBySending, HostsKeepFrames, HostsSendData, HostsSendOwn, JoinsBySending, SendsData, SendsOwn}
 use Rattle.pl_core.specs.HostInputs.{HostAnswer, HostInput}
+use Rattle.pl_core.specs.HostInputs.HostAnswer.{Received}
 use Rattle.pl_core.specs.HostInputs.HostInput.{HasMoved, Joins, Leaves, Plays, PlaysRaw, Receives, Retries, Starts}
 use Rattle.pl_core.specs.HostViews.{HostView}
 use Rattle.pl_core.specs.ManagerDuties.{AnswersDuly, IsGrown, is_for_heard, numbered_by, with_number}
 use Rattle.pl_core.specs.ManagerViews.{ManagerView, is_heard, registry}
+use Rattle.pl_core.specs.declared.reception.Reception.{Reception}
+use Rattle.pl_core.specs.declared.reception.Reception.TheVariants.{Kept}
+use Rattle.pl_host_rule.proofs.HostOwn as own
 use Rattle.pl_host_rule.proofs.HostSends.{joins_by_sending, owes_sends}
 use Rattle.pl_sample.specs.Sending.{SendsOneFrame, one_frame_step}
 use Rattle.pl_sample.specs.Silence.{SaysNothing}
 
-grown : (view : ManagerView) (s : SwitchId) → IsGrown view s view
+pub grown : (view : ManagerView) (s : SwitchId) → IsGrown view s view
 grown view s = record {
   k = refl;
   heard = λ t h. or_right (same_switch s t) (is_heard view t) h;
@@ -61,3 +65,28 @@ sends_data view input after acts answer holds ruled = (by_rule view input after 
 
 pub joins_no_group : HostsJoinBySending SendsOneFrame
 joins_no_group view input after acts answer holds ruled = (by_rule view input after acts answer holds ruled).1
+
+-- a step by what it may send and hold
+owns : (view : HostView) (input : HostInput) → HoldsData view → HoldsOwn view →
+    SendsOwn view (one_frame_step view input).view (one_frame_step view input).acts
+owns view Starts sizes holds = own.sends_own view Starts _ _ _ sizes holds refl
+owns view Retries sizes holds = record { sends = refl; holds = holds }
+owns view HasMoved sizes holds = record { sends = refl; holds = holds }
+owns view (Plays frame original) sizes holds = record { sends = refl; holds = holds }
+owns view (PlaysRaw frame original) sizes holds = record { sends = refl; holds = holds }
+owns view (Joins group) sizes holds = record { sends = refl; holds = holds }
+owns view (Leaves group) sizes holds = record { sends = refl; holds = holds }
+owns view (Receives frame) sizes holds = record { sends = refl; holds = holds }
+
+pub sends_own : HostsSendOwn SendsOneFrame
+sends_own view input after acts answer sizes holds ruled =
+    subst (λ (step : HostStep). SendsOwn view step.view step.acts) ruled (owns view input sizes holds)
+
+abbrev received : Reception → HostAnswer
+received r = Received r
+
+same_reception : (a b : Reception) → received a ≡ received b → a ≡ b
+same_reception a b h = cc
+
+pub keeps_all : HostsKeepFrames SendsOneFrame
+keeps_all view frame after acts reception unrouted ruled = same_reception reception Kept (sym (ap (λ (step : HostStep). step.answer) ruled))

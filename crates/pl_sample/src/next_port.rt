@@ -1,18 +1,16 @@
-ghost use Rattle.std.specs.Prelude.{◌≡◌, ◌↔◌, ◌<◌, [], ◌∷◌, ◌++◌, ◌≤◌, length, IsTrue, OnOk};
+ghost use Rattle.std.specs.Prelude.{◌≡◌, ◌↔◌, ◌<◌, [], ◌∷◌, ◌++◌, IsTrue, OnOk};
 ghost use Rattle.pl_core.specs.declared.acts.Act.TheVariants.{Pass};
-ghost use Rattle.pl_layouts.specs.Control.{is_control};
 ghost use Rattle.pl_core.specs.SwitchFacts.{CanBoot, IsAnnounced, switch_at_boot};
 ghost use Rattle.pl_ldp.specs.Writable.{IsId};
 ghost use Rattle.pl_sample.specs.Passing.{PassesNext, first_announcement, port_after};
 ghost use Rattle.pl_sample.specs.Accounts.{passes_next_accounts};
 
-use byteorder::{BigEndian, ByteOrder};
 use pl_core::{Act, AvoidList, Outbox, PortRecord, SwitchCore, SwitchFacts, ToSwitch, TreePart};
+use pl_frame::{Frame, Memory, SwitchId};
+use pl_layouts::frames::is_control;
 use pl_layouts::{Control, Ldm, Place};
-use pl_frame::Memory;
-use pl_lists::Rising;
-use pl_frame::{Frame, SwitchId, TYPE_CONTROL};
 use pl_ldp::write_control;
+use pl_lists::Rising;
 use std::alloc::Global;
 
 /// A switch that passes each data frame on by the next port, the first one after the last. It does
@@ -43,14 +41,6 @@ impl NextPort {
         let k = self.k;
         out.push(Act::Pass((port + steps) % k, Frame::copy(self.alloc, frame)?))
     }
-}
-
-/// Whether a frame is a control frame.
-pub(crate) fn is_control(frame: &[u8]) -> bool
-    requires { 14 ≤ length frame.now }
-    ensures { result ≡ is_control frame.now }
-{
-    BigEndian::read_u16(&frame[12..]) == TYPE_CONTROL
 }
 
 // The message of a switch that knows its id alone, as it stands in a frame.

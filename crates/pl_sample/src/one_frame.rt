@@ -1,16 +1,15 @@
 ghost use Rattle.std.specs.Prelude.{◌≡◌, IfOk};
 ghost use Rattle.pl_host_rule.specs.HostRule.{start_frame};
 ghost use Rattle.pl_core.specs.HostViews.{boot_host};
-ghost use Rattle.pl_sample.specs.Duties.{joins_no_group, sends_data};
+ghost use Rattle.pl_sample.specs.Duties.{joins_no_group, keeps_all, sends_data, sends_own};
 ghost use Rattle.pl_sample.specs.Sending.{SendsOneFrame};
 
-use byteorder::{BigEndian, ByteOrder};
 use pl_arp::{Arp, Me, REQUEST};
 use pl_core::{HostAct, HostCore, HostOutbox, HostTable, Reception};
-use pl_lists::Items;
-use pl_frame::Memory;
+use pl_frame::{Frame, Ip4, Mac, Memory};
 use pl_journal::Skip;
-use pl_frame::{Frame, Ip4, Mac, TYPE_ARP};
+use pl_layouts::frames::{ARP_FRAME, arp_frame};
+use pl_lists::Items;
 use std::alloc::Global;
 
 /// A host that sends one frame when it starts, the ARP request for its own address. It plays no
@@ -33,8 +32,7 @@ fn copied(alloc: Global, table: &HostTable) -> Result<HostTable, Memory>
 }
 
 // The request of a host for its own address (RFC 826), to all.
-#[tactic(auto, unfolding(pl_layouts::specs::ArpFrames::arp_frame))]
-fn start_frame(me: Me) -> [u8; 42]
+fn start_frame(me: Me) -> [u8; ARP_FRAME]
     ensures { result ≡ start_frame me }
 {
     let arp = Arp {
@@ -44,15 +42,7 @@ fn start_frame(me: Me) -> [u8; 42]
         tha: Mac([0; 6]),
         tpa: me.ip,
     };
-    let mut frame = [0; 42];
-    let (dst, rest) = frame.split_at_mut(6);
-    let (src, rest) = rest.split_at_mut(6);
-    let (kind, payload) = rest.split_at_mut(2);
-    dst.copy_from_slice(&Mac::BROADCAST.0);
-    src.copy_from_slice(&me.mac.0);
-    BigEndian::write_u16(kind, TYPE_ARP);
-    payload.copy_from_slice(&pl_arp::write(&arp));
-    frame
+    arp_frame(Mac::BROADCAST, &arp)
 }
 
 impl HostCore for OneFrame {
@@ -63,6 +53,10 @@ impl HostCore for OneFrame {
     ghost sends = { sends_data };
 
     ghost joins = { joins_no_group };
+
+    ghost owns = { sends_own };
+
+    ghost keeps = { keeps_all };
 
     fn boot(alloc: Global, me: Me, table: &HostTable) -> Result<OneFrame, Memory> {
         Ok(OneFrame {

@@ -4,11 +4,10 @@ ghost use Rattle.pl_sample.specs.Accounts.{passes_two_accounts};
 ghost use Rattle.pl_sample.specs.Passing.{PassesTwo};
 
 use crate::NextPort;
-use crate::next_port::is_control;
 use pl_core::{AvoidList, Outbox, PortRecord, SwitchCore, SwitchFacts, ToSwitch, TreePart};
-use pl_frame::Memory;
+use pl_frame::{Memory, SwitchId};
 use pl_layouts::Place;
-use pl_frame::SwitchId;
+use pl_layouts::frames::is_control;
 use std::alloc::Global;
 
 /// A switch that passes each data frame on by the next port, and a copy of it by the one after that.

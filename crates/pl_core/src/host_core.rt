@@ -1,4 +1,4 @@
-ghost use Rattle.std.specs.Prelude.{◌≡◌, IfOk, OnOk, length};
+ghost use Rattle.std.specs.Prelude.{◌≡◌, IfOk, OnOk};
 ghost use Rattle.pl_core.specs.Gains.{Gains};
 ghost use Rattle.pl_core.specs.HostDuties.{HostsJoinBySending, HostsKeepFrames, HostsSendData, HostsSendOwn};
 ghost use Rattle.pl_core.specs.HostInputs.{HostRule};

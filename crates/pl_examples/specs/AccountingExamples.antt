@@ -1,5 +1,5 @@
 -- What acts may say of the frame that they speak of.
-use Rattle.std.specs.Prelude.{◌≡◌, ℕ, List, [], ◌∷◌, refl}
+use Rattle.std.specs.Prelude.{◌≡◌, [], ◌∷◌, refl}
 use Rattle.std.proofs.Common.{lt_irrefl}
 use Rattle.pl_pmac.specs.declared.pmac.Pmac.{Pmac}
 use Rattle.pl_core.specs.declared.acts.Act.TheVariants.{Control, Grant as GrantAct, Pass, Redirect, Take, Tell}

@@ -16,7 +16,7 @@ use Rattle.byteorder.specs.Endian.{big_number, big_bytes}
 use Rattle.byteorder.specs.Numbers.{big_number-reads_back}
 use Rattle.pl_frame.specs.declared.address.Mac.{Mac}
 use Rattle.pl_frame.specs.declared.address.Ip4.{Ip4}
-use Rattle.pl_frame.specs.Ethernet.{Fields, destination_of, fields_of, frame_of, kind_of, payload_of, source_of, with_destination}
+use Rattle.pl_frame.specs.Ethernet.{Fields, destination_of, frame_of, kind_of, payload_of, source_of, with_destination}
 use Rattle.pl_frame.proofs.Fields.{fields_of-frame_of, front_of, rest_of}
 use Rattle.pl_arp.specs.declared.packet.Arp.{Arp}
 use Rattle.pl_arp.specs.declared.packet.ArpError.{ArpError}
@@ -25,7 +25,6 @@ use Rattle.pl_arp.specs.declared.cache.Me.{Me}
 use Rattle.pl_arp.specs.Packet.{arp_in, ethernet_ipv4, fields_at_front, layout}
 use Rattle.pl_arp.specs.Reception.{Table, answer_to, hardware_of, is_target, same_ip, table_after}
 use Rattle.pl_core.specs.declared.acts.HostAct.{HostAct}
-use Rattle.pl_core.specs.declared.acts.HostAct.TheVariants.{Send}
 use Rattle.pl_journal.specs.declared.cause.Skip.{Skip}
 use Rattle.pl_journal.specs.declared.cause.Skip.TheVariants as skips
 use Rattle.pl_core.specs.declared.reception.Reception.{Reception}
@@ -34,12 +33,12 @@ use Rattle.pl_layouts.specs.declared.membership.Change.{Change}
 use Rattle.pl_layouts.specs.ArpFrames.{arp_frame, broadcast, no_mac}
 use Rattle.pl_layouts.specs.Equality.{same_mac}
 use Rattle.pl_layouts.specs.Frames.{is_arp, packet_in}
-use Rattle.pl_layouts.specs.Memberships.{flood, group_of, is_group}
+use Rattle.pl_layouts.specs.Memberships.{group_of, is_group}
 use Rattle.pl_layouts.specs.Reports.{group_mac, header_of, membership_frame, message_of_change, receiver_of}
-use Rattle.pl_core.specs.HostDuties.{HoldsData, HoldsOwn, SendsOwn, are_own, is_of, is_own, is_routed, sent_by}
+use Rattle.pl_core.specs.HostDuties.{HoldsData, HoldsOwn, SendsOwn, are_own, is_of, is_own, is_routed}
 use Rattle.pl_core.specs.HostInputs.{HostAnswer, HostInput}
 use Rattle.pl_core.specs.HostViews.{Held, HostView, boot_host, has_group, held_for, ip_cmp, with_held}
-use Rattle.pl_host_rule.specs.HostRule.{HostStep, first_request, having_sent, hearing, holding, host_rule, host_step, is_foreign, is_not_joined, other_host, playing, playing_frame, playing_raw, receiving, released, released_by, reply_frame, report_frame, request_frame, sending, sending_on, sending_to, sending_to_host, skip_of, skipping, start_frame, step_to, still_held, unless_skipped}
+use Rattle.pl_host_rule.specs.HostRule.{HostStep, first_request, having_sent, hearing, holding, host_rule, host_step, is_foreign, is_not_joined, other_host, playing, playing_frame, playing_raw, receiving, released, released_by, reply_frame, report_frame, request_frame, sending, sending_to, sending_to_host, skip_of, skipping, start_frame, step_to, still_held, unless_skipped}
 use Rattle.pl_core.specs.HostInputs.HostInput.{HasMoved, Joins, Leaves, PlaysRaw, Plays, Receives, Retries, Starts}
 use Rattle.pl_core.specs.HostInputs.HostAnswer.{Nothing, Played, Received}
 use Rattle.pl_host_rule.proofs.HostFrames.{packet_in-addresses}

@@ -5,7 +5,7 @@ use Rattle.pl_frame.specs.declared.address.Ip4.{Ip4}
 use Rattle.pl_frame.specs.Ethernet.{destination_of, source_of, with_destination}
 use Rattle.pl_arp.specs.declared.packet.Arp.{Arp}
 use Rattle.pl_arp.specs.declared.cache.Me.{Me}
-use Rattle.pl_arp.specs.Reception.{Table, answer_to, hardware_of, same_ip, table_after}
+use Rattle.pl_arp.specs.Reception.{Table, answer_to, hardware_of, table_after}
 use Rattle.pl_core.specs.declared.acts.HostAct.{HostAct}
 use Rattle.pl_core.specs.declared.acts.HostAct.TheVariants.{Send}
 use Rattle.pl_journal.specs.declared.cause.Skip.{Skip}

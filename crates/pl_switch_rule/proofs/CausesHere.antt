@@ -22,7 +22,7 @@ use Rattle.pl_layouts.specs.Frames.{is_arp}
 use Rattle.pl_switch_rule.specs.declared.came.Came.{Came}
 use Rattle.pl_switch_rule.specs.declared.came.Came.TheVariants.{FromHost}
 use Rattle.pl_switch_rule.specs.CauseOf.{DropsFor, cause_at, cause_from_here, if_nowhere, is_told}
-use Rattle.pl_switch_rule.specs.Delivering.{addresses, arrives_home, begins, comes_home, delivers, delivers_or_redirects, delivers_to, destination, goes_on, grant_trap, last_trap, makes, newer_address, redirects, tells_newer, tells_sender, trap_for}
+use Rattle.pl_switch_rule.specs.Delivering.{addresses, arrives_home, begins, comes_home, delivers, delivers_or_redirects, delivers_to, destination, goes_on, grant_trap, last_trap, makes, redirects, tells_newer, tells_sender, trap_for}
 use Rattle.pl_switch_rule.specs.DropCauses.{address_after, first_drop}
 use Rattle.pl_switch_rule.specs.Forwarding.{Choice, candidates_by, forwards, leaves_by}
 use Rattle.pl_switch_rule.specs.Granting.{grant_number, granted, grants_at, is_granted, is_local}

@@ -1,5 +1,5 @@
 -- The first cause of a data frame that comes at a switch, and of the reply to its sender.
-use Rattle.std.proofs.Common.{◌≡◌, ℕ, ◌&&◌, ◌||◌, not, Bool, true, false, if◌then◌else◌, List, [], ◌∷◌, ◌++◌, map, Option, Some, None, is_some, is_none, refl, sym, ap, ap₂, subst, subst₂, ◌∙◌}
+use Rattle.std.proofs.Common.{◌≡◌, ℕ, ◌&&◌, ◌||◌, not, Bool, true, false, if◌then◌else◌, List, [], ◌∷◌, map, Option, Some, None, is_some, is_none, refl, sym, ap, ap₂, subst, subst₂, ◌∙◌}
 use Rattle.pl_frame.specs.declared.address.Mac.{Mac}
 use Rattle.pl_frame.specs.Ethernet.{destination_of, source_of}
 use Rattle.pl_pmac.specs.declared.pmac.Pmac.{Pmac}
@@ -18,7 +18,7 @@ use Rattle.pl_switch_rule.specs.declared.came.Came.{Came}
 use Rattle.pl_switch_rule.specs.declared.came.Came.TheVariants.{FromHost}
 use Rattle.pl_switch_rule.specs.CauseOf.{DropsFor, Intake, by_intake, cause_from_here, cause_to, if_nowhere, if_sent_on, intake, intake_of_host, intake_of_switch, is_told, reply_to}
 use Rattle.pl_switch_rule.specs.CauseOf.Intake.{Refused, SentOn, TakenIn}
-use Rattle.pl_switch_rule.specs.Delivering.{arrives_home, destination, trap_for}
+use Rattle.pl_switch_rule.specs.Delivering.{arrives_home, trap_for}
 use Rattle.pl_switch_rule.specs.DropCauses.{came_in, first_drop, has_no_hosts, is_for_members, is_of_host, known_source, places, seen}
 use Rattle.pl_switch_rule.specs.Forwarding.{Choice, came_by, candidates_by, forwards}
 use Rattle.pl_switch_rule.specs.Granting.{has_no_address, is_local, is_port_spent, learns_source}

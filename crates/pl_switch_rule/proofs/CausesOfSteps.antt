@@ -5,11 +5,11 @@ use Rattle.std.proofs.lemmas.Bool.{cond_both}
 use Rattle.pl_frame.specs.declared.address.Ip4.{Ip4}
 use Rattle.pl_frame.specs.declared.address.Mac.{Mac}
 use Rattle.pl_frame.specs.declared.address.SwitchId.{SwitchId}
-use Rattle.pl_frame.specs.Ethernet.{destination_of, payload_of, source_of}
+use Rattle.pl_frame.specs.Ethernet.{destination_of, payload_of}
 use Rattle.pl_arp.specs.declared.packet.Arp.{Arp}
 use Rattle.pl_pmac.specs.declared.pmac.Pmac.{Pmac}
 use Rattle.pl_pmac.specs.Pmac.{mac_of, pmac_of}
-use Rattle.pl_core.specs.Accounting.{CanCome, IsComing, IsShaped}
+use Rattle.pl_core.specs.Accounting.{CanCome, IsShaped}
 use Rattle.pl_core.specs.Announcements.{announcement}
 use Rattle.pl_core.specs.PortRecords.{place_at, port_of, ports_where}
 use Rattle.pl_core.specs.SwitchInputs.{SwitchInput}
@@ -17,13 +17,13 @@ use Rattle.pl_core.specs.SwitchInputs.SwitchInput.{Comes, Says, Tick}
 use Rattle.pl_core.specs.declared.switch_records.Grant.{Grant}
 use Rattle.pl_core.specs.SwitchViews.{SwitchView}
 use Rattle.pl_core.specs.declared.acts.Act.{Act}
-use Rattle.pl_core.specs.declared.acts.Act.TheVariants.{Control as ControlAct, Make}
+use Rattle.pl_core.specs.declared.acts.Act.TheVariants.{Control as ControlAct}
 use Rattle.pl_core.specs.declared.messages.ToSwitch.{ToSwitch}
 use Rattle.pl_core.specs.declared.messages.ToSwitch.TheVariants.{Answer, Avoid, Flood, Invalidate, Pod, Tree}
 use Rattle.pl_core.specs.declared.trap.Trap.{Trap}
 use Rattle.pl_journal.specs.declared.cause.Cause.{Cause}
 use Rattle.pl_journal.specs.declared.cause.Cause.TheVariants.{NoNextHop}
-use Rattle.pl_layouts.specs.ArpFrames.{arp_frame, broadcast, no_mac}
+use Rattle.pl_layouts.specs.ArpFrames.{broadcast, no_mac}
 use Rattle.pl_layouts.specs.Control.{control_in, is_control}
 use Rattle.pl_layouts.specs.Memberships.{flood}
 use Rattle.pl_layouts.specs.Placement.{is_known}
@@ -32,19 +32,19 @@ use Rattle.pl_layouts.specs.declared.control.Control.TheVariants as control
 use Rattle.pl_layouts.specs.declared.control.ControlError.{ControlError}
 use Rattle.pl_layouts.specs.declared.control.Proposal.{Proposal}
 use Rattle.pl_switch_rule.specs.declared.came.Came.TheVariants.{FromHost}
-use Rattle.pl_switch_rule.specs.Announcing.{announcements, announces_at, proposal, proposes_at, ticks, with_aged_ports}
+use Rattle.pl_switch_rule.specs.Announcing.{announces_at, proposal, proposes_at, ticks, with_aged_ports}
 use Rattle.pl_switch_rule.specs.CauseOf.{DropsFor, DropsForFirstCause, by_intake, cause_from_here, cause_of, cause_of_made, cause_of_message, cause_to, if_nowhere, if_sent_on, intake, reply_to}
 use Rattle.pl_switch_rule.specs.Delivering.{makes}
-use Rattle.pl_switch_rule.specs.DropCauses.{first_drop, seen}
+use Rattle.pl_switch_rule.specs.DropCauses.{seen}
 use Rattle.pl_switch_rule.specs.Forwarding.{Choice}
 use Rattle.pl_switch_rule.specs.Granting.{granted, is_granted}
-use Rattle.pl_switch_rule.specs.GroupForwarding.{destination_group, forwards_group, group_ports, group_ports_up, no_way}
+use Rattle.pl_switch_rule.specs.GroupForwarding.{destination_group, forwards_group, group_ports_up, no_way}
 use Rattle.pl_switch_rule.specs.Intake.{group_told, groups_of, is_member}
 use Rattle.pl_switch_rule.specs.Levels.{after_message, changes_to, with_pod}
 use Rattle.pl_switch_rule.specs.Messages.{answer_frame, flood_frame, floods, forgets_members, hears_manager, hears_pod, invalidates, probes, probes_at, sets_trap, takes_pod}
 use Rattle.pl_switch_rule.specs.Positions.{after_vote, answers_proposal, frees_others, half, hears_proposal}
-use Rattle.pl_switch_rule.specs.Steps.{SwitchStep, does, rests, ◌▹◌}
-use Rattle.pl_switch_rule.specs.SwitchRule.{Exact, IsChoice, Loose, StepsBy, by_flow, control_comes, data_comes, hears_control, switch_step}
+use Rattle.pl_switch_rule.specs.Steps.{SwitchStep, rests}
+use Rattle.pl_switch_rule.specs.SwitchRule.{Exact, IsChoice, Loose, control_comes, data_comes, hears_control, switch_step}
 use Rattle.pl_switch_rule.specs.Telling.{changes_told}
 use Rattle.pl_switch_rule.proofs.AccountedSteps.{exact_is_loose}
 use Rattle.pl_switch_rule.proofs.CausesHere.{destination_of-arp_frame, makes_drops_for}

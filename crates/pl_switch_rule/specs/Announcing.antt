@@ -1,5 +1,5 @@
 -- What a switch tells its neighbours at a tick.
-use Rattle.std.specs.Prelude.{ℕ, ◌==◌, ◌&&◌, not, Bool, List, ◌++◌, is_none, map}
+use Rattle.std.specs.Prelude.{ℕ, ◌&&◌, not, Bool, List, ◌++◌, is_none, map}
 use Rattle.pl_core.specs.declared.acts.Act.{Act}
 use Rattle.pl_core.specs.declared.acts.Act.TheVariants.{Control}
 use Rattle.pl_layouts.specs.declared.control.Control.TheVariants as control

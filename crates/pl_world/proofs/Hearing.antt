@@ -1,5 +1,5 @@
 -- The manager can hear each switch of the wiring at each moment of a run.
-use Rattle.std.proofs.Common.{◌≡◌, ℕ, zero, suc, ◌+◌, ◌*◌, ◌/◌, ◌<◌, ◌≤◌, true, List, [], ◌∷◌, ◌++◌, length, map, Contains, IsTrue, Less, Greater, Some, slice_get, refl, sym, ◌∙◌, ap, subst, arith, inl, inr, mul_assoc, mul_comm}
+use Rattle.std.proofs.Common.{◌≡◌, ℕ, zero, suc, ◌+◌, ◌*◌, ◌/◌, ◌<◌, ◌≤◌, true, List, [], ◌∷◌, length, Contains, IsTrue, Less, Greater, Some, slice_get, refl, sym, ◌∙◌, ap, subst, arith, inl, inr, mul_assoc, mul_comm}
 use Rattle.std.specs.List.{AllByRecursion, list_any}
 use Rattle.std.specs.List.Sorted.{IsStrictlySortedBy}
 use Rattle.std.specs.Ordering.{ordering_reverse}

@@ -1,5 +1,5 @@
 -- How the number of stale items goes on.
-use Rattle.std.proofs.Common.{◌≡◌, ℕ, ◌+◌, ◌*◌, ◌<◌, ◌≤◌, ◌&&◌, not, Bool, true, false, IsTrue, ◌↔◌, Option, None, Some, List, [], ◌∷◌, bytes_eq, cond, count_by, sum_by, length, slice_get, slice_set, take, replicate, zero, suc, refl, sym, ap, ◌∙◌, suc-mul, arith}
+use Rattle.std.proofs.Common.{◌≡◌, ℕ, ◌+◌, ◌*◌, ◌<◌, ◌≤◌, not, Bool, true, false, IsTrue, ◌↔◌, Option, None, Some, List, [], ◌∷◌, cond, count_by, sum_by, length, slice_get, slice_set, take, replicate, zero, suc, refl, sym, ap, ◌∙◌, suc-mul, arith}
 use Rattle.std.specs.List.{AllByRecursion}
 use Rattle.std.specs.Bool.{one_answer}
 use Rattle.std.proofs.lemmas.List.{get_or-set_other, get_or-set_same, length-set}

@@ -1,5 +1,5 @@
 -- From what a call on one switch, or one host, says to what the world's rule says.
-use Rattle.std.proofs.Common.{◌≡◌, ℕ, ◌<◌, List, [], ◌∷◌, ◌++◌, length, Some, slice_get, sym, ◌∙◌, ap, subst}
+use Rattle.std.proofs.Common.{◌≡◌, ℕ, List, [], ◌∷◌, ◌++◌, length, Some, slice_get, sym, ◌∙◌, ap, subst}
 use Rattle.std.specs.List.{AllByRecursion, fold}
 use Rattle.std.proofs.Math.ListN.{length-map}
 use Rattle.pl_frame.specs.declared.address.SwitchId.{SwitchId}

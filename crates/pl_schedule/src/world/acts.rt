@@ -1,4 +1,4 @@
-ghost use Rattle.std.specs.Prelude.{◌≡◌, ◌<◌, [], OnOk};
+ghost use Rattle.std.specs.Prelude.{◌≡◌, ◌<◌, OnOk};
 ghost use Rattle.std.specs.List.{AllByRecursion};
 ghost use Rattle.pl_wiring.specs.Labels.{switch_count};
 ghost use Rattle.pl_journal.specs.declared.entry.Entry.TheVariants as entry;

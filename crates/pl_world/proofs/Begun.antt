@@ -13,7 +13,7 @@ use Rattle.pl_core.specs.HostViews.{HostView, boot_host}
 use Rattle.pl_core.specs.ManagerViews.{ManagerView, booted_manager}
 use Rattle.pl_core.specs.SwitchFacts.{CanBoot, IsTreeSize, switch_at_boot}
 use Rattle.pl_core.specs.SwitchViews.{SwitchView}
-use Rattle.pl_world.specs.Booting.{all_live, booted, first_stand, me_of}
+use Rattle.pl_world.specs.Booting.{CanBegin, all_live, booted, first_stand, me_of}
 use Rattle.pl_world.specs.declared.item.Item.{Item}
 use Rattle.pl_world.specs.declared.limits.Limits.{Limits}
 use Rattle.pl_world.specs.declared.stand.Stand.{Stand}
@@ -111,7 +111,7 @@ module _ (plan : Plan) (limits : Limits) (atlas : Plan) (links : LivePorts) (sta
   pub parts_make : IsAtFirst → made_of_parts ≡ booted plan limits
   parts_make p = rw (p.first_plan, p.first_links, p.first_stands, p.first_heard, p.first_switches, p.first_manager, p.first_hosts, p.first_from_hosts, p.first_out, p.first_to_manager, p.first_from_manager, p.first_journal) refl
 
-  pub parts_formed : IsPlan plan → IsAtFirst → IsFormed made_of_parts
+  pub parts_formed : CanBegin plan → IsAtFirst → IsFormed made_of_parts
   parts_formed can p = subst IsFormed (sym (parts_make p)) (booted_is_counted plan limits can).formed
 
 pub hosts_first : (got : List HostView) (table : List Me) (two three hosts : List Host) → two ≡ hosts → three ≡ hosts → table ≡ map me_of two →
@@ -120,7 +120,7 @@ hosts_first got table two three hosts second third made booted_each =
     booted_each ∙ ap (λ t. map (λ host. boot_host (me_of host) t) three) (made ∙ ap (map me_of) second)
     ∙ ap (map (λ host. boot_host (me_of host) (map me_of hosts))) third
 
-pub begun_counted : (w : WorldView) (plan : Plan) (limits : Limits) → IsPlan plan → w ≡ booted plan limits → IsCounted w
+pub begun_counted : (w : WorldView) (plan : Plan) (limits : Limits) → CanBegin plan → w ≡ booted plan limits → IsCounted w
 begun_counted w plan limits can same = subst IsCounted (sym same) (booted_is_counted plan limits can)
 
 pub begun_within : (w : WorldView) (plan : Plan) (limits : Limits) → limits.steps ≤ 4000000000 → w ≡ booted plan limits → IsWithinHearing w

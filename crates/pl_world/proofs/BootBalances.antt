@@ -17,7 +17,7 @@ use Rattle.pl_wiring.specs.Index.{port_index}
 use Rattle.pl_wiring.specs.Labels.{edge_count, switch_count}
 use Rattle.pl_wiring.specs.LiveLinks.{IsFor, is_live_at}
 use Rattle.pl_wiring.specs.Peers.{peer_among, peer_of}
-use Rattle.pl_wiring.specs.Plan.{IsHostMac, IsPlan, Plan}
+use Rattle.pl_wiring.specs.Plan.{IsPlan, Plan}
 use Rattle.pl_wiring.proofs.Ends.{IsPeer-is, contained_at}
 use Rattle.pl_wiring.proofs.Entered.{entry_at-in_range, entry_at-out_of_range, port_index-below, tree_ends}
 use Rattle.pl_core.specs.Accounting.{IsShaped}
@@ -28,7 +28,7 @@ use Rattle.pl_core.specs.SwitchFacts.{CanBoot, switch_at_boot}
 use Rattle.pl_core.specs.SwitchViews.{SwitchView}
 use Rattle.pl_core.proofs.Booted.{booted_is_shaped}
 use Rattle.pl_world.specs.declared.limits.Limits.{Limits}
-use Rattle.pl_world.specs.Booting.{all_live, booted, first_stand, host_table, me_of}
+use Rattle.pl_world.specs.Booting.{CanBegin, all_live, booted, first_stand, host_table, me_of}
 use Rattle.pl_world.specs.Flying.{IsAtPort, IsCounted, IsDataItem, IsItem, times_in_all}
 use Rattle.pl_world.proofs.Counts.{born_none}
 
@@ -128,8 +128,8 @@ can_boot plan is id within = record {
 edges_are_switches : (k n : ℕ) → n < edge_count k → n < switch_count k
 edges_are_switches k n within = omega arith
 
-pub booted_is_counted : (plan : Plan) (limits : Limits) → IsPlan plan → IsCounted (booted plan limits)
-booted_is_counted plan limits is = record {
+pub booted_is_counted : (plan : Plan) (limits : Limits) → CanBegin plan → IsCounted (booted plan limits)
+booted_is_counted plan limits can = let is = can.is_plan in record {
   formed = record {
     plan = is;
     links = all_live_is_for plan is;
@@ -148,8 +148,8 @@ booted_is_counted plan limits is = record {
   };
   shaped = all_mapped (λ (id : SwitchId). (1 ≤ id.0) × (id.0 < 2 ^ 48)) IsShaped (λ id. switch_at_boot id plan.k)
       (λ id within. booted_is_shaped id plan.k (can_boot plan is id within)) plan.ids is.ids_in_range;
-  holding = all_mapped (λ (h : Host). IsHostMac h.mac) HoldsData (λ host. boot_host (me_of host) (host_table plan))
-      (λ h of_one. record { me = of_one.six_bytes; cache = refl; held = refl }) plan.hosts is.host_macs;
+  holding = all_mapped (λ (h : Host). length h.mac.0 ≡ 6) HoldsData (λ host. boot_host (me_of host) (host_table plan))
+      (λ h six. record { me = six; cache = refl; held = refl }) plan.hosts can.addresses;
   in_host_queues = all_same (AllByRecursion IsDataItem) (length plan.hosts) [] tt;
   in_port_queues = all_same (AllByRecursion IsItem) (switch_count plan.k * plan.k) [] tt;
   begun = refl;

@@ -1,12 +1,12 @@
 -- The world at its beginning.
-use Rattle.std.specs.Prelude.{◌*◌, ◌/◌, ◌%◌, not, List, [], length, map, replicate, None}
+use Rattle.std.specs.Prelude.{◌≡◌, All, ◌*◌, ◌/◌, ◌%◌, not, List, [], length, map, replicate, None}
 use Rattle.std.specs.List.{range_with_len}
 use Rattle.pl_arp.specs.declared.cache.Me.{Me}
 use Rattle.pl_wiring.specs.declared.host.Host.{Host}
 use Rattle.pl_wiring.specs.Labels.{switch_count}
 use Rattle.pl_wiring.specs.LiveLinks.{LivePorts}
 use Rattle.pl_wiring.specs.Peers.{peer_of}
-use Rattle.pl_wiring.specs.Plan.{Plan}
+use Rattle.pl_wiring.specs.Plan.{IsPlan, Plan}
 use Rattle.pl_core.specs.HostViews.{boot_host}
 use Rattle.pl_core.specs.ManagerViews.{booted_manager}
 use Rattle.pl_journal.specs.Places.{is_host_port}
@@ -51,3 +51,8 @@ booted plan limits = record {
   steps = 0;
   limits = limits;
 }
+
+-- a wiring whose hosts have addresses of six bytes
+pub record CanBegin (plan : Plan) : Type 0 where
+  pub is_plan : IsPlan plan
+  pub addresses : All (λ host. length host.mac.0 ≡ 6) plan.hosts

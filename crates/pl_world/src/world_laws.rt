@@ -1,5 +1,5 @@
 ghost use Rattle.std.specs.Prelude.{◌≡◌, ◌≤◌, ◌↔◌, ℕ, Contains, List, None};
-ghost use Rattle.pl_wiring.specs.Plan.{IsPlan, Plan};
+ghost use Rattle.pl_wiring.specs.Plan.{Plan};
 ghost use Rattle.pl_world.specs.declared.event.Event.{Event};
 ghost use Rattle.pl_journal.specs.declared.cause.Cause.{Cause};
 ghost use Rattle.pl_journal.specs.declared.cause.Cause.TheVariants.{NoMember};
@@ -7,7 +7,7 @@ ghost use Rattle.pl_journal.specs.declared.entry.Entry.TheVariants.{Dropped};
 ghost use Rattle.pl_queues.specs.Queues.{items_at};
 ghost use Rattle.pl_world.specs.declared.item.Item.TheVariants.{Control};
 ghost use Rattle.pl_world.specs.declared.limits.Limits.{Limits};
-ghost use Rattle.pl_world.specs.Booting.{booted};
+ghost use Rattle.pl_world.specs.Booting.{CanBegin, booted};
 ghost use Rattle.pl_world.specs.Drops.{AnswersOneWay, IsDroppedBySwitch, IsDroppedFor, IsOfSwitch, IsRefusedByHost, written};
 ghost use Rattle.pl_world.specs.Flying.{IsCounted};
 ghost use Rattle.pl_world.specs.Hearing.{IsWithinHearing};
@@ -22,7 +22,7 @@ use pl_core::{HostCore, ManagerCore, SwitchCore};
 
 /// A world at its beginning has no frames, and one of each for each host, switch and port.
 pub fn a_new_world_has_its_frames_in_order()
-    ensures { (plan : Plan) (limits : Limits) → IsPlan plan → IsCounted (booted plan limits) }
+    ensures { (plan : Plan) (limits : Limits) → CanBegin plan → IsCounted (booted plan limits) }
 {}
 
 /// Whatever the rules of switches, manager and hosts are, as long as switches account for their frames
@@ -36,7 +36,7 @@ pub fn each_step_keeps_its_frames_in_order<S: SwitchCore, M: ManagerCore, H: Hos
 /// So it is at each moment of each run from the beginning, whatever a script writes of itself between the
 /// steps.
 pub fn each_run_keeps_its_frames_in_order<S: SwitchCore, M: ManagerCore, H: HostCore>()
-    ensures { (plan : Plan) (limits : Limits) (moments : List Moment) (new : WorldView) → IsPlan plan →
+    ensures { (plan : Plan) (limits : Limits) (moments : List Moment) (new : WorldView) → CanBegin plan →
         WorldRun S.rule M.rule H.rule (booted plan limits) moments new → IsCounted new }
 {}
 
@@ -56,7 +56,7 @@ pub fn nothing_is_pending_exactly_where_the_queues_are_settled()
 
 /// At each moment of each run a host's queue holds data frames alone.
 pub fn hosts_have_no_control_frames_in_their_queues<S: SwitchCore, M: ManagerCore, H: HostCore>()
-    ensures { (plan : Plan) (limits : Limits) (moments : List Moment) (new : WorldView) → IsPlan plan →
+    ensures { (plan : Plan) (limits : Limits) (moments : List Moment) (new : WorldView) → CanBegin plan →
         WorldRun S.rule M.rule H.rule (booted plan limits) moments new →
         (h : ℕ) (frame : List ℕ) → Contains (items_at new.from_hosts h) (Control frame) → ⊥ }
 {}

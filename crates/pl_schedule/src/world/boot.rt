@@ -1,9 +1,9 @@
-ghost use Rattle.std.specs.Prelude.{◌≡◌, ◌<◌, ◌≤◌, ◌*◌, length, map, replicate, slice_get, None, Some, IfOk};
+ghost use Rattle.std.specs.Prelude.{◌≡◌, ◌<◌, ◌≤◌, ◌*◌, All, length, map, replicate, slice_get, None, Some, IfOk};
 ghost use Rattle.pl_wiring.specs.Labels.{switch_count};
 ghost use Rattle.pl_core.specs.HostViews.{boot_host};
 ghost use Rattle.pl_core.specs.ManagerViews.{booted_manager};
 ghost use Rattle.pl_core.specs.SwitchFacts.{switch_at_boot};
-ghost use Rattle.pl_world.specs.Booting.{all_live, booted, me_of};
+ghost use Rattle.pl_world.specs.Booting.{CanBegin, all_live, booted, me_of};
 ghost use Rattle.pl_world.specs.Flying.{IsCounted};
 ghost use Rattle.pl_world.specs.Hearing.{IsWithinHearing};
 ghost use Rattle.pl_world.specs.Pending.{first_switches};
@@ -28,6 +28,7 @@ impl<S: SwitchCore, M: ManagerCore, H: HostCore> World<S, M, H> {
         ensures counted { IfOk result (λ w. IsCounted w) }
         ensures hearing { IfOk result (λ w. IsWithinHearing w) }
     {
+        see_addresses(&wiring);
         let links = live_links(alloc, &wiring)?;
         let stands = Stands::first(alloc, wiring.hosts())?;
         let heard = silent_hosts(alloc, &wiring)?;
@@ -58,6 +59,32 @@ impl<S: SwitchCore, M: ManagerCore, H: HostCore> World<S, M, H> {
         })
     }
 }
+
+// A wiring has all that a world begins with. This is known of its hosts' addresses once each was seen.
+fn see_addresses(wiring: &Wiring)
+    ensures { CanBegin wiring.now }
+{
+    let _k = wiring.k();
+    see_each(wiring.hosts());
+}
+
+fn see_each(hosts: &[Host])
+    ensures { All (λ host. length host.mac.0 ≡ 6) hosts.now }
+{
+    for host in hosts {
+        see(host);
+    }
+}
+
+fn see(host: &Host)
+    ensures { length host.now.mac.0 ≡ 6 }
+{
+    see_bytes(host.mac.0);
+}
+
+fn see_bytes(bytes: [u8; 6])
+    ensures { length bytes ≡ 6 }
+{}
 
 // The ports of all switches.
 fn port_count(wiring: &Wiring) -> usize

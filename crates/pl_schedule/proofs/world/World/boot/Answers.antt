@@ -9,7 +9,7 @@ invariant_of-result g c =
     c.in_ok-switches.switches.switches (g.M.ManagerCore.view c.in_ok-manager.manager)
     (map g.H.HostCore.view c.in_ok-hosts.hosts.items) c.in_ok-from_hosts.from_hosts c.in_ok-switches.switches.out c.in_ok-to_manager.to_manager
     c.in_ok-from_manager.from_manager c.new-4.result
-    c.hosts.ensures.plan (record {
+    c.see_addresses.ensures (record {
       first_plan = c.in_ok-atlas.ensures;
       first_links = c.in_ok-links.ensures;
       first_stands = c.in_ok-stands.ensures ∙ ap (map first_stand) c.hosts.ensures.hosts;
@@ -49,7 +49,7 @@ returns-clause-booted g c =
 
 pub returns-clause-counted : goal.returns-clause-counted
 returns-clause-counted g c =
-    begun_counted _ c.args.wiring c.args.limits c.hosts.ensures.plan (parts_make c.args.wiring c.args.limits c.in_ok-atlas.atlas c.in_ok-links.links c.in_ok-stands.stands c.in_ok-heard.heard.items
+    begun_counted _ c.args.wiring c.args.limits c.see_addresses.ensures (parts_make c.args.wiring c.args.limits c.in_ok-atlas.atlas c.in_ok-links.links c.in_ok-stands.stands c.in_ok-heard.heard.items
     c.in_ok-switches.switches.switches (g.M.ManagerCore.view c.in_ok-manager.manager)
     (map g.H.HostCore.view c.in_ok-hosts.hosts.items) c.in_ok-from_hosts.from_hosts c.in_ok-switches.switches.out c.in_ok-to_manager.to_manager
     c.in_ok-from_manager.from_manager c.new-4.result

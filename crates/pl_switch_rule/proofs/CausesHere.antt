@@ -26,7 +26,7 @@ use Rattle.pl_switch_rule.specs.Delivering.{addresses, arrives_home, begins, com
 use Rattle.pl_switch_rule.specs.DropCauses.{address_after, first_drop}
 use Rattle.pl_switch_rule.specs.Forwarding.{Choice, candidates_by, forwards, leaves_by}
 use Rattle.pl_switch_rule.specs.Granting.{grant_number, granted, grants_at, is_granted, is_local}
-use Rattle.pl_switch_rule.specs.Steps.{SwitchStep, does}
+use Rattle.pl_steps.specs.Steps.{SwitchStep, does}
 use Rattle.pl_switch_rule.specs.SwitchRule.{IsChoice}
 use Rattle.pl_switch_rule.proofs.DroppedHome.{new_destination, redirects_go_on}
 use Rattle.pl_switch_rule.proofs.FirstCauses.{AllMakeNone, MakesNone, drops_before, drops_made, either_first, either_make_none, go_on_make_none}

@@ -25,7 +25,7 @@ use Rattle.pl_switch_rule.specs.Granting.{has_no_address, is_local, is_port_spen
 use Rattle.pl_switch_rule.specs.GroupForwarding.{destination_group, forwards_group, group_ports, no_way, passes_or_drops, way_of}
 use Rattle.pl_switch_rule.specs.Intake.{hears_members, is_for_switch, packet_acts, sends_in, takes, takes_in, takes_in_or_spent, with_pmac}
 use Rattle.pl_switch_rule.specs.Levels.{finds_host}
-use Rattle.pl_switch_rule.specs.Steps.{SwitchStep, does, ◌▹◌}
+use Rattle.pl_steps.specs.Steps.{SwitchStep, does, ◌▹◌}
 use Rattle.pl_switch_rule.specs.SwitchRule.{IsChoice, comes_from_switch, data_comes}
 use Rattle.pl_switch_rule.proofs.CausesHere.{forwards_cause, forwards_make_none, home_drops_for, no_trap_elsewhere}
 use Rattle.pl_switch_rule.proofs.DroppedFrames.{goes_where, host_sent_on, switch_sent_on}

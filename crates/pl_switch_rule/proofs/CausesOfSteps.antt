@@ -43,7 +43,7 @@ use Rattle.pl_switch_rule.specs.Intake.{group_told, groups_of, is_member}
 use Rattle.pl_switch_rule.specs.Levels.{after_message, changes_to, with_pod}
 use Rattle.pl_switch_rule.specs.Messages.{answer_frame, flood_frame, floods, forgets_members, hears_manager, hears_pod, invalidates, probes, probes_at, sets_trap, takes_pod}
 use Rattle.pl_switch_rule.specs.Positions.{after_vote, answers_proposal, frees_others, half, hears_proposal}
-use Rattle.pl_switch_rule.specs.Steps.{SwitchStep, rests}
+use Rattle.pl_steps.specs.Steps.{SwitchStep, rests}
 use Rattle.pl_switch_rule.specs.SwitchRule.{Exact, IsChoice, Loose, control_comes, data_comes, hears_control, switch_step}
 use Rattle.pl_switch_rule.specs.Telling.{changes_told}
 use Rattle.pl_switch_rule.proofs.AccountedSteps.{exact_is_loose}

@@ -16,7 +16,7 @@ use Rattle.pl_switch_rule.specs.Levels.{finds_host}
 use Rattle.pl_layouts.specs.Memberships.{is_group, membership_in}
 use Rattle.pl_core.specs.PortRecords.{is_open_to_hosts, place_at, port_of}
 use Rattle.pl_layouts.specs.Placement.{is_known, is_placed}
-use Rattle.pl_switch_rule.specs.Steps.{SwitchStep, does, ◌▹◌}
+use Rattle.pl_steps.specs.Steps.{SwitchStep, does, ◌▹◌}
 use Rattle.pl_switch_rule.specs.SwitchRule.{IsChoice, comes_from_switch, data_comes}
 use Rattle.pl_core.specs.SwitchViews.{SwitchView}
 use Rattle.pl_switch_rule.proofs.DataFrames.{arriving_made, six_of_pmac}

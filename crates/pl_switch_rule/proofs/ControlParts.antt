@@ -21,7 +21,7 @@ use Rattle.pl_core.specs.Accounting.{IsSent, IsShaped}
 use Rattle.pl_switch_rule.specs.Positions.{answers_proposal, frees_others, half, hears_proposal, holds_for, is_free_for, vote_on}
 use Rattle.pl_core.specs.SwitchFacts.{hold_at}
 use Rattle.pl_layouts.specs.Placement.{is_known}
-use Rattle.pl_switch_rule.specs.Steps.{SwitchStep, rests}
+use Rattle.pl_steps.specs.Steps.{SwitchStep, rests}
 use Rattle.pl_core.specs.SwitchViews.{SwitchView}
 use Rattle.pl_switch_rule.specs.Telling.{changes_told}
 use Rattle.pl_switch_rule.proofs.StepParts.{IsQuiet, IsSame, all_append, fit_at, same_then}

@@ -15,7 +15,7 @@ use Rattle.pl_core.specs.Accounting.Speech.{Silent, Waiting}
 use Rattle.pl_switch_rule.specs.Messages.{hears_pod, with_part}
 use Rattle.pl_core.specs.PortRecords.{port_of}
 use Rattle.pl_switch_rule.specs.Positions.{after_vote}
-use Rattle.pl_switch_rule.specs.Steps.{SwitchStep, rests}
+use Rattle.pl_steps.specs.Steps.{SwitchStep, rests}
 use Rattle.pl_switch_rule.specs.SwitchRule.{control_comes, data_comes, hears_control, switch_step}
 use Rattle.pl_core.specs.SwitchInputs.{SwitchInput}
 use Rattle.pl_core.specs.SwitchInputs.SwitchInput.{Comes, Says, Tick}

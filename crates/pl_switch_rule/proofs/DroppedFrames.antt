@@ -23,7 +23,7 @@ use Rattle.pl_switch_rule.specs.Levels.{finds_host}
 use Rattle.pl_layouts.specs.Memberships.{is_group, membership_in}
 use Rattle.pl_core.specs.PortRecords.{place_at}
 use Rattle.pl_layouts.specs.Placement.{is_placed}
-use Rattle.pl_switch_rule.specs.Steps.{SwitchStep, does, ◌▹◌}
+use Rattle.pl_steps.specs.Steps.{SwitchStep, does, ◌▹◌}
 use Rattle.pl_switch_rule.specs.SwitchRule.{IsChoice, comes_from_switch, data_comes}
 use Rattle.pl_core.specs.SwitchViews.{SwitchView}
 use Rattle.pl_layouts.proofs.Arrived.{destination_of-arriving, length-arriving, source_of-arriving}

@@ -20,7 +20,7 @@ use Rattle.pl_switch_rule.specs.Forwarding.{Choice, forwards}
 use Rattle.pl_layouts.specs.Frames.{is_arp}
 use Rattle.pl_switch_rule.specs.Granting.{granted, is_local}
 use Rattle.pl_layouts.specs.Memberships.{is_group}
-use Rattle.pl_switch_rule.specs.Steps.{does}
+use Rattle.pl_steps.specs.Steps.{does}
 use Rattle.pl_switch_rule.specs.SwitchRule.{IsChoice}
 use Rattle.pl_core.specs.declared.switch_records.Grant.{Grant}
 use Rattle.pl_core.specs.SwitchViews.{SwitchView}

@@ -6,7 +6,7 @@ use Rattle.pl_core.specs.declared.acts.Act.TheVariants.{Control, Drop, Grant as 
 use Rattle.pl_journal.specs.declared.cause.Cause.{Cause}
 use Rattle.pl_switch_rule.specs.CauseOf.{DropsFor, behind_make}
 use Rattle.pl_switch_rule.specs.DropCauses.{first_drop}
-use Rattle.pl_switch_rule.specs.Steps.{SwitchStep}
+use Rattle.pl_steps.specs.Steps.{SwitchStep}
 use Rattle.pl_switch_rule.proofs.FirstDrops.{AllGoOn, first_before, first_behind}
 
 abbrev pub MakesNone : Act → Type 0

@@ -6,7 +6,7 @@ use Rattle.pl_core.specs.declared.acts.Act.{Act}
 use Rattle.pl_core.specs.declared.acts.Act.TheVariants.{Control, Drop, Grant as GrantAct, Make, Pass, Redirect, Take, Tell}
 use Rattle.pl_journal.specs.declared.cause.Cause.{Cause}
 use Rattle.pl_switch_rule.specs.DropCauses.{CauseHolds, first_drop}
-use Rattle.pl_switch_rule.specs.Steps.{SwitchStep}
+use Rattle.pl_steps.specs.Steps.{SwitchStep}
 use Rattle.pl_core.specs.SwitchViews.{SwitchView}
 use Rattle.pl_switch_rule.proofs.StepParts.{all_append}
 use Rattle.pl_switch_rule.proofs.QuietActs.{AreQuiet}

@@ -17,7 +17,7 @@ use Rattle.pl_layouts.specs.Frames.{arriving, is_arp}
 use Rattle.pl_switch_rule.specs.Granting.{grant_number, granted, grants_at, is_local}
 use Rattle.pl_core.specs.Accounting.{HasMac, IsFit, IsMade, IsShaped, IsWhole, speech}
 use Rattle.pl_core.specs.Accounting.Speech.{Redirected, Waiting}
-use Rattle.pl_switch_rule.specs.Steps.{SwitchStep, does, ◌▹◌}
+use Rattle.pl_steps.specs.Steps.{SwitchStep, does, ◌▹◌}
 use Rattle.pl_switch_rule.specs.SwitchRule.{IsChoice}
 use Rattle.pl_core.specs.declared.switch_records.Grant.{Grant}
 use Rattle.pl_core.specs.SwitchViews.{SwitchView}

@@ -17,7 +17,7 @@ use Rattle.pl_switch_rule.specs.GroupForwarding.{at_most_one, forwards_group, de
 use Rattle.pl_switch_rule.specs.Intake.{takes}
 use Rattle.pl_core.specs.Accounting.{IsFit, IsMade, IsSent, IsShaped, speech}
 use Rattle.pl_core.specs.Accounting.Speech.{Passed}
-use Rattle.pl_switch_rule.specs.Steps.{does}
+use Rattle.pl_steps.specs.Steps.{does}
 use Rattle.pl_switch_rule.specs.SwitchRule.{IsChoice}
 use Rattle.pl_core.specs.SwitchViews.{SwitchView}
 use Rattle.pl_switch_rule.proofs.ControlParts.{ports_within}

@@ -12,7 +12,7 @@ use Rattle.pl_core.specs.declared.messages.ToManager.TheVariants.{Learned}
 use Rattle.pl_switch_rule.specs.Granting.{address_at_port, forgets, grant_number, granted, grants_at, grants_next, grants_or_learns, grants_remembered, grants_source, in_use, is_local, is_port_spent, learns_ip, learns_source, new_grant, or_else, remembered_at, remembered_ip, remembers, same_ip, sender_ip, with_grant, with_grants}
 use Rattle.pl_core.specs.Accounting.{HasMac, IsShaped, RemembersMac}
 use Rattle.pl_layouts.specs.Placement.{is_placed}
-use Rattle.pl_switch_rule.specs.Steps.{SwitchStep, rests, ◌▹◌}
+use Rattle.pl_steps.specs.Steps.{SwitchStep, rests, ◌▹◌}
 use Rattle.pl_core.specs.declared.switch_records.Grant.{Grant}
 use Rattle.pl_core.specs.declared.switch_records.Source.{Source}
 use Rattle.pl_core.specs.SwitchViews.{SwitchView}

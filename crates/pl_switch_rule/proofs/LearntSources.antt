@@ -23,7 +23,7 @@ use Rattle.pl_layouts.specs.Memberships.{changes_in}
 use Rattle.pl_journal.specs.Places.{are_alike}
 use Rattle.pl_core.specs.PortRecords.{is_open_to_hosts, new_port, port_of, ports_of_switch, with_port}
 use Rattle.pl_layouts.specs.Placement.{is_placed}
-use Rattle.pl_switch_rule.specs.Steps.{SwitchStep, rests, ◌▹◌}
+use Rattle.pl_steps.specs.Steps.{SwitchStep, rests, ◌▹◌}
 use Rattle.pl_core.specs.declared.switch_records.Grant.{Grant}
 use Rattle.pl_core.specs.declared.switch_records.Member.{Member}
 use Rattle.pl_core.specs.declared.switch_records.Source.{Source}

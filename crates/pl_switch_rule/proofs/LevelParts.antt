@@ -13,7 +13,7 @@ use Rattle.pl_journal.specs.Places.{are_alike}
 use Rattle.pl_switch_rule.specs.Positions.{notes_position}
 use Rattle.pl_core.specs.PortRecords.{id_at, is_usable, port_of, ports_of_switch, with_port}
 use Rattle.pl_layouts.specs.Placement.{is_known, same_place}
-use Rattle.pl_switch_rule.specs.Steps.{does, rests}
+use Rattle.pl_steps.specs.Steps.{does, rests}
 use Rattle.pl_core.specs.SwitchViews.{SwitchView}
 use Rattle.pl_switch_rule.specs.Telling.{changes_told, link_to, link_told, place_told, pod_wanted}
 use Rattle.pl_switch_rule.proofs.StepParts.{IsQuiet, IsSame, all_append, quiet_then_quiet, same_then}

@@ -16,7 +16,7 @@ use Rattle.pl_switch_rule.specs.GroupForwarding.{forwards_group}
 use Rattle.pl_core.specs.Accounting.{IsFit, IsAccounted, IsMade, IsShaped, is_said, speech}
 use Rattle.pl_core.specs.Accounting.Speech.{Silent}
 use Rattle.pl_switch_rule.specs.Messages.{answer_frame, flood_frame, floods, forgets_members, hears_manager, invalidates, probe_frame, probes, probes_at, sets_trap}
-use Rattle.pl_switch_rule.specs.Steps.{SwitchStep, does, rests, ◌▹◌}
+use Rattle.pl_steps.specs.Steps.{SwitchStep, does, rests, ◌▹◌}
 use Rattle.pl_switch_rule.specs.SwitchRule.{IsChoice}
 use Rattle.pl_core.specs.SwitchInputs.SwitchInput.{Says}
 use Rattle.pl_core.specs.declared.switch_records.Grant.{Grant}

@@ -18,7 +18,7 @@ use Rattle.pl_switch_rule.specs.Messages.{forgets_members, hears_pod, sets_trap,
 use Rattle.pl_core.specs.Traps.{newer_trap}
 use Rattle.pl_journal.specs.Places.{are_alike}
 use Rattle.pl_layouts.specs.Placement.{is_placed}
-use Rattle.pl_switch_rule.specs.Steps.{does, rests}
+use Rattle.pl_steps.specs.Steps.{does, rests}
 use Rattle.pl_core.specs.declared.switch_records.Grant.{Grant}
 use Rattle.pl_core.specs.declared.switch_records.Member.{Member}
 use Rattle.pl_core.specs.SwitchViews.{SwitchView}

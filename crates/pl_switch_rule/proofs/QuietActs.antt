@@ -5,7 +5,7 @@ use Rattle.pl_core.specs.declared.acts.Act.{Act}
 use Rattle.pl_core.specs.declared.acts.Act.TheVariants.{Control, Drop, Grant as GrantAct, Make, Pass, Redirect, Take, Tell}
 use Rattle.pl_core.specs.Accounting.{IsFit, IsSent, IsShaped, speech}
 use Rattle.pl_core.specs.Accounting.Speech.{Silent, Waiting}
-use Rattle.pl_switch_rule.specs.Steps.{SwitchStep, rests}
+use Rattle.pl_steps.specs.Steps.{SwitchStep, rests}
 use Rattle.pl_core.specs.SwitchViews.{SwitchView}
 use Rattle.pl_switch_rule.proofs.StepParts.{IsQuiet, IsSame, all_append}
 use Rattle.pl_switch_rule.proofs.Shapes.{same_self}

@@ -6,7 +6,7 @@ use Rattle.pl_core.specs.declared.acts.Act.{Act}
 use Rattle.pl_core.specs.declared.acts.Act.TheVariants.{Make}
 use Rattle.pl_core.specs.Accounting.{IsFit, IsMade, IsShaped, Speech, speech, speech_after}
 use Rattle.pl_core.specs.Accounting.Speech.{Ended, Passed, Silent, Waiting}
-use Rattle.pl_switch_rule.specs.Steps.{SwitchStep, ◌▹◌, does}
+use Rattle.pl_steps.specs.Steps.{SwitchStep, ◌▹◌, does}
 use Rattle.pl_core.specs.SwitchViews.{SwitchView}
 
 -- the same switch, of the same shape

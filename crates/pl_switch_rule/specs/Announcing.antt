@@ -6,7 +6,7 @@ use Rattle.pl_layouts.specs.declared.control.Control.TheVariants as control
 use Rattle.pl_layouts.specs.Control.{control_frame}
 use Rattle.pl_core.specs.PortRecords.{is_usable_to, port_of, ports_where, aged}
 use Rattle.pl_layouts.specs.Placement.{is_known}
-use Rattle.pl_switch_rule.specs.Steps.{SwitchStep}
+use Rattle.pl_steps.specs.Steps.{SwitchStep}
 use Rattle.pl_core.specs.SwitchFacts.{has_granted}
 use Rattle.pl_core.specs.SwitchViews.{SwitchView}
 use Rattle.pl_switch_rule.specs.Telling.{changes_told}

@@ -21,7 +21,7 @@ use Rattle.pl_switch_rule.specs.Levels.{finds_host}
 use Rattle.pl_layouts.specs.Memberships.{flood, is_group}
 use Rattle.pl_core.specs.PortRecords.{is_open_to_hosts, place_at, port_of}
 use Rattle.pl_layouts.specs.Placement.{is_known, is_placed}
-use Rattle.pl_switch_rule.specs.Steps.{◌▹◌}
+use Rattle.pl_steps.specs.Steps.{◌▹◌}
 use Rattle.pl_core.specs.SwitchViews.{SwitchView}
 
 -- the cause of the frame that came, if it is dropped; what is made afterwards has causes of its own

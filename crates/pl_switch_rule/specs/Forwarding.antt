@@ -11,7 +11,7 @@ use Rattle.pl_journal.specs.declared.cause.Cause.TheVariants.{NoNextHop}
 use Rattle.pl_switch_rule.specs.Granting.{is_local}
 use Rattle.pl_core.specs.PortRecords.{id_at, is_usable_to, place_at, ports_where}
 use Rattle.pl_layouts.specs.Placement.{is_known}
-use Rattle.pl_switch_rule.specs.Steps.{SwitchStep, does}
+use Rattle.pl_steps.specs.Steps.{SwitchStep, does}
 use Rattle.pl_core.specs.SwitchViews.{SwitchView}
 use Rattle.pl_core.specs.SwitchFacts.{is_avoided}
 

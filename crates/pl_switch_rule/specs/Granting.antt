@@ -9,7 +9,7 @@ use Rattle.pl_core.specs.declared.acts.Act.TheVariants.{Grant as GrantAct, Tell}
 use Rattle.pl_core.specs.declared.messages.ToManager.TheVariants.{Learned}
 use Rattle.pl_layouts.specs.Frames.{packet_in}
 use Rattle.pl_layouts.specs.Placement.{is_known, is_placed}
-use Rattle.pl_switch_rule.specs.Steps.{SwitchStep, rests, ◌▹◌}
+use Rattle.pl_steps.specs.Steps.{SwitchStep, rests, ◌▹◌}
 use Rattle.pl_core.specs.declared.switch_records.Grant.{Grant}
 use Rattle.pl_core.specs.declared.switch_records.Source.{Source}
 use Rattle.pl_core.specs.SwitchViews.{SwitchView}

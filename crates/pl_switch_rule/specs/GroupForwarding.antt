@@ -20,7 +20,7 @@ use Rattle.pl_switch_rule.specs.Granting.{is_local}
 use Rattle.pl_layouts.specs.Memberships.{flood, group_of}
 use Rattle.pl_core.specs.PortRecords.{id_at, is_usable, port_of, ports_where}
 use Rattle.pl_layouts.specs.Placement.{is_known}
-use Rattle.pl_switch_rule.specs.Steps.{SwitchStep, does}
+use Rattle.pl_steps.specs.Steps.{SwitchStep, does}
 use Rattle.pl_core.specs.SwitchViews.{SwitchView}
 use Rattle.pl_core.specs.SwitchFacts.{part_of}
 

@@ -24,7 +24,7 @@ use Rattle.pl_switch_rule.specs.Levels.{finds_host}
 use Rattle.pl_layouts.specs.Memberships.{changes_in, group_number, is_group, membership_in}
 use Rattle.pl_journal.specs.Places.{are_alike}
 use Rattle.pl_layouts.specs.Placement.{is_known, is_placed}
-use Rattle.pl_switch_rule.specs.Steps.{SwitchStep, does, ◌▹◌}
+use Rattle.pl_steps.specs.Steps.{SwitchStep, does, ◌▹◌}
 use Rattle.pl_core.specs.declared.switch_records.Member.{Member}
 use Rattle.pl_core.specs.SwitchViews.{SwitchView}
 use Rattle.pl_layouts.specs.Equality.{same_mac}

@@ -10,7 +10,7 @@ use Rattle.pl_switch_rule.specs.Granting.{grants_remembered}
 use Rattle.pl_switch_rule.specs.Positions.{notes_position}
 use Rattle.pl_core.specs.PortRecords.{heard_place, port_of, ports_of_switch, with_port}
 use Rattle.pl_layouts.specs.Placement.{is_known, is_placed}
-use Rattle.pl_switch_rule.specs.Steps.{SwitchStep, does, rests, ◌▹◌}
+use Rattle.pl_steps.specs.Steps.{SwitchStep, does, rests, ◌▹◌}
 use Rattle.pl_core.specs.SwitchViews.{SwitchView}
 use Rattle.pl_switch_rule.specs.Telling.{changes_told}
 

@@ -1,4 +1,3 @@
-pub mod Steps
 pub mod Telling
 pub mod Granting
 pub mod Positions

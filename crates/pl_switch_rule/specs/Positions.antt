@@ -10,7 +10,7 @@ use Rattle.pl_layouts.specs.declared.control.Vote.{Vote}
 use Rattle.pl_layouts.specs.Control.{control_frame}
 use Rattle.pl_core.specs.PortRecords.{place_at}
 use Rattle.pl_layouts.specs.Placement.{is_known}
-use Rattle.pl_switch_rule.specs.Steps.{SwitchStep, does, rests}
+use Rattle.pl_steps.specs.Steps.{SwitchStep, does, rests}
 use Rattle.pl_core.specs.declared.switch_records.Hold.{Hold}
 use Rattle.pl_core.specs.SwitchViews.{SwitchView}
 use Rattle.pl_layouts.specs.Votes.{counts, gives_way}

@@ -22,7 +22,7 @@ use Rattle.pl_switch_rule.specs.Messages.{hears_manager}
 use Rattle.pl_core.specs.PortRecords.{is_open_to_hosts, place_at, port_of}
 use Rattle.pl_layouts.specs.Placement.{is_placed}
 use Rattle.pl_switch_rule.specs.Positions.{after_vote, hears_proposal}
-use Rattle.pl_switch_rule.specs.Steps.{SwitchStep, does, rests}
+use Rattle.pl_steps.specs.Steps.{SwitchStep, does, rests}
 use Rattle.pl_core.specs.SwitchViews.{SwitchView}
 use Rattle.pl_core.specs.SwitchInputs.{SwitchInput, SwitchRule}
 use Rattle.pl_core.specs.SwitchInputs.SwitchInput.{Comes, Tick, Says}

@@ -1,5 +1,5 @@
 -- How the parts of a step go together.
-use Rattle.std.proofs.Common.{◌≡◌, List, [], ◌++◌, refl, sym, ap, ◌∙◌, append_assoc}
+use Rattle.std.proofs.Common.{◌≡◌, List, ◌++◌, refl, sym, ap, ◌∙◌, append_assoc}
 use Rattle.std.proofs.lemmas.List.{append-nil}
 use Rattle.pl_core.specs.declared.acts.Act.{Act}
 use Rattle.pl_core.specs.Gains.{Gains}

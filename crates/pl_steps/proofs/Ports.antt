@@ -1,6 +1,6 @@
 -- A loop over the ports of a switch, one port further.
-use Rattle.std.proofs.Common.{◌≡◌, ℕ, zero, suc, ◌+◌, Bool, true, false, if◌then◌else◌, List, [], ◌∷◌, ◌++◌, map, refl, sym, ap, ◌∙◌, add-one, add-zero, append_assoc, arith}
-use Rattle.std.proofs.lemmas.List.{append-nil, flat_map_more}
+use Rattle.std.proofs.Common.{◌≡◌, ℕ, zero, suc, ◌+◌, Bool, true, false, if◌then◌else◌, List, [], ◌∷◌, ◌++◌, map, refl, sym, ap, ◌∙◌, add-one, add-zero, arith}
+use Rattle.std.proofs.lemmas.List.{flat_map_more}
 use Rattle.std.specs.List.{filter, flat_map, range_with_len}
 use Rattle.pl_core.specs.declared.acts.Act.{Act}
 use Rattle.pl_core.specs.PortRecords.{ports_of_switch}

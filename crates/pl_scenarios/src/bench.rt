@@ -1,6 +1,8 @@
 use crate::fabric::Fabric;
 use crate::gathered::Gathered;
 use crate::host::HostBench;
+use crate::script::ScriptBench;
+use crate::topology::WiringBench;
 use crate::words::say;
 use pl_frame::Memory;
 use pl_sample::{NextPort, PodAsker, PodGiver, Silent, TwoPorts};
@@ -10,6 +12,8 @@ use std::alloc::Global;
 #[derive(Drop)]
 pub(crate) enum Bench {
     Gathering(Gathered),
+    Wiring(WiringBench),
+    Script(ScriptBench),
     Host(HostBench),
     Next(Fabric<NextPort, Silent>),
     Two(Fabric<TwoPorts, Silent>),
@@ -32,6 +36,14 @@ impl Bench {
         }
         match self {
             Bench::Gathering(gathered) => gathered.play(alloc, line, out),
+            Bench::Wiring(mut wiring) => {
+                wiring.play(alloc, line, out)?;
+                Ok(Bench::Wiring(wiring))
+            }
+            Bench::Script(mut script) => {
+                script.play(alloc, line, out)?;
+                Ok(Bench::Script(script))
+            }
             Bench::Host(host) => Ok(Bench::Host(host.play(alloc, line, out)?)),
             Bench::Next(fabric) => Ok(Bench::Next(fabric.play(alloc, line, out)?)),
             Bench::Two(fabric) => Ok(Bench::Two(fabric.play(alloc, line, out)?)),

@@ -4,6 +4,7 @@ use crate::bench::Bench;
 use crate::fabric::Fabric;
 use crate::host::HostBench;
 use crate::words::{first_word, say};
+use crate::{script, topology};
 use pl_arp::Me;
 use pl_core::HostTable;
 use pl_frame::Memory;
@@ -51,6 +52,8 @@ impl Gathered {
             "known" => self.know(rest, out),
             "host" => self.host(alloc, rest, out),
             "world" => self.world(alloc, rest, out),
+            "wiring" => self.wiring(alloc, rest, out),
+            "script" => self.script(alloc, out),
             _ => self.refuse(out),
         }
     }
@@ -98,6 +101,21 @@ impl Gathered {
             "two-ports" => Ok(Bench::Two(Fabric::boot(alloc, wiring, limits)?)),
             "pod-asker" => Ok(Bench::Asking(Fabric::boot(alloc, wiring, limits)?)),
             _ => refuse(alloc, out),
+        }
+    }
+
+    // BYTES: the topology and these bytes behind it.
+    fn wiring(self, alloc: Global, rest: &str, out: &mut String) -> Result<Bench, Memory> {
+        match topology::begin(alloc, self.topology.as_str(), rest, out)? {
+            Some(wiring) => Ok(Bench::Wiring(wiring)),
+            None => Ok(Bench::Gathering(self)),
+        }
+    }
+
+    fn script(self, alloc: Global, out: &mut String) -> Result<Bench, Memory> {
+        match script::begin(alloc, self.topology.as_str(), out)? {
+            Some(script) => Ok(Bench::Script(script)),
+            None => Ok(Bench::Gathering(self)),
         }
     }
 }

@@ -3,8 +3,9 @@
 //!
 //! A scenario begins with what the part needs (`gathered.rt`): `known MAC IP` for each host of the
 //! topology and then `host MAC IP`, or the lines of a topology between `topology` and `end` and then
-//! `world SWITCHES STEPS ENTRIES BYTES`. What can be said to a host stands in `host.rt`, what can be said
-//! to a world in `fabric.rt` and `event.rt`. A frame is written in hexadecimal, and `+N` behind it stands
+//! `world SWITCHES STEPS ENTRIES BYTES`, `wiring` or `script`. What can be said to a host stands in
+//! `host.rt`, what can be said to a world in `fabric.rt` and `event.rt`, to a wiring in `topology.rt`, to a
+//! script in `script.rt`. A frame is written in hexadecimal, and `+N` behind it stands
 //! for N more bytes of zero. A line that begins with `#` is printed as it is, and with `new` another part
 //! begins.
 #![tactic(auto)]
@@ -14,6 +15,8 @@ mod event;
 mod fabric;
 mod gathered;
 mod host;
+mod script;
+mod topology;
 mod words;
 
 use crate::bench::Bench;

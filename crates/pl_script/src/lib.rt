@@ -18,7 +18,5 @@ mod lines;
 mod names;
 mod numbers;
 mod script;
-#[cfg(test)]
-mod tests;
 mod verb;
 mod words;

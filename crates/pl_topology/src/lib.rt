@@ -22,7 +22,5 @@ mod key;
 mod link_tables;
 mod reading;
 mod switch_tables;
-#[cfg(test)]
-mod tests;
 mod used_ports;
 mod values;

@@ -259,7 +259,7 @@ the_ip_of_the_newest_address :
     (manager_hears at_its_second_place (the_switch 2) (tell.Learned its_second the_host (Some its_ip))).view.learnt
     ≡ record {
       addresses = record { switch = the_switch 2; pmac = its_second; amac = the_host; ip = Some its_ip }
-        ∷ record { switch = the_switch 3; pmac = its_first; amac = the_host; ip = Some its_ip } ∷ [];
+          ∷ record { switch = the_switch 3; pmac = its_first; amac = the_host; ip = Some its_ip } ∷ [];
       owners = (its_ip, its_second) ∷ [];
     }
 unfolding manager_hears

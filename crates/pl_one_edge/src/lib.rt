@@ -4,7 +4,7 @@
 
 pub use asked_laws::hosts_do_what_is_asked;
 pub use laws::one_lossy_switch;
-pub use player::{PlayError, MachineState, play, record_count};
+pub use player::{MachineState, PlayError, play, record_count};
 pub use savable_laws::every_entry_can_be_saved;
 
 mod asked_laws;

@@ -6,9 +6,9 @@ pub use error::PlayError;
 use pl_inputs::Capture;
 use pl_script::ScriptLine;
 use pl_wiring::Wiring;
-pub use state::MachineState;
 pub use records::record_count;
 use setting::Setting;
+pub use state::MachineState;
 use std::alloc::Global;
 
 mod arrives;
@@ -18,11 +18,11 @@ mod directory;
 mod error;
 mod frames;
 mod lines;
-mod state;
 mod queue;
 mod queues;
 mod records;
 mod setting;
+mod state;
 
 /// Plays a script over the hosts' captures, which stand in the order of the hosts.
 #[tactic(auto, unfolding(crate::specs::Machine::play))]

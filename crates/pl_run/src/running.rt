@@ -9,7 +9,8 @@ ghost use Rattle.pl_journal.specs.Savable.{IsSavable};
 use crate::running::texts::texts_of;
 use pl_inputs::{Files, Inputs, Status, load_inputs};
 use pl_one_edge::{
-    PlayError, MachineState, every_entry_can_be_saved, hosts_do_what_is_asked, one_lossy_switch, play,
+    MachineState, PlayError, every_entry_can_be_saved, hosts_do_what_is_asked, one_lossy_switch,
+    play,
 };
 use pl_output::save_all;
 use pl_shelf::Shelf;

@@ -1,5 +1,5 @@
-use pl_journal::Cause;
 use pl_frame::Ip4;
+use pl_journal::Cause;
 use pl_pmac::Pmac;
 use pl_wiring::{HostNo, SwitchNo};
 

@@ -5,8 +5,8 @@ ghost use Rattle.pl_one_edge.specs.Machine.{arrive_queue, arrive_all, host_at, s
 ghost use Rattle.pl_inputs.specs.Numbered.{number_of};
 ghost use Rattle.pl_one_edge.specs.MachineStates.{state_of};
 
-use crate::player::state::MachineState;
 use crate::player::setting::Setting;
+use crate::player::state::MachineState;
 use pl_frame::Memory;
 use pl_wiring::{Host, HostNo};
 

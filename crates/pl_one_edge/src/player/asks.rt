@@ -11,9 +11,9 @@ ghost use Rattle.pl_one_edge.specs.MachineStates.{state_of};
 use crate::player::directory::look_up;
 use crate::player::error::StepError;
 use crate::player::frames::readdress;
-use crate::player::state::{MachineState, address_of};
 use crate::player::records::{RecordedFrame, record_at, record_count};
 use crate::player::setting::Setting;
+use crate::player::state::{MachineState, address_of};
 use pl_frame::{Frame, FrameError, FrameView, Mac, TYPE_ARP, TYPE_CONTROL, view};
 use pl_inputs::StepReason;
 use pl_journal::Skip;
@@ -119,7 +119,12 @@ impl Setting<'_> {
     }
 
     /// The next record of a host is asked for.
-    pub fn ask(&self, played: &mut MachineState, number: HostNo, host: &Host) -> Result<(), StepError>
+    pub fn ask(
+        &self,
+        played: &mut MachineState,
+        number: HostNo,
+        host: &Host,
+    ) -> Result<(), StepError>
         ensures { Comes result (state_of played.new) (asks self.now.wiring.now (records_of self.now.captures.now) number.0 host.now (state_of played.old)) }
     {
         let Some(frame) = record_at(self.captures, number, played.asked_of(number)) else {

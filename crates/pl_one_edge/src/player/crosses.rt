@@ -5,12 +5,12 @@ ghost use Rattle.pl_one_edge.specs.Carried.{IsCarried};
 ghost use Rattle.pl_one_edge.specs.MachineStates.{state_of};
 
 use crate::player::frames::rewrite;
-use pl_layouts::frames::packet_in;
-use crate::player::state::{MachineState, address_of};
 use crate::player::queue::Flight;
 use crate::player::setting::Setting;
+use crate::player::state::{MachineState, address_of};
 use pl_arp::REQUEST;
 use pl_frame::{Mac, Memory};
+use pl_layouts::frames::packet_in;
 use pl_pmac::pack;
 use pl_wiring::{Host, HostNo};
 
@@ -26,7 +26,12 @@ impl Setting<'_> {
         Ok(())
     }
 
-    fn cross_queue(&self, played: &mut MachineState, number: HostNo, host: &Host) -> Result<(), Memory>
+    fn cross_queue(
+        &self,
+        played: &mut MachineState,
+        number: HostNo,
+        host: &Host,
+    ) -> Result<(), Memory>
         ensures { OnOk result (state_of played.new ≡ cross_queue self.now.wiring.now number.0 host.now (state_of played.old)) }
     {
         for flight in played.take_sent(self.alloc, number).into_flights() {

@@ -6,8 +6,8 @@ ghost use Rattle.pl_one_edge.specs.MachineStates.{state_of};
 
 use crate::player::error::{PlayError, StepError};
 use crate::player::frames::start_frame;
-use crate::player::state::MachineState;
 use crate::player::setting::Setting;
+use crate::player::state::MachineState;
 use pl_frame::{Frame, Memory};
 use pl_inputs::StepReason;
 use pl_script::{Command, Count, ScriptLine, Who};
@@ -15,7 +15,11 @@ use pl_wiring::{Host, HostNo};
 
 impl Setting<'_> {
     /// Does what the lines say, one after the other.
-    pub fn play_lines(&self, played: &mut MachineState, lines: &[ScriptLine]) -> Result<(), PlayError>
+    pub fn play_lines(
+        &self,
+        played: &mut MachineState,
+        lines: &[ScriptLine],
+    ) -> Result<(), PlayError>
         ensures { ComesAlong result (state_of played.new) (plays_from self.now.wiring.now (records_of self.now.captures.now) (state_of played.old) lines.now) }
     {
         for line in lines {

@@ -24,6 +24,4 @@ mod owners;
 mod playing;
 mod reading;
 mod sending;
-#[cfg(test)]
-mod tests;
 mod waiting;

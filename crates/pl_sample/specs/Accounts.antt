@@ -3,13 +3,14 @@ use Rattle.std.proofs.Common.{◌≡◌, ℕ, ◌+◌, Bool, true, false, if◌t
 use Rattle.std.proofs.Math.Nat.{le-add_right, le_trans, mod-lt}
 use Rattle.std.specs.List.{AllByRecursion}
 use Rattle.pl_core.specs.declared.acts.Act.{Act}
-use Rattle.pl_core.specs.declared.acts.Act.TheVariants.{Pass}
+use Rattle.pl_core.specs.declared.acts.Act.TheVariants.{Pass, Tell}
 use Rattle.pl_core.specs.Accounting.{AccountsForFrames, CanCome, IsAccounted, IsFit, IsShaped, IsWhole, is_said, speech}
 use Rattle.pl_core.specs.Accounting.Speech.{Passed, Silent, Waiting}
 use Rattle.pl_layouts.specs.Control.{is_control}
 use Rattle.pl_core.specs.SwitchInputs.{SwitchInput}
 use Rattle.pl_core.specs.SwitchInputs.SwitchInput.{Comes, Says, Tick}
 use Rattle.pl_core.specs.SwitchViews.{SwitchView}
+use Rattle.pl_sample.specs.Asking.{AsksForPods, asked}
 use Rattle.pl_sample.specs.Passing.{PassesNext, PassesTwo, passed_next, passed_two, port_after}
 
 -- what acts say of a frame that comes, where they are done for a data frame alone
@@ -65,3 +66,12 @@ passes_next_accounts old input new acts shaped coming ruled =
 pub passes_two_accounts : AccountsForFrames PassesTwo
 passes_two_accounts old input new acts shaped coming ruled =
     by_step old new input (passed_two old input) acts ruled.0 ruled.1 (two_accounted old input shaped coming)
+
+asked_accounted : (v : SwitchView) (input : SwitchInput) → IsShaped v → CanCome v input → IsAccounted v input v (asked v input)
+asked_accounted v Tick shaped coming = record { said = refl; fit = (tt, tt); id = refl; k = refl; shaped = shaped }
+asked_accounted v (Says says) shaped coming = next_accounted v (Says says) shaped coming
+asked_accounted v (Comes port frame) shaped coming = next_accounted v (Comes port frame) shaped coming
+
+pub asks_for_pods_accounts : AccountsForFrames AsksForPods
+asks_for_pods_accounts old input new acts shaped coming ruled =
+    by_step old new input (asked old input) acts ruled.0 ruled.1 (asked_accounted old input shaped coming)

@@ -4,10 +4,9 @@ ghost use Rattle.pl_sample.specs.Duties.{says_nothing_duly};
 ghost use Rattle.pl_sample.specs.Silence.{SaysNothing};
 
 use pl_core::{AvoidList, ManagerCore, ManagerOutbox, ToManager, TreePart};
-use pl_frame::Memory;
+use pl_frame::{Ip4, Mac, Memory, SwitchId};
 use pl_layouts::Place;
 use pl_lists::Rising;
-use pl_frame::{Ip4, Mac, SwitchId};
 use pl_pmac::Pmac;
 use std::alloc::Global;
 

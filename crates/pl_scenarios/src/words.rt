@@ -1,0 +1,53 @@
+use pl_frame::{Ip4, Memory};
+use pl_wiring::text::dotted;
+use std::alloc::{AllocError, Global};
+
+/// The first word of a text, and what stands behind it.
+pub(crate) fn first_word(text: &str) -> (&str, &str) {
+    match text.split_once(' ') {
+        Some(parts) => parts,
+        None => (text, ""),
+    }
+}
+
+/// Writes a line.
+pub(crate) fn say(out: &mut String, line: &str) -> Result<(), Memory> {
+    out.push_str(line)?;
+    out.push_str("\n")
+}
+
+/// Writes a frame behind a word.
+pub(crate) fn say_frame(
+    alloc: Global,
+    word: &str,
+    frame: &[u8],
+    out: &mut String,
+) -> Result<(), Memory> {
+    let digits = hex::encode(alloc, frame)?;
+    let line = format!(in alloc; "{word} {digits}")?;
+    say(out, line.as_str())
+}
+
+/// The bytes of a frame that is written so; none where it is written in no such way.
+pub(crate) fn frame(alloc: Global, text: &str) -> Result<Option<Vec<u8>>, Memory> {
+    let (digits, zeros) = match text.split_once('+') {
+        Some((digits, zeros)) => (digits, zeros.parse::<u32>().unwrap_or(0)),
+        None => (text, 0),
+    };
+    match hex::decode(alloc, digits) {
+        Ok(mut bytes) => {
+            for _ in 0..zeros {
+                bytes.push(0)?;
+            }
+            Ok(Some(bytes))
+        }
+        Err(hex::FromHexError::OutOfMemory) => Err(AllocError),
+        Err(_) => Ok(None),
+    }
+}
+
+/// The address of a group, as 239.1.2.3.
+pub(crate) fn group(text: &str) -> Option<Ip4> {
+    let number = dotted(text)?;
+    Some(Ip4(number))
+}

@@ -1,11 +1,16 @@
-use crate::fabric::Fabric;
+ghost use Rattle.std.specs.Prelude.{IfOk, IfSome, OnOk};
+ghost use Rattle.pl_scenarios.specs.Ready.{IsReady};
+
+use crate::fabric;
 use crate::gathered::Gathered;
 use crate::host::HostBench;
 use crate::script::ScriptBench;
 use crate::topology::WiringBench;
 use crate::words::say;
 use pl_frame::Memory;
+use pl_host::Host;
 use pl_sample::{NextPort, PodAsker, PodGiver, Silent, TwoPorts};
+use pl_schedule::World;
 use std::alloc::Global;
 
 /// The part that a scenario plays; none at first.
@@ -15,39 +20,76 @@ pub(crate) enum Bench {
     Wiring(WiringBench),
     Script(ScriptBench),
     Host(HostBench),
-    Next(Fabric<NextPort, Silent>),
-    Two(Fabric<TwoPorts, Silent>),
-    Asking(Fabric<PodAsker, PodGiver>),
+    Next(World<NextPort, Silent, Host>),
+    Two(World<TwoPorts, Silent, Host>),
+    Asking(World<PodAsker, PodGiver, Host>),
 }
 
 impl Bench {
-    pub(crate) fn new(alloc: Global) -> Bench {
+    pub(crate) fn new(alloc: Global) -> Bench
+        ensures { IsReady result }
+    {
         Bench::Gathering(Gathered::new(alloc))
     }
 
     /// Plays a line.
-    pub(crate) fn play(self, alloc: Global, line: &str, out: &mut String) -> Result<Bench, Memory> {
+    pub(crate) fn play(&mut self, alloc: Global, line: &str, out: &mut String) -> Result<(), Memory>
+        requires { IsReady self.old }
+        ensures { OnOk result (IsReady self.new) }
+    {
         if line.starts_with('#') || line.is_empty() {
-            say(out, line)?;
-            return Ok(self);
+            return say(out, line);
         }
         if line == "new" {
-            return Ok(Bench::new(alloc));
+            *self = Bench::new(alloc);
+            return Ok(());
         }
+        match self.play_part(alloc, line, out)? {
+            None => Ok(()),
+            Some(next) => {
+                *self = next;
+                Ok(())
+            }
+        }
+    }
+
+    // Plays a line of the part that is there, or answers the one that begins.
+    fn play_part(
+        &mut self,
+        alloc: Global,
+        line: &str,
+        out: &mut String,
+    ) -> Result<Option<Bench>, Memory>
+        requires { IsReady self.old }
+        ensures ready { OnOk result (IsReady self.new) }
+        ensures next { IfOk result (λ next. IfSome next IsReady) }
+    {
         match self {
             Bench::Gathering(gathered) => gathered.play(alloc, line, out),
-            Bench::Wiring(mut wiring) => {
+            Bench::Wiring(wiring) => {
                 wiring.play(alloc, line, out)?;
-                Ok(Bench::Wiring(wiring))
-            }
-            Bench::Script(mut script) => {
+                Ok(None)
+            },
+            Bench::Script(script) => {
                 script.play(alloc, line, out)?;
-                Ok(Bench::Script(script))
-            }
-            Bench::Host(host) => Ok(Bench::Host(host.play(alloc, line, out)?)),
-            Bench::Next(fabric) => Ok(Bench::Next(fabric.play(alloc, line, out)?)),
-            Bench::Two(fabric) => Ok(Bench::Two(fabric.play(alloc, line, out)?)),
-            Bench::Asking(fabric) => Ok(Bench::Asking(fabric.play(alloc, line, out)?)),
+                Ok(None)
+            },
+            Bench::Host(host) => {
+                host.play(alloc, line, out)?;
+                Ok(None)
+            },
+            Bench::Next(world) => {
+                fabric::play(world, alloc, line, out)?;
+                Ok(None)
+            },
+            Bench::Two(world) => {
+                fabric::play(world, alloc, line, out)?;
+                Ok(None)
+            },
+            Bench::Asking(world) => {
+                fabric::play(world, alloc, line, out)?;
+                Ok(None)
+            },
         }
     }
 }

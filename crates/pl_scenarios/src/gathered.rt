@@ -1,7 +1,7 @@
-ghost use Rattle.std.specs.Prelude.{◌≤◌, IfSome};
+ghost use Rattle.std.specs.Prelude.{◌≤◌, IfOk, IfSome};
+ghost use Rattle.pl_scenarios.specs.Ready.{IsReady};
 
 use crate::bench::Bench;
-use crate::fabric::Fabric;
 use crate::host::HostBench;
 use crate::words::{first_word, say};
 use crate::{script, topology};
@@ -9,6 +9,8 @@ use pl_arp::Me;
 use pl_core::HostTable;
 use pl_frame::Memory;
 use pl_lists::Items;
+use pl_schedule::World;
+use pl_wiring::Wiring;
 use pl_wiring::text::{ip, mac};
 use pl_world::Limits;
 use std::alloc::Global;
@@ -33,28 +35,31 @@ impl Gathered {
         }
     }
 
+    /// Plays a line, and answers the part that begins by it.
     pub(crate) fn play(
-        mut self,
+        &mut self,
         alloc: Global,
         line: &str,
         out: &mut String,
-    ) -> Result<Bench, Memory> {
+    ) -> Result<Option<Bench>, Memory>
+        ensures { IfOk result (λ next. IfSome next IsReady) }
+    {
         if self.in_topology {
             self.read_topology(line)?;
-            return Ok(Bench::Gathering(self));
+            return Ok(None);
         }
         let (verb, rest) = first_word(line);
         match verb {
             "topology" => {
                 self.in_topology = true;
-                Ok(Bench::Gathering(self))
+                Ok(None)
             }
             "known" => self.know(rest, out),
             "host" => self.host(alloc, rest, out),
             "world" => self.world(alloc, rest, out),
             "wiring" => self.wiring(alloc, rest, out),
             "script" => self.script(alloc, out),
-            _ => self.refuse(out),
+            _ => refuse(out),
         }
     }
 
@@ -67,63 +72,100 @@ impl Gathered {
         say(&mut self.topology, line)
     }
 
-    fn refuse(self, out: &mut String) -> Result<Bench, Memory> {
-        say(out, "not understood")?;
-        Ok(Bench::Gathering(self))
-    }
-
-    fn know(mut self, rest: &str, out: &mut String) -> Result<Bench, Memory> {
-        let Some(me) = me(rest) else {
-            return self.refuse(out);
-        };
-        self.known.push(me)?;
-        Ok(Bench::Gathering(self))
-    }
-
-    fn host(self, alloc: Global, rest: &str, out: &mut String) -> Result<Bench, Memory> {
+    // MAC IP
+    fn know(&mut self, rest: &str, out: &mut String) -> Result<Option<Bench>, Memory>
+        ensures { IfOk result (λ next. IfSome next IsReady) }
+    {
         match me(rest) {
-            Some(me) => Ok(Bench::Host(HostBench::boot(alloc, me, &self.known)?)),
-            None => self.refuse(out),
+            Some(me) => {
+                self.known.push(me)?;
+                Ok(None)
+            }
+            None => refuse(out),
         }
     }
 
-    fn world(self, alloc: Global, rest: &str, out: &mut String) -> Result<Bench, Memory> {
+    // MAC IP
+    fn host(&self, alloc: Global, rest: &str, out: &mut String) -> Result<Option<Bench>, Memory>
+        ensures { IfOk result (λ next. IfSome next IsReady) }
+    {
+        match me(rest) {
+            Some(me) => Ok(Some(Bench::Host(HostBench::boot(alloc, me, &self.known)?))),
+            None => refuse(out),
+        }
+    }
+
+    // SWITCHES STEPS ENTRIES BYTES
+    fn world(&self, alloc: Global, rest: &str, out: &mut String) -> Result<Option<Bench>, Memory>
+        ensures { IfOk result (λ next. IfSome next IsReady) }
+    {
         let (switches, rest) = first_word(rest);
-        let Some(limits) = limits(rest) else {
-            return self.refuse(out);
-        };
-        let wiring = match pl_topology::read(alloc, self.topology.as_bytes()) {
-            Ok(wiring) => wiring,
-            Err(_) => return self.refuse(out),
-        };
-        match switches {
-            "next-port" => Ok(Bench::Next(Fabric::boot(alloc, wiring, limits)?)),
-            "two-ports" => Ok(Bench::Two(Fabric::boot(alloc, wiring, limits)?)),
-            "pod-asker" => Ok(Bench::Asking(Fabric::boot(alloc, wiring, limits)?)),
-            _ => refuse(alloc, out),
+        match limits(rest) {
+            Some(limits) => boot(alloc, switches, self.topology.as_bytes(), limits, out),
+            None => refuse(out),
         }
     }
 
     // BYTES: the topology and these bytes behind it.
-    fn wiring(self, alloc: Global, rest: &str, out: &mut String) -> Result<Bench, Memory> {
+    fn wiring(&self, alloc: Global, rest: &str, out: &mut String) -> Result<Option<Bench>, Memory>
+        ensures { IfOk result (λ next. IfSome next IsReady) }
+    {
         match topology::begin(alloc, self.topology.as_str(), rest, out)? {
-            Some(wiring) => Ok(Bench::Wiring(wiring)),
-            None => Ok(Bench::Gathering(self)),
+            Some(wiring) => Ok(Some(Bench::Wiring(wiring))),
+            None => Ok(None),
         }
     }
 
-    fn script(self, alloc: Global, out: &mut String) -> Result<Bench, Memory> {
+    fn script(&self, alloc: Global, out: &mut String) -> Result<Option<Bench>, Memory>
+        ensures { IfOk result (λ next. IfSome next IsReady) }
+    {
         match script::begin(alloc, self.topology.as_str(), out)? {
-            Some(script) => Ok(Bench::Script(script)),
-            None => Ok(Bench::Gathering(self)),
+            Some(script) => Ok(Some(Bench::Script(script))),
+            None => Ok(None),
         }
     }
 }
 
-// The wiring is gone by now, so the scenario begins anew.
-fn refuse(alloc: Global, out: &mut String) -> Result<Bench, Memory> {
+fn boot(
+    alloc: Global,
+    switches: &str,
+    topology: &[u8],
+    limits: Limits,
+    out: &mut String,
+) -> Result<Option<Bench>, Memory>
+    requires { limits.steps ≤ 4000000000 }
+    ensures { IfOk result (λ next. IfSome next IsReady) }
+{
+    match pl_topology::read(alloc, topology) {
+        Ok(wiring) => boot_world(alloc, switches, wiring, limits, out),
+        Err(_) => refuse(out),
+    }
+}
+
+fn boot_world(
+    alloc: Global,
+    switches: &str,
+    wiring: Wiring,
+    limits: Limits,
+    out: &mut String,
+) -> Result<Option<Bench>, Memory>
+    requires { limits.steps ≤ 4000000000 }
+    ensures { IfOk result (λ next. IfSome next IsReady) }
+{
+    match switches {
+        "next-port" => Ok(Some(Bench::Next(World::boot(alloc, wiring, limits)?))),
+        "two-ports" => Ok(Some(Bench::Two(World::boot(alloc, wiring, limits)?))),
+        "pod-asker" => Ok(Some(Bench::Asking(World::boot(alloc, wiring, limits)?))),
+        _ => refuse(out),
+    }
+}
+
+// No part begins.
+fn refuse(out: &mut String) -> Result<Option<Bench>, Memory>
+    ensures { IfOk result (λ next. IfSome next IsReady) }
+{
     say(out, "not understood")?;
-    Ok(Bench::new(alloc))
+    Ok(None)
 }
 
 // A hardware address and an IPv4 address.

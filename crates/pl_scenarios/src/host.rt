@@ -24,16 +24,15 @@ impl HostBench {
 
     /// Plays a line: each frame that the host sends is printed, and then its answer.
     pub(crate) fn play(
-        mut self,
+        &mut self,
         alloc: Global,
         line: &str,
         out: &mut String,
-    ) -> Result<HostBench, Memory> {
+    ) -> Result<(), Memory> {
         let mut answer = String::new(alloc);
         self.answer(alloc, line, &mut answer)?;
         self.tell_sent(alloc, out)?;
-        out.push_str(&answer)?;
-        Ok(self)
+        out.push_str(&answer)
     }
 
     fn answer(&mut self, alloc: Global, line: &str, answer: &mut String) -> Result<(), Memory> {

@@ -1,4 +1,4 @@
-ghost use Rattle.std.specs.Prelude.{IfSome, OnOk};
+ghost use Rattle.std.specs.Prelude.{◌≤◌, IfSome, OnOk};
 ghost use Rattle.pl_world.specs.Flying.{IsCounted};
 ghost use Rattle.pl_world.specs.Hearing.{IsWithinHearing};
 ghost use Rattle.pl_world.specs.Runs.{IsMark};
@@ -6,18 +6,48 @@ ghost use Rattle.pl_world.specs.Runs.{IsMark};
 use crate::entries::tell_entries;
 use crate::event::event;
 use crate::looks::look;
-use crate::words::{first_word, say};
+use crate::words::{first_word, is_remark, say};
 use pl_core::{ManagerCore, SwitchCore};
 use pl_frame::Memory;
 use pl_host::Host;
 use pl_journal::Entry;
 use pl_schedule::World;
-use pl_world::{Event, StepError};
+use pl_wiring::Wiring;
+use pl_world::{Event, Limits, StepError};
 use std::alloc::{AllocError, Global};
 
-/// Plays a line in a world: each entry of the journal that it brings about is printed, and then what it
-/// answers.
-pub(crate) fn play<S: SwitchCore, M: ManagerCore>(
+/// Boots a world of these cores, and plays its lines.
+pub(crate) fn play_world<S: SwitchCore, M: ManagerCore>(
+    alloc: Global,
+    wiring: Wiring,
+    limits: Limits,
+    lines: &[&str],
+    out: &mut String,
+) -> Result<bool, Memory>
+    requires { limits.steps ≤ 4000000000 }
+{
+    let mut world: World<S, M, Host> = World::boot(alloc, wiring, limits)?;
+    play_all(&mut world, alloc, lines, out)
+}
+
+fn play_all<S: SwitchCore, M: ManagerCore>(
+    world: &mut World<S, M, Host>,
+    alloc: Global,
+    lines: &[&str],
+    out: &mut String,
+) -> Result<bool, Memory>
+    requires counted { IsCounted world.old }
+    requires hearing { IsWithinHearing world.old }
+{
+    for line in lines {
+        play(world, alloc, line, out)?;
+    }
+    Ok(true)
+}
+
+// Plays a line in a world: each entry of the journal that it brings about is printed, and then what it
+// answers.
+fn play<S: SwitchCore, M: ManagerCore>(
     world: &mut World<S, M, Host>,
     alloc: Global,
     line: &str,
@@ -28,6 +58,9 @@ pub(crate) fn play<S: SwitchCore, M: ManagerCore>(
     ensures counted { OnOk result (IsCounted world.new) }
     ensures hearing { OnOk result (IsWithinHearing world.new) }
 {
+    if is_remark(line) {
+        return say(out, line);
+    }
     let told = world.journal().len();
     let mut said = String::new(alloc);
     answer(world, alloc, line, &mut said)?;

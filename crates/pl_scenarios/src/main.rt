@@ -5,15 +5,10 @@
 //! topology and then `host MAC IP`, or the lines of a topology between `topology` and `end` and then
 //! `world SWITCHES STEPS ENTRIES BYTES`, `wiring` or `script`. What can be said to a host stands in
 //! `host.rt`, to a world in `fabric.rt`, `event.rt` and `looks.rt`, to a wiring in `topology.rt`, to a
-//! script in `script.rt`. A frame is written in hexadecimal, and `+N` behind it stands
-//! for N more bytes of zero. A line that begins with `#` is printed as it is, and with `new` another part
-//! begins.
+//! script in `script.rt`. A frame is written in hexadecimal, and `+N` behind it stands for N more bytes of
+//! zero. A line that begins with `#` is printed as it is, and with `new` another scenario begins.
 #![tactic(auto)]
 
-ghost use Rattle.std.specs.Prelude.{OnOk};
-ghost use Rattle.pl_scenarios.specs.Ready.{IsReady};
-
-mod bench;
 mod entries;
 mod event;
 mod fabric;
@@ -24,28 +19,26 @@ mod script;
 mod topology;
 mod words;
 
-use crate::bench::Bench;
+use crate::gathered::play_scenario;
+use pl_frame::Memory;
+use std::alloc::Global;
 use std::io;
 
 fn main(rt: HostRuntime) -> io::Result<()> {
-    let mut bench = Bench::new(rt.alloc());
-    play(&rt, &mut bench)
+    let mut input = String::new(rt.alloc());
+    for line in rt.lines(rt.alloc()) {
+        input.push_str(line?.as_str())?;
+        input.push_str("\n")?;
+    }
+    let mut out = String::new(rt.alloc());
+    play(rt.alloc(), input.as_str(), &mut out)?;
+    print!(rt; "{out}")
 }
 
-fn play(rt: &HostRuntime, bench: &mut Bench) -> io::Result<()>
-    requires { IsReady bench.old }
-{
-    for line in rt.lines(rt.alloc()) {
-        play_line(rt, bench, line?.as_str())?;
+fn play(alloc: Global, input: &str, out: &mut String) -> Result<(), Memory> {
+    let lines: Vec<&str> = input.lines().collect(alloc)?;
+    for scenario in lines.as_slice().split(|line| *line == "new") {
+        play_scenario(alloc, scenario, out)?;
     }
     Ok(())
-}
-
-fn play_line(rt: &HostRuntime, bench: &mut Bench, line: &str) -> io::Result<()>
-    requires { IsReady bench.old }
-    ensures { OnOk result (IsReady bench.new) }
-{
-    let mut out = String::new(rt.alloc());
-    bench.play(rt.alloc(), line, &mut out)?;
-    print!(rt; "{out}")
 }

@@ -39,8 +39,8 @@ fn play_all<S: SwitchCore, M: ManagerCore>(
     requires counted { IsCounted world.old }
     requires hearing { IsWithinHearing world.old }
 {
-    for line in lines {
-        play(world, alloc, line, out)?;
+    for at in 0..lines.len() {
+        play(world, alloc, lines[at], out)?;
     }
     Ok(true)
 }

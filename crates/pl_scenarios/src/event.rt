@@ -10,18 +10,54 @@ pub(crate) fn event(alloc: Global, wiring: &Wiring, line: &str) -> Result<Option
     match verb {
         "play" => play(alloc, wiring, false, rest),
         "raw" => play(alloc, wiring, true, rest),
-        "start" => Ok(host(wiring, rest).map(|h| Event::Start(h))),
-        "retry" => Ok(host(wiring, rest).map(|h| Event::Retry(h))),
-        "join" => Ok(join(wiring, rest)),
-        "leave" => Ok(leave(wiring, rest)),
-        "move" => Ok(move_host(wiring, rest)),
-        "tick" => Ok(switch(wiring, rest).map(|s| Event::Tick(s))),
-        "fail" => Ok(fail(wiring, rest)),
-        "repair" => Ok(repair(wiring, rest)),
-        "lose" => Ok(lose(wiring, rest)),
-        "deliver" => Ok(queue(wiring, rest).map(|name| Event::Deliver(name))),
-        _ => Ok(None),
+        _ => Ok(at_host(wiring, verb, rest)),
     }
+}
+
+fn at_host(wiring: &Wiring, verb: &str, rest: &str) -> Option<Event> {
+    match verb {
+        "start" => start(wiring, rest),
+        "retry" => retry(wiring, rest),
+        "join" => join(wiring, rest),
+        "leave" => leave(wiring, rest),
+        "move" => move_host(wiring, rest),
+        _ => in_fabric(wiring, verb, rest),
+    }
+}
+
+fn in_fabric(wiring: &Wiring, verb: &str, rest: &str) -> Option<Event> {
+    match verb {
+        "tick" => tick(wiring, rest),
+        "fail" => fail(wiring, rest),
+        "repair" => repair(wiring, rest),
+        "lose" => lose(wiring, rest),
+        "deliver" => deliver(wiring, rest),
+        _ => None,
+    }
+}
+
+// HOST
+fn start(wiring: &Wiring, rest: &str) -> Option<Event> {
+    let host = host(wiring, rest)?;
+    Some(Event::Start(host))
+}
+
+// HOST
+fn retry(wiring: &Wiring, rest: &str) -> Option<Event> {
+    let host = host(wiring, rest)?;
+    Some(Event::Retry(host))
+}
+
+// SWITCH
+fn tick(wiring: &Wiring, rest: &str) -> Option<Event> {
+    let s = switch(wiring, rest)?;
+    Some(Event::Tick(s))
+}
+
+// QUEUE
+fn deliver(wiring: &Wiring, rest: &str) -> Option<Event> {
+    let name = queue(wiring, rest)?;
+    Some(Event::Deliver(name))
 }
 
 // HOST ORIGINAL FRAME

@@ -1,14 +1,16 @@
 ghost use Rattle.std.specs.Prelude.{◌≤◌, IfSome};
 
-use crate::bench::Bench;
-use crate::fabric::Fabric;
-use crate::host::HostBench;
-use crate::words::{first_word, say};
-use crate::{script, topology};
+use crate::fabric::play_world;
+use crate::host::play_host;
+use crate::script::play_script;
+use crate::topology::play_wiring;
+use crate::words::{first_word, is_remark, say};
 use pl_arp::Me;
 use pl_core::HostTable;
 use pl_frame::Memory;
 use pl_lists::Items;
+use pl_sample::{NextPort, PodAsker, PodGiver, Silent, TwoPorts};
+use pl_wiring::Wiring;
 use pl_wiring::text::{ip, mac};
 use pl_world::Limits;
 use std::alloc::Global;
@@ -16,16 +18,28 @@ use std::alloc::Global;
 // So many steps a world makes at most.
 const MOST_STEPS: u64 = 4_000_000_000;
 
+/// Plays a scenario: its first lines say what a part needs, and one of them begins the part, which the
+/// others are for.
+pub(crate) fn play_scenario(alloc: Global, lines: &[&str], out: &mut String) -> Result<(), Memory> {
+    let mut gathered = Gathered::new(alloc);
+    for at in 0..lines.len() {
+        if gathered.play(alloc, lines[at], &lines[at + 1..], out)? {
+            return Ok(());
+        }
+    }
+    Ok(())
+}
+
 /// What the first lines of a scenario say: the hosts that a host knows, or a topology.
 #[derive(Drop)]
-pub(crate) struct Gathered {
+struct Gathered {
     known: HostTable,
     topology: String,
     in_topology: bool,
 }
 
 impl Gathered {
-    pub(crate) fn new(alloc: Global) -> Gathered {
+    fn new(alloc: Global) -> Gathered {
         Gathered {
             known: Items::new(alloc),
             topology: String::new(alloc),
@@ -33,28 +47,30 @@ impl Gathered {
         }
     }
 
-    pub(crate) fn play(
-        mut self,
+    // Plays a line. Where a part begins by it, that plays the rest, and the answer is true.
+    fn play(
+        &mut self,
         alloc: Global,
         line: &str,
+        rest: &[&str],
         out: &mut String,
-    ) -> Result<Bench, Memory> {
+    ) -> Result<bool, Memory> {
+        if is_remark(line) {
+            say(out, line)?;
+            return Ok(false);
+        }
         if self.in_topology {
             self.read_topology(line)?;
-            return Ok(Bench::Gathering(self));
+            return Ok(false);
         }
-        let (verb, rest) = first_word(line);
+        let (verb, words) = first_word(line);
         match verb {
             "topology" => {
                 self.in_topology = true;
-                Ok(Bench::Gathering(self))
+                Ok(false)
             }
-            "known" => self.know(rest, out),
-            "host" => self.host(alloc, rest, out),
-            "world" => self.world(alloc, rest, out),
-            "wiring" => self.wiring(alloc, rest, out),
-            "script" => self.script(alloc, out),
-            _ => self.refuse(out),
+            "known" => self.know(words, out),
+            _ => self.begin(alloc, verb, words, rest, out),
         }
     }
 
@@ -67,63 +83,105 @@ impl Gathered {
         say(&mut self.topology, line)
     }
 
-    fn refuse(self, out: &mut String) -> Result<Bench, Memory> {
-        say(out, "not understood")?;
-        Ok(Bench::Gathering(self))
-    }
-
-    fn know(mut self, rest: &str, out: &mut String) -> Result<Bench, Memory> {
-        let Some(me) = me(rest) else {
-            return self.refuse(out);
-        };
-        self.known.push(me)?;
-        Ok(Bench::Gathering(self))
-    }
-
-    fn host(self, alloc: Global, rest: &str, out: &mut String) -> Result<Bench, Memory> {
-        match me(rest) {
-            Some(me) => Ok(Bench::Host(HostBench::boot(alloc, me, &self.known)?)),
-            None => self.refuse(out),
+    // MAC IP
+    fn know(&mut self, words: &str, out: &mut String) -> Result<bool, Memory> {
+        match me(words) {
+            Some(me) => {
+                self.known.push(me)?;
+                Ok(false)
+            }
+            None => refuse(out),
         }
     }
 
-    fn world(self, alloc: Global, rest: &str, out: &mut String) -> Result<Bench, Memory> {
-        let (switches, rest) = first_word(rest);
-        let Some(limits) = limits(rest) else {
-            return self.refuse(out);
-        };
-        let wiring = match pl_topology::read(alloc, self.topology.as_bytes()) {
-            Ok(wiring) => wiring,
-            Err(_) => return self.refuse(out),
-        };
-        match switches {
-            "next-port" => Ok(Bench::Next(Fabric::boot(alloc, wiring, limits)?)),
-            "two-ports" => Ok(Bench::Two(Fabric::boot(alloc, wiring, limits)?)),
-            "pod-asker" => Ok(Bench::Asking(Fabric::boot(alloc, wiring, limits)?)),
-            _ => refuse(alloc, out),
+    // A part begins, unless something is missing.
+    fn begin(
+        &self,
+        alloc: Global,
+        verb: &str,
+        words: &str,
+        rest: &[&str],
+        out: &mut String,
+    ) -> Result<bool, Memory> {
+        match verb {
+            "host" => self.host(alloc, words, rest, out),
+            "world" => self.world(alloc, words, rest, out),
+            "wiring" => play_wiring(alloc, self.topology.as_str(), words, rest, out),
+            "script" => play_script(alloc, self.topology.as_str(), rest, out),
+            _ => refuse(out),
         }
     }
 
-    // BYTES: the topology and these bytes behind it.
-    fn wiring(self, alloc: Global, rest: &str, out: &mut String) -> Result<Bench, Memory> {
-        match topology::begin(alloc, self.topology.as_str(), rest, out)? {
-            Some(wiring) => Ok(Bench::Wiring(wiring)),
-            None => Ok(Bench::Gathering(self)),
+    // MAC IP
+    fn host(
+        &self,
+        alloc: Global,
+        words: &str,
+        rest: &[&str],
+        out: &mut String,
+    ) -> Result<bool, Memory> {
+        match me(words) {
+            Some(me) => play_host(alloc, me, &self.known, rest, out),
+            None => refuse(out),
         }
     }
 
-    fn script(self, alloc: Global, out: &mut String) -> Result<Bench, Memory> {
-        match script::begin(alloc, self.topology.as_str(), out)? {
-            Some(script) => Ok(Bench::Script(script)),
-            None => Ok(Bench::Gathering(self)),
+    // SWITCHES STEPS ENTRIES BYTES
+    fn world(
+        &self,
+        alloc: Global,
+        words: &str,
+        rest: &[&str],
+        out: &mut String,
+    ) -> Result<bool, Memory> {
+        let (switches, words) = first_word(words);
+        match limits(words) {
+            Some(limits) => {
+                read_world(alloc, switches, self.topology.as_bytes(), limits, rest, out)
+            }
+            None => refuse(out),
         }
     }
 }
 
-// The wiring is gone by now, so the scenario begins anew.
-fn refuse(alloc: Global, out: &mut String) -> Result<Bench, Memory> {
+fn read_world(
+    alloc: Global,
+    switches: &str,
+    topology: &[u8],
+    limits: Limits,
+    rest: &[&str],
+    out: &mut String,
+) -> Result<bool, Memory>
+    requires { limits.steps ≤ 4000000000 }
+{
+    match pl_topology::read(alloc, topology) {
+        Ok(wiring) => begin_world(alloc, switches, wiring, limits, rest, out),
+        Err(_) => refuse(out),
+    }
+}
+
+fn begin_world(
+    alloc: Global,
+    switches: &str,
+    wiring: Wiring,
+    limits: Limits,
+    rest: &[&str],
+    out: &mut String,
+) -> Result<bool, Memory>
+    requires { limits.steps ≤ 4000000000 }
+{
+    match switches {
+        "next-port" => play_world::<NextPort, Silent>(alloc, wiring, limits, rest, out),
+        "two-ports" => play_world::<TwoPorts, Silent>(alloc, wiring, limits, rest, out),
+        "pod-asker" => play_world::<PodAsker, PodGiver>(alloc, wiring, limits, rest, out),
+        _ => refuse(out),
+    }
+}
+
+// No part begins.
+fn refuse(out: &mut String) -> Result<bool, Memory> {
     say(out, "not understood")?;
-    Ok(Bench::new(alloc))
+    Ok(false)
 }
 
 // A hardware address and an IPv4 address.

@@ -1,4 +1,4 @@
-use crate::words::{first_word, frame, group, say, say_frame};
+use crate::words::{first_word, frame, group, is_remark, say, say_frame};
 use pl_arp::Me;
 use pl_core::{HostAct, HostCore, HostOutbox, HostTable, Reception};
 use pl_frame::Memory;
@@ -7,15 +7,30 @@ use pl_journal::Skip;
 use pl_lists::Queue;
 use std::alloc::Global;
 
+/// Plays the lines of a host.
+pub(crate) fn play_host(
+    alloc: Global,
+    me: Me,
+    known: &HostTable,
+    lines: &[&str],
+    out: &mut String,
+) -> Result<bool, Memory> {
+    let mut bench = HostBench::boot(alloc, me, known)?;
+    for line in lines {
+        bench.play(alloc, line, out)?;
+    }
+    Ok(true)
+}
+
 /// A host, and what it has sent.
 #[derive(Drop)]
-pub(crate) struct HostBench {
+struct HostBench {
     host: Host,
     sent: HostOutbox,
 }
 
 impl HostBench {
-    pub(crate) fn boot(alloc: Global, me: Me, known: &HostTable) -> Result<HostBench, Memory> {
+    fn boot(alloc: Global, me: Me, known: &HostTable) -> Result<HostBench, Memory> {
         Ok(HostBench {
             host: Host::boot(alloc, me, known)?,
             sent: Queue::new(alloc),
@@ -23,17 +38,14 @@ impl HostBench {
     }
 
     /// Plays a line: each frame that the host sends is printed, and then its answer.
-    pub(crate) fn play(
-        mut self,
-        alloc: Global,
-        line: &str,
-        out: &mut String,
-    ) -> Result<HostBench, Memory> {
+    fn play(&mut self, alloc: Global, line: &str, out: &mut String) -> Result<(), Memory> {
+        if is_remark(line) {
+            return say(out, line);
+        }
         let mut answer = String::new(alloc);
         self.answer(alloc, line, &mut answer)?;
         self.tell_sent(alloc, out)?;
-        out.push_str(&answer)?;
-        Ok(self)
+        out.push_str(&answer)
     }
 
     fn answer(&mut self, alloc: Global, line: &str, answer: &mut String) -> Result<(), Memory> {

@@ -4,32 +4,41 @@
 //! A scenario begins with what the part needs (`gathered.rt`): `known MAC IP` for each host of the
 //! topology and then `host MAC IP`, or the lines of a topology between `topology` and `end` and then
 //! `world SWITCHES STEPS ENTRIES BYTES`, `wiring` or `script`. What can be said to a host stands in
-//! `host.rt`, what can be said to a world in `fabric.rt` and `event.rt`, to a wiring in `topology.rt`, to a
-//! script in `script.rt`. A frame is written in hexadecimal, and `+N` behind it stands
-//! for N more bytes of zero. A line that begins with `#` is printed as it is, and with `new` another part
-//! begins.
+//! `host.rt`, to a world in `fabric.rt`, `event.rt` and `looks.rt`, to a wiring in `topology.rt`, to a
+//! script in `script.rt`. A frame is written in hexadecimal, and `+N` behind it stands for N more bytes of
+//! zero. A line that begins with `#` is printed as it is, and with `new` another scenario begins.
 #![tactic(auto)]
 
-mod bench;
+mod entries;
 mod event;
 mod fabric;
 mod gathered;
 mod host;
+mod looks;
 mod script;
 mod topology;
 mod words;
 
-use crate::bench::Bench;
+use crate::gathered::play_scenario;
+use pl_frame::Memory;
+use std::alloc::Global;
 use std::io;
 
 fn main(rt: HostRuntime) -> io::Result<()> {
-    let alloc = rt.alloc();
-    let mut bench = Bench::new(alloc);
-    for line in rt.lines(alloc) {
-        let line = line?;
-        let mut out = String::new(alloc);
-        bench = bench.play(alloc, line.as_str(), &mut out)?;
-        print!(rt; "{out}")?;
+    let mut input = String::new(rt.alloc());
+    for line in rt.lines(rt.alloc()) {
+        input.push_str(line?.as_str())?;
+        input.push_str("\n")?;
+    }
+    let mut out = String::new(rt.alloc());
+    play(rt.alloc(), input.as_str(), &mut out)?;
+    print!(rt; "{out}")
+}
+
+fn play(alloc: Global, input: &str, out: &mut String) -> Result<(), Memory> {
+    let lines: Vec<&str> = input.lines().collect(alloc)?;
+    for scenario in lines.as_slice().split(|line| *line == "new") {
+        play_scenario(alloc, scenario, out)?;
     }
     Ok(())
 }

@@ -1,5 +1,5 @@
 use crate::topology::wiring;
-use crate::words::{first_word, say};
+use crate::words::{first_word, is_remark, say};
 use pl_frame::Memory;
 use pl_script::{Script, ScriptError, ScriptLine, read};
 use pl_wiring::Wiring;
@@ -8,19 +8,31 @@ use std::alloc::{AllocError, Global};
 // Longer scripts are only counted.
 const MOST_TOLD: usize = 9;
 
+/// Reads a wiring, and plays the lines of a script for it; where there is none, false.
+pub(crate) fn play_script(
+    alloc: Global,
+    topology: &str,
+    lines: &[&str],
+    out: &mut String,
+) -> Result<bool, Memory> {
+    match begin(alloc, topology, out)? {
+        None => Ok(false),
+        Some(mut bench) => {
+            bench.play_all(alloc, lines, out)?;
+            Ok(true)
+        }
+    }
+}
+
 /// A wiring, and a script as far as it was written.
 #[derive(Drop)]
-pub(crate) struct ScriptBench {
+struct ScriptBench {
     wiring: Wiring,
     file: Vec<u8>,
 }
 
 /// Begins an empty script for a topology; prints why there is no wiring.
-pub(crate) fn begin(
-    alloc: Global,
-    topology: &str,
-    out: &mut String,
-) -> Result<Option<ScriptBench>, Memory> {
+fn begin(alloc: Global, topology: &str, out: &mut String) -> Result<Option<ScriptBench>, Memory> {
     match wiring(alloc, topology.as_bytes(), out)? {
         None => Ok(None),
         Some(wiring) => {
@@ -31,13 +43,18 @@ pub(crate) fn begin(
 }
 
 impl ScriptBench {
-    /// Plays a line, which writes on at the script or has it read.
-    pub(crate) fn play(
-        &mut self,
-        alloc: Global,
-        line: &str,
-        out: &mut String,
-    ) -> Result<(), Memory> {
+    fn play_all(&mut self, alloc: Global, lines: &[&str], out: &mut String) -> Result<(), Memory> {
+        for line in lines {
+            self.play(alloc, line, out)?;
+        }
+        Ok(())
+    }
+
+    // Plays a line, which writes on at the script or has it read.
+    fn play(&mut self, alloc: Global, line: &str, out: &mut String) -> Result<(), Memory> {
+        if is_remark(line) {
+            return say(out, line);
+        }
         let (verb, rest) = first_word(line);
         match verb {
             "write" => self.write(rest, 1),

@@ -2,22 +2,39 @@ ghost use Rattle.std.specs.Prelude.{◌<◌, IfOk, IfSome};
 ghost use Rattle.pl_wiring.specs.Labels.{edge_count, switch_count};
 ghost use Rattle.pl_wiring.specs.LiveLinks.{IsFor};
 
-use crate::words::{first_word, frame, say};
+use crate::words::{first_word, frame, is_remark, say};
 use pl_frame::{Memory, SwitchId};
 use pl_topology::TopologyError;
 use pl_wiring::{Host, HostNo, Label, LinkStates, Path, Peer, SwitchNo, Wiring};
 use std::alloc::Global;
 
+/// Reads a wiring, and plays its lines; where there is none, false.
+pub(crate) fn play_wiring(
+    alloc: Global,
+    topology: &str,
+    digits: &str,
+    lines: &[&str],
+    out: &mut String,
+) -> Result<bool, Memory> {
+    match begin(alloc, topology, digits, out)? {
+        None => Ok(false),
+        Some(mut bench) => {
+            bench.play_all(alloc, lines, out)?;
+            Ok(true)
+        }
+    }
+}
+
 /// A wiring that was read, and the pairs of switches whose link failed.
 #[derive(Drop)]
-pub(crate) struct WiringBench {
+struct WiringBench {
     wiring: Wiring,
     failed: Vec<(SwitchNo, SwitchNo)>,
 }
 
 /// Reads a topology file, with bytes in hexadecimal behind it: prints how large the wiring is, or why
 /// there is none.
-pub(crate) fn begin(
+fn begin(
     alloc: Global,
     topology: &str,
     digits: &str,
@@ -69,13 +86,18 @@ fn say_sizes(alloc: Global, wiring: &Wiring, out: &mut String) -> Result<(), Mem
 }
 
 impl WiringBench {
-    /// Plays a line: a question about the wiring, or a link that fails.
-    pub(crate) fn play(
-        &mut self,
-        alloc: Global,
-        line: &str,
-        out: &mut String,
-    ) -> Result<(), Memory> {
+    fn play_all(&mut self, alloc: Global, lines: &[&str], out: &mut String) -> Result<(), Memory> {
+        for line in lines {
+            self.play(alloc, line, out)?;
+        }
+        Ok(())
+    }
+
+    // Plays a line: a question about the wiring, or a link that fails.
+    fn play(&mut self, alloc: Global, line: &str, out: &mut String) -> Result<(), Memory> {
+        if is_remark(line) {
+            return say(out, line);
+        }
         let (verb, rest) = first_word(line);
         match verb {
             "fail" => self.fail(rest, out),

@@ -10,6 +10,11 @@ pub(crate) fn first_word(text: &str) -> (&str, &str) {
     }
 }
 
+/// Whether a line is printed as it is.
+pub(crate) fn is_remark(line: &str) -> bool {
+    line.starts_with('#') || line.is_empty()
+}
+
 /// Writes a line.
 pub(crate) fn say(out: &mut String, line: &str) -> Result<(), Memory> {
     out.push_str(line)?;

@@ -1,14 +1,10 @@
 -- Hexadecimal text, one byte more at a time.
-use Rattle.std.proofs.Common.{◌≡◌, ℕ, true, nat_lt, ◌+◌, ◌/◌, ◌%◌, ◌<◌, List, [], ◌∷◌, ◌++◌, length, take, get_or, slice_index, refl, ap, append_assoc}
-use Rattle.std.specs.Char.{encode_utf8}
+use Rattle.std.proofs.Common.{◌≡◌, ℕ, false, ◌+◌, ◌/◌, ◌%◌, ◌<◌, List, [], ◌∷◌, ◌++◌, length, take, get_or, slice_index, refl, sym, ap, ◌∙◌, arith}
+use Rattle.std.specs.Fmt.{digit_glyph}
 use Rattle.std.proofs.lemmas.List.{take_more}
-use Rattle.std.proofs.lemmas.Str.{encode_ascii}
+use Rattle.std.proofs.lemmas.List.FromFn.{get_or-map-range_with_len}
 use Rattle.hex.specs.Hex.{encode_lower, encode_with, lower_digits}
-use Rattle.std.proofs.lemmas.Str.Ascii.{IsAscii-nil, IsAscii-cons}
-use Rattle.std.proofs.lemmas.Bool.{and_parts}
-use Rattle.std.specs.List.{list_all}
-use Rattle.std.specs.Str.{IsAscii}
-use borrow.Author.Tests.{ltb-true}
+use Rattle.pl_frame.specs.Address.{hex_pair}
 
 encode_with-append : (t xs ys : List ℕ) → encode_with t (xs ++ ys) ≡ encode_with t xs ++ encode_with t ys
 unfolding encode_with
@@ -20,21 +16,18 @@ last_byte : (b : ℕ) → encode_lower (b ∷ []) ≡ slice_index lower_digits (
 unfolding encode_with
 last_byte b = refl
 
-ascii_by_test : (bs : List ℕ) → list_all (λ b. nat_lt b 128) bs ≡ true → IsAscii bs
-ascii_by_test [] h = IsAscii-nil
-ascii_by_test (b ∷ bs) h =
-    let parts = and_parts (nat_lt b 128) (list_all (λ c. nat_lt c 128) bs) h in
-    IsAscii-cons b bs (ltb-true b 128 parts.0) (ascii_by_test bs parts.1)
+-- a digit is the one that a number is printed with
+glyph_at : (n : ℕ) → n < 16 → slice_index lower_digits n ≡ digit_glyph false n
+glyph_at n less = get_or-map-range_with_len (digit_glyph false) 0 16 n n 0 less (omega arith)
 
--- a digit is one byte of text
-digit_text : (n : ℕ) → encode_utf8 (slice_index lower_digits n) ≡ slice_index lower_digits n ∷ []
-digit_text n = encode_ascii _ (ascii_by_test lower_digits refl n)
+pub pair_at : (b : ℕ) → b < 256 → hex_pair b ≡ encode_lower (b ∷ [])
+pair_at b small =
+    let high : b / 16 < 16 = omega arith in
+    let low : b % 16 < 16 = omega arith in
+    sym (last_byte b ∙ rw (glyph_at (b / 16) high, glyph_at (b % 16) low) refl)
 
 -- the text of the bytes so far, and the two digits of the next byte
-pub one_byte_more : (xs : List ℕ) (i high low : ℕ) → i < length xs → high ≡ slice_index lower_digits (get_or xs i 0 / 16)
-    → low ≡ slice_index lower_digits (get_or xs i 0 % 16)
-    → (encode_lower (take i xs) ++ encode_utf8 high) ++ encode_utf8 low ≡ encode_lower (take (i + 1) xs)
-one_byte_more xs i high low within is_high is_low =
-    let b = get_or xs i 0 in
-    rw (is_high, is_low, digit_text (b / 16), digit_text (b % 16), append_assoc)
-    (rw (take_more xs i 0 within, encode_with-append lower_digits (take i xs) (b ∷ []), last_byte b) refl)
+pub one_byte_more : (xs : List ℕ) (i : ℕ) → i < length xs
+    → encode_lower (take i xs) ++ encode_lower (get_or xs i 0 ∷ []) ≡ encode_lower (take (i + 1) xs)
+one_byte_more xs i within =
+    sym (ap encode_lower (take_more xs i 0 within) ∙ encode_with-append lower_digits (take i xs) (get_or xs i 0 ∷ []))

@@ -1,5 +1,5 @@
-ghost use Rattle.std.specs.Prelude.{◌≡◌, ◌<◌, Some, slice_index};
-ghost use Rattle.hex.specs.Hex.{encode_lower, lower_digits};
+ghost use Rattle.std.specs.Prelude.{[], ◌∷◌, Some};
+ghost use Rattle.hex.specs.Hex.{encode_lower};
 ghost use Rattle.pl_journal.specs.Text.{field_text, parted, text_after_blank, texts};
 
 use pl_frame::Mac;
@@ -37,18 +37,24 @@ impl fmt::Display for Hexadecimal<'_> {
 
     fn fmt<W: fmt::Write>(&self, f: &mut fmt::Formatter<W>) -> fmt::Result {
         for byte in self.0 {
-            f.write_char(digit(byte / 16))?;
-            f.write_char(digit(byte % 16))?;
+            let pair = HexPair(*byte);
+            write!(f, "{pair}")?;
         }
         Ok(())
     }
 }
 
-fn digit(n: u8) -> char
-    requires { n < 16 }
-    ensures { result ≡ slice_index lower_digits n }
-{
-    char::from(b"0123456789abcdef"[n as usize])
+// A byte as two hexadecimal digits.
+#[derive(Clone, Copy)]
+struct HexPair(u8);
+
+impl fmt::Display for HexPair {
+    ghost output = { λ pair. Some (encode_lower (pair.0 ∷ [])) };
+
+    fn fmt<W: fmt::Write>(&self, f: &mut fmt::Formatter<W>) -> fmt::Result {
+        let byte = self.0;
+        write!(f, "{byte:02x}")
+    }
 }
 
 impl fmt::Display for Field<'_> {

@@ -22,7 +22,7 @@ use Rattle.pl_wiring.proofs.LabelOrder.{label_of-number_of, number_of-below}
 use Rattle.pl_wiring.proofs.Choices.{some_if, then_some}
 use Rattle.pl_wiring.proofs.TextLemmas.{number_of-decimal}
 
-number_of-is : (text : List ℕ) (n : ℕ) → number_of_text text ≡ Some n → (text ≡ decimal n) × (n < 2 ^ 16)
+pub number_of-is : (text : List ℕ) (n : ℕ) → number_of_text text ≡ Some n → (text ≡ decimal n) × (n < 2 ^ 16)
 unfolding number_of_text
 number_of-is text n is =
     let v = digits_value 10 text in
@@ -56,21 +56,37 @@ no_point n k wide within =
 abbrev pub with_point : ℕ → ℕ → List ℕ
 with_point a b = decimal a ++ 46 ∷ decimal b
 
-first_point : (a b : ℕ) → a < 2 ^ 64 → position_or_len is_point (with_point a b) ≡ length (decimal a)
-first_point a b wide =
-    let long = length-append (decimal a) (46 ∷ decimal b) in
-    position_or_len_is is_point (with_point a b) (length (decimal a)) 0 (omega arith)
-    (λ k less. ap is_point (get_or_append_left (decimal a) (46 ∷ decimal b) 0 k less) ∙ no_point a k wide less)
-    (λ within. ap is_point (get_or-append_seam (decimal a) 46 (decimal b) 0))
+first_point : (a : ℕ) (rest : List ℕ) → a < 2 ^ 64 → position_or_len is_point (decimal a ++ 46 ∷ rest) ≡ length (decimal a)
+first_point a rest wide =
+    let long = length-append (decimal a) (46 ∷ rest) in
+    position_or_len_is is_point (decimal a ++ 46 ∷ rest) (length (decimal a)) 0 (omega arith)
+    (λ k less. ap is_point (get_or_append_left (decimal a) (46 ∷ rest) 0 k less) ∙ no_point a k wide less)
+    (λ within. ap is_point (get_or-append_seam (decimal a) 46 rest 0))
+
+-- a number stands before the first point, and what follows the point behind it
+pub before_point : (a : ℕ) (rest : List ℕ) → a < 2 ^ 64 → before_first is_point (decimal a ++ 46 ∷ rest) ≡ decimal a
+before_point a rest wide = ap (λ n. take n (decimal a ++ 46 ∷ rest)) (first_point a rest wide) ∙ take-append_seam (decimal a) (46 ∷ rest)
+
+pub behind_point : (a : ℕ) (rest : List ℕ) → a < 2 ^ 64 → after_first is_point (decimal a ++ 46 ∷ rest) ≡ rest
+behind_point a rest wide = ap (λ n. drop (n + 1) (decimal a ++ 46 ∷ rest)) (first_point a rest wide) ∙ drop-append-add (decimal a) (46 ∷ rest) 1
 
 -- two numbers with a point between them are read as these numbers
 numbers_of-written : (a b : ℕ) → a < 2 ^ 16 → b < 2 ^ 16 → numbers_of_text (with_point a b) ≡ Some (a, b)
 numbers_of-written a b small_a small_b =
     let wide : a < 2 ^ 64 = omega arith in
-    let place = first_point a b wide in
-    let before : before_first is_point (with_point a b) ≡ decimal a = ap (λ n. take n (with_point a b)) place ∙ take-append_seam (decimal a) (46 ∷ decimal b) in
-    let after : after_first is_point (with_point a b) ≡ decimal b = ap (λ n. drop (n + 1) (with_point a b)) place ∙ drop-append-add (decimal a) (46 ∷ decimal b) 1 in
+    let before = before_point a (decimal b) wide in
+    let after = behind_point a (decimal b) wide in
     rw (number_of-decimal a (before_first is_point (with_point a b)) small_a (sym before), number_of-decimal b (after_first is_point (with_point a b)) small_b (sym after)) refl
+
+-- a text with something behind its first point has that point
+pub parted_at_point : (text : List ℕ) → 0 < length (after_first is_point text) → text ≡ before_first is_point text ++ 46 ∷ after_first is_point text
+parted_at_point text some =
+    let within : position_or_len is_point text < length text = elim (cases_lt (position_or_len is_point text) (length text)) [
+      | inl less ↦ less
+      | inr past ↦ absurd (omega (arith, length-drop (position_or_len is_point text + 1) text))
+    ] in
+    let point : get_or text (position_or_len is_point text) 0 ≡ 46 = eqb-true _ 46 (passes_at_first is_point text 0 within) in
+    split_at_first is_point text 0 within ∙ rw point refl
 
 -- and what is read as two numbers is written so
 numbers_of-is : (text : List ℕ) (a b : ℕ) → numbers_of_text text ≡ Some (a, b) → (text ≡ with_point a b) × (a < 2 ^ 16) × (b < 2 ^ 16)
@@ -80,13 +96,7 @@ numbers_of-is text a b is =
     let (written_b, small_b) = number_of-is (after_first is_point text) b second in
     let wide : b < 2 ^ 64 = omega arith in
     let some : 0 < length (after_first is_point text) = rw written_b (decimal_nonempty b wide) in
-    let within : position_or_len is_point text < length text = elim (cases_lt (position_or_len is_point text) (length text)) [
-      | inl less ↦ less
-      | inr past ↦
-          absurd (omega (arith, length-drop (position_or_len is_point text + 1) text))
-    ] in
-    let point : get_or text (position_or_len is_point text) 0 ≡ 46 = eqb-true _ 46 (passes_at_first is_point text 0 within) in
-    (split_at_first is_point text 0 within ∙ rw (written_a, written_b, point) refl, small_a, small_b)
+    (parted_at_point text some ∙ rw (written_a, written_b) refl, small_a, small_b)
 
 -- a text of two numbers behind a letter
 text_of : (letter a b : ℕ) (text : List ℕ) → text ≡ letter ∷ with_point a b → a < 2 ^ 16 → b < 2 ^ 16 → label_of_text text ≡ label_from letter (a, b)

@@ -12,3 +12,4 @@ pub mod Choices
 pub mod LabelTexts
 pub mod HostAddresses
 pub mod Linked
+pub mod DottedNumbers

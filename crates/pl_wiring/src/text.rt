@@ -3,6 +3,7 @@ ghost use Rattle.std.specs.List.{list_all, before_first, after_first};
 ghost use Rattle.pl_wiring.specs.Texts.{number_of_text, is_point, numbers_of_text, byte_of_text, hex_at, mac_bytes, mac_of_text, ip_number, ip_of_text, is_name, is_name_byte, is_taken, is_capture, is_capture_byte};
 
 use pl_frame::{Ip4, Mac};
+use std::net::Ipv4Addr;
 
 /// A decimal number below 2^16 without leading zeros.
 pub fn number(text: &str) -> Option<u16>
@@ -98,14 +99,10 @@ pub fn mac(text: &str) -> Option<Mac>
 pub fn dotted(text: &str) -> Option<u32>
     ensures { result ≡ ip_number text.now }
 {
-    let (first, rest) = halves(text);
-    let (second, rest) = halves(rest);
-    let (third, fourth) = halves(rest);
-    let first = byte(first)?;
-    let second = byte(second)?;
-    let third = byte(third)?;
-    let fourth = byte(fourth)?;
-    Some(u32::from_be_bytes([first, second, third, fourth]))
+    match text.parse::<Ipv4Addr>() {
+        Ok(address) => Some(u32::from_be_bytes(address.octets())),
+        Err(_) => None,
+    }
 }
 
 /// The IPv4 address of one host: not 0.0.0.0, and its first number is below 224.

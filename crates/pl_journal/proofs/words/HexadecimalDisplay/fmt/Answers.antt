@@ -11,8 +11,6 @@ loop-byte-init g c = λ plain. record { wrote = writes_in_calls_nil _ _; plain =
 pub loop-byte-preserved : goal.loop-byte-preserved
 loop-byte-preserved g c = λ plain.
     let so_far = c.loop-byte.invariant plain in
-    let high = c.in_ok-write_char.ensures.writes so_far.plain (search rules) in
-    let low = c.in_ok-write_char-2.ensures.writes high.plain (search rules) in
     has_written_of_eq _ _ _ _ _
-    (one_byte_more c.args.self.now.0.now c.loop-byte.byte-index _ _ c.loop-byte-test.true c.digit.ensures c.digit-in-loop-byte.ensures)
-    (has_written_append _ _ _ _ _ _ (has_written_append _ _ _ _ _ _ so_far high) low)
+    (one_byte_more c.args.self.now.0.now c.loop-byte.byte-index c.loop-byte-test.true)
+    (has_written_append _ _ _ _ _ _ so_far (c.in_ok-write.ensures.writes so_far.plain (search rules)))

@@ -1,7 +1,7 @@
 ghost use Rattle.std.specs.Prelude.{IsTrue};
 ghost use Rattle.pl_journal.specs.Text.{IsNamed};
 
-use crate::words::say;
+use pl_scenario_words::say;
 use pl_core::{ManagerCore, SwitchCore};
 use pl_frame::Memory;
 use pl_host::Host;

@@ -1,4 +1,4 @@
-use crate::words::{first_word, frame, group};
+use pl_scenario_words::{first_word, frame, group};
 use pl_frame::{Frame, Memory};
 use pl_wiring::{HostNo, SwitchNo, Wiring};
 use pl_world::{Event, QueueName};

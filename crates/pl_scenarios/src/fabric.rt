@@ -6,7 +6,7 @@ ghost use Rattle.pl_world.specs.Runs.{IsMark};
 use crate::entries::tell_entries;
 use crate::event::event;
 use crate::looks::look;
-use crate::words::{first_word, is_remark, say};
+use pl_scenario_words::{first_word, is_remark, say};
 use pl_core::{ManagerCore, SwitchCore};
 use pl_frame::Memory;
 use pl_host::Host;

@@ -4,7 +4,7 @@ use crate::fabric::play_world;
 use crate::host::play_host;
 use crate::script::play_script;
 use crate::topology::play_wiring;
-use crate::words::{first_word, is_remark, say};
+use pl_scenario_words::{first_word, is_remark, say};
 use pl_arp::Me;
 use pl_core::HostTable;
 use pl_frame::Memory;

@@ -1,4 +1,4 @@
-use crate::words::{first_word, frame, group, is_remark, say, say_frame};
+use pl_scenario_words::{first_word, frame, group, is_remark, say, say_frame};
 use pl_arp::Me;
 use pl_core::{HostAct, HostCore, HostOutbox, HostTable, Reception};
 use pl_frame::Memory;

@@ -1,5 +1,5 @@
 use crate::event::{host, queue};
-use crate::words::say;
+use pl_scenario_words::say;
 use pl_core::{ManagerCore, SwitchCore};
 use pl_frame::Memory;
 use pl_host::Host;

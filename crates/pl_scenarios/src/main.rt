@@ -17,7 +17,6 @@ mod host;
 mod looks;
 mod script;
 mod topology;
-mod words;
 
 use crate::gathered::play_scenario;
 use pl_frame::Memory;

@@ -1,5 +1,5 @@
 use crate::topology::wiring;
-use crate::words::{first_word, is_remark, say};
+use pl_scenario_words::{first_word, is_remark, say};
 use pl_frame::Memory;
 use pl_script::{Script, ScriptError, ScriptLine, read};
 use pl_wiring::Wiring;

@@ -1,9 +1,12 @@
+//! The words of a scenario's lines, and the lines that tell what came of them.
+#![tactic(auto)]
+
 use pl_frame::{Ip4, Memory};
 use pl_wiring::text::dotted;
 use std::alloc::{AllocError, Global};
 
 /// The first word of a text, and what stands behind it.
-pub(crate) fn first_word(text: &str) -> (&str, &str) {
+pub fn first_word(text: &str) -> (&str, &str) {
     match text.split_once(' ') {
         Some(parts) => parts,
         None => (text, ""),
@@ -11,18 +14,18 @@ pub(crate) fn first_word(text: &str) -> (&str, &str) {
 }
 
 /// Whether a line is printed as it is.
-pub(crate) fn is_remark(line: &str) -> bool {
+pub fn is_remark(line: &str) -> bool {
     line.starts_with('#') || line.is_empty()
 }
 
 /// Writes a line.
-pub(crate) fn say(out: &mut String, line: &str) -> Result<(), Memory> {
+pub fn say(out: &mut String, line: &str) -> Result<(), Memory> {
     out.push_str(line)?;
     out.push_str("\n")
 }
 
 /// Writes a frame behind a word.
-pub(crate) fn say_frame(
+pub fn say_frame(
     alloc: Global,
     word: &str,
     frame: &[u8],
@@ -34,7 +37,7 @@ pub(crate) fn say_frame(
 }
 
 /// The bytes of a frame that is written so; none where it is written in no such way.
-pub(crate) fn frame(alloc: Global, text: &str) -> Result<Option<Vec<u8>>, Memory> {
+pub fn frame(alloc: Global, text: &str) -> Result<Option<Vec<u8>>, Memory> {
     let (digits, zeros) = match text.split_once('+') {
         Some((digits, zeros)) => (digits, zeros.parse::<u32>().unwrap_or(0)),
         None => (text, 0),
@@ -52,7 +55,7 @@ pub(crate) fn frame(alloc: Global, text: &str) -> Result<Option<Vec<u8>>, Memory
 }
 
 /// The address of a group, as 239.1.2.3.
-pub(crate) fn group(text: &str) -> Option<Ip4> {
+pub fn group(text: &str) -> Option<Ip4> {
     let number = dotted(text)?;
     Some(Ip4(number))
 }

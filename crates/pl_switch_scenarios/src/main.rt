@@ -1,0 +1,62 @@
+//! Plays a scenario, which comes on standard input, through a part of a switch: each line is one call of
+//! the part, and what the part answers is printed, a line each.
+//!
+//! The first line of a scenario names the part and says what it needs: `ports ID K`, `votes K`,
+//! `book K POD POSITION`, `members` or `flows`. What can be said to a part stands in the file of its name. A line
+//! that begins with `#` is printed as it is, and with `new` another scenario begins.
+#![tactic(auto)]
+
+mod book;
+mod flows;
+mod members;
+mod numbers;
+mod ports;
+mod votes;
+
+use crate::book::play_book;
+use crate::flows::play_flows;
+use crate::members::play_members;
+use crate::ports::play_ports;
+use crate::votes::play_votes;
+use pl_frame::Memory;
+use pl_scenario_words::{first_word, say};
+use std::alloc::Global;
+use std::io;
+
+fn main(rt: HostRuntime) -> io::Result<()> {
+    let mut input = String::new(rt.alloc());
+    for line in rt.lines(rt.alloc()) {
+        input.push_str(line?.as_str())?;
+        input.push_str("\n")?;
+    }
+    let mut out = String::new(rt.alloc());
+    play(rt.alloc(), input.as_str(), &mut out)?;
+    print!(rt; "{out}")
+}
+
+fn play(alloc: Global, input: &str, out: &mut String) -> Result<(), Memory> {
+    let lines: Vec<&str> = input.lines().collect(alloc)?;
+    for scenario in lines.as_slice().split(|line| *line == "new") {
+        if let Some((first, rest)) = scenario.split_first() {
+            play_scenario(alloc, first, rest, out)?;
+        }
+    }
+    Ok(())
+}
+
+fn play_scenario(
+    alloc: Global,
+    first: &str,
+    lines: &[&str],
+    out: &mut String,
+) -> Result<(), Memory> {
+    let (part, words) = first_word(first);
+    match part {
+        "ports" => play_ports(alloc, words, lines, out),
+        "votes" => play_votes(alloc, words, lines, out),
+        "book" => play_book(alloc, words, lines, out),
+        "members" => play_members(alloc, lines, out),
+        "flows" => play_flows(alloc, lines, out),
+        _ => say(out, "not understood"),
+    }
+}

@@ -1,0 +1,41 @@
+ghost use Rattle.std.specs.Prelude.{IfSome};
+ghost use Rattle.pl_core.specs.SwitchFacts.{CanBoot, IsTreeSize};
+
+use pl_frame::SwitchId;
+use pl_scenario_words::first_word;
+
+/// An id and a number of ports.
+pub(crate) fn switch(text: &str) -> Option<(SwitchId, u8)>
+    ensures { IfSome result (λ switch. CanBoot switch.0 switch.1) }
+{
+    let (first, second) = first_word(text);
+    let id = id(first)?;
+    let k = tree_size(second)?;
+    if id.0 == 0 || id.0 >= 1 << 48 {
+        return None;
+    }
+    Some((id, k))
+}
+
+pub(crate) fn id(text: &str) -> Option<SwitchId> {
+    Some(SwitchId(text.parse::<u64>().ok()?))
+}
+
+/// An even number of ports from 4 to 24.
+pub(crate) fn tree_size(text: &str) -> Option<u8>
+    ensures { IfSome result IsTreeSize }
+{
+    let k = byte(text)?;
+    if k < 4 || k > 24 || k % 2 != 0 {
+        return None;
+    }
+    Some(k)
+}
+
+pub(crate) fn byte(text: &str) -> Option<u8> {
+    text.parse::<u8>().ok()
+}
+
+pub(crate) fn number(text: &str) -> Option<u32> {
+    text.parse::<u32>().ok()
+}

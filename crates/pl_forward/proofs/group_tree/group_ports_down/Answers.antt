@@ -1,0 +1,8 @@
+use Rattle.std.proofs.Common.{sym, ap, ◌∙◌}
+use Rattle.std.specs.Option.{option_copied}
+use Rattle.pl_forward.proofs.Groups.{none_down}
+use Rattle.pl_forward.proofs.group_tree.group_ports_down.Goals as goal
+
+pub returns-in-None : goal.returns-in-None
+returns-in-None g c =
+    c.empty.ensures ∙ sym (none_down (g.F.SwitchFacts.view c.args.facts.now) c.args.group (sym c.part.ensures ∙ ap option_copied c.in-None.is))

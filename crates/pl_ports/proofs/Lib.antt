@@ -1,0 +1,6 @@
+pub mod Aging
+pub mod HostsFound
+pub mod LinksTold
+pub mod PodsTold
+pub mod PortSets
+pub mod Tables

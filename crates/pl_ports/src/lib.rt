@@ -1,0 +1,19 @@
+//! What a switch knows of itself and of its ports: its id, its place, and at each port what was last
+//! heard there.
+//!
+//! Each call is a word of the rule that pl_switch_rule has, said for every switch that knows this of its
+//! ports. What a message does besides (votes, addresses, groups) is left to the crates above, as is the
+//! order of the calls in a step.
+#![tactic(auto)]
+
+pub use ports::Ports;
+pub use standing::Standing;
+
+mod addresses;
+mod announcing;
+mod evidence;
+mod hearing;
+mod learning;
+mod ports;
+mod standing;
+mod telling;

@@ -1,5 +1,6 @@
 pub mod Aging
 pub mod HostsFound
+pub mod LevelsShown
 pub mod LinksTold
 pub mod PodsTold
 pub mod PortSets

@@ -6,6 +6,7 @@
 //! order of the calls in a step.
 #![tactic(auto)]
 
+pub use level_laws::the_level_is_what_the_records_show;
 pub use ports::Ports;
 pub use standing::Standing;
 
@@ -14,6 +15,7 @@ mod announcing;
 mod evidence;
 mod hearing;
 mod learning;
+mod level_laws;
 mod ports;
 mod standing;
 mod telling;

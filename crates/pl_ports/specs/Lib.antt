@@ -1,0 +1,5 @@
+pub mod PortsViews
+pub mod SoundPorts
+pub mod Changes
+pub mod Evidence
+pub mod Standings

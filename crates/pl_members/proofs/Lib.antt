@@ -1,0 +1,4 @@
+pub mod Comparing
+pub mod Removing
+pub mod Reaching
+pub mod Grouping

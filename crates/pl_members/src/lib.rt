@@ -1,0 +1,12 @@
+//! Which hosts at an edge switch have joined which groups, by group, port and address (the memberships that
+//! hosts report by RFC 2236 and RFC 3376).
+//!
+//! Contracts see the rising list of them, which is the switch's `members`, so each call is one equation
+//! of the rule.
+#![tactic(auto)]
+
+pub use members::Members;
+pub use pl_core::{Member, Memory, PortSet};
+
+mod members;
+mod ranked;

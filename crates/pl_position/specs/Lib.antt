@@ -1,0 +1,3 @@
+pub mod Candidacy
+pub mod Holding
+pub mod Voting

@@ -1,0 +1,3 @@
+pub mod PortGrants
+pub mod Books
+pub mod Keeping

@@ -59,6 +59,13 @@ impl AddressBook {
         })
     }
 
+    /// How many ports the switch has.
+    pub fn ports(&self) -> usize
+        ensures { result ≡ length self.now.grants }
+    {
+        self.ports.len()
+    }
+
     /// Whether an address has the pod and the position of this edge switch.
     pub fn is_local(&self, pmac: Pmac) -> bool
         ensures { result ≡ is_here self.now pmac }

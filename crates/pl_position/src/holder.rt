@@ -48,6 +48,13 @@ impl Holder {
         }
     }
 
+    /// How many positions there are: half as many as the switch has ports.
+    pub fn positions(&self) -> usize
+        ensures { result ≡ length self.now }
+    {
+        self.positions
+    }
+
     /// The answer to an edge switch that proposes a position. First all else is freed that is held for it.
     pub fn vote(&mut self, edge: SwitchId, proposal: Proposal) -> Vote
         requires { proposal.position < length self.old }

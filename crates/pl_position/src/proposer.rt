@@ -47,6 +47,13 @@ impl Proposer {
         }
     }
 
+    /// How many ports the switch has.
+    pub fn k(&self) -> u8
+        ensures { result ≡ self.now.k }
+    {
+        self.k
+    }
+
     /// What an edge switch proposes now; none exactly where its position is fixed.
     pub fn propose(&self) -> Option<Proposal>
         ensures proposal { result ≡ proposal_of self.now }

@@ -60,7 +60,7 @@ impl Bench {
     fn grant(&mut self, alloc: Global, rest: &str, out: &mut String) -> Result<(), Memory> {
         let (port, amac) = first_word(rest);
         match (byte(port), mac(amac)) {
-            (Some(port), Some(amac)) if port < self.book.ports() => {
+            (Some(port), Some(amac)) if usize::from(port) < self.book.ports() => {
                 let granted = self.book.grant(port, amac);
                 say_granted(alloc, granted, out)
             }
@@ -73,7 +73,7 @@ impl Bench {
         let (port, rest) = first_word(rest);
         let (amac, given) = first_word(rest);
         match (byte(port), mac(amac)) {
-            (Some(port), Some(amac)) if port < self.book.ports() => {
+            (Some(port), Some(amac)) if usize::from(port) < self.book.ports() => {
                 let pmac = self.book.learn(port, amac, ip(given), &mut self.told)?;
                 self.tell(alloc, out)?;
                 let line = format!(in alloc; "{pmac:?}")?;
@@ -111,7 +111,7 @@ impl Bench {
     ) -> Result<(), Memory> {
         let mut last = Err(GrantError::Spent);
         for n in 0..count {
-            if port < self.book.ports() {
+            if usize::from(port) < self.book.ports() {
                 let [_, _, a, b] = n.to_be_bytes();
                 last = self.book.grant(port, Mac([2, 0, 0, 1, a, b]));
             }
@@ -123,7 +123,7 @@ impl Bench {
     fn in_use(&self, alloc: Global, rest: &str, out: &mut String) -> Result<(), Memory> {
         let (port, amac) = first_word(rest);
         match (byte(port), mac(amac)) {
-            (Some(port), Some(amac)) if port < self.book.ports() => {
+            (Some(port), Some(amac)) if usize::from(port) < self.book.ports() => {
                 let pmac = self.book.in_use(port, amac);
                 let line = format!(in alloc; "{pmac:?}")?;
                 say(out, line.as_str())

@@ -56,7 +56,7 @@ impl Pod {
         let (verb, rest) = first_word(line);
         match verb {
             "edge" => self.add_edge(k, rest, out),
-            "aggregation" => self.aggregations.push(Holder::new(k)),
+            "aggregation" => self.add_aggregation(k),
             "asks" => self.asks(alloc, rest, out),
             "hears" => self.hears(rest, out),
             "announces" => self.announces(rest, out),
@@ -74,7 +74,15 @@ impl Pod {
             return say(out, "not understood");
         };
         let proposer = Proposer::new(k);
-        self.edges.push(Edge { id, proposer })
+        self.edges.push(Edge { id, proposer })?;
+        Ok(())
+    }
+
+    fn add_aggregation(&mut self, k: u8) -> Result<(), Memory>
+        requires { IsTreeSize k }
+    {
+        self.aggregations.push(Holder::new(k))?;
+        Ok(())
     }
 
     // E A
@@ -85,7 +93,7 @@ impl Pod {
         };
         let (edge, proposal) = (edge.id, edge.proposer.propose());
         match (proposal, self.holder(aggregation)) {
-            (Some(proposal), Some(holder)) if proposal.position < holder.positions() => {
+            (Some(proposal), Some(holder)) if usize::from(proposal.position) < holder.positions() => {
                 let vote = holder.vote(edge, proposal);
                 let number = self.votes.len();
                 self.votes.push(vote)?;
@@ -117,7 +125,7 @@ impl Pod {
         };
         let (edge, position) = (edge.id, edge.proposer.fixed());
         match (position, self.holder(aggregation)) {
-            (Some(position), Some(holder)) if position < holder.positions() => {
+            (Some(position), Some(holder)) if usize::from(position) < holder.positions() => {
                 holder.announced(edge, position);
                 Ok(())
             }
@@ -139,7 +147,7 @@ impl Pod {
     fn hold(&mut self, alloc: Global, rest: &str, out: &mut String) -> Result<(), Memory> {
         let (aggregation, position) = first_word(rest);
         match (self.holder(aggregation), byte(position)) {
-            (Some(holder), Some(position)) if position < holder.positions() => {
+            (Some(holder), Some(position)) if usize::from(position) < holder.positions() => {
                 let hold = holder.hold(position);
                 let line = format!(in alloc; "{hold:?}")?;
                 say(out, line.as_str())

@@ -20,7 +20,3 @@ put_ports p v = record v { id = p.id; k = p.k; place = p.place; ports = p.ports 
 -- a switch that knows this, and else what it knew at its start
 abbrev pub ports_alone : PortsView → SwitchView
 ports_alone p = put_ports p (switch_at_boot p.id p.k)
-
--- the part of a switch's view that is of its ports
-abbrev pub ports_of_view : SwitchView → PortsView
-ports_of_view v = record { id = v.id; k = v.k; place = v.place; ports = v.ports }

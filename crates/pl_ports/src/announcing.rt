@@ -3,10 +3,11 @@ ghost use Rattle.pl_core.specs.declared.acts.Act.{Act};
 ghost use Rattle.pl_core.specs.Announcements.{announcement, direction_of};
 ghost use Rattle.pl_core.specs.PortRecords.{heard_id, heard_place, ports_where};
 ghost use Rattle.pl_core.specs.SwitchFacts.{IsAnnounced};
+ghost use Rattle.pl_core.specs.SwitchViews.{SwitchView};
 ghost use Rattle.pl_layouts.specs.Control.{control_frame};
 ghost use Rattle.pl_ldp.specs.Writable.{IsWritable};
 ghost use Rattle.pl_switch_rule.specs.Announcing.{announces_at};
-ghost use Rattle.pl_ports.specs.PortsViews.{ports_alone};
+ghost use Rattle.pl_ports.specs.PortsViews.{ports_alone, put_ports};
 
 use crate::Ports;
 use pl_core::{Memory, Outbox, PortRecord};
@@ -51,7 +52,7 @@ impl Ports {
     /// Whether a frame is that message, at a port that is no host port. Takes no memory.
     pub fn announces(&self, port: u8, frame: &[u8]) -> bool
         requires { port < self.now.k }
-        ensures { IsTrue result ↔ IsAnnounced (ports_alone self.now) port frame.now }
+        ensures { (v : SwitchView) → IsTrue result ↔ IsAnnounced (put_ports self.now v) port frame.now }
     {
         if self.record(port).host {
             return false;

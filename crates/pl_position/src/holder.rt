@@ -52,7 +52,7 @@ impl Holder {
     pub fn positions(&self) -> usize
         ensures { result ≡ length self.now }
     {
-        self.positions
+        self.holds[..self.positions].len()
     }
 
     /// The answer to an edge switch that proposes a position. First all else is freed that is held for it.

@@ -85,9 +85,11 @@ impl Bench {
 
     // Prints what was done since the last line.
     fn tell(&mut self, alloc: Global, out: &mut String) -> Result<(), Memory> {
-        while let Some(act) = self.told.take_first() {
-            let line = format!(in alloc; "{act:?}")?;
-            say(out, line.as_str())?;
+        for _ in 0..self.told.len() {
+            if let Some(act) = self.told.take_first() {
+                let line = format!(in alloc; "{act:?}")?;
+                say(out, line.as_str())?;
+            }
         }
         Ok(())
     }

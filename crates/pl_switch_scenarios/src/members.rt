@@ -102,11 +102,12 @@ pub(crate) fn say_ports(ports: PortSet, alloc: Global, out: &mut String) -> Resu
 // The groups that have members, rising.
 fn say_groups(members: &Members, alloc: Global, out: &mut String) -> Result<(), Memory> {
     out.push_str("groups")?;
-    let mut n = 0;
-    while let Some(group) = members.nth_group(n) {
+    for n in 0..usize::MAX {
+        let Some(group) = members.nth_group(n) else {
+            break;
+        };
         let word = format!(in alloc; " {group}")?;
         out.push_str(word.as_str())?;
-        n += 1;
     }
     out.push_str("\n")
 }

@@ -1,21 +1,22 @@
 -- The level that the records of a switch's ports show, as they change.
 use Rattle.std.proofs.Common.{◌≡◌, ◌≢◌, ℕ, zero, suc, ◌<◌, Bool, true, false, Option, Some, None, List, [], ◌∷◌, length, map, replicate, get_or, set, refl, sym, ap, ◌∙◌, subst, inl, inr, arith}
-use Rattle.std.specs.Prelude.{◌==◌, ◌&&◌, ◌||◌, not, if◌then◌else◌, is_some}
-use Rattle.std.specs.List.{list_any}
-use Rattle.std.proofs.lemmas.Bool.{and_from, and_parts, cases_eq, eqb-true, eq-eqb, ne_eqb, or_parts}
-use Rattle.std.proofs.Math.Bool.{or-false}
+use Rattle.std.specs.Prelude.{◌&&◌, ◌||◌, if◌then◌else◌, is_some}
+use Rattle.std.specs.List.{cons_option, filter_map, list_any}
+use Rattle.std.proofs.lemmas.Bool.{and_from, and_parts, cases_eq, eq-eqb, ne_eqb, or_parts}
+use Rattle.std.proofs.Math.Bool.{and-false, or-false}
 use Rattle.std.proofs.lemmas.List.{get_or-set_other, get_or-set_same, length-set}
 use Rattle.std.proofs.lemmas.List.Folds.{list_any_at}
 use Rattle.pl_frame.specs.declared.address.SwitchId.{SwitchId}
 use Rattle.pl_layouts.specs.declared.control.Ldm.{Ldm}
-use Rattle.pl_layouts.specs.declared.place.Place.{Place}
 use Rattle.pl_layouts.specs.Placement.{is_known}
 use Rattle.pl_core.specs.declared.neighbour.PortRecord.{PortRecord}
 use Rattle.pl_core.specs.PortRecords.{aged, heard_place, new_port}
 use Rattle.pl_core.specs.SwitchViews.{SwitchView}
-use Rattle.pl_switch_rule.specs.Levels.{is_of_other_pod, learns_level, level_after, other_pod, with_message}
+use Rattle.pl_journal.specs.Flights.{first_of}
+use Rattle.pl_switch_rule.specs.Levels.{is_of_other_pod, learns_level, other_pod, told_pod, with_message}
 use Rattle.pl_ports.specs.Changes.{with_host}
 use Rattle.pl_ports.specs.Evidence.{are_of_two_pods, is_of_level, level_shown}
+use Rattle.pl_ports.proofs.PodsTold.{first_told}
 
 abbrev level_by : Bool → Bool → Bool → Option ℕ
 level_by has_host hears_edge hears_pods = if has_host then Some 0 else if hears_edge then Some 1 else if hears_pods then Some 2 else None
@@ -64,6 +65,13 @@ module _ (p : PortRecord → Bool) where
 any_alike : (p q : PortRecord → Bool) → ((r : PortRecord) → p r ≡ q r) → (rs : List PortRecord) → list_any p rs ≡ list_any q rs
 any_alike p q h [] = refl
 any_alike p q h (r ∷ rs) = ap (λ b. b || list_any p rs) (h r) ∙ ap (λ b. q r || b) (any_alike p q h rs)
+
+differs_not : (level other : Bool) → (level ≡ true → other ≡ false) → (level && other) ≡ false
+differs_not true other h = h refl
+differs_not false other h = refl
+
+true_false : true ≡ false → ⊥
+true_false e = cc
 
 -- different pods differ either way
 other_turned : (a b : Option ℕ) → other_pod a b ≡ true → other_pod b a ≡ true
@@ -124,10 +132,6 @@ module _ (rs : List PortRecord) (port : ℕ) (r : PortRecord) (within : port < l
       (list_any_at (is_of_other_pod (heard_place r.heard).pod) after i new_port inside
       (ap (is_of_other_pod (heard_place r.heard).pod) (get_or-set_other rs port i r new_port apart) ∙ back))
 
-  differs_not : (level other : Bool) → (level ≡ true → other ≡ false) → (level && other) ≡ false
-  differs_not true other h = h refl
-  differs_not false other h = refl
-
   false_unless : (b : Bool) → (b ≡ true → ⊥) → b ≡ false
   false_unless true h = absurd (h refl)
   false_unless false h = refl
@@ -140,9 +144,6 @@ module _ (rs : List PortRecord) (port : ℕ) (r : PortRecord) (within : port < l
       differs_not (is_of_level 1 x) (list_any (is_of_other_pod pod) after)
       (λ level. any_set (is_of_other_pod pod) rs port r within (ap (λ b. b && list_any (is_of_other_pod pod) rs) (sym level) ∙ before)
       ∙ false_unless (is_of_other_pod pod r) (λ differs. let e = seen_back i inside apart level differs in absurd (true_false (sym e ∙ alone))))
-    where
-      true_false : true ≡ false → ⊥
-      true_false e = cc
 
   no_pods : differs_among after r ≡ false → are_of_two_pods after ≡ false
   no_pods alone = none_where (differs_among after) after new_port
@@ -172,3 +173,84 @@ with_a_message v port id m within unknown none =
     ∙ sym (ap (λ b. level_by b (list_any (is_of_level 0) rs) (are_of_two_pods rs)) host
     ∙ ap (λ b. level_by false b (are_of_two_pods rs)) edge
     ∙ ap (λ b. level_by false (is_known m.place.level 0) b) pods)
+
+-- The first pod that was told decides whether there are two.
+
+first_none : (o : Option ℕ) (pods : List ℕ) → first_of (cons_option o pods) ≡ None → (o ≡ None) × (first_of pods ≡ None)
+first_none None pods h = (refl, h)
+first_none (Some p) pods h = absurd cc
+
+told_is : (is_aggregation : Bool) (pod : Option ℕ) (p : ℕ) → (if is_aggregation then pod else None) ≡ Some p → (is_aggregation ≡ true) × (pod ≡ Some p)
+told_is true pod p h = (refl, h)
+told_is false pod p h = absurd cc
+
+told_none : (is_aggregation : Bool) (pod : Option ℕ) → (if is_aggregation then pod else None) ≡ None → is_aggregation ≡ true → pod ≡ None
+told_none true pod h level = h
+told_none false pod h level = absurd cc
+
+none_told : (rs : List PortRecord) (i : ℕ) → i < length rs → first_told rs ≡ None → told_pod (get_or rs i new_port) ≡ None
+none_told [] i inside h = absurd (omega arith)
+none_told (r ∷ rs) zero inside h = (first_none (told_pod r) (filter_map told_pod rs) h).0
+none_told (r ∷ rs) (suc i) inside h = none_told rs i (omega arith) (first_none (told_pod r) (filter_map told_pod rs) h).1
+
+abbrev IsTold : List PortRecord → ℕ → Type 0
+IsTold rs p = (i : ℕ) × (i < length rs) × (told_pod (get_or rs i new_port) ≡ Some p)
+
+told_in_front : (r : PortRecord) (rs : List PortRecord) (p : ℕ) → (first_told rs ≡ Some p → IsTold rs p) → (o : Option ℕ) → told_pod r ≡ o →
+    first_of (cons_option o (filter_map told_pod rs)) ≡ Some p → IsTold (r ∷ rs) p
+told_in_front r rs p later None is rest = let found = later rest in (suc found.0, omega (arith, found.1), found.2)
+told_in_front r rs p later (Some q) is here = (0, omega arith, is ∙ here)
+
+some_told : (rs : List PortRecord) (p : ℕ) → first_told rs ≡ Some p → IsTold rs p
+some_told [] p h = absurd cc
+some_told (r ∷ rs) p h = told_in_front r rs p (some_told rs p) (told_pod r) refl h
+
+no_other : (rs : List PortRecord) → list_any (is_of_other_pod None) rs ≡ false
+no_other rs = none_where (is_of_other_pod None) rs new_port (λ i inside. and-false (is_of_level 1 (get_or rs i new_port)))
+
+no_pods_told : (rs : List PortRecord) → first_told rs ≡ None → are_of_two_pods rs ≡ false
+no_pods_told rs h = none_where (differs_among rs) rs new_port
+    (λ i inside. let x = get_or rs i new_port in
+    differs_not (is_of_level 1 x) (list_any (is_of_other_pod (heard_place x.heard).pod) rs)
+    (λ level. ap (λ pod. list_any (is_of_other_pod pod) rs) (told_none (is_of_level 1 x) (heard_place x.heard).pod (none_told rs i inside h) level) ∙ no_other rs))
+
+module _ (rs : List PortRecord) (p : ℕ) (alone : list_any (is_of_other_pod (Some p)) rs ≡ false) where
+  one_pod_at : (i : ℕ) → i < length rs → is_of_level 1 (get_or rs i new_port) ≡ true → (o : Option ℕ) → (heard_place (get_or rs i new_port).heard).pod ≡ o →
+      list_any (is_of_other_pod o) rs ≡ false
+  one_pod_at i inside level None is = no_other rs
+  one_pod_at i inside level (Some a) is =
+      elim (cases_eq a p) [
+        | inl same ↦ ap (λ n. list_any (is_of_other_pod (Some n)) rs) same ∙ alone
+        | inr apart ↦
+            let differs : other_pod (Some p) (Some a) ≡ true = rw (ne_eqb p a (λ e. apart (sym e))) refl in
+            let found = and_from (is_of_level 1 (get_or rs i new_port)) (other_pod (Some p) (heard_place (get_or rs i new_port).heard).pod) level
+            (ap (other_pod (Some p)) is ∙ differs) in
+            absurd (true_false (sym found ∙ none_at (is_of_other_pod (Some p)) rs i new_port inside alone))
+      ]
+
+  one_pod : are_of_two_pods rs ≡ false
+  one_pod = none_where (differs_among rs) rs new_port
+      (λ i inside. let x = get_or rs i new_port in
+      differs_not (is_of_level 1 x) (list_any (is_of_other_pod (heard_place x.heard).pod) rs)
+      (λ level. one_pod_at i inside level (heard_place x.heard).pod refl))
+
+two_pods : (rs : List PortRecord) (p : ℕ) → first_told rs ≡ Some p → list_any (is_of_other_pod (Some p)) rs ≡ true → are_of_two_pods rs ≡ true
+two_pods rs p h other =
+    let at = some_told rs p h in
+    let x = get_or rs at.0 new_port in
+    let told = told_is (is_of_level 1 x) (heard_place x.heard).pod p at.2 in
+    list_any_at (differs_among rs) rs at.0 new_port at.1
+    (and_from (is_of_level 1 x) (list_any (is_of_other_pod (heard_place x.heard).pod) rs) told.0
+    (ap (λ pod. list_any (is_of_other_pod pod) rs) told.1 ∙ other))
+
+-- another pod than the first that was told
+pub by_first_pod : (rs : List PortRecord) → list_any (is_of_other_pod (first_told rs)) rs ≡ are_of_two_pods rs
+by_first_pod rs = by (first_told rs) refl
+  where
+    given : (p : ℕ) → first_told rs ≡ Some p → (b : Bool) → list_any (is_of_other_pod (Some p)) rs ≡ b → b ≡ are_of_two_pods rs
+    given p h true other = sym (two_pods rs p h other)
+    given p h false other = sym (one_pod rs p other)
+
+    by : (o : Option ℕ) → first_told rs ≡ o → list_any (is_of_other_pod o) rs ≡ are_of_two_pods rs
+    by None h = no_other rs ∙ sym (no_pods_told rs h)
+    by (Some p) h = given p h (list_any (is_of_other_pod (Some p)) rs) refl

@@ -42,7 +42,7 @@ fn hears_level(level: u8, records: &[PortRecord]) -> bool
 fn hears_two_pods(records: &[PortRecord]) -> bool
     ensures { result ≡ are_of_two_pods records.now }
 {
-    records.iter().any(|record| is_of_level(1, record) && hears_other_pod(pod_of(record), records))
+    hears_other_pod(pod_told_before(records), records)
 }
 
 /// Whether an aggregation switch was heard that told another pod than this one.

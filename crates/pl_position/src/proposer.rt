@@ -3,7 +3,7 @@ ghost use Rattle.pl_core.specs.SwitchFacts.{has_granted, present_attempt, IsTree
 ghost use Rattle.pl_core.specs.SwitchViews.{SwitchView};
 ghost use Rattle.pl_layouts.specs.Placement.{is_known};
 ghost use Rattle.pl_position.specs.Candidacy.{first_candidacy, proposal_of, with_candidacy};
-ghost use Rattle.pl_position.specs.Voting.{CountsPresentVotes, IsFixedByMajority};
+ghost use Rattle.pl_position.specs.Voting.{CountsPresentVotes, GivesWayDuly, IsFixedByMajority, IsSameOrNext};
 ghost use Rattle.pl_switch_rule.specs.Positions.{after_vote, fixes_position, moves_on, with_granted};
 
 use pl_core::{PortSet, Proposal, Vote};
@@ -102,6 +102,7 @@ impl Proposer {
             with_candidacy self.new v ≡ after_vote (with_candidacy self.old v) port vote.now }
         ensures counts { CountsPresentVotes vote.now self.old self.new }
         ensures fixed { IsFixedByMajority vote.now self.old self.new result }
+        ensures gives_way { GivesWayDuly me vote.now self.old self.new }
     {
         if !self.counts(vote) {
             return false;
@@ -128,6 +129,7 @@ impl Proposer {
         ensures step { (v : SwitchView) → v.k ≡ self.old.k →
             with_candidacy self.new v ≡ fixes_position (with_granted (with_candidacy self.old v) port) }
         ensures k { self.new.k ≡ self.old.k }
+        ensures attempt { self.new.attempt ≡ self.old.attempt }
         ensures fixed { is_none self.old.position ≡ true → result ≡ is_some self.new.position }
         ensures majority { result ≡ true → self.old.k / 2 < 2 * length self.new.granted }
         ensures position { result ≡ true → self.new.position ≡ Some self.old.proposed }
@@ -152,6 +154,8 @@ impl Proposer {
         ensures step { (v : SwitchView) → v.k ≡ self.old.k → with_candidacy self.new v ≡ moves_on (with_candidacy self.old v) }
         ensures k { self.new.k ≡ self.old.k }
         ensures position { self.new.position ≡ self.old.position }
+        ensures last { self.old.attempt ≡ 4294967295 → self.new ≡ self.old }
+        ensures next { IsSameOrNext self.old self.new }
     {
         if self.attempt == u32::MAX {
             return;

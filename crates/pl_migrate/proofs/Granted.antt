@@ -25,17 +25,6 @@ use Rattle.pl_migrate.proofs.OneEach.{at_most_push, at_most_set, none_where_unfo
 abbrev granted_to : Mac → ℕ → Grantee
 granted_to amac port = record { amac = amac; port = port }
 
--- Nothing changes.
-
-pub keeps_itself : (book : BookView) → KeepsGrants book book
-keeps_itself book = record { pod = refl; position = refl; ports = refl; grantees = λ address grantee found. found }
-
-pub keeps_same : (old new : BookView) → new ≡ old → KeepsGrants old new
-keeps_same old new same = subst (λ book. KeepsGrants old book) (sym same) (keeps_itself old)
-
-pub traps_same : (old new : BookView) → new ≡ old → KeepsTraps old new
-traps_same old new same = subst (λ book. KeepsTraps old book) (sym same) (λ address. refl)
-
 -- The next address is granted.
 
 some_grantee : (address : Pmac) (o p : Option Grant) (grantee : Grantee) → ((grant : Grant) → o ≡ Some grant → p ≡ Some grant) →

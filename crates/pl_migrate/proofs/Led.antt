@@ -63,9 +63,6 @@ pub record HasLed (book : BookView) (trap : Trap) (out : List Act) (most : ℕ) 
   pub acts : (v : SwitchView) → out ≡ before ++ redirects most (book_in book v) start
   pub last : (v : SwitchView) → trap ≡ last_trap most (book_in book v) start
 
-pub led_at_first : (book : BookView) (most : ℕ) (trap : Trap) (out : List Act) → IsLed book most trap out most trap out
-led_at_first book most trap out = record { acts = λ v. refl; last = λ v. refl }
-
 pub led_further : (book : BookView) (left : ℕ) (trap next : Trap) (out after : List Act) (most : ℕ) (start : Trap) (before : List Act) → 0 < left →
     Some next ≡ if_newer trap (trap_in book trap.new) → after ≡ out ++ Redirect trap.new next.new ∷ [] →
     IsLed book left trap out most start before → IsLed book (left - 1) next after most start before

@@ -1,9 +1,9 @@
 -- Grants of a port by their vmids.
-use Rattle.std.proofs.Common.{◌≡◌, ◌≢◌, ◌<◌, ◌≤◌, ℕ, zero, suc, ◌-◌, ◌==◌, true, false, cond, List, [], ◌∷◌, ◌++◌, length, Some, None, refl, ap, ◌∙◌, arith}
+use Rattle.std.proofs.Common.{◌≡◌, ◌≢◌, ◌<◌, ℕ, zero, suc, ◌-◌, ◌==◌, true, false, cond, List, [], ◌∷◌, ◌++◌, length, Some, None, refl, ap, ◌∙◌, arith}
 use Rattle.std.specs.List.{slice_get}
 use Rattle.std.specs.Prelude.{slice_set}
 use Rattle.std.proofs.lemmas.Bool.{eqb-false, ne_eqb}
-use Rattle.std.proofs.lemmas.Option.{slice_get_within, slice_get_past}
+use Rattle.std.proofs.lemmas.Option.{slice_get_past}
 use Rattle.pl_core.specs.declared.switch_records.Grant.{Grant}
 use Rattle.pl_switch_rule.specs.Delivering.{grant_trap}
 use Rattle.pl_switch_rule.specs.Granting.{grant_number}
@@ -45,13 +45,6 @@ is_numbered grants vmid grant =
       | true ↦ λ zeroth found. absurd (let e = found in cc)
       | false ↦ λ later found. record { first = let apart = eqb-false vmid 0 later in omega arith; at = found }
     ] refl
-
-pub number_within : (grants : List Grant) (vmid : ℕ) (grant : Grant) → grant_number grants vmid ≡ Some grant → (0 < vmid) × (vmid ≤ length grants)
-number_within grants vmid grant found =
-    let is = is_numbered grants vmid grant found in
-    let within = slice_get_within grants (vmid - 1) grant is.at in
-    let first = is.first in
-    (first, omega arith)
 
 pub number_push : (grants : List Grant) (new : Grant) (vmid : ℕ) (grant : Grant) → grant_number grants vmid ≡ Some grant →
     grant_number (grants ++ new ∷ []) vmid ≡ Some grant

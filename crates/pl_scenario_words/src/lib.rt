@@ -25,12 +25,7 @@ pub fn say(out: &mut String, line: &str) -> Result<(), Memory> {
 }
 
 /// Writes a frame behind a word.
-pub fn say_frame(
-    alloc: Global,
-    word: &str,
-    frame: &[u8],
-    out: &mut String,
-) -> Result<(), Memory> {
+pub fn say_frame(alloc: Global, word: &str, frame: &[u8], out: &mut String) -> Result<(), Memory> {
     let digits = hex::encode(alloc, frame)?;
     let line = format!(in alloc; "{word} {digits}")?;
     say(out, line.as_str())

@@ -1,11 +1,11 @@
 ghost use Rattle.std.specs.Prelude.{IsTrue};
 ghost use Rattle.pl_journal.specs.Text.{IsNamed};
 
-use pl_scenario_words::say;
 use pl_core::{ManagerCore, SwitchCore};
 use pl_frame::Memory;
 use pl_host::Host;
 use pl_journal::{Entry, write_line};
+use pl_scenario_words::say;
 use pl_schedule::World;
 use pl_wiring::Wiring;
 use std::alloc::Global;

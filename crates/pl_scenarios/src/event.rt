@@ -1,5 +1,5 @@
-use pl_scenario_words::{first_word, frame, group};
 use pl_frame::{Frame, Memory};
+use pl_scenario_words::{first_word, frame, group};
 use pl_wiring::{HostNo, SwitchNo, Wiring};
 use pl_world::{Event, QueueName};
 use std::alloc::Global;

@@ -1,8 +1,8 @@
 use crate::event::{host, queue};
-use pl_scenario_words::say;
 use pl_core::{ManagerCore, SwitchCore};
 use pl_frame::Memory;
 use pl_host::Host;
+use pl_scenario_words::say;
 use pl_schedule::World;
 use pl_wiring::HostNo;
 use std::alloc::Global;

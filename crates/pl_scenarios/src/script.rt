@@ -1,6 +1,6 @@
 use crate::topology::wiring;
-use pl_scenario_words::{first_word, is_remark, say};
 use pl_frame::Memory;
+use pl_scenario_words::{first_word, is_remark, say};
 use pl_script::{Script, ScriptError, ScriptLine, read};
 use pl_wiring::Wiring;
 use std::alloc::{AllocError, Global};

@@ -2,8 +2,8 @@ ghost use Rattle.std.specs.Prelude.{◌<◌, IfOk, IfSome};
 ghost use Rattle.pl_wiring.specs.Labels.{edge_count, switch_count};
 ghost use Rattle.pl_wiring.specs.LiveLinks.{IsFor};
 
-use pl_scenario_words::{first_word, frame, is_remark, say};
 use pl_frame::{Memory, SwitchId};
+use pl_scenario_words::{first_word, frame, is_remark, say};
 use pl_topology::TopologyError;
 use pl_wiring::{Host, HostNo, Label, LinkStates, Path, Peer, SwitchNo, Wiring};
 use std::alloc::Global;

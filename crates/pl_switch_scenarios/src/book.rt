@@ -194,5 +194,9 @@ fn trap_to(text: &str) -> Option<Trap> {
     let (number, given) = first_word(rest);
     let new = pmac(new)?;
     let number = number.parse::<u64>().ok()?;
-    Some(Trap { new, number, ip: ip(given) })
+    Some(Trap {
+        new,
+        number,
+        ip: ip(given),
+    })
 }

@@ -8,11 +8,7 @@ use pl_scenario_words::{first_word, is_remark, say};
 use pl_wiring::text::mac;
 use std::alloc::Global;
 
-pub(crate) fn play_members(
-    alloc: Global,
-    lines: &[&str],
-    out: &mut String,
-) -> Result<(), Memory> {
+pub(crate) fn play_members(alloc: Global, lines: &[&str], out: &mut String) -> Result<(), Memory> {
     let mut members = Members::new(alloc);
     for line in lines {
         play(&mut members, alloc, line, out)?;

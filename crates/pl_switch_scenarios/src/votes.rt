@@ -93,13 +93,14 @@ impl Pod {
         };
         let (edge, proposal) = (edge.id, edge.proposer.propose());
         match (proposal, self.holder(aggregation)) {
-            (Some(proposal), Some(holder)) if usize::from(proposal.position) < holder.positions() => {
-                let vote = holder.vote(edge, proposal);
-                let number = self.votes.len();
-                self.votes.push(vote)?;
-                let line = format!(in alloc; "{number}: {vote:?}")?;
-                say(out, line.as_str())
-            }
+            (Some(proposal), Some(holder)) if usize::from(proposal.position) < holder.positions() =>
+                {
+                    let vote = holder.vote(edge, proposal);
+                    let number = self.votes.len();
+                    self.votes.push(vote)?;
+                    let line = format!(in alloc; "{number}: {vote:?}")?;
+                    say(out, line.as_str())
+                }
             _ => say(out, "nothing is asked"),
         }
     }

@@ -1,11 +1,12 @@
 //! `grant PORT MAC`, `learn PORT MAC [IP]`, `fill PORT COUNT`, `in-use PORT MAC`, `find PMAC`, `follow PMAC`,
 //! `trap PMAC NEW NUMBER [IP]`.
 use crate::numbers::{byte, number};
-use pl_core::{Memory, Outbox, Trap};
+use crate::pmacs::{pmac, trap_to};
+use pl_core::{Memory, Outbox};
 use pl_frame::{Ip4, Mac};
 use pl_lists::Queue;
 use pl_migrate::{AddressBook, GrantError};
-use pl_pmac::{Pmac, unpack};
+use pl_pmac::Pmac;
 use pl_scenario_words::{first_word, is_remark, say};
 use pl_wiring::text::{ip, mac};
 use std::alloc::{AllocError, Global};
@@ -181,22 +182,4 @@ fn say_granted(
         Err(GrantError::Spent) => say(out, "spent"),
         Err(GrantError::Memory) => Err(AllocError),
     }
-}
-
-// A pseudo address, written as a hardware address.
-fn pmac(text: &str) -> Option<Pmac> {
-    Some(unpack(mac(text)?))
-}
-
-// NEW NUMBER [IP]
-fn trap_to(text: &str) -> Option<Trap> {
-    let (new, rest) = first_word(text);
-    let (number, given) = first_word(rest);
-    let new = pmac(new)?;
-    let number = number.parse::<u64>().ok()?;
-    Some(Trap {
-        new,
-        number,
-        ip: ip(given),
-    })
 }

@@ -2,18 +2,22 @@
 //! the part, and what the part answers is printed, a line each.
 //!
 //! The first line of a scenario names the part and says what it needs: `ports ID K`, `votes K`,
-//! `book K POD POSITION`, `members` or `flows`. What can be said to a part stands in the file of its name. A line
+//! `book K POD POSITION`, `edge K`, `members` or `flows`. What can be said to a part stands in the file of its name. A line
 //! that begins with `#` is printed as it is, and with `new` another scenario begins.
 #![tactic(auto)]
 
+mod acts;
 mod book;
+mod edge;
 mod flows;
 mod members;
 mod numbers;
+mod pmacs;
 mod ports;
 mod votes;
 
 use crate::book::play_book;
+use crate::edge::play_edge;
 use crate::flows::play_flows;
 use crate::members::play_members;
 use crate::ports::play_ports;
@@ -55,6 +59,7 @@ fn play_scenario(
         "ports" => play_ports(alloc, words, lines, out),
         "votes" => play_votes(alloc, words, lines, out),
         "book" => play_book(alloc, words, lines, out),
+        "edge" => play_edge(alloc, words, lines, out),
         "members" => play_members(alloc, lines, out),
         "flows" => play_flows(alloc, lines, out),
         _ => say(out, "not understood"),

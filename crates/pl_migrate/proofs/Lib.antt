@@ -5,3 +5,4 @@ pub mod Granted
 pub mod Led
 pub mod Counted
 pub mod Laws
+pub mod AllLearnt

@@ -5,6 +5,7 @@ use Rattle.pl_frame.specs.declared.address.Mac.{Mac}
 use Rattle.pl_pmac.specs.declared.pmac.Pmac.{Pmac}
 use Rattle.pl_layouts.specs.declared.place.Place.{Place}
 use Rattle.pl_core.specs.declared.switch_records.Grant.{Grant}
+use Rattle.pl_core.specs.declared.switch_records.Source.{Source}
 use Rattle.pl_core.specs.declared.trap.Trap.{Trap}
 use Rattle.pl_core.specs.SwitchViews.{SwitchView}
 use Rattle.pl_switch_rule.specs.Delivering.{grant_trap}
@@ -24,6 +25,10 @@ edge_at pod position = record { level = Some 0; position = Some position; pod = 
 -- a switch with the place and the grants of a book
 abbrev pub book_in : BookView → SwitchView → SwitchView
 book_in book v = record v { place = edge_at book.pod book.position; grants = book.grants }
+
+-- and with what is remembered of the sources at its ports
+abbrev pub sources_in : BookView → List (Option Source) → SwitchView → SwitchView
+sources_in book remembered v = record (book_in book v) { remembered = remembered }
 
 abbrev pub empty_book : ℕ → ℕ → ℕ → BookView
 empty_book k pod position = record { pod = pod; position = position; grants = replicate k [] }

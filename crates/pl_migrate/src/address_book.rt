@@ -4,13 +4,14 @@ ghost use Rattle.pl_frame.specs.declared.address.Mac.{Mac};
 ghost use Rattle.pl_pmac.specs.declared.pmac.Pmac.{Pmac};
 ghost use Rattle.pl_core.specs.declared.acts.Act.{Act};
 ghost use Rattle.pl_core.specs.declared.messages.ToManager.{ToManager};
+ghost use Rattle.pl_core.specs.PortRecords.{ports_of_switch};
 ghost use Rattle.pl_core.specs.SwitchViews.{SwitchView};
 ghost use Rattle.pl_core.specs.Traps.{newer_trap};
 ghost use Rattle.pl_steps.specs.Steps.{does};
 ghost use Rattle.pl_steps.specs.Taken.{IsTaken, IsTakenByPart};
 ghost use Rattle.pl_switch_rule.specs.Delivering.{addresses, if_newer, last_trap, redirects};
-ghost use Rattle.pl_switch_rule.specs.Granting.{granted, grants_at, grants_or_learns, grants_source, in_use, learns_ip, same_ip};
-ghost use Rattle.pl_migrate.specs.Books.{address_in, address_in_use, book_in, empty_book, granted_in, grantee_in, grants_of, is_here, is_in_use, is_last_given, next_address, trap_in, traps, with_granted, with_next};
+ghost use Rattle.pl_switch_rule.specs.Granting.{granted, grants_at, grants_or_learns, grants_remembered, grants_source, in_use, learns_ip, same_ip};
+ghost use Rattle.pl_migrate.specs.Books.{address_in, address_in_use, book_in, empty_book, granted_in, grantee_in, grants_of, is_here, is_in_use, is_last_given, next_address, sources_in, trap_in, traps, with_granted, with_next};
 ghost use Rattle.pl_migrate.specs.Keeping.{IsGrantedOnce, IsHostsOwn, KeepsGrants, KeepsTraps};
 ghost use Rattle.pl_migrate.specs.PortGrants.{TakesPlaceOf};
 
@@ -194,6 +195,28 @@ impl AddressBook {
             }
             None => Ok(()),
         }
+    }
+
+    /// The same of all k ports, rising. Nothing is remembered there any more.
+    pub fn learn_all_remembered(
+        &mut self,
+        k: u8,
+        remembered: &mut [Option<Source>],
+        out: &mut Outbox,
+    ) -> Result<(), Memory>
+        requires ports { k ≡ length self.old.grants }
+        requires sources { k ≡ length remembered.old }
+        ensures taken { OnOk result ((v : SwitchView) → IsTaken (grants_remembered (ports_of_switch k) (sources_in self.old remembered.old v)) (sources_in self.new remembered.new v) out.old out.new) }
+        ensures many { length remembered.new ≡ length remembered.old }
+        ensures kept { KeepsGrants self.old self.new }
+        ensures traps { KeepsTraps self.old self.new }
+    {
+        for port in 0..k {
+            let source = remembered[usize::from(port)];
+            self.learn_remembered(port, source, out)?;
+            remembered[usize::from(port)] = None;
+        }
+        Ok(())
     }
 
     /// Sets a trap for an address, unless one with a larger number stands there: from now on the address

@@ -1,11 +1,13 @@
 -- The members of a group stand together in the order, and their ports are the ports of the group.
-use Rattle.std.proofs.Common.{◌≡◌, ℕ, zero, suc, ◌+◌, ◌<◌, ◌==◌, ◌&&◌, ◌||◌, Bool, true, false, cond, List, [], ◌∷◌, refl, sym, ap, ◌∙◌, inl, inr, arith}
+use Rattle.std.proofs.Common.{◌≡◌, ℕ, zero, suc, ◌+◌, ◌<◌, ◌==◌, ◌&&◌, ◌||◌, Bool, true, false, cond, List, [], ◌∷◌, Option, Some, None, refl, sym, ap, ◌∙◌, inl, inr, arith}
 use Rattle.std.specs.BTreeMap.Range.{range_contains}
 use Rattle.std.specs.BTreeSet.{insert_key}
 use Rattle.std.specs.declared.cmp.Ordering.{Ordering}
 use Rattle.std.specs.declared.cmp.Ordering.TheVariants.{Less, Equal, Greater}
 use Rattle.std.specs.declared.ops.Bound.TheVariants.{Included, Excluded}
 use Rattle.std.specs.List.{All, filter, list_any, range_with_len}
+use Rattle.std.specs.Map.Iter.{TakesFirst}
+use Rattle.std.specs.Option.{is_some}
 use Rattle.std.specs.Ordering.{is_le, match_ordering, nat_cmp}
 use Rattle.std.proofs.lemmas.Bool.{cases_eq, cases_lt, eq-eqb, ne_eqb}
 use Rattle.std.proofs.lemmas.List.Elements.{All-cons, All-nil, All-weaker}
@@ -14,7 +16,7 @@ use Rattle.pl_layouts.specs.Frames.{mac_number}
 use Rattle.pl_lists.specs.declared.port_set.PortSet.{PortSet}
 use Rattle.pl_lists.specs.Ports.{has_port, ports_of}
 use Rattle.pl_lists.proofs.PortBits.{has_port_is}
-use Rattle.pl_switch_rule.specs.Intake.{member_cmp, then_by}
+use Rattle.pl_switch_rule.specs.Intake.{has_member_of, member_cmp, then_by}
 use Rattle.pl_members.specs.Reached.{IsAtPort, start_of, has_member_at, end_of, ports_with_member}
 use Rattle.pl_members.proofs.Comparing.{from_equal, is_equal, is_greater, is_less}
 use Rattle.pl_members.proofs.Removing.{filter_alike}
@@ -114,3 +116,28 @@ unfolding ports_of ports_with_member
 ports_are set xs group reached =
     filter_alike (has_port set) (has_member_at xs group) (range_with_len 0 32)
     (within 0 32 (λ port. has_port set port ≡ has_member_at xs group port) (λ port h. sym (has_port_is set port h) ∙ reached port))
+
+is_some_member : List Member → Bool
+is_some_member [] = false
+is_some_member (m ∷ ms) = true
+
+some_kept : (p : Member → Bool) (xs : List Member) → is_some_member (filter p xs) ≡ list_any p xs
+unfolding is_some_member
+some_kept p [] = refl
+some_kept p (x ∷ xs) = elim (p x) as (λ b. is_some_member (cond b (x ∷ filter p xs) (filter p xs)) ≡ (b || list_any p xs)) [
+  | true ↦ refl
+  | false ↦ some_kept p xs
+]
+
+took : {A : Type 0} (shows : A → Member) (items rest : List Member) (first : Option A) → TakesFirst shows items first rest → is_some first ≡ is_some_member items
+unfolding is_some_member
+took shows items rest None h = ap is_some_member (sym h.0)
+took shows items rest (Some m) h = ap is_some_member (sym h)
+
+-- the first member between the bounds of a group is there where the group has members
+pub first_in_range : {A : Type 0} (shows : A → Member) (group : ℕ) (items rest xs : List Member) (first : Option A) → TakesFirst shows items first rest →
+    items ≡ filter (in_range group) xs → All IsAtPort xs → is_some first ≡ has_member_of xs group
+first_in_range shows group items rest xs first takes is all =
+    took shows items rest first takes
+    ∙ ap is_some_member (is ∙ filter_alike (in_range group) (λ m. m.group == group) xs (All-weaker IsAtPort (λ m. in_range group m ≡ (m.group == group)) (λ m a. in_group group m a.port) xs all))
+    ∙ some_kept (λ m. m.group == group) xs

@@ -3,7 +3,7 @@ ghost use Rattle.std.specs.List.{filter, list_any};
 ghost use Rattle.pl_core.specs.declared.switch_records.Member.{Member};
 ghost use Rattle.pl_lists.specs.Ports.{ports_of};
 ghost use Rattle.pl_members.specs.Reached.{end_of, has_member_at, ports_with_member, start_of};
-ghost use Rattle.pl_switch_rule.specs.Intake.{groups_of, is_member, joins, leaves};
+ghost use Rattle.pl_switch_rule.specs.Intake.{groups_of, has_member_of, is_member, joins, leaves};
 
 use crate::ranked::Ranked;
 use pl_core::{Member, Memory, PortSet};
@@ -76,6 +76,16 @@ impl Members {
             ports.insert(member.port());
         }
         ports
+    }
+
+    /// Whether a host has joined a group.
+    pub fn has_members(&self, group: u32) -> bool
+        ensures { result ≡ has_member_of self.now group }
+    {
+        self.members
+            .range(start_of(group)..end_of(group))
+            .next()
+            .is_some()
     }
 
     /// Group number n, rising and counted from 0, of those that have members; none exactly past the last.

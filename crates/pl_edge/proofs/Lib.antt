@@ -1,0 +1,5 @@
+pub mod Placing
+pub mod Noting
+pub mod Taking
+pub mod TellsAll
+pub mod Listing

@@ -1,0 +1,84 @@
+-- What an edge switch keeps of the hosts at its ports, and the part of the switch that it is.
+use Rattle.std.specs.Prelude.{◌≡◌, ◌≤◌, ℕ, false, List, [], length, replicate, Option, Some, None, slice_index_or, slice_set}
+use Rattle.pl_frame.specs.declared.address.Ip4.{Ip4}
+use Rattle.pl_frame.specs.declared.address.Mac.{Mac}
+use Rattle.pl_pmac.specs.declared.pmac.Pmac.{Pmac}
+use Rattle.pl_layouts.specs.declared.place.Place.{Place}
+use Rattle.pl_layouts.specs.Placement.{is_placed}
+use Rattle.pl_core.specs.declared.switch_records.Grant.{Grant}
+use Rattle.pl_core.specs.declared.switch_records.Member.{Member}
+use Rattle.pl_core.specs.declared.switch_records.Source.{Source}
+use Rattle.pl_core.specs.SwitchViews.{SwitchView}
+use Rattle.pl_switch_rule.specs.Granting.{or_else, remembered_ip}
+use Rattle.pl_migrate.specs.declared.grantee.Grantee.{Grantee}
+use Rattle.pl_migrate.specs.Books.{BookView, edge_at, empty_book, grantee_in}
+use Rattle.pl_migrate.specs.Keeping.{KeepsGrants, KeepsTraps}
+
+pub record EdgeView : Type 0 where
+  pub k : ℕ
+  -- none while the switch is not placed
+  pub book : Option BookView
+  -- one for each port
+  pub remembered : List (Option Source)
+  -- rising by group, port and address
+  pub members : List Member
+
+-- an edge switch of k ports that has heard nothing
+abbrev pub new_edge : ℕ → EdgeView
+new_edge k = record { k = k; book = None; remembered = replicate k None; members = [] }
+
+abbrev pub place_by : Option BookView → Place → Place
+place_by None place = place
+place_by (Some book) place = edge_at book.pod book.position
+
+abbrev pub grants_by : Option BookView → ℕ → List (List Grant)
+grants_by None k = replicate k []
+grants_by (Some book) k = book.grants
+
+-- a switch with this part; as long as it is not placed, it has granted nothing
+abbrev pub edge_in : EdgeView → SwitchView → SwitchView
+edge_in edge v = record v {
+  place = place_by edge.book v.place;
+  grants = grants_by edge.book edge.k;
+  remembered = edge.remembered;
+  members = edge.members;
+}
+
+-- a switch without a book of addresses is not placed
+abbrev pub MayBeAt : Option BookView → Place → Type 0
+MayBeAt None place = is_placed place ≡ false
+MayBeAt (Some book) place = Unit {0}
+
+-- it becomes placed, and has granted nothing yet
+abbrev pub placed_at : ℕ → ℕ → EdgeView → EdgeView
+placed_at pod position edge = record edge { book = Some (empty_book edge.k pod position) }
+
+-- to which host, and at which port, an address was granted
+abbrev pub grantee_by : Option BookView → Pmac → Option Grantee
+grantee_by None address = None
+grantee_by (Some book) address = grantee_in book address
+
+-- a book has the grants of each port
+abbrev pub HasPorts : Option BookView → ℕ → Type 0
+HasPorts None k = Unit {0}
+HasPorts (Some book) k = length book.grants ≡ k
+
+pub record IsOfPorts (k : ℕ) (book : Option BookView) (remembered : List (Option Source)) : Type 0 where
+  pub few : k ≤ 24
+  pub sources : length remembered ≡ k
+  pub grants : HasPorts book k
+
+-- what was granted stays granted, and each trap stands
+abbrev pub KeepsBook : Option BookView → Option BookView → Type 0
+KeepsBook None None = Unit {0}
+KeepsBook (Some old) (Some new) = KeepsGrants old new × KeepsTraps old new
+KeepsBook _ _ = ⊥
+
+pub record KeepsEdge (old new : EdgeView) : Type 0 where
+  pub k : new.k ≡ old.k
+  pub book : KeepsBook old.book new.book
+
+-- a port's last source is remembered, with the IPv4 address that it gave since it became that
+abbrev pub with_source : List (Option Source) → ℕ → Mac → Option Ip4 → List (Option Source)
+with_source remembered port amac ip =
+    slice_set remembered port (Some (record { amac = amac; ip = or_else ip (remembered_ip (slice_index_or remembered port None) amac) }))

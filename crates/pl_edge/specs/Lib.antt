@@ -1,0 +1,3 @@
+pub mod EdgeViews
+pub mod Begun
+pub mod Told

@@ -1,0 +1,117 @@
+ghost use Rattle.std.specs.Prelude.{◌≡◌, ◌<◌, ◌≤◌, ◌++◌, ℕ, [], None, not, length, IfOk, OnOk};
+ghost use Rattle.pl_frame.specs.Ethernet.{source_of};
+ghost use Rattle.pl_core.specs.PortRecords.{ports_of_switch};
+ghost use Rattle.pl_core.specs.SwitchViews.{SwitchView};
+ghost use Rattle.pl_steps.specs.Taken.{IsTaken};
+ghost use Rattle.pl_switch_rule.specs.Granting.{grants_remembered, has_no_address, learns_source, remembered_ip};
+ghost use Rattle.pl_migrate.specs.Books.{edge_at};
+ghost use Rattle.pl_edge.specs.EdgeViews.{edge_in, grantee_by, new_edge, with_source, KeepsEdge, MayBeAt};
+
+use crate::reading::{sender_ip, source_of};
+use pl_core::{Memory, Outbox, Source};
+use pl_frame::{Frame, Ip4, Mac};
+use pl_members::Members;
+use pl_migrate::{AddressBook, Grantee};
+use pl_pmac::Pmac;
+use std::alloc::Global;
+use std::marker::Model;
+
+/// What an edge switch keeps of the hosts at its ports. Contracts see its k, the book of addresses once it
+/// is placed, what it remembers of each port, and the memberships.
+#[derive(Drop)]
+pub struct EdgeTable {
+    pub(crate) alloc: Global,
+    pub(crate) k: u8,
+    pub(crate) book: Option<AddressBook>,
+    pub(crate) remembered: Vec<Option<Source>>,
+    pub(crate) members: Members,
+}
+
+impl Model for EdgeTable {
+    ghost use Rattle.pl_edge.specs.EdgeViews.{EdgeView, IsOfPorts};
+
+    ghost Value = { EdgeView };
+
+    ghost view = { λ table. record { k = table.k; book = table.book; remembered = table.remembered.items; members = table.members } };
+
+    ghost invariant = { λ table. IsOfPorts table.k table.book table.remembered.items };
+}
+
+impl EdgeTable {
+    /// An edge switch of k ports that is not placed and has heard nothing.
+    pub fn new(alloc: Global, k: u8) -> Result<EdgeTable, Memory>
+        requires { k ≤ 24 }
+        ensures { IfOk result (λ edge. edge ≡ new_edge k) }
+    {
+        Ok(EdgeTable {
+            alloc,
+            k,
+            book: None,
+            remembered: vec![in alloc; None; usize::from(k)]?,
+            members: Members::new(alloc),
+        })
+    }
+
+    /// To whom an address was granted, be it in use or not; none also before the switch is placed.
+    pub fn find(&self, pmac: Pmac) -> Option<Grantee>
+        ensures { result ≡ grantee_by self.now.book pmac }
+    {
+        match &self.book {
+            Some(book) => book.find(pmac),
+            None => None,
+        }
+    }
+
+    /// The switch became placed: each source that it remembers is granted an address, by rising port.
+    pub fn placed(&mut self, pod: u16, position: u8, out: &mut Outbox) -> Result<(), Memory>
+        requires { self.old.book ≡ None }
+        ensures taken { OnOk result ((v : SwitchView) → IsTaken (grants_remembered (ports_of_switch self.old.k) (record (edge_in self.old v) { place = edge_at pod position })) (edge_in self.new v) out.old out.new) }
+        ensures k { self.new.k ≡ self.old.k }
+    {
+        let mut book = AddressBook::new(self.alloc, self.k, pod, position)?;
+        book.learn_all_remembered(self.k, self.remembered.as_mut_slice(), out)?;
+        self.book = Some(book);
+        Ok(())
+    }
+
+    /// The source of a frame that a host sent is learnt: it has an address or is granted one, or it is
+    /// remembered as long as the switch is not placed. False exactly where every vmid of the port was
+    /// given, so that it has none and the frame ends.
+    pub fn learn(&mut self, port: u8, frame: &Frame, out: &mut Outbox) -> Result<bool, Memory>
+        requires port { port < self.old.k }
+        requires long { 14 ≤ length frame.now }
+        ensures taken { OnOk result ((v : SwitchView) → MayBeAt self.old.book v.place → IsTaken (learns_source (edge_in self.old v) port frame.now) (edge_in self.new v) out.old out.new) }
+        ensures known { IfOk result (λ known. (v : SwitchView) → MayBeAt self.old.book v.place → not known ≡ has_no_address (edge_in self.new v) port (source_of frame.now)) }
+        ensures kept { KeepsEdge self.old self.new }
+    {
+        let amac = source_of(frame.bytes());
+        let ip = sender_ip(frame.bytes());
+        match &mut self.book {
+            Some(book) => Ok(book.learn(port, amac, ip, out)?.is_some()),
+            None => {
+                remember(&mut self.remembered, port, amac, ip);
+                Ok(true)
+            }
+        }
+    }
+}
+
+// The last source of a port, with the IPv4 address that it gave since it became that.
+fn remember(remembered: &mut Vec<Option<Source>>, port: u8, amac: Mac, ip: Option<Ip4>)
+    requires { port < length remembered.old.items }
+    ensures { remembered.new.items ≡ with_source remembered.old.items port amac ip }
+{
+    let known = remembered_ip(remembered[usize::from(port)], amac);
+    let ip = ip.or(known);
+    remembered[usize::from(port)] = Some(Source { amac, ip });
+}
+
+// The IPv4 address that a source gave which is remembered.
+fn remembered_ip(source: Option<Source>, amac: Mac) -> Option<Ip4>
+    ensures { result ≡ remembered_ip source amac }
+{
+    match source {
+        Some(source) if source.amac == amac => source.ip,
+        _ => None,
+    }
+}

@@ -1,15 +1,13 @@
 -- A step that is taken up to a rest.
-use Rattle.std.proofs.Common.{◌≡◌, ℕ, true, false, if◌then◌else◌, List, [], ◌∷◌, ◌++◌, Option, Some, None, refl, sym, ap, subst, ◌∙◌, append_assoc, option_map}
+use Rattle.std.proofs.Common.{◌≡◌, ℕ, true, false, if◌then◌else◌, List, [], ◌∷◌, ◌++◌, Some, None, refl, sym, ap, subst, ◌∙◌, append_assoc}
 use Rattle.std.proofs.lemmas.List.{append-nil}
 use Rattle.pl_core.specs.declared.acts.Act.{Act}
 use Rattle.pl_core.specs.declared.acts.Act.TheVariants.{Make, Redirect}
 use Rattle.pl_core.specs.declared.switch_records.Grant.{Grant}
 use Rattle.pl_core.specs.declared.trap.Trap.{Trap}
 use Rattle.pl_core.specs.SwitchViews.{SwitchView}
-use Rattle.pl_delivery.specs.Sending.{IsTakenUpTo, makes_any}
-use Rattle.pl_frame.specs.declared.address.Ip4.{Ip4}
+use Rattle.pl_delivery.specs.Sending.{IsTakenUpTo}
 use Rattle.pl_frame.specs.Ethernet.{with_destination}
-use Rattle.pl_layouts.specs.Frames.{is_arp}
 use Rattle.pl_migrate.specs.Books.{BookView, book_in, is_here, trap_in}
 use Rattle.pl_pmac.specs.declared.pmac.Pmac.{Pmac}
 use Rattle.pl_pmac.specs.Pmac.{mac_of}
@@ -17,7 +15,7 @@ use Rattle.pl_steps.proofs.Parts.{taken_rests, taken_then}
 use Rattle.pl_steps.specs.Steps.{SwitchStep, does, rests, ◌▹◌}
 use Rattle.pl_steps.specs.Taken.{IsTaken}
 use Rattle.pl_switch_rule.specs.declared.came.Came.TheVariants.{FromHost}
-use Rattle.pl_switch_rule.specs.Delivering.{addresses, begins, comes_home, delivers, delivers_or_redirects, destination, goes_on, is_trapped, last_trap, makes, newer_address, redirects, tells_newer, tells_sender, trap_for}
+use Rattle.pl_switch_rule.specs.Delivering.{addresses, begins, comes_home, delivers, delivers_or_redirects, destination, goes_on, is_trapped, last_trap, makes, redirects}
 use Rattle.pl_switch_rule.specs.Forwarding.{Choice, forwards}
 use Rattle.pl_switch_rule.specs.Messages.{forgets_members, invalidates, probes, sets_trap}
 
@@ -94,33 +92,6 @@ begins_upward book choose v frame o p away made = let w : SwitchView = book_in b
     let rest : SwitchStep = forwards choose w (Some FromHost) frame in
     then_up_to (does w (Make frame ∷ [])) rest (λ u. begins choose u frame) w o p p (record { view = refl; acts = made })
     (subst (λ b. IsTakenUpTo rest (if b then comes_home choose w frame else rest) p p) (sym away) (all_left rest p))
-
--- The sender is told.
-
-pub not_told : (choose : Choice) (frame : List ℕ) (trap : Option Trap) (v : SwitchView) → is_arp frame ≡ true → rests v ≡ tells_sender choose frame trap v
-not_told choose frame None v arp = refl
-not_told choose frame (Some trap) v arp =
-    sym (ap (λ b. if b then does v [] else tells_newer choose frame (last_trap (addresses v) v trap).new (last_trap (addresses v) v trap).ip v) arp)
-
-told_of : (choose : Choice) (frame : List ℕ) (new : Pmac) (ip : Option Ip4) (v : SwitchView) →
-    makes_any choose (option_map (newer_address frame new) ip) v ≡ tells_newer choose frame new ip v
-told_of choose frame new None v = refl
-told_of choose frame new (Some ip) v = refl
-
-pub told : (book : BookView) (choose : Choice) (frame : List ℕ) (trap last : Trap) (reply : Option (List ℕ)) (v : SwitchView) →
-    is_arp frame ≡ false → Some trap ≡ trap_in book (destination frame) → last ≡ last_trap (addresses (book_in book v)) (book_in book v) trap →
-    reply ≡ option_map (newer_address frame last.new) last.ip →
-    makes_any choose reply (book_in book v) ≡ tells_sender choose frame (trap_for (book_in book v) (destination frame)) (book_in book v)
-told book choose frame trap last reply v plain is is_last replied = let w : SwitchView = book_in book v in
-    ap (λ r. makes_any choose r w) replied
-    ∙ told_of choose frame last.new last.ip w
-    ∙ ap (λ (l : Trap). tells_newer choose frame l.new l.ip w) is_last
-    ∙ sym (ap (λ b. if b then does w [] else tells_newer choose frame (last_trap (addresses w) w trap).new (last_trap (addresses w) w trap).ip w) plain)
-    ∙ ap (λ t. tells_sender choose frame t w) is
-
-pub none_told : (book : BookView) (choose : Choice) (frame : List ℕ) (v : SwitchView) → None ≡ trap_in book (destination frame) →
-    rests (book_in book v) ≡ tells_sender choose frame (trap_for (book_in book v) (destination frame)) (book_in book v)
-none_told book choose frame v is = ap (λ t. tells_sender choose frame t (book_in book v)) is
 
 -- An address is invalidated.
 

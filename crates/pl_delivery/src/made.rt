@@ -1,5 +1,6 @@
-ghost use Rattle.std.specs.Prelude.{◌≡◌, ◌≤◌, length, option_map, IfOk};
+ghost use Rattle.std.specs.Prelude.{◌≡◌, ◌≤◌, length, option_map, IfOk, IfSome};
 ghost use Rattle.pl_core.specs.SwitchViews.{SwitchView};
+ghost use Rattle.pl_delivery.specs.Replies.{last_from, reply_to};
 ghost use Rattle.pl_delivery.specs.Sending.{makes_any};
 ghost use Rattle.pl_migrate.specs.Books.{book_in};
 ghost use Rattle.pl_switch_rule.specs.Delivering.{destination, newer_address, tells_sender, trap_for};
@@ -20,7 +21,9 @@ use std::alloc::Global;
 /// the IPv4 address of the host is not known, or where the frame is an ARP frame.
 pub fn reply(book: &AddressBook, alloc: Global, frame: &[u8]) -> Result<Option<Frame>, Memory>
     requires { 14 ≤ length frame.now }
-    ensures { IfOk result (λ reply. (choose : Choice) (v : SwitchView) → makes_any choose reply (book_in book.now v) ≡ tells_sender choose frame.now (trap_for (book_in book.now v) (destination frame.now)) (book_in book.now v)) }
+    ensures reply { IfOk result (λ reply. (v : SwitchView) → reply ≡ reply_to frame.now (last_from (book_in book.now v) (trap_for (book_in book.now v) (destination frame.now)))) }
+    ensures tells { IfOk result (λ reply. (choose : Choice) (v : SwitchView) → makes_any choose reply (book_in book.now v) ≡ tells_sender choose frame.now (trap_for (book_in book.now v) (destination frame.now)) (book_in book.now v)) }
+    ensures length { IfOk result (λ reply. IfSome reply (λ frame. length frame ≡ 42)) }
 {
     if is_arp(frame) {
         return Ok(None);
@@ -39,7 +42,8 @@ pub fn answer(
     ip: Ip4,
     pmac: Pmac,
 ) -> Result<Frame, Memory>
-    ensures { IfOk result (λ frame. frame ≡ answer_frame asker asker_ip ip pmac) }
+    ensures frame { IfOk result (λ frame. frame ≡ answer_frame asker asker_ip ip pmac) }
+    ensures length { IfOk result (λ frame. length frame ≡ 42) }
 {
     let arp = Arp {
         op: REPLY,
@@ -53,7 +57,8 @@ pub fn answer(
 
 /// The ARP request to all hosts, in the name of a host here that asked.
 pub fn flood(alloc: Global, asker: Pmac, asker_ip: Ip4, ip: Ip4) -> Result<Frame, Memory>
-    ensures { IfOk result (λ frame. frame ≡ flood_frame asker asker_ip ip) }
+    ensures frame { IfOk result (λ frame. frame ≡ flood_frame asker asker_ip ip) }
+    ensures length { IfOk result (λ frame. length frame ≡ 42) }
 {
     let arp = Arp {
         op: REQUEST,
@@ -68,7 +73,8 @@ pub fn flood(alloc: Global, asker: Pmac, asker_ip: Ip4, ip: Ip4) -> Result<Frame
 // That reply, with the newer address that the last trap names.
 fn newer_address(alloc: Global, frame: &[u8], last: Trap) -> Result<Option<Frame>, Memory>
     requires { 14 ≤ length frame.now }
-    ensures { IfOk result (λ reply. reply ≡ option_map (newer_address frame.now last.new) last.ip) }
+    ensures reply { IfOk result (λ reply. reply ≡ option_map (newer_address frame.now last.new) last.ip) }
+    ensures length { IfOk result (λ reply. IfSome reply (λ frame. length frame ≡ 42)) }
 {
     match last.ip {
         Some(ip) => {

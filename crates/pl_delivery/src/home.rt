@@ -1,11 +1,8 @@
 ghost use Rattle.std.specs.Prelude.{◌≡◌, ◌≤◌, length, IfOk};
-ghost use Rattle.pl_core.specs.SwitchViews.{SwitchView};
-ghost use Rattle.pl_delivery.specs.Sending.{HasLength, IsTakenUpTo, left_to_do};
+ghost use Rattle.pl_delivery.specs.Sending.{HasLength, IsSentBy};
 ghost use Rattle.pl_frame.specs.Ethernet.{with_destination};
 ghost use Rattle.pl_pmac.specs.Pmac.{mac_of};
-ghost use Rattle.pl_migrate.specs.Books.{book_in};
 ghost use Rattle.pl_switch_rule.specs.Delivering.{comes_home, goes_on, is_trapped, makes};
-ghost use Rattle.pl_switch_rule.specs.Forwarding.{Choice};
 
 use crate::Sent;
 use crate::delivery::{deliver, destination};
@@ -19,7 +16,7 @@ use std::alloc::Global;
 /// that address, the frame goes on along the traps, under the address of the last: here, or upward.
 pub fn egress(book: &AddressBook, frame: Frame, out: &mut Outbox) -> Result<Sent, Memory>
     requires { 14 ≤ length frame }
-    ensures taken { IfOk result (λ sent. (choose : Choice) (v : SwitchView) → IsTakenUpTo (left_to_do choose sent (book_in book.now v)) (comes_home choose (book_in book.now v) frame) out.old out.new) }
+    ensures taken { IfOk result (IsSentBy (λ choose v. comes_home choose v frame) book.now out.old out.new) }
     ensures length { IfOk result (HasLength (length frame)) }
 {
     match book.follow(destination(frame.bytes())) {
@@ -40,7 +37,7 @@ pub fn begin(
     out: &mut Outbox,
 ) -> Result<Sent, Memory>
     requires { 14 ≤ length frame }
-    ensures taken { IfOk result (λ sent. (choose : Choice) (v : SwitchView) → IsTakenUpTo (left_to_do choose sent (book_in book.now v)) (makes choose frame (book_in book.now v)) out.old out.new) }
+    ensures taken { IfOk result (IsSentBy (λ choose v. makes choose frame v) book.now out.old out.new) }
     ensures length { IfOk result (HasLength (length frame)) }
 {
     out.push(Act::Make(Frame::copy(alloc, frame.bytes())?))?;
@@ -59,7 +56,7 @@ fn redirect(
     out: &mut Outbox,
 ) -> Result<Sent, Memory>
     requires { 14 ≤ length frame }
-    ensures taken { IfOk result (λ sent. (choose : Choice) (v : SwitchView) → IsTakenUpTo (left_to_do choose sent (book_in book.now v)) (is_trapped choose (book_in book.now v) frame trap) out.old out.new) }
+    ensures taken { IfOk result (IsSentBy (λ choose v. is_trapped choose v frame trap) book.now out.old out.new) }
     ensures length { IfOk result (HasLength (length frame)) }
 {
     let old = destination(frame.bytes());
@@ -80,7 +77,7 @@ fn readdress(frame: &mut Frame, to: Pmac)
 // A frame goes on under a newer address.
 fn go_on(book: &AddressBook, frame: Frame, out: &mut Outbox) -> Result<Sent, Memory>
     requires { 14 ≤ length frame }
-    ensures taken { IfOk result (λ sent. (choose : Choice) (v : SwitchView) → IsTakenUpTo (left_to_do choose sent (book_in book.now v)) (goes_on choose (book_in book.now v) frame) out.old out.new) }
+    ensures taken { IfOk result (IsSentBy (λ choose v. goes_on choose v frame) book.now out.old out.new) }
     ensures length { IfOk result (HasLength (length frame)) }
 {
     if book.is_local(destination(frame.bytes())) {

@@ -2,7 +2,7 @@ ghost use Rattle.std.specs.Prelude.{◌≡◌, ◌≤◌, length, option_map, If
 ghost use Rattle.pl_core.specs.SwitchViews.{SwitchView};
 ghost use Rattle.pl_delivery.specs.Replies.{last_from, reply_to};
 ghost use Rattle.pl_delivery.specs.Sending.{makes_any};
-ghost use Rattle.pl_migrate.specs.Books.{book_in};
+ghost use Rattle.pl_migrate.specs.Books.{book_in, trap_in};
 ghost use Rattle.pl_switch_rule.specs.Delivering.{destination, newer_address, tells_sender, trap_for};
 ghost use Rattle.pl_switch_rule.specs.Forwarding.{Choice};
 ghost use Rattle.pl_switch_rule.specs.Messages.{answer_frame, flood_frame};
@@ -21,7 +21,7 @@ use std::alloc::Global;
 /// the IPv4 address of the host is not known, or where the frame is an ARP frame.
 pub fn reply(book: &AddressBook, alloc: Global, frame: &[u8]) -> Result<Option<Frame>, Memory>
     requires { 14 ≤ length frame.now }
-    ensures reply { IfOk result (λ reply. (v : SwitchView) → reply ≡ reply_to frame.now (last_from (book_in book.now v) (trap_for (book_in book.now v) (destination frame.now)))) }
+    ensures reply { IfOk result (λ reply. (v : SwitchView) → reply ≡ reply_to frame.now (last_from (book_in book.now v) (trap_in book.now (destination frame.now)))) }
     ensures tells { IfOk result (λ reply. (choose : Choice) (v : SwitchView) → makes_any choose reply (book_in book.now v) ≡ tells_sender choose frame.now (trap_for (book_in book.now v) (destination frame.now)) (book_in book.now v)) }
     ensures length { IfOk result (λ reply. IfSome reply (λ frame. length frame ≡ 42)) }
 {

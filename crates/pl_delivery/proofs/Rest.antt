@@ -1,0 +1,104 @@
+-- A step that is taken up to a rest.
+use Rattle.std.proofs.Common.{◌≡◌, ℕ, true, false, if◌then◌else◌, List, [], ◌∷◌, ◌++◌, Some, None, refl, sym, ap, subst, ◌∙◌, append_assoc}
+use Rattle.std.proofs.lemmas.List.{append-nil}
+use Rattle.pl_core.specs.declared.acts.Act.{Act}
+use Rattle.pl_core.specs.declared.acts.Act.TheVariants.{Make, Redirect}
+use Rattle.pl_core.specs.declared.switch_records.Grant.{Grant}
+use Rattle.pl_core.specs.declared.trap.Trap.{Trap}
+use Rattle.pl_core.specs.SwitchViews.{SwitchView}
+use Rattle.pl_delivery.specs.Sending.{IsTakenUpTo}
+use Rattle.pl_frame.specs.Ethernet.{with_destination}
+use Rattle.pl_migrate.specs.Books.{BookView, book_in, is_here, trap_in}
+use Rattle.pl_pmac.specs.declared.pmac.Pmac.{Pmac}
+use Rattle.pl_pmac.specs.Pmac.{mac_of}
+use Rattle.pl_steps.proofs.Parts.{taken_rests, taken_then}
+use Rattle.pl_steps.specs.Steps.{SwitchStep, does, rests, ◌▹◌}
+use Rattle.pl_steps.specs.Taken.{IsTaken}
+use Rattle.pl_switch_rule.specs.declared.came.Came.TheVariants.{FromHost}
+use Rattle.pl_switch_rule.specs.Delivering.{addresses, begins, comes_home, delivers, delivers_or_redirects, destination, goes_on, is_trapped, last_trap, makes, redirects}
+use Rattle.pl_switch_rule.specs.Forwarding.{Choice, forwards}
+use Rattle.pl_switch_rule.specs.Messages.{forgets_members, invalidates, probes, sets_trap}
+
+pub rest_done : (rest step : SwitchStep) (w : SwitchView) (o p q : List Act) → IsTakenUpTo rest step o p → IsTaken rest w p q → IsTaken step w o q
+rest_done rest step w o p q a b = record { view = b.view ∙ sym a.view; acts = b.acts ∙ a.acts }
+
+pub nothing_left : (step : SwitchStep) (v : SwitchView) (o p : List Act) → IsTaken step v o p → IsTakenUpTo (rests v) step o p
+nothing_left step v o p a = record { view = sym a.view; acts = append-nil p ∙ a.acts }
+
+pub all_left : (step : SwitchStep) (o : List Act) → IsTakenUpTo step step o o
+all_left step o = record { view = refl; acts = refl }
+
+-- behind a part that is taken, the rest of the next part is the rest of both
+pub then_up_to : (s rest : SwitchStep) (next : SwitchView → SwitchStep) (v : SwitchView) (o p q : List Act) →
+    IsTaken s v o p → IsTakenUpTo rest (next v) p q → IsTakenUpTo rest (s ▹ next) o q
+then_up_to s rest next v o p q a b = record {
+  view = sym (ap (λ u. (next u).view) a.view) ∙ b.view;
+  acts = b.acts ∙ ap (λ xs. xs ++ (next v).acts) a.acts ∙ append_assoc o s.acts (next v).acts ∙ ap (λ u. o ++ (s.acts ++ (next u).acts)) a.view;
+}
+
+-- Where a frame goes on.
+
+pub goes_on_here : (book : BookView) (choose : Choice) (v : SwitchView) (frame : List ℕ) (o p : List Act) → is_here book (destination frame) ≡ true →
+    IsTaken (delivers (book_in book v) frame) (book_in book v) o p → IsTakenUpTo (rests (book_in book v)) (goes_on choose (book_in book v) frame) o p
+goes_on_here book choose v frame o p here taken = let w : SwitchView = book_in book v in
+    subst (λ b. IsTakenUpTo (rests w) (if b then delivers w frame else forwards choose w (Some FromHost) frame) o p) (sym here)
+    (nothing_left (delivers w frame) w o p taken)
+
+pub goes_on_upward : (book : BookView) (choose : Choice) (v : SwitchView) (frame : List ℕ) (o : List Act) → is_here book (destination frame) ≡ false →
+    IsTakenUpTo (forwards choose (book_in book v) (Some FromHost) frame) (goes_on choose (book_in book v) frame) o o
+goes_on_upward book choose v frame o away = let w : SwitchView = book_in book v in
+    subst (λ b. IsTakenUpTo (forwards choose w (Some FromHost) frame) (if b then delivers w frame else forwards choose w (Some FromHost) frame) o o) (sym away)
+    (all_left (forwards choose w (Some FromHost) frame) o)
+
+-- A frame that meets a trap.
+
+pub trapped : (book : BookView) (choose : Choice) (v : SwitchView) (frame next : List ℕ) (trap last : Trap) (old : Pmac) (rest : SwitchStep) (o p q : List Act) →
+    old ≡ destination frame → last ≡ last_trap (addresses (book_in book v)) (book_in book v) trap → next ≡ with_destination frame (mac_of last.new) →
+    IsTaken (does (book_in book v) (Redirect old trap.new ∷ redirects (addresses (book_in book v)) (book_in book v) trap)) (book_in book v) o p →
+    IsTakenUpTo rest (goes_on choose (book_in book v) next) p q → IsTakenUpTo rest (is_trapped choose (book_in book v) frame trap) o q
+trapped book choose v frame next trap last old rest o p q at is_last is_next taken further = let w : SwitchView = book_in book v in
+    then_up_to (does w (Redirect (destination frame) trap.new ∷ redirects (addresses w) w trap)) rest
+    (λ u. goes_on choose u (with_destination frame (mac_of (last_trap (addresses w) w trap).new))) w o p q
+    (subst (λ a. IsTaken (does w (Redirect a trap.new ∷ redirects (addresses w) w trap)) w o p) at taken)
+    (subst (λ f. IsTakenUpTo rest (goes_on choose w f) p q) (is_next ∙ ap (λ (l : Trap). with_destination frame (mac_of l.new)) is_last) further)
+
+-- A frame comes home.
+
+pub home_trapped : (book : BookView) (choose : Choice) (v : SwitchView) (frame : List ℕ) (trap : Trap) (rest : SwitchStep) (o p : List Act) →
+    Some trap ≡ trap_in book (destination frame) → IsTakenUpTo rest (is_trapped choose (book_in book v) frame trap) o p →
+    IsTakenUpTo rest (comes_home choose (book_in book v) frame) o p
+home_trapped book choose v frame trap rest o p is taken =
+    subst (λ t. IsTakenUpTo rest (delivers_or_redirects choose (book_in book v) frame t) o p) is taken
+
+pub home_delivered : (book : BookView) (choose : Choice) (v : SwitchView) (frame : List ℕ) (o p : List Act) →
+    None ≡ trap_in book (destination frame) → IsTaken (delivers (book_in book v) frame) (book_in book v) o p →
+    IsTakenUpTo (rests (book_in book v)) (comes_home choose (book_in book v) frame) o p
+home_delivered book choose v frame o p is taken = let w : SwitchView = book_in book v in
+    subst (λ t. IsTakenUpTo (rests w) (delivers_or_redirects choose w frame t) o p) is (nothing_left (delivers w frame) w o p taken)
+
+-- A frame begins.
+
+pub begins_here : (book : BookView) (choose : Choice) (v : SwitchView) (frame : List ℕ) (rest : SwitchStep) (o p q : List Act) →
+    is_here book (destination frame) ≡ true → p ≡ o ++ Make frame ∷ [] → IsTakenUpTo rest (comes_home choose (book_in book v) frame) p q →
+    IsTakenUpTo rest (makes choose frame (book_in book v)) o q
+begins_here book choose v frame rest o p q here made taken = let w : SwitchView = book_in book v in
+    then_up_to (does w (Make frame ∷ [])) rest (λ u. begins choose u frame) w o p q (record { view = refl; acts = made })
+    (subst (λ b. IsTakenUpTo rest (if b then comes_home choose w frame else forwards choose w (Some FromHost) frame) p q) (sym here) taken)
+
+pub begins_upward : (book : BookView) (choose : Choice) (v : SwitchView) (frame : List ℕ) (o p : List Act) →
+    is_here book (destination frame) ≡ false → p ≡ o ++ Make frame ∷ [] →
+    IsTakenUpTo (forwards choose (book_in book v) (Some FromHost) frame) (makes choose frame (book_in book v)) o p
+begins_upward book choose v frame o p away made = let w : SwitchView = book_in book v in
+    let rest : SwitchStep = forwards choose w (Some FromHost) frame in
+    then_up_to (does w (Make frame ∷ [])) rest (λ u. begins choose u frame) w o p p (record { view = refl; acts = made })
+    (subst (λ b. IsTakenUpTo rest (if b then comes_home choose w frame else rest) p p) (sym away) (all_left rest p))
+
+-- An address is invalidated.
+
+pub invalidated : (v w : SwitchView) (old : Pmac) (trap : Trap) (grant : Grant) (o p q : List Act) →
+    IsTaken (forgets_members old.port grant.amac (sets_trap v old grant trap)) w o p → IsTaken (probes old grant w) w p q →
+    IsTaken (invalidates v old trap (Some grant)) w o q
+invalidated v w old trap grant o p q forgot probed = let u : SwitchView = sets_trap v old grant trap in
+    taken_then (does u [] ▹ forgets_members old.port grant.amac) (probes old grant) w w o p q
+    (taken_then (does u []) (forgets_members old.port grant.amac) u w o o p (taken_rests u o) forgot)
+    probed

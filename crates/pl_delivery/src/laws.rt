@@ -1,0 +1,22 @@
+ghost use Rattle.std.specs.Prelude.{◌≡◌, List, Some};
+ghost use Rattle.pl_core.specs.declared.acts.Act.{Act};
+ghost use Rattle.pl_core.specs.declared.switch_records.Grant.{Grant};
+ghost use Rattle.pl_core.specs.declared.trap.Trap.{Trap};
+ghost use Rattle.pl_core.specs.SwitchViews.{SwitchView};
+ghost use Rattle.pl_delivery.specs.Sending.{IsTakenUpTo};
+ghost use Rattle.pl_pmac.specs.declared.pmac.Pmac.{Pmac};
+ghost use Rattle.pl_steps.specs.Steps.{SwitchStep};
+ghost use Rattle.pl_steps.specs.Taken.{IsTaken};
+ghost use Rattle.pl_switch_rule.specs.Granting.{granted};
+ghost use Rattle.pl_switch_rule.specs.Messages.{forgets_members, invalidates, probes, sets_trap};
+
+/// Who takes what is left of a step has taken the step.
+pub fn what_is_left_is_done()
+    ensures { (rest step : SwitchStep) (after : SwitchView) (out_before between out_after : List Act) → IsTakenUpTo rest step out_before between → IsTaken rest after between out_after → IsTaken step after out_before out_after }
+{}
+
+/// Where a trap is set for an address, then what its host had joined is forgotten, and then the host is
+/// probed, an `Invalidate` is heard.
+pub fn an_invalidation_is_three_parts()
+    ensures { (v w : SwitchView) (old : Pmac) (trap : Trap) (grant : Grant) (out_before between out_after : List Act) → IsTaken (forgets_members old.port grant.amac (sets_trap v old grant trap)) w out_before between → IsTaken (probes old grant w) w between out_after → IsTaken (invalidates v old trap (Some grant)) w out_before out_after }
+{}

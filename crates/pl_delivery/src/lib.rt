@@ -1,0 +1,22 @@
+//! What an edge switch does with a frame for its own pod and position, and the ARP frames that it makes
+//! (PortLand, SIGCOMM 2009, section 3.3).
+//!
+//! The calls speak of the address book of the switch and of a frame that they own: it is rewritten in
+//! place, and copied only behind a `Make`. Each is a row of the switch's rule for every switch that has
+//! this book. By which port a frame leaves for another edge switch is left to the crates above: such a
+//! frame is given back as `Sent::Upward`.
+#![tactic(auto)]
+
+pub use delivery::deliver;
+pub use home::{begin, egress};
+pub use invalidation::{invalidate, probe};
+pub use laws::{an_invalidation_is_three_parts, what_is_left_is_done};
+pub use made::{answer, flood, reply};
+pub use sent::Sent;
+
+mod delivery;
+mod home;
+mod invalidation;
+mod laws;
+mod made;
+mod sent;

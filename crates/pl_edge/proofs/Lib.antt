@@ -3,3 +3,4 @@ pub mod Noting
 pub mod Taking
 pub mod TellsAll
 pub mod Listing
+pub mod Delivered

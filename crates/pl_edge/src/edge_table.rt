@@ -1,4 +1,4 @@
-ghost use Rattle.std.specs.Prelude.{◌≡◌, ◌<◌, ◌≤◌, ◌++◌, ℕ, [], None, not, length, IfOk, OnOk};
+ghost use Rattle.std.specs.Prelude.{◌≡◌, ◌<◌, ◌≤◌, ◌++◌, ℕ, [], None, not, is_some, length, IfOk, OnOk};
 ghost use Rattle.pl_frame.specs.Ethernet.{source_of};
 ghost use Rattle.pl_core.specs.PortRecords.{ports_of_switch};
 ghost use Rattle.pl_core.specs.SwitchViews.{SwitchView};
@@ -50,6 +50,20 @@ impl EdgeTable {
             remembered: vec![in alloc; None; usize::from(k)]?,
             members: Members::new(alloc),
         })
+    }
+
+    /// How many ports the switch has.
+    pub fn k(&self) -> u8
+        ensures { result ≡ self.now.k }
+    {
+        self.k
+    }
+
+    /// Whether the switch is placed.
+    pub fn is_placed(&self) -> bool
+        ensures { result ≡ is_some self.now.book }
+    {
+        self.book.is_some()
     }
 
     /// To whom an address was granted, be it in use or not; none also before the switch is placed.

@@ -10,10 +10,12 @@
 pub use edge_act::EdgeAct;
 pub use edge_table::EdgeTable;
 pub use pl_core::Memory;
+pub use pl_delivery::Sent;
 
 mod edge_act;
 mod edge_table;
 mod groups_before;
+mod homing;
 mod ingress;
 mod membership;
 mod reading;

@@ -1,0 +1,61 @@
+-- What is done by the book of addresses with frames for this edge switch is done by the edge switch.
+use Rattle.std.proofs.Common.{◌≡◌, ℕ, List, Option, Some, Result, Ok, Err, IfOk, OnOk, refl, sym, ap, ◌∙◌, subst}
+use Rattle.std.specs.declared.alloc.AllocError.{AllocError}
+use Rattle.pl_core.specs.declared.acts.Act.{Act}
+use Rattle.pl_core.specs.declared.switch_records.Grant.{Grant}
+use Rattle.pl_core.specs.declared.switch_records.Member.{Member}
+use Rattle.pl_core.specs.declared.switch_records.Source.{Source}
+use Rattle.pl_core.specs.declared.trap.Trap.{Trap}
+use Rattle.pl_core.specs.SwitchViews.{SwitchView}
+use Rattle.pl_delivery.proofs.Rest.{invalidated}
+use Rattle.pl_delivery.specs.declared.sent.Sent.{Sent}
+use Rattle.pl_delivery.specs.Sending.{IsSentBy, IsTakenUpTo, left_to_do, makes_any}
+use Rattle.pl_migrate.specs.Books.{BookView, book_in, traps}
+use Rattle.pl_pmac.specs.declared.pmac.Pmac.{Pmac}
+use Rattle.pl_steps.specs.Taken.{IsTaken, IsTakenByPart}
+use Rattle.pl_switch_rule.specs.Delivering.{comes_home, destination, tells_sender, trap_for}
+use Rattle.pl_switch_rule.specs.Forwarding.{Choice}
+use Rattle.pl_switch_rule.specs.Granting.{granted}
+use Rattle.pl_switch_rule.specs.Messages.{forgets_members, invalidates, probes}
+use Rattle.pl_edge.specs.EdgeViews.{EdgeView, edge_in, MayBeAt}
+use Rattle.pl_edge.proofs.Placing.{edge_of}
+
+module _ (edge : EdgeView) (k : ℕ) (book : BookView) (remembered : List (Option Source)) (members : List Member)
+  (is : edge_of k (Some book) remembered members ≡ edge) where
+
+  with_rest : SwitchView → SwitchView
+  with_rest v = record v { remembered = remembered; members = members }
+
+  pub sent_by : {E : Type 0} (frame : List ℕ) (out told : List Act) (result : Result Sent E) →
+      IfOk result (IsSentBy (λ choose v. comes_home choose v frame) book out told) →
+      IfOk result (λ sent. (choose : Choice) (v : SwitchView) → MayBeAt edge.book v.place →
+      IsTakenUpTo (left_to_do choose sent (edge_in edge v)) (comes_home choose (edge_in edge v) frame) out told)
+  sent_by frame out told (Err e) h = h
+  sent_by frame out told (Ok sent) h = λ choose v may.
+      subst (λ (e : EdgeView). IsTakenUpTo (left_to_do choose sent (edge_in e v)) (comes_home choose (edge_in e v) frame) out told) is (h choose (with_rest v))
+
+  pub replied : {E : Type 0} (frame : List ℕ) (result : Result (Option (List ℕ)) E) →
+      IfOk result (λ reply. (choose : Choice) (v : SwitchView) → makes_any choose reply (book_in book v)
+      ≡ tells_sender choose frame (trap_for (book_in book v) (destination frame)) (book_in book v)) →
+      IfOk result (λ reply. (choose : Choice) (v : SwitchView) → MayBeAt edge.book v.place → makes_any choose reply (edge_in edge v)
+      ≡ tells_sender choose frame (trap_for (edge_in edge v) (destination frame)) (edge_in edge v))
+  replied frame (Err e) h = h
+  replied frame (Ok reply) h = λ choose v may.
+      subst (λ (e : EdgeView). makes_any choose reply (edge_in e v) ≡ tells_sender choose frame (trap_for (edge_in e v) (destination frame)) (edge_in e v)) is (h choose (with_rest v))
+
+-- a trap is set, then memberships are forgotten, and then the host is probed
+pub three_parts : (edge set after : EdgeView) (old : Pmac) (trap : Trap) (grant : Grant) (at : Option Grant) (out between told : List Act) (v : SwitchView) →
+    at ≡ Some grant → at ≡ granted (edge_in edge v) old → edge_in set v ≡ traps (edge_in edge v) old trap at →
+    IsTaken (forgets_members old.port grant.amac (edge_in set v)) (edge_in after v) out between →
+    IsTaken (probes old grant (edge_in after v)) (edge_in after v) between told →
+    IsTaken (invalidates (edge_in edge v) old trap (granted (edge_in edge v) old)) (edge_in after v) out told
+three_parts edge set after old trap grant at out between told v is_some is_granted is_set forgotten probed =
+    subst (λ (g : Option Grant). IsTaken (invalidates (edge_in edge v) old trap g) (edge_in after v) out told) (sym is_some ∙ is_granted)
+    (invalidated (edge_in edge v) (edge_in after v) old trap grant out between told
+    (subst (λ (w : SwitchView). IsTaken (forgets_members old.port grant.amac w) (edge_in after v) out between)
+    (is_set ∙ ap (traps (edge_in edge v) old trap) is_some) forgotten)
+    probed)
+
+pub on_ok : {T E : Type 0} {P Q : Type 0} (result : Result T E) → (P → Q) → OnOk result P → OnOk result Q
+on_ok (Err e) f h = h
+on_ok (Ok x) f h = f h

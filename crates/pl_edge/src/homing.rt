@@ -1,0 +1,73 @@
+ghost use Rattle.std.specs.Prelude.{◌≡◌, ◌≤◌, length, IfOk, OnOk};
+ghost use Rattle.pl_core.specs.SwitchViews.{SwitchView};
+ghost use Rattle.pl_delivery.specs.Sending.{IsTakenUpTo, left_to_do, makes_any};
+ghost use Rattle.pl_steps.specs.Taken.{IsTaken};
+ghost use Rattle.pl_switch_rule.specs.Delivering.{comes_home, destination, tells_sender, trap_for};
+ghost use Rattle.pl_switch_rule.specs.Forwarding.{Choice};
+ghost use Rattle.pl_switch_rule.specs.Granting.{granted};
+ghost use Rattle.pl_switch_rule.specs.Messages.{invalidates};
+ghost use Rattle.pl_migrate.specs.Books.{traps};
+ghost use Rattle.pl_edge.specs.EdgeViews.{edge_in, MayBeAt};
+
+use crate::EdgeTable;
+use pl_core::{Act, Cause, Grant, Memory, Outbox, Trap};
+use pl_delivery::{Sent, egress, invalidate, probe, reply};
+use pl_frame::Frame;
+use pl_pmac::Pmac;
+
+impl EdgeTable {
+    /// A frame for this pod and position goes out to the host that has its address, or along the traps
+    /// that stand for it: here, or upward. A switch that is not placed has granted no address.
+    pub fn egress(&self, frame: Frame, out: &mut Outbox) -> Result<Sent, Memory>
+        requires { 14 ≤ length frame }
+        ensures taken { IfOk result (λ sent. (choose : Choice) (v : SwitchView) → MayBeAt self.now.book v.place → IsTakenUpTo (left_to_do choose sent (edge_in self.now v)) (comes_home choose (edge_in self.now v) frame) out.old out.new) }
+    {
+        match &self.book {
+            Some(book) => egress(book, frame, out),
+            None => {
+                out.push(Act::Drop(Cause::NoAddress))?;
+                Ok(Sent::Here)
+            }
+        }
+    }
+
+    /// The reply that tells the sender of a frame the newer address of the host, where the frame meets a
+    /// trap and is no ARP frame: to be made behind what `egress` does with the frame.
+    pub fn reply(&self, frame: &[u8]) -> Result<Option<Frame>, Memory>
+        requires { 14 ≤ length frame.now }
+        ensures tells { IfOk result (λ reply. (choose : Choice) (v : SwitchView) → MayBeAt self.now.book v.place → makes_any choose reply (edge_in self.now v) ≡ tells_sender choose frame.now (trap_for (edge_in self.now v) (destination frame.now)) (edge_in self.now v)) }
+    {
+        match &self.book {
+            Some(book) => reply(book, self.alloc, frame),
+            None => Ok(None),
+        }
+    }
+
+    /// A host has a newer address than this one: a trap is set, what the host had joined at the port of
+    /// the old one is forgotten, and where the old one was in use it is probed. An address that was never
+    /// granted here changes nothing.
+    pub fn invalidate(&mut self, old: Pmac, to: Trap, out: &mut Outbox) -> Result<(), Memory>
+        ensures taken { OnOk result ((v : SwitchView) → MayBeAt self.old.book v.place → IsTaken (invalidates (edge_in self.old v) old to (granted (edge_in self.old v) old)) (edge_in self.new v) out.old out.new) }
+        ensures k { self.new.k ≡ self.old.k }
+    {
+        match self.set_trap(old, to)? {
+            Some(grant) => {
+                self.forget(old.port, grant.amac, out)?;
+                probe(self.alloc, old, &grant, out)
+            }
+            None => Ok(()),
+        }
+    }
+
+    // A trap is set for an address. The answer is what was granted under it.
+    fn set_trap(&mut self, old: Pmac, to: Trap) -> Result<Option<Grant>, Memory>
+        ensures granted { IfOk result (λ grant. (v : SwitchView) → MayBeAt self.old.book v.place → grant ≡ granted (edge_in self.old v) old) }
+        ensures set { IfOk result (λ grant. (v : SwitchView) → edge_in self.new v ≡ traps (edge_in self.old v) old to grant) }
+        ensures k { self.new.k ≡ self.old.k }
+    {
+        match &mut self.book {
+            Some(book) => invalidate(book, old, to),
+            None => Ok(None),
+        }
+    }
+}

@@ -1,2 +1,2 @@
 mod Newer
-mod Rest
+pub mod Rest

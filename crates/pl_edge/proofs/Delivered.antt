@@ -1,6 +1,5 @@
 -- What is done by the book of addresses with frames for this edge switch is done by the edge switch.
-use Rattle.std.proofs.Common.{◌≡◌, ℕ, List, Option, Some, Result, Ok, Err, IfOk, OnOk, refl, sym, ap, ◌∙◌, subst}
-use Rattle.std.specs.declared.alloc.AllocError.{AllocError}
+use Rattle.std.proofs.Common.{◌≡◌, ℕ, List, Option, Some, Result, Ok, Err, IfOk, OnOk, sym, ap, ◌∙◌, subst}
 use Rattle.pl_core.specs.declared.acts.Act.{Act}
 use Rattle.pl_core.specs.declared.switch_records.Grant.{Grant}
 use Rattle.pl_core.specs.declared.switch_records.Member.{Member}
@@ -12,7 +11,7 @@ use Rattle.pl_delivery.specs.declared.sent.Sent.{Sent}
 use Rattle.pl_delivery.specs.Sending.{IsSentBy, IsTakenUpTo, left_to_do, makes_any}
 use Rattle.pl_migrate.specs.Books.{BookView, book_in, traps}
 use Rattle.pl_pmac.specs.declared.pmac.Pmac.{Pmac}
-use Rattle.pl_steps.specs.Taken.{IsTaken, IsTakenByPart}
+use Rattle.pl_steps.specs.Taken.{IsTaken}
 use Rattle.pl_switch_rule.specs.Delivering.{comes_home, destination, tells_sender, trap_for}
 use Rattle.pl_switch_rule.specs.Forwarding.{Choice}
 use Rattle.pl_switch_rule.specs.Granting.{granted}
@@ -21,9 +20,8 @@ use Rattle.pl_edge.specs.EdgeViews.{EdgeView, edge_in, MayBeAt}
 use Rattle.pl_edge.proofs.Placing.{edge_of}
 
 module _ (edge : EdgeView) (k : ℕ) (book : BookView) (remembered : List (Option Source)) (members : List Member)
-  (is : edge_of k (Some book) remembered members ≡ edge) where
-
-  with_rest : SwitchView → SwitchView
+    (is : edge_of k (Some book) remembered members ≡ edge) where
+  abbrev with_rest : SwitchView → SwitchView
   with_rest v = record v { remembered = remembered; members = members }
 
   pub sent_by : {E : Type 0} (frame : List ℕ) (out told : List Act) (result : Result Sent E) →

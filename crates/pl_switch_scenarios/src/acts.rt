@@ -5,11 +5,7 @@ use pl_scenario_words::{say, say_frame};
 use std::alloc::Global;
 
 /// Prints what was done since the last line: frames in hexadecimal, addresses as hardware addresses.
-pub(crate) fn say_acts(
-    alloc: Global,
-    done: &mut Outbox,
-    out: &mut String,
-) -> Result<(), Memory> {
+pub(crate) fn say_acts(alloc: Global, done: &mut Outbox, out: &mut String) -> Result<(), Memory> {
     for _ in 0..done.len() {
         if let Some(act) = done.take_first() {
             say_act(alloc, &act, out)?;

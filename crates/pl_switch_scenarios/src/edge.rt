@@ -78,8 +78,7 @@ impl Bench {
         let (port, digits) = first_word(rest);
         match (byte(port), frame(alloc, digits)?) {
             (Some(port), Some(bytes))
-                if port < self.table.k() && bytes.len() >= 14 && bytes.len() <= 65_553 =>
-            {
+                if port < self.table.k() && bytes.len() >= 14 && bytes.len() <= 65_553 => {
                 let frame = Frame::copy(alloc, &bytes)?;
                 self.take_in(alloc, port, frame, out)?;
                 Ok(())

@@ -8,6 +8,6 @@ returns-in-Some c =
     let edge = c.self.inside in
     record {
       tells = replied c.args.self.now edge.k c.in-Some.book edge.remembered.items edge.members
-        (ap (λ o. edge_of edge.k o edge.remembered.items edge.members) (sym c.in-Some.is) ∙ c.self.view_is)
-        c.args.frame.now c.reply.result c.reply.ensures.tells;
+          (ap (λ o. edge_of edge.k o edge.remembered.items edge.members) (sym c.in-Some.is) ∙ c.self.view_is)
+          c.args.frame.now c.reply.result c.reply.ensures.tells;
     }

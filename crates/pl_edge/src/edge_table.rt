@@ -5,7 +5,7 @@ ghost use Rattle.pl_core.specs.SwitchViews.{SwitchView};
 ghost use Rattle.pl_steps.specs.Taken.{IsTaken};
 ghost use Rattle.pl_switch_rule.specs.Granting.{grants_remembered, has_no_address, learns_source, remembered_ip};
 ghost use Rattle.pl_migrate.specs.Books.{edge_at};
-ghost use Rattle.pl_edge.specs.EdgeViews.{edge_in, grantee_by, new_edge, with_source, KeepsEdge, MayBeAt};
+ghost use Rattle.pl_edge.specs.EdgeViews.{edge_in, grantee_by, new_edge, with_source, placed_at, KeepsBook, KeepsEdge, MayBeAt};
 
 use crate::reading::{sender_ip, source_of};
 use pl_core::{Memory, Outbox, Source};
@@ -81,6 +81,8 @@ impl EdgeTable {
         requires { self.old.book ≡ None }
         ensures taken { OnOk result ((v : SwitchView) → IsTaken (grants_remembered (ports_of_switch self.old.k) (record (edge_in self.old v) { place = edge_at pod position })) (edge_in self.new v) out.old out.new) }
         ensures k { self.new.k ≡ self.old.k }
+        ensures book { OnOk result (KeepsBook (placed_at pod position self.old).book self.new.book) }
+        ensures members { self.new.members ≡ self.old.members }
     {
         let mut book = AddressBook::new(self.alloc, self.k, pod, position)?;
         book.learn_all_remembered(self.k, self.remembered.as_mut_slice(), out)?;

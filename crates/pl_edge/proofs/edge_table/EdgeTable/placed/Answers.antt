@@ -3,8 +3,8 @@ use Rattle.std.proofs.lemmas.List.{with_items_is}
 use Rattle.pl_core.specs.PortRecords.{ports_of_switch}
 use Rattle.pl_steps.specs.Taken.{IsTaken}
 use Rattle.pl_switch_rule.specs.Granting.{grants_remembered}
-use Rattle.pl_migrate.specs.Books.{edge_at, sources_in}
-use Rattle.pl_edge.specs.EdgeViews.{EdgeView, edge_in}
+use Rattle.pl_migrate.specs.Books.{BookView, edge_at, empty_book, sources_in}
+use Rattle.pl_edge.specs.EdgeViews.{EdgeView, edge_in, KeepsBook}
 use Rattle.pl_edge.proofs.Placing.{edge_of, settled}
 use Rattle.pl_edge.proofs.edge_table.EdgeTable.placed.Goals as goal
 
@@ -24,3 +24,9 @@ returns-clause-taken c = λ v.
     (settled edge c.args.pod c.args.position book after sources c.args.out.now told (ap (λ (e : EdgeView). e.book) c.self.view_is ∙ c.requires) c.in_ok-book.ensures
     (λ u. subst (λ r. IsTaken (grants_remembered (ports_of_switch inside.k) (sources_in book r u)) (sources_in after sources u) c.args.out.now told)
     c.as_mut_slice.ensures.value (c.in_ok-learn_all_remembered.ensures.taken u)) v))
+
+pub returns-clause-book : goal.returns-clause-book
+returns-clause-book c =
+    subst (λ (b : BookView). KeepsBook (Some b) (Some c.learn_all_remembered.new.self))
+    (c.in_ok-book.ensures ∙ ap (λ (e : EdgeView). empty_book e.k c.args.pod c.args.position) c.self.view_is)
+    (c.in_ok-learn_all_remembered.ensures.kept, c.in_ok-learn_all_remembered.ensures.traps)

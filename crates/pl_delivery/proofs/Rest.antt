@@ -1,12 +1,12 @@
 -- A step that is taken up to a rest.
-use Rattle.std.proofs.Common.{◌≡◌, ℕ, true, false, if◌then◌else◌, List, [], ◌∷◌, ◌++◌, Some, None, refl, sym, ap, subst, ◌∙◌, append_assoc}
+use Rattle.std.proofs.Common.{◌≡◌, ℕ, true, false, if◌then◌else◌, List, [], ◌∷◌, ◌++◌, Option, Some, None, refl, sym, ap, subst, ◌∙◌, append_assoc}
 use Rattle.std.proofs.lemmas.List.{append-nil}
 use Rattle.pl_core.specs.declared.acts.Act.{Act}
 use Rattle.pl_core.specs.declared.acts.Act.TheVariants.{Make, Redirect}
 use Rattle.pl_core.specs.declared.switch_records.Grant.{Grant}
 use Rattle.pl_core.specs.declared.trap.Trap.{Trap}
 use Rattle.pl_core.specs.SwitchViews.{SwitchView}
-use Rattle.pl_delivery.specs.Sending.{IsTakenUpTo}
+use Rattle.pl_delivery.specs.Sending.{IsTakenUpTo, makes_any}
 use Rattle.pl_frame.specs.Ethernet.{with_destination}
 use Rattle.pl_migrate.specs.Books.{BookView, book_in, is_here, trap_in}
 use Rattle.pl_pmac.specs.declared.pmac.Pmac.{Pmac}
@@ -15,7 +15,7 @@ use Rattle.pl_steps.proofs.Parts.{taken_rests, taken_then}
 use Rattle.pl_steps.specs.Steps.{SwitchStep, does, rests, ◌▹◌}
 use Rattle.pl_steps.specs.Taken.{IsTaken}
 use Rattle.pl_switch_rule.specs.declared.came.Came.TheVariants.{FromHost}
-use Rattle.pl_switch_rule.specs.Delivering.{addresses, begins, comes_home, delivers, delivers_or_redirects, destination, goes_on, is_trapped, last_trap, makes, redirects}
+use Rattle.pl_switch_rule.specs.Delivering.{addresses, arrives_home, begins, comes_home, delivers, delivers_or_redirects, destination, goes_on, is_trapped, last_trap, makes, redirects, tells_sender, trap_for}
 use Rattle.pl_switch_rule.specs.Forwarding.{Choice, forwards}
 use Rattle.pl_switch_rule.specs.Messages.{forgets_members, invalidates, probes, sets_trap}
 
@@ -92,6 +92,15 @@ begins_upward book choose v frame o p away made = let w : SwitchView = book_in b
     let rest : SwitchStep = forwards choose w (Some FromHost) frame in
     then_up_to (does w (Make frame ∷ [])) rest (λ u. begins choose u frame) w o p p (record { view = refl; acts = made })
     (subst (λ b. IsTakenUpTo rest (if b then comes_home choose w frame else rest) p p) (sym away) (all_left rest p))
+
+-- A frame arrives home.
+
+pub sender_told : (choose : Choice) (frame : List ℕ) (reply : Option (List ℕ)) (v w : SwitchView) (o p q : List Act) →
+    makes_any choose reply v ≡ tells_sender choose frame (trap_for v (destination frame)) v → IsTaken (comes_home choose v frame) v o p →
+    IsTaken (makes_any choose reply v) w p q → IsTaken (arrives_home choose v frame) w o q
+sender_told choose frame reply v w o p q tells home made =
+    taken_then (comes_home choose v frame) (tells_sender choose frame (trap_for v (destination frame))) v w o p q home
+    (subst (λ s. IsTaken s w p q) tells made)
 
 -- An address is invalidated.
 

@@ -1,12 +1,7 @@
 -- The frames that a host sends.
-use Rattle.std.specs.Prelude.{ℕ, ◌≤◌, List, [], ◌∷◌, length, slice_index, Option, option_map, option_to_list}
+use Rattle.std.specs.Prelude.{ℕ, List, [], ◌∷◌, slice_index, Option, option_map, option_to_list}
 use Rattle.pl_arp.specs.declared.packet.Arp.{Arp}
 use Rattle.pl_host_rule.specs.HostRule.{reply_frame}
-
--- 14 to 65,553 bytes
-pub record IsCarried (frame : List ℕ) : Type 0 where
-  pub long : 14 ≤ length frame
-  pub short : length frame ≤ 65553
 
 -- six bytes from the front, with 0 for each that is not there
 abbrev pub six_bytes : List ℕ → List ℕ

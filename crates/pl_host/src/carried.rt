@@ -1,6 +1,6 @@
 ghost use Rattle.std.specs.Prelude.{◌≡◌, IfOk, length};
 ghost use Rattle.pl_frame.specs.Ethernet.{fields, fields_of, with_destination};
-ghost use Rattle.pl_host.specs.Carried.{IsCarried};
+ghost use Rattle.pl_core.specs.Accounting.{IsWhole};
 
 use pl_frame::{Frame, FrameView, Mac, Memory};
 use std::alloc::Global;
@@ -14,18 +14,18 @@ pub(crate) struct Carried {
 
 impl Model for Carried {
     ghost use Rattle.std.specs.Prelude.{ℕ, List};
-    ghost use Rattle.pl_host.specs.Carried.{IsCarried};
+    ghost use Rattle.pl_core.specs.Accounting.{IsWhole};
 
     ghost Value = { List ℕ };
 
     ghost view = { λ carried. carried.frame };
 
-    ghost invariant = { λ carried. IsCarried carried.frame };
+    ghost invariant = { λ carried. IsWhole carried.frame };
 }
 
 impl Carried {
     pub(crate) fn copy(alloc: Global, bytes: &[u8]) -> Result<Carried, Memory>
-        requires { IsCarried bytes.now }
+        requires { IsWhole bytes.now }
         ensures { IfOk result (λ carried. carried ≡ bytes.now) }
     {
         Ok(Carried {

@@ -2,7 +2,7 @@ ghost use Rattle.std.specs.Prelude.{◌≡◌, IfOk, None, OnOk};
 ghost use Rattle.pl_arp.specs.Reception.{hardware_of};
 ghost use Rattle.pl_host_rule.specs.HostRule.{holding, playing_frame, sending, sending_to, skip_of, unicast_skip};
 ghost use Rattle.pl_core.specs.HostInputs.HostAnswer.{Played};
-ghost use Rattle.pl_host.specs.Carried.{IsCarried};
+ghost use Rattle.pl_core.specs.Accounting.{IsWhole};
 ghost use Rattle.pl_host.specs.Host.{Takes, host_view};
 
 use crate::carried::Carried;
@@ -24,7 +24,7 @@ impl Host {
     #[tactic(auto, unfolding(pl_host_rule::specs::HostRule::skip_of))]
     pub(crate) fn skip_of(&self, raw: bool, frame: &[u8], original: u32) -> Option<Skip>
         ensures skip { result ≡ skip_of (host_view self.now) raw frame.now original }
-        ensures carried { result ≡ None → IsCarried frame.now }
+        ensures carried { result ≡ None → IsWhole frame.now }
     {
         if frame.len() < original as usize {
             return Some(Skip::CutRecord);
@@ -82,7 +82,7 @@ impl Host {
         frame: &[u8],
         out: &mut HostOutbox,
     ) -> Result<Option<Skip>, Memory>
-        requires { IsCarried frame.now }
+        requires { IsWhole frame.now }
         ensures step { IfOk result (λ skip. Takes (playing_frame (host_view self.old) frame.now) (host_view self.new) (Played skip) out.old out.new) }
         ensures me { self.new.me ≡ self.old.me }
         ensures hosts { self.new.hosts ≡ self.old.hosts }

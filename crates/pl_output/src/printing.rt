@@ -13,8 +13,6 @@ mod field;
 mod hexadecimal;
 mod label;
 mod piece;
-#[cfg(test)]
-mod tests;
 
 /// Creates the name and prints the journal to it, a line for each entry. It takes no memory: the text
 /// goes out by way of the piece, whose content is forgotten. A `Fault` may come of the creation or of

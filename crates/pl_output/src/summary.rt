@@ -15,8 +15,6 @@ use std::alloc::Global;
 mod host_counts;
 mod lines;
 mod tally;
-#[cfg(test)]
-mod tests;
 mod totals;
 
 /// The causes for which a frame ends, in their order.

@@ -1,12 +1,13 @@
 -- The first line of a file.
-use Rattle.std.proofs.Common.{◌≡◌, ℕ, ◌+◌, ◌<◌, ◌≤◌, Bool, true, false, cond, List, [], ◌∷◌, length, take, drop, Some, None, Err, refl, sym, ap, ◌∙◌, inl, inr, arith}
+use Rattle.std.proofs.Common.{◌≡◌, ℕ, ◌+◌, ◌<◌, ◌≤◌, Bool, true, false, cond, List, [], ◌∷◌, length, take, drop, Option, Some, None, Err, refl, sym, ap, ◌∙◌, inl, inr, arith}
 use Rattle.std.specs.List.{onto_first, position, position_or_len, slice_split}
 use Rattle.std.proofs.lemmas.Bool.{cases_lt, le-ltb, lt-ltb, false_from_ne_true}
 use Rattle.std.proofs.lemmas.List.Splits.{slice_split_first, slice_split_none}
-use Rattle.std.proofs.lemmas.List.Sums.{fails_before_first}
+use Rattle.std.proofs.lemmas.List.Sums.{fails_before_first, position_or_len_is}
 use Rattle.std.specs.Str.{IsUtf8, is_utf8}
 use Rattle.std.specs.Str.Lines.{strip_carriage_return}
 use Rattle.std.proofs.lemmas.Str.{IsUtf8-from_is_utf8, is_utf8-from_IsUtf8}
+use Rattle.memchr.specs.Find.{is_byte, IsFirstByte}
 use Rattle.pl_wiring.specs.Plan.{Plan}
 use Rattle.pl_script.specs.Meaning.{command_in, command_in_text}
 use Rattle.pl_script.specs.Texts.{is_newline, lines_of, without_empty_last}
@@ -52,6 +53,19 @@ nowhere file none = elim (cases_lt (position_or_len is_newline file) (length fil
       cc)
   | inr past ↦ past
 ]
+
+-- the first newline that a search finds is the first place that passes
+pub newline_found : (file : List ℕ) (r : Option ℕ) → IsFirstByte (is_byte 10) file r → r ≡ position is_newline file
+newline_found file None none =
+    let at : position_or_len is_newline file ≡ length file =
+    position_or_len_is is_newline file (length file) 0 (omega arith) (λ k less. false_from_ne_true _ (none k (omega arith) less)) (λ less. absurd (omega arith)) in
+    sym (ap (λ t. cond t (Some (position_or_len is_newline file)) None) (le-ltb (position_or_len is_newline file) (length file) (omega (arith, at))))
+newline_found file (Some n) first =
+    let at : position_or_len is_newline file ≡ n =
+    position_or_len_is is_newline file n 0 (omega (arith, first.0.high)) (λ k less. false_from_ne_true _ (first.0.before k (omega arith) less)) (λ less. first.1) in
+    let less : position_or_len is_newline file < length file = omega (arith, at, first.0.high) in
+    ap Some (sym at)
+    ∙ sym (ap (λ t. cond t (Some (position_or_len is_newline file)) None) (lt-ltb (position_or_len is_newline file) (length file) less))
 
 pub lines_of-first : (file : List ℕ) (n : ℕ) → position is_newline file ≡ Some n → lines_of file ≡ take n file ∷ lines_of (drop (n + 1) file)
 lines_of-first file n found =

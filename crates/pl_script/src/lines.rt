@@ -7,6 +7,7 @@ ghost use Rattle.pl_script.specs.Meaning.{command_in_text, command_in, line_at, 
 use crate::forms::command;
 use crate::words::{before_comment, next_word};
 use crate::{Command, Script, ScriptError, ScriptLine, ScriptReason};
+use memchr::memchr;
 use pl_wiring::Wiring;
 use std::alloc::Global;
 use std::str;
@@ -55,7 +56,7 @@ fn next_line(file: &[u8]) -> Option<(&[u8], &[u8])>
 fn first_newline(file: &[u8]) -> Option<usize>
     ensures { result ≡ position is_newline file.now }
 {
-    file.iter().position(|byte| *byte == b'\n')
+    memchr(b'\n', file)
 }
 
 // The command of a line, or why it is refused at its number.

@@ -1,8 +1,7 @@
-ghost use Rattle.std.specs.Prelude.{◌≡◌, ◌*◌, ◌/◌, ◌%◌, ◌<◌, ◌≤◌, false, length, OnOk, OnErr};
-ghost use Rattle.std.specs.Fmt.{digit_glyph};
+ghost use Rattle.std.specs.Prelude.{◌≡◌, ◌≤◌, length, OnOk, OnErr};
 ghost use Rattle.hex.specs.Hex.{encode_lower};
 ghost use Rattle.pl_shelf.specs.Faults.{Counts};
-ghost use Rattle.pl_frame.specs.Address.{mac_text};
+ghost use Rattle.pl_frame.specs.Address.{hex_pair, mac_text};
 ghost use Rattle.pl_output.specs.Printed.{BreaksOff, IsPrinted};
 
 use crate::printing::Piece;
@@ -74,47 +73,25 @@ impl Piece {
     }
 }
 
+// The text of an address.
 fn address_text(mac: Mac) -> [u8; 17]
     ensures { result ≡ mac_text mac }
 {
     let [a, b, c, d, e, f] = mac.0;
+    let (a, b, c) = (digits(a), digits(b), digits(c));
+    let (d, e, f) = (digits(d), digits(e), digits(f));
     let colon = b':';
     [
-        high(a),
-        low(a),
-        colon,
-        high(b),
-        low(b),
-        colon,
-        high(c),
-        low(c),
-        colon,
-        high(d),
-        low(d),
-        colon,
-        high(e),
-        low(e),
-        colon,
-        high(f),
-        low(f),
+        a[0], a[1], colon, b[0], b[1], colon, c[0], c[1], colon, d[0], d[1], colon, e[0], e[1],
+        colon, f[0], f[1],
     ]
 }
 
-fn high(byte: u8) -> u8
-    ensures { result ≡ digit_glyph false (byte / 16) }
+// The two digits of a byte.
+fn digits(byte: u8) -> [u8; 2]
+    ensures { result ≡ hex_pair byte }
 {
-    digit(byte / 16)
-}
-
-fn low(byte: u8) -> u8
-    ensures { result ≡ digit_glyph false (byte % 16) }
-{
-    digit(byte % 16)
-}
-
-fn digit(n: u8) -> u8
-    requires { n < 16 }
-    ensures { result ≡ digit_glyph false n }
-{
-    if n < 10 { b'0' + n } else { b'a' + (n - 10) }
+    let mut digits = [0; 2];
+    hex::encode_to_slice(&[byte], &mut digits).unwrap();
+    digits
 }

@@ -7,10 +7,10 @@ unreachable-requires c =
     elim c.in-Err.field-0 as (λ e. c.in-Err.field-0 ≡ e → ⊥) [
       | Short ↦ λ h.
           let short = c.view.ensures.short.0 (c.in-Err.is ∙ ap Err h) in
-          let long = c.self.invariant.long in
+          let long = c.self.invariant.low in
           omega (arith, short, long, ap length c.bytes.ensures)
       | Long ↦ λ h.
           let long = c.view.ensures.long.0 (c.in-Err.is ∙ ap Err h) in
-          let short = c.self.invariant.short in
+          let short = c.self.invariant.high in
           omega (arith, short, long, ap length c.bytes.ensures)
     ] refl

@@ -1,40 +1,22 @@
 -- A step that is taken up to a rest.
-use Rattle.std.proofs.Common.{◌≡◌, ℕ, true, false, if◌then◌else◌, List, [], ◌∷◌, ◌++◌, Option, Some, None, refl, sym, ap, subst, ◌∙◌, append_assoc}
-use Rattle.std.proofs.lemmas.List.{append-nil}
+use Rattle.std.proofs.Common.{◌≡◌, ℕ, true, false, if◌then◌else◌, List, [], ◌∷◌, ◌++◌, Option, Some, None, refl, sym, ap, subst, ◌∙◌}
 use Rattle.pl_core.specs.declared.acts.Act.{Act}
 use Rattle.pl_core.specs.declared.acts.Act.TheVariants.{Make, Redirect}
 use Rattle.pl_core.specs.declared.switch_records.Grant.{Grant}
 use Rattle.pl_core.specs.declared.trap.Trap.{Trap}
 use Rattle.pl_core.specs.SwitchViews.{SwitchView}
-use Rattle.pl_delivery.specs.Sending.{IsTakenUpTo, makes_any}
+use Rattle.pl_delivery.specs.Sending.{makes_any}
 use Rattle.pl_frame.specs.Ethernet.{with_destination}
 use Rattle.pl_migrate.specs.Books.{BookView, book_in, is_here, trap_in}
 use Rattle.pl_pmac.specs.declared.pmac.Pmac.{Pmac}
 use Rattle.pl_pmac.specs.Pmac.{mac_of}
-use Rattle.pl_steps.proofs.Parts.{taken_rests, taken_then}
+use Rattle.pl_steps.proofs.Parts.{all_left, nothing_left, taken_rests, taken_then, then_up_to}
 use Rattle.pl_steps.specs.Steps.{SwitchStep, does, rests, ◌▹◌}
-use Rattle.pl_steps.specs.Taken.{IsTaken}
+use Rattle.pl_steps.specs.Taken.{IsTaken, IsTakenUpTo}
 use Rattle.pl_switch_rule.specs.declared.came.Came.TheVariants.{FromHost}
 use Rattle.pl_switch_rule.specs.Delivering.{addresses, arrives_home, begins, comes_home, delivers, delivers_or_redirects, destination, goes_on, is_trapped, last_trap, makes, redirects, tells_sender, trap_for}
 use Rattle.pl_switch_rule.specs.Forwarding.{Choice, forwards}
 use Rattle.pl_switch_rule.specs.Messages.{forgets_members, invalidates, probes, sets_trap}
-
-pub rest_done : (rest step : SwitchStep) (w : SwitchView) (o p q : List Act) → IsTakenUpTo rest step o p → IsTaken rest w p q → IsTaken step w o q
-rest_done rest step w o p q a b = record { view = b.view ∙ sym a.view; acts = b.acts ∙ a.acts }
-
-pub nothing_left : (step : SwitchStep) (v : SwitchView) (o p : List Act) → IsTaken step v o p → IsTakenUpTo (rests v) step o p
-nothing_left step v o p a = record { view = sym a.view; acts = append-nil p ∙ a.acts }
-
-pub all_left : (step : SwitchStep) (o : List Act) → IsTakenUpTo step step o o
-all_left step o = record { view = refl; acts = refl }
-
--- behind a part that is taken, the rest of the next part is the rest of both
-pub then_up_to : (s rest : SwitchStep) (next : SwitchView → SwitchStep) (v : SwitchView) (o p q : List Act) →
-    IsTaken s v o p → IsTakenUpTo rest (next v) p q → IsTakenUpTo rest (s ▹ next) o q
-then_up_to s rest next v o p q a b = record {
-  view = sym (ap (λ u. (next u).view) a.view) ∙ b.view;
-  acts = b.acts ∙ ap (λ xs. xs ++ (next v).acts) a.acts ∙ append_assoc o s.acts (next v).acts ∙ ap (λ u. o ++ (s.acts ++ (next u).acts)) a.view;
-}
 
 -- Where a frame goes on.
 

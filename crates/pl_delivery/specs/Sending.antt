@@ -1,19 +1,15 @@
 -- What is left to be done of a row of the switch's rule.
-use Rattle.std.specs.Prelude.{◌≡◌, ℕ, List, ◌++◌, length, Option, Some, None}
+use Rattle.std.specs.Prelude.{◌≡◌, ℕ, List, length, Option, Some, None}
 use Rattle.pl_core.specs.declared.acts.Act.{Act}
 use Rattle.pl_core.specs.SwitchViews.{SwitchView}
 use Rattle.pl_delivery.specs.declared.sent.Sent.{Sent}
 use Rattle.pl_delivery.specs.declared.sent.Sent.TheVariants.{Here, Upward}
 use Rattle.pl_migrate.specs.Books.{BookView, book_in}
 use Rattle.pl_steps.specs.Steps.{SwitchStep, rests}
+use Rattle.pl_steps.specs.Taken.{IsTakenUpTo}
 use Rattle.pl_switch_rule.specs.declared.came.Came.TheVariants.{FromHost}
 use Rattle.pl_switch_rule.specs.Delivering.{makes}
 use Rattle.pl_switch_rule.specs.Forwarding.{Choice, forwards}
-
--- A step is taken up to the rest of it: the acts before the rest stand in the outbox, and the rest leads to the same view.
-pub record IsTakenUpTo (rest step : SwitchStep) (out_before between : List Act) : Type 0 where
-  pub view : step.view ≡ rest.view
-  pub acts : between ++ rest.acts ≡ out_before ++ step.acts
 
 -- a frame that ended here is done with, and one for another edge switch is forwarded
 abbrev pub left_to_do : Choice → Sent → SwitchView → SwitchStep

@@ -3,18 +3,12 @@ ghost use Rattle.pl_core.specs.declared.acts.Act.{Act};
 ghost use Rattle.pl_core.specs.declared.switch_records.Grant.{Grant};
 ghost use Rattle.pl_core.specs.declared.trap.Trap.{Trap};
 ghost use Rattle.pl_core.specs.SwitchViews.{SwitchView};
-ghost use Rattle.pl_delivery.specs.Sending.{IsTakenUpTo, makes_any};
+ghost use Rattle.pl_delivery.specs.Sending.{makes_any};
 ghost use Rattle.pl_pmac.specs.declared.pmac.Pmac.{Pmac};
-ghost use Rattle.pl_steps.specs.Steps.{SwitchStep};
 ghost use Rattle.pl_steps.specs.Taken.{IsTaken};
 ghost use Rattle.pl_switch_rule.specs.Delivering.{arrives_home, comes_home, destination, tells_sender, trap_for};
 ghost use Rattle.pl_switch_rule.specs.Forwarding.{Choice};
 ghost use Rattle.pl_switch_rule.specs.Messages.{forgets_members, invalidates, probes, sets_trap};
-
-/// Who takes what is left of a step has taken the step.
-pub fn what_is_left_is_done()
-    ensures { (rest step : SwitchStep) (after : SwitchView) (out_before between out_after : List Act) → IsTakenUpTo rest step out_before between → IsTaken rest after between out_after → IsTaken step after out_before out_after }
-{}
 
 /// Where a trap is set for an address, then what its host had joined is forgotten, and then the host is
 /// probed, an `Invalidate` is heard.

@@ -10,9 +10,7 @@
 pub use delivery::deliver;
 pub use home::{begin, egress};
 pub use invalidation::{invalidate, probe};
-pub use laws::{
-    a_sender_is_told_behind_its_frame, an_invalidation_is_three_parts, what_is_left_is_done,
-};
+pub use laws::{a_sender_is_told_behind_its_frame, an_invalidation_is_three_parts};
 pub use made::{answer, flood, reply};
 pub use sent::Sent;
 

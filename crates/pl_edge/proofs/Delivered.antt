@@ -8,11 +8,12 @@ use Rattle.pl_core.specs.declared.trap.Trap.{Trap}
 use Rattle.pl_core.specs.SwitchViews.{SwitchView}
 use Rattle.pl_delivery.proofs.Rest.{invalidated}
 use Rattle.pl_delivery.specs.declared.sent.Sent.{Sent}
-use Rattle.pl_delivery.specs.Sending.{IsSentBy, IsTakenUpTo, left_to_do, makes_any}
+use Rattle.pl_delivery.specs.Sending.{IsSentBy, left_to_do, makes_any}
 use Rattle.pl_migrate.specs.Books.{BookView, book_in, traps}
 use Rattle.pl_pmac.specs.declared.pmac.Pmac.{Pmac}
-use Rattle.pl_steps.specs.Taken.{IsTaken}
-use Rattle.pl_switch_rule.specs.Delivering.{comes_home, destination, tells_sender, trap_for}
+use Rattle.pl_steps.specs.Steps.{SwitchStep}
+use Rattle.pl_steps.specs.Taken.{IsTaken, IsTakenUpTo}
+use Rattle.pl_switch_rule.specs.Delivering.{destination, tells_sender, trap_for}
 use Rattle.pl_switch_rule.specs.Forwarding.{Choice}
 use Rattle.pl_switch_rule.specs.Granting.{granted}
 use Rattle.pl_switch_rule.specs.Messages.{forgets_members, invalidates, probes}
@@ -24,13 +25,13 @@ module _ (edge : EdgeView) (k : ℕ) (book : BookView) (remembered : List (Optio
   abbrev with_rest : SwitchView → SwitchView
   with_rest v = record v { remembered = remembered; members = members }
 
-  pub sent_by : {E : Type 0} (frame : List ℕ) (out told : List Act) (result : Result Sent E) →
-      IfOk result (IsSentBy (λ choose v. comes_home choose v frame) book out told) →
+  pub sent_by : {E : Type 0} (row : Choice → SwitchView → SwitchStep) (out told : List Act) (result : Result Sent E) →
+      IfOk result (IsSentBy row book out told) →
       IfOk result (λ sent. (choose : Choice) (v : SwitchView) → MayBeAt edge.book v.place →
-      IsTakenUpTo (left_to_do choose sent (edge_in edge v)) (comes_home choose (edge_in edge v) frame) out told)
-  sent_by frame out told (Err e) h = h
-  sent_by frame out told (Ok sent) h = λ choose v may.
-      subst (λ (e : EdgeView). IsTakenUpTo (left_to_do choose sent (edge_in e v)) (comes_home choose (edge_in e v) frame) out told) is (h choose (with_rest v))
+      IsTakenUpTo (left_to_do choose sent (edge_in edge v)) (row choose (edge_in edge v)) out told)
+  sent_by row out told (Err e) h = h
+  sent_by row out told (Ok sent) h = λ choose v may.
+      subst (λ (e : EdgeView). IsTakenUpTo (left_to_do choose sent (edge_in e v)) (row choose (edge_in e v)) out told) is (h choose (with_rest v))
 
   pub replied : {E : Type 0} (frame : List ℕ) (result : Result (Option (List ℕ)) E) →
       IfOk result (λ reply. (choose : Choice) (v : SwitchView) → makes_any choose reply (book_in book v)

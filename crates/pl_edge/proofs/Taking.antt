@@ -12,13 +12,14 @@ use Rattle.pl_layouts.specs.Frames.{arriving, is_arp, packet_in}
 use Rattle.pl_layouts.specs.Memberships.{membership_in}
 use Rattle.pl_layouts.specs.Placement.{is_placed}
 use Rattle.pl_steps.specs.Steps.{SwitchStep, does, ◌▹◌}
+use Rattle.pl_steps.specs.Taken.{IsTakenUpTo}
 use Rattle.pl_switch_rule.specs.Forwarding.{Choice}
 use Rattle.pl_switch_rule.specs.Granting.{grants_at, in_use}
 use Rattle.pl_switch_rule.specs.Intake.{hears_members, is_for_switch, mac_of_pmac, packet_acts, pmac_at, sends_in, source_pmac, takes, takes_in, with_pmac}
 use Rattle.pl_migrate.specs.Books.{BookView, address_in_use, book_in, numbered}
 use Rattle.pl_edge.specs.declared.edge_act.EdgeAct.{EdgeAct}
 use Rattle.pl_edge.specs.declared.edge_act.EdgeAct.TheVariants.{Taken, Drop as Dropped}
-use Rattle.pl_edge.specs.Begun.{left_to_do, IsBegun}
+use Rattle.pl_edge.specs.Begun.{left_to_do}
 use Rattle.pl_edge.specs.EdgeViews.{EdgeView, edge_in, grants_by, place_by, MayBeAt}
 
 -- the address that a source has in use is the one of the book
@@ -52,25 +53,25 @@ module _ (choose : Choice) (port : ℕ) (frame : List ℕ) (v : SwitchView) wher
   all_ways : takes_in choose port frame v ≡ by_ways bad own (is_some (membership_in frame)) (is_placed v.place)
   all_ways = refl
 
-  begun_as : (whole : SwitchStep) (rest : SwitchView → SwitchStep) (out : List Act) → whole ≡ rest v → IsBegun whole rest v out out
-  begun_as whole rest out is = record { view = ap (λ (s : SwitchStep). s.view) is; acts = ap (λ (s : SwitchStep). out ++ s.acts) is }
+  begun_as : (whole rest : SwitchStep) (out : List Act) → whole ≡ rest → IsTakenUpTo rest whole out out
+  begun_as whole rest out is = record { view = ap (λ (s : SwitchStep). s.view) is; acts = ap (λ (s : SwitchStep). out ++ s.acts) (sym is) }
 
-  pub begun_bad : (out : List Act) → bad ≡ true → IsBegun (takes_in choose port frame v) (left_to_do choose (Dropped BadArp) frame) v out out
+  pub begun_bad : (out : List Act) → bad ≡ true → IsTakenUpTo (left_to_do choose (Dropped BadArp) frame v) (takes_in choose port frame v) out out
   begun_bad out is =
-      begun_as (takes_in choose port frame v) (left_to_do choose (Dropped BadArp) frame) out
+      begun_as (takes_in choose port frame v) (left_to_do choose (Dropped BadArp) frame v) out
       (all_ways ∙ ap (λ b. by_ways b own (is_some (membership_in frame)) (is_placed v.place)) is)
 
   pub begun_own : (out told : List Act) → bad ≡ false → own ≡ true → told ≡ out ++ packet_acts v port frame (packet_in frame) →
-      IsBegun (takes_in choose port frame v) (left_to_do choose Taken frame) v out told
+      IsTakenUpTo (left_to_do choose Taken frame v) (takes_in choose port frame v) out told
   begun_own out told good is asked =
       let whole : takes_in choose port frame v ≡ does v (packet_acts v port frame (packet_in frame)) ▹ takes =
       all_ways ∙ ap (λ b. by_ways b own (is_some (membership_in frame)) (is_placed v.place)) good
       ∙ ap (λ b. by_ways false b (is_some (membership_in frame)) (is_placed v.place)) is in
       record {
         view = ap (λ (s : SwitchStep). s.view) whole;
-        acts = ap (λ (s : SwitchStep). out ++ s.acts) whole
-            ∙ sym (append_assoc out (packet_acts v port frame (packet_in frame)) (Take ∷ []))
-            ∙ ap (λ acts. acts ++ Take ∷ []) (sym asked);
+        acts = ap (λ acts. acts ++ Take ∷ []) asked
+            ∙ append_assoc out (packet_acts v port frame (packet_in frame)) (Take ∷ [])
+            ∙ ap (λ (s : SwitchStep). out ++ s.acts) (sym whole);
       }
 
   other : bad ≡ false → own ≡ false → membership_in frame ≡ None → takes_in choose port frame v ≡ by_ways false false false (is_placed v.place)
@@ -80,20 +81,20 @@ module _ (choose : Choice) (port : ℕ) (frame : List ℕ) (v : SwitchView) wher
       ∙ ap (λ message. by_ways false false (is_some message) (is_placed v.place)) none
 
   pub begun_nowhere : (out : List Act) → bad ≡ false → own ≡ false → membership_in frame ≡ None → is_placed v.place ≡ false →
-      IsBegun (takes_in choose port frame v) (left_to_do choose (Dropped NotPlaced) frame) v out out
+      IsTakenUpTo (left_to_do choose (Dropped NotPlaced) frame v) (takes_in choose port frame v) out out
   begun_nowhere out good apart none is =
-      begun_as (takes_in choose port frame v) (left_to_do choose (Dropped NotPlaced) frame) out
+      begun_as (takes_in choose port frame v) (left_to_do choose (Dropped NotPlaced) frame v) out
       (other good apart none ∙ ap (λ b. by_ways false false false b) is)
 
   pub begun_sent : (act : EdgeAct) (new : List ℕ) (out : List Act) → bad ≡ false → own ≡ false → membership_in frame ≡ None → is_placed v.place ≡ true →
-      new ≡ with_pmac v port frame → left_to_do choose act new v ≡ sends_in choose new v → IsBegun (takes_in choose port frame v) (left_to_do choose act new) v out out
+      new ≡ with_pmac v port frame → left_to_do choose act new v ≡ sends_in choose new v → IsTakenUpTo (left_to_do choose act new v) (takes_in choose port frame v) out out
   begun_sent act new out good apart none is same sent =
-      begun_as (takes_in choose port frame v) (left_to_do choose act new) out
+      begun_as (takes_in choose port frame v) (left_to_do choose act new v) out
       (other good apart none ∙ ap (λ b. by_ways false false false b) is ∙ ap (λ f. sends_in choose f v) (sym same) ∙ sym sent)
 
 pub begun_unplaced : (choose : Choice) (port : ℕ) (frame : List ℕ) (edge : EdgeView) (v : SwitchView) (out : List Act) → edge.book ≡ None → MayBeAt edge.book v.place →
     (is_arp frame && is_none (packet_in frame)) ≡ false → is_for_switch (edge_in edge v) (destination_of frame) (packet_in frame) ≡ false →
-    membership_in frame ≡ None → IsBegun (takes_in choose port frame (edge_in edge v)) (left_to_do choose (Dropped NotPlaced) frame) (edge_in edge v) out out
+    membership_in frame ≡ None → IsTakenUpTo (left_to_do choose (Dropped NotPlaced) frame (edge_in edge v)) (takes_in choose port frame (edge_in edge v)) out out
 begun_unplaced choose port frame edge v out none may good apart other =
     begun_nowhere choose port frame (edge_in edge v) out good apart other
     (ap (λ (o : Option BookView). is_placed (place_by o v.place)) none ∙ subst (λ (book : Option BookView). MayBeAt book v.place) none may)
@@ -104,7 +105,7 @@ pub begun_rewritten : (choose : Choice) (port : ℕ) (frame new : List ℕ) (act
     is_for_switch (edge_in edge v) (destination_of frame) (packet_in frame) ≡ false → membership_in frame ≡ None →
     new ≡ arriving frame (mac_of_pmac (address_in_use book port (source_of frame))) None →
     ((w : SwitchView) → left_to_do choose act new (book_in book w) ≡ sends_in choose new (book_in book w)) →
-    IsBegun (takes_in choose port frame (edge_in edge v)) (left_to_do choose act new) (edge_in edge v) out out
+    IsTakenUpTo (left_to_do choose act new (edge_in edge v)) (takes_in choose port frame (edge_in edge v)) out out
 begun_rewritten choose port frame new act edge book v out is good apart other rewritten sent =
     let w : SwitchView = record v { remembered = edge.remembered; members = edge.members } in
     begun_sent choose port frame (edge_in edge v) act new out good apart other

@@ -1,5 +1,5 @@
 -- A step that an edge switch begins on a frame of a host, and what is left to do of it.
-use Rattle.std.specs.Prelude.{◌≡◌, ℕ, ◌==◌, ◌&&◌, not, if◌then◌else◌, List, [], ◌∷◌, ◌++◌, Option, Some}
+use Rattle.std.specs.Prelude.{◌≡◌, ℕ, ◌==◌, ◌&&◌, not, if◌then◌else◌, List, [], ◌∷◌, Option, Some}
 use Rattle.pl_frame.specs.Ethernet.{destination_of}
 use Rattle.pl_arp.specs.declared.packet.Arp.{Arp}
 use Rattle.pl_pmac.specs.declared.pmac.Pmac.{Pmac}
@@ -35,8 +35,3 @@ IsMeant (Dropped cause) frame = Unit {0}
 -- the manager is asked, where a packet of a host with this address asks for another one's
 abbrev pub question : Option Pmac → Arp → List Act
 question asker arp = if (arp.op == 1) && not (arp.spa.0 == arp.tpa.0) then query asker arp else []
-
--- A step has begun: what was done, and then the rest from what the switch knows by now, is the whole.
-pub record IsBegun (whole : SwitchStep) (rest : SwitchView → SwitchStep) (now : SwitchView) (out_before out_now : List Act) : Type 0 where
-  pub view : whole.view ≡ (rest now).view
-  pub acts : out_before ++ whole.acts ≡ out_now ++ (rest now).acts

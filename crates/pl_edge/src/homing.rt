@@ -1,17 +1,18 @@
-ghost use Rattle.std.specs.Prelude.{◌≡◌, ◌≤◌, length, IfOk, OnOk};
+ghost use Rattle.std.specs.Prelude.{◌≡◌, ◌≤◌, length, IfOk, IfSome, OnOk};
 ghost use Rattle.pl_core.specs.SwitchViews.{SwitchView};
-ghost use Rattle.pl_delivery.specs.Sending.{IsTakenUpTo, left_to_do, makes_any};
-ghost use Rattle.pl_steps.specs.Taken.{IsTaken};
-ghost use Rattle.pl_switch_rule.specs.Delivering.{comes_home, destination, tells_sender, trap_for};
+ghost use Rattle.pl_delivery.specs.Sending.{HasLength, left_to_do, makes_any};
+ghost use Rattle.pl_layouts.specs.declared.place.Place.{Place};
+ghost use Rattle.pl_steps.specs.Taken.{IsTaken, IsTakenUpTo};
+ghost use Rattle.pl_switch_rule.specs.Delivering.{comes_home, destination, makes, tells_sender, trap_for};
 ghost use Rattle.pl_switch_rule.specs.Forwarding.{Choice};
 ghost use Rattle.pl_switch_rule.specs.Granting.{granted};
 ghost use Rattle.pl_switch_rule.specs.Messages.{invalidates};
 ghost use Rattle.pl_migrate.specs.Books.{traps};
-ghost use Rattle.pl_edge.specs.EdgeViews.{edge_in, MayBeAt};
+ghost use Rattle.pl_edge.specs.EdgeViews.{edge_in, place_by, MayBeAt};
 
 use crate::EdgeTable;
 use pl_core::{Act, Cause, Grant, Memory, Outbox, Trap};
-use pl_delivery::{Sent, egress, invalidate, probe, reply};
+use pl_delivery::{Sent, begin, egress, invalidate, probe, reply};
 use pl_frame::Frame;
 use pl_pmac::Pmac;
 
@@ -21,6 +22,7 @@ impl EdgeTable {
     pub fn egress(&self, frame: Frame, out: &mut Outbox) -> Result<Sent, Memory>
         requires { 14 ≤ length frame }
         ensures taken { IfOk result (λ sent. (choose : Choice) (v : SwitchView) → MayBeAt self.now.book v.place → IsTakenUpTo (left_to_do choose sent (edge_in self.now v)) (comes_home choose (edge_in self.now v) frame) out.old out.new) }
+        ensures length { IfOk result (HasLength (length frame)) }
     {
         match &self.book {
             Some(book) => egress(book, frame, out),
@@ -31,11 +33,28 @@ impl EdgeTable {
         }
     }
 
+    /// A frame that is made begins here. It goes home as every frame for an address of this edge switch,
+    /// or upward.
+    pub fn begin(&self, frame: Frame, out: &mut Outbox) -> Result<Sent, Memory>
+        requires { 14 ≤ length frame }
+        ensures taken { IfOk result (λ sent. (choose : Choice) (v : SwitchView) → MayBeAt self.now.book v.place → IsTakenUpTo (left_to_do choose sent (edge_in self.now v)) (makes choose frame (edge_in self.now v)) out.old out.new) }
+        ensures length { IfOk result (HasLength (length frame)) }
+    {
+        match &self.book {
+            Some(book) => begin(book, self.alloc, frame, out),
+            None => {
+                out.push(Act::Make(Frame::copy(self.alloc, frame.bytes())?))?;
+                Ok(Sent::Upward(frame))
+            }
+        }
+    }
+
     /// The reply that tells the sender of a frame the newer address of the host, where the frame meets a
     /// trap and is no ARP frame: to be made behind what `egress` does with the frame.
     pub fn reply(&self, frame: &[u8]) -> Result<Option<Frame>, Memory>
         requires { 14 ≤ length frame.now }
         ensures tells { IfOk result (λ reply. (choose : Choice) (v : SwitchView) → MayBeAt self.now.book v.place → makes_any choose reply (edge_in self.now v) ≡ tells_sender choose frame.now (trap_for (edge_in self.now v) (destination frame.now)) (edge_in self.now v)) }
+        ensures length { IfOk result (λ reply. IfSome reply (λ frame. length frame ≡ 42)) }
     {
         match &self.book {
             Some(book) => reply(book, self.alloc, frame),
@@ -48,6 +67,7 @@ impl EdgeTable {
     /// granted here changes nothing.
     pub fn invalidate(&mut self, old: Pmac, to: Trap, out: &mut Outbox) -> Result<(), Memory>
         ensures taken { OnOk result ((v : SwitchView) → MayBeAt self.old.book v.place → IsTaken (invalidates (edge_in self.old v) old to (granted (edge_in self.old v) old)) (edge_in self.new v) out.old out.new) }
+        ensures place { (place : Place) → place_by self.new.book place ≡ place_by self.old.book place }
         ensures k { self.new.k ≡ self.old.k }
     {
         match self.set_trap(old, to)? {
@@ -63,6 +83,7 @@ impl EdgeTable {
     fn set_trap(&mut self, old: Pmac, to: Trap) -> Result<Option<Grant>, Memory>
         ensures granted { IfOk result (λ grant. (v : SwitchView) → MayBeAt self.old.book v.place → grant ≡ granted (edge_in self.old v) old) }
         ensures set { IfOk result (λ grant. (v : SwitchView) → edge_in self.new v ≡ traps (edge_in self.old v) old to grant) }
+        ensures place { (place : Place) → place_by self.new.book place ≡ place_by self.old.book place }
         ensures k { self.new.k ≡ self.old.k }
     {
         match &mut self.book {

@@ -3,12 +3,13 @@ ghost use Rattle.pl_frame.specs.Ethernet.{source_of};
 ghost use Rattle.pl_core.specs.SwitchViews.{SwitchView};
 ghost use Rattle.pl_layouts.specs.Frames.{arriving, is_arp};
 ghost use Rattle.pl_layouts.specs.Memberships.{membership_in};
+ghost use Rattle.pl_steps.specs.Taken.{IsTakenUpTo};
 ghost use Rattle.pl_switch_rule.specs.Forwarding.{Choice};
 ghost use Rattle.pl_switch_rule.specs.Granting.{is_local};
 ghost use Rattle.pl_switch_rule.specs.Intake.{is_for_switch, mac_of_pmac, packet_acts, sends_in, takes_in};
 ghost use Rattle.pl_migrate.specs.Books.{address_in_use, book_in, is_here};
 ghost use Rattle.pl_edge.specs.declared.edge_act.EdgeAct.TheVariants.{ToHost, Upward};
-ghost use Rattle.pl_edge.specs.Begun.{left_to_do, question, IsBegun, IsMeant};
+ghost use Rattle.pl_edge.specs.Begun.{left_to_do, question, IsMeant};
 ghost use Rattle.pl_edge.specs.EdgeViews.{edge_in, MayBeAt};
 
 use crate::reading::{destination_of, is_group, source_of};
@@ -30,7 +31,7 @@ impl EdgeTable {
         requires port { port < self.now.k }
         requires long { 14 ≤ length frame.old }
         requires other { membership_in frame.old ≡ None }
-        ensures begun { IfOk result (λ act. (choose : Choice) (v : SwitchView) → MayBeAt self.now.book v.place → IsBegun (takes_in choose port frame.old (edge_in self.now v)) (left_to_do choose act frame.new) (edge_in self.now v) out.old out.new) }
+        ensures begun { IfOk result (λ act. (choose : Choice) (v : SwitchView) → MayBeAt self.now.book v.place → IsTakenUpTo (left_to_do choose act frame.new (edge_in self.now v)) (takes_in choose port frame.old (edge_in self.now v)) out.old out.new) }
         ensures meant { IfOk result (λ act. IsMeant act frame.new) }
         ensures same { length frame.new ≡ length frame.old }
     {

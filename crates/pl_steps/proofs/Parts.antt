@@ -5,7 +5,7 @@ use Rattle.pl_core.specs.declared.acts.Act.{Act}
 use Rattle.pl_core.specs.Gains.{Gains}
 use Rattle.pl_core.specs.SwitchViews.{SwitchView}
 use Rattle.pl_steps.specs.Steps.{SwitchStep, does, rests, ◌▹◌}
-use Rattle.pl_steps.specs.Taken.{IsOfPart, IsTaken, IsTakenByPart}
+use Rattle.pl_steps.specs.Taken.{IsOfPart, IsTaken, IsTakenByPart, IsTakenUpTo}
 
 pub taken_then : (s : SwitchStep) (next : SwitchView → SwitchStep) (v w : SwitchView) (o p q : List Act) →
     IsTaken s v o p → IsTaken (next v) w p q → IsTaken (s ▹ next) w o q
@@ -45,3 +45,21 @@ module _ {P : Type 0} where
     view = becomes ∙ (h v).view ∙ ap (λ u. (row u).view) (sym is);
     acts = (h v).acts ∙ ap (λ u. o ++ (row u).acts) (sym is);
   }
+
+-- ---- a step that is taken up to a rest
+pub rest_done : (rest step : SwitchStep) (w : SwitchView) (o p q : List Act) → IsTakenUpTo rest step o p → IsTaken rest w p q → IsTaken step w o q
+rest_done rest step w o p q a b = record { view = b.view ∙ sym a.view; acts = b.acts ∙ a.acts }
+
+pub nothing_left : (step : SwitchStep) (v : SwitchView) (o p : List Act) → IsTaken step v o p → IsTakenUpTo (rests v) step o p
+nothing_left step v o p a = record { view = sym a.view; acts = append-nil p ∙ a.acts }
+
+pub all_left : (step : SwitchStep) (o : List Act) → IsTakenUpTo step step o o
+all_left step o = record { view = refl; acts = refl }
+
+-- behind a part that is taken, the rest of the next part is the rest of both
+pub then_up_to : (s rest : SwitchStep) (next : SwitchView → SwitchStep) (v : SwitchView) (o p q : List Act) →
+    IsTaken s v o p → IsTakenUpTo rest (next v) p q → IsTakenUpTo rest (s ▹ next) o q
+then_up_to s rest next v o p q a b = record {
+  view = sym (ap (λ u. (next u).view) a.view) ∙ b.view;
+  acts = b.acts ∙ ap (λ xs. xs ++ (next v).acts) a.acts ∙ append_assoc o s.acts (next v).acts ∙ ap (λ u. o ++ (s.acts ++ (next u).acts)) a.view;
+}

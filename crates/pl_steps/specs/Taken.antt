@@ -16,3 +16,8 @@ IsTakenByPart put row before after out_before out_after = (v : SwitchView) → I
 pub record IsOfPart {P : Type 0} (put : P → SwitchView → SwitchView) (row : SwitchView → SwitchStep) (becomes : P → P) (done : P → List Act) : Type 0 where
   pub view : (part : P) (v : SwitchView) → (row (put part v)).view ≡ put (becomes part) v
   pub acts : (part : P) (v : SwitchView) → (row (put part v)).acts ≡ done part
+
+-- A step is taken up to the rest of it: the acts before the rest stand in the outbox, and the rest leads to the same view.
+pub record IsTakenUpTo (rest step : SwitchStep) (out_before between : List Act) : Type 0 where
+  pub view : step.view ≡ rest.view
+  pub acts : between ++ rest.acts ≡ out_before ++ step.acts

@@ -5,7 +5,7 @@
 pub use sends_at_port::{SendsAtPort, send_at_each_port};
 pub use taken_laws::{
     a_part_and_then_the_next, a_part_that_rests, a_part_that_tells, a_step_of_one_part,
-    what_a_part_takes_the_switch_takes, what_a_whole_step_gives,
+    what_a_part_takes_the_switch_takes, what_a_whole_step_gives, what_is_left_is_done,
 };
 pub use tells_at_port::{TellsAtPort, one_act_where, tell_at_each_port};
 

@@ -3,7 +3,7 @@ ghost use Rattle.pl_core.specs.declared.acts.Act.{Act};
 ghost use Rattle.pl_core.specs.Gains.{Gains};
 ghost use Rattle.pl_core.specs.SwitchViews.{SwitchView};
 ghost use Rattle.pl_steps.specs.Steps.{SwitchStep, does, rests, ◌▹◌};
-ghost use Rattle.pl_steps.specs.Taken.{IsOfPart, IsTaken, IsTakenByPart};
+ghost use Rattle.pl_steps.specs.Taken.{IsOfPart, IsTaken, IsTakenByPart, IsTakenUpTo};
 
 /// A part of a step, and then the next from what the switch knows by then, are the two together.
 pub fn a_part_and_then_the_next()
@@ -21,6 +21,11 @@ pub fn a_part_that_rests()
 /// A part that does these acts and changes nothing puts them behind the outbox.
 pub fn a_part_that_tells()
     ensures { (v : SwitchView) (acts out : List Act) → IsTaken (does v acts) v out (out ++ acts) }
+{}
+
+/// Who takes what is left of a step has taken the step.
+pub fn what_is_left_is_done()
+    ensures { (rest step : SwitchStep) (after : SwitchView) (out_before between out_after : List Act) → IsTakenUpTo rest step out_before between → IsTaken rest after between out_after → IsTaken step after out_before out_after }
 {}
 
 /// A whole step that is taken gains its acts, under every rule that asks for this view and these acts.

@@ -1,1 +1,4 @@
-
+pub mod Agreeing
+pub mod Looking
+pub mod Settled
+pub mod EdgeRows

@@ -1,1 +1,2 @@
 pub mod PlainViews
+pub mod Settling

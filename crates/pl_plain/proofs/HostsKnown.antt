@@ -1,5 +1,5 @@
 -- A host is found where one is known to be.
-use Rattle.std.proofs.Common.{◌≡◌, ℕ, ◌&&◌, Bool, true, if◌then◌else◌, Option, Some, is_none, List, refl, sym, ap, ◌∙◌, subst}
+use Rattle.std.proofs.Common.{◌≡◌, ℕ, ◌&&◌, Bool, true, if◌then◌else◌, Option, Some, is_none, List, sym, ap, ◌∙◌, subst}
 use Rattle.std.proofs.lemmas.Bool.{and_parts}
 use Rattle.std.proofs.lemmas.List.{set-get_or}
 use Rattle.pl_core.specs.declared.acts.Act.{Act}

@@ -1,5 +1,4 @@
 pub mod Agreeing
-pub mod Looking
 pub mod Copied
 pub mod Growing
 pub mod Nothing

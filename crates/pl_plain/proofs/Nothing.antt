@@ -14,7 +14,7 @@ use Rattle.pl_steps.specs.Steps.{SwitchStep, does, rests}
 use Rattle.pl_steps.specs.Taken.{IsTaken}
 use Rattle.pl_steps.proofs.Parts.{taken_rests, taken_then}
 use Rattle.pl_switch_rule.specs.Granting.{grants_remembered}
-use Rattle.pl_switch_rule.specs.Levels.{changes_to, has_become_placed, settles_in}
+use Rattle.pl_switch_rule.specs.Levels.{changes_to, settles_in}
 use Rattle.pl_switch_rule.specs.Telling.{changes_told, link_to, link_told, place_told, pod_wanted}
 
 number_itself : (o : Option ℕ) → same_number o o ≡ true

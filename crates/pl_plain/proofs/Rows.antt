@@ -1,18 +1,15 @@
 -- Rows of the rule from what the parts of a switch do.
-use Rattle.std.proofs.Common.{◌≡◌, ℕ, Option, Some, List, ◌++◌, map, refl, sym, ap, ◌∙◌, subst, append_assoc}
+use Rattle.std.proofs.Common.{◌≡◌, ℕ, Option, List, ◌++◌, sym, ap, ◌∙◌, subst, append_assoc}
 use Rattle.pl_frame.specs.declared.address.SwitchId.{SwitchId}
 use Rattle.pl_core.specs.declared.acts.Act.{Act}
-use Rattle.pl_core.specs.declared.acts.Act.TheVariants.{Control}
 use Rattle.pl_core.specs.declared.messages.TreePart.{TreePart}
 use Rattle.pl_core.specs.declared.switch_records.Hold.{Hold}
-use Rattle.pl_core.specs.Announcements.{announcement}
-use Rattle.pl_core.specs.PortRecords.{ports_where}
 use Rattle.pl_core.specs.SwitchViews.{SwitchView}
 use Rattle.pl_layouts.specs.declared.control.Ldm.{Ldm}
 use Rattle.pl_layouts.specs.declared.place.Place.{Place}
 use Rattle.pl_migrate.specs.Books.{BookView}
 use Rattle.pl_steps.specs.Taken.{IsTaken}
-use Rattle.pl_switch_rule.specs.Announcing.{announces_at, proposal, proposes_at, ticks, with_aged_ports}
+use Rattle.pl_switch_rule.specs.Announcing.{ticks, with_aged_ports}
 use Rattle.pl_switch_rule.specs.Levels.{after_message, changes_to, learns_level, learns_pod, notes_edge, with_message}
 use Rattle.pl_switch_rule.specs.Positions.{half}
 use Rattle.pl_switch_rule.specs.Telling.{changes_told}

@@ -1,6 +1,6 @@
 -- What an edge switch keeps agrees with its place, also once more of its place is known.
-use Rattle.std.proofs.Common.{◌≡◌, ℕ, ◌==◌, ◌&&◌, ◌||◌, not, Bool, true, false, if◌then◌else◌, Option, Some, None, List, ◌++◌, refl, sym, ap, ◌∙◌, subst}
-use Rattle.std.proofs.lemmas.Bool.{and_parts, and_from, both_ways, eqb-true, false_from_ne_true, not-true, not-false, true_from_ne_false, false≢true, true≢false}
+use Rattle.std.proofs.Common.{◌≡◌, ℕ, ◌&&◌, not, true, false, if◌then◌else◌, Option, Some, None, List, ◌++◌, refl, sym, ap, ◌∙◌, subst}
+use Rattle.std.proofs.lemmas.Bool.{and_parts, and_from, both_ways, eqb-true, false_from_ne_true, not-true, true_from_ne_false, false≢true, true≢false}
 use Rattle.std.specs.Prelude.{is_some}
 use Rattle.pl_frame.specs.declared.address.SwitchId.{SwitchId}
 use Rattle.pl_core.specs.declared.acts.Act.{Act}
@@ -18,8 +18,8 @@ use Rattle.pl_switch_rule.specs.Levels.{changes_to, has_become_placed, settles_i
 use Rattle.pl_switch_rule.specs.Telling.{changes_told}
 use Rattle.pl_migrate.specs.Books.{BookView, edge_at}
 use Rattle.pl_position.specs.Candidacy.{Candidacy}
-use Rattle.pl_ports.specs.PortsViews.{PortsView, put_ports}
-use Rattle.pl_edge.specs.EdgeViews.{EdgeView, edge_in, grants_by, place_by, placed_at, KeepsBook}
+use Rattle.pl_ports.specs.PortsViews.{PortsView}
+use Rattle.pl_edge.specs.EdgeViews.{EdgeView, edge_in, place_by, placed_at, KeepsBook}
 use Rattle.pl_plain.specs.PlainViews.{plain_view, is_placed_edge, HasBookAt}
 use Rattle.pl_plain.specs.Settling.{StaysKnown, PlaceGrows}
 

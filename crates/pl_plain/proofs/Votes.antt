@@ -1,13 +1,12 @@
 -- What votes, positions and pods change.
-use Rattle.std.proofs.Common.{◌≡◌, ℕ, ◌<◌, ◌≤◌, ◌^◌, ◌==◌, ◌&&◌, not, Bool, true, false, if◌then◌else◌, Option, Some, None, is_none, List, [], ◌∷◌, ◌++◌, refl, sym, ap, ◌∙◌, subst, arith}
-use Rattle.std.proofs.lemmas.Bool.{and_from, and_parts, eqb-true, false≢true, ne_eqb}
-use Rattle.std.specs.Prelude.{is_some, nat_lt, IfSome, IsSome}
+use Rattle.std.proofs.Common.{◌≡◌, ℕ, ◌<◌, ◌^◌, ◌==◌, ◌&&◌, not, Bool, true, false, if◌then◌else◌, Option, Some, None, is_none, List, [], ◌∷◌, ◌++◌, refl, sym, ap, ◌∙◌, subst, arith}
+use Rattle.std.proofs.lemmas.Bool.{and_from, and_parts, false≢true, ne_eqb}
+use Rattle.std.specs.Prelude.{is_some, IfSome, IsSome}
 use Rattle.pl_frame.specs.declared.address.SwitchId.{SwitchId}
 use Rattle.pl_core.specs.declared.acts.Act.{Act}
 use Rattle.pl_core.specs.declared.acts.Act.TheVariants.{Control}
 use Rattle.pl_core.specs.declared.messages.TreePart.{TreePart}
 use Rattle.pl_core.specs.declared.switch_records.Hold.{Hold}
-use Rattle.pl_core.specs.PortRecords.{place_at}
 use Rattle.pl_core.specs.SwitchViews.{SwitchView}
 use Rattle.pl_layouts.specs.declared.control.Control.TheVariants as control
 use Rattle.pl_layouts.specs.declared.control.Proposal.{Proposal}
@@ -20,7 +19,7 @@ use Rattle.pl_steps.specs.Taken.{IsTaken}
 use Rattle.pl_steps.proofs.Parts.{taken_rests}
 use Rattle.pl_switch_rule.specs.Levels.{changes_to, with_pod}
 use Rattle.pl_switch_rule.specs.Messages.{hears_pod, takes_pod}
-use Rattle.pl_switch_rule.specs.Positions.{after_vote, answers_proposal, counted, frees_others, half, hears_proposal}
+use Rattle.pl_switch_rule.specs.Positions.{after_vote, answers_proposal, counted, frees_others, hears_proposal}
 use Rattle.pl_position.specs.Candidacy.{Candidacy, with_candidacy}
 use Rattle.pl_position.specs.Holding.{with_holds}
 use Rattle.pl_ports.specs.Changes.{with_position}

@@ -1,4 +1,4 @@
-use Rattle.std.proofs.Common.{◌≡◌, ◌+◌, ◌∙◌, ap, subst, sym, take}
+use Rattle.std.proofs.Common.{◌+◌, ◌∙◌, ap, subst, sym, take}
 use Rattle.std.specs.BTreeSet.{insert_key}
 use Rattle.std.specs.List.Sorted.{IsStrictlySortedBy}
 use Rattle.pl_plain.proofs.Copied.{one_further}

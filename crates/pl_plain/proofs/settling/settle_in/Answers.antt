@@ -1,7 +1,6 @@
-use Rattle.std.proofs.Common.{◌≡◌, Some, None, true, false, sym, ap, ◌∙◌, subst}
+use Rattle.std.proofs.Common.{◌≡◌, sym, ap, ◌∙◌, subst}
 use Rattle.pl_layouts.specs.declared.place.Place.{Place}
 use Rattle.pl_migrate.specs.Books.{edge_at}
-use Rattle.pl_switch_rule.specs.Levels.{has_become_placed}
 use Rattle.pl_plain.specs.PlainViews.{HasBookAt}
 use Rattle.pl_plain.proofs.Agreeing.{on_err}
 use Rattle.pl_plain.proofs.Settled.{becomes_at, becomes_none, book_new, book_stays, no_pod, no_position, settled_new, settled_same}

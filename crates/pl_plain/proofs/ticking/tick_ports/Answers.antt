@@ -1,8 +1,7 @@
-use Rattle.std.proofs.Common.{◌≡◌, ◌∙◌, ap, sym, refl}
+use Rattle.std.proofs.Common.{◌∙◌, ap, sym, refl}
 use Rattle.pl_edge.proofs.Delivered.{on_ok}
 use Rattle.pl_core.specs.SwitchViews.{SwitchView}
-use Rattle.pl_ports.specs.PortsViews.{ports_alone, put_ports}
-use Rattle.pl_switch_rule.specs.Announcing.{with_aged_ports}
+use Rattle.pl_ports.specs.PortsViews.{ports_alone}
 use Rattle.pl_plain.specs.PlainViews.{plain_view}
 use Rattle.pl_plain.proofs.Rows.{ticked}
 use Rattle.pl_plain.proofs.ticking.tick_ports.Goals as goal

@@ -1,4 +1,4 @@
-use Rattle.std.proofs.Common.{◌≡◌, ◌/◌, ◌∙◌, ◌++◌, [], ◌∷◌, ap, sym, subst, refl}
+use Rattle.std.proofs.Common.{◌∙◌, ◌++◌, [], ◌∷◌, ap, sym, subst, refl}
 use Rattle.pl_core.specs.declared.acts.Act.TheVariants.{Control}
 use Rattle.pl_ldp.specs.Writable.{IsId}
 use Rattle.pl_plain.specs.PlainViews.{plain_view}

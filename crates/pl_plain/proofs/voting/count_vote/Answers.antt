@@ -1,9 +1,8 @@
-use Rattle.std.proofs.Common.{◌≡◌, true, false, Some, is_none, ap, sym, ◌∙◌}
+use Rattle.std.proofs.Common.{◌≡◌, Some, is_none, ap, sym, ◌∙◌}
 use Rattle.pl_core.specs.SwitchViews.{SwitchView}
 use Rattle.pl_layouts.specs.Placement.{is_known}
 use Rattle.pl_ports.specs.PortsViews.{ports_alone, put_ports}
 use Rattle.pl_ports.specs.Changes.{with_position}
-use Rattle.pl_switch_rule.specs.Positions.{after_vote}
 use Rattle.pl_position.specs.Candidacy.{with_candidacy}
 use Rattle.pl_plain.proofs.Settled.{known_level}
 use Rattle.pl_plain.proofs.Votes.{fixed_now, position_grows, position_stays, uncounted}

@@ -1,4 +1,4 @@
-use Rattle.std.proofs.Common.{◌/◌, true, ap, sym, ◌∙◌, subst}
+use Rattle.std.proofs.Common.{◌/◌, ap, sym, ◌∙◌}
 use Rattle.pl_edge.proofs.Delivered.{on_ok}
 use Rattle.pl_core.specs.SwitchViews.{SwitchView}
 use Rattle.pl_layouts.specs.Placement.{is_known}
@@ -7,7 +7,7 @@ use Rattle.pl_ports.specs.PortsViews.{PortsView, ports_alone}
 use Rattle.pl_switch_rule.specs.Levels.{becomes_edge}
 use Rattle.pl_plain.specs.PlainViews.{plain_view}
 use Rattle.pl_plain.proofs.HostsKnown.{host_at_edge, host_found, host_grows, host_keeps, known_by_parts, known_edge}
-use Rattle.pl_plain.proofs.Rows.{KeepsSelf, book_before, grows_before, row_settled}
+use Rattle.pl_plain.proofs.Rows.{book_before, grows_before, row_settled}
 use Rattle.pl_plain.proofs.plain_state.PlainState.find_host.Goals as goal
 
 pub settle-requires-clause-book : goal.settle-requires-clause-book

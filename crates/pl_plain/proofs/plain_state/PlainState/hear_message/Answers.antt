@@ -4,7 +4,7 @@ use Rattle.pl_core.specs.SwitchViews.{SwitchView}
 use Rattle.pl_switch_rule.specs.Levels.{after_message}
 use Rattle.pl_ports.specs.PortsViews.{ports_alone}
 use Rattle.pl_plain.specs.PlainViews.{plain_view}
-use Rattle.pl_plain.proofs.Rows.{KeepsSelf, book_before, grows_before, message_grows, message_heard, message_keeps, row_settled}
+use Rattle.pl_plain.proofs.Rows.{book_before, grows_before, message_grows, message_heard, message_keeps, row_settled}
 use Rattle.pl_plain.proofs.plain_state.PlainState.hear_message.Goals as goal
 
 pub note_edge-requires-clause-positions : goal.note_edge-requires-clause-positions

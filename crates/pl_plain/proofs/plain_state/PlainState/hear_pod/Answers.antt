@@ -1,4 +1,4 @@
-use Rattle.std.proofs.Common.{◌≡◌, ◌/◌, true, false, ap, sym, ◌∙◌, subst}
+use Rattle.std.proofs.Common.{◌≡◌, ◌/◌, ap, sym, ◌∙◌, subst}
 use Rattle.pl_edge.proofs.Delivered.{on_ok}
 use Rattle.pl_core.specs.SwitchViews.{SwitchView}
 use Rattle.pl_switch_rule.specs.Levels.{with_pod}
@@ -6,7 +6,7 @@ use Rattle.pl_switch_rule.specs.Messages.{takes_pod}
 use Rattle.pl_ports.specs.PortsViews.{PortsView, ports_alone}
 use Rattle.std.specs.Prelude.{Some}
 use Rattle.pl_plain.specs.PlainViews.{plain_view, AreOfOne}
-use Rattle.pl_plain.proofs.Rows.{KeepsSelf, book_before, grows_before, row_settled}
+use Rattle.pl_plain.proofs.Rows.{book_before, grows_before, row_settled}
 use Rattle.pl_plain.proofs.Votes.{pod_grows, pod_heard, pod_ignored, pod_keeps, pod_not_taken, pod_taken}
 use Rattle.pl_plain.proofs.plain_state.PlainState.hear_pod.Goals as goal
 

@@ -1,4 +1,4 @@
-use Rattle.std.proofs.Common.{ap, sym, ◌∙◌}
+use Rattle.std.proofs.Common.{ap, ◌∙◌}
 use Rattle.pl_edge.proofs.Delivered.{on_ok}
 use Rattle.pl_frame.specs.Ethernet.{source_of}
 use Rattle.pl_core.specs.SwitchViews.{SwitchView}

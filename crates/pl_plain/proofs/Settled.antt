@@ -1,6 +1,6 @@
 -- What an edge switch keeps agrees with its place, also once more of its place is known.
-use Rattle.std.proofs.Common.{◌≡◌, ℕ, ◌==◌, ◌&&◌, ◌||◌, not, Bool, true, false, if◌then◌else◌, Option, Some, None, List, ◌++◌, refl, sym, ap, ◌∙◌, subst}
-use Rattle.std.proofs.lemmas.Bool.{and_parts, and_from, both_ways, eqb-true, false_from_ne_true, not-true, not-false, true_from_ne_false, false≢true}
+use Rattle.std.proofs.Common.{◌≡◌, ℕ, ◌&&◌, not, true, false, if◌then◌else◌, Option, Some, None, List, ◌++◌, refl, sym, ap, ◌∙◌, subst}
+use Rattle.std.proofs.lemmas.Bool.{and_parts, and_from, both_ways, eqb-true, false_from_ne_true, not-true, true_from_ne_false, false≢true, true≢false}
 use Rattle.std.specs.Prelude.{is_some}
 use Rattle.pl_frame.specs.declared.address.SwitchId.{SwitchId}
 use Rattle.pl_core.specs.declared.acts.Act.{Act}
@@ -9,7 +9,7 @@ use Rattle.pl_core.specs.declared.switch_records.Hold.{Hold}
 use Rattle.pl_core.specs.PortRecords.{ports_of_switch}
 use Rattle.pl_core.specs.SwitchViews.{SwitchView}
 use Rattle.pl_layouts.specs.declared.place.Place.{Place}
-use Rattle.pl_layouts.specs.Placement.{is_known, is_placed}
+use Rattle.pl_layouts.specs.Placement.{is_known, is_placed, nowhere}
 use Rattle.pl_steps.specs.Steps.{SwitchStep, does, rests}
 use Rattle.pl_steps.specs.Taken.{IsTaken}
 use Rattle.pl_steps.proofs.Parts.{taken_rests, taken_then}
@@ -18,15 +18,15 @@ use Rattle.pl_switch_rule.specs.Levels.{changes_to, has_become_placed, settles_i
 use Rattle.pl_switch_rule.specs.Telling.{changes_told}
 use Rattle.pl_migrate.specs.Books.{BookView, edge_at}
 use Rattle.pl_position.specs.Candidacy.{Candidacy}
-use Rattle.pl_ports.specs.PortsViews.{PortsView, put_ports}
-use Rattle.pl_edge.specs.EdgeViews.{EdgeView, edge_in, grants_by, place_by, placed_at, KeepsBook}
+use Rattle.pl_ports.specs.PortsViews.{PortsView}
+use Rattle.pl_edge.specs.EdgeViews.{EdgeView, edge_in, place_by, placed_at, KeepsBook}
 use Rattle.pl_plain.specs.PlainViews.{plain_view, is_placed_edge, HasBookAt}
 use Rattle.pl_plain.specs.Settling.{StaysKnown, PlaceGrows}
 
 abbrev place_of : Option ℕ → Option ℕ → Option ℕ → Place
 place_of level position pod = record { level = level; position = position; pod = pod }
 
-known_level : (level : Option ℕ) (n : ℕ) → is_known level n ≡ true → level ≡ Some n
+pub known_level : (level : Option ℕ) (n : ℕ) → is_known level n ≡ true → level ≡ Some n
 known_level None n h = absurd (false≢true h)
 known_level (Some m) n h = ap (λ x. Some x) (eqb-true m n h)
 
@@ -140,3 +140,14 @@ edge_is_in p c holds edge avoid parts at = ap (λ q. record (plain_view p c hold
 pub edge_becomes : (p : PortsView) (c : Candidacy) (holds : List (Option Hold)) (edge after : EdgeView) (avoid : List (SwitchId × ℕ × ℕ)) (parts : List (ℕ × TreePart)) →
     place_by after.book p.place ≡ p.place → edge_in after (plain_view p c holds edge avoid parts) ≡ plain_view p c holds after avoid parts
 edge_becomes p c holds edge after avoid parts at = ap (λ q. record (plain_view p c holds after avoid parts) { place = q }) at
+
+-- ---- without memory
+
+pub some_kept : (book : Option BookView) (was new : Place) → HasBookAt book was → PlaceGrows was new → is_some book ≡ true → HasBookAt book new
+some_kept None was new h grows some = absurd (false≢true some)
+some_kept (Some b) was new h grows some = kept_book b was new h grows
+
+-- a switch that knows nothing of its place has no book
+pub anew : (book : Option BookView) (place : Place) → is_some book ≡ false → place ≡ nowhere → HasBookAt book place
+anew None place none is = subst (HasBookAt None) (sym is) (record { booked = refl; at = refl })
+anew (Some b) place none is = absurd (true≢false none)

@@ -9,5 +9,14 @@
 
 pub use plain_state::PlainState;
 
+mod copying;
 mod facts;
+mod hearing;
+mod hosts;
+mod managing;
+mod members;
 mod plain_state;
+mod proposing;
+mod settling;
+mod ticking;
+mod voting;

@@ -7,3 +7,4 @@ pub mod Settled
 pub mod Rows
 pub mod Votes
 pub mod EdgeRows
+pub mod Tables

@@ -18,5 +18,6 @@ mod members;
 mod plain_state;
 mod proposing;
 mod settling;
+mod taking;
 mod ticking;
 mod voting;

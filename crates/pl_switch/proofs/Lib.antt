@@ -1,0 +1,4 @@
+pub mod HomeRows
+pub mod HostRows
+pub mod NeighbourRows
+pub mod MessageRows

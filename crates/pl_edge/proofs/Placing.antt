@@ -58,3 +58,6 @@ pub kept : (edge : EdgeView) (k : ℕ) (book : Option BookView) (remembered sour
     edge_of k book remembered members ≡ edge → KeepsEdge edge (edge_of k book sources after)
 kept edge k book remembered sources members after is =
     subst (λ (e : EdgeView). KeepsEdge e (edge_of k book sources after)) is (record { k = refl; book = kept_book book })
+
+pub kept_same : (edge : EdgeView) → KeepsEdge edge edge
+kept_same edge = record { k = refl; book = kept_book edge.book }

@@ -1,18 +1,21 @@
 -- What an edge switch takes in, case by case.
-use Rattle.std.proofs.Common.{◌≡◌, ℕ, ◌&&◌, not, Bool, true, false, if◌then◌else◌, List, [], ◌∷◌, ◌++◌, Option, Some, None, refl, sym, ap, ◌∙◌, subst, append_assoc}
+use Rattle.std.proofs.Common.{◌≡◌, ℕ, ◌*◌, ◌/◌, ◌==◌, ◌&&◌, not, nat_le, Bool, true, false, if◌then◌else◌, List, [], ◌∷◌, ◌++◌, drop, length, slice_index, Option, Some, None, refl, sym, ap, ◌∙◌, subst, append_assoc, inl, inr}
 use Rattle.std.specs.Option.{is_none, is_some}
+use Rattle.std.specs.Result.{result_ok}
+use Rattle.std.proofs.lemmas.Bool.{cases_eq, ne_eqb, true≢false}
 use Rattle.pl_frame.specs.declared.address.Mac.{Mac}
-use Rattle.pl_frame.specs.Ethernet.{destination_of, source_of}
+use Rattle.pl_frame.specs.Ethernet.{destination_of, kind_of, payload_of, source_of}
+use Rattle.pl_arp.specs.Packet.{arp_in}
 use Rattle.pl_arp.specs.declared.packet.Arp.{Arp}
 use Rattle.pl_journal.specs.declared.cause.Cause.TheVariants.{BadArp, NotPlaced}
 use Rattle.pl_core.specs.declared.acts.Act.{Act}
 use Rattle.pl_core.specs.declared.acts.Act.TheVariants.{Drop, Take}
 use Rattle.pl_core.specs.SwitchViews.{SwitchView}
 use Rattle.pl_layouts.specs.Frames.{arriving, is_arp, packet_in}
-use Rattle.pl_layouts.specs.Memberships.{membership_in}
+use Rattle.pl_layouts.specs.Memberships.{header_length, is_membership, membership_in}
 use Rattle.pl_layouts.specs.Placement.{is_placed}
 use Rattle.pl_steps.specs.Steps.{SwitchStep, does, ◌▹◌}
-use Rattle.pl_steps.specs.Taken.{IsTakenUpTo}
+use Rattle.pl_steps.specs.Taken.{IsTaken, IsTakenUpTo}
 use Rattle.pl_switch_rule.specs.Forwarding.{Choice}
 use Rattle.pl_switch_rule.specs.Granting.{grants_at, in_use}
 use Rattle.pl_switch_rule.specs.Intake.{hears_members, is_for_switch, mac_of_pmac, packet_acts, pmac_at, sends_in, source_pmac, takes, takes_in, with_pmac}
@@ -33,6 +36,29 @@ pub source_is : (edge : EdgeView) (v : SwitchView) (port : ℕ) (frame : List �
 source_is edge v port frame book is =
     ap (λ (o : Option BookView). source_pmac (record v { place = place_by o v.place; grants = grants_by o edge.k }) port frame) is
     ∙ numbered_is book edge.k v port (in_use (grants_at (record v { grants = grants_by (Some book) edge.k }) port) (source_of frame))
+
+-- a membership message is no ARP frame
+abbrev message_by : Bool → List ℕ → Option (List ℕ)
+message_by b frame = let payload = payload_of frame in let message = drop (header_length payload) payload in
+    if (b && nat_le 20 (length payload) && (slice_index payload 0 / 16 == 4) && nat_le 20 (header_length payload) && nat_le (header_length payload) (length payload))
+    && (slice_index payload 9 == 2) && nat_le 8 (length message) && is_membership (slice_index message 0) then Some message
+    else None
+
+no_arp : (frame : List ℕ) → is_some (membership_in frame) ≡ true → is_arp frame ≡ false
+no_arp frame h = elim (cases_eq (kind_of frame) 0x0800) [
+  | inl same ↦ ap (λ k. k == 0x0806) same
+  | inr other ↦ absurd (true≢false (sym h ∙ ap (λ b. is_some (message_by b frame)) (ne_eqb (kind_of frame) 0x0800 other)))
+]
+
+no_message : (o : Option (List ℕ)) → is_some o ≡ false → o ≡ None
+no_message None h = refl
+no_message (Some message) h = absurd (true≢false h)
+
+pub read_none : (frame bytes : List ℕ) (b : Bool) → bytes ≡ frame → b ≡ is_some (membership_in bytes) → b ≡ false → membership_in frame ≡ None
+read_none frame bytes b at e is = no_message (membership_in frame) (ap (λ f. is_some (membership_in f)) (sym at) ∙ sym e ∙ is)
+
+pub read_message : (frame bytes : List ℕ) (b : Bool) → bytes ≡ frame → b ≡ is_some (membership_in bytes) → b ≡ true → is_some (membership_in frame) ≡ true
+read_message frame bytes b at e is = ap (λ f. is_some (membership_in f)) (sym at) ∙ sym e ∙ is
 
 -- ---- the ways out
 abbrev ways : Bool → Bool → Bool → Bool → SwitchStep → SwitchStep → SwitchStep → SwitchStep → SwitchStep → SwitchStep
@@ -71,6 +97,21 @@ module _ (choose : Choice) (port : ℕ) (frame : List ℕ) (v : SwitchView) wher
         view = ap (λ (s : SwitchStep). s.view) whole;
         acts = ap (λ acts. acts ++ Take ∷ []) asked
             ∙ append_assoc out (packet_acts v port frame (packet_in frame)) (Take ∷ [])
+            ∙ ap (λ (s : SwitchStep). out ++ s.acts) (sym whole);
+      }
+
+  pub begun_members : (w : SwitchView) (out told : List Act) → is_some (membership_in frame) ≡ true → IsTaken (hears_members v port frame) w out told →
+      IsTakenUpTo (left_to_do choose Taken frame w) (takes_in choose port frame v) out told
+  begun_members w out told message heard =
+      let apart = no_arp frame message in
+      let whole : takes_in choose port frame v ≡ hears_members v port frame ▹ takes =
+      all_ways ∙ ap (λ b. by_ways (b && is_none (packet_in frame)) own (is_some (membership_in frame)) (is_placed v.place)) apart
+      ∙ ap (λ b. by_ways false (is_for_switch v (destination_of frame) (if b then result_ok (arp_in (payload_of frame)) else None)) (is_some (membership_in frame)) (is_placed v.place)) apart
+      ∙ ap (λ b. by_ways false false b (is_placed v.place)) message in
+      record {
+        view = ap (λ (s : SwitchStep). s.view) whole ∙ sym heard.view;
+        acts = ap (λ acts. acts ++ Take ∷ []) heard.acts
+            ∙ append_assoc out (hears_members v port frame).acts (Take ∷ [])
             ∙ ap (λ (s : SwitchStep). out ++ s.acts) (sym whole);
       }
 

@@ -10,8 +10,9 @@ ghost use Rattle.pl_switch_rule.specs.Intake.{is_for_switch, mac_of_pmac, packet
 ghost use Rattle.pl_migrate.specs.Books.{address_in_use, book_in, is_here};
 ghost use Rattle.pl_edge.specs.declared.edge_act.EdgeAct.TheVariants.{ToHost, Upward};
 ghost use Rattle.pl_edge.specs.Begun.{left_to_do, question, IsMeant};
-ghost use Rattle.pl_edge.specs.EdgeViews.{edge_in, MayBeAt};
+ghost use Rattle.pl_edge.specs.EdgeViews.{edge_in, KeepsEdge, MayBeAt};
 
+use crate::membership::is_membership;
 use crate::reading::{destination_of, is_group, source_of};
 use crate::{EdgeAct, EdgeTable};
 use pl_arp::{Arp, REQUEST};
@@ -24,10 +25,32 @@ use pl_pmac::{Pmac, pack, unpack};
 
 impl EdgeTable {
     /// A frame of a host whose source was learnt comes: an ARP frame that cannot be read ends, what is for
-    /// the switch itself is taken, and the rest is rewritten to go on under the pseudo address of its
-    /// source, in an ARP packet too. The answer says what is left to do with the frame. Membership
-    /// messages are taken before.
-    pub fn ingress(&self, port: u8, frame: &mut Frame, out: &mut Outbox) -> Result<EdgeAct, Memory>
+    /// the switch itself is taken, memberships with it, and the rest is rewritten to go on under the
+    /// pseudo address of its source, in an ARP packet too. The answer says what is left to do with the
+    /// frame.
+    pub fn ingress(
+        &mut self,
+        port: u8,
+        frame: &mut Frame,
+        out: &mut Outbox,
+    ) -> Result<EdgeAct, Memory>
+        requires port { port < self.old.k }
+        requires long { 14 ≤ length frame.old }
+        requires short { length frame.old ≤ 65553 }
+        ensures begun { IfOk result (λ act. (choose : Choice) (v : SwitchView) → MayBeAt self.old.book v.place → IsTakenUpTo (left_to_do choose act frame.new (edge_in self.new v)) (takes_in choose port frame.old (edge_in self.old v)) out.old out.new) }
+        ensures meant { IfOk result (λ act. IsMeant act frame.new) }
+        ensures same { length frame.new ≡ length frame.old }
+        ensures kept { KeepsEdge self.old self.new }
+    {
+        if is_membership(frame.bytes()) {
+            self.hear_members(port, frame, out)?;
+            return Ok(EdgeAct::Taken);
+        }
+        self.take_in(port, frame, out)
+    }
+
+    // The same of a frame that is no membership message.
+    fn take_in(&self, port: u8, frame: &mut Frame, out: &mut Outbox) -> Result<EdgeAct, Memory>
         requires port { port < self.now.k }
         requires long { 14 ≤ length frame.old }
         requires other { membership_in frame.old ≡ None }

@@ -1,7 +1,7 @@
-ghost use Rattle.std.specs.Prelude.{◌≡◌, ◌<◌, ◌≤◌, ◌++◌, [], length, fold, IfOk, OnOk};
+ghost use Rattle.std.specs.Prelude.{◌≡◌, ◌<◌, ◌≤◌, ◌++◌, [], length, fold, is_some, IfOk, OnOk};
 ghost use Rattle.std.specs.List.{flat_map};
 ghost use Rattle.pl_frame.specs.Ethernet.{fields, fields_of, source_of};
-ghost use Rattle.pl_layouts.specs.Memberships.{changes_in, group_number};
+ghost use Rattle.pl_layouts.specs.Memberships.{changes_in, group_number, membership_in};
 ghost use Rattle.pl_steps.specs.Taken.{IsTakenByPart};
 ghost use Rattle.pl_switch_rule.specs.Intake.{changes_member, groups_of, hears_members};
 ghost use Rattle.pl_switch_rule.specs.Messages.{forgets_members};
@@ -43,6 +43,16 @@ impl EdgeTable {
         tell_emptied(groups.as_slice(), &self.members, out)?;
         Ok(())
     }
+}
+
+/// Whether a frame is a membership message.
+pub(crate) fn is_membership(frame: &[u8]) -> bool
+    requires long { 14 ≤ length frame.now }
+    requires short { length frame.now ≤ 65553 }
+    ensures { result ≡ is_some (membership_in frame.now) }
+{
+    let view = view_of(frame);
+    read_igmp(&view).is_some()
 }
 
 // The changes of a frame come about in order; each group is noted before it changes.

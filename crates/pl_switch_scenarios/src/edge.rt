@@ -1,7 +1,7 @@
 //! `edge K`. `placed POD POSITION`; `comes PORT FRAME`: a frame of a host; `home FRAME`: a frame for this
 //! edge switch; `find PMAC`; `answer ASKER ASKER_IP IP PMAC`, `flood ASKER ASKER_IP IP`; `invalidate OLD NEW NUMBER
 //! [IP]`.
-ghost use Rattle.std.specs.Prelude.{◌≡◌, ◌<◌, ◌≤◌, None, is_some, length};
+ghost use Rattle.std.specs.Prelude.{◌≡◌, ◌<◌, ◌≤◌, is_some, length};
 ghost use Rattle.pl_layouts.specs.Memberships.{membership_in};
 
 use crate::acts::say_acts;
@@ -121,7 +121,7 @@ impl Bench {
     ) -> Result<(), Memory>
         requires port { port < self.old.table.k }
         requires long { 14 ≤ length frame }
-        requires other { membership_in frame ≡ None }
+        requires short { length frame ≤ 65553 }
     {
         let left = self.table.ingress(port, &mut frame, &mut self.done)?;
         say_acts(alloc, &mut self.done, out)?;

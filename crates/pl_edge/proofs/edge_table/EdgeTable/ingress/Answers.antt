@@ -1,45 +1,17 @@
-use Rattle.std.proofs.Common.{◌≡◌, ◌∙◌, false, sym, ap, subst}
-use Rattle.pl_core.specs.SwitchViews.{SwitchView}
-use Rattle.pl_layouts.specs.Frames.{packet_in}
-use Rattle.pl_switch_rule.specs.Intake.{sends_in}
-use Rattle.pl_migrate.specs.Books.{book_in}
-use Rattle.pl_edge.specs.Begun.{left_to_do}
-use Rattle.pl_edge.specs.EdgeViews.{EdgeView, edge_in}
-use Rattle.pl_edge.proofs.Taking.{begun_own, begun_rewritten, begun_unplaced, read_asked, read_bad, read_own}
+use Rattle.pl_edge.specs.EdgeViews.{edge_in}
+use Rattle.pl_edge.proofs.Placing.{kept_same}
+use Rattle.pl_edge.proofs.Taking.{begun_members, read_message, read_none}
 use Rattle.pl_edge.proofs.edge_table.EdgeTable.ingress.Goals as goal
 
-pub returns-then-is_for_switch-clause-begun : goal.returns-then-is_for_switch-clause-begun
-returns-then-is_for_switch-clause-begun c = λ choose v may.
-    let frame = c.args.frame.now in
-    let w : SwitchView = edge_in c.args.self.now v in
-    let packet = c.packet_in-packet.ensures ∙ ap packet_in c.bytes.ensures in
-    begun_own choose c.args.port frame w c.args.out.now c.ask_for.new.out
-    (read_bad frame c.bytes-2.result.now c.packet_in-packet.result false c.bytes-2.ensures packet (sym c.if-is_bad_arp.false ∙ c.is_bad_arp.ensures))
-    (read_own w frame c.bytes-3.result.now c.destination_of.result c.packet_in-packet.result c.is_for_switch.result c.bytes-3.ensures packet c.destination_of.ensures (c.is_for_switch.ensures v may)
-    ∙ c.if-is_for_switch.true)
-    (read_asked w c.args.port frame c.bytes-then-is_for_switch.result.now c.packet_in-packet.result c.args.out.now c.ask_for.new.out c.bytes-then-is_for_switch.ensures packet (c.in_ok-ask_for.ensures v may))
+pub returns-then-is_membership-clause-begun : goal.returns-then-is_membership-clause-begun
+returns-then-is_membership-clause-begun c = λ choose v may.
+    begun_members choose c.args.port c.args.frame.now (edge_in c.args.self.now v) (edge_in c.hear_members.new.self v) c.args.out.now c.hear_members.new.out
+    (read_message c.args.frame.now c.bytes.result.now c.is_membership.result c.bytes.ensures c.is_membership.ensures c.if-is_membership.true)
+    (c.in_ok-hear_members.ensures.taken v)
 
-pub returns-in_default-clause-begun : goal.returns-in_default-clause-begun
-returns-in_default-clause-begun c = λ choose v may.
-    let frame = c.args.frame.now in
-    let w : SwitchView = edge_in c.args.self.now v in
-    let packet = c.packet_in-packet.ensures ∙ ap packet_in c.bytes.ensures in
-    begun_unplaced choose c.args.port frame c.args.self.now v c.args.out.now
-    (ap (λ (e : EdgeView). e.book) (sym c.self.view_is) ∙ c.in_default.is) may
-    (read_bad frame c.bytes-2.result.now c.packet_in-packet.result false c.bytes-2.ensures packet (sym c.if-is_bad_arp.false ∙ c.is_bad_arp.ensures))
-    (read_own w frame c.bytes-3.result.now c.destination_of.result c.packet_in-packet.result c.is_for_switch.result c.bytes-3.ensures packet c.destination_of.ensures (c.is_for_switch.ensures v may)
-    ∙ c.if-is_for_switch.false)
-    c.requires.other
+pub take_in-requires-clause-other : goal.take_in-requires-clause-other
+take_in-requires-clause-other c =
+    read_none c.args.frame.now c.bytes.result.now c.is_membership.result c.bytes.ensures c.is_membership.ensures c.if-is_membership.false
 
-pub returns-clause-begun : goal.returns-clause-begun
-returns-clause-begun c = λ choose v may.
-    let frame = c.args.frame.now in
-    let w : SwitchView = edge_in c.args.self.now v in
-    let packet = c.packet_in-packet.ensures ∙ ap packet_in c.bytes.ensures in
-    begun_rewritten choose c.args.port frame c.rewrite_source.new.frame c.direction.result c.args.self.now c.in-Some.book v c.args.out.now
-    (ap (λ (e : EdgeView). e.book) (sym c.self.view_is) ∙ c.in-Some.is)
-    (read_bad frame c.bytes-2.result.now c.packet_in-packet.result false c.bytes-2.ensures packet (sym c.if-is_bad_arp.false ∙ c.is_bad_arp.ensures))
-    (read_own w frame c.bytes-3.result.now c.destination_of.result c.packet_in-packet.result c.is_for_switch.result c.bytes-3.ensures packet c.destination_of.ensures (c.is_for_switch.ensures v may)
-    ∙ c.if-is_for_switch.false)
-    c.requires.other c.rewrite_source.ensures.frame
-    (λ u. subst (λ f. left_to_do choose c.direction.result f (book_in c.in-Some.book u) ≡ sends_in choose f (book_in c.in-Some.book u)) c.bytes-4.ensures (c.direction.ensures.sent choose u))
+pub returns-clause-kept : goal.returns-clause-kept
+returns-clause-kept c = kept_same c.args.self.now

@@ -36,6 +36,13 @@ impl Askers {
         }
     }
 
+    /// How many switches asked.
+    pub fn len(&self) -> usize
+        ensures { result ≡ length (pods_given self.now) }
+    {
+        self.pods.len()
+    }
+
     /// The number of the pod of a switch, which is the next one where it asks for the first time. Memory is
     /// wanted for such a switch alone, and without it all is as it was.
     pub fn ask(&mut self, switch: SwitchId) -> Result<u16, Memory>

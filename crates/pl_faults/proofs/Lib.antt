@@ -1,0 +1,4 @@
+pub mod Filling
+pub mod Made
+pub mod Anew
+pub mod Changed

@@ -1,2 +1,3 @@
 pub mod Making
 pub mod Kept
+pub mod Rows

@@ -9,4 +9,6 @@ mod edges;
 mod lists;
 mod making;
 mod matrix;
+mod reach;
 mod renewing;
+mod row;

@@ -1,11 +1,13 @@
-ghost use Rattle.std.specs.Prelude.{◌≡◌, ◌==◌, ◌&&◌, [], IfOk, OnOk, fold, map};
-ghost use Rattle.std.specs.List.{list_any};
-ghost use Rattle.pl_core.specs.AvoidLists.{aggregation_leads_to, avoid_list, core_leads_to, is_above, is_cut, is_sent_down, leads_to};
-ghost use Rattle.pl_core.specs.ManagerViews.{has_level, has_pod, is_alive, placed_edges};
+ghost use Rattle.std.specs.Prelude.{◌≡◌, [], true, IfOk, OnOk, fold, map};
+ghost use Rattle.pl_core.specs.AvoidLists.{avoid_list, is_above};
+ghost use Rattle.pl_core.specs.ManagerViews.{placed_edges};
+ghost use Rattle.pl_reports.specs.Kept.{has_told};
 ghost use Rattle.pl_faults.specs.Making.{placed_as, with_edge, with_neighbour};
+ghost use Rattle.pl_faults.specs.Rows.{IsReach, sends_down, with_edge_at};
 
 use crate::edges::Edge;
-use pl_core::{AvoidList, Memory};
+use crate::reach::{Reach, has_level, has_pod};
+use pl_core::{AvoidList, Memory, Place};
 use pl_frame::SwitchId;
 use pl_reports::Reports;
 use std::alloc::Global;
@@ -15,14 +17,16 @@ pub(crate) fn avoid_list_of(
     alloc: Global,
     reports: &Reports,
     edges: &[Edge],
+    reach: &Reach,
     switch: SwitchId,
 ) -> Result<AvoidList, Memory>
-    requires { map placed_as edges.now ≡ placed_edges reports.now }
+    requires edges { map placed_as edges.now ≡ placed_edges reports.now }
+    requires reach { IsReach reports.now edges.now reach.now.down.entries reach.now.core.entries reach.now.up.entries }
     ensures { IfOk result (λ list. list ≡ avoid_list reports.now switch) }
 {
     let mut list = AvoidList::new(alloc);
     for neighbour in reports.neighbours(switch) {
-        add_neighbour(&mut list, reports, edges, switch, *neighbour)?;
+        add_neighbour(&mut list, reports, edges, reach, switch, *neighbour)?;
     }
     Ok(list)
 }
@@ -32,13 +36,15 @@ fn add_neighbour(
     list: &mut AvoidList,
     reports: &Reports,
     edges: &[Edge],
+    reach: &Reach,
     switch: SwitchId,
     neighbour: SwitchId,
 ) -> Result<(), Memory>
+    requires { IsReach reports.now edges.now reach.now.down.entries reach.now.core.entries reach.now.up.entries }
     ensures { OnOk result (list.new ≡ with_neighbour reports.now switch edges.now list.old neighbour) }
 {
     if is_above(reports, switch, neighbour) {
-        add_edges(list, reports, edges, switch, neighbour)?;
+        add_edges(list, reports, edges, reach, switch, neighbour)?;
     }
     Ok(())
 }
@@ -47,27 +53,35 @@ fn add_edges(
     list: &mut AvoidList,
     reports: &Reports,
     edges: &[Edge],
+    reach: &Reach,
     switch: SwitchId,
     neighbour: SwitchId,
 ) -> Result<(), Memory>
+    requires reach { IsReach reports.now edges.now reach.now.down.entries reach.now.core.entries reach.now.up.entries }
+    requires told { has_told reports.now neighbour ≡ true }
     ensures { OnOk result (list.new ≡ fold (with_edge reports.now switch neighbour) list.old edges.now) }
 {
-    for edge in edges {
-        add_edge(list, reports, edge, switch, neighbour)?;
+    let place = reports.place_of(switch);
+    let above = reports.place_of(neighbour);
+    for i in 0..edges.len() {
+        let edge = &edges[i];
+        let led = reach.leads(above, neighbour, edge, i);
+        add_edge(list, edge, place, switch, neighbour, led)?;
     }
     Ok(())
 }
 
 fn add_edge(
     list: &mut AvoidList,
-    reports: &Reports,
     edge: &Edge,
+    place: Place,
     switch: SwitchId,
     neighbour: SwitchId,
+    leads: bool,
 ) -> Result<(), Memory>
-    ensures { OnOk result (list.new ≡ with_edge reports.now switch neighbour list.old edge.now) }
+    ensures { OnOk result (list.new ≡ with_edge_at place switch neighbour leads list.old edge.now) }
 {
-    if is_cut(reports, edge, switch, neighbour) {
+    if edge.switch != switch && (!sends_down(place, edge.pod) && !leads) {
         list.insert((neighbour, edge.pod, edge.position))?;
     }
     Ok(())
@@ -86,91 +100,9 @@ fn is_above(reports: &Reports, switch: SwitchId, neighbour: SwitchId) -> bool
     }
 }
 
-// Whether a switch avoids a neighbour above for the address of this edge switch.
-fn is_cut(reports: &Reports, edge: &Edge, switch: SwitchId, neighbour: SwitchId) -> bool
-    ensures { result ≡ is_cut reports.now switch neighbour (placed_as edge.now) }
+// Whether a switch at this place sends down for a pod.
+fn sends_down(place: Place, pod: u16) -> bool
+    ensures { result ≡ sends_down place pod }
 {
-    edge.switch != switch
-        && !is_sent_down(reports, switch, edge.pod)
-        && !leads_to(reports, edge, neighbour)
-}
-
-fn is_sent_down(reports: &Reports, switch: SwitchId, pod: u16) -> bool
-    ensures { result ≡ is_sent_down reports.now switch pod }
-{
-    has_level(reports, switch, 1) && has_pod(reports, switch, pod)
-}
-
-fn has_level(reports: &Reports, switch: SwitchId, level: u8) -> bool
-    ensures { result ≡ has_level reports.now switch level }
-{
-    match reports.place_of(switch).level {
-        Some(known) => known == level,
-        None => false,
-    }
-}
-
-fn has_pod(reports: &Reports, switch: SwitchId, pod: u16) -> bool
-    ensures { result ≡ has_pod reports.now switch pod }
-{
-    match reports.place_of(switch).pod {
-        Some(known) => known == pod,
-        None => false,
-    }
-}
-
-// Whether a switch above the edge switches leads on to this edge switch.
-fn leads_to(reports: &Reports, edge: &Edge, above: SwitchId) -> bool
-    ensures { result ≡ leads_to reports.now edge.now.pod edge.now.switch above }
-{
-    if has_level(reports, above, 1) {
-        return aggregation_leads_to(reports, edge, above);
-    }
-    has_level(reports, above, 2) && core_leads_to(reports, edge, above)
-}
-
-fn aggregation_leads_to(reports: &Reports, edge: &Edge, above: SwitchId) -> bool
-    ensures { result ≡ aggregation_leads_to reports.now edge.now.pod edge.now.switch above }
-{
-    if has_pod(reports, above, edge.pod) {
-        return reports.is_alive(above, edge.switch);
-    }
-    any_leads_by_core(reports, edge, above, reports.neighbours(above))
-}
-
-fn any_leads_by_core(reports: &Reports, edge: &Edge, above: SwitchId, cores: &[SwitchId]) -> bool
-    ensures { result ≡ list_any (λ c. is_alive reports.now above c && has_level reports.now c 2 && core_leads_to reports.now edge.now.pod edge.now.switch c) cores.now }
-{
-    cores
-        .iter()
-        .any(|core| leads_by_core(reports, edge, above, *core))
-}
-
-fn leads_by_core(reports: &Reports, edge: &Edge, above: SwitchId, core: SwitchId) -> bool
-    ensures { result ≡ (is_alive reports.now above core && has_level reports.now core 2 && core_leads_to reports.now edge.now.pod edge.now.switch core) }
-{
-    reports.is_alive(above, core)
-        && has_level(reports, core, 2)
-        && core_leads_to(reports, edge, core)
-}
-
-fn core_leads_to(reports: &Reports, edge: &Edge, core: SwitchId) -> bool
-    ensures { result ≡ core_leads_to reports.now edge.now.pod edge.now.switch core }
-{
-    any_leads_down(reports, edge, core, reports.neighbours(core))
-}
-
-fn any_leads_down(reports: &Reports, edge: &Edge, core: SwitchId, downs: &[SwitchId]) -> bool
-    ensures { result ≡ list_any (λ a. is_alive reports.now core a && has_level reports.now a 1 && (has_pod reports.now a edge.now.pod && is_alive reports.now a edge.now.switch)) downs.now }
-{
-    downs.iter().any(|a| leads_down(reports, edge, core, *a))
-}
-
-fn leads_down(reports: &Reports, edge: &Edge, core: SwitchId, down: SwitchId) -> bool
-    ensures { result ≡ (is_alive reports.now core down && has_level reports.now down 1 && (has_pod reports.now down edge.now.pod && is_alive reports.now down edge.now.switch)) }
-{
-    reports.is_alive(core, down)
-        && has_level(reports, down, 1)
-        && has_pod(reports, down, edge.pod)
-        && reports.is_alive(down, edge.switch)
+    has_level(place, 1) && has_pod(place, pod)
 }

@@ -7,6 +7,7 @@ ghost use Rattle.pl_faults.specs.Kept.{AreListsOf, AreRenewed, handed_in};
 use crate::edges::placed_edges;
 use crate::lists::{Lists, renew};
 use crate::making::avoid_list_of;
+use crate::reach::reach_of;
 use pl_core::{Memory, Place};
 use pl_frame::SwitchId;
 use pl_reports::Reports;
@@ -60,9 +61,11 @@ fn renew_all(
 ) -> Result<(), Memory>
     ensures { OnOk result (AreRenewed reports.now (has_told reports.now) lists.old.entries before.old.entries lists.new.entries before.new.entries) }
 {
-    let edges = placed_edges(alloc, reports)?;
+    let placed = placed_edges(alloc, reports)?;
+    let edges = placed.as_slice();
+    let reach = reach_of(alloc, reports, edges)?;
     for switch in reports.switches() {
-        let list = avoid_list_of(alloc, reports, &edges, *switch)?;
+        let list = avoid_list_of(alloc, reports, edges, &reach, *switch)?;
         renew(lists, before, alloc, *switch, list)?;
     }
     Ok(())

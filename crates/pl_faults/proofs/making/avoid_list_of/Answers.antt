@@ -10,4 +10,4 @@ returns c =
     c.loop-neighbour.invariant
     ∙ ap (λ us. fold (with_neighbour c.args.reports.now c.args.switch c.args.edges.now) [] us)
     (take_all c.loop-neighbour.neighbour-index c.neighbours-neighbour-items.result.now c.loop-neighbour-test.false ∙ c.neighbours-neighbour-items.ensures)
-    ∙ list_made c.args.reports.now c.args.switch c.args.edges.now c.requires
+    ∙ list_made c.args.reports.now c.args.switch c.args.edges.now c.requires.edges

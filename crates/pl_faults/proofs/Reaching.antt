@@ -1,22 +1,21 @@
 -- Rows of values tell to which placed edge switches a switch leads on.
-use Rattle.std.proofs.Common.{◌≡◌, ℕ, ◌<◌, ◌+◌, ◌&&◌, ◌||◌, zero, suc, Bool, true, false, cond, not, List, [], ◌∷◌, map, length, take, get_or, Option, Some, None, refl, sym, ap, ◌∙◌, subst, arith}
+use Rattle.std.proofs.Common.{◌≡◌, ℕ, ◌<◌, ◌+◌, ◌&&◌, ◌||◌, zero, suc, Bool, true, false, cond, List, [], ◌∷◌, map, length, take, get_or, Option, Some, None, refl, sym, ap, ◌∙◌, arith}
 use Rattle.std.specs.Prelude.{unwrap_or}
 use Rattle.std.specs.List.{list_any, zip}
 use Rattle.std.specs.BTreeMap.{is_at}
-use Rattle.std.specs.BTreeSet.{insert_key}
 use Rattle.std.proofs.lemmas.Bool.{and_parts}
 use Rattle.std.proofs.lemmas.List.Folds.{list_any_more}
 use Rattle.pl_frame.specs.declared.address.SwitchId.{SwitchId}
 use Rattle.pl_layouts.specs.declared.place.Place.{Place}
 use Rattle.pl_layouts.specs.Placement.{is_known, nowhere}
-use Rattle.pl_core.specs.AvoidLists.{avoided_cmp, core_leads_to, is_above, is_level_above, leads_to}
+use Rattle.pl_core.specs.AvoidLists.{core_leads_to, is_above, is_level_above, leads_to}
 use Rattle.pl_core.specs.ManagerViews.{Told, alive_at_level, has_level, has_pod, id_cmp, is_alive, neighbours, place_of, switches, tellers, value_at}
-use Rattle.pl_core.proofs.Among.{IsAmong, among_in_order, among_left}
+use Rattle.pl_core.proofs.Among.{among_in_order, among_left}
 use Rattle.pl_manager_rule.proofs.Avoided.{id_exact}
 use Rattle.pl_manager_rule.proofs.Tables.{found_key}
 use Rattle.pl_reports.specs.Kept.{has_told}
 use Rattle.pl_faults.specs.declared.edges.Edge.{Edge}
-use Rattle.pl_faults.specs.Making.{Avoided, placed_as, with_edge}
+use Rattle.pl_faults.specs.Making.{Avoided, with_edge}
 use Rattle.pl_faults.specs.Rows.{AreRows, IsReach, Leads, leads_at, leads_by, leads_down, row_at, row_of, value_in, value_of, with_edge_at, with_row}
 use Rattle.pl_faults.proofs.Anew.{among_told, at_is, at_turned}
 use Rattle.pl_faults.proofs.Made.{any_twice}

@@ -6,7 +6,7 @@ ghost use Rattle.pl_faults.specs.Making.{placed_as, with_edge, with_neighbour};
 ghost use Rattle.pl_faults.specs.Rows.{IsReach, sends_down, with_edge_at};
 
 use crate::edges::Edge;
-use crate::reach::{Reach, has_level, has_pod};
+use crate::reach::{Reach, has_level, has_pod, leads_at};
 use pl_core::{AvoidList, Memory, Place};
 use pl_frame::SwitchId;
 use pl_reports::Reports;
@@ -63,9 +63,12 @@ fn add_edges(
 {
     let place = reports.place_of(switch);
     let above = reports.place_of(neighbour);
+    let down = reach.down(neighbour);
+    let core = reach.core(neighbour);
+    let up = reach.up(neighbour);
     for i in 0..edges.len() {
         let edge = &edges[i];
-        let led = reach.leads(above, neighbour, edge, i);
+        let led = leads_at(above, down, core, up, edge, i);
         add_edge(list, edge, place, switch, neighbour, led)?;
     }
     Ok(())

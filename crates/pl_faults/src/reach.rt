@@ -1,7 +1,8 @@
 ghost use Rattle.std.specs.Prelude.{◌≡◌, ◌&&◌, IfOk, OnOk};
+ghost use Rattle.std.specs.Option.{option_copied};
 ghost use Rattle.pl_core.specs.ManagerViews.{has_level, is_alive};
 ghost use Rattle.pl_layouts.specs.Placement.{is_known};
-ghost use Rattle.pl_faults.specs.Rows.{AreRows, IsReach, Leads, leads_at, leads_by, leads_down, row_at, row_of, value_in, with_row};
+ghost use Rattle.pl_faults.specs.Rows.{AreRows, IsReach, Leads, leads_at, leads_by, leads_down, row_at, row_of, value_of, with_row};
 
 use crate::edges::Edge;
 use crate::row::Row;
@@ -108,27 +109,55 @@ fn is_linked(reports: &Reports, switch: SwitchId, neighbour: SwitchId, level: u8
 }
 
 impl Reach {
-    /// Whether a switch at this place leads on to edge switch number i.
-    pub(crate) fn leads(&self, place: Place, switch: SwitchId, edge: &Edge, i: usize) -> bool
-        ensures { result ≡ leads_at place edge.now (value_in self.now.down.entries switch i) (value_in self.now.core.entries switch i) (value_in self.now.up.entries switch i) }
+    /// The row of a switch by its links down, if there is one.
+    pub(crate) fn down(&self, switch: SwitchId) -> Option<&Row>
+        ensures { option_copied result ≡ row_at self.now.down.entries switch }
     {
-        if has_level(place, 1) {
-            if has_pod(place, edge.pod) {
-                return value_in(&self.down, switch, i);
-            }
-            return value_in(&self.up, switch, i);
-        }
-        if has_level(place, 2) {
-            return value_in(&self.core, switch, i);
-        }
-        false
+        self.down.get(&switch)
+    }
+
+    /// The row by aggregation switches.
+    pub(crate) fn core(&self, switch: SwitchId) -> Option<&Row>
+        ensures { option_copied result ≡ row_at self.now.core.entries switch }
+    {
+        self.core.get(&switch)
+    }
+
+    /// The row by core switches.
+    pub(crate) fn up(&self, switch: SwitchId) -> Option<&Row>
+        ensures { option_copied result ≡ row_at self.now.up.entries switch }
+    {
+        self.up.get(&switch)
     }
 }
 
-fn value_in(rows: &Rows, switch: SwitchId, i: usize) -> bool
-    ensures { result ≡ value_in rows.now.entries switch i }
+/// Whether a switch at this place with these rows leads on to edge switch number i.
+pub(crate) fn leads_at(
+    place: Place,
+    down: Option<&Row>,
+    core: Option<&Row>,
+    up: Option<&Row>,
+    edge: &Edge,
+    i: usize,
+) -> bool
+    ensures { result ≡ leads_at place edge.now (value_of (option_copied down.entry) i) (value_of (option_copied core.entry) i) (value_of (option_copied up.entry) i) }
 {
-    match rows.get(&switch) {
+    if has_level(place, 1) {
+        if has_pod(place, edge.pod) {
+            return value_of(down, i);
+        }
+        return value_of(up, i);
+    }
+    if has_level(place, 2) {
+        return value_of(core, i);
+    }
+    false
+}
+
+fn value_of(row: Option<&Row>, i: usize) -> bool
+    ensures { result ≡ value_of (option_copied row.entry) i }
+{
+    match row {
         Some(row) => row.value(i),
         None => false,
     }

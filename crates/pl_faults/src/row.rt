@@ -1,10 +1,12 @@
-ghost use Rattle.std.specs.Prelude.{◌≡◌, ◌||◌, IfOk, OnOk, false, map, slice_index_or};
+ghost use Rattle.std.specs.Prelude.{◌≡◌, ◌&&◌, ◌||◌, IfOk, OnOk, false, map, slice_index_or};
 ghost use Rattle.std.specs.List.{zip};
+ghost use Rattle.pl_core.specs.ManagerViews.{is_alive};
+ghost use Rattle.pl_layouts.specs.Placement.{is_known};
 ghost use Rattle.pl_faults.specs.Rows.{leads_down, row_of};
 
 use crate::edges::Edge;
 use crate::reach::has_pod;
-use pl_core::Memory;
+use pl_core::{Memory, Place};
 use pl_frame::SwitchId;
 use pl_reports::Reports;
 use std::alloc::Global;
@@ -76,16 +78,18 @@ fn linked_of(
 ) -> Result<Vec<bool>, Memory>
     ensures { IfOk result (λ values. values.items ≡ row_of (leads_down reports.now) edges.now switch) }
 {
+    let place = reports.place_of(switch);
     edges
         .iter()
-        .map(|e| is_linked_down(reports, e, switch))
+        .map(|e| is_linked_down(reports, place, e, switch))
         .collect(alloc)
 }
 
-fn is_linked_down(reports: &Reports, edge: &Edge, switch: SwitchId) -> bool
-    ensures { result ≡ leads_down reports.now edge.now switch }
+// Whether a switch at this place has a link that is alive to an edge switch of its pod.
+fn is_linked_down(reports: &Reports, place: Place, edge: &Edge, switch: SwitchId) -> bool
+    ensures { result ≡ (is_known place.pod edge.now.pod && is_alive reports.now switch edge.now.switch) }
 {
-    has_pod(reports.place_of(switch), edge.pod) && reports.is_alive(switch, edge.switch)
+    has_pod(place, edge.pod) && reports.is_alive(switch, edge.switch)
 }
 
 fn either_of(alloc: Global, a: &[bool], b: &[bool]) -> Result<Vec<bool>, Memory>

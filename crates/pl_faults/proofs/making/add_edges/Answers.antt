@@ -2,7 +2,7 @@ use Rattle.std.proofs.Common.{◌∙◌, ◌<◌, sym, ap, length, get_or, arith
 use Rattle.std.proofs.lemmas.List.Sums.{fold_more}
 use Rattle.pl_faults.specs.declared.edges.Edge.{Edge}
 use Rattle.pl_faults.specs.Making.{with_edge}
-use Rattle.pl_faults.specs.Rows.{leads_at, value_in}
+use Rattle.pl_faults.specs.Rows.{leads_at, value_of}
 use Rattle.pl_faults.proofs.Reaching.{edge_by_rows}
 use Rattle.pl_faults.proofs.making.add_edges.Goals as goal
 
@@ -14,8 +14,8 @@ loop-i-preserved c =
     let i = c.loop-i.i in let e = get_or edges i d in
     let within : i < length edges = omega arith in
     c.in_ok-add_edge.ensures
-    ∙ edge_by_rows told edges down core up c.requires.reach s u i d c.loop-i.list c.place_of-place.result c.leads-led.result c.requires.told within
+    ∙ edge_by_rows told edges down core up c.requires.reach s u i d c.loop-i.list c.place_of-place.result c.leads_at-led.result c.requires.told within
     c.place_of-place.ensures
-    (c.leads-led.ensures ∙ ap (λ p. leads_at p e (value_in down u i) (value_in core u i) (value_in up u i)) c.place_of-above.ensures)
+    (c.leads_at-led.ensures ∙ (λ j. leads_at (c.place_of-above.ensures j) e (value_of (c.down-down.ensures j) i) (value_of (c.core-core.ensures j) i) (value_of (c.up-up.ensures j) i)))
     ∙ ap (λ l. with_edge told s u l e) c.loop-i.invariant
     ∙ sym (fold_more (with_edge told s u) c.args.list.now edges i d within)

@@ -1,4 +1,4 @@
-use Rattle.std.proofs.Common.{◌∙◌, ◌&&◌, ap, map, take}
+use Rattle.std.proofs.Common.{◌∙◌, ◌&&◌, ap, map}
 use Rattle.std.specs.List.{list_any}
 use Rattle.std.proofs.lemmas.List.{take_all}
 use Rattle.pl_frame.specs.declared.address.SwitchId.{SwitchId}

@@ -1,7 +1,6 @@
 -- Which edge switches a group needs, and which groups were told of.
-use Rattle.std.proofs.Common.{◌≡◌, ◌⊎◌, ℕ, ◌==◌, ◌&&◌, Bool, true, false, cond, List, [], ◌∷◌, map, Option, Some, None, is_some, nat_cmp, refl, sym, ap, ◌∙◌, subst, inl, inr}
+use Rattle.std.proofs.Common.{◌≡◌, ℕ, ◌==◌, ◌&&◌, Bool, true, false, cond, List, [], ◌∷◌, map, Option, Some, None, is_some, nat_cmp, refl, sym, ap, ◌∙◌, subst, inl, inr}
 use Rattle.std.specs.List.{cons_option, filter, filter_map, fold}
-use Rattle.std.specs.List.Sorted.{IsStrictlySortedBy}
 use Rattle.std.specs.Map.{keys_of}
 use Rattle.std.specs.BTreeMap.{insert_entry}
 use Rattle.std.specs.BTreeSet.{insert_key}
@@ -10,7 +9,7 @@ use Rattle.std.proofs.lemmas.Map.Lookups.{exact_unsigned}
 use Rattle.pl_frame.specs.declared.address.SwitchId.{SwitchId}
 use Rattle.pl_layouts.specs.Memberships.{flood}
 use Rattle.pl_core.specs.ManagerFacts.{groups}
-use Rattle.pl_core.specs.ManagerViews.{Members, PlacedEdge, Told, edge_at, edge_with, id_cmp, in_order, members_cmp, place_of, placed_edges, with_members}
+use Rattle.pl_core.specs.ManagerViews.{Members, PlacedEdge, Told, edge_at, edge_with, members_cmp, place_of, with_members}
 use Rattle.pl_core.proofs.Among.{IsAmong, among_map, among_mapped}
 use Rattle.pl_manager_rule.proofs.Kept.{members_exact, members_total}
 use Rattle.pl_manager_rule.proofs.Tables.{among_put}

@@ -1,5 +1,5 @@
 -- What is kept of the groups.
-use Rattle.std.specs.Prelude.{ℕ, List, Option, None, Some}
+use Rattle.std.specs.Prelude.{ℕ, Option, None, Some}
 use Rattle.std.specs.Option.{option_and_then}
 use Rattle.std.specs.Ordering.{nat_cmp}
 use Rattle.pl_frame.specs.declared.address.SwitchId.{SwitchId}

@@ -1,5 +1,5 @@
 -- What a core switch reaches, by what its aggregation switches serve.
-use Rattle.std.specs.Prelude.{ℕ, ◌&&◌, if◌then◌else◌, List, [], fold}
+use Rattle.std.specs.Prelude.{◌&&◌, if◌then◌else◌, List, [], fold}
 use Rattle.std.specs.BTreeSet.{insert_key}
 use Rattle.pl_frame.specs.declared.address.SwitchId.{SwitchId}
 use Rattle.pl_core.specs.ManagerViews.{Told, has_level, id_cmp, is_alive, neighbours}

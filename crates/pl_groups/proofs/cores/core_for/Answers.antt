@@ -1,4 +1,4 @@
-use Rattle.std.proofs.Common.{◌≡◌, ◌∙◌, ◌==◌, List, [], true, false, ap, filter, length, map, sym}
+use Rattle.std.proofs.Common.{◌≡◌, ◌∙◌, ◌==◌, List, true, false, ap, filter, length, map, sym}
 use Rattle.std.proofs.lemmas.Bool.{false≢true}
 use Rattle.pl_frame.specs.declared.address.SwitchId.{SwitchId}
 use Rattle.pl_core.specs.Trees.{largest, turn}

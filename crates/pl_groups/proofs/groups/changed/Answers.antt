@@ -1,4 +1,4 @@
-use Rattle.std.proofs.Common.{◌∙◌, Bool, List, Some, ap, arith, filter, not, subst, sym}
+use Rattle.std.proofs.Common.{◌∙◌, Bool, Some, ap, arith, filter, not, subst, sym}
 use Rattle.std.proofs.lemmas.Grind.{common_steps}
 use Rattle.std.specs.Option.{option_copied}
 use Rattle.std.specs.List.Sorted.{IsStrictlySortedBy}

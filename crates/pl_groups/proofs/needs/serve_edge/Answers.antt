@@ -1,7 +1,6 @@
-use Rattle.std.proofs.Common.{◌≡◌, ◌∙◌, List, ap, arith, subst, sym, take_all}
+use Rattle.std.proofs.Common.{◌∙◌, List, ap, arith, take_all}
 use Rattle.std.proofs.lemmas.Grind.{common_steps}
 use Rattle.pl_frame.specs.declared.address.SwitchId.{SwitchId}
-use Rattle.pl_groups.specs.Serving.{served_by}
 use Rattle.pl_groups.proofs.Edges.{serve_all, serve_next, served_so_far}
 use Rattle.pl_groups.proofs.needs.serve_edge.Goals as goal
 

@@ -1,6 +1,5 @@
-use Rattle.std.proofs.Common.{◌≡◌, ◌∙◌, List, ap}
+use Rattle.std.proofs.Common.{◌∙◌, List, ap}
 use Rattle.pl_frame.specs.declared.address.SwitchId.{SwitchId}
-use Rattle.pl_core.specs.Trees.{core_of, needed_edges}
 use Rattle.pl_groups.specs.Serving.{part_of_told}
 use Rattle.pl_groups.proofs.Branches.{core_is, parts_are}
 use Rattle.pl_groups.proofs.tree.make_tree.Goals as goal

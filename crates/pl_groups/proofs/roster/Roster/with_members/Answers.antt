@@ -1,4 +1,4 @@
-use Rattle.std.proofs.Common.{◌∙◌, ap, sym, fold, []}
+use Rattle.std.proofs.Common.{◌∙◌, ap, sym, fold}
 use Rattle.pl_core.specs.ManagerViews.{Members}
 use Rattle.pl_groups.specs.Rostering.{with_member}
 use Rattle.pl_groups.proofs.Rostered.{members_are}

@@ -58,7 +58,7 @@ still_placed told s place t h = still told s t (switches (with_place told s plac
 pub still_linked : (told : Told) (s u : SwitchId) (usable : Bool) (t : SwitchId) → has_told told t ≡ true → has_told (with_link told s u usable) t ≡ true
 still_linked told s u usable t h = still told s t (switches (with_link told s u usable)) (switches_linked told s u usable) h
 
-near_key_first : (links : List ((SwitchId × SwitchId) × Bool)) (s u : SwitchId) → IsAmong (s, u) (map (λ l. l.0) links) → IsAmong s (map (λ l. l.0.0) links)
+pub near_key_first : (links : List ((SwitchId × SwitchId) × Bool)) (s u : SwitchId) → IsAmong (s, u) (map (λ l. l.0) links) → IsAmong s (map (λ l. l.0.0) links)
 near_key_first links s u h =
     let at = among_map (λ (l : (SwitchId × SwitchId) × Bool). l.0) (s, u) links h in
     subst (λ z. IsAmong z (map (λ (l : (SwitchId × SwitchId) × Bool). l.0.0) links)) (ap (λ (k : SwitchId × SwitchId). k.0) at.2)

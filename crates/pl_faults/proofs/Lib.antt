@@ -3,3 +3,4 @@ pub mod Made
 pub mod Anew
 pub mod Changed
 pub mod Reaching
+pub mod Unchanged

@@ -2,7 +2,7 @@ use Rattle.std.proofs.Common.{◌∙◌, ap}
 use Rattle.pl_core.specs.ManagerViews.{Told}
 use Rattle.pl_reports.specs.Kept.{has_told}
 use Rattle.pl_faults.proofs.Anew.{all_renewed, still_linked}
-use Rattle.pl_faults.proofs.renewing.keep_link.Goals as goal
+use Rattle.pl_faults.proofs.renewing.keep_new_link.Goals as goal
 
 pub returns-clause-lists : goal.returns-clause-lists
 returns-clause-lists c =

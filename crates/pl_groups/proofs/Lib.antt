@@ -3,3 +3,4 @@ pub mod Edges
 pub mod Reached
 pub mod Branches
 pub mod Rostered
+pub mod Forgotten

@@ -8,7 +8,7 @@ ghost use Rattle.pl_core.specs.Trees.{core_of, tree_part};
 ghost use Rattle.pl_manager_rule.specs.ManagerRule.{same_part};
 ghost use Rattle.pl_groups.specs.Kept.{core_kept, members_in, part_in_tree, part_kept};
 
-use crate::needs::add_if;
+use crate::needs::{add_all, add_if};
 use crate::parts::same_part;
 use crate::roster::Roster;
 use crate::tree::{Tree, make_tree};
@@ -49,6 +49,16 @@ impl Groups {
         self.roster.set(edge, group, any)
     }
 
+    /// Forgets the members and the trees. Takes no memory.
+    pub fn forget(&mut self)
+        ensures members { members_in self.new ≡ [] }
+        ensures parts { (group : ℕ) (s : SwitchId) → part_kept self.new group s ≡ None }
+        ensures cores { (group : ℕ) → core_kept self.new group ≡ None }
+    {
+        self.roster.forget(self.alloc);
+        self.trees = BTreeMap::new(self.alloc);
+    }
+
     /// Group number n, rising, of floods and the groups of which members were told; none past the last.
     pub fn group(&self, n: usize) -> Option<u32>
         ensures { result ≡ slice_get (groups (members_in self.now)) n }
@@ -87,12 +97,30 @@ impl Groups {
         part_of(self.trees.get(&group), switch)
     }
 
+    /// A copy of it.
+    pub fn part_for(&self, group: u32, switch: SwitchId) -> Result<Option<TreePart>, Memory>
+        ensures { IfOk result (λ part. part ≡ part_kept self.now group switch) }
+    {
+        match self.part_of(group, switch) {
+            Some(part) => Ok(Some(copy_of(self.alloc, part)?)),
+            None => Ok(None),
+        }
+    }
+
     /// Whether that is the part of a switch in a group's tree as it was last made.
     pub fn part_is(&self, group: u32, switch: SwitchId, part: Option<&TreePart>) -> bool
         ensures { IsTrue result ↔ (option_copied part.entry ≡ part_kept self.now group switch) }
     {
         same_part(part, self.part_of(group, switch))
     }
+}
+
+fn copy_of(alloc: Global, part: &TreePart) -> Result<TreePart, Memory>
+    ensures { IfOk result (λ copy. copy ≡ part.now) }
+{
+    let mut down = SwitchList::new(alloc);
+    add_all(&mut down, part.down.as_slice())?;
+    Ok(TreePart { up: part.up, down })
 }
 
 // The part of a switch in a tree.

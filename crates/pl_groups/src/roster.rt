@@ -59,6 +59,14 @@ impl Roster {
         Ok(())
     }
 
+    /// Forgets all that was told. Takes no memory.
+    pub(crate) fn forget(&mut self, alloc: Global)
+        ensures { self.new ≡ [] }
+    {
+        self.told = BTreeMap::new(alloc);
+        self.listed.retain(|group| *group == FLOOD);
+    }
+
     /// Group number n, rising, of floods and the groups of which members were told; none past the last.
     pub(crate) fn group(&self, n: usize) -> Option<u32>
         ensures { result ≡ slice_get (groups self.now) n }

@@ -1,4 +1,4 @@
-ghost use Rattle.std.specs.Prelude.{◌≡◌, ◌<◌, ◌≤◌, ◌++◌, ℕ, [], None, not, is_some, length, IfOk, OnOk};
+ghost use Rattle.std.specs.Prelude.{◌≡◌, ◌<◌, ◌≤◌, ◌++◌, ℕ, [], None, not, is_some, length, IfOk, OnErr, OnOk};
 ghost use Rattle.pl_frame.specs.Ethernet.{source_of};
 ghost use Rattle.pl_core.specs.PortRecords.{ports_of_switch};
 ghost use Rattle.pl_core.specs.SwitchViews.{SwitchView};
@@ -81,6 +81,7 @@ impl EdgeTable {
         requires { self.old.book ≡ None }
         ensures taken { OnOk result ((v : SwitchView) → IsTaken (grants_remembered (ports_of_switch self.old.k) (record (edge_in self.old v) { place = edge_at pod position })) (edge_in self.new v) out.old out.new) }
         ensures k { self.new.k ≡ self.old.k }
+        ensures without { OnErr result (self.new.book ≡ None) }
         ensures book { OnOk result (KeepsBook (placed_at pod position self.old).book self.new.book) }
         ensures members { self.new.members ≡ self.old.members }
     {

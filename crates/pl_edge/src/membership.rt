@@ -1,5 +1,7 @@
-ghost use Rattle.std.specs.Prelude.{◌≡◌, ◌<◌, ◌≤◌, ◌++◌, [], length, fold, is_some, IfOk, OnOk};
-ghost use Rattle.std.specs.List.{flat_map};
+ghost use Rattle.std.specs.Prelude.{◌≡◌, ◌<◌, ◌≤◌, ◌==◌, ◌++◌, ℕ, [], length, fold, is_some, IfOk, OnOk};
+ghost use Rattle.std.specs.List.{flat_map, list_any};
+ghost use Rattle.pl_lists.specs.Ports.{ports_of};
+ghost use Rattle.pl_members.specs.Reached.{has_member_at};
 ghost use Rattle.pl_frame.specs.Ethernet.{fields, fields_of, source_of};
 ghost use Rattle.pl_layouts.specs.Memberships.{changes_in, group_number, membership_in};
 ghost use Rattle.pl_steps.specs.Taken.{IsTakenByPart};
@@ -10,7 +12,7 @@ ghost use Rattle.pl_edge.specs.Told.{told_if_none, AreNoted};
 
 use crate::EdgeTable;
 use crate::groups_before::{GroupsBefore, tell_change};
-use pl_core::{Change, Memory, Outbox};
+use pl_core::{Change, Memory, Outbox, PortSet};
 use pl_frame::{Frame, FrameView, Ip4, Mac};
 use pl_members::Members;
 use pl_multicast::read_igmp;
@@ -31,6 +33,13 @@ impl EdgeTable {
         change_all(&mut self.members, &mut before, port, frame.bytes())?;
         before.tell(&self.members, out)?;
         Ok(())
+    }
+
+    /// The ports at which a host has joined a group.
+    pub fn member_ports(&self, group: u32) -> PortSet
+        ensures { (port : ℕ) → list_any (λ p. p == port) (ports_of result) ≡ has_member_at self.now.members group port }
+    {
+        self.members.ports_for(group)
     }
 
     /// All that a host joined at a port is forgotten, and the manager is told as above.

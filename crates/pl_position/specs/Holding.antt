@@ -1,5 +1,5 @@
 -- What an aggregation switch holds for the edge switches of its pod, as the part of what it knows.
-use Rattle.std.specs.Prelude.{◌≡◌, ◌≢◌, ◌<◌, ℕ, ◌^◌, true, false, List, length, Option, Some, slice_index_or, None}
+use Rattle.std.specs.Prelude.{◌≡◌, ◌≢◌, ◌<◌, ℕ, ◌^◌, ◌&&◌, not, true, false, if◌then◌else◌, List, length, Option, Some, slice_index_or, None, is_none, is_some}
 use Rattle.pl_frame.specs.declared.address.SwitchId.{SwitchId}
 use Rattle.pl_layouts.specs.declared.control.Proposal.{Proposal}
 use Rattle.pl_layouts.specs.declared.control.Vote.{Vote}
@@ -32,6 +32,10 @@ pub record IsAnswer (edge : SwitchId) (p : Proposal) (holds : List (Option Hold)
   pub grant : vote.granted ≡ true → is_held_for edge (hold_in holds p.position) ≡ true
   pub refusal : vote.granted ≡ false → (hold : Hold) × (hold_in holds p.position ≡ Some hold) × (hold.edge ≢ edge)
       × (vote.holder ≡ Some hold.edge) × (vote.fixed ≡ hold.fixed)
+
+-- a grant names no holder and no mark, a refusal names the holder: so it can be told
+abbrev pub NamesHolder : Vote → Type 0
+NamesHolder vote = (if vote.granted then is_none vote.holder && not vote.fixed else is_some vote.holder) ≡ true
 
 -- the position is marked for the edge switch, where no other one holds it
 abbrev pub IsMarked : SwitchId → ℕ → List (Option Hold) → List (Option Hold) → Type 0

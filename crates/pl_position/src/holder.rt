@@ -4,7 +4,7 @@ ghost use Rattle.pl_core.specs.SwitchFacts.{holder_of, IsTreeSize};
 ghost use Rattle.pl_core.specs.SwitchViews.{SwitchView};
 ghost use Rattle.pl_layouts.specs.declared.control.Control.TheVariants as control;
 ghost use Rattle.pl_layouts.specs.Control.{control_frame};
-ghost use Rattle.pl_position.specs.Holding.{with_holds, AreHeldByIds, HoldsFor, IsAnswer, IsId, IsMarked};
+ghost use Rattle.pl_position.specs.Holding.{with_holds, AreHeldByIds, HoldsFor, IsAnswer, IsId, IsMarked, NamesHolder};
 ghost use Rattle.pl_steps.specs.Steps.{does};
 ghost use Rattle.pl_switch_rule.specs.Positions.{answers_proposal, frees_others, half, notes_position};
 
@@ -64,6 +64,7 @@ impl Holder {
         ensures holds { HoldsFor edge proposal.position self.old self.new }
         ensures answer { IsAnswer edge proposal self.new result }
         ensures ids { IsId edge → AreHeldByIds self.old → AreHeldByIds self.new × IfSome result.holder IsId }
+        ensures names { NamesHolder result }
     {
         vote_in(&mut self.holds[..self.positions], edge, proposal)
     }

@@ -4,7 +4,7 @@ ghost use Rattle.pl_core.specs.declared.acts.Act.TheVariants.{Control};
 ghost use Rattle.pl_core.specs.SwitchViews.{SwitchView};
 ghost use Rattle.pl_layouts.specs.declared.control.Control.TheVariants as control;
 ghost use Rattle.pl_layouts.specs.Control.{control_frame};
-ghost use Rattle.pl_position.specs.Holding.{with_holds, AreHeldByIds, HoldsFor, IsAnswer, IsId, IsMarked};
+ghost use Rattle.pl_position.specs.Holding.{with_holds, AreHeldByIds, HoldsFor, IsAnswer, IsId, IsMarked, NamesHolder};
 ghost use Rattle.pl_steps.specs.Steps.{does};
 ghost use Rattle.pl_switch_rule.specs.Positions.{answers_proposal, freed_but, frees_others, is_free_for, is_held_for, kept_or_new, marked_for, marks, vote_on};
 
@@ -20,6 +20,7 @@ pub(crate) fn vote_in(holds: &mut [Option<Hold>], edge: SwitchId, proposal: Prop
     ensures holds { HoldsFor edge proposal.position holds.old holds.new }
     ensures answer { IsAnswer edge proposal holds.new result }
     ensures ids { IsId edge → AreHeldByIds holds.old → AreHeldByIds holds.new × IfSome result.holder IsId }
+    ensures names { NamesHolder result }
 {
     let position = usize::from(proposal.position);
     free_others(holds, edge, position);
@@ -91,7 +92,8 @@ fn marked_for(edge: SwitchId, hold: Option<Hold>) -> Option<Hold>
 
 // A grant, or a refusal that names the other holder and whether its position is fixed.
 fn vote_on(edge: SwitchId, proposal: Proposal, hold: Option<Hold>) -> Vote
-    ensures { result ≡ vote_on edge proposal hold }
+    ensures vote { result ≡ vote_on edge proposal hold }
+    ensures names { NamesHolder result }
 {
     match hold {
         Some(hold) if hold.edge != edge => Vote {

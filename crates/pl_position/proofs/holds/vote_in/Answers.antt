@@ -37,5 +37,5 @@ returns-clause-ids c = λ id ids.
     let told : IfSome (vote_on c.args.edge c.args.proposal (hold_in c.args.holds.now c.args.proposal.position)).holder IsId =
     names_an_id c.args.edge c.args.proposal (hold_in c.args.holds.now c.args.proposal.position) (ids c.args.proposal.position) in (
       held_by_ids c.args.edge c.args.proposal.position c.args.holds.now _ (returns-clause-holds c) id ids,
-      subst (λ vote. IfSome vote.holder IsId) (sym (c.vote_on.ensures ∙ ap (vote_on c.args.edge c.args.proposal) (read c))) told,
+      subst (λ vote. IfSome vote.holder IsId) (sym (c.vote_on.ensures.vote ∙ ap (vote_on c.args.edge c.args.proposal) (read c))) told,
     )

@@ -1,0 +1,3 @@
+pub mod PlainViews
+pub mod Settling
+pub mod Proposals

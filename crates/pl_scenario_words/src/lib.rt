@@ -1,9 +1,31 @@
-//! The words of a scenario's lines, and the lines that tell what came of them.
+//! The words of a scenario's lines, the lines that tell what came of them, and how scenarios follow one
+//! another in a text.
 #![tactic(auto)]
 
-use pl_frame::{Ip4, Memory};
-use pl_wiring::text::dotted;
+use pl_frame::{Ip4, Memory, SwitchId};
+use pl_pmac::{Pmac, unpack};
+use pl_wiring::text::{dotted, mac};
 use std::alloc::{AllocError, Global};
+
+/// Parts that are played by the lines of a scenario.
+pub trait Player: Drop {
+    /// Plays a scenario, and writes what comes of it, a line each.
+    fn play(&self, alloc: Global, scenario: &[&str], out: &mut String) -> Result<(), Memory>;
+}
+
+/// Plays each scenario of a text. They are parted by the lines `new`.
+pub fn play_each<P: Player>(
+    player: &P,
+    alloc: Global,
+    text: &str,
+    out: &mut String,
+) -> Result<(), Memory> {
+    let lines: Vec<&str> = text.lines().collect(alloc)?;
+    for scenario in lines.as_slice().split(|line| *line == "new") {
+        player.play(alloc, scenario, out)?;
+    }
+    Ok(())
+}
 
 /// The first word of a text, and what stands behind it.
 pub fn first_word(text: &str) -> (&str, &str) {
@@ -53,4 +75,22 @@ pub fn frame(alloc: Global, text: &str) -> Result<Option<Vec<u8>>, Memory> {
 pub fn group(text: &str) -> Option<Ip4> {
     let number = dotted(text)?;
     Some(Ip4(number))
+}
+
+/// The number that a switch knows itself by.
+pub fn id(text: &str) -> Option<SwitchId> {
+    Some(SwitchId(text.parse::<u64>().ok()?))
+}
+
+pub fn byte(text: &str) -> Option<u8> {
+    text.parse::<u8>().ok()
+}
+
+pub fn number(text: &str) -> Option<u32> {
+    text.parse::<u32>().ok()
+}
+
+/// A pseudo address, written as a hardware address.
+pub fn pmac(text: &str) -> Option<Pmac> {
+    Some(unpack(mac(text)?))
 }

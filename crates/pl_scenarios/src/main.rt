@@ -20,6 +20,7 @@ mod topology;
 
 use crate::gathered::play_scenario;
 use pl_frame::Memory;
+use pl_scenario_words::{Player, play_each};
 use std::alloc::Global;
 use std::io;
 
@@ -30,14 +31,15 @@ fn main(rt: HostRuntime) -> io::Result<()> {
         input.push_str("\n")?;
     }
     let mut out = String::new(rt.alloc());
-    play(rt.alloc(), input.as_str(), &mut out)?;
+    play_each(&Parts, rt.alloc(), input.as_str(), &mut out)?;
     print!(rt; "{out}")
 }
 
-fn play(alloc: Global, input: &str, out: &mut String) -> Result<(), Memory> {
-    let lines: Vec<&str> = input.lines().collect(alloc)?;
-    for scenario in lines.as_slice().split(|line| *line == "new") {
-        play_scenario(alloc, scenario, out)?;
+#[derive(Drop)]
+struct Parts;
+
+impl Player for Parts {
+    fn play(&self, alloc: Global, scenario: &[&str], out: &mut String) -> Result<(), Memory> {
+        play_scenario(alloc, scenario, out)
     }
-    Ok(())
 }

@@ -5,15 +5,15 @@ ghost use Rattle.std.specs.Prelude.{◌≡◌, ◌<◌, ◌≤◌, is_some, leng
 ghost use Rattle.pl_layouts.specs.Memberships.{membership_in};
 
 use crate::acts::say_acts;
-use crate::numbers::{byte, tree_size};
-use crate::pmacs::{pmac, trap_to};
+use crate::numbers::tree_size;
+use crate::pmacs::trap_to;
 use pl_core::{Memory, Outbox};
 use pl_delivery::{Sent, answer, flood};
 use pl_edge::EdgeTable;
 use pl_frame::{Frame, view};
 use pl_lists::Queue;
 use pl_multicast::read_igmp;
-use pl_scenario_words::{first_word, frame, is_remark, say, say_frame};
+use pl_scenario_words::{byte, first_word, frame, is_remark, pmac, say, say_frame};
 use pl_wiring::text::ip;
 use std::alloc::Global;
 

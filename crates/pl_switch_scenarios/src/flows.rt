@@ -1,10 +1,9 @@
 //! `hash FRAME`, `bytes BYTES`, `choose HASH PORT..`; frames and bytes are in hexadecimal.
-use crate::numbers::{byte, number};
 use pl_core::PortSet;
 use pl_flow::{flow_hash, fnv1a};
 use pl_forward::choose;
 use pl_frame::{Memory, view};
-use pl_scenario_words::{first_word, frame, is_remark, say};
+use pl_scenario_words::{byte, first_word, frame, is_remark, number, say};
 use std::alloc::Global;
 
 pub(crate) fn play_flows(alloc: Global, lines: &[&str], out: &mut String) -> Result<(), Memory> {

@@ -23,7 +23,7 @@ use crate::members::play_members;
 use crate::ports::play_ports;
 use crate::votes::play_votes;
 use pl_frame::Memory;
-use pl_scenario_words::{first_word, say};
+use pl_scenario_words::{Player, first_word, play_each, say};
 use std::alloc::Global;
 use std::io;
 
@@ -34,18 +34,20 @@ fn main(rt: HostRuntime) -> io::Result<()> {
         input.push_str("\n")?;
     }
     let mut out = String::new(rt.alloc());
-    play(rt.alloc(), input.as_str(), &mut out)?;
+    play_each(&Parts, rt.alloc(), input.as_str(), &mut out)?;
     print!(rt; "{out}")
 }
 
-fn play(alloc: Global, input: &str, out: &mut String) -> Result<(), Memory> {
-    let lines: Vec<&str> = input.lines().collect(alloc)?;
-    for scenario in lines.as_slice().split(|line| *line == "new") {
-        if let Some((first, rest)) = scenario.split_first() {
-            play_scenario(alloc, first, rest, out)?;
+#[derive(Drop)]
+struct Parts;
+
+impl Player for Parts {
+    fn play(&self, alloc: Global, scenario: &[&str], out: &mut String) -> Result<(), Memory> {
+        match scenario.split_first() {
+            Some((first, rest)) => play_scenario(alloc, first, rest, out),
+            None => Ok(()),
         }
     }
-    Ok(())
 }
 
 fn play_scenario(

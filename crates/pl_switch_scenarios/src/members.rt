@@ -1,10 +1,9 @@
 //! `join PORT MAC GROUP`, `leave PORT MAC GROUP`, `forget PORT MAC`, `ports GROUP`, `groups`; a group is
 //! its number.
-use crate::numbers::{byte, number};
 use pl_core::PortSet;
 use pl_frame::{Mac, Memory};
 use pl_members::Members;
-use pl_scenario_words::{first_word, is_remark, say};
+use pl_scenario_words::{byte, first_word, is_remark, number, say};
 use pl_wiring::text::mac;
 use std::alloc::Global;
 

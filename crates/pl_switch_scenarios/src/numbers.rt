@@ -2,7 +2,7 @@ ghost use Rattle.std.specs.Prelude.{IfSome};
 ghost use Rattle.pl_core.specs.SwitchFacts.{CanBoot, IsTreeSize};
 
 use pl_frame::SwitchId;
-use pl_scenario_words::first_word;
+use pl_scenario_words::{byte, first_word, id};
 
 /// An id and a number of ports.
 pub(crate) fn switch(text: &str) -> Option<(SwitchId, u8)>
@@ -17,10 +17,6 @@ pub(crate) fn switch(text: &str) -> Option<(SwitchId, u8)>
     Some((id, k))
 }
 
-pub(crate) fn id(text: &str) -> Option<SwitchId> {
-    Some(SwitchId(text.parse::<u64>().ok()?))
-}
-
 /// An even number of ports from 4 to 24.
 pub(crate) fn tree_size(text: &str) -> Option<u8>
     ensures { IfSome result IsTreeSize }
@@ -30,12 +26,4 @@ pub(crate) fn tree_size(text: &str) -> Option<u8>
         return None;
     }
     Some(k)
-}
-
-pub(crate) fn byte(text: &str) -> Option<u8> {
-    text.parse::<u8>().ok()
-}
-
-pub(crate) fn number(text: &str) -> Option<u32> {
-    text.parse::<u32>().ok()
 }

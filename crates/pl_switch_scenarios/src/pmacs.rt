@@ -1,12 +1,6 @@
 use pl_core::Trap;
-use pl_pmac::{Pmac, unpack};
-use pl_scenario_words::first_word;
-use pl_wiring::text::{ip, mac};
-
-/// A pseudo address, written as a hardware address.
-pub(crate) fn pmac(text: &str) -> Option<Pmac> {
-    Some(unpack(mac(text)?))
-}
+use pl_scenario_words::{first_word, pmac};
+use pl_wiring::text::ip;
 
 /// A trap: NEW NUMBER [IP].
 pub(crate) fn trap_to(text: &str) -> Option<Trap> {

@@ -1,11 +1,11 @@
 //! `heard PORT MESSAGE`, `host PORT`, `tick`, `level`, `place`, `record PORT`; a message is the payload of a
 //! control frame, in hexadecimal.
-use crate::numbers::{byte, switch};
+use crate::numbers::switch;
 use pl_frame::Memory;
 use pl_layouts::Control;
 use pl_ldp::read_control;
 use pl_ports::Ports;
-use pl_scenario_words::{first_word, frame, is_remark, say};
+use pl_scenario_words::{byte, first_word, frame, is_remark, say};
 use std::alloc::Global;
 
 pub(crate) fn play_ports(

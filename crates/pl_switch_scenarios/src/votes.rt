@@ -5,11 +5,11 @@
 ghost use Rattle.std.specs.Prelude.{◌<◌};
 ghost use Rattle.pl_core.specs.SwitchFacts.{IsTreeSize};
 
-use crate::numbers::{byte, id, tree_size};
+use crate::numbers::tree_size;
 use pl_core::{Memory, Vote};
 use pl_frame::SwitchId;
 use pl_position::{Holder, Proposer};
-use pl_scenario_words::{first_word, is_remark, say};
+use pl_scenario_words::{byte, first_word, id, is_remark, say};
 use std::alloc::Global;
 
 pub(crate) fn play_votes(

@@ -1,0 +1,6 @@
+pub mod Filling
+pub mod Made
+pub mod Anew
+pub mod Changed
+pub mod Reaching
+pub mod Unchanged

@@ -1,0 +1,141 @@
+-- A link that is told of again and is as alive as before changes no list.
+use Rattle.std.proofs.Common.{◌≡◌, ◌&&◌, ℕ, Bool, true, false, cond, not, List, [], ◌∷◌, map, Option, Some, None, refl, sym, ap, ◌∙◌, subst, inl, inr}
+use Rattle.std.specs.Prelude.{unwrap_or}
+use Rattle.std.specs.List.{filter, filter_map, flat_map, list_any}
+use Rattle.std.specs.List.Sorted.{IsStrictlySortedBy}
+use Rattle.std.specs.Ordering.{is_eq}
+use Rattle.std.specs.Cmp.{Equal-is}
+use Rattle.std.specs.BTreeMap.{is_at}
+use Rattle.std.specs.BTreeSet.{insert_key}
+use Rattle.std.proofs.lemmas.Bool.{not-true, or_cases}
+use Rattle.pl_frame.specs.declared.address.SwitchId.{SwitchId}
+use Rattle.pl_layouts.specs.declared.place.Place.{Place}
+use Rattle.pl_layouts.specs.Equality.{same_switch}
+use Rattle.pl_layouts.specs.Placement.{is_known}
+use Rattle.pl_core.specs.AvoidLists.{avoid_list, avoided_cmp, is_level_above}
+use Rattle.pl_core.specs.ManagerViews.{PlacedEdge, Told, edge_at, id_cmp, in_order, is_alive, is_told_usable, link_cmp, neighbours, place_of, placed_edges, switches, tellers, value_at}
+use Rattle.pl_core.proofs.Among.{IsAmong, among_in_order, among_insert, among_ordered, among_right, id_total, rising_inserted}
+use Rattle.pl_manager_rule.specs.ManagerRule.{with_link}
+use Rattle.pl_manager_rule.proofs.Avoided.{id_exact, neighbours_rise, same_is, switches_rise}
+use Rattle.pl_manager_rule.proofs.History.{value_after}
+use Rattle.pl_reports.specs.Kept.{has_told}
+use Rattle.pl_reports.proofs.Ordering.{same_rising}
+use Rattle.pl_reports.proofs.Telling.{key_of_near, link_exact, link_total, other_neighbours, own_neighbours, switches_linked}
+use Rattle.pl_faults.specs.Kept.{AreListsOf, Lists}
+use Rattle.pl_faults.specs.Making.{Avoided}
+use Rattle.pl_faults.proofs.Anew.{at_is, is_itself, near_key_first}
+use Rattle.pl_faults.proofs.Filling.{among_put_in}
+
+-- ---- a list by places, links that are alive, neighbours and placed edge switches
+module _ (place : SwitchId → Place) (alive : SwitchId → SwitchId → Bool) (near : SwitchId → List SwitchId) where
+  abbrev at_level : SwitchId → ℕ → List SwitchId
+  at_level s level = filter (λ u. is_known (place u).level level) (filter (alive s) (near s))
+
+  abbrev core_on : ℕ → SwitchId → SwitchId → Bool
+  core_on pod t core = list_any (λ a. is_known (place a).pod pod && alive a t) (at_level core 1)
+
+  abbrev on : ℕ → SwitchId → SwitchId → Bool
+  on pod t u =
+      cond (is_known (place u).level 1) (cond (is_known (place u).pod pod) (alive u t) (list_any (core_on pod t) (at_level u 2)))
+      (cond (is_known (place u).level 2) (core_on pod t u) false)
+
+  abbrev cut : SwitchId → SwitchId → PlacedEdge → Bool
+  cut s u e =
+      not (same_switch e.switch s) && (not (is_known (place s).level 1 && is_known (place s).pod e.pod) && not (on e.pod e.switch u))
+
+  abbrev avoided_by : List PlacedEdge → SwitchId → SwitchId → List Avoided
+  avoided_by edges s u = map (λ e. (u, e.pod, e.position)) (filter (cut s u) edges)
+
+  abbrev list_by : List PlacedEdge → SwitchId → List Avoided
+  list_by edges s = in_order avoided_cmp (flat_map (avoided_by edges s) (filter (λ u. is_level_above (place s).level (place u).level) (near s)))
+
+list_is : (told : Told) (s : SwitchId) → avoid_list told s ≡ list_by (place_of told) (is_alive told) (neighbours told) (placed_edges told) s
+unfolding avoid_list
+list_is told s = refl
+
+insert_nothing : (xs : List SwitchId) (k : SwitchId) → IsStrictlySortedBy id_cmp xs → IsAmong k xs → insert_key id_cmp xs k ≡ xs
+insert_nothing xs k s among =
+    same_rising id_cmp id_total id_exact (insert_key id_cmp xs k) xs (rising_inserted id_cmp id_total k xs s) s
+    (λ x h. elim (among_insert id_cmp k x xs h) [ inl is ↦ subst (λ z. IsAmong z xs) is among | inr j ↦ j ])
+    (λ x h. among_put_in id_cmp id_total id_exact x k xs (inr h))
+
+both_turned : (a b : Bool) → (a && b) ≡ (b && a)
+both_turned true true = refl
+both_turned true false = refl
+both_turned false true = refl
+both_turned false false = refl
+
+module _ (told : Told) (s u : SwitchId) (usable : Bool) where
+  abbrev after : Told
+  after = with_link told s u usable
+
+  usable_after : (x y : SwitchId) (own : Bool) → is_eq (link_cmp (x, y) (s, u)) ≡ own → own ≡ false → is_told_usable after x y ≡ is_told_usable told x y
+  usable_after x y own is other =
+      ap (λ (o : Option Bool). unwrap_or o false)
+      (value_after link_cmp link_total link_exact told.links (s, u) (x, y) usable
+      ∙ ap (λ b. cond b (Some usable) (value_at link_cmp told.links (x, y))) (is ∙ other))
+
+  alive_after : is_alive after s u ≡ is_alive told s u → (x y : SwitchId) → is_alive after x y ≡ is_alive told x y
+  alive_after h x y = by (is_eq (link_cmp (x, y) (s, u))) (is_eq (link_cmp (y, x) (s, u))) refl refl
+    where
+      same_at : (l : SwitchId × SwitchId) → is_eq (link_cmp l (s, u)) ≡ true → is_alive after l.0 l.1 ≡ is_alive told l.0 l.1
+      same_at l e =
+          let link : SwitchId × SwitchId = (s, u) in
+          let is : l ≡ link = link_exact l link ((Equal-is (link_cmp l link)).0 e) in
+          subst (λ (k : SwitchId × SwitchId). is_alive after k.0 k.1 ≡ is_alive told k.0 k.1) (sym is) h
+
+      by : (a b : Bool) → is_eq (link_cmp (x, y) (s, u)) ≡ a → is_eq (link_cmp (y, x) (s, u)) ≡ b → is_alive after x y ≡ is_alive told x y
+      by true b e f = same_at (x, y) e
+      by false true e f =
+          both_turned (is_told_usable after x y) (is_told_usable after y x) ∙ same_at (y, x) f
+          ∙ both_turned (is_told_usable told y x) (is_told_usable told x y)
+      by false false e f = λ i. usable_after x y false e refl i && usable_after y x false f refl i
+
+  module _ (known : IsAmong u (neighbours told s)) where
+    switches_same : switches after ≡ switches told
+    switches_same =
+        let key = near_key_first told.links s u (key_of_near told.links s u (among_ordered id_cmp u (map (λ l. l.0.1) (filter (λ l. same_switch l.0.0 s) told.links)) known)) in
+        switches_linked told s u usable
+        ∙ insert_nothing (switches told) s (switches_rise told)
+        (among_in_order id_cmp id_exact s (tellers told) (among_right s (map (λ p. p.0) told.places) (map (λ l. l.0.0) told.links) key))
+
+    near_same : (t : SwitchId) → neighbours after t ≡ neighbours told t
+    near_same t = by (is_at (id_cmp s) t) refl
+      where
+        by : (b : Bool) → is_at (id_cmp s) t ≡ b → neighbours after t ≡ neighbours told t
+        by true e =
+            subst (λ z. neighbours after z ≡ neighbours told z) (at_is s t e)
+            (own_neighbours told s u usable ∙ insert_nothing (neighbours told s) u (neighbours_rise told s) known)
+        by false e =
+            other_neighbours told s u usable t
+            (λ is. let so : is_at (id_cmp s) t ≡ true = subst (λ z. is_at (id_cmp s) z ≡ true) is (is_itself s) in absurd (cc))
+
+    edges_same : placed_edges after ≡ placed_edges told
+    edges_same = ap (λ ss. filter_map (λ z. edge_at z (place_of told z)) ss) switches_same
+
+    list_same : is_alive after s u ≡ is_alive told s u → (t : SwitchId) → avoid_list after t ≡ avoid_list told t
+    list_same h t =
+        list_is after t
+        ∙ (λ i. list_by (place_of told) (λ x y. alive_after h x y i) (λ z. near_same z i) (edges_same i) t)
+        ∙ sym (list_is told t)
+
+    heard_same : (t : SwitchId) → has_told after t ≡ has_told told t
+    heard_same t = ap (list_any (is_at (id_cmp t))) switches_same
+
+    pub lists_same : is_alive after s u ≡ is_alive told s u → (lists before : Lists) → AreListsOf told lists before → AreListsOf after lists before
+    lists_same h lists before are = record {
+      current = λ t. are.current t ∙ (λ i. cond (sym (heard_same t) i) (Some (sym (list_same h t) i)) None);
+      heard = λ t e. heard_same t ∙ are.heard t e;
+    }
+
+-- by the tests of the code
+pub still_is : (now was : Bool) → cond was now (not now) ≡ true → now ≡ was
+still_is now true e = e
+still_is now false e = not-true now e
+
+pub known_among : (u : SwitchId) (xs : List SwitchId) → list_any (λ x. same_switch x u) xs ≡ true → IsAmong u xs
+known_among u [] h = let no_way : false ≡ true = h in absurd (cc)
+known_among u (x ∷ xs) h = elim (or_cases (same_switch x u) (list_any (λ z. same_switch z u) xs) h) [
+  | inl here ↦ inl (same_is x u here)
+  | inr there ↦ inr (known_among u xs there)
+]

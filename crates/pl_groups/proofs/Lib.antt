@@ -1,0 +1,6 @@
+pub mod Sorting
+pub mod Edges
+pub mod Reached
+pub mod Branches
+pub mod Rostered
+pub mod Forgotten

@@ -1,0 +1,25 @@
+use Rattle.std.proofs.Common.{◌∙◌, Bool, Some, ap, arith, filter, not, subst, sym}
+use Rattle.std.proofs.lemmas.Grind.{common_steps}
+use Rattle.std.specs.Option.{option_copied}
+use Rattle.std.specs.List.Sorted.{IsStrictlySortedBy}
+use Rattle.pl_frame.specs.declared.address.SwitchId.{SwitchId}
+use Rattle.pl_core.specs.ManagerViews.{id_cmp}
+use Rattle.pl_manager_rule.specs.ManagerRule.{same_part}
+use Rattle.pl_manager_rule.proofs.Avoided.{switches_rise}
+use Rattle.pl_groups.specs.Kept.{part_in_tree}
+use Rattle.pl_groups.proofs.Sorting.{passing_done, passing_next}
+use Rattle.pl_groups.proofs.groups.changed.Goals as goal
+
+pub loop-switch-preserved : goal.loop-switch-preserved
+loop-switch-preserved c =
+    passing_next (λ (s : SwitchId). not (same_part (part_in_tree (option_copied c.args.before) s) (part_in_tree (Some c.args.after.now) s)))
+    c.switches-switch-items.result.now c.loop-switch.switch-index _ c.loop-switch.changed c.add_if.new.list (not c.same_part-is_same.result)
+    (grind (arith, common_steps)) c.loop-switch.invariant c.in_ok-add_if.ensures
+    (ap not (c.same_part-is_same.ensures ∙ λ i. same_part (c.part_of.ensures i) (c.part_of-in-loop-switch.ensures i)))
+
+pub returns : goal.returns
+returns c =
+    let differs : SwitchId → Bool = λ s. not (same_part (part_in_tree (option_copied c.args.before) s) (part_in_tree (Some c.args.after.now) s)) in
+    passing_done differs c.switches-switch-items.result.now c.loop-switch.switch-index c.loop-switch.changed c.loop-switch-test.false c.loop-switch.invariant
+    (subst (IsStrictlySortedBy id_cmp) (sym c.switches-switch-items.ensures) (switches_rise c.args.reports.now))
+    ∙ ap (filter differs) c.switches-switch-items.ensures

@@ -1,0 +1,4 @@
+pub mod Serving
+pub mod Reaching
+pub mod Rostering
+pub mod Kept

@@ -1,0 +1,155 @@
+ghost use Rattle.std.specs.Prelude.{◌≡◌, ◌==◌, ◌&&◌, IfOk, find, length, not, option_map};
+ghost use Rattle.std.specs.Cmp.Lexicographic.{pointwise};
+ghost use Rattle.std.specs.List.Sorted.{IsStrictlySortedBy};
+ghost use Rattle.std.specs.Option.{option_copied};
+ghost use Rattle.pl_frame.specs.declared.address.SwitchId.{SwitchId};
+ghost use Rattle.pl_layouts.specs.Equality.{same_switch};
+ghost use Rattle.pl_core.specs.ManagerViews.{alive_at_level, edge_at, has_level, has_pod, id_cmp, is_alive, place_of};
+ghost use Rattle.pl_core.specs.Trees.{aggregation_part, core_part, edge_part, part_under};
+ghost use Rattle.pl_manager_rule.specs.ManagerRule.{same_part, same_up};
+ghost use Rattle.pl_groups.specs.Serving.{AreServed, served_by};
+
+use crate::needs::{Served, add_all, add_if, edges_of};
+use crate::place_tests::{has_level, has_pod, is_joined};
+use pl_core::{Memory, SwitchList, TreePart};
+use pl_frame::SwitchId;
+use pl_reports::Reports;
+use std::alloc::Global;
+
+/// The part of a switch in a tree under a core switch.
+pub(crate) fn part_under(
+    alloc: Global,
+    reports: &Reports,
+    needed: &[SwitchId],
+    served: &Served,
+    switch: SwitchId,
+    core: SwitchId,
+) -> Result<Option<TreePart>, Memory>
+    requires rising { IsStrictlySortedBy id_cmp needed.now }
+    requires served { AreServed reports.now needed.now served.now.entries }
+    ensures { IfOk result (λ part. part ≡ part_under reports.now needed.now switch core) }
+{
+    if switch == core {
+        return Ok(Some(core_part(alloc, reports, needed, served, core)?));
+    }
+    if has_level(reports, switch, 1) && reports.is_alive(switch, core) {
+        return Ok(Some(aggregation_part(alloc, reports, needed, served, core, switch)?));
+    }
+    Ok(edge_part(alloc, reports, core, switch))
+}
+
+// The core switch sends to its aggregation switches that serve a needed edge switch.
+fn core_part(
+    alloc: Global,
+    reports: &Reports,
+    needed: &[SwitchId],
+    served: &Served,
+    core: SwitchId,
+) -> Result<TreePart, Memory>
+    requires served { AreServed reports.now needed.now served.now.entries }
+    ensures { IfOk result (λ part. part ≡ core_part reports.now needed.now core) }
+{
+    let mut down = SwitchList::new(alloc);
+    for switch in reports.neighbours(core) {
+        let passes = is_below(reports, served, core, *switch);
+        add_if(&mut down, *switch, passes)?;
+    }
+    Ok(TreePart { up: None, down })
+}
+
+// Whether a neighbour of the core switch is one of these.
+fn is_below(reports: &Reports, served: &Served, core: SwitchId, neighbour: SwitchId) -> bool
+    ensures { result ≡ ((is_alive reports.now core neighbour && has_level reports.now neighbour 1)
+        && not (length (served_by served.now.entries neighbour) == 0)) }
+{
+    is_joined(reports, core, neighbour) && !edges_of(served, neighbour).is_empty()
+}
+
+// An aggregation switch sends up to the core switch, and down to the edge switches that it serves.
+fn aggregation_part(
+    alloc: Global,
+    reports: &Reports,
+    needed: &[SwitchId],
+    served: &Served,
+    core: SwitchId,
+    switch: SwitchId,
+) -> Result<TreePart, Memory>
+    requires rising { IsStrictlySortedBy id_cmp needed.now }
+    requires served { AreServed reports.now needed.now served.now.entries }
+    ensures { IfOk result (λ part. part ≡ aggregation_part reports.now needed.now core switch) }
+{
+    let mut down = SwitchList::new(alloc);
+    add_all(&mut down, edges_of(served, switch))?;
+    Ok(TreePart {
+        up: Some(core),
+        down,
+    })
+}
+
+// A placed edge switch sends up to the first aggregation switch of its pod that is linked to the core switch.
+fn edge_part(alloc: Global, reports: &Reports, core: SwitchId, switch: SwitchId) -> Option<TreePart>
+    ensures { result ≡ option_map (edge_part reports.now core) (edge_at switch (place_of reports.now switch)) }
+{
+    let place = reports.place_of(switch);
+    match (place.level, place.position, place.pod) {
+        (Some(0), Some(_), Some(pod)) => Some(TreePart {
+            up: first_up(reports, core, switch, pod),
+            down: SwitchList::new(alloc),
+        }),
+        _ => None,
+    }
+}
+
+// The first neighbour above an edge switch that is of its pod and linked to the core switch.
+fn first_up(reports: &Reports, core: SwitchId, switch: SwitchId, pod: u16) -> Option<SwitchId>
+    ensures { result ≡ find (λ a. has_pod reports.now a pod && is_alive reports.now a core) (alive_at_level reports.now switch 1) }
+{
+    for neighbour in reports.neighbours(switch) {
+        if leads_up(reports, core, switch, *neighbour, pod) {
+            return Some(*neighbour);
+        }
+    }
+    None
+}
+
+fn leads_up(
+    reports: &Reports,
+    core: SwitchId,
+    switch: SwitchId,
+    neighbour: SwitchId,
+    pod: u16,
+) -> bool
+    ensures { result ≡ ((is_alive reports.now switch neighbour && has_level reports.now neighbour 1)
+        && (has_pod reports.now neighbour pod && is_alive reports.now neighbour core)) }
+{
+    is_joined(reports, switch, neighbour)
+        && has_pod(reports, neighbour, pod)
+        && reports.is_alive(neighbour, core)
+}
+
+/// Whether two parts are the same.
+pub(crate) fn same_part(x: Option<&TreePart>, y: Option<&TreePart>) -> bool
+    ensures { result ≡ same_part (option_copied x.entry) (option_copied y.entry) }
+{
+    match (x, y) {
+        (None, None) => true,
+        (Some(x), Some(y)) => same_up(x.up, y.up) && same_down(&x.down, &y.down),
+        _ => false,
+    }
+}
+
+fn same_up(x: Option<SwitchId>, y: Option<SwitchId>) -> bool
+    ensures { result ≡ same_up x y }
+{
+    match (x, y) {
+        (None, None) => true,
+        (Some(x), Some(y)) => x == y,
+        _ => false,
+    }
+}
+
+fn same_down(x: &SwitchList, y: &SwitchList) -> bool
+    ensures { result ≡ pointwise same_switch x.now y.now }
+{
+    x.as_slice() == y.as_slice()
+}

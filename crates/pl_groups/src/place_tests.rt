@@ -1,0 +1,26 @@
+ghost use Rattle.std.specs.Prelude.{◌≡◌, ◌&&◌};
+ghost use Rattle.pl_core.specs.ManagerViews.{has_level, has_pod, is_alive};
+
+use pl_frame::SwitchId;
+use pl_reports::Reports;
+
+/// Whether a switch told that it has this level.
+pub(crate) fn has_level(reports: &Reports, switch: SwitchId, level: u8) -> bool
+    ensures { result ≡ has_level reports.now switch level }
+{
+    reports.place_of(switch).level == Some(level)
+}
+
+/// Whether a switch told that it is of this pod.
+pub(crate) fn has_pod(reports: &Reports, switch: SwitchId, pod: u16) -> bool
+    ensures { result ≡ has_pod reports.now switch pod }
+{
+    reports.place_of(switch).pod == Some(pod)
+}
+
+/// Whether a neighbour of a switch is an aggregation switch over an alive link.
+pub(crate) fn is_joined(reports: &Reports, switch: SwitchId, neighbour: SwitchId) -> bool
+    ensures { result ≡ (is_alive reports.now switch neighbour && has_level reports.now neighbour 1) }
+{
+    reports.is_alive(switch, neighbour) && has_level(reports, neighbour, 1)
+}

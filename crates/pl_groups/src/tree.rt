@@ -1,0 +1,97 @@
+ghost use Rattle.std.specs.Prelude.{◌≡◌, if◌then◌else◌, IfOk, None, OnOk};
+ghost use Rattle.std.specs.List.{list_any};
+ghost use Rattle.std.specs.Option.{option_or};
+ghost use Rattle.std.specs.List.Sorted.{IsStrictlySortedBy};
+ghost use Rattle.pl_frame.specs.declared.address.SwitchId.{SwitchId};
+ghost use Rattle.pl_layouts.specs.Equality.{same_switch};
+ghost use Rattle.pl_core.specs.ManagerViews.{id_cmp, switches, value_at};
+ghost use Rattle.pl_core.specs.Trees.{core_of, part_under, tree_part};
+ghost use Rattle.pl_groups.specs.Serving.{AreServed, part_of_told};
+
+use crate::cores::core_for;
+use crate::needs::{Served, served_edges};
+use crate::parts::part_under;
+use crate::roster::Roster;
+use pl_core::{Memory, TreePart};
+use pl_frame::SwitchId;
+use pl_reports::Reports;
+use std::alloc::Global;
+use std::collections::BTreeMap;
+
+/// The part of each switch that has one.
+pub(crate) type Parts = BTreeMap<SwitchId, TreePart>;
+
+/// The tree of a group: its core switch, and the parts.
+#[derive(Debug, Drop)]
+pub(crate) struct Tree {
+    pub(crate) core: Option<SwitchId>,
+    pub(crate) parts: Parts,
+}
+
+/// Makes the tree of a group.
+pub(crate) fn make_tree(
+    alloc: Global,
+    reports: &Reports,
+    roster: &Roster,
+    group: u32,
+) -> Result<Tree, Memory>
+    ensures core { IfOk result (λ tree. tree.core ≡ core_of reports.now roster.now group) }
+    ensures parts { IfOk result (λ tree. (s : SwitchId) → value_at id_cmp tree.parts.entries s ≡ tree_part reports.now roster.now group s) }
+{
+    let edges = roster.needed(alloc, reports, group)?;
+    let needed = edges.as_slice();
+    let served = served_edges(alloc, reports, needed)?;
+    let core = core_for(alloc, reports, group, needed, &served)?;
+    let parts = parts_of(alloc, reports, needed, &served, core)?;
+    Ok(Tree { core, parts })
+}
+
+// The parts of the switches; none where there is no core switch.
+fn parts_of(
+    alloc: Global,
+    reports: &Reports,
+    needed: &[SwitchId],
+    served: &Served,
+    core: Option<SwitchId>,
+) -> Result<Parts, Memory>
+    requires rising { IsStrictlySortedBy id_cmp needed.now }
+    requires served { AreServed reports.now needed.now served.now.entries }
+    ensures { IfOk result (λ parts. (s : SwitchId) → value_at id_cmp parts.entries s ≡ part_of_told reports.now needed.now s core) }
+{
+    match core {
+        Some(core) => parts_under(alloc, reports, needed, served, core),
+        None => Ok(BTreeMap::new(alloc)),
+    }
+}
+
+// The parts of the switches under a core switch.
+fn parts_under(
+    alloc: Global,
+    reports: &Reports,
+    needed: &[SwitchId],
+    served: &Served,
+    core: SwitchId,
+) -> Result<Parts, Memory>
+    requires rising { IsStrictlySortedBy id_cmp needed.now }
+    requires served { AreServed reports.now needed.now served.now.entries }
+    ensures { IfOk result (λ parts. (s : SwitchId) → value_at id_cmp parts.entries s
+        ≡ (if list_any (same_switch s) (switches reports.now) then part_under reports.now needed.now s core else None)) }
+{
+    let mut parts = BTreeMap::new(alloc);
+    for switch in reports.switches() {
+        let part = part_under(alloc, reports, needed, served, *switch, core)?;
+        keep_part(&mut parts, *switch, part)?;
+    }
+    Ok(parts)
+}
+
+// Keeps the part of a switch, if it has one; none was kept of it, or the same.
+fn keep_part(parts: &mut Parts, switch: SwitchId, part: Option<TreePart>) -> Result<(), Memory>
+    ensures { OnOk result ((s : SwitchId) → value_at id_cmp parts.new.entries s
+        ≡ (if same_switch switch s then option_or part (value_at id_cmp parts.old.entries s) else value_at id_cmp parts.old.entries s)) }
+{
+    if let Some(part) = part {
+        parts.insert(switch, part)?;
+    }
+    Ok(())
+}

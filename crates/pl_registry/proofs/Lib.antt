@@ -1,0 +1,5 @@
+pub mod Keys
+pub mod Alike
+pub mod Telling
+pub mod Finding
+pub mod Asking

@@ -1,0 +1,4 @@
+pub mod Owners
+pub mod Addresses
+pub mod Learning
+pub mod Askers

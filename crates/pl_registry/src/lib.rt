@@ -1,0 +1,15 @@
+//! What the fabric manager learns of addresses and of switches that want a pod, each found in constant
+//! time.
+//!
+//! `Registry` has the pseudo addresses in the order in which they were first learnt, the newest address of
+//! each host, and the pseudo address with which each IPv4 address was told last. `Askers` has the switches
+//! that asked for the number of a pod. What the manager makes of them is left to the crates above.
+#![tactic(auto)]
+
+pub use askers::Askers;
+pub use registry::{Learning, Registry, Replaced};
+
+mod addresses;
+mod askers;
+mod owners;
+mod registry;

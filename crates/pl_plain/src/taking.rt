@@ -23,7 +23,12 @@ impl PlainState {
 
     /// A frame of a host whose source was learnt comes to an edge switch: it is taken or dropped, or it is
     /// rewritten to go on. The answer says what is left to do with it.
-    pub fn ingress(&mut self, port: u8, frame: &mut Frame, out: &mut Outbox) -> Result<EdgeAct, Memory>
+    pub fn ingress(
+        &mut self,
+        port: u8,
+        frame: &mut Frame,
+        out: &mut Outbox,
+    ) -> Result<EdgeAct, Memory>
         requires edge { is_known self.old.place.level 0 ≡ true }
         requires port { port < self.old.k }
         requires long { 14 ≤ length frame.old }

@@ -1,5 +1,5 @@
 -- Frames that come home, or are made.
-use Rattle.std.proofs.Common.{◌≡◌, ◌≤◌, ℕ, List, Option, Some, None, Result, Ok, Err, IfSome, OnOk, length, refl, sym, ap, ◌∙◌, subst, arith}
+use Rattle.std.proofs.Common.{◌≡◌, ◌≤◌, ℕ, List, Option, Some, None, IfSome, length, sym, subst, arith}
 use Rattle.pl_core.specs.declared.acts.Act.{Act}
 use Rattle.pl_core.specs.SwitchViews.{SwitchView}
 use Rattle.pl_delivery.proofs.Rest.{sender_told}

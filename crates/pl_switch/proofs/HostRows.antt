@@ -27,8 +27,8 @@ module _ (v : SwitchView) (port : ℕ) (frame : List ℕ) where
       let learns : SwitchView → SwitchStep = λ x. learns_source x port frame in
       let takes : SwitchView → SwitchStep = takes_in_or_spent by_flow port frame in
       let both : IsTaken (finds_host v port ▹ (λ x. learns x ▹ takes)) w o p =
-          taken_then (finds_host v port) (λ x. learns x ▹ takes) u w o q p found
-          (subst (λ (f : List ℕ). IsTaken (learns_and_takes_in by_flow port f u) w q p) same taken) in
+      taken_then (finds_host v port) (λ x. learns x ▹ takes) u w o q p found
+      (subst (λ (f : List ℕ). IsTaken (learns_and_takes_in by_flow port f u) w q p) same taken) in
       let middle : SwitchView = (finds_host v port).view in
       subst (λ (c : Bool). IsTaken (by_level c) w o p) (sym (sym is ∙ isnt)) (record {
         view = both.view;

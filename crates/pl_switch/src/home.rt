@@ -15,7 +15,11 @@ use pl_switch_rule::Came;
 
 /// A frame for the pod and the position of this edge switch goes out to its host, or along the traps that
 /// stand for its address; then its sender is told where it met one.
-pub(crate) fn arrives_home(switch: &PlainSwitch, frame: Frame, out: &mut Outbox) -> Result<(), Memory>
+pub(crate) fn arrives_home(
+    switch: &PlainSwitch,
+    frame: Frame,
+    out: &mut Outbox,
+) -> Result<(), Memory>
     requires long { 14 ≤ length frame }
     requires edge { is_known switch.now.state.place.level 0 ≡ true }
     ensures { OnOk result (IsTaken (arrives_home by_flow switch.now.state frame) switch.now.state out.old out.new) }

@@ -105,12 +105,7 @@ fn send_to_all(switch: &PlainSwitch, frame: &Frame, out: &mut Outbox) -> Result<
 }
 
 // A host has a newer address than one that was granted here.
-fn invalidate(
-    switch: &mut PlainSwitch,
-    old: Pmac,
-    to: Trap,
-    out: &mut Outbox,
-) -> Result<(), Memory>
+fn invalidate(switch: &mut PlainSwitch, old: Pmac, to: Trap, out: &mut Outbox) -> Result<(), Memory>
     ensures taken { OnOk result (IsTaken (invalidates switch.old.state old to (granted switch.old.state old)) switch.new.state out.old out.new) }
     ensures id { switch.new.state.id ≡ switch.old.state.id }
     ensures k { switch.new.state.k ≡ switch.old.state.k }

@@ -1,4 +1,3 @@
-use Rattle.std.proofs.Common.{◌∙◌}
 use Rattle.pl_switch_rule.specs.SwitchRule.{by_flow}
 use Rattle.pl_switch.proofs.HomeRows.{reply_long, told_behind}
 use Rattle.pl_switch.proofs.home.arrives_home.Goals as goal

@@ -15,6 +15,7 @@ mod fabric;
 mod gathered;
 mod host;
 mod looks;
+mod rounds;
 mod script;
 mod topology;
 

@@ -157,8 +157,8 @@ pub(crate) fn host(wiring: &Wiring, name: &str) -> Option<HostNo> {
     }
 }
 
-// A switch by its label, or by its number behind `#`, be there one or not.
-fn switch(wiring: &Wiring, label: &str) -> Option<SwitchNo> {
+/// A switch by its label, or by its number behind `#`, be there one or not.
+pub(crate) fn switch(wiring: &Wiring, label: &str) -> Option<SwitchNo> {
     match label.strip_prefix('#') {
         Some(number) => Some(SwitchNo(number.parse::<u32>().ok()?)),
         None => wiring.switch_named(label),

@@ -85,7 +85,7 @@ fn answer<S: SwitchCore, M: ManagerCore>(
         "mark" => mark(world, rest, said),
         "ticks" => ticks(world, alloc, rest, said),
         "rounds" | "sweeps" => rounds(world, verb, rest, said),
-        "pending" | "steps" | "heard" | "len" | "next" => look(world, alloc, verb, rest, said),
+        "pending" | "steps" | "heard" | "len" | "next" | "usable" => look(world, alloc, verb, rest, said),
         _ => step(world, alloc, line, said),
     }
 }

@@ -1,4 +1,4 @@
-use crate::event::{host, queue};
+use crate::event::{host, queue, switch};
 use pl_core::{ManagerCore, SwitchCore};
 use pl_frame::Memory;
 use pl_host::Host;
@@ -20,6 +20,7 @@ pub(crate) fn look<S: SwitchCore, M: ManagerCore>(
         "steps" => say_number(alloc, "steps", world.steps(), said),
         "heard" => heard(world, alloc, rest, said),
         "len" => len(world, alloc, rest, said),
+        "usable" => usable(world, alloc, rest, said),
         _ => next(world, alloc, rest, said),
     }
 }
@@ -71,6 +72,32 @@ fn len<S: SwitchCore, M: ManagerCore>(
         Some(len) => say_number(alloc, "waiting", len as u64, said),
         None => say(said, "no such queue"),
     }
+}
+
+// SWITCH: its usable ports, rising.
+fn usable<S: SwitchCore, M: ManagerCore>(
+    world: &World<S, M, Host>,
+    alloc: Global,
+    rest: &str,
+    said: &mut String,
+) -> Result<(), Memory> {
+    match switch(world.wiring(), rest) {
+        Some(s) if s.0 < world.wiring().switch_count() => {
+            say_usable(alloc, world.switch(s), said)
+        }
+        _ => say(said, "not understood"),
+    }
+}
+
+fn say_usable<S: SwitchCore>(alloc: Global, core: &S, said: &mut String) -> Result<(), Memory> {
+    said.push_str("usable")?;
+    for port in 0..core.k() {
+        if core.port(port).is_usable(core.id()) {
+            let word = format!(in alloc; " {port}")?;
+            said.push_str(word.as_str())?;
+        }
+    }
+    said.push_str("\n")
 }
 
 // The first queue with items, of those from a number on.

@@ -1,5 +1,5 @@
 -- Lists that are made anew, and what was handed out.
-use Rattle.std.proofs.Common.{◌≡◌, ◌||◌, Bool, true, false, cond, List, [], ◌∷◌, map, Option, Some, None, Ordering, Less, Equal, Greater, refl, sym, ap, ◌∙◌, subst, inl, inr}
+use Rattle.std.proofs.Common.{◌≡◌, ◌||◌, ◌<◌, ℕ, zero, suc, length, get_or, arith, Bool, true, false, cond, List, [], ◌∷◌, map, Option, Some, None, Ordering, Less, Equal, Greater, refl, sym, ap, ◌∙◌, subst, inl, inr}
 use Rattle.std.specs.Prelude.{is_some, unwrap_or}
 use Rattle.std.specs.List.{filter, flat_map, list_any}
 use Rattle.std.specs.Ordering.{is_eq, ordering_reverse}
@@ -92,6 +92,11 @@ pub handed_of : (told : Told) (lists before : Lists) → AreListsOf told lists b
 handed_of told lists before h s =
     ap (λ (list : List Avoided). unwrap_or (value_at id_cmp before s) list) (ap (λ (o : Option (List Avoided)). unwrap_or o []) (h.current s) ∙ avoid_of told s)
 
+pub among_index : (xs : List SwitchId) (i : ℕ) (d : SwitchId) → i < length xs → IsAmong (get_or xs i d) xs
+among_index [] i d within = absurd (omega arith)
+among_index (x ∷ xs) zero d within = inl refl
+among_index (x ∷ xs) (suc i) d within = inr (among_index xs i d (omega arith))
+
 -- ---- one more list
 module _ (told : Told) (lists before : Lists) where
   pub none_renewed : AreRenewed told (λ t. false) lists before lists before
@@ -148,6 +153,37 @@ module _ (told : Told) (lists before : Lists) where
           ∙ more_noted t (is_at (id_cmp t) s) (value_at id_cmp b1 t) (h.noted t)
           (ap is_some (ap (λ own. with_note (value_at id_cmp b1 t) own (unwrap_or (value_at id_cmp l1 s) [])) (at_turned t s) ∙ sym (r.noted t)) ∙ e);
     }
+
+  -- a switch whose list is what it was
+  kept_more : (some more : SwitchId → Bool) (s : SwitchId) (l b : Lists) → ((t : SwitchId) → more t ≡ (some t || is_at (id_cmp t) s)) →
+      value_at id_cmp lists s ≡ Some (avoid_list told s) → AreRenewed told some lists before l b → AreRenewed told more lists before l b
+  kept_more some more s l b grows is h = record {
+    now = λ t.
+        h.now t ∙ by t (some t) (is_at (id_cmp t) s) refl ∙ ap (λ x. cond x (Some (avoid_list told t)) (value_at id_cmp lists t)) (sym (grows t));
+    handed_stays = h.handed_stays;
+    noted = λ t e.
+        ap (λ x. is_some (value_at id_cmp before t) || x) (grows t) ∙ wider (is_some (value_at id_cmp before t)) (some t) (is_at (id_cmp t) s) (h.noted t e);
+  }
+    where
+      by : (t : SwitchId) (b own : Bool) → is_at (id_cmp t) s ≡ own →
+          cond b (Some (avoid_list told t)) (value_at id_cmp lists t) ≡ cond (b || own) (Some (avoid_list told t)) (value_at id_cmp lists t)
+      by t true own e = refl
+      by t false false e = refl
+      by t false true e = subst (λ z. value_at id_cmp lists z ≡ Some (avoid_list told z)) (sym (at_is t s e)) is
+
+      wider : (x y z : Bool) → (x || y) ≡ true → (x || (y || z)) ≡ true
+      wider x y z e = elim (or_cases x y e) [ inl a ↦ or_left x (y || z) a | inr c ↦ or_right x (y || z) (or_left y z c) ]
+
+  pub one_more_tested : (some more : SwitchId → Bool) (s : SwitchId) (l1 b1 l2 b2 : Lists) (touched : Bool) →
+      ((t : SwitchId) → more t ≡ (some t || is_at (id_cmp t) s)) →
+      (touched ≡ true → IsRenewed s (avoid_list told s) l1 b1 l2 b2) → (touched ≡ false → (l2 ≡ l1) × (b2 ≡ b1)) →
+      (touched ≡ false → value_at id_cmp lists s ≡ Some (avoid_list told s)) →
+      AreRenewed told some lists before l1 b1 → AreRenewed told more lists before l2 b2
+  one_more_tested some more s l1 b1 l2 b2 true grows anew kept is h = one_more_renewed some more s (avoid_list told s) l1 b1 l2 b2 refl grows h (anew refl)
+  one_more_tested some more s l1 b1 l2 b2 false grows anew kept is h =
+      let same = kept refl in
+      subst (λ l. AreRenewed told more lists before l b2) (sym same.0)
+      (subst (λ b. AreRenewed told more lists before l1 b) (sym same.1) (kept_more some more s l1 b1 grows (is refl) h))
 
   -- by the same test in other words
   pub renewed_of : (some more : SwitchId → Bool) (l b : Lists) → ((t : SwitchId) → some t ≡ more t) →

@@ -4,3 +4,6 @@ pub mod Anew
 pub mod Changed
 pub mod Reaching
 pub mod Unchanged
+pub mod Turned
+pub mod Words
+pub mod Touched

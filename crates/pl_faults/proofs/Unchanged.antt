@@ -1,4 +1,4 @@
--- A link that is told of again and is as alive as before changes no list.
+-- A link that is told of again and is as alive as before changes no list, nor does a place that is told again.
 use Rattle.std.proofs.Common.{◌≡◌, ◌&&◌, ℕ, Bool, true, false, cond, not, List, [], ◌∷◌, map, Option, Some, None, refl, sym, ap, ◌∙◌, subst, inl, inr}
 use Rattle.std.specs.Prelude.{unwrap_or}
 use Rattle.std.specs.List.{filter, filter_map, flat_map, list_any}
@@ -11,19 +11,21 @@ use Rattle.std.proofs.lemmas.Bool.{not-true, or_cases}
 use Rattle.pl_frame.specs.declared.address.SwitchId.{SwitchId}
 use Rattle.pl_layouts.specs.declared.place.Place.{Place}
 use Rattle.pl_layouts.specs.Equality.{same_switch}
-use Rattle.pl_layouts.specs.Placement.{is_known}
+use Rattle.pl_layouts.specs.Placement.{is_known, nowhere}
 use Rattle.pl_core.specs.AvoidLists.{avoid_list, avoided_cmp, is_level_above}
 use Rattle.pl_core.specs.ManagerViews.{PlacedEdge, Told, edge_at, id_cmp, in_order, is_alive, is_told_usable, link_cmp, neighbours, place_of, placed_edges, switches, tellers, value_at}
 use Rattle.pl_core.proofs.Among.{IsAmong, among_in_order, among_insert, among_ordered, among_right, id_total, rising_inserted}
-use Rattle.pl_manager_rule.specs.ManagerRule.{with_link}
+use Rattle.pl_manager_rule.specs.ManagerRule.{with_link, with_place}
 use Rattle.pl_manager_rule.proofs.Avoided.{id_exact, neighbours_rise, same_is, switches_rise}
 use Rattle.pl_manager_rule.proofs.History.{value_after}
 use Rattle.pl_reports.specs.Kept.{has_told}
 use Rattle.pl_reports.proofs.Ordering.{same_rising}
-use Rattle.pl_reports.proofs.Telling.{key_of_near, link_exact, link_total, other_neighbours, own_neighbours, switches_linked}
-use Rattle.pl_faults.specs.Kept.{AreListsOf, Lists}
+use Rattle.pl_reports.proofs.Telling.{key_of_near, link_exact, link_total, other_neighbours, own_neighbours, switches_linked, switches_placed}
+use Rattle.pl_faults.specs.declared.edges.Edge.{Edge}
+use Rattle.pl_faults.specs.Kept.{IsKept, Lists}
 use Rattle.pl_faults.specs.Making.{Avoided}
-use Rattle.pl_faults.proofs.Anew.{at_is, is_itself, near_key_first}
+use Rattle.pl_faults.specs.Rows.{IsReach, Leads, row_of}
+use Rattle.pl_faults.proofs.Anew.{at_is, is_itself, near_key_first, told_among}
 use Rattle.pl_faults.proofs.Filling.{among_put_in}
 
 -- ---- a list by places, links that are alive, neighbours and placed edge switches
@@ -52,6 +54,60 @@ module _ (place : SwitchId → Place) (alive : SwitchId → SwitchId → Bool) (
 list_is : (told : Told) (s : SwitchId) → avoid_list told s ≡ list_by (place_of told) (is_alive told) (neighbours told) (placed_edges told) s
 unfolding avoid_list
 list_is told s = refl
+
+abbrev down_by : (SwitchId → Place) → (SwitchId → SwitchId → Bool) → Leads
+down_by place alive e u = is_known (place u).pod e.pod && alive u e.switch
+
+abbrev on_by : (SwitchId → Place) → (SwitchId → SwitchId → Bool) → (SwitchId → List SwitchId) → ℕ → Leads → Leads
+on_by place alive near level f e u = list_any (λ x. alive u x && is_known (place x).level level && f e x) (near u)
+
+-- where places, links and neighbours are the same, so is all that is kept
+module _ (told after : Told) (places : (x : SwitchId) → place_of after x ≡ place_of told x)
+    (alive : (x y : SwitchId) → is_alive after x y ≡ is_alive told x y) (near : (x : SwitchId) → neighbours after x ≡ neighbours told x)
+    (heard : switches after ≡ switches told) where
+  edges_same : placed_edges after ≡ placed_edges told
+  edges_same = λ i. filter_map (λ z. edge_at z (places z i)) (heard i)
+
+  list_same : (t : SwitchId) → avoid_list after t ≡ avoid_list told t
+  list_same t =
+      list_is after t
+      ∙ (λ i. list_by (λ x. places x i) (λ x y. alive x y i) (λ x. near x i) (edges_same i) t)
+      ∙ sym (list_is told t)
+
+  heard_same : (t : SwitchId) → has_told after t ≡ has_told told t
+  heard_same t = ap (list_any (is_at (id_cmp t))) heard
+
+  reach_same : (edges : List Edge) (down core up : List (SwitchId × List Bool)) → IsReach told edges down core up → IsReach after edges down core up
+  reach_same edges down core up h = record {
+    by_link = record {
+      all = λ x. h.by_link.all x ∙ (λ i. cond (sym (heard_same x) i)
+          (Some (row_of (down_by (λ z. sym (places z) i) (λ y z. sym (alive y z) i)) edges x)) None);
+    };
+    by_core = record {
+      all = λ x. h.by_core.all x ∙ (λ i. cond (sym (heard_same x) i)
+          (Some (row_of (on_by (λ z. sym (places z) i) (λ y z. sym (alive y z) i) (λ z. sym (near z) i) 1
+          (down_by (λ z. sym (places z) i) (λ y z. sym (alive y z) i))) edges x)) None);
+    };
+    by_two = record {
+      all = λ x. h.by_two.all x ∙ (λ i. cond (sym (heard_same x) i)
+          (Some (row_of (on_by (λ z. sym (places z) i) (λ y z. sym (alive y z) i) (λ z. sym (near z) i) 2
+          (on_by (λ z. sym (places z) i) (λ y z. sym (alive y z) i) (λ z. sym (near z) i) 1
+          (down_by (λ z. sym (places z) i) (λ y z. sym (alive y z) i)))) edges x)) None);
+    };
+  }
+
+  alike_kept : (edges : List Edge) (down core up : List (SwitchId × List Bool)) (lists before : Lists) →
+      IsKept told edges down core up lists before → IsKept after edges down core up lists before
+  alike_kept edges down core up lists before kept = record {
+    leading = record {
+      placed = kept.leading.placed ∙ sym edges_same;
+      rows = λ e. reach_same edges down core up (kept.leading.rows e);
+    };
+    listed = record {
+      current = λ t. kept.listed.current t ∙ (λ i. cond (sym (heard_same t) i) (Some (sym (list_same t) i)) None);
+      heard = λ t e. heard_same t ∙ kept.listed.heard t e;
+    };
+  }
 
 insert_nothing : (xs : List SwitchId) (k : SwitchId) → IsStrictlySortedBy id_cmp xs → IsAmong k xs → insert_key id_cmp xs k ≡ xs
 insert_nothing xs k s among =
@@ -110,23 +166,25 @@ module _ (told : Told) (s u : SwitchId) (usable : Bool) where
             other_neighbours told s u usable t
             (λ is. let so : is_at (id_cmp s) t ≡ true = subst (λ z. is_at (id_cmp s) z ≡ true) is (is_itself s) in absurd (cc))
 
-    edges_same : placed_edges after ≡ placed_edges told
-    edges_same = ap (λ ss. filter_map (λ z. edge_at z (place_of told z)) ss) switches_same
+    pub known_kept : is_alive after s u ≡ is_alive told s u → (edges : List Edge) (down core up : List (SwitchId × List Bool)) (lists before : Lists) →
+        IsKept told edges down core up lists before → IsKept after edges down core up lists before
+    known_kept h = alike_kept told after (λ x. refl) (alive_after h) near_same switches_same
 
-    list_same : is_alive after s u ≡ is_alive told s u → (t : SwitchId) → avoid_list after t ≡ avoid_list told t
-    list_same h t =
-        list_is after t
-        ∙ (λ i. list_by (place_of told) (λ x y. alive_after h x y i) (λ z. near_same z i) (edges_same i) t)
-        ∙ sym (list_is told t)
-
-    heard_same : (t : SwitchId) → has_told after t ≡ has_told told t
-    heard_same t = ap (list_any (is_at (id_cmp t))) switches_same
-
-    pub lists_same : is_alive after s u ≡ is_alive told s u → (lists before : Lists) → AreListsOf told lists before → AreListsOf after lists before
-    lists_same h lists before are = record {
-      current = λ t. are.current t ∙ (λ i. cond (sym (heard_same t) i) (Some (sym (list_same h t) i)) None);
-      heard = λ t e. heard_same t ∙ are.heard t e;
-    }
+-- a place that is told again
+pub place_kept : (told : Told) (s : SwitchId) (place : Place) → has_told told s ≡ true → place ≡ place_of told s →
+    (edges : List Edge) (down core up : List (SwitchId × List Bool)) (lists before : Lists) →
+    IsKept told edges down core up lists before → IsKept (with_place told s place) edges down core up lists before
+place_kept told s place heard is =
+    alike_kept told (with_place told s place) same (λ x y. refl) (λ x. refl)
+    (switches_placed told s place ∙ insert_nothing (switches told) s (switches_rise told) (told_among s (switches told) heard))
+  where
+    same : (x : SwitchId) → place_of (with_place told s place) x ≡ place_of told x
+    same x =
+        ap (λ (o : Option Place). unwrap_or o nowhere) (value_after id_cmp id_total id_exact told.places s x place) ∙ by (is_at (id_cmp x) s) refl
+      where
+        by : (b : Bool) → is_at (id_cmp x) s ≡ b → unwrap_or (cond b (Some place) (value_at id_cmp told.places x)) nowhere ≡ place_of told x
+        by true e = is ∙ ap (place_of told) (sym (at_is x s e))
+        by false e = refl
 
 -- by the tests of the code
 pub still_is : (now was : Bool) → cond was now (not now) ≡ true → now ≡ was

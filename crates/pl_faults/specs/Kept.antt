@@ -1,14 +1,16 @@
 -- The lists that are kept, and those that were handed out.
-use Rattle.std.specs.Prelude.{◌≡◌, ◌||◌, Bool, true, not, List, [], if◌then◌else◌, Option, Some, None, is_some, unwrap_or}
-use Rattle.std.specs.List.{filter}
+use Rattle.std.specs.Prelude.{◌≡◌, ◌||◌, Bool, true, false, not, List, [], if◌then◌else◌, Option, Some, None, is_some, unwrap_or}
+use Rattle.std.specs.List.{filter, list_any}
 use Rattle.std.specs.BTreeMap.{is_at}
 use Rattle.std.specs.BTreeSet.{insert_key}
 use Rattle.pl_frame.specs.declared.address.SwitchId.{SwitchId}
-use Rattle.pl_core.specs.ManagerViews.{Told, id_cmp, switches, value_at}
+use Rattle.pl_core.specs.ManagerViews.{Told, id_cmp, neighbours, place_of, switches, value_at}
 use Rattle.pl_core.specs.AvoidLists.{avoid_list}
 use Rattle.pl_manager_rule.specs.ManagerRule.{same_avoid_list}
 use Rattle.pl_reports.specs.Kept.{has_told, nothing_told}
+use Rattle.pl_faults.specs.declared.edges.Edge.{Edge}
 use Rattle.pl_faults.specs.Making.{Avoided}
+use Rattle.pl_faults.specs.Rows.{IsLeading}
 
 -- lists of switches, by rising id
 abbrev pub Lists : Type 0
@@ -68,3 +70,33 @@ pub record AreRenewed (told : Told) (some : SwitchId → Bool) (lists before lis
   pub now : (t : SwitchId) → value_at id_cmp lists_after t ≡ (if some t then Some (avoid_list told t) else value_at id_cmp lists t)
   pub handed_stays : (t : SwitchId) → handed_in lists_after before_after t ≡ handed_in lists before t
   pub noted : (t : SwitchId) → is_some (value_at id_cmp before_after t) ≡ true → (is_some (value_at id_cmp before t) || some t) ≡ true
+
+-- what a word of one switch leaves
+pub record IsWordOf (s : SwitchId) (told after : Told) : Type 0 where
+  pub place : (t : SwitchId) → is_at (id_cmp s) t ≡ false → place_of after t ≡ place_of told t
+  pub near : (t : SwitchId) → is_at (id_cmp s) t ≡ false → neighbours after t ≡ neighbours told t
+  pub others : (t : SwitchId) → is_at (id_cmp s) t ≡ false → has_told after t ≡ has_told told t
+  pub itself : has_told after s ≡ true
+
+-- whether a switch is in a list of them
+abbrev pub is_in : List SwitchId → SwitchId → Bool
+is_in list s = list_any (is_at (id_cmp s)) list
+
+-- whether the list of a switch is to be made anew, where some turned
+abbrev pub is_touched : Told → Bool → List SwitchId → SwitchId → Bool
+is_touched told all turned s = all || (is_in turned s || list_any (λ u. is_in turned u) (neighbours told s))
+
+-- the lists of the others are what they were
+abbrev pub AreStill : Told → Bool → List SwitchId → Lists → Type 0
+AreStill told all turned lists =
+    (s : SwitchId) → has_told told s ≡ true → is_touched told all turned s ≡ false → value_at id_cmp lists s ≡ Some (avoid_list told s)
+
+-- rows, lists and the lists that were handed out, by what was told
+pub record IsKept (told : Told) (edges : List Edge) (down core up : List (SwitchId × List Bool)) (lists before : Lists) : Type 0 where
+  pub leading : IsLeading told edges down core up
+  pub listed : AreListsOf told lists before
+
+-- the same after a word, where what was handed out stays
+pub record IsKeptUp (told : Told) (lists before : Lists) (edges : List Edge) (down core up : List (SwitchId × List Bool)) (lists_after before_after : Lists) : Type 0 where
+  pub kept : IsKept told edges down core up lists_after before_after
+  pub handed : (s : SwitchId) → handed_in lists_after before_after s ≡ handed_in lists before s

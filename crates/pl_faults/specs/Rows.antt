@@ -1,16 +1,16 @@
 -- Where the switches above the edge switches lead on to, in rows: for each switch a value for each placed edge switch.
-use Rattle.std.specs.Prelude.{◌≡◌, ◌&&◌, ◌||◌, ℕ, Bool, true, false, not, List, if◌then◌else◌, Option, Some, None, map, slice_index_or}
+use Rattle.std.specs.Prelude.{◌≡◌, ◌&&◌, ◌||◌, ℕ, Bool, true, false, not, List, [], ◌∷◌, if◌then◌else◌, Option, Some, None, map, slice_index_or}
 use Rattle.std.specs.List.{list_any, zip}
 use Rattle.std.specs.BTreeSet.{insert_key}
 use Rattle.pl_frame.specs.declared.address.SwitchId.{SwitchId}
 use Rattle.pl_layouts.specs.declared.place.Place.{Place}
 use Rattle.pl_layouts.specs.Equality.{same_switch}
 use Rattle.pl_layouts.specs.Placement.{is_known}
-use Rattle.pl_core.specs.ManagerViews.{Told, has_level, has_pod, id_cmp, is_alive, neighbours, value_at}
+use Rattle.pl_core.specs.ManagerViews.{Told, has_level, has_pod, id_cmp, is_alive, neighbours, placed_edges, value_at}
 use Rattle.pl_core.specs.AvoidLists.{avoided_cmp, leads_to}
 use Rattle.pl_reports.specs.Kept.{has_told}
 use Rattle.pl_faults.specs.declared.edges.Edge.{Edge}
-use Rattle.pl_faults.specs.Making.{Avoided}
+use Rattle.pl_faults.specs.Making.{Avoided, placed_as}
 
 -- what a row says of one switch
 abbrev pub Leads : Type 0
@@ -43,6 +43,21 @@ pub record IsReach (told : Told) (edges : List Edge) (down core up : List (Switc
   pub by_link : AreRows told edges (leads_down told) down
   pub by_core : AreRows told edges (leads_by told 1 (leads_down told)) core
   pub by_two : AreRows told edges (leads_by told 2 (leads_by told 1 (leads_down told))) up
+
+abbrev pub is_some_edge : List Edge → Bool
+is_some_edge [] = false
+is_some_edge (e ∷ es) = true
+
+-- the placed edge switches, and the rows where there is one
+pub record IsLeading (told : Told) (edges : List Edge) (down core up : List (SwitchId × List Bool)) : Type 0 where
+  pub placed : map placed_as edges ≡ placed_edges told
+  pub rows : is_some_edge edges ≡ true → IsReach told edges down core up
+
+-- the rows of a switch in two tables are the same
+pub record AreSameRows (u : SwitchId) (down core up down_after core_after up_after : List (SwitchId × List Bool)) : Type 0 where
+  pub by_link : row_at down u ≡ row_at down_after u
+  pub by_core : row_at core u ≡ row_at core_after u
+  pub by_two : row_at up u ≡ row_at up_after u
 
 -- a row, with that of a neighbour if it is to be added
 abbrev pub with_row : Bool → Option (List Bool) → List Bool → List Bool

@@ -6,9 +6,11 @@ pub use pl_core::{AvoidList, Memory, SwitchList};
 pub use pl_reports::Reports;
 
 mod edges;
+mod leading;
 mod lists;
 mod making;
 mod matrix;
 mod reach;
 mod renewing;
 mod row;
+mod telling;

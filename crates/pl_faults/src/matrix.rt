@@ -5,8 +5,9 @@ ghost use Rattle.pl_core.specs.AvoidLists.{avoid_list};
 ghost use Rattle.pl_manager_rule.specs.ManagerRule.{with_link, with_place};
 ghost use Rattle.pl_faults.specs.Kept.{changed_lists, empty_matrix, handed, list_of};
 
+use crate::leading::{Leading, no_leading};
 use crate::lists::{Lists, copy_in, differing, list_in};
-use crate::renewing::{keep_link, keep_place};
+use crate::telling::{keep_link, keep_place};
 use pl_core::{AvoidList, Memory, Place, SwitchList};
 use pl_frame::SwitchId;
 use pl_reports::Reports;
@@ -20,18 +21,19 @@ use std::marker::Model;
 pub struct Matrix {
     alloc: Global,
     reports: Reports,
+    leading: Leading,
     lists: Lists,
     before: Lists,
 }
 
 impl Model for Matrix {
-    ghost use Rattle.pl_faults.specs.Kept.{AreListsOf, MatrixView};
+    ghost use Rattle.pl_faults.specs.Kept.{IsKept, MatrixView};
 
     ghost Value = { MatrixView };
 
     ghost view = { λ m. record { told = m.reports; before = m.before.entries } };
 
-    ghost invariant = { λ m. AreListsOf m.reports m.lists.entries m.before.entries };
+    ghost invariant = { λ m. IsKept m.reports m.leading.edges.items m.leading.reach.down.entries m.leading.reach.core.entries m.leading.reach.up.entries m.lists.entries m.before.entries };
 }
 
 impl Matrix {
@@ -41,6 +43,7 @@ impl Matrix {
         Matrix {
             alloc,
             reports: Reports::new(alloc),
+            leading: no_leading(alloc),
             lists: BTreeMap::new(alloc),
             before: BTreeMap::new(alloc),
         }
@@ -62,6 +65,7 @@ impl Matrix {
         let alloc = self.alloc;
         match keep_place(
             &mut self.reports,
+            &mut self.leading,
             &mut self.lists,
             &mut self.before,
             alloc,
@@ -90,6 +94,7 @@ impl Matrix {
         let alloc = self.alloc;
         match keep_link(
             &mut self.reports,
+            &mut self.leading,
             &mut self.lists,
             &mut self.before,
             alloc,

@@ -23,6 +23,15 @@ pub(crate) struct Reach {
     up: Rows,
 }
 
+/// No switch has a row.
+pub(crate) fn no_reach(alloc: Global) -> Reach {
+    Reach {
+        down: BTreeMap::new(alloc),
+        core: BTreeMap::new(alloc),
+        up: BTreeMap::new(alloc),
+    }
+}
+
 /// It, by what was told.
 pub(crate) fn reach_of(alloc: Global, reports: &Reports, edges: &[Edge]) -> Result<Reach, Memory>
     ensures { IfOk result (λ reach. IsReach reports.now edges.now reach.down.entries reach.core.entries reach.up.entries) }

@@ -1,4 +1,4 @@
-ghost use Rattle.std.specs.Prelude.{◌≡◌, ◌&&◌, ◌||◌, IfOk, OnOk, false, map, slice_index_or};
+ghost use Rattle.std.specs.Prelude.{◌≡◌, ◌&&◌, ◌||◌, IfOk, IsTrue, OnOk, false, map, slice_index_or};
 ghost use Rattle.std.specs.List.{zip};
 ghost use Rattle.pl_core.specs.ManagerViews.{is_alive};
 ghost use Rattle.pl_layouts.specs.Placement.{is_known};
@@ -56,6 +56,13 @@ impl Row {
         Ok(())
     }
 
+    /// Whether another row is the same.
+    pub(crate) fn is_same(&self, other: &Row) -> bool
+        ensures { IsTrue result → self.now ≡ other.now }
+    {
+        are_same(self.values.as_slice(), other.values.as_slice())
+    }
+
     /// The value of edge switch number i.
     pub(crate) fn value(&self, i: usize) -> bool
         ensures { result ≡ slice_index_or self.now i false }
@@ -96,6 +103,12 @@ fn either_of(alloc: Global, a: &[bool], b: &[bool]) -> Result<Vec<bool>, Memory>
     ensures { IfOk result (λ values. values.items ≡ map (λ p. p.0 || p.1) (zip a.now b.now)) }
 {
     a.iter().zip(b).map(|(x, y)| *x || *y).collect(alloc)
+}
+
+fn are_same(a: &[bool], b: &[bool]) -> bool
+    ensures { IsTrue result → a.now ≡ b.now }
+{
+    a == b
 }
 
 fn value_at(row: &[bool], i: usize) -> bool

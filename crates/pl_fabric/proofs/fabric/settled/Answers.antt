@@ -1,0 +1,17 @@
+use Rattle.std.proofs.Common.{◌≡◌, sym, ◌∙◌}
+use Rattle.pl_world.specs.Pending.{pending}
+use Rattle.pl_world.proofs.SettledQueues.{none_is_pending}
+use Rattle.pl_fabric.proofs.fabric.settled.Goals as goal
+
+pub returns-then-pending-eq0 : goal.returns-then-pending-eq0
+returns-then-pending-eq0 g c =
+    let w = c.args.world.now in
+    let none : pending w ≡ 0 = sym c.pending.ensures ∙ c.if-pending-eq0.true in (
+      λ yes. record { queues = (none_is_pending w c.requires).0 none; switches = c.are_settled_switches.ensures.0 yes },
+      λ is. c.are_settled_switches.ensures.1 is.switches,
+    )
+
+pub returns-else-pending-eq0 : goal.returns-else-pending-eq0
+returns-else-pending-eq0 g c =
+    let w = c.args.world.now in
+    (λ no. absurd (cc), λ is. absurd (c.if-pending-eq0.false (c.pending.ensures ∙ (none_is_pending w c.requires).1 is.queues)))

@@ -1,0 +1,51 @@
+use Rattle.std.proofs.lemmas.Result.{err_from_is_err_and}
+use Rattle.std.proofs.Common.{◌≡◌, ℕ, suc, ◌+◌, ◌-◌, None, replicate, refl, ◌∙◌, arith}
+use Rattle.pl_world.specs.declared.event.Event.TheVariants.{Deliver}
+use Rattle.pl_fabric.specs.Courses.{Makes, MakesAll}
+use Rattle.pl_fabric.proofs.CourseSteps.{leads_all, led_on, led_stops, unless_weaker}
+use Rattle.pl_fabric.proofs.making.deliver.Goals as goal
+
+pub loop-init : goal.loop-init
+loop-init g c = (
+  record { counted = c.requires.counted; hearing = c.requires.hearing; plan = refl },
+  λ left all. leads_all (λ n. MakesAll g.S.SwitchCore.rule g.M.ManagerCore.rule g.H.HostCore.rule (replicate n (Deliver c.args.name)))
+      c.args.many left c.args.world.now all,
+)
+
+pub loop-preserved : goal.loop-preserved
+loop-preserved g c = (
+  record {
+    counted = c.in_ok-make.ensures.counted;
+    hearing = c.in_ok-make.ensures.hearing;
+    plan = c.in_ok-make.ensures.plan ∙ c.loop.invariant.0.plan;
+  },
+  λ left all. led_on (Makes g.S.SwitchCore.rule g.M.ManagerCore.rule g.H.HostCore.rule (Deliver c.args.name))
+      (MakesAll g.S.SwitchCore.rule g.M.ManagerCore.rule g.H.HostCore.rule (replicate left (Deliver c.args.name)))
+      (MakesAll g.S.SwitchCore.rule g.M.ManagerCore.rule g.H.HostCore.rule (replicate c.args.many (Deliver c.args.name)))
+      c.loop.world c.make.new.world c.args.world.now (c.loop.invariant.1 (suc left) (omega arith)) c.in_ok-make.ensures.made,
+)
+
+pub returns-in_err-make : goal.returns-in_err-make
+returns-in_err-make g c =
+    let p = err_from_is_err_and c.from_residual.result c.from_residual.ensures.1 in
+    let left : ℕ = c.args.many - (c.loop.counter + 1) in
+    let all : suc left + c.loop.counter ≡ c.args.many = omega arith in
+    rw (p.1, p.2) (record {
+      made = unless_weaker c.in_err-make.field-0.0 _ _
+          (led_stops (Makes g.S.SwitchCore.rule g.M.ManagerCore.rule g.H.HostCore.rule (Deliver c.args.name))
+          (MakesAll g.S.SwitchCore.rule g.M.ManagerCore.rule g.H.HostCore.rule (replicate left (Deliver c.args.name)))
+          (MakesAll g.S.SwitchCore.rule g.M.ManagerCore.rule g.H.HostCore.rule (replicate c.args.many (Deliver c.args.name)))
+          c.loop.world c.make.new.world c.args.world.now c.in_err-make.field-0.0 (c.loop.invariant.1 (suc left) all))
+          c.in_err-make.ensures.made;
+      counted = c.in_err-make.ensures.counted;
+      hearing = c.in_err-make.ensures.hearing;
+      plan = unless_weaker c.in_err-make.field-0.0 _ _ (λ same. same ∙ c.loop.invariant.0.plan) c.in_err-make.ensures.plan;
+    })
+
+pub returns : goal.returns
+returns g c = record {
+  made = (c.loop.invariant.1 0 (omega arith)).on None c.loop.world (refl, refl);
+  counted = c.loop.invariant.0.counted;
+  hearing = c.loop.invariant.0.hearing;
+  plan = c.loop.invariant.0.plan;
+}

@@ -1,0 +1,28 @@
+use Rattle.std.proofs.lemmas.Result.{err_from_is_err_and}
+use Rattle.pl_fabric.specs.Courses.{Times}
+use Rattle.pl_fabric.specs.Rounds.{Sweeps, TicksAll}
+use Rattle.pl_fabric.proofs.CourseSteps.{ends_weaker, then_on, then_stops, unless_weaker}
+use Rattle.pl_fabric.proofs.rounds.round.Goals as goal
+
+pub returns-in_err-tick_all : goal.returns-in_err-tick_all
+returns-in_err-tick_all g c =
+    let p = err_from_is_err_and c.from_residual.result c.from_residual.ensures.1 in
+    rw (p.1, p.2) (record {
+      went = unless_weaker c.in_err-tick_all.field-0.0 _ _
+          (then_stops (TicksAll g.S.SwitchCore.rule g.M.ManagerCore.rule g.H.HostCore.rule)
+          (Times 4 (Sweeps g.S.SwitchCore.rule g.M.ManagerCore.rule g.H.HostCore.rule)) c.args.world.now c.tick_all.new.world c.in_err-tick_all.field-0.0)
+          c.in_err-tick_all.ensures.made;
+      counted = c.in_err-tick_all.ensures.counted;
+      hearing = c.in_err-tick_all.ensures.hearing;
+    })
+
+pub returns : goal.returns
+returns g c = record {
+  went = ends_weaker _ _
+      (λ end. then_on (TicksAll g.S.SwitchCore.rule g.M.ManagerCore.rule g.H.HostCore.rule)
+      (Times 4 (Sweeps g.S.SwitchCore.rule g.M.ManagerCore.rule g.H.HostCore.rule)) c.args.world.now c.tick_all.new.world end c.sweep_often.new.world
+      c.in_ok-tick_all.ensures.made)
+      c.sweep_often.result c.sweep_often.ensures.swept;
+  counted = c.sweep_often.ensures.counted;
+  hearing = c.sweep_often.ensures.hearing;
+}

@@ -1,0 +1,5 @@
+pub mod Courses
+pub mod Rounds
+pub mod Settled
+pub mod Settlings
+pub mod Draws

@@ -1,0 +1,19 @@
+//! A fabric as a whole: sweeps over its queues, rounds, whether it is settled, and steps drawn by numbers.
+//!
+//! All calls are made of `World::step`. What they do is said over whatever rules the switches, the manager
+//! and the hosts have; `specs/Settled.antt` says when a fabric is settled.
+#![tactic(auto)]
+
+pub use draws::random;
+pub use fabric::settled;
+pub use rounds::{round, sweep};
+pub use settling::{Settling, settle};
+
+mod draws;
+mod ends;
+mod fabric;
+mod making;
+mod rounds;
+mod settling;
+mod switches;
+mod votes;

@@ -1,0 +1,78 @@
+ghost use Rattle.std.specs.Prelude.{◌≡◌, replicate};
+ghost use Rattle.pl_world.specs.declared.event.Event.TheVariants.{Deliver};
+ghost use Rattle.pl_world.specs.Flying.{IsCounted};
+ghost use Rattle.pl_world.specs.Hearing.{IsWithinHearing};
+ghost use Rattle.pl_fabric.specs.Courses.{EndsAs, Makes, MakesAll};
+ghost use Rattle.pl_fabric.specs.Rounds.{TicksAll, Visits};
+
+use pl_core::{HostCore, ManagerCore, SwitchCore};
+use pl_schedule::World;
+use pl_wiring::SwitchNo;
+use pl_world::{Event, QueueName, StepError};
+
+// One step.
+pub(crate) fn make<S: SwitchCore, M: ManagerCore, H: HostCore>(
+    world: &mut World<S, M, H>,
+    event: &Event,
+) -> Result<(), StepError>
+    requires counted { IsCounted world.old }
+    requires hearing { IsWithinHearing world.old }
+    ensures made { EndsAs result (λ end. Makes S.rule M.rule H.rule event.now world.old end world.new) }
+    ensures counted { EndsAs result (λ _. IsCounted world.new) }
+    ensures hearing { EndsAs result (λ _. IsWithinHearing world.new) }
+    ensures plan { EndsAs result (λ _. world.new.plan ≡ world.old.plan) }
+{
+    world.step(event)
+}
+
+// So many items are delivered from a queue.
+fn deliver<S: SwitchCore, M: ManagerCore, H: HostCore>(
+    world: &mut World<S, M, H>,
+    name: QueueName,
+    many: usize,
+) -> Result<(), StepError>
+    requires counted { IsCounted world.old }
+    requires hearing { IsWithinHearing world.old }
+    ensures made { EndsAs result (λ end. MakesAll S.rule M.rule H.rule (replicate many (Deliver name)) world.old end world.new) }
+    ensures counted { EndsAs result (λ _. IsCounted world.new) }
+    ensures hearing { EndsAs result (λ _. IsWithinHearing world.new) }
+    ensures plan { EndsAs result (λ _. world.new.plan ≡ world.old.plan) }
+{
+    for _ in 0..many {
+        make(world, &Event::Deliver(name))?;
+    }
+    Ok(())
+}
+
+// As many items of a queue are delivered as it holds.
+pub(crate) fn visit<S: SwitchCore, M: ManagerCore, H: HostCore>(
+    world: &mut World<S, M, H>,
+    name: QueueName,
+) -> Result<(), StepError>
+    requires counted { IsCounted world.old }
+    requires hearing { IsWithinHearing world.old }
+    ensures made { EndsAs result (λ end. Visits S.rule M.rule H.rule name world.old end world.new) }
+    ensures counted { EndsAs result (λ _. IsCounted world.new) }
+    ensures hearing { EndsAs result (λ _. IsWithinHearing world.new) }
+    ensures plan { EndsAs result (λ _. world.new.plan ≡ world.old.plan) }
+{
+    let many = world.queue_len(name).unwrap_or(0);
+    deliver(world, name, many)
+}
+
+// A tick of each switch, in label order.
+pub(crate) fn tick_all<S: SwitchCore, M: ManagerCore, H: HostCore>(
+    world: &mut World<S, M, H>,
+) -> Result<(), StepError>
+    requires counted { IsCounted world.old }
+    requires hearing { IsWithinHearing world.old }
+    ensures made { EndsAs result (λ end. TicksAll S.rule M.rule H.rule world.old end world.new) }
+    ensures counted { EndsAs result (λ _. IsCounted world.new) }
+    ensures hearing { EndsAs result (λ _. IsWithinHearing world.new) }
+{
+    let many = world.wiring().switch_count();
+    for s in 0..many {
+        make(world, &Event::Tick(SwitchNo(s)))?;
+    }
+    Ok(())
+}

@@ -1,0 +1,63 @@
+ghost use Rattle.std.specs.Prelude.{◌≡◌};
+ghost use Rattle.pl_world.specs.Flying.{IsCounted};
+ghost use Rattle.pl_world.specs.Hearing.{IsWithinHearing};
+ghost use Rattle.pl_fabric.specs.Courses.{EndsAs, Times};
+ghost use Rattle.pl_fabric.specs.Rounds.{GoesRound, Sweeps};
+
+use crate::making::{tick_all, visit};
+use pl_core::{HostCore, ManagerCore, SwitchCore};
+use pl_schedule::World;
+use pl_world::StepError;
+
+/// A sweep: all queues are visited in queue order, and from each as many items are delivered as it held
+/// when the sweep came to it. No empty queue is looked at. Where a step is refused the steps before it
+/// stand. After want of memory the world is not used again.
+pub fn sweep<S: SwitchCore, M: ManagerCore, H: HostCore>(
+    world: &mut World<S, M, H>,
+) -> Result<(), StepError>
+    requires counted { IsCounted world.old }
+    requires hearing { IsWithinHearing world.old }
+    ensures swept { EndsAs result (λ end. Sweeps S.rule M.rule H.rule world.old end world.new) }
+    ensures counted { EndsAs result (λ _. IsCounted world.new) }
+    ensures hearing { EndsAs result (λ _. IsWithinHearing world.new) }
+{
+    let mut from = 0;
+    while let Some(n) = world.next_queue(from) {
+        let _end = world.queue_count();
+        let name = world.queue_at(n);
+        visit(world, name)?;
+        from = n + 1;
+    }
+    Ok(())
+}
+
+fn sweep_often<S: SwitchCore, M: ManagerCore, H: HostCore>(
+    world: &mut World<S, M, H>,
+    times: u32,
+) -> Result<(), StepError>
+    requires counted { IsCounted world.old }
+    requires hearing { IsWithinHearing world.old }
+    ensures swept { EndsAs result (λ end. Times times (Sweeps S.rule M.rule H.rule) world.old end world.new) }
+    ensures counted { EndsAs result (λ _. IsCounted world.new) }
+    ensures hearing { EndsAs result (λ _. IsWithinHearing world.new) }
+{
+    for _ in 0..times {
+        sweep(world)?;
+    }
+    Ok(())
+}
+
+/// A round: a tick of each switch in label order, and then four sweeps. Where a step is refused the steps
+/// before it stand. After want of memory the world is not used again.
+pub fn round<S: SwitchCore, M: ManagerCore, H: HostCore>(
+    world: &mut World<S, M, H>,
+) -> Result<(), StepError>
+    requires counted { IsCounted world.old }
+    requires hearing { IsWithinHearing world.old }
+    ensures went { EndsAs result (λ end. GoesRound S.rule M.rule H.rule world.old end world.new) }
+    ensures counted { EndsAs result (λ _. IsCounted world.new) }
+    ensures hearing { EndsAs result (λ _. IsWithinHearing world.new) }
+{
+    tick_all(world)?;
+    sweep_often(world, 4)
+}

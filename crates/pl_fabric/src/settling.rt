@@ -1,0 +1,66 @@
+ghost use Rattle.std.specs.Prelude.{◌≡◌, ◌↔◌, IfErr, IfOk, IsTrue, None, Some};
+ghost use Rattle.pl_world.specs.Flying.{IsCounted};
+ghost use Rattle.pl_world.specs.Hearing.{IsWithinHearing};
+ghost use Rattle.pl_fabric.specs.Courses.{EndsAs, UnlessMemory};
+ghost use Rattle.pl_fabric.specs.Settlings.{GoesRounds, IsAnswer, IsAtRest, Settles};
+
+use crate::fabric::settled;
+use crate::rounds::round;
+use pl_core::{HostCore, ManagerCore, SwitchCore};
+use pl_schedule::World;
+use pl_world::StepError;
+
+/// How a settling ended.
+#[derive(Clone, Copy, Debug, PartialEq, Eq)]
+pub enum Settling {
+    /// The fabric is settled, after so many rounds.
+    Settled(u32),
+    /// It is not, and so many queued items stand against it.
+    NotSettled(u64),
+}
+
+// Whether the fabric is settled and no queue has items.
+fn is_at_rest<S: SwitchCore, M: ManagerCore, H: HostCore>(world: &World<S, M, H>) -> bool
+    requires { IsCounted world.now }
+    ensures { IsTrue result ↔ IsAtRest world.now }
+{
+    if world.next_queue(0).is_none() {
+        settled(world)
+    } else {
+        false
+    }
+}
+
+fn answer<S: SwitchCore, M: ManagerCore, H: HostCore>(world: &World<S, M, H>, used: u32) -> Settling
+    requires { IsCounted world.now }
+    ensures { IsAnswer world.now used result }
+{
+    if settled(world) {
+        Settling::Settled(used)
+    } else {
+        Settling::NotSettled(world.pending())
+    }
+}
+
+/// Makes the least number of rounds, at most as many as asked, after which the fabric is settled and all
+/// queues are empty. Answers whether it is settled at the end. Where a step is refused the steps before
+/// it stand. After want of memory the world is not used again.
+pub fn settle<S: SwitchCore, M: ManagerCore, H: HostCore>(
+    world: &mut World<S, M, H>,
+    rounds: u32,
+) -> Result<Settling, StepError>
+    requires counted { IsCounted world.old }
+    requires hearing { IsWithinHearing world.old }
+    ensures settles { IfOk result (λ answer. Settles S.rule M.rule H.rule rounds world.old answer world.new) }
+    ensures refused { IfErr result (λ reason. UnlessMemory reason (GoesRounds S.rule M.rule H.rule rounds world.old (Some reason) world.new)) }
+    ensures counted { EndsAs result (λ _. IsCounted world.new) }
+    ensures hearing { EndsAs result (λ _. IsWithinHearing world.new) }
+{
+    for used in 0..rounds {
+        if is_at_rest(world) {
+            return Ok(Settling::Settled(used));
+        }
+        round(world)?;
+    }
+    Ok(answer(world, rounds))
+}

@@ -6,7 +6,7 @@ ghost use Rattle.pl_world.specs.Runs.{IsMark};
 use crate::entries::tell_entries;
 use crate::event::event;
 use crate::looks::look;
-use crate::rounds::{make_rounds, make_sweeps};
+use crate::settling::play_fabric;
 use pl_core::{ManagerCore, SwitchCore};
 use pl_frame::Memory;
 use pl_host::Host;
@@ -84,8 +84,10 @@ fn answer<S: SwitchCore, M: ManagerCore>(
     match verb {
         "mark" => mark(world, rest, said),
         "ticks" => ticks(world, alloc, rest, said),
-        "rounds" | "sweeps" => rounds(world, verb, rest, said),
-        "pending" | "steps" | "heard" | "len" | "next" | "usable" => look(world, alloc, verb, rest, said),
+        "settle" | "sweep" | "random" => play_fabric(world, alloc, verb, rest, said),
+        "pending" | "steps" | "heard" | "len" | "next" | "usable" => look(
+            world, alloc, verb, rest, said,
+        ),
         _ => step(world, alloc, line, said),
     }
 }
@@ -150,28 +152,8 @@ fn make_often<S: SwitchCore, M: ManagerCore>(
     Ok(())
 }
 
-// rounds COUNT, sweeps COUNT
-fn rounds<S: SwitchCore, M: ManagerCore>(
-    world: &mut World<S, M, Host>,
-    verb: &str,
-    rest: &str,
-    said: &mut String,
-) -> Result<(), Memory>
-    requires counted { IsCounted world.old }
-    requires hearing { IsWithinHearing world.old }
-    ensures counted { OnOk result (IsCounted world.new) }
-    ensures hearing { OnOk result (IsWithinHearing world.new) }
-{
-    let many = rest.parse::<u32>().unwrap_or(0);
-    match verb {
-        "rounds" => make_rounds(world, many)?,
-        _ => make_sweeps(world, many)?,
-    }
-    say(said, "done")
-}
-
-/// Makes a step, or answers why it is refused.
-pub(crate) fn make<S: SwitchCore, M: ManagerCore>(
+// Makes a step, or answers why it is refused.
+fn make<S: SwitchCore, M: ManagerCore>(
     world: &mut World<S, M, Host>,
     event: &Event,
 ) -> Result<Option<StepError>, Memory>

@@ -10,6 +10,7 @@ use pl_frame::Memory;
 use pl_lists::Items;
 use pl_sample::{NextPort, PodAsker, PodGiver, Silent, TwoPorts};
 use pl_scenario_words::{first_word, is_remark, say};
+use pl_switch::PlainSwitch;
 use pl_wiring::Wiring;
 use pl_wiring::text::{ip, mac};
 use pl_world::Limits;
@@ -174,6 +175,7 @@ fn begin_world(
         "next-port" => play_world::<NextPort, Silent>(alloc, wiring, limits, rest, out),
         "two-ports" => play_world::<TwoPorts, Silent>(alloc, wiring, limits, rest, out),
         "pod-asker" => play_world::<PodAsker, PodGiver>(alloc, wiring, limits, rest, out),
+        "plain" => play_world::<PlainSwitch, PodGiver>(alloc, wiring, limits, rest, out),
         _ => refuse(out),
     }
 }

@@ -1,0 +1,70 @@
+-- The lists that are kept, and those that were handed out.
+use Rattle.std.specs.Prelude.{◌≡◌, ◌||◌, Bool, true, not, List, [], if◌then◌else◌, Option, Some, None, is_some, unwrap_or}
+use Rattle.std.specs.List.{filter}
+use Rattle.std.specs.BTreeMap.{is_at}
+use Rattle.std.specs.BTreeSet.{insert_key}
+use Rattle.pl_frame.specs.declared.address.SwitchId.{SwitchId}
+use Rattle.pl_core.specs.ManagerViews.{Told, id_cmp, switches, value_at}
+use Rattle.pl_core.specs.AvoidLists.{avoid_list}
+use Rattle.pl_manager_rule.specs.ManagerRule.{same_avoid_list}
+use Rattle.pl_reports.specs.Kept.{has_told, nothing_told}
+use Rattle.pl_faults.specs.Making.{Avoided}
+
+-- lists of switches, by rising id
+abbrev pub Lists : Type 0
+Lists = List (SwitchId × List Avoided)
+
+-- what was told, and the lists that were made anew since they were handed out, each as it was then
+pub record MatrixView : Type 0 where
+  pub told : Told
+  pub before : Lists
+
+-- nothing was told or handed out
+abbrev pub empty_matrix : MatrixView
+empty_matrix = record { told = nothing_told; before = [] }
+
+-- the list of a switch that was last handed out
+abbrev pub handed : MatrixView → SwitchId → List Avoided
+handed view s = unwrap_or (value_at id_cmp view.before s) (avoid_list view.told s)
+
+-- the list of a switch that told something
+abbrev pub list_of : Told → SwitchId → Option (List Avoided)
+list_of told s = if has_told told s then Some (avoid_list told s) else None
+
+-- a switch whose list is another than was handed out
+abbrev pub is_changed : MatrixView → SwitchId → Bool
+is_changed view s = not (same_avoid_list (handed view s) (avoid_list view.told s))
+
+-- all of them, by rising id
+abbrev pub changed_lists : MatrixView → List SwitchId
+changed_lists view = filter (is_changed view) (switches view.told)
+
+-- the list that was handed out, by two tables
+abbrev pub handed_in : Lists → Lists → SwitchId → List Avoided
+handed_in lists before s = unwrap_or (value_at id_cmp before s) (unwrap_or (value_at id_cmp lists s) [])
+
+-- one more switch whose list may be another than was noted
+abbrev pub with_differing : Lists → List SwitchId → SwitchId × List Avoided → List SwitchId
+with_differing lists changed noted =
+    if same_avoid_list noted.1 (unwrap_or (value_at id_cmp lists noted.0) []) then changed else insert_key id_cmp changed noted.0
+
+-- what is noted of a switch, once its list was replaced or another's
+abbrev pub with_note : Option (List Avoided) → Bool → List Avoided → Option (List Avoided)
+with_note (Some noted) own old = Some noted
+with_note None own old = if own then Some old else None
+
+-- each list is that of what was told, and was made anew only for a switch that told something
+pub record AreListsOf (told : Told) (lists before : Lists) : Type 0 where
+  pub current : (s : SwitchId) → value_at id_cmp lists s ≡ list_of told s
+  pub heard : (s : SwitchId) → is_some (value_at id_cmp before s) ≡ true → has_told told s ≡ true
+
+-- the list of one switch is made anew; the one before is noted, unless one was noted since it was handed out
+pub record IsRenewed (s : SwitchId) (list : List Avoided) (lists before lists_after before_after : Lists) : Type 0 where
+  pub now : (t : SwitchId) → value_at id_cmp lists_after t ≡ (if is_at (id_cmp s) t then Some list else value_at id_cmp lists t)
+  pub noted : (t : SwitchId) → value_at id_cmp before_after t ≡ with_note (value_at id_cmp before t) (is_at (id_cmp s) t) (unwrap_or (value_at id_cmp lists s) [])
+
+-- the lists of some switches are made anew, and for each it is still known what was handed out
+pub record AreRenewed (told : Told) (some : SwitchId → Bool) (lists before lists_after before_after : Lists) : Type 0 where
+  pub now : (t : SwitchId) → value_at id_cmp lists_after t ≡ (if some t then Some (avoid_list told t) else value_at id_cmp lists t)
+  pub handed_stays : (t : SwitchId) → handed_in lists_after before_after t ≡ handed_in lists before t
+  pub noted : (t : SwitchId) → is_some (value_at id_cmp before_after t) ≡ true → (is_some (value_at id_cmp before t) || some t) ≡ true

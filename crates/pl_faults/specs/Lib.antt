@@ -1,0 +1,3 @@
+pub mod Making
+pub mod Kept
+pub mod Rows

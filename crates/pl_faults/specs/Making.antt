@@ -1,0 +1,28 @@
+-- An avoid list as it is made, item by item.
+use Rattle.std.specs.Prelude.{ℕ, List, [], ◌∷◌, ◌++◌, if◌then◌else◌, Option, Some, None, fold}
+use Rattle.std.specs.BTreeSet.{insert_key}
+use Rattle.pl_frame.specs.declared.address.SwitchId.{SwitchId}
+use Rattle.pl_core.specs.ManagerViews.{PlacedEdge, Told}
+use Rattle.pl_core.specs.AvoidLists.{avoided_cmp, is_above, is_cut}
+use Rattle.pl_faults.specs.declared.edges.Edge.{Edge}
+
+-- id, pod and position
+abbrev pub Avoided : Type 0
+Avoided = SwitchId × ℕ × ℕ
+
+-- a placed edge switch, without what is kept besides
+abbrev pub placed_as : Edge → PlacedEdge
+placed_as e = record { switch = e.switch; pod = e.pod; position = e.position }
+
+-- the placed edge switches, with one more if there is one
+abbrev pub with_placed : List PlacedEdge → Option PlacedEdge → List PlacedEdge
+with_placed edges None = edges
+with_placed edges (Some e) = edges ++ e ∷ []
+
+-- one more edge switch for which s may avoid u
+abbrev pub with_edge : Told → SwitchId → SwitchId → List Avoided → Edge → List Avoided
+with_edge told s u list e = if is_cut told s u (placed_as e) then insert_key avoided_cmp list (u, e.pod, e.position) else list
+
+-- all of them, for one neighbour
+unfoldable pub with_neighbour : Told → SwitchId → List Edge → List Avoided → SwitchId → List Avoided
+with_neighbour told s edges list u = if is_above told s u then fold (with_edge told s u) list edges else list

@@ -1,0 +1,14 @@
+//! Through which neighbours each switch is not to send, kept up by changes of what the switches told.
+#![tactic(auto)]
+
+pub use matrix::Matrix;
+pub use pl_core::{AvoidList, Memory, SwitchList};
+pub use pl_reports::Reports;
+
+mod edges;
+mod lists;
+mod making;
+mod matrix;
+mod reach;
+mod renewing;
+mod row;

@@ -1,9 +1,6 @@
-ghost use Rattle.std.specs.Prelude.{◌≡◌, ◌≢◌, ◌++◌, ◌∷◌, [], ℕ, OnOk};
-ghost use Rattle.pl_frame.specs.declared.address.SwitchId.{SwitchId};
+ghost use Rattle.std.specs.Prelude.{◌≡◌, ◌++◌, ◌∷◌, [], OnOk};
 ghost use Rattle.pl_core.specs.declared.acts.ManagerAct.TheVariants.{Say};
-ghost use Rattle.pl_core.specs.Trees.{tree_part};
-ghost use Rattle.pl_groups.specs.Kept.{members_in, part_kept};
-ghost use Rattle.pl_manager.specs.Telling.{lists_told, parts_told, tree_told};
+ghost use Rattle.pl_manager.specs.Telling.{AreRenewed, lists_told, parts_told};
 
 use pl_core::{ManagerAct, ManagerOutbox, Memory, SwitchList, ToSwitch};
 use pl_faults::Matrix;
@@ -11,15 +8,15 @@ use pl_frame::SwitchId;
 use pl_groups::Groups;
 use pl_reports::Reports;
 
-// A switch is told.
-fn say(to: SwitchId, says: ToSwitch, out: &mut ManagerOutbox) -> Result<(), Memory>
+/// A switch is told.
+pub(crate) fn say(to: SwitchId, says: ToSwitch, out: &mut ManagerOutbox) -> Result<(), Memory>
     ensures { OnOk result (out.new ≡ out.old ++ Say to says ∷ []) }
 {
     out.push(ManagerAct::Say(to, says))
 }
 
 /// Each of these switches is sent its avoid list.
-pub fn tell_lists(
+pub(crate) fn tell_lists(
     matrix: &Matrix,
     changed: &SwitchList,
     out: &mut ManagerOutbox,
@@ -34,16 +31,13 @@ pub fn tell_lists(
 }
 
 /// The tree of a group is made anew, and each switch whose part changed is sent it.
-pub fn renew(
+pub(crate) fn renew(
     groups: &mut Groups,
     reports: &Reports,
     group: u32,
     out: &mut ManagerOutbox,
 ) -> Result<(), Memory>
-    ensures acts { OnOk result (out.new ≡ out.old ++ tree_told reports.now groups.old group) }
-    ensures parts { OnOk result ((s : SwitchId) → part_kept groups.new group s ≡ tree_part reports.now (members_in groups.old) group s) }
-    ensures others { OnOk result ((g : ℕ) (s : SwitchId) → g ≢ group → part_kept groups.new g s ≡ part_kept groups.old g s) }
-    ensures members { members_in groups.new ≡ members_in groups.old }
+    ensures { OnOk result (AreRenewed reports.now (group ∷ []) groups.old groups.new out.old out.new) }
 {
     let changed = groups.renew(reports, group)?;
     tell_parts(groups, group, &changed, out)?;

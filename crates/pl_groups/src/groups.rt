@@ -1,4 +1,4 @@
-ghost use Rattle.std.specs.Prelude.{◌≡◌, ◌≢◌, ◌↔◌, ℕ, [], not, IfOk, IsTrue, None, OnOk, Some, filter, slice_get};
+ghost use Rattle.std.specs.Prelude.{◌≡◌, ◌≢◌, ◌↔◌, ℕ, [], not, IfOk, IsTrue, None, OnOk, Some, filter, length, slice_get};
 ghost use Rattle.std.specs.BTreeMap.{insert_entry};
 ghost use Rattle.std.specs.Option.{option_copied};
 ghost use Rattle.pl_frame.specs.declared.address.SwitchId.{SwitchId};
@@ -64,6 +64,13 @@ impl Groups {
         ensures { result ≡ slice_get (groups (members_in self.now)) n }
     {
         self.roster.group(n)
+    }
+
+    /// How many groups those are.
+    pub fn len(&self) -> usize
+        ensures { result ≡ length (groups (members_in self.now)) }
+    {
+        self.roster.len()
     }
 
     /// Makes the tree of a group anew. The answer is the switches, rising, whose part is another one than before.

@@ -1,4 +1,4 @@
-ghost use Rattle.std.specs.Prelude.{◌≡◌, ◌≤◌, [], IfOk, OnErr, OnOk, is_some, map, slice_get};
+ghost use Rattle.std.specs.Prelude.{◌≡◌, ◌≤◌, [], IfOk, OnErr, OnOk, is_some, length, map, slice_get};
 ghost use Rattle.std.specs.BTreeMap.{insert_entry};
 ghost use Rattle.std.specs.BTreeSet.{insert_key};
 ghost use Rattle.std.specs.List.Sorted.{IsStrictlySortedBy};
@@ -72,6 +72,13 @@ impl Roster {
         ensures { result ≡ slice_get (groups self.now) n }
     {
         self.listed.get(n).copied()
+    }
+
+    /// How many those are.
+    pub(crate) fn len(&self) -> usize
+        ensures { result ≡ length (groups self.now) }
+    {
+        self.listed.len()
     }
 
     /// The edge switches that a group needs, rising.

@@ -24,22 +24,22 @@ use Rattle.pl_manager_rule.proofs.Tables.{put_again}
 use Rattle.pl_core.proofs.Among.{id_total}
 
 -- ---- what is the same brings no act about
-none_differ : {X : Type 0} (same : X → Bool) → ((x : X) → same x ≡ true) → (xs : List X) → filter (λ x. not (same x)) xs ≡ []
+pub none_differ : {X : Type 0} (same : X → Bool) → ((x : X) → same x ≡ true) → (xs : List X) → filter (λ x. not (same x)) xs ≡ []
 none_differ same each [] = refl
 none_differ same each (x ∷ xs) =
     ap (λ b. cond (not b) (x ∷ filter (λ y. not (same y)) xs) (filter (λ y. not (same y)) xs)) (each x) ∙ none_differ same each xs
 
-no_avoid_acts : (told : Told) → avoid_acts told told ≡ []
+pub no_avoid_acts : (told : Told) → avoid_acts told told ≡ []
 no_avoid_acts told =
     ap (map _) (none_differ (λ s. same_avoid_list (avoid_list told s) (avoid_list told s))
     (λ s. (avoid_lists_alike (avoid_list told s) (avoid_list told s)).1 refl) (switches told))
 
-no_acts_of_group : (view : ManagerView) (group : ℕ) → tree_acts_of view view group ≡ []
+pub no_acts_of_group : (view : ManagerView) (group : ℕ) → tree_acts_of view view group ≡ []
 no_acts_of_group view group =
     ap (map _) (none_differ (λ s. same_part (part_in view group s) (part_in view group s))
     (λ s. (parts_alike (part_in view group s) (part_in view group s)).1 refl) (switches view.told))
 
-no_tree_acts : (view : ManagerView) → tree_acts view view ≡ []
+pub no_tree_acts : (view : ManagerView) → tree_acts view view ≡ []
 no_tree_acts view = none (groups view.members)
   where
     none : (gs : List ℕ) → flat_map (tree_acts_of view view) gs ≡ []
@@ -129,7 +129,7 @@ learnt_same view s pmac amac (Some ip) order there known =
     λ i. record { addresses = those i; owners = owners i }
 
 -- ---- the whole step
-view_same : (view : ManagerView) (s : SwitchId) (says : ToManager) → IsInOrder view → HasToldLast view s says → view_after view s says ≡ view
+pub view_same : (view : ManagerView) (s : SwitchId) (says : ToManager) → IsInOrder view → HasToldLast view s says → view_after view s says ≡ view
 view_same view s (tell.Place place) order last =
     let same = put_again id_cmp id_total id_exact view.told.places s place order.places last in
     ap (λ table. record view { told = record view.told { places = table } }) same

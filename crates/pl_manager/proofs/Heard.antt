@@ -1,0 +1,141 @@
+-- Each thing that is done when a word is heard is the step of the manager's rule.
+use Rattle.std.proofs.Common.{◌≡◌, ℕ, Bool, List, [], ◌∷◌, ◌++◌, Option, refl, sym, ap, ◌∙◌, subst, append-nil, Result, Ok, Err, OnOk}
+use Rattle.std.specs.Prelude.{unwrap_or}
+use Rattle.std.specs.BTreeMap.{insert_entry}
+use Rattle.pl_frame.specs.declared.address.Ip4.{Ip4}
+use Rattle.pl_frame.specs.declared.address.Mac.{Mac}
+use Rattle.pl_frame.specs.declared.address.SwitchId.{SwitchId}
+use Rattle.pl_pmac.specs.declared.pmac.Pmac.{Pmac}
+use Rattle.pl_layouts.specs.declared.place.Place.{Place}
+use Rattle.pl_core.specs.declared.acts.ManagerAct.{ManagerAct}
+use Rattle.pl_core.specs.declared.acts.ManagerAct.TheVariants.{Say}
+use Rattle.pl_core.specs.declared.messages.ToManager.{ToManager}
+use Rattle.pl_core.specs.declared.messages.ToManager.TheVariants as tell
+use Rattle.pl_core.specs.declared.messages.ToSwitch.TheVariants as say
+use Rattle.pl_core.specs.Gains.{Gains}
+use Rattle.pl_core.specs.ManagerViews.{Learnt, ManagerView, lookup, members_cmp, pod_given}
+use Rattle.pl_manager_rule.specs.ManagerRule.{answer_to, avoid_acts, learning, manager_hears, manager_rule, tree_acts, with_asker, with_learnt, with_link, with_place}
+use Rattle.pl_manager_rule.proofs.Repeated.{no_avoid_acts, no_tree_acts}
+use Rattle.pl_manager.specs.Routing.{RoutingView, trees_told_anew}
+
+-- where nothing changed of the tree, nothing is told of it
+quiet : (view : ManagerView) (own : List ManagerAct) → own ++ avoid_acts view.told view.told ++ tree_acts view view ≡ own
+quiet view own = (λ i. own ++ no_avoid_acts view.told i ++ no_tree_acts view i) ∙ append-nil (own ++ []) ∙ append-nil own
+
+module _ (view : ManagerView) (s : SwitchId) (before after : List ManagerAct) where
+  -- what the manager knows of the tree
+  abbrev tree : RoutingView
+  tree = record { told = view.told; members = view.members }
+
+  abbrev with_tree : RoutingView → ManagerView
+  with_tree r = record view { told = r.told; members = r.members }
+
+  abbrev told_of : RoutingView → List ManagerAct
+  told_of r = avoid_acts view.told r.told ++ trees_told_anew tree r
+
+  pub place_heard : (place : Place) (r : RoutingView) → r ≡ record { told = with_place view.told s place; members = view.members } →
+      after ≡ before ++ told_of r → Gains before after (manager_rule view s (tell.Place place) (with_tree r))
+  unfolding manager_hears
+  place_heard place r is acts = record { items = told_of r; gained = acts; holds = (ap with_tree is, ap told_of is) }
+
+  pub link_heard : (u : SwitchId) (usable : Bool) (r : RoutingView) → r ≡ record { told = with_link view.told s u usable; members = view.members } →
+      after ≡ before ++ told_of r → Gains before after (manager_rule view s (tell.Link u usable) (with_tree r))
+  unfolding manager_hears
+  link_heard u usable r is acts = record { items = told_of r; gained = acts; holds = (ap with_tree is, ap told_of is) }
+
+  pub members_heard : (group : ℕ) (any : Bool) (r : RoutingView) →
+      r ≡ record { told = view.told; members = insert_entry members_cmp view.members (s, group) any } →
+      after ≡ before ++ trees_told_anew tree r → Gains before after (manager_rule view s (tell.Members group any) (with_tree r))
+  unfolding manager_hears
+  members_heard group any r is acts = record {
+    items = trees_told_anew tree r;
+    gained = acts;
+    holds = (ap with_tree is, ap (trees_told_anew tree) is ∙ (λ i. sym (no_avoid_acts view.told) i ++ trees_told_anew tree (record { told = view.told; members = insert_entry members_cmp view.members (s, group) any })));
+  }
+
+  pub pod_heard : (askers : List SwitchId) → askers ≡ with_asker view.askers s →
+      after ≡ before ++ Say s (say.Pod (unwrap_or (pod_given askers s) 0)) ∷ [] →
+      Gains before after (manager_rule view s tell.PodWanted (record view { askers = askers }))
+  unfolding manager_hears
+  pod_heard askers is acts = record {
+    items = Say s (say.Pod (unwrap_or (pod_given askers s) 0)) ∷ [];
+    gained = acts;
+    holds = (
+      ap (λ those. record view { askers = those }) is,
+      ap (λ those. Say s (say.Pod (unwrap_or (pod_given those s) 0)) ∷ []) is
+          ∙ sym (quiet view (Say s (say.Pod (unwrap_or (pod_given (with_asker view.askers s) s) 0)) ∷ [])),
+    );
+  }
+
+  pub address_heard : (pmac : Pmac) (amac : Mac) (ip : Option Ip4) (learnt : Learnt) →
+      learnt ≡ with_learnt view.learnt (record { switch = s; pmac = pmac; amac = amac; ip = ip }) →
+      after ≡ before ++ learning view.learnt learnt pmac amac →
+      Gains before after (manager_rule view s (tell.Learned pmac amac ip) (record view { learnt = learnt }))
+  unfolding manager_hears
+  address_heard pmac amac ip learnt is acts = record {
+    items = learning view.learnt learnt pmac amac;
+    gained = acts;
+    holds = (
+      ap (λ those. record view { learnt = those }) is,
+      ap (λ those. learning view.learnt those pmac amac) is
+          ∙ sym (quiet view (learning view.learnt (with_learnt view.learnt (record { switch = s; pmac = pmac; amac = amac; ip = ip })) pmac amac)),
+    );
+  }
+
+  pub question_heard : (asker : Pmac) (asker_ip ip : Ip4) →
+      after ≡ before ++ Say s (answer_to asker asker_ip ip (lookup view.learnt ip)) ∷ [] →
+      Gains before after (manager_rule view s (tell.Query asker asker_ip ip) view)
+  unfolding manager_hears
+  question_heard asker asker_ip ip acts = record {
+    items = Say s (answer_to asker asker_ip ip (lookup view.learnt ip)) ∷ [];
+    gained = acts;
+    holds = (refl, sym (quiet view (Say s (answer_to asker asker_ip ip (lookup view.learnt ip)) ∷ [])));
+  }
+
+-- ---- by what the code answers
+module _ {T E : Type 0} (result : Result T E) (view : ManagerView) (s : SwitchId) (says : ToManager) (before after : List ManagerAct) where
+  both_ok : {A B C : Type 0} → (A → B → C) → OnOk result A → OnOk result B → OnOk result C
+  both_ok {A} {B} {C} f = by result
+    where
+      by : (r : Result T E) → OnOk r A → OnOk r B → OnOk r C
+      by (Ok x) a b = f a b
+      by (Err e) a b = tt
+
+  pub place_told : (place : Place) (r : RoutingView) → says ≡ tell.Place place →
+      OnOk result (r ≡ record { told = with_place view.told s place; members = view.members }) → OnOk result (after ≡ before ++ told_of view s before after r) →
+      OnOk result (Gains before after (manager_rule view s says (with_tree view s before after r)))
+  place_told place r is =
+      both_ok (λ was acts. subst (λ w. Gains before after (manager_rule view s w (with_tree view s before after r))) (sym is) (place_heard view s before after place r was acts))
+
+  pub link_told : (u : SwitchId) (usable : Bool) (r : RoutingView) → says ≡ tell.Link u usable →
+      OnOk result (r ≡ record { told = with_link view.told s u usable; members = view.members }) → OnOk result (after ≡ before ++ told_of view s before after r) →
+      OnOk result (Gains before after (manager_rule view s says (with_tree view s before after r)))
+  link_told u usable r is =
+      both_ok (λ was acts. subst (λ w. Gains before after (manager_rule view s w (with_tree view s before after r))) (sym is) (link_heard view s before after u usable r was acts))
+
+  pub members_told : (group : ℕ) (any : Bool) (r : RoutingView) → says ≡ tell.Members group any →
+      OnOk result (r ≡ record { told = view.told; members = insert_entry members_cmp view.members (s, group) any }) →
+      OnOk result (after ≡ before ++ trees_told_anew (tree view s before after) r) →
+      OnOk result (Gains before after (manager_rule view s says (with_tree view s before after r)))
+  members_told group any r is =
+      both_ok (λ was acts. subst (λ w. Gains before after (manager_rule view s w (with_tree view s before after r))) (sym is) (members_heard view s before after group any r was acts))
+
+  pub pod_told : (askers : List SwitchId) → says ≡ tell.PodWanted → OnOk result (askers ≡ with_asker view.askers s) →
+      OnOk result (after ≡ before ++ Say s (say.Pod (unwrap_or (pod_given askers s) 0)) ∷ []) →
+      OnOk result (Gains before after (manager_rule view s says (record view { askers = askers })))
+  pod_told askers is =
+      both_ok (λ was acts. subst (λ w. Gains before after (manager_rule view s w (record view { askers = askers }))) (sym is) (pod_heard view s before after askers was acts))
+
+  pub address_told : (pmac : Pmac) (amac : Mac) (ip : Option Ip4) (learnt : Learnt) → says ≡ tell.Learned pmac amac ip →
+      OnOk result (learnt ≡ with_learnt view.learnt (record { switch = s; pmac = pmac; amac = amac; ip = ip })) →
+      OnOk result (after ≡ before ++ learning view.learnt learnt pmac amac) →
+      OnOk result (Gains before after (manager_rule view s says (record view { learnt = learnt })))
+  address_told pmac amac ip learnt is =
+      both_ok (λ was acts. subst (λ w. Gains before after (manager_rule view s w (record view { learnt = learnt }))) (sym is)
+      (address_heard view s before after pmac amac ip learnt was acts))
+
+  pub question_told : (asker : Pmac) (asker_ip ip : Ip4) → says ≡ tell.Query asker asker_ip ip →
+      OnOk result (after ≡ before ++ Say s (answer_to asker asker_ip ip (lookup view.learnt ip)) ∷ []) →
+      OnOk result (Gains before after (manager_rule view s says view))
+  question_told asker asker_ip ip is acts =
+      both_ok (λ was again. subst (λ w. Gains before after (manager_rule view s w view)) (sym is) (question_heard view s before after asker asker_ip ip was)) acts acts

@@ -1,0 +1,16 @@
+//! The fabric manager: a `ManagerCore` whose rule is that of `pl_manager_rule`, to the letter.
+//!
+//! `Routing` is what the switches told of the tree and of the members of groups, with the avoid lists and
+//! the trees of the groups, each as its switch was told it: a word that is heard tells just those switches
+//! for which something changed. Addresses and pods are found by a `Registry` and by `Askers`.
+#![tactic(auto)]
+
+pub use manager::Manager;
+pub use pl_core::{ManagerCore, Memory};
+
+mod manager;
+mod manager_core;
+mod renewing;
+mod routing;
+mod saying;
+mod telling;

@@ -1,0 +1,100 @@
+ghost use Rattle.std.specs.Prelude.{◌≡◌, ◌++◌, ◌∷◌, ◌<◌, [], OnOk, Some, length, unwrap_or};
+ghost use Rattle.pl_core.specs.declared.acts.ManagerAct.TheVariants.{Say};
+ghost use Rattle.pl_core.specs.declared.messages.ToSwitch.TheVariants.{Pod};
+ghost use Rattle.pl_core.specs.ManagerViews.{lookup, pod_given, pods_given};
+ghost use Rattle.pl_manager_rule.specs.ManagerRule.{answer_to, learning, with_asker, with_learnt};
+ghost use Rattle.pl_registry.specs.Learning.{acts_of_learning};
+
+use crate::telling::say;
+use pl_core::{ManagerAct, ManagerOutbox, Memory, ToSwitch};
+use pl_frame::{Ip4, Mac, SwitchId};
+use pl_pmac::Pmac;
+use pl_registry::{Askers, Learning, Registry};
+
+/// A switch that asks for the number of its pod is told it.
+pub(crate) fn give_pod(
+    askers: &mut Askers,
+    switch: SwitchId,
+    out: &mut ManagerOutbox,
+) -> Result<(), Memory>
+    requires { length (pods_given askers.old) < 65536 }
+    ensures askers { OnOk result (askers.new ≡ with_asker askers.old switch) }
+    ensures acts { OnOk result (out.new ≡ out.old ++ Say switch (Pod (unwrap_or (pod_given askers.new switch) 0)) ∷ []) }
+{
+    let pod = askers.ask(switch)?;
+    say(switch, ToSwitch::Pod(pod), out)?;
+    Ok(())
+}
+
+/// A switch tells a pseudo address, or the IPv4 address of one. An address that was not known is numbered,
+/// and the switch that told the one before it is told.
+pub(crate) fn learn(
+    registry: &mut Registry,
+    switch: SwitchId,
+    pmac: Pmac,
+    amac: Mac,
+    ip: Option<Ip4>,
+    out: &mut ManagerOutbox,
+) -> Result<(), Memory>
+    ensures learnt { OnOk result (registry.new ≡ with_learnt registry.old (record { switch = switch; pmac = pmac; amac = amac; ip = ip })) }
+    ensures acts { OnOk result (out.new ≡ out.old ++ learning registry.old registry.new pmac amac) }
+{
+    match registry.learn(switch, pmac, amac, ip)? {
+        Some(new) => tell_learning(pmac, new, out),
+        None => Ok(()),
+    }
+}
+
+// The number of a new address, and then the address that it replaces.
+fn tell_learning(pmac: Pmac, new: Learning, out: &mut ManagerOutbox) -> Result<(), Memory>
+    ensures { OnOk result (out.new ≡ out.old ++ acts_of_learning pmac (Some new)) }
+{
+    out.push(ManagerAct::Number(pmac, new.number))?;
+    match new.replaced {
+        Some(old) => say(
+            old.switch,
+            ToSwitch::Invalidate {
+                old: old.pmac,
+                new: pmac,
+                number: new.number,
+                ip: old.ip,
+            },
+            out,
+        ),
+        None => Ok(()),
+    }
+}
+
+/// A question for an IPv4 address is answered with the address that it finds; where it finds none, all
+/// hosts are to be asked.
+pub(crate) fn answer(
+    registry: &Registry,
+    switch: SwitchId,
+    asker: Pmac,
+    asker_ip: Ip4,
+    ip: Ip4,
+    out: &mut ManagerOutbox,
+) -> Result<(), Memory>
+    ensures { OnOk result (out.new ≡ out.old ++ Say switch (answer_to asker asker_ip ip (lookup registry.now ip)) ∷ []) }
+{
+    let answer = answer_with(asker, asker_ip, ip, registry.lookup(ip));
+    say(switch, answer, out)
+}
+
+fn answer_with(asker: Pmac, asker_ip: Ip4, ip: Ip4, found: Option<Pmac>) -> ToSwitch
+    ensures { result ≡ answer_to asker asker_ip ip found }
+{
+    match found {
+        Some(pmac) => ToSwitch::Answer {
+            asker,
+            asker_ip,
+            ip,
+            pmac,
+        },
+        None => ToSwitch::Flood {
+            asker,
+            asker_ip,
+            ip,
+        },
+    }
+}

@@ -6,3 +6,4 @@ pub mod Tests
 pub mod Few
 pub mod SettledParts
 pub mod Deciding
+pub mod CourseRuns

@@ -1,5 +1,5 @@
 -- When a fabric is settled: nothing would change what its switches and its manager know of places and links.
-use Rattle.std.specs.Prelude.{◌≡◌, ◌<◌, ℕ, ◌/◌, ◌==◌, ◌&&◌, ◌||◌, not, nat_lt, Bool, true, false, if◌then◌else◌, Option, Some, None, slice_get}
+use Rattle.std.specs.Prelude.{◌≡◌, ◌<◌, ℕ, ◌/◌, ◌==◌, ◌&&◌, ◌||◌, not, nat_lt, Bool, true, false, if◌then◌else◌, Option, Some, None, slice_get, [], ◌∷◌, refl}
 use Rattle.std.specs.List.{list_any, range_with_len}
 use Rattle.pl_frame.specs.declared.address.SwitchId.{SwitchId}
 use Rattle.pl_wiring.specs.declared.link.Peer.{Peer}
@@ -12,7 +12,7 @@ use Rattle.pl_core.specs.AvoidLists.{avoid_list}
 use Rattle.pl_core.specs.ManagerFacts.{group_at}
 use Rattle.pl_core.specs.ManagerViews.{ManagerView, is_told_usable, place_of}
 use Rattle.pl_core.specs.PortRecords.{id_at, is_usable, is_usable_to, place_at, port_of}
-use Rattle.pl_core.specs.SwitchFacts.{group_of_part, has_granted, holder_of, part_of, present_attempt}
+use Rattle.pl_core.specs.SwitchFacts.{group_of_part, has_granted, holder_of, part_of, present_attempt, switch_at_boot}
 use Rattle.pl_core.specs.SwitchViews.{SwitchView}
 use Rattle.pl_core.specs.Trees.{tree_part}
 use Rattle.pl_world.specs.SettledQueues.{HasSettledQueues}
@@ -96,3 +96,18 @@ pub record IsSettled (w : WorldView) : Type 0 where
   pub queues : HasSettledQueues w
   -- 3, 4 and 5.
   pub switches : (s : ℕ) (v : SwitchView) → slice_get w.switches s ≡ Some v → IsSettledSwitch w s v
+
+-- Edge switch 5 at its first attempt. It is news that the position is free, that switch 4 holds it, or that it is fixed for switch 6. It is
+-- none that switch 6 holds it, which has the larger id.
+four_answers
+    : (is_news (switch_at_boot (record { 0 = 5 }) 4) 2 1 None ≡ true)
+    × (is_news (switch_at_boot (record { 0 = 5 }) 4) 2 1 (Some (record { 0 = 4 }, false)) ≡ true)
+    × (is_news (switch_at_boot (record { 0 = 5 }) 4) 2 1 (Some (record { 0 = 6 }, true)) ≡ true)
+    × (is_news (switch_at_boot (record { 0 = 5 }) 4) 2 1 (Some (record { 0 = 6 }, false)) ≡ false)
+four_answers = (refl, refl, refl, refl)
+
+-- its own grant is news once
+a_grant_is_news_once
+    : (is_news (switch_at_boot (record { 0 = 5 }) 4) 2 1 (Some (record { 0 = 5 }, false)) ≡ true)
+    × (is_news (record (switch_at_boot (record { 0 = 5 }) 4) { granted = 2 ∷ [] }) 2 1 (Some (record { 0 = 5 }, false)) ≡ false)
+a_grant_is_news_once = (refl, refl)

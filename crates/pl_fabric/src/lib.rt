@@ -7,6 +7,7 @@
 pub use draws::random;
 pub use fabric::settled;
 pub use rounds::{round, sweep};
+pub use run_laws::{a_sweep_is_a_run, drawn_steps_are_a_run, the_rounds_of_a_settling_are_a_run};
 pub use settling::{Settling, settle};
 
 mod draws;
@@ -14,6 +15,7 @@ mod ends;
 mod fabric;
 mod making;
 mod rounds;
+mod run_laws;
 mod settling;
 mod switches;
 mod votes;

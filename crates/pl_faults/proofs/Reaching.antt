@@ -16,7 +16,7 @@ use Rattle.pl_manager_rule.proofs.Tables.{found_key}
 use Rattle.pl_reports.specs.Kept.{has_told}
 use Rattle.pl_faults.specs.declared.edges.Edge.{Edge}
 use Rattle.pl_faults.specs.Making.{Avoided, with_edge}
-use Rattle.pl_faults.specs.Rows.{AreRows, IsReach, Leads, leads_at, leads_by, leads_down, row_at, row_of, value_in, value_of, with_edge_at, with_row}
+use Rattle.pl_faults.specs.Rows.{AreRows, IsReach, Leads, leads_at, leads_by, leads_down, row_at, row_at_level, row_of, value_in, value_of, with_edge_at, with_row}
 use Rattle.pl_faults.proofs.Anew.{among_told, at_is, at_turned}
 use Rattle.pl_faults.proofs.Made.{any_twice}
 
@@ -64,35 +64,37 @@ entry_of_row f [] i d h = absurd (omega arith)
 entry_of_row f (e ∷ es) zero d h = refl
 entry_of_row f (e ∷ es) (suc i) d h = entry_of_row f es i d (omega arith)
 
-module _ (told : Told) (edges : List Edge) (f : Leads) (rows : List (SwitchId × List Bool)) (all : AreRows told edges f rows) where
-  -- the row of one that told something
-  pub row_there : (u : SwitchId) → has_told told u ≡ true → row_at rows u ≡ Some (row_of f edges u)
-  row_there u h = all.all u ∙ ap (λ b. cond b (Some (row_of f edges u)) None) h
+module _ (told : Told) (level : ℕ) (edges : List Edge) (f : Leads) (rows : List (SwitchId × List Bool)) (all : AreRows told level edges f rows) where
+  -- the row of one of the level
+  pub row_there : (u : SwitchId) → has_level told u level ≡ true → row_at rows u ≡ Some (row_of f edges u)
+  row_there u h =
+      let heard = has_level_told told u level h in
+      all.all u ∙ (λ i. cond (heard i) (Some (cond (h i) (row_of f edges u) [])) None)
 
-  pub value_there : (u : SwitchId) (i : ℕ) (d : Edge) → has_told told u ≡ true → i < length edges → value_in rows u i ≡ f (get_or edges i d) u
+  pub value_there : (u : SwitchId) (i : ℕ) (d : Edge) → has_level told u level ≡ true → i < length edges → value_in rows u i ≡ f (get_or edges i d) u
   value_there u i d h within = ap (λ o. value_of o i) (row_there u h) ∙ entry_of_row (λ e. f e u) edges i d within
 
   -- a neighbour that is linked adds its row
-  linked_row : (level : ℕ) (u x : SwitchId) (linked : Bool) → (is_alive told u x && has_level told x level) ≡ linked → (before : Edge → Bool) →
+  linked_row : (u x : SwitchId) (linked : Bool) → (is_alive told u x && has_level told x level) ≡ linked → (before : Edge → Bool) →
       with_row linked (row_at rows x) (map before edges) ≡ map (λ e. before e || (linked && f e x)) edges
-  linked_row level u x false is before = same_row before (λ e. before e || false) edges (λ e. or_false (before e))
-  linked_row level u x true is before =
-      let there = row_there x (has_level_told told x level (and_parts (is_alive told u x) (has_level told x level) is).1) in
+  linked_row u x false is before = same_row before (λ e. before e || false) edges (λ e. or_false (before e))
+  linked_row u x true is before =
+      let there = row_there x (and_parts (is_alive told u x) (has_level told x level) is).1 in
       ap (λ o. with_row true o (map before edges)) there ∙ either_row before (λ e. f e x) edges
 
-  abbrev linked_by : ℕ → SwitchId → Edge → SwitchId → Bool
-  linked_by level u e x = is_alive told u x && has_level told x level && f e x
+  abbrev linked_by : SwitchId → Edge → SwitchId → Bool
+  linked_by u e x = is_alive told u x && has_level told x level && f e x
 
-  pub row_more : (level : ℕ) (u : SwitchId) (xs : List SwitchId) (i : ℕ) (d : SwitchId) → i < length xs → (row after : List Bool) →
-      row ≡ map (λ e. list_any (linked_by level u e) (take i xs)) edges →
+  pub row_more : (u : SwitchId) (xs : List SwitchId) (i : ℕ) (d : SwitchId) → i < length xs → (row after : List Bool) →
+      row ≡ map (λ e. list_any (linked_by u e) (take i xs)) edges →
       after ≡ with_row (is_alive told u (get_or xs i d) && has_level told (get_or xs i d) level) (row_at rows (get_or xs i d)) row →
-      after ≡ map (λ e. list_any (linked_by level u e) (take (i + 1) xs)) edges
-  row_more level u xs i d within row after is put =
+      after ≡ map (λ e. list_any (linked_by u e) (take (i + 1) xs)) edges
+  row_more u xs i d within row after is put =
       let x = get_or xs i d in let linked = is_alive told u x && has_level told x level in
       put ∙ ap (with_row linked (row_at rows x)) is
-      ∙ linked_row level u x linked refl (λ e. list_any (linked_by level u e) (take i xs))
-      ∙ same_row (λ e. list_any (linked_by level u e) (take i xs) || (linked && f e x)) (λ e. list_any (linked_by level u e) (take (i + 1) xs)) edges
-      (λ e. sym (list_any_more (linked_by level u e) xs i d within))
+      ∙ linked_row u x linked refl (λ e. list_any (linked_by u e) (take i xs))
+      ∙ same_row (λ e. list_any (linked_by u e) (take i xs) || (linked && f e x)) (λ e. list_any (linked_by u e) (take (i + 1) xs)) edges
+      (λ e. sym (list_any_more (linked_by u e) xs i d within))
 
 -- ---- a table of rows, switch by switch
 pub table_more : (row : SwitchId → List Bool) (rows after : List (SwitchId × List Bool)) (ss : List SwitchId) (i : ℕ) (d : SwitchId) (one : List Bool) →
@@ -113,10 +115,10 @@ table_more row rows after ss i d one within was is put t =
     by true false e k = k
     by false false e k = k
 
-pub rows_whole : (told : Told) (edges : List Edge) (f : Leads) (rows : List (SwitchId × List Bool)) (ss : List SwitchId) → ss ≡ switches told →
-    ((t : SwitchId) → row_at rows t ≡ cond (list_any (is_at (id_cmp t)) ss) (Some (row_of f edges t)) None) → AreRows told edges f rows
-rows_whole told edges f rows ss is h = record {
-  all = λ t. h t ∙ ap (λ xs. cond (list_any (is_at (id_cmp t)) xs) (Some (row_of f edges t)) None) is;
+pub rows_whole : (told : Told) (level : ℕ) (edges : List Edge) (f : Leads) (rows : List (SwitchId × List Bool)) (ss : List SwitchId) → ss ≡ switches told →
+    ((t : SwitchId) → row_at rows t ≡ cond (list_any (is_at (id_cmp t)) ss) (Some (row_at_level told level f edges t)) None) → AreRows told level edges f rows
+rows_whole told level edges f rows ss is h = record {
+  all = λ t. h t ∙ ap (λ xs. cond (list_any (is_at (id_cmp t)) xs) (Some (row_at_level told level f edges t)) None) is;
 }
 
 -- ---- what the rows of a switch say together
@@ -146,11 +148,22 @@ module _ (told : Told) (edges : List Edge) (down core up : List (SwitchId × Lis
       leads_at (place_of told u) (get_or edges i d) (value_in down u i) (value_in core u i) (value_in up u i)
       ≡ leads_to told (get_or edges i d).pod (get_or edges i d).switch u
   leads_by_rows u i d heard within =
-      let e = get_or edges i d in
-      let x = value_there told edges (leads_down told) down reach.by_link u i d heard within in
-      let y = value_there told edges (leads_by told 1 (leads_down told)) core reach.by_core u i d heard within in
-      let z = value_there told edges (leads_by told 2 (leads_by told 1 (leads_down told))) up reach.by_two u i d heard within in
-      (λ j. leads_at (place_of told u) e (x j) (y j) (z j)) ∙ same_leads told e u (has_level told u 1) (has_pod told u e.pod) refl
+      by (has_level told u 1) (has_level told u 2) refl refl
+      ∙ same_leads told (get_or edges i d) u (has_level told u 1) (has_pod told u (get_or edges i d).pod) refl
+    where
+      e : Edge
+      e = get_or edges i d
+
+      by : (a b : Bool) → has_level told u 1 ≡ a → has_level told u 2 ≡ b →
+          cond a (cond (has_pod told u e.pod) (value_in down u i) (value_in up u i)) (cond b (value_in core u i) false)
+          ≡ cond a (cond (has_pod told u e.pod) (leads_down told e u) (leads_by told 2 (leads_by told 1 (leads_down told)) e u))
+          (cond b (leads_by told 1 (leads_down told) e u) false)
+      by true b one two =
+          let x = value_there told 1 edges (leads_down told) down reach.by_link u i d one within in
+          let z = value_there told 1 edges (leads_by told 2 (leads_by told 1 (leads_down told))) up reach.by_two u i d one within in
+          λ j. cond (has_pod told u e.pod) (x j) (z j)
+      by false true one two = value_there told 2 edges (leads_by told 1 (leads_down told)) core reach.by_core u i d two within
+      by false false one two = refl
 
   -- so the list goes on as defined
   pub edge_by_rows : (s u : SwitchId) (i : ℕ) (d : Edge) (list : List Avoided) (place : Place) (leads : Bool) → has_told told u ≡ true → i < length edges →

@@ -80,19 +80,22 @@ module _ (told after : Told) (places : (x : SwitchId) → place_of after x ≡ p
   reach_same : (edges : List Edge) (down core up : List (SwitchId × List Bool)) → IsReach told edges down core up → IsReach after edges down core up
   reach_same edges down core up h = record {
     by_link = record {
-      all = λ x. h.by_link.all x ∙ (λ i. cond (sym (heard_same x) i)
-          (Some (row_of (down_by (λ z. sym (places z) i) (λ y z. sym (alive y z) i)) edges x)) None);
+      all = λ x.
+          h.by_link.all x
+          ∙ (λ i. cond (sym (heard_same x) i) (Some (cond (is_known (sym (places x) i).level 1)
+          (row_of (down_by (λ z. sym (places z) i) (λ y z. sym (alive y z) i)) edges x) [])) None);
     };
     by_core = record {
-      all = λ x. h.by_core.all x ∙ (λ i. cond (sym (heard_same x) i)
-          (Some (row_of (on_by (λ z. sym (places z) i) (λ y z. sym (alive y z) i) (λ z. sym (near z) i) 1
-          (down_by (λ z. sym (places z) i) (λ y z. sym (alive y z) i))) edges x)) None);
+      all = λ x.
+          h.by_core.all x
+          ∙ (λ i. cond (sym (heard_same x) i) (Some (cond (is_known (sym (places x) i).level 2)
+          (row_of (on_by (λ z. sym (places z) i) (λ y z. sym (alive y z) i) (λ z. sym (near z) i) 1 (down_by (λ z. sym (places z) i) (λ y z. sym (alive y z) i))) edges x) [])) None);
     };
     by_two = record {
-      all = λ x. h.by_two.all x ∙ (λ i. cond (sym (heard_same x) i)
-          (Some (row_of (on_by (λ z. sym (places z) i) (λ y z. sym (alive y z) i) (λ z. sym (near z) i) 2
-          (on_by (λ z. sym (places z) i) (λ y z. sym (alive y z) i) (λ z. sym (near z) i) 1
-          (down_by (λ z. sym (places z) i) (λ y z. sym (alive y z) i)))) edges x)) None);
+      all = λ x.
+          h.by_two.all x
+          ∙ (λ i. cond (sym (heard_same x) i) (Some (cond (is_known (sym (places x) i).level 1)
+          (row_of (on_by (λ z. sym (places z) i) (λ y z. sym (alive y z) i) (λ z. sym (near z) i) 2 (on_by (λ z. sym (places z) i) (λ y z. sym (alive y z) i) (λ z. sym (near z) i) 1 (down_by (λ z. sym (places z) i) (λ y z. sym (alive y z) i)))) edges x) [])) None);
     };
   }
 

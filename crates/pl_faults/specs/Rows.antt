@@ -31,18 +31,22 @@ leads_on told e u = leads_to told e.pod e.switch u
 abbrev pub row_of : Leads → List Edge → SwitchId → List Bool
 row_of f edges u = map (λ e. f e u) edges
 
--- the rows of all that told something
 abbrev pub row_at : List (SwitchId × List Bool) → SwitchId → Option (List Bool)
 row_at rows u = value_at id_cmp rows u
 
-pub record AreRows (told : Told) (edges : List Edge) (f : Leads) (rows : List (SwitchId × List Bool)) : Type 0 where
-  pub all : (u : SwitchId) → row_at rows u ≡ (if has_told told u then Some (row_of f edges u) else None)
+-- a row that only the switches of one level have
+abbrev pub row_at_level : Told → ℕ → Leads → List Edge → SwitchId → List Bool
+row_at_level told level f edges u = if has_level told u level then row_of f edges u else []
+
+-- the rows of all that told something, filled at one level
+pub record AreRows (told : Told) (level : ℕ) (edges : List Edge) (f : Leads) (rows : List (SwitchId × List Bool)) : Type 0 where
+  pub all : (u : SwitchId) → row_at rows u ≡ (if has_told told u then Some (row_at_level told level f edges u) else None)
 
 -- the three kinds of rows
 pub record IsReach (told : Told) (edges : List Edge) (down core up : List (SwitchId × List Bool)) : Type 0 where
-  pub by_link : AreRows told edges (leads_down told) down
-  pub by_core : AreRows told edges (leads_by told 1 (leads_down told)) core
-  pub by_two : AreRows told edges (leads_by told 2 (leads_by told 1 (leads_down told))) up
+  pub by_link : AreRows told 1 edges (leads_down told) down
+  pub by_core : AreRows told 2 edges (leads_by told 1 (leads_down told)) core
+  pub by_two : AreRows told 1 edges (leads_by told 2 (leads_by told 1 (leads_down told))) up
 
 abbrev pub is_some_edge : List Edge → Bool
 is_some_edge [] = false

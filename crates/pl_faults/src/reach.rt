@@ -2,7 +2,7 @@ ghost use Rattle.std.specs.Prelude.{◌≡◌, ◌&&◌, IfOk, OnOk};
 ghost use Rattle.std.specs.Option.{option_copied};
 ghost use Rattle.pl_core.specs.ManagerViews.{has_level, is_alive};
 ghost use Rattle.pl_layouts.specs.Placement.{is_known};
-ghost use Rattle.pl_faults.specs.Rows.{AreRows, IsReach, Leads, leads_at, leads_by, leads_down, row_at, row_of, value_of, with_row};
+ghost use Rattle.pl_faults.specs.Rows.{AreRows, IsReach, Leads, leads_at, leads_by, leads_down, row_at, row_at_level, row_of, value_of, with_row};
 
 use crate::edges::Edge;
 use crate::row::Row;
@@ -37,39 +37,73 @@ pub(crate) fn reach_of(alloc: Global, reports: &Reports, edges: &[Edge]) -> Resu
     ensures { IfOk result (λ reach. IsReach reports.now edges.now reach.down.entries reach.core.entries reach.up.entries) }
 {
     let down = rows_down(alloc, reports, edges)?;
-    let core = rows_by(alloc, reports, edges, &down, 1)?;
-    let up = rows_by(alloc, reports, edges, &core, 2)?;
+    let core = rows_by(alloc, reports, edges, &down, 2, 1)?;
+    let up = rows_by(alloc, reports, edges, &core, 1, 2)?;
     Ok(Reach { down, core, up })
 }
 
-// The rows by the links down to edge switches of the own pod.
+// The rows of aggregation switches by the links down to edge switches of the own pod.
 fn rows_down(alloc: Global, reports: &Reports, edges: &[Edge]) -> Result<Rows, Memory>
-    ensures { IfOk result (λ rows. AreRows reports.now edges.now (leads_down reports.now) rows.entries) }
+    ensures { IfOk result (λ rows. AreRows reports.now 1 edges.now (leads_down reports.now) rows.entries) }
 {
     let mut rows = BTreeMap::new(alloc);
     for switch in reports.switches() {
-        let row = Row::down(alloc, reports, edges, *switch)?;
+        let row = row_down(alloc, reports, edges, *switch)?;
         rows.insert(*switch, row)?;
     }
     Ok(rows)
 }
 
-// The rows by neighbours of a level, each with its row.
+fn row_down(
+    alloc: Global,
+    reports: &Reports,
+    edges: &[Edge],
+    switch: SwitchId,
+) -> Result<Row, Memory>
+    ensures { IfOk result (λ row. row ≡ row_at_level reports.now 1 (leads_down reports.now) edges.now switch) }
+{
+    if !has_level(reports.place_of(switch), 1) {
+        return Ok(Row::none(alloc));
+    }
+    let row = Row::down(alloc, reports, edges, switch)?;
+    Ok(row)
+}
+
+// The rows of a level by neighbours of another, each with its row.
 fn rows_by(
     alloc: Global,
     reports: &Reports,
     edges: &[Edge],
     by: &Rows,
+    own: u8,
     level: u8,
 ) -> Result<Rows, Memory>
-    ensures { IfOk result (λ rows. (f : Leads) → AreRows reports.now edges.now f by.now.entries → AreRows reports.now edges.now (leads_by reports.now level f) rows.entries) }
+    ensures { IfOk result (λ rows. (f : Leads) → AreRows reports.now level edges.now f by.now.entries → AreRows reports.now own edges.now (leads_by reports.now level f) rows.entries) }
 {
     let mut rows = BTreeMap::new(alloc);
     for switch in reports.switches() {
-        let row = row_by(alloc, reports, edges, by, level, *switch)?;
+        let row = row_at_level(alloc, reports, edges, by, own, level, *switch)?;
         rows.insert(*switch, row)?;
     }
     Ok(rows)
+}
+
+fn row_at_level(
+    alloc: Global,
+    reports: &Reports,
+    edges: &[Edge],
+    by: &Rows,
+    own: u8,
+    level: u8,
+    switch: SwitchId,
+) -> Result<Row, Memory>
+    ensures { IfOk result (λ row. (f : Leads) → AreRows reports.now level edges.now f by.now.entries → row ≡ row_at_level reports.now own (leads_by reports.now level f) edges.now switch) }
+{
+    if !has_level(reports.place_of(switch), own) {
+        return Ok(Row::none(alloc));
+    }
+    let row = row_by(alloc, reports, edges, by, level, switch)?;
+    Ok(row)
 }
 
 fn row_by(
@@ -80,7 +114,7 @@ fn row_by(
     level: u8,
     switch: SwitchId,
 ) -> Result<Row, Memory>
-    ensures { IfOk result (λ row. (f : Leads) → AreRows reports.now edges.now f by.now.entries → row ≡ row_of (leads_by reports.now level f) edges.now switch) }
+    ensures { IfOk result (λ row. (f : Leads) → AreRows reports.now level edges.now f by.now.entries → row ≡ row_of (leads_by reports.now level f) edges.now switch) }
 {
     let mut row = Row::empty(alloc, edges)?;
     for neighbour in reports.neighbours(switch) {
@@ -114,7 +148,10 @@ fn add_row(
 fn is_linked(reports: &Reports, switch: SwitchId, neighbour: SwitchId, level: u8) -> bool
     ensures { result ≡ (is_alive reports.now switch neighbour && has_level reports.now neighbour level) }
 {
-    reports.is_alive(switch, neighbour) && has_level(reports.place_of(neighbour), level)
+    if !has_level(reports.place_of(neighbour), level) {
+        return false;
+    }
+    reports.is_alive(switch, neighbour)
 }
 
 impl Reach {

@@ -1,4 +1,4 @@
-ghost use Rattle.std.specs.Prelude.{◌≡◌, ◌&&◌, ◌||◌, IfOk, IsTrue, OnOk, false, map, slice_index_or};
+ghost use Rattle.std.specs.Prelude.{◌≡◌, ◌&&◌, ◌||◌, [], IfOk, IsTrue, OnOk, false, map, slice_index_or};
 ghost use Rattle.std.specs.List.{zip};
 ghost use Rattle.pl_core.specs.ManagerViews.{is_alive};
 ghost use Rattle.pl_layouts.specs.Placement.{is_known};
@@ -27,6 +27,15 @@ impl Model for Row {
 }
 
 impl Row {
+    /// Of a switch that needs none.
+    pub(crate) fn none(alloc: Global) -> Row
+        ensures { result ≡ [] }
+    {
+        Row {
+            values: Vec::new(alloc),
+        }
+    }
+
     /// No edge switch is reached.
     pub(crate) fn empty(alloc: Global, edges: &[Edge]) -> Result<Row, Memory>
         ensures { IfOk result (λ row. row ≡ map (λ e. false) edges.now) }

@@ -12,7 +12,7 @@ loop-neighbour-init c f h = c.in_ok-row.ensures
 pub loop-neighbour-preserved : goal.loop-neighbour-preserved
 loop-neighbour-preserved c f h =
     let d : SwitchId = record { 0 = 0 } in
-    row_more c.args.reports.now c.args.edges.now f c.args.by.now.entries h c.args.level c.args.switch c.neighbours-neighbour-items.result.now
+    row_more c.args.reports.now c.args.level c.args.edges.now f c.args.by.now.entries h c.args.switch c.neighbours-neighbour-items.result.now
     c.loop-neighbour.neighbour-index d c.loop-neighbour-test.true c.loop-neighbour.row c.add_row.new.row
     (c.loop-neighbour.invariant f h) c.in_ok-add_row.ensures
 

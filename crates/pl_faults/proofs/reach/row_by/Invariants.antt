@@ -6,5 +6,5 @@ use Rattle.pl_faults.proofs.reach.row_by.Given as goal
 
 abbrev pub invariant-loop-neighbour : goal.invariant-loop-neighbour
 invariant-loop-neighbour l =
-    (f : Leads) → AreRows l.reports l.edges f l.by.entries → l.row
+    (f : Leads) → AreRows l.reports l.level l.edges f l.by.entries → l.row
     ≡ map (λ e. list_any (λ x. is_alive l.reports l.switch x && has_level l.reports x l.level && f e x) (take l.neighbour-index l.neighbour-items)) l.edges

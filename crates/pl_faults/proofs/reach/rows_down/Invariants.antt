@@ -3,10 +3,10 @@ use Rattle.std.specs.List.{list_any}
 use Rattle.std.specs.BTreeMap.{is_at}
 use Rattle.pl_frame.specs.declared.address.SwitchId.{SwitchId}
 use Rattle.pl_core.specs.ManagerViews.{id_cmp}
-use Rattle.pl_faults.specs.Rows.{leads_down, row_at, row_of}
+use Rattle.pl_faults.specs.Rows.{leads_down, row_at, row_at_level}
 use Rattle.pl_faults.proofs.reach.rows_down.Given as goal
 
 abbrev pub invariant-loop-switch : goal.invariant-loop-switch
 invariant-loop-switch l =
     (t : SwitchId) → row_at l.rows.entries t
-    ≡ cond (list_any (is_at (id_cmp t)) (take l.switch-index l.switch-items)) (Some (row_of (leads_down l.reports) l.edges t)) None
+    ≡ cond (list_any (is_at (id_cmp t)) (take l.switch-index l.switch-items)) (Some (row_at_level l.reports 1 (leads_down l.reports) l.edges t)) None

@@ -8,6 +8,7 @@ use pl_arp::Me;
 use pl_core::HostTable;
 use pl_frame::Memory;
 use pl_lists::Items;
+use pl_manager::Manager;
 use pl_sample::{NextPort, PodAsker, PodGiver, Silent, TwoPorts};
 use pl_scenario_words::{first_word, is_remark, say};
 use pl_switch::PlainSwitch;
@@ -175,7 +176,7 @@ fn begin_world(
         "next-port" => play_world::<NextPort, Silent>(alloc, wiring, limits, rest, out),
         "two-ports" => play_world::<TwoPorts, Silent>(alloc, wiring, limits, rest, out),
         "pod-asker" => play_world::<PodAsker, PodGiver>(alloc, wiring, limits, rest, out),
-        "plain" => play_world::<PlainSwitch, PodGiver>(alloc, wiring, limits, rest, out),
+        "plain" => play_world::<PlainSwitch, Manager>(alloc, wiring, limits, rest, out),
         _ => refuse(out),
     }
 }

@@ -7,3 +7,4 @@ pub mod Few
 pub mod SettledParts
 pub mod Deciding
 pub mod CourseRuns
+pub mod QueueOrder

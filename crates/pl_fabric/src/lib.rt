@@ -7,7 +7,10 @@
 pub use draws::random;
 pub use fabric::settled;
 pub use rounds::{round, sweep};
-pub use run_laws::{a_sweep_is_a_run, drawn_steps_are_a_run, the_rounds_of_a_settling_are_a_run};
+pub use run_laws::{
+    a_sweep_is_a_run, a_sweep_visits_the_queues_in_queue_order, drawn_steps_are_a_run,
+    the_rounds_of_a_settling_are_a_run,
+};
 pub use settling::{Settling, settle};
 
 mod draws;

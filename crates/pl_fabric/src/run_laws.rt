@@ -1,9 +1,11 @@
-ghost use Rattle.std.specs.Prelude.{ℕ, List, Option};
+ghost use Rattle.std.specs.Prelude.{◌≡◌, ℕ, List, Option};
+ghost use Rattle.pl_wiring.specs.Plan.{IsPlan, Plan};
 ghost use Rattle.pl_world.specs.declared.error.StepError.{StepError};
+ghost use Rattle.pl_world.specs.QueueOrder.{queue_order};
 ghost use Rattle.pl_world.specs.Runs.{Moment, WorldRun};
 ghost use Rattle.pl_world.specs.Worlds.{WorldView};
 ghost use Rattle.pl_fabric.specs.Draws.{Draws};
-ghost use Rattle.pl_fabric.specs.Rounds.{Sweeps};
+ghost use Rattle.pl_fabric.specs.Rounds.{Sweeps, queues_from};
 ghost use Rattle.pl_fabric.specs.Settlings.{GoesRounds};
 
 use pl_core::{HostCore, ManagerCore, SwitchCore};
@@ -25,4 +27,9 @@ pub fn the_rounds_of_a_settling_are_a_run<S: SwitchCore, M: ManagerCore, H: Host
 pub fn drawn_steps_are_a_run<S: SwitchCore, M: ManagerCore, H: HostCore>()
     ensures { (steps number : ℕ) (old new : WorldView) (end : Option StepError) → Draws S.rule M.rule H.rule steps number old end new →
         (moments : List Moment) × WorldRun S.rule M.rule H.rule old moments new }
+{}
+
+/// A sweep visits all queues in queue order.
+pub fn a_sweep_visits_the_queues_in_queue_order()
+    ensures { (plan : Plan) → IsPlan plan → queues_from plan 0 ≡ queue_order plan }
 {}

@@ -1,8 +1,7 @@
 -- What is told once a word was heard is what the manager's rule tells.
-use Rattle.std.proofs.Common.{◌≡◌, ℕ, ◌==◌, ◌||◌, not, Bool, true, false, cond, List, [], ◌∷◌, ◌++◌, map, Option, Some, None, nat_cmp, filter, flat_map, refl, sym, ap, ◌∙◌, subst, inl, inr, append-nil, append_assoc}
+use Rattle.std.proofs.Common.{◌≡◌, ℕ, ◌==◌, ◌||◌, not, Bool, true, false, cond, List, [], ◌∷◌, ◌++◌, map, None, nat_cmp, filter, flat_map, refl, sym, ap, ◌∙◌, subst, inl, append-nil, append_assoc}
 use Rattle.std.specs.List.{list_any}
 use Rattle.std.specs.BTreeMap.{insert_entry}
-use Rattle.std.specs.BTreeSet.{insert_key}
 use Rattle.std.proofs.lemmas.Cmp.{nat_cmp_total}
 use Rattle.std.proofs.lemmas.Map.Lookups.{exact_unsigned}
 use Rattle.pl_frame.specs.declared.address.SwitchId.{SwitchId}
@@ -12,9 +11,9 @@ use Rattle.pl_core.specs.declared.acts.ManagerAct.TheVariants.{Say}
 use Rattle.pl_core.specs.declared.messages.ToSwitch.TheVariants as say
 use Rattle.pl_core.specs.AvoidLists.{avoid_list}
 use Rattle.pl_core.specs.ManagerFacts.{groups}
-use Rattle.pl_core.specs.ManagerViews.{ManagerView, Members, Told, members_cmp, switches}
+use Rattle.pl_core.specs.ManagerViews.{Told, members_cmp, switches}
 use Rattle.pl_core.specs.Trees.{core_for, core_of, needed_edges, tree_part}
-use Rattle.pl_core.proofs.Among.{IsAmong, among_in_order}
+use Rattle.pl_core.proofs.Among.{IsAmong}
 use Rattle.pl_manager_rule.specs.ManagerRule.{avoid_acts, same_avoid_list, same_part}
 use Rattle.pl_manager_rule.proofs.Avoided.{groups_rise}
 use Rattle.pl_manager_rule.proofs.Repeated.{none_differ}
@@ -26,7 +25,7 @@ use Rattle.pl_faults.proofs.Filling.{among_put_in}
 use Rattle.pl_groups.specs.Kept.{members_in, part_kept}
 use Rattle.pl_groups.specs.declared.groups.Groups.{Groups}
 use Rattle.pl_groups.proofs.Rostered.{groups_more}
-use Rattle.pl_manager.specs.Routing.{AreOf, RoutingView, routed, tree_told_anew, trees_told_anew}
+use Rattle.pl_manager.specs.Routing.{AreOf, routed, tree_told_anew, trees_told_anew}
 use Rattle.pl_manager.specs.Telling.{AreRenewed, lists_told, listed_groups, tree_told}
 use Rattle.pl_manager.proofs.OneGroup.{only_one}
 use Rattle.pl_manager.proofs.OtherGroups.{no_tree, same_tree}
@@ -38,6 +37,12 @@ pub lists_changed : (told : Told) (m : MatrixView) → ((s : SwitchId) → hande
 lists_changed told m same =
     λ i. map (λ s. Say s (say.Avoid (avoid_list m.told s))) (filter (λ s. not (same_avoid_list (same s i) (avoid_list m.told s))) (switches m.told))
 
+-- as they are told
+pub lists_said : (told : Told) (m1 m2 : MatrixView) (o1 o2 : List ManagerAct) (changed : List SwitchId) → m2.told ≡ m1.told → changed ≡ changed_lists m1 →
+    o2 ≡ o1 ++ lists_told m2.told changed → ((s : SwitchId) → handed m1 s ≡ avoid_list told s) → o2 ≡ o1 ++ avoid_acts told m1.told
+lists_said told m1 m2 o1 o2 changed still is said was =
+    said ∙ ap (λ zs. o1 ++ zs) ((λ j. lists_told (still j) (is j)) ∙ lists_changed told m1 was)
+
 -- the parts of trees that are another one now
 pub trees_changed : (told after : Told) (kept : Groups) → ((g : ℕ) (s : SwitchId) → part_kept kept g s ≡ tree_part told (members_in kept) g s) →
     flat_map (tree_told after kept) (listed_groups kept) ≡ trees_told_anew (routed told kept) (routed after kept)
@@ -46,8 +51,7 @@ trees_changed told after kept same =
     (filter (λ s. not (same_part (same g s i) (tree_part after (members_in kept) g s))) (switches after))) (groups (members_in kept))
 
 module _ (told : Told) (m1 m2 : MatrixView) (g1 g2 : Groups) (o1 o2 o3 : List ManagerAct) (was : AreOf told m1 g1) (still : m2.told ≡ m1.told)
-    (handed_now : (s : SwitchId) → handed m2 s ≡ avoid_list m1.told s) (changed : List SwitchId) (is : changed ≡ changed_lists m1)
-    (said : o2 ≡ o1 ++ lists_told m2.told changed) (renewed : AreRenewed m2.told (listed_groups g1) g1 g2 o2 o3) where
+    (handed_now : (s : SwitchId) → handed m2 s ≡ avoid_list m1.told s) (said : o2 ≡ o1 ++ avoid_acts told m1.told) (renewed : AreRenewed m2.told (listed_groups g1) g1 g2 o2 o3) where
   part_now : (g : ℕ) (s : SwitchId) (b : Bool) → list_any (λ h. h == g) (listed_groups g1) ≡ b → part_kept g2 g s ≡ tree_part m2.told (members_in g1) g s
   part_now g s true e = renewed.renewed g s e
   part_now g s false e =
@@ -63,10 +67,35 @@ module _ (told : Told) (m1 m2 : MatrixView) (g1 g2 : Groups) (o1 o2 o3 : List Ma
   pub changes_said : o3 ≡ o1 ++ (avoid_acts told m1.told ++ trees_told_anew (routed told g1) (routed m1.told g1))
   changes_said =
       renewed.acts
-      ∙ (λ i. (said ∙ ap (λ zs. o1 ++ zs) ((λ j. lists_told (still j) (is j)) ∙ lists_changed told m1 was.lists)) i
-      ++ flat_map (tree_told (still i) g1) (listed_groups g1))
+      ∙ (λ i. said i ++ flat_map (tree_told (still i) g1) (listed_groups g1))
       ∙ (append_assoc o1 (avoid_acts told m1.told) (flat_map (tree_told m1.told g1) (listed_groups g1)))
       ∙ ap (λ zs. o1 ++ (avoid_acts told m1.told ++ zs)) (trees_changed told m1.told g1 was.parts)
+
+-- ---- a word that changes no tree
+module _ (told after : Told) (kept : Groups)
+    (same : (g : ℕ) (s : SwitchId) → tree_part after (members_in kept) g s ≡ tree_part told (members_in kept) g s) where
+  tree_silent : (g : ℕ) → tree_told_anew (routed told kept) (routed after kept) g ≡ []
+  tree_silent g =
+      ap (map (λ s. Say s (say.Tree g (tree_part after (members_in kept) g s))))
+      (none_differ (λ s. same_part (tree_part told (members_in kept) g s) (tree_part after (members_in kept) g s))
+      (λ s. (parts_alike (tree_part told (members_in kept) g s) (tree_part after (members_in kept) g s)).1 (sym (same g s))) (switches after))
+
+  all_silent : (gs : List ℕ) → flat_map (tree_told_anew (routed told kept) (routed after kept)) gs ≡ []
+  all_silent [] = refl
+  all_silent (g ∷ gs) = λ i. tree_silent g i ++ all_silent gs i
+
+  -- nothing is told of trees, and those that are kept stay right
+  pub trees_silent : (o1 o2 : List ManagerAct) → o2 ≡ o1 ++ avoid_acts told after →
+      o2 ≡ o1 ++ (avoid_acts told after ++ trees_told_anew (routed told kept) (routed after kept))
+  trees_silent o1 o2 said =
+      said ∙ ap (λ zs. o1 ++ zs) (sym (append-nil (avoid_acts told after)) ∙ ap (λ zs. avoid_acts told after ++ zs) (sym (all_silent (groups (members_in kept)))))
+
+  pub trees_still : (m : MatrixView) → m.told ≡ after → ((s : SwitchId) → handed m s ≡ avoid_list after s) →
+      ((g : ℕ) (s : SwitchId) → part_kept kept g s ≡ tree_part told (members_in kept) g s) → AreOf m.told m kept
+  trees_still m is lists parts = record {
+    lists = λ s. lists s ∙ ap (λ t. avoid_list t s) (sym is);
+    parts = λ g s. parts g s ∙ sym (same g s) ∙ ap (λ t. tree_part t (members_in kept) g s) (sym is);
+  }
 
 -- ---- a word on the members of a group
 module _ (told : Told) (m : MatrixView) (edge : SwitchId) (group : ℕ) (any : Bool) (g0 g1 g2 : Groups) (o1 o2 : List ManagerAct) (was : AreOf told m g0)

@@ -1,5 +1,5 @@
 -- A link that is as alive as before changes no tree.
-use Rattle.std.proofs.Common.{◌≡◌, ◌&&◌, ◌==◌, ℕ, Bool, true, false, cond, List, [], ◌∷◌, map, length, Option, Some, None, Ordering, Less, Equal, Greater, refl, sym, ap, ◌∙◌, subst, inl, inr}
+use Rattle.std.proofs.Common.{◌≡◌, ◌&&◌, ◌==◌, ℕ, not, Bool, true, false, cond, List, [], ◌∷◌, map, length, Option, Some, None, Ordering, Less, Equal, Greater, refl, sym, ap, ◌∙◌, subst, inl, inr}
 use Rattle.std.specs.Prelude.{unwrap_or}
 use Rattle.std.specs.List.{cons_option, filter, filter_map, find, list_any}
 use Rattle.std.specs.List.Sorted.{IsStrictlySortedBy}
@@ -8,6 +8,7 @@ use Rattle.std.specs.Ordering.{is_eq, match_ordering}
 use Rattle.std.specs.Cmp.{Equal-is}
 use Rattle.std.specs.BTreeMap.{is_at}
 use Rattle.std.specs.BTreeSet.{insert_key}
+use Rattle.std.proofs.lemmas.Bool.{not-true}
 use Rattle.pl_frame.specs.declared.address.SwitchId.{SwitchId}
 use Rattle.pl_layouts.specs.declared.place.Place.{Place}
 use Rattle.pl_layouts.specs.Equality.{same_switch}
@@ -172,3 +173,8 @@ module _ (told : Told) (s u : SwitchId) (usable : Bool) (h : is_alive (with_link
       tree_is after members group t
       ∙ (λ i. tree_by (place_of told) (λ x y. alive_after x y i) (λ z. near_after z i) (cores_after i) (needed_after members group i) group t)
       ∙ sym (tree_is told members group t)
+
+-- by the test of the code
+pub still_is : (now was : Bool) → cond was now (not now) ≡ true → now ≡ was
+still_is now true e = e
+still_is now false e = not-true now e

@@ -1,8 +1,11 @@
-ghost use Rattle.std.specs.Prelude.{◌≡◌, ◌++◌, ◌∷◌, [], ℕ, OnOk, Some, slice_get};
+ghost use Rattle.std.specs.Prelude.{◌≡◌, ◌++◌, ◌∷◌, [], ℕ, OnOk, Some, if◌then◌else◌, not, slice_get};
 ghost use Rattle.std.specs.BTreeMap.{insert_entry};
+ghost use Rattle.pl_frame.specs.declared.address.SwitchId.{SwitchId};
+ghost use Rattle.pl_core.specs.AvoidLists.{avoid_list};
 ghost use Rattle.pl_core.specs.ManagerViews.{Told, members_cmp};
 ghost use Rattle.pl_groups.specs.Kept.{members_in};
 ghost use Rattle.pl_manager_rule.specs.ManagerRule.{avoid_acts, with_link, with_place};
+ghost use Rattle.pl_faults.specs.Kept.{handed};
 ghost use Rattle.pl_manager.specs.Routing.{AreOf, routed, trees_told_anew};
 ghost use Rattle.pl_manager.specs.Telling.{AreRenewed, listed_groups};
 
@@ -31,11 +34,13 @@ pub(crate) fn tell_place(
         ++ trees_told_anew (routed matrix.old.told groups.old) (routed matrix.new.told groups.new))) }
 {
     matrix.set_place(switch, place)?;
-    tell_changes(matrix, groups, out)?;
+    tell_new_lists(matrix, out)?;
+    renew_all(groups, matrix.reports(), out)?;
     Ok(())
 }
 
-/// The same where it tells whether its link to a neighbour is usable.
+/// The same where it tells whether its link to a neighbour is usable. Where the link is as alive as before,
+/// no tree is made anew.
 pub(crate) fn tell_link(
     matrix: &mut Matrix,
     groups: &mut Groups,
@@ -51,29 +56,34 @@ pub(crate) fn tell_link(
     ensures acts { OnOk result (out.new ≡ out.old ++ (avoid_acts matrix.old.told matrix.new.told
         ++ trees_told_anew (routed matrix.old.told groups.old) (routed matrix.new.told groups.new))) }
 {
+    let was = matrix.reports().is_alive(switch, neighbour);
     matrix.report(switch, neighbour, usable)?;
-    tell_changes(matrix, groups, out)?;
+    let now = matrix.reports().is_alive(switch, neighbour);
+    tell_new_lists(matrix, out)?;
+    if is_still(now, was) {
+        return Ok(());
+    }
+    renew_all(groups, matrix.reports(), out)?;
     Ok(())
 }
 
-// What was told of places and links changed: each switch whose avoid list or part of a tree is another
-// one now is sent it, lists first.
-fn tell_changes(
-    matrix: &mut Matrix,
-    groups: &mut Groups,
-    out: &mut ManagerOutbox,
-) -> Result<(), Memory>
+// Each switch whose avoid list is another one than it was told is sent it.
+fn tell_new_lists(matrix: &mut Matrix, out: &mut ManagerOutbox) -> Result<(), Memory>
     ensures told { OnOk result (matrix.new.told ≡ matrix.old.told) }
-    ensures members { OnOk result (members_in groups.new ≡ members_in groups.old) }
-    ensures current { OnOk result ((told : Told) → AreOf told matrix.old groups.old → AreOf matrix.new.told matrix.new groups.new) }
-    ensures acts { OnOk result ((told : Told) → AreOf told matrix.old groups.old →
-        out.new ≡ out.old ++ (avoid_acts told matrix.old.told
-        ++ trees_told_anew (routed told groups.old) (routed matrix.old.told groups.old))) }
+    ensures handed { OnOk result ((s : SwitchId) → handed matrix.new s ≡ avoid_list matrix.old.told s) }
+    ensures acts { OnOk result ((told : Told) → ((s : SwitchId) → handed matrix.old s ≡ avoid_list told s) →
+        out.new ≡ out.old ++ avoid_acts told matrix.old.told) }
 {
     let changed = matrix.changed()?;
     tell_lists(matrix, &changed, out)?;
-    renew_all(groups, matrix.reports(), out)?;
     Ok(())
+}
+
+// Whether something is now what it was.
+fn is_still(now: bool, was: bool) -> bool
+    ensures { result ≡ (if was then now else not now) }
+{
+    if was { now } else { !now }
 }
 
 /// An edge switch tells whether it has members of a group: each switch whose part of that group's tree is

@@ -1,4 +1,4 @@
-use Rattle.std.proofs.Common.{◌∙◌, ap, arith, sym, subst, take_all}
+use Rattle.std.proofs.Common.{ap, arith, subst, take_all}
 use Rattle.pl_core.specs.ManagerFacts.{groups}
 use Rattle.pl_manager_rule.proofs.Avoided.{groups_rise}
 use Rattle.pl_groups.specs.Kept.{members_in}

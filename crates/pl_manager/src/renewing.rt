@@ -1,4 +1,4 @@
-ghost use Rattle.std.specs.Prelude.{◌≡◌, ◌++◌, ◌∷◌, [], ℕ, OnOk, Some, if◌then◌else◌, not, slice_get, true};
+ghost use Rattle.std.specs.Prelude.{◌≡◌, ◌↔◌, ◌++◌, ◌∷◌, [], ℕ, OnOk, Some, if◌then◌else◌, not, slice_get, IsTrue};
 ghost use Rattle.std.specs.BTreeMap.{insert_entry};
 ghost use Rattle.pl_frame.specs.declared.address.SwitchId.{SwitchId};
 ghost use Rattle.pl_core.specs.AvoidLists.{avoid_list};
@@ -84,7 +84,7 @@ fn tell_new_lists(matrix: &mut Matrix, out: &mut ManagerOutbox) -> Result<(), Me
 }
 
 fn is_same_place(a: Place, b: Place) -> bool
-    ensures { result ≡ true → a ≡ b }
+    ensures { IsTrue result ↔ (a ≡ b) }
 {
     a == b
 }

@@ -47,7 +47,7 @@ pub returns-then-is_same-clause-current : goal.returns-then-is_same-clause-curre
 returns-then-is_same-clause-current c =
     let told = c.args.matrix.now.told in let s = c.args.switch in let placed = c.in_ok-set_place.ensures.told in
     let as_before : place_of told s ≡ c.args.place =
-    ap (λ (t : Told). place_of t s) (sym c.reports.ensures) ∙ sym c.place_of.ensures ∙ c.is_same_place-is_same.ensures c.if-is_same.true in
+    ap (λ (t : Told). place_of t s) (sym c.reports.ensures) ∙ sym c.place_of.ensures ∙ c.is_same_place-is_same.ensures.0 c.if-is_same.true in
     trees_still told (with_place told s c.args.place) c.args.groups.now
     (λ g t. tree_as_placed told s c.args.place as_before (members_in c.args.groups.now) g t)
     c.tell_new_lists.new.matrix (c.in_ok-tell_new_lists.ensures.told ∙ placed)
@@ -59,7 +59,7 @@ returns-then-is_same-clause-acts c =
     let told = c.args.matrix.now.told in let s = c.args.switch in let placed = c.in_ok-set_place.ensures.told in
     let after = c.in_ok-tell_new_lists.ensures.told ∙ placed in
     let as_before : place_of told s ≡ c.args.place =
-    ap (λ (t : Told). place_of t s) (sym c.reports.ensures) ∙ sym c.place_of.ensures ∙ c.is_same_place-is_same.ensures c.if-is_same.true in
+    ap (λ (t : Told). place_of t s) (sym c.reports.ensures) ∙ sym c.place_of.ensures ∙ c.is_same_place-is_same.ensures.0 c.if-is_same.true in
     trees_silent told (with_place told s c.args.place) c.args.groups.now
     (λ g t. tree_as_placed told s c.args.place as_before (members_in c.args.groups.now) g t)
     c.args.out.now c.tell_new_lists.new.out

@@ -1,4 +1,4 @@
--- A link that is as alive as before changes no tree.
+-- A link that is as alive as before changes no tree, nor does a place that is told again.
 use Rattle.std.proofs.Common.{◌≡◌, ◌&&◌, ◌==◌, ℕ, not, Bool, true, false, cond, List, [], ◌∷◌, map, length, Option, Some, None, Ordering, Less, Equal, Greater, refl, sym, ap, ◌∙◌, subst, inl, inr}
 use Rattle.std.specs.Prelude.{unwrap_or}
 use Rattle.std.specs.List.{cons_option, filter, filter_map, find, list_any}
@@ -18,12 +18,12 @@ use Rattle.pl_core.specs.declared.messages.TreePart.{TreePart}
 use Rattle.pl_core.specs.ManagerViews.{Members, PlacedEdge, Told, alive_neighbours, edge_at, has_level, id_cmp, is_alive, is_told_usable, link_cmp, neighbours, place_of, placed_edges, switches, tellers, value_at, with_members}
 use Rattle.pl_core.specs.Trees.{core_for, core_of, cores, largest, needed_edges, tree_part, turn}
 use Rattle.pl_core.proofs.Among.{IsAmong, among_in_order, among_insert, among_left, id_total, rising_inserted}
-use Rattle.pl_manager_rule.specs.ManagerRule.{with_link}
+use Rattle.pl_manager_rule.specs.ManagerRule.{with_link, with_place}
 use Rattle.pl_manager_rule.proofs.Avoided.{id_exact, neighbours_rise, switches_rise}
 use Rattle.pl_manager_rule.proofs.History.{value_after}
 use Rattle.pl_manager_rule.proofs.Tables.{found_key}
 use Rattle.pl_reports.proofs.Ordering.{same_rising}
-use Rattle.pl_reports.proofs.Telling.{link_exact, link_total, other_neighbours, own_neighbours, switches_linked}
+use Rattle.pl_reports.proofs.Telling.{link_exact, link_total, other_neighbours, own_neighbours, switches_linked, switches_placed}
 use Rattle.pl_faults.proofs.Anew.{at_is, is_itself}
 use Rattle.pl_faults.proofs.Filling.{among_put_in}
 use Rattle.pl_groups.proofs.Edges.{alive_back, alive_neighbour}
@@ -102,6 +102,30 @@ map_without f (x ∷ xs) k none = by (map_without f xs k none) (id_cmp k x)
     by rest Equal = refl
     by rest Greater = ap (λ zs. cons_option (f x) zs) rest
 
+-- ---- one more switch, which is at no place where it told nothing before
+module _ (told : Told) (s : SwitchId) where
+  among_switches : (place : Place) → value_at id_cmp told.places s ≡ Some place → insert_key id_cmp (switches told) s ≡ switches told
+  among_switches place found =
+      insert_nothing (switches told) s (switches_rise told)
+      (among_in_order id_cmp id_exact s (tellers told)
+      (among_left s (map (λ p. p.0) told.places) (map (λ l. l.0.0) told.links) (found_key id_cmp id_exact told.places s place found)))
+
+  cores_with : filter (λ c. has_level told c 2) (insert_key id_cmp (switches told) s) ≡ cores told
+  cores_with = by (value_at id_cmp told.places s) refl
+    where
+      by : (o : Option Place) → value_at id_cmp told.places s ≡ o → filter (λ c. has_level told c 2) (insert_key id_cmp (switches told) s) ≡ cores told
+      by (Some place) e = ap (filter (λ c. has_level told c 2)) (among_switches place e)
+      by None e = filter_without (λ c. has_level told c 2) (switches told) s (ap (λ (o : Option Place). is_known (unwrap_or o nowhere).level 2) e)
+
+  edges_with : filter_map (λ z. edge_at z (place_of told z)) (insert_key id_cmp (switches told) s) ≡ placed_edges told
+  edges_with = by (value_at id_cmp told.places s) refl
+    where
+      by : (o : Option Place) → value_at id_cmp told.places s ≡ o →
+          filter_map (λ z. edge_at z (place_of told z)) (insert_key id_cmp (switches told) s) ≡ placed_edges told
+      by (Some place) e = ap (filter_map (λ z. edge_at z (place_of told z))) (among_switches place e)
+      by None e = map_without (λ z. edge_at z (place_of told z)) (switches told) s (ap (λ (o : Option Place). edge_at s (unwrap_or o nowhere)) e)
+
+-- ---- a link
 module _ (told : Told) (s u : SwitchId) (usable : Bool) (h : is_alive (with_link told s u usable) s u ≡ is_alive told s u) where
   abbrev after : Told
   after = with_link told s u usable
@@ -142,28 +166,11 @@ module _ (told : Told) (s u : SwitchId) (usable : Bool) (h : is_alive (with_link
           ap (filter (is_alive told t)) (other_neighbours told s u usable t
           (λ is. let so : is_at (id_cmp s) t ≡ true = subst (λ z. is_at (id_cmp s) z ≡ true) is (is_itself s) in absurd (cc)))
 
-  -- a switch that tells its first link is at no place
-  among_switches : (place : Place) → value_at id_cmp told.places s ≡ Some place → insert_key id_cmp (switches told) s ≡ switches told
-  among_switches place found =
-      insert_nothing (switches told) s (switches_rise told)
-      (among_in_order id_cmp id_exact s (tellers told)
-      (among_left s (map (λ p. p.0) told.places) (map (λ l. l.0.0) told.links) (found_key id_cmp id_exact told.places s place found)))
-
   cores_after : cores after ≡ cores told
-  cores_after = ap (filter (λ c. has_level told c 2)) (switches_linked told s u usable) ∙ by (value_at id_cmp told.places s) refl
-    where
-      by : (o : Option Place) → value_at id_cmp told.places s ≡ o →
-          filter (λ c. has_level told c 2) (insert_key id_cmp (switches told) s) ≡ filter (λ c. has_level told c 2) (switches told)
-      by (Some place) e = ap (filter (λ c. has_level told c 2)) (among_switches place e)
-      by None e = filter_without (λ c. has_level told c 2) (switches told) s (ap (λ (o : Option Place). is_known (unwrap_or o nowhere).level 2) e)
+  cores_after = ap (filter (λ c. has_level told c 2)) (switches_linked told s u usable) ∙ cores_with told s
 
   edges_after : placed_edges after ≡ placed_edges told
-  edges_after = ap (filter_map (λ z. edge_at z (place_of told z))) (switches_linked told s u usable) ∙ by (value_at id_cmp told.places s) refl
-    where
-      by : (o : Option Place) → value_at id_cmp told.places s ≡ o →
-          filter_map (λ z. edge_at z (place_of told z)) (insert_key id_cmp (switches told) s) ≡ placed_edges told
-      by (Some place) e = ap (filter_map (λ z. edge_at z (place_of told z))) (among_switches place e)
-      by None e = map_without (λ z. edge_at z (place_of told z)) (switches told) s (ap (λ (o : Option Place). edge_at s (unwrap_or o nowhere)) e)
+  edges_after = ap (filter_map (λ z. edge_at z (place_of told z))) (switches_linked told s u usable) ∙ edges_with told s
 
   needed_after : (members : Members) (group : ℕ) → needed_edges after members group ≡ needed_edges told members group
   needed_after members group = ap (λ es. cond (group == flood) (map (λ (e : PlacedEdge). e.switch) es) (with_members members group)) edges_after
@@ -172,6 +179,33 @@ module _ (told : Told) (s u : SwitchId) (usable : Bool) (h : is_alive (with_link
   tree_stays members group t =
       tree_is after members group t
       ∙ (λ i. tree_by (place_of told) (λ x y. alive_after x y i) (λ z. near_after z i) (cores_after i) (needed_after members group i) group t)
+      ∙ sym (tree_is told members group t)
+
+-- ---- a place that is told again
+module _ (told : Told) (s : SwitchId) (place : Place) (h : place_of told s ≡ place) where
+  abbrev placed : Told
+  placed = with_place told s place
+
+  place_after : (t : SwitchId) → place_of placed t ≡ place_of told t
+  place_after t = ap (λ (o : Option Place). unwrap_or o nowhere) (value_after id_cmp id_total id_exact told.places s t place) ∙ by (is_eq (id_cmp t s)) refl
+    where
+      by : (b : Bool) → is_eq (id_cmp t s) ≡ b → unwrap_or (cond b (Some place) (value_at id_cmp told.places t)) nowhere ≡ place_of told t
+      by true e = sym h ∙ ap (place_of told) (sym (id_exact t s ((Equal-is (id_cmp t s)).0 e)))
+      by false e = refl
+
+  cores_placed : cores placed ≡ cores told
+  cores_placed = (λ i. filter (λ c. is_known (place_after c i).level 2) (switches_placed told s place i)) ∙ cores_with told s
+
+  edges_placed : placed_edges placed ≡ placed_edges told
+  edges_placed = (λ i. filter_map (λ z. edge_at z (place_after z i)) (switches_placed told s place i)) ∙ edges_with told s
+
+  needed_placed : (members : Members) (group : ℕ) → needed_edges placed members group ≡ needed_edges told members group
+  needed_placed members group = ap (λ es. cond (group == flood) (map (λ (e : PlacedEdge). e.switch) es) (with_members members group)) edges_placed
+
+  pub tree_as_placed : (members : Members) (group : ℕ) (t : SwitchId) → tree_part placed members group t ≡ tree_part told members group t
+  tree_as_placed members group t =
+      tree_is placed members group t
+      ∙ (λ i. tree_by (λ z. place_after z i) (is_alive told) (alive_neighbours told) (cores_placed i) (needed_placed members group i) group t)
       ∙ sym (tree_is told members group t)
 
 -- by the test of the code

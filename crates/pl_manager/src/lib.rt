@@ -6,7 +6,6 @@
 #![tactic(auto)]
 
 pub use manager::Manager;
-pub use pl_core::{ManagerCore, Memory};
 
 mod manager;
 mod manager_core;

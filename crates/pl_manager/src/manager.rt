@@ -3,8 +3,8 @@ ghost use Rattle.pl_core.specs.SwitchFacts.{IsTreeSize};
 use crate::routing::Routing;
 use pl_registry::{Askers, Registry};
 
-/// The fabric manager. What it knows is as its rule says; a word that it hears is looked up and not
-/// searched for, and only what the word touches is made anew.
+/// The fabric manager. What it knows is what its rule says; pods, addresses and lists are looked up, and no
+/// tree is made anew for a word that changes none.
 #[derive(Drop)]
 pub struct Manager {
     pub(crate) k: u8,

@@ -1,4 +1,4 @@
-ghost use Rattle.std.specs.Prelude.{◌≡◌, ◌++◌, ◌∷◌, [], ℕ, OnOk, Some, if◌then◌else◌, not, slice_get};
+ghost use Rattle.std.specs.Prelude.{◌≡◌, ◌↔◌, ◌++◌, ◌∷◌, [], ℕ, OnOk, Some, if◌then◌else◌, not, slice_get, IsTrue};
 ghost use Rattle.std.specs.BTreeMap.{insert_entry};
 ghost use Rattle.pl_frame.specs.declared.address.SwitchId.{SwitchId};
 ghost use Rattle.pl_core.specs.AvoidLists.{avoid_list};
@@ -18,7 +18,7 @@ use pl_reports::Reports;
 use std::alloc::Global;
 
 /// A switch tells its place: each switch whose avoid list or part of a tree is another one now is sent it,
-/// lists first.
+/// lists first. Where the place is the same as before, no tree is made anew.
 pub(crate) fn tell_place(
     matrix: &mut Matrix,
     groups: &mut Groups,
@@ -33,8 +33,12 @@ pub(crate) fn tell_place(
     ensures acts { OnOk result (out.new ≡ out.old ++ (avoid_acts matrix.old.told matrix.new.told
         ++ trees_told_anew (routed matrix.old.told groups.old) (routed matrix.new.told groups.new))) }
 {
+    let is_same = is_same_place(matrix.reports().place_of(switch), place);
     matrix.set_place(switch, place)?;
     tell_new_lists(matrix, out)?;
+    if is_same {
+        return Ok(());
+    }
     renew_all(groups, matrix.reports(), out)?;
     Ok(())
 }
@@ -77,6 +81,12 @@ fn tell_new_lists(matrix: &mut Matrix, out: &mut ManagerOutbox) -> Result<(), Me
     let changed = matrix.changed()?;
     tell_lists(matrix, &changed, out)?;
     Ok(())
+}
+
+fn is_same_place(a: Place, b: Place) -> bool
+    ensures { IsTrue result ↔ (a ≡ b) }
+{
+    a == b
 }
 
 // Whether something is now what it was.

@@ -1,9 +1,14 @@
-use Rattle.std.proofs.Common.{◌∙◌, ◌++◌, subst, sym}
-use Rattle.pl_core.specs.ManagerViews.{Told}
-use Rattle.pl_manager_rule.specs.ManagerRule.{avoid_acts}
+use Rattle.std.proofs.Common.{◌≡◌, ◌∙◌, ◌++◌, ap, subst, sym}
+use Rattle.pl_frame.specs.declared.address.SwitchId.{SwitchId}
+use Rattle.pl_core.specs.AvoidLists.{avoid_list}
+use Rattle.pl_faults.specs.Kept.{handed}
+use Rattle.pl_groups.specs.Kept.{members_in}
+use Rattle.pl_core.specs.ManagerViews.{Told, place_of}
+use Rattle.pl_manager_rule.specs.ManagerRule.{avoid_acts, with_place}
 use Rattle.pl_manager.specs.Routing.{AreOf, routed, trees_told_anew}
 use Rattle.pl_manager.specs.Telling.{AreRenewed, listed_groups}
-use Rattle.pl_manager.proofs.Changes.{changes_kept, changes_said}
+use Rattle.pl_manager.proofs.Changes.{changes_kept, changes_said, trees_silent, trees_still}
+use Rattle.pl_manager.proofs.SameTrees.{tree_as_placed}
 use Rattle.pl_manager.proofs.renewing.tell_place.Goals as goal
 
 pub returns-clause-told : goal.returns-clause-told
@@ -20,7 +25,7 @@ returns-clause-current c =
     changes_kept told c.set_place.new.self c.tell_new_lists.new.matrix c.args.groups.now c.renew_all.new.groups
     c.args.out.now c.tell_new_lists.new.out c.renew_all.new.out was lists.told lists.handed (lists.acts told was.lists)
     (subst (λ (t : Told). AreRenewed t (listed_groups c.args.groups.now) c.args.groups.now c.renew_all.new.groups c.tell_new_lists.new.out c.renew_all.new.out)
-    c.reports.ensures c.in_ok-renew_all.ensures)
+    c.reports-2.ensures c.in_ok-renew_all.ensures)
 
 pub returns-clause-acts : goal.returns-clause-acts
 returns-clause-acts c =
@@ -30,6 +35,34 @@ returns-clause-acts c =
     changes_said told c.set_place.new.self c.tell_new_lists.new.matrix before c.renew_all.new.groups
     c.args.out.now c.tell_new_lists.new.out c.renew_all.new.out was lists.told lists.handed (lists.acts told was.lists)
     (subst (λ (t : Told). AreRenewed t (listed_groups before) before c.renew_all.new.groups c.tell_new_lists.new.out c.renew_all.new.out)
-    c.reports.ensures c.in_ok-renew_all.ensures)
+    c.reports-2.ensures c.in_ok-renew_all.ensures)
     ∙ (λ i. c.args.out.now ++ (avoid_acts told (sym lists.told i)
     ++ trees_told_anew (routed told before) (record { told = sym lists.told i; members = sym c.in_ok-renew_all.ensures.members i })))
+
+-- where the place is the same as it was
+pub returns-then-is_same-clause-told : goal.returns-then-is_same-clause-told
+returns-then-is_same-clause-told c = c.in_ok-tell_new_lists.ensures.told ∙ c.in_ok-set_place.ensures.told
+
+pub returns-then-is_same-clause-current : goal.returns-then-is_same-clause-current
+returns-then-is_same-clause-current c =
+    let told = c.args.matrix.now.told in let s = c.args.switch in let placed = c.in_ok-set_place.ensures.told in
+    let as_before : place_of told s ≡ c.args.place =
+    ap (λ (t : Told). place_of t s) (sym c.reports.ensures) ∙ sym c.place_of.ensures ∙ c.is_same_place-is_same.ensures.0 c.if-is_same.true in
+    trees_still told (with_place told s c.args.place) c.args.groups.now
+    (λ g t. tree_as_placed told s c.args.place as_before (members_in c.args.groups.now) g t)
+    c.tell_new_lists.new.matrix (c.in_ok-tell_new_lists.ensures.told ∙ placed)
+    (subst (λ (t : Told). (x : SwitchId) → handed c.tell_new_lists.new.matrix x ≡ avoid_list t x) placed c.in_ok-tell_new_lists.ensures.handed)
+    c.requires.parts
+
+pub returns-then-is_same-clause-acts : goal.returns-then-is_same-clause-acts
+returns-then-is_same-clause-acts c =
+    let told = c.args.matrix.now.told in let s = c.args.switch in let placed = c.in_ok-set_place.ensures.told in
+    let after = c.in_ok-tell_new_lists.ensures.told ∙ placed in
+    let as_before : place_of told s ≡ c.args.place =
+    ap (λ (t : Told). place_of t s) (sym c.reports.ensures) ∙ sym c.place_of.ensures ∙ c.is_same_place-is_same.ensures.0 c.if-is_same.true in
+    trees_silent told (with_place told s c.args.place) c.args.groups.now
+    (λ g t. tree_as_placed told s c.args.place as_before (members_in c.args.groups.now) g t)
+    c.args.out.now c.tell_new_lists.new.out
+    (c.in_ok-tell_new_lists.ensures.acts told (λ x. c.in_ok-set_place.ensures.handed x ∙ c.requires.lists x)
+    ∙ ap (λ (t : Told). c.args.out.now ++ avoid_acts told t) placed)
+    ∙ ap (λ (t : Told). c.args.out.now ++ (avoid_acts told t ++ trees_told_anew (routed told c.args.groups.now) (routed t c.args.groups.now))) (sym after)

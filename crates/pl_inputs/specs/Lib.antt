@@ -1,4 +1,5 @@
 pub mod Numbered
+pub mod Records
 pub mod Words
 pub mod Inputs
 pub mod Unread

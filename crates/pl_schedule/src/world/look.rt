@@ -105,12 +105,15 @@ impl<S: SwitchCore, M: ManagerCore, H: HostCore> World<S, M, H> {
         &self.hosts[h.0 as usize]
     }
 
-    /// Where a host stands.
-    pub fn stand(&self, h: HostNo) -> Stand
-        requires { h.0 < length self.now.plan.hosts }
-        ensures { slice_get self.now.stands h.0 ≡ Some result }
+    /// Where a host stands; none exactly where the wiring has no such host.
+    pub fn place_of_host(&self, h: HostNo) -> Option<Stand>
+        ensures { result ≡ slice_get self.now.stands h.0 }
     {
-        self.stands.stand_of(h)
+        if self.has_host(h) {
+            Some(self.stands.stand_of(h))
+        } else {
+            None
+        }
     }
 
     /// For how many ticks of its switch no frame of the host came there; none where it is not heard.

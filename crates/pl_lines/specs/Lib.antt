@@ -1,0 +1,4 @@
+pub mod Scenes
+pub mod Queues
+pub mod Expecting
+pub mod Lines

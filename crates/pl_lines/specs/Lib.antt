@@ -2,3 +2,4 @@ pub mod Scenes
 pub mod Queues
 pub mod Expecting
 pub mod Lines
+pub mod Asked

@@ -2,6 +2,8 @@
 //! before it and behind it, over whatever rules the switches, the manager and the hosts have.
 #![tactic(auto)]
 
+pub use laws::{a_script_is_a_run, hosts_do_what_is_asked};
 pub use stop::Stop;
 
+mod laws;
 mod stop;

@@ -1,5 +1,5 @@
 -- What the lines of a script do.
-use Rattle.std.specs.Prelude.{◌≡◌, ◌×◌, ◌⊎◌, ℕ, ◌-◌, ◌==◌, Bool, true, false, IsTrue, List, [], ◌∷◌, length, map, Option, None, Some, slice_get, slice_index_or}
+use Rattle.std.specs.Prelude.{◌≡◌, ◌⊎◌, ℕ, ◌-◌, ◌==◌, Bool, true, false, IsTrue, List, [], ◌∷◌, length, map, Option, None, Some, slice_get, slice_index_or}
 use Rattle.std.specs.List.{range_with_len}
 use Rattle.pl_wiring.specs.declared.host.HostNo.{HostNo}
 use Rattle.pl_wiring.specs.Plan.{Plan}

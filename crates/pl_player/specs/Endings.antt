@@ -1,5 +1,5 @@
 -- How a call ended that plays lines.
-use Rattle.std.specs.Prelude.{◌×◌, ℕ, Option, None, Some, Result, MatchResult}
+use Rattle.std.specs.Prelude.{ℕ, Option, None, Some, Result, MatchResult}
 use Rattle.pl_lines.specs.declared.stop.Stop.{Stop}
 use Rattle.pl_lines.specs.Scenes.{UnlessWanting}
 use Rattle.pl_player.specs.declared.player.Stopped.{Stopped}

@@ -1,5 +1,5 @@
 -- What the program's answers say.
-use Rattle.std.specs.Prelude.{◌≡◌, ◌≤◌, ◌↔◌, ◌×◌, ℕ, suc, ◌-◌, Bool, IsTrue, List, [], ◌∷◌, length, map, slice_get, Option, None, Some}
+use Rattle.std.specs.Prelude.{◌≡◌, ◌≤◌, ◌↔◌, ℕ, suc, ◌-◌, Bool, IsTrue, List, [], ◌∷◌, length, map, slice_get, Option, None, Some}
 use Rattle.std.specs.Option.{option_map_or}
 use Rattle.pl_shelf.specs.Held.{Held, Same, standard_output}
 use Rattle.pl_shelf.specs.Faults.{Rose}
@@ -138,3 +138,13 @@ Comes old new i texts e = IsStopped i e × IsUntouched old new
 -- What each answer says of a run whose inputs are read from the shelf: they were read and something came of them; or they were not.
 abbrev pub IsRun : Moment → Moment → Asked → Status → Type 0
 IsRun old new asked e = (i : Inputs) × AreRead old.held asked i × Comes old new i (texts_of asked.out i) e
+
+abbrev pub Answers : Moment → Moment → Asked → Status → Type 0
+Answers old new asked status.Done = IsRun old new asked status.Done
+Answers old new asked (status.WriteFault name) = IsRun old new asked (status.WriteFault name)
+Answers old new asked (status.ExpectFailed line) = IsRun old new asked (status.ExpectFailed line)
+Answers old new asked (status.Refused line reason) = IsRun old new asked (status.Refused line reason)
+Answers old new asked (status.StepsSpent line) = IsRun old new asked (status.StepsSpent line)
+Answers old new asked (status.JournalFull line) = IsRun old new asked (status.JournalFull line)
+Answers old new asked (status.ReadFault name) = IsUnread old.held asked (status.ReadFault name) × ReadFails old new
+Answers old new asked e = IsUnread old.held asked e × IsUntouched old new

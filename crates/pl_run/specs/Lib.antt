@@ -1,4 +1,5 @@
-pub mod SummaryExamples
 pub mod Answers
+pub mod Checks
+pub mod Generated
 pub mod Plays
 pub mod Complete

@@ -80,6 +80,7 @@ pub fn random<S: SwitchCore, M: ManagerCore, H: HostCore>(
     ensures drawn { EndsAs result (λ end. Draws S.rule M.rule H.rule steps number world.old end world.new) }
     ensures counted { EndsAs result (λ _. IsCounted world.new) }
     ensures hearing { EndsAs result (λ _. IsWithinHearing world.new) }
+    ensures plan { EndsAs result (λ _. world.new.plan ≡ world.old.plan) }
 {
     let mut x = number;
     for _ in 0..steps {

@@ -6,7 +6,8 @@
 
 pub use draws::random;
 pub use fabric::settled;
-pub use rounds::{round, sweep};
+pub use making::{make, tick_all};
+pub use rounds::{round, sweep, sweep_often};
 pub use run_laws::{
     a_sweep_is_a_run, a_sweep_visits_the_queues_in_queue_order, drawn_steps_are_a_run,
     the_rounds_of_a_settling_are_a_run,

@@ -10,8 +10,8 @@ use pl_schedule::World;
 use pl_wiring::SwitchNo;
 use pl_world::{Event, QueueName, StepError};
 
-// One step.
-pub(crate) fn make<S: SwitchCore, M: ManagerCore, H: HostCore>(
+/// One step. Where it is refused, nothing changes. After want of memory the world is not used again.
+pub fn make<S: SwitchCore, M: ManagerCore, H: HostCore>(
     world: &mut World<S, M, H>,
     event: &Event,
 ) -> Result<(), StepError>
@@ -60,8 +60,9 @@ pub(crate) fn visit<S: SwitchCore, M: ManagerCore, H: HostCore>(
     deliver(world, name, many)
 }
 
-// A tick of each switch, in label order.
-pub(crate) fn tick_all<S: SwitchCore, M: ManagerCore, H: HostCore>(
+/// A tick of each switch, in label order. Where a step is refused the steps before it stand. After want of
+/// memory the world is not used again.
+pub fn tick_all<S: SwitchCore, M: ManagerCore, H: HostCore>(
     world: &mut World<S, M, H>,
 ) -> Result<(), StepError>
     requires counted { IsCounted world.old }
@@ -69,6 +70,7 @@ pub(crate) fn tick_all<S: SwitchCore, M: ManagerCore, H: HostCore>(
     ensures made { EndsAs result (λ end. TicksAll S.rule M.rule H.rule world.old end world.new) }
     ensures counted { EndsAs result (λ _. IsCounted world.new) }
     ensures hearing { EndsAs result (λ _. IsWithinHearing world.new) }
+    ensures plan { EndsAs result (λ _. world.new.plan ≡ world.old.plan) }
 {
     let many = world.wiring().switch_count();
     for s in 0..many {

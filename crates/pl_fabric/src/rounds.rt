@@ -20,6 +20,7 @@ pub fn sweep<S: SwitchCore, M: ManagerCore, H: HostCore>(
     ensures swept { EndsAs result (λ end. Sweeps S.rule M.rule H.rule world.old end world.new) }
     ensures counted { EndsAs result (λ _. IsCounted world.new) }
     ensures hearing { EndsAs result (λ _. IsWithinHearing world.new) }
+    ensures plan { EndsAs result (λ _. world.new.plan ≡ world.old.plan) }
 {
     let mut from = 0;
     while let Some(n) = world.next_queue(from) {
@@ -31,7 +32,9 @@ pub fn sweep<S: SwitchCore, M: ManagerCore, H: HostCore>(
     Ok(())
 }
 
-fn sweep_often<S: SwitchCore, M: ManagerCore, H: HostCore>(
+/// So many sweeps, one after the other. Where a step is refused the steps before it stand. After want of
+/// memory the world is not used again.
+pub fn sweep_often<S: SwitchCore, M: ManagerCore, H: HostCore>(
     world: &mut World<S, M, H>,
     times: u32,
 ) -> Result<(), StepError>
@@ -40,6 +43,7 @@ fn sweep_often<S: SwitchCore, M: ManagerCore, H: HostCore>(
     ensures swept { EndsAs result (λ end. Times times (Sweeps S.rule M.rule H.rule) world.old end world.new) }
     ensures counted { EndsAs result (λ _. IsCounted world.new) }
     ensures hearing { EndsAs result (λ _. IsWithinHearing world.new) }
+    ensures plan { EndsAs result (λ _. world.new.plan ≡ world.old.plan) }
 {
     for _ in 0..times {
         sweep(world)?;
@@ -57,6 +61,7 @@ pub fn round<S: SwitchCore, M: ManagerCore, H: HostCore>(
     ensures went { EndsAs result (λ end. GoesRound S.rule M.rule H.rule world.old end world.new) }
     ensures counted { EndsAs result (λ _. IsCounted world.new) }
     ensures hearing { EndsAs result (λ _. IsWithinHearing world.new) }
+    ensures plan { EndsAs result (λ _. world.new.plan ≡ world.old.plan) }
 {
     tick_all(world)?;
     sweep_often(world, 4)

@@ -55,6 +55,7 @@ pub fn settle<S: SwitchCore, M: ManagerCore, H: HostCore>(
     ensures refused { IfErr result (λ reason. UnlessMemory reason (GoesRounds S.rule M.rule H.rule rounds world.old (Some reason) world.new)) }
     ensures counted { EndsAs result (λ _. IsCounted world.new) }
     ensures hearing { EndsAs result (λ _. IsWithinHearing world.new) }
+    ensures plan { EndsAs result (λ _. world.new.plan ≡ world.old.plan) }
 {
     for used in 0..rounds {
         if is_at_rest(world) {

@@ -7,8 +7,7 @@ use Rattle.pl_fabric.proofs.draws.random.Goals as goal
 
 pub loop-init : goal.loop-init
 loop-init g c = (
-  c.requires.counted,
-  c.requires.hearing,
+  record { counted = c.requires.counted; hearing = c.requires.hearing; plan = refl },
   λ left all. leads_all (λ n. Draws g.S.SwitchCore.rule g.M.ManagerCore.rule g.H.HostCore.rule n c.args.number) c.args.steps left c.args.world.now all,
 )
 
@@ -16,15 +15,18 @@ pub loop-preserved : goal.loop-preserved
 loop-preserved g c =
     let x : c.next_number-x.result ≡ next_number c.loop.x = c.next_number-x.ensures in
     let event : c.drawn-event.result ≡ drawn c.loop.world (next_number c.loop.x) = c.drawn-event.ensures ∙ ap (drawn c.loop.world) x in (
-      c.in_ok-make.ensures.counted,
-      c.in_ok-make.ensures.hearing,
+      record {
+        counted = c.in_ok-make.ensures.counted;
+        hearing = c.in_ok-make.ensures.hearing;
+        plan = c.in_ok-make.ensures.plan ∙ c.loop.invariant.0.plan;
+      },
       λ left all. subst (λ y. Leads (Draws g.S.SwitchCore.rule g.M.ManagerCore.rule g.H.HostCore.rule left y) c.make.new.world
           (Draws g.S.SwitchCore.rule g.M.ManagerCore.rule g.H.HostCore.rule c.args.steps c.args.number) c.args.world.now) (sym x)
           (led_on (Makes g.S.SwitchCore.rule g.M.ManagerCore.rule g.H.HostCore.rule (drawn c.loop.world (next_number c.loop.x)))
           (Draws g.S.SwitchCore.rule g.M.ManagerCore.rule g.H.HostCore.rule left (next_number c.loop.x))
           (Draws g.S.SwitchCore.rule g.M.ManagerCore.rule g.H.HostCore.rule c.args.steps c.args.number)
           c.loop.world c.make.new.world c.args.world.now
-          (record { on = (c.loop.invariant.2 (suc left) (omega arith)).on })
+          (record { on = (c.loop.invariant.1 (suc left) (omega arith)).on })
           (subst (λ e. Makes g.S.SwitchCore.rule g.M.ManagerCore.rule g.H.HostCore.rule e c.loop.world None c.make.new.world) event c.in_ok-make.ensures.made)),
     )
 
@@ -41,16 +43,18 @@ returns-in_err-make g c =
           (Draws g.S.SwitchCore.rule g.M.ManagerCore.rule g.H.HostCore.rule left (next_number c.loop.x))
           (Draws g.S.SwitchCore.rule g.M.ManagerCore.rule g.H.HostCore.rule c.args.steps c.args.number)
           c.loop.world c.make.new.world c.args.world.now c.in_err-make.field-0.0
-          (record { on = (c.loop.invariant.2 (suc left) all).on })
+          (record { on = (c.loop.invariant.1 (suc left) all).on })
           (subst (λ e. Makes g.S.SwitchCore.rule g.M.ManagerCore.rule g.H.HostCore.rule e c.loop.world (Some c.in_err-make.field-0.0) c.make.new.world) event stopped))
           c.in_err-make.ensures.made;
       counted = c.in_err-make.ensures.counted;
       hearing = c.in_err-make.ensures.hearing;
+      plan = unless_weaker c.in_err-make.field-0.0 _ _ (λ same. same ∙ c.loop.invariant.0.plan) c.in_err-make.ensures.plan;
     })
 
 pub returns : goal.returns
 returns g c = record {
-  drawn = (c.loop.invariant.2 0 (omega arith)).on None c.loop.world (refl, refl);
-  counted = c.loop.invariant.0;
-  hearing = c.loop.invariant.1;
+  drawn = (c.loop.invariant.1 0 (omega arith)).on None c.loop.world (refl, refl);
+  counted = c.loop.invariant.0.counted;
+  hearing = c.loop.invariant.0.hearing;
+  plan = c.loop.invariant.0.plan;
 }

@@ -1,13 +1,11 @@
 use Rattle.std.proofs.Common.{◌≡◌, ℕ, ◌+◌}
-use Rattle.pl_world.specs.Flying.{IsCounted}
-use Rattle.pl_world.specs.Hearing.{IsWithinHearing}
 use Rattle.pl_fabric.specs.Draws.{Draws}
-use Rattle.pl_fabric.proofs.CourseSteps.{Leads}
+use Rattle.pl_fabric.proofs.CourseSteps.{Keeps, Leads}
 use Rattle.pl_fabric.proofs.draws.random.Given as goal
 
 abbrev pub invariant-loop : goal.invariant-loop
 invariant-loop g l =
-    IsCounted l.world × IsWithinHearing l.world
+    Keeps l.initial.world l.world
     × ((left : ℕ) → left + l.counter ≡ l.steps →
     Leads (Draws g.S.SwitchCore.rule g.M.ManagerCore.rule g.H.HostCore.rule left l.x) l.world
     (Draws g.S.SwitchCore.rule g.M.ManagerCore.rule g.H.HostCore.rule l.steps l.number) l.initial.world)

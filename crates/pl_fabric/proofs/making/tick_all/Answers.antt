@@ -47,6 +47,7 @@ returns-in_err-make g c =
           c.in_err-make.ensures.made;
       counted = c.in_err-make.ensures.counted;
       hearing = c.in_err-make.ensures.hearing;
+      plan = unless_weaker c.in_err-make.field-0.0 _ _ (λ same. same ∙ c.loop-s.invariant.0.plan) c.in_err-make.ensures.plan;
     })
 
 pub returns : goal.returns
@@ -54,4 +55,5 @@ returns g c = record {
   made = (c.loop-s.invariant.1 0 (omega arith)).on None c.loop-s.world (refl, refl);
   counted = c.loop-s.invariant.0.counted;
   hearing = c.loop-s.invariant.0.hearing;
+  plan = c.loop-s.invariant.0.plan;
 }

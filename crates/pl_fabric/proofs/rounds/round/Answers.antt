@@ -1,4 +1,5 @@
 use Rattle.std.proofs.lemmas.Result.{err_from_is_err_and}
+use Rattle.std.proofs.Common.{◌≡◌, ◌∙◌}
 use Rattle.pl_fabric.specs.Courses.{Times}
 use Rattle.pl_fabric.specs.Rounds.{Sweeps, TicksAll}
 use Rattle.pl_fabric.proofs.CourseSteps.{ends_weaker, then_on, then_stops, unless_weaker}
@@ -14,6 +15,7 @@ returns-in_err-tick_all g c =
           c.in_err-tick_all.ensures.made;
       counted = c.in_err-tick_all.ensures.counted;
       hearing = c.in_err-tick_all.ensures.hearing;
+      plan = c.in_err-tick_all.ensures.plan;
     })
 
 pub returns : goal.returns
@@ -25,4 +27,6 @@ returns g c = record {
       c.sweep_often.result c.sweep_often.ensures.swept;
   counted = c.sweep_often.ensures.counted;
   hearing = c.sweep_often.ensures.hearing;
+  plan = ends_weaker (λ end. c.sweep_often.new.world.plan ≡ c.tick_all.new.world.plan) (λ end. c.sweep_often.new.world.plan ≡ c.args.world.now.plan)
+      (λ end same. same ∙ c.in_ok-tick_all.ensures.plan) c.sweep_often.result c.sweep_often.ensures.plan;
 }

@@ -51,6 +51,7 @@ returns-in_err-visit g c =
           c.in_err-visit.ensures.made;
       counted = c.in_err-visit.ensures.counted;
       hearing = c.in_err-visit.ensures.hearing;
+      plan = unless_weaker c.in_err-visit.field-0.0 _ _ (λ still. still ∙ same) c.in_err-visit.ensures.plan;
     })
 
 pub returns : goal.returns
@@ -62,4 +63,5 @@ returns g c =
           (next_is_first w c.loop-n.from None c.in_default.ensures.next));
       counted = c.loop-n.invariant.0.counted;
       hearing = c.loop-n.invariant.0.hearing;
+      plan = c.loop-n.invariant.0.plan;
     }

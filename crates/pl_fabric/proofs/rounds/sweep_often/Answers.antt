@@ -1,5 +1,5 @@
 use Rattle.std.proofs.lemmas.Result.{err_from_is_err_and}
-use Rattle.std.proofs.Common.{◌≡◌, ℕ, suc, ◌+◌, ◌-◌, None, refl, arith}
+use Rattle.std.proofs.Common.{◌≡◌, ℕ, suc, ◌+◌, ◌-◌, None, refl, ◌∙◌, arith}
 use Rattle.pl_fabric.specs.Courses.{Times}
 use Rattle.pl_fabric.specs.Rounds.{Sweeps}
 use Rattle.pl_fabric.proofs.CourseSteps.{leads_all, led_on, led_stops, unless_weaker}
@@ -7,19 +7,21 @@ use Rattle.pl_fabric.proofs.rounds.sweep_often.Goals as goal
 
 pub loop-init : goal.loop-init
 loop-init g c = (
-  c.requires.counted,
-  c.requires.hearing,
+  record { counted = c.requires.counted; hearing = c.requires.hearing; plan = refl },
   λ left all. leads_all (λ n. Times n (Sweeps g.S.SwitchCore.rule g.M.ManagerCore.rule g.H.HostCore.rule)) c.args.times left c.args.world.now all,
 )
 
 pub loop-preserved : goal.loop-preserved
 loop-preserved g c = (
-  c.in_ok-sweep.ensures.counted,
-  c.in_ok-sweep.ensures.hearing,
+  record {
+    counted = c.in_ok-sweep.ensures.counted;
+    hearing = c.in_ok-sweep.ensures.hearing;
+    plan = c.in_ok-sweep.ensures.plan ∙ c.loop.invariant.0.plan;
+  },
   λ left all. led_on (Sweeps g.S.SwitchCore.rule g.M.ManagerCore.rule g.H.HostCore.rule)
       (Times left (Sweeps g.S.SwitchCore.rule g.M.ManagerCore.rule g.H.HostCore.rule))
       (Times c.args.times (Sweeps g.S.SwitchCore.rule g.M.ManagerCore.rule g.H.HostCore.rule))
-      c.loop.world c.sweep.new.world c.args.world.now (c.loop.invariant.2 (suc left) (omega arith)) c.in_ok-sweep.ensures.swept,
+      c.loop.world c.sweep.new.world c.args.world.now (c.loop.invariant.1 (suc left) (omega arith)) c.in_ok-sweep.ensures.swept,
 )
 
 pub returns-in_err-sweep : goal.returns-in_err-sweep
@@ -32,15 +34,17 @@ returns-in_err-sweep g c =
           (led_stops (Sweeps g.S.SwitchCore.rule g.M.ManagerCore.rule g.H.HostCore.rule)
           (Times left (Sweeps g.S.SwitchCore.rule g.M.ManagerCore.rule g.H.HostCore.rule))
           (Times c.args.times (Sweeps g.S.SwitchCore.rule g.M.ManagerCore.rule g.H.HostCore.rule))
-          c.loop.world c.sweep.new.world c.args.world.now c.in_err-sweep.field-0.0 (c.loop.invariant.2 (suc left) all))
+          c.loop.world c.sweep.new.world c.args.world.now c.in_err-sweep.field-0.0 (c.loop.invariant.1 (suc left) all))
           c.in_err-sweep.ensures.swept;
       counted = c.in_err-sweep.ensures.counted;
       hearing = c.in_err-sweep.ensures.hearing;
+      plan = unless_weaker c.in_err-sweep.field-0.0 _ _ (λ same. same ∙ c.loop.invariant.0.plan) c.in_err-sweep.ensures.plan;
     })
 
 pub returns : goal.returns
 returns g c = record {
-  swept = (c.loop.invariant.2 0 (omega arith)).on None c.loop.world (refl, refl);
-  counted = c.loop.invariant.0;
-  hearing = c.loop.invariant.1;
+  swept = (c.loop.invariant.1 0 (omega arith)).on None c.loop.world (refl, refl);
+  counted = c.loop.invariant.0.counted;
+  hearing = c.loop.invariant.0.hearing;
+  plan = c.loop.invariant.0.plan;
 }

@@ -1,14 +1,12 @@
 use Rattle.std.proofs.Common.{◌≡◌, ℕ, ◌+◌}
-use Rattle.pl_world.specs.Flying.{IsCounted}
-use Rattle.pl_world.specs.Hearing.{IsWithinHearing}
 use Rattle.pl_fabric.specs.Courses.{Times}
 use Rattle.pl_fabric.specs.Rounds.{Sweeps}
-use Rattle.pl_fabric.proofs.CourseSteps.{Leads}
+use Rattle.pl_fabric.proofs.CourseSteps.{Keeps, Leads}
 use Rattle.pl_fabric.proofs.rounds.sweep_often.Given as goal
 
 abbrev pub invariant-loop : goal.invariant-loop
 invariant-loop g l =
-    IsCounted l.world × IsWithinHearing l.world
+    Keeps l.initial.world l.world
     × ((left : ℕ) → left + l.counter ≡ l.times →
     Leads (Times left (Sweeps g.S.SwitchCore.rule g.M.ManagerCore.rule g.H.HostCore.rule)) l.world
     (Times l.times (Sweeps g.S.SwitchCore.rule g.M.ManagerCore.rule g.H.HostCore.rule)) l.initial.world)

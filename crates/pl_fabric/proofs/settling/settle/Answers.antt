@@ -1,5 +1,5 @@
 use Rattle.std.proofs.lemmas.Result.{err_from_is_err_and}
-use Rattle.std.proofs.Common.{◌≡◌, ℕ, suc, ◌+◌, ◌-◌, None, Some, refl, arith}
+use Rattle.std.proofs.Common.{◌≡◌, ℕ, suc, ◌+◌, ◌-◌, None, Some, refl, ◌∙◌, arith}
 use Rattle.pl_fabric.specs.Rounds.{GoesRound}
 use Rattle.pl_fabric.specs.Settlings.{GoesRounds, IsAtRest}
 use Rattle.pl_fabric.proofs.CourseSteps.{leads_all, then_on, then_stops, unless_weaker}
@@ -7,18 +7,20 @@ use Rattle.pl_fabric.proofs.settling.settle.Goals as goal
 
 pub loop-used-init : goal.loop-used-init
 loop-used-init g c = (
-  c.requires.counted,
-  c.requires.hearing,
+  record { counted = c.requires.counted; hearing = c.requires.hearing; plan = refl },
   λ n all is. leads_all (GoesRounds g.S.SwitchCore.rule g.M.ManagerCore.rule g.H.HostCore.rule) all n c.args.world.now is,
 )
 
 pub loop-used-preserved : goal.loop-used-preserved
 loop-used-preserved g c =
     let unrest : IsAtRest c.loop-used.world → ⊥ = (λ rest. let is = c.is_at_rest.ensures.1 rest in let not = c.if-is_at_rest.false in absurd (cc)) in (
-      c.in_ok-round.ensures.counted,
-      c.in_ok-round.ensures.hearing,
+      record {
+        counted = c.in_ok-round.ensures.counted;
+        hearing = c.in_ok-round.ensures.hearing;
+        plan = c.in_ok-round.ensures.plan ∙ c.loop-used.invariant.0.plan;
+      },
       λ n all is. record {
-        on = λ end new rest. (c.loop-used.invariant.2 (suc n) all (omega arith)).on end new (
+        on = λ end new rest. (c.loop-used.invariant.1 (suc n) all (omega arith)).on end new (
           unrest,
           then_on (GoesRound g.S.SwitchCore.rule g.M.ManagerCore.rule g.H.HostCore.rule)
               (GoesRounds g.S.SwitchCore.rule g.M.ManagerCore.rule g.H.HostCore.rule n) c.loop-used.world c.round.new.world end new
@@ -36,7 +38,7 @@ returns-in_err-round g c =
     rw (p.1, p.2) (record {
       settles = tt;
       refused = unless_weaker c.in_err-round.field-0.0 _ _
-          (λ stopped. (c.loop-used.invariant.2 (suc left) c.args.rounds all).on (Some c.in_err-round.field-0.0) c.round.new.world (
+          (λ stopped. (c.loop-used.invariant.1 (suc left) c.args.rounds all).on (Some c.in_err-round.field-0.0) c.round.new.world (
             unrest,
             then_stops (GoesRound g.S.SwitchCore.rule g.M.ManagerCore.rule g.H.HostCore.rule)
                 (GoesRounds g.S.SwitchCore.rule g.M.ManagerCore.rule g.H.HostCore.rule left) c.loop-used.world c.round.new.world c.in_err-round.field-0.0 stopped,
@@ -44,6 +46,7 @@ returns-in_err-round g c =
           c.in_err-round.ensures.went;
       counted = c.in_err-round.ensures.counted;
       hearing = c.in_err-round.ensures.hearing;
+      plan = unless_weaker c.in_err-round.field-0.0 _ _ (λ same. same ∙ c.loop-used.invariant.0.plan) c.in_err-round.ensures.plan;
     })
 
 pub returns-then-is_at_rest : goal.returns-then-is_at_rest
@@ -52,26 +55,28 @@ returns-then-is_at_rest g c =
     record {
       settles = record {
         used = c.loop-used.used;
-        rounds = (c.loop-used.invariant.2 0 c.loop-used.used (omega arith)).on None c.loop-used.world (refl, refl);
+        rounds = (c.loop-used.invariant.1 0 c.loop-used.used (omega arith)).on None c.loop-used.world (refl, refl);
         within = omega arith;
         least = λ less. rest;
         answered = (rest.settled, refl);
       };
       refused = tt;
-      counted = c.loop-used.invariant.0;
-      hearing = c.loop-used.invariant.1;
+      counted = c.loop-used.invariant.0.counted;
+      hearing = c.loop-used.invariant.0.hearing;
+      plan = c.loop-used.invariant.0.plan;
     }
 
 pub returns : goal.returns
 returns g c = record {
   settles = record {
     used = c.args.rounds;
-    rounds = (c.loop-used.invariant.2 0 c.args.rounds (omega arith)).on None c.loop-used.world (refl, refl);
+    rounds = (c.loop-used.invariant.1 0 c.args.rounds (omega arith)).on None c.loop-used.world (refl, refl);
     within = omega arith;
     least = λ less. absurd (omega arith);
     answered = c.answer.ensures;
   };
   refused = tt;
-  counted = c.loop-used.invariant.0;
-  hearing = c.loop-used.invariant.1;
+  counted = c.loop-used.invariant.0.counted;
+  hearing = c.loop-used.invariant.0.hearing;
+  plan = c.loop-used.invariant.0.plan;
 }

@@ -50,7 +50,7 @@ module _ (rule : SwitchRule) (one_way : LeavesSwitchNoChoice rule) where
   switch_turns w s input speech a b one other =
       let same : other.before ≡ one.before = found_once w.switches s other.before one.before other.found one.found in
       let both = one_way one.before input one.after other.after one.acts other.acts one.ruled
-          (subst (λ (v : SwitchView). rule v input other.after other.acts) same other.ruled) in
+      (subst (λ (v : SwitchView). rule v input other.after other.acts) same other.ruled) in
       one.changed
       ∙ ap (λ (v : SwitchView). switch_stepped w s v one.after speech one.acts) (sym same)
       ∙ ap (λ (v : SwitchView). switch_stepped w s other.before v speech one.acts) both.0
@@ -88,7 +88,7 @@ module _ (rule : HostRule) (one_way : LeavesHostNoChoice rule) where
   host_turns w h input answer a b one other =
       let same : other.before ≡ one.before = found_once w.hosts h other.before one.before other.found one.found in
       let both = one_way one.before input one.after other.after one.acts other.acts answer answer one.ruled
-          (subst (λ (view : HostView). rule view input other.after other.acts answer) same other.ruled) in
+      (subst (λ (view : HostView). rule view input other.after other.acts answer) same other.ruled) in
       one.changed
       ∙ ap (λ (view : HostView). host_stepped w h view one.acts) both.0
       ∙ ap (λ (acts : List HostAct). host_stepped w h other.after acts) both.1
@@ -101,8 +101,8 @@ module _ (rule : HostRule) (one_way : LeavesHostNoChoice rule) where
   plays : (w : WorldView) (h : ℕ) (input : HostInput) (a b : WorldView) → HostPlays rule w h input a → HostPlays rule w h input b → a ≡ b
   plays w h input a b one other =
       let answers : Played one.skip ≡ Played other.skip =
-          same_answers (skip_noted w h one.skip) (skip_noted w h other.skip) h input (Played one.skip) (Played other.skip) a b
-          (skip_hosts w h one.skip ∙ sym (skip_hosts w h other.skip)) one.turn other.turn in
+      same_answers (skip_noted w h one.skip) (skip_noted w h other.skip) h input (Played one.skip) (Played other.skip) a b
+      (skip_hosts w h one.skip ∙ sym (skip_hosts w h other.skip)) one.turn other.turn in
       let same : other.skip ≡ one.skip = cc in
       host_turns (skip_noted w h one.skip) h input (Played one.skip) a b one.turn
       (subst (λ (skip : Option Skip). HostTurn rule (skip_noted w h skip) h input (Played skip) b) same other.turn)
@@ -114,9 +114,9 @@ module _ (rule : HostRule) (one_way : LeavesHostNoChoice rule) where
   receives : (w : WorldView) (h id : ℕ) (frame : List ℕ) (a b : WorldView) → HostReceives rule w h id frame a → HostReceives rule w h id frame b → a ≡ b
   receives w h id frame a b one other =
       let answers : Received one.reception ≡ Received other.reception =
-          same_answers (reception_noted w h id frame one.reception) (reception_noted w h id frame other.reception) h (Receives frame)
-          (Received one.reception) (Received other.reception) a b
-          (reception_hosts w h id frame one.reception ∙ sym (reception_hosts w h id frame other.reception)) one.turn other.turn in
+      same_answers (reception_noted w h id frame one.reception) (reception_noted w h id frame other.reception) h (Receives frame)
+      (Received one.reception) (Received other.reception) a b
+      (reception_hosts w h id frame one.reception ∙ sym (reception_hosts w h id frame other.reception)) one.turn other.turn in
       let same : other.reception ≡ one.reception = cc in
       host_turns (reception_noted w h id frame one.reception) h (Receives frame) (Received one.reception) a b one.turn
       (subst (λ (reception : Reception). HostTurn rule (reception_noted w h id frame reception) h (Receives frame) (Received reception) b) same other.turn)
@@ -138,7 +138,7 @@ module _ (rule : ManagerRule) (one_way : LeavesManagerNoChoice rule) where
   manager_turns w s told a b one other =
       let same : other.id ≡ one.id = found_once w.plan.ids s other.id one.id other.found one.found in
       let both = one_way w.manager one.id told one.after other.after one.acts other.acts one.ruled
-          (subst (λ (id : SwitchId). rule w.manager id told other.after other.acts) same other.ruled) in
+      (subst (λ (id : SwitchId). rule w.manager id told other.after other.acts) same other.ruled) in
       one.changed
       ∙ ap (λ (view : ManagerView). manager_stepped w view one.acts) both.0
       ∙ ap (λ (acts : List ManagerAct). manager_stepped w other.after acts) both.1

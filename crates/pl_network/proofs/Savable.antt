@@ -128,7 +128,7 @@ module _ (plan : Plan) where
     makes d frame g =
         let late : Saves plan (with_late d) = notes_all d.world d.late g.late g.world in
         let made : Saves plan (noted (with_late d) (Made (d.world.begun + 1) (switch_no s) frame)) =
-            notes (with_late d) (Made (d.world.begun + 1) (switch_no s) frame) (record { named = there; carried = tt }) late in
+        notes (with_late d) (Made (d.world.begun + 1) (switch_no s) frame) (record { named = there; carried = tt }) late in
         record {
           world = notes (noted (with_late d) (Made (d.world.begun + 1) (switch_no s) frame)) (Crossed (d.world.begun + 1) (switch_no s))
               (record { named = there; carried = tt }) made;
@@ -158,7 +158,7 @@ module _ (plan : Plan) where
         goes (in_world d (crossed_again d.world s id again)) id port frame (record { world = crosses d.world id again g.world; late = g.late })
     passes d port frame (Passed id) g =
         let copied : Saves plan (noted d.world (Copied id (d.world.begun + 1))) =
-            notes d.world (Copied id (d.world.begun + 1)) (record { named = tt; carried = tt }) g.world in
+        notes d.world (Copied id (d.world.begun + 1)) (record { named = tt; carried = tt }) g.world in
         record {
           world = record { same = copied.same; all = copied.all };
           late = late_or_more (is_failed_at d.world s port) d.late (Dropped (d.world.begun + 1) cause.LinkDown) (record { named = tt; carried = tt }) g.late;
@@ -209,7 +209,7 @@ module _ (plan : Plan) where
   host_acts w h [] there saves = saves
   host_acts w h (Send frame ∷ acts) there saves =
       let sent : Saves plan (noted w (Sent (w.begun + 1) (host_no h) frame)) =
-          notes w (Sent (w.begun + 1) (host_no h) frame) (record { named = there; carried = tt }) saves in
+      notes w (Sent (w.begun + 1) (host_no h) frame) (record { named = there; carried = tt }) saves in
       host_acts (host_act_done h w (Send frame)) h acts there (record { same = sent.same; all = sent.all })
 
   host_saves : (rule : HostRule) (w : WorldView) (h : ℕ) (input : HostInput) (answer : HostAnswer) (new : WorldView) → IsHost plan h → Saves plan w →
@@ -357,7 +357,7 @@ module _ (plan : Plan) where
   fails w a b (Some link) new found is saves same =
       let lower : ℕ = port_index w.plan.k link.lower.0 link.lower_port in
       let down : All (IsSavable plan) (w.journal ++ LinkDown link.lower link.upper ∷ []) =
-          All-push (IsSavable plan) w.journal (LinkDown link.lower link.upper) saves.all (record { named = ends_there w a b link is saves.same found; carried = tt }) in
+      All-push (IsSavable plan) w.journal (LinkDown link.lower link.upper) saves.all (record { named = ends_there w a b link is saves.same found; carried = tt }) in
       subst (λ (x : WorldView). Saves plan x) (sym same) (record {
         same = saves.same;
         all = adds_ends ((w.journal ++ LinkDown link.lower link.upper ∷ []) ++ ends_of cause.LinkDown (items_at w.out lower)) cause.LinkDown
@@ -369,7 +369,7 @@ module _ (plan : Plan) where
   is_repaired w a b None new found is saves same = absurd same
   is_repaired w a b (Some link) new found is saves same =
       let up : All (IsSavable plan) (w.journal ++ LinkUp link.lower link.upper ∷ []) =
-          All-push (IsSavable plan) w.journal (LinkUp link.lower link.upper) saves.all (record { named = ends_there w a b link is saves.same found; carried = tt }) in
+      All-push (IsSavable plan) w.journal (LinkUp link.lower link.upper) saves.all (record { named = ends_there w a b link is saves.same found; carried = tt }) in
       subst (λ (x : WorldView). Saves plan x) (sym same) (record { same = saves.same; all = up })
 
   lost : (w : WorldView) (item : Item) → Saves plan w → Saves plan (item_lost w item)
@@ -387,7 +387,7 @@ module _ (plan : Plan) where
   moves rule w h to (Some from) new there many saves turn =
       let host : IsHost plan h = host_there rule (host_moved w h from to) h _ _ new (record { switches = many.switches; hosts = many.hosts }) turn in
       let moved : All (IsSavable plan) (w.journal ++ Moved (host_no h) to.edge to.port ∷ []) =
-          All-push (IsSavable plan) w.journal (Moved (host_no h) to.edge to.port) saves.all (record { named = (host, there); carried = tt }) in
+      All-push (IsSavable plan) w.journal (Moved (host_no h) to.edge to.port) saves.all (record { named = (host, there); carried = tt }) in
       host_saves rule (host_moved w h from to) h _ _ new host (record {
         same = saves.same;
         all = adds_ends ((w.journal ++ Moved (host_no h) to.edge to.port ∷ []) ++ ends_of cause.HostGone (items_at w.from_hosts h)) cause.HostGone

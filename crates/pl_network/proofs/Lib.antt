@@ -1,0 +1,3 @@
+pub mod Savable
+pub mod Determined
+pub mod ExactRules

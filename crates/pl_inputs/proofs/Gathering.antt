@@ -1,7 +1,7 @@
 -- What was read of a shelf that holds the same is what was read of the shelf at first.
-use Rattle.std.proofs.Common.{◌≡◌, ℕ, suc, ◌+◌, ◌-◌, ◌≤◌, List, [], ◌∷◌, ◌++◌, length, take, slice_get, Option, Some, None, Result, Ok, Err, All, true, refl, sym, ap, ◌∙◌, subst, inl, inr, zero-add, arith}
+use Rattle.std.proofs.Common.{◌≡◌, ℕ, suc, ◌+◌, ◌-◌, ◌≤◌, List, [], ◌∷◌, ◌++◌, length, take, slice_get, Option, Some, None, refl, sym, ap, ◌∙◌, subst, inl, inr, zero-add, arith}
 use Rattle.std.proofs.lemmas.List.{take_more}
-use Rattle.std.proofs.lemmas.List.Sums.{sum_by-append, AllPass-from_list_all}
+use Rattle.std.proofs.lemmas.List.Sums.{sum_by-append}
 use Rattle.std.proofs.lemmas.Option.{get_or_from_slice_get, slice_get_within}
 use Rattle.pl_shelf.specs.Held.{Held, IsLonger, IsWhole, Same}
 use Rattle.pl_wiring.specs.declared.host.Host.{Host}
@@ -11,29 +11,16 @@ use Rattle.pl_inputs.specs.declared.status.Status.{Status}
 use Rattle.pl_inputs.specs.declared.status.Status.TheVariants as status
 use Rattle.pl_inputs.specs.Gathered.{IsUngathered, IsUntaken}
 use Rattle.pl_inputs.specs.Folders.{in_folder}
-use Rattle.pl_inputs.specs.Inputs.{AreCaptures, HasLines, HasPlan, IsCapture, IsCaptureAt, IsLoaded, all_bytes, captures_limit, text_limit, built_plan, is_at_first_edge}
+use Rattle.pl_inputs.specs.Inputs.{AreCaptures, HasLines, HasPlan, IsCapture, IsCaptureAt, IsLoaded, all_bytes, captures_limit, text_limit}
 use Rattle.pl_inputs.specs.Loads.{IsUnplanned, IsUnscripted}
 use Rattle.pl_inputs.specs.Unread.{AreTextsRead, ComesTo, IsNextCapture, IsRefusedCapture, IsTooMuch, IsUnread}
 use Rattle.pl_inputs.specs.Words.{Asked}
-use Rattle.std.specs.List.{list_all}
-use Rattle.std.proofs.lemmas.Bool.{cases_Bool, cond-false, cond-true, eqb-true}
-use Rattle.std.proofs.lemmas.List.Elements.{All-weaker}
-use Rattle.pl_topology.specs.declared.error.TopologyError.{TopologyError}
-use Rattle.pl_topology.specs.Meaning.{topology_of}
-use Rattle.pl_inputs.specs.declared.status.TopologyReason.{TopologyReason}
-use Rattle.pl_inputs.specs.declared.status.TopologyReason.TheVariants.{NotBuilt}
-
-abbrev got : Plan → Result Plan TopologyReason
-got p = Ok p
 
 same_whole : {old new : List ℕ → Held} → Same old new → (name file : List ℕ) → IsWhole (new name) file → IsWhole (old name) file
 same_whole same name file whole = subst (λ h. IsWhole h file) (same name) whole
 
 same_longer : {old new : List ℕ → Held} → Same old new → (name : List ℕ) (limit : ℕ) → IsLonger (new name) limit → IsLonger (old name) limit
 same_longer same name limit longer = subst (λ h. IsLonger h limit) (same name) longer
-
-same_Ok : (p q : Plan) → got p ≡ got q → p ≡ q
-same_Ok p q e = cc
 
 pub same_loaded : {old new : List ℕ → Held} → Same old new → (name : List ℕ) (limit : ℕ) (file : List ℕ) → IsLoaded new name limit file → IsLoaded old name limit file
 same_loaded same name limit file loaded = record { whole = same_whole same name file loaded.whole; within = loaded.within }
@@ -91,20 +78,15 @@ same_refused same folder hosts n e r = record {
   refused = r.refused;
 }
 
--- a topology that is not played
+-- a topology that was not read, or is refused
 pub unplanned : (held : List ℕ → Held) (asked : Asked) (e : Status) → IsUnplanned held asked.topology e → IsUnread held asked e
 unplanned held asked (status.ReadFault name) u = inl u
 unplanned held asked (status.TooLong name) u = inl (u.0, subst (λ n. IsLonger (held n) text_limit) (sym u.0) u.1)
 unplanned held asked (status.BadTopology reason) u = u
 unplanned held asked status.OutOfMemory u = tt
-unplanned held asked status.Done u = u
-unplanned held asked status.Usage u = u
-unplanned held asked (status.BadScript n reason) u = absurd u
-unplanned held asked (status.BadCapture host e at) u = absurd u
-unplanned held asked (status.WriteFault name) u = u
-unplanned held asked (status.Refused n reason) u = u
+unplanned held asked _ u = absurd u
 
--- a script that is not played
+-- a script that was not read, or is refused
 pub unscripted : (old new : List ℕ → Held) → Same old new → (asked : Asked) (plan : Plan) → HasPlan old asked.topology plan → (e : Status) →
     IsUnscripted new asked.script plan e → IsUnread old asked e
 unscripted old new same asked plan has (status.ReadFault name) u = inr (inl (plan, has, u))
@@ -112,12 +94,7 @@ unscripted old new same asked plan has (status.TooLong name) u =
     inr (inl (plan, has, u.0, same_longer same name text_limit (subst (λ n. IsLonger (new n) text_limit) (sym u.0) u.1)))
 unscripted old new same asked plan has (status.BadScript n reason) u = (plan, has, (u.0, same_loaded same asked.script text_limit u.0 u.1, u.2))
 unscripted old new same asked plan has status.OutOfMemory u = tt
-unscripted old new same asked plan has status.Done u = u
-unscripted old new same asked plan has status.Usage u = u
-unscripted old new same asked plan has (status.BadTopology reason) u = absurd u
-unscripted old new same asked plan has (status.BadCapture host e at) u = absurd u
-unscripted old new same asked plan has (status.WriteFault name) u = u
-unscripted old new same asked plan has (status.Refused n reason) u = u
+unscripted old new same asked plan has _ u = absurd u
 
 texts_read : {old new : List ℕ → Held} → Same old new → (asked : Asked) (plan : Plan) (lines : List ScriptLine) → HasPlan old asked.topology plan →
     HasLines new asked.script plan lines → AreTextsRead old asked plan
@@ -134,12 +111,7 @@ ungathered old mid new first same asked plan lines has written (status.TooLong n
 ungathered old mid new first same asked plan lines has written (status.BadCapture host e at) u =
     (plan, texts_read first asked plan lines has written, same_refused same asked.captures plan.hosts host.0 e u.0, u.1)
 ungathered old mid new first same asked plan lines has written status.OutOfMemory u = tt
-ungathered old mid new first same asked plan lines has written status.Done u = u
-ungathered old mid new first same asked plan lines has written status.Usage u = u
-ungathered old mid new first same asked plan lines has written (status.BadTopology reason) u = absurd u
-ungathered old mid new first same asked plan lines has written (status.BadScript n reason) u = absurd u
-ungathered old mid new first same asked plan lines has written (status.WriteFault name) u = u
-ungathered old mid new first same asked plan lines has written (status.Refused n reason) u = u
+ungathered old mid new first same asked plan lines has written _ u = absurd u
 
 -- one host more
 one_capture_more : (held : List ℕ → Held) (folder : List ℕ) (hosts : List Host) (files : List (List ℕ)) (h : Host) (file : List ℕ) →
@@ -175,15 +147,7 @@ untaken_by : (old new : List ℕ → Held) (folder : List ℕ) (hosts : List Hos
     Gathers old new folder hosts n files left → slice_get hosts n ≡ Some host → (capture : Option (List ℕ)) → host.capture ≡ capture → (e : Status) →
     IsUntaken new folder capture n left e → IsUngathered old folder hosts e
 untaken_by old new folder hosts n files left host g stands None is status.OutOfMemory u = tt
-untaken_by old new folder hosts n files left host g stands None is (status.ReadFault name) u = absurd u
-untaken_by old new folder hosts n files left host g stands None is (status.TooLong name) u = absurd u
-untaken_by old new folder hosts n files left host g stands None is (status.BadCapture h e at) u = absurd u
-untaken_by old new folder hosts n files left host g stands None is status.Done u = u
-untaken_by old new folder hosts n files left host g stands None is status.Usage u = u
-untaken_by old new folder hosts n files left host g stands None is (status.BadTopology reason) u = u
-untaken_by old new folder hosts n files left host g stands None is (status.BadScript m reason) u = u
-untaken_by old new folder hosts n files left host g stands None is (status.WriteFault name) u = u
-untaken_by old new folder hosts n files left host g stands None is (status.Refused m reason) u = u
+untaken_by old new folder hosts n files left host g stands None is _ u = absurd u
 untaken_by old new folder hosts n files left host g stands (Some file) is status.OutOfMemory u = tt
 untaken_by old new folder hosts n files left host g stands (Some file) is (status.ReadFault name) u = record {
   n = n;
@@ -213,12 +177,7 @@ untaken_by old new folder hosts n files left host g stands (Some file) is (statu
   }),
   u.1,
 )
-untaken_by old new folder hosts n files left host g stands (Some file) is status.Done u = u
-untaken_by old new folder hosts n files left host g stands (Some file) is status.Usage u = u
-untaken_by old new folder hosts n files left host g stands (Some file) is (status.BadTopology reason) u = u
-untaken_by old new folder hosts n files left host g stands (Some file) is (status.BadScript m reason) u = u
-untaken_by old new folder hosts n files left host g stands (Some file) is (status.WriteFault name) u = u
-untaken_by old new folder hosts n files left host g stands (Some file) is (status.Refused m reason) u = u
+untaken_by old new folder hosts n files left host g stands (Some file) is _ u = absurd u
 
 pub untaken : (old new : List ℕ → Held) (folder : List ℕ) (hosts : List Host) (n : ℕ) (files : List (List ℕ)) (left : ℕ) (host : Host) →
     Gathers old new folder hosts n files left → slice_get hosts n ≡ Some host → (e : Status) →
@@ -235,23 +194,6 @@ gathers_on old mid new folder hosts n files left host file g same stands is read
   limit = let limit = g.limit in let more = more_bytes files file in omega arith;
   same = λ q. same q ∙ g.same q;
 }
-
-is_here : (h : Host) → is_at_first_edge h ≡ true → h.edge.0 ≡ 0
-is_here h at = eqb-true h.edge.0 0 at
-
-built_here : (r : Result Plan TopologyError) (plan : Plan) → built_plan r ≡ Ok plan → All (λ h. h.edge.0 ≡ 0) plan.hosts
-built_here (Err e) plan is = cc
-built_here (Ok p) plan is = elim (cases_Bool (list_all is_at_first_edge p.hosts)) [
-  | inl all ↦
-      let same : p ≡ plan = same_Ok p plan (sym (cond-true (list_all is_at_first_edge p.hosts) (Ok p) (Err NotBuilt) all) ∙ is) in
-      subst (λ (q : Plan). All (λ h. h.edge.0 ≡ 0) q.hosts) same
-      (All-weaker (λ h. is_at_first_edge h ≡ true) (λ h. h.edge.0 ≡ 0) is_here p.hosts (AllPass-from_list_all is_at_first_edge p.hosts all))
-  | inr some ↦ absurd (let e = sym (cond-false (list_all is_at_first_edge p.hosts) (Ok p) (Err NotBuilt) some) ∙ is in cc)
-]
-
--- the hosts of a topology that is played stand at the first edge switch
-pub hosts_are_here : (held : List ℕ → Held) (name : List ℕ) (plan : Plan) → HasPlan held name plan → All (λ h. h.edge.0 ≡ 0) plan.hosts
-hosts_are_here held name plan has = built_here (topology_of has.0) plan has.2
 
 -- there are as many captures as hosts
 pub as_many : (held : List ℕ → Held) (folder : List ℕ) (hosts : List Host) (files : List (List ℕ)) → AreCaptures held folder hosts files → length files ≡ length hosts

@@ -5,16 +5,17 @@ use Rattle.pl_capture.specs.declared.error.CaptureError.{CaptureError}
 use Rattle.pl_capture.specs.CaptureError.{offset_of}
 use Rattle.pl_capture.specs.Capture.{reading_of}
 use Rattle.pl_topology.specs.declared.error.TopologyError.TheVariants as topology
+use Rattle.pl_topology.specs.Meaning.{topology_of}
 use Rattle.pl_wiring.specs.declared.host.Host.{Host}
 use Rattle.pl_wiring.specs.Plan.{Plan}
 use Rattle.pl_script.specs.declared.error.ScriptError.TheVariants.{Line}
 use Rattle.pl_script.specs.declared.script.ScriptLine.{ScriptLine}
+use Rattle.pl_script.specs.Meaning.{script_of}
 use Rattle.pl_inputs.specs.declared.status.Status.{Status}
 use Rattle.pl_inputs.specs.declared.status.Status.TheVariants as status
-use Rattle.pl_inputs.specs.declared.status.TopologyReason.TheVariants.{Refused}
 use Rattle.pl_inputs.specs.Words.{Asked}
 use Rattle.pl_inputs.specs.Folders.{in_folder}
-use Rattle.pl_inputs.specs.Inputs.{AreCaptures, HasLines, HasPlan, IsCaptureAt, IsLoaded, all_bytes, captures_limit, lines_of, plan_of, text_limit}
+use Rattle.pl_inputs.specs.Inputs.{AreCaptures, HasLines, HasPlan, IsCaptureAt, IsLoaded, all_bytes, captures_limit, text_limit}
 
 -- the topology and the script were accepted
 pub record AreTextsRead (held : List ℕ → Held) (asked : Asked) (plan : Plan) : Type 0 where
@@ -76,11 +77,11 @@ abbrev pub IsUnread : (List ℕ → Held) → Asked → Status → Type 0
 IsUnread held asked (status.ReadFault name) = IsReadName held asked name
 IsUnread held asked (status.TooLong name) = IsLongName held asked name
 IsUnread held asked (status.BadTopology reason) =
-    (reason ≢ Refused topology.Memory)
-    × ((file : List ℕ) × IsLoaded held asked.topology text_limit file × (plan_of file ≡ Err reason))
+    (reason ≢ topology.Memory)
+    × ((file : List ℕ) × IsLoaded held asked.topology text_limit file × (topology_of file ≡ Err reason))
 IsUnread held asked (status.BadScript n reason) =
     (plan : Plan) × HasPlan held asked.topology plan
-    × ((file : List ℕ) × IsLoaded held asked.script text_limit file × (lines_of plan file ≡ Err (Line n reason)))
+    × ((file : List ℕ) × IsLoaded held asked.script text_limit file × (script_of plan file ≡ Err (Line n reason)))
 IsUnread held asked (status.BadCapture host e at) =
     (plan : Plan) × AreTextsRead held asked plan × IsRefusedCapture held asked.captures plan.hosts host.0 e × (at ≡ offset_of e)
 IsUnread held asked status.OutOfMemory = Unit {0}

@@ -1,51 +1,121 @@
 -- Worked examples of what words ask for.
-use Rattle.std.specs.Prelude.{◌≡◌, ℕ, List, [], ◌∷◌, ◌++◌, codes, Some, None, refl}
-use Rattle.pl_inputs.specs.Words.{name_of, given_by, given_in, items_of, asked_in, asked_of}
+use Rattle.std.specs.Prelude.{◌≡◌, ℕ, List, [], ◌∷◌, ◌++◌, codes, Option, Some, None, refl}
+use Rattle.pl_script.specs.Numbers.{number_of}
+use Rattle.pl_inputs.specs.Words.{Task, Run, Check, Generate, given_by, given_in, items_of, generation_of, task_of}
 
-abbrev run : List (List ℕ) → List (List ℕ)
-run words = codes "portland" ∷ codes "run" ∷ words
+abbrev asks : List (List ℕ) → Option Task
+asks words = task_of (codes "portland" ∷ words)
+
+-- run
 
 abbrev three : List (List ℕ)
 three = codes "--topology=t" ∷ codes "--script" ∷ codes "s" ∷ codes "--captures=c" ∷ []
 
-in_any_order_and_form : asked_of (run (codes "--out" ∷ codes "o=p" ∷ three))
-    ≡ Some (record { topology = codes "t"; script = codes "s"; captures = codes "c"; out = codes "o=p" })
-unfolding name_of given_by given_in items_of asked_in asked_of
+abbrev runs_into : List ℕ → Option Task
+runs_into out = Some (Run (record { topology = codes "t"; script = codes "s"; captures = codes "c"; out = out }))
+
+in_any_order_and_form : asks (codes "run" ∷ codes "--out" ∷ codes "o=p" ∷ three) ≡ runs_into (codes "o=p")
+unfolding given_by given_in items_of task_of
 in_any_order_and_form = refl
 
-a_dash_behind_equals : asked_of (run (codes "--out=-o=" ∷ three))
-    ≡ Some (record { topology = codes "t"; script = codes "s"; captures = codes "c"; out = codes "-o=" })
-unfolding name_of given_by given_in items_of asked_in asked_of
+a_dash_behind_equals : asks (codes "run" ∷ codes "--out=-o=" ∷ three) ≡ runs_into (codes "-o=")
+unfolding given_by given_in items_of task_of
 a_dash_behind_equals = refl
 
-a_dash_in_a_word_of_its_own : asked_of (run (codes "--out" ∷ codes "-o" ∷ three)) ≡ None
-unfolding name_of given_by given_in items_of asked_in asked_of
+a_dash_in_a_word_of_its_own : asks (codes "run" ∷ codes "--out" ∷ codes "-o" ∷ three) ≡ None
+unfolding given_by given_in items_of task_of
 a_dash_in_a_word_of_its_own = refl
 
-nothing_behind_equals : asked_of (run (codes "--out=" ∷ three)) ≡ None
-unfolding name_of given_by given_in items_of asked_in asked_of
+nothing_behind_equals : asks (codes "run" ∷ codes "--out=" ∷ three) ≡ None
+unfolding given_by given_in items_of task_of
 nothing_behind_equals = refl
 
-no_value : asked_of (run (three ++ codes "--out" ∷ [])) ≡ None
-unfolding name_of given_by given_in items_of asked_in asked_of
+no_value : asks (codes "run" ∷ three ++ codes "--out" ∷ []) ≡ None
+unfolding given_by given_in items_of task_of
 no_value = refl
 
-one_is_missing : asked_of (run three) ≡ None
-unfolding name_of given_by given_in items_of asked_in asked_of
+one_is_missing : asks (codes "run" ∷ three) ≡ None
+unfolding given_by given_in items_of task_of
 one_is_missing = refl
 
-twice : asked_of (run (codes "--out=o" ∷ codes "--script=s" ∷ three)) ≡ None
-unfolding name_of given_by given_in items_of asked_in asked_of
+twice : asks (codes "run" ∷ codes "--out=o" ∷ codes "--script=s" ∷ three) ≡ None
+unfolding given_by given_in items_of task_of
 twice = refl
 
-another_item : asked_of (run (codes "--out=o" ∷ codes "--k=4" ∷ three)) ≡ None
-unfolding name_of given_by given_in items_of asked_in asked_of
-another_item = refl
+an_item_of_gen : asks (codes "run" ∷ codes "--out=o" ∷ codes "--k=4" ∷ three) ≡ None
+unfolding given_by given_in items_of task_of
+an_item_of_gen = refl
 
-another_command : asked_of (codes "portland" ∷ codes "check" ∷ codes "--topology=t" ∷ []) ≡ None
-unfolding name_of given_by given_in items_of asked_in asked_of
-another_command = refl
+-- check
 
-no_command : asked_of (codes "portland" ∷ []) ≡ None
-unfolding asked_of
+one_item : asks (codes "check" ∷ codes "--topology" ∷ codes "t" ∷ []) ≡ Some (Check (codes "t"))
+unfolding given_by given_in items_of task_of
+one_item = refl
+
+an_item_of_run : asks (codes "check" ∷ codes "--topology=t" ∷ codes "--out=o" ∷ []) ≡ None
+unfolding given_by given_in items_of task_of
+an_item_of_run = refl
+
+no_topology : asks (codes "check" ∷ []) ≡ None
+unfolding items_of task_of
+no_topology = refl
+
+-- gen
+
+abbrev draws : List ℕ → List ℕ → List ℕ → Option Task
+draws k number frames = asks (codes "gen" ∷ codes "--frames" ∷ frames ∷ codes "--k" ∷ k ∷ codes "--number" ∷ number ∷ [])
+
+three_numbers : draws (codes "4") (codes "7") (codes "100") ≡ Some (Generate (record { k = 4; number = 7; frames = 100 }))
+unfolding number_of given_by given_in items_of generation_of task_of
+three_numbers = refl
+
+at_the_limits : draws (codes "24") (codes "18446744073709551615") (codes "00000000000000100000")
+    ≡ Some (Generate (record { k = 24; number = 18446744073709551615; frames = 100000 }))
+unfolding number_of given_by given_in items_of generation_of task_of
+at_the_limits = refl
+
+an_odd_k : draws (codes "5") (codes "7") (codes "100") ≡ None
+unfolding number_of given_by given_in items_of generation_of task_of
+an_odd_k = refl
+
+a_small_k : draws (codes "2") (codes "7") (codes "100") ≡ None
+unfolding number_of given_by given_in items_of generation_of task_of
+a_small_k = refl
+
+a_large_k : draws (codes "26") (codes "7") (codes "100") ≡ None
+unfolding number_of given_by given_in items_of generation_of task_of
+a_large_k = refl
+
+beyond_64_bits : draws (codes "4") (codes "18446744073709551616") (codes "100") ≡ None
+unfolding number_of given_by given_in items_of generation_of task_of
+beyond_64_bits = refl
+
+no_frames : draws (codes "4") (codes "7") (codes "0") ≡ None
+unfolding number_of given_by given_in items_of generation_of task_of
+no_frames = refl
+
+too_many_frames : draws (codes "4") (codes "7") (codes "100001") ≡ None
+unfolding number_of given_by given_in items_of generation_of task_of
+too_many_frames = refl
+
+twenty_one_digits : draws (codes "4") (codes "000000000000000000007") (codes "100") ≡ None
+unfolding number_of given_by given_in items_of generation_of task_of
+twenty_one_digits = refl
+
+no_number : draws (codes "4") (codes "seven") (codes "100") ≡ None
+unfolding number_of given_by given_in items_of generation_of task_of
+no_number = refl
+
+an_item_of_check : asks (codes "gen" ∷ codes "--k=4" ∷ codes "--number=7" ∷ codes "--frames=1" ∷ codes "--topology=t" ∷ []) ≡ None
+unfolding given_by given_in items_of task_of
+an_item_of_check = refl
+
+-- no command
+
+another_word : asks (codes "help" ∷ codes "--topology=t" ∷ []) ≡ None
+unfolding task_of
+another_word = refl
+
+no_command : asks [] ≡ None
+unfolding task_of
 no_command = refl

@@ -4,12 +4,12 @@
 
 pub use capture::Capture;
 pub use folders::in_folder;
-pub use loading::{Inputs, load_inputs};
+pub use loading::{Inputs, load_inputs, load_wiring};
 pub use numbers::one_more;
 pub use records::{RecordedFrame, record_at, record_count};
-pub use status::{Status, TopologyReason};
+pub use status::Status;
 pub use step::StepReason;
-pub use words::{Files, files_of};
+pub use words::{Files, Generation, Task, task_of};
 
 mod capture;
 mod folders;

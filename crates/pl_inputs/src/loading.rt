@@ -12,7 +12,8 @@ use captures::load_captures;
 pub use inputs::Inputs;
 use pl_shelf::Shelf;
 use std::alloc::Global;
-use texts::{load_script, load_wiring};
+use texts::load_script;
+pub use texts::load_wiring;
 
 mod captures;
 mod inputs;

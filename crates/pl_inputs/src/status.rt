@@ -1,5 +1,5 @@
 ghost use Rattle.std.specs.Prelude.{◌≡◌, Some};
-ghost use Rattle.pl_inputs.specs.Status.{status_number, status_text, topology_reason_text, capture_reason_text};
+ghost use Rattle.pl_inputs.specs.Status.{status_number, status_text, capture_reason_text};
 ghost use Rattle.pl_inputs.specs.declared.status.Status.TheVariants.{OutOfMemory};
 
 use crate::StepReason;
@@ -10,14 +10,6 @@ use pl_wiring::{HostNo, Name};
 use std::alloc::{AllocError, AllocFailed};
 use std::fmt;
 
-/// Why a topology is not played.
-#[derive(Debug, Drop)]
-pub enum TopologyReason {
-    Refused(TopologyError),
-    /// A host stands elsewhere than at `e0.0`: fabrics of more switches are not built yet.
-    NotBuilt,
-}
-
 /// What came of a call of the program.
 #[derive(Debug, Drop)]
 pub enum Status {
@@ -27,17 +19,23 @@ pub enum Status {
     Usage,
     /// This file could not be read.
     ReadFault(Name),
-    BadTopology(TopologyReason),
+    BadTopology(TopologyError),
     /// The first line that is refused, counted from 1, and why.
     BadScript(u32, ScriptReason),
     /// The host, why its capture is refused, and at which byte.
     BadCapture(HostNo, CaptureError, u64),
     /// This file could not be written.
     WriteFault(Name),
+    /// The `expect` line that is false of the journal so far.
+    ExpectFailed(u32),
     /// The line with a step that was refused, and why.
     Refused(u32, StepReason),
     /// This file is longer than what the program takes.
     TooLong(Name),
+    /// The line with a step beyond the last that a run may have.
+    StepsSpent(u32),
+    /// The line with a step for which the journal has no room.
+    JournalFull(u32),
     OutOfMemory,
 }
 
@@ -54,8 +52,10 @@ impl Status {
             Status::BadScript(_, _) => 5,
             Status::BadCapture(_, _, _) => 6,
             Status::WriteFault(_) => 7,
+            Status::ExpectFailed(_) => 8,
             Status::Refused(_, _) => 9,
             Status::TooLong(_) => 10,
+            Status::StepsSpent(_) | Status::JournalFull(_) => 11,
             Status::OutOfMemory => 12,
         }
     }
@@ -103,21 +103,12 @@ impl fmt::Display for Status {
                 )
             }
             Status::WriteFault(name) => write!(f, "cannot write {name}"),
+            Status::ExpectFailed(line) => write!(f, "expectation false, line {line}"),
             Status::Refused(line, reason) => write!(f, "refused, line {line}: {reason}"),
             Status::TooLong(name) => write!(f, "too long: {name}"),
+            Status::StepsSpent(line) => write!(f, "steps spent, line {line}"),
+            Status::JournalFull(line) => write!(f, "journal full, line {line}"),
             Status::OutOfMemory => write!(f, "out of memory"),
-        }
-    }
-}
-
-/// The refusal's name and its fields, or `NotBuilt`.
-impl fmt::Display for TopologyReason {
-    ghost output = { λ reason. Some (topology_reason_text reason) };
-
-    fn fmt<W: fmt::Write>(&self, f: &mut fmt::Formatter<W>) -> fmt::Result {
-        match self {
-            TopologyReason::Refused(e) => write!(f, "{e}"),
-            TopologyReason::NotBuilt => write!(f, "NotBuilt"),
         }
     }
 }

@@ -1,9 +1,24 @@
 //! The words of the command line.
-ghost use Rattle.std.specs.Prelude.{◌≡◌, ◌<◌, [], ◌∷◌, List, Some, None, true, false, option_map, length, IfSome, OnSome, IfNone};
-ghost use Rattle.std.specs.List.{list_any, before_first, after_first};
+ghost use Rattle.std.specs.Prelude.{◌≡◌, ◌≤◌, List, option_map, IfSome};
 ghost use Rattle.std.specs.Option.{option_and_then};
-ghost use Rattle.pl_inputs.specs.Words.{Given, is_equals, name_of, given_by, beside, items_of, items_behind, asked_in, asked_of};
-ghost use Rattle.pl_inputs.specs.Met.{texts, asked, given, asked_with};
+ghost use Rattle.pl_inputs.specs.Words.{arity_in, check_by, check_items, generate_by, generate_items, generation_of, number_in, run_by, run_items, task_of, values_by};
+ghost use Rattle.pl_inputs.specs.Met.{task, texts};
+
+use items::Items;
+use pl_script::number;
+
+mod items;
+
+/// What the program is asked to do.
+#[derive(Clone, Copy, Debug)]
+pub enum Task<'a> {
+    /// To play a script over captures.
+    Run(Files<'a>),
+    /// To read a topology and to tell of its wiring.
+    Check { topology: &'a str },
+    /// To make a topology, a script and captures, and to play them.
+    Generate(Generation),
+}
 
 /// The files that a run reads, and the folder that it saves into.
 #[derive(Clone, Copy, Debug)]
@@ -14,181 +29,112 @@ pub struct Files<'a> {
     pub out: &'a str,
 }
 
-// The names that items have.
-#[derive(Clone, Copy, Debug)]
-enum ItemName {
-    Topology,
-    Script,
-    Captures,
-    Out,
+/// What is made: a fabric of switches with `k` ports, with a host at each host port, and so many frames,
+/// drawn by the number.
+#[derive(Clone, Copy, Debug, PartialEq, Eq)]
+pub struct Generation {
+    /// Even, 4 to 24.
+    pub k: u8,
+    pub number: u64,
+    /// 1 to 100,000.
+    pub frames: u32,
 }
 
-#[derive(Clone, Copy, Debug)]
-struct Item<'a> {
-    name: ItemName,
-    value: &'a str,
-}
+const RUN_ITEMS: [&str; 4] = ["--topology", "--script", "--captures", "--out"];
 
-// The values of the items that were met so far.
-#[derive(Clone, Copy, Debug)]
-struct Met<'a> {
-    topology: Option<&'a str>,
-    script: Option<&'a str>,
-    captures: Option<&'a str>,
-    out: Option<&'a str>,
-}
+const CHECK_ITEMS: [&str; 1] = ["--topology"];
 
-/// The files that the words ask for. None exactly where the words are no command.
-#[tactic(auto, unfolding(crate::specs::Words::asked_of))]
-pub fn files_of<'a>(words: &[&'a str]) -> Option<Files<'a>>
-    ensures { option_map asked result ≡ asked_of (texts words.now) }
+const GENERATE_ITEMS: [&str; 3] = ["--k", "--number", "--frames"];
+
+/// What the words ask for, of which the first is the program's name and the second the command. None
+/// exactly where the words are no command.
+#[tactic(auto, unfolding(crate::specs::Words::task_of))]
+pub fn task_of<'a>(words: &[&'a str]) -> Option<Task<'a>>
+    ensures { option_map task result ≡ task_of (texts words.now) }
 {
     let (_program, words) = words.split_first()?;
-    let (command, items) = words.split_first()?;
+    let (command, words) = words.split_first()?;
     if *command == "run" {
-        Met::none().files_with(items)
+        run(words)
+    } else if *command == "check" {
+        check(words)
+    } else if *command == "gen" {
+        generate(words)
     } else {
         None
     }
 }
 
-// The first item, and the words behind it.
-#[tactic(auto, unfolding(crate::specs::Words::items_of, crate::specs::Words::given_in))]
-fn first_item<'w, 'a>(words: &'w [&'a str]) -> Option<(Item<'a>, &'w [&'a str])>
-    ensures found { IfSome result (λ parts. items_of (texts words.now)
-        ≡ beside (Some (given parts.0)) (items_of (texts parts.1.now))) }
-    ensures shorter { IfSome result (λ parts. length parts.1.now < length words.now) }
-    ensures none { IfNone result (0 < length words.now → items_of (texts words.now) ≡ None) }
+fn run<'a>(words: &[&'a str]) -> Option<Task<'a>>
+    ensures { option_map task result ≡ option_and_then run_by (values_by run_items (texts words.now)) }
 {
-    let (word, behind) = words.split_first()?;
-    match parted(word) {
-        Some((name, value)) => Some((Item::of(name, value)?, behind)),
-        None => item_behind(word, behind),
-    }
+    let items = Items {
+        names: &RUN_ITEMS,
+        words,
+    };
+    Some(Task::Run(Files {
+        topology: items.value("--topology")?,
+        script: items.value("--script")?,
+        captures: items.value("--captures")?,
+        out: items.value("--out")?,
+    }))
 }
 
-// The item of this name, whose value is the first of these words, and the words behind that.
-#[tactic(auto, unfolding(crate::specs::Words::items_behind))]
-fn item_behind<'w, 'a>(name: &str, words: &'w [&'a str]) -> Option<(Item<'a>, &'w [&'a str])>
-    ensures found { IfSome result (λ parts. items_behind name.now (texts words.now)
-        ≡ beside (Some (given parts.0)) (items_of (texts parts.1.now))) }
-    ensures shorter { IfSome result (λ parts. length parts.1.now < length words.now) }
-    ensures none { IfNone result (items_behind name.now (texts words.now) ≡ None) }
+fn check<'a>(words: &[&'a str]) -> Option<Task<'a>>
+    ensures { option_map task result ≡ option_and_then check_by (values_by check_items (texts words.now)) }
 {
-    let (value, behind) = words.split_first()?;
-    if value.starts_with('-') {
-        return None;
-    }
-    Some((Item::of(name, value)?, behind))
+    let items = Items {
+        names: &CHECK_ITEMS,
+        words,
+    };
+    let topology = items.value("--topology")?;
+    Some(Task::Check { topology })
 }
 
-// What stands before and behind the first `=`.
-#[tactic(auto, using(crate::proofs::Parted::any_before_end, crate::proofs::Parted::none_at_end))]
-fn parted(word: &str) -> Option<(&str, &str)>
-    ensures found { IfSome result (λ parts. (parts.0.now ≡ before_first is_equals word.now)
-        × (parts.1.now ≡ after_first is_equals word.now)) }
-    ensures some { OnSome result (list_any is_equals word.now ≡ true) }
-    ensures none { IfNone result (list_any is_equals word.now ≡ false) }
+fn generate<'a>(words: &[&'a str]) -> Option<Task<'a>>
+    ensures { option_map task result ≡ option_and_then generate_by (values_by generate_items (texts words.now)) }
 {
-    word.split_once('=')
+    let items = Items {
+        names: &GENERATE_ITEMS,
+        words,
+    };
+    let k = items.value("--k")?;
+    let number = items.value("--number")?;
+    let frames = items.value("--frames")?;
+    Some(Task::Generate(Generation::of(k, number, frames)?))
 }
 
-impl<'a> Item<'a> {
-    // None where there is no such item, or its value is empty.
-    #[tactic(auto, unfolding(crate::specs::Words::given_by))]
-    fn of(name: &str, value: &'a str) -> Option<Item<'a>>
-        ensures { option_map given result ≡ given_by name.now value.now }
+impl Generation {
+    // None where one of them is no number, or out of range.
+    #[tactic(auto, unfolding(crate::specs::Words::generation_of))]
+    fn of(k: &str, number: &str, frames: &str) -> Option<Generation>
+        ensures { result ≡ generation_of k.now number.now frames.now }
     {
-        if value.is_empty() {
-            return None;
-        }
-        let name = ItemName::read(name)?;
-        Some(Item { name, value })
-    }
-}
-
-impl ItemName {
-    #[tactic(auto, unfolding(crate::specs::Words::name_of))]
-    fn read(word: &str) -> Option<ItemName>
-        ensures { result ≡ name_of word.now }
-    {
-        if word == "--topology" {
-            Some(ItemName::Topology)
-        } else if word == "--script" {
-            Some(ItemName::Script)
-        } else if word == "--captures" {
-            Some(ItemName::Captures)
-        } else if word == "--out" {
-            Some(ItemName::Out)
-        } else {
-            None
-        }
-    }
-}
-
-impl<'a> Met<'a> {
-    // No item was met.
-    #[tactic(auto, unfolding(crate::specs::Words::asked_in, crate::specs::Met::asked_with))]
-    fn none() -> Met<'a>
-        ensures { (items : List Given) → asked_with result items ≡ asked_in items }
-    {
-        Met {
-            topology: None,
-            script: None,
-            captures: None,
-            out: None,
-        }
-    }
-
-    // The files that these items name together with those of the words. It calls itself four times at most,
-    // since a fifth item has the name of an earlier one.
-    #[tactic(auto, unfolding(crate::specs::Words::items_of))]
-    fn files_with(self, words: &[&'a str]) -> Option<Files<'a>>
-        ensures { option_map asked result ≡ option_and_then (asked_with self.entry) (items_of (texts words.now)) }
-    {
-        if words.is_empty() {
-            return self.files();
-        }
-        let (item, behind) = first_item(words)?;
-        self.with(item)?.files_with(behind)
-    }
-
-    // None where an item of this name was met before.
-    #[tactic(auto, unfolding(crate::specs::Met::asked_with))]
-    fn with(self, item: Item<'a>) -> Option<Met<'a>>
-        ensures some { (items : List Given) → IfSome result (λ met.
-            asked_with met items ≡ asked_with self.entry (given item.entry ∷ items)) }
-        ensures none { (items : List Given) → IfNone result (asked_with self.entry (given item.entry ∷ items) ≡ None) }
-    {
-        let value = Some(item.value);
-        match item.name {
-            ItemName::Topology if self.topology.is_none() => Some(Met {
-                topology: value,
-                ..self
-            }),
-            ItemName::Script if self.script.is_none() => Some(Met {
-                script: value,
-                ..self
-            }),
-            ItemName::Captures if self.captures.is_none() => Some(Met {
-                captures: value,
-                ..self
-            }),
-            ItemName::Out if self.out.is_none() => Some(Met { out: value, ..self }),
-            _ => None,
-        }
-    }
-
-    // None where an item is missing.
-    #[tactic(auto, unfolding(crate::specs::Met::asked_with))]
-    fn files(self) -> Option<Files<'a>>
-        ensures { option_map asked result ≡ asked_with self.entry [] }
-    {
-        Some(Files {
-            topology: self.topology?,
-            script: self.script?,
-            captures: self.captures?,
-            out: self.out?,
+        let k = arity_in(k)?;
+        let number = number_in(number, 0, u64::MAX)?;
+        let frames = number_in(frames, 1, 100_000)?;
+        Some(Generation {
+            k,
+            number,
+            frames: frames as u32,
         })
+    }
+}
+
+// An even number from 4 to 24.
+fn arity_in(text: &str) -> Option<u8>
+    ensures { result ≡ arity_in text.now }
+{
+    let k = number_in(text, 4, 24)?;
+    if k % 2 == 0 { Some(k as u8) } else { None }
+}
+
+fn number_in(text: &str, least: u64, most: u64) -> Option<u64>
+    ensures exact { result ≡ number_in least most text.now }
+    ensures within { IfSome result (λ n. n ≤ most) }
+{
+    match number(text, least, most) {
+        Ok(n) => Some(n),
+        Err(_) => None,
     }
 }

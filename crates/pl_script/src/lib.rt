@@ -8,6 +8,7 @@
 pub use command::{Command, Count, End, Who};
 pub use error::{ScriptError, ScriptReason};
 pub use lines::read;
+pub use numbers::number;
 pub use pl_frame::Memory;
 pub use script::{Script, ScriptLine};
 

@@ -8,8 +8,9 @@ use pl_frame::{Ip4, Mac};
 use pl_pmac::{Pmac, unpack};
 use pl_wiring::{dotted, six_bytes};
 
-/// A number from `least` to `most`, of 1 to 20 digits.
-pub(crate) fn number(text: &str, least: u64, most: u64) -> Result<u64, ScriptReason>
+/// A number from `least` to `most`, of 1 to 20 digits. Leading zeros are allowed, and a sign is not; all else
+/// is refused as `Number`.
+pub fn number(text: &str, least: u64, most: u64) -> Result<u64, ScriptReason>
     ensures exact { result ≡ number_of least most text.now }
     ensures within { IfOk result (λ n. n ≤ most) }
 {

@@ -2,7 +2,7 @@ use Rattle.std.proofs.Common.{rules, ◌∙◌, sym}
 use Rattle.std.proofs.lemmas.List.{length-map}
 use Rattle.pl_inputs.specs.Loaded.{files_of}
 use Rattle.pl_inputs.specs.Met.{asked}
-use Rattle.pl_inputs.proofs.Gathering.{as_many, hosts_are_here, ungathered}
+use Rattle.pl_inputs.proofs.Gathering.{as_many, ungathered}
 use Rattle.pl_inputs.proofs.loading.load_inputs.Goals as goal
 
 -- src/loading.rt:45:20
@@ -18,10 +18,8 @@ returns-in_err-captures-clause-err g c =
 -- src/loading.rt:39:5
 pub invariant_of-result : goal.invariant_of-result
 invariant_of-result g c =
-    let held = g.S.Shelf.held in
     let plan = c.in_ok-wiring.wiring in
     let captures = c.in_ok-captures.captures.items in
     record {
-      many = sym (length-map captures (λ x. x.bytes.items)) ∙ as_many (held c.load_script.new.shelf) c.args.files.now.captures.now plan.hosts (files_of captures) c.in_ok-captures.ensures.ok;
-      here = hosts_are_here (held c.args.shelf.now) c.args.files.now.topology.now plan c.in_ok-wiring.ensures.ok;
+      many = sym (length-map captures (λ x. x.bytes.items)) ∙ as_many (g.S.Shelf.held c.load_script.new.shelf) c.args.files.now.captures.now plan.hosts (files_of captures) c.in_ok-captures.ensures.ok;
     }

@@ -6,4 +6,6 @@ pub mod Reaching
 pub mod Unchanged
 pub mod Turned
 pub mod Words
+pub mod Missing
 pub mod Touched
+pub mod Adding

@@ -1,77 +1,127 @@
 -- A list that is made item by item is all that its switch avoids.
-use Rattle.std.proofs.Common.{◌≡◌, ◌&&◌, ◌||◌, Bool, true, false, cond, List, [], ◌∷◌, ◌++◌, map, Option, Some, None, append_assoc, refl, sym, ap, ◌∙◌}
+use Rattle.std.proofs.Common.{◌≡◌, ℕ, ◌+◌, ◌==◌, ◌&&◌, ◌||◌, not, arith, Bool, true, false, cond, List, [], ◌∷◌, ◌++◌, map, Option, Some, None, append_assoc, refl, sym, ap, ◌∙◌}
 use Rattle.std.specs.Prelude.{fold}
 use Rattle.std.specs.List.{cons_option, filter, filter_map, flat_map, list_any}
+use Rattle.std.proofs.lemmas.Bool.{eqb-true, false≢true}
 use Rattle.std.proofs.lemmas.List.{append-nil}
 use Rattle.std.specs.BTreeSet.{insert_key}
 use Rattle.pl_frame.specs.declared.address.SwitchId.{SwitchId}
+use Rattle.pl_layouts.specs.declared.place.Place.{Place}
+use Rattle.pl_layouts.specs.Equality.{same_switch}
 use Rattle.pl_core.specs.ManagerViews.{PlacedEdge, Told, edge_at, neighbours, place_of, placed_edges, switches}
-use Rattle.pl_core.specs.AvoidLists.{avoid_list, avoided_at, avoided_cmp, is_above, is_cut}
+use Rattle.pl_core.specs.AvoidLists.{avoid_list, avoided_at, avoided_cmp, is_above, is_cut, is_level_above, is_sent_down, leads_to}
 use Rattle.pl_manager_rule.proofs.Avoided.{avoided_exact, avoided_total}
 use Rattle.pl_faults.specs.declared.edges.Edge.{Edge}
-use Rattle.pl_faults.specs.Making.{Avoided, placed_as, with_edge, with_neighbour, with_placed}
+use Rattle.pl_faults.specs.Making.{Avoided, placed_as, with_neighbour, with_placed}
+use Rattle.pl_faults.specs.Missed.{IsLeading, Misses, avoided_of, is_avoided, is_upper, missed_by, missed_in, with_missed}
 use Rattle.pl_faults.proofs.Filling.{fold_in_order}
 
--- what passes two tests, one after the other
-any_kept : {X : Type 0} (q f : X → Bool) (x : X) (xs : List X) (rest : Bool) → list_any f (filter q xs) ≡ rest →
-    list_any f (filter q (x ∷ xs)) ≡ ((q x && f x) || rest)
-any_kept q f x xs rest e = by (q x)
+-- what passes a test, and then another
+pub any_kept : {X : Type 0} (q f : X → Bool) (xs : List X) → list_any f (filter q xs) ≡ list_any (λ x. q x && f x) xs
+any_kept q f [] = refl
+any_kept q f (x ∷ xs) = by (any_kept q f xs) (q x)
   where
-    by : (b : Bool) → list_any f (cond b (x ∷ filter q xs) (filter q xs)) ≡ ((b && f x) || rest)
-    by true = ap (λ r. f x || r) e
-    by false = e
-
-two : {X : Type 0} (p q f : X → Bool) (x : X) (xs : List X) →
-    list_any f (filter q (filter p xs)) ≡ list_any (λ z. p z && q z && f z) xs → (b : Bool) →
-    list_any f (filter q (cond b (x ∷ filter p xs) (filter p xs))) ≡ ((b && q x && f x) || list_any (λ z. p z && q z && f z) xs)
-two p q f x xs rest true = any_kept q f x (filter p xs) (list_any (λ z. p z && q z && f z) xs) rest
-two p q f x xs rest false = rest
-
-pub any_twice : {X : Type 0} (p q f : X → Bool) (xs : List X) → list_any f (filter q (filter p xs)) ≡ list_any (λ x. p x && q x && f x) xs
-any_twice p q f [] = refl
-any_twice p q f (x ∷ xs) = two p q f x xs (any_twice p q f xs) (p x)
+    by : list_any f (filter q xs) ≡ list_any (λ z. q z && f z) xs → (b : Bool) →
+        list_any f (cond b (x ∷ filter q xs) (filter q xs)) ≡ ((b && f x) || list_any (λ z. q z && f z) xs)
+    by rest true = ap (λ r. f x || r) rest
+    by rest false = rest
 
 fold_append : {X Y : Type 0} (f : Y → X → Y) (a : Y) (xs ys : List X) → fold f a (xs ++ ys) ≡ fold f (fold f a xs) ys
 fold_append f a [] ys = refl
 fold_append f a (x ∷ xs) ys = fold_append f (f a x) xs ys
 
 module _ (told : Told) (s : SwitchId) where
-  abbrev entry : SwitchId → PlacedEdge → Avoided
-  entry u e = (u, e.pod, e.position)
-
-  edges_made : (u : SwitchId) (es : List Edge) (list : List Avoided) →
-      fold (with_edge told s u) list es ≡ fold (insert_key avoided_cmp) list (map (entry u) (filter (is_cut told s u) (map placed_as es)))
-  edges_made u [] list = refl
-  edges_made u (e ∷ es) list = by (λ l. edges_made u es l) (is_cut told s u (placed_as e))
-    where
-      by : ((l : List Avoided) → fold (with_edge told s u) l es
-          ≡ fold (insert_key avoided_cmp) l (map (entry u) (filter (is_cut told s u) (map placed_as es)))) → (b : Bool) → fold (with_edge told s u) (cond b (insert_key avoided_cmp list (u, e.pod, e.position)) list) es
-          ≡ fold (insert_key avoided_cmp) list (map (entry u) (cond b (placed_as e ∷ filter (is_cut told s u) (map placed_as es)) (filter (is_cut told s u) (map placed_as es))))
-      by rest true = rest (insert_key avoided_cmp list (u, e.pod, e.position))
-      by rest false = rest list
-
-  neighbours_made : (es : List Edge) → map placed_as es ≡ placed_edges told → (us : List SwitchId) (list : List Avoided) →
-      fold (with_neighbour told s es) list us ≡ fold (insert_key avoided_cmp) list (flat_map (avoided_at told s) (filter (is_above told s) us))
+  neighbours_made : (us : List SwitchId) (list : List Avoided) →
+      fold (with_neighbour told s) list us ≡ fold (insert_key avoided_cmp) list (flat_map (avoided_at told s) (filter (is_above told s) us))
   unfolding with_neighbour
-  neighbours_made es all [] list = refl
-  neighbours_made es all (u ∷ us) list = by (λ l. neighbours_made es all us l) (is_above told s u)
+  neighbours_made [] list = refl
+  neighbours_made (u ∷ us) list = by (λ l. neighbours_made us l) (is_above told s u)
     where
-      by : ((l : List Avoided) → fold (with_neighbour told s es) l us
-          ≡ fold (insert_key avoided_cmp) l (flat_map (avoided_at told s) (filter (is_above told s) us))) → (b : Bool) → fold (with_neighbour told s es) (cond b (fold (with_edge told s u) list es) list) us
+      by : ((l : List Avoided) → fold (with_neighbour told s) l us
+          ≡ fold (insert_key avoided_cmp) l (flat_map (avoided_at told s) (filter (is_above told s) us))) → (b : Bool) →
+          fold (with_neighbour told s) (cond b (fold (insert_key avoided_cmp) list (avoided_at told s u)) list) us
           ≡ fold (insert_key avoided_cmp) list (flat_map (avoided_at told s) (cond b (u ∷ filter (is_above told s) us) (filter (is_above told s) us)))
       by rest true =
-          rest (fold (with_edge told s u) list es)
-          ∙ ap (λ made. fold (insert_key avoided_cmp) made (flat_map (avoided_at told s) (filter (is_above told s) us)))
-          (edges_made u es list ∙ ap (λ ps. fold (insert_key avoided_cmp) list (map (entry u) (filter (is_cut told s u) ps))) all)
+          rest (fold (insert_key avoided_cmp) list (avoided_at told s u))
           ∙ sym (fold_append (insert_key avoided_cmp) list (avoided_at told s u) (flat_map (avoided_at told s) (filter (is_above told s) us)))
       by rest false = rest list
 
-  pub list_made : (es : List Edge) → map placed_as es ≡ placed_edges told →
-      fold (with_neighbour told s es) [] (neighbours told s) ≡ avoid_list told s
+  pub list_made : fold (with_neighbour told s) [] (neighbours told s) ≡ avoid_list told s
   unfolding avoid_list
-  list_made es all =
-      neighbours_made es all (neighbours told s) []
+  list_made =
+      neighbours_made (neighbours told s) []
       ∙ fold_in_order avoided_cmp avoided_total avoided_exact (flat_map (avoided_at told s) (filter (is_above told s) (neighbours told s)))
+
+-- ---- what is avoided, by what a neighbour misses
+pub missed_put : (place : Place) (s u : SwitchId) (es : List Edge) (list : List Avoided) →
+    fold (with_missed place s u) list es ≡ fold (insert_key avoided_cmp) list (avoided_of place s u es)
+missed_put place s u [] list = refl
+missed_put place s u (e ∷ es) list = by (λ l. missed_put place s u es l) (is_avoided place s e)
+  where
+    by : ((l : List Avoided) → fold (with_missed place s u) l es ≡ fold (insert_key avoided_cmp) l (avoided_of place s u es)) → (b : Bool) →
+        fold (with_missed place s u) (cond b (insert_key avoided_cmp list (u, e.pod, e.position)) list) es
+        ≡ fold (insert_key avoided_cmp) list (map (λ (x : Edge). (u, x.pod, x.position)) (cond b (e ∷ filter (is_avoided place s) es) (filter (is_avoided place s) es)))
+    by rest true = rest (insert_key avoided_cmp list (u, e.pod, e.position))
+    by rest false = rest list
+
+module _ (told : Told) (s u : SwitchId) where
+  abbrev entry : PlacedEdge → Avoided
+  entry e = (u, e.pod, e.position)
+
+  abbrev entry_of : Edge → Avoided
+  entry_of e = (u, e.pod, e.position)
+
+  abbrev stays : Edge → Bool
+  stays = is_avoided (place_of told s) s
+
+  kept_of : (e : Edge) (es : List Edge) (z : Bool) →
+      filter stays (cond z (e ∷ es) es) ≡ cond z (cond (stays e) (e ∷ filter stays es) (filter stays es)) (filter stays es)
+  kept_of e es true = refl
+  kept_of e es false = refl
+
+  cut_of : (e : Edge) (cut : List PlacedEdge) (kept : List Edge) → map entry cut ≡ map entry_of kept → (x y z : Bool) →
+      map entry (cond (x && (y && z)) (placed_as e ∷ cut) cut) ≡ map entry_of (cond z (cond (x && y) (e ∷ kept) kept) kept)
+  cut_of e cut kept rest true true true = ap (λ l. entry_of e ∷ l) rest
+  cut_of e cut kept rest true true false = rest
+  cut_of e cut kept rest true false true = rest
+  cut_of e cut kept rest true false false = rest
+  cut_of e cut kept rest false true true = rest
+  cut_of e cut kept rest false true false = rest
+  cut_of e cut kept rest false false true = rest
+  cut_of e cut kept rest false false false = rest
+
+  cut_missed : (es : List Edge) →
+      map entry (filter (is_cut told s u) (map placed_as es)) ≡ avoided_of (place_of told s) s u (missed_by told es u)
+  cut_missed [] = refl
+  cut_missed (e ∷ es) =
+      cut_of e (filter (is_cut told s u) (map placed_as es)) (filter stays (missed_by told es u)) (cut_missed es)
+      (not (same_switch e.switch s)) (not (is_sent_down told s e.pod)) (not (leads_to told e.pod e.switch u))
+      ∙ sym (ap (map entry_of) (kept_of e (missed_by told es u) (not (leads_to told e.pod e.switch u))))
+
+  pub avoided_missed : (es : List Edge) → map placed_as es ≡ placed_edges told →
+      avoided_at told s u ≡ avoided_of (place_of told s) s u (missed_by told es u)
+  avoided_missed es placed = ap (λ ps. map entry (filter (is_cut told s u) ps)) (sym placed) ∙ cut_missed es
+
+  is_upper_above : (low high : Option ℕ) → is_level_above low high ≡ true → is_upper high ≡ true
+  is_upper_above None None h = absurd (false≢true h)
+  is_upper_above None (Some high) h = absurd (false≢true h)
+  is_upper_above (Some low) None h = absurd (false≢true h)
+  is_upper_above (Some low) (Some high) h = by (high == 0) refl
+    where
+      by : (b : Bool) → (high == 0) ≡ b → not b ≡ true
+      by false e = refl
+      by true e = let zero_so = eqb-true high 0 e in let one_more = eqb-true high (low + 1) h in absurd (omega arith)
+
+  pub upper_above : is_above told s u ≡ true → is_upper (place_of told u).level ≡ true
+  upper_above h = is_upper_above (place_of told s).level (place_of told u).level h
+
+  -- where u is above s
+  pub avoided_kept : (es : List Edge) (missed : Misses) → IsLeading told es missed → is_above told s u ≡ true →
+      avoided_at told s u ≡ avoided_of (place_of told s) s u (missed_in missed u)
+  avoided_kept es missed leading above =
+      avoided_missed es leading.placed
+      ∙ ap (avoided_of (place_of told s) s u)
+      (sym (leading.missed_are u ∙ ap (λ b. cond b (missed_by told es u) []) (upper_above above)))
 
 -- ---- placed edge switches, one by one
 placed_one_by_one : {X Y : Type 0} (f : X → Option Y) (step : List Y → Option Y → List Y) →

@@ -3,25 +3,23 @@ use Rattle.std.proofs.Common.{◌≡◌, ℕ, ◌<◌, ◌+◌, ◌&&◌, ◌||�
 use Rattle.std.specs.Prelude.{unwrap_or}
 use Rattle.std.specs.List.{list_any, zip}
 use Rattle.std.specs.BTreeMap.{is_at}
-use Rattle.std.proofs.lemmas.Bool.{and_parts}
 use Rattle.std.proofs.lemmas.List.Folds.{list_any_more}
 use Rattle.pl_frame.specs.declared.address.SwitchId.{SwitchId}
 use Rattle.pl_layouts.specs.declared.place.Place.{Place}
 use Rattle.pl_layouts.specs.Placement.{is_known, nowhere}
 use Rattle.pl_core.specs.AvoidLists.{core_leads_to, is_above, is_level_above, leads_to}
-use Rattle.pl_core.specs.ManagerViews.{Told, alive_at_level, has_level, has_pod, id_cmp, is_alive, neighbours, place_of, switches, tellers, value_at}
+use Rattle.pl_core.specs.ManagerViews.{Told, alive_at_level, alive_neighbours, has_level, has_pod, id_cmp, is_alive, place_of, switches, tellers, value_at}
 use Rattle.pl_core.proofs.Among.{among_in_order, among_left}
 use Rattle.pl_manager_rule.proofs.Avoided.{id_exact}
 use Rattle.pl_manager_rule.proofs.Tables.{found_key}
 use Rattle.pl_reports.specs.Kept.{has_told}
 use Rattle.pl_faults.specs.declared.edges.Edge.{Edge}
-use Rattle.pl_faults.specs.Making.{Avoided, with_edge}
-use Rattle.pl_faults.specs.Rows.{AreRows, IsReach, Leads, leads_at, leads_by, leads_down, row_at, row_at_level, row_of, value_in, value_of, with_edge_at, with_row}
+use Rattle.pl_faults.specs.Rows.{AreRows, IsReach, Leads, leads_at, leads_by, leads_down, row_at, row_at_level, row_of, value_in, value_of, with_row}
 use Rattle.pl_faults.proofs.Anew.{among_told, at_is, at_turned}
-use Rattle.pl_faults.proofs.Made.{any_twice}
+use Rattle.pl_faults.proofs.Made.{any_kept}
 
 -- ---- who has a level told it
-level_told : (told : Told) (u : SwitchId) (n : ℕ) → (place_of told u).level ≡ Some n → has_told told u ≡ true
+pub level_told : (told : Told) (u : SwitchId) (n : ℕ) → (place_of told u).level ≡ Some n → has_told told u ≡ true
 level_told told u n e = by (value_at id_cmp told.places u) refl e
   where
     by : (o : Option Place) → value_at id_cmp told.places u ≡ o → (unwrap_or o nowhere).level ≡ Some n → has_told told u ≡ true
@@ -74,42 +72,41 @@ module _ (told : Told) (level : ℕ) (edges : List Edge) (f : Leads) (rows : Lis
   pub value_there : (u : SwitchId) (i : ℕ) (d : Edge) → has_level told u level ≡ true → i < length edges → value_in rows u i ≡ f (get_or edges i d) u
   value_there u i d h within = ap (λ o. value_of o i) (row_there u h) ∙ entry_of_row (λ e. f e u) edges i d within
 
-  -- a neighbour that is linked adds its row
-  linked_row : (u x : SwitchId) (linked : Bool) → (is_alive told u x && has_level told x level) ≡ linked → (before : Edge → Bool) →
+  -- a neighbour of the level adds its row
+  linked_row : (x : SwitchId) (linked : Bool) → has_level told x level ≡ linked → (before : Edge → Bool) →
       with_row linked (row_at rows x) (map before edges) ≡ map (λ e. before e || (linked && f e x)) edges
-  linked_row u x false is before = same_row before (λ e. before e || false) edges (λ e. or_false (before e))
-  linked_row u x true is before =
-      let there = row_there x (and_parts (is_alive told u x) (has_level told x level) is).1 in
-      ap (λ o. with_row true o (map before edges)) there ∙ either_row before (λ e. f e x) edges
+  linked_row x false is before = same_row before (λ e. before e || false) edges (λ e. or_false (before e))
+  linked_row x true is before =
+      ap (λ o. with_row true o (map before edges)) (row_there x is) ∙ either_row before (λ e. f e x) edges
 
-  abbrev linked_by : SwitchId → Edge → SwitchId → Bool
-  linked_by u e x = is_alive told u x && has_level told x level && f e x
+  abbrev linked_by : Edge → SwitchId → Bool
+  linked_by e x = has_level told x level && f e x
 
-  pub row_more : (u : SwitchId) (xs : List SwitchId) (i : ℕ) (d : SwitchId) → i < length xs → (row after : List Bool) →
-      row ≡ map (λ e. list_any (linked_by u e) (take i xs)) edges →
-      after ≡ with_row (is_alive told u (get_or xs i d) && has_level told (get_or xs i d) level) (row_at rows (get_or xs i d)) row →
-      after ≡ map (λ e. list_any (linked_by u e) (take (i + 1) xs)) edges
-  row_more u xs i d within row after is put =
-      let x = get_or xs i d in let linked = is_alive told u x && has_level told x level in
+  pub row_more : (xs : List SwitchId) (i : ℕ) (d : SwitchId) → i < length xs → (row after : List Bool) →
+      row ≡ map (λ e. list_any (linked_by e) (take i xs)) edges →
+      after ≡ with_row (has_level told (get_or xs i d) level) (row_at rows (get_or xs i d)) row →
+      after ≡ map (λ e. list_any (linked_by e) (take (i + 1) xs)) edges
+  row_more xs i d within row after is put =
+      let x = get_or xs i d in let linked = has_level told x level in
       put ∙ ap (with_row linked (row_at rows x)) is
-      ∙ linked_row u x linked refl (λ e. list_any (linked_by u e) (take i xs))
-      ∙ same_row (λ e. list_any (linked_by u e) (take i xs) || (linked && f e x)) (λ e. list_any (linked_by u e) (take (i + 1) xs)) edges
-      (λ e. sym (list_any_more (linked_by u e) xs i d within))
+      ∙ linked_row x linked refl (λ e. list_any (linked_by e) (take i xs))
+      ∙ same_row (λ e. list_any (linked_by e) (take i xs) || (linked && f e x)) (λ e. list_any (linked_by e) (take (i + 1) xs)) edges
+      (λ e. sym (list_any_more (linked_by e) xs i d within))
 
 -- ---- a table of rows, switch by switch
-pub table_more : (row : SwitchId → List Bool) (rows after : List (SwitchId × List Bool)) (ss : List SwitchId) (i : ℕ) (d : SwitchId) (one : List Bool) →
-    i < length ss → ((t : SwitchId) → row_at rows t ≡ cond (list_any (is_at (id_cmp t)) (take i ss)) (Some (row t)) None) →
+pub table_more : {X : Type 0} (row : SwitchId → X) (rows after : List (SwitchId × X)) (ss : List SwitchId) (i : ℕ) (d : SwitchId) (one : X) →
+    i < length ss → ((t : SwitchId) → value_at id_cmp rows t ≡ cond (list_any (is_at (id_cmp t)) (take i ss)) (Some (row t)) None) →
     one ≡ row (get_or ss i d) →
-    ((t : SwitchId) → row_at after t ≡ cond (is_at (id_cmp (get_or ss i d)) t) (Some one) (row_at rows t)) →
-    (t : SwitchId) → row_at after t ≡ cond (list_any (is_at (id_cmp t)) (take (i + 1) ss)) (Some (row t)) None
-table_more row rows after ss i d one within was is put t =
+    ((t : SwitchId) → value_at id_cmp after t ≡ cond (is_at (id_cmp (get_or ss i d)) t) (Some one) (value_at id_cmp rows t)) →
+    (t : SwitchId) → value_at id_cmp after t ≡ cond (list_any (is_at (id_cmp t)) (take (i + 1) ss)) (Some (row t)) None
+table_more {X} row rows after ss i d one within was is put t =
     let s = get_or ss i d in
-    put t ∙ ap (λ b. cond b (Some one) (row_at rows t)) (at_turned s t)
+    put t ∙ ap (λ b. cond b (Some one) (value_at id_cmp rows t)) (at_turned s t)
     ∙ by (list_any (is_at (id_cmp t)) (take i ss)) (is_at (id_cmp t) s) refl (was t)
     ∙ ap (λ b. cond b (Some (row t)) None) (sym (list_any_more (is_at (id_cmp t)) ss i d within))
   where
-    by : (some own : Bool) → is_at (id_cmp t) (get_or ss i d) ≡ own → row_at rows t ≡ cond some (Some (row t)) None →
-        cond own (Some one) (row_at rows t) ≡ cond (some || own) (Some (row t)) None
+    by : (some own : Bool) → is_at (id_cmp t) (get_or ss i d) ≡ own → value_at id_cmp rows t ≡ cond some (Some (row t)) None →
+        cond own (Some one) (value_at id_cmp rows t) ≡ cond (some || own) (Some (row t)) None
     by true true e k = ap Some (is ∙ ap row (sym (at_is t (get_or ss i d) e)))
     by false true e k = ap Some (is ∙ ap row (sym (at_is t (get_or ss i d) e)))
     by true false e k = k
@@ -124,13 +121,13 @@ rows_whole told level edges f rows ss is h = record {
 -- ---- what the rows of a switch say together
 core_same : (told : Told) (e : Edge) (c : SwitchId) → leads_by told 1 (leads_down told) e c ≡ core_leads_to told e.pod e.switch c
 core_same told e c =
-    sym (any_twice (is_alive told c) (λ x. has_level told x 1) (λ a. has_pod told a e.pod && is_alive told a e.switch) (neighbours told c))
+    sym (any_kept (λ x. has_level told x 1) (λ a. has_pod told a e.pod && is_alive told a e.switch) (alive_neighbours told c))
 
-up_same : (told : Told) (e : Edge) (u : SwitchId) (xs : List SwitchId) →
-    list_any (λ x. is_alive told u x && has_level told x 2 && leads_by told 1 (leads_down told) e x) xs
-    ≡ list_any (λ x. is_alive told u x && has_level told x 2 && core_leads_to told e.pod e.switch x) xs
-up_same told e u [] = refl
-up_same told e u (x ∷ xs) = λ i. (is_alive told u x && has_level told x 2 && core_same told e x i) || up_same told e u xs i
+up_same : (told : Told) (e : Edge) (xs : List SwitchId) →
+    list_any (λ x. has_level told x 2 && leads_by told 1 (leads_down told) e x) xs
+    ≡ list_any (λ x. has_level told x 2 && core_leads_to told e.pod e.switch x) xs
+up_same told e [] = refl
+up_same told e (x ∷ xs) = λ i. (has_level told x 2 && core_same told e x i) || up_same told e xs i
 
 same_leads : (told : Told) (e : Edge) (u : SwitchId) (in_level in_pod : Bool) → has_pod told u e.pod ≡ in_pod →
     cond in_level (cond in_pod (leads_down told e u) (leads_by told 2 (leads_by told 1 (leads_down told)) e u))
@@ -139,8 +136,8 @@ same_leads : (told : Told) (e : Edge) (u : SwitchId) (in_level in_pod : Bool) �
     (cond (has_level told u 2) (core_leads_to told e.pod e.switch u) false)
 same_leads told e u true true pod = ap (λ b. b && is_alive told u e.switch) pod
 same_leads told e u true false pod =
-    up_same told e u (neighbours told u)
-    ∙ sym (any_twice (is_alive told u) (λ x. has_level told x 2) (core_leads_to told e.pod e.switch) (neighbours told u))
+    up_same told e (alive_neighbours told u)
+    ∙ sym (any_kept (λ x. has_level told x 2) (core_leads_to told e.pod e.switch) (alive_neighbours told u))
 same_leads told e u false in_pod pod = ap (λ b. cond (has_level told u 2) b false) (core_same told e u)
 
 module _ (told : Told) (edges : List Edge) (down core up : List (SwitchId × List Bool)) (reach : IsReach told edges down core up) where
@@ -164,12 +161,3 @@ module _ (told : Told) (edges : List Edge) (down core up : List (SwitchId × Lis
           λ j. cond (has_pod told u e.pod) (x j) (z j)
       by false true one two = value_there told 2 edges (leads_by told 1 (leads_down told)) core reach.by_core u i d two within
       by false false one two = refl
-
-  -- so the list goes on as defined
-  pub edge_by_rows : (s u : SwitchId) (i : ℕ) (d : Edge) (list : List Avoided) (place : Place) (leads : Bool) → has_told told u ≡ true → i < length edges →
-      place ≡ place_of told s →
-      leads ≡ leads_at (place_of told u) (get_or edges i d) (value_in down u i) (value_in core u i) (value_in up u i) →
-      with_edge_at place s u leads list (get_or edges i d) ≡ with_edge told s u list (get_or edges i d)
-  edge_by_rows s u i d list place leads heard within at is =
-      let e = get_or edges i d in let so = is ∙ leads_by_rows u i d heard within in
-      λ j. with_edge_at (at j) s u (so j) list e

@@ -24,7 +24,7 @@ use Rattle.pl_reports.proofs.Telling.{key_of_near, link_exact, link_total, other
 use Rattle.pl_faults.specs.declared.edges.Edge.{Edge}
 use Rattle.pl_faults.specs.Kept.{IsKept, Lists}
 use Rattle.pl_faults.specs.Making.{Avoided}
-use Rattle.pl_faults.specs.Rows.{IsReach, Leads, row_of}
+use Rattle.pl_faults.specs.Missed.{AreMissed, Misses, is_upper}
 use Rattle.pl_faults.proofs.Anew.{at_is, is_itself, near_key_first, told_among}
 use Rattle.pl_faults.proofs.Filling.{among_put_in}
 
@@ -55,12 +55,6 @@ list_is : (told : Told) (s : SwitchId) → avoid_list told s ≡ list_by (place_
 unfolding avoid_list
 list_is told s = refl
 
-abbrev down_by : (SwitchId → Place) → (SwitchId → SwitchId → Bool) → Leads
-down_by place alive e u = is_known (place u).pod e.pod && alive u e.switch
-
-abbrev on_by : (SwitchId → Place) → (SwitchId → SwitchId → Bool) → (SwitchId → List SwitchId) → ℕ → Leads → Leads
-on_by place alive near level f e u = list_any (λ x. alive u x && is_known (place x).level level && f e x) (near u)
-
 -- where places, links and neighbours are the same, so is all that is kept
 module _ (told after : Told) (places : (x : SwitchId) → place_of after x ≡ place_of told x)
     (alive : (x y : SwitchId) → is_alive after x y ≡ is_alive told x y) (near : (x : SwitchId) → neighbours after x ≡ neighbours told x)
@@ -77,34 +71,18 @@ module _ (told after : Told) (places : (x : SwitchId) → place_of after x ≡ p
   heard_same : (t : SwitchId) → has_told after t ≡ has_told told t
   heard_same t = ap (list_any (is_at (id_cmp t))) heard
 
-  reach_same : (edges : List Edge) (down core up : List (SwitchId × List Bool)) → IsReach told edges down core up → IsReach after edges down core up
-  reach_same edges down core up h = record {
-    by_link = record {
-      all = λ x.
-          h.by_link.all x
-          ∙ (λ i. cond (sym (heard_same x) i) (Some (cond (is_known (sym (places x) i).level 1)
-          (row_of (down_by (λ z. sym (places z) i) (λ y z. sym (alive y z) i)) edges x) [])) None);
-    };
-    by_core = record {
-      all = λ x.
-          h.by_core.all x
-          ∙ (λ i. cond (sym (heard_same x) i) (Some (cond (is_known (sym (places x) i).level 2)
-          (row_of (on_by (λ z. sym (places z) i) (λ y z. sym (alive y z) i) (λ z. sym (near z) i) 1 (down_by (λ z. sym (places z) i) (λ y z. sym (alive y z) i))) edges x) [])) None);
-    };
-    by_two = record {
-      all = λ x.
-          h.by_two.all x
-          ∙ (λ i. cond (sym (heard_same x) i) (Some (cond (is_known (sym (places x) i).level 1)
-          (row_of (on_by (λ z. sym (places z) i) (λ y z. sym (alive y z) i) (λ z. sym (near z) i) 2 (on_by (λ z. sym (places z) i) (λ y z. sym (alive y z) i) (λ z. sym (near z) i) 1 (down_by (λ z. sym (places z) i) (λ y z. sym (alive y z) i)))) edges x) [])) None);
-    };
-  }
+  missed_same : (edges : List Edge) (missed : Misses) → AreMissed told edges missed → AreMissed after edges missed
+  missed_same edges missed h x =
+      h x
+      ∙ (λ i. cond (is_upper (sym (places x) i).level)
+      (filter (λ (e : Edge). not (on (λ z. sym (places z) i) (λ y z. sym (alive y z) i) (λ z. sym (near z) i) e.pod e.switch x)) edges) [])
 
-  alike_kept : (edges : List Edge) (down core up : List (SwitchId × List Bool)) (lists before : Lists) →
-      IsKept told edges down core up lists before → IsKept after edges down core up lists before
-  alike_kept edges down core up lists before kept = record {
+  alike_kept : (edges : List Edge) (missed : Misses) (lists before : Lists) →
+      IsKept told edges missed lists before → IsKept after edges missed lists before
+  alike_kept edges missed lists before kept = record {
     leading = record {
       placed = kept.leading.placed ∙ sym edges_same;
-      rows = λ e. reach_same edges down core up (kept.leading.rows e);
+      missed_are = missed_same edges missed kept.leading.missed_are;
     };
     listed = record {
       current = λ t. kept.listed.current t ∙ (λ i. cond (sym (heard_same t) i) (Some (sym (list_same t) i)) None);
@@ -169,14 +147,14 @@ module _ (told : Told) (s u : SwitchId) (usable : Bool) where
             other_neighbours told s u usable t
             (λ is. let so : is_at (id_cmp s) t ≡ true = subst (λ z. is_at (id_cmp s) z ≡ true) is (is_itself s) in absurd (cc))
 
-    pub known_kept : is_alive after s u ≡ is_alive told s u → (edges : List Edge) (down core up : List (SwitchId × List Bool)) (lists before : Lists) →
-        IsKept told edges down core up lists before → IsKept after edges down core up lists before
+    pub known_kept : is_alive after s u ≡ is_alive told s u → (edges : List Edge) (missed : Misses) (lists before : Lists) →
+        IsKept told edges missed lists before → IsKept after edges missed lists before
     known_kept h = alike_kept told after (λ x. refl) (alive_after h) near_same switches_same
 
 -- a place that is told again
 pub place_kept : (told : Told) (s : SwitchId) (place : Place) → has_told told s ≡ true → place ≡ place_of told s →
-    (edges : List Edge) (down core up : List (SwitchId × List Bool)) (lists before : Lists) →
-    IsKept told edges down core up lists before → IsKept (with_place told s place) edges down core up lists before
+    (edges : List Edge) (missed : Misses) (lists before : Lists) →
+    IsKept told edges missed lists before → IsKept (with_place told s place) edges missed lists before
 place_kept told s place heard is =
     alike_kept told (with_place told s place) same (λ x y. refl) (λ x. refl)
     (switches_placed told s place ∙ insert_nothing (switches told) s (switches_rise told) (told_among s (switches told) heard))

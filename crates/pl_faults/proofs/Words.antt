@@ -1,7 +1,6 @@
 -- What one word leaves of what all other switches told.
-use Rattle.std.proofs.Common.{◌≡◌, Bool, true, false, cond, List, Option, Some, refl, sym, ap, ◌∙◌, subst, inl, inr}
+use Rattle.std.proofs.Common.{◌≡◌, Bool, true, false, cond, Option, Some, refl, sym, ap, ◌∙◌, subst, inl, inr}
 use Rattle.std.specs.Prelude.{unwrap_or}
-use Rattle.std.specs.Ordering.{is_eq}
 use Rattle.std.specs.List.{list_any}
 use Rattle.std.specs.BTreeMap.{is_at}
 use Rattle.std.specs.BTreeSet.{insert_key}
@@ -17,7 +16,7 @@ use Rattle.pl_manager_rule.proofs.History.{value_after}
 use Rattle.pl_reports.specs.Kept.{has_told}
 use Rattle.pl_reports.proofs.Telling.{other_neighbours, switches_linked, switches_placed}
 use Rattle.pl_faults.specs.Kept.{IsWordOf}
-use Rattle.pl_faults.proofs.Anew.{among_told, at_is, at_turned, is_itself, still_linked, still_placed, told_among}
+use Rattle.pl_faults.proofs.Anew.{among_told, at_turned, is_itself, still_linked, still_placed, told_among}
 use Rattle.pl_faults.proofs.Turned.{in_itself}
 
 -- a switch that is not the one that told is heard just where it was

@@ -10,7 +10,7 @@ use Rattle.pl_manager_rule.specs.ManagerRule.{same_avoid_list}
 use Rattle.pl_reports.specs.Kept.{has_told, nothing_told}
 use Rattle.pl_faults.specs.declared.edges.Edge.{Edge}
 use Rattle.pl_faults.specs.Making.{Avoided}
-use Rattle.pl_faults.specs.Rows.{IsLeading}
+use Rattle.pl_faults.specs.Missed.{IsLeading, Misses}
 
 -- lists of switches, by rising id
 abbrev pub Lists : Type 0
@@ -83,20 +83,20 @@ abbrev pub is_in : List SwitchId → SwitchId → Bool
 is_in list s = list_any (is_at (id_cmp s)) list
 
 -- whether the list of a switch is to be made anew, where some turned
-abbrev pub is_touched : Told → Bool → List SwitchId → SwitchId → Bool
-is_touched told all turned s = all || (is_in turned s || list_any (λ u. is_in turned u) (neighbours told s))
+abbrev pub is_touched : Told → List SwitchId → SwitchId → Bool
+is_touched told turned s = is_in turned s || list_any (λ u. is_in turned u) (neighbours told s)
 
 -- the lists of the others are what they were
-abbrev pub AreStill : Told → Bool → List SwitchId → Lists → Type 0
-AreStill told all turned lists =
-    (s : SwitchId) → has_told told s ≡ true → is_touched told all turned s ≡ false → value_at id_cmp lists s ≡ Some (avoid_list told s)
+abbrev pub AreStill : Told → List SwitchId → Lists → Type 0
+AreStill told turned lists =
+    (s : SwitchId) → has_told told s ≡ true → is_touched told turned s ≡ false → value_at id_cmp lists s ≡ Some (avoid_list told s)
 
--- rows, lists and the lists that were handed out, by what was told
-pub record IsKept (told : Told) (edges : List Edge) (down core up : List (SwitchId × List Bool)) (lists before : Lists) : Type 0 where
-  pub leading : IsLeading told edges down core up
+-- what is missed, the lists, and the lists that were handed out, by what was told
+pub record IsKept (told : Told) (edges : List Edge) (missed : Misses) (lists before : Lists) : Type 0 where
+  pub leading : IsLeading told edges missed
   pub listed : AreListsOf told lists before
 
 -- the same after a word, where what was handed out stays
-pub record IsKeptUp (told : Told) (lists before : Lists) (edges : List Edge) (down core up : List (SwitchId × List Bool)) (lists_after before_after : Lists) : Type 0 where
-  pub kept : IsKept told edges down core up lists_after before_after
+pub record IsKeptUp (told : Told) (lists before : Lists) (edges : List Edge) (missed : Misses) (lists_after before_after : Lists) : Type 0 where
+  pub kept : IsKept told edges missed lists_after before_after
   pub handed : (s : SwitchId) → handed_in lists_after before_after s ≡ handed_in lists before s

@@ -1,3 +1,4 @@
 pub mod Making
 pub mod Kept
 pub mod Rows
+pub mod Missed

@@ -3,7 +3,7 @@ use Rattle.std.specs.Prelude.{ℕ, List, [], ◌∷◌, ◌++◌, if◌then◌el
 use Rattle.std.specs.BTreeSet.{insert_key}
 use Rattle.pl_frame.specs.declared.address.SwitchId.{SwitchId}
 use Rattle.pl_core.specs.ManagerViews.{PlacedEdge, Told}
-use Rattle.pl_core.specs.AvoidLists.{avoided_cmp, is_above, is_cut}
+use Rattle.pl_core.specs.AvoidLists.{avoided_at, avoided_cmp, is_above}
 use Rattle.pl_faults.specs.declared.edges.Edge.{Edge}
 
 -- id, pod and position
@@ -19,10 +19,6 @@ abbrev pub with_placed : List PlacedEdge → Option PlacedEdge → List PlacedEd
 with_placed edges None = edges
 with_placed edges (Some e) = edges ++ e ∷ []
 
--- one more edge switch for which s may avoid u
-abbrev pub with_edge : Told → SwitchId → SwitchId → List Avoided → Edge → List Avoided
-with_edge told s u list e = if is_cut told s u (placed_as e) then insert_key avoided_cmp list (u, e.pod, e.position) else list
-
--- all of them, for one neighbour
-unfoldable pub with_neighbour : Told → SwitchId → List Edge → List Avoided → SwitchId → List Avoided
-with_neighbour told s edges list u = if is_above told s u then fold (with_edge told s u) list edges else list
+-- all for which s avoids one more neighbour
+unfoldable pub with_neighbour : Told → SwitchId → List Avoided → SwitchId → List Avoided
+with_neighbour told s list u = if is_above told s u then fold (insert_key avoided_cmp) list (avoided_at told s u) else list

@@ -1,16 +1,13 @@
 -- Where the switches above the edge switches lead on to, in rows: for each switch a value for each placed edge switch.
-use Rattle.std.specs.Prelude.{◌≡◌, ◌&&◌, ◌||◌, ℕ, Bool, true, false, not, List, [], ◌∷◌, if◌then◌else◌, Option, Some, None, map, slice_index_or}
+use Rattle.std.specs.Prelude.{◌≡◌, ◌&&◌, ◌||◌, ℕ, Bool, true, false, List, [], if◌then◌else◌, Option, Some, None, map, slice_index_or}
 use Rattle.std.specs.List.{list_any, zip}
-use Rattle.std.specs.BTreeSet.{insert_key}
 use Rattle.pl_frame.specs.declared.address.SwitchId.{SwitchId}
 use Rattle.pl_layouts.specs.declared.place.Place.{Place}
-use Rattle.pl_layouts.specs.Equality.{same_switch}
 use Rattle.pl_layouts.specs.Placement.{is_known}
-use Rattle.pl_core.specs.ManagerViews.{Told, has_level, has_pod, id_cmp, is_alive, neighbours, placed_edges, value_at}
-use Rattle.pl_core.specs.AvoidLists.{avoided_cmp, leads_to}
+use Rattle.pl_core.specs.ManagerViews.{Told, alive_neighbours, has_level, has_pod, id_cmp, is_alive, value_at}
+use Rattle.pl_core.specs.AvoidLists.{leads_to}
 use Rattle.pl_reports.specs.Kept.{has_told}
 use Rattle.pl_faults.specs.declared.edges.Edge.{Edge}
-use Rattle.pl_faults.specs.Making.{Avoided, placed_as}
 
 -- what a row says of one switch
 abbrev pub Leads : Type 0
@@ -22,7 +19,7 @@ leads_down told e u = has_pod told u e.pod && is_alive told u e.switch
 
 -- by some neighbour of a level, over a link that is alive, as f says of the neighbour
 abbrev pub leads_by : Told → ℕ → Leads → Leads
-leads_by told level f e u = list_any (λ x. is_alive told u x && has_level told x level && f e x) (neighbours told u)
+leads_by told level f e u = list_any (λ x. has_level told x level && f e x) (alive_neighbours told u)
 
 -- by some neighbour or not at all
 abbrev pub leads_on : Told → Leads
@@ -48,21 +45,6 @@ pub record IsReach (told : Told) (edges : List Edge) (down core up : List (Switc
   pub by_core : AreRows told 2 edges (leads_by told 1 (leads_down told)) core
   pub by_two : AreRows told 1 edges (leads_by told 2 (leads_by told 1 (leads_down told))) up
 
-abbrev pub is_some_edge : List Edge → Bool
-is_some_edge [] = false
-is_some_edge (e ∷ es) = true
-
--- the placed edge switches, and the rows where there is one
-pub record IsLeading (told : Told) (edges : List Edge) (down core up : List (SwitchId × List Bool)) : Type 0 where
-  pub placed : map placed_as edges ≡ placed_edges told
-  pub rows : is_some_edge edges ≡ true → IsReach told edges down core up
-
--- the rows of a switch in two tables are the same
-pub record AreSameRows (u : SwitchId) (down core up down_after core_after up_after : List (SwitchId × List Bool)) : Type 0 where
-  pub by_link : row_at down u ≡ row_at down_after u
-  pub by_core : row_at core u ≡ row_at core_after u
-  pub by_two : row_at up u ≡ row_at up_after u
-
 -- a row, with that of a neighbour if it is to be added
 abbrev pub with_row : Bool → Option (List Bool) → List Bool → List Bool
 with_row false more row = row
@@ -82,12 +64,3 @@ abbrev pub leads_at : Place → Edge → Bool → Bool → Bool → Bool
 leads_at place e down core up =
     if is_known place.level 1 then (if is_known place.pod e.pod then down else up)
     else (if is_known place.level 2 then core else false)
-
--- whether a switch at this place sends down for a pod
-abbrev pub sends_down : Place → ℕ → Bool
-sends_down place pod = is_known place.level 1 && is_known place.pod pod
-
--- one more edge switch for which s at this place may avoid u
-abbrev pub with_edge_at : Place → SwitchId → SwitchId → Bool → List Avoided → Edge → List Avoided
-with_edge_at place s u leads list e =
-    if not (same_switch e.switch s) && (not (sends_down place e.pod) && not leads) then insert_key avoided_cmp list (u, e.pod, e.position) else list

@@ -1,45 +1,43 @@
-ghost use Rattle.std.specs.Prelude.{◌≡◌, ◌&&◌, IfOk, IsTrue, OnOk, [], false, map, is_some, not, true};
-ghost use Rattle.std.specs.Option.{option_copied};
+ghost use Rattle.std.specs.Prelude.{◌≡◌, ◌&&◌, IfOk, IsTrue, OnOk, [], false, is_some, not, true};
 ghost use Rattle.pl_frame.specs.declared.address.SwitchId.{SwitchId};
-ghost use Rattle.pl_core.specs.ManagerViews.{edge_at, place_of, placed_edges};
+ghost use Rattle.pl_core.specs.ManagerViews.{edge_at, place_of};
 ghost use Rattle.pl_reports.specs.Kept.{has_told};
 ghost use Rattle.pl_faults.specs.Kept.{is_in};
-ghost use Rattle.pl_faults.specs.Making.{placed_as};
-ghost use Rattle.pl_faults.specs.Rows.{AreSameRows, IsReach, is_some_edge};
+ghost use Rattle.pl_faults.specs.Missed.{IsLeading, is_some_edge, missed_in};
 
 use crate::edges::{Edge, edge_at, placed_edges};
-use crate::reach::{Reach, no_reach, reach_of};
-use crate::row::Row;
+use crate::missed::{Misses, missed_in, misses_of};
 use pl_core::{Memory, SwitchList};
 use pl_frame::SwitchId;
 use pl_reports::Reports;
 use std::alloc::Global;
+use std::collections::BTreeMap;
 
-/// The placed edge switches, and to which of them each switch leads on.
+/// The placed edge switches, and which of them each switch misses.
 #[derive(Debug, Drop)]
 pub(crate) struct Leading {
     pub(crate) edges: Vec<Edge>,
-    pub(crate) reach: Reach,
+    pub(crate) misses: Misses,
 }
 
 /// No edge switch is placed.
 pub(crate) fn no_leading(alloc: Global) -> Leading
-    ensures { result.edges.items ≡ [] }
+    ensures edges { result.edges.items ≡ [] }
+    ensures misses { result.misses.entries ≡ [] }
 {
     Leading {
         edges: Vec::new(alloc),
-        reach: no_reach(alloc),
+        misses: BTreeMap::new(alloc),
     }
 }
 
 /// It, by what was told.
 pub(crate) fn leading_of(alloc: Global, reports: &Reports) -> Result<Leading, Memory>
-    ensures placed { IfOk result (λ leading. map placed_as leading.edges.items ≡ placed_edges reports.now) }
-    ensures rows { IfOk result (λ leading. IsReach reports.now leading.edges.items leading.reach.down.entries leading.reach.core.entries leading.reach.up.entries) }
+    ensures { IfOk result (λ leading. IsLeading reports.now leading.edges.items leading.misses.entries) }
 {
     let edges = placed_edges(alloc, reports)?;
-    let reach = reach_of(alloc, reports, edges.as_slice())?;
-    Ok(Leading { edges, reach })
+    let misses = misses_of(alloc, reports, edges.as_slice())?;
+    Ok(Leading { edges, misses })
 }
 
 /// Whether no edge switch was placed, nor is this switch one now.
@@ -62,13 +60,6 @@ fn is_edge(reports: &Reports, switch: SwitchId) -> bool
     ensures { result ≡ is_some (edge_at switch (place_of reports.now switch)) }
 {
     edge_at(switch, reports.place_of(switch)).is_some()
-}
-
-/// Whether the placed edge switches are others.
-pub(crate) fn are_others(a: &[Edge], b: &[Edge]) -> bool
-    ensures { result ≡ false → a.now ≡ b.now }
-{
-    !are_same(a, b)
 }
 
 fn are_same(a: &[Edge], b: &[Edge]) -> bool
@@ -97,16 +88,16 @@ fn is_same_edge(a: Edge, b: Edge) -> bool
     a == b
 }
 
-/// A switch, and all that told something and whose rows turned.
+/// A switch, and all that told something and miss others than before.
 pub(crate) fn turned_between(
     alloc: Global,
     reports: &Reports,
-    former: &Reach,
-    fresh: &Reach,
+    former: &Misses,
+    fresh: &Misses,
     switch: SwitchId,
 ) -> Result<SwitchList, Memory>
     ensures itself { IfOk result (λ list. is_in list switch ≡ true) }
-    ensures others { IfOk result (λ list. (t : SwitchId) → has_told reports.now t ≡ true → is_in list t ≡ false → AreSameRows t former.now.down.entries former.now.core.entries former.now.up.entries fresh.now.down.entries fresh.now.core.entries fresh.now.up.entries) }
+    ensures others { IfOk result (λ list. (t : SwitchId) → has_told reports.now t ≡ true → is_in list t ≡ false → missed_in former.now.entries t ≡ missed_in fresh.now.entries t) }
 {
     let mut list = SwitchList::new(alloc);
     list.insert(switch)?;
@@ -116,37 +107,25 @@ pub(crate) fn turned_between(
     Ok(list)
 }
 
-// Puts in a switch whose rows turned.
+// Puts in a switch that misses others.
 fn add_turned(
     list: &mut SwitchList,
-    former: &Reach,
-    fresh: &Reach,
+    former: &Misses,
+    fresh: &Misses,
     switch: SwitchId,
 ) -> Result<(), Memory>
     ensures stays { OnOk result ((t : SwitchId) → is_in list.old t ≡ true → is_in list.new t ≡ true) }
-    ensures same { OnOk result (is_in list.new switch ≡ false → AreSameRows switch former.now.down.entries former.now.core.entries former.now.up.entries fresh.now.down.entries fresh.now.core.entries fresh.now.up.entries) }
+    ensures same { OnOk result (is_in list.new switch ≡ false → missed_in former.now.entries switch ≡ missed_in fresh.now.entries switch) }
 {
-    if has_same_rows(former, fresh, switch) {
+    if misses_the_same(former, fresh, switch) {
         return Ok(());
     }
     list.insert(switch)?;
     Ok(())
 }
 
-fn has_same_rows(former: &Reach, fresh: &Reach, switch: SwitchId) -> bool
-    ensures { IsTrue result → AreSameRows switch former.now.down.entries former.now.core.entries former.now.up.entries fresh.now.down.entries fresh.now.core.entries fresh.now.up.entries }
+fn misses_the_same(former: &Misses, fresh: &Misses, switch: SwitchId) -> bool
+    ensures { IsTrue result → missed_in former.now.entries switch ≡ missed_in fresh.now.entries switch }
 {
-    is_same_row(former.down(switch), fresh.down(switch))
-        && is_same_row(former.core(switch), fresh.core(switch))
-        && is_same_row(former.up(switch), fresh.up(switch))
-}
-
-fn is_same_row(a: Option<&Row>, b: Option<&Row>) -> bool
-    ensures { IsTrue result → option_copied a.entry ≡ option_copied b.entry }
-{
-    match (a, b) {
-        (Some(a), Some(b)) => a.is_same(b),
-        (None, None) => true,
-        _ => false,
-    }
+    are_same(missed_in(former, switch), missed_in(fresh, switch))
 }

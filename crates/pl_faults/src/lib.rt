@@ -10,6 +10,7 @@ mod leading;
 mod lists;
 mod making;
 mod matrix;
+mod missed;
 mod reach;
 mod renewing;
 mod row;

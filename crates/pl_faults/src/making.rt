@@ -1,12 +1,13 @@
-ghost use Rattle.std.specs.Prelude.{◌≡◌, [], true, IfOk, OnOk, fold, map};
-ghost use Rattle.pl_core.specs.AvoidLists.{avoid_list, is_above};
-ghost use Rattle.pl_core.specs.ManagerViews.{placed_edges};
-ghost use Rattle.pl_reports.specs.Kept.{has_told};
-ghost use Rattle.pl_faults.specs.Making.{placed_as, with_edge, with_neighbour};
-ghost use Rattle.pl_faults.specs.Rows.{IsReach, sends_down, with_edge_at};
+ghost use Rattle.std.specs.Prelude.{◌≡◌, true, IfOk, OnOk, fold};
+ghost use Rattle.std.specs.BTreeSet.{insert_key};
+ghost use Rattle.pl_core.specs.AvoidLists.{avoid_list, avoided_at, avoided_cmp, is_above};
+ghost use Rattle.pl_faults.specs.Making.{with_neighbour};
+ghost use Rattle.pl_faults.specs.Missed.{IsLeading, is_avoided, sends_down, with_missed};
 
 use crate::edges::Edge;
-use crate::reach::{Reach, has_level, has_pod, leads_at};
+use crate::leading::Leading;
+use crate::missed::missed_in;
+use crate::reach::{has_level, has_pod};
 use pl_core::{AvoidList, Memory, Place};
 use pl_frame::SwitchId;
 use pl_reports::Reports;
@@ -16,17 +17,15 @@ use std::alloc::Global;
 pub(crate) fn avoid_list_of(
     alloc: Global,
     reports: &Reports,
-    edges: &[Edge],
-    reach: &Reach,
+    leading: &Leading,
     switch: SwitchId,
 ) -> Result<AvoidList, Memory>
-    requires edges { map placed_as edges.now ≡ placed_edges reports.now }
-    requires reach { IsReach reports.now edges.now reach.now.down.entries reach.now.core.entries reach.now.up.entries }
+    requires { IsLeading reports.now leading.now.edges.items leading.now.misses.entries }
     ensures { IfOk result (λ list. list ≡ avoid_list reports.now switch) }
 {
     let mut list = AvoidList::new(alloc);
     for neighbour in reports.neighbours(switch) {
-        add_neighbour(&mut list, reports, edges, reach, switch, *neighbour)?;
+        add_neighbour(&mut list, reports, leading, switch, *neighbour)?;
     }
     Ok(list)
 }
@@ -35,41 +34,34 @@ pub(crate) fn avoid_list_of(
 fn add_neighbour(
     list: &mut AvoidList,
     reports: &Reports,
-    edges: &[Edge],
-    reach: &Reach,
+    leading: &Leading,
     switch: SwitchId,
     neighbour: SwitchId,
 ) -> Result<(), Memory>
-    requires { IsReach reports.now edges.now reach.now.down.entries reach.now.core.entries reach.now.up.entries }
-    ensures { OnOk result (list.new ≡ with_neighbour reports.now switch edges.now list.old neighbour) }
+    requires { IsLeading reports.now leading.now.edges.items leading.now.misses.entries }
+    ensures { OnOk result (list.new ≡ with_neighbour reports.now switch list.old neighbour) }
 {
     if is_above(reports, switch, neighbour) {
-        add_edges(list, reports, edges, reach, switch, neighbour)?;
+        add_missed(list, reports, leading, switch, neighbour)?;
     }
     Ok(())
 }
 
-fn add_edges(
+// Puts in those that a neighbour above misses.
+fn add_missed(
     list: &mut AvoidList,
     reports: &Reports,
-    edges: &[Edge],
-    reach: &Reach,
+    leading: &Leading,
     switch: SwitchId,
     neighbour: SwitchId,
 ) -> Result<(), Memory>
-    requires reach { IsReach reports.now edges.now reach.now.down.entries reach.now.core.entries reach.now.up.entries }
-    requires told { has_told reports.now neighbour ≡ true }
-    ensures { OnOk result (list.new ≡ fold (with_edge reports.now switch neighbour) list.old edges.now) }
+    requires leading { IsLeading reports.now leading.now.edges.items leading.now.misses.entries }
+    requires above { is_above reports.now switch neighbour ≡ true }
+    ensures { OnOk result (list.new ≡ fold (insert_key avoided_cmp) list.old (avoided_at reports.now switch neighbour)) }
 {
     let place = reports.place_of(switch);
-    let above = reports.place_of(neighbour);
-    let down = reach.down(neighbour);
-    let core = reach.core(neighbour);
-    let up = reach.up(neighbour);
-    for i in 0..edges.len() {
-        let edge = &edges[i];
-        let led = leads_at(above, down, core, up, edge, i);
-        add_edge(list, edge, place, switch, neighbour, led)?;
+    for edge in missed_in(&leading.misses, neighbour) {
+        add_edge(list, edge, place, switch, neighbour)?;
     }
     Ok(())
 }
@@ -80,14 +72,20 @@ fn add_edge(
     place: Place,
     switch: SwitchId,
     neighbour: SwitchId,
-    leads: bool,
 ) -> Result<(), Memory>
-    ensures { OnOk result (list.new ≡ with_edge_at place switch neighbour leads list.old edge.now) }
+    ensures { OnOk result (list.new ≡ with_missed place switch neighbour list.old edge.now) }
 {
-    if edge.switch != switch && (!sends_down(place, edge.pod) && !leads) {
+    if is_avoided(place, switch, edge) {
         list.insert((neighbour, edge.pod, edge.position))?;
     }
     Ok(())
+}
+
+// Whether a switch at this place avoids a neighbour for an edge switch that the neighbour misses.
+fn is_avoided(place: Place, switch: SwitchId, edge: &Edge) -> bool
+    ensures { result ≡ is_avoided place switch edge.now }
+{
+    edge.switch != switch && !sends_down(place, edge.pod)
 }
 
 // Whether a neighbour is one level above a switch.

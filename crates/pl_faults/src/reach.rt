@@ -1,6 +1,6 @@
-ghost use Rattle.std.specs.Prelude.{◌≡◌, ◌&&◌, IfOk, OnOk};
+ghost use Rattle.std.specs.Prelude.{◌≡◌, IfOk, OnOk};
 ghost use Rattle.std.specs.Option.{option_copied};
-ghost use Rattle.pl_core.specs.ManagerViews.{has_level, is_alive};
+ghost use Rattle.pl_core.specs.ManagerViews.{has_level};
 ghost use Rattle.pl_layouts.specs.Placement.{is_known};
 ghost use Rattle.pl_faults.specs.Rows.{AreRows, IsReach, Leads, leads_at, leads_by, leads_down, row_at, row_at_level, row_of, value_of, with_row};
 
@@ -21,15 +21,6 @@ pub(crate) struct Reach {
     down: Rows,
     core: Rows,
     up: Rows,
-}
-
-/// No switch has a row.
-pub(crate) fn no_reach(alloc: Global) -> Reach {
-    Reach {
-        down: BTreeMap::new(alloc),
-        core: BTreeMap::new(alloc),
-        up: BTreeMap::new(alloc),
-    }
 }
 
 /// It, by what was told.
@@ -117,41 +108,30 @@ fn row_by(
     ensures { IfOk result (λ row. (f : Leads) → AreRows reports.now level edges.now f by.now.entries → row ≡ row_of (leads_by reports.now level f) edges.now switch) }
 {
     let mut row = Row::empty(alloc, edges)?;
-    for neighbour in reports.neighbours(switch) {
-        add_row(alloc, reports, &mut row, by, level, switch, *neighbour)?;
+    for neighbour in reports.alive_neighbours(switch) {
+        add_row(alloc, reports, &mut row, by, level, *neighbour)?;
     }
     Ok(row)
 }
 
-// Adds the row of a neighbour of the level over a link that is alive.
+// Adds the row of a neighbour of the level.
 fn add_row(
     alloc: Global,
     reports: &Reports,
     row: &mut Row,
     by: &Rows,
     level: u8,
-    switch: SwitchId,
     neighbour: SwitchId,
 ) -> Result<(), Memory>
-    ensures { OnOk result (row.new ≡ with_row (is_alive reports.now switch neighbour && has_level reports.now neighbour level) (row_at by.now.entries neighbour) row.old) }
+    ensures { OnOk result (row.new ≡ with_row (has_level reports.now neighbour level) (row_at by.now.entries neighbour) row.old) }
 {
-    if !is_linked(reports, switch, neighbour, level) {
+    if !has_level(reports.place_of(neighbour), level) {
         return Ok(());
     }
     match by.get(&neighbour) {
         Some(more) => row.add(alloc, more),
         None => Ok(()),
     }
-}
-
-// Whether a neighbour over a link that is alive has this level.
-fn is_linked(reports: &Reports, switch: SwitchId, neighbour: SwitchId, level: u8) -> bool
-    ensures { result ≡ (is_alive reports.now switch neighbour && has_level reports.now neighbour level) }
-{
-    if !has_level(reports.place_of(neighbour), level) {
-        return false;
-    }
-    reports.is_alive(switch, neighbour)
 }
 
 impl Reach {

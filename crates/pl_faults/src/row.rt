@@ -1,4 +1,4 @@
-ghost use Rattle.std.specs.Prelude.{◌≡◌, ◌&&◌, ◌||◌, [], IfOk, IsTrue, OnOk, false, map, slice_index_or};
+ghost use Rattle.std.specs.Prelude.{◌≡◌, ◌&&◌, ◌||◌, [], IfOk, OnOk, false, length, map, slice_index_or};
 ghost use Rattle.std.specs.List.{zip};
 ghost use Rattle.pl_core.specs.ManagerViews.{is_alive};
 ghost use Rattle.pl_layouts.specs.Placement.{is_known};
@@ -61,15 +61,12 @@ impl Row {
     pub(crate) fn add(&mut self, alloc: Global, more: &Row) -> Result<(), Memory>
         ensures { OnOk result (self.new ≡ map (λ p. p.0 || p.1) (zip self.old more.now)) }
     {
+        if self.values.len() == more.values.len() {
+            add_each(self.values.as_mut_slice(), more.values.as_slice());
+            return Ok(());
+        }
         self.values = either_of(alloc, self.values.as_slice(), more.values.as_slice())?;
         Ok(())
-    }
-
-    /// Whether another row is the same.
-    pub(crate) fn is_same(&self, other: &Row) -> bool
-        ensures { IsTrue result → self.now ≡ other.now }
-    {
-        are_same(self.values.as_slice(), other.values.as_slice())
     }
 
     /// The value of edge switch number i.
@@ -114,10 +111,20 @@ fn either_of(alloc: Global, a: &[bool], b: &[bool]) -> Result<Vec<bool>, Memory>
     a.iter().zip(b).map(|(x, y)| *x || *y).collect(alloc)
 }
 
-fn are_same(a: &[bool], b: &[bool]) -> bool
-    ensures { IsTrue result → a.now ≡ b.now }
+// The same in place, where both are of one length.
+fn add_each(row: &mut [bool], more: &[bool])
+    requires { length row.old ≡ length more.now }
+    ensures { row.new ≡ map (λ p. p.0 || p.1) (zip row.old more.now) }
 {
-    a == b
+    for i in 0..row.len() {
+        row[i] = either(row[i], more[i]);
+    }
+}
+
+fn either(x: bool, y: bool) -> bool
+    ensures { result ≡ (x || y) }
+{
+    x || y
 }
 
 fn value_at(row: &[bool], i: usize) -> bool

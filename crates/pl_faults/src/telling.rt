@@ -25,9 +25,9 @@ pub(crate) fn keep_place(
     switch: SwitchId,
     place: Place,
 ) -> Result<(), Memory>
-    requires { IsKept reports.old leading.old.edges.items leading.old.reach.down.entries leading.old.reach.core.entries leading.old.reach.up.entries lists.old.entries before.old.entries }
+    requires { IsKept reports.old leading.old.edges.items leading.old.misses.entries lists.old.entries before.old.entries }
     ensures told { OnOk result (reports.new ≡ with_place reports.old switch place) }
-    ensures kept { OnOk result (IsKept reports.new leading.new.edges.items leading.new.reach.down.entries leading.new.reach.core.entries leading.new.reach.up.entries lists.new.entries before.new.entries) }
+    ensures kept { OnOk result (IsKept reports.new leading.new.edges.items leading.new.misses.entries lists.new.entries before.new.entries) }
     ensures handed { OnOk result ((s : SwitchId) → handed_in lists.new.entries before.new.entries s ≡ handed_in lists.old.entries before.old.entries s) }
 {
     let known = is_told_place(reports, switch, place);
@@ -63,9 +63,9 @@ pub(crate) fn keep_link(
     neighbour: SwitchId,
     usable: bool,
 ) -> Result<(), Memory>
-    requires { IsKept reports.old leading.old.edges.items leading.old.reach.down.entries leading.old.reach.core.entries leading.old.reach.up.entries lists.old.entries before.old.entries }
+    requires { IsKept reports.old leading.old.edges.items leading.old.misses.entries lists.old.entries before.old.entries }
     ensures told { OnOk result (reports.new ≡ with_link reports.old switch neighbour usable) }
-    ensures kept { OnOk result (IsKept reports.new leading.new.edges.items leading.new.reach.down.entries leading.new.reach.core.entries leading.new.reach.up.entries lists.new.entries before.new.entries) }
+    ensures kept { OnOk result (IsKept reports.new leading.new.edges.items leading.new.misses.entries lists.new.entries before.new.entries) }
     ensures handed { OnOk result ((s : SwitchId) → handed_in lists.new.entries before.new.entries s ≡ handed_in lists.old.entries before.old.entries s) }
 {
     if knows(reports, switch, neighbour) {
@@ -103,9 +103,9 @@ fn keep_new_link(
     neighbour: SwitchId,
     usable: bool,
 ) -> Result<(), Memory>
-    requires { IsKept reports.old leading.old.edges.items leading.old.reach.down.entries leading.old.reach.core.entries leading.old.reach.up.entries lists.old.entries before.old.entries }
+    requires { IsKept reports.old leading.old.edges.items leading.old.misses.entries lists.old.entries before.old.entries }
     ensures told { OnOk result (reports.new ≡ with_link reports.old switch neighbour usable) }
-    ensures kept { OnOk result (IsKept reports.new leading.new.edges.items leading.new.reach.down.entries leading.new.reach.core.entries leading.new.reach.up.entries lists.new.entries before.new.entries) }
+    ensures kept { OnOk result (IsKept reports.new leading.new.edges.items leading.new.misses.entries lists.new.entries before.new.entries) }
     ensures handed { OnOk result ((s : SwitchId) → handed_in lists.new.entries before.new.entries s ≡ handed_in lists.old.entries before.old.entries s) }
 {
     reports.report(switch, neighbour, usable)?;
@@ -124,10 +124,10 @@ fn keep_known_link(
     neighbour: SwitchId,
     usable: bool,
 ) -> Result<(), Memory>
-    requires kept { IsKept reports.old leading.old.edges.items leading.old.reach.down.entries leading.old.reach.core.entries leading.old.reach.up.entries lists.old.entries before.old.entries }
+    requires kept { IsKept reports.old leading.old.edges.items leading.old.misses.entries lists.old.entries before.old.entries }
     requires known { list_any (λ x. same_switch x neighbour) (neighbours reports.old switch) ≡ true }
     ensures told { OnOk result (reports.new ≡ with_link reports.old switch neighbour usable) }
-    ensures kept { OnOk result (IsKept reports.new leading.new.edges.items leading.new.reach.down.entries leading.new.reach.core.entries leading.new.reach.up.entries lists.new.entries before.new.entries) }
+    ensures kept { OnOk result (IsKept reports.new leading.new.edges.items leading.new.misses.entries lists.new.entries before.new.entries) }
     ensures handed { OnOk result ((s : SwitchId) → handed_in lists.new.entries before.new.entries s ≡ handed_in lists.old.entries before.old.entries s) }
 {
     let was = reports.is_alive(switch, neighbour);

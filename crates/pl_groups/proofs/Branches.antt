@@ -22,7 +22,7 @@ use Rattle.pl_manager_rule.proofs.Speakers.{same_itself}
 use Rattle.pl_manager_rule.proofs.Tables.{found_key}
 use Rattle.pl_groups.specs.Serving.{AreServed, part_of_told, served_by}
 use Rattle.pl_groups.proofs.Reached.{is_joined}
-use Rattle.pl_groups.proofs.Sorting.{all_rising, put_all}
+use Rattle.pl_reports.proofs.Sorting.{all_rising, put_all}
 use Rattle.pl_groups.proofs.Edges.{any_more}
 
 abbrev Served : Type 0
@@ -210,3 +210,17 @@ pub core_is : (told : Told) (members : Members) (group : ℕ) (needed : List Swi
     o ≡ core_for told group needed → o ≡ core_of told members group
 unfolding core_of
 core_is told members group needed o is found = found ∙ ap (core_for told group) is
+
+-- ---- whether a neighbour above an edge switch leads up, tested in another order
+pub up_near : (joined in_pod linked : Bool) → (linked && in_pod) ≡ true → joined ≡ (joined && (in_pod && linked))
+up_near false in_pod linked h = refl
+up_near true true true h = refl
+up_near true true false h = absurd (false≢true h)
+up_near true false true h = absurd (false≢true h)
+up_near true false false h = absurd (false≢true h)
+
+pub up_far : (joined in_pod linked : Bool) → (linked && in_pod) ≡ false → false ≡ (joined && (in_pod && linked))
+up_far false in_pod linked h = refl
+up_far true true true h = absurd (false≢true (sym h))
+up_far true true false h = refl
+up_far true false linked h = refl

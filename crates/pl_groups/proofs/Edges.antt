@@ -10,13 +10,14 @@ use Rattle.std.proofs.lemmas.Bool.{and_parts, false≢true}
 use Rattle.std.proofs.lemmas.Cmp.{tied_itself}
 use Rattle.pl_frame.specs.declared.address.SwitchId.{SwitchId}
 use Rattle.pl_layouts.specs.Equality.{same_switch}
-use Rattle.pl_core.specs.ManagerViews.{Told, id_cmp, is_alive, is_told_usable, link_cmp, neighbours, value_at}
-use Rattle.pl_core.proofs.Among.{IsAmong, among_in_order, any_among, id_total}
+use Rattle.pl_core.specs.ManagerViews.{Told, alive_neighbours, id_cmp, is_alive, is_told_usable, link_cmp, neighbours, value_at}
+use Rattle.pl_core.proofs.Among.{IsAmong, among_filter, among_filtered, among_in_order, any_among, id_total}
 use Rattle.pl_manager_rule.proofs.Avoided.{id_exact, same_is}
 use Rattle.pl_manager_rule.proofs.Tables.{found_key}
 use Rattle.pl_reports.proofs.Telling.{link_exact, near_of_key}
 use Rattle.pl_groups.specs.Serving.{AreServed, served_by}
-use Rattle.pl_groups.proofs.Sorting.{filter_more, put_in}
+use Rattle.pl_reports.proofs.Sorting.{filter_more, put_in}
+use Rattle.pl_groups.proofs.Reached.{one_passes}
 
 abbrev pub Served : Type 0
 Served = List (SwitchId × List SwitchId)
@@ -44,20 +45,24 @@ neighbour_told told s u h =
 pub alive_neighbour : (told : Told) (s u : SwitchId) → is_alive told s u ≡ true → IsAmong u (neighbours told s)
 alive_neighbour told s u h = neighbour_told told s u (and_parts (is_told_usable told s u) (is_told_usable told u s) h).0
 
--- so all switches that serve an edge switch are among its neighbours
-pub served_by_neighbours : (told : Told) (edge a : SwitchId) →
-    (list_any (same_switch a) (neighbours told edge) && is_alive told a edge) ≡ is_alive told a edge
+-- so just the switches that serve an edge switch are its neighbours over such links
+pub served_by_neighbours : (told : Told) (edge a : SwitchId) → list_any (same_switch a) (alive_neighbours told edge) ≡ is_alive told a edge
 served_by_neighbours told edge a = by (is_alive told a edge) refl
   where
-    by : (b : Bool) → is_alive told a edge ≡ b → (list_any (same_switch a) (neighbours told edge) && b) ≡ b
+    none : is_alive told a edge ≡ false → (b : Bool) → list_any (same_switch a) (alive_neighbours told edge) ≡ b → b ≡ false
+    none e false h = refl
+    none e true h =
+        let one = one_passes (same_switch a) (alive_neighbours told edge) h in
+        let alive = among_filter (is_alive told edge) one.0 (neighbours told edge) one.1 in
+        let is : a ≡ one.0 = same_is a one.0 one.2 in
+        sym (subst (λ z. is_alive told edge z ≡ true) (sym is) alive.1) ∙ alive_back told edge a ∙ e
+
+    by : (b : Bool) → is_alive told a edge ≡ b → list_any (same_switch a) (alive_neighbours told edge) ≡ b
     by true e =
-        ap (λ c. c && true) (any_among (same_switch a) a (neighbours told edge)
-        (alive_neighbour told edge a (alive_back told edge a ∙ e)) (eq-eqb a.0 a.0 refl))
-    by false e = no_more (list_any (same_switch a) (neighbours told edge))
-      where
-        no_more : (c : Bool) → (c && false) ≡ false
-        no_more true = refl
-        no_more false = refl
+        let back : is_alive told edge a ≡ true = alive_back told edge a ∙ e in
+        any_among (same_switch a) a (alive_neighbours told edge)
+        (among_filtered (is_alive told edge) a (neighbours told edge) (alive_neighbour told edge a back) back) (eq-eqb a.0 a.0 refl)
+    by false e = none e (list_any (same_switch a) (alive_neighbours told edge)) refl
 
 -- ---- one neighbour after another
 pub is_here : (x a : SwitchId) → is_at (id_cmp x) a ≡ same_switch a x
@@ -96,57 +101,52 @@ any_more p (y ∷ xs) x = by (any_more p xs x) (p y)
     by rest false = rest
 
 -- what is served once some of the neighbours of an edge switch serve it
-abbrev pub served_so_far : Told → Served → SwitchId → List SwitchId → SwitchId → List SwitchId
-served_so_far told before edge xs a =
-    cond (list_any (same_switch a) xs && is_alive told a edge) (put_in (served_by before a) edge) (served_by before a)
+abbrev pub served_so_far : Served → SwitchId → List SwitchId → SwitchId → List SwitchId
+served_so_far before edge xs a =
+    cond (list_any (same_switch a) xs) (put_in (served_by before a) edge) (served_by before a)
 
-again : (l v : Bool) (edge : SwitchId) (all : List SwitchId) →
-    cond v (put_in (cond (l && v) (put_in all edge) all) edge) (cond (l && v) (put_in all edge) all) ≡ cond ((l || true) && v) (put_in all edge) all
-again true true edge all = put_twice all edge
-again false true edge all = refl
-again true false edge all = refl
-again false false edge all = refl
+again : (l : Bool) (edge : SwitchId) (all : List SwitchId) → put_in (cond l (put_in all edge) all) edge ≡ cond (l || true) (put_in all edge) all
+again true edge all = put_twice all edge
+again false edge all = refl
 
-none_more : (l v : Bool) (xs ys : List SwitchId) → cond (l && v) xs ys ≡ cond ((l || false) && v) xs ys
-none_more true v xs ys = refl
-none_more false v xs ys = refl
+none_more : (l : Bool) (xs ys : List SwitchId) → cond l xs ys ≡ cond (l || false) xs ys
+none_more true xs ys = refl
+none_more false xs ys = refl
 
-pub serve_more : (told : Told) (before old new : Served) (edge x : SwitchId) (xs : List SwitchId) →
-    ((a : SwitchId) → served_by old a ≡ served_so_far told before edge xs a) →
-    ((a : SwitchId) → served_by new a ≡ cond (is_at (id_cmp x) a && is_alive told x edge) (put_in (served_by old x) edge) (served_by old a)) →
-    (a : SwitchId) → served_by new a ≡ served_so_far told before edge (xs ++ x ∷ []) a
-serve_more told before old new edge x xs were says a =
+pub serve_more : (before old new : Served) (edge x : SwitchId) (xs : List SwitchId) →
+    ((a : SwitchId) → served_by old a ≡ served_so_far before edge xs a) →
+    ((a : SwitchId) → served_by new a ≡ cond (is_at (id_cmp x) a) (put_in (served_by old x) edge) (served_by old a)) →
+    (a : SwitchId) → served_by new a ≡ served_so_far before edge (xs ++ x ∷ []) a
+serve_more before old new edge x xs were says a =
     says a ∙ by (is_at (id_cmp x) a) refl
-    ∙ ap (λ c. cond (c && is_alive told a edge) (put_in (served_by before a) edge) (served_by before a)) (sym (any_more (same_switch a) xs x))
+    ∙ ap (λ c. cond c (put_in (served_by before a) edge) (served_by before a)) (sym (any_more (same_switch a) xs x))
   where
     by : (b : Bool) → is_at (id_cmp x) a ≡ b →
-        cond (b && is_alive told x edge) (put_in (served_by old x) edge) (served_by old a)
-        ≡ cond ((list_any (same_switch a) xs || same_switch a x) && is_alive told a edge) (put_in (served_by before a) edge) (served_by before a)
+        cond b (put_in (served_by old x) edge) (served_by old a)
+        ≡ cond (list_any (same_switch a) xs || same_switch a x) (put_in (served_by before a) edge) (served_by before a)
     by true at =
         let is : x ≡ a = id_exact x a ((Equal-is (id_cmp x a)).0 at) in
         let l = list_any (same_switch a) xs in
-        let v = is_alive told a edge in
-        ap (λ z. cond (is_alive told z edge) (put_in (served_by old z) edge) (served_by old a)) is
-        ∙ (λ i. cond v (put_in (were a i) edge) (were a i))
-        ∙ again l v edge (served_by before a)
-        ∙ ap (λ s. cond ((l || s) && v) (put_in (served_by before a) edge) (served_by before a)) (sym (sym (is_here x a) ∙ at))
+        ap (λ z. put_in (served_by old z) edge) is
+        ∙ ap (λ zs. put_in zs edge) (were a)
+        ∙ again l edge (served_by before a)
+        ∙ ap (λ s. cond (l || s) (put_in (served_by before a) edge) (served_by before a)) (sym (sym (is_here x a) ∙ at))
     by false at =
         let l = list_any (same_switch a) xs in
-        let v = is_alive told a edge in
-        were a ∙ none_more l v (put_in (served_by before a) edge) (served_by before a)
-        ∙ ap (λ s. cond ((l || s) && v) (put_in (served_by before a) edge) (served_by before a)) (sym (sym (is_here x a) ∙ at))
+        were a ∙ none_more l (put_in (served_by before a) edge) (served_by before a)
+        ∙ ap (λ s. cond (l || s) (put_in (served_by before a) edge) (served_by before a)) (sym (sym (is_here x a) ∙ at))
 
-pub serve_next : (told : Told) (before old new : Served) (edge : SwitchId) (items : List SwitchId) (i : ℕ) (x : SwitchId) →
+pub serve_next : (before old new : Served) (edge : SwitchId) (items : List SwitchId) (i : ℕ) (x : SwitchId) →
     take (i + 1) items ≡ take i items ++ x ∷ [] →
-    ((a : SwitchId) → served_by old a ≡ served_so_far told before edge (take i items) a) →
-    ((a : SwitchId) → served_by new a ≡ cond (is_at (id_cmp x) a && is_alive told x edge) (put_in (served_by old x) edge) (served_by old a)) →
-    (a : SwitchId) → served_by new a ≡ served_so_far told before edge (take (i + 1) items) a
-serve_next told before old new edge items i x more were says a =
-    serve_more told before old new edge x (take i items) were says a ∙ ap (λ xs. served_so_far told before edge xs a) (sym more)
+    ((a : SwitchId) → served_by old a ≡ served_so_far before edge (take i items) a) →
+    ((a : SwitchId) → served_by new a ≡ cond (is_at (id_cmp x) a) (put_in (served_by old x) edge) (served_by old a)) →
+    (a : SwitchId) → served_by new a ≡ served_so_far before edge (take (i + 1) items) a
+serve_next before old new edge items i x more were says a =
+    serve_more before old new edge x (take i items) were says a ∙ ap (λ xs. served_so_far before edge xs a) (sym more)
 
 -- all of its neighbours
 pub serve_all : (told : Told) (before new : Served) (edge : SwitchId) →
-    ((a : SwitchId) → served_by new a ≡ served_so_far told before edge (neighbours told edge) a) →
+    ((a : SwitchId) → served_by new a ≡ served_so_far before edge (alive_neighbours told edge) a) →
     (a : SwitchId) → served_by new a ≡ cond (is_alive told a edge) (put_in (served_by before a) edge) (served_by before a)
 serve_all told before new edge says a =
     says a ∙ ap (λ c. cond c (put_in (served_by before a) edge) (served_by before a)) (served_by_neighbours told edge a)

@@ -1,5 +1,5 @@
 -- Of the groups only floods stay.
-use Rattle.std.proofs.Common.{◌≡◌, ℕ, ◌==◌, Bool, List, [], ◌∷◌, map, nat_cmp, sym, inl, inr}
+use Rattle.std.proofs.Common.{◌≡◌, ◌==◌, [], ◌∷◌, map, nat_cmp, sym, inl, inr}
 use Rattle.std.specs.List.{filter}
 use Rattle.std.specs.List.Sorted.{IsStrictlySortedBy}
 use Rattle.std.proofs.lemmas.Bool.{eq-eqb, eqb-true}
@@ -9,7 +9,7 @@ use Rattle.std.proofs.lemmas.Map.Lookups.{exact_unsigned}
 use Rattle.pl_layouts.specs.Memberships.{flood}
 use Rattle.pl_core.specs.ManagerFacts.{groups}
 use Rattle.pl_core.specs.ManagerViews.{Members}
-use Rattle.pl_core.proofs.Among.{IsAmong, among_filter, among_filtered, among_in_order}
+use Rattle.pl_core.proofs.Among.{among_filter, among_filtered, among_in_order}
 use Rattle.pl_manager_rule.proofs.Avoided.{groups_rise}
 use Rattle.pl_reports.proofs.Ordering.{same_rising}
 

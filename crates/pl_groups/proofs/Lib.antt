@@ -1,4 +1,3 @@
-pub mod Sorting
 pub mod Edges
 pub mod Reached
 pub mod Branches

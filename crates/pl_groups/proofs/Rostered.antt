@@ -16,7 +16,7 @@ use Rattle.pl_manager_rule.proofs.Tables.{among_put}
 use Rattle.pl_reports.proofs.Ordering.{same_order}
 use Rattle.pl_reports.proofs.Telling.{among_put_any}
 use Rattle.pl_groups.specs.Rostering.{with_member}
-use Rattle.pl_groups.proofs.Sorting.{all_in_order, put_all, put_in}
+use Rattle.pl_reports.proofs.Sorting.{all_in_order, put_all, put_in}
 
 -- ---- the edge switches with members
 fold_members : (group : ℕ) (acc : List SwitchId) (ms : Members) →

@@ -1,13 +1,13 @@
-ghost use Rattle.std.specs.Prelude.{◌≡◌, ◌==◌, [], ◌∷◌, ◌++◌, if◌then◌else◌, IfOk, OnOk, filter, map};
+ghost use Rattle.std.specs.Prelude.{◌≡◌, ◌==◌, [], ◌∷◌, ◌++◌, if◌then◌else◌, IfOk, IsTrue, OnOk, filter, map};
 ghost use Rattle.std.specs.List.Sorted.{IsStrictlySortedBy};
 ghost use Rattle.pl_frame.specs.declared.address.SwitchId.{SwitchId};
-ghost use Rattle.pl_core.specs.ManagerViews.{has_level, id_cmp};
+ghost use Rattle.pl_core.specs.ManagerViews.{alive_neighbours, has_level, id_cmp};
 ghost use Rattle.pl_core.specs.Trees.{best_cores, core_for, cores, largest, reach, turn};
-ghost use Rattle.pl_groups.specs.Reaching.{reached_by, reached_with, reach_at};
+ghost use Rattle.pl_groups.specs.Reaching.{IsReachOf, reached_by, reached_with, reach_at};
 ghost use Rattle.pl_groups.specs.Serving.{AreServed};
 
 use crate::needs::{Served, add_all, edges_of};
-use crate::place_tests::{has_level, is_joined};
+use crate::place_tests::has_level;
 use pl_core::{Memory, SwitchList};
 use pl_frame::SwitchId;
 use pl_reports::Reports;
@@ -52,13 +52,14 @@ fn reaches(
     ensures { IfOk result (λ reaches. reaches.items ≡ map (reach_at reports.now needed.now) (cores reports.now)) }
 {
     let mut reaches = Vec::new(alloc);
+    let mut last = None;
     for switch in reports.switches() {
-        rank(&mut reaches, alloc, reports, needed, served, *switch)?;
+        last = rank(&mut reaches, alloc, reports, needed, served, *switch, last)?;
     }
     Ok(reaches)
 }
 
-// One more switch, if it is a core switch.
+// One more switch, if it is a core switch. The answer is the last core switch.
 fn rank(
     reaches: &mut Vec<CoreReach>,
     alloc: Global,
@@ -66,20 +67,91 @@ fn rank(
     needed: &[SwitchId],
     served: &Served,
     switch: SwitchId,
-) -> Result<(), Memory>
+    last: Option<CoreReach>,
+) -> Result<Option<CoreReach>, Memory>
     requires rising { IsStrictlySortedBy id_cmp needed.now }
     requires served { AreServed reports.now needed.now served.now.entries }
-    ensures { OnOk result (reaches.new.items
+    requires last { IsReachOf reports.now needed.now last }
+    ensures ranked { OnOk result (reaches.new.items
         ≡ (if has_level reports.now switch 2 then reaches.old.items ++ reach_at reports.now needed.now switch ∷ [] else reaches.old.items)) }
+    ensures last { IfOk result (λ now. IsReachOf reports.now needed.now now) }
 {
-    if has_level(reports, switch, 2) {
-        let edges = reach(alloc, reports, needed, served, switch)?;
-        reaches.push(CoreReach {
-            core: switch,
-            edges,
-        })?;
+    if !has_level(reports, switch, 2) {
+        return Ok(last);
     }
-    Ok(())
+    let reach = reach_after(alloc, reports, needed, served, switch, last)?;
+    reaches.push(reach)?;
+    Ok(Some(reach))
+}
+
+// The reach of a core switch. It is that of the last one where both have the same links.
+fn reach_after(
+    alloc: Global,
+    reports: &Reports,
+    needed: &[SwitchId],
+    served: &Served,
+    core: SwitchId,
+    last: Option<CoreReach>,
+) -> Result<CoreReach, Memory>
+    requires rising { IsStrictlySortedBy id_cmp needed.now }
+    requires served { AreServed reports.now needed.now served.now.entries }
+    requires last { IsReachOf reports.now needed.now last }
+    ensures { IfOk result (λ now. now ≡ reach_at reports.now needed.now core) }
+{
+    match last {
+        Some(before) => reach_beside(alloc, reports, needed, served, core, before),
+        None => reach_anew(alloc, reports, needed, served, core),
+    }
+}
+
+fn reach_beside(
+    alloc: Global,
+    reports: &Reports,
+    needed: &[SwitchId],
+    served: &Served,
+    core: SwitchId,
+    before: CoreReach,
+) -> Result<CoreReach, Memory>
+    requires rising { IsStrictlySortedBy id_cmp needed.now }
+    requires served { AreServed reports.now needed.now served.now.entries }
+    requires before { before.edges ≡ reach reports.now needed.now before.core }
+    ensures { IfOk result (λ now. now ≡ reach_at reports.now needed.now core) }
+{
+    if has_same_links(reports, before.core, core) {
+        return Ok(CoreReach {
+            core,
+            edges: before.edges,
+        });
+    }
+    reach_anew(alloc, reports, needed, served, core)
+}
+
+fn reach_anew(
+    alloc: Global,
+    reports: &Reports,
+    needed: &[SwitchId],
+    served: &Served,
+    core: SwitchId,
+) -> Result<CoreReach, Memory>
+    requires rising { IsStrictlySortedBy id_cmp needed.now }
+    requires served { AreServed reports.now needed.now served.now.entries }
+    ensures { IfOk result (λ now. now ≡ reach_at reports.now needed.now core) }
+{
+    let edges = reach(alloc, reports, needed, served, core)?;
+    Ok(CoreReach { core, edges })
+}
+
+// Whether two switches are linked to the same switches, over links that are alive.
+fn has_same_links(reports: &Reports, a: SwitchId, b: SwitchId) -> bool
+    ensures { IsTrue result → alive_neighbours reports.now a ≡ alive_neighbours reports.now b }
+{
+    are_same(reports.alive_neighbours(a), reports.alive_neighbours(b))
+}
+
+fn are_same(a: &[SwitchId], b: &[SwitchId]) -> bool
+    ensures { IsTrue result → a.now ≡ b.now }
+{
+    a == b
 }
 
 // How many needed edge switches a core switch reaches.
@@ -108,8 +180,8 @@ fn reached(
     ensures { IfOk result (λ reached. reached ≡ reached_by reports.now served.now.entries core) }
 {
     let mut reached = SwitchList::new(alloc);
-    for switch in reports.neighbours(core) {
-        reach_by(&mut reached, reports, served, core, *switch)?;
+    for switch in reports.alive_neighbours(core) {
+        reach_by(&mut reached, reports, served, *switch)?;
     }
     Ok(reached)
 }
@@ -119,12 +191,11 @@ fn reach_by(
     reached: &mut SwitchList,
     reports: &Reports,
     served: &Served,
-    core: SwitchId,
     neighbour: SwitchId,
 ) -> Result<(), Memory>
-    ensures { OnOk result (reached.new ≡ reached_with reports.now served.now.entries core reached.old neighbour) }
+    ensures { OnOk result (reached.new ≡ reached_with reports.now served.now.entries reached.old neighbour) }
 {
-    if is_joined(reports, core, neighbour) {
+    if has_level(reports, neighbour, 1) {
         add_all(reached, edges_of(served, neighbour))?;
     }
     Ok(())

@@ -1,4 +1,4 @@
-ghost use Rattle.std.specs.Prelude.{◌≡◌, ◌&&◌, if◌then◌else◌, IfOk, OnOk, fold};
+ghost use Rattle.std.specs.Prelude.{◌≡◌, if◌then◌else◌, IfOk, OnOk, fold};
 ghost use Rattle.std.specs.BTreeMap.{is_at};
 ghost use Rattle.std.specs.BTreeSet.{insert_key};
 ghost use Rattle.std.specs.List.{filter};
@@ -72,26 +72,8 @@ fn serve_edge(
     ensures { OnOk result ((a : SwitchId) → served_by served.new.entries a
         ≡ (if is_alive reports.now a edge then insert_key id_cmp (served_by served.old.entries a) edge else served_by served.old.entries a)) }
 {
-    for switch in reports.neighbours(edge) {
-        serve_by(served, alloc, reports, *switch, edge)?;
-    }
-    Ok(())
-}
-
-// A neighbour of an edge switch serves it, if their link is alive.
-fn serve_by(
-    served: &mut Served,
-    alloc: Global,
-    reports: &Reports,
-    switch: SwitchId,
-    edge: SwitchId,
-) -> Result<(), Memory>
-    ensures { OnOk result ((a : SwitchId) → served_by served.new.entries a
-        ≡ (if is_at (id_cmp switch) a && is_alive reports.now switch edge then insert_key id_cmp (served_by served.old.entries switch) edge
-        else served_by served.old.entries a)) }
-{
-    if reports.is_alive(switch, edge) {
-        serve(served, alloc, switch, edge)?;
+    for switch in reports.alive_neighbours(edge) {
+        serve(served, alloc, *switch, edge)?;
     }
     Ok(())
 }

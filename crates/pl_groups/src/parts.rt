@@ -122,9 +122,18 @@ fn leads_up(
     ensures { result ≡ ((is_alive reports.now switch neighbour && has_level reports.now neighbour 1)
         && (has_pod reports.now neighbour pod && is_alive reports.now neighbour core)) }
 {
-    is_joined(reports, switch, neighbour)
-        && has_pod(reports, neighbour, pod)
-        && reports.is_alive(neighbour, core)
+    if is_near(reports, core, neighbour, pod) {
+        is_joined(reports, switch, neighbour)
+    } else {
+        false
+    }
+}
+
+// Whether a switch of a pod is linked to the core switch.
+fn is_near(reports: &Reports, core: SwitchId, neighbour: SwitchId, pod: u16) -> bool
+    ensures { result ≡ (is_alive reports.now neighbour core && has_pod reports.now neighbour pod) }
+{
+    reports.is_alive(neighbour, core) && has_pod(reports, neighbour, pod)
 }
 
 /// Whether two parts are the same.

@@ -1,2 +1,5 @@
 pub mod Ordering
 pub mod Telling
+pub mod Sorting
+pub mod Liveness
+pub mod Keeping

@@ -18,7 +18,7 @@ use Rattle.pl_manager_rule.specs.ManagerRule.{with_link, with_place}
 use Rattle.pl_manager_rule.proofs.Avoided.{id_exact, same_is}
 use Rattle.pl_manager_rule.proofs.Speakers.{same_itself}
 use Rattle.pl_manager_rule.proofs.Tables.{among_put, found_key, value_put}
-use Rattle.pl_reports.specs.Kept.{IsKeptFor, near_of, with_neighbour}
+use Rattle.pl_reports.specs.Kept.{near_of, with_neighbour}
 use Rattle.pl_reports.proofs.Ordering.{same_order}
 
 pub link_total : IsTotalOrder link_cmp
@@ -81,7 +81,7 @@ near_of_key links t u h =
     (among_mapped (λ (l : (SwitchId × SwitchId) × Bool). l.0.1) at.0 (filter (λ l. same_switch l.0.0 t) links)
     (among_filtered (λ (l : (SwitchId × SwitchId) × Bool). same_switch l.0.0 t) at.0 links at.1 passes))
 
-abbrev IsPair : SwitchId → SwitchId → SwitchId → SwitchId → Type 0
+abbrev pub IsPair : SwitchId → SwitchId → SwitchId → SwitchId → Type 0
 IsPair s u k v = let a : SwitchId × SwitchId = (s, u) in let b : SwitchId × SwitchId = (k, v) in a ≡ b
 
 -- ---- the switches that told something
@@ -182,29 +182,3 @@ near_started near after s u list t none one put = ap (λ o. unwrap_or o []) put 
     by : (b : Bool) → unwrap_or (cond b (Some list) (value_at id_cmp near t)) [] ≡ cond b (insert_key id_cmp (near_of near s) u) (near_of near t)
     by true = one ∙ ap (λ o. insert_key id_cmp (unwrap_or o []) u) (sym none)
     by false = refl
-
--- ---- what is kept, once one more word is told
-module _ (told : Told) (speakers : List SwitchId) (near : List (SwitchId × List SwitchId)) (h : IsKeptFor told speakers near) where
-  pub kept_placed : (s : SwitchId) (place : Place) (places : List (SwitchId × Place)) (heard : List SwitchId) →
-      places ≡ insert_entry id_cmp told.places s place → heard ≡ insert_key id_cmp speakers s →
-      IsKeptFor (record { places = places; links = told.links }) heard near
-  kept_placed s place places heard is one = record {
-    tellers =
-        one ∙ ap (λ xs. insert_key id_cmp xs s) h.tellers ∙ sym (switches_placed told s place)
-        ∙ ap (λ (ps : List (SwitchId × Place)). switches (record { places = ps; links = told.links })) (sym is);
-    links = h.links;
-  }
-
-  pub kept_linked : (s u : SwitchId) (usable : Bool) (links : List ((SwitchId × SwitchId) × Bool)) (heard : List SwitchId)
-      (after : List (SwitchId × List SwitchId)) →
-      links ≡ insert_entry link_cmp told.links (s, u) usable → heard ≡ insert_key id_cmp speakers s →
-      ((t : SwitchId) → near_of after t ≡ with_neighbour near s u t) →
-      IsKeptFor (record { places = told.places; links = links }) heard after
-  kept_linked s u usable links heard after is one put = record {
-    tellers =
-        one ∙ ap (λ xs. insert_key id_cmp xs s) h.tellers ∙ sym (switches_linked told s u usable)
-        ∙ ap (λ (ls : List ((SwitchId × SwitchId) × Bool)). switches (record { places = told.places; links = ls })) (sym is);
-    links = λ t.
-        put t ∙ neighbours_linked told s u usable near h.links t
-        ∙ ap (λ (ls : List ((SwitchId × SwitchId) × Bool)). neighbours (record { places = told.places; links = ls }) t) (sym is);
-  }

@@ -1,4 +1,6 @@
 ghost use Rattle.std.specs.Prelude.{◌≡◌, OnOk, slice_get};
+ghost use Rattle.std.specs.List.Sorted.{IsStrictlySortedBy};
+ghost use Rattle.pl_core.specs.ManagerViews.{id_cmp};
 ghost use Rattle.pl_frame.specs.declared.address.SwitchId.{SwitchId};
 ghost use Rattle.pl_reports.specs.Kept.{near_of, with_neighbour};
 
@@ -32,7 +34,8 @@ pub(crate) fn add_neighbour(
 
 /// The neighbours of a switch, rising.
 pub(crate) fn neighbours_in(near: &Neighbours, switch: SwitchId) -> &[SwitchId]
-    ensures { result.now ≡ near_of near.now.entries switch }
+    ensures value { result.now ≡ near_of near.now.entries switch }
+    ensures rising { IsStrictlySortedBy id_cmp result.now }
 {
     match near.get(&switch) {
         Some(list) => list.as_slice(),

@@ -1,11 +1,13 @@
 ghost use Rattle.std.specs.Prelude.{◌≡◌, OnErr, OnOk, slice_get};
 ghost use Rattle.std.specs.BTreeMap.{insert_entry};
+ghost use Rattle.std.specs.List.Sorted.{IsStrictlySortedBy};
 ghost use Rattle.std.specs.BTreeSet.{insert_key};
-ghost use Rattle.pl_core.specs.ManagerViews.{id_cmp, is_alive, is_told_usable, link_cmp, neighbours, place_of, switches};
+ghost use Rattle.pl_core.specs.ManagerViews.{alive_neighbours, id_cmp, is_alive, is_told_usable, link_cmp, neighbours, place_of, switches};
 ghost use Rattle.pl_manager_rule.specs.ManagerRule.{with_link, with_place};
-ghost use Rattle.pl_reports.specs.Kept.{has_told, near_of, nothing_told, with_neighbour};
+ghost use Rattle.pl_reports.specs.Kept.{has_told, living_by, near_of, nothing_told, with_ends, with_neighbour};
 ghost use Rattle.pl_frame.specs.declared.address.SwitchId.{SwitchId};
 
+use crate::living::{Links, is_among, is_usable, renew_living};
 use crate::neighbours::{Neighbours, add_neighbour, neighbours_in};
 use pl_core::{Memory, Place, SwitchList};
 use pl_frame::SwitchId;
@@ -15,9 +17,6 @@ use std::marker::Model;
 
 // The place of each switch.
 type Places = BTreeMap<SwitchId, Place>;
-
-// Whether a switch can use its link to a neighbour.
-type Links = BTreeMap<(SwitchId, SwitchId), bool>;
 
 const NOWHERE: Place = Place {
     level: None,
@@ -33,6 +32,7 @@ pub struct Reports {
     links: Links,
     speakers: SwitchList,
     near: Neighbours,
+    living: Neighbours,
 }
 
 impl Model for Reports {
@@ -43,7 +43,7 @@ impl Model for Reports {
 
     ghost view = { λ r. record { places = r.places.entries; links = r.links.entries } };
 
-    ghost invariant = { λ r. IsKeptFor (record { places = r.places.entries; links = r.links.entries }) r.speakers r.near.entries };
+    ghost invariant = { λ r. IsKeptFor (record { places = r.places.entries; links = r.links.entries }) r.speakers r.near.entries r.living.entries };
 }
 
 impl Reports {
@@ -56,6 +56,7 @@ impl Reports {
             links: BTreeMap::new(alloc),
             speakers: SwitchList::new(alloc),
             near: BTreeMap::new(alloc),
+            living: BTreeMap::new(alloc),
         }
     }
 
@@ -89,6 +90,7 @@ impl Reports {
             &mut self.links,
             &mut self.speakers,
             &mut self.near,
+            &mut self.living,
             alloc,
             switch,
             neighbour,
@@ -116,17 +118,14 @@ impl Reports {
     pub fn told(&self, switch: SwitchId, neighbour: SwitchId) -> bool
         ensures { result ≡ is_told_usable self.now switch neighbour }
     {
-        match self.links.get(&(switch, neighbour)) {
-            Some(usable) => *usable,
-            None => false,
-        }
+        is_usable(&self.links, switch, neighbour)
     }
 
     /// Whether both ends told last that their link is usable.
     pub fn is_alive(&self, a: SwitchId, b: SwitchId) -> bool
         ensures { result ≡ is_alive self.now a b }
     {
-        self.told(a, b) && self.told(b, a)
+        is_among(&self.living, a, b)
     }
 
     /// Whether a switch told a place or a link.
@@ -157,7 +156,15 @@ impl Reports {
         neighbours_in(&self.near, switch)
     }
 
-    /// Neighbour number n of those, counted from 0; none past the last.
+    /// Those of them over links that are alive, by rising id.
+    pub fn alive_neighbours(&self, switch: SwitchId) -> &[SwitchId]
+        ensures value { result.now ≡ alive_neighbours self.now switch }
+        ensures rising { IsStrictlySortedBy id_cmp result.now }
+    {
+        neighbours_in(&self.living, switch)
+    }
+
+    /// Neighbour number n of the switch, counted from 0; none past the last.
     pub fn neighbour(&self, switch: SwitchId, n: usize) -> Option<SwitchId>
         ensures { result ≡ slice_get (neighbours self.now switch) n }
     {
@@ -180,11 +187,12 @@ fn keep_place(
     Ok(())
 }
 
-// Puts a link of a switch into the tables.
+// Puts a link of a switch into the tables, and renews which neighbours of its ends are alive.
 fn keep_link(
     links: &mut Links,
     speakers: &mut SwitchList,
     near: &mut Neighbours,
+    living: &mut Neighbours,
     alloc: Global,
     switch: SwitchId,
     neighbour: SwitchId,
@@ -193,9 +201,12 @@ fn keep_link(
     ensures links { OnOk result (links.new.entries ≡ insert_entry link_cmp links.old.entries (switch, neighbour) usable) }
     ensures speakers { OnOk result (speakers.new ≡ insert_key id_cmp speakers.old switch) }
     ensures near { OnOk result ((t : SwitchId) → near_of near.new.entries t ≡ with_neighbour near.old.entries switch neighbour t) }
+    ensures living { OnOk result ((t : SwitchId) → near_of living.new.entries t ≡ with_ends living.old.entries (living_by links.new.entries near.new.entries) switch neighbour t) }
 {
     links.insert((switch, neighbour), usable)?;
     speakers.insert(switch)?;
     add_neighbour(near, alloc, switch, neighbour)?;
+    renew_living(living, alloc, links, near, switch)?;
+    renew_living(living, alloc, links, near, neighbour)?;
     Ok(())
 }

@@ -1,9 +1,9 @@
-use Rattle.std.proofs.Common.{◌≡◌, ◌∙◌, ◌+◌, true, sym, ap, subst, take, get_or}
+use Rattle.std.proofs.Common.{◌≡◌, ◌∙◌, true, sym, ap, subst}
 use Rattle.std.proofs.lemmas.Bool.{false≢true}
 use Rattle.std.proofs.lemmas.List.{take_all}
 use Rattle.pl_frame.specs.declared.address.SwitchId.{SwitchId}
 use Rattle.pl_faults.specs.Kept.{is_in}
-use Rattle.pl_faults.specs.Rows.{AreSameRows}
+use Rattle.pl_faults.specs.Missed.{missed_in}
 use Rattle.pl_faults.proofs.Turned.{in_itself, turned_more}
 use Rattle.pl_faults.proofs.leading.turned_between.Goals as goal
 
@@ -16,9 +16,9 @@ loop-other-init c = (
 pub loop-other-preserved : goal.loop-other-preserved
 loop-other-preserved c =
     let ss = c.switches-other-items.result.now in let d : SwitchId = record { 0 = 0 } in
-    let was = c.args.former.now in let fresh = c.args.fresh.now in (
+    let was = c.args.former.now.entries in let fresh = c.args.fresh.now.entries in (
       c.in_ok-add_turned.ensures.stays c.args.switch c.loop-other.invariant.0,
-      turned_more (λ t. AreSameRows t was.down.entries was.core.entries was.up.entries fresh.down.entries fresh.core.entries fresh.up.entries)
+      turned_more (λ t. missed_in was t ≡ missed_in fresh t)
           ss c.loop-other.other-index d c.loop-other-test.true c.loop-other.list c.add_turned.new.list c.loop-other.invariant.1
           c.in_ok-add_turned.ensures.stays c.in_ok-add_turned.ensures.same,
     )

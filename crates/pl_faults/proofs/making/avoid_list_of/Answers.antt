@@ -8,6 +8,6 @@ use Rattle.pl_faults.proofs.making.avoid_list_of.Goals as goal
 pub returns : goal.returns
 returns c =
     c.loop-neighbour.invariant
-    ∙ ap (λ us. fold (with_neighbour c.args.reports.now c.args.switch c.args.edges.now) [] us)
+    ∙ ap (λ us. fold (with_neighbour c.args.reports.now c.args.switch) [] us)
     (take_all c.loop-neighbour.neighbour-index c.neighbours-neighbour-items.result.now c.loop-neighbour-test.false ∙ c.neighbours-neighbour-items.ensures)
-    ∙ list_made c.args.reports.now c.args.switch c.args.edges.now c.requires.edges
+    ∙ list_made c.args.reports.now c.args.switch

@@ -4,4 +4,4 @@ use Rattle.pl_faults.specs.Making.{with_neighbour}
 use Rattle.pl_faults.proofs.making.avoid_list_of.Given as goal
 
 abbrev pub invariant-loop-neighbour : goal.invariant-loop-neighbour
-invariant-loop-neighbour l = l.list ≡ fold (with_neighbour l.reports l.switch l.edges) [] (take l.neighbour-index l.neighbour-items)
+invariant-loop-neighbour l = l.list ≡ fold (with_neighbour l.reports l.switch) [] (take l.neighbour-index l.neighbour-items)

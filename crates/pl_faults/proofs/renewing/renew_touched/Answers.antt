@@ -20,7 +20,7 @@ loop-switch-preserved c still =
     one_more_tested told c.args.lists.now.entries c.args.before.now.entries
     (λ t. list_any (is_at (id_cmp t)) (take i ss)) (λ t. list_any (is_at (id_cmp t)) (take (i + 1) ss)) s
     c.loop-switch.lists.entries c.loop-switch.before.entries c.renew_one.new.lists.entries c.renew_one.new.before.entries
-    (is_touched told c.args.all c.args.turned.now s) (λ t. list_any_more (is_at (id_cmp t)) ss i d c.loop-switch-test.true)
+    (is_touched told c.args.turned.now s) (λ t. list_any_more (is_at (id_cmp t)) ss i d c.loop-switch-test.true)
     c.in_ok-renew_one.ensures.anew c.in_ok-renew_one.ensures.still
     (still s (ap (list_any (is_at (id_cmp s))) (sym c.switches-switch-items.ensures) ∙ among_told s ss (among_index ss i d c.loop-switch-test.true)))
     (c.loop-switch.invariant still)

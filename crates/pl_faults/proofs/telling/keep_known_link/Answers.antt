@@ -18,10 +18,10 @@ returns-clause-handed c s =
 pub returns-then-is_still-clause-kept : goal.returns-then-is_still-clause-kept
 returns-then-is_still-clause-kept c =
     let told = c.args.reports.now in let s = c.args.switch in let u = c.args.neighbour in let leading = c.args.leading.now in
-    subst (λ (t : Told). IsKept t leading.edges.items leading.reach.down.entries leading.reach.core.entries leading.reach.up.entries
+    subst (λ (t : Told). IsKept t leading.edges.items leading.misses.entries
     c.args.lists.now.entries c.args.before.now.entries) (sym c.in_ok-report.ensures.ok)
     (known_kept told s u c.args.usable (known_among u (neighbours told s) c.requires.known)
     (ap (λ (t : Told). is_alive t s u) (sym c.in_ok-report.ensures.ok) ∙ sym c.is_alive-now.ensures
     ∙ still_is c.is_alive-now.result c.is_alive-was.result (sym c.is_still.ensures ∙ c.if-is_still.true) ∙ c.is_alive-was.ensures)
-    leading.edges.items leading.reach.down.entries leading.reach.core.entries leading.reach.up.entries
+    leading.edges.items leading.misses.entries
     c.args.lists.now.entries c.args.before.now.entries c.requires.kept)

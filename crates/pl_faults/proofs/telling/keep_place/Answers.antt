@@ -1,4 +1,4 @@
-use Rattle.std.proofs.Common.{◌∙◌, ap, subst, sym}
+use Rattle.std.proofs.Common.{subst, sym}
 use Rattle.pl_core.specs.ManagerViews.{Told}
 use Rattle.pl_faults.specs.Kept.{IsKept, IsWordOf}
 use Rattle.pl_faults.proofs.Unchanged.{place_kept}
@@ -18,7 +18,7 @@ returns-clause-handed c s =
 pub returns-then-known-clause-kept : goal.returns-then-known-clause-kept
 returns-then-known-clause-kept c =
     let leading = c.args.leading.now in let told = c.is_told_place-known.ensures c.if-known.true in
-    subst (λ (t : Told). IsKept t leading.edges.items leading.reach.down.entries leading.reach.core.entries leading.reach.up.entries
+    subst (λ (t : Told). IsKept t leading.edges.items leading.misses.entries
     c.args.lists.now.entries c.args.before.now.entries) (sym c.in_ok-set_place.ensures.ok)
     (place_kept c.args.reports.now c.args.switch c.args.place told.0 told.1 leading.edges.items
-    leading.reach.down.entries leading.reach.core.entries leading.reach.up.entries c.args.lists.now.entries c.args.before.now.entries c.requires)
+    leading.misses.entries c.args.lists.now.entries c.args.before.now.entries c.requires)

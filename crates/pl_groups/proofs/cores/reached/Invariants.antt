@@ -4,4 +4,4 @@ use Rattle.pl_groups.proofs.cores.reached.Given as goal
 
 abbrev pub invariant-loop-switch : goal.invariant-loop-switch
 invariant-loop-switch l =
-    l.reached ≡ fold (reached_with l.reports l.served.entries l.core) [] (take l.switch-index l.switch-items)
+    l.reached ≡ fold (reached_with l.reports l.served.entries) [] (take l.switch-index l.switch-items)

@@ -7,7 +7,7 @@ use Rattle.pl_core.specs.ManagerViews.{id_cmp}
 use Rattle.pl_manager_rule.specs.ManagerRule.{same_part}
 use Rattle.pl_manager_rule.proofs.Avoided.{switches_rise}
 use Rattle.pl_groups.specs.Kept.{part_in_tree}
-use Rattle.pl_groups.proofs.Sorting.{passing_done, passing_next}
+use Rattle.pl_reports.proofs.Sorting.{passing_done, passing_next}
 use Rattle.pl_groups.proofs.groups.changed.Goals as goal
 
 pub loop-switch-preserved : goal.loop-switch-preserved

@@ -6,4 +6,4 @@ use Rattle.pl_groups.proofs.needs.serve_edge.Given as goal
 
 abbrev pub invariant-loop-switch : goal.invariant-loop-switch
 invariant-loop-switch l =
-    (a : SwitchId) → served_by l.served.entries a ≡ served_so_far l.reports l.initial.served.entries l.edge (take l.switch-index l.switch-items) a
+    (a : SwitchId) → served_by l.served.entries a ≡ served_so_far l.initial.served.entries l.edge (take l.switch-index l.switch-items) a

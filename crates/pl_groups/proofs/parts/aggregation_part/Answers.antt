@@ -3,7 +3,7 @@ use Rattle.pl_frame.specs.declared.address.SwitchId.{SwitchId}
 use Rattle.pl_core.specs.declared.messages.TreePart.{TreePart}
 use Rattle.pl_core.specs.ManagerViews.{is_alive}
 use Rattle.pl_groups.proofs.Branches.{aggregation_down}
-use Rattle.pl_groups.proofs.Sorting.{put_all}
+use Rattle.pl_reports.proofs.Sorting.{put_all}
 use Rattle.pl_groups.proofs.parts.aggregation_part.Goals as goal
 
 pub returns : goal.returns

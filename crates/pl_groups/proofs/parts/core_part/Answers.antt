@@ -9,7 +9,7 @@ use Rattle.pl_manager_rule.proofs.Avoided.{neighbours_rise}
 use Rattle.pl_groups.specs.Serving.{served_by}
 use Rattle.pl_groups.proofs.Branches.{core_down}
 use Rattle.pl_groups.proofs.Reached.{is_joined}
-use Rattle.pl_groups.proofs.Sorting.{passing_done, passing_next}
+use Rattle.pl_reports.proofs.Sorting.{passing_done, passing_next}
 use Rattle.pl_groups.proofs.parts.core_part.Goals as goal
 
 pub loop-switch-preserved : goal.loop-switch-preserved

@@ -2,7 +2,7 @@ use Rattle.std.proofs.Common.{◌≡◌, ◌==◌, ◌&&◌, [], filter, length,
 use Rattle.pl_frame.specs.declared.address.SwitchId.{SwitchId}
 use Rattle.pl_groups.specs.Serving.{served_by}
 use Rattle.pl_groups.proofs.Reached.{is_joined}
-use Rattle.pl_groups.proofs.Sorting.{put_all}
+use Rattle.pl_reports.proofs.Sorting.{put_all}
 use Rattle.pl_groups.proofs.parts.core_part.Given as goal
 
 abbrev pub invariant-loop-switch : goal.invariant-loop-switch

@@ -5,7 +5,7 @@ use Rattle.pl_frame.specs.declared.address.SwitchId.{SwitchId}
 use Rattle.pl_core.specs.ManagerViews.{edge_at, id_cmp, place_of, switches}
 use Rattle.pl_manager_rule.proofs.Avoided.{switches_rise}
 use Rattle.pl_groups.proofs.Rostered.{placed_in}
-use Rattle.pl_groups.proofs.Sorting.{passing_done, passing_next}
+use Rattle.pl_reports.proofs.Sorting.{passing_done, passing_next}
 use Rattle.pl_groups.proofs.roster.placed_edges.Goals as goal
 
 pub loop-switch-preserved : goal.loop-switch-preserved

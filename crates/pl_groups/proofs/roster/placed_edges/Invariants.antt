@@ -1,7 +1,7 @@
 use Rattle.std.proofs.Common.{◌≡◌, [], filter, is_some, take}
 use Rattle.pl_frame.specs.declared.address.SwitchId.{SwitchId}
 use Rattle.pl_core.specs.ManagerViews.{edge_at, place_of}
-use Rattle.pl_groups.proofs.Sorting.{put_all}
+use Rattle.pl_reports.proofs.Sorting.{put_all}
 use Rattle.pl_groups.proofs.roster.placed_edges.Given as goal
 
 abbrev pub invariant-loop-switch : goal.invariant-loop-switch

@@ -58,7 +58,7 @@ among_all_new k acc (x ∷ xs) (inl is) =
     among_all_before k (put_in acc x) xs (subst (λ z. IsAmong z (put_in acc x)) is (among_put_now x acc))
 among_all_new k acc (x ∷ xs) (inr h) = among_all_new k (put_in acc x) xs h
 
-nothing_rises : IsStrictlySortedBy id_cmp []
+pub nothing_rises : IsStrictlySortedBy id_cmp []
 unfolding IsStrictlySortedBy
 nothing_rises = tt
 

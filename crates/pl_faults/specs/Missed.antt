@@ -1,0 +1,65 @@
+-- The placed edge switches to which a switch does not lead on, and what the switches below it avoid for them.
+use Rattle.std.specs.Prelude.{◌≡◌, ◌==◌, ◌&&◌, ℕ, Bool, true, false, not, List, [], ◌∷◌, ◌++◌, if◌then◌else◌, Option, Some, None, map, unwrap_or}
+use Rattle.std.specs.List.{filter}
+use Rattle.std.specs.BTreeSet.{insert_key}
+use Rattle.pl_frame.specs.declared.address.SwitchId.{SwitchId}
+use Rattle.pl_layouts.specs.declared.place.Place.{Place}
+use Rattle.pl_layouts.specs.Equality.{same_switch}
+use Rattle.pl_layouts.specs.Placement.{is_known}
+use Rattle.pl_core.specs.ManagerViews.{Told, id_cmp, place_of, placed_edges, value_at}
+use Rattle.pl_core.specs.AvoidLists.{avoided_cmp}
+use Rattle.pl_faults.specs.declared.edges.Edge.{Edge}
+use Rattle.pl_faults.specs.Making.{Avoided, placed_as}
+use Rattle.pl_faults.specs.Rows.{leads_on}
+
+-- for each switch those that it misses
+abbrev pub Misses : Type 0
+Misses = List (SwitchId × List Edge)
+
+-- a level above that of the edge switches
+abbrev pub is_upper : Option ℕ → Bool
+is_upper None = false
+is_upper (Some level) = not (level == 0)
+
+-- those to which u does not lead on
+abbrev pub missed_by : Told → List Edge → SwitchId → List Edge
+missed_by told edges u = filter (λ e. not (leads_on told e u)) edges
+
+-- the same of the switches above the edge switches; of others none are asked for
+abbrev pub missed_at : Told → List Edge → SwitchId → List Edge
+missed_at told edges u = if is_upper (place_of told u).level then missed_by told edges u else []
+
+abbrev pub missed_in : Misses → SwitchId → List Edge
+missed_in missed u = unwrap_or (value_at id_cmp missed u) []
+
+abbrev pub AreMissed : Told → List Edge → Misses → Type 0
+AreMissed told edges missed = (u : SwitchId) → missed_in missed u ≡ missed_at told edges u
+
+abbrev pub is_some_edge : List Edge → Bool
+is_some_edge [] = false
+is_some_edge (e ∷ es) = true
+
+-- the placed edge switches, and which of them each switch misses
+pub record IsLeading (told : Told) (edges : List Edge) (missed : Misses) : Type 0 where
+  pub placed : map placed_as edges ≡ placed_edges told
+  pub missed_are : AreMissed told edges missed
+
+-- whether a switch at this place sends down for a pod
+abbrev pub sends_down : Place → ℕ → Bool
+sends_down place pod = is_known place.level 1 && is_known place.pod pod
+
+-- whether s at this place avoids a neighbour above for an edge switch that the neighbour misses
+abbrev pub is_avoided : Place → SwitchId → Edge → Bool
+is_avoided place s e = not (same_switch e.switch s) && not (sends_down place e.pod)
+
+-- for which addresses s at this place avoids its neighbour u above, by those that u misses
+abbrev pub avoided_of : Place → SwitchId → SwitchId → List Edge → List Avoided
+avoided_of place s u es = map (λ e. (u, e.pod, e.position)) (filter (is_avoided place s) es)
+
+-- one more that u misses
+abbrev pub with_missed : Place → SwitchId → SwitchId → List Avoided → Edge → List Avoided
+with_missed place s u list e = if is_avoided place s e then insert_key avoided_cmp list (u, e.pod, e.position) else list
+
+-- one more that is led to or not
+abbrev pub with_unled : Bool → List Edge → Edge → List Edge
+with_unled leads missed e = if not leads then missed ++ e ∷ [] else missed

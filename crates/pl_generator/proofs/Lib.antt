@@ -1,0 +1,4 @@
+pub mod EdgeOrder
+pub mod Ranges
+pub mod CaptureLemmas
+pub mod Held

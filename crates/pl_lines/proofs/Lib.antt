@@ -1,2 +1,5 @@
 pub mod Along
 pub mod ScriptRuns
+pub mod HostSteps
+pub mod HostTurns
+pub mod HostScripts

@@ -1,0 +1,267 @@
+-- What a host does that is told something, and what each step asks of a host.
+use Rattle.std.proofs.Common.{◌≡◌, ◌≢◌, ℕ, ◌+◌, ◌==◌, Bool, true, false, if◌then◌else◌, List, [], ◌∷◌, ◌++◌, map, Option, Some, None, set, slice_get, refl, sym, ◌∙◌, ap, subst}
+use Rattle.std.specs.List.{cons_option, filter, fold}
+use Rattle.std.proofs.lemmas.Bool.{eqb-true}
+use Rattle.std.proofs.lemmas.List.{append-nil, append_assoc}
+use Rattle.pl_wiring.specs.declared.link.Peer.{Peer}
+use Rattle.pl_wiring.specs.declared.link.Peer.TheVariants.{HostPort, Switch}
+use Rattle.pl_wiring.specs.Index.{port_index}
+use Rattle.pl_wiring.specs.Peers.{peer_of}
+use Rattle.pl_wiring.specs.Plan.{Plan}
+use Rattle.pl_journal.specs.declared.cause.Cause.TheVariants as cause
+use Rattle.pl_journal.specs.declared.cause.Skip.{Skip}
+use Rattle.pl_journal.specs.declared.entry.Entry.{Entry}
+use Rattle.pl_journal.specs.declared.entry.Entry.TheVariants.{Arrived, Dropped, Sent, Skipped}
+use Rattle.pl_core.specs.declared.acts.HostAct.{HostAct}
+use Rattle.pl_core.specs.declared.acts.HostAct.TheVariants.{Send}
+use Rattle.pl_core.specs.declared.reception.Reception.{Reception}
+use Rattle.pl_core.specs.declared.reception.Reception.TheVariants.{Kept, NotMember}
+use Rattle.pl_core.specs.HostInputs.{HostAnswer, HostInput, HostRule}
+use Rattle.pl_core.specs.HostInputs.HostAnswer.{Nothing, Played, Received}
+use Rattle.pl_core.specs.HostInputs.HostInput.{HasMoved, Joins, Leaves, Plays, PlaysRaw, Receives, Retries, Starts}
+use Rattle.pl_core.specs.HostViews.{HostView}
+use Rattle.pl_core.specs.ManagerDuties.{ManagerRule}
+use Rattle.pl_core.specs.SwitchInputs.{SwitchRule}
+use Rattle.pl_queues.specs.Queues.{items_at}
+use Rattle.pl_world.specs.declared.event.Event.{Event}
+use Rattle.pl_world.specs.declared.event.Event.TheVariants as event
+use Rattle.pl_world.specs.declared.event.QueueName.{QueueName}
+use Rattle.pl_world.specs.declared.event.QueueName.TheVariants as queue
+use Rattle.pl_world.specs.declared.item.Item.{Item}
+use Rattle.pl_world.specs.declared.item.Item.TheVariants.{Control, Data}
+use Rattle.pl_world.specs.declared.spoken_frame.SpokenFrame.TheVariants.{Silent}
+use Rattle.pl_world.specs.declared.stand.Stand.{Stand}
+use Rattle.pl_world.specs.Changes.{host_no, noted, out_of, receiver}
+use Rattle.pl_world.specs.LinksAndMoves.{host_moved, link_between}
+use Rattle.pl_world.specs.OtherActs.{heard_after_tick, host_act_done, reception_noted, skip_noted}
+use Rattle.pl_world.specs.WorldRule.{ComesAtHost, ComesOut, ComesOver, Delivers, DeliversOut, Goes, Happens, HostPlays, HostReceives, HostTurn, WorldStep, played_as}
+use Rattle.pl_world.specs.Worlds.{WorldView}
+use Rattle.pl_lines.specs.Asked.{Deed, deed_by, deeds_in, given, is_asked, seen, Lives}
+use Rattle.pl_lines.specs.Asked.Deed.{Gets, Gives, PassesOver}
+use Rattle.pl_lines.proofs.HostSteps.{Asks, LivesTo, Shows, at_switch, either, fails, found_once, from_host, from_manager, is_another, is_repaired, loses, manager_shows, more_shown, moved, none_shown, notes, set_other, set_same, shown_if, switch_shows, to_manager}
+
+-- what an event asks of a host
+abbrev pub asked_in : ℕ → Event → List HostInput
+asked_in n (event.Start h) = if h.0 == n then Starts ∷ [] else []
+asked_in n (event.Play h frame original raw) = if h.0 == n then played_as raw frame original ∷ [] else []
+asked_in n (event.Retry h) = if h.0 == n then Retries ∷ [] else []
+asked_in n (event.Join h group) = if h.0 == n then Joins group ∷ [] else []
+asked_in n (event.Leave h group) = if h.0 == n then Leaves group ∷ [] else []
+asked_in n (event.Move h s port) = if h.0 == n then HasMoved ∷ [] else []
+asked_in n _ = []
+
+module _ (n : ℕ) where
+  -- ---- the frames that a host sends
+  own_acts : (h : ℕ) (w : WorldView) (acts : List HostAct) → (h == n) ≡ true →
+      deeds_in n (fold (host_act_done h) w acts).journal ≡ deeds_in n w.journal ++ map given acts
+  own_acts h w [] own = sym (append-nil (deeds_in n w.journal))
+  own_acts h w (Send frame ∷ acts) own =
+      let shown : deeds_in n (Sent (w.begun + 1) (host_no h) frame ∷ []) ≡ Gives frame ∷ [] =
+      ap (λ (b : Bool). cons_option (if b then Some (Gives frame) else None) []) own in
+      own_acts h (host_act_done h w (Send frame)) acts own
+      ∙ ap (λ (ds : List Deed). ds ++ map given acts)
+          (more_shown n w.plan None w.journal (Sent (w.begun + 1) (host_no h) frame ∷ []) (deeds_in n w.journal) (Gives frame ∷ []) refl shown)
+      ∙ append_assoc (deeds_in n w.journal) (Gives frame ∷ []) (map given acts)
+
+  others_acts : (h : ℕ) (w : WorldView) (acts : List HostAct) → (h == n) ≡ false → deeds_in n (fold (host_act_done h) w acts).journal ≡ deeds_in n w.journal
+  others_acts h w [] other = refl
+  others_acts h w (Send frame ∷ acts) other =
+      let shown : deeds_in n (Sent (w.begun + 1) (host_no h) frame ∷ []) ≡ [] =
+      ap (λ (b : Bool). cons_option (if b then Some (Gives frame) else None) []) other in
+      others_acts h (host_act_done h w (Send frame)) acts other
+      ∙ none_shown n w.plan None w.journal (Sent (w.begun + 1) (host_no h) frame ∷ []) (deeds_in n w.journal) refl shown
+
+  acts_hosts : (h : ℕ) (w : WorldView) (acts : List HostAct) → (fold (host_act_done h) w acts).hosts ≡ w.hosts
+  acts_hosts h w [] = refl
+  acts_hosts h w (Send frame ∷ acts) = acts_hosts h (host_act_done h w (Send frame)) acts
+
+  acts_plan : (h : ℕ) (w : WorldView) (acts : List HostAct) → (fold (host_act_done h) w acts).plan ≡ w.plan
+  acts_plan h w [] = refl
+  acts_plan h w (Send frame ∷ acts) = acts_plan h (host_act_done h w (Send frame)) acts
+
+  module _ (rule : HostRule) (old : WorldView) where
+    abbrev Has : List Deed → WorldView → Type 0
+    Has deeds w = Shows n old.plan (slice_get old.hosts n) deeds w.plan w.hosts w.journal
+
+    abbrev So : List HostInput → WorldView → Type 0
+    So asks new = Asks rule n old asks new
+
+    pub unseen : (new : WorldView) → Has (deeds_in n old.journal) new → So [] new
+    unseen new has = record {
+      same = has.same;
+      lives = λ view found. record {
+        inputs = [];
+        deeds = [];
+        last = view;
+        lives = (refl, refl);
+        asked = refl;
+        now = has.there ∙ found;
+        shown = has.shown ∙ sym (append-nil (deeds_in n old.journal));
+      };
+    }
+
+    own_turn : (w : WorldView) (h : ℕ) (input : HostInput) (answer : HostAnswer) (pre : List Deed) (new : WorldView) → (h == n) ≡ true →
+        ((acts : List HostAct) → seen input answer acts ≡ pre ++ map given acts) → Has (deeds_in n old.journal ++ pre) w → HostTurn rule w h input answer new →
+        So (filter is_asked (input ∷ [])) new
+    own_turn w h input answer pre new own all has turn =
+        let same : h ≡ n = eqb-true h n own in
+        subst (λ (x : WorldView). So (filter is_asked (input ∷ [])) x) (sym turn.changed) (record {
+          same = acts_plan h (record w { hosts = set w.hosts h turn.after }) turn.acts ∙ has.same;
+          lives = λ view found.
+              let found_here : slice_get w.hosts h ≡ Some view = ap (λ (i : ℕ). slice_get w.hosts i) same ∙ has.there ∙ found in
+              let is : turn.before ≡ view = found_once w.hosts h turn.before view turn.found found_here in
+              record {
+                inputs = input ∷ [];
+                deeds = seen input answer turn.acts ++ [];
+                last = turn.after;
+                lives = (turn.after, turn.acts, answer, [], subst (λ (v : HostView). rule v input turn.after turn.acts answer) is turn.ruled, (refl, refl), refl);
+                asked = refl;
+                now = ap (λ (hosts : List HostView). slice_get hosts n) (acts_hosts h (record w { hosts = set w.hosts h turn.after }) turn.acts)
+                    ∙ ap (λ (i : ℕ). slice_get (set w.hosts h turn.after) i) (sym same) ∙ set_same w.hosts h turn.before turn.after turn.found;
+                shown = own_acts h (record w { hosts = set w.hosts h turn.after }) turn.acts own
+                    ∙ ap (λ (ds : List Deed). ds ++ map given turn.acts) has.shown
+                    ∙ append_assoc (deeds_in n old.journal) pre (map given turn.acts)
+                    ∙ ap (λ (ds : List Deed). deeds_in n old.journal ++ ds) (sym (all turn.acts) ∙ sym (append-nil (seen input answer turn.acts)));
+              };
+        })
+
+    others_turn : (w : WorldView) (h : ℕ) (input : HostInput) (answer : HostAnswer) (new : WorldView) → (h == n) ≡ false → Has (deeds_in n old.journal) w →
+        HostTurn rule w h input answer new → So [] new
+    others_turn w h input answer new other has turn =
+        subst (λ (x : WorldView). So [] x) (sym turn.changed) (unseen (fold (host_act_done h) (record w { hosts = set w.hosts h turn.after }) turn.acts) (record {
+          same = acts_plan h (record w { hosts = set w.hosts h turn.after }) turn.acts ∙ has.same;
+          there = ap (λ (hosts : List HostView). slice_get hosts n) (acts_hosts h (record w { hosts = set w.hosts h turn.after }) turn.acts)
+              ∙ set_other w.hosts h n turn.after (is_another h n other) ∙ has.there;
+          shown = others_acts h (record w { hosts = set w.hosts h turn.after }) turn.acts other ∙ has.shown;
+        }))
+
+    -- what was written before its turn is of this host
+    abbrev before_turn : Bool → List Deed → List Deed
+    before_turn own pre = deeds_in n old.journal ++ (if own then pre else [])
+
+    by_test : (own : Bool) (w : WorldView) (h : ℕ) (input : HostInput) (answer : HostAnswer) (pre : List Deed) (new : WorldView) → (h == n) ≡ own →
+        ((acts : List HostAct) → seen input answer acts ≡ pre ++ map given acts) → Has (before_turn own pre) w → HostTurn rule w h input answer new →
+        So (if own then filter is_asked (input ∷ []) else []) new
+    by_test true w h input answer pre new own all has turn = own_turn w h input answer pre new own all has turn
+    by_test false w h input answer pre new other all has turn =
+        others_turn w h input answer new other
+        (record { same = has.same; there = has.there; shown = has.shown ∙ append-nil (deeds_in n old.journal) }) turn
+
+    turned : (w : WorldView) (h : ℕ) (input : HostInput) (answer : HostAnswer) (pre : List Deed) (new : WorldView) →
+        ((acts : List HostAct) → seen input answer acts ≡ pre ++ map given acts) → Has (before_turn (h == n) pre) w → HostTurn rule w h input answer new →
+        So (if h == n then filter is_asked (input ∷ []) else []) new
+    turned w h input answer pre new all has turn = by_test (h == n) w h input answer pre new refl all has turn
+
+    -- nothing was written, and it answers nothing
+    plain_before : (w : WorldView) (h : ℕ) → Has (deeds_in n old.journal) w → Has (before_turn (h == n) []) w
+    plain_before w h has = record {
+      same = has.same;
+      there = has.there;
+      shown = has.shown ∙ sym (append-nil (deeds_in n old.journal)) ∙ ap (λ (ds : List Deed). deeds_in n old.journal ++ ds) (sym (either (h == n) []));
+    }
+
+    -- one deed was written
+    one_before : (w : WorldView) (h : ℕ) (e : Entry) (deed : Deed) → deed_by n e ≡ (if h == n then Some deed else None) → Has (deeds_in n old.journal) w →
+        Has (before_turn (h == n) (deed ∷ [])) (noted w e)
+    one_before w h e deed is has = record {
+      same = has.same;
+      there = has.there;
+      shown = more_shown n old.plan None w.journal (e ∷ []) (deeds_in n old.journal) (if h == n then deed ∷ [] else []) has.shown
+          (ap (λ (o : Option Deed). cons_option o []) is ∙ shown_if (h == n) deed);
+    }
+
+    plays_by : (w : WorldView) (h : ℕ) (frame : List ℕ) (original : ℕ) (raw : Bool) (skip : Option Skip) (new : WorldView) → Has (deeds_in n old.journal) w →
+        HostTurn rule (skip_noted w h skip) h (played_as raw frame original) (Played skip) new → So (if h == n then played_as raw frame original ∷ [] else []) new
+    plays_by w h frame original true None new has turn = turned w h (PlaysRaw frame original) (Played None) [] new (λ acts. refl) (plain_before w h has) turn
+    plays_by w h frame original false None new has turn = turned w h (Plays frame original) (Played None) [] new (λ acts. refl) (plain_before w h has) turn
+    plays_by w h frame original true (Some skip) new has turn =
+        turned (noted w (Skipped (host_no h) skip)) h (PlaysRaw frame original) (Played (Some skip)) (PassesOver skip ∷ []) new (λ acts. refl)
+        (one_before w h (Skipped (host_no h) skip) (PassesOver skip) refl has) turn
+    plays_by w h frame original false (Some skip) new has turn =
+        turned (noted w (Skipped (host_no h) skip)) h (Plays frame original) (Played (Some skip)) (PassesOver skip ∷ []) new (λ acts. refl)
+        (one_before w h (Skipped (host_no h) skip) (PassesOver skip) refl has) turn
+
+    receives_by : (w : WorldView) (h id : ℕ) (frame : List ℕ) (reception : Reception) (new : WorldView) → Has (deeds_in n old.journal) w →
+        HostTurn rule (reception_noted w h id frame reception) h (Receives frame) (Received reception) new → So (if h == n then [] else []) new
+    receives_by w h id frame Kept new has turn =
+        turned (noted w (Arrived id (host_no h) frame)) h (Receives frame) (Received Kept) (Gets frame ∷ []) new (λ acts. refl)
+        (one_before w h (Arrived id (host_no h) frame) (Gets frame) refl has) turn
+    receives_by w h id frame NotMember new has turn =
+        turned (noted w (Dropped id cause.NoMember)) h (Receives frame) (Received NotMember) [] new (λ acts. refl)
+        (plain_before (noted w (Dropped id cause.NoMember)) h
+        (notes n old.plan (slice_get old.hosts n) w (Dropped id cause.NoMember) (deeds_in n old.journal) refl has)) turn
+
+    receives : (w : WorldView) (h id : ℕ) (frame : List ℕ) (new : WorldView) → Has (deeds_in n old.journal) w → HostReceives rule w h id frame new → So [] new
+    receives w h id frame new has received =
+        subst (λ (asks : List HostInput). So asks new) (either (h == n) []) (receives_by w h id frame received.reception new has received.turn)
+
+    told : (w : WorldView) (h : ℕ) (input : HostInput) (new : WorldView) → ((acts : List HostAct) → seen input Nothing acts ≡ map given acts) →
+        filter is_asked (input ∷ []) ≡ input ∷ [] → Has (deeds_in n old.journal) w → HostTurn rule w h input Nothing new → So (if h == n then input ∷ [] else []) new
+    told w h input new all asked has turn =
+        subst (λ (asks : List HostInput). So (if h == n then asks else []) new) asked (turned w h input Nothing [] new all (plain_before w h has) turn)
+
+    -- ---- what comes out of a port
+    at_host : (w : WorldView) (id : ℕ) (frame : List ℕ) (to : Option ℕ) (new : WorldView) → Has (deeds_in n old.journal) w → ComesAtHost rule w id frame to new → So [] new
+    at_host w id frame None new has is =
+        unseen new (subst (λ (x : WorldView). Has (deeds_in n old.journal) x) (sym is)
+        (notes n old.plan (slice_get old.hosts n) w (Dropped id cause.HostGone) (deeds_in n old.journal) refl has))
+    at_host w id frame (Some h) new has received = receives w h id frame new has received
+
+    comes_out : (w : WorldView) (s port : ℕ) (item : Item) (new : WorldView) → Has (deeds_in n old.journal) w → ComesOut rule w s port item new → So [] new
+    comes_out w s port (Control frame) new has is = unseen new (subst (λ (x : WorldView). Has (deeds_in n old.journal) x) (sym is) has)
+    comes_out w s port (Data id frame) new has comes = at_host w id frame (receiver w s port frame) new has comes
+
+    comes_over : (switch : SwitchRule) (w : WorldView) (s port : ℕ) (item : Item) (peer : Peer) (new : WorldView) → Has (deeds_in n old.journal) w →
+        ComesOver switch rule w s port item peer new → So [] new
+    comes_over switch w s port item (Switch t q) new has comes =
+        unseen new (at_switch n old.plan (slice_get old.hosts n) (deeds_in n old.journal) switch w t.0 q item new has comes)
+    comes_over switch w s port item HostPort new has comes = comes_out w s port item new has comes
+
+    delivers_out : (switch : SwitchRule) (w : WorldView) (s port : ℕ) (items : List Item) (new : WorldView) → Has (deeds_in n old.journal) w →
+        DeliversOut switch rule w s port items new → So [] new
+    delivers_out switch w s port [] new has comes = absurd comes
+    delivers_out switch w s port (item ∷ items) new has comes =
+        comes_over switch (record w { out = set w.out (port_index w.plan.k s port) items }) s port item (peer_of w.plan s port) new
+        (record { same = has.same; there = has.there; shown = has.shown }) comes
+
+    goes : (w : WorldView) (h : ℕ) (to : Stand) (from : Option Stand) (new : WorldView) → Has (deeds_in n old.journal) w → Goes rule w h to from new →
+        So (if h == n then HasMoved ∷ [] else []) new
+    goes w h to None new has turn = absurd turn
+    goes w h to (Some from) new has turn =
+        told (host_moved w h from to) h HasMoved new (λ acts. refl) refl
+        (moved n old.plan (slice_get old.hosts n) (deeds_in n old.journal) w h from to has) turn
+
+    delivers : (switch : SwitchRule) (manager : ManagerRule) (w : WorldView) (name : QueueName) (new : WorldView) → Has (deeds_in n old.journal) w →
+        Delivers switch manager rule w name new → So [] new
+    delivers switch manager w (queue.FromHost h) new has comes =
+        unseen new (from_host n old.plan (slice_get old.hosts n) (deeds_in n old.journal) switch w h.0 (items_at w.from_hosts h.0) new has comes)
+    delivers switch manager w (queue.Port s port) new has comes = delivers_out switch w s.0 port (out_of w s.0 port) new has comes
+    delivers switch manager w (queue.ToManager s) new has turn =
+        unseen new (to_manager n old.plan (slice_get old.hosts n) (deeds_in n old.journal) manager w s.0 (items_at w.to_manager s.0) new has turn)
+    delivers switch manager w (queue.FromManager s) new has turn =
+        unseen new (from_manager n old.plan (slice_get old.hosts n) (deeds_in n old.journal) switch w s.0 (items_at w.from_manager s.0) new has turn)
+
+    happens : (switch : SwitchRule) (manager : ManagerRule) (w : WorldView) (e : Event) (new : WorldView) → Has (deeds_in n old.journal) w →
+        Happens switch manager rule w e new → So (asked_in n e) new
+    happens switch manager w (event.Deliver name) new has comes = delivers switch manager w name new has comes
+    happens switch manager w (event.Tick s) new has turn =
+        unseen new (switch_shows n old.plan (slice_get old.hosts n) (deeds_in n old.journal) switch
+        (record w { heard = heard_after_tick s.0 w.stands w.heard }) s.0 _ Silent new (record { same = has.same; there = has.there; shown = has.shown }) turn)
+    happens switch manager w (event.Fail a b) new has is =
+        unseen new (fails n old.plan (slice_get old.hosts n) (deeds_in n old.journal) w (link_between w.plan a.0 b.0) new has is)
+    happens switch manager w (event.Repair a b) new has is =
+        unseen new (is_repaired n old.plan (slice_get old.hosts n) (deeds_in n old.journal) w (link_between w.plan a.0 b.0) new has is)
+    happens switch manager w (event.Lose s port) new has gone =
+        unseen new (loses n old.plan (slice_get old.hosts n) (deeds_in n old.journal) w s.0 port (out_of w s.0 port) new has gone)
+    happens switch manager w (event.Move h s port) new has turn = goes w h.0 (record { edge = s; port = port }) (slice_get w.stands h.0) new has turn
+    happens switch manager w (event.Start h) new has turn = told w h.0 Starts new (λ acts. refl) refl has turn
+    happens switch manager w (event.Play h frame original raw) new has played = plays_by w h.0 frame original raw played.skip new has played.turn
+    happens switch manager w (event.Retry h) new has turn = told w h.0 Retries new (λ acts. refl) refl has turn
+    happens switch manager w (event.Join h group) new has turn = told w h.0 (Joins group) new (λ acts. refl) refl has turn
+    happens switch manager w (event.Leave h group) new has turn = told w h.0 (Leaves group) new (λ acts. refl) refl has turn
+
+  -- a step asks of the host what its event does
+  pub step_asks : (switch : SwitchRule) (manager : ManagerRule) (rule : HostRule) (old : WorldView) (e : Event) (new : WorldView) →
+      WorldStep switch manager rule old e new → Asks rule n old (asked_in n e) new
+  step_asks switch manager rule old e new step =
+      happens rule old switch manager (record old { steps = old.steps + 1 }) e new (record { same = refl; there = refl; shown = refl }) step

@@ -13,7 +13,7 @@ use pl_core::{HostCore, ManagerCore, SwitchCore};
 use pl_frame::Memory;
 use pl_journal::Entry;
 use pl_wiring::{HostNo, SwitchNo};
-use pl_world::QueueName;
+use pl_world::{QueueName, Stand};
 
 impl<S: SwitchCore, M: ManagerCore, H: HostCore> World<S, M, H> {
     /// How many items wait in a queue; none exactly where the wiring has no such queue.
@@ -103,6 +103,17 @@ impl<S: SwitchCore, M: ManagerCore, H: HostCore> World<S, M, H> {
         ensures { slice_get self.now.hosts h.0 ≡ Some (H.view result.now) }
     {
         &self.hosts[h.0 as usize]
+    }
+
+    /// Where a host stands; none exactly where the wiring has no such host.
+    pub fn place_of_host(&self, h: HostNo) -> Option<Stand>
+        ensures { result ≡ slice_get self.now.stands h.0 }
+    {
+        if self.has_host(h) {
+            Some(self.stands.stand_of(h))
+        } else {
+            None
+        }
     }
 
     /// For how many ticks of its switch no frame of the host came there; none where it is not heard.

@@ -1,0 +1,5 @@
+pub mod Scenes
+pub mod Queues
+pub mod Expecting
+pub mod Lines
+pub mod Asked

@@ -1,0 +1,14 @@
+//! Plays scripts on a fabric, line by line, over any three cores.
+//!
+//! A `Player` is a world and how many records of each host were asked for; contracts see it as a `Scene`
+//! of pl_lines, and what its calls do is said there.
+#![tactic(auto)]
+
+pub use player::{Player, Stopped};
+
+mod expecting;
+mod lines;
+mod player;
+mod queues;
+mod records;
+mod steps;

@@ -1,0 +1,110 @@
+ghost use Rattle.std.specs.Prelude.{◌≡◌, Some, None, MatchResult};
+ghost use Rattle.pl_inputs.specs.Records.{records_of};
+ghost use Rattle.pl_world.specs.Flying.{IsCounted};
+ghost use Rattle.pl_world.specs.Hearing.{IsWithinHearing};
+ghost use Rattle.pl_lines.specs.Lines.{Does, DoesLine, DoesLines, Expects};
+ghost use Rattle.pl_lines.specs.Scenes.{Ends, begun};
+ghost use Rattle.pl_player.specs.Endings.{EndsLines};
+
+use crate::expecting::{arrivals, ended_settled, endings, is_newest};
+use crate::player::{Player, Stopped};
+use pl_core::{HostCore, ManagerCore, SwitchCore};
+use pl_inputs::Capture;
+use pl_journal::{Cause, Entry};
+use pl_lines::Stop;
+use pl_pmac::Pmac;
+use pl_script::{Command, ScriptLine};
+use pl_wiring::HostNo;
+use pl_world::Event;
+
+// What is expected is so, or not.
+fn expect(holds: bool) -> Result<(), Stop> {
+    if holds {
+        Ok(())
+    } else {
+        Err(Stop::ExpectFailed)
+    }
+}
+
+impl<S: SwitchCore, M: ManagerCore, H: HostCore> Player<S, M, H> {
+    fn expect_arrived(&self, h: HostNo, many: u64) -> Result<(), Stop> {
+        expect(arrivals(self.world.journal().as_slice(), h) as u64 == many)
+    }
+
+    fn expect_dropped(&self, cause: Cause, many: u64) -> Result<(), Stop> {
+        expect(endings(self.world.journal().as_slice(), cause) as u64 == many)
+    }
+
+    fn expect_address(&self, h: HostNo, pmac: Pmac) -> Result<(), Stop> {
+        let holds = is_newest(self.alloc, self.world.journal().as_slice(), h, pmac)?;
+        expect(holds)
+    }
+
+    fn expect_settled(&self) -> Result<(), Stop> {
+        expect(ended_settled(self.world.journal().as_slice()))
+    }
+
+    // What a command asks for.
+    fn act(&mut self, captures: &[Capture], command: Command) -> Result<(), Stop>
+        requires counted { IsCounted self.old.world }
+        requires hearing { IsWithinHearing self.old.world }
+        ensures does { Ends result (λ end. Does S.rule M.rule H.rule (records_of captures.now) command self.old end self.new) }
+        ensures counted { Ends result (λ _. IsCounted self.new.world) }
+        ensures hearing { Ends result (λ _. IsWithinHearing self.new.world) }
+    {
+        match command {
+            Command::Start(who) => self.start(who),
+            Command::Send(h, count) => self.ask(captures, h, false, count),
+            Command::Raw(h, count) => self.ask(captures, h, true, count),
+            Command::Retry(who) => self.retry(who),
+            Command::Join(h, group) => self.happen(&Event::Join(h, group)),
+            Command::Leave(h, group) => self.happen(&Event::Leave(h, group)),
+            Command::Move(h, s, port) => self.happen(&Event::Move(h, s, port)),
+            Command::Fail(a, b) => self.happen(&Event::Fail(a, b)),
+            Command::Repair(a, b) => self.happen(&Event::Repair(a, b)),
+            Command::Lose(a, b) => self.lose(a, b),
+            Command::Deliver(from, to) => self.deliver(from, to),
+            Command::Tick(Some(s)) => self.happen(&Event::Tick(s)),
+            Command::Tick(None) => self.tick_all(),
+            Command::Sweep(times) => self.sweep(times),
+            Command::Settle(rounds) => self.settle(rounds),
+            Command::Random(number, steps) => self.random(number, steps),
+            Command::ExpectArrived(h, many) => self.expect_arrived(h, many),
+            Command::ExpectDropped(cause, many) => self.expect_dropped(cause, many),
+            Command::ExpectAddress(h, pmac) => self.expect_address(h, pmac),
+            Command::ExpectSettled => self.expect_settled(),
+        }
+    }
+
+    // A line begins, and its command is done.
+    fn play_line(&mut self, captures: &[Capture], line: &ScriptLine) -> Result<(), Stop>
+        requires counted { IsCounted self.old.world }
+        requires hearing { IsWithinHearing self.old.world }
+        ensures does { Ends result (λ end. DoesLine S.rule M.rule H.rule (records_of captures.now) line.now self.old end self.new) }
+        ensures counted { Ends result (λ _. IsCounted self.new.world) }
+        ensures hearing { Ends result (λ _. IsWithinHearing self.new.world) }
+    {
+        self.world.mark(Entry::Line(line.number))?;
+        self.act(captures, line.command)
+    }
+
+    /// Plays lines over the hosts' captures, which stand in the order of the hosts, up to the first line
+    /// that is stopped. After want of memory the player is not used again.
+    pub fn play(&mut self, captures: &[Capture], lines: &[ScriptLine]) -> Result<(), Stopped>
+        requires counted { IsCounted self.old.world }
+        requires hearing { IsWithinHearing self.old.world }
+        ensures does { EndsLines result (λ end. DoesLines S.rule M.rule H.rule (records_of captures.now) lines.now self.old end self.new) }
+        ensures counted { EndsLines result (λ _. IsCounted self.new.world) }
+        ensures hearing { EndsLines result (λ _. IsWithinHearing self.new.world) }
+    {
+        for line in lines {
+            if let Err(stop) = self.play_line(captures, line) {
+                return Err(Stopped {
+                    line: line.number,
+                    stop,
+                });
+            }
+        }
+        Ok(())
+    }
+}

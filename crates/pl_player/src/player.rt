@@ -1,0 +1,65 @@
+ghost use Rattle.std.specs.Prelude.{◌≡◌, ◌≤◌, IfOk};
+ghost use Rattle.pl_lines.specs.Scenes.{first_scene};
+ghost use Rattle.pl_world.specs.Flying.{IsCounted};
+ghost use Rattle.pl_world.specs.Hearing.{IsWithinHearing};
+
+use pl_core::{HostCore, ManagerCore, SwitchCore};
+use pl_frame::Memory;
+use pl_lines::Stop;
+use pl_schedule::World;
+use pl_wiring::Wiring;
+use pl_world::Limits;
+use std::alloc::Global;
+use std::marker::Model;
+
+/// A fabric on which a script is played. Contracts see it as a `Scene` (`specs/Scenes.antt` of pl_lines).
+#[derive(Drop)]
+pub struct Player<S: SwitchCore, M: ManagerCore, H: HostCore> {
+    pub(crate) alloc: Global,
+    pub(crate) world: World<S, M, H>,
+    /// For each host how many of its records were asked for.
+    pub(crate) asked: Vec<u64>,
+}
+
+impl<S: SwitchCore, M: ManagerCore, H: HostCore> Model for Player<S, M, H> {
+    ghost use Rattle.pl_lines.specs.Scenes.{Scene};
+
+    ghost Value = { Scene };
+
+    ghost view = { λ p. record { world = p.world; asked = p.asked.items } };
+}
+
+/// The line at which a script was stopped, and why.
+#[derive(Clone, Copy, Debug, PartialEq, Eq)]
+pub struct Stopped {
+    pub line: u32,
+    pub stop: Stop,
+}
+
+impl<S: SwitchCore, M: ManagerCore, H: HostCore> Player<S, M, H> {
+    /// A fabric at its beginning, on which no line was played.
+    pub fn begin(
+        alloc: Global,
+        wiring: Wiring,
+        limits: Limits,
+    ) -> Result<Player<S, M, H>, Memory>
+        requires { limits.steps ≤ 4000000000 }
+        ensures scene { IfOk result (λ p. p ≡ first_scene wiring limits) }
+        ensures counted { IfOk result (λ p. IsCounted p.world) }
+        ensures hearing { IfOk result (λ p. IsWithinHearing p.world) }
+    {
+        let asked = vec![in alloc; 0; wiring.hosts().len()]?;
+        let world = World::boot(alloc, wiring, limits)?;
+        Ok(Player {
+            alloc,
+            world,
+            asked,
+        })
+    }
+
+    pub fn world(&self) -> &World<S, M, H>
+        ensures { result.now ≡ self.now.world }
+    {
+        &self.world
+    }
+}

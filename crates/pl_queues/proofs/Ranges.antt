@@ -1,5 +1,6 @@
 -- The places of a range that pass a test, and what stands where in two lists one behind the other.
-use Rattle.std.proofs.Common.{◌≡◌, ℕ, zero, suc, ◌+◌, ◌-◌, ◌<◌, ◌≤◌, Bool, false, cond, List, [], ◌∷◌, ◌++◌, length, slice_get, refl, sym, ap, ◌∙◌, arith}
+use Rattle.std.proofs.Common.{◌≡◌, ℕ, zero, suc, ◌+◌, ◌-◌, ◌<◌, ◌≤◌, Bool, true, false, cond, List, [], ◌∷◌, ◌++◌, length, Some, slice_get, ◌⊎◌, refl, sym, ap, ◌∙◌, inl, inr, arith}
+use Rattle.std.proofs.lemmas.Option.{none-some, same_Some}
 use Rattle.std.specs.List.{filter, range_with_len}
 use Rattle.std.proofs.lemmas.List.Elements.{filter-append}
 
@@ -47,3 +48,16 @@ module _ (test : ℕ → Bool) where
   none_there (suc n) from none =
       ap (λ b. cond b (from ∷ those (from + 1) n) (those (from + 1) n)) (none from (omega arith))
       ∙ none_there n (from + 1) (λ k low. none k (omega arith))
+
+  one_more : (b : Bool) (from : ℕ) (rest : List ℕ) (i at : ℕ) → slice_get (cond b (from ∷ rest) rest) i ≡ Some at
+      → (from ≡ at) ⊎ ((j : ℕ) × (slice_get rest j ≡ Some at))
+  one_more true from rest zero at is = inl (same_Some from at is)
+  one_more true from rest (suc i) at is = inr (i, is)
+  one_more false from rest i at is = inr (i, is)
+
+  pub place_below : (n from i at : ℕ) → slice_get (those from n) i ≡ Some at → at < from + n
+  place_below zero from i at is = absurd (none-some at is)
+  place_below (suc n) from i at is = elim (one_more (test from) from (those (from + 1) n) i at is) [
+    | inl first ↦ omega arith
+    | inr later ↦ let low = place_below n (from + 1) later.0 at later.1 in omega arith
+  ]

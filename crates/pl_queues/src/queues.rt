@@ -84,7 +84,8 @@ impl<T> Queues<T> {
 
     /// Number i of the places whose queues have items, in rising order; none past the last.
     pub fn filled_place(&self, i: usize) -> Option<usize>
-        ensures { result ≡ slice_get (filled_places self.now) i }
+        ensures number { result ≡ slice_get (filled_places self.now) i }
+        ensures there { IfSome result (λ at. at < length self.now) }
     {
         self.filled.nth(i)
     }

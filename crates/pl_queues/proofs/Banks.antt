@@ -1,5 +1,5 @@
 -- The marks of the queues that have items.
-use Rattle.std.proofs.Common.{◌≡◌, ℕ, Option, None, Some, MatchOption, IfSome, ◌-◌, ◌<◌, ◌≤◌, Bool, true, false, List, [], ◌∷◌, ◌++◌, map, length, replicate, slice_get, slice_set, sym, refl, ap, ◌∙◌, zero, suc, ◌+◌, arith}
+use Rattle.std.proofs.Common.{◌≡◌, ℕ, Option, None, Some, MatchOption, IfSome, ◌-◌, ◌<◌, ◌≤◌, Bool, true, false, List, [], ◌∷◌, ◌++◌, map, length, replicate, slice_get, slice_set, sym, refl, ap, ◌∙◌, zero, suc, arith}
 use Rattle.std.specs.List.{filter, range_with_len}
 use Rattle.std.proofs.lemmas.List.{map-set, length-map, set-get_or}
 use Rattle.pl_queues.specs.Queues.{filled_places, has_items, items_at, next_filled, next_place}

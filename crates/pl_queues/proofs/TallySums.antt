@@ -1,8 +1,8 @@
 -- What the nodes of a tree of counts count, and the way down to a marked place.
-use Rattle.std.proofs.Common.{◌≡◌, ℕ, zero, suc, ◌+◌, ◌-◌, ◌*◌, ◌<◌, ◌≤◌, ◌==◌, Bool, true, false, cond, List, [], ◌∷◌, ◌++◌, length, Option, Some, None, slice_get, slice_index, slice_index_or, refl, sym, ap, subst, ◌∙◌, inl, inr, arith}
+use Rattle.std.proofs.Common.{◌≡◌, ℕ, zero, suc, ◌+◌, ◌-◌, ◌*◌, ◌<◌, ◌≤◌, ◌==◌, Bool, true, false, cond, List, [], ◌∷◌, ◌++◌, length, Option, Some, None, slice_get, slice_index, sym, ap, ◌∙◌, inl, inr, arith}
 use Rattle.std.specs.List.{filter, range_with_len}
 use Rattle.std.proofs.Math.Nat.{mul-le-mul_left}
-use Rattle.std.proofs.lemmas.Bool.{cases_Bool, cases_eq, cases_lt, eq-eqb, eqb-true, ne_eqb}
+use Rattle.std.proofs.lemmas.Bool.{cases_Bool, cases_eq, cases_lt, eq-eqb, eqb-true}
 use Rattle.std.proofs.lemmas.List.{append-nil, get_or_past, length-append}
 use Rattle.std.proofs.lemmas.List.Sums.{count_by-le-length, length-filter}
 use Rattle.std.proofs.lemmas.List.FromFn.{length-range_with_len, length-map-range_with_len, get_or-map-range_with_len}
@@ -131,8 +131,8 @@ module _ (width : ℕ) (tree : List ℕ) (is : IsSummed width tree) where
       let counted : is_counted width tree (node - width) ≡ true = eq-eqb _ _ (omega arith) in (
         omega arith,
         leads.same ∙ ap (λ a. slice_get (places a 1) left) place
-        ∙ ap (λ b. slice_get (cond b ((node - width) ∷ []) []) left) counted
-        ∙ ap (slice_get ((node - width) ∷ [])) first,
+            ∙ ap (λ b. slice_get (cond b ((node - width) ∷ []) []) left) counted
+            ∙ ap (slice_get ((node - width) ∷ [])) first,
       )
 
 -- no more places are marked than there are

@@ -67,12 +67,7 @@ impl Tally {
         if i >= self.tree[1] {
             return None;
         }
-        Some(leaf_below(
-            self.tree.as_slice(),
-            self.levels,
-            self.width,
-            i,
-        ))
+        Some(leaf_below(self.tree.as_slice(), self.levels, self.width, i))
     }
 }
 

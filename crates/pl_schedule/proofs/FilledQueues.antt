@@ -95,13 +95,13 @@ module _ (w : WorldView) where
         filter-append (is_filled w) (host_queues w.plan) (port_names ++ (report_names ++ order_names))
         ∙ ap (λ l. l ++ filter (is_filled w) (port_names ++ (report_names ++ order_names))) hosts_are
         ∙ ap (λ l. map host_queue hosts ++ l) (
-          filter-append (is_filled w) port_names (report_names ++ order_names)
-          ∙ ap (λ l. l ++ filter (is_filled w) (report_names ++ order_names)) ports_are
-          ∙ ap (λ l. map (port_queue w.plan.k) ports ++ l) (
-            filter-append (is_filled w) report_names order_names
-            ∙ ap (λ l. l ++ filter (is_filled w) order_names) reports_are
-            ∙ ap (λ l. map report_queue reports ++ l) orders_are
-          )
+        filter-append (is_filled w) port_names (report_names ++ order_names)
+        ∙ ap (λ l. l ++ filter (is_filled w) (report_names ++ order_names)) ports_are
+        ∙ ap (λ l. map (port_queue w.plan.k) ports ++ l) (
+        filter-append (is_filled w) report_names order_names
+        ∙ ap (λ l. l ++ filter (is_filled w) order_names) reports_are
+        ∙ ap (λ l. map report_queue reports ++ l) orders_are
+        )
         )
 
     pub count_of_all : length hosts + length ports + length reports + length orders ≡ length (filled_queues w)

@@ -1,6 +1,4 @@
-use Rattle.std.proofs.Common.{◌≡◌, ℕ, suc, ◌+◌, ◌-◌, ◌*◌, ◌<◌, slice_get, sym, arith}
-use Rattle.std.specs.List.{filter, range_with_len}
-use Rattle.pl_queues.specs.Tallies.{is_counted}
+use Rattle.std.proofs.Common.{ℕ, suc, ◌+◌, ◌-◌, arith}
 use Rattle.pl_queues.proofs.TallySums.{goes_left, goes_right, leads_to_leaf, there}
 use Rattle.pl_queues.proofs.tally.leaf_below.Goals as goal
 use Rattle.pl_queues.proofs.tally.leaf_below.Goals.{then-left-counted, else-left-counted}

@@ -1,6 +1,6 @@
-use Rattle.std.proofs.Common.{◌≡◌, ℕ, ◌+◌, ◌*◌, ◌/◌, ◌<◌, length, slice_index, slice_set, sym, ap, subst, ◌∙◌, arith}
+use Rattle.std.proofs.Common.{◌≡◌, ℕ, ◌+◌, ◌*◌, ◌/◌, slice_index, slice_set, subst, arith}
 use Rattle.std.proofs.lemmas.List.{get_or_read}
-use Rattle.pl_queues.proofs.TallyChanges.{IsRenewed, renewed_above, renewed_all}
+use Rattle.pl_queues.proofs.TallyChanges.{IsRenewed, renewed_above}
 use Rattle.pl_queues.proofs.tally.put_leaf.Goals as goal
 
 pub loop-node-preserved : goal.loop-node-preserved

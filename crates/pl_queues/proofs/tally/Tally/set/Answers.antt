@@ -1,4 +1,4 @@
-use Rattle.std.proofs.Common.{cond, slice_set, ap, ◌∙◌, ◌≡◌, ℕ, ◌+◌, ◌<◌, slice_index, sym, subst, arith}
+use Rattle.std.proofs.Common.{slice_set, ap, ◌∙◌, ◌≡◌, ℕ, ◌+◌, slice_index, subst, arith}
 use Rattle.pl_queues.proofs.TallyChanges.{IsTally-set, marks_in-set, place_within}
 use Rattle.pl_queues.proofs.tally.Tally.set.Goals as goal
 

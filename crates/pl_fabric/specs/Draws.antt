@@ -1,6 +1,5 @@
 -- Steps that are drawn by numbers.
-use Rattle.std.specs.Prelude.{ℕ, zero, suc, ◌+◌, ◌-◌, ◌*◌, ◌/◌, ◌%◌, ◌^◌, List, length, Option, Some, None, slice_get, ◌≡◌, refl}
-use Rattle.std.specs.List.{filter}
+use Rattle.std.specs.Prelude.{ℕ, zero, suc, ◌+◌, ◌-◌, ◌*◌, ◌/◌, ◌%◌, ◌^◌, length, Option, Some, None, slice_get, ◌≡◌, refl}
 use Rattle.pl_wiring.specs.Labels.{switch_count}
 use Rattle.pl_core.specs.HostInputs.{HostRule}
 use Rattle.pl_core.specs.ManagerDuties.{ManagerRule}
@@ -9,18 +8,13 @@ use Rattle.pl_world.specs.declared.event.Event.{Event}
 use Rattle.pl_world.specs.declared.event.Event.TheVariants.{Deliver, Tick}
 use Rattle.pl_world.specs.declared.event.QueueName.{QueueName}
 use Rattle.pl_world.specs.Changes.{switch_no}
-use Rattle.pl_world.specs.Refusals.{is_filled}
+use Rattle.pl_world.specs.QueueOrder.{filled_queues}
 use Rattle.pl_world.specs.Worlds.{WorldView}
 use Rattle.pl_fabric.specs.Courses.{Course, Makes, Stays, Then}
-use Rattle.pl_fabric.specs.Rounds.{queues_from}
 
 -- the next number of the generator
 abbrev pub next_number : ℕ → ℕ
 next_number x = (x * 6364136223846793005 + 1442695040888963407) % 2 ^ 64
-
--- the queues with items, in queue order
-abbrev pub filled_queues : WorldView → List QueueName
-filled_queues w = filter (is_filled w) (queues_from w.plan 0)
 
 -- a queue with items, or the tick of a switch
 abbrev pub delivery_or_tick : Option QueueName → ℕ → Event

@@ -2,21 +2,14 @@ ghost use Rattle.std.specs.Prelude.{◌≡◌};
 ghost use Rattle.pl_world.specs.Flying.{IsCounted};
 ghost use Rattle.pl_world.specs.Hearing.{IsWithinHearing};
 ghost use Rattle.pl_fabric.specs.Courses.{EndsAs};
-ghost use Rattle.pl_fabric.specs.Draws.{Draws, drawn, next_number};
+ghost use Rattle.pl_fabric.specs.Draws.{Draws, drawn};
 
 use crate::making::make;
 use pl_core::{HostCore, ManagerCore, SwitchCore};
+use pl_draws::{next_number, upper_half};
 use pl_schedule::World;
 use pl_wiring::SwitchNo;
 use pl_world::{Event, StepError};
-
-// The next number of the generator.
-fn next_number(x: u64) -> u64
-    ensures { result ≡ next_number x }
-{
-    x.wrapping_mul(6_364_136_223_846_793_005)
-        .wrapping_add(1_442_695_040_888_963_407)
-}
 
 // What a number draws.
 fn drawn<S: SwitchCore, M: ManagerCore, H: HostCore>(world: &World<S, M, H>, x: u64) -> Event
@@ -24,7 +17,7 @@ fn drawn<S: SwitchCore, M: ManagerCore, H: HostCore>(world: &World<S, M, H>, x: 
 {
     let filled = world.filled_count();
     let switches = world.wiring().switch_count() as usize;
-    let i = (x >> 32) as usize % (filled + switches);
+    let i = upper_half(x) as usize % (filled + switches);
     match world.filled_queue(i) {
         Some(name) => Event::Deliver(name),
         None => Event::Tick(SwitchNo((i - filled) as u32)),

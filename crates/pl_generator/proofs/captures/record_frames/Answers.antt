@@ -1,7 +1,7 @@
 use Rattle.std.proofs.Common.{sym, subst}
 use Rattle.pl_generator.specs.Captures.{AreCaptures}
 use Rattle.pl_generator.proofs.CaptureLemmas.{captures_more}
-use Rattle.pl_generator.proofs.captures.captures.Goals as goal
+use Rattle.pl_generator.proofs.captures.record_frames.Goals as goal
 
 pub loop-frame-preserved : goal.loop-frame-preserved
 loop-frame-preserved c =

@@ -1,7 +1,8 @@
 -- Steps that are drawn by numbers.
-use Rattle.std.specs.Prelude.{ℕ, zero, suc, ◌+◌, ◌-◌, ◌*◌, ◌/◌, ◌%◌, ◌^◌, List, length, Option, Some, None, slice_get, ◌≡◌, refl}
-use Rattle.std.specs.List.{filter}
+use Rattle.std.specs.Prelude.{ℕ, zero, suc, ◌+◌, ◌-◌, ◌%◌, length, Option, Some, None, slice_get}
 use Rattle.pl_wiring.specs.Labels.{switch_count}
+use Rattle.pl_draws.specs.Draws.{upper_half}
+pub use Rattle.pl_draws.specs.Draws.{next_number}
 use Rattle.pl_core.specs.HostInputs.{HostRule}
 use Rattle.pl_core.specs.ManagerDuties.{ManagerRule}
 use Rattle.pl_core.specs.SwitchInputs.{SwitchRule}
@@ -9,18 +10,9 @@ use Rattle.pl_world.specs.declared.event.Event.{Event}
 use Rattle.pl_world.specs.declared.event.Event.TheVariants.{Deliver, Tick}
 use Rattle.pl_world.specs.declared.event.QueueName.{QueueName}
 use Rattle.pl_world.specs.Changes.{switch_no}
-use Rattle.pl_world.specs.Refusals.{is_filled}
+use Rattle.pl_world.specs.QueueOrder.{filled_queues}
 use Rattle.pl_world.specs.Worlds.{WorldView}
 use Rattle.pl_fabric.specs.Courses.{Course, Makes, Stays, Then}
-use Rattle.pl_fabric.specs.Rounds.{queues_from}
-
--- the next number of the generator
-abbrev pub next_number : ℕ → ℕ
-next_number x = (x * 6364136223846793005 + 1442695040888963407) % 2 ^ 64
-
--- the queues with items, in queue order
-abbrev pub filled_queues : WorldView → List QueueName
-filled_queues w = filter (is_filled w) (queues_from w.plan 0)
 
 -- a queue with items, or the tick of a switch
 abbrev pub delivery_or_tick : Option QueueName → ℕ → Event
@@ -33,14 +25,10 @@ event_number w i = delivery_or_tick (slice_get (filled_queues w) i) (i - length 
 
 -- what a number draws: its upper half, as far as there is something to draw
 abbrev pub drawn : WorldView → ℕ → Event
-drawn w x = event_number w (x / 2 ^ 32 % (length (filled_queues w) + switch_count w.plan.k))
+drawn w x = event_number w (upper_half x % (length (filled_queues w) + switch_count w.plan.k))
 
 -- so many steps, each drawn by the next number
 abbrev pub Draws : SwitchRule → ManagerRule → HostRule → ℕ → ℕ → Course
 Draws switch manager host zero x = Stays
 Draws switch manager host (suc n) x = λ old.
     Then (Makes switch manager host (drawn old (next_number x))) (Draws switch manager host n (next_number x)) old
-
--- the first number that is drawn from 1
-first_draw : next_number 1 / 2 ^ 32 ≡ 1817669548
-first_draw = refl

@@ -1,67 +1,24 @@
-ghost use Rattle.std.specs.Prelude.{◌≡◌, ◌<◌, ◌^◌, length, slice_get};
+ghost use Rattle.std.specs.Prelude.{◌≡◌};
 ghost use Rattle.pl_world.specs.Flying.{IsCounted};
 ghost use Rattle.pl_world.specs.Hearing.{IsWithinHearing};
 ghost use Rattle.pl_fabric.specs.Courses.{EndsAs};
-ghost use Rattle.pl_fabric.specs.Draws.{Draws, drawn, event_number, filled_queues, next_number};
+ghost use Rattle.pl_fabric.specs.Draws.{Draws, drawn};
 
 use crate::making::make;
 use pl_core::{HostCore, ManagerCore, SwitchCore};
+use pl_draws::{next_number, upper_half};
 use pl_schedule::World;
 use pl_wiring::SwitchNo;
-use pl_world::{Event, QueueName, StepError};
-
-// The next number of the generator.
-fn next_number(x: u64) -> u64
-    ensures { result ≡ next_number x }
-{
-    x.wrapping_mul(6_364_136_223_846_793_005)
-        .wrapping_add(1_442_695_040_888_963_407)
-}
-
-// How many queues have items.
-fn filled_count<S: SwitchCore, M: ManagerCore, H: HostCore>(world: &World<S, M, H>) -> usize
-    ensures count { result ≡ length (filled_queues world.now) }
-    ensures few { result < 2 ^ 40 }
-{
-    let _k = world.wiring().k();
-    let mut many = 0;
-    let mut from = 0;
-    while let Some(n) = world.next_queue(from) {
-        let _end = world.queue_count();
-        many += 1;
-        from = n + 1;
-    }
-    many
-}
-
-// Queue number i of those that have items, in queue order.
-fn filled_queue<S: SwitchCore, M: ManagerCore, H: HostCore>(
-    world: &World<S, M, H>,
-    i: usize,
-) -> Option<QueueName>
-    ensures { result ≡ slice_get (filled_queues world.now) i }
-{
-    let mut left = i;
-    let mut from = 0;
-    while let Some(n) = world.next_queue(from) {
-        if left == 0 {
-            return Some(world.queue_at(n));
-        }
-        let _end = world.queue_count();
-        left -= 1;
-        from = n + 1;
-    }
-    None
-}
+use pl_world::{Event, StepError};
 
 // What a number draws.
 fn drawn<S: SwitchCore, M: ManagerCore, H: HostCore>(world: &World<S, M, H>, x: u64) -> Event
     ensures { result ≡ drawn world.now x }
 {
-    let filled = filled_count(world);
+    let filled = world.filled_count();
     let switches = world.wiring().switch_count() as usize;
-    let i = (x >> 32) as usize % (filled + switches);
-    match filled_queue(world, i) {
+    let i = upper_half(x) as usize % (filled + switches);
+    match world.filled_queue(i) {
         Some(name) => Event::Deliver(name),
         None => Event::Tick(SwitchNo((i - filled) as u32)),
     }

@@ -1,4 +1,4 @@
--- Switches whose rows turned, in a list.
+-- Switches that miss others than before, in a list.
 use Rattle.std.proofs.Common.{◌≡◌, ℕ, ◌<◌, ◌+◌, Bool, true, false, List, length, take, get_or, refl, sym, ◌∙◌, subst, inl, inr}
 use Rattle.std.specs.BTreeMap.{is_at}
 use Rattle.std.specs.BTreeSet.{insert_key}

@@ -16,7 +16,7 @@ use pl_frame::SwitchId;
 use pl_reports::Reports;
 use std::alloc::Global;
 
-/// Brings rows and lists up to a word of a switch, which was told already.
+/// Brings what is missed and the lists up to a word of a switch, which was told already.
 pub(crate) fn renew_after(
     reports: &Reports,
     leading: &mut Leading,

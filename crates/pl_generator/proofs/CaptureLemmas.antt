@@ -1,5 +1,5 @@
 -- Captures with one more frame.
-use Rattle.std.proofs.Common.{◌≡◌, ◌≢◌, ℕ, Bool, true, false, cond, eqb, ◌+◌, ◌<◌, List, [], ◌∷◌, ◌++◌, length, take, map, replicate, get_or, set, refl, sym, ◌∙◌, ap, subst, append_assoc, append-nil, eqb-true}
+use Rattle.std.proofs.Common.{◌≡◌, ◌≢◌, ℕ, Bool, true, false, cond, ◌+◌, ◌<◌, List, [], ◌∷◌, ◌++◌, length, take, map, replicate, get_or, set, refl, sym, ◌∙◌, ap, subst, append_assoc, append-nil, eqb-true}
 use Rattle.std.specs.List.{filter, flat_map}
 use Rattle.std.proofs.lemmas.Bool.{eqb-false}
 use Rattle.std.proofs.lemmas.List.{get_or-replicate, get_or-set_same, get_or-set_other, length-replicate, length-set, map-append, take_more}

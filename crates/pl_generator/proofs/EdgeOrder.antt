@@ -1,5 +1,5 @@
 -- Each host stands at an edge switch.
-use Rattle.std.proofs.Common.{◌≡◌, ℕ, ◌+◌, ◌*◌, ◌/◌, ◌%◌, ◌<◌, ◌≤◌, ◌∙◌, ap, arith}
+use Rattle.std.proofs.Common.{◌≡◌, ℕ, ◌*◌, ◌/◌, ◌%◌, ◌<◌, ◌≤◌, ◌∙◌, ap, arith}
 use Rattle.std.proofs.lemmas.Nat.{div_below}
 use Rattle.pl_wiring.specs.Labels.{IsArity, edge_count}
 use Rattle.pl_generator.specs.Hosts.{host_count}

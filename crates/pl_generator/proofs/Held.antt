@@ -1,5 +1,5 @@
 -- What the shelf holds under each name.
-use Rattle.std.proofs.Common.{◌≡◌, ◌≢◌, ◌⊎◌, ℕ, true, false, cond, ◌+◌, ◌*◌, ◌<◌, ◌^◌, List, [], ◌++◌, length, take, get_or, codes, decimal, Some, None, Option, option_and_then, refl, sym, ◌∙◌, ap, subst, inl, inr, not-suc-le-zero, arith}
+use Rattle.std.proofs.Common.{◌≡◌, ◌≢◌, ◌⊎◌, ℕ, true, false, cond, ◌+◌, ◌*◌, ◌<◌, ◌^◌, List, [], length, take, get_or, codes, Some, Option, option_and_then, refl, sym, ◌∙◌, ap, subst, inl, inr, not-suc-le-zero, arith}
 use Rattle.std.specs.Ordering.{nat_cmp, eq_by_cmp}
 use Rattle.std.specs.Cmp.Lexicographic.{slice_cmp, nat_list_cmp_total}
 use Rattle.std.specs.FinMap.{get, get-empty, get-insert}
@@ -9,8 +9,8 @@ use Rattle.std.proofs.lemmas.Fmt.{decimal_injective}
 use Rattle.std.proofs.lemmas.Map.Text.{is_eq-slice_cmp}
 use Rattle.std.proofs.lemmas.Slice.Eq.{bytes_eq-Decides}
 use Rattle.pl_shelf.specs.Held.{Held, Changes, absent, holds}
-use Rattle.pl_shelf.specs.MemoryShelf.{MemoryState, Place, Places, held_in, held_of, placed, empty_memory}
-use Rattle.pl_generator.specs.Generated.{AreGenerated, AreHeld, IsOther, capture_name, script_name, topology_name}
+use Rattle.pl_shelf.specs.MemoryShelf.{MemoryState, Place, held_in, held_of, placed, empty_memory}
+use Rattle.pl_generator.specs.Generated.{AreGenerated, AreHeld, capture_name, script_name, topology_name}
 use Rattle.pl_generator.specs.Hosts.{host_count}
 use Rattle.pl_generator.specs.TopologyText.{topology_text}
 use Rattle.pl_generator.specs.ScriptText.{script_lines, script_text}

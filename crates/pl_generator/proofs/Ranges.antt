@@ -1,10 +1,11 @@
 -- Lists of what is made for each number from 0 on, with one more.
-use Rattle.std.proofs.Common.{◌≡◌, ℕ, suc, ◌+◌, ◌<◌, List, [], ◌∷◌, ◌++◌, length, take, get_or, sym, ◌∙◌, ap, append_assoc, arith}
+use Rattle.std.proofs.Common.{◌≡◌, ℕ, suc, ◌+◌, ◌<◌, List, [], ◌∷◌, ◌++◌, length, take, get_or, sym, ◌∙◌, ap, arith}
 use Rattle.std.specs.List.{flat_map, range_with_len}
 use Rattle.std.proofs.lemmas.List.{flat_map_more, map-id, take_more}
 use Rattle.std.proofs.lemmas.List.FromFn.{map-range_with_len_more}
 use Rattle.pl_draws.specs.Draws.{next_number}
-use Rattle.pl_generator.specs.Drawing.{frame_at, frames_of, last_number}
+use Rattle.pl_generator.specs.declared.drawing.DrawnFrame.{DrawnFrame}
+use Rattle.pl_generator.specs.Drawing.{frame_at, frame_behind, frames_of, last_number}
 
 range_more : (n : ℕ) → range_with_len 0 (n + 1) ≡ range_with_len 0 n ++ n ∷ []
 range_more n =
@@ -31,11 +32,17 @@ text_of_item f first text new xs i x within is so_far step =
     ∙ ap (λ y. first ++ flat_map f (take i xs ++ y ∷ [])) is
     ∙ ap (λ ys. first ++ flat_map f ys) (sym (take_more xs i x within))
 
-pub frames_more : (hosts x f : ℕ) → frames_of hosts x (f + 1) ≡ frames_of hosts x f ++ frame_at hosts x f ∷ []
+-- one more frame, drawn behind the number that was drawn last
+pub frames_more : (hosts x f : ℕ) (frames new : List DrawnFrame) (last : ℕ) (frame : DrawnFrame) → frames ≡ frames_of hosts x f →
+    last ≡ last_number x f → frame ≡ frame_behind hosts last f → new ≡ frames ++ frame ∷ [] → new ≡ frames_of hosts x (f + 1)
 unfolding frames_of
-frames_more hosts x f = map-range_with_len_more (frame_at hosts x) 0 f f (omega arith)
+frames_more hosts x f frames new last frame so_far is_last drawn pushed =
+    pushed
+    ∙ ap (λ fs. fs ++ frame ∷ []) so_far
+    ∙ ap (λ d. frames_of hosts x f ++ d ∷ []) (drawn ∙ ap (λ y. frame_behind hosts y f) is_last)
+    ∙ sym (map-range_with_len_more (frame_at hosts x) 0 f f (omega arith))
 
-pub last_more : (x f : ℕ) → last_number x (f + 1) ≡ next_number (next_number (last_number x f))
-last_more x f =
+pub last_more : (x f last new : ℕ) → last ≡ last_number x f → new ≡ next_number (next_number last) → new ≡ last_number x (f + 1)
+last_more x f last new is_last drawn =
     let next : f + 1 ≡ suc f = omega arith in
-    ap (last_number x) next
+    drawn ∙ ap (λ y. next_number (next_number y)) is_last ∙ sym (ap (last_number x) next)

@@ -3,7 +3,7 @@ use Rattle.std.specs.Prelude.{◌≡◌, ℕ, ◌<◌, ◌==◌, Bool, List, [],
 use Rattle.std.specs.List.{filter}
 use Rattle.byteorder.specs.Endian.{big_bytes}
 use Rattle.pl_capture.specs.declared.endianness.Endianness.TheVariants.{Little}
-use Rattle.pl_capture.specs.Spelling.{Packet, packet_bytes, saved_bytes, saved_packet}
+use Rattle.pl_capture.specs.Spelling.{Packet, packet_bytes, saved_bytes, saved_header, saved_packet}
 use Rattle.pl_generator.specs.declared.drawing.DrawnFrame.{DrawnFrame}
 use Rattle.pl_generator.specs.Hosts.{host_count, mac_of}
 use Rattle.pl_generator.specs.Drawing.{frames_of}
@@ -45,3 +45,13 @@ one_frame : frame_bytes (record { source = 3; destination = 258; number = 66051 
     2 ∷ 0 ∷ 0 ∷ 0 ∷ 1 ∷ 2 ∷ 2 ∷ 0 ∷ 0 ∷ 0 ∷ 0 ∷ 3 ∷ 0x88 ∷ 0xb6 ∷ 0 ∷ 1 ∷ 2 ∷ 3 ∷ replicate 42 0
 unfolding frame_bytes
 one_frame = refl
+
+-- of two frames that are drawn from 1 at k = 4, one is from host 9
+capture_of_one : length (capture_text 4 1 2 9) ≡ 100
+unfolding capture_text frames_of frame_bytes
+capture_of_one = refl
+
+-- and none from host 11
+capture_of_none : capture_text 4 1 2 11 ≡ saved_header
+unfolding capture_text frames_of
+capture_of_none = refl

@@ -57,7 +57,7 @@ impl Capture {
 }
 
 /// The captures of so many hosts, in which each frame stands at its source.
-pub(crate) fn captures(
+pub(crate) fn record_frames(
     alloc: Global,
     hosts: u16,
     frames: &[DrawnFrame],

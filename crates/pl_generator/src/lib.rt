@@ -13,4 +13,6 @@ mod drawing;
 mod hosts;
 mod script;
 mod shelf;
+#[cfg(test)]
+mod tests;
 mod topology;

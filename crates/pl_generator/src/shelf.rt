@@ -4,7 +4,7 @@ ghost use Rattle.pl_shelf.specs.MemoryShelf.{held_in};
 ghost use Rattle.pl_wiring.specs.Labels.{IsArity};
 ghost use Rattle.pl_generator.specs.Generated.{AreGenerated, AreHeld, IsUntouched, capture_name};
 
-use crate::captures::{Capture, captures};
+use crate::captures::{Capture, record_frames};
 use crate::drawing::draw_frames;
 use crate::hosts::host_count;
 use crate::script::script_text;
@@ -30,7 +30,7 @@ pub fn generate(alloc: Global, k: u8, number: u64, frames: u32) -> Result<Memory
     let drawing = draw_frames(alloc, hosts, number, frames)?;
     let topology = topology_text(alloc, k)?;
     let script = script_text(alloc, &drawing.frames, drawing.last, 10 * frames)?;
-    let captures = captures(alloc, hosts, &drawing.frames)?;
+    let captures = record_frames(alloc, hosts, &drawing.frames)?;
     let mut shelf = MemoryShelf::new(alloc, PIECE);
     shelf.hold("topology.toml", topology.as_bytes())?;
     shelf.hold("script", script.as_bytes())?;
@@ -39,11 +39,7 @@ pub fn generate(alloc: Global, k: u8, number: u64, frames: u32) -> Result<Memory
 }
 
 // The shelf then holds the captures, each under the name of its host.
-fn hold_captures(
-    alloc: Global,
-    shelf: &mut MemoryShelf,
-    captures: &[Capture],
-) -> Result<(), Memory>
+fn hold_captures(alloc: Global, shelf: &mut MemoryShelf, captures: &[Capture]) -> Result<(), Memory>
     ensures held { OnOk result (AreHeld (held_in shelf.old.places) (held_in shelf.new.places) captures.now) }
     ensures untouched { OnOk result (IsUntouched shelf.old → IsUntouched shelf.new) }
 {

@@ -1,6 +1,8 @@
 -- Words, items and tasks as the code holds them.
-use Rattle.std.specs.Prelude.{ℕ, List, map}
+use Rattle.std.specs.Prelude.{ℕ, ◌≤◌, List, map}
 use Rattle.std.specs.Borrow.{Bor}
+use Rattle.pl_wiring.specs.Labels.{IsArity}
+use Rattle.pl_inputs.specs.declared.words.Generation.{Generation}
 use Rattle.pl_inputs.specs.declared.words.Files.{Files}
 use Rattle.pl_inputs.specs.declared.words.Task.{Task as Told}
 use Rattle.pl_inputs.specs.declared.words.Task.TheVariants as told
@@ -21,3 +23,13 @@ task (told.Generate generation) = Generate generation
 
 abbrev pub given : Item → Given
 given item = (item.name.now, item.value.now)
+
+-- what may be made
+pub record IsWithin (g : Generation) : Type 0 where
+  pub arity : IsArity g.k
+  pub some_frames : 1 ≤ g.frames
+  pub few_frames : g.frames ≤ 100000
+
+abbrev pub IsWithinLimits : Told → Type 0
+IsWithinLimits (told.Generate generation) = IsWithin generation
+IsWithinLimits _ = Unit {0}

@@ -2,7 +2,8 @@
 ghost use Rattle.std.specs.Prelude.{◌≡◌, ◌≤◌, List, option_map, IfSome};
 ghost use Rattle.std.specs.Option.{option_and_then};
 ghost use Rattle.pl_inputs.specs.Words.{arity_in, check_by, check_items, generate_by, generate_items, generation_of, number_in, run_by, run_items, task_of, values_by};
-ghost use Rattle.pl_inputs.specs.Met.{task, texts};
+ghost use Rattle.pl_wiring.specs.Labels.{IsArity};
+ghost use Rattle.pl_inputs.specs.Met.{IsWithin, IsWithinLimits, task, texts};
 
 use items::Items;
 use pl_script::number;
@@ -50,7 +51,8 @@ const GENERATE_ITEMS: [&str; 3] = ["--k", "--number", "--frames"];
 /// exactly where the words are no command.
 #[tactic(auto, unfolding(crate::specs::Words::task_of))]
 pub fn task_of<'a>(words: &[&'a str]) -> Option<Task<'a>>
-    ensures { option_map task result ≡ task_of (texts words.now) }
+    ensures exact { option_map task result ≡ task_of (texts words.now) }
+    ensures within { IfSome result IsWithinLimits }
 {
     let (_program, words) = words.split_first()?;
     let (command, words) = words.split_first()?;
@@ -66,7 +68,8 @@ pub fn task_of<'a>(words: &[&'a str]) -> Option<Task<'a>>
 }
 
 fn run<'a>(words: &[&'a str]) -> Option<Task<'a>>
-    ensures { option_map task result ≡ option_and_then run_by (values_by run_items (texts words.now)) }
+    ensures exact { option_map task result ≡ option_and_then run_by (values_by run_items (texts words.now)) }
+    ensures within { IfSome result IsWithinLimits }
 {
     let items = Items {
         names: &RUN_ITEMS,
@@ -81,7 +84,8 @@ fn run<'a>(words: &[&'a str]) -> Option<Task<'a>>
 }
 
 fn check<'a>(words: &[&'a str]) -> Option<Task<'a>>
-    ensures { option_map task result ≡ option_and_then check_by (values_by check_items (texts words.now)) }
+    ensures exact { option_map task result ≡ option_and_then check_by (values_by check_items (texts words.now)) }
+    ensures within { IfSome result IsWithinLimits }
 {
     let items = Items {
         names: &CHECK_ITEMS,
@@ -92,7 +96,8 @@ fn check<'a>(words: &[&'a str]) -> Option<Task<'a>>
 }
 
 fn generate<'a>(words: &[&'a str]) -> Option<Task<'a>>
-    ensures { option_map task result ≡ option_and_then generate_by (values_by generate_items (texts words.now)) }
+    ensures exact { option_map task result ≡ option_and_then generate_by (values_by generate_items (texts words.now)) }
+    ensures within { IfSome result IsWithinLimits }
 {
     let items = Items {
         names: &GENERATE_ITEMS,
@@ -108,7 +113,8 @@ impl Generation {
     // None where one of them is no number, or out of range.
     #[tactic(auto, unfolding(crate::specs::Words::generation_of))]
     fn of(k: &str, number: &str, frames: &str) -> Option<Generation>
-        ensures { result ≡ generation_of k.now number.now frames.now }
+        ensures exact { result ≡ generation_of k.now number.now frames.now }
+        ensures within { IfSome result IsWithin }
     {
         let k = arity_in(k)?;
         let number = number_in(number, 0, u64::MAX)?;
@@ -123,7 +129,8 @@ impl Generation {
 
 // An even number from 4 to 24.
 fn arity_in(text: &str) -> Option<u8>
-    ensures { result ≡ arity_in text.now }
+    ensures exact { result ≡ arity_in text.now }
+    ensures arity { IfSome result (λ k. IsArity k) }
 {
     let k = number_in(text, 4, 24)?;
     if k % 2 == 0 { Some(k as u8) } else { None }
@@ -131,6 +138,7 @@ fn arity_in(text: &str) -> Option<u8>
 
 fn number_in(text: &str, least: u64, most: u64) -> Option<u64>
     ensures exact { result ≡ number_in least most text.now }
+    ensures at_least { IfSome result (λ n. least ≤ n) }
     ensures within { IfSome result (λ n. n ≤ most) }
 {
     match number(text, least, most) {

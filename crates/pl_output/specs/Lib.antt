@@ -7,3 +7,4 @@ pub mod Mail
 pub mod Receipts
 pub mod InTurn
 pub mod Texts
+pub mod WiringText

@@ -1,9 +1,11 @@
 -- The marks of the queues that have items.
-use Rattle.std.proofs.Common.{◌≡◌, ℕ, Option, None, Some, MatchOption, IfSome, ◌-◌, ◌<◌, ◌≤◌, Bool, true, false, List, [], ◌∷◌, ◌++◌, map, length, replicate, slice_set, sym, refl, ap, ◌∙◌, zero, suc}
-use Rattle.std.specs.List.{range_with_len}
+use Rattle.std.proofs.Common.{◌≡◌, ℕ, Option, None, Some, MatchOption, IfSome, ◌-◌, ◌<◌, ◌≤◌, Bool, true, false, List, [], ◌∷◌, ◌++◌, map, length, replicate, slice_get, slice_set, sym, refl, ap, ◌∙◌, zero, suc, arith}
+use Rattle.std.specs.List.{filter, range_with_len}
 use Rattle.std.proofs.lemmas.List.{map-set, length-map, set-get_or}
-use Rattle.pl_queues.specs.Queues.{has_items, items_at, next_filled, next_place}
+use Rattle.pl_queues.specs.Queues.{filled_places, has_items, items_at, next_filled, next_place}
 use Rattle.pl_queues.specs.Bits.{is_marked, next_marked}
+use Rattle.pl_queues.specs.Tallies.{marked_places}
+use Rattle.pl_queues.proofs.Ranges.{filter_same, place_below}
 use Rattle.pl_queues.proofs.Places.{find_same, next_place_is_least}
 
 module _ {T : Type 0} where
@@ -62,6 +64,21 @@ module _ {T : Type 0} where
   next_filled_is_there queues from (Some at) e =
       let found = next_place_is_least (λ k. has_items (items_at queues k)) (length queues) from (Some at) e in
       (found.0.reached, found.1, found.0.passes)
+
+-- the marked places are those whose queues have items
+pub marked_are_filled : {T : Type 0} (marks : List Bool) (queues : List (List T)) → marks ≡ map has_items queues → marked_places marks ≡ filled_places queues
+marked_are_filled marks queues marked =
+    ap marked_places marked
+    ∙ ap (λ n. filter (is_marked (map has_items queues)) (range_with_len 0 n)) (length-map queues has_items)
+    ∙ filter_same (is_marked (map has_items queues)) (λ at. has_items (items_at queues at)) (is_marked-map queues) (range_with_len 0 (length queues))
+
+-- each is a place of the bank
+pub filled_is_there : {T : Type 0} (queues : List (List T)) (i : ℕ) (answer : Option ℕ) → answer ≡ slice_get (filled_places queues) i
+    → IfSome answer (λ at. at < length queues)
+filled_is_there queues i None is = tt
+filled_is_there queues i (Some at) is =
+    let low = place_below (λ at. has_items (items_at queues at)) (length queues) 0 i at (sym is) in
+    omega arith
 
 -- queues that are all empty have no mark
 pub no_items_at_first : (T : Type 0) (count : ℕ) → replicate count false ≡ map (has_items {T = T}) (replicate count [])

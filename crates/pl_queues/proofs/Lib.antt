@@ -3,3 +3,6 @@ pub mod WordBits
 pub mod Marks
 pub mod Banks
 pub mod Counting
+pub mod Ranges
+pub mod TallySums
+pub mod TallyChanges

@@ -1,3 +1,4 @@
 pub mod Bits
 pub mod Queues
 pub mod Counts
+pub mod Tallies

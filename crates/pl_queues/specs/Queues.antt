@@ -1,6 +1,6 @@
 -- What a bank of queues is: the queue at a place, and the next queue that has items.
-use Rattle.std.specs.Prelude.{◌≡◌, ℕ, ◌-◌, Bool, true, false, List, [], ◌∷◌, ◌++◌, length, Option, None, Some, slice_index_or, slice_set, refl}
-use Rattle.std.specs.List.{find, range_with_len}
+use Rattle.std.specs.Prelude.{◌≡◌, ℕ, ◌-◌, Bool, true, false, List, [], ◌∷◌, ◌++◌, length, Option, None, Some, slice_get, slice_index_or, slice_set, refl}
+use Rattle.std.specs.List.{filter, find, range_with_len}
 
 -- the first place that passes, of those from `from` on that are below n
 abbrev pub next_place : (ℕ → Bool) → ℕ → ℕ → Option ℕ
@@ -23,8 +23,16 @@ has_items (x ∷ xs) = true
 abbrev pub next_filled : {T : Type 0} → List (List T) → ℕ → Option ℕ
 next_filled queues from = next_place (λ at. has_items (items_at queues at)) (length queues) from
 
+-- the places whose queues have items, rising
+abbrev pub filled_places : {T : Type 0} → List (List T) → List ℕ
+filled_places queues = filter (λ at. has_items (items_at queues at)) (range_with_len 0 (length queues))
+
 -- from place 1 on, the queue at 3 is the next that has items, and from 4 on there is none
 pub the_next_queue_with_items_is_found
     : (next_filled {T = ℕ} ((7 ∷ []) ∷ [] ∷ [] ∷ (8 ∷ 9 ∷ []) ∷ [] ∷ []) 1 ≡ Some 3)
     × (next_filled {T = ℕ} ((7 ∷ []) ∷ [] ∷ [] ∷ (8 ∷ 9 ∷ []) ∷ [] ∷ []) 4 ≡ None)
 the_next_queue_with_items_is_found = (refl, refl)
+
+-- the second place with items is 3
+pub the_second_queue_with_items_is_found : slice_get (filled_places {T = ℕ} ((7 ∷ []) ∷ [] ∷ [] ∷ (8 ∷ 9 ∷ []) ∷ [] ∷ [])) 1 ≡ Some 3
+the_second_queue_with_items_is_found = refl

@@ -1,11 +1,13 @@
 //! Queues side by side: a bank of them, which of them have items, and how many of their items count.
 #![tactic(auto)]
 
-pub use bits::BitSet;
+pub use bit_set::BitSet;
 pub use counted::{Counted, CountedQueues, one_if};
 pub use pl_lists::Memory;
 pub use queues::Queues;
 
-mod bits;
+mod bit_set;
 mod counted;
 mod queues;
+mod tally;
+mod words;

@@ -7,3 +7,4 @@ pub mod Allowed
 pub mod Queued
 pub mod NextQueues
 pub mod QueueLists
+pub mod FilledQueues

@@ -3,7 +3,7 @@ use Rattle.std.proofs.Common.{◌≡◌, ℕ, zero, suc, ◌+◌, ◌-◌, ◌*�
 use Rattle.std.specs.List.{flat_map, range_with_len}
 use Rattle.std.proofs.lemmas.Bool.{cases_lt}
 use Rattle.std.proofs.lemmas.List.{get_or_append_left, get_or-append_right, length-append}
-use Rattle.std.proofs.lemmas.List.FromFn.{length-map-range_with_len, get_or-map-range_with_len}
+use Rattle.std.proofs.lemmas.List.FromFn.{fill_by_all, length-map-range_with_len, get_or-map-range_with_len}
 use Rattle.std.proofs.lemmas.Nat.{div-add-mod', div_below, mod_below}
 use Rattle.std.proofs.lemmas.Option.{slice_get-get_or}
 use Rattle.pl_wiring.specs.Labels.{switch_count}
@@ -11,7 +11,7 @@ use Rattle.pl_wiring.specs.Plan.{IsPlan, Plan}
 use Rattle.pl_world.specs.declared.event.QueueName.{QueueName}
 use Rattle.pl_world.specs.declared.event.QueueName.TheVariants as queue
 use Rattle.pl_world.specs.Changes.{host_no, switch_no}
-use Rattle.pl_world.specs.QueueOrder.{first_from_manager, first_out, first_to_manager, host_queues, queue_at, queue_count, queue_order, queues_out_of, switch_numbers}
+use Rattle.pl_world.specs.QueueOrder.{first_from_manager, first_out, first_to_manager, host_queues, port_queue, queue_at, queue_count, queue_order, queues_out_of, switch_numbers}
 use Rattle.pl_schedule.proofs.NextQueues.{queue_at-from_manager, queue_at-host, queue_at-out, queue_at-to_manager}
 
 -- the queues out of k ports of each of `many` switches
@@ -67,6 +67,16 @@ module _ (plan : Plan) where
 
   length-from_manager : length from_manager ≡ switch_count plan.k
   length-from_manager = length-map-range_with_len (λ s. queue.FromManager (switch_no s)) 0 (switch_count plan.k)
+
+  -- the queues out of all ports, by the places of the ports
+  pub ports_in_a_row : 0 < plan.k → out ≡ map (port_queue plan.k) (range_with_len 0 (switch_count plan.k * plan.k))
+  ports_in_a_row ports =
+      let d : QueueName = queue.FromHost (host_no 0) in
+      fill_by_all (port_queue plan.k) out (switch_count plan.k * plan.k) d length-out (λ place low.
+      let row : place / plan.k < switch_count plan.k = div_below place plan.k (switch_count plan.k) ports low in
+      ap (λ at. get_or out at d) (sym (div-add-mod' place plan.k))
+      ∙ at_row plan.k d (switch_count plan.k) 0 (place / plan.k) (place % plan.k) row (mod_below place plan.k ports)
+      ∙ ap (λ s. queue.Port (switch_no s) (place % plan.k)) (zero-add (place / plan.k)))
 
   pub length_of_order : length (queue_order plan) ≡ queue_count plan
   unfolding queue_order

@@ -12,6 +12,7 @@ use pl_wiring::{dotted, six_bytes};
 /// is refused as `Number`.
 pub fn number(text: &str, least: u64, most: u64) -> Result<u64, ScriptReason>
     ensures exact { result ≡ number_of least most text.now }
+    ensures at_least { IfOk result (λ n. least ≤ n) }
     ensures within { IfOk result (λ n. n ≤ most) }
 {
     if !is_number(text.as_bytes()) {

@@ -1,6 +1,6 @@
 -- The queues of a wiring in queue order, and the next of them that has items.
 use Rattle.std.specs.Prelude.{ℕ, ◌+◌, ◌-◌, ◌*◌, ◌/◌, ◌%◌, nat_lt, Bool, if◌then◌else◌, List, ◌++◌, length, map, Option}
-use Rattle.std.specs.List.{flat_map, range_with_len}
+use Rattle.std.specs.List.{filter, flat_map, range_with_len}
 use Rattle.std.specs.Option.{option_map}
 use Rattle.pl_wiring.specs.Labels.{switch_count}
 use Rattle.pl_wiring.specs.Plan.{Plan}
@@ -10,6 +10,16 @@ use Rattle.pl_queues.specs.Queues.{next_filled, next_place}
 use Rattle.pl_world.specs.Changes.{host_no, switch_no}
 use Rattle.pl_world.specs.Refusals.{is_filled}
 use Rattle.pl_world.specs.Worlds.{WorldView}
+
+-- the queue of a host, and those of a switch to the manager and from it
+abbrev pub host_queue : ℕ → QueueName
+host_queue h = queue.FromHost (host_no h)
+
+abbrev pub report_queue : ℕ → QueueName
+report_queue s = queue.ToManager (switch_no s)
+
+abbrev pub order_queue : ℕ → QueueName
+order_queue s = queue.FromManager (switch_no s)
 
 abbrev pub host_queues : Plan → List QueueName
 host_queues plan = map (λ h. queue.FromHost (host_no h)) (range_with_len 0 (length plan.hosts))
@@ -65,3 +75,7 @@ next_queue w from = next_place (has_items_at w) (queue_count w.plan) from
 -- the same, of a bank whose first queue has number `first`
 abbrev pub next_in : {T : Type 0} → ℕ → List (List T) → ℕ → Option ℕ
 next_in first bank from = option_map (λ place. first + place) (next_filled bank (from - first))
+
+-- the queues with items, in queue order
+abbrev pub filled_queues : WorldView → List QueueName
+filled_queues w = filter (is_filled w) (queue_order w.plan)

@@ -1,8 +1,9 @@
-ghost use Rattle.std.specs.Prelude.{◌≡◌, Some, length};
+ghost use Rattle.std.specs.Prelude.{◌≡◌, Some};
 ghost use Rattle.pl_output.specs.Summary.{cause_line, fabric_line, host_line, rest_text, settled_line, steps_line};
 
 use crate::summary::Rest;
 use crate::summary::host_counts::HostCounts;
+use crate::wiring::link_count;
 use pl_journal::Cause;
 use pl_wiring::{Host, Wiring};
 use std::fmt;
@@ -22,14 +23,6 @@ impl fmt::Display for FabricLine<'_> {
         let hosts = self.0.host_count();
         write!(f, "k {k} switches {switches} links {links} hosts {hosts}\n")
     }
-}
-
-// Each switch but the core switches has k / 2 links to those above.
-fn link_count(wiring: &Wiring) -> u32
-    ensures { result ≡ length wiring.now.links }
-{
-    let k = u32::from(wiring.k());
-    (k * (k / 2) + k * (k / 2)) * (k / 2)
 }
 
 /// The line of the script's lines, the steps and the entries.

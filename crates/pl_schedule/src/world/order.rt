@@ -1,7 +1,9 @@
 ghost use Rattle.std.specs.Prelude.{◌≡◌, ◌+◌, ◌*◌, ◌<◌, ◌≤◌, ◌^◌, length, slice_get, IfSome, None, Some};
+ghost use Rattle.std.specs.Option.{option_map};
+ghost use Rattle.pl_queues.specs.Queues.{filled_places};
 ghost use Rattle.pl_wiring.specs.Plan.{IsPlan};
 ghost use Rattle.pl_world.specs.Flying.{IsFormed};
-ghost use Rattle.pl_world.specs.QueueOrder.{first_from_manager, first_out, first_to_manager, next_in, next_queue, port_queue, queue_at, queue_count, queue_order};
+ghost use Rattle.pl_world.specs.QueueOrder.{filled_queues, first_from_manager, first_out, first_to_manager, host_queue, next_in, next_queue, order_queue, port_queue, queue_at, queue_count, queue_order, report_queue};
 ghost use Rattle.pl_world.specs.Refusals.{has_queue, is_filled, refusal_of_queue};
 
 use crate::world::World;
@@ -45,6 +47,69 @@ impl<S: SwitchCore, M: ManagerCore, H: HostCore> World<S, M, H> {
             return Some(n);
         }
         self.next_from_manager(from)
+    }
+
+    /// How many queues have items, in constant time.
+    pub fn filled_count(&self) -> usize
+        ensures count { result ≡ length (filled_queues self.now) }
+        ensures few { result < 2 ^ 40 }
+    {
+        let hosts = self.from_hosts.filled_count();
+        let ports = self.switches.out().filled_count();
+        let reports = self.to_manager.queues().filled_count();
+        let orders = self.from_manager.queues().filled_count();
+        hosts + ports + reports + orders
+    }
+
+    /// Number i of the queues with items, in queue order; none past the last.
+    pub fn filled_queue(&self, i: usize) -> Option<QueueName>
+        ensures { result ≡ slice_get (filled_queues self.now) i }
+    {
+        let hosts = self.from_hosts.filled_count();
+        if i < hosts {
+            return self.filled_from_host(i);
+        }
+        let behind_hosts = i - hosts;
+        let ports = self.switches.out().filled_count();
+        if behind_hosts < ports {
+            return self.filled_out(behind_hosts);
+        }
+        let behind_ports = behind_hosts - ports;
+        let reports = self.to_manager.queues().filled_count();
+        if behind_ports < reports {
+            return self.filled_to_manager(behind_ports);
+        }
+        self.filled_from_manager(behind_ports - reports)
+    }
+
+    // Number i of the hosts' queues with items, of those out of ports, to the manager, and from it.
+    fn filled_from_host(&self, i: usize) -> Option<QueueName>
+        ensures name { result ≡ option_map host_queue (slice_get (filled_places self.now.from_hosts) i) }
+        ensures formed { IsFormed self.now }
+    {
+        let h = self.from_hosts.filled_place(i)?;
+        Some(QueueName::FromHost(HostNo(h as u32)))
+    }
+
+    fn filled_out(&self, i: usize) -> Option<QueueName>
+        ensures { result ≡ option_map (port_queue self.now.plan.k) (slice_get (filled_places self.now.out) i) }
+    {
+        let place = self.switches.out().filled_place(i)?;
+        Some(port_queue(self.atlas.wiring().k(), place))
+    }
+
+    fn filled_to_manager(&self, i: usize) -> Option<QueueName>
+        ensures { result ≡ option_map report_queue (slice_get (filled_places self.now.to_manager) i) }
+    {
+        let s = self.to_manager.queues().filled_place(i)?;
+        Some(QueueName::ToManager(SwitchNo(s as u32)))
+    }
+
+    fn filled_from_manager(&self, i: usize) -> Option<QueueName>
+        ensures { result ≡ option_map order_queue (slice_get (filled_places self.now.from_manager) i) }
+    {
+        let s = self.from_manager.queues().filled_place(i)?;
+        Some(QueueName::FromManager(SwitchNo(s as u32)))
     }
 
     // The next one of the hosts' queues, of those out of ports, to the manager, and from it.

@@ -1,4 +1,4 @@
-use Rattle.std.proofs.Common.{rules, nat_lt, arith}
+use Rattle.std.proofs.Common.{rules}
 use Rattle.pl_generator.proofs.EdgeOrder.{edge_below}
 use Rattle.pl_generator.proofs.hosts.edge_of.Goals as goal
 

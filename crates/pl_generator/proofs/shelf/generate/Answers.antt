@@ -3,7 +3,6 @@ use Rattle.pl_shelf.specs.MemoryShelf.{held_in}
 use Rattle.pl_generator.specs.Captures.{AreCaptures}
 use Rattle.pl_generator.specs.Drawing.{frames_of}
 use Rattle.pl_generator.specs.Generated.{AreHeld, script_name, topology_name}
-use Rattle.pl_generator.specs.Hosts.{host_count}
 use Rattle.pl_generator.specs.ScriptText.{script_lines, script_text}
 use Rattle.pl_generator.specs.TopologyText.{topology_text}
 use Rattle.pl_generator.proofs.Held.{all_held, nothing_first, placed_as, script_is}

@@ -1,4 +1,4 @@
-use Rattle.std.proofs.Common.{rules, ◌<◌, ◌^◌, length, ap, subst, arith}
+use Rattle.std.proofs.Common.{rules, ◌<◌, ◌^◌, length, subst}
 use Rattle.std.proofs.lemmas.List.{take_all}
 use Rattle.pl_shelf.specs.MemoryShelf.{held_in}
 use Rattle.pl_generator.specs.Generated.{AreHeld}
@@ -6,7 +6,7 @@ use Rattle.pl_generator.proofs.Held.{none_held, held_more}
 use Rattle.pl_generator.proofs.shelf.hold_captures.Goals as goal
 
 pub loop-host-init : goal.loop-host-init
-loop-host-init c = record { held = none_held (held_in c.args.shelf.now.places); untouched = λ before. before; }
+loop-host-init c = record { held = none_held (held_in c.args.shelf.now.places); untouched = λ before. before }
 
 pub loop-host-preserved : goal.loop-host-preserved
 loop-host-preserved c =

@@ -1,6 +1,0 @@
-use Rattle.std.proofs.Common.{take}
-use Rattle.pl_generator.specs.Captures.{AreCaptures}
-use Rattle.pl_generator.proofs.captures.captures.Given as goal
-
-abbrev pub invariant-loop-frame : goal.invariant-loop-frame
-invariant-loop-frame l = AreCaptures l.hosts (take l.frame-index l.frames) l.captures.items

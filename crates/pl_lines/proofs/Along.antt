@@ -1,6 +1,5 @@
 -- What holds of each step that is made, of nothing, and of one thing with another behind it, holds along each course.
 use Rattle.std.proofs.Common.{◌≡◌, ℕ, zero, suc, List, [], ◌∷◌, map, replicate, MatchOption, Option, Some, None, refl, sym, subst}
-use Rattle.pl_wiring.specs.Plan.{Plan}
 use Rattle.pl_core.specs.HostInputs.{HostRule}
 use Rattle.pl_core.specs.ManagerDuties.{ManagerRule}
 use Rattle.pl_core.specs.SwitchInputs.{SwitchRule}
@@ -14,7 +13,7 @@ use Rattle.pl_world.specs.Refusals.{refusal}
 use Rattle.pl_world.specs.WorldRule.{WorldStep}
 use Rattle.pl_world.specs.Worlds.{WorldView}
 use Rattle.pl_fabric.specs.Courses.{Course, GoesOn, Makes, MakesAll, Stays, Then, Times}
-use Rattle.pl_fabric.specs.Draws.{Draws, delivery_or_tick, drawn, filled_queues, next_number}
+use Rattle.pl_fabric.specs.Draws.{Draws, delivery_or_tick, drawn, next_number}
 use Rattle.pl_fabric.specs.Rounds.{GoesRound, Sweeps, TicksAll, Visits, VisitsAll, queues_from, waiting}
 use Rattle.pl_fabric.specs.Settlings.{GoesRounds}
 

@@ -1,6 +1,6 @@
 -- What a script that is played to its end asks of a host.
-use Rattle.std.proofs.Common.{◌≡◌, ◌≢◌, ℕ, zero, suc, ◌+◌, ◌-◌, ◌<◌, ◌≤◌, ◌==◌, Bool, true, false, if◌then◌else◌, List, [], ◌∷◌, ◌++◌, length, map, take, drop, replicate, MatchOption, Option, Some, None, option_map, set, slice_get, slice_index_or, inl, inr, refl, sym, ◌∙◌, ap, subst, arith}
-use Rattle.std.specs.List.{filter, flat_map, range_with_len}
+use Rattle.std.proofs.Common.{◌≡◌, ◌≢◌, ℕ, zero, suc, ◌+◌, ◌-◌, ◌<◌, ◌≤◌, ◌==◌, Bool, true, false, if◌then◌else◌, List, [], ◌∷◌, ◌++◌, length, map, take, drop, MatchOption, Option, Some, None, option_map, set, slice_get, slice_index_or, inl, inr, refl, sym, ◌∙◌, ap, subst, arith}
+use Rattle.std.specs.List.{flat_map, range_with_len}
 use Rattle.std.proofs.Math.Numerals.{add-one}
 use Rattle.std.proofs.lemmas.Bool.{cases_lt, eqb-true}
 use Rattle.std.proofs.lemmas.Bool.Decides.{eqb_tells}
@@ -24,7 +24,7 @@ use Rattle.pl_script.specs.declared.command.Who.TheVariants.{One}
 use Rattle.pl_script.specs.declared.script.ScriptLine.{ScriptLine}
 use Rattle.pl_inputs.specs.Records.{Recorded}
 use Rattle.pl_core.specs.HostInputs.{HostInput, HostRule}
-use Rattle.pl_core.specs.HostInputs.HostInput.{HasMoved, Joins, Leaves, Plays, PlaysRaw, Retries, Starts}
+use Rattle.pl_core.specs.HostInputs.HostInput.{Retries, Starts}
 use Rattle.pl_core.specs.HostViews.{boot_host}
 use Rattle.pl_core.specs.ManagerDuties.{ManagerRule}
 use Rattle.pl_core.specs.SwitchInputs.{SwitchRule}
@@ -47,7 +47,7 @@ use Rattle.pl_fabric.specs.Rounds.{Sweeps, TicksAll}
 use Rattle.pl_lines.specs.declared.stop.Stop.{Stop}
 use Rattle.pl_lines.specs.declared.stop.Stop.TheVariants.{Refused}
 use Rattle.pl_lines.specs.Asked.{Deed, DoesAsAsked, Lives, asked_along, asked_by, asked_of_host, deeds_in, is_meant, later_records, left_by, next_records, played_as}
-use Rattle.pl_lines.specs.Lines.{Asks as AsksFor, AsksNext, Does, DoesLine, DoesLines, Expects, GoesOn, Happen, Plays as Played, PlaysRecord, SettlesAsAsked, hosts_meant, left_of, outcome, records_at}
+use Rattle.pl_lines.specs.Lines.{Asks as AsksFor, AsksNext, Does, DoesLine, DoesLines, GoesOn, Happen, Plays as Played, PlaysRecord, SettlesAsAsked, hosts_meant, left_of, outcome, records_at}
 use Rattle.pl_lines.specs.Queues.{delivery, loss, port_towards, queue_between}
 use Rattle.pl_lines.specs.Scenes.{Doing, Follows, OfWorld, Often, Scene, asked_more, asked_of, begun, first_scene}
 use Rattle.pl_lines.proofs.Along.{Along, Holds, draws_along, rounds_along, sweeps_along, ticks_along, times_along}

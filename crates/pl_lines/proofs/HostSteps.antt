@@ -1,59 +1,42 @@
 -- What a step asks of a host, and what is seen of it.
-use Rattle.std.proofs.Common.{◌≡◌, ◌≢◌, ℕ, zero, suc, ◌+◌, ◌==◌, Bool, true, false, if◌then◌else◌, List, [], ◌∷◌, ◌++◌, map, Option, Some, None, set, slice_get, inl, inr, refl, sym, ◌∙◌, ap, subst, arith}
-use Rattle.std.specs.List.{cons_option, filter, filter_map, fold}
-use Rattle.std.proofs.lemmas.Bool.{eqb-true}
+use Rattle.std.proofs.Common.{◌≡◌, ◌≢◌, ℕ, zero, suc, ◌+◌, ◌==◌, Bool, true, false, if◌then◌else◌, List, [], ◌∷◌, ◌++◌, Option, Some, None, set, slice_get, inl, inr, refl, sym, ◌∙◌, ap, subst}
+use Rattle.std.specs.List.{cons_option, filter, fold}
 use Rattle.std.proofs.lemmas.Bool.Decides.{eqb_tells}
 use Rattle.std.proofs.lemmas.List.{append-nil, append_assoc}
 use Rattle.std.proofs.lemmas.List.Elements.{filter-append, filter_map-append}
 use Rattle.pl_pmac.specs.declared.pmac.Pmac.{Pmac}
 use Rattle.pl_wiring.specs.declared.link.Link.{Link}
-use Rattle.pl_wiring.specs.declared.link.Peer.{Peer}
-use Rattle.pl_wiring.specs.declared.link.Peer.TheVariants.{HostPort, Switch}
 use Rattle.pl_wiring.specs.Index.{port_index}
-use Rattle.pl_wiring.specs.Peers.{peer_of}
 use Rattle.pl_wiring.specs.Plan.{Plan}
 use Rattle.pl_layouts.specs.declared.place.Place.{Place}
 use Rattle.pl_layouts.specs.Placement.{same_place}
 use Rattle.pl_journal.specs.declared.cause.Cause.{Cause}
 use Rattle.pl_journal.specs.declared.cause.Cause.TheVariants as cause
-use Rattle.pl_journal.specs.declared.cause.Skip.{Skip}
 use Rattle.pl_journal.specs.declared.entry.Entry.{Entry}
-use Rattle.pl_journal.specs.declared.entry.Entry.TheVariants.{Arrived, Copied, Crossed, Dropped, Granted, Line, LinkDown, LinkUp, Made, Moved, Placed, Redirected, Registered, Sent, Settled, Skipped, Taken, Unsettled}
+use Rattle.pl_journal.specs.declared.entry.Entry.TheVariants.{Copied, Crossed, Dropped, Granted, LinkDown, LinkUp, Made, Moved, Placed, Redirected, Registered, Taken}
 use Rattle.pl_core.specs.declared.acts.Act.{Act}
 use Rattle.pl_core.specs.declared.acts.Act.TheVariants as act
-use Rattle.pl_core.specs.declared.acts.HostAct.{HostAct}
-use Rattle.pl_core.specs.declared.acts.HostAct.TheVariants.{Send}
 use Rattle.pl_core.specs.declared.acts.ManagerAct.{ManagerAct}
 use Rattle.pl_core.specs.declared.acts.ManagerAct.TheVariants.{Number, Say}
 use Rattle.pl_core.specs.declared.messages.ToManager.{ToManager}
 use Rattle.pl_core.specs.declared.messages.ToSwitch.{ToSwitch}
-use Rattle.pl_core.specs.declared.reception.Reception.{Reception}
-use Rattle.pl_core.specs.declared.reception.Reception.TheVariants.{Kept, NotMember}
-use Rattle.pl_core.specs.HostInputs.{HostAnswer, HostInput, HostRule}
-use Rattle.pl_core.specs.HostInputs.HostAnswer.{Nothing, Played, Received}
-use Rattle.pl_core.specs.HostInputs.HostInput.{HasMoved, Joins, Leaves, Plays, PlaysRaw, Receives, Retries, Starts}
+use Rattle.pl_core.specs.HostInputs.{HostInput, HostRule}
 use Rattle.pl_core.specs.HostViews.{HostView}
 use Rattle.pl_core.specs.ManagerDuties.{ManagerRule}
 use Rattle.pl_core.specs.SwitchInputs.{SwitchInput, SwitchRule}
 use Rattle.pl_queues.specs.Queues.{items_at}
-use Rattle.pl_world.specs.declared.event.Event.{Event}
-use Rattle.pl_world.specs.declared.event.Event.TheVariants as event
-use Rattle.pl_world.specs.declared.event.QueueName.{QueueName}
-use Rattle.pl_world.specs.declared.event.QueueName.TheVariants as queue
 use Rattle.pl_world.specs.declared.item.Item.{Item}
 use Rattle.pl_world.specs.declared.item.Item.TheVariants.{Control, Data}
 use Rattle.pl_world.specs.declared.spoken_frame.SpokenFrame.{SpokenFrame}
 use Rattle.pl_world.specs.declared.spoken_frame.SpokenFrame.TheVariants.{Over, Passed, Silent, Waiting}
 use Rattle.pl_world.specs.declared.stand.Stand.{Stand}
-use Rattle.pl_world.specs.Changes.{all_noted, ends_of, host_no, host_of, is_failed_at, noted, out_of, receiver, said_to, switch_no}
-use Rattle.pl_world.specs.LinksAndMoves.{host_moved, item_lost, link_between}
-use Rattle.pl_world.specs.OtherActs.{host_act_done, manager_act_done, reception_noted, skip_noted}
-use Rattle.pl_world.specs.Runs.{IsMark}
+use Rattle.pl_world.specs.Changes.{all_noted, ends_of, host_no, host_of, is_failed_at, noted, out_of, said_to, switch_no}
+use Rattle.pl_world.specs.LinksAndMoves.{host_moved, item_lost}
+use Rattle.pl_world.specs.OtherActs.{manager_act_done}
 use Rattle.pl_world.specs.SwitchActs.{Doing, act_done, acts_done, begins, crossed_again, ended, goes_out, granted, in_world, passed, place_noted, redirected, with_late}
-use Rattle.pl_world.specs.WorldRule.{ComesAtHost, ComesAtSwitch, ComesIn, ComesOut, ComesOver, Delivers, DeliversFromHost, DeliversFromManager, DeliversOut, DeliversToManager, Fails, Goes, Happens, HostPlays, HostReceives, HostTurn, IsRepaired, Loses, ManagerTurn, SwitchTurn, WorldStep, heard_item, played_as}
+use Rattle.pl_world.specs.WorldRule.{ComesAtSwitch, ComesIn, DeliversFromHost, DeliversFromManager, DeliversToManager, Fails, IsRepaired, Loses, ManagerTurn, SwitchTurn, heard_item}
 use Rattle.pl_world.specs.Worlds.{WorldView}
-use Rattle.pl_lines.specs.Asked.{Deed, deed_by, deeds_in, given, is_asked, seen, Lives}
-use Rattle.pl_lines.specs.Asked.Deed.{Gets, Gives, PassesOver}
+use Rattle.pl_lines.specs.Asked.{Deed, deed_by, deeds_in, is_asked, seen, Lives}
 
 pub set_same : {T : Type 0} (xs : List T) (n : ℕ) (x y : T) → slice_get xs n ≡ Some x → slice_get (set xs n y) n ≡ Some y
 set_same [] n x y found = absurd (cc)
@@ -90,9 +73,15 @@ lives_on : (rule : HostRule) (a b c : HostView) (inputs more : List HostInput) (
     Lives rule a (inputs ++ more) (deeds ++ further) c
 lives_on rule a b c [] more deeds further first next =
     subst (λ (ds : List Deed). Lives rule a more (ds ++ further) c) (sym first.0) (subst (λ (v : HostView). Lives rule v more further c) first.1 next)
-lives_on rule a b c (input ∷ inputs) more deeds further first next =
-    (first.0, first.1, first.2, first.3 ++ further, first.4, lives_on rule first.0 b c inputs more first.3 further first.5 next,
-    ap (λ (ds : List Deed). ds ++ further) first.6 ∙ append_assoc (seen input first.2 first.1) first.3 further)
+lives_on rule a b c (input ∷ inputs) more deeds further first next = (
+  first.0,
+  first.1,
+  first.2,
+  first.3 ++ further,
+  first.4,
+  lives_on rule first.0 b c inputs more first.3 further first.5 next,
+  ap (λ (ds : List Deed). ds ++ further) first.6 ∙ append_assoc (seen input first.2 first.1) first.3 further,
+)
 
 -- from a view on, with this asked of it, up to other hosts and a longer journal
 pub record LivesTo (rule : HostRule) (n : ℕ) (view : HostView) (before : List Entry) (asks : List HostInput) (hosts : List HostView) (after : List Entry) : Type 0 where

@@ -1,5 +1,5 @@
 -- What a host does that is told something, and what each step asks of a host.
-use Rattle.std.proofs.Common.{◌≡◌, ◌≢◌, ℕ, ◌+◌, ◌==◌, Bool, true, false, if◌then◌else◌, List, [], ◌∷◌, ◌++◌, map, Option, Some, None, set, slice_get, refl, sym, ◌∙◌, ap, subst}
+use Rattle.std.proofs.Common.{◌≡◌, ℕ, ◌+◌, ◌==◌, Bool, true, false, if◌then◌else◌, List, [], ◌∷◌, ◌++◌, map, Option, Some, None, set, slice_get, refl, sym, ◌∙◌, ap, subst}
 use Rattle.std.specs.List.{cons_option, filter, fold}
 use Rattle.std.proofs.lemmas.Bool.{eqb-true}
 use Rattle.std.proofs.lemmas.List.{append-nil, append_assoc}
@@ -7,7 +7,6 @@ use Rattle.pl_wiring.specs.declared.link.Peer.{Peer}
 use Rattle.pl_wiring.specs.declared.link.Peer.TheVariants.{HostPort, Switch}
 use Rattle.pl_wiring.specs.Index.{port_index}
 use Rattle.pl_wiring.specs.Peers.{peer_of}
-use Rattle.pl_wiring.specs.Plan.{Plan}
 use Rattle.pl_journal.specs.declared.cause.Cause.TheVariants as cause
 use Rattle.pl_journal.specs.declared.cause.Skip.{Skip}
 use Rattle.pl_journal.specs.declared.entry.Entry.{Entry}
@@ -34,11 +33,11 @@ use Rattle.pl_world.specs.declared.stand.Stand.{Stand}
 use Rattle.pl_world.specs.Changes.{host_no, noted, out_of, receiver}
 use Rattle.pl_world.specs.LinksAndMoves.{host_moved, link_between}
 use Rattle.pl_world.specs.OtherActs.{heard_after_tick, host_act_done, reception_noted, skip_noted}
-use Rattle.pl_world.specs.WorldRule.{ComesAtHost, ComesOut, ComesOver, Delivers, DeliversOut, Goes, Happens, HostPlays, HostReceives, HostTurn, WorldStep, played_as}
+use Rattle.pl_world.specs.WorldRule.{ComesAtHost, ComesOut, ComesOver, Delivers, DeliversOut, Goes, Happens, HostReceives, HostTurn, WorldStep, played_as}
 use Rattle.pl_world.specs.Worlds.{WorldView}
-use Rattle.pl_lines.specs.Asked.{Deed, deed_by, deeds_in, given, is_asked, seen, Lives}
+use Rattle.pl_lines.specs.Asked.{Deed, deed_by, deeds_in, given, is_asked, seen}
 use Rattle.pl_lines.specs.Asked.Deed.{Gets, Gives, PassesOver}
-use Rattle.pl_lines.proofs.HostSteps.{Asks, LivesTo, Shows, at_switch, either, fails, found_once, from_host, from_manager, is_another, is_repaired, loses, manager_shows, more_shown, moved, none_shown, notes, set_other, set_same, shown_if, switch_shows, to_manager}
+use Rattle.pl_lines.proofs.HostSteps.{Asks, Shows, at_switch, either, fails, found_once, from_host, from_manager, is_another, is_repaired, loses, more_shown, moved, none_shown, notes, set_other, set_same, shown_if, switch_shows, to_manager}
 
 -- what an event asks of a host
 abbrev pub asked_in : ℕ → Event → List HostInput
@@ -60,7 +59,7 @@ module _ (n : ℕ) where
       ap (λ (b : Bool). cons_option (if b then Some (Gives frame) else None) []) own in
       own_acts h (host_act_done h w (Send frame)) acts own
       ∙ ap (λ (ds : List Deed). ds ++ map given acts)
-          (more_shown n w.plan None w.journal (Sent (w.begun + 1) (host_no h) frame ∷ []) (deeds_in n w.journal) (Gives frame ∷ []) refl shown)
+      (more_shown n w.plan None w.journal (Sent (w.begun + 1) (host_no h) frame ∷ []) (deeds_in n w.journal) (Gives frame ∷ []) refl shown)
       ∙ append_assoc (deeds_in n w.journal) (Gives frame ∷ []) (map given acts)
 
   others_acts : (h : ℕ) (w : WorldView) (acts : List HostAct) → (h == n) ≡ false → deeds_in n (fold (host_act_done h) w acts).journal ≡ deeds_in n w.journal

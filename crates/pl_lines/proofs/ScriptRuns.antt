@@ -30,9 +30,9 @@ use Rattle.pl_fabric.specs.Draws.{Draws}
 use Rattle.pl_fabric.specs.Rounds.{Sweeps, TicksAll}
 use Rattle.pl_fabric.proofs.CourseRuns.{IsRun}
 use Rattle.pl_lines.specs.declared.stop.Stop.{Stop}
-use Rattle.pl_lines.specs.Lines.{AsksNext, Asks, Does, DoesLine, DoesLines, Expects, GoesOn, Happen, PlaysRecord, Plays, SettlesAsAsked, hosts_meant, left_of, outcome, records_at}
+use Rattle.pl_lines.specs.Lines.{AsksNext, Asks, Does, DoesLine, DoesLines, Expects, GoesOn, Happen, PlaysRecord, Plays, SettlesAsAsked, hosts_meant, left_of, outcome}
 use Rattle.pl_lines.specs.Queues.{delivery, loss, port_towards, queue_between}
-use Rattle.pl_lines.specs.Scenes.{Before, Doing, Follows, OfWorld, Often, Rests, Scene, asked_more, asked_of, begun, first_scene}
+use Rattle.pl_lines.specs.Scenes.{Doing, Follows, OfWorld, Often, Scene, asked_more, begun, first_scene}
 use Rattle.pl_lines.proofs.Along.{Along, Holds, HoldsOfAll, draws_along, makes_along, makes_all_along, rounds_along, same, sweeps_along, ticks_along, times_along}
 
 -- how a settling ended is a mark

@@ -122,7 +122,7 @@ a_record n = record { frame = n ∷ []; original = 1 }
 asked_of_one
     : asked_of_host ((a_record 1 ∷ a_record 2 ∷ a_record 3 ∷ []) ∷ []) 0
     (record { number = 1; command = command.Start who.All } ∷ record { number = 3; command = command.Send (record { 0 = 0 }) (N 1) }
-        ∷ record { number = 4; command = command.Raw (record { 0 = 0 }) (N 1) } ∷ [])
+    ∷ record { number = 4; command = command.Raw (record { 0 = 0 }) (N 1) } ∷ [])
     ≡ Starts ∷ Plays (1 ∷ []) 1 ∷ PlaysRaw (2 ∷ []) 1 ∷ []
 unfolding asked_of_host
 asked_of_one = refl

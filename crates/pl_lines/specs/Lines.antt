@@ -1,5 +1,5 @@
 -- What the lines of a script do.
-use Rattle.std.specs.Prelude.{◌≡◌, ◌⊎◌, ℕ, ◌-◌, ◌==◌, Bool, true, false, IsTrue, List, [], ◌∷◌, length, map, Option, None, Some, slice_get, slice_index_or}
+use Rattle.std.specs.Prelude.{◌≡◌, ◌⊎◌, ℕ, ◌-◌, Bool, true, false, IsTrue, List, [], ◌∷◌, length, map, Option, None, Some, slice_get, slice_index_or}
 use Rattle.std.specs.List.{range_with_len}
 use Rattle.pl_wiring.specs.declared.host.HostNo.{HostNo}
 use Rattle.pl_wiring.specs.Plan.{Plan}
@@ -35,7 +35,7 @@ use Rattle.pl_lines.specs.declared.stop.Stop.{Stop}
 use Rattle.pl_lines.specs.declared.stop.Stop.TheVariants.{ExpectFailed, Refused}
 use Rattle.pl_lines.specs.Expecting.{IsNewest, arrivals, ended_settled, endings}
 use Rattle.pl_lines.specs.Queues.{delivery, loss, port_towards, queue_between}
-use Rattle.pl_lines.specs.Scenes.{Before, Doing, Follows, OfWorld, Often, Rests, Scene, asked_more, asked_of, begun, first_scene}
+use Rattle.pl_lines.specs.Scenes.{Doing, OfWorld, Often, Scene, asked_more, asked_of, begun, first_scene}
 
 -- one host, or each in the order of the wiring
 abbrev pub hosts_meant : Plan → Who → List HostNo
@@ -82,9 +82,9 @@ module _ (switch : SwitchRule) (manager : ManagerRule) (host : HostRule) where
   abbrev pub SettlesAsAsked : ℕ → Doing
   SettlesAsAsked rounds old end new =
       ((answer : Settling) × (between : WorldView) × Settles switch manager host rounds old.world answer between
-          × (end ≡ None) × (new ≡ record old { world = noted between (outcome answer) }))
+      × (end ≡ None) × (new ≡ record old { world = noted between (outcome answer) }))
       ⊎ ((reason : StepError) × GoesRounds switch manager host rounds old.world (Some reason) new.world
-          × (end ≡ Some (Refused reason)) × (new.asked ≡ old.asked))
+      × (end ≡ Some (Refused reason)) × (new.asked ≡ old.asked))
 
   -- what a command asks for
   abbrev pub Does : List (List Recorded) → Command → Doing

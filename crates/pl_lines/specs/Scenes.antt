@@ -1,17 +1,16 @@
 -- What a script has come to, and what is done to it.
-use Rattle.std.specs.Prelude.{◌≡◌, ℕ, zero, suc, ◌+◌, List, [], ◌∷◌, Option, Some, None, Result, MatchResult, length, option_map, replicate, slice_index_or, slice_set}
+use Rattle.std.specs.Prelude.{◌≡◌, ℕ, zero, suc, ◌+◌, List, Option, Some, None, Result, MatchResult, length, option_map, replicate, slice_index_or, slice_set}
 use Rattle.pl_wiring.specs.Plan.{Plan}
 use Rattle.pl_journal.specs.declared.entry.Entry.TheVariants.{Line}
 use Rattle.pl_world.specs.declared.error.StepError.{StepError}
 use Rattle.pl_world.specs.declared.error.StepError.TheVariants.{Memory}
-use Rattle.pl_world.specs.declared.event.Event.{Event}
 use Rattle.pl_world.specs.declared.limits.Limits.{Limits}
 use Rattle.pl_world.specs.Booting.{booted}
 use Rattle.pl_world.specs.Changes.{noted}
 use Rattle.pl_world.specs.Worlds.{WorldView}
 use Rattle.pl_fabric.specs.Courses.{Course}
 use Rattle.pl_lines.specs.declared.stop.Stop.{Stop}
-use Rattle.pl_lines.specs.declared.stop.Stop.TheVariants.{ExpectFailed, Refused}
+use Rattle.pl_lines.specs.declared.stop.Stop.TheVariants.{Refused}
 
 -- the world, and for each host how many of its records were asked for
 pub record Scene : Type 0 where

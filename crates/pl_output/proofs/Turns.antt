@@ -118,3 +118,13 @@ breaks_off old new (s ∷ ss) name apart breaks = elim breaks [
         others = others_still old mid new s begun later.1 rest.others;
       }
 ]
+
+alone : (s : Saving) → AllPairs AreApart (s ∷ [])
+alone s i j d less within = absurd (omega (arith, less, within))
+
+-- one text, and no more
+pub one_saved : (old new : List ℕ → Held) (s : Saving) → SavesOne old new s → AreSaved old new (s ∷ [])
+one_saved old new s saved = saved_all old new (s ∷ []) (alone s) (new, saved, refl)
+
+pub one_broken_off : (old new : List ℕ → Held) (s : Saving) (name : List ℕ) → s.name ≡ name → BreaksOne old new s → BreaksOff old new (s ∷ []) name
+one_broken_off old new s name named broken = breaks_off old new (s ∷ []) name (alone s) (inl (named, broken))

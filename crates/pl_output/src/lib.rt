@@ -3,7 +3,7 @@
 #![tactic(auto)]
 
 pub use printing::Piece;
-pub use saving::{Texts, save_all};
+pub use saving::{Texts, print, save_all};
 pub use wiring::wiring_line;
 
 mod printing;

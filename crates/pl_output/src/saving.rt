@@ -1,4 +1,4 @@
-ghost use Rattle.std.specs.Prelude.{◌≡◌, ℕ, List, [], All, IfErr, OnOk, OnErr, string_bytes};
+ghost use Rattle.std.specs.Prelude.{◌≡◌, ℕ, List, [], ◌∷◌, All, IfErr, OnOk, OnErr, string_bytes};
 ghost use Rattle.pl_shelf.specs.Faults.{Counts};
 ghost use Rattle.pl_shelf.specs.Held.{standard_output};
 ghost use Rattle.pl_journal.specs.Text.{IsNamed, journal_text};
@@ -109,4 +109,17 @@ fn save_summary<S: Shelf>(shelf: &mut S, output: Name, summary: &str) -> Result<
         Ok(()) => Ok(()),
         Err(_) => Err(output),
     }
+}
+
+/// Saves one text: on standard output it stands behind what was there. Takes no memory, and answers the
+/// name where a write failed: it is then as it was, or got a proper front of the text.
+pub fn print<S: Shelf>(shelf: &mut S, output: Name, text: &str) -> Result<(), Name>
+    ensures ok { OnOk result (AreSaved (S.held shelf.old) (S.held shelf.new)
+        (record { name = output; text = text.now } ∷ [])) }
+    ensures err { IfErr result (λ name. BreaksOff (S.held shelf.old) (S.held shelf.new)
+        (record { name = output; text = text.now } ∷ []) name) }
+    ensures faults { Counts result (S.write_faults shelf.old) (S.write_faults shelf.new)
+        (S.read_faults shelf.old) (S.read_faults shelf.new) }
+{
+    save_summary(shelf, output, text)
 }

@@ -1,6 +1,7 @@
 -- The largest number of a list.
-use Rattle.std.proofs.Common.{◌≡◌, ◌≤◌, ◌⊎◌, ℕ, max, List, [], ◌∷◌, Option, Some, None, fold, refl, sym, ◌∙◌, subst, inl, inr, ⊎_elim, order, arith}
+use Rattle.std.proofs.Common.{◌≡◌, ◌≤◌, ◌⊎◌, ℕ, max, List, [], ◌∷◌, Option, Some, None, fold, refl, sym, ◌∙◌, subst, inl, inr, ⊎_elim, arith}
 use Rattle.std.specs.List.{reduce}
+use Rattle.std.proofs.lemmas.Bool.{cases_lt}
 use Rattle.pl_core.proofs.Among.{IsAmong}
 
 -- what is among a list is at most the largest, and the largest is the first or among the others
@@ -10,7 +11,7 @@ record IsTop (first : ℕ) (xs : List ℕ) (top : ℕ) : Type 0 where
   pub there : (first ≡ top) ⊎ IsAmong top xs
 
 larger : (a b : ℕ) → (max a b ≡ a) ⊎ (max a b ≡ b)
-larger a b = ⊎_elim (λ less. inr (omega arith)) (λ more. inl (omega arith)) (order a b)
+larger a b = ⊎_elim (λ less. inr (omega arith)) (λ more. inl (omega arith)) (cases_lt a b)
 
 top_more : (first x : ℕ) (xs : List ℕ) (top : ℕ) → IsTop (max first x) xs top → IsTop first (x ∷ xs) top
 top_more first x xs top rest = record {

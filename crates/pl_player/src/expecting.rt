@@ -1,4 +1,4 @@
-ghost use Rattle.std.specs.Prelude.{◌≡◌, ◌↔◌, IfOk, IsTrue, filter_map, max};
+ghost use Rattle.std.specs.Prelude.{◌≡◌, ◌↔◌, ◌&&◌, IfOk, IsTrue, filter_map, find, max, option_map, reverse};
 ghost use Rattle.std.specs.List.{list_any, reduce};
 ghost use Rattle.pl_layouts.specs.Equality.{same_pmac};
 ghost use Rattle.pl_lines.specs.Expecting.{IsNewest, arrivals, ended_settled, endings, is_arrival_at, is_end_for, is_outcome, is_settled};
@@ -115,6 +115,13 @@ fn is_registered(journal: &[Entry], pmac: Pmac, number: u64) -> bool
         .any(|entry| is_registered_by(pmac, number, entry))
 }
 
+// Whether an address is one of these, and was registered under a number.
+fn has_number(journal: &[Entry], pmacs: &[Pmac], pmac: Pmac, number: u64) -> bool
+    ensures { result ≡ (is_one_of pmacs.now pmac && list_any (is_registered_by pmac number) journal.now) }
+{
+    is_one_of(pmacs, pmac) && is_registered(journal, pmac, number)
+}
+
 /// Whether an address has the largest number of those that were registered and granted to a host.
 pub(crate) fn is_newest(
     alloc: Global,
@@ -127,7 +134,7 @@ pub(crate) fn is_newest(
     let grants = grants_of(alloc, journal, h)?;
     match newest_number(journal, &grants) {
         None => Ok(false),
-        Some(number) => Ok(is_one_of(&grants, pmac) && is_registered(journal, pmac, number)),
+        Some(number) => Ok(has_number(journal, &grants, pmac, number)),
     }
 }
 
@@ -143,11 +150,18 @@ fn is_settled(entry: &Entry) -> bool
     matches!(entry, Entry::Settled(_))
 }
 
+// The last entry that says how a settling ended.
+fn last_outcome(journal: &[Entry]) -> Option<&Entry>
+    ensures { option_map (λ entry. entry.now) result ≡ find is_outcome (reverse journal.now) }
+{
+    journal.iter().rev().find(|entry| is_outcome(entry))
+}
+
 /// Whether the last settling settled the fabric.
 pub(crate) fn ended_settled(journal: &[Entry]) -> bool
     ensures { result ≡ ended_settled journal.now }
 {
-    match journal.iter().rev().find(|entry| is_outcome(entry)) {
+    match last_outcome(journal) {
         None => false,
         Some(entry) => is_settled(entry),
     }

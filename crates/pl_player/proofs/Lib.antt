@@ -1,3 +1,4 @@
 pub mod Stops
 pub mod Largest
 pub mod Grants
+pub mod Played

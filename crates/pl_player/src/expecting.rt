@@ -1,6 +1,8 @@
-ghost use Rattle.std.specs.Prelude.{◌≡◌, ◌↔◌, ℕ, Contains, IfOk, IsTrue};
-ghost use Rattle.pl_pmac.specs.declared.pmac.Pmac.{Pmac};
-ghost use Rattle.pl_lines.specs.Expecting.{IsGrantedTo, IsNewest, arrivals, ended_settled, endings, is_arrival_at, is_end_for, is_outcome, is_same_cause, is_settled};
+ghost use Rattle.std.specs.Prelude.{◌≡◌, ◌↔◌, ◌&&◌, IfOk, IsTrue, filter_map, find, max, option_map, reverse};
+ghost use Rattle.std.specs.List.{list_any, reduce};
+ghost use Rattle.pl_layouts.specs.Equality.{same_pmac};
+ghost use Rattle.pl_lines.specs.Expecting.{IsNewest, arrivals, ended_settled, endings, is_arrival_at, is_end_for, is_outcome, is_settled};
+ghost use Rattle.pl_player.specs.Newest.{granted_to, grants_of, is_one_of, is_registered_by, number_in};
 
 use pl_frame::Memory;
 use pl_journal::{Cause, Entry};
@@ -21,13 +23,10 @@ fn is_arrival_at(h: HostNo, entry: &Entry) -> bool
 pub(crate) fn arrivals(journal: &[Entry], h: HostNo) -> usize
     ensures { result ≡ arrivals journal.now h }
 {
-    let mut many = 0;
-    for entry in journal {
-        if is_arrival_at(h, entry) {
-            many += 1;
-        }
-    }
-    many
+    journal
+        .iter()
+        .filter(|entry| is_arrival_at(h, entry))
+        .count()
 }
 
 fn is_end_for(cause: Cause, entry: &Entry) -> bool
@@ -43,48 +42,84 @@ fn is_end_for(cause: Cause, entry: &Entry) -> bool
 pub(crate) fn endings(journal: &[Entry], cause: Cause) -> usize
     ensures { result ≡ endings journal.now cause }
 {
-    let mut many = 0;
-    for entry in journal {
-        if is_end_for(cause, entry) {
-            many += 1;
-        }
+    journal
+        .iter()
+        .filter(|entry| is_end_for(cause, entry))
+        .count()
+}
+
+fn granted_to(h: HostNo, entry: &Entry) -> Option<Pmac>
+    ensures { result ≡ granted_to h entry.now }
+{
+    match entry {
+        Entry::Granted(pmac, host, _, _) if host.0 == h.0 => Some(*pmac),
+        _ => None,
     }
-    many
 }
 
 // The addresses that were granted to a host.
 fn grants_of(alloc: Global, journal: &[Entry], h: HostNo) -> Result<Vec<Pmac>, Memory>
-    ensures { IfOk result (λ grants. (pmac : Pmac) → Contains grants.items pmac ↔ IsGrantedTo journal.now h pmac) }
+    ensures { IfOk result (λ grants. grants.items ≡ grants_of journal.now h) }
 {
-    let mut grants = Vec::new(alloc);
-    for entry in journal {
-        if let Entry::Granted(pmac, host, _, _) = entry {
-            if host.0 == h.0 {
-                grants.push(*pmac)?;
-            }
-        }
-    }
-    Ok(grants)
+    journal
+        .iter()
+        .filter_map(|entry| granted_to(h, entry))
+        .collect(alloc)
 }
 
-// The largest number under which one of these addresses was registered, and that address.
-fn newest_of(journal: &[Entry], grants: &[Pmac]) -> Option<(Pmac, u64)> {
-    let mut newest: Option<(Pmac, u64)> = None;
-    for entry in journal {
-        if let Entry::Registered(pmac, number) = entry {
-            if grants.contains(pmac) {
-                newest = newer(newest, *pmac, *number);
-            }
-        }
-    }
-    newest
+fn is_one_of(pmacs: &[Pmac], pmac: Pmac) -> bool
+    ensures { result ≡ is_one_of pmacs.now pmac }
+{
+    pmacs.contains(&pmac)
 }
 
-fn newer(newest: Option<(Pmac, u64)>, pmac: Pmac, number: u64) -> Option<(Pmac, u64)> {
-    match newest {
-        Some((_, other)) if number < other => newest,
-        _ => Some((pmac, number)),
+fn number_in(pmacs: &[Pmac], entry: &Entry) -> Option<u64>
+    ensures { result ≡ number_in pmacs.now entry.now }
+{
+    match entry {
+        Entry::Registered(pmac, number) if is_one_of(pmacs, *pmac) => Some(*number),
+        _ => None,
     }
+}
+
+// The largest number under which one of these addresses was registered.
+fn newest_number(journal: &[Entry], pmacs: &[Pmac]) -> Option<u64>
+    ensures { result ≡ reduce max (filter_map (number_in pmacs.now) journal.now) }
+{
+    journal
+        .iter()
+        .filter_map(|entry| number_in(pmacs, entry))
+        .max()
+}
+
+fn is_same(a: Pmac, b: Pmac) -> bool
+    ensures { result ≡ same_pmac a b }
+{
+    a == b
+}
+
+fn is_registered_by(pmac: Pmac, number: u64, entry: &Entry) -> bool
+    ensures { result ≡ is_registered_by pmac number entry.now }
+{
+    match entry {
+        Entry::Registered(other, n) => is_same(*other, pmac) && *n == number,
+        _ => false,
+    }
+}
+
+fn is_registered(journal: &[Entry], pmac: Pmac, number: u64) -> bool
+    ensures { result ≡ list_any (is_registered_by pmac number) journal.now }
+{
+    journal
+        .iter()
+        .any(|entry| is_registered_by(pmac, number, entry))
+}
+
+// Whether an address is one of these, and was registered under a number.
+fn has_number(journal: &[Entry], pmacs: &[Pmac], pmac: Pmac, number: u64) -> bool
+    ensures { result ≡ (is_one_of pmacs.now pmac && list_any (is_registered_by pmac number) journal.now) }
+{
+    is_one_of(pmacs, pmac) && is_registered(journal, pmac, number)
 }
 
 /// Whether an address has the largest number of those that were registered and granted to a host.
@@ -97,9 +132,9 @@ pub(crate) fn is_newest(
     ensures { IfOk result (λ is. IsTrue is ↔ IsNewest journal.now h pmac) }
 {
     let grants = grants_of(alloc, journal, h)?;
-    match newest_of(journal, &grants) {
+    match newest_number(journal, &grants) {
         None => Ok(false),
-        Some((newest, _)) => Ok(newest == pmac),
+        Some(number) => Ok(has_number(journal, &grants, pmac, number)),
     }
 }
 
@@ -115,11 +150,18 @@ fn is_settled(entry: &Entry) -> bool
     matches!(entry, Entry::Settled(_))
 }
 
+// The last entry that says how a settling ended.
+fn last_outcome(journal: &[Entry]) -> Option<&Entry>
+    ensures { option_map (λ entry. entry.now) result ≡ find is_outcome (reverse journal.now) }
+{
+    journal.iter().rev().find(|entry| is_outcome(entry))
+}
+
 /// Whether the last settling settled the fabric.
 pub(crate) fn ended_settled(journal: &[Entry]) -> bool
     ensures { result ≡ ended_settled journal.now }
 {
-    match journal.iter().rev().find(|entry| is_outcome(entry)) {
+    match last_outcome(journal) {
         None => false,
         Some(entry) => is_settled(entry),
     }

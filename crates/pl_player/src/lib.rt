@@ -7,6 +7,7 @@
 pub use player::{Player, Stopped};
 
 mod expecting;
+mod hosts;
 mod lines;
 mod player;
 mod queues;

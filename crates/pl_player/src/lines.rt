@@ -1,7 +1,8 @@
-ghost use Rattle.std.specs.Prelude.{◌≡◌, Some, None, MatchResult};
+ghost use Rattle.std.specs.Prelude.{◌≡◌, IsTrue, MatchResult, OnOk, false, true};
 ghost use Rattle.pl_inputs.specs.Records.{records_of};
 ghost use Rattle.pl_world.specs.Flying.{IsCounted};
 ghost use Rattle.pl_world.specs.Hearing.{IsWithinHearing};
+ghost use Rattle.pl_lines.specs.Expecting.{IsNewest, arrivals, ended_settled, endings};
 ghost use Rattle.pl_lines.specs.Lines.{Does, DoesLine, DoesLines, Expects};
 ghost use Rattle.pl_lines.specs.Scenes.{Ends, begun};
 ghost use Rattle.pl_player.specs.Endings.{EndsLines};
@@ -9,6 +10,7 @@ ghost use Rattle.pl_player.specs.Endings.{EndsLines};
 use crate::expecting::{arrivals, ended_settled, endings, is_newest};
 use crate::player::{Player, Stopped};
 use pl_core::{HostCore, ManagerCore, SwitchCore};
+use pl_frame::Memory;
 use pl_inputs::Capture;
 use pl_journal::{Cause, Entry};
 use pl_lines::Stop;
@@ -18,7 +20,9 @@ use pl_wiring::HostNo;
 use pl_world::Event;
 
 // What is expected is so, or not.
-fn expect(holds: bool) -> Result<(), Stop> {
+fn expect(holds: bool) -> Result<(), Stop>
+    ensures { MatchResult result (λ _. holds ≡ true) (λ stop. (stop ≡ Stop.ExpectFailed) × (holds ≡ false)) }
+{
     if holds {
         Ok(())
     } else {
@@ -27,21 +31,29 @@ fn expect(holds: bool) -> Result<(), Stop> {
 }
 
 impl<S: SwitchCore, M: ManagerCore, H: HostCore> Player<S, M, H> {
-    fn expect_arrived(&self, h: HostNo, many: u64) -> Result<(), Stop> {
-        expect(arrivals(self.world.journal().as_slice(), h) as u64 == many)
+    fn expect_arrived(&self, h: HostNo, many: u64) -> Result<(), Stop>
+        ensures { Ends result (λ end. Expects (arrivals self.now.world.journal h ≡ many) self.now end self.now) }
+    {
+        expect(arrivals(self.journal(), h) as u64 == many)
     }
 
-    fn expect_dropped(&self, cause: Cause, many: u64) -> Result<(), Stop> {
-        expect(endings(self.world.journal().as_slice(), cause) as u64 == many)
+    fn expect_dropped(&self, cause: Cause, many: u64) -> Result<(), Stop>
+        ensures { Ends result (λ end. Expects (endings self.now.world.journal cause ≡ many) self.now end self.now) }
+    {
+        expect(endings(self.journal(), cause) as u64 == many)
     }
 
-    fn expect_address(&self, h: HostNo, pmac: Pmac) -> Result<(), Stop> {
-        let holds = is_newest(self.alloc, self.world.journal().as_slice(), h, pmac)?;
+    fn expect_address(&self, h: HostNo, pmac: Pmac) -> Result<(), Stop>
+        ensures { Ends result (λ end. Expects (IsNewest self.now.world.journal h pmac) self.now end self.now) }
+    {
+        let holds = is_newest(self.alloc(), self.journal(), h, pmac)?;
         expect(holds)
     }
 
-    fn expect_settled(&self) -> Result<(), Stop> {
-        expect(ended_settled(self.world.journal().as_slice()))
+    fn expect_settled(&self) -> Result<(), Stop>
+        ensures { Ends result (λ end. Expects (IsTrue (ended_settled self.now.world.journal)) self.now end self.now) }
+    {
+        expect(ended_settled(self.journal()))
     }
 
     // What a command asks for.
@@ -76,6 +88,15 @@ impl<S: SwitchCore, M: ManagerCore, H: HostCore> Player<S, M, H> {
         }
     }
 
+    // The journal says that a line begins.
+    fn begin_line(&mut self, number: u32) -> Result<(), Memory>
+        ensures begun { OnOk result (self.new ≡ begun self.old number) }
+        ensures counted { OnOk result (IsCounted self.old.world → IsCounted self.new.world) }
+        ensures hearing { OnOk result (IsWithinHearing self.old.world → IsWithinHearing self.new.world) }
+    {
+        self.world.mark(Entry::Line(number))
+    }
+
     // A line begins, and its command is done.
     fn play_line(&mut self, captures: &[Capture], line: &ScriptLine) -> Result<(), Stop>
         requires counted { IsCounted self.old.world }
@@ -84,7 +105,7 @@ impl<S: SwitchCore, M: ManagerCore, H: HostCore> Player<S, M, H> {
         ensures counted { Ends result (λ _. IsCounted self.new.world) }
         ensures hearing { Ends result (λ _. IsWithinHearing self.new.world) }
     {
-        self.world.mark(Entry::Line(line.number))?;
+        self.begin_line(line.number)?;
         self.act(captures, line.command)
     }
 

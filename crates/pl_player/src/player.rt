@@ -1,14 +1,15 @@
-ghost use Rattle.std.specs.Prelude.{◌≡◌, ◌≤◌, IfOk};
+ghost use Rattle.std.specs.Prelude.{◌≡◌, ◌≤◌, IfOk, slice_get};
 ghost use Rattle.pl_lines.specs.Scenes.{first_scene};
 ghost use Rattle.pl_world.specs.Flying.{IsCounted};
 ghost use Rattle.pl_world.specs.Hearing.{IsWithinHearing};
 
 use pl_core::{HostCore, ManagerCore, SwitchCore};
 use pl_frame::Memory;
+use pl_journal::Entry;
 use pl_lines::Stop;
 use pl_schedule::World;
-use pl_wiring::Wiring;
-use pl_world::Limits;
+use pl_wiring::{HostNo, Wiring};
+use pl_world::{Limits, Stand};
 use std::alloc::Global;
 use std::marker::Model;
 
@@ -61,5 +62,27 @@ impl<S: SwitchCore, M: ManagerCore, H: HostCore> Player<S, M, H> {
         ensures { result.now ≡ self.now.world }
     {
         &self.world
+    }
+
+    pub(crate) fn alloc(&self) -> Global {
+        self.alloc
+    }
+
+    pub(crate) fn journal(&self) -> &[Entry]
+        ensures { result.now ≡ self.now.world.journal }
+    {
+        self.world.journal().as_slice()
+    }
+
+    pub(crate) fn wiring(&self) -> &Wiring
+        ensures { result.now ≡ self.now.world.plan }
+    {
+        self.world.wiring()
+    }
+
+    pub(crate) fn place_of_host(&self, h: HostNo) -> Option<Stand>
+        ensures { result ≡ slice_get self.now.world.stands h.0 }
+    {
+        self.world.place_of_host(h)
     }
 }

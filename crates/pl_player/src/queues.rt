@@ -24,7 +24,7 @@ impl<S: SwitchCore, M: ManagerCore, H: HostCore> Player<S, M, H> {
     pub(crate) fn port_towards(&self, a: SwitchNo, b: SwitchNo) -> Option<u8>
         ensures { result ≡ port_towards self.now.world.plan a.0 b.0 }
     {
-        match link_of(self.world.wiring(), a, b) {
+        match link_of(self.wiring(), a, b) {
             None => None,
             Some(link) => Some(port_of(a, link)),
         }
@@ -55,7 +55,7 @@ impl<S: SwitchCore, M: ManagerCore, H: HostCore> Player<S, M, H> {
     fn from_host(&self, h: HostNo, s: SwitchNo) -> Option<QueueName>
         ensures { result ≡ from_host self.now.world h s }
     {
-        let stand = self.world.place_of_host(h)?;
+        let stand = self.place_of_host(h)?;
         if stand.edge.0 == s.0 {
             Some(QueueName::FromHost(h))
         } else {
@@ -67,7 +67,7 @@ impl<S: SwitchCore, M: ManagerCore, H: HostCore> Player<S, M, H> {
     fn to_host(&self, s: SwitchNo, h: HostNo) -> Option<QueueName>
         ensures { result ≡ to_host self.now.world s h }
     {
-        let stand = self.world.place_of_host(h)?;
+        let stand = self.place_of_host(h)?;
         if stand.edge.0 == s.0 {
             Some(QueueName::Port(s, stand.port))
         } else {

@@ -1,13 +1,14 @@
-ghost use Rattle.std.specs.Prelude.{◌≡◌, ◌+◌, true, false, OnOk, slice_get};
+ghost use Rattle.std.specs.Prelude.{◌≡◌, IfOk, OnOk};
 ghost use Rattle.pl_inputs.specs.Records.{records_of};
+ghost use Rattle.pl_world.specs.declared.event.Event.TheVariants as event;
 ghost use Rattle.pl_world.specs.Flying.{IsCounted};
 ghost use Rattle.pl_world.specs.Hearing.{IsWithinHearing};
-ghost use Rattle.pl_lines.specs.Lines.{Asks, AsksNext, left_of, records_at};
-ghost use Rattle.pl_lines.specs.Scenes.{Ends, Often, asked_more, asked_of};
+ghost use Rattle.pl_fabric.specs.Courses.{Makes};
+ghost use Rattle.pl_lines.specs.Lines.{Asks, AsksNext, left_of};
+ghost use Rattle.pl_lines.specs.Scenes.{Ends, OfWorld, Often, asked_more, asked_of};
 
 use crate::player::Player;
 use pl_core::{HostCore, ManagerCore, SwitchCore};
-use pl_fabric::make;
 use pl_frame::{Frame, Memory};
 use pl_inputs::{Capture, one_more, record_at, record_count};
 use pl_lines::Stop;
@@ -34,6 +35,44 @@ impl<S: SwitchCore, M: ManagerCore, H: HostCore> Player<S, M, H> {
         Ok(())
     }
 
+    // The event that a host plays a record.
+    fn play_of(
+        &self,
+        h: HostNo,
+        frame: &[u8],
+        original: u32,
+        raw: bool,
+    ) -> Result<Event, Memory>
+        ensures { IfOk result (λ play. play ≡ event.Play h frame.now original raw) }
+    {
+        let copy = Frame::copy(self.alloc(), frame)?;
+        Ok(Event::Play {
+            host: h,
+            frame: copy,
+            original,
+            raw,
+        })
+    }
+
+    // A host is asked for one more record, which is this, and plays it.
+    fn play_next(
+        &mut self,
+        h: HostNo,
+        frame: &[u8],
+        original: u32,
+        raw: bool,
+    ) -> Result<(), Stop>
+        requires counted { IsCounted self.old.world }
+        requires hearing { IsWithinHearing self.old.world }
+        ensures does { Ends result (λ end. OfWorld (Makes S.rule M.rule H.rule (event.Play h frame.now original raw)) (asked_more self.old h.0) end self.new) }
+        ensures counted { Ends result (λ _. IsCounted self.new.world) }
+        ensures hearing { Ends result (λ _. IsWithinHearing self.new.world) }
+    {
+        let play = self.play_of(h, frame, original, raw)?;
+        self.ask_more(h)?;
+        self.happen(&play)
+    }
+
     // A host is asked for its next record.
     fn ask_next(&mut self, captures: &[Capture], h: HostNo, raw: bool) -> Result<(), Stop>
         requires counted { IsCounted self.old.world }
@@ -42,18 +81,10 @@ impl<S: SwitchCore, M: ManagerCore, H: HostCore> Player<S, M, H> {
         ensures counted { Ends result (λ _. IsCounted self.new.world) }
         ensures hearing { Ends result (λ _. IsWithinHearing self.new.world) }
     {
-        let Some(record) = record_at(captures, h, self.asked_of(h)) else {
-            return Err(Stop::Refused(StepError::NothingThere));
-        };
-        let event = Event::Play {
-            host: h,
-            frame: Frame::copy(self.alloc, record.frame)?,
-            original: record.original,
-            raw,
-        };
-        self.ask_more(h)?;
-        make(&mut self.world, &event)?;
-        Ok(())
+        match record_at(captures, h, self.asked_of(h)) {
+            None => Err(Stop::Refused(StepError::NothingThere)),
+            Some(next) => self.play_next(h, next.frame, next.original, raw),
+        }
     }
 
     // A host is asked for so many records.

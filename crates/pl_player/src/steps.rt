@@ -2,20 +2,21 @@ ghost use Rattle.std.specs.Prelude.{◌≡◌, [], ◌∷◌, map, None};
 ghost use Rattle.pl_world.specs.declared.event.Event.TheVariants as event;
 ghost use Rattle.pl_world.specs.Flying.{IsCounted};
 ghost use Rattle.pl_world.specs.Hearing.{IsWithinHearing};
-ghost use Rattle.pl_fabric.specs.Courses.{MakesAll, Times};
+ghost use Rattle.pl_fabric.specs.Courses.{Times};
 ghost use Rattle.pl_fabric.specs.Draws.{Draws};
 ghost use Rattle.pl_fabric.specs.Rounds.{Sweeps, TicksAll};
 ghost use Rattle.pl_lines.specs.Lines.{Happen, SettlesAsAsked, hosts_meant, outcome};
 ghost use Rattle.pl_lines.specs.Queues.{delivery, loss, port_towards, queue_between};
 ghost use Rattle.pl_lines.specs.Scenes.{Ends, OfWorld};
 
+use crate::hosts::{retry_all, start_all};
 use crate::player::Player;
 use pl_core::{HostCore, ManagerCore, SwitchCore};
 use pl_fabric::{Settling, make, random, settle, sweep_often, tick_all};
 use pl_journal::Entry;
 use pl_lines::Stop;
 use pl_script::{End, Who};
-use pl_wiring::{HostNo, SwitchNo};
+use pl_wiring::SwitchNo;
 use pl_world::{Event, QueueName};
 
 // The entry that says how a settling ended.
@@ -25,6 +26,25 @@ fn outcome(answer: Settling) -> Entry
     match answer {
         Settling::Settled(rounds) => Entry::Settled(rounds),
         Settling::NotSettled(pending) => Entry::Unsettled(pending),
+    }
+}
+
+// A switch has fewer ports than 255: where there is no queue, the event is refused.
+fn loss(s: SwitchNo, port: Option<u8>) -> Event
+    ensures { result ≡ loss s port }
+{
+    match port {
+        None => Event::Lose(SwitchNo(0), u8::MAX),
+        Some(port) => Event::Lose(s, port),
+    }
+}
+
+fn delivery(name: Option<QueueName>) -> Event
+    ensures { result ≡ delivery name }
+{
+    match name {
+        None => Event::Deliver(QueueName::Port(SwitchNo(0), u8::MAX)),
+        Some(name) => Event::Deliver(name),
     }
 }
 
@@ -63,9 +83,7 @@ impl<S: SwitchCore, M: ManagerCore, H: HostCore> Player<S, M, H> {
         ensures counted { Ends result (λ _. IsCounted self.new.world) }
         ensures hearing { Ends result (λ _. IsWithinHearing self.new.world) }
     {
-        for h in 0..self.world.wiring().host_count() {
-            self.happen(&Event::Start(HostNo(h)))?;
-        }
+        start_all(&mut self.world)?;
         Ok(())
     }
 
@@ -90,9 +108,7 @@ impl<S: SwitchCore, M: ManagerCore, H: HostCore> Player<S, M, H> {
         ensures counted { Ends result (λ _. IsCounted self.new.world) }
         ensures hearing { Ends result (λ _. IsWithinHearing self.new.world) }
     {
-        for h in 0..self.world.wiring().host_count() {
-            self.happen(&Event::Retry(HostNo(h)))?;
-        }
+        retry_all(&mut self.world)?;
         Ok(())
     }
 
@@ -104,10 +120,7 @@ impl<S: SwitchCore, M: ManagerCore, H: HostCore> Player<S, M, H> {
         ensures counted { Ends result (λ _. IsCounted self.new.world) }
         ensures hearing { Ends result (λ _. IsWithinHearing self.new.world) }
     {
-        let event = match self.port_towards(a, b) {
-            None => Event::Lose(SwitchNo(0), u8::MAX),
-            Some(port) => Event::Lose(a, port),
-        };
+        let event = loss(a, self.port_towards(a, b));
         self.happen(&event)
     }
 
@@ -119,10 +132,7 @@ impl<S: SwitchCore, M: ManagerCore, H: HostCore> Player<S, M, H> {
         ensures counted { Ends result (λ _. IsCounted self.new.world) }
         ensures hearing { Ends result (λ _. IsWithinHearing self.new.world) }
     {
-        let event = match self.queue_between(from, to) {
-            None => Event::Deliver(QueueName::Port(SwitchNo(0), u8::MAX)),
-            Some(name) => Event::Deliver(name),
-        };
+        let event = delivery(self.queue_between(from, to));
         self.happen(&event)
     }
 

@@ -1,0 +1,64 @@
+use Rattle.std.proofs.lemmas.Result.{err_from_is_err_and}
+use Rattle.std.proofs.Common.{◌≡◌, ℕ, suc, ◌+◌, ◌-◌, None, map, length, refl, ◌∙◌, ap, arith}
+use Rattle.std.specs.List.{range_with_len}
+use Rattle.pl_wiring.specs.Plan.{Plan}
+use Rattle.pl_world.specs.declared.event.Event.TheVariants as event
+use Rattle.pl_world.specs.Changes.{host_no}
+use Rattle.pl_script.specs.declared.command.Who.TheVariants as who
+use Rattle.pl_fabric.specs.Courses.{Makes, MakesAll}
+use Rattle.pl_fabric.proofs.CourseSteps.{leads_all, led_on, led_stops, unless_weaker}
+use Rattle.pl_lines.specs.Lines.{hosts_meant}
+use Rattle.pl_player.proofs.hosts.retry_all.Goals as goal
+
+pub loop-h-init : goal.loop-h-init
+loop-h-init g c =
+    let many : c.host_count-many.result ≡ length c.args.world.now.plan.hosts =
+    c.host_count-many.ensures ∙ ap (λ (plan : Plan). length plan.hosts) c.wiring.ensures in (
+      record { counted = c.requires.counted; hearing = c.requires.hearing; plan = refl },
+      λ left all. record {
+        on = (leads_all (λ n. MakesAll g.S.SwitchCore.rule g.M.ManagerCore.rule g.H.HostCore.rule (map event.Retry (map host_no (range_with_len 0 n))))
+            (length c.args.world.now.plan.hosts) left c.args.world.now (all ∙ many)).on;
+      },
+    )
+
+pub make-requires-clause-counted : goal.make-requires-clause-counted
+make-requires-clause-counted g c = c.loop-h.invariant.0.counted
+
+pub make-requires-clause-hearing : goal.make-requires-clause-hearing
+make-requires-clause-hearing g c = c.loop-h.invariant.0.hearing
+
+pub loop-h-preserved : goal.loop-h-preserved
+loop-h-preserved g c = (
+  record {
+    counted = c.in_ok-make.ensures.counted;
+    hearing = c.in_ok-make.ensures.hearing;
+    plan = c.in_ok-make.ensures.plan ∙ c.loop-h.invariant.0.plan;
+  },
+  λ left all. led_on (Makes g.S.SwitchCore.rule g.M.ManagerCore.rule g.H.HostCore.rule (event.Retry (host_no c.loop-h.h)))
+      (MakesAll g.S.SwitchCore.rule g.M.ManagerCore.rule g.H.HostCore.rule (map event.Retry (map host_no (range_with_len (c.loop-h.h + 1) left))))
+      (MakesAll g.S.SwitchCore.rule g.M.ManagerCore.rule g.H.HostCore.rule (map event.Retry (hosts_meant c.args.world.now.plan who.All)))
+      c.loop-h.world c.make.new.world c.args.world.now (c.loop-h.invariant.1 (suc left) (omega arith)) c.in_ok-make.ensures.made,
+)
+
+pub returns-in_err-make : goal.returns-in_err-make
+returns-in_err-make g c =
+    let p = err_from_is_err_and c.from_residual.result c.from_residual.ensures.1 in
+    let left : ℕ = c.host_count-many.result - (c.loop-h.h + 1) in
+    let all : suc left + c.loop-h.h ≡ c.host_count-many.result = omega arith in
+    rw (p.1, p.2) (record {
+      made = unless_weaker c.in_err-make.field-0.0 _ _
+          (led_stops (Makes g.S.SwitchCore.rule g.M.ManagerCore.rule g.H.HostCore.rule (event.Retry (host_no c.loop-h.h)))
+          (MakesAll g.S.SwitchCore.rule g.M.ManagerCore.rule g.H.HostCore.rule (map event.Retry (map host_no (range_with_len (c.loop-h.h + 1) left))))
+          (MakesAll g.S.SwitchCore.rule g.M.ManagerCore.rule g.H.HostCore.rule (map event.Retry (hosts_meant c.args.world.now.plan who.All)))
+          c.loop-h.world c.make.new.world c.args.world.now c.in_err-make.field-0.0 (c.loop-h.invariant.1 (suc left) all))
+          c.in_err-make.ensures.made;
+      counted = c.in_err-make.ensures.counted;
+      hearing = c.in_err-make.ensures.hearing;
+    })
+
+pub returns : goal.returns
+returns g c = record {
+  made = (c.loop-h.invariant.1 0 (omega arith)).on None c.loop-h.world (refl, refl);
+  counted = c.loop-h.invariant.0.counted;
+  hearing = c.loop-h.invariant.0.hearing;
+}

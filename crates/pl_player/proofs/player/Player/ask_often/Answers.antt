@@ -1,0 +1,53 @@
+use Rattle.std.proofs.lemmas.Result.{err_from_is_err_and}
+use Rattle.std.proofs.Common.{◌≡◌, ℕ, suc, ◌+◌, ◌-◌, Some, None, refl, arith}
+use Rattle.pl_world.specs.Flying.{IsCounted}
+use Rattle.pl_world.specs.Hearing.{IsWithinHearing}
+use Rattle.pl_inputs.specs.Records.{records_of}
+use Rattle.pl_lines.specs.Lines.{AsksNext}
+use Rattle.pl_lines.specs.Scenes.{Doing, Often}
+use Rattle.pl_player.proofs.Stops.{leads_all, led_on, led_stops, unless_weaker}
+use Rattle.pl_player.proofs.player.Player.ask_often.Goals as goal
+
+pub loop-init : goal.loop-init
+loop-init g c = (
+  record { counted = c.requires.counted; hearing = c.requires.hearing },
+  λ left all. leads_all (λ n. Often n (AsksNext g.S.SwitchCore.rule g.M.ManagerCore.rule g.H.HostCore.rule (records_of c.args.captures.now) c.args.h c.args.raw)) c.args.times left c.args.self.now all,
+)
+
+pub ask_next-requires-clause-counted : goal.ask_next-requires-clause-counted
+ask_next-requires-clause-counted g c = c.loop.invariant.0.counted
+
+pub ask_next-requires-clause-hearing : goal.ask_next-requires-clause-hearing
+ask_next-requires-clause-hearing g c = c.loop.invariant.0.hearing
+
+pub loop-preserved : goal.loop-preserved
+loop-preserved g c = (
+  record { counted = c.in_ok-ask_next.ensures.counted; hearing = c.in_ok-ask_next.ensures.hearing },
+  λ left all. led_on (AsksNext g.S.SwitchCore.rule g.M.ManagerCore.rule g.H.HostCore.rule (records_of c.args.captures.now) c.args.h c.args.raw)
+      (Often left (AsksNext g.S.SwitchCore.rule g.M.ManagerCore.rule g.H.HostCore.rule (records_of c.args.captures.now) c.args.h c.args.raw))
+      (Often c.args.times (AsksNext g.S.SwitchCore.rule g.M.ManagerCore.rule g.H.HostCore.rule (records_of c.args.captures.now) c.args.h c.args.raw))
+      c.loop.self c.ask_next.new.self c.args.self.now (c.loop.invariant.1 (suc left) (omega arith)) c.in_ok-ask_next.ensures.does,
+)
+
+pub returns-in_err-ask_next : goal.returns-in_err-ask_next
+returns-in_err-ask_next g c =
+    let p = err_from_is_err_and c.from_residual.result c.from_residual.ensures.1 in
+    let left : ℕ = c.args.times - (c.loop.counter + 1) in
+    let all : suc left + c.loop.counter ≡ c.args.times = omega arith in
+    rw (p.1, p.2) (record {
+      does = unless_weaker c.in_err-ask_next.field-0.0 _ _
+          (led_stops (AsksNext g.S.SwitchCore.rule g.M.ManagerCore.rule g.H.HostCore.rule (records_of c.args.captures.now) c.args.h c.args.raw)
+          (Often left (AsksNext g.S.SwitchCore.rule g.M.ManagerCore.rule g.H.HostCore.rule (records_of c.args.captures.now) c.args.h c.args.raw))
+          (Often c.args.times (AsksNext g.S.SwitchCore.rule g.M.ManagerCore.rule g.H.HostCore.rule (records_of c.args.captures.now) c.args.h c.args.raw))
+          c.loop.self c.ask_next.new.self c.args.self.now c.in_err-ask_next.field-0.0 (c.loop.invariant.1 (suc left) all))
+          c.in_err-ask_next.ensures.does;
+      counted = c.in_err-ask_next.ensures.counted;
+      hearing = c.in_err-ask_next.ensures.hearing;
+    })
+
+pub returns : goal.returns
+returns g c = record {
+  does = (c.loop.invariant.1 0 (omega arith)).on None c.loop.self (refl, refl);
+  counted = c.loop.invariant.0.counted;
+  hearing = c.loop.invariant.0.hearing;
+}

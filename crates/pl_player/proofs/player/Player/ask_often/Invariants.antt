@@ -1,0 +1,13 @@
+use Rattle.std.proofs.Common.{◌≡◌, ℕ, ◌+◌}
+use Rattle.pl_inputs.specs.Records.{records_of}
+use Rattle.pl_lines.specs.Lines.{AsksNext}
+use Rattle.pl_lines.specs.Scenes.{Often}
+use Rattle.pl_player.proofs.Stops.{Keeps, Leads}
+use Rattle.pl_player.proofs.player.Player.ask_often.Given as goal
+
+abbrev pub invariant-loop : goal.invariant-loop
+invariant-loop g l =
+    Keeps l.self
+    × ((left : ℕ) → left + l.counter ≡ l.times →
+    Leads (Often left (AsksNext g.S.SwitchCore.rule g.M.ManagerCore.rule g.H.HostCore.rule (records_of l.captures) l.h l.raw)) l.self
+    (Often l.times (AsksNext g.S.SwitchCore.rule g.M.ManagerCore.rule g.H.HostCore.rule (records_of l.captures) l.h l.raw)) l.initial.self)

@@ -1,0 +1,11 @@
+use Rattle.std.proofs.Common.{[], ◌∷◌, ap, ◌∙◌, subst}
+use Rattle.pl_world.specs.declared.event.Event.{Event}
+use Rattle.pl_lines.specs.Lines.{Happen}
+use Rattle.pl_lines.specs.Queues.{delivery}
+use Rattle.pl_lines.specs.Scenes.{Ends}
+use Rattle.pl_player.proofs.player.Player.deliver.Goals as goal
+
+pub returns-clause-does : goal.returns-clause-does
+returns-clause-does g c =
+    subst (λ (e : Event). Ends c.happen.result (λ end. Happen g.S.SwitchCore.rule g.M.ManagerCore.rule g.H.HostCore.rule (e ∷ []) c.args.self.now end c.happen.new.self))
+    (c.delivery-event.ensures ∙ ap delivery c.queue_between.ensures) c.happen.ensures.does

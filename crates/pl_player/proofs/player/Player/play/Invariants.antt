@@ -1,0 +1,11 @@
+use Rattle.std.proofs.Common.{drop}
+use Rattle.pl_inputs.specs.Records.{records_of}
+use Rattle.pl_lines.specs.Lines.{DoesLines}
+use Rattle.pl_player.proofs.Played.{PlaysOn}
+use Rattle.pl_player.proofs.Stops.{Keeps}
+use Rattle.pl_player.proofs.player.Player.play.Given as goal
+
+abbrev pub invariant-loop-line : goal.invariant-loop-line
+invariant-loop-line g l =
+    Keeps l.self
+    × PlaysOn (DoesLines g.S.SwitchCore.rule g.M.ManagerCore.rule g.H.HostCore.rule (records_of l.captures) (drop l.line-index l.lines)) l.self (DoesLines g.S.SwitchCore.rule g.M.ManagerCore.rule g.H.HostCore.rule (records_of l.captures) l.lines) l.initial.self

@@ -1,0 +1,47 @@
+ghost use Rattle.std.specs.Prelude.{◌≡◌, map};
+ghost use Rattle.pl_world.specs.declared.event.Event.TheVariants as event;
+ghost use Rattle.pl_world.specs.Flying.{IsCounted};
+ghost use Rattle.pl_world.specs.Hearing.{IsWithinHearing};
+ghost use Rattle.pl_fabric.specs.Courses.{EndsAs, MakesAll};
+ghost use Rattle.pl_lines.specs.Lines.{hosts_meant};
+
+use pl_core::{HostCore, ManagerCore, SwitchCore};
+use pl_fabric::make;
+use pl_schedule::World;
+use pl_script::Who;
+use pl_wiring::HostNo;
+use pl_world::{Event, StepError};
+
+/// Each host starts, in the order of the wiring.
+pub(crate) fn start_all<S: SwitchCore, M: ManagerCore, H: HostCore>(
+    world: &mut World<S, M, H>,
+) -> Result<(), StepError>
+    requires counted { IsCounted world.old }
+    requires hearing { IsWithinHearing world.old }
+    ensures made { EndsAs result (λ end. MakesAll S.rule M.rule H.rule (map event.Start (hosts_meant world.old.plan Who.All)) world.old end world.new) }
+    ensures counted { EndsAs result (λ _. IsCounted world.new) }
+    ensures hearing { EndsAs result (λ _. IsWithinHearing world.new) }
+{
+    let many = world.wiring().host_count();
+    for h in 0..many {
+        make(world, &Event::Start(HostNo(h)))?;
+    }
+    Ok(())
+}
+
+/// Each host asks again for the addresses that it waits for.
+pub(crate) fn retry_all<S: SwitchCore, M: ManagerCore, H: HostCore>(
+    world: &mut World<S, M, H>,
+) -> Result<(), StepError>
+    requires counted { IsCounted world.old }
+    requires hearing { IsWithinHearing world.old }
+    ensures made { EndsAs result (λ end. MakesAll S.rule M.rule H.rule (map event.Retry (hosts_meant world.old.plan Who.All)) world.old end world.new) }
+    ensures counted { EndsAs result (λ _. IsCounted world.new) }
+    ensures hearing { EndsAs result (λ _. IsWithinHearing world.new) }
+{
+    let many = world.wiring().host_count();
+    for h in 0..many {
+        make(world, &Event::Retry(HostNo(h)))?;
+    }
+    Ok(())
+}

@@ -1,5 +1,5 @@
 -- The newest address of a host, by what a journal grants and registers.
-use Rattle.std.proofs.Common.{◌≡◌, ◌≤◌, ◌↔◌, ℕ, ◌==◌, ◌&&◌, Bool, true, false, IsTrue, if◌then◌else◌, Contains, List, [], ◌∷◌, max, Option, Some, None, filter_map, refl, sym, ap, ◌∙◌, subst, inl, inr, eqb-true, eq-eqb, arith}
+use Rattle.std.proofs.Common.{◌≡◌, ◌↔◌, ℕ, ◌==◌, ◌&&◌, Bool, true, false, IsTrue, if◌then◌else◌, Contains, List, [], ◌∷◌, max, Some, None, filter_map, refl, sym, ap, ◌∙◌, subst, inl, inr, eqb-true, eq-eqb, arith}
 use Rattle.std.specs.List.{list_any, reduce}
 use Rattle.std.proofs.lemmas.Bool.{and_from, and_parts, false≢true, or_cases}
 use Rattle.pl_pmac.specs.declared.pmac.Pmac.{Pmac}
@@ -11,7 +11,7 @@ use Rattle.pl_journal.specs.declared.entry.Entry.TheVariants.{Granted, Registere
 use Rattle.pl_core.proofs.Among.{Contains-of_among, IsAmong, among_filter_map, among_filter_mapped, among_of_Contains, any_among}
 use Rattle.pl_lines.specs.Expecting.{IsGrantedTo, IsNewest}
 use Rattle.pl_player.specs.Newest.{granted_to, grants_of, is_one_of, is_registered_by, number_in}
-use Rattle.pl_player.proofs.Largest.{IsLargest, is_largest, none_largest}
+use Rattle.pl_player.proofs.Largest.{is_largest, none_largest}
 
 pmac_is : (a b : Pmac) → same_pmac a b ≡ true → a ≡ b
 pmac_is a b e =

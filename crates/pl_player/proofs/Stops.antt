@@ -1,5 +1,5 @@
 -- How calls end that do what lines ask, and how such things are put together.
-use Rattle.std.proofs.Common.{◌≡◌, ℕ, ◌+◌, List, Option, Some, None, Result, Ok, Err, refl, sym, ap, ◌∙◌, subst, arith}
+use Rattle.std.proofs.Common.{◌≡◌, ℕ, ◌+◌, List, Option, Some, None, Result, Ok, Err, refl, sym, subst, arith}
 use Rattle.pl_world.specs.declared.error.StepError.{StepError}
 use Rattle.pl_world.specs.declared.error.StepError.TheVariants.{AlreadySo, JournalFull, Memory, NoSuch, NothingThere, Occupied, StepsSpent}
 use Rattle.pl_world.specs.Flying.{IsCounted}

@@ -39,11 +39,7 @@ pub struct Stopped {
 
 impl<S: SwitchCore, M: ManagerCore, H: HostCore> Player<S, M, H> {
     /// A fabric at its beginning, on which no line was played.
-    pub fn begin(
-        alloc: Global,
-        wiring: Wiring,
-        limits: Limits,
-    ) -> Result<Player<S, M, H>, Memory>
+    pub fn begin(alloc: Global, wiring: Wiring, limits: Limits) -> Result<Player<S, M, H>, Memory>
         requires { limits.steps ≤ 4000000000 }
         ensures scene { IfOk result (λ p. p ≡ first_scene wiring limits) }
         ensures counted { IfOk result (λ p. IsCounted p.world) }

@@ -36,13 +36,7 @@ impl<S: SwitchCore, M: ManagerCore, H: HostCore> Player<S, M, H> {
     }
 
     // The event that a host plays a record.
-    fn play_of(
-        &self,
-        h: HostNo,
-        frame: &[u8],
-        original: u32,
-        raw: bool,
-    ) -> Result<Event, Memory>
+    fn play_of(&self, h: HostNo, frame: &[u8], original: u32, raw: bool) -> Result<Event, Memory>
         ensures { IfOk result (λ play. play ≡ event.Play h frame.now original raw) }
     {
         let copy = Frame::copy(self.alloc(), frame)?;
@@ -55,13 +49,7 @@ impl<S: SwitchCore, M: ManagerCore, H: HostCore> Player<S, M, H> {
     }
 
     // A host is asked for one more record, which is this, and plays it.
-    fn play_next(
-        &mut self,
-        h: HostNo,
-        frame: &[u8],
-        original: u32,
-        raw: bool,
-    ) -> Result<(), Stop>
+    fn play_next(&mut self, h: HostNo, frame: &[u8], original: u32, raw: bool) -> Result<(), Stop>
         requires counted { IsCounted self.old.world }
         requires hearing { IsWithinHearing self.old.world }
         ensures does { Ends result (λ end. OfWorld (Makes S.rule M.rule H.rule (event.Play h frame.now original raw)) (asked_more self.old h.0) end self.new) }

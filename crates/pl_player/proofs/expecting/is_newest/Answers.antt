@@ -1,4 +1,4 @@
-use Rattle.std.proofs.Common.{◌≡◌, ℕ, ◌&&◌, None, Some, List, max, filter_map, ap, sym, ◌∙◌, subst}
+use Rattle.std.proofs.Common.{◌≡◌, ◌&&◌, List, max, filter_map, ap, sym, ◌∙◌}
 use Rattle.std.specs.List.{list_any, reduce}
 use Rattle.pl_pmac.specs.declared.pmac.Pmac.{Pmac}
 use Rattle.pl_player.specs.Newest.{grants_of, is_one_of, is_registered_by, number_in}

@@ -1,10 +1,8 @@
 use Rattle.std.proofs.lemmas.Result.{err_from_is_err_and}
-use Rattle.std.proofs.Common.{◌≡◌, ℕ, suc, ◌+◌, ◌-◌, Some, None, refl, arith}
-use Rattle.pl_world.specs.Flying.{IsCounted}
-use Rattle.pl_world.specs.Hearing.{IsWithinHearing}
+use Rattle.std.proofs.Common.{◌≡◌, ℕ, suc, ◌+◌, ◌-◌, None, refl, arith}
 use Rattle.pl_inputs.specs.Records.{records_of}
 use Rattle.pl_lines.specs.Lines.{AsksNext}
-use Rattle.pl_lines.specs.Scenes.{Doing, Often}
+use Rattle.pl_lines.specs.Scenes.{Often}
 use Rattle.pl_player.proofs.Stops.{leads_all, led_on, led_stops, unless_weaker}
 use Rattle.pl_player.proofs.player.Player.ask_often.Goals as goal
 

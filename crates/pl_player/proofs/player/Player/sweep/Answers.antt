@@ -1,15 +1,10 @@
 use Rattle.std.proofs.lemmas.Result.{err_from_is_err_and}
-use Rattle.std.proofs.Common.{◌≡◌, [], ◌∷◌, None, refl, sym, ap, ◌∙◌, subst, map}
-use Rattle.pl_world.specs.declared.event.Event.TheVariants as event
+use Rattle.std.proofs.Common.{sym, subst}
 use Rattle.pl_world.specs.Flying.{IsCounted}
 use Rattle.pl_world.specs.Hearing.{IsWithinHearing}
 use Rattle.pl_world.specs.Worlds.{WorldView}
-use Rattle.pl_fabric.specs.Courses.{Makes, MakesAll, Stays, Times}
-use Rattle.pl_fabric.specs.Draws.{Draws}
-use Rattle.pl_fabric.specs.Rounds.{Sweeps, TicksAll}
-use Rattle.pl_fabric.proofs.CourseSteps.{then_on, then_stops, unless_weaker}
-use Rattle.pl_script.specs.declared.command.Who.TheVariants as who
-use Rattle.pl_lines.specs.Lines.{hosts_meant}
+use Rattle.pl_fabric.specs.Courses.{Times}
+use Rattle.pl_fabric.specs.Rounds.{Sweeps}
 use Rattle.pl_lines.specs.Scenes.{Scene}
 use Rattle.pl_player.proofs.Stops.{ends_refused, world_ends, world_stops}
 use Rattle.pl_player.proofs.player.Player.sweep.Goals as goal

@@ -5,7 +5,7 @@ use Rattle.pl_world.specs.declared.error.StepError.TheVariants.{AlreadySo, Journ
 use Rattle.pl_world.specs.Flying.{IsCounted}
 use Rattle.pl_world.specs.Hearing.{IsWithinHearing}
 use Rattle.pl_world.specs.Worlds.{WorldView}
-use Rattle.pl_fabric.specs.Courses.{Course, GoesOn, Stays, Then, UnlessMemory}
+use Rattle.pl_fabric.specs.Courses.{Course, UnlessMemory}
 use Rattle.pl_lines.specs.declared.stop.Stop.{Stop}
 use Rattle.pl_lines.specs.declared.stop.Stop.TheVariants.{ExpectFailed, Refused}
 use Rattle.pl_lines.specs.Scenes.{Before, Doing, Ends, OfWorld, Scene, UnlessWanting}
@@ -32,11 +32,6 @@ unless_refused Memory P Q on holds = tt
 pub unless_weaker : (s : Stop) (P Q : Type 0) → (P → Q) → UnlessWanting s P → UnlessWanting s Q
 unless_weaker ExpectFailed P Q on holds = on holds
 unless_weaker (Refused e) P Q on holds = unless_refused e P Q on holds
-
-pub ends_weaker : {T : Type 0} (P Q : Option Stop → Type 0) → ((end : Option Stop) → P end → Q end) →
-    (result : Result T Stop) → Ends result P → Ends result Q
-ends_weaker P Q on (Ok x) holds = on None holds
-ends_weaker P Q on (Err s) holds = unless_weaker s (P (Some s)) (Q (Some s)) (on (Some s)) holds
 
 -- what is left to do from here, and the whole from the beginning
 pub record Leads (rest : Doing) (now : Scene) (whole : Doing) (old : Scene) : Type 0 where
@@ -79,21 +74,6 @@ ends_refused P Q e on holds (Err t) s is same =
     let stop : t ≡ Refused e = cc in
     subst (λ (r : Stop). UnlessWanting r (P (Some r))) (sym stop) (refused e Q (P (Some (Refused e))) on holds)
 
--- a call was stopped within
-pub ends_stopped : {T : Type 0} (P : Option Stop → Type 0) (Q : Type 0) (t : Stop) → (Q → P (Some t)) → UnlessWanting t Q →
-    (result : Result T Stop) (s : Stop) → result ≡ Err s → s ≡ t → Ends result P
-ends_stopped P Q t on holds (Ok x) s is same = absurd (cc)
-ends_stopped P Q t on holds (Err r) s is same =
-    let stop : r ≡ t = cc in
-    subst (λ (r : Stop). UnlessWanting r (P (Some r))) (sym stop) (unless_weaker t Q (P (Some t)) on holds)
-
--- memory was wanting within
-pub ends_wanting : {T : Type 0} (P : Option Stop → Type 0) (result : Result T Stop) (s : Stop) → result ≡ Err s → s ≡ Refused Memory → Ends result P
-ends_wanting P (Ok x) s is same = absurd (cc)
-ends_wanting P (Err t) s is same =
-    let stop : t ≡ Refused Memory = cc in
-    subst (λ (r : Stop). UnlessWanting r (P (Some r))) (sym stop) tt
-
 abbrev pub scene : WorldView → List ℕ → Scene
 scene w asked = record { world = w; asked = asked }
 
@@ -108,14 +88,3 @@ module _ (course : WorldView → Course) (now : Scene) (w new : WorldView) (aske
 
   pub world_ends : course w w None new → OfWorld (course now.world) now None (scene new asked)
   world_ends done = subst (λ (v : Scene). OfWorld (course v.world) v None (scene new asked)) view (None, done, refl, refl)
-
-pub alone : (first : Course) (w : WorldView) (end : Option StepError) (new : WorldView) → Then first Stays w end new → first w end new
-alone first w end new t = by t.0 t.1 t.2 t.3
-  where
-    by : (stop : Option StepError) (between : WorldView) → first w stop between → GoesOn Stays stop between end new → first w end new
-    by None between done rest = subst (λ (o : Option StepError). first w o new) (sym rest.0) (subst (λ (v : WorldView). first w None v) (sym rest.1) done)
-    by (Some e) between done rest =
-        subst (λ (o : Option StepError). first w o new) (sym rest.0) (subst (λ (v : WorldView). first w (Some e) v) (sym rest.1) done)
-
-pub of_world_alone : (first : Course) (old : Scene) (end : Option Stop) (new : Scene) → OfWorld (Then first Stays) old end new → OfWorld first old end new
-of_world_alone first old end new t = (t.0, alone first old.world t.0 new.world t.1, t.2, t.3)

@@ -9,15 +9,15 @@ use Rattle.pl_wiring.specs.Plan.{Plan}
 use Rattle.pl_script.specs.declared.error.ScriptError.{ScriptError}
 use Rattle.pl_script.specs.declared.error.ScriptError.TheVariants.{Line}
 use Rattle.pl_script.specs.declared.script.ScriptLine.{ScriptLine}
-use Rattle.pl_inputs.specs.declared.status.Status.{Status}
-use Rattle.pl_inputs.specs.declared.status.TopologyReason.{TopologyReason}
-use Rattle.pl_inputs.specs.declared.status.Status.TheVariants as status
+use Rattle.pl_first_inputs.specs.declared.status.Status.{Status}
+use Rattle.pl_first_inputs.specs.declared.status.TopologyReason.{TopologyReason}
+use Rattle.pl_first_inputs.specs.declared.status.Status.TheVariants as status
 use Rattle.pl_run.specs.Answers.{Answers, Moment, run_of}
 use Rattle.pl_run.specs.Complete.{AnswersInputs, AreCapturesTold, AreTold, IsCaptureTold, IsTold, NoFaults, outcome, outcome_of}
-use Rattle.pl_inputs.specs.Inputs.{AreRead, HasLines, HasPlan, Inputs, IsLoaded, lines_of, plan_of, text_limit}
+use Rattle.pl_first_inputs.specs.Inputs.{AreRead, HasLines, HasPlan, Inputs, IsLoaded, lines_of, plan_of, text_limit}
 use Rattle.pl_one_edge.specs.Machine.{Refusal, State}
-use Rattle.pl_inputs.specs.Unread.{IsLongName, IsRefusedCapture, IsTooMuch}
-use Rattle.pl_inputs.specs.Words.{Asked}
+use Rattle.pl_first_inputs.specs.Unread.{IsLongName, IsRefusedCapture, IsTooMuch}
+use Rattle.pl_first_inputs.specs.Words.{Asked}
 use Rattle.pl_run.proofs.Complete.{not_longer, ok_err, one_file, one_input, one_plan}
 use Rattle.pl_run.proofs.CompleteCaptures.{long_stop, none_stops, refused_stop}
 

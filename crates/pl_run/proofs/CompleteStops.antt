@@ -6,13 +6,13 @@ use Rattle.pl_capture.specs.CaptureError.{offset_of}
 use Rattle.pl_wiring.specs.declared.host.Host.{Host}
 use Rattle.pl_wiring.specs.Plan.{Plan}
 use Rattle.pl_script.specs.declared.error.ScriptError.TheVariants.{Line}
-use Rattle.pl_inputs.specs.declared.status.Status.{Status}
-use Rattle.pl_inputs.specs.declared.status.Status.TheVariants as status
+use Rattle.pl_first_inputs.specs.declared.status.Status.{Status}
+use Rattle.pl_first_inputs.specs.declared.status.Status.TheVariants as status
 use Rattle.pl_run.specs.Answers.{Answers, Moment}
 use Rattle.pl_run.specs.Complete.{AnswersBadCapture, AnswersLongCapture, AreCapturesTold, IsTold}
-use Rattle.pl_inputs.specs.Inputs.{AreCaptures, AreRead, HasPlan, Inputs, text_limit}
-use Rattle.pl_inputs.specs.Unread.{ComesTo, IsRefusedCapture, IsTooMuch}
-use Rattle.pl_inputs.specs.Words.{Asked}
+use Rattle.pl_first_inputs.specs.Inputs.{AreCaptures, AreRead, HasPlan, Inputs, text_limit}
+use Rattle.pl_first_inputs.specs.Unread.{ComesTo, IsRefusedCapture, IsTooMuch}
+use Rattle.pl_first_inputs.specs.Words.{Asked}
 use Rattle.pl_run.proofs.Complete.{one_plan}
 use Rattle.pl_run.proofs.CompleteAnswers.{no_bad_script, no_bad_topology, no_long_script, no_long_topology, no_read_fault, no_write_fault}
 use Rattle.pl_run.proofs.CompleteCaptures.{IsStop, long_stop, none_stops, one_name, one_reason, one_stop, refused_not_long, refused_stop}

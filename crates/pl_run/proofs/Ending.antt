@@ -3,15 +3,15 @@ use Rattle.std.proofs.Common.{◌≡◌, ℕ, ◌≤◌, List, [], ◌∷◌, �
 use Rattle.std.proofs.lemmas.List.Elements.{All-weaker}
 use Rattle.pl_shelf.specs.Held.{Held, Same}
 use Rattle.pl_shelf.specs.Faults.{Rose}
-use Rattle.pl_inputs.specs.declared.status.Status.{Status}
-use Rattle.pl_inputs.specs.declared.status.Status.TheVariants as status
+use Rattle.pl_first_inputs.specs.declared.status.Status.{Status}
+use Rattle.pl_first_inputs.specs.declared.status.Status.TheVariants as status
 use Rattle.pl_run.specs.Answers.{Answers, IsUntouched, Moment, texts_of}
-use Rattle.pl_inputs.specs.Inputs.{AreRead, Inputs}
-use Rattle.pl_inputs.specs.Loads.{Reads}
+use Rattle.pl_first_inputs.specs.Inputs.{AreRead, Inputs}
+use Rattle.pl_first_inputs.specs.Loads.{Reads}
 use Rattle.pl_run.specs.Plays.{EndsRun, answer_of}
-use Rattle.pl_output.specs.Saved.{AreSaved, BreaksOff, IsBroken, IsWhole, OthersStay, Saving, once_saved}
-use Rattle.pl_inputs.specs.Unread.{IsUnread}
-use Rattle.pl_inputs.specs.Words.{Asked}
+use Rattle.pl_first_output.specs.Saved.{AreSaved, BreaksOff, IsBroken, IsWhole, OthersStay, Saving, once_saved}
+use Rattle.pl_first_inputs.specs.Unread.{IsUnread}
+use Rattle.pl_first_inputs.specs.Words.{Asked}
 
 -- a shelf that holds the same, and of which no call failed
 pub record IsSameMoment (old new : Moment) : Type 0 where

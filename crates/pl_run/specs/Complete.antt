@@ -8,15 +8,15 @@ use Rattle.pl_wiring.specs.declared.host.HostNo.{HostNo}
 use Rattle.pl_wiring.specs.Plan.{Plan}
 use Rattle.pl_script.specs.declared.error.ScriptError.TheVariants.{Line}
 use Rattle.pl_script.specs.declared.error.ScriptReason.{ScriptReason}
-use Rattle.pl_inputs.specs.declared.status.Status.{Status}
-use Rattle.pl_inputs.specs.declared.status.Status.TheVariants as status
-use Rattle.pl_inputs.specs.declared.status.TopologyReason.{TopologyReason}
+use Rattle.pl_first_inputs.specs.declared.status.Status.{Status}
+use Rattle.pl_first_inputs.specs.declared.status.Status.TheVariants as status
+use Rattle.pl_first_inputs.specs.declared.status.TopologyReason.{TopologyReason}
 use Rattle.pl_run.specs.Answers.{Moment, run_of}
-use Rattle.pl_inputs.specs.Folders.{in_folder}
-use Rattle.pl_inputs.specs.Inputs.{AreRead, HasPlan, Inputs, IsLoaded, lines_of, plan_of, text_limit}
+use Rattle.pl_first_inputs.specs.Folders.{in_folder}
+use Rattle.pl_first_inputs.specs.Inputs.{AreRead, HasPlan, Inputs, IsLoaded, lines_of, plan_of, text_limit}
 use Rattle.pl_one_edge.specs.Machine.{Refusal, State}
-use Rattle.pl_inputs.specs.Unread.{AreTextsRead, IsRefusedCapture, IsTooMuch}
-use Rattle.pl_inputs.specs.Words.{Asked}
+use Rattle.pl_first_inputs.specs.Unread.{AreTextsRead, IsRefusedCapture, IsTooMuch}
+use Rattle.pl_first_inputs.specs.Words.{Asked}
 
 -- the shelf tells what this name holds
 abbrev pub IsTold : (List ℕ → Held) → List ℕ → Type 0

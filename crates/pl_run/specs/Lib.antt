@@ -1,5 +1,4 @@
+pub mod SummaryExamples
 pub mod Answers
-pub mod Checks
-pub mod Generated
 pub mod Plays
 pub mod Complete

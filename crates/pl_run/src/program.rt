@@ -1,11 +1,11 @@
 ghost use Rattle.std.specs.Prelude.{◌≡◌, ◌↔◌, Some, None};
 ghost use Rattle.pl_run.specs.Answers.{Answers, IsUntouched, moment};
 ghost use Rattle.pl_run.specs.Complete.{AnswersBadCapture, AnswersBadScript, AnswersBadTopology, AnswersInputs, AnswersLongCapture, AnswersLongScript, AnswersLongTopology};
-ghost use Rattle.pl_inputs.specs.Met.{texts};
-ghost use Rattle.pl_inputs.specs.Words.{Asked, asked_of};
+ghost use Rattle.pl_first_inputs.specs.Met.{texts};
+ghost use Rattle.pl_first_inputs.specs.Words.{Asked, asked_of};
 
 use crate::running::run;
-use pl_inputs::{Status, files_of};
+use pl_first_inputs::{Status, files_of};
 use pl_shelf::Shelf;
 use std::alloc::Global;
 

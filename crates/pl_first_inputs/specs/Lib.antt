@@ -1,0 +1,13 @@
+pub mod Numbered
+pub mod Words
+pub mod Inputs
+pub mod Unread
+pub mod Loads
+pub mod Loaded
+pub mod Walks
+pub mod Gathered
+pub mod Refusals
+pub mod Met
+pub mod WordExamples
+pub mod Status
+pub mod Folders

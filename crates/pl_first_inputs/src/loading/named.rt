@@ -1,0 +1,30 @@
+ghost use Rattle.std.specs.Prelude.{◌≡◌, IfOk, IfErr};
+ghost use Rattle.pl_shelf.specs.Held.{Same};
+ghost use Rattle.pl_first_inputs.specs.Inputs.{IsLoaded};
+ghost use Rattle.pl_first_inputs.specs.Loads.{IsUnloaded, Reads};
+
+use crate::status::Status;
+use pl_shelf::{Bytes, LoadError, Shelf, load};
+use pl_wiring::Name;
+use std::alloc::Global;
+
+/// Reads all that the name holds. The name itself was made before, so that a failed read can tell it.
+pub(crate) fn load_named<S: Shelf>(
+    alloc: Global,
+    shelf: &mut S,
+    name: Name,
+    limit: u64,
+) -> Result<Bytes, Status>
+    ensures ok { IfOk result (λ found. IsLoaded (S.held shelf.old) name limit found) }
+    ensures err { IfErr result (λ e. IsUnloaded (S.held shelf.old) name limit e) }
+    ensures same { Same (S.held shelf.old) (S.held shelf.new) }
+    ensures reads { Reads result (S.read_faults shelf.old) (S.read_faults shelf.new) }
+    ensures writes { S.write_faults shelf.new ≡ S.write_faults shelf.old }
+{
+    match load(alloc, shelf, name.text(), limit) {
+        Ok(bytes) => Ok(bytes),
+        Err(LoadError::Fault) => Err(Status::ReadFault(name)),
+        Err(LoadError::TooLong) => Err(Status::TooLong(name)),
+        Err(LoadError::Memory) => Err(Status::OutOfMemory),
+    }
+}

@@ -1,0 +1,11 @@
+use Rattle.std.proofs.Common.{◌≡◌, take}
+use Rattle.std.specs.List.{flat_map}
+use Rattle.pl_first_output.specs.Printed.{IsPrinted}
+use Rattle.pl_first_output.proofs.printing.piece.Piece.print_parts.Given as goal
+
+abbrev pub invariant-loop-part : goal.invariant-loop-part
+invariant-loop-part g l = record {
+  printed : IsPrinted (g.S.Shelf.held l.fn.shelf) (g.S.Shelf.held l.shelf) l.name l.fn.self l.self (flat_map (λ part. part.now) (take l.part-index l.parts));
+  write_faults : g.S.Shelf.write_faults l.shelf ≡ g.S.Shelf.write_faults l.fn.shelf;
+  read_faults : g.S.Shelf.read_faults l.shelf ≡ g.S.Shelf.read_faults l.fn.shelf;
+}

@@ -1,0 +1,16 @@
+use Rattle.std.proofs.Common.{◌≡◌, drop}
+use Rattle.std.specs.List.{flat_map}
+use Rattle.pl_capture.specs.declared.endianness.Endianness.TheVariants.{Little}
+use Rattle.pl_capture.specs.Spelling.{packet_bytes}
+use Rattle.pl_shelf.proofs.Written.{Written}
+use Rattle.pl_first_output.specs.Mail.{packets_at}
+use Rattle.pl_first_output.proofs.saving.captures.append_packets.Given as goal
+
+abbrev pub invariant-loop-receipt : goal.invariant-loop-receipt
+invariant-loop-receipt g l = record {
+  written : Written (g.S.Shelf.held l.fn.shelf) (g.S.Shelf.held l.shelf) l.name
+      (flat_map (packet_bytes Little) (packets_at l.journal l.receipts))
+      (flat_map (packet_bytes Little) (packets_at l.journal (drop l.receipt-index l.receipts)));
+  write_faults : g.S.Shelf.write_faults l.shelf ≡ g.S.Shelf.write_faults l.fn.shelf;
+  read_faults : g.S.Shelf.read_faults l.shelf ≡ g.S.Shelf.read_faults l.fn.shelf;
+}

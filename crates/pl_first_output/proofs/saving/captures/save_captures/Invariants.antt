@@ -1,0 +1,19 @@
+use Rattle.std.proofs.Common.{◌≡◌, ℕ, List, length, map}
+use Rattle.std.specs.Vec.Iter.{into_iter_items, into_iter_len}
+use Rattle.pl_shelf.specs.Held.{Held}
+use Rattle.pl_first_output.specs.InTurn.{BreaksInTurn, SavedInTurn}
+use Rattle.pl_first_output.specs.Receipts.{capture_in}
+use Rattle.pl_first_output.proofs.saving.captures.save_captures.Given as goal
+
+abbrev pub invariant-loop-inbox : goal.invariant-loop-inbox
+invariant-loop-inbox g l = record {
+  saved : (new : List ℕ → Held) →
+      SavedInTurn (g.S.Shelf.held l.shelf) (map (capture_in l.journal) (into_iter_items l.inbox-iterator)) new →
+      SavedInTurn (g.S.Shelf.held l.fn.shelf) (map (capture_in l.journal) (into_iter_items l.initial.inbox-iterator)) new;
+  broken : (name : List ℕ) (new : List ℕ → Held) →
+      BreaksInTurn (g.S.Shelf.held l.shelf) (map (capture_in l.journal) (into_iter_items l.inbox-iterator)) name new →
+      BreaksInTurn (g.S.Shelf.held l.fn.shelf) (map (capture_in l.journal) (into_iter_items l.initial.inbox-iterator)) name new;
+  write_faults : g.S.Shelf.write_faults l.shelf ≡ g.S.Shelf.write_faults l.fn.shelf;
+  read_faults : g.S.Shelf.read_faults l.shelf ≡ g.S.Shelf.read_faults l.fn.shelf;
+  long : into_iter_len l.inbox-iterator ≡ length (into_iter_items l.inbox-iterator);
+}

@@ -1,0 +1,16 @@
+use Rattle.std.proofs.Common.{◌++◌, ap, sym, ◌∙◌}
+use Rattle.std.specs.String.{string_bytes}
+use Rattle.pl_first_output.proofs.SummaryText.{summary_is}
+use Rattle.pl_first_output.proofs.summary.summary.Goals as goal
+
+pub returns : goal.returns
+returns c =
+    let tallied = c.in_ok-tally.ensures in
+    rw (sym c.as_slice-entries.ensures)
+    (summary_is c.args.wiring.now c.as_slice-entries.result.now c.args.steps c.args.rests.now c.args.settled _ _ _ _ _ _
+    tallied.totals
+    c.hosts-hosts.ensures.hosts
+    c.in_ok-text.ensures
+    (c.in_ok-add_cause_lines.ensures _ _ tallied)
+    (c.in_ok-add_host_lines.ensures _ tallied)
+    (c.in_ok-push_str.ensures.bytes ∙ ap (λ line. string_bytes c.add_host_lines.new.text ++ line) c.settled_line.ensures))

@@ -1,0 +1,77 @@
+ghost use Rattle.std.specs.Prelude.{◌≡◌, OnOk, OnErr};
+ghost use Rattle.pl_shelf.specs.Faults.{Counts};
+ghost use Rattle.pl_journal.specs.Text.{field_text, parted, text_after_blank, texts};
+ghost use Rattle.pl_first_output.specs.Printed.{BreaksOff, IsPrinted};
+
+use crate::printing::Piece;
+use pl_journal::{Field, Words};
+use pl_shelf::{SaveError, Shelf};
+
+impl Piece {
+    /// Prints the words, parted by blanks.
+    pub fn print_words<S: Shelf>(
+        &mut self,
+        shelf: &mut S,
+        name: &str,
+        words: &Words,
+    ) -> Result<(), SaveError>
+        ensures ok { OnOk result (IsPrinted (S.held shelf.old) (S.held shelf.new) name.now
+            self.old self.new (parted (texts words.now))) }
+        ensures err { OnErr result (BreaksOff (S.held shelf.old) (S.held shelf.new) name.now
+            self.old (parted (texts words.now))) }
+        ensures faults { Counts result (S.write_faults shelf.old) (S.write_faults shelf.new)
+            (S.read_faults shelf.old) (S.read_faults shelf.new) }
+    {
+        self.print(shelf, name, words.word.as_bytes())?;
+        for field in words.fields.as_slice() {
+            self.print_after_blank(shelf, name, *field)?;
+        }
+        Ok(())
+    }
+
+    // A field behind a blank, or nothing.
+    fn print_after_blank<S: Shelf>(
+        &mut self,
+        shelf: &mut S,
+        name: &str,
+        field: Option<Field>,
+    ) -> Result<(), SaveError>
+        ensures ok { OnOk result (IsPrinted (S.held shelf.old) (S.held shelf.new) name.now
+            self.old self.new (text_after_blank field.entry)) }
+        ensures err { OnErr result (BreaksOff (S.held shelf.old) (S.held shelf.new) name.now
+            self.old (text_after_blank field.entry)) }
+        ensures faults { Counts result (S.write_faults shelf.old) (S.write_faults shelf.new)
+            (S.read_faults shelf.old) (S.read_faults shelf.new) }
+    {
+        match field {
+            None => Ok(()),
+            Some(field) => {
+                self.print(shelf, name, b" ")?;
+                self.print_field(shelf, name, field)
+            }
+        }
+    }
+
+    fn print_field<S: Shelf>(
+        &mut self,
+        shelf: &mut S,
+        name: &str,
+        field: Field,
+    ) -> Result<(), SaveError>
+        ensures ok { OnOk result (IsPrinted (S.held shelf.old) (S.held shelf.new) name.now
+            self.old self.new (field_text field.entry)) }
+        ensures err { OnErr result (BreaksOff (S.held shelf.old) (S.held shelf.new) name.now
+            self.old (field_text field.entry)) }
+        ensures faults { Counts result (S.write_faults shelf.old) (S.write_faults shelf.new)
+            (S.read_faults shelf.old) (S.read_faults shelf.new) }
+    {
+        match field {
+            Field::Number(n) => self.print_number(shelf, name, n),
+            Field::Unknown => self.print(shelf, name, b"-"),
+            Field::Address(mac) => self.print_address(shelf, name, mac),
+            Field::Switch(label) => self.print_label(shelf, name, label),
+            Field::Text(text) => self.print(shelf, name, text.as_bytes()),
+            Field::Bytes(bytes) => self.print_hexadecimal(shelf, name, bytes),
+        }
+    }
+}

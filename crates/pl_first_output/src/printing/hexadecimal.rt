@@ -1,0 +1,97 @@
+ghost use Rattle.std.specs.Prelude.{◌≡◌, ◌≤◌, length, OnOk, OnErr};
+ghost use Rattle.hex.specs.Hex.{encode_lower};
+ghost use Rattle.pl_shelf.specs.Faults.{Counts};
+ghost use Rattle.pl_frame.specs.Address.{hex_pair, mac_text};
+ghost use Rattle.pl_first_output.specs.Printed.{BreaksOff, IsPrinted};
+
+use crate::printing::Piece;
+use pl_frame::Mac;
+use pl_shelf::{SaveError, Shelf};
+
+/// How many bytes are turned into digits at a time.
+const CHUNK_LEN: usize = 256;
+
+impl Piece {
+    /// Prints two lower-case hexadecimal digits for each byte.
+    pub fn print_hexadecimal<S: Shelf>(
+        &mut self,
+        shelf: &mut S,
+        name: &str,
+        bytes: &[u8],
+    ) -> Result<(), SaveError>
+        ensures ok { OnOk result (IsPrinted (S.held shelf.old) (S.held shelf.new) name.now
+            self.old self.new (encode_lower bytes.now)) }
+        ensures err { OnErr result (BreaksOff (S.held shelf.old) (S.held shelf.new) name.now
+            self.old (encode_lower bytes.now)) }
+        ensures faults { Counts result (S.write_faults shelf.old) (S.write_faults shelf.new)
+            (S.read_faults shelf.old) (S.read_faults shelf.new) }
+    {
+        let mut rest = bytes;
+        while !rest.is_empty() {
+            let (chunk, behind) = rest.split_at(rest.len().min(CHUNK_LEN));
+            self.print_chunk(shelf, name, chunk)?;
+            rest = behind;
+        }
+        Ok(())
+    }
+
+    fn print_chunk<S: Shelf>(
+        &mut self,
+        shelf: &mut S,
+        name: &str,
+        chunk: &[u8],
+    ) -> Result<(), SaveError>
+        requires { length chunk.now ≤ 256 }
+        ensures ok { OnOk result (IsPrinted (S.held shelf.old) (S.held shelf.new) name.now
+            self.old self.new (encode_lower chunk.now)) }
+        ensures err { OnErr result (BreaksOff (S.held shelf.old) (S.held shelf.new) name.now
+            self.old (encode_lower chunk.now)) }
+        ensures faults { Counts result (S.write_faults shelf.old) (S.write_faults shelf.new)
+            (S.read_faults shelf.old) (S.read_faults shelf.new) }
+    {
+        let mut digits = [0; 2 * CHUNK_LEN];
+        let digits = &mut digits[..2 * chunk.len()];
+        hex::encode_to_slice(chunk, digits).unwrap();
+        self.print(shelf, name, digits)
+    }
+
+    /// Prints six two-digit lower-case hexadecimal numbers joined by colons.
+    pub fn print_address<S: Shelf>(
+        &mut self,
+        shelf: &mut S,
+        name: &str,
+        mac: Mac,
+    ) -> Result<(), SaveError>
+        ensures ok { OnOk result (IsPrinted (S.held shelf.old) (S.held shelf.new) name.now
+            self.old self.new (mac_text mac)) }
+        ensures err { OnErr result (BreaksOff (S.held shelf.old) (S.held shelf.new) name.now
+            self.old (mac_text mac)) }
+        ensures faults { Counts result (S.write_faults shelf.old) (S.write_faults shelf.new)
+            (S.read_faults shelf.old) (S.read_faults shelf.new) }
+    {
+        self.print(shelf, name, &address_text(mac))
+    }
+}
+
+// The text of an address.
+fn address_text(mac: Mac) -> [u8; 17]
+    ensures { result ≡ mac_text mac }
+{
+    let [a, b, c, d, e, f] = mac.0;
+    let (a, b, c) = (digits(a), digits(b), digits(c));
+    let (d, e, f) = (digits(d), digits(e), digits(f));
+    let colon = b':';
+    [
+        a[0], a[1], colon, b[0], b[1], colon, c[0], c[1], colon, d[0], d[1], colon, e[0], e[1],
+        colon, f[0], f[1],
+    ]
+}
+
+// The two digits of a byte.
+fn digits(byte: u8) -> [u8; 2]
+    ensures { result ≡ hex_pair byte }
+{
+    let mut digits = [0; 2];
+    hex::encode_to_slice(&[byte], &mut digits).unwrap();
+    digits
+}

@@ -1,0 +1,112 @@
+ghost use Rattle.std.specs.Prelude.{◌≡◌, ℕ, List, [], All, IfErr, OnOk, OnErr, string_bytes};
+ghost use Rattle.pl_shelf.specs.Faults.{Counts};
+ghost use Rattle.pl_shelf.specs.Held.{standard_output};
+ghost use Rattle.pl_journal.specs.Text.{IsNamed, journal_text};
+ghost use Rattle.pl_first_output.specs.InTurn.{BreaksInTurn, BreaksOne, SavedInTurn, SavesOne};
+ghost use Rattle.pl_first_output.specs.Receipts.{saved_texts};
+ghost use Rattle.pl_journal.specs.Savable.{IsSavable};
+ghost use Rattle.pl_first_output.specs.Saved.{AreSaved, BreaksOff};
+ghost use Rattle.pl_first_output.specs.Texts.{AreTexts, savings_of};
+
+use crate::printing::{Piece, save_journal};
+use captures::save_captures;
+use pl_journal::Journal;
+use pl_shelf::{Shelf, save};
+use pl_wiring::{Name, Wiring};
+pub use texts::Texts;
+
+mod captures;
+mod inbox;
+mod receipt;
+mod receiving;
+mod texts;
+
+/// Saves the texts of a run: each host's capture in the order of the hosts, the journal, and the
+/// summary on standard output. Takes no memory, and answers the name at which a write failed.
+pub fn save_all<S: Shelf>(
+    shelf: &mut S,
+    wiring: &Wiring,
+    journal: &Journal,
+    texts: Texts,
+) -> Result<(), Name>
+    requires savable { All (IsSavable wiring.now) journal.now }
+    requires piece { texts.piece ≡ [] }
+    ensures ok { (out : List ℕ) → AreTexts out wiring.now journal.now texts →
+        OnOk result (AreSaved (S.held shelf.old) (S.held shelf.new)
+        (saved_texts out wiring.now journal.now (string_bytes texts.summary))) }
+    ensures err { (out : List ℕ) → AreTexts out wiring.now journal.now texts →
+        IfErr result (λ name. BreaksOff (S.held shelf.old) (S.held shelf.new)
+        (saved_texts out wiring.now journal.now (string_bytes texts.summary)) name) }
+    ensures faults { Counts result (S.write_faults shelf.old) (S.write_faults shelf.new)
+        (S.read_faults shelf.old) (S.read_faults shelf.new) }
+{
+    // The wiring's invariant is that no two hosts have one name.
+    let _hosts = wiring.hosts();
+    save_in_turn(shelf, wiring, journal, texts)
+}
+
+fn save_in_turn<S: Shelf>(
+    shelf: &mut S,
+    wiring: &Wiring,
+    journal: &Journal,
+    texts: Texts,
+) -> Result<(), Name>
+    requires savable { All (IsSavable wiring.now) journal.now }
+    requires piece { texts.piece ≡ [] }
+    ensures ok { OnOk result (SavedInTurn (S.held shelf.old)
+        (savings_of wiring.now journal.now texts) (S.held shelf.new)) }
+    ensures err { IfErr result (λ name.
+        BreaksInTurn (S.held shelf.old) (savings_of wiring.now journal.now texts) name
+        (S.held shelf.new)) }
+    ensures faults { Counts result (S.write_faults shelf.old) (S.write_faults shelf.new)
+        (S.read_faults shelf.old) (S.read_faults shelf.new) }
+{
+    let Texts {
+        inboxes,
+        journal: journal_name,
+        output,
+        summary,
+        mut piece,
+    } = texts;
+    save_captures(shelf, journal, inboxes)?;
+    save_entries(shelf, journal_name, wiring, journal, &mut piece)?;
+    save_summary(shelf, output, &summary)
+}
+
+fn save_entries<S: Shelf>(
+    shelf: &mut S,
+    name: Name,
+    wiring: &Wiring,
+    journal: &Journal,
+    piece: &mut Piece,
+) -> Result<(), Name>
+    requires named { All (IsNamed wiring.now) journal.now }
+    requires piece { piece.old ≡ [] }
+    ensures ok { OnOk result (SavesOne (S.held shelf.old) (S.held shelf.new)
+        (record { name = name; text = journal_text wiring.now journal.now })) }
+    ensures named { IfErr result (λ told. name ≡ told) }
+    ensures err { OnErr result (BreaksOne (S.held shelf.old) (S.held shelf.new)
+        (record { name = name; text = journal_text wiring.now journal.now })) }
+    ensures faults { Counts result (S.write_faults shelf.old) (S.write_faults shelf.new)
+        (S.read_faults shelf.old) (S.read_faults shelf.new) }
+{
+    match save_journal(shelf, name.text(), wiring, journal, piece) {
+        Ok(()) => Ok(()),
+        Err(_) => Err(name),
+    }
+}
+
+fn save_summary<S: Shelf>(shelf: &mut S, output: Name, summary: &str) -> Result<(), Name>
+    ensures ok { OnOk result (SavesOne (S.held shelf.old) (S.held shelf.new)
+        (record { name = output; text = summary.now })) }
+    ensures named { IfErr result (λ told. output ≡ told) }
+    ensures err { OnErr result (BreaksOne (S.held shelf.old) (S.held shelf.new)
+        (record { name = output; text = summary.now })) }
+    ensures faults { Counts result (S.write_faults shelf.old) (S.write_faults shelf.new)
+        (S.read_faults shelf.old) (S.read_faults shelf.new) }
+{
+    match save(shelf, output.text(), summary.as_bytes()) {
+        Ok(()) => Ok(()),
+        Err(_) => Err(output),
+    }
+}

@@ -1,0 +1,138 @@
+ghost use Rattle.std.specs.Prelude.{◌≡◌, ◌^◌, ◌<◌, ◌≤◌, ◌⊎◌, All, IfErr, OnOk, OnErr, length, map};
+ghost use Rattle.std.specs.List.{flat_map};
+ghost use Rattle.pl_capture.specs.declared.endianness.Endianness.TheVariants.{Little};
+ghost use Rattle.pl_capture.specs.Spelling.{packet_bytes, saved_bytes, saved_packet};
+ghost use Rattle.pl_shelf.specs.Faults.{Counts};
+ghost use Rattle.pl_shelf.specs.Held.{Changes, IsCutOff, Same, created, with_end};
+ghost use Rattle.pl_first_output.specs.InTurn.{BreaksInTurn, BreaksOne, SavedInTurn, SavesOne};
+ghost use Rattle.pl_first_output.specs.Mail.{frame_at, packets_at};
+ghost use Rattle.pl_first_output.specs.Receipts.{capture_in};
+ghost use Rattle.pl_journal.specs.Savable.{ArrivesCarried};
+
+use crate::saving::inbox::Inbox;
+use crate::saving::receipt::Receipt;
+use pl_capture::{write_header, write_record_head};
+use pl_journal::{Entry, Journal};
+use pl_shelf::{SaveError, Shelf, append, save};
+use pl_wiring::Name;
+
+/// Saves the captures of inboxes, one after the other, and takes no memory. Answers the name at which
+/// a write failed.
+pub(crate) fn save_captures<S: Shelf>(
+    shelf: &mut S,
+    journal: &Journal,
+    inboxes: Vec<Inbox>,
+) -> Result<(), Name>
+    requires { All ArrivesCarried journal.now }
+    ensures ok { OnOk result (SavedInTurn (S.held shelf.old)
+        (map (capture_in journal.now) inboxes.items) (S.held shelf.new)) }
+    ensures err { IfErr result (λ name.
+        BreaksInTurn (S.held shelf.old) (map (capture_in journal.now) inboxes.items) name
+        (S.held shelf.new)) }
+    ensures faults { Counts result (S.write_faults shelf.old) (S.write_faults shelf.new)
+        (S.read_faults shelf.old) (S.read_faults shelf.new) }
+{
+    for inbox in inboxes {
+        save_inbox(shelf, journal, inbox)?;
+    }
+    Ok(())
+}
+
+fn save_inbox<S: Shelf>(shelf: &mut S, journal: &Journal, inbox: Inbox) -> Result<(), Name>
+    requires { All ArrivesCarried journal.now }
+    ensures ok { OnOk result (SavesOne (S.held shelf.old) (S.held shelf.new)
+        (capture_in journal.now inbox)) }
+    ensures named { IfErr result (λ name. inbox.name ≡ name) }
+    ensures err { OnErr result (BreaksOne (S.held shelf.old) (S.held shelf.new)
+        (capture_in journal.now inbox)) }
+    ensures faults { Counts result (S.write_faults shelf.old) (S.write_faults shelf.new)
+        (S.read_faults shelf.old) (S.read_faults shelf.new) }
+{
+    match save_capture(shelf, inbox.name(), journal, inbox.receipts()) {
+        Ok(()) => Ok(()),
+        Err(_) => Err(inbox.into_name()),
+    }
+}
+
+/// Saves the capture of what the receipts name, and takes no memory. After a fault the name is as it
+/// was, or holds a proper front of the capture.
+pub(crate) fn save_capture<S: Shelf>(
+    shelf: &mut S,
+    name: &str,
+    journal: &Journal,
+    receipts: &[Receipt],
+) -> Result<(), SaveError>
+    requires { All ArrivesCarried journal.now }
+    ensures ok { OnOk result (Changes (S.held shelf.old) (S.held shelf.new) name.now
+        (with_end (created name.now (S.held shelf.old name.now))
+        (saved_bytes (packets_at journal.now receipts.now)))) }
+    ensures err { OnErr result (Same (S.held shelf.old) (S.held shelf.new)
+        ⊎ IsCutOff (S.held shelf.old) (S.held shelf.new) name.now
+        (created name.now (S.held shelf.old name.now))
+        (saved_bytes (packets_at journal.now receipts.now))) }
+    ensures faults { Counts result (S.write_faults shelf.old) (S.write_faults shelf.new)
+        (S.read_faults shelf.old) (S.read_faults shelf.new) }
+{
+    save(shelf, name, &write_header())?;
+    append_packets(shelf, name, journal, receipts)
+}
+
+/// Appends the records of receipts.
+fn append_packets<S: Shelf>(
+    shelf: &mut S,
+    name: &str,
+    journal: &Journal,
+    receipts: &[Receipt],
+) -> Result<(), SaveError>
+    requires { All ArrivesCarried journal.now }
+    ensures ok { OnOk result (Changes (S.held shelf.old) (S.held shelf.new) name.now
+        (with_end (S.held shelf.old name.now)
+        (flat_map (packet_bytes Little) (packets_at journal.now receipts.now)))) }
+    ensures err { OnErr result (IsCutOff (S.held shelf.old) (S.held shelf.new) name.now
+        (S.held shelf.old name.now)
+        (flat_map (packet_bytes Little) (packets_at journal.now receipts.now))) }
+    ensures faults { Counts result (S.write_faults shelf.old) (S.write_faults shelf.new)
+        (S.read_faults shelf.old) (S.read_faults shelf.new) }
+{
+    for receipt in receipts {
+        append_packet(shelf, name, *receipt, frame_at(journal, receipt.entry))?;
+    }
+    Ok(())
+}
+
+/// Appends a record: its head, and its frame.
+fn append_packet<S: Shelf>(
+    shelf: &mut S,
+    name: &str,
+    receipt: Receipt,
+    frame: &[u8],
+) -> Result<(), SaveError>
+    requires { length frame.now < 2 ^ 32 }
+    ensures ok { OnOk result (Changes (S.held shelf.old) (S.held shelf.new) name.now
+        (with_end (S.held shelf.old name.now)
+        (packet_bytes Little (saved_packet receipt.seconds receipt.micros frame.now)))) }
+    ensures err { OnErr result (IsCutOff (S.held shelf.old) (S.held shelf.new) name.now
+        (S.held shelf.old name.now)
+        (packet_bytes Little (saved_packet receipt.seconds receipt.micros frame.now))) }
+    ensures faults { Counts result (S.write_faults shelf.old) (S.write_faults shelf.new)
+        (S.read_faults shelf.old) (S.read_faults shelf.new) }
+{
+    let len = frame.len() as u32;
+    append(
+        shelf,
+        name,
+        &write_record_head(receipt.seconds, receipt.micros, len),
+    )?;
+    append(shelf, name, frame)
+}
+
+/// The frame that the entry at a place brings to a host.
+fn frame_at(journal: &Journal, place: usize) -> &[u8]
+    ensures frame { result.now ≡ frame_at journal.now place }
+    ensures carried { All ArrivesCarried journal.now → length result.now ≤ 65553 }
+{
+    match journal.get(place) {
+        Some(Entry::Arrived(_, _, frame)) => frame.bytes(),
+        _ => &[],
+    }
+}

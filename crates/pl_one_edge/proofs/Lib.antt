@@ -1,0 +1,17 @@
+pub mod Found
+pub mod Owners
+pub mod Passing
+pub mod Walks
+pub mod Ports
+pub mod Waiting
+pub mod Entries
+pub mod Crossing
+pub mod Endings
+pub mod Settling
+pub mod Playing
+pub mod OwnersFound
+pub mod Lengths
+pub mod CanBeSaved
+pub mod Shown
+pub mod AskedRecords
+pub mod DoesAsAsked

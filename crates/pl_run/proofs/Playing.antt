@@ -99,22 +99,28 @@ printed_is i p to settled text is = is ∙ summary_as i p to settled
 pub saves_run : (old new : Moment) (i : Inputs) (p : Played) (to : IsPlayedTo i p) (settled : Bool) → IsTrue settled ↔ IsSettled p.fabric.world →
     (out text : List ℕ) → text ≡ summary_by p settled → AreSaved old.held new.held (saved_texts out p.fabric.world.plan p.fabric.world.journal text) →
     new.read_faults ≡ old.read_faults → new.write_faults ≡ old.write_faults → Comes old new i (texts_of out i) status.Done
-saves_run old new i p to settled is out text told saved reads writes = (is_played i p to settled is, record {
-  saved = subst (λ s. AreSaved old.held new.held s) (texts_are i p to out settled text told) saved;
-  reads = reads;
-  writes = writes;
-})
+saves_run old new i p to settled is out text told saved reads writes = (
+  is_played i p to settled is,
+  record {
+    saved = subst (λ s. AreSaved old.held new.held s) (texts_are i p to out settled text told) saved;
+    reads = reads;
+    writes = writes;
+  },
+)
 
 pub breaks_run : (old new : Moment) (i : Inputs) (p : Played) (to : IsPlayedTo i p) (settled : Bool) → IsTrue settled ↔ IsSettled p.fabric.world →
     (out text name : List ℕ) → text ≡ summary_by p settled → BreaksOff old.held new.held (saved_texts out p.fabric.world.plan p.fabric.world.journal text) name →
     new.read_faults ≡ old.read_faults → old.write_faults ≤ new.write_faults → Rose old.write_faults new.write_faults →
     Comes old new i (texts_of out i) (status.WriteFault name)
-breaks_run old new i p to settled is out text name told saved reads grows rose = (is_played i p to settled is, record {
-  saved = subst (λ s. BreaksOff old.held new.held s name) (texts_are i p to out settled text told) saved;
-  reads = reads;
-  grows = grows;
-  rose = rose;
-})
+breaks_run old new i p to settled is out text name told saved reads grows rose = (
+  is_played i p to settled is,
+  record {
+    saved = subst (λ s. BreaksOff old.held new.held s name) (texts_are i p to out settled text told) saved;
+    reads = reads;
+    grows = grows;
+    rose = rose;
+  },
+)
 
 -- the same of the summary alone
 abbrev pub one : List ℕ → List ℕ → List Saving
@@ -127,19 +133,25 @@ one_is i p to settled output text is told = ap (λ n. one n text) is ∙ ap (λ 
 pub prints_run : (old new : Moment) (i : Inputs) (p : Played) (to : IsPlayedTo i p) (settled : Bool) → IsTrue settled ↔ IsSettled p.fabric.world →
     (output text : List ℕ) → output ≡ standard_output → text ≡ summary_by p settled → AreSaved old.held new.held (one output text) →
     new.read_faults ≡ old.read_faults → new.write_faults ≡ old.write_faults → Comes old new i (printed_of i) status.Done
-prints_run old new i p to settled is output text named told saved reads writes = (is_played i p to settled is, record {
-  saved = subst (λ s. AreSaved old.held new.held s) (one_is i p to settled output text named told) saved;
-  reads = reads;
-  writes = writes;
-})
+prints_run old new i p to settled is output text named told saved reads writes = (
+  is_played i p to settled is,
+  record {
+    saved = subst (λ s. AreSaved old.held new.held s) (one_is i p to settled output text named told) saved;
+    reads = reads;
+    writes = writes;
+  },
+)
 
 pub print_breaks : (old new : Moment) (i : Inputs) (p : Played) (to : IsPlayedTo i p) (settled : Bool) → IsTrue settled ↔ IsSettled p.fabric.world →
     (output text name : List ℕ) → output ≡ standard_output → text ≡ summary_by p settled → BreaksOff old.held new.held (one output text) name →
     new.read_faults ≡ old.read_faults → old.write_faults ≤ new.write_faults → Rose old.write_faults new.write_faults →
     Comes old new i (printed_of i) (status.WriteFault name)
-print_breaks old new i p to settled is output text name named told saved reads grows rose = (is_played i p to settled is, record {
-  saved = subst (λ s. BreaksOff old.held new.held s name) (one_is i p to settled output text named told) saved;
-  reads = reads;
-  grows = grows;
-  rose = rose;
-})
+print_breaks old new i p to settled is output text name named told saved reads grows rose = (
+  is_played i p to settled is,
+  record {
+    saved = subst (λ s. BreaksOff old.held new.held s name) (one_is i p to settled output text named told) saved;
+    reads = reads;
+    grows = grows;
+    rose = rose;
+  },
+)

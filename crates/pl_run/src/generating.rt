@@ -48,12 +48,7 @@ fn generated_inputs(alloc: Global, generation: Generation) -> Result<Inputs, Sta
     ensures ok { IfOk result (λ i. ReadsGenerated generation (inputs_of i)) }
     ensures err { IfErr result (λ e. IsUngenerated generation e) }
 {
-    let mut files = generate(
-        alloc,
-        generation.k,
-        generation.number,
-        generation.frames,
-    )?;
+    let mut files = generate(alloc, generation.k, generation.number, generation.frames)?;
     match load_inputs(alloc, &mut files, &generated_files()) {
         Ok(inputs) => Ok(inputs),
         Err(status) => Err(without_read_fault(status)),

@@ -3,14 +3,13 @@ use Rattle.std.specs.Prelude.{◌≡◌, ◌≤◌, ◌↔◌, ℕ, suc, ◌-◌
 use Rattle.std.specs.Option.{option_map_or}
 use Rattle.pl_shelf.specs.Held.{Held, Same, standard_output}
 use Rattle.pl_shelf.specs.Faults.{Rose}
-use Rattle.pl_wiring.specs.Plan.{Plan}
+use Rattle.pl_wiring.specs.declared.host.Host.{Host}
 use Rattle.pl_inputs.specs.declared.status.Status.{Status}
 use Rattle.pl_inputs.specs.declared.status.Status.TheVariants as status
 use Rattle.pl_inputs.specs.declared.step.StepReason.TheVariants as step
-use Rattle.pl_inputs.specs.Inputs.{AreRead, HasPlan, Inputs}
+use Rattle.pl_inputs.specs.Inputs.{AreRead, Inputs}
 use Rattle.pl_inputs.specs.Records.{Recorded, records_in_file, tail_of_file}
 use Rattle.pl_inputs.specs.Unread.{IsUnread}
-use Rattle.pl_inputs.specs.Loads.{IsUnplanned}
 use Rattle.pl_inputs.specs.Words.{Asked}
 use Rattle.pl_core.specs.HostViews.{held_count}
 use Rattle.pl_host_rule.specs.HostRule.{host_rule}
@@ -22,6 +21,7 @@ use Rattle.pl_world.specs.declared.limits.Limits.{Limits}
 use Rattle.pl_fabric.specs.Settled.{IsSettled}
 use Rattle.pl_lines.specs.declared.stop.Stop.{Stop}
 use Rattle.pl_lines.specs.declared.stop.Stop.TheVariants.{ExpectFailed, Refused}
+use Rattle.pl_lines.specs.Asked.{DoesAsAsked}
 use Rattle.pl_lines.specs.Lines.{Plays}
 use Rattle.pl_lines.specs.Scenes.{Scene, asked_of}
 use Rattle.pl_output.specs.declared.summary.Rest.{Rest}
@@ -55,10 +55,16 @@ rests_from n (file ∷ files) scene =
 abbrev pub summary_of : Inputs → Scene → Bool → List ℕ
 summary_of i scene settled = summary_text i.plan scene.world.journal scene.world.steps (rests_from 0 i.captures scene) settled
 
+-- each host did just what the script asks of it, and what the frames that arrived bring about
+abbrev pub HostsDoAsAsked : Inputs → Scene → Type 0
+HostsDoAsAsked i scene =
+    (n : ℕ) (host : Host) → slice_get i.plan.hosts n ≡ Some host → DoesAsAsked host_rule i.plan (records_of i) i.lines n host scene.world
+
 -- Inputs that were played to the end of the script, and whether the fabric is settled then.
 pub record IsPlayed (i : Inputs) : Type 0 where
   pub scene : Scene
   pub played : PlaysTo i None scene
+  pub deeds : HostsDoAsAsked i scene
   pub settled : Bool
   pub is_settled : IsTrue settled ↔ IsSettled scene.world
 

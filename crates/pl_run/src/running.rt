@@ -1,7 +1,9 @@
+ghost use Rattle.std.specs.Prelude.{◌≡◌, [], IfOk, length, string_bytes};
 ghost use Rattle.pl_inputs.specs.Loaded.{inputs_of};
 ghost use Rattle.pl_inputs.specs.Met.{asked};
+ghost use Rattle.pl_output.specs.Texts.{AreTexts};
 ghost use Rattle.pl_run.specs.Answers.{Answers, Comes, moment, texts_of};
-ghost use Rattle.pl_run.specs.Plays.{answer_of};
+ghost use Rattle.pl_run.specs.Plays.{answer_of, summary_by};
 
 use crate::played::{Played, play};
 use pl_fabric::settled;
@@ -34,18 +36,24 @@ fn play_and_save<S: Shelf>(
         (inputs_of inputs) (texts_of out.now (inputs_of inputs)) (answer_of result) }
 {
     let played = play(alloc, inputs)?;
-    let texts = texts_of(alloc, out, &played)?;
     let world = played.fabric.world();
+    let is_settled = settled(world);
+    let texts = texts_of(alloc, out, &played, is_settled)?;
     match save_all(shelf, world.wiring(), world.journal(), texts) {
         Ok(()) => Ok(()),
         Err(name) => Err(Status::WriteFault(name)),
     }
 }
 
-/// All that is saved of a run, with its names.
-fn texts_of(alloc: Global, out: &str, played: &Played) -> Result<Texts, Memory> {
+/// All that is saved of a run, with its names; `is_settled` says whether the fabric is settled now.
+fn texts_of(alloc: Global, out: &str, played: &Played, is_settled: bool) -> Result<Texts, Memory>
+    requires { length played.now.captures.items ≡ length played.now.fabric.world.plan.hosts }
+    ensures are { IfOk result (λ texts. AreTexts out.now played.now.fabric.world.plan played.now.fabric.world.journal texts) }
+    ensures summary { IfOk result (λ texts. string_bytes texts.summary ≡ summary_by played.now is_settled) }
+    ensures piece { IfOk result (λ texts. texts.piece ≡ []) }
+{
     let world = played.fabric.world();
-    let summary = played.summary(alloc, settled(world))?;
+    let summary = played.summary(alloc, is_settled)?;
     let piece = Piece::new(alloc)?;
     Texts::new(alloc, out, world.wiring(), world.journal(), summary, piece)
 }

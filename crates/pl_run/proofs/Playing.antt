@@ -24,14 +24,17 @@ use Rattle.pl_manager_rule.specs.ManagerRule.{manager_rule}
 use Rattle.pl_switch_rule.specs.SwitchRule.{Exact}
 use Rattle.pl_fabric.specs.Settled.{IsSettled}
 use Rattle.pl_lines.specs.declared.stop.Stop.{Stop}
-use Rattle.pl_lines.specs.Lines.{Plays}
-use Rattle.pl_lines.specs.Scenes.{Scene}
+use Rattle.pl_lines.specs.declared.stop.Stop.TheVariants.{ExpectFailed, Refused}
+use Rattle.pl_world.specs.declared.error.StepError.TheVariants as error
+use Rattle.pl_inputs.specs.declared.status.Status.{Status}
+use Rattle.pl_lines.specs.Lines.{DoesLines, Plays}
+use Rattle.pl_lines.specs.Scenes.{Scene, UnlessWanting, first_scene}
 use Rattle.pl_output.specs.Receipts.{saved_texts}
 use Rattle.pl_output.specs.Saved.{AreSaved, BreaksOff, Saving}
 use Rattle.pl_output.specs.Summary.{summary_text}
 use Rattle.pl_run.specs.declared.played.Played.{Played}
-use Rattle.pl_run.specs.Answers.{Comes, HostsDoAsAsked, IsPlayed, Moment, PlaysTo, printed_of, records_of, rests_from, run_limits, summary_of, texts_of}
-use Rattle.pl_run.specs.Plays.{IsPlayedOver, IsPlayedTo, summary_by}
+use Rattle.pl_run.specs.Answers.{Comes, HostsDoAsAsked, IsPlayed, IsStopped, Moment, PlaysTo, outcome, printed_of, records_of, rests_from, run_limits, summary_of, texts_of}
+use Rattle.pl_run.specs.Plays.{IsPlayedOver, IsPlayedTo, IsUnplayed, summary_by}
 use Rattle.pl_run.proofs.Remaining.{records_are}
 
 -- a script that was played over what was walked is played over what was read
@@ -40,6 +43,45 @@ pub plays_to : (plan : Plan) (captures : List Capture) (lines : List ScriptLine)
     PlaysTo (record { plan = plan; lines = lines; captures = files_of captures }) end scene
 plays_to plan captures lines end scene plays =
     subst (λ records. Plays Exact manager_rule host_rule plan run_limits records lines end scene) (records_are captures) plays
+
+-- the same, from what the player says
+pub plays_over : (plan : Plan) (captures cs : List Capture) (lines ls : List ScriptLine) (begins scene : Scene) (end : Option (ℕ × Stop)) →
+    cs ≡ captures → ls ≡ lines → begins ≡ first_scene plan run_limits → DoesLines Exact manager_rule host_rule (records_walked cs) ls begins end scene →
+    PlaysTo (record { plan = plan; lines = lines; captures = files_of captures }) end scene
+plays_over plan captures cs lines ls begins scene end walked read begun does =
+    plays_to plan captures lines end scene
+    (subst (λ b. DoesLines Exact manager_rule host_rule (records_walked captures) lines b end scene) begun
+    (subst (λ l. DoesLines Exact manager_rule host_rule (records_walked captures) l begins end scene) read
+    (subst (λ c. DoesLines Exact manager_rule host_rule (records_walked c) ls begins end scene) walked does)))
+
+-- a fact that holds after a stop, and what follows from it
+pub unless_map : (stop : Stop) (P Q : Type 0) → (P → Q) → UnlessWanting stop P → UnlessWanting stop Q
+unless_map ExpectFailed P Q f u = f u
+unless_map (Refused error.StepsSpent) P Q f u = f u
+unless_map (Refused error.JournalFull) P Q f u = f u
+unless_map (Refused error.NoSuch) P Q f u = f u
+unless_map (Refused error.Occupied) P Q f u = f u
+unless_map (Refused error.AlreadySo) P Q f u = f u
+unless_map (Refused error.NothingThere) P Q f u = f u
+unless_map (Refused error.Memory) P Q f u = tt
+
+stopped_so : (i : Inputs) (line : ℕ) (stop : Stop) (scene : Scene) → PlaysTo i (Some (line, stop)) scene → IsStopped i (outcome (Some (line, stop)))
+stopped_so i line stop scene plays = record { stopped = (line, stop); scene = scene; played = plays; answered = refl }
+
+-- what is answered for a script that was stopped
+unplayed_so : (i : Inputs) (line : ℕ) (stop : Stop) (scene : Scene) → UnlessWanting stop (PlaysTo i (Some (line, stop)) scene) → IsUnplayed i (outcome (Some (line, stop)))
+unplayed_so i line ExpectFailed scene u = stopped_so i line ExpectFailed scene u
+unplayed_so i line (Refused error.StepsSpent) scene u = stopped_so i line (Refused error.StepsSpent) scene u
+unplayed_so i line (Refused error.JournalFull) scene u = stopped_so i line (Refused error.JournalFull) scene u
+unplayed_so i line (Refused error.NoSuch) scene u = stopped_so i line (Refused error.NoSuch) scene u
+unplayed_so i line (Refused error.Occupied) scene u = stopped_so i line (Refused error.Occupied) scene u
+unplayed_so i line (Refused error.AlreadySo) scene u = stopped_so i line (Refused error.AlreadySo) scene u
+unplayed_so i line (Refused error.NothingThere) scene u = stopped_so i line (Refused error.NothingThere) scene u
+unplayed_so i line (Refused error.Memory) scene u = tt
+
+pub unplayed : (i : Inputs) (line : ℕ) (stop : Stop) (scene : Scene) (e : Status) → e ≡ outcome (Some (line, stop)) →
+    UnlessWanting stop (PlaysTo i (Some (line, stop)) scene) → IsUnplayed i e
+unplayed i line stop scene e is u = subst (λ x. IsUnplayed i x) (sym is) (unplayed_so i line stop scene u)
 
 -- a wiring is one at which a fabric can begin
 pub can_begin : (plan : Plan) → IsPlan plan → CanBegin plan

@@ -120,7 +120,7 @@ played_to i p laws deeds many over =
     }
 
 -- what is saved of it
-pub is_played : (i : Inputs) (p : Played) → IsPlayedTo i p → (settled : Bool) → IsTrue settled ↔ IsSettled p.fabric.world → IsPlayed i
+abbrev pub is_played : (i : Inputs) (p : Played) → IsPlayedTo i p → (settled : Bool) → IsTrue settled ↔ IsSettled p.fabric.world → IsPlayed i
 is_played i p to settled is = record { scene = p.fabric; played = to.over.played; deeds = to.deeds; settled = settled; is_settled = is }
 
 summary_as : (i : Inputs) (p : Played) → IsPlayedTo i p → (settled : Bool) → summary_by p settled ≡ summary_of i p.fabric settled
@@ -141,6 +141,7 @@ printed_is i p to settled text is = is ∙ summary_as i p to settled
 pub saves_run : (old new : Moment) (i : Inputs) (p : Played) (to : IsPlayedTo i p) (settled : Bool) → IsTrue settled ↔ IsSettled p.fabric.world →
     (out text : List ℕ) → text ≡ summary_by p settled → AreSaved old.held new.held (saved_texts out p.fabric.world.plan p.fabric.world.journal text) →
     new.read_faults ≡ old.read_faults → new.write_faults ≡ old.write_faults → Comes old new i (texts_of out i) status.Done
+unfolding saved_texts
 saves_run old new i p to settled is out text told saved reads writes = (
   is_played i p to settled is,
   record {
@@ -154,6 +155,7 @@ pub breaks_run : (old new : Moment) (i : Inputs) (p : Played) (to : IsPlayedTo i
     (out text name : List ℕ) → text ≡ summary_by p settled → BreaksOff old.held new.held (saved_texts out p.fabric.world.plan p.fabric.world.journal text) name →
     new.read_faults ≡ old.read_faults → old.write_faults ≤ new.write_faults → Rose old.write_faults new.write_faults →
     Comes old new i (texts_of out i) (status.WriteFault name)
+unfolding saved_texts
 breaks_run old new i p to settled is out text name told saved reads grows rose = (
   is_played i p to settled is,
   record {

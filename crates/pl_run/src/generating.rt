@@ -64,7 +64,6 @@ fn without_read_fault(status: Status) -> Status
     }
 }
 
-
 fn play_and_print<S: Shelf>(alloc: Global, inputs: Inputs, shelf: &mut S) -> Result<(), Status>
     ensures { Comes
         (moment (S.held shelf.old) (S.read_faults shelf.old) (S.write_faults shelf.old))

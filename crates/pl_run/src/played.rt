@@ -44,7 +44,6 @@ pub(crate) fn play(alloc: Global, inputs: Inputs) -> Result<Played, Status>
     play_script(alloc, inputs)
 }
 
-
 fn play_script(alloc: Global, inputs: Inputs) -> Result<Played, Status>
     ensures ok { IfOk result (λ played. IsPlayedOver (inputs_of inputs) played) }
     ensures err { IfErr result (λ e. IsUnplayed (inputs_of inputs) e) }

@@ -24,7 +24,6 @@ pub(crate) fn run<S: Shelf>(alloc: Global, files: &Files<'_>, shelf: &mut S) -> 
     play_and_save(alloc, files.out, inputs, shelf)
 }
 
-
 fn play_and_save<S: Shelf>(
     alloc: Global,
     out: &str,

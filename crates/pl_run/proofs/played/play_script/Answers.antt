@@ -1,4 +1,4 @@
-use Rattle.std.proofs.Common.{rules, ◌≡◌, ℕ, List, Option, Some, None, refl}
+use Rattle.std.proofs.Common.{◌≡◌, ℕ, IfOk, IfErr, List, Option, Some, None, refl, sym, subst, arith}
 use Rattle.std.proofs.lemmas.Result.{err_from_is_err_and}
 use Rattle.pl_host_rule.specs.HostRule.{host_rule}
 use Rattle.pl_manager_rule.specs.ManagerRule.{manager_rule}
@@ -7,11 +7,12 @@ use Rattle.pl_inputs.specs.Loaded.{inputs_of}
 use Rattle.pl_inputs.specs.Records.{records_of}
 use Rattle.pl_lines.specs.Lines.{DoesLines}
 use Rattle.pl_run.specs.Answers.{PlaysTo}
+use Rattle.pl_run.specs.Plays.{IsPlayedOver, IsUnplayed}
 use Rattle.pl_run.proofs.Playing.{plays_over, unless_map, unplayed}
 use Rattle.pl_run.proofs.played.play_script.Goals as goal
 
 pub begin-requires : goal.begin-requires
-begin-requires c = omega
+begin-requires c = omega arith
 
 pub play-requires-clause-counted : goal.play-requires-clause-counted
 play-requires-clause-counted c = c.in_ok-fabric.ensures.counted
@@ -21,11 +22,13 @@ play-requires-clause-hearing c = c.in_ok-fabric.ensures.hearing
 
 pub returns-in_err-fabric-clause-ok : goal.returns-in_err-fabric-clause-ok
 returns-in_err-fabric-clause-ok c =
-    let p = err_from_is_err_and c.from_residual.result c.from_residual.ensures.1 in rw p.1 tt
+    let p = err_from_is_err_and c.from_residual.result c.from_residual.ensures.1 in
+    subst (λ r. IfOk r (λ played. IsPlayedOver (inputs_of c.args.inputs) played)) (sym p.1) tt
 
 pub returns-in_err-fabric-clause-err : goal.returns-in_err-fabric-clause-err
 returns-in_err-fabric-clause-err c =
-    let p = err_from_is_err_and c.from_residual.result c.from_residual.ensures.1 in rw (p.1, p.2) tt
+    let p = err_from_is_err_and c.from_residual.result c.from_residual.ensures.1 in
+    subst (λ r. IfErr r (λ e. IsUnplayed (inputs_of c.args.inputs) e)) (sym p.1) (subst (λ e. IsUnplayed (inputs_of c.args.inputs) e) (sym p.2) tt)
 
 pub returns-in-Ok-clause-ok : goal.returns-in-Ok-clause-ok
 returns-in-Ok-clause-ok c = record {

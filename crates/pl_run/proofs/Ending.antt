@@ -9,7 +9,7 @@ use Rattle.pl_run.specs.Answers.{Answers, IsUntouched, Moment, texts_of}
 use Rattle.pl_first_inputs.specs.Inputs.{AreRead, Inputs}
 use Rattle.pl_first_inputs.specs.Loads.{Reads}
 use Rattle.pl_run.specs.Plays.{EndsRun, answer_of}
-use Rattle.pl_first_output.specs.Saved.{AreSaved, BreaksOff, IsBroken, IsWhole, OthersStay, Saving, once_saved}
+use Rattle.pl_output.specs.Saved.{AreSaved, BreaksOff, IsBroken, IsWhole, OthersStay, Saving, once_saved}
 use Rattle.pl_first_inputs.specs.Unread.{IsUnread}
 use Rattle.pl_first_inputs.specs.Words.{Asked}
 

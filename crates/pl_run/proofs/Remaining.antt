@@ -2,7 +2,7 @@
 use Rattle.std.proofs.Common.{◌≡◌, ℕ, suc, ◌+◌, ◌<◌, List, [], ◌∷◌, ◌++◌, length, drop, get_or, map, Bool, Result, Err, refl, sym, ap, ◌∙◌, subst, add-one, append_assoc}
 use Rattle.std.proofs.Math.Seq.{drop-cons}
 use Rattle.pl_first_inputs.specs.declared.capture.Capture.{Capture}
-use Rattle.pl_first_output.specs.declared.summary.Rest.{Rest}
+use Rattle.pl_output.specs.declared.summary.Rest.{Rest}
 use Rattle.pl_wiring.specs.Plan.{Plan}
 use Rattle.pl_script.specs.declared.script.ScriptLine.{ScriptLine}
 use Rattle.pl_one_edge.specs.declared.player.error.PlayError.{PlayError}
@@ -13,7 +13,7 @@ use Rattle.pl_one_edge.specs.Captures.{records_by, records_in_file, records_of, 
 use Rattle.pl_first_inputs.specs.Loaded.{files_of}
 use Rattle.pl_one_edge.specs.Machine.{Recorded, Refusal, State, play, records_left}
 use Rattle.pl_one_edge.specs.Outcome.{PlaysTo}
-use Rattle.pl_first_output.specs.Summary.{summary_text}
+use Rattle.pl_output.specs.Summary.{summary_text}
 
 -- the records that were walked are those of the files
 pub records_are : (captures : List Capture) → records_of captures ≡ map records_in_file (files_of captures)

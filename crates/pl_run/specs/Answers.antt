@@ -11,14 +11,14 @@ use Rattle.pl_script.specs.declared.script.ScriptLine.{ScriptLine}
 use Rattle.pl_first_inputs.specs.declared.status.Status.{Status}
 use Rattle.pl_first_inputs.specs.declared.status.Status.TheVariants as status
 use Rattle.pl_first_inputs.specs.declared.step.StepReason.{StepReason}
-use Rattle.pl_first_output.specs.declared.summary.Rest.{Rest}
+use Rattle.pl_output.specs.declared.summary.Rest.{Rest}
 use Rattle.pl_one_edge.specs.Asked.{deeds_asked, deeds_in}
 use Rattle.pl_one_edge.specs.Captures.{records_in_file, tail_of_file}
 use Rattle.pl_first_inputs.specs.Inputs.{AreRead, Inputs}
 use Rattle.pl_one_edge.specs.Machine.{Recorded, Refusal, State, play, records_left}
-use Rattle.pl_first_output.specs.Receipts.{saved_texts}
-use Rattle.pl_first_output.specs.Saved.{AreSaved, BreaksOff, Saving}
-use Rattle.pl_first_output.specs.Summary.{summary_text}
+use Rattle.pl_output.specs.Receipts.{saved_texts}
+use Rattle.pl_output.specs.Saved.{AreSaved, BreaksOff, Saving}
+use Rattle.pl_output.specs.Summary.{summary_text}
 use Rattle.pl_first_inputs.specs.Unread.{IsUnread}
 use Rattle.pl_first_inputs.specs.Words.{Asked}
 

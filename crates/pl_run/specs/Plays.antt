@@ -6,7 +6,7 @@ use Rattle.pl_first_inputs.specs.declared.status.Status.TheVariants as status
 use Rattle.pl_run.specs.Answers.{IsLossyRun, IsUntouched, Moment, run_of, texts_of}
 use Rattle.pl_first_inputs.specs.Inputs.{Inputs}
 use Rattle.pl_one_edge.specs.Machine.{State}
-use Rattle.pl_first_output.specs.Saved.{AreSaved, BreaksOff}
+use Rattle.pl_output.specs.Saved.{AreSaved, BreaksOff}
 
 -- it was not played to the end of the script
 abbrev pub IsUnplayed : Inputs → Status → Type 0

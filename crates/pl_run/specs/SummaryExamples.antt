@@ -1,9 +1,9 @@
 -- Two summaries: of a run without lines, and of the first path.
 use Rattle.std.specs.Prelude.{◌≡◌, [], ◌∷◌, ◌++◌, codes, true, false, refl}
 use Rattle.std.specs.Fmt.{digits}
-use Rattle.pl_first_output.specs.declared.summary.Rest.{Rest}
+use Rattle.pl_output.specs.declared.summary.Rest.{Rest}
 use Rattle.pl_one_edge.specs.FirstPath.{the_plan, the_journal}
-use Rattle.pl_first_output.specs.Summary.{summary_text, fabric_line, steps_line, frames_line, begun_text, ended_text, cause_line, host_line, counts_text, rest_text}
+use Rattle.pl_output.specs.Summary.{summary_text, fabric_line, steps_line, frames_line, begun_text, ended_text, cause_line, host_line, counts_text, rest_text}
 
 abbrev nothing_left : Rest
 nothing_left = record { held = 0; unread = 0; tail = 0 }

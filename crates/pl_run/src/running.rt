@@ -8,11 +8,11 @@ ghost use Rattle.pl_journal.specs.Savable.{IsSavable};
 
 use crate::running::texts::texts_of;
 use pl_first_inputs::{Files, Inputs, Status, load_inputs};
-use pl_first_output::save_all;
 use pl_one_edge::{
     MachineState, PlayError, every_entry_can_be_saved, hosts_do_what_is_asked, one_lossy_switch,
     play,
 };
+use pl_output::save_all;
 use pl_shelf::Shelf;
 use std::alloc::Global;
 

@@ -4,13 +4,13 @@ ghost use Rattle.pl_one_edge.specs.Captures.{records_of};
 ghost use Rattle.pl_first_inputs.specs.Loaded.{files_of, inputs_of};
 ghost use Rattle.pl_one_edge.specs.Machine.{records_left};
 ghost use Rattle.pl_one_edge.specs.MachineStates.{state_of};
-ghost use Rattle.pl_first_output.specs.Texts.{AreTexts};
+ghost use Rattle.pl_output.specs.Texts.{AreTexts};
 
 use pl_first_inputs::{Capture, Inputs};
-use pl_first_output::summary::{Rest, summary};
-use pl_first_output::{Piece, Texts};
 use pl_frame::Memory;
 use pl_one_edge::{MachineState, record_count};
+use pl_output::summary::{Rest, summary};
+use pl_output::{Piece, Texts};
 use pl_script::{Command, ScriptLine};
 use pl_wiring::HostNo;
 use std::alloc::Global;

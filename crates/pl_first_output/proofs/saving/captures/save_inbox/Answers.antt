@@ -1,7 +1,0 @@
-use Rattle.pl_first_output.proofs.saving.captures.save_inbox.Goals as goal
-
-pub returns-in-Ok-clause-ok : goal.returns-in-Ok-clause-ok
-returns-in-Ok-clause-ok g c = rw (c.name.ensures, c.receipts.ensures) at c.in-Ok.ensures.ok
-
-pub returns-in-Err-clause-err : goal.returns-in-Err-clause-err
-returns-in-Err-clause-err g c = rw (c.name.ensures, c.receipts.ensures) at c.in-Err.ensures.err

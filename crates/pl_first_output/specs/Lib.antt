@@ -1,9 +1,0 @@
-pub mod Received
-pub mod Saved
-pub mod Printed
-pub mod Summary
-pub mod Tallied
-pub mod Mail
-pub mod Receipts
-pub mod InTurn
-pub mod Texts

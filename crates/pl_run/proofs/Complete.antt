@@ -5,10 +5,12 @@ use Rattle.pl_shelf.specs.Held.{Held, IsLonger, IsWhole, holds}
 use Rattle.pl_wiring.specs.declared.host.Host.{Host}
 use Rattle.pl_wiring.specs.Plan.{Plan}
 use Rattle.pl_script.specs.declared.script.ScriptLine.{ScriptLine}
+use Rattle.pl_script.specs.Meaning.{script_of}
+use Rattle.pl_topology.specs.Meaning.{topology_of}
 use Rattle.pl_run.specs.Complete.{AreCapturesTold, AreTold, IsCaptureTold, IsTold}
-use Rattle.pl_first_inputs.specs.Folders.{in_folder}
-use Rattle.pl_first_inputs.specs.Inputs.{AreCaptures, AreRead, HasLines, HasPlan, Inputs, IsCaptureAt, lines_of, plan_of}
-use Rattle.pl_first_inputs.specs.Words.{Asked}
+use Rattle.pl_inputs.specs.Folders.{in_folder}
+use Rattle.pl_inputs.specs.Inputs.{AreCaptures, AreRead, HasLines, HasPlan, Inputs, IsCaptureAt}
+use Rattle.pl_inputs.specs.Words.{Asked}
 
 pub ok_err : {T E : Type 0} (r : Result T E) (x : T) (e : E) → r ≡ Ok x → r ≡ Err e → ⊥
 ok_err r x e ok err = cc
@@ -39,13 +41,13 @@ not_longer held name told file limit whole within longer =
 pub one_plan : (held : List ℕ → Held) (name : List ℕ) → IsTold held name → (plan other : Plan) → HasPlan held name plan → HasPlan held name other → plan ≡ other
 one_plan held name told plan other is was =
     let same : is.0 ≡ was.0 = one_file held name told is.0 was.0 is.1.whole was.1.whole in
-    one_ok (plan_of is.0) plan other is.2 (ap plan_of same ∙ was.2)
+    one_ok (topology_of is.0) plan other is.2 (ap topology_of same ∙ was.2)
 
 pub one_script : (held : List ℕ → Held) (name : List ℕ) → IsTold held name → (plan : Plan) (lines others : List ScriptLine) → HasLines held name plan lines →
     HasLines held name plan others → lines ≡ others
 one_script held name told plan lines others is was =
     let same : is.0 ≡ was.0 = one_file held name told is.0 was.0 is.1.whole was.1.whole in
-    one_ok (lines_of plan is.0) lines others is.2 (ap (lines_of plan) same ∙ was.2)
+    one_ok (script_of plan is.0) lines others is.2 (ap (script_of plan) same ∙ was.2)
 
 pub one_capture : (held : List ℕ → Held) (folder : List ℕ) (capture : Option (List ℕ)) → IsCaptureTold held folder capture → (file other : List ℕ) →
     IsCaptureAt held folder capture file → IsCaptureAt held folder capture other → file ≡ other

@@ -6,15 +6,16 @@ use Rattle.pl_capture.specs.CaptureError.{offset_of}
 use Rattle.pl_wiring.specs.declared.host.Host.{Host}
 use Rattle.pl_wiring.specs.Plan.{Plan}
 use Rattle.pl_script.specs.declared.error.ScriptError.TheVariants.{Line}
-use Rattle.pl_first_inputs.specs.declared.status.Status.{Status}
-use Rattle.pl_first_inputs.specs.declared.status.Status.TheVariants as status
+use Rattle.pl_inputs.specs.declared.status.Status.{Status}
+use Rattle.pl_inputs.specs.declared.status.Status.TheVariants as status
 use Rattle.pl_run.specs.Answers.{Answers, Moment}
-use Rattle.pl_run.specs.Complete.{AnswersBadCapture, AnswersLongCapture, AreCapturesTold, IsTold}
-use Rattle.pl_first_inputs.specs.Inputs.{AreCaptures, AreRead, HasPlan, Inputs, text_limit}
-use Rattle.pl_first_inputs.specs.Unread.{ComesTo, IsRefusedCapture, IsTooMuch}
-use Rattle.pl_first_inputs.specs.Words.{Asked}
+use Rattle.pl_run.specs.Complete.{AnswersBadCapture, AnswersLongCapture, AreCapturesTold, IsComplete, IsTold}
+use Rattle.pl_inputs.specs.Inputs.{AreCaptures, AreRead, HasPlan, Inputs, text_limit}
+use Rattle.pl_inputs.specs.Unread.{ComesTo, IsRefusedCapture, IsTooMuch}
+use Rattle.pl_inputs.specs.Words.{Asked}
 use Rattle.pl_run.proofs.Complete.{one_plan}
-use Rattle.pl_run.proofs.CompleteAnswers.{no_bad_script, no_bad_topology, no_long_script, no_long_topology, no_read_fault, no_write_fault}
+use Rattle.pl_run.proofs.CompleteAnswers.{OneEnd, answers_by_playing, answers_inputs}
+use Rattle.pl_run.proofs.Stages.{answers_bad_script, answers_bad_topology, answers_long_script, answers_long_topology, no_bad_script, no_bad_topology, no_long_script, no_long_topology, no_read_fault, no_write_fault}
 use Rattle.pl_run.proofs.CompleteCaptures.{IsStop, long_stop, none_stops, one_name, one_reason, one_stop, refused_not_long, refused_stop}
 
 next : (held : List ℕ → Held) (folder : List ℕ) (hosts : List Host) (n : ℕ) → AreCapturesTold held folder (take (n + 1) hosts) → AreCapturesTold held folder (take (suc n) hosts)
@@ -65,21 +66,30 @@ same_bad held folder hosts n m e f at r s told is =
 pub answers_bad_capture : (old new : Moment) (asked : Asked) (e : Status) → Answers old new asked e → AnswersBadCapture old new asked e
 answers_bad_capture old new asked status.Done a plan n e told texts r none =
     absurd (not_all old.held asked plan n.0 r.host r.comes told.topology (next old.held asked.captures plan.hosts n.0 told.captures) texts.topology
-    (refused_stop old.held asked.captures plan.hosts n.0 e r) a.is.inputs a.is.read)
+    (refused_stop old.held asked.captures plan.hosts n.0 e r) a.0 a.1)
 answers_bad_capture old new asked (status.Refused line cause) a plan n e told texts r none =
     absurd (not_all old.held asked plan n.0 r.host r.comes told.topology (next old.held asked.captures plan.hosts n.0 told.captures) texts.topology
-    (refused_stop old.held asked.captures plan.hosts n.0 e r) a.0.inputs a.0.read)
-answers_bad_capture old new asked (status.WriteFault name) a plan n e told texts r none = absurd (no_write_fault old new none a.rose)
+    (refused_stop old.held asked.captures plan.hosts n.0 e r) a.0 a.1)
+answers_bad_capture old new asked (status.ExpectFailed line) a plan n e told texts r none =
+    absurd (not_all old.held asked plan n.0 r.host r.comes told.topology (next old.held asked.captures plan.hosts n.0 told.captures) texts.topology
+    (refused_stop old.held asked.captures plan.hosts n.0 e r) a.0 a.1)
+answers_bad_capture old new asked (status.StepsSpent line) a plan n e told texts r none =
+    absurd (not_all old.held asked plan n.0 r.host r.comes told.topology (next old.held asked.captures plan.hosts n.0 told.captures) texts.topology
+    (refused_stop old.held asked.captures plan.hosts n.0 e r) a.0 a.1)
+answers_bad_capture old new asked (status.JournalFull line) a plan n e told texts r none =
+    absurd (not_all old.held asked plan n.0 r.host r.comes told.topology (next old.held asked.captures plan.hosts n.0 told.captures) texts.topology
+    (refused_stop old.held asked.captures plan.hosts n.0 e r) a.0 a.1)
+answers_bad_capture old new asked (status.WriteFault name) a plan n e told texts r none = absurd (no_write_fault old new none a.2.1.rose)
 answers_bad_capture old new asked (status.ReadFault name) a plan n e told texts r none = absurd (no_read_fault old new none a.1.rose)
 answers_bad_capture old new asked (status.TooLong name) (inl l, stays) plan n e told texts r none =
-    absurd (no_long_topology old.held asked plan told.topology texts.topology (subst (λ n. IsLonger (old.held n) text_limit) l.0 l.1))
+    absurd (no_long_topology old.held asked.topology plan told.topology texts.topology (subst (λ n. IsLonger (old.held n) text_limit) l.0 l.1))
 answers_bad_capture old new asked (status.TooLong name) (inr (inl l), stays) plan n e told texts r none =
     absurd (no_long_script old.held asked plan texts.lines told.script texts.script (subst (λ n. IsLonger (old.held n) text_limit) l.2 l.3))
 answers_bad_capture old new asked (status.TooLong name) (inr (inr l), stays) plan n e told texts r none =
     absurd (not_both old.held asked.captures plan.hosts n.0 e name r (much_of old.held asked plan l.0 name told.topology texts.topology l.1.topology l.2)
     (next old.held asked.captures plan.hosts n.0 told.captures))
 answers_bad_capture old new asked (status.BadTopology cause) a plan n e told texts r none =
-    absurd (no_bad_topology old.held asked plan told.topology texts.topology a.0.1.0 cause a.0.1.1 a.0.1.2)
+    absurd (no_bad_topology old.held asked.topology plan told.topology texts.topology a.0.1.0 cause a.0.1.1 a.0.1.2)
 answers_bad_capture old new asked (status.BadScript line cause) a plan n e told texts r none =
     absurd (no_bad_script old.held asked plan a.0.0 texts.lines told.topology told.script texts.topology a.0.1 texts.script a.0.2.0 (Line line cause) a.0.2.1 a.0.2.2)
 answers_bad_capture old new asked (status.BadCapture m f at) a plan n e told texts r none =
@@ -98,21 +108,30 @@ same_long held folder hosts name other m l told =
 pub answers_long_capture : (old new : Moment) (asked : Asked) (e : Status) → Answers old new asked e → AnswersLongCapture old new asked e
 answers_long_capture old new asked status.Done a plan name texts m told none =
     absurd (not_all old.held asked plan m.n m.host m.comes told.topology (next old.held asked.captures plan.hosts m.n told.captures) texts.topology
-    (long_stop old.held asked.captures plan.hosts name m) a.is.inputs a.is.read)
+    (long_stop old.held asked.captures plan.hosts name m) a.0 a.1)
 answers_long_capture old new asked (status.Refused line cause) a plan name texts m told none =
     absurd (not_all old.held asked plan m.n m.host m.comes told.topology (next old.held asked.captures plan.hosts m.n told.captures) texts.topology
-    (long_stop old.held asked.captures plan.hosts name m) a.0.inputs a.0.read)
-answers_long_capture old new asked (status.WriteFault file) a plan name texts m told none = absurd (no_write_fault old new none a.rose)
+    (long_stop old.held asked.captures plan.hosts name m) a.0 a.1)
+answers_long_capture old new asked (status.ExpectFailed line) a plan name texts m told none =
+    absurd (not_all old.held asked plan m.n m.host m.comes told.topology (next old.held asked.captures plan.hosts m.n told.captures) texts.topology
+    (long_stop old.held asked.captures plan.hosts name m) a.0 a.1)
+answers_long_capture old new asked (status.StepsSpent line) a plan name texts m told none =
+    absurd (not_all old.held asked plan m.n m.host m.comes told.topology (next old.held asked.captures plan.hosts m.n told.captures) texts.topology
+    (long_stop old.held asked.captures plan.hosts name m) a.0 a.1)
+answers_long_capture old new asked (status.JournalFull line) a plan name texts m told none =
+    absurd (not_all old.held asked plan m.n m.host m.comes told.topology (next old.held asked.captures plan.hosts m.n told.captures) texts.topology
+    (long_stop old.held asked.captures plan.hosts name m) a.0 a.1)
+answers_long_capture old new asked (status.WriteFault file) a plan name texts m told none = absurd (no_write_fault old new none a.2.1.rose)
 answers_long_capture old new asked (status.ReadFault file) a plan name texts m told none = absurd (no_read_fault old new none a.1.rose)
 answers_long_capture old new asked (status.TooLong other) (inl l, stays) plan name texts m told none =
-    absurd (no_long_topology old.held asked plan told.topology texts.topology (subst (λ n. IsLonger (old.held n) text_limit) l.0 l.1))
+    absurd (no_long_topology old.held asked.topology plan told.topology texts.topology (subst (λ n. IsLonger (old.held n) text_limit) l.0 l.1))
 answers_long_capture old new asked (status.TooLong other) (inr (inl l), stays) plan name texts m told none =
     absurd (no_long_script old.held asked plan texts.lines told.script texts.script (subst (λ n. IsLonger (old.held n) text_limit) l.2 l.3))
 answers_long_capture old new asked (status.TooLong other) (inr (inr l), stays) plan name texts m told none =
     inl (ap (λ n. status.TooLong n) (same_long old.held asked.captures plan.hosts name other m
     (much_of old.held asked plan l.0 other told.topology texts.topology l.1.topology l.2) (next old.held asked.captures plan.hosts m.n told.captures)))
 answers_long_capture old new asked (status.BadTopology cause) a plan name texts m told none =
-    absurd (no_bad_topology old.held asked plan told.topology texts.topology a.0.1.0 cause a.0.1.1 a.0.1.2)
+    absurd (no_bad_topology old.held asked.topology plan told.topology texts.topology a.0.1.0 cause a.0.1.1 a.0.1.2)
 answers_long_capture old new asked (status.BadScript line cause) a plan name texts m told none =
     absurd (no_bad_script old.held asked plan a.0.0 texts.lines told.topology told.script texts.topology a.0.1 texts.script a.0.2.0 (Line line cause) a.0.2.1 a.0.2.2)
 answers_long_capture old new asked (status.BadCapture n e at) a plan name texts m told none =
@@ -120,3 +139,16 @@ answers_long_capture old new asked (status.BadCapture n e at) a plan name texts 
     (next old.held asked.captures plan.hosts m.n told.captures))
 answers_long_capture old new asked status.OutOfMemory a plan name texts m told none = inr refl
 answers_long_capture old new asked status.Usage a plan name texts m told none = absurd a.0
+
+-- all of it
+pub is_complete : OneEnd → (old new : Moment) (asked : Asked) (e : Status) → Answers old new asked e → IsComplete old new asked e
+is_complete one old new asked e a = record {
+  played = answers_by_playing old new asked e a;
+  inputs = answers_inputs one old new asked e a;
+  bad_topology = answers_bad_topology old new asked e a;
+  long_topology = answers_long_topology old new asked e a;
+  bad_script = answers_bad_script old new asked e a;
+  long_script = answers_long_script old new asked e a;
+  bad_capture = answers_bad_capture old new asked e a;
+  long_capture = answers_long_capture old new asked e a;
+}

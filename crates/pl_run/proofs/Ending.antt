@@ -1,17 +1,25 @@
--- What comes of a run, told of the shelf at first.
-use Rattle.std.proofs.Common.{◌≡◌, ℕ, ◌≤◌, List, [], ◌∷◌, ◌++◌, take, All, Result, Ok, Err, ap, ◌∙◌, subst, inl, inr}
+-- What comes of inputs that were read, told of the shelf at first.
+use Rattle.std.proofs.Common.{◌≡◌, ℕ, ◌≤◌, Bool, true, false, List, [], ◌∷◌, ◌++◌, take, All, Option, Some, Result, Err, refl, sym, ap, ◌∙◌, subst, inl, inr}
 use Rattle.std.proofs.lemmas.List.Elements.{All-weaker}
 use Rattle.pl_shelf.specs.Held.{Held, Same}
 use Rattle.pl_shelf.specs.Faults.{Rose}
-use Rattle.pl_first_inputs.specs.declared.status.Status.{Status}
-use Rattle.pl_first_inputs.specs.declared.status.Status.TheVariants as status
-use Rattle.pl_run.specs.Answers.{Answers, IsUntouched, Moment, texts_of}
-use Rattle.pl_first_inputs.specs.Inputs.{AreRead, Inputs}
-use Rattle.pl_first_inputs.specs.Loads.{Reads}
-use Rattle.pl_run.specs.Plays.{EndsRun, answer_of}
+use Rattle.pl_wiring.specs.Plan.{Plan}
+use Rattle.pl_inputs.specs.declared.status.Status.{Status}
+use Rattle.pl_inputs.specs.declared.status.Status.TheVariants as status
+use Rattle.pl_inputs.specs.declared.words.Generation.{Generation}
+use Rattle.pl_inputs.specs.Inputs.{AreRead, HasPlan, Inputs}
+use Rattle.pl_inputs.specs.Loads.{IsUnplanned, Reads}
+use Rattle.pl_inputs.specs.Unread.{IsUnread}
+use Rattle.pl_inputs.specs.Words.{Asked}
 use Rattle.pl_output.specs.Saved.{AreSaved, BreaksOff, IsBroken, IsWhole, OthersStay, Saving, once_saved}
-use Rattle.pl_first_inputs.specs.Unread.{IsUnread}
-use Rattle.pl_first_inputs.specs.Words.{Asked}
+use Rattle.pl_lines.specs.declared.stop.Stop.{Stop}
+use Rattle.pl_lines.specs.declared.stop.Stop.TheVariants.{ExpectFailed, Refused}
+use Rattle.pl_world.specs.declared.error.StepError.TheVariants as error
+use Rattle.pl_run.specs.Answers.{Answers, Comes, IsPlayed, IsStopped, IsUntouched, Moment, Saves, SavingFails, outcome, printed_of, texts_of}
+use Rattle.pl_run.specs.Checks.{AnswersCheck, EndsCheck, line_of}
+use Rattle.pl_run.specs.Generated.{AnswersGenerated, IsUngenerated, ReadsGenerated, generated_files, without_read_fault}
+use Rattle.pl_generator.specs.Generated.{AreGenerated}
+use Rattle.pl_run.specs.Plays.{IsUnplayed}
 
 -- a shelf that holds the same, and of which no call failed
 pub record IsSameMoment (old new : Moment) : Type 0 where
@@ -50,32 +58,76 @@ untouched_since : (old mid new : Moment) → IsSameMoment old mid → IsUntouche
 untouched_since old mid new is then =
     record { same = λ q. then.same q ∙ is.same q; reads = then.reads ∙ is.reads; writes = then.writes ∙ is.writes }
 
+saves_since : (old mid new : Moment) → IsSameMoment old mid → (savings : List Saving) → Saves mid new savings → Saves old new savings
+saves_since old mid new is savings s = record {
+  saved = saved_since old.held mid.held new.held is.same savings s.saved;
+  reads = s.reads ∙ is.reads;
+  writes = s.writes ∙ is.writes;
+}
+
+fails_since : (old mid new : Moment) → IsSameMoment old mid → (savings : List Saving) (name : List ℕ) → SavingFails mid new savings name → SavingFails old new savings name
+fails_since old mid new is savings name s = record {
+  saved = off_since old.held mid.held new.held is.same savings name s.saved;
+  reads = s.reads ∙ is.reads;
+  grows = subst (λ n. n ≤ new.write_faults) is.writes s.grows;
+  rose = subst (λ n. Rose n new.write_faults) is.writes s.rose;
+}
+
+pub comes_since : (old mid new : Moment) → IsSameMoment old mid → (i : Inputs) (texts : IsPlayed i → List Saving) (e : Status) → Comes mid new i texts e → Comes old new i texts e
+comes_since old mid new is i texts status.Done c = (c.0, saves_since old mid new is (texts c.0) c.1)
+comes_since old mid new is i texts (status.WriteFault name) c = (c.0, fails_since old mid new is (texts c.0) name c.1)
+comes_since old mid new is i texts status.OutOfMemory c = untouched_since old mid new is c
+comes_since old mid new is i texts status.Usage c = (c.0, untouched_since old mid new is c.1)
+comes_since old mid new is i texts (status.ReadFault name) c = (c.0, untouched_since old mid new is c.1)
+comes_since old mid new is i texts (status.TooLong name) c = (c.0, untouched_since old mid new is c.1)
+comes_since old mid new is i texts (status.BadTopology reason) c = (c.0, untouched_since old mid new is c.1)
+comes_since old mid new is i texts (status.BadScript line reason) c = (c.0, untouched_since old mid new is c.1)
+comes_since old mid new is i texts (status.BadCapture host e at) c = (c.0, untouched_since old mid new is c.1)
+comes_since old mid new is i texts (status.ExpectFailed line) c = (c.0, untouched_since old mid new is c.1)
+comes_since old mid new is i texts (status.Refused line reason) c = (c.0, untouched_since old mid new is c.1)
+comes_since old mid new is i texts (status.StepsSpent line) c = (c.0, untouched_since old mid new is c.1)
+comes_since old mid new is i texts (status.JournalFull line) c = (c.0, untouched_since old mid new is c.1)
+
+-- the answers that a stopped script has
+abbrev is_of_stop : Status → Bool
+is_of_stop (status.ExpectFailed line) = true
+is_of_stop (status.Refused line reason) = true
+is_of_stop (status.StepsSpent line) = true
+is_of_stop (status.JournalFull line) = true
+is_of_stop status.OutOfMemory = true
+is_of_stop _ = false
+
+outcome_is : (stopped : ℕ × Stop) → is_of_stop (outcome (Some stopped)) ≡ true
+outcome_is (line, ExpectFailed) = refl
+outcome_is (line, Refused error.StepsSpent) = refl
+outcome_is (line, Refused error.JournalFull) = refl
+outcome_is (line, Refused error.NoSuch) = refl
+outcome_is (line, Refused error.Occupied) = refl
+outcome_is (line, Refused error.AlreadySo) = refl
+outcome_is (line, Refused error.NothingThere) = refl
+outcome_is (line, Refused error.Memory) = refl
+
+not_both : (b : Bool) → b ≡ false → b ≡ true → ⊥
+not_both b is was = cc
+
+pub no_stop : (i : Inputs) (e : Status) → is_of_stop e ≡ false → IsStopped i e → ⊥
+no_stop i e other s = not_both (is_of_stop e) other (ap is_of_stop s.answered ∙ outcome_is s.stopped)
+
 -- a run whose inputs were read
-pub run_answers : (old mid new : Moment) (asked : Asked) (i : Inputs) → AreRead old.held asked i → IsSameMoment old mid →
-    (r : Result (Unit {0}) Status) → EndsRun mid new asked.out i r → Answers old new asked (answer_of r)
-run_answers old mid new asked i read is (Ok u) ends = record {
-  is = record { inputs = i; read = read; end = ends.end; played = ends.played; lossy = ends.lossy };
-  saved = saved_since old.held mid.held new.held is.same (texts_of asked.out i ends.end) ends.saved;
-  reads = ends.reads ∙ is.reads;
-  writes = ends.writes ∙ is.writes;
-}
-run_answers old mid new asked i read is (Err (status.WriteFault name)) ends = record {
-  is = record { inputs = i; read = read; end = ends.end; played = ends.played; lossy = ends.lossy };
-  saved = off_since old.held mid.held new.held is.same (texts_of asked.out i ends.end) name ends.saved;
-  reads = ends.reads ∙ is.reads;
-  grows = subst (λ n. n ≤ new.write_faults) is.writes ends.grows;
-  rose = subst (λ n. Rose n new.write_faults) is.writes ends.rose;
-}
-run_answers old mid new asked i read is (Err (status.Refused line reason)) ends =
-    (record { inputs = i; read = read; refused = ends.0 }, untouched_since old mid new is ends.1)
-run_answers old mid new asked i read is (Err status.OutOfMemory) ends = (tt, untouched_since old mid new is ends)
-run_answers old mid new asked i read is (Err status.Done) ends = absurd ends
-run_answers old mid new asked i read is (Err status.Usage) ends = absurd ends
-run_answers old mid new asked i read is (Err (status.ReadFault name)) ends = absurd ends
-run_answers old mid new asked i read is (Err (status.TooLong name)) ends = absurd ends
-run_answers old mid new asked i read is (Err (status.BadTopology reason)) ends = absurd ends
-run_answers old mid new asked i read is (Err (status.BadScript line reason)) ends = absurd ends
-run_answers old mid new asked i read is (Err (status.BadCapture host e at)) ends = absurd ends
+pub run_answers : (old new : Moment) (asked : Asked) (i : Inputs) → AreRead old.held asked i → (e : Status) → Comes old new i (texts_of asked.out i) e → Answers old new asked e
+run_answers old new asked i read status.Done c = (i, read, c)
+run_answers old new asked i read (status.WriteFault name) c = (i, read, c)
+run_answers old new asked i read (status.ExpectFailed line) c = (i, read, c)
+run_answers old new asked i read (status.Refused line reason) c = (i, read, c)
+run_answers old new asked i read (status.StepsSpent line) c = (i, read, c)
+run_answers old new asked i read (status.JournalFull line) c = (i, read, c)
+run_answers old new asked i read status.OutOfMemory c = (tt, c)
+run_answers old new asked i read status.Usage c = absurd (no_stop i status.Usage refl c.0)
+run_answers old new asked i read (status.ReadFault name) c = absurd (no_stop i (status.ReadFault name) refl c.0)
+run_answers old new asked i read (status.TooLong name) c = absurd (no_stop i (status.TooLong name) refl c.0)
+run_answers old new asked i read (status.BadTopology reason) c = absurd (no_stop i (status.BadTopology reason) refl c.0)
+run_answers old new asked i read (status.BadScript line reason) c = absurd (no_stop i (status.BadScript line reason) refl c.0)
+run_answers old new asked i read (status.BadCapture host e at) c = absurd (no_stop i (status.BadCapture host e at) refl c.0)
 
 -- a run whose inputs were not read
 pub unread_answers : (old new : Moment) (asked : Asked) → Same old.held new.held → new.write_faults ≡ old.write_faults → (e : Status) →
@@ -90,4 +142,113 @@ unread_answers old new asked same writes status.OutOfMemory u reads = (u, record
 unread_answers old new asked same writes status.Done u reads = absurd u
 unread_answers old new asked same writes status.Usage u reads = absurd u
 unread_answers old new asked same writes (status.WriteFault name) u reads = absurd u
+unread_answers old new asked same writes (status.ExpectFailed line) u reads = absurd u
 unread_answers old new asked same writes (status.Refused line reason) u reads = absurd u
+unread_answers old new asked same writes (status.StepsSpent line) u reads = absurd u
+unread_answers old new asked same writes (status.JournalFull line) u reads = absurd u
+
+-- a script that was not played to its end
+pub unplayed_comes : (old new : Moment) → IsUntouched old new → (i : Inputs) (texts : IsPlayed i → List Saving) (e : Status) → IsUnplayed i e → Comes old new i texts e
+unplayed_comes old new stays i texts status.Done u = absurd (no_stop i status.Done refl u)
+unplayed_comes old new stays i texts (status.WriteFault name) u = absurd (no_stop i (status.WriteFault name) refl u)
+unplayed_comes old new stays i texts status.OutOfMemory u = stays
+unplayed_comes old new stays i texts status.Usage u = (u, stays)
+unplayed_comes old new stays i texts (status.ReadFault name) u = (u, stays)
+unplayed_comes old new stays i texts (status.TooLong name) u = (u, stays)
+unplayed_comes old new stays i texts (status.BadTopology reason) u = (u, stays)
+unplayed_comes old new stays i texts (status.BadScript line reason) u = (u, stays)
+unplayed_comes old new stays i texts (status.BadCapture host e at) u = (u, stays)
+unplayed_comes old new stays i texts (status.ExpectFailed line) u = (u, stays)
+unplayed_comes old new stays i texts (status.Refused line reason) u = (u, stays)
+unplayed_comes old new stays i texts (status.StepsSpent line) u = (u, stays)
+unplayed_comes old new stays i texts (status.JournalFull line) u = (u, stays)
+
+-- a topology that was read
+pub check_answers : (old mid new : Moment) (topology : List ℕ) (plan : Plan) → HasPlan old.held topology plan → IsSameMoment old mid → (e : Status) →
+    EndsCheck mid new plan e → AnswersCheck old new topology e
+check_answers old mid new topology plan has is status.Done c = (plan, has, saves_since old mid new is (line_of plan) c)
+check_answers old mid new topology plan has is (status.WriteFault name) c = (plan, has, fails_since old mid new is (line_of plan) name c)
+check_answers old mid new topology plan has is status.OutOfMemory c = (tt, untouched_since old mid new is c)
+check_answers old mid new topology plan has is status.Usage c = absurd c
+check_answers old mid new topology plan has is (status.ReadFault name) c = absurd c
+check_answers old mid new topology plan has is (status.TooLong name) c = absurd c
+check_answers old mid new topology plan has is (status.BadTopology reason) c = absurd c
+check_answers old mid new topology plan has is (status.BadScript line reason) c = absurd c
+check_answers old mid new topology plan has is (status.BadCapture host e at) c = absurd c
+check_answers old mid new topology plan has is (status.ExpectFailed line) c = absurd c
+check_answers old mid new topology plan has is (status.Refused line reason) c = absurd c
+check_answers old mid new topology plan has is (status.StepsSpent line) c = absurd c
+check_answers old mid new topology plan has is (status.JournalFull line) c = absurd c
+
+-- and one that was not
+pub unplanned_answers : (old new : Moment) (topology : List ℕ) → Same old.held new.held → new.write_faults ≡ old.write_faults → (e : Status) →
+    IsUnplanned old.held topology e → Reads {T = Plan} (Err e) old.read_faults new.read_faults → AnswersCheck old new topology e
+unplanned_answers old new topology same writes (status.ReadFault name) u reads =
+    (u, record { same = same; grows = reads.0; rose = reads.1; writes = writes })
+unplanned_answers old new topology same writes (status.TooLong name) u reads = (u, record { same = same; reads = reads; writes = writes })
+unplanned_answers old new topology same writes (status.BadTopology reason) u reads = (u, record { same = same; reads = reads; writes = writes })
+unplanned_answers old new topology same writes status.OutOfMemory u reads = (u, record { same = same; reads = reads; writes = writes })
+unplanned_answers old new topology same writes (status.BadScript line reason) u reads = absurd u
+unplanned_answers old new topology same writes (status.BadCapture host e at) u reads = absurd u
+unplanned_answers old new topology same writes status.Done u reads = absurd u
+unplanned_answers old new topology same writes status.Usage u reads = absurd u
+unplanned_answers old new topology same writes (status.WriteFault name) u reads = absurd u
+unplanned_answers old new topology same writes (status.ExpectFailed line) u reads = absurd u
+unplanned_answers old new topology same writes (status.Refused line reason) u reads = absurd u
+unplanned_answers old new topology same writes (status.StepsSpent line) u reads = absurd u
+unplanned_answers old new topology same writes (status.JournalFull line) u reads = absurd u
+
+-- generated files that were read
+pub generated_answers : (old new : Moment) (g : Generation) (i : Inputs) → ReadsGenerated g i → (e : Status) → Comes old new i (printed_of i) e →
+    AnswersGenerated old new g.k g.number g.frames e
+generated_answers old new g i read status.Done c = (read.0, read.1, (i, read.2, c))
+generated_answers old new g i read (status.WriteFault name) c = (read.0, read.1, (i, read.2, c))
+generated_answers old new g i read (status.ExpectFailed line) c = (read.0, read.1, (i, read.2, c))
+generated_answers old new g i read (status.Refused line reason) c = (read.0, read.1, (i, read.2, c))
+generated_answers old new g i read (status.StepsSpent line) c = (read.0, read.1, (i, read.2, c))
+generated_answers old new g i read (status.JournalFull line) c = (read.0, read.1, (i, read.2, c))
+generated_answers old new g i read status.OutOfMemory c = c
+generated_answers old new g i read status.Usage c = absurd (no_stop i status.Usage refl c.0)
+generated_answers old new g i read (status.ReadFault name) c = absurd (no_stop i (status.ReadFault name) refl c.0)
+generated_answers old new g i read (status.TooLong name) c = absurd (no_stop i (status.TooLong name) refl c.0)
+generated_answers old new g i read (status.BadTopology reason) c = absurd (no_stop i (status.BadTopology reason) refl c.0)
+generated_answers old new g i read (status.BadScript line reason) c = absurd (no_stop i (status.BadScript line reason) refl c.0)
+generated_answers old new g i read (status.BadCapture host e at) c = absurd (no_stop i (status.BadCapture host e at) refl c.0)
+
+-- and those that were not
+pub ungenerated_answers : (old new : Moment) → IsUntouched old new → (g : Generation) (e : Status) → IsUngenerated g e → AnswersGenerated old new g.k g.number g.frames e
+ungenerated_answers old new stays g status.OutOfMemory u = stays
+ungenerated_answers old new stays g (status.ReadFault name) u = absurd u
+ungenerated_answers old new stays g (status.TooLong name) u = (u.0, u.1, (u.2, stays))
+ungenerated_answers old new stays g (status.BadTopology reason) u = (u.0, u.1, (u.2, stays))
+ungenerated_answers old new stays g (status.BadScript line reason) u = (u.0, u.1, (u.2, stays))
+ungenerated_answers old new stays g (status.BadCapture host e at) u = (u.0, u.1, (u.2, stays))
+ungenerated_answers old new stays g status.Usage u = absurd u.2
+ungenerated_answers old new stays g status.Done u = absurd u.2
+ungenerated_answers old new stays g (status.WriteFault name) u = absurd u.2
+ungenerated_answers old new stays g (status.ExpectFailed line) u = absurd u.2
+ungenerated_answers old new stays g (status.Refused line reason) u = absurd u.2
+ungenerated_answers old new stays g (status.StepsSpent line) u = absurd u.2
+ungenerated_answers old new stays g (status.JournalFull line) u = absurd u.2
+
+-- why they were not: a failed read is told as want of memory
+pub not_generated : (g : Generation) (held : List ℕ → Held) → AreGenerated held g.k g.number g.frames → (e : Status) → IsUnread held generated_files e →
+    IsUngenerated g (without_read_fault e)
+not_generated g held are status.OutOfMemory u = tt
+not_generated g held are (status.ReadFault name) u = tt
+not_generated g held are (status.TooLong name) u = (held, are, u)
+not_generated g held are (status.BadTopology reason) u = (held, are, u)
+not_generated g held are (status.BadScript line reason) u = (held, are, u)
+not_generated g held are (status.BadCapture host e at) u = (held, are, u)
+not_generated g held are status.Usage u = absurd u
+not_generated g held are status.Done u = absurd u
+not_generated g held are (status.WriteFault name) u = absurd u
+not_generated g held are (status.ExpectFailed line) u = absurd u
+not_generated g held are (status.Refused line reason) u = absurd u
+not_generated g held are (status.StepsSpent line) u = absurd u
+not_generated g held are (status.JournalFull line) u = absurd u
+
+pub ungenerated : (g : Generation) (held : List ℕ → Held) → AreGenerated held g.k g.number g.frames → (asked : Asked) → asked ≡ generated_files → (e f : Status) →
+    IsUnread held asked e → f ≡ without_read_fault e → IsUngenerated g f
+ungenerated g held are asked same e f u is =
+    subst (λ x. IsUngenerated g x) (sym is) (not_generated g held are e (subst (λ a. IsUnread held a e) same u))

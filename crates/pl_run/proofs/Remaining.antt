@@ -1,19 +1,14 @@
 -- What is left of the hosts whose captures were read.
-use Rattle.std.proofs.Common.{◌≡◌, ℕ, suc, ◌+◌, ◌<◌, List, [], ◌∷◌, ◌++◌, length, drop, get_or, map, Bool, Result, Err, refl, sym, ap, ◌∙◌, subst, add-one, append_assoc}
+use Rattle.std.proofs.Common.{◌≡◌, ℕ, zero, suc, ◌+◌, ◌-◌, ◌<◌, List, [], ◌∷◌, ◌++◌, length, drop, get_or, map, Bool, refl, sym, ap, ◌∙◌, subst, add-one, append_assoc, arith}
 use Rattle.std.proofs.Math.Seq.{drop-cons}
-use Rattle.pl_first_inputs.specs.declared.capture.Capture.{Capture}
+use Rattle.pl_wiring.specs.declared.host.HostNo.{HostNo}
+use Rattle.pl_inputs.specs.declared.capture.Capture.{Capture}
+use Rattle.pl_inputs.specs.Loaded.{files_of}
+use Rattle.pl_inputs.specs.Records.{Recorded, records_by, records_in, records_in_file, records_of, tail_by, tail_of_file}
+use Rattle.pl_lines.specs.Lines.{left_of}
+use Rattle.pl_lines.specs.Scenes.{Scene, asked_of}
 use Rattle.pl_output.specs.declared.summary.Rest.{Rest}
-use Rattle.pl_wiring.specs.Plan.{Plan}
-use Rattle.pl_script.specs.declared.script.ScriptLine.{ScriptLine}
-use Rattle.pl_one_edge.specs.declared.player.error.PlayError.{PlayError}
-use Rattle.pl_one_edge.specs.declared.player.error.PlayError.TheVariants as played
-use Rattle.pl_first_inputs.specs.declared.step.StepReason.{StepReason}
-use Rattle.pl_run.specs.Answers.{ends_settled, rests_from, summary_of}
-use Rattle.pl_one_edge.specs.Captures.{records_by, records_in_file, records_of, tail_by, tail_of_file}
-use Rattle.pl_first_inputs.specs.Loaded.{files_of}
-use Rattle.pl_one_edge.specs.Machine.{Recorded, Refusal, State, play, records_left}
-use Rattle.pl_one_edge.specs.Outcome.{PlaysTo}
-use Rattle.pl_output.specs.Summary.{summary_text}
+use Rattle.pl_run.specs.Answers.{held_at, rests_from}
 
 -- the records that were walked are those of the files
 pub records_are : (captures : List Capture) → records_of captures ≡ map records_in_file (files_of captures)
@@ -25,43 +20,38 @@ records_are (c ∷ captures) =
 tail_is : (c : Capture) → tail_of_file c.bytes.items ≡ c.tail
 tail_is c = ap tail_by c.read
 
-abbrev rest : List (List Recorded) → State → ℕ → ℕ → Rest
-rest records end n tail = record { held = 0; unread = records_left records end n; tail = tail }
+-- those of one host
+records_at_one : (captures : List Capture) (n : ℕ) (c : Capture) → n < length captures → c ≡ get_or captures n c →
+    get_or (records_of captures) n [] ≡ records_in_file c.bytes.items
+records_at_one [] n c within is = absurd (omega (arith, within))
+records_at_one (d ∷ captures) zero c within is =
+    ap (λ (x : Capture). records_in x) (sym is) ∙ sym (ap (records_by c.bytes.items) c.read)
+records_at_one (d ∷ captures) (suc n) c within is = records_at_one captures n c (omega (arith, within)) is
+
+abbrev rest : ℕ → ℕ → ℕ → Rest
+rest held unread tail = record { held = held; unread = unread; tail = tail }
+
+same_rest : (r : Rest) (held unread tail : ℕ) → r.held ≡ held → r.unread ≡ unread → r.tail ≡ tail → r ≡ rest held unread tail
+same_rest r held unread tail is was then =
+    ap (λ x. rest x r.unread r.tail) is ∙ ap (λ x. rest held x r.tail) was ∙ ap (λ x. rest held unread x) then
 
 -- one host more
-pub one_rest_more : (captures : List Capture) (n : ℕ) (c : Capture) (records : List (List Recorded)) (end : State) (done whole : List Rest) →
-    n < length captures → c ≡ get_or captures n c → done ++ rests_from n (files_of (drop n captures)) records end ≡ whole →
-    (done ++ rest records end n c.tail ∷ []) ++ rests_from (n + 1) (files_of (drop (n + 1) captures)) records end ≡ whole
-one_rest_more captures n c records end done whole within is all =
+pub one_rest_more : (captures : List Capture) (n : ℕ) (c : Capture) (h : HostNo) (r : Rest) (scene : Scene) (done whole : List Rest) →
+    n < length captures → c ≡ get_or captures n c → h.0 ≡ n → r.held ≡ held_at scene h.0 → r.unread ≡ left_of (records_of captures) scene h → r.tail ≡ c.tail →
+    done ++ rests_from n (files_of (drop n captures)) scene ≡ whole →
+    (done ++ r ∷ []) ++ rests_from (n + 1) (files_of (drop (n + 1) captures)) scene ≡ whole
+one_rest_more captures n c h r scene done whole within is at held unread tail all =
     let here : drop n captures ≡ c ∷ drop (n + 1) captures =
     rw add-one (drop-cons captures n c within ∙ ap (λ x. x ∷ drop (suc n) captures) (sym is)) in
-    let there : rests_from n (files_of (drop n captures)) records end
-    ≡ rest records end n c.tail ∷ rests_from (n + 1) (files_of (drop (n + 1) captures)) records end =
-    ap (λ cs. rests_from n (files_of cs) records end) here
-    ∙ ap (λ t. rest records end n t ∷ rests_from (suc n) (files_of (drop (n + 1) captures)) records end) (tail_is c)
-    ∙ ap (λ m. rest records end n c.tail ∷ rests_from m (files_of (drop (n + 1) captures)) records end) (sym (add-one n)) in
-    append_assoc done (rest records end n c.tail ∷ []) (rests_from (n + 1) (files_of (drop (n + 1) captures)) records end)
-    ∙ ap (λ r. done ++ r) (sym there) ∙ all
-
--- The run of what was walked is the run of the files.
-pub plays_read : (plan : Plan) (captures cs : List Capture) (lines ls : List ScriptLine) (r : Result State Refusal) → cs ≡ captures → ls ≡ lines →
-    play plan (records_of cs) ls ≡ r → play plan (map records_in_file (files_of captures)) lines ≡ r
-plays_read plan captures cs lines ls r walked read is =
-    ap (λ records. play plan records lines) (sym (records_are captures))
-    ∙ ap (λ c. play plan (records_of c) lines) (sym walked) ∙ ap (λ l. play plan (records_of cs) l) (sym read) ∙ is
-
-pub refused_read : (plan : Plan) (captures cs : List Capture) (lines ls : List ScriptLine) (line : ℕ) (reason : StepReason) (e : PlayError) →
-    e ≡ played.Refused line reason → cs ≡ captures → ls ≡ lines → PlaysTo (Err e) (play plan (records_of cs) ls) →
-    play plan (map records_in_file (files_of captures)) lines ≡ Err (line, reason)
-refused_read plan captures cs lines ls line reason e is walked read plays =
-    plays_read plan captures cs lines ls (Err (line, reason)) walked read (subst (λ x. PlaysTo (Err x) (play plan (records_of cs) ls)) is plays)
-
--- the summary of what was walked is the summary of the files
-pub summary_is : (plan : Plan) (captures cs : List Capture) (lines ls : List ScriptLine) (end : State) (rests : List Rest) (settled : Bool) → cs ≡ captures → ls ≡ lines →
-    rests ≡ rests_from 0 (files_of cs) (records_of cs) end → settled ≡ ends_settled ls →
-    summary_text plan end.journal end.steps rests settled ≡ summary_of (record { plan = plan; lines = lines; captures = files_of captures }) end
-summary_is plan captures cs lines ls end rests settled walked read are is =
-    ap (λ rs. summary_text plan end.journal end.steps rs settled)
-    (are ∙ ap (λ c. rests_from 0 (files_of c) (records_of c) end) walked ∙ ap (λ records. rests_from 0 (files_of captures) records end) (records_are captures))
-    ∙ ap (λ s. summary_text plan end.journal end.steps (rests_from 0 (files_of captures) (map records_in_file (files_of captures)) end) s)
-    (is ∙ ap ends_settled read)
+    let records : get_or (records_of captures) h.0 [] ≡ records_in_file c.bytes.items =
+    ap (λ m. get_or (records_of captures) m []) at ∙ records_at_one captures n c within is in
+    let left : r.unread ≡ length (records_in_file c.bytes.items) - asked_of scene n =
+    unread ∙ ap (λ rs. length rs - asked_of scene h.0) records ∙ ap (λ m. length (records_in_file c.bytes.items) - asked_of scene m) at in
+    let one : r ≡ rest (held_at scene n) (length (records_in_file c.bytes.items) - asked_of scene n) (tail_of_file c.bytes.items) =
+    same_rest r _ _ _ (held ∙ ap (held_at scene) at) left (tail ∙ sym (tail_is c)) in
+    let there : rests_from n (files_of (drop n captures)) scene ≡ r ∷ rests_from (n + 1) (files_of (drop (n + 1) captures)) scene =
+    ap (λ cs. rests_from n (files_of cs) scene) here
+    ∙ ap (λ x. x ∷ rests_from (suc n) (files_of (drop (n + 1) captures)) scene) (sym one)
+    ∙ ap (λ m. r ∷ rests_from m (files_of (drop (n + 1) captures)) scene) (sym (add-one n)) in
+    append_assoc done (r ∷ []) (rests_from (n + 1) (files_of (drop (n + 1) captures)) scene)
+    ∙ ap (λ rs. done ++ rs) (sym there) ∙ all

@@ -1,76 +1,80 @@
 -- What the program's answers say.
-use Rattle.std.specs.Prelude.{◌≡◌, ◌<◌, ◌≤◌, ℕ, ◌-◌, suc, Bool, true, false, List, [], ◌∷◌, length, map, slice_get, Result, Ok, Err}
+use Rattle.std.specs.Prelude.{◌≡◌, ◌≤◌, ◌↔◌, ℕ, suc, ◌-◌, Bool, IsTrue, List, [], ◌∷◌, length, map, slice_get, Option, None, Some}
 use Rattle.std.specs.Option.{option_map_or}
-use Rattle.pl_shelf.specs.Held.{Held, Same}
+use Rattle.pl_shelf.specs.Held.{Held, Same, standard_output}
 use Rattle.pl_shelf.specs.Faults.{Rose}
-use Rattle.pl_journal.specs.declared.entry.Entry.{Entry}
-use Rattle.pl_journal.specs.Lossy.{GoodTrail, Run}
-use Rattle.pl_script.specs.declared.command.Command.{Command}
-use Rattle.pl_script.specs.declared.command.Command.TheVariants.{Settle}
-use Rattle.pl_script.specs.declared.script.ScriptLine.{ScriptLine}
-use Rattle.pl_first_inputs.specs.declared.status.Status.{Status}
-use Rattle.pl_first_inputs.specs.declared.status.Status.TheVariants as status
-use Rattle.pl_first_inputs.specs.declared.step.StepReason.{StepReason}
+use Rattle.pl_wiring.specs.declared.host.Host.{Host}
+use Rattle.pl_inputs.specs.declared.status.Status.{Status}
+use Rattle.pl_inputs.specs.declared.status.Status.TheVariants as status
+use Rattle.pl_inputs.specs.declared.step.StepReason.TheVariants as step
+use Rattle.pl_inputs.specs.Inputs.{AreRead, Inputs}
+use Rattle.pl_inputs.specs.Records.{Recorded, records_in_file, tail_of_file}
+use Rattle.pl_inputs.specs.Unread.{IsUnread}
+use Rattle.pl_inputs.specs.Words.{Asked}
+use Rattle.pl_core.specs.HostViews.{held_count}
+use Rattle.pl_host_rule.specs.HostRule.{host_rule}
+use Rattle.pl_manager_rule.specs.ManagerRule.{manager_rule}
+use Rattle.pl_switch_rule.specs.SwitchRule.{Exact}
+use Rattle.pl_world.specs.declared.error.StepError.{StepError}
+use Rattle.pl_world.specs.declared.error.StepError.TheVariants as error
+use Rattle.pl_world.specs.declared.limits.Limits.{Limits}
+use Rattle.pl_fabric.specs.Settled.{IsSettled}
+use Rattle.pl_lines.specs.declared.stop.Stop.{Stop}
+use Rattle.pl_lines.specs.declared.stop.Stop.TheVariants.{ExpectFailed, Refused}
+use Rattle.pl_lines.specs.Asked.{DoesAsAsked}
+use Rattle.pl_lines.specs.Lines.{Plays}
+use Rattle.pl_lines.specs.Scenes.{Scene, asked_of}
 use Rattle.pl_output.specs.declared.summary.Rest.{Rest}
-use Rattle.pl_one_edge.specs.Asked.{deeds_asked, deeds_in}
-use Rattle.pl_one_edge.specs.Captures.{records_in_file, tail_of_file}
-use Rattle.pl_first_inputs.specs.Inputs.{AreRead, Inputs}
-use Rattle.pl_one_edge.specs.Machine.{Recorded, Refusal, State, play, records_left}
 use Rattle.pl_output.specs.Receipts.{saved_texts}
 use Rattle.pl_output.specs.Saved.{AreSaved, BreaksOff, Saving}
 use Rattle.pl_output.specs.Summary.{summary_text}
-use Rattle.pl_first_inputs.specs.Unread.{IsUnread}
-use Rattle.pl_first_inputs.specs.Words.{Asked}
+
+-- how long a run may become
+abbrev pub run_limits : Limits
+run_limits = record { steps = 50000000; entries = 5000000; bytes = 268435456 }
 
 -- for each host the records of its capture
 abbrev pub records_of : Inputs → List (List Recorded)
 records_of i = map records_in_file i.captures
 
--- the run of what was read: what it has come to, or the first refused line
-abbrev pub run_of : Inputs → Result State Refusal
-run_of i = play i.plan (records_of i) i.lines
+-- The script of what was read is played on a fabric of plain switches, the manager and the hosts, by their rules: up to its last line,
+-- or up to the first line that is stopped.
+abbrev pub PlaysTo : Inputs → Option (ℕ × Stop) → Scene → Type 0
+PlaysTo i end scene = Plays Exact manager_rule host_rule i.plan run_limits (records_of i) i.lines end scene
 
 -- what is left of each host at the end, the first of them with this number
-abbrev pub rests_from : ℕ → List (List ℕ) → List (List Recorded) → State → List Rest
-rests_from n [] records end = []
-rests_from n (file ∷ files) records end =
-    record { held = 0; unread = records_left records end n; tail = tail_of_file file } ∷ rests_from (suc n) files records end
+abbrev pub held_at : Scene → ℕ → ℕ
+held_at scene n = option_map_or held_count (slice_get scene.world.hosts n) 0
 
--- the fabric is settled at the end where the last line is a settle line
-abbrev pub is_settle : Command → Bool
-is_settle (Settle rounds) = true
-is_settle _ = false
+abbrev pub rests_from : ℕ → List (List ℕ) → Scene → List Rest
+rests_from n [] scene = []
+rests_from n (file ∷ files) scene =
+    record { held = held_at scene n; unread = length (records_in_file file) - asked_of scene n; tail = tail_of_file file }
+    ∷ rests_from (suc n) files scene
 
-abbrev pub ends_settled : List ScriptLine → Bool
-ends_settled lines = option_map_or (λ line. is_settle line.command) (slice_get lines (length lines - 1)) false
+abbrev pub summary_of : Inputs → Scene → Bool → List ℕ
+summary_of i scene settled = summary_text i.plan scene.world.journal scene.world.steps (rests_from 0 i.captures scene) settled
 
-abbrev pub summary_of : Inputs → State → List ℕ
-summary_of i end =
-    summary_text i.plan end.journal end.steps (rests_from 0 i.captures (records_of i) end) (ends_settled i.lines)
+-- each host did just what the script asks of it, and what the frames that arrived bring about
+abbrev pub HostsDoAsAsked : Inputs → Scene → Type 0
+HostsDoAsAsked i scene =
+    (n : ℕ) (host : Host) → slice_get i.plan.hosts n ≡ Some host → DoesAsAsked host_rule i.plan (records_of i) i.lines n host scene.world
 
--- what a run saves: the captures that the hosts receive, the journal and the summary
-abbrev pub texts_of : List ℕ → Inputs → State → List Saving
-texts_of out i end = saved_texts out i.plan end.journal (summary_of i end)
+-- Inputs that were played to the end of the script, and whether the fabric is settled then.
+pub record IsPlayed (i : Inputs) : Type 0 where
+  pub scene : Scene
+  pub played : PlaysTo i None scene
+  pub deeds : HostsDoAsAsked i scene
+  pub settled : Bool
+  pub is_settled : IsTrue settled ↔ IsSettled scene.world
 
--- Its journal is a run of the lossy switch with good trails, in which each host does what the script and its capture ask of it.
-pub record IsLossyRun (i : Inputs) (journal : List Entry) : Type 0 where
-  pub run : Run i.plan journal
-  pub trails : GoodTrail i.plan journal
-  pub deeds : (n : ℕ) → n < length i.plan.hosts → deeds_in n journal ≡ deeds_asked i.plan (records_of i) n i.lines
+-- what is saved of them in this folder: the captures that the hosts receive, the journal and the summary
+abbrev pub texts_of : List ℕ → (i : Inputs) → IsPlayed i → List Saving
+texts_of out i is = saved_texts out i.plan is.scene.world.journal (summary_of i is.scene is.settled)
 
--- The inputs were read and played to the end of the script.
-pub record IsPlayed (held : List ℕ → Held) (asked : Asked) : Type 0 where
-  pub inputs : Inputs
-  pub read : AreRead held asked inputs
-  pub end : State
-  pub played : run_of inputs ≡ Ok end
-  pub lossy : IsLossyRun inputs end.journal
-
--- a step of this line was refused
-pub record IsRefusedAt (held : List ℕ → Held) (asked : Asked) (line : ℕ) (reason : StepReason) : Type 0 where
-  pub inputs : Inputs
-  pub read : AreRead held asked inputs
-  pub refused : run_of inputs ≡ Err (line, reason)
+-- the summary alone, on standard output
+abbrev pub printed_of : (i : Inputs) → IsPlayed i → List Saving
+printed_of i is = record { name = standard_output; text = summary_of i is.scene is.settled } ∷ []
 
 -- a shelf at a moment: what it holds by name, and how many of its calls failed
 pub record Moment : Type 0 where
@@ -93,23 +97,60 @@ pub record ReadFails (old new : Moment) : Type 0 where
   pub rose : Rose old.read_faults new.read_faults
   pub writes : new.write_faults ≡ old.write_faults
 
-pub record IsDone (old new : Moment) (asked : Asked) : Type 0 where
-  pub is : IsPlayed old.held asked
-  pub saved : AreSaved old.held new.held (texts_of asked.out is.inputs is.end)
+-- these texts were saved, and no call failed
+pub record Saves (old new : Moment) (savings : List Saving) : Type 0 where
+  pub saved : AreSaved old.held new.held savings
   pub reads : new.read_faults ≡ old.read_faults
   pub writes : new.write_faults ≡ old.write_faults
 
-pub record WriteFails (old new : Moment) (asked : Asked) (name : List ℕ) : Type 0 where
-  pub is : IsPlayed old.held asked
-  pub saved : BreaksOff old.held new.held (texts_of asked.out is.inputs is.end) name
+-- a write of them failed, under this name
+pub record SavingFails (old new : Moment) (savings : List Saving) (name : List ℕ) : Type 0 where
+  pub saved : BreaksOff old.held new.held savings name
   pub reads : new.read_faults ≡ old.read_faults
   pub grows : old.write_faults ≤ new.write_faults
   pub rose : Rose old.write_faults new.write_faults
 
--- What each answer says. Want of memory has no cause that could be told, and it leaves all as it was, as each refusal does.
+-- what is answered for a refused step of a line
+abbrev pub refused_at : ℕ → StepError → Status
+refused_at line error.StepsSpent = status.StepsSpent line
+refused_at line error.JournalFull = status.JournalFull line
+refused_at line error.NoSuch = status.Refused line step.NoSuch
+refused_at line error.Occupied = status.Refused line step.Occupied
+refused_at line error.AlreadySo = status.Refused line step.AlreadySo
+refused_at line error.NothingThere = status.Refused line step.NothingThere
+refused_at line error.Memory = status.OutOfMemory
+
+-- what is answered for a script that ended so
+abbrev pub outcome : Option (ℕ × Stop) → Status
+outcome None = status.Done
+outcome (Some (line, ExpectFailed)) = status.ExpectFailed line
+outcome (Some (line, Refused reason)) = refused_at line reason
+
+-- the script was stopped, and this is what is answered for it
+pub record IsStopped (i : Inputs) (e : Status) : Type 0 where
+  pub stopped : ℕ × Stop
+  pub scene : Scene
+  pub played : PlaysTo i (Some stopped) scene
+  pub answered : e ≡ outcome (Some stopped)
+
+-- What comes of inputs that were read, of which these texts are saved once they were played. Want of memory has no cause that could be
+-- told, and it leaves all as it was, as each stop does.
+abbrev pub Comes : Moment → Moment → (i : Inputs) → (IsPlayed i → List Saving) → Status → Type 0
+Comes old new i texts status.Done = (is : IsPlayed i) × Saves old new (texts is)
+Comes old new i texts (status.WriteFault name) = (is : IsPlayed i) × SavingFails old new (texts is) name
+Comes old new i texts status.OutOfMemory = IsUntouched old new
+Comes old new i texts e = IsStopped i e × IsUntouched old new
+
+-- What each answer says of a run whose inputs are read from the shelf: they were read and something came of them; or they were not.
+abbrev pub IsRun : Moment → Moment → Asked → Status → Type 0
+IsRun old new asked e = (i : Inputs) × AreRead old.held asked i × Comes old new i (texts_of asked.out i) e
+
 abbrev pub Answers : Moment → Moment → Asked → Status → Type 0
-Answers old new asked status.Done = IsDone old new asked
-Answers old new asked (status.WriteFault name) = WriteFails old new asked name
-Answers old new asked (status.Refused line reason) = IsRefusedAt old.held asked line reason × IsUntouched old new
+Answers old new asked status.Done = IsRun old new asked status.Done
+Answers old new asked (status.WriteFault name) = IsRun old new asked (status.WriteFault name)
+Answers old new asked (status.ExpectFailed line) = IsRun old new asked (status.ExpectFailed line)
+Answers old new asked (status.Refused line reason) = IsRun old new asked (status.Refused line reason)
+Answers old new asked (status.StepsSpent line) = IsRun old new asked (status.StepsSpent line)
+Answers old new asked (status.JournalFull line) = IsRun old new asked (status.JournalFull line)
 Answers old new asked (status.ReadFault name) = IsUnread old.held asked (status.ReadFault name) × ReadFails old new
 Answers old new asked e = IsUnread old.held asked e × IsUntouched old new

@@ -1,5 +1,5 @@
--- What is answered where the shelf tells what is read, and no call fails.
-use Rattle.std.specs.Prelude.{◌≡◌, ◌⊎◌, ℕ, ◌+◌, ◌-◌, ◌^◌, ◌<◌, List, All, take, Option, None, Some, Result, Ok, Err}
+-- What is answered where the shelf tells what is read, and no call fails: what the bytes ask for.
+use Rattle.std.specs.Prelude.{◌≡◌, ◌⊎◌, ℕ, ◌+◌, ◌-◌, ◌^◌, ◌<◌, List, All, take, Option, None, Some, Err}
 use Rattle.pl_shelf.specs.Held.{Held, IsLonger, holds}
 use Rattle.pl_capture.specs.declared.error.CaptureError.{CaptureError}
 use Rattle.pl_capture.specs.CaptureError.{offset_of}
@@ -8,15 +8,18 @@ use Rattle.pl_wiring.specs.declared.host.HostNo.{HostNo}
 use Rattle.pl_wiring.specs.Plan.{Plan}
 use Rattle.pl_script.specs.declared.error.ScriptError.TheVariants.{Line}
 use Rattle.pl_script.specs.declared.error.ScriptReason.{ScriptReason}
-use Rattle.pl_first_inputs.specs.declared.status.Status.{Status}
-use Rattle.pl_first_inputs.specs.declared.status.Status.TheVariants as status
-use Rattle.pl_first_inputs.specs.declared.status.TopologyReason.{TopologyReason}
-use Rattle.pl_run.specs.Answers.{Moment, run_of}
-use Rattle.pl_first_inputs.specs.Folders.{in_folder}
-use Rattle.pl_first_inputs.specs.Inputs.{AreRead, HasPlan, Inputs, IsLoaded, lines_of, plan_of, text_limit}
-use Rattle.pl_one_edge.specs.Machine.{Refusal, State}
-use Rattle.pl_first_inputs.specs.Unread.{AreTextsRead, IsRefusedCapture, IsTooMuch}
-use Rattle.pl_first_inputs.specs.Words.{Asked}
+use Rattle.pl_script.specs.Meaning.{script_of}
+use Rattle.pl_topology.specs.declared.error.TopologyError.{TopologyError}
+use Rattle.pl_topology.specs.Meaning.{topology_of}
+use Rattle.pl_inputs.specs.declared.status.Status.{Status}
+use Rattle.pl_inputs.specs.declared.status.Status.TheVariants as status
+use Rattle.pl_inputs.specs.Folders.{in_folder}
+use Rattle.pl_inputs.specs.Inputs.{AreRead, HasPlan, Inputs, IsLoaded, text_limit}
+use Rattle.pl_inputs.specs.Unread.{AreTextsRead, IsRefusedCapture, IsTooMuch}
+use Rattle.pl_inputs.specs.Words.{Asked}
+use Rattle.pl_lines.specs.declared.stop.Stop.{Stop}
+use Rattle.pl_lines.specs.Scenes.{Scene}
+use Rattle.pl_run.specs.Answers.{Moment, PlaysTo, outcome}
 
 -- the shelf tells what this name holds
 abbrev pub IsTold : (List ℕ → Held) → List ℕ → Type 0
@@ -43,41 +46,43 @@ pub record NoFaults (old new : Moment) : Type 0 where
   pub reads_show : old.read_faults < 2 ^ 64 - 1
   pub writes_show : old.write_faults < 2 ^ 64 - 1
 
--- what is answered for what a run comes to
-abbrev pub outcome : Result State Refusal → Status
-outcome (Ok end) = status.Done
-outcome (Err refusal) = status.Refused refusal.0 refusal.1
-
-abbrev pub outcome_of : Inputs → Status
-outcome_of i = outcome (run_of i)
-
 -- this is the answer, unless memory ran out
 abbrev pub IsAnswered : Status → Status → Type 0
 IsAnswered result e = (result ≡ e) ⊎ (result ≡ status.OutOfMemory)
 
--- inputs that are all accepted have the answer of their run
+-- Inputs that are all accepted are played, and what they come to is the answer.
+abbrev pub AnswersByPlaying : Moment → Moment → Asked → Status → Type 0
+AnswersByPlaying old new asked result =
+    (i : Inputs) → AreRead old.held asked i → AreTold old.held asked i.plan.hosts → NoFaults old new
+    → ((end : Option (ℕ × Stop)) × (scene : Scene) × PlaysTo i end scene × (result ≡ outcome end)) ⊎ (result ≡ status.OutOfMemory)
+
+-- whatever they come to by being played, that is the answer
 abbrev pub AnswersInputs : Moment → Moment → Asked → Status → Type 0
 AnswersInputs old new asked result =
-    (i : Inputs) → AreRead old.held asked i → AreTold old.held asked i.plan.hosts → NoFaults old new
-    → IsAnswered result (outcome_of i)
+    (i : Inputs) (end : Option (ℕ × Stop)) (scene : Scene) → AreRead old.held asked i → AreTold old.held asked i.plan.hosts
+    → NoFaults old new → PlaysTo i end scene → IsAnswered result (outcome end)
 
--- a topology that is refused is answered with the reason
-abbrev pub AnswersBadTopology : Moment → Moment → Asked → Status → Type 0
-AnswersBadTopology old new asked result =
-    (file : List ℕ) (reason : TopologyReason) → IsTold old.held asked.topology → IsLoaded old.held asked.topology text_limit file
-    → plan_of file ≡ Err reason → NoFaults old new → IsAnswered result (status.BadTopology reason)
+-- a topology of this name that is accepted is enough for its wiring to be told
+abbrev pub AnswersTopology : Moment → Moment → List ℕ → Status → Type 0
+AnswersTopology old new topology result =
+    (plan : Plan) → IsTold old.held topology → HasPlan old.held topology plan → NoFaults old new → IsAnswered result status.Done
 
--- a topology that is longer than is allowed is answered with its name
-abbrev pub AnswersLongTopology : Moment → Moment → Asked → Status → Type 0
-AnswersLongTopology old new asked result =
-    IsTold old.held asked.topology → IsLonger (old.held asked.topology) text_limit → NoFaults old new
-    → IsAnswered result (status.TooLong asked.topology)
+-- one that is refused is answered with the reason
+abbrev pub AnswersBadTopology : Moment → Moment → List ℕ → Status → Type 0
+AnswersBadTopology old new topology result =
+    (file : List ℕ) (reason : TopologyError) → IsTold old.held topology → IsLoaded old.held topology text_limit file
+    → topology_of file ≡ Err reason → NoFaults old new → IsAnswered result (status.BadTopology reason)
+
+-- one that is longer than is allowed is answered with its name
+abbrev pub AnswersLongTopology : Moment → Moment → List ℕ → Status → Type 0
+AnswersLongTopology old new topology result =
+    IsTold old.held topology → IsLonger (old.held topology) text_limit → NoFaults old new → IsAnswered result (status.TooLong topology)
 
 -- a script that is refused is answered with its first refused line
 abbrev pub AnswersBadScript : Moment → Moment → Asked → Status → Type 0
 AnswersBadScript old new asked result =
     (plan : Plan) (file : List ℕ) (line : ℕ) (reason : ScriptReason) → IsTold old.held asked.topology → IsTold old.held asked.script
-    → HasPlan old.held asked.topology plan → IsLoaded old.held asked.script text_limit file → lines_of plan file ≡ Err (Line line reason)
+    → HasPlan old.held asked.topology plan → IsLoaded old.held asked.script text_limit file → script_of plan file ≡ Err (Line line reason)
     → NoFaults old new → IsAnswered result (status.BadScript line reason)
 
 -- a script that is longer than is allowed is answered with its name
@@ -100,3 +105,20 @@ AnswersLongCapture old new asked result =
     (plan : Plan) (name : List ℕ) → AreTextsRead old.held asked plan
     → (much : IsTooMuch old.held asked.captures plan.hosts name) → AreTold old.held asked (take (much.n + 1) plan.hosts)
     → NoFaults old new → IsAnswered result (status.TooLong name)
+
+-- all of it, of a run
+pub record IsComplete (old new : Moment) (asked : Asked) (result : Status) : Type 0 where
+  pub played : AnswersByPlaying old new asked result
+  pub inputs : AnswersInputs old new asked result
+  pub bad_topology : AnswersBadTopology old new asked.topology result
+  pub long_topology : AnswersLongTopology old new asked.topology result
+  pub bad_script : AnswersBadScript old new asked result
+  pub long_script : AnswersLongScript old new asked result
+  pub bad_capture : AnswersBadCapture old new asked result
+  pub long_capture : AnswersLongCapture old new asked result
+
+-- and of a topology that is checked
+pub record IsCompleteCheck (old new : Moment) (topology : List ℕ) (result : Status) : Type 0 where
+  pub accepted : AnswersTopology old new topology result
+  pub bad_topology : AnswersBadTopology old new topology result
+  pub long_topology : AnswersLongTopology old new topology result

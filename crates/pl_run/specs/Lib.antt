@@ -1,4 +1,6 @@
-pub mod SummaryExamples
 pub mod Answers
+pub mod Checks
+pub mod Generated
+pub mod Tasks
 pub mod Plays
 pub mod Complete

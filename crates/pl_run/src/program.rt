@@ -1,70 +1,91 @@
-ghost use Rattle.std.specs.Prelude.{◌≡◌, ◌↔◌, Some, None};
+ghost use Rattle.std.specs.Prelude.{◌≡◌, ◌↔◌, ℕ, List, Some, None};
+ghost use Rattle.pl_inputs.specs.Met.{IsWithinLimits, task, texts};
+ghost use Rattle.pl_inputs.specs.Words.{Asked, Check, Generate, Run, task_of};
+ghost use Rattle.pl_inputs.specs.declared.words.Generation.{Generation as Drawn};
 ghost use Rattle.pl_run.specs.Answers.{Answers, IsUntouched, moment};
-ghost use Rattle.pl_run.specs.Complete.{AnswersBadCapture, AnswersBadScript, AnswersBadTopology, AnswersInputs, AnswersLongCapture, AnswersLongScript, AnswersLongTopology};
-ghost use Rattle.pl_first_inputs.specs.Met.{texts};
-ghost use Rattle.pl_first_inputs.specs.Words.{Asked, asked_of};
+ghost use Rattle.pl_run.specs.Checks.{AnswersCheck};
+ghost use Rattle.pl_run.specs.Complete.{IsComplete, IsCompleteCheck};
+ghost use Rattle.pl_run.specs.Generated.{AnswersGenerated};
+ghost use Rattle.pl_run.specs.Plays.{answer_of};
+ghost use Rattle.pl_run.specs.Tasks.{AnswersTask};
 
+use crate::check::check;
+use crate::generating::generate_and_run;
 use crate::running::run;
-use pl_first_inputs::{Status, files_of};
+use pl_inputs::{Status, Task, task_of};
+use pl_script_laws::one_script_one_end;
 use pl_shelf::Shelf;
 use std::alloc::Global;
 
-/// Runs the program with these words, of which the first is its name and the second the command. The
-/// one command is `run`, whose items `--topology`, `--script`, `--captures` and `--out` name what is
-/// read and the folder to save into.
+/// Runs the program with these words, of which the first is its name and the second the command.
 ///
-/// A run reads the topology, then the script, then in the order of the hosts the capture of each that
-/// names one; it plays the script to its last line; and then it saves each host's capture in order,
-/// the journal and, on standard output, the summary. Nothing takes memory from the first name that is
-/// created on.
+/// `run` takes the items `--topology`, `--script`, `--captures` and `--out`, which name what is read and
+/// the folder to save into. It reads the topology, then the script, then in the order of the hosts the
+/// capture of each that names one; it plays the script on a whole fabric, up to its last line or to the
+/// first that is stopped; and then it saves each host's capture in order, the journal and, on standard
+/// output, the summary. Nothing takes memory from the first name that is created on.
+///
+/// `check` takes `--topology`, reads it, and prints the line of its wiring on standard output.
+///
+/// `gen` takes `--k` (even, 4 to 24), `--number` (64 bits) and `--frames` (1 to 100,000). It makes a
+/// topology, a script and captures, plays them as `run` does, and prints the summary alone.
 pub fn portland<S: Shelf>(alloc: Global, words: &[&str], shelf: &mut S) -> Status
     // The words are no command, and nothing is done.
-    ensures usage { (result ≡ Status.Usage) ↔ (asked_of (texts words.now) ≡ None) }
+    ensures usage { (result ≡ Status.Usage) ↔ (task_of (texts words.now) ≡ None) }
     ensures nothing_done { result ≡ Status.Usage → IsUntouched
         (moment (S.held shelf.old) (S.read_faults shelf.old) (S.write_faults shelf.old))
         (moment (S.held shelf.new) (S.read_faults shelf.new) (S.write_faults shelf.new)) }
 
     // They are one, and the answer tells what came of it.
-    ensures answers { (asked : Asked) → asked_of (texts words.now) ≡ Some asked → Answers
+    ensures answers { (asked : Asked) → task_of (texts words.now) ≡ Some (Run asked) → Answers
         (moment (S.held shelf.old) (S.read_faults shelf.old) (S.write_faults shelf.old))
         (moment (S.held shelf.new) (S.read_faults shelf.new) (S.write_faults shelf.new))
         asked result }
+    ensures check { (topology : List ℕ) → task_of (texts words.now) ≡ Some (Check topology) → AnswersCheck
+        (moment (S.held shelf.old) (S.read_faults shelf.old) (S.write_faults shelf.old))
+        (moment (S.held shelf.new) (S.read_faults shelf.new) (S.write_faults shelf.new))
+        topology result }
+    ensures generated { (g : Drawn) → task_of (texts words.now) ≡ Some (Generate g) → AnswersGenerated
+        (moment (S.held shelf.old) (S.read_faults shelf.old) (S.write_faults shelf.old))
+        (moment (S.held shelf.new) (S.read_faults shelf.new) (S.write_faults shelf.new))
+        g.k g.number g.frames result }
 
     // Over a shelf that tells what is read, with no failed call, it is the one that the bytes ask for.
-    ensures complete { (asked : Asked) → asked_of (texts words.now) ≡ Some asked → AnswersInputs
+    ensures complete { (asked : Asked) → task_of (texts words.now) ≡ Some (Run asked) → IsComplete
         (moment (S.held shelf.old) (S.read_faults shelf.old) (S.write_faults shelf.old))
         (moment (S.held shelf.new) (S.read_faults shelf.new) (S.write_faults shelf.new))
         asked result }
-    ensures bad_topology { (asked : Asked) → asked_of (texts words.now) ≡ Some asked → AnswersBadTopology
+    ensures complete_check { (topology : List ℕ) → task_of (texts words.now) ≡ Some (Check topology) → IsCompleteCheck
         (moment (S.held shelf.old) (S.read_faults shelf.old) (S.write_faults shelf.old))
         (moment (S.held shelf.new) (S.read_faults shelf.new) (S.write_faults shelf.new))
-        asked result }
-    ensures long_topology { (asked : Asked) → asked_of (texts words.now) ≡ Some asked → AnswersLongTopology
-        (moment (S.held shelf.old) (S.read_faults shelf.old) (S.write_faults shelf.old))
-        (moment (S.held shelf.new) (S.read_faults shelf.new) (S.write_faults shelf.new))
-        asked result }
-    ensures bad_script { (asked : Asked) → asked_of (texts words.now) ≡ Some asked → AnswersBadScript
-        (moment (S.held shelf.old) (S.read_faults shelf.old) (S.write_faults shelf.old))
-        (moment (S.held shelf.new) (S.read_faults shelf.new) (S.write_faults shelf.new))
-        asked result }
-    ensures long_script { (asked : Asked) → asked_of (texts words.now) ≡ Some asked → AnswersLongScript
-        (moment (S.held shelf.old) (S.read_faults shelf.old) (S.write_faults shelf.old))
-        (moment (S.held shelf.new) (S.read_faults shelf.new) (S.write_faults shelf.new))
-        asked result }
-    ensures bad_capture { (asked : Asked) → asked_of (texts words.now) ≡ Some asked → AnswersBadCapture
-        (moment (S.held shelf.old) (S.read_faults shelf.old) (S.write_faults shelf.old))
-        (moment (S.held shelf.new) (S.read_faults shelf.new) (S.write_faults shelf.new))
-        asked result }
-    ensures long_capture { (asked : Asked) → asked_of (texts words.now) ≡ Some asked → AnswersLongCapture
-        (moment (S.held shelf.old) (S.read_faults shelf.old) (S.write_faults shelf.old))
-        (moment (S.held shelf.new) (S.read_faults shelf.new) (S.write_faults shelf.new))
-        asked result }
+        topology result }
 {
-    let Some(files) = files_of(words) else {
+    let Some(task) = task_of(words) else {
         return Status::Usage;
     };
-    match run(alloc, &files, shelf) {
+    one_script_one_end();
+    status_of(perform(alloc, &task, shelf))
+}
+
+fn status_of(ended: Result<(), Status>) -> Status
+    ensures { result ≡ answer_of ended }
+{
+    match ended {
         Ok(()) => Status::Done,
         Err(status) => status,
+    }
+}
+
+fn perform<S: Shelf>(alloc: Global, asked: &Task<'_>, shelf: &mut S) -> Result<(), Status>
+    requires { IsWithinLimits asked.now }
+    ensures { AnswersTask
+        (moment (S.held shelf.old) (S.read_faults shelf.old) (S.write_faults shelf.old))
+        (moment (S.held shelf.new) (S.read_faults shelf.new) (S.write_faults shelf.new))
+        (task asked.now) (answer_of result) }
+{
+    match asked {
+        Task::Run(files) => run(alloc, files, shelf),
+        Task::Check { topology } => check(alloc, topology, shelf),
+        Task::Generate(generation) => generate_and_run(alloc, *generation, shelf),
     }
 }

@@ -1,7 +1,7 @@
 //! The program: its words, the system's files and standard output for the one call `portland`.
 #![tactic(auto)]
 
-use pl_first_inputs::Status;
+use pl_inputs::Status;
 use pl_run::portland;
 use pl_shelf::DiskShelf;
 use std::env;

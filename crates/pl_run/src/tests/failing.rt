@@ -1,5 +1,5 @@
 use super::{HEADER, HOST_A, HOST_B, first_path, joined, play, untouched};
-use pl_first_inputs::Status;
+use pl_inputs::Status;
 use pl_shelf::MemoryShelf;
 use std::alloc::Global;
 use std::test::Fail;

@@ -1,7 +1,8 @@
-use Rattle.pl_run.specs.Answers.{Moment}
-use Rattle.pl_first_inputs.specs.Loaded.{inputs_of}
-use Rattle.pl_first_inputs.specs.Met.{asked}
-use Rattle.pl_run.proofs.Ending.{run_answers}
+use Rattle.pl_inputs.specs.Loaded.{inputs_of}
+use Rattle.pl_inputs.specs.Met.{asked}
+use Rattle.pl_run.specs.Answers.{Moment, texts_of}
+use Rattle.pl_run.specs.Plays.{answer_of}
+use Rattle.pl_run.proofs.Ending.{comes_since, run_answers}
 use Rattle.pl_run.proofs.running.run.Goals as goal
 
 pub returns : goal.returns
@@ -19,5 +20,7 @@ returns g c =
       write_faults = S.write_faults c.play_and_save.new.shelf;
     } in
     let e = c.in_ok-inputs.ensures in
-    run_answers old mid new (asked c.args.files.now) (inputs_of c.in_ok-inputs.inputs) e.ok (record { same = e.same; reads = e.reads; writes = e.writes })
-    c.play_and_save.result c.play_and_save.ensures
+    let i = inputs_of c.in_ok-inputs.inputs in
+    run_answers old new (asked c.args.files.now) i e.ok (answer_of c.play_and_save.result)
+    (comes_since old mid new (record { same = e.same; reads = e.reads; writes = e.writes }) i (texts_of c.args.files.now.out.now i) (answer_of c.play_and_save.result)
+    c.play_and_save.ensures)

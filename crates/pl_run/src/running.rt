@@ -1,9 +1,12 @@
-ghost use Rattle.std.specs.Prelude.{◌≡◌, [], IfOk, length, string_bytes};
+ghost use Rattle.std.specs.Prelude.{◌≡◌, [], All, IfOk, length, string_bytes};
+ghost use Rattle.pl_inputs.specs.Inputs.{Inputs};
 ghost use Rattle.pl_inputs.specs.Loaded.{inputs_of};
 ghost use Rattle.pl_inputs.specs.Met.{asked};
+ghost use Rattle.pl_journal.specs.Savable.{IsSavable};
 ghost use Rattle.pl_output.specs.Texts.{AreTexts};
 ghost use Rattle.pl_run.specs.Answers.{Answers, Comes, moment, texts_of};
-ghost use Rattle.pl_run.specs.Plays.{answer_of, summary_by};
+ghost use Rattle.pl_run.specs.Plays.{IsPlayedTo, answer_of, summary_by};
+ghost use Rattle.pl_world.specs.Flying.{IsCounted};
 
 use crate::played::{Played, play};
 use pl_fabric::settled;
@@ -36,9 +39,27 @@ fn play_and_save<S: Shelf>(
         (inputs_of inputs) (texts_of out.now (inputs_of inputs)) (answer_of result) }
 {
     let played = play(alloc, inputs)?;
+    save_played(alloc, out, &played, shelf)
+}
+
+/// Saves what came of a script that was played.
+fn save_played<S: Shelf>(
+    alloc: Global,
+    out: &str,
+    played: &Played,
+    shelf: &mut S,
+) -> Result<(), Status>
+    requires counted { IsCounted played.now.fabric.world }
+    requires savable { All (IsSavable played.now.fabric.world.plan) played.now.fabric.world.journal }
+    requires many { length played.now.captures.items ≡ length played.now.fabric.world.plan.hosts }
+    ensures { (i : Inputs) → IsPlayedTo i played.now → Comes
+        (moment (S.held shelf.old) (S.read_faults shelf.old) (S.write_faults shelf.old))
+        (moment (S.held shelf.new) (S.read_faults shelf.new) (S.write_faults shelf.new))
+        i (texts_of out.now i) (answer_of result) }
+{
     let world = played.fabric.world();
     let is_settled = settled(world);
-    let texts = texts_of(alloc, out, &played, is_settled)?;
+    let texts = texts_of(alloc, out, played, is_settled)?;
     match save_all(shelf, world.wiring(), world.journal(), texts) {
         Ok(()) => Ok(()),
         Err(name) => Err(Status::WriteFault(name)),

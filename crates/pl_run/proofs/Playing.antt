@@ -1,24 +1,21 @@
 -- What is known of a script that was played.
-use Rattle.std.proofs.Common.{◌≡◌, ◌≤◌, ◌↔◌, ℕ, suc, Bool, IsTrue, All, List, [], ◌∷◌, length, map, Option, None, Some, Result, Ok, Err, refl, sym, ap, ◌∙◌, subst, inl, inr}
+use Rattle.std.proofs.Common.{◌≡◌, ◌≤◌, ◌↔◌, ℕ, suc, Bool, IsTrue, All, List, [], ◌∷◌, length, Option, None, Some, refl, sym, ap, ◌∙◌, subst}
 use Rattle.std.proofs.lemmas.List.Elements.{All-weaker}
 use Rattle.pl_shelf.specs.Faults.{Rose}
-use Rattle.pl_shelf.specs.Held.{Held, standard_output}
+use Rattle.pl_shelf.specs.Held.{standard_output}
 use Rattle.pl_inputs.specs.declared.status.Status.TheVariants as status
 use Rattle.pl_wiring.specs.declared.host.Host.{Host}
 use Rattle.pl_wiring.specs.Plan.{IsHostMac, IsPlan, Plan}
 use Rattle.pl_inputs.specs.declared.capture.Capture.{Capture}
 use Rattle.pl_inputs.specs.Inputs.{Inputs}
 use Rattle.pl_inputs.specs.Loaded.{files_of}
-use Rattle.pl_inputs.specs.Records.{Recorded, records_in_file, records_of as records_walked}
+use Rattle.pl_inputs.specs.Records.{Recorded, records_of as records_walked}
+use Rattle.pl_journal.specs.declared.entry.Entry.{Entry}
 use Rattle.pl_journal.specs.Savable.{IsSavable}
 use Rattle.pl_script.specs.declared.script.ScriptLine.{ScriptLine}
 use Rattle.pl_world.specs.Booting.{CanBegin, booted}
 use Rattle.pl_world.specs.Runs.{Moment as Stretch, WorldRun}
 use Rattle.pl_world.specs.Worlds.{WorldView}
-use Rattle.pl_world.specs.Flying.{IsCounted}
-use Rattle.pl_core.specs.HostInputs.{HostRule}
-use Rattle.pl_core.specs.ManagerDuties.{ManagerRule}
-use Rattle.pl_core.specs.SwitchInputs.{SwitchRule}
 use Rattle.pl_host_rule.specs.HostRule.{host_rule}
 use Rattle.pl_manager_rule.specs.ManagerRule.{manager_rule}
 use Rattle.pl_switch_rule.specs.SwitchRule.{Exact}
@@ -118,6 +115,10 @@ played_to i p laws deeds many over =
       deeds = deeds;
       many = as_many p.captures.items ∙ ap (λ fs. length fs) over.captures ∙ many ∙ ap (λ (plan : Plan). length plan.hosts) (sym same);
     }
+
+-- what is said of a plan and a journal that were lent is said of those that they are
+pub of_lent : (P : Plan → List Entry → Type 0) (plan lent : Plan) (journal read : List Entry) → lent ≡ plan → read ≡ journal → P lent read → P plan journal
+of_lent P plan lent journal read is was p = subst (λ j. P plan j) was (subst (λ x. P x read) is p)
 
 -- what is saved of it
 abbrev pub is_played : (i : Inputs) (p : Played) → IsPlayedTo i p → (settled : Bool) → IsTrue settled ↔ IsSettled p.fabric.world → IsPlayed i

@@ -1,10 +1,10 @@
 -- What is left of the hosts whose captures were read.
-use Rattle.std.proofs.Common.{◌≡◌, ℕ, zero, suc, ◌+◌, ◌-◌, ◌<◌, List, [], ◌∷◌, ◌++◌, length, drop, get_or, map, Bool, refl, sym, ap, ◌∙◌, subst, add-one, append_assoc, arith}
+use Rattle.std.proofs.Common.{◌≡◌, ℕ, zero, suc, ◌+◌, ◌-◌, ◌<◌, List, [], ◌∷◌, ◌++◌, length, drop, get_or, map, refl, sym, ap, ◌∙◌, add-one, append_assoc, arith}
 use Rattle.std.proofs.Math.Seq.{drop-cons}
 use Rattle.pl_wiring.specs.declared.host.HostNo.{HostNo}
 use Rattle.pl_inputs.specs.declared.capture.Capture.{Capture}
 use Rattle.pl_inputs.specs.Loaded.{files_of}
-use Rattle.pl_inputs.specs.Records.{Recorded, records_by, records_in, records_in_file, records_of, tail_by, tail_of_file}
+use Rattle.pl_inputs.specs.Records.{records_by, records_in, records_in_file, records_of, tail_by, tail_of_file}
 use Rattle.pl_lines.specs.Lines.{left_of}
 use Rattle.pl_lines.specs.Scenes.{Scene, asked_of}
 use Rattle.pl_output.specs.declared.summary.Rest.{Rest}

@@ -1,5 +1,5 @@
 -- At which stage a run or a check ended: at its topology, at its script, or behind them.
-use Rattle.std.proofs.Common.{◌≡◌, ◌⊎◌, ℕ, ◌-◌, ◌^◌, ◌<◌, List, Result, Ok, Err, refl, sym, ap, ◌∙◌, subst, inl, inr, arith}
+use Rattle.std.proofs.Common.{◌≡◌, ◌⊎◌, ℕ, ◌-◌, ◌^◌, ◌<◌, List, Err, refl, sym, ap, ◌∙◌, subst, inl, inr, arith}
 use Rattle.pl_shelf.specs.Held.{Held, IsLonger}
 use Rattle.pl_shelf.specs.Faults.{Rose}
 use Rattle.pl_wiring.specs.Plan.{Plan}

@@ -1,5 +1,4 @@
 -- What is answered for each command.
-use Rattle.std.specs.Prelude.{ℕ, List}
 use Rattle.pl_inputs.specs.declared.status.Status.{Status}
 use Rattle.pl_inputs.specs.Words.{Task, Run, Check, Generate}
 use Rattle.pl_run.specs.Answers.{Answers, Moment}

@@ -1,5 +1,5 @@
 ghost use Rattle.std.specs.Prelude.{◌≡◌, IfErr, IfOk, length};
-ghost use Rattle.pl_inputs.specs.Inputs.{Inputs};
+ghost use Rattle.pl_inputs.specs.Inputs.{Inputs as Given};
 ghost use Rattle.pl_inputs.specs.Loaded.{inputs_of};
 ghost use Rattle.pl_inputs.specs.Met.{IsWithin, asked};
 ghost use Rattle.pl_run.specs.Answers.{Comes, moment, printed_of};
@@ -80,7 +80,7 @@ fn play_and_print<S: Shelf>(alloc: Global, inputs: Inputs, shelf: &mut S) -> Res
 fn print_played<S: Shelf>(alloc: Global, played: &Played, shelf: &mut S) -> Result<(), Status>
     requires counted { IsCounted played.now.fabric.world }
     requires many { length played.now.captures.items ≡ length played.now.fabric.world.plan.hosts }
-    ensures { (i : Inputs) → IsPlayedTo i played.now → Comes
+    ensures { (i : Given) → IsPlayedTo i played.now → Comes
         (moment (S.held shelf.old) (S.read_faults shelf.old) (S.write_faults shelf.old))
         (moment (S.held shelf.new) (S.read_faults shelf.new) (S.write_faults shelf.new))
         i (printed_of i) (answer_of result) }

@@ -1,5 +1,5 @@
 ghost use Rattle.std.specs.Prelude.{◌≡◌, [], All, IfOk, length, string_bytes};
-ghost use Rattle.pl_inputs.specs.Inputs.{Inputs};
+ghost use Rattle.pl_inputs.specs.Inputs.{Inputs as Given};
 ghost use Rattle.pl_inputs.specs.Loaded.{inputs_of};
 ghost use Rattle.pl_inputs.specs.Met.{asked};
 ghost use Rattle.pl_journal.specs.Savable.{IsSavable};
@@ -52,7 +52,7 @@ fn save_played<S: Shelf>(
     requires counted { IsCounted played.now.fabric.world }
     requires savable { All (IsSavable played.now.fabric.world.plan) played.now.fabric.world.journal }
     requires many { length played.now.captures.items ≡ length played.now.fabric.world.plan.hosts }
-    ensures { (i : Inputs) → IsPlayedTo i played.now → Comes
+    ensures { (i : Given) → IsPlayedTo i played.now → Comes
         (moment (S.held shelf.old) (S.read_faults shelf.old) (S.write_faults shelf.old))
         (moment (S.held shelf.new) (S.read_faults shelf.new) (S.write_faults shelf.new))
         i (texts_of out.now i) (answer_of result) }

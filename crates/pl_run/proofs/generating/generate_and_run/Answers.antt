@@ -1,8 +1,21 @@
+use Rattle.std.proofs.Common.{refl, sym, subst}
+use Rattle.std.proofs.lemmas.Result.{err_from_is_err_and}
 use Rattle.pl_inputs.specs.Loaded.{inputs_of}
 use Rattle.pl_run.specs.Answers.{Moment}
+use Rattle.pl_run.specs.Generated.{AnswersGenerated}
 use Rattle.pl_run.specs.Plays.{answer_of}
-use Rattle.pl_run.proofs.Ending.{generated_answers}
+use Rattle.pl_run.proofs.Ending.{generated_answers, ungenerated_answers}
 use Rattle.pl_run.proofs.generating.generate_and_run.Goals as goal
+
+pub returns-in_err-inputs : goal.returns-in_err-inputs
+returns-in_err-inputs g c =
+    let S = g.S.Shelf in
+    let old : Moment = record { held = S.held c.args.shelf.now; read_faults = S.read_faults c.args.shelf.now; write_faults = S.write_faults c.args.shelf.now } in
+    let n = c.args.generation in
+    let p = err_from_is_err_and c.from_residual.result c.from_residual.ensures.1 in
+    subst (λ r. AnswersGenerated old old n.k n.number n.frames (answer_of r)) (sym p.1)
+    (subst (λ e. AnswersGenerated old old n.k n.number n.frames e) (sym p.2)
+    (ungenerated_answers old old (record { same = λ q. refl; reads = refl; writes = refl }) n _ c.in_err-inputs.ensures.err))
 
 pub returns : goal.returns
 returns g c =

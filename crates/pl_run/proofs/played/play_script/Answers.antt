@@ -1,4 +1,4 @@
-use Rattle.std.proofs.Common.{◌≡◌, ℕ, IfOk, IfErr, List, Option, Some, None, refl, sym, subst, arith}
+use Rattle.std.proofs.Common.{ℕ, IfOk, IfErr, Some, None, refl, sym, subst, arith}
 use Rattle.std.proofs.lemmas.Result.{err_from_is_err_and}
 use Rattle.pl_host_rule.specs.HostRule.{host_rule}
 use Rattle.pl_manager_rule.specs.ManagerRule.{manager_rule}
@@ -47,5 +47,5 @@ returns-clause-err c =
     (unless_map stop (DoesLines Exact manager_rule host_rule (records_of c.deref.result.now) c.lines.result.now c.in_ok-fabric.fabric (Some (line, stop)) c.play.new.self)
     (PlaysTo i (Some (line, stop)) c.play.new.self)
     (λ does. plays_over c.args.inputs.wiring c.args.inputs.captures.items c.deref.result.now c.args.inputs.script c.lines.result.now c.in_ok-fabric.fabric c.play.new.self (Some (line, stop))
-        c.deref.ensures.value c.lines.ensures c.in_ok-fabric.ensures.scene does)
+    c.deref.ensures.value c.lines.ensures c.in_ok-fabric.ensures.scene does)
     c.in-Err.ensures.does)

@@ -1,0 +1,156 @@
+"use strict";
+// What the hands do: buttons, keys, the pointer over the picture, and files that are dropped.
+(() => {
+    const $ = id => document.getElementById(id);
+    const { page, picture } = Page;
+
+    const redraw = () => {
+        if (page.run) picture.draw();
+    };
+    const zoom = (factor, x, y) => {
+        picture.zoom(factor, x, y);
+        redraw();
+    };
+    const fit = () => {
+        if (page.run) picture.fit();
+        redraw();
+    };
+
+    const ACTS = {
+        first: () => Page.step(0),
+        last: () => Page.step(Infinity),
+        back: () => Page.step(Page.backwards()),
+        next: () => Page.step(Page.onwards()),
+        lineback: () => Page.lineOn(-1),
+        lineon: () => Page.lineOn(1),
+        play: () => Page.play(),
+        in: () => zoom(1.3),
+        out: () => zoom(1 / 1.3),
+        fit,
+        all: () => Page.tell(null),
+        "tab-journal": () => Page.choose("journal"),
+        "tab-script": () => Page.choose("script"),
+        help: () => $("manual").showModal(),
+    };
+    for (const [id, act] of Object.entries(ACTS)) {
+        $(id).addEventListener("click", () => {
+            if (page.run || id === "help") act();
+        });
+    }
+
+    const KEYS = {
+        " ": "play", ArrowLeft: "back", ArrowRight: "next", Home: "first", End: "last", "+": "in", "=": "in", "-": "out", 0: "fit", "?": "help", Escape: "all",
+    };
+    const OTHERS = {
+        f: () => Page.tellNow(),
+        "[": () => Page.faster(-1),
+        "]": () => Page.faster(1),
+        "/": () => $("find").focus(),
+    };
+
+    // Keys belong to a field or a list while it is used, and a button has its own space bar.
+    const isTaken = event => {
+        const { target, key } = event;
+        if (event.ctrlKey || event.altKey || event.metaKey || $("manual").open) return true;
+        if (target.matches("select")) return true;
+        if (target.matches("input[type='range']")) return key === "Home" || key === "End" || key.startsWith("Arrow");
+        if (target.matches("input")) return key !== "Escape";
+        return target.matches("button") && key === " ";
+    };
+
+    document.addEventListener("keydown", event => {
+        if (isTaken(event)) return;
+        const { key } = event;
+        if (event.target.matches("input")) event.target.blur();
+        const line = event.shiftKey ? { ArrowLeft: "lineback", ArrowRight: "lineon" }[key] : undefined;
+        const act = ACTS[line || KEYS[key]] || OTHERS[key];
+        if (!act) return;
+        event.preventDefault();
+        if (page.run || key === "?") act();
+    });
+
+    $("slider").addEventListener("input", () => Page.step(Number($("slider").value)));
+    $("liner").addEventListener("submit", event => {
+        event.preventDefault();
+        if (page.run && $("line").value !== "") Page.toLine(Number($("line").value));
+    });
+    $("enterer").addEventListener("submit", event => {
+        event.preventDefault();
+        if (page.run && $("entry").value !== "") Page.step(Number($("entry").value));
+    });
+    $("finder").addEventListener("submit", event => {
+        event.preventDefault();
+        const subject = page.run ? Stories.find(page.run, $("find").value) : null;
+        $("find").setCustomValidity(subject ? "" : "There is no such switch, host or frame.");
+        if (!subject) $("find").reportValidity();
+        else {
+            Page.tell(subject);
+            if (subject.frame === undefined) picture.reveal(subject);
+            $("find").blur();
+            redraw();
+        }
+    });
+    $("find").addEventListener("input", () => $("find").setCustomValidity(""));
+
+    let drag = null;
+    $("canvas").addEventListener("pointerdown", event => {
+        drag = { x: event.clientX, y: event.clientY, isMoved: false };
+        $("canvas").setPointerCapture(event.pointerId);
+    });
+    $("canvas").addEventListener("pointermove", event => {
+        if (!page.run) return;
+        if (!drag) {
+            const found = picture.find(event.offsetX, event.offsetY);
+            $("canvas").style.cursor = found ? "pointer" : "grab";
+            $("canvas").title = found ? Facts.name(page.run, found) : "";
+            return;
+        }
+        const [x, y] = [event.clientX - drag.x, event.clientY - drag.y];
+        if (!drag.isMoved && Math.hypot(x, y) < 4) return;
+        picture.pan(x, y);
+        drag = { x: event.clientX, y: event.clientY, isMoved: true };
+        redraw();
+    });
+    $("canvas").addEventListener("pointerup", event => {
+        const isClick = drag && !drag.isMoved;
+        drag = null;
+        if (!isClick || !page.run) return;
+        const found = picture.find(event.offsetX, event.offsetY);
+        if (found) Page.tell(found);
+    });
+    $("canvas").addEventListener("wheel", event => {
+        event.preventDefault();
+        if (page.run) zoom(Math.exp(-event.deltaY / 500), event.offsetX, event.offsetY);
+    }, { passive: false });
+
+    const name = list => (list.length === 1 ? list[0].name : "");
+    $("files").addEventListener("change", async () => {
+        const files = await Files.chosen($("files").files);
+        $("files").value = "";
+        Page.open(files, "");
+    });
+    document.addEventListener("dragover", event => {
+        event.preventDefault();
+        $("welcome").classList.add("over");
+    });
+    document.addEventListener("dragleave", () => $("welcome").classList.remove("over"));
+    document.addEventListener("drop", async event => {
+        event.preventDefault();
+        $("welcome").classList.remove("over");
+        const folder = [...event.dataTransfer.items].length === 1 ? name(event.dataTransfer.files) : "";
+        Page.open(await Files.dropped(event.dataTransfer), folder);
+    });
+
+    const resize = () => {
+        if (page.run) Page.draw(false);
+        else picture.draw();
+    };
+    new ResizeObserver(resize).observe($("canvas"));
+    window.matchMedia("(prefers-color-scheme: dark)").addEventListener("change", () => {
+        picture.themed();
+        resize();
+    });
+
+    picture.themed();
+    Files.packed().then(found => found && Page.open(found.files, found.name)).catch(Page.refuse);
+})();

@@ -23,7 +23,8 @@
         next: () => Page.step(Page.onwards()),
         lineback: () => Page.lineOn(-1),
         lineon: () => Page.lineOn(1),
-        play: () => Page.play(),
+        play: () => Page.play(1),
+        playback: () => Page.play(-1),
         in: () => zoom(1.3),
         out: () => zoom(1 / 1.3),
         fit,
@@ -62,7 +63,7 @@
         if (isTaken(event)) return;
         const { key } = event;
         if (event.target.matches("input")) event.target.blur();
-        const line = event.shiftKey ? { ArrowLeft: "lineback", ArrowRight: "lineon" }[key] : undefined;
+        const line = event.shiftKey ? { ArrowLeft: "lineback", ArrowRight: "lineon", " ": "playback" }[key] : undefined;
         const act = ACTS[line || KEYS[key]] || OTHERS[key];
         if (!act) return;
         event.preventDefault();
@@ -86,6 +87,7 @@
         else {
             Page.tell(subject);
             if (subject.frame === undefined) picture.reveal(subject);
+            $("find").value = "";
             $("find").blur();
             redraw();
         }

@@ -173,10 +173,12 @@ globalThis.Journal = (() => {
             a: column(), b: column(), c: column(), // the entry's parts, by its kind
             before: column(), // the entry of the same frame before this one, -1 where there is none
             at: column(), // the switch that the frame crossed last or that made it, -1 where there is none
+            spot: column(), // of `sent` and `arrived` the port of an edge switch where the host stood then
             begin: [-1], end: [-1], parent: [0], root: [0], // of each frame by its number: entries, the frame that it is a copy of
             addresses: [], // { number, host, edge, port, granted, registered, registration }
             byAddress: new Map(),
             scriptLines: [], // the entries `line N`
+            spots: Int32Array.from(fabric.hosts, host => host.edge * fabric.k + host.port), // where hosts stand while it is read
         };
     };
 
@@ -238,6 +240,7 @@ globalThis.Journal = (() => {
         run.c[n] = lines.part("a port", run.fabric.k - 1);
         const s = run.fabric.switches[run.b[n]];
         if (!s.hostPorts.includes(run.c[n])) lines.refuse(`port ${run.c[n]} of ${s.label} is none for hosts`);
+        run.spots[run.a[n]] = run.b[n] * run.fabric.k + run.c[n];
     };
 
     // Entries of a frame that has begun and not ended. `last` has each frame's newest entry.
@@ -264,6 +267,7 @@ globalThis.Journal = (() => {
             else {
                 run.b[n] = lines.host(run.fabric);
                 run.c[n] = lines.frame();
+                run.spot[n] = run.spots[run.b[n]];
             }
         }
     };
@@ -275,7 +279,8 @@ globalThis.Journal = (() => {
         run.a[n] = id;
         run.b[n] = kind === KIND.sent ? lines.host(run.fabric) : lines.switch(run.fabric.k);
         run.c[n] = lines.frame();
-        run.at[n] = kind === KIND.sent ? -1 : run.b[n];
+        if (kind === KIND.sent) run.spot[n] = run.spots[run.b[n]];
+        else run.at[n] = run.b[n];
     };
 
     const entry = (lines, run, n, last) => {
@@ -283,6 +288,7 @@ globalThis.Journal = (() => {
         run.kind[n] = kind;
         run.before[n] = -1;
         run.at[n] = -1;
+        run.spot[n] = -1;
         if (kind >= KIND.crossed && kind <= KIND.dropped) ofFlying(lines, run, n, kind, last);
         else if (kind === KIND.sent || kind === KIND.made) ofNewFrame(lines, run, n, kind, last);
         else if (kind === KIND.skipped) {

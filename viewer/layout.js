@@ -21,7 +21,7 @@ globalThis.Layout = (() => {
         const { column, across, box, cell, gap } = sizes(k);
         const width = k * (h * column + gap) + gap;
         const hostRows = Math.ceil(h / across);
-        const below = hostRows * (cell[1] + 3) + 32;
+        const below = hostRows * (cell[1] + 3) + 40;
         const least = 3 * box[1] + below + 150;
         const height = Math.max(least, Math.min(width / shape, least + width * 0.25));
         const step = (height - below - box[1] - 40) / 2;

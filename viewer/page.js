@@ -7,7 +7,8 @@ globalThis.Page = (() => {
     const page = {
         files: {}, run: null, states: null, script: null, state: null,
         subject: null, story: null, // whose story is shown, and its entries
-        playing: 0, owed: 0, moving: 0, // when the last picture was made while playing; entries that are due; when a frame set out
+        playing: 0, owed: 0, way: 1, // when the last picture was made while playing; entries that are due; 1 is on, -1 back
+        moving: 0, // when the frame of now set out
         sight: true, // what happens is brought into sight
     };
 
@@ -188,7 +189,8 @@ globalThis.Page = (() => {
 
     const stop = () => {
         page.playing = 0;
-        $("play").textContent = "\u25B6 play";
+        $("play").textContent = "play \u25B6";
+        $("playback").textContent = "\u25C0";
         if (page.run) drawNow();
     };
 
@@ -199,25 +201,32 @@ globalThis.Page = (() => {
         const due = Math.floor(page.owed);
         if (due > 0) {
             page.owed -= due;
-            go(page.story ? storyAfter(due) : page.state.entry + due, speed() <= 5);
+            go(afterMany(page.way * due), page.way > 0 && speed() <= 5);
         }
-        if (onwards() === page.state.entry || page.state.entry === page.run.count) stop();
+        if (isAtEnd()) stop();
         else requestAnimationFrame(tick);
     };
 
-    const storyAfter = due => {
-        const happened = Stories.happened(page.story, page.state.entry);
-        return page.story[Math.min(page.story.length, happened + due) - 1] + 1;
+    // the entry so many entries of the journal, or of the story that is shown, from that of now
+    const afterMany = count => {
+        if (!page.story) return page.state.entry + count;
+        const happened = Stories.happened(page.story, count > 0 ? page.state.entry : page.state.entry - 1) + (count > 0 ? count : count + 1);
+        return happened <= 0 ? 0 : page.story[Math.min(page.story.length, happened) - 1] + 1;
     };
 
-    const play = () => {
-        if (!page.run) return;
+    // whether there is nothing more to play this way
+    const isAtEnd = () => (page.way < 0 ? page.state.entry === 0 : page.state.entry >= onwards() || page.state.entry === page.run.count);
+
+    // plays on, or back where `way` is -1; stops what plays
+    const play = way => {
         if (page.playing) return stop();
-        if (onwards() === page.state.entry || page.state.entry === page.run.count) go(0);
+        page.way = way;
+        if (isAtEnd()) go(way > 0 ? 0 : page.run.count);
         page.playing = performance.now();
         page.owed = 0;
-        $("play").textContent = "\u25A0 stop";
+        $(way > 0 ? "play" : "playback").textContent = way > 0 ? "stop \u25A0" : "\u25A0";
         requestAnimationFrame(tick);
+        return undefined;
     };
 
     const step = n => {
@@ -271,26 +280,40 @@ globalThis.Page = (() => {
         document.body.dataset.open = page.run.count;
     };
 
+    // says why no run is open
     const refuse = error => {
+        page.run = null;
+        page.files = {};
+        picture.scene = null;
         $("refused").textContent = error.message;
+        $("opened").textContent = "no run is open";
+        $("find").disabled = true;
+        $("zooming").hidden = true;
         $("welcome").hidden = false;
     };
 
+    // a moment in which the page is drawn
+    const drawn = () => new Promise(done => requestAnimationFrame(() => setTimeout(done)));
+
     // Opens the files of a run. Topology and journal are wanted; until both are there, what was given is kept.
-    const open = (files, name) => {
+    const open = async (files, name) => {
         if (files.journal && page.run && !files.script) delete page.files.script;
         Object.assign(page.files, files);
         const missing = ["topology", "journal"].filter(what => !page.files[what]);
-        if (Object.keys(files).length === 0) return refuse(new Error("No topology, journal or script is among these files."));
-        if (missing.length > 0) return refuse(new Error(`Now open its ${missing.join(" and its ")}.`));
+        const isNone = Object.keys(files).length === 0;
+        if (isNone || missing.length > 0) {
+            const what = isNone ? "No topology, journal or script is among these files." : `Now open its ${missing.join(" and its ")}.`;
+            $(page.run ? "opened" : "refused").textContent = what;
+            return;
+        }
         try {
             $("refused").textContent = "";
+            $("opened").textContent = "reading the run";
+            await drawn();
             show(Files.runOf(page.files), name);
         } catch (error) {
-            page.files = {};
             refuse(error);
         }
-        return undefined;
     };
 
     return { page, picture, open, go, draw, step, onwards, backwards, lineOn, toLine, play, stop, tell, tellNow, choose, faster, refuse };

@@ -54,8 +54,10 @@ globalThis.Picture = (() => {
             return at.x + at.width > 0 && at.y + at.height > 0 && at.x - at.width < clientWidth && at.y - at.height < clientHeight;
         }
 
+        // A host is at the port that is named with it, else where it stands now.
         boxOf(place) {
-            return place.switch !== undefined ? this.layout.switches[place.switch] : this.layout.cells.get(this.state.spots[place.host]);
+            if (place.switch !== undefined) return this.layout.switches[place.switch];
+            return this.layout.cells.get(place.spot === undefined ? this.state.spots[place.host] : place.spot);
         }
 
         // the place on the canvas of a switch or a host
@@ -202,7 +204,10 @@ globalThis.Picture = (() => {
 
         drawPlace(place, isMarked) {
             if (place.switch !== undefined) this.drawSwitch(this.fabric.switches[place.switch], isMarked);
-            else if (place.host !== undefined) this.drawHost(this.fabric.hosts[place.host], isMarked);
+            else if (place.host !== undefined) {
+                const isThere = place.spot === undefined || place.spot === this.state.spots[place.host];
+                if (isThere) this.drawHost(this.fabric.hosts[place.host], isMarked);
+            }
         }
 
         // the way of the frame in focus, from where it began to where it was last, and what the entry of now speaks of
@@ -226,7 +231,7 @@ globalThis.Picture = (() => {
             const { flying, focus } = this.scene;
             for (const [key, ids] of flying) {
                 const others = ids.filter(id => id !== focus);
-                const at = this.spotOf(key < 0 ? { host: -1 - key } : { switch: key });
+                const at = this.spotOf(key < 0 ? { spot: -1 - key } : { switch: key });
                 if (others.length === 0 || !this.isSeen(at)) continue;
                 const isNarrow = at.width < 48;
                 const text = others.length === 1 && (!isNarrow || others[0] < 1000) ? `${others[0]}` : `\u00d7${others.length}`;
@@ -255,7 +260,8 @@ globalThis.Picture = (() => {
                 return;
             }
             const at = this.spotOf(now.place);
-            this.drawNote(now.note, at.x, at.y - at.height / 2 - 22, now.note.startsWith("\u2715"));
+            const y = now.place.host === undefined ? at.y - at.height / 2 - 22 : at.y + at.height / 2 + 12;
+            this.drawNote(now.note, at.x, y, now.note.startsWith("\u2715"));
         }
 
         draw() {

@@ -4,7 +4,7 @@
 globalThis.Scene = (() => {
     const { KIND, CAUSES } = Journal;
 
-    const samePlace = (a, b) => a.host === b.host && a.switch === b.switch;
+    const samePlace = (a, b) => a.host === b.host && a.switch === b.switch && a.spot === b.spot;
 
     // the places of a frame up to entry n, the oldest first, no place twice in a row
     const wayOf = (run, n) => {
@@ -56,12 +56,12 @@ globalThis.Scene = (() => {
         return { entry: n, frame, place, from: from && !samePlace(from, place) ? from : null, note: noteOf(run, n), ends: frame > 0 && run.end[frame] === n };
     };
 
-    // the frames that are flying, by the place of their newest entry
+    // The frames that are flying, by the place of their newest entry: a switch's number, or a port for hosts as a number below 0.
     const flyingAt = (run, state) => {
         const places = new Map();
         for (const [id, n] of state.flying) {
             const place = At.where(run, n);
-            const key = place.host === undefined ? place.switch : -1 - place.host;
+            const key = place.host === undefined ? place.switch : -1 - place.spot;
             if (places.has(key)) places.get(key).push(id);
             else places.set(key, [id]);
         }

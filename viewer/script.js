@@ -25,7 +25,14 @@ globalThis.Script = (() => {
         sweep: ([n]) => `${n} times, all that waits in the queues is delivered`,
         settle: ([n]) => `rounds until nothing is left to do, ${n} at most: each switch ticks, then queues are swept`,
         random: ([seed, n]) => `${n} steps that are drawn by the number ${seed}`,
-        expect: ([what, ...rest]) => `it is checked: ${[what, ...rest].join(" ")}`,
+        expect: ([what, ...rest]) => (Object.hasOwn(CHECKS, what) ? `it is checked that ${CHECKS[what](rest)}` : rest.join(" ")),
+    };
+
+    const CHECKS = {
+        arrived: ([host, n]) => `${n} frames have arrived at host ${host}`,
+        dropped: ([cause, n]) => `${n} frames were dropped as ${cause}`,
+        address: ([host, address]) => `the newest address of host ${host} that was registered is ${address}`,
+        settled: () => "the last `settle` line left the fabric settled",
     };
 
     const read = text => {

@@ -111,12 +111,13 @@ globalThis.At = (() => {
 
     const spot = (fabric, state, host) => ({ edge: Math.floor(state.spots[host] / fabric.k), port: state.spots[host] % fabric.k });
 
-    // where a frame was at one of its entries: at a host before it crossed a switch and where it arrived, else at the switch that it
-    // crossed last or that made it
+    // Where a frame was at one of its entries: at a host before it crossed a switch and where it arrived, with the port where the
+    // host stood then; else at the switch that it crossed last or that made it.
     const where = (journal, n) => {
-        if (journal.kind[n] === KIND.arrived) return { host: journal.b[n] };
+        if (journal.kind[n] === KIND.arrived) return { host: journal.b[n], spot: journal.spot[n] };
         if (journal.at[n] >= 0) return { switch: journal.at[n] };
-        return { host: journal.b[Journal.beginning(journal, journal.a[n])] };
+        const first = Journal.beginning(journal, journal.a[n]);
+        return { host: journal.b[first], spot: journal.spot[first] };
     };
 
     // the entries of a frame so far, those before it was copied included, the oldest first

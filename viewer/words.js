@@ -8,7 +8,7 @@ globalThis.Words = (() => {
         NotPlaced: "the switch does not know its place yet, or not that of the neighbour whom it came from",
         NoNextHop: "no port leads on to its address",
         NoAddress: "its address was never granted at the switch that it names",
-        HostGone: "the host that it was for, or that sent it, stands at that port no more, or none does",
+        HostGone: "the host that it is for does not stand where it was led, or its sender moved away while it still waited",
         LinkDown: "the link that it was put on is failed, or failed while it waited there",
         Lost: "a `lose` line of the script took it off its link",
         Spent: "the port has granted all its addresses, and the sender has none in use there",
@@ -69,7 +69,8 @@ globalThis.Words = (() => {
         const found = run.byAddress.get(value);
         if (found !== undefined && run.addresses[found].granted < n) return `${hostOf(run, run.addresses[found].host)}'s pseudo address`;
         if (run.fabric.macs.has(value)) return `${hostOf(run, run.fabric.macs.get(value))}'s own address`;
-        return Frames.isGroup(value) ? groupText(value) : Frames.macText(value);
+        if (Frames.isGroup(value)) return groupText(value);
+        return value % 65536 === 0 ? `${Frames.macText(value)}, the sender of a probe` : Frames.macText(value);
     };
 
     const arpText = arp => {
@@ -77,7 +78,7 @@ globalThis.Words = (() => {
         if (arp.opcode === 2) return `an ARP reply: ${Frames.ipText(arp.senderIp)} is at ${Frames.macText(arp.senderMac)}`;
         if (arp.opcode !== 1) return `an ARP frame with opcode ${arp.opcode}`;
         if (arp.senderIp === arp.targetIp) return `an ARP request for its own address, ${Frames.ipText(arp.targetIp)}`;
-        return `an ARP request: who has ${Frames.ipText(arp.targetIp)}?`;
+        return `an ARP request that asks who has ${Frames.ipText(arp.targetIp)}${arp.senderIp === 0 ? ", as a probe" : ""}`;
     };
 
     const changesText = changes => {

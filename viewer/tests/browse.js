@@ -89,6 +89,9 @@ const a_packed_run_plays_to_its_end = async browser => {
     assert(run.summary.includes(counts), counts);
     await browser.press("ArrowLeft");
     await says(browser, run, run.run.count - 1);
+    await browser.press(" ", SHIFT);
+    await browser.until("document.getElementById('back').disabled");
+    await says(browser, run, 0);
 };
 
 const a_frame_is_followed = async browser => {

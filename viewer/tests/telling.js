@@ -20,6 +20,11 @@ const SENTENCES = [
     ["examples/four-hosts", 91, "Switch a1.0 receives frame 13, on its way down from c0.0."],
     ["examples/four-hosts", 93, "Frame 13 arrives at host d: 60 bytes of type 0x88b6. It crossed 5 switches: e0.0, a0.0, c0.0, a1.0, e1.0."],
     ["tests/fabric/group", 96, "Host c sends frame 14, to routed group 66051: an IGMP report: it joins 239.1.2.3."],
+    ["tests/fabric/held-frames", 51, "A record of a's capture is not played: HoldFull, 64 frames wait for that address already."],
+    ["tests/fabric/random-02", 169, "A `settle` line ends and the fabric is not settled: 0 things wait that stand against it."],
+    ["tests/fabric/link-fails-with-frames", 103, "The link between e0.0 and a0.0 fails."],
+    ["tests/fabric/link-fails-with-frames", 104, "Frame 14 ends after switch e0.0, which it crossed last: LinkDown, the link that it was put on is failed, or failed while it waited there."],
+    ["tests/fabric/link-fails-with-frames", 107, "The link between e0.0 and a0.0 is repaired."],
     ["tests/fabric/group", 111, "At c1.1 frame 16 goes one more way: frame 17 is its copy."],
     ["tests/fabric/group", 133, "Frame 20 ends after switch e0.0, which it crossed last: NoMember, nobody is reached there who has joined its group."],
     ["tests/fabric/move-twice", 96, "Host d moves to port 1 of e0.1."],
@@ -102,6 +107,19 @@ const ways_go_by_links_of_the_wiring = () => {
             }
         }
     }
+};
+
+// A frame that a host sent stays where the host stood then, though the host has moved on.
+const a_frame_is_drawn_where_its_host_stood = () => {
+    const { run, states } = open("tests/fabric/move-twice");
+    const k = 4;
+    const e01 = Fabric.number(run.fabric, "e0.1");
+    const [first, second] = [run.begin[14], run.begin[17]];
+    assert.deepEqual(Scene.wayOf(run, first), [{ host: 3, spot: e01 * k + 1 }]);
+    assert.deepEqual(Scene.wayOf(run, second)[0], { switch: Fabric.number(run.fabric, "e1.0") });
+    const end = At.at(states, run.count);
+    assert.deepEqual(Scene.wayOf(run, At.newest(run, end, 14)), [{ host: 3, spot: e01 * k + 1 }, { switch: e01 }]);
+    assert.notEqual(end.spots[3], e01 * k + 1);
 };
 
 const each_frame_in_flight_is_drawn_once = () => {
@@ -200,7 +218,7 @@ const a_fabric_is_laid_out_without_overlaps = () => {
 
 module.exports = {
     each_kind_of_entry_has_its_sentence, each_entry_of_the_stored_runs_has_a_sentence, an_address_is_said_as_the_journal_has_it_so_far,
-    what_is_drawn_follows_from_the_journal, ways_go_by_links_of_the_wiring, each_frame_in_flight_is_drawn_once,
+    what_is_drawn_follows_from_the_journal, a_frame_is_drawn_where_its_host_stood, ways_go_by_links_of_the_wiring, each_frame_in_flight_is_drawn_once,
     the_story_of_a_frame_is_its_lines, the_story_of_a_copy_begins_with_what_it_is_a_copy_of, the_story_of_a_host_is_what_befalls_it,
     the_story_of_a_switch_is_what_happens_at_it, subjects_are_found_by_their_names, facts_are_those_of_the_entry,
     a_fabric_is_laid_out_without_overlaps,

@@ -10,8 +10,9 @@ globalThis.Fabric = (() => {
 
     const labelOf = (k, number) => {
         const h = k / 2;
-        const [letter, n] = number < k * h ? ["e", number] : number < 2 * k * h ? ["a", number - k * h] : ["c", number - 2 * k * h];
-        return `${letter}${Math.floor(n / h)}.${n % h}`;
+        const level = number < k * h ? 0 : number < 2 * k * h ? 1 : 2;
+        const n = number - level * k * h;
+        return `${"eac"[level]}${Math.floor(n / h)}.${n % h}`;
     };
 
     // the switch of a label, -1 where there is none
@@ -45,7 +46,8 @@ globalThis.Fabric = (() => {
         return Array.from({ length: count }, (_, number) => {
             const level = number < k * h ? 0 : number < 2 * k * h ? 1 : 2;
             const pod = level === 2 ? null : Math.floor((number - level * k * h) / h);
-            return { number, label: labelOf(k, number), level, pod, id: number + 1, ports: new Array(k).fill(-1), hostPorts: [] };
+            const ports = new Array(k).fill(-1); // the link at each, -1 where there is none
+            return { number, label: labelOf(k, number), level, pod, id: number + 1, ports, hostPorts: [] };
         });
     };
 
@@ -114,8 +116,8 @@ globalThis.Fabric = (() => {
     const hostOf = (fabric, table, number) => {
         const { name, mac, ip } = table;
         if (typeof name !== "string" || !/^[a-z0-9_-]{1,32}$/.test(name)) refuse(`host number ${number} has no name`);
-        if (typeof mac !== "string" || !/^([0-9a-f]{2}:){5}[0-9a-f]{2}$/i.test(mac)) refuse(`the mac of host ${name} is none`);
-        if (typeof ip !== "string" || !/^(\d{1,3}\.){3}\d{1,3}$/.test(ip)) refuse(`the ip of host ${name} is none`);
+        if (!/^([0-9a-f]{2}:){5}[0-9a-f]{2}$/i.test(String(mac))) refuse(`the mac of host ${name} is none`);
+        if (!/^(\d{1,3}\.){3}\d{1,3}$/.test(String(ip))) refuse(`the ip of host ${name} is none`);
         const edge = numberOf(fabric.k, String(table.edge));
         if (edge < 0 || fabric.switches[edge].level !== 0) refuse(`host ${name} stands at no edge switch`);
         const port = portOf(fabric.k, table, "port");

@@ -8,7 +8,8 @@ globalThis.Facts = (() => {
 
     const name = (run, subject) => {
         if (subject.frame !== undefined) return `frame ${subject.frame}`;
-        return subject.host !== undefined ? `host ${Words.hostOf(run, subject.host)}` : `switch ${Words.switchOf(run, subject.switch)}`;
+        if (subject.host !== undefined) return `host ${Words.hostOf(run, subject.host)}`;
+        return `switch ${Words.switchOf(run, subject.switch)}`;
     };
 
     const flyingAt = (run, state, wanted) => {
@@ -49,9 +50,9 @@ globalThis.Facts = (() => {
     const addressFacts = (run, state, number) => run.addresses
         .filter(address => address.host === number && address.granted < state.entry)
         .map(address => {
-            const registered = address.registered >= 0 && address.registered < state.entry;
-            const port = `port ${address.port} of ${Words.switchOf(run, address.edge)}`;
-            return [Frames.macText(address.number), `${port}, ${registered ? `registered as ${address.registration}` : "not registered"}`];
+            const isRegistered = address.registered >= 0 && address.registered < state.entry;
+            const registered = isRegistered ? `registered as ${address.registration}` : "not registered";
+            return [Frames.macText(address.number), `port ${address.port} of ${Words.switchOf(run, address.edge)}, ${registered}`];
         });
 
     const ofHost = (run, state, number) => {
@@ -72,15 +73,17 @@ globalThis.Facts = (() => {
         if (end < 0 || end >= state.entry) return "in flight";
         const kind = run.kind[end];
         if (kind === Journal.KIND.dropped) return `dropped: ${Journal.CAUSES[run.b[end]]}`;
-        return kind === Journal.KIND.taken ? `taken by ${Words.switchOf(run, run.b[end])}` : `arrived at ${Words.hostOf(run, run.b[end])}`;
+        if (kind === Journal.KIND.taken) return `taken by ${Words.switchOf(run, run.b[end])}`;
+        return `arrived at ${Words.hostOf(run, run.b[end])}`;
     };
 
     const ofFrame = (run, state, id) => {
         const newest = At.newest(run, state, id);
         if (newest < 0) return [["frame", "has not begun"]];
         const first = Journal.beginning(run, id);
-        const by = run.kind[first] === Journal.KIND.sent ? ["host", host(run, run.b[first])] : ["switch", place(run, run.b[first])];
-        const crossed = At.past(run, newest).filter(n => run.kind[n] === Journal.KIND.crossed).map(n => place(run, run.b[n]));
+        const isSent = run.kind[first] === Journal.KIND.sent;
+        const by = isSent ? ["host", host(run, run.b[first])] : ["switch", place(run, run.b[first])];
+        const crossed = Words.trail(run, newest).map(number => place(run, number));
         const copy = run.parent[id] > 0 ? [["copy of", frame(run.parent[id])]] : [];
         const address = At.address(run, newest);
         return [

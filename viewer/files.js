@@ -39,7 +39,9 @@ globalThis.Files = (() => {
     // the run that was packed into this page, or null
     const packed = async () => {
         const files = {};
-        for (const element of document.querySelectorAll("script[data-packed]")) files[element.dataset.packed] = await unpacked(element);
+        for (const element of document.querySelectorAll("script[data-packed]")) {
+            files[element.dataset.packed] = await unpacked(element);
+        }
         const title = document.querySelector("meta[name='run']");
         return files.journal ? { files, name: title ? title.content : "packed run" } : null;
     };

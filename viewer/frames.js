@@ -28,7 +28,7 @@ globalThis.Frames = (() => {
 
     const isGroup = value => Math.floor(value / 2 ** 40) % 2 === 1;
 
-    // The number of a routed group: 01:00:5e, a zero bit, and 23 bits that are 256 at least. Else null: every other group is flooded.
+    // The number of a routed group: 01:00:5e, a zero bit, and 23 bits that are 256 at least. Else null: it is flooded.
     const groupOf = value => {
         const isMapped = Math.floor(value / 2 ** 24) === 0x01005e && value % 2 ** 24 < 2 ** 23;
         return isMapped && value % 2 ** 23 >= 256 ? value % 2 ** 23 : null;
@@ -77,7 +77,8 @@ globalThis.Frames = (() => {
     const ipOf = (bytes, at) => {
         const header = 4 * (bytes[at] & 15);
         if (bytes.length < at + 20 || bytes[at] >> 4 !== 4 || header < 20 || bytes.length < at + header) return null;
-        const ip = { header, protocol: bytes[at + 9], source: number(bytes, at + 12, 4), destination: number(bytes, at + 16, 4) };
+        const [source, destination] = [number(bytes, at + 12, 4), number(bytes, at + 16, 4)];
+        const ip = { header, protocol: bytes[at + 9], source, destination };
         Object.assign(ip, portsOf(bytes, at, ip));
         if (ip.protocol === 2) ip.igmp = igmpOf(bytes, at + header);
         return ip;

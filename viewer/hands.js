@@ -40,9 +40,18 @@
     }
 
     const KEYS = {
-        " ": "play", ArrowLeft: "back", ArrowRight: "next", Home: "first", End: "last", "+": "in", "=": "in", "-": "out", 0: "fit", "?": "help", Escape: "all",
+        " ": "play", ArrowLeft: "back", ArrowRight: "next", Home: "first", End: "last",
+        "+": "in", "=": "in", "-": "out", 0: "fit", "?": "help", Escape: "all",
+    };
+    const pan = (x, y) => {
+        if (page.run) picture.pan(x, y);
+        redraw();
     };
     const OTHERS = {
+        a: () => pan(80, 0),
+        d: () => pan(-80, 0),
+        w: () => pan(0, 80),
+        s: () => pan(0, -80),
         f: () => Page.tellNow(),
         "[": () => Page.faster(-1),
         "]": () => Page.faster(1),
@@ -86,7 +95,7 @@
         if (!subject) $("find").reportValidity();
         else {
             Page.tell(subject);
-            if (subject.frame === undefined) picture.reveal(subject);
+            if (subject.frame === undefined) picture.approach(subject);
             $("find").value = "";
             $("find").blur();
             redraw();

@@ -86,7 +86,7 @@ globalThis.Journal = (() => {
             const { bytes } = this;
             const from = this.at;
             let value = 0;
-            while (bytes[this.at] >= 48 && bytes[this.at] <= 57 && value <= LARGEST) value = value * 10 + bytes[this.at++] - 48;
+            for (let c = bytes[from]; c >= 48 && c <= 57 && value <= LARGEST; c = bytes[++this.at]) value = value * 10 + c - 48;
             const length = this.at - from;
             if (length === 0 || (length > 1 && bytes[from] === 48) || value > LARGEST) this.refuse(`${what} is missing or none`);
             return value;
@@ -174,11 +174,12 @@ globalThis.Journal = (() => {
             before: column(), // the entry of the same frame before this one, -1 where there is none
             at: column(), // the switch that the frame crossed last or that made it, -1 where there is none
             spot: column(), // of `sent` and `arrived` the port of an edge switch where the host stood then
-            begin: [-1], end: [-1], parent: [0], root: [0], // of each frame by its number: entries, the frame that it is a copy of
+            // of each frame by its number: its first and last entry, the frame that it is a copy of, the first one of these
+            begin: [-1], end: [-1], parent: [0], root: [0],
             addresses: [], // { number, host, edge, port, granted, registered, registration }
             byAddress: new Map(),
             scriptLines: [], // the entries `line N`
-            spots: Int32Array.from(fabric.hosts, host => host.edge * fabric.k + host.port), // where hosts stand while it is read
+            spots: Int32Array.from(fabric.hosts, host => host.edge * fabric.k + host.port), // where hosts stand meanwhile
         };
     };
 
@@ -325,7 +326,8 @@ globalThis.Journal = (() => {
     const text = (run, n, most = Infinity) => {
         const from = run.start[n];
         const to = run.start[n + 1] - 1;
-        return new TextDecoder().decode(run.bytes.subarray(from, Math.min(to, from + most))) + (to - from > most ? "…" : "");
+        const shown = new TextDecoder().decode(run.bytes.subarray(from, Math.min(to, from + most)));
+        return to - from > most ? `${shown}\u2026` : shown;
     };
 
     const hasFrame = (run, n) => [KIND.sent, KIND.made, KIND.arrived].includes(run.kind[n]);
@@ -334,7 +336,8 @@ globalThis.Journal = (() => {
     const frame = (run, n) => {
         const from = run.c[n];
         const length = (run.start[n + 1] - 1 - from) >> 1;
-        return Uint8Array.from({ length }, (_, i) => DIGITS[run.bytes[from + 2 * i]] * 16 + DIGITS[run.bytes[from + 2 * i + 1]]);
+        const digit = at => DIGITS[run.bytes[from + at]];
+        return Uint8Array.from({ length }, (_, n) => digit(2 * n) * 16 + digit(2 * n + 1));
     };
 
     // the number of the frame that an entry speaks of, 0 where it speaks of none

@@ -11,7 +11,8 @@ globalThis.Layout = (() => {
     };
 
     const row = (fabric, level, x, y, [width, height]) => {
-        for (const s of fabric.switches) if (s.level === level) fabric.layout.switches[s.number] = { x: x(s), y, width, height };
+        const inRow = fabric.switches.filter(s => s.level === level);
+        for (const s of inRow) fabric.layout.switches[s.number] = { x: x(s), y, width, height };
     };
 
     // The drawing of a fabric in an area of this shape, width by height: the rows stand apart so that it fills the area.
@@ -23,7 +24,7 @@ globalThis.Layout = (() => {
         const hostRows = Math.ceil(h / across);
         const below = hostRows * (cell[1] + 3) + 40;
         const least = 3 * box[1] + below + 150;
-        const height = Math.max(least, Math.min(width / shape, least + width * 0.25));
+        const height = Math.max(least, Math.min(width / shape, least + width * 0.45));
         const step = (height - below - box[1] - 40) / 2;
         const layout = { width, height, box, cell, across, column, switches: [], pods: [], cells: new Map() };
         const view = { ...fabric, layout };
@@ -35,7 +36,8 @@ globalThis.Layout = (() => {
         row(view, 0, inPod, top + 2 * step, box);
         for (let pod = 0; pod < k; pod++) {
             const x = gap + pod * (h * column + gap);
-            layout.pods.push({ x: x - gap * 0.3, y: top + step - box[1] / 2 - 8, width: h * column + gap * 0.6, height: step + box[1] + 8 + below });
+            const y = top + step - box[1] / 2 - 8;
+            layout.pods.push({ x: x - gap * 0.3, y, width: h * column + gap * 0.6, height: step + box[1] + 8 + below });
         }
         for (let edge = 0; edge < first; edge++) placeHosts(fabric, layout, edge, cell, across);
         return layout;

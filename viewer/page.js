@@ -12,6 +12,8 @@ globalThis.Page = (() => {
         sight: true, // what happens is brought into sight
     };
 
+    const BEGINNING = "The beginning: nothing has happened. No switch knows more than its id and its ports.";
+
     const row = (name, parts) => {
         const tr = document.createElement("tr");
         const th = document.createElement("th");
@@ -58,13 +60,17 @@ globalThis.Page = (() => {
     const drawFacts = () => {
         const { run, state, subject } = page;
         const parts = [];
-        if (subject) parts.push(...section(capital(Facts.name(run, subject)), Facts.of(run, state, subject).map(([name, ...rest]) => row(name, rest))));
+        if (subject) {
+            const rows = Facts.of(run, state, subject).map(([name, ...rest]) => row(name, rest));
+            parts.push(...section(capital(Facts.name(run, subject)), rows));
+        }
         const now = state.entry > 0 ? Journal.frameOf(run, state.entry - 1) : 0;
         const id = subject && subject.frame !== undefined ? subject.frame : now;
         const header = id > 0 ? Facts.header(run, state, id) : null;
         if (header) {
-            parts.push(...section(header.title, header.rows.map(headerRow)));
-            if (!subject || subject.frame !== id) parts[parts.length - 2].append(" ", button({ text: "its story", subject: { frame: id } }));
+            const [title, table] = section(header.title, header.rows.map(headerRow));
+            if (!subject || subject.frame !== id) title.append(" ", button({ text: "its story", subject: { frame: id } }));
+            parts.push(title, table);
         }
         $("facts").replaceChildren(...parts);
     };
@@ -82,7 +88,7 @@ globalThis.Page = (() => {
         const n = state.entry - 1;
         const line = state.line < 0 ? "" : `, line ${run.a[state.line]} of the script`;
         $("where").textContent = `entry ${state.entry} of ${run.count}${line}`;
-        $("said").textContent = n < 0 ? "The beginning: nothing has happened. No switch knows more than its id and its ports." : Words.sentence(run, n, script);
+        $("said").textContent = n < 0 ? BEGINNING : Words.sentence(run, n, script);
         $("said").setAttribute("aria-live", page.playing ? "off" : "polite");
         $("raw").textContent = n < 0 ? "" : Journal.text(run, n, 400);
         $("counts").textContent = countsText();
@@ -119,10 +125,13 @@ globalThis.Page = (() => {
     const entries = Rows.make($("journal"), fillEntry, n => go(entryOfRow(n) + 1));
     const lines = Rows.make($("script"), fillLine, n => toLine(n + 1));
 
+    const storyName = () => `${Facts.name(page.run, page.subject)}: ${Words.plural(page.story.length, "entry", "entries")}`;
+
     const drawLists = () => {
         entries.set(page.story ? page.story.length : page.run.count, markedRow());
-        if (page.script && !$("script").hidden) lines.set(page.script.length, page.state.line < 0 ? -1 : page.run.a[page.state.line] - 1);
-        $("telling").textContent = page.subject ? `${Facts.name(page.run, page.subject)}: ${Words.plural(page.story.length, "entry", "entries")}` : "";
+        const line = page.state.line < 0 ? -1 : page.run.a[page.state.line] - 1;
+        if (page.script && !$("script").hidden) lines.set(page.script.length, line);
+        $("telling").textContent = page.subject ? storyName() : "";
         $("all").hidden = !page.subject;
     };
 
@@ -210,12 +219,16 @@ globalThis.Page = (() => {
     // the entry so many entries of the journal, or of the story that is shown, from that of now
     const afterMany = count => {
         if (!page.story) return page.state.entry + count;
-        const happened = Stories.happened(page.story, count > 0 ? page.state.entry : page.state.entry - 1) + (count > 0 ? count : count + 1);
+        const isOn = count > 0;
+        const happened = Stories.happened(page.story, isOn ? page.state.entry : page.state.entry - 1) + (isOn ? count : count + 1);
         return happened <= 0 ? 0 : page.story[Math.min(page.story.length, happened) - 1] + 1;
     };
 
     // whether there is nothing more to play this way
-    const isAtEnd = () => (page.way < 0 ? page.state.entry === 0 : page.state.entry >= onwards() || page.state.entry === page.run.count);
+    const isAtEnd = () => {
+        const { entry } = page.state;
+        return page.way < 0 ? entry === 0 : entry >= onwards() || entry === page.run.count;
+    };
 
     // plays on, or back where `way` is -1; stops what plays
     const play = way => {
@@ -302,8 +315,8 @@ globalThis.Page = (() => {
         const missing = ["topology", "journal"].filter(what => !page.files[what]);
         const isNone = Object.keys(files).length === 0;
         if (isNone || missing.length > 0) {
-            const what = isNone ? "No topology, journal or script is among these files." : `Now open its ${missing.join(" and its ")}.`;
-            $(page.run ? "opened" : "refused").textContent = what;
+            const wanted = `Now open its ${missing.join(" and its ")}.`;
+            $(page.run ? "opened" : "refused").textContent = isNone ? "No topology, journal or script is among these files." : wanted;
             return;
         }
         try {
@@ -316,5 +329,7 @@ globalThis.Page = (() => {
         }
     };
 
-    return { page, picture, open, go, draw, step, onwards, backwards, lineOn, toLine, play, stop, tell, tellNow, choose, faster, refuse };
+    return {
+        page, picture, open, refuse, go, draw, step, onwards, backwards, lineOn, toLine, play, tell, tellNow, choose, faster,
+    };
 })();

@@ -25,7 +25,8 @@ globalThis.Picture = (() => {
             this.keptContext = this.kept.getContext("2d");
             this.key = ""; // what the kept picture was made of
             this.pen = Pen.of(this.screen);
-            Object.assign(this, { scale: 1, x: 0, y: 0, run: null, fabric: null, layout: null, state: null, scene: null, progress: 1 });
+            Object.assign(this, { scale: 1, x: 0, y: 0, progress: 1 });
+            Object.assign(this, { run: null, fabric: null, layout: null, state: null, scene: null });
         }
 
         // reads the colours of the page's scheme
@@ -51,7 +52,8 @@ globalThis.Picture = (() => {
 
         isSeen(at) {
             const { clientWidth, clientHeight } = this.canvas;
-            return at.x + at.width > 0 && at.y + at.height > 0 && at.x - at.width < clientWidth && at.y - at.height < clientHeight;
+            const { x, y, width, height } = at;
+            return x + width > 0 && y + height > 0 && x - width < clientWidth && y - height < clientHeight;
         }
 
         // A host is at the port that is named with it, else where it stands now.
@@ -73,19 +75,22 @@ globalThis.Picture = (() => {
 
         isCrossing([x, y, toX, toY]) {
             const { clientWidth, clientHeight } = this.canvas;
-            return Math.max(x, toX) > 0 && Math.min(x, toX) < clientWidth && Math.max(y, toY) > 0 && Math.min(y, toY) < clientHeight;
+            return Math.max(x, toX) > 0 && Math.min(x, toX) < clientWidth
+                && Math.max(y, toY) > 0 && Math.min(y, toY) < clientHeight;
         }
 
         drawPods() {
             const { c } = this.pen;
             c.textAlign = "left";
+            const below = this.scale < 0.5 ? 8 : -8; // from a pod's lower edge to the middle of its name
             this.layout.pods.forEach((pod, n) => {
                 const at = this.shown(pod);
                 c.beginPath();
                 c.roundRect(at.x, at.y, at.width, at.height, 6);
                 c.fillStyle = this.colour.pod;
                 c.fill();
-                this.pen.write([`pod ${n} of the wiring`, `pod ${n}`, `${n}`], at.x + 5, at.y + at.height - 8, at.width - 10, 11, this.colour.muted);
+                const texts = [`pod ${n} of the wiring`, `pod ${n}`, `${n}`];
+                this.pen.write(texts, at.x + 5, at.y + at.height + below, at.width - 10, 11, this.colour.muted);
             });
             c.textAlign = "center";
         }
@@ -93,9 +98,10 @@ globalThis.Picture = (() => {
         drawLinks() {
             const { colour, fabric, pen, scale } = this;
             const { failed } = this.state;
-            const segments = (wanted, links) => links.filter((_, n) => failed[n] === wanted).map(link => this.segmentOf(link)).filter(s => this.isCrossing(s));
-            pen.lines(segments(0, fabric.links), colour.link, Math.max(0.2, Math.min(1.4, scale * 1.1)), []);
-            const broken = segments(1, fabric.links);
+            const isSeen = segment => this.isCrossing(segment);
+            const segments = wanted => fabric.links.filter((_, n) => failed[n] === wanted).map(link => this.segmentOf(link)).filter(isSeen);
+            pen.lines(segments(0), colour.link, Math.max(0.2, Math.min(1.4, scale * 1.1)), []);
+            const broken = segments(1);
             pen.lines(broken, colour.failed, 1.6, [5, 4]);
             for (const [x, y, toX, toY] of broken) pen.cross((x + toX) / 2, (y + toY) / 2, 4, colour.failed);
             const short = Array.from(this.state.spots, spot => {
@@ -103,7 +109,7 @@ globalThis.Picture = (() => {
                 const edge = this.shown(this.layout.switches[Math.floor(spot / fabric.k)]);
                 return [cell.x, cell.y, cell.x, Math.min(cell.y, edge.y + edge.height / 2)];
             });
-            pen.lines(short.filter(s => this.isCrossing(s)), colour.link, 1, []);
+            pen.lines(short.filter(isSeen), colour.link, 1, []);
         }
 
         drawSwitch(s, isMarked = false) {
@@ -122,12 +128,14 @@ globalThis.Picture = (() => {
 
         drawBox(at, fill, isKnown, isThick, isMarked) {
             const { c } = this.pen;
+            const { ink, muted, now } = this.colour;
             if (at.width < BARE && !isMarked) {
-                c.fillStyle = isKnown ? fill : this.colour.muted;
+                c.fillStyle = isKnown ? fill : muted;
                 c.fillRect(at.x - at.width / 2, at.y - at.height / 2, at.width, at.height);
                 return;
             }
-            this.pen.box(at, fill, isMarked ? this.colour.now : this.colour.ink, isMarked ? 3 : isThick ? 1.7 : 0.9, isKnown ? [] : [3, 3]);
+            const width = isMarked ? 3 : isThick ? 1.7 : 0.9;
+            this.pen.box(at, fill, isMarked ? now : ink, width, isKnown ? [] : [3, 3]);
         }
 
         // a port for hosts at which none stands
@@ -234,14 +242,17 @@ globalThis.Picture = (() => {
                 const at = this.spotOf(key < 0 ? { spot: -1 - key } : { switch: key });
                 if (others.length === 0 || !this.isSeen(at)) continue;
                 const isNarrow = at.width < 48;
-                const text = others.length === 1 && (!isNarrow || others[0] < 1000) ? `${others[0]}` : `\u00d7${others.length}`;
-                this.frameLabel(text, at.x + at.width / 2 - (isNarrow ? 5 : 4), at.y - at.height / 2 - (key < 0 ? 0 : 4), false, isNarrow ? 9 : 11);
+                const isNamed = others.length === 1 && (!isNarrow || others[0] < 1000);
+                const text = isNamed ? `${others[0]}` : `\u00d7${others.length}`;
+                const [x, y] = [at.x + at.width / 2 - 5, at.y - at.height / 2 - (key < 0 ? 0 : 4)];
+                this.frameLabel(text, x, y, false, isNarrow ? 9 : 11);
             }
         }
 
         drawNote(text, x, y, isBad) {
             const { paper, ink, failed, now } = this.colour;
-            this.pen.label(text, x, y, { size: 12, radius: 4, fill: paper, ink: isBad ? failed : ink, edge: isBad ? failed : now, most: this.canvas.clientWidth });
+            const [front, edge] = isBad ? [failed, failed] : [ink, now];
+            this.pen.label(text, x, y, { size: 12, radius: 4, fill: paper, ink: front, edge, most: this.canvas.clientWidth });
         }
 
         drawNow() {
@@ -307,8 +318,20 @@ globalThis.Picture = (() => {
             const at = this.shown(box);
             const margin = 25;
             if (at.x > margin && at.y > margin && at.x < clientWidth - margin && at.y < clientHeight - margin) return;
-            this.x = box.x - clientWidth / this.scale / 2;
-            this.y = box.y - clientHeight / this.scale / 2;
+            this.centre(box);
+        }
+
+        centre(box) {
+            this.x = box.x - this.canvas.clientWidth / this.scale / 2;
+            this.y = box.y - this.canvas.clientHeight / this.scale / 2;
+        }
+
+        // brings a place into sight so near that its texts can be read
+        approach(place) {
+            const box = this.boxOf(place);
+            if (box.width * this.scale >= 24) return this.reveal(place);
+            this.scale = 32 / box.width;
+            return this.centre(box);
         }
 
         // what is drawn at a place of the canvas: a switch, a host, or nothing

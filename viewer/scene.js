@@ -53,7 +53,7 @@ globalThis.Scene = (() => {
         const frame = Journal.frameOf(run, n);
         const before = run.before[n];
         const from = frame > 0 && before >= 0 && place ? At.where(run, before) : null;
-        return { entry: n, frame, place, from: from && !samePlace(from, place) ? from : null, note: noteOf(run, n), ends: frame > 0 && run.end[frame] === n };
+        return { entry: n, frame, place, from: from && !samePlace(from, place) ? from : null, note: noteOf(run, n) };
     };
 
     // The frames that are flying, by the place of their newest entry: a switch's number, or a port for hosts as a number below 0.

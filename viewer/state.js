@@ -105,11 +105,11 @@ globalThis.At = (() => {
 
     const place = (state, number) => Journal.unpackPlace(state.places[number]);
 
-    // Forwarding asks for a placed switch: its level, of an edge switch also its position and pod, of an aggregation switch its pod.
+    // A switch is placed that knows its level, as an edge switch also its position and pod, as an aggregation switch its pod.
     const isPlaced = ({ level, position, pod }) => level === 2 || (level === 1 && pod !== null)
         || (level === 0 && pod !== null && position !== null);
 
-    const spot = (fabric, state, host) => ({ edge: Math.floor(state.spots[host] / fabric.k), port: state.spots[host] % fabric.k });
+    const spot = ({ k }, state, host) => ({ edge: Math.floor(state.spots[host] / k), port: state.spots[host] % k });
 
     // Where a frame was at one of its entries: at a host before it crossed a switch and where it arrived, with the port where the
     // host stood then; else at the switch that it crossed last or that made it.

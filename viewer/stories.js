@@ -69,8 +69,8 @@ globalThis.Stories = (() => {
         return low;
     };
 
-    // Who is called by a text: a frame by its number, a switch by its label, a host by its name, or by its own or a pseudo address.
-    // A host's name may look like a frame's number; then the host comes first, and `#7` is the frame.
+    // Who is called by a text: a frame by its number, a switch by its label, a host by its name or by an address of its own or
+    // granted to it. A host's name may look like a frame's number; then the host comes first, and `#7` is the frame.
     const find = (run, text) => {
         const { fabric } = run;
         const word = text.trim();

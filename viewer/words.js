@@ -44,10 +44,15 @@ globalThis.Words = (() => {
         return group === null ? "a group that is flooded" : `routed group ${group}`;
     };
 
+    // the pseudo address of this number, where it was granted by one of the first n entries
+    const grantedSoFar = (run, value, n) => {
+        const found = run.byAddress.get(value);
+        return found !== undefined && run.addresses[found].granted < n ? run.addresses[found] : null;
+    };
+
     // the address as a pseudo address, and who was granted it once n entries have happened
     const pseudoWho = (run, value, n) => {
-        const found = run.byAddress.get(value);
-        const address = found === undefined || run.addresses[found].granted >= n ? null : run.addresses[found];
+        const address = grantedSoFar(run, value, n);
         if (address) return `pseudo address of ${hostOf(run, address.host)}: ${parts(value)}`;
         if (value % 65536 === 0) return `sender of a probe: ${parts(value)}`;
         return `granted to nobody so far; as a pseudo address: ${parts(value)}`;
@@ -60,14 +65,13 @@ globalThis.Words = (() => {
         if (value === 0) return "none";
         const host = run.fabric.macs.get(value);
         const own = host === undefined ? "" : `own address of ${hostOf(run, host)}`;
-        const isGranted = run.byAddress.has(value) && run.addresses[run.byAddress.get(value)].granted < n;
-        return own && !isGranted ? own : [own, pseudoWho(run, value, n)].filter(text => text !== "").join("; ");
+        return own && !grantedSoFar(run, value, n) ? own : [own, pseudoWho(run, value, n)].filter(text => text !== "").join("; ");
     };
 
     const shortWho = (run, value, n) => {
         if (value === 2 ** 48 - 1) return "all";
-        const found = run.byAddress.get(value);
-        if (found !== undefined && run.addresses[found].granted < n) return `${hostOf(run, run.addresses[found].host)}'s pseudo address`;
+        const address = grantedSoFar(run, value, n);
+        if (address) return `${hostOf(run, address.host)}'s pseudo address`;
         if (run.fabric.macs.has(value)) return `${hostOf(run, run.fabric.macs.get(value))}'s own address`;
         if (Frames.isGroup(value)) return groupText(value);
         return value % 65536 === 0 ? `${Frames.macText(value)}, the sender of a probe` : Frames.macText(value);
@@ -89,7 +93,8 @@ globalThis.Words = (() => {
     const ipKind = ip => {
         if (ip.igmp) return `an IGMP report: it ${changesText(ip.igmp)}`;
         const ports = ip.sourcePort === undefined ? "" : `, port ${ip.sourcePort} to ${ip.destinationPort}`;
-        return `IPv4 from ${Frames.ipText(ip.source)} to ${Frames.ipText(ip.destination)}, protocol ${Frames.protocolText(ip.protocol)}${ports}`;
+        const ends = `from ${Frames.ipText(ip.source)} to ${Frames.ipText(ip.destination)}`;
+        return `IPv4 ${ends}, protocol ${Frames.protocolText(ip.protocol)}${ports}`;
     };
 
     // what a frame is, in short
@@ -115,23 +120,23 @@ globalThis.Words = (() => {
         if (!from) return `Switch ${here} receives frame ${id}.`;
         if (from.host !== undefined) return `Switch ${here} receives frame ${id} from its host ${hostOf(run, from.host)}.`;
         if (Fabric.link(run.fabric, from.switch, run.b[n]) < 0) {
-            return `Switch ${here} receives frame ${id}, which crossed ${switchOf(run, from.switch)} last; no link joins the two.`;
+            return `Switch ${here} receives frame ${id}, which was at ${switchOf(run, from.switch)}; no link joins the two.`;
         }
         const way = run.fabric.switches[from.switch].level < run.fabric.switches[run.b[n]].level ? "up" : "down";
         return `Switch ${here} receives frame ${id}, on its way ${way} from ${switchOf(run, from.switch)}.`;
     };
 
     const redirected = (run, n) => {
-        const { number, host } = run.addresses[run.c[n]];
-        return `Host ${hostOf(run, host)} has moved on: frame ${run.a[n]}, for ${Frames.macText(run.addresses[run.b[n]].number)}, `
+        const [old, { number, host }] = [run.addresses[run.b[n]], run.addresses[run.c[n]]];
+        return `Host ${hostOf(run, host)} has moved on: frame ${run.a[n]}, for ${Frames.macText(old.number)}, `
             + `goes on to its newer address ${Frames.macText(number)} (${parts(number)}).`;
     };
 
     // the switches that the frame crossed, one after the other
-    const trail = (run, n) => At.past(run, n).filter(at => run.kind[at] === KIND.crossed).map(at => switchOf(run, run.b[at]));
+    const trail = (run, n) => At.past(run, n).filter(at => run.kind[at] === KIND.crossed).map(at => run.b[at]);
 
     const arrived = (run, n) => {
-        const crossings = trail(run, n);
+        const crossings = trail(run, n).map(number => switchOf(run, number));
         return `Frame ${run.a[n]} arrives at host ${hostOf(run, run.b[n])}: ${kindOf(frameAt(run, n))}. `
             + `It crossed ${plural(crossings.length, "switch", "switches")}: ${crossings.join(", ")}.`;
     };
@@ -146,13 +151,15 @@ globalThis.Words = (() => {
         const cause = CAUSES[run.b[n]];
         const at = At.where(run, n);
         const place = at.host !== undefined ? `after host ${hostOf(run, at.host)} sent it, before it crossed a switch`
-            : AT_SWITCH.includes(cause) ? `at switch ${switchOf(run, at.switch)}` : `after switch ${switchOf(run, at.switch)}, which it crossed last`;
+            : AT_SWITCH.includes(cause) ? `at switch ${switchOf(run, at.switch)}`
+            : `after switch ${switchOf(run, at.switch)}, which it crossed last`;
         return `Frame ${run.a[n]} ends ${place}: ${cause}, ${CAUSE[cause]}.`;
     };
 
     const granted = (run, n) => {
         const { number, host, edge, port } = run.addresses[run.a[n]];
-        return `Host ${hostOf(run, host)} gets the pseudo address ${Frames.macText(number)} at port ${port} of ${switchOf(run, edge)}: ${parts(number)}.`;
+        const spot = `port ${port} of ${switchOf(run, edge)}`;
+        return `Host ${hostOf(run, host)} gets the pseudo address ${Frames.macText(number)} at ${spot}: ${parts(number)}.`;
     };
 
     const registered = (run, n) => {
@@ -202,7 +209,8 @@ globalThis.Words = (() => {
         linkup: (run, n) => `${linkOf(run, n)} is repaired.`,
         moved: (run, n) => `Host ${hostOf(run, run.a[n])} moves to port ${run.c[n]} of ${switchOf(run, run.b[n])}.`,
         settled: (run, n) => `A \`settle\` line ends after ${plural(run.a[n], "round")}: the fabric is settled.`,
-        unsettled: (run, n) => `A \`settle\` line ends and the fabric is not settled: ${plural(run.a[n], "thing waits", "things wait")} that ${run.a[n] === 1 ? "stands" : "stand"} against it.`,
+        unsettled: (run, n) => `A \`settle\` line ends and the fabric is not settled: `
+            + `${plural(run.a[n], "thing that stands against it waits", "things that stand against it wait")}.`,
     };
 
     // what entry n means; `script` are the lines of the script, or null
@@ -211,7 +219,8 @@ globalThis.Words = (() => {
     // A header as rows of a name, a value, and what the value means once n entries have happened.
     const header = (run, frame, n) => {
         const mac = (name, value) => [name, Frames.macText(value), who(run, value, n)];
-        const rows = [mac("destination", frame.destination), mac("source", frame.source), ["type", Frames.typeText(frame.type), `${plural(frame.length, "byte")} in all`]];
+        const type = ["type", Frames.typeText(frame.type), `${plural(frame.length, "byte")} in all`];
+        const rows = [mac("destination", frame.destination), mac("source", frame.source), type];
         if (frame.arp && frame.arp.refused) rows.push(["ARP", "not readable", frame.arp.refused]);
         else if (frame.arp) rows.push(...arpRows(frame.arp, mac));
         if (frame.ip) rows.push(...ipRows(frame.ip));
@@ -225,7 +234,8 @@ globalThis.Words = (() => {
     ];
 
     const ipRows = ip => {
-        const rows = [["IPv4", `${Frames.ipText(ip.source)} to ${Frames.ipText(ip.destination)}`, `protocol ${Frames.protocolText(ip.protocol)}`]];
+        const ends = `${Frames.ipText(ip.source)} to ${Frames.ipText(ip.destination)}`;
+        const rows = [["IPv4", ends, `protocol ${Frames.protocolText(ip.protocol)}`]];
         if (ip.sourcePort !== undefined) rows.push(["ports", `${ip.sourcePort} to ${ip.destinationPort}`, ""]);
         if (ip.igmp) rows.push(["IGMP", changesText(ip.igmp), ""]);
         return rows;

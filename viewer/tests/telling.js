@@ -21,7 +21,7 @@ const SENTENCES = [
     ["examples/four-hosts", 93, "Frame 13 arrives at host d: 60 bytes of type 0x88b6. It crossed 5 switches: e0.0, a0.0, c0.0, a1.0, e1.0."],
     ["tests/fabric/group", 96, "Host c sends frame 14, to routed group 66051: an IGMP report: it joins 239.1.2.3."],
     ["tests/fabric/held-frames", 51, "A record of a's capture is not played: HoldFull, 64 frames wait for that address already."],
-    ["tests/fabric/random-02", 169, "A `settle` line ends and the fabric is not settled: 0 things wait that stand against it."],
+    ["tests/fabric/random-02", 169, "A `settle` line ends and the fabric is not settled: 0 things that stand against it wait."],
     ["tests/fabric/link-fails-with-frames", 103, "The link between e0.0 and a0.0 fails."],
     ["tests/fabric/link-fails-with-frames", 104, "Frame 14 ends after switch e0.0, which it crossed last: LinkDown, the link that it was put on is failed, or failed while it waited there."],
     ["tests/fabric/link-fails-with-frames", 107, "The link between e0.0 and a0.0 is repaired."],

@@ -153,8 +153,9 @@
     });
 
     const resize = () => {
-        if (page.run) Page.draw(false);
-        else picture.draw();
+        if (!page.run) return picture.draw();
+        picture.resized();
+        return Page.draw(false);
     };
     new ResizeObserver(resize).observe($("canvas"));
     window.matchMedia("(prefers-color-scheme: dark)").addEventListener("change", () => {

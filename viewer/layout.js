@@ -23,14 +23,14 @@ globalThis.Layout = (() => {
         const width = k * (h * column + gap) + gap;
         const hostRows = Math.ceil(h / across);
         const below = hostRows * (cell[1] + 3) + 40;
-        const least = 3 * box[1] + below + 150;
+        const least = 3 * box[1] + below + 170;
         const height = Math.max(least, Math.min(width / shape, least + width * 0.45));
-        const step = (height - below - box[1] - 40) / 2;
+        const step = (height - below - box[1] - 60) / 2;
         const layout = { width, height, box, cell, across, column, switches: [], pods: [], cells: new Map() };
         const view = { ...fabric, layout };
         const first = h * k;
         const inPod = s => gap + Math.floor((s.number % first) / h) * (h * column + gap) + ((s.number % h) + 0.5) * column;
-        const top = 26 + box[1] / 2;
+        const top = 46 + box[1] / 2;
         row(view, 2, s => gap / 2 + (s.number - 2 * first + 0.5) * ((width - gap) / (h * h)), top, box);
         row(view, 1, inPod, top + step, box);
         row(view, 0, inPod, top + 2 * step, box);

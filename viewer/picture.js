@@ -37,12 +37,22 @@ globalThis.Picture = (() => {
         }
 
         show(run) {
-            const { clientWidth, clientHeight } = this.canvas;
             this.run = run;
             this.fabric = run.fabric;
-            this.layout = Layout.of(run.fabric, Math.max(0.8, clientWidth / Math.max(1, clientHeight)));
+            this.arrange();
+        }
+
+        // the whole fabric, in the shape that the canvas has now
+        arrange() {
+            const { clientWidth, clientHeight } = this.canvas;
+            this.layout = Layout.of(this.fabric, Math.max(0.8, clientWidth / Math.max(1, clientHeight)));
             this.key = "";
             this.fit();
+        }
+
+        // the canvas has another size
+        resized() {
+            if (this.isWhole) this.arrange();
         }
 
         shown(box) {
@@ -241,10 +251,10 @@ globalThis.Picture = (() => {
                 const others = ids.filter(id => id !== focus);
                 const at = this.spotOf(key < 0 ? { spot: -1 - key } : { switch: key });
                 if (others.length === 0 || !this.isSeen(at)) continue;
-                const isNarrow = at.width < 48;
+                const isNarrow = at.width < 40;
                 const isNamed = others.length === 1 && (!isNarrow || others[0] < 1000);
                 const text = isNamed ? `${others[0]}` : `\u00d7${others.length}`;
-                const [x, y] = [at.x + at.width / 2 - 5, at.y - at.height / 2 - (key < 0 ? 0 : 4)];
+                const [x, y] = [at.x + at.width / 2 - 5, at.y - at.height / 2 - (key < 0 && isNarrow ? 0 : 5)];
                 this.frameLabel(text, x, y, false, isNarrow ? 9 : 11);
             }
         }
@@ -293,6 +303,7 @@ globalThis.Picture = (() => {
         // the whole fabric
         fit() {
             const { canvas, layout } = this;
+            this.isWhole = true;
             this.scale = Math.min(1.5, canvas.clientWidth / layout.width, canvas.clientHeight / layout.height);
             this.x = (layout.width - canvas.clientWidth / this.scale) / 2;
             this.y = (layout.height - canvas.clientHeight / this.scale) / 2;
@@ -300,6 +311,7 @@ globalThis.Picture = (() => {
 
         // another scale, by which what is at this place of the canvas stays there
         zoom(factor, x = this.canvas.clientWidth / 2, y = this.canvas.clientHeight / 2) {
+            this.isWhole = false;
             const scale = Math.min(4, Math.max(0.02, this.scale * factor));
             this.x += x / this.scale - x / scale;
             this.y += y / this.scale - y / scale;
@@ -307,6 +319,7 @@ globalThis.Picture = (() => {
         }
 
         pan(x, y) {
+            this.isWhole = false;
             this.x -= x / this.scale;
             this.y -= y / this.scale;
         }
@@ -322,6 +335,7 @@ globalThis.Picture = (() => {
         }
 
         centre(box) {
+            this.isWhole = false;
             this.x = box.x - this.canvas.clientWidth / this.scale / 2;
             this.y = box.y - this.canvas.clientHeight / this.scale / 2;
         }

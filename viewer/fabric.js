@@ -122,6 +122,7 @@ globalThis.Fabric = (() => {
         if (edge < 0 || fabric.switches[edge].level !== 0) refuse(`host ${name} stands at no edge switch`);
         const port = portOf(fabric.k, table, "port");
         if (fabric.switches[edge].ports[port] >= 0) refuse(`host ${name} stands at a port of a link`);
+        if (fabric.hosts.some(host => host.edge === edge && host.port === port)) refuse(`host ${name} stands where another does`);
         return { number, name, mac: mac.toLowerCase(), ip, edge, port };
     };
 

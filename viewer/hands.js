@@ -65,7 +65,7 @@
         if (target.matches("select")) return true;
         if (target.matches("input[type='range']")) return key === "Home" || key === "End" || key.startsWith("Arrow");
         if (target.matches("input")) return key !== "Escape";
-        return target.matches("button") && key === " ";
+        return target.matches("button:focus-visible") && key === " ";
     };
 
     document.addEventListener("keydown", event => {
@@ -79,14 +79,20 @@
         if (page.run || key === "?") act();
     });
 
+    // A speed that was chosen by the pointer leaves the keys to the page.
+    $("speed").addEventListener("change", () => {
+        if (!$("speed").matches(":focus-visible")) $("speed").blur();
+    });
     $("slider").addEventListener("input", () => Page.step(Number($("slider").value)));
     $("liner").addEventListener("submit", event => {
         event.preventDefault();
         if (page.run && $("line").value !== "") Page.toLine(Number($("line").value));
+        $("line").blur();
     });
     $("enterer").addEventListener("submit", event => {
         event.preventDefault();
         if (page.run && $("entry").value !== "") Page.step(Number($("entry").value));
+        $("entry").blur();
     });
     $("finder").addEventListener("submit", event => {
         event.preventDefault();
@@ -134,12 +140,22 @@
         if (page.run) zoom(Math.exp(-event.deltaY / 500), event.offsetX, event.offsetY);
     }, { passive: false });
 
-    const name = list => (list.length === 1 ? list[0].name : "");
-    $("files").addEventListener("change", async () => {
-        const files = await Files.chosen($("files").files);
-        $("files").value = "";
-        Page.open(files, "");
-    });
+    // Opens what `files` answers; what cannot be read is told.
+    const open = async (files, name) => {
+        try {
+            await Page.open(await files, name);
+        } catch (error) {
+            Page.refuse(error);
+        }
+    };
+    for (const id of ["files", "folder"]) {
+        $(id).addEventListener("change", async () => {
+            const list = [...$(id).files];
+            const path = list.length > 0 ? list[0].webkitRelativePath : "";
+            await open(Files.chosen(list), path.split("/")[0]);
+            $(id).value = "";
+        });
+    }
     document.addEventListener("dragover", event => {
         event.preventDefault();
         $("welcome").classList.add("over");
@@ -148,8 +164,8 @@
     document.addEventListener("drop", async event => {
         event.preventDefault();
         $("welcome").classList.remove("over");
-        const folder = [...event.dataTransfer.items].length === 1 ? name(event.dataTransfer.files) : "";
-        Page.open(await Files.dropped(event.dataTransfer), folder);
+        const { files } = event.dataTransfer;
+        await open(Files.dropped(event.dataTransfer), files.length === 1 ? files[0].name : "");
     });
 
     const resize = () => {

@@ -230,9 +230,8 @@ globalThis.Picture = (() => {
 
         // the way of the frame in focus, from where it began to where it was last, and what the entry of now speaks of
         drawWay() {
-            const { way, now, subject } = this.scene;
-            const points = way.map(place => this.spotOf(place));
-            for (let n = 1; n < points.length; n++) this.pen.arrow(points[n - 1], points[n], this.colour.now);
+            const { way, steps, now, subject } = this.scene;
+            for (const [from, to] of steps) this.pen.arrow(this.spotOf(from), this.spotOf(to), this.colour.now);
             way.forEach(place => this.drawPlace(place, false));
             if (subject) this.drawPlace(subject, true);
             if (now && now.place) this.drawPlace(now.place, true);

@@ -16,6 +16,13 @@ globalThis.Scene = (() => {
         return way;
     };
 
+    // whether a link of the wiring, or a host's port, leads from one place to the other
+    const isJoined = ({ fabric }, a, b) => {
+        if (a.switch !== undefined && b.switch !== undefined) return Fabric.link(fabric, a.switch, b.switch) >= 0;
+        const [host, other] = a.switch === undefined ? [a, b] : [b, a];
+        return other.switch === Math.floor(host.spot / fabric.k);
+    };
+
     const noteOf = (run, n) => {
         switch (run.kind[n]) {
             case KIND.sent: return "sent";
@@ -52,8 +59,9 @@ globalThis.Scene = (() => {
         const place = placeOf(run, n);
         const frame = Journal.frameOf(run, n);
         const before = run.before[n];
-        const from = frame > 0 && before >= 0 && place ? At.where(run, before) : null;
-        return { entry: n, frame, place, from: from && !samePlace(from, place) ? from : null, note: noteOf(run, n) };
+        const last = frame > 0 && before >= 0 ? At.where(run, before) : null;
+        const from = last && !samePlace(last, place) && isJoined(run, last, place) ? last : null;
+        return { entry: n, frame, place, from, note: noteOf(run, n) };
     };
 
     // The frames that are flying, by the place of their newest entry: a switch's number, or a port for hosts as a number below 0.
@@ -73,7 +81,9 @@ globalThis.Scene = (() => {
         const now = state.entry === 0 ? null : nowOf(run, state.entry - 1);
         const focus = subject && subject.frame !== undefined ? subject.frame : now ? now.frame : 0;
         const newest = focus > 0 ? At.newest(run, state, focus) : -1;
-        return { now, focus, way: newest >= 0 ? wayOf(run, newest) : [], flying: flyingAt(run, state), subject };
+        const way = newest >= 0 ? wayOf(run, newest) : [];
+        const steps = way.slice(1).map((to, n) => [way[n], to]).filter(([from, to]) => isJoined(run, from, to));
+        return { now, focus, way, steps, flying: flyingAt(run, state), subject };
     };
 
     return { of, wayOf };

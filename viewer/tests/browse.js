@@ -27,6 +27,15 @@ const opened = async (browser, folder) => {
     return run;
 };
 
+// drops a run's folder on the page
+const dropped = async (browser, folder) => {
+    const run = open(folder);
+    await browser.open(PAGE);
+    await browser.drop([run.folder], 300, 300);
+    await browser.until(isOpen(run.run.count));
+    return run;
+};
+
 // opens the one page that viewer/pack makes of a run
 const packed = async (browser, folder) => {
     const run = open(folder);
@@ -92,6 +101,23 @@ const a_packed_run_plays_to_its_end = async browser => {
     await browser.press(" ", SHIFT);
     await browser.until("document.getElementById('back').disabled");
     await says(browser, run, 0);
+};
+
+const a_folder_is_dropped = async browser => {
+    const run = await dropped(browser, "examples/four-hosts");
+    assert((await browser.text("opened")).startsWith("four-hosts: k 4"));
+    await browser.press("End");
+    await says(browser, run, run.run.count);
+};
+
+const a_folder_is_opened = async browser => {
+    const run = open("tests/fabric/repaired");
+    await browser.open(PAGE);
+    await browser.choose([run.folder], "#folder");
+    await browser.until(isOpen(run.run.count));
+    assert((await browser.text("opened")).startsWith("repaired: k 4"));
+    await browser.press("End");
+    await says(browser, run, run.run.count);
 };
 
 const a_frame_is_followed = async browser => {
@@ -204,7 +230,8 @@ const the_dark_page_works_too = async browser => {
 };
 
 const TESTS = {
-    a_run_is_opened_and_stepped_through, a_packed_run_plays_to_its_end, a_frame_is_followed, a_click_shows_a_story,
+    a_run_is_opened_and_stepped_through, a_packed_run_plays_to_its_end, a_folder_is_dropped, a_folder_is_opened,
+    a_frame_is_followed, a_click_shows_a_story,
     lines_of_the_script_are_gone_to, what_is_refused_is_told_with_its_line, each_example_opens_and_ends_as_its_summary_says,
     a_million_lines_open_within_five_seconds_and_are_stepped_at_once, the_dark_page_works_too,
 };

@@ -94,10 +94,16 @@ class Browser {
     }
 
     // chooses files as a user does by the dialog
-    async choose(files) {
+    async choose(files, selector = "#files") {
         const { root } = await this.call("DOM.getDocument");
-        const { nodeId } = await this.call("DOM.querySelector", { nodeId: root.nodeId, selector: "#files" });
+        const { nodeId } = await this.call("DOM.querySelector", { nodeId: root.nodeId, selector });
         await this.call("DOM.setFileInputFiles", { files: files.map(file => path.resolve(file)), nodeId });
+    }
+
+    // drops files or folders at a place of the page
+    async drop(files, x, y) {
+        const data = { items: [], files: files.map(file => path.resolve(file)), dragOperationsMask: 1 };
+        for (const type of ["dragEnter", "dragOver", "drop"]) await this.call("Input.dispatchDragEvent", { type, x, y, data });
     }
 
     async press(key, modifiers = 0) {

@@ -88,7 +88,7 @@ const other_ids_and_ports_are_read = () => {
 
 const a_topology_that_does_not_fit_is_refused = () => {
     for (const text of ["k = 5", "k = 26", "x = 1", "k = 4\nhost = 3", "k = 4\n[[host]]\nname = \"a\"", HOSTS.replace("e0.0", "a0.0"),
-        HOSTS.replace("port = 0", "port = 2"), `${HOSTS}[[link]]\na = "e0.0"\nb = "a1.0"\nport_a = 2\nport_b = 0\n`]) {
+        HOSTS.replace("port = 0", "port = 2"), HOSTS.replace("port = 1", "port = 0"), `${HOSTS}[[link]]\na = "e0.0"\nb = "a1.0"\nport_a = 2\nport_b = 0\n`]) {
         assert.throws(() => Fabric.of(Toml.read(text)), Error, text);
     }
 };
@@ -189,6 +189,7 @@ const files_are_known_by_name_or_first_word = () => {
     assert.equal(kind("script", ""), "script");
     assert.equal(kind("first", "# mine\nstart all\n"), "script");
     assert.equal(kind("first", "line 1\nsent 1 a 00\n"), "journal");
+    assert.equal(kind("README.md", "line by line"), null);
     assert.equal(kind("summary", "k 4 switches 20\n"), null);
 };
 

@@ -1,7 +1,7 @@
 "use strict";
 // What is said of entries and of subjects, and what is drawn: functions of the journal and the topology.
 const assert = require("assert");
-const { folders, open } = require("./load.js");
+const { folders, open, openTexts } = require("./load.js");
 
 // run, line of the journal, and the sentence that says what it means
 const SENTENCES = [
@@ -107,6 +107,17 @@ const ways_go_by_links_of_the_wiring = () => {
             }
         }
     }
+};
+
+// A journal of the right form may say what no fabric does. A way that no link leads is said and not drawn.
+const a_way_without_a_link_is_not_drawn = () => {
+    const topology = 'k = 4\n[[host]]\nname = "a"\nmac = "02:00:00:00:00:0a"\nip = "10.0.0.1"\nedge = "e0.0"\nport = 0\n';
+    const run = openTexts(topology, `sent 1 a ${"00".repeat(14)}\ncrossed 1 e0.0\ncrossed 1 e1.0\ncrossed 1 a1.1\n`);
+    const scene = Scene.of(run, At.at(At.run(run), 4));
+    assert.equal(spelled(run, scene.way), "a e0.0 e1.0 a1.1");
+    assert.deepEqual(scene.steps.map(step => spelled(run, step)), ["a e0.0", "e1.0 a1.1"]);
+    assert.equal(Scene.of(run, At.at(At.run(run), 3)).now.from, null);
+    assert.equal(Words.sentence(run, 2), "Switch e1.0 receives frame 1, which was at e0.0; no link joins the two.");
 };
 
 // A frame that a host sent stays where the host stood then, though the host has moved on.
@@ -218,7 +229,7 @@ const a_fabric_is_laid_out_without_overlaps = () => {
 
 module.exports = {
     each_kind_of_entry_has_its_sentence, each_entry_of_the_stored_runs_has_a_sentence, an_address_is_said_as_the_journal_has_it_so_far,
-    what_is_drawn_follows_from_the_journal, a_frame_is_drawn_where_its_host_stood, ways_go_by_links_of_the_wiring, each_frame_in_flight_is_drawn_once,
+    what_is_drawn_follows_from_the_journal, a_way_without_a_link_is_not_drawn, a_frame_is_drawn_where_its_host_stood, ways_go_by_links_of_the_wiring, each_frame_in_flight_is_drawn_once,
     the_story_of_a_frame_is_its_lines, the_story_of_a_copy_begins_with_what_it_is_a_copy_of, the_story_of_a_host_is_what_befalls_it,
     the_story_of_a_switch_is_what_happens_at_it, subjects_are_found_by_their_names, facts_are_those_of_the_entry,
     a_fabric_is_laid_out_without_overlaps,

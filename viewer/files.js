@@ -32,7 +32,8 @@ globalThis.Files = (() => {
 
     const unpacked = async element => {
         const letters = atob(element.textContent);
-        const bytes = Uint8Array.from({ length: letters.length }, (_, n) => letters.charCodeAt(n));
+        const bytes = new Uint8Array(letters.length);
+        for (let n = 0; n < letters.length; n++) bytes[n] = letters.charCodeAt(n);
         const stream = new Blob([bytes]).stream().pipeThrough(new DecompressionStream("gzip"));
         return new Uint8Array(await new Response(stream).arrayBuffer());
     };

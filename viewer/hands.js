@@ -11,6 +11,10 @@
         picture.zoom(factor, x, y);
         redraw();
     };
+    const zoomAtSight = factor => {
+        const { x, y } = picture.centreOfSight();
+        zoom(factor, x, y);
+    };
     const fit = () => {
         if (page.run) picture.fit();
         redraw();
@@ -25,8 +29,8 @@
         lineon: () => Page.lineOn(1),
         play: () => Page.play(1),
         playback: () => Page.play(-1),
-        in: () => zoom(1.3),
-        out: () => zoom(1 / 1.3),
+        in: () => zoomAtSight(1.3),
+        out: () => zoomAtSight(1 / 1.3),
         fit,
         all: () => Page.tell(null),
         "tab-journal": () => Page.choose("journal"),

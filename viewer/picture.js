@@ -309,12 +309,22 @@ globalThis.Picture = (() => {
         }
 
         // another scale, by which what is at this place of the canvas stays there
-        zoom(factor, x = this.canvas.clientWidth / 2, y = this.canvas.clientHeight / 2) {
+        zoom(factor, x, y) {
             this.isWhole = false;
             const scale = Math.min(4, Math.max(0.02, this.scale * factor));
             this.x += x / this.scale - x / scale;
             this.y += y / this.scale - y / scale;
             this.scale = scale;
+        }
+
+        // the place that the eye is on: of whose story is shown, else of the entry of now, else the middle
+        centreOfSight() {
+            const { clientWidth, clientHeight } = this.canvas;
+            const { subject, now, way } = this.scene;
+            const place = subject && subject.frame === undefined ? subject : way.length > 0 ? way[way.length - 1] : now && now.place;
+            const at = place && place.link === undefined ? this.spotOf(place) : null;
+            const isSeen = at && at.x >= 0 && at.y >= 0 && at.x <= clientWidth && at.y <= clientHeight;
+            return isSeen ? at : { x: clientWidth / 2, y: clientHeight / 2 };
         }
 
         pan(x, y) {
@@ -325,6 +335,7 @@ globalThis.Picture = (() => {
 
         // brings a place into sight where it is out of it
         reveal(place) {
+            if (this.isWhole) return;
             const { clientWidth, clientHeight } = this.canvas;
             const box = this.boxOf(place);
             const at = this.shown(box);

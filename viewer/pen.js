@@ -13,14 +13,14 @@ globalThis.Pen = (() => {
             this.c.font = `${isBold ? "bold " : ""}${size}px ${FONT}`;
         }
 
-        // Writes the first of the texts that fits, as large as it can be up to this size; nothing where none does.
+        // Writes the first of the texts that fits at nearly this size, else the last one smaller; nothing where that is too small.
         write(texts, x, y, width, size, ink, isBold = false) {
             const { c } = this;
             if (size < SMALLEST) return;
-            for (const text of texts) {
+            for (const [n, text] of texts.entries()) {
                 this.font(size, isBold);
                 const fits = Math.min(size, size * width / Math.max(1, c.measureText(text).width));
-                if (fits < SMALLEST) continue;
+                if (fits < (n < texts.length - 1 ? Math.max(SMALLEST, 0.75 * size) : SMALLEST)) continue;
                 this.font(fits, isBold);
                 c.fillStyle = ink;
                 c.fillText(text, x, y);

@@ -9,7 +9,6 @@ globalThis.Page = (() => {
         subject: null, story: null, // whose story is shown, and its entries
         playing: 0, owed: 0, way: 1, // when the last picture was made while playing; entries that are due; 1 is on, -1 back
         moving: 0, // when the frame of now set out
-        sight: true, // what happens is brought into sight
     };
 
     const BEGINNING = "The beginning: nothing has happened. No switch knows more than its id and its ports.";
@@ -153,7 +152,7 @@ globalThis.Page = (() => {
         picture.scene = Scene.of(page.run, page.state, page.subject);
         const { now } = picture.scene;
         page.moving = isMoving && now && now.from && !still.matches ? performance.now() : -1000;
-        if (page.sight && now && now.place && now.place.link === undefined) picture.reveal(now.place);
+        if (now && now.place && now.place.link === undefined) picture.reveal(now.place);
         drawNow();
         drawLists();
         $("canvas").setAttribute("aria-label", summary());
@@ -295,6 +294,7 @@ globalThis.Page = (() => {
 
     // says why no run is open
     const refuse = error => {
+        if (page.playing) stop();
         page.run = null;
         page.files = {};
         picture.scene = null;
@@ -308,9 +308,11 @@ globalThis.Page = (() => {
     // a moment in which the page is drawn
     const drawn = () => new Promise(done => requestAnimationFrame(() => setTimeout(done)));
 
-    // Opens the files of a run. Topology and journal are wanted; until both are there, what was given is kept.
+    // Opens the files of a run. Topology and journal are wanted; until both are there, what was given is kept. While a run is open,
+    // another topology begins a new one, and another journal is one of that topology.
     const open = async (files, name) => {
-        if (files.journal && page.run && !files.script) delete page.files.script;
+        if (page.run && files.topology) page.files = {};
+        else if (page.run && files.journal) page.files = { topology: page.files.topology };
         Object.assign(page.files, files);
         const missing = ["topology", "journal"].filter(what => !page.files[what]);
         const isNone = Object.keys(files).length === 0;

@@ -188,6 +188,14 @@ const what_is_refused_is_told_with_its_line = async browser => {
     await browser.choose(filesOf(folder));
     await browser.until(isOpen(94));
     assert.equal(await browser.value("document.getElementById('welcome').hidden"), true);
+    await browser.choose([path.join(top, "tests/fabric/all-hosts/topology.toml")]);
+    await browser.until("document.getElementById('opened').textContent === 'Now open its journal.'");
+    const other = open("tests/fabric/all-hosts");
+    await browser.choose([journalOf(other.folder)]);
+    await browser.until(isOpen(other.run.count));
+    assert.equal(await browser.value("document.getElementById('tab-script').hidden"), true);
+    await browser.press("End");
+    await says(browser, { ...other, script: null }, other.run.count);
 };
 
 const each_example_opens_and_ends_as_its_summary_says = async browser => {

@@ -1,0 +1,337 @@
+"use strict";
+// The page: what is open, which entry is now, and what follows from that for the picture, the lists and the facts.
+globalThis.Page = (() => {
+    const $ = id => document.getElementById(id);
+    const picture = Picture.of($("canvas"));
+    const still = window.matchMedia("(prefers-reduced-motion: reduce)");
+    const page = {
+        files: {}, run: null, states: null, script: null, state: null,
+        subject: null, story: null, // whose story is shown, and its entries
+        playing: 0, owed: 0, way: 1, // when the last picture was made while playing; entries that are due; 1 is on, -1 back
+        moving: 0, // when the frame of now set out
+    };
+
+    const BEGINNING = "The beginning: nothing has happened. No switch knows more than its id and its ports.";
+
+    const row = (name, parts) => {
+        const tr = document.createElement("tr");
+        const th = document.createElement("th");
+        th.textContent = name;
+        const td = document.createElement("td");
+        td.className = "wide";
+        td.colSpan = 2;
+        td.append(...parts.flatMap(part => [typeof part === "string" ? part : button(part), " "]));
+        tr.append(th, td);
+        return tr;
+    };
+
+    const button = ({ text, subject }) => {
+        const element = document.createElement("button");
+        element.type = "button";
+        element.className = "link";
+        element.textContent = text;
+        element.title = `the story of ${Facts.name(page.run, subject)}`;
+        element.addEventListener("click", () => tell(subject));
+        return element;
+    };
+
+    const headerRow = cells => {
+        const tr = document.createElement("tr");
+        cells.forEach((cell, n) => {
+            const td = document.createElement(n === 0 ? "th" : "td");
+            td.textContent = cell;
+            tr.append(td);
+        });
+        tr.lastChild.className = "wide";
+        return tr;
+    };
+
+    const section = (title, rows) => {
+        const h2 = document.createElement("h2");
+        h2.textContent = title;
+        const table = document.createElement("table");
+        table.append(...rows);
+        return [h2, table];
+    };
+
+    const capital = text => text[0].toUpperCase() + text.slice(1);
+
+    const drawFacts = () => {
+        const { run, state, subject } = page;
+        const parts = [];
+        if (subject) {
+            const rows = Facts.of(run, state, subject).map(([name, ...rest]) => row(name, rest));
+            parts.push(...section(capital(Facts.name(run, subject)), rows));
+        }
+        const now = state.entry > 0 ? Journal.frameOf(run, state.entry - 1) : 0;
+        const id = subject && subject.frame !== undefined ? subject.frame : now;
+        const header = id > 0 ? Facts.header(run, state, id) : null;
+        if (header) {
+            const [title, table] = section(header.title, header.rows.map(headerRow));
+            if (!subject || subject.frame !== id) title.append(" ", button({ text: "its story", subject: { frame: id } }));
+            parts.push(title, table);
+        }
+        $("facts").replaceChildren(...parts);
+    };
+
+    const countsText = () => {
+        const { counts, causes, flying } = page.state;
+        const of = word => `${word} ${counts[Journal.KIND[word]]}`;
+        const dropped = Journal.CAUSES.flatMap((cause, n) => (causes[n] > 0 ? [`${cause} ${causes[n]}`] : []));
+        const why = dropped.length > 0 ? ` (${dropped.join(", ")})` : "";
+        return `${["sent", "made", "copied", "arrived", "taken", "dropped"].map(of).join(" ")}${why} flying ${flying.size}`;
+    };
+
+    const drawNow = () => {
+        const { run, state, script } = page;
+        const n = state.entry - 1;
+        const line = state.line < 0 ? "" : `, line ${run.a[state.line]} of the script`;
+        $("where").textContent = `entry ${state.entry} of ${run.count}${line}`;
+        $("said").textContent = n < 0 ? BEGINNING : Words.sentence(run, n, script);
+        $("said").setAttribute("aria-live", page.playing ? "off" : "polite");
+        $("raw").textContent = n < 0 ? "" : Journal.text(run, n, 400);
+        $("counts").textContent = countsText();
+        $("slider").value = state.entry;
+        $("entry").value = state.entry;
+        $("line").value = state.line < 0 ? "" : run.a[state.line];
+        $("back").disabled = $("first").disabled = $("lineback").disabled = state.entry === 0;
+        $("next").disabled = $("last").disabled = $("lineon").disabled = state.entry === run.count;
+        drawFacts();
+    };
+
+    const entryOfRow = n => (page.story ? page.story[n] : n);
+    const markedRow = () => (page.story ? Stories.happened(page.story, page.state.entry) : page.state.entry) - 1;
+
+    const fillEntry = (element, n) => {
+        const entry = entryOfRow(n);
+        const [code, span] = [document.createElement("code"), document.createElement("span")];
+        code.textContent = `${entry + 1}  ${Journal.text(page.run, entry, 90)}`;
+        span.textContent = Words.sentence(page.run, entry, page.script);
+        element.title = span.textContent;
+        if (page.run.kind[entry] === Journal.KIND.line) element.classList.add("line");
+        element.append(code, span);
+    };
+
+    const fillLine = (element, n) => {
+        const [code, span] = [document.createElement("code"), document.createElement("span")];
+        code.textContent = `${n + 1}  ${page.script[n]}`;
+        span.textContent = Script.sentence(page.script[n]);
+        const entry = Journal.ofLine(page.run, n + 1);
+        if (entry < 0 || page.run.a[entry] !== n + 1) element.classList.add("idle");
+        element.append(code, span);
+    };
+
+    const entries = Rows.make($("journal"), fillEntry, n => go(entryOfRow(n) + 1));
+    const lines = Rows.make($("script"), fillLine, n => toLine(n + 1));
+
+    const storyName = () => `${Facts.name(page.run, page.subject)}: ${Words.plural(page.story.length, "entry", "entries")}`;
+
+    const drawLists = () => {
+        entries.set(page.story ? page.story.length : page.run.count, markedRow());
+        const line = page.state.line < 0 ? -1 : page.run.a[page.state.line] - 1;
+        if (page.script && !$("script").hidden) lines.set(page.script.length, line);
+        $("telling").textContent = page.subject ? storyName() : "";
+        $("all").hidden = !page.subject;
+    };
+
+    const summary = () => {
+        const flying = [...page.state.flying.keys()].slice(0, 20).join(", ");
+        return `The fabric after entry ${page.state.entry}. Frames in flight: ${flying || "none"}. ${$("said").textContent}`;
+    };
+
+    // while a frame is on its way to where it is now, the picture is made again
+    const drawPicture = () => {
+        const passed = performance.now() - page.moving;
+        picture.progress = Math.min(1, passed / 260);
+        picture.draw();
+        if (picture.progress < 1) requestAnimationFrame(drawPicture);
+    };
+
+    const draw = isMoving => {
+        picture.state = page.state;
+        picture.scene = Scene.of(page.run, page.state, page.subject);
+        const { now } = picture.scene;
+        page.moving = isMoving && now && now.from && !still.matches ? performance.now() : -1000;
+        if (now && now.place && now.place.link === undefined) picture.reveal(now.place);
+        drawNow();
+        drawLists();
+        $("canvas").setAttribute("aria-label", summary());
+        drawPicture();
+    };
+
+    // so many entries have happened
+    const go = (n, isMoving = false) => {
+        if (!page.run) return;
+        const wanted = Math.max(0, Math.min(page.run.count, n));
+        page.state = At.at(page.states, wanted, page.state);
+        draw(isMoving);
+    };
+
+    const onwards = () => {
+        if (!page.story) return page.state.entry + 1;
+        const happened = Stories.happened(page.story, page.state.entry);
+        return happened < page.story.length ? page.story[happened] + 1 : page.state.entry;
+    };
+
+    const backwards = () => {
+        if (!page.story) return page.state.entry - 1;
+        const happened = Stories.happened(page.story, page.state.entry - 1);
+        return happened > 0 ? page.story[happened - 1] + 1 : 0;
+    };
+
+    // to the entry of a line of the script, or of the next one that has an entry
+    const toLine = number => {
+        const entry = Journal.ofLine(page.run, number);
+        go(entry < 0 ? page.run.count : entry + 1);
+    };
+
+    const lineOn = step => {
+        const { run, state } = page;
+        const line = state.line < 0 ? 0 : run.scriptLines.indexOf(state.line) + 1; // so many lines have begun
+        if (step > 0) go(line < run.scriptLines.length ? run.scriptLines[line] + 1 : run.count);
+        else if (line > 0 && state.entry > state.line + 1) go(state.line + 1);
+        else go(line > 1 ? run.scriptLines[line - 2] + 1 : 0);
+    };
+
+    const speed = () => Number($("speed").value);
+
+    const stop = () => {
+        page.playing = 0;
+        $("play").textContent = "play \u25B6";
+        $("playback").textContent = "\u25C0";
+        if (page.run) drawNow();
+    };
+
+    const tick = time => {
+        if (!page.playing) return;
+        page.owed += Math.min(1000, time - page.playing) * speed() / 1000;
+        page.playing = time;
+        const due = Math.floor(page.owed);
+        if (due > 0) {
+            page.owed -= due;
+            go(afterMany(page.way * due), page.way > 0 && speed() <= 5);
+        }
+        if (isAtEnd()) stop();
+        else requestAnimationFrame(tick);
+    };
+
+    // the entry so many entries of the journal, or of the story that is shown, from that of now
+    const afterMany = count => {
+        if (!page.story) return page.state.entry + count;
+        const isOn = count > 0;
+        const happened = Stories.happened(page.story, isOn ? page.state.entry : page.state.entry - 1) + (isOn ? count : count + 1);
+        return happened <= 0 ? 0 : page.story[Math.min(page.story.length, happened) - 1] + 1;
+    };
+
+    // whether there is nothing more to play this way
+    const isAtEnd = () => {
+        const { entry } = page.state;
+        return page.way < 0 ? entry === 0 : entry >= onwards() || entry === page.run.count;
+    };
+
+    // plays on, or back where `way` is -1; stops what plays
+    const play = way => {
+        if (page.playing) return stop();
+        page.way = way;
+        if (isAtEnd()) go(way > 0 ? 0 : page.run.count);
+        page.playing = performance.now();
+        page.owed = 0;
+        $(way > 0 ? "play" : "playback").textContent = way > 0 ? "stop \u25A0" : "\u25A0";
+        requestAnimationFrame(tick);
+        return undefined;
+    };
+
+    const step = n => {
+        if (!page.run) return;
+        if (page.playing) stop();
+        go(n, n > page.state.entry);
+    };
+
+    // shows the story of a frame, a host or a switch alone; of null the whole journal again
+    const tell = subject => {
+        if (!page.run) return;
+        page.subject = subject;
+        page.story = subject ? Stories.of(page.run, subject) : null;
+        choose("journal");
+        draw(false);
+    };
+
+    const tellNow = () => {
+        const id = page.run && page.state.entry > 0 ? Journal.frameOf(page.run, page.state.entry - 1) : 0;
+        if (id > 0) tell({ frame: id });
+    };
+
+    const choose = name => {
+        for (const tab of ["journal", "script"]) {
+            $(tab).hidden = tab !== name;
+            $(`tab-${tab}`).setAttribute("aria-selected", String(tab === name));
+        }
+        if (page.run) drawLists();
+    };
+
+    const faster = step => {
+        const select = $("speed");
+        select.selectedIndex = Math.max(0, Math.min(select.options.length - 1, select.selectedIndex + step));
+    };
+
+    const nameOf = run => `k ${run.fabric.k}, ${Words.plural(run.fabric.switches.length, "switch", "switches")}, `
+        + `${Words.plural(run.fabric.hosts.length, "host")}, ${Words.plural(run.count, "entry", "entries")}`;
+
+    const show = (opened, name) => {
+        if (page.playing) stop();
+        Object.assign(page, opened, { state: At.at(opened.states, 0), subject: null, story: null });
+        picture.show(page.run);
+        $("welcome").hidden = true;
+        $("zooming").hidden = false;
+        $("find").disabled = false;
+        $("slider").max = $("entry").max = page.run.count;
+        $("opened").textContent = `${name ? `${name}: ` : ""}${nameOf(page.run)}`;
+        $("tab-script").hidden = !page.script;
+        choose("journal");
+        go(0);
+        document.body.dataset.open = page.run.count;
+    };
+
+    // says why no run is open
+    const refuse = error => {
+        if (page.playing) stop();
+        page.run = null;
+        page.files = {};
+        picture.scene = null;
+        $("refused").textContent = error.message;
+        $("opened").textContent = "no run is open";
+        $("find").disabled = true;
+        $("zooming").hidden = true;
+        $("welcome").hidden = false;
+    };
+
+    // a moment in which the page is drawn
+    const drawn = () => new Promise(done => requestAnimationFrame(() => setTimeout(done)));
+
+    // Opens the files of a run. Topology and journal are wanted; until both are there, what was given is kept. While a run is open,
+    // another topology begins a new one, and another journal is one of that topology.
+    const open = async (files, name) => {
+        if (page.run && files.topology) page.files = {};
+        else if (page.run && files.journal) page.files = { topology: page.files.topology };
+        Object.assign(page.files, files);
+        const missing = ["topology", "journal"].filter(what => !page.files[what]);
+        const isNone = Object.keys(files).length === 0;
+        if (isNone || missing.length > 0) {
+            const wanted = `Now open its ${missing.join(" and its ")}.`;
+            $(page.run ? "opened" : "refused").textContent = isNone ? "No topology, journal or script is among these files." : wanted;
+            return;
+        }
+        try {
+            $("refused").textContent = "";
+            $("opened").textContent = "reading the run";
+            await drawn();
+            show(Files.runOf(page.files), name);
+        } catch (error) {
+            refuse(error);
+        }
+    };
+
+    return {
+        page, picture, open, refuse, go, draw, step, onwards, backwards, lineOn, toLine, play, tell, tellNow, choose, faster,
+    };
+})();

@@ -1,0 +1,53 @@
+"use strict";
+// Reads a script: its lines, the words of each, and a sentence that says what the line asks for. A line that this page cannot
+// say in words keeps its own.
+globalThis.Script = (() => {
+    const hosts = who => (who === "all" ? "each host, in the order of the topology," : `host ${who}`);
+
+    const records = (host, count) => {
+        if (count === undefined) return `the next record of ${host}'s capture`;
+        return count === "all" ? `all records that are left of ${host}'s capture` : `the next ${count} records of ${host}'s capture`;
+    };
+
+    const SENTENCES = {
+        start: ([who]) => `${hosts(who)} announces itself by an ARP request for its own address`,
+        send: ([host, count]) => `${records(host, count)} is sent, for the address that the host knows of its receiver`,
+        raw: ([host, count]) => `${records(host, count)} is sent as recorded`,
+        retry: ([who]) => `${hosts(who)} asks again for each address for which it holds frames`,
+        join: ([host, group]) => `host ${host} joins the group ${group}`,
+        leave: ([host, group]) => `host ${host} leaves the group ${group}`,
+        move: ([host, edge, port]) => `host ${host} moves to port ${port} of ${edge}`,
+        fail: ([a, b]) => `the link between ${a} and ${b} fails`,
+        repair: ([a, b]) => `the link between ${a} and ${b} is repaired`,
+        lose: ([a, b]) => `what is first in the queue from ${a} to ${b} is lost`,
+        deliver: ([from, to]) => `what is first in the queue from ${from} to ${to} is delivered`,
+        tick: ([who]) => (who === "all" ? "each switch ticks once" : `switch ${who} ticks once`),
+        sweep: ([n]) => `${n} times, all that waits in the queues is delivered`,
+        settle: ([n]) => `rounds until nothing is left to do, ${n} at most: each switch ticks, then queues are swept`,
+        random: ([seed, n]) => `${n} steps that are drawn by the number ${seed}`,
+        expect: ([what, ...rest]) => (Object.hasOwn(CHECKS, what) ? `it is checked that ${CHECKS[what](rest)}` : rest.join(" ")),
+    };
+
+    const CHECKS = {
+        arrived: ([host, n]) => `${n} frames have arrived at host ${host}`,
+        dropped: ([cause, n]) => `${n} frames were dropped as ${cause}`,
+        address: ([host, address]) => `the newest address of host ${host} that was registered is ${address}`,
+        settled: () => "the last `settle` line left the fabric settled",
+    };
+
+    const read = text => {
+        const lines = text.split("\n");
+        if (lines[lines.length - 1] === "") lines.pop();
+        return lines.map(line => line.replace(/\r$/, ""));
+    };
+
+    const wordsOf = line => line.replace(/#.*/, "").split(/[ \t]+/).filter(word => word !== "");
+
+    const sentence = line => {
+        const [first, ...rest] = wordsOf(line);
+        if (first === undefined) return "";
+        return Object.hasOwn(SENTENCES, first) && rest.length > 0 ? SENTENCES[first](rest) : rest.join(" ");
+    };
+
+    return { read, wordsOf, sentence };
+})();

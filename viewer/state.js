@@ -1,0 +1,145 @@
+"use strict";
+// What a journal says of the fabric once so many of its entries have happened. `At.run(run)` goes through the journal once
+// and keeps a mark every few thousand entries; `at(n)` copies the last mark before n and goes on from there, so that a step
+// backwards costs no more than one forwards, in a journal of any length.
+globalThis.At = (() => {
+    const { KIND } = Journal;
+    const SPACING = 4096;
+
+    // Of entries, `line`, `rest` and those in `address` are the numbers of rows; -1 is none.
+    const start = run => {
+        const { fabric } = run;
+        return {
+            entry: 0, // so many entries have happened
+            line: -1, // the last `line`
+            rest: -1, // the last `settled` or `unsettled`
+            places: new Int32Array(fabric.switches.length), // packed as in Journal
+            failed: new Uint8Array(fabric.links.length),
+            spots: Int32Array.from(fabric.hosts, host => host.edge * fabric.k + host.port),
+            newest: new Int32Array(fabric.hosts.length).fill(-1), // the address that a host was granted last
+            flying: new Map(), // frames that have begun and not ended, each with its newest entry
+            counts: new Int32Array(Journal.WORDS.length),
+            causes: new Int32Array(Journal.CAUSES.length),
+        };
+    };
+
+    const copy = state => ({
+        ...state,
+        places: state.places.slice(),
+        failed: state.failed.slice(),
+        spots: state.spots.slice(),
+        newest: state.newest.slice(),
+        flying: new Map(state.flying),
+        counts: state.counts.slice(),
+        causes: state.causes.slice(),
+    });
+
+    // A mark holds its flying frames as a plain row of numbers, which takes less than a map.
+    const markOf = state => ({ ...copy({ ...state, flying: [] }), flying: Int32Array.from([...state.flying].flat()) });
+
+    const fromMark = mark => {
+        const state = copy({ ...mark, flying: [] });
+        for (let i = 0; i < mark.flying.length; i += 2) state.flying.set(mark.flying[i], mark.flying[i + 1]);
+        return state;
+    };
+
+    // the next entry happens
+    const step = (run, state) => {
+        const n = state.entry;
+        const kind = run.kind[n];
+        const [a, b, c] = [run.a[n], run.b[n], run.c[n]];
+        state.entry = n + 1;
+        state.counts[kind]++;
+        switch (kind) {
+            case KIND.line: state.line = n; break;
+            case KIND.settled:
+            case KIND.unsettled: state.rest = n; break;
+            case KIND.placed: state.places[a] = b; break;
+            case KIND.linkdown: state.failed[a] = 1; break;
+            case KIND.linkup: state.failed[a] = 0; break;
+            case KIND.moved: state.spots[a] = b * run.fabric.k + c; break;
+            case KIND.granted: state.newest[b] = a; break;
+            case KIND.copied: state.flying.set(a, n).set(b, n); break;
+            case KIND.sent:
+            case KIND.made:
+            case KIND.crossed:
+            case KIND.redirected: state.flying.set(a, n); break;
+            case KIND.dropped: state.causes[b]++; // falls through: it ends
+            case KIND.arrived:
+            case KIND.taken: state.flying.delete(a); break;
+            default:
+        }
+    };
+
+    // The states of a run. A mark stands where at least `spacing` entries, and as many as frames are flying, have happened
+    // since the one before, so that all marks together are no longer than the journal.
+    const run = (journal, spacing = SPACING) => {
+        const state = start(journal);
+        const marks = [markOf(state)];
+        while (state.entry < journal.count) {
+            step(journal, state);
+            const since = state.entry - marks[marks.length - 1].entry;
+            if (since >= spacing && since >= state.flying.size) marks.push(markOf(state));
+        }
+        return { journal, marks };
+    };
+
+    const markBefore = (marks, n) => {
+        let [low, high] = [0, marks.length - 1];
+        while (low < high) {
+            const middle = (low + high + 1) >> 1;
+            if (marks[middle].entry <= n) low = middle;
+            else high = middle - 1;
+        }
+        return marks[low];
+    };
+
+    // The state once n entries have happened. `from`, where given, is a state that is used up: the next entries are played on it
+    // where that is shorter.
+    const at = (states, n, from = null) => {
+        const mark = markBefore(states.marks, n);
+        const state = from && from.entry <= n && from.entry >= mark.entry ? from : fromMark(mark);
+        while (state.entry < n) step(states.journal, state);
+        return state;
+    };
+
+    const place = (state, number) => Journal.unpackPlace(state.places[number]);
+
+    // A switch is placed that knows its level, as an edge switch also its position and pod, as an aggregation switch its pod.
+    const isPlaced = ({ level, position, pod }) => level === 2 || (level === 1 && pod !== null)
+        || (level === 0 && pod !== null && position !== null);
+
+    const spot = ({ k }, state, host) => ({ edge: Math.floor(state.spots[host] / k), port: state.spots[host] % k });
+
+    // Where a frame was at one of its entries: at a host before it crossed a switch and where it arrived, with the port where the
+    // host stood then; else at the switch that it crossed last or that made it.
+    const where = (journal, n) => {
+        if (journal.kind[n] === KIND.arrived) return { host: journal.b[n], spot: journal.spot[n] };
+        if (journal.at[n] >= 0) return { switch: journal.at[n] };
+        const first = Journal.beginning(journal, journal.a[n]);
+        return { host: journal.b[first], spot: journal.spot[first] };
+    };
+
+    // the entries of a frame so far, those before it was copied included, the oldest first
+    const past = (journal, n) => {
+        const entries = [];
+        for (let at = n; at >= 0; at = journal.before[at]) entries.push(at);
+        return entries.reverse();
+    };
+
+    // the newest entry of a frame once n entries have happened, -1 before its first
+    const newest = (journal, state, id) => {
+        if (state.flying.has(id)) return state.flying.get(id);
+        return journal.end[id] >= 0 && journal.end[id] < state.entry ? journal.end[id] : -1;
+    };
+
+    // the destination that it began with, or the address that it was last redirected to
+    const address = (journal, n) => {
+        for (let at = n; at >= 0; at = journal.before[at]) {
+            if (journal.kind[at] === KIND.redirected) return journal.addresses[journal.c[at]].number;
+        }
+        return Frames.read(Journal.frame(journal, Journal.beginning(journal, journal.a[n]))).destination;
+    };
+
+    return { start, step, run, at, place, isPlaced, spot, where, past, newest, address };
+})();

@@ -1,0 +1,60 @@
+"use strict";
+// What `viewer/pack` makes, and that the page asks nothing of a network.
+const assert = require("assert");
+const { spawnSync } = require("child_process");
+const fs = require("fs");
+const os = require("os");
+const path = require("path");
+const zlib = require("zlib");
+const { top } = require("./load.js");
+
+const pack = (...words) => spawnSync(path.join(top, "viewer/pack"), words, { cwd: top, encoding: "utf8", maxBuffer: 1e9 });
+
+const packed = (page, kind) => {
+    const found = new RegExp(`data-packed="${kind}">([^<]*)</script>`).exec(page);
+    return found ? zlib.gunzipSync(Buffer.from(found[1], "base64")).toString() : null;
+};
+
+const stored = name => fs.readFileSync(path.join(top, name), "utf8");
+
+const a_packed_page_has_the_run_and_the_viewer = () => {
+    const { status, stdout, stderr } = pack("examples/four-hosts");
+    assert.equal(status, 0, stderr);
+    for (const [kind, file] of [["topology", "topology.toml"], ["script", "script"], ["journal", "expected/journal.txt"]]) {
+        assert.equal(packed(stdout, kind), stored(`examples/four-hosts/${file}`));
+    }
+    for (const [, file] of stored("viewer/index.html").matchAll(/(?:src|href)="([a-z]+\.(?:js|css))"/g)) {
+        assert(stdout.includes(stored(`viewer/${file}`)), file);
+    }
+    assert(!/(src|href)="(?!data:)/.test(stdout));
+    assert(stdout.includes('<meta name="run" content="four-hosts">'));
+};
+
+const another_journal_of_the_topology_is_packed = () => {
+    const folder = fs.mkdtempSync(path.join(os.tmpdir(), "portland-pack-"));
+    fs.writeFileSync(path.join(folder, "journal.txt"), "line 1\n");
+    assert.equal(packed(pack("examples/four-hosts", folder).stdout, "journal"), "line 1\n");
+    assert.equal(packed(pack("examples/four-hosts", path.join(folder, "journal.txt")).stdout, "journal"), "line 1\n");
+    fs.rmSync(folder, { recursive: true });
+    assert.equal(pack("examples/four-hosts", folder).status, 2);
+};
+
+const what_is_no_run_is_refused = () => {
+    for (const words of [[], ["nowhere"], ["viewer"], ["tests/fabric/already-failed"], ["a", "b", "c"]]) {
+        const { status, stdout, stderr } = pack(...words);
+        assert.deepEqual([status, stdout, stderr.trim().split("\n").length], [2, "", 1], words.join(" "));
+    }
+};
+
+// No script of the page names anything that could reach a network, nor ends the element that it is packed into.
+const the_page_reaches_no_network = () => {
+    const files = fs.readdirSync(path.join(top, "viewer")).filter(name => /\.(js|css|html)$/.test(name));
+    assert(files.length > 10);
+    for (const file of files) {
+        const text = stored(`viewer/${file}`);
+        assert(!/https?:|fetch\(|XMLHttpRequest|WebSocket|EventSource|sendBeacon|import\(|@import|url\(/.test(text), file);
+        if (file.endsWith(".js")) assert(!/<\/script|<!--/i.test(text), file);
+    }
+};
+
+module.exports = { a_packed_page_has_the_run_and_the_viewer, another_journal_of_the_topology_is_packed, what_is_no_run_is_refused, the_page_reaches_no_network };

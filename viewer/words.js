@@ -1,0 +1,245 @@
+"use strict";
+// Says what an entry means, in a sentence, and what stands in a frame's header. It says what the journal and the topology say
+// up to that entry, and nothing else.
+globalThis.Words = (() => {
+    const { KIND, CAUSES, SKIPS } = Journal;
+
+    const CAUSE = {
+        NotPlaced: "the switch does not know its place yet, or not that of the neighbour whom it came from",
+        NoNextHop: "no port leads on to its address",
+        NoAddress: "its address was never granted at the switch that it names",
+        HostGone: "the host that it is for does not stand where it was led, or its sender moved away while it still waited",
+        LinkDown: "the link that it was put on is failed, or failed while it waited there",
+        Lost: "a `lose` line of the script took it off its link",
+        Spent: "the port has granted all its addresses, and the sender has none in use there",
+        BadArp: "its ARP packet cannot be read",
+        NoMember: "nobody is reached there who has joined its group",
+    };
+    const SKIP = {
+        CutRecord: "the capture holds only a part of the frame",
+        Short: "the frame has less than 14 bytes",
+        Long: "the frame has more than 65,553 bytes",
+        ForeignSource: "the frame does not say that it comes from this host",
+        ControlType: "its type, 0x88b5, is kept for the switches",
+        RecordedArp: "the host asks by ARP on its own",
+        NoOwner: "its destination is the address of no other host",
+        HoldFull: "64 frames wait for that address already",
+    };
+
+    // where a frame ends so, it ends at the switch that it crossed last; else there, or on its way on from there
+    const AT_SWITCH = ["NotPlaced", "NoNextHop", "NoAddress", "Spent", "BadArp"];
+
+    const switchOf = (run, number) => Fabric.label(run.fabric, number);
+    const hostOf = (run, number) => run.fabric.hosts[number].name;
+    const plural = (n, word, more = `${word}s`) => `${n} ${n === 1 ? word : more}`;
+
+    // the pod, position, port and number of a pseudo address
+    const parts = value => {
+        const { pod, position, port, number } = Frames.pseudo(value);
+        return `pod ${pod}, position ${position}, port ${port}, number ${number}`;
+    };
+
+    const groupText = value => {
+        const group = Frames.groupOf(value);
+        return group === null ? "a group that is flooded" : `routed group ${group}`;
+    };
+
+    // the pseudo address of this number, where it was granted by one of the first n entries
+    const grantedSoFar = (run, value, n) => {
+        const found = run.byAddress.get(value);
+        return found !== undefined && run.addresses[found].granted < n ? run.addresses[found] : null;
+    };
+
+    // the address as a pseudo address, and who was granted it once n entries have happened
+    const pseudoWho = (run, value, n) => {
+        const address = grantedSoFar(run, value, n);
+        if (address) return `pseudo address of ${hostOf(run, address.host)}: ${parts(value)}`;
+        if (value % 65536 === 0) return `sender of a probe: ${parts(value)}`;
+        return `granted to nobody so far; as a pseudo address: ${parts(value)}`;
+    };
+
+    // who has an address, once n entries have happened
+    const who = (run, value, n) => {
+        if (value === 2 ** 48 - 1) return "to all";
+        if (Frames.isGroup(value)) return groupText(value);
+        if (value === 0) return "none";
+        const host = run.fabric.macs.get(value);
+        const own = host === undefined ? "" : `own address of ${hostOf(run, host)}`;
+        return own && !grantedSoFar(run, value, n) ? own : [own, pseudoWho(run, value, n)].filter(text => text !== "").join("; ");
+    };
+
+    const shortWho = (run, value, n) => {
+        if (value === 2 ** 48 - 1) return "all";
+        const address = grantedSoFar(run, value, n);
+        if (address) return `${hostOf(run, address.host)}'s pseudo address`;
+        if (run.fabric.macs.has(value)) return `${hostOf(run, run.fabric.macs.get(value))}'s own address`;
+        if (Frames.isGroup(value)) return groupText(value);
+        return value % 65536 === 0 ? `${Frames.macText(value)}, the sender of a probe` : Frames.macText(value);
+    };
+
+    const arpText = arp => {
+        if (arp.refused) return `an ARP frame that cannot be read: ${arp.refused}`;
+        if (arp.opcode === 2) return `an ARP reply: ${Frames.ipText(arp.senderIp)} is at ${Frames.macText(arp.senderMac)}`;
+        if (arp.opcode !== 1) return `an ARP frame with opcode ${arp.opcode}`;
+        if (arp.senderIp === arp.targetIp) return `an ARP request for its own address, ${Frames.ipText(arp.targetIp)}`;
+        return `an ARP request that asks who has ${Frames.ipText(arp.targetIp)}${arp.senderIp === 0 ? ", as a probe" : ""}`;
+    };
+
+    const changesText = changes => {
+        if (changes.length === 0) return "a report on groups that changes none";
+        return changes.map(({ group, join }) => `${join ? "joins" : "leaves"} ${Frames.ipText(group)}`).join(", ");
+    };
+
+    const ipKind = ip => {
+        if (ip.igmp) return `an IGMP report: it ${changesText(ip.igmp)}`;
+        const ports = ip.sourcePort === undefined ? "" : `, port ${ip.sourcePort} to ${ip.destinationPort}`;
+        const ends = `from ${Frames.ipText(ip.source)} to ${Frames.ipText(ip.destination)}`;
+        return `IPv4 ${ends}, protocol ${Frames.protocolText(ip.protocol)}${ports}`;
+    };
+
+    // what a frame is, in short
+    const kindOf = frame => {
+        if (frame.arp) return arpText(frame.arp);
+        if (frame.ip) return ipKind(frame.ip);
+        return `${plural(frame.length, "byte")} of type ${Frames.typeText(frame.type)}`;
+    };
+
+    const frameAt = (run, n) => Frames.read(Journal.frame(run, n));
+
+    // the frame as it began, of any entry that speaks of it
+    const asBegun = (run, n) => frameAt(run, Journal.beginning(run, run.a[n]));
+
+    const toWhom = (run, frame, n) => `to ${shortWho(run, frame.destination, n)}`;
+
+    const crossed = (run, n) => {
+        const [id, here] = [run.a[n], switchOf(run, run.b[n])];
+        const before = run.before[n];
+        if (before >= 0 && run.kind[before] === KIND.made) return `Frame ${id} starts its way at ${here}.`;
+        if (before >= 0 && run.kind[before] === KIND.redirected) return `Frame ${id} starts anew at ${here}, for its new address.`;
+        const from = before < 0 ? null : At.where(run, before);
+        if (!from) return `Switch ${here} receives frame ${id}.`;
+        if (from.host !== undefined) return `Switch ${here} receives frame ${id} from its host ${hostOf(run, from.host)}.`;
+        if (Fabric.link(run.fabric, from.switch, run.b[n]) < 0) {
+            return `Switch ${here} receives frame ${id}, which was at ${switchOf(run, from.switch)}; no link joins the two.`;
+        }
+        const way = run.fabric.switches[from.switch].level < run.fabric.switches[run.b[n]].level ? "up" : "down";
+        return `Switch ${here} receives frame ${id}, on its way ${way} from ${switchOf(run, from.switch)}.`;
+    };
+
+    const redirected = (run, n) => {
+        const [old, { number, host }] = [run.addresses[run.b[n]], run.addresses[run.c[n]]];
+        return `Host ${hostOf(run, host)} has moved on: frame ${run.a[n]}, for ${Frames.macText(old.number)}, `
+            + `goes on to its newer address ${Frames.macText(number)} (${parts(number)}).`;
+    };
+
+    // the switches that the frame crossed, one after the other
+    const trail = (run, n) => At.past(run, n).filter(at => run.kind[at] === KIND.crossed).map(at => run.b[at]);
+
+    const arrived = (run, n) => {
+        const crossings = trail(run, n).map(number => switchOf(run, number));
+        return `Frame ${run.a[n]} arrives at host ${hostOf(run, run.b[n])}: ${kindOf(frameAt(run, n))}. `
+            + `It crossed ${plural(crossings.length, "switch", "switches")}: ${crossings.join(", ")}.`;
+    };
+
+    const taken = (run, n) => {
+        const frame = asBegun(run, n);
+        const what = frame.arp || (frame.ip && frame.ip.igmp) ? ` (${kindOf(frame)})` : "";
+        return `Switch ${switchOf(run, run.b[n])} takes frame ${run.a[n]}${what}: it is for the switch itself.`;
+    };
+
+    const dropped = (run, n) => {
+        const cause = CAUSES[run.b[n]];
+        const at = At.where(run, n);
+        const place = at.host !== undefined ? `after host ${hostOf(run, at.host)} sent it, before it crossed a switch`
+            : AT_SWITCH.includes(cause) ? `at switch ${switchOf(run, at.switch)}`
+            : `after switch ${switchOf(run, at.switch)}, which it crossed last`;
+        return `Frame ${run.a[n]} ends ${place}: ${cause}, ${CAUSE[cause]}.`;
+    };
+
+    const granted = (run, n) => {
+        const { number, host, edge, port } = run.addresses[run.a[n]];
+        const spot = `port ${port} of ${switchOf(run, edge)}`;
+        return `Host ${hostOf(run, host)} gets the pseudo address ${Frames.macText(number)} at ${spot}: ${parts(number)}.`;
+    };
+
+    const registered = (run, n) => {
+        const { number, host } = run.addresses[run.a[n]];
+        return `The fabric manager has learnt ${Frames.macText(number)} of host ${hostOf(run, host)}, with number ${run.b[n]}.`;
+    };
+
+    const placeText = ({ level, position, pod }) => {
+        const part = (name, value) => (value === null ? `${name} not known` : `${name} ${value}`);
+        const first = level === null ? "level not known" : `level ${level} (${Fabric.LEVELS[level]})`;
+        return `${first}, ${part("position", position)}, ${part("pod", pod)}`;
+    };
+
+    const line = (run, n, script) => {
+        const text = script ? script[run.a[n] - 1] : undefined;
+        if (text === undefined) return `What follows comes of line ${run.a[n]} of the script.`;
+        return `Line ${run.a[n]} of the script, \`${Script.wordsOf(text).join(" ")}\`: ${Script.sentence(text)}.`;
+    };
+
+    const skipped = (run, n) => {
+        const reason = SKIPS[run.b[n]];
+        return `A record of ${hostOf(run, run.a[n])}'s capture is not played: ${reason}, ${SKIP[reason]}.`;
+    };
+
+    const begins = (run, n, actor) => {
+        const frame = frameAt(run, n);
+        return `${actor} frame ${run.a[n]}, ${toWhom(run, frame, n)}: ${kindOf(frame)}.`;
+    };
+
+    const linkOf = (run, n) => `The link between ${switchOf(run, run.b[n])} and ${switchOf(run, run.c[n])}`;
+
+    const SENTENCES = {
+        line,
+        sent: (run, n) => begins(run, n, `Host ${hostOf(run, run.b[n])} sends`),
+        skipped,
+        made: (run, n) => begins(run, n, `Switch ${switchOf(run, run.b[n])} makes`),
+        crossed,
+        redirected,
+        copied: (run, n) => `At ${switchOf(run, run.at[n])} frame ${run.a[n]} goes one more way: frame ${run.b[n]} is its copy.`,
+        arrived,
+        taken,
+        dropped,
+        granted,
+        registered,
+        placed: (run, n) => `Switch ${switchOf(run, run.a[n])} knows of its place now: ${placeText(Journal.unpackPlace(run.b[n]))}.`,
+        linkdown: (run, n) => `${linkOf(run, n)} fails.`,
+        linkup: (run, n) => `${linkOf(run, n)} is repaired.`,
+        moved: (run, n) => `Host ${hostOf(run, run.a[n])} moves to port ${run.c[n]} of ${switchOf(run, run.b[n])}.`,
+        settled: (run, n) => `A \`settle\` line ends after ${plural(run.a[n], "round")}: the fabric is settled.`,
+        unsettled: (run, n) => `A \`settle\` line ends and the fabric is not settled: `
+            + `${plural(run.a[n], "thing that stands against it waits", "things that stand against it wait")}.`,
+    };
+
+    // what entry n means; `script` are the lines of the script, or null
+    const sentence = (run, n, script = null) => SENTENCES[Journal.WORDS[run.kind[n]]](run, n, script);
+
+    // A header as rows of a name, a value, and what the value means once n entries have happened.
+    const header = (run, frame, n) => {
+        const mac = (name, value) => [name, Frames.macText(value), who(run, value, n)];
+        const type = ["type", Frames.typeText(frame.type), `${plural(frame.length, "byte")} in all`];
+        const rows = [mac("destination", frame.destination), mac("source", frame.source), type];
+        if (frame.arp && frame.arp.refused) rows.push(["ARP", "not readable", frame.arp.refused]);
+        else if (frame.arp) rows.push(...arpRows(frame.arp, mac));
+        if (frame.ip) rows.push(...ipRows(frame.ip));
+        return rows;
+    };
+
+    const arpRows = (arp, mac) => [
+        ["ARP", `opcode ${arp.opcode}`, { 1: "request", 2: "reply" }[arp.opcode] || ""],
+        mac("sender", arp.senderMac), ["sender IP", Frames.ipText(arp.senderIp), arp.senderIp === 0 ? "none: a probe" : ""],
+        mac("target", arp.targetMac), ["target IP", Frames.ipText(arp.targetIp), ""],
+    ];
+
+    const ipRows = ip => {
+        const ends = `${Frames.ipText(ip.source)} to ${Frames.ipText(ip.destination)}`;
+        const rows = [["IPv4", ends, `protocol ${Frames.protocolText(ip.protocol)}`]];
+        if (ip.sourcePort !== undefined) rows.push(["ports", `${ip.sourcePort} to ${ip.destinationPort}`, ""]);
+        if (ip.igmp) rows.push(["IGMP", changesText(ip.igmp), ""]);
+        return rows;
+    };
+
+    return { CAUSE, SKIP, sentence, header, parts, who, kindOf, placeText, trail, plural, switchOf, hostOf };
+})();

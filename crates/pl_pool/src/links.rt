@@ -1,5 +1,5 @@
 //! The chains of nodes in a slab: how a node leaves a chain, and how it comes to its end.
-ghost use Rattle.std.specs.Prelude.{◌≡◌, ◌≢◌, ℕ, ◌+◌, ◌^◌, ◌<◌, List, [], ◌∷◌, ◌++◌, Some, IfSome};
+ghost use Rattle.std.specs.Prelude.{◌≡◌, ◌≢◌, ℕ, ◌+◌, ◌^◌, ◌<◌, List, [], ◌∷◌, ◌++◌, Some};
 ghost use Rattle.slab.specs.Slab.{ContainsKey};
 ghost use Rattle.pl_pool.specs.Chains.{IsAmong, IsChainIn, KeepsOthers, LeadsBack, LeadsOn, Relinks, next_of, owner_of, prev_of};
 

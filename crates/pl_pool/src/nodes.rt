@@ -1,5 +1,5 @@
 //! The lists of a pool as chains in one slab: a node comes to a list, leaves it, or goes to its end.
-ghost use Rattle.std.specs.Prelude.{◌≡◌, ◌↔◌, ℕ, ◌+◌, ◌-◌, ◌<◌, ◌≤◌, List, [], ◌∷◌, ◌++◌, length, None, Some, IfOk, IsOk, IsTrue, if◌then◌else◌, nat_eq, option_and_then, slice_index_or, slice_set};
+ghost use Rattle.std.specs.Prelude.{◌≡◌, ◌↔◌, ℕ, ◌+◌, ◌-◌, ◌<◌, ◌≤◌, List, [], ◌∷◌, ◌++◌, length, None, Some, IfOk, IsOk, IsTrue, slice_index_or, slice_set};
 ghost use Rattle.std.specs.Option.{option_copied};
 ghost use Rattle.slab.specs.Slab.{HasRoomFor, get, slab_len};
 ghost use Rattle.pl_pool.specs.Chains.{IsPool, ends_at, entries, item_if, item_in, lists_of, next_if, owner_of, slots_of};

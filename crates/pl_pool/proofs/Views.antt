@@ -80,7 +80,7 @@ module _ {T : Type 0} where
       let next_is : next_of nodes slot ≡ y = ap (next_of nodes) (sym (at_slot xs (y ∷ ys) slot)) ∙ chain.nexts (length xs) more
       ∙ get_or-append_right xs (slot ∷ y ∷ ys) (length xs) (length xs + 1) 0 refl (omega arith) ∙ ap (slice_index (slot ∷ y ∷ ys)) step in
       let owned : owner_of nodes y ≡ Some list =
-          ap (owner_of nodes) (sym next_is ∙ ap (next_of nodes) (sym (at_slot xs (y ∷ ys) slot)) ∙ chain.nexts (length xs) more) ∙ chain.owned (length xs + 1) more in
+      ap (owner_of nodes) (sym next_is ∙ ap (next_of nodes) (sym (at_slot xs (y ∷ ys) slot)) ∙ chain.nexts (length xs) more) ∙ chain.owned (length xs + 1) more in
       let item : (x : T) × (item_in nodes y ≡ Some x) = owned_item nodes y list owned in
       let start : first_key (entries (item_in nodes) (y ∷ ys)) ≡ Some (keyed y) = first_is (item_in nodes) y ys item.0 item.1 in
       let moved : ◌≡◌ {A = Option Key} (Some (keyed y)) (Some (keyed (next_of nodes slot))) = ap (λ s. Some (keyed s)) (sym next_is) in

@@ -1,0 +1,17 @@
+//! Laws of addresses: what holds of grants, traps and registrations in every run of the fabric, over the
+//! definitions of the world and of the rules alone.
+#![tactic(auto)]
+
+pub use addresses_in_order::{
+    a_served_host_is_registered_at_rest, a_trap_leads_to_a_newer_address,
+    an_address_in_use_is_the_newest_or_recalled, an_address_in_use_is_told,
+    no_two_edge_switches_grant_one_address,
+};
+pub use runs_in_order::{
+    addresses_are_in_order_at_boot, addresses_are_in_order_in_every_run,
+    each_step_keeps_addresses_in_order, no_address_is_granted_twice,
+    what_was_granted_stays_granted,
+};
+
+mod addresses_in_order;
+mod runs_in_order;

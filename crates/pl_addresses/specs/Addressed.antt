@@ -1,5 +1,6 @@
 -- The addresses of a whole fabric, and what is needed of other parts of it.
 use Rattle.std.specs.Prelude.{◌≡◌, ℕ, true, false, Contains, List, Some, slice_get}
+use Rattle.pl_frame.specs.declared.address.Mac.{Mac}
 use Rattle.pl_pmac.specs.declared.pmac.Pmac.{Pmac}
 use Rattle.pl_wiring.specs.declared.label.SwitchNo.{SwitchNo}
 use Rattle.pl_wiring.specs.declared.link.Peer.TheVariants.{Switch}
@@ -24,7 +25,7 @@ use Rattle.pl_world.specs.Runs.{Moment, WorldRun}
 use Rattle.pl_world.specs.Worlds.{WorldView}
 use Rattle.pl_addresses.specs.OwnAddresses.{own_ip}
 use Rattle.pl_addresses.specs.Registries.{IsGoodRegistry, registry_of}
-use Rattle.pl_addresses.specs.EdgeAddresses.{IsGoodBook, IsGoodEdge, KeepsGrantees, edge_of}
+use Rattle.pl_addresses.specs.EdgeAddresses.{IsGrantedTo, IsGoodBook, IsGoodEdge, KeepsGrantees, edge_of}
 
 -- some switch of the world has the place of this address
 pub record HasHome (switches : List SwitchView) (x : Pmac) : Type 0 where
@@ -50,6 +51,13 @@ pub record AreAddressed (plan : Plan) (manager : ManagerView) (switches : List S
 
 abbrev pub IsAddressed : WorldView → Type 0
 IsAddressed w = AreAddressed w.plan w.manager w.switches w.to_manager w.from_manager
+
+-- some switch has granted it to this host
+pub record IsGrantedBySome (switches : List SwitchView) (x : Pmac) (mac : Mac) : Type 0 where
+  pub switch : ℕ
+  pub view : SwitchView
+  pub found : slice_get switches switch ≡ Some view
+  pub granted_to : IsGrantedTo (λ y. granted view y) x mac
 
 -- of two worlds, one later: what was granted by a switch to a host is still granted to it
 pub record IsStill (switches : List SwitchView) (s : ℕ) (v : SwitchView) : Type 0 where

@@ -3,6 +3,7 @@ pub mod OwnFrames
 pub mod Registries
 pub mod EdgeAddresses
 pub mod Addressed
+pub mod Standing
 pub mod AtRest
 pub mod GrantedOnce
 pub mod InOrder

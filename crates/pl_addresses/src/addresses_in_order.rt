@@ -2,18 +2,19 @@ ghost use Rattle.std.specs.Prelude.{◌≡◌, ◌⊎◌, ℕ, [], None, Some, t
 ghost use Rattle.std.specs.List.{list_any};
 ghost use Rattle.pl_arp.specs.declared.cache.Me.{Me};
 ghost use Rattle.pl_core.specs.declared.switch_records.Grant.{Grant};
-ghost use Rattle.pl_core.specs.declared.trap.Trap.{Trap};
 ghost use Rattle.pl_core.specs.ManagerViews.{Registration, newest, registration};
 ghost use Rattle.pl_core.specs.SwitchViews.{SwitchView};
 ghost use Rattle.pl_frame.specs.declared.address.Ip4.{Ip4};
+ghost use Rattle.pl_frame.specs.declared.address.Mac.{Mac};
 ghost use Rattle.pl_pmac.specs.declared.pmac.Pmac.{Pmac};
 ghost use Rattle.pl_queues.specs.Queues.{items_at};
 ghost use Rattle.pl_switch_rule.specs.Granting.{granted};
 ghost use Rattle.pl_world.specs.Worlds.{WorldView};
-ghost use Rattle.pl_addresses.specs.Addressed.{AreApart, IsAddressed};
+ghost use Rattle.pl_addresses.specs.Addressed.{AreApart, IsAddressed, IsGrantedBySome};
 ghost use Rattle.pl_addresses.specs.AtRest.{IsRegistered, IsServed};
 ghost use Rattle.pl_addresses.specs.EdgeAddresses.{is_live, recalls, tells, tells_ip};
-ghost use Rattle.pl_addresses.specs.Registries.{Leads, registry_of};
+ghost use Rattle.pl_addresses.specs.Registries.{Leads, Registry, number_of, registry_of};
+ghost use Rattle.pl_addresses.specs.Standing.{IsStanding, LeadsHost};
 
 /// No two edge switches grant one address.
 pub fn no_two_edge_switches_grant_one_address()
@@ -21,12 +22,19 @@ pub fn no_two_edge_switches_grant_one_address()
         slice_get w.switches s ≡ Some v → slice_get w.switches t ≡ Some u → is_live v x ≡ true → is_live u x ≡ true → s ≡ t }
 {}
 
-/// A trap leads to a newer address of the same host: both are registered for it, and the newer one has the
-/// number that the trap carries, which is the larger one.
-pub fn a_trap_leads_to_a_newer_address()
-    ensures { (w : WorldView) → IsAddressed w → (s : ℕ) (v : SwitchView) (x : Pmac) (g : Grant) (trap : Trap) →
-        slice_get w.switches s ≡ Some v → granted v x ≡ Some g → g.trap ≡ Some trap →
-        Leads (registry_of w.manager.learnt) x trap.new trap.number g.amac }
+/// A trap that stands leads to a newer address of the same host: both are registered for it, and the newer
+/// one has the number that the trap carries, which is the larger one.
+pub fn a_standing_trap_leads_to_a_newer_address()
+    ensures leads { (w : WorldView) → IsAddressed w → (s : ℕ) (v : SwitchView) (old new : Pmac) (number : ℕ) →
+        slice_get w.switches s ≡ Some v → IsStanding v (items_at w.from_manager s) old new number →
+        LeadsHost (registry_of w.manager.learnt) v old new number }
+    ensures number { (r : Registry) (old new : Pmac) (number : ℕ) (mac : Mac) → Leads r old new number mac → number_of r new ≡ Some number }
+{}
+
+/// A registered address is granted, to the host for which it is registered.
+pub fn a_registered_address_is_granted()
+    ensures { (w : WorldView) → IsAddressed w → (x : Pmac) (reg : Registration) → registration w.manager.learnt x ≡ Some reg →
+        IsGrantedBySome w.switches x reg.amac }
 {}
 
 /// An address in use that the manager does not know is told to it by a message that waits, and so is an

@@ -3,8 +3,8 @@
 #![tactic(auto)]
 
 pub use addresses_in_order::{
-    a_served_host_is_registered_at_rest, a_trap_leads_to_a_newer_address,
-    an_address_in_use_is_the_newest_or_recalled, an_address_in_use_is_told,
+    a_registered_address_is_granted, a_served_host_is_registered_at_rest,
+    a_standing_trap_leads_to_a_newer_address, an_address_in_use_is_the_newest_or_recalled, an_address_in_use_is_told,
     no_two_edge_switches_grant_one_address,
 };
 pub use runs_in_order::{

@@ -18,4 +18,5 @@ pub mod OwnHosts
 pub mod Turns
 pub mod Events
 pub mod Runs
+pub mod OwnRuns
 pub mod Consequences

@@ -7,6 +7,7 @@ pub use addresses_in_order::{
     a_standing_trap_leads_to_a_newer_address, an_address_in_use_is_the_newest_or_recalled, an_address_in_use_is_told,
     no_two_edge_switches_grant_one_address,
 };
+pub use own_frames::{each_step_keeps_frames_with_their_hosts, hosts_send_frames_of_their_own};
 pub use runs_in_order::{
     addresses_are_in_order_at_boot, addresses_are_in_order_in_every_run,
     each_step_keeps_addresses_in_order, no_address_is_granted_twice,
@@ -14,4 +15,5 @@ pub use runs_in_order::{
 };
 
 mod addresses_in_order;
+mod own_frames;
 mod runs_in_order;

@@ -20,3 +20,4 @@ pub mod Events
 pub mod Runs
 pub mod OwnRuns
 pub mod Consequences
+pub mod Newest

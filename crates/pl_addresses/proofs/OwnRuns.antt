@@ -1,5 +1,5 @@
 -- Hosts send frames of their own alone in every run, whatever switches and the manager do.
-use Rattle.std.proofs.Common.{◌≡◌, ◌<◌, ◌+◌, ℕ, set, List, [], ◌∷◌, ◌++◌, length, Option, Some, None, slice_get, refl, sym, ap, subst, ◌∙◌, length-set}
+use Rattle.std.proofs.Common.{◌≡◌, ◌<◌, ◌+◌, ℕ, set, List, [], ◌∷◌, length, Option, Some, None, slice_get, refl, sym, ap, subst, ◌∙◌, length-set}
 use Rattle.std.specs.List.{AllByRecursion}
 use Rattle.std.proofs.lemmas.Option.{slice_get_within}
 use Rattle.pl_wiring.specs.declared.link.Link.{Link}
@@ -19,7 +19,6 @@ use Rattle.pl_core.specs.HostViews.{HostView}
 use Rattle.pl_core.specs.ManagerDuties.{ManagerRule}
 use Rattle.pl_core.specs.SwitchInputs.{SwitchInput, SwitchRule}
 use Rattle.pl_journal.specs.declared.cause.Skip.{Skip}
-use Rattle.pl_journal.specs.declared.entry.Entry.{Entry}
 use Rattle.pl_queues.specs.Queues.{items_at}
 use Rattle.pl_world.specs.declared.event.Event.{Event}
 use Rattle.pl_world.specs.declared.event.Event.TheVariants as event
@@ -35,10 +34,9 @@ use Rattle.pl_world.specs.Changes.{out_of, receiver}
 use Rattle.pl_world.specs.Flying.{IsCounted}
 use Rattle.pl_world.specs.LinksAndMoves.{host_moved, item_lost, link_between}
 use Rattle.pl_world.specs.OtherActs.{reception_noted, skip_noted}
-use Rattle.pl_world.specs.Refusals.{refusal}
 use Rattle.pl_world.specs.Runs.{Moment, WorldRun}
 use Rattle.pl_world.specs.Runs.Moment.{Mark, Step}
-use Rattle.pl_world.specs.WorldRule.{ComesAtHost, ComesAtSwitch, ComesIn, ComesOut, ComesOver, Delivers, DeliversFromHost, DeliversFromManager, DeliversOut, DeliversToManager, Fails, Goes, Happens, HostPlays, HostTurn, IsRepaired, Loses, ManagerTurn, SwitchTurn, WorldStep, heard_item}
+use Rattle.pl_world.specs.WorldRule.{ComesAtHost, ComesAtSwitch, ComesIn, ComesOut, ComesOver, Delivers, DeliversFromHost, DeliversFromManager, DeliversOut, DeliversToManager, Fails, Goes, Happens, HostTurn, IsRepaired, Loses, SwitchTurn, WorldStep, heard_item}
 use Rattle.pl_world.specs.Worlds.{WorldView}
 use Rattle.pl_world.proofs.BootBalances.{booted_is_counted}
 use Rattle.pl_world.proofs.Runs.{marked_counted}
@@ -47,11 +45,8 @@ use Rattle.pl_addresses.specs.OwnFrames.{AreOwnHosts, HostsAreOwn}
 use Rattle.pl_addresses.proofs.OwnHosts.{host_step_own, shorter_own}
 use Rattle.pl_addresses.proofs.Runs.{boots_in_order}
 use Rattle.pl_addresses.proofs.Saying.{said_parts}
-use Rattle.pl_addresses.proofs.TurnQueues.{Parts, all_put, host_parts, items_sent, parts_of, stepped_parts}
+use Rattle.pl_addresses.proofs.TurnQueues.{Parts, host_parts, stepped_parts}
 use Rattle.pl_addresses.proofs.Turns.{all_here, filled_within}
-
-
-
 
 -- of hosts alone: what stays where their part stays
 pub record HostsPart : Type 0 where

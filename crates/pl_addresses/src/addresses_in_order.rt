@@ -1,8 +1,8 @@
-ghost use Rattle.std.specs.Prelude.{◌≡◌, ◌⊎◌, ℕ, [], None, Some, true, slice_get};
+ghost use Rattle.std.specs.Prelude.{◌≡◌, ◌≤◌, ◌⊎◌, ℕ, [], None, Some, true, slice_get};
 ghost use Rattle.std.specs.List.{list_any};
 ghost use Rattle.pl_arp.specs.declared.cache.Me.{Me};
 ghost use Rattle.pl_core.specs.declared.switch_records.Grant.{Grant};
-ghost use Rattle.pl_core.specs.ManagerViews.{Registration, newest, registration};
+ghost use Rattle.pl_core.specs.ManagerViews.{Learnt, Registration, newest, registration};
 ghost use Rattle.pl_core.specs.SwitchViews.{SwitchView};
 ghost use Rattle.pl_frame.specs.declared.address.Ip4.{Ip4};
 ghost use Rattle.pl_frame.specs.declared.address.Mac.{Mac};
@@ -35,6 +35,12 @@ pub fn a_standing_trap_leads_to_a_newer_address()
 pub fn a_registered_address_is_granted()
     ensures { (w : WorldView) → IsAddressed w → (x : Pmac) (reg : Registration) → registration w.manager.learnt x ≡ Some reg →
         IsGrantedBySome w.switches x reg.amac }
+{}
+
+/// Of the addresses that are registered for a host the newest one has the largest number.
+pub fn the_newest_address_has_the_largest_number()
+    ensures { (learnt : Learnt) (x : Pmac) (reg first : Registration) → registration learnt x ≡ Some reg →
+        newest learnt reg.amac ≡ Some first → reg.number ≤ first.number }
 {}
 
 /// An address in use that the manager does not know is told to it by a message that waits, and so is an

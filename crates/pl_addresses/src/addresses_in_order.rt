@@ -13,7 +13,8 @@ ghost use Rattle.pl_world.specs.Worlds.{WorldView};
 ghost use Rattle.pl_addresses.specs.Addressed.{AreApart, IsAddressed, IsGrantedBySome};
 ghost use Rattle.pl_addresses.specs.AtRest.{IsRegistered, IsServed};
 ghost use Rattle.pl_addresses.specs.EdgeAddresses.{is_live, recalls, tells, tells_ip};
-ghost use Rattle.pl_addresses.specs.Registries.{Leads, Registry, number_of, registry_of};
+ghost use Rattle.pl_addresses.specs.OwnAddresses.{IsOwn, own_ip};
+ghost use Rattle.pl_addresses.specs.Registries.{HasOwnIp, Leads, Registry, number_of, registry_of};
 ghost use Rattle.pl_addresses.specs.Standing.{IsStanding, LeadsHost};
 
 /// No two edge switches grant one address.
@@ -68,4 +69,23 @@ pub fn a_served_host_is_registered_at_rest()
     ensures { (w : WorldView) → IsAddressed w → (s : ℕ) (v : SwitchView) → slice_get w.switches s ≡ Some v →
         items_at w.to_manager s ≡ [] → items_at w.from_manager s ≡ [] → (port : ℕ) (me : Me) → IsServed v port me →
         IsRegistered w.manager.learnt v port me }
+{}
+
+/// The address that a host has in use at a port is the last one that was granted to it there, and no trap
+/// stands for it.
+pub fn an_address_in_use_is_the_last_granted()
+    ensures last { (w : WorldView) → IsAddressed w → (s : ℕ) (v : SwitchView) (x y : Pmac) (g h : Grant) →
+        slice_get w.switches s ≡ Some v → granted v x ≡ Some g → granted v y ≡ Some h → g.in_use ≡ true →
+        g.amac ≡ h.amac → x.port ≡ y.port → y.vmid ≤ x.vmid }
+    ensures free { (w : WorldView) → IsAddressed w → (s : ℕ) (v : SwitchView) (x : Pmac) (g : Grant) →
+        slice_get w.switches s ≡ Some v → granted v x ≡ Some g → g.in_use ≡ true → g.trap ≡ None }
+{}
+
+/// An IPv4 address that an edge switch keeps with an address, or that the manager knows of it, is that of the
+/// host that has it in the wiring.
+pub fn an_ip_address_that_is_known_is_its_hosts_own()
+    ensures kept { (w : WorldView) → IsAddressed w → (s : ℕ) (v : SwitchView) (x : Pmac) (g : Grant) →
+        slice_get w.switches s ≡ Some v → granted v x ≡ Some g → IsOwn (λ mac. own_ip w.plan mac) g.amac g.ip }
+    ensures told { (w : WorldView) → IsAddressed w → (x : Pmac) (ip : Ip4) → (registry_of w.manager.learnt).ip_at x ≡ Some ip →
+        HasOwnIp (λ mac. own_ip w.plan mac) (registry_of w.manager.learnt) x ip }
 {}

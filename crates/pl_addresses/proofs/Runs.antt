@@ -165,7 +165,7 @@ pub since_then : (rule : HostRule) → HostsSendData rule → HostsSendOwn rule 
 since_then rule sends owns plan limits can grounded moments more old new run rest =
     let o = run_in_order rule sends owns plan limits can grounded moments old run in
     (from_there old.switches rule sends owns plan limits can grounded moments old run
-    (record { addressed = o.addressed; own = o.own; since = λ s v is. record { view = v; found = is; keeps = λ x mac h. h }; once = o.once }) more new rest).since
+    (record { addressed = o.addressed; own = o.own; since = λ s v is. record { view = v; found = is; keeps = λ x mac h. h; place = λ settled. refl }; once = o.once }) more new rest).since
 
 -- no address is granted twice
 pub granted_at_most_once : (rule : HostRule) → HostsSendData rule → HostsSendOwn rule → (plan : Plan) (limits : Limits) → CanBegin plan → AreGrounded rule plan limits →

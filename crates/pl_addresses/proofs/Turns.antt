@@ -18,6 +18,7 @@ use Rattle.pl_core.specs.HostInputs.{HostAnswer, HostInput, HostRule}
 use Rattle.pl_core.specs.ManagerViews.{ManagerView}
 use Rattle.pl_core.specs.SwitchInputs.{SwitchInput}
 use Rattle.pl_core.specs.SwitchViews.{SwitchView}
+use Rattle.pl_layouts.specs.declared.place.Place.{Place}
 use Rattle.pl_manager_rule.specs.Histories.{known}
 use Rattle.pl_manager_rule.specs.ManagerRule.{manager_hears, manager_rule}
 use Rattle.pl_queues.specs.Queues.{items_at}
@@ -30,7 +31,7 @@ use Rattle.pl_world.specs.Worlds.{WorldView}
 use Rattle.pl_addresses.specs.OwnAddresses.{own_ip}
 use Rattle.pl_addresses.specs.OwnFrames.{AreOwnHosts}
 use Rattle.pl_addresses.specs.Registries.{registry_of}
-use Rattle.pl_addresses.specs.EdgeAddresses.{IsGrantedTo, KeepsGrantees}
+use Rattle.pl_addresses.specs.EdgeAddresses.{IsGrantedTo, KeepsGrantees, is_settled}
 use Rattle.pl_addresses.specs.GrantedOnce.{HasGranted, IsOnce, times_granted}
 use Rattle.pl_addresses.specs.Addressed.{AreAddressed, AreApart, StayGranted}
 use Rattle.pl_addresses.proofs.Learning.{heard_addressed}
@@ -183,7 +184,7 @@ module _ (first : List SwitchView) where
             (λ some. subst (λ (u : SwitchView). IsGrantedThen turn.before u x) (sym after) (some_grant turn.before step.view x step.acts grown.fresh (omega (arith, count, some))))
             (o.once x);
         since = λ t v is. let still = o.since t v is in elim (cases_eq t s) [
-          | inr other ↦ record { view = still.view; found = get-set_other w.switches s t turn.after other ∙ still.found; keeps = still.keeps }
+          | inr other ↦ record { view = still.view; found = get-set_other w.switches s t turn.after other ∙ still.found; keeps = still.keeps; place = still.place }
           | inl same ↦
               let view : still.view ≡ turn.before = same_Some still.view turn.before (sym still.found ∙ ap (slice_get w.switches) same ∙ turn.found) in
               record {
@@ -192,6 +193,9 @@ module _ (first : List SwitchView) where
                 keeps = λ x mac h.
                     subst (λ (u : SwitchView). IsGrantedTo (λ y. granted u y) x mac) (sym after)
                     (grown.stays x mac (subst (λ (u : SwitchView). IsGrantedTo (λ y. granted u y) x mac) view (still.keeps x mac h)));
+                place = λ settled.
+                    let p : turn.before.place ≡ v.place = ap (λ (u : SwitchView). u.place) (sym view) ∙ still.place settled in
+                    ap (λ (u : SwitchView). u.place) after ∙ b.place (items_at w.to_manager s) ready (ap (λ (q : Place). is_settled q) p ∙ settled) ∙ p;
               }
         ];
       })

@@ -25,7 +25,7 @@ use Rattle.pl_world.specs.Runs.{Moment, WorldRun}
 use Rattle.pl_world.specs.Worlds.{WorldView}
 use Rattle.pl_addresses.specs.OwnAddresses.{own_ip}
 use Rattle.pl_addresses.specs.Registries.{IsGoodRegistry, registry_of}
-use Rattle.pl_addresses.specs.EdgeAddresses.{IsGrantedTo, IsGoodBook, IsGoodEdge, KeepsGrantees, edge_of}
+use Rattle.pl_addresses.specs.EdgeAddresses.{IsGrantedTo, IsGoodBook, IsGoodEdge, KeepsGrantees, edge_of, is_settled}
 
 -- some switch of the world has the place of this address
 pub record HasHome (switches : List SwitchView) (x : Pmac) : Type 0 where
@@ -59,11 +59,12 @@ pub record IsGrantedBySome (switches : List SwitchView) (x : Pmac) (mac : Mac) :
   pub found : slice_get switches switch ≡ Some view
   pub granted_to : IsGrantedTo (λ y. granted view y) x mac
 
--- of two worlds, one later: what was granted by a switch to a host is still granted to it
+-- of two worlds, one later: what was granted by a switch to a host is still granted to it, and a placed edge switch has its place still
 pub record IsStill (switches : List SwitchView) (s : ℕ) (v : SwitchView) : Type 0 where
   pub view : SwitchView
   pub found : slice_get switches s ≡ Some view
   pub keeps : KeepsGrantees (λ x. granted v x) (λ x. granted view x)
+  pub place : is_settled v.place ≡ true → view.place ≡ v.place
 
 abbrev pub StayGranted : List SwitchView → List SwitchView → Type 0
 StayGranted before after = (s : ℕ) (v : SwitchView) → slice_get before s ≡ Some v → IsStill after s v

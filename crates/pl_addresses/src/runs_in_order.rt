@@ -41,7 +41,7 @@ pub fn no_address_is_granted_twice<H: HostCore>()
 {}
 
 /// What was granted to a host stays granted to it: at a later moment of a run each edge switch has each
-/// address granted to the host to which it was granted before.
+/// address granted to the host to which it was granted before, and stands at its place if it was placed.
 pub fn what_was_granted_stays_granted<H: HostCore>()
     ensures { (plan : Plan) (limits : Limits) (moments more : List Moment) (old new : WorldView) → CanBegin plan → AreGrounded H.rule plan limits →
         WorldRun Loose manager_rule H.rule (booted plan limits) moments old → WorldRun Loose manager_rule H.rule old more new →

@@ -1,0 +1,6 @@
+use Rattle.pl_addresses.proofs.OwnRuns.{step_own}
+use Rattle.pl_addresses.proofs.own_frames.each_step_keeps_frames_with_their_hosts.Goals as goal
+
+pub returns : goal.returns
+returns g c = λ old event new counted step o.
+    step_own g.S.SwitchCore.rule g.M.ManagerCore.rule g.H.HostCore.rule g.met.H.HostCore.sends g.met.H.HostCore.owns old event new counted step o

@@ -1,0 +1,6 @@
+use Rattle.pl_addresses.proofs.Runs.{one_step}
+use Rattle.pl_addresses.proofs.runs_in_order.each_step_keeps_addresses_in_order.Goals as goal
+
+pub returns : goal.returns
+returns g c = λ old event new counted grounded apart step o.
+    one_step g.H.HostCore.rule g.met.H.HostCore.sends g.met.H.HostCore.owns old event new counted grounded apart step o

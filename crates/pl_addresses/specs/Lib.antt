@@ -1,0 +1,9 @@
+pub mod OwnAddresses
+pub mod OwnFrames
+pub mod Registries
+pub mod EdgeAddresses
+pub mod Addressed
+pub mod Standing
+pub mod AtRest
+pub mod GrantedOnce
+pub mod InOrder

@@ -1,0 +1,4 @@
+pub mod ControlPlanes
+pub mod Discovery
+pub mod PlaneSteps
+pub mod HostsAtEdges

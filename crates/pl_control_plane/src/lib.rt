@@ -1,0 +1,7 @@
+//! The control plane of a world: what its switches and its manager know, and what of discovery waits in
+//! the queues; and what each step of the world is there.
+#![tactic(auto)]
+
+pub use plane_laws::{a_written_message_is_read, each_step_is_one_of_the_control_plane};
+
+mod plane_laws;

@@ -6,3 +6,4 @@ pub mod Taking
 pub mod Managing
 pub mod Standing
 pub mod Stepping
+pub mod Joined

@@ -7,3 +7,6 @@ pub mod Managing
 pub mod Standing
 pub mod Stepping
 pub mod Joined
+pub mod Silent
+pub mod SilentFrames
+pub mod SilentHosts

@@ -1,6 +1,5 @@
 -- What a switch knows of itself agrees with what it heard.
-use Rattle.std.specs.Prelude.{◌≡◌, ℕ, ◌/◌, ◌<◌, ◌≤◌, ◌⊎◌, true, false, List, [], Option, Some, None, slice_index_or}
-use Rattle.std.specs.List.{AllByRecursion}
+use Rattle.std.specs.Prelude.{◌≡◌, ℕ, ◌/◌, ◌<◌, ◌≤◌, ◌⊎◌, true, List, Option, Some, None, slice_index_or}
 use Rattle.pl_layouts.specs.declared.place.Place.{Place}
 use Rattle.pl_ldp.specs.Writable.{IsId}
 use Rattle.pl_wiring.specs.declared.label.Label.{Label}
@@ -8,10 +7,10 @@ use Rattle.pl_wiring.specs.declared.label.Label.TheVariants.{Aggregation, Core, 
 use Rattle.pl_wiring.specs.Labels.{label_of}
 use Rattle.pl_core.specs.declared.neighbour.PortRecord.{PortRecord}
 use Rattle.pl_core.specs.declared.switch_records.Hold.{Hold}
-use Rattle.pl_core.specs.PortRecords.{heard_place, new_port, port_of}
+use Rattle.pl_core.specs.PortRecords.{heard_place, new_port}
 use Rattle.pl_core.specs.SwitchFacts.{hold_at}
 use Rattle.pl_core.specs.SwitchViews.{SwitchView}
-use Rattle.pl_switch_rule.specs.Granting.{grants_at, remembered_at}
+use Rattle.pl_control_plane.specs.Homes.{HasHomes}
 
 abbrev pub level_of : Label → ℕ
 level_of (Edge pod i) = 0
@@ -64,14 +63,9 @@ pub record IsAble (k attempt proposed : ℕ) : Type 0 where
   pub within : attempt ≤ 4294967295
   pub position : proposed < k / 2
 
--- Addresses are granted, sources remembered and members known at host ports alone.
-pub record HasHomes (v : SwitchView) : Type 0 where
-  pub grants : (p : ℕ) → (port_of v p).host ≡ false → grants_at v p ≡ []
-  pub remembered : (p : ℕ) → (port_of v p).host ≡ false → remembered_at v p ≡ None
-  pub members : AllByRecursion (λ m. (port_of v m.port).host ≡ true) v.members
-
--- all of these of a switch
+-- All of these, of a switch with an id; it knows hosts at host ports alone.
 pub record IsSound (v : SwitchView) : Type 0 where
+  pub named : IsId v.id
   pub full : IsFull v.place v.ports
   pub able : IsAble v.k v.attempt v.proposed
   pub holders : (position : ℕ) (hold : Hold) → hold_at v position ≡ Some hold → IsId hold.edge

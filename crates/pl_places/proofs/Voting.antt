@@ -5,6 +5,7 @@ use Rattle.std.proofs.Common.{get_or-set_same, get_or-set_other}
 use Rattle.std.proofs.lemmas.Bool.{and_from, and_parts, cases_eq, cases_lt, eq-eqb, eqb-true, eqb-false, ne_eqb, or_left, or_right}
 use Rattle.std.proofs.lemmas.Bool.Decides.{nat_tests}
 use Rattle.std.proofs.lemmas.List.{get_or_past}
+use Rattle.std.proofs.lemmas.Option.{same_Some}
 use Rattle.pl_frame.specs.declared.address.SwitchId.{SwitchId}
 use Rattle.pl_layouts.specs.declared.control.Control.{Control}
 use Rattle.pl_layouts.specs.declared.control.Control.TheVariants as control
@@ -87,16 +88,16 @@ freed_names position edge n holds all = λ m hold h. all m hold (freed_or_old po
 
 kept_names : (edge : SwitchId) (old : Option Hold) → IsId edge → ((hold : Hold) → old ≡ Some hold → IsId hold.edge) → (hold : Hold) →
     kept_or_new edge old ≡ Some hold → IsId hold.edge
-kept_names edge None is all hold h = let same : edge ≡ hold.edge = (let e : Some (record { edge = edge; fixed = false }) ≡ Some hold = h in ap (λ x. x.edge) (cc)) in subst IsId same is
+kept_names edge None is all hold h = subst IsId (ap (λ (x : Hold). x.edge) (same_Some (record { edge = edge; fixed = false }) hold h)) is
 kept_names edge (Some x) is all hold h = all hold h
 
 marked_names : (edge : SwitchId) (old : Option Hold) → IsId edge → ((hold : Hold) → old ≡ Some hold → IsId hold.edge) → (hold : Hold) →
     marked_for edge old ≡ Some hold → IsId hold.edge
-marked_names edge None is all hold h = let same : edge ≡ hold.edge = (let e : Some (record { edge = edge; fixed = true }) ≡ Some hold = h in ap (λ x. x.edge) (cc)) in subst IsId same is
+marked_names edge None is all hold h = subst IsId (ap (λ (x : Hold). x.edge) (same_Some (record { edge = edge; fixed = true }) hold h)) is
 marked_names edge (Some x) is all hold h = by (x.edge.0 == edge.0) h
   where
     by : (b : Bool) → (if b then Some (record { edge = edge; fixed = true }) else Some x) ≡ Some hold → IsId hold.edge
-    by true h = let same : edge ≡ hold.edge = (let e : Some (record { edge = edge; fixed = true }) ≡ Some hold = h in ap (λ x. x.edge) (cc)) in subst IsId same is
+    by true h = subst IsId (ap (λ (x : Hold). x.edge) (same_Some (record { edge = edge; fixed = true }) hold h)) is
     by false h = all hold h
 
 -- another view that differs in its holds alone
@@ -151,7 +152,7 @@ module _ (plan : Plan) (f : ControlPlane) (s : ℕ) (is : IsPlan plan) (old : Ar
     heard = λ p h. ap (λ ports. is_some (get_or ports p new_port).heard) same.ports ∙ good.heard p h;
     pods = λ n e. elim (good.pods n (ap (λ x. x.pod) (sym same.place) ∙ e)) [
       | inl has ↦ inl has
-      | inr zero ↦ inr (record { pod = zero.pod; i = zero.i; edge = zero.edge; position = ap (λ x. x.position) same.place ∙ zero.position })
+      | inr first ↦ inr (record { pod = first.pod; i = first.i; edge = first.edge; position = ap (λ x. x.position) same.place ∙ first.position })
     ];
     recorded = λ t q p joined. rw same.ports (good.recorded t q p joined);
     strangers = λ p free. rw same.ports (good.strangers p free);

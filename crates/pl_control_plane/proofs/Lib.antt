@@ -10,3 +10,4 @@ pub mod Joined
 pub mod Silent
 pub mod SilentFrames
 pub mod SilentHosts
+pub mod Staying

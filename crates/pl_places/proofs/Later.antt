@@ -108,7 +108,7 @@ link_came a v after p q says carries heard recorded is = record {
 }
 
 -- z knows the pod also later
-zero_later : (k : ℕ) (old new : ℕ → SwitchView) (s n z : ℕ) → IsTrueOf (old z).place (new z).place → IsZeroOf k old s n z → IsZeroOf k new s n z
+pub zero_later : (k : ℕ) (old new : ℕ → SwitchView) (s n z : ℕ) → IsTrueOf (old z).place (new z).place → IsZeroOf k old s n z → IsZeroOf k new s n z
 zero_later k old new s n z later is = record {
   pod = is.pod;
   i = is.i;

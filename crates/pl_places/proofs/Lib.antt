@@ -7,3 +7,4 @@ pub mod Given
 pub mod Hearing
 pub mod Entering
 pub mod Obeying
+pub mod Keeping

@@ -11,3 +11,4 @@ pub mod Silent
 pub mod SilentFrames
 pub mod SilentHosts
 pub mod Staying
+pub mod KeptInRuns

@@ -8,3 +8,4 @@ pub mod Hearing
 pub mod Entering
 pub mod Obeying
 pub mod Keeping
+pub mod Beginning

@@ -3,8 +3,8 @@
 #![tactic(auto)]
 
 pub use plane_laws::{
-    a_written_message_is_read, each_step_is_one_of_the_control_plane, each_step_keeps_hosts_at_edges,
-    hosts_stand_at_edges_in_every_run,
+    a_written_message_is_read, each_step_is_one_of_the_control_plane,
+    each_step_keeps_hosts_at_edges, hosts_stand_at_edges_in_every_run,
 };
 
 mod plane_laws;

@@ -154,10 +154,13 @@ module _ (plan : Plan) (f : ControlPlane) (s : ℕ) (is : IsPlan plan) (old : Ar
       own = record {
         level = λ x e. sym (same_Some 0 x e) ∙ sym edge_level;
         position = λ x e. (refl, ((old.own s).position x e).1);
-        pod = λ x e. (inl refl, elim (from x e) [
-          | inl was ↦ ((old.own s).pod x was).1
-          | inr told ↦ (let n = neighbour_at plan f s told.0 1 is old told.1 in ((old.own n.t).pod x (n.pod x told.2)).1)
-        ]);
+        pod = λ x e. (
+          inl refl,
+          elim (from x e) [
+            | inl was ↦ ((old.own s).pod x was).1
+            | inr told ↦ (let n = neighbour_at plan f s told.0 1 is old told.1 in ((old.own n.t).pod x (n.pod x told.2)).1)
+          ],
+        );
       };
       heard = λ p h. ap is_some (heard_same p) ∙ h;
       pods = λ n e. inl (elim (from n e) [
@@ -222,8 +225,8 @@ module _ (plan : Plan) (f : ControlPlane) (s : ℕ) (is : IsPlan plan) (old : Ar
             let none = none_is (f.view s).place.pod both.1 in
             edge_view (pod_told_before found) (λ x was. absurd (cc))
             (λ x told. (let first = first_told found.ports x told in
-                let at = told_pod_is (get_or found.ports first.0 new_port) x first.1 in
-                inr (first.0, ap (λ z. z.level) (sym (same_told first.0)) ∙ at.0, ap (λ z. z.pod) (sym (same_told first.0)) ∙ at.1)))
+            let at = told_pod_is (get_or found.ports first.0 new_port) x first.1 in
+            inr (first.0, ap (λ z. z.level) (sym (same_told first.0)) ∙ at.0, ap (λ z. z.pod) (sym (same_told first.0)) ∙ at.1)))
             (λ p x l a n. none_told found.ports p x n (told_pod_of (get_or found.ports p new_port) x (ap (λ z. z.level) (same_told p) ∙ l) (ap (λ z. z.pod) (same_told p) ∙ a)))
         by false e =
             edge_view (f.view s).place.pod (λ x was. was) (λ x was. inl was)

@@ -304,7 +304,7 @@ module _ (plan : Plan) (f : ControlPlane) (s : ℕ) (is : IsPlan plan) (old : Ar
       let w1 : SwitchView = with_message v port id m in
       let w2 : SwitchView = learns_pod (learns_level w1 m.place) m.place in
       let good = learnt_view w1.ports refl (level_after w1 m.place) (pod_after (record v.place { level = level_after w1 m.place }) m.place) (level_given w1 m.place)
-          (pod_given (record v.place { level = level_after w1 m.place }) m.place) in
+      (pod_given (record v.place { level = level_after w1 m.place }) m.place) in
       let noted = holds_view plan f s is old w2 (notes_edge w2 id m.place) (noted_edge w2 id m.place named (old.sound s there).holders) good in
       silent_turn plan f s is old (after_message v port id m) (changes_to v (after_message v port id m)) noted
       (changes_to_silent v (after_message v port id m) noted.sound.homes)

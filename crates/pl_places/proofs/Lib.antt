@@ -9,3 +9,4 @@ pub mod Entering
 pub mod Obeying
 pub mod Keeping
 pub mod Beginning
+pub mod Steps

@@ -10,3 +10,4 @@ pub mod Obeying
 pub mod Keeping
 pub mod Beginning
 pub mod Steps
+pub mod FewPods

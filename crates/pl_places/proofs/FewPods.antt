@@ -103,7 +103,7 @@ number_small plan askers s is all = by (find (λ (g : PodGiven). same_switch g.s
     by None e = omega arith
     by (Some g) e =
         let below = found_holds (λ (g : PodGiven). g.pod < 65535) (λ (g : PodGiven). same_switch g.switch s) (pods_given askers) g e
-            (pods_below askers 65535 (let few = few_given plan.ids askers all in let many = is.ids_many in let all = few_switches plan.k is.arity in omega arith)) in
+        (pods_below askers 65535 (let few = few_given plan.ids askers all in let many = is.ids_many in let all = few_switches plan.k is.arity in omega arith)) in
         below
 
 -- what the manager says

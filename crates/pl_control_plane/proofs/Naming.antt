@@ -1,5 +1,5 @@
 -- Each switch keeps the id that the wiring gives it.
-use Rattle.std.proofs.Common.{◌≡◌, ℕ, zero, suc, ◌<◌, ◌⊎◌, List, [], ◌∷◌, length, map, None, Some, get_or, slice_get, refl, sym, ap, ◌∙◌, subst, inl, inr}
+use Rattle.std.proofs.Common.{◌≡◌, ℕ, zero, suc, List, [], ◌∷◌, map, Some, get_or, slice_get, sym, ap, ◌∙◌, inl, inr}
 use Rattle.std.proofs.lemmas.Bool.{cases_eq}
 use Rattle.std.proofs.lemmas.Option.{same_Some}
 use Rattle.pl_frame.specs.declared.address.SwitchId.{SwitchId}
@@ -10,7 +10,6 @@ use Rattle.pl_core.specs.HostInputs.{HostRule}
 use Rattle.pl_core.specs.ManagerDuties.{ManagerRule}
 use Rattle.pl_core.specs.SwitchFacts.{switch_at_boot}
 use Rattle.pl_core.specs.SwitchInputs.{SwitchInput, SwitchRule}
-use Rattle.pl_core.specs.SwitchViews.{SwitchView}
 use Rattle.pl_world.specs.declared.limits.Limits.{Limits}
 use Rattle.pl_world.specs.Booting.{CanBegin, booted}
 use Rattle.pl_world.specs.Runs.{Moment, WorldRun}

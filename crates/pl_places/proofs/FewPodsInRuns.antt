@@ -1,7 +1,6 @@
 -- The numbers of pods are few in every run.
-use Rattle.std.proofs.Common.{◌≡◌, ℕ, zero, suc, List, [], ◌∷◌, None, replicate, get_or, refl, sym, subst}
+use Rattle.std.proofs.Common.{◌≡◌, ℕ, zero, suc, List, [], None, replicate, get_or}
 use Rattle.std.specs.List.{AllByRecursion}
-use Rattle.pl_core.specs.declared.messages.ToSwitch.{ToSwitch}
 use Rattle.pl_core.specs.HostDuties.{HostsSendData}
 use Rattle.pl_core.specs.HostInputs.{HostRule}
 use Rattle.pl_manager_rule.specs.ManagerRule.{manager_rule}

@@ -1,0 +1,53 @@
+-- What a write at one queue does to what is said and carried.
+use Rattle.std.proofs.Common.{◌≡◌, ℕ, ◌+◌, ◌*◌, ◌<◌, ◌||◌, ◌⊎◌, Bool, true, false, List, [], ◌∷◌, ◌++◌, length, get_or, set, refl, sym, ap, ◌∙◌, append_assoc, inl, inr, get_or-set_same, get_or-set_other}
+use Rattle.std.specs.List.{flat_map, list_any}
+use Rattle.pl_wiring.specs.Index.{port_index}
+use Rattle.pl_wiring.proofs.Entered.{entry_at-in_range, entry_at-set_other, entry_at-set_same, port_index-below}
+use Rattle.pl_queues.specs.Queues.{items_at, put_at}
+use Rattle.pl_world.specs.declared.item.Item.{Item}
+use Rattle.pl_control_plane.specs.ControlPlanes.{queue_out, said, said_by}
+
+module _ {A B : Type 0} where
+  pub flat_map_append : (f : A → List B) (xs ys : List A) → flat_map f (xs ++ ys) ≡ flat_map f xs ++ flat_map f ys
+  flat_map_append f [] ys = refl
+  flat_map_append f (x ∷ xs) ys = ap (λ zs. f x ++ zs) (flat_map_append f xs ys) ∙ sym (append_assoc (f x) (flat_map f xs) (flat_map f ys))
+
+or_assoc : (x y z : Bool) → (x || (y || z)) ≡ ((x || y) || z)
+or_assoc true y z = refl
+or_assoc false y z = refl
+
+module _ {A : Type 0} where
+  pub any_append : (p : A → Bool) (xs ys : List A) → list_any p (xs ++ ys) ≡ (list_any p xs || list_any p ys)
+  any_append p [] ys = refl
+  any_append p (x ∷ xs) ys = ap (λ b. p x || b) (any_append p xs ys) ∙ or_assoc (p x) (list_any p xs) (list_any p ys)
+
+pub said_append : (xs ys : List Item) → said (xs ++ ys) ≡ said xs ++ said ys
+said_append xs ys = flat_map_append said_by xs ys
+
+pub or_either : (x y : Bool) → (x || y) ≡ true → (x ≡ true) ⊎ (y ≡ true)
+or_either true y h = inl refl
+or_either false y h = inr h
+
+-- a queue that items were put into, or taken from
+module _ (k count s p : ℕ) (out : List (List Item)) (there : s < count) (within : p < k) (many : length out ≡ count * k) where
+  pub at_queue : port_index k s p < length out
+  at_queue = rw many (port_index-below k s p count there within)
+
+  pub set_here : (items : List Item) → queue_out k (set out (port_index k s p) items) s p ≡ items
+  set_here items = entry_at-set_same [] k out s p items within at_queue
+
+  pub put_here : (item : Item) → queue_out k (put_at out (port_index k s p) item) s p ≡ queue_out k out s p ++ item ∷ []
+  put_here item = set_here (get_or out (port_index k s p) [] ++ item ∷ [])
+      ∙ ap (λ items. items ++ item ∷ []) (sym (entry_at-in_range [] k out s p within))
+
+module _ (k s p : ℕ) (out : List (List Item)) (within : p < k) where
+  pub set_elsewhere : (items : List Item) (t q : ℕ) → ((s ≡ t) × (p ≡ q) → ⊥) → queue_out k (set out (port_index k s p) items) t q ≡ queue_out k out t q
+  set_elsewhere items t q apart = entry_at-set_other [] k out s p items t q within apart
+
+-- a queue by one number
+module _ {T : Type 0} where
+  pub put_at_here : (queues : List (List T)) (n : ℕ) (x : T) → n < length queues → items_at (put_at queues n x) n ≡ items_at queues n ++ x ∷ []
+  put_at_here queues n x within = get_or-set_same queues n (get_or queues n [] ++ x ∷ []) [] within
+
+  pub put_at_elsewhere : (queues : List (List T)) (n : ℕ) (x : T) (m : ℕ) → (m ≡ n → ⊥) → items_at (put_at queues n x) m ≡ items_at queues m
+  put_at_elsewhere queues n x m differ = get_or-set_other queues n m (get_or queues n [] ++ x ∷ []) [] differ

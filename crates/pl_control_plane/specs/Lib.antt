@@ -1,0 +1,6 @@
+pub mod ControlPlanes
+pub mod Discovery
+pub mod PlaneSteps
+pub mod HostsAtEdges
+pub mod Homes
+pub mod Ids

@@ -1,6 +1,5 @@
 -- What an aggregation switch does in a step keeps the votes between it and each edge switch of its pod in order.
-use Rattle.std.proofs.Common.{◌≡◌, ℕ, ◌+◌, ◌<◌, ◌==◌, ◌&&◌, not, nat_lt, Bool, true, false, if◌then◌else◌, cond, List, [], ◌∷◌, ◌++◌, length, Option, Some, None, refl, sym, ◌∙◌, ap, subst, arith, inl, inr, ◌⊎◌, append_assoc, append-nil, eq-eqb, ne_eqb, ltb-true}
-use Rattle.std.specs.List.{AllByRecursion}
+use Rattle.std.proofs.Common.{◌≡◌, ℕ, ◌<◌, ◌==◌, ◌&&◌, not, nat_lt, Bool, true, false, if◌then◌else◌, cond, List, [], ◌∷◌, ◌++◌, length, Option, Some, None, refl, sym, ◌∙◌, ap, subst, inl, inr, append_assoc, append-nil, eq-eqb, ne_eqb, ltb-true}
 use Rattle.std.proofs.lemmas.Bool.{and_parts, cond_both}
 use Rattle.pl_frame.specs.declared.address.SwitchId.{SwitchId}
 use Rattle.pl_layouts.specs.declared.control.Control.{Control}
@@ -8,22 +7,19 @@ use Rattle.pl_layouts.specs.declared.control.Control.TheVariants.{Ldm, Proposal,
 use Rattle.pl_layouts.specs.declared.control.Ldm.{Ldm as Message}
 use Rattle.pl_layouts.specs.declared.control.Proposal.{Proposal as Proposed}
 use Rattle.pl_layouts.specs.declared.control.Vote.{Vote as Answer}
-use Rattle.pl_layouts.specs.declared.place.Place.{Place}
 use Rattle.pl_layouts.specs.Control.{control_frame}
 use Rattle.pl_layouts.specs.Placement.{is_known}
 use Rattle.pl_ldp.specs.Writable.{IsId, IsWritable}
-use Rattle.pl_core.specs.declared.acts.Act.{Act}
-use Rattle.pl_core.specs.declared.acts.Act.TheVariants as act
 use Rattle.pl_core.specs.declared.switch_records.Hold.{Hold}
 use Rattle.pl_core.specs.PortRecords.{place_at}
 use Rattle.pl_core.specs.SwitchFacts.{hold_at}
 use Rattle.pl_core.specs.SwitchViews.{SwitchView}
 use Rattle.pl_steps.specs.Steps.{SwitchStep, rests}
-use Rattle.pl_switch_rule.specs.Levels.{after_message, learns_level, learns_pod, notes_edge, with_message}
+use Rattle.pl_switch_rule.specs.Levels.{after_message, learns_level, learns_pod, with_message}
 use Rattle.pl_switch_rule.specs.Positions.{answers_proposal, frees_others, half, hears_proposal, holds_for, is_free_for, is_held_for, kept_or_new, marked_for, marks, notes_position, vote_on}
 use Rattle.pl_control_plane.specs.ControlPlanes.{message_in, messages_of, sends, unless}
 use Rattle.pl_control_plane.proofs.Reading.{grant_writable, refusal_writable}
-use Rattle.pl_votes.specs.Pairs.{IsGoodPair, IsSound, Names, Voter, voter_of}
+use Rattle.pl_votes.specs.Pairs.{IsGoodPair, Voter}
 use Rattle.pl_votes.proofs.Aside.{stance}
 use Rattle.pl_votes.proofs.Holding.{after_proposal, another_proposes, another_tells, freed_is, grant_holds, held_after, own_proposes, own_tells}
 use Rattle.pl_votes.proofs.PairMoves.{answers, head_gone, hears, hears_another, speaks}
@@ -52,6 +48,7 @@ down_tick v e holds up said says = subst (GoesDown e holds up) (sym says.split)
     tells : SaysPlace v says.first → GoesDown e holds up says.first
     tells (inl none) = subst (GoesDown e holds up) (sym none) (down_none e holds up)
     tells (inr some) = subst (GoesDown e holds up) (sym some.2) (λ down g. speaks e holds up down (Ldm v.id some.0) tt g)
+
     asks : SaysProposal v says.second → GoesDown e holds up says.second
     asks (inl none) = subst (GoesDown e holds up) (sym none) (down_none e holds up)
     asks (inr some) = subst (GoesDown e holds up) (sym some.1)
@@ -132,8 +129,9 @@ module _ (e : Voter) (v : SwitchView) (port : ℕ) (id : SwitchId) (up down : Li
           answers e (hold_at v) (hold_at (after_proposal v id p.position)) id v.id p (answer_to v id p) up down (own_proposes e v id p.position)
           (vote_attempt id p (hold_at (frees_others v id p.position) p.position))
           (λ granted. subst (λ x. is_held_for x (hold_at (after_proposal v id p.position) p.position) ≡ true) g.sent.0.0
-              (grant_holds v id p (subst (λ n. p.position < n) (sym many) within) granted))
+          (grant_holds v id p (subst (λ n. p.position < n) (sym many) within) granted))
           g
+
       by : (b : Bool) → is_asked v port p ≡ b →
           IsGoodPair e (hold_at (if◌then◌else◌ {A = SwitchStep} b (answers_proposal (frees_others v id p.position) port id p) (rests v)).view) up
           (down ++ unless failed (sends port (if◌then◌else◌ {A = SwitchStep} b (answers_proposal (frees_others v id p.position) port id p) (rests v)).acts))
@@ -180,7 +178,7 @@ hears_other_message e v port id m up down apart g =
     cond_both (is_known (learnt v port id m).place.level 1 && is_known m.place.level 0) (notes_position (learnt v port id m) id m.place.position) (learnt v port id m)
     (λ (u : SwitchView). IsGoodPair e (hold_at u) up down)
     (λ h. hears_another e (hold_at v) (hold_at (notes_position (learnt v port id m) id m.place.position)) up down
-        (another_tells (learnt v port id m) e.id id m.place.position apart) g)
+    (another_tells (learnt v port id m) e.id id m.place.position apart) g)
     (λ h. g)
 
 -- a message changes no stance
@@ -214,13 +212,14 @@ message_ids v port id m is ids =
         either : (b : Bool) → cond b (Some (record { edge = id; fixed = true })) (Some h) ≡ Some hold → IsId hold.edge
         either true same = named (record { edge = id; fixed = true }) hold same is
         either false same = old hold same
+
     noted : (position : Option ℕ) → HoldsIds (notes_position (learnt v port id m) id position)
     noted None = ids
     noted (Some p) =
         let w = frees_others (learnt v port id m) id p in
         cond_both (nat_lt p (half v.k)) (marks w id p) (learnt v port id m) HoldsIds
         (λ h. held_after (λ x. IsId x.edge) w p (marked_for id (hold_at w p)) (freed_ids (learnt v port id m) id p ids)
-            (new p (hold_at w p) (freed_ids (learnt v port id m) id p ids p)))
+        (new p (hold_at w p) (freed_ids (learnt v port id m) id p ids p)))
         (λ h. ids)
 
 pub proposal_ids : (v : SwitchView) (port : ℕ) (id : SwitchId) (p : Proposed) → IsId id → HoldsIds v → HoldsIds (hears_proposal v port id p).view
@@ -229,13 +228,14 @@ proposal_ids v port id p is ids = by (is_asked v port p)
     new : (h : Option Hold) → ((hold : Hold) → h ≡ Some hold → IsId hold.edge) → (hold : Hold) → kept_or_new id h ≡ Some hold → IsId hold.edge
     new None old hold same = named (record { edge = id; fixed = false }) hold same is
     new (Some h) old hold same = old hold same
+
     by : (b : Bool) → HoldsIds (if◌then◌else◌ {A = SwitchStep} b (answers_proposal (frees_others v id p.position) port id p) (rests v)).view
     by false = ids
     by true =
         let w = frees_others v id p.position in
         cond_both (is_free_for id (hold_at w p.position)) (holds_for w id p.position) w HoldsIds
         (λ h. held_after (λ x. IsId x.edge) w p.position (kept_or_new id (hold_at w p.position)) (freed_ids v id p.position ids)
-            (new (hold_at w p.position) (freed_ids v id p.position ids p.position)))
+        (new (hold_at w p.position) (freed_ids v id p.position ids p.position)))
         (λ h. freed_ids v id p.position ids)
 
 -- a proposal changes no stance

@@ -1,5 +1,5 @@
 -- What a switch does with data frames and with the manager's messages leaves its votes as they are, and sends no message to a neighbour.
-use Rattle.std.proofs.Common.{◌≡◌, ℕ, zero, suc, ◌==◌, ◌&&◌, ◌||◌, not, nat_lt, Bool, true, false, if◌then◌else◌, List, [], ◌∷◌, ◌++◌, map, Option, Some, None, is_none, is_some, refl, ◌∙◌, ap}
+use Rattle.std.proofs.Common.{◌≡◌, ℕ, zero, suc, ◌==◌, ◌&&◌, ◌||◌, not, Bool, true, false, if◌then◌else◌, List, [], ◌∷◌, ◌++◌, map, Option, Some, None, is_none, is_some, refl, ◌∙◌}
 use Rattle.std.specs.List.{AllByRecursion, flat_map}
 use Rattle.pl_frame.specs.declared.address.Ip4.{Ip4}
 use Rattle.pl_frame.specs.declared.address.Mac.{Mac}
@@ -9,7 +9,7 @@ use Rattle.pl_pmac.specs.declared.pmac.Pmac.{Pmac}
 use Rattle.pl_pmac.specs.Pmac.{mac_of, pmac_of}
 use Rattle.pl_arp.specs.declared.packet.Arp.{Arp}
 use Rattle.pl_core.specs.declared.acts.Act.{Act}
-use Rattle.pl_core.specs.declared.acts.Act.TheVariants.{Control, Drop, Make, Pass, Redirect, Take, Tell}
+use Rattle.pl_core.specs.declared.acts.Act.TheVariants.{Control, Drop, Make, Pass, Redirect, Tell}
 use Rattle.pl_core.specs.declared.messages.ToManager.TheVariants.{Learned, Members, PodWanted, Place as TellPlace}
 use Rattle.pl_core.specs.declared.messages.ToSwitch.{ToSwitch}
 use Rattle.pl_core.specs.declared.messages.ToSwitch.TheVariants.{Answer, Avoid, Flood, Invalidate, Pod, Tree}
@@ -33,9 +33,9 @@ use Rattle.pl_switch_rule.specs.Delivering.{addresses, arrives_home, begins, com
 use Rattle.pl_switch_rule.specs.Forwarding.{Choice, came_by, candidates_by, forwards, leaves_by}
 use Rattle.pl_switch_rule.specs.Granting.{address_at_port, forgets, granted, grants_at, grants_next, grants_or_learns, grants_remembered, grants_source, grant_number, has_no_address, in_use, is_granted, is_local, is_port_spent, learns_ip, learns_source, remembered_at, remembers, same_ip, sender_ip, with_grant}
 use Rattle.pl_switch_rule.specs.GroupForwarding.{destination_group, forwards_group, group_ports, no_way, passes_or_drops, way_of}
-use Rattle.pl_switch_rule.specs.Intake.{asks_manager, comes_from_host, group_told, groups_of, groups_told, has_member_of, hears_members, is_for_switch, members_become, packet_acts, query, sends_in, source_pmac, takes, takes_in, takes_in_or_spent, with_pmac}
+use Rattle.pl_switch_rule.specs.Intake.{comes_from_host, group_told, groups_of, groups_told, has_member_of, hears_members, is_for_switch, members_become, packet_acts, query, sends_in, source_pmac, takes, takes_in, takes_in_or_spent, with_pmac}
 use Rattle.pl_switch_rule.specs.Levels.{becomes_edge, changes_to, finds_host, has_become_placed, settles_in, with_pod}
-use Rattle.pl_switch_rule.specs.Messages.{answer_frame, flood_frame, floods, forgets_members, hears_manager, hears_pod, invalidates, probes, probes_at, sets_trap, takes_pod}
+use Rattle.pl_switch_rule.specs.Messages.{answer_frame, flood_frame, floods, forgets_members, hears_manager, invalidates, probes, probes_at, sets_trap, takes_pod}
 use Rattle.pl_switch_rule.specs.SwitchRule.{comes_from_switch, data_comes}
 use Rattle.pl_switch_rule.specs.Telling.{changes_told, link_to, link_told, place_told, pod_wanted}
 
@@ -110,8 +110,8 @@ unsaid_told old new =
     unsaid_append (place ++ links) (pod_wanted old.place new.place)
     (unsaid_append place links (unsaid_if (same_place old.place new.place) [] (Tell (TellPlace new.place) ∷ []) tt (tt, tt))
     (unsaid_flat (link_told old new) (ports_of_switch new.k) (λ port.
-        unsaid_if (are_alike (is_usable old port) (is_usable new port)) [] (link_to (id_at new port) (is_usable new port)) tt
-        (unsaid_link (id_at new port) (is_usable new port)))))
+    unsaid_if (are_alike (is_usable old port) (is_usable new port)) [] (link_to (id_at new port) (is_usable new port)) tt
+    (unsaid_link (id_at new port) (is_usable new port)))))
     (unsaid_if (is_known new.place.level 0 && is_known new.place.position 0 && not (is_known old.place.position 0)) (Tell PodWanted ∷ []) [] (tt, tt) tt)
 
 -- Granting addresses.
@@ -250,7 +250,7 @@ aside_arrives_home choose v frame =
 unsaid_groups : (old new : List Member) → AreUnsaid (groups_told old new)
 unsaid_groups old new =
     unsaid_flat (group_told old new) (groups_of (old ++ new)) (λ group.
-        unsaid_if (are_alike (has_member_of old group) (has_member_of new group)) [] (Tell (Members group (has_member_of new group)) ∷ []) tt (tt, tt))
+    unsaid_if (are_alike (has_member_of old group) (has_member_of new group)) [] (Tell (Members group (has_member_of new group)) ∷ []) tt (tt, tt))
 
 aside_members_become : (v : SwitchView) (members : List Member) → IsAside v (members_become v members)
 aside_members_become v members = record { same = refl; holds = refl; unsaid = unsaid_groups v.members members }

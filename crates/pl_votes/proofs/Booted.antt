@@ -1,15 +1,13 @@
 -- At the beginning the votes are in order: nothing is held, granted or said.
-use Rattle.std.proofs.Common.{◌≡◌, ℕ, zero, suc, ◌+◌, ◌*◌, ◌/◌, ◌==◌, nat_lt, Bool, true, false, true≢false, if◌then◌else◌, List, [], ◌∷◌, map, replicate, get_or, Option, Some, None, refl, sym, ◌∙◌, ap, subst}
+use Rattle.std.proofs.Common.{◌≡◌, ℕ, zero, suc, ◌*◌, ◌/◌, ◌==◌, nat_lt, Bool, true, false, true≢false, if◌then◌else◌, List, [], ◌∷◌, map, replicate, get_or, Some, None, refl, sym, ◌∙◌, ap, subst}
 use Rattle.std.specs.List.{AllByRecursion, list_any}
 use Rattle.pl_frame.specs.declared.address.SwitchId.{SwitchId}
-use Rattle.pl_layouts.specs.declared.control.Control.{Control}
-use Rattle.pl_wiring.specs.Index.{entry_at, port_index}
+use Rattle.pl_wiring.specs.Index.{port_index}
 use Rattle.pl_wiring.specs.Labels.{switch_count}
 use Rattle.pl_wiring.specs.Plan.{Plan}
 use Rattle.pl_core.specs.declared.switch_records.Hold.{Hold}
 use Rattle.pl_core.specs.SwitchFacts.{hold_at, switch_at_boot}
 use Rattle.pl_core.specs.SwitchViews.{SwitchView}
-use Rattle.pl_world.specs.declared.item.Item.{Item}
 use Rattle.pl_world.specs.declared.limits.Limits.{Limits}
 use Rattle.pl_world.specs.Booting.{booted}
 use Rattle.pl_control_plane.specs.ControlPlanes.{control_plane, no_switch, queue_out, said}
@@ -83,9 +81,12 @@ votes_at_first plan limits = record {
   where
     silent : (s port : ℕ) → said (queue_out plan.k (replicate (switch_count plan.k * plan.k) []) s port) ≡ []
     silent s port = nothing_said plan.k (switch_count plan.k * plan.k) s port
+
     unfixed : (s : ℕ) → (get_or (map (λ id. switch_at_boot id plan.k) plan.ids) s no_switch).place.position ≡ None
     unfixed s = booted_view (λ v. v.place.position ≡ None) (λ id k. refl) plan.k plan.ids s
+
     ungranted : (s : ℕ) → (get_or (map (λ id. switch_at_boot id plan.k) plan.ids) s no_switch).granted ≡ []
     ungranted s = booted_view (λ v. v.granted ≡ []) (λ id k. refl) plan.k plan.ids s
+
     none_held : (s q : ℕ) (hold : Hold) → hold_at (get_or (map (λ id. switch_at_boot id plan.k) plan.ids) s no_switch) q ≡ Some hold → ⊥
     none_held s = booted_view (λ v. (q : ℕ) (hold : Hold) → hold_at v q ≡ Some hold → ⊥) (λ id k. unheld id k) plan.k plan.ids s

@@ -1,5 +1,5 @@
 -- What an edge switch does in a step keeps the votes between it and each aggregation switch in order.
-use Rattle.std.proofs.Common.{◌≡◌, ℕ, ◌+◌, ◌*◌, ◌/◌, ◌%◌, ◌<◌, ◌≤◌, ◌==◌, ◌&&◌, nat_lt, nat_cmp, Bool, true, false, if◌then◌else◌, cond, List, [], ◌∷◌, ◌++◌, length, Option, Some, None, is_none, refl, sym, ◌∙◌, ap, subst, arith, inl, inr, ◌⊎◌, append_assoc, append-nil, eqb-true, ltb-true}
+use Rattle.std.proofs.Common.{◌≡◌, ℕ, ◌+◌, ◌*◌, ◌%◌, ◌<◌, ◌≤◌, ◌==◌, ◌&&◌, nat_cmp, Bool, true, false, if◌then◌else◌, List, [], ◌∷◌, ◌++◌, length, Option, Some, None, is_none, refl, sym, ◌∙◌, ap, subst, inl, inr, append_assoc, append-nil, eqb-true, ltb-true}
 use Rattle.std.specs.List.{AllByRecursion, list_any}
 use Rattle.std.specs.BTreeSet.{insert_key}
 use Rattle.std.proofs.lemmas.Bool.{and_parts}
@@ -45,10 +45,12 @@ up_tick v port holds down said begun says = subst (GoesUp e holds down) (sym say
   where
     e : Voter
     e = voter_of v port
+
     tells : SaysPlace v says.first → GoesUp (voter_of v port) holds down says.first
     tells (inl none) = subst (GoesUp (voter_of v port) holds down) (sym none) (up_none (voter_of v port) holds down)
     tells (inr some) = subst (GoesUp (voter_of v port) holds down) (sym some.2)
         (λ up g. announces (voter_of v port) holds up down some.0 (ap (λ place. place.position) some.1) g)
+
     asks : SaysProposal v says.second → GoesUp (voter_of v port) holds down says.second
     asks (inl none) = subst (GoesUp (voter_of v port) holds down) (sym none) (up_none (voter_of v port) holds down)
     asks (inr some) = subst (GoesUp (voter_of v port) holds down) (sym some.1)
@@ -117,17 +119,20 @@ votes_here v port giver vote holds up down g = by (counts v.place v.attempt v.pr
   where
     gone : IsGoodPair (voter_of v port) holds up down
     gone = answer_gone (voter_of v port) holds up (Vote giver vote) down g
+
     granted : vote.granted ≡ true → (v.place.position ≡ None) × (vote.attempt ≡ v.attempt) →
         IsGoodPair (voter_of (fixes_position (with_granted v port)) port) holds up down
     granted is says =
         let one = counts_here (voter_of v port) holds up giver vote down is says.1 g in
         subst (λ t. IsGoodPair (granted_voter v (is_majority (with_granted v port)) t) holds up down) (sym (has_new port v.granted))
         (may_fix v true holds up down says.0 one (is_majority (with_granted v port)))
+
     by_grant : (b c : Bool) → vote.granted ≡ b → (v.place.position ≡ None) × (vote.attempt ≡ v.attempt) →
         IsGoodPair (voter_of (if◌then◌else◌ {A = SwitchView} b (fixes_position (with_granted v port)) (if c then moves_on v else v)) port) holds up down
     by_grant true c is says = granted is says
     by_grant false true is says = may_move_on v port holds up down says.0 (answer_gone (voter_of v port) holds up (Vote giver vote) down g)
     by_grant false false is says = answer_gone (voter_of v port) holds up (Vote giver vote) down g
+
     by : (b : Bool) → counts v.place v.attempt v.proposed vote ≡ b →
         IsGoodPair (voter_of (if◌then◌else◌ {A = SwitchView} b (counted v port vote) v) port) holds up down
     by true is = by_grant vote.granted (gives_way v.id vote) refl (counts_says v vote is)
@@ -145,6 +150,7 @@ votes_there v port p vote holds up down differ g = by (counts v.place v.attempt 
         (may_fix v (list_any (λ r. r == p) v.granted) holds up down says.0 g (is_majority (with_granted v port)))
     by_grant false true says = may_move_on v p holds up down says.0 g
     by_grant false false says = g
+
     by : (b : Bool) → counts v.place v.attempt v.proposed vote ≡ b →
         IsGoodPair (voter_of (if◌then◌else◌ {A = SwitchView} b (counted v port vote) v) p) holds up down
     by true is = by_grant vote.granted (gives_way v.id vote) (counts_says v vote is)
@@ -157,6 +163,7 @@ counts_votes plan pod s v port vote size leads counting = by (counts v.place v.a
   where
     never : (q : ℕ) → v.place.position ≡ None → v.place.position ≡ Some q → ⊥
     never q none some = absurd (cc (none, some))
+
     granted : v.place.position ≡ None → (b : Bool) → is_majority (with_granted v port) ≡ b →
         IsCounting plan pod s (record (with_granted v port) { place = record v.place { position = if b then Some v.proposed else v.place.position } })
     granted none b is = record {
@@ -171,14 +178,17 @@ counts_votes plan pod s v port vote size leads counting = by (counts v.place v.a
             subst (λ k. half k < 2 * length (insert_key nat_cmp v.granted port)) size
             (ltb-true (half v.k) (2 * length (insert_key nat_cmp v.granted port)) is)
         most false is q fixed = absurd (never q none fixed)
+
     moved : v.place.position ≡ None → (b : Bool) → IsCounting plan pod s (if◌then◌else◌ {A = SwitchView} b v (record v { attempt = v.attempt + 1; proposed = (v.proposed + 1) % half v.k; granted = [] }))
     moved none true = counting
     moved none false = record { once = tt; leads = tt; most = λ q fixed. absurd (never q none fixed) }
+
     by_grant : (b c : Bool) → v.place.position ≡ None →
         IsCounting plan pod s (if◌then◌else◌ {A = SwitchView} b (fixes_position (with_granted v port)) (if c then moves_on v else v))
     by_grant true c none = granted none (is_majority (with_granted v port)) refl
     by_grant false true none = moved none (v.attempt == 4294967295)
     by_grant false false none = counting
+
     by : (b : Bool) → counts v.place v.attempt v.proposed vote ≡ b → IsCounting plan pod s (if◌then◌else◌ {A = SwitchView} b (counted v port vote) v)
     by true is = by_grant vote.granted (gives_way v.id vote) (counts_says v vote is).0
     by false is = counting

@@ -1,13 +1,10 @@
 -- The ports that have granted: one more is counted, in its place.
-use Rattle.std.proofs.Common.{◌≡◌, ℕ, ◌<◌, ◌==◌, ◌||◌, Bool, true, false, List, [], ◌∷◌, Ordering, Less, Equal, Greater, nat_cmp, refl, sym, ◌∙◌, ap, subst, arith, eq-eqb, ne_eqb}
+use Rattle.std.proofs.Common.{◌≡◌, ℕ, ◌<◌, ◌==◌, ◌||◌, Bool, true, false, List, [], ◌∷◌, Ordering, Less, Equal, Greater, nat_cmp, refl, sym, ap, arith, eq-eqb, ne_eqb}
 use Rattle.std.specs.List.{AllByRecursion, list_any}
 use Rattle.std.specs.BTreeSet.{insert_key}
 use Rattle.std.specs.Ordering.{match_ordering}
 use Rattle.std.proofs.lemmas.Cmp.{ranked}
 use Rattle.pl_votes.specs.Counting.{AreRising}
-
-has : ℕ → List ℕ → Bool
-has p ports = list_any (λ r. r == p) ports
 
 itself : (p : ℕ) (b : Bool) → ((p == p) || b) ≡ true
 itself p b = ap (λ t. t || b) (eq-eqb p p refl)
@@ -38,18 +35,15 @@ has_old port p differ (x ∷ xs) = by (nat_cmp port x) (has_old port p differ xs
     by Equal rest = refl
     by Greater rest = ap (λ b. (x == p) || b) rest
 
-all_inserted : (P : ℕ → Type 0) (port : ℕ) (xs : List ℕ) → P port → AllByRecursion P xs → AllByRecursion P (insert_key nat_cmp xs port)
-all_inserted P port [] here all = (here, tt)
-all_inserted P port (x ∷ xs) here all = by (nat_cmp port x) (all_inserted P port xs here all.1)
+pub all_with : (P : ℕ → Type 0) (port : ℕ) (xs : List ℕ) → P port → AllByRecursion P xs → AllByRecursion P (insert_key nat_cmp xs port)
+all_with P port [] here all = (here, tt)
+all_with P port (x ∷ xs) here all = by (nat_cmp port x) (all_with P port xs here all.1)
   where
     by : (o : Ordering) → AllByRecursion P (insert_key nat_cmp xs port) →
         AllByRecursion P (match_ordering o (port ∷ x ∷ xs) (x ∷ xs) (x ∷ insert_key nat_cmp xs port))
     by Less rest = (here, all)
     by Equal rest = all
     by Greater rest = (all.0, rest)
-
-pub all_with : (P : ℕ → Type 0) (port : ℕ) (xs : List ℕ) → P port → AllByRecursion P xs → AllByRecursion P (insert_key nat_cmp xs port)
-all_with = all_inserted
 
 above_all : (a b : ℕ) → a < b → (xs : List ℕ) → AllByRecursion (λ y. b < y) xs → AllByRecursion (λ y. a < y) xs
 above_all a b less [] all = tt
@@ -63,4 +57,4 @@ rising_with port (x ∷ xs) rising = by (nat_cmp port x) refl (rising_with port 
         AreRising (match_ordering o (port ∷ x ∷ xs) (x ∷ xs) (x ∷ insert_key nat_cmp xs port))
     by Less is rest = let less = ranked port x Less is in ((less, above_all port x less xs rising.0), rising)
     by Equal is rest = rising
-    by Greater is rest = let less = ranked port x Greater is in (all_inserted (λ y. x < y) port xs less rising.0, rest)
+    by Greater is rest = let less = ranked port x Greater is in (all_with (λ y. x < y) port xs less rising.0, rest)

@@ -1,5 +1,5 @@
 -- Each step of a switch, for the votes that it has a part in: as an edge switch, and as an aggregation switch.
-use Rattle.std.proofs.Common.{◌≡◌, ℕ, ◌≤◌, ◌==◌, Bool, true, false, if◌then◌else◌, List, [], ◌∷◌, ◌++◌, length, get_or, Option, None, Result, Ok, Err, refl, sym, ◌∙◌, ap, subst, inl, inr}
+use Rattle.std.proofs.Common.{◌≡◌, ℕ, ◌≤◌, Bool, true, false, if◌then◌else◌, List, [], ◌∷◌, ◌++◌, length, get_or, Option, None, Result, Ok, Err, refl, sym, ◌∙◌, ap, subst, inl, inr}
 use Rattle.std.specs.List.{AllByRecursion}
 use Rattle.std.proofs.lemmas.Bool.{cases_eq}
 use Rattle.pl_frame.specs.declared.address.SwitchId.{SwitchId}
@@ -10,11 +10,10 @@ use Rattle.pl_layouts.specs.declared.control.ControlError.{ControlError}
 use Rattle.pl_layouts.specs.declared.control.Ldm.{Ldm as Message}
 use Rattle.pl_layouts.specs.declared.control.Proposal.{Proposal as Proposed}
 use Rattle.pl_layouts.specs.declared.control.Vote.{Vote as Answer}
-use Rattle.pl_layouts.specs.Control.{control_frame, sender_of}
+use Rattle.pl_layouts.specs.Control.{sender_of}
 use Rattle.pl_ldp.specs.Writable.{IsId, IsWritable}
 use Rattle.pl_core.specs.declared.acts.Act.{Act}
 use Rattle.pl_core.specs.declared.switch_records.Hold.{Hold}
-use Rattle.pl_core.specs.PortRecords.{id_at}
 use Rattle.pl_core.specs.SwitchFacts.{hold_at}
 use Rattle.pl_core.specs.SwitchViews.{SwitchView}
 use Rattle.pl_steps.specs.Steps.{SwitchStep, rests}
@@ -22,12 +21,12 @@ use Rattle.pl_switch_rule.specs.Announcing.{ticks}
 use Rattle.pl_switch_rule.specs.Levels.{after_message, changes_to, hears_message}
 use Rattle.pl_switch_rule.specs.Positions.{after_vote, answers_proposal, frees_others, half, hears_proposal}
 use Rattle.pl_switch_rule.specs.SwitchRule.{hears_control}
-use Rattle.pl_control_plane.specs.ControlPlanes.{message_in, messages_of, sends, unless}
+use Rattle.pl_control_plane.specs.ControlPlanes.{messages_of, sends, unless}
 use Rattle.pl_votes.specs.Counting.{IsCounting, LeadsUp}
 use Rattle.pl_votes.specs.Pairs.{IsGoodPair, Voter, voter_of}
 use Rattle.pl_votes.proofs.AggregationTurns.{HoldsIds, answer_to, down_none, down_tick, down_unless, hears_other_message, hears_other_proposal, hears_own_message, hears_own_proposal, is_asked, message_ids, proposal_ids, proposal_stance, same_stance, vote_elsewhere, vote_here, vote_said}
-use Rattle.pl_votes.proofs.Aside.{IsAside, IsChange, changes, stance}
-use Rattle.pl_votes.proofs.EdgeTurns.{GoesUp, counts_votes, same_counting, same_voter, up_none, up_tick, up_unless, up_vote, vote_holds, votes_here, votes_there}
+use Rattle.pl_votes.proofs.Aside.{IsAside, changes, stance}
+use Rattle.pl_votes.proofs.EdgeTurns.{counts_votes, same_counting, same_voter, up_none, up_tick, up_unless, up_vote, vote_holds, votes_here, votes_there}
 use Rattle.pl_votes.proofs.PairMoves.{answer_gone, head_gone}
 use Rattle.pl_votes.proofs.Speeches.{SaysPlace, SaysProposal, TickSays, sends_none}
 
@@ -97,9 +96,11 @@ named_tick v said says = subst (AreOf v.id) (sym says.split) (both says.first sa
     both : (xs ys : List Control) → AreOf v.id xs → AreOf v.id ys → AreOf v.id (xs ++ ys)
     both [] ys a b = b
     both (x ∷ xs) ys a b = (a.0, both xs ys a.1 b)
+
     tells : (xs : List Control) → SaysPlace v xs → AreOf v.id xs
     tells xs (inl none) = subst (AreOf v.id) (sym none) tt
     tells xs (inr some) = subst (AreOf v.id) (sym some.2) (refl, tt)
+
     asks : (xs : List Control) → SaysProposal v xs → AreOf v.id xs
     asks xs (inl none) = subst (AreOf v.id) (sym none) tt
     asks xs (inr some) = subst (AreOf v.id) (sym some.1) (refl, tt)
@@ -117,19 +118,13 @@ turn_tick v begun says = record {
 
 -- Messages that are ignored.
 
-drop_up : (e : Voter) (holds : ℕ → Option Hold) (first up down : List Control) → IsGoodPair e holds (first ++ up) down → IsGoodPair e holds up down
+pub drop_up : (e : Voter) (holds : ℕ → Option Hold) (first up down : List Control) → IsGoodPair e holds (first ++ up) down → IsGoodPair e holds up down
 drop_up e holds [] up down g = g
 drop_up e holds (c ∷ first) up down g = drop_up e holds first up down (head_gone e holds c (first ++ up) down g)
 
-drop_down : (e : Voter) (holds : ℕ → Option Hold) (up first down : List Control) → IsGoodPair e holds up (first ++ down) → IsGoodPair e holds up down
+pub drop_down : (e : Voter) (holds : ℕ → Option Hold) (up first down : List Control) → IsGoodPair e holds up (first ++ down) → IsGoodPair e holds up down
 drop_down e holds up [] down g = g
 drop_down e holds up (c ∷ first) down g = drop_down e holds up first down (answer_gone e holds up c (first ++ down) g)
-
-pub dropped_up : (e : Voter) (holds : ℕ → Option Hold) (first up down : List Control) → IsGoodPair e holds (first ++ up) down → IsGoodPair e holds up down
-dropped_up = drop_up
-
-pub dropped_down : (e : Voter) (holds : ℕ → Option Hold) (up first down : List Control) → IsGoodPair e holds up (first ++ down) → IsGoodPair e holds up down
-dropped_down = drop_down
 
 ignoring : (v : SwitchView) (port : ℕ) (from : SwitchId) (first : List Control) → IsHearing v port from first (rests v)
 ignoring v port from first = record {
@@ -170,10 +165,12 @@ proposal_says P v port q id p is w ids none vote = by (is_asked v port p)
   where
     said : (port ≡ q → ⊥) → P (sends q (answers_proposal (frees_others v id p.position) port id p).acts)
     said other = subst P (sym (vote_elsewhere v port q id p other)) none
+
     here : port ≡ q → P (sends q (answers_proposal (frees_others v id p.position) port id p).acts)
     here same =
         subst (λ x. P (sends x (answers_proposal (frees_others v id p.position) port id p).acts)) same
         (subst P (sym (vote_here v port id p ∙ vote_said v id p is w ids)) vote)
+
     by : (b : Bool) → P (sends q (if◌then◌else◌ {A = SwitchStep} b (answers_proposal (frees_others v id p.position) port id p) (rests v)).acts)
     by false = none
     by true = elim (cases_eq port q) [ inl same ↦ here same | inr other ↦ said other ]

@@ -1,7 +1,7 @@
 -- What an aggregation switch holds after it heard an edge switch.
-use Rattle.std.proofs.Common.{◌≡◌, ℕ, zero, suc, ◌+◌, ◌<◌, ◌==◌, ◌&&◌, not, nat_lt, Bool, true, false, true≢false, if◌then◌else◌, cond, List, [], ◌∷◌, length, get_or, set, Option, Some, None, refl, sym, ◌∙◌, ap, subst, arith, inl, inr, ◌⊎◌, get_or-set_same, get_or-set_other, eqb-true, eq-eqb, ltb-true}
-use Rattle.std.proofs.lemmas.Bool.{and_right, cases_eq, cases_lt, cases_Bool, cond_both, and_parts}
-use Rattle.std.proofs.lemmas.List.{set_past, length-set}
+use Rattle.std.proofs.Common.{◌≡◌, ℕ, zero, suc, ◌+◌, ◌<◌, ◌==◌, ◌&&◌, not, nat_lt, Bool, true, false, true≢false, if◌then◌else◌, cond, List, [], ◌∷◌, length, get_or, set, Option, Some, None, refl, sym, ◌∙◌, ap, subst, arith, inl, inr, ◌⊎◌, get_or-set_same, get_or-set_other, eqb-true, eq-eqb}
+use Rattle.std.proofs.lemmas.Bool.{and_right, cases_eq, cases_lt, cond_both}
+use Rattle.std.proofs.lemmas.List.{set_past}
 use Rattle.pl_frame.specs.declared.address.SwitchId.{SwitchId}
 use Rattle.pl_layouts.specs.declared.control.Proposal.{Proposal as Proposed}
 use Rattle.pl_layouts.specs.declared.control.Vote.{Vote as Answer}
@@ -13,9 +13,6 @@ use Rattle.pl_votes.specs.Pairs.{Voter}
 use Rattle.pl_votes.proofs.PairMoves.{IsKept, IsKeptAt, IsKeptHold, IsMarked}
 
 -- One position after the other.
-
-freed_one : Bool → Option Hold → Option Hold
-freed_one gone hold = if gone then None else hold
 
 freed_at : (position : ℕ) (edge : SwitchId) (n : ℕ) (holds : List (Option Hold)) (q : ℕ) →
     get_or (freed_but position edge n holds) q None
@@ -48,8 +45,8 @@ written R holds p x same here q = elim (cases_eq q p) [
   | inr other ↦ subst (R q (get_or holds q None)) (sym (get_or-set_other holds p q x None other)) (same q)
   | inl is ↦ elim (cases_lt p (length holds)) [
     | inl within ↦
-      subst (λ i. R i (get_or holds i None) (get_or (set holds p x) i None)) (sym is)
-      (subst (R p (get_or holds p None)) (sym (get_or-set_same holds p x None within)) here)
+        subst (λ i. R i (get_or holds i None) (get_or (set holds p x) i None)) (sym is)
+        (subst (R p (get_or holds p None)) (sym (get_or-set_same holds p x None within)) here)
     | inr past ↦ subst (λ l. R q (get_or holds q None) (get_or l q None)) (sym (set_past holds p x past)) (same q)
   ]
 ]
@@ -226,14 +223,17 @@ grant_holds v edge p within = by (hold_at w p.position) refl
   where
     w : SwitchView
     w = frees_others v edge p.position
+
     inside : p.position < length (freed_but p.position edge 0 v.holds)
     inside = let same = length_freed p.position edge 0 v.holds in omega (arith, same, within)
+
     new : (h : Option Hold) → hold_at (frees_others v edge p.position) p.position ≡ h → is_held_for edge (kept_or_new edge h) ≡ true →
         is_held_for edge (hold_at (holds_for (frees_others v edge p.position) edge p.position) p.position) ≡ true
     new h is held =
         subst (λ x. is_held_for edge x ≡ true)
         (sym (get_or-set_same (freed_but p.position edge 0 v.holds) p.position (kept_or_new edge (hold_at (frees_others v edge p.position) p.position)) None inside))
         (subst (λ x. is_held_for edge (kept_or_new edge x) ≡ true) (sym is) held)
+
     by : (h : Option Hold) → hold_at (frees_others v edge p.position) p.position ≡ h → (vote_on edge p h).granted ≡ true →
         is_held_for edge (hold_at (if◌then◌else◌ {A = SwitchView} (is_free_for edge h) (holds_for (frees_others v edge p.position) edge p.position) (frees_others v edge p.position)) p.position) ≡ true
     by None is granted = new None is (eq-eqb edge.0 edge.0 refl)

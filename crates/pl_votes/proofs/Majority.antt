@@ -1,11 +1,10 @@
 -- More than half of the aggregation switches of a pod hold a fixed position, so no two edge switches of the pod have it.
-use Rattle.std.proofs.Common.{◌≡◌, ℕ, zero, suc, ◌+◌, ◌*◌, ◌<◌, ◌≤◌, ◌==◌, ◌||◌, Bool, true, false, true≢false, eqb, cond, List, [], ◌∷◌, length, Option, Some, None, refl, sym, ◌∙◌, ap, subst, arith, inl, inr, filter, eqb-true, eq-eqb, ne_eqb}
+use Rattle.std.proofs.Common.{◌≡◌, ℕ, zero, suc, ◌+◌, ◌<◌, ◌≤◌, ◌==◌, ◌||◌, Bool, true, false, true≢false, eqb, cond, List, [], ◌∷◌, length, Option, Some, None, refl, sym, ◌∙◌, ap, subst, arith, inl, inr, filter, eqb-true, eq-eqb, ne_eqb}
 use Rattle.std.specs.List.{AllByRecursion, IsDistinct, list_any, range_with_len}
 use Rattle.std.specs.Prelude.{Contains}
 use Rattle.std.proofs.lemmas.Cmp.{nat_eq_equiv}
 use Rattle.std.proofs.lemmas.Map.Made.{length-le_from_is_member}
-use Rattle.std.proofs.lemmas.List.FromFn.{length-range_with_len}
-use Rattle.std.proofs.lemmas.Bool.{cases_eq, cases_Bool}
+use Rattle.std.proofs.lemmas.Bool.{cases_eq}
 use Rattle.pl_frame.specs.declared.address.SwitchId.{SwitchId}
 use Rattle.pl_wiring.specs.declared.label.Label.TheVariants.{Aggregation}
 use Rattle.pl_wiring.specs.declared.label.SwitchNo.{SwitchNo}
@@ -100,9 +99,9 @@ member_filter : (test : ℕ → Bool) (a n q : ℕ) → a ≤ q → q < a + n �
 member_filter test a zero q low high pass = absurd (omega (arith, low, high))
 member_filter test a (suc n) q low high pass = elim (cases_eq q a) [
   | inl same ↦
-    let passes : test a ≡ true = subst (λ x. test x ≡ true) same pass in
-    subst (λ b. list_any (eqb q) (cond b (a ∷ filter test (range_with_len (a + 1) n)) (filter test (range_with_len (a + 1) n))) ≡ true) (sym passes)
-    (subst (λ b. (b || list_any (eqb q) (filter test (range_with_len (a + 1) n))) ≡ true) (sym (eq-eqb q a same)) refl)
+      let passes : test a ≡ true = subst (λ x. test x ≡ true) same pass in
+      subst (λ b. list_any (eqb q) (cond b (a ∷ filter test (range_with_len (a + 1) n)) (filter test (range_with_len (a + 1) n))) ≡ true) (sym passes)
+      (subst (λ b. (b || list_any (eqb q) (filter test (range_with_len (a + 1) n))) ≡ true) (sym (eq-eqb q a same)) refl)
   | inr other ↦ skipped (test a) (member_filter test (a + 1) n q (omega (arith, low, other)) (omega (arith, high)) pass)
 ]
   where
@@ -110,6 +109,7 @@ member_filter test a (suc n) q low high pass = elim (cases_eq q a) [
         (b || list_any (eqb q) (filter test (range_with_len (a + 1) n))) ≡ true
     behind true rest = refl
     behind false rest = rest
+
     skipped : (b : Bool) → list_any (eqb q) (filter test (range_with_len (a + 1) n)) ≡ true →
         list_any (eqb q) (cond b (a ∷ filter test (range_with_len (a + 1) n)) (filter test (range_with_len (a + 1) n))) ≡ true
     skipped true rest = behind (eqb q a) rest
@@ -143,8 +143,8 @@ most_hold plan pod s q view is counting fixed holds =
     let some = holders plan.k view pod (view s).id q in
     let less = length-le_from_is_member nat_eq_equiv all some (once plan is pod s ports counting.leads counting.once)
     (λ j member.
-        let both = passing plan is pod s test ports counting.leads pass j member in
-        member_filter test 0 (half plan.k) j (omega arith) (omega (arith, both.1)) both.0) in
+    let both = passing plan is pod s test ports counting.leads pass j member in
+    member_filter test 0 (half plan.k) j (omega arith) (omega (arith, both.1)) both.0) in
     let many = as_many plan is pod s ports counting.leads in
     let most = counting.most q fixed in
     omega (arith, less, many, most)
@@ -173,7 +173,7 @@ pub held_by_most_once : (k pod q : ℕ) (view : ℕ → SwitchView) (a b : Switc
 held_by_most_once k pod q view a b most also = elim (cases_eq a.0 b.0) [
   | inl same ↦ same
   | inr differ ↦
-    let few = shared (λ j. is_held_for a (hold_at (view (number_of k (Aggregation pod j))) q)) (λ j. is_held_for b (hold_at (view (number_of k (Aggregation pod j))) q))
-    0 (half k) (λ j one other. differ (held_for_one (hold_at (view (number_of k (Aggregation pod j))) q) a b one other)) in
-    absurd (omega (arith, few, most, also))
+      let few = shared (λ j. is_held_for a (hold_at (view (number_of k (Aggregation pod j))) q)) (λ j. is_held_for b (hold_at (view (number_of k (Aggregation pod j))) q))
+      0 (half k) (λ j one other. differ (held_for_one (hold_at (view (number_of k (Aggregation pod j))) q) a b one other)) in
+      absurd (omega (arith, few, most, also))
 ]

@@ -1,5 +1,5 @@
 -- What may happen between an edge switch and an aggregation switch keeps their votes in order.
-use Rattle.std.proofs.Common.{◌≡◌, ℕ, ◌+◌, ◌≤◌, Bool, true, false, List, [], ◌∷◌, ◌++◌, Option, Some, None, refl, sym, ◌∙◌, ap, subst, arith, inl, inr, ◌⊎◌}
+use Rattle.std.proofs.Common.{◌≡◌, ℕ, ◌+◌, ◌≤◌, true, false, List, [], ◌∷◌, ◌++◌, Option, Some, None, refl, sym, ◌∙◌, subst, arith, inl, inr, ◌⊎◌}
 use Rattle.std.specs.List.{AllByRecursion}
 use Rattle.pl_frame.specs.declared.address.SwitchId.{SwitchId}
 use Rattle.pl_layouts.specs.declared.control.Control.{Control}
@@ -33,9 +33,10 @@ rising_proposed : (e : Voter) (up : List Control) (id : SwitchId) (q : ℕ) → 
 rising_proposed e [] id q none sent h = (tt, tt)
 rising_proposed e (Ldm i n ∷ up) id q none sent h =
     (λ x told. absurd (none_is_not_some e.position x none (sent.0.1 x told)), rising_proposed e up id q none sent.1 h.1)
-rising_proposed e (Proposal i p ∷ up) id q none sent h =
-    (all_push (IsNotBefore p.attempt) up (Proposal id (record { attempt = e.attempt; position = q })) h.0 sent.0.2,
-    rising_proposed e up id q none sent.1 h.1)
+rising_proposed e (Proposal i p ∷ up) id q none sent h = (
+  all_push (IsNotBefore p.attempt) up (Proposal id (record { attempt = e.attempt; position = q })) h.0 sent.0.2,
+  rising_proposed e up id q none sent.1 h.1,
+)
 rising_proposed e (Vote i v ∷ up) id q none sent h = rising_proposed e up id q none sent.1 h
 
 secure_pushed : (id : SwitchId) (q : ℕ) (holds : ℕ → Option Hold) (up : List Control) (c : Control) → Names q c → IsSecure id q holds up →
@@ -208,14 +209,15 @@ pub answers : (e : Voter) (holds H : ℕ → Option Hold) (id giver : SwitchId) 
 answers e holds H id giver p v up down kept attempt held g =
     let sent = g.sent.0 in
     let heard = hears e p.position holds H (Proposal id p) up down (λ q is. is) kept g in
-    speaks e H up down (Vote giver v)
-    (subst (λ t. t ≤ e.attempt) (sym attempt) sent.2,
-    λ grants present.
-        let now : p.attempt ≡ e.attempt = sym attempt ∙ present in
-        record {
-          held = subst (λ q. is_held_for e.id (H q) ≡ true) (sent.3 now) (held grants);
-          named = named_behind e up g.fixed g.sent.1 (subst (λ t. AllByRecursion (IsNotBefore t) up) now g.rising.0);
-        })
+    speaks e H up down (Vote giver v) (
+      subst (λ t. t ≤ e.attempt) (sym attempt) sent.2,
+      λ grants present.
+          let now : p.attempt ≡ e.attempt = sym attempt ∙ present in
+          record {
+            held = subst (λ q. is_held_for e.id (H q) ≡ true) (sent.3 now) (held grants);
+            named = named_behind e up g.fixed g.sent.1 (subst (λ t. AllByRecursion (IsNotBefore t) up) now g.rising.0);
+          },
+    )
     heard
 
 -- The edge switch counts votes.
@@ -268,10 +270,12 @@ moves_on e q holds up down none g = record {
   where
     next : Voter
     next = record e { attempt = e.attempt + 1; proposed = q; granted = false }
+
     earlier : (c : Control) → IsSent e c → IsSent (record e { attempt = e.attempt + 1; proposed = q; granted = false }) c
     earlier (Ldm id m) h = h
     earlier (Proposal id p) h = let before = h.2 in (h.0, h.1, omega (arith, before), λ is. absurd (omega (arith, before, is)))
     earlier (Vote id v) h = tt
+
     old : (c : Control) → IsSound e holds up c → IsSound (record e { attempt = e.attempt + 1; proposed = q; granted = false }) holds up c
     old (Ldm id m) h = tt
     old (Proposal id p) h = tt

@@ -1,27 +1,24 @@
 -- What a switch says out of a port in a step.
-use Rattle.std.proofs.Common.{◌≡◌, ℕ, zero, suc, ◌+◌, ◌<◌, ◌==◌, ◌&&◌, not, Bool, true, false, if◌then◌else◌, cond, List, [], ◌∷◌, ◌++◌, map, filter, get_or, Option, Some, None, is_none, Result, Ok, refl, sym, ◌∙◌, ap, subst, arith, inl, inr, ◌⊎◌, append_assoc, append-nil, eqb-true, ne_eqb}
-use Rattle.std.specs.List.{AllByRecursion, flat_map, range_with_len}
-use Rattle.std.proofs.lemmas.Bool.{and_parts, cond_both}
+use Rattle.std.proofs.Common.{◌≡◌, ℕ, zero, suc, ◌+◌, ◌<◌, ◌==◌, ◌&&◌, not, Bool, true, false, if◌then◌else◌, cond, List, [], ◌∷◌, ◌++◌, map, filter, get_or, Option, Some, None, is_none, refl, sym, ◌∙◌, ap, subst, arith, inl, inr, ◌⊎◌, append_assoc, append-nil, eqb-true, ne_eqb}
+use Rattle.std.specs.List.{range_with_len}
+use Rattle.std.proofs.lemmas.Bool.{and_parts}
 use Rattle.pl_frame.specs.declared.address.SwitchId.{SwitchId}
 use Rattle.pl_layouts.specs.declared.control.Control.{Control}
-use Rattle.pl_layouts.specs.declared.control.Control.TheVariants.{Ldm, Proposal, Vote}
-use Rattle.pl_layouts.specs.declared.control.ControlError.{ControlError}
+use Rattle.pl_layouts.specs.declared.control.Control.TheVariants.{Ldm, Proposal}
 use Rattle.pl_layouts.specs.declared.control.Ldm.{Ldm as Message}
-use Rattle.pl_layouts.specs.declared.place.Place.{Place}
-use Rattle.pl_layouts.specs.Control.{control_frame, sender_of}
+use Rattle.pl_layouts.specs.Control.{control_frame}
 use Rattle.pl_layouts.specs.Placement.{is_known}
 use Rattle.pl_ldp.specs.Writable.{IsId, IsWritable}
 use Rattle.pl_core.specs.declared.acts.Act.{Act}
 use Rattle.pl_core.specs.declared.acts.Act.TheVariants as act
 use Rattle.pl_core.specs.declared.neighbour.PortRecord.{PortRecord}
-use Rattle.pl_core.specs.Accounting.{IsShaped}
 use Rattle.pl_core.specs.Announcements.{announcement, direction_of}
-use Rattle.pl_core.specs.PortRecords.{aged, heard_id, id_at, is_usable_to, new_port, place_at, port_of, ports_of_switch, ports_where}
+use Rattle.pl_core.specs.PortRecords.{aged, heard_id, id_at, is_usable_to, new_port, place_at, ports_where}
 use Rattle.pl_core.specs.SwitchFacts.{has_granted}
 use Rattle.pl_core.specs.SwitchViews.{SwitchView}
 use Rattle.pl_switch_rule.specs.Announcing.{announcements, announces_at, proposal, proposes_at, ticks, with_aged_ports}
 use Rattle.pl_switch_rule.specs.Telling.{changes_told}
-use Rattle.pl_control_plane.specs.ControlPlanes.{message_in, messages_of, sends, sent_by, unless}
+use Rattle.pl_control_plane.specs.ControlPlanes.{message_in, messages_of, sends, sent_by}
 use Rattle.pl_control_plane.specs.Discovery.{CanBeTold, CanPropose}
 use Rattle.pl_control_plane.proofs.Reading.{ldm_writable, proposal_writable, written_is_read}
 use Rattle.pl_votes.proofs.Aside.{AreUnsaid, unsaid_told}
@@ -52,6 +49,7 @@ module _ (F : ℕ → List ℕ) (test : ℕ → Bool) (port : ℕ) where
     where
       other : (a == port) ≡ false
       other = ne_eqb a port (λ same. omega (arith, same, below))
+
       by : (b : Bool) → sends port (each (a + 1) n) ≡ [] →
           sends port (map (λ p. act.Control p (F p)) (cond b (a ∷ filter test (range_with_len (a + 1) n)) (filter test (range_with_len (a + 1) n)))) ≡ []
       by false rest = rest
@@ -63,6 +61,7 @@ module _ (F : ℕ → List ℕ) (test : ℕ → Bool) (port : ℕ) where
     where
       Sent : List Act → Type 0
       Sent acts = (sends port acts ≡ []) ⊎ ((test port ≡ true) × (sends port acts ≡ messages_of (message_in (F port))))
+
       here : test a ≡ true → (t : Bool) → (a == port) ≡ t →
           (sends port (each (a + 1) n) ≡ []) ⊎ ((test port ≡ true) × (sends port (each (a + 1) n) ≡ messages_of (message_in (F port)))) →
           (sends port (act.Control a (F a) ∷ each (a + 1) n) ≡ [])
@@ -73,10 +72,13 @@ module _ (F : ℕ → List ℕ) (test : ℕ → Bool) (port : ℕ) where
       here passes true same rest =
           let equal = eqb-true a port same in
           let behind = none_below (a + 1) n (omega (arith, equal)) in
-          inr (subst (λ x. test x ≡ true) equal passes,
-          ap (λ b. (if b then messages_of (message_in (F a)) else []) ++ sends port (each (a + 1) n)) same
-          ∙ ap (λ zs. messages_of (message_in (F a)) ++ zs) behind ∙ append-nil (messages_of (message_in (F a)))
-          ∙ ap (λ x. messages_of (message_in (F x))) equal)
+          inr (
+            subst (λ x. test x ≡ true) equal passes,
+            ap (λ b. (if b then messages_of (message_in (F a)) else []) ++ sends port (each (a + 1) n)) same
+                ∙ ap (λ zs. messages_of (message_in (F a)) ++ zs) behind ∙ append-nil (messages_of (message_in (F a)))
+                ∙ ap (λ x. messages_of (message_in (F x))) equal,
+          )
+
       by : (b : Bool) → test a ≡ b → (sends port (each (a + 1) n) ≡ []) ⊎ ((test port ≡ true) × (sends port (each (a + 1) n) ≡ messages_of (message_in (F port)))) →
           (sends port (map (λ p. act.Control p (F p)) (cond b (a ∷ filter test (range_with_len (a + 1) n)) (filter test (range_with_len (a + 1) n)))) ≡ [])
           ⊎ ((test port ≡ true) × (sends port (map (λ p. act.Control p (F p)) (cond b (a ∷ filter test (range_with_len (a + 1) n)) (filter test (range_with_len (a + 1) n))))
@@ -153,8 +155,10 @@ module _ (v : SwitchView) (port : ℕ) (is : IsId v.id) (can : CanBeTold v.place
     where
       firsts : List Act
       firsts = map (λ p. act.Control p (announcement w p)) (ports_where w (announces_at w))
+
       seconds : List Act
       seconds = map (λ p. act.Control p (proposal w)) (ports_where w (proposes_at w))
+
       unfixed : proposes_at w port ≡ true → v.place.position ≡ None
       unfixed h =
           let a = and_parts (is_known v.place.level 0 && is_none v.place.position && is_usable_to w 1 port) (not (has_granted w port)) h in

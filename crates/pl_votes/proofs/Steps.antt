@@ -1,5 +1,5 @@
 -- Each step of the control plane keeps the votes in order.
-use Rattle.std.proofs.Common.{◌≡◌, ℕ, ◌+◌, ◌/◌, ◌<◌, Bool, true, false, if◌then◌else◌, List, [], ◌∷◌, ◌++◌, length, get_or, Option, Some, Result, refl, sym, ◌∙◌, ap, subst, subst₂, arith, inl, inr, ◌⊎◌}
+use Rattle.std.proofs.Common.{◌≡◌, ℕ, ◌<◌, Bool, true, false, if◌then◌else◌, List, [], ◌∷◌, ◌++◌, Option, refl, sym, ◌∙◌, ap, subst, subst₂, inl, inr}
 use Rattle.std.specs.List.{AllByRecursion}
 use Rattle.std.proofs.lemmas.Bool.{cases_eq}
 use Rattle.pl_frame.specs.declared.address.SwitchId.{SwitchId}
@@ -8,7 +8,6 @@ use Rattle.pl_layouts.specs.declared.control.Control.{Control}
 use Rattle.pl_layouts.specs.Control.{control_in, is_control, sender_of}
 use Rattle.pl_ldp.specs.Writable.{IsId, IsWritable}
 use Rattle.pl_wiring.specs.declared.label.Label.TheVariants.{Aggregation, Edge}
-use Rattle.pl_wiring.specs.declared.label.SwitchNo.{SwitchNo}
 use Rattle.pl_wiring.specs.Labels.{IsLabel, switch_count}
 use Rattle.pl_wiring.specs.Plan.{IsPlan, Plan}
 use Rattle.pl_core.specs.declared.acts.Act.{Act}
@@ -18,24 +17,21 @@ use Rattle.pl_core.specs.SwitchFacts.{hold_at}
 use Rattle.pl_core.specs.SwitchInputs.{SwitchInput}
 use Rattle.pl_core.specs.SwitchInputs.SwitchInput.{Comes, Says, Tick}
 use Rattle.pl_core.specs.SwitchViews.{SwitchView}
-use Rattle.pl_core.specs.PortRecords.{id_at, port_of}
+use Rattle.pl_core.specs.PortRecords.{port_of}
 use Rattle.pl_steps.specs.Steps.{SwitchStep, rests}
-use Rattle.pl_switch_rule.specs.Announcing.{ticks}
-use Rattle.pl_switch_rule.specs.Forwarding.{Choice}
-use Rattle.pl_switch_rule.specs.Positions.{half}
 use Rattle.pl_switch_rule.specs.SwitchRule.{Loose, control_comes, data_comes, hears_control, switch_step}
 use Rattle.pl_control_plane.specs.ControlPlanes.{AreJoined, ControlPlane, message_in, messages_of, sends, unless}
-use Rattle.pl_control_plane.specs.PlaneSteps.{IsActed, IsLeft, IsOrderTaken, IsReportTaken, IsTakenOut, LeftOver, ManagerTurns, PlaneStep, SwitchTurns}
+use Rattle.pl_control_plane.specs.PlaneSteps.{IsActed, IsTakenOut, LeftOver, PlaneStep, SwitchTurns}
 use Rattle.pl_control_plane.specs.PlaneSteps.PlaneStep.{Carried, Entered, Heard, Left, Managed, Ordered, Ticked}
 use Rattle.pl_votes.specs.Counting.{IsCounting, LeadsUp}
 use Rattle.pl_votes.specs.Pairs.{IsGoodPair, Voter, voter_of}
 use Rattle.pl_votes.specs.Voting.{CanTell, IsVoting, aggregation_no, edge_no}
 use Rattle.pl_votes.proofs.AggregationTurns.{HoldsIds}
 use Rattle.pl_votes.proofs.Aside.{aside_data, aside_manager}
-use Rattle.pl_votes.proofs.Hearing.{AreOf, IsHearing, IsTurn, dropped_down, dropped_up, hearing, turn_aside, turn_tick}
+use Rattle.pl_votes.proofs.Hearing.{AreOf, IsHearing, IsTurn, drop_down, drop_up, hearing, turn_aside, turn_tick}
 use Rattle.pl_votes.proofs.Majority.{one_port_to}
 use Rattle.pl_votes.proofs.Speeches.{tick_says}
-use Rattle.pl_votes.proofs.Wired.{id_fits, ids_differ, is_there, leads_up, levels_apart, number_there, same_end, turned}
+use Rattle.pl_votes.proofs.Wired.{id_fits, ids_differ, is_there, leads_up, levels_apart, same_end, turned}
 
 -- a pair, by what it is made of
 moved : (e E : Voter) (h H : ℕ → Option Hold) (u U d D : List Control) → E ≡ e → H ≡ h → U ≡ u → D ≡ d → IsGoodPair e h u d → IsGoodPair E H U D
@@ -76,8 +72,8 @@ module _ (plan : Plan) (is : IsPlan plan) where
         let before = subst₂ (λ x y. IsGoodPair (voter_of (f.view e) p) (hold_at (f.view a)) x y) up.split down.split (v.pairs pod i j p q edge aggregation joined) in
         moved (voter_of (f.view e) p) (voter_of (g.view e) p) (hold_at (f.view a)) (hold_at (g.view a)) (g.says e p) (g.says e p) (g.says a q) (g.says a q)
         (ap (λ (x : SwitchView). voter_of x p) (same_view e)) (ap (λ (x : SwitchView). hold_at x) (same_view a)) refl refl
-        (dropped_down (voter_of (f.view e) p) (hold_at (f.view a)) (g.says e p) down.gone (g.says a q)
-        (dropped_up (voter_of (f.view e) p) (hold_at (f.view a)) up.gone (g.says e p) (down.gone ++ g.says a q) before));
+        (drop_down (voter_of (f.view e) p) (hold_at (f.view a)) (g.says e p) down.gone (g.says a q)
+        (drop_up (voter_of (f.view e) p) (hold_at (f.view a)) up.gone (g.says e p) (down.gone ++ g.says a q) before));
     counting = λ pod i edge.
         let e = edge_no plan.k pod i in subst (λ (x : SwitchView). IsCounting plan pod e x) (sym (same_view e)) (v.counting pod i edge);
   }
@@ -100,9 +96,9 @@ module _ (plan : Plan) (is : IsPlan plan) where
     ids = λ x. id_stays x ∙ v.ids x;
     named = λ x port. subst (λ id. AreOf id (g.says x port)) (sym (id_stays x)) (elim (cases_eq x s) [
       | inl here ↦ subst (λ y. AreOf (m.view y).id (g.says y port)) (sym here)
-        (subst (AreOf (m.view s).id) (sym (acted.says port))
-        (all_both (λ c. sender_of c ≡ (m.view s).id) (m.says s port) (unless (failed port) (sends port acts)) (v.named s port)
-        (all_unless (λ c. sender_of c ≡ (m.view s).id) (failed port) (sends port acts) (done.named port))))
+          (subst (AreOf (m.view s).id) (sym (acted.says port))
+          (all_both (λ c. sender_of c ≡ (m.view s).id) (m.says s port) (unless (failed port) (sends port acts)) (v.named s port)
+          (all_unless (λ c. sender_of c ≡ (m.view s).id) (failed port) (sends port acts) (done.named port))))
       | inr other ↦ subst (AreOf (m.view x).id) (sym (acted.other_says x port other)) (v.named x port)
     ]);
     holders = λ x q hold same. elim (cases_eq x s) [
@@ -113,30 +109,30 @@ module _ (plan : Plan) (is : IsPlan plan) where
         let e = edge_no plan.k pod i in let a = aggregation_no plan.k pod j in
         elim (cases_eq e s) [
           | inl here ↦
-            let other : a ≡ s → ⊥ = λ same. levels_apart plan is pod i pod j edge (same ∙ sym here) in
-            moved (voter_of after p) (voter_of (g.view e) p) (hold_at (m.view a)) (hold_at (g.view a))
-            (m.says s p ++ unless (failed p) (sends p acts)) (g.says e p) (m.says a q) (g.says a q)
-            (ap (λ y. voter_of (g.view y) p) here ∙ ap (λ (w : SwitchView). voter_of w p) acted.here) (ap (λ (w : SwitchView). hold_at w) (acted.others a other))
-            (ap (λ y. g.says y p) here ∙ acted.says p) (acted.other_says a q other)
-            (done.at_edge pod i j p q edge aggregation here (subst (λ y. AreJoined plan y p a q) here joined))
+              let other : a ≡ s → ⊥ = λ same. levels_apart plan is pod i pod j edge (same ∙ sym here) in
+              moved (voter_of after p) (voter_of (g.view e) p) (hold_at (m.view a)) (hold_at (g.view a))
+              (m.says s p ++ unless (failed p) (sends p acts)) (g.says e p) (m.says a q) (g.says a q)
+              (ap (λ y. voter_of (g.view y) p) here ∙ ap (λ (w : SwitchView). voter_of w p) acted.here) (ap (λ (w : SwitchView). hold_at w) (acted.others a other))
+              (ap (λ y. g.says y p) here ∙ acted.says p) (acted.other_says a q other)
+              (done.at_edge pod i j p q edge aggregation here (subst (λ y. AreJoined plan y p a q) here joined))
           | inr other ↦ elim (cases_eq a s) [
             | inl here ↦
-              moved (voter_of (m.view e) p) (voter_of (g.view e) p) (hold_at after) (hold_at (g.view a))
-              (m.says e p) (g.says e p) (m.says s q ++ unless (failed q) (sends q acts)) (g.says a q)
-              (ap (λ (w : SwitchView). voter_of w p) (acted.others e other)) (ap (λ y. hold_at (g.view y)) here ∙ ap (λ (w : SwitchView). hold_at w) acted.here)
-              (acted.other_says e p other) (ap (λ y. g.says y q) here ∙ acted.says q)
-              (done.at_aggregation pod i j p q edge aggregation here (subst (λ y. AreJoined plan e p y q) here joined))
+                moved (voter_of (m.view e) p) (voter_of (g.view e) p) (hold_at after) (hold_at (g.view a))
+                (m.says e p) (g.says e p) (m.says s q ++ unless (failed q) (sends q acts)) (g.says a q)
+                (ap (λ (w : SwitchView). voter_of w p) (acted.others e other)) (ap (λ y. hold_at (g.view y)) here ∙ ap (λ (w : SwitchView). hold_at w) acted.here)
+                (acted.other_says e p other) (ap (λ y. g.says y q) here ∙ acted.says q)
+                (done.at_aggregation pod i j p q edge aggregation here (subst (λ y. AreJoined plan e p y q) here joined))
             | inr also ↦
-              moved (voter_of (m.view e) p) (voter_of (g.view e) p) (hold_at (m.view a)) (hold_at (g.view a)) (m.says e p) (g.says e p) (m.says a q) (g.says a q)
-              (ap (λ (w : SwitchView). voter_of w p) (acted.others e other)) (ap (λ (w : SwitchView). hold_at w) (acted.others a also))
-              (acted.other_says e p other) (acted.other_says a q also) (v.pairs pod i j p q edge aggregation joined)
+                moved (voter_of (m.view e) p) (voter_of (g.view e) p) (hold_at (m.view a)) (hold_at (g.view a)) (m.says e p) (g.says e p) (m.says a q) (g.says a q)
+                (ap (λ (w : SwitchView). voter_of w p) (acted.others e other)) (ap (λ (w : SwitchView). hold_at w) (acted.others a also))
+                (acted.other_says e p other) (acted.other_says a q also) (v.pairs pod i j p q edge aggregation joined)
           ]
         ];
     counting = λ pod i edge.
         let e = edge_no plan.k pod i in
         elim (cases_eq e s) [
           | inl here ↦ subst (λ y. IsCounting plan pod y (g.view y)) (sym here)
-            (subst (λ (w : SwitchView). IsCounting plan pod s w) (sym acted.here) (done.counting pod i edge here))
+              (subst (λ (w : SwitchView). IsCounting plan pod s w) (sym acted.here) (done.counting pod i edge here))
           | inr other ↦ subst (λ (w : SwitchView). IsCounting plan pod e w) (sym (acted.others e other)) (v.counting pod i edge)
         ];
   }
@@ -184,18 +180,18 @@ module _ (plan : Plan) (is : IsPlan plan) where
         let joins_e = subst (λ y. AreJoined plan y p a b) (sym here) joins in
         elim (cases_eq port p) [
           | inr differ ↦ h.edge_there p (hold_at (m.view a)) (m.says s p) (m.says a b) (failed p) differ
-            (subst (λ y. IsGoodPair (voter_of (m.view y) p) (hold_at (m.view a)) (m.says y p) (m.says a b)) here (w.pairs pod i j p b edge aggregation joins_e))
+              (subst (λ y. IsGoodPair (voter_of (m.view y) p) (hold_at (m.view a)) (m.says y p) (m.says a b)) here (w.pairs pod i j p b edge aggregation joins_e))
           | inl same ↦
-            let ends = same_end plan is s port t q a b back (subst (λ x. AreJoined plan s x a b) (sym same) joins) in
-            let other : (s ≡ t) × (p ≡ q) → ⊥ = λ both. levels_apart plan is pod i pod j edge (sym ends.0 ∙ sym both.0 ∙ sym here) in
-            (subst (λ x. IsHearing (m.view s) x (m.view t).id first st) same h).edge_here (hold_at (m.view a)) (m.says s p) (m.says a b) (failed p)
-            (moved (voter_of (f.view e) p) (voter_of (m.view s) p) (hold_at (f.view a)) (hold_at (m.view a)) (f.says e p) (m.says s p)
-            (f.says a b) (first ++ m.says a b)
-            (ap (λ (x : SwitchView). voter_of x p) (taken.left.view s) ∙ ap (λ y. voter_of (f.view y) p) (sym here))
-            (ap (λ (x : SwitchView). hold_at x) (taken.left.view a))
-            (taken.other_says s p other ∙ ap (λ y. f.says y p) (sym here))
-            (sym (subst₂ (λ x y. f.says x y ≡ first ++ m.says x y) ends.0 ends.1 taken.first_said))
-            (v.pairs pod i j p b edge aggregation joins_e))
+              let ends = same_end plan is s port t q a b back (subst (λ x. AreJoined plan s x a b) (sym same) joins) in
+              let other : (s ≡ t) × (p ≡ q) → ⊥ = λ both. levels_apart plan is pod i pod j edge (sym ends.0 ∙ sym both.0 ∙ sym here) in
+              (subst (λ x. IsHearing (m.view s) x (m.view t).id first st) same h).edge_here (hold_at (m.view a)) (m.says s p) (m.says a b) (failed p)
+              (moved (voter_of (f.view e) p) (voter_of (m.view s) p) (hold_at (f.view a)) (hold_at (m.view a)) (f.says e p) (m.says s p)
+              (f.says a b) (first ++ m.says a b)
+              (ap (λ (x : SwitchView). voter_of x p) (taken.left.view s) ∙ ap (λ y. voter_of (f.view y) p) (sym here))
+              (ap (λ (x : SwitchView). hold_at x) (taken.left.view a))
+              (taken.other_says s p other ∙ ap (λ y. f.says y p) (sym here))
+              (sym (subst₂ (λ x y. f.says x y ≡ first ++ m.says x y) ends.0 ends.1 taken.first_said))
+              (v.pairs pod i j p b edge aggregation joins_e))
         ];
     at_aggregation = λ pod i j p b edge aggregation here joins.
         let e = edge_no plan.k pod i in let a = aggregation_no plan.k pod j in
@@ -203,21 +199,21 @@ module _ (plan : Plan) (is : IsPlan plan) where
         let returns = turned plan is e p s b joins in
         elim (cases_eq port b) [
           | inr differ ↦ h.aggregation_there (voter_of (m.view e) p) b (m.says e p) (m.says s b) (failed b) differ
-            (λ same. ids_differ plan is t e (is_there plan is s port t q back) (is_there plan is s b e p returns)
-                (λ one. differ (one_port_to plan s port b (record { 0 = e }) q p is (subst (λ x. AreJoined plan s port x q) one back) returns))
-                (ap (λ (x : SwitchId). x.0) (sym (w.ids t)) ∙ same ∙ ap (λ (x : SwitchId). x.0) (w.ids e)))
-            (subst (λ y. IsGoodPair (voter_of (m.view e) p) (hold_at (m.view y)) (m.says e p) (m.says y b)) here (w.pairs pod i j p b edge aggregation joins_a))
+              (λ same. ids_differ plan is t e (is_there plan is s port t q back) (is_there plan is s b e p returns)
+              (λ one. differ (one_port_to plan s port b (record { 0 = e }) q p is (subst (λ x. AreJoined plan s port x q) one back) returns))
+              (ap (λ (x : SwitchId). x.0) (sym (w.ids t)) ∙ same ∙ ap (λ (x : SwitchId). x.0) (w.ids e)))
+              (subst (λ y. IsGoodPair (voter_of (m.view e) p) (hold_at (m.view y)) (m.says e p) (m.says y b)) here (w.pairs pod i j p b edge aggregation joins_a))
           | inl same ↦
-            let ends = same_end plan is s port t q e p back (subst (λ x. AreJoined plan s x e p) (sym same) returns) in
-            let other : (s ≡ t) × (b ≡ q) → ⊥ = λ both. levels_apart plan is pod i pod j edge (here ∙ both.0 ∙ ends.0) in
-            (subst (λ x. IsHearing (m.view s) x (m.view t).id first st) same h).aggregation_here (voter_of (m.view e) p) (m.says e p) (m.says s b) (failed b)
-            (moved (voter_of (f.view e) p) (voter_of (m.view e) p) (hold_at (f.view a)) (hold_at (m.view s)) (f.says e p) (first ++ m.says e p)
-            (f.says a b) (m.says s b)
-            (ap (λ (x : SwitchView). voter_of x p) (taken.left.view e))
-            (ap (λ (x : SwitchView). hold_at x) (taken.left.view s) ∙ ap (λ y. hold_at (f.view y)) (sym here))
-            (sym (subst₂ (λ x y. f.says x y ≡ first ++ m.says x y) ends.0 ends.1 taken.first_said))
-            (taken.other_says s b other ∙ ap (λ y. f.says y b) (sym here))
-            (v.pairs pod i j p b edge aggregation joins_a))
+              let ends = same_end plan is s port t q e p back (subst (λ x. AreJoined plan s x e p) (sym same) returns) in
+              let other : (s ≡ t) × (b ≡ q) → ⊥ = λ both. levels_apart plan is pod i pod j edge (here ∙ both.0 ∙ ends.0) in
+              (subst (λ x. IsHearing (m.view s) x (m.view t).id first st) same h).aggregation_here (voter_of (m.view e) p) (m.says e p) (m.says s b) (failed b)
+              (moved (voter_of (f.view e) p) (voter_of (m.view e) p) (hold_at (f.view a)) (hold_at (m.view s)) (f.says e p) (first ++ m.says e p)
+              (f.says a b) (m.says s b)
+              (ap (λ (x : SwitchView). voter_of x p) (taken.left.view e))
+              (ap (λ (x : SwitchView). hold_at x) (taken.left.view s) ∙ ap (λ y. hold_at (f.view y)) (sym here))
+              (sym (subst₂ (λ x y. f.says x y ≡ first ++ m.says x y) ends.0 ends.1 taken.first_said))
+              (taken.other_says s b other ∙ ap (λ y. f.says y b) (sym here))
+              (v.pairs pod i j p b edge aggregation joins_a))
         ];
     named = h.named;
     ids = h.ids (w.holders s);

@@ -1,24 +1,20 @@
 -- What the wiring says of the votes' switches: which ports lead where, and which ids differ.
-use Rattle.std.proofs.Common.{◌≡◌, ℕ, ◌+◌, ◌*◌, ◌/◌, ◌<◌, ◌≤◌, ◌^◌, length, get_or, refl, sym, ◌∙◌, ap, subst, arith, inl, inr, ◌⊎◌}
+use Rattle.std.proofs.Common.{◌≡◌, ℕ, ◌<◌, get_or, sym, ◌∙◌, ap, subst, arith, inl, inr}
 use Rattle.std.specs.Prelude.{Contains}
-use Rattle.std.proofs.lemmas.Bool.{cases_lt, cases_eq}
-use Rattle.std.proofs.lemmas.List.{get_or_default}
-use Rattle.pl_frame.specs.declared.address.SwitchId.{SwitchId}
+use Rattle.std.proofs.lemmas.Bool.{cases_lt}
 use Rattle.pl_ldp.specs.Writable.{IsId}
 use Rattle.pl_wiring.specs.declared.label.Label.{Label}
 use Rattle.pl_wiring.specs.declared.label.Label.TheVariants.{Aggregation, Core, Edge}
 use Rattle.pl_wiring.specs.declared.label.SwitchNo.{SwitchNo}
 use Rattle.pl_wiring.specs.declared.link.Link.{Link}
-use Rattle.pl_wiring.specs.declared.link.Peer.{Peer}
 use Rattle.pl_wiring.specs.declared.link.Peer.TheVariants.{Switch}
 use Rattle.pl_wiring.specs.FatTree.{IsBelow, IsTreeLink}
-use Rattle.pl_wiring.specs.Labels.{IsLabel, edge_count, label_of, number_of, switch_count}
-use Rattle.pl_wiring.specs.Peers.{HasEnds, IsPeer, peer_of}
+use Rattle.pl_wiring.specs.Labels.{IsLabel, label_of, number_of, switch_count}
+use Rattle.pl_wiring.specs.Peers.{HasEnds, IsPeer}
 use Rattle.pl_wiring.specs.Plan.{IsPlan, Plan}
 use Rattle.pl_wiring.proofs.Ends.{IsPeer-in_range, IsPeer-is, IsPeer-turned, at_contained}
 use Rattle.pl_wiring.proofs.LabelOrder.{label_of-number_of, number_of-below, number_of-edge_below}
 use Rattle.pl_wiring.proofs.Linked.{peer_is_switch, peer_says}
-use Rattle.pl_switch_rule.specs.Positions.{half}
 use Rattle.pl_control_plane.specs.ControlPlanes.{AreJoined}
 use Rattle.pl_votes.specs.Counting.{LeadsUp}
 use Rattle.pl_votes.specs.Voting.{aggregation_no, edge_no}
@@ -61,11 +57,13 @@ module _ (plan : Plan) (is : IsPlan plan) where
           (j, within.1, q, joined ∙ ap (λ n. Switch (record { 0 = n }) q) (is_t ∙ ap (λ x. number_of plan.k (Aggregation x j)) (sym pods)))
       up lower (Edge other j) same within below is_t = absurd (subst (λ (x : Label). IsBelow x (Edge other j)) same below)
       up lower (Core other j) same within below is_t = absurd (subst (λ (x : Label). IsBelow x (Core other j)) same below)
+
       -- an edge switch is no upper end
       never : (lower : Label) → IsBelow lower (Edge pod i) → ⊥
       never (Edge a b) below = below
       never (Aggregation a b) below = below
       never (Core a b) below = below
+
       by : (link : Link) → IsTreeLink plan.k link → HasEnds link (edge_no plan.k pod i) port t q → LeadsUp plan pod (edge_no plan.k pod i) port
       by link tree (inl ends) =
           let same = one_label plan.k tree.lower (Edge pod i) tree.lower_in_range label (sym tree.joins.0 ∙ ends.0) in

@@ -192,10 +192,10 @@ module _ (w new : WorldView) (s : ℕ) (a : Act) (p : ℕ) (item : Item) (there 
 
       carried : is_data_item item ≡ false → carries_out new s p ≡ true → carries_out w s p ≡ true
       carried none h = elim (or_either (carries_out w s p) (has_data (unless (is_failed_at w s p) (item ∷ [])))
-        (sym (ap has_data at_port ∙ any_append is_data_item (queue_out w.plan.k w.out s p) (unless (is_failed_at w s p) (item ∷ []))) ∙ h)) [
-        | inl before ↦ before
-        | inr new_one ↦ absurd (let e = data_unless (is_failed_at w s p) item none in cc)
-      ]
+          (sym (ap has_data at_port ∙ any_append is_data_item (queue_out w.plan.k w.out s p) (unless (is_failed_at w s p) (item ∷ []))) ∙ h)) [
+            | inl before ↦ before
+            | inr new_one ↦ absurd (let e = data_unless (is_failed_at w s p) item none in cc)
+          ]
 
 one_sent : (b : Bool) (xs : List Control) → (if b then xs else []) ++ [] ≡ (if b then xs else [])
 one_sent true xs = append-nil xs

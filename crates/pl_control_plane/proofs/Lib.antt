@@ -6,3 +6,7 @@ pub mod Taking
 pub mod Managing
 pub mod Standing
 pub mod Stepping
+pub mod Joined
+pub mod Silent
+pub mod SilentFrames
+pub mod SilentHosts

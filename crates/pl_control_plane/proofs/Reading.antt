@@ -58,11 +58,14 @@ ldm_writable id place direction echo is can low heard =
     let three = and_from (levels && nat_lt direction 3 && positions) pods two (pod_sound place.level place.pod can.pod) in
     record {
       sound = and_from (not (id.0 == 0)) (is_sound_ldm m) (id_sound id is) three;
-      fits = (is, record {
-        position = if_some place.position (λ x. x < 255) (λ x e. (can.position x e).1);
-        pod = if_some place.pod (λ x. x < 65535) (λ x e. (can.pod x e).1);
-        echo = if_some_id echo IsId heard;
-      });
+      fits = (
+        is,
+        record {
+          position = if_some place.position (λ x. x < 255) (λ x e. (can.position x e).1);
+          pod = if_some place.pod (λ x. x < 65535) (λ x e. (can.pod x e).1);
+          echo = if_some_id echo IsId heard;
+        },
+      );
     }
 
 attempt_sound : (attempt : ℕ) → 1 ≤ attempt → not (attempt == 0) ≡ true

@@ -197,7 +197,7 @@ module _ (switch : SwitchRule) (manager : ManagerRule) (host : HostRule) (accoun
   comes_from_host w mid stand (Control frame) new r same is at plan item turn = absurd item
   comes_from_host w mid stand (Data id frame) new r same is at plan item turn =
       let turns = switch_turns switch accounts (noted mid (Crossed id (switch_no stand.edge.0))) stand.edge.0 (Comes stand.port frame) (Waiting id false) new is
-          (λ v size. record { within = rw (size, plan) at.port; whole = item.whole }) turn in
+      (λ v size. record { within = rw (size, plan) at.port; whole = item.whole }) turn in
       Entered stand.edge.0 stand.port frame at.edge at.port at.free item.kind
       (subst (λ f. SwitchTurns switch f stand.edge.0 (Comes stand.port frame) (control_plane new)) same turns)
 

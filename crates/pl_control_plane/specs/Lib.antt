@@ -2,3 +2,4 @@ pub mod ControlPlanes
 pub mod Discovery
 pub mod PlaneSteps
 pub mod HostsAtEdges
+pub mod Homes

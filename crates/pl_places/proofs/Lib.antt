@@ -1,0 +1,4 @@
+pub mod Later
+pub mod Turns
+pub mod Ticking
+pub mod Voting

@@ -1,5 +1,5 @@
 -- What a switch does with data frames and with the manager's messages leaves its votes as they are, and sends no message to a neighbour.
-use Rattle.std.proofs.Common.{◌≡◌, ℕ, zero, suc, ◌==◌, ◌&&◌, ◌||◌, not, Bool, true, false, if◌then◌else◌, List, [], ◌∷◌, ◌++◌, map, Option, Some, None, is_none, is_some, refl, ◌∙◌}
+use Rattle.std.proofs.Common.{◌≡◌, ℕ, zero, suc, ◌==◌, ◌&&◌, ◌||◌, not, Bool, true, false, if◌then◌else◌, List, [], ◌∷◌, ◌++◌, map, Option, Some, None, is_none, is_some, refl, ◌∙◌, ap, sym}
 use Rattle.std.specs.List.{AllByRecursion, flat_map}
 use Rattle.pl_frame.specs.declared.address.Ip4.{Ip4}
 use Rattle.pl_frame.specs.declared.address.Mac.{Mac}
@@ -34,8 +34,8 @@ use Rattle.pl_switch_rule.specs.Forwarding.{Choice, came_by, candidates_by, forw
 use Rattle.pl_switch_rule.specs.Granting.{address_at_port, forgets, granted, grants_at, grants_next, grants_or_learns, grants_remembered, grants_source, grant_number, has_no_address, in_use, is_granted, is_local, is_port_spent, learns_ip, learns_source, remembered_at, remembers, same_ip, sender_ip, with_grant}
 use Rattle.pl_switch_rule.specs.GroupForwarding.{destination_group, forwards_group, group_ports, no_way, passes_or_drops, way_of}
 use Rattle.pl_switch_rule.specs.Intake.{comes_from_host, group_told, groups_of, groups_told, has_member_of, hears_members, is_for_switch, members_become, packet_acts, query, sends_in, source_pmac, takes, takes_in, takes_in_or_spent, with_pmac}
-use Rattle.pl_switch_rule.specs.Levels.{becomes_edge, changes_to, finds_host, has_become_placed, settles_in, with_pod}
-use Rattle.pl_switch_rule.specs.Messages.{answer_frame, flood_frame, floods, forgets_members, hears_manager, invalidates, probes, probes_at, sets_trap, takes_pod}
+use Rattle.pl_switch_rule.specs.Levels.{becomes_edge, changes_to, pod_told_before, finds_host, has_become_placed, settles_in, with_pod}
+use Rattle.pl_switch_rule.specs.Messages.{answer_frame, flood_frame, floods, forgets_members, hears_manager, invalidates, probes, probes_at, sets_trap, takes_pod, hears_pod}
 use Rattle.pl_switch_rule.specs.SwitchRule.{comes_from_switch, data_comes}
 use Rattle.pl_switch_rule.specs.Telling.{changes_told, link_to, link_told, place_told, pod_wanted}
 
@@ -58,11 +58,21 @@ IsUnsaid act = Unit {0}
 abbrev pub AreUnsaid : List Act → Type 0
 AreUnsaid acts = AllByRecursion IsUnsaid acts
 
--- the votes stay as they are, and no neighbour is told anything
-pub record IsAside (v : SwitchView) (s : SwitchStep) : Type 0 where
+-- the votes stay as they are, also where the place does not, and no neighbour is told anything
+pub record IsMild (v : SwitchView) (s : SwitchStep) : Type 0 where
   pub same : stance s.view ≡ stance v
   pub holds : s.view.holds ≡ v.holds
   pub unsaid : AreUnsaid s.acts
+
+-- and so does the place of an edge switch
+pub record IsAside (v : SwitchView) (s : SwitchStep) : Type 0 where
+  pub same : stance s.view ≡ stance v
+  pub holds : s.view.holds ≡ v.holds
+  pub stands : v.place.level ≡ Some 0 → s.view.place ≡ v.place
+  pub unsaid : AreUnsaid s.acts
+
+pub mild : (v : SwitchView) (s : SwitchStep) → IsAside v s → IsMild v s
+mild v s aside = record { same = aside.same; holds = aside.holds; unsaid = aside.unsaid }
 
 pub unsaid_append : (xs ys : List Act) → AreUnsaid xs → AreUnsaid ys → AreUnsaid (xs ++ ys)
 unsaid_append [] ys a b = b
@@ -84,6 +94,7 @@ pub aside_then : (v : SwitchView) (s : SwitchStep) (next : SwitchView → Switch
 aside_then v s next a behind = let b = behind s.view in record {
   same = b.same ∙ a.same;
   holds = b.holds ∙ a.holds;
+  stands = λ level. let first = a.stands level in b.stands (ap (λ place. place.level) first ∙ level) ∙ first;
   unsaid = unsaid_append s.acts (next s.view).acts a.unsaid b.unsaid;
 }
 
@@ -92,7 +103,7 @@ aside_either v true x y a b = a
 aside_either v false x y a b = b
 
 aside_does : (v : SwitchView) (acts : List Act) → AreUnsaid acts → IsAside v (does v acts)
-aside_does v acts unsaid = record { same = refl; holds = refl; unsaid = unsaid }
+aside_does v acts unsaid = record { same = refl; holds = refl; stands = λ level. refl; unsaid = unsaid }
 
 pub aside_rests : (v : SwitchView) → IsAside v (rests v)
 aside_rests v = aside_does v [] tt
@@ -123,10 +134,10 @@ aside_learns_ip v address (Some grant) (Some ip) = by (same_ip grant.ip ip)
   where
     by : (b : Bool) → IsAside v (if b then rests v else record { view = with_grant v address (record grant { ip = Some ip }); acts = Tell (Learned address grant.amac (Some ip)) ∷ [] })
     by true = aside_rests v
-    by false = record { same = refl; holds = refl; unsaid = (tt, tt) }
+    by false = record { same = refl; holds = refl; stands = λ level. refl; unsaid = (tt, tt) }
 
 aside_grants_next : (v : SwitchView) (port : ℕ) (amac : Mac) (ip : Option Ip4) → IsAside v (grants_next v port amac ip)
-aside_grants_next v port amac ip = record { same = refl; holds = refl; unsaid = (tt, (tt, tt)) }
+aside_grants_next v port amac ip = record { same = refl; holds = refl; stands = λ level. refl; unsaid = (tt, (tt, tt)) }
 
 aside_grants_or_learns : (v : SwitchView) (port : ℕ) (amac : Mac) (ip : Option Ip4) (vmid : Option ℕ) → IsAside v (grants_or_learns v port amac ip vmid)
 aside_grants_or_learns v port amac ip (Some vmid) = aside_learns_ip v (address_at_port v port vmid) (grant_number (grants_at v port) vmid) ip
@@ -138,7 +149,7 @@ aside_grants_source v port None = aside_rests v
 aside_grants_source v port (Some source) = aside_grants_or_learns v port source.amac source.ip (in_use (grants_at v port) source.amac)
 
 aside_forgets : (port : ℕ) (v : SwitchView) → IsAside v (forgets port v)
-aside_forgets port v = record { same = refl; holds = refl; unsaid = tt }
+aside_forgets port v = record { same = refl; holds = refl; stands = λ level. refl; unsaid = tt }
 
 aside_grants_remembered : (ports : List ℕ) (v : SwitchView) → IsAside v (grants_remembered ports v)
 unfolding grants_remembered
@@ -154,20 +165,13 @@ aside_settles_in old v =
     (aside_grants_remembered (ports_of_switch v.k) v) (aside_rests v)
 
 -- what a switch makes of a change of its view: the votes are those of the changed view
-pub record IsChange (new : SwitchView) (s : SwitchStep) : Type 0 where
-  pub same : stance s.view ≡ stance new
-  pub holds : s.view.holds ≡ new.holds
-  pub unsaid : AreUnsaid s.acts
-
-pub changes : (old new : SwitchView) → IsChange new (changes_to old new)
+pub changes : (old new : SwitchView) → IsAside new (changes_to old new)
 changes old new = let settled = aside_settles_in old.place new in record {
   same = settled.same;
   holds = settled.holds;
+  stands = settled.stands;
   unsaid = unsaid_append (changes_told old new) (settles_in old.place new).acts (unsaid_told old new) settled.unsaid;
 }
-
-aside_changes : (old new : SwitchView) → stance new ≡ stance old → new.holds ≡ old.holds → IsAside old (changes_to old new)
-aside_changes old new same holds = let c = changes old new in record { same = c.same ∙ same; holds = c.holds ∙ holds; unsaid = c.unsaid }
 
 -- Passing frames on.
 
@@ -253,7 +257,7 @@ unsaid_groups old new =
     unsaid_if (are_alike (has_member_of old group) (has_member_of new group)) [] (Tell (Members group (has_member_of new group)) ∷ []) tt (tt, tt))
 
 aside_members_become : (v : SwitchView) (members : List Member) → IsAside v (members_become v members)
-aside_members_become v members = record { same = refl; holds = refl; unsaid = unsaid_groups v.members members }
+aside_members_become v members = record { same = refl; holds = refl; stands = λ level. refl; unsaid = unsaid_groups v.members members }
 
 aside_takes : (v : SwitchView) → IsAside v (takes v)
 aside_takes v = aside_does v _ (tt, tt)
@@ -302,10 +306,28 @@ aside_learns_source v port frame =
     aside_either v (is_placed v.place) (grants_or_learns v port (source_of frame) (sender_ip frame) (in_use (grants_at v port) (source_of frame)))
     (remembers v port (source_of frame) (sender_ip frame))
     (aside_grants_or_learns v port (source_of frame) (sender_ip frame) (in_use (grants_at v port) (source_of frame)))
-    (record { same = refl; holds = refl; unsaid = tt })
+    (record { same = refl; holds = refl; stands = λ level. refl; unsaid = tt })
 
 aside_finds_host : (v : SwitchView) (port : ℕ) → IsAside v (finds_host v port)
-aside_finds_host v port = aside_changes v (becomes_edge (with_port v port (record (port_of v port) { host = true }))) refl refl
+aside_finds_host v port =
+    let new = becomes_edge (with_port v port (record (port_of v port) { host = true })) in
+    let c = changes v new in
+    record {
+      same = c.same;
+      holds = c.holds;
+      stands = λ level. c.stands refl ∙ edge (with_port v port (record (port_of v port) { host = true })) level;
+      unsaid = c.unsaid;
+    }
+  where
+    -- an edge switch stays as it is
+    edge : (w : SwitchView) → w.place.level ≡ Some 0 → (becomes_edge w).place ≡ w.place
+    edge w level = by w.place.level w.place.position w.place.pod (pod_told_before w) level
+      where
+        by : (level position pod told : Option ℕ) → level ≡ Some 0 →
+            ◌≡◌ {A = Place} (record { level = Some 0; position = position; pod = if is_none level && is_none pod then told else pod })
+            (record { level = level; position = position; pod = pod })
+        by None position pod told same = absurd (cc)
+        by (Some x) position pod told same = ap (λ l. record { level = l; position = position; pod = pod }) (sym same)
 
 aside_comes_from_host : (choose : Choice) (v : SwitchView) (port : ℕ) (frame : List ℕ) → IsAside v (comes_from_host choose v port frame)
 aside_comes_from_host choose v port frame =
@@ -350,19 +372,36 @@ aside_invalidates v old trap None = aside_rests v
 aside_invalidates v old trap (Some grant) =
     let first = does (sets_trap v old grant trap) [] in
     aside_then v (first ▹ forgets_members old.port grant.amac) (probes old grant)
-    (aside_then v first (forgets_members old.port grant.amac) (record { same = refl; holds = refl; unsaid = tt }) (λ w. aside_members_become w _))
+    (aside_then v first (forgets_members old.port grant.amac) (record { same = refl; holds = refl; stands = λ level. refl; unsaid = tt }) (λ w. aside_members_become w _))
     (aside_probes old grant)
 
-pub aside_manager : (choose : Choice) (v : SwitchView) (says : ToSwitch) → IsAside v (hears_manager choose v says)
-aside_manager choose v (Pod pod) =
-    aside_either v (takes_pod v pod) (changes_to v (with_pod v (Some pod))) (rests v) (aside_changes v (with_pod v (Some pod)) refl refl) (aside_rests v)
-aside_manager choose v (Avoid list) = record { same = refl; holds = refl; unsaid = tt }
-aside_manager choose v (Tree group part) = record { same = refl; holds = refl; unsaid = tt }
-aside_manager choose v (Answer asker asker_ip ip pmac) =
+-- a message of the manager that gives no pod
+pub aside_manager : (choose : Choice) (v : SwitchView) (says : ToSwitch) → ((pod : ℕ) → says ≡ Pod pod → ⊥) → IsAside v (hears_manager choose v says)
+aside_manager choose v (Pod pod) other = absurd (other pod refl)
+aside_manager choose v (Avoid list) other = record { same = refl; holds = refl; stands = λ level. refl; unsaid = tt }
+aside_manager choose v (Tree group part) other = record { same = refl; holds = refl; stands = λ level. refl; unsaid = tt }
+aside_manager choose v (Answer asker asker_ip ip pmac) other =
     aside_either v (is_granted v asker) (makes choose (answer_frame asker asker_ip ip pmac) v) (rests v)
     (aside_makes choose (answer_frame asker asker_ip ip pmac) v) (aside_rests v)
-aside_manager choose v (Flood asker asker_ip ip) =
+aside_manager choose v (Flood asker asker_ip ip) other =
     aside_either v (is_granted v asker) (floods v (flood_frame asker asker_ip ip)) (rests v)
     (aside_then v (does v (Make (flood_frame asker asker_ip ip) ∷ [])) (λ w. forwards_group w (Some FromHost) (flood_frame asker asker_ip ip))
     (aside_does v _ (tt, tt)) (λ w. aside_forwards_group w (Some FromHost) (flood_frame asker asker_ip ip))) (aside_rests v)
-aside_manager choose v (Invalidate old new number ip) = aside_invalidates v old (record { new = new; number = number; ip = ip }) (granted v old)
+aside_manager choose v (Invalidate old new number ip) other =
+    aside_invalidates v old (record { new = new; number = number; ip = ip }) (granted v old)
+
+-- and one that does
+mild_pod : (v : SwitchView) (pod : ℕ) → IsMild v (hears_pod v pod)
+mild_pod v pod = by (takes_pod v pod)
+  where
+    by : (b : Bool) → IsMild v (if◌then◌else◌ {A = SwitchStep} b (changes_to v (with_pod v (Some pod))) (rests v))
+    by true = let c = changes v (with_pod v (Some pod)) in record { same = c.same; holds = c.holds; unsaid = c.unsaid }
+    by false = mild v (rests v) (aside_rests v)
+
+pub mild_manager : (choose : Choice) (v : SwitchView) (says : ToSwitch) → IsMild v (hears_manager choose v says)
+mild_manager choose v (Pod pod) = mild_pod v pod
+mild_manager choose v (Avoid list) = mild v _ (aside_manager choose v (Avoid list) (λ pod is. absurd (cc is)))
+mild_manager choose v (Tree group part) = mild v _ (aside_manager choose v (Tree group part) (λ pod is. absurd (cc is)))
+mild_manager choose v (Answer asker asker_ip ip pmac) = mild v _ (aside_manager choose v (Answer asker asker_ip ip pmac) (λ pod is. absurd (cc is)))
+mild_manager choose v (Flood asker asker_ip ip) = mild v _ (aside_manager choose v (Flood asker asker_ip ip) (λ pod is. absurd (cc is)))
+mild_manager choose v (Invalidate old new number ip) = mild v _ (aside_manager choose v (Invalidate old new number ip) (λ pod is. absurd (cc is)))

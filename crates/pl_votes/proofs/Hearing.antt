@@ -25,7 +25,7 @@ use Rattle.pl_control_plane.specs.ControlPlanes.{messages_of, sends, unless}
 use Rattle.pl_votes.specs.Counting.{IsCounting, LeadsUp}
 use Rattle.pl_votes.specs.Pairs.{IsGoodPair, Voter, voter_of}
 use Rattle.pl_votes.proofs.AggregationTurns.{HoldsIds, answer_to, down_none, down_tick, down_unless, hears_other_message, hears_other_proposal, hears_own_message, hears_own_proposal, is_asked, message_ids, proposal_ids, proposal_stance, same_stance, vote_elsewhere, vote_here, vote_said}
-use Rattle.pl_votes.proofs.Aside.{IsAside, changes, stance}
+use Rattle.pl_votes.proofs.Aside.{IsMild, changes, stance}
 use Rattle.pl_votes.proofs.EdgeTurns.{counts_votes, same_counting, same_voter, up_none, up_tick, up_unless, up_vote, vote_holds, votes_here, votes_there}
 use Rattle.pl_votes.proofs.PairMoves.{answer_gone, head_gone}
 use Rattle.pl_votes.proofs.Speeches.{SaysPlace, SaysProposal, TickSays, sends_none}
@@ -81,7 +81,7 @@ named_none id p acts none = subst (AreOf id) (sym none) tt
 
 -- Steps with no message.
 
-pub turn_aside : (v : SwitchView) (s : SwitchStep) → IsAside v s → IsTurn v s
+pub turn_aside : (v : SwitchView) (s : SwitchStep) → IsMild v s → IsTurn v s
 turn_aside v s aside = record {
   edge = λ port holds up down failed g. edge_same v s.view s.acts port holds up down failed aside.same (sends_none port s.acts aside.unsaid) g;
   aggregation = λ e port up down failed g. aggregation_same v s.view s.acts e port up down failed aside.holds (sends_none port s.acts aside.unsaid) g;

@@ -27,7 +27,7 @@ use Rattle.pl_votes.specs.Counting.{IsCounting, LeadsUp}
 use Rattle.pl_votes.specs.Pairs.{IsGoodPair, Voter, voter_of}
 use Rattle.pl_votes.specs.Voting.{CanTell, IsVoting, aggregation_no, edge_no}
 use Rattle.pl_votes.proofs.AggregationTurns.{HoldsIds}
-use Rattle.pl_votes.proofs.Aside.{aside_data, aside_manager}
+use Rattle.pl_votes.proofs.Aside.{aside_data, mild, mild_manager}
 use Rattle.pl_votes.proofs.Hearing.{AreOf, IsHearing, IsTurn, drop_down, drop_up, hearing, turn_aside, turn_tick}
 use Rattle.pl_votes.proofs.Majority.{one_port_to}
 use Rattle.pl_votes.proofs.Speeches.{tick_says}
@@ -264,7 +264,7 @@ module _ (plan : Plan) (is : IsPlan plan) where
       let step : switch_step turns.ruled.choose view (Comes port frame) ≡ comes =
       ap (λ b. if◌then◌else◌ {A = SwitchStep} b (control_comes view port frame) comes) data_frame in
       turn_votes m g s (Comes port frame) v turns
-      (subst (IsTurn view) (sym step) (turn_aside view comes (aside_data turns.ruled.choose view port frame)))
+      (subst (IsTurn view) (sym step) (turn_aside view comes (mild view comes (aside_data turns.ruled.choose view port frame))))
 
   ticks_votes : (f g : ControlPlane) (s : ℕ) → f.plan ≡ plan → CanTell f → IsVoting plan f.view f.says → SwitchTurns Loose f s Tick g → IsVoting plan g.view g.says
   ticks_votes f g s same can v turns =
@@ -285,7 +285,7 @@ plane_votes manager f g can v (Carried t q s port frame mid joined control carri
 plane_votes manager f g can v (Entered s port frame edge within free control turns) = data_votes f.plan can.plan f g s port frame v control turns
 plane_votes manager f g can v (Ordered s says mid taken turns) =
     turn_votes f.plan can.plan mid g s (Says says) (left_votes f.plan can.plan f mid taken.left.view taken.left.says v) turns
-    (turn_aside (mid.view s) (switch_step turns.ruled.choose (mid.view s) (Says says)) (aside_manager turns.ruled.choose (mid.view s) says))
+    (turn_aside (mid.view s) (switch_step turns.ruled.choose (mid.view s) (Says says)) (mild_manager turns.ruled.choose (mid.view s) says))
 plane_votes manager f g can v (Managed s id told mid there named taken turns) =
     left_votes f.plan can.plan mid g turns.view (λ t port. record { gone = []; split = sym (turns.says t port) })
     (left_votes f.plan can.plan f mid taken.left.view taken.left.says v)

@@ -1,3 +1,4 @@
 pub mod Numbers
 pub mod Managing
 pub mod Steps
+pub mod Keeping

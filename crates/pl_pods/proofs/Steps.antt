@@ -64,10 +64,10 @@ one_pod s (Core other j) pod i is level joined = absurd (omega (arith, level))
 
 module _ (f : ControlPlane) (is : IsPlan f.plan) (placed : ArePlaced f.plan f) (apart : FixedAreApart f.plan f.view) where
   -- a switch with a position has level 0, and is an edge switch
-  level_zero : (s x : ℕ) → (f.view s).place.position ≡ Some x → (f.view s).place.level ≡ Some 0
+  pub level_zero : (s x : ℕ) → (f.view s).place.position ≡ Some x → (f.view s).place.level ≡ Some 0
   level_zero s x position = ((placed.own s).position x position).0
 
-  edge_label : (s : ℕ) → (f.view s).place.level ≡ Some 0 → (pod : ℕ) × (i : ℕ) × (label_of f.plan.k s ≡ Edge pod i)
+  pub edge_label : (s : ℕ) → (f.view s).place.level ≡ Some 0 → (pod : ℕ) × (i : ℕ) × (label_of f.plan.k s ≡ Edge pod i)
   edge_label s level = edge_of (label_of f.plan.k s) ((placed.own s).level 0 level)
 
   -- the edge switch of position 0 is the only one that knows the pod as its own
@@ -80,7 +80,7 @@ module _ (f : ControlPlane) (is : IsPlan f.plan) (placed : ArePlaced f.plan f) (
       subst (λ x. (f.view x).place.pod ≡ Some n) (sym same) lowest.number
 
   -- so an edge switch of position 0 without a pod is told none
-  never_told : (t q s port n : ℕ) → AreJoined f.plan t q s port → (f.view s).place.position ≡ Some 0 → (f.view s).place.pod ≡ None →
+  pub never_told : (t q s port n : ℕ) → AreJoined f.plan t q s port → (f.view s).place.position ≡ Some 0 → (f.view s).place.pod ≡ None →
       (f.view t).place.level ≡ Some 1 → (f.view t).place.pod ≡ Some n → ⊥
   never_told t q s port n joined position none level pod =
       let edge = edge_label s (level_zero s 0 position) in
@@ -96,19 +96,19 @@ module _ (f : ControlPlane) (is : IsPlan f.plan) (placed : ArePlaced f.plan f) (
 
 -- What a switch may know after a step: an edge switch of position 0 that knew its pod still knows it; one that did not know it was told it by
 -- the manager or by a neighbour; and another one knew its pod before it got position 0.
-data KnowsBy (old : Place) (told : ℕ → Type 0) (n : ℕ) : Type 0 where
+pub data KnowsBy (old : Place) (told : ℕ → Type 0) (n : ℕ) : Type 0 where
   Kept : old.position ≡ Some 0 → old.pod ≡ Some n → KnowsBy old told n
   WasTold : old.position ≡ Some 0 → old.pod ≡ None → told n → KnowsBy old told n
   Became : old.level ≡ Some 0 → old.position ≡ None → old.pod ≡ Some n → KnowsBy old told n
 
-abbrev Knows : Place → Place → (ℕ → Type 0) → Type 0
+abbrev pub Knows : Place → Place → (ℕ → Type 0) → Type 0
 Knows old new told = (n : ℕ) → new.position ≡ Some 0 → new.pod ≡ Some n → KnowsBy old told n
 
 module _ (v : SwitchView) (own : (x : ℕ) → v.place.position ≡ Some x → v.place.level ≡ Some 0) (told : ℕ → Type 0) where
-  knows_same : (new : Place) → new ≡ v.place → Knows v.place new told
+  pub knows_same : (new : Place) → new ≡ v.place → Knows v.place new told
   knows_same new same n position pod = Kept (ap (λ p. p.position) (sym same) ∙ position) (ap (λ p. p.pod) (sym same) ∙ pod)
 
-  knows_aside : (s : SwitchStep) → IsAside v s → Knows v.place s.view.place told
+  pub knows_aside : (s : SwitchStep) → IsAside v s → Knows v.place s.view.place told
   knows_aside s aside n position pod =
       let stays : v.place.position ≡ Some 0 = ap (λ (x : Stance). x.position) (sym aside.same) ∙ position in
       knows_same s.view.place (aside.stands (own 0 stays)) n position pod
@@ -149,7 +149,7 @@ known_one (Some x) h = by (x == 1) refl h
     by true is h = ap Some (eqb-true x 1 is)
     by false is h = absurd (true≢false (sym h))
 
-abbrev TellsPod : Result Control ControlError → ℕ → Type 0
+abbrev pub TellsPod : Result Control ControlError → ℕ → Type 0
 TellsPod (Ok (Ldm id m)) n = (m.place.level ≡ Some 1) × (m.place.pod ≡ Some n)
 TellsPod read n = ⊥
 
@@ -225,7 +225,7 @@ knows_vote v own told port vote n position pod =
 
 -- The manager.
 
-knows_pod : (v : SwitchView) → ((x : ℕ) → v.place.position ≡ Some x → v.place.level ≡ Some 0) → (given : ℕ) →
+pub knows_pod : (v : SwitchView) → ((x : ℕ) → v.place.position ≡ Some x → v.place.level ≡ Some 0) → (given : ℕ) →
     Knows v.place (hears_pod v given).view.place (λ n. given ≡ n)
 knows_pod v own given = by (takes_pod v given) refl
   where
@@ -241,7 +241,7 @@ knows_pod v own given = by (takes_pod v given) refl
         WasTold (known_is v.place.position 0 c.1) (none_is v.place.pod b.1) (cc same)
 
 -- what is heard at a port
-knows_heard : (v : SwitchView) → ((x : ℕ) → v.place.position ≡ Some x → v.place.level ≡ Some 0) → (port : ℕ) (read : Result Control ControlError) (host : Bool) →
+pub knows_heard : (v : SwitchView) → ((x : ℕ) → v.place.position ≡ Some x → v.place.level ≡ Some 0) → (port : ℕ) (read : Result Control ControlError) (host : Bool) →
     Knows v.place (if◌then◌else◌ {A = SwitchStep} host (rests v) (hears_control v port read)).view.place (TellsPod read)
 knows_heard v own port read true = knows_same v own (TellsPod read) v.place refl
 knows_heard v own port (Err e) false = knows_same v own (TellsPod (Err e)) v.place refl

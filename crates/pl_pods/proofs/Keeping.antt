@@ -26,7 +26,7 @@ use Rattle.pl_switch_rule.specs.Announcing.{ticks}
 use Rattle.pl_switch_rule.specs.SwitchRule.{Loose, control_comes, data_comes, hears_control, switch_step}
 use Rattle.pl_manager_rule.specs.ManagerRule.{manager_hears, manager_rule, view_after}
 use Rattle.pl_control_plane.specs.ControlPlanes.{AreJoined, ControlPlane, message_in, messages_of}
-use Rattle.pl_control_plane.specs.PlaneSteps.{IsActed, IsOrderTaken, IsTakenOut, LeftOver, ManagerTurns, PlaneStep, SwitchTurns, ordered}
+use Rattle.pl_control_plane.specs.PlaneSteps.{IsActed, IsOrderTaken, IsReportTaken, IsTakenOut, LeftOver, ManagerTurns, PlaneStep, SwitchTurns, ordered}
 use Rattle.pl_control_plane.specs.PlaneSteps.PlaneStep.{Carried, Entered, Heard, Left, Managed, Ordered, Ticked}
 use Rattle.pl_control_plane.proofs.Joined.{joined_turned}
 use Rattle.pl_places.specs.Known.{IsZeroOf, pod_of}
@@ -177,3 +177,57 @@ module _ (f g : ControlPlane) (is : IsPlan f.plan) (placed : ArePlaced f.plan f)
       by (say.Answer a b c d) first turns = others (say.Answer a b c d) (λ pod same. absurd (cc same)) turns
       by (say.Flood a b c) first turns = others (say.Flood a b c) (λ pod same. absurd (cc same)) turns
       by (say.Invalidate a b c d) first turns = others (say.Invalidate a b c d) (λ pod same. absurd (cc same)) turns
+
+-- the manager hears a switch
+managed_given : (f m g : ControlPlane) (s : ℕ) (id : SwitchId) (told : ToManager) → AreGiven f → slice_get f.plan.ids s ≡ Some id → IsReportTaken f s told m →
+    ManagerTurns manager_rule m id told g → AreGiven g
+unfolding manager_hears
+managed_given f m g s id told given named taken turns =
+    let same_plan = taken.left.plan in
+    let before = subst (λ (v : ManagerView). AreGivenBy f.plan v.askers m.view m.orders) (sym taken.left.manager)
+    (left_given f.plan f.manager.askers f m taken.left.view taken.left.orders given) in
+    let after = view_after m.manager id told in
+    let here : Contains f.plan.ids id = (s, slice_get_within f.plan.ids s id named, get_or_from_slice_get f.plan.ids s id id named) in
+    let is_after = turns.manager ∙ turns.ruled.0 in
+    subst₂ (λ (p : Plan) (v : ManagerView). AreGivenBy p v.askers g.view g.orders) (sym (turns.plan ∙ same_plan)) (sym is_after) (record {
+      asked = askers_then m.manager id told (Contains f.plan.ids) here before.asked;
+      said = λ t.
+          let says = subst₂ (λ (p : Plan) acts. g.orders t ≡ m.orders t ++ ordered p t acts) same_plan turns.ruled.1 (turns.orders t) in
+          subst (AllByRecursion (IsGiven after.askers (id_of f.plan t))) (sym says)
+          (all_both (IsGiven after.askers (id_of f.plan t)) (m.orders t) (ordered f.plan t (manager_hears m.manager id told).acts)
+          (all_weaker (IsGiven m.manager.askers (id_of f.plan t)) (IsGiven after.askers (id_of f.plan t))
+          (λ order is. order_then m.manager id (id_of f.plan t) told order is) (m.orders t) (before.said t))
+          (due_orders f.plan after.askers t (manager_hears m.manager id told).acts (due_acts m.manager id told)));
+      known = λ t n position pod.
+          given_then m.manager id (id_of f.plan t) told n
+          (before.known t n (ap (λ (v : SwitchView). v.place.position) (sym (turns.view t)) ∙ position)
+          (ap (λ (v : SwitchView). v.place.pod) (sym (turns.view t)) ∙ pod));
+    })
+
+-- the wiring and the manager stay where a switch steps
+stays : (f g : ControlPlane) → g.plan ≡ f.plan → g.manager ≡ f.manager → AreGivenBy f.plan f.manager.askers g.view g.orders → AreGiven g
+stays f g same_plan same_manager given =
+    subst₂ (λ (p : Plan) (v : ManagerView). AreGivenBy p v.askers g.view g.orders) (sym same_plan) (sym same_manager) given
+
+pub plane_given : (f g : ControlPlane) → IsPlan f.plan → ArePlaced f.plan f → FixedAreApart f.plan f.view → FixedAreApart f.plan g.view → AreGiven f →
+    PlaneStep Loose manager_rule f g → AreGiven g
+plane_given f g is placed apart then_apart given (Left left) =
+    stays f g left.plan left.manager (left_given f.plan f.manager.askers f g left.view left.orders given)
+plane_given f g is placed apart then_apart given (Ticked s turns) =
+    stays f g turns.acted.plan turns.acted.manager
+    (turned_given f g is placed apart then_apart f.manager.askers f s Tick (λ t. refl) given given turns
+    (knows_same (f.view s) (own_of f g is placed apart then_apart f s refl) (λ n. ⊥) (f.view s).place refl))
+plane_given f g is placed apart then_apart given (Heard t q s port frame mid joined control taken turns) =
+    stays f g (turns.acted.plan ∙ taken.left.plan) (turns.acted.manager ∙ taken.left.manager)
+    (heard_given f g is placed apart then_apart f.manager.askers mid t q s port frame given joined control taken turns)
+plane_given f g is placed apart then_apart given (Carried t q s port frame mid joined control carries taken turns) =
+    stays f g (turns.acted.plan ∙ taken.left.plan) (turns.acted.manager ∙ taken.left.manager)
+    (data_given f g is placed apart then_apart f.manager.askers mid s port frame taken.left.view given
+    (left_given f.plan f.manager.askers f mid taken.left.view taken.left.orders given) control turns)
+plane_given f g is placed apart then_apart given (Entered s port frame edge within free control turns) =
+    stays f g turns.acted.plan turns.acted.manager
+    (data_given f g is placed apart then_apart f.manager.askers f s port frame (λ t. refl) given given control turns)
+plane_given f g is placed apart then_apart given (Ordered s says mid taken turns) =
+    stays f g (turns.acted.plan ∙ taken.left.plan) (turns.acted.manager ∙ taken.left.manager)
+    (ordered_given f g is placed apart then_apart f.manager.askers mid s says given taken turns)
+plane_given f g is placed apart then_apart given (Managed s id told mid there named taken turns) = managed_given f mid g s id told given named taken turns

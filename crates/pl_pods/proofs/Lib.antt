@@ -2,3 +2,4 @@ pub mod Numbers
 pub mod Managing
 pub mod Steps
 pub mod Keeping
+pub mod Booted

@@ -1,14 +1,12 @@
 -- At the beginning no number was given and none is known; and what follows where numbers are those that were given.
-use Rattle.std.proofs.Common.{◌≡◌, ℕ, zero, suc, ◌+◌, ◌<◌, ◌≤◌, List, [], ◌∷◌, length, map, replicate, get_or, Option, Some, None, Contains, refl, sym, ◌∙◌, ap, subst, arith}
+use Rattle.std.proofs.Common.{◌≡◌, ℕ, zero, suc, List, [], ◌∷◌, map, replicate, get_or, None, refl, sym, subst, arith}
 use Rattle.std.specs.List.{AllByRecursion}
 use Rattle.pl_frame.specs.declared.address.SwitchId.{SwitchId}
 use Rattle.pl_wiring.specs.Labels.{switch_count}
 use Rattle.pl_wiring.specs.Plan.{IsPlan, Plan}
 use Rattle.pl_core.specs.declared.messages.ToSwitch.{ToSwitch}
 use Rattle.pl_core.specs.declared.messages.ToSwitch.TheVariants as say
-use Rattle.pl_core.specs.ManagerViews.{pod_given}
 use Rattle.pl_core.specs.SwitchFacts.{switch_at_boot}
-use Rattle.pl_core.specs.SwitchViews.{SwitchView}
 use Rattle.pl_world.specs.declared.limits.Limits.{Limits}
 use Rattle.pl_world.specs.Booting.{booted}
 use Rattle.pl_control_plane.specs.ControlPlanes.{ControlPlane, control_plane, no_switch}
@@ -47,6 +45,7 @@ numbers_fit f is given s = each (f.orders s) (given.said s)
     fits (say.Avoid list) here = tt
     fits (say.Invalidate a b c d) here = tt
     fits (say.Tree group part) here = tt
+
     each : (orders : List ToSwitch) → AllByRecursion (IsGiven f.manager.askers (id_of f.plan s)) orders → AllByRecursion IsPodNumber orders
     each [] all = tt
     each (says ∷ orders) all = (fits says all.0, each orders all.1)

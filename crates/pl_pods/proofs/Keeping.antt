@@ -1,5 +1,5 @@
 -- Each step of the control plane keeps the numbers that were given.
-use Rattle.std.proofs.Common.{◌≡◌, ℕ, ◌<◌, Bool, true, false, if◌then◌else◌, List, [], ◌∷◌, ◌++◌, length, get_or, Option, Some, None, Result, Ok, Err, Contains, slice_get, refl, sym, ◌∙◌, ap, subst, subst₂, arith, inl, inr}
+use Rattle.std.proofs.Common.{◌≡◌, ℕ, Bool, true, false, if◌then◌else◌, List, [], ◌∷◌, ◌++◌, Some, None, Result, Ok, Err, Contains, slice_get, refl, sym, ◌∙◌, ap, subst, subst₂, inl, inr}
 use Rattle.std.specs.List.{AllByRecursion}
 use Rattle.std.proofs.lemmas.Bool.{cases_eq}
 use Rattle.std.proofs.lemmas.Option.{get_or_from_slice_get, slice_get_within}
@@ -22,19 +22,17 @@ use Rattle.pl_core.specs.SwitchInputs.{SwitchInput}
 use Rattle.pl_core.specs.SwitchInputs.SwitchInput.{Comes, Says, Tick}
 use Rattle.pl_core.specs.SwitchViews.{SwitchView}
 use Rattle.pl_steps.specs.Steps.{SwitchStep, rests}
-use Rattle.pl_switch_rule.specs.Announcing.{ticks}
 use Rattle.pl_switch_rule.specs.SwitchRule.{Loose, control_comes, data_comes, hears_control, switch_step}
 use Rattle.pl_manager_rule.specs.ManagerRule.{manager_hears, manager_rule, view_after}
 use Rattle.pl_control_plane.specs.ControlPlanes.{AreJoined, ControlPlane, message_in, messages_of}
 use Rattle.pl_control_plane.specs.PlaneSteps.{IsActed, IsOrderTaken, IsReportTaken, IsTakenOut, LeftOver, ManagerTurns, PlaneStep, SwitchTurns, ordered}
 use Rattle.pl_control_plane.specs.PlaneSteps.PlaneStep.{Carried, Entered, Heard, Left, Managed, Ordered, Ticked}
-use Rattle.pl_control_plane.proofs.Joined.{joined_turned}
-use Rattle.pl_places.specs.Known.{IsZeroOf, pod_of}
+use Rattle.pl_places.specs.Known.{pod_of}
 use Rattle.pl_places.specs.Places.{ArePlaced}
 use Rattle.pl_places.specs.Told.{IsGoodMessage, has_heard}
 use Rattle.pl_votes.specs.Voting.{FixedAreApart}
 use Rattle.pl_votes.proofs.Aside.{aside_data, aside_manager}
-use Rattle.pl_pods.specs.Pods.{AreGiven, AreGivenBy, IsGiven, KnownAreGiven, id_of}
+use Rattle.pl_pods.specs.Pods.{AreGiven, AreGivenBy, IsGiven, id_of}
 use Rattle.pl_pods.proofs.Managing.{askers_then, due_acts, due_orders, given_then, order_then}
 use Rattle.pl_pods.proofs.Steps.{Knows, KnowsBy, TellsPod, edge_label, knows_aside, knows_heard, knows_pod, knows_same, level_zero, never_told}
 use Rattle.pl_pods.proofs.Steps.KnowsBy.{Became, Kept, WasTold}
@@ -75,14 +73,14 @@ module _ (f g : ControlPlane) (is : IsPlan f.plan) (placed : ArePlaced f.plan f)
     said = λ t. subst (AllByRecursion (IsGiven askers (id_of f.plan t))) (sym (acted.orders t)) (given_m.said t);
     known = λ t n position pod. elim (cases_eq t s) [
       | inl here ↦
-        let position_s = ap (λ (v : SwitchView). v.place.position) (sym acted.here) ∙ ap (λ x. (g.view x).place.position) (sym here) ∙ position in
-        let pod_s = ap (λ (v : SwitchView). v.place.pod) (sym acted.here) ∙ ap (λ x. (g.view x).place.pod) (sym here) ∙ pod in
-        subst (λ x. pod_given askers (id_of f.plan x) ≡ Some n) (sym here)
-        (by n (ap (λ x. (g.view x).place.position) (sym here) ∙ position)
-        (subst (λ (v : SwitchView). KnowsBy v.place told n) (same s) (knows n position_s pod_s)))
+          let position_s = ap (λ (v : SwitchView). v.place.position) (sym acted.here) ∙ ap (λ x. (g.view x).place.position) (sym here) ∙ position in
+          let pod_s = ap (λ (v : SwitchView). v.place.pod) (sym acted.here) ∙ ap (λ x. (g.view x).place.pod) (sym here) ∙ pod in
+          subst (λ x. pod_given askers (id_of f.plan x) ≡ Some n) (sym here)
+          (by n (ap (λ x. (g.view x).place.position) (sym here) ∙ position)
+          (subst (λ (v : SwitchView). KnowsBy v.place told n) (same s) (knows n position_s pod_s)))
       | inr other ↦
-        given_m.known t n (ap (λ (v : SwitchView). v.place.position) (sym (acted.others t other)) ∙ position)
-        (ap (λ (v : SwitchView). v.place.pod) (sym (acted.others t other)) ∙ pod)
+          given_m.known t n (ap (λ (v : SwitchView). v.place.position) (sym (acted.others t other)) ∙ position)
+          (ap (λ (v : SwitchView). v.place.pod) (sym (acted.others t other)) ∙ pod)
     ];
   }
     where
@@ -99,6 +97,7 @@ module _ (f g : ControlPlane) (is : IsPlan f.plan) (placed : ArePlaced f.plan f)
           let unlike : z ≡ s → ⊥ = λ one. (let at = subst (λ x. (f.view x).place.position ≡ Some 0) one lowest.1.position in absurd (cc (none, at))) in
           let there = ap (λ (v : SwitchView). v.place.position) (acted.others z unlike ∙ same z) ∙ lowest.1.position in
           unlike (sym (apart_then edge.0 edge.1 lowest.1.i 0 s z edge.2 label position there))
+
       by : (n : ℕ) → (g.view s).place.position ≡ Some 0 → KnowsBy (f.view s).place told n → pod_given askers (id_of f.plan s) ≡ Some n
       by n position (Kept at pod) = given.known s n at pod
       by n position (WasTold at none says) = due n at none says
@@ -160,11 +159,13 @@ module _ (f g : ControlPlane) (is : IsPlan f.plan) (placed : ArePlaced f.plan f)
     where
       given_m : AreGivenBy f.plan askers m.view m.orders
       given_m = left_given f.plan askers f m taken.left.view taken.left.orders given
+
       others : (says : ToSwitch) → ((pod : ℕ) → says ≡ say.Pod pod → ⊥) → SwitchTurns Loose m s (Says says) g → AreGivenBy f.plan askers g.view g.orders
       others says other turns =
           turned_given askers m s (Says says) taken.left.view given (left_given f.plan askers f m taken.left.view taken.left.orders given) turns
           (knows_aside (m.view s) (own_of m s (taken.left.view s)) (λ n. ⊥) (switch_step turns.ruled.choose (m.view s) (Says says))
           (aside_manager turns.ruled.choose (m.view s) says other))
+
       by : (says : ToSwitch) → f.orders s ≡ says ∷ m.orders s → SwitchTurns Loose m s (Says says) g → AreGivenBy f.plan askers g.view g.orders
       by (say.Pod pod) first turns =
           let due = (subst (AllByRecursion (IsGiven askers (id_of f.plan s))) first (given.said s)).0 in

@@ -1,11 +1,11 @@
 -- What the manager says of pods.
-use Rattle.std.proofs.Common.{◌≡◌, ℕ, zero, suc, ◌+◌, ◌<◌, ◌==◌, Bool, true, false, nat_lt, if◌then◌else◌, cond, List, [], ◌∷◌, ◌++◌, length, map, filter, flat_map, Option, Some, None, option_map, get_or, unwrap_or, IsSome, is_some, Contains, position, slice_get, refl, sym, ◌∙◌, ap, subst, arith, eqb-true, ltb-true}
+use Rattle.std.proofs.Common.{◌≡◌, ℕ, ◌+◌, Bool, true, false, if◌then◌else◌, cond, List, [], ◌∷◌, ◌++◌, length, map, flat_map, Option, Some, None, unwrap_or, IsSome, position, refl, ap, subst, eqb-true}
 use Rattle.std.specs.List.{AllByRecursion, list_any}
 use Rattle.std.proofs.lemmas.List.Quantifiers.{position-Some}
 use Rattle.pl_frame.specs.declared.address.Ip4.{Ip4}
 use Rattle.pl_frame.specs.declared.address.SwitchId.{SwitchId}
 use Rattle.pl_pmac.specs.declared.pmac.Pmac.{Pmac}
-use Rattle.pl_wiring.specs.Plan.{IsPlan, Plan}
+use Rattle.pl_wiring.specs.Plan.{Plan}
 use Rattle.pl_layouts.specs.Equality.{same_pmac, same_switch}
 use Rattle.pl_core.specs.declared.acts.ManagerAct.{ManagerAct}
 use Rattle.pl_core.specs.declared.acts.ManagerAct.TheVariants.{Number, Say}
@@ -16,7 +16,7 @@ use Rattle.pl_core.specs.declared.messages.ToSwitch.TheVariants as say
 use Rattle.pl_core.specs.ManagerViews.{Learnt, ManagerView, Registration, lookup, newest, pod_given, pods_given, registry}
 use Rattle.pl_core.specs.ManagerFacts.{groups}
 use Rattle.pl_core.specs.AvoidLists.{avoid_list}
-use Rattle.pl_manager_rule.specs.ManagerRule.{acts_of, answer_to, avoid_acts, changed, changed_of_group, invalidation, learning, manager_hears, part_in, reply, tree_acts, tree_acts_of, view_after, with_asker}
+use Rattle.pl_manager_rule.specs.ManagerRule.{answer_to, avoid_acts, changed, changed_of_group, invalidation, manager_hears, part_in, reply, tree_acts, tree_acts_of, view_after, with_asker}
 use Rattle.pl_manager_rule.proofs.Registered.{asker_has_pod}
 use Rattle.pl_control_plane.specs.PlaneSteps.{is_to, ordered, ordered_by}
 use Rattle.pl_pods.specs.Pods.{IsGiven, id_of}
@@ -78,7 +78,7 @@ due_acts before s told =
     (all_append (IsDue after.askers) (reply before after s told) avoids (due_reply before s told)
     (all_mapped (IsDue after.askers) (λ t. Say t (say.Avoid (avoid_list after.told t))) (changed before.told after.told) (λ t. tt)))
     (all_flat (IsDue after.askers) (tree_acts_of before after) (groups after.members) (λ group.
-        all_mapped (IsDue after.askers) (λ t. Say t (say.Tree group (part_in after group t))) (changed_of_group before after group) (λ t. tt)))
+    all_mapped (IsDue after.askers) (λ t. Say t (say.Tree group (part_in after group t))) (changed_of_group before after group) (λ t. tt)))
 
 -- who asked then
 pub askers_then : (before : ManagerView) (s : SwitchId) (told : ToManager) (P : SwitchId → Type 0) → P s → AllByRecursion P before.askers →

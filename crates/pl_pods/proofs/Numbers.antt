@@ -1,17 +1,17 @@
 -- The numbers that were given: each asker has one, all differ, and each stays.
-use Rattle.std.proofs.Common.{◌≡◌, ℕ, zero, suc, ◌+◌, ◌*◌, ◌/◌, ◌<◌, ◌≤◌, ◌||◌, Bool, true, false, cond, List, [], ◌∷◌, length, map, Option, Some, None, option_map, find, Contains, refl, sym, ◌∙◌, ap, subst, arith, inl, inr, ◌⊎◌, eqb-true, eq-eqb}
+use Rattle.std.proofs.Common.{◌≡◌, ℕ, suc, ◌*◌, ◌/◌, ◌<◌, ◌≤◌, ◌||◌, Bool, true, false, cond, List, [], ◌∷◌, length, map, Some, option_map, find, Contains, refl, sym, ◌∙◌, ap, subst, arith, eqb-true, eq-eqb}
 use Rattle.std.specs.List.{AllByRecursion, list_any}
 use Rattle.std.proofs.lemmas.List.{length-map}
 use Rattle.std.specs.Cmp.{IsEquivalence}
 use Rattle.std.proofs.lemmas.Cmp.{nat_eq_equiv}
 use Rattle.std.proofs.lemmas.Map.Made.{length-le_from_is_member}
-use Rattle.std.proofs.Math.Nat.{div-le_self, mul-le-mul}
+use Rattle.std.proofs.Math.Nat.{mul-le-mul}
 use Rattle.pl_frame.specs.declared.address.SwitchId.{SwitchId}
-use Rattle.pl_wiring.specs.Labels.{edge_count, switch_count}
+use Rattle.pl_wiring.specs.Labels.{switch_count}
 use Rattle.pl_wiring.specs.Plan.{IsPlan, Plan}
 use Rattle.pl_layouts.specs.Equality.{same_switch}
 use Rattle.pl_core.specs.ManagerViews.{PodGiven, pod_given, pods_given}
-use Rattle.pl_core.proofs.Among.{IsAmong, among_of_Contains, any_among}
+use Rattle.pl_core.proofs.Among.{among_of_Contains, any_among}
 use Rattle.pl_manager_rule.specs.ManagerRule.{with_asker}
 use Rattle.pl_manager_rule.proofs.Registered.{askers_once}
 
@@ -28,9 +28,11 @@ below (s ∷ askers) = by (list_any (λ g. same_switch g.switch s) (pods_given a
         let new : PodGiven = record { switch = s; pod = length (pods_given askers) } in
         AllByRecursion (λ g. g.pod < length (cond b (pods_given askers) (new ∷ pods_given askers))) (cond b (pods_given askers) (new ∷ pods_given askers))
     by true rest = rest
-    by false rest =
-        (omega arith, all_weaker (λ (g : PodGiven). g.pod < length (pods_given askers)) (λ (g : PodGiven). g.pod < suc (length (pods_given askers)))
-        (λ g less. omega (arith, less)) (pods_given askers) rest)
+    by false rest = (
+      omega arith,
+      all_weaker (λ (g : PodGiven). g.pod < length (pods_given askers)) (λ (g : PodGiven). g.pod < suc (length (pods_given askers)))
+          (λ g less. omega (arith, less)) (pods_given askers) rest,
+    )
 
 found_is : (P : ℕ → Type 0) (gs : List PodGiven) (s : SwitchId) (n : ℕ) → AllByRecursion (λ g. P g.pod) gs →
     option_map (λ g. g.pod) (find (λ g. same_switch g.switch s) gs) ≡ Some n → P n
@@ -52,6 +54,7 @@ numbers_differ (s ∷ askers) a b n is also =
   where
     new : PodGiven
     new = record { switch = s; pod = length (pods_given askers) }
+
     two : (x y : Bool) → same_switch s a ≡ x → same_switch s b ≡ y → (pod_given askers a ≡ Some n → pod_given askers b ≡ Some n → a.0 ≡ b.0) →
         option_map (λ g. g.pod) (cond x (Some (record { switch = s; pod = length (pods_given askers) })) (find (λ g. same_switch g.switch a) (pods_given askers))) ≡ Some n →
         option_map (λ g. g.pod) (cond y (Some (record { switch = s; pod = length (pods_given askers) })) (find (λ g. same_switch g.switch b) (pods_given askers))) ≡ Some n → a.0 ≡ b.0
@@ -61,6 +64,7 @@ numbers_differ (s ∷ askers) a b n is also =
     two false true one other rest is also =
         let last : length (pods_given askers) ≡ n = cc also in let less = given_below askers a n is in absurd (omega (arith, last, less))
     two false false one other rest is also = rest is also
+
     by : (t : Bool) → (pod_given askers a ≡ Some n → pod_given askers b ≡ Some n → a.0 ≡ b.0) →
         option_map (λ g. g.pod) (find (λ g. same_switch g.switch a) (cond t (pods_given askers) (record { switch = s; pod = length (pods_given askers) } ∷ pods_given askers))) ≡ Some n →
         option_map (λ g. g.pod) (find (λ g. same_switch g.switch b) (cond t (pods_given askers) (record { switch = s; pod = length (pods_given askers) } ∷ pods_given askers))) ≡ Some n → a.0 ≡ b.0
@@ -76,6 +80,7 @@ found_any (g ∷ gs) s t n same found = by (λ rest. found_any gs s t n same res
     later : (b c : Bool) → c ≡ true → (b || c) ≡ true
     later true c is = refl
     later false c is = is
+
     by : (option_map (λ g. g.pod) (find (λ g. same_switch g.switch t) gs) ≡ Some n → list_any (λ g. same_switch g.switch s) gs ≡ true) →
         (b : Bool) → same_switch g.switch t ≡ b → option_map (λ g. g.pod) (cond b (Some g) (find (λ g. same_switch g.switch t) gs)) ≡ Some n →
         list_any (λ g. same_switch g.switch s) (g ∷ gs) ≡ true
@@ -93,6 +98,7 @@ number_stays askers s t n is = by (list_any (λ g. same_switch g.switch s) (pods
     new false other none = is
     new true same none =
         let any = found_any (pods_given askers) s t n (eqb-true s.0 t.0 same) is in absurd (cc (any, none))
+
     by : (b : Bool) → list_any (λ g. same_switch g.switch s) (pods_given askers) ≡ b → pod_given (cond b askers (s ∷ askers)) t ≡ Some n
     by true any = is
     by false none =

@@ -1,14 +1,12 @@
 -- Each step of the control plane keeps the numbers that were given.
-use Rattle.std.proofs.Common.{◌≡◌, ℕ, zero, suc, ◌+◌, ◌<◌, ◌==◌, ◌&&◌, ◌||◌, ◌%◌, not, nat_lt, eqb-true, Bool, true, false, true≢false, if◌then◌else◌, List, [], ◌∷◌, ◌++◌, length, get_or, Option, Some, None, is_none, is_some, Result, Ok, Err, Contains, slice_get, refl, sym, ◌∙◌, ap, subst, subst₂, arith, inl, inr, ◌⊎◌}
-use Rattle.std.specs.List.{AllByRecursion}
-use Rattle.std.proofs.lemmas.Bool.{and_parts, cases_eq, cond_both}
+use Rattle.std.proofs.Common.{◌≡◌, ℕ, ◌+◌, ◌==◌, ◌&&◌, ◌||◌, ◌%◌, not, nat_lt, eqb-true, Bool, true, false, true≢false, if◌then◌else◌, [], Option, Some, None, is_none, Result, Ok, Err, refl, sym, ◌∙◌, ap, subst, arith, inl, inr, ◌⊎◌}
+use Rattle.std.proofs.lemmas.Bool.{and_parts, cond_both}
 use Rattle.pl_frame.specs.declared.address.SwitchId.{SwitchId}
-use Rattle.pl_frame.specs.Ethernet.{payload_of}
 use Rattle.pl_wiring.specs.declared.label.Label.{Label}
 use Rattle.pl_wiring.specs.declared.label.Label.TheVariants.{Aggregation, Core, Edge}
 use Rattle.pl_wiring.specs.FatTree.{IsBelow}
 use Rattle.pl_wiring.specs.Labels.{label_of}
-use Rattle.pl_wiring.specs.Plan.{IsPlan, Plan}
+use Rattle.pl_wiring.specs.Plan.{IsPlan}
 use Rattle.pl_layouts.specs.declared.control.Control.{Control}
 use Rattle.pl_layouts.specs.declared.control.Control.TheVariants.{Ldm, Proposal, Vote}
 use Rattle.pl_layouts.specs.declared.control.ControlError.{ControlError}
@@ -16,36 +14,22 @@ use Rattle.pl_layouts.specs.declared.control.Ldm.{Ldm as Message}
 use Rattle.pl_layouts.specs.declared.control.Proposal.{Proposal as Proposed}
 use Rattle.pl_layouts.specs.declared.control.Vote.{Vote as Answer}
 use Rattle.pl_layouts.specs.declared.place.Place.{Place}
-use Rattle.pl_layouts.specs.Control.{control_in, is_control}
 use Rattle.pl_layouts.specs.Placement.{is_known}
 use Rattle.pl_layouts.specs.Votes.{counts, gives_way}
-use Rattle.pl_core.specs.declared.messages.ToSwitch.{ToSwitch}
-use Rattle.pl_core.specs.declared.messages.ToSwitch.TheVariants as say
-use Rattle.pl_core.specs.ManagerViews.{pod_given}
-use Rattle.pl_core.specs.PortRecords.{port_of}
-use Rattle.pl_core.specs.SwitchInputs.{SwitchInput}
-use Rattle.pl_core.specs.SwitchInputs.SwitchInput.{Comes, Says, Tick}
 use Rattle.pl_core.specs.SwitchFacts.{hold_at}
 use Rattle.pl_core.specs.SwitchViews.{SwitchView}
 use Rattle.pl_steps.specs.Steps.{SwitchStep, rests}
-use Rattle.pl_switch_rule.specs.Announcing.{ticks}
 use Rattle.pl_switch_rule.specs.Levels.{after_message, changes_to, hears_message, learns_level, learns_pod, notes_edge, share_a_pod, with_message, with_pod}
 use Rattle.pl_switch_rule.specs.Messages.{hears_pod, takes_pod}
-use Rattle.pl_switch_rule.specs.Positions.{after_vote, answers_proposal, counted, fixes_position, frees_others, half, hears_proposal, holds_for, is_free_for, marks, moves_on, notes_position, with_granted}
-use Rattle.pl_switch_rule.specs.SwitchRule.{Loose, control_comes, data_comes, hears_control, switch_step}
-use Rattle.pl_manager_rule.specs.ManagerRule.{manager_hears, manager_rule, view_after}
-use Rattle.pl_control_plane.specs.ControlPlanes.{AreJoined, ControlPlane, message_in, messages_of}
-use Rattle.pl_control_plane.specs.PlaneSteps.{IsActed, IsLeft, IsOrderTaken, IsReportTaken, IsTakenOut, LeftOver, ManagerTurns, PlaneStep, SwitchTurns, ordered}
-use Rattle.pl_control_plane.specs.PlaneSteps.PlaneStep.{Carried, Entered, Heard, Left, Managed, Ordered, Ticked}
+use Rattle.pl_switch_rule.specs.Positions.{after_vote, answers_proposal, counted, fixes_position, frees_others, half, hears_proposal, holds_for, is_free_for, marks, notes_position, with_granted}
+use Rattle.pl_switch_rule.specs.SwitchRule.{hears_control}
+use Rattle.pl_control_plane.specs.ControlPlanes.{AreJoined, ControlPlane}
 use Rattle.pl_control_plane.proofs.Joined.{joined_labels}
-use Rattle.pl_places.specs.Known.{HasPod, IsOwn, IsZeroOf, level_of, pod_of}
+use Rattle.pl_places.specs.Known.{IsZeroOf, level_of, pod_of}
 use Rattle.pl_places.specs.Places.{ArePlaced}
-use Rattle.pl_places.specs.Told.{IsGoodMessage}
 use Rattle.pl_votes.specs.Voting.{FixedAreApart}
 use Rattle.pl_votes.proofs.AggregationTurns.{is_asked, same_stance}
-use Rattle.pl_votes.proofs.Aside.{IsAside, Stance, aside_data, aside_manager, changes, stance}
-use Rattle.pl_pods.specs.Pods.{AreGiven, AreGivenBy, IsGiven, KnownAreGiven, id_of}
-use Rattle.pl_pods.proofs.Managing.{askers_then, due_acts, due_orders, given_then, order_then}
+use Rattle.pl_votes.proofs.Aside.{IsAside, Stance, changes}
 
 -- Labels.
 

@@ -10,3 +10,5 @@ pub mod Joined
 pub mod Silent
 pub mod SilentFrames
 pub mod SilentHosts
+pub mod Staying
+pub mod KeptInRuns

@@ -69,14 +69,14 @@ pub record IsReady (w : WorldView) : Type 0 where
   pub stands : AllByRecursion (IsAtEdge w.plan) w.stands
 
 -- nothing of the control plane changed, nor where hosts stand
-record IsSame (w new : WorldView) : Type 0 where
-  plan : new.plan ≡ w.plan
-  switches : new.switches ≡ w.switches
-  out : new.out ≡ w.out
-  reports : new.to_manager ≡ w.to_manager
-  orders : new.from_manager ≡ w.from_manager
-  manager : new.manager ≡ w.manager
-  stands : new.stands ≡ w.stands
+pub record IsSame (w new : WorldView) : Type 0 where
+  pub plan : new.plan ≡ w.plan
+  pub switches : new.switches ≡ w.switches
+  pub out : new.out ≡ w.out
+  pub reports : new.to_manager ≡ w.to_manager
+  pub orders : new.from_manager ≡ w.from_manager
+  pub manager : new.manager ≡ w.manager
+  pub stands : new.stands ≡ w.stands
 
 left_of_same : (w new : WorldView) → IsSame w new → IsLeft (control_plane w) (control_plane new)
 left_of_same w new same = rw (same.plan, same.switches, same.out, same.reports, same.orders, same.manager) (nothing_left (control_plane w))
@@ -86,14 +86,14 @@ acts_same w h [] = record { plan = refl; switches = refl; out = refl; reports = 
 acts_same w h (Send frame ∷ acts) = let r = acts_same (sent_by_host w h frame) h acts in
     record { plan = r.plan; switches = r.switches; out = r.out; reports = r.reports; orders = r.orders; manager = r.manager; stands = r.stands }
 
-turn_same : (rule : HostRule) (w : WorldView) (h : ℕ) (input : HostInput) (answer : HostAnswer) (new : WorldView) → HostTurn rule w h input answer new →
+pub turn_same : (rule : HostRule) (w : WorldView) (h : ℕ) (input : HostInput) (answer : HostAnswer) (new : WorldView) → HostTurn rule w h input answer new →
     IsSame w new
 turn_same rule w h input answer new turn =
     let r = acts_same (record w { hosts = set w.hosts h turn.after }) h turn.acts in
     subst (λ x. IsSame w x) (sym turn.changed)
     (record { plan = r.plan; switches = r.switches; out = r.out; reports = r.reports; orders = r.orders; manager = r.manager; stands = r.stands })
 
-plays_same : (rule : HostRule) (w : WorldView) (h : ℕ) (input : HostInput) (new : WorldView) → HostPlays rule w h input new → IsSame w new
+pub plays_same : (rule : HostRule) (w : WorldView) (h : ℕ) (input : HostInput) (new : WorldView) → HostPlays rule w h input new → IsSame w new
 plays_same rule w h input new plays = by plays.skip (turn_same rule (skip_noted w h plays.skip) h input _ new plays.turn)
   where
     by : (skip : Option Skip) → IsSame (skip_noted w h skip) new → IsSame w new
@@ -108,7 +108,7 @@ receives_same rule w h id frame new receives =
     by Kept r = record { plan = r.plan; switches = r.switches; out = r.out; reports = r.reports; orders = r.orders; manager = r.manager; stands = r.stands }
     by NotMember r = record { plan = r.plan; switches = r.switches; out = r.out; reports = r.reports; orders = r.orders; manager = r.manager; stands = r.stands }
 
-comes_out_same : (rule : HostRule) (w : WorldView) (s port : ℕ) (item : Item) (new : WorldView) → ComesOut rule w s port item new → IsSame w new
+pub comes_out_same : (rule : HostRule) (w : WorldView) (s port : ℕ) (item : Item) (new : WorldView) → ComesOut rule w s port item new → IsSame w new
 comes_out_same rule w s port (Control frame) new is =
     subst (λ x. IsSame w x) (sym is) (record { plan = refl; switches = refl; out = refl; reports = refl; orders = refl; manager = refl; stands = refl })
 comes_out_same rule w s port (Data id frame) new comes = by (receiver w s port frame) comes

@@ -2,6 +2,9 @@
 //! the queues; and what each step of the world is there.
 #![tactic(auto)]
 
-pub use plane_laws::{a_written_message_is_read, each_step_is_one_of_the_control_plane};
+pub use plane_laws::{
+    a_written_message_is_read, each_step_is_one_of_the_control_plane,
+    each_step_keeps_hosts_at_edges, hosts_stand_at_edges_in_every_run,
+};
 
 mod plane_laws;

@@ -1,11 +1,15 @@
-ghost use Rattle.std.specs.Prelude.{◌≡◌, None, Ok};
+ghost use Rattle.std.specs.Prelude.{◌≡◌, List, None, Ok};
 ghost use Rattle.pl_layouts.specs.declared.control.Control.{Control};
 ghost use Rattle.pl_layouts.specs.Control.{control_frame};
 ghost use Rattle.pl_ldp.specs.Writable.{IsWritable};
+ghost use Rattle.pl_wiring.specs.Plan.{Plan};
 ghost use Rattle.pl_switch_rule.specs.SwitchRule.{Loose};
 ghost use Rattle.pl_world.specs.declared.event.Event.{Event};
+ghost use Rattle.pl_world.specs.declared.limits.Limits.{Limits};
+ghost use Rattle.pl_world.specs.Booting.{CanBegin, booted};
 ghost use Rattle.pl_world.specs.Flying.{IsCounted};
 ghost use Rattle.pl_world.specs.Refusals.{refusal};
+ghost use Rattle.pl_world.specs.Runs.{Moment, WorldRun};
 ghost use Rattle.pl_world.specs.WorldRule.{WorldStep};
 ghost use Rattle.pl_world.specs.Worlds.{WorldView};
 ghost use Rattle.pl_control_plane.specs.ControlPlanes.{control_plane, message_in};
@@ -24,4 +28,16 @@ pub fn a_written_message_is_read()
 pub fn each_step_is_one_of_the_control_plane<M: ManagerCore, H: HostCore>()
     ensures { (old : WorldView) (event : Event) (new : WorldView) → IsCounted old → HostsAtEdges old → refusal old event ≡ None →
         WorldStep Loose M.rule H.rule old event new → PlaneStep Loose M.rule (control_plane old) (control_plane new) }
+{}
+
+/// Hosts stand at ports of edge switches that have no link, after each step.
+pub fn each_step_keeps_hosts_at_edges<M: ManagerCore, H: HostCore>()
+    ensures { (old : WorldView) (event : Event) (new : WorldView) → IsCounted old → HostsAtEdges old → refusal old event ≡ None →
+        WorldStep Loose M.rule H.rule old event new → HostsAtEdges new }
+{}
+
+/// So they do at each moment of each run from the beginning.
+pub fn hosts_stand_at_edges_in_every_run<M: ManagerCore, H: HostCore>()
+    ensures { (plan : Plan) (limits : Limits) (moments : List Moment) (new : WorldView) → CanBegin plan →
+        WorldRun Loose M.rule H.rule (booted plan limits) moments new → HostsAtEdges new }
 {}

@@ -108,7 +108,7 @@ link_came a v after p q says carries heard recorded is = record {
 }
 
 -- z knows the pod also later
-zero_later : (k : ℕ) (old new : ℕ → SwitchView) (s n z : ℕ) → IsTrueOf (old z).place (new z).place → IsZeroOf k old s n z → IsZeroOf k new s n z
+pub zero_later : (k : ℕ) (old new : ℕ → SwitchView) (s n z : ℕ) → IsTrueOf (old z).place (new z).place → IsZeroOf k old s n z → IsZeroOf k new s n z
 zero_later k old new s n z later is = record {
   pod = is.pod;
   i = is.i;
@@ -151,14 +151,17 @@ module _ (plan : Plan) (f g : ControlPlane) (s : ℕ) (after : SwitchView) (fail
         let here : after.place.pod ≡ Some n = ap (λ v. v.place.pod) (sym acted.here) ∙ subst (λ x. (g.view x).place.pod ≡ Some n) same known in
         elim (turn.pods n here) [
           | inl has ↦ subst (λ x. HasPod plan.k g.view x n) (sym same) (has.0, zero_later plan.k f.view g.view s n has.0 (later_at has.0) has.1)
-          | inr zero ↦ subst (λ x. HasPod plan.k g.view x n) (sym same) (s, record {
-            pod = zero.pod;
-            i = zero.i;
-            of_pod = ap pod_of zero.edge;
-            edge = zero.edge;
-            position = ap (λ v. v.place.position) acted.here ∙ zero.position;
-            number = ap (λ v. v.place.pod) acted.here ∙ here;
-          })
+          | inr zero ↦ subst (λ x. HasPod plan.k g.view x n) (sym same) (
+            s,
+            record {
+              pod = zero.pod;
+              i = zero.i;
+              of_pod = ap pod_of zero.edge;
+              edge = zero.edge;
+              position = ap (λ v. v.place.position) acted.here ∙ zero.position;
+              number = ap (λ v. v.place.pod) acted.here ∙ here;
+            },
+          )
         ]
     | inr differ ↦
         let has = old.pods t n (ap (λ v. v.place.pod) (sym (acted.others t differ)) ∙ known) in

@@ -2,3 +2,12 @@ pub mod Later
 pub mod Turns
 pub mod Ticking
 pub mod Voting
+pub mod Neighbours
+pub mod Given
+pub mod Hearing
+pub mod Entering
+pub mod Obeying
+pub mod Keeping
+pub mod Beginning
+pub mod Steps
+pub mod FewPods

@@ -127,12 +127,14 @@ module _ (plan : Plan) (f : ControlPlane) (s : ℕ) (is : IsPlan plan) (old : Ar
       AllByRecursion (IsGoodMessage new.id new.place (has_heard new p)) (messages_of (message_in (announcement new p)))
   announced new t q p good joined =
       let writable = ldm_writable new.id new.place (direction_of new p) (id_at new p) good.sound.named (own_told plan.k (label_of plan.k s) new.place is.arity.most good.own)
-          (direction_low new p) (λ x e. echo_id new t q p x good joined e) in
-      rw (written_is_read (control.Ldm new.id (record { place = new.place; direction = direction_of new p; echo = id_at new p })) writable)
-      (record {
-        writable = writable;
-        of_sender = record { named = refl; so = true_of_itself new.place; evidence = λ other e. heard_some (port_of new p).heard other e };
-      }, tt)
+      (direction_low new p) (λ x e. echo_id new t q p x good joined e) in
+      rw (written_is_read (control.Ldm new.id (record { place = new.place; direction = direction_of new p; echo = id_at new p })) writable) (
+        record {
+          writable = writable;
+          of_sender = record { named = refl; so = true_of_itself new.place; evidence = λ other e. heard_some (port_of new p).heard other e };
+        },
+        tt,
+      )
 
   proposed : (new : SwitchView) (p : ℕ) → new.k ≡ plan.k → IsSound new → AllByRecursion (IsGoodMessage new.id new.place (has_heard new p)) (messages_of (message_in (proposal new)))
   proposed new p same sound =
@@ -181,8 +183,11 @@ module _ (plan : Plan) (f : ControlPlane) (s : ℕ) (is : IsPlan plan) (old : Ar
           AllByRecursion (IsGoodMessage (with_aged_ports (f.view s)).id (with_aged_ports (f.view s)).place (has_heard (with_aged_ports (f.view s)) p))
           (sends p (ticks (f.view s)).acts)
       sent_at t q p joined new good =
-          rw (flat_map_append (sent_by p) told (first ++ second), mute_sends_none p told (still_mute told (changes_told_still (f.view s) (with_aged_ports (f.view s)))),
-          flat_map_append (sent_by p) first second)
+          rw (
+            flat_map_append (sent_by p) told (first ++ second),
+            mute_sends_none p told (still_mute told (changes_told_still (f.view s) (with_aged_ports (f.view s)))),
+            flat_map_append (sent_by p) first second,
+          )
           (all_append _ (sends p first) (sends p second)
           (sends_map _ (announcement (with_aged_ports (f.view s))) p _ (announced (with_aged_ports (f.view s)) t q p good joined))
           (sends_map _ (λ port. proposal (with_aged_ports (f.view s))) p _ (proposed (with_aged_ports (f.view s)) p size good.sound)))
@@ -190,6 +195,9 @@ module _ (plan : Plan) (f : ControlPlane) (s : ℕ) (is : IsPlan plan) (old : Ar
       no_pass : (p : ℕ) → passes p (ticks (f.view s)).acts ≡ false
       no_pass p =
           any_append (is_pass p) told (first ++ second)
-          ∙ rw (still_passes p told (changes_told_still (f.view s) (with_aged_ports (f.view s))), any_append (is_pass p) first second,
-          passes_map (announcement (with_aged_ports (f.view s))) p (ports_where (with_aged_ports (f.view s)) (announces_at (with_aged_ports (f.view s)))),
-          passes_map (λ port. proposal (with_aged_ports (f.view s))) p (ports_where (with_aged_ports (f.view s)) (proposes_at (with_aged_ports (f.view s))))) refl
+          ∙ rw (
+            still_passes p told (changes_told_still (f.view s) (with_aged_ports (f.view s))),
+            any_append (is_pass p) first second,
+            passes_map (announcement (with_aged_ports (f.view s))) p (ports_where (with_aged_ports (f.view s)) (announces_at (with_aged_ports (f.view s)))),
+            passes_map (λ port. proposal (with_aged_ports (f.view s))) p (ports_where (with_aged_ports (f.view s)) (proposes_at (with_aged_ports (f.view s)))),
+          ) refl

@@ -1,3 +1,4 @@
 pub mod Told
 pub mod Known
 pub mod Places
+pub mod PodNumbers

@@ -1,0 +1,159 @@
+-- Which level and which pod a location discovery message gives.
+use Rattle.std.proofs.Common.{◌≡◌, ℕ, zero, suc, ◌+◌, ◌/◌, ◌%◌, ◌*◌, ◌<◌, ◌≤◌, ◌⊎◌, ◌==◌, ◌&&◌, ◌||◌, not, nat_lt, Bool, true, false, if◌then◌else◌, List, [], ◌∷◌, ◌++◌, length, map, Option, Some, None, Ok, Err, Result, is_some, is_none, get_or, set, refl, sym, ap, ◌∙◌, subst, arith, inl, inr, append-nil, mod-lt}
+use Rattle.std.specs.List.{AllByRecursion, filter_map, list_any}
+use Rattle.std.proofs.Common.{get_or-set_same, get_or-set_other}
+use Rattle.std.proofs.lemmas.Bool.{and_from, and_parts, cases_eq, cases_lt, eq-eqb, eqb-true, eqb-false, ne_eqb, or_left, or_right}
+use Rattle.std.proofs.lemmas.Bool.Decides.{nat_tests}
+use Rattle.std.proofs.lemmas.List.{get_or_past}
+use Rattle.std.proofs.lemmas.Option.{same_Some}
+use Rattle.pl_frame.specs.declared.address.SwitchId.{SwitchId}
+use Rattle.pl_layouts.specs.declared.control.Control.{Control}
+use Rattle.pl_layouts.specs.declared.control.Control.TheVariants as control
+use Rattle.pl_layouts.specs.declared.control.ControlError.{ControlError}
+use Rattle.pl_layouts.specs.declared.control.Ldm.{Ldm}
+use Rattle.pl_layouts.specs.declared.control.Proposal.{Proposal}
+use Rattle.pl_layouts.specs.declared.control.Vote.{Vote}
+use Rattle.pl_layouts.specs.declared.place.Place.{Place}
+use Rattle.pl_layouts.specs.Control.{control_frame}
+use Rattle.pl_layouts.specs.Placement.{is_known}
+use Rattle.pl_layouts.specs.Votes.{counts, gives_way}
+use Rattle.pl_ldp.specs.Writable.{IsId, IsWritable}
+use Rattle.pl_wiring.specs.declared.label.Label.{Label}
+use Rattle.pl_wiring.specs.declared.label.Label.TheVariants.{Aggregation, Core, Edge}
+use Rattle.pl_wiring.specs.declared.link.Peer.{Peer}
+use Rattle.pl_wiring.specs.declared.link.Peer.TheVariants.{HostPort, Switch}
+use Rattle.pl_wiring.specs.FatTree.{IsBelow}
+use Rattle.pl_wiring.specs.Labels.{label_of, switch_count}
+use Rattle.pl_wiring.specs.Peers.{peer_of}
+use Rattle.pl_wiring.specs.Plan.{IsPlan, Plan}
+use Rattle.pl_core.specs.declared.acts.Act.{Act}
+use Rattle.pl_core.specs.declared.acts.Act.TheVariants as act
+use Rattle.pl_core.specs.declared.neighbour.Neighbour.{Neighbour}
+use Rattle.pl_core.specs.declared.neighbour.PortRecord.{PortRecord}
+use Rattle.pl_core.specs.declared.switch_records.Hold.{Hold}
+use Rattle.pl_core.specs.PortRecords.{heard_place, new_port, place_at, port_of}
+use Rattle.pl_core.specs.SwitchFacts.{hold_at}
+use Rattle.pl_core.specs.SwitchViews.{SwitchView}
+use Rattle.pl_steps.specs.Steps.{SwitchStep, does, rests}
+use Rattle.pl_switch_rule.specs.Levels.{after_message, changes_to, hears_message, is_of_other_pod, learns_level, learns_pod, level_after, notes_edge, other_pod, pod_after, share_a_pod, with_message}
+use Rattle.pl_switch_rule.specs.Positions.{after_vote, answers_proposal, counted, fixes_position, freed_but, frees_others, half, hears_proposal, holds_for, is_free_for, is_held_for, is_majority, kept_or_new, marked_for, marks, moves_on, notes_position, vote_on, with_granted}
+use Rattle.pl_switch_rule.specs.SwitchRule.{hears_control}
+use Rattle.pl_control_plane.specs.ControlPlanes.{AreJoined, ControlPlane, is_pass, message_in, messages_of, passes, sends, sent_by}
+use Rattle.pl_control_plane.specs.Homes.{HasHomes}
+use Rattle.pl_control_plane.proofs.Joined.{joined_labels, joined_there, joined_turned}
+use Rattle.pl_control_plane.proofs.Reading.{grant_writable, refusal_writable, written_is_read}
+use Rattle.pl_control_plane.proofs.Silent.{changes_to_silent, still_does}
+use Rattle.pl_places.specs.Known.{HasPod, IsAble, IsFull, IsOwn, IsSound, IsZeroOf, level_of, pod_of, told_at}
+use Rattle.pl_places.specs.Places.{ArePlaced, PositionsDiffer}
+use Rattle.pl_places.specs.Told.{IsGoodLink, IsGoodMessage, IsGoodRecord, IsOf, IsTold, IsTrueOf, has_heard}
+use Rattle.pl_places.proofs.Later.{IsGoodTurn, IsZero, all_weaker, true_of_itself}
+use Rattle.pl_places.proofs.Turns.{IsGoodView, SamePorts, full_same, homes_same, new_view, same_ports, same_view, silent_turn, view_itself}
+use Rattle.pl_places.proofs.Voting.{known_is, none_is}
+
+-- the levels that a message gives
+pub data GivesLevel (old told : Place) (ports : List PortRecord) : Option ℕ → Type 0 where
+  Stays : {level : Option ℕ} → (n : ℕ) → old.level ≡ Some n → level ≡ Some n → GivesLevel old told ports level
+  FromEdge : {level : Option ℕ} → old.level ≡ None → told.level ≡ Some 0 → level ≡ Some 1 → GivesLevel old told ports level
+  FromPods : {level : Option ℕ} → old.level ≡ None → told.level ≡ Some 1 → list_any (is_of_other_pod told.pod) ports ≡ true → level ≡ Some 2 → GivesLevel old told ports level
+  Unknown : {level : Option ℕ} → old.level ≡ None → (told.level ≡ Some 0 → ⊥) → (told.level ≡ Some 1 → list_any (is_of_other_pod told.pod) ports ≡ true → ⊥) → level ≡ None →
+      GivesLevel old told ports level
+
+some_is : (o : Option ℕ) → is_some o ≡ true → (n : ℕ) × (o ≡ Some n)
+some_is None h = absurd (cc)
+some_is (Some n) h = (n, refl)
+
+not_some : (o : Option ℕ) → is_some o ≡ false → o ≡ None
+not_some None h = refl
+not_some (Some n) h = absurd (cc)
+
+pub is_known_of : (o : Option ℕ) (n : ℕ) → o ≡ Some n → is_known o n ≡ true
+is_known_of o n e = rw e (eq-eqb n n refl)
+
+pub level_given : (w : SwitchView) (told : Place) → GivesLevel w.place told w.ports (level_after w told)
+level_given w told = by (is_some w.place.level) (is_known told.level 0) (is_known told.level 1 && list_any (is_of_other_pod told.pod) w.ports) refl refl refl
+  where
+    by : (a b c : Bool) → is_some w.place.level ≡ a → is_known told.level 0 ≡ b → (is_known told.level 1 && list_any (is_of_other_pod told.pod) w.ports) ≡ c →
+        GivesLevel w.place told w.ports (if a then w.place.level else if b then Some 1 else if c then Some 2 else None)
+    by true b c ea eb ec = let some = some_is w.place.level ea in Stays some.0 some.1 some.1
+    by false true c ea eb ec = FromEdge (not_some w.place.level ea) (known_is told.level 0 eb) refl
+    by false false true ea eb ec =
+        let both = and_parts (is_known told.level 1) (list_any (is_of_other_pod told.pod) w.ports) ec in
+        FromPods (not_some w.place.level ea) (known_is told.level 1 both.0) both.1 refl
+    by false false false ea eb ec =
+        Unknown (not_some w.place.level ea) (λ e. absurd (let t = is_known_of told.level 0 e in cc))
+        (λ e any. absurd (let t = and_from (is_known told.level 1) (list_any (is_of_other_pod told.pod) w.ports) (is_known_of told.level 1 e) any in cc)) refl
+
+-- and the pods
+pub data GivesPod (place told : Place) : Option ℕ → Type 0 where
+  KeptPod : {pod : Option ℕ} → pod ≡ place.pod → (place.pod ≡ None → share_a_pod place.level told.level ≡ true → ⊥) → GivesPod place told pod
+  ToldPod : {pod : Option ℕ} → place.pod ≡ None → share_a_pod place.level told.level ≡ true → pod ≡ told.pod → GivesPod place told pod
+
+pub pod_given : (place told : Place) → GivesPod place told (pod_after place told)
+pod_given place told = by (is_none place.pod && share_a_pod place.level told.level) refl
+  where
+    none_of : (o : Option ℕ) → o ≡ None → is_none o ≡ true
+    none_of None e = refl
+    none_of (Some n) e = absurd (cc)
+
+    by : (b : Bool) → (is_none place.pod && share_a_pod place.level told.level) ≡ b → GivesPod place told (if b then told.pod else place.pod)
+    by true e = let both = and_parts (is_none place.pod) (share_a_pod place.level told.level) e in ToldPod (none_is place.pod both.0) both.1 refl
+    by false e = KeptPod refl (λ none share. absurd (let t = and_from (is_none place.pod) (share_a_pod place.level told.level) (none_of place.pod none) share in cc))
+
+-- two levels within a pod
+pub share_levels : (a b : Option ℕ) → share_a_pod a b ≡ true → ((a ≡ Some 0) × (b ≡ Some 1)) ⊎ ((a ≡ Some 1) × (b ≡ Some 0))
+share_levels a b h = by (is_known a 0 && is_known b 1) (is_known a 1 && is_known b 0) refl refl h
+  where
+    by : (x y : Bool) → (is_known a 0 && is_known b 1) ≡ x → (is_known a 1 && is_known b 0) ≡ y → (x || y) ≡ true →
+        ((a ≡ Some 0) × (b ≡ Some 1)) ⊎ ((a ≡ Some 1) × (b ≡ Some 0))
+    by true y ex ey h = let both = and_parts (is_known a 0) (is_known b 1) ex in inl (known_is a 0 both.0, known_is b 1 both.1)
+    by false true ex ey h = let both = and_parts (is_known a 1) (is_known b 0) ey in inr (known_is a 1 both.0, known_is b 0 both.1)
+    by false false ex ey h = absurd (cc)
+
+pub shares_down : (a b : Option ℕ) → a ≡ Some 0 → b ≡ Some 1 → share_a_pod a b ≡ true
+shares_down a b e f = rw (e, f) refl
+
+pub shares_up : (a b : Option ℕ) → a ≡ Some 1 → b ≡ Some 0 → share_a_pod a b ≡ true
+shares_up a b e f = rw (e, f) refl
+
+-- a record of another pod is found
+pub other_is : (a b : Option ℕ) (x : ℕ) → other_pod a b ≡ true → a ≡ Some x → (y : ℕ) × (b ≡ Some y) × (x ≡ y → ⊥)
+other_is a None x h e = absurd (by a h)
+  where
+    by : (a : Option ℕ) → other_pod a None ≡ true → ⊥
+    by None h = cc
+    by (Some n) h = cc
+other_is a (Some y) x h e = (y, refl, λ same. apart a h e same)
+  where
+    apart : (a : Option ℕ) → other_pod a (Some y) ≡ true → a ≡ Some x → x ≡ y → ⊥
+    apart None h e same = cc
+    apart (Some n) h e same =
+        let n_is : n ≡ y = same_Some n x e ∙ same in
+        let t = eq-eqb n y n_is in
+        let u : not (n == y) ≡ true = h in absurd (by (n == y) t u)
+      where
+        by : (b : Bool) → b ≡ true → not b ≡ true → ⊥
+        by true e h = cc
+        by false e h = cc
+
+pub other_some : (a b : Option ℕ) → other_pod a b ≡ true → (x : ℕ) × (a ≡ Some x)
+other_some None b h = absurd (cc)
+other_some (Some x) b h = (x, refl)
+
+-- the port with such a record
+pub found_other : (pod : Option ℕ) (ports : List PortRecord) → list_any (is_of_other_pod pod) ports ≡ true →
+    (p : ℕ) × (is_of_other_pod pod (get_or ports p new_port) ≡ true)
+found_other pod [] h = absurd (cc)
+found_other pod (r ∷ ports) h = by (is_of_other_pod pod r) refl (λ e. found_other pod ports e) h
+  where
+    by : (b : Bool) → is_of_other_pod pod r ≡ b → (list_any (is_of_other_pod pod) ports ≡ true → (p : ℕ) × (is_of_other_pod pod (get_or ports p new_port) ≡ true)) →
+        (b || list_any (is_of_other_pod pod) ports) ≡ true → (p : ℕ) × (is_of_other_pod pod (get_or (r ∷ ports) p new_port) ≡ true)
+    by true e rest h = (zero, e)
+    by false e rest h = let found = rest h in (suc found.0, found.1)
+
+pub has_other : (pod : Option ℕ) (ports : List PortRecord) (p : ℕ) → is_of_other_pod pod (get_or ports p new_port) ≡ true → list_any (is_of_other_pod pod) ports ≡ true
+has_other pod [] p h = absurd (cc)
+has_other pod (r ∷ ports) zero h = or_left (is_of_other_pod pod r) (list_any (is_of_other_pod pod) ports) h
+has_other pod (r ∷ ports) (suc p) h = or_right (is_of_other_pod pod r) (list_any (is_of_other_pod pod) ports) (has_other pod ports p h)
+
+pub other_from : (x y : ℕ) → (x ≡ y → ⊥) → other_pod (Some x) (Some y) ≡ true
+other_from x y differ = rw (ne_eqb x y differ) refl

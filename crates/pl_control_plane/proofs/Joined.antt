@@ -1,13 +1,9 @@
 -- What a link says of the switches at its ends.
-use Rattle.std.proofs.Common.{◌≡◌, ℕ, ◌<◌, ◌⊎◌, List, refl, sym, ap, ◌∙◌, subst, arith, inl, inr, Contains}
-use Rattle.pl_wiring.specs.declared.label.Label.{Label}
-use Rattle.pl_wiring.specs.declared.label.SwitchNo.{SwitchNo}
+use Rattle.std.proofs.Common.{◌≡◌, ℕ, ◌<◌, ◌⊎◌, sym, ap, ◌∙◌, arith, inl, inr, Contains}
 use Rattle.pl_wiring.specs.declared.link.Link.{Link}
-use Rattle.pl_wiring.specs.declared.link.Peer.{Peer}
-use Rattle.pl_wiring.specs.declared.link.Peer.TheVariants.{HostPort, Switch}
 use Rattle.pl_wiring.specs.FatTree.{IsBelow, IsTreeLink}
 use Rattle.pl_wiring.specs.Labels.{label_of, switch_count}
-use Rattle.pl_wiring.specs.Peers.{HasEnds, IsPeer, peer_of}
+use Rattle.pl_wiring.specs.Peers.{HasEnds, peer_of}
 use Rattle.pl_wiring.specs.Plan.{IsPlan, Plan}
 use Rattle.pl_wiring.proofs.Ends.{IsPeer-symmetric, at_contained, link_rises}
 use Rattle.pl_wiring.proofs.Entered.{tree_ends}

@@ -1,5 +1,5 @@
 -- What each step keeps, in worlds that count their frames, each run keeps.
-use Rattle.std.proofs.Common.{◌≡◌, ℕ, List, [], ◌∷◌, None, sym, subst}
+use Rattle.std.proofs.Common.{◌≡◌, List, [], ◌∷◌, None, sym, subst}
 use Rattle.pl_core.specs.Accounting.{AccountsForFrames}
 use Rattle.pl_core.specs.HostDuties.{HostsSendData}
 use Rattle.pl_core.specs.HostInputs.{HostRule}
@@ -12,7 +12,7 @@ use Rattle.pl_world.specs.declared.limits.Limits.{Limits}
 use Rattle.pl_world.specs.Changes.{noted}
 use Rattle.pl_world.specs.Flying.{IsCounted}
 use Rattle.pl_world.specs.Refusals.{refusal}
-use Rattle.pl_world.specs.Runs.{Befalls, Moment, WorldRun}
+use Rattle.pl_world.specs.Runs.{Moment, WorldRun}
 use Rattle.pl_world.specs.Runs.Moment.{Mark, Step}
 use Rattle.pl_world.specs.WorldRule.{WorldStep}
 use Rattle.pl_world.specs.Worlds.{WorldView}

@@ -12,3 +12,4 @@ pub mod SilentFrames
 pub mod SilentHosts
 pub mod Staying
 pub mod KeptInRuns
+pub mod Naming

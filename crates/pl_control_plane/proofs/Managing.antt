@@ -1,12 +1,11 @@
 -- A turn of the manager in the world is one in the control plane.
-use Rattle.std.proofs.Common.{◌≡◌, ℕ, ◌<◌, ◌==◌, Bool, true, false, if◌then◌else◌, List, [], ◌∷◌, ◌++◌, length, Option, Some, None, get_or, refl, sym, ap, ◌∙◌, subst, arith, append_assoc, append-nil, ap₂, inl, inr, fold}
-use Rattle.std.specs.List.{flat_map, position}
+use Rattle.std.proofs.Common.{◌≡◌, ℕ, ◌<◌, Bool, if◌then◌else◌, List, [], ◌∷◌, ◌++◌, length, Option, Some, None, refl, sym, ap, ◌∙◌, subst, append_assoc, append-nil, ap₂, inl, inr, fold}
+use Rattle.std.specs.List.{position}
 use Rattle.std.proofs.Math.ListN.{length-set}
 use Rattle.std.proofs.lemmas.Bool.{cases_eq, eq-eqb, ne_eqb}
 use Rattle.std.proofs.lemmas.List.Quantifiers.{position-Some}
 use Rattle.pl_frame.specs.declared.address.SwitchId.{SwitchId}
 use Rattle.pl_layouts.specs.Equality.{same_switch}
-use Rattle.pl_wiring.specs.Plan.{Plan}
 use Rattle.pl_core.specs.declared.acts.ManagerAct.{ManagerAct}
 use Rattle.pl_core.specs.declared.acts.ManagerAct.TheVariants.{Number, Say}
 use Rattle.pl_core.specs.declared.messages.ToManager.{ToManager}

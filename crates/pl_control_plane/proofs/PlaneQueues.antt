@@ -1,14 +1,11 @@
 -- What a write at one queue does to what is said and carried.
-use Rattle.std.proofs.Common.{◌≡◌, ℕ, ◌+◌, ◌*◌, ◌<◌, ◌≤◌, ◌==◌, ◌||◌, ◌⊎◌, Bool, true, false, if◌then◌else◌, List, [], ◌∷◌, ◌++◌, length, get_or, set, refl, sym, ap, ◌∙◌, arith, append_assoc, append-nil, inl, inr, get_or-set_same, get_or-set_other}
+use Rattle.std.proofs.Common.{◌≡◌, ℕ, ◌+◌, ◌*◌, ◌<◌, ◌||◌, ◌⊎◌, Bool, true, false, List, [], ◌∷◌, ◌++◌, length, get_or, set, refl, sym, ap, ◌∙◌, append_assoc, inl, inr, get_or-set_same, get_or-set_other}
 use Rattle.std.specs.List.{flat_map, list_any}
-use Rattle.std.proofs.Math.ListN.{length-set}
-use Rattle.std.proofs.lemmas.Bool.{cases_eq, cases_lt}
-use Rattle.pl_layouts.specs.declared.control.Control.{Control}
-use Rattle.pl_wiring.specs.Index.{entry_at, port_index}
-use Rattle.pl_wiring.proofs.Entered.{entry_at-in_range, entry_at-out_of_range, entry_at-set_other, entry_at-set_same, port_index-below, same_port}
+use Rattle.pl_wiring.specs.Index.{port_index}
+use Rattle.pl_wiring.proofs.Entered.{entry_at-in_range, entry_at-set_other, entry_at-set_same, port_index-below}
 use Rattle.pl_queues.specs.Queues.{items_at, put_at}
 use Rattle.pl_world.specs.declared.item.Item.{Item}
-use Rattle.pl_control_plane.specs.ControlPlanes.{has_data, is_data_item, queue_out, said, said_by}
+use Rattle.pl_control_plane.specs.ControlPlanes.{queue_out, said, said_by}
 
 module _ {A B : Type 0} where
   pub flat_map_append : (f : A → List B) (xs ys : List A) → flat_map f (xs ++ ys) ≡ flat_map f xs ++ flat_map f ys

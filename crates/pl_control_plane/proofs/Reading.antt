@@ -1,16 +1,15 @@
 -- What is written into a control frame is read from it, and what a switch tells can be written.
-use Rattle.std.proofs.Common.{◌≡◌, ℕ, ◌<◌, ◌≤◌, ◌==◌, ◌&&◌, ◌||◌, ◌⊎◌, ◌^◌, not, nat_lt, Bool, true, false, List, [], ◌∷◌, ◌++◌, length, drop, Option, Some, None, Result, Ok, IfSome, IsTrue, is_none, refl, sym, ap, ◌∙◌, arith, append-nil, inl, inr}
-use Rattle.std.proofs.lemmas.Bool.{and_from, or_left, or_right, ltb-true, lt-ltb, ne_eqb, not_from_false}
+use Rattle.std.proofs.Common.{◌≡◌, ℕ, ◌<◌, ◌≤◌, ◌==◌, ◌&&◌, ◌||◌, ◌⊎◌, not, nat_lt, Bool, true, false, [], Option, Some, None, Ok, IfSome, is_none, refl, sym, ap, ◌∙◌, arith, append-nil, inl, inr}
+use Rattle.std.proofs.lemmas.Bool.{and_from, lt-ltb, ne_eqb, not_from_false}
 use Rattle.std.proofs.lemmas.Bool.Decides.{nat_tests}
 use Rattle.pl_frame.specs.declared.address.SwitchId.{SwitchId}
 use Rattle.pl_layouts.specs.declared.control.Control.{Control}
 use Rattle.pl_layouts.specs.declared.control.Control.TheVariants as control
 use Rattle.pl_layouts.specs.declared.control.Ldm.{Ldm}
 use Rattle.pl_layouts.specs.declared.control.Proposal.{Proposal}
-use Rattle.pl_layouts.specs.declared.control.Vote.{Vote}
 use Rattle.pl_layouts.specs.declared.place.Place.{Place}
-use Rattle.pl_layouts.specs.Control.{control_bytes, control_frame, control_in, is_level, is_sound, is_sound_ldm}
-use Rattle.pl_ldp.specs.Writable.{FitsLdm, IsId, IsWritable}
+use Rattle.pl_layouts.specs.Control.{control_bytes, control_frame, control_in, is_level, is_sound_ldm}
+use Rattle.pl_ldp.specs.Writable.{IsId, IsWritable}
 use Rattle.pl_ldp.proofs.Written.{control_in-control_bytes}
 use Rattle.pl_control_plane.specs.ControlPlanes.{message_in}
 use Rattle.pl_control_plane.specs.Discovery.{CanBeTold, CanPropose}

@@ -1,45 +1,25 @@
 -- Parts of a switch's step that discovery does not see: what it looks at stays, no control frame is sent, and frames leave by usable ports or to
 -- hosts.
-use Rattle.std.proofs.Common.{◌≡◌, ℕ, zero, suc, ◌+◌, ◌-◌, ◌<◌, ◌==◌, ◌&&◌, ◌||◌, ◌⊎◌, not, Bool, true, false, if◌then◌else◌, cond, List, [], ◌∷◌, ◌++◌, length, map, Option, Some, None, get_or, set, slice_get, slice_set, refl, sym, ap, ◌∙◌, subst, arith, inl, inr, fold, Ordering, filter}
-use Rattle.std.specs.List.{AllByRecursion, IsAmong, flat_map, list_any}
-use Rattle.std.specs.BTreeSet.{insert_key}
-use Rattle.std.specs.Ordering.{match_ordering}
-use Rattle.std.proofs.lemmas.Bool.{and_parts, cases_eq, eqb-true}
-use Rattle.std.proofs.lemmas.Bool.Decides.{nat_tests}
-use Rattle.std.proofs.lemmas.Option.{same_Some}
-use Rattle.std.proofs.Common.{get_or-set_same, get_or-set_other}
-use Rattle.std.proofs.lemmas.List.{get_or_default}
+use Rattle.std.proofs.Common.{◌≡◌, ℕ, zero, suc, ◌+◌, ◌-◌, ◌==◌, ◌&&◌, ◌||◌, ◌⊎◌, not, Bool, true, false, if◌then◌else◌, List, [], ◌∷◌, ◌++◌, length, Option, Some, None, get_or, set, slice_set, refl, ◌∙◌, subst, inl, inr}
+use Rattle.std.specs.List.{AllByRecursion, flat_map}
+use Rattle.std.proofs.lemmas.Bool.{cases_eq, eqb-true}
+use Rattle.std.proofs.Common.{get_or-set_other}
 use Rattle.pl_frame.specs.declared.address.Ip4.{Ip4}
 use Rattle.pl_frame.specs.declared.address.Mac.{Mac}
-use Rattle.pl_frame.specs.Ethernet.{destination_of, source_of, with_destination}
-use Rattle.pl_arp.specs.declared.packet.Arp.{Arp}
+use Rattle.pl_frame.specs.Ethernet.{source_of}
 use Rattle.pl_pmac.specs.declared.pmac.Pmac.{Pmac}
-use Rattle.pl_pmac.specs.Pmac.{mac_of, pmac_of}
-use Rattle.pl_layouts.specs.declared.control.Control.{Control}
-use Rattle.pl_layouts.specs.declared.membership.Change.{Change}
 use Rattle.pl_layouts.specs.declared.place.Place.{Place}
-use Rattle.pl_layouts.specs.Frames.{arriving, is_arp, packet_in}
-use Rattle.pl_layouts.specs.Memberships.{changes_in, flood, group_of, is_group, membership_in}
 use Rattle.pl_layouts.specs.Placement.{is_known, is_placed, same_place}
-use Rattle.pl_journal.specs.declared.cause.Cause.{Cause}
-use Rattle.pl_journal.specs.declared.cause.Cause.TheVariants.{BadArp, NoAddress, NoNextHop, NotPlaced, Spent}
 use Rattle.pl_journal.specs.Places.{are_alike}
 use Rattle.pl_core.specs.declared.acts.Act.{Act}
 use Rattle.pl_core.specs.declared.acts.Act.TheVariants as act
-use Rattle.pl_core.specs.declared.messages.ToManager.TheVariants.{Learned, Members}
-use Rattle.pl_core.specs.declared.messages.TreePart.{TreePart}
+use Rattle.pl_core.specs.declared.messages.ToManager.TheVariants.{Learned}
 use Rattle.pl_core.specs.declared.switch_records.Grant.{Grant}
-use Rattle.pl_core.specs.declared.switch_records.Member.{Member}
 use Rattle.pl_core.specs.declared.switch_records.Source.{Source}
-use Rattle.pl_core.specs.declared.trap.Trap.{Trap}
-use Rattle.pl_core.specs.PortRecords.{id_at, is_usable, is_usable_to, place_at, port_of, ports_of_switch, ports_where}
+use Rattle.pl_core.specs.PortRecords.{id_at, is_usable, port_of, ports_of_switch}
 use Rattle.pl_core.specs.SwitchViews.{SwitchView}
 use Rattle.pl_steps.specs.Steps.{SwitchStep, does, rests, ◌▹◌}
-use Rattle.pl_switch_rule.specs.declared.came.Came.{Came}
-use Rattle.pl_switch_rule.specs.declared.came.Came.TheVariants.{FromAbove, FromBelow, FromHost}
-use Rattle.pl_switch_rule.specs.declared.came.Way.{Way}
-use Rattle.pl_switch_rule.specs.declared.came.Way.TheVariants.{Down, Nowhere, ToHosts, Up}
-use Rattle.pl_switch_rule.specs.Granting.{address_at_port, forgets, grant_number, granted, grants_at, grants_next, grants_or_learns, grants_remembered, grants_source, in_use, is_local, is_port_spent, learns_ip, learns_source, new_grant, or_else, remembered_at, remembered_ip, remembers, same_ip, sender_ip, with_grant, with_grants}
+use Rattle.pl_switch_rule.specs.Granting.{address_at_port, forgets, grant_number, granted, grants_at, grants_next, grants_or_learns, grants_remembered, grants_source, in_use, is_port_spent, learns_ip, learns_source, new_grant, or_else, remembered_at, remembered_ip, remembers, same_ip, sender_ip, with_grant, with_grants}
 use Rattle.pl_switch_rule.specs.Levels.{changes_to, has_become_placed, settles_in}
 use Rattle.pl_switch_rule.specs.Telling.{changes_told, link_to, link_told, place_told, pod_wanted}
 use Rattle.pl_control_plane.specs.ControlPlanes.{passes, sends}

@@ -1,48 +1,36 @@
 -- What a switch does with data frames is not seen by discovery.
-use Rattle.std.proofs.Common.{◌≡◌, ℕ, zero, suc, ◌+◌, ◌-◌, ◌<◌, ◌==◌, ◌&&◌, ◌||◌, ◌⊎◌, not, Bool, true, false, if◌then◌else◌, cond, List, [], ◌∷◌, ◌++◌, length, map, Option, Some, None, is_none, is_some, get_or, set, slice_get, slice_set, refl, sym, ap, ◌∙◌, subst, arith, inl, inr, fold, Ordering, Less, Equal, Greater, filter}
-use Rattle.std.specs.List.{AllByRecursion, IsAmong, flat_map, list_any}
-use Rattle.std.specs.BTreeSet.{insert_key}
-use Rattle.std.specs.Ordering.{match_ordering}
+use Rattle.std.proofs.Common.{◌≡◌, ℕ, zero, suc, ◌-◌, ◌<◌, ◌==◌, ◌&&◌, ◌||◌, ◌⊎◌, not, Bool, true, false, if◌then◌else◌, cond, List, [], ◌∷◌, length, map, Option, Some, None, is_none, get_or, slice_get, refl, sym, ◌∙◌, subst, arith, inl, inr, filter}
+use Rattle.std.specs.List.{AllByRecursion, list_any}
 use Rattle.std.proofs.lemmas.Bool.{and_parts, eqb-true}
-use Rattle.std.proofs.lemmas.Bool.Decides.{nat_tests}
-use Rattle.std.proofs.lemmas.List.{get_or_default}
 use Rattle.std.proofs.lemmas.Option.{same_Some}
 use Rattle.pl_frame.specs.declared.address.Ip4.{Ip4}
-use Rattle.pl_frame.specs.declared.address.Mac.{Mac}
 use Rattle.pl_frame.specs.Ethernet.{destination_of, source_of, with_destination}
-use Rattle.pl_arp.specs.declared.packet.Arp.{Arp}
 use Rattle.pl_pmac.specs.declared.pmac.Pmac.{Pmac}
 use Rattle.pl_pmac.specs.Pmac.{mac_of, pmac_of}
-use Rattle.pl_layouts.specs.declared.membership.Change.{Change}
-use Rattle.pl_layouts.specs.Frames.{arriving, is_arp, packet_in}
-use Rattle.pl_layouts.specs.Memberships.{changes_in, flood, group_number, is_group, membership_in}
+use Rattle.pl_layouts.specs.Frames.{arriving, is_arp}
+use Rattle.pl_layouts.specs.Memberships.{flood, is_group}
 use Rattle.pl_layouts.specs.Placement.{is_known, is_placed}
 use Rattle.pl_journal.specs.declared.cause.Cause.{Cause}
-use Rattle.pl_journal.specs.declared.cause.Cause.TheVariants.{BadArp, NoAddress, NoNextHop, NotPlaced, Spent}
-use Rattle.pl_journal.specs.Places.{are_alike}
-use Rattle.pl_core.specs.declared.acts.Act.{Act}
+use Rattle.pl_journal.specs.declared.cause.Cause.TheVariants.{NoAddress, NoNextHop, NotPlaced}
 use Rattle.pl_core.specs.declared.acts.Act.TheVariants as act
 use Rattle.pl_core.specs.declared.switch_records.Grant.{Grant}
 use Rattle.pl_core.specs.declared.switch_records.Member.{Member}
 use Rattle.pl_core.specs.declared.trap.Trap.{Trap}
-use Rattle.pl_core.specs.PortRecords.{id_at, is_usable, is_usable_to, place_at, port_of, ports_of_switch, ports_where}
+use Rattle.pl_core.specs.PortRecords.{id_at, is_usable, is_usable_to, place_at, port_of, ports_of_switch}
 use Rattle.pl_core.specs.SwitchFacts.{is_avoided, part_of}
 use Rattle.pl_core.specs.SwitchViews.{SwitchView}
-use Rattle.pl_steps.specs.Steps.{SwitchStep, does, rests, ◌▹◌}
+use Rattle.pl_steps.specs.Steps.{SwitchStep, does}
 use Rattle.pl_switch_rule.specs.declared.came.Came.{Came}
 use Rattle.pl_switch_rule.specs.declared.came.Came.TheVariants.{FromAbove, FromBelow, FromHost}
 use Rattle.pl_switch_rule.specs.declared.came.Way.{Way}
 use Rattle.pl_switch_rule.specs.declared.came.Way.TheVariants.{Down, Nowhere, ToHosts, Up}
-use Rattle.pl_switch_rule.specs.Delivering.{addresses, arrives_home, begins, comes_home, delivers, delivers_or_redirects, delivers_to, destination, goes_on, if_newer, is_trapped, last_trap, makes, newer_address, redirects, redirects_on, tells_newer, tells_sender, trap_for}
-use Rattle.pl_switch_rule.specs.Forwarding.{Choice, candidates, candidates_by, came_by, forwards, is_candidate, leads_from_aggregation, leads_from_core, leads_from_edge, leads_to_pod, leads_to_position, leads_up, leaves_by}
-use Rattle.pl_switch_rule.specs.Granting.{grant_number, granted, grants_at, has_no_address, is_local, with_grant}
-use Rattle.pl_switch_rule.specs.GroupForwarding.{at_most_one, destination_group, forwards_group, group_ports, host_ports, is_down, is_reached, is_source, is_up, no_way, passes_or_drops, way_of}
-use Rattle.pl_switch_rule.specs.Intake.{changes_member, group_told, groups_of, groups_told, has_member_of, hears_members, is_for_switch, is_member, joins, leaves, member_cmp, members_become, packet_acts, query, sends_in, source_pmac, takes, takes_in, takes_in_or_spent, with_members, with_pmac}
-use Rattle.pl_switch_rule.specs.Messages.{answer_frame, flood_frame, floods, forgets_members, invalidates, probe_frame, probes, probes_at, sets_trap, with_part}
+use Rattle.pl_switch_rule.specs.Delivering.{addresses, arrives_home, begins, comes_home, delivers, delivers_or_redirects, delivers_to, destination, goes_on, if_newer, last_trap, makes, newer_address, redirects, redirects_on, tells_newer, tells_sender, trap_for}
+use Rattle.pl_switch_rule.specs.Forwarding.{Choice, candidates, candidates_by, came_by, forwards, is_candidate, leads_from_aggregation, leads_from_core, leads_from_edge, leads_to_position, leads_up, leaves_by}
+use Rattle.pl_switch_rule.specs.Granting.{grant_number, granted, grants_at, is_local}
+use Rattle.pl_switch_rule.specs.GroupForwarding.{at_most_one, destination_group, forwards_group, group_ports, is_down, is_reached, is_source, is_up, no_way, passes_or_drops, way_of}
 use Rattle.pl_switch_rule.specs.SwitchRule.{IsChoice, comes_from_switch}
 use Rattle.pl_control_plane.specs.Homes.{HasHomes}
-use Rattle.pl_control_plane.proofs.Silent.{GoesWell, IsMute, IsSeen, IsSilent, IsStill, grants_homes, seen_self, silent_if, silent_then, still_does, still_flat_map, still_if, still_step}
-use Rattle.pl_world.proofs.Counts.{all_append}
+use Rattle.pl_control_plane.proofs.Silent.{GoesWell, IsMute, IsSilent, IsStill, seen_self, silent_if, silent_then, still_does}
 
 -- a port by which a frame may leave
 abbrev IsWay : SwitchView → ℕ → Type 0

@@ -1,29 +1,24 @@
 -- Hosts stand at ports of edge switches that have no link, at the beginning and after each step.
-use Rattle.std.proofs.Common.{◌≡◌, ℕ, suc, ◌+◌, ◌<◌, ◌==◌, ◌&&◌, Bool, true, false, nat_lt, if◌then◌else◌, List, [], ◌∷◌, length, map, Option, Some, None, set, slice_get, get_or, refl, sym, ap, ◌∙◌, subst, arith, inl, inr, All, Contains, fold}
+use Rattle.std.proofs.Common.{◌≡◌, ℕ, suc, ◌<◌, ◌&&◌, Bool, true, false, nat_lt, if◌then◌else◌, List, [], ◌∷◌, map, Some, None, refl, subst, arith, All, Contains}
 use Rattle.std.specs.List.{AllByRecursion}
 use Rattle.std.proofs.lemmas.Bool.{and_parts, ltb-true}
 use Rattle.pl_wiring.specs.declared.host.Host.{Host}
 use Rattle.pl_wiring.specs.declared.label.SwitchNo.{SwitchNo}
-use Rattle.pl_wiring.specs.declared.link.Link.{Link}
 use Rattle.pl_wiring.specs.declared.link.Peer.{Peer}
 use Rattle.pl_wiring.specs.declared.link.Peer.TheVariants.{HostPort, Switch}
 use Rattle.pl_wiring.specs.FatTree.{IsAt}
 use Rattle.pl_wiring.specs.Labels.{edge_count, switch_count}
-use Rattle.pl_wiring.specs.Peers.{IsPeer, peer_of}
+use Rattle.pl_wiring.specs.Peers.{peer_of}
 use Rattle.pl_wiring.specs.Plan.{IsPlan, Plan}
 use Rattle.pl_wiring.proofs.Linked.{peer_is_none, peer_says}
 use Rattle.pl_wiring.proofs.Ports.{IsPeer-host_port}
 use Rattle.pl_journal.specs.Places.{is_host_port}
-use Rattle.pl_core.specs.declared.acts.HostAct.{HostAct}
-use Rattle.pl_core.specs.declared.acts.HostAct.TheVariants.{Send}
-use Rattle.pl_world.specs.declared.error.StepError.{StepError}
 use Rattle.pl_world.specs.declared.error.StepError.TheVariants.{NoSuch}
-use Rattle.pl_world.specs.declared.stand.Stand.{Stand}
-use Rattle.pl_world.specs.Booting.{booted, first_stand}
+use Rattle.pl_world.specs.Booting.{first_stand}
 use Rattle.pl_world.specs.Refusals.{has_host, has_port, has_switch, is_for_hosts, refusal_of_move, refusal_of_place}
 use Rattle.pl_world.specs.Changes.{host_at}
 use Rattle.pl_world.specs.Worlds.{WorldView}
-use Rattle.pl_control_plane.specs.HostsAtEdges.{HostsAtEdges, IsAtEdge}
+use Rattle.pl_control_plane.specs.HostsAtEdges.{IsAtEdge}
 
 is_free : (peer : Peer) → is_host_port peer ≡ true → peer ≡ HostPort
 is_free HostPort h = refl

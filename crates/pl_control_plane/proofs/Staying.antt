@@ -1,5 +1,5 @@
 -- Where hosts stand changes when a host moves, and else never; and the wiring never.
-use Rattle.std.proofs.Common.{◌≡◌, ℕ, ◌+◌, ◌<◌, Bool, true, false, if◌then◌else◌, List, [], ◌∷◌, ◌++◌, length, Option, Some, None, set, slice_get, refl, sym, ap, ◌∙◌, subst, fold}
+use Rattle.std.proofs.Common.{◌≡◌, ℕ, ◌+◌, false, List, [], ◌∷◌, Option, Some, None, set, slice_get, refl, ap, ◌∙◌, fold}
 use Rattle.std.specs.List.{AllByRecursion, position}
 use Rattle.pl_layouts.specs.Equality.{same_switch}
 use Rattle.pl_wiring.specs.declared.link.Link.{Link}
@@ -7,7 +7,7 @@ use Rattle.pl_wiring.specs.declared.link.Peer.{Peer}
 use Rattle.pl_wiring.specs.declared.link.Peer.TheVariants.{HostPort, Switch}
 use Rattle.pl_wiring.specs.Index.{port_index}
 use Rattle.pl_wiring.specs.Peers.{peer_of}
-use Rattle.pl_wiring.specs.Plan.{IsPlan, Plan}
+use Rattle.pl_wiring.specs.Plan.{IsPlan}
 use Rattle.pl_core.specs.declared.acts.Act.{Act}
 use Rattle.pl_core.specs.declared.acts.Act.TheVariants as act
 use Rattle.pl_core.specs.declared.acts.ManagerAct.{ManagerAct}
@@ -23,7 +23,6 @@ use Rattle.pl_journal.specs.declared.entry.Entry.TheVariants.{Crossed}
 use Rattle.pl_queues.specs.Queues.{items_at}
 use Rattle.pl_world.specs.declared.event.Event.{Event}
 use Rattle.pl_world.specs.declared.event.Event.TheVariants as event
-use Rattle.pl_world.specs.declared.event.QueueName.{QueueName}
 use Rattle.pl_world.specs.declared.event.QueueName.TheVariants as queue
 use Rattle.pl_world.specs.declared.item.Item.{Item}
 use Rattle.pl_world.specs.declared.item.Item.TheVariants.{Control, Data}
@@ -36,16 +35,16 @@ use Rattle.pl_world.specs.LinksAndMoves.{host_moved, item_lost, link_between}
 use Rattle.pl_world.specs.OtherActs.{heard_after_tick, manager_act_done}
 use Rattle.pl_world.specs.Refusals.{refusal, refusal_of_event}
 use Rattle.pl_world.specs.SwitchActs.{Doing, act_done, acts_done, begins, granted}
-use Rattle.pl_world.specs.WorldRule.{ComesAtSwitch, ComesIn, ComesOver, Delivers, DeliversFromHost, DeliversFromManager, DeliversOut, DeliversToManager, Fails, Goes, Happens, IsRepaired, Loses, ManagerTurn, SwitchTurn, WorldStep, heard_item}
+use Rattle.pl_world.specs.WorldRule.{ComesAtSwitch, ComesIn, ComesOver, DeliversFromHost, DeliversFromManager, DeliversOut, DeliversToManager, Fails, Goes, Happens, IsRepaired, Loses, SwitchTurn, WorldStep, heard_item}
 use Rattle.pl_world.specs.Worlds.{WorldView}
 use Rattle.pl_world.proofs.Counts.{all_set}
 use Rattle.pl_world.proofs.StepBalances.{event_is_not_refused, same_refusal}
-use Rattle.pl_control_plane.specs.ControlPlanes.{ControlPlane, control_plane}
+use Rattle.pl_control_plane.specs.ControlPlanes.{ControlPlane}
 use Rattle.pl_control_plane.specs.HostsAtEdges.{HostsAtEdges, IsAtEdge}
 use Rattle.pl_control_plane.specs.PlaneSteps.{PlaneStep}
 use Rattle.pl_control_plane.specs.PlaneSteps.PlaneStep.{Carried, Entered, Heard, Left, Managed, Ordered, Ticked}
 use Rattle.pl_control_plane.proofs.Standing.{moves_to_edge}
-use Rattle.pl_control_plane.proofs.Stepping.{IsSame, comes_out_same, plays_same, turn_same}
+use Rattle.pl_control_plane.proofs.Stepping.{comes_out_same, plays_same, turn_same}
 
 -- the wiring stays
 pub plan_stays : (switch : SwitchRule) (manager : ManagerRule) (f g : ControlPlane) → PlaneStep switch manager f g → g.plan ≡ f.plan

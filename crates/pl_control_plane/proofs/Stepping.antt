@@ -1,11 +1,9 @@
 -- What each event of the world is to the control plane.
-use Rattle.std.proofs.Common.{◌≡◌, ℕ, suc, ◌+◌, ◌*◌, ◌<◌, ◌==◌, ◌&&◌, not, Bool, true, false, nat_lt, if◌then◌else◌, List, [], ◌∷◌, ◌++◌, length, Option, Some, None, set, get_or, slice_get, refl, sym, ap, ◌∙◌, subst, arith, append-nil, inl, inr, fold, Contains, replicate, map, All}
+use Rattle.std.proofs.Common.{◌≡◌, ℕ, suc, ◌+◌, ◌*◌, ◌<◌, not, Bool, true, false, nat_lt, if◌then◌else◌, List, [], ◌∷◌, length, Option, Some, None, set, slice_get, refl, sym, ◌∙◌, subst, arith, append-nil, fold, Contains}
 use Rattle.std.specs.List.{AllByRecursion, find}
 use Rattle.std.proofs.Math.ListN.{length-set}
 use Rattle.std.proofs.lemmas.Bool.{and_parts, ltb-true}
 use Rattle.std.proofs.lemmas.Option.{slice_get_within}
-use Rattle.pl_layouts.specs.Control.{is_control}
-use Rattle.pl_wiring.specs.declared.host.Host.{Host}
 use Rattle.pl_wiring.specs.declared.link.Link.{Link}
 use Rattle.pl_wiring.specs.declared.link.Peer.{Peer}
 use Rattle.pl_wiring.specs.declared.link.Peer.TheVariants.{HostPort, Switch}
@@ -22,7 +20,7 @@ use Rattle.pl_core.specs.declared.messages.ToManager.{ToManager}
 use Rattle.pl_core.specs.declared.messages.ToSwitch.{ToSwitch}
 use Rattle.pl_core.specs.declared.reception.Reception.{Reception}
 use Rattle.pl_core.specs.declared.reception.Reception.TheVariants.{Kept, NotMember}
-use Rattle.pl_core.specs.Accounting.{AccountsForFrames, CanCome, IsWhole}
+use Rattle.pl_core.specs.Accounting.{AccountsForFrames}
 use Rattle.pl_core.specs.HostInputs.{HostAnswer, HostInput, HostRule}
 use Rattle.pl_core.specs.ManagerDuties.{ManagerRule}
 use Rattle.pl_core.specs.SwitchInputs.{SwitchRule}
@@ -31,33 +29,29 @@ use Rattle.pl_journal.specs.declared.cause.Skip.{Skip}
 use Rattle.pl_journal.specs.declared.entry.Entry.TheVariants.{Crossed}
 use Rattle.pl_journal.specs.Places.{is_host_port}
 use Rattle.pl_queues.specs.Queues.{has_items, items_at}
-use Rattle.pl_world.specs.declared.error.StepError.{StepError}
-use Rattle.pl_world.specs.declared.error.StepError.TheVariants.{NoSuch, NothingThere}
 use Rattle.pl_world.specs.declared.event.Event.{Event}
 use Rattle.pl_world.specs.declared.event.Event.TheVariants as event
-use Rattle.pl_world.specs.declared.event.QueueName.{QueueName}
 use Rattle.pl_world.specs.declared.event.QueueName.TheVariants as queue
 use Rattle.pl_world.specs.declared.item.Item.{Item}
 use Rattle.pl_world.specs.declared.item.Item.TheVariants.{Control, Data}
 use Rattle.pl_world.specs.declared.spoken_frame.SpokenFrame.TheVariants.{Silent, Waiting}
 use Rattle.pl_world.specs.declared.stand.Stand.{Stand}
 use Rattle.pl_world.specs.Changes.{noted, out_of, receiver, sent_by_host, switch_no}
-use Rattle.pl_world.specs.Flying.{IsCounted, IsDataItem, IsFrame, IsItem}
+use Rattle.pl_world.specs.Flying.{IsCounted, IsDataItem, IsItem}
 use Rattle.pl_world.specs.LinksAndMoves.{host_moved, item_lost, joins, link_between, link_failed}
 use Rattle.pl_world.specs.OtherActs.{heard_after_tick, host_act_done, reception_noted, skip_noted}
 use Rattle.pl_world.specs.Refusals.{is_linked, has_port, has_queue, has_switch, is_filled, refusal, refusal_of_event, refusal_of_queue}
-use Rattle.pl_world.specs.WorldRule.{ComesAtHost, ComesAtSwitch, ComesIn, ComesOut, ComesOver, Delivers, DeliversFromHost, DeliversFromManager, DeliversOut, DeliversToManager, Fails, Goes, Happens, HostPlays, HostReceives, HostTurn, IsRepaired, Loses, Ticks, WorldStep, heard_item}
+use Rattle.pl_world.specs.WorldRule.{ComesAtHost, ComesAtSwitch, ComesIn, ComesOut, ComesOver, DeliversFromHost, DeliversFromManager, DeliversOut, DeliversToManager, Fails, Goes, Happens, HostPlays, HostReceives, HostTurn, IsRepaired, Loses, WorldStep, heard_item}
 use Rattle.pl_world.specs.Worlds.{WorldView}
 use Rattle.pl_world.proofs.Balances.{head_is_item}
-use Rattle.pl_world.proofs.Counts.{all_at, all_found, all_set}
+use Rattle.pl_world.proofs.Counts.{all_at, all_found}
 use Rattle.pl_world.proofs.StepBalances.{event_is_not_refused, peer_is_port, same_refusal}
-use Rattle.pl_control_plane.specs.ControlPlanes.{AreJoined, control_plane, said_by}
+use Rattle.pl_control_plane.specs.ControlPlanes.{control_plane}
 use Rattle.pl_control_plane.specs.HostsAtEdges.{HostsAtEdges, IsAtEdge}
-use Rattle.pl_control_plane.specs.PlaneSteps.{IsLeft, IsTakenOut, PlaneStep, SwitchTurns}
+use Rattle.pl_control_plane.specs.PlaneSteps.{IsLeft, PlaneStep, SwitchTurns}
 use Rattle.pl_control_plane.specs.PlaneSteps.PlaneStep.{Carried, Entered, Heard, Left, Managed, Ordered, Ticked}
 use Rattle.pl_control_plane.proofs.Managing.{manager_turns}
-use Rattle.pl_control_plane.proofs.Standing.{moves_to_edge}
-use Rattle.pl_control_plane.proofs.Taking.{all_left, cut_out, data_first, item_taken, left_then, nothing_left, order_taken, report_taken}
+use Rattle.pl_control_plane.proofs.Taking.{cut_out, data_first, item_taken, left_then, nothing_left, order_taken, report_taken}
 use Rattle.pl_control_plane.proofs.Turning.{IsSolid, solid, switch_turns}
 
 -- what is asked of the world before a step

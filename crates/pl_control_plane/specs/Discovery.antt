@@ -1,9 +1,6 @@
--- Which places, proposals and votes can be told in control frames.
+-- Which places and proposals can be told in control frames.
 use Rattle.std.specs.Prelude.{◌≡◌, ℕ, ◌<◌, ◌≤◌, ◌⊎◌, Some}
-use Rattle.std.specs.List.{AllByRecursion}
-use Rattle.pl_ldp.specs.Writable.{IsWritable}
 use Rattle.pl_layouts.specs.declared.place.Place.{Place}
-use Rattle.pl_control_plane.specs.ControlPlanes.{ControlPlane}
 
 -- a level is 0, 1 or 2; an edge switch alone has a position, and no core switch a pod; no number is the code of an unknown one
 pub record CanBeTold (place : Place) : Type 0 where
@@ -16,7 +13,3 @@ pub record CanPropose (attempt proposed : ℕ) : Type 0 where
   pub begun : 1 ≤ attempt
   pub attempt_fits : attempt ≤ 4294967295
   pub position_fits : proposed < 256
-
--- each message that waits out of a port would be read as it was written
-abbrev pub AreWritable : ControlPlane → Type 0
-AreWritable f = (s port : ℕ) → AllByRecursion IsWritable (f.says s port)

@@ -3,3 +3,4 @@ pub mod Discovery
 pub mod PlaneSteps
 pub mod HostsAtEdges
 pub mod Homes
+pub mod Ids

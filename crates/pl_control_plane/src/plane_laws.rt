@@ -14,6 +14,7 @@ ghost use Rattle.pl_world.specs.WorldRule.{WorldStep};
 ghost use Rattle.pl_world.specs.Worlds.{WorldView};
 ghost use Rattle.pl_control_plane.specs.ControlPlanes.{control_plane, message_in};
 ghost use Rattle.pl_control_plane.specs.HostsAtEdges.{HostsAtEdges};
+ghost use Rattle.pl_control_plane.specs.Ids.{HasIds};
 ghost use Rattle.pl_control_plane.specs.PlaneSteps.{PlaneStep};
 
 use pl_core::{HostCore, ManagerCore};
@@ -40,4 +41,10 @@ pub fn each_step_keeps_hosts_at_edges<M: ManagerCore, H: HostCore>()
 pub fn hosts_stand_at_edges_in_every_run<M: ManagerCore, H: HostCore>()
     ensures { (plan : Plan) (limits : Limits) (moments : List Moment) (new : WorldView) → CanBegin plan →
         WorldRun Loose M.rule H.rule (booted plan limits) moments new → HostsAtEdges new }
+{}
+
+/// And each switch has the id that the wiring gives it.
+pub fn switches_keep_their_ids_in_every_run<M: ManagerCore, H: HostCore>()
+    ensures { (plan : Plan) (limits : Limits) (moments : List Moment) (new : WorldView) → CanBegin plan →
+        WorldRun Loose M.rule H.rule (booted plan limits) moments new → HasIds (control_plane new) }
 {}

@@ -1,26 +1,22 @@
 -- Places are true at the beginning: nothing is known and nothing waits.
-use Rattle.std.proofs.Common.{◌≡◌, ℕ, zero, suc, ◌+◌, ◌*◌, ◌/◌, ◌%◌, ◌<◌, ◌≤◌, ◌⊎◌, Bool, true, false, nat_lt, if◌then◌else◌, List, [], ◌∷◌, length, map, replicate, Option, Some, None, get_or, refl, sym, ap, ◌∙◌, subst, arith, inl, inr, All}
-use Rattle.std.specs.List.{AllByRecursion}
-use Rattle.std.proofs.lemmas.Bool.{cases_lt}
+use Rattle.std.proofs.Common.{◌≡◌, ℕ, zero, suc, ◌*◌, ◌/◌, ◌<◌, Bool, true, false, nat_lt, if◌then◌else◌, List, [], ◌∷◌, length, map, replicate, Option, Some, None, get_or, refl, ap, ◌∙◌, arith}
 use Rattle.pl_frame.specs.declared.address.SwitchId.{SwitchId}
 use Rattle.pl_layouts.specs.Placement.{nowhere}
 use Rattle.pl_ldp.specs.Writable.{IsId}
-use Rattle.pl_wiring.specs.Index.{entry_at, port_index}
-use Rattle.pl_wiring.specs.Labels.{label_of, switch_count}
+use Rattle.pl_wiring.specs.Index.{port_index}
+use Rattle.pl_wiring.specs.Labels.{switch_count}
 use Rattle.pl_wiring.specs.Plan.{IsPlan, Plan}
-use Rattle.pl_core.specs.declared.neighbour.Neighbour.{Neighbour}
 use Rattle.pl_core.specs.declared.neighbour.PortRecord.{PortRecord}
 use Rattle.pl_core.specs.declared.switch_records.Hold.{Hold}
 use Rattle.pl_core.specs.PortRecords.{heard_place, new_port, port_of}
-use Rattle.pl_core.specs.SwitchFacts.{hold_at, switch_at_boot}
+use Rattle.pl_core.specs.SwitchFacts.{switch_at_boot}
 use Rattle.pl_core.specs.SwitchViews.{SwitchView}
 use Rattle.pl_world.specs.declared.item.Item.{Item}
 use Rattle.pl_world.specs.declared.limits.Limits.{Limits}
 use Rattle.pl_world.specs.Booting.{booted}
-use Rattle.pl_control_plane.specs.ControlPlanes.{AreJoined, control_plane, has_data, no_switch, queue_out, said}
-use Rattle.pl_places.specs.Known.{IsFull, IsOwn, IsSound, told_at}
+use Rattle.pl_control_plane.specs.ControlPlanes.{control_plane, has_data, no_switch, queue_out, said}
+use Rattle.pl_places.specs.Known.{IsFull, IsSound, told_at}
 use Rattle.pl_places.specs.Places.{ArePlaced}
-use Rattle.pl_places.specs.Told.{IsGoodLink}
 
 same_all : {T : Type 0} (n i : ℕ) (x : T) → get_or (replicate n x) i x ≡ x
 same_all zero i x = refl

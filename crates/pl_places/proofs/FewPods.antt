@@ -1,8 +1,7 @@
 -- The manager gives numbers of pods to switches of the wiring alone, so no number is large.
-use Rattle.std.proofs.Common.{◌≡◌, ℕ, zero, suc, ◌+◌, ◌*◌, ◌/◌, ◌<◌, ◌≤◌, ◌||◌, Bool, true, false, cond, if◌then◌else◌, List, [], ◌∷◌, ◌++◌, map, length, Option, Some, None, unwrap_or, slice_get, get_or, refl, sym, ap, ◌∙◌, subst, arith, inl, inr, Contains, option_map, find, mul-le-mul, filter}
+use Rattle.std.proofs.Common.{◌≡◌, ℕ, ◌+◌, ◌*◌, ◌/◌, ◌<◌, ◌≤◌, ◌||◌, Bool, true, false, if◌then◌else◌, List, [], ◌∷◌, ◌++◌, map, length, Option, Some, None, unwrap_or, slice_get, refl, subst, arith, Contains, option_map, find, mul-le-mul}
 use Rattle.std.specs.List.{AllByRecursion, flat_map, list_any}
 use Rattle.std.specs.Cmp.{IsEquivalence}
-use Rattle.std.proofs.lemmas.Bool.{eqb-true, eq-eqb}
 use Rattle.std.proofs.lemmas.Cmp.{nat_eq_equiv}
 use Rattle.std.proofs.lemmas.List.{length-map}
 use Rattle.std.proofs.lemmas.Map.Made.{length-le_from_is_member}
@@ -16,14 +15,13 @@ use Rattle.pl_core.specs.declared.acts.ManagerAct.TheVariants.{Number, Say}
 use Rattle.pl_core.specs.declared.messages.ToManager.{ToManager}
 use Rattle.pl_core.specs.declared.messages.ToManager.TheVariants as tell
 use Rattle.pl_core.specs.declared.messages.ToSwitch.{ToSwitch}
-use Rattle.pl_core.specs.declared.messages.ToSwitch.TheVariants as say
 use Rattle.pl_frame.specs.declared.address.Mac.{Mac}
 use Rattle.pl_pmac.specs.declared.pmac.Pmac.{Pmac}
 use Rattle.pl_layouts.specs.Equality.{same_pmac}
 use Rattle.pl_core.specs.ManagerViews.{Learnt, ManagerView, PodGiven, Registration, lookup, newest, pod_given, pods_given, registry}
 use Rattle.pl_core.specs.SwitchInputs.{SwitchRule}
 use Rattle.pl_core.proofs.Among.{among_of_Contains, any_among}
-use Rattle.pl_manager_rule.specs.ManagerRule.{acts_of, answer_to, avoid_acts, changed, changed_of_group, invalidation, learning, manager_hears, manager_rule, reply, tree_acts, tree_acts_of, view_after, with_asker}
+use Rattle.pl_manager_rule.specs.ManagerRule.{acts_of, answer_to, avoid_acts, changed, changed_of_group, invalidation, learning, manager_hears, manager_rule, reply, tree_acts, tree_acts_of, view_after}
 use Rattle.pl_manager_rule.proofs.Registered.{askers_once}
 use Rattle.pl_world.proofs.Counts.{all_append}
 use Rattle.pl_control_plane.specs.ControlPlanes.{ControlPlane}
@@ -103,7 +101,7 @@ number_small plan askers s is all = by (find (λ (g : PodGiven). same_switch g.s
     by None e = omega arith
     by (Some g) e =
         let below = found_holds (λ (g : PodGiven). g.pod < 65535) (λ (g : PodGiven). same_switch g.switch s) (pods_given askers) g e
-            (pods_below askers 65535 (let few = few_given plan.ids askers all in let many = is.ids_many in let all = few_switches plan.k is.arity in omega arith)) in
+        (pods_below askers 65535 (let few = few_given plan.ids askers all in let many = is.ids_many in let all = few_switches plan.k is.arity in omega arith)) in
         below
 
 -- what the manager says

@@ -1,58 +1,40 @@
 -- A location discovery message keeps places true.
-use Rattle.std.proofs.Common.{◌≡◌, ℕ, zero, suc, ◌+◌, ◌/◌, ◌%◌, ◌*◌, ◌<◌, ◌≤◌, ◌⊎◌, ◌==◌, ◌&&◌, ◌||◌, not, nat_lt, Bool, true, false, if◌then◌else◌, List, [], ◌∷◌, ◌++◌, length, map, Option, Some, None, Ok, Err, Result, is_some, is_none, get_or, set, refl, sym, ap, ◌∙◌, subst, arith, inl, inr, append-nil, mod-lt}
-use Rattle.std.specs.List.{AllByRecursion, filter_map, list_any}
-use Rattle.std.proofs.Common.{get_or-set_same, get_or-set_other}
-use Rattle.std.proofs.lemmas.Bool.{and_from, and_parts, cases_eq, cases_lt, eq-eqb, eqb-true, eqb-false, ne_eqb, or_left, or_right}
-use Rattle.std.proofs.lemmas.Bool.Decides.{nat_tests}
-use Rattle.std.proofs.lemmas.List.{get_or_past}
+use Rattle.std.proofs.Common.{◌≡◌, ℕ, zero, suc, ◌/◌, ◌<◌, ◌⊎◌, true, List, [], ◌∷◌, Option, Some, None, Ok, Err, Result, get_or, set, refl, sym, ap, ◌∙◌, subst, arith, inl, inr}
+use Rattle.std.specs.List.{AllByRecursion, list_any}
+use Rattle.std.proofs.lemmas.Bool.{and_from, and_parts}
 use Rattle.std.proofs.lemmas.Option.{same_Some}
 use Rattle.pl_frame.specs.declared.address.SwitchId.{SwitchId}
 use Rattle.pl_layouts.specs.declared.control.Control.{Control}
 use Rattle.pl_layouts.specs.declared.control.Control.TheVariants as control
 use Rattle.pl_layouts.specs.declared.control.ControlError.{ControlError}
 use Rattle.pl_layouts.specs.declared.control.Ldm.{Ldm}
-use Rattle.pl_layouts.specs.declared.control.Proposal.{Proposal}
-use Rattle.pl_layouts.specs.declared.control.Vote.{Vote}
 use Rattle.pl_layouts.specs.declared.place.Place.{Place}
-use Rattle.pl_layouts.specs.Control.{control_frame}
 use Rattle.pl_layouts.specs.Placement.{is_known}
-use Rattle.pl_layouts.specs.Votes.{counts, gives_way}
-use Rattle.pl_ldp.specs.Writable.{IsId, IsWritable}
-use Rattle.pl_wiring.specs.declared.label.Label.{Label}
-use Rattle.pl_wiring.specs.declared.label.Label.TheVariants.{Aggregation, Core, Edge}
-use Rattle.pl_wiring.specs.declared.link.Peer.{Peer}
-use Rattle.pl_wiring.specs.declared.link.Peer.TheVariants.{HostPort, Switch}
+use Rattle.pl_ldp.specs.Writable.{IsId}
+use Rattle.pl_wiring.specs.declared.link.Peer.TheVariants.{HostPort}
 use Rattle.pl_wiring.specs.FatTree.{IsBelow}
 use Rattle.pl_wiring.specs.Labels.{label_of, switch_count}
 use Rattle.pl_wiring.specs.Peers.{peer_of}
 use Rattle.pl_wiring.specs.Plan.{IsPlan, Plan}
-use Rattle.pl_core.specs.declared.acts.Act.{Act}
-use Rattle.pl_core.specs.declared.acts.Act.TheVariants as act
-use Rattle.pl_core.specs.declared.neighbour.Neighbour.{Neighbour}
 use Rattle.pl_core.specs.declared.neighbour.PortRecord.{PortRecord}
-use Rattle.pl_core.specs.declared.switch_records.Hold.{Hold}
-use Rattle.pl_core.specs.PortRecords.{heard_place, new_port, place_at, port_of}
-use Rattle.pl_core.specs.SwitchFacts.{hold_at}
+use Rattle.pl_core.specs.PortRecords.{heard_place, new_port, port_of}
 use Rattle.pl_core.specs.SwitchViews.{SwitchView}
-use Rattle.pl_steps.specs.Steps.{SwitchStep, does, rests}
+use Rattle.pl_steps.specs.Steps.{rests}
 use Rattle.pl_switch_rule.specs.Levels.{after_message, changes_to, hears_message, is_of_other_pod, learns_level, learns_pod, level_after, notes_edge, other_pod, pod_after, share_a_pod, with_message}
-use Rattle.pl_switch_rule.specs.Positions.{after_vote, answers_proposal, counted, fixes_position, freed_but, frees_others, half, hears_proposal, holds_for, is_free_for, is_held_for, is_majority, kept_or_new, marked_for, marks, moves_on, notes_position, vote_on, with_granted}
 use Rattle.pl_switch_rule.specs.SwitchRule.{hears_control}
-use Rattle.pl_control_plane.specs.ControlPlanes.{AreJoined, ControlPlane, is_pass, message_in, messages_of, passes, sends, sent_by}
-use Rattle.pl_control_plane.specs.Homes.{HasHomes}
-use Rattle.pl_control_plane.proofs.Joined.{joined_labels, joined_there, joined_turned}
-use Rattle.pl_control_plane.proofs.Reading.{grant_writable, refusal_writable, written_is_read}
+use Rattle.pl_control_plane.specs.ControlPlanes.{AreJoined, ControlPlane, messages_of}
+use Rattle.pl_control_plane.proofs.Joined.{joined_labels, joined_turned}
 use Rattle.pl_control_plane.proofs.Silent.{changes_to_silent, still_does}
-use Rattle.pl_places.specs.Known.{HasPod, IsAble, IsFull, IsOwn, IsSound, IsZeroOf, level_of, pod_of, told_at}
+use Rattle.pl_places.specs.Known.{HasPod, IsFull, IsSound, level_of, pod_of, told_at}
 use Rattle.pl_places.specs.Places.{ArePlaced, PositionsDiffer}
-use Rattle.pl_places.specs.Told.{IsGoodLink, IsGoodMessage, IsGoodRecord, IsOf, IsTold, IsTrueOf, has_heard}
-use Rattle.pl_places.proofs.Later.{IsGoodTurn, IsZero, all_weaker, true_of_itself}
-use Rattle.pl_places.proofs.Turns.{IsGoodView, SamePorts, full_same, homes_same, new_view, same_ports, same_view, silent_turn, view_itself}
+use Rattle.pl_places.specs.Told.{IsGoodMessage, IsTold, IsTrueOf, has_heard}
+use Rattle.pl_places.proofs.Later.{IsGoodTurn}
+use Rattle.pl_places.proofs.Turns.{IsGoodView, homes_same, silent_turn, view_itself}
 use Rattle.pl_places.proofs.Given.{GivesLevel, GivesPod, found_other, has_other, is_known_of, level_given, other_from, other_is, other_some, pod_given, share_levels, shares_down, shares_up}
 use Rattle.pl_places.proofs.Given.GivesLevel.{FromEdge, FromPods, Stays, Unknown}
 use Rattle.pl_places.proofs.Given.GivesPod.{KeptPod, ToldPod}
 use Rattle.pl_places.proofs.Neighbours.{near_aggregation, near_edge, neighbour_at, one_number, one_peer, turned_below, zero_of_pod}
-use Rattle.pl_places.proofs.Voting.{holds_view, known_is, none_is, noted_edge, proposal_turn, vote_turn}
+use Rattle.pl_places.proofs.Voting.{holds_view, known_is, noted_edge, proposal_turn, vote_turn}
 
 pub set_or_old : {T : Type 0} (xs : List T) (n m : ℕ) (x d : T) → ((m ≡ n) × (get_or (set xs n x) m d ≡ x)) ⊎ (get_or (set xs n x) m d ≡ get_or xs m d)
 set_or_old [] n m x d = inr refl

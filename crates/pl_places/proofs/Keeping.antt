@@ -1,38 +1,24 @@
 -- Each step of the control plane keeps places true, and they are true at the beginning.
-use Rattle.std.proofs.Common.{◌≡◌, ℕ, zero, suc, ◌+◌, ◌*◌, ◌/◌, ◌%◌, ◌<◌, ◌≤◌, ◌⊎◌, Bool, true, false, if◌then◌else◌, List, [], ◌∷◌, ◌++◌, length, map, replicate, Option, Some, None, is_some, get_or, refl, sym, ap, ◌∙◌, subst, arith, inl, inr, All}
+use Rattle.std.proofs.Common.{◌≡◌, ℕ, ◌+◌, ◌<◌, Bool, true, false, if◌then◌else◌, List, [], ◌∷◌, ◌++◌, sym, ap, ◌∙◌, subst}
 use Rattle.std.specs.List.{AllByRecursion}
-use Rattle.std.proofs.lemmas.Bool.{cases_lt}
-use Rattle.std.proofs.lemmas.List.{get_or-map, get_or_past, get_or-replicate}
 use Rattle.pl_frame.specs.declared.address.SwitchId.{SwitchId}
 use Rattle.pl_layouts.specs.declared.control.Control.{Control}
-use Rattle.pl_layouts.specs.declared.control.ControlError.{ControlError}
 use Rattle.pl_layouts.specs.Control.{is_control}
-use Rattle.pl_ldp.specs.Writable.{IsId}
-use Rattle.pl_wiring.specs.Index.{port_index}
 use Rattle.pl_wiring.specs.declared.link.Peer.TheVariants.{HostPort}
-use Rattle.pl_wiring.specs.Labels.{edge_count, label_of, switch_count}
+use Rattle.pl_wiring.specs.Labels.{edge_count, switch_count}
 use Rattle.pl_wiring.specs.Peers.{peer_of}
 use Rattle.pl_wiring.specs.Plan.{IsPlan, Plan}
-use Rattle.pl_core.specs.declared.acts.Act.{Act}
 use Rattle.pl_core.specs.declared.messages.ToManager.{ToManager}
 use Rattle.pl_core.specs.declared.messages.ToSwitch.{ToSwitch}
-use Rattle.pl_core.specs.declared.switch_records.Hold.{Hold}
-use Rattle.pl_core.specs.Accounting.{IsShaped}
 use Rattle.pl_core.specs.ManagerDuties.{ManagerRule}
-use Rattle.pl_core.specs.PortRecords.{new_port, port_of}
-use Rattle.pl_core.specs.SwitchFacts.{switch_at_boot}
+use Rattle.pl_core.specs.PortRecords.{port_of}
 use Rattle.pl_core.specs.SwitchInputs.{SwitchInput}
 use Rattle.pl_core.specs.SwitchInputs.SwitchInput.{Comes, Says, Tick}
-use Rattle.pl_core.specs.SwitchViews.{SwitchView}
-use Rattle.pl_steps.specs.Steps.{SwitchStep}
-use Rattle.pl_switch_rule.specs.Announcing.{ticks}
 use Rattle.pl_switch_rule.specs.Forwarding.{Choice}
-use Rattle.pl_switch_rule.specs.Messages.{hears_manager}
 use Rattle.pl_switch_rule.specs.SwitchRule.{IsChoice, Loose, control_comes, data_comes, hears_control, switch_step}
 use Rattle.pl_control_plane.specs.ControlPlanes.{AreJoined, ControlPlane, message_in, messages_of}
-use Rattle.pl_control_plane.specs.PlaneSteps.{IsActed, IsLeft, IsOrderTaken, IsTakenOut, ManagerTurns, PlaneStep, SwitchTurns}
+use Rattle.pl_control_plane.specs.PlaneSteps.{IsLeft, IsOrderTaken, IsTakenOut, ManagerTurns, PlaneStep, SwitchTurns}
 use Rattle.pl_control_plane.specs.PlaneSteps.PlaneStep.{Carried, Entered, Heard, Left, Managed, Ordered, Ticked}
-use Rattle.pl_places.specs.Known.{IsOwn, IsSound}
 use Rattle.pl_places.specs.Places.{ArePlaced, ArePodNumbers, IsPodNumber, PositionsDiffer}
 use Rattle.pl_places.specs.Told.{IsGoodMessage, has_heard}
 use Rattle.pl_places.proofs.Entering.{carried_turn, entered_turn}

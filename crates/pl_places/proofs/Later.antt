@@ -1,5 +1,5 @@
 -- What is true of a place stays true of a later one, and a turn that meets its obligations keeps places true.
-use Rattle.std.proofs.Common.{◌≡◌, ℕ, ◌<◌, ◌⊎◌, Bool, true, false, List, [], ◌∷◌, ◌++◌, Option, Some, None, is_some, refl, sym, ap, ◌∙◌, subst, arith, inl, inr}
+use Rattle.std.proofs.Common.{◌≡◌, ℕ, ◌⊎◌, Bool, true, false, List, [], ◌∷◌, ◌++◌, Option, Some, None, sym, ap, ◌∙◌, subst, inl, inr}
 use Rattle.std.specs.List.{AllByRecursion}
 use Rattle.std.proofs.lemmas.Bool.{cases_eq}
 use Rattle.pl_frame.specs.declared.address.SwitchId.{SwitchId}
@@ -7,8 +7,8 @@ use Rattle.pl_layouts.specs.declared.control.Control.{Control}
 use Rattle.pl_layouts.specs.declared.control.Control.TheVariants as control
 use Rattle.pl_layouts.specs.declared.place.Place.{Place}
 use Rattle.pl_wiring.specs.declared.label.Label.TheVariants.{Edge}
-use Rattle.pl_wiring.specs.declared.link.Peer.TheVariants.{HostPort, Switch}
-use Rattle.pl_wiring.specs.Labels.{label_of, switch_count}
+use Rattle.pl_wiring.specs.declared.link.Peer.TheVariants.{HostPort}
+use Rattle.pl_wiring.specs.Labels.{label_of}
 use Rattle.pl_wiring.specs.Peers.{peer_of}
 use Rattle.pl_wiring.specs.Plan.{IsPlan, Plan}
 use Rattle.pl_core.specs.declared.acts.Act.{Act}

@@ -11,3 +11,4 @@ pub mod Keeping
 pub mod Beginning
 pub mod Steps
 pub mod FewPods
+pub mod FewPodsInRuns

@@ -1,5 +1,5 @@
 -- Each step of the world keeps places true.
-use Rattle.std.proofs.Common.{◌≡◌, ℕ, None, sym, subst}
+use Rattle.std.proofs.Common.{◌≡◌, None, sym, subst}
 use Rattle.pl_core.specs.HostInputs.{HostRule}
 use Rattle.pl_core.specs.ManagerDuties.{ManagerRule}
 use Rattle.pl_wiring.specs.Plan.{Plan}

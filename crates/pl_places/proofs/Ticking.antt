@@ -1,18 +1,15 @@
 -- A tick keeps places true.
-use Rattle.std.proofs.Common.{◌≡◌, ℕ, zero, suc, ◌/◌, ◌<◌, ◌≤◌, ◌⊎◌, ◌==◌, ◌&&◌, ◌^◌, Bool, true, false, if◌then◌else◌, List, [], ◌∷◌, ◌++◌, map, Option, Some, None, Ok, is_some, get_or, refl, sym, ap, ◌∙◌, subst, arith, inl, inr}
-use Rattle.std.specs.List.{AllByRecursion, filter}
+use Rattle.std.proofs.Common.{◌≡◌, ℕ, zero, suc, ◌<◌, ◌≤◌, ◌&&◌, Bool, true, false, if◌then◌else◌, List, [], ◌∷◌, ◌++◌, map, Option, Some, None, is_some, get_or, refl, sym, ◌∙◌, subst, arith, inl, inr}
+use Rattle.std.specs.List.{AllByRecursion}
 use Rattle.std.proofs.lemmas.Bool.{cases_eq, eq-eqb, ne_eqb}
-use Rattle.std.proofs.lemmas.Bool.Decides.{nat_tests}
 use Rattle.pl_frame.specs.declared.address.SwitchId.{SwitchId}
 use Rattle.pl_layouts.specs.declared.control.Control.{Control}
 use Rattle.pl_layouts.specs.declared.control.Control.TheVariants as control
 use Rattle.pl_layouts.specs.declared.place.Place.{Place}
-use Rattle.pl_layouts.specs.Control.{control_frame}
 use Rattle.pl_layouts.specs.Placement.{is_known}
-use Rattle.pl_ldp.specs.Writable.{IsId, IsWritable}
+use Rattle.pl_ldp.specs.Writable.{IsId}
 use Rattle.pl_wiring.specs.declared.label.Label.{Label}
 use Rattle.pl_wiring.specs.declared.label.Label.TheVariants.{Aggregation, Core, Edge}
-use Rattle.pl_wiring.specs.declared.link.Peer.TheVariants.{HostPort}
 use Rattle.pl_wiring.specs.Labels.{label_of, switch_count}
 use Rattle.pl_wiring.specs.Plan.{IsPlan, Plan}
 use Rattle.pl_core.specs.declared.acts.Act.{Act}
@@ -22,18 +19,18 @@ use Rattle.pl_core.specs.declared.neighbour.PortRecord.{PortRecord}
 use Rattle.pl_core.specs.Announcements.{announcement, direction_of}
 use Rattle.pl_core.specs.PortRecords.{aged, heard_id, id_at, new_port, place_at, port_of, ports_where}
 use Rattle.pl_core.specs.SwitchViews.{SwitchView}
-use Rattle.pl_switch_rule.specs.Announcing.{announcements, announces_at, proposal, proposes_at, ticks, with_aged_ports}
+use Rattle.pl_switch_rule.specs.Announcing.{announces_at, proposal, proposes_at, ticks, with_aged_ports}
 use Rattle.pl_switch_rule.specs.Telling.{changes_told}
 use Rattle.pl_control_plane.specs.ControlPlanes.{AreJoined, ControlPlane, is_pass, message_in, messages_of, passes, sends, sent_by}
 use Rattle.pl_control_plane.specs.Discovery.{CanBeTold, CanPropose}
 use Rattle.pl_control_plane.proofs.Joined.{joined_there, joined_turned}
 use Rattle.pl_control_plane.proofs.PlaneQueues.{any_append, flat_map_append}
 use Rattle.pl_control_plane.proofs.Reading.{ldm_writable, proposal_writable, written_is_read}
-use Rattle.pl_control_plane.proofs.Silent.{IsStill, changes_told_still, mute_sends_none, still_mute, still_well, well_passes}
+use Rattle.pl_control_plane.proofs.Silent.{IsStill, changes_told_still, mute_sends_none, still_mute}
 use Rattle.pl_world.proofs.Counts.{all_append}
 use Rattle.pl_places.specs.Known.{IsAble, IsOwn, IsSound, level_of}
 use Rattle.pl_places.specs.Places.{ArePlaced}
-use Rattle.pl_places.specs.Told.{IsGoodMessage, IsGoodRecord, IsTold, has_heard}
+use Rattle.pl_places.specs.Told.{IsGoodMessage, has_heard}
 use Rattle.pl_places.proofs.Later.{IsGoodTurn, true_of_itself}
 use Rattle.pl_places.proofs.Turns.{IsGoodView, SamePorts, full_same, homes_same, same_view}
 

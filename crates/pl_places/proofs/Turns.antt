@@ -1,6 +1,5 @@
 -- Turns of which discovery sees a new view alone, and that send no control frame.
-use Rattle.std.proofs.Common.{◌≡◌, ℕ, ◌/◌, ◌<◌, ◌≤◌, ◌⊎◌, ◌&&◌, Bool, true, false, nat_lt, List, [], ◌∷◌, ◌++◌, Option, Some, None, is_some, get_or, refl, sym, ap, ◌∙◌, subst, arith, inl, inr}
-use Rattle.std.specs.List.{AllByRecursion}
+use Rattle.std.proofs.Common.{◌≡◌, ℕ, ◌<◌, ◌⊎◌, ◌&&◌, Bool, true, false, nat_lt, List, [], Option, Some, None, is_some, get_or, refl, sym, ap, ◌∙◌, inl, inr}
 use Rattle.std.proofs.lemmas.Bool.{and_parts}
 use Rattle.pl_frame.specs.declared.address.SwitchId.{SwitchId}
 use Rattle.pl_layouts.specs.declared.place.Place.{Place}
@@ -8,20 +7,19 @@ use Rattle.pl_wiring.specs.declared.link.Peer.TheVariants.{HostPort}
 use Rattle.pl_wiring.specs.Labels.{label_of, switch_count}
 use Rattle.pl_wiring.specs.Peers.{peer_of}
 use Rattle.pl_wiring.specs.Plan.{IsPlan, Plan}
-use Rattle.pl_core.specs.declared.acts.Act.{Act}
 use Rattle.pl_core.specs.declared.neighbour.Neighbour.{Neighbour}
 use Rattle.pl_core.specs.declared.neighbour.PortRecord.{PortRecord}
 use Rattle.pl_core.specs.declared.switch_records.Member.{Member}
 use Rattle.pl_core.specs.PortRecords.{heard_echo, heard_place, is_id, is_usable, new_port, port_of}
 use Rattle.pl_core.specs.SwitchViews.{SwitchView}
 use Rattle.pl_steps.specs.Steps.{SwitchStep}
-use Rattle.pl_control_plane.specs.ControlPlanes.{AreJoined, ControlPlane, passes, sends}
+use Rattle.pl_control_plane.specs.ControlPlanes.{AreJoined, ControlPlane}
 use Rattle.pl_control_plane.specs.Homes.{HasHomes}
-use Rattle.pl_control_plane.proofs.Joined.{joined_there, joined_turned}
-use Rattle.pl_control_plane.proofs.Silent.{GoesWell, IsMute, IsSeen, IsSilent, mute_sends_none, well_passes}
+use Rattle.pl_control_plane.proofs.Joined.{joined_turned}
+use Rattle.pl_control_plane.proofs.Silent.{IsSilent, mute_sends_none, well_passes}
 use Rattle.pl_places.specs.Known.{HasPod, IsFull, IsOwn, IsSound, told_at}
 use Rattle.pl_places.specs.Places.{ArePlaced}
-use Rattle.pl_places.specs.Told.{IsGoodLink, IsGoodMessage, IsGoodRecord, IsTold, IsTrueOf, has_heard}
+use Rattle.pl_places.specs.Told.{IsGoodRecord, IsTrueOf, has_heard}
 use Rattle.pl_places.proofs.Later.{IsGoodTurn, IsZero, all_weaker, true_of_itself}
 
 -- what a new view of switch s owes, in the control plane before it

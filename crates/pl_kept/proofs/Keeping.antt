@@ -1,0 +1,84 @@
+-- Each step keeps all of it, and so does each run from the beginning.
+use Rattle.std.proofs.Common.{◌≡◌, List, None, sym, subst}
+use Rattle.pl_wiring.specs.Plan.{Plan}
+use Rattle.pl_core.specs.HostDuties.{HostsSendData}
+use Rattle.pl_core.specs.HostInputs.{HostRule}
+use Rattle.pl_manager_rule.specs.ManagerRule.{manager_rule}
+use Rattle.pl_switch_rule.specs.SwitchRule.{Loose}
+use Rattle.pl_switch_rule.proofs.AccountedSteps.{loose_steps_are_accounted}
+use Rattle.pl_world.specs.declared.event.Event.{Event}
+use Rattle.pl_world.specs.declared.limits.Limits.{Limits}
+use Rattle.pl_world.specs.Booting.{CanBegin, booted}
+use Rattle.pl_world.specs.Flying.{IsCounted}
+use Rattle.pl_world.specs.Refusals.{refusal}
+use Rattle.pl_world.specs.Runs.{Moment, WorldRun}
+use Rattle.pl_world.specs.WorldRule.{WorldStep}
+use Rattle.pl_world.specs.Worlds.{WorldView}
+use Rattle.pl_world.proofs.BootBalances.{booted_is_counted}
+use Rattle.pl_world.proofs.Runs.{run_is_counted}
+use Rattle.pl_world.proofs.StepBalances.{step_is_counted}
+use Rattle.pl_control_plane.specs.ControlPlanes.{control_plane}
+use Rattle.pl_control_plane.specs.HostsAtEdges.{HostsAtEdges}
+use Rattle.pl_control_plane.proofs.KeptInRuns.{kept_in_run, step_keeps_hosts}
+use Rattle.pl_control_plane.proofs.Standing.{hosts_at_first}
+use Rattle.pl_control_plane.proofs.Staying.{plan_stays}
+use Rattle.pl_control_plane.proofs.Stepping.{step_in_plane}
+use Rattle.pl_places.specs.Places.{ArePlaced}
+use Rattle.pl_places.proofs.Beginning.{placed_at_first}
+use Rattle.pl_places.proofs.Keeping.{step_keeps}
+use Rattle.pl_votes.specs.Voting.{AreVoting, IsVoting}
+use Rattle.pl_votes.proofs.Booted.{votes_at_first}
+use Rattle.pl_votes.proofs.Differing.{fixed_are_apart}
+use Rattle.pl_votes.proofs.Steps.{plane_votes}
+use Rattle.pl_pods.specs.Pods.{AreGiven}
+use Rattle.pl_pods.proofs.Booted.{given_at_first, numbers_fit}
+use Rattle.pl_pods.proofs.Keeping.{plane_given}
+use Rattle.pl_kept.specs.Kept.{Kept}
+use Rattle.pl_kept.proofs.Telling.{can_tell}
+
+-- all but the count of frames
+record Holds (w : WorldView) : Type 0 where
+  hosts : HostsAtEdges w
+  placed : ArePlaced w.plan (control_plane w)
+  voting : AreVoting (control_plane w)
+  given : AreGiven (control_plane w)
+
+module _ (host : HostRule) (sends : HostsSendData host) where
+  step_holds : (old : WorldView) (event : Event) (new : WorldView) → IsCounted old → Holds old → refusal old event ≡ None →
+      WorldStep Loose manager_rule host old event new → Holds new
+  step_holds old event new counted holds none step =
+      let f = control_plane old in let g = control_plane new in
+      let is = counted.formed.plan in
+      let taken = step_in_plane Loose manager_rule host loose_steps_are_accounted old event new counted holds.hosts none step in
+      let same = plan_stays Loose manager_rule f g taken in
+      let votes = plane_votes manager_rule f g (can_tell old counted holds.placed) holds.voting taken in
+      let apart = fixed_are_apart f.plan f.view f.says is holds.voting in
+      record {
+        hosts = step_keeps_hosts Loose manager_rule host loose_steps_are_accounted sends old event new counted holds.hosts none step;
+        placed = subst (λ (p : Plan). ArePlaced p g) (sym same) (step_keeps manager_rule f g is holds.placed apart (numbers_fit f is holds.given) taken);
+        voting = subst (λ (p : Plan). IsVoting p g.view g.says) (sym same) votes;
+        given = plane_given f g is holds.placed apart (fixed_are_apart f.plan g.view g.says is votes) holds.given taken;
+      }
+
+  kept : (w : WorldView) → IsCounted w → Holds w → Kept w
+  kept w counted holds = record { counted = counted; hosts = holds.hosts; placed = holds.placed; voting = holds.voting; given = holds.given }
+
+  pub step_keeps_all : (old : WorldView) (event : Event) (new : WorldView) → Kept old → refusal old event ≡ None →
+      WorldStep Loose manager_rule host old event new → Kept new
+  step_keeps_all old event new before none step =
+      kept new (step_is_counted Loose manager_rule host loose_steps_are_accounted sends old event new before.counted none step)
+      (step_holds old event new before.counted (record { hosts = before.hosts; placed = before.placed; voting = before.voting; given = before.given }) none step)
+
+  pub run_keeps_all : (plan : Plan) (limits : Limits) (moments : List Moment) (new : WorldView) → CanBegin plan →
+      WorldRun Loose manager_rule host (booted plan limits) moments new → Kept new
+  run_keeps_all plan limits moments new can run =
+      let counted = booted_is_counted plan limits can in
+      kept new (run_is_counted Loose manager_rule host loose_steps_are_accounted sends (booted plan limits) moments new counted run)
+      (kept_in_run Loose manager_rule host loose_steps_are_accounted sends Holds step_holds
+      (λ w entry holds. record { hosts = holds.hosts; placed = holds.placed; voting = holds.voting; given = holds.given })
+      (booted plan limits) moments new counted (record {
+        hosts = hosts_at_first plan can.is_plan;
+        placed = placed_at_first plan limits can.is_plan;
+        voting = votes_at_first plan limits;
+        given = given_at_first plan limits;
+      }) run)

@@ -1,0 +1,5 @@
+pub mod Numbers
+pub mod Managing
+pub mod Steps
+pub mod Keeping
+pub mod Booted

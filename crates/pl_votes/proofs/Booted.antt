@@ -1,0 +1,92 @@
+-- At the beginning the votes are in order: nothing is held, granted or said.
+use Rattle.std.proofs.Common.{◌≡◌, ℕ, zero, suc, ◌*◌, ◌/◌, ◌==◌, nat_lt, Bool, true, false, true≢false, if◌then◌else◌, List, [], ◌∷◌, map, replicate, get_or, Some, None, refl, sym, ◌∙◌, ap, subst}
+use Rattle.std.specs.List.{AllByRecursion, list_any}
+use Rattle.pl_frame.specs.declared.address.SwitchId.{SwitchId}
+use Rattle.pl_wiring.specs.Index.{port_index}
+use Rattle.pl_wiring.specs.Labels.{switch_count}
+use Rattle.pl_wiring.specs.Plan.{Plan}
+use Rattle.pl_core.specs.declared.switch_records.Hold.{Hold}
+use Rattle.pl_core.specs.SwitchFacts.{hold_at, switch_at_boot}
+use Rattle.pl_core.specs.SwitchViews.{SwitchView}
+use Rattle.pl_world.specs.declared.limits.Limits.{Limits}
+use Rattle.pl_world.specs.Booting.{booted}
+use Rattle.pl_control_plane.specs.ControlPlanes.{control_plane, no_switch, queue_out, said}
+use Rattle.pl_votes.specs.Counting.{AreRising, LeadsUp}
+use Rattle.pl_votes.specs.Pairs.{IsGoodPair, voter_of}
+use Rattle.pl_votes.specs.Voting.{AreVoting, aggregation_no, edge_no}
+use Rattle.pl_votes.proofs.Hearing.{AreOf}
+
+replicated : {X : Type 0} (n i : ℕ) (x : X) → get_or (replicate n x) i x ≡ x
+replicated zero i x = refl
+replicated (suc n) zero x = refl
+replicated (suc n) (suc i) x = replicated n i x
+
+-- each switch is one at its beginning
+booted_view : (P : SwitchView → Type 0) → ((id : SwitchId) (k : ℕ) → P (switch_at_boot id k)) → (k : ℕ) (ids : List SwitchId) (s : ℕ) →
+    P (get_or (map (λ id. switch_at_boot id k) ids) s no_switch)
+booted_view P all k [] s = all (record { 0 = 0 }) 0
+booted_view P all k (id ∷ ids) zero = all id k
+booted_view P all k (id ∷ ids) (suc s) = booted_view P all k ids s
+
+booted_id : (k : ℕ) (ids : List SwitchId) (s : ℕ) → (get_or (map (λ id. switch_at_boot id k) ids) s no_switch).id ≡ get_or ids s (record { 0 = 0 })
+booted_id k [] s = refl
+booted_id k (id ∷ ids) zero = refl
+booted_id k (id ∷ ids) (suc s) = booted_id k ids s
+
+nothing_said : (k n s port : ℕ) → said (queue_out k (replicate n []) s port) ≡ []
+nothing_said k n s port = by (nat_lt port k)
+  where
+    by : (b : Bool) → said (if b then get_or (replicate n []) (port_index k s port) [] else []) ≡ []
+    by true = ap said (replicated n (port_index k s port) [])
+    by false = refl
+
+nothing_held : (id : SwitchId) (k q : ℕ) → hold_at (switch_at_boot id k) q ≡ None
+nothing_held id k q = replicated (k / 2) q None
+
+unheld : (id : SwitchId) (k q : ℕ) (hold : Hold) → hold_at (switch_at_boot id k) q ≡ Some hold → ⊥
+unheld id k q hold is = let none = nothing_held id k q in absurd (cc (none, is))
+
+pair_at_first : (v w : SwitchView) (p : ℕ) → v.place.position ≡ None → v.granted ≡ [] → ((q : ℕ) (hold : Hold) → hold_at w q ≡ Some hold → ⊥) →
+    IsGoodPair (voter_of v p) (hold_at w) [] []
+pair_at_first v w p none empty unheld = record {
+  fixed = λ q is. absurd (cc (none, is));
+  sent = tt;
+  rising = tt;
+  sound = tt;
+  counted = λ is. absurd (true≢false (sym is ∙ ap (λ xs. list_any (λ r. r == p) xs) empty));
+  marks = λ q hold is own fixed. absurd (unheld q hold is);
+}
+
+abbrev first_view : Plan → ℕ → SwitchView
+first_view plan s = get_or (map (λ id. switch_at_boot id plan.k) plan.ids) s no_switch
+
+pub votes_at_first : (plan : Plan) (limits : Limits) → AreVoting (control_plane (booted plan limits))
+votes_at_first plan limits = record {
+  ids = booted_id plan.k plan.ids;
+  named = λ s port. subst (AreOf (first_view plan s).id) (sym (silent s port)) tt;
+  holders = λ s q hold is. absurd (none_held s q hold is);
+  pairs = λ pod i j p q edge aggregation joined.
+      let e = edge_no plan.k pod i in let a = aggregation_no plan.k pod j in
+      subst (λ xs. IsGoodPair (voter_of (first_view plan e) p) (hold_at (first_view plan a)) xs (said (queue_out plan.k (replicate (switch_count plan.k * plan.k) []) a q))) (sym (silent e p))
+      (subst (λ xs. IsGoodPair (voter_of (first_view plan e) p) (hold_at (first_view plan a)) [] xs) (sym (silent a q))
+      (pair_at_first (first_view plan e) (first_view plan a) p (unfixed e) (ungranted e) (none_held a)));
+  counting = λ pod i edge.
+      let e = edge_no plan.k pod i in
+      record {
+        once = subst (λ xs. AreRising xs) (sym (ungranted e)) tt;
+        leads = subst (λ xs. AllByRecursion (LeadsUp plan pod e) xs) (sym (ungranted e)) tt;
+        most = λ q is. let none = unfixed e in absurd (cc (none, is));
+      };
+}
+  where
+    silent : (s port : ℕ) → said (queue_out plan.k (replicate (switch_count plan.k * plan.k) []) s port) ≡ []
+    silent s port = nothing_said plan.k (switch_count plan.k * plan.k) s port
+
+    unfixed : (s : ℕ) → (get_or (map (λ id. switch_at_boot id plan.k) plan.ids) s no_switch).place.position ≡ None
+    unfixed s = booted_view (λ v. v.place.position ≡ None) (λ id k. refl) plan.k plan.ids s
+
+    ungranted : (s : ℕ) → (get_or (map (λ id. switch_at_boot id plan.k) plan.ids) s no_switch).granted ≡ []
+    ungranted s = booted_view (λ v. v.granted ≡ []) (λ id k. refl) plan.k plan.ids s
+
+    none_held : (s q : ℕ) (hold : Hold) → hold_at (get_or (map (λ id. switch_at_boot id plan.k) plan.ids) s no_switch) q ≡ Some hold → ⊥
+    none_held s = booted_view (λ v. (q : ℕ) (hold : Hold) → hold_at v q ≡ Some hold → ⊥) (λ id k. unheld id k) plan.k plan.ids s

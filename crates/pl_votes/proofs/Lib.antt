@@ -1,0 +1,13 @@
+pub mod PairMoves
+pub mod Holding
+pub mod Majority
+pub mod Aside
+pub mod Granted
+pub mod Speeches
+pub mod EdgeTurns
+pub mod AggregationTurns
+pub mod Hearing
+pub mod Wired
+pub mod Steps
+pub mod Booted
+pub mod Differing

@@ -1,0 +1,16 @@
+use Rattle.std.proofs.Common.{sym, subst}
+use Rattle.pl_wiring.specs.Plan.{Plan}
+use Rattle.pl_switch_rule.specs.SwitchRule.{Loose}
+use Rattle.pl_switch_rule.proofs.AccountedSteps.{loose_steps_are_accounted}
+use Rattle.pl_control_plane.specs.ControlPlanes.{control_plane}
+use Rattle.pl_control_plane.proofs.Stepping.{step_in_plane}
+use Rattle.pl_votes.specs.Voting.{IsVoting}
+use Rattle.pl_votes.proofs.Steps.{plane_plan, plane_votes}
+use Rattle.pl_votes.proofs.vote_laws.each_step_keeps_the_votes_in_order.Goals as goal
+
+pub returns : goal.returns
+returns g c = λ old event new counted hosts can none step votes.
+    let taken = step_in_plane Loose g.M.ManagerCore.rule g.H.HostCore.rule loose_steps_are_accounted old event new counted hosts none step in
+    let after = control_plane new in
+    subst (λ (plan : Plan). IsVoting plan after.view after.says) (sym (plane_plan g.M.ManagerCore.rule (control_plane old) after taken))
+    (plane_votes g.M.ManagerCore.rule (control_plane old) after can votes taken)

@@ -19,6 +19,7 @@ use Rattle.pl_world.specs.declared.error.StepError.{StepError}
 use Rattle.pl_world.specs.declared.error.StepError.TheVariants as error
 use Rattle.pl_world.specs.declared.limits.Limits.{Limits}
 use Rattle.pl_fabric.specs.Settled.{IsSettled}
+use Rattle.pl_kept.specs.Kept.{Kept}
 use Rattle.pl_lines.specs.declared.stop.Stop.{Stop}
 use Rattle.pl_lines.specs.declared.stop.Stop.TheVariants.{ExpectFailed, Refused}
 use Rattle.pl_lines.specs.Asked.{DoesAsAsked}
@@ -60,11 +61,12 @@ abbrev pub HostsDoAsAsked : Inputs → Scene → Type 0
 HostsDoAsAsked i scene =
     (n : ℕ) (host : Host) → slice_get i.plan.hosts n ≡ Some host → DoesAsAsked host_rule i.plan (records_of i) i.lines n host scene.world
 
--- Inputs that were played to the end of the script, and whether the fabric is settled then.
+-- Inputs that were played to the end of the script, and whether the fabric is settled then. What holds in every run holds of the fabric.
 pub record IsPlayed (i : Inputs) : Type 0 where
   pub scene : Scene
   pub played : PlaysTo i None scene
   pub deeds : HostsDoAsAsked i scene
+  pub kept : Kept scene.world
   pub settled : Bool
   pub is_settled : IsTrue settled ↔ IsSettled scene.world
 

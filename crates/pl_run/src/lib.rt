@@ -9,5 +9,3 @@ mod generating;
 mod played;
 mod program;
 mod running;
-#[cfg(test)]
-mod tests;

@@ -1,5 +1,5 @@
-use crate::portland;
 use pl_inputs::Status;
+use pl_run::portland;
 use pl_shelf::MemoryShelf;
 use std::alloc::{AllocError, Global};
 use std::test::Fail;

@@ -1,16 +1,12 @@
 -- Where places are true, votes are in order and numbers are those that were given, placed edge switches stand apart, and no switch takes
 -- another switch for a host.
-use Rattle.std.proofs.Common.{◌≡◌, ℕ, ◌+◌, ◌<◌, ◌&&◌, Bool, true, false, List, [], Option, Some, None, is_none, is_some, Contains, slice_get, slice_index_or, refl, sym, ap, subst, arith, eqb-true, inl, inr}
+use Rattle.std.proofs.Common.{◌≡◌, ℕ, ◌+◌, ◌<◌, ◌&&◌, Bool, true, false, List, [], Option, Some, None, is_none, is_some, refl, sym, ap, subst, arith, eqb-true, inl, inr}
 use Rattle.std.proofs.lemmas.Bool.{cases_eq, cases_lt}
 use Rattle.std.proofs.lemmas.Option.{get_or_from_slice_get}
-use Rattle.pl_frame.specs.declared.address.SwitchId.{SwitchId}
 use Rattle.pl_pmac.specs.declared.pmac.Pmac.{Pmac}
 use Rattle.pl_wiring.specs.declared.label.Label.{Label}
 use Rattle.pl_wiring.specs.declared.label.Label.TheVariants.{Aggregation, Core, Edge}
-use Rattle.pl_wiring.specs.declared.label.SwitchNo.{SwitchNo}
-use Rattle.pl_wiring.specs.declared.link.Peer.TheVariants.{Switch}
 use Rattle.pl_wiring.specs.Labels.{edge_count, label_of, switch_count}
-use Rattle.pl_wiring.specs.Peers.{peer_of}
 use Rattle.pl_wiring.specs.Plan.{IsPlan}
 use Rattle.pl_layouts.specs.Placement.{is_known}
 use Rattle.pl_wiring.proofs.Entered.{entry_at-in_range}
@@ -30,14 +26,12 @@ use Rattle.pl_control_plane.specs.ControlPlanes.{ControlPlane, control_plane, ha
 use Rattle.pl_control_plane.proofs.Joined.{joined_there}
 use Rattle.pl_places.specs.Known.{IsZeroOf, level_of, pod_of}
 use Rattle.pl_places.specs.Places.{ArePlaced}
-use Rattle.pl_places.specs.Told.{has_heard}
 use Rattle.pl_votes.specs.Voting.{AreVoting, FixedAreApart}
 use Rattle.pl_votes.proofs.Differing.{fixed_are_apart}
 use Rattle.pl_votes.proofs.Wired.{ids_differ}
-use Rattle.pl_pods.specs.Pods.{AreGiven, KnownAreGiven, id_of}
-use Rattle.pl_pods.proofs.Booted.{known_are_given}
+use Rattle.pl_pods.specs.Pods.{AreGiven, id_of}
 use Rattle.pl_pods.proofs.Numbers.{numbers_differ}
-use Rattle.pl_addresses.specs.Addressed.{AreApart, IsGrounded, KnowNeighbours}
+use Rattle.pl_addresses.specs.Addressed.{IsGrounded}
 
 known_is : (o : Option ℕ) (n : ℕ) → is_known o n ≡ true → o ≡ Some n
 known_is None n is = absurd (cc is)

@@ -71,16 +71,17 @@ module _ (host : HostRule) (sends : HostsSendData host) where
   discovery_in_run : (plan : Plan) (limits : Limits) (moments : List Moment) (new : WorldView) → CanBegin plan →
       WorldRun Loose manager_rule host (booted plan limits) moments new → IsCounted new × Holds new
   discovery_in_run plan limits moments new can run =
-      let counted = booted_is_counted plan limits can in
-      (run_is_counted Loose manager_rule host loose_steps_are_accounted sends (booted plan limits) moments new counted run,
-      kept_in_run Loose manager_rule host loose_steps_are_accounted sends Holds step_holds
-      (λ w entry holds. record { hosts = holds.hosts; placed = holds.placed; voting = holds.voting; given = holds.given })
-      (booted plan limits) moments new counted (record {
-        hosts = hosts_at_first plan can.is_plan;
-        placed = placed_at_first plan limits can.is_plan;
-        voting = votes_at_first plan limits;
-        given = given_at_first plan limits;
-      }) run)
+      let counted = booted_is_counted plan limits can in (
+        run_is_counted Loose manager_rule host loose_steps_are_accounted sends (booted plan limits) moments new counted run,
+        kept_in_run Loose manager_rule host loose_steps_are_accounted sends Holds step_holds
+            (λ w entry holds. record { hosts = holds.hosts; placed = holds.placed; voting = holds.voting; given = holds.given })
+            (booted plan limits) moments new counted (record {
+              hosts = hosts_at_first plan can.is_plan;
+              placed = placed_at_first plan limits can.is_plan;
+              voting = votes_at_first plan limits;
+              given = given_at_first plan limits;
+            }) run,
+      )
 
   pub runs_are_grounded : (plan : Plan) (limits : Limits) → CanBegin plan → AreGrounded host plan limits
   runs_are_grounded plan limits can moments w run =

@@ -16,7 +16,11 @@ use pl_manager_rule::LawfulManager;
 use pl_switch_rule::LooseSwitch;
 
 /// Each run of lawful cores is one under the loose rule and that of the manager.
-pub fn each_run_of_lawful_cores_is_a_run_of_the_rules<S: LooseSwitch, M: LawfulManager, H: HostCore>()
+pub fn each_run_of_lawful_cores_is_a_run_of_the_rules<
+    S: LooseSwitch,
+    M: LawfulManager,
+    H: HostCore,
+>()
     ensures { (old : WorldView) (moments : List Moment) (new : WorldView) →
         WorldRun S.rule M.rule H.rule old moments new → WorldRun Loose manager_rule H.rule old moments new }
 {}

@@ -1,7 +1,7 @@
 -- Each step keeps all of it, and so does each run from the beginning.
 use Rattle.std.proofs.Common.{◌≡◌, List, None, sym, subst}
 use Rattle.pl_wiring.specs.Plan.{Plan}
-use Rattle.pl_core.specs.HostDuties.{HostsSendData}
+use Rattle.pl_core.specs.HostDuties.{HostsSendData, HostsSendOwn}
 use Rattle.pl_core.specs.HostInputs.{HostRule}
 use Rattle.pl_manager_rule.specs.ManagerRule.{manager_rule}
 use Rattle.pl_switch_rule.specs.SwitchRule.{Loose}
@@ -33,10 +33,14 @@ use Rattle.pl_votes.proofs.Steps.{plane_votes}
 use Rattle.pl_pods.specs.Pods.{AreGiven}
 use Rattle.pl_pods.proofs.Booted.{given_at_first, numbers_fit}
 use Rattle.pl_pods.proofs.Keeping.{plane_given}
+use Rattle.pl_addresses.specs.Addressed.{AreGrounded, IsGrounded}
+use Rattle.pl_addresses.specs.InOrder.{IsInOrder}
+use Rattle.pl_addresses.proofs.Runs.{one_step, run_in_order}
 use Rattle.pl_kept.specs.Kept.{Kept}
+use Rattle.pl_kept.proofs.Grounding.{grounded}
 use Rattle.pl_kept.proofs.Telling.{can_tell}
 
--- all but the count of frames
+-- what is kept of discovery
 record Holds (w : WorldView) : Type 0 where
   hosts : HostsAtEdges w
   placed : ArePlaced w.plan (control_plane w)
@@ -60,25 +64,52 @@ module _ (host : HostRule) (sends : HostsSendData host) where
         given = plane_given f g is holds.placed apart (fixed_are_apart f.plan g.view g.says is votes) holds.given taken;
       }
 
-  kept : (w : WorldView) → IsCounted w → Holds w → Kept w
-  kept w counted holds = record { counted = counted; hosts = holds.hosts; placed = holds.placed; voting = holds.voting; given = holds.given }
+  -- so placed edge switches stand apart, and no switch takes another for a host
+  grounds : (w : WorldView) → IsCounted w → Holds w → IsGrounded w
+  grounds w counted holds = grounded w counted holds.placed holds.voting holds.given
 
-  pub step_keeps_all : (old : WorldView) (event : Event) (new : WorldView) → Kept old → refusal old event ≡ None →
-      WorldStep Loose manager_rule host old event new → Kept new
-  step_keeps_all old event new before none step =
-      kept new (step_is_counted Loose manager_rule host loose_steps_are_accounted sends old event new before.counted none step)
-      (step_holds old event new before.counted (record { hosts = before.hosts; placed = before.placed; voting = before.voting; given = before.given }) none step)
+  discovery_in_run : (plan : Plan) (limits : Limits) (moments : List Moment) (new : WorldView) → CanBegin plan →
+      WorldRun Loose manager_rule host (booted plan limits) moments new → IsCounted new × Holds new
+  discovery_in_run plan limits moments new can run =
+      let counted = booted_is_counted plan limits can in (
+        run_is_counted Loose manager_rule host loose_steps_are_accounted sends (booted plan limits) moments new counted run,
+        kept_in_run Loose manager_rule host loose_steps_are_accounted sends Holds step_holds
+            (λ w entry holds. record { hosts = holds.hosts; placed = holds.placed; voting = holds.voting; given = holds.given })
+            (booted plan limits) moments new counted (record {
+              hosts = hosts_at_first plan can.is_plan;
+              placed = placed_at_first plan limits can.is_plan;
+              voting = votes_at_first plan limits;
+              given = given_at_first plan limits;
+            }) run,
+      )
 
-  pub run_keeps_all : (plan : Plan) (limits : Limits) (moments : List Moment) (new : WorldView) → CanBegin plan →
-      WorldRun Loose manager_rule host (booted plan limits) moments new → Kept new
-  run_keeps_all plan limits moments new can run =
-      let counted = booted_is_counted plan limits can in
-      kept new (run_is_counted Loose manager_rule host loose_steps_are_accounted sends (booted plan limits) moments new counted run)
-      (kept_in_run Loose manager_rule host loose_steps_are_accounted sends Holds step_holds
-      (λ w entry holds. record { hosts = holds.hosts; placed = holds.placed; voting = holds.voting; given = holds.given })
-      (booted plan limits) moments new counted (record {
-        hosts = hosts_at_first plan can.is_plan;
-        placed = placed_at_first plan limits can.is_plan;
-        voting = votes_at_first plan limits;
-        given = given_at_first plan limits;
-      }) run)
+  pub runs_are_grounded : (plan : Plan) (limits : Limits) → CanBegin plan → AreGrounded host plan limits
+  runs_are_grounded plan limits can moments w run =
+      let found = discovery_in_run plan limits moments w can run in grounds w found.0 found.1
+
+  kept : (w : WorldView) → IsCounted w → Holds w → IsInOrder w → Kept w
+  kept w counted holds order = record {
+    counted = counted;
+    hosts = holds.hosts;
+    placed = holds.placed;
+    voting = holds.voting;
+    given = holds.given;
+    addresses = order;
+  }
+
+  module _ (owns : HostsSendOwn host) where
+    pub step_keeps_all : (old : WorldView) (event : Event) (new : WorldView) → Kept old → refusal old event ≡ None →
+        WorldStep Loose manager_rule host old event new → Kept new
+    step_keeps_all old event new before none step =
+        let held : Holds old = record { hosts = before.hosts; placed = before.placed; voting = before.voting; given = before.given } in
+        let counted = step_is_counted Loose manager_rule host loose_steps_are_accounted sends old event new before.counted none step in
+        let holds = step_holds old event new before.counted held none step in
+        kept new counted holds
+        (one_step host sends owns old event new before.counted (grounds old before.counted held) (grounds new counted holds).apart step before.addresses)
+
+    pub run_keeps_all : (plan : Plan) (limits : Limits) (moments : List Moment) (new : WorldView) → CanBegin plan →
+        WorldRun Loose manager_rule host (booted plan limits) moments new → Kept new
+    run_keeps_all plan limits moments new can run =
+        let found = discovery_in_run plan limits moments new can run in
+        let order = run_in_order host sends owns plan limits can (runs_are_grounded plan limits can) moments new run in
+        kept new found.0 found.1 (record { addressed = order.addressed; own = order.own; once = order.once })

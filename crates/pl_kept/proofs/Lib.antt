@@ -1,2 +1,4 @@
 pub mod Telling
+pub mod Grounding
 pub mod Keeping
+pub mod Lawful

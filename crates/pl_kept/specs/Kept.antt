@@ -4,6 +4,7 @@ use Rattle.pl_control_plane.specs.HostsAtEdges.{HostsAtEdges}
 use Rattle.pl_places.specs.Places.{ArePlaced}
 use Rattle.pl_votes.specs.Voting.{AreVoting}
 use Rattle.pl_pods.specs.Pods.{AreGiven}
+use Rattle.pl_addresses.specs.InOrder.{IsInOrder}
 use Rattle.pl_world.specs.Flying.{IsCounted}
 use Rattle.pl_world.specs.Worlds.{WorldView}
 
@@ -18,3 +19,5 @@ pub record Kept (w : WorldView) : Type 0 where
   pub voting : AreVoting (control_plane w)
   -- numbers of pods are those that were given
   pub given : AreGiven (control_plane w)
+  -- addresses are in order: of grants, traps and registrations, and none is granted twice
+  pub addresses : IsInOrder w

@@ -1,10 +1,22 @@
-//! What holds in every run: places are true, votes are in order, and numbers of pods are those that were
-//! given; so edge switches of a pod never have one position, and pods never one number.
+//! What holds in every run: places are true, votes are in order, numbers of pods are those that were given,
+//! and addresses are in order; so edge switches of a pod never have one position, pods never one number, and
+//! no address is granted twice.
 #![tactic(auto)]
 
+pub use address_laws::{
+    addresses_are_in_order_in_every_run_from_boot, no_address_is_granted_twice_in_any_run,
+    no_two_edge_switches_grant_one_address_in_any_run, placed_edge_switches_stand_apart,
+    placed_edge_switches_stand_apart_in_every_run, what_was_granted_stays_granted_in_every_run,
+};
 pub use kept_laws::{
     each_step_keeps_all_of_it, edge_switches_of_a_pod_differ_in_every_run,
     every_run_keeps_all_of_it, known_pods_were_given_in_every_run,
 };
+pub use lawful_laws::{
+    each_run_of_lawful_cores_is_a_run_of_the_rules, lawful_cores_grant_no_address_twice,
+    lawful_cores_keep_all_of_it, lawful_cores_keep_what_they_granted,
+};
 
+mod address_laws;
 mod kept_laws;
+mod lawful_laws;

@@ -10,5 +10,3 @@ pub mod Obeying
 pub mod Keeping
 pub mod Beginning
 pub mod Steps
-pub mod FewPods
-pub mod FewPodsInRuns

@@ -1,4 +1,3 @@
 pub mod Told
 pub mod Known
 pub mod Places
-pub mod PodNumbers

@@ -3,7 +3,5 @@
 #![tactic(auto)]
 
 pub use place_laws::{each_step_keeps_places_true, places_are_true_at_first};
-pub use pod_number_laws::{each_step_keeps_pods_few, pods_are_few_in_every_run};
 
 mod place_laws;
-mod pod_number_laws;

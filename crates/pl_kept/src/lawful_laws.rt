@@ -1,0 +1,45 @@
+ghost use Rattle.std.specs.Prelude.{◌≤◌, List};
+ghost use Rattle.pl_pmac.specs.declared.pmac.Pmac.{Pmac};
+ghost use Rattle.pl_wiring.specs.Plan.{Plan};
+ghost use Rattle.pl_manager_rule.specs.ManagerRule.{manager_rule};
+ghost use Rattle.pl_switch_rule.specs.SwitchRule.{Loose};
+ghost use Rattle.pl_world.specs.declared.limits.Limits.{Limits};
+ghost use Rattle.pl_world.specs.Booting.{CanBegin, booted};
+ghost use Rattle.pl_world.specs.Runs.{Moment, WorldRun};
+ghost use Rattle.pl_world.specs.Worlds.{WorldView};
+ghost use Rattle.pl_addresses.specs.Addressed.{StayGranted};
+ghost use Rattle.pl_addresses.specs.GrantedOnce.{times_granted};
+ghost use Rattle.pl_kept.specs.Kept.{Kept};
+
+use pl_core::HostCore;
+use pl_manager_rule::LawfulManager;
+use pl_switch_rule::LooseSwitch;
+
+/// Each run of lawful cores is one under the loose rule and that of the manager.
+pub fn each_run_of_lawful_cores_is_a_run_of_the_rules<
+    S: LooseSwitch,
+    M: LawfulManager,
+    H: HostCore,
+>()
+    ensures { (old : WorldView) (moments : List Moment) (new : WorldView) →
+        WorldRun S.rule M.rule H.rule old moments new → WorldRun Loose manager_rule H.rule old moments new }
+{}
+
+/// So all of it holds at each moment of each run of lawful cores from the beginning.
+pub fn lawful_cores_keep_all_of_it<S: LooseSwitch, M: LawfulManager, H: HostCore>()
+    ensures { (plan : Plan) (limits : Limits) (moments : List Moment) (new : WorldView) → CanBegin plan →
+        WorldRun S.rule M.rule H.rule (booted plan limits) moments new → Kept new }
+{}
+
+/// They grant no address twice.
+pub fn lawful_cores_grant_no_address_twice<S: LooseSwitch, M: LawfulManager, H: HostCore>()
+    ensures { (plan : Plan) (limits : Limits) (moments : List Moment) (new : WorldView) (x : Pmac) → CanBegin plan →
+        WorldRun S.rule M.rule H.rule (booted plan limits) moments new → times_granted x new.journal ≤ 1 }
+{}
+
+/// And what they granted to a host stays granted to it.
+pub fn lawful_cores_keep_what_they_granted<S: LooseSwitch, M: LawfulManager, H: HostCore>()
+    ensures { (plan : Plan) (limits : Limits) (moments more : List Moment) (old new : WorldView) → CanBegin plan →
+        WorldRun S.rule M.rule H.rule (booted plan limits) moments old → WorldRun S.rule M.rule H.rule old more new →
+        StayGranted old.switches new.switches }
+{}

@@ -1,6 +1,5 @@
 use Rattle.std.proofs.lemmas.Result.{IfOk-weaker}
 use Rattle.pl_inputs.specs.Loaded.{inputs_of}
-use Rattle.pl_world.specs.Booting.{booted}
 use Rattle.pl_run.specs.Answers.{records_of, run_limits}
 use Rattle.pl_run.specs.Plays.{IsPlayedOver, IsPlayedTo}
 use Rattle.pl_run.proofs.Playing.{AreLaws, can_begin, files_many, played_to}
@@ -14,8 +13,7 @@ returns-clause-ok c =
       run = λ end records lines scene plays. c.a_script_is_a_run.ensures i.plan run_limits records lines end scene plays;
       wiring = λ moments new run. c.each_run_keeps_the_wiring.ensures i.plan run_limits moments new begins run;
       savable = λ moments new run. c.every_entry_can_be_saved.ensures i.plan run_limits moments new begins run;
-      kept = λ moments new run. c.every_run_keeps_all_of_it.ensures i.plan run_limits moments new begins
-          (c.each_run_is_a_loose_run.ensures (booted i.plan run_limits) moments new run);
+      kept = λ moments new run. c.lawful_cores_keep_all_of_it.ensures i.plan run_limits moments new begins run;
     } in
     IfOk-weaker c.play_script.result (λ p. IsPlayedOver i p) (λ p. IsPlayedTo i p)
     (λ p over. played_to i p laws

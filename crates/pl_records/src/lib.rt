@@ -1,0 +1,11 @@
+//! Laws of the manager's records: what the manager knows of places, links and members is what the
+//! switches told it, and the avoid lists and tree parts of the switches are those of its records, but for
+//! what waits between them.
+#![tactic(auto)]
+
+pub use record_laws::{
+    each_step_keeps_orders, each_step_keeps_reports, orders_are_of_the_records_in_every_run,
+    records_are_current_at_rest, reports_are_kept_in_every_run, the_records_begin_current,
+};
+
+mod record_laws;

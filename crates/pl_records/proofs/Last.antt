@@ -40,7 +40,7 @@ no_members group (tell.Learned a b c) is = refl
 no_members group (tell.Query a b c) is = refl
 no_members group (tell.Members g any) is = absurd is
 
-no_avoid : (w : ToSwitch) → IsNoOrder w → avoid_said w ≡ None
+pub no_avoid : (w : ToSwitch) → IsNoOrder w → avoid_said w ≡ None
 no_avoid (say.Pod n) is = refl
 no_avoid (say.Answer a b c d) is = refl
 no_avoid (say.Flood a b c) is = refl
@@ -48,7 +48,7 @@ no_avoid (say.Avoid list) is = absurd is
 no_avoid (say.Invalidate a b c d) is = refl
 no_avoid (say.Tree group part) is = refl
 
-no_part : (group : ℕ) (w : ToSwitch) → IsNoOrder w → part_said group w ≡ None
+pub no_part : (group : ℕ) (w : ToSwitch) → IsNoOrder w → part_said group w ≡ None
 no_part group (say.Pod n) is = refl
 no_part group (say.Answer a b c d) is = refl
 no_part group (say.Flood a b c) is = refl

@@ -5,3 +5,6 @@ pub mod Intaking
 pub mod Turning
 pub mod Recording
 pub mod Reporting
+pub mod Saying
+pub mod Changing
+pub mod Ordering

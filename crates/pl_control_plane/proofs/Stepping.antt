@@ -222,8 +222,7 @@ module _ (switch : SwitchRule) (manager : ManagerRule) (host : HostRule) (accoun
   comes_from_host w mid stand (Control frame) new r same is at plan item turn = absurd item
   comes_from_host w mid stand (Data id frame) new r same is at plan item turn =
       let turns = switch_turns switch accounts (noted mid (Crossed id (switch_no stand.edge.0))) stand.edge.0 (Comes stand.port frame) (Waiting id false) new is
-      (λ v size. record { within = rw (size, plan) at.port; whole = item.whole }) turn in
-      (
+      (λ v size. record { within = rw (size, plan) at.port; whole = item.whole }) turn in (
         Entered stand.edge.0 stand.port frame at.edge at.port at.free item.kind
             (subst (λ f. SwitchTurns switch f stand.edge.0 (Comes stand.port frame) (control_plane new)) same turns),
         tt,
@@ -249,24 +248,21 @@ module _ (switch : SwitchRule) (manager : ManagerRule) (host : HostRule) (accoun
       ComesOver switch host (record w { out = set w.out (port_index w.plan.k s p) items }) s p item peer new → WholeStep switch manager (control_plane w) (control_plane new)
   comes_over w s p item items HostPort new joined there within found r is rest comes =
       let mid : WorldView = record w { out = set w.out (port_index w.plan.k s p) items } in
-      let same = comes_out_same host mid s p item new comes in
-      (
+      let same = comes_out_same host mid s p item new comes in (
         Left (left_then (control_plane w) (control_plane mid) (control_plane new) (cut_out w s p there within r.solid.queues (item ∷ []) items found)
             (left_of_same mid new same)),
         waiting w new same.reports same.orders,
       )
   comes_over w s p (Control frame) items (Switch t q) new joined there within found r is rest comes =
       let mid : WorldView = record w { out = set w.out (port_index w.plan.k s p) items } in
-      let at : IsPort w.plan.k (Switch t q) = subst (IsPort w.plan.k) joined (peer_is_port w.plan s p r.solid.is_plan) in
-      (
+      let at : IsPort w.plan.k (Switch t q) = subst (IsPort w.plan.k) joined (peer_is_port w.plan s p r.solid.is_plan) in (
         Heard s p t.0 q frame (control_plane mid) joined is.kind (item_taken w s p there within r.solid.queues (Control frame) items found)
             (switch_turns switch accounts mid t.0 (Comes q frame) Silent new rest (λ v size. record { within = rw size at.1; whole = is.whole }) comes),
         tt,
       )
   comes_over w s p (Data id frame) items (Switch t q) new joined there within found r is rest comes =
       let mid : WorldView = record w { out = set w.out (port_index w.plan.k s p) items } in
-      let at : IsPort w.plan.k (Switch t q) = subst (IsPort w.plan.k) joined (peer_is_port w.plan s p r.solid.is_plan) in
-      (
+      let at : IsPort w.plan.k (Switch t q) = subst (IsPort w.plan.k) joined (peer_is_port w.plan s p r.solid.is_plan) in (
         Carried s p t.0 q frame (control_plane mid) joined is.kind (data_first w s p there within r.solid.queues (Data id frame) items refl found)
             (item_taken w s p there within r.solid.queues (Data id frame) items found)
             (switch_turns switch accounts (noted mid (Crossed id (switch_no t.0))) t.0 (Comes q frame) (Waiting id false) new rest
@@ -294,8 +290,7 @@ module _ (switch : SwitchRule) (manager : ManagerRule) (host : HostRule) (accoun
   to_manager w s (told ∷ items) new found r turn =
       let mid : WorldView = record w { to_manager = set w.to_manager s items } in
       let many = r.solid.is_plan.ids_many in
-      let there : s < length w.plan.ids = slice_get_within w.plan.ids s turn.id turn.found in
-      (
+      let there : s < length w.plan.ids = slice_get_within w.plan.ids s turn.id turn.found in (
         Managed s turn.id told (control_plane mid) (omega arith) turn.found (report_taken w s told items found) (manager_turns manager mid s told new r.orders turn),
         tt,
       )
@@ -304,8 +299,7 @@ module _ (switch : SwitchRule) (manager : ManagerRule) (host : HostRule) (accoun
       DeliversFromManager switch w s items new → WholeStep switch manager (control_plane w) (control_plane new)
   from_manager w s [] new found r turn = absurd turn
   from_manager w s (says ∷ items) new found r turn =
-      let mid : WorldView = record w { from_manager = set w.from_manager s items } in
-      (
+      let mid : WorldView = record w { from_manager = set w.from_manager s items } in (
         Ordered s says (control_plane mid) (order_taken w s says items found)
             (switch_turns switch accounts mid s (Says says) Silent new r.solid (λ v size. tt) turn),
         tt,

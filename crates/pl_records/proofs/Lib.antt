@@ -8,3 +8,4 @@ pub mod Reporting
 pub mod Saying
 pub mod Changing
 pub mod Ordering
+pub mod Running

@@ -218,9 +218,6 @@ ordered_hears f m g s says taken turns has t id named =
 
 -- the manager hears a switch
 module _ (before : ManagerView) (s : SwitchId) (told : ToManager) (id : SwitchId) where
-  after : ManagerView
-  after = view_after before s told
-
   hears_avoid : then_said avoid_said id (avoid_list before.told id) (manager_hears before s told).acts ≡ avoid_list (view_after before s told).told id
   unfolding manager_hears
   hears_avoid =

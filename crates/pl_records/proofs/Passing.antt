@@ -163,4 +163,3 @@ pub arrives_home_telling : (choose : Choice) (v : SwitchView) (frame : List ℕ)
 arrives_home_telling choose v frame =
     then_telling v (comes_home choose v frame) (tells_sender choose frame (trap_for v (destination frame)))
     (comes_home_telling choose v frame) (tells_sender_telling choose frame (trap_for v (destination frame)))
-

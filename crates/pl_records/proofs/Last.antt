@@ -1,11 +1,12 @@
 -- The last that words say, through what a step does to queues.
 use Rattle.std.proofs.Common.{◌≡◌, ℕ, List, [], ◌∷◌, ◌++◌, Option, Some, None, unwrap_or, refl, sym, ap, ◌∙◌, subst, append_assoc}
 use Rattle.std.specs.List.{AllByRecursion}
+use Rattle.pl_frame.specs.declared.address.SwitchId.{SwitchId}
 use Rattle.pl_core.specs.declared.messages.ToManager.{ToManager}
 use Rattle.pl_core.specs.declared.messages.ToManager.TheVariants as tell
 use Rattle.pl_core.specs.declared.messages.ToSwitch.{ToSwitch}
 use Rattle.pl_core.specs.declared.messages.ToSwitch.TheVariants as say
-use Rattle.pl_manager_rule.specs.Histories.{members_said, place_said}
+use Rattle.pl_manager_rule.specs.Histories.{link_said, members_said, place_said}
 use Rattle.pl_control_plane.specs.ControlPlanes.{ControlPlane}
 use Rattle.pl_records.specs.Records.{AreCurrent, HaveOrders, HaveReported, IsAtRest}
 use Rattle.pl_records.specs.Words.{IsNoOrder, IsNoReport, avoid_said, last_said, part_said}
@@ -61,6 +62,17 @@ silent_place ws all = all_said IsNoReport (λ w. place_said w ≡ None) no_place
 
 pub silent_members : (group : ℕ) (ws : List ToManager) → AllByRecursion IsNoReport ws → AllByRecursion (λ w. members_said group w ≡ None) ws
 silent_members group ws all = all_said IsNoReport (λ w. members_said group w ≡ None) (no_members group) ws all
+
+no_link : (u : SwitchId) (w : ToManager) → IsNoReport w → link_said u w ≡ None
+no_link u (tell.Place place) is = refl
+no_link u (tell.Link x usable) is = absurd is
+no_link u tell.PodWanted is = refl
+no_link u (tell.Learned a b c) is = refl
+no_link u (tell.Query a b c) is = refl
+no_link u (tell.Members g any) is = refl
+
+pub silent_link : (u : SwitchId) (ws : List ToManager) → AllByRecursion IsNoReport ws → AllByRecursion (λ w. link_said u w ≡ None) ws
+silent_link u ws all = all_said IsNoReport (λ w. link_said u w ≡ None) (no_link u) ws all
 
 pub silent_avoid : (ws : List ToSwitch) → AllByRecursion IsNoOrder ws → AllByRecursion (λ w. avoid_said w ≡ None) ws
 silent_avoid ws all = all_said IsNoOrder (λ w. avoid_said w ≡ None) no_avoid ws all

@@ -1,5 +1,6 @@
 pub mod Last
 pub mod Telling
+pub mod Linking
 pub mod Passing
 pub mod Intaking
 pub mod Turning

@@ -9,13 +9,13 @@ use Rattle.pl_layouts.specs.Placement.{nowhere}
 use Rattle.pl_wiring.specs.Plan.{IsPlan, Plan}
 use Rattle.pl_core.specs.declared.messages.ToManager.{ToManager}
 use Rattle.pl_core.specs.declared.messages.ToManager.TheVariants as tell
-use Rattle.pl_core.specs.ManagerViews.{ManagerView, id_cmp, members_cmp, place_of, value_at}
+use Rattle.pl_core.specs.ManagerViews.{ManagerView, id_cmp, is_told_usable, link_cmp, members_cmp, place_of, value_at}
 use Rattle.pl_core.proofs.Among.{id_total}
-use Rattle.pl_manager_rule.specs.Histories.{members_said, place_said}
+use Rattle.pl_manager_rule.specs.Histories.{link_said, members_said, place_said}
 use Rattle.pl_manager_rule.specs.ManagerRule.{view_after}
 use Rattle.pl_manager_rule.proofs.Avoided.{id_exact, same_is}
 use Rattle.pl_manager_rule.proofs.History.{word_after}
-use Rattle.pl_manager_rule.proofs.Kept.{members_exact, members_total}
+use Rattle.pl_manager_rule.proofs.Kept.{link_exact, link_total, members_exact, members_total}
 use Rattle.pl_manager_rule.proofs.Speakers.{same_itself}
 use Rattle.pl_records.specs.Records.{has_told_members}
 
@@ -63,6 +63,23 @@ module _ (view : ManagerView) (s t : SwitchId) where
   members_heard group tell.PodWanted = quiet (same_switch s t) (has_told_members view.members t group)
   members_heard group (tell.Learned a b c) = quiet (same_switch s t) (has_told_members view.members t group)
   members_heard group (tell.Query a b c) = quiet (same_switch s t) (has_told_members view.members t group)
+
+module _ (view : ManagerView) (s t u : SwitchId) where
+  pub link_heard : (told : ToManager) →
+      is_told_usable (view_after view s told).told t u ≡ unwrap_or (if_of (same_switch s t) (link_said u told)) (is_told_usable view.told t u)
+  link_heard (tell.Link x usable) =
+      ap (λ o. unwrap_or o false) (word_after link_cmp link_total link_exact view.told.links (s, x) (t, u) usable (same_switch s t && same_switch x u)
+      (λ h. let two = and_parts (same_switch s t) (same_switch x u) h in λ i. (sym (same_is s t two.0) i, sym (same_is x u two.1) i))
+      (λ e. and_from (same_switch s t) (same_switch x u)
+      (subst (λ y. same_switch y t ≡ true) (ap (λ (p : SwitchId × SwitchId). p.0) e) (same_itself t))
+      (subst (λ y. same_switch y u ≡ true) (ap (λ (p : SwitchId × SwitchId). p.1) e) (same_itself u))))
+      ∙ said_or (cond (same_switch s t && same_switch x u) (Some usable) None) (value_at link_cmp view.told.links (t, u)) false
+      ∙ ap (λ o. unwrap_or o (is_told_usable view.told t u)) (nested (same_switch s t) (same_switch x u) (Some usable))
+  link_heard (tell.Place place) = quiet (same_switch s t) (is_told_usable view.told t u)
+  link_heard tell.PodWanted = quiet (same_switch s t) (is_told_usable view.told t u)
+  link_heard (tell.Learned a b c) = quiet (same_switch s t) (is_told_usable view.told t u)
+  link_heard (tell.Query a b c) = quiet (same_switch s t) (is_told_usable view.told t u)
+  link_heard (tell.Members g any) = quiet (same_switch s t) (is_told_usable view.told t u)
 
 -- two switches have two ids
 pub one_switch : (plan : Plan) → IsPlan plan → (s t : ℕ) (a b : SwitchId) → slice_get plan.ids s ≡ Some a → slice_get plan.ids t ≡ Some b → a.0 ≡ b.0 → s ≡ t

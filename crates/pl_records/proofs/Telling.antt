@@ -18,13 +18,13 @@ use Rattle.pl_core.specs.PortRecords.{id_at, is_usable, ports_of_switch}
 use Rattle.pl_core.specs.SwitchViews.{SwitchView}
 use Rattle.pl_core.proofs.Among.{IsAmong}
 use Rattle.pl_steps.specs.Steps.{SwitchStep, does, rests, ◌▹◌}
-use Rattle.pl_manager_rule.specs.Histories.{members_said, place_said}
+use Rattle.pl_manager_rule.specs.Histories.{link_said, members_said, place_said}
 use Rattle.pl_switch_rule.specs.Intake.{group_told, groups_of, groups_told, has_member_of}
 use Rattle.pl_switch_rule.specs.Telling.{changes_told, link_to, link_told, place_told, pod_wanted}
 use Rattle.pl_control_plane.specs.ControlPlanes.{tells, told_by}
 use Rattle.pl_control_plane.proofs.PlaneQueues.{any_append, flat_map_append}
 use Rattle.pl_records.specs.Words.{IsNoReport, last_said}
-use Rattle.pl_records.proofs.Last.{last_append, last_silent, silent_members, silent_place}
+use Rattle.pl_records.proofs.Last.{last_append, last_silent, silent_link, silent_members, silent_place}
 
 -- Acts that say nothing of it.
 
@@ -157,13 +157,19 @@ among_groups group (m ∷ ms) acc (inr h) = elim (or_cases (m.group == group) (h
   | inr rest ↦ among_groups group ms (insert_key nat_cmp acc m.group) (inr rest)
 ]
 
-alike_is : (a b : Bool) → are_alike a b ≡ true → a ≡ b
+pub alike_is : (a b : Bool) → are_alike a b ≡ true → a ≡ b
 alike_is true true h = refl
 alike_is true false h = absurd (true≢false (sym h))
 alike_is false true h = absurd (true≢false (sym h))
 alike_is false false h = refl
 
 module _ (old new : List Member) where
+  pub groups_no_link : (u : SwitchId) (before : Bool) (gs : List ℕ) → last_said (link_said u) before (tells (flat_map (group_told old new) gs)) ≡ before
+  groups_no_link u before gs =
+      flat_silent (link_said u) (group_told old new) gs (λ g x.
+      cond_both (are_alike (has_member_of old g) (has_member_of new g)) [] (Tell (Members g (has_member_of new g)) ∷ [])
+      (λ acts. last_said (link_said u) x (tells acts) ≡ x) (λ h. refl) (λ h. refl)) before
+
   pub groups_no_place : (before : Place) (gs : List ℕ) → last_said place_said before (tells (flat_map (group_told old new) gs)) ≡ before
   groups_no_place before gs =
       flat_silent place_said (group_told old new) gs (λ g x.
@@ -274,3 +280,40 @@ does_telling v acts unsaid = step_telling v v acts refl refl refl refl unsaid
 
 pub rests_telling : (v : SwitchView) → IsTelling v (rests v)
 rests_telling v = does_telling v [] tt
+
+-- A part that leaves the ports as they are too, and says nothing of links.
+pub record IsStill (v : SwitchView) (s : SwitchStep) : Type 0 where
+  pub telling : IsTelling v s
+  pub id : s.view.id ≡ v.id
+  pub k : s.view.k ≡ v.k
+  pub ports : s.view.ports ≡ v.ports
+  pub links : (u : SwitchId) (before : Bool) → last_said (link_said u) before (tells s.acts) ≡ before
+
+pub then_still : (v : SwitchView) (s : SwitchStep) (next : SwitchView → SwitchStep) → IsStill v s → ((w : SwitchView) → IsStill w (next w)) → IsStill v (s ▹ next)
+then_still v s next a behind = let b = behind s.view in let rest = (next s.view).acts in record {
+  telling = then_telling v s next a.telling (λ w. (behind w).telling);
+  id = b.id ∙ a.id;
+  k = b.k ∙ a.k;
+  ports = b.ports ∙ a.ports;
+  links = λ u before. said_more (link_said u) before s.acts rest ∙ b.links u (last_said (link_said u) before (tells s.acts)) ∙ a.links u before;
+}
+
+pub either_still : (v : SwitchView) (b : Bool) (x y : SwitchStep) → IsStill v x → IsStill v y → IsStill v (if b then x else y)
+either_still v true x y a b = a
+either_still v false x y a b = b
+
+pub step_still : (v w : SwitchView) (acts : List Act) → w.place ≡ v.place → w.members ≡ v.members → w.avoid ≡ v.avoid → w.parts ≡ v.parts →
+    w.id ≡ v.id → w.k ≡ v.k → w.ports ≡ v.ports → AreUnsaid acts → IsStill v (record { view = w; acts = acts })
+step_still v w acts place members avoid parts id k ports unsaid = record {
+  telling = step_telling v w acts place members avoid parts unsaid;
+  id = id;
+  k = k;
+  ports = ports;
+  links = λ u before. last_silent (link_said u) before (tells acts) (silent_link u (tells acts) (unsaid_words acts unsaid));
+}
+
+pub does_still : (v : SwitchView) (acts : List Act) → AreUnsaid acts → IsStill v (does v acts)
+does_still v acts unsaid = step_still v v acts refl refl refl refl refl refl refl unsaid
+
+pub rests_still : (v : SwitchView) → IsStill v (rests v)
+rests_still v = does_still v [] tt

@@ -10,3 +10,5 @@ pub mod Saying
 pub mod Changing
 pub mod Ordering
 pub mod Running
+pub mod Pairing
+pub mod LinkRuns

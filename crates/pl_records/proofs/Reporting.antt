@@ -83,12 +83,29 @@ reported_turn f g s input turns told t id named =
         }
 
 -- the manager hears a switch
-heard_last : {X : Type 0} (said : ToManager → Option X) (b : Bool) (told : ToManager) (x y : X) (before after : List ToManager) → y ≡ unwrap_or (if_of b (said told)) x →
+pub heard_last : {X : Type 0} (said : ToManager → Option X) (b : Bool) (told : ToManager) (x y : X) (before after : List ToManager) → y ≡ unwrap_or (if_of b (said told)) x →
     ((b ≡ true) × (before ≡ told ∷ after)) ⊎ ((b ≡ false) × (before ≡ after)) → last_said said y after ≡ last_said said x before
 heard_last said true told x y before after is (inl front) = ap (λ z. last_said said z after) is ∙ ap (last_said said x) (sym front.1)
 heard_last said false told x y before after is (inl front) = absurd (cc (front.0))
 heard_last said true told x y before after is (inr same) = absurd (cc (same.0))
 heard_last said false told x y before after is (inr same) = ap (λ z. last_said said z after) is ∙ ap (last_said said x) (sym same.1)
+
+-- the report that is heard stood first in the queue of its switch
+pub queue_front : (f m g : ControlPlane) (s : ℕ) (id : SwitchId) (told : ToManager) → IsPlan f.plan → slice_get f.plan.ids s ≡ Some id → IsReportTaken f s told m →
+    ManagerTurns manager_rule m id told g → (t : ℕ) (id_t : SwitchId) → slice_get f.plan.ids t ≡ Some id_t →
+    ((same_switch id id_t ≡ true) × (f.reports t ≡ told ∷ g.reports t)) ⊎ ((same_switch id id_t ≡ false) × (f.reports t ≡ g.reports t))
+queue_front f m g s id told is named taken turns t id_t named_f = elim (cases_eq t s) [
+  | inl here ↦
+      let one : id ≡ id_t = same_Some id id_t (sym named ∙ ap (λ x. slice_get f.plan.ids x) (sym here) ∙ named_f) in
+      inl (
+        subst (λ x. same_switch id x ≡ true) one (same_itself id),
+        ap f.reports here ∙ taken.first ∙ ap (λ x. told ∷ m.reports x) (sym here) ∙ ap (λ x. told ∷ x) (sym (turns.reports t)),
+      )
+  | inr other ↦ inr (
+    ne_eqb id.0 id_t.0 (λ same. other (one_switch f.plan is t s id_t id named_f named (sym same))),
+    sym (taken.others t other) ∙ sym (turns.reports t),
+  )
+]
 
 pub reported_manager : (f m g : ControlPlane) (s : ℕ) (id : SwitchId) (told : ToManager) → IsPlan f.plan → slice_get f.plan.ids s ≡ Some id → IsReportTaken f s told m →
     ManagerTurns manager_rule m id told g → HaveReported f → HaveReported g
@@ -98,7 +115,7 @@ reported_manager f m g s id told is named taken turns before t id_t named_t =
     let was = before t id_t named_f in
     let after : g.manager ≡ view_after f.manager id told = turns.manager ∙ turns.ruled.0 ∙ ap (λ v. view_after v id told) taken.left.manager in
     let view : g.view t ≡ f.view t = turns.view t ∙ taken.left.view t in
-    let queue = front named_f in
+    let queue = queue_front f m g s id told is named taken turns t id_t named_f in
     record {
       place =
           rw (after, view)
@@ -107,21 +124,6 @@ reported_manager f m g s id told is named taken turns before t id_t named_t =
           rw (after, view)
           (heard_last (members_said group) (same_switch id id_t) told _ _ (f.reports t) (g.reports t) (members_heard f.manager id id_t group told) queue ∙ was.members group);
     }
-  where
-    front : slice_get f.plan.ids t ≡ Some id_t →
-        ((same_switch id id_t ≡ true) × (f.reports t ≡ told ∷ g.reports t)) ⊎ ((same_switch id id_t ≡ false) × (f.reports t ≡ g.reports t))
-    front named_f = elim (cases_eq t s) [
-      | inl here ↦
-          let one : id ≡ id_t = same_Some id id_t (sym named ∙ ap (λ x. slice_get f.plan.ids x) (sym here) ∙ named_f) in
-          inl (
-            subst (λ x. same_switch id x ≡ true) one (same_itself id),
-            ap f.reports here ∙ taken.first ∙ ap (λ x. told ∷ m.reports x) (sym here) ∙ ap (λ x. told ∷ x) (sym (turns.reports t)),
-          )
-      | inr other ↦ inr (
-        ne_eqb id.0 id_t.0 (λ same. other (one_switch f.plan is t s id_t id named_f named (sym same))),
-        sym (taken.others t other) ∙ sym (turns.reports t),
-      )
-    ]
 
 -- a step of the control plane
 pub plane_reported : (f g : ControlPlane) → IsPlan f.plan → HaveReported f → (step : PlaneStep Loose manager_rule f g) → LosesNoWord Loose manager_rule f g step → HaveReported g

@@ -48,7 +48,7 @@ new_switch [] k s = record { place = refl; members = refl; avoid = refl; parts =
 new_switch (id ∷ ids) k zero = record { place = refl; members = refl; avoid = refl; parts = refl }
 new_switch (id ∷ ids) k (suc s) = new_switch ids k s
 
-replicated : {X : Type 0} (n i : ℕ) (x : X) → get_or (replicate n x) i x ≡ x
+pub replicated : {X : Type 0} (n i : ℕ) (x : X) → get_or (replicate n x) i x ≡ x
 replicated zero i x = refl
 replicated (suc n) zero x = refl
 replicated (suc n) (suc i) x = replicated n i x

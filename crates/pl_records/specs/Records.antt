@@ -6,13 +6,15 @@ use Rattle.std.specs.List.Sorted.{IsStrictlySortedBy}
 use Rattle.std.specs.Map.{keys_of}
 use Rattle.std.specs.Ordering.{nat_cmp}
 use Rattle.pl_frame.specs.declared.address.SwitchId.{SwitchId}
+use Rattle.pl_wiring.specs.Plan.{Plan}
 use Rattle.pl_core.specs.AvoidLists.{avoid_list}
-use Rattle.pl_core.specs.ManagerViews.{Members, members_cmp, place_of, value_at}
+use Rattle.pl_core.specs.ManagerViews.{Members, is_told_usable, members_cmp, place_of, value_at}
+use Rattle.pl_core.specs.PortRecords.{id_at, is_usable}
 use Rattle.pl_core.specs.SwitchFacts.{part_of}
 use Rattle.pl_core.specs.Trees.{tree_part}
-use Rattle.pl_manager_rule.specs.Histories.{members_said, place_said}
+use Rattle.pl_manager_rule.specs.Histories.{link_said, members_said, place_said}
 use Rattle.pl_switch_rule.specs.Intake.{has_member_of}
-use Rattle.pl_control_plane.specs.ControlPlanes.{ControlPlane}
+use Rattle.pl_control_plane.specs.ControlPlanes.{AreJoined, ControlPlane}
 use Rattle.pl_records.specs.Words.{IsNoOrder, IsNoReport, avoid_said, last_said, part_said}
 
 -- whether a switch has members of a group, as the manager was told last
@@ -53,3 +55,22 @@ pub record IsCurrent (f : ControlPlane) (s : ℕ) (id : SwitchId) : Type 0 where
 
 abbrev pub AreCurrent : ControlPlane → Type 0
 AreCurrent f = (s : ℕ) (id : SwitchId) → slice_get f.plan.ids s ≡ Some id → IsCurrent f s id
+
+-- At each port at which something was heard, that was the switch that the wiring has at the other end.
+abbrev pub NamesNeighbours : ControlPlane → Type 0
+NamesNeighbours f = (s p : ℕ) (x : SwitchId) → id_at (f.view s) p ≡ Some x → (t : ℕ) × (q : ℕ) × AreJoined f.plan s p t q × (slice_get f.plan.ids t ≡ Some x)
+
+-- Port p of switch s is joined to switch t. Their ids are these.
+pub record IsPair (plan : Plan) (s p t q : ℕ) (id u : SwitchId) : Type 0 where
+  pub joined : AreJoined plan s p t q
+  pub here : slice_get plan.ids s ≡ Some id
+  pub there : slice_get plan.ids t ≡ Some u
+
+-- The last report of a switch on its link to another says whether its port to it is usable.
+abbrev pub HaveToldLinks : ControlPlane → Type 0
+HaveToldLinks f = (s p t q : ℕ) (id u : SwitchId) → IsPair f.plan s p t q id u →
+    last_said (link_said u) (is_told_usable f.manager.told id u) (f.reports s) ≡ is_usable (f.view s) p
+
+-- what the manager recorded of each link is what both ends would tell now
+abbrev pub LinksAreCurrent : ControlPlane → Type 0
+LinksAreCurrent f = (s p t q : ℕ) (id u : SwitchId) → IsPair f.plan s p t q id u → is_told_usable f.manager.told id u ≡ is_usable (f.view s) p

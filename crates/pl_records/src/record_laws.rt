@@ -12,7 +12,7 @@ ghost use Rattle.pl_world.specs.WorldRule.{WorldStep};
 ghost use Rattle.pl_world.specs.Worlds.{WorldView};
 ghost use Rattle.pl_control_plane.specs.ControlPlanes.{ControlPlane, control_plane};
 ghost use Rattle.pl_control_plane.specs.HostsAtEdges.{HostsAtEdges};
-ghost use Rattle.pl_records.specs.Records.{AreCurrent, HaveOrders, HaveReported, IsAtRest};
+ghost use Rattle.pl_records.specs.Records.{AreCurrent, HaveOrders, HaveReported, HaveToldLinks, IsAtRest, LinksAreCurrent, NamesNeighbours};
 
 use pl_core::HostCore;
 
@@ -53,4 +53,28 @@ pub fn orders_are_of_the_records_in_every_run<H: HostCore>()
 /// the avoid lists and the tree parts of the records.
 pub fn records_are_current_at_rest()
     ensures { (plane : ControlPlane) → HaveReported plane → HaveOrders plane → IsAtRest plane → AreCurrent plane }
+{}
+
+/// At the beginning no link was told, and none is usable.
+pub fn the_links_begin_current()
+    ensures { (plan : Plan) (limits : Limits) → HaveToldLinks (control_plane (booted plan limits)) }
+{}
+
+/// Each step keeps it that the last report of a switch on its link to another says whether its port is usable,
+/// where after it the switches name their neighbours as the wiring has them.
+pub fn each_step_keeps_links<H: HostCore>()
+    ensures { (old : WorldView) (event : Event) (new : WorldView) → IsCounted old → HostsAtEdges old → NamesNeighbours (control_plane new) →
+        refusal old event ≡ None → WorldStep Loose manager_rule H.rule old event new →
+        HaveToldLinks (control_plane old) → HaveToldLinks (control_plane new) }
+{}
+
+/// So in every run from the beginning it says that.
+pub fn links_are_told_in_every_run<H: HostCore>()
+    ensures { (plan : Plan) (limits : Limits) (moments : List Moment) (new : WorldView) → CanBegin plan →
+        WorldRun Loose manager_rule H.rule (booted plan limits) moments new → HaveToldLinks (control_plane new) }
+{}
+
+/// Where no report waits, the usable pairs of the records are what both ends would tell now.
+pub fn usable_pairs_are_current_at_rest()
+    ensures { (plane : ControlPlane) → HaveToldLinks plane → IsAtRest plane → LinksAreCurrent plane }
 {}

@@ -1,5 +1,5 @@
 -- What each event of the world is to the control plane.
-use Rattle.std.proofs.Common.{◌≡◌, ℕ, suc, ◌+◌, ◌*◌, ◌<◌, not, Bool, true, false, nat_lt, if◌then◌else◌, List, [], ◌∷◌, length, Option, Some, None, set, slice_get, refl, sym, ◌∙◌, subst, arith, append-nil, fold, Contains}
+use Rattle.std.proofs.Common.{◌≡◌, ℕ, suc, ◌+◌, ◌*◌, ◌<◌, not, Bool, true, false, nat_lt, if◌then◌else◌, List, [], ◌∷◌, length, Option, Some, None, set, slice_get, refl, sym, ap, ◌∙◌, subst, arith, append-nil, fold, Contains}
 use Rattle.std.specs.List.{AllByRecursion, find}
 use Rattle.std.proofs.Math.ListN.{length-set}
 use Rattle.std.proofs.lemmas.Bool.{and_parts, ltb-true}
@@ -48,7 +48,7 @@ use Rattle.pl_world.proofs.Counts.{all_at, all_found}
 use Rattle.pl_world.proofs.StepBalances.{event_is_not_refused, peer_is_port, same_refusal}
 use Rattle.pl_control_plane.specs.ControlPlanes.{control_plane}
 use Rattle.pl_control_plane.specs.HostsAtEdges.{HostsAtEdges, IsAtEdge}
-use Rattle.pl_control_plane.specs.PlaneSteps.{IsLeft, PlaneStep, SwitchTurns}
+use Rattle.pl_control_plane.specs.PlaneSteps.{AreAsBefore, IsLeft, PlaneStep, SwitchTurns, WholeStep}
 use Rattle.pl_control_plane.specs.PlaneSteps.PlaneStep.{Carried, Entered, Heard, Left, Managed, Ordered, Ticked}
 use Rattle.pl_control_plane.proofs.Managing.{manager_turns}
 use Rattle.pl_control_plane.proofs.Taking.{cut_out, data_first, item_taken, left_then, nothing_left, order_taken, report_taken}
@@ -175,6 +175,37 @@ goes_left rule w h to (Some from) new found r turn =
     (emptied w from.edge.0 from.port (let e = there.edge in omega arith) there.port r.solid.queues)
     (left_of_same (host_moved w h from to) new (turn_same rule (host_moved w h from to) h _ _ new turn))
 
+-- nothing left the queues between the switches and the manager
+waiting : (w new : WorldView) → new.to_manager ≡ w.to_manager → new.from_manager ≡ w.from_manager → AreAsBefore (control_plane w) (control_plane new)
+waiting w new reports orders = record { reports = λ s. ap (λ queues. items_at queues s) reports; orders = λ s. ap (λ queues. items_at queues s) orders }
+
+waiting_of_same : (w new : WorldView) → IsSame w new → AreAsBefore (control_plane w) (control_plane new)
+waiting_of_same w new same = waiting w new same.reports same.orders
+
+failed_waiting : (w : WorldView) (link : Option Link) (new : WorldView) → Fails w link new → AreAsBefore (control_plane w) (control_plane new)
+failed_waiting w None new is = absurd is
+failed_waiting w (Some link) new is = waiting w new (ap (λ x. x.to_manager) is) (ap (λ x. x.from_manager) is)
+
+repaired_waiting : (w : WorldView) (link : Option Link) (new : WorldView) → IsRepaired w link new → AreAsBefore (control_plane w) (control_plane new)
+repaired_waiting w None new is = absurd is
+repaired_waiting w (Some link) new is = waiting w new (ap (λ x. x.to_manager) is) (ap (λ x. x.from_manager) is)
+
+lost_waiting : (w mid : WorldView) (item : Item) → AreAsBefore (control_plane w) (control_plane mid) → AreAsBefore (control_plane w) (control_plane (item_lost mid item))
+lost_waiting w mid (Control frame) is = is
+lost_waiting w mid (Data id frame) is = is
+
+loses_waiting : (w : WorldView) (s p : ℕ) (items : List Item) (new : WorldView) → Loses w s p items new → AreAsBefore (control_plane w) (control_plane new)
+loses_waiting w s p [] new is = absurd is
+loses_waiting w s p (item ∷ items) new is =
+    let mid : WorldView = record w { out = set w.out (port_index w.plan.k s p) items } in
+    subst (λ x. AreAsBefore (control_plane w) (control_plane x)) (sym is) (lost_waiting w mid item (record { reports = λ t. refl; orders = λ t. refl }))
+
+goes_waiting : (rule : HostRule) (w : WorldView) (h : ℕ) (to : Stand) (from : Option Stand) (new : WorldView) → Goes rule w h to from new →
+    AreAsBefore (control_plane w) (control_plane new)
+goes_waiting rule w h to None new turn = absurd turn
+goes_waiting rule w h to (Some from) new turn =
+    let same = turn_same rule (host_moved w h from to) h _ _ new turn in waiting w new same.reports same.orders
+
 -- a queue that is there, and has items
 not_there : (there filled : Bool) → refusal_of_queue there filled ≡ None → there ≡ true
 not_there true filled e = refl
@@ -187,16 +218,18 @@ port_there plan s p e = let both = and_parts (has_switch plan s) (nat_lt p plan.
 module _ (switch : SwitchRule) (manager : ManagerRule) (host : HostRule) (accounts : AccountsForFrames switch) where
   comes_from_host : (w mid : WorldView) (stand : Stand) (item : Item) (new : WorldView) → IsReady w → control_plane mid ≡ control_plane w →
       IsSolid mid.plan mid.switches mid.out mid.to_manager → IsAtEdge w.plan stand → mid.plan ≡ w.plan → IsDataItem item →
-      ComesAtSwitch switch mid stand.edge.0 stand.port item new → PlaneStep switch manager (control_plane w) (control_plane new)
+      ComesAtSwitch switch mid stand.edge.0 stand.port item new → WholeStep switch manager (control_plane w) (control_plane new)
   comes_from_host w mid stand (Control frame) new r same is at plan item turn = absurd item
   comes_from_host w mid stand (Data id frame) new r same is at plan item turn =
       let turns = switch_turns switch accounts (noted mid (Crossed id (switch_no stand.edge.0))) stand.edge.0 (Comes stand.port frame) (Waiting id false) new is
-      (λ v size. record { within = rw (size, plan) at.port; whole = item.whole }) turn in
-      Entered stand.edge.0 stand.port frame at.edge at.port at.free item.kind
-      (subst (λ f. SwitchTurns switch f stand.edge.0 (Comes stand.port frame) (control_plane new)) same turns)
+      (λ v size. record { within = rw (size, plan) at.port; whole = item.whole }) turn in (
+        Entered stand.edge.0 stand.port frame at.edge at.port at.free item.kind
+            (subst (λ f. SwitchTurns switch f stand.edge.0 (Comes stand.port frame) (control_plane new)) same turns),
+        tt,
+      )
 
   comes_in : (w : WorldView) (h : ℕ) (item : Item) (items : List Item) (stand : Option Stand) (new : WorldView) → IsReady w → slice_get w.stands h ≡ stand → IsDataItem item →
-      ComesIn switch (record w { from_hosts = set w.from_hosts h items }) h item stand new → PlaneStep switch manager (control_plane w) (control_plane new)
+      ComesIn switch (record w { from_hosts = set w.from_hosts h items }) h item stand new → WholeStep switch manager (control_plane w) (control_plane new)
   comes_in w h item items None new r found is comes = absurd comes
   comes_in w h (Control frame) items (Some stand) new r found is comes = absurd is
   comes_in w h (Data id frame) items (Some stand) new r found is comes =
@@ -204,7 +237,7 @@ module _ (switch : SwitchRule) (manager : ManagerRule) (host : HostRule) (accoun
       (all_found (IsAtEdge w.plan) w.stands h stand found r.stands) refl is comes
 
   from_host : (w : WorldView) (h : ℕ) (items : List Item) (new : WorldView) → items_at w.from_hosts h ≡ items → IsReady w → DeliversFromHost switch w h items new →
-      PlaneStep switch manager (control_plane w) (control_plane new)
+      WholeStep switch manager (control_plane w) (control_plane new)
   from_host w h [] new found r comes = absurd comes
   from_host w h (item ∷ items) new found r comes =
       let all : AllByRecursion IsDataItem (item ∷ items) = subst (AllByRecursion IsDataItem) found (all_at (AllByRecursion IsDataItem) w.from_hosts h [] tt r.host_items) in
@@ -212,26 +245,33 @@ module _ (switch : SwitchRule) (manager : ManagerRule) (host : HostRule) (accoun
 
   comes_over : (w : WorldView) (s p : ℕ) (item : Item) (items : List Item) (peer : Peer) (new : WorldView) → peer_of w.plan s p ≡ peer → s < switch_count w.plan.k → p < w.plan.k →
       out_of w s p ≡ item ∷ items → IsReady w → IsItem item → IsSolid w.plan w.switches (set w.out (port_index w.plan.k s p) items) w.to_manager →
-      ComesOver switch host (record w { out = set w.out (port_index w.plan.k s p) items }) s p item peer new → PlaneStep switch manager (control_plane w) (control_plane new)
+      ComesOver switch host (record w { out = set w.out (port_index w.plan.k s p) items }) s p item peer new → WholeStep switch manager (control_plane w) (control_plane new)
   comes_over w s p item items HostPort new joined there within found r is rest comes =
       let mid : WorldView = record w { out = set w.out (port_index w.plan.k s p) items } in
-      Left (left_then (control_plane w) (control_plane mid) (control_plane new) (cut_out w s p there within r.solid.queues (item ∷ []) items found)
-      (left_of_same mid new (comes_out_same host mid s p item new comes)))
+      let same = comes_out_same host mid s p item new comes in (
+        Left (left_then (control_plane w) (control_plane mid) (control_plane new) (cut_out w s p there within r.solid.queues (item ∷ []) items found)
+            (left_of_same mid new same)),
+        waiting w new same.reports same.orders,
+      )
   comes_over w s p (Control frame) items (Switch t q) new joined there within found r is rest comes =
       let mid : WorldView = record w { out = set w.out (port_index w.plan.k s p) items } in
-      let at : IsPort w.plan.k (Switch t q) = subst (IsPort w.plan.k) joined (peer_is_port w.plan s p r.solid.is_plan) in
-      Heard s p t.0 q frame (control_plane mid) joined is.kind (item_taken w s p there within r.solid.queues (Control frame) items found)
-      (switch_turns switch accounts mid t.0 (Comes q frame) Silent new rest (λ v size. record { within = rw size at.1; whole = is.whole }) comes)
+      let at : IsPort w.plan.k (Switch t q) = subst (IsPort w.plan.k) joined (peer_is_port w.plan s p r.solid.is_plan) in (
+        Heard s p t.0 q frame (control_plane mid) joined is.kind (item_taken w s p there within r.solid.queues (Control frame) items found)
+            (switch_turns switch accounts mid t.0 (Comes q frame) Silent new rest (λ v size. record { within = rw size at.1; whole = is.whole }) comes),
+        tt,
+      )
   comes_over w s p (Data id frame) items (Switch t q) new joined there within found r is rest comes =
       let mid : WorldView = record w { out = set w.out (port_index w.plan.k s p) items } in
-      let at : IsPort w.plan.k (Switch t q) = subst (IsPort w.plan.k) joined (peer_is_port w.plan s p r.solid.is_plan) in
-      Carried s p t.0 q frame (control_plane mid) joined is.kind (data_first w s p there within r.solid.queues (Data id frame) items refl found)
-      (item_taken w s p there within r.solid.queues (Data id frame) items found)
-      (switch_turns switch accounts (noted mid (Crossed id (switch_no t.0))) t.0 (Comes q frame) (Waiting id false) new rest
-      (λ v size. record { within = rw size at.1; whole = is.whole }) comes)
+      let at : IsPort w.plan.k (Switch t q) = subst (IsPort w.plan.k) joined (peer_is_port w.plan s p r.solid.is_plan) in (
+        Carried s p t.0 q frame (control_plane mid) joined is.kind (data_first w s p there within r.solid.queues (Data id frame) items refl found)
+            (item_taken w s p there within r.solid.queues (Data id frame) items found)
+            (switch_turns switch accounts (noted mid (Crossed id (switch_no t.0))) t.0 (Comes q frame) (Waiting id false) new rest
+            (λ v size. record { within = rw size at.1; whole = is.whole }) comes),
+        tt,
+      )
 
   out_of_port : (w : WorldView) (s p : ℕ) (items : List Item) (new : WorldView) → s < switch_count w.plan.k → p < w.plan.k → out_of w s p ≡ items → IsReady w →
-      DeliversOut switch host w s p items new → PlaneStep switch manager (control_plane w) (control_plane new)
+      DeliversOut switch host w s p items new → WholeStep switch manager (control_plane w) (control_plane new)
   out_of_port w s p [] new there within found r comes = absurd comes
   out_of_port w s p (item ∷ items) new there within found r comes =
       comes_over w s p item items (peer_of w.plan s p) new refl there within found r (head_is_item w.out (port_index w.plan.k s p) item items found r.port_items)
@@ -245,24 +285,28 @@ module _ (switch : SwitchRule) (manager : ManagerRule) (host : HostRule) (accoun
       }) comes
 
   to_manager : (w : WorldView) (s : ℕ) (items : List ToManager) (new : WorldView) → items_at w.to_manager s ≡ items → IsReady w → DeliversToManager manager w s items new →
-      PlaneStep switch manager (control_plane w) (control_plane new)
+      WholeStep switch manager (control_plane w) (control_plane new)
   to_manager w s [] new found r turn = absurd turn
   to_manager w s (told ∷ items) new found r turn =
       let mid : WorldView = record w { to_manager = set w.to_manager s items } in
       let many = r.solid.is_plan.ids_many in
-      let there : s < length w.plan.ids = slice_get_within w.plan.ids s turn.id turn.found in
-      Managed s turn.id told (control_plane mid) (omega arith) turn.found (report_taken w s told items found) (manager_turns manager mid s told new r.orders turn)
+      let there : s < length w.plan.ids = slice_get_within w.plan.ids s turn.id turn.found in (
+        Managed s turn.id told (control_plane mid) (omega arith) turn.found (report_taken w s told items found) (manager_turns manager mid s told new r.orders turn),
+        tt,
+      )
 
   from_manager : (w : WorldView) (s : ℕ) (items : List ToSwitch) (new : WorldView) → items_at w.from_manager s ≡ items → IsReady w →
-      DeliversFromManager switch w s items new → PlaneStep switch manager (control_plane w) (control_plane new)
+      DeliversFromManager switch w s items new → WholeStep switch manager (control_plane w) (control_plane new)
   from_manager w s [] new found r turn = absurd turn
   from_manager w s (says ∷ items) new found r turn =
-      let mid : WorldView = record w { from_manager = set w.from_manager s items } in
-      Ordered s says (control_plane mid) (order_taken w s says items found)
-      (switch_turns switch accounts mid s (Says says) Silent new r.solid (λ v size. tt) turn)
+      let mid : WorldView = record w { from_manager = set w.from_manager s items } in (
+        Ordered s says (control_plane mid) (order_taken w s says items found)
+            (switch_turns switch accounts mid s (Says says) Silent new r.solid (λ v size. tt) turn),
+        tt,
+      )
 
   happens_in_plane : (w : WorldView) (happens : Event) (new : WorldView) → refusal_of_event w happens ≡ None → IsReady w → Happens switch manager host w happens new →
-      PlaneStep switch manager (control_plane w) (control_plane new)
+      WholeStep switch manager (control_plane w) (control_plane new)
   happens_in_plane w (event.Deliver (queue.FromHost h)) new none r comes = from_host w h.0 (items_at w.from_hosts h.0) new refl r comes
   happens_in_plane w (event.Deliver (queue.Port s p)) new none r comes =
       let at = port_there w.plan s.0 p (not_there (has_queue w.plan (queue.Port s p)) (is_filled w (queue.Port s p)) none) in
@@ -270,24 +314,33 @@ module _ (switch : SwitchRule) (manager : ManagerRule) (host : HostRule) (accoun
   happens_in_plane w (event.Deliver (queue.ToManager s)) new none r comes = to_manager w s.0 (items_at w.to_manager s.0) new refl r comes
   happens_in_plane w (event.Deliver (queue.FromManager s)) new none r comes = from_manager w s.0 (items_at w.from_manager s.0) new refl r comes
   happens_in_plane w (event.Tick s) new none r turn =
-      Ticked s.0 (switch_turns switch accounts (record w { heard = heard_after_tick s.0 w.stands w.heard }) s.0 Tick Silent new r.solid (λ v size. tt) turn)
-  happens_in_plane w (event.Fail a b) new none r is = Left (failed_left w a.0 b.0 (link_between w.plan a.0 b.0) new refl r is)
-  happens_in_plane w (event.Repair a b) new none r is = Left (repaired_left w (link_between w.plan a.0 b.0) new is)
+      (Ticked s.0 (switch_turns switch accounts (record w { heard = heard_after_tick s.0 w.stands w.heard }) s.0 Tick Silent new r.solid (λ v size. tt) turn), tt)
+  happens_in_plane w (event.Fail a b) new none r is =
+      (Left (failed_left w a.0 b.0 (link_between w.plan a.0 b.0) new refl r is), failed_waiting w (link_between w.plan a.0 b.0) new is)
+  happens_in_plane w (event.Repair a b) new none r is =
+      (Left (repaired_left w (link_between w.plan a.0 b.0) new is), repaired_waiting w (link_between w.plan a.0 b.0) new is)
   happens_in_plane w (event.Lose s p) new none r is =
       let linked = not_there (is_linked w.plan s.0 p) (has_items (out_of w s.0 p)) none in
       let at = port_there w.plan s.0 p (and_parts (has_port w.plan s.0 p) (not (is_host_port (peer_of w.plan s.0 p))) linked).0 in
-      Left (loses_left w s.0 p (out_of w s.0 p) new at.0 at.1 refl r is)
-  happens_in_plane w (event.Move h s p) new none r goes = Left (goes_left host w h.0 (record { edge = s; port = p }) (slice_get w.stands h.0) new refl r goes)
-  happens_in_plane w (event.Start h) new none r turn = Left (left_of_same w new (turn_same host w h.0 _ _ new turn))
-  happens_in_plane w (event.Play h frame original raw) new none r plays = Left (left_of_same w new (plays_same host w h.0 _ new plays))
-  happens_in_plane w (event.Retry h) new none r turn = Left (left_of_same w new (turn_same host w h.0 _ _ new turn))
-  happens_in_plane w (event.Join h group) new none r turn = Left (left_of_same w new (turn_same host w h.0 _ _ new turn))
-  happens_in_plane w (event.Leave h group) new none r turn = Left (left_of_same w new (turn_same host w h.0 _ _ new turn))
+      (Left (loses_left w s.0 p (out_of w s.0 p) new at.0 at.1 refl r is), loses_waiting w s.0 p (out_of w s.0 p) new is)
+  happens_in_plane w (event.Move h s p) new none r goes =
+      let to : Stand = record { edge = s; port = p } in
+      (Left (goes_left host w h.0 to (slice_get w.stands h.0) new refl r goes), goes_waiting host w h.0 to (slice_get w.stands h.0) new goes)
+  happens_in_plane w (event.Start h) new none r turn =
+      let same = turn_same host w h.0 _ _ new turn in (Left (left_of_same w new same), waiting_of_same w new same)
+  happens_in_plane w (event.Play h frame original raw) new none r plays =
+      let same = plays_same host w h.0 _ new plays in (Left (left_of_same w new same), waiting_of_same w new same)
+  happens_in_plane w (event.Retry h) new none r turn =
+      let same = turn_same host w h.0 _ _ new turn in (Left (left_of_same w new same), waiting_of_same w new same)
+  happens_in_plane w (event.Join h group) new none r turn =
+      let same = turn_same host w h.0 _ _ new turn in (Left (left_of_same w new same), waiting_of_same w new same)
+  happens_in_plane w (event.Leave h group) new none r turn =
+      let same = turn_same host w h.0 _ _ new turn in (Left (left_of_same w new same), waiting_of_same w new same)
 
-  -- a step of the world is one of its control plane
-  pub step_in_plane : (old : WorldView) (happens : Event) (new : WorldView) → IsCounted old → HostsAtEdges old → refusal old happens ≡ None →
-      WorldStep switch manager host old happens new → PlaneStep switch manager (control_plane old) (control_plane new)
-  step_in_plane old happens new is stands none step =
+  -- a step of the world is one of its control plane, in which no word is lost
+  pub whole_step : (old : WorldView) (happens : Event) (new : WorldView) → IsCounted old → HostsAtEdges old → refusal old happens ≡ None →
+      WorldStep switch manager host old happens new → WholeStep switch manager (control_plane old) (control_plane new)
+  whole_step old happens new is stands none step =
       let s = solid old is in
       happens_in_plane (record old { steps = old.steps + 1 }) happens new (same_refusal old happens ∙ event_is_not_refused old happens none)
       (record {
@@ -297,3 +350,7 @@ module _ (switch : SwitchRule) (manager : ManagerRule) (host : HostRule) (accoun
         port_items = is.in_port_queues;
         stands = stands;
       }) step
+
+  pub step_in_plane : (old : WorldView) (happens : Event) (new : WorldView) → IsCounted old → HostsAtEdges old → refusal old happens ≡ None →
+      WorldStep switch manager host old happens new → PlaneStep switch manager (control_plane old) (control_plane new)
+  step_in_plane old happens new is stands none step = (whole_step old happens new is stands none step).0

@@ -127,3 +127,17 @@ pub data PlaneStep (switch : SwitchRule) (manager : ManagerRule) (f g : ControlP
       PlaneStep switch manager f g
   Managed : (s : ℕ) (id : SwitchId) (told : ToManager) (mid : ControlPlane) → s < switch_count f.plan.k → slice_get f.plan.ids s ≡ Some id →
       IsReportTaken f s told mid → ManagerTurns manager mid id told g → PlaneStep switch manager f g
+
+-- no report and no order left its queue
+pub record AreAsBefore (f g : ControlPlane) : Type 0 where
+  pub reports : (s : ℕ) → g.reports s ≡ f.reports s
+  pub orders : (s : ℕ) → g.orders s ≡ f.orders s
+
+-- where items leave queues, none of what waits between the switches and the manager is among them
+abbrev pub LosesNoWord : (switch : SwitchRule) (manager : ManagerRule) (f g : ControlPlane) → PlaneStep switch manager f g → Type 0
+LosesNoWord switch manager f g (Left left) = AreAsBefore f g
+LosesNoWord switch manager f g step = Unit {0}
+
+-- a step in which no word is lost
+abbrev pub WholeStep : (switch : SwitchRule) (manager : ManagerRule) (f g : ControlPlane) → Type 0
+WholeStep switch manager f g = (step : PlaneStep switch manager f g) × LosesNoWord switch manager f g step

@@ -1,0 +1,14 @@
+pub mod Last
+pub mod Telling
+pub mod Linking
+pub mod Passing
+pub mod Intaking
+pub mod Turning
+pub mod Recording
+pub mod Reporting
+pub mod Saying
+pub mod Changing
+pub mod Ordering
+pub mod Running
+pub mod Pairing
+pub mod LinkRuns

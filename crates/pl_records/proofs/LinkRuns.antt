@@ -1,0 +1,99 @@
+-- In every run the last reports on links say what the switches would tell now.
+use Rattle.std.proofs.Common.{◌≡◌, ℕ, ◌<◌, List, length, Option, Some, None, slice_get, get_or, refl, sym, ap, ◌∙◌, subst, arith}
+use Rattle.std.proofs.lemmas.Option.{same_Some, slice_get-get_or}
+use Rattle.pl_frame.specs.declared.address.SwitchId.{SwitchId}
+use Rattle.pl_wiring.specs.declared.link.Peer.{Peer}
+use Rattle.pl_wiring.specs.declared.link.Peer.TheVariants.{HostPort, Switch}
+use Rattle.pl_wiring.specs.Peers.{peer_of}
+use Rattle.pl_wiring.specs.Plan.{IsPlan, Plan}
+use Rattle.pl_core.specs.declared.neighbour.Neighbour.{Neighbour}
+use Rattle.pl_core.specs.HostDuties.{HostsSendData}
+use Rattle.pl_core.specs.HostInputs.{HostRule}
+use Rattle.pl_core.specs.PortRecords.{heard_id, id_at, port_of}
+use Rattle.pl_manager_rule.specs.ManagerRule.{manager_rule}
+use Rattle.pl_switch_rule.specs.SwitchRule.{Loose}
+use Rattle.pl_switch_rule.proofs.AccountedSteps.{loose_steps_are_accounted}
+use Rattle.pl_world.specs.declared.event.Event.{Event}
+use Rattle.pl_world.specs.declared.limits.Limits.{Limits}
+use Rattle.pl_world.specs.Booting.{CanBegin, booted}
+use Rattle.pl_world.specs.Flying.{IsCounted}
+use Rattle.pl_world.specs.Refusals.{refusal}
+use Rattle.pl_world.specs.Runs.{Moment, WorldRun}
+use Rattle.pl_world.specs.WorldRule.{WorldStep}
+use Rattle.pl_world.specs.Worlds.{WorldView}
+use Rattle.pl_world.proofs.BootBalances.{booted_is_counted}
+use Rattle.pl_control_plane.specs.ControlPlanes.{AreJoined, control_plane}
+use Rattle.pl_control_plane.specs.HostsAtEdges.{HostsAtEdges}
+use Rattle.pl_control_plane.proofs.Joined.{joined_there, joined_turned}
+use Rattle.pl_control_plane.proofs.KeptInRuns.{kept_in_run}
+use Rattle.pl_control_plane.proofs.Standing.{hosts_at_first}
+use Rattle.pl_control_plane.proofs.Stepping.{whole_step}
+use Rattle.pl_places.specs.Places.{ArePlaced}
+use Rattle.pl_places.proofs.Beginning.{placed_at_first}
+use Rattle.pl_votes.specs.Voting.{AreVoting}
+use Rattle.pl_votes.proofs.Booted.{votes_at_first}
+use Rattle.pl_pods.specs.Pods.{AreGiven}
+use Rattle.pl_pods.proofs.Booted.{given_at_first}
+use Rattle.pl_kept.specs.Kept.{Kept}
+use Rattle.pl_kept.proofs.Keeping.{step_keeps_all}
+use Rattle.pl_records.specs.Records.{HaveToldLinks, NamesNeighbours}
+use Rattle.pl_records.proofs.Pairing.{links_at_first, plane_links}
+
+-- where places are true, switches name their neighbours as the wiring has them
+pub names_neighbours : (w : WorldView) → Kept w → NamesNeighbours (control_plane w)
+names_neighbours w kept s p x h = by (peer_of w.plan s p) refl
+  where
+    is : IsPlan w.plan
+    is = kept.counted.formed.plan
+
+    none_there : (o : Option Neighbour) → o ≡ None → heard_id o ≡ Some x → ⊥
+    none_there None e k = absurd (cc k)
+    none_there (Some n) e k = absurd (cc e)
+
+    is_heard : (t q : ℕ) → AreJoined w.plan t q s p → (o : Option Neighbour) → (port_of ((control_plane w).view s) p).heard ≡ o → heard_id o ≡ Some x →
+        ((control_plane w).view t).id ≡ x
+    is_heard t q joined None e k = absurd (cc k)
+    is_heard t q joined (Some n) e k = sym ((kept.placed.links t q s p joined).recorded.known n e).named ∙ same_Some n.id x k
+
+    by : (peer : Peer) → peer_of w.plan s p ≡ peer → (t : ℕ) × (q : ℕ) × AreJoined w.plan s p t q × (slice_get w.plan.ids t ≡ Some x)
+    by HostPort e = absurd (none_there (port_of ((control_plane w).view s) p).heard (kept.placed.strangers s p e) h)
+    by (Switch t q) e =
+        let turned = joined_turned w.plan s p t.0 q kept.counted.formed.plan e in
+        let there = (joined_there w.plan t.0 q s p kept.counted.formed.plan turned).0 in
+        let many = kept.counted.formed.plan.ids_many in
+        let nobody : SwitchId = record { 0 = 0 } in
+        let id = is_heard t.0 q turned (port_of ((control_plane w).view s) p).heard refl h in
+        (t.0, q, e, slice_get-get_or w.plan.ids t.0 nobody (omega (arith, many, there)) ∙ ap Some (sym (kept.voting.ids t.0) ∙ id))
+
+record Holds (w : WorldView) : Type 0 where
+  hosts : HostsAtEdges w
+  placed : ArePlaced w.plan (control_plane w)
+  voting : AreVoting (control_plane w)
+  given : AreGiven (control_plane w)
+  told : HaveToldLinks (control_plane w)
+
+pub run_links : (host : HostRule) → HostsSendData host → (plan : Plan) (limits : Limits) (moments : List Moment) (new : WorldView) → CanBegin plan →
+    WorldRun Loose manager_rule host (booted plan limits) moments new → HaveToldLinks (control_plane new)
+run_links host sends plan limits moments new can run =
+    (kept_in_run Loose manager_rule host loose_steps_are_accounted sends Holds step
+    (λ w entry holds. record { hosts = holds.hosts; placed = holds.placed; voting = holds.voting; given = holds.given; told = holds.told })
+    (booted plan limits) moments new (booted_is_counted plan limits can) (record {
+      hosts = hosts_at_first plan can.is_plan;
+      placed = placed_at_first plan limits can.is_plan;
+      voting = votes_at_first plan limits;
+      given = given_at_first plan limits;
+      told = links_at_first plan limits;
+    }) run).told
+  where
+    step : (old : WorldView) (event : Event) (next : WorldView) → IsCounted old → Holds old → refusal old event ≡ None → WorldStep Loose manager_rule host old event next → Holds next
+    step old event next counted holds none does =
+        let before : Kept old = record { counted = counted; hosts = holds.hosts; placed = holds.placed; voting = holds.voting; given = holds.given } in
+        let kept = step_keeps_all host sends old event next before none does in
+        let whole = whole_step Loose manager_rule host loose_steps_are_accounted old event next counted holds.hosts none does in
+        record {
+          hosts = kept.hosts;
+          placed = kept.placed;
+          voting = kept.voting;
+          given = kept.given;
+          told = plane_links (control_plane old) (control_plane next) counted.formed.plan kept.counted.formed.plan (names_neighbours next kept) holds.told whole.0 whole.1;
+        }

@@ -1,0 +1,5 @@
+use Rattle.pl_records.proofs.Running.{step_ordered}
+use Rattle.pl_records.proofs.record_laws.each_step_keeps_orders.Goals as goal
+
+pub returns : goal.returns
+returns g c = step_ordered g.H.HostCore.rule g.met.H.HostCore.sends

@@ -1,0 +1,5 @@
+use Rattle.pl_records.proofs.Running.{run_ordered}
+use Rattle.pl_records.proofs.record_laws.orders_are_of_the_records_in_every_run.Goals as goal
+
+pub returns : goal.returns
+returns g c = run_ordered g.H.HostCore.rule g.met.H.HostCore.sends

@@ -1,0 +1,5 @@
+use Rattle.pl_records.proofs.Running.{run_reported}
+use Rattle.pl_records.proofs.record_laws.reports_are_kept_in_every_run.Goals as goal
+
+pub returns : goal.returns
+returns g c = run_reported g.H.HostCore.rule g.met.H.HostCore.sends

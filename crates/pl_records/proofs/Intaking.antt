@@ -33,7 +33,7 @@ use Rattle.pl_manager_rule.specs.Histories.{link_said, members_said, place_said}
 use Rattle.pl_switch_rule.specs.Messages.{with_part}
 use Rattle.pl_control_plane.specs.ControlPlanes.{tells}
 use Rattle.pl_records.specs.Words.{avoid_said, last_said}
-use Rattle.std.proofs.Common.{◌⊎◌, length, inl, inr, get_or-set_same, get_or-set_other}
+use Rattle.std.proofs.Common.{length, inl, inr, get_or-set_same, get_or-set_other}
 use Rattle.std.proofs.lemmas.Bool.{cases_eq, cases_lt}
 use Rattle.std.proofs.lemmas.List.{get_or_past}
 use Rattle.pl_frame.specs.declared.address.SwitchId.{SwitchId}

@@ -1,16 +1,15 @@
 -- What a switch tells the manager of its links where its view changes.
-use Rattle.std.proofs.Common.{◌≡◌, ◌⊎◌, ℕ, zero, suc, ◌+◌, ◌<◌, ◌==◌, ◌&&◌, not, Bool, true, false, cond, if◌then◌else◌, List, [], ◌∷◌, ◌++◌, map, Option, Some, None, unwrap_or, get_or, nat_lt, refl, sym, ap, ◌∙◌, subst, inl, inr, arith, eqb-true, eq-eqb, true≢false}
+use Rattle.std.proofs.Common.{◌≡◌, ◌⊎◌, ℕ, zero, suc, ◌+◌, ◌<◌, ◌&&◌, not, Bool, true, false, if◌then◌else◌, List, [], ◌∷◌, ◌++◌, Option, Some, None, unwrap_or, get_or, nat_lt, refl, sym, ap, ◌∙◌, subst, inl, inr, arith, true≢false}
 use Rattle.std.specs.List.{flat_map, range_with_len}
 use Rattle.std.proofs.lemmas.Bool.{cases_eq, cond_both}
 use Rattle.std.proofs.lemmas.Option.{same_Some}
 use Rattle.pl_frame.specs.declared.address.SwitchId.{SwitchId}
-use Rattle.pl_layouts.specs.declared.place.Place.{Place}
 use Rattle.pl_layouts.specs.Equality.{same_switch}
 use Rattle.pl_layouts.specs.Placement.{is_known, same_place}
 use Rattle.pl_journal.specs.Places.{are_alike}
 use Rattle.pl_core.specs.declared.acts.Act.{Act}
 use Rattle.pl_core.specs.declared.acts.Act.TheVariants.{Tell}
-use Rattle.pl_core.specs.declared.messages.ToManager.TheVariants.{Link, PodWanted, Place as TellPlace}
+use Rattle.pl_core.specs.declared.messages.ToManager.TheVariants.{PodWanted, Place as TellPlace}
 use Rattle.pl_core.specs.declared.neighbour.Neighbour.{Neighbour}
 use Rattle.pl_core.specs.PortRecords.{heard_echo, heard_id, id_at, is_id, is_usable, is_usable_record, new_port, port_of, ports_of_switch}
 use Rattle.pl_core.specs.SwitchViews.{SwitchView}

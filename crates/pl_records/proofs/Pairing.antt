@@ -1,5 +1,5 @@
 -- Each step of the control plane keeps it that links are told.
-use Rattle.std.proofs.Common.{◌≡◌, ◌⊎◌, ℕ, zero, suc, ◌<◌, Bool, true, false, List, [], ◌∷◌, ◌++◌, length, map, replicate, Option, Some, None, slice_get, get_or, refl, sym, ap, ◌∙◌, subst, inl, inr, arith, Contains, ne_eqb}
+use Rattle.std.proofs.Common.{◌≡◌, ℕ, zero, suc, ◌<◌, false, List, [], ◌∷◌, ◌++◌, map, Some, slice_get, get_or, refl, sym, ap, ◌∙◌, subst, inl, inr, arith, Contains}
 use Rattle.std.proofs.lemmas.Bool.{cases_eq, cases_lt}
 use Rattle.std.proofs.lemmas.Option.{get_or_from_slice_get, same_Some, slice_get-get_or}
 use Rattle.pl_frame.specs.declared.address.SwitchId.{SwitchId}
@@ -9,13 +9,13 @@ use Rattle.pl_wiring.specs.declared.link.Peer.{Peer}
 use Rattle.pl_wiring.specs.declared.link.Peer.TheVariants.{HostPort, Switch}
 use Rattle.pl_wiring.specs.FatTree.{IsTreeLink}
 use Rattle.pl_wiring.specs.Labels.{switch_count}
-use Rattle.pl_wiring.specs.Peers.{HasEnds, peer_of}
+use Rattle.pl_wiring.specs.Peers.{HasEnds}
 use Rattle.pl_wiring.specs.Plan.{IsPlan, Plan}
 use Rattle.pl_wiring.proofs.Ends.{at_contained, link_rises, same_switch as same_no}
 use Rattle.pl_wiring.proofs.Linked.{peer_is_switch}
 use Rattle.pl_core.specs.declared.messages.ToManager.{ToManager}
-use Rattle.pl_core.specs.ManagerViews.{ManagerView, booted_manager, is_told_usable}
-use Rattle.pl_core.specs.PortRecords.{heard_id, id_at, is_usable, new_port}
+use Rattle.pl_core.specs.ManagerViews.{is_told_usable}
+use Rattle.pl_core.specs.PortRecords.{heard_id, is_usable, new_port}
 use Rattle.pl_core.specs.declared.neighbour.PortRecord.{PortRecord}
 use Rattle.pl_core.specs.SwitchFacts.{switch_at_boot}
 use Rattle.pl_core.specs.SwitchInputs.SwitchInput.{Comes, Says, Tick}
@@ -23,7 +23,6 @@ use Rattle.pl_core.specs.SwitchInputs.{SwitchInput}
 use Rattle.pl_core.specs.SwitchViews.{SwitchView}
 use Rattle.pl_manager_rule.specs.Histories.{link_said}
 use Rattle.pl_manager_rule.specs.ManagerRule.{manager_hears, manager_rule, view_after}
-use Rattle.pl_manager_rule.proofs.Speakers.{same_itself}
 use Rattle.pl_switch_rule.specs.SwitchRule.{Loose, switch_step}
 use Rattle.pl_world.specs.declared.limits.Limits.{Limits}
 use Rattle.pl_world.specs.Booting.{booted}

@@ -1,33 +1,27 @@
 -- Each step of the control plane keeps it that the last reports say what the switches would tell now.
-use Rattle.std.proofs.Common.{◌≡◌, ◌⊎◌, ℕ, Bool, true, false, if◌then◌else◌, List, [], ◌∷◌, ◌++◌, map, Option, Some, None, unwrap_or, slice_get, refl, sym, ap, ◌∙◌, subst, inl, inr, eqb-true, ne_eqb, eq-eqb}
-use Rattle.std.proofs.lemmas.Bool.{cases_eq, cond_both, eqb-true}
+use Rattle.std.proofs.Common.{◌≡◌, ◌⊎◌, ℕ, Bool, true, false, List, ◌∷◌, ◌++◌, Option, Some, unwrap_or, slice_get, sym, ap, ◌∙◌, subst, inl, inr, ne_eqb}
+use Rattle.std.proofs.lemmas.Bool.{cases_eq}
 use Rattle.std.proofs.lemmas.Option.{same_Some}
 use Rattle.pl_frame.specs.declared.address.SwitchId.{SwitchId}
-use Rattle.pl_frame.specs.Ethernet.{payload_of}
-use Rattle.pl_layouts.specs.declared.control.Control.{Control}
-use Rattle.pl_layouts.specs.Control.{is_control}
 use Rattle.pl_layouts.specs.Equality.{same_switch}
-use Rattle.pl_wiring.specs.Plan.{IsPlan, Plan}
+use Rattle.pl_wiring.specs.Plan.{IsPlan}
 use Rattle.pl_core.specs.declared.messages.ToManager.{ToManager}
-use Rattle.pl_core.specs.ManagerViews.{ManagerView, place_of}
+use Rattle.pl_core.specs.ManagerViews.{place_of}
 use Rattle.pl_core.specs.SwitchInputs.SwitchInput.{Comes, Says, Tick}
 use Rattle.pl_core.specs.SwitchInputs.{SwitchInput}
-use Rattle.pl_core.specs.SwitchViews.{SwitchView}
 use Rattle.pl_manager_rule.specs.Histories.{members_said, place_said}
 use Rattle.pl_manager_rule.specs.ManagerRule.{manager_hears, manager_rule, view_after}
 use Rattle.pl_manager_rule.proofs.Speakers.{same_itself}
-use Rattle.pl_manager_rule.proofs.Avoided.{same_is}
-use Rattle.pl_steps.specs.Steps.{SwitchStep}
 use Rattle.pl_switch_rule.specs.Intake.{has_member_of}
 use Rattle.pl_switch_rule.specs.SwitchRule.{Loose, switch_step}
 use Rattle.pl_control_plane.specs.ControlPlanes.{ControlPlane, tells}
-use Rattle.pl_control_plane.specs.PlaneSteps.{AreAsBefore, IsLeft, IsReportTaken, LosesNoWord, ManagerTurns, PlaneStep, SwitchTurns}
+use Rattle.pl_control_plane.specs.PlaneSteps.{IsReportTaken, LosesNoWord, ManagerTurns, PlaneStep, SwitchTurns}
 use Rattle.pl_control_plane.specs.PlaneSteps.PlaneStep.{Carried, Entered, Heard, Left, Managed, Ordered, Ticked}
 use Rattle.pl_records.specs.Records.{HasReported, HaveReported, has_told_members}
 use Rattle.pl_records.specs.Words.{last_said}
 use Rattle.pl_records.proofs.Last.{last_append}
 use Rattle.pl_records.proofs.Recording.{if_of, members_heard, one_switch, place_heard}
-use Rattle.pl_records.proofs.Turning.{TellsRight, tells_right}
+use Rattle.pl_records.proofs.Turning.{tells_right}
 
 -- the wiring, the views, the reports and the manager are the same
 pub record IsSameTo (f g : ControlPlane) : Type 0 where

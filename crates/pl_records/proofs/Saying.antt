@@ -1,5 +1,5 @@
 -- What the acts of the manager say to one switch.
-use Rattle.std.proofs.Common.{◌≡◌, ◌⊎◌, ℕ, ◌+◌, ◌==◌, Bool, true, false, cond, if◌then◌else◌, List, [], ◌∷◌, ◌++◌, length, map, flat_map, Option, Some, None, unwrap_or, slice_get, get_or, position, refl, sym, ap, ◌∙◌, subst, inl, inr, eqb-true, eq-eqb, true≢false}
+use Rattle.std.proofs.Common.{◌≡◌, ℕ, ◌+◌, ◌==◌, Bool, true, false, if◌then◌else◌, List, [], ◌∷◌, ◌++◌, length, map, flat_map, Option, Some, None, unwrap_or, slice_get, get_or, position, refl, sym, ap, ◌∙◌, subst, inl, inr, eqb-true, eq-eqb, true≢false}
 use Rattle.std.specs.List.{AllByRecursion, list_any}
 use Rattle.std.proofs.lemmas.List.Quantifiers.{position-Some}
 use Rattle.std.proofs.lemmas.Option.{get_or_from_slice_get}
@@ -13,14 +13,13 @@ use Rattle.pl_core.specs.declared.acts.ManagerAct.TheVariants.{Number, Say}
 use Rattle.pl_core.specs.declared.messages.ToManager.{ToManager}
 use Rattle.pl_core.specs.declared.messages.ToManager.TheVariants as tell
 use Rattle.pl_core.specs.declared.messages.ToSwitch.{ToSwitch}
-use Rattle.pl_core.specs.declared.messages.ToSwitch.TheVariants as say
 use Rattle.pl_core.specs.ManagerViews.{Learnt, ManagerView, Registration, lookup, newest, registry}
 use Rattle.pl_core.proofs.Among.{IsAmong}
-use Rattle.pl_manager_rule.specs.ManagerRule.{answer_to, invalidation, reply, view_after}
+use Rattle.pl_manager_rule.specs.ManagerRule.{answer_to, invalidation, reply}
 use Rattle.pl_manager_rule.proofs.Avoided.{same_is}
 use Rattle.pl_manager_rule.proofs.Speakers.{same_itself}
 use Rattle.pl_addresses.proofs.Saying.{place_is}
-use Rattle.pl_control_plane.specs.PlaneSteps.{is_to, ordered, ordered_by}
+use Rattle.pl_control_plane.specs.PlaneSteps.{is_to, ordered}
 use Rattle.pl_control_plane.proofs.PlaneQueues.{flat_map_append}
 use Rattle.pl_records.specs.Words.{IsNoOrder, last_said}
 use Rattle.pl_records.proofs.Last.{last_append}

@@ -1,6 +1,5 @@
 -- What a switch tells the manager in a step, whatever comes.
-use Rattle.std.proofs.Common.{◌≡◌, ℕ, zero, suc, get_or, ◌+◌, ◌==◌, ◌&&◌, ◌%◌, not, nat_lt, Bool, true, false, if◌then◌else◌, List, [], ◌∷◌, ◌++◌, map, Option, Some, None, is_none, unwrap_or, Result, Ok, Err, refl, sym, ap, ◌∙◌, subst}
-use Rattle.std.proofs.lemmas.Bool.{cond_both}
+use Rattle.std.proofs.Common.{◌≡◌, ℕ, zero, suc, get_or, ◌==◌, ◌&&◌, nat_lt, Bool, true, false, if◌then◌else◌, List, [], ◌∷◌, map, Option, Some, None, unwrap_or, Result, Ok, Err, refl, sym, ap, ◌∙◌}
 use Rattle.pl_frame.specs.declared.address.SwitchId.{SwitchId}
 use Rattle.pl_frame.specs.Ethernet.{payload_of}
 use Rattle.pl_layouts.specs.declared.control.Control.{Control}
@@ -10,13 +9,11 @@ use Rattle.pl_layouts.specs.declared.control.Ldm.{Ldm as Message}
 use Rattle.pl_layouts.specs.declared.control.Proposal.{Proposal as Proposed}
 use Rattle.pl_layouts.specs.declared.control.Vote.{Vote as Answer}
 use Rattle.pl_layouts.specs.declared.place.Place.{Place}
-use Rattle.pl_layouts.specs.Control.{control_frame, control_in, is_control}
+use Rattle.pl_layouts.specs.Control.{control_in, is_control}
 use Rattle.pl_layouts.specs.Placement.{is_known}
 use Rattle.pl_layouts.specs.Votes.{counts, gives_way}
 use Rattle.pl_core.specs.declared.acts.Act.TheVariants.{Control as ControlAct}
-use Rattle.pl_core.specs.declared.messages.ToSwitch.{ToSwitch}
 use Rattle.pl_core.specs.declared.messages.TreePart.{TreePart}
-use Rattle.pl_core.specs.declared.switch_records.Member.{Member}
 use Rattle.pl_core.specs.Announcements.{announcement}
 use Rattle.pl_core.specs.PortRecords.{aged, heard_id, is_usable, new_port, place_at, port_of, ports_where}
 use Rattle.pl_core.specs.SwitchFacts.{hold_at}
@@ -39,7 +36,7 @@ use Rattle.pl_records.proofs.Telling.{AreUnsaid, IsStill, either_still, rests_st
 use Rattle.pl_records.proofs.Linking.{IsOnlyAt, IsTold, either_told, still_told, told_link, unheard}
 use Rattle.pl_records.proofs.Last.{last_silent, silent_link, silent_members, silent_place}
 use Rattle.pl_records.proofs.Passing.{changes_right}
-use Rattle.pl_records.proofs.Intaking.{IsObeying, data_right, manager_obeyed, parts_after, silent_with}
+use Rattle.pl_records.proofs.Intaking.{data_right, manager_obeyed, parts_after, silent_with}
 
 -- the avoid list and the parts once this came
 abbrev pub avoid_after : SwitchInput → List (SwitchId × ℕ × ℕ) → List (SwitchId × ℕ × ℕ)

@@ -1,6 +1,6 @@
 -- The manager's records are what the switches told, and each switch's avoid list and tree parts are those of the records: with what waits between
 -- them in every control plane of a run, and as they stand where nothing waits.
-use Rattle.std.specs.Prelude.{◌≡◌, ℕ, Bool, false, List, Some, unwrap_or, slice_get}
+use Rattle.std.specs.Prelude.{◌≡◌, ℕ, Bool, false, Some, unwrap_or, slice_get}
 use Rattle.std.specs.List.{AllByRecursion}
 use Rattle.std.specs.List.Sorted.{IsStrictlySortedBy}
 use Rattle.std.specs.Map.{keys_of}

@@ -1,5 +1,5 @@
 use Rattle.std.proofs.Common.{sym, subst}
-use Rattle.pl_wiring.specs.Plan.{IsPlan, Plan}
+use Rattle.pl_wiring.specs.Plan.{IsPlan}
 use Rattle.pl_manager_rule.specs.ManagerRule.{manager_rule}
 use Rattle.pl_switch_rule.specs.SwitchRule.{Loose}
 use Rattle.pl_switch_rule.proofs.AccountedSteps.{loose_steps_are_accounted}

@@ -220,7 +220,7 @@ module _ (f m : ControlPlane) (is : IsPlan f.plan) (placed : ArePlaced f.plan m)
 
 pub seen_trying : (f g : ControlPlane) → IsPlan f.plan → ArePlaced f.plan f → CanTell f → AreTryingBy f.plan f.view f.says → Seen f g → AreTryingBy f.plan g.view g.says
 seen_trying f g is placed can t (Gone same left) = left_trying f.plan f g same left t
-seen_trying f g is placed can t (Quiet m s st turn aside) =
+seen_trying f g is placed can t (Quiet m s st turn aside ports) =
     let w = left_trying f.plan f m turn.left.view turn.left.says t in
     turned_trying f m g s st turn w
     (quiet_owes f m is (left_keeps f.plan f m turn.left placed) w s turn.there st aside.same aside.holds (λ port. sends_none port st.acts aside.unsaid))

@@ -1,5 +1,5 @@
 -- What a step of the control plane is to one switch, where places are true: it steps quietly, it ticks, or it hears a message of a neighbour.
-use Rattle.std.proofs.Common.{◌≡◌, ℕ, ◌<◌, Bool, true, false, if◌then◌else◌, List, [], ◌∷◌, ◌++◌, Result, Ok, Err, refl, sym, ◌∙◌, ap, subst, subst₂, inl, inr}
+use Rattle.std.proofs.Common.{◌≡◌, ℕ, ◌<◌, Bool, true, false, if◌then◌else◌, List, [], ◌∷◌, ◌++◌, Result, Ok, Err, refl, sym, ◌∙◌, ap, subst, subst₂, arith, inl, inr}
 use Rattle.std.specs.List.{AllByRecursion}
 use Rattle.std.proofs.lemmas.Bool.{cases_eq}
 use Rattle.pl_frame.specs.Ethernet.{payload_of}
@@ -28,6 +28,8 @@ use Rattle.pl_places.proofs.Hearing.{control_turn}
 use Rattle.pl_places.proofs.Later.{IsGoodTurn, left_keeps, true_of_itself}
 use Rattle.pl_places.proofs.Obeying.{order_turn}
 use Rattle.pl_places.proofs.Ticking.{tick_turn}
+use Rattle.pl_votes.specs.Voting.{aggregation_no}
+use Rattle.pl_placing.proofs.Ports.{ports_carried, ports_manager}
 use Rattle.pl_votes.proofs.Aside.{IsMild, aside_data, mild, mild_manager}
 
 -- a switch steps, after items left queues
@@ -40,9 +42,13 @@ pub record Turned (f m g : ControlPlane) (s : ℕ) (st : SwitchStep) : Type 0 wh
   pub shaped : IsShaped (m.view s)
   pub size : (m.view s).k ≡ f.plan.k
 
+-- an aggregation switch has the same records of its ports
+abbrev pub HasSamePorts : ControlPlane → ControlPlane → ℕ → SwitchView → Type 0
+HasSamePorts f m s after = (pod j : ℕ) → aggregation_no f.plan.k pod j ≡ s → after.ports ≡ (m.view s).ports
+
 pub data Seen (f g : ControlPlane) : Type 0 where
   Gone : ((s : ℕ) → g.view s ≡ f.view s) → ((s port : ℕ) → LeftOver (f.says s port) (g.says s port)) → Seen f g
-  Quiet : (m : ControlPlane) (s : ℕ) (st : SwitchStep) → Turned f m g s st → IsMild (m.view s) st → Seen f g
+  Quiet : (m : ControlPlane) (s : ℕ) (st : SwitchStep) → Turned f m g s st → IsMild (m.view s) st → HasSamePorts f m s st.view → Seen f g
   Ticks : (s : ℕ) → Turned f f g s (ticks (f.view s)) → Seen f g
   Hears : (m : ControlPlane) (t q s port : ℕ) (read : Result Control ControlError) → AreJoined f.plan t q s port → IsTakenOut f t q (messages_of read) m →
       AllByRecursion (IsGoodMessage (m.view t).id (m.view t).place (has_heard (m.view t) q)) (messages_of read) → Turned f m g s (hears_control (m.view s) port read) → Seen f g
@@ -108,13 +114,14 @@ module _ (manager : ManagerRule) (f g : ControlPlane) (is : IsPlan f.plan) (old 
       (control_turn f.plan m s is placed (positions_left m taken.left) there size t q port joined read good))
 
   data_seen : (m : ControlPlane) (s port : ℕ) (frame : List ℕ) → IsLeft f m → is_control frame ≡ false → (turns : SwitchTurns Loose m s (Comes port frame) g) →
-      IsGoodTurn f.plan m s (data_comes turns.ruled.choose (m.view s) port frame).view (data_comes turns.ruled.choose (m.view s) port frame).acts → Seen f g
-  data_seen m s port frame left data_frame turns good =
+      IsGoodTurn f.plan m s (data_comes turns.ruled.choose (m.view s) port frame).view (data_comes turns.ruled.choose (m.view s) port frame).acts →
+      HasSamePorts f m s (data_comes turns.ruled.choose (m.view s) port frame).view → Seen f g
+  data_seen m s port frame left data_frame turns good ports =
       let view = m.view s in
       let comes = data_comes turns.ruled.choose view port frame in
       let step : switch_step turns.ruled.choose view (Comes port frame) ≡ comes =
       ap (λ b. if◌then◌else◌ {A = SwitchStep} b (control_comes view port frame) comes) data_frame in
-      Quiet m s comes (turned f m g s (Comes port frame) comes left turns step good) (mild view comes (aside_data turns.ruled.choose view port frame))
+      Quiet m s comes (turned f m g s (Comes port frame) comes left turns step good) (mild view comes (aside_data turns.ruled.choose view port frame)) ports
 
   pub step_seen : PlaneStep Loose manager f g → Seen f g
   step_seen (Left left) = Gone left.view left.says
@@ -126,9 +133,13 @@ module _ (manager : ManagerRule) (f g : ControlPlane) (is : IsPlan f.plan) (old 
       data_seen m s port frame taken.left data_frame turns
       (carried_turn f.plan m s is placed (there_of m s taken.left.plan turns.there) turns.shaped (turns.size ∙ ap (λ (p : Plan). p.k) taken.left.plan)
       turns.ruled.choose t q port frame turns.ruled.is_choice joined (rw (taken.left.view s) ((old.links t q s port joined).evidence carries)))
+      (λ pod j here. ports_carried turns.ruled.choose (m.view s) port frame turns.ruled.is_choice
+      (placed.sound s (there_of m s taken.left.plan turns.there)).homes (placed.links t q s port joined).recorded.no_host
+      (rw (taken.left.view s) ((old.links t q s port joined).evidence carries)))
   step_seen (Entered s port frame edge within free data_frame turns) =
       data_seen f s port frame (left_self f) data_frame turns
       (entered_turn f.plan f s is old turns.there turns.shaped turns.size port edge within free turns.ruled.choose frame turns.ruled.is_choice)
+      (λ pod j here. absurd (omega (arith, here, edge)))
   step_seen (Ordered s says m taken turns) =
       let placed = left_keeps f.plan f m taken.left old in
       let small : AllByRecursion IsPodNumber (says ∷ m.orders s) = subst (AllByRecursion IsPodNumber) taken.first (numbers s) in
@@ -137,6 +148,7 @@ module _ (manager : ManagerRule) (f g : ControlPlane) (is : IsPlan f.plan) (old 
       (turned f m g s (Says says) st taken.left turns refl
       (order_turn f.plan m s is placed (there_of m s taken.left.plan turns.there) turns.ruled.choose says turns.ruled.is_choice small.0))
       (mild_manager turns.ruled.choose (m.view s) says)
+      (λ pod j here. ports_manager turns.ruled.choose (m.view s) says turns.ruled.is_choice (placed.sound s (there_of m s taken.left.plan turns.there)).homes)
   step_seen (Managed s id told m there named taken turns) =
       Gone (λ t. turns.view t ∙ taken.left.view t)
       (λ t port. let queue = taken.left.says t port in record { gone = queue.gone; split = queue.split ∙ ap (λ xs. queue.gone ++ xs) (sym (turns.says t port)) })

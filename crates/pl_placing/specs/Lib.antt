@@ -1,2 +1,3 @@
 pub mod Trying
 pub mod Placing
+pub mod Noting

@@ -12,6 +12,8 @@ use Rattle.pl_world.specs.declared.limits.Limits.{Limits}
 use Rattle.pl_world.specs.Booting.{booted}
 use Rattle.pl_control_plane.specs.ControlPlanes.{control_plane, no_switch, queue_out, said}
 use Rattle.pl_votes.specs.Voting.{aggregation_no, edge_no}
+use Rattle.pl_core.specs.PortRecords.{heard_place, new_port, place_at}
+use Rattle.pl_placing.specs.Noting.{AreNoted}
 use Rattle.pl_placing.specs.Trying.{AreTrying, IsTrueVote, IsTrying}
 
 pub replicated : {X : Type 0} (n i : ℕ) (x : X) → get_or (replicate n x) i x ≡ x
@@ -50,3 +52,17 @@ trying_at_first plan limits = record {
   reasons = λ pod i label more.
       absurd (booted_view (λ v. 1 < v.attempt → ⊥) (λ id k more. omega (arith, more)) plan.k plan.ids (edge_no plan.k pod i) more);
 }
+
+untold : (id : SwitchId) (k q : ℕ) → (place_at (switch_at_boot id k) q).position ≡ None
+untold id k q = ap (λ r. (heard_place r.heard).position) (replicated k q new_port)
+
+pub noted_at_first : (plan : Plan) (limits : Limits) → AreNoted (control_plane (booted plan limits))
+noted_at_first plan limits pod i j p q edge aggregation joined = record {
+  marked = λ x y hold is has own. absurd (never x is);
+  silent = λ x is. absurd (never x is);
+}
+  where
+    never : (x : ℕ) → (place_at (get_or (map (λ id. switch_at_boot id plan.k) plan.ids) (aggregation_no plan.k pod j) no_switch) q).position ≡ Some x → ⊥
+    never x is =
+        let none = booted_view (λ v. (place_at v q).position ≡ None) (λ id k. untold id k q) plan.k plan.ids (aggregation_no plan.k pod j) in
+        absurd (cc (none, is))

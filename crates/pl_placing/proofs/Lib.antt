@@ -10,3 +10,4 @@ pub mod Telling
 pub mod Notes
 pub mod Booted
 pub mod Runs
+pub mod Resting

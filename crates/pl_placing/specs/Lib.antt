@@ -1,3 +1,4 @@
 pub mod Trying
 pub mod Placing
 pub mod Noting
+pub mod Resting

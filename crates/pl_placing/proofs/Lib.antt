@@ -11,3 +11,4 @@ pub mod Notes
 pub mod Booted
 pub mod Runs
 pub mod Resting
+pub mod AtRest

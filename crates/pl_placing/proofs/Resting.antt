@@ -169,3 +169,67 @@ module _ (f : ControlPlane) (is : IsPlan f.plan) (placed : ArePlaced f.plan f) (
     | inl none ↦ absurd (none_left (2 ^ 48) i edge level (reaches (f.view (edge_no f.plan.k pod i)).id.0 (2 ^ 48)) none)
     | inr some ↦ some
   ]
+
+  -- The edge switch with the smallest id did not go on from position 0, or another one has it.
+  module _ (voting : AreVoting f) where
+    first_step : (i : ℕ) → IsLabel f.plan.k (Edge pod i) → (f.view (edge_no f.plan.k pod i)).place.level ≡ Some 0 →
+        ((j : ℕ) → IsLabel f.plan.k (Edge pod j) → (f.view (edge_no f.plan.k pod j)).place.level ≡ Some 0 →
+        (f.view (edge_no f.plan.k pod j)).id.0 < (f.view (edge_no f.plan.k pod i)).id.0 → HasFirst f pod) → HasFirst f pod
+    first_step i edge level next = elim (cases_lt 1 (f.view (edge_no f.plan.k pod i)).attempt) [
+      | inl more_than_one ↦ by (trying.reasons pod i edge more_than_one)
+      | inr one ↦
+          let k = f.plan.k in let e = edge_no k pod i in
+          let begun = (placed.sound e (number_there f.plan is (Edge pod i) edge)).able.begun in
+          let at_first : (f.view e).attempt ≡ 1 = omega (arith, begun, one) in
+          let some = have_positions i edge level in
+          let two = half_at_least k is.arity in
+          let zeroth : 0 < k / 2 = omega (arith, two) in
+          let up = link_up i 0 edge (edge.0, zeroth) in
+          let pair = voting.pairs pod i 0 up.0 up.1.q edge (edge.0, zeroth) up.1.joined in
+          (i, edge, some.1 ∙ ap Some (pair.fixed some.0 some.1 ∙ (trying.trying e).first at_first))
+    ]
+      where
+        by : HasReason f.plan.k f.view pod (f.view (edge_no f.plan.k pod i)).id → HasFirst f pod
+        by (IsTaken j other position) = (j, other, position)
+        by (IsBehind j other level_j less) = next j other level_j less
+
+    first_by : (n i : ℕ) → IsLabel f.plan.k (Edge pod i) → (f.view (edge_no f.plan.k pod i)).place.level ≡ Some 0 → (f.view (edge_no f.plan.k pod i)).id.0 ≤ n → HasFirst f pod
+    first_by zero i edge level small = first_step i edge level (λ j other level_j less. absurd (omega (arith, small, less)))
+    first_by (suc n) i edge level small = first_step i edge level (λ j other level_j less. first_by n j other level_j (omega (arith, small, less)))
+
+    pub has_first : (i : ℕ) → IsLabel f.plan.k (Edge pod i) → (f.view (edge_no f.plan.k pod i)).place.level ≡ Some 0 → HasFirst f pod
+    has_first i edge level = let own = (f.view (edge_no f.plan.k pod i)).id.0 in first_by own i edge level (omega arith)
+
+    -- it tells the pod to the aggregation switches, and they tell the others
+    pub know_pod : FirstKnowsPod f pod → KnowPod f pod
+    know_pod first_knows i edge level =
+        let k = f.plan.k in
+        let two = half_at_least k is.arity in
+        let zeroth : 0 < k / 2 = omega (arith, two) in
+        let aggregation : IsLabel k (Aggregation pod 0) = (edge.0, zeroth) in
+        let a = aggregation_no k pod 0 in
+        let lowest = has_first i edge level in
+        let z = edge_no k pod lowest.0 in
+        let number = first_knows lowest.0 lowest.1 lowest.2 in
+        let up = link_up lowest.0 0 lowest.1 aggregation in
+        let link = rests lowest.0 0 up.0 up.1.q lowest.1 aggregation up.1.joined in
+        let full_a = (placed.sound a (number_there f.plan is (Aggregation pod 0) aggregation)).full in
+        let told_level : (place_at (f.view a) up.1.q).level ≡ Some 0 = ap (λ (x : Place). x.level) link.told_up ∙ ((placed.own z).position 0 lowest.2).0 in
+        let told_pod : (place_at (f.view a) up.1.q).pod ≡ Some number.0 = ap (λ (x : Place). x.pod) link.told_up ∙ number.1 in
+        let level_is = level_of_it aggregation (full_a.one up.1.q told_level) in
+        let pod_is = known (f.view a).place.pod (full_a.up up.1.q number.0 level_is told_level told_pod) in
+        let down = link_up i 0 edge aggregation in
+        let back = rests i 0 down.0 down.1.q edge aggregation down.1.joined in
+        let full_e = (placed.sound (edge_no k pod i) (number_there f.plan is (Edge pod i) edge)).full in
+        known (f.view (edge_no k pod i)).place.pod
+        (full_e.down down.0 pod_is.0 level (ap (λ (x : Place). x.level) back.told_down ∙ level_is) (ap (λ (x : Place). x.pod) back.told_down ∙ pod_is.1))
+      where
+        known : (o : Option ℕ) → (o ≡ None → ⊥) → (n : ℕ) × (o ≡ Some n)
+        known None some = absurd (some refl)
+        known (Some n) some = (n, refl)
+
+        level_of_it : IsLabel f.plan.k (Aggregation pod 0) → ((f.view (aggregation_no f.plan.k pod 0)).place.level ≡ None → ⊥) → (f.view (aggregation_no f.plan.k pod 0)).place.level ≡ Some 1
+        level_of_it aggregation some =
+            let a = aggregation_no f.plan.k pod 0 in
+            let level = known (f.view a).place.level some in
+            level.1 ∙ ap Some ((placed.own a).level level.0 level.1 ∙ ap level_of (label_of-number_of f.plan.k (Aggregation pod 0) aggregation))

@@ -13,6 +13,7 @@ use Rattle.pl_world.specs.Booting.{booted}
 use Rattle.pl_control_plane.specs.ControlPlanes.{control_plane, no_switch, queue_out, said}
 use Rattle.pl_votes.specs.Voting.{aggregation_no, edge_no}
 use Rattle.pl_core.specs.PortRecords.{heard_place, new_port, place_at}
+use Rattle.pl_placing.specs.Bounding.{IsBounded}
 use Rattle.pl_placing.specs.Noting.{AreNoted}
 use Rattle.pl_placing.specs.Trying.{AreTrying, IsTrueVote, IsTrying}
 
@@ -66,3 +67,7 @@ noted_at_first plan limits pod i j p q edge aggregation joined = record {
     never x is =
         let none = booted_view (λ v. (place_at v q).position ≡ None) (λ id k. untold id k q) plan.k plan.ids (aggregation_no plan.k pod j) in
         absurd (cc (none, is))
+
+pub bounded_at_first : (plan : Plan) (limits : Limits) (s : ℕ) → IsBounded (booted plan limits).steps ((control_plane (booted plan limits)).view s)
+bounded_at_first plan limits s =
+    booted_view (IsBounded 0) (λ id k. record { few = λ level. absurd (cc level); at_first = λ never. refl }) plan.k plan.ids s

@@ -9,6 +9,8 @@ pub mod Noting
 pub mod Telling
 pub mod Notes
 pub mod Booted
+pub mod Counting
+pub mod Bounding
 pub mod Runs
 pub mod Resting
 pub mod AtRest

@@ -31,10 +31,13 @@ use Rattle.pl_pods.proofs.Booted.{given_at_first, numbers_fit}
 use Rattle.pl_kept.specs.Kept.{Kept}
 use Rattle.pl_kept.proofs.Keeping.{step_keeps_all}
 use Rattle.pl_kept.proofs.Telling.{can_tell}
+use Rattle.pl_placing.specs.Bounding.{IsBounded}
 use Rattle.pl_placing.specs.Noting.{AreNotedBy}
 use Rattle.pl_placing.specs.Placing.{ArePlacing}
 use Rattle.pl_placing.specs.Trying.{AreTryingBy}
-use Rattle.pl_placing.proofs.Booted.{noted_at_first, trying_at_first}
+use Rattle.pl_placing.proofs.Bounding.{seen_bounded}
+use Rattle.pl_placing.proofs.Counting.{one_more_step}
+use Rattle.pl_placing.proofs.Booted.{bounded_at_first, noted_at_first, trying_at_first}
 use Rattle.pl_placing.proofs.Keeping.{seen_trying}
 use Rattle.pl_placing.proofs.Notes.{seen_noted}
 use Rattle.pl_placing.proofs.Seeing.{step_seen}
@@ -61,6 +64,8 @@ module _ (host : HostRule) (sends : HostsSendData host) where
             (seen_trying f g is before.placed (can_tell old before.counted before.placed) placing.trying seen);
         noted = subst (λ (p : Plan). AreNotedBy p g.view g.says) (sym same)
             (seen_noted f g is before.placed (can_tell old before.counted before.placed) before.voting placing.noted seen);
+        bounded = λ s. subst (λ n. IsBounded n (g.view s)) (sym (one_more_step Loose manager_rule host old event new step))
+            (seen_bounded old.steps f g placing.bounded seen s);
       }
 
   step_holds : (old : WorldView) (event : Event) (new : WorldView) → IsCounted old → Holds old → refusal old event ≡ None →
@@ -85,13 +90,13 @@ module _ (host : HostRule) (sends : HostsSendData host) where
         placed = holds.placed;
         voting = holds.voting;
         given = holds.given;
-        placing = record { trying = holds.placing.trying; noted = holds.placing.noted };
+        placing = record { trying = holds.placing.trying; noted = holds.placing.noted; bounded = holds.placing.bounded };
       })
       (booted plan limits) moments new (booted_is_counted plan limits can) (record {
         hosts = hosts_at_first plan can.is_plan;
         placed = placed_at_first plan limits can.is_plan;
         voting = votes_at_first plan limits;
         given = given_at_first plan limits;
-        placing = record { trying = trying_at_first plan limits; noted = noted_at_first plan limits };
+        placing = record { trying = trying_at_first plan limits; noted = noted_at_first plan limits; bounded = bounded_at_first plan limits };
       }) run in
       all.placing

@@ -2,3 +2,4 @@ pub mod Trying
 pub mod Placing
 pub mod Noting
 pub mod Resting
+pub mod Bounding

@@ -2,7 +2,7 @@
 use Rattle.std.proofs.Common.{◌≡◌, ℕ, ◌/◌, ◌<◌, List, [], ◌∷◌, zero, suc, length, get_or, Some, ap, arith}
 use Rattle.std.specs.List.{AllByRecursion}
 use Rattle.pl_wiring.specs.declared.label.Label.TheVariants.{Edge}
-use Rattle.pl_wiring.specs.Labels.{IsLabel, switch_count}
+use Rattle.pl_wiring.specs.Labels.{IsLabel}
 use Rattle.pl_core.specs.SwitchViews.{SwitchView}
 use Rattle.pl_world.specs.Worlds.{WorldView}
 use Rattle.pl_control_plane.specs.ControlPlanes.{control_plane, no_switch}

@@ -1,8 +1,8 @@
 -- The switches below an aggregation switch, and what is known of them.
-use Rattle.std.proofs.Common.{◌≡◌, ℕ, ◌<◌, ◌/◌, Option, Some, None, refl, sym, ◌∙◌, ap, subst, arith, inl, inr, ◌⊎◌}
+use Rattle.std.proofs.Common.{◌≡◌, ℕ, ◌<◌, Some, refl, sym, ◌∙◌, ap, subst, arith}
 use Rattle.pl_wiring.specs.declared.label.Label.{Label}
 use Rattle.pl_wiring.specs.declared.label.Label.TheVariants.{Aggregation, Core, Edge}
-use Rattle.pl_wiring.specs.Labels.{IsLabel, label_of, number_of, switch_count}
+use Rattle.pl_wiring.specs.Labels.{IsLabel, label_of, number_of}
 use Rattle.pl_wiring.specs.Plan.{IsPlan, Plan}
 use Rattle.pl_wiring.proofs.LabelOrder.{half_at_least, label_of-IsLabel, label_of-number_of, number_of-label_of}
 use Rattle.pl_control_plane.specs.ControlPlanes.{AreJoined}

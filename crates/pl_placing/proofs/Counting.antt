@@ -1,5 +1,5 @@
 -- Each step of a world is one more.
-use Rattle.std.proofs.Common.{◌≡◌, ℕ, ◌+◌, false, List, [], ◌∷◌, Option, Some, None, set, slice_get, refl, ap, ◌∙◌, fold, ◌*◌, ◌<◌, if◌then◌else◌}
+use Rattle.std.proofs.Common.{◌≡◌, ℕ, ◌+◌, false, List, [], ◌∷◌, Option, Some, None, set, slice_get, refl, ap, ◌∙◌, fold}
 use Rattle.std.specs.List.{position}
 use Rattle.pl_layouts.specs.Equality.{same_switch}
 use Rattle.pl_wiring.specs.declared.link.Link.{Link}

@@ -1,5 +1,5 @@
 -- What edge switches try stays in order where each switch keeps to what it owes.
-use Rattle.std.proofs.Common.{◌≡◌, ℕ, ◌<◌, ◌≤◌, ◌*◌, Bool, true, false, List, [], ◌++◌, length, get_or, Option, Some, None, refl, sym, ◌∙◌, ap, subst, inl, inr}
+use Rattle.std.proofs.Common.{◌≡◌, ℕ, ◌<◌, ◌≤◌, ◌*◌, Bool, true, false, List, length, get_or, Option, Some, None, sym, ◌∙◌, ap, subst, inl, inr}
 use Rattle.std.specs.List.{AllByRecursion}
 use Rattle.std.proofs.lemmas.Bool.{cases_eq}
 use Rattle.pl_frame.specs.declared.address.SwitchId.{SwitchId}
@@ -72,11 +72,11 @@ pub left_trying : (plan : Plan) (f g : ControlPlane) → ((s : ℕ) → g.view s
     AreTryingBy plan f.view f.says → AreTryingBy plan g.view g.says
 left_trying plan f g same left t = paid plan f.view g.view g.says
     (record { id = λ s. ap (λ (v : SwitchView). v.id) (same s); later = λ s. rw (same s) (true_of_itself (f.view s).place) }) (record {
-    held = λ pod j q hold label is. t.held pod j q hold label (ap (λ (v : SwitchView). hold_at v q) (sym (same (aggregation_no plan.k pod j))) ∙ is);
-    said = λ pod j port label. let a = aggregation_no plan.k pod j in all_left (IsTrueVote plan.k f.view pod) (f.says a port) (g.says a port) (left a port) (t.said pod j port label);
-    trying = λ s. subst IsTrying (sym (same s)) (t.trying s);
-    reasons = λ pod i label more. t.reasons pod i label (subst (λ (v : SwitchView). 1 < v.attempt) (same (edge_no plan.k pod i)) more);
-  })
+      held = λ pod j q hold label is. t.held pod j q hold label (ap (λ (v : SwitchView). hold_at v q) (sym (same (aggregation_no plan.k pod j))) ∙ is);
+      said = λ pod j port label. let a = aggregation_no plan.k pod j in all_left (IsTrueVote plan.k f.view pod) (f.says a port) (g.says a port) (left a port) (t.said pod j port label);
+      trying = λ s. subst IsTrying (sym (same s)) (t.trying s);
+      reasons = λ pod i label more. t.reasons pod i label (subst (λ (v : SwitchView). 1 < v.attempt) (same (edge_no plan.k pod i)) more);
+    })
 
 -- what a switch owes in a step, as an aggregation switch and as an edge switch
 abbrev pub OwesHolds : Plan → (ℕ → SwitchView) → ℕ → SwitchView → Type 0

@@ -1,5 +1,5 @@
 -- Each step keeps what edge switches try in order.
-use Rattle.std.proofs.Common.{◌≡◌, ℕ, ◌+◌, ◌<◌, ◌≤◌, ◌==◌, ◌&&◌, nat_lt, Bool, true, false, if◌then◌else◌, true≢false, eqb-true, get_or, List, [], ◌∷◌, ◌++◌, Option, Some, None, Result, Ok, Err, refl, sym, ◌∙◌, ap, subst, inl, inr, ◌⊎◌}
+use Rattle.std.proofs.Common.{◌≡◌, ℕ, ◌<◌, ◌==◌, ◌&&◌, nat_lt, Bool, true, false, if◌then◌else◌, true≢false, eqb-true, get_or, List, [], ◌∷◌, ◌++◌, Option, Some, None, Result, Ok, Err, refl, sym, ◌∙◌, ap, subst, inl, inr}
 use Rattle.std.specs.List.{AllByRecursion}
 use Rattle.std.proofs.lemmas.Bool.{and_parts, cases_eq, cond_both}
 use Rattle.pl_frame.specs.declared.address.SwitchId.{SwitchId}
@@ -13,7 +13,6 @@ use Rattle.pl_layouts.specs.Placement.{is_known}
 use Rattle.pl_wiring.specs.declared.label.Label.TheVariants.{Aggregation, Edge}
 use Rattle.pl_wiring.specs.Labels.{IsLabel, switch_count}
 use Rattle.pl_wiring.specs.Plan.{IsPlan}
-use Rattle.pl_core.specs.declared.acts.Act.{Act}
 use Rattle.pl_core.specs.declared.switch_records.Hold.{Hold}
 use Rattle.pl_core.specs.PortRecords.{place_at}
 use Rattle.pl_core.specs.SwitchFacts.{hold_at}
@@ -30,17 +29,17 @@ use Rattle.pl_places.specs.Told.{IsGoodMessage, has_heard}
 use Rattle.pl_places.proofs.Later.{all_weaker, left_keeps, true_of_itself}
 use Rattle.pl_places.proofs.Neighbours.{neighbour_at, one_peer}
 use Rattle.pl_votes.specs.Voting.{CanTell, aggregation_no, edge_no}
-use Rattle.pl_votes.proofs.AggregationTurns.{answer_to, is_asked, learnt, proposal_stance, same_stance, vote_elsewhere, vote_here, vote_said}
-use Rattle.pl_votes.proofs.Aside.{IsAside, IsMild, Stance, changes, stance}
+use Rattle.pl_votes.proofs.AggregationTurns.{is_asked, learnt, same_stance, vote_elsewhere, vote_here, vote_said}
+use Rattle.pl_votes.proofs.Aside.{Stance, changes, stance}
 use Rattle.pl_votes.proofs.EdgeTurns.{vote_holds}
 use Rattle.pl_votes.proofs.Holding.{after_proposal}
 use Rattle.pl_votes.proofs.Speeches.{SaysPlace, SaysProposal, TickSays, sends_none, tick_says}
 use Rattle.pl_votes.proofs.Wired.{leads_up, same_end}
-use Rattle.pl_placing.specs.Trying.{AreTryingBy, HasReason, IsHolder, IsTrueVote, IsTrying, NamesHolder}
-use Rattle.pl_placing.proofs.Below.{IsEdgeAt, edge_joined}
-use Rattle.pl_placing.proofs.Growing.{Owes, OwesHolds, OwesReason, holds_same, left_trying, reason_same, trying_same, turned_trying, vote_later}
+use Rattle.pl_placing.specs.Trying.{AreTryingBy, HasReason, IsHolder, IsTrueVote, NamesHolder}
+use Rattle.pl_placing.proofs.Below.{edge_joined}
+use Rattle.pl_placing.proofs.Growing.{Owes, OwesHolds, holds_same, left_trying, reason_same, trying_same, turned_trying, vote_later}
 use Rattle.pl_placing.proofs.Held.{freed_was, proposal_from, told_from}
-use Rattle.pl_placing.proofs.Seeing.{Seen, Turned}
+use Rattle.pl_placing.proofs.Seeing.{Seen}
 use Rattle.pl_placing.proofs.Seeing.Seen.{Gone, Hears, Quiet, Ticks}
 use Rattle.pl_placing.proofs.Voting.{Becomes, reason_of, vote_becomes, vote_trying}
 use Rattle.pl_placing.proofs.Voting.Becomes.{MovesOn, Stays}

@@ -14,3 +14,4 @@ pub mod Bounding
 pub mod Runs
 pub mod Resting
 pub mod AtRest
+pub mod Answering

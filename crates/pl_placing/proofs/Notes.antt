@@ -1,24 +1,21 @@
 -- Each step keeps what aggregation switches note, in the control plane.
-use Rattle.std.proofs.Common.{◌≡◌, ℕ, ◌/◌, ◌<◌, ◌==◌, ◌&&◌, not, Bool, true, false, if◌then◌else◌, List, [], ◌∷◌, ◌++◌, length, get_or, Option, Some, None, Result, Ok, Err, refl, sym, ◌∙◌, ap, subst, subst₂, arith, inl, inr, ◌⊎◌}
+use Rattle.std.proofs.Common.{◌≡◌, ℕ, ◌<◌, ◌==◌, not, Bool, true, false, if◌then◌else◌, List, [], ◌∷◌, ◌++◌, get_or, Option, Some, None, Result, Ok, Err, refl, sym, ◌∙◌, ap, subst, subst₂, arith, inl, inr}
 use Rattle.std.specs.List.{AllByRecursion}
 use Rattle.std.proofs.lemmas.Bool.{and_parts, cases_eq}
 use Rattle.pl_frame.specs.declared.address.SwitchId.{SwitchId}
 use Rattle.pl_layouts.specs.declared.control.Control.{Control}
 use Rattle.pl_layouts.specs.declared.control.Control.TheVariants.{Ldm, Proposal, Vote}
 use Rattle.pl_layouts.specs.declared.control.ControlError.{ControlError}
-use Rattle.pl_layouts.specs.declared.control.Ldm.{Ldm as Message}
 use Rattle.pl_layouts.specs.declared.control.Proposal.{Proposal as Proposed}
-use Rattle.pl_layouts.specs.declared.control.Vote.{Vote as Answer}
 use Rattle.pl_layouts.specs.Control.{control_frame, is_sound_ldm, sender_of}
 use Rattle.pl_layouts.specs.declared.place.Place.{Place}
 use Rattle.pl_wiring.specs.declared.label.Label.TheVariants.{Aggregation, Edge}
-use Rattle.pl_wiring.specs.Labels.{IsLabel, label_of, switch_count}
-use Rattle.pl_wiring.specs.Plan.{IsPlan, Plan}
+use Rattle.pl_wiring.specs.Labels.{IsLabel, label_of}
+use Rattle.pl_wiring.specs.Plan.{IsPlan}
 use Rattle.pl_wiring.proofs.LabelOrder.{label_of-number_of}
 use Rattle.pl_core.specs.declared.neighbour.PortRecord.{PortRecord}
 use Rattle.pl_core.specs.declared.switch_records.Hold.{Hold}
-use Rattle.pl_core.specs.PortRecords.{heard_place, new_port, place_at}
-use Rattle.pl_core.specs.SwitchFacts.{hold_at}
+use Rattle.pl_core.specs.PortRecords.{heard_place, new_port}
 use Rattle.pl_core.specs.SwitchViews.{SwitchView}
 use Rattle.pl_steps.specs.Steps.{SwitchStep, rests}
 use Rattle.pl_switch_rule.specs.Announcing.{ticks}
@@ -41,7 +38,7 @@ use Rattle.pl_votes.proofs.Wired.{ids_differ, is_there, number_there, same_end}
 use Rattle.pl_placing.specs.Noting.{AreNotedBy, IsNoted}
 use Rattle.pl_placing.proofs.Noting.{left_noted, silent_tick, turned_noted}
 use Rattle.pl_placing.proofs.Ports.{heard_aged}
-use Rattle.pl_placing.proofs.Seeing.{Seen, Turned}
+use Rattle.pl_placing.proofs.Seeing.{Seen}
 use Rattle.pl_placing.proofs.Seeing.Seen.{Gone, Hears, Quiet, Ticks}
 use Rattle.pl_placing.proofs.Telling.{Fits, heard_here, heard_there, noted_other}
 

@@ -1,52 +1,34 @@
 -- Each step keeps what aggregation switches note of told positions.
-use Rattle.std.proofs.Common.{◌≡◌, ℕ, zero, suc, ◌+◌, ◌/◌, ◌<◌, ◌==◌, ◌&&◌, ◌||◌, not, nat_lt, Bool, true, false, true≢false, eqb-true, eq-eqb, if◌then◌else◌, cond, List, [], ◌∷◌, ◌++◌, length, get_or, set, Option, Some, None, is_none, is_some, Result, Ok, Err, refl, sym, ◌∙◌, ap, subst, subst₂, arith, inl, inr, ◌⊎◌, get_or-set_same, get_or-set_other, ne_eqb, lt-ltb}
+use Rattle.std.proofs.Common.{◌≡◌, ℕ, suc, ◌+◌, ◌<◌, ◌==◌, ◌&&◌, ◌||◌, not, nat_lt, Bool, true, false, true≢false, eq-eqb, if◌then◌else◌, cond, List, [], ◌∷◌, ◌++◌, length, Option, Some, None, is_none, refl, sym, ◌∙◌, ap, subst, subst₂, arith, inl, inr, get_or-set_same, get_or-set_other, ne_eqb, lt-ltb}
 use Rattle.std.specs.List.{AllByRecursion}
-use Rattle.std.proofs.lemmas.Bool.{and_parts, cases_eq, cond_both}
+use Rattle.std.proofs.lemmas.Bool.{and_parts, cases_eq}
 use Rattle.pl_frame.specs.declared.address.SwitchId.{SwitchId}
 use Rattle.pl_layouts.specs.declared.control.Control.{Control}
-use Rattle.pl_layouts.specs.declared.control.Control.TheVariants.{Ldm, Proposal, Vote}
-use Rattle.pl_layouts.specs.declared.control.ControlError.{ControlError}
 use Rattle.pl_layouts.specs.declared.control.Ldm.{Ldm as Message}
-use Rattle.pl_layouts.specs.declared.control.Proposal.{Proposal as Proposed}
-use Rattle.pl_layouts.specs.declared.control.Vote.{Vote as Answer}
 use Rattle.pl_layouts.specs.Control.{is_level, is_sound_ldm}
 use Rattle.pl_layouts.specs.Placement.{is_known}
 use Rattle.pl_wiring.specs.declared.label.Label.TheVariants.{Aggregation, Edge}
-use Rattle.pl_wiring.specs.Labels.{IsLabel, label_of, switch_count}
+use Rattle.pl_wiring.specs.Labels.{IsLabel}
 use Rattle.pl_wiring.specs.Plan.{IsPlan, Plan}
-use Rattle.pl_core.specs.declared.acts.Act.{Act}
 use Rattle.pl_core.specs.declared.neighbour.Neighbour.{Neighbour}
-use Rattle.pl_core.specs.declared.neighbour.PortRecord.{PortRecord}
 use Rattle.pl_core.specs.declared.switch_records.Hold.{Hold}
-use Rattle.pl_core.specs.PortRecords.{heard_place, new_port, place_at, port_of}
+use Rattle.pl_core.specs.PortRecords.{heard_place, place_at, port_of}
 use Rattle.pl_core.specs.SwitchFacts.{hold_at}
 use Rattle.pl_core.specs.SwitchViews.{SwitchView}
-use Rattle.pl_steps.specs.Steps.{SwitchStep, rests}
-use Rattle.pl_switch_rule.specs.Announcing.{ticks}
-use Rattle.pl_switch_rule.specs.Levels.{after_message, changes_to, hears_message}
-use Rattle.pl_switch_rule.specs.Positions.{after_vote, answers_proposal, freed_but, frees_others, half, hears_proposal, holds_for, is_free_for, is_held_for, marked_for, marks, notes_position}
-use Rattle.pl_switch_rule.specs.SwitchRule.{hears_control}
-use Rattle.pl_world.proofs.Counts.{all_append}
-use Rattle.pl_control_plane.specs.ControlPlanes.{AreJoined, ControlPlane, messages_of, sends, unless}
+use Rattle.pl_steps.specs.Steps.{SwitchStep}
+use Rattle.pl_switch_rule.specs.Positions.{freed_but, frees_others, half, is_held_for, marked_for, marks, notes_position}
+use Rattle.pl_control_plane.specs.ControlPlanes.{AreJoined, ControlPlane, sends, unless}
 use Rattle.pl_control_plane.specs.PlaneSteps.{LeftOver}
-use Rattle.pl_control_plane.proofs.Joined.{joined_there, joined_turned}
 use Rattle.pl_places.specs.Places.{ArePlaced}
-use Rattle.pl_places.specs.Told.{IsGoodMessage, has_heard}
-use Rattle.pl_places.proofs.Later.{all_left, left_keeps}
-use Rattle.pl_votes.specs.Pairs.{IsNoProposal, IsRising}
-use Rattle.pl_votes.specs.Voting.{AreVoting, CanTell, IsVoting, aggregation_no, edge_no}
-use Rattle.pl_votes.proofs.AggregationTurns.{is_asked, learnt, vote_elsewhere, vote_here, vote_said}
-use Rattle.pl_votes.proofs.Aside.{changes}
-use Rattle.pl_votes.proofs.EdgeTurns.{vote_holds}
-use Rattle.pl_votes.proofs.Holding.{after_proposal, freed_is}
-use Rattle.pl_votes.proofs.Majority.{one_port_to}
-use Rattle.pl_votes.proofs.Speeches.{SaysPlace, SaysProposal, TickSays, sends_none, tick_says}
-use Rattle.pl_votes.proofs.Wired.{ids_differ, is_there, levels_apart, same_end}
+use Rattle.pl_places.proofs.Later.{all_left}
+use Rattle.pl_votes.specs.Pairs.{IsNoProposal}
+use Rattle.pl_votes.specs.Voting.{aggregation_no, edge_no}
+use Rattle.pl_votes.proofs.Holding.{freed_is}
+use Rattle.pl_votes.proofs.Speeches.{SaysPlace, SaysProposal, TickSays}
+use Rattle.pl_votes.proofs.Wired.{levels_apart}
 use Rattle.pl_placing.specs.Noting.{AreNotedBy, IsNoted}
-use Rattle.pl_placing.proofs.Held.{IsFrom, freed_was, proposal_from, told_from}
-use Rattle.pl_placing.proofs.Ports.{heard_aged, ports_changes, ports_vote}
-use Rattle.pl_placing.proofs.Seeing.{Seen, Turned}
-use Rattle.pl_placing.proofs.Seeing.Seen.{Gone, Hears, Quiet, Ticks}
+use Rattle.pl_placing.proofs.Held.{IsFrom, told_from}
+use Rattle.pl_placing.proofs.Seeing.{Turned}
 
 -- the same edge switch, the same holds and records, and a queue without proposals where the old one had none
 noted_same : (e E a A : SwitchView) (q : ℕ) (u U : List Control) → E.id ≡ e.id → ((y : ℕ) (hold : Hold) → hold_at A y ≡ Some hold → hold_at a y ≡ Some hold) →
@@ -101,11 +83,11 @@ turned_noted f m g s st is placed turn n owes pod i j p q edge aggregation joine
           (λ y hold has. ap (λ (v : SwitchView). hold_at v y) (sym (turn.acted.others a other)) ∙ has)
           (ap (λ (v : SwitchView). (place_at v q).position) (turn.acted.others a other))
           (λ x told all.
-              subst (λ z. AllByRecursion IsNoProposal (g.says z p)) (sym here)
-              (subst (AllByRecursion IsNoProposal) (sym (turn.acted.says p))
-              (all_both IsNoProposal (m.says s p) (unless (turn.failed p) (sends p st.acts)) (subst (λ z. AllByRecursion IsNoProposal (m.says z p)) here all)
-              (unless_all IsNoProposal (turn.failed p) (sends p st.acts)
-              (owes.silent p x (subst (λ z. (m.view z).place.position ≡ Some x) here (told_own f.plan m e p a q x placed joined told)))))))
+          subst (λ z. AllByRecursion IsNoProposal (g.says z p)) (sym here)
+          (subst (AllByRecursion IsNoProposal) (sym (turn.acted.says p))
+          (all_both IsNoProposal (m.says s p) (unless (turn.failed p) (sends p st.acts)) (subst (λ z. AllByRecursion IsNoProposal (m.says z p)) here all)
+          (unless_all IsNoProposal (turn.failed p) (sends p st.acts)
+          (owes.silent p x (subst (λ z. (m.view z).place.position ≡ Some x) here (told_own f.plan m e p a q x placed joined told)))))))
           (n pod i j p q edge aggregation joined)
       | inr other ↦ elim (cases_eq a s) [
         | inl here ↦

@@ -1,10 +1,9 @@
 -- Steps that leave the records of ports as they are.
-use Rattle.std.proofs.Common.{◌≡◌, ℕ, zero, suc, ◌+◌, ◌%◌, ◌==◌, ◌||◌, Bool, true, false, if◌then◌else◌, List, [], ◌∷◌, Option, Some, None, is_none, is_some, get_or, map, refl, sym, ◌∙◌, ap}
+use Rattle.std.proofs.Common.{◌≡◌, ℕ, zero, suc, ◌+◌, ◌%◌, ◌==◌, ◌||◌, Bool, true, false, if◌then◌else◌, List, [], ◌∷◌, Option, Some, None, is_none, is_some, get_or, map, refl, ◌∙◌}
 use Rattle.pl_frame.specs.declared.address.Ip4.{Ip4}
 use Rattle.pl_frame.specs.declared.address.Mac.{Mac}
 use Rattle.pl_pmac.specs.declared.pmac.Pmac.{Pmac}
 use Rattle.pl_layouts.specs.declared.control.Vote.{Vote as Answer}
-use Rattle.pl_layouts.specs.declared.place.Place.{Place}
 use Rattle.pl_layouts.specs.Votes.{counts, gives_way}
 use Rattle.pl_core.specs.declared.messages.ToManager.TheVariants.{Learned}
 use Rattle.pl_core.specs.declared.messages.ToSwitch.{ToSwitch}
@@ -20,9 +19,9 @@ use Rattle.pl_steps.specs.Steps.{SwitchStep, rests, ◌▹◌}
 use Rattle.pl_switch_rule.specs.Forwarding.{Choice}
 use Rattle.pl_switch_rule.specs.Granting.{address_at_port, forgets, grant_number, grants_at, granted, grants_next, grants_or_learns, grants_remembered, grants_source, in_use, is_granted, is_port_spent, learns_ip, remembered_at, same_ip, with_grant}
 use Rattle.pl_switch_rule.specs.Intake.{comes_from_host}
-use Rattle.pl_switch_rule.specs.Levels.{changes_to, has_become_placed, settles_in, with_pod}
+use Rattle.pl_switch_rule.specs.Levels.{changes_to, has_become_placed, with_pod}
 use Rattle.pl_switch_rule.specs.Messages.{answer_frame, flood_frame, hears_manager, takes_pod}
-use Rattle.pl_switch_rule.specs.Positions.{after_vote, counted, fixes_position, half, moves_on, with_granted}
+use Rattle.pl_switch_rule.specs.Positions.{after_vote, fixes_position, half, with_granted}
 use Rattle.pl_switch_rule.specs.SwitchRule.{IsChoice, comes_from_switch, data_comes}
 use Rattle.pl_control_plane.specs.Homes.{HasHomes}
 use Rattle.pl_control_plane.proofs.SilentFrames.{comes_from_switch_silent}

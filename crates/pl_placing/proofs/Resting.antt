@@ -1,20 +1,17 @@
 -- In a pod at rest each edge switch that knows its level has a position: the one with the largest id would have got one.
-use Rattle.std.proofs.Common.{◌≡◌, ℕ, zero, suc, ◌+◌, ◌*◌, ◌^◌, ◌/◌, ◌<◌, ◌≤◌, ◌==◌, ◌||◌, Bool, true, false, true≢false, eqb-true, eq-eqb, ne_eqb, if◌then◌else◌, cond, List, [], ◌∷◌, length, Option, Some, None, refl, sym, ◌∙◌, ap, subst, subst₂, arith, inl, inr, ◌⊎◌}
+use Rattle.std.proofs.Common.{◌≡◌, ℕ, zero, suc, ◌+◌, ◌^◌, ◌/◌, ◌<◌, ◌≤◌, ◌==◌, ◌||◌, Bool, true, false, true≢false, eqb-true, cond, List, [], ◌∷◌, length, Option, Some, None, refl, sym, ◌∙◌, ap, subst, arith, inl, inr, ◌⊎◌}
 use Rattle.std.specs.List.{list_any}
 use Rattle.std.proofs.lemmas.Bool.{cases_eq, cases_lt}
 use Rattle.pl_frame.specs.declared.address.SwitchId.{SwitchId}
 use Rattle.pl_layouts.specs.declared.place.Place.{Place}
 use Rattle.pl_wiring.specs.declared.label.Label.{Label}
 use Rattle.pl_wiring.specs.declared.label.Label.TheVariants.{Aggregation, Core, Edge}
-use Rattle.pl_wiring.specs.declared.link.Link.{Link}
-use Rattle.pl_wiring.specs.Labels.{IsLabel, label_of, number_of, switch_count}
+use Rattle.pl_wiring.specs.Labels.{IsLabel, label_of}
 use Rattle.pl_wiring.specs.Plan.{IsPlan, Plan}
 use Rattle.pl_wiring.proofs.LabelOrder.{half_at_least, label_of-number_of}
 use Rattle.pl_wiring.proofs.Linked.{peer_is_switch}
-use Rattle.pl_core.specs.declared.switch_records.Hold.{Hold}
 use Rattle.pl_core.specs.PortRecords.{place_at}
-use Rattle.pl_core.specs.SwitchFacts.{has_granted, hold_at}
-use Rattle.pl_core.specs.SwitchViews.{SwitchView}
+use Rattle.pl_core.specs.SwitchFacts.{has_granted}
 use Rattle.pl_switch_rule.specs.Positions.{half}
 use Rattle.pl_control_plane.specs.ControlPlanes.{AreJoined, ControlPlane}
 use Rattle.pl_places.specs.Known.{level_of}
@@ -22,9 +19,9 @@ use Rattle.pl_places.specs.Places.{ArePlaced}
 use Rattle.pl_votes.specs.Voting.{AreVoting, aggregation_no, edge_no}
 use Rattle.pl_votes.proofs.Wired.{number_there, same_end}
 use Rattle.pl_placing.specs.Noting.{AreNoted}
-use Rattle.pl_placing.specs.Resting.{FirstKnowsPod, HasFirst, HavePositions, IsAnswered, IsRestingLink, IsRestingPod, KnowPod}
+use Rattle.pl_placing.specs.Resting.{FirstKnowsPod, HasFirst, HavePositions, IsAnswered, IsRestingPod, KnowPod}
 use Rattle.pl_placing.specs.Resting.IsAnswered.{Counted, Refused}
-use Rattle.pl_placing.specs.Trying.{AreTrying, HasReason, IsHolder}
+use Rattle.pl_placing.specs.Trying.{AreTrying, HasReason}
 use Rattle.pl_placing.specs.Trying.HasReason.{IsBehind, IsTaken}
 
 -- Each of n numbers has a port among these, and no two have one: so there are n of them.
@@ -98,13 +95,15 @@ module _ (f : ControlPlane) (is : IsPlan f.plan) (placed : ArePlaced f.plan f) (
   link_up i j edge aggregation =
       let k = f.plan.k in
       let l = is.tree.linked (Edge pod i) (Aggregation pod j) edge aggregation refl in
-      let link = l.0 in
-      (link.lower_port, record {
-        q = link.upper_port;
-        aggregation = aggregation;
-        joined = (peer_is_switch f.plan (edge_no k pod i) link.lower_port (record { 0 = aggregation_no k pod j }) link.upper_port is).1
-            (l.1.0, link, l.1.1, l.1.2, inl (l.2.0, refl, l.2.1, refl));
-      })
+      let link = l.0 in (
+        link.lower_port,
+        record {
+          q = link.upper_port;
+          aggregation = aggregation;
+          joined = (peer_is_switch f.plan (edge_no k pod i) link.lower_port (record { 0 = aggregation_no k pod j }) link.upper_port is).1
+              (l.1.0, link, l.1.1, l.1.2, inl (l.2.0, refl, l.2.1, refl));
+        },
+      )
 
   one_up : (i j m p : ℕ) → LinkUp f.plan pod i j p → LinkUp f.plan pod i m p → j ≡ m
   one_up i j m p a b =

@@ -1,5 +1,5 @@
 -- What a step of the control plane is to one switch, where places are true: it steps quietly, it ticks, or it hears a message of a neighbour.
-use Rattle.std.proofs.Common.{◌≡◌, ℕ, ◌<◌, Bool, true, false, if◌then◌else◌, List, [], ◌∷◌, ◌++◌, Result, Ok, Err, refl, sym, ◌∙◌, ap, subst, subst₂, arith, inl, inr}
+use Rattle.std.proofs.Common.{◌≡◌, ℕ, ◌<◌, Bool, true, false, if◌then◌else◌, List, [], ◌∷◌, ◌++◌, Result, refl, sym, ◌∙◌, ap, subst, subst₂, arith, inl, inr}
 use Rattle.std.specs.List.{AllByRecursion}
 use Rattle.std.proofs.lemmas.Bool.{cases_eq}
 use Rattle.pl_frame.specs.Ethernet.{payload_of}
@@ -8,10 +8,8 @@ use Rattle.pl_layouts.specs.declared.control.ControlError.{ControlError}
 use Rattle.pl_layouts.specs.Control.{control_in, is_control}
 use Rattle.pl_wiring.specs.Labels.{switch_count}
 use Rattle.pl_wiring.specs.Plan.{IsPlan, Plan}
-use Rattle.pl_core.specs.declared.messages.ToSwitch.{ToSwitch}
 use Rattle.pl_core.specs.Accounting.{IsShaped}
 use Rattle.pl_core.specs.ManagerDuties.{ManagerRule}
-use Rattle.pl_core.specs.PortRecords.{port_of}
 use Rattle.pl_core.specs.SwitchInputs.{SwitchInput}
 use Rattle.pl_core.specs.SwitchInputs.SwitchInput.{Comes, Says, Tick}
 use Rattle.pl_core.specs.SwitchViews.{SwitchView}
@@ -19,7 +17,7 @@ use Rattle.pl_steps.specs.Steps.{SwitchStep, rests}
 use Rattle.pl_switch_rule.specs.Announcing.{ticks}
 use Rattle.pl_switch_rule.specs.SwitchRule.{Loose, control_comes, data_comes, hears_control, switch_step}
 use Rattle.pl_control_plane.specs.ControlPlanes.{AreJoined, ControlPlane, message_in, messages_of}
-use Rattle.pl_control_plane.specs.PlaneSteps.{IsActed, IsLeft, IsOrderTaken, IsTakenOut, LeftOver, PlaneStep, SwitchTurns}
+use Rattle.pl_control_plane.specs.PlaneSteps.{IsActed, IsLeft, IsTakenOut, LeftOver, PlaneStep, SwitchTurns}
 use Rattle.pl_control_plane.specs.PlaneSteps.PlaneStep.{Carried, Entered, Heard, Left, Managed, Ordered, Ticked}
 use Rattle.pl_places.specs.Places.{ArePlaced, ArePodNumbers, IsPodNumber, PositionsDiffer}
 use Rattle.pl_places.specs.Told.{IsGoodMessage, IsTrueOf, has_heard}

@@ -1,7 +1,7 @@
 -- What an aggregation switch notes of the message that it hears.
-use Rattle.std.proofs.Common.{◌≡◌, ℕ, ◌/◌, ◌<◌, ◌==◌, ◌&&◌, ◌||◌, not, nat_lt, Bool, true, false, true≢false, eqb-true, eq-eqb, if◌then◌else◌, cond, List, [], ◌∷◌, ◌++◌, length, get_or, set, Option, Some, None, is_none, is_some, Result, Ok, Err, refl, sym, ◌∙◌, ap, subst, subst₂, arith, inl, inr, ◌⊎◌, get_or-set_same, get_or-set_other}
+use Rattle.std.proofs.Common.{◌≡◌, ℕ, ◌<◌, ◌&&◌, nat_lt, Bool, true, false, true≢false, eq-eqb, if◌then◌else◌, List, ◌∷◌, ◌++◌, length, get_or, set, Option, Some, None, is_some, Result, Ok, Err, refl, sym, ◌∙◌, ap, subst, inl, inr, get_or-set_same, get_or-set_other}
 use Rattle.std.specs.List.{AllByRecursion, list_any}
-use Rattle.std.proofs.lemmas.Bool.{and_parts, and_from, cases_eq, cond_both}
+use Rattle.std.proofs.lemmas.Bool.{and_from, cond_both}
 use Rattle.pl_frame.specs.declared.address.SwitchId.{SwitchId}
 use Rattle.pl_layouts.specs.declared.control.Control.{Control}
 use Rattle.pl_layouts.specs.declared.control.Control.TheVariants.{Ldm, Proposal, Vote}
@@ -11,22 +11,20 @@ use Rattle.pl_layouts.specs.declared.control.Proposal.{Proposal as Proposed}
 use Rattle.pl_layouts.specs.declared.control.Vote.{Vote as Answer}
 use Rattle.pl_layouts.specs.Control.{is_sound_ldm, sender_of}
 use Rattle.pl_layouts.specs.Placement.{is_known}
-use Rattle.pl_ldp.specs.Writable.{IsWritable}
 use Rattle.pl_core.specs.declared.neighbour.PortRecord.{PortRecord}
 use Rattle.pl_core.specs.declared.switch_records.Hold.{Hold}
 use Rattle.pl_core.specs.PortRecords.{heard_place, new_port, place_at, port_of}
 use Rattle.pl_core.specs.SwitchFacts.{hold_at}
 use Rattle.pl_core.specs.SwitchViews.{SwitchView}
 use Rattle.pl_steps.specs.Steps.{SwitchStep, rests}
-use Rattle.pl_switch_rule.specs.Levels.{after_message, changes_to, hears_message, is_of_other_pod, level_after}
+use Rattle.pl_switch_rule.specs.Levels.{after_message, changes_to, hears_message, is_of_other_pod}
 use Rattle.pl_switch_rule.specs.Positions.{after_vote, answers_proposal, frees_others, half, hears_proposal, holds_for, is_free_for, marks, notes_position}
 use Rattle.pl_switch_rule.specs.SwitchRule.{hears_control}
 use Rattle.pl_control_plane.specs.ControlPlanes.{messages_of}
-use Rattle.pl_votes.specs.Pairs.{IsNoProposal, IsRising}
+use Rattle.pl_votes.specs.Pairs.{IsRising}
 use Rattle.pl_votes.proofs.AggregationTurns.{is_asked, learnt}
 use Rattle.pl_votes.proofs.Aside.{changes}
 use Rattle.pl_votes.proofs.EdgeTurns.{vote_holds}
-use Rattle.pl_votes.proofs.Holding.{after_proposal}
 use Rattle.pl_placing.specs.Noting.{IsNoted}
 use Rattle.pl_placing.proofs.Held.{proposal_from, told_from}
 use Rattle.pl_placing.proofs.Noting.{told_level, told_marks}

@@ -2,7 +2,6 @@
 use Rattle.std.specs.Prelude.{◌≡◌, ◌<◌, ℕ, true, false, Some, None}
 use Rattle.pl_wiring.specs.declared.label.Label.TheVariants.{Aggregation, Edge}
 use Rattle.pl_wiring.specs.Labels.{IsLabel}
-use Rattle.pl_wiring.specs.Plan.{Plan}
 use Rattle.pl_core.specs.declared.switch_records.Hold.{Hold}
 use Rattle.pl_core.specs.PortRecords.{place_at}
 use Rattle.pl_core.specs.SwitchFacts.{has_granted, hold_at}

@@ -1,7 +1,9 @@
-ghost use Rattle.std.specs.Prelude.{◌≡◌, ℕ, List, None, Some};
+ghost use Rattle.std.specs.Prelude.{◌≡◌, ◌<◌, ℕ, List, None, Some, false};
 ghost use Rattle.pl_wiring.specs.declared.label.Label.TheVariants.{Edge};
 ghost use Rattle.pl_wiring.specs.Labels.{IsLabel};
 ghost use Rattle.pl_wiring.specs.Plan.{Plan};
+ghost use Rattle.pl_core.specs.SwitchFacts.{holder_of};
+ghost use Rattle.pl_core.specs.SwitchViews.{SwitchView};
 ghost use Rattle.pl_manager_rule.specs.ManagerRule.{manager_rule};
 ghost use Rattle.pl_switch_rule.specs.SwitchRule.{Loose};
 ghost use Rattle.pl_world.specs.declared.event.Event.{Event};
@@ -14,8 +16,9 @@ ghost use Rattle.pl_world.specs.Worlds.{WorldView};
 ghost use Rattle.pl_control_plane.specs.ControlPlanes.{control_plane};
 ghost use Rattle.pl_votes.specs.Voting.{edge_no};
 ghost use Rattle.pl_kept.specs.Kept.{Kept};
+ghost use Rattle.pl_placing.specs.News.{is_news};
 ghost use Rattle.pl_placing.specs.Placing.{ArePlacing};
-ghost use Rattle.pl_placing.specs.Resting.{FirstKnowsPod, HasFirst, HavePositions, IsRestingPod, KnowPod};
+ghost use Rattle.pl_placing.specs.Resting.{FirstKnowsPod, HasFirst, HavePositions, IsAnswered, IsRestingPod, KnowPod};
 
 use pl_core::HostCore;
 
@@ -46,4 +49,10 @@ pub fn one_of_a_pod_at_rest_has_position_0()
 pub fn edge_switches_of_a_pod_at_rest_know_the_pod()
     ensures { (w : WorldView) → Kept w → ArePlacing w → (pod : ℕ) → IsRestingPod (control_plane w) pod →
         FirstKnowsPod (control_plane w) pod → KnowPod (control_plane w) pod }
+{}
+
+/// Where the proposal of an edge switch would bring no news, and it is not at its last attempt, it was
+/// answered.
+pub fn what_is_no_news_was_answered()
+    ensures { (v u : SwitchView) (p : ℕ) → v.attempt < 4294967295 → is_news v p v.attempt (holder_of u v.proposed) ≡ false → IsAnswered v p u }
 {}

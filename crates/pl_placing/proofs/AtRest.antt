@@ -1,0 +1,35 @@
+-- What follows for worlds at rest.
+use Rattle.std.proofs.Common.{◌≡◌, ℕ, ◌/◌, ◌<◌, List, [], ◌∷◌, zero, suc, length, get_or, Some, ap, arith}
+use Rattle.std.specs.List.{AllByRecursion}
+use Rattle.pl_wiring.specs.declared.label.Label.TheVariants.{Edge}
+use Rattle.pl_wiring.specs.Labels.{IsLabel}
+use Rattle.pl_core.specs.SwitchViews.{SwitchView}
+use Rattle.pl_world.specs.Worlds.{WorldView}
+use Rattle.pl_control_plane.specs.ControlPlanes.{control_plane, no_switch}
+use Rattle.pl_kept.specs.Kept.{Kept}
+use Rattle.pl_votes.specs.Voting.{edge_no}
+use Rattle.pl_votes.proofs.Wired.{number_there}
+use Rattle.pl_placing.specs.Placing.{ArePlacing}
+use Rattle.pl_placing.specs.Resting.{FirstKnowsPod, HasFirst, HavePositions, IsRestingPod, KnowPod}
+use Rattle.pl_placing.proofs.Resting.{has_first, have_positions, know_pod}
+
+all_at : {X : Type 0} (P : X → Type 0) (xs : List X) (i : ℕ) (d : X) → i < length xs → AllByRecursion P xs → P (get_or xs i d)
+all_at P [] i d within all = absurd (omega (arith, within))
+all_at P (x ∷ xs) zero d within all = all.0
+all_at P (x ∷ xs) (suc i) d within all = all_at P xs i d (omega (arith, within)) all.1
+
+sizes : (w : WorldView) → Kept w → (pod i : ℕ) → IsLabel w.plan.k (Edge pod i) → ((control_plane w).view (edge_no w.plan.k pod i)).k / 2 ≡ w.plan.k / 2
+sizes w kept pod i edge =
+    let there = number_there w.plan kept.counted.formed.plan (Edge pod i) edge in
+    let many = kept.counted.formed.switches in
+    ap (λ k. k / 2) (all_at (λ (v : SwitchView). v.k ≡ w.plan.k) w.switches (edge_no w.plan.k pod i) no_switch (omega (arith, there, many)) kept.counted.formed.ports)
+
+module _ (w : WorldView) (kept : Kept w) (placing : ArePlacing w) (pod : ℕ) (rests : IsRestingPod (control_plane w) pod) where
+  pub world_positions : HavePositions (control_plane w) pod
+  world_positions = have_positions (control_plane w) kept.counted.formed.plan kept.placed placing.trying placing.noted pod rests (sizes w kept pod)
+
+  pub world_first : (i : ℕ) → IsLabel w.plan.k (Edge pod i) → ((control_plane w).view (edge_no w.plan.k pod i)).place.level ≡ Some 0 → HasFirst (control_plane w) pod
+  world_first = has_first (control_plane w) kept.counted.formed.plan kept.placed placing.trying placing.noted pod rests (sizes w kept pod) kept.voting
+
+  pub world_pods : FirstKnowsPod (control_plane w) pod → KnowPod (control_plane w) pod
+  world_pods = know_pod (control_plane w) kept.counted.formed.plan kept.placed placing.trying placing.noted pod rests (sizes w kept pod) kept.voting

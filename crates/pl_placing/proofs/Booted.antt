@@ -1,0 +1,73 @@
+-- At the beginning no position was tried.
+use Rattle.std.proofs.Common.{◌≡◌, ℕ, zero, suc, ◌*◌, ◌/◌, ◌<◌, nat_lt, Bool, true, false, if◌then◌else◌, List, [], ◌∷◌, map, replicate, get_or, Some, None, refl, sym, ap, subst, arith}
+use Rattle.std.specs.List.{AllByRecursion}
+use Rattle.pl_frame.specs.declared.address.SwitchId.{SwitchId}
+use Rattle.pl_wiring.specs.Index.{port_index}
+use Rattle.pl_wiring.specs.Labels.{switch_count}
+use Rattle.pl_wiring.specs.Plan.{Plan}
+use Rattle.pl_core.specs.declared.switch_records.Hold.{Hold}
+use Rattle.pl_core.specs.SwitchFacts.{hold_at, switch_at_boot}
+use Rattle.pl_core.specs.SwitchViews.{SwitchView}
+use Rattle.pl_world.specs.declared.limits.Limits.{Limits}
+use Rattle.pl_world.specs.Booting.{booted}
+use Rattle.pl_control_plane.specs.ControlPlanes.{control_plane, no_switch, queue_out, said}
+use Rattle.pl_votes.specs.Voting.{aggregation_no, edge_no}
+use Rattle.pl_core.specs.PortRecords.{heard_place, new_port, place_at}
+use Rattle.pl_placing.specs.Bounding.{IsBounded}
+use Rattle.pl_placing.specs.Noting.{AreNoted}
+use Rattle.pl_placing.specs.Trying.{AreTrying, IsTrueVote, IsTrying}
+
+pub replicated : {X : Type 0} (n i : ℕ) (x : X) → get_or (replicate n x) i x ≡ x
+replicated zero i x = refl
+replicated (suc n) zero x = refl
+replicated (suc n) (suc i) x = replicated n i x
+
+-- each switch is one at its beginning
+pub booted_view : (P : SwitchView → Type 0) → ((id : SwitchId) (k : ℕ) → P (switch_at_boot id k)) → (k : ℕ) (ids : List SwitchId) (s : ℕ) →
+    P (get_or (map (λ id. switch_at_boot id k) ids) s no_switch)
+booted_view P all k [] s = all (record { 0 = 0 }) 0
+booted_view P all k (id ∷ ids) zero = all id k
+booted_view P all k (id ∷ ids) (suc s) = booted_view P all k ids s
+
+pub nothing_said : (k n s port : ℕ) → said (queue_out k (replicate n []) s port) ≡ []
+nothing_said k n s port = by (nat_lt port k)
+  where
+    by : (b : Bool) → said (if b then get_or (replicate n []) (port_index k s port) [] else []) ≡ []
+    by true = ap said (replicated n (port_index k s port) [])
+    by false = refl
+
+nothing_held : (id : SwitchId) (k q : ℕ) → hold_at (switch_at_boot id k) q ≡ None
+nothing_held id k q = replicated (k / 2) q None
+
+pub unheld : (id : SwitchId) (k q : ℕ) (hold : Hold) → hold_at (switch_at_boot id k) q ≡ Some hold → ⊥
+unheld id k q hold is = let none = nothing_held id k q in absurd (cc (none, is))
+
+pub trying_at_first : (plan : Plan) (limits : Limits) → AreTrying (control_plane (booted plan limits))
+trying_at_first plan limits = record {
+  held = λ pod j q hold label is.
+      absurd (booted_view (λ v. (q : ℕ) (hold : Hold) → hold_at v q ≡ Some hold → ⊥) (λ id k. unheld id k) plan.k plan.ids (aggregation_no plan.k pod j) q hold is);
+  said = λ pod j port label.
+      subst (AllByRecursion (IsTrueVote plan.k (λ s. get_or (map (λ id. switch_at_boot id plan.k) plan.ids) s no_switch) pod))
+      (sym (nothing_said plan.k (switch_count plan.k * plan.k) (aggregation_no plan.k pod j) port)) tt;
+  trying = booted_view IsTrying (λ id k. record { first = λ one. refl; few = λ none. omega arith }) plan.k plan.ids;
+  reasons = λ pod i label more.
+      absurd (booted_view (λ v. 1 < v.attempt → ⊥) (λ id k more. omega (arith, more)) plan.k plan.ids (edge_no plan.k pod i) more);
+}
+
+untold : (id : SwitchId) (k q : ℕ) → (place_at (switch_at_boot id k) q).position ≡ None
+untold id k q = ap (λ r. (heard_place r.heard).position) (replicated k q new_port)
+
+pub noted_at_first : (plan : Plan) (limits : Limits) → AreNoted (control_plane (booted plan limits))
+noted_at_first plan limits pod i j p q edge aggregation joined = record {
+  marked = λ x y hold is has own. absurd (never x is);
+  silent = λ x is. absurd (never x is);
+}
+  where
+    never : (x : ℕ) → (place_at (get_or (map (λ id. switch_at_boot id plan.k) plan.ids) (aggregation_no plan.k pod j) no_switch) q).position ≡ Some x → ⊥
+    never x is =
+        let none = booted_view (λ v. (place_at v q).position ≡ None) (λ id k. untold id k q) plan.k plan.ids (aggregation_no plan.k pod j) in
+        absurd (cc (none, is))
+
+pub bounded_at_first : (plan : Plan) (limits : Limits) (s : ℕ) → IsBounded (booted plan limits).steps ((control_plane (booted plan limits)).view s)
+bounded_at_first plan limits s =
+    booted_view (IsBounded 0) (λ id k. record { few = λ level. absurd (cc level); at_first = λ never. refl }) plan.k plan.ids s

@@ -1,0 +1,17 @@
+pub mod Ports
+pub mod Seeing
+pub mod Held
+pub mod Below
+pub mod Growing
+pub mod Voting
+pub mod Keeping
+pub mod Noting
+pub mod Telling
+pub mod Notes
+pub mod Booted
+pub mod Counting
+pub mod Bounding
+pub mod Runs
+pub mod Resting
+pub mod AtRest
+pub mod Answering

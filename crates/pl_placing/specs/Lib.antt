@@ -1,0 +1,6 @@
+pub mod Trying
+pub mod Placing
+pub mod Noting
+pub mod Resting
+pub mod Bounding
+pub mod News

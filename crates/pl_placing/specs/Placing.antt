@@ -1,0 +1,15 @@
+-- What more holds in every run of how edge switches come to their places.
+use Rattle.std.specs.Prelude.{ℕ}
+use Rattle.pl_control_plane.specs.ControlPlanes.{control_plane}
+use Rattle.pl_world.specs.Worlds.{WorldView}
+use Rattle.pl_placing.specs.Bounding.{IsBounded}
+use Rattle.pl_placing.specs.Noting.{AreNoted}
+use Rattle.pl_placing.specs.Trying.{AreTrying}
+
+pub record ArePlacing (w : WorldView) : Type 0 where
+  -- positions are refused and left for a reason
+  pub trying : AreTrying (control_plane w)
+  -- told positions are noted
+  pub noted : AreNoted (control_plane w)
+  -- there are no more attempts than steps
+  pub bounded : (s : ℕ) → IsBounded w.steps ((control_plane w).view s)

@@ -1,0 +1,11 @@
+//! Laws of how edge switches come to their places: why positions are refused and left, and that in a pod at
+//! rest each edge switch has one.
+#![tactic(auto)]
+
+pub use placing_laws::{
+    each_step_keeps_edge_switches_placing, edge_switches_of_a_pod_at_rest_have_positions,
+    edge_switches_of_a_pod_at_rest_know_the_pod, every_run_keeps_edge_switches_placing,
+    one_of_a_pod_at_rest_has_position_0, what_is_no_news_was_answered,
+};
+
+mod placing_laws;

@@ -1,0 +1,58 @@
+ghost use Rattle.std.specs.Prelude.{◌≡◌, ◌<◌, ℕ, List, None, Some, false};
+ghost use Rattle.pl_wiring.specs.declared.label.Label.TheVariants.{Edge};
+ghost use Rattle.pl_wiring.specs.Labels.{IsLabel};
+ghost use Rattle.pl_wiring.specs.Plan.{Plan};
+ghost use Rattle.pl_core.specs.SwitchFacts.{holder_of};
+ghost use Rattle.pl_core.specs.SwitchViews.{SwitchView};
+ghost use Rattle.pl_manager_rule.specs.ManagerRule.{manager_rule};
+ghost use Rattle.pl_switch_rule.specs.SwitchRule.{Loose};
+ghost use Rattle.pl_world.specs.declared.event.Event.{Event};
+ghost use Rattle.pl_world.specs.declared.limits.Limits.{Limits};
+ghost use Rattle.pl_world.specs.Booting.{CanBegin, booted};
+ghost use Rattle.pl_world.specs.Refusals.{refusal};
+ghost use Rattle.pl_world.specs.Runs.{Moment, WorldRun};
+ghost use Rattle.pl_world.specs.WorldRule.{WorldStep};
+ghost use Rattle.pl_world.specs.Worlds.{WorldView};
+ghost use Rattle.pl_control_plane.specs.ControlPlanes.{control_plane};
+ghost use Rattle.pl_votes.specs.Voting.{edge_no};
+ghost use Rattle.pl_kept.specs.Kept.{Kept};
+ghost use Rattle.pl_placing.specs.News.{is_news};
+ghost use Rattle.pl_placing.specs.Placing.{ArePlacing};
+ghost use Rattle.pl_placing.specs.Resting.{FirstKnowsPod, HasFirst, HavePositions, IsAnswered, IsRestingPod, KnowPod};
+
+use pl_core::HostCore;
+
+/// Each step keeps edge switches on their way to their places.
+pub fn each_step_keeps_edge_switches_placing<H: HostCore>()
+    ensures { (old : WorldView) (event : Event) (new : WorldView) → Kept old → ArePlacing old → refusal old event ≡ None →
+        WorldStep Loose manager_rule H.rule old event new → ArePlacing new }
+{}
+
+/// So it is at each moment of each run from the beginning.
+pub fn every_run_keeps_edge_switches_placing<H: HostCore>()
+    ensures { (plan : Plan) (limits : Limits) (moments : List Moment) (new : WorldView) → CanBegin plan →
+        WorldRun Loose manager_rule H.rule (booted plan limits) moments new → ArePlacing new }
+{}
+
+/// In a pod at rest each edge switch that knows its level has a position.
+pub fn edge_switches_of_a_pod_at_rest_have_positions()
+    ensures { (w : WorldView) → Kept w → ArePlacing w → (pod : ℕ) → IsRestingPod (control_plane w) pod → HavePositions (control_plane w) pod }
+{}
+
+/// If there is such an edge switch, one of the pod has position 0.
+pub fn one_of_a_pod_at_rest_has_position_0()
+    ensures { (w : WorldView) → Kept w → ArePlacing w → (pod : ℕ) → IsRestingPod (control_plane w) pod →
+        (i : ℕ) → IsLabel w.plan.k (Edge pod i) → ((control_plane w).view (edge_no w.plan.k pod i)).place.level ≡ Some 0 → HasFirst (control_plane w) pod }
+{}
+
+/// And if that one knows the number of the pod, they all do.
+pub fn edge_switches_of_a_pod_at_rest_know_the_pod()
+    ensures { (w : WorldView) → Kept w → ArePlacing w → (pod : ℕ) → IsRestingPod (control_plane w) pod →
+        FirstKnowsPod (control_plane w) pod → KnowPod (control_plane w) pod }
+{}
+
+/// Where the proposal of an edge switch would bring no news, and it is not at its last attempt, it was
+/// answered.
+pub fn what_is_no_news_was_answered()
+    ensures { (v u : SwitchView) (p : ℕ) → v.attempt < 4294967295 → is_news v p v.attempt (holder_of u v.proposed) ≡ false → IsAnswered v p u }
+{}

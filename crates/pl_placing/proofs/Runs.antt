@@ -1,35 +1,28 @@
 -- Each step keeps edge switches on their way to their places, and so does each run from the beginning.
-use Rattle.std.proofs.Common.{◌≡◌, List, None, sym, subst}
+use Rattle.std.proofs.Common.{◌≡◌, List, [], ◌∷◌, ◌++◌, None, refl, sym, subst}
 use Rattle.pl_wiring.specs.Plan.{Plan}
-use Rattle.pl_core.specs.HostDuties.{HostsSendData}
+use Rattle.pl_core.specs.HostDuties.{HostsSendData, HostsSendOwn}
 use Rattle.pl_core.specs.HostInputs.{HostRule}
 use Rattle.pl_manager_rule.specs.ManagerRule.{manager_rule}
 use Rattle.pl_switch_rule.specs.SwitchRule.{Loose}
 use Rattle.pl_switch_rule.proofs.AccountedSteps.{loose_steps_are_accounted}
 use Rattle.pl_world.specs.declared.event.Event.{Event}
+use Rattle.pl_journal.specs.declared.entry.Entry.{Entry}
 use Rattle.pl_world.specs.declared.limits.Limits.{Limits}
 use Rattle.pl_world.specs.Booting.{CanBegin, booted}
-use Rattle.pl_world.specs.Flying.{IsCounted}
 use Rattle.pl_world.specs.Refusals.{refusal}
-use Rattle.pl_world.specs.Runs.{Moment, WorldRun}
+use Rattle.pl_world.specs.Runs.{Befalls, Moment, WorldRun}
+use Rattle.pl_world.specs.Changes.{noted}
+use Rattle.pl_world.specs.Runs.Moment.{Mark, Step}
 use Rattle.pl_world.specs.WorldRule.{WorldStep}
 use Rattle.pl_world.specs.Worlds.{WorldView}
-use Rattle.pl_world.proofs.BootBalances.{booted_is_counted}
 use Rattle.pl_control_plane.specs.ControlPlanes.{control_plane}
-use Rattle.pl_control_plane.specs.HostsAtEdges.{HostsAtEdges}
-use Rattle.pl_control_plane.proofs.KeptInRuns.{kept_in_run}
-use Rattle.pl_control_plane.proofs.Standing.{hosts_at_first}
 use Rattle.pl_control_plane.proofs.Staying.{plan_stays}
 use Rattle.pl_control_plane.proofs.Stepping.{step_in_plane}
-use Rattle.pl_places.specs.Places.{ArePlaced}
-use Rattle.pl_places.proofs.Beginning.{placed_at_first}
-use Rattle.pl_votes.specs.Voting.{AreVoting}
-use Rattle.pl_votes.proofs.Booted.{votes_at_first}
 use Rattle.pl_votes.proofs.Differing.{fixed_are_apart}
-use Rattle.pl_pods.specs.Pods.{AreGiven}
-use Rattle.pl_pods.proofs.Booted.{given_at_first, numbers_fit}
+use Rattle.pl_pods.proofs.Booted.{numbers_fit}
 use Rattle.pl_kept.specs.Kept.{Kept}
-use Rattle.pl_kept.proofs.Keeping.{step_keeps_all}
+use Rattle.pl_kept.proofs.Keeping.{run_keeps_all}
 use Rattle.pl_kept.proofs.Telling.{can_tell}
 use Rattle.pl_placing.specs.Bounding.{IsBounded}
 use Rattle.pl_placing.specs.Noting.{AreNotedBy}
@@ -41,14 +34,6 @@ use Rattle.pl_placing.proofs.Booted.{bounded_at_first, noted_at_first, trying_at
 use Rattle.pl_placing.proofs.Keeping.{seen_trying}
 use Rattle.pl_placing.proofs.Notes.{seen_noted}
 use Rattle.pl_placing.proofs.Seeing.{step_seen}
-
--- all but the count of frames
-record Holds (w : WorldView) : Type 0 where
-  hosts : HostsAtEdges w
-  placed : ArePlaced w.plan (control_plane w)
-  voting : AreVoting (control_plane w)
-  given : AreGiven (control_plane w)
-  placing : ArePlacing w
 
 module _ (host : HostRule) (sends : HostsSendData host) where
   pub step_places : (old : WorldView) (event : Event) (new : WorldView) → Kept old → ArePlacing old → refusal old event ≡ None →
@@ -68,35 +53,29 @@ module _ (host : HostRule) (sends : HostsSendData host) where
             (seen_bounded old.steps f g placing.bounded seen s);
       }
 
-  step_holds : (old : WorldView) (event : Event) (new : WorldView) → IsCounted old → Holds old → refusal old event ≡ None →
-      WorldStep Loose manager_rule host old event new → Holds new
-  step_holds old event new counted holds none step =
-      let before : Kept old = record { counted = counted; hosts = holds.hosts; placed = holds.placed; voting = holds.voting; given = holds.given } in
-      let after = step_keeps_all host sends old event new before none step in
-      record {
-        hosts = after.hosts;
-        placed = after.placed;
-        voting = after.voting;
-        given = after.given;
-        placing = step_places old event new before holds.placing none step;
-      }
+  module _ (owns : HostsSendOwn host) where
+    run_more : (old mid new : WorldView) (moments : List Moment) (moment : Moment) → WorldRun Loose manager_rule host old moments mid →
+        Befalls Loose manager_rule host mid moment new → WorldRun Loose manager_rule host old (moments ++ moment ∷ []) new
+    run_more old mid new [] moment run more = (new, subst (λ (w : WorldView). Befalls Loose manager_rule host w moment new) run more, refl)
+    run_more old mid new (first ∷ moments) moment run more = (run.0, run.1, run_more run.0 mid new moments moment run.2 more)
 
-  pub run_places : (plan : Plan) (limits : Limits) (moments : List Moment) (new : WorldView) → CanBegin plan →
-      WorldRun Loose manager_rule host (booted plan limits) moments new → ArePlacing new
-  run_places plan limits moments new can run =
-      let all = kept_in_run Loose manager_rule host loose_steps_are_accounted sends Holds step_holds
-      (λ w entry holds. record {
-        hosts = holds.hosts;
-        placed = holds.placed;
-        voting = holds.voting;
-        given = holds.given;
-        placing = record { trying = holds.placing.trying; noted = holds.placing.noted; bounded = holds.placing.bounded };
-      })
-      (booted plan limits) moments new (booted_is_counted plan limits can) (record {
-        hosts = hosts_at_first plan can.is_plan;
-        placed = placed_at_first plan limits can.is_plan;
-        voting = votes_at_first plan limits;
-        given = given_at_first plan limits;
-        placing = record { trying = trying_at_first plan limits; noted = noted_at_first plan limits; bounded = bounded_at_first plan limits };
-      }) run in
-      all.placing
+    noted_places : (old : WorldView) (entry : Entry) → ArePlacing old → ArePlacing (noted old entry)
+    noted_places old entry placing = record { trying = placing.trying; noted = placing.noted; bounded = placing.bounded }
+
+    -- from any moment of a run from the beginning on
+    places_from : (plan : Plan) (limits : Limits) → CanBegin plan → (before : List Moment) (old : WorldView) → WorldRun Loose manager_rule host (booted plan limits) before old →
+        ArePlacing old → (moments : List Moment) (new : WorldView) → WorldRun Loose manager_rule host old moments new → ArePlacing new
+    places_from plan limits can before old run placing [] new same = subst (λ (w : WorldView). ArePlacing w) (sym same) placing
+    places_from plan limits can before old run placing (Step event ∷ moments) new rest =
+        let kept = run_keeps_all host sends owns plan limits before old can run in
+        places_from plan limits can (before ++ Step event ∷ []) rest.0 (run_more (booted plan limits) old rest.0 before (Step event) run rest.1)
+        (step_places old event rest.0 kept placing rest.1.0 rest.1.1) moments new rest.2
+    places_from plan limits can before old run placing (Mark entry ∷ moments) new rest =
+        places_from plan limits can (before ++ Mark entry ∷ []) rest.0 (run_more (booted plan limits) old rest.0 before (Mark entry) run rest.1)
+        (subst (λ (w : WorldView). ArePlacing w) (sym rest.1.1) (noted_places old entry placing)) moments new rest.2
+
+    pub run_places : (plan : Plan) (limits : Limits) (moments : List Moment) (new : WorldView) → CanBegin plan →
+        WorldRun Loose manager_rule host (booted plan limits) moments new → ArePlacing new
+    run_places plan limits moments new can run =
+        places_from plan limits can [] (booted plan limits) refl
+        (record { trying = trying_at_first plan limits; noted = noted_at_first plan limits; bounded = bounded_at_first plan limits }) moments new run

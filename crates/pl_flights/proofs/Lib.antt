@@ -1,0 +1,9 @@
+pub mod Legs
+pub mod Counting
+pub mod Keeping
+pub mod Rungs
+pub mod Crossing
+pub mod Hands
+pub mod Queues
+pub mod Noting
+pub mod Leaving

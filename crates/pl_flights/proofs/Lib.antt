@@ -7,3 +7,5 @@ pub mod Hands
 pub mod Queues
 pub mod Noting
 pub mod Leaving
+pub mod HandSteps
+pub mod Acting

@@ -60,6 +60,7 @@ module _ (plan : Plan) (place : ℕ → Place) where
   between_kept f g live later frame s t same more b = subst (λ h. IsBetween plan place h later frame s t) (sym same) (record {
     last = b.last;
     group = b.group;
+    kept = b.kept;
     address = b.address;
     one = λ unicast. let w = b.one unicast in record { route = w.route; whole = more w.whole; unaltered = w.unaltered };
   })
@@ -69,6 +70,7 @@ module _ (plan : Plan) (place : ℕ → Place) where
   leaving_kept book later f g frame s port same more b = subst (λ h. IsLeaving plan later h frame s port) (sym same) (record {
     last = b.last;
     group = b.group;
+    kept = b.kept;
     one = λ unicast. let w = b.one unicast in record {
       host = w.host;
       held = more.held f.address w.host w.held;

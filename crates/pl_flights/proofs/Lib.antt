@@ -9,3 +9,4 @@ pub mod Noting
 pub mod Leaving
 pub mod HandSteps
 pub mod Acting
+pub mod Passing

@@ -50,6 +50,7 @@ pub record IsOnWay (plan : Plan) (place : ℕ → Place) (f : Flight) (live : Bo
 pub record IsBetween (plan : Plan) (place : ℕ → Place) (f : Flight) (live : Bool) (frame : List ℕ) (s t : ℕ) : Type 0 where
   pub last : first_of f.trail ≡ Some s
   pub group : is_group (destination_of f.beginning) ≡ is_group (destination_of frame)
+  pub kept : is_group (destination_of frame) ≡ true → destination_of f.beginning ≡ destination_of frame
   pub address : f.address ≡ mac_number (destination_of frame)
   pub one : is_group (destination_of frame) ≡ false → IsOnWay plan place f live frame s t
 
@@ -76,6 +77,7 @@ pub record IsForHost (plan : Plan) (book : Book) (f : Flight) (frame : List ℕ)
 pub record IsLeaving (plan : Plan) (book : Book) (f : Flight) (frame : List ℕ) (s port : ℕ) : Type 0 where
   pub last : first_of f.trail ≡ Some s
   pub group : is_group (destination_of f.beginning) ≡ is_group (destination_of frame)
+  pub kept : is_group (destination_of frame) ≡ true → destination_of f.beginning ≡ destination_of frame
   pub one : is_group (destination_of frame) ≡ false → IsForHost plan book f frame s port
 
 -- what waits at a host is as it was sent

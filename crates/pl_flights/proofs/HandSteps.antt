@@ -47,7 +47,7 @@ use Rattle.pl_flights.proofs.Queues.{put_out}
 use Rattle.pl_flights.proofs.Leaving.{Out, goes_out_told, sent_control}
 
 
-crossed_first : (switches : List ℕ) (s : ℕ) → first_of switches ≡ Some s → is_empty switches ≡ false
+pub crossed_first : (switches : List ℕ) (s : ℕ) → first_of switches ≡ Some s → is_empty switches ≡ false
 crossed_first [] s is = absurd (cc)
 crossed_first (x ∷ switches) s is = refl
 

@@ -10,3 +10,7 @@ pub mod Leaving
 pub mod HandSteps
 pub mod Acting
 pub mod Passing
+pub mod Growing
+pub mod SwitchTurns
+pub mod ForwardActs
+pub mod OverLinks

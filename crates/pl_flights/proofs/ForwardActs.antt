@@ -77,7 +77,7 @@ candidate_usable v to came p is =
     (λ e. cond_both (is_known v.place.level 1) (leads_from_aggregation v to came p) _ P (λ f. usable_from_aggregation v to came p)
     (λ f. cond_both (is_known v.place.level 2) (leads_from_core v to came p) false P (λ h. usable_from_core v to came p) (λ h n. absurd (false≢true n)))) is
 
-not_is_true : (b : Bool) → not b ≡ true → b ≡ false
+pub not_is_true : (b : Bool) → not b ≡ true → b ≡ false
 not_is_true true is = absurd (false≢true is)
 not_is_true false is = refl
 

@@ -14,3 +14,4 @@ pub mod Growing
 pub mod SwitchTurns
 pub mod ForwardActs
 pub mod OverLinks
+pub mod Failing

@@ -38,7 +38,7 @@ rungs k s t (Core j m) (Edge q i) at_s at_t below = absurd below
 rungs k s t (Core j m) (Aggregation q i) at_s at_t below = absurd below
 rungs k s t (Core j m) (Core i n) at_s at_t below = absurd below
 
-any_contained : (p : Link → Bool) (links : List Link) (link : Link) → Contains links link → p link ≡ true → list_any p links ≡ true
+pub any_contained : (p : Link → Bool) (links : List Link) (link : Link) → Contains links link → p link ≡ true → list_any p links ≡ true
 any_contained p [] link there is = absurd (omega (arith, there.1))
 any_contained p (l ∷ links) link (zero, within, same) is = or_left (p l) (list_any p links) (ap p same ∙ is)
 any_contained p (l ∷ links) link (suc n, within, same) is =

@@ -15,3 +15,5 @@ pub mod SwitchTurns
 pub mod ForwardActs
 pub mod OverLinks
 pub mod Failing
+pub mod Beginning
+pub mod HostTurns

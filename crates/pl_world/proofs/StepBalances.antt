@@ -135,7 +135,7 @@ switches_rest w s v size is r = record {
   holding = r.holding;
 }
 
-hosts_rest : (w : WorldView) (h : ℕ) (v : HostView) → HoldsData v → HasRest w → HasRest (record w { hosts = set w.hosts h v })
+pub hosts_rest : (w : WorldView) (h : ℕ) (v : HostView) → HoldsData v → HasRest w → HasRest (record w { hosts = set w.hosts h v })
 hosts_rest w h v is r = record {
   is_plan = r.is_plan;
   made_for = r.made_for;
@@ -151,7 +151,7 @@ hosts_rest w h v is r = record {
   holding = all_set HoldsData w.hosts h v is r.holding;
 }
 
-heard_rest : (w : WorldView) (heard : List (Option ℕ)) → length heard ≡ length w.heard → HasRest w → HasRest (record w { heard = heard })
+pub heard_rest : (w : WorldView) (heard : List (Option ℕ)) → length heard ≡ length w.heard → HasRest w → HasRest (record w { heard = heard })
 heard_rest w heard same r = record {
   is_plan = r.is_plan;
   made_for = r.made_for;
@@ -167,7 +167,7 @@ heard_rest w heard same r = record {
   holding = r.holding;
 }
 
-stands_rest : (w : WorldView) (h : ℕ) (stand : Stand) → IsAtPort w.plan.k stand → HasRest w → HasRest (record w { stands = set w.stands h stand })
+pub stands_rest : (w : WorldView) (h : ℕ) (stand : Stand) → IsAtPort w.plan.k stand → HasRest w → HasRest (record w { stands = set w.stands h stand })
 stands_rest w h stand is r = record {
   is_plan = r.is_plan;
   made_for = r.made_for;

@@ -17,3 +17,4 @@ pub mod OverLinks
 pub mod Failing
 pub mod Beginning
 pub mod HostTurns
+pub mod Arriving

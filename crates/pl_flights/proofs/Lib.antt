@@ -18,3 +18,4 @@ pub mod Failing
 pub mod Beginning
 pub mod HostTurns
 pub mod Arriving
+pub mod HomeActs

@@ -28,7 +28,7 @@ pub known : (o : Option ℕ) (n : ℕ) → is_known o n ≡ true → o ≡ Some 
 known None n is = absurd (false≢true is)
 known (Some m) n is = ap Some (eqb-true m n is)
 
-something : (o : Option ℕ) → is_some o ≡ true → (n : ℕ) × (o ≡ Some n)
+pub something : (o : Option ℕ) → is_some o ≡ true → (n : ℕ) × (o ≡ Some n)
 something None there = absurd (false≢true there)
 something (Some n) there = (n, refl)
 

@@ -72,7 +72,7 @@ pub record IsHere (t : ℕ) (f : Flight) (frame : List ℕ) : Type 0 where
 module _ (plan : Plan) (place : ℕ → Place) (book : Book) (t : ℕ) (v : SwitchView) (knows : KnowsAddresses plan book t v) (rest : List Act)
     (then_good : (hand : Hand) → GoodActs plan place book t rest hand) where
   -- it goes out to the host that has the address
-  delivers_good : (f : Flight) (again : Bool) (frame : List ℕ) (o : Option Grant) → IsHere t f frame → is_local v (destination frame) ≡ true →
+  pub delivers_good : (f : Flight) (again : Bool) (frame : List ℕ) (o : Option Grant) → IsHere t f frame → is_local v (destination frame) ≡ true →
       granted v (destination frame) ≡ o → GoodActs plan place book t ((delivers_to v (destination frame) frame o).acts ++ rest) (Waits f again)
   delivers_good f again frame None here own found =
       (ap book.hold (here.address ∙ sym (number_of_destination frame)) ∙ knows.not_granted (destination frame) own found, then_good Empty)
@@ -148,7 +148,7 @@ module _ (plan : Plan) (place : ℕ → Place) (book : Book) (t : ℕ) (v : Swit
       (and_parts (not (is_local v to)) (leads_up v 1 to p)
       (sym (cond-true (is_known v.place.level 0) (leads_from_edge v to FromHost p) _ (ap (λ o. is_known o 0) level)) ∙ is)).1
 
-  leaves_then : (choose : Choice) → IsChoice choose → (f : Flight) (again : Bool) (frame : List ℕ) → IsHere t f frame → f.leg ≡ t ∷ [] →
+  pub leaves_then : (choose : Choice) → IsChoice choose → (f : Flight) (again : Bool) (frame : List ℕ) → IsHere t f frame → f.leg ≡ t ∷ [] →
       v.place.level ≡ Some 0 → is_placed v.place ≡ true → is_local v (destination frame) ≡ false → (chosen : Option ℕ) →
       choose (candidates_by v (destination frame) (Some FromHost)) frame ≡ chosen →
       GoodActs plan place book t ((leaves_by v frame chosen).acts ++ rest) (Waits f again)
@@ -160,7 +160,7 @@ module _ (plan : Plan) (place : ℕ → Place) (book : Book) (t : ℕ) (v : Swit
 
   module _ (knows : KnowsAddresses plan book t v) where
     -- an address that is followed no further: its host is here, or the frame goes on
-    goes_on_good : (choose : Choice) → IsChoice choose → (f : Flight) (again : Bool) (frame : List ℕ) → IsHere t f frame → f.leg ≡ t ∷ [] →
+    pub goes_on_good : (choose : Choice) → IsChoice choose → (f : Flight) (again : Bool) (frame : List ℕ) → IsHere t f frame → f.leg ≡ t ∷ [] →
         v.place.level ≡ Some 0 → is_placed v.place ≡ true → GoodActs plan place book t ((goes_on choose v frame).acts ++ rest) (Waits f again)
     goes_on_good choose is f again frame here alone level placed =
         cond_both (is_local v (destination frame)) (delivers v frame) (forwards choose v (Some FromHost) frame)

@@ -19,3 +19,4 @@ pub mod Beginning
 pub mod HostTurns
 pub mod Arriving
 pub mod HomeActs
+pub mod Redirects

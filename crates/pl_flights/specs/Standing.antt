@@ -1,7 +1,8 @@
 -- What the way of frames needs of the other parts: that what switches know of places is so.
-use Rattle.std.specs.Prelude.{◌≡◌, ℕ, true, false, Contains, List, length, None, Some, slice_get}
+use Rattle.std.specs.Prelude.{◌≡◌, ℕ, true, false, Contains, List, length, None, Some, reverse, slice_get}
 use Rattle.pl_wiring.specs.declared.label.Label.TheVariants.{Aggregation, Edge}
 use Rattle.pl_wiring.specs.declared.label.SwitchNo.{SwitchNo}
+use Rattle.pl_frame.specs.Ethernet.{destination_of, source_of}
 use Rattle.pl_pmac.specs.declared.pmac.Pmac.{Pmac}
 use Rattle.pl_pmac.specs.Pmac.{Fits, mac_of, pmac_number}
 use Rattle.pl_wiring.specs.declared.link.Peer.TheVariants.{HostPort, Switch}
@@ -22,7 +23,7 @@ use Rattle.pl_world.specs.Changes.{out_of}
 use Rattle.pl_world.specs.Worlds.{WorldView}
 use Rattle.pl_switch_rule.specs.Delivering.{trap_for}
 use Rattle.pl_switch_rule.specs.Granting.{granted, is_local}
-use Rattle.pl_flights.specs.OnTheWay.{Book, place_in}
+use Rattle.pl_flights.specs.OnTheWay.{Book, book_of, place_in}
 
 -- a known level is the label's, and an edge and an aggregation switch of one pod that both know a pod know the same
 pub record KnowsPlaces (k : ℕ) (place : ℕ → Place) : Type 0 where
@@ -42,13 +43,6 @@ pub record IsMore (place later : ℕ → Place) : Type 0 where
   pub level : (s n : ℕ) → (place s).level ≡ Some n → (later s).level ≡ Some n
   pub position : (s n : ℕ) → (place s).position ≡ Some n → (later s).position ≡ Some n
   pub pod : (s n : ℕ) → (place s).pod ≡ Some n → (later s).pod ≡ Some n
-
--- What switches know of places is so, and a port at which a data frame comes from a link is no port for hosts.
-pub record StandsOn (w : WorldView) : Type 0 where
-  pub places : KnowsPlaces w.plan.k (place_in w.switches)
-  pub neighbours : (t : ℕ) (v : SwitchView) → slice_get w.switches t ≡ Some v → KnowsNeighbours w.plan (place_in w.switches) t v
-  pub evidence : (s port : ℕ) (t : SwitchNo) (q id : ℕ) (frame : List ℕ) (v : SwitchView) → peer_of w.plan s port ≡ Switch t q →
-      Contains (out_of w s port) (Data id frame) → slice_get w.switches t.0 ≡ Some v → is_open_to_hosts (port_of v q) ≡ false
 
 -- What the edge switch t knows of an address that it granted: who holds it, and that it was granted there, at a port for hosts.
 pub record IsGranted (plan : Plan) (book : Book) (t : ℕ) (x : Pmac) (grant : Grant) : Type 0 where
@@ -72,3 +66,14 @@ pub record KnowsAddresses (plan : Plan) (book : Book) (t : ℕ) (v : SwitchView)
   pub granted_here : (x : Pmac) (grant : Grant) → granted v x ≡ Some grant → IsGranted plan book t x grant
   pub not_granted : (x : Pmac) → is_local v x ≡ true → granted v x ≡ None → book.hold (pmac_number x) ≡ None
   pub trapped : (x : Pmac) (trap : Trap) → trap_for v x ≡ Some trap → LeadsOn book x trap
+
+-- What switches know of places and addresses is so, a port at which a data frame comes from a link is no port for hosts, and the source of a
+-- frame to one host is no group.
+pub record StandsOn (w : WorldView) : Type 0 where
+  pub places : KnowsPlaces w.plan.k (place_in w.switches)
+  pub neighbours : (t : ℕ) (v : SwitchView) → slice_get w.switches t ≡ Some v → KnowsNeighbours w.plan (place_in w.switches) t v
+  pub addresses : (t : ℕ) (v : SwitchView) → slice_get w.switches t ≡ Some v → KnowsAddresses w.plan (book_of (reverse w.journal)) t v
+  pub evidence : (s port : ℕ) (t : SwitchNo) (q id : ℕ) (frame : List ℕ) (v : SwitchView) → peer_of w.plan s port ≡ Switch t q →
+      Contains (out_of w s port) (Data id frame) → slice_get w.switches t.0 ≡ Some v → is_open_to_hosts (port_of v q) ≡ false
+  pub sources : (s port : ℕ) (t : SwitchNo) (q id : ℕ) (frame : List ℕ) → peer_of w.plan s port ≡ Switch t q →
+      Contains (out_of w s port) (Data id frame) → is_group (destination_of frame) ≡ false → is_group (source_of frame) ≡ false

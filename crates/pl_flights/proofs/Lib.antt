@@ -20,3 +20,4 @@ pub mod HostTurns
 pub mod Arriving
 pub mod HomeActs
 pub mod Redirects
+pub mod AtHome

@@ -77,7 +77,7 @@ goes_on_view : (choose : Choice) (v : SwitchView) (frame : List ℕ) → (goes_o
 goes_on_view choose v frame = cond_both (is_local v (destination frame)) (delivers v frame) _ (Stays v)
     (λ own. delivers_view v (destination frame) frame (granted v (destination frame))) (λ other. leaves_view v frame _)
 
-home_view : (choose : Choice) (v : SwitchView) (frame : List ℕ) (o : Option Trap) → (delivers_or_redirects choose v frame o).view ≡ v
+pub home_view : (choose : Choice) (v : SwitchView) (frame : List ℕ) (o : Option Trap) → (delivers_or_redirects choose v frame o).view ≡ v
 home_view choose v frame None = delivers_view v (destination frame) frame (granted v (destination frame))
 home_view choose v frame (Some trap) = goes_on_view choose v (with_destination frame (mac_of (last_trap (addresses v) v trap).new))
 

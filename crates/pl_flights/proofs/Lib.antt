@@ -21,3 +21,4 @@ pub mod Arriving
 pub mod HomeActs
 pub mod Redirects
 pub mod AtHome
+pub mod Moving

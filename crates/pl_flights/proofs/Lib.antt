@@ -22,3 +22,5 @@ pub mod HomeActs
 pub mod Redirects
 pub mod AtHome
 pub mod Moving
+pub mod SilentSteps
+pub mod Numbering

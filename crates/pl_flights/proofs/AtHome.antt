@@ -49,7 +49,7 @@ use Rattle.pl_flights.proofs.Passing.{known, something}
 use Rattle.pl_flights.proofs.Redirects.{home_good}
 
 -- an edge switch whose address it is has a place
-local_is_placed : (v : SwitchView) (to : Pmac) → is_local v to ≡ true → (v.place.level ≡ Some 0) × (is_placed v.place ≡ true)
+pub local_is_placed : (v : SwitchView) (to : Pmac) → is_local v to ≡ true → (v.place.level ≡ Some 0) × (is_placed v.place ≡ true)
 local_is_placed v to own =
     let first = and_parts (is_known v.place.level 0) (is_known v.place.pod to.pod && is_known v.place.position to.position) own in
     let second = and_parts (is_known v.place.pod to.pod) (is_known v.place.position to.position) first.1 in
@@ -62,7 +62,7 @@ module _ (plan : Plan) (place : ℕ → Place) (book : Book) (t : ℕ) (v : Swit
     (neighbours : KnowsNeighbours plan place t v) (knows : KnowsAddresses plan book t v) (choose : Choice) (is : IsChoice choose)
     (level : v.place.level ≡ Some 0) (placed : is_placed v.place ≡ true) where
   -- a frame of the switch's own to one host
-  begins_good : (root : ℕ) (frame : List ℕ) → is_group (destination_of frame) ≡ false → 14 ≤ length frame →
+  pub begins_good : (root : ℕ) (frame : List ℕ) → is_group (destination_of frame) ≡ false → 14 ≤ length frame →
       GoodActs plan place book t (begins choose v frame).acts (Waits (made_here root t frame) false)
   begins_good root frame unicast long =
       let here : IsHere t (made_here root t frame) frame = record {

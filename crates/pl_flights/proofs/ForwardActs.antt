@@ -82,7 +82,7 @@ not_is_true true is = absurd (false≢true is)
 not_is_true false is = refl
 
 -- a group that is not the flood is a routed one
-routed_group : (n : Option ℕ) → (unwrap_or n flood == flood) ≡ false → is_routed n ≡ true
+pub routed_group : (n : Option ℕ) → (unwrap_or n flood == flood) ≡ false → is_routed n ≡ true
 routed_group None other = absurd (both_ways (flood == flood) other (eq-eqb flood flood refl))
 routed_group (Some n) other = ap not other
 

@@ -24,3 +24,4 @@ pub mod AtHome
 pub mod Moving
 pub mod SilentSteps
 pub mod Numbering
+pub mod Saying

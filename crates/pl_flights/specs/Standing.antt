@@ -53,6 +53,8 @@ pub record IsGranted (plan : Plan) (book : Book) (t : ℕ) (x : Pmac) (grant : G
   pub six : length grant.amac.0 ≡ 6
   pub unicast : is_group grant.amac ≡ false
   pub for_hosts : peer_of plan t x.port ≡ HostPort
+  pub fits : Fits x
+  pub own : is_group (mac_of x) ≡ false
 
 -- a trap leads to a newer address of the same host, which is an address of one host
 pub record LeadsOn (book : Book) (x : Pmac) (trap : Trap) : Type 0 where

@@ -25,3 +25,4 @@ pub mod Moving
 pub mod SilentSteps
 pub mod Numbering
 pub mod Saying
+pub mod FromManager

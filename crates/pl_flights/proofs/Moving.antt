@@ -50,12 +50,12 @@ use Rattle.pl_flights.proofs.Keeping.{goes_on, kept, same_book}
 use Rattle.pl_flights.proofs.Noting.{reverse_noted}
 use Rattle.pl_flights.proofs.Queues.{set_host, set_out}
 
-set_get : {T : Type 0} (xs : List T) (n : ℕ) (x : T) → n < length xs → slice_get (set xs n x) n ≡ Some x
+pub set_get : {T : Type 0} (xs : List T) (n : ℕ) (x : T) → n < length xs → slice_get (set xs n x) n ≡ Some x
 set_get [] n x within = absurd (omega arith)
 set_get (y ∷ xs) zero x within = refl
 set_get (y ∷ xs) (suc n) x within = set_get xs n x (omega arith)
 
-set_get_other : {T : Type 0} (xs : List T) (n m : ℕ) (x : T) → (n ≡ m → ⊥) → slice_get (set xs n x) m ≡ slice_get xs m
+pub set_get_other : {T : Type 0} (xs : List T) (n m : ℕ) (x : T) → (n ≡ m → ⊥) → slice_get (set xs n x) m ≡ slice_get xs m
 set_get_other [] n m x other = refl
 set_get_other (y ∷ xs) zero zero x other = absurd (other refl)
 set_get_other (y ∷ xs) zero (suc m) x other = refl

@@ -81,7 +81,7 @@ pub home_view : (choose : Choice) (v : SwitchView) (frame : List ℕ) (o : Optio
 home_view choose v frame None = delivers_view v (destination frame) frame (granted v (destination frame))
 home_view choose v frame (Some trap) = goes_on_view choose v (with_destination frame (mac_of (last_trap (addresses v) v trap).new))
 
-begins_view : (choose : Choice) (v : SwitchView) (frame : List ℕ) → (begins choose v frame).view ≡ v
+pub begins_view : (choose : Choice) (v : SwitchView) (frame : List ℕ) → (begins choose v frame).view ≡ v
 begins_view choose v frame = cond_both (is_local v (destination frame)) (comes_home choose v frame) _ (Stays v)
     (λ own. home_view choose v frame (trap_for v (destination frame))) (λ other. leaves_view v frame _)
 

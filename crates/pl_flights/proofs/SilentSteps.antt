@@ -48,7 +48,7 @@ pub silent_append : (xs ys : List Act) → AreSilent xs → AreSilent ys → Are
 silent_append [] ys first next = next
 silent_append (x ∷ xs) ys first next = (first.0, silent_append xs ys first.1 next)
 
-silent_flat_map : {X : Type 0} (f : X → List Act) (xs : List X) → ((x : X) → AreSilent (f x)) → AreSilent (flat_map f xs)
+pub silent_flat_map : {X : Type 0} (f : X → List Act) (xs : List X) → ((x : X) → AreSilent (f x)) → AreSilent (flat_map f xs)
 silent_flat_map f [] all = tt
 silent_flat_map f (x ∷ xs) all = silent_append (f x) (flat_map f xs) (all x) (silent_flat_map f xs all)
 
@@ -60,7 +60,7 @@ silent_if : (b : Bool) (xs ys : List Act) → AreSilent xs → AreSilent ys → 
 silent_if true xs ys first next = first
 silent_if false xs ys first next = next
 
-none_or_told : (b : Bool) (told : ToManager) → AreSilent (if b then [] else act.Tell told ∷ [])
+pub none_or_told : (b : Bool) (told : ToManager) → AreSilent (if b then [] else act.Tell told ∷ [])
 none_or_told true told = tt
 none_or_told false told = (tt, tt)
 

@@ -26,3 +26,4 @@ pub mod SilentSteps
 pub mod Numbering
 pub mod Saying
 pub mod FromManager
+pub mod Events

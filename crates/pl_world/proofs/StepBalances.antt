@@ -457,7 +457,7 @@ found_contained p (l ∷ links) link is = by_first (p l) (found_contained p link
 pub link_set : (w : WorldView) (link : Link) (live : Bool) → Contains w.plan.links link → HasRest w → HasRest (record w { links = with_link w.links link live })
 link_set w link live there r = links_rest w (with_link w.links link live) (made_for_changed w.plan w.links link live r.is_plan.tree r.made_for there) r
 
-fails : (w : WorldView) (a b : ℕ) (link : Option Link) (new : WorldView) → link_between w.plan a b ≡ link → Sound w → Fails w link new → Sound new
+pub fails : (w : WorldView) (a b : ℕ) (link : Option Link) (new : WorldView) → link_between w.plan a b ≡ link → Sound w → Fails w link new → Sound new
 fails w a b None new found s is = absurd is
 fails w a b (Some link) new found s is = subst Sound (sym is) (record {
   balance = emptied_out_balance w.plan w.from_hosts _ _ w.begun (λ id. 0) cause.LinkDown (port_index w.plan.k link.upper.0 link.upper_port)

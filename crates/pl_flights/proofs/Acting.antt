@@ -1,33 +1,33 @@
 -- One act of a switch, all its acts, and its whole step.
-use Rattle.std.proofs.Common.{◌≡◌, ℕ, ◌+◌, ◌<◌, ◌==◌, not, Bool, true, false, if◌then◌else◌, List, [], ◌∷◌, ◌++◌, length, reverse, Option, None, Some, set, refl, sym, ◌∙◌, ap, subst, arith, append-nil}
+use Rattle.std.proofs.Common.{◌≡◌, ℕ, ◌+◌, ◌<◌, ◌==◌, Bool, true, false, if◌then◌else◌, List, [], ◌∷◌, ◌++◌, reverse, refl, sym, ◌∙◌, ap, subst, arith, append-nil}
 use Rattle.std.specs.List.{AllByRecursion, fold}
 use Rattle.std.proofs.lemmas.Bool.{cond-true, eq-eqb, false≢true}
 use Rattle.pl_pmac.specs.declared.pmac.Pmac.{Pmac}
 use Rattle.pl_wiring.specs.Peers.{peer_of}
-use Rattle.pl_wiring.specs.Plan.{IsPlan, Plan}
+use Rattle.pl_wiring.specs.Plan.{Plan}
 use Rattle.pl_layouts.specs.declared.place.Place.{Place}
 use Rattle.pl_layouts.specs.Placement.{same_place}
 use Rattle.pl_journal.specs.declared.cause.Cause.{Cause}
 use Rattle.pl_journal.specs.declared.entry.Entry.{Entry}
 use Rattle.pl_journal.specs.declared.entry.Entry.TheVariants.{Crossed, Dropped, Made, Copied, Placed, Redirected, Taken}
-use Rattle.pl_journal.specs.Flights.{Flight, begun, ends}
+use Rattle.pl_journal.specs.Flights.{begun, ends}
 use Rattle.pl_core.specs.declared.acts.Act.{Act}
 use Rattle.pl_core.specs.declared.acts.Act.TheVariants as act
 use Rattle.pl_core.specs.Accounting.{IsFit, is_said, speech_after}
 use Rattle.pl_world.specs.declared.item.Item.{Item}
 use Rattle.pl_world.specs.declared.spoken_frame.SpokenFrame.{SpokenFrame}
 use Rattle.pl_world.specs.declared.spoken_frame.SpokenFrame.TheVariants.{Over, Passed, Silent, Waiting}
-use Rattle.pl_world.specs.Changes.{all_noted, is_failed_at, switch_no}
+use Rattle.pl_world.specs.Changes.{is_failed_at, switch_no}
 use Rattle.pl_world.specs.Flying.{born}
 use Rattle.pl_world.specs.SwitchActs.{Doing, act_done, acts_done, place_noted, with_late}
 use Rattle.pl_world.specs.Worlds.{WorldView}
 use Rattle.pl_world.proofs.Counts.{ends-cons, one}
 use Rattle.pl_world.proofs.SwitchActBalances.{IsLegal, IsSteady, Steady, act_said, act_steady, amid, owed_by, owes_nothing, said_by, said_is_legal}
-use Rattle.pl_flights.specs.OnTheWay.{Book, Tells, book_of}
-use Rattle.pl_flights.proofs.Counting.{Counts, IsNowhere, begun_is, counts, nobody, owed}
-use Rattle.pl_flights.proofs.Hands.{Amid, GoodActs, Hand, IsAmid, IsHeld, IsPutOff, MayEnd, MayLeave, MayTake, MayTurn, Next, again_past, made_here, turned}
+use Rattle.pl_flights.specs.OnTheWay.{Tells, book_of}
+use Rattle.pl_flights.proofs.Counting.{Counts, begun_is, counts, nobody, owed}
+use Rattle.pl_flights.proofs.Hands.{GoodActs, Hand, IsAmid, IsHeld, IsPutOff, MayEnd, MayLeave, Next, again_past, made_here, turned}
 use Rattle.pl_flights.proofs.Hands.Hand.{Empty, Spreads, Waits}
-use Rattle.pl_flights.proofs.HandSteps.{Again, again_book, begun_grown, copy_told, cross_again, drop_told, make_told, pass_told, take_told, turn_told}
+use Rattle.pl_flights.proofs.HandSteps.{again_book, begun_grown, copy_told, cross_again, drop_told, make_told, pass_told, take_told, turn_told}
 use Rattle.pl_flights.proofs.Keeping.{kept, same_book}
 use Rattle.pl_flights.proofs.Leaving.{sent_control}
 use Rattle.pl_flights.proofs.Noting.{grown, late_written, note, reverse_grown, reverse_noted}

@@ -1,18 +1,15 @@
 -- A data frame comes out of a port for hosts.
-use Rattle.std.proofs.Common.{◌≡◌, ◌≢◌, ℕ, zero, suc, ◌+◌, ◌<◌, ◌==◌, ◌&&◌, ◌||◌, not, nat_lt, Bool, true, false, cond, if◌then◌else◌, AllPairs, IsSome, IsTrue, MatchBool, List, [], ◌∷◌, ◌++◌, length, Option, None, Some, reverse, get_or, set, slice_get, refl, sym, ◌∙◌, ap, subst, arith, inl, inr}
-use Rattle.std.specs.List.{AllByRecursion, position, position_or_len}
+use Rattle.std.proofs.Common.{◌≡◌, ◌≢◌, ℕ, zero, suc, ◌<◌, ◌==◌, ◌||◌, not, nat_lt, Bool, true, false, AllPairs, IsSome, MatchBool, List, [], ◌∷◌, length, Option, None, Some, reverse, get_or, slice_get, refl, sym, ◌∙◌, ap, subst, arith, inl, inr}
+use Rattle.std.specs.List.{position_or_len}
 use Rattle.std.specs.Option.{option_map}
-use Rattle.std.proofs.lemmas.Bool.{and_from, and_parts, both_ways, cases_Bool, cases_eq, cases_lt, cond-false, cond-true, cond_both, eq-eqb, eqb-true, false≢true, lt-ltb, or_right}
+use Rattle.std.proofs.lemmas.Bool.{and_from, and_parts, both_ways, cases_Bool, cases_eq, cases_lt, cond-false, cond-true, eq-eqb, eqb-true, false≢true, lt-ltb, or_right}
 use Rattle.std.proofs.lemmas.List.Quantifiers.{position-Some}
 use Rattle.std.proofs.lemmas.Slice.Eq.{bytes_eq-Decides}
 use Rattle.pl_frame.specs.declared.address.Mac.{Mac}
 use Rattle.pl_frame.specs.Ethernet.{destination_of}
-use Rattle.pl_layouts.specs.declared.place.Place.{Place}
 use Rattle.pl_layouts.specs.Equality.{same_mac}
-use Rattle.pl_layouts.specs.Memberships.{flood, group_of, is_group}
+use Rattle.pl_layouts.specs.Memberships.{group_of, is_group}
 use Rattle.pl_wiring.specs.declared.host.Host.{Host}
-use Rattle.pl_wiring.specs.declared.host.HostNo.{HostNo}
-use Rattle.pl_wiring.specs.declared.label.SwitchNo.{SwitchNo}
 use Rattle.pl_wiring.specs.declared.link.Peer.{Peer}
 use Rattle.pl_wiring.specs.declared.link.Peer.TheVariants.{HostPort}
 use Rattle.pl_wiring.specs.Peers.{peer_of}
@@ -21,29 +18,29 @@ use Rattle.pl_journal.specs.declared.cause.Cause.TheVariants as cause
 use Rattle.pl_journal.specs.declared.entry.Entry.{Entry}
 use Rattle.pl_journal.specs.declared.entry.Entry.TheVariants.{Arrived, Dropped}
 use Rattle.pl_journal.specs.Causes.{CauseShows, goes_to_group, has_left, is_routed}
-use Rattle.pl_journal.specs.Flights.{Flight, address, first_of, flight_of, leg}
+use Rattle.pl_journal.specs.Flights.{address, first_of, flight_of, leg}
 use Rattle.pl_journal.specs.Lossy.{ArrivesByAddress, ArrivesByGroup, Needs, UnalteredFrom, mac_of_host}
-use Rattle.pl_journal.specs.Places.{Spot, at_port, holder, is_at, same_spot, spot, spot_of}
-use Rattle.pl_journal.proofs.Hosts.{hosts_apart, same_spot_itself}
+use Rattle.pl_journal.specs.Places.{Spot, at_port, holder, is_at, spot, spot_of}
+use Rattle.pl_journal.proofs.Hosts.{hosts_apart}
 use Rattle.pl_core.specs.declared.reception.Reception.{Reception}
 use Rattle.pl_core.specs.declared.reception.Reception.TheVariants.{Kept, NotMember}
 use Rattle.pl_core.specs.HostDuties.{HostsKeepFrames, HostsSendData}
 use Rattle.pl_core.specs.HostInputs.{HostRule}
 use Rattle.pl_world.specs.declared.item.Item.{Item}
-use Rattle.pl_world.specs.declared.item.Item.TheVariants.{Control, Data}
+use Rattle.pl_world.specs.declared.item.Item.TheVariants.{Data}
 use Rattle.pl_world.specs.declared.stand.Stand.{Stand}
 use Rattle.pl_world.specs.Changes.{host_at, host_no, if_for, is_address_of, out_of, receiver, stands_at}
 use Rattle.pl_world.specs.Flying.{IsCounted, times_in}
 use Rattle.pl_world.specs.OtherActs.{reception_noted}
-use Rattle.pl_world.specs.WorldRule.{ComesAtHost, HostReceives}
+use Rattle.pl_world.specs.WorldRule.{ComesAtHost}
 use Rattle.pl_world.specs.Worlds.{WorldView}
-use Rattle.pl_world.proofs.Counts.{ends-cons, one, times_in-data}
+use Rattle.pl_world.proofs.Counts.{times_in-data}
 use Rattle.pl_world.proofs.StepBalances.{Sound, noted_owes, sound}
-use Rattle.pl_flights.specs.OnTheWay.{Book, IsForHost, IsGoing, IsLeaving, IsTold, StandsAgree, Tells, book_of, place_in, spot_of_stand}
+use Rattle.pl_flights.specs.OnTheWay.{IsGoing, IsLeaving, IsTold, StandsAgree, Tells, book_of, place_in, spot_of_stand}
 use Rattle.pl_flights.proofs.HostTurns.{host_told}
 use Rattle.pl_flights.proofs.Keeping.{kept, same_book}
 use Rattle.pl_flights.proofs.Noting.{note, note_drop, reverse_noted}
-use Rattle.pl_flights.proofs.OverLinks.{IsTaken, taken, taken_out}
+use Rattle.pl_flights.proofs.OverLinks.{taken, taken_out}
 
 abbrev mac : List ℕ → Mac
 mac bytes = record { 0 = bytes }

@@ -1,28 +1,26 @@
 -- A data frame that comes over a link: whatever is done with it keeps what is told.
-use Rattle.std.proofs.Common.{◌≡◌, ℕ, zero, ◌+◌, ◌≤◌, ◌<◌, ◌&&◌, not, Bool, true, false, if◌then◌else◌, Contains, List, [], ◌∷◌, ◌++◌, length, reverse, Option, None, Some, set, slice_get, refl, sym, ◌∙◌, ap, subst, arith, append-nil}
+use Rattle.std.proofs.Common.{◌≡◌, ℕ, zero, ◌≤◌, ◌<◌, ◌&&◌, Bool, true, false, Contains, List, [], ◌∷◌, ◌++◌, length, reverse, Option, None, Some, refl, sym, ◌∙◌, ap, subst, arith, append-nil}
 use Rattle.std.proofs.lemmas.Bool.{and_parts, cond_both}
 use Rattle.pl_frame.specs.declared.address.Ip4.{Ip4}
 use Rattle.pl_frame.specs.Ethernet.{destination_of, source_of}
 use Rattle.pl_pmac.specs.declared.pmac.Pmac.{Pmac}
-use Rattle.pl_pmac.specs.Pmac.{mac_of}
 use Rattle.pl_wiring.specs.declared.label.SwitchNo.{SwitchNo}
 use Rattle.pl_wiring.specs.declared.link.Peer.{Peer}
 use Rattle.pl_wiring.specs.declared.link.Peer.TheVariants.{Switch}
 use Rattle.pl_wiring.specs.Peers.{peer_of}
 use Rattle.pl_wiring.specs.Plan.{IsPlan, Plan}
 use Rattle.pl_layouts.specs.declared.place.Place.{Place}
-use Rattle.pl_layouts.specs.Frames.{is_arp, mac_number}
+use Rattle.pl_layouts.specs.Frames.{is_arp}
 use Rattle.pl_layouts.specs.Memberships.{is_group}
 use Rattle.pl_layouts.specs.Placement.{is_known, is_placed}
 use Rattle.pl_layouts.proofs.Arrived.{six_src}
 use Rattle.pl_journal.specs.declared.entry.Entry.TheVariants.{Crossed}
 use Rattle.pl_journal.specs.Flights.{Flight, flight_of, was_live}
 use Rattle.pl_core.specs.Accounting.{AccountsForFrames, IsMade}
-use Rattle.pl_core.specs.declared.acts.Act.{Act}
 use Rattle.pl_core.specs.declared.trap.Trap.{Trap}
 use Rattle.pl_core.specs.SwitchInputs.SwitchInput.{Comes}
 use Rattle.pl_core.specs.SwitchViews.{SwitchView}
-use Rattle.pl_steps.specs.Steps.{SwitchStep, does}
+use Rattle.pl_steps.specs.Steps.{does}
 use Rattle.pl_switch_rule.specs.declared.came.Came.TheVariants.{FromHost}
 use Rattle.pl_switch_rule.specs.Delivering.{addresses, arrives_home, begins, comes_home, destination, last_trap, newer_address, tells_newer, tells_sender, trap_for}
 use Rattle.pl_switch_rule.specs.Forwarding.{Choice, forwards}
@@ -44,8 +42,8 @@ use Rattle.pl_flights.proofs.ForwardActs.{crossed_at}
 use Rattle.pl_flights.proofs.Hands.{GoodActs, Hand, made_here}
 use Rattle.pl_flights.proofs.Hands.Hand.{Waits}
 use Rattle.pl_flights.proofs.HomeActs.{IsHere, leaves_then}
-use Rattle.pl_flights.proofs.OverLinks.{IsGoodAtHome, IsTaken, comes_told, home_view, taken, taken_out}
-use Rattle.pl_flights.proofs.Passing.{known, something}
+use Rattle.pl_flights.proofs.OverLinks.{IsGoodAtHome, comes_told, home_view, taken, taken_out}
+use Rattle.pl_flights.proofs.Passing.{known}
 use Rattle.pl_flights.proofs.Redirects.{home_good}
 
 -- an edge switch whose address it is has a place

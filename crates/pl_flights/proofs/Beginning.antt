@@ -1,5 +1,5 @@
 -- At its beginning a world tells nothing, and nothing is so; and an item is lost.
-use Rattle.std.proofs.Common.{◌≡◌, ℕ, zero, suc, ◌*◌, ◌<◌, not, Bool, true, false, Contains, List, [], ◌∷◌, ◌++◌, length, map, replicate, Option, None, Some, reverse, get_or, set, slice_get, refl, sym, ◌∙◌, ap, subst, inl, inr}
+use Rattle.std.proofs.Common.{◌≡◌, ℕ, zero, suc, ◌*◌, ◌<◌, not, true, List, [], ◌∷◌, length, map, replicate, Some, reverse, get_or, slice_get, refl, sym, ◌∙◌, ap, subst, inl, inr}
 use Rattle.std.specs.List.{AllByRecursion}
 use Rattle.std.specs.Option.{option_map}
 use Rattle.pl_layouts.specs.declared.place.Place.{Place}
@@ -19,7 +19,7 @@ use Rattle.pl_journal.specs.declared.cause.Cause.TheVariants as cause
 use Rattle.pl_journal.specs.declared.entry.Entry.{Entry}
 use Rattle.pl_journal.specs.declared.entry.Entry.TheVariants.{Dropped}
 use Rattle.pl_journal.specs.Causes.{has_crossed}
-use Rattle.pl_journal.specs.Flights.{first_of, flight_of, trail}
+use Rattle.pl_journal.specs.Flights.{first_of, trail}
 use Rattle.pl_journal.specs.Places.{at_port}
 use Rattle.pl_world.specs.declared.item.Item.{Item}
 use Rattle.pl_world.specs.declared.item.Item.TheVariants.{Control, Data}

@@ -1,12 +1,11 @@
 -- What the balance of a world says of one frame: one that is owed is in flight and in no queue.
-use Rattle.std.proofs.Common.{◌≡◌, ℕ, zero, suc, ◌+◌, ◌≤◌, ◌==◌, ◌&&◌, nat_le, Bool, true, false, if◌then◌else◌, List, [], ◌∷◌, ◌++◌, length, reverse, get_or, refl, sym, ◌∙◌, ap, subst, arith, inl, inr}
+use Rattle.std.proofs.Common.{◌≡◌, ℕ, zero, suc, ◌+◌, ◌≤◌, ◌==◌, ◌&&◌, nat_le, Bool, true, false, if◌then◌else◌, List, [], ◌∷◌, ◌++◌, reverse, get_or, refl, sym, ◌∙◌, ap, arith, inl, inr}
 use Rattle.std.specs.List.{AllByRecursion}
 use Rattle.std.proofs.lemmas.Bool.{and_from, and_parts, cases_Bool, cond-false, cond-true, eq-eqb, eqb-false, leb-true, ne_eqb}
-use Rattle.std.proofs.lemmas.Bool.Decides.{nat_tests}
 use Rattle.std.proofs.lemmas.List.{reverse-append}
 use Rattle.pl_wiring.specs.Plan.{Plan}
 use Rattle.pl_journal.specs.declared.entry.Entry.{Entry}
-use Rattle.pl_journal.specs.Flights.{begun, begun_by, ended_by, ends, is_begun, is_flying}
+use Rattle.pl_journal.specs.Flights.{begun, ends, is_begun, is_flying}
 use Rattle.pl_journal.specs.Lossy.{RunTo}
 use Rattle.pl_journal.proofs.Numbered.{within_begun}
 use Rattle.pl_world.specs.declared.item.Item.{Item}

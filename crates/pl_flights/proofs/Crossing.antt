@@ -1,5 +1,5 @@
 -- A frame that crosses the switch where its route leads crosses it well.
-use Rattle.std.proofs.Common.{◌≡◌, ℕ, ◌==◌, ◌&&◌, ◌||◌, Bool, true, false, List, [], ◌∷◌, Some, refl, sym, ap, ◌∙◌, subst, inl, inr}
+use Rattle.std.proofs.Common.{◌≡◌, ℕ, true, List, [], ◌∷◌, ◌∙◌, inl, inr}
 use Rattle.std.proofs.lemmas.Bool.{and_from, cases_Bool, or_left, or_right}
 use Rattle.pl_frame.specs.Ethernet.{destination_of}
 use Rattle.pl_pmac.specs.declared.pmac.Pmac.{Pmac}
@@ -10,7 +10,7 @@ use Rattle.pl_wiring.specs.Plan.{Plan}
 use Rattle.pl_journal.specs.declared.entry.Entry.{Entry}
 use Rattle.pl_journal.specs.declared.entry.Entry.TheVariants.{Crossed}
 use Rattle.pl_journal.specs.Causes.{goes_to_group}
-use Rattle.pl_journal.specs.Flights.{Flight, flight_of, is_good_leg, is_led_to, leg, was_live}
+use Rattle.pl_journal.specs.Flights.{flight_of, is_good_leg, is_led_to, leg, was_live}
 use Rattle.pl_journal.specs.Lossy.{CrossesWell, goes_well}
 use Rattle.pl_journal.specs.Places.{is_joined}
 use Rattle.pl_flights.specs.OnTheWay.{IsBetween, IsOnWay}

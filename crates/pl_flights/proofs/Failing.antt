@@ -1,19 +1,17 @@
 -- A link fails, or is repaired.
-use Rattle.std.proofs.Common.{◌≡◌, ℕ, zero, suc, ◌+◌, ◌<◌, ◌==◌, ◌&&◌, ◌||◌, not, Bool, true, false, if◌then◌else◌, Contains, IsTrue, List, [], ◌∷◌, ◌++◌, length, Option, None, Some, reverse, get_or, set, refl, sym, ◌∙◌, ap, subst, arith, inl, inr}
-use Rattle.std.specs.List.{AllByRecursion, find}
-use Rattle.std.proofs.lemmas.Bool.{and_from, and_parts, both_ways, cases_Bool, cases_eq, cases_lt, cond-false, cond-true, eq-eqb, eqb-false, eqb-true, false≢true, ne_eqb, not-true, not-false, or_cases, or_left, or_right}
+use Rattle.std.proofs.Common.{◌≡◌, ℕ, ◌+◌, ◌<◌, ◌==◌, ◌&&◌, not, Bool, true, false, if◌then◌else◌, Contains, List, [], ◌∷◌, ◌++◌, length, reverse, get_or, set, refl, sym, ◌∙◌, ap, subst, arith, inl, inr}
+use Rattle.std.specs.List.{AllByRecursion}
+use Rattle.std.proofs.lemmas.Bool.{and_from, and_parts, both_ways, cases_Bool, cases_eq, cases_lt, cond-false, cond-true, eq-eqb, eqb-true, not-false, or_cases, or_left, or_right}
 use Rattle.std.proofs.lemmas.List.{append_assoc, get_or-set_other, get_or-set_same, get_or_past, set_past}
-use Rattle.pl_frame.specs.Ethernet.{destination_of}
 use Rattle.pl_layouts.specs.declared.place.Place.{Place}
-use Rattle.pl_layouts.specs.Memberships.{is_group}
 use Rattle.pl_wiring.specs.declared.label.SwitchNo.{SwitchNo}
 use Rattle.pl_wiring.specs.declared.link.Link.{Link}
 use Rattle.pl_wiring.specs.declared.link.Peer.{Peer}
 use Rattle.pl_wiring.specs.declared.link.Peer.TheVariants.{HostPort, Switch}
 use Rattle.pl_wiring.specs.FatTree.{IsAt, IsTreeLink}
 use Rattle.pl_wiring.specs.Index.{port_index}
-use Rattle.pl_wiring.specs.LiveLinks.{IsFor, LivePorts, is_live, is_live_at}
-use Rattle.pl_wiring.specs.Peers.{HasEnds, IsBetween as IsLinkBetween, IsPeer, peer_of}
+use Rattle.pl_wiring.specs.LiveLinks.{IsFor, LivePorts, is_live}
+use Rattle.pl_wiring.specs.Peers.{IsBetween as IsLinkBetween, IsPeer, peer_of}
 use Rattle.pl_wiring.specs.Plan.{IsPlan, Plan}
 use Rattle.pl_wiring.proofs.Ends.{IsPeer-is, at_contained, link_rises}
 use Rattle.pl_wiring.proofs.Linked.{peer_says, same_between}
@@ -24,17 +22,17 @@ use Rattle.pl_journal.specs.declared.cause.Cause.TheVariants as cause
 use Rattle.pl_journal.specs.declared.entry.Entry.{Entry}
 use Rattle.pl_journal.specs.declared.entry.Entry.TheVariants.{Dropped, LinkDown, LinkUp}
 use Rattle.pl_journal.specs.Causes.{CauseShows, touches_failed_link}
-use Rattle.pl_journal.specs.Flights.{begun, ends, first_of, flight_of, is_flying, trail, was_live}
-use Rattle.pl_journal.specs.Lossy.{CrossesWell, Needs, RunTo}
+use Rattle.pl_journal.specs.Flights.{begun, ends, first_of, flight_of, trail, was_live}
+use Rattle.pl_journal.specs.Lossy.{Needs}
 use Rattle.pl_journal.specs.Places.{has_failed_link, is_failed, is_joined, same_ends}
 use Rattle.pl_world.specs.declared.item.Item.{Item}
 use Rattle.pl_world.specs.declared.item.Item.TheVariants.{Control, Data}
 use Rattle.pl_world.specs.declared.stand.Stand.{Stand}
 use Rattle.pl_world.specs.Changes.{ends_of}
-use Rattle.pl_flights.specs.OnTheWay.{Flying, IsBetween, IsGoing, IsOut, IsTold, LinksAgree, StandsAgree, Tells, book_of, place_in}
-use Rattle.pl_flights.proofs.Counting.{Counts, IsNowhere, IsOwed, counts, nobody, owed}
-use Rattle.pl_flights.proofs.Keeping.{Keeps, between_kept, goes_on, going_kept, kept, same_book}
-use Rattle.pl_flights.proofs.Noting.{ends_here, grown, note, note_drop, reverse_grown, reverse_noted}
+use Rattle.pl_flights.specs.OnTheWay.{Flying, IsBetween, IsGoing, IsOut, IsTold, LinksAgree, Tells, book_of, place_in}
+use Rattle.pl_flights.proofs.Counting.{Counts, counts, nobody, owed}
+use Rattle.pl_flights.proofs.Keeping.{between_kept, goes_on, kept, same_book}
+use Rattle.pl_flights.proofs.Noting.{ends_here, grown, note_drop, reverse_grown, reverse_noted}
 use Rattle.pl_flights.proofs.ForwardActs.{not_is_true}
 use Rattle.pl_flights.proofs.HandSteps.{begun_grown}
 use Rattle.pl_flights.proofs.Queues.{set_out}

@@ -1,12 +1,10 @@
 -- What a switch does with a frame that comes from a neighbour and is not for its own hosts is good.
-use Rattle.std.proofs.Common.{◌≡◌, ℕ, ◌<◌, ◌==◌, ◌&&◌, ◌||◌, not, Bool, true, false, if◌then◌else◌, List, [], ◌∷◌, map, length, Option, None, Some, is_none, get_or, refl, sym, ◌∙◌, ap, subst, inl, inr}
-use Rattle.std.specs.List.{AllByRecursion, IsAmong, filter}
+use Rattle.std.proofs.Common.{◌≡◌, ℕ, ◌==◌, ◌&&◌, ◌||◌, not, Bool, true, false, if◌then◌else◌, List, [], ◌∷◌, map, Option, None, Some, is_none, refl, sym, ◌∙◌, ap, subst}
+use Rattle.std.specs.List.{IsAmong, filter}
 use Rattle.std.specs.Option.{unwrap_or}
-use Rattle.std.proofs.lemmas.Bool.{and_parts, both_ways, cases_Bool, cond-false, cond-true, cond_both, eq-eqb, false≢true, not-false, or_parts}
-use Rattle.pl_frame.specs.Ethernet.{destination_of, source_of}
+use Rattle.std.proofs.lemmas.Bool.{and_parts, both_ways, cond_both, eq-eqb, false≢true, not-false, or_parts}
+use Rattle.pl_frame.specs.Ethernet.{destination_of}
 use Rattle.pl_pmac.specs.declared.pmac.Pmac.{Pmac}
-use Rattle.pl_pmac.specs.Pmac.{pmac_of}
-use Rattle.pl_wiring.specs.declared.label.SwitchNo.{SwitchNo}
 use Rattle.pl_wiring.specs.declared.link.Peer.{Peer}
 use Rattle.pl_wiring.specs.declared.link.Peer.TheVariants.{HostPort, Switch}
 use Rattle.pl_wiring.specs.Peers.{peer_of}
@@ -25,18 +23,18 @@ use Rattle.pl_core.specs.PortRecords.{is_usable, is_usable_to, place_at, ports_o
 use Rattle.pl_core.specs.SwitchFacts.{is_avoided}
 use Rattle.pl_core.specs.SwitchViews.{SwitchView}
 use Rattle.pl_core.proofs.Among.{among_filter, among_of_Contains}
-use Rattle.pl_steps.specs.Steps.{SwitchStep, does}
+use Rattle.pl_steps.specs.Steps.{SwitchStep}
 use Rattle.pl_switch_rule.specs.declared.came.Came.{Came}
 use Rattle.pl_switch_rule.specs.declared.came.Came.TheVariants.{FromAbove, FromBelow, FromHost}
 use Rattle.pl_switch_rule.specs.Delivering.{arrives_home, destination}
-use Rattle.pl_switch_rule.specs.Forwarding.{Choice, candidates, candidates_by, came_by, forwards, is_candidate, leads_from_aggregation, leads_from_core, leads_from_edge, leads_to_pod, leads_to_position, leads_up, leaves_by}
+use Rattle.pl_switch_rule.specs.Forwarding.{Choice, candidates, candidates_by, came_by, is_candidate, leads_from_aggregation, leads_from_core, leads_from_edge, leads_to_position, leads_up, leaves_by}
 use Rattle.pl_switch_rule.specs.Granting.{is_local}
-use Rattle.pl_switch_rule.specs.GroupForwarding.{destination_group, forwards_group, group_ports, no_way, passes_or_drops, way_of}
+use Rattle.pl_switch_rule.specs.GroupForwarding.{destination_group, forwards_group, passes_or_drops}
 use Rattle.pl_switch_rule.specs.SwitchRule.{IsChoice, comes_from_switch}
-use Rattle.pl_flights.specs.OnTheWay.{Book, IsBetween, IsLeaving, IsOnWay}
+use Rattle.pl_flights.specs.OnTheWay.{Book, IsBetween}
 use Rattle.pl_flights.specs.Standing.{KnowsNeighbours, KnowsPlaces}
-use Rattle.pl_flights.proofs.Hands.{GoodActs, Hand, MayEnd, MayLeave}
-use Rattle.pl_flights.proofs.Hands.Hand.{Empty, Spreads, Waits}
+use Rattle.pl_flights.proofs.Hands.{GoodActs, MayEnd, MayLeave}
+use Rattle.pl_flights.proofs.Hands.Hand.{Spreads, Waits}
 use Rattle.pl_flights.proofs.Passing.{passes_on}
 
 -- the frame once it has crossed switch t

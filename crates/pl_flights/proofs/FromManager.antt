@@ -1,6 +1,6 @@
 -- A message of the manager comes at a switch; one that gives a pod is not among them, since addresses may be granted then.
-use Rattle.std.proofs.Common.{◌≡◌, ℕ, zero, suc, ◌+◌, ◌<◌, ◌&&◌, not, Bool, true, false, if◌then◌else◌, List, [], ◌∷◌, ◌++◌, length, map, Option, None, Some, is_some, reverse, set, slice_get, refl, sym, ◌∙◌, ap, subst, inl, inr}
-use Rattle.std.specs.List.{AllByRecursion, filter, flat_map}
+use Rattle.std.proofs.Common.{◌≡◌, ℕ, not, true, false, List, [], ◌∷◌, ◌++◌, Option, None, Some, is_some, reverse, set, slice_get, refl, sym, ◌∙◌, ap, subst, inl, inr}
+use Rattle.std.specs.List.{filter}
 use Rattle.std.proofs.Math.ListN.{length-set}
 use Rattle.std.proofs.lemmas.Bool.{cases_eq, cond_both}
 use Rattle.std.proofs.lemmas.Option.{slice_get_within}
@@ -35,7 +35,7 @@ use Rattle.pl_world.specs.declared.spoken_frame.SpokenFrame.TheVariants.{Silent}
 use Rattle.pl_world.specs.Flying.{IsCounted}
 use Rattle.pl_world.specs.WorldRule.{SwitchTurn}
 use Rattle.pl_world.specs.Worlds.{WorldView}
-use Rattle.pl_world.proofs.StepBalances.{Sound, sound}
+use Rattle.pl_world.proofs.StepBalances.{sound}
 use Rattle.pl_world.proofs.SwitchActBalances.{says_rest}
 use Rattle.pl_flights.specs.OnTheWay.{Book, IsTold, book_of, known_place, place_in}
 use Rattle.pl_flights.specs.Standing.{IsMore, KnowsAddresses, KnowsNeighbours, KnowsPlaces, StandsOn}
@@ -45,7 +45,7 @@ use Rattle.pl_flights.proofs.Hands.Hand.{Empty, Spreads, Waits}
 use Rattle.pl_flights.proofs.Moving.{set_get, set_get_other}
 use Rattle.pl_flights.proofs.OverLinks.{begins_view}
 use Rattle.pl_flights.proofs.Saying.{answer_good, flood_good, probe_good}
-use Rattle.pl_flights.proofs.SilentSteps.{AreSilent, IsSilent, none_or_told, silent_flat_map, silent_good, silent_turn}
+use Rattle.pl_flights.proofs.SilentSteps.{AreSilent, none_or_told, silent_flat_map, silent_good, silent_turn}
 use Rattle.pl_flights.proofs.SwitchTurns.{turn_switches}
 
 -- good acts are good where more is known of places

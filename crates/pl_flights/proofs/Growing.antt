@@ -1,7 +1,6 @@
 -- A route stays one where more is known of places.
-use Rattle.std.proofs.Common.{◌≡◌, ℕ, Bool, false, List, [], ◌∷◌, Some}
+use Rattle.std.proofs.Common.{ℕ, Bool, List, [], ◌∷◌}
 use Rattle.std.specs.List.{AllByRecursion}
-use Rattle.pl_frame.specs.Ethernet.{destination_of}
 use Rattle.pl_pmac.specs.declared.pmac.Pmac.{Pmac}
 use Rattle.pl_layouts.specs.declared.place.Place.{Place}
 use Rattle.pl_wiring.specs.declared.link.Peer.{Peer}
@@ -14,8 +13,8 @@ use Rattle.pl_journal.specs.Flights.{Flight, flight_of, was_live}
 use Rattle.pl_world.specs.declared.item.Item.{Item}
 use Rattle.pl_world.specs.declared.item.Item.TheVariants.{Control, Data}
 use Rattle.pl_world.specs.declared.stand.Stand.{Stand}
-use Rattle.pl_flights.specs.OnTheWay.{Flying, IsBetween, IsGoing, IsOnWay, IsOut, Tells}
-use Rattle.pl_flights.specs.Routes.{IsElsewhere, IsOfOtherPod, Route}
+use Rattle.pl_flights.specs.OnTheWay.{IsBetween, IsGoing, IsOut, Tells}
+use Rattle.pl_flights.specs.Routes.{IsOfOtherPod, Route}
 use Rattle.pl_flights.specs.Routes.Route.{Climbs, Enters, Falls, Leaves, Turns}
 use Rattle.pl_flights.specs.Standing.{IsMore}
 

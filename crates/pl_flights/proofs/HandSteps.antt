@@ -1,14 +1,11 @@
 -- What befalls the frame in hand: it crosses the switch again, ends, is redirected, is passed on, is copied; and one is made.
-use Rattle.std.proofs.Common.{◌≡◌, ℕ, ◌+◌, ◌*◌, ◌<◌, ◌==◌, ◌&&◌, ◌||◌, not, Bool, true, false, if◌then◌else◌, IsSome, IsTrue, List, [], ◌∷◌, ◌++◌, length, reverse, Option, None, Some, get_or, set, refl, sym, ◌∙◌, ap, subst, arith, append-nil, inl, inr}
-use Rattle.std.specs.List.{AllByRecursion, fold}
-use Rattle.std.proofs.lemmas.Bool.{and_from, and_parts, both_ways, cases_Bool, cond-false, cond-true, eq-eqb, eqb-true, ne_eqb, or_left, or_right, not-true, not-false, false≢true}
+use Rattle.std.proofs.Common.{◌≡◌, ℕ, ◌+◌, ◌<◌, ◌==◌, not, Bool, true, false, if◌then◌else◌, IsSome, List, [], ◌∷◌, ◌++◌, length, reverse, Option, None, Some, get_or, set, refl, sym, ◌∙◌, ap, subst, arith, append-nil}
+use Rattle.std.specs.List.{AllByRecursion}
+use Rattle.std.proofs.lemmas.Bool.{and_from, and_parts, both_ways, cond-true, eq-eqb, ne_eqb, or_left, or_right}
 use Rattle.pl_frame.specs.Ethernet.{destination_of}
 use Rattle.pl_pmac.specs.declared.pmac.Pmac.{Pmac}
 use Rattle.pl_pmac.specs.Pmac.{pmac_number}
-use Rattle.pl_wiring.specs.declared.link.Peer.{Peer}
-use Rattle.pl_wiring.specs.declared.link.Peer.TheVariants.{HostPort, Switch}
 use Rattle.pl_wiring.specs.Index.{port_index}
-use Rattle.pl_wiring.specs.LiveLinks.{LivePorts, is_live_at}
 use Rattle.pl_wiring.specs.Peers.{peer_of}
 use Rattle.pl_wiring.specs.Plan.{IsPlan, Plan}
 use Rattle.pl_layouts.specs.declared.place.Place.{Place}
@@ -18,33 +15,26 @@ use Rattle.pl_journal.specs.declared.cause.Cause.{Cause}
 use Rattle.pl_journal.specs.declared.cause.Cause.TheVariants as cause
 use Rattle.pl_journal.specs.declared.entry.Entry.{Entry}
 use Rattle.pl_journal.specs.declared.entry.Entry.TheVariants.{Copied, Crossed, Dropped, Made, Redirected, Taken}
-use Rattle.pl_journal.specs.Causes.{CauseShows, came_in_at_spent_port, goes_to_group, has_crossed, is_bad_arp, is_routed}
-use Rattle.pl_journal.specs.Flights.{Flight, begun, ends, first_flight, first_of, flight_of, is_begun, is_empty, is_flying, is_redirected, leg, sender, trail, was_live}
-use Rattle.pl_journal.specs.Lossy.{CrossesWell, GoesOn, IsTakenBy, Needs, RunTo, goes_well, is_turning}
-use Rattle.pl_journal.specs.Places.{Spot, at_port, is_failed, is_host_port}
-use Rattle.pl_journal.proofs.Unbegun.{flight_made, flight_before, live_before}
+use Rattle.pl_journal.specs.Causes.{CauseShows, came_in_at_spent_port, goes_to_group, is_bad_arp, is_routed}
+use Rattle.pl_journal.specs.Flights.{Flight, begun, ends, first_flight, first_of, flight_of, is_begun, is_empty, is_flying, is_redirected, leg, sender, trail}
+use Rattle.pl_journal.specs.Lossy.{GoesOn, IsTakenBy, goes_well, is_turning}
+use Rattle.pl_journal.specs.Places.{Spot, at_port}
+use Rattle.pl_journal.proofs.Unbegun.{flight_made}
 use Rattle.pl_journal.proofs.Numbered.{ends_after_it_begins, flying_is_begun, next_is_new}
-use Rattle.pl_core.specs.declared.acts.Act.{Act}
-use Rattle.pl_core.specs.declared.acts.Act.TheVariants as act
-use Rattle.pl_core.specs.Accounting.{IsFit, IsSent, speech_after}
-use Rattle.pl_world.specs.declared.item.Item.{Item}
-use Rattle.pl_world.specs.declared.item.Item.TheVariants.{Control, Data}
+use Rattle.pl_world.specs.declared.item.Item.TheVariants.{Data}
 use Rattle.pl_world.specs.declared.spoken_frame.SpokenFrame.{SpokenFrame}
-use Rattle.pl_world.specs.declared.spoken_frame.SpokenFrame.TheVariants.{Over, Passed, Silent, Waiting}
+use Rattle.pl_world.specs.declared.spoken_frame.SpokenFrame.TheVariants.{Over, Passed, Waiting}
 use Rattle.pl_world.specs.Changes.{is_failed_at, switch_no}
-use Rattle.pl_world.specs.SwitchActs.{Doing, act_done, acts_done, crossed_again}
 use Rattle.pl_world.specs.Worlds.{WorldView}
 use Rattle.pl_world.specs.Flying.{born}
 use Rattle.pl_world.proofs.Counts.{one}
-use Rattle.pl_world.proofs.SwitchActBalances.{IsLegal, IsSteady, Steady, act_said, act_steady, amid, owed_by, owes_nothing, said_by, said_is_legal}
-use Rattle.pl_flights.specs.OnTheWay.{Book, Flying, IsBetween, IsGoing, IsLeaving, IsOut, Tells, book_of}
-use Rattle.pl_flights.proofs.Counting.{Counts, IsNowhere, IsOwed, begun_is, counts, nobody, begun_cons, next_nowhere, next_unborn, owed}
-use Rattle.pl_flights.proofs.Hands.{Amid, GoodActs, Hand, Holds, InHand, IsAmid, IsHeld, IsPutOff, IsShown, IsSpentThere, IsTurned, MayEnd, MayLeave, MayTake, MayTurn, Next, again_past, made_here, turned}
+use Rattle.pl_flights.specs.OnTheWay.{Tells, book_of}
+use Rattle.pl_flights.proofs.Counting.{Counts, IsNowhere, IsOwed, begun_cons, next_nowhere, next_unborn, owed}
+use Rattle.pl_flights.proofs.Hands.{Hand, InHand, IsAmid, IsHeld, IsPutOff, IsSpentThere, MayEnd, MayLeave, MayTake, MayTurn, again_past, made_here, turned}
 use Rattle.pl_flights.proofs.Hands.Hand.{Empty, Spreads, Waits}
-use Rattle.pl_flights.proofs.Keeping.{Keeps, between_kept, kept, leaving_kept, same_book}
+use Rattle.pl_flights.proofs.Keeping.{kept, same_book}
 use Rattle.pl_flights.proofs.Noting.{grown, late_kept, late_written, note, note_drop, reverse_grown, reverse_noted}
-use Rattle.pl_flights.proofs.Queues.{put_out}
-use Rattle.pl_flights.proofs.Leaving.{Out, goes_out_told, sent_control}
+use Rattle.pl_flights.proofs.Leaving.{goes_out_told}
 
 
 pub crossed_first : (switches : List ℕ) (s : ℕ) → first_of switches ≡ Some s → is_empty switches ≡ false

@@ -1,51 +1,41 @@
 -- What an edge switch does with a unicast frame for its own hosts is good: it delivers it, follows traps, and tells the sender.
-use Rattle.std.proofs.Common.{◌≡◌, ℕ, zero, suc, ◌+◌, ◌/◌, ◌%◌, ◌^◌, ◌≤◌, ◌<◌, ◌&&◌, not, nat_lt, Bool, true, false, if◌then◌else◌, List, [], ◌∷◌, ◌++◌, length, take, drop, Option, None, Some, is_some, unwrap_or, refl, sym, ◌∙◌, ap, subst, arith, inl, inr}
-use Rattle.std.proofs.lemmas.Bool.{and_from, and_parts, both_ways, cases_Bool, cond-true, cond-false, cond_both, eq-eqb, false≢true}
-use Rattle.pl_frame.specs.declared.address.Ip4.{Ip4}
+use Rattle.std.proofs.Common.{◌≡◌, ℕ, suc, ◌/◌, ◌%◌, ◌^◌, ◌≤◌, not, Bool, true, false, List, [], ◌∷◌, ◌++◌, length, drop, Option, None, Some, is_some, refl, sym, ◌∙◌, ap, subst, arith}
+use Rattle.std.proofs.lemmas.Bool.{and_from, and_parts, both_ways, cond-true, cond_both, eq-eqb, false≢true}
 use Rattle.pl_frame.specs.declared.address.Mac.{Mac}
-use Rattle.pl_frame.specs.Ethernet.{destination_of, source_of, with_destination}
+use Rattle.pl_frame.specs.Ethernet.{destination_of, with_destination}
 use Rattle.pl_frame.proofs.Fields.{front_of}
 use Rattle.pl_pmac.specs.declared.pmac.Pmac.{Pmac}
-use Rattle.pl_pmac.specs.Pmac.{Fits, mac_of, pmac_number, pmac_of}
-use Rattle.pl_pmac.proofs.Inverse.{pmac_of-mac_of}
-use Rattle.pl_wiring.specs.declared.label.SwitchNo.{SwitchNo}
-use Rattle.pl_wiring.specs.declared.label.Label.TheVariants.{Aggregation, Core, Edge}
+use Rattle.pl_pmac.specs.Pmac.{pmac_number}
+use Rattle.pl_wiring.specs.declared.label.Label.TheVariants.{Aggregation, Core}
 use Rattle.pl_wiring.specs.declared.link.Peer.{Peer}
 use Rattle.pl_wiring.specs.declared.link.Peer.TheVariants.{HostPort, Switch}
-use Rattle.pl_wiring.specs.Labels.{label_of}
 use Rattle.pl_wiring.specs.Peers.{peer_of}
 use Rattle.pl_wiring.specs.Plan.{IsPlan, Plan}
 use Rattle.pl_layouts.specs.declared.place.Place.{Place}
-use Rattle.pl_layouts.specs.Frames.{arriving, is_arp, mac_number}
+use Rattle.pl_layouts.specs.Frames.{arriving, mac_number}
 use Rattle.pl_layouts.specs.Memberships.{is_group}
 use Rattle.pl_layouts.specs.Placement.{is_known, is_placed}
 use Rattle.pl_layouts.proofs.Arrived.{destination_of-arriving}
-use Rattle.pl_journal.specs.declared.cause.Cause.TheVariants as cause
 use Rattle.pl_journal.specs.Flights.{Flight, first_of, level_of}
-use Rattle.pl_journal.specs.Lossy.{UnalteredFrom, mac_of_host}
-use Rattle.pl_journal.specs.Places.{at_port, is_host_port}
+use Rattle.pl_journal.specs.Lossy.{UnalteredFrom}
+use Rattle.pl_journal.specs.Places.{is_host_port}
 use Rattle.pl_core.specs.declared.acts.Act.{Act}
-use Rattle.pl_core.specs.declared.acts.Act.TheVariants as act
 use Rattle.pl_core.specs.declared.switch_records.Grant.{Grant}
-use Rattle.pl_core.specs.declared.trap.Trap.{Trap}
-use Rattle.pl_core.specs.PortRecords.{is_usable, is_usable_to, place_at}
 use Rattle.pl_core.specs.SwitchViews.{SwitchView}
-use Rattle.pl_steps.specs.Steps.{SwitchStep, does}
-use Rattle.pl_switch_rule.specs.declared.came.Came.{Came}
 use Rattle.pl_switch_rule.specs.declared.came.Came.TheVariants.{FromHost}
-use Rattle.pl_switch_rule.specs.Delivering.{addresses, arrives_home, begins, comes_home, delivers, delivers_or_redirects, delivers_to, destination, goes_on, if_newer, is_trapped, last_on, last_trap, makes, newer_address, redirects, redirects_on, tells_newer, tells_sender, trap_for}
+use Rattle.pl_switch_rule.specs.Delivering.{delivers, delivers_to, destination, goes_on}
 use Rattle.pl_switch_rule.specs.Forwarding.{Choice, candidates, candidates_by, forwards, is_candidate, leads_from_edge, leads_up, leaves_by}
 use Rattle.pl_switch_rule.specs.Granting.{granted, is_local}
 use Rattle.pl_switch_rule.specs.SwitchRule.{IsChoice}
-use Rattle.pl_flights.specs.OnTheWay.{Book, IsBetween, IsForHost, IsLeaving, IsOnWay, WillBeUnaltered}
+use Rattle.pl_flights.specs.OnTheWay.{Book, IsLeaving, WillBeUnaltered}
 use Rattle.pl_flights.specs.Routes.{IsElsewhere, Route}
 use Rattle.pl_flights.specs.Routes.Route.{Climbs}
-use Rattle.pl_flights.specs.Standing.{IsGranted, KnowsAddresses, KnowsNeighbours, KnowsPlaces, LeadsOn}
+use Rattle.pl_flights.specs.Standing.{IsGranted, KnowsAddresses, KnowsNeighbours, KnowsPlaces}
 use Rattle.pl_flights.proofs.ForwardActs.{among_candidates, candidate_usable, chosen_among}
-use Rattle.pl_flights.proofs.Hands.{GoodActs, Hand, MayLeave, MayTurn, made_here, turned}
+use Rattle.pl_flights.proofs.Hands.{GoodActs, Hand, MayLeave}
 use Rattle.pl_flights.proofs.Hands.Hand.{Empty, Spreads, Waits}
 use Rattle.pl_flights.proofs.Legs.{level_at}
-use Rattle.pl_flights.proofs.Passing.{known, something}
+use Rattle.pl_flights.proofs.Passing.{something}
 use Rattle.pl_flights.proofs.Rungs.{Rung, rung}
 use Rattle.pl_flights.proofs.Rungs.Rung.{DownFromCore, DownToEdge, UpFromEdge, UpToCore}
 

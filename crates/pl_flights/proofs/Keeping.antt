@@ -1,9 +1,6 @@
 -- What the journal says of a frame stays when entries follow that do not name it.
-use Rattle.std.proofs.Common.{◌≡◌, ℕ, ◌==◌, Bool, true, false, List, [], ◌∷◌, ◌++◌, Some, refl, sym, ◌∙◌, ap, subst}
-use Rattle.std.specs.List.{AllByRecursion}
-use Rattle.pl_frame.specs.Ethernet.{destination_of}
+use Rattle.std.proofs.Common.{◌≡◌, ℕ, ◌==◌, Bool, true, false, List, ◌∷◌, Some, refl, sym, ◌∙◌, subst}
 use Rattle.pl_layouts.specs.declared.place.Place.{Place}
-use Rattle.pl_layouts.specs.Memberships.{is_group}
 use Rattle.pl_wiring.specs.declared.link.Peer.{Peer}
 use Rattle.pl_wiring.specs.declared.link.Peer.TheVariants.{HostPort, Switch}
 use Rattle.pl_wiring.specs.Index.{port_index}
@@ -14,8 +11,7 @@ use Rattle.pl_journal.specs.declared.entry.Entry.TheVariants.{Copied, Crossed, G
 use Rattle.pl_journal.specs.Flights.{Flight, flight_of, was_live}
 use Rattle.pl_journal.specs.Places.{Spot}
 use Rattle.pl_world.specs.declared.item.Item.{Item}
-use Rattle.pl_world.specs.declared.item.Item.TheVariants.{Control, Data}
-use Rattle.pl_flights.specs.OnTheWay.{Book, Flying, IsBetween, IsForHost, IsGoing, IsLeaving, IsOnWay, IsOut, IsWaiting, book_of}
+use Rattle.pl_flights.specs.OnTheWay.{Book, Flying, IsBetween, IsGoing, IsLeaving, IsOut, IsWaiting, book_of}
 use Rattle.pl_flights.proofs.Counting.{IsNowhere, all_kept, not_in_one}
 
 -- of one frame, the same is said later, and the links that were live are

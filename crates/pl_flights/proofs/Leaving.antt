@@ -1,47 +1,25 @@
 -- A frame leaves by a port, or is put off where the link is failed.
-use Rattle.std.proofs.Common.{◌≡◌, ℕ, ◌+◌, ◌*◌, ◌<◌, ◌==◌, ◌&&◌, ◌||◌, not, Bool, true, false, if◌then◌else◌, IsTrue, List, [], ◌∷◌, ◌++◌, length, reverse, Option, None, Some, get_or, set, refl, sym, ◌∙◌, ap, subst, arith, append-nil, inl, inr}
-use Rattle.std.specs.List.{AllByRecursion, fold}
-use Rattle.std.proofs.lemmas.Bool.{and_from, and_parts, cases_Bool, cond-false, cond-true, eq-eqb, ne_eqb, or_left, or_right, not-true, not-false, false≢true}
-use Rattle.pl_frame.specs.Ethernet.{destination_of}
-use Rattle.pl_pmac.specs.declared.pmac.Pmac.{Pmac}
-use Rattle.pl_pmac.specs.Pmac.{pmac_number}
+use Rattle.std.proofs.Common.{◌≡◌, ℕ, ◌<◌, ◌&&◌, not, Bool, true, false, if◌then◌else◌, List, [], ◌∷◌, ◌++◌, Some, get_or, set, refl, sym, ◌∙◌, ap}
+use Rattle.std.specs.List.{AllByRecursion}
+use Rattle.std.proofs.lemmas.Bool.{not-true, not-false, false≢true}
 use Rattle.pl_wiring.specs.declared.link.Peer.{Peer}
 use Rattle.pl_wiring.specs.declared.link.Peer.TheVariants.{HostPort, Switch}
 use Rattle.pl_wiring.specs.Index.{port_index}
-use Rattle.pl_wiring.specs.LiveLinks.{LivePorts, is_live_at}
+use Rattle.pl_wiring.specs.LiveLinks.{is_live_at}
 use Rattle.pl_wiring.specs.Peers.{peer_of}
-use Rattle.pl_wiring.specs.Plan.{IsPlan, Plan}
+use Rattle.pl_wiring.specs.Plan.{IsPlan}
 use Rattle.pl_layouts.specs.declared.place.Place.{Place}
-use Rattle.pl_layouts.specs.Frames.{mac_number}
-use Rattle.pl_layouts.specs.Memberships.{is_group}
-use Rattle.pl_journal.specs.declared.cause.Cause.{Cause}
 use Rattle.pl_journal.specs.declared.cause.Cause.TheVariants as cause
 use Rattle.pl_journal.specs.declared.entry.Entry.{Entry}
-use Rattle.pl_journal.specs.declared.entry.Entry.TheVariants.{Copied, Crossed, Dropped, Made, Redirected, Taken}
-use Rattle.pl_journal.specs.Causes.{CauseShows, goes_to_group, has_crossed}
-use Rattle.pl_journal.specs.Flights.{Flight, begun, ends, first_flight, first_of, flight_of, is_begun, is_empty, is_flying, is_redirected, leg, trail, was_live}
-use Rattle.pl_journal.specs.Lossy.{CrossesWell, GoesOn, Needs, RunTo, goes_well}
-use Rattle.pl_journal.specs.Places.{Spot, at_port, is_failed, is_host_port}
-use Rattle.pl_journal.proofs.Unbegun.{flight_made, flight_before, live_before}
-use Rattle.pl_journal.proofs.Numbered.{flying_is_begun, next_is_new}
-use Rattle.pl_core.specs.declared.acts.Act.{Act}
-use Rattle.pl_core.specs.declared.acts.Act.TheVariants as act
-use Rattle.pl_core.specs.Accounting.{IsFit, IsSent, speech_after}
-use Rattle.pl_world.specs.declared.item.Item.{Item}
+use Rattle.pl_journal.specs.declared.entry.Entry.TheVariants.{Dropped}
+use Rattle.pl_journal.specs.Flights.{Flight, first_of, flight_of, was_live}
+use Rattle.pl_journal.specs.Places.{is_failed, is_host_port}
 use Rattle.pl_world.specs.declared.item.Item.TheVariants.{Control, Data}
-use Rattle.pl_world.specs.declared.spoken_frame.SpokenFrame.{SpokenFrame}
-use Rattle.pl_world.specs.declared.spoken_frame.SpokenFrame.TheVariants.{Over, Passed, Silent, Waiting}
-use Rattle.pl_world.specs.Changes.{is_failed_at, switch_no}
-use Rattle.pl_world.specs.SwitchActs.{Doing, act_done, acts_done, crossed_again}
+use Rattle.pl_world.specs.Changes.{is_failed_at}
 use Rattle.pl_world.specs.Worlds.{WorldView}
-use Rattle.pl_world.proofs.Counts.{one}
-use Rattle.pl_world.proofs.SwitchActBalances.{IsLegal, IsSteady, Steady, act_said, act_steady, amid, owed_by, owes_nothing, said_by, said_is_legal}
-use Rattle.pl_flights.specs.OnTheWay.{Book, Flying, IsBetween, IsGoing, IsLeaving, IsOut, Tells, book_of}
-use Rattle.pl_flights.proofs.Counting.{Counts, IsNowhere, IsOwed, begun_is, counts, nobody, next_nowhere, owed}
-use Rattle.pl_flights.proofs.Hands.{Amid, GoodActs, Hand, Holds, InHand, IsAmid, IsHeld, IsPutOff, IsShown, IsTurned, MayEnd, MayLeave, MayTake, MayTurn, Next, again_past, made_here, turned}
-use Rattle.pl_flights.proofs.Hands.Hand.{Empty, Spreads, Waits}
-use Rattle.pl_flights.proofs.Keeping.{Keeps, between_kept, kept, leaving_kept, same_book}
-use Rattle.pl_flights.proofs.Noting.{grown, late_kept, late_written, note, note_drop, reverse_grown, reverse_noted}
+use Rattle.pl_flights.specs.OnTheWay.{Flying, IsGoing, Tells, book_of}
+use Rattle.pl_flights.proofs.Hands.{InHand, IsPutOff, IsShown, MayLeave}
+use Rattle.pl_flights.proofs.Keeping.{between_kept, leaving_kept, same_book}
 use Rattle.pl_flights.proofs.Queues.{put_out}
 use Rattle.pl_flights.proofs.Rungs.{failed_here}
 

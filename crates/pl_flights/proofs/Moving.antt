@@ -1,7 +1,7 @@
 -- A host moves.
-use Rattle.std.proofs.Common.{◌≡◌, ◌≢◌, ℕ, zero, suc, ◌+◌, ◌<◌, ◌==◌, ◌&&◌, ◌||◌, not, nat_lt, Bool, true, false, if◌then◌else◌, All, IsSome, IsTrue, List, [], ◌∷◌, ◌++◌, length, Option, None, Some, is_some, reverse, get_or, set, slice_get, option_map, refl, sym, ◌∙◌, ap, subst, arith, inl, inr}
+use Rattle.std.proofs.Common.{◌≡◌, ℕ, zero, suc, ◌<◌, ◌==◌, ◌&&◌, not, nat_lt, true, false, All, IsSome, List, [], ◌∷◌, ◌++◌, length, Option, None, Some, reverse, get_or, set, slice_get, option_map, refl, sym, ◌∙◌, ap, subst, arith, inl, inr}
 use Rattle.std.specs.List.{AllByRecursion}
-use Rattle.std.proofs.lemmas.Bool.{and_from, and_parts, both_ways, cases_Bool, cases_eq, cond-false, cond-true, eq-eqb, eqb-false, eqb-true, false_from_ne_true, false≢true, lt-ltb, ltb-true, or_left}
+use Rattle.std.proofs.lemmas.Bool.{and_from, and_parts, cases_Bool, cases_eq, cond-false, cond-true, eq-eqb, eqb-false, eqb-true, false_from_ne_true, false≢true, lt-ltb, ltb-true, or_left}
 use Rattle.std.proofs.lemmas.List.{append_assoc}
 use Rattle.std.proofs.Math.ListN.{length-set}
 use Rattle.std.proofs.lemmas.Option.{get_or_from_slice_get, same_Some, slice_get_within}
@@ -9,7 +9,6 @@ use Rattle.pl_frame.specs.Ethernet.{destination_of}
 use Rattle.pl_layouts.specs.declared.place.Place.{Place}
 use Rattle.pl_layouts.specs.Memberships.{is_group}
 use Rattle.pl_wiring.specs.declared.host.Host.{Host}
-use Rattle.pl_wiring.specs.declared.host.HostNo.{HostNo}
 use Rattle.pl_wiring.specs.declared.link.Peer.{Peer}
 use Rattle.pl_wiring.specs.declared.link.Peer.TheVariants.{HostPort, Switch}
 use Rattle.pl_wiring.specs.FatTree.{IsAt}
@@ -22,10 +21,10 @@ use Rattle.pl_wiring.proofs.Ports.{IsPeer-host_port}
 use Rattle.pl_journal.specs.declared.cause.Cause.TheVariants as cause
 use Rattle.pl_journal.specs.declared.entry.Entry.{Entry}
 use Rattle.pl_journal.specs.declared.entry.Entry.TheVariants.{Moved}
-use Rattle.pl_journal.specs.Causes.{CauseShows, has_left, is_left_behind}
-use Rattle.pl_journal.specs.Flights.{address, flight_of, is_empty, sender, trail}
-use Rattle.pl_journal.specs.Lossy.{Needs, RunTo}
-use Rattle.pl_journal.specs.Places.{Spot, at_port, first_spot, holder, is_at, is_free, is_host_port, is_left_free, same_spot, spot, spot_of}
+use Rattle.pl_journal.specs.Causes.{CauseShows, has_left}
+use Rattle.pl_journal.specs.Flights.{address, sender, trail}
+use Rattle.pl_journal.specs.Lossy.{RunTo}
+use Rattle.pl_journal.specs.Places.{Spot, at_port, holder, is_at, is_free, is_host_port, is_left_free, spot, spot_of}
 use Rattle.pl_journal.proofs.Hosts.{hosts_apart, spot_of_moved, spot_of_others}
 use Rattle.pl_world.specs.declared.item.Item.{Item}
 use Rattle.pl_world.specs.declared.item.Item.TheVariants.{Control, Data}

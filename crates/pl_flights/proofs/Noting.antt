@@ -1,5 +1,5 @@
 -- Entries that are written: one of a frame in hand, and a list of drops.
-use Rattle.std.proofs.Common.{◌≡◌, ℕ, ◌+◌, ◌==◌, ◌&&◌, ◌||◌, not, Bool, true, false, if◌then◌else◌, IsTrue, List, [], ◌∷◌, ◌++◌, reverse, Option, None, Some, refl, sym, ◌∙◌, ap, subst, arith, append-nil, inl, inr}
+use Rattle.std.proofs.Common.{◌≡◌, ℕ, ◌+◌, ◌==◌, true, false, List, [], ◌∷◌, ◌++◌, reverse, refl, sym, ◌∙◌, ap, subst, arith, append-nil, inl, inr}
 use Rattle.std.specs.List.{AllByRecursion}
 use Rattle.std.proofs.lemmas.Bool.{cases_Bool, cond-false, cond-true, eq-eqb, eqb-false, ne_eqb}
 use Rattle.std.proofs.lemmas.List.{append_assoc, reverse-append}
@@ -10,15 +10,14 @@ use Rattle.pl_journal.specs.declared.cause.Cause.{Cause}
 use Rattle.pl_journal.specs.declared.entry.Entry.{Entry}
 use Rattle.pl_journal.specs.declared.entry.Entry.TheVariants.{Dropped}
 use Rattle.pl_journal.specs.Causes.{CauseShows, touches_failed_link}
-use Rattle.pl_journal.specs.Flights.{begun, ends, first_of, flight_of, is_begun, is_flying, trail}
-use Rattle.pl_journal.specs.Lossy.{CrossesWell, GoodTrailTo, Needs, RunTo}
+use Rattle.pl_journal.specs.Flights.{ends, first_of, is_flying, trail}
+use Rattle.pl_journal.specs.Lossy.{CrossesWell, Needs}
 use Rattle.pl_journal.specs.Places.{has_failed_link}
 use Rattle.pl_world.specs.declared.item.Item.{Item}
 use Rattle.pl_world.specs.declared.stand.Stand.{Stand}
-use Rattle.pl_world.specs.Flying.{times_in_all}
 use Rattle.pl_world.proofs.Counts.{ends-cons}
-use Rattle.pl_flights.specs.OnTheWay.{Flying, LinksAgree, StandsAgree, Tells, book_of}
-use Rattle.pl_flights.proofs.Counting.{Counts, IsNowhere, IsOwed, nobody, owed}
+use Rattle.pl_flights.specs.OnTheWay.{LinksAgree, StandsAgree, Tells, book_of}
+use Rattle.pl_flights.proofs.Counting.{Counts, IsNowhere, owed}
 use Rattle.pl_flights.proofs.Hands.{IsPutOff, IsShown}
 use Rattle.pl_flights.proofs.Keeping.{Keeps, KeepsBook, goes_on, kept, same_book}
 

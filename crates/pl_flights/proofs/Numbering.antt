@@ -1,5 +1,5 @@
 -- The manager hears a switch, and numbers addresses.
-use Rattle.std.proofs.Common.{◌≡◌, ℕ, Bool, true, false, List, [], ◌∷◌, ◌++◌, length, Option, None, Some, reverse, set, refl, sym, ◌∙◌, ap, subst}
+use Rattle.std.proofs.Common.{◌≡◌, ℕ, List, [], ◌∷◌, ◌++◌, Option, None, Some, reverse, set, refl, sym, ◌∙◌, ap, subst}
 use Rattle.std.specs.List.{fold, position}
 use Rattle.std.proofs.Math.ListN.{length-set}
 use Rattle.pl_layouts.specs.Equality.{same_switch}

@@ -1,5 +1,5 @@
 -- A data frame comes over a link.
-use Rattle.std.proofs.Common.{◌≡◌, ℕ, zero, suc, ◌+◌, ◌<◌, ◌==◌, ◌||◌, not, Bool, true, false, if◌then◌else◌, Contains, List, [], ◌∷◌, length, Option, None, Some, is_none, reverse, set, slice_get, refl, sym, ◌∙◌, ap, subst, arith}
+use Rattle.std.proofs.Common.{◌≡◌, ℕ, zero, suc, ◌+◌, ◌<◌, ◌==◌, ◌||◌, not, true, false, Contains, List, [], ◌∷◌, Option, None, Some, is_none, reverse, set, slice_get, refl, sym, ◌∙◌, ap, subst, arith}
 use Rattle.std.specs.List.{AllByRecursion}
 use Rattle.std.proofs.lemmas.Bool.{cond-false, cond-true, cond_both, eq-eqb}
 use Rattle.pl_frame.specs.Ethernet.{destination_of, with_destination}
@@ -7,7 +7,7 @@ use Rattle.pl_pmac.specs.declared.pmac.Pmac.{Pmac}
 use Rattle.pl_pmac.specs.Pmac.{mac_of}
 use Rattle.pl_wiring.specs.declared.label.SwitchNo.{SwitchNo}
 use Rattle.pl_wiring.specs.declared.link.Peer.{Peer}
-use Rattle.pl_wiring.specs.declared.link.Peer.TheVariants.{HostPort, Switch}
+use Rattle.pl_wiring.specs.declared.link.Peer.TheVariants.{Switch}
 use Rattle.pl_wiring.specs.Index.{port_index}
 use Rattle.pl_wiring.specs.Peers.{IsPeer, IsPort, peer_of}
 use Rattle.pl_wiring.specs.Plan.{IsPlan, Plan}
@@ -29,14 +29,14 @@ use Rattle.pl_core.specs.declared.trap.Trap.{Trap}
 use Rattle.pl_frame.specs.declared.address.Ip4.{Ip4}
 use Rattle.pl_layouts.specs.Frames.{is_arp}
 use Rattle.pl_steps.specs.Steps.{SwitchStep}
-use Rattle.pl_switch_rule.specs.Delivering.{addresses, arrives_home, begins, comes_home, delivers, delivers_or_redirects, delivers_to, destination, goes_on, last_trap, makes, newer_address, tells_newer, tells_sender, trap_for}
-use Rattle.pl_switch_rule.specs.Forwarding.{Choice, candidates_by, came_by, forwards, leaves_by}
+use Rattle.pl_switch_rule.specs.Delivering.{addresses, arrives_home, begins, comes_home, delivers, delivers_or_redirects, delivers_to, destination, goes_on, last_trap, newer_address, tells_newer, tells_sender, trap_for}
+use Rattle.pl_switch_rule.specs.Forwarding.{Choice, came_by, leaves_by}
 use Rattle.pl_switch_rule.specs.Granting.{granted, is_local}
 use Rattle.pl_switch_rule.specs.GroupForwarding.{forwards_group}
 use Rattle.pl_switch_rule.specs.Intake.{comes_from_host}
-use Rattle.pl_switch_rule.specs.SwitchRule.{IsChoice, Loose, StepsBy, comes_from_switch, control_comes, data_comes, switch_step}
+use Rattle.pl_switch_rule.specs.SwitchRule.{IsChoice, Loose, comes_from_switch, control_comes, data_comes, switch_step}
 use Rattle.pl_world.specs.declared.item.Item.{Item}
-use Rattle.pl_world.specs.declared.item.Item.TheVariants.{Control, Data}
+use Rattle.pl_world.specs.declared.item.Item.TheVariants.{Data}
 use Rattle.pl_world.specs.declared.spoken_frame.SpokenFrame.TheVariants.{Waiting}
 use Rattle.pl_world.specs.Changes.{noted, out_of, switch_no}
 use Rattle.pl_world.specs.Flying.{IsCounted, IsFrame, times_in}
@@ -44,14 +44,13 @@ use Rattle.pl_world.specs.WorldRule.{SwitchTurn}
 use Rattle.pl_world.specs.Worlds.{WorldView}
 use Rattle.pl_world.proofs.Balances.{Owes, head_is_item, took_out_balance}
 use Rattle.pl_world.proofs.Counts.{one, times_in-data}
-use Rattle.pl_world.proofs.StepBalances.{Sound, noted_owes, peer_is_port, sound}
-use Rattle.pl_world.proofs.SwitchActBalances.{owed_by}
-use Rattle.pl_flights.specs.OnTheWay.{Book, IsBetween, IsGoing, IsOut, IsTold, Tells, book_of, place_in}
-use Rattle.pl_flights.specs.Standing.{KnowsNeighbours, KnowsPlaces, StandsOn}
-use Rattle.pl_flights.proofs.Counting.{Counts, IsNowhere, IsOwed, counts, owed}
+use Rattle.pl_world.proofs.StepBalances.{noted_owes, peer_is_port, sound}
+use Rattle.pl_flights.specs.OnTheWay.{IsBetween, IsGoing, IsOut, IsTold, Tells, book_of, place_in}
+use Rattle.pl_flights.specs.Standing.{StandsOn}
+use Rattle.pl_flights.proofs.Counting.{IsNowhere, IsOwed, counts, owed}
 use Rattle.pl_flights.proofs.Crossing.{crosses_well}
 use Rattle.pl_flights.proofs.ForwardActs.{crossed_at, forward_good}
-use Rattle.pl_flights.proofs.Hands.{Amid, GoodActs, Hand, InHand, IsAmid}
+use Rattle.pl_flights.proofs.Hands.{GoodActs, InHand, IsAmid}
 use Rattle.pl_flights.proofs.Hands.Hand.{Waits}
 use Rattle.pl_flights.proofs.HandSteps.{crossed_first}
 use Rattle.pl_flights.proofs.Keeping.{between_kept, kept, same_book}

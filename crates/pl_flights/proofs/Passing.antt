@@ -1,10 +1,10 @@
 -- A frame on its route that is passed on by a candidate goes on by a route.
-use Rattle.std.proofs.Common.{◌≡◌, ℕ, ◌==◌, ◌&&◌, ◌||◌, not, nat_lt, Bool, true, false, if◌then◌else◌, List, [], ◌∷◌, Option, None, Some, is_some, refl, sym, ap, ◌∙◌, subst, inl, inr}
-use Rattle.std.proofs.lemmas.Bool.{and_parts, both_ways, cases_Bool, cond-false, cond-true, eq-eqb, eqb-true, false≢true, or_cases}
+use Rattle.std.proofs.Common.{◌≡◌, ℕ, ◌||◌, not, Bool, true, false, List, ◌∷◌, Option, None, Some, is_some, refl, sym, ap, ◌∙◌, subst, inl, inr}
+use Rattle.std.proofs.lemmas.Bool.{and_parts, both_ways, cases_Bool, cond-false, cond-true, eq-eqb, eqb-true, false≢true}
 use Rattle.pl_pmac.specs.declared.pmac.Pmac.{Pmac}
 use Rattle.pl_wiring.specs.declared.label.Label.TheVariants.{Aggregation, Core, Edge}
 use Rattle.pl_wiring.specs.declared.label.SwitchNo.{SwitchNo}
-use Rattle.pl_wiring.specs.declared.link.Peer.TheVariants.{HostPort, Switch}
+use Rattle.pl_wiring.specs.declared.link.Peer.TheVariants.{Switch}
 use Rattle.pl_wiring.specs.Labels.{label_of}
 use Rattle.pl_wiring.specs.Peers.{peer_of}
 use Rattle.pl_wiring.specs.Plan.{IsPlan, Plan}
@@ -15,9 +15,9 @@ use Rattle.pl_core.specs.PortRecords.{is_usable, is_usable_to, place_at}
 use Rattle.pl_core.specs.SwitchFacts.{is_avoided}
 use Rattle.pl_core.specs.SwitchViews.{SwitchView}
 use Rattle.pl_switch_rule.specs.declared.came.Came.{Came}
-use Rattle.pl_switch_rule.specs.declared.came.Came.TheVariants.{FromAbove, FromBelow, FromHost}
+use Rattle.pl_switch_rule.specs.declared.came.Came.TheVariants.{FromAbove, FromBelow}
 use Rattle.pl_switch_rule.specs.Forwarding.{came_between, came_by, is_candidate, leads_from_aggregation, leads_from_core, leads_from_edge, leads_to_pod, leads_to_position, leads_up}
-use Rattle.pl_flights.specs.Routes.{IsElsewhere, IsOfOtherPod, Route}
+use Rattle.pl_flights.specs.Routes.{IsOfOtherPod, Route}
 use Rattle.pl_flights.specs.Routes.Route.{Climbs, Enters, Falls, Leaves, Turns}
 use Rattle.pl_flights.specs.Standing.{KnowsNeighbours, KnowsPlaces}
 use Rattle.pl_flights.proofs.Legs.{level_at, same_label}

@@ -1,21 +1,20 @@
 -- A frame that meets a trap is redirected, and redirected again, and goes on; its sender is told.
-use Rattle.std.proofs.Common.{◌≡◌, ℕ, zero, suc, ◌+◌, ◌≤◌, not, nat_lt, Bool, true, false, cond, if◌then◌else◌, List, [], ◌∷◌, ◌++◌, length, take, drop, Option, None, Some, is_some, refl, sym, ◌∙◌, ap, subst, arith, append-nil, inl, inr}
-use Rattle.std.proofs.lemmas.Bool.{and_parts, cases_Bool, cond-false, cond-true, cond_both}
-use Rattle.std.proofs.lemmas.List.{append_assoc, drop-drop, length-append, length-drop}
-use Rattle.pl_frame.specs.declared.address.Ip4.{Ip4}
+use Rattle.std.proofs.Common.{◌≡◌, ℕ, zero, suc, ◌+◌, ◌≤◌, nat_lt, Bool, true, false, List, [], ◌∷◌, ◌++◌, length, take, drop, Option, None, Some, is_some, refl, sym, ◌∙◌, ap, subst, arith, inl, inr}
+use Rattle.std.proofs.lemmas.Bool.{cases_Bool, cond-false, cond-true, cond_both}
+use Rattle.std.proofs.lemmas.List.{drop-drop, length-append, length-drop}
 use Rattle.pl_frame.specs.declared.address.Mac.{Mac}
-use Rattle.pl_frame.specs.Ethernet.{destination_of, source_of, with_destination}
+use Rattle.pl_frame.specs.Ethernet.{destination_of, with_destination}
 use Rattle.pl_frame.proofs.Fields.{rest_of}
 use Rattle.pl_pmac.specs.declared.pmac.Pmac.{Pmac}
-use Rattle.pl_pmac.specs.Pmac.{Fits, mac_of, pmac_number, pmac_of}
+use Rattle.pl_pmac.specs.Pmac.{Fits, mac_of, pmac_number}
 use Rattle.pl_pmac.proofs.Inverse.{pmac_of-mac_of}
 use Rattle.pl_wiring.specs.Plan.{IsPlan, Plan}
 use Rattle.pl_layouts.specs.declared.place.Place.{Place}
-use Rattle.pl_layouts.specs.Frames.{HasSixBytes, arriving, is_arp, mac_number, packet_in}
+use Rattle.pl_layouts.specs.Frames.{arriving, mac_number, packet_in}
 use Rattle.pl_layouts.specs.Memberships.{is_group}
-use Rattle.pl_layouts.specs.Placement.{is_known, is_placed}
+use Rattle.pl_layouts.specs.Placement.{is_placed}
 use Rattle.pl_layouts.proofs.Arrivals.{packet_behind, packet_in-behind, parts}
-use Rattle.pl_layouts.proofs.Arrived.{arriving_readable, arriving_unreadable, is_readable}
+use Rattle.pl_layouts.proofs.Arrived.{arriving_readable, arriving_unreadable}
 use Rattle.pl_journal.specs.Flights.{Flight, first_of}
 use Rattle.pl_journal.specs.Lossy.{UnalteredFrom}
 use Rattle.pl_core.specs.declared.acts.Act.{Act}
@@ -27,11 +26,10 @@ use Rattle.pl_switch_rule.specs.Forwarding.{Choice}
 use Rattle.pl_switch_rule.specs.Granting.{granted, is_local}
 use Rattle.pl_switch_rule.specs.SwitchRule.{IsChoice}
 use Rattle.pl_flights.specs.OnTheWay.{Book, WillBeUnaltered}
-use Rattle.pl_flights.specs.Standing.{IsGranted, KnowsAddresses, KnowsNeighbours, KnowsPlaces, LeadsOn}
+use Rattle.pl_flights.specs.Standing.{KnowsAddresses, KnowsNeighbours, KnowsPlaces, LeadsOn}
 use Rattle.pl_flights.proofs.Hands.{GoodActs, Hand, MayTurn, turned}
 use Rattle.pl_flights.proofs.Hands.Hand.{Waits}
 use Rattle.pl_flights.proofs.HomeActs.{IsHere, delivers_good, destination_is, goes_on_good, number_in, number_of_destination}
-use Rattle.pl_flights.proofs.Passing.{known}
 
 module _ (frame : List ℕ) (to m : Mac) (six_to : length to.0 ≡ 6) (six : length m.0 ≡ 6) (long : 14 ≤ length frame) where
   abbrev sent : List ℕ

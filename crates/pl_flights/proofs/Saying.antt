@@ -1,27 +1,23 @@
 -- The manager speaks to a switch.
-use Rattle.std.proofs.Common.{◌≡◌, ℕ, zero, suc, ◌+◌, ◌≤◌, ◌<◌, ◌==◌, ◌&&◌, not, Bool, true, false, if◌then◌else◌, List, [], ◌∷◌, ◌++◌, length, map, Option, None, Some, is_some, reverse, set, slice_get, refl, sym, ◌∙◌, ap, subst, arith, append-nil}
-use Rattle.std.specs.List.{AllByRecursion, flat_map}
-use Rattle.std.proofs.lemmas.Bool.{both_ways, cond-false, cond-true, cond_both, false≢true}
+use Rattle.std.proofs.Common.{◌≡◌, ℕ, ◌≤◌, ◌==◌, ◌&&◌, not, Bool, true, false, if◌then◌else◌, List, [], ◌∷◌, length, map, Option, None, Some, refl, sym, ◌∙◌, ap, subst}
+use Rattle.std.proofs.lemmas.Bool.{both_ways}
 use Rattle.pl_frame.specs.declared.address.Ip4.{Ip4}
-use Rattle.pl_frame.specs.declared.address.Mac.{Mac}
-use Rattle.pl_frame.specs.Ethernet.{destination_of, source_of}
+use Rattle.pl_frame.specs.Ethernet.{destination_of}
 use Rattle.pl_pmac.specs.declared.pmac.Pmac.{Pmac}
-use Rattle.pl_pmac.specs.Pmac.{Fits, mac_of, pmac_number, pmac_of}
+use Rattle.pl_pmac.specs.Pmac.{mac_of, pmac_number}
 use Rattle.pl_wiring.specs.declared.link.Peer.{Peer}
 use Rattle.pl_wiring.specs.declared.link.Peer.TheVariants.{HostPort, Switch}
 use Rattle.pl_wiring.specs.Peers.{peer_of}
 use Rattle.pl_wiring.specs.Plan.{IsPlan, Plan}
 use Rattle.pl_layouts.specs.declared.place.Place.{Place}
-use Rattle.pl_layouts.specs.ArpFrames.{arp_frame, broadcast}
+use Rattle.pl_layouts.specs.ArpFrames.{broadcast}
 use Rattle.pl_layouts.specs.Frames.{arriving, mac_number}
 use Rattle.pl_layouts.specs.Memberships.{flood, group_of, is_group}
-use Rattle.pl_layouts.specs.Placement.{is_placed}
 use Rattle.pl_layouts.proofs.Arrived.{destination_of-arriving}
 use Rattle.pl_journal.specs.declared.cause.Cause.{Cause}
 use Rattle.pl_journal.specs.declared.cause.Cause.TheVariants as cause
 use Rattle.pl_journal.specs.Causes.{is_routed}
 use Rattle.pl_journal.specs.Flights.{Flight, first_of}
-use Rattle.pl_core.specs.declared.acts.Act.{Act}
 use Rattle.pl_core.specs.declared.acts.Act.TheVariants as act
 use Rattle.pl_core.specs.declared.switch_records.Grant.{Grant}
 use Rattle.pl_core.specs.SwitchViews.{SwitchView}
@@ -29,17 +25,17 @@ use Rattle.pl_switch_rule.specs.declared.came.Came.{Came}
 use Rattle.pl_switch_rule.specs.declared.came.Came.TheVariants.{FromHost}
 use Rattle.pl_switch_rule.specs.Delivering.{makes}
 use Rattle.pl_switch_rule.specs.Forwarding.{Choice}
-use Rattle.pl_switch_rule.specs.Granting.{grant_number, granted, grants_at, is_granted, is_local}
-use Rattle.pl_switch_rule.specs.GroupForwarding.{destination_group, forwards_group, group_ports, no_way, passes_or_drops, way_of}
+use Rattle.pl_switch_rule.specs.Granting.{grant_number, granted, grants_at, is_local}
+use Rattle.pl_switch_rule.specs.GroupForwarding.{destination_group, forwards_group, passes_or_drops}
 use Rattle.pl_switch_rule.specs.Messages.{answer_frame, flood_frame, floods, probe_frame}
 use Rattle.pl_switch_rule.specs.SwitchRule.{IsChoice}
 use Rattle.pl_switch_rule.proofs.CausesHere.{destination_of-arp_frame}
 use Rattle.pl_switch_rule.proofs.DataFrames.{arp_frame_made}
-use Rattle.pl_flights.specs.OnTheWay.{Book, IsBetween, IsForHost, IsLeaving}
+use Rattle.pl_flights.specs.OnTheWay.{Book, IsLeaving}
 use Rattle.pl_flights.specs.Standing.{IsGranted, KnowsAddresses, KnowsNeighbours, KnowsPlaces}
 use Rattle.pl_flights.proofs.AtHome.{begins_good, local_is_placed}
 use Rattle.pl_flights.proofs.ForwardActs.{not_is_true, routed_group}
-use Rattle.pl_flights.proofs.Hands.{GoodActs, Hand, MayEnd, MayLeave, made_here}
+use Rattle.pl_flights.proofs.Hands.{GoodActs, MayEnd, MayLeave, made_here}
 use Rattle.pl_flights.proofs.Hands.Hand.{Empty, Spreads, Waits}
 use Rattle.pl_flights.proofs.Redirects.{number_of_mac}
 

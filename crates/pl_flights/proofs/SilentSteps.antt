@@ -1,10 +1,8 @@
 -- Steps of a switch that speak of no frame at first: a tick, a message of the manager.
-use Rattle.std.proofs.Common.{◌≡◌, ℕ, zero, suc, ◌+◌, ◌<◌, ◌&&◌, not, Bool, true, false, if◌then◌else◌, List, [], ◌∷◌, ◌++◌, length, map, Option, None, Some, reverse, set, slice_get, refl, sym, ◌∙◌, ap, subst, arith}
+use Rattle.std.proofs.Common.{◌≡◌, ℕ, suc, Bool, true, false, if◌then◌else◌, List, [], ◌∷◌, ◌++◌, length, map, Option, None, Some, reverse, refl, sym, ap, subst}
 use Rattle.std.specs.List.{AllByRecursion, flat_map}
-use Rattle.std.proofs.lemmas.Bool.{cond_both}
 use Rattle.pl_frame.specs.declared.address.SwitchId.{SwitchId}
 use Rattle.pl_layouts.specs.declared.place.Place.{Place}
-use Rattle.pl_journal.specs.declared.entry.Entry.{Entry}
 use Rattle.pl_core.specs.declared.acts.Act.{Act}
 use Rattle.pl_core.specs.declared.acts.Act.TheVariants as act
 use Rattle.pl_core.specs.declared.messages.ToManager.{ToManager}

@@ -1,9 +1,8 @@
 -- A turn of a switch whose acts are good keeps what is told.
-use Rattle.std.proofs.Common.{◌≡◌, ℕ, ◌+◌, ◌<◌, Bool, true, false, if◌then◌else◌, List, [], ◌∷◌, length, Option, None, Some, reverse, set, slice_get, refl, sym, ◌∙◌, ap, subst, arith}
-use Rattle.std.specs.List.{AllByRecursion, fold}
+use Rattle.std.proofs.Common.{◌≡◌, ℕ, ◌+◌, ◌<◌, true, List, [], ◌∷◌, length, Option, None, Some, set, refl, sym, ◌∙◌, ap, arith}
+use Rattle.std.specs.List.{fold}
 use Rattle.std.proofs.lemmas.Option.{slice_get_within}
 use Rattle.pl_pmac.specs.declared.pmac.Pmac.{Pmac}
-use Rattle.pl_layouts.specs.declared.place.Place.{Place}
 use Rattle.pl_journal.specs.declared.entry.Entry.{Entry}
 use Rattle.pl_core.specs.declared.acts.Act.{Act}
 use Rattle.pl_core.specs.declared.acts.Act.TheVariants as act
@@ -20,7 +19,7 @@ use Rattle.pl_world.proofs.Balances.{Owes}
 use Rattle.pl_world.proofs.Counts.{all_found}
 use Rattle.pl_world.proofs.StepBalances.{switches_rest}
 use Rattle.pl_world.proofs.SwitchActBalances.{HasRest, Steady, owed_by, said_by}
-use Rattle.pl_flights.specs.OnTheWay.{IsTold, Tells, book_of, place_in}
+use Rattle.pl_flights.specs.OnTheWay.{IsTold, book_of, place_in}
 use Rattle.pl_flights.proofs.Acting.{step_told}
 use Rattle.pl_flights.proofs.Hands.{GoodActs, Hand, IsAmid}
 

@@ -94,9 +94,11 @@ found_at w past s port h agree at = by_stand (slice_get w.stands h) refl (agree 
         let there : option_map spot_of_stand (slice_get w.stands h) ≡ Some (spot_of_stand stand) = ap (option_map spot_of_stand) is in
         let same : spot_of_stand stand ≡ at_port s port = cc in
         let passes : stands_at s port stand ≡ true = and_from (stand.edge.0 == s) (stand.port == port)
-        (eq-eqb stand.edge.0 s (ap (λ (x : Spot). x.edge) same)) (eq-eqb stand.port port (ap (λ (x : Spot). x.port) same)) in
-        (position_or_len (stands_at s port) w.stands, cond-true (nat_lt (position_or_len (stands_at s port) w.stands) (length w.stands)) _ None
-        (lt-ltb _ _ (some_passes (stands_at s port) w.stands h stand is passes)))
+        (eq-eqb stand.edge.0 s (ap (λ (x : Spot). x.edge) same)) (eq-eqb stand.port port (ap (λ (x : Spot). x.port) same)) in (
+          position_or_len (stands_at s port) w.stands,
+          cond-true (nat_lt (position_or_len (stands_at s port) w.stands) (length w.stands)) _ None
+              (lt-ltb _ _ (some_passes (stands_at s port) w.stands h stand is passes)),
+        )
 
 -- the host that gets a frame stands at the port, and the frame goes to a group or to its address
 record Gets (w : WorldView) (s port h : ℕ) (frame : List ℕ) : Type 0 where
@@ -237,8 +239,11 @@ module _ (w : WorldView) (counted : IsCounted w) (told : IsTold w) (s port id : 
       let took = taken w counted told s port id frame items within head in
       let e : Entry = Arrived id (host_no h) frame in
       let group_is : goes_to_group past id ≡ is_group (destination_of frame) = leaving.group in
-      let needs : Needs w.plan past e = (took.flies.flies, by_kind (goes_to_group past id)
-      (λ group. groups h (sym group_is ∙ group) is) (λ unicast. arrives h (sym group_is ∙ unicast) is)) in
+      let needs : Needs w.plan past e = (
+        took.flies.flies,
+        by_kind (goes_to_group past id)
+            (λ group. groups h (sym group_is ∙ group) is) (λ unicast. arrives h (sym group_is ∙ unicast) is),
+      ) in
       subst (λ p. Tells w.plan (place_in w.switches) p w.links w.stands w.from_hosts (taken_out w s port items).out) (sym (reverse_noted w.journal past e refl))
       (note w.plan (place_in w.switches) past w.links w.stands w.from_hosts (taken_out w s port items).out e id
       (record { not_at_hosts = took.flies.not_at_hosts; not_out = took.flies.not_out }) (λ g other. kept w.plan past e g tt) (same_book (book_of past)) needs tt

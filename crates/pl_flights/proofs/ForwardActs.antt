@@ -175,9 +175,9 @@ module _ (plan : Plan) (place : ℕ → Place) (book : Book) (t : ℕ) (v : Swit
       cond_both (not (is_placed v.place) || is_none (place_at v q).level) _ _ G
       (λ unplaced. (tt, tt))
       (λ fine.
-          let placed : is_placed v.place ≡ true = not-false (is_placed v.place) ((or_parts (not (is_placed v.place)) _ fine).0) in
-          cond_both (is_group (destination_of frame)) _ _ G
-          (λ group. group_good group)
-          (λ unicast. cond_both (is_local v (destination frame)) _ _ G
-          (λ own. home unicast own)
-          (λ away. leaves choose is placed (came_by v q) refl _ refl)))
+      let placed : is_placed v.place ≡ true = not-false (is_placed v.place) ((or_parts (not (is_placed v.place)) _ fine).0) in
+      cond_both (is_group (destination_of frame)) _ _ G
+      (λ group. group_good group)
+      (λ unicast. cond_both (is_local v (destination frame)) _ _ G
+      (λ own. home unicast own)
+      (λ away. leaves choose is placed (came_by v q) refl _ refl)))

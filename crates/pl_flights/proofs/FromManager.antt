@@ -127,8 +127,10 @@ module _ (plan : Plan) (place : ℕ → Place) (book : Book) (t : ℕ) (v : Swit
       silent_groups u.members (filter (λ (m : Member). not (is_member old.port grant.amac m)) u.members) in
       let P : SwitchStep → Type 0 = λ step. GoodActs plan place book t ((forgets_members old.port grant.amac u).acts ++ step.acts) Empty × (step.view.place ≡ v.place) in
       let both : P (probes old grant w) = cond_both grant.in_use (probes_at old grant.amac grant.ip w) (rests w) P
-      (λ used. (silent_good plan place book t (forgets_members old.port grant.amac u).acts _ Empty silent (probed old grant found grant.ip w),
-      probe_place old grant.amac grant.ip w))
+      (λ used. (
+        silent_good plan place book t (forgets_members old.port grant.amac u).acts _ Empty silent (probed old grant found grant.ip w),
+        probe_place old grant.amac grant.ip w,
+      ))
       (λ unused. (silent_good plan place book t (forgets_members old.port grant.amac u).acts [] Empty silent tt, refl)) in
       record { good = both.0; stays = both.1 }
 
@@ -138,11 +140,11 @@ module _ (plan : Plan) (place : ℕ → Place) (book : Book) (t : ℕ) (v : Swit
   heard (Tree group part) none = record { good = tt; stays = refl }
   heard (Answer asker asker_ip ip pmac) none = cond_both (is_granted v asker) (makes choose (answer_frame asker asker_ip ip pmac) v) (rests v) IsHeard
       (λ here.
-          let grant = some_granted (granted v asker) here in
-          record {
-            good = answer_good plan place book t v is_plan places neighbours knows choose is asker asker_ip ip pmac grant.0 grant.1;
-            stays = ap (λ (u : SwitchView). u.place) (begins_view choose v (answer_frame asker asker_ip ip pmac));
-          })
+      let grant = some_granted (granted v asker) here in
+      record {
+        good = answer_good plan place book t v is_plan places neighbours knows choose is asker asker_ip ip pmac grant.0 grant.1;
+        stays = ap (λ (u : SwitchView). u.place) (begins_view choose v (answer_frame asker asker_ip ip pmac));
+      })
       (λ other. record { good = tt; stays = refl })
   heard (Flood asker asker_ip ip) none = cond_both (is_granted v asker) (floods v (flood_frame asker asker_ip ip)) (rests v) IsHeard
       (λ here. record { good = flood_good plan place book t v is_plan places neighbours knows choose is asker asker_ip ip; stays = refl })

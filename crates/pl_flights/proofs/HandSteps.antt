@@ -36,7 +36,6 @@ use Rattle.pl_flights.proofs.Keeping.{kept, same_book}
 use Rattle.pl_flights.proofs.Noting.{grown, late_kept, late_written, note, note_drop, reverse_grown, reverse_noted}
 use Rattle.pl_flights.proofs.Leaving.{goes_out_told}
 
-
 pub crossed_first : (switches : List ℕ) (s : ℕ) → first_of switches ≡ Some s → is_empty switches ≡ false
 crossed_first [] s is = absurd (cc)
 crossed_first (x ∷ switches) s is = refl

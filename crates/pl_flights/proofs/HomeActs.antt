@@ -144,9 +144,11 @@ module _ (plan : Plan) (place : ℕ → Place) (book : Book) (t : ℕ) (v : Swit
       GoodActs plan place book t ((leaves_by v frame chosen).acts ++ rest) (Waits f again)
   leaves_then choose is f again frame here alone level placed away None found = (tt, then_good Empty)
   leaves_then choose is f again frame here alone level placed away (Some p) found =
-      let leads = among_candidates v (destination frame) FromHost p (chosen_among choose (candidates v (destination frame) FromHost) frame p is found) in
-      (climbs f frame p (peer_of plan t p) here alone level placed away (up_from_edge (destination frame) p level leads) refl
-      (neighbours.linked p (candidate_usable v (destination frame) FromHost p leads)), then_good (Spreads f))
+      let leads = among_candidates v (destination frame) FromHost p (chosen_among choose (candidates v (destination frame) FromHost) frame p is found) in (
+        climbs f frame p (peer_of plan t p) here alone level placed away (up_from_edge (destination frame) p level leads) refl
+            (neighbours.linked p (candidate_usable v (destination frame) FromHost p leads)),
+        then_good (Spreads f),
+      )
 
   module _ (knows : KnowsAddresses plan book t v) where
     -- an address that is followed no further: its host is here, or the frame goes on

@@ -51,23 +51,58 @@ module _ (k : ℕ) where
   good place to leg s t (Climbs p i j at_s at_t is elsewhere) =
       rw (is, level_at k s _ at_s, level_at k t _ at_t, other_level s t _ _ at_s at_t (λ e. absurd (cc))) refl
   good place to leg s t (Leaves e p i j m at_e at_s at_t is other) =
-      rw (is, level_at k e _ at_e, level_at k s _ at_s, level_at k t _ at_t, other_level s t _ _ at_s at_t (λ w. absurd (cc)),
-      other_level e t _ _ at_e at_t (λ w. absurd (cc)), other_level e s _ _ at_e at_s (λ w. absurd (cc))) refl
+      rw (
+        is,
+        level_at k e _ at_e,
+        level_at k s _ at_s,
+        level_at k t _ at_t,
+        other_level s t _ _ at_s at_t (λ w. absurd (cc)),
+        other_level e t _ _ at_e at_t (λ w. absurd (cc)),
+        other_level e s _ _ at_e at_s (λ w. absurd (cc)),
+      ) refl
   good place to leg s t (Falls e a p i j m q at_e at_a at_s at_t is other below) =
       let pods : p ≡ q → ⊥ = λ same. (let one : a ≡ t = same_label k a t (at_a ∙ ap (λ n. Aggregation n j) same ∙ sym at_t) in
-          let here : (place t).pod ≡ Some other.pod = subst (λ n. (place n).pod ≡ Some other.pod) one other.knows in
-          other.another (cc)) in
-      rw (is, level_at k e _ at_e, level_at k a _ at_a, level_at k s _ at_s, level_at k t _ at_t, other_level s t _ _ at_s at_t (λ w. absurd (cc)),
-      other_label k a t _ _ at_a at_t (λ w. pods (ap pod_number w)), other_level e t _ _ at_e at_t (λ w. absurd (cc)),
-      other_level a s _ _ at_a at_s (λ w. absurd (cc)), other_level e s _ _ at_e at_s (λ w. absurd (cc)),
-      other_level e a _ _ at_e at_a (λ w. absurd (cc))) refl
+      let here : (place t).pod ≡ Some other.pod = subst (λ n. (place n).pod ≡ Some other.pod) one other.knows in
+      other.another (cc)) in
+      rw (
+        is,
+        level_at k e _ at_e,
+        level_at k a _ at_a,
+        level_at k s _ at_s,
+        level_at k t _ at_t,
+        other_level s t _ _ at_s at_t (λ w. absurd (cc)),
+        other_label k a t _ _ at_a at_t (λ w. pods (ap pod_number w)),
+        other_level e t _ _ at_e at_t (λ w. absurd (cc)),
+        other_level a s _ _ at_a at_s (λ w. absurd (cc)),
+        other_level e s _ _ at_e at_s (λ w. absurd (cc)),
+        other_level e a _ _ at_e at_a (λ w. absurd (cc)),
+      ) refl
   good place to leg s t (Turns e p i j x at_e at_s at_t is other here there) =
-      rw (is, level_at k e _ at_e, level_at k s _ at_s, level_at k t _ at_t, other_level s t _ _ at_s at_t (λ w. absurd (cc)),
-      ne_eqb e t other, other_level e s _ _ at_e at_s (λ w. absurd (cc))) refl
+      rw (
+        is,
+        level_at k e _ at_e,
+        level_at k s _ at_s,
+        level_at k t _ at_t,
+        other_level s t _ _ at_s at_t (λ w. absurd (cc)),
+        ne_eqb e t other,
+        other_level e s _ _ at_e at_s (λ w. absurd (cc)),
+      ) refl
   good place to leg s t (Enters e a c p i j m q x at_e at_a at_c at_s at_t is pods here there) =
-      rw (is, level_at k e _ at_e, level_at k a _ at_a, level_at k c _ at_c, level_at k s _ at_s, level_at k t _ at_t,
-      other_level s t _ _ at_s at_t (λ w. absurd (cc)), other_level c t _ _ at_c at_t (λ w. absurd (cc)), other_level a t _ _ at_a at_t (λ w. absurd (cc)),
-      other_label k e t _ _ at_e at_t (λ w. pods (ap pod_number w)), other_level c s _ _ at_c at_s (λ w. absurd (cc)),
-      other_label k a s _ _ at_a at_s (λ w. pods (ap pod_number w)), other_level e s _ _ at_e at_s (λ w. absurd (cc)),
-      other_level a c _ _ at_a at_c (λ w. absurd (cc)), other_level e c _ _ at_e at_c (λ w. absurd (cc)),
-      other_level e a _ _ at_e at_a (λ w. absurd (cc))) refl
+      rw (
+        is,
+        level_at k e _ at_e,
+        level_at k a _ at_a,
+        level_at k c _ at_c,
+        level_at k s _ at_s,
+        level_at k t _ at_t,
+        other_level s t _ _ at_s at_t (λ w. absurd (cc)),
+        other_level c t _ _ at_c at_t (λ w. absurd (cc)),
+        other_level a t _ _ at_a at_t (λ w. absurd (cc)),
+        other_label k e t _ _ at_e at_t (λ w. pods (ap pod_number w)),
+        other_level c s _ _ at_c at_s (λ w. absurd (cc)),
+        other_label k a s _ _ at_a at_s (λ w. pods (ap pod_number w)),
+        other_level e s _ _ at_e at_s (λ w. absurd (cc)),
+        other_level a c _ _ at_a at_c (λ w. absurd (cc)),
+        other_level e c _ _ at_e at_c (λ w. absurd (cc)),
+        other_level e a _ _ at_e at_a (λ w. absurd (cc)),
+      ) refl

@@ -27,3 +27,4 @@ pub mod Numbering
 pub mod Saying
 pub mod FromManager
 pub mod Events
+pub mod ControlFrames

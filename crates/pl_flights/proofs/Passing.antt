@@ -191,8 +191,8 @@ module _ (plan : Plan) (place : ℕ → Place) (t : ℕ) (v : SwitchView) (is_pl
         let down = at_edge ((and_parts (is_known v.place.pod to.pod) (leads_to_position v to p) row).1) in
         let u_is = edge_below q j at_t down.level in
         let pods : b ≡ q → ⊥ = λ same. (let one : a ≡ t = same_label plan.k a t (at_a ∙ ap (λ n. Aggregation n j) same ∙ sym at_t) in
-            let mine : (place t).pod ≡ Some away.pod = subst (λ n. (place n).pod ≡ Some away.pod) one away.knows in
-            away.another (cc)) in
+        let mine : (place t).pod ≡ Some away.pod = subst (λ n. (place n).pod ≡ Some away.pod) one away.knows in
+        away.another (cc)) in
         Enters e a s b i j m q u_is.0 at_e at_a at_s at_t u_is.1 (ap (λ l. t ∷ l) is) pods there down.position
     passes_on leg (Turns e a i j x at_e at_s at_t is other pod position) =
         let none = level_at plan.k t _ at_t in

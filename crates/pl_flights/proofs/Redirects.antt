@@ -152,9 +152,10 @@ module _ (plan : Plan) (place : ℕ → Place) (book : Book) (t : ℕ) (v : Swit
       by_next None found further = goes_on_good plan place book t v is_plan places neighbours rest then_good knows choose is f true
           (with_destination frame (mac_of trap.new)) (with_new trap f u) u.alone level placed
       by_next (Some next) found further =
-          let trapped = newer_found trap next (trap_for v trap.new) found in
-          (turns_well trap.new f next u.address (ap first_of u.alone) trapped,
-          further next (turned t f true next.new) (turning_on f true trap.new next u.last u.began u.unaltered trapped))
+          let trapped = newer_found trap next (trap_for v trap.new) found in (
+            turns_well trap.new f next u.address (ap first_of u.alone) trapped,
+            further next (turned t f true next.new) (turning_on f true trap.new next u.last u.began u.unaltered trapped),
+          )
 
   -- a frame for the switch's own hosts
   pub home_good : (f : Flight) (again : Bool) → IsHere t f frame → is_local v (destination frame) ≡ true →
@@ -163,6 +164,7 @@ module _ (plan : Plan) (place : ℕ → Place) (book : Book) (t : ℕ) (v : Swit
     where
       by_trap : (o : Option Trap) → trap_for v (destination frame) ≡ o → GoodActs plan place book t ((delivers_or_redirects choose v frame o).acts ++ rest) (Waits f again)
       by_trap None found = delivers_good plan place book t v knows rest then_good f again frame (granted v (destination frame)) here own refl
-      by_trap (Some trap) found =
-          (turns_well (destination frame) f trap (here.address ∙ sym (number_of_destination frame)) here.reached found,
-          chain (addresses v) trap (turned t f again trap.new) (turning_on f again (destination frame) trap here.last here.began here.unaltered found))
+      by_trap (Some trap) found = (
+        turns_well (destination frame) f trap (here.address ∙ sym (number_of_destination frame)) here.reached found,
+        chain (addresses v) trap (turned t f again trap.new) (turning_on f again (destination frame) trap here.last here.began here.unaltered found),
+      )

@@ -1,6 +1,6 @@
 -- Each event but those at which addresses may be granted keeps what is told; what these, the groups and the manager's numbers give is a premise.
-use Rattle.std.proofs.Common.{◌≡◌, ℕ, ◌<◌, ◌==◌, ◌&&◌, not, nat_lt, Bool, true, false, if◌then◌else◌, List, [], ◌∷◌, Option, None, Some, reverse, set, slice_get, refl, sym, subst}
-use Rattle.std.proofs.lemmas.Bool.{and_parts, ltb-true}
+use Rattle.std.proofs.Common.{inl, inr, ◌≡◌, ℕ, ◌<◌, ◌==◌, ◌&&◌, not, nat_lt, Bool, true, false, if◌then◌else◌, List, [], ◌∷◌, Option, None, Some, reverse, set, slice_get, refl, sym, subst}
+use Rattle.std.proofs.lemmas.Bool.{and_parts, cases_Bool, ltb-true}
 use Rattle.pl_wiring.specs.declared.label.SwitchNo.{SwitchNo}
 use Rattle.pl_wiring.specs.declared.link.Link.{Link}
 use Rattle.pl_wiring.specs.declared.link.Peer.{Peer}
@@ -17,6 +17,9 @@ use Rattle.pl_core.specs.HostInputs.{HostRule}
 use Rattle.pl_core.specs.ManagerDuties.{ManagerRule}
 use Rattle.pl_core.specs.SwitchInputs.SwitchInput.{Comes, Says}
 use Rattle.pl_queues.specs.Queues.{items_at}
+use Rattle.pl_frame.specs.Ethernet.{payload_of}
+use Rattle.pl_layouts.specs.Control.{control_in}
+use Rattle.pl_switch_rule.specs.Levels.{has_become_placed, with_pod}
 use Rattle.pl_switch_rule.specs.SwitchRule.{Loose}
 use Rattle.pl_world.specs.declared.error.StepError.TheVariants.{AlreadySo, NoSuch, Occupied}
 use Rattle.pl_world.specs.declared.event.Event.{Event}
@@ -40,6 +43,7 @@ use Rattle.pl_flights.proofs.Arriving.{GroupArrives, comes_out_told}
 use Rattle.pl_flights.proofs.AtHome.{over_link_told}
 use Rattle.pl_flights.proofs.Beginning.{lost_told}
 use Rattle.pl_flights.proofs.Failing.{fails_told, repaired_told}
+use Rattle.pl_flights.proofs.ControlFrames.{control_told, pod_told, settles_by}
 use Rattle.pl_flights.proofs.FromManager.{says_told}
 use Rattle.pl_flights.proofs.HostTurns.{host_told, plays_told}
 use Rattle.pl_flights.proofs.Moving.{goes_told}
@@ -51,12 +55,14 @@ use Rattle.pl_flights.proofs.SilentSteps.{ticks_told}
 pub record IsLeft (manager : ManagerRule) (w new : WorldView) : Type 0 where
   pub from_host : (h : ℕ) → DeliversFromHost Loose w h (items_at w.from_hosts h) new → IsTold new
   pub control : (s port : ℕ) (t : SwitchNo) (q : ℕ) (frame : List ℕ) (items : List Item) → out_of w s port ≡ Control frame ∷ items →
-      peer_of w.plan s port ≡ Switch t q → SwitchTurn Loose (taken_out w s port items) t.0 (Comes q frame) Silent new → IsTold new
-  pub pod : (t pod : ℕ) (rest : List ToSwitch) → SwitchTurn Loose (record w { from_manager = set w.from_manager t rest }) t (Says (Pod pod)) Silent new → IsTold new
+      peer_of w.plan s port ≡ Switch t q → (turn : SwitchTurn Loose (taken_out w s port items) t.0 (Comes q frame) Silent new) →
+      settles_by turn.before q (control_in (payload_of frame)) ≡ true → IsTold new
+  pub pod : (t pod : ℕ) (rest : List ToSwitch) (turn : SwitchTurn Loose (record w { from_manager = set w.from_manager t rest }) t (Says (Pod pod)) Silent new) →
+      has_become_placed turn.before.place (with_pod turn.before (Some pod)).place ≡ true → IsTold new
   pub groups : (s port id : ℕ) (frame : List ℕ) → GroupArrives w s port id frame
   pub numbers : (s : ℕ) (says : ToManager) (items : List ToManager) (turn : ManagerTurn manager (record w { to_manager = set w.to_manager s items }) s says new) →
       NumbersWell w.plan (reverse w.journal) turn.acts
-  pub more : (s : ℕ) → Ticks Loose w s new → IsMore (place_in w.switches) (place_in new.switches)
+  pub more : IsMore (place_in w.switches) (place_in new.switches)
 
 there_is : (there filled : Bool) → refusal_of_queue there filled ≡ None → there ≡ true
 there_is true filled none = refl
@@ -85,7 +91,11 @@ module _ (manager : ManagerRule) (host : HostRule) (accounts : AccountsForFrames
   -- an item comes to the other end
   over_told : (s port : ℕ) (item : Item) (items : List Item) (peer : Peer) → port < w.plan.k → out_of w s port ≡ item ∷ items → peer_of w.plan s port ≡ peer →
       ComesOver Loose host (taken_out w s port items) s port item peer new → IsTold new
-  over_told s port (Control frame) items (Switch t q) within head peer turn = left.control s port t q frame items head peer turn
+  over_told s port (Control frame) items (Switch t q) within head peer turn =
+      elim (cases_Bool (settles_by turn.before q (control_in (payload_of frame)))) [
+        | inl settles ↦ left.control s port t q frame items head peer turn settles
+        | inr stays ↦ control_told w s port frame items t q new accounts counted told within head peer turn stays left.more
+      ]
   over_told s port (Data id frame) items (Switch t q) within head peer turn =
       over_link_told w counted told on accounts s port id frame items within head t q peer new turn
   over_told s port (Control frame) items HostPort within head peer is = subst IsTold (sym is) (lost_told w s port (Control frame) items counted told within head)
@@ -102,7 +112,10 @@ module _ (manager : ManagerRule) (host : HostRule) (accounts : AccountsForFrames
 
   from_manager_told : (t : ℕ) (items : List ToSwitch) → DeliversFromManager Loose w t items new → IsTold new
   from_manager_told t [] comes = absurd comes
-  from_manager_told t (Pod pod ∷ items) turn = left.pod t pod items turn
+  from_manager_told t (Pod pod ∷ items) turn = elim (cases_Bool (has_become_placed turn.before.place (with_pod turn.before (Some pod)).place)) [
+    | inl settles ↦ left.pod t pod items turn settles
+    | inr stays ↦ pod_told w t pod items new accounts counted told turn stays left.more
+  ]
   from_manager_told t (Avoid list ∷ items) turn = says_told w t (Avoid list) items new accounts counted told on tt turn
   from_manager_told t (Tree group part ∷ items) turn = says_told w t (Tree group part) items new accounts counted told on tt turn
   from_manager_told t (Answer asker asker_ip ip pmac ∷ items) turn = says_told w t (Answer asker asker_ip ip pmac) items new accounts counted told on tt turn
@@ -145,7 +158,7 @@ module _ (manager : ManagerRule) (host : HostRule) (accounts : AccountsForFrames
   -- each event, over what is left
   pub happens_told : (happens : Event) → refusal_of_event w happens ≡ None → Happens Loose manager host w happens new → IsTold new
   happens_told (event.Deliver name) fine does = delivers_told name fine does
-  happens_told (event.Tick s) fine does = ticks_told w s.0 new accounts counted told does (left.more s.0 does)
+  happens_told (event.Tick s) fine does = ticks_told w s.0 new accounts counted told does left.more
   happens_told (event.Fail a b) fine does = cut_told a.0 b.0 (link_between w.plan a.0 b.0) refl fine does
   happens_told (event.Repair a b) fine does = fixed_told a.0 b.0 (link_between w.plan a.0 b.0) refl fine does
   happens_told (event.Lose s port) fine does =

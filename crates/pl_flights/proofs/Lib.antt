@@ -28,3 +28,4 @@ pub mod Saying
 pub mod FromManager
 pub mod Events
 pub mod ControlFrames
+pub mod Granting

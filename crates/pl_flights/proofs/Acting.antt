@@ -161,27 +161,29 @@ module _ (place : ℕ → Place) (s k : ℕ) (w : WorldView) (late past : List E
         good = now.1;
       }
 
+-- a control frame is sent
+pub control_amid : (place : ℕ → Place) (s k : ℕ) (w : WorldView) (speech : SpokenFrame) (late past : List Entry) (hand : Hand) (port : ℕ) (frame : List ℕ) →
+    IsFit k (act.Control port frame) → Steady s k w speech late → IsAmid place s hand past w speech late →
+    IsAmid place s hand past (act_done s (amid w speech late) (act.Control port frame)).world speech late
+control_amid place s k w speech late past hand port frame fit st a = record {
+  is = a.is;
+  tells = record {
+    run = a.tells.run;
+    trail = a.tells.trail;
+    links_agree = a.tells.links_agree;
+    stands_agree = a.tells.stands_agree;
+    flying = sent_control place s w past (is_failed_at w s port) port frame (subst (λ n. port < n) (sym st.size) fit.within) a.tells.flying;
+  };
+  holds = a.holds;
+  puts_off = a.puts_off;
+}
+
 -- one act
 act_told : (place : ℕ → Place) (s k : ℕ) (w : WorldView) (speech : SpokenFrame) (late past : List Entry) (hand : Hand) (a : Act) (acts : List Act) →
     IsFit k a → IsLegal (speech_after (said_by speech) a) → Steady s k w speech late → IsAmid place s hand past w speech late →
     GoodActs w.plan place (book_of past) s (a ∷ acts) hand → Next place s acts (act_done s (amid w speech late) a)
-act_told place s k w speech late past hand (act.Control port frame) acts fit legal st a good = record {
-  hand = hand;
-  past = past;
-  amid = record {
-    is = a.is;
-    tells = record {
-      run = a.tells.run;
-      trail = a.tells.trail;
-      links_agree = a.tells.links_agree;
-      stands_agree = a.tells.stands_agree;
-      flying = sent_control place s w past (is_failed_at w s port) port frame (subst (λ n. port < n) (sym st.size) fit.within) a.tells.flying;
-    };
-    holds = a.holds;
-    puts_off = a.puts_off;
-  };
-  good = good;
-}
+act_told place s k w speech late past hand (act.Control port frame) acts fit legal st a good =
+    record { hand = hand; past = past; amid = control_amid place s k w speech late past hand port frame fit st a; good = good }
 act_told place s k w speech late past hand (act.Tell told) acts fit legal st a good = record { hand = hand; past = past; amid = a; good = good }
 act_told place s k w speech late past hand (act.Grant pmac amac) acts fit legal st a good = absurd good
 act_told place s k w Silent late past hand (act.Make frame) acts fit legal st a good = makes place s k w late past acts Silent hand frame (λ i. refl) st a good
@@ -197,12 +199,12 @@ act_told place s k w speech late past hand act.Take acts fit legal st a good = t
 act_told place s k w speech late past hand (act.Drop why) acts fit legal st a good = drops place s k w late past acts hand speech why st a good
 
 -- what is told once all acts are done
-record IsDone (place : ℕ → Place) (s k : ℕ) (d : Doing) : Type 0 where
-  hand : Hand
-  past : List Entry
-  amid : IsAmid place s hand past d.world d.speech d.late
-  steady : IsSteady s k d
-  said : is_said (said_by d.speech) ≡ true
+pub record IsDone (place : ℕ → Place) (s k : ℕ) (d : Doing) : Type 0 where
+  pub hand : Hand
+  pub past : List Entry
+  pub amid : IsAmid place s hand past d.world d.speech d.late
+  pub steady : IsSteady s k d
+  pub said : is_said (said_by d.speech) ≡ true
 
 acts_told : (place : ℕ → Place) (s k : ℕ) (w : WorldView) (speech : SpokenFrame) (late past : List Entry) (hand : Hand) (acts : List Act) →
     AllByRecursion (IsFit k) acts → is_said (fold speech_after (said_by speech) acts) ≡ true → Steady s k w speech late →
@@ -228,15 +230,10 @@ placed_told place false s new w past f c is t =
     (note w.plan place past w.links w.stands w.from_hosts w.out (Placed (switch_no s) new) 0 (nobody past w.from_hosts w.out f c)
     (λ g other. kept w.plan past (Placed (switch_no s) new) g tt) (same_book (book_of past)) tt tt t.links_agree t.stands_agree t)
 
--- a whole step of a switch: what is told amid its acts is told once they are done
-pub step_told : (place : ℕ → Place) (s k : ℕ) (w : WorldView) (speech : SpokenFrame) (old new : Place) (past : List Entry) (hand : Hand) (acts : List Act) →
-    AllByRecursion (IsFit k) acts → is_said (fold speech_after (said_by speech) acts) ≡ true → Steady s k w speech [] →
-    IsAmid place s hand past w speech [] → GoodActs w.plan place (book_of past) s acts hand → (after : WorldView) →
-    after ≡ place_noted s old new (with_late (acts_done s (amid w speech []) acts)) →
+-- the ends that were put off are written, and then the place
+pub done_told : (place : ℕ → Place) (s k : ℕ) (d : Doing) (old new : Place) → IsDone place s k d → (after : WorldView) → after ≡ place_noted s old new (with_late d) →
     Tells after.plan place (reverse after.journal) after.links after.stands after.from_hosts after.out
-step_told place s k w speech old new past hand acts fits said st a good after is =
-    let d : Doing = acts_done s (amid w speech []) acts in
-    let done = acts_told place s k w speech [] past hand acts fits said st a good in
+done_told place s k d old new done after is =
     let c = counts d.world done.past _ done.amid.is done.steady.balance in
     let none = owes_nothing d.speech done.said in
     let late : Counts done.past d.world.from_hosts d.world.out (λ i. ends d.late i) = record { flights = λ i. omega (arith, c.flights i, none i) } in
@@ -244,3 +241,12 @@ step_told place s k w speech old new past hand acts fits said st a good after is
     let rest = late_counts d.late done.past d.world.from_hosts d.world.out done.steady.none late in
     subst (λ (x : WorldView). Tells x.plan place (reverse x.journal) x.links x.stands x.from_hosts x.out) (sym is)
     (placed_told place (same_place old new) s new (with_late d) (grown d.late done.past) (λ i. 0) rest (reverse_grown d.late d.world.journal done.past done.amid.is) t)
+
+-- a whole step of a switch: what is told amid its acts is told once they are done
+pub step_told : (place : ℕ → Place) (s k : ℕ) (w : WorldView) (speech : SpokenFrame) (old new : Place) (past : List Entry) (hand : Hand) (acts : List Act) →
+    AllByRecursion (IsFit k) acts → is_said (fold speech_after (said_by speech) acts) ≡ true → Steady s k w speech [] →
+    IsAmid place s hand past w speech [] → GoodActs w.plan place (book_of past) s acts hand → (after : WorldView) →
+    after ≡ place_noted s old new (with_late (acts_done s (amid w speech []) acts)) →
+    Tells after.plan place (reverse after.journal) after.links after.stands after.from_hosts after.out
+step_told place s k w speech old new past hand acts fits said st a good after is =
+    done_told place s k (acts_done s (amid w speech []) acts) old new (acts_told place s k w speech [] past hand acts fits said st a good) after is

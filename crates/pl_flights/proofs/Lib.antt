@@ -29,3 +29,4 @@ pub mod FromManager
 pub mod Events
 pub mod ControlFrames
 pub mod Granting
+pub mod Settling

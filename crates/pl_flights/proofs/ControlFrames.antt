@@ -1,5 +1,5 @@
--- A control frame by which a switch does not become a placed edge switch: it tells, votes, and grants nothing.
-use Rattle.std.proofs.Common.{◌≡◌, ℕ, ◌<◌, ◌∙◌, arith, reverse, ◌&&◌, nat_lt, Bool, true, false, if◌then◌else◌, List, [], ◌∷◌, ◌++◌, Result, Ok, Err, set, refl, sym, ap, subst}
+-- A control frame comes at a switch, or the number of its pod: it tells, votes, and grants addresses only where it settles.
+use Rattle.std.proofs.Common.{◌⊎◌, inl, inr, ◌≡◌, ℕ, ◌<◌, ◌∙◌, arith, reverse, ◌&&◌, nat_lt, Bool, true, false, if◌then◌else◌, List, [], ◌∷◌, ◌++◌, Result, Ok, Err, set, refl, sym, ap, subst}
 use Rattle.std.specs.List.{AllByRecursion}
 use Rattle.std.proofs.lemmas.Bool.{cond-false, cond-true, cond_both}
 use Rattle.pl_frame.specs.Ethernet.{payload_of}
@@ -38,13 +38,15 @@ use Rattle.pl_world.specs.Flying.{IsCounted, IsFrame}
 use Rattle.pl_world.specs.WorldRule.{SwitchTurn}
 use Rattle.pl_world.specs.Worlds.{WorldView}
 use Rattle.pl_world.proofs.Balances.{head_is_item, took_out_balance}
-use Rattle.pl_world.proofs.StepBalances.{peer_is_port, sound}
+use Rattle.pl_world.proofs.StepBalances.{Sound, peer_is_port, sound}
 use Rattle.pl_world.proofs.SwitchActBalances.{says_rest}
 use Rattle.pl_flights.specs.OnTheWay.{IsTold, book_of, place_in}
 use Rattle.pl_flights.specs.Standing.{IsMore}
 use Rattle.pl_flights.proofs.Beginning.{lost_told}
 use Rattle.pl_flights.proofs.Hands.Hand.{Empty}
 use Rattle.pl_flights.proofs.OverLinks.{taken_out}
+use Rattle.pl_flights.proofs.Settling.{GrantsWell, HasNoneJustIn, settling_turn}
+use Rattle.pl_core.specs.declared.acts.Act.{Act}
 use Rattle.pl_flights.proofs.SilentSteps.{AreSilent, all_silent_good, silent_append, silent_changes, silent_turn}
 
 -- what changed is told, and nothing is granted
@@ -79,12 +81,17 @@ pub silent_pod : (v : SwitchView) (pod : ℕ) → has_become_placed v.place (wit
 silent_pod v pod stays = cond_both (takes_pod v pod) (changes_to v (with_pod v (Some pod))) (rests v) (λ (step : SwitchStep). AreSilent step.acts)
     (λ takes. silent_change v (with_pod v (Some pod)) stays) (λ other. tt)
 
--- a control frame comes over a link, and the switch does not settle by it
+-- What the part on addresses gives where a switch settles: it may grant what it grants, and no frame has just come in there.
+pub record MaySettle (w : WorldView) (t : ℕ) (acts : List Act) : Type 0 where
+  pub grants : GrantsWell w.plan t acts (reverse w.journal)
+  pub none_just_in : HasNoneJustIn w.plan (reverse w.journal) t
+
+-- a control frame comes over a link
 pub control_told : (w : WorldView) (s port : ℕ) (frame : List ℕ) (items : List Item) (t : SwitchNo) (q : ℕ) (new : WorldView) → AccountsForFrames Loose →
     IsCounted w → IsTold w → port < w.plan.k → out_of w s port ≡ ControlItem frame ∷ items → peer_of w.plan s port ≡ Switch t q →
-    (turn : SwitchTurn Loose (taken_out w s port items) t.0 (Comes q frame) Silent new) → settles_by turn.before q (control_in (payload_of frame)) ≡ false →
+    (turn : SwitchTurn Loose (taken_out w s port items) t.0 (Comes q frame) Silent new) → (settles_by turn.before q (control_in (payload_of frame)) ≡ false) ⊎ MaySettle w t.0 turn.acts →
     IsMore (place_in w.switches) (place_in new.switches) → IsTold new
-control_told w s port frame items t q new accounts counted told within head peer turn stays more =
+control_told w s port frame items t q new accounts counted told within head peer turn by more =
     let so = sound w counted in
     let item : IsFrame true frame = head_is_item w.out (port_index w.plan.k s port) (ControlItem frame) items head so.balance.port_items in
     let port_there = subst (λ (p : Peer). IsPort w.plan.k p) peer (peer_is_port w.plan s port so.rest.is_plan) in
@@ -92,24 +99,35 @@ control_told w s port frame items t q new accounts counted told within head peer
     let step : switch_step turn.ruled.choose v (Comes q frame) ≡ control_comes v q frame =
     cond-true (is_control frame) (control_comes v q frame) (data_comes turn.ruled.choose v q frame) item.kind in
     let acts : turn.acts ≡ (control_comes v q frame).acts = turn.ruled.steps.done ∙ ap (λ (x : SwitchStep). x.acts) step in
-    silent_turn Loose accounts (taken_out w s port items) t.0 (Comes q frame) new (rw (item.kind) refl)
-    (λ u size. record { within = subst (λ n. q < n) (sym size) port_there.1; whole = item.whole })
-    (record {
+    let so_taken : Sound (taken_out w s port items) = record {
       balance = took_out_balance w.plan w.from_hosts w.out w.journal w.begun (λ i. 0) (λ i. 0) (port_index w.plan.k s port) (ControlItem frame) items head
           (λ i. omega arith) so.balance;
       rest = so.rest;
-    })
-    (lost_told w s port (ControlItem frame) items counted told within head) turn more
-    (all_silent_good w.plan (place_in new.switches) (book_of (reverse w.journal)) t.0 turn.acts Empty
-    (subst AreSilent (sym acts) (silent_control v q frame stays)))
+    } in
+    let told_taken : IsTold (taken_out w s port items) = lost_told w s port (ControlItem frame) items counted told within head in
+    elim by [
+      | inl stays ↦ silent_turn Loose accounts (taken_out w s port items) t.0 (Comes q frame) new (rw (item.kind) refl)
+          (λ u size. record { within = subst (λ n. q < n) (sym size) port_there.1; whole = item.whole }) so_taken told_taken turn more
+          (all_silent_good w.plan (place_in new.switches) (book_of (reverse w.journal)) t.0 turn.acts Empty
+          (subst AreSilent (sym acts) (silent_control v q frame stays)))
+      | inr may ↦ settling_turn Loose accounts (taken_out w s port items) t.0 (Comes q frame) new (rw (item.kind) refl)
+          (λ u size. record { within = subst (λ n. q < n) (sym size) port_there.1; whole = item.whole }) so_taken told_taken turn more may.grants may.none_just_in
+    ]
 
 -- and it learns a pod
 pub pod_told : (w : WorldView) (t pod : ℕ) (rest : List ToSwitch) (new : WorldView) → AccountsForFrames Loose → IsCounted w → IsTold w →
     (turn : SwitchTurn Loose (record w { from_manager = set w.from_manager t rest }) t (Says (Pod pod)) Silent new) →
-    has_become_placed turn.before.place (with_pod turn.before (Some pod)).place ≡ false → IsMore (place_in w.switches) (place_in new.switches) → IsTold new
-pod_told w t pod rest new accounts counted told turn stays more =
+    (has_become_placed turn.before.place (with_pod turn.before (Some pod)).place ≡ false) ⊎ MaySettle w t turn.acts → IsMore (place_in w.switches) (place_in new.switches) → IsTold new
+pod_told w t pod rest new accounts counted told turn by more =
     let so = sound w counted in
-    silent_turn Loose accounts (record w { from_manager = set w.from_manager t rest }) t (Says (Pod pod)) new refl (λ u size. tt)
-    (record { balance = so.balance; rest = says_rest w.from_manager _ (length-set w.from_manager t _) so.rest }) told turn more
-    (all_silent_good w.plan (place_in new.switches) (book_of (reverse w.journal)) t turn.acts Empty
-    (subst AreSilent (sym turn.ruled.steps.done) (silent_pod turn.before pod stays)))
+    let so_said : Sound (record w { from_manager = set w.from_manager t rest }) = record {
+      balance = so.balance;
+      rest = says_rest w.from_manager _ (length-set w.from_manager t _) so.rest;
+    } in
+    elim by [
+      | inl stays ↦ silent_turn Loose accounts (record w { from_manager = set w.from_manager t rest }) t (Says (Pod pod)) new refl (λ u size. tt) so_said told turn more
+          (all_silent_good w.plan (place_in new.switches) (book_of (reverse w.journal)) t turn.acts Empty
+          (subst AreSilent (sym turn.ruled.steps.done) (silent_pod turn.before pod stays)))
+      | inr may ↦ settling_turn Loose accounts (record w { from_manager = set w.from_manager t rest }) t (Says (Pod pod)) new refl (λ u size. tt) so_said told turn more
+          may.grants may.none_just_in
+    ]

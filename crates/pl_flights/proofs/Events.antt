@@ -43,7 +43,7 @@ use Rattle.pl_flights.proofs.Arriving.{GroupArrives, comes_out_told}
 use Rattle.pl_flights.proofs.AtHome.{over_link_told}
 use Rattle.pl_flights.proofs.Beginning.{lost_told}
 use Rattle.pl_flights.proofs.Failing.{fails_told, repaired_told}
-use Rattle.pl_flights.proofs.ControlFrames.{control_told, pod_told, settles_by}
+use Rattle.pl_flights.proofs.ControlFrames.{MaySettle, control_told, pod_told, settles_by}
 use Rattle.pl_flights.proofs.FromManager.{says_told}
 use Rattle.pl_flights.proofs.HostTurns.{host_told, plays_told}
 use Rattle.pl_flights.proofs.Moving.{goes_told}
@@ -56,9 +56,9 @@ pub record IsLeft (manager : ManagerRule) (w new : WorldView) : Type 0 where
   pub from_host : (h : ℕ) → DeliversFromHost Loose w h (items_at w.from_hosts h) new → IsTold new
   pub control : (s port : ℕ) (t : SwitchNo) (q : ℕ) (frame : List ℕ) (items : List Item) → out_of w s port ≡ Control frame ∷ items →
       peer_of w.plan s port ≡ Switch t q → (turn : SwitchTurn Loose (taken_out w s port items) t.0 (Comes q frame) Silent new) →
-      settles_by turn.before q (control_in (payload_of frame)) ≡ true → IsTold new
+      settles_by turn.before q (control_in (payload_of frame)) ≡ true → MaySettle w t.0 turn.acts
   pub pod : (t pod : ℕ) (rest : List ToSwitch) (turn : SwitchTurn Loose (record w { from_manager = set w.from_manager t rest }) t (Says (Pod pod)) Silent new) →
-      has_become_placed turn.before.place (with_pod turn.before (Some pod)).place ≡ true → IsTold new
+      has_become_placed turn.before.place (with_pod turn.before (Some pod)).place ≡ true → MaySettle w t turn.acts
   pub groups : (s port id : ℕ) (frame : List ℕ) → GroupArrives w s port id frame
   pub numbers : (s : ℕ) (says : ToManager) (items : List ToManager) (turn : ManagerTurn manager (record w { to_manager = set w.to_manager s items }) s says new) →
       NumbersWell w.plan (reverse w.journal) turn.acts
@@ -92,10 +92,11 @@ module _ (manager : ManagerRule) (host : HostRule) (accounts : AccountsForFrames
   over_told : (s port : ℕ) (item : Item) (items : List Item) (peer : Peer) → port < w.plan.k → out_of w s port ≡ item ∷ items → peer_of w.plan s port ≡ peer →
       ComesOver Loose host (taken_out w s port items) s port item peer new → IsTold new
   over_told s port (Control frame) items (Switch t q) within head peer turn =
-      elim (cases_Bool (settles_by turn.before q (control_in (payload_of frame)))) [
-        | inl settles ↦ left.control s port t q frame items head peer turn settles
-        | inr stays ↦ control_told w s port frame items t q new accounts counted told within head peer turn stays left.more
-      ]
+      control_told w s port frame items t q new accounts counted told within head peer turn
+      (elim (cases_Bool (settles_by turn.before q (control_in (payload_of frame)))) [
+        | inl settles ↦ inr (left.control s port t q frame items head peer turn settles)
+        | inr stays ↦ inl stays
+      ]) left.more
   over_told s port (Data id frame) items (Switch t q) within head peer turn =
       over_link_told w counted told on accounts s port id frame items within head t q peer new turn
   over_told s port (Control frame) items HostPort within head peer is = subst IsTold (sym is) (lost_told w s port (Control frame) items counted told within head)
@@ -112,10 +113,11 @@ module _ (manager : ManagerRule) (host : HostRule) (accounts : AccountsForFrames
 
   from_manager_told : (t : ℕ) (items : List ToSwitch) → DeliversFromManager Loose w t items new → IsTold new
   from_manager_told t [] comes = absurd comes
-  from_manager_told t (Pod pod ∷ items) turn = elim (cases_Bool (has_become_placed turn.before.place (with_pod turn.before (Some pod)).place)) [
-    | inl settles ↦ left.pod t pod items turn settles
-    | inr stays ↦ pod_told w t pod items new accounts counted told turn stays left.more
-  ]
+  from_manager_told t (Pod pod ∷ items) turn = pod_told w t pod items new accounts counted told turn
+      (elim (cases_Bool (has_become_placed turn.before.place (with_pod turn.before (Some pod)).place)) [
+        | inl settles ↦ inr (left.pod t pod items turn settles)
+        | inr stays ↦ inl stays
+      ]) left.more
   from_manager_told t (Avoid list ∷ items) turn = says_told w t (Avoid list) items new accounts counted told on tt turn
   from_manager_told t (Tree group part ∷ items) turn = says_told w t (Tree group part) items new accounts counted told on tt turn
   from_manager_told t (Answer asker asker_ip ip pmac ∷ items) turn = says_told w t (Answer asker asker_ip ip pmac) items new accounts counted told on tt turn

@@ -1,9 +1,7 @@
 -- A control frame comes at a switch, or the number of its pod: it tells, votes, and grants addresses only where it settles.
-use Rattle.std.proofs.Common.{◌⊎◌, inl, inr, ◌≡◌, ℕ, ◌<◌, ◌∙◌, arith, reverse, ◌&&◌, nat_lt, Bool, true, false, if◌then◌else◌, List, [], ◌∷◌, ◌++◌, Result, Ok, Err, set, refl, sym, ap, subst}
-use Rattle.std.specs.List.{AllByRecursion}
+use Rattle.std.proofs.Common.{◌⊎◌, inl, inr, ◌≡◌, ℕ, ◌<◌, ◌∙◌, arith, reverse, ◌&&◌, nat_lt, Bool, true, false, List, ◌∷◌, Result, Ok, Err, set, refl, sym, ap, subst}
 use Rattle.std.proofs.lemmas.Bool.{cond-false, cond-true, cond_both}
 use Rattle.pl_frame.specs.Ethernet.{payload_of}
-use Rattle.pl_frame.specs.declared.address.SwitchId.{SwitchId}
 use Rattle.pl_layouts.specs.Control.{control_in, is_control}
 use Rattle.pl_layouts.specs.Placement.{is_known}
 use Rattle.pl_layouts.specs.declared.control.Control.{Control}
@@ -16,7 +14,7 @@ use Rattle.pl_switch_rule.specs.Granting.{grants_remembered}
 use Rattle.pl_switch_rule.specs.Levels.{after_message, changes_to, has_become_placed, settles_in}
 use Rattle.pl_switch_rule.specs.Messages.{hears_pod, takes_pod}
 use Rattle.pl_switch_rule.specs.Levels.{with_pod}
-use Rattle.pl_switch_rule.specs.Positions.{after_vote, answers_proposal, frees_others, half, hears_proposal}
+use Rattle.pl_switch_rule.specs.Positions.{after_vote, answers_proposal, frees_others, half}
 use Rattle.pl_switch_rule.specs.SwitchRule.{Loose, control_comes, data_comes, hears_control, switch_step}
 use Rattle.pl_switch_rule.specs.Telling.{changes_told}
 use Rattle.std.specs.Prelude.{Some}

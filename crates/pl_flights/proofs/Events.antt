@@ -34,7 +34,7 @@ use Rattle.pl_world.specs.Changes.{host_at, out_of, receiver}
 use Rattle.pl_world.specs.Flying.{IsCounted}
 use Rattle.pl_world.specs.LinksAndMoves.{joins, link_between, link_failed}
 use Rattle.pl_world.specs.Refusals.{has_host, has_port, has_switch, is_for_hosts, is_linked, refusal_of_event, refusal_of_link, refusal_of_move, refusal_of_place, refusal_of_queue}
-use Rattle.pl_world.specs.WorldRule.{ComesOver, Delivers, DeliversFromHost, DeliversFromManager, DeliversOut, DeliversToManager, Fails, Goes, Happens, IsRepaired, Loses, ManagerTurn, SwitchTurn, Ticks}
+use Rattle.pl_world.specs.WorldRule.{ComesOver, Delivers, DeliversFromHost, DeliversFromManager, DeliversOut, DeliversToManager, Fails, Goes, Happens, IsRepaired, Loses, ManagerTurn, SwitchTurn}
 use Rattle.pl_world.specs.Worlds.{WorldView}
 use Rattle.pl_world.proofs.StepBalances.{counted as to_counted, fails, found_contained, sound}
 use Rattle.pl_flights.specs.OnTheWay.{IsTold, place_in}

@@ -1,5 +1,5 @@
 -- An address is granted: every frame in a queue is as it was, unless it has just come in at that edge switch.
-use Rattle.std.proofs.Common.{◌≡◌, ℕ, ◌==◌, ◌&&◌, not, Bool, true, false, if◌then◌else◌, List, [], ◌∷◌, Option, None, Some, refl, sym, ◌∙◌, ap, subst, inl, inr}
+use Rattle.std.proofs.Common.{◌≡◌, ℕ, ◌==◌, ◌&&◌, true, false, List, [], ◌∷◌, Option, None, Some, refl, sym, ◌∙◌, ap, subst, inl, inr}
 use Rattle.std.proofs.lemmas.Bool.{and_left, and_right, cases_Bool, eqb-true, false≢true, cond-false, cond-true, ne_eqb}
 use Rattle.pl_pmac.specs.declared.pmac.Pmac.{Pmac}
 use Rattle.pl_pmac.specs.Pmac.{pmac_number}
@@ -10,7 +10,7 @@ use Rattle.pl_wiring.specs.Plan.{Plan}
 use Rattle.pl_layouts.specs.declared.place.Place.{Place}
 use Rattle.pl_journal.specs.declared.entry.Entry.{Entry}
 use Rattle.pl_journal.specs.declared.entry.Entry.TheVariants.{Crossed, Granted}
-use Rattle.pl_journal.specs.Flights.{Flight, address_at, came_in, flight_of, has_just_come_in, sender, sender_address, was_live}
+use Rattle.pl_journal.specs.Flights.{Flight, address_at, came_in, flight_of, has_just_come_in, sender, sender_address}
 use Rattle.pl_journal.specs.Lossy.{IsGrantable}
 use Rattle.pl_journal.specs.Places.{Spot, at_port, granted_at, holder, same_spot, spot}
 use Rattle.pl_world.specs.declared.item.Item.{Item}

@@ -1,5 +1,5 @@
 -- A switch settles: it grants addresses to the sources that it remembers, with no frame in hand.
-use Rattle.std.proofs.Common.{◌≡◌, ℕ, ◌+◌, ◌<◌, ◌==◌, Bool, true, false, List, [], ◌∷◌, ◌++◌, length, reverse, Option, None, Some, set, slice_get, refl, sym, ◌∙◌, ap, subst, arith}
+use Rattle.std.proofs.Common.{◌≡◌, ℕ, ◌<◌, true, List, [], ◌∷◌, length, reverse, Option, None, Some, set, refl, sym, ◌∙◌, arith}
 use Rattle.std.specs.List.{AllByRecursion, fold}
 use Rattle.std.proofs.lemmas.Bool.{false≢true}
 use Rattle.std.proofs.lemmas.Option.{slice_get_within}
@@ -24,17 +24,16 @@ use Rattle.pl_world.specs.WorldRule.{SwitchTurn}
 use Rattle.pl_world.specs.Worlds.{WorldView}
 use Rattle.pl_world.proofs.Counts.{all_found}
 use Rattle.pl_world.proofs.StepBalances.{Sound, switches_rest}
-use Rattle.pl_world.proofs.SwitchActBalances.{IsLegal, Steady, act_steady, amid, said_is_legal}
-use Rattle.pl_flights.specs.OnTheWay.{IsTold, Tells, book_of, place_in}
+use Rattle.pl_world.proofs.SwitchActBalances.{Steady, act_steady, amid}
+use Rattle.pl_flights.specs.OnTheWay.{IsTold, place_in}
 use Rattle.pl_flights.specs.Standing.{IsMore}
 use Rattle.pl_flights.proofs.Acting.{IsDone, control_amid, done_told}
 use Rattle.pl_flights.proofs.Counting.{counts, nobody}
 use Rattle.pl_flights.proofs.Granting.{note_grant}
 use Rattle.pl_flights.proofs.Growing.{tells_grown}
-use Rattle.pl_flights.proofs.Hands.{Amid, Hand, IsAmid}
+use Rattle.pl_flights.proofs.Hands.{IsAmid}
 use Rattle.pl_flights.proofs.Hands.Hand.{Empty}
 use Rattle.pl_flights.proofs.Noting.{reverse_noted}
-use Rattle.pl_flights.proofs.SwitchTurns.{turn_switches}
 
 abbrev pub GrantsFor : (List Entry → Type 0) → Plan → ℕ → List Entry → Pmac → Option ℕ → Type 0
 GrantsFor next plan s past pmac None = next past

@@ -30,3 +30,4 @@ pub mod Events
 pub mod ControlFrames
 pub mod Granting
 pub mod Settling
+pub mod Entering

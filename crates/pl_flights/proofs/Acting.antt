@@ -206,7 +206,7 @@ pub record IsDone (place : ℕ → Place) (s k : ℕ) (d : Doing) : Type 0 where
   pub steady : IsSteady s k d
   pub said : is_said (said_by d.speech) ≡ true
 
-acts_told : (place : ℕ → Place) (s k : ℕ) (w : WorldView) (speech : SpokenFrame) (late past : List Entry) (hand : Hand) (acts : List Act) →
+pub acts_told : (place : ℕ → Place) (s k : ℕ) (w : WorldView) (speech : SpokenFrame) (late past : List Entry) (hand : Hand) (acts : List Act) →
     AllByRecursion (IsFit k) acts → is_said (fold speech_after (said_by speech) acts) ≡ true → Steady s k w speech late →
     IsAmid place s hand past w speech late → GoodActs w.plan place (book_of past) s acts hand →
     IsDone place s k (acts_done s (amid w speech late) acts)

@@ -31,3 +31,4 @@ pub mod ControlFrames
 pub mod Granting
 pub mod Settling
 pub mod Entering
+pub mod GrantingAmid

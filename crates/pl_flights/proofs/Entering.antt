@@ -1,5 +1,5 @@
 -- A frame of a host crosses the edge switch where the host stands.
-use Rattle.std.proofs.Common.{◌≡◌, ℕ, ◌+◌, ◌==◌, ◌&&◌, ◌||◌, not, Bool, true, false, List, [], ◌∷◌, Option, None, Some, reverse, set, slice_get, option_map, refl, sym, ◌∙◌, ap, subst, arith}
+use Rattle.std.proofs.Common.{◌≡◌, ℕ, ◌+◌, ◌==◌, true, false, List, [], ◌∷◌, Some, reverse, set, slice_get, option_map, refl, sym, ◌∙◌, ap, subst, arith}
 use Rattle.std.specs.List.{AllByRecursion}
 use Rattle.std.proofs.lemmas.Bool.{cond-true, eq-eqb, or_right}
 use Rattle.pl_frame.specs.Ethernet.{destination_of}
@@ -9,9 +9,9 @@ use Rattle.pl_wiring.specs.Plan.{Plan}
 use Rattle.pl_journal.specs.declared.entry.Entry.{Entry}
 use Rattle.pl_journal.specs.declared.entry.Entry.TheVariants.{Crossed}
 use Rattle.pl_journal.specs.Causes.{goes_to_group}
-use Rattle.pl_journal.specs.Flights.{Flight, first_flight, flight_of, is_flying, leg, sender, trail, was_live}
-use Rattle.pl_journal.specs.Lossy.{CrossesWell, goes_well}
-use Rattle.pl_journal.specs.Places.{Spot, at_port, granted_at, is_failed, spot_of}
+use Rattle.pl_journal.specs.Flights.{Flight, first_flight, flight_of, leg, sender, trail}
+use Rattle.pl_journal.specs.Lossy.{goes_well}
+use Rattle.pl_journal.specs.Places.{at_port, granted_at, spot_of}
 use Rattle.pl_queues.specs.Queues.{items_at}
 use Rattle.pl_world.specs.declared.item.Item.{Item}
 use Rattle.pl_world.specs.declared.item.Item.TheVariants.{Data}
@@ -24,8 +24,8 @@ use Rattle.pl_world.proofs.Balances.{Owes, took_host_balance}
 use Rattle.pl_world.proofs.Counts.{times_in-data}
 use Rattle.pl_world.proofs.StepBalances.{sound}
 use Rattle.pl_flights.specs.OnTheWay.{IsTold, IsWaiting, Tells, book_of, place_in, spot_of_stand}
-use Rattle.pl_flights.proofs.Counting.{IsOwed, counts, owed}
-use Rattle.pl_flights.proofs.Hands.{Hand, InHand, IsAmid}
+use Rattle.pl_flights.proofs.Counting.{counts, owed}
+use Rattle.pl_flights.proofs.Hands.{IsAmid}
 use Rattle.pl_flights.proofs.Hands.Hand.{Waits}
 use Rattle.pl_flights.proofs.Keeping.{kept, same_book}
 use Rattle.pl_flights.proofs.Noting.{note, reverse_noted}
@@ -92,9 +92,12 @@ enters w counted told h id frame items head stand found =
       tells = note plan place past w.links w.stands (set w.from_hosts h items) w.out crossed id (record { not_at_hosts = o.not_at_hosts; not_out = o.not_out })
           (λ g other. kept plan past crossed g other) (same_book (book_of past)) o.flies
           (or_right (goes_to_group past id) _ (well_alone plan past id s (leg past id) (ap (λ v. v.leg) all.0))) t.links_agree t.stands_agree t;
-      holds = (refl, record {
-        in_hand = record { flight = first_crossing plan past id h s stand.port frame all.0 at; live = λ u. rw e refl; last = refl };
-        turned = tt;
-      });
+      holds = (
+        refl,
+        record {
+          in_hand = record { flight = first_crossing plan past id h s stand.port frame all.0 at; live = λ u. rw e refl; last = refl };
+          turned = tt;
+        },
+      );
       puts_off = tt;
     }

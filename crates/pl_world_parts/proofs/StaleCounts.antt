@@ -1,8 +1,9 @@
 -- The number of stale items in the queue out of each port.
-use Rattle.std.proofs.Common.{◌≡◌, ℕ, ◌+◌, ◌*◌, ◌<◌, ◌≤◌, not, Bool, true, Option, None, Some, IfSome, List, [], ◌∷◌, ◌&&◌, bytes_eq, cond, count_by, sum_by, get_or, length, replicate, slice_get, slice_index_or, slice_set, zero, suc, refl, sym, ap, ◌∙◌, inl, inr, subst, arith}
+use Rattle.std.proofs.Common.{◌≡◌, ℕ, ◌+◌, ◌-◌, ◌*◌, ◌<◌, ◌≤◌, not, Bool, true, Option, None, Some, IfSome, MatchOption, List, [], ◌∷◌, ◌++◌, ◌&&◌, bytes_eq, cond, count_by, sum_by, get_or, length, map, option_to_list, replicate, slice_get, slice_index_or, slice_set, zero, suc, refl, sym, ap, ◌∙◌, inl, inr, subst, suc-mul, arith}
+use Rattle.std.proofs.Math.ListN.{length-map}
 use Rattle.std.proofs.lemmas.Bool.{cases_eq}
 use Rattle.std.proofs.lemmas.List.{get_or_read_under, get_or-set_other, get_or-set_same, length-replicate, length-set}
-use Rattle.std.proofs.lemmas.List.Sums.{sum_by-cons, sum_by-le-sum_by}
+use Rattle.std.proofs.lemmas.List.Sums.{sum_by-cons, sum_by_push, sum_by-le-sum_by}
 use Rattle.std.proofs.lemmas.Nat.{same_from_place}
 use Rattle.std.proofs.lemmas.Option.{slice_get-get_or}
 use Rattle.pl_wiring.specs.Index.{port_index}
@@ -12,7 +13,7 @@ use Rattle.pl_layouts.specs.Placement.{nowhere}
 use Rattle.pl_core.specs.PortRecords.{ports_of_switch}
 use Rattle.pl_core.specs.SwitchViews.{SwitchView}
 use Rattle.pl_queues.specs.Counts.{counted_in}
-use Rattle.pl_queues.specs.Queues.{items_at}
+use Rattle.pl_queues.specs.Queues.{items_at, put_at}
 use Rattle.pl_world.specs.declared.item.Item.{Item}
 use Rattle.pl_world.specs.declared.item.Item.TheVariants.{Control, Data}
 use Rattle.pl_world.specs.Pending.{HasQueues, KeepsStale, is_control_item, is_stale, stale, stale_at, stale_at_ports, stale_in}
@@ -20,9 +21,11 @@ use Rattle.pl_world.proofs.SettledQueues.{none_in}
 use Rattle.pl_world_parts.specs.declared.said.Said.{Said}
 use Rattle.pl_world_parts.specs.OneStep.{IsOneChanged, sizes}
 use Rattle.pl_world_parts.specs.StaleCounts.{KeepsEach, is_stale_under, said_at}
-use Rattle.pl_world_parts.proofs.Stale.{one_at_most, parts_fit, port_part, slice_get-set_other, stale_fits, stale_in_le}
+use Rattle.pl_world_parts.proofs.OneChanged.{found-map}
+use Rattle.pl_world_parts.proofs.Stale.{one_at_most, parts_fit, port_part, queue_changes, queue_le, slice_get-set_other, stale_fits, stale_in_le}
 use Rattle.pl_world_parts.proofs.Sums.{sum_from, sum_next, sums_same}
-use Rattle.pl_world_parts.proofs.Switching.{all_switches, kept_fits, queues_kept}
+use Rattle.pl_world_parts.proofs.Switching.{all_switches, kept_fits, queues_kept, same_size, switch_is_there}
+use Rattle.pl_world_parts.proofs.Stepping.{sizes_many}
 
 -- what is stale by what is announced
 stale_under : (v : SwitchView) (port : ℕ) (item : Item) → is_stale v port item ≡ is_stale_under (said_at v port) item
@@ -58,10 +61,14 @@ some_at P o x is holds = subst (λ o. IfSome o P) is holds
 pub at_some : (P : Said → Type 0) (o : Option Said) (x : Said) → o ≡ Some x → P x → IfSome o P
 at_some P o x is holds = subst (λ o. IfSome o P) (sym is) holds
 
+set_back : (queues : List (List Item)) (at : ℕ) → slice_set queues at (items_at queues at) ≡ queues
+set_back [] at = refl
+set_back (queue ∷ queues) zero = refl
+set_back (queue ∷ queues) (suc at) = ap (λ rest. queue ∷ rest) (set_back queues at)
+
 module _ (k : ℕ) (switches : List SwitchView) (out : List (List Item)) (counts : List ℕ) where
-  -- no more in one queue than count there
-  pub each_le : KeepsEach (all_switches k switches out) counts → (s port at : ℕ) → port < k → port_index k s port ≡ at → slice_index_or counts at 0 ≡ stale_in (slice_get switches s) port (items_at out at)
-  each_le each s port at within place =
+  pub each_at : KeepsEach (all_switches k switches out) counts → (s port at : ℕ) → port < k → port_index k s port ≡ at → slice_index_or counts at 0 ≡ stale_in (slice_get switches s) port (items_at out at)
+  each_at each s port at within place =
       subst (λ n. slice_index_or counts n 0 ≡ stale_in (slice_get switches s) port (items_at out n)) place (each.are s port within)
 
   -- a queue becomes another
@@ -94,6 +101,83 @@ module _ (k : ℕ) (switches : List SwitchView) (out : List (List Item)) (counts
                 get_or-set_other counts at (port_index k t q) n 0 other ∙ each.are t q inside
                 ∙ ap (stale_in (slice_get switches t) q) (sym (get_or-set_other out at (port_index k t q) queue [] other))
           ]
+
+  module _ (each : KeepsEach (all_switches k switches out) counts) (s port at was : ℕ) (within : port < k) (place : port_index k s port ≡ at) (there : at < length out)
+      (read : was ≡ get_or counts at was) where
+    was_is : was ≡ stale_in (slice_get switches s) port (items_at out at)
+    was_is = get_or_read_under counts at (length out) was 0 read there (sym each.many) ∙ each_at each s port at within place
+
+    pub was_within : (kept : ℕ) → KeepsStale (all_switches k switches out) kept → was ≤ kept
+    was_within kept keeps =
+        let low = switch_is_there k switches out s port at keeps.queues place there in
+        let fits = queue_le k switches out s port at within place low in
+        let here = was_is in
+        omega (arith, fits, here, keeps.is)
+
+    nothing : (o : Option SwitchView) → stale_in o port [] ≡ 0
+    nothing None = refl
+    nothing (Some v) = refl
+
+    -- a queue is emptied
+    pub each_emptied : (new : List (List Item)) → new ≡ slice_set out at [] → KeepsEach (all_switches k switches new) (slice_set counts at 0)
+    each_emptied new same = each_set each s port at 0 [] new (slice_set counts at 0) within place there (sym (nothing (slice_get switches s))) same refl
+
+    pub keeps_emptied : (kept : ℕ) (new : List (List Item)) → KeepsStale (all_switches k switches out) kept → new ≡ slice_set out at [] →
+        KeepsStale (all_switches k switches new) (kept - was)
+    keeps_emptied kept new keeps same =
+        let low = switch_is_there k switches out s port at keeps.queues place there in
+        let all = queue_changes k switches out s port at [] within place there low in
+        let last = nothing (slice_get switches s) in
+        let here = was_is in
+        let seen : stale k switches new ≡ stale k switches (slice_set out at []) = ap (stale k switches) same in
+        record {
+          queues = record { ports = keeps.queues.ports; queues = ap length same ∙ length-set out at [] ∙ keeps.queues.queues };
+          is = omega (arith, all, last, here, seen, keeps.is);
+        }
+
+    module _ (v : SwitchView) (found : slice_get switches s ≡ Some v) where
+      counted_is : was ≡ count_by (is_stale v port) (items_at out at)
+      counted_is = was_is ∙ ap (λ o. stale_in o port (items_at out at)) found
+
+      with_queue : (queue : List Item) (new : List (List Item)) (n : ℕ) → n ≡ count_by (is_stale v port) queue → new ≡ slice_set out at queue →
+          KeepsEach (all_switches k switches new) (slice_set counts at n)
+      with_queue queue new n is same =
+          each_set each s port at n queue new (slice_set counts at n) within place there (is ∙ ap (λ o. stale_in o port queue) (sym found)) same refl
+
+      -- an item is put into a queue, or taken from it
+      pub each_put : (new : List (List Item)) (item : Item) (b : Bool) (more : ℕ) → new ≡ put_at out at item → more ≡ cond b 1 0 → b ≡ is_stale v port item →
+          KeepsEach (all_switches k switches new) (slice_set counts at (was + more))
+      each_put new item b more same one is =
+          let push = sum_by_push (λ i. cond (is_stale v port i) 1 0) (items_at out at) item in
+          let here : ◌≡◌ {A = ℕ} (cond b 1 0) (cond (is_stale v port item) 1 0) = ap (λ c. cond c 1 0) is in
+          let old = counted_is in
+          with_queue (items_at out at ++ item ∷ []) new (was + more) (omega (arith, push, one, here, old)) same
+
+      one_more : (x : Item) (queue : List Item) → items_at out at ≡ x ∷ queue →
+          was ≡ count_by (is_stale v port) (x ∷ []) + count_by (is_stale v port) queue
+      one_more x queue head =
+          let whole = ap (count_by (is_stale v port)) head in
+          let parts = sum_by-cons (λ i. cond (is_stale v port i) 1 0) x queue in
+          let one = sum_by-cons (λ i. cond (is_stale v port i) 1 0) x [] in
+          let old = counted_is in
+          omega (arith, whole, parts, one, old)
+
+      abbrev IsTaken : List (List Item) → Option Item → Type 0
+      IsTaken new taken = MatchOption taken ((items_at out at ≡ []) × (new ≡ out)) (λ x. (items_at out at ≡ x ∷ items_at new at) × (new ≡ slice_set out at (items_at new at)))
+
+      pub less_within : (new : List (List Item)) (taken : Option Item) (less : ℕ) → IsTaken new taken →
+          less ≡ count_by (is_stale v port) (option_to_list taken) → less ≤ was
+      less_within new None less h is = omega (arith, is)
+      less_within new (Some x) less h is = let head = one_more x (items_at new at) h.0 in omega (arith, head, is)
+
+      pub each_take : (new : List (List Item)) (taken : Option Item) (less : ℕ) → IsTaken new taken →
+          less ≡ count_by (is_stale v port) (option_to_list taken) → KeepsEach (all_switches k switches new) (slice_set counts at (was - less))
+      each_take new None less h is =
+          let old = counted_is in
+          with_queue (items_at out at) new (was - less) (omega (arith, old, is)) (h.1 ∙ sym (set_back out at))
+      each_take new (Some x) less h is =
+          let head = one_more x (items_at new at) h.0 in
+          with_queue (items_at new at) new (was - less) (omega (arith, head, is)) h.1
 
 -- all queues are empty at first
 pub none_each : (k n : ℕ) (switches : List SwitchView) (out : List (List Item)) (counts : List ℕ) → out ≡ replicate n [] → counts ≡ replicate (length out) 0 →
@@ -263,6 +347,58 @@ module _ (k : ℕ) (switches : List SwitchView) (out : List (List Item)) (counts
 
         theirs : (t port : ℕ) → port < k → (t ≡ s → ⊥) → slice_index_or renewed (port_index k t port) 0 ≡ slice_index_or counts (port_index k t port) 0
         theirs = subst (λ n. (t port : ℕ) → port < n → (t ≡ s → ⊥) → slice_index_or renewed (port_index n t port) 0 ≡ slice_index_or counts (port_index n t port) 0) size others
+
+row_fits : (k s n : ℕ) → s < n → s * k + k ≤ n * k
+row_fits k s zero low = absurd (omega (arith, low))
+row_fits k zero (suc n) low = let row : suc n * k ≡ n * k + k = suc-mul n k in omega (arith, row)
+row_fits k (suc s) (suc n) low =
+    let mine : suc s * k ≡ s * k + k = suc-mul s k in
+    let all : suc n * k ≡ n * k + k = suc-mul n k in
+    let rest = row_fits k s n (omega (arith, low)) in
+    omega (arith, mine, all, rest)
+
+-- a switch hears something, and is looked at before and after
+module _ {T : Type 0} (view : T → SwitchView) (k : ℕ) (cores new : List T) (out : List (List Item)) (counts : List ℕ) (s kept : ℕ) (was is : T)
+    (keeps : KeepsStale (all_switches k (map view cores) out) kept) (each : KeepsEach (all_switches k (map view cores) out) counts)
+    (low : s < length (map view cores)) (seen : was ≡ get_or cores s was) (same : sizes (map view new) ≡ sizes (map view cores))
+    (again : is ≡ get_or new s is) where
+  found_before : slice_get (map view cores) s ≡ Some (view was)
+  found_before = let many = length-map cores view in found-map view cores s was (omega (arith, low, many)) (sym seen)
+
+  found_after : slice_get (map view new) s ≡ Some (view is)
+  found_after =
+      let many = length-map new view in
+      let all = sizes_many (map view cores) (map view new) same in
+      found-map view new s is (omega (arith, low, many, all)) (sym again)
+
+  before_size : (view was).k ≡ k
+  before_size = same_size k (map view cores) out s (view was) keeps.queues found_before
+
+  after_size : (view is).k ≡ k
+  after_size = same_size k (map view new) out s (view is) (queues_kept k (map view cores) out s kept 0 0 (map view new) keeps low same) found_after
+
+  pub hear_queues : port_index (view is).k s (view is).k ≤ length out
+  hear_queues =
+      let fits : s * k + k ≤ length (map view cores) * k = row_fits k s (length (map view cores)) low in
+      let here : port_index (view is).k s (view is).k ≡ port_index k s k = ap (λ n. port_index n s n) after_size in
+      omega (arith, fits, here, keeps.queues.queues)
+
+  pub hear_known : (said : List Said) → ((port : ℕ) → port < (view was).k → slice_get said port ≡ Some (said_at (view was) port)) →
+      (port : ℕ) → port < (view is).k → IsKnownAt (view is).k s out counts said port
+  hear_known said told = known_before k (map view cores) out counts s (view was) (view is) each found_before after_size said before_size told
+
+  pub hear_first : (first : ℕ) → first ≡ sum_by (λ port. slice_index_or counts (port_index (view is).k s port) 0) (ports_of_switch (view is).k) →
+      first ≡ stale_at k (map view cores) out s
+  hear_first = first_is k (map view cores) out counts s (view was) (view is) each found_before after_size
+
+  pub hear_last : (last : ℕ) → last ≡ stale_at_ports (view is).k (Some (view is)) out s → last ≡ stale_at k (map view new) out s
+  hear_last = last_is k (map view cores) out counts s (view was) (view is) each found_before after_size (map view new) found_after
+
+  pub hear_each : (renewed : List ℕ) → IsOneChanged (map view cores) s (map view new) → length renewed ≡ length out →
+      ((port : ℕ) → port < (view is).k → slice_index_or renewed (port_index (view is).k s port) 0 ≡ stale_in (Some (view is)) port (items_at out (port_index (view is).k s port))) →
+      ((t port : ℕ) → port < (view is).k → (t ≡ s → ⊥) → slice_index_or renewed (port_index (view is).k t port) 0 ≡ slice_index_or counts (port_index (view is).k t port) 0) →
+      KeepsEach (all_switches k (map view new) out) renewed
+  hear_each = each_again k (map view cores) out counts s (view was) (view is) each found_before after_size (map view new) found_after
 
 -- where no control frame waits, nothing is stale whatever the switches announce
 module _ (k : ℕ) (switches new : List SwitchView) (out : List (List Item)) (none : counted_in is_control_item out ≡ 0) (same : sizes new ≡ sizes switches) where

@@ -148,8 +148,8 @@ impl<S: SwitchCore> Switches<S> {
         ensures kept { sizes self.new.switches ≡ sizes self.old.switches }
         ensures queues { self.new.out ≡ self.old.out }
     {
-        let _bound = self.out.counted();
-        if self.out.counted() == 0 {
+        let waiting = self.out.counted();
+        if waiting == 0 {
             return hear_at(&mut self.cores, s, incoming, out);
         }
         let said = all_said(&self.cores[s]);

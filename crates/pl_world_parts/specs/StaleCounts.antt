@@ -39,4 +39,4 @@ is_stale_under said (Data id frame) = false
 pub record KeepsEach (f : SwitchesView) (counts : List ℕ) : Type 0 where
   pub many : length counts ≡ length f.out
   pub are : (s port : ℕ) → port < f.k →
-    slice_index_or counts (port_index f.k s port) 0 ≡ stale_in (slice_get f.switches s) port (items_at f.out (port_index f.k s port))
+      slice_index_or counts (port_index f.k s port) 0 ≡ stale_in (slice_get f.switches s) port (items_at f.out (port_index f.k s port))

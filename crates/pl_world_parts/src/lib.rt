@@ -8,7 +8,6 @@ pub use counting::{WaitingToManager, WaitingToSwitch};
 pub use incoming::Incoming;
 pub use links::{link_of, set_live};
 pub use one_step::{arrive_at, play_at, urge_at};
-pub use said::Said;
 pub use stands::Stands;
 pub use switches::Switches;
 pub use urge::Urge;

@@ -154,8 +154,7 @@ impl<S: SwitchCore> Switches<S> {
         }
         let said = all_said(&self.cores[s]);
         let done = hear_at(&mut self.cores, s, incoming, out);
-        let (before, after) =
-            count_again(&mut self.counts, &self.cores[s], &self.out, s, &said);
+        let (before, after) = count_again(&mut self.counts, &self.cores[s], &self.out, s, &said);
         self.stale = self.stale - before + after;
         done
     }
@@ -260,7 +259,13 @@ fn count_again<S: SwitchFacts>(
     for port in 0..k {
         let at = s * k as usize + port as usize;
         let count = counts[at];
-        let now = count_port(core, port, out.queues().queue(at), &said[port as usize], count);
+        let now = count_port(
+            core,
+            port,
+            out.queues().queue(at),
+            &said[port as usize],
+            count,
+        );
         counts[at] = now;
         before += count;
         after += now;

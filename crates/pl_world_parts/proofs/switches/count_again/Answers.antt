@@ -1,5 +1,4 @@
-use Rattle.std.proofs.Common.{◌≡◌, ◌+◌, ◌*◌, ◌<◌, ℕ, Some, length, ap, arith}
-use Rattle.pl_wiring.specs.Index.{port_index}
+use Rattle.std.proofs.Common.{◌≡◌, ◌+◌, ◌*◌, Some, ap, arith}
 use Rattle.pl_queues.specs.Counts.{counted_in}
 use Rattle.pl_world.specs.Pending.{is_control_item}
 use Rattle.pl_world_parts.proofs.Stale.{ports_fit}

@@ -19,18 +19,20 @@ overflow_add-self g c =
     omega (arith, fits, bound, one, c.counted-bound.ensures.within, c.one_if-more.ensures)
 
 pub invariant_of-self-2 : goal.invariant_of-self-2
-invariant_of-self-2 g c = (keeps_put c.self.inside.k (map g.S.SwitchFacts.view c.self.inside.cores.items) c.self.inside.out c.port_at-s.result.0 c.port_at-s.result.1 c.args.at c.self.inside.stale
-    (g.S.SwitchFacts.view c.index.result.now) c.self.invariant.0 (core_found g.S.SwitchFacts.view c.self.inside.k c.self.inside.cores.items c.self.inside.out c.args.self.now c.port_at-s.result.0 c.port_at-s.result.1 c.args.at
-    c.index.result.now c.self.invariant.0.queues c.self.view_is c.requires c.port_at-s.ensures.place c.index.ensures)
-    c.port_at-s.ensures.port c.port_at-s.ensures.place (place_there g.S.SwitchFacts.view c.self.inside.k c.self.inside.cores.items c.self.inside.out c.args.self.now c.port_at-s.result.0 c.port_at-s.result.1 c.args.at
-    c.index.result.now c.self.invariant.0.queues c.self.view_is c.requires c.port_at-s.ensures.place c.index.ensures)
-    c.put.new.self c.args.item c.is_stale.result c.one_if-more.result c.in_ok-put.ensures.ok c.one_if-more.ensures c.is_stale.ensures,
-    each_put c.self.inside.k (map g.S.SwitchFacts.view c.self.inside.cores.items) c.self.inside.out c.self.inside.counts.items c.self.invariant.1
-    c.port_at-s.result.0 c.port_at-s.result.1 c.args.at c.index_mut.result.now c.port_at-s.ensures.port c.port_at-s.ensures.place (place_there g.S.SwitchFacts.view c.self.inside.k c.self.inside.cores.items c.self.inside.out c.args.self.now c.port_at-s.result.0 c.port_at-s.result.1 c.args.at
-    c.index.result.now c.self.invariant.0.queues c.self.view_is c.requires c.port_at-s.ensures.place c.index.ensures)
-    c.index_mut.ensures.value (g.S.SwitchFacts.view c.index.result.now) (core_found g.S.SwitchFacts.view c.self.inside.k c.self.inside.cores.items c.self.inside.out c.args.self.now c.port_at-s.result.0 c.port_at-s.result.1 c.args.at
-    c.index.result.now c.self.invariant.0.queues c.self.view_is c.requires c.port_at-s.ensures.place c.index.ensures)
-    c.put.new.self c.args.item c.is_stale.result c.one_if-more.result c.in_ok-put.ensures.ok c.one_if-more.ensures c.is_stale.ensures)
+invariant_of-self-2 g c = (
+  keeps_put c.self.inside.k (map g.S.SwitchFacts.view c.self.inside.cores.items) c.self.inside.out c.port_at-s.result.0 c.port_at-s.result.1 c.args.at c.self.inside.stale
+      (g.S.SwitchFacts.view c.index.result.now) c.self.invariant.0 (core_found g.S.SwitchFacts.view c.self.inside.k c.self.inside.cores.items c.self.inside.out c.args.self.now c.port_at-s.result.0 c.port_at-s.result.1 c.args.at
+      c.index.result.now c.self.invariant.0.queues c.self.view_is c.requires c.port_at-s.ensures.place c.index.ensures)
+      c.port_at-s.ensures.port c.port_at-s.ensures.place (place_there g.S.SwitchFacts.view c.self.inside.k c.self.inside.cores.items c.self.inside.out c.args.self.now c.port_at-s.result.0 c.port_at-s.result.1 c.args.at
+      c.index.result.now c.self.invariant.0.queues c.self.view_is c.requires c.port_at-s.ensures.place c.index.ensures)
+      c.put.new.self c.args.item c.is_stale.result c.one_if-more.result c.in_ok-put.ensures.ok c.one_if-more.ensures c.is_stale.ensures,
+  each_put c.self.inside.k (map g.S.SwitchFacts.view c.self.inside.cores.items) c.self.inside.out c.self.inside.counts.items c.self.invariant.1
+      c.port_at-s.result.0 c.port_at-s.result.1 c.args.at c.index_mut.result.now c.port_at-s.ensures.port c.port_at-s.ensures.place (place_there g.S.SwitchFacts.view c.self.inside.k c.self.inside.cores.items c.self.inside.out c.args.self.now c.port_at-s.result.0 c.port_at-s.result.1 c.args.at
+      c.index.result.now c.self.invariant.0.queues c.self.view_is c.requires c.port_at-s.ensures.place c.index.ensures)
+      c.index_mut.ensures.value (g.S.SwitchFacts.view c.index.result.now) (core_found g.S.SwitchFacts.view c.self.inside.k c.self.inside.cores.items c.self.inside.out c.args.self.now c.port_at-s.result.0 c.port_at-s.result.1 c.args.at
+      c.index.result.now c.self.invariant.0.queues c.self.view_is c.requires c.port_at-s.ensures.place c.index.ensures)
+      c.put.new.self c.args.item c.is_stale.result c.one_if-more.result c.in_ok-put.ensures.ok c.one_if-more.ensures c.is_stale.ensures,
+)
 
 pub overflow_add-index_mut : goal.overflow_add-index_mut
 overflow_add-index_mut g c =

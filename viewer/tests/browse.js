@@ -88,8 +88,8 @@ const a_run_is_opened_and_stepped_through = async browser => {
 };
 
 const a_packed_run_plays_to_its_end = async browser => {
-    const run = await packed(browser, "tests/fabric/move-twice");
-    assert((await browser.text("opened")).startsWith("move-twice: k 4, 20 switches, 4 hosts, "));
+    const run = await packed(browser, "examples/host-moves-twice");
+    assert((await browser.text("opened")).startsWith("host-moves-twice: k 4, 20 switches, 4 hosts, "));
     for (let n = 0; n < 8; n++) await browser.press("]");
     await browser.press(" ");
     await browser.until("document.getElementById('next').disabled");
@@ -111,17 +111,17 @@ const a_folder_is_dropped = async browser => {
 };
 
 const a_folder_is_opened = async browser => {
-    const run = open("tests/fabric/repaired");
+    const run = open("examples/link-fails");
     await browser.open(PAGE);
     await browser.choose([run.folder], "#folder");
     await browser.until(isOpen(run.run.count));
-    assert((await browser.text("opened")).startsWith("repaired: k 4"));
+    assert((await browser.text("opened")).startsWith("link-fails: k 4"));
     await browser.press("End");
     await says(browser, run, run.run.count);
 };
 
 const a_frame_is_followed = async browser => {
-    const run = await opened(browser, "tests/fabric/group");
+    const run = await opened(browser, "examples/group");
     const copy = run.run.parent.findIndex(parent => parent > 0);
     await browser.clickOn("#find");
     await browser.write(`${copy}`);
@@ -142,7 +142,7 @@ const a_frame_is_followed = async browser => {
 };
 
 const a_click_shows_a_story = async browser => {
-    const run = await opened(browser, "tests/fabric/group");
+    const run = await opened(browser, "examples/group");
     for (const subject of [{ switch: Fabric.number(run.run.fabric, "e0.0") }, { host: run.run.fabric.names.get("d") }]) {
         const at = await browser.value(`(() => { const box = Page.picture.spotOf(${JSON.stringify(subject)});
             const canvas = document.getElementById("canvas").getBoundingClientRect(); return { x: canvas.x + box.x, y: canvas.y + box.y }; })()`);
@@ -156,7 +156,7 @@ const a_click_shows_a_story = async browser => {
 };
 
 const lines_of_the_script_are_gone_to = async browser => {
-    const run = await opened(browser, "tests/fabric/move-twice");
+    const run = await opened(browser, "examples/host-moves-twice");
     const entry = number => run.journal.split("\n").indexOf(`line ${number}`) + 1;
     await browser.press("ArrowRight", SHIFT);
     await browser.press("ArrowRight", SHIFT);

@@ -1,0 +1,82 @@
+-- What holds in every run holds at the beginning, and each run of lawful cores keeps it.
+use Rattle.std.proofs.Common.{List, [], ◌∷◌, refl, sym, subst}
+use Rattle.std.proofs.lemmas.Option.{none-some}
+use Rattle.pl_wiring.specs.Plan.{Plan}
+use Rattle.pl_journal.specs.declared.entry.Entry.{Entry}
+use Rattle.pl_journal.specs.declared.entry.Entry.TheVariants.{Granted}
+use Rattle.pl_core.specs.HostDuties.{HostsSendData, HostsSendOwn}
+use Rattle.pl_core.specs.HostInputs.{HostRule}
+use Rattle.pl_core.specs.ManagerDuties.{ManagerRule}
+use Rattle.pl_core.specs.SwitchInputs.{SwitchRule}
+use Rattle.pl_core.specs.Accounting.{IsWithin}
+use Rattle.pl_manager_rule.specs.Lawful.{IsManagerRule}
+use Rattle.pl_manager_rule.specs.ManagerRule.{manager_rule}
+use Rattle.pl_switch_rule.specs.SwitchRule.{Loose}
+use Rattle.pl_world.specs.declared.limits.Limits.{Limits}
+use Rattle.pl_world.specs.Booting.{CanBegin, booted}
+use Rattle.pl_world.specs.Changes.{noted}
+use Rattle.pl_world.specs.Runs.{IsMark, Moment, WorldRun}
+use Rattle.pl_world.specs.Runs.Moment.{Mark, Step}
+use Rattle.pl_world.specs.Worlds.{WorldView}
+use Rattle.pl_world.proofs.BootBalances.{booted_is_counted}
+use Rattle.pl_world.proofs.Runs.{marked_counted}
+use Rattle.pl_control_plane.proofs.Standing.{hosts_at_first}
+use Rattle.pl_places.proofs.Beginning.{placed_at_first}
+use Rattle.pl_votes.proofs.Booted.{votes_at_first}
+use Rattle.pl_pods.proofs.Booted.{given_at_first}
+use Rattle.pl_addresses.proofs.Entries.{IsQuietEntry}
+use Rattle.pl_addresses.proofs.Runs.{boots_in_order}
+use Rattle.pl_addresses.proofs.TurnQueues.{Parts, one_quiet}
+use Rattle.pl_addresses.proofs.Turns.{InOrder}
+use Rattle.pl_addresses.specs.InOrder.{IsInOrder}
+use Rattle.pl_kept.specs.Kept.{Kept}
+use Rattle.pl_kept.proofs.Keeping.{step_keeps_all}
+use Rattle.pl_kept.proofs.Lawful.{run_lawful}
+
+-- ---- the beginning
+pub kept_at_first : (plan : Plan) (limits : Limits) → CanBegin plan → Kept (booted plan limits)
+kept_at_first plan limits can =
+    let order = boots_in_order plan limits can.is_plan in
+    record {
+      counted = booted_is_counted plan limits can;
+      hosts = hosts_at_first plan can.is_plan;
+      placed = placed_at_first plan limits can.is_plan;
+      voting = votes_at_first plan limits;
+      given = given_at_first plan limits;
+      addresses = record { addressed = order.addressed; own = order.own; once = order.once };
+    }
+
+-- ---- a mark grants nothing
+mark_quiet : (e : Entry) → IsMark e → IsQuietEntry e
+mark_quiet (Granted pmac host switch port) is = absurd is
+mark_quiet e is = λ x. refl
+
+mark_in_order : (w : WorldView) (e : Entry) → IsMark e → IsInOrder w → IsInOrder (noted w e)
+mark_in_order w e is o =
+    let n = subst (λ (p : Parts). InOrder [] p) (sym (one_quiet w e (mark_quiet e is)))
+    (record { addressed = o.addressed; own = o.own; since = λ s v found. absurd (none-some v found); once = o.once }) in
+    record { addressed = n.addressed; own = n.own; once = n.once }
+
+mark_keeps : (w : WorldView) (e : Entry) → IsMark e → Kept w → Kept (noted w e)
+mark_keeps w e is before = record {
+  counted = marked_counted w (noted w e) e is refl before.counted;
+  hosts = before.hosts;
+  placed = before.placed;
+  voting = before.voting;
+  given = before.given;
+  addresses = mark_in_order w e is before.addresses;
+}
+
+-- ---- a run
+module _ (host : HostRule) (sends : HostsSendData host) (owns : HostsSendOwn host) where
+  run_keeps : (old : WorldView) (moments : List Moment) (new : WorldView) → Kept old → WorldRun Loose manager_rule host old moments new → Kept new
+  run_keeps old [] new before same = subst Kept (sym same) before
+  run_keeps old (Step event ∷ moments) new before run =
+      run_keeps run.0 moments new (step_keeps_all host sends owns old event run.0 before run.1.0 run.1.1) run.2
+  run_keeps old (Mark entry ∷ moments) new before run =
+      run_keeps run.0 moments new (subst Kept (sym run.1.1) (mark_keeps old entry run.1.0 before)) run.2
+
+  pub lawful_run_keeps : (switch : SwitchRule) (manager : ManagerRule) → IsWithin switch Loose → IsManagerRule manager →
+      (old : WorldView) (moments : List Moment) (new : WorldView) → Kept old → WorldRun switch manager host old moments new → Kept new
+  lawful_run_keeps switch manager within lawful old moments new before run =
+      run_keeps old moments new before (run_lawful switch manager host within lawful old moments new run)

@@ -1,0 +1,7 @@
+use Rattle.pl_kept_courses.proofs.Courses.{settles_keeps}
+use Rattle.pl_kept_courses.proofs.Runs.{lawful_run_keeps}
+use Rattle.pl_kept_courses.proofs.course_laws.a_settling_keeps_all_of_it.Goals as goal
+
+pub returns : goal.returns
+returns g c = settles_keeps g.S.SwitchCore.rule g.M.ManagerCore.rule g.H.HostCore.rule
+    (lawful_run_keeps g.H.HostCore.rule g.met.H.HostCore.sends g.met.H.HostCore.owns g.S.SwitchCore.rule g.M.ManagerCore.rule g.met.S.LooseSwitch.obeys g.met.M.LawfulManager.lawful)

@@ -1,0 +1,14 @@
+use Rattle.pl_settled_laws.proofs.Runs.{run_current, run_links_current}
+use Rattle.pl_settled_laws.proofs.run_laws.records_are_current_in_every_settled_run.Goals as goal
+
+pub returns-clause-queues : goal.returns-clause-queues
+returns-clause-queues g c = λ plan limits moments new can run queues. (
+  run_current g.S.SwitchCore.rule g.M.ManagerCore.rule g.H.HostCore.rule g.met.S.LooseSwitch.obeys g.met.M.LawfulManager.lawful g.met.H.HostCore.sends g.met.H.HostCore.owns plan limits moments new can run queues,
+  run_links_current g.S.SwitchCore.rule g.M.ManagerCore.rule g.H.HostCore.rule g.met.S.LooseSwitch.obeys g.met.M.LawfulManager.lawful g.met.H.HostCore.sends g.met.H.HostCore.owns plan limits moments new can run queues,
+)
+
+pub returns-clause-settled : goal.returns-clause-settled
+returns-clause-settled g c = λ plan limits moments new can run settled. (
+  run_current g.S.SwitchCore.rule g.M.ManagerCore.rule g.H.HostCore.rule g.met.S.LooseSwitch.obeys g.met.M.LawfulManager.lawful g.met.H.HostCore.sends g.met.H.HostCore.owns plan limits moments new can run settled.queues,
+  run_links_current g.S.SwitchCore.rule g.M.ManagerCore.rule g.H.HostCore.rule g.met.S.LooseSwitch.obeys g.met.M.LawfulManager.lawful g.met.H.HostCore.sends g.met.H.HostCore.owns plan limits moments new can run settled.queues,
+)

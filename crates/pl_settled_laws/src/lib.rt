@@ -1,0 +1,15 @@
+//! Laws of a settled fabric: the manager's records are what the switches know now, and in a pod that lacks no
+//! link each edge switch has a position.
+#![tactic(auto)]
+
+pub use run_laws::{
+    edge_switches_have_positions_in_every_settled_run, records_are_current_in_every_settled_run,
+};
+pub use settled_laws::{
+    a_settled_pod_is_at_rest, edge_switches_of_a_settled_pod_have_positions,
+    one_of_a_settled_pod_has_position_0, records_are_current_where_queues_are_settled,
+    settled_queues_are_at_rest,
+};
+
+mod run_laws;
+mod settled_laws;

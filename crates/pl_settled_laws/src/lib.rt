@@ -3,7 +3,8 @@
 #![tactic(auto)]
 
 pub use run_laws::{
-    edge_switches_have_positions_in_every_settled_run, records_are_current_in_every_settled_run,
+    records_are_current_in_every_run_where_queues_are_settled,
+    settled_runs_have_current_records_and_positions,
 };
 pub use settled_laws::{
     a_settled_pod_is_at_rest, edge_switches_of_a_settled_pod_have_positions,

@@ -20,24 +20,28 @@ use pl_switch_rule::LooseSwitch;
 
 /// In each run of lawful cores from the beginning, wherever the queues are settled, the manager's records are
 /// what the switches would tell now, of places, members and links, and each switch holds the avoid list and
-/// the tree parts of the records; so it is in a settled fabric.
-pub fn records_are_current_in_every_settled_run<S: LooseSwitch, M: LawfulManager, H: HostCore>()
-    ensures queues { (plan : Plan) (limits : Limits) (moments : List Moment) (new : WorldView) → CanBegin plan →
-        WorldRun S.rule M.rule H.rule (booted plan limits) moments new → HasSettledQueues new →
-        AreCurrent (control_plane new) × LinksAreCurrent (control_plane new) }
-    ensures settled { (plan : Plan) (limits : Limits) (moments : List Moment) (new : WorldView) → CanBegin plan →
-        WorldRun S.rule M.rule H.rule (booted plan limits) moments new → IsSettled new →
-        AreCurrent (control_plane new) × LinksAreCurrent (control_plane new) }
-{}
-
-/// In each such run of fewer steps than the largest attempt, where the fabric is settled, each edge switch
-/// that knows its level, of a pod that lacks no link, has a position; and if there is one, one of the pod has
-/// position 0.
-pub fn edge_switches_have_positions_in_every_settled_run<
+/// the tree parts of the records.
+pub fn records_are_current_in_every_run_where_queues_are_settled<
     S: LooseSwitch,
     M: LawfulManager,
     H: HostCore,
 >()
+    ensures { (plan : Plan) (limits : Limits) (moments : List Moment) (new : WorldView) → CanBegin plan →
+        WorldRun S.rule M.rule H.rule (booted plan limits) moments new → HasSettledQueues new →
+        AreCurrent (control_plane new) × LinksAreCurrent (control_plane new) }
+{}
+
+/// So it is in each such run where the fabric is settled. And as long as there were fewer steps than the
+/// largest attempt, each edge switch there that knows its level, of a pod that lacks no link, has a position;
+/// and if there is one, one of the pod has position 0.
+pub fn settled_runs_have_current_records_and_positions<
+    S: LooseSwitch,
+    M: LawfulManager,
+    H: HostCore,
+>()
+    ensures records { (plan : Plan) (limits : Limits) (moments : List Moment) (new : WorldView) → CanBegin plan →
+        WorldRun S.rule M.rule H.rule (booted plan limits) moments new → IsSettled new →
+        AreCurrent (control_plane new) × LinksAreCurrent (control_plane new) }
     ensures positions { (plan : Plan) (limits : Limits) (moments : List Moment) (new : WorldView) → CanBegin plan →
         WorldRun S.rule M.rule H.rule (booted plan limits) moments new → IsSettled new → new.steps < 4294967295 →
         (pod : ℕ) → IsWholePod new pod → HavePositions (control_plane new) pod }

@@ -1,0 +1,52 @@
+-- What holds of each moment of a run of lawful cores from the beginning, and what it comes to where the fabric is settled.
+use Rattle.std.proofs.Common.{◌≡◌, ◌<◌, ℕ, List, Some}
+use Rattle.pl_wiring.specs.declared.label.Label.TheVariants.{Edge}
+use Rattle.pl_wiring.specs.Labels.{IsLabel}
+use Rattle.pl_wiring.specs.Plan.{Plan}
+use Rattle.pl_core.specs.Accounting.{IsWithin}
+use Rattle.pl_core.specs.HostDuties.{HostsSendData, HostsSendOwn}
+use Rattle.pl_core.specs.HostInputs.{HostRule}
+use Rattle.pl_core.specs.ManagerDuties.{ManagerRule}
+use Rattle.pl_core.specs.SwitchInputs.{SwitchRule}
+use Rattle.pl_manager_rule.specs.Lawful.{IsManagerRule}
+use Rattle.pl_manager_rule.specs.ManagerRule.{manager_rule}
+use Rattle.pl_switch_rule.specs.SwitchRule.{Loose}
+use Rattle.pl_world.specs.declared.limits.Limits.{Limits}
+use Rattle.pl_world.specs.Booting.{CanBegin, booted}
+use Rattle.pl_world.specs.Runs.{Moment, WorldRun}
+use Rattle.pl_world.specs.SettledQueues.{HasSettledQueues}
+use Rattle.pl_world.specs.Worlds.{WorldView}
+use Rattle.pl_fabric.specs.Settled.{IsSettled}
+use Rattle.pl_control_plane.specs.ControlPlanes.{control_plane}
+use Rattle.pl_votes.specs.Voting.{edge_no}
+use Rattle.pl_kept.proofs.Keeping.{run_keeps_all}
+use Rattle.pl_kept.proofs.Lawful.{run_lawful}
+use Rattle.pl_records.specs.Records.{AreCurrent, LinksAreCurrent}
+use Rattle.pl_records.proofs.LinkRuns.{run_links}
+use Rattle.pl_records.proofs.Running.{run_ordered, run_reported}
+use Rattle.pl_placing.specs.Resting.{HasFirst, HavePositions}
+use Rattle.pl_placing.proofs.Runs.{run_places}
+use Rattle.pl_settled_laws.specs.Whole.{IsWholePod}
+use Rattle.pl_settled_laws.proofs.Pods.{settled_first, settled_positions}
+use Rattle.pl_settled_laws.proofs.Records.{are_current, links_current}
+
+module _ (switch : SwitchRule) (manager : ManagerRule) (host : HostRule) (within : IsWithin switch Loose) (lawful : IsManagerRule manager)
+    (sends : HostsSendData host) (owns : HostsSendOwn host) (plan : Plan) (limits : Limits) (moments : List Moment) (new : WorldView) (can : CanBegin plan)
+    (run : WorldRun switch manager host (booted plan limits) moments new) where
+  loose : WorldRun Loose manager_rule host (booted plan limits) moments new
+  loose = run_lawful switch manager host within lawful (booted plan limits) moments new run
+
+  pub run_current : HasSettledQueues new → AreCurrent (control_plane new)
+  run_current queues = are_current new (run_reported host sends plan limits moments new can loose) (run_ordered host sends plan limits moments new can loose) queues
+
+  pub run_links_current : HasSettledQueues new → LinksAreCurrent (control_plane new)
+  run_links_current queues = links_current new (run_links host sends owns plan limits moments new can loose) queues
+
+  pub run_positions : IsSettled new → new.steps < 4294967295 → (pod : ℕ) → IsWholePod new pod → HavePositions (control_plane new) pod
+  run_positions settled few pod whole =
+      settled_positions new (run_keeps_all host sends owns plan limits moments new can loose) settled (run_places host sends owns plan limits moments new can loose) few pod whole
+
+  pub run_first : IsSettled new → new.steps < 4294967295 → (pod : ℕ) → IsWholePod new pod → (i : ℕ) → IsLabel new.plan.k (Edge pod i) →
+      ((control_plane new).view (edge_no new.plan.k pod i)).place.level ≡ Some 0 → HasFirst (control_plane new) pod
+  run_first settled few pod whole i edge level =
+      settled_first new (run_keeps_all host sends owns plan limits moments new can loose) settled (run_places host sends owns plan limits moments new can loose) few pod whole i edge level

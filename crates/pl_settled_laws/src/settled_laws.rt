@@ -1,0 +1,45 @@
+ghost use Rattle.std.specs.Prelude.{◌≡◌, ◌<◌, ℕ, Some};
+ghost use Rattle.pl_wiring.specs.declared.label.Label.TheVariants.{Edge};
+ghost use Rattle.pl_wiring.specs.Labels.{IsLabel};
+ghost use Rattle.pl_world.specs.SettledQueues.{HasSettledQueues};
+ghost use Rattle.pl_world.specs.Worlds.{WorldView};
+ghost use Rattle.pl_fabric.specs.Settled.{IsSettled};
+ghost use Rattle.pl_control_plane.specs.ControlPlanes.{control_plane};
+ghost use Rattle.pl_votes.specs.Voting.{edge_no};
+ghost use Rattle.pl_kept.specs.Kept.{Kept};
+ghost use Rattle.pl_records.specs.Records.{AreCurrent, HaveOrders, HaveReported, HaveToldLinks, IsAtRest, LinksAreCurrent};
+ghost use Rattle.pl_placing.specs.Placing.{ArePlacing};
+ghost use Rattle.pl_placing.specs.Resting.{HasFirst, HavePositions, IsRestingPod};
+ghost use Rattle.pl_settled_laws.specs.Whole.{IsWholePod};
+
+/// Where the queues are settled, as they are in a settled fabric, no report and no order waits.
+pub fn settled_queues_are_at_rest()
+    ensures queues { (w : WorldView) → HasSettledQueues w → IsAtRest (control_plane w) }
+    ensures settled { (w : WorldView) → IsSettled w → IsAtRest (control_plane w) }
+{}
+
+/// So the manager's records are what the switches would tell now, of places, members and links, and each
+/// switch holds the avoid list and the tree parts of the records.
+pub fn records_are_current_where_queues_are_settled()
+    ensures places { (w : WorldView) → HaveReported (control_plane w) → HaveOrders (control_plane w) → HasSettledQueues w → AreCurrent (control_plane w) }
+    ensures links { (w : WorldView) → HaveToldLinks (control_plane w) → HasSettledQueues w → LinksAreCurrent (control_plane w) }
+{}
+
+/// A pod that lacks no link is at rest in a settled fabric, as long as the number of steps is below the
+/// largest attempt.
+pub fn a_settled_pod_is_at_rest()
+    ensures { (w : WorldView) → Kept w → ArePlacing w → IsSettled w → w.steps < 4294967295 → (pod : ℕ) → IsWholePod w pod →
+        IsRestingPod (control_plane w) pod }
+{}
+
+/// So each edge switch of it that knows its level has a position.
+pub fn edge_switches_of_a_settled_pod_have_positions()
+    ensures { (w : WorldView) → Kept w → ArePlacing w → IsSettled w → w.steps < 4294967295 → (pod : ℕ) → IsWholePod w pod →
+        HavePositions (control_plane w) pod }
+{}
+
+/// If there is such an edge switch, one of the pod has position 0.
+pub fn one_of_a_settled_pod_has_position_0()
+    ensures { (w : WorldView) → Kept w → ArePlacing w → IsSettled w → w.steps < 4294967295 → (pod : ℕ) → IsWholePod w pod →
+        (i : ℕ) → IsLabel w.plan.k (Edge pod i) → ((control_plane w).view (edge_no w.plan.k pod i)).place.level ≡ Some 0 → HasFirst (control_plane w) pod }
+{}

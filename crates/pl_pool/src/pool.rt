@@ -4,7 +4,7 @@ ghost use Rattle.pl_pool.specs.Pool.{HaveOwnKeys, IsFirst, IsFree, first_key, ha
 
 use crate::links::{Ends, Node};
 use crate::nodes::{is_in, item_of, make_room, next_in, one_more, put_last, take_out, to_back};
-use crate::{Bag, Key, Memory};
+use crate::{Key, Memory};
 use slab::Slab;
 use std::alloc::Global;
 use std::marker::Model;
@@ -181,28 +181,19 @@ impl<T> Pool<T> {
         true
     }
 
-    /// Takes all items of a list, the first one first, and puts them behind those of the bag.
-    pub fn clear_into(&mut self, list: u32, to: &mut Bag<T>) -> Result<(), Memory>
+    /// Takes all items of a list, the first one first, and puts them behind those that are there.
+    pub fn clear_into(&mut self, list: u32, to: &mut Vec<T>) -> Result<(), Memory>
         requires { list < length self.old.lists }
-        ensures items { OnOk result (to.new ≡ to.old ++ items_of (list_at self.old list)) }
+        ensures items { OnOk result (to.new.items ≡ to.old.items ++ items_of (list_at self.old list)) }
         ensures left { OnOk result (self.new ≡ record { lists = slice_set self.old.lists list []; spare = self.old.spare + length (list_at self.old list) }) }
-        ensures err { OnErr result ((self.new ≡ self.old) × (to.new ≡ to.old)) }
+        ensures err { OnErr result ((self.new ≡ self.old) × (to.new.items ≡ to.old.items)) }
     {
-        empty_into(self, list, &mut to.items)
+        to.reserve(self.len(list))?;
+        while let Some(item) = self.pop_front(list) {
+            to.push_reserved(item);
+        }
+        Ok(())
     }
-}
-
-fn empty_into<T>(pool: &mut Pool<T>, list: u32, to: &mut Vec<T>) -> Result<(), Memory>
-    requires { list < length pool.old.lists }
-    ensures items { OnOk result (to.new.items ≡ to.old.items ++ items_of (list_at pool.old list)) }
-    ensures left { OnOk result (pool.new ≡ record { lists = slice_set pool.old.lists list []; spare = pool.old.spare + length (list_at pool.old list) }) }
-    ensures err { OnErr result ((pool.new ≡ pool.old) × (to.new.items ≡ to.old.items)) }
-{
-    to.reserve(pool.len(list))?;
-    while let Some(item) = pool.pop_front(list) {
-        to.push_reserved(item);
-    }
-    Ok(())
 }
 
 #[cfg(test)]

@@ -17,9 +17,9 @@ fn an_item_leaves_by_its_key_and_another_goes_to_the_end(rt: HostRuntime) -> Res
     assert_eq!(rt; pool.pop_front(0), Some(3));
     assert_eq!(rt; pool.pop_front(0), Some(1));
     assert_eq!(rt; pool.pop_front(0), None);
-    let mut bag = Bag::new(rt.alloc());
-    pool.clear_into(1, &mut bag)?;
-    assert!(rt; bag.is_empty());
+    let mut taken = Vec::new(rt.alloc());
+    pool.clear_into(1, &mut taken)?;
+    assert!(rt; taken.is_empty());
     Ok(())
 }
 
@@ -32,10 +32,10 @@ fn a_push_after_a_reserve_is_not_refused(rt: HostRuntime) -> Result<(), Fail> {
     assert!(rt; pool.push_back(2, 3).is_ok());
     assert!(rt; pool.push_back(1, 4).is_ok());
     assert_eq!(rt; pool.spare(), 0);
-    let mut bag = Bag::new(rt.alloc());
-    pool.clear_into(2, &mut bag)?;
-    assert_eq!(rt; bag.get(0), Some(&1));
-    assert_eq!(rt; bag.get(1), Some(&3));
+    let mut taken = Vec::new(rt.alloc());
+    pool.clear_into(2, &mut taken)?;
+    assert_eq!(rt; taken.get(0), Some(&1));
+    assert_eq!(rt; taken.get(1), Some(&3));
     assert_eq!(rt; pool.spare(), 2);
     Ok(())
 }

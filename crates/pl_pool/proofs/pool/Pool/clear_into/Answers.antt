@@ -1,11 +1,11 @@
 use Rattle.std.proofs.Common.{◌++◌, ap, ◌∙◌, arith}
 use Rattle.pl_pool.specs.Pool.{items_of, list_at}
 use Rattle.pl_pool.proofs.Views.{still_told, still_left, one_shorter, one_spare, same_many}
-use Rattle.pl_pool.proofs.pool.empty_into.Goals as goal
+use Rattle.pl_pool.proofs.pool.Pool.clear_into.Goals as goal
 
 pub loop-item-preserved : goal.loop-item-preserved
 loop-item-preserved g c =
-    let v = c.loop-item.pool in
+    let v = c.loop-item.self in
     let w = c.pop_front.new.self in
     let taken = c.in-Some.ensures in
     let shorter = one_shorter v w c.args.list c.in-Some.item taken.0 taken.1 in

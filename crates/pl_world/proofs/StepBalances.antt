@@ -119,7 +119,7 @@ counted w s = record {
 }
 
 -- another view of a switch, or of a host
-switches_rest : (w : WorldView) (s : ℕ) (v : SwitchView) → v.k ≡ w.plan.k → IsShaped v → HasRest w → HasRest (record w { switches = set w.switches s v })
+pub switches_rest : (w : WorldView) (s : ℕ) (v : SwitchView) → v.k ≡ w.plan.k → IsShaped v → HasRest w → HasRest (record w { switches = set w.switches s v })
 switches_rest w s v size is r = record {
   is_plan = r.is_plan;
   made_for = r.made_for;
@@ -135,7 +135,7 @@ switches_rest w s v size is r = record {
   holding = r.holding;
 }
 
-hosts_rest : (w : WorldView) (h : ℕ) (v : HostView) → HoldsData v → HasRest w → HasRest (record w { hosts = set w.hosts h v })
+pub hosts_rest : (w : WorldView) (h : ℕ) (v : HostView) → HoldsData v → HasRest w → HasRest (record w { hosts = set w.hosts h v })
 hosts_rest w h v is r = record {
   is_plan = r.is_plan;
   made_for = r.made_for;
@@ -151,7 +151,7 @@ hosts_rest w h v is r = record {
   holding = all_set HoldsData w.hosts h v is r.holding;
 }
 
-heard_rest : (w : WorldView) (heard : List (Option ℕ)) → length heard ≡ length w.heard → HasRest w → HasRest (record w { heard = heard })
+pub heard_rest : (w : WorldView) (heard : List (Option ℕ)) → length heard ≡ length w.heard → HasRest w → HasRest (record w { heard = heard })
 heard_rest w heard same r = record {
   is_plan = r.is_plan;
   made_for = r.made_for;
@@ -167,7 +167,7 @@ heard_rest w heard same r = record {
   holding = r.holding;
 }
 
-stands_rest : (w : WorldView) (h : ℕ) (stand : Stand) → IsAtPort w.plan.k stand → HasRest w → HasRest (record w { stands = set w.stands h stand })
+pub stands_rest : (w : WorldView) (h : ℕ) (stand : Stand) → IsAtPort w.plan.k stand → HasRest w → HasRest (record w { stands = set w.stands h stand })
 stands_rest w h stand is r = record {
   is_plan = r.is_plan;
   made_for = r.made_for;
@@ -225,12 +225,12 @@ switch_turn rule accounts w s input speech new same can owes r turn =
     let done = all_acts_steady s k w1 speech turn.before.place turn.after.place turn.acts kept.fit said start in
     subst Sound (sym turn.changed) (record { balance = done.balance; rest = done.rest })
 
-is_false : (b : Bool) → not b ≡ true → b ≡ false
+pub is_false : (b : Bool) → not b ≡ true → b ≡ false
 is_false true h = absurd (cc)
 is_false false h = refl
 
 -- a data frame of a host
-data_is_frame : (frame : List ℕ) → IsTrue (is_data frame) → IsFrame false frame
+pub data_is_frame : (frame : List ℕ) → IsTrue (is_data frame) → IsFrame false frame
 data_is_frame frame is =
     let outer = and_parts (nat_le 14 (length frame) && nat_le (length frame) 65553) (not (is_control frame)) is in
     let inner = and_parts (nat_le 14 (length frame)) (nat_le (length frame) 65553) outer.0 in
@@ -239,7 +239,7 @@ data_is_frame frame is =
       whole = record { low = leb-true 14 (length frame) inner.0; high = leb-true (length frame) 65553 inner.1 };
     }
 
-host_act : (w : WorldView) (h : ℕ) (a : HostAct) → h < length w.from_hosts → IsTrue (is_data (sent_by a)) → Sound w → Sound (host_act_done h w a)
+pub host_act : (w : WorldView) (h : ℕ) (a : HostAct) → h < length w.from_hosts → IsTrue (is_data (sent_by a)) → Sound w → Sound (host_act_done h w a)
 host_act w h (Send frame) within is s = record {
   balance =
       put_host_balance w.plan w.from_hosts w.out (w.journal ++ Sent (w.begun + 1) (host_no h) frame ∷ []) (w.begun + 1) (one (w.begun + 1)) (λ id. 0) h
@@ -249,7 +249,7 @@ host_act w h (Send frame) within is s = record {
   rest = s.rest;
 }
 
-hosts_within : (w : WorldView) (h : ℕ) (a : HostAct) → h < length w.from_hosts → h < length (host_act_done h w a).from_hosts
+pub hosts_within : (w : WorldView) (h : ℕ) (a : HostAct) → h < length w.from_hosts → h < length (host_act_done h w a).from_hosts
 hosts_within w h (Send frame) within = rw length-set within
 
 host_acts : (w : WorldView) (h : ℕ) (acts : List HostAct) → h < length w.from_hosts → IsTrue (are_data (map sent_by acts)) → Sound w → Sound (fold (host_act_done h) w acts)
@@ -446,7 +446,7 @@ module _ (switch : SwitchRule) (host : HostRule) (accounts : AccountsForFrames s
         rest = heard_rest (record w { stands = set w.stands h to }) _ (length-set w.heard h _) (stands_rest w h to there s.rest);
       }) turn
 
-found_contained : (p : Link → Bool) (links : List Link) (link : Link) → find p links ≡ Some link → Contains links link
+pub found_contained : (p : Link → Bool) (links : List Link) (link : Link) → find p links ≡ Some link → Contains links link
 found_contained p [] link is = absurd (cc)
 found_contained p (l ∷ links) link is = by_first (p l) (found_contained p links link) is
   where
@@ -454,10 +454,10 @@ found_contained p (l ∷ links) link is = by_first (p l) (found_contained p link
     by_first true later e = (zero, omega arith, cc)
     by_first false later e = let there = later e in (suc there.0, omega (arith, there.1), there.2)
 
-link_set : (w : WorldView) (link : Link) (live : Bool) → Contains w.plan.links link → HasRest w → HasRest (record w { links = with_link w.links link live })
+pub link_set : (w : WorldView) (link : Link) (live : Bool) → Contains w.plan.links link → HasRest w → HasRest (record w { links = with_link w.links link live })
 link_set w link live there r = links_rest w (with_link w.links link live) (made_for_changed w.plan w.links link live r.is_plan.tree r.made_for there) r
 
-fails : (w : WorldView) (a b : ℕ) (link : Option Link) (new : WorldView) → link_between w.plan a b ≡ link → Sound w → Fails w link new → Sound new
+pub fails : (w : WorldView) (a b : ℕ) (link : Option Link) (new : WorldView) → link_between w.plan a b ≡ link → Sound w → Fails w link new → Sound new
 fails w a b None new found s is = absurd is
 fails w a b (Some link) new found s is = subst Sound (sym is) (record {
   balance = emptied_out_balance w.plan w.from_hosts _ _ w.begun (λ id. 0) cause.LinkDown (port_index w.plan.k link.upper.0 link.upper_port)

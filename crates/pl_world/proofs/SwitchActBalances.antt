@@ -116,7 +116,7 @@ pub record Steady (s k : ℕ) (w : WorldView) (speech : Speech) (late : List Ent
   pub balance : Owes w (λ id. owed_by speech id + ends late id)
   pub rest : HasRest w
 
-abbrev IsSteady : ℕ → ℕ → Doing → Type 0
+abbrev pub IsSteady : ℕ → ℕ → Doing → Type 0
 IsSteady s k d = Steady s k d.world d.speech d.late
 
 module _ (s k : ℕ) (w : WorldView) where
@@ -280,7 +280,7 @@ wrong_is_not_said : (acts : List Act) → is_said (fold speech_after Wrong acts)
 wrong_is_not_said [] = refl
 wrong_is_not_said (a ∷ acts) = rw (wrong_stays a) (wrong_is_not_said acts)
 
-said_is_legal : (said : Said) (acts : List Act) → is_said (fold speech_after said acts) ≡ true → IsLegal said
+pub said_is_legal : (said : Said) (acts : List Act) → is_said (fold speech_after said acts) ≡ true → IsLegal said
 said_is_legal SaidNone acts h = tt
 said_is_legal SaidWaiting acts h = tt
 said_is_legal SaidRedirected acts h = tt
@@ -289,7 +289,7 @@ said_is_legal SaidEnded acts h = tt
 said_is_legal Wrong acts h = let never = wrong_is_not_said acts in absurd (cc)
 
 -- one act
-act_steady : (s k : ℕ) (w : WorldView) (speech : Speech) (late : List Entry) (a : Act) → IsFit k a → IsLegal (speech_after (said_by speech) a) →
+pub act_steady : (s k : ℕ) (w : WorldView) (speech : Speech) (late : List Entry) (a : Act) → IsFit k a → IsLegal (speech_after (said_by speech) a) →
     Steady s k w speech late → IsSteady s k (act_done s (amid w speech late) a)
 act_steady s k w Silent late (act.Control port frame) fit legal st = control_steady s k w Silent late port frame fit st
 act_steady s k w Silent late (act.Tell told) fit legal st = tell_steady s k w Silent late told st
@@ -331,7 +331,7 @@ act_steady s k w Over late act.Take fit legal st = absurd legal
 act_steady s k w Over late (act.Drop cause) fit legal st = absurd legal
 
 -- and what is said by then
-act_said : (s : ℕ) (w : WorldView) (speech : Speech) (late : List Entry) (a : Act) → IsLegal (speech_after (said_by speech) a) →
+pub act_said : (s : ℕ) (w : WorldView) (speech : Speech) (late : List Entry) (a : Act) → IsLegal (speech_after (said_by speech) a) →
     said_by (act_done s (amid w speech late) a).speech ≡ speech_after (said_by speech) a
 act_said s w Silent late (act.Control port frame) legal = refl
 act_said s w Silent late (act.Tell told) legal = refl
@@ -385,7 +385,7 @@ acts_steady s k w speech late (a ∷ acts) fits said st =
     let same : said_by next.speech ≡ speech_after (said_by speech) a = act_said s w speech late a legal in
     acts_steady s k next.world next.speech next.late acts fits.1 (rw same said) (act_steady s k w speech late a fits.0 legal st)
 
-owes_nothing : (speech : Speech) → is_said (said_by speech) ≡ true → (id : ℕ) → owed_by speech id ≡ 0
+pub owes_nothing : (speech : Speech) → is_said (said_by speech) ≡ true → (id : ℕ) → owed_by speech id ≡ 0
 owes_nothing Silent said id = refl
 owes_nothing (Waiting number false) said id = absurd (cc)
 owes_nothing (Waiting number true) said id = absurd (cc)

@@ -6,3 +6,5 @@ pub mod LinkFound
 pub mod Sums
 pub mod Stale
 pub mod Switching
+mod SameSaid
+mod StaleCounts

@@ -73,12 +73,18 @@ module _ (k : ℕ) (switches : List SwitchView) (out : List (List Item)) (s port
       ap (λ n. stale_in (slice_get switches s) port (items_at out n)) place in
       omega (arith, one, mine, here)
 
-slice_get-set_other : (xs : List SwitchView) (n m : ℕ) (x : SwitchView) → (m ≡ n → ⊥) → slice_get (slice_set xs n x) m ≡ slice_get xs m
-slice_get-set_other [] n m x apart = refl
-slice_get-set_other (y ∷ xs) zero zero x apart = absurd (apart refl)
-slice_get-set_other (y ∷ xs) zero (suc m) x apart = refl
-slice_get-set_other (y ∷ xs) (suc n) zero x apart = refl
-slice_get-set_other (y ∷ xs) (suc n) (suc m) x apart = slice_get-set_other xs n m x (λ e. apart (ap suc e))
+module _ {X : Type 0} where
+  pub slice_get-set_other : (xs : List X) (n m : ℕ) (x : X) → (m ≡ n → ⊥) → slice_get (slice_set xs n x) m ≡ slice_get xs m
+  slice_get-set_other [] n m x apart = refl
+  slice_get-set_other (y ∷ xs) zero zero x apart = absurd (apart refl)
+  slice_get-set_other (y ∷ xs) zero (suc m) x apart = refl
+  slice_get-set_other (y ∷ xs) (suc n) zero x apart = refl
+  slice_get-set_other (y ∷ xs) (suc n) (suc m) x apart = slice_get-set_other xs n m x (λ e. apart (ap suc e))
+
+  pub slice_get-set_same : (xs : List X) (n : ℕ) (x : X) → n < length xs → slice_get (slice_set xs n x) n ≡ Some x
+  slice_get-set_same [] n x within = absurd (omega (arith, within))
+  slice_get-set_same (y ∷ xs) zero x within = refl
+  slice_get-set_same (y ∷ xs) (suc n) x within = slice_get-set_same xs n x (omega (arith, within))
 
 module _ (k : ℕ) (old : List SwitchView) (out : List (List Item)) (s : ℕ) where
   -- a switch has another view
@@ -105,7 +111,7 @@ unfolding is_stale
 stale_counts v port (Control frame) = one_at_most (not (is_announced v port frame))
 stale_counts v port (Data id frame) = omega arith
 
-stale_in_le : (v : Option SwitchView) (port : ℕ) (items : List Item) → stale_in v port items ≤ count_by is_control_item items
+pub stale_in_le : (v : Option SwitchView) (port : ℕ) (items : List Item) → stale_in v port items ≤ count_by is_control_item items
 stale_in_le None port items = omega arith
 stale_in_le (Some v) port items =
     sum_by-le-sum_by (λ item. cond (is_stale v port item) 1 0) (λ item. cond (is_control_item item) 1 0) items (stale_counts v port)
@@ -115,28 +121,38 @@ module _ (k : ℕ) (out : List (List Item)) where
   abbrev before : ℕ → ℕ
   before n = sum_by (count_by is_control_item) (take n out)
 
+  -- a number for each port of a switch, each no more than count in the queue there
+  module _ (part : ℕ → ℕ) (s : ℕ) where
+    parts_le : (q : ℕ) → ((p : ℕ) → p < q → part p ≤ count_by is_control_item (items_at out (port_index k s p))) →
+        port_index k s q ≤ length out → before (s * k) + sum_from part 0 q ≤ before (port_index k s q)
+    parts_le zero each within =
+        let here : before (port_index k s 0) ≡ before (s * k) = ap before (omega arith) in
+        omega (arith, here)
+    parts_le (suc q) each within =
+        let less = parts_le q (λ p low. each p (omega (arith, low))) (omega (arith, within)) in
+        let last = sum_last part q in
+        let more : before (port_index k s q + 1) ≡ before (port_index k s q) + count_by is_control_item (items_at out (port_index k s q)) =
+        sum_by_more (count_by is_control_item) out (port_index k s q) [] (omega (arith, within)) in
+        let here : before (port_index k s (suc q)) ≡ before (port_index k s q + 1) = ap before (omega arith) in
+        let fits : part q ≤ count_by is_control_item (items_at out (port_index k s q)) = each q (omega arith) in
+        omega (arith, less, last, more, here, fits)
+
+    pub parts_fit : (q : ℕ) → ((p : ℕ) → p < q → part p ≤ count_by is_control_item (items_at out (port_index k s p))) →
+        port_index k s q ≤ length out → sum_from part 0 q ≤ counted_in is_control_item out
+    parts_fit q each within =
+        let less = parts_le q each within in
+        let all : before (port_index k s q) ≤ counted_in is_control_item out = sum_by-take-le (count_by is_control_item) out (port_index k s q) in
+        omega (arith, less, all)
+
   module _ (v : Option SwitchView) (s : ℕ) where
     abbrev pub port_part : ℕ → ℕ
     port_part q = stale_in v q (items_at out (port_index k s q))
 
     ports_le : (q : ℕ) → port_index k s q ≤ length out → before (s * k) + sum_from port_part 0 q ≤ before (port_index k s q)
-    ports_le zero within =
-        let here : before (port_index k s 0) ≡ before (s * k) = ap before (omega arith) in
-        omega (arith, here)
-    ports_le (suc q) within =
-        let less = ports_le q (omega (arith, within)) in
-        let last = sum_last port_part q in
-        let more : before (port_index k s q + 1) ≡ before (port_index k s q) + count_by is_control_item (items_at out (port_index k s q)) =
-        sum_by_more (count_by is_control_item) out (port_index k s q) [] (omega (arith, within)) in
-        let here : before (port_index k s (suc q)) ≡ before (port_index k s q + 1) = ap before (omega arith) in
-        let fits : port_part q ≤ count_by is_control_item (items_at out (port_index k s q)) = stale_in_le v q (items_at out (port_index k s q)) in
-        omega (arith, less, last, more, here, fits)
+    ports_le q within = parts_le port_part s q (λ p low. stale_in_le v p (items_at out (port_index k s p))) within
 
     pub ports_fit : (q : ℕ) → port_index k s q ≤ length out → sum_from port_part 0 q ≤ counted_in is_control_item out
-    ports_fit q within =
-        let less = ports_le q within in
-        let part : before (port_index k s q) ≤ counted_in is_control_item out = sum_by-take-le (count_by is_control_item) out (port_index k s q) in
-        omega (arith, less, part)
+    ports_fit q within = parts_fit port_part s q (λ p low. stale_in_le v p (items_at out (port_index k s p))) within
 
   switches_le : (switches : List SwitchView) (n : ℕ) → n * k ≤ length out → sum_from (stale_at k switches out) 0 n ≤ before (n * k)
   switches_le switches zero within = omega arith

@@ -79,19 +79,6 @@ module _ (k : ℕ) (switches : List SwitchView) (out : List (List Item)) where
         let here : ◌≡◌ {A = ℕ} (cond b 1 0) (cond (is_stale v port item) 1 0) = ap (λ c. cond c 1 0) is in
         keeps_with new (items_at out at ++ item ∷ []) (kept + more) same (omega (arith, push, one, here))
 
-    pub whole_le : (queue : List Item) (less : ℕ) → queue ≡ items_at out at → less ≡ count_by (is_stale v port) queue → less ≤ kept
-    whole_le queue less whole is =
-        let fits = line_le in
-        let here : count_by (is_stale v port) queue ≡ count_by (is_stale v port) (items_at out at) = ap (count_by (is_stale v port)) whole in
-        omega (arith, fits, here, is)
-
-    pub keeps_take_all : (new : List (List Item)) (queue : List Item) (less : ℕ) → queue ≡ items_at out at → new ≡ slice_set out at [] →
-        less ≡ count_by (is_stale v port) queue → KeepsStale (all_switches k switches new) (kept - less)
-    keeps_take_all new queue less whole same is =
-        let fits = line_le in
-        let here : count_by (is_stale v port) queue ≡ count_by (is_stale v port) (items_at out at) = ap (count_by (is_stale v port)) whole in
-        keeps_with new [] (kept - less) same (omega (arith, fits, here, is))
-
     abbrev pub IsTaken : List (List Item) → Option Item → Type 0
     IsTaken new taken = MatchOption taken ((items_at out at ≡ []) × (new ≡ out)) (λ x. (items_at out at ≡ x ∷ items_at new at) × (new ≡ slice_set out at (items_at new at)))
 
@@ -117,13 +104,6 @@ module _ (k : ℕ) (switches : List SwitchView) (out : List (List Item)) where
         let fits = line_le in
         let head = one_more x (items_at new at) h.0 in
         keeps_with new (items_at new at) (kept - less) h.1 (omega (arith, fits, head, is))
-
-  pub switch_none : (s : ℕ) → HasQueues (all_switches k switches out) → s < length switches → counted_in is_control_item out ≡ 0 →
-      0 ≡ stale_at k switches out s
-  switch_none s has low none =
-      let one = switch_le k switches out s low in
-      let fits = stale_fits k out switches has.queues in
-      omega (arith, one, fits, none)
 
   -- a switch steps, and what was and what is stale in its queues is counted
   module _ (s kept first last : ℕ) (new : List SwitchView) (keeps : KeepsStale (all_switches k switches out) kept) (low : s < length switches)

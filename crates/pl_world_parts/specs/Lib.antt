@@ -1,3 +1,4 @@
 pub mod OneStep
 pub mod Atlas
 pub mod Stands
+pub mod StaleCounts

@@ -18,6 +18,7 @@ mod counting;
 mod incoming;
 mod links;
 mod one_step;
+mod said;
 mod stands;
 mod switches;
 mod urge;

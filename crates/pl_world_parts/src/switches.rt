@@ -1,58 +1,72 @@
-ghost use Rattle.std.specs.Prelude.{◌≡◌, ◌<◌, ◌≤◌, ◌*◌, ◌∷◌, [], cond, count_by, length, map, option_to_list, replicate, slice_get, slice_set, vec_len, IfOk, MatchOption, OnErr, OnOk, Some};
+ghost use Rattle.std.specs.Prelude.{◌≡◌, ◌<◌, ◌≤◌, ◌*◌, ◌∷◌, ℕ, [], cond, count_by, length, map, option_to_list, replicate, slice_get, slice_index_or, slice_set, sum_by, vec_len, IfOk, IfSome, MatchOption, OnErr, OnOk, Some};
 ghost use Rattle.std.specs.List.{AllByRecursion};
 ghost use Rattle.pl_wiring.specs.Index.{port_index};
 ghost use Rattle.pl_core.specs.Accounting.{CanCome};
 ghost use Rattle.pl_core.specs.Gains.{Gains};
+ghost use Rattle.pl_core.specs.PortRecords.{ports_of_switch};
 ghost use Rattle.pl_core.specs.SwitchViews.{SwitchView};
 ghost use Rattle.pl_queues.specs.Counts.{most};
 ghost use Rattle.pl_queues.specs.Queues.{items_at, put_at};
 ghost use Rattle.pl_world_parts.specs.OneStep.{SwitchSteps, input_from, sizes};
-ghost use Rattle.pl_world.specs.Pending.{HasQueues, is_stale, stale, stale_at, stale_at_ports};
+ghost use Rattle.pl_world_parts.specs.StaleCounts.{is_stale_under};
+ghost use Rattle.pl_world.specs.Pending.{HasQueues, is_stale, stale, stale_at_ports, stale_in};
 
 use crate::incoming::Incoming;
 use crate::one_step::hear_at;
+use crate::said::{Said, all_said, says_still};
 use pl_core::{Outbox, SwitchCore, SwitchFacts};
 use pl_frame::Memory;
 use pl_layouts::Place;
 use pl_lists::Queue;
 use pl_queues::{CountedQueues, Queues, one_if};
 use pl_world::Item;
+use std::alloc::Global;
 use std::marker::Model;
 
 /// The switches, each with as many ports, and the queues out of their ports, switch by switch. A control
-/// frame there is stale, unless its switch would send it out of that port now; how many are stale is kept.
+/// frame there is stale, unless its switch would send it out of that port now; how many are stale is kept,
+/// for each port and in all.
 #[derive(Drop)]
 pub struct Switches<S: SwitchCore> {
     k: u8,
     cores: Vec<S>,
     out: CountedQueues<Item>,
+    counts: Vec<u64>,
     stale: u64,
 }
 
 impl<S: SwitchCore> Model for Switches<S> {
     ghost use Rattle.std.specs.Prelude.{map};
     ghost use Rattle.pl_world.specs.Pending.{KeepsStale, SwitchesView};
+    ghost use Rattle.pl_world_parts.specs.StaleCounts.{KeepsEach};
 
     ghost Value = { SwitchesView };
 
     ghost view = { λ all. record { k = all.k; switches = map S.view all.cores.items; out = all.out } };
 
-    ghost invariant = { λ all. KeepsStale (view all) all.stale };
+    ghost invariant = { λ all. KeepsStale (view all) all.stale × KeepsEach (view all) all.counts.items };
 }
 
 impl<S: SwitchCore> Switches<S> {
     /// Switches with empty queues.
-    pub fn new(k: u8, cores: Vec<S>, out: CountedQueues<Item>) -> Switches<S>
+    pub fn new(
+        alloc: Global,
+        k: u8,
+        cores: Vec<S>,
+        out: CountedQueues<Item>,
+    ) -> Result<Switches<S>, Memory>
         requires ports { AllByRecursion (λ v. v.k ≡ k) (map S.view cores.items) }
         requires queues { out ≡ replicate (vec_len cores * k) [] }
-        ensures { result ≡ record { k = k; switches = map S.view cores.items; out = out } }
+        ensures { IfOk result (λ all. all ≡ record { k = k; switches = map S.view cores.items; out = out }) }
     {
-        Switches {
+        let counts = zeros(alloc, out.queues().len())?;
+        Ok(Switches {
             k,
             cores,
             out,
+            counts,
             stale: 0,
-        }
+        })
     }
 
     pub fn core(&self, s: usize) -> &S
@@ -89,6 +103,7 @@ impl<S: SwitchCore> Switches<S> {
         let (s, port) = port_at(self.k, at);
         let more = one_if(is_stale(&self.cores[s], port, &item));
         self.out.put(at, item)?;
+        self.counts[at] += more;
         self.stale += more;
         Ok(())
     }
@@ -101,7 +116,9 @@ impl<S: SwitchCore> Switches<S> {
     {
         let (s, port) = port_at(self.k, at);
         let taken = self.out.take(at);
-        self.stale -= stale_taken(&self.cores[s], port, &taken);
+        let less = stale_taken(&self.cores[s], port, &taken);
+        self.counts[at] -= less;
+        self.stale -= less;
         taken
     }
 
@@ -111,10 +128,10 @@ impl<S: SwitchCore> Switches<S> {
         ensures taken { result ≡ items_at self.old.out at }
         ensures left { self.new ≡ record self.old { out = slice_set self.old.out at [] } }
     {
-        let (s, port) = port_at(self.k, at);
-        let queue = self.out.take_all(at);
-        self.stale -= stale_in(&self.cores[s], port, &queue);
-        queue
+        let (_s, _port) = port_at(self.k, at);
+        self.stale -= self.counts[at];
+        self.counts[at] = 0;
+        self.out.take_all(at)
     }
 
     /// Something comes at one of the switches. The answer is its place before and after.
@@ -131,10 +148,13 @@ impl<S: SwitchCore> Switches<S> {
         ensures kept { sizes self.new.switches ≡ sizes self.old.switches }
         ensures queues { self.new.out ≡ self.old.out }
     {
-        let _bound = self.out.counted();
-        let before = stale_at(&self.cores, &self.out, self.k, s);
+        let waiting = self.out.counted();
+        if waiting == 0 {
+            return hear_at(&mut self.cores, s, incoming, out);
+        }
+        let said = all_said(&self.cores[s]);
         let done = hear_at(&mut self.cores, s, incoming, out);
-        let after = stale_at(&self.cores, &self.out, self.k, s);
+        let (before, after) = count_again(&mut self.counts, &self.cores[s], &self.out, s, &said);
         self.stale = self.stale - before + after;
         done
     }
@@ -192,28 +212,73 @@ fn stale_in<S: SwitchFacts>(core: &S, port: u8, queue: &Queue<Item>) -> u64
     count
 }
 
-// And in those out of all ports of a switch. Where no control frame waits at all, none is looked at.
-fn stale_at<S: SwitchFacts>(cores: &Vec<S>, out: &CountedQueues<Item>, k: u8, s: usize) -> u64
-    requires switch { s < vec_len cores.now }
-    requires queues { HasQueues (record { k = k; switches = map S.view cores.now.items; out = out.now }) }
-    ensures { result ≡ stale_at k (map S.view cores.now.items) out.now s }
+// The same, where a count is known of what the switch announced before.
+fn count_port<S: SwitchFacts>(
+    core: &S,
+    port: u8,
+    queue: &Queue<Item>,
+    said: &Said,
+    count: u64,
+) -> u64
+    requires port { port < (S.view core.now).k }
+    requires known { count ≡ count_by (is_stale_under said.now) queue.now }
+    ensures { result ≡ count_by (is_stale (S.view core.now) port) queue.now }
 {
-    if out.counted() == 0 {
-        return 0;
+    if says_still(core, port, said) {
+        count
+    } else {
+        stale_in(core, port, queue)
     }
-    stale_at_ports(&cores[s], out, k, s)
 }
 
-fn stale_at_ports<S: SwitchFacts>(core: &S, out: &CountedQueues<Item>, k: u8, s: usize) -> u64
-    requires size { (S.view core.now).k ≡ k }
-    requires queues { port_index k s k ≤ length out.now }
-    ensures { result ≡ stale_at_ports k (Some (S.view core.now)) out.now s }
+// Counts again in each queue out of a port where the switch announces something else than before. The
+// answer is how many were stale in those out of all its ports, and how many are.
+fn count_again<S: SwitchFacts>(
+    counts: &mut Vec<u64>,
+    core: &S,
+    out: &CountedQueues<Item>,
+    s: usize,
+    said: &[Said; 24],
+) -> (u64, u64)
+    requires queues { port_index (S.view core.now).k s (S.view core.now).k ≤ length out.now }
+    requires many { vec_len counts.old ≡ length out.now }
+    requires known { (port : ℕ) → port < (S.view core.now).k → IfSome (slice_get said.now port) (λ was.
+        slice_index_or counts.old.items (port_index (S.view core.now).k s port) 0
+        ≡ count_by (is_stale_under was) (items_at out.now (port_index (S.view core.now).k s port))) }
+    ensures many { vec_len counts.new ≡ length out.now }
+    ensures before { result.0 ≡ sum_by (λ port. slice_index_or counts.old.items (port_index (S.view core.now).k s port) 0) (ports_of_switch (S.view core.now).k) }
+    ensures after { result.1 ≡ stale_at_ports (S.view core.now).k (Some (S.view core.now)) out.now s }
+    ensures each { (port : ℕ) → port < (S.view core.now).k → slice_index_or counts.new.items (port_index (S.view core.now).k s port) 0
+        ≡ stale_in (Some (S.view core.now)) port (items_at out.now (port_index (S.view core.now).k s port)) }
+    ensures others { (t port : ℕ) → port < (S.view core.now).k → (t ≡ s → ⊥) →
+        slice_index_or counts.new.items (port_index (S.view core.now).k t port) 0 ≡ slice_index_or counts.old.items (port_index (S.view core.now).k t port) 0 }
 {
+    let k = core.k();
     let (_bound, _many) = (out.counted(), out.queues().len());
-    let mut count = 0;
+    let (mut before, mut after) = (0, 0);
     for port in 0..k {
-        let place = s * k as usize + port as usize;
-        count += stale_in(core, port, out.queues().queue(place));
+        let at = s * k as usize + port as usize;
+        let count = counts[at];
+        let now = count_port(
+            core,
+            port,
+            out.queues().queue(at),
+            &said[port as usize],
+            count,
+        );
+        counts[at] = now;
+        before += count;
+        after += now;
     }
-    count
+    (before, after)
+}
+
+fn zeros(alloc: Global, many: usize) -> Result<Vec<u64>, Memory>
+    ensures { IfOk result (λ counts. counts.items ≡ replicate many 0) }
+{
+    let mut counts = Vec::new(alloc);
+    for _ in 0..many {
+        counts.push(0)?;
+    }
+    Ok(counts)
 }

@@ -152,7 +152,7 @@ fn boot_with_queues<S: SwitchCore>(alloc: Global, wiring: &Wiring) -> Result<Swi
     let k = wiring.k();
     let cores = boot_switches(alloc, wiring)?;
     let out = CountedQueues::new(alloc, port_count(wiring))?;
-    Ok(Switches::new(k, cores, out))
+    Switches::new(alloc, k, cores, out)
 }
 
 fn boot_switches<S: SwitchCore>(alloc: Global, wiring: &Wiring) -> Result<Vec<S>, Memory>

@@ -112,18 +112,7 @@ pub(crate) fn copy_in(alloc: Global, lists: &Lists, switch: SwitchId) -> Result<
     ensures { IfOk result (λ copy. copy ≡ unwrap_or (value_at id_cmp lists.now.entries switch) []) }
 {
     match lists.get(&switch) {
-        Some(list) => copy_of(alloc, list),
+        Some(list) => list.copied(alloc),
         None => Ok(AvoidList::new(alloc)),
     }
-}
-
-// A copy of a list.
-fn copy_of(alloc: Global, list: &AvoidList) -> Result<AvoidList, Memory>
-    ensures { IfOk result (λ copy. copy ≡ list.now) }
-{
-    let mut copy = AvoidList::new(alloc);
-    for item in list.as_slice() {
-        copy.insert(*item)?;
-    }
-    Ok(copy)
 }

@@ -1,4 +1,4 @@
-ghost use Rattle.std.specs.Prelude.{◌≡◌, ◌↔◌, ◌≤◌, [], IfErr, IsTrue, OnOk, OnErr, is_ok, length, slice_get};
+ghost use Rattle.std.specs.Prelude.{◌≡◌, ◌↔◌, ◌≤◌, [], IfErr, IfOk, IsTrue, OnOk, OnErr, is_ok, length, slice_get};
 ghost use Rattle.std.specs.BTreeSet.{insert_key};
 ghost use Rattle.std.specs.List.{insert, list_any};
 ghost use Rattle.std.specs.List.Sorted.{IsStrictlySortedBy};
@@ -80,6 +80,16 @@ impl<T: Ord> Rising<T> {
             Ok(_) => Ok(()),
             Err(place) => Err(place),
         }
+    }
+}
+
+impl<T: Ord + Copy> Rising<T> {
+    /// A list of its own with the same items.
+    pub fn copied(&self, alloc: Global) -> Result<Rising<T>, Memory>
+        ensures { IfOk result (λ copy. copy ≡ self.now) }
+    {
+        let items = Vec::from_slice(alloc, self.items.as_slice())?;
+        Ok(Rising { items })
     }
 }
 

@@ -3,7 +3,7 @@ ghost use Rattle.pl_steps.specs.Taken.{IsTaken};
 ghost use Rattle.pl_switch_rule.specs.Messages.{hears_pod, with_part};
 
 use crate::PlainState;
-use crate::copying::{copy, copy_part};
+use crate::copying::copy_part;
 use crate::settling::settle;
 use pl_core::{AvoidList, Memory, Outbox, TreePart};
 
@@ -34,7 +34,7 @@ impl PlainState {
         ensures id { self.new.id ≡ self.old.id }
         ensures k { self.new.k ≡ self.old.k }
     {
-        self.avoid = copy(self.alloc, list)?;
+        self.avoid = list.copied(self.alloc)?;
         Ok(())
     }
 

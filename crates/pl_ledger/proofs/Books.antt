@@ -1,0 +1,219 @@
+-- What entries say of addresses.
+use Rattle.std.proofs.Common.{◌≡◌, ◌⊎◌, ◌<◌, ◌+◌, ◌*◌, ◌==◌, ◌&&◌, ◌||◌, ◌^◌, ℕ, Bool, true, false, if◌then◌else◌, List, [], ◌∷◌, Option, Some, None, refl, sym, ap, subst, ◌∙◌, inl, inr, arith}
+use Rattle.std.specs.List.{AllByRecursion}
+use Rattle.std.proofs.lemmas.Bool.{and_from, cases_Bool, cond-false, cond-true, eq-eqb, eqb-true, false≢true, ne_eqb, or_left, or_right}
+use Rattle.std.proofs.lemmas.Option.{none-some, same_Some}
+use Rattle.pl_pmac.specs.declared.pmac.Pmac.{Pmac}
+use Rattle.pl_pmac.specs.Pmac.{Fits, pmac_number}
+use Rattle.pl_wiring.specs.declared.host.HostNo.{HostNo}
+use Rattle.pl_wiring.specs.declared.label.SwitchNo.{SwitchNo}
+use Rattle.pl_wiring.specs.Plan.{Plan}
+use Rattle.pl_journal.specs.declared.entry.Entry.{Entry}
+use Rattle.pl_journal.specs.declared.entry.Entry.TheVariants.{Granted, Moved, Registered}
+use Rattle.pl_journal.specs.Places.{Spot, are_alike, at_port, has_stood, holder, is_of_edge, is_spent, number, registered, same_pod_and_position, same_spot, spot}
+use Rattle.pl_core.specs.SwitchViews.{SwitchView}
+use Rattle.pl_world.specs.Changes.{host_no, host_of, switch_no}
+use Rattle.pl_ledger.specs.Ledgers.{IsBacked, IsGrantedThere, ledger}
+use Rattle.pl_ledger.proofs.Giving.{Giving, IsOneOf}
+use Rattle.pl_ledger.proofs.Writing.{all_written, entry_for}
+
+-- two addresses with one number are one
+pub number_apart : (x y : Pmac) → Fits x → Fits y → pmac_number x ≡ pmac_number y → x ≡ y
+number_apart x y fits other same =
+    let e : x.pod * 2 ^ 32 + x.position * 2 ^ 24 + x.port * 2 ^ 16 + x.vmid ≡ y.pod * 2 ^ 32 + y.position * 2 ^ 24 + y.port * 2 ^ 16 + y.vmid = same in
+    let a = fits.position in
+    let b = fits.port in
+    let c = fits.vmid in
+    let d = other.position in
+    let f = other.port in
+    let g = other.vmid in
+    let pod : x.pod ≡ y.pod = omega (arith, e, a, b, c, d, f, g) in
+    let position : x.position ≡ y.position = omega (arith, e, pod, b, c, f, g) in
+    let port : x.port ≡ y.port = omega (arith, e, pod, position, c, g) in
+    let vmid : x.vmid ≡ y.vmid = omega (arith, e, pod, position, port) in
+    λ i. record { pod = pod i; position = position i; port = port i; vmid = vmid i }
+
+-- ---- the entries that are left out say nothing of addresses
+pub record Says : Type 0 where
+  pub hold : ℕ → Option ℕ
+  pub spots : ℕ → Option Spot
+  pub numbers : ℕ → Option ℕ
+  pub many : ℕ
+  pub stood : ℕ → Spot → Bool
+  pub spent : Spot → Bool
+  pub of_edge : Pmac → ℕ → Bool
+
+abbrev pub says : Plan → List Entry → Says
+says plan past = record {
+  hold = λ n. holder past n;
+  spots = λ n. spot past n;
+  numbers = λ n. number past n;
+  many = registered past;
+  stood = λ h there. has_stood plan past h there;
+  spent = λ there. is_spent past there;
+  of_edge = λ x e. is_of_edge past x e;
+}
+
+abbrev granted_more : Says → Pmac → HostNo → SwitchNo → ℕ → Says
+granted_more f x h e p = record {
+  hold = λ n. if pmac_number x == n then Some h.0 else f.hold n;
+  spots = λ n. if pmac_number x == n then Some (at_port e.0 p) else f.spots n;
+  numbers = f.numbers;
+  many = f.many;
+  stood = f.stood;
+  spent = λ there. ((x.vmid == 65535) && same_spot (at_port e.0 p) there) || f.spent there;
+  of_edge = λ y edge. are_alike (same_pod_and_position y x) (e.0 == edge) && f.of_edge y edge;
+}
+
+abbrev registered_more : Says → Pmac → ℕ → Says
+registered_more f x m = record f { numbers = λ n. if pmac_number x == n then Some m else f.numbers n; many = f.many + 1 }
+
+abbrev moved_more : Says → HostNo → SwitchNo → ℕ → Says
+moved_more f h e p = record f { stood = λ host there. (h.0 == host && same_spot (at_port e.0 p) there) || f.stood host there }
+
+pub same_says : (plan : Plan) (past : List Entry) → says plan (ledger past) ≡ says plan past
+same_says plan [] = refl
+same_says plan (Granted x h e p ∷ past) = ap (λ f. granted_more f x h e p) (same_says plan past)
+same_says plan (Registered x n ∷ past) = ap (λ f. registered_more f x n) (same_says plan past)
+same_says plan (Moved h e p ∷ past) = ap (λ f. moved_more f h e p) (same_says plan past)
+same_says plan (entry ∷ past) = same_says plan past
+
+-- ---- what entries that switch s adds change
+module _ (plan : Plan) (s : ℕ) where
+  -- a number has this host and this port of the switch
+  pub record IsAt (entries : List Entry) (n h port : ℕ) : Type 0 where
+    pub held : holder entries n ≡ Some h
+    pub there : spot entries n ≡ Some (at_port s port)
+
+  -- what is granted has another number, or this host and port
+  abbrev pub IsFor : ℕ → ℕ → ℕ → Giving → Type 0
+  IsFor n h port g = (pmac_number g.pmac ≡ n → ⊥) ⊎ ((host_of plan g.mac ≡ Some h) × (g.pmac.port ≡ port))
+
+  entered_at : (entries : List Entry) (x : Pmac) (n h port : ℕ) (o : Option ℕ) → (pmac_number x ≡ n → ⊥) ⊎ ((o ≡ Some h) × (x.port ≡ port)) → IsAt entries n h port →
+      IsAt (entry_for s entries x o) n h port
+  entered_at entries x n h port None may at = record { held = at.held; there = at.there }
+  entered_at entries x n h port (Some m) may at = elim (cases_Bool (pmac_number x == n)) [
+    | inr other ↦ record {
+      held = cond-false (pmac_number x == n) (Some m) (holder entries n) other ∙ at.held;
+      there = cond-false (pmac_number x == n) (Some (at_port s x.port)) (spot entries n) other ∙ at.there;
+    }
+    | inl same ↦ elim may [
+      | inl apart ↦ absurd (apart (eqb-true (pmac_number x) n same))
+      | inr is ↦ record {
+        held = cond-true (pmac_number x == n) (Some m) (holder entries n) same ∙ is.0;
+        there = cond-true (pmac_number x == n) (Some (at_port s x.port)) (spot entries n) same ∙ ap (λ p. Some (at_port s p)) is.1;
+      }
+    ]
+  ]
+
+  pub still_at : (gs : List Giving) (entries : List Entry) (n h port : ℕ) → AllByRecursion (IsFor n h port) gs → IsAt entries n h port → IsAt (all_written plan s entries gs) n h port
+  still_at [] entries n h port all at = record { held = at.held; there = at.there }
+  still_at (g ∷ gs) entries n h port all at =
+      still_at gs (entry_for s entries g.pmac (host_of plan g.mac)) n h port all.1 (entered_at entries g.pmac n h port (host_of plan g.mac) all.0 at)
+
+  now_first : (entries : List Entry) (x : Pmac) (h : ℕ) (o : Option ℕ) → o ≡ Some h → IsAt (entry_for s entries x o) (pmac_number x) h x.port
+  now_first entries x h None is = absurd (none-some h is)
+  now_first entries x h (Some m) is =
+      let e = eq-eqb (pmac_number x) (pmac_number x) refl in
+      record {
+        held = cond-true (pmac_number x == pmac_number x) (Some m) (holder entries (pmac_number x)) e ∙ is;
+        there = cond-true (pmac_number x == pmac_number x) (Some (at_port s x.port)) (spot entries (pmac_number x)) e;
+      }
+
+  pub now_at : (gs : List Giving) (entries : List Entry) (g : Giving) (h : ℕ) → IsOneOf gs g → host_of plan g.mac ≡ Some h →
+      AllByRecursion (IsFor (pmac_number g.pmac) h g.pmac.port) gs → IsAt (all_written plan s entries gs) (pmac_number g.pmac) h g.pmac.port
+  now_at [] entries g h one of all = absurd one
+  now_at (f ∷ gs) entries g h one of all = elim one [
+    | inl here ↦
+        still_at gs (entry_for s entries f.pmac (host_of plan f.mac)) (pmac_number g.pmac) h g.pmac.port all.1
+        (subst (λ (q : Giving). IsAt (entry_for s entries f.pmac (host_of plan f.mac)) (pmac_number q.pmac) h q.pmac.port) here
+        (now_first entries f.pmac h (host_of plan f.mac) (ap (λ (q : Giving). host_of plan q.mac) here ∙ of)))
+    | inr later ↦ now_at gs (entry_for s entries f.pmac (host_of plan f.mac)) g h later of all.1
+  ]
+
+  -- nothing else is said
+  pub record SaysAlike (entries later : List Entry) : Type 0 where
+    pub stood : (h : ℕ) (there : Spot) → has_stood plan later h there ≡ has_stood plan entries h there
+    pub numbers : (n : ℕ) → number later n ≡ number entries n
+    pub count : registered later ≡ registered entries
+
+  alike_entry : (entries : List Entry) (x : Pmac) (o : Option ℕ) → SaysAlike entries (entry_for s entries x o)
+  alike_entry entries x None = record { stood = λ h there. refl; numbers = λ n. refl; count = refl }
+  alike_entry entries x (Some m) = record { stood = λ h there. refl; numbers = λ n. refl; count = refl }
+
+  pub alike : (gs : List Giving) (entries : List Entry) → SaysAlike entries (all_written plan s entries gs)
+  alike [] entries = record { stood = λ h there. refl; numbers = λ n. refl; count = refl }
+  alike (g ∷ gs) entries =
+      let one = alike_entry entries g.pmac (host_of plan g.mac) in
+      let rest = alike gs (entry_for s entries g.pmac (host_of plan g.mac)) in
+      record {
+        stood = λ h there. rest.stood h there ∙ one.stood h there;
+        numbers = λ n. rest.numbers n ∙ one.numbers n;
+        count = rest.count ∙ one.count;
+      }
+
+  backed_entry : (switches : List SwitchView) (entries : List Entry) (x : Pmac) (o : Option ℕ) → IsGrantedThere switches x s x.port → AllByRecursion (IsBacked switches) entries →
+      AllByRecursion (IsBacked switches) (entry_for s entries x o)
+  backed_entry switches entries x None is all = all
+  backed_entry switches entries x (Some m) is all = (is, all)
+
+  pub all_backed : (switches : List SwitchView) (gs : List Giving) (entries : List Entry) → AllByRecursion (λ g. IsGrantedThere switches g.pmac s g.pmac.port) gs →
+      AllByRecursion (IsBacked switches) entries → AllByRecursion (IsBacked switches) (all_written plan s entries gs)
+  all_backed switches [] entries new all = all
+  all_backed switches (g ∷ gs) entries new all =
+      all_backed switches gs (entry_for s entries g.pmac (host_of plan g.mac)) new.1 (backed_entry switches entries g.pmac (host_of plan g.mac) new.0 all)
+
+pub backed_later : (before after : List SwitchView) → ((x : Pmac) (s port : ℕ) → IsGrantedThere before x s port → IsGrantedThere after x s port) → (entries : List Entry) →
+    AllByRecursion (IsBacked before) entries → AllByRecursion (IsBacked after) entries
+backed_later before after more [] all = tt
+backed_later before after more (Granted x h e p ∷ entries) all = (more x e.0 p all.0, backed_later before after more entries all.1)
+backed_later before after more (entry ∷ entries) all = (tt, backed_later before after more entries all.1)
+
+-- ---- what stands behind what entries say
+-- an address of this number is granted
+pub record IsHeldSomewhere (switches : List SwitchView) (n : ℕ) : Type 0 where
+  pub pmac : Pmac
+  pub switch : ℕ
+  pub port : ℕ
+  pub same : pmac_number pmac ≡ n
+  pub there : IsGrantedThere switches pmac switch port
+
+pub held_somewhere : (switches : List SwitchView) (entries : List Entry) (n h : ℕ) → AllByRecursion (IsBacked switches) entries → holder entries n ≡ Some h → IsHeldSomewhere switches n
+held_somewhere switches [] n h all is = absurd (none-some h is)
+held_somewhere switches (Granted x g e p ∷ entries) n h all is = elim (cases_Bool (pmac_number x == n)) [
+  | inl same ↦ record { pmac = x; switch = e.0; port = p; same = eqb-true (pmac_number x) n same; there = all.0 }
+  | inr other ↦ held_somewhere switches entries n h all.1 (sym (cond-false (pmac_number x == n) (Some g.0) (holder entries n) other) ∙ is)
+]
+held_somewhere switches (entry ∷ entries) n h all is = held_somewhere switches entries n h all.1 is
+
+-- entries of addresses with this pod and position are just those of the switch
+abbrev pub IsAlike : Pmac → ℕ → Entry → Type 0
+IsAlike x s (Granted y h e p) = are_alike (same_pod_and_position x y) (e.0 == s) ≡ true
+IsAlike x s entry = Unit {0}
+
+pub of_edge : (entries : List Entry) (x : Pmac) (s : ℕ) → AllByRecursion (IsAlike x s) entries → is_of_edge entries x s ≡ true
+of_edge [] x s all = refl
+of_edge (Granted y h e p ∷ entries) x s all = and_from (are_alike (same_pod_and_position x y) (e.0 == s)) (is_of_edge entries x s) all.0 (of_edge entries x s all.1)
+of_edge (entry ∷ entries) x s all = of_edge entries x s all.1
+
+-- the address of this number is the last of its port
+abbrev pub IsLast : ℕ → Entry → Type 0
+IsLast n (Granted y h e p) = pmac_number y ≡ n → y.vmid ≡ 65535
+IsLast n entry = Unit {0}
+
+pub spent_there : (entries : List Entry) (n : ℕ) (there : Spot) → AllByRecursion (IsLast n) entries → spot entries n ≡ Some there → is_spent entries there ≡ true
+spent_there [] n there all is = absurd (none-some there is)
+spent_there (Granted y h e p ∷ entries) n there all is = elim (cases_Bool (pmac_number y == n)) [
+  | inl same ↦
+      let last = all.0 (eqb-true (pmac_number y) n same) in
+      let at : at_port e.0 p ≡ there = same_Some (at_port e.0 p) there (sym (cond-true (pmac_number y == n) (Some (at_port e.0 p)) (spot entries n) same) ∙ is) in
+      or_left ((y.vmid == 65535) && same_spot (at_port e.0 p) there) (is_spent entries there)
+      (and_from (y.vmid == 65535) (same_spot (at_port e.0 p) there) (eq-eqb y.vmid 65535 last) (subst (λ (q : Spot). same_spot (at_port e.0 p) q ≡ true) at (spot_itself (at_port e.0 p))))
+  | inr other ↦
+      or_right ((y.vmid == 65535) && same_spot (at_port e.0 p) there) (is_spent entries there)
+      (spent_there entries n there all.1 (sym (cond-false (pmac_number y == n) (Some (at_port e.0 p)) (spot entries n) other) ∙ is))
+]
+  where
+    spot_itself : (a : Spot) → same_spot a a ≡ true
+    spot_itself a = and_from (a.edge == a.edge) (a.port == a.port) (eq-eqb a.edge a.edge refl) (eq-eqb a.port a.port refl)
+spent_there (entry ∷ entries) n there all is = spent_there entries n there all.1 is

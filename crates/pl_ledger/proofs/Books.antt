@@ -80,38 +80,38 @@ same_says plan (entry ∷ past) = same_says plan past
 
 -- ---- what entries that switch s adds change
 module _ (plan : Plan) (s : ℕ) where
-  -- a number has this host and this port of the switch
-  pub record IsAt (entries : List Entry) (n h port : ℕ) : Type 0 where
+  -- a number has this host and this port
+  pub record IsAt (entries : List Entry) (n h : ℕ) (at : Spot) : Type 0 where
     pub held : holder entries n ≡ Some h
-    pub there : spot entries n ≡ Some (at_port s port)
+    pub there : spot entries n ≡ Some at
 
   -- what is granted has another number, or this host and port
-  abbrev pub IsFor : ℕ → ℕ → ℕ → Giving → Type 0
-  IsFor n h port g = (pmac_number g.pmac ≡ n → ⊥) ⊎ ((host_of plan g.mac ≡ Some h) × (g.pmac.port ≡ port))
+  abbrev pub IsFor : ℕ → ℕ → Spot → Giving → Type 0
+  IsFor n h at g = (pmac_number g.pmac ≡ n → ⊥) ⊎ ((host_of plan g.mac ≡ Some h) × (at_port s g.pmac.port ≡ at))
 
-  entered_at : (entries : List Entry) (x : Pmac) (n h port : ℕ) (o : Option ℕ) → (pmac_number x ≡ n → ⊥) ⊎ ((o ≡ Some h) × (x.port ≡ port)) → IsAt entries n h port →
-      IsAt (entry_for s entries x o) n h port
-  entered_at entries x n h port None may at = record { held = at.held; there = at.there }
-  entered_at entries x n h port (Some m) may at = elim (cases_Bool (pmac_number x == n)) [
+  entered_at : (entries : List Entry) (x : Pmac) (n h : ℕ) (at : Spot) (o : Option ℕ) → (pmac_number x ≡ n → ⊥) ⊎ ((o ≡ Some h) × (at_port s x.port ≡ at)) → IsAt entries n h at →
+      IsAt (entry_for s entries x o) n h at
+  entered_at entries x n h at None may is = record { held = is.held; there = is.there }
+  entered_at entries x n h at (Some m) may is = elim (cases_Bool (pmac_number x == n)) [
     | inr other ↦ record {
-      held = cond-false (pmac_number x == n) (Some m) (holder entries n) other ∙ at.held;
-      there = cond-false (pmac_number x == n) (Some (at_port s x.port)) (spot entries n) other ∙ at.there;
+      held = cond-false (pmac_number x == n) (Some m) (holder entries n) other ∙ is.held;
+      there = cond-false (pmac_number x == n) (Some (at_port s x.port)) (spot entries n) other ∙ is.there;
     }
     | inl same ↦ elim may [
       | inl apart ↦ absurd (apart (eqb-true (pmac_number x) n same))
-      | inr is ↦ record {
-        held = cond-true (pmac_number x == n) (Some m) (holder entries n) same ∙ is.0;
-        there = cond-true (pmac_number x == n) (Some (at_port s x.port)) (spot entries n) same ∙ ap (λ p. Some (at_port s p)) is.1;
+      | inr so ↦ record {
+        held = cond-true (pmac_number x == n) (Some m) (holder entries n) same ∙ so.0;
+        there = cond-true (pmac_number x == n) (Some (at_port s x.port)) (spot entries n) same ∙ ap Some so.1;
       }
     ]
   ]
 
-  pub still_at : (gs : List Giving) (entries : List Entry) (n h port : ℕ) → AllByRecursion (IsFor n h port) gs → IsAt entries n h port → IsAt (all_written plan s entries gs) n h port
-  still_at [] entries n h port all at = record { held = at.held; there = at.there }
-  still_at (g ∷ gs) entries n h port all at =
-      still_at gs (entry_for s entries g.pmac (host_of plan g.mac)) n h port all.1 (entered_at entries g.pmac n h port (host_of plan g.mac) all.0 at)
+  pub still_at : (gs : List Giving) (entries : List Entry) (n h : ℕ) (at : Spot) → AllByRecursion (IsFor n h at) gs → IsAt entries n h at → IsAt (all_written plan s entries gs) n h at
+  still_at [] entries n h at all is = record { held = is.held; there = is.there }
+  still_at (g ∷ gs) entries n h at all is =
+      still_at gs (entry_for s entries g.pmac (host_of plan g.mac)) n h at all.1 (entered_at entries g.pmac n h at (host_of plan g.mac) all.0 is)
 
-  now_first : (entries : List Entry) (x : Pmac) (h : ℕ) (o : Option ℕ) → o ≡ Some h → IsAt (entry_for s entries x o) (pmac_number x) h x.port
+  now_first : (entries : List Entry) (x : Pmac) (h : ℕ) (o : Option ℕ) → o ≡ Some h → IsAt (entry_for s entries x o) (pmac_number x) h (at_port s x.port)
   now_first entries x h None is = absurd (none-some h is)
   now_first entries x h (Some m) is =
       let e = eq-eqb (pmac_number x) (pmac_number x) refl in
@@ -121,12 +121,12 @@ module _ (plan : Plan) (s : ℕ) where
       }
 
   pub now_at : (gs : List Giving) (entries : List Entry) (g : Giving) (h : ℕ) → IsOneOf gs g → host_of plan g.mac ≡ Some h →
-      AllByRecursion (IsFor (pmac_number g.pmac) h g.pmac.port) gs → IsAt (all_written plan s entries gs) (pmac_number g.pmac) h g.pmac.port
+      AllByRecursion (IsFor (pmac_number g.pmac) h (at_port s g.pmac.port)) gs → IsAt (all_written plan s entries gs) (pmac_number g.pmac) h (at_port s g.pmac.port)
   now_at [] entries g h one of all = absurd one
   now_at (f ∷ gs) entries g h one of all = elim one [
     | inl here ↦
-        still_at gs (entry_for s entries f.pmac (host_of plan f.mac)) (pmac_number g.pmac) h g.pmac.port all.1
-        (subst (λ (q : Giving). IsAt (entry_for s entries f.pmac (host_of plan f.mac)) (pmac_number q.pmac) h q.pmac.port) here
+        still_at gs (entry_for s entries f.pmac (host_of plan f.mac)) (pmac_number g.pmac) h (at_port s g.pmac.port) all.1
+        (subst (λ (q : Giving). IsAt (entry_for s entries f.pmac (host_of plan f.mac)) (pmac_number q.pmac) h (at_port s q.pmac.port)) here
         (now_first entries f.pmac h (host_of plan f.mac) (ap (λ (q : Giving). host_of plan q.mac) here ∙ of)))
     | inr later ↦ now_at gs (entry_for s entries f.pmac (host_of plan f.mac)) g h later of all.1
   ]

@@ -55,6 +55,116 @@ fits_there switches shaped bounds few s v x g found is =
     record { pod = omega (arith, pod); position = omega (arith, position); port = omega (arith, port, many); vmid = omega (arith, last, most) }
 
 -- the port at which it has stood is written down still
-pub stood_later : (plan : Plan) (entries later : List Entry) (mac : Mac) (s port : ℕ) → SaysAlike plan s entries later → HasStoodThere plan entries mac (at_port s port) →
-    HasStoodThere plan later mac (at_port s port)
-stood_later plan entries later mac s port same is = record { host = is.host; of_mac = is.of_mac; stood = same.stood is.host (at_port s port) ∙ is.stood; for_hosts = is.for_hosts }
+pub stood_later : (plan : Plan) (s : ℕ) (entries later : List Entry) (mac : Mac) (t port : ℕ) → SaysAlike plan s entries later → HasStoodThere plan entries mac (at_port t port) →
+    HasStoodThere plan later mac (at_port t port)
+stood_later plan s entries later mac t port same is =
+    record { host = is.host; of_mac = is.of_mac; stood = same.stood is.host (at_port t port) ∙ is.stood; for_hosts = is.for_hosts }
+
+module _ (plan : Plan) (learnt : Learnt) (switches : List SwitchView) (stands : List Stand) (entries : List Entry) (before : AreEntered plan learnt switches stands entries)
+    (s : ℕ) (v w : SwitchView) (gs : List Giving) (found : slice_get switches s ≡ Some v)
+    (shaped : AllByRecursion IsShaped (set switches s w)) (bounds : AreInBounds (set switches s w)) (apart : AreApart (set switches s w))
+    (stays : KeepsGrantees (λ x. granted v x) (λ x. granted w x)) (fresh : AllByRecursion (IsNewlyGiven v w) gs)
+    (of_hosts : AllByRecursion (IsOfHere (λ port mac. HasStoodThere plan entries mac (at_port s port))) gs)
+    (covers : (x : Pmac) (g : Grant) → granted w x ≡ Some g → IsGrantedTo (λ y. granted v y) x g.amac ⊎ IsOneOf gs (gives x g.amac))
+    (few : AreFew w) (sources : AreOf (λ port mac. HasStoodThere plan entries mac (at_port s port)) w) where
+  within : s < length switches
+  within = slice_get_within switches s v found
+
+  there : slice_get (set switches s w) s ≡ Some w
+  there = get-set_same switches s w within
+
+  pub few_now : (t : ℕ) (u : SwitchView) (port : ℕ) → slice_get (set switches s w) t ≡ Some u → length (grants_at u port) ≤ 65535
+  unfolding within
+  few_now t u port is = elim (at_same switches s w t u within is) [
+    | inl here ↦ subst (λ (q : SwitchView). length (grants_at q port) ≤ 65535) here.1 (few port)
+    | inr other ↦ before.few t u port other.1
+  ]
+
+  pub fits_now : (t : ℕ) (u : SwitchView) (x : Pmac) (g : Grant) → slice_get (set switches s w) t ≡ Some u → granted u x ≡ Some g → Fits x
+  fits_now t u x g is found = fits_there (set switches s w) shaped bounds few_now t u x g is found
+
+  -- a new address of a number that a granted address has is that one, and the switch is this one
+  one_of_number : (t : ℕ) (u : SwitchView) (x : Pmac) (g : Grant) → slice_get (set switches s w) t ≡ Some u → granted u x ≡ Some g → (h : Giving) → IsNewlyGiven v w h →
+      pmac_number h.pmac ≡ pmac_number x → (h.pmac ≡ x) × (t ≡ s)
+  unfolding within there
+  one_of_number t u x g is found h new same =
+      let fits = fits_now s w h.pmac new.1.grant there new.1.found in
+      let one : h.pmac ≡ x = number_apart h.pmac x fits (fits_now t u x g is found) same in
+      (one, apart t s u w x is there (granted_parts u x g found).0
+      (subst (λ (y : Pmac). is_local w y ≡ true) one (granted_parts w h.pmac new.1.grant new.1.found).0))
+
+  -- an address that was granted is written down as it was, where no new one has its number
+  entered_old : (t : ℕ) (x : Pmac) (g q : Grant) → q.amac ≡ g.amac → AllByRecursion (λ h. pmac_number h.pmac ≡ pmac_number x → ⊥) gs → IsEntered plan entries t x q →
+      IsEntered plan (all_written plan s entries gs) t x g
+  entered_old t x g q mac none e =
+      let at = still_at plan s gs entries (pmac_number x) e.host (at_port t x.port)
+      (all_weaker (λ h. pmac_number h.pmac ≡ pmac_number x → ⊥) (IsFor plan s (pmac_number x) e.host (at_port t x.port)) (λ h no. inl no) gs none)
+      (record { held = e.held; there = e.there }) in
+      record { host = e.host; of_mac = ap (host_of plan) (sym mac) ∙ e.of_mac; held = at.held; there = at.there; for_hosts = e.for_hosts }
+
+  grants_now : (t : ℕ) (u : SwitchView) (x : Pmac) (g : Grant) → slice_get (set switches s w) t ≡ Some u → granted u x ≡ Some g → IsEntered plan (all_written plan s entries gs) t x g
+  unfolding within there
+  grants_now t u x g is found_there = elim (at_same switches s w t u within is) [
+    | inr other ↦
+        entered_old t x g g refl
+        (all_weaker (IsNewlyGiven v w) (λ h. pmac_number h.pmac ≡ pmac_number x → ⊥) (λ h new same. other.0 (one_of_number t u x g is found_there h new same).1) gs fresh)
+        (before.grants t u x g other.1 found_there)
+    | inl here ↦
+        let mine : granted w x ≡ Some g = ap (λ (q : SwitchView). granted q x) here.1 ∙ found_there in
+        subst (λ (n : ℕ). IsEntered plan (all_written plan s entries gs) n x g) (sym here.0) (elim (covers x g mine) [
+          | inl old ↦
+              entered_old s x g old.grant old.to
+              (all_weaker (IsNewlyGiven v w) (λ h. pmac_number h.pmac ≡ pmac_number x → ⊥)
+              (λ h new same. none-some old.grant (sym new.0 ∙ ap (λ (y : Pmac). granted v y) (one_of_number s w x g there mine h new same).0 ∙ old.found)) gs fresh)
+              (before.grants s v x old.grant found old.found)
+          | inr one ↦
+              let host = of_all (IsOfHere (λ port mac. HasStoodThere plan entries mac (at_port s port))) gs (gives x g.amac) of_hosts one in
+              let all : AllByRecursion (IsFor plan s (pmac_number x) host.host (at_port s x.port)) gs =
+              all_weaker (IsNewlyGiven v w) (IsFor plan s (pmac_number x) host.host (at_port s x.port)) (λ h new. this_or_other x g mine host.host host.of_mac h new) gs fresh in
+              let at = now_at plan s gs entries (gives x g.amac) host.host one host.of_mac all in
+              record { host = host.host; of_mac = host.of_mac; held = at.held; there = at.there; for_hosts = host.for_hosts }
+        ])
+  ]
+    where
+      this_or_other : (x : Pmac) (g : Grant) → granted w x ≡ Some g → (n : ℕ) → host_of plan g.amac ≡ Some n → (h : Giving) → IsNewlyGiven v w h → IsFor plan s (pmac_number x) n (at_port s x.port) h
+      this_or_other x g mine n of h new = elim (cases_eq (pmac_number h.pmac) (pmac_number x)) [
+        | inr other ↦ inl other
+        | inl same ↦
+            let it : h.pmac ≡ x = (one_of_number s w x g there mine h new same).0 in
+            let grant : new.1.grant ≡ g = same_Some new.1.grant g (sym new.1.found ∙ ap (λ (y : Pmac). granted w y) it ∙ mine) in
+            inr (ap (host_of plan) (sym new.1.to ∙ ap (λ (q : Grant). q.amac) grant) ∙ of, ap (λ (y : Pmac). at_port s y.port) it)
+      ]
+
+  -- what was granted there is still
+  backed_now : (x : Pmac) (t port : ℕ) → IsGrantedThere switches x t port → IsGrantedThere (set switches s w) x t port
+  unfolding there
+  backed_now x t port is = elim (cases_eq t s) [
+    | inr other ↦ record { view = is.view; grant = is.grant; found = get-set_other switches s t w other ∙ is.found; is = is.is; port_is = is.port_is }
+    | inl same ↦
+        let view : is.view ≡ v = same_Some is.view v (sym is.found ∙ ap (slice_get switches) same ∙ found) in
+        let still = stays x is.grant.amac (record { grant = is.grant; found = ap (λ (q : SwitchView). granted q x) (sym view) ∙ is.is; to = refl }) in
+        record { view = w; grant = still.grant; found = ap (slice_get (set switches s w)) same ∙ there; is = still.found; port_is = is.port_is }
+  ]
+
+  pub step_entered : AreEntered plan learnt (set switches s w) stands (all_written plan s entries gs)
+  unfolding within there
+  step_entered =
+      let same = alike plan s gs entries in
+      record {
+        grants = grants_now;
+        backed = all_backed plan s (set switches s w) gs entries
+            (all_weaker (IsNewlyGiven v w) (λ g. IsGrantedThere (set switches s w) g.pmac s g.pmac.port)
+            (λ g new. record { view = w; grant = new.1.grant; found = there; is = new.1.found; port_is = refl }) gs fresh)
+            (backed_later switches (set switches s w) backed_now entries before.backed);
+        few = few_now;
+        sources = λ t u port source is has. elim (at_same switches s w t u within is) [
+          | inr other ↦ stood_later plan s entries (all_written plan s entries gs) source.amac t port same (before.sources t u port source other.1 has)
+          | inl here ↦
+              subst (λ (n : ℕ). HasStoodThere plan (all_written plan s entries gs) source.amac (at_port n port)) (sym here.0)
+              (stood_later plan s entries (all_written plan s entries gs) source.amac s port same
+              (sources port source (ap (λ (q : SwitchView). remembered_at q port) here.1 ∙ has)))
+        ];
+        standing = λ h stand is. same.stood h (at_port stand.edge.0 stand.port) ∙ before.standing h stand is;
+        numbers = λ x fits. same.numbers (pmac_number x) ∙ before.numbers x fits;
+        count = same.count ∙ before.count;
+      }

@@ -5,3 +5,4 @@ pub mod StepTakes
 pub mod Writing
 pub mod Books
 pub mod Stepping
+pub mod Numbering

@@ -6,3 +6,4 @@ pub mod Writing
 pub mod Books
 pub mod Stepping
 pub mod Numbering
+pub mod Turning

@@ -7,3 +7,4 @@ pub mod Books
 pub mod Stepping
 pub mod Numbering
 pub mod Turning
+pub mod Events

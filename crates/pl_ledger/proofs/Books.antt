@@ -1,7 +1,7 @@
 -- What entries say of addresses.
-use Rattle.std.proofs.Common.{◌≡◌, ◌⊎◌, ◌<◌, ◌+◌, ◌*◌, ◌==◌, ◌&&◌, ◌||◌, ◌^◌, ℕ, Bool, true, false, if◌then◌else◌, List, [], ◌∷◌, Option, Some, None, refl, sym, ap, subst, ◌∙◌, inl, inr, arith}
+use Rattle.std.proofs.Common.{◌≡◌, ◌⊎◌, ◌<◌, ◌≤◌, ◌+◌, ◌*◌, ◌==◌, ◌&&◌, ◌||◌, ◌^◌, ℕ, Bool, true, false, if◌then◌else◌, List, [], ◌∷◌, Option, Some, None, refl, sym, ap, subst, ◌∙◌, inl, inr, arith}
 use Rattle.std.specs.List.{AllByRecursion}
-use Rattle.std.proofs.lemmas.Bool.{and_from, cases_Bool, cond-false, cond-true, eq-eqb, eqb-true, false≢true, ne_eqb, or_left, or_right}
+use Rattle.std.proofs.lemmas.Bool.{and_from, and_parts, cases_Bool, cond-false, cond-true, eq-eqb, eqb-true, false≢true, ne_eqb, or_left, or_right}
 use Rattle.std.proofs.lemmas.Option.{none-some, same_Some}
 use Rattle.pl_pmac.specs.declared.pmac.Pmac.{Pmac}
 use Rattle.pl_pmac.specs.Pmac.{Fits, pmac_number}
@@ -10,11 +10,11 @@ use Rattle.pl_wiring.specs.declared.label.SwitchNo.{SwitchNo}
 use Rattle.pl_wiring.specs.Plan.{Plan}
 use Rattle.pl_journal.specs.declared.entry.Entry.{Entry}
 use Rattle.pl_journal.specs.declared.entry.Entry.TheVariants.{Granted, Moved, Registered}
-use Rattle.pl_journal.specs.Places.{Spot, are_alike, at_port, has_stood, holder, is_of_edge, is_spent, number, registered, same_pod_and_position, same_spot, spot}
+use Rattle.pl_journal.specs.Places.{Spot, are_alike, at_port, granted_at, has_stood, holder, is_of_edge, is_spent, number, registered, same_pod_and_position, same_spot, spot}
 use Rattle.pl_core.specs.SwitchViews.{SwitchView}
 use Rattle.pl_world.specs.Changes.{host_no, host_of, switch_no}
 use Rattle.pl_ledger.specs.Ledgers.{IsBacked, IsGrantedThere, ledger}
-use Rattle.pl_ledger.proofs.Giving.{Giving, IsOneOf}
+use Rattle.pl_ledger.proofs.Giving.{AreRising, ComesBefore, Giving, IsOneOf}
 use Rattle.pl_ledger.proofs.Writing.{all_written, entry_for}
 
 -- two addresses with one number are one
@@ -130,6 +130,68 @@ module _ (plan : Plan) (s : ℕ) where
         (now_first entries f.pmac h (host_of plan f.mac) (ap (λ (q : Giving). host_of plan q.mac) here ∙ of)))
     | inr later ↦ now_at gs (entry_for s entries f.pmac (host_of plan f.mac)) g h later of all.1
   ]
+
+  -- the last address of host h at port p of switch t
+  pub record HasLast (entries : List Entry) (Q : Pmac → Type 0) (t h p : ℕ) : Type 0 where
+    pub last : Pmac
+    pub is_last : granted_at entries h (at_port t p) ≡ Some last
+    pub good : Q last
+
+  last_entry : (entries : List Entry) (x : Pmac) (o : Option ℕ) (Q : Pmac → Type 0) (t h p : ℕ) → (o ≡ Some h → (s ≡ t) × (x.port ≡ p) → Q x) → HasLast entries Q t h p →
+      HasLast (entry_for s entries x o) Q t h p
+  last_entry entries x None Q t h p new is = record { last = is.last; is_last = is.is_last; good = is.good }
+  last_entry entries x (Some m) Q t h p new is = elim (cases_Bool ((m == h) && same_spot (at_port s x.port) (at_port t p))) [
+    | inr other ↦ record {
+      last = is.last;
+      is_last = cond-false ((m == h) && same_spot (at_port s x.port) (at_port t p)) (Some x) (granted_at entries h (at_port t p)) other ∙ is.is_last;
+      good = is.good;
+    }
+    | inl same ↦
+        let both = and_parts (m == h) (same_spot (at_port s x.port) (at_port t p)) same in
+        let spots = and_parts (s == t) (x.port == p) both.1 in
+        record {
+          last = x;
+          is_last = cond-true ((m == h) && same_spot (at_port s x.port) (at_port t p)) (Some x) (granted_at entries h (at_port t p)) same;
+          good = new (ap Some (eqb-true m h both.0)) (eqb-true s t spots.0, eqb-true x.port p spots.1);
+        }
+  ]
+
+  -- what may become the last is good
+  abbrev pub GivesGood : (Pmac → Type 0) → ℕ → ℕ → ℕ → Giving → Type 0
+  GivesGood Q t h p g = host_of plan g.mac ≡ Some h → (s ≡ t) × (g.pmac.port ≡ p) → Q g.pmac
+
+  pub last_stays : (gs : List Giving) (entries : List Entry) (Q : Pmac → Type 0) (t h p : ℕ) → AllByRecursion (GivesGood Q t h p) gs → HasLast entries Q t h p →
+      HasLast (all_written plan s entries gs) Q t h p
+  last_stays [] entries Q t h p all is = record { last = is.last; is_last = is.is_last; good = is.good }
+  last_stays (g ∷ gs) entries Q t h p all is =
+      last_stays gs (entry_for s entries g.pmac (host_of plan g.mac)) Q t h p all.1 (last_entry entries g.pmac (host_of plan g.mac) Q t h p all.0 is)
+
+  last_first : (entries : List Entry) (x : Pmac) (o : Option ℕ) (Q : Pmac → Type 0) (h : ℕ) → o ≡ Some h → Q x → HasLast (entry_for s entries x o) Q s h x.port
+  last_first entries x None Q h is good = absurd (none-some h is)
+  last_first entries x (Some m) Q h is good = record {
+    last = x;
+    is_last = cond-true ((m == h) && same_spot (at_port s x.port) (at_port s x.port)) (Some x) (granted_at entries h (at_port s x.port))
+        (and_from (m == h) (same_spot (at_port s x.port) (at_port s x.port)) (eq-eqb m h (same_Some m h is))
+        (and_from (s == s) (x.port == x.port) (eq-eqb s s refl) (eq-eqb x.port x.port refl)));
+    good = good;
+  }
+
+  -- the last is one that is given, or one behind it
+  pub last_given : (gs : List Giving) (entries : List Entry) (Q : Pmac → Type 0) (g : Giving) (h : ℕ) → IsOneOf gs g → AreRising gs → host_of plan g.mac ≡ Some h → Q g.pmac →
+      AllByRecursion (λ f. host_of plan f.mac ≡ Some h → f.pmac.port ≡ g.pmac.port → g.pmac.vmid ≤ f.pmac.vmid → Q f.pmac) gs → HasLast (all_written plan s entries gs) Q s h g.pmac.port
+  last_given [] entries Q g h one rising of good all = absurd one
+  last_given (f ∷ gs) entries Q g h one rising of good all = elim one [
+    | inr later ↦ last_given gs (entry_for s entries f.pmac (host_of plan f.mac)) Q g h later rising.1 of good all.1
+    | inl here ↦
+        last_stays gs (entry_for s entries f.pmac (host_of plan f.mac)) Q s h g.pmac.port (behind gs all.1 (subst (λ (q : Giving). AllByRecursion (ComesBefore q) gs) here rising.0))
+        (subst (λ (q : Giving). HasLast (entry_for s entries f.pmac (host_of plan f.mac)) Q s h q.pmac.port) here
+        (last_first entries f.pmac (host_of plan f.mac) Q h (ap (λ (q : Giving). host_of plan q.mac) here ∙ of) (subst (λ (q : Giving). Q q.pmac) (sym here) good)))
+  ]
+    where
+      behind : (fs : List Giving) → AllByRecursion (λ q. host_of plan q.mac ≡ Some h → q.pmac.port ≡ g.pmac.port → g.pmac.vmid ≤ q.pmac.vmid → Q q.pmac) fs →
+          AllByRecursion (ComesBefore g) fs → AllByRecursion (GivesGood Q s h g.pmac.port) fs
+      behind [] all rising = tt
+      behind (q ∷ fs) all rising = (λ is there. all.0 is there.1 (let less = rising.0 there.1 in omega (arith, less)), behind fs all.1 rising.1)
 
   -- nothing else is said
   pub record SaysAlike (entries later : List Entry) : Type 0 where

@@ -174,6 +174,7 @@ module _ (plan : Plan) (learnt after : Learnt) (switches : List SwitchView) (sta
   pub nothing_entered : (ns : List Numbering) → LearnsNothing learnt after ns → AreEntered plan after switches stands (all_numbered entries ns)
   nothing_entered ns l = subst (λ ms. AreEntered plan after switches stands (all_numbered entries ms)) (sym l.none) (record {
     grants = before.grants;
+    newest = before.newest;
     backed = before.backed;
     few = before.few;
     sources = before.sources;
@@ -185,6 +186,9 @@ module _ (plan : Plan) (learnt after : Learnt) (switches : List SwitchView) (sta
   pub one_entered : (ns : List Numbering) (x : Pmac) → Fits x → LearnsOne learnt after ns x → AreEntered plan after switches stands (all_numbered entries ns)
   one_entered ns x fits_x l = subst (λ ms. AreEntered plan after switches stands (all_numbered entries ms)) (sym l.one) (record {
     grants = λ s v y g found is. let e = before.grants s v y g found is in record { host = e.host; of_mac = e.of_mac; held = e.held; there = e.there; for_hosts = e.for_hosts };
+    newest = λ s v y g h found is of.
+        let e = before.newest s v y g h found is of in
+        record { last = e.last; grant = e.grant; is_last = e.is_last; found = e.found; of_mac = e.of_mac; same_port = e.same_port; not_before = e.not_before };
     backed = (tt, before.backed);
     few = before.few;
     sources = λ s v port source found is.

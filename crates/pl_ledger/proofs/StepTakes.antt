@@ -41,9 +41,9 @@ use Rattle.pl_addresses.proofs.Numbers.{granted_parts, local_settled}
 use Rattle.pl_addresses.proofs.Placing.{IsPlacing, edge_placing, keeps_changes, message_placing, pod_placing, vote_placing}
 use Rattle.pl_addresses.proofs.Rows.{aside_does, aside_then, same_grantees}
 use Rattle.pl_addresses.proofs.SwitchSteps.{granted_within}
-use Rattle.pl_ledger.proofs.Giving.{Giving, gives}
+use Rattle.pl_ledger.proofs.Giving.{Giving, all_weaker, gives, givings}
 use Rattle.pl_ledger.proofs.Sourcing.{changes_takes, learns_takes}
-use Rattle.pl_ledger.proofs.Takes.{AreFew, AreOf, IsListed, Takes, aside_takes, changed_takes, rests_takes, takes_either, takes_then}
+use Rattle.pl_ledger.proofs.Takes.{AreFew, AreOf, IsFurther, IsListed, Takes, aside_takes, changed_takes, rests_takes, takes_either, takes_then}
 
 -- What is needed of what comes: a frame of a host comes at a port where its host has stood.
 abbrev pub ComesWell : (ℕ → Mac → Type 0) → SwitchView → SwitchInput → Type 0
@@ -76,6 +76,10 @@ module _ (P : ℕ → Mac → Type 0) where
     listed = λ l. b.listed listed_then;
     few = λ l few. b.few listed_then (λ port. subst (λ (gs : List (List Grant)). length (get_or gs port []) ≤ 65535) (sym p.grants) (few port));
     sources = λ are. b.sources (λ port source is. are port source (ap (λ (ss : List (Option Source)). get_or ss port None) (sym p.remembered) ∙ is));
+    longer = λ l port. subst (λ (gs : List (List Grant)). length (get_or gs port []) ≤ length (grants_at s.view port)) p.grants (b.longer listed_then port);
+    further = λ l. all_weaker (IsFurther w s.view) (IsFurther v s.view)
+        (λ g is. (subst (λ (gs : List (List Grant)). length (get_or gs g.pmac.port []) < g.pmac.vmid) p.grants is.0, is.1)) (givings s.acts) (b.further listed_then);
+    rising = λ l. b.rising listed_then;
     settled = λ is. b.settled (ap (λ (q : Place). is_settled q) (p.place is) ∙ is);
     k = b.k ∙ p.k;
   }

@@ -1,5 +1,5 @@
 -- A step of a switch keeps the ledger.
-use Rattle.std.proofs.Common.{◌≡◌, ◌≢◌, ◌⊎◌, ◌≤◌, ◌<◌, ◌^◌, ◌==◌, ℕ, true, set, List, length, Option, Some, None, slice_get, refl, sym, ap, subst, ◌∙◌, inl, inr, arith}
+use Rattle.std.proofs.Common.{◌≡◌, ◌≢◌, ◌⊎◌, ◌≤◌, ◌<◌, ◌^◌, ◌==◌, ℕ, true, set, List, [], ◌∷◌, length, Option, Some, None, slice_get, refl, sym, ap, subst, ◌∙◌, inl, inr, arith}
 use Rattle.std.specs.List.{AllByRecursion}
 use Rattle.std.proofs.lemmas.Bool.{cases_eq}
 use Rattle.std.proofs.lemmas.Option.{none-some, same_Some, slice_get_within}
@@ -24,10 +24,10 @@ use Rattle.pl_addresses.proofs.Numbers.{granted_parts, number_within}
 use Rattle.pl_addresses.proofs.Turns.{all_here}
 use Rattle.pl_addresses.proofs.SwitchSteps.{granted_within}
 use Rattle.pl_addresses.proofs.Words.{get-set_other, get-set_same}
-use Rattle.pl_ledger.specs.Ledgers.{AreEntered, AreInBounds, HasStoodThere, IsBacked, IsEntered, IsGrantedThere}
-use Rattle.pl_ledger.proofs.Books.{IsAt, IsFor, SaysAlike, alike, all_backed, backed_later, now_at, number_apart, still_at}
-use Rattle.pl_ledger.proofs.Giving.{Giving, IsNewlyGiven, IsOneOf, all_weaker, gives, of_all}
-use Rattle.pl_ledger.proofs.Takes.{AreFew, AreOf, IsOfHere}
+use Rattle.pl_ledger.specs.Ledgers.{AreEntered, AreInBounds, HasStoodThere, IsBacked, IsBeforeLast, IsEntered, IsGrantedThere}
+use Rattle.pl_ledger.proofs.Books.{GivesGood, HasLast, IsAt, IsFor, SaysAlike, alike, all_backed, backed_later, last_given, last_stays, now_at, number_apart, still_at}
+use Rattle.pl_ledger.proofs.Giving.{AreRising, Giving, IsNewlyGiven, IsOneOf, all_weaker, gives, of_all}
+use Rattle.pl_ledger.proofs.Takes.{AreFew, AreOf, IsFurther, IsOfHere}
 use Rattle.pl_ledger.proofs.Writing.{all_written}
 
 -- what a switch has at each place, it has also where another list of switches has it there
@@ -66,7 +66,7 @@ module _ (plan : Plan) (learnt : Learnt) (switches : List SwitchView) (stands : 
     (stays : KeepsGrantees (λ x. granted v x) (λ x. granted w x)) (fresh : AllByRecursion (IsNewlyGiven v w) gs)
     (of_hosts : AllByRecursion (IsOfHere (λ port mac. HasStoodThere plan entries mac (at_port s port))) gs)
     (covers : (x : Pmac) (g : Grant) → granted w x ≡ Some g → IsGrantedTo (λ y. granted v y) x g.amac ⊎ IsOneOf gs (gives x g.amac))
-    (few : AreFew w) (sources : AreOf (λ port mac. HasStoodThere plan entries mac (at_port s port)) w) where
+    (further : AllByRecursion (IsFurther v w) gs) (rising : AreRising gs) (few : AreFew w) (sources : AreOf (λ port mac. HasStoodThere plan entries mac (at_port s port)) w) where
   within : s < length switches
   within = slice_get_within switches s v found
 
@@ -135,6 +135,61 @@ module _ (plan : Plan) (learnt : Learnt) (switches : List SwitchView) (stands : 
             inr (ap (host_of plan) (sym new.1.to ∙ ap (λ (q : Grant). q.amac) grant) ∙ of, ap (λ (y : Pmac). at_port s y.port) it)
       ]
 
+  -- ---- the last address of a host at a port
+  -- one that is granted at the port to the host, not before x
+  IsNotBefore : ℕ → ℕ → ℕ → Pmac → Type 0
+  IsNotBefore h p vmid y = (g : Grant) × (granted w y ≡ Some g) × (host_of plan g.amac ≡ Some h) × (y.port ≡ p) × (vmid ≤ y.vmid)
+
+  last_now : (x : Pmac) (g : Grant) (h : ℕ) → granted w x ≡ Some g → host_of plan g.amac ≡ Some h → IsBeforeLast plan (all_written plan s entries gs) s w h x
+  unfolding within there IsNotBefore
+  last_now x g h is of = found_last (elim (covers x g is) [
+    | inr one ↦
+        last_given plan s gs entries (IsNotBefore h x.port x.vmid) (gives x g.amac) h one rising of (g, is, of, refl, omega arith)
+        (all_weaker (IsNewlyGiven v w) (λ f. host_of plan f.mac ≡ Some h → f.pmac.port ≡ x.port → x.vmid ≤ f.pmac.vmid → IsNotBefore h x.port x.vmid f.pmac)
+        (λ f new mine port more. (new.1.grant, new.1.found, ap (host_of plan) new.1.to ∙ mine, port, more)) gs fresh)
+    | inl old ↦
+        let last = before.newest s v x old.grant h found old.found (ap (host_of plan) old.to ∙ of) in
+        let still = stays last.last last.grant.amac (record { grant = last.grant; found = last.found; to = refl }) in
+        let low = (number_within (grants_at v x.port) x.vmid old.grant (granted_parts v x old.grant old.found).1).1 in
+        last_stays plan s gs entries (IsNotBefore h x.port x.vmid) s h x.port
+        (new_behind gs fresh further low)
+        (record { last = last.last; is_last = last.is_last; good = (still.grant, still.found, ap (host_of plan) still.to ∙ last.of_mac, last.same_port, last.not_before) })
+  ])
+    where
+      found_last : HasLast plan s (all_written plan s entries gs) (IsNotBefore h x.port x.vmid) s h x.port → IsBeforeLast plan (all_written plan s entries gs) s w h x
+      found_last l = record { last = l.last; grant = l.good.0; is_last = l.is_last; found = l.good.1; of_mac = l.good.2; same_port = l.good.3; not_before = l.good.4 }
+
+      new_behind : (fs : List Giving) → AllByRecursion (IsNewlyGiven v w) fs → AllByRecursion (IsFurther v w) fs → x.vmid ≤ length (grants_at v x.port) →
+          AllByRecursion (GivesGood plan s (IsNotBefore h x.port x.vmid) s h x.port) fs
+      new_behind [] new more low = tt
+      new_behind (f ∷ fs) new more low =
+          (λ mine at. (new.0.1.grant, new.0.1.found, ap (host_of plan) new.0.1.to ∙ mine, at.1,
+          (let high = subst (λ (n : ℕ). length (grants_at v n) < f.pmac.vmid) at.1 more.0.0 in omega (arith, low, high))), new_behind fs new.1 more.1 low)
+
+  newest_now : (t : ℕ) (u : SwitchView) (x : Pmac) (g : Grant) (h : ℕ) → slice_get (set switches s w) t ≡ Some u → granted u x ≡ Some g → host_of plan g.amac ≡ Some h →
+      IsBeforeLast plan (all_written plan s entries gs) t u h x
+  unfolding within there IsNotBefore
+  newest_now t u x g h is found_there of = elim (at_same switches s w t u within is) [
+    | inl here ↦
+        subst (λ (n : ℕ). IsBeforeLast plan (all_written plan s entries gs) n u h x) (sym here.0)
+        (subst (λ (q : SwitchView). IsBeforeLast plan (all_written plan s entries gs) s q h x) here.1
+        (last_now x g h (ap (λ (q : SwitchView). granted q x) here.1 ∙ found_there) of))
+    | inr other ↦
+        let last = before.newest t u x g h other.1 found_there of in
+        let l = last_stays plan s gs entries (λ y. y ≡ last.last) t h x.port
+        (all_weaker (IsNewlyGiven v w) (GivesGood plan s (λ y. y ≡ last.last) t h x.port) (λ f new mine at. absurd (other.0 (sym at.0))) gs fresh)
+        (record { last = last.last; is_last = last.is_last; good = refl }) in
+        record {
+          last = last.last;
+          grant = last.grant;
+          is_last = l.is_last ∙ ap Some l.good;
+          found = last.found;
+          of_mac = last.of_mac;
+          same_port = last.same_port;
+          not_before = last.not_before;
+        }
+  ]
+
   -- what was granted there is still
   backed_now : (x : Pmac) (t port : ℕ) → IsGrantedThere switches x t port → IsGrantedThere (set switches s w) x t port
   unfolding there
@@ -152,6 +207,7 @@ module _ (plan : Plan) (learnt : Learnt) (switches : List SwitchView) (stands : 
       let same = alike plan s gs entries in
       record {
         grants = grants_now;
+        newest = newest_now;
         backed = all_backed plan s (set switches s w) gs entries
             (all_weaker (IsNewlyGiven v w) (λ g. IsGrantedThere (set switches s w) g.pmac s g.pmac.port)
             (λ g new. record { view = w; grant = new.1.grant; found = there; is = new.1.found; port_is = refl }) gs fresh)

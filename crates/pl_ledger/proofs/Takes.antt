@@ -20,7 +20,7 @@ use Rattle.pl_addresses.specs.EdgeAddresses.{IsGrantedTo, is_settled}
 use Rattle.pl_addresses.proofs.Numbers.{IsInUse, granted_here, local_here, now_at, number_push_other, number_push_same, number_set_other, number_set_same, number_within, others_at}
 use Rattle.pl_addresses.proofs.Rows.{IsAside, aside_does, same_grantees}
 use Rattle.pl_addresses.proofs.Words.{is_or_other}
-use Rattle.pl_ledger.proofs.Giving.{Giving, IsOneOf, first_part, gives, givings, givings_append, none_given, second_part}
+use Rattle.pl_ledger.proofs.Giving.{AreRising, ComesBefore, Giving, IsOneOf, all_weaker, first_part, gives, givings, givings_append, none_given, second_part}
 
 -- one list of grants for each port, empty as long as the switch is no placed edge switch
 pub record IsListed (v : SwitchView) : Type 0 where
@@ -40,6 +40,24 @@ put_or_none [] i x d y h = inr h
 put_or_none (z ∷ xs) zero x d y h = inl h
 put_or_none (z ∷ xs) (suc i) x d y h = put_or_none xs i x d y h
 
+-- an address behind those of one view, and not behind those of the other
+abbrev pub IsFurther : SwitchView → SwitchView → Giving → Type 0
+IsFurther v w g = (length (grants_at v g.pmac.port) < g.pmac.vmid) × (g.pmac.vmid ≤ length (grants_at w g.pmac.port))
+
+further_from : (u v w z : SwitchView) → ((port : ℕ) → length (grants_at u port) ≤ length (grants_at v port)) → ((port : ℕ) → length (grants_at w port) ≤ length (grants_at z port)) →
+    (gs : List Giving) → AllByRecursion (IsFurther v w) gs → AllByRecursion (IsFurther u z) gs
+further_from u v w z low high gs all =
+    all_weaker (IsFurther v w) (IsFurther u z)
+    (λ g is. let a = low g.pmac.port in let b = high g.pmac.port in let c = is.0 in let d = is.1 in (omega (arith, a, c), omega (arith, b, d))) gs all
+
+rising_both : (v : SwitchView) (u w : SwitchView) (xs ys : List Giving) → AllByRecursion (IsFurther u v) xs → AllByRecursion (IsFurther v w) ys → AreRising xs → AreRising ys → AreRising (xs ++ ys)
+rising_both v u w [] ys further later a b = b
+rising_both v u w (x ∷ xs) ys further later a b =
+    (all_append (ComesBefore x) xs ys a.0
+    (all_weaker (IsFurther v w) (ComesBefore x)
+    (λ g is same. let low = further.0.1 in let high = subst (λ (n : ℕ). length (grants_at v n) < g.pmac.vmid) same is.0 in omega (arith, low, high)) ys later),
+    rising_both v u w xs ys further.1 later a.1 b)
+
 -- P of a port and an actual address: its host has stood there
 module _ (P : ℕ → Mac → Type 0) where
   abbrev pub AreOf : SwitchView → Type 0
@@ -57,6 +75,10 @@ module _ (P : ℕ → Mac → Type 0) where
     pub listed : IsListed v → IsListed s.view
     pub few : IsListed v → AreFew v → AreFew s.view
     pub sources : AreOf v → AreOf s.view
+    -- no list gets shorter, and each new address is a further one of its port
+    pub longer : IsListed v → (port : ℕ) → length (grants_at v port) ≤ length (grants_at s.view port)
+    pub further : IsListed v → AllByRecursion (IsFurther v s.view) (givings s.acts)
+    pub rising : IsListed v → AreRising (givings s.acts)
     pub settled : is_settled v.place ≡ true → is_settled s.view.place ≡ true
     pub k : s.view.k ≡ v.k
 
@@ -77,6 +99,14 @@ module _ (P : ℕ → Mac → Type 0) where
     listed = λ listed. b.listed (a.listed listed);
     few = λ listed few. b.few (a.listed listed) (a.few listed few);
     sources = λ are. b.sources (a.sources are);
+    longer = λ listed port. let low = a.longer listed port in let high = b.longer (a.listed listed) port in omega (arith, low, high);
+    further = λ listed. subst (λ gs. AllByRecursion (IsFurther v (next s.view).view) gs) (sym (givings_append s.acts (next s.view).acts))
+        (all_append (IsFurther v (next s.view).view) (givings s.acts) (givings (next s.view).acts)
+        (further_from v v s.view (next s.view).view (λ port. omega arith) (b.longer (a.listed listed)) (givings s.acts) (a.further listed))
+        (further_from v s.view (next s.view).view (next s.view).view (a.longer listed) (λ port. omega arith) (givings (next s.view).acts) (b.further (a.listed listed))));
+    rising = λ listed. subst AreRising (sym (givings_append s.acts (next s.view).acts))
+        (rising_both s.view v (next s.view).view (givings s.acts) (givings (next s.view).acts) (a.further listed) (b.further (a.listed listed)) (a.rising listed)
+        (b.rising (a.listed listed)));
     settled = λ is. b.settled (a.settled is);
     k = b.k ∙ a.k;
   }
@@ -99,6 +129,9 @@ module _ (P : ℕ → Mac → Type 0) where
     listed = same_listed v s.view a.place a.k a.grants;
     few = λ listed few port. subst (λ (gs : List (List Grant)). length (get_or gs port []) ≤ 65535) (sym a.grants) (few port);
     sources = λ are port source is. are port source (ap (λ (ss : List (Option Source)). get_or ss port None) (sym a.remembered) ∙ is);
+    longer = λ listed port. subst (λ (gs : List (List Grant)). length (grants_at v port) ≤ length (get_or gs port [])) (sym a.grants) (omega arith);
+    further = λ listed. subst (λ gs. AllByRecursion (IsFurther v s.view) gs) (sym (none_given s.acts a.silent)) tt;
+    rising = λ listed. subst AreRising (sym (none_given s.acts a.silent)) tt;
     settled = λ is. ap (λ (p : Place). is_settled p) a.place ∙ is;
     k = a.k;
   }
@@ -122,6 +155,9 @@ module _ (P : ℕ → Mac → Type 0) where
             | inr none ↦ absurd (none-some source none)
           ]
     ];
+    longer = λ listed at. omega arith;
+    further = λ listed. tt;
+    rising = λ listed. tt;
     settled = λ is. is;
     k = refl;
   }
@@ -139,6 +175,15 @@ module _ (P : ℕ → Mac → Type 0) where
     | inl here ↦
         subst (λ (n : ℕ). length (get_or (set v.grants port new) n []) ≤ 65535) (sym here)
         (subst (λ (gs : List Grant). length gs ≤ 65535) (sym (get_or-set_same v.grants port new [] within)) small)
+  ]
+
+  longer_with : (v : SwitchView) (port : ℕ) (new : List Grant) → port < length v.grants → length (grants_at v port) ≤ length new → (at : ℕ) →
+      length (grants_at v at) ≤ length (grants_at (with_grants v port new) at)
+  longer_with v port new within more at = elim (cases_eq at port) [
+    | inr other ↦ subst (λ (gs : List Grant). length (grants_at v at) ≤ length gs) (sym (get_or-set_other v.grants port at new [] other)) (omega arith)
+    | inl here ↦
+        subst (λ (n : ℕ). length (grants_at v n) ≤ length (get_or (set v.grants port new) n [])) (sym here)
+        (subst (λ (gs : List Grant). length (grants_at v port) ≤ length gs) (sym (get_or-set_same v.grants port new [] within)) more)
   ]
 
   -- the next address of a port
@@ -166,6 +211,12 @@ module _ (P : ℕ → Mac → Type 0) where
             let long = length-append (grants_at v port) (new_grant mac ip ∷ []) in
             few_with v port new (subst (λ n. port < n) (sym listed.many) within) (omega (arith, less, long)) few;
         sources = λ are. are;
+        longer = λ listed. let long = length-append (grants_at v port) (new_grant mac ip ∷ []) in
+            longer_with v port new (subst (λ n. port < n) (sym listed.many) within) (omega (arith, long));
+        further = λ listed. let long = length-append (grants_at v port) (new_grant mac ip ∷ []) in
+            ((omega arith, subst (λ (gs : List Grant). length (grants_at v port) + 1 ≤ length gs)
+            (sym (get_or-set_same v.grants port new [] (subst (λ n. port < n) (sym listed.many) within))) (omega (arith, long))), tt);
+        rising = λ listed. (tt, tt);
         settled = λ is. is;
         k = refl;
       }
@@ -184,6 +235,10 @@ module _ (P : ℕ → Mac → Type 0) where
         listed = listed_with v x.port (set (grants_at v x.port) (x.vmid - 1) h) settled;
         few = λ listed few. few_with v x.port (set (grants_at v x.port) (x.vmid - 1) h) (subst (λ n. x.port < n) (sym listed.many) within) (subst (λ n. n ≤ 65535) (sym (length-set (grants_at v x.port) (x.vmid - 1) h)) (few x.port)) few;
         sources = λ are. are;
+        longer = λ listed. let long = length-set (grants_at v x.port) (x.vmid - 1) h in
+            longer_with v x.port (set (grants_at v x.port) (x.vmid - 1) h) (subst (λ n. x.port < n) (sym listed.many) within) (omega (arith, long));
+        further = λ listed. subst (λ gs. AllByRecursion (IsFurther v (with_grant v x h)) gs) (sym none) tt;
+        rising = λ listed. subst AreRising (sym none) tt;
         settled = λ is. is;
         k = refl;
       })

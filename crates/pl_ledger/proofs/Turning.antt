@@ -120,7 +120,7 @@ module _ (w : WorldView) (s : ℕ) (input : SwitchInput) (speech : SpokenFrame) 
       (subst (λ (p : Parts). AllByRecursion IsShaped p.switches) turn_parts formed.shaped)
       (subst (λ (p : Parts). AreInBounds p.switches) turn_parts formed.bounds)
       (subst (λ (p : Parts). AreApart p.switches) turn_parts formed.apart)
-      t.grows.stays (newly_given turn.before step.view step.acts t.grows.fresh) (t.takes.given t.listed t.sources) (t.takes.covers t.listed)
+      t.grows.stays (newly_given turn.before step.view step.acts t.grows.fresh) (t.takes.given t.listed t.sources) (t.takes.covers t.listed) (t.takes.further t.listed) (t.takes.rising t.listed)
       (t.takes.few t.listed (λ port. l.few s turn.before port turn.found)) (t.takes.sources t.sources))
 
 -- ---- the manager

@@ -8,3 +8,4 @@ pub mod Stepping
 pub mod Numbering
 pub mod Turning
 pub mod Events
+pub mod Beginning

@@ -1,10 +1,7 @@
 //! What the journal says of addresses is what the switches granted and the fabric manager registered: so it
-//! is in every run.
+//! is at the beginning, and each step keeps it, over the definitions of the world and of the rules alone.
 #![tactic(auto)]
 
-ghost use Rattle.std.specs.Prelude.{◌≡◌, ℕ};
+pub use ledger_laws::{each_step_keeps_the_ledger, the_ledger_begins_empty};
 
-/// Dummy.
-pub fn dummy()
-    ensures { (n : ℕ) → n ≡ n }
-{}
+mod ledger_laws;

@@ -1,1 +1,2 @@
 pub mod EachAct
+pub mod Wishing

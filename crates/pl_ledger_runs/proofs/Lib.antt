@@ -1,2 +1,3 @@
 pub mod EachAct
 pub mod Wishing
+pub mod Asking

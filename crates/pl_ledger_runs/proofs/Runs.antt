@@ -1,6 +1,6 @@
 -- In every run pods and positions of placed edge switches are numbers of one byte, and the journal says of addresses what the switches granted
 -- and the manager registered.
-use Rattle.std.proofs.Common.{◌≡◌, ℕ, ◌<◌, ◌^◌, ◌&&◌, Bool, true, false, List, [], ◌∷◌, ◌++◌, get_or, replicate, zero, suc, Option, Some, None, slice_get, refl, sym, ap, subst, ◌∙◌, arith}
+use Rattle.std.proofs.Common.{◌≡◌, ℕ, ◌<◌, ◌≤◌, ◌^◌, ◌&&◌, Bool, true, false, List, [], ◌∷◌, ◌++◌, length, get_or, replicate, zero, suc, Option, Some, None, slice_get, refl, sym, ap, subst, ◌∙◌, arith}
 use Rattle.std.specs.List.{AllByRecursion}
 use Rattle.std.proofs.lemmas.Bool.{and_parts}
 use Rattle.std.proofs.lemmas.Option.{get_or_from_slice_get}
@@ -72,6 +72,12 @@ module _ (host : HostRule) (sends : HostsSendData host) (owns : HostsSendOwn hos
   pub kept_in_run : (plan : Plan) (limits : Limits) → CanBegin plan → Holds (booted plan limits) → (moments : List Moment) (new : WorldView) →
       WorldRun Loose manager_rule host (booted plan limits) moments new → Holds new
   kept_in_run plan limits can holds moments new run = from_there plan limits can [] (booted plan limits) refl holds moments new run
+
+pub few_in : (w : WorldView) → Kept w → ZerosAsk (control_plane w) → length (pods_given w.manager.askers) ≤ w.plan.k
+few_in w kept asking =
+    let is = kept.counted.formed.plan in
+    let f = control_plane w in
+    few_numbers_given f is kept.placed (fixed_are_apart f.plan f.view f.says is kept.voting) asking
 
 -- ---- numbers of one byte
 pub in_bounds : (w : WorldView) → Kept w → ZerosAsk (control_plane w) → AreInBounds w.switches

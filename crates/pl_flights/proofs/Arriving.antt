@@ -6,8 +6,9 @@ use Rattle.std.proofs.lemmas.Bool.{and_from, and_parts, both_ways, cases_Bool, c
 use Rattle.std.proofs.lemmas.List.Quantifiers.{position-Some}
 use Rattle.std.proofs.lemmas.Slice.Eq.{bytes_eq-Decides}
 use Rattle.pl_frame.specs.declared.address.Mac.{Mac}
-use Rattle.pl_frame.specs.Ethernet.{destination_of}
+use Rattle.pl_frame.specs.Ethernet.{destination_of, source_of}
 use Rattle.pl_layouts.specs.Equality.{same_mac}
+use Rattle.pl_layouts.specs.Frames.{mac_number}
 use Rattle.pl_layouts.specs.Memberships.{group_of, is_group}
 use Rattle.pl_wiring.specs.declared.host.Host.{Host}
 use Rattle.pl_wiring.specs.declared.link.Peer.{Peer}
@@ -18,14 +19,18 @@ use Rattle.pl_journal.specs.declared.cause.Cause.TheVariants as cause
 use Rattle.pl_journal.specs.declared.entry.Entry.{Entry}
 use Rattle.pl_journal.specs.declared.entry.Entry.TheVariants.{Arrived, Dropped}
 use Rattle.pl_journal.specs.Causes.{CauseShows, goes_to_group, has_left, is_routed}
-use Rattle.pl_journal.specs.Flights.{address, first_of, flight_of, leg}
-use Rattle.pl_journal.specs.Lossy.{ArrivesByAddress, ArrivesByGroup, Needs, UnalteredFrom, mac_of_host}
+use Rattle.pl_journal.specs.Flights.{address, first_of, flight_of, leg, root, root_arrived_at}
+use Rattle.pl_journal.specs.Lossy.{ArrivesByAddress, ArrivesByGroup, EndsAt, Needs, UnalteredFrom, is_member, is_root_there, is_same_place, mac_of_host}
 use Rattle.pl_journal.specs.Places.{Spot, at_port, holder, is_at, spot, spot_of}
 use Rattle.pl_journal.proofs.Hosts.{hosts_apart}
 use Rattle.pl_core.specs.declared.reception.Reception.{Reception}
 use Rattle.pl_core.specs.declared.reception.Reception.TheVariants.{Kept, NotMember}
 use Rattle.pl_core.specs.HostDuties.{HostsKeepFrames, HostsSendData}
+use Rattle.pl_core.specs.declared.acts.HostAct.{HostAct}
+use Rattle.pl_core.specs.HostViews.{HostView}
 use Rattle.pl_core.specs.HostInputs.{HostRule}
+use Rattle.pl_core.specs.HostInputs.HostAnswer.{Received}
+use Rattle.pl_core.specs.HostInputs.HostInput.{Receives}
 use Rattle.pl_world.specs.declared.item.Item.{Item}
 use Rattle.pl_world.specs.declared.item.Item.TheVariants.{Data}
 use Rattle.pl_world.specs.declared.stand.Stand.{Stand}
@@ -36,6 +41,7 @@ use Rattle.pl_world.specs.WorldRule.{ComesAtHost}
 use Rattle.pl_world.specs.Worlds.{WorldView}
 use Rattle.pl_world.proofs.Counts.{times_in-data}
 use Rattle.pl_world.proofs.StepBalances.{Sound, noted_owes, sound}
+use Rattle.pl_flights.specs.Given.{AreMembers, ComesFirst}
 use Rattle.pl_flights.specs.OnTheWay.{IsGoing, IsLeaving, IsTold, StandsAgree, Tells, book_of, place_in, spot_of_stand}
 use Rattle.pl_flights.proofs.HostTurns.{host_told}
 use Rattle.pl_flights.proofs.Keeping.{kept, same_book}
@@ -45,13 +51,13 @@ use Rattle.pl_flights.proofs.OverLinks.{taken, taken_out}
 abbrev mac : List ℕ → Mac
 mac bytes = record { 0 = bytes }
 
-same_mac_is : (a b : Mac) → same_mac a b ≡ true → a ≡ b
+pub same_mac_is : (a b : Mac) → same_mac a b ≡ true → a ≡ b
 same_mac_is a b is = ap mac ((bytes_eq-Decides a.0 b.0).0 is)
 
-same_mac_itself : (a : Mac) → same_mac a a ≡ true
+pub same_mac_itself : (a : Mac) → same_mac a a ≡ true
 same_mac_itself a = (bytes_eq-Decides a.0 a.0).1 refl
 
-some_passes : {T : Type 0} (p : T → Bool) (xs : List T) (h : ℕ) (x : T) → slice_get xs h ≡ Some x → p x ≡ true → position_or_len p xs < length xs
+pub some_passes : {T : Type 0} (p : T → Bool) (xs : List T) (h : ℕ) (x : T) → slice_get xs h ≡ Some x → p x ≡ true → position_or_len p xs < length xs
 some_passes p [] h x is passes = absurd (cc)
 some_passes p (y ∷ xs) zero x is passes = let same : y ≡ x = cc in let here : p y ≡ true = ap p same ∙ passes in rw here (omega arith)
 some_passes p (y ∷ xs) (suc h) x is passes =
@@ -61,7 +67,7 @@ some_passes p (y ∷ xs) (suc h) x is passes =
       | inr later ↦ rw later (omega arith)
     ]
 
-found_there : {T : Type 0} (xs : List T) (i : ℕ) (d : T) → i < length xs → slice_get xs i ≡ Some (get_or xs i d)
+pub found_there : {T : Type 0} (xs : List T) (i : ℕ) (d : T) → i < length xs → slice_get xs i ≡ Some (get_or xs i d)
 found_there [] i d within = absurd (omega arith)
 found_there (x ∷ xs) zero d within = refl
 found_there (x ∷ xs) (suc i) d within = found_there xs i d (omega arith)
@@ -125,7 +131,7 @@ its_address None dst is = absurd (false≢true is)
 its_address (Some m) dst is = ap Some (same_mac_is m dst is)
 
 -- two hosts have two addresses
-host_is : (plan : Plan) (g h : ℕ) (m : Mac) → IsPlan plan → mac_of_host plan g ≡ Some m → mac_of_host plan h ≡ Some m → g ≡ h
+pub host_is : (plan : Plan) (g h : ℕ) (m : Mac) → IsPlan plan → mac_of_host plan g ≡ Some m → mac_of_host plan h ≡ Some m → g ≡ h
 host_is plan g h m is at_g at_h = elim (cases_eq g h) [
   | inl same ↦ same
   | inr differ ↦ absurd (elim (cases_lt g h) [
@@ -152,11 +158,6 @@ host_is plan g h m is at_g at_h = elim (cases_eq g h) [
         let second = host_there hosts b m at_b d in
         all a b d less second.0 (first.1 ∙ sym second.1)
 
--- What the part on groups gives: a frame of a group that comes to a host may arrive there.
-abbrev pub GroupArrives : WorldView → ℕ → ℕ → ℕ → List ℕ → Type 0
-GroupArrives w s port id frame = (h : ℕ) → is_group (destination_of frame) ≡ true → receiver w s port frame ≡ Some h →
-    ArrivesByGroup w.plan (reverse w.journal) id h frame
-
 by_kind : (b : Bool) {P Q : Type 0} → (b ≡ true → P) → (b ≡ false → Q) → MatchBool b P Q
 by_kind true p q = p refl
 by_kind false p q = q refl
@@ -166,7 +167,7 @@ unicast_is_not_routed m unicast = ap is_routed (cond-true (not (is_group m)) Non
 
 module _ (w : WorldView) (counted : IsCounted w) (told : IsTold w) (s port id : ℕ) (frame : List ℕ) (items : List Item)
     (within : port < w.plan.k) (head : out_of w s port ≡ Data id frame ∷ items) (peer : peer_of w.plan s port ≡ HostPort) where
-  leaving : IsLeaving w.plan (book_of (reverse w.journal)) (flight_of w.plan (reverse w.journal) id) frame s port
+  leaving : IsLeaving w.plan (place_in w.switches) (book_of (reverse w.journal)) (flight_of w.plan (reverse w.journal) id) frame s port
   leaving = subst (λ (p : Peer). IsGoing w.plan (place_in w.switches) (reverse w.journal) s port p id frame) peer
       (taken w counted told s port id frame items within head).going
 
@@ -191,6 +192,23 @@ module _ (w : WorldView) (counted : IsCounted w) (told : IsTold w) (s port id : 
         reached = some (spot_of w.plan past h) here;
         unaltered = subst (λ n. UnalteredFrom (flight_of w.plan past id).sender (flight_of w.plan past id).source (flight_of w.plan past id).beginning
             (mac_of_host w.plan n) frame) same one.unaltered;
+      }
+
+  -- a frame of a group may arrive at a member, where it is the first of its root
+  arrives_for_many : (h : ℕ) → is_group (destination_of frame) ≡ true → receiver w s port frame ≡ Some h →
+      is_member (reverse w.journal) h (group_of (destination_of frame)) ≡ true → ComesFirst w s port id → ArrivesByGroup w.plan (reverse w.journal) id h frame
+  arrives_for_many h group is member first =
+      let past : List Entry = reverse w.journal in
+      let g = gets w s port h frame is in
+      let m = leaving.many group in
+      let here : spot_of w.plan past h ≡ Some (at_port s port) = stands_there w past s port h told.stands_agree g.found in
+      let last : first_of (leg past id) ≡ Some s = ap first_of m.leg ∙ leaving.last in
+      record {
+        reached = subst (λ (p : Option Spot). EndsAt (leg past id) p) (sym here) (refl, last);
+        unaltered = m.unaltered;
+        first = ap (is_root_there w.plan past (root past id)) here ∙ first;
+        not_back = ap (is_same_place (spot past (mac_number (source_of frame)))) here ∙ leaving.not_back group;
+        member = member;
       }
 
   -- where nobody gets it the host has left
@@ -231,10 +249,11 @@ module _ (w : WorldView) (counted : IsCounted w) (told : IsTold w) (s port id : 
       left_is o there h is at gone = rw (is, at) (ap not gone)
 
   -- it arrives, or is refused by a host that is no member of its group
-  reception_told : (rule : HostRule) → HostsKeepFrames rule → GroupArrives w s port id frame → (h : ℕ) → receiver w s port frame ≡ Some h →
+  reception_told : (rule : HostRule) → HostsKeepFrames rule → (is_group (destination_of frame) ≡ true → ComesFirst w s port id) → (h : ℕ) → receiver w s port frame ≡ Some h →
       (reception : Reception) → (is_routed (group_of (destination_of frame)) ≡ false → reception ≡ Kept) →
+      (reception ≡ Kept → is_group (destination_of frame) ≡ true → is_member (reverse w.journal) h (group_of (destination_of frame)) ≡ true) →
       IsTold (reception_noted (taken_out w s port items) h id frame reception)
-  reception_told rule keeps groups h is Kept so =
+  reception_told rule keeps groups h is Kept so members =
       let past : List Entry = reverse w.journal in
       let took = taken w counted told s port id frame items within head in
       let e : Entry = Arrived id (host_no h) frame in
@@ -242,13 +261,13 @@ module _ (w : WorldView) (counted : IsCounted w) (told : IsTold w) (s port id : 
       let needs : Needs w.plan past e = (
         took.flies.flies,
         by_kind (goes_to_group past id)
-            (λ group. groups h (sym group_is ∙ group) is) (λ unicast. arrives h (sym group_is ∙ unicast) is),
+            (λ group. arrives_for_many h (sym group_is ∙ group) is (members refl (sym group_is ∙ group)) (groups (sym group_is ∙ group))) (λ unicast. arrives h (sym group_is ∙ unicast) is),
       ) in
       subst (λ p. Tells w.plan (place_in w.switches) p w.links w.stands w.from_hosts (taken_out w s port items).out) (sym (reverse_noted w.journal past e refl))
       (note w.plan (place_in w.switches) past w.links w.stands w.from_hosts (taken_out w s port items).out e id
       (record { not_at_hosts = took.flies.not_at_hosts; not_out = took.flies.not_out }) (λ g other. kept w.plan past e g tt) (same_book (book_of past)) needs tt
       took.tells.links_agree took.tells.stands_agree took.tells)
-  reception_told rule keeps groups h is NotMember so =
+  reception_told rule keeps groups h is NotMember so members =
       let past : List Entry = reverse w.journal in
       let took = taken w counted told s port id frame items within head in
       let routed : is_routed (group_of (destination_of frame)) ≡ true = elim (cases_Bool (is_routed (group_of (destination_of frame)))) [
@@ -265,6 +284,10 @@ module _ (w : WorldView) (counted : IsCounted w) (told : IsTold w) (s port id : 
       (note_drop w.plan (place_in w.switches) past w.links w.stands w.from_hosts (taken_out w s port items).out id cause.NoMember
       (record { not_at_hosts = took.flies.not_at_hosts; not_out = took.flies.not_out }) took.flies.flies shows took.tells)
 
+  same_hosts : (h : ℕ) (reception : Reception) → (reception_noted (taken_out w s port items) h id frame reception).hosts ≡ w.hosts
+  same_hosts h Kept = refl
+  same_hosts h NotMember = refl
+
   reception_sound : (h : ℕ) (reception : Reception) → Sound (reception_noted (taken_out w s port items) h id frame reception)
   reception_sound h Kept = record {
     balance = noted_owes (taken_out w s port items) (λ i. times_in i (Data id frame ∷ [])) (λ i. 0) (Arrived id (host_no h) frame ∷ []) refl
@@ -278,9 +301,9 @@ module _ (w : WorldView) (counted : IsCounted w) (told : IsTold w) (s port id : 
   }
 
   -- whatever becomes of it there
-  pub comes_out_told : (rule : HostRule) → HostsKeepFrames rule → HostsSendData rule → GroupArrives w s port id frame → (to : Option ℕ) →
+  pub comes_out_told : (rule : HostRule) → HostsKeepFrames rule → HostsSendData rule → (is_group (destination_of frame) ≡ true → ComesFirst w s port id) → AreMembers rule w → (to : Option ℕ) →
       receiver w s port frame ≡ to → (new : WorldView) → ComesAtHost rule (taken_out w s port items) id frame to new → IsTold new
-  comes_out_told rule keeps sends groups None nobody new is =
+  comes_out_told rule keeps sends groups members None nobody new is =
       let past : List Entry = reverse w.journal in
       let took = taken w counted told s port id frame items within head in
       subst IsTold (sym is)
@@ -288,8 +311,11 @@ module _ (w : WorldView) (counted : IsCounted w) (told : IsTold w) (s port id : 
       (sym (reverse_noted w.journal past (Dropped id cause.HostGone) refl))
       (note_drop w.plan (place_in w.switches) past w.links w.stands w.from_hosts (taken_out w s port items).out id cause.HostGone
       (record { not_at_hosts = took.flies.not_at_hosts; not_out = took.flies.not_out }) took.flies.flies (nobody_there nobody) took.tells))
-  comes_out_told rule keeps sends groups (Some h) found new receives =
+  comes_out_told rule keeps sends groups members (Some h) found new receives =
       host_told rule sends _ h _ _ new (reception_sound h receives.reception)
       (reception_told rule keeps groups h found receives.reception
-      (λ fine. keeps receives.turn.before frame receives.turn.after receives.turn.acts receives.reception fine receives.turn.ruled))
+      (λ fine. keeps receives.turn.before frame receives.turn.after receives.turn.acts receives.reception fine receives.turn.ruled)
+      (λ kept group. members h receives.turn.before receives.turn.after receives.turn.acts frame
+      (sym (ap (λ hosts. slice_get hosts h) (same_hosts h receives.reception)) ∙ receives.turn.found)
+      (subst (λ r. rule receives.turn.before (Receives frame) receives.turn.after receives.turn.acts (Received r)) kept receives.turn.ruled) group))
       receives.turn

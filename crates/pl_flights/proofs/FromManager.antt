@@ -39,7 +39,7 @@ use Rattle.pl_world.proofs.StepBalances.{sound}
 use Rattle.pl_world.proofs.SwitchActBalances.{says_rest}
 use Rattle.pl_flights.specs.OnTheWay.{Book, IsTold, book_of, known_place, place_in}
 use Rattle.pl_flights.specs.Standing.{IsMore, KnowsAddresses, KnowsNeighbours, KnowsPlaces, StandsOn}
-use Rattle.pl_flights.proofs.Growing.{between_grown}
+use Rattle.pl_flights.proofs.Growing.{between_grown, leaving_grown}
 use Rattle.pl_flights.proofs.Hands.{GoodActs, Hand, MayLeave, made_here, turned}
 use Rattle.pl_flights.proofs.Hands.Hand.{Empty, Spreads, Waits}
 use Rattle.pl_flights.proofs.Moving.{set_get, set_get_other}
@@ -51,8 +51,8 @@ use Rattle.pl_flights.proofs.SwitchTurns.{turn_switches}
 -- good acts are good where more is known of places
 module _ (plan : Plan) (place later : ℕ → Place) (more : IsMore place later) (book : Book) (s : ℕ) where
   leave_grown : (port : ℕ) (peer : Peer) (f : Flight) (frame : List ℕ) → MayLeave plan place book s port peer f frame → MayLeave plan later book s port peer f frame
-  leave_grown port (Switch t q) f frame may = between_grown place later more plan f true frame s t.0 may
-  leave_grown port HostPort f frame may = may
+  leave_grown port (Switch t q) f frame may = between_grown place later more plan book f true frame s t.0 may
+  leave_grown port HostPort f frame may = leaving_grown place later more plan book f frame s port may
 
   pub good_grown : (acts : List Act) (hand : Hand) → GoodActs plan place book s acts hand → GoodActs plan later book s acts hand
   good_grown [] hand good = tt
@@ -97,7 +97,7 @@ abbrev pub GivesNoPod : ToSwitch → Type 0
 GivesNoPod (Pod pod) = ⊥
 GivesNoPod says = Unit {0}
 
-silent_groups : (old new : List Member) → AreSilent (groups_told old new)
+pub silent_groups : (old new : List Member) → AreSilent (groups_told old new)
 silent_groups old new = silent_flat_map (group_told old new) (groups_of (old ++ new)) (λ group. none_or_told (are_alike (has_member_of old group) (has_member_of new group)) _)
 
 probe_place : (old : Pmac) (amac : Mac) (o : Option Ip4) (v : SwitchView) → (probes_at old amac o v).view.place ≡ v.place
@@ -147,7 +147,9 @@ module _ (plan : Plan) (place : ℕ → Place) (book : Book) (t : ℕ) (v : Swit
       })
       (λ other. record { good = tt; stays = refl })
   heard (Flood asker asker_ip ip) none = cond_both (is_granted v asker) (floods v (flood_frame asker asker_ip ip)) (rests v) IsHeard
-      (λ here. record { good = flood_good plan place book t v is_plan places neighbours knows choose is asker asker_ip ip; stays = refl })
+      (λ here.
+      let grant = some_granted (granted v asker) here in
+      record { good = flood_good plan place book t v is_plan places neighbours knows choose is asker asker_ip ip grant.0 grant.1; stays = refl })
       (λ other. record { good = tt; stays = refl })
   heard (Invalidate old new number ip) none = invalidated old (record { new = new; number = number; ip = ip }) (granted v old) refl
 

@@ -32,3 +32,14 @@ pub mod Granting
 pub mod Settling
 pub mod Entering
 pub mod GrantingAmid
+pub mod NoneJustIn
+pub mod Rewriting
+pub mod TakingIn
+pub mod FindingHosts
+pub mod Learning
+pub mod ComingIn
+pub mod Hosts
+pub mod FromHosts
+pub mod Remembering
+pub mod BecomingPlaced
+pub mod PmacNumbers

@@ -47,31 +47,35 @@ use Rattle.pl_ledger.proofs.Turning.{IsIn}
 use Rattle.pl_ledger_runs.specs.Askers.{AreAsking, IsWishOf, ZerosAsk}
 use Rattle.pl_ledger_runs.proofs.Asking.{few_numbers_given, plane_asking, plane_grown}
 
--- what holds at each moment where it is kept by the steps of worlds in which all is kept
-module _ (host : HostRule) (sends : HostsSendData host) (owns : HostsSendOwn host) (Holds : WorldView → Type 0)
-    (steps : (old : WorldView) (event : Event) (new : WorldView) → Kept old → Kept new → Holds old → refusal old event ≡ None → WorldStep Loose manager_rule host old event new → Holds new)
+-- what else holds in every run
+abbrev pub AlsoHolds : HostRule → Plan → Limits → (WorldView → Type 0) → Type 0
+AlsoHolds host plan limits Also = (moments : List Moment) (w : WorldView) → WorldRun Loose manager_rule host (booted plan limits) moments w → Also w
+
+-- what holds at each moment where it is kept by the steps of worlds in which all is kept, and what else is so in every run
+module _ (host : HostRule) (sends : HostsSendData host) (owns : HostsSendOwn host) (Also Holds : WorldView → Type 0)
+    (steps : (old : WorldView) (event : Event) (new : WorldView) → Kept old → Kept new → Also old → Holds old → refusal old event ≡ None → WorldStep Loose manager_rule host old event new → Holds new)
     (marks : (w : WorldView) (entry : Entry) → IsMark entry → Kept w → Holds w → Holds (noted w entry)) where
   run_more : (old mid new : WorldView) (moments : List Moment) (moment : Moment) → WorldRun Loose manager_rule host old moments mid → Befalls Loose manager_rule host mid moment new →
       WorldRun Loose manager_rule host old (moments ++ moment ∷ []) new
   run_more old mid new [] moment run more = (new, subst (λ (w : WorldView). Befalls Loose manager_rule host w moment new) run more, refl)
   run_more old mid new (x ∷ moments) moment run more = (run.0, run.1, run_more run.0 mid new moments moment run.2 more)
 
-  from_there : (plan : Plan) (limits : Limits) → CanBegin plan → (before : List Moment) (old : WorldView) → WorldRun Loose manager_rule host (booted plan limits) before old →
+  from_there : (plan : Plan) (limits : Limits) → CanBegin plan → AlsoHolds host plan limits Also → (before : List Moment) (old : WorldView) → WorldRun Loose manager_rule host (booted plan limits) before old →
       Holds old → (moments : List Moment) (new : WorldView) → WorldRun Loose manager_rule host old moments new → Holds new
-  from_there plan limits can before old run holds [] new same = subst Holds (sym same) holds
-  from_there plan limits can before old run holds (Step event ∷ moments) new rest =
+  from_there plan limits can also before old run holds [] new same = subst Holds (sym same) holds
+  from_there plan limits can also before old run holds (Step event ∷ moments) new rest =
       let longer = run_more (booted plan limits) old rest.0 before (Step event) run rest.1 in
-      from_there plan limits can (before ++ Step event ∷ []) rest.0 longer
-      (steps old event rest.0 (run_keeps_all host sends owns plan limits before old can run) (run_keeps_all host sends owns plan limits (before ++ Step event ∷ []) rest.0 can longer) holds
+      from_there plan limits can also (before ++ Step event ∷ []) rest.0 longer
+      (steps old event rest.0 (run_keeps_all host sends owns plan limits before old can run) (run_keeps_all host sends owns plan limits (before ++ Step event ∷ []) rest.0 can longer) (also before old run) holds
       rest.1.0 rest.1.1) moments new rest.2
-  from_there plan limits can before old run holds (Mark entry ∷ moments) new rest =
+  from_there plan limits can also before old run holds (Mark entry ∷ moments) new rest =
       let longer = run_more (booted plan limits) old rest.0 before (Mark entry) run rest.1 in
-      from_there plan limits can (before ++ Mark entry ∷ []) rest.0 longer
+      from_there plan limits can also (before ++ Mark entry ∷ []) rest.0 longer
       (subst Holds (sym rest.1.1) (marks old entry rest.1.0 (run_keeps_all host sends owns plan limits before old can run) holds)) moments new rest.2
 
-  pub kept_in_run : (plan : Plan) (limits : Limits) → CanBegin plan → Holds (booted plan limits) → (moments : List Moment) (new : WorldView) →
+  pub kept_in_run : (plan : Plan) (limits : Limits) → CanBegin plan → AlsoHolds host plan limits Also → Holds (booted plan limits) → (moments : List Moment) (new : WorldView) →
       WorldRun Loose manager_rule host (booted plan limits) moments new → Holds new
-  kept_in_run plan limits can holds moments new run = from_there plan limits can [] (booted plan limits) refl holds moments new run
+  kept_in_run plan limits can also holds moments new run = from_there plan limits can also [] (booted plan limits) refl holds moments new run
 
 pub few_in : (w : WorldView) → Kept w → ZerosAsk (control_plane w) → length (pods_given w.manager.askers) ≤ w.plan.k
 few_in w kept asking =
@@ -152,4 +156,5 @@ entered_first plan limits = record {
 pub entered_in_run : (host : HostRule) → HostsSendData host → HostsSendOwn host → (plan : Plan) (limits : Limits) → CanBegin plan → (moments : List Moment) (new : WorldView) →
     WorldRun Loose manager_rule host (booted plan limits) moments new → IsEnteredAll new
 entered_in_run host sends owns plan limits can moments new run =
-    kept_in_run host sends owns IsEnteredAll (entered_step host) entered_mark plan limits can (entered_first plan limits) moments new run
+    kept_in_run host sends owns (λ w. Unit {0}) IsEnteredAll (λ old event next kept kept_then also. entered_step host old event next kept kept_then) entered_mark plan limits can
+    (λ before w there. tt) (entered_first plan limits) moments new run

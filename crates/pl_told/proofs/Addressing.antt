@@ -99,7 +99,7 @@ both_true true true is so = refl
 both_true true false is so = absurd (false≢true so)
 both_true false b is so = absurd (false≢true is)
 
-both_false : (a b : Bool) → a ≡ false → b ≡ false → are_alike a b ≡ true
+pub both_false : (a b : Bool) → a ≡ false → b ≡ false → are_alike a b ≡ true
 both_false false false is so = refl
 both_false false true is so = absurd (false≢true (sym so))
 both_false true b is so = absurd (false≢true (sym is))

@@ -1,2 +1,4 @@
 pub mod Knowing
 pub mod Addressing
+pub mod Hosting
+pub mod Stepping

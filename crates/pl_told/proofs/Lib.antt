@@ -2,3 +2,4 @@ pub mod Knowing
 pub mod Addressing
 pub mod Hosting
 pub mod Stepping
+pub mod Running

@@ -160,16 +160,18 @@ module _ (w : WorldView) (f : Facts w) (at_edges : HostsAtEdges w) (addressed : 
       let source : source_of frame ≡ host.0.mac = source_is host.0 frame mine in
       comes_at (heard_item popped h (Data id frame)) stand.edge.0 stand.port (Data id frame) new refl frames new_formed addressed
       (λ n bytes same v found host_port.
-      let bytes_are : frame ≡ bytes = ap bytes_of same in
-      (record {
-        within = subst (λ n. stand.port < n) (sym (all_here (λ (v : SwitchView). v.k ≡ w.plan.k) w.switches stand.edge.0 v f.ports found)) edge.port;
-        own_ip = subst (λ (b : List ℕ). IsOwn (λ mac. own_ip w.plan mac) (source_of b) (sender_ip b)) bytes_are (own_frame w.plan f.plan h host.0 host.1 frame mine);
-      }, subst (λ (b : List ℕ). StoodAt w stand.edge.0 stand.port (source_of b)) bytes_are (record {
-        host = h;
-        of_mac = ap (host_of w.plan) source ∙ host_is w.plan f.plan h host.0 host.1;
-        stood = l.standing h stand is;
-        for_hosts = edge.free;
-      }))) comes
+      let bytes_are : frame ≡ bytes = ap bytes_of same in (
+        record {
+          within = subst (λ n. stand.port < n) (sym (all_here (λ (v : SwitchView). v.k ≡ w.plan.k) w.switches stand.edge.0 v f.ports found)) edge.port;
+          own_ip = subst (λ (b : List ℕ). IsOwn (λ mac. own_ip w.plan mac) (source_of b) (sender_ip b)) bytes_are (own_frame w.plan f.plan h host.0 host.1 frame mine);
+        },
+        subst (λ (b : List ℕ). StoodAt w stand.edge.0 stand.port (source_of b)) bytes_are (record {
+          host = h;
+          of_mac = ap (host_of w.plan) source ∙ host_is w.plan f.plan h host.0 host.1;
+          stood = l.standing h stand is;
+          for_hosts = edge.free;
+        }),
+      )) comes
     where
       bytes_of : Item → List ℕ
       bytes_of (Control bytes) = bytes

@@ -162,10 +162,10 @@ module _ (k : ℕ) (words : List Word) (id : SwitchId) where
   learns (tell.Learned x mac ip) = address_learnt x mac ip
   learns (tell.Place place) = nothing_learnt (tell.Place place) [] (view_after (known k words) id (tell.Place place)) refl refl
   learns (tell.Link u usable) = nothing_learnt (tell.Link u usable) [] (view_after (known k words) id (tell.Link u usable)) refl refl
-  learns tell.PodWanted = 
+  learns tell.PodWanted =
       let after = view_after (known k words) id tell.PodWanted in
       nothing_learnt tell.PodWanted (Say id (say.Pod (unwrap_or (pod_given after.askers id) 0)) ∷ []) after refl refl
-  learns (tell.Query asker asker_ip ip) = 
+  learns (tell.Query asker asker_ip ip) =
       nothing_learnt (tell.Query asker asker_ip ip) (Say id (answer_to asker asker_ip ip (lookup (known k words).learnt ip)) ∷ []) (known k words) refl refl
   learns (tell.Members group any) = nothing_learnt (tell.Members group any) [] (view_after (known k words) id (tell.Members group any)) refl refl
 

@@ -89,9 +89,11 @@ module _ (plan : Plan) (learnt : Learnt) (switches : List SwitchView) (stands : 
   unfolding within there
   one_of_number t u x g is found h new same =
       let fits = fits_now s w h.pmac new.1.grant there new.1.found in
-      let one : h.pmac ≡ x = number_apart h.pmac x fits (fits_now t u x g is found) same in
-      (one, apart t s u w x is there (granted_parts u x g found).0
-      (subst (λ (y : Pmac). is_local w y ≡ true) one (granted_parts w h.pmac new.1.grant new.1.found).0))
+      let one : h.pmac ≡ x = number_apart h.pmac x fits (fits_now t u x g is found) same in (
+        one,
+        apart t s u w x is there (granted_parts u x g found).0
+            (subst (λ (y : Pmac). is_local w y ≡ true) one (granted_parts w h.pmac new.1.grant new.1.found).0),
+      )
 
   -- an address that was granted is written down as it was, where no new one has its number
   entered_old : (t : ℕ) (x : Pmac) (g q : Grant) → q.amac ≡ g.amac → AllByRecursion (λ h. pmac_number h.pmac ≡ pmac_number x → ⊥) gs → IsEntered plan entries t x q →
@@ -162,9 +164,16 @@ module _ (plan : Plan) (learnt : Learnt) (switches : List SwitchView) (stands : 
       new_behind : (fs : List Giving) → AllByRecursion (IsNewlyGiven v w) fs → AllByRecursion (IsFurther v w) fs → x.vmid ≤ length (grants_at v x.port) →
           AllByRecursion (GivesGood plan s (IsNotBefore h x.port x.vmid) s h x.port) fs
       new_behind [] new more low = tt
-      new_behind (f ∷ fs) new more low =
-          (λ mine at. (new.0.1.grant, new.0.1.found, ap (host_of plan) new.0.1.to ∙ mine, at.1,
-          (let high = subst (λ (n : ℕ). length (grants_at v n) < f.pmac.vmid) at.1 more.0.0 in omega (arith, low, high))), new_behind fs new.1 more.1 low)
+      new_behind (f ∷ fs) new more low = (
+        λ mine at. (
+          new.0.1.grant,
+          new.0.1.found,
+          ap (host_of plan) new.0.1.to ∙ mine,
+          at.1,
+          (let high = subst (λ (n : ℕ). length (grants_at v n) < f.pmac.vmid) at.1 more.0.0 in omega (arith, low, high)),
+        ),
+        new_behind fs new.1 more.1 low,
+      )
 
   newest_now : (t : ℕ) (u : SwitchView) (x : Pmac) (g : Grant) (h : ℕ) → slice_get (set switches s w) t ≡ Some u → granted u x ≡ Some g → host_of plan g.amac ≡ Some h →
       IsBeforeLast plan (all_written plan s entries gs) t u h x

@@ -52,11 +52,12 @@ further_from u v w z low high gs all =
 
 rising_both : (v : SwitchView) (u w : SwitchView) (xs ys : List Giving) → AllByRecursion (IsFurther u v) xs → AllByRecursion (IsFurther v w) ys → AreRising xs → AreRising ys → AreRising (xs ++ ys)
 rising_both v u w [] ys further later a b = b
-rising_both v u w (x ∷ xs) ys further later a b =
-    (all_append (ComesBefore x) xs ys a.0
-    (all_weaker (IsFurther v w) (ComesBefore x)
-    (λ g is same. let low = further.0.1 in let high = subst (λ (n : ℕ). length (grants_at v n) < g.pmac.vmid) same is.0 in omega (arith, low, high)) ys later),
-    rising_both v u w xs ys further.1 later a.1 b)
+rising_both v u w (x ∷ xs) ys further later a b = (
+  all_append (ComesBefore x) xs ys a.0
+      (all_weaker (IsFurther v w) (ComesBefore x)
+      (λ g is same. let low = further.0.1 in let high = subst (λ (n : ℕ). length (grants_at v n) < g.pmac.vmid) same is.0 in omega (arith, low, high)) ys later),
+  rising_both v u w xs ys further.1 later a.1 b,
+)
 
 -- P of a port and an actual address: its host has stood there
 module _ (P : ℕ → Mac → Type 0) where
@@ -213,9 +214,14 @@ module _ (P : ℕ → Mac → Type 0) where
         sources = λ are. are;
         longer = λ listed. let long = length-append (grants_at v port) (new_grant mac ip ∷ []) in
             longer_with v port new (subst (λ n. port < n) (sym listed.many) within) (omega (arith, long));
-        further = λ listed. let long = length-append (grants_at v port) (new_grant mac ip ∷ []) in
-            ((omega arith, subst (λ (gs : List Grant). length (grants_at v port) + 1 ≤ length gs)
-            (sym (get_or-set_same v.grants port new [] (subst (λ n. port < n) (sym listed.many) within))) (omega (arith, long))), tt);
+        further = λ listed. let long = length-append (grants_at v port) (new_grant mac ip ∷ []) in (
+          (
+            omega arith,
+            subst (λ (gs : List Grant). length (grants_at v port) + 1 ≤ length gs)
+                (sym (get_or-set_same v.grants port new [] (subst (λ n. port < n) (sym listed.many) within))) (omega (arith, long)),
+          ),
+          tt,
+        );
         rising = λ listed. (tt, tt);
         settled = λ is. is;
         k = refl;

@@ -203,8 +203,7 @@ module _ (w : WorldView) (kept : Kept w) (entered : IsEnteredAll w) where
   back_so t v found x port fits is =
       let at = granted_somewhere w.switches (ledger (reverse w.journal)) (pmac_number x) (at_port t port) entered.ledger.backed (sym (same_spots (pmac_number x)) ∙ is) in
       let same : at.pmac ≡ x = number_apart at.pmac x (fits_at t at.there.view at.pmac at.there.grant at.there.found at.there.is) fits at.same in
-      let view : at.there.view ≡ v = same_Some at.there.view v (sym at.there.found ∙ found) in
-      (
+      let view : at.there.view ≡ v = same_Some at.there.view v (sym at.there.found ∙ found) in (
         subst (λ (u : SwitchView). is_local u x ≡ true) view
             (subst (λ (y : Pmac). is_local at.there.view y ≡ true) same (granted_parts at.there.view at.pmac at.there.grant at.there.is).0),
         sym (at.there.port_is ∙ ap (λ (y : Pmac). y.port) same),

@@ -104,7 +104,6 @@ module _ (w : WorldView) (kept : Kept w) (entered : IsEnteredAll w) where
       same_mac_of : (a b : Mac) (n : ℕ) → host_of w.plan a ≡ Some n → host_of w.plan b ≡ Some n → a ≡ b
       same_mac_of a b n at also = same_Some a b (sym (host_at w.plan a n at) ∙ host_at w.plan b n also)
 
-
   -- a port that has given the largest vmid
   spent_so : (t : ℕ) (v : SwitchView) → slice_get w.switches t ≡ Some v → (port : ℕ) → is_settled v.place ≡ true → is_port_spent v port ≡ true →
       is_spent (reverse w.journal) (at_port t port) ≡ true

@@ -3,3 +3,4 @@ pub mod Addressing
 pub mod Hosting
 pub mod Stepping
 pub mod Running
+pub mod Grouping

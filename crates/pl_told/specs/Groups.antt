@@ -1,4 +1,4 @@
--- What frames of groups are left to give.
+-- What frames of groups give.
 use Rattle.std.specs.Prelude.{List}
 use Rattle.pl_wiring.specs.Plan.{Plan}
 use Rattle.pl_core.specs.HostInputs.{HostRule}

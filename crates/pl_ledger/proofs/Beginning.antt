@@ -1,15 +1,13 @@
 -- At the beginning nothing is written down; and each step keeps the ledger.
 use Rattle.std.proofs.Common.{◌≡◌, ◌≤◌, ◌+◌, ℕ, zero, suc, true, List, [], ◌∷◌, length, map, replicate, get_or, Option, Some, None, option_map, slice_get, ◌==◌, refl, sym, ap, subst, ◌∙◌, arith}
-use Rattle.std.specs.List.{AllByRecursion}
 use Rattle.std.proofs.lemmas.Bool.{and_from, eq-eqb}
 use Rattle.std.proofs.lemmas.Option.{none-some, same_Some}
-use Rattle.pl_frame.specs.declared.address.SwitchId.{SwitchId}
 use Rattle.pl_wiring.specs.declared.host.Host.{Host}
 use Rattle.pl_wiring.specs.Plan.{Plan}
 use Rattle.pl_core.specs.HostInputs.{HostRule}
 use Rattle.pl_core.specs.SwitchFacts.{switch_at_boot}
 use Rattle.pl_core.specs.SwitchViews.{SwitchView}
-use Rattle.pl_journal.specs.Places.{at_port, first_spot, has_stood, is_at}
+use Rattle.pl_journal.specs.Places.{at_port, has_stood, is_at}
 use Rattle.pl_manager_rule.specs.ManagerRule.{manager_rule}
 use Rattle.pl_core.specs.declared.switch_records.Grant.{Grant}
 use Rattle.pl_core.specs.declared.switch_records.Source.{Source}

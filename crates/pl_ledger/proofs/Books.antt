@@ -1,7 +1,7 @@
 -- What entries say of addresses.
-use Rattle.std.proofs.Common.{◌≡◌, ◌⊎◌, ◌<◌, ◌≤◌, ◌+◌, ◌*◌, ◌==◌, ◌&&◌, ◌||◌, ◌^◌, ℕ, Bool, true, false, if◌then◌else◌, List, [], ◌∷◌, Option, Some, None, refl, sym, ap, subst, ◌∙◌, inl, inr, arith}
+use Rattle.std.proofs.Common.{◌≡◌, ◌⊎◌, ◌≤◌, ◌+◌, ◌*◌, ◌==◌, ◌&&◌, ◌||◌, ◌^◌, ℕ, Bool, true, if◌then◌else◌, List, [], ◌∷◌, Option, Some, None, refl, sym, ap, subst, ◌∙◌, inl, inr, arith}
 use Rattle.std.specs.List.{AllByRecursion}
-use Rattle.std.proofs.lemmas.Bool.{and_from, and_parts, cases_Bool, cond-false, cond-true, eq-eqb, eqb-true, false≢true, ne_eqb, or_left, or_right}
+use Rattle.std.proofs.lemmas.Bool.{and_from, and_parts, cases_Bool, cond-false, cond-true, eq-eqb, eqb-true, or_left, or_right}
 use Rattle.std.proofs.lemmas.Option.{none-some, same_Some}
 use Rattle.pl_pmac.specs.declared.pmac.Pmac.{Pmac}
 use Rattle.pl_pmac.specs.Pmac.{Fits, pmac_number}
@@ -12,7 +12,7 @@ use Rattle.pl_journal.specs.declared.entry.Entry.{Entry}
 use Rattle.pl_journal.specs.declared.entry.Entry.TheVariants.{Granted, Moved, Registered}
 use Rattle.pl_journal.specs.Places.{Spot, are_alike, at_port, granted_at, has_stood, holder, is_of_edge, is_spent, number, registered, same_pod_and_position, same_spot, spot}
 use Rattle.pl_core.specs.SwitchViews.{SwitchView}
-use Rattle.pl_world.specs.Changes.{host_no, host_of, switch_no}
+use Rattle.pl_world.specs.Changes.{host_of}
 use Rattle.pl_ledger.specs.Ledgers.{IsBacked, IsGrantedThere, ledger}
 use Rattle.pl_ledger.proofs.Giving.{AreRising, ComesBefore, Giving, IsOneOf}
 use Rattle.pl_ledger.proofs.Writing.{all_written, entry_for}

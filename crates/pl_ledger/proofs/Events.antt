@@ -1,12 +1,10 @@
 -- Each event keeps the ledger.
-use Rattle.std.proofs.Common.{◌≡◌, ◌<◌, ◌+◌, ◌==◌, ◌&&◌, ◌||◌, ℕ, true, false, set, Contains, List, [], ◌∷◌, fold, length, Option, Some, None, slice_get, refl, sym, ap, subst, ◌∙◌, inl, inr, zero, suc, get_or-set_same, get_or-set_other, length-set}
+use Rattle.std.proofs.Common.{◌≡◌, ◌<◌, ◌+◌, ◌==◌, ◌&&◌, ℕ, true, false, set, Contains, List, [], ◌∷◌, fold, length, Option, Some, None, slice_get, refl, sym, ap, subst, ◌∙◌, inl, inr, get_or-set_same}
 use Rattle.std.specs.List.{AllByRecursion}
 use Rattle.std.proofs.lemmas.Bool.{and_from, cases_eq, eq-eqb, false≢true, or_left, or_right}
 use Rattle.std.proofs.lemmas.List.Elements.{Contains-append_left, Contains-push}
-use Rattle.std.proofs.lemmas.Option.{none-some, same_Some, slice_get_within}
-use Rattle.pl_frame.specs.declared.address.Mac.{Mac}
+use Rattle.std.proofs.lemmas.Option.{same_Some, slice_get_within}
 use Rattle.pl_frame.specs.Ethernet.{source_of}
-use Rattle.pl_wiring.specs.declared.host.Host.{Host}
 use Rattle.pl_wiring.specs.declared.link.Link.{Link}
 use Rattle.pl_wiring.specs.declared.link.Peer.{Peer}
 use Rattle.pl_wiring.specs.declared.link.Peer.TheVariants.{HostPort, Switch}
@@ -44,9 +42,9 @@ use Rattle.pl_world.specs.declared.spoken_frame.SpokenFrame.TheVariants.{Silent}
 use Rattle.pl_world.specs.declared.stand.Stand.{Stand}
 use Rattle.pl_world.specs.Booting.{me_of}
 use Rattle.pl_world.specs.Changes.{emptied_from_host, emptied_out, ends_of, host_no, host_of, noted, out_of, receiver, switch_no}
-use Rattle.pl_world.specs.Flying.{IsCounted, IsDataItem, IsItem}
+use Rattle.pl_world.specs.Flying.{IsDataItem, IsItem}
 use Rattle.pl_world.specs.LinksAndMoves.{host_moved, item_lost, link_between, with_link}
-use Rattle.pl_world.specs.OtherActs.{heard_after_tick, host_act_done, host_stepped, reception_noted, skip_noted}
+use Rattle.pl_world.specs.OtherActs.{heard_after_tick, host_act_done, reception_noted, skip_noted}
 use Rattle.pl_world.specs.WorldRule.{ComesAtHost, ComesAtSwitch, ComesIn, ComesOut, ComesOver, Delivers, DeliversFromHost, DeliversFromManager, DeliversOut, DeliversToManager, Fails, Goes, Happens, HostPlays, HostTurn, IsRepaired, Loses, SwitchTurn, heard_item}
 use Rattle.pl_world.specs.Worlds.{WorldView}
 use Rattle.pl_control_plane.specs.HostsAtEdges.{HostsAtEdges, IsAtEdge}
@@ -59,10 +57,9 @@ use Rattle.pl_addresses.proofs.OwnHosts.{own_frame}
 use Rattle.pl_addresses.proofs.SwitchSteps.{Brings, IsOfHost, brings_frame, brings_order, brings_tick}
 use Rattle.pl_addresses.proofs.Turns.{all_here, exists_at, filled_within}
 use Rattle.pl_addresses.proofs.Words.{get-set_other, get-set_same}
-use Rattle.pl_ledger.specs.Ledgers.{AreEntered, HasStoodThere, IsBacked}
-use Rattle.pl_ledger.proofs.StepTakes.{ComesWell}
+use Rattle.pl_ledger.specs.Ledgers.{HasStoodThere}
 use Rattle.pl_ledger.proofs.Turning.{AreFormed, IsIn, StoodAt, host_is, manager_ledger, source_is, switch_ledger}
-use Rattle.pl_ledger.proofs.Writing.{AreQuiet, Parts, one_quiet, one_written, parts_of, quiet_ends, quiet_parts, quiet_written, written}
+use Rattle.pl_ledger.proofs.Writing.{Parts, one_quiet, one_written, parts_of, quiet_ends, quiet_parts, quiet_written, written}
 
 -- all items at a place
 all_at : {X : Type 0} (P : X → Type 0) (queues : List (List X)) (i : ℕ) → AllByRecursion (AllByRecursion P) queues → AllByRecursion P (items_at queues i)

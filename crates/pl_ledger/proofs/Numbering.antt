@@ -1,8 +1,7 @@
 -- The fabric manager keeps the ledger: what it registers is written down.
-use Rattle.std.proofs.Common.{◌≡◌, ◌⊎◌, ◌≤◌, ◌+◌, ◌==◌, ℕ, Bool, true, false, cond, if◌then◌else◌, set, List, [], ◌∷◌, ◌++◌, fold, map, length, Option, Some, None, option_map, unwrap_or, slice_get, refl, sym, ap, subst, ◌∙◌, inl, inr, arith, append_assoc}
-use Rattle.std.specs.List.{AllByRecursion, flat_map, list_any}
-use Rattle.std.proofs.lemmas.Bool.{cases_Bool, cond-false, cond-true, eq-eqb, eqb-true, false≢true, ne_eqb}
-use Rattle.std.proofs.lemmas.Option.{none-some}
+use Rattle.std.proofs.Common.{◌≡◌, ◌⊎◌, ◌+◌, ◌==◌, ℕ, true, false, cond, List, [], ◌∷◌, ◌++◌, fold, map, length, Option, Some, None, option_map, unwrap_or, refl, sym, ap, subst, ◌∙◌, inl, inr, append_assoc}
+use Rattle.std.specs.List.{flat_map, list_any}
+use Rattle.std.proofs.lemmas.Bool.{cases_Bool, cond-false, cond-true, eq-eqb, false≢true, ne_eqb}
 use Rattle.pl_frame.specs.declared.address.Ip4.{Ip4}
 use Rattle.pl_frame.specs.declared.address.Mac.{Mac}
 use Rattle.pl_frame.specs.declared.address.SwitchId.{SwitchId}
@@ -20,7 +19,7 @@ use Rattle.pl_core.specs.ManagerFacts.{groups}
 use Rattle.pl_core.specs.SwitchViews.{SwitchView}
 use Rattle.pl_journal.specs.declared.entry.Entry.{Entry}
 use Rattle.pl_journal.specs.declared.entry.Entry.TheVariants.{Registered}
-use Rattle.pl_journal.specs.Places.{holder, number, registered}
+use Rattle.pl_journal.specs.Places.{number, registered}
 use Rattle.pl_manager_rule.specs.Histories.{Word, known}
 use Rattle.pl_manager_rule.specs.ManagerRule.{answer_to, avoid_acts, changed, changed_of_group, invalidation, learning, manager_hears, tree_acts, tree_acts_of, view_after}
 use Rattle.pl_wiring.specs.Plan.{Plan}
@@ -28,11 +27,10 @@ use Rattle.pl_world.specs.declared.stand.Stand.{Stand}
 use Rattle.pl_world.specs.Changes.{said_to}
 use Rattle.pl_world.specs.OtherActs.{manager_act_done}
 use Rattle.pl_world.specs.Worlds.{WorldView}
-use Rattle.pl_addresses.specs.EdgeAddresses.{IsGrantedTo}
 use Rattle.pl_addresses.specs.Registries.{number_of, registry_of}
-use Rattle.pl_addresses.proofs.Registering.{HearsAgain, HearsNew, again, first}
+use Rattle.pl_addresses.proofs.Registering.{again, first}
 use Rattle.pl_addresses.proofs.Words.{is_or_other, same_by}
-use Rattle.pl_ledger.specs.Ledgers.{AreEntered, HasStoodThere, IsBacked, IsEntered}
+use Rattle.pl_ledger.specs.Ledgers.{AreEntered}
 use Rattle.pl_ledger.proofs.Books.{number_apart}
 use Rattle.pl_ledger.proofs.Writing.{Parts, one_written, parts_of, written}
 

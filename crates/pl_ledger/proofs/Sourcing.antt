@@ -1,7 +1,7 @@
 -- What an edge switch grants to sources, and what it remembers of them.
-use Rattle.std.proofs.Common.{◌≡◌, ◌<◌, ◌+◌, ◌||◌, ℕ, true, false, not, nat_lt, ◌&&◌, List, [], ◌∷◌, ◌++◌, Option, Some, None, refl, sym, ap, subst, ◌∙◌, arith}
+use Rattle.std.proofs.Common.{◌≡◌, ◌<◌, ℕ, true, not, ◌&&◌, List, [], ◌∷◌, Option, Some, None, refl, sym, ap, subst, ◌∙◌, arith}
 use Rattle.std.specs.List.{AllByRecursion}
-use Rattle.std.proofs.lemmas.Bool.{and_from, and_parts, cases_Bool, cond_both}
+use Rattle.std.proofs.lemmas.Bool.{and_from, and_parts}
 use Rattle.std.proofs.lemmas.Option.{none-some, same_Some}
 use Rattle.pl_frame.specs.declared.address.Ip4.{Ip4}
 use Rattle.pl_frame.specs.declared.address.Mac.{Mac}
@@ -14,17 +14,16 @@ use Rattle.pl_core.specs.declared.switch_records.Grant.{Grant}
 use Rattle.pl_core.specs.declared.switch_records.Source.{Source}
 use Rattle.pl_core.specs.PortRecords.{ports_of_switch}
 use Rattle.pl_core.specs.SwitchViews.{SwitchView}
-use Rattle.pl_steps.specs.Steps.{SwitchStep, does, rests, ◌▹◌}
-use Rattle.pl_switch_rule.specs.Granting.{address_at_port, forgets, grant_number, granted, grants_at, grants_next, grants_or_learns, grants_remembered, grants_source, in_use, is_port_spent, learns_ip, learns_source, or_else, remembered_at, remembered_ip, remembers, same_ip, sender_ip, with_grant}
+use Rattle.pl_steps.specs.Steps.{does, rests, ◌▹◌}
+use Rattle.pl_switch_rule.specs.Granting.{address_at_port, forgets, granted, grants_at, grants_next, grants_or_learns, grants_remembered, grants_source, in_use, is_port_spent, learns_ip, learns_source, or_else, remembered_at, remembered_ip, remembers, same_ip, sender_ip, with_grant}
 use Rattle.pl_switch_rule.specs.Levels.{changes_to, has_become_placed, settles_in}
 use Rattle.pl_switch_rule.specs.Telling.{changes_told}
 use Rattle.pl_switch_rule.proofs.Shapes.{all_range}
 use Rattle.pl_addresses.specs.EdgeAddresses.{is_settled}
 use Rattle.pl_addresses.proofs.Asides.{changes_silent}
 use Rattle.pl_addresses.proofs.Numbers.{IsInUse, granted_here, local_here, used_is}
-use Rattle.pl_addresses.proofs.Placing.{IsPlacing}
-use Rattle.pl_addresses.proofs.Rows.{aside_does, same_grantees}
-use Rattle.pl_ledger.proofs.Takes.{AreFew, AreOf, IsListed, Takes, aside_takes, changed_takes, next_takes, put_takes, rests_takes, same_listed, takes_either, takes_then}
+use Rattle.pl_addresses.proofs.Rows.{aside_does}
+use Rattle.pl_ledger.proofs.Takes.{AreOf, Takes, aside_takes, changed_takes, next_takes, put_takes, rests_takes, takes_either, takes_then}
 
 module _ (P : ℕ → Mac → Type 0) where
   -- the IPv4 address of an address in use

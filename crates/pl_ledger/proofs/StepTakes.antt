@@ -1,6 +1,5 @@
 -- What each row of a switch grants and remembers.
-use Rattle.std.proofs.Common.{◌≡◌, ◌⊎◌, ◌<◌, ◌≤◌, ◌==◌, ◌||◌, ℕ, true, false, List, [], ◌∷◌, length, Option, Some, None, Result, Ok, Err, get_or, refl, sym, ap, subst, ◌∙◌, inl, inr}
-use Rattle.std.specs.List.{AllByRecursion}
+use Rattle.std.proofs.Common.{◌≡◌, ◌<◌, ◌≤◌, ◌==◌, ◌||◌, ℕ, true, false, List, [], ◌∷◌, length, Option, Some, None, Result, Ok, Err, get_or, refl, sym, ap, subst, ◌∙◌, inl, inr}
 use Rattle.std.proofs.lemmas.Bool.{cases_Bool, cond_both, false≢true}
 use Rattle.std.proofs.lemmas.Option.{none-some}
 use Rattle.pl_frame.specs.declared.address.Mac.{Mac}
@@ -39,11 +38,11 @@ use Rattle.pl_addresses.specs.Registries.{Registry}
 use Rattle.pl_addresses.proofs.Asides.{floods_aside, forgets_members_aside, makes_aside, probes_aside, proposal_aside, switch_frame_aside, takes_in_aside, ticks_aside}
 use Rattle.pl_addresses.proofs.Numbers.{granted_parts, local_settled}
 use Rattle.pl_addresses.proofs.Placing.{IsPlacing, edge_placing, keeps_changes, message_placing, pod_placing, vote_placing}
-use Rattle.pl_addresses.proofs.Rows.{aside_does, aside_then, same_grantees}
+use Rattle.pl_addresses.proofs.Rows.{aside_does, same_grantees}
 use Rattle.pl_addresses.proofs.SwitchSteps.{granted_within}
-use Rattle.pl_ledger.proofs.Giving.{Giving, all_weaker, gives, givings}
+use Rattle.pl_ledger.proofs.Giving.{all_weaker, givings}
 use Rattle.pl_ledger.proofs.Sourcing.{changes_takes, learns_takes}
-use Rattle.pl_ledger.proofs.Takes.{AreFew, AreOf, IsFurther, IsListed, Takes, aside_takes, changed_takes, rests_takes, takes_either, takes_then}
+use Rattle.pl_ledger.proofs.Takes.{AreOf, IsFurther, IsListed, Takes, aside_takes, changed_takes, rests_takes, takes_either, takes_then}
 
 -- What is needed of what comes: a frame of a host comes at a port where its host has stood.
 abbrev pub ComesWell : (ℕ → Mac → Type 0) → SwitchView → SwitchInput → Type 0

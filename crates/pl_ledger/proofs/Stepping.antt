@@ -1,5 +1,5 @@
 -- A step of a switch keeps the ledger.
-use Rattle.std.proofs.Common.{◌≡◌, ◌≢◌, ◌⊎◌, ◌≤◌, ◌<◌, ◌^◌, ◌==◌, ℕ, true, set, List, [], ◌∷◌, length, Option, Some, None, slice_get, refl, sym, ap, subst, ◌∙◌, inl, inr, arith}
+use Rattle.std.proofs.Common.{◌≡◌, ◌≢◌, ◌⊎◌, ◌≤◌, ◌<◌, ℕ, true, set, List, [], ◌∷◌, length, Some, slice_get, refl, sym, ap, subst, ◌∙◌, inl, inr, arith}
 use Rattle.std.specs.List.{AllByRecursion}
 use Rattle.std.proofs.lemmas.Bool.{cases_eq}
 use Rattle.std.proofs.lemmas.Option.{none-some, same_Some, slice_get_within}
@@ -7,14 +7,12 @@ use Rattle.pl_frame.specs.declared.address.Mac.{Mac}
 use Rattle.pl_pmac.specs.declared.pmac.Pmac.{Pmac}
 use Rattle.pl_pmac.specs.Pmac.{Fits, pmac_number}
 use Rattle.pl_core.specs.declared.switch_records.Grant.{Grant}
-use Rattle.pl_core.specs.declared.switch_records.Source.{Source}
 use Rattle.pl_core.specs.Accounting.{IsShaped}
 use Rattle.pl_core.specs.ManagerViews.{Learnt}
 use Rattle.pl_core.specs.SwitchViews.{SwitchView}
 use Rattle.pl_journal.specs.declared.entry.Entry.{Entry}
 use Rattle.pl_journal.specs.Places.{at_port}
-use Rattle.pl_steps.specs.Steps.{SwitchStep}
-use Rattle.pl_switch_rule.specs.Granting.{grant_number, granted, grants_at, is_local, remembered_at}
+use Rattle.pl_switch_rule.specs.Granting.{granted, grants_at, is_local, remembered_at}
 use Rattle.pl_wiring.specs.Plan.{Plan}
 use Rattle.pl_world.specs.declared.stand.Stand.{Stand}
 use Rattle.pl_world.specs.Changes.{host_of}
@@ -24,8 +22,8 @@ use Rattle.pl_addresses.proofs.Numbers.{granted_parts, number_within}
 use Rattle.pl_addresses.proofs.Turns.{all_here}
 use Rattle.pl_addresses.proofs.SwitchSteps.{granted_within}
 use Rattle.pl_addresses.proofs.Words.{get-set_other, get-set_same}
-use Rattle.pl_ledger.specs.Ledgers.{AreEntered, AreInBounds, HasStoodThere, IsBacked, IsBeforeLast, IsEntered, IsGrantedThere}
-use Rattle.pl_ledger.proofs.Books.{GivesGood, HasLast, IsAt, IsFor, SaysAlike, alike, all_backed, backed_later, last_given, last_stays, now_at, number_apart, still_at}
+use Rattle.pl_ledger.specs.Ledgers.{AreEntered, AreInBounds, HasStoodThere, IsBeforeLast, IsEntered, IsGrantedThere}
+use Rattle.pl_ledger.proofs.Books.{GivesGood, HasLast, IsFor, SaysAlike, alike, all_backed, backed_later, last_given, last_stays, now_at, number_apart, still_at}
 use Rattle.pl_ledger.proofs.Giving.{AreRising, Giving, IsNewlyGiven, IsOneOf, all_weaker, gives, of_all}
 use Rattle.pl_ledger.proofs.Takes.{AreFew, AreOf, IsFurther, IsOfHere}
 use Rattle.pl_ledger.proofs.Writing.{all_written}

@@ -7,17 +7,14 @@ use Rattle.pl_frame.specs.declared.address.Ip4.{Ip4}
 use Rattle.pl_frame.specs.declared.address.Mac.{Mac}
 use Rattle.pl_pmac.specs.declared.pmac.Pmac.{Pmac}
 use Rattle.pl_layouts.specs.declared.place.Place.{Place}
-use Rattle.pl_layouts.specs.Equality.{same_pmac}
-use Rattle.pl_core.specs.declared.acts.Act.TheVariants as act
-use Rattle.pl_core.specs.declared.messages.ToManager.TheVariants as tell
 use Rattle.pl_core.specs.declared.switch_records.Grant.{Grant}
 use Rattle.pl_core.specs.declared.switch_records.Source.{Source}
 use Rattle.pl_core.specs.SwitchViews.{SwitchView}
-use Rattle.pl_steps.specs.Steps.{SwitchStep, does, rests, ◌▹◌}
+use Rattle.pl_steps.specs.Steps.{SwitchStep, rests, ◌▹◌}
 use Rattle.pl_switch_rule.specs.Granting.{address_at_port, granted, grants_at, grants_next, is_local, is_port_spent, new_grant, remembered_at, with_grant, with_grants}
 use Rattle.pl_switch_rule.proofs.StepParts.{all_append}
 use Rattle.pl_addresses.specs.EdgeAddresses.{IsGrantedTo, is_settled}
-use Rattle.pl_addresses.proofs.Numbers.{IsInUse, granted_here, local_here, now_at, number_push_other, number_push_same, number_set_other, number_set_same, number_within, others_at}
+use Rattle.pl_addresses.proofs.Numbers.{granted_here, local_here, now_at, number_push_other, number_push_same, number_set_other, number_set_same, number_within, others_at}
 use Rattle.pl_addresses.proofs.Rows.{IsAside, aside_does, same_grantees}
 use Rattle.pl_addresses.proofs.Words.{is_or_other}
 use Rattle.pl_ledger.proofs.Giving.{AreRising, ComesBefore, Giving, IsOneOf, all_weaker, first_part, gives, givings, givings_append, none_given, second_part}

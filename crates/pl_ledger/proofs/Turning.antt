@@ -1,12 +1,11 @@
 -- The turns of switches and of the manager keep the ledger.
-use Rattle.std.proofs.Common.{◌≡◌, ◌<◌, ◌&&◌, ℕ, true, false, set, List, [], ◌∷◌, length, Option, Some, None, slice_get, refl, sym, ap, subst, ◌∙◌, inl, inr, arith, zero, suc, ◌≤◌}
-use Rattle.std.specs.List.{AllByRecursion, position, position_from}
+use Rattle.std.proofs.Common.{◌≡◌, ◌<◌, ℕ, true, false, set, List, ◌∷◌, length, Option, Some, None, slice_get, refl, sym, ap, subst, ◌∙◌, inl, inr, arith}
+use Rattle.std.specs.List.{AllByRecursion, position_from}
 use Rattle.std.proofs.lemmas.Bool.{and_parts, false≢true}
 use Rattle.std.proofs.lemmas.Iterator.Adapters.{position_from-zero}
-use Rattle.std.proofs.lemmas.Option.{get_or_from_slice_get, none-some, same_Some, slice_get_within}
+use Rattle.std.proofs.lemmas.Option.{slice_get_within}
 use Rattle.pl_frame.specs.declared.address.Mac.{Mac}
 use Rattle.pl_frame.specs.Ethernet.{source_of}
-use Rattle.pl_pmac.specs.declared.pmac.Pmac.{Pmac}
 use Rattle.pl_layouts.specs.Equality.{same_mac}
 use Rattle.pl_layouts.specs.Frames.{packet_in}
 use Rattle.pl_core.specs.declared.acts.Act.{Act}
@@ -14,13 +13,11 @@ use Rattle.pl_core.specs.declared.acts.ManagerAct.{ManagerAct}
 use Rattle.pl_core.specs.declared.messages.ToManager.{ToManager}
 use Rattle.pl_core.specs.declared.messages.ToManager.TheVariants as tell
 use Rattle.pl_core.specs.declared.messages.ToSwitch.{ToSwitch}
-use Rattle.pl_core.specs.declared.switch_records.Source.{Source}
 use Rattle.pl_core.specs.Accounting.{IsShaped}
 use Rattle.pl_core.specs.HostDuties.{is_of, is_own}
 use Rattle.pl_core.specs.ManagerViews.{Learnt, ManagerView}
 use Rattle.pl_core.specs.SwitchInputs.{SwitchInput}
 use Rattle.pl_core.specs.SwitchViews.{SwitchView}
-use Rattle.pl_journal.specs.declared.entry.Entry.{Entry}
 use Rattle.pl_journal.specs.Places.{at_port}
 use Rattle.pl_manager_rule.specs.Histories.{known}
 use Rattle.pl_manager_rule.specs.ManagerRule.{manager_hears, manager_rule}
@@ -38,7 +35,7 @@ use Rattle.pl_world.specs.WorldRule.{ManagerTurn, SwitchTurn}
 use Rattle.pl_world.specs.Worlds.{WorldView}
 use Rattle.pl_addresses.specs.OwnAddresses.{own_ip}
 use Rattle.pl_addresses.specs.Registries.{registry_of}
-use Rattle.pl_addresses.specs.EdgeAddresses.{IsGoodBook, IsGoodEdge, IsGoodWord, edge_of}
+use Rattle.pl_addresses.specs.EdgeAddresses.{IsGoodBook, IsGoodWord, edge_of}
 use Rattle.pl_addresses.specs.Addressed.{AreAddressed, AreApart}
 use Rattle.pl_addresses.proofs.Numbers.{first_passes, none_passes}
 use Rattle.pl_addresses.proofs.Placing.{IsUnknown}
@@ -49,7 +46,7 @@ use Rattle.pl_addresses.proofs.Turns.{exists_at}
 use Rattle.pl_addresses.proofs.Words.{mac_is, mac_itself, one_index}
 use Rattle.pl_ledger.specs.Ledgers.{AreEntered, AreInBounds, HasStoodThere}
 use Rattle.pl_ledger.proofs.Giving.{givings, newly_given}
-use Rattle.pl_ledger.proofs.Numbering.{LearnsBy, LearnsNothing, LearnsOne, Numbering, all_numbered, learns, nothing_entered, numberings, one_entered, said_parts}
+use Rattle.pl_ledger.proofs.Numbering.{LearnsBy, Numbering, all_numbered, learns, nothing_entered, numberings, one_entered, said_parts}
 use Rattle.pl_ledger.proofs.Stepping.{fits_there, step_entered}
 use Rattle.pl_ledger.proofs.StepTakes.{ComesWell, step_takes}
 use Rattle.pl_ledger.proofs.Takes.{AreOf, IsListed, Takes}

@@ -23,7 +23,7 @@ use Rattle.pl_world.specs.Changes.{all_noted, begun_by, ends_of, host_no, host_o
 use Rattle.pl_world.specs.SwitchActs.{Doing, act_done, acts_done, begins, crossed_again, ended, granted, passed, redirected, switch_stepped, with_late}
 use Rattle.pl_world.specs.Worlds.{WorldView}
 use Rattle.pl_ledger.specs.Ledgers.{ledger}
-use Rattle.pl_ledger.proofs.Giving.{Giving, gives, givings}
+use Rattle.pl_ledger.proofs.Giving.{Giving, givings}
 
 -- ---- entries that say nothing of addresses
 abbrev pub IsQuietEntry : Entry → Type 0

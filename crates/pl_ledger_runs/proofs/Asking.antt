@@ -1,9 +1,9 @@
 -- Those that ask stay edge switches with position 0; so no more numbers are given than there are pods.
-use Rattle.std.proofs.Common.{◌≡◌, ◌≢◌, ◌⊎◌, ◌≤◌, ◌<◌, ◌+◌, ◌/◌, ◌==◌, ◌||◌, ℕ, zero, suc, Bool, true, false, cond, List, [], ◌∷◌, ◌++◌, length, Option, Some, None, option_map, find, slice_get, refl, sym, ap, subst, subst₂, ◌∙◌, inl, inr, arith, eqb-true, eq-eqb}
+use Rattle.std.proofs.Common.{◌≡◌, ◌≢◌, ◌≤◌, ◌<◌, ◌+◌, ◌==◌, ◌||◌, ℕ, zero, suc, Bool, true, false, cond, List, [], ◌∷◌, ◌++◌, length, Some, option_map, find, slice_get, refl, sym, ap, subst, subst₂, ◌∙◌, inl, inr, arith, eqb-true, eq-eqb}
 use Rattle.std.specs.List.{AllByRecursion, list_any, range_with_len}
 use Rattle.std.proofs.lemmas.Bool.{cases_Bool, cases_eq, cases_lt, false≢true}
 use Rattle.std.proofs.lemmas.List.FromFn.{length-range_with_len}
-use Rattle.std.proofs.lemmas.Option.{get_or_from_slice_get, slice_get_within}
+use Rattle.std.proofs.lemmas.Option.{get_or_from_slice_get}
 use Rattle.pl_frame.specs.declared.address.SwitchId.{SwitchId}
 use Rattle.pl_layouts.specs.declared.place.Place.{Place}
 use Rattle.pl_layouts.specs.Equality.{same_switch}
@@ -22,7 +22,7 @@ use Rattle.pl_manager_rule.specs.ManagerRule.{manager_hears, manager_rule, view_
 use Rattle.pl_switch_rule.specs.SwitchRule.{Loose, switch_step}
 use Rattle.pl_switch_rule.proofs.StepParts.{all_append}
 use Rattle.pl_control_plane.specs.ControlPlanes.{ControlPlane, tells}
-use Rattle.pl_control_plane.specs.PlaneSteps.{IsActed, IsReportTaken, LeftOver, ManagerTurns, PlaneStep, SwitchTurns}
+use Rattle.pl_control_plane.specs.PlaneSteps.{IsReportTaken, LeftOver, ManagerTurns, PlaneStep, SwitchTurns}
 use Rattle.pl_control_plane.specs.PlaneSteps.PlaneStep.{Carried, Entered, Heard, Left, Managed, Ordered, Ticked}
 use Rattle.pl_places.specs.Places.{ArePlaced, ArePodNumbers, PositionsDiffer}
 use Rattle.pl_places.specs.Told.{IsTrueOf}

@@ -1,7 +1,6 @@
 -- Each act of the rows that change nothing of places and addresses: what is so of plain acts, and of the frames that a switch makes.
-use Rattle.std.proofs.Common.{◌≡◌, ℕ, ◌==◌, ◌&&◌, ◌||◌, not, nat_lt, Bool, true, false, if◌then◌else◌, cond, List, [], ◌∷◌, ◌++◌, map, Option, Some, None, is_none, is_some, refl, sym, ap, subst, ◌∙◌, zero, suc}
+use Rattle.std.proofs.Common.{◌≡◌, ℕ, ◌==◌, ◌&&◌, ◌||◌, not, nat_lt, Bool, true, false, if◌then◌else◌, cond, List, [], ◌∷◌, ◌++◌, map, Option, Some, None, is_none, is_some, refl, sym, subst, zero, suc}
 use Rattle.std.specs.List.{AllByRecursion, flat_map, fold, filter}
-use Rattle.std.proofs.lemmas.Bool.{cond_both}
 use Rattle.pl_frame.specs.declared.address.Ip4.{Ip4}
 use Rattle.pl_frame.specs.declared.address.Mac.{Mac}
 use Rattle.pl_frame.specs.declared.address.SwitchId.{SwitchId}

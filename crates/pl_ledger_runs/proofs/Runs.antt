@@ -1,10 +1,9 @@
 -- In every run pods and positions of placed edge switches are numbers of one byte, and the journal says of addresses what the switches granted
 -- and the manager registered.
-use Rattle.std.proofs.Common.{◌≡◌, ℕ, ◌<◌, ◌≤◌, ◌^◌, ◌&&◌, Bool, true, false, List, [], ◌∷◌, ◌++◌, length, get_or, replicate, zero, suc, Option, Some, None, slice_get, refl, sym, ap, subst, ◌∙◌, arith}
+use Rattle.std.proofs.Common.{◌≡◌, ℕ, ◌≤◌, ◌&&◌, List, [], ◌∷◌, ◌++◌, length, get_or, replicate, zero, suc, Some, None, refl, sym, ap, subst, ◌∙◌, arith}
 use Rattle.std.specs.List.{AllByRecursion}
 use Rattle.std.proofs.lemmas.Bool.{and_parts}
 use Rattle.std.proofs.lemmas.Option.{get_or_from_slice_get}
-use Rattle.pl_pmac.specs.declared.pmac.Pmac.{Pmac}
 use Rattle.pl_layouts.specs.Placement.{is_known}
 use Rattle.pl_wiring.specs.Labels.{switch_count}
 use Rattle.pl_wiring.specs.Plan.{Plan}
@@ -16,7 +15,6 @@ use Rattle.pl_core.specs.SwitchViews.{SwitchView}
 use Rattle.pl_journal.specs.declared.entry.Entry.{Entry}
 use Rattle.pl_journal.specs.declared.entry.Entry.TheVariants.{Line, Settled, Unsettled}
 use Rattle.pl_manager_rule.specs.ManagerRule.{manager_rule}
-use Rattle.pl_switch_rule.specs.Granting.{is_local}
 use Rattle.pl_switch_rule.specs.SwitchRule.{Loose}
 use Rattle.pl_switch_rule.proofs.AccountedSteps.{loose_steps_are_accounted}
 use Rattle.pl_world.specs.declared.event.Event.{Event}
@@ -44,7 +42,7 @@ use Rattle.pl_ledger.specs.Ledgers.{AreInBounds, IsLedger, ledger}
 use Rattle.pl_ledger.proofs.Beginning.{boot_ledger, step_ledger}
 use Rattle.pl_ledger.proofs.Writing.{one_quiet, parts_of}
 use Rattle.pl_ledger.proofs.Turning.{IsIn}
-use Rattle.pl_ledger_runs.specs.Askers.{AreAsking, IsWishOf, ZerosAsk}
+use Rattle.pl_ledger_runs.specs.Askers.{IsWishOf, ZerosAsk}
 use Rattle.pl_ledger_runs.proofs.Asking.{few_numbers_given, plane_asking, plane_grown}
 
 -- what else holds in every run

@@ -1,50 +1,41 @@
 -- What switches know of addresses is what the journal says of them.
-use Rattle.std.proofs.Common.{◌≡◌, ◌⊎◌, ◌≤◌, ◌<◌, ◌+◌, ◌-◌, ◌*◌, ◌/◌, ◌%◌, ◌^◌, ◌==◌, ◌&&◌, ◌||◌, not, nat_lt, ℕ, zero, suc, if◌then◌else◌, Bool, true, false, Contains, get_or, List, [], ◌∷◌, length, reverse, Option, Some, None, is_none, option_map, slice_get, slice_index, refl, sym, ap, subst, subst₂, ◌∙◌, inl, inr, arith}
+use Rattle.std.proofs.Common.{◌≡◌, ◌≤◌, ◌<◌, ◌-◌, ◌%◌, ◌^◌, ◌==◌, ◌&&◌, not, ℕ, Bool, true, false, List, [], ◌∷◌, length, reverse, Option, Some, None, option_map, slice_get, slice_index, refl, sym, ap, subst, subst₂, ◌∙◌, inl, inr, arith}
 use Rattle.std.specs.List.{AllByRecursion}
-use Rattle.std.proofs.lemmas.Bool.{and_from, and_parts, cases_Bool, cases_eq, cases_lt, cond-false, cond-true, eq-eqb, eqb-true, false≢true, lt-ltb, ltb-true, ne_eqb, or_right}
+use Rattle.std.proofs.lemmas.Bool.{and_from, and_parts, cases_Bool, cond-false, cond-true, eq-eqb, eqb-true, false≢true, ne_eqb}
 use Rattle.std.proofs.lemmas.Iterator.Adapters.{position_from-zero}
 use Rattle.std.proofs.lemmas.Option.{get_or_from_slice_get, none-some, same_Some, slice_get_within}
 use Rattle.pl_frame.specs.declared.address.Mac.{Mac}
 use Rattle.pl_pmac.specs.declared.pmac.Pmac.{Pmac}
 use Rattle.pl_pmac.specs.Pmac.{Fits, mac_of, pmac_number}
-use Rattle.pl_layouts.specs.declared.place.Place.{Place}
-use Rattle.pl_layouts.specs.Equality.{same_mac, same_pmac}
+use Rattle.pl_layouts.specs.Equality.{same_mac}
 use Rattle.pl_layouts.specs.Memberships.{is_group}
 use Rattle.pl_layouts.specs.Placement.{is_known}
 use Rattle.pl_wiring.specs.declared.host.Host.{Host}
-use Rattle.pl_wiring.specs.declared.link.Peer.TheVariants.{HostPort}
-use Rattle.pl_wiring.specs.Peers.{peer_of}
 use Rattle.pl_wiring.specs.Plan.{IsHostMac, IsPlan, Plan}
 use Rattle.pl_journal.specs.declared.entry.Entry.{Entry}
 use Rattle.pl_journal.specs.declared.entry.Entry.TheVariants.{Granted}
 use Rattle.pl_journal.specs.Lossy.{IsNewer, mac_of_host}
-use Rattle.pl_journal.specs.Places.{Spot, are_alike, at_port, granted_at, has_stood, holder, is_of_edge, is_spent, number, registered, same_pod_and_position, spot}
-use Rattle.pl_core.specs.declared.neighbour.Neighbour.{Neighbour}
+use Rattle.pl_journal.specs.Places.{Spot, are_alike, at_port, holder, number, registered, same_pod_and_position, spot}
 use Rattle.pl_core.specs.declared.switch_records.Grant.{Grant}
-use Rattle.pl_core.specs.declared.switch_records.Source.{Source}
 use Rattle.pl_core.specs.declared.trap.Trap.{Trap}
 use Rattle.pl_core.specs.ManagerViews.{Registration}
-use Rattle.pl_core.specs.PortRecords.{is_open_to_hosts, port_of}
 use Rattle.pl_core.specs.SwitchViews.{SwitchView}
 use Rattle.pl_switch_rule.specs.Delivering.{grant_trap, trap_for}
-use Rattle.pl_switch_rule.specs.Granting.{address_at_port, grant_number, granted, grants_at, in_use, is_local, is_port_spent, remembered_at}
+use Rattle.pl_switch_rule.specs.Granting.{granted, is_local}
 use Rattle.pl_world.specs.Changes.{host_of}
 use Rattle.pl_world.specs.Worlds.{WorldView}
 use Rattle.pl_control_plane.specs.ControlPlanes.{control_plane, no_switch}
-use Rattle.pl_addresses.specs.EdgeAddresses.{IsGoodBook, IsGoodEdge, IsGrantedTo, edge_of, is_settled}
-use Rattle.pl_addresses.specs.OwnAddresses.{own_ip}
-use Rattle.pl_addresses.specs.Registries.{Leads, number_of, registry_of}
-use Rattle.pl_addresses.proofs.Numbers.{first_passes, granted_here, granted_parts, known_same, local_here, number_past, used_is}
-use Rattle.pl_addresses.proofs.Turns.{all_here, exists_at}
+use Rattle.pl_addresses.specs.Registries.{registry_of}
+use Rattle.pl_addresses.proofs.Numbers.{first_passes, granted_here, granted_parts, known_same}
 use Rattle.pl_addresses.proofs.Words.{mac_is}
 use Rattle.pl_kept.specs.Kept.{Kept}
-use Rattle.pl_ledger.specs.Ledgers.{AreEntered, AreInBounds, IsBacked, IsGrantedThere, IsLedger, ledger}
-use Rattle.pl_ledger.proofs.Books.{IsAlike, IsLast, Says, held_somewhere, number_apart, of_edge, same_says, says, spent_there}
+use Rattle.pl_ledger.specs.Ledgers.{IsBacked, IsGrantedThere, ledger}
+use Rattle.pl_ledger.proofs.Books.{IsAlike, Says, held_somewhere, number_apart, of_edge, same_says, says}
 use Rattle.pl_ledger.proofs.Stepping.{fits_there}
 use Rattle.pl_ledger_runs.proofs.Runs.{IsEnteredAll, grounds, in_bounds}
 use Rattle.pl_flights.specs.OnTheWay.{book_of}
-use Rattle.pl_flights.specs.Standing.{IsGranted, IsNext, KnowsAddresses, KnowsHosts, LeadsOn}
-use Rattle.pl_flights.proofs.Hosts.{host_by_mac, host_unicast}
+use Rattle.pl_flights.specs.Standing.{IsGranted, IsNext, KnowsAddresses, LeadsOn}
+use Rattle.pl_flights.proofs.Hosts.{host_unicast}
 
 -- ---- addresses of hosts
 -- the host that is found by an actual address has it

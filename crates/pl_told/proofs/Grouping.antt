@@ -1,5 +1,4 @@
 -- In every run frames of groups arrive well.
-use Rattle.std.proofs.Common.{◌≡◌, List}
 use Rattle.pl_wiring.specs.Plan.{Plan}
 use Rattle.pl_core.specs.HostDuties.{HostsJoinBySending, HostsSendData, HostsSendOwn}
 use Rattle.pl_core.specs.HostInputs.{HostRule}
@@ -8,8 +7,6 @@ use Rattle.pl_switch_rule.specs.SwitchRule.{Loose}
 use Rattle.pl_switch_rule.proofs.AccountedSteps.{loose_steps_are_accounted}
 use Rattle.pl_world.specs.declared.limits.Limits.{Limits}
 use Rattle.pl_world.specs.Booting.{CanBegin, booted}
-use Rattle.pl_world.specs.Runs.{Moment, WorldRun}
-use Rattle.pl_world.specs.Worlds.{WorldView}
 use Rattle.pl_world.proofs.BootBalances.{booted_is_counted}
 use Rattle.pl_copies.proofs.Runs.{first_there}
 use Rattle.pl_joined.specs.Joined.{HostsKeepTheirGroups}

@@ -1,54 +1,42 @@
 -- What switches know of the hosts at their ports is what the journal says; and so all is given that each step needs but for groups.
-use Rattle.std.proofs.Common.{◌≡◌, ◌⊎◌, ◌≤◌, ◌<◌, ◌+◌, ◌-◌, ◌^◌, ◌==◌, ◌&&◌, ◌||◌, not, nat_lt, ℕ, zero, suc, if◌then◌else◌, cond, Bool, true, false, Contains, get_or, List, [], ◌∷◌, length, reverse, Option, Some, None, is_none, option_map, slice_get, refl, sym, ap, subst, subst₂, ◌∙◌, inl, inr, arith}
-use Rattle.std.specs.List.{AllByRecursion}
-use Rattle.std.proofs.lemmas.Bool.{and_parts, cases_Bool, cases_eq, cases_lt, eqb-true, false≢true, lt-ltb, ltb-true, or_right}
+use Rattle.std.proofs.Common.{◌≡◌, ◌≤◌, ◌<◌, ◌+◌, ◌-◌, ◌==◌, ◌&&◌, not, nat_lt, ℕ, if◌then◌else◌, cond, Bool, true, false, Contains, List, [], ◌∷◌, length, reverse, Option, Some, None, is_none, option_map, slice_get, refl, sym, ap, subst, ◌∙◌, inl, inr, arith}
+use Rattle.std.proofs.lemmas.Bool.{and_parts, cases_Bool, cases_lt, eqb-true, false≢true, lt-ltb, ltb-true, or_right}
 use Rattle.std.proofs.lemmas.List.{get_or_past}
 use Rattle.std.proofs.lemmas.List.Elements.{All-contains, All-from_recursion}
-use Rattle.std.proofs.lemmas.Option.{get_or_from_slice_get, none-some, same_Some, slice_get_within}
+use Rattle.std.proofs.lemmas.Option.{get_or_from_slice_get, same_Some}
 use Rattle.pl_frame.specs.declared.address.Mac.{Mac}
-use Rattle.pl_frame.specs.declared.address.SwitchId.{SwitchId}
 use Rattle.pl_frame.specs.Ethernet.{source_of}
 use Rattle.pl_pmac.specs.declared.pmac.Pmac.{Pmac}
-use Rattle.pl_pmac.specs.Pmac.{Fits, mac_of, pmac_number}
-use Rattle.pl_layouts.specs.declared.place.Place.{Place}
+use Rattle.pl_pmac.specs.Pmac.{Fits, pmac_number}
 use Rattle.pl_layouts.specs.Placement.{is_known}
 use Rattle.pl_wiring.specs.declared.host.Host.{Host}
-use Rattle.pl_wiring.specs.declared.link.Peer.TheVariants.{HostPort}
-use Rattle.pl_wiring.specs.Peers.{peer_of}
-use Rattle.pl_wiring.specs.Plan.{Plan}
 use Rattle.pl_journal.specs.declared.entry.Entry.{Entry}
 use Rattle.pl_journal.specs.declared.entry.Entry.TheVariants.{Granted}
 use Rattle.pl_journal.specs.Lossy.{mac_of_host}
-use Rattle.pl_journal.specs.Places.{Spot, at_port, granted_at, has_stood, holder, is_spent, same_spot, spot}
-use Rattle.pl_core.specs.declared.acts.ManagerAct.{ManagerAct}
-use Rattle.pl_core.specs.declared.messages.ToManager.{ToManager}
-use Rattle.pl_core.specs.declared.neighbour.Neighbour.{Neighbour}
-use Rattle.pl_core.specs.declared.neighbour.PortRecord.{PortRecord}
+use Rattle.pl_journal.specs.Places.{Spot, at_port, granted_at, has_stood, is_spent, same_spot}
 use Rattle.pl_core.specs.declared.switch_records.Grant.{Grant}
-use Rattle.pl_core.specs.declared.switch_records.Source.{Source}
 use Rattle.pl_core.specs.Accounting.{IsShaped}
-use Rattle.pl_core.specs.PortRecords.{is_open_to_hosts, port_of}
+use Rattle.pl_core.specs.PortRecords.{port_of}
 use Rattle.pl_core.specs.SwitchViews.{SwitchView}
-use Rattle.pl_switch_rule.specs.Granting.{address_at_port, grant_number, granted, grants_at, in_use, is_local, is_port_spent, remembered_at}
+use Rattle.pl_switch_rule.specs.Granting.{address_at_port, grant_number, granted, grants_at, in_use, is_port_spent}
 use Rattle.pl_queues.specs.Queues.{items_at}
 use Rattle.pl_world.specs.declared.item.Item.{Item}
 use Rattle.pl_world.specs.declared.item.Item.TheVariants.{Data}
-use Rattle.pl_world.specs.declared.stand.Stand.{Stand}
 use Rattle.pl_world.specs.Booting.{me_of}
 use Rattle.pl_world.specs.Changes.{host_of}
 use Rattle.pl_world.specs.Worlds.{WorldView}
 use Rattle.pl_control_plane.specs.ControlPlanes.{control_plane, no_switch}
 use Rattle.pl_control_plane.specs.HostsAtEdges.{IsAtEdge}
-use Rattle.pl_addresses.specs.EdgeAddresses.{IsGoodBook, IsGoodEdge, is_settled}
+use Rattle.pl_addresses.specs.EdgeAddresses.{is_settled}
 use Rattle.pl_addresses.specs.OwnFrames.{IsOwnItem}
 use Rattle.pl_addresses.proofs.Numbers.{granted_here, granted_parts, known_same, local_here, number_past, used_is}
-use Rattle.pl_addresses.proofs.Turns.{all_here, exists_at, filled_within}
+use Rattle.pl_addresses.proofs.Turns.{all_here, exists_at}
 use Rattle.pl_kept.specs.Kept.{Kept}
-use Rattle.pl_ledger.specs.Ledgers.{IsBacked, IsGrantedThere, ledger}
+use Rattle.pl_ledger.specs.Ledgers.{IsBacked, ledger}
 use Rattle.pl_ledger.proofs.Books.{IsLast, Says, number_apart, same_says, says, spent_there}
 use Rattle.pl_ledger.proofs.Turning.{source_is}
 use Rattle.pl_ledger_runs.proofs.Runs.{IsEnteredAll, grounds}
-use Rattle.pl_flights.specs.Standing.{IsNext, KnowsHosts, StandsOn, StandsOnHosts}
+use Rattle.pl_flights.specs.Standing.{KnowsHosts, StandsOn, StandsOnHosts}
 use Rattle.pl_flights.proofs.Hosts.{host_by_mac}
 use Rattle.pl_told.proofs.Addressing.{each_entry, fits_at, host_at, is_next, knows_addresses}
 use Rattle.pl_told.proofs.Knowing.{knows_neighbours, knows_places}

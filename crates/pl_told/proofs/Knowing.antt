@@ -1,60 +1,31 @@
 -- Where all of it is kept, what switches know of places and addresses is what the journal says.
-use Rattle.std.proofs.Common.{◌≡◌, ◌⊎◌, ◌≤◌, ◌<◌, ◌+◌, ◌/◌, ◌%◌, ◌^◌, ◌==◌, ◌&&◌, ◌||◌, not, nat_lt, ℕ, zero, suc, if◌then◌else◌, Bool, true, false, Contains, get_or, List, [], ◌∷◌, length, reverse, Option, Some, None, is_none, option_map, slice_get, slice_index, refl, sym, ap, subst, ◌∙◌, inl, inr, arith}
-use Rattle.std.specs.List.{AllByRecursion}
-use Rattle.std.proofs.lemmas.Bool.{and_from, and_parts, cases_Bool, cases_eq, cases_lt, cond-false, cond-true, eq-eqb, eqb-true, false≢true, lt-ltb, ltb-true, ne_eqb}
-use Rattle.std.proofs.lemmas.Option.{get_or_from_slice_get, none-some, same_Some, slice_get_within}
-use Rattle.pl_frame.specs.declared.address.Mac.{Mac}
-use Rattle.pl_frame.specs.Ethernet.{source_of}
-use Rattle.pl_pmac.specs.declared.pmac.Pmac.{Pmac}
-use Rattle.pl_pmac.specs.Pmac.{Fits, mac_of, pmac_number}
+use Rattle.std.proofs.Common.{◌≡◌, ◌≤◌, ◌+◌, ◌&&◌, nat_lt, ℕ, zero, suc, if◌then◌else◌, Bool, true, false, get_or, List, [], ◌∷◌, Option, Some, None, slice_get, refl, sym, ap, ◌∙◌, inl, inr, arith}
+use Rattle.std.proofs.lemmas.Bool.{cases_Bool, cases_lt, cond-false, cond-true, false≢true, lt-ltb, ltb-true}
+use Rattle.std.proofs.lemmas.Option.{get_or_from_slice_get, none-some, same_Some}
 use Rattle.pl_layouts.specs.declared.place.Place.{Place}
-use Rattle.pl_layouts.specs.Equality.{same_mac, same_pmac}
-use Rattle.pl_layouts.specs.Memberships.{is_group}
-use Rattle.pl_layouts.specs.Placement.{is_known, nowhere}
-use Rattle.pl_wiring.specs.declared.host.Host.{Host}
-use Rattle.pl_wiring.specs.declared.label.Label.{Label}
-use Rattle.pl_wiring.specs.declared.label.Label.TheVariants.{Aggregation, Core, Edge}
+use Rattle.pl_layouts.specs.Placement.{nowhere}
+use Rattle.pl_wiring.specs.declared.label.Label.TheVariants.{Edge}
 use Rattle.pl_wiring.specs.declared.label.SwitchNo.{SwitchNo}
 use Rattle.pl_wiring.specs.declared.link.Peer.{Peer}
 use Rattle.pl_wiring.specs.declared.link.Peer.TheVariants.{HostPort, Switch}
 use Rattle.pl_wiring.specs.Labels.{edge_count, label_of}
 use Rattle.pl_wiring.specs.Peers.{peer_of}
-use Rattle.pl_wiring.specs.Plan.{IsHostMac, IsPlan, Plan}
+use Rattle.pl_wiring.specs.Plan.{IsPlan}
 use Rattle.pl_wiring.proofs.LabelOrder.{label_of-aggregation, label_of-core, label_of-edge}
-use Rattle.pl_journal.specs.declared.entry.Entry.{Entry}
-use Rattle.pl_journal.specs.declared.entry.Entry.TheVariants.{Granted}
 use Rattle.pl_journal.specs.Flights.{level_of}
-use Rattle.pl_journal.specs.Lossy.{IsNewer, mac_of_host}
-use Rattle.pl_journal.specs.Places.{Spot, at_port, granted_at, has_stood, holder, is_host_port, is_of_edge, is_spent, number, registered, spot}
+use Rattle.pl_journal.specs.Places.{is_host_port, number}
 use Rattle.pl_core.specs.declared.neighbour.Neighbour.{Neighbour}
-use Rattle.pl_core.specs.declared.neighbour.PortRecord.{PortRecord}
-use Rattle.pl_core.specs.declared.switch_records.Grant.{Grant}
-use Rattle.pl_core.specs.declared.switch_records.Source.{Source}
-use Rattle.pl_core.specs.declared.trap.Trap.{Trap}
-use Rattle.pl_core.specs.Accounting.{HasMac, IsShaped}
-use Rattle.pl_core.specs.ManagerViews.{Registration}
-use Rattle.pl_core.specs.PortRecords.{heard_echo, heard_place, is_id, is_open_to_hosts, is_usable, place_at, port_of}
+use Rattle.pl_core.specs.PortRecords.{heard_echo, heard_place, is_id, is_usable, place_at, port_of}
 use Rattle.pl_core.specs.SwitchViews.{SwitchView}
-use Rattle.pl_switch_rule.specs.Delivering.{grant_trap, trap_for}
-use Rattle.pl_switch_rule.specs.Granting.{address_at_port, grant_number, granted, grants_at, in_use, is_local, is_port_spent, remembered_at}
-use Rattle.pl_world.specs.Changes.{host_of}
 use Rattle.pl_world.specs.Worlds.{WorldView}
-use Rattle.pl_control_plane.specs.ControlPlanes.{AreJoined, ControlPlane, control_plane, no_switch}
+use Rattle.pl_control_plane.specs.ControlPlanes.{control_plane, no_switch}
 use Rattle.pl_control_plane.proofs.Joined.{joined_turned}
 use Rattle.pl_places.specs.Known.{level_of as label_level, pod_of}
 use Rattle.pl_votes.proofs.Differing.{fixed_are_apart}
-use Rattle.pl_addresses.specs.EdgeAddresses.{IsGrantedTo, is_settled}
-use Rattle.pl_addresses.specs.Registries.{Leads, number_of, registry_of}
-use Rattle.pl_addresses.proofs.Numbers.{first_passes, granted_here, granted_parts, known_is, known_same, local_here, local_settled, number_past, number_within, settled_is, used_is}
-use Rattle.pl_addresses.proofs.Turns.{all_here}
-use Rattle.pl_addresses.proofs.Words.{mac_is}
 use Rattle.pl_kept.specs.Kept.{Kept}
-use Rattle.pl_ledger.specs.Ledgers.{AreEntered, AreInBounds, IsBacked, IsGrantedThere, IsLedger, ledger}
-use Rattle.pl_ledger.proofs.Books.{IsAlike, IsLast, Says, held_somewhere, number_apart, of_edge, same_says, says, spent_there}
-use Rattle.pl_ledger.proofs.Stepping.{fits_there}
-use Rattle.pl_ledger_runs.proofs.Runs.{IsEnteredAll, grounds, in_bounds}
-use Rattle.pl_flights.specs.OnTheWay.{book_of, known_place, place_in}
-use Rattle.pl_flights.specs.Standing.{IsGranted, KnowsAddresses, KnowsHosts, KnowsNeighbours, KnowsPlaces, LeadsOn}
+use Rattle.pl_ledger.proofs.Books.{says}
+use Rattle.pl_flights.specs.OnTheWay.{known_place, place_in}
+use Rattle.pl_flights.specs.Standing.{KnowsNeighbours, KnowsPlaces}
 
 -- ---- places
 pub place_is : (w : WorldView) (s : ℕ) → place_in w.switches s ≡ ((control_plane w).view s).place

@@ -1,5 +1,5 @@
 -- In every run the journal is a run of the lossy switch with good trails, where frames of groups arrive well.
-use Rattle.std.proofs.Common.{◌≡◌, ℕ, List, [], ◌∷◌, None, refl, sym, ap, subst, ◌∙◌, reverse}
+use Rattle.std.proofs.Common.{◌≡◌, List, None, refl, sym, ap, subst, reverse}
 use Rattle.pl_wiring.specs.Plan.{Plan}
 use Rattle.pl_core.specs.HostDuties.{HostsKeepFrames, HostsSendData, HostsSendOwn}
 use Rattle.pl_core.specs.HostInputs.{HostRule}

@@ -1,10 +1,8 @@
 -- Of a world and the one after a step: what was known of places is known, first addresses could be granted, and the manager numbers well.
-use Rattle.std.proofs.Common.{◌≡◌, ◌≢◌, ◌⊎◌, ◌≤◌, ◌<◌, ◌+◌, ◌^◌, ◌==◌, ◌&&◌, not, ℕ, Bool, true, false, List, [], ◌∷◌, length, reverse, Option, Some, None, IsSome, is_some, option_map, slice_get, refl, sym, ap, subst, subst₂, ◌∙◌, inl, inr, arith}
+use Rattle.std.proofs.Common.{◌≡◌, ◌≢◌, ◌<◌, ◌+◌, ◌==◌, ◌&&◌, ℕ, true, false, List, [], ◌∷◌, length, reverse, Option, Some, None, IsSome, slice_get, refl, sym, ap, subst, subst₂, ◌∙◌, inl, inr, arith}
 use Rattle.std.specs.List.{AllByRecursion}
-use Rattle.std.proofs.lemmas.Bool.{and_from, and_parts, cases_Bool, cases_eq, eq-eqb, eqb-true, false≢true}
-use Rattle.std.proofs.lemmas.Option.{none-some, same_Some, slice_get_within}
-use Rattle.pl_frame.specs.declared.address.SwitchId.{SwitchId}
-use Rattle.pl_frame.specs.declared.address.Mac.{Mac}
+use Rattle.std.proofs.lemmas.Bool.{and_parts, cases_Bool, eqb-true, false≢true}
+use Rattle.std.proofs.lemmas.Option.{same_Some, slice_get_within}
 use Rattle.pl_pmac.specs.declared.pmac.Pmac.{Pmac}
 use Rattle.pl_pmac.specs.Pmac.{Fits, pmac_number}
 use Rattle.pl_layouts.specs.declared.place.Place.{Place}
@@ -12,7 +10,7 @@ use Rattle.pl_layouts.specs.Placement.{is_known}
 use Rattle.pl_journal.specs.declared.entry.Entry.{Entry}
 use Rattle.pl_journal.specs.declared.entry.Entry.TheVariants.{Granted, Registered}
 use Rattle.pl_journal.specs.Lossy.{Needs}
-use Rattle.pl_journal.specs.Places.{are_alike, holder, is_of_edge, number, registered, same_pod_and_position}
+use Rattle.pl_journal.specs.Places.{holder, number, registered, same_pod_and_position}
 use Rattle.pl_core.specs.declared.acts.ManagerAct.{ManagerAct}
 use Rattle.pl_core.specs.declared.acts.ManagerAct.TheVariants.{Number, Say}
 use Rattle.pl_core.specs.declared.messages.ToManager.{ToManager}
@@ -22,10 +20,8 @@ use Rattle.pl_core.specs.HostInputs.{HostRule}
 use Rattle.pl_core.specs.ManagerViews.{Learnt, ManagerView, registry}
 use Rattle.pl_core.specs.SwitchViews.{SwitchView}
 use Rattle.pl_core.specs.declared.switch_records.Grant.{Grant}
-use Rattle.pl_core.specs.Accounting.{IsShaped}
 use Rattle.pl_manager_rule.specs.Histories.{known}
 use Rattle.pl_manager_rule.specs.ManagerRule.{manager_hears, manager_rule}
-use Rattle.pl_queues.specs.Queues.{items_at}
 use Rattle.pl_switch_rule.specs.Granting.{address_at_port, granted, is_local}
 use Rattle.pl_switch_rule.specs.SwitchRule.{Loose}
 use Rattle.pl_wiring.specs.Plan.{Plan}
@@ -33,22 +29,21 @@ use Rattle.pl_world.specs.declared.event.Event.{Event}
 use Rattle.pl_world.specs.Refusals.{refusal}
 use Rattle.pl_world.specs.WorldRule.{WorldStep}
 use Rattle.pl_world.specs.Worlds.{WorldView}
-use Rattle.pl_addresses.specs.Addressed.{IsStill, StayGranted}
-use Rattle.pl_addresses.specs.EdgeAddresses.{IsGoodWord, edge_of, is_settled}
+use Rattle.pl_addresses.specs.Addressed.{StayGranted}
+use Rattle.pl_addresses.specs.EdgeAddresses.{IsGoodWord, is_settled}
 use Rattle.pl_addresses.specs.OwnAddresses.{own_ip}
-use Rattle.pl_addresses.specs.Registries.{number_of, registry_of}
 use Rattle.pl_addresses.proofs.Numbers.{granted_parts, local_here, local_settled}
 use Rattle.pl_addresses.proofs.Runs.{step_in_order}
-use Rattle.pl_addresses.proofs.Turns.{all_here, exists_at}
+use Rattle.pl_addresses.proofs.Turns.{exists_at}
 use Rattle.pl_kept.specs.Kept.{Kept}
 use Rattle.pl_ledger.specs.Ledgers.{IsBacked, IsGrantedThere, ledger}
 use Rattle.pl_ledger.proofs.Books.{IsAlike, Says, held_somewhere, number_apart, of_edge, same_says, says}
-use Rattle.pl_ledger.proofs.Numbering.{LearnsBy, LearnsNothing, LearnsOne, Numbering, learns, numberings}
+use Rattle.pl_ledger.proofs.Numbering.{LearnsBy, LearnsOne, Numbering, learns, numberings}
 use Rattle.pl_ledger_runs.proofs.Runs.{IsEnteredAll, grounds, in_bounds, places_grow}
 use Rattle.pl_flights.specs.Given.{ManagerNumbersWell, NumbersWell}
 use Rattle.pl_flights.specs.OnTheWay.{place_in}
-use Rattle.pl_flights.specs.Standing.{FirstAddresses, IsMore, IsNext}
-use Rattle.pl_told.proofs.Addressing.{both_false, each_entry, fits_at, own_at, pmac_unicast}
+use Rattle.pl_flights.specs.Standing.{FirstAddresses, IsMore}
+use Rattle.pl_told.proofs.Addressing.{both_false, each_entry, fits_at, pmac_unicast}
 use Rattle.pl_told.proofs.Knowing.{place_is}
 
 -- what was known of places is known later

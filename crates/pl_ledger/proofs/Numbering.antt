@@ -118,9 +118,6 @@ module _ (k : ℕ) (words : List Word) (id : SwitchId) where
     count = ap (λ (l : Learnt). length (registry l)) same;
   }
 
-  by_number : (o : Option Registration) (reg : Registration) → o ≡ Some reg → option_map (λ (r : Registration). r.number) o ≡ Some reg.number
-  by_number o reg is = ap (option_map (λ (r : Registration). r.number)) is
-
   address_learnt : (x : Pmac) (mac : Mac) (ip : Option Ip4) →
       let word : Word = record { switch = id; says = tell.Learned x mac ip } in
       let acts = learning (known k words).learnt (known k (word ∷ words)).learnt x mac ++ avoid_acts (known k words).told (known k (word ∷ words)).told ++ tree_acts (known k words) (known k (word ∷ words)) in

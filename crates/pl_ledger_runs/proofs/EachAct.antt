@@ -56,9 +56,6 @@ IsPlainAct (act.Make frame) = ⊥
 IsPlainAct a = Unit {0}
 
 module _ (Q : Act → Type 0) (plain : (a : Act) → IsPlainAct a → Q a) where
-  Each : List Act → Type 0
-  Each acts = AllByRecursion Q acts
-
   each_if : (test : Bool) (s t : SwitchStep) → AllByRecursion Q s.acts → AllByRecursion Q t.acts → AllByRecursion Q (if test then s else t).acts
   each_if true s t a b = a
   each_if false s t a b = b

@@ -155,9 +155,6 @@ source_place v port frame =
 
 -- ---- each row
 module _ (choose : Choice) (v : SwitchView) where
-  Wishes : SwitchStep → Type 0
-  Wishes s = AreWishes s.view.place s.acts
-
   either : (test : Bool) (s t : SwitchStep) → (test ≡ true → AreWishes s.view.place s.acts) → (test ≡ false → AreWishes t.view.place t.acts) →
       AreWishes (if test then s else t).view.place (if test then s else t).acts
   either true s t a b = a refl

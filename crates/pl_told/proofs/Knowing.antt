@@ -10,7 +10,6 @@ use Rattle.pl_wiring.specs.declared.link.Peer.{Peer}
 use Rattle.pl_wiring.specs.declared.link.Peer.TheVariants.{HostPort, Switch}
 use Rattle.pl_wiring.specs.Labels.{edge_count, label_of}
 use Rattle.pl_wiring.specs.Peers.{peer_of}
-use Rattle.pl_wiring.specs.Plan.{IsPlan}
 use Rattle.pl_wiring.proofs.LabelOrder.{label_of-aggregation, label_of-core, label_of-edge}
 use Rattle.pl_journal.specs.Flights.{level_of}
 use Rattle.pl_journal.specs.Places.{is_host_port, number}
@@ -62,9 +61,6 @@ level_is k s = elim (cases_lt s (edge_count k)) [
     not_less a b le = elim (cases_Bool (nat_lt a b)) [ inl less ↦ (let lt = ltb-true a b less in absurd (omega (arith, le, lt))) | inr no_less ↦ no_less ]
 
 module _ (w : WorldView) (kept : Kept w) where
-  is_plan : IsPlan w.plan
-  is_plan = kept.counted.formed.plan
-
   view_at : (t : ℕ) (v : SwitchView) → slice_get w.switches t ≡ Some v → (control_plane w).view t ≡ v
   view_at t v found = get_or_from_slice_get w.switches t v no_switch found
 

@@ -1,0 +1,175 @@
+-- Each event but those at which addresses may be granted keeps what is told; what these, the groups and the manager's numbers give is a premise.
+use Rattle.std.proofs.Common.{inl, inr, ◌≡◌, ℕ, ◌<◌, ◌==◌, ◌&&◌, not, nat_lt, Bool, true, false, if◌then◌else◌, List, [], ◌∷◌, Option, None, Some, reverse, set, slice_get, refl, sym, subst}
+use Rattle.std.proofs.lemmas.Bool.{and_parts, cases_Bool, ltb-true}
+use Rattle.pl_wiring.specs.declared.label.SwitchNo.{SwitchNo}
+use Rattle.pl_wiring.specs.declared.link.Link.{Link}
+use Rattle.pl_wiring.specs.declared.link.Peer.{Peer}
+use Rattle.pl_wiring.specs.declared.link.Peer.TheVariants.{HostPort, Switch}
+use Rattle.pl_wiring.specs.LiveLinks.{is_live}
+use Rattle.pl_wiring.specs.Peers.{peer_of}
+use Rattle.pl_journal.specs.Places.{are_alike, is_host_port}
+use Rattle.pl_core.specs.declared.messages.ToManager.{ToManager}
+use Rattle.pl_core.specs.declared.messages.ToSwitch.{ToSwitch}
+use Rattle.pl_core.specs.declared.messages.ToSwitch.TheVariants.{Answer, Avoid, Flood, Invalidate, Pod, Tree}
+use Rattle.pl_core.specs.Accounting.{AccountsForFrames}
+use Rattle.pl_core.specs.HostDuties.{HostsKeepFrames, HostsSendData}
+use Rattle.pl_core.specs.HostInputs.{HostRule}
+use Rattle.pl_core.specs.ManagerDuties.{ManagerRule}
+use Rattle.pl_core.specs.SwitchInputs.SwitchInput.{Comes, Says}
+use Rattle.pl_queues.specs.Queues.{items_at}
+use Rattle.pl_frame.specs.Ethernet.{payload_of}
+use Rattle.pl_layouts.specs.Control.{control_in}
+use Rattle.pl_switch_rule.specs.Levels.{has_become_placed, with_pod}
+use Rattle.pl_switch_rule.specs.SwitchRule.{Loose}
+use Rattle.pl_world.specs.declared.error.StepError.TheVariants.{AlreadySo, NoSuch, Occupied}
+use Rattle.pl_world.specs.declared.event.Event.{Event}
+use Rattle.pl_world.specs.declared.event.Event.TheVariants as event
+use Rattle.pl_world.specs.declared.event.QueueName.{QueueName}
+use Rattle.pl_world.specs.declared.event.QueueName.TheVariants as queue
+use Rattle.pl_world.specs.declared.item.Item.{Item}
+use Rattle.pl_world.specs.declared.item.Item.TheVariants.{Control, Data}
+use Rattle.pl_world.specs.declared.spoken_frame.SpokenFrame.TheVariants.{Silent}
+use Rattle.pl_world.specs.declared.stand.Stand.{Stand}
+use Rattle.pl_world.specs.Changes.{host_at, out_of, receiver}
+use Rattle.pl_world.specs.Flying.{IsCounted}
+use Rattle.pl_world.specs.LinksAndMoves.{joins, link_between, link_failed}
+use Rattle.pl_world.specs.Refusals.{has_host, has_port, has_switch, is_for_hosts, is_linked, refusal_of_event, refusal_of_link, refusal_of_move, refusal_of_place, refusal_of_queue}
+use Rattle.pl_world.specs.WorldRule.{ComesOver, Delivers, DeliversFromHost, DeliversFromManager, DeliversOut, DeliversToManager, Fails, Goes, Happens, IsRepaired, Loses, ManagerTurn, SwitchTurn}
+use Rattle.pl_world.specs.Worlds.{WorldView}
+use Rattle.pl_world.proofs.StepBalances.{counted as to_counted, fails, found_contained, sound}
+use Rattle.pl_flights.specs.OnTheWay.{IsTold, place_in}
+use Rattle.pl_flights.specs.Standing.{IsMore, StandsOn}
+use Rattle.pl_flights.proofs.Arriving.{GroupArrives, comes_out_told}
+use Rattle.pl_flights.proofs.AtHome.{over_link_told}
+use Rattle.pl_flights.proofs.Beginning.{lost_told}
+use Rattle.pl_flights.proofs.Failing.{fails_told, repaired_told}
+use Rattle.pl_flights.proofs.ControlFrames.{MaySettle, control_told, pod_told, settles_by}
+use Rattle.pl_flights.proofs.FromManager.{says_told}
+use Rattle.pl_flights.proofs.HostTurns.{host_told, plays_told}
+use Rattle.pl_flights.proofs.Moving.{goes_told}
+use Rattle.pl_flights.proofs.Numbering.{NumbersWell, manager_told}
+use Rattle.pl_flights.proofs.OverLinks.{taken_out}
+use Rattle.pl_flights.proofs.SilentSteps.{ticks_told}
+
+-- what is left to the rows at which addresses may be granted, to groups, and to the other parts
+pub record IsLeft (manager : ManagerRule) (w new : WorldView) : Type 0 where
+  pub from_host : (h : ℕ) → DeliversFromHost Loose w h (items_at w.from_hosts h) new → IsTold new
+  pub control : (s port : ℕ) (t : SwitchNo) (q : ℕ) (frame : List ℕ) (items : List Item) → out_of w s port ≡ Control frame ∷ items →
+      peer_of w.plan s port ≡ Switch t q → (turn : SwitchTurn Loose (taken_out w s port items) t.0 (Comes q frame) Silent new) →
+      settles_by turn.before q (control_in (payload_of frame)) ≡ true → MaySettle w t.0 turn.acts
+  pub pod : (t pod : ℕ) (rest : List ToSwitch) (turn : SwitchTurn Loose (record w { from_manager = set w.from_manager t rest }) t (Says (Pod pod)) Silent new) →
+      has_become_placed turn.before.place (with_pod turn.before (Some pod)).place ≡ true → MaySettle w t turn.acts
+  pub groups : (s port id : ℕ) (frame : List ℕ) → GroupArrives w s port id frame
+  pub numbers : (s : ℕ) (says : ToManager) (items : List ToManager) (turn : ManagerTurn manager (record w { to_manager = set w.to_manager s items }) s says new) →
+      NumbersWell w.plan (reverse w.journal) turn.acts
+  pub more : IsMore (place_in w.switches) (place_in new.switches)
+
+there_is : (there filled : Bool) → refusal_of_queue there filled ≡ None → there ≡ true
+there_is true filled none = refl
+there_is false filled none = absurd (cc)
+
+live_before : (b : Bool) → (if are_alike b false then Some AlreadySo else None) ≡ None → b ≡ true
+live_before true fine = refl
+live_before false fine = absurd (cc)
+
+dead_before : (b : Bool) → (if are_alike b true then Some AlreadySo else None) ≡ None → b ≡ false
+dead_before true fine = absurd (cc)
+dead_before false fine = refl
+
+always_refused : (b : Bool) → (if b then Some AlreadySo else Some Occupied) ≡ None → ⊥
+always_refused true fine = absurd (cc)
+always_refused false fine = absurd (cc)
+
+move_fine : (a b : Bool) (h : ℕ) (o : Option ℕ) → (if a && b then refusal_of_place h o else Some NoSuch) ≡ None → (a ≡ true) × (b ≡ true) × (o ≡ None)
+move_fine true true h None fine = (refl, refl, refl)
+move_fine true true h (Some other) fine = absurd (always_refused (other == h) fine)
+move_fine true false h o fine = absurd (cc)
+move_fine false b h o fine = absurd (cc)
+
+module _ (manager : ManagerRule) (host : HostRule) (accounts : AccountsForFrames Loose) (sends : HostsSendData host) (keeps : HostsKeepFrames host)
+    (w : WorldView) (counted : IsCounted w) (told : IsTold w) (on : StandsOn w) (new : WorldView) (left : IsLeft manager w new) where
+  -- an item comes to the other end
+  over_told : (s port : ℕ) (item : Item) (items : List Item) (peer : Peer) → port < w.plan.k → out_of w s port ≡ item ∷ items → peer_of w.plan s port ≡ peer →
+      ComesOver Loose host (taken_out w s port items) s port item peer new → IsTold new
+  over_told s port (Control frame) items (Switch t q) within head peer turn =
+      control_told w s port frame items t q new accounts counted told within head peer turn
+      (elim (cases_Bool (settles_by turn.before q (control_in (payload_of frame)))) [
+        | inl settles ↦ inr (left.control s port t q frame items head peer turn settles)
+        | inr stays ↦ inl stays
+      ]) left.more
+  over_told s port (Data id frame) items (Switch t q) within head peer turn =
+      over_link_told w counted told on accounts s port id frame items within head t q peer new turn
+  over_told s port (Control frame) items HostPort within head peer is = subst IsTold (sym is) (lost_told w s port (Control frame) items counted told within head)
+  over_told s port (Data id frame) items HostPort within head peer comes =
+      comes_out_told w counted told s port id frame items within head peer host keeps sends (left.groups s port id frame) (receiver w s port frame) refl new comes
+
+  out_told : (s port : ℕ) (items : List Item) → port < w.plan.k → out_of w s port ≡ items → DeliversOut Loose host w s port items new → IsTold new
+  out_told s port [] within head comes = absurd comes
+  out_told s port (item ∷ items) within head comes = over_told s port item items (peer_of w.plan s port) within head refl comes
+
+  to_manager_told : (s : ℕ) (items : List ToManager) → DeliversToManager manager w s items new → IsTold new
+  to_manager_told s [] comes = absurd comes
+  to_manager_told s (says ∷ items) turn = manager_told manager w s says items new counted told turn (left.numbers s says items turn)
+
+  from_manager_told : (t : ℕ) (items : List ToSwitch) → DeliversFromManager Loose w t items new → IsTold new
+  from_manager_told t [] comes = absurd comes
+  from_manager_told t (Pod pod ∷ items) turn = pod_told w t pod items new accounts counted told turn
+      (elim (cases_Bool (has_become_placed turn.before.place (with_pod turn.before (Some pod)).place)) [
+        | inl settles ↦ inr (left.pod t pod items turn settles)
+        | inr stays ↦ inl stays
+      ]) left.more
+  from_manager_told t (Avoid list ∷ items) turn = says_told w t (Avoid list) items new accounts counted told on tt turn
+  from_manager_told t (Tree group part ∷ items) turn = says_told w t (Tree group part) items new accounts counted told on tt turn
+  from_manager_told t (Answer asker asker_ip ip pmac ∷ items) turn = says_told w t (Answer asker asker_ip ip pmac) items new accounts counted told on tt turn
+  from_manager_told t (Flood asker asker_ip ip ∷ items) turn = says_told w t (Flood asker asker_ip ip) items new accounts counted told on tt turn
+  from_manager_told t (Invalidate old to number ip ∷ items) turn = says_told w t (Invalidate old to number ip) items new accounts counted told on tt turn
+
+  -- the head of a queue is delivered
+  delivers_told : (name : QueueName) → refusal_of_event w (event.Deliver name) ≡ None → Delivers Loose manager host w name new → IsTold new
+  delivers_told (queue.FromHost h) fine comes = left.from_host h.0 comes
+  delivers_told (queue.Port s port) fine comes =
+      let there = and_parts (has_switch w.plan s.0) (nat_lt port w.plan.k) (there_is (has_port w.plan s.0 port) _ fine) in
+      out_told s.0 port (out_of w s.0 port) (ltb-true port w.plan.k there.1) refl comes
+  delivers_told (queue.ToManager s) fine comes = to_manager_told s.0 (items_at w.to_manager s.0) comes
+  delivers_told (queue.FromManager s) fine comes = from_manager_told s.0 (items_at w.from_manager s.0) comes
+
+  -- an item is lost
+  loses_told : (s port : ℕ) (items : List Item) → port < w.plan.k → out_of w s port ≡ items → Loses w s port items new → IsTold new
+  loses_told s port [] within head is = absurd is
+  loses_told s port (item ∷ items) within head is = subst IsTold (sym is) (lost_told w s port item items counted told within head)
+
+  -- a link fails, or is repaired
+  cut_told : (a b : ℕ) (o : Option Link) → link_between w.plan a b ≡ o → refusal_of_link w false o ≡ None → Fails w o new → IsTold new
+  cut_told a b None found fine is = absurd is
+  cut_told a b (Some link) found fine is = subst IsTold (sym is)
+      (fails_told w link counted told (found_contained (joins a b) w.plan.links link found) (live_before (is_live w.links link) fine)
+      (to_counted (link_failed w link) (fails w a b (Some link) (link_failed w link) found (sound w counted) refl)))
+
+  fixed_told : (a b : ℕ) (o : Option Link) → link_between w.plan a b ≡ o → refusal_of_link w true o ≡ None → IsRepaired w o new → IsTold new
+  fixed_told a b None found fine is = absurd is
+  fixed_told a b (Some link) found fine is = subst IsTold (sym is)
+      (repaired_told w link counted told (found_contained (joins a b) w.plan.links link found) (dead_before (is_live w.links link) fine))
+
+  -- a host moves
+  leaves_told : (h : ℕ) (to : Stand) (o : Option Stand) → slice_get w.stands h ≡ o → refusal_of_move w h to.edge.0 to.port ≡ None → Goes host w h to o new → IsTold new
+  leaves_told h to None found fine turn = absurd turn
+  leaves_told h to (Some from) found fine turn =
+      let may = move_fine (has_host w.plan h) (is_for_hosts w.plan to.edge.0 to.port) h (host_at w to.edge.0 to.port) fine in
+      goes_told w counted told h to from found may.0 may.1 may.2 host sends new turn
+
+  -- each event, over what is left
+  pub happens_told : (happens : Event) → refusal_of_event w happens ≡ None → Happens Loose manager host w happens new → IsTold new
+  happens_told (event.Deliver name) fine does = delivers_told name fine does
+  happens_told (event.Tick s) fine does = ticks_told w s.0 new accounts counted told does left.more
+  happens_told (event.Fail a b) fine does = cut_told a.0 b.0 (link_between w.plan a.0 b.0) refl fine does
+  happens_told (event.Repair a b) fine does = fixed_told a.0 b.0 (link_between w.plan a.0 b.0) refl fine does
+  happens_told (event.Lose s port) fine does =
+      let linked = and_parts (has_port w.plan s.0 port) (not (is_host_port (peer_of w.plan s.0 port))) (there_is (is_linked w.plan s.0 port) _ fine) in
+      let there = and_parts (has_switch w.plan s.0) (nat_lt port w.plan.k) linked.0 in
+      loses_told s.0 port (out_of w s.0 port) (ltb-true port w.plan.k there.1) refl does
+  happens_told (event.Move h s port) fine does = leaves_told h.0 (record { edge = s; port = port }) (slice_get w.stands h.0) refl fine does
+  happens_told (event.Start h) fine does = host_told host sends w h.0 _ _ new (sound w counted) told does
+  happens_told (event.Play h frame original raw) fine does = plays_told host sends w h.0 _ new (sound w counted) told does
+  happens_told (event.Retry h) fine does = host_told host sends w h.0 _ _ new (sound w counted) told does
+  happens_told (event.Join h group) fine does = host_told host sends w h.0 _ _ new (sound w counted) told does
+  happens_told (event.Leave h group) fine does = host_told host sends w h.0 _ _ new (sound w counted) told does

@@ -166,7 +166,7 @@ unicast_is_not_routed m unicast = ap is_routed (cond-true (not (is_group m)) Non
 
 module _ (w : WorldView) (counted : IsCounted w) (told : IsTold w) (s port id : ℕ) (frame : List ℕ) (items : List Item)
     (within : port < w.plan.k) (head : out_of w s port ≡ Data id frame ∷ items) (peer : peer_of w.plan s port ≡ HostPort) where
-  leaving : IsLeaving w.plan (book_of (reverse w.journal)) (flight_of w.plan (reverse w.journal) id) frame s port
+  leaving : IsLeaving w.plan (place_in w.switches) (book_of (reverse w.journal)) (flight_of w.plan (reverse w.journal) id) frame s port
   leaving = subst (λ (p : Peer). IsGoing w.plan (place_in w.switches) (reverse w.journal) s port p id frame) peer
       (taken w counted told s port id frame items within head).going
 

@@ -63,13 +63,14 @@ module _ (plan : Plan) (place : ℕ → Place) (book : Book) (t : ℕ) (v : Swit
   pub begins_good : (root : ℕ) (frame : List ℕ) → is_group (destination_of frame) ≡ false → 14 ≤ length frame →
       GoodActs plan place book t (begins choose v frame).acts (Waits (made_here root t frame) false)
   begins_good root frame unicast long =
-      let here : IsHere t (made_here root t frame) frame = record {
+      let here : IsHere place t (made_here root t frame) frame = record {
         last = refl;
         reached = refl;
         began = unicast;
         unicast = unicast;
         address = refl;
         long = long;
+        home = λ there is. absurd (cc);
         unaltered = λ m six. refl;
       } in
       cond_both (is_local v (destination frame)) (comes_home choose v frame) (forwards choose v (Some FromHost) frame)
@@ -95,7 +96,7 @@ module _ (plan : Plan) (place : ℕ → Place) (book : Book) (t : ℕ) (v : Swit
     tells_good (Some trap) hand = cond_both (is_arp frame) (does v []) (tells_newer choose frame (last_trap (addresses v) v trap).new (last_trap (addresses v) v trap).ip v)
         (λ step. GoodActs plan place book t step.acts hand) (λ arp. tt) (λ other. newer_good _ _ hand)
 
-    pub arrives_good : (f : Flight) (again : Bool) → IsHere t f frame → is_local v (destination frame) ≡ true →
+    pub arrives_good : (f : Flight) (again : Bool) → IsHere place t f frame → is_local v (destination frame) ≡ true →
         GoodActs plan place book t (arrives_home choose v frame).acts (Waits f again)
     arrives_good f again here own =
         subst (λ (u : SwitchView). GoodActs plan place book t ((comes_home choose v frame).acts ++ (tells_sender choose frame (trap_for v (destination frame)) u).acts) (Waits f again))
@@ -125,6 +126,7 @@ over_link_told w counted told on accounts s port id frame items within head t q 
       unicast = unicast;
       address = b.address;
       long = took.is_frame.whole.low;
+      home = b.home;
       unaltered = (b.one unicast).unaltered;
     }) own in
     comes_told w counted told on s port id frame items within head t q peer accounts home new turn

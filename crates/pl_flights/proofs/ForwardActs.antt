@@ -111,12 +111,14 @@ module _ (plan : Plan) (place : ℕ → Place) (book : Book) (t : ℕ) (v : Swit
     group = b.group;
     kept = b.kept;
     address = b.address;
+    home = b.home;
     one = λ unicast. absurd (both_ways (is_group (destination_of frame)) unicast group);
   }
   may_spread p HostPort group = record {
     last = refl;
     group = b.group;
     kept = b.kept;
+    home = b.home;
     one = λ unicast. absurd (both_ways (is_group (destination_of frame)) unicast group);
   }
 
@@ -150,6 +152,7 @@ module _ (plan : Plan) (place : ℕ → Place) (book : Book) (t : ℕ) (v : Swit
     group = b.group;
     kept = b.kept;
     address = b.address;
+    home = b.home;
     one = λ unicast. let w = b.one unicast in record {
       route = passes_on plan place t v is_plan places knows (destination frame) p u r peer s q port came from by placed leads f.leg w.route;
       whole = refl;

@@ -39,7 +39,7 @@ use Rattle.pl_world.proofs.StepBalances.{sound}
 use Rattle.pl_world.proofs.SwitchActBalances.{says_rest}
 use Rattle.pl_flights.specs.OnTheWay.{Book, IsTold, book_of, known_place, place_in}
 use Rattle.pl_flights.specs.Standing.{IsMore, KnowsAddresses, KnowsNeighbours, KnowsPlaces, StandsOn}
-use Rattle.pl_flights.proofs.Growing.{between_grown}
+use Rattle.pl_flights.proofs.Growing.{between_grown, leaving_grown}
 use Rattle.pl_flights.proofs.Hands.{GoodActs, Hand, MayLeave, made_here, turned}
 use Rattle.pl_flights.proofs.Hands.Hand.{Empty, Spreads, Waits}
 use Rattle.pl_flights.proofs.Moving.{set_get, set_get_other}
@@ -52,7 +52,7 @@ use Rattle.pl_flights.proofs.SwitchTurns.{turn_switches}
 module _ (plan : Plan) (place later : ℕ → Place) (more : IsMore place later) (book : Book) (s : ℕ) where
   leave_grown : (port : ℕ) (peer : Peer) (f : Flight) (frame : List ℕ) → MayLeave plan place book s port peer f frame → MayLeave plan later book s port peer f frame
   leave_grown port (Switch t q) f frame may = between_grown place later more plan f true frame s t.0 may
-  leave_grown port HostPort f frame may = may
+  leave_grown port HostPort f frame may = leaving_grown place later more plan book f frame s port may
 
   pub good_grown : (acts : List Act) (hand : Hand) → GoodActs plan place book s acts hand → GoodActs plan later book s acts hand
   good_grown [] hand good = tt
@@ -97,7 +97,7 @@ abbrev pub GivesNoPod : ToSwitch → Type 0
 GivesNoPod (Pod pod) = ⊥
 GivesNoPod says = Unit {0}
 
-silent_groups : (old new : List Member) → AreSilent (groups_told old new)
+pub silent_groups : (old new : List Member) → AreSilent (groups_told old new)
 silent_groups old new = silent_flat_map (group_told old new) (groups_of (old ++ new)) (λ group. none_or_told (are_alike (has_member_of old group) (has_member_of new group)) _)
 
 probe_place : (old : Pmac) (amac : Mac) (o : Option Ip4) (v : SwitchView) → (probes_at old amac o v).view.place ≡ v.place

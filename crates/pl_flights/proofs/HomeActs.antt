@@ -27,7 +27,7 @@ use Rattle.pl_switch_rule.specs.Delivering.{delivers, delivers_to, destination, 
 use Rattle.pl_switch_rule.specs.Forwarding.{Choice, candidates, candidates_by, forwards, is_candidate, leads_from_edge, leads_up, leaves_by}
 use Rattle.pl_switch_rule.specs.Granting.{granted, is_local}
 use Rattle.pl_switch_rule.specs.SwitchRule.{IsChoice}
-use Rattle.pl_flights.specs.OnTheWay.{Book, IsLeaving, WillBeUnaltered}
+use Rattle.pl_flights.specs.OnTheWay.{Book, CameInPlaced, IsLeaving, WillBeUnaltered}
 use Rattle.pl_flights.specs.Routes.{IsElsewhere, Route}
 use Rattle.pl_flights.specs.Routes.Route.{Climbs}
 use Rattle.pl_flights.specs.Standing.{IsGranted, KnowsAddresses, KnowsNeighbours, KnowsPlaces}
@@ -50,19 +50,20 @@ pub number_of_destination : (frame : List ℕ) → pmac_number (destination fram
 number_of_destination frame = number_in (mac_number (destination_of frame))
 
 -- a unicast frame in hand at switch t, with its present address in it
-pub record IsHere (t : ℕ) (f : Flight) (frame : List ℕ) : Type 0 where
+pub record IsHere (place : ℕ → Place) (t : ℕ) (f : Flight) (frame : List ℕ) : Type 0 where
   pub last : first_of f.trail ≡ Some t
   pub reached : first_of f.leg ≡ Some t
   pub began : is_group (destination_of f.beginning) ≡ false
   pub unicast : is_group (destination_of frame) ≡ false
   pub address : f.address ≡ mac_number (destination_of frame)
   pub long : 14 ≤ length frame
+  pub home : CameInPlaced place f.came_in
   pub unaltered : WillBeUnaltered f frame
 
 module _ (plan : Plan) (place : ℕ → Place) (book : Book) (t : ℕ) (v : SwitchView) (knows : KnowsAddresses plan book t v) (rest : List Act)
     (then_good : (hand : Hand) → GoodActs plan place book t rest hand) where
   -- it goes out to the host that has the address
-  pub delivers_good : (f : Flight) (again : Bool) (frame : List ℕ) (o : Option Grant) → IsHere t f frame → is_local v (destination frame) ≡ true →
+  pub delivers_good : (f : Flight) (again : Bool) (frame : List ℕ) (o : Option Grant) → IsHere place t f frame → is_local v (destination frame) ≡ true →
       granted v (destination frame) ≡ o → GoodActs plan place book t ((delivers_to v (destination frame) frame o).acts ++ rest) (Waits f again)
   delivers_good f again frame None here own found =
       (ap book.hold (here.address ∙ sym (number_of_destination frame)) ∙ knows.not_granted (destination frame) own found, then_good Empty)
@@ -71,10 +72,11 @@ module _ (plan : Plan) (place : ℕ → Place) (book : Book) (t : ℕ) (v : Swit
       let same : f.address ≡ pmac_number (destination frame) = here.address ∙ sym (number_of_destination frame) in
       let out : destination_of (arriving frame None (Some grant.amac)) ≡ grant.amac = destination_of-arriving frame None (Some grant.amac) here.long tt is.six in
       let one_host : is_group (destination_of (arriving frame None (Some grant.amac))) ≡ false = ap is_group out ∙ is.unicast in
-      let leaves : IsLeaving plan book f (arriving frame None (Some grant.amac)) t (destination frame).port = record {
+      let leaves : IsLeaving plan place book f (arriving frame None (Some grant.amac)) t (destination frame).port = record {
         last = here.last;
         group = here.began ∙ sym one_host;
         kept = λ group. absurd (both_ways (is_group (destination_of (arriving frame None (Some grant.amac)))) one_host group);
+        home = here.home;
         one = λ unicast. record {
           host = is.host;
           held = ap book.hold same ∙ is.held;
@@ -111,7 +113,7 @@ module _ (plan : Plan) (place : ℕ → Place) (book : Book) (t : ℕ) (v : Swit
       }
 
   -- a frame whose leg begins here climbs
-  climbs : (f : Flight) (frame : List ℕ) (p : ℕ) (peer : Peer) → IsHere t f frame → f.leg ≡ t ∷ [] → v.place.level ≡ Some 0 → is_placed v.place ≡ true →
+  climbs : (f : Flight) (frame : List ℕ) (p : ℕ) (peer : Peer) → IsHere place t f frame → f.leg ≡ t ∷ [] → v.place.level ≡ Some 0 → is_placed v.place ≡ true →
       is_local v (destination frame) ≡ false → leads_up v 1 (destination frame) p ≡ true → peer_of plan t p ≡ peer → is_host_port peer ≡ false →
       MayLeave plan place book t p peer f frame
   climbs f frame p HostPort here alone level placed away leads peer linked = absurd (false≢true (sym linked))
@@ -120,6 +122,7 @@ module _ (plan : Plan) (place : ℕ → Place) (book : Book) (t : ℕ) (v : Swit
     group = here.began ∙ sym here.unicast;
     kept = λ group. absurd (both_ways (is_group (destination_of frame)) here.unicast group);
     address = here.address;
+    home = here.home;
     one = λ unicast. record { route = by_rung (rung plan t p u r is_plan peer); whole = refl; unaltered = here.unaltered };
   }
     where
@@ -138,7 +141,7 @@ module _ (plan : Plan) (place : ℕ → Place) (book : Book) (t : ℕ) (v : Swit
       (and_parts (not (is_local v to)) (leads_up v 1 to p)
       (sym (cond-true (is_known v.place.level 0) (leads_from_edge v to FromHost p) _ (ap (λ o. is_known o 0) level)) ∙ is)).1
 
-  pub leaves_then : (choose : Choice) → IsChoice choose → (f : Flight) (again : Bool) (frame : List ℕ) → IsHere t f frame → f.leg ≡ t ∷ [] →
+  pub leaves_then : (choose : Choice) → IsChoice choose → (f : Flight) (again : Bool) (frame : List ℕ) → IsHere place t f frame → f.leg ≡ t ∷ [] →
       v.place.level ≡ Some 0 → is_placed v.place ≡ true → is_local v (destination frame) ≡ false → (chosen : Option ℕ) →
       choose (candidates_by v (destination frame) (Some FromHost)) frame ≡ chosen →
       GoodActs plan place book t ((leaves_by v frame chosen).acts ++ rest) (Waits f again)
@@ -152,7 +155,7 @@ module _ (plan : Plan) (place : ℕ → Place) (book : Book) (t : ℕ) (v : Swit
 
   module _ (knows : KnowsAddresses plan book t v) where
     -- an address that is followed no further: its host is here, or the frame goes on
-    pub goes_on_good : (choose : Choice) → IsChoice choose → (f : Flight) (again : Bool) (frame : List ℕ) → IsHere t f frame → f.leg ≡ t ∷ [] →
+    pub goes_on_good : (choose : Choice) → IsChoice choose → (f : Flight) (again : Bool) (frame : List ℕ) → IsHere place t f frame → f.leg ≡ t ∷ [] →
         v.place.level ≡ Some 0 → is_placed v.place ≡ true → GoodActs plan place book t ((goes_on choose v frame).acts ++ rest) (Waits f again)
     goes_on_good choose is f again frame here alone level placed =
         cond_both (is_local v (destination frame)) (delivers v frame) (forwards choose v (Some FromHost) frame)

@@ -58,15 +58,17 @@ module _ (plan : Plan) (place : ℕ → Place) where
     group = b.group;
     kept = b.kept;
     address = b.address;
+    home = b.home;
     one = λ unicast. let w = b.one unicast in record { route = w.route; whole = more w.whole; unaltered = w.unaltered };
   })
 
   pub leaving_kept : (book later : Book) (f g : Flight) (frame : List ℕ) (s port : ℕ) → g ≡ f → KeepsBook book later →
-      IsLeaving plan book f frame s port → IsLeaving plan later g frame s port
-  leaving_kept book later f g frame s port same more b = subst (λ h. IsLeaving plan later h frame s port) (sym same) (record {
+      IsLeaving plan place book f frame s port → IsLeaving plan place later g frame s port
+  leaving_kept book later f g frame s port same more b = subst (λ h. IsLeaving plan place later h frame s port) (sym same) (record {
     last = b.last;
     group = b.group;
     kept = b.kept;
+    home = b.home;
     one = λ unicast. let w = b.one unicast in record {
       host = w.host;
       held = more.held f.address w.host w.held;

@@ -32,3 +32,6 @@ pub mod Granting
 pub mod Settling
 pub mod Entering
 pub mod GrantingAmid
+pub mod NoneJustIn
+pub mod Rewriting
+pub mod TakingIn

@@ -25,7 +25,7 @@ use Rattle.pl_switch_rule.specs.Delivering.{addresses, comes_home, delivers_or_r
 use Rattle.pl_switch_rule.specs.Forwarding.{Choice}
 use Rattle.pl_switch_rule.specs.Granting.{granted, is_local}
 use Rattle.pl_switch_rule.specs.SwitchRule.{IsChoice}
-use Rattle.pl_flights.specs.OnTheWay.{Book, WillBeUnaltered}
+use Rattle.pl_flights.specs.OnTheWay.{Book, CameInPlaced, WillBeUnaltered}
 use Rattle.pl_flights.specs.Standing.{KnowsAddresses, KnowsNeighbours, KnowsPlaces, LeadsOn}
 use Rattle.pl_flights.proofs.Hands.{GoodActs, Hand, MayTurn, turned}
 use Rattle.pl_flights.proofs.Hands.Hand.{Waits}
@@ -96,11 +96,12 @@ module _ (plan : Plan) (place : ℕ → Place) (book : Book) (t : ℕ) (v : Swit
     alone : f.leg ≡ t ∷ []
     began : is_group (destination_of f.beginning) ≡ false
     unaltered : WillBeUnaltered f frame
+    home : CameInPlaced place f.came_in
     address : f.address ≡ pmac_number trap.new
     fits : Fits trap.new
     unicast : is_group (mac_of trap.new) ≡ false
 
-  with_new : (trap : Trap) (f : Flight) → IsTurning f trap → IsHere t f (with_destination frame (mac_of trap.new))
+  with_new : (trap : Trap) (f : Flight) → IsTurning f trap → IsHere place t f (with_destination frame (mac_of trap.new))
   with_new trap f u =
       let to : Mac = mac_of trap.new in
       let is_to : destination_of (with_destination frame to) ≡ to = destination_is frame to (six_bytes trap.new) in
@@ -111,6 +112,7 @@ module _ (plan : Plan) (place : ℕ → Place) (book : Book) (t : ℕ) (v : Swit
         unicast = ap is_group is_to ∙ u.unicast;
         address = u.address ∙ sym (number_of_mac trap.new u.fits) ∙ ap mac_number (sym is_to);
         long = long_sent frame to to (six_bytes trap.new) (six_bytes trap.new) long;
+        home = u.home;
         unaltered = λ m six. subst (λ x. UnalteredFrom f.sender f.source f.beginning (Some m) x) (sym (same_arriving frame to m (six_bytes trap.new) six long)) (u.unaltered m six);
       }
 
@@ -123,14 +125,15 @@ module _ (plan : Plan) (place : ℕ → Place) (book : Book) (t : ℕ) (v : Swit
       record { present = present; same_host = leads.same_host; newer = leads.newer; port = x.port; here = here.there; reached = reached }
 
   turning_on : (f : Flight) (again : Bool) (x : Pmac) (next : Trap) → first_of f.trail ≡ Some t → is_group (destination_of f.beginning) ≡ false → WillBeUnaltered f frame →
-      trap_for v x ≡ Some next → IsTurning (turned t f again next.new) next
-  turning_on f again x next last began unaltered trapped =
+      CameInPlaced place f.came_in → trap_for v x ≡ Some next → IsTurning (turned t f again next.new) next
+  turning_on f again x next last began unaltered home trapped =
       let leads : LeadsOn book x next = knows.trapped x next trapped in
       record {
         last = cond_both again f.trail (t ∷ f.trail) (λ l. first_of l ≡ Some t) (λ e. last) (λ e. refl);
         alone = refl;
         began = began;
         unaltered = unaltered;
+        home = home;
         address = refl;
         fits = leads.fits;
         unicast = leads.unicast;
@@ -154,11 +157,11 @@ module _ (plan : Plan) (place : ℕ → Place) (book : Book) (t : ℕ) (v : Swit
       by_next (Some next) found further =
           let trapped = newer_found trap next (trap_for v trap.new) found in (
             turns_well trap.new f next u.address (ap first_of u.alone) trapped,
-            further next (turned t f true next.new) (turning_on f true trap.new next u.last u.began u.unaltered trapped),
+            further next (turned t f true next.new) (turning_on f true trap.new next u.last u.began u.unaltered u.home trapped),
           )
 
   -- a frame for the switch's own hosts
-  pub home_good : (f : Flight) (again : Bool) → IsHere t f frame → is_local v (destination frame) ≡ true →
+  pub home_good : (f : Flight) (again : Bool) → IsHere place t f frame → is_local v (destination frame) ≡ true →
       GoodActs plan place book t ((comes_home choose v frame).acts ++ rest) (Waits f again)
   home_good f again here own = by_trap (trap_for v (destination frame)) refl
     where
@@ -166,5 +169,5 @@ module _ (plan : Plan) (place : ℕ → Place) (book : Book) (t : ℕ) (v : Swit
       by_trap None found = delivers_good plan place book t v knows rest then_good f again frame (granted v (destination frame)) here own refl
       by_trap (Some trap) found = (
         turns_well (destination frame) f trap (here.address ∙ sym (number_of_destination frame)) here.reached found,
-        chain (addresses v) trap (turned t f again trap.new) (turning_on f again (destination frame) trap here.last here.began here.unaltered found),
+        chain (addresses v) trap (turned t f again trap.new) (turning_on f again (destination frame) trap here.last here.began here.unaltered here.home found),
       )

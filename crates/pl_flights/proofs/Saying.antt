@@ -31,7 +31,7 @@ use Rattle.pl_switch_rule.specs.Messages.{answer_frame, flood_frame, floods, pro
 use Rattle.pl_switch_rule.specs.SwitchRule.{IsChoice}
 use Rattle.pl_switch_rule.proofs.CausesHere.{destination_of-arp_frame}
 use Rattle.pl_switch_rule.proofs.DataFrames.{arp_frame_made}
-use Rattle.pl_flights.specs.OnTheWay.{Book, IsLeaving}
+use Rattle.pl_flights.specs.OnTheWay.{Book, CameInPlaced, IsLeaving}
 use Rattle.pl_flights.specs.Standing.{IsGranted, KnowsAddresses, KnowsNeighbours, KnowsPlaces}
 use Rattle.pl_flights.proofs.AtHome.{begins_good, local_is_placed}
 use Rattle.pl_flights.proofs.ForwardActs.{not_is_true, routed_group}
@@ -40,25 +40,28 @@ use Rattle.pl_flights.proofs.Hands.Hand.{Empty, Spreads, Waits}
 use Rattle.pl_flights.proofs.Redirects.{number_of_mac}
 
 -- A frame of a group in hand at switch t, as it was begun.
-pub record IsSpreading (t : ℕ) (f : Flight) (frame : List ℕ) : Type 0 where
+pub record IsSpreading (place : ℕ → Place) (t : ℕ) (f : Flight) (frame : List ℕ) : Type 0 where
   pub last : first_of f.trail ≡ Some t
   pub group : is_group (destination_of frame) ≡ true
   pub kept : destination_of f.beginning ≡ destination_of frame
   pub address : f.address ≡ mac_number (destination_of frame)
+  pub home : CameInPlaced place f.came_in
 
-module _ (plan : Plan) (place : ℕ → Place) (book : Book) (t : ℕ) (v : SwitchView) (f : Flight) (frame : List ℕ) (here : IsSpreading t f frame) where
+module _ (plan : Plan) (place : ℕ → Place) (book : Book) (t : ℕ) (v : SwitchView) (f : Flight) (frame : List ℕ) (here : IsSpreading place t f frame) where
   spread : (p : ℕ) (peer : Peer) → MayLeave plan place book t p peer f frame
   spread p (Switch u r) = record {
     last = here.last;
     group = ap is_group here.kept;
     kept = λ group. here.kept;
     address = here.address;
+    home = here.home;
     one = λ unicast. absurd (both_ways (is_group (destination_of frame)) unicast here.group);
   }
   spread p HostPort = record {
     last = here.last;
     group = ap is_group here.kept;
     kept = λ group. here.kept;
+    home = here.home;
     one = λ unicast. absurd (both_ways (is_group (destination_of frame)) unicast here.group);
   }
 
@@ -106,7 +109,7 @@ module _ (plan : Plan) (place : ℕ → Place) (book : Book) (t : ℕ) (v : Swit
   flood_good asker asker_ip ip = λ root.
       let to : destination_of (flood_frame asker asker_ip ip) ≡ broadcast = destination_of-arp_frame broadcast _ refl in
       spreads_good plan place book t v (made_here root t (flood_frame asker asker_ip ip)) (flood_frame asker asker_ip ip)
-      (record { last = refl; group = ap is_group to; kept = refl; address = refl }) (Some FromHost) false
+      (record { last = refl; group = ap is_group to; kept = refl; address = refl; home = λ there is. absurd (cc) }) (Some FromHost) false
 
   -- the request to a host that may still stand at an old address
   pub probe_good : (old : Pmac) (ip : Ip4) (grant : Grant) → granted v old ≡ Some grant →
@@ -121,10 +124,11 @@ module _ (plan : Plan) (place : ℕ → Place) (book : Book) (t : ℕ) (v : Swit
       let out : destination_of (arriving probe None (Some grant.amac)) ≡ grant.amac = destination_of-arriving probe None (Some grant.amac) long tt x.six in
       let one_host : is_group (destination_of (arriving probe None (Some grant.amac))) ≡ false = ap is_group out ∙ x.unicast in
       let same : mac_number (destination_of probe) ≡ pmac_number old = ap mac_number to ∙ number_of_mac old x.fits in
-      let leaves : IsLeaving plan book f (arriving probe None (Some grant.amac)) t old.port = record {
+      let leaves : IsLeaving plan place book f (arriving probe None (Some grant.amac)) t old.port = record {
         last = refl;
         group = began ∙ sym one_host;
         kept = λ group. absurd (both_ways (is_group (destination_of (arriving probe None (Some grant.amac)))) one_host group);
+        home = λ there is. absurd (cc);
         one = λ unicast. record {
           host = x.host;
           held = ap book.hold same ∙ x.held;

@@ -15,7 +15,7 @@ use Rattle.pl_wiring.specs.Plan.{Plan}
 use Rattle.pl_layouts.specs.declared.place.Place.{Place}
 use Rattle.pl_layouts.specs.Frames.{arriving, mac_number}
 use Rattle.pl_layouts.specs.Memberships.{is_group}
-use Rattle.pl_layouts.specs.Placement.{nowhere}
+use Rattle.pl_layouts.specs.Placement.{is_placed, nowhere}
 use Rattle.pl_journal.specs.declared.entry.Entry.{Entry}
 use Rattle.pl_journal.specs.Flights.{Flight, first_flight, first_of, flight_of, was_live}
 use Rattle.pl_journal.specs.Lossy.{GoodTrailTo, RunTo, UnalteredFrom, mac_of_host}
@@ -40,6 +40,10 @@ place_in switches s = known_place (slice_get switches s)
 abbrev pub WillBeUnaltered : Flight → List ℕ → Type 0
 WillBeUnaltered f frame = (mac : Mac) → length mac.0 ≡ 6 → UnalteredFrom f.sender f.source f.beginning (Some mac) (arriving frame None (Some mac))
 
+-- the edge switch where a host's frame came in is placed
+abbrev pub CameInPlaced : (ℕ → Place) → Option Spot → Type 0
+CameInPlaced place came_in = (there : Spot) → came_in ≡ Some there → is_placed (place there.edge) ≡ true
+
 -- a frame to one host is between two switches, and the link was live since it crossed the first one
 pub record IsOnWay (plan : Plan) (place : ℕ → Place) (f : Flight) (live : Bool) (frame : List ℕ) (s t : ℕ) : Type 0 where
   pub route : Route plan.k place (pmac_of (destination_of frame)) f.leg s t
@@ -52,6 +56,7 @@ pub record IsBetween (plan : Plan) (place : ℕ → Place) (f : Flight) (live : 
   pub group : is_group (destination_of f.beginning) ≡ is_group (destination_of frame)
   pub kept : is_group (destination_of frame) ≡ true → destination_of f.beginning ≡ destination_of frame
   pub address : f.address ≡ mac_number (destination_of frame)
+  pub home : CameInPlaced place f.came_in
   pub one : is_group (destination_of frame) ≡ false → IsOnWay plan place f live frame s t
 
 -- what was granted and numbered: who holds an address, the port where it was granted, its number, and which ports have no vmid left
@@ -74,10 +79,11 @@ pub record IsForHost (plan : Plan) (book : Book) (f : Flight) (frame : List ℕ)
   pub unaltered : UnalteredFrom f.sender f.source f.beginning (mac_of_host plan host) frame
 
 -- a frame leaves by a host port of the switch that it crossed last
-pub record IsLeaving (plan : Plan) (book : Book) (f : Flight) (frame : List ℕ) (s port : ℕ) : Type 0 where
+pub record IsLeaving (plan : Plan) (place : ℕ → Place) (book : Book) (f : Flight) (frame : List ℕ) (s port : ℕ) : Type 0 where
   pub last : first_of f.trail ≡ Some s
   pub group : is_group (destination_of f.beginning) ≡ is_group (destination_of frame)
   pub kept : is_group (destination_of frame) ≡ true → destination_of f.beginning ≡ destination_of frame
+  pub home : CameInPlaced place f.came_in
   pub one : is_group (destination_of frame) ≡ false → IsForHost plan book f frame s port
 
 -- what waits at a host is as it was sent
@@ -88,7 +94,7 @@ IsWaiting plan past h (Data id frame) = flight_of plan past id ≡ first_flight 
 -- what goes out of a port, by what is there
 abbrev pub IsGoing : Plan → (ℕ → Place) → List Entry → ℕ → ℕ → Peer → ℕ → List ℕ → Type 0
 IsGoing plan place past s port (Switch t q) id frame = IsBetween plan place (flight_of plan past id) (was_live past id s t.0) frame s t.0
-IsGoing plan place past s port HostPort id frame = IsLeaving plan (book_of past) (flight_of plan past id) frame s port
+IsGoing plan place past s port HostPort id frame = IsLeaving plan place (book_of past) (flight_of plan past id) frame s port
 
 abbrev pub IsOut : Plan → (ℕ → Place) → List Entry → ℕ → ℕ → Item → Type 0
 IsOut plan place past s port (Control frame) = Unit {0}

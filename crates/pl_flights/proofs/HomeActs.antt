@@ -1,11 +1,12 @@
 -- What an edge switch does with a unicast frame for its own hosts is good: it delivers it, follows traps, and tells the sender.
-use Rattle.std.proofs.Common.{◌≡◌, ℕ, suc, ◌/◌, ◌%◌, ◌^◌, ◌≤◌, not, Bool, true, false, List, [], ◌∷◌, ◌++◌, length, drop, Option, None, Some, is_some, refl, sym, ◌∙◌, ap, subst, arith}
+use Rattle.std.proofs.Common.{◌≡◌, ℕ, suc, ◌/◌, ◌%◌, ◌^◌, ◌≤◌, ◌<◌, ◌&&◌, not, Bool, true, false, List, [], ◌∷◌, ◌++◌, length, drop, Option, None, Some, is_some, refl, sym, ◌∙◌, ap, subst, arith}
 use Rattle.std.proofs.lemmas.Bool.{and_from, and_parts, both_ways, cond-true, cond_both, eq-eqb, false≢true}
+use Rattle.std.proofs.lemmas.Nat.{mod_below}
 use Rattle.pl_frame.specs.declared.address.Mac.{Mac}
 use Rattle.pl_frame.specs.Ethernet.{destination_of, with_destination}
 use Rattle.pl_frame.proofs.Fields.{front_of}
 use Rattle.pl_pmac.specs.declared.pmac.Pmac.{Pmac}
-use Rattle.pl_pmac.specs.Pmac.{pmac_number}
+use Rattle.pl_pmac.specs.Pmac.{Fits, pmac_number}
 use Rattle.pl_wiring.specs.declared.label.Label.TheVariants.{Aggregation, Core}
 use Rattle.pl_wiring.specs.declared.link.Peer.{Peer}
 use Rattle.pl_wiring.specs.declared.link.Peer.TheVariants.{HostPort, Switch}
@@ -35,7 +36,7 @@ use Rattle.pl_flights.proofs.ForwardActs.{among_candidates, candidate_usable, ch
 use Rattle.pl_flights.proofs.Hands.{GoodActs, Hand, MayLeave}
 use Rattle.pl_flights.proofs.Hands.Hand.{Empty, Spreads, Waits}
 use Rattle.pl_flights.proofs.Legs.{level_at}
-use Rattle.pl_flights.proofs.Passing.{something}
+use Rattle.pl_flights.proofs.Passing.{known, something}
 use Rattle.pl_flights.proofs.Rungs.{Rung, rung}
 use Rattle.pl_flights.proofs.Rungs.Rung.{DownFromCore, DownToEdge, UpFromEdge, UpToCore}
 
@@ -66,7 +67,22 @@ module _ (plan : Plan) (place : ℕ → Place) (book : Book) (t : ℕ) (v : Swit
   pub delivers_good : (f : Flight) (again : Bool) (frame : List ℕ) (o : Option Grant) → IsHere place t f frame → is_local v (destination frame) ≡ true →
       granted v (destination frame) ≡ o → GoodActs plan place book t ((delivers_to v (destination frame) frame o).acts ++ rest) (Waits f again)
   delivers_good f again frame None here own found =
-      (ap book.hold (here.address ∙ sym (number_of_destination frame)) ∙ knows.not_granted (destination frame) own found, then_good Empty)
+      let fits : Fits (destination frame) = local_fits (mac_number (destination_of frame)) (λ n is. knows.pods n is) own in
+      (ap book.hold (here.address ∙ sym (number_of_destination frame)) ∙ knows.not_granted (destination frame) fits own found, then_good Empty)
+    where
+      -- an address of the switch fits, whatever the bytes are
+      local_fits : (n : ℕ) → ((m : ℕ) → v.place.pod ≡ Some m → m < 2 ^ 16) →
+          is_local v (record { pod = n / 2 ^ 32; position = n / 2 ^ 24 % 256; port = n / 2 ^ 16 % 256; vmid = n % 2 ^ 16 }) ≡ true →
+          Fits (record { pod = n / 2 ^ 32; position = n / 2 ^ 24 % 256; port = n / 2 ^ 16 % 256; vmid = n % 2 ^ 16 })
+      local_fits n few own =
+          let both = and_parts (is_known v.place.level 0) (is_known v.place.pod (n / 2 ^ 32) && is_known v.place.position (n / 2 ^ 24 % 256)) own in
+          let pod = (and_parts (is_known v.place.pod (n / 2 ^ 32)) (is_known v.place.position (n / 2 ^ 24 % 256)) both.1).0 in
+          record {
+            pod = few (n / 2 ^ 32) (known v.place.pod (n / 2 ^ 32) pod);
+            position = mod_below (n / 2 ^ 24) 256 (omega arith);
+            port = mod_below (n / 2 ^ 16) 256 (omega arith);
+            vmid = mod_below n (2 ^ 16) (omega arith);
+          }
   delivers_good f again frame (Some grant) here own found =
       let is : IsGranted plan book t (destination frame) grant = knows.granted_here (destination frame) grant found in
       let same : f.address ≡ pmac_number (destination frame) = here.address ∙ sym (number_of_destination frame) in

@@ -1,7 +1,8 @@
 -- What the way of frames needs of the other parts: that what switches know of places is so.
-use Rattle.std.specs.Prelude.{◌≡◌, ℕ, true, false, Contains, List, length, None, Some, reverse, slice_get}
+use Rattle.std.specs.Prelude.{◌≡◌, ◌<◌, ◌+◌, ◌^◌, ℕ, ◌&&◌, Bool, true, false, Contains, List, length, None, Some, reverse, slice_get}
 use Rattle.pl_wiring.specs.declared.label.Label.TheVariants.{Aggregation, Edge}
 use Rattle.pl_wiring.specs.declared.label.SwitchNo.{SwitchNo}
+use Rattle.pl_frame.specs.declared.address.Mac.{Mac}
 use Rattle.pl_frame.specs.Ethernet.{destination_of, source_of}
 use Rattle.pl_pmac.specs.declared.pmac.Pmac.{Pmac}
 use Rattle.pl_pmac.specs.Pmac.{Fits, mac_of, pmac_number}
@@ -12,18 +13,26 @@ use Rattle.pl_wiring.specs.Plan.{Plan}
 use Rattle.pl_layouts.specs.declared.place.Place.{Place}
 use Rattle.pl_journal.specs.Flights.{level_of}
 use Rattle.pl_layouts.specs.Memberships.{is_group}
+use Rattle.pl_layouts.specs.Placement.{is_known, is_placed}
 use Rattle.pl_journal.specs.Lossy.{IsNewer, mac_of_host}
-use Rattle.pl_journal.specs.Places.{at_port, is_host_port}
+use Rattle.pl_journal.specs.declared.entry.Entry.{Entry}
+use Rattle.pl_journal.specs.Places.{at_port, granted_at, holder, is_host_port, is_of_edge, is_spent}
 use Rattle.pl_core.specs.declared.switch_records.Grant.{Grant}
 use Rattle.pl_core.specs.declared.trap.Trap.{Trap}
 use Rattle.pl_core.specs.PortRecords.{is_open_to_hosts, is_usable, place_at, port_of}
 use Rattle.pl_core.specs.SwitchViews.{SwitchView}
+use Rattle.pl_queues.specs.Queues.{items_at}
 use Rattle.pl_world.specs.declared.item.Item.TheVariants.{Data}
+use Rattle.pl_world.specs.declared.stand.Stand.{Stand}
 use Rattle.pl_world.specs.Changes.{out_of}
 use Rattle.pl_world.specs.Worlds.{WorldView}
 use Rattle.pl_switch_rule.specs.Delivering.{trap_for}
-use Rattle.pl_switch_rule.specs.Granting.{granted, is_local}
+use Rattle.pl_switch_rule.specs.Granting.{address_at_port, granted, grants_at, in_use, is_local, is_port_spent}
 use Rattle.pl_flights.specs.OnTheWay.{Book, book_of, place_in}
+
+-- an edge switch that is placed
+abbrev pub is_settled : Place → Bool
+is_settled place = is_known place.level 0 && is_placed place
 
 -- a known level is the label's, and an edge and an aggregation switch of one pod that both know a pod know the same
 pub record KnowsPlaces (k : ℕ) (place : ℕ → Place) : Type 0 where
@@ -66,8 +75,34 @@ pub record LeadsOn (book : Book) (x : Pmac) (trap : Trap) : Type 0 where
 -- What a switch knows of the addresses with its pod and position: those that it granted, and that no other was granted.
 pub record KnowsAddresses (plan : Plan) (book : Book) (t : ℕ) (v : SwitchView) : Type 0 where
   pub granted_here : (x : Pmac) (grant : Grant) → granted v x ≡ Some grant → IsGranted plan book t x grant
-  pub not_granted : (x : Pmac) → is_local v x ≡ true → granted v x ≡ None → book.hold (pmac_number x) ≡ None
+  pub not_granted : (x : Pmac) → Fits x → is_local v x ≡ true → granted v x ≡ None → book.hold (pmac_number x) ≡ None
   pub trapped : (x : Pmac) (trap : Trap) → trap_for v x ≡ Some trap → LeadsOn book x trap
+  pub pods : (n : ℕ) → v.place.pod ≡ Some n → n < 2 ^ 16
+
+-- an address that may be granted next at the edge switch t
+pub record IsNext (past : List Entry) (t : ℕ) (x : Pmac) : Type 0 where
+  pub fresh : holder past (pmac_number x) ≡ None
+  pub edge : is_of_edge past x t ≡ true
+  pub fits : Fits x
+  pub own : is_group (mac_of x) ≡ false
+
+-- What a switch knows of the hosts at its ports: at a port without a link nothing was heard, an edge switch alone has a position, the address
+-- that a host has in use at a port is the one that it was granted last there, and the next one may be granted.
+pub record KnowsHosts (plan : Plan) (past : List Entry) (t : ℕ) (v : SwitchView) : Type 0 where
+  pub unheard : (port : ℕ) → peer_of plan t port ≡ HostPort → is_open_to_hosts (port_of v port) ≡ true
+  pub positions : (n : ℕ) → v.place.position ≡ Some n → v.place.level ≡ Some 0
+  pub tables : length v.grants ≡ v.k
+  pub used : (port vmid h : ℕ) (amac : Mac) → is_settled v.place ≡ true → in_use (grants_at v port) amac ≡ Some vmid → mac_of_host plan h ≡ Some amac →
+      granted_at past h (at_port t port) ≡ Some (address_at_port v port vmid)
+  pub spent : (port : ℕ) → is_settled v.place ≡ true → is_port_spent v port ≡ true → is_spent past (at_port t port) ≡ true
+  pub next : (port : ℕ) → peer_of plan t port ≡ HostPort → port < plan.k → is_settled v.place ≡ true → is_port_spent v port ≡ false →
+      IsNext past t (address_at_port v port (length (grants_at v port) + 1))
+
+-- Each switch knows so, hosts stand at ports without links, and what waits in the queue of a host has its address as source.
+pub record StandsOnHosts (w : WorldView) : Type 0 where
+  pub hosts : (t : ℕ) (v : SwitchView) → slice_get w.switches t ≡ Some v → KnowsHosts w.plan (reverse w.journal) t v
+  pub at_ports : (h : ℕ) (stand : Stand) → slice_get w.stands h ≡ Some stand → (peer_of w.plan stand.edge.0 stand.port ≡ HostPort) × (stand.port < w.plan.k)
+  pub own : (h id : ℕ) (frame : List ℕ) → Contains (items_at w.from_hosts h) (Data id frame) → mac_of_host w.plan h ≡ Some (source_of frame)
 
 -- What switches know of places and addresses is so, a port at which a data frame comes from a link is no port for hosts, and the source of a
 -- frame to one host is no group.

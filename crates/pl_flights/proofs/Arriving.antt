@@ -45,13 +45,13 @@ use Rattle.pl_flights.proofs.OverLinks.{taken, taken_out}
 abbrev mac : List ℕ → Mac
 mac bytes = record { 0 = bytes }
 
-same_mac_is : (a b : Mac) → same_mac a b ≡ true → a ≡ b
+pub same_mac_is : (a b : Mac) → same_mac a b ≡ true → a ≡ b
 same_mac_is a b is = ap mac ((bytes_eq-Decides a.0 b.0).0 is)
 
-same_mac_itself : (a : Mac) → same_mac a a ≡ true
+pub same_mac_itself : (a : Mac) → same_mac a a ≡ true
 same_mac_itself a = (bytes_eq-Decides a.0 a.0).1 refl
 
-some_passes : {T : Type 0} (p : T → Bool) (xs : List T) (h : ℕ) (x : T) → slice_get xs h ≡ Some x → p x ≡ true → position_or_len p xs < length xs
+pub some_passes : {T : Type 0} (p : T → Bool) (xs : List T) (h : ℕ) (x : T) → slice_get xs h ≡ Some x → p x ≡ true → position_or_len p xs < length xs
 some_passes p [] h x is passes = absurd (cc)
 some_passes p (y ∷ xs) zero x is passes = let same : y ≡ x = cc in let here : p y ≡ true = ap p same ∙ passes in rw here (omega arith)
 some_passes p (y ∷ xs) (suc h) x is passes =
@@ -61,7 +61,7 @@ some_passes p (y ∷ xs) (suc h) x is passes =
       | inr later ↦ rw later (omega arith)
     ]
 
-found_there : {T : Type 0} (xs : List T) (i : ℕ) (d : T) → i < length xs → slice_get xs i ≡ Some (get_or xs i d)
+pub found_there : {T : Type 0} (xs : List T) (i : ℕ) (d : T) → i < length xs → slice_get xs i ≡ Some (get_or xs i d)
 found_there [] i d within = absurd (omega arith)
 found_there (x ∷ xs) zero d within = refl
 found_there (x ∷ xs) (suc i) d within = found_there xs i d (omega arith)
@@ -125,7 +125,7 @@ its_address None dst is = absurd (false≢true is)
 its_address (Some m) dst is = ap Some (same_mac_is m dst is)
 
 -- two hosts have two addresses
-host_is : (plan : Plan) (g h : ℕ) (m : Mac) → IsPlan plan → mac_of_host plan g ≡ Some m → mac_of_host plan h ≡ Some m → g ≡ h
+pub host_is : (plan : Plan) (g h : ℕ) (m : Mac) → IsPlan plan → mac_of_host plan g ≡ Some m → mac_of_host plan h ≡ Some m → g ≡ h
 host_is plan g h m is at_g at_h = elim (cases_eq g h) [
   | inl same ↦ same
   | inr differ ↦ absurd (elim (cases_lt g h) [

@@ -35,3 +35,8 @@ pub mod GrantingAmid
 pub mod NoneJustIn
 pub mod Rewriting
 pub mod TakingIn
+pub mod FindingHosts
+pub mod Words
+pub mod Numbers
+pub mod Learning
+pub mod ComingIn

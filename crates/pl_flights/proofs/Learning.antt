@@ -27,13 +27,14 @@ use Rattle.pl_switch_rule.specs.Granting.{address_at_port, grant_number, granted
 use Rattle.pl_steps.specs.Steps.{SwitchStep, rests}
 use Rattle.pl_world.specs.Changes.{host_no, switch_no}
 use Rattle.pl_flights.specs.OnTheWay.{Book, book_of}
-use Rattle.pl_flights.specs.Standing.{IsGranted, IsNext, KnowsAddresses, LeadsOn, is_settled}
+use Rattle.pl_addresses.specs.EdgeAddresses.{is_settled}
+use Rattle.pl_flights.specs.Standing.{IsGranted, IsNext, KnowsAddresses, LeadsOn}
 use Rattle.pl_flights.proofs.FindingHosts.{LooksAlike}
 use Rattle.pl_flights.proofs.Granting.{book_more}
 use Rattle.pl_flights.proofs.Keeping.{KeepsBook}
-use Rattle.pl_flights.proofs.Numbers.{granted_here, local_here, none_used, now_at, number_past, number_push_other, number_push_same, number_set_other, number_set_same, number_within, others_at, used_is}
+use Rattle.pl_addresses.proofs.Numbers.{granted_here, local_here, none_used, now_at, number_past, number_push_other, number_push_same, number_set_other, number_set_same, number_within, others_at, used_is}
 use Rattle.pl_flights.proofs.SilentSteps.{AreSilent}
-use Rattle.pl_flights.proofs.Words.{is_or_other, mac_itself}
+use Rattle.pl_addresses.proofs.Words.{is_or_other, mac_itself}
 use Rattle.pl_manager_rule.proofs.Kept.{pmac_itself}
 
 -- ---- the address in use

@@ -36,7 +36,7 @@ pub mod NoneJustIn
 pub mod Rewriting
 pub mod TakingIn
 pub mod FindingHosts
-pub mod Words
-pub mod Numbers
 pub mod Learning
 pub mod ComingIn
+pub mod Hosts
+pub mod FromHosts

@@ -1,5 +1,5 @@
 -- What the way of frames needs of the other parts: that what switches know of places is so.
-use Rattle.std.specs.Prelude.{◌≡◌, ◌<◌, ◌+◌, ◌^◌, ℕ, ◌&&◌, Bool, true, false, Contains, List, length, None, Some, reverse, slice_get}
+use Rattle.std.specs.Prelude.{◌≡◌, ◌<◌, ◌+◌, ◌^◌, ℕ, true, false, Contains, List, length, None, Some, reverse, slice_get}
 use Rattle.pl_wiring.specs.declared.label.Label.TheVariants.{Aggregation, Edge}
 use Rattle.pl_wiring.specs.declared.label.SwitchNo.{SwitchNo}
 use Rattle.pl_frame.specs.declared.address.Mac.{Mac}
@@ -13,7 +13,6 @@ use Rattle.pl_wiring.specs.Plan.{Plan}
 use Rattle.pl_layouts.specs.declared.place.Place.{Place}
 use Rattle.pl_journal.specs.Flights.{level_of}
 use Rattle.pl_layouts.specs.Memberships.{is_group}
-use Rattle.pl_layouts.specs.Placement.{is_known, is_placed}
 use Rattle.pl_journal.specs.Lossy.{IsNewer, mac_of_host}
 use Rattle.pl_journal.specs.declared.entry.Entry.{Entry}
 use Rattle.pl_journal.specs.Places.{at_port, granted_at, holder, is_host_port, is_of_edge, is_spent}
@@ -28,11 +27,8 @@ use Rattle.pl_world.specs.Changes.{out_of}
 use Rattle.pl_world.specs.Worlds.{WorldView}
 use Rattle.pl_switch_rule.specs.Delivering.{trap_for}
 use Rattle.pl_switch_rule.specs.Granting.{address_at_port, granted, grants_at, in_use, is_local, is_port_spent}
+use Rattle.pl_addresses.specs.EdgeAddresses.{is_settled}
 use Rattle.pl_flights.specs.OnTheWay.{Book, book_of, place_in}
-
--- an edge switch that is placed
-abbrev pub is_settled : Place → Bool
-is_settled place = is_known place.level 0 && is_placed place
 
 -- a known level is the label's, and an edge and an aggregation switch of one pod that both know a pod know the same
 pub record KnowsPlaces (k : ℕ) (place : ℕ → Place) : Type 0 where

@@ -19,13 +19,17 @@ use Rattle.pl_journal.specs.declared.entry.Entry.{Entry}
 use Rattle.pl_journal.specs.declared.entry.Entry.TheVariants.{Arrived, Dropped}
 use Rattle.pl_journal.specs.Causes.{CauseShows, goes_to_group, has_left, is_routed}
 use Rattle.pl_journal.specs.Flights.{address, first_of, flight_of, leg}
-use Rattle.pl_journal.specs.Lossy.{ArrivesByAddress, ArrivesByGroup, Needs, UnalteredFrom, mac_of_host}
+use Rattle.pl_journal.specs.Lossy.{ArrivesByAddress, ArrivesByGroup, Needs, UnalteredFrom, is_member, mac_of_host}
 use Rattle.pl_journal.specs.Places.{Spot, at_port, holder, is_at, spot, spot_of}
 use Rattle.pl_journal.proofs.Hosts.{hosts_apart}
 use Rattle.pl_core.specs.declared.reception.Reception.{Reception}
 use Rattle.pl_core.specs.declared.reception.Reception.TheVariants.{Kept, NotMember}
 use Rattle.pl_core.specs.HostDuties.{HostsKeepFrames, HostsSendData}
+use Rattle.pl_core.specs.declared.acts.HostAct.{HostAct}
+use Rattle.pl_core.specs.HostViews.{HostView}
 use Rattle.pl_core.specs.HostInputs.{HostRule}
+use Rattle.pl_core.specs.HostInputs.HostAnswer.{Received}
+use Rattle.pl_core.specs.HostInputs.HostInput.{Receives}
 use Rattle.pl_world.specs.declared.item.Item.{Item}
 use Rattle.pl_world.specs.declared.item.Item.TheVariants.{Data}
 use Rattle.pl_world.specs.declared.stand.Stand.{Stand}
@@ -152,10 +156,16 @@ host_is plan g h m is at_g at_h = elim (cases_eq g h) [
         let second = host_there hosts b m at_b d in
         all a b d less second.0 (first.1 ∙ sym second.1)
 
--- What the part on groups gives: a frame of a group that comes to a host may arrive there.
+-- What the part on groups gives: a frame of a group that comes to a host that is a member may arrive there.
 abbrev pub GroupArrives : WorldView → ℕ → ℕ → ℕ → List ℕ → Type 0
 GroupArrives w s port id frame = (h : ℕ) → is_group (destination_of frame) ≡ true → receiver w s port frame ≡ Some h →
-    ArrivesByGroup w.plan (reverse w.journal) id h frame
+    is_member (reverse w.journal) h (group_of (destination_of frame)) ≡ true → ArrivesByGroup w.plan (reverse w.journal) id h frame
+
+-- a host that keeps a frame of a group is a member, by what is past
+abbrev pub AreMembers : HostRule → WorldView → Type 0
+AreMembers rule w = (h : ℕ) (before after : HostView) (acts : List HostAct) (frame : List ℕ) → slice_get w.hosts h ≡ Some before →
+    rule before (Receives frame) after acts (Received Kept) → is_group (destination_of frame) ≡ true →
+    is_member (reverse w.journal) h (group_of (destination_of frame)) ≡ true
 
 by_kind : (b : Bool) {P Q : Type 0} → (b ≡ true → P) → (b ≡ false → Q) → MatchBool b P Q
 by_kind true p q = p refl
@@ -233,8 +243,9 @@ module _ (w : WorldView) (counted : IsCounted w) (told : IsTold w) (s port id : 
   -- it arrives, or is refused by a host that is no member of its group
   reception_told : (rule : HostRule) → HostsKeepFrames rule → GroupArrives w s port id frame → (h : ℕ) → receiver w s port frame ≡ Some h →
       (reception : Reception) → (is_routed (group_of (destination_of frame)) ≡ false → reception ≡ Kept) →
+      (reception ≡ Kept → is_group (destination_of frame) ≡ true → is_member (reverse w.journal) h (group_of (destination_of frame)) ≡ true) →
       IsTold (reception_noted (taken_out w s port items) h id frame reception)
-  reception_told rule keeps groups h is Kept so =
+  reception_told rule keeps groups h is Kept so members =
       let past : List Entry = reverse w.journal in
       let took = taken w counted told s port id frame items within head in
       let e : Entry = Arrived id (host_no h) frame in
@@ -242,13 +253,13 @@ module _ (w : WorldView) (counted : IsCounted w) (told : IsTold w) (s port id : 
       let needs : Needs w.plan past e = (
         took.flies.flies,
         by_kind (goes_to_group past id)
-            (λ group. groups h (sym group_is ∙ group) is) (λ unicast. arrives h (sym group_is ∙ unicast) is),
+            (λ group. groups h (sym group_is ∙ group) is (members refl (sym group_is ∙ group))) (λ unicast. arrives h (sym group_is ∙ unicast) is),
       ) in
       subst (λ p. Tells w.plan (place_in w.switches) p w.links w.stands w.from_hosts (taken_out w s port items).out) (sym (reverse_noted w.journal past e refl))
       (note w.plan (place_in w.switches) past w.links w.stands w.from_hosts (taken_out w s port items).out e id
       (record { not_at_hosts = took.flies.not_at_hosts; not_out = took.flies.not_out }) (λ g other. kept w.plan past e g tt) (same_book (book_of past)) needs tt
       took.tells.links_agree took.tells.stands_agree took.tells)
-  reception_told rule keeps groups h is NotMember so =
+  reception_told rule keeps groups h is NotMember so members =
       let past : List Entry = reverse w.journal in
       let took = taken w counted told s port id frame items within head in
       let routed : is_routed (group_of (destination_of frame)) ≡ true = elim (cases_Bool (is_routed (group_of (destination_of frame)))) [
@@ -265,6 +276,10 @@ module _ (w : WorldView) (counted : IsCounted w) (told : IsTold w) (s port id : 
       (note_drop w.plan (place_in w.switches) past w.links w.stands w.from_hosts (taken_out w s port items).out id cause.NoMember
       (record { not_at_hosts = took.flies.not_at_hosts; not_out = took.flies.not_out }) took.flies.flies shows took.tells)
 
+  same_hosts : (h : ℕ) (reception : Reception) → (reception_noted (taken_out w s port items) h id frame reception).hosts ≡ w.hosts
+  same_hosts h Kept = refl
+  same_hosts h NotMember = refl
+
   reception_sound : (h : ℕ) (reception : Reception) → Sound (reception_noted (taken_out w s port items) h id frame reception)
   reception_sound h Kept = record {
     balance = noted_owes (taken_out w s port items) (λ i. times_in i (Data id frame ∷ [])) (λ i. 0) (Arrived id (host_no h) frame ∷ []) refl
@@ -278,9 +293,9 @@ module _ (w : WorldView) (counted : IsCounted w) (told : IsTold w) (s port id : 
   }
 
   -- whatever becomes of it there
-  pub comes_out_told : (rule : HostRule) → HostsKeepFrames rule → HostsSendData rule → GroupArrives w s port id frame → (to : Option ℕ) →
+  pub comes_out_told : (rule : HostRule) → HostsKeepFrames rule → HostsSendData rule → GroupArrives w s port id frame → AreMembers rule w → (to : Option ℕ) →
       receiver w s port frame ≡ to → (new : WorldView) → ComesAtHost rule (taken_out w s port items) id frame to new → IsTold new
-  comes_out_told rule keeps sends groups None nobody new is =
+  comes_out_told rule keeps sends groups members None nobody new is =
       let past : List Entry = reverse w.journal in
       let took = taken w counted told s port id frame items within head in
       subst IsTold (sym is)
@@ -288,8 +303,11 @@ module _ (w : WorldView) (counted : IsCounted w) (told : IsTold w) (s port id : 
       (sym (reverse_noted w.journal past (Dropped id cause.HostGone) refl))
       (note_drop w.plan (place_in w.switches) past w.links w.stands w.from_hosts (taken_out w s port items).out id cause.HostGone
       (record { not_at_hosts = took.flies.not_at_hosts; not_out = took.flies.not_out }) took.flies.flies (nobody_there nobody) took.tells))
-  comes_out_told rule keeps sends groups (Some h) found new receives =
+  comes_out_told rule keeps sends groups members (Some h) found new receives =
       host_told rule sends _ h _ _ new (reception_sound h receives.reception)
       (reception_told rule keeps groups h found receives.reception
-      (λ fine. keeps receives.turn.before frame receives.turn.after receives.turn.acts receives.reception fine receives.turn.ruled))
+      (λ fine. keeps receives.turn.before frame receives.turn.after receives.turn.acts receives.reception fine receives.turn.ruled)
+      (λ kept group. members h receives.turn.before receives.turn.after receives.turn.acts frame
+      (sym (ap (λ hosts. slice_get hosts h) (same_hosts h receives.reception)) ∙ receives.turn.found)
+      (subst (λ r. rule receives.turn.before (Receives frame) receives.turn.after receives.turn.acts (Received r)) kept receives.turn.ruled) group))
       receives.turn

@@ -1,6 +1,6 @@
 -- Each event but those at which addresses may be granted keeps what is told; what these, the groups and the manager's numbers give is a premise.
-use Rattle.std.proofs.Common.{inl, inr, ◌≡◌, ℕ, ◌<◌, ◌==◌, ◌&&◌, not, nat_lt, Bool, true, false, if◌then◌else◌, List, [], ◌∷◌, Option, None, Some, reverse, set, slice_get, refl, sym, subst}
-use Rattle.std.proofs.lemmas.Bool.{and_parts, cases_Bool, ltb-true}
+use Rattle.std.proofs.Common.{inl, inr, ◌≡◌, ℕ, ◌<◌, ◌==◌, ◌&&◌, not, nat_lt, Bool, true, false, if◌then◌else◌, List, [], ◌∷◌, Option, None, Some, Result, Ok, Err, reverse, set, slice_get, refl, sym, subst}
+use Rattle.std.proofs.lemmas.Bool.{and_parts, cases_Bool, false≢true, ltb-true}
 use Rattle.pl_wiring.specs.declared.label.SwitchNo.{SwitchNo}
 use Rattle.pl_wiring.specs.declared.link.Link.{Link}
 use Rattle.pl_wiring.specs.declared.link.Peer.{Peer}
@@ -19,7 +19,14 @@ use Rattle.pl_core.specs.SwitchInputs.SwitchInput.{Comes, Says}
 use Rattle.pl_queues.specs.Queues.{items_at}
 use Rattle.pl_frame.specs.Ethernet.{payload_of}
 use Rattle.pl_layouts.specs.Control.{control_in}
-use Rattle.pl_switch_rule.specs.Levels.{has_become_placed, with_pod}
+use Rattle.pl_layouts.specs.declared.control.Control.{Control as ControlMessage}
+use Rattle.pl_layouts.specs.declared.control.Control.TheVariants as control
+use Rattle.pl_layouts.specs.declared.control.ControlError.{ControlError}
+use Rattle.pl_layouts.specs.declared.place.Place.{Place}
+use Rattle.pl_layouts.specs.Placement.{is_known, is_placed}
+use Rattle.pl_core.specs.SwitchViews.{SwitchView}
+use Rattle.pl_switch_rule.specs.Levels.{after_message, has_become_placed, with_pod}
+use Rattle.pl_switch_rule.specs.Positions.{after_vote}
 use Rattle.pl_switch_rule.specs.SwitchRule.{Loose}
 use Rattle.pl_world.specs.declared.error.StepError.TheVariants.{AlreadySo, NoSuch, Occupied}
 use Rattle.pl_world.specs.declared.event.Event.{Event}
@@ -34,35 +41,49 @@ use Rattle.pl_world.specs.Changes.{host_at, out_of, receiver}
 use Rattle.pl_world.specs.Flying.{IsCounted}
 use Rattle.pl_world.specs.LinksAndMoves.{joins, link_between, link_failed}
 use Rattle.pl_world.specs.Refusals.{has_host, has_port, has_switch, is_for_hosts, is_linked, refusal_of_event, refusal_of_link, refusal_of_move, refusal_of_place, refusal_of_queue}
-use Rattle.pl_world.specs.WorldRule.{ComesOver, Delivers, DeliversFromHost, DeliversFromManager, DeliversOut, DeliversToManager, Fails, Goes, Happens, IsRepaired, Loses, ManagerTurn, SwitchTurn}
+use Rattle.pl_world.specs.WorldRule.{ComesOver, Delivers, DeliversFromManager, DeliversOut, DeliversToManager, Fails, Goes, Happens, IsRepaired, Loses, ManagerTurn, SwitchTurn}
 use Rattle.pl_world.specs.Worlds.{WorldView}
 use Rattle.pl_world.proofs.StepBalances.{counted as to_counted, fails, found_contained, sound}
 use Rattle.pl_flights.specs.OnTheWay.{IsTold, place_in}
-use Rattle.pl_flights.specs.Standing.{IsMore, StandsOn}
-use Rattle.pl_flights.proofs.Arriving.{GroupArrives, comes_out_told}
+use Rattle.pl_flights.specs.Standing.{IsMore, StandsOn, StandsOnHosts}
+use Rattle.pl_flights.proofs.Arriving.{AreMembers, GroupArrives, comes_out_told}
 use Rattle.pl_flights.proofs.AtHome.{over_link_told}
 use Rattle.pl_flights.proofs.Beginning.{lost_told}
 use Rattle.pl_flights.proofs.Failing.{fails_told, repaired_told}
-use Rattle.pl_flights.proofs.ControlFrames.{MaySettle, control_told, pod_told, settles_by}
+use Rattle.pl_flights.proofs.ControlFrames.{control_told, pod_told, settles_by}
+use Rattle.pl_flights.proofs.ForwardActs.{not_is_true}
+use Rattle.pl_flights.proofs.FromHosts.{from_host_told}
 use Rattle.pl_flights.proofs.FromManager.{says_told}
 use Rattle.pl_flights.proofs.HostTurns.{host_told, plays_told}
 use Rattle.pl_flights.proofs.Moving.{goes_told}
+use Rattle.pl_flights.proofs.NoneJustIn.{none_just_in}
 use Rattle.pl_flights.proofs.Numbering.{NumbersWell, manager_told}
 use Rattle.pl_flights.proofs.OverLinks.{taken_out}
+use Rattle.pl_flights.proofs.Settling.{GrantsWell}
 use Rattle.pl_flights.proofs.SilentSteps.{ticks_told}
 
 -- what is left to the rows at which addresses may be granted, to groups, and to the other parts
-pub record IsLeft (manager : ManagerRule) (w new : WorldView) : Type 0 where
-  pub from_host : (h : ℕ) → DeliversFromHost Loose w h (items_at w.from_hosts h) new → IsTold new
+pub record IsLeft (manager : ManagerRule) (host : HostRule) (w new : WorldView) : Type 0 where
   pub control : (s port : ℕ) (t : SwitchNo) (q : ℕ) (frame : List ℕ) (items : List Item) → out_of w s port ≡ Control frame ∷ items →
       peer_of w.plan s port ≡ Switch t q → (turn : SwitchTurn Loose (taken_out w s port items) t.0 (Comes q frame) Silent new) →
-      settles_by turn.before q (control_in (payload_of frame)) ≡ true → MaySettle w t.0 turn.acts
+      settles_by turn.before q (control_in (payload_of frame)) ≡ true → GrantsWell w.plan t.0 turn.acts (reverse w.journal)
   pub pod : (t pod : ℕ) (rest : List ToSwitch) (turn : SwitchTurn Loose (record w { from_manager = set w.from_manager t rest }) t (Says (Pod pod)) Silent new) →
-      has_become_placed turn.before.place (with_pod turn.before (Some pod)).place ≡ true → MaySettle w t turn.acts
+      has_become_placed turn.before.place (with_pod turn.before (Some pod)).place ≡ true → GrantsWell w.plan t turn.acts (reverse w.journal)
   pub groups : (s port id : ℕ) (frame : List ℕ) → GroupArrives w s port id frame
+  pub members : AreMembers host w
   pub numbers : (s : ℕ) (says : ToManager) (items : List ToManager) (turn : ManagerTurn manager (record w { to_manager = set w.to_manager s items }) s says new) →
       NumbersWell w.plan (reverse w.journal) turn.acts
   pub more : IsMore (place_in w.switches) (place_in new.switches)
+
+-- what becomes placed was not placed before
+was_unplaced : (old new : Place) → has_become_placed old new ≡ true → is_placed old ≡ false
+was_unplaced old new settles = not_is_true (is_placed old) ((and_parts (is_known new.level 0 && is_placed new) (not (is_placed old)) settles).1)
+
+unplaced_before : (v : SwitchView) (q : ℕ) (read : Result ControlMessage ControlError) → settles_by v q read ≡ true → is_placed v.place ≡ false
+unplaced_before v q (Err e) settles = absurd (false≢true settles)
+unplaced_before v q (Ok (control.Ldm id m)) settles = was_unplaced v.place (after_message v q id m).place settles
+unplaced_before v q (Ok (control.Proposal id p)) settles = absurd (false≢true settles)
+unplaced_before v q (Ok (control.Vote id vote)) settles = was_unplaced v.place (after_vote v q vote).place settles
 
 there_is : (there filled : Bool) → refusal_of_queue there filled ≡ None → there ≡ true
 there_is true filled none = refl
@@ -87,21 +108,24 @@ move_fine true false h o fine = absurd (cc)
 move_fine false b h o fine = absurd (cc)
 
 module _ (manager : ManagerRule) (host : HostRule) (accounts : AccountsForFrames Loose) (sends : HostsSendData host) (keeps : HostsKeepFrames host)
-    (w : WorldView) (counted : IsCounted w) (told : IsTold w) (on : StandsOn w) (new : WorldView) (left : IsLeft manager w new) where
+    (w : WorldView) (counted : IsCounted w) (told : IsTold w) (on : StandsOn w) (new : WorldView) (hosts : StandsOnHosts w) (left : IsLeft manager host w new) where
   -- an item comes to the other end
   over_told : (s port : ℕ) (item : Item) (items : List Item) (peer : Peer) → port < w.plan.k → out_of w s port ≡ item ∷ items → peer_of w.plan s port ≡ peer →
       ComesOver Loose host (taken_out w s port items) s port item peer new → IsTold new
   over_told s port (Control frame) items (Switch t q) within head peer turn =
       control_told w s port frame items t q new accounts counted told within head peer turn
       (elim (cases_Bool (settles_by turn.before q (control_in (payload_of frame)))) [
-        | inl settles ↦ inr (left.control s port t q frame items head peer turn settles)
+        | inl settles ↦ inr (record {
+          grants = left.control s port t q frame items head peer turn settles;
+          none_just_in = none_just_in w counted told t.0 turn.before turn.found (unplaced_before turn.before q (control_in (payload_of frame)) settles);
+        })
         | inr stays ↦ inl stays
       ]) left.more
   over_told s port (Data id frame) items (Switch t q) within head peer turn =
       over_link_told w counted told on accounts s port id frame items within head t q peer new turn
   over_told s port (Control frame) items HostPort within head peer is = subst IsTold (sym is) (lost_told w s port (Control frame) items counted told within head)
   over_told s port (Data id frame) items HostPort within head peer comes =
-      comes_out_told w counted told s port id frame items within head peer host keeps sends (left.groups s port id frame) (receiver w s port frame) refl new comes
+      comes_out_told w counted told s port id frame items within head peer host keeps sends (left.groups s port id frame) left.members (receiver w s port frame) refl new comes
 
   out_told : (s port : ℕ) (items : List Item) → port < w.plan.k → out_of w s port ≡ items → DeliversOut Loose host w s port items new → IsTold new
   out_told s port [] within head comes = absurd comes
@@ -115,7 +139,11 @@ module _ (manager : ManagerRule) (host : HostRule) (accounts : AccountsForFrames
   from_manager_told t [] comes = absurd comes
   from_manager_told t (Pod pod ∷ items) turn = pod_told w t pod items new accounts counted told turn
       (elim (cases_Bool (has_become_placed turn.before.place (with_pod turn.before (Some pod)).place)) [
-        | inl settles ↦ inr (left.pod t pod items turn settles)
+        | inl settles ↦ inr (record {
+          grants = left.pod t pod items turn settles;
+          none_just_in = none_just_in w counted told t turn.before turn.found
+              (was_unplaced turn.before.place (with_pod turn.before (Some pod)).place settles);
+        })
         | inr stays ↦ inl stays
       ]) left.more
   from_manager_told t (Avoid list ∷ items) turn = says_told w t (Avoid list) items new accounts counted told on tt turn
@@ -126,7 +154,7 @@ module _ (manager : ManagerRule) (host : HostRule) (accounts : AccountsForFrames
 
   -- the head of a queue is delivered
   delivers_told : (name : QueueName) → refusal_of_event w (event.Deliver name) ≡ None → Delivers Loose manager host w name new → IsTold new
-  delivers_told (queue.FromHost h) fine comes = left.from_host h.0 comes
+  delivers_told (queue.FromHost h) fine comes = from_host_told w counted told on hosts accounts h.0 new left.more comes
   delivers_told (queue.Port s port) fine comes =
       let there = and_parts (has_switch w.plan s.0) (nat_lt port w.plan.k) (there_is (has_port w.plan s.0 port) _ fine) in
       out_told s.0 port (out_of w s.0 port) (ltb-true port w.plan.k there.1) refl comes

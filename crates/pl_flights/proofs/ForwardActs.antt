@@ -112,6 +112,7 @@ module _ (plan : Plan) (place : ℕ → Place) (book : Book) (t : ℕ) (v : Swit
     kept = b.kept;
     address = b.address;
     home = b.home;
+    many = λ group. record { leg = ap (λ l. t ∷ l) (b.many group).leg; unaltered = (b.many group).unaltered };
     one = λ unicast. absurd (both_ways (is_group (destination_of frame)) unicast group);
   }
   may_spread p HostPort group = record {
@@ -119,6 +120,7 @@ module _ (plan : Plan) (place : ℕ → Place) (book : Book) (t : ℕ) (v : Swit
     group = b.group;
     kept = b.kept;
     home = b.home;
+    many = λ group. record { leg = ap (λ l. t ∷ l) (b.many group).leg; unaltered = (b.many group).unaltered };
     one = λ unicast. absurd (both_ways (is_group (destination_of frame)) unicast group);
   }
 
@@ -153,6 +155,7 @@ module _ (plan : Plan) (place : ℕ → Place) (book : Book) (t : ℕ) (v : Swit
     kept = b.kept;
     address = b.address;
     home = b.home;
+    many = λ group. record { leg = ap (λ l. t ∷ l) (b.many group).leg; unaltered = (b.many group).unaltered };
     one = λ unicast. let w = b.one unicast in record {
       route = passes_on plan place t v is_plan places knows (destination frame) p u r peer s q port came from by placed leads f.leg w.route;
       whole = refl;

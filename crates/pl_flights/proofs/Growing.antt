@@ -81,6 +81,7 @@ module _ (place later : ℕ → Place) (more : IsMore place later) where
     kept = b.kept;
     address = b.address;
     home = λ there is. placed_grown there.edge (b.home there is);
+    many = b.many;
     one = λ unicast. let w = b.one unicast in record { route = route_grown plan.k _ f.leg s t w.route; whole = w.whole; unaltered = w.unaltered };
   }
 
@@ -91,6 +92,7 @@ module _ (place later : ℕ → Place) (more : IsMore place later) where
     group = b.group;
     kept = b.kept;
     home = λ there is. placed_grown there.edge (b.home there is);
+    many = b.many;
     one = b.one;
   }
 

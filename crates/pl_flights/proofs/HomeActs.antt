@@ -93,6 +93,7 @@ module _ (plan : Plan) (place : ℕ → Place) (book : Book) (t : ℕ) (v : Swit
         group = here.began ∙ sym one_host;
         kept = λ group. absurd (both_ways (is_group (destination_of (arriving frame None (Some grant.amac)))) one_host group);
         home = here.home;
+        many = λ group. absurd (both_ways (is_group (destination_of (arriving frame None (Some grant.amac)))) one_host group);
         one = λ unicast. record {
           host = is.host;
           held = ap book.hold same ∙ is.held;
@@ -139,6 +140,7 @@ module _ (plan : Plan) (place : ℕ → Place) (book : Book) (t : ℕ) (v : Swit
     kept = λ group. absurd (both_ways (is_group (destination_of frame)) here.unicast group);
     address = here.address;
     home = here.home;
+    many = λ group. absurd (both_ways (is_group (destination_of frame)) here.unicast group);
     one = λ unicast. record { route = by_rung (rung plan t p u r is_plan peer); whole = refl; unaltered = here.unaltered };
   }
     where

@@ -59,6 +59,7 @@ module _ (plan : Plan) (place : ℕ → Place) where
     kept = b.kept;
     address = b.address;
     home = b.home;
+    many = b.many;
     one = λ unicast. let w = b.one unicast in record { route = w.route; whole = more w.whole; unaltered = w.unaltered };
   })
 
@@ -69,6 +70,7 @@ module _ (plan : Plan) (place : ℕ → Place) where
     group = b.group;
     kept = b.kept;
     home = b.home;
+    many = b.many;
     one = λ unicast. let w = b.one unicast in record {
       host = w.host;
       held = more.held f.address w.host w.held;

@@ -31,7 +31,7 @@ use Rattle.pl_switch_rule.specs.Messages.{answer_frame, flood_frame, floods, pro
 use Rattle.pl_switch_rule.specs.SwitchRule.{IsChoice}
 use Rattle.pl_switch_rule.proofs.CausesHere.{destination_of-arp_frame}
 use Rattle.pl_switch_rule.proofs.DataFrames.{arp_frame_made}
-use Rattle.pl_flights.specs.OnTheWay.{Book, CameInPlaced, IsLeaving}
+use Rattle.pl_flights.specs.OnTheWay.{Book, CameInPlaced, IsForMany, IsLeaving}
 use Rattle.pl_flights.specs.Standing.{IsGranted, KnowsAddresses, KnowsNeighbours, KnowsPlaces}
 use Rattle.pl_flights.proofs.AtHome.{begins_good, local_is_placed}
 use Rattle.pl_flights.proofs.ForwardActs.{not_is_true, routed_group}
@@ -46,6 +46,7 @@ pub record IsSpreading (place : ℕ → Place) (t : ℕ) (f : Flight) (frame : L
   pub kept : destination_of f.beginning ≡ destination_of frame
   pub address : f.address ≡ mac_number (destination_of frame)
   pub home : CameInPlaced place f.came_in
+  pub many : IsForMany f frame
 
 module _ (plan : Plan) (place : ℕ → Place) (book : Book) (t : ℕ) (v : SwitchView) (f : Flight) (frame : List ℕ) (here : IsSpreading place t f frame) where
   spread : (p : ℕ) (peer : Peer) → MayLeave plan place book t p peer f frame
@@ -55,6 +56,7 @@ module _ (plan : Plan) (place : ℕ → Place) (book : Book) (t : ℕ) (v : Swit
     kept = λ group. here.kept;
     address = here.address;
     home = here.home;
+    many = λ group. here.many;
     one = λ unicast. absurd (both_ways (is_group (destination_of frame)) unicast here.group);
   }
   spread p HostPort = record {
@@ -62,6 +64,7 @@ module _ (plan : Plan) (place : ℕ → Place) (book : Book) (t : ℕ) (v : Swit
     group = ap is_group here.kept;
     kept = λ group. here.kept;
     home = here.home;
+    many = λ group. here.many;
     one = λ unicast. absurd (both_ways (is_group (destination_of frame)) unicast here.group);
   }
 
@@ -109,7 +112,7 @@ module _ (plan : Plan) (place : ℕ → Place) (book : Book) (t : ℕ) (v : Swit
   flood_good asker asker_ip ip = λ root.
       let to : destination_of (flood_frame asker asker_ip ip) ≡ broadcast = destination_of-arp_frame broadcast _ refl in
       spreads_good plan place book t v (made_here root t (flood_frame asker asker_ip ip)) (flood_frame asker asker_ip ip)
-      (record { last = refl; group = ap is_group to; kept = refl; address = refl; home = λ there is. absurd (cc) }) (Some FromHost) false
+      (record { last = refl; group = ap is_group to; kept = refl; address = refl; home = λ there is. absurd (cc); many = record { leg = refl; unaltered = refl } }) (Some FromHost) false
 
   -- the request to a host that may still stand at an old address
   pub probe_good : (old : Pmac) (ip : Ip4) (grant : Grant) → granted v old ≡ Some grant →
@@ -129,6 +132,7 @@ module _ (plan : Plan) (place : ℕ → Place) (book : Book) (t : ℕ) (v : Swit
         group = began ∙ sym one_host;
         kept = λ group. absurd (both_ways (is_group (destination_of (arriving probe None (Some grant.amac)))) one_host group);
         home = λ there is. absurd (cc);
+        many = λ group. absurd (both_ways (is_group (destination_of (arriving probe None (Some grant.amac)))) one_host group);
         one = λ unicast. record {
           host = x.host;
           held = ap book.hold same ∙ x.held;

@@ -119,6 +119,16 @@ module _ (plan : Plan) (place : ℕ → Place) (book : Book) (t : ℕ) (v : Swit
       (subst (λ (b : List ℕ). UnalteredFrom f.sender (Some x) b (Some mac) bytes) (sym new.beginning)
       (from_host f.sender mac bytes new.of_host (arriving_twice frame (mac_of x) mac new.long refl six)))
 
+  from_host_group : (o : Option ℕ) → IsSome o → UnalteredFrom o (Some x) frame None (arriving frame (Some (mac_of x)) None)
+  from_host_group None there = absurd (false≢true there)
+  from_host_group (Some h) there = refl
+
+  unaltered_group : UnalteredFrom f.sender f.source f.beginning None (arriving frame (Some (mac_of x)) None)
+  unaltered_group =
+      let bytes : List ℕ = arriving frame (Some (mac_of x)) None in
+      subst (λ (o : Option Pmac). UnalteredFrom f.sender o f.beginning None bytes) (sym source)
+      (subst (λ (b : List ℕ). UnalteredFrom f.sender (Some x) b None bytes) (sym new.beginning) (from_host_group f.sender new.of_host))
+
   here : is_group (destination_of (arriving frame (Some (mac_of x)) None)) ≡ false → IsHere place t f (arriving frame (Some (mac_of x)) None)
   here unicast = record {
     last = ap first_of new.once;
@@ -142,6 +152,7 @@ module _ (plan : Plan) (place : ℕ → Place) (book : Book) (t : ℕ) (v : Swit
         kept = ap destination_of new.beginning ∙ sym same_destination;
         address = new.address ∙ ap mac_number (sym same_destination);
         home = home;
+        many = record { leg = new.alone ∙ sym new.once; unaltered = unaltered_group };
       }) (Some FromHost) false)
       (λ unicast. cond_both (is_local v (destination frame2)) _ _ G
       (λ local. arrives_good plan place book t v is_plan places neighbours knows choose is level placed frame2 (here unicast).long

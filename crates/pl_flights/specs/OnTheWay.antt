@@ -50,6 +50,11 @@ pub record IsOnWay (plan : Plan) (place : ℕ → Place) (f : Flight) (live : Bo
   pub whole : live ≡ true
   pub unaltered : WillBeUnaltered f frame
 
+-- a frame of a group crossed on one leg all that it crossed, and no byte differs but its source's
+pub record IsForMany (f : Flight) (frame : List ℕ) : Type 0 where
+  pub leg : f.leg ≡ f.trail
+  pub unaltered : UnalteredFrom f.sender f.source f.beginning None frame
+
 -- a frame is between two switches: it crossed the first one last, and carries its present address
 pub record IsBetween (plan : Plan) (place : ℕ → Place) (f : Flight) (live : Bool) (frame : List ℕ) (s t : ℕ) : Type 0 where
   pub last : first_of f.trail ≡ Some s
@@ -57,6 +62,7 @@ pub record IsBetween (plan : Plan) (place : ℕ → Place) (f : Flight) (live : 
   pub kept : is_group (destination_of frame) ≡ true → destination_of f.beginning ≡ destination_of frame
   pub address : f.address ≡ mac_number (destination_of frame)
   pub home : CameInPlaced place f.came_in
+  pub many : is_group (destination_of frame) ≡ true → IsForMany f frame
   pub one : is_group (destination_of frame) ≡ false → IsOnWay plan place f live frame s t
 
 -- what was granted and numbered: who holds an address, the port where it was granted, its number, and which ports have no vmid left
@@ -84,6 +90,7 @@ pub record IsLeaving (plan : Plan) (place : ℕ → Place) (book : Book) (f : Fl
   pub group : is_group (destination_of f.beginning) ≡ is_group (destination_of frame)
   pub kept : is_group (destination_of frame) ≡ true → destination_of f.beginning ≡ destination_of frame
   pub home : CameInPlaced place f.came_in
+  pub many : is_group (destination_of frame) ≡ true → IsForMany f frame
   pub one : is_group (destination_of frame) ≡ false → IsForHost plan book f frame s port
 
 -- what waits at a host is as it was sent

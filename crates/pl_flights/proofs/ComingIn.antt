@@ -83,7 +83,7 @@ placed_alike v u same grants =
       none = λ y is. sym (there y) ∙ is;
     }
 
-same_address : (v u : SwitchView) (port vmid : ℕ) → u.place ≡ v.place → address_at_port u port vmid ≡ address_at_port v port vmid
+pub same_address : (v u : SwitchView) (port vmid : ℕ) → u.place ≡ v.place → address_at_port u port vmid ≡ address_at_port v port vmid
 same_address v u port vmid same =
     ap (λ (p : Place). let x : Pmac = record { pod = unwrap_or p.pod 0; position = unwrap_or p.position 0; port = port; vmid = vmid } in x) same
 

@@ -1,10 +1,12 @@
 -- Each event but those at which addresses may be granted keeps what is told; what these, the groups and the manager's numbers give is a premise.
-use Rattle.std.proofs.Common.{inl, inr, ◌≡◌, ℕ, ◌<◌, ◌==◌, ◌&&◌, not, nat_lt, Bool, true, false, if◌then◌else◌, List, [], ◌∷◌, Option, None, Some, Result, Ok, Err, reverse, set, slice_get, refl, sym, subst}
-use Rattle.std.proofs.lemmas.Bool.{and_parts, cases_Bool, false≢true, ltb-true}
+use Rattle.std.proofs.Common.{inl, inr, ◌≡◌, ℕ, ◌<◌, ◌==◌, ◌&&◌, not, nat_lt, Bool, true, false, if◌then◌else◌, List, [], ◌∷◌, Option, None, Some, reverse, set, slice_get, refl, sym, ◌∙◌, ap, subst}
+use Rattle.std.proofs.lemmas.Bool.{and_parts, cases_Bool, cond-true, ltb-true}
+use Rattle.std.proofs.lemmas.Option.{slice_get_within}
 use Rattle.pl_wiring.specs.declared.label.SwitchNo.{SwitchNo}
 use Rattle.pl_wiring.specs.declared.link.Link.{Link}
 use Rattle.pl_wiring.specs.declared.link.Peer.{Peer}
 use Rattle.pl_wiring.specs.declared.link.Peer.TheVariants.{HostPort, Switch}
+use Rattle.pl_wiring.specs.Index.{port_index}
 use Rattle.pl_wiring.specs.LiveLinks.{is_live}
 use Rattle.pl_wiring.specs.Peers.{peer_of}
 use Rattle.pl_journal.specs.Places.{are_alike, is_host_port}
@@ -15,19 +17,15 @@ use Rattle.pl_core.specs.Accounting.{AccountsForFrames}
 use Rattle.pl_core.specs.HostDuties.{HostsKeepFrames, HostsSendData}
 use Rattle.pl_core.specs.HostInputs.{HostRule}
 use Rattle.pl_core.specs.ManagerDuties.{ManagerRule}
+use Rattle.pl_core.specs.SwitchInputs.{SwitchInput}
 use Rattle.pl_core.specs.SwitchInputs.SwitchInput.{Comes, Says}
 use Rattle.pl_queues.specs.Queues.{items_at}
 use Rattle.pl_frame.specs.Ethernet.{payload_of}
-use Rattle.pl_layouts.specs.Control.{control_in}
-use Rattle.pl_layouts.specs.declared.control.Control.{Control as ControlMessage}
-use Rattle.pl_layouts.specs.declared.control.Control.TheVariants as control
-use Rattle.pl_layouts.specs.declared.control.ControlError.{ControlError}
-use Rattle.pl_layouts.specs.declared.place.Place.{Place}
-use Rattle.pl_layouts.specs.Placement.{is_known, is_placed}
+use Rattle.pl_layouts.specs.Control.{control_in, is_control}
 use Rattle.pl_core.specs.SwitchViews.{SwitchView}
-use Rattle.pl_switch_rule.specs.Levels.{after_message, has_become_placed, with_pod}
-use Rattle.pl_switch_rule.specs.Positions.{after_vote}
-use Rattle.pl_switch_rule.specs.SwitchRule.{Loose}
+use Rattle.pl_steps.specs.Steps.{SwitchStep}
+use Rattle.pl_switch_rule.specs.Levels.{has_become_placed, with_pod}
+use Rattle.pl_switch_rule.specs.SwitchRule.{Loose, control_comes, data_comes, switch_step}
 use Rattle.pl_world.specs.declared.error.StepError.TheVariants.{AlreadySo, NoSuch, Occupied}
 use Rattle.pl_world.specs.declared.event.Event.{Event}
 use Rattle.pl_world.specs.declared.event.Event.TheVariants as event
@@ -38,52 +36,41 @@ use Rattle.pl_world.specs.declared.item.Item.TheVariants.{Control, Data}
 use Rattle.pl_world.specs.declared.spoken_frame.SpokenFrame.TheVariants.{Silent}
 use Rattle.pl_world.specs.declared.stand.Stand.{Stand}
 use Rattle.pl_world.specs.Changes.{host_at, out_of, receiver}
-use Rattle.pl_world.specs.Flying.{IsCounted}
+use Rattle.pl_world.specs.Flying.{IsCounted, IsFrame}
 use Rattle.pl_world.specs.LinksAndMoves.{joins, link_between, link_failed}
 use Rattle.pl_world.specs.Refusals.{has_host, has_port, has_switch, is_for_hosts, is_linked, refusal_of_event, refusal_of_link, refusal_of_move, refusal_of_place, refusal_of_queue}
 use Rattle.pl_world.specs.WorldRule.{ComesOver, Delivers, DeliversFromManager, DeliversOut, DeliversToManager, Fails, Goes, Happens, IsRepaired, Loses, ManagerTurn, SwitchTurn}
 use Rattle.pl_world.specs.Worlds.{WorldView}
+use Rattle.pl_world.proofs.Balances.{head_is_item}
+use Rattle.pl_world.proofs.Counts.{all_found}
 use Rattle.pl_world.proofs.StepBalances.{counted as to_counted, fails, found_contained, sound}
 use Rattle.pl_flights.specs.OnTheWay.{IsTold, place_in}
-use Rattle.pl_flights.specs.Standing.{IsMore, StandsOn, StandsOnHosts}
+use Rattle.pl_flights.specs.Standing.{FirstAddresses, IsMore, StandsOn, StandsOnHosts}
 use Rattle.pl_flights.proofs.Arriving.{AreMembers, GroupArrives, comes_out_told}
 use Rattle.pl_flights.proofs.AtHome.{over_link_told}
 use Rattle.pl_flights.proofs.Beginning.{lost_told}
 use Rattle.pl_flights.proofs.Failing.{fails_told, repaired_told}
+use Rattle.pl_flights.proofs.BecomingPlaced.{control_well, pod_well, unplaced_before, was_unplaced}
 use Rattle.pl_flights.proofs.ControlFrames.{control_told, pod_told, settles_by}
-use Rattle.pl_flights.proofs.ForwardActs.{not_is_true}
 use Rattle.pl_flights.proofs.FromHosts.{from_host_told}
 use Rattle.pl_flights.proofs.FromManager.{says_told}
 use Rattle.pl_flights.proofs.HostTurns.{host_told, plays_told}
-use Rattle.pl_flights.proofs.Moving.{goes_told}
+use Rattle.pl_flights.proofs.Moving.{goes_told, set_get}
 use Rattle.pl_flights.proofs.NoneJustIn.{none_just_in}
 use Rattle.pl_flights.proofs.Numbering.{NumbersWell, manager_told}
 use Rattle.pl_flights.proofs.OverLinks.{taken_out}
 use Rattle.pl_flights.proofs.Settling.{GrantsWell}
 use Rattle.pl_flights.proofs.SilentSteps.{ticks_told}
+use Rattle.pl_flights.proofs.SwitchTurns.{turn_switches}
 
 -- what is left to the rows at which addresses may be granted, to groups, and to the other parts
 pub record IsLeft (manager : ManagerRule) (host : HostRule) (w new : WorldView) : Type 0 where
-  pub control : (s port : ℕ) (t : SwitchNo) (q : ℕ) (frame : List ℕ) (items : List Item) → out_of w s port ≡ Control frame ∷ items →
-      peer_of w.plan s port ≡ Switch t q → (turn : SwitchTurn Loose (taken_out w s port items) t.0 (Comes q frame) Silent new) →
-      settles_by turn.before q (control_in (payload_of frame)) ≡ true → GrantsWell w.plan t.0 turn.acts (reverse w.journal)
-  pub pod : (t pod : ℕ) (rest : List ToSwitch) (turn : SwitchTurn Loose (record w { from_manager = set w.from_manager t rest }) t (Says (Pod pod)) Silent new) →
-      has_become_placed turn.before.place (with_pod turn.before (Some pod)).place ≡ true → GrantsWell w.plan t turn.acts (reverse w.journal)
+  pub first : FirstAddresses w new
   pub groups : (s port id : ℕ) (frame : List ℕ) → GroupArrives w s port id frame
   pub members : AreMembers host w
   pub numbers : (s : ℕ) (says : ToManager) (items : List ToManager) (turn : ManagerTurn manager (record w { to_manager = set w.to_manager s items }) s says new) →
       NumbersWell w.plan (reverse w.journal) turn.acts
   pub more : IsMore (place_in w.switches) (place_in new.switches)
-
--- what becomes placed was not placed before
-was_unplaced : (old new : Place) → has_become_placed old new ≡ true → is_placed old ≡ false
-was_unplaced old new settles = not_is_true (is_placed old) ((and_parts (is_known new.level 0 && is_placed new) (not (is_placed old)) settles).1)
-
-unplaced_before : (v : SwitchView) (q : ℕ) (read : Result ControlMessage ControlError) → settles_by v q read ≡ true → is_placed v.place ≡ false
-unplaced_before v q (Err e) settles = absurd (false≢true settles)
-unplaced_before v q (Ok (control.Ldm id m)) settles = was_unplaced v.place (after_message v q id m).place settles
-unplaced_before v q (Ok (control.Proposal id p)) settles = absurd (false≢true settles)
-unplaced_before v q (Ok (control.Vote id vote)) settles = was_unplaced v.place (after_vote v q vote).place settles
 
 there_is : (there filled : Bool) → refusal_of_queue there filled ≡ None → there ≡ true
 there_is true filled none = refl
@@ -109,6 +96,35 @@ move_fine false b h o fine = absurd (cc)
 
 module _ (manager : ManagerRule) (host : HostRule) (accounts : AccountsForFrames Loose) (sends : HostsSendData host) (keeps : HostsKeepFrames host)
     (w : WorldView) (counted : IsCounted w) (told : IsTold w) (on : StandsOn w) (new : WorldView) (hosts : StandsOnHosts w) (left : IsLeft manager host w new) where
+  -- what a switch grants where it becomes placed
+  size_at : (t : ℕ) (v : SwitchView) → slice_get w.switches t ≡ Some v → v.k ≡ w.plan.k
+  size_at t v found = all_found (λ (x : SwitchView). x.k ≡ w.plan.k) w.switches t v found counted.formed.ports
+
+  after_there : (u : WorldView) (t : ℕ) (input : SwitchInput) (turn : SwitchTurn Loose u t input Silent new) → slice_get new.switches t ≡ Some turn.after
+  after_there u t input turn =
+      ap (λ vs. slice_get vs t) (turn_switches Loose accounts u t input Silent new turn) ∙ set_get u.switches t turn.after (slice_get_within u.switches t turn.before turn.found)
+
+  settled_grants : (s port : ℕ) (t : SwitchNo) (q : ℕ) (frame : List ℕ) (items : List Item) → out_of w s port ≡ Control frame ∷ items →
+      peer_of w.plan s port ≡ Switch t q → (turn : SwitchTurn Loose (taken_out w s port items) t.0 (Comes q frame) Silent new) →
+      settles_by turn.before q (control_in (payload_of frame)) ≡ true → GrantsWell w.plan t.0 turn.acts (reverse w.journal)
+  settled_grants s port t q frame items head peer turn settles =
+      let v : SwitchView = turn.before in
+      let item : IsFrame true frame =
+      head_is_item w.out (port_index w.plan.k s port) (Control frame) items head (sound w counted).balance.port_items in
+      let step : switch_step turn.ruled.choose v (Comes q frame) ≡ control_comes v q frame =
+      cond-true (is_control frame) (control_comes v q frame) (data_comes turn.ruled.choose v q frame) item.kind in
+      subst (λ acts. GrantsWell w.plan t.0 acts (reverse w.journal)) (sym (turn.ruled.steps.done ∙ ap (λ (x : SwitchStep). x.acts) step))
+      (control_well w new t.0 v turn.found (size_at t.0 v turn.found) (hosts.hosts t.0 v turn.found) left.first q frame settles
+      (after_there (taken_out w s port items) t.0 (Comes q frame) turn ∙ ap Some (turn.ruled.steps.view ∙ ap (λ (x : SwitchStep). x.view) step)))
+
+  pod_grants : (t pod : ℕ) (rest : List ToSwitch) (turn : SwitchTurn Loose (record w { from_manager = set w.from_manager t rest }) t (Says (Pod pod)) Silent new) →
+      has_become_placed turn.before.place (with_pod turn.before (Some pod)).place ≡ true → GrantsWell w.plan t turn.acts (reverse w.journal)
+  pod_grants t pod rest turn settles =
+      let v : SwitchView = turn.before in
+      subst (λ acts. GrantsWell w.plan t acts (reverse w.journal)) (sym turn.ruled.steps.done)
+      (pod_well w new t v turn.found (size_at t v turn.found) (hosts.hosts t v turn.found) left.first pod settles
+      (after_there (record w { from_manager = set w.from_manager t rest }) t (Says (Pod pod)) turn ∙ ap Some turn.ruled.steps.view))
+
   -- an item comes to the other end
   over_told : (s port : ℕ) (item : Item) (items : List Item) (peer : Peer) → port < w.plan.k → out_of w s port ≡ item ∷ items → peer_of w.plan s port ≡ peer →
       ComesOver Loose host (taken_out w s port items) s port item peer new → IsTold new
@@ -116,7 +132,7 @@ module _ (manager : ManagerRule) (host : HostRule) (accounts : AccountsForFrames
       control_told w s port frame items t q new accounts counted told within head peer turn
       (elim (cases_Bool (settles_by turn.before q (control_in (payload_of frame)))) [
         | inl settles ↦ inr (record {
-          grants = left.control s port t q frame items head peer turn settles;
+          grants = settled_grants s port t q frame items head peer turn settles;
           none_just_in = none_just_in w counted told t.0 turn.before turn.found (unplaced_before turn.before q (control_in (payload_of frame)) settles);
         })
         | inr stays ↦ inl stays
@@ -140,7 +156,7 @@ module _ (manager : ManagerRule) (host : HostRule) (accounts : AccountsForFrames
   from_manager_told t (Pod pod ∷ items) turn = pod_told w t pod items new accounts counted told turn
       (elim (cases_Bool (has_become_placed turn.before.place (with_pod turn.before (Some pod)).place)) [
         | inl settles ↦ inr (record {
-          grants = left.pod t pod items turn settles;
+          grants = pod_grants t pod items turn settles;
           none_just_in = none_just_in w counted told t turn.before turn.found
               (was_unplaced turn.before.place (with_pod turn.before (Some pod)).place settles);
         })

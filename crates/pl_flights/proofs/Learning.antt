@@ -175,6 +175,11 @@ learns_of v port vmid settled within (Some g) found (Some ip) = cond_both (same_
     })
 
 -- ---- the next address
+-- two addresses that fit have two numbers
+pub numbers_apart : (y z : Pmac) → Fits y → Fits z → pmac_number y ≡ pmac_number z → y ≡ z
+numbers_apart y z fits_y fits_z same =
+    sym (pmac_of-mac_of y fits_y) ∙ ap (λ m. pmac_of (record { 0 = big_bytes 6 m })) same ∙ pmac_of-mac_of z fits_z
+
 module _ (plan : Plan) (past : List Entry) (t : ℕ) (v : SwitchView) (port h : ℕ) (mac : Mac) (ip : Option Ip4) (settled : is_settled v.place ≡ true)
     (within : port < length v.grants) (peer : peer_of plan t port ≡ HostPort) (of_host : mac_of_host plan h ≡ Some mac) (six : length mac.0 ≡ 6)
     (unicast : is_group mac ≡ false) (may : IsNext past t (address_at_port v port (length (grants_at v port) + 1))) (knows : KnowsAddresses plan (book_of past) t v) where
@@ -250,10 +255,6 @@ module _ (plan : Plan) (past : List Entry) (t : ℕ) (v : SwitchView) (port h : 
         ];
         pods = knows.pods;
       }
-    where
-      numbers_apart : (y z : Pmac) → Fits y → Fits z → pmac_number y ≡ pmac_number z → y ≡ z
-      numbers_apart y z fits_y fits_z same =
-          sym (pmac_of-mac_of y fits_y) ∙ ap (λ m. pmac_of (record { 0 = big_bytes 6 m })) same ∙ pmac_of-mac_of z fits_z
 
   pub next_in_use : in_use (grants_at v port) mac ≡ None →
       in_use (grants_at (with_grants v port (grants_at v port ++ new_grant mac ip ∷ [])) port) mac ≡ Some (length (grants_at v port) + 1)

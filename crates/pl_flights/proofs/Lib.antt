@@ -40,3 +40,5 @@ pub mod Learning
 pub mod ComingIn
 pub mod Hosts
 pub mod FromHosts
+pub mod Remembering
+pub mod BecomingPlaced

@@ -1,5 +1,5 @@
 -- What the way of frames needs of the other parts: that what switches know of places is so.
-use Rattle.std.specs.Prelude.{◌≡◌, ◌<◌, ◌+◌, ◌^◌, ℕ, true, false, Contains, List, length, None, Some, reverse, slice_get}
+use Rattle.std.specs.Prelude.{◌≡◌, ◌<◌, ◌+◌, ◌^◌, ℕ, true, false, Contains, List, [], length, None, Some, reverse, slice_get}
 use Rattle.pl_wiring.specs.declared.label.Label.TheVariants.{Aggregation, Edge}
 use Rattle.pl_wiring.specs.declared.label.SwitchNo.{SwitchNo}
 use Rattle.pl_frame.specs.declared.address.Mac.{Mac}
@@ -15,18 +15,19 @@ use Rattle.pl_journal.specs.Flights.{level_of}
 use Rattle.pl_layouts.specs.Memberships.{is_group}
 use Rattle.pl_journal.specs.Lossy.{IsNewer, mac_of_host}
 use Rattle.pl_journal.specs.declared.entry.Entry.{Entry}
-use Rattle.pl_journal.specs.Places.{at_port, granted_at, holder, is_host_port, is_of_edge, is_spent}
+use Rattle.pl_journal.specs.Places.{at_port, granted_at, has_stood, holder, is_host_port, is_of_edge, is_spent}
 use Rattle.pl_core.specs.declared.switch_records.Grant.{Grant}
+use Rattle.pl_core.specs.declared.switch_records.Source.{Source}
 use Rattle.pl_core.specs.declared.trap.Trap.{Trap}
 use Rattle.pl_core.specs.PortRecords.{is_open_to_hosts, is_usable, place_at, port_of}
 use Rattle.pl_core.specs.SwitchViews.{SwitchView}
 use Rattle.pl_queues.specs.Queues.{items_at}
 use Rattle.pl_world.specs.declared.item.Item.TheVariants.{Data}
 use Rattle.pl_world.specs.declared.stand.Stand.{Stand}
-use Rattle.pl_world.specs.Changes.{out_of}
+use Rattle.pl_world.specs.Changes.{host_of, out_of}
 use Rattle.pl_world.specs.Worlds.{WorldView}
 use Rattle.pl_switch_rule.specs.Delivering.{trap_for}
-use Rattle.pl_switch_rule.specs.Granting.{address_at_port, granted, grants_at, in_use, is_local, is_port_spent}
+use Rattle.pl_switch_rule.specs.Granting.{address_at_port, granted, grants_at, in_use, is_local, is_port_spent, remembered_at}
 use Rattle.pl_addresses.specs.EdgeAddresses.{is_settled}
 use Rattle.pl_flights.specs.OnTheWay.{Book, book_of, place_in}
 
@@ -91,6 +92,8 @@ pub record KnowsHosts (plan : Plan) (past : List Entry) (t : ℕ) (v : SwitchVie
   pub used : (port vmid h : ℕ) (amac : Mac) → is_settled v.place ≡ true → in_use (grants_at v port) amac ≡ Some vmid → mac_of_host plan h ≡ Some amac →
       granted_at past h (at_port t port) ≡ Some (address_at_port v port vmid)
   pub spent : (port : ℕ) → is_settled v.place ≡ true → is_port_spent v port ≡ true → is_spent past (at_port t port) ≡ true
+  pub empty : is_settled v.place ≡ false → (port : ℕ) → grants_at v port ≡ []
+  pub stood : (port h : ℕ) (source : Source) → remembered_at v port ≡ Some source → host_of plan source.amac ≡ Some h → has_stood plan past h (at_port t port) ≡ true
   pub next : (port : ℕ) → peer_of plan t port ≡ HostPort → port < plan.k → is_settled v.place ≡ true → is_port_spent v port ≡ false →
       IsNext past t (address_at_port v port (length (grants_at v port) + 1))
 
@@ -99,6 +102,12 @@ pub record StandsOnHosts (w : WorldView) : Type 0 where
   pub hosts : (t : ℕ) (v : SwitchView) → slice_get w.switches t ≡ Some v → KnowsHosts w.plan (reverse w.journal) t v
   pub at_ports : (h : ℕ) (stand : Stand) → slice_get w.stands h ≡ Some stand → (peer_of w.plan stand.edge.0 stand.port ≡ HostPort) × (stand.port < w.plan.k)
   pub own : (h id : ℕ) (frame : List ℕ) → Contains (items_at w.from_hosts h) (Data id frame) → mac_of_host w.plan h ≡ Some (source_of frame)
+
+-- Of two worlds, one after the other: where a switch has become a placed edge switch, the first address of each port could be granted before.
+abbrev pub FirstAddresses : WorldView → WorldView → Type 0
+FirstAddresses w new = (t : ℕ) (before after : SwitchView) → slice_get w.switches t ≡ Some before → slice_get new.switches t ≡ Some after →
+    is_settled before.place ≡ false → is_settled after.place ≡ true → (port : ℕ) → port < w.plan.k →
+    IsNext (reverse w.journal) t (address_at_port after port 1)
 
 -- What switches know of places and addresses is so, a port at which a data frame comes from a link is no port for hosts, and the source of a
 -- frame to one host is no group.

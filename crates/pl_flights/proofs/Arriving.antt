@@ -6,8 +6,9 @@ use Rattle.std.proofs.lemmas.Bool.{and_from, and_parts, both_ways, cases_Bool, c
 use Rattle.std.proofs.lemmas.List.Quantifiers.{position-Some}
 use Rattle.std.proofs.lemmas.Slice.Eq.{bytes_eq-Decides}
 use Rattle.pl_frame.specs.declared.address.Mac.{Mac}
-use Rattle.pl_frame.specs.Ethernet.{destination_of}
+use Rattle.pl_frame.specs.Ethernet.{destination_of, source_of}
 use Rattle.pl_layouts.specs.Equality.{same_mac}
+use Rattle.pl_layouts.specs.Frames.{mac_number}
 use Rattle.pl_layouts.specs.Memberships.{group_of, is_group}
 use Rattle.pl_wiring.specs.declared.host.Host.{Host}
 use Rattle.pl_wiring.specs.declared.link.Peer.{Peer}
@@ -18,8 +19,8 @@ use Rattle.pl_journal.specs.declared.cause.Cause.TheVariants as cause
 use Rattle.pl_journal.specs.declared.entry.Entry.{Entry}
 use Rattle.pl_journal.specs.declared.entry.Entry.TheVariants.{Arrived, Dropped}
 use Rattle.pl_journal.specs.Causes.{CauseShows, goes_to_group, has_left, is_routed}
-use Rattle.pl_journal.specs.Flights.{address, first_of, flight_of, leg}
-use Rattle.pl_journal.specs.Lossy.{ArrivesByAddress, ArrivesByGroup, Needs, UnalteredFrom, is_member, mac_of_host}
+use Rattle.pl_journal.specs.Flights.{address, first_of, flight_of, leg, root, root_arrived_at}
+use Rattle.pl_journal.specs.Lossy.{ArrivesByAddress, ArrivesByGroup, EndsAt, Needs, UnalteredFrom, is_member, is_root_there, is_same_place, mac_of_host}
 use Rattle.pl_journal.specs.Places.{Spot, at_port, holder, is_at, spot, spot_of}
 use Rattle.pl_journal.proofs.Hosts.{hosts_apart}
 use Rattle.pl_core.specs.declared.reception.Reception.{Reception}
@@ -156,10 +157,9 @@ host_is plan g h m is at_g at_h = elim (cases_eq g h) [
         let second = host_there hosts b m at_b d in
         all a b d less second.0 (first.1 ∙ sym second.1)
 
--- What the part on groups gives: a frame of a group that comes to a host that is a member may arrive there.
-abbrev pub GroupArrives : WorldView → ℕ → ℕ → ℕ → List ℕ → Type 0
-GroupArrives w s port id frame = (h : ℕ) → is_group (destination_of frame) ≡ true → receiver w s port frame ≡ Some h →
-    is_member (reverse w.journal) h (group_of (destination_of frame)) ≡ true → ArrivesByGroup w.plan (reverse w.journal) id h frame
+-- What the part on groups gives: no frame of the same root arrived at the port before.
+abbrev pub ComesFirst : WorldView → ℕ → ℕ → ℕ → Type 0
+ComesFirst w s port id = root_arrived_at w.plan (reverse w.journal) (root (reverse w.journal) id) (at_port s port) ≡ false
 
 -- a host that keeps a frame of a group is a member, by what is past
 abbrev pub AreMembers : HostRule → WorldView → Type 0
@@ -203,6 +203,23 @@ module _ (w : WorldView) (counted : IsCounted w) (told : IsTold w) (s port id : 
             (mac_of_host w.plan n) frame) same one.unaltered;
       }
 
+  -- a frame of a group may arrive at a member, where it is the first of its root
+  arrives_for_many : (h : ℕ) → is_group (destination_of frame) ≡ true → receiver w s port frame ≡ Some h →
+      is_member (reverse w.journal) h (group_of (destination_of frame)) ≡ true → ComesFirst w s port id → ArrivesByGroup w.plan (reverse w.journal) id h frame
+  arrives_for_many h group is member first =
+      let past : List Entry = reverse w.journal in
+      let g = gets w s port h frame is in
+      let m = leaving.many group in
+      let here : spot_of w.plan past h ≡ Some (at_port s port) = stands_there w past s port h told.stands_agree g.found in
+      let last : first_of (leg past id) ≡ Some s = ap first_of m.leg ∙ leaving.last in
+      record {
+        reached = subst (λ (p : Option Spot). EndsAt (leg past id) p) (sym here) (refl, last);
+        unaltered = m.unaltered;
+        first = ap (is_root_there w.plan past (root past id)) here ∙ first;
+        not_back = ap (is_same_place (spot past (mac_number (source_of frame)))) here ∙ leaving.not_back group;
+        member = member;
+      }
+
   -- where nobody gets it the host has left
   nobody_there : receiver w s port frame ≡ None → CauseShows w.plan (reverse w.journal) id cause.HostGone
   nobody_there is = elim (cases_Bool (is_group (destination_of frame))) [
@@ -241,7 +258,7 @@ module _ (w : WorldView) (counted : IsCounted w) (told : IsTold w) (s port id : 
       left_is o there h is at gone = rw (is, at) (ap not gone)
 
   -- it arrives, or is refused by a host that is no member of its group
-  reception_told : (rule : HostRule) → HostsKeepFrames rule → GroupArrives w s port id frame → (h : ℕ) → receiver w s port frame ≡ Some h →
+  reception_told : (rule : HostRule) → HostsKeepFrames rule → (is_group (destination_of frame) ≡ true → ComesFirst w s port id) → (h : ℕ) → receiver w s port frame ≡ Some h →
       (reception : Reception) → (is_routed (group_of (destination_of frame)) ≡ false → reception ≡ Kept) →
       (reception ≡ Kept → is_group (destination_of frame) ≡ true → is_member (reverse w.journal) h (group_of (destination_of frame)) ≡ true) →
       IsTold (reception_noted (taken_out w s port items) h id frame reception)
@@ -253,7 +270,7 @@ module _ (w : WorldView) (counted : IsCounted w) (told : IsTold w) (s port id : 
       let needs : Needs w.plan past e = (
         took.flies.flies,
         by_kind (goes_to_group past id)
-            (λ group. groups h (sym group_is ∙ group) is (members refl (sym group_is ∙ group))) (λ unicast. arrives h (sym group_is ∙ unicast) is),
+            (λ group. arrives_for_many h (sym group_is ∙ group) is (members refl (sym group_is ∙ group)) (groups (sym group_is ∙ group))) (λ unicast. arrives h (sym group_is ∙ unicast) is),
       ) in
       subst (λ p. Tells w.plan (place_in w.switches) p w.links w.stands w.from_hosts (taken_out w s port items).out) (sym (reverse_noted w.journal past e refl))
       (note w.plan (place_in w.switches) past w.links w.stands w.from_hosts (taken_out w s port items).out e id
@@ -293,7 +310,7 @@ module _ (w : WorldView) (counted : IsCounted w) (told : IsTold w) (s port id : 
   }
 
   -- whatever becomes of it there
-  pub comes_out_told : (rule : HostRule) → HostsKeepFrames rule → HostsSendData rule → GroupArrives w s port id frame → AreMembers rule w → (to : Option ℕ) →
+  pub comes_out_told : (rule : HostRule) → HostsKeepFrames rule → HostsSendData rule → (is_group (destination_of frame) ≡ true → ComesFirst w s port id) → AreMembers rule w → (to : Option ℕ) →
       receiver w s port frame ≡ to → (new : WorldView) → ComesAtHost rule (taken_out w s port items) id frame to new → IsTold new
   comes_out_told rule keeps sends groups members None nobody new is =
       let past : List Entry = reverse w.journal in

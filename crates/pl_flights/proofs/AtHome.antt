@@ -111,7 +111,7 @@ pub over_link_told : (w : WorldView) → IsCounted w → IsTold w → StandsOn w
 over_link_told w counted told on accounts s port id frame items within head t q peer new turn =
     let took = taken w counted told s port id frame items within head in
     let past = reverse w.journal in
-    let b : IsBetween w.plan (place_in w.switches) (flight_of w.plan past id) (was_live past id s t.0) frame s t.0 =
+    let b : IsBetween w.plan (place_in w.switches) (book_of past) (flight_of w.plan past id) (was_live past id s t.0) frame s t.0 =
     subst (λ (p : Peer). IsGoing w.plan (place_in w.switches) past s port p id frame) peer took.going in
     let there : Contains (out_of w s port) (Data id frame) = subst (λ l. Contains l (Data id frame)) (sym head) (zero, omega arith, refl) in
     let home : IsGoodAtHome w t.0 id frame = λ v choose found is unicast own.

@@ -41,7 +41,7 @@ use Rattle.pl_flights.proofs.GrantingAmid.{sourced}
 use Rattle.pl_flights.proofs.Hands.{GoodActs}
 use Rattle.pl_flights.proofs.Hands.Hand.{Waits}
 use Rattle.pl_flights.proofs.Hosts.{host_unicast, same_spot_itself, stood_there}
-use Rattle.pl_flights.proofs.Learning.{AgreesWith, Learns, granted_past, knows_agreed, knows_next, learns_of, next_in_use}
+use Rattle.pl_flights.proofs.Learning.{AgreesWith, Learns, granted_past, knows_agreed, knows_next, learns_of, next_granted, next_in_use}
 use Rattle.pl_addresses.proofs.Numbers.{granted_here, local_here, used_is}
 use Rattle.pl_flights.proofs.Passing.{known}
 use Rattle.pl_flights.proofs.SilentSteps.{AreSilent, silent_append, silent_changes, silent_good}
@@ -94,15 +94,15 @@ module _ (plan : Plan) (place : ℕ → Place) (t port : ℕ) (frame : List ℕ)
 
   rest_good : (book : Book) (w : SwitchView) (f : Flight) (vmid : ℕ) → IsNew t f frame → KnowsNeighbours plan place t w → KnowsAddresses plan book t w →
       w.place.level ≡ Some 0 → is_placed w.place ≡ true → CameInPlaced place f.came_in → in_use (grants_at w port) (source_of frame) ≡ Some vmid →
-      f.source ≡ Some (address_at_port w port vmid) → is_group (mac_of (address_at_port w port vmid)) ≡ false →
+      f.source ≡ Some (address_at_port w port vmid) → (g : Grant) → IsGranted plan book t (address_at_port w port vmid) g →
       GoodActs plan place book t (takes_in_or_spent choose port frame w).acts (Waits f false)
-  rest_good book w f vmid new neighbours knows level placed home uses source own =
+  rest_good book w f vmid new neighbours knows level placed home uses source g it =
       let x : Pmac = address_at_port w port vmid in
       let bytes : with_pmac w port frame ≡ arriving frame (Some (mac_of x)) None =
       ap (λ o. arriving frame (mac_of_pmac (pmac_at w port o)) None) uses in
       let sends : GoodActs plan place book t (sends_in choose (with_pmac w port frame) w).acts (Waits f false) =
       subst (λ b. GoodActs plan place book t (sends_in choose b w).acts (Waits f false)) (sym bytes)
-      (sends_in_good plan place book t w is_plan places neighbours knows choose is level placed frame f new home x source own) in
+      (sends_in_good plan place book t w is_plan places neighbours knows choose is level placed frame f new home x source g it) in
       subst (λ (step : SwitchStep). GoodActs plan place book t step.acts (Waits f false))
       (sym (cond-false (has_no_address w port (source_of frame)) (does w (act.Drop Spent ∷ [])) (takes_in choose port frame w) (has_address w vmid uses)))
       (takes_in_good plan place book t w choose port frame f new (λ placed. sends))
@@ -159,11 +159,12 @@ module _ (plan : Plan) (place : ℕ → Place) (past : List Entry) (t : ℕ) (v 
     knows_u : KnowsAddresses plan (book_of past) t (with_host v port)
     knows_u = knows_agreed plan (book_of past) t v (with_host v port) (placed_alike v (with_host v port) alike.place refl) knows
 
-    -- its address in use is not one of a group
-    own_used : (vmid : ℕ) → in_use (grants_at v port) (source_of frame) ≡ Some vmid → is_group (mac_of (address_at_port v port vmid)) ≡ false
-    own_used vmid uses =
+    -- its address in use was granted
+    granted_used : (vmid : ℕ) → in_use (grants_at v port) (source_of frame) ≡ Some vmid →
+        (g : Grant) × IsGranted plan (book_of past) t (address_at_port v port vmid) g
+    granted_used vmid uses =
         let it = used_is (grants_at v port) (source_of frame) vmid uses in
-        (knows.granted_here (address_at_port v port vmid) it.grant (granted_here v (address_at_port v port vmid) (local_here v port vmid settled) ∙ it.found)).own
+        (it.grant, knows.granted_here (address_at_port v port vmid) it.grant (granted_here v (address_at_port v port vmid) (local_here v port vmid settled) ∙ it.found))
 
     used : (vmid : ℕ) → in_use (grants_at v port) (source_of frame) ≡ Some vmid →
         IsComing (Then (learns_ip (with_host v port) (address_at_port (with_host v port) port vmid) (grant_number (grants_at v port) vmid) (sender_ip frame)))
@@ -172,10 +173,12 @@ module _ (plan : Plan) (place : ℕ → Place) (past : List Entry) (t : ℕ) (v 
         let l : Learns (with_host v port) port step = learns_of (with_host v port) port vmid settled_u room (grant_number (grants_at v port) vmid) refl (sender_ip frame) in
         let all : LooksAlike v step.view = alike_then v (with_host v port) step.view alike l.alike in
         let same : address_at_port step.view port vmid ≡ address_at_port v port vmid = same_address v step.view port vmid all.place in
+        let it = granted_used vmid uses in
         plainly step l.silent (rest_good plan place t port frame is_plan places choose is (book_of past) step.view (come_in past id h frame t port) vmid new
         (neighbours_alike plan place t v step.view all neighbours) (knows_agreed plan (book_of past) t (with_host v port) step.view l.agrees knows_u)
         (ap (λ (p : Place). p.level) all.place ∙ level) (ap is_placed all.place ∙ placed) home (l.uses (source_of frame) ∙ uses)
-        (hosts.used port vmid h (source_of frame) settled uses mac ∙ ap Some (sym same)) (ap (λ x. is_group (mac_of x)) same ∙ own_used vmid uses))
+        (hosts.used port vmid h (source_of frame) settled uses mac ∙ ap Some (sym same)) it.0
+        (subst (λ (x : Pmac). IsGranted plan (book_of past) t x it.0) (sym same) it.1))
 
     -- no address is left
     none_left : in_use (grants_at v port) (source_of frame) ≡ None → is_port_spent v port ≡ true → IsComing (Then (rests (with_host v port)))
@@ -205,6 +208,8 @@ module _ (plan : Plan) (place : ℕ → Place) (past : List Entry) (t : ℕ) (v 
         let source : f2.source ≡ Some x = cond-true ((h == h) && same_spot (at_port t port) (at_port t port)) (Some x) _
         (and_from (h == h) (same_spot (at_port t port) (at_port t port)) (eq-eqb h h refl) (same_spot_itself (at_port t port))) in
         let all : LooksAlike v w = record { place = alike.place; heard = alike.heard; usable = alike.usable } in
+        let after : KnowsAddresses plan (book_of (e ∷ Crossed id (switch_no t) ∷ past)) t w =
+        knows_next plan (Crossed id (switch_no t) ∷ past) t (with_host v port) port h src (sender_ip frame) settled_u room peer mac (six_src frame long) unicast may knows_u in
         let told = act.Tell (Learned x src (sender_ip frame)) ∷ [] in
         Grants (changes_told v (with_host v port) ++ []) x src (told ++ (takes_in_or_spent choose port frame w).acts)
         (append_assoc (changes_told v (with_host v port) ++ []) (act.Grant x src ∷ told) (takes_in_or_spent choose port frame w).acts)
@@ -213,10 +218,12 @@ module _ (plan : Plan) (place : ℕ → Place) (past : List Entry) (t : ℕ) (v 
         (rest_good plan place t port frame is_plan places choose is (book_of (e ∷ Crossed id (switch_no t) ∷ past)) w f2 m
         (record { of_host = refl; alone = refl; once = refl; beginning = refl; address = refl; long = long })
         (neighbours_alike plan place t v w all neighbours)
-        (knows_next plan (Crossed id (switch_no t) ∷ past) t (with_host v port) port h src (sender_ip frame) settled_u room peer mac (six_src frame long) unicast may
-        (knows_u)) (ap (λ (p : Place). p.level) alike.place ∙ level) (ap is_placed alike.place ∙ placed) home
+        after (ap (λ (p : Place). p.level) alike.place ∙ level) (ap is_placed alike.place ∙ placed) home
         (next_in_use plan (Crossed id (switch_no t) ∷ past) t (with_host v port) port h src (sender_ip frame) settled_u room peer mac (six_src frame long) unicast may
-        (knows_u) none) source may.own)
+        (knows_u) none) source (new_grant src (sender_ip frame))
+        (after.granted_here x (new_grant src (sender_ip frame))
+        (next_granted plan (Crossed id (switch_no t) ∷ past) t (with_host v port) port h src (sender_ip frame) settled_u room peer mac (six_src frame long) unicast may
+        (knows_u))))
 
     by_use : (o : Option ℕ) → in_use (grants_at v port) (source_of frame) ≡ o →
         IsComing (Then (grants_or_learns (with_host v port) port (source_of frame) (sender_ip frame) o))

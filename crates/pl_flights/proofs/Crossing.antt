@@ -13,7 +13,7 @@ use Rattle.pl_journal.specs.Causes.{goes_to_group}
 use Rattle.pl_journal.specs.Flights.{flight_of, is_good_leg, is_led_to, leg, was_live}
 use Rattle.pl_journal.specs.Lossy.{CrossesWell, goes_well}
 use Rattle.pl_journal.specs.Places.{is_joined}
-use Rattle.pl_flights.specs.OnTheWay.{IsBetween, IsOnWay}
+use Rattle.pl_flights.specs.OnTheWay.{IsBetween, IsOnWay, book_of}
 use Rattle.pl_flights.specs.Routes.{Route}
 use Rattle.pl_flights.specs.Routes.Route.{Climbs, Enters, Falls, Leaves, Turns}
 use Rattle.pl_flights.proofs.Legs.{good}
@@ -40,7 +40,7 @@ well plan place past id s t frame joined w =
     (led_there plan past id s t (leg past id) last.0 last.1 joined w.whole)
 
 pub crosses_well : (plan : Plan) (place : ℕ → Place) (past : List Entry) (id s : ℕ) (t : SwitchNo) (frame : List ℕ) → is_joined plan s t.0 ≡ true →
-    IsBetween plan place (flight_of plan past id) (was_live past id s t.0) frame s t.0 → CrossesWell plan past (Crossed id t)
+    IsBetween plan place (book_of past) (flight_of plan past id) (was_live past id s t.0) frame s t.0 → CrossesWell plan past (Crossed id t)
 crosses_well plan place past id s t frame joined b = elim (cases_Bool (is_group (destination_of frame))) [
   | inl group ↦ or_left (goes_to_group past id) (goes_well plan past id (leg past id) t.0) (b.group ∙ group)
   | inr one ↦ or_right (goes_to_group past id) (goes_well plan past id (leg past id) t.0) (well plan place past id s t.0 frame joined (b.one one))

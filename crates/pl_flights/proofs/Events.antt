@@ -20,7 +20,8 @@ use Rattle.pl_core.specs.ManagerDuties.{ManagerRule}
 use Rattle.pl_core.specs.SwitchInputs.{SwitchInput}
 use Rattle.pl_core.specs.SwitchInputs.SwitchInput.{Comes, Says}
 use Rattle.pl_queues.specs.Queues.{items_at}
-use Rattle.pl_frame.specs.Ethernet.{payload_of}
+use Rattle.pl_frame.specs.Ethernet.{destination_of, payload_of}
+use Rattle.pl_layouts.specs.Memberships.{is_group}
 use Rattle.pl_layouts.specs.Control.{control_in, is_control}
 use Rattle.pl_core.specs.SwitchViews.{SwitchView}
 use Rattle.pl_steps.specs.Steps.{SwitchStep}
@@ -46,7 +47,7 @@ use Rattle.pl_world.proofs.Counts.{all_found}
 use Rattle.pl_world.proofs.StepBalances.{counted as to_counted, fails, found_contained, sound}
 use Rattle.pl_flights.specs.OnTheWay.{IsTold, place_in}
 use Rattle.pl_flights.specs.Standing.{FirstAddresses, IsMore, StandsOn, StandsOnHosts}
-use Rattle.pl_flights.proofs.Arriving.{AreMembers, GroupArrives, comes_out_told}
+use Rattle.pl_flights.proofs.Arriving.{AreMembers, ComesFirst, comes_out_told}
 use Rattle.pl_flights.proofs.AtHome.{over_link_told}
 use Rattle.pl_flights.proofs.Beginning.{lost_told}
 use Rattle.pl_flights.proofs.Failing.{fails_told, repaired_told}
@@ -66,9 +67,10 @@ use Rattle.pl_flights.proofs.SwitchTurns.{turn_switches}
 -- what is left to the rows at which addresses may be granted, to groups, and to the other parts
 pub record IsLeft (manager : ManagerRule) (host : HostRule) (w new : WorldView) : Type 0 where
   pub first : FirstAddresses w new
-  pub groups : (s port id : ℕ) (frame : List ℕ) → GroupArrives w s port id frame
+  pub groups : (s port id : ℕ) (frame : List ℕ) (items : List Item) → port < w.plan.k → peer_of w.plan s port ≡ HostPort →
+      out_of w s port ≡ Data id frame ∷ items → is_group (destination_of frame) ≡ true → ComesFirst w s port id
   pub members : AreMembers host w
-  pub numbers : (s : ℕ) (says : ToManager) (items : List ToManager) (turn : ManagerTurn manager (record w { to_manager = set w.to_manager s items }) s says new) →
+  pub numbers : (s : ℕ) (says : ToManager) (items : List ToManager) → items_at w.to_manager s ≡ says ∷ items → (turn : ManagerTurn manager (record w { to_manager = set w.to_manager s items }) s says new) →
       NumbersWell w.plan (reverse w.journal) turn.acts
   pub more : IsMore (place_in w.switches) (place_in new.switches)
 
@@ -141,15 +143,15 @@ module _ (manager : ManagerRule) (host : HostRule) (accounts : AccountsForFrames
       over_link_told w counted told on accounts s port id frame items within head t q peer new turn
   over_told s port (Control frame) items HostPort within head peer is = subst IsTold (sym is) (lost_told w s port (Control frame) items counted told within head)
   over_told s port (Data id frame) items HostPort within head peer comes =
-      comes_out_told w counted told s port id frame items within head peer host keeps sends (left.groups s port id frame) left.members (receiver w s port frame) refl new comes
+      comes_out_told w counted told s port id frame items within head peer host keeps sends (left.groups s port id frame items within peer head) left.members (receiver w s port frame) refl new comes
 
   out_told : (s port : ℕ) (items : List Item) → port < w.plan.k → out_of w s port ≡ items → DeliversOut Loose host w s port items new → IsTold new
   out_told s port [] within head comes = absurd comes
   out_told s port (item ∷ items) within head comes = over_told s port item items (peer_of w.plan s port) within head refl comes
 
-  to_manager_told : (s : ℕ) (items : List ToManager) → DeliversToManager manager w s items new → IsTold new
-  to_manager_told s [] comes = absurd comes
-  to_manager_told s (says ∷ items) turn = manager_told manager w s says items new counted told turn (left.numbers s says items turn)
+  to_manager_told : (s : ℕ) (items : List ToManager) → items_at w.to_manager s ≡ items → DeliversToManager manager w s items new → IsTold new
+  to_manager_told s [] head comes = absurd comes
+  to_manager_told s (says ∷ items) head turn = manager_told manager w s says items new counted told turn (left.numbers s says items head turn)
 
   from_manager_told : (t : ℕ) (items : List ToSwitch) → DeliversFromManager Loose w t items new → IsTold new
   from_manager_told t [] comes = absurd comes
@@ -174,7 +176,7 @@ module _ (manager : ManagerRule) (host : HostRule) (accounts : AccountsForFrames
   delivers_told (queue.Port s port) fine comes =
       let there = and_parts (has_switch w.plan s.0) (nat_lt port w.plan.k) (there_is (has_port w.plan s.0 port) _ fine) in
       out_told s.0 port (out_of w s.0 port) (ltb-true port w.plan.k there.1) refl comes
-  delivers_told (queue.ToManager s) fine comes = to_manager_told s.0 (items_at w.to_manager s.0) comes
+  delivers_told (queue.ToManager s) fine comes = to_manager_told s.0 (items_at w.to_manager s.0) refl comes
   delivers_told (queue.FromManager s) fine comes = from_manager_told s.0 (items_at w.from_manager s.0) comes
 
   -- an item is lost

@@ -105,7 +105,8 @@ module _ (plan : Plan) (place : ℕ → Place) (past : List Entry) (x y : Switch
   cut_going : (s port : ℕ) (peer : Peer) (g : ℕ) (frame : List ℕ) → ((t : SwitchNo) (q : ℕ) → peer ≡ Switch t q → same_ends x.0 y.0 s t.0 ≡ false) →
       IsGoing plan place past s port peer g frame → IsGoing plan place (LinkDown x y ∷ past) s port peer g frame
   cut_going s port (Switch t q) g frame other is =
-      between_kept plan place (flight_of plan past g) (flight_of plan past g) _ _ frame s t.0 refl (cut_kept g s t.0 (other t q refl)) is
+      between_kept plan place (book_of past) (book_of past) (flight_of plan past g) (flight_of plan past g) _ _ frame s t.0 refl (cut_kept g s t.0 (other t q refl))
+      (same_book (book_of past)) is
   cut_going s port HostPort g frame other is = is
 
   cut_all : (s port : ℕ) → ((t : SwitchNo) (q : ℕ) → peer_of plan s port ≡ Switch t q → same_ends x.0 y.0 s t.0 ≡ false) → (items : List Item) →
@@ -229,7 +230,7 @@ pub ends_shown : (plan : Plan) (place : ℕ → Place) (past later : List Entry)
 ends_shown plan place past later s port t q peer failed same [] all = tt
 ends_shown plan place past later s port t q peer failed same (Control frame ∷ items) all = ends_shown plan place past later s port t q peer failed same items all.1
 ends_shown plan place past later s port t q peer failed same (Data id frame ∷ items) all =
-    let b : IsBetween plan place (flight_of plan past id) (was_live past id s t.0) frame s t.0 =
+    let b : IsBetween plan place (book_of past) (flight_of plan past id) (was_live past id s t.0) frame s t.0 =
     subst (λ (p : Peer). IsGoing plan place past s port p id frame) peer all.0 in
     (ap (touches_failed_link plan later) (ap first_of (same id) ∙ b.last) ∙ failed, ends_shown plan place past later s port t q peer failed same items all.1)
 

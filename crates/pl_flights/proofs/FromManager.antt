@@ -51,7 +51,7 @@ use Rattle.pl_flights.proofs.SwitchTurns.{turn_switches}
 -- good acts are good where more is known of places
 module _ (plan : Plan) (place later : ℕ → Place) (more : IsMore place later) (book : Book) (s : ℕ) where
   leave_grown : (port : ℕ) (peer : Peer) (f : Flight) (frame : List ℕ) → MayLeave plan place book s port peer f frame → MayLeave plan later book s port peer f frame
-  leave_grown port (Switch t q) f frame may = between_grown place later more plan f true frame s t.0 may
+  leave_grown port (Switch t q) f frame may = between_grown place later more plan book f true frame s t.0 may
   leave_grown port HostPort f frame may = leaving_grown place later more plan book f frame s port may
 
   pub good_grown : (acts : List Act) (hand : Hand) → GoodActs plan place book s acts hand → GoodActs plan later book s acts hand
@@ -147,7 +147,9 @@ module _ (plan : Plan) (place : ℕ → Place) (book : Book) (t : ℕ) (v : Swit
       })
       (λ other. record { good = tt; stays = refl })
   heard (Flood asker asker_ip ip) none = cond_both (is_granted v asker) (floods v (flood_frame asker asker_ip ip)) (rests v) IsHeard
-      (λ here. record { good = flood_good plan place book t v is_plan places neighbours knows choose is asker asker_ip ip; stays = refl })
+      (λ here.
+      let grant = some_granted (granted v asker) here in
+      record { good = flood_good plan place book t v is_plan places neighbours knows choose is asker asker_ip ip grant.0 grant.1; stays = refl })
       (λ other. record { good = tt; stays = refl })
   heard (Invalidate old new number ip) none = invalidated old (record { new = new; number = number; ip = ip }) (granted v old) refl
 

@@ -73,9 +73,9 @@ module _ (place later : ℕ → Place) (more : IsMore place later) where
   route_grown k to leg s t (Enters e a c p i j m q x at_e at_a at_c at_s at_t is pods here there) =
       Enters e a c p i j m q x at_e at_a at_c at_s at_t is pods (more.pod s to.pod here) (more.position t to.position there)
 
-  pub between_grown : (plan : Plan) (f : Flight) (live : Bool) (frame : List ℕ) (s t : ℕ) → IsBetween plan place f live frame s t →
-      IsBetween plan later f live frame s t
-  between_grown plan f live frame s t b = record {
+  pub between_grown : (plan : Plan) (book : Book) (f : Flight) (live : Bool) (frame : List ℕ) (s t : ℕ) → IsBetween plan place book f live frame s t →
+      IsBetween plan later book f live frame s t
+  between_grown plan book f live frame s t b = record {
     last = b.last;
     group = b.group;
     kept = b.kept;
@@ -93,12 +93,13 @@ module _ (place later : ℕ → Place) (more : IsMore place later) where
     kept = b.kept;
     home = λ there is. placed_grown there.edge (b.home there is);
     many = b.many;
+    not_back = b.not_back;
     one = b.one;
   }
 
   going_grown : (plan : Plan) (past : List Entry) (s port : ℕ) (peer : Peer) (id : ℕ) (frame : List ℕ) → IsGoing plan place past s port peer id frame →
       IsGoing plan later past s port peer id frame
-  going_grown plan past s port (Switch t q) id frame b = between_grown plan (flight_of plan past id) (was_live past id s t.0) frame s t.0 b
+  going_grown plan past s port (Switch t q) id frame b = between_grown plan (book_of past) (flight_of plan past id) (was_live past id s t.0) frame s t.0 b
   going_grown plan past s port HostPort id frame is = leaving_grown plan (book_of past) (flight_of plan past id) frame s port is
 
   all_grown : (plan : Plan) (past : List Entry) (s port : ℕ) (items : List Item) → AllByRecursion (IsOut plan place past s port) items →

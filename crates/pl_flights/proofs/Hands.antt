@@ -46,7 +46,7 @@ pub data Hand : Type 0 where
   Spreads : (f : Flight) → Hand
 
 abbrev pub MayLeave : Plan → (ℕ → Place) → Book → ℕ → ℕ → Peer → Flight → List ℕ → Type 0
-MayLeave plan place book s port (Switch t q) f frame = IsBetween plan place f true frame s t.0
+MayLeave plan place book s port (Switch t q) f frame = IsBetween plan place book f true frame s t.0
 MayLeave plan place book s port HostPort f frame = IsLeaving plan place book f frame s port
 
 pub record MayTurn (book : Book) (s : ℕ) (f : Flight) (old new : Pmac) : Type 0 where

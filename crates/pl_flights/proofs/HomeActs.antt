@@ -37,6 +37,7 @@ use Rattle.pl_flights.proofs.Hands.{GoodActs, Hand, MayLeave}
 use Rattle.pl_flights.proofs.Hands.Hand.{Empty, Spreads, Waits}
 use Rattle.pl_flights.proofs.Legs.{level_at}
 use Rattle.pl_flights.proofs.Passing.{known, something}
+use Rattle.pl_flights.proofs.PmacNumbers.{number_in}
 use Rattle.pl_flights.proofs.Rungs.{Rung, rung}
 use Rattle.pl_flights.proofs.Rungs.Rung.{DownFromCore, DownToEdge, UpFromEdge, UpToCore}
 
@@ -44,9 +45,6 @@ two_levels : (n m : ℕ) → n ≡ 0 → n ≡ suc m → ⊥
 two_levels n m none some = omega arith
 
 -- the address that stands in a frame
-pub number_in : (n : ℕ) → pmac_number (record { pod = n / 2 ^ 32; position = n / 2 ^ 24 % 256; port = n / 2 ^ 16 % 256; vmid = n % 2 ^ 16 }) ≡ n
-number_in n = omega arith
-
 pub number_of_destination : (frame : List ℕ) → pmac_number (destination frame) ≡ mac_number (destination_of frame)
 number_of_destination frame = number_in (mac_number (destination_of frame))
 
@@ -94,6 +92,7 @@ module _ (plan : Plan) (place : ℕ → Place) (book : Book) (t : ℕ) (v : Swit
         kept = λ group. absurd (both_ways (is_group (destination_of (arriving frame None (Some grant.amac)))) one_host group);
         home = here.home;
         many = λ group. absurd (both_ways (is_group (destination_of (arriving frame None (Some grant.amac)))) one_host group);
+        not_back = λ group. absurd (both_ways (is_group (destination_of (arriving frame None (Some grant.amac)))) one_host group);
         one = λ unicast. record {
           host = is.host;
           held = ap book.hold same ∙ is.held;

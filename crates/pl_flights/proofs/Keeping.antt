@@ -1,6 +1,9 @@
 -- What the journal says of a frame stays when entries follow that do not name it.
-use Rattle.std.proofs.Common.{◌≡◌, ℕ, ◌==◌, Bool, true, false, List, ◌∷◌, Some, refl, sym, ◌∙◌, subst}
+use Rattle.std.proofs.Common.{◌≡◌, ℕ, ◌==◌, Bool, true, false, List, ◌∷◌, Some, refl, sym, ◌∙◌, ap, subst}
+use Rattle.pl_frame.specs.Ethernet.{source_of}
+use Rattle.pl_pmac.specs.Pmac.{pmac_number}
 use Rattle.pl_layouts.specs.declared.place.Place.{Place}
+use Rattle.pl_layouts.specs.Frames.{mac_number}
 use Rattle.pl_wiring.specs.declared.link.Peer.{Peer}
 use Rattle.pl_wiring.specs.declared.link.Peer.TheVariants.{HostPort, Switch}
 use Rattle.pl_wiring.specs.Index.{port_index}
@@ -9,9 +12,10 @@ use Rattle.pl_wiring.specs.Plan.{Plan}
 use Rattle.pl_journal.specs.declared.entry.Entry.{Entry}
 use Rattle.pl_journal.specs.declared.entry.Entry.TheVariants.{Copied, Crossed, Granted, LinkDown, Made, Redirected, Sent}
 use Rattle.pl_journal.specs.Flights.{Flight, flight_of, was_live}
-use Rattle.pl_journal.specs.Places.{Spot}
+use Rattle.pl_journal.specs.Places.{Spot, at_port, is_at}
 use Rattle.pl_world.specs.declared.item.Item.{Item}
-use Rattle.pl_flights.specs.OnTheWay.{Book, Flying, IsBetween, IsGoing, IsLeaving, IsOut, IsWaiting, book_of}
+use Rattle.pl_flights.proofs.PmacNumbers.{number_of_mac}
+use Rattle.pl_flights.specs.OnTheWay.{Book, Flying, IsBetween, IsForMany, IsGoing, IsLeaving, IsOut, IsWaiting, book_of}
 use Rattle.pl_flights.proofs.Counting.{IsNowhere, all_kept, not_in_one}
 
 -- of one frame, the same is said later, and the links that were live are
@@ -51,15 +55,26 @@ pub kept_twice : (plan : Plan) (past later last : List Entry) (g : ℕ) → Keep
 kept_twice plan past later last g one next = record { flight = next.flight ∙ one.flight; live = λ a b live. next.live a b (one.live a b live) }
 
 module _ (plan : Plan) (place : ℕ → Place) where
-  pub between_kept : (f g : Flight) (live later : Bool) (frame : List ℕ) (s t : ℕ) → g ≡ f → (live ≡ true → later ≡ true) →
-      IsBetween plan place f live frame s t → IsBetween plan place g later frame s t
-  between_kept f g live later frame s t same more b = subst (λ h. IsBetween plan place h later frame s t) (sym same) (record {
+  many_kept : (book later : Book) (f : Flight) (frame : List ℕ) → KeepsBook book later → IsForMany book f frame → IsForMany later f frame
+  many_kept book later f frame keeps m = record {
+    leg = m.leg;
+    unaltered = m.unaltered;
+    from = m.from;
+    fits = m.fits;
+    source = m.source;
+    there = m.there;
+    granted = keeps.there (pmac_number m.from) m.there m.granted;
+  }
+
+  pub between_kept : (book after : Book) (f g : Flight) (live later : Bool) (frame : List ℕ) (s t : ℕ) → g ≡ f → (live ≡ true → later ≡ true) →
+      KeepsBook book after → IsBetween plan place book f live frame s t → IsBetween plan place after g later frame s t
+  between_kept book after f g live later frame s t same more keeps b = subst (λ h. IsBetween plan place after h later frame s t) (sym same) (record {
     last = b.last;
     group = b.group;
     kept = b.kept;
     address = b.address;
     home = b.home;
-    many = b.many;
+    many = λ group. many_kept book after f frame keeps (b.many group);
     one = λ unicast. let w = b.one unicast in record { route = w.route; whole = more w.whole; unaltered = w.unaltered };
   })
 
@@ -70,7 +85,13 @@ module _ (plan : Plan) (place : ℕ → Place) where
     group = b.group;
     kept = b.kept;
     home = b.home;
-    many = b.many;
+    many = λ group. many_kept book later f frame more (b.many group);
+    not_back = λ group.
+        let m = b.many group in
+        let n : mac_number (source_of frame) ≡ pmac_number m.from = ap mac_number m.source ∙ number_of_mac m.from m.fits in
+        let was : book.spots (mac_number (source_of frame)) ≡ Some m.there = ap book.spots n ∙ m.granted in
+        let is : later.spots (mac_number (source_of frame)) ≡ Some m.there = ap later.spots n ∙ more.there (pmac_number m.from) m.there m.granted in
+        ap (λ o. is_at o (at_port s port)) (is ∙ sym was) ∙ b.not_back group;
     one = λ unicast. let w = b.one unicast in record {
       host = w.host;
       held = more.held f.address w.host w.held;
@@ -84,7 +105,7 @@ module _ (plan : Plan) (place : ℕ → Place) where
   pub going_kept : (past later : List Entry) (s port : ℕ) (peer : Peer) (g : ℕ) (frame : List ℕ) → Keeps plan past later g →
       KeepsBook (book_of past) (book_of later) → IsGoing plan place past s port peer g frame → IsGoing plan place later s port peer g frame
   going_kept past later s port (Switch t q) g frame keeps book is =
-      between_kept (flight_of plan past g) (flight_of plan later g) _ _ frame s t.0 keeps.flight (keeps.live s t.0) is
+      between_kept (book_of past) (book_of later) (flight_of plan past g) (flight_of plan later g) _ _ frame s t.0 keeps.flight (keeps.live s t.0) book is
   going_kept past later s port HostPort g frame keeps book is =
       leaving_kept (book_of past) (book_of later) (flight_of plan past g) (flight_of plan later g) frame s port keeps.flight book is
 

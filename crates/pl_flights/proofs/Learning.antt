@@ -1,7 +1,7 @@
 -- What an edge switch knows of addresses stays so when it learns a host's IPv4 address, or grants the next one.
 use Rattle.std.proofs.Common.{◌≡◌, ◌≢◌, ℕ, zero, suc, ◌+◌, ◌-◌, ◌<◌, ◌==◌, ◌&&◌, Bool, true, false, cond, inl, inr, List, [], ◌∷◌, ◌++◌, length, Option, None, Some, get_or, set, is_some, slice_get, refl, sym, ◌∙◌, ap, ap₂, subst, arith, get_or-set_same}
 use Rattle.std.specs.List.{position_from}
-use Rattle.std.proofs.lemmas.Bool.{and_from, cond-false, cond-true, cond_both, eq-eqb, cases_Bool, false≢true, ne_eqb}
+use Rattle.std.proofs.lemmas.Bool.{and_from, cond-false, cond-true, cond_both, eq-eqb, eqb-true, cases_Bool, false≢true, ne_eqb}
 use Rattle.std.proofs.lemmas.Option.{none-some, same_Some}
 use Rattle.pl_frame.specs.declared.address.Ip4.{Ip4}
 use Rattle.pl_frame.specs.declared.address.Mac.{Mac}
@@ -18,7 +18,7 @@ use Rattle.pl_layouts.specs.Memberships.{is_group}
 use Rattle.pl_journal.specs.declared.entry.Entry.{Entry}
 use Rattle.pl_journal.specs.declared.entry.Entry.TheVariants.{Granted}
 use Rattle.pl_journal.specs.Lossy.{IsNewer, mac_of_host}
-use Rattle.pl_journal.specs.Places.{at_port, holder, spot}
+use Rattle.pl_journal.specs.Places.{Spot, at_port, holder, spot}
 use Rattle.pl_core.specs.declared.switch_records.Grant.{Grant}
 use Rattle.pl_core.specs.declared.trap.Trap.{Trap}
 use Rattle.pl_core.specs.SwitchViews.{SwitchView}
@@ -102,6 +102,7 @@ knows_agreed plan book t v w a knows = record {
       let was = a.some y some.0 some.1 in
       knows.trapped y trap (ap grant_trap was.1 ∙ was.3 ∙ some.2);
   pods = λ n is. knows.pods n (sym a.pod ∙ is);
+  back = λ y port fits is. let b = knows.back y port fits is in (a.local y ∙ b.0, b.1);
 }
 
 pub agrees_itself : (v : SwitchView) → AgreesWith v v
@@ -254,7 +255,20 @@ module _ (plan : Plan) (past : List Entry) (t : ℕ) (v : SwitchView) (port h : 
               }
         ];
         pods = knows.pods;
+        back = λ y p fits is. elim (cases_Bool (n == pmac_number y)) [
+          | inl same ↦
+              let it : y ≡ next = numbers_apart y next fits may.fits (sym (eqb-true n (pmac_number y) same)) in
+              let at : at_port t port ≡ at_port t p =
+              same_Some (at_port t port) (at_port t p) (sym (cond-true (n == pmac_number y) (Some (at_port t port)) (spot past (pmac_number y)) same) ∙ is) in
+              (ap (λ z. is_local v z) it ∙ here, ap (λ (z : Pmac). z.port) it ∙ ap (λ (a : Spot). a.port) at)
+          | inr other ↦ knows.back y p fits (sym (cond-false (n == pmac_number y) (Some (at_port t port)) (spot past (pmac_number y)) other) ∙ is)
+        ];
       }
+
+  pub next_granted : granted (with_grants v port (grants_at v port ++ new_grant mac ip ∷ [])) (address_at_port v port (length (grants_at v port) + 1)) ≡ Some (new_grant mac ip)
+  next_granted =
+      now_at v (address_at_port v port (length (grants_at v port) + 1)) (grants_at v port ++ new_grant mac ip ∷ []) within
+      (local_here v port (length (grants_at v port) + 1) settled) ∙ number_push_same (grants_at v port) (new_grant mac ip)
 
   pub next_in_use : in_use (grants_at v port) mac ≡ None →
       in_use (grants_at (with_grants v port (grants_at v port ++ new_grant mac ip ∷ [])) port) mac ≡ Some (length (grants_at v port) + 1)

@@ -37,7 +37,8 @@ module _ (place : ℕ → Place) (s : ℕ) (w : WorldView) (past : List Entry) w
   goes id port f frame (Switch t q) peer live t0 flight since may =
       let flag : not (is_live_at w.links s port) ≡ false = sym (live_link w past s port (Switch t q) peer) ∙ live in
       let on : not (is_failed past s t.0) ≡ true = sym (t0.links_agree s port t q peer) ∙ not-false (is_live_at w.links s port) flag in
-      between_kept w.plan place f (flight_of w.plan past id) true (was_live past id s t.0) frame s t.0 flight (λ h. since t.0 ∙ on) may
+      between_kept w.plan place (book_of past) (book_of past) f (flight_of w.plan past id) true (was_live past id s t.0) frame s t.0 flight (λ h. since t.0 ∙ on)
+      (same_book (book_of past)) may
   goes id port f frame HostPort peer live t0 flight since may =
       leaving_kept w.plan place (book_of past) (book_of past) f (flight_of w.plan past id) frame s port flight (same_book (book_of past)) may
 

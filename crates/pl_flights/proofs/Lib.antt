@@ -42,3 +42,4 @@ pub mod Hosts
 pub mod FromHosts
 pub mod Remembering
 pub mod BecomingPlaced
+pub mod PmacNumbers

@@ -171,9 +171,10 @@ module _ (w : WorldView) (counted : IsCounted w) (told : IsTold w) (on : StandsO
       let so = sound w counted in
       let is_plan = so.rest.is_plan in
       let f : Flight = flight_of w.plan past id in
-      let b : IsBetween w.plan place f (was_live past id s t.0) frame s t.0 =
+      let b : IsBetween w.plan place (book_of past) f (was_live past id s t.0) frame s t.0 =
       subst (λ (p : Peer). IsGoing w.plan place past s port p id frame) peer took.going in
-      let live : IsBetween w.plan place f true frame s t.0 = between_kept w.plan place f f (was_live past id s t.0) true frame s t.0 refl (λ h. refl) b in
+      let live : IsBetween w.plan place (book_of past) f true frame s t.0 =
+      between_kept w.plan place (book_of past) (book_of past) f f (was_live past id s t.0) true frame s t.0 refl (λ h. refl) (same_book (book_of past)) b in
       let away : IsNowhere w.from_hosts w1.out id = record { not_at_hosts = took.flies.not_at_hosts; not_out = took.flies.not_out } in
       let t1 = note w.plan place past w.links w.stands w.from_hosts w1.out (Crossed id t) id away (λ g other. kept w.plan past (Crossed id t) g other)
       (same_book (book_of past)) (took.flies.flies)
@@ -203,7 +204,7 @@ module _ (w : WorldView) (counted : IsCounted w) (told : IsTold w) (on : StandsO
       let same : w.switches ≡ new.switches = sym (turn_switches Loose accounts _ t.0 _ _ new turn
       ∙ ap (λ x. set w.switches t.0 x) same_view ∙ set_found w.switches t.0 v turn.found) in
       let good : GoodActs w.plan place (book_of past) t.0 (comes_from_switch loose.choose v q frame).acts (Waits (crossed_at t.0 f) false) =
-      forward_good w.plan place (book_of past) t.0 v is_plan on.places (on.neighbours t.0 v turn.found) s q port back f frame live loose.choose loose.is_choice
+      forward_good w.plan place (book_of past) t.0 v is_plan on.places (on.neighbours t.0 v turn.found) (on.addresses t.0 v turn.found) s q port back f frame live loose.choose loose.is_choice
       (home v loose.choose turn.found loose.is_choice) in
       let acts : turn.acts ≡ (comes_from_switch loose.choose v q frame).acts = loose.steps.done ∙ ap (λ (x : SwitchStep). x.acts) step in
       let good_there : GoodActs w.plan place (book_of now) t.0 turn.acts (Waits (crossed_at t.0 f) false) =

@@ -29,7 +29,8 @@ use Rattle.pl_flights.specs.OnTheWay.{Book, CameInPlaced, WillBeUnaltered}
 use Rattle.pl_flights.specs.Standing.{KnowsAddresses, KnowsNeighbours, KnowsPlaces, LeadsOn}
 use Rattle.pl_flights.proofs.Hands.{GoodActs, Hand, MayTurn, turned}
 use Rattle.pl_flights.proofs.Hands.Hand.{Waits}
-use Rattle.pl_flights.proofs.HomeActs.{IsHere, delivers_good, destination_is, goes_on_good, number_in, number_of_destination}
+use Rattle.pl_flights.proofs.HomeActs.{IsHere, delivers_good, destination_is, goes_on_good, number_of_destination}
+use Rattle.pl_flights.proofs.PmacNumbers.{number_of_mac}
 
 module _ (frame : List ℕ) (to m : Mac) (six_to : length to.0 ≡ 6) (six : length m.0 ≡ 6) (long : 14 ≤ length frame) where
   abbrev sent : List ℕ
@@ -67,10 +68,6 @@ module _ (frame : List ℕ) (to m : Mac) (six_to : length to.0 ≡ 6) (six : len
             ∙ ap (λ b. m.0 ++ (take 6 (drop 6 frame) ++ b)) (later 6)
             ∙ sym (arriving_unreadable frame None (Some m) long unreadable tt six)
       ]
-
--- a pseudo address in six bytes
-pub number_of_mac : (x : Pmac) → Fits x → mac_number (mac_of x) ≡ pmac_number x
-number_of_mac x fits = sym (number_in (mac_number (mac_of x))) ∙ ap pmac_number (pmac_of-mac_of x fits)
 
 newer_found : (trap next : Trap) (o : Option Trap) → if_newer trap o ≡ Some next → o ≡ Some next
 newer_found trap next None is = absurd (cc)

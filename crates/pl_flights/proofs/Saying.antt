@@ -1,16 +1,22 @@
 -- The manager speaks to a switch.
-use Rattle.std.proofs.Common.{◌≡◌, ℕ, ◌≤◌, ◌==◌, ◌&&◌, not, Bool, true, false, if◌then◌else◌, List, [], ◌∷◌, length, map, Option, None, Some, refl, sym, ◌∙◌, ap, subst}
+use Rattle.std.proofs.Common.{◌≡◌, ℕ, ◌≤◌, ◌==◌, ◌&&◌, not, Bool, true, false, if◌then◌else◌, List, [], ◌∷◌, ◌++◌, length, map, take, Option, None, Some, refl, sym, ◌∙◌, ap, subst}
+use Rattle.std.specs.List.{AllByRecursion}
 use Rattle.std.proofs.lemmas.Bool.{both_ways}
+use Rattle.byteorder.specs.Endian.{big_bytes}
+use Rattle.pl_frame.specs.declared.address.Mac.{Mac}
+use Rattle.pl_frame.proofs.Fields.{front_of, rest_of}
+use Rattle.pl_arp.specs.declared.packet.Arp.{Arp}
+use Rattle.pl_arp.specs.Packet.{layout}
 use Rattle.pl_frame.specs.declared.address.Ip4.{Ip4}
-use Rattle.pl_frame.specs.Ethernet.{destination_of}
+use Rattle.pl_frame.specs.Ethernet.{destination_of, source_of}
 use Rattle.pl_pmac.specs.declared.pmac.Pmac.{Pmac}
-use Rattle.pl_pmac.specs.Pmac.{mac_of, pmac_number}
+use Rattle.pl_pmac.specs.Pmac.{mac_of, pmac_number, pmac_of}
 use Rattle.pl_wiring.specs.declared.link.Peer.{Peer}
 use Rattle.pl_wiring.specs.declared.link.Peer.TheVariants.{HostPort, Switch}
 use Rattle.pl_wiring.specs.Peers.{peer_of}
 use Rattle.pl_wiring.specs.Plan.{IsPlan, Plan}
 use Rattle.pl_layouts.specs.declared.place.Place.{Place}
-use Rattle.pl_layouts.specs.ArpFrames.{broadcast}
+use Rattle.pl_layouts.specs.ArpFrames.{arp_frame, broadcast}
 use Rattle.pl_layouts.specs.Frames.{arriving, mac_number}
 use Rattle.pl_layouts.specs.Memberships.{flood, group_of, is_group}
 use Rattle.pl_layouts.proofs.Arrived.{destination_of-arriving}
@@ -18,6 +24,7 @@ use Rattle.pl_journal.specs.declared.cause.Cause.{Cause}
 use Rattle.pl_journal.specs.declared.cause.Cause.TheVariants as cause
 use Rattle.pl_journal.specs.Causes.{is_routed}
 use Rattle.pl_journal.specs.Flights.{Flight, first_of}
+use Rattle.pl_journal.specs.Places.{at_port}
 use Rattle.pl_core.specs.declared.acts.Act.TheVariants as act
 use Rattle.pl_core.specs.declared.switch_records.Grant.{Grant}
 use Rattle.pl_core.specs.SwitchViews.{SwitchView}
@@ -26,7 +33,7 @@ use Rattle.pl_switch_rule.specs.declared.came.Came.TheVariants.{FromHost}
 use Rattle.pl_switch_rule.specs.Delivering.{makes}
 use Rattle.pl_switch_rule.specs.Forwarding.{Choice}
 use Rattle.pl_switch_rule.specs.Granting.{grant_number, granted, grants_at, is_local}
-use Rattle.pl_switch_rule.specs.GroupForwarding.{destination_group, forwards_group, passes_or_drops}
+use Rattle.pl_switch_rule.specs.GroupForwarding.{destination_group, forwards_group, passes_or_drops, way_of}
 use Rattle.pl_switch_rule.specs.Messages.{answer_frame, flood_frame, floods, probe_frame}
 use Rattle.pl_switch_rule.specs.SwitchRule.{IsChoice}
 use Rattle.pl_switch_rule.proofs.CausesHere.{destination_of-arp_frame}
@@ -34,23 +41,24 @@ use Rattle.pl_switch_rule.proofs.DataFrames.{arp_frame_made}
 use Rattle.pl_flights.specs.OnTheWay.{Book, CameInPlaced, IsForMany, IsLeaving}
 use Rattle.pl_flights.specs.Standing.{IsGranted, KnowsAddresses, KnowsNeighbours, KnowsPlaces}
 use Rattle.pl_flights.proofs.AtHome.{begins_good, local_is_placed}
-use Rattle.pl_flights.proofs.ForwardActs.{not_is_true, routed_group}
+use Rattle.pl_flights.proofs.ForwardActs.{MayReach, group_ports_reach, not_is_true, reaches_host, routed_group}
 use Rattle.pl_flights.proofs.Hands.{GoodActs, MayEnd, MayLeave, made_here}
 use Rattle.pl_flights.proofs.Hands.Hand.{Empty, Spreads, Waits}
-use Rattle.pl_flights.proofs.Redirects.{number_of_mac}
+use Rattle.pl_flights.proofs.PmacNumbers.{number_of_mac}
 
 -- A frame of a group in hand at switch t, as it was begun.
-pub record IsSpreading (place : ℕ → Place) (t : ℕ) (f : Flight) (frame : List ℕ) : Type 0 where
+pub record IsSpreading (place : ℕ → Place) (book : Book) (t : ℕ) (f : Flight) (frame : List ℕ) : Type 0 where
   pub last : first_of f.trail ≡ Some t
   pub group : is_group (destination_of frame) ≡ true
   pub kept : destination_of f.beginning ≡ destination_of frame
   pub address : f.address ≡ mac_number (destination_of frame)
   pub home : CameInPlaced place f.came_in
-  pub many : IsForMany f frame
+  pub many : IsForMany book f frame
 
-module _ (plan : Plan) (place : ℕ → Place) (book : Book) (t : ℕ) (v : SwitchView) (f : Flight) (frame : List ℕ) (here : IsSpreading place t f frame) where
-  spread : (p : ℕ) (peer : Peer) → MayLeave plan place book t p peer f frame
-  spread p (Switch u r) = record {
+module _ (plan : Plan) (place : ℕ → Place) (book : Book) (t : ℕ) (v : SwitchView) (f : Flight) (frame : List ℕ) (here : IsSpreading place book t f frame)
+    (neighbours : KnowsNeighbours plan place t v) (knows : KnowsAddresses plan book t v) where
+  spread : (p : ℕ) (peer : Peer) → peer_of plan t p ≡ peer → MayReach v (pmac_of (source_of frame)) p → MayLeave plan place book t p peer f frame
+  spread p (Switch u r) is may = record {
     last = here.last;
     group = ap is_group here.kept;
     kept = λ group. here.kept;
@@ -59,8 +67,9 @@ module _ (plan : Plan) (place : ℕ → Place) (book : Book) (t : ℕ) (v : Swit
     many = λ group. here.many;
     one = λ unicast. absurd (both_ways (is_group (destination_of frame)) unicast here.group);
   }
-  spread p HostPort = record {
+  spread p HostPort is may = record {
     last = here.last;
+    not_back = λ many. reaches_host plan place book t v neighbours knows frame p here.many.from here.many.fits here.many.source here.many.there here.many.granted is may;
     group = ap is_group here.kept;
     kept = λ group. here.kept;
     home = here.home;
@@ -68,9 +77,10 @@ module _ (plan : Plan) (place : ℕ → Place) (book : Book) (t : ℕ) (v : Swit
     one = λ unicast. absurd (both_ways (is_group (destination_of frame)) unicast here.group);
   }
 
-  spreads_on : (ports : List ℕ) → GoodActs plan place book t (map (λ p. act.Pass p frame) ports) (Spreads f)
-  spreads_on [] = tt
-  spreads_on (p ∷ ports) = (ap is_group here.kept ∙ here.group, spread p (peer_of plan t p), spreads_on ports)
+  spreads_on : (ports : List ℕ) → AllByRecursion (MayReach v (pmac_of (source_of frame))) ports →
+      GoodActs plan place book t (map (λ p. act.Pass p frame) ports) (Spreads f)
+  spreads_on [] may = tt
+  spreads_on (p ∷ ports) may = (ap is_group here.kept ∙ here.group, spread p (peer_of plan t p) refl may.0, spreads_on ports may.1)
 
   none_shown : (routed part : Bool) → routed ≡ not (destination_group frame == flood) →
       MayEnd book f (if routed && part then cause.NoMember else cause.NoNextHop)
@@ -80,13 +90,22 @@ module _ (plan : Plan) (place : ℕ → Place) (book : Book) (t : ℕ) (v : Swit
       let other : (destination_group frame == flood) ≡ false = not_is_true (destination_group frame == flood) (sym is) in
       ap (λ d. is_routed (group_of d)) here.kept ∙ routed_group (group_of (destination_of frame)) other
 
-  passes_all : (ports : List ℕ) (why : Cause) (again : Bool) → MayEnd book f why → GoodActs plan place book t (passes_or_drops ports frame why) (Waits f again)
-  passes_all [] why again may = (may, tt)
-  passes_all (p ∷ ports) why again may = (spread p (peer_of plan t p), spreads_on ports)
+  passes_all : (ports : List ℕ) (why : Cause) (again : Bool) → AllByRecursion (MayReach v (pmac_of (source_of frame))) ports → MayEnd book f why →
+      GoodActs plan place book t (passes_or_drops ports frame why) (Waits f again)
+  passes_all [] why again reach may = (may, tt)
+  passes_all (p ∷ ports) why again reach may = (spread p (peer_of plan t p) refl reach.0, spreads_on ports reach.1)
 
   -- a frame of a group goes out, wherever it came from
   pub spreads_good : (came : Option Came) (again : Bool) → GoodActs plan place book t (forwards_group v came frame).acts (Waits f again)
-  spreads_good came again = passes_all _ _ again (none_shown (not (destination_group frame == flood)) _ refl)
+  spreads_good came again = passes_all _ _ again (group_ports_reach v (way_of v.place came) (destination_group frame) (pmac_of (source_of frame))) (none_shown (not (destination_group frame == flood)) _ refl)
+
+-- the sender of an ARP packet is the source of its frame
+source_of-arp_frame : (to : Mac) (a : Arp) → length to.0 ≡ 6 → length a.sha.0 ≡ 6 → source_of (arp_frame to a) ≡ a.sha
+unfolding arp_frame
+source_of-arp_frame to a six six_sha =
+    let rest : List ℕ = big_bytes 2 0x0806 ++ layout a in
+    ap (λ r. let m : Mac = record { 0 = take 6 r } in m) (rest_of 6 to.0 (a.sha.0 ++ rest) six)
+    ∙ ap (λ front. let m : Mac = record { 0 = front } in m) (front_of 6 a.sha.0 rest six_sha)
 
 granted_is_local : (v : SwitchView) (x : Pmac) (grant : Grant) → granted v x ≡ Some grant → is_local v x ≡ true
 granted_is_local v x grant found = true_from (is_local v x) (grant_number (grants_at v x.port) x.vmid) found
@@ -108,11 +127,20 @@ module _ (plan : Plan) (place : ℕ → Place) (book : Book) (t : ℕ) (v : Swit
       ((arp_frame_made (mac_of asker) _ refl refl refl).whole.low)
 
   -- the request to all hosts
-  pub flood_good : (asker : Pmac) (asker_ip ip : Ip4) → GoodActs plan place book t (floods v (flood_frame asker asker_ip ip)).acts Empty
-  flood_good asker asker_ip ip = λ root.
+  pub flood_good : (asker : Pmac) (asker_ip ip : Ip4) (grant : Grant) → granted v asker ≡ Some grant → GoodActs plan place book t (floods v (flood_frame asker asker_ip ip)).acts Empty
+  flood_good asker asker_ip ip grant found = λ root.
+      let x : IsGranted plan book t asker grant = knows.granted_here asker grant found in
       let to : destination_of (flood_frame asker asker_ip ip) ≡ broadcast = destination_of-arp_frame broadcast _ refl in
       spreads_good plan place book t v (made_here root t (flood_frame asker asker_ip ip)) (flood_frame asker asker_ip ip)
-      (record { last = refl; group = ap is_group to; kept = refl; address = refl; home = λ there is. absurd (cc); many = record { leg = refl; unaltered = refl } }) (Some FromHost) false
+      (record { last = refl; group = ap is_group to; kept = refl; address = refl; home = λ there is. absurd (cc); many = record {
+        leg = refl;
+        unaltered = refl;
+        from = asker;
+        fits = x.fits;
+        source = source_of-arp_frame broadcast _ refl refl;
+        there = at_port t asker.port;
+        granted = x.there;
+      } }) neighbours knows (Some FromHost) false
 
   -- the request to a host that may still stand at an old address
   pub probe_good : (old : Pmac) (ip : Ip4) (grant : Grant) → granted v old ≡ Some grant →
@@ -133,6 +161,7 @@ module _ (plan : Plan) (place : ℕ → Place) (book : Book) (t : ℕ) (v : Swit
         kept = λ group. absurd (both_ways (is_group (destination_of (arriving probe None (Some grant.amac)))) one_host group);
         home = λ there is. absurd (cc);
         many = λ group. absurd (both_ways (is_group (destination_of (arriving probe None (Some grant.amac)))) one_host group);
+        not_back = λ group. absurd (both_ways (is_group (destination_of (arriving probe None (Some grant.amac)))) one_host group);
         one = λ unicast. record {
           host = x.host;
           held = ap book.hold same ∙ x.held;

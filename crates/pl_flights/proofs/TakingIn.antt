@@ -19,8 +19,10 @@ use Rattle.pl_layouts.proofs.Arrived.{destination_of-arriving, length-arriving, 
 use Rattle.pl_journal.specs.Causes.{is_bad_arp}
 use Rattle.pl_journal.specs.Flights.{Flight, first_of}
 use Rattle.pl_journal.specs.Lossy.{UnalteredFrom}
+use Rattle.pl_journal.specs.Places.{at_port}
 use Rattle.pl_core.specs.declared.acts.Act.{Act}
 use Rattle.pl_core.specs.declared.acts.Act.TheVariants as act
+use Rattle.pl_core.specs.declared.switch_records.Grant.{Grant}
 use Rattle.pl_core.specs.SwitchViews.{SwitchView}
 use Rattle.pl_steps.specs.Steps.{SwitchStep}
 use Rattle.pl_switch_rule.specs.declared.came.Came.TheVariants.{FromHost}
@@ -31,7 +33,7 @@ use Rattle.pl_switch_rule.specs.GroupForwarding.{forwards_group}
 use Rattle.pl_switch_rule.specs.Intake.{asks_manager, changes_member, groups_told, hears_members, is_for_switch, packet_acts, query, sends_in, source_pmac, takes, takes_in, with_pmac}
 use Rattle.pl_switch_rule.specs.SwitchRule.{IsChoice}
 use Rattle.pl_flights.specs.OnTheWay.{Book, CameInPlaced, WillBeUnaltered}
-use Rattle.pl_flights.specs.Standing.{KnowsAddresses, KnowsNeighbours, KnowsPlaces}
+use Rattle.pl_flights.specs.Standing.{IsGranted, KnowsAddresses, KnowsNeighbours, KnowsPlaces}
 use Rattle.pl_flights.proofs.AtHome.{arrives_good}
 use Rattle.pl_flights.proofs.FromManager.{silent_groups}
 use Rattle.pl_flights.proofs.Hands.{GoodActs, Hand, MayTake}
@@ -103,7 +105,7 @@ module _ (plan : Plan) (place : ℕ → Place) (book : Book) (t : ℕ) (v : Swit
 module _ (plan : Plan) (place : ℕ → Place) (book : Book) (t : ℕ) (v : SwitchView) (is_plan : IsPlan plan) (places : KnowsPlaces plan.k place)
     (neighbours : KnowsNeighbours plan place t v) (knows : KnowsAddresses plan book t v) (choose : Choice) (is : IsChoice choose)
     (level : v.place.level ≡ Some 0) (placed : is_placed v.place ≡ true) (frame : List ℕ) (f : Flight) (new : IsNew t f frame)
-    (home : CameInPlaced place f.came_in) (x : Pmac) (source : f.source ≡ Some x) (own : is_group (mac_of x) ≡ false) where
+    (home : CameInPlaced place f.came_in) (x : Pmac) (source : f.source ≡ Some x) (g : Grant) (it : IsGranted plan book t x g) where
   same_destination : destination_of (arriving frame (Some (mac_of x)) None) ≡ destination_of frame
   same_destination = destination_of-arriving frame (Some (mac_of x)) None new.long refl tt
 
@@ -152,10 +154,18 @@ module _ (plan : Plan) (place : ℕ → Place) (book : Book) (t : ℕ) (v : Swit
         kept = ap destination_of new.beginning ∙ sym same_destination;
         address = new.address ∙ ap mac_number (sym same_destination);
         home = home;
-        many = record { leg = new.alone ∙ sym new.once; unaltered = unaltered_group };
-      }) (Some FromHost) false)
+        many = record {
+          leg = new.alone ∙ sym new.once;
+          unaltered = unaltered_group;
+          from = x;
+          fits = it.fits;
+          source = source_of-arriving frame (Some (mac_of x)) None new.long refl tt;
+          there = at_port t x.port;
+          granted = it.there;
+        };
+      }) neighbours knows (Some FromHost) false)
       (λ unicast. cond_both (is_local v (destination frame2)) _ _ G
       (λ local. arrives_good plan place book t v is_plan places neighbours knows choose is level placed frame2 (here unicast).long
-      (ap is_group (source_of-arriving frame (Some (mac_of x)) None new.long refl tt) ∙ own) f false (here unicast) local)
+      (ap is_group (source_of-arriving frame (Some (mac_of x)) None new.long refl tt) ∙ it.own) f false (here unicast) local)
       (λ away. subst (λ acts. GoodActs plan place book t acts (Waits f false)) (append-nil (forwards choose v (Some FromHost) frame2).acts)
       (leaves_then plan place book t v is_plan places neighbours [] (λ hand. tt) choose is f false frame2 (here unicast) new.alone level placed away _ refl)))

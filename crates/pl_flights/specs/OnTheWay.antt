@@ -3,8 +3,9 @@ use Rattle.std.specs.Prelude.{◌≡◌, ◌<◌, ℕ, not, Bool, false, true, L
 use Rattle.std.specs.List.{AllByRecursion}
 use Rattle.std.specs.Option.{option_map}
 use Rattle.pl_frame.specs.declared.address.Mac.{Mac}
-use Rattle.pl_frame.specs.Ethernet.{destination_of}
-use Rattle.pl_pmac.specs.Pmac.{pmac_of}
+use Rattle.pl_frame.specs.Ethernet.{destination_of, source_of}
+use Rattle.pl_pmac.specs.declared.pmac.Pmac.{Pmac}
+use Rattle.pl_pmac.specs.Pmac.{Fits, mac_of, pmac_number, pmac_of}
 use Rattle.pl_wiring.specs.declared.label.SwitchNo.{SwitchNo}
 use Rattle.pl_wiring.specs.declared.link.Peer.{Peer}
 use Rattle.pl_wiring.specs.declared.link.Peer.TheVariants.{HostPort, Switch}
@@ -19,7 +20,7 @@ use Rattle.pl_layouts.specs.Placement.{is_placed, nowhere}
 use Rattle.pl_journal.specs.declared.entry.Entry.{Entry}
 use Rattle.pl_journal.specs.Flights.{Flight, first_flight, first_of, flight_of, was_live}
 use Rattle.pl_journal.specs.Lossy.{GoodTrailTo, RunTo, UnalteredFrom, mac_of_host}
-use Rattle.pl_journal.specs.Places.{Spot, at_port, holder, is_failed, is_spent, number, spot, spot_of}
+use Rattle.pl_journal.specs.Places.{Spot, at_port, holder, is_at, is_failed, is_spent, number, spot, spot_of}
 use Rattle.pl_core.specs.SwitchViews.{SwitchView}
 use Rattle.pl_queues.specs.Queues.{items_at}
 use Rattle.pl_world.specs.declared.item.Item.{Item}
@@ -50,21 +51,6 @@ pub record IsOnWay (plan : Plan) (place : ℕ → Place) (f : Flight) (live : Bo
   pub whole : live ≡ true
   pub unaltered : WillBeUnaltered f frame
 
--- a frame of a group crossed on one leg all that it crossed, and no byte differs but its source's
-pub record IsForMany (f : Flight) (frame : List ℕ) : Type 0 where
-  pub leg : f.leg ≡ f.trail
-  pub unaltered : UnalteredFrom f.sender f.source f.beginning None frame
-
--- a frame is between two switches: it crossed the first one last, and carries its present address
-pub record IsBetween (plan : Plan) (place : ℕ → Place) (f : Flight) (live : Bool) (frame : List ℕ) (s t : ℕ) : Type 0 where
-  pub last : first_of f.trail ≡ Some s
-  pub group : is_group (destination_of f.beginning) ≡ is_group (destination_of frame)
-  pub kept : is_group (destination_of frame) ≡ true → destination_of f.beginning ≡ destination_of frame
-  pub address : f.address ≡ mac_number (destination_of frame)
-  pub home : CameInPlaced place f.came_in
-  pub many : is_group (destination_of frame) ≡ true → IsForMany f frame
-  pub one : is_group (destination_of frame) ≡ false → IsOnWay plan place f live frame s t
-
 -- what was granted and numbered: who holds an address, the port where it was granted, its number, and which ports have no vmid left
 pub record Book : Type 0 where
   pub hold : ℕ → Option ℕ
@@ -75,6 +61,26 @@ pub record Book : Type 0 where
 abbrev pub book_of : List Entry → Book
 book_of past = record { hold = holder past; spots = spot past; numbers = number past; spent = is_spent past }
 
+-- A frame of a group crossed on one leg all that it crossed, and no byte differs but its source's. Its source is an address that was granted.
+pub record IsForMany (book : Book) (f : Flight) (frame : List ℕ) : Type 0 where
+  pub leg : f.leg ≡ f.trail
+  pub unaltered : UnalteredFrom f.sender f.source f.beginning None frame
+  pub from : Pmac
+  pub fits : Fits from
+  pub source : source_of frame ≡ mac_of from
+  pub there : Spot
+  pub granted : book.spots (pmac_number from) ≡ Some there
+
+-- a frame is between two switches: it crossed the first one last, and carries its present address
+pub record IsBetween (plan : Plan) (place : ℕ → Place) (book : Book) (f : Flight) (live : Bool) (frame : List ℕ) (s t : ℕ) : Type 0 where
+  pub last : first_of f.trail ≡ Some s
+  pub group : is_group (destination_of f.beginning) ≡ is_group (destination_of frame)
+  pub kept : is_group (destination_of frame) ≡ true → destination_of f.beginning ≡ destination_of frame
+  pub address : f.address ≡ mac_number (destination_of frame)
+  pub home : CameInPlaced place f.came_in
+  pub many : is_group (destination_of frame) ≡ true → IsForMany book f frame
+  pub one : is_group (destination_of frame) ≡ false → IsOnWay plan place f live frame s t
+
 -- a frame leaves by a port for the host that holds its present address, which was granted there
 pub record IsForHost (plan : Plan) (book : Book) (f : Flight) (frame : List ℕ) (s port : ℕ) : Type 0 where
   pub host : ℕ
@@ -84,13 +90,14 @@ pub record IsForHost (plan : Plan) (book : Book) (f : Flight) (frame : List ℕ)
   pub mac : mac_of_host plan host ≡ Some (destination_of frame)
   pub unaltered : UnalteredFrom f.sender f.source f.beginning (mac_of_host plan host) frame
 
--- a frame leaves by a host port of the switch that it crossed last
+-- a frame leaves by a host port of the switch that it crossed last, which is not the port of its source where it goes to a group
 pub record IsLeaving (plan : Plan) (place : ℕ → Place) (book : Book) (f : Flight) (frame : List ℕ) (s port : ℕ) : Type 0 where
   pub last : first_of f.trail ≡ Some s
   pub group : is_group (destination_of f.beginning) ≡ is_group (destination_of frame)
   pub kept : is_group (destination_of frame) ≡ true → destination_of f.beginning ≡ destination_of frame
   pub home : CameInPlaced place f.came_in
-  pub many : is_group (destination_of frame) ≡ true → IsForMany f frame
+  pub many : is_group (destination_of frame) ≡ true → IsForMany book f frame
+  pub not_back : is_group (destination_of frame) ≡ true → is_at (book.spots (mac_number (source_of frame))) (at_port s port) ≡ false
   pub one : is_group (destination_of frame) ≡ false → IsForHost plan book f frame s port
 
 -- what waits at a host is as it was sent
@@ -100,7 +107,7 @@ IsWaiting plan past h (Data id frame) = flight_of plan past id ≡ first_flight 
 
 -- what goes out of a port, by what is there
 abbrev pub IsGoing : Plan → (ℕ → Place) → List Entry → ℕ → ℕ → Peer → ℕ → List ℕ → Type 0
-IsGoing plan place past s port (Switch t q) id frame = IsBetween plan place (flight_of plan past id) (was_live past id s t.0) frame s t.0
+IsGoing plan place past s port (Switch t q) id frame = IsBetween plan place (book_of past) (flight_of plan past id) (was_live past id s t.0) frame s t.0
 IsGoing plan place past s port HostPort id frame = IsLeaving plan place (book_of past) (flight_of plan past id) frame s port
 
 abbrev pub IsOut : Plan → (ℕ → Place) → List Entry → ℕ → ℕ → Item → Type 0

@@ -75,6 +75,7 @@ pub record KnowsAddresses (plan : Plan) (book : Book) (t : ℕ) (v : SwitchView)
   pub not_granted : (x : Pmac) → Fits x → is_local v x ≡ true → granted v x ≡ None → book.hold (pmac_number x) ≡ None
   pub trapped : (x : Pmac) (trap : Trap) → trap_for v x ≡ Some trap → LeadsOn book x trap
   pub pods : (n : ℕ) → v.place.pod ≡ Some n → n < 2 ^ 16
+  pub back : (x : Pmac) (port : ℕ) → Fits x → book.spots (pmac_number x) ≡ Some (at_port t port) → (is_local v x ≡ true) × (x.port ≡ port)
 
 -- an address that may be granted next at the edge switch t
 pub record IsNext (past : List Entry) (t : ℕ) (x : Pmac) : Type 0 where

@@ -41,6 +41,7 @@ use Rattle.pl_world.specs.WorldRule.{ComesAtHost}
 use Rattle.pl_world.specs.Worlds.{WorldView}
 use Rattle.pl_world.proofs.Counts.{times_in-data}
 use Rattle.pl_world.proofs.StepBalances.{Sound, noted_owes, sound}
+use Rattle.pl_flights.specs.Given.{AreMembers, ComesFirst}
 use Rattle.pl_flights.specs.OnTheWay.{IsGoing, IsLeaving, IsTold, StandsAgree, Tells, book_of, place_in, spot_of_stand}
 use Rattle.pl_flights.proofs.HostTurns.{host_told}
 use Rattle.pl_flights.proofs.Keeping.{kept, same_book}
@@ -156,16 +157,6 @@ host_is plan g h m is at_g at_h = elim (cases_eq g h) [
         let first = host_there hosts a m at_a d in
         let second = host_there hosts b m at_b d in
         all a b d less second.0 (first.1 ∙ sym second.1)
-
--- What the part on groups gives: no frame of the same root arrived at the port before.
-abbrev pub ComesFirst : WorldView → ℕ → ℕ → ℕ → Type 0
-ComesFirst w s port id = root_arrived_at w.plan (reverse w.journal) (root (reverse w.journal) id) (at_port s port) ≡ false
-
--- a host that keeps a frame of a group is a member, by what is past
-abbrev pub AreMembers : HostRule → WorldView → Type 0
-AreMembers rule w = (h : ℕ) (before after : HostView) (acts : List HostAct) (frame : List ℕ) → slice_get w.hosts h ≡ Some before →
-    rule before (Receives frame) after acts (Received Kept) → is_group (destination_of frame) ≡ true →
-    is_member (reverse w.journal) h (group_of (destination_of frame)) ≡ true
 
 by_kind : (b : Bool) {P Q : Type 0} → (b ≡ true → P) → (b ≡ false → Q) → MatchBool b P Q
 by_kind true p q = p refl

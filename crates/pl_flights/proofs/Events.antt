@@ -1,5 +1,5 @@
--- Each event but those at which addresses may be granted keeps what is told; what these, the groups and the manager's numbers give is a premise.
-use Rattle.std.proofs.Common.{inl, inr, ◌≡◌, ℕ, ◌<◌, ◌==◌, ◌&&◌, not, nat_lt, Bool, true, false, if◌then◌else◌, List, [], ◌∷◌, Option, None, Some, reverse, set, slice_get, refl, sym, ◌∙◌, ap, subst}
+-- Each event keeps what is told, and so each step.
+use Rattle.std.proofs.Common.{inl, inr, ◌≡◌, ℕ, ◌+◌, ◌<◌, ◌==◌, ◌&&◌, not, nat_lt, Bool, true, false, if◌then◌else◌, List, [], ◌∷◌, Option, None, Some, reverse, set, slice_get, refl, sym, ◌∙◌, ap, subst}
 use Rattle.std.proofs.lemmas.Bool.{and_parts, cases_Bool, cond-true, ltb-true}
 use Rattle.std.proofs.lemmas.Option.{slice_get_within}
 use Rattle.pl_wiring.specs.declared.label.SwitchNo.{SwitchNo}
@@ -26,6 +26,7 @@ use Rattle.pl_layouts.specs.Control.{control_in, is_control}
 use Rattle.pl_core.specs.SwitchViews.{SwitchView}
 use Rattle.pl_steps.specs.Steps.{SwitchStep}
 use Rattle.pl_switch_rule.specs.Levels.{has_become_placed, with_pod}
+use Rattle.pl_switch_rule.proofs.AccountedSteps.{loose_steps_are_accounted}
 use Rattle.pl_switch_rule.specs.SwitchRule.{Loose, control_comes, data_comes, switch_step}
 use Rattle.pl_world.specs.declared.error.StepError.TheVariants.{AlreadySo, NoSuch, Occupied}
 use Rattle.pl_world.specs.declared.event.Event.{Event}
@@ -39,15 +40,16 @@ use Rattle.pl_world.specs.declared.stand.Stand.{Stand}
 use Rattle.pl_world.specs.Changes.{host_at, out_of, receiver}
 use Rattle.pl_world.specs.Flying.{IsCounted, IsFrame}
 use Rattle.pl_world.specs.LinksAndMoves.{joins, link_between, link_failed}
-use Rattle.pl_world.specs.Refusals.{has_host, has_port, has_switch, is_for_hosts, is_linked, refusal_of_event, refusal_of_link, refusal_of_move, refusal_of_place, refusal_of_queue}
-use Rattle.pl_world.specs.WorldRule.{ComesOver, Delivers, DeliversFromManager, DeliversOut, DeliversToManager, Fails, Goes, Happens, IsRepaired, Loses, ManagerTurn, SwitchTurn}
+use Rattle.pl_world.specs.Refusals.{refusal, has_host, has_port, has_switch, is_for_hosts, is_linked, refusal_of_event, refusal_of_link, refusal_of_move, refusal_of_place, refusal_of_queue}
+use Rattle.pl_world.specs.WorldRule.{ComesOver, Delivers, DeliversFromManager, DeliversOut, DeliversToManager, Fails, Goes, Happens, IsRepaired, Loses, ManagerTurn, SwitchTurn, WorldStep}
 use Rattle.pl_world.specs.Worlds.{WorldView}
 use Rattle.pl_world.proofs.Balances.{head_is_item}
 use Rattle.pl_world.proofs.Counts.{all_found}
-use Rattle.pl_world.proofs.StepBalances.{counted as to_counted, fails, found_contained, sound}
-use Rattle.pl_flights.specs.OnTheWay.{IsTold, place_in}
-use Rattle.pl_flights.specs.Standing.{FirstAddresses, IsMore, StandsOn, StandsOnHosts}
-use Rattle.pl_flights.proofs.Arriving.{AreMembers, ComesFirst, comes_out_told}
+use Rattle.pl_world.proofs.StepBalances.{counted as to_counted, event_is_not_refused, fails, found_contained, same_refusal, sound}
+use Rattle.pl_flights.specs.Given.{IsGiven}
+use Rattle.pl_flights.specs.OnTheWay.{IsTold}
+use Rattle.pl_flights.specs.Standing.{StandsOn, StandsOnHosts}
+use Rattle.pl_flights.proofs.Arriving.{comes_out_told}
 use Rattle.pl_flights.proofs.AtHome.{over_link_told}
 use Rattle.pl_flights.proofs.Beginning.{lost_told}
 use Rattle.pl_flights.proofs.Failing.{fails_told, repaired_told}
@@ -58,21 +60,11 @@ use Rattle.pl_flights.proofs.FromManager.{says_told}
 use Rattle.pl_flights.proofs.HostTurns.{host_told, plays_told}
 use Rattle.pl_flights.proofs.Moving.{goes_told, set_get}
 use Rattle.pl_flights.proofs.NoneJustIn.{none_just_in}
-use Rattle.pl_flights.proofs.Numbering.{NumbersWell, manager_told}
+use Rattle.pl_flights.proofs.Numbering.{manager_told}
 use Rattle.pl_flights.proofs.OverLinks.{taken_out}
 use Rattle.pl_flights.proofs.Settling.{GrantsWell}
 use Rattle.pl_flights.proofs.SilentSteps.{ticks_told}
 use Rattle.pl_flights.proofs.SwitchTurns.{turn_switches}
-
--- what is left to the rows at which addresses may be granted, to groups, and to the other parts
-pub record IsLeft (manager : ManagerRule) (host : HostRule) (w new : WorldView) : Type 0 where
-  pub first : FirstAddresses w new
-  pub groups : (s port id : ℕ) (frame : List ℕ) (items : List Item) → port < w.plan.k → peer_of w.plan s port ≡ HostPort →
-      out_of w s port ≡ Data id frame ∷ items → is_group (destination_of frame) ≡ true → ComesFirst w s port id
-  pub members : AreMembers host w
-  pub numbers : (s : ℕ) (says : ToManager) (items : List ToManager) → items_at w.to_manager s ≡ says ∷ items → (turn : ManagerTurn manager (record w { to_manager = set w.to_manager s items }) s says new) →
-      NumbersWell w.plan (reverse w.journal) turn.acts
-  pub more : IsMore (place_in w.switches) (place_in new.switches)
 
 there_is : (there filled : Bool) → refusal_of_queue there filled ≡ None → there ≡ true
 there_is true filled none = refl
@@ -97,7 +89,13 @@ move_fine true false h o fine = absurd (cc)
 move_fine false b h o fine = absurd (cc)
 
 module _ (manager : ManagerRule) (host : HostRule) (accounts : AccountsForFrames Loose) (sends : HostsSendData host) (keeps : HostsKeepFrames host)
-    (w : WorldView) (counted : IsCounted w) (told : IsTold w) (on : StandsOn w) (new : WorldView) (hosts : StandsOnHosts w) (left : IsLeft manager host w new) where
+    (w : WorldView) (counted : IsCounted w) (told : IsTold w) (new : WorldView) (given : IsGiven manager host w new) where
+  abbrev on : StandsOn w
+  on = given.on
+
+  abbrev hosts : StandsOnHosts w
+  hosts = given.hosts
+
   -- what a switch grants where it becomes placed
   size_at : (t : ℕ) (v : SwitchView) → slice_get w.switches t ≡ Some v → v.k ≡ w.plan.k
   size_at t v found = all_found (λ (x : SwitchView). x.k ≡ w.plan.k) w.switches t v found counted.formed.ports
@@ -116,7 +114,7 @@ module _ (manager : ManagerRule) (host : HostRule) (accounts : AccountsForFrames
       let step : switch_step turn.ruled.choose v (Comes q frame) ≡ control_comes v q frame =
       cond-true (is_control frame) (control_comes v q frame) (data_comes turn.ruled.choose v q frame) item.kind in
       subst (λ acts. GrantsWell w.plan t.0 acts (reverse w.journal)) (sym (turn.ruled.steps.done ∙ ap (λ (x : SwitchStep). x.acts) step))
-      (control_well w new t.0 v turn.found (size_at t.0 v turn.found) (hosts.hosts t.0 v turn.found) left.first q frame settles
+      (control_well w new t.0 v turn.found (size_at t.0 v turn.found) (hosts.hosts t.0 v turn.found) given.first q frame settles
       (after_there (taken_out w s port items) t.0 (Comes q frame) turn ∙ ap Some (turn.ruled.steps.view ∙ ap (λ (x : SwitchStep). x.view) step)))
 
   pod_grants : (t pod : ℕ) (rest : List ToSwitch) (turn : SwitchTurn Loose (record w { from_manager = set w.from_manager t rest }) t (Says (Pod pod)) Silent new) →
@@ -124,7 +122,7 @@ module _ (manager : ManagerRule) (host : HostRule) (accounts : AccountsForFrames
   pod_grants t pod rest turn settles =
       let v : SwitchView = turn.before in
       subst (λ acts. GrantsWell w.plan t acts (reverse w.journal)) (sym turn.ruled.steps.done)
-      (pod_well w new t v turn.found (size_at t v turn.found) (hosts.hosts t v turn.found) left.first pod settles
+      (pod_well w new t v turn.found (size_at t v turn.found) (hosts.hosts t v turn.found) given.first pod settles
       (after_there (record w { from_manager = set w.from_manager t rest }) t (Says (Pod pod)) turn ∙ ap Some turn.ruled.steps.view))
 
   -- an item comes to the other end
@@ -138,12 +136,12 @@ module _ (manager : ManagerRule) (host : HostRule) (accounts : AccountsForFrames
           none_just_in = none_just_in w counted told t.0 turn.before turn.found (unplaced_before turn.before q (control_in (payload_of frame)) settles);
         })
         | inr stays ↦ inl stays
-      ]) left.more
+      ]) given.more
   over_told s port (Data id frame) items (Switch t q) within head peer turn =
       over_link_told w counted told on accounts s port id frame items within head t q peer new turn
   over_told s port (Control frame) items HostPort within head peer is = subst IsTold (sym is) (lost_told w s port (Control frame) items counted told within head)
   over_told s port (Data id frame) items HostPort within head peer comes =
-      comes_out_told w counted told s port id frame items within head peer host keeps sends (left.groups s port id frame items within peer head) left.members (receiver w s port frame) refl new comes
+      comes_out_told w counted told s port id frame items within head peer host keeps sends (given.come_first s port id frame items within peer head) given.members (receiver w s port frame) refl new comes
 
   out_told : (s port : ℕ) (items : List Item) → port < w.plan.k → out_of w s port ≡ items → DeliversOut Loose host w s port items new → IsTold new
   out_told s port [] within head comes = absurd comes
@@ -151,7 +149,8 @@ module _ (manager : ManagerRule) (host : HostRule) (accounts : AccountsForFrames
 
   to_manager_told : (s : ℕ) (items : List ToManager) → items_at w.to_manager s ≡ items → DeliversToManager manager w s items new → IsTold new
   to_manager_told s [] head comes = absurd comes
-  to_manager_told s (says ∷ items) head turn = manager_told manager w s says items new counted told turn (left.numbers s says items head turn)
+  to_manager_told s (says ∷ items) head turn = manager_told manager w s says items new counted told turn
+      (given.numbers s says items turn.id turn.after turn.acts head turn.found turn.ruled)
 
   from_manager_told : (t : ℕ) (items : List ToSwitch) → DeliversFromManager Loose w t items new → IsTold new
   from_manager_told t [] comes = absurd comes
@@ -163,7 +162,7 @@ module _ (manager : ManagerRule) (host : HostRule) (accounts : AccountsForFrames
               (was_unplaced turn.before.place (with_pod turn.before (Some pod)).place settles);
         })
         | inr stays ↦ inl stays
-      ]) left.more
+      ]) given.more
   from_manager_told t (Avoid list ∷ items) turn = says_told w t (Avoid list) items new accounts counted told on tt turn
   from_manager_told t (Tree group part ∷ items) turn = says_told w t (Tree group part) items new accounts counted told on tt turn
   from_manager_told t (Answer asker asker_ip ip pmac ∷ items) turn = says_told w t (Answer asker asker_ip ip pmac) items new accounts counted told on tt turn
@@ -172,7 +171,7 @@ module _ (manager : ManagerRule) (host : HostRule) (accounts : AccountsForFrames
 
   -- the head of a queue is delivered
   delivers_told : (name : QueueName) → refusal_of_event w (event.Deliver name) ≡ None → Delivers Loose manager host w name new → IsTold new
-  delivers_told (queue.FromHost h) fine comes = from_host_told w counted told on hosts accounts h.0 new left.more comes
+  delivers_told (queue.FromHost h) fine comes = from_host_told w counted told on hosts accounts h.0 new given.more comes
   delivers_told (queue.Port s port) fine comes =
       let there = and_parts (has_switch w.plan s.0) (nat_lt port w.plan.k) (there_is (has_port w.plan s.0 port) _ fine) in
       out_told s.0 port (out_of w s.0 port) (ltb-true port w.plan.k there.1) refl comes
@@ -206,7 +205,7 @@ module _ (manager : ManagerRule) (host : HostRule) (accounts : AccountsForFrames
   -- each event, over what is left
   pub happens_told : (happens : Event) → refusal_of_event w happens ≡ None → Happens Loose manager host w happens new → IsTold new
   happens_told (event.Deliver name) fine does = delivers_told name fine does
-  happens_told (event.Tick s) fine does = ticks_told w s.0 new accounts counted told does left.more
+  happens_told (event.Tick s) fine does = ticks_told w s.0 new accounts counted told does given.more
   happens_told (event.Fail a b) fine does = cut_told a.0 b.0 (link_between w.plan a.0 b.0) refl fine does
   happens_told (event.Repair a b) fine does = fixed_told a.0 b.0 (link_between w.plan a.0 b.0) refl fine does
   happens_told (event.Lose s port) fine does =
@@ -219,3 +218,30 @@ module _ (manager : ManagerRule) (host : HostRule) (accounts : AccountsForFrames
   happens_told (event.Retry h) fine does = host_told host sends w h.0 _ _ new (sound w counted) told does
   happens_told (event.Join h group) fine does = host_told host sends w h.0 _ _ new (sound w counted) told does
   happens_told (event.Leave h group) fine does = host_told host sends w h.0 _ _ new (sound w counted) told does
+
+-- the same, once the step is counted
+stepped_given : (manager : ManagerRule) (host : HostRule) (old new : WorldView) (n : ℕ) → IsGiven manager host old new → IsGiven manager host (record old { steps = n }) new
+stepped_given manager host old new n given = record {
+  on = record {
+    places = given.on.places;
+    neighbours = given.on.neighbours;
+    addresses = given.on.addresses;
+    evidence = given.on.evidence;
+    sources = given.on.sources;
+  };
+  hosts = record { hosts = given.hosts.hosts; at_ports = given.hosts.at_ports; own = given.hosts.own };
+  more = given.more;
+  first = given.first;
+  numbers = given.numbers;
+  come_first = given.come_first;
+  members = given.members;
+}
+
+-- each step
+pub step_told : (manager : ManagerRule) (host : HostRule) → HostsSendData host → HostsKeepFrames host → (old : WorldView) (happens : Event) (new : WorldView) →
+    IsCounted old → IsGiven manager host old new → refusal old happens ≡ None → WorldStep Loose manager host old happens new → IsTold old → IsTold new
+step_told manager host sends keeps old happens new counted given none step told =
+    let so = sound old counted in
+    let w : WorldView = record old { steps = old.steps + 1 } in
+    happens_told manager host loose_steps_are_accounted sends keeps w (to_counted w (record { balance = so.balance; rest = so.rest })) told new
+    (stepped_given manager host old new (old.steps + 1) given) happens (same_refusal old happens ∙ event_is_not_refused old happens none) step

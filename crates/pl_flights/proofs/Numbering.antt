@@ -19,16 +19,11 @@ use Rattle.pl_world.specs.WorldRule.{ManagerTurn}
 use Rattle.pl_world.specs.Worlds.{WorldView}
 use Rattle.pl_world.proofs.StepBalances.{Sound, noted_owes, sound}
 use Rattle.pl_world.proofs.SwitchActBalances.{says_rest, told_rest}
+use Rattle.pl_flights.specs.Given.{NumbersWell}
 use Rattle.pl_flights.specs.OnTheWay.{IsTold, Tells, place_in}
 use Rattle.pl_flights.proofs.Counting.{counts, nobody}
 use Rattle.pl_flights.proofs.Keeping.{kept}
 use Rattle.pl_flights.proofs.Noting.{note, reverse_noted}
-
--- what the part on addresses gives: each address that the manager numbers may be numbered then
-abbrev pub NumbersWell : Plan → List Entry → List ManagerAct → Type 0
-NumbersWell plan past [] = Unit {0}
-NumbersWell plan past (Say to says ∷ acts) = NumbersWell plan past acts
-NumbersWell plan past (Number pmac n ∷ acts) = Needs plan past (Registered pmac n) × NumbersWell plan (Registered pmac n ∷ past) acts
 
 said_sound : (w : WorldView) (says : ToSwitch) (to : Option ℕ) → Sound w → Sound (said_to w says to)
 said_sound w says None so = so

@@ -1,8 +1,13 @@
 -- A data frame that comes over a link: whatever is done with it keeps what is told.
-use Rattle.std.proofs.Common.{◌≡◌, ℕ, zero, ◌≤◌, ◌<◌, ◌&&◌, Bool, true, false, Contains, List, [], ◌∷◌, ◌++◌, length, reverse, Option, None, Some, refl, sym, ◌∙◌, ap, subst, arith, append-nil}
-use Rattle.std.proofs.lemmas.Bool.{and_parts, cond_both}
+use Rattle.std.proofs.Common.{◌≡◌, ℕ, zero, ◌≤◌, ◌<◌, ◌==◌, ◌&&◌, Bool, true, false, Contains, List, [], ◌∷◌, ◌++◌, length, reverse, Option, None, Some, refl, sym, ◌∙◌, ap, subst, arith, append-nil}
+use Rattle.std.proofs.lemmas.Bool.{and_parts, cond_both, false≢true}
 use Rattle.pl_frame.specs.declared.address.Ip4.{Ip4}
-use Rattle.pl_frame.specs.Ethernet.{destination_of, source_of}
+use Rattle.pl_frame.specs.declared.address.Mac.{Mac}
+use Rattle.pl_frame.specs.Ethernet.{Fields, destination_of, source_of}
+use Rattle.pl_frame.proofs.Fields.{fields_of-frame_of}
+use Rattle.pl_arp.specs.declared.packet.Arp.{Arp}
+use Rattle.pl_arp.specs.Packet.{layout}
+use Rattle.pl_layouts.specs.ArpFrames.{arp_frame}
 use Rattle.pl_pmac.specs.declared.pmac.Pmac.{Pmac}
 use Rattle.pl_wiring.specs.declared.label.SwitchNo.{SwitchNo}
 use Rattle.pl_wiring.specs.declared.link.Peer.{Peer}
@@ -46,6 +51,12 @@ use Rattle.pl_flights.proofs.OverLinks.{IsGoodAtHome, comes_told, home_view, tak
 use Rattle.pl_flights.proofs.Passing.{known}
 use Rattle.pl_flights.proofs.Redirects.{home_good}
 
+-- an ARP packet is in an ARP frame
+pub is_arp-arp_frame : (to : Mac) (a : Arp) → length to.0 ≡ 6 → length a.sha.0 ≡ 6 → is_arp (arp_frame to a) ≡ true
+unfolding arp_frame
+is_arp-arp_frame to a six six_sha = ap (λ (f : Fields). f.kind == 0x0806)
+    (fields_of-frame_of (record { dst = to; src = a.sha; kind = 0x0806; payload = layout a }) six six_sha (omega arith))
+
 -- an edge switch whose address it is has a place
 pub local_is_placed : (v : SwitchView) (to : Pmac) → is_local v to ≡ true → (v.place.level ≡ Some 0) × (is_placed v.place ≡ true)
 local_is_placed v to own =
@@ -60,9 +71,9 @@ module _ (plan : Plan) (place : ℕ → Place) (book : Book) (t : ℕ) (v : Swit
     (neighbours : KnowsNeighbours plan place t v) (knows : KnowsAddresses plan book t v) (choose : Choice) (is : IsChoice choose)
     (level : v.place.level ≡ Some 0) (placed : is_placed v.place ≡ true) where
   -- a frame of the switch's own to one host
-  pub begins_good : (root : ℕ) (frame : List ℕ) → is_group (destination_of frame) ≡ false → 14 ≤ length frame →
+  pub begins_good : (root : ℕ) (frame : List ℕ) → is_group (destination_of frame) ≡ false → 14 ≤ length frame → is_arp frame ≡ true →
       GoodActs plan place book t (begins choose v frame).acts (Waits (made_here root t frame) false)
-  begins_good root frame unicast long =
+  begins_good root frame unicast long arp =
       let here : IsHere place t (made_here root t frame) frame = record {
         last = refl;
         reached = refl;
@@ -71,6 +82,7 @@ module _ (plan : Plan) (place : ℕ → Place) (book : Book) (t : ℕ) (v : Swit
         address = refl;
         long = long;
         home = λ there is. absurd (cc);
+        sender = λ other. absurd (false≢true (sym other ∙ arp));
         unaltered = λ m six. refl;
       } in
       cond_both (is_local v (destination frame)) (comes_home choose v frame) (forwards choose v (Some FromHost) frame)
@@ -80,21 +92,21 @@ module _ (plan : Plan) (place : ℕ → Place) (book : Book) (t : ℕ) (v : Swit
       (λ away. subst (λ acts. GoodActs plan place book t acts (Waits (made_here root t frame) false)) (append-nil (forwards choose v (Some FromHost) frame).acts)
       (leaves_then plan place book t v is_plan places neighbours [] (λ hand. tt) choose is (made_here root t frame) false frame here refl level placed away _ refl))
 
-  module _ (frame : List ℕ) (long : 14 ≤ length frame) (source : is_group (source_of frame) ≡ false) where
+  module _ (frame : List ℕ) (long : 14 ≤ length frame) (source : is_arp frame ≡ false → is_group (source_of frame) ≡ false) where
     -- the reply to the sender
-    newer_good : (new : Pmac) (o : Option Ip4) (hand : Hand) → GoodActs plan place book t (tells_newer choose frame new o v).acts hand
-    newer_good new None hand = tt
-    newer_good new (Some ip) hand = λ root.
+    newer_good : is_arp frame ≡ false → (new : Pmac) (o : Option Ip4) (hand : Hand) → GoodActs plan place book t (tells_newer choose frame new o v).acts hand
+    newer_good other new None hand = tt
+    newer_good other new (Some ip) hand = λ root.
         let six = six_src frame long in
         let to : is_group (destination_of (newer_address frame new ip)) ≡ false =
-        ap is_group (destination_of-arp_frame (source_of frame) _ six) ∙ source in
+        ap is_group (destination_of-arp_frame (source_of frame) _ six) ∙ source other in
         let made : IsMade (newer_address frame new ip) = arp_frame_made (source_of frame) _ six refl six in
-        begins_good root (newer_address frame new ip) to made.whole.low
+        begins_good root (newer_address frame new ip) to made.whole.low (is_arp-arp_frame (source_of frame) _ six refl)
 
     tells_good : (o : Option Trap) (hand : Hand) → GoodActs plan place book t (tells_sender choose frame o v).acts hand
     tells_good None hand = tt
     tells_good (Some trap) hand = cond_both (is_arp frame) (does v []) (tells_newer choose frame (last_trap (addresses v) v trap).new (last_trap (addresses v) v trap).ip v)
-        (λ step. GoodActs plan place book t step.acts hand) (λ arp. tt) (λ other. newer_good _ _ hand)
+        (λ step. GoodActs plan place book t step.acts hand) (λ arp. tt) (λ other. newer_good other _ _ hand)
 
     pub arrives_good : (f : Flight) (again : Bool) → IsHere place t f frame → is_local v (destination frame) ≡ true →
         GoodActs plan place book t (arrives_home choose v frame).acts (Waits f again)
@@ -113,11 +125,10 @@ over_link_told w counted told on accounts s port id frame items within head t q 
     let past = reverse w.journal in
     let b : IsBetween w.plan (place_in w.switches) (book_of past) (flight_of w.plan past id) (was_live past id s t.0) frame s t.0 =
     subst (λ (p : Peer). IsGoing w.plan (place_in w.switches) past s port p id frame) peer took.going in
-    let there : Contains (out_of w s port) (Data id frame) = subst (λ l. Contains l (Data id frame)) (sym head) (zero, omega arith, refl) in
     let home : IsGoodAtHome w t.0 id frame = λ v choose found is unicast own.
     let at = local_is_placed v (destination frame) own in
     arrives_good w.plan (place_in w.switches) (book_of past) t.0 v (sound w counted).rest.is_plan on.places (on.neighbours t.0 v found)
-    (on.addresses t.0 v found) choose is at.0 at.1 frame took.is_frame.whole.low (on.sources s port t q id frame peer there unicast)
+    (on.addresses t.0 v found) choose is at.0 at.1 frame took.is_frame.whole.low (b.one unicast).sender
     (crossed_at t.0 (flight_of w.plan past id)) false
     (record {
       last = refl;
@@ -127,6 +138,7 @@ over_link_told w counted told on accounts s port id frame items within head t q 
       address = b.address;
       long = took.is_frame.whole.low;
       home = b.home;
+      sender = (b.one unicast).sender;
       unaltered = (b.one unicast).unaltered;
     }) own in
     comes_told w counted told on s port id frame items within head t q peer accounts home new turn

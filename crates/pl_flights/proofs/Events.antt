@@ -227,7 +227,6 @@ stepped_given manager host old new n given = record {
     neighbours = given.on.neighbours;
     addresses = given.on.addresses;
     evidence = given.on.evidence;
-    sources = given.on.sources;
   };
   hosts = record { hosts = given.hosts.hosts; at_ports = given.hosts.at_ports; own = given.hosts.own };
   more = given.more;

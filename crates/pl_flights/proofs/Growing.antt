@@ -82,7 +82,7 @@ module _ (place later : ℕ → Place) (more : IsMore place later) where
     address = b.address;
     home = λ there is. placed_grown there.edge (b.home there is);
     many = b.many;
-    one = λ unicast. let w = b.one unicast in record { route = route_grown plan.k _ f.leg s t w.route; whole = w.whole; unaltered = w.unaltered };
+    one = λ unicast. let w = b.one unicast in record { route = route_grown plan.k _ f.leg s t w.route; whole = w.whole; unaltered = w.unaltered; sender = w.sender };
   }
 
   pub leaving_grown : (plan : Plan) (book : Book) (f : Flight) (frame : List ℕ) (s port : ℕ) → IsLeaving plan place book f frame s port →

@@ -3,7 +3,7 @@ use Rattle.std.proofs.Common.{◌≡◌, ℕ, suc, ◌/◌, ◌%◌, ◌^◌, �
 use Rattle.std.proofs.lemmas.Bool.{and_from, and_parts, both_ways, cond-true, cond_both, eq-eqb, false≢true}
 use Rattle.std.proofs.lemmas.Nat.{mod_below}
 use Rattle.pl_frame.specs.declared.address.Mac.{Mac}
-use Rattle.pl_frame.specs.Ethernet.{destination_of, with_destination}
+use Rattle.pl_frame.specs.Ethernet.{destination_of, source_of, with_destination}
 use Rattle.pl_frame.proofs.Fields.{front_of}
 use Rattle.pl_pmac.specs.declared.pmac.Pmac.{Pmac}
 use Rattle.pl_pmac.specs.Pmac.{Fits, pmac_number}
@@ -13,7 +13,7 @@ use Rattle.pl_wiring.specs.declared.link.Peer.TheVariants.{HostPort, Switch}
 use Rattle.pl_wiring.specs.Peers.{peer_of}
 use Rattle.pl_wiring.specs.Plan.{IsPlan, Plan}
 use Rattle.pl_layouts.specs.declared.place.Place.{Place}
-use Rattle.pl_layouts.specs.Frames.{arriving, mac_number}
+use Rattle.pl_layouts.specs.Frames.{arriving, is_arp, mac_number}
 use Rattle.pl_layouts.specs.Memberships.{is_group}
 use Rattle.pl_layouts.specs.Placement.{is_known, is_placed}
 use Rattle.pl_layouts.proofs.Arrived.{destination_of-arriving}
@@ -57,6 +57,7 @@ pub record IsHere (place : ℕ → Place) (t : ℕ) (f : Flight) (frame : List �
   pub address : f.address ≡ mac_number (destination_of frame)
   pub long : 14 ≤ length frame
   pub home : CameInPlaced place f.came_in
+  pub sender : is_arp frame ≡ false → is_group (source_of frame) ≡ false
   pub unaltered : WillBeUnaltered f frame
 
 module _ (plan : Plan) (place : ℕ → Place) (book : Book) (t : ℕ) (v : SwitchView) (knows : KnowsAddresses plan book t v) (rest : List Act)
@@ -140,7 +141,7 @@ module _ (plan : Plan) (place : ℕ → Place) (book : Book) (t : ℕ) (v : Swit
     address = here.address;
     home = here.home;
     many = λ group. absurd (both_ways (is_group (destination_of frame)) here.unicast group);
-    one = λ unicast. record { route = by_rung (rung plan t p u r is_plan peer); whole = refl; unaltered = here.unaltered };
+    one = λ unicast. record { route = by_rung (rung plan t p u r is_plan peer); whole = refl; unaltered = here.unaltered; sender = here.sender };
   }
     where
       low : level_of plan.k t ≡ 0

@@ -75,7 +75,7 @@ module _ (plan : Plan) (place : ℕ → Place) where
     address = b.address;
     home = b.home;
     many = λ group. many_kept book after f frame keeps (b.many group);
-    one = λ unicast. let w = b.one unicast in record { route = w.route; whole = more w.whole; unaltered = w.unaltered };
+    one = λ unicast. let w = b.one unicast in record { route = w.route; whole = more w.whole; unaltered = w.unaltered; sender = w.sender };
   })
 
   pub leaving_kept : (book later : Book) (f g : Flight) (frame : List ℕ) (s port : ℕ) → g ≡ f → KeepsBook book later →

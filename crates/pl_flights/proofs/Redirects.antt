@@ -1,16 +1,16 @@
 -- A frame that meets a trap is redirected, and redirected again, and goes on; its sender is told.
-use Rattle.std.proofs.Common.{◌≡◌, ℕ, zero, suc, ◌+◌, ◌≤◌, nat_lt, Bool, true, false, List, [], ◌∷◌, ◌++◌, length, take, drop, Option, None, Some, is_some, refl, sym, ◌∙◌, ap, subst, arith, inl, inr}
+use Rattle.std.proofs.Common.{◌==◌, ◌≡◌, ℕ, zero, suc, ◌+◌, ◌≤◌, nat_lt, Bool, true, false, List, [], ◌∷◌, ◌++◌, length, take, drop, Option, None, Some, is_some, refl, sym, ◌∙◌, ap, subst, arith, inl, inr}
 use Rattle.std.proofs.lemmas.Bool.{cases_Bool, cond-false, cond-true, cond_both}
 use Rattle.std.proofs.lemmas.List.{drop-drop, length-append, length-drop}
 use Rattle.pl_frame.specs.declared.address.Mac.{Mac}
-use Rattle.pl_frame.specs.Ethernet.{destination_of, with_destination}
-use Rattle.pl_frame.proofs.Fields.{rest_of}
+use Rattle.pl_frame.specs.Ethernet.{Fields, destination_of, source_of, with_destination}
+use Rattle.pl_frame.proofs.Fields.{fields_of-with_destination, rest_of}
 use Rattle.pl_pmac.specs.declared.pmac.Pmac.{Pmac}
 use Rattle.pl_pmac.specs.Pmac.{Fits, mac_of, pmac_number}
 use Rattle.pl_pmac.proofs.Inverse.{pmac_of-mac_of}
 use Rattle.pl_wiring.specs.Plan.{IsPlan, Plan}
 use Rattle.pl_layouts.specs.declared.place.Place.{Place}
-use Rattle.pl_layouts.specs.Frames.{arriving, mac_number, packet_in}
+use Rattle.pl_layouts.specs.Frames.{arriving, is_arp, mac_number, packet_in}
 use Rattle.pl_layouts.specs.Memberships.{is_group}
 use Rattle.pl_layouts.specs.Placement.{is_placed}
 use Rattle.pl_layouts.proofs.Arrivals.{packet_behind, packet_in-behind, parts}
@@ -94,6 +94,7 @@ module _ (plan : Plan) (place : ℕ → Place) (book : Book) (t : ℕ) (v : Swit
     began : is_group (destination_of f.beginning) ≡ false
     unaltered : WillBeUnaltered f frame
     home : CameInPlaced place f.came_in
+    sender : is_arp frame ≡ false → is_group (source_of frame) ≡ false
     address : f.address ≡ pmac_number trap.new
     fits : Fits trap.new
     unicast : is_group (mac_of trap.new) ≡ false
@@ -110,6 +111,9 @@ module _ (plan : Plan) (place : ℕ → Place) (book : Book) (t : ℕ) (v : Swit
         address = u.address ∙ sym (number_of_mac trap.new u.fits) ∙ ap mac_number (sym is_to);
         long = long_sent frame to to (six_bytes trap.new) (six_bytes trap.new) long;
         home = u.home;
+        sender = λ other.
+            let same = fields_of-with_destination frame to (omega arith) (six_bytes trap.new) in
+            ap (λ (x : Fields). is_group x.src) same ∙ u.sender (ap (λ (x : Fields). x.kind == 0x0806) (sym same) ∙ other);
         unaltered = λ m six. subst (λ x. UnalteredFrom f.sender f.source f.beginning (Some m) x) (sym (same_arriving frame to m (six_bytes trap.new) six long)) (u.unaltered m six);
       }
 
@@ -122,8 +126,8 @@ module _ (plan : Plan) (place : ℕ → Place) (book : Book) (t : ℕ) (v : Swit
       record { present = present; same_host = leads.same_host; newer = leads.newer; port = x.port; here = here.there; reached = reached }
 
   turning_on : (f : Flight) (again : Bool) (x : Pmac) (next : Trap) → first_of f.trail ≡ Some t → is_group (destination_of f.beginning) ≡ false → WillBeUnaltered f frame →
-      CameInPlaced place f.came_in → trap_for v x ≡ Some next → IsTurning (turned t f again next.new) next
-  turning_on f again x next last began unaltered home trapped =
+      CameInPlaced place f.came_in → (is_arp frame ≡ false → is_group (source_of frame) ≡ false) → trap_for v x ≡ Some next → IsTurning (turned t f again next.new) next
+  turning_on f again x next last began unaltered home sender trapped =
       let leads : LeadsOn book x next = knows.trapped x next trapped in
       record {
         last = cond_both again f.trail (t ∷ f.trail) (λ l. first_of l ≡ Some t) (λ e. last) (λ e. refl);
@@ -131,6 +135,7 @@ module _ (plan : Plan) (place : ℕ → Place) (book : Book) (t : ℕ) (v : Swit
         began = began;
         unaltered = unaltered;
         home = home;
+        sender = sender;
         address = refl;
         fits = leads.fits;
         unicast = leads.unicast;
@@ -154,7 +159,7 @@ module _ (plan : Plan) (place : ℕ → Place) (book : Book) (t : ℕ) (v : Swit
       by_next (Some next) found further =
           let trapped = newer_found trap next (trap_for v trap.new) found in (
             turns_well trap.new f next u.address (ap first_of u.alone) trapped,
-            further next (turned t f true next.new) (turning_on f true trap.new next u.last u.began u.unaltered u.home trapped),
+            further next (turned t f true next.new) (turning_on f true trap.new next u.last u.began u.unaltered u.home u.sender trapped),
           )
 
   -- a frame for the switch's own hosts
@@ -166,5 +171,5 @@ module _ (plan : Plan) (place : ℕ → Place) (book : Book) (t : ℕ) (v : Swit
       by_trap None found = delivers_good plan place book t v knows rest then_good f again frame (granted v (destination frame)) here own refl
       by_trap (Some trap) found = (
         turns_well (destination frame) f trap (here.address ∙ sym (number_of_destination frame)) here.reached found,
-        chain (addresses v) trap (turned t f again trap.new) (turning_on f again (destination frame) trap here.last here.began here.unaltered here.home found),
+        chain (addresses v) trap (turned t f again trap.new) (turning_on f again (destination frame) trap here.last here.began here.unaltered here.home here.sender found),
       )

@@ -40,7 +40,7 @@ use Rattle.pl_switch_rule.proofs.CausesHere.{destination_of-arp_frame}
 use Rattle.pl_switch_rule.proofs.DataFrames.{arp_frame_made}
 use Rattle.pl_flights.specs.OnTheWay.{Book, CameInPlaced, IsForMany, IsLeaving}
 use Rattle.pl_flights.specs.Standing.{IsGranted, KnowsAddresses, KnowsNeighbours, KnowsPlaces}
-use Rattle.pl_flights.proofs.AtHome.{begins_good, local_is_placed}
+use Rattle.pl_flights.proofs.AtHome.{begins_good, is_arp-arp_frame, local_is_placed}
 use Rattle.pl_flights.proofs.ForwardActs.{MayReach, group_ports_reach, not_is_true, reaches_host, routed_group}
 use Rattle.pl_flights.proofs.Hands.{GoodActs, MayEnd, MayLeave, made_here}
 use Rattle.pl_flights.proofs.Hands.Hand.{Empty, Spreads, Waits}
@@ -124,7 +124,7 @@ module _ (plan : Plan) (place : ℕ → Place) (book : Book) (t : ℕ) (v : Swit
       let one : is_group (destination_of (answer_frame asker asker_ip ip pmac)) ≡ false =
       ap is_group (destination_of-arp_frame (mac_of asker) _ refl) ∙ (knows.granted_here asker grant found).own in
       begins_good plan place book t v is_plan places neighbours knows choose is own.0 own.1 root (answer_frame asker asker_ip ip pmac) one
-      ((arp_frame_made (mac_of asker) _ refl refl refl).whole.low)
+      ((arp_frame_made (mac_of asker) _ refl refl refl).whole.low) (is_arp-arp_frame (mac_of asker) _ refl refl)
 
   -- the request to all hosts
   pub flood_good : (asker : Pmac) (asker_ip ip : Ip4) (grant : Grant) → granted v asker ≡ Some grant → GoodActs plan place book t (floods v (flood_frame asker asker_ip ip)).acts Empty

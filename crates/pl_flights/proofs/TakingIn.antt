@@ -140,6 +140,7 @@ module _ (plan : Plan) (place : ℕ → Place) (book : Book) (t : ℕ) (v : Swit
     address = new.address ∙ ap mac_number (sym same_destination);
     long = subst (λ n. 14 ≤ n) (sym (length-arriving frame (Some (mac_of x)) None new.long refl tt)) new.long;
     home = home;
+    sender = λ other. ap is_group (source_of-arriving frame (Some (mac_of x)) None new.long refl tt) ∙ it.own;
     unaltered = unaltered;
   }
 
@@ -166,6 +167,6 @@ module _ (plan : Plan) (place : ℕ → Place) (book : Book) (t : ℕ) (v : Swit
       }) neighbours knows (Some FromHost) false)
       (λ unicast. cond_both (is_local v (destination frame2)) _ _ G
       (λ local. arrives_good plan place book t v is_plan places neighbours knows choose is level placed frame2 (here unicast).long
-      (ap is_group (source_of-arriving frame (Some (mac_of x)) None new.long refl tt) ∙ it.own) f false (here unicast) local)
+      (here unicast).sender f false (here unicast) local)
       (λ away. subst (λ acts. GoodActs plan place book t acts (Waits f false)) (append-nil (forwards choose v (Some FromHost) frame2).acts)
       (leaves_then plan place book t v is_plan places neighbours [] (λ hand. tt) choose is f false frame2 (here unicast) new.alone level placed away _ refl)))

@@ -14,7 +14,7 @@ use Rattle.pl_wiring.specs.LiveLinks.{LivePorts, is_live_at}
 use Rattle.pl_wiring.specs.Peers.{peer_of}
 use Rattle.pl_wiring.specs.Plan.{Plan}
 use Rattle.pl_layouts.specs.declared.place.Place.{Place}
-use Rattle.pl_layouts.specs.Frames.{arriving, mac_number}
+use Rattle.pl_layouts.specs.Frames.{arriving, is_arp, mac_number}
 use Rattle.pl_layouts.specs.Memberships.{is_group}
 use Rattle.pl_layouts.specs.Placement.{is_placed, nowhere}
 use Rattle.pl_journal.specs.declared.entry.Entry.{Entry}
@@ -45,11 +45,13 @@ WillBeUnaltered f frame = (mac : Mac) → length mac.0 ≡ 6 → UnalteredFrom f
 abbrev pub CameInPlaced : (ℕ → Place) → Option Spot → Type 0
 CameInPlaced place came_in = (there : Spot) → came_in ≡ Some there → is_placed (place there.edge) ≡ true
 
--- a frame to one host is between two switches, and the link was live since it crossed the first one
+-- A frame to one host is between two switches, and the link was live since it crossed the first one. Its source is that of one host, but in an ARP
+-- packet.
 pub record IsOnWay (plan : Plan) (place : ℕ → Place) (f : Flight) (live : Bool) (frame : List ℕ) (s t : ℕ) : Type 0 where
   pub route : Route plan.k place (pmac_of (destination_of frame)) f.leg s t
   pub whole : live ≡ true
   pub unaltered : WillBeUnaltered f frame
+  pub sender : is_arp frame ≡ false → is_group (source_of frame) ≡ false
 
 -- what was granted and numbered: who holds an address, the port where it was granted, its number, and which ports have no vmid left
 pub record Book : Type 0 where

@@ -110,13 +110,10 @@ FirstAddresses w new = (t : ℕ) (before after : SwitchView) → slice_get w.swi
     is_settled before.place ≡ false → is_settled after.place ≡ true → (port : ℕ) → port < w.plan.k →
     IsNext (reverse w.journal) t (address_at_port after port 1)
 
--- What switches know of places and addresses is so, a port at which a data frame comes from a link is no port for hosts, and the source of a
--- frame to one host is no group.
+-- What switches know of places and addresses is so, and a port at which a data frame comes from a link is no port for hosts.
 pub record StandsOn (w : WorldView) : Type 0 where
   pub places : KnowsPlaces w.plan.k (place_in w.switches)
   pub neighbours : (t : ℕ) (v : SwitchView) → slice_get w.switches t ≡ Some v → KnowsNeighbours w.plan (place_in w.switches) t v
   pub addresses : (t : ℕ) (v : SwitchView) → slice_get w.switches t ≡ Some v → KnowsAddresses w.plan (book_of (reverse w.journal)) t v
   pub evidence : (s port : ℕ) (t : SwitchNo) (q id : ℕ) (frame : List ℕ) (v : SwitchView) → peer_of w.plan s port ≡ Switch t q →
       Contains (out_of w s port) (Data id frame) → slice_get w.switches t.0 ≡ Some v → is_open_to_hosts (port_of v q) ≡ false
-  pub sources : (s port : ℕ) (t : SwitchNo) (q id : ℕ) (frame : List ℕ) → peer_of w.plan s port ≡ Switch t q →
-      Contains (out_of w s port) (Data id frame) → is_group (destination_of frame) ≡ false → is_group (source_of frame) ≡ false

@@ -19,15 +19,13 @@ use Rattle.pl_journal.specs.declared.cause.Cause.TheVariants as cause
 use Rattle.pl_journal.specs.declared.entry.Entry.{Entry}
 use Rattle.pl_journal.specs.declared.entry.Entry.TheVariants.{Arrived, Dropped}
 use Rattle.pl_journal.specs.Causes.{CauseShows, goes_to_group, has_left, is_routed}
-use Rattle.pl_journal.specs.Flights.{address, first_of, flight_of, leg, root, root_arrived_at}
+use Rattle.pl_journal.specs.Flights.{address, first_of, flight_of, leg, root}
 use Rattle.pl_journal.specs.Lossy.{ArrivesByAddress, ArrivesByGroup, EndsAt, Needs, UnalteredFrom, is_member, is_root_there, is_same_place, mac_of_host}
 use Rattle.pl_journal.specs.Places.{Spot, at_port, holder, is_at, spot, spot_of}
 use Rattle.pl_journal.proofs.Hosts.{hosts_apart}
 use Rattle.pl_core.specs.declared.reception.Reception.{Reception}
 use Rattle.pl_core.specs.declared.reception.Reception.TheVariants.{Kept, NotMember}
 use Rattle.pl_core.specs.HostDuties.{HostsKeepFrames, HostsSendData}
-use Rattle.pl_core.specs.declared.acts.HostAct.{HostAct}
-use Rattle.pl_core.specs.HostViews.{HostView}
 use Rattle.pl_core.specs.HostInputs.{HostRule}
 use Rattle.pl_core.specs.HostInputs.HostAnswer.{Received}
 use Rattle.pl_core.specs.HostInputs.HostInput.{Receives}

@@ -1,21 +1,19 @@
 -- Where a switch becomes a placed edge switch, each address that it grants may be granted then.
-use Rattle.std.proofs.Common.{◌≡◌, ℕ, zero, suc, ◌+◌, ◌<◌, ◌&&◌, not, Bool, true, false, List, [], ◌∷◌, Option, None, Some, Result, Ok, Err, get_or, reverse, set, slice_get, refl, sym, ◌∙◌, ap, subst, arith}
+use Rattle.std.proofs.Common.{◌≡◌, ℕ, zero, suc, ◌+◌, ◌<◌, ◌&&◌, not, true, false, List, [], None, Some, Result, Ok, Err, get_or, reverse, slice_get, sym, ◌∙◌, ap, subst, arith}
 use Rattle.std.specs.List.{AllByRecursion, range_with_len}
 use Rattle.std.proofs.lemmas.Bool.{and_parts, and_right, cond-true, cond_both, false≢true}
-use Rattle.std.proofs.lemmas.Option.{slice_get_within}
 use Rattle.pl_frame.specs.Ethernet.{payload_of}
 use Rattle.pl_pmac.specs.declared.pmac.Pmac.{Pmac}
-use Rattle.pl_layouts.specs.Control.{control_in, is_control}
+use Rattle.pl_layouts.specs.Control.{control_in}
 use Rattle.pl_layouts.specs.declared.control.Control.{Control}
 use Rattle.pl_layouts.specs.declared.control.Control.TheVariants as control
 use Rattle.pl_layouts.specs.declared.control.ControlError.{ControlError}
 use Rattle.pl_layouts.specs.declared.place.Place.{Place}
 use Rattle.pl_layouts.specs.Placement.{is_known, is_placed}
-use Rattle.pl_core.specs.declared.switch_records.Source.{Source}
 use Rattle.pl_core.specs.PortRecords.{port_of, ports_of_switch}
 use Rattle.pl_core.specs.SwitchViews.{SwitchView}
 use Rattle.pl_steps.specs.Steps.{SwitchStep, rests}
-use Rattle.pl_switch_rule.specs.Granting.{address_at_port, grants_remembered}
+use Rattle.pl_switch_rule.specs.Granting.{grants_remembered}
 use Rattle.pl_switch_rule.specs.Levels.{after_message, changes_to, has_become_placed, settles_in, with_pod}
 use Rattle.pl_switch_rule.specs.Messages.{hears_pod, takes_pod}
 use Rattle.pl_switch_rule.specs.Positions.{after_vote}

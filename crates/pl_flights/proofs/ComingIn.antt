@@ -1,8 +1,8 @@
 -- A frame of a host comes at its edge switch: what is done with it is good, and its host may be granted an address before.
-use Rattle.std.proofs.Common.{◌≡◌, ℕ, zero, suc, ◌+◌, ◌%◌, ◌<◌, ◌≤◌, ◌==◌, ◌&&◌, ◌||◌, not, nat_lt, Bool, true, false, cond, inl, inr, All, List, [], ◌∷◌, ◌++◌, length, Option, None, Some, get_or, option_map, is_some, slice_get, slice_index, unwrap_or, refl, sym, ◌∙◌, ap, subst, arith, append_assoc}
-use Rattle.std.proofs.lemmas.Bool.{and_from, and_left, and_parts, and_right, cases_Bool, cond-false, cond-true, cond_both, eq-eqb, false≢true, lt-ltb, ne_eqb, or_cases, or_left, or_parts, or_right}
+use Rattle.std.proofs.Common.{◌≡◌, ℕ, ◌+◌, ◌<◌, ◌≤◌, ◌==◌, ◌&&◌, ◌||◌, not, Bool, true, false, cond, inl, inr, List, [], ◌∷◌, ◌++◌, length, Option, None, Some, get_or, is_some, unwrap_or, refl, sym, ◌∙◌, ap, subst, append_assoc}
+use Rattle.std.proofs.lemmas.Bool.{and_from, and_left, and_parts, and_right, cases_Bool, cond-false, cond-true, cond_both, eq-eqb, false≢true, or_parts}
 use Rattle.pl_frame.specs.declared.address.Mac.{Mac}
-use Rattle.pl_frame.specs.Ethernet.{destination_of, source_of}
+use Rattle.pl_frame.specs.Ethernet.{source_of}
 use Rattle.pl_pmac.specs.declared.pmac.Pmac.{Pmac}
 use Rattle.pl_pmac.specs.Pmac.{mac_of}
 use Rattle.pl_wiring.specs.declared.link.Peer.TheVariants.{HostPort}
@@ -18,7 +18,7 @@ use Rattle.pl_journal.specs.declared.entry.Entry.{Entry}
 use Rattle.pl_journal.specs.declared.entry.Entry.TheVariants.{Crossed, Granted}
 use Rattle.pl_journal.specs.Flights.{Flight}
 use Rattle.pl_journal.specs.Lossy.{IsGrantable, mac_of_host}
-use Rattle.pl_journal.specs.Places.{Spot, at_port, granted_at, same_spot, spot_of}
+use Rattle.pl_journal.specs.Places.{Spot, at_port, same_spot, spot_of}
 use Rattle.pl_core.specs.declared.acts.Act.{Act}
 use Rattle.pl_core.specs.declared.acts.Act.TheVariants as act
 use Rattle.pl_core.specs.declared.messages.ToManager.TheVariants.{Learned}
@@ -27,11 +27,11 @@ use Rattle.pl_core.specs.SwitchViews.{SwitchView}
 use Rattle.pl_steps.specs.Steps.{SwitchStep, does, rests, ◌▹◌}
 use Rattle.pl_switch_rule.specs.Forwarding.{Choice}
 use Rattle.pl_switch_rule.specs.Granting.{address_at_port, grant_number, granted, grants_at, grants_next, grants_or_learns, has_no_address, in_use, is_local, is_port_spent, learns_ip, learns_source, new_grant, remembers, sender_ip, with_grants}
-use Rattle.pl_switch_rule.specs.Intake.{comes_from_host, mac_of_pmac, pmac_at, sends_in, source_pmac, takes_in, takes_in_or_spent, with_pmac}
+use Rattle.pl_switch_rule.specs.Intake.{comes_from_host, mac_of_pmac, pmac_at, sends_in, takes_in, takes_in_or_spent, with_pmac}
 use Rattle.pl_switch_rule.specs.Levels.{has_become_placed}
 use Rattle.pl_switch_rule.specs.SwitchRule.{IsChoice}
 use Rattle.pl_switch_rule.specs.Telling.{changes_told}
-use Rattle.pl_world.specs.Changes.{host_no, host_of, switch_no}
+use Rattle.pl_world.specs.Changes.{host_no, switch_no}
 use Rattle.pl_flights.specs.OnTheWay.{Book, CameInPlaced, book_of}
 use Rattle.pl_addresses.specs.EdgeAddresses.{is_settled}
 use Rattle.pl_flights.specs.Standing.{IsGranted, IsNext, KnowsAddresses, KnowsHosts, KnowsNeighbours, KnowsPlaces}
@@ -41,12 +41,11 @@ use Rattle.pl_flights.proofs.GrantingAmid.{sourced}
 use Rattle.pl_flights.proofs.Hands.{GoodActs}
 use Rattle.pl_flights.proofs.Hands.Hand.{Waits}
 use Rattle.pl_flights.proofs.Hosts.{host_unicast, same_spot_itself, stood_there}
-use Rattle.pl_flights.proofs.Learning.{AgreesWith, Learns, granted_past, knows_agreed, knows_next, learns_of, next_granted, next_in_use}
+use Rattle.pl_flights.proofs.Learning.{AgreesWith, Learns, knows_agreed, knows_next, learns_of, next_granted, next_in_use}
 use Rattle.pl_addresses.proofs.Numbers.{granted_here, local_here, used_is}
 use Rattle.pl_flights.proofs.Passing.{known}
 use Rattle.pl_flights.proofs.SilentSteps.{AreSilent, silent_append, silent_changes, silent_good}
 use Rattle.pl_flights.proofs.TakingIn.{IsNew, sends_in_good, takes_in_good}
-
 
 -- What acts do with a host's frame: they are good, or they are once an address was granted, silently before.
 pub data Coming (plan : Plan) (place : ℕ → Place) (now : List Entry) (t h : ℕ) (f : Flight) (acts : List Act) : Type 0 where

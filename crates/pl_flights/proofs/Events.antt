@@ -20,8 +20,7 @@ use Rattle.pl_core.specs.ManagerDuties.{ManagerRule}
 use Rattle.pl_core.specs.SwitchInputs.{SwitchInput}
 use Rattle.pl_core.specs.SwitchInputs.SwitchInput.{Comes, Says}
 use Rattle.pl_queues.specs.Queues.{items_at}
-use Rattle.pl_frame.specs.Ethernet.{destination_of, payload_of}
-use Rattle.pl_layouts.specs.Memberships.{is_group}
+use Rattle.pl_frame.specs.Ethernet.{payload_of}
 use Rattle.pl_layouts.specs.Control.{control_in, is_control}
 use Rattle.pl_core.specs.SwitchViews.{SwitchView}
 use Rattle.pl_steps.specs.Steps.{SwitchStep}
@@ -41,7 +40,7 @@ use Rattle.pl_world.specs.Changes.{host_at, out_of, receiver}
 use Rattle.pl_world.specs.Flying.{IsCounted, IsFrame}
 use Rattle.pl_world.specs.LinksAndMoves.{joins, link_between, link_failed}
 use Rattle.pl_world.specs.Refusals.{refusal, has_host, has_port, has_switch, is_for_hosts, is_linked, refusal_of_event, refusal_of_link, refusal_of_move, refusal_of_place, refusal_of_queue}
-use Rattle.pl_world.specs.WorldRule.{ComesOver, Delivers, DeliversFromManager, DeliversOut, DeliversToManager, Fails, Goes, Happens, IsRepaired, Loses, ManagerTurn, SwitchTurn, WorldStep}
+use Rattle.pl_world.specs.WorldRule.{ComesOver, Delivers, DeliversFromManager, DeliversOut, DeliversToManager, Fails, Goes, Happens, IsRepaired, Loses, SwitchTurn, WorldStep}
 use Rattle.pl_world.specs.Worlds.{WorldView}
 use Rattle.pl_world.proofs.Balances.{head_is_item}
 use Rattle.pl_world.proofs.Counts.{all_found}

@@ -1,19 +1,17 @@
 -- An edge switch finds a host at a port, and learns its source: what it knows of places stays, where it was placed.
-use Rattle.std.proofs.Common.{◌≡◌, ℕ, zero, suc, ◌==◌, ◌&&◌, not, nat_lt, Bool, true, false, if◌then◌else◌, List, [], ◌∷◌, ◌++◌, Option, None, Some, get_or, set, is_none, is_some, refl, sym, ◌∙◌, ap, subst}
-use Rattle.std.proofs.lemmas.Bool.{cond-false, cond_both, false≢true}
+use Rattle.std.proofs.Common.{◌≡◌, ℕ, zero, suc, ◌&&◌, nat_lt, true, false, if◌then◌else◌, List, [], ◌∷◌, ◌++◌, Option, None, Some, get_or, set, is_none, refl, sym, ◌∙◌, ap, subst}
+use Rattle.std.proofs.lemmas.Bool.{cond-false, cond_both}
 use Rattle.pl_frame.specs.declared.address.Ip4.{Ip4}
-use Rattle.pl_frame.specs.declared.address.Mac.{Mac}
 use Rattle.pl_pmac.specs.declared.pmac.Pmac.{Pmac}
 use Rattle.pl_wiring.specs.Plan.{Plan}
 use Rattle.pl_layouts.specs.declared.place.Place.{Place}
-use Rattle.pl_layouts.specs.Placement.{is_placed}
 use Rattle.pl_core.specs.declared.neighbour.PortRecord.{PortRecord}
 use Rattle.pl_core.specs.declared.switch_records.Grant.{Grant}
 use Rattle.pl_core.specs.PortRecords.{heard_echo, heard_place, is_id, is_usable, new_port, port_of, with_port}
 use Rattle.pl_core.specs.SwitchViews.{SwitchView}
 use Rattle.pl_steps.specs.Steps.{SwitchStep, rests}
-use Rattle.pl_switch_rule.specs.Granting.{grants_next, grants_or_learns, is_port_spent, learns_ip, remembers, same_ip, with_grant}
-use Rattle.pl_switch_rule.specs.Levels.{becomes_edge, changes_to, finds_host, has_become_placed, pod_told_before, settles_in}
+use Rattle.pl_switch_rule.specs.Granting.{learns_ip, same_ip}
+use Rattle.pl_switch_rule.specs.Levels.{becomes_edge, finds_host, has_become_placed, pod_told_before}
 use Rattle.pl_switch_rule.specs.Telling.{changes_told}
 use Rattle.pl_flights.specs.Standing.{KnowsNeighbours}
 

@@ -225,7 +225,7 @@ module _ (plan : Plan) (place : ℕ → Place) (book : Book) (t : ℕ) (v : Swit
       route = passes_on plan place t v is_plan places knows (destination frame) p u r peer s q port came from by placed leads f.leg w.route;
       whole = refl;
       unaltered = w.unaltered;
-    sender = w.sender;
+      sender = w.sender;
     };
   }
   may_leave came p HostPort by placed leads peer linked = absurd (false≢true (sym linked))

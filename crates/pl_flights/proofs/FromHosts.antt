@@ -1,20 +1,15 @@
 -- A frame of a host is delivered to the switch where the host stands: whatever is done with it keeps what is told.
-use Rattle.std.proofs.Common.{inl, inr, ◌≡◌, ℕ, zero, ◌+◌, ◌<◌, ◌==◌, Bool, true, false, Contains, List, [], ◌∷◌, ◌++◌, length, Option, None, Some, reverse, get_or, set, slice_get, refl, sym, ◌∙◌, ap, subst, arith}
+use Rattle.std.proofs.Common.{◌≡◌, ℕ, zero, ◌+◌, ◌<◌, ◌==◌, true, false, Contains, List, [], ◌∷◌, Option, None, Some, reverse, set, slice_get, refl, sym, ◌∙◌, ap, subst, arith}
 use Rattle.std.proofs.Math.ListN.{length-set}
 use Rattle.std.specs.List.{AllByRecursion}
-use Rattle.std.proofs.lemmas.Bool.{cases_Bool, cond-false, cond-true, eq-eqb, false≢true}
+use Rattle.std.proofs.lemmas.Bool.{cond-false, cond-true, eq-eqb}
 use Rattle.std.specs.Option.{option_map}
-use Rattle.pl_frame.specs.Ethernet.{source_of}
-use Rattle.pl_wiring.specs.Plan.{Plan}
 use Rattle.pl_layouts.specs.declared.place.Place.{Place}
 use Rattle.pl_layouts.specs.Control.{is_control}
 use Rattle.pl_journal.specs.declared.entry.Entry.{Entry}
 use Rattle.pl_journal.specs.declared.entry.Entry.TheVariants.{Crossed, Granted}
 use Rattle.pl_journal.specs.Flights.{Flight, has_just_come_in, is_empty, trail}
-use Rattle.pl_journal.specs.Lossy.{IsGrantable}
 use Rattle.pl_journal.specs.Places.{at_port, spot_of}
-use Rattle.pl_core.specs.declared.acts.Act.{Act}
-use Rattle.pl_core.specs.declared.acts.Act.TheVariants as act
 use Rattle.pl_core.specs.Accounting.{AccountsForFrames}
 use Rattle.pl_core.specs.PortRecords.{is_open_to_hosts, port_of}
 use Rattle.pl_core.specs.SwitchInputs.SwitchInput.{Comes}
@@ -27,8 +22,8 @@ use Rattle.pl_world.specs.declared.item.Item.{Item}
 use Rattle.pl_world.specs.declared.item.Item.TheVariants.{Control, Data}
 use Rattle.pl_world.specs.declared.spoken_frame.SpokenFrame.TheVariants.{Waiting}
 use Rattle.pl_world.specs.declared.stand.Stand.{Stand}
-use Rattle.pl_world.specs.Changes.{host_no, host_of, noted, switch_no}
-use Rattle.pl_world.specs.Flying.{IsAtPort, IsCounted, IsDataItem, IsFrame, times_in}
+use Rattle.pl_world.specs.Changes.{host_no, noted, switch_no}
+use Rattle.pl_world.specs.Flying.{IsCounted, IsDataItem, IsFrame, times_in}
 use Rattle.pl_world.specs.WorldRule.{ComesIn, DeliversFromHost, SwitchTurn, heard_item}
 use Rattle.pl_world.specs.Worlds.{WorldView}
 use Rattle.pl_world.proofs.Balances.{Owes, took_host_balance}
@@ -43,7 +38,7 @@ use Rattle.pl_flights.proofs.Entering.{come_in, enters, taken_from}
 use Rattle.pl_flights.proofs.FromManager.{good_grown}
 use Rattle.pl_flights.proofs.GrantingAmid.{GoodBehind, entering_turn, sourced}
 use Rattle.pl_flights.proofs.Growing.{tells_grown}
-use Rattle.pl_flights.proofs.Hands.{GoodActs, IsAmid}
+use Rattle.pl_flights.proofs.Hands.{IsAmid}
 use Rattle.pl_flights.proofs.Hands.Hand.{Waits}
 use Rattle.pl_flights.proofs.Hosts.{host_by_mac}
 use Rattle.pl_flights.proofs.SwitchTurns.{turn_told}

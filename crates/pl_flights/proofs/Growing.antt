@@ -1,5 +1,5 @@
 -- A route stays one where more is known of places.
-use Rattle.std.proofs.Common.{◌⊎◌, inl, inr, ◌≡◌, ℕ, ◌||◌, ◌&&◌, Bool, true, false, List, [], ◌∷◌, Option, None, Some, is_some, refl, ◌∙◌, ap}
+use Rattle.std.proofs.Common.{inl, inr, ◌≡◌, ℕ, ◌||◌, ◌&&◌, Bool, true, List, [], ◌∷◌, Option, None, Some, is_some, refl, ◌∙◌, ap}
 use Rattle.std.proofs.lemmas.Bool.{and_from, and_parts, eq-eqb, or_cases, or_left, or_right}
 use Rattle.std.specs.List.{AllByRecursion}
 use Rattle.pl_pmac.specs.declared.pmac.Pmac.{Pmac}

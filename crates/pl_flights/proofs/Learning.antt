@@ -1,7 +1,7 @@
 -- What an edge switch knows of addresses stays so when it learns a host's IPv4 address, or grants the next one.
-use Rattle.std.proofs.Common.{◌≡◌, ◌≢◌, ℕ, zero, suc, ◌+◌, ◌-◌, ◌<◌, ◌==◌, ◌&&◌, Bool, true, false, cond, inl, inr, List, [], ◌∷◌, ◌++◌, length, Option, None, Some, get_or, set, is_some, slice_get, refl, sym, ◌∙◌, ap, ap₂, subst, arith, get_or-set_same}
+use Rattle.std.proofs.Common.{◌≡◌, ℕ, zero, suc, ◌+◌, ◌-◌, ◌<◌, ◌==◌, ◌&&◌, Bool, true, false, cond, inl, inr, List, [], ◌∷◌, ◌++◌, length, Option, None, Some, set, slice_get, refl, sym, ◌∙◌, ap, ap₂, subst, arith, get_or-set_same}
 use Rattle.std.specs.List.{position_from}
-use Rattle.std.proofs.lemmas.Bool.{and_from, cond-false, cond-true, cond_both, eq-eqb, eqb-true, cases_Bool, false≢true, ne_eqb}
+use Rattle.std.proofs.lemmas.Bool.{cond-false, cond-true, cond_both, eq-eqb, eqb-true, cases_Bool, false≢true, ne_eqb}
 use Rattle.std.proofs.lemmas.Option.{none-some, same_Some}
 use Rattle.pl_frame.specs.declared.address.Ip4.{Ip4}
 use Rattle.pl_frame.specs.declared.address.Mac.{Mac}
@@ -9,7 +9,6 @@ use Rattle.pl_pmac.specs.declared.pmac.Pmac.{Pmac}
 use Rattle.pl_pmac.specs.Pmac.{Fits, pmac_number, pmac_of}
 use Rattle.byteorder.specs.Endian.{big_bytes}
 use Rattle.pl_pmac.proofs.Inverse.{pmac_of-mac_of}
-use Rattle.pl_wiring.specs.declared.host.HostNo.{HostNo}
 use Rattle.pl_wiring.specs.declared.link.Peer.TheVariants.{HostPort}
 use Rattle.pl_wiring.specs.Peers.{peer_of}
 use Rattle.pl_wiring.specs.Plan.{Plan}
@@ -17,7 +16,7 @@ use Rattle.pl_layouts.specs.Equality.{same_mac, same_pmac}
 use Rattle.pl_layouts.specs.Memberships.{is_group}
 use Rattle.pl_journal.specs.declared.entry.Entry.{Entry}
 use Rattle.pl_journal.specs.declared.entry.Entry.TheVariants.{Granted}
-use Rattle.pl_journal.specs.Lossy.{IsNewer, mac_of_host}
+use Rattle.pl_journal.specs.Lossy.{mac_of_host}
 use Rattle.pl_journal.specs.Places.{Spot, at_port, holder, spot}
 use Rattle.pl_core.specs.declared.switch_records.Grant.{Grant}
 use Rattle.pl_core.specs.declared.trap.Trap.{Trap}
@@ -32,7 +31,7 @@ use Rattle.pl_flights.specs.Standing.{IsGranted, IsNext, KnowsAddresses, LeadsOn
 use Rattle.pl_flights.proofs.FindingHosts.{LooksAlike}
 use Rattle.pl_flights.proofs.Granting.{book_more}
 use Rattle.pl_flights.proofs.Keeping.{KeepsBook}
-use Rattle.pl_addresses.proofs.Numbers.{granted_here, local_here, none_used, now_at, number_past, number_push_other, number_push_same, number_set_other, number_set_same, number_within, others_at, used_is}
+use Rattle.pl_addresses.proofs.Numbers.{granted_here, local_here, now_at, number_push_other, number_push_same, number_set_other, number_set_same, number_within, others_at}
 use Rattle.pl_flights.proofs.SilentSteps.{AreSilent}
 use Rattle.pl_addresses.proofs.Words.{is_or_other, mac_itself}
 use Rattle.pl_manager_rule.proofs.Kept.{pmac_itself}

@@ -1,5 +1,5 @@
 -- A frame that has just come in from a host is on its way from there. So the edge switch where it came in is placed.
-use Rattle.std.proofs.Common.{◌⊎◌, inl, inr, ◌≡◌, ℕ, suc, ◌+◌, ◌*◌, ◌/◌, ◌%◌, ◌<◌, ◌≤◌, ◌==◌, ◌&&◌, nat_le, Bool, true, false, List, [], ◌∷◌, Option, None, Some, reverse, get_or, slice_get, refl, sym, ◌∙◌, ap, subst, arith, div-add-mod'}
+use Rattle.std.proofs.Common.{inl, inr, ◌≡◌, ℕ, suc, ◌+◌, ◌/◌, ◌%◌, ◌<◌, ◌≤◌, ◌==◌, ◌&&◌, nat_le, true, false, List, [], ◌∷◌, Some, reverse, get_or, slice_get, refl, sym, ◌∙◌, ap, subst, arith, div-add-mod'}
 use Rattle.std.specs.List.{AllByRecursion}
 use Rattle.std.proofs.lemmas.Bool.{and_from, and_parts, cases_Bool, cases_lt, cond-false, cond-true, eqb-true, false≢true, le-leb}
 use Rattle.std.proofs.lemmas.Nat.{mod_below}
@@ -12,7 +12,7 @@ use Rattle.pl_layouts.specs.declared.place.Place.{Place}
 use Rattle.pl_layouts.specs.Placement.{is_placed}
 use Rattle.pl_journal.specs.declared.entry.Entry.{Entry}
 use Rattle.pl_journal.specs.declared.entry.Entry.TheVariants.{Crossed}
-use Rattle.pl_journal.specs.Flights.{Flight, begun, came_in, ends, flight_of, has_just_come_in, is_begun, is_empty, is_flying, trail, was_live}
+use Rattle.pl_journal.specs.Flights.{Flight, begun, came_in, ends, has_just_come_in, is_begun, is_empty, is_flying, trail}
 use Rattle.pl_journal.specs.Lossy.{RunTo}
 use Rattle.pl_journal.specs.Places.{Spot}
 use Rattle.pl_journal.proofs.Numbered.{begun_within}
@@ -23,7 +23,7 @@ use Rattle.pl_world.specs.declared.item.Item.TheVariants.{Control, Data}
 use Rattle.pl_world.specs.Flying.{IsCounted, born, times_in, times_in_all}
 use Rattle.pl_world.specs.Worlds.{WorldView}
 use Rattle.pl_world.proofs.StepBalances.{sound}
-use Rattle.pl_flights.specs.OnTheWay.{Flying, IsGoing, IsOut, IsTold, IsWaiting, book_of, known_place, place_in}
+use Rattle.pl_flights.specs.OnTheWay.{Flying, IsGoing, IsOut, IsTold, IsWaiting, known_place, place_in}
 use Rattle.pl_flights.proofs.Counting.{counts}
 use Rattle.pl_flights.proofs.Settling.{HasNoneJustIn}
 

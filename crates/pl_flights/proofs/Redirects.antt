@@ -7,7 +7,6 @@ use Rattle.pl_frame.specs.Ethernet.{Fields, destination_of, source_of, with_dest
 use Rattle.pl_frame.proofs.Fields.{fields_of-with_destination, rest_of}
 use Rattle.pl_pmac.specs.declared.pmac.Pmac.{Pmac}
 use Rattle.pl_pmac.specs.Pmac.{Fits, mac_of, pmac_number}
-use Rattle.pl_pmac.proofs.Inverse.{pmac_of-mac_of}
 use Rattle.pl_wiring.specs.Plan.{IsPlan, Plan}
 use Rattle.pl_layouts.specs.declared.place.Place.{Place}
 use Rattle.pl_layouts.specs.Frames.{arriving, is_arp, mac_number, packet_in}

@@ -1,11 +1,9 @@
 -- A switch that becomes a placed edge switch may grant what it grants to the sources that it remembers.
-use Rattle.std.proofs.Common.{inl, inr, ◌≡◌, ◌≢◌, ℕ, zero, suc, ◌+◌, ◌<◌, ◌==◌, ◌&&◌, not, nat_lt, Bool, true, false, List, [], ◌∷◌, ◌++◌, length, Option, None, Some, get_or, reverse, set, slice_get, refl, sym, ◌∙◌, ap, ap₂, subst, arith, get_or-set_other}
+use Rattle.std.proofs.Common.{◌≡◌, ◌≢◌, ℕ, zero, suc, ◌+◌, ◌<◌, ◌==◌, not, nat_lt, true, false, List, [], ◌∷◌, ◌++◌, length, Option, None, Some, set, refl, sym, ◌∙◌, ap, ap₂, subst, arith, get_or-set_other}
 use Rattle.std.specs.List.{AllByRecursion, range_with_len}
-use Rattle.std.proofs.lemmas.Bool.{and_from, and_parts, and_right, cond-false, cond-true, cond_both, eq-eqb, false≢true, lt-ltb, ne_eqb}
-use Rattle.pl_frame.specs.declared.address.Ip4.{Ip4}
-use Rattle.pl_frame.specs.declared.address.Mac.{Mac}
+use Rattle.std.proofs.lemmas.Bool.{and_from, cond-false, eq-eqb, ne_eqb}
 use Rattle.pl_pmac.specs.declared.pmac.Pmac.{Pmac}
-use Rattle.pl_pmac.specs.Pmac.{Fits, pmac_number}
+use Rattle.pl_pmac.specs.Pmac.{pmac_number}
 use Rattle.pl_wiring.specs.Plan.{Plan}
 use Rattle.pl_journal.specs.declared.entry.Entry.{Entry}
 use Rattle.pl_journal.specs.declared.entry.Entry.TheVariants.{Granted}
@@ -16,7 +14,7 @@ use Rattle.pl_core.specs.declared.switch_records.Grant.{Grant}
 use Rattle.pl_core.specs.declared.switch_records.Source.{Source}
 use Rattle.pl_core.specs.SwitchViews.{SwitchView}
 use Rattle.pl_steps.specs.Steps.{SwitchStep, rests}
-use Rattle.pl_switch_rule.specs.Granting.{address_at_port, grants_at, grants_next, grants_or_learns, grants_remembered, grants_source, in_use, is_port_spent, new_grant, remembered_at, with_grants}
+use Rattle.pl_switch_rule.specs.Granting.{address_at_port, grants_at, grants_next, grants_or_learns, grants_remembered, grants_source, in_use, is_port_spent, new_grant, remembered_at}
 use Rattle.pl_world.specs.Changes.{host_no, host_of, switch_no}
 use Rattle.pl_flights.specs.Standing.{IsNext}
 use Rattle.pl_flights.proofs.Learning.{numbers_apart}

@@ -1,10 +1,10 @@
 -- A frame that went in under its sender's address leaves with its receiver's: it is as if both had been written at once.
-use Rattle.std.proofs.Common.{inl, inr, ◌≡◌, ℕ, ◌≤◌, Bool, true, false, List, ◌++◌, length, drop, Option, None, Some, is_some, refl, sym, ◌∙◌, ap, arith}
+use Rattle.std.proofs.Common.{inl, inr, ◌≡◌, ℕ, ◌≤◌, true, false, List, ◌++◌, length, drop, Option, None, Some, is_some, refl, sym, ◌∙◌, ap, arith}
 use Rattle.std.specs.Option.{option_map}
 use Rattle.std.proofs.lemmas.Bool.{cases_Bool}
 use Rattle.pl_frame.specs.declared.address.Mac.{Mac}
 use Rattle.pl_layouts.specs.Frames.{arriving, packet_in, with_addresses}
-use Rattle.pl_layouts.proofs.Arrivals.{arriving_by, arriving_parts, dst_in, head_in, lengths_in, long_frame, parts, sha_in, spa_in, tha_in, unreadable_parts}
+use Rattle.pl_layouts.proofs.Arrivals.{arriving_by, arriving_parts, dst_in, head_in, lengths_in, long_frame, parts, spa_in, tha_in, unreadable_parts}
 use Rattle.pl_layouts.proofs.Arrived.{arriving_readable, arriving_unreadable, is_readable, packet_in-arriving, six_dst}
 
 still_some : {A B : Type 0} (f : A → B) (o : Option A) → is_some (option_map f o) ≡ is_some o

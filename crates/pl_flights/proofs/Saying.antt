@@ -132,15 +132,22 @@ module _ (plan : Plan) (place : ℕ → Place) (book : Book) (t : ℕ) (v : Swit
       let x : IsGranted plan book t asker grant = knows.granted_here asker grant found in
       let to : destination_of (flood_frame asker asker_ip ip) ≡ broadcast = destination_of-arp_frame broadcast _ refl in
       spreads_good plan place book t v (made_here root t (flood_frame asker asker_ip ip)) (flood_frame asker asker_ip ip)
-      (record { last = refl; group = ap is_group to; kept = refl; address = refl; home = λ there is. absurd (cc); many = record {
-        leg = refl;
-        unaltered = refl;
-        from = asker;
-        fits = x.fits;
-        source = source_of-arp_frame broadcast _ refl refl;
-        there = at_port t asker.port;
-        granted = x.there;
-      } }) neighbours knows (Some FromHost) false
+      (record {
+        last = refl;
+        group = ap is_group to;
+        kept = refl;
+        address = refl;
+        home = λ there is. absurd (cc);
+        many = record {
+          leg = refl;
+          unaltered = refl;
+          from = asker;
+          fits = x.fits;
+          source = source_of-arp_frame broadcast _ refl refl;
+          there = at_port t asker.port;
+          granted = x.there;
+        };
+      }) neighbours knows (Some FromHost) false
 
   -- the request to a host that may still stand at an old address
   pub probe_good : (old : Pmac) (ip : Ip4) (grant : Grant) → granted v old ≡ Some grant →

@@ -1,8 +1,8 @@
 -- What an edge switch does with a frame of a host whose source was learnt is good.
-use Rattle.std.proofs.Common.{◌≡◌, ℕ, ◌≤◌, ◌==◌, ◌&&◌, ◌||◌, inl, inr, not, Bool, true, false, if◌then◌else◌, IsSome, List, [], ◌∷◌, ◌++◌, length, Option, None, Some, Result, Ok, Err, is_none, is_some, unwrap_or, refl, sym, ◌∙◌, ap, subst, append-nil}
+use Rattle.std.proofs.Common.{◌≡◌, ℕ, ◌≤◌, ◌==◌, ◌&&◌, ◌||◌, inl, inr, not, Bool, true, false, if◌then◌else◌, IsSome, List, [], ◌∷◌, length, Option, None, Some, Result, Ok, Err, is_none, is_some, refl, sym, ◌∙◌, ap, subst, append-nil}
 use Rattle.std.specs.List.{fold}
 use Rattle.std.specs.Result.{is_err, result_ok}
-use Rattle.std.proofs.lemmas.Bool.{and_from, and_parts, both_ways, cond-true, cond_both, false≢true, or_cases, or_left, or_right}
+use Rattle.std.proofs.lemmas.Bool.{and_parts, cond_both, false≢true, or_cases, or_left, or_right}
 use Rattle.pl_frame.specs.declared.address.Mac.{Mac}
 use Rattle.pl_frame.specs.Ethernet.{destination_of, payload_of, source_of}
 use Rattle.pl_arp.specs.declared.packet.Arp.{Arp}
@@ -26,21 +26,20 @@ use Rattle.pl_core.specs.declared.switch_records.Grant.{Grant}
 use Rattle.pl_core.specs.SwitchViews.{SwitchView}
 use Rattle.pl_steps.specs.Steps.{SwitchStep}
 use Rattle.pl_switch_rule.specs.declared.came.Came.TheVariants.{FromHost}
-use Rattle.pl_switch_rule.specs.Delivering.{arrives_home, destination}
+use Rattle.pl_switch_rule.specs.Delivering.{destination}
 use Rattle.pl_switch_rule.specs.Forwarding.{Choice, forwards}
 use Rattle.pl_switch_rule.specs.Granting.{is_local}
-use Rattle.pl_switch_rule.specs.GroupForwarding.{forwards_group}
-use Rattle.pl_switch_rule.specs.Intake.{asks_manager, changes_member, groups_told, hears_members, is_for_switch, packet_acts, query, sends_in, source_pmac, takes, takes_in, with_pmac}
+use Rattle.pl_switch_rule.specs.Intake.{changes_member, hears_members, is_for_switch, packet_acts, query, sends_in, source_pmac, takes_in, with_pmac}
 use Rattle.pl_switch_rule.specs.SwitchRule.{IsChoice}
 use Rattle.pl_flights.specs.OnTheWay.{Book, CameInPlaced, WillBeUnaltered}
 use Rattle.pl_flights.specs.Standing.{IsGranted, KnowsAddresses, KnowsNeighbours, KnowsPlaces}
 use Rattle.pl_flights.proofs.AtHome.{arrives_good}
 use Rattle.pl_flights.proofs.FromManager.{silent_groups}
-use Rattle.pl_flights.proofs.Hands.{GoodActs, Hand, MayTake}
-use Rattle.pl_flights.proofs.Hands.Hand.{Empty, Waits}
+use Rattle.pl_flights.proofs.Hands.{GoodActs, MayTake}
+use Rattle.pl_flights.proofs.Hands.Hand.{Waits}
 use Rattle.pl_flights.proofs.HomeActs.{IsHere, leaves_then}
 use Rattle.pl_flights.proofs.Rewriting.{arriving_twice}
-use Rattle.pl_flights.proofs.Saying.{IsSpreading, spreads_good}
+use Rattle.pl_flights.proofs.Saying.{spreads_good}
 use Rattle.pl_flights.proofs.SilentSteps.{AreSilent, silent_good}
 
 -- A frame of a host in hand at switch t, which it crossed alone.

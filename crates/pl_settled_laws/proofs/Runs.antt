@@ -26,8 +26,10 @@ use Rattle.pl_records.proofs.LinkRuns.{run_links}
 use Rattle.pl_records.proofs.Running.{run_ordered, run_reported}
 use Rattle.pl_placing.specs.Resting.{HasFirst, HavePositions}
 use Rattle.pl_placing.proofs.Runs.{run_places}
+use Rattle.pl_settled_laws.specs.AtPlace.{ReceiversArePlaced}
 use Rattle.pl_settled_laws.specs.Whole.{IsWholePod}
 use Rattle.pl_settled_laws.proofs.Pods.{settled_first, settled_positions}
+use Rattle.pl_settled_laws.proofs.Placed.{receivers_placed}
 use Rattle.pl_settled_laws.proofs.Records.{are_current, links_current}
 
 module _ (switch : SwitchRule) (manager : ManagerRule) (host : HostRule) (within : IsWithin switch Loose) (lawful : IsManagerRule manager)
@@ -50,3 +52,7 @@ module _ (switch : SwitchRule) (manager : ManagerRule) (host : HostRule) (within
       ((control_plane new).view (edge_no new.plan.k pod i)).place.level ≡ Some 0 → HasFirst (control_plane new) pod
   run_first settled few pod whole i edge level =
       settled_first new (run_keeps_all host sends owns plan limits moments new can loose) settled (run_places host sends owns plan limits moments new can loose) few pod whole i edge level
+
+  pub run_placed : IsSettled new → new.steps < 4294967295 → (pod : ℕ) → IsWholePod new pod → ReceiversArePlaced new pod
+  run_placed settled few pod whole =
+      receivers_placed new (run_places host sends owns plan limits moments new can loose) (run_keeps_all host sends owns plan limits moments new can loose) settled few pod whole

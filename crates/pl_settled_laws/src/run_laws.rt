@@ -12,6 +12,7 @@ ghost use Rattle.pl_control_plane.specs.ControlPlanes.{control_plane};
 ghost use Rattle.pl_votes.specs.Voting.{edge_no};
 ghost use Rattle.pl_records.specs.Records.{AreCurrent, LinksAreCurrent};
 ghost use Rattle.pl_placing.specs.Resting.{HasFirst, HavePositions};
+ghost use Rattle.pl_settled_laws.specs.AtPlace.{ReceiversArePlaced};
 ghost use Rattle.pl_settled_laws.specs.Whole.{IsWholePod};
 
 use pl_core::HostCore;
@@ -32,8 +33,9 @@ pub fn records_are_current_in_every_run_where_queues_are_settled<
 {}
 
 /// So it is in each such run where the fabric is settled. And as long as there were fewer steps than the
-/// largest attempt, each edge switch there that knows its level, of a pod that lacks no link, has a position;
-/// and if there is one, one of the pod has position 0.
+/// largest attempt, each edge switch there that knows its level, of a pod that lacks no link, has a position,
+/// and if there is one, one of the pod has position 0; and each that received a frame of a host has level 0,
+/// a position and a pod.
 pub fn settled_runs_have_current_records_and_positions<
     S: LooseSwitch,
     M: LawfulManager,
@@ -49,4 +51,7 @@ pub fn settled_runs_have_current_records_and_positions<
         WorldRun S.rule M.rule H.rule (booted plan limits) moments new → IsSettled new → new.steps < 4294967295 →
         (pod : ℕ) → IsWholePod new pod → (i : ℕ) → IsLabel new.plan.k (Edge pod i) →
         ((control_plane new).view (edge_no new.plan.k pod i)).place.level ≡ Some 0 → HasFirst (control_plane new) pod }
+    ensures placed { (plan : Plan) (limits : Limits) (moments : List Moment) (new : WorldView) → CanBegin plan →
+        WorldRun S.rule M.rule H.rule (booted plan limits) moments new → IsSettled new → new.steps < 4294967295 →
+        (pod : ℕ) → IsWholePod new pod → ReceiversArePlaced new pod }
 {}

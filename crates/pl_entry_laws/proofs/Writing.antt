@@ -118,12 +118,12 @@ host_acts_quiet w h (Send frame ∷ acts) =
     quiet_then w mid (fold (host_act_done h) mid acts)
     (record { adds = adds_others w.journal (Sent (w.begun + 1) (host_no h) frame ∷ []) ((refl, refl), tt); switches = refl; manager = refl }) (host_acts_quiet mid h acts)
 
-turn_quiet : (rule : HostRule) (w : WorldView) (h : ℕ) (input : HostInput) (answer : HostAnswer) (new : WorldView) → HostTurn rule w h input answer new → IsQuiet w new
+pub turn_quiet : (rule : HostRule) (w : WorldView) (h : ℕ) (input : HostInput) (answer : HostAnswer) (new : WorldView) → HostTurn rule w h input answer new → IsQuiet w new
 turn_quiet rule w h input answer new turn =
     let r = host_acts_quiet (record w { hosts = set w.hosts h turn.after }) h turn.acts in
     quiet_is w _ new turn.changed (record { adds = r.adds; switches = r.switches; manager = r.manager })
 
-plays_quiet : (rule : HostRule) (w : WorldView) (h : ℕ) (input : HostInput) (new : WorldView) → HostPlays rule w h input new → IsQuiet w new
+pub plays_quiet : (rule : HostRule) (w : WorldView) (h : ℕ) (input : HostInput) (new : WorldView) → HostPlays rule w h input new → IsQuiet w new
 plays_quiet rule w h input new plays =
     quiet_then w (skip_noted w h plays.skip) new (by plays.skip) (turn_quiet rule (skip_noted w h plays.skip) h input _ new plays.turn)
   where

@@ -1,5 +1,5 @@
 -- What holds of each moment of a run of lawful cores from the beginning, and what it comes to where the fabric is settled.
-use Rattle.std.proofs.Common.{◌≡◌, ◌<◌, ℕ, List, Some}
+use Rattle.std.proofs.Common.{◌≡◌, ◌<◌, ℕ, List, [], ◌∷◌, ◌++◌, Some, None, subst}
 use Rattle.pl_wiring.specs.declared.label.Label.TheVariants.{Edge}
 use Rattle.pl_wiring.specs.Labels.{IsLabel}
 use Rattle.pl_wiring.specs.Plan.{Plan}
@@ -16,7 +16,10 @@ use Rattle.pl_world.specs.Booting.{CanBegin, booted}
 use Rattle.pl_world.specs.Runs.{Moment, WorldRun}
 use Rattle.pl_world.specs.SettledQueues.{HasSettledQueues}
 use Rattle.pl_world.specs.Worlds.{WorldView}
+use Rattle.pl_fabric.specs.declared.settling.Settling.{Settling}
 use Rattle.pl_fabric.specs.Settled.{IsSettled}
+use Rattle.pl_fabric.specs.Settlings.{Settles}
+use Rattle.pl_fabric.proofs.CourseRuns.{rounds_are_run}
 use Rattle.pl_control_plane.specs.ControlPlanes.{control_plane}
 use Rattle.pl_votes.specs.Voting.{edge_no}
 use Rattle.pl_kept.proofs.Keeping.{run_keeps_all}
@@ -56,3 +59,16 @@ module _ (switch : SwitchRule) (manager : ManagerRule) (host : HostRule) (within
   pub run_placed : IsSettled new → new.steps < 4294967295 → (pod : ℕ) → IsWholePod new pod → ReceiversArePlaced new pod
   run_placed settled few pod whole =
       receivers_placed new (run_places host sends owns plan limits moments new can loose) (run_keeps_all host sends owns plan limits moments new can loose) settled few pod whole
+
+-- one run behind another
+runs_on : (switch : SwitchRule) (manager : ManagerRule) (host : HostRule) (old mid new : WorldView) (moments more : List Moment) → WorldRun switch manager host old moments mid →
+    WorldRun switch manager host mid more new → WorldRun switch manager host old (moments ++ more) new
+runs_on switch manager host old mid new [] more same run = subst (λ (w : WorldView). WorldRun switch manager host w more new) same run
+runs_on switch manager host old mid new (moment ∷ moments) more first run = (first.0, first.1, runs_on switch manager host first.0 mid new moments more first.2 run)
+
+-- a settling is one
+pub settled_by_run : (switch : SwitchRule) (manager : ManagerRule) (host : HostRule) (begun old new : WorldView) (moments : List Moment) (asked : ℕ) (answer : Settling) →
+    WorldRun switch manager host begun moments old → Settles switch manager host asked old answer new → (all : List Moment) × WorldRun switch manager host begun all new
+settled_by_run switch manager host begun old new moments asked answer run settles =
+    let rounds = rounds_are_run switch manager host settles.used old new None settles.rounds in
+    (moments ++ rounds.0, runs_on switch manager host begun old new moments rounds.0 run rounds.1)

@@ -5,6 +5,7 @@
 pub use run_laws::{
     records_are_current_in_every_run_where_queues_are_settled,
     settled_runs_have_current_records_and_positions,
+    settlings_end_with_current_records_and_placed_edge_switches,
 };
 pub use settled_laws::{
     a_settled_pod_is_at_rest, edge_switches_of_a_settled_pod_have_positions,

@@ -7,7 +7,9 @@ ghost use Rattle.pl_world.specs.Booting.{CanBegin, booted};
 ghost use Rattle.pl_world.specs.Runs.{Moment, WorldRun};
 ghost use Rattle.pl_world.specs.SettledQueues.{HasSettledQueues};
 ghost use Rattle.pl_world.specs.Worlds.{WorldView};
+ghost use Rattle.pl_fabric.specs.declared.settling.Settling.TheVariants.{Settled};
 ghost use Rattle.pl_fabric.specs.Settled.{IsSettled};
+ghost use Rattle.pl_fabric.specs.Settlings.{Settles};
 ghost use Rattle.pl_control_plane.specs.ControlPlanes.{control_plane};
 ghost use Rattle.pl_votes.specs.Voting.{edge_no};
 ghost use Rattle.pl_records.specs.Records.{AreCurrent, LinksAreCurrent};
@@ -54,4 +56,19 @@ pub fn settled_runs_have_current_records_and_positions<
     ensures placed { (plan : Plan) (limits : Limits) (moments : List Moment) (new : WorldView) → CanBegin plan →
         WorldRun S.rule M.rule H.rule (booted plan limits) moments new → IsSettled new → new.steps < 4294967295 →
         (pod : ℕ) → IsWholePod new pod → ReceiversArePlaced new pod }
+{}
+
+/// So it is where a settling of a fabric, at any moment of such a run, ends with the answer that it is
+/// settled.
+pub fn settlings_end_with_current_records_and_placed_edge_switches<
+    S: LooseSwitch,
+    M: LawfulManager,
+    H: HostCore,
+>()
+    ensures records { (plan : Plan) (limits : Limits) (moments : List Moment) (old : WorldView) (asked rounds : ℕ) (new : WorldView) → CanBegin plan →
+        WorldRun S.rule M.rule H.rule (booted plan limits) moments old → Settles S.rule M.rule H.rule asked old (Settled rounds) new →
+        AreCurrent (control_plane new) × LinksAreCurrent (control_plane new) }
+    ensures placed { (plan : Plan) (limits : Limits) (moments : List Moment) (old : WorldView) (asked rounds : ℕ) (new : WorldView) → CanBegin plan →
+        WorldRun S.rule M.rule H.rule (booted plan limits) moments old → Settles S.rule M.rule H.rule asked old (Settled rounds) new →
+        new.steps < 4294967295 → (pod : ℕ) → IsWholePod new pod → ReceiversArePlaced new pod }
 {}

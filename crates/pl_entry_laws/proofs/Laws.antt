@@ -69,7 +69,7 @@ module _ (switch : SwitchRule) (manager : ManagerRule) (host : HostRule) (old : 
       by (Neither q) =
           ap placings (entries_written old new [] [] q.adds) ∙ q.adds.of_places ∙ sym (ap (new_places 0 old.switches) q.switches ∙ none_new 0 old.switches)
       by (Turned s before after found switches adds stays) =
-          ap placings (entries_written old new _ [] adds) ∙ adds.of_places 
+          ap placings (entries_written old new _ [] adds) ∙ adds.of_places
           ∙ sym (ap (new_places 0 old.switches) switches ∙ one_new 0 s old.switches before after found ∙ ap (λ n. placed_then n before.place after.place) (omega arith))
       by (Managed id told after acts ruled is adds switches) =
           ap placings (entries_written old new [] _ adds) ∙ adds.of_places ∙ sym (ap (new_places 0 old.switches) switches ∙ none_new 0 old.switches)

@@ -23,22 +23,14 @@ pub fn places_are_written_where_they_change<S: SwitchCore, M: ManagerCore, H: Ho
 {}
 
 /// Those that it writes of registrations are what the manager registers in it, with its numbers.
-pub fn registrations_are_written_where_they_are_made<
-    S: SwitchCore,
-    M: ManagerCore,
-    H: HostCore,
->()
+pub fn registrations_are_written_where_they_are_made<S: SwitchCore, M: ManagerCore, H: HostCore>()
     ensures { (old : WorldView) (event : Event) (new : WorldView) → WorldStep S.rule M.rule H.rule old event new →
         map with_number (registry new.manager.learnt) ≡ registrations (written old new) ++ map with_number (registry old.manager.learnt) }
 {}
 
 /// So at each moment of each run from the beginning the place that a switch knows is what was written last
 /// of it, or it knows nothing and nothing was written.
-pub fn places_are_what_was_written_last_in_every_run<
-    S: SwitchCore,
-    M: ManagerCore,
-    H: HostCore,
->()
+pub fn places_are_what_was_written_last_in_every_run<S: SwitchCore, M: ManagerCore, H: HostCore>()
     ensures { (plan : Plan) (limits : Limits) (moments : List Moment) (new : WorldView) →
         WorldRun S.rule M.rule H.rule (booted plan limits) moments new →
         (s : ℕ) (v : SwitchView) → slice_get new.switches s ≡ Some v → place_written (reverse new.journal) s ≡ v.place }
@@ -46,11 +38,7 @@ pub fn places_are_what_was_written_last_in_every_run<
 
 /// And the registrations of the journal are those of the manager, the oldest first; their numbers are 1, 2,
 /// 3 and so on.
-pub fn addresses_are_registered_in_order_in_every_run<
-    S: SwitchCore,
-    M: ManagerCore,
-    H: HostCore,
->()
+pub fn addresses_are_registered_in_order_in_every_run<S: SwitchCore, M: ManagerCore, H: HostCore>()
     ensures same { (plan : Plan) (limits : Limits) (moments : List Moment) (new : WorldView) →
         WorldRun S.rule M.rule H.rule (booted plan limits) moments new →
         reverse (registrations new.journal) ≡ map with_number (registry new.manager.learnt) }

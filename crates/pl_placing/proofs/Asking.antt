@@ -136,7 +136,7 @@ takes v n level position none within =
     let known = and_from (is_known v.place.level 0) (is_known v.place.position 0) (ap (λ (o : Option ℕ). is_known o 0) level) (ap (λ (o : Option ℕ). is_known o 0) position) in
     let without = and_from (is_known v.place.level 0 && is_known v.place.position 0) (is_none v.place.pod) known (ap (λ (o : Option ℕ). is_none o) none) in
     let may : takes_pod v n ≡ true = and_from (is_known v.place.level 0 && is_known v.place.position 0 && is_none v.place.pod) (not (n == 65535)) without
-        (ap not (ne_eqb n 65535 (λ is. absurd (omega (arith, within, is))))) in
+    (ap not (ne_eqb n 65535 (λ is. absurd (omega (arith, within, is))))) in
     ap (λ b. (if◌then◌else◌ {A = SwitchStep} b (changes_to v (with_pod v (Some n))) (rests v)).view.place.pod) may
     ∙ ap (λ (p : Place). p.pod) ((changes v (with_pod v (Some n))).stands level)
 
@@ -227,7 +227,7 @@ module _ (f : ControlPlane) (is : IsPlan f.plan) where
     order_owes m s (say.Pod n) same first turns = λ at none.
         let view = view_then m s (Says (say.Pod n)) turns in
         let was : (m.view s).place.position ≡ Some 0 = ap (λ (x : Stance). x.position) (sym (mild_manager turns.ruled.choose (m.view s) (say.Pod n)).same)
-            ∙ ap (λ (v : SwitchView). v.place.position) (sym view) ∙ at in
+        ∙ ap (λ (v : SwitchView). v.place.position) (sym view) ∙ at in
         let level = ap (λ (v : SwitchView). v.place.level) same ∙ ((placed.own s).position 0 (ap (λ (v : SwitchView). v.place.position) (sym same) ∙ was)).0 in
         let number : n < 65535 = (subst (AllByRecursion IsPodNumber) first (numbers s)).0 in
         let takes = ap (λ (v : SwitchView). v.place.pod) view ∙ takes (m.view s) n level was (unknown none (m.view s).place.pod refl) number in

@@ -15,7 +15,7 @@ use Rattle.pl_journal.specs.declared.entry.Entry.{Entry}
 use Rattle.pl_journal.specs.declared.entry.Entry.TheVariants.{Arrived, Copied, Crossed, Dropped, Granted, Line, LinkDown, LinkUp, Made, Moved, Placed, Redirected, Registered, Sent, Settled, Skipped, Taken, Unsettled}
 use Rattle.pl_core.specs.HostInputs.{HostRule}
 use Rattle.pl_core.specs.ManagerDuties.{AnswersDuly, ManagerRule, numbered_by, with_number}
-use Rattle.pl_core.specs.ManagerViews.{Registration, numbered, registry}
+use Rattle.pl_core.specs.ManagerViews.{Registration, registry}
 use Rattle.pl_core.specs.SwitchFacts.{switch_at_boot}
 use Rattle.pl_core.specs.SwitchInputs.{SwitchRule}
 use Rattle.pl_core.specs.SwitchViews.{SwitchView}

@@ -1,5 +1,5 @@
 -- What a step writes of places and of registrations: none, or what a switch came to know, or what the manager registers.
-use Rattle.std.proofs.Common.{◌≡◌, ℕ, ◌+◌, Bool, true, false, if◌then◌else◌, List, [], ◌∷◌, ◌++◌, set, slice_get, fold, Option, Some, None, refl, sym, ap, ◌∙◌, subst, append-nil}
+use Rattle.std.proofs.Common.{◌≡◌, ℕ, ◌+◌, Bool, true, false, if◌then◌else◌, List, [], ◌∷◌, ◌++◌, set, slice_get, fold, Option, Some, None, refl, sym, ap, ◌∙◌, subst}
 use Rattle.std.specs.List.{AllByRecursion, filter_map, position}
 use Rattle.pl_frame.specs.declared.address.SwitchId.{SwitchId}
 use Rattle.pl_pmac.specs.declared.pmac.Pmac.{Pmac}
@@ -37,8 +37,8 @@ use Rattle.pl_world.specs.declared.stand.Stand.{Stand}
 use Rattle.pl_world.specs.Changes.{all_noted, host_no, host_of, is_failed_at, noted, out_of, said_to, switch_no}
 use Rattle.pl_world.specs.LinksAndMoves.{link_between}
 use Rattle.pl_world.specs.OtherActs.{heard_after_tick, manager_act_done}
-use Rattle.pl_world.specs.SwitchActs.{Doing, act_done, acts_done, begins, crossed_again, granted, place_noted, with_late}
-use Rattle.pl_world.specs.WorldRule.{ComesAtSwitch, ComesIn, ComesOver, DeliversFromHost, DeliversFromManager, DeliversOut, DeliversToManager, Happens, ManagerTurn, SwitchTurn, WorldStep, heard_item}
+use Rattle.pl_world.specs.SwitchActs.{Doing, act_done, acts_done, begins, crossed_again, granted}
+use Rattle.pl_world.specs.WorldRule.{ComesAtSwitch, ComesIn, ComesOver, DeliversFromHost, DeliversFromManager, DeliversOut, DeliversToManager, Happens, SwitchTurn, WorldStep, heard_item}
 use Rattle.pl_world.specs.Worlds.{WorldView}
 use Rattle.pl_entry_laws.proofs.Writing.{Adds, IsOther, IsQuiet, adds_nothing, adds_others, adds_then, comes_out_quiet, fails_quiet, goes_quiet, loses_quiet, others_both, plays_quiet, quiet_self, quiet_then, repaired_quiet, turn_quiet}
 

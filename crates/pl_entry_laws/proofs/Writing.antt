@@ -1,52 +1,29 @@
 -- What each part of a step writes of places and of registrations.
-use Rattle.std.proofs.Common.{◌≡◌, ℕ, ◌+◌, Bool, true, false, if◌then◌else◌, List, [], ◌∷◌, ◌++◌, set, slice_get, fold, Option, Some, None, refl, sym, ap, ◌∙◌, subst, append-nil, append_assoc}
-use Rattle.std.specs.List.{AllByRecursion, cons_option, filter_map, position}
+use Rattle.std.proofs.Common.{◌≡◌, ℕ, ◌+◌, List, [], ◌∷◌, ◌++◌, set, fold, Option, Some, None, refl, sym, ap, ◌∙◌, subst, append-nil, append_assoc}
+use Rattle.std.specs.List.{AllByRecursion, cons_option}
 use Rattle.std.proofs.lemmas.List.Elements.{filter_map-append}
-use Rattle.pl_frame.specs.declared.address.SwitchId.{SwitchId}
 use Rattle.pl_pmac.specs.declared.pmac.Pmac.{Pmac}
 use Rattle.pl_layouts.specs.declared.place.Place.{Place}
-use Rattle.pl_layouts.specs.Equality.{same_switch}
-use Rattle.pl_layouts.specs.Placement.{same_place}
 use Rattle.pl_wiring.specs.declared.link.Link.{Link}
-use Rattle.pl_wiring.specs.declared.link.Peer.{Peer}
-use Rattle.pl_wiring.specs.declared.link.Peer.TheVariants.{HostPort, Switch}
 use Rattle.pl_wiring.specs.Index.{port_index}
-use Rattle.pl_wiring.specs.Peers.{peer_of}
 use Rattle.pl_journal.specs.declared.cause.Cause.{Cause}
 use Rattle.pl_journal.specs.declared.cause.Cause.TheVariants as cause
 use Rattle.pl_journal.specs.declared.cause.Skip.{Skip}
 use Rattle.pl_journal.specs.declared.entry.Entry.{Entry}
-use Rattle.pl_journal.specs.declared.entry.Entry.TheVariants.{Arrived, Crossed, Dropped, LinkDown, LinkUp, Moved, Placed, Registered, Sent, Skipped}
-use Rattle.pl_core.specs.declared.acts.Act.{Act}
-use Rattle.pl_core.specs.declared.acts.Act.TheVariants as act
+use Rattle.pl_journal.specs.declared.entry.Entry.TheVariants.{Arrived, Dropped, LinkDown, LinkUp, Moved, Sent, Skipped}
 use Rattle.pl_core.specs.declared.acts.HostAct.{HostAct}
 use Rattle.pl_core.specs.declared.acts.HostAct.TheVariants.{Send}
-use Rattle.pl_core.specs.declared.acts.ManagerAct.{ManagerAct}
-use Rattle.pl_core.specs.declared.acts.ManagerAct.TheVariants.{Number, Say}
-use Rattle.pl_core.specs.declared.messages.ToManager.{ToManager}
-use Rattle.pl_core.specs.declared.messages.ToSwitch.{ToSwitch}
 use Rattle.pl_core.specs.declared.reception.Reception.{Reception}
 use Rattle.pl_core.specs.declared.reception.Reception.TheVariants.{Kept, NotMember}
 use Rattle.pl_core.specs.HostInputs.{HostAnswer, HostInput, HostRule}
-use Rattle.pl_core.specs.ManagerDuties.{ManagerRule, numbered_by}
-use Rattle.pl_core.specs.ManagerViews.{ManagerView}
-use Rattle.pl_core.specs.SwitchInputs.{SwitchInput, SwitchRule}
-use Rattle.pl_core.specs.SwitchInputs.SwitchInput.{Comes, Says, Tick}
-use Rattle.pl_core.specs.SwitchViews.{SwitchView}
 use Rattle.pl_queues.specs.Queues.{items_at}
-use Rattle.pl_world.specs.declared.event.Event.{Event}
-use Rattle.pl_world.specs.declared.event.Event.TheVariants as event
-use Rattle.pl_world.specs.declared.event.QueueName.TheVariants as queue
 use Rattle.pl_world.specs.declared.item.Item.{Item}
 use Rattle.pl_world.specs.declared.item.Item.TheVariants.{Control, Data}
-use Rattle.pl_world.specs.declared.spoken_frame.SpokenFrame.{SpokenFrame}
-use Rattle.pl_world.specs.declared.spoken_frame.SpokenFrame.TheVariants.{Over, Passed, Silent, Waiting}
 use Rattle.pl_world.specs.declared.stand.Stand.{Stand}
-use Rattle.pl_world.specs.Changes.{ends_of, host_no, host_of, noted, out_of, receiver, said_to, sent_by_host, switch_no}
-use Rattle.pl_world.specs.LinksAndMoves.{host_moved, item_lost, link_between, link_failed}
-use Rattle.pl_world.specs.OtherActs.{heard_after_tick, host_act_done, manager_act_done, reception_noted, skip_noted}
-use Rattle.pl_world.specs.SwitchActs.{Doing, act_done, acts_done, begins, crossed_again, granted, place_noted, with_late}
-use Rattle.pl_world.specs.WorldRule.{ComesAtHost, ComesAtSwitch, ComesIn, ComesOut, ComesOver, DeliversFromHost, DeliversFromManager, DeliversOut, DeliversToManager, Fails, Goes, Happens, HostPlays, HostReceives, HostTurn, IsRepaired, Loses, ManagerTurn, SwitchTurn, WorldStep, heard_item}
+use Rattle.pl_world.specs.Changes.{ends_of, host_no, receiver, sent_by_host}
+use Rattle.pl_world.specs.LinksAndMoves.{host_moved, item_lost, link_failed}
+use Rattle.pl_world.specs.OtherActs.{host_act_done, reception_noted, skip_noted}
+use Rattle.pl_world.specs.WorldRule.{ComesAtHost, ComesOut, Fails, Goes, HostPlays, HostReceives, HostTurn, IsRepaired, Loses}
 use Rattle.pl_world.specs.Worlds.{WorldView}
 use Rattle.pl_entry_laws.specs.Entries.{placing_in, placings, registration_in, registrations}
 

@@ -1,7 +1,7 @@
 -- Each step keeps it that edge switches with position 0 and without a pod have asked for its number.
-use Rattle.std.proofs.Common.{◌≡◌, ◌⊎◌, ◌<◌, ◌+◌, ◌%◌, ℕ, ◌==◌, ◌&&◌, ◌||◌, not, Bool, true, false, true≢false, if◌then◌else◌, List, [], ◌∷◌, ◌++◌, map, replicate, get_or, Option, Some, None, is_none, unwrap_or, Result, Ok, Err, position, slice_get, refl, sym, ap, ◌∙◌, subst, arith, inl, inr, eq-eqb, ne_eqb, eqb-true, flat_map}
+use Rattle.std.proofs.Common.{◌≡◌, ◌⊎◌, ◌<◌, ◌+◌, ◌%◌, ℕ, ◌==◌, ◌&&◌, ◌||◌, not, Bool, true, false, true≢false, if◌then◌else◌, List, [], ◌∷◌, ◌++◌, Option, Some, None, is_none, unwrap_or, Result, Ok, Err, position, slice_get, refl, sym, ap, ◌∙◌, subst, arith, inl, inr, eq-eqb, ne_eqb, flat_map}
 use Rattle.std.specs.List.{AllByRecursion, list_any}
-use Rattle.std.proofs.lemmas.Bool.{and_from, and_parts, cases_eq, cond_both}
+use Rattle.std.proofs.lemmas.Bool.{and_from, cases_eq}
 use Rattle.pl_frame.specs.declared.address.SwitchId.{SwitchId}
 use Rattle.pl_layouts.specs.declared.control.Control.{Control}
 use Rattle.pl_layouts.specs.declared.control.Control.TheVariants.{Ldm, Proposal, Vote}
@@ -16,7 +16,7 @@ use Rattle.pl_frame.specs.Ethernet.{payload_of}
 use Rattle.pl_wiring.specs.Plan.{IsPlan}
 use Rattle.pl_core.specs.declared.acts.Act.{Act}
 use Rattle.pl_core.specs.declared.acts.ManagerAct.{ManagerAct}
-use Rattle.pl_core.specs.declared.acts.ManagerAct.TheVariants.{Number, Say}
+use Rattle.pl_core.specs.declared.acts.ManagerAct.TheVariants.{Say}
 use Rattle.pl_core.specs.declared.messages.ToManager.{ToManager}
 use Rattle.pl_core.specs.declared.messages.ToManager.TheVariants as tell
 use Rattle.pl_core.specs.declared.messages.ToSwitch.{ToSwitch}
@@ -27,7 +27,7 @@ use Rattle.pl_core.specs.SwitchInputs.{SwitchInput}
 use Rattle.pl_core.specs.SwitchInputs.SwitchInput.{Comes, Says, Tick}
 use Rattle.pl_core.specs.SwitchViews.{SwitchView}
 use Rattle.pl_steps.specs.Steps.{SwitchStep, rests}
-use Rattle.pl_manager_rule.specs.ManagerRule.{avoid_acts, manager_hears, manager_rule, reply, tree_acts, view_after}
+use Rattle.pl_manager_rule.specs.ManagerRule.{avoid_acts, manager_hears, manager_rule, tree_acts, view_after}
 use Rattle.pl_switch_rule.specs.Forwarding.{Choice}
 use Rattle.pl_switch_rule.specs.Levels.{after_message, changes_to, settles_in, with_pod}
 use Rattle.pl_switch_rule.specs.Messages.{hears_pod, takes_pod}
@@ -44,7 +44,7 @@ use Rattle.pl_places.specs.Told.{IsTrueOf}
 use Rattle.pl_votes.proofs.AggregationTurns.{proposal_stance, same_stance}
 use Rattle.pl_votes.proofs.Aside.{Stance, aside_data, changes, mild_manager}
 use Rattle.pl_placing.specs.Asking.{HaveAsked, is_number, is_wish}
-use Rattle.pl_placing.proofs.Voting.{IsCounted, counts_says}
+use Rattle.pl_placing.proofs.Voting.{counts_says}
 
 or_first : (a b : Bool) → a ≡ true → (a || b) ≡ true
 or_first true b is = refl

@@ -1,10 +1,10 @@
 -- Each step keeps it that edge switches that received a frame of a host know their level.
-use Rattle.std.proofs.Common.{◌≡◌, ◌⊎◌, ◌<◌, ◌+◌, ◌*◌, ℕ, Bool, true, false, if◌then◌else◌, List, [], ◌∷◌, length, reverse, set, slice_get, Option, Some, None, refl, sym, ap, ◌∙◌, subst, arith, inl, inr}
+use Rattle.std.proofs.Common.{◌≡◌, ◌⊎◌, ◌<◌, ◌+◌, ℕ, false, if◌then◌else◌, List, [], ◌∷◌, length, reverse, set, slice_get, Option, Some, None, refl, sym, ap, ◌∙◌, subst, arith, inl, inr}
 use Rattle.std.specs.List.{AllByRecursion}
 use Rattle.std.proofs.lemmas.Bool.{cases_eq}
 use Rattle.std.proofs.lemmas.Option.{same_Some}
 use Rattle.pl_layouts.specs.Control.{is_control}
-use Rattle.pl_wiring.specs.Labels.{label_of, switch_count}
+use Rattle.pl_wiring.specs.Labels.{label_of}
 use Rattle.pl_wiring.proofs.LabelOrder.{label_of-edge}
 use Rattle.pl_core.specs.HostInputs.{HostRule}
 use Rattle.pl_core.specs.SwitchInputs.SwitchInput.{Comes}
@@ -35,7 +35,7 @@ use Rattle.pl_places.specs.Known.{level_of}
 use Rattle.pl_places.specs.Told.{IsTrueOf}
 use Rattle.pl_places.proofs.Later.{true_of_itself}
 use Rattle.pl_kept.specs.Kept.{Kept}
-use Rattle.pl_placing.specs.Receiving.{HaveCrossed, HaveLevels, has_received}
+use Rattle.pl_placing.specs.Receiving.{HaveCrossed, HaveLevels}
 use Rattle.pl_placing.proofs.HostLevels.{host_gives_level}
 use Rattle.pl_placing.proofs.Receiving.{HostComesAt, step_goes}
 use Rattle.pl_placing.proofs.Seeing.{Seen, Turned}

@@ -1,5 +1,5 @@
 -- What each event does to the frames behind ports, and to what was received of hosts.
-use Rattle.std.proofs.Common.{◌≡◌, ◌⊎◌, ◌≤◌, ◌<◌, ◌+◌, ℕ, ◌==◌, ◌&&◌, Bool, true, false, true≢false, if◌then◌else◌, List, [], ◌∷◌, ◌++◌, reverse, get_or, set, slice_get, Option, Some, None, is_some, refl, sym, ap, ◌∙◌, subst, arith, inl, inr, fold, nat_le, eq-eqb, leb-true}
+use Rattle.std.proofs.Common.{◌≡◌, ◌≤◌, ◌+◌, ℕ, ◌&&◌, Bool, true, false, true≢false, if◌then◌else◌, List, [], ◌∷◌, reverse, set, slice_get, Option, Some, None, is_some, refl, sym, ap, ◌∙◌, subst, arith, inl, fold, nat_le, eq-eqb, leb-true}
 use Rattle.std.specs.List.{AllByRecursion, position}
 use Rattle.std.proofs.lemmas.Bool.{and_parts}
 use Rattle.pl_pmac.specs.declared.pmac.Pmac.{Pmac}
@@ -39,15 +39,15 @@ use Rattle.pl_world.specs.declared.spoken_frame.SpokenFrame.{SpokenFrame}
 use Rattle.pl_world.specs.declared.spoken_frame.SpokenFrame.TheVariants.{Silent, Waiting}
 use Rattle.pl_world.specs.declared.stand.Stand.{Stand}
 use Rattle.pl_world.specs.Changes.{emptied_from_host, emptied_out, ends_of, host_no, noted, out_of, receiver, said_to, sent_by_host, switch_no}
-use Rattle.pl_world.specs.LinksAndMoves.{host_moved, item_lost, link_between, link_failed, with_link}
+use Rattle.pl_world.specs.LinksAndMoves.{host_moved, item_lost, link_between, with_link}
 use Rattle.pl_world.specs.OtherActs.{heard_after_tick, host_act_done, manager_act_done, reception_noted, skip_noted}
 use Rattle.pl_world.specs.Runs.{IsMark}
 use Rattle.pl_world.specs.WorldRule.{ComesAtHost, ComesAtSwitch, ComesIn, ComesOut, ComesOver, DeliversFromHost, DeliversFromManager, DeliversOut, DeliversToManager, Fails, Goes as MovesTo, Happens, HostPlays, HostReceives, HostTurn, IsRepaired, Loses, SwitchTurn, WorldStep, heard_item}
 use Rattle.pl_world.specs.Worlds.{WorldView}
 use Rattle.pl_world.specs.Flying.{IsCounted, born, times_in}
 use Rattle.pl_world.proofs.Counts.{all_at, one, times_in-data, times_in_all-set, within_queue}
-use Rattle.pl_placing.specs.Receiving.{HasCrossed, HaveCrossed, ItemHasCrossed, comes_from_host, has_received}
-use Rattle.pl_placing.proofs.Crossing.{Goes, GoesIn, HasLeft, IsStill, goes_entries, goes_entry, goes_noted, goes_on, goes_sent, goes_set, one_more, stepped_goes, still_dropped}
+use Rattle.pl_placing.specs.Receiving.{HasCrossed, HaveCrossed, ItemHasCrossed, comes_from_host}
+use Rattle.pl_placing.proofs.Crossing.{GoesIn, HasLeft, IsStill, goes_entries, goes_entry, goes_noted, goes_on, goes_sent, goes_set, one_more, stepped_goes, still_dropped}
 
 still_arrived : (id h : ℕ) (frame : List ℕ) → IsStill (Arrived id (host_no h) frame)
 still_arrived id h frame = record { same_trail = λ past x. refl; same_sender = λ past x. refl; same_received = λ past x. refl }

@@ -1,10 +1,8 @@
 -- In a settled fabric the edge switch with position 0 knows its pod, so the others of a pod whose links are live do; and where frames of hosts were
 -- received they know all of their places.
-use Rattle.std.proofs.Common.{◌≡◌, ℕ, zero, suc, ◌<◌, ◌||◌, Bool, true, false, true≢false, List, [], ◌∷◌, reverse, Option, Some, None, Contains, refl, sym, ap, ◌∙◌, arith}
+use Rattle.std.proofs.Common.{◌≡◌, ℕ, zero, suc, ◌<◌, ◌||◌, Bool, false, true≢false, List, [], ◌∷◌, Option, Some, None, Contains, refl, sym, ap, ◌∙◌, arith}
 use Rattle.std.specs.List.{list_any}
 use Rattle.pl_layouts.specs.declared.place.Place.{Place}
-use Rattle.pl_wiring.specs.declared.label.Label.TheVariants.{Edge}
-use Rattle.pl_wiring.specs.Labels.{IsLabel}
 use Rattle.pl_core.specs.declared.messages.ToManager.{ToManager}
 use Rattle.pl_core.specs.declared.messages.ToManager.TheVariants as tell
 use Rattle.pl_core.specs.declared.messages.ToSwitch.{ToSwitch}
@@ -18,10 +16,9 @@ use Rattle.pl_votes.specs.Voting.{edge_no}
 use Rattle.pl_kept.specs.Kept.{Kept}
 use Rattle.pl_placing.specs.Asking.{is_number, is_wish}
 use Rattle.pl_placing.specs.Placing.{ArePlacing}
-use Rattle.pl_placing.specs.Receiving.{has_received}
 use Rattle.pl_placing.specs.Resting.{FirstKnowsPod, KnowPod}
 use Rattle.pl_placing.proofs.AtRest.{world_pods}
-use Rattle.pl_settled_laws.specs.AtPlace.{IsWholePlace, ReceiversArePlaced}
+use Rattle.pl_settled_laws.specs.AtPlace.{ReceiversArePlaced}
 use Rattle.pl_settled_laws.specs.Whole.{IsWholePod}
 use Rattle.pl_settled_laws.proofs.Pods.{resting_pod, settled_positions}
 

@@ -11,7 +11,9 @@ pub mod Notes
 pub mod Booted
 pub mod Counting
 pub mod Bounding
+pub mod Wishes
 pub mod Asking
+pub mod Firsts
 pub mod Crossing
 pub mod Receiving
 pub mod HostLevels

@@ -31,7 +31,8 @@ use Rattle.pl_placing.specs.Trying.{AreTryingBy}
 use Rattle.pl_placing.proofs.Asking.{step_asked}
 use Rattle.pl_placing.proofs.Bounding.{seen_bounded}
 use Rattle.pl_placing.proofs.Counting.{one_more_step}
-use Rattle.pl_placing.proofs.Booted.{asked_at_first, bounded_at_first, crossed_at_first, noted_at_first, trying_at_first}
+use Rattle.pl_placing.proofs.Booted.{asked_at_first, bounded_at_first, crossed_at_first, first_at_first, noted_at_first, trying_at_first}
+use Rattle.pl_placing.proofs.Firsts.{step_first}
 use Rattle.pl_placing.proofs.Keeping.{seen_trying}
 use Rattle.pl_placing.proofs.Levels.{seen_later, step_levels}
 use Rattle.pl_placing.proofs.Notes.{seen_noted}
@@ -58,6 +59,7 @@ module _ (host : HostRule) (sends : HostsSendData host) where
         bounded = λ s. subst (λ n. IsBounded n (g.view s)) (sym (one_more_step Loose manager_rule host old event new step))
             (seen_bounded old.steps f g placing.bounded seen s);
         asked = step_asked f is g before.placed (numbers_fit f is before.given) later placing.asked taken whole.1;
+        first = step_first f g same later placing.first taken whole.1;
         crossed = levels.0;
         levels = levels.1;
       }
@@ -76,6 +78,7 @@ module _ (host : HostRule) (sends : HostsSendData host) where
           noted = placing.noted;
           bounded = placing.bounded;
           asked = placing.asked;
+          first = record { waiting = placing.first.waiting; heard = placing.first.heard };
           crossed = goes.crossed;
           levels = λ s h. elim (goes.received s h) [ inl before ↦ placing.levels s before | inr never ↦ absurd never ];
         }
@@ -101,6 +104,7 @@ module _ (host : HostRule) (sends : HostsSendData host) where
           noted = noted_at_first plan limits;
           bounded = bounded_at_first plan limits;
           asked = asked_at_first plan limits;
+          first = first_at_first plan limits;
           crossed = crossed_at_first plan;
           levels = λ s h. absurd (true≢false (sym h));
         }) moments new run

@@ -1,6 +1,7 @@
 -- How edge switches with position 0 come to the numbers of their pods: they ask the manager, and it answers.
-use Rattle.std.specs.Prelude.{◌≡◌, ◌||◌, ℕ, Bool, true, false, Some, None}
-use Rattle.std.specs.List.{list_any}
+use Rattle.std.specs.Prelude.{◌≡◌, ◌||◌, ℕ, Bool, true, false, Some, None, slice_get}
+use Rattle.std.specs.List.{AllByRecursion, list_any}
+use Rattle.pl_frame.specs.declared.address.SwitchId.{SwitchId}
 use Rattle.pl_core.specs.declared.messages.ToManager.{ToManager}
 use Rattle.pl_core.specs.declared.messages.ToManager.TheVariants.{PodWanted}
 use Rattle.pl_core.specs.declared.messages.ToSwitch.{ToSwitch}
@@ -19,3 +20,14 @@ is_number says = false
 abbrev pub HaveAsked : ControlPlane → Type 0
 HaveAsked f = (s : ℕ) → (f.view s).place.position ≡ Some 0 → (f.view s).place.pod ≡ None →
     (list_any is_wish (f.reports s) || list_any is_number (f.orders s)) ≡ true
+
+-- a switch of this id has position 0
+pub record IsFirst (f : ControlPlane) (id : SwitchId) : Type 0 where
+  pub switch : ℕ
+  pub named : slice_get f.plan.ids switch ≡ Some id
+  pub position : (f.view switch).place.position ≡ Some 0
+
+-- only switches with position 0 ask: those whose wish waits, and those whom the manager heard
+pub record OnlyFirstAsk (f : ControlPlane) : Type 0 where
+  pub waiting : (s : ℕ) → list_any is_wish (f.reports s) ≡ true → (f.view s).place.position ≡ Some 0
+  pub heard : AllByRecursion (IsFirst f) f.manager.askers

@@ -294,7 +294,10 @@ module _ (h : ℕ) where
       pub numbers : AreOld new.begun stay.sent
       pub out : AllQueues (IsPast stay new.begun) new.out
       pub rest : rest_of new ≡ record (rest_of w) { switches = switches }
-XX : (w : WorldView) (s : ℕ) (before after : SwitchView) (speech : SpokenFrame) (acts : List Act) →
+      pub grows : Grows w.out new.out
+      pub more : w.begun ≤ new.begun
+
+    pub switch_steps : (w : WorldView) (s : ℕ) (before after : SwitchView) (speech : SpokenFrame) (acts : List Act) →
         Good (begins (record w { switches = set w.switches s after }) speech) speech → Stepped w (switch_stepped w s before after speech acts) (set w.switches s after)
     switch_steps w s before after speech acts g =
         let d = begins (record w { switches = set w.switches s after }) speech in

@@ -1,3 +1,4 @@
 pub mod Numbers
 pub mod Acts
 pub mod Told
+pub mod Frames

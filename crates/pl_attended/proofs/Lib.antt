@@ -2,3 +2,4 @@ pub mod Numbers
 pub mod Acts
 pub mod Told
 pub mod Frames
+pub mod Sources

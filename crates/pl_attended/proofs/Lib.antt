@@ -3,3 +3,5 @@ pub mod Acts
 pub mod Told
 pub mod Frames
 pub mod Sources
+pub mod Settling
+pub mod Rows

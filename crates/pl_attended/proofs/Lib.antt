@@ -5,3 +5,4 @@ pub mod Frames
 pub mod Sources
 pub mod Settling
 pub mod Rows
+pub mod Facts

@@ -89,7 +89,7 @@ module _ (h : ℕ) where
             nothing true = refl
             nothing false = refl
 
-    abbrev IsSpoken : ℕ → SpokenFrame → Type 0
+    abbrev pub IsSpoken : ℕ → SpokenFrame → Type 0
     IsSpoken begun Silent = Unit {0}
     IsSpoken begun (Waiting id again) = IsNumber stay begun id
     IsSpoken begun (Passed id) = IsNumber stay begun id

@@ -6,3 +6,4 @@ pub mod Sources
 pub mod Settling
 pub mod Rows
 pub mod Facts
+pub mod Turns

@@ -7,3 +7,4 @@ pub mod Settling
 pub mod Rows
 pub mod Facts
 pub mod Turns
+pub mod Hosts

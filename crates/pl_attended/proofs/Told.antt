@@ -116,7 +116,7 @@ module _ (h : ℕ) where
   abbrev pub IsTold : WorldView → Type 0
   IsTold w = Told h (stay_of w.journal h) w.begun w.out w.from_hosts
 
-  one_sent : (w : WorldView) (g : ℕ) (frame : List ℕ) → IsTold w → IsTold (sent_by_host w g frame)
+  pub one_sent : (w : WorldView) (g : ℕ) (frame : List ℕ) → IsTold w → IsTold (sent_by_host w g frame)
   one_sent w g frame t =
       subst (λ (s : Stay). Told h s (w.begun + 1) w.out (put_at w.from_hosts g (Data (w.begun + 1) frame)))
       (sym (stay_then h w.journal (Sent (w.begun + 1) (host_no g) frame ∷ [])))

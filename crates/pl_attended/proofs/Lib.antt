@@ -8,3 +8,4 @@ pub mod Rows
 pub mod Facts
 pub mod Turns
 pub mod Hosts
+pub mod Places

@@ -9,3 +9,4 @@ pub mod Facts
 pub mod Turns
 pub mod Hosts
 pub mod Places
+pub mod Sending

@@ -149,6 +149,16 @@ module _ (me : Me) (port : ℕ) where
         of_host (inr is) = λ knows.
             subst (λ (n : ℕ). KnowsAt me (comes_from_host choose v n frame).view port) is.0 (own_frame_known choose frame is.1.0 (said_if knows is.1.1))
 
+    -- a frame of the host that says its IPv4 address makes it known
+    pub frame_known : (choose : Choice) (q : ℕ) (frame : List ℕ) → port ≡ q → is_control frame ≡ false → is_open_to_hosts (port_of v q) ≡ true → source_of frame ≡ me.mac →
+        sender_ip frame ≡ Some me.ip → KnowsAt me (switch_step choose v (Comes q frame)).view port
+    frame_known choose q frame same no_control takes source said =
+        cond_both (is_control frame) (control_comes v q frame) (data_comes choose v q frame) (λ (s : SwitchStep). KnowsAt me s.view port)
+        (λ control. absurd (false≢true (sym no_control ∙ control)))
+        (λ h. cond_both (is_open_to_hosts (port_of v q)) (comes_from_host choose v q frame) (comes_from_switch choose v q frame) (λ (s : SwitchStep). KnowsAt me s.view port)
+        (λ host. subst (λ (n : ℕ). KnowsAt me (comes_from_host choose v n frame).view port) same (own_frame_known choose frame source (inl said)))
+        (λ shut. absurd (false≢true (sym shut ∙ takes))))
+
     pub tick_still : (choose : Choice) → Still v (switch_step choose v Tick)
     tick_still choose = aside_still v (switch_step choose v Tick) (ticks_aside v)
 

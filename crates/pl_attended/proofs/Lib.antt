@@ -10,3 +10,4 @@ pub mod Turns
 pub mod Hosts
 pub mod Places
 pub mod Sending
+pub mod Leaving

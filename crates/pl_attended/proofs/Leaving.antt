@@ -95,10 +95,10 @@ reception_is at w g id frame NotMember =
 
 module _ (h : ℕ) (w : WorldView) (f : Facts w) (apart : StandApart w.stands) (a : Attends h w) (s port : ℕ) (item : Item) (rest : List Item) (head : out_of w s port ≡ item ∷ rest)
     (within : port < w.plan.k) where
-  abbrev popped : WorldView
+  abbrev pub popped : WorldView
   popped = record w { out = set w.out (port_index w.plan.k s port) rest }
 
-  told_popped : IsTold h popped
+  pub told_popped : IsTold h popped
   told_popped = record {
     numbers = a.told.numbers;
     past = all_set (IsPast (stay_of w.journal h) w.begun) w.out (port_index w.plan.k s port) rest a.told.past
@@ -110,10 +110,10 @@ module _ (h : ℕ) (w : WorldView) (f : Facts w) (apart : StandApart w.stands) (
   is_item = (subst (λ (xs : List Item). AllByRecursion IsItem xs) head (all_or (AllByRecursion IsItem) w.out (port_index w.plan.k s port) [] f.port_items tt)).0
 
   -- the host stands at this port, and a probe leaves for it
-  record IsAsked (host : Host) (stand : Stand) : Type 0 where
-    edge : stand.edge.0 ≡ s
-    at_port : stand.port ≡ port
-    probe : is_probe (me_of host) item ≡ true
+  pub record IsAsked (host : Host) (stand : Stand) : Type 0 where
+    pub edge : stand.edge.0 ≡ s
+    pub at_port : stand.port ≡ port
+    pub probe : is_probe (me_of host) item ≡ true
 
   queue_popped : (host : Host) (stand : Stand) → slice_get w.plan.hosts h ≡ Some host → slice_get w.stands h ≡ Some stand → list_any (is_probe (me_of host)) (queue_to (spot_of h host stand) w) ≡ true →
       (list_any (is_probe (me_of host)) (queue_to (spot_of h host stand) popped) ≡ true) ⊎ IsAsked host stand
@@ -136,7 +136,7 @@ module _ (h : ℕ) (w : WorldView) (f : Facts w) (apart : StandApart w.stands) (
       ]
 
   -- where no probe leaves for it, all is as it was
-  noticed_popped : (host : Host) (stand : Stand) → slice_get w.plan.hosts h ≡ Some host → slice_get w.stands h ≡ Some stand → (IsAsked host stand → ⊥) → NoticedIn (spot_of h host stand) popped
+  pub noticed_popped : (host : Host) (stand : Stand) → slice_get w.plan.hosts h ≡ Some host → slice_get w.stands h ≡ Some stand → (IsAsked host stand → ⊥) → NoticedIn (spot_of h host stand) popped
   noticed_popped host stand at_host at_stand never =
       noticed_on (spot_of h host stand) w popped (record {
         switches = refl;

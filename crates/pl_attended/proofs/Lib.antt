@@ -11,3 +11,5 @@ pub mod Hosts
 pub mod Places
 pub mod Sending
 pub mod Leaving
+pub mod Events
+pub mod Moves

@@ -47,13 +47,14 @@ use Rattle.pl_world.specs.Refusals.{refusal_of_place, refusal_of_queue}
 use Rattle.pl_world.specs.WorldRule.{DeliversFromManager, DeliversToManager, Fails, IsRepaired, ManagerTurn, SwitchTurn}
 use Rattle.pl_world.specs.Worlds.{WorldView}
 use Rattle.pl_addresses.proofs.Words.{get-set_other}
+use Rattle.pl_attended.specs.Attended.{StandApart}
 use Rattle.pl_attended.specs.Stays.{Stay, first_stay, is_among, stay_after, stay_of}
 use Rattle.pl_attended.specs.Probes.{is_packet, is_probe}
 use Rattle.pl_attended.proofs.Numbers.{AreOld, IsPast, IsSoon, all_set, found_after}
 use Rattle.pl_attended.proofs.Acts.{AreQuiet, IsQuiet, noted_quiet, stay_then}
 use Rattle.pl_attended.proofs.Facts.{Facts}
 use Rattle.pl_attended.proofs.Leaving.{IsAsked, noticed_popped, popped, reached_noted, told_noted, told_popped}
-use Rattle.pl_attended.proofs.Places.{Attends, StandApart, place_of, spot_of}
+use Rattle.pl_attended.proofs.Places.{Attends, place_of, spot_of}
 use Rattle.pl_attended.proofs.Rows.{order_known, tick_still}
 use Rattle.pl_attended.proofs.Sending.{Keeps, any_spot, kept_places, turn_keeps}
 use Rattle.pl_attended.proofs.Told.{IsTold, Later, Told, told_on}

@@ -43,13 +43,14 @@ use Rattle.pl_world.specs.Worlds.{WorldView}
 use Rattle.pl_addresses.proofs.Turns.{filled_within}
 use Rattle.pl_addresses.proofs.Words.{any_rest}
 use Rattle.pl_control_plane.proofs.Stepping.{turn_same}
+use Rattle.pl_attended.specs.Attended.{StandApart}
 use Rattle.pl_attended.specs.Stays.{Stay, stay_of}
 use Rattle.pl_attended.specs.Probes.{is_packet, is_probe}
 use Rattle.pl_attended.proofs.Numbers.{IsNumber, IsPast, all_set}
 use Rattle.pl_attended.proofs.Acts.{AreQuiet, IsQuiet, IsSpoken, crossing_quiet, noted_quiet, stay_then}
 use Rattle.pl_attended.proofs.Facts.{Facts}
 use Rattle.pl_attended.proofs.Hosts.{answers, asked, host_follows, turn_is_told}
-use Rattle.pl_attended.proofs.Places.{Attends, StandApart, it_receives, place_of, single_of, six_of, spot_of}
+use Rattle.pl_attended.proofs.Places.{Attends, it_receives, place_of, single_of, six_of, spot_of}
 use Rattle.pl_attended.proofs.Rows.{IsProbed, comes_still}
 use Rattle.pl_attended.proofs.Sending.{Keeps, any_spot, kept_places, turn_keeps}
 use Rattle.pl_attended.proofs.Sources.{KnowsAt}

@@ -13,3 +13,4 @@ pub mod Sending
 pub mod Leaving
 pub mod Events
 pub mod Moves
+pub mod Keeping

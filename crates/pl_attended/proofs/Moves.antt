@@ -26,6 +26,7 @@ use Rattle.pl_world.specs.WorldRule.{Goes, HostPlays, HostTurn}
 use Rattle.pl_world.specs.Worlds.{WorldView}
 use Rattle.pl_control_plane.proofs.Stepping.{turn_same}
 use Rattle.pl_addresses.proofs.Words.{get-set_other}
+use Rattle.pl_attended.specs.Attended.{StandApart}
 use Rattle.pl_attended.specs.Stays.{Stay, first_stay, is_among, stay_after, stay_of}
 use Rattle.pl_attended.specs.Probes.{is_packet, is_probe}
 use Rattle.pl_attended.proofs.Numbers.{AreOld, IsPast, IsSoon, all_set, found_after}
@@ -34,7 +35,7 @@ use Rattle.pl_attended.proofs.Events.{quiet_ends}
 use Rattle.pl_attended.proofs.Facts.{Facts}
 use Rattle.pl_attended.proofs.Hosts.{host_follows, turn_is_told}
 use Rattle.pl_attended.proofs.Leaving.{reached_noted, told_noted}
-use Rattle.pl_attended.proofs.Places.{Attends, StandApart, moved_apart, spot_of}
+use Rattle.pl_attended.proofs.Places.{Attends, moved_apart, spot_of}
 use Rattle.pl_attended.proofs.Sending.{Keeps, any_spot}
 use Rattle.pl_attended.proofs.Told.{IsTold, Later, Told, told_on}
 use Rattle.pl_attended.proofs.Turns.{Follows, NoticedIn, Spot, has_reached_in, noticed_on, queue_to}

@@ -30,6 +30,7 @@ use Rattle.pl_world.specs.Worlds.{WorldView}
 use Rattle.pl_addresses.proofs.Numbers.{first_passes, none_passes}
 use Rattle.pl_addresses.proofs.Words.{get-set_other, get-set_same, mac_is, mac_itself}
 use Rattle.pl_control_plane.specs.HostsAtEdges.{IsAtEdge}
+use Rattle.pl_attended.specs.Attended.{StandApart}
 use Rattle.pl_attended.specs.Stays.{is_readable}
 use Rattle.pl_attended.proofs.Facts.{Facts}
 use Rattle.pl_attended.proofs.Turns.{IsPlace, NoticedIn, Spot}
@@ -43,10 +44,6 @@ spot_of h host stand = record { h = h; me = me_of host; edge = stand.edge.0; por
 pub record Attends (h : ℕ) (w : WorldView) : Type 0 where
   pub told : IsTold h w
   pub noticed : (host : Host) (stand : Stand) → slice_get w.plan.hosts h ≡ Some host → slice_get w.stands h ≡ Some stand → NoticedIn (spot_of h host stand) w
-
--- no two hosts stand at one place
-abbrev pub StandApart : List Stand → Type 0
-StandApart stands = (g h : ℕ) (a b : Stand) → slice_get stands g ≡ Some a → slice_get stands h ≡ Some b → a.edge.0 ≡ b.edge.0 → a.port ≡ b.port → g ≡ h
 
 -- ---- what the wiring says of a host
 module _ (plan : Plan) (is : IsPlan plan) (h : ℕ) (host : Host) (at : slice_get plan.hosts h ≡ Some host) where

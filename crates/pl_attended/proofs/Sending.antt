@@ -28,12 +28,13 @@ use Rattle.pl_addresses.specs.OwnFrames.{IsOwnItem}
 use Rattle.pl_switch_rule.proofs.Shapes.{all_or}
 use Rattle.pl_addresses.proofs.Turns.{exists_at, filled_within}
 use Rattle.pl_addresses.proofs.Words.{any_rest}
+use Rattle.pl_attended.specs.Attended.{StandApart}
 use Rattle.pl_attended.specs.Stays.{Stay, is_among, is_readable, stay_of}
 use Rattle.pl_attended.specs.Probes.{is_packet, is_probe}
 use Rattle.pl_attended.proofs.Numbers.{IsSoon, IsSoonNumber, found_after}
 use Rattle.pl_attended.proofs.Acts.{IsSpoken, Rest, rest_of, stay_then}
 use Rattle.pl_attended.proofs.Facts.{Facts}
-use Rattle.pl_attended.proofs.Places.{Attends, OwnFrame, StandApart, own_is, place_of, spot_of}
+use Rattle.pl_attended.proofs.Places.{Attends, OwnFrame, own_is, place_of, spot_of}
 use Rattle.pl_attended.proofs.Rows.{ComesOf, IsProbed, comes_still, frame_known}
 use Rattle.pl_attended.proofs.Sources.{KnowsAt}
 use Rattle.pl_attended.proofs.Told.{IsTold, Told, crossed_stay, crossing_later, crossing_number, told_on}

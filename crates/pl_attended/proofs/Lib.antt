@@ -14,3 +14,4 @@ pub mod Leaving
 pub mod Events
 pub mod Moves
 pub mod Keeping
+pub mod Registered

@@ -24,12 +24,22 @@ use Rattle.pl_addresses.specs.AtRest.{IsRegistered, IsServed}
 use Rattle.pl_addresses.specs.EdgeAddresses.{is_settled}
 use Rattle.pl_addresses.proofs.Consequences.{served_is_registered}
 use Rattle.pl_addresses.proofs.Numbers.{granted_here, local_here}
+use Rattle.pl_core.specs.HostDuties.{HostsSendData, HostsSendOwn}
+use Rattle.pl_core.specs.HostInputs.{HostRule}
+use Rattle.pl_host_rule.specs.HostRule.{IsHostRule}
+use Rattle.pl_manager_rule.specs.ManagerRule.{manager_rule}
+use Rattle.pl_switch_rule.specs.SwitchRule.{Loose}
+use Rattle.pl_world.specs.declared.limits.Limits.{Limits}
+use Rattle.pl_world.specs.Booting.{CanBegin, booted}
+use Rattle.pl_world.specs.Runs.{Moment, WorldRun}
 use Rattle.pl_kept.specs.Kept.{Kept}
-use Rattle.pl_attended.specs.Attended.{AreAttended, IsAttended, IsKnownAt, NothingWaits, StandsAt}
+use Rattle.pl_kept.proofs.Keeping.{run_keeps_all}
+use Rattle.pl_attended.specs.Attended.{AreAttended, IsAttended, IsKnownAt, NothingWaits, StandApart, StandsAt}
+use Rattle.pl_attended.specs.Registering.{AreRegistered}
 use Rattle.pl_attended.specs.Probes.{is_packet, is_probe}
 use Rattle.pl_attended.specs.Stays.{has_reached}
 use Rattle.pl_attended.proofs.Facts.{Facts, facts_of}
-use Rattle.pl_attended.proofs.Keeping.{AttendsAll}
+use Rattle.pl_attended.proofs.Keeping.{AttendsAll, run_attends}
 use Rattle.pl_attended.proofs.Places.{spot_of}
 use Rattle.pl_attended.proofs.Sources.{KnowsAt, low_placed}
 
@@ -91,3 +101,19 @@ registered_at_rest w kept attended nothing h host stand v at placed reached room
   where
     below : (k : ℕ) {s : ℕ} → s < edge_count k → s < switch_count k
     below k less = omega (arith, less)
+
+-- ---- in every run
+module _ (rule : HostRule) (lawful : IsHostRule rule) (sends : HostsSendData rule) (owns : HostsSendOwn rule) (plan : Plan) (limits : Limits) (moments : List Moment) (new : WorldView) (can : CanBegin plan)
+    (run : WorldRun Loose manager_rule rule (booted plan limits) moments new) where
+  attends : AttendsAll new
+  attends = run_attends rule (λ view input after acts answer. (lawful view input after acts answer).0) sends owns plan limits can moments new run
+
+  pub run_attended : AreAttended new
+  run_attended = all_attended new attends
+
+  pub run_apart : StandApart new.stands
+  run_apart = attends.apart
+
+  pub run_registers : NothingWaits new → AreRegistered new
+  run_registers nothing = λ h host stand v at placed reached room.
+      registered_at_rest new (run_keeps_all rule sends owns plan limits moments new can run) run_attended nothing h host stand v at placed reached room

@@ -1,3 +1,4 @@
 pub mod Stays
 pub mod Probes
 pub mod Attended
+pub mod Registering

@@ -130,7 +130,11 @@ module _ (h : ℕ) (w : WorldView) (f : Facts w) (apart : StandApart w.stands) (
   one_said : (u : WorldView) (act : ManagerAct) → IsSame u → IsSame (manager_act_done u act)
   one_said u (Say to says) same = said_same u says (position (same_switch to) u.plan.ids) same
   one_said u (Number pmac n) same = record {
-    plan = same.plan; stands = same.stands; switches = same.switches; out = same.out; from_hosts = same.from_hosts;
+    plan = same.plan;
+    stands = same.stands;
+    switches = same.switches;
+    out = same.out;
+    from_hosts = same.from_hosts;
     stay = noted_quiet h u.journal (Registered pmac n ∷ []) ((λ x. refl), tt) ∙ same.stay;
     begun = same.begun;
   }
@@ -199,7 +203,11 @@ module _ (h : ℕ) (w : WorldView) (f : Facts w) (apart : StandApart w.stands) (
   repaired_on (Some link) new same =
       subst (λ (x : WorldView). Keeps h w x) (sym same)
       (same_keeps (link_repaired w link) (record {
-        plan = refl; stands = refl; switches = refl; out = refl; from_hosts = refl;
+        plan = refl;
+        stands = refl;
+        switches = refl;
+        out = refl;
+        from_hosts = refl;
         stay = noted_quiet h w.journal (LinkUp link.lower link.upper ∷ []) ((λ x. refl), tt);
         begun = refl;
       }))

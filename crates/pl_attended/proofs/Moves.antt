@@ -129,8 +129,7 @@ module _ (h : ℕ) (w : WorldView) (f : Facts w) (apart : StandApart w.stands) (
 
     pub goes_on : (answer : HostAnswer) (new : WorldView) → HostTurn rule moved g HasMoved answer new → Attends h new × StandApart new.stands
     goes_on answer new turn =
-        let same = turn_same rule moved g HasMoved answer new turn in
-        (
+        let same = turn_same rule moved g HasMoved answer new turn in (
           record {
             told = turn_is_told (any_spot h) rule moved g HasMoved answer new turn told_moved;
             noticed = λ host stand at_host at_stand.

@@ -15,3 +15,4 @@ pub mod Events
 pub mod Moves
 pub mod Keeping
 pub mod Registered
+pub mod GrantRows

@@ -16,3 +16,4 @@ pub mod Moves
 pub mod Keeping
 pub mod Registered
 pub mod GrantRows
+pub mod StoodActs

@@ -50,7 +50,7 @@ found_source P (y ∷ xs) (suc n) (suc m) x old new = found_source P xs n m x ol
 
 -- P says of a port and an actual address that its host may be granted an address there
 module _ (P : ℕ → Mac → Type 0) where
-  abbrev IsFine : ℕ → Option Source → Type 0
+  abbrev pub IsFine : ℕ → Option Source → Type 0
   IsFine port None = Unit {0}
   IsFine port (Some source) = P port source.amac
 

@@ -17,3 +17,4 @@ pub mod Keeping
 pub mod Registered
 pub mod GrantRows
 pub mod StoodActs
+pub mod StoodEvents

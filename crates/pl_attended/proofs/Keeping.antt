@@ -32,13 +32,11 @@ use Rattle.pl_world.specs.Booting.{CanBegin, booted, first_stand}
 use Rattle.pl_world.specs.Changes.{host_at, noted, out_of}
 use Rattle.pl_world.specs.LinksAndMoves.{joins, link_between}
 use Rattle.pl_world.specs.Refusals.{has_host, has_port, has_switch, is_filled, is_for_hosts, is_linked, refusal, refusal_of_event, refusal_of_place, refusal_of_queue}
-use Rattle.pl_world.specs.Runs.{Befalls, IsMark, Moment, WorldRun}
-use Rattle.pl_world.specs.Runs.Moment.{Mark, Step}
+use Rattle.pl_world.specs.Runs.{IsMark, Moment, WorldRun}
 use Rattle.pl_world.specs.WorldRule.{Delivers, DeliversOut, Goes, Happens, Loses, WorldStep}
 use Rattle.pl_world.specs.Worlds.{WorldView}
 use Rattle.pl_world.proofs.StepBalances.{event_is_not_refused, same_refusal}
 use Rattle.pl_kept.specs.Kept.{Kept}
-use Rattle.pl_kept.proofs.Keeping.{run_keeps_all}
 use Rattle.pl_attended.specs.Attended.{StandApart}
 use Rattle.pl_attended.specs.Stays.{first_stay}
 use Rattle.pl_attended.proofs.Numbers.{IsPast, IsSoon}
@@ -48,6 +46,7 @@ use Rattle.pl_attended.proofs.Facts.{Facts, facts_of}
 use Rattle.pl_attended.proofs.Leaving.{over_there, reached_noted, told_noted}
 use Rattle.pl_attended.proofs.Moves.{goes_on, plays_on, sends_on}
 use Rattle.pl_attended.proofs.Places.{Attends, spot_of}
+use Rattle.pl_attended.proofs.Runs.{kept_from_beginning}
 use Rattle.pl_attended.proofs.Sending.{Keeps, from_host}
 use Rattle.pl_attended.proofs.Turns.{NoticedIn, Spot, noticed_on}
 
@@ -157,23 +156,7 @@ module _ (rule : HostRule) (lawful : (view : HostView) (input : HostInput) (afte
     };
   }
 
-  -- ---- a run
-  run_more : (x y z : WorldView) (moments : List Moment) (m : Moment) → WorldRun Loose manager_rule rule x moments y → Befalls Loose manager_rule rule y m z →
-      WorldRun Loose manager_rule rule x (moments ++ m ∷ []) z
-  run_more x y z [] m run more = (z, subst (λ (w : WorldView). Befalls Loose manager_rule rule w m z) run more, refl)
-  run_more x y z (n ∷ moments) m run more = (run.0, run.1, run_more run.0 y z moments m run.2 more)
-
   module _ (sends : HostsSendData rule) (owns : HostsSendOwn rule) (plan : Plan) (limits : Limits) (can : CanBegin plan) where
-    from_there : (before : List Moment) (old : WorldView) → WorldRun Loose manager_rule rule (booted plan limits) before old → AttendsAll old →
-        (moments : List Moment) (new : WorldView) → WorldRun Loose manager_rule rule old moments new → AttendsAll new
-    from_there before old run all [] new same = subst AttendsAll (sym same) all
-    from_there before old run all (Step e ∷ moments) new rest =
-        from_there (before ++ Step e ∷ []) rest.0 (run_more (booted plan limits) old rest.0 before (Step e) run rest.1)
-        (step_attends old e rest.0 (run_keeps_all rule sends owns plan limits before old can run) all rest.1.0 rest.1.1) moments new rest.2
-    from_there before old run all (Mark entry ∷ moments) new rest =
-        from_there (before ++ Mark entry ∷ []) rest.0 (run_more (booted plan limits) old rest.0 before (Mark entry) run rest.1)
-        (subst AttendsAll (sym rest.1.1) (mark_attends old entry rest.1.0 all)) moments new rest.2
-
     -- ---- the beginning
     nothing_at : (n i : ℕ) → items_at {T = Item} (replicate n []) i ≡ []
     nothing_at zero i = refl
@@ -226,4 +209,5 @@ module _ (rule : HostRule) (lawful : (view : HostView) (input : HostInput) (afte
     }
 
     pub run_attends : (moments : List Moment) (new : WorldView) → WorldRun Loose manager_rule rule (booted plan limits) moments new → AttendsAll new
-    run_attends moments new run = from_there [] (booted plan limits) refl boots_attended moments new run
+    run_attends moments new run =
+        kept_from_beginning rule sends owns AttendsAll step_attends mark_attends plan limits can boots_attended moments new run

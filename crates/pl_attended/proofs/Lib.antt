@@ -13,8 +13,10 @@ pub mod Sending
 pub mod Leaving
 pub mod Events
 pub mod Moves
+pub mod Runs
 pub mod Keeping
 pub mod Registered
 pub mod GrantRows
 pub mod StoodActs
 pub mod StoodEvents
+pub mod StoodRuns

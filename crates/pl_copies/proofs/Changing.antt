@@ -173,7 +173,7 @@ module _ (plan : Plan) where
       of_number n r = if n == r then 1 else 0
 
   -- a frame is copied
-  copied_root : (past : List Entry) (id n : ℕ) → root (Copied id n ∷ past) n ≡ root past id
+  pub copied_root : (past : List Entry) (id n : ℕ) → root (Copied id n ∷ past) n ≡ root past id
   copied_root past id n = ap (root past) (cond-true (n == n) id n (eq-eqb n n refl))
 
   pub root_kept : (past : List Entry) (id n : ℕ) → root (Copied id n ∷ past) id ≡ root past id

@@ -1,2 +1,3 @@
 pub mod Queued
 pub mod Changing
+pub mod Acting

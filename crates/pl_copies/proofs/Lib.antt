@@ -1,3 +1,4 @@
 pub mod Queued
 pub mod Changing
 pub mod Acting
+pub mod Ways

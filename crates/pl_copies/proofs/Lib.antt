@@ -2,3 +2,4 @@ pub mod Queued
 pub mod Changing
 pub mod Acting
 pub mod Ways
+pub mod Spreading

@@ -1,6 +1,6 @@
 -- The ports of a switch lead apart: at each port for hosts at most one of those comes that are passed on downward, and only if the frame itself
 -- might have come there.
-use Rattle.std.proofs.Common.{◌≡◌, ℕ, zero, suc, ◌+◌, ◌≤◌, ◌<◌, ◌==◌, ◌&&◌, ◌||◌, not, Bool, true, false, if◌then◌else◌, List, [], ◌∷◌, Contains, Option, None, Some, is_none, is_some, refl, sym, ap, ◌∙◌, subst, arith, inl, inr}
+use Rattle.std.proofs.Common.{◌≡◌, ℕ, zero, suc, ◌+◌, ◌≤◌, ◌<◌, ◌==◌, ◌&&◌, ◌||◌, ◌⊎◌, not, Bool, true, false, if◌then◌else◌, List, [], ◌∷◌, Contains, Option, None, Some, is_none, is_some, refl, sym, ap, ◌∙◌, subst, arith, inl, inr}
 use Rattle.std.specs.List.{AllByRecursion, filter, list_any, range_with_len}
 use Rattle.std.proofs.lemmas.Bool.{and_from, and_parts, both_ways, cases_Bool, cond-false, cond-true, eq-eqb, eqb-true, false≢true}
 use Rattle.pl_wiring.specs.declared.label.Label.{Label}
@@ -84,3 +84,104 @@ module _ (plan : Plan) (is_plan : IsPlan plan) where
           | inr also ↦ sym down.1 ∙ ap (λ (x : Link). x.upper_port) one ∙ also.1
         ]
       ]
+
+-- Sums over the ports that pass a test.
+
+abbrev pub sum_of : (ℕ → ℕ) → List ℕ → ℕ
+sum_of f [] = 0
+sum_of f (p ∷ ports) = f p + sum_of f ports
+
+none_later : (test : ℕ → Bool) (f : ℕ → ℕ) (from n : ℕ) → ((q : ℕ) → from ≤ q → test q ≡ true → f q ≡ 0) →
+    sum_of f (filter test (range_with_len from n)) ≡ 0
+none_later test f from zero none = refl
+none_later test f from (suc n) none =
+    let rest = none_later test f (from + 1) n (λ q later passes. none q (omega arith) passes) in
+    elim (cases_Bool (test from)) [
+      | inl passes ↦ ap (sum_of f) (cond-true (test from) (from ∷ filter test (range_with_len (from + 1) n)) (filter test (range_with_len (from + 1) n)) passes)
+          ∙ (let here = none from (omega arith) passes in omega arith)
+      | inr other ↦ ap (sum_of f) (cond-false (test from) (from ∷ filter test (range_with_len (from + 1) n)) (filter test (range_with_len (from + 1) n)) other) ∙ rest
+    ]
+
+-- each that passes counts nothing, or alone counts something
+abbrev pub CountsAlone : (ℕ → Bool) → (ℕ → ℕ) → ℕ → ℕ → Type 0
+CountsAlone test f most q = (f q ≡ 0) ⊎ ((f q ≤ most) × ((p : ℕ) → test p ≡ true → (q ≡ p → ⊥) → f p ≡ 0))
+
+pub one_only : (test : ℕ → Bool) (f : ℕ → ℕ) (most from n : ℕ) → ((q : ℕ) → test q ≡ true → CountsAlone test f most q) →
+    sum_of f (filter test (range_with_len from n)) ≤ most
+one_only test f most from zero alone = omega arith
+one_only test f most from (suc n) alone =
+    let rest = one_only test f most (from + 1) n alone in
+    elim (cases_Bool (test from)) [
+      | inl passes ↦
+          let all = ap (sum_of f) (cond-true (test from) (from ∷ filter test (range_with_len (from + 1) n)) (filter test (range_with_len (from + 1) n)) passes) in
+          elim (alone from passes) [
+            | inl none ↦ omega arith
+            | inr some ↦ (let others = none_later test f (from + 1) n (λ q later also. some.1 q also (λ same. absurd (omega arith))) in let most_here = some.0 in omega arith)
+          ]
+      | inr other ↦
+          (let all = ap (sum_of f) (cond-false (test from) (from ∷ filter test (range_with_len (from + 1) n)) (filter test (range_with_len (from + 1) n)) other) in omega arith)
+    ]
+
+-- Where ports lead.
+
+record IsEdgeOf (p : ℕ) (label : Label) : Type 0 where
+  i : ℕ
+  is : label ≡ Edge p i
+
+edge_of : (p : ℕ) (label : Label) → is_edge_of p label ≡ true → IsEdgeOf p label
+edge_of p (Edge q i) is = record { i = i; is = ap (λ n. Edge n i) (sym (eqb-true p q is)) }
+edge_of p (Aggregation q j) is = absurd (false≢true is)
+edge_of p (Core j m) is = absurd (false≢true is)
+
+edge_label : (a b : Label) (x y : ℕ) → a ≡ b → rank a ≡ x → rank b ≡ y → x ≡ y
+edge_label a b x y same at_a at_b = sym at_a ∙ ap rank same ∙ at_b
+
+-- a port that leads down
+pub record LeadsDown (plan : Plan) (s q : ℕ) : Type 0 where
+  pub to : SwitchNo
+  pub at : ℕ
+  pub peer : peer_of plan s q ≡ Switch to at
+  pub lower : rank (label_of plan.k to.0) < rank (label_of plan.k s)
+
+pub may_come_down : (k s q : ℕ) (to : SwitchNo) (at : ℕ) (peer : Peer) (there : Spot) → peer ≡ Switch to at → may_come k s q peer there ≡ true →
+    leads_to (label_of k s) (label_of k to.0) (to.0 == there.edge) (label_of k there.edge) ≡ true
+may_come_down k s q to at peer there is may = sym (ap (λ p. may_come k s q p there) is) ∙ may
+
+-- what leads down to one edge switch is one switch
+pub leads_apart : (k s t u e : ℕ) → Rung k s t → Rung k s u → rank (label_of k t) < rank (label_of k s) → rank (label_of k u) < rank (label_of k s) →
+    leads_to (label_of k s) (label_of k t) (t == e) (label_of k e) ≡ true → leads_to (label_of k s) (label_of k u) (u == e) (label_of k e) ≡ true → t ≡ u
+leads_apart k s t u e (UpFromEdge p i j at to) r low lower a b = absurd (let x = ap rank at in let y = ap rank to in omega arith)
+leads_apart k s t u e (UpToCore p j m at to) r low lower a b = absurd (let x = ap rank at in let y = ap rank to in omega arith)
+leads_apart k s t u e (DownFromCore p j m at to) (UpFromEdge p2 i2 j2 at2 to2) low lower a b = (let x = sym at ∙ at2 in absurd (cc))
+leads_apart k s t u e (DownFromCore p j m at to) (UpToCore p2 j2 m2 at2 to2) low lower a b = (let x = sym at ∙ at2 in absurd (cc))
+leads_apart k s t u e (DownFromCore p j m at to) (DownToEdge p2 i2 j2 at2 to2) low lower a b = (let x = sym at ∙ at2 in absurd (cc))
+leads_apart k s t u e (DownFromCore p j m at to) (DownFromCore p2 j2 m2 at2 to2) low lower a b =
+    let one : is_edge_of p (label_of k e) ≡ true = rw (at, to) at a in
+    let two : is_edge_of p2 (label_of k e) ≡ true = rw (at2, to2) at b in
+    let x = edge_of p (label_of k e) one in
+    let y = edge_of p2 (label_of k e) two in
+    let same : Edge p x.i ≡ Edge p2 y.i = sym x.is ∙ y.is in
+    let pods : p ≡ p2 = cc in
+    let cores : Core j m ≡ Core j2 m2 = sym at ∙ at2 in
+    let groups : j ≡ j2 = cc in
+    same_label k t u (to ∙ ap (λ n. Aggregation n j) pods ∙ ap (λ n. Aggregation p2 n) groups ∙ sym to2)
+leads_apart k s t u e (DownToEdge p i j at to) (UpFromEdge p2 i2 j2 at2 to2) low lower a b = (let x = sym at ∙ at2 in absurd (cc))
+leads_apart k s t u e (DownToEdge p i j at to) (UpToCore p2 j2 m2 at2 to2) low lower a b = absurd (let x = ap rank at2 in let y = ap rank to2 in omega arith)
+leads_apart k s t u e (DownToEdge p i j at to) (DownFromCore p2 j2 m2 at2 to2) low lower a b = (let x = sym at ∙ at2 in absurd (cc))
+leads_apart k s t u e (DownToEdge p i j at to) (DownToEdge p2 i2 j2 at2 to2) low lower a b =
+    let one : (t == e) ≡ true = rw (at, to) at a in
+    let two : (u == e) ≡ true = rw (at2, to2) at b in
+    eqb-true t e one ∙ sym (eqb-true u e two)
+
+-- what leads down from an aggregation switch leads to its pod
+pub leads_within : (k s t e p j : ℕ) → label_of k s ≡ Aggregation p j → Rung k s t → rank (label_of k t) < rank (label_of k s) →
+    leads_to (label_of k s) (label_of k t) (t == e) (label_of k e) ≡ true → is_edge_of p (label_of k e) ≡ true
+leads_within k s t e p j at (UpFromEdge p2 i2 j2 at2 to2) lower is = (let x = sym at ∙ at2 in absurd (cc))
+leads_within k s t e p j at (UpToCore p2 j2 m2 at2 to2) lower is = absurd (let x = ap rank at2 in let y = ap rank to2 in omega arith)
+leads_within k s t e p j at (DownFromCore p2 j2 m2 at2 to2) lower is = (let x = sym at ∙ at2 in absurd (cc))
+leads_within k s t e p j at (DownToEdge p2 i2 j2 at2 to2) lower is =
+    let one : (t == e) ≡ true = rw (at2, to2) at is in
+    let same : Aggregation p j ≡ Aggregation p2 j2 = sym at ∙ at2 in
+    let pods : p ≡ p2 = cc in
+    let here : label_of k e ≡ Edge p2 i2 = ap (label_of k) (sym (eqb-true t e one)) ∙ to2 in
+    ap (is_edge_of p) here ∙ eq-eqb p p2 pods

@@ -28,7 +28,7 @@ use Rattle.pl_switch_rule.specs.declared.came.Came.TheVariants.{FromAbove, FromB
 use Rattle.pl_switch_rule.specs.declared.came.Way.{Way}
 use Rattle.pl_switch_rule.specs.declared.came.Way.TheVariants.{Down, Nowhere, ToHosts, Up}
 use Rattle.pl_switch_rule.specs.Forwarding.{came_between, came_by}
-use Rattle.pl_switch_rule.specs.GroupForwarding.{at_most_one, destination_group, forwards_group, group_ports, group_ports_down, group_ports_up, host_ports, is_down, is_reached, is_source, no_way, passes_or_drops, way_of}
+use Rattle.pl_switch_rule.specs.GroupForwarding.{at_most_one, destination_group, forwards_group, group_ports, group_ports_down, group_ports_up, host_ports, is_down, is_reached, is_source, is_up, no_way, passes_or_drops, way_of}
 use Rattle.pl_copies.specs.Copies.{leads_to, may_come, may_come_by}
 use Rattle.pl_copies.specs.Standing.{KnowsTree, rank}
 use Rattle.pl_copies.proofs.Changing.{claim, claim_at_most_one}
@@ -119,3 +119,146 @@ module _ (plan : Plan) (is_plan : IsPlan plan) (t : ℕ) (there : Spot) (frame :
               absurd (other (eqb-true q there.port one.1 ∙ sym (eqb-true p there.port two.1)))
         ])
   ]
+
+-- What a switch knows of its ports.
+module _ (plan : Plan) (is_plan : IsPlan plan) (t : ℕ) (v : SwitchView) (knows : KnowsTree plan t v) where
+  record IsNamedDown (group q : ℕ) : Type 0 where
+    part : TreePart
+    id : SwitchId
+    part_is : part_of v group ≡ Some part
+    id_is : id_at v q ≡ Some id
+    named : list_any (λ d. d.0 == id.0) part.down ≡ true
+
+  named_down : (group q : ℕ) → is_down (part_of v group) (id_at v q) ≡ true → IsNamedDown group q
+  named_down group q down = by_both (part_of v group) (id_at v q) refl refl down
+    where
+      by_both : (o : Option TreePart) (x : Option SwitchId) → part_of v group ≡ o → id_at v q ≡ x → is_down o x ≡ true → IsNamedDown group q
+      by_both None x part_is id_is is = absurd (false≢true is)
+      by_both (Some part) None part_is id_is is = absurd (false≢true is)
+      by_both (Some part) (Some id) part_is id_is is = record { part = part; id = id; part_is = part_is; id_is = id_is; named = is }
+
+  below : (group q : ℕ) (u : SwitchNo) (r : ℕ) (n : IsNamedDown group q) → (rank (label_of plan.k t) ≡ 2) ⊎ (rank (label_of plan.k t) ≡ 1) → peer_of plan t q ≡ Switch u r →
+      rank (label_of plan.k u.0) < rank (label_of plan.k t)
+  below group q u r n (inr one) peer = (let edge = knows.parts group n.part q u r n.id one n.part_is peer n.id_is n.named in omega arith)
+  below group q u r n (inl two) peer = by_rung (rung plan is_plan t q u r peer)
+    where
+      by_rung : Rung plan.k t u.0 → rank (label_of plan.k u.0) < rank (label_of plan.k t)
+      by_rung (UpFromEdge p i j at to) = (let x = ap rank at in absurd (omega arith))
+      by_rung (UpToCore p j m at to) = (let x = ap rank at in absurd (omega arith))
+      by_rung (DownFromCore p j m at to) = (let x = ap rank to in omega arith)
+      by_rung (DownToEdge p i j at to) = (let x = ap rank at in absurd (omega arith))
+
+  pub leads_down : (group q : ℕ) → (rank (label_of plan.k t) ≡ 2) ⊎ (rank (label_of plan.k t) ≡ 1) →
+      (is_usable v q && is_down (part_of v group) (id_at v q)) ≡ true → LeadsDown plan t q
+  leads_down group q level passes =
+      let n = named_down group q (and_parts (is_usable v q) (is_down (part_of v group) (id_at v q)) passes).1 in
+      by_peer n (peer_of plan t q) refl
+    where
+      by_peer : IsNamedDown group q → (p : Peer) → peer_of plan t q ≡ p → LeadsDown plan t q
+      by_peer n (Switch u r) peer = record { to = u; at = r; peer = peer; lower = below group q u r n level peer }
+      by_peer n HostPort peer = (let none : id_at v q ≡ None = ap heard_id (knows.strangers q peer) in let some = n.id_is in absurd (cc))
+
+  pub for_hosts : (group q : ℕ) (source : Pmac) → (is_reached v group q && not (is_source v source q)) ≡ true → peer_of plan t q ≡ HostPort
+  for_hosts group q source passes =
+      knows.hosts q (cond_both (group == flood) (port_of v q).host (list_any (λ (m : Member). (m.group == group) && (m.port == q)) v.members)
+      (λ b. b ≡ true → (port_of v q).host ≡ true) (λ flooded is. is) (λ routed is. found v.members knows.members is)
+      (and_parts (is_reached v group q) (not (is_source v source q)) passes).0)
+    where
+      found : (members : List Member) → AllByRecursion (λ m. (port_of v m.port).host ≡ true) members →
+          list_any (λ (m : Member). (m.group == group) && (m.port == q)) members ≡ true → (port_of v q).host ≡ true
+      found [] all is = absurd (false≢true is)
+      found (m ∷ members) all is = elim (cases_Bool ((m.group == group) && (m.port == q))) [
+        | inl here ↦ ap (λ n. (port_of v n).host) (sym (eqb-true m.port q (and_parts (m.group == group) (m.port == q) here).1)) ∙ all.0
+        | inr other ↦ found members all.1 (sym (ap (λ b. b || list_any (λ (m : Member). (m.group == group) && (m.port == q)) members) other) ∙ is)
+      ]
+
+  -- a frame of a group that came from another switch
+  module _ (s port q : ℕ) (at : SwitchNo) (itself : at.0 ≡ t) (peer : peer_of plan s port ≡ Switch at q) (there : Spot) (frame : List ℕ)
+      (group : is_group (destination_of frame) ≡ true) where
+    came_rung : Rung plan.k s t
+    came_rung = subst (λ n. Rung plan.k s n) itself (rung plan is_plan s port at q peer)
+
+    claim_is : (b : Bool) → leads_to (label_of plan.k s) (label_of plan.k t) (t == there.edge) (label_of plan.k there.edge) ≡ b → claim plan s port there frame ≡ (if b then 1 else 0)
+    claim_is b is = claim_of_group plan s port there frame b group (ap (λ p. may_come plan.k s port p there) peer
+        ∙ ap (λ n. leads_to (label_of plan.k s) (label_of plan.k n) (n == there.edge) (label_of plan.k there.edge)) itself ∙ is)
+
+    most_up : rank (label_of plan.k s) < rank (label_of plan.k t) → claim plan s port there frame ≡ 1
+    most_up less = by_rung came_rung
+      where
+        by_rung : Rung plan.k s t → claim plan s port there frame ≡ 1
+        by_rung (UpFromEdge p i j from to) = claim_is true (rw from refl)
+        by_rung (UpToCore p j m from to) = claim_is true (rw (from, to) refl)
+        by_rung (DownFromCore p j m from to) = (let x = ap rank from in let y = ap rank to in absurd (omega arith))
+        by_rung (DownToEdge p i j from to) = (let x = ap rank from in let y = ap rank to in absurd (omega arith))
+
+    most_at_core : rank (label_of plan.k t) ≡ 2 → claim plan s port there frame ≡ 1
+    most_at_core two = by_rung came_rung
+      where
+        by_rung : Rung plan.k s t → claim plan s port there frame ≡ 1
+        by_rung (UpFromEdge p i j from to) = (let y = ap rank to in absurd (omega arith))
+        by_rung (UpToCore p j m from to) = claim_is true (rw (from, to) refl)
+        by_rung (DownFromCore p j m from to) = (let y = ap rank to in absurd (omega arith))
+        by_rung (DownToEdge p i j from to) = (let y = ap rank to in absurd (omega arith))
+
+    -- from above to an aggregation switch
+    from_core : (p : ℕ) → rank (label_of plan.k t) ≡ 1 → rank (label_of plan.k t) < rank (label_of plan.k s) → LeadsDown plan t p →
+        may_come plan.k t p (peer_of plan t p) there ≡ true → 1 ≤ claim plan s port there frame
+    from_core p one above d may = by_rung came_rung
+      where
+        by_rung : Rung plan.k s t → 1 ≤ claim plan s port there frame
+        by_rung (UpFromEdge p2 i j from to) = (let x = ap rank from in let y = ap rank to in absurd (omega arith))
+        by_rung (UpToCore p2 j m from to) = (let y = ap rank to in absurd (omega arith))
+        by_rung (DownToEdge p2 i j from to) = (let y = ap rank to in absurd (omega arith))
+        by_rung (DownFromCore p2 j m from to) =
+            let inside = leads_within plan.k t d.to.0 there.edge p2 j to (rung plan is_plan t p d.to d.at d.peer) d.lower
+            (leads_there plan is_plan t there frame group p d may) in
+            let all = claim_is true (rw (from, to) inside) in
+            omega arith
+
+    -- from above to an edge switch
+    at_edge : (p : ℕ) → rank (label_of plan.k t) ≡ 0 → same_spot (at_port t p) there ≡ true → 1 ≤ claim plan s port there frame
+    at_edge p zero_rank may = by_rung came_rung
+      where
+        by_rung : Rung plan.k s t → 1 ≤ claim plan s port there frame
+        by_rung (UpFromEdge p2 i j from to) = (let y = ap rank to in absurd (omega arith))
+        by_rung (UpToCore p2 j m from to) = (let y = ap rank to in absurd (omega arith))
+        by_rung (DownFromCore p2 j m from to) = (let y = ap rank to in absurd (omega arith))
+        by_rung (DownToEdge p2 i j from to) =
+            let all = claim_is true (rw (from, to) (and_parts (t == there.edge) (p == there.port) may).0) in
+            omega arith
+
+    few_by : (way : Way) (number : ℕ) (source : Pmac) → GoesBy (rank (label_of plan.k t)) (rank (label_of plan.k s)) way →
+        sum_of (λ p. claim plan t p there frame) (group_ports v way number source) ≤ claim plan s port there frame
+    few_by Up number source less =
+        let most = most_up less in
+        let one = one_used plan t there frame (filter (λ p. is_usable v p && is_up (part_of v number) (id_at v p)) (range_with_len 0 v.k)) in omega arith
+    few_by Down number source (inl two) =
+        let most = most_at_core two in
+        let test : ℕ → Bool = λ p. is_usable v p && is_down (part_of v number) (id_at v p) in
+        let down : (p : ℕ) → test p ≡ true → LeadsDown plan t p = λ p passes. leads_down number p (inl two) passes in
+        one_only test (λ p. claim plan t p there frame) (claim plan s port there frame) 0 v.k
+        (counts_alone plan is_plan t there frame group test (claim plan s port there frame) down (λ p d may. omega arith))
+    few_by Down number source (inr below_core) =
+        let test : ℕ → Bool = λ p. is_usable v p && is_down (part_of v number) (id_at v p) in
+        let down : (p : ℕ) → test p ≡ true → LeadsDown plan t p = λ p passes. leads_down number p (inr below_core.0) passes in
+        one_only test (λ p. claim plan t p there frame) (claim plan s port there frame) 0 v.k
+        (counts_alone plan is_plan t there frame group test (claim plan s port there frame) down (λ p d may. from_core p below_core.0 below_core.1 d may))
+    few_by ToHosts number source zero_rank =
+        let test : ℕ → Bool = λ p. is_reached v number p && not (is_source v source p) in
+        one_only test (λ p. claim plan t p there frame) (claim plan s port there frame) 0 v.k
+        (hosts_alone plan is_plan t there frame group test (claim plan s port there frame) (λ p passes. for_hosts number p source passes)
+        (λ p may. at_edge p zero_rank may))
+    few_by Nowhere number source nothing = omega arith
+
+    -- so it passes no more on
+    pub group_few : peer_of plan t q ≡ Switch (record { 0 = s }) port →
+        used plan t there (forwards_group v (came_by v q) frame).acts ≤ claim plan s port there frame
+    group_few back =
+        let number : ℕ = destination_group frame in
+        let source : Pmac = pmac_of (source_of frame) in
+        let way : Way = way_of v.place (came_by v q) in
+        let by = ways v.place.level v.place.position v.place.pod (place_at v q).level (rank (label_of plan.k t)) (rank (label_of plan.k s)) knows.level
+        (λ n is. knows.near q (record { 0 = s }) port n back is) in
+        let few = few_by way number source by in
+        let all = passed_used plan t there frame (no_way v (came_by v q) number) (group_ports v way number source) in
+        omega arith

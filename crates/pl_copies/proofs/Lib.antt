@@ -3,3 +3,4 @@ pub mod Changing
 pub mod Acting
 pub mod Ways
 pub mod Spreading
+pub mod SinglePasses

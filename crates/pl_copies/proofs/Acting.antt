@@ -28,7 +28,7 @@ use Rattle.pl_world.specs.SwitchActs.{Doing, act_done, acts_done, granted, place
 use Rattle.pl_world.specs.Worlds.{WorldView}
 use Rattle.pl_world.proofs.Counts.{all_append, born_more, one}
 use Rattle.pl_world.proofs.SwitchActBalances.{IsLegal, IsSteady, Steady, act_said, act_steady, amid, owed_by, owes_nothing, said_by, said_is_legal}
-use Rattle.pl_copies.specs.Copies.{ComeOnce}
+use Rattle.pl_copies.specs.Copies.{ComeOnce, standing}
 use Rattle.pl_copies.proofs.Changing.{IsQuiet, begin_one, claim, copied_root, copy_one, note_quiet, of_root, put_control, put_out, root_kept, weaker}
 
 -- how many of the frame in hand the acts let go to a port, until they speak of another
@@ -51,11 +51,11 @@ in_hand plan s past acts (Passed id) r there = of_root past id (used plan s ther
 in_hand plan s past acts Over r there = 0
 
 abbrev HoldsAmid : WorldView → ℕ → List Entry → List Act → SpokenFrame → Type 0
-HoldsAmid w s past acts speech = ComeOnce w.plan past w.from_hosts w.out w.begun (in_hand w.plan s past acts speech)
+HoldsAmid w s past acts speech = ComeOnce w.plan (standing w.stands) past w.from_hosts w.out w.begun (in_hand w.plan s past acts speech)
 
 -- amid the acts of switch s
 pub record IsAmid (s : ℕ) (acts : List Act) (w : WorldView) (speech : SpokenFrame) (late : List Entry) : Type 0 where
-  pub come : ComeOnce w.plan (reverse w.journal) w.from_hosts w.out w.begun (in_hand w.plan s (reverse w.journal) acts speech)
+  pub come : ComeOnce w.plan (standing w.stands) (reverse w.journal) w.from_hosts w.out w.begun (in_hand w.plan s (reverse w.journal) acts speech)
   pub late_quiet : AllByRecursion IsQuiet late
   pub few : MakesFew w.plan s acts
 
@@ -63,14 +63,14 @@ pub reverse_one : (journal : List Entry) (e : Entry) → reverse (journal ++ e �
 reverse_one journal e = reverse-append journal (e ∷ [])
 
 -- several entries, one after the other
-pub note_all : (plan : Plan) (from_hosts out : List (List Item)) (many : ℕ) (g : ℕ → Spot → ℕ) (entries journal : List Entry) → AllByRecursion IsQuiet entries →
-    ComeOnce plan (reverse journal) from_hosts out many g → ComeOnce plan (reverse (journal ++ entries)) from_hosts out many g
-note_all plan from_hosts out many g [] journal quiet c =
-    subst (λ p. ComeOnce plan p from_hosts out many g) (sym (ap reverse (append-nil journal))) c
-note_all plan from_hosts out many g (e ∷ entries) journal quiet c =
-    subst (λ j. ComeOnce plan (reverse j) from_hosts out many g) (append_assoc journal (e ∷ []) entries)
-    (note_all plan from_hosts out many g entries (journal ++ e ∷ []) quiet.1
-    (subst (λ p. ComeOnce plan p from_hosts out many g) (sym (reverse_one journal e)) (note_quiet plan (reverse journal) from_hosts out many g e quiet.0 c)))
+pub note_all : (plan : Plan) (at : ℕ → Option Spot) (from_hosts out : List (List Item)) (many : ℕ) (g : ℕ → Spot → ℕ) (entries journal : List Entry) → AllByRecursion IsQuiet entries →
+    ComeOnce plan at (reverse journal) from_hosts out many g → ComeOnce plan at (reverse (journal ++ entries)) from_hosts out many g
+note_all plan at from_hosts out many g [] journal quiet c =
+    subst (λ p. ComeOnce plan at p from_hosts out many g) (sym (ap reverse (append-nil journal))) c
+note_all plan at from_hosts out many g (e ∷ entries) journal quiet c =
+    subst (λ j. ComeOnce plan at (reverse j) from_hosts out many g) (append_assoc journal (e ∷ []) entries)
+    (note_all plan at from_hosts out many g entries (journal ++ e ∷ []) quiet.1
+    (subst (λ p. ComeOnce plan at p from_hosts out many g) (sym (reverse_one journal e)) (note_quiet plan at (reverse journal) from_hosts out many g e quiet.0 c)))
 
 of_root_sum : (past : List Entry) (id a b r : ℕ) → of_root past id (a + b) r ≡ of_root past id a r + of_root past id b r
 of_root_sum past id a b r = by_test (root past id == r)
@@ -79,7 +79,7 @@ of_root_sum past id a b r = by_test (root past id == r)
     by_test true = refl
     by_test false = refl
 
-of_root_less : (past : List Entry) (id a b r : ℕ) → a ≤ b → of_root past id a r ≤ of_root past id b r
+pub of_root_less : (past : List Entry) (id a b r : ℕ) → a ≤ b → of_root past id a r ≤ of_root past id b r
 of_root_less past id a b r less = by_test (root past id == r)
   where
     by_test : (t : Bool) → (if t then a else 0) ≤ (if t then b else 0)
@@ -103,28 +103,28 @@ is_new s k w speech late st =
 
 module _ (s k : ℕ) (w : WorldView) (acts : List Act) where
   out_or_not : (failed : Bool) (now : List Entry) (id port : ℕ) (frame : List ℕ) (speech : SpokenFrame) (many : ℕ) (from_hosts out : List (List Item)) → port < w.plan.k →
-      ComeOnce w.plan now from_hosts out many (λ r there. of_root now id (claim w.plan s port there frame + used w.plan s there acts) r) →
-      ComeOnce w.plan now from_hosts
+      ComeOnce w.plan (standing w.stands) now from_hosts out many (λ r there. of_root now id (claim w.plan s port there frame + used w.plan s there acts) r) →
+      ComeOnce w.plan (standing w.stands) now from_hosts
       (if failed then out else set out (port_index w.plan.k s port) (get_or out (port_index w.plan.k s port) [] ++ Data id frame ∷ []))
       many (λ r there. of_root now id (used w.plan s there acts) r)
   out_or_not true now id port frame speech many from_hosts out within c =
-      weaker w.plan now from_hosts out many _ _ (λ r there. of_root_less now id (used w.plan s there acts) _ r (omega arith)) c
+      weaker w.plan (standing w.stands) now from_hosts out many _ _ (λ r there. of_root_less now id (used w.plan s there acts) _ r (omega arith)) c
   out_or_not false now id port frame speech many from_hosts out within c =
-      put_out w.plan now from_hosts out many (λ r there. of_root now id (used w.plan s there acts) r) s port id frame within
-      (weaker w.plan now from_hosts out many _ _
+      put_out w.plan (standing w.stands) now from_hosts out many (λ r there. of_root now id (used w.plan s there acts) r) s port id frame within
+      (weaker w.plan (standing w.stands) now from_hosts out many _ _
       (λ r there. omega (arith, of_root_sum now id (claim w.plan s port there frame) (used w.plan s there acts) r)) c)
 
   copied_out : (failed : Bool) (now : List Entry) (id n port : ℕ) (frame : List ℕ) (from_hosts out : List (List Item)) (many : ℕ) (f : ℕ → Spot → ℕ) → port < w.plan.k →
       ((r : ℕ) (there : Spot) → of_root now n (claim w.plan s port there frame) r + of_root now id (used w.plan s there acts) r ≤ f r there) →
-      ComeOnce w.plan now from_hosts out many f →
-      ComeOnce w.plan now from_hosts
+      ComeOnce w.plan (standing w.stands) now from_hosts out many f →
+      ComeOnce w.plan (standing w.stands) now from_hosts
       (if failed then out else set out (port_index w.plan.k s port) (get_or out (port_index w.plan.k s port) [] ++ Data n frame ∷ []))
       many (λ r there. of_root now id (used w.plan s there acts) r)
   copied_out true now id n port frame from_hosts out many f within less c =
-      weaker w.plan now from_hosts out many f _ (λ r there. omega (arith, less r there)) c
+      weaker w.plan (standing w.stands) now from_hosts out many f _ (λ r there. omega (arith, less r there)) c
   copied_out false now id n port frame from_hosts out many f within less c =
-      put_out w.plan now from_hosts out many (λ r there. of_root now id (used w.plan s there acts) r) s port n frame within
-      (weaker w.plan now from_hosts out many f _ less c)
+      put_out w.plan (standing w.stands) now from_hosts out many (λ r there. of_root now id (used w.plan s there acts) r) s port n frame within
+      (weaker w.plan (standing w.stands) now from_hosts out many f _ less c)
 
   quiet_end : (failed : Bool) (late : List Entry) (id : ℕ) → AllByRecursion IsQuiet late →
       AllByRecursion IsQuiet (if failed then late ++ Dropped id cause.LinkDown ∷ [] else late)
@@ -144,15 +144,15 @@ module _ (s k : ℕ) (w : WorldView) (acts : List Act) where
       IsAmid s acts (act_done s (amid w speech late) (act.Control port frame)).world speech late
   controls speech late port frame a = record { come = by_test (is_failed_at w s port) speech a.come; late_quiet = a.late_quiet; few = a.few }
     where
-      sent : (failed : Bool) (g : ℕ → Spot → ℕ) → ComeOnce w.plan (reverse w.journal) w.from_hosts w.out w.begun g →
-          ComeOnce w.plan (reverse w.journal) w.from_hosts
+      sent : (failed : Bool) (g : ℕ → Spot → ℕ) → ComeOnce w.plan (standing w.stands) (reverse w.journal) w.from_hosts w.out w.begun g →
+          ComeOnce w.plan (standing w.stands) (reverse w.journal) w.from_hosts
           (if failed then w.out else set w.out (port_index w.plan.k s port) (get_or w.out (port_index w.plan.k s port) [] ++ Control frame ∷ [])) w.begun g
       sent true g c = c
-      sent false g c = put_control w.plan (reverse w.journal) w.from_hosts w.out w.begun g (port_index w.plan.k s port) frame c
+      sent false g c = put_control w.plan (standing w.stands) (reverse w.journal) w.from_hosts w.out w.begun g (port_index w.plan.k s port) frame c
 
       by_test : (failed : Bool) (speech : SpokenFrame) →
-          ComeOnce w.plan (reverse w.journal) w.from_hosts w.out w.begun (in_hand w.plan s (reverse w.journal) (act.Control port frame ∷ acts) speech) →
-          ComeOnce w.plan (reverse w.journal) w.from_hosts
+          ComeOnce w.plan (standing w.stands) (reverse w.journal) w.from_hosts w.out w.begun (in_hand w.plan s (reverse w.journal) (act.Control port frame ∷ acts) speech) →
+          ComeOnce w.plan (standing w.stands) (reverse w.journal) w.from_hosts
           (if failed then w.out else set w.out (port_index w.plan.k s port) (get_or w.out (port_index w.plan.k s port) [] ++ Control frame ∷ [])) w.begun
           (in_hand w.plan s (reverse w.journal) acts speech)
       by_test failed Silent c = sent failed _ c
@@ -168,15 +168,15 @@ module _ (s k : ℕ) (w : WorldView) (acts : List Act) where
       let made : Entry = Made n (switch_no s) frame in
       let crossed : Entry = Crossed n (switch_no s) in
       let written : List Entry = reverse (w.journal ++ late) in
-      let c0 = note_all w.plan w.from_hosts w.out w.begun (λ r there. 0) late w.journal a.late_quiet
-      (weaker w.plan (reverse w.journal) w.from_hosts w.out w.begun (in_hand w.plan s (reverse w.journal) (act.Make frame ∷ acts) speech) (λ r there. 0) (λ r there. omega arith) a.come) in
-      let c1 = begin_one w.plan written w.from_hosts w.out w.begun (λ r there. 0) c0 in
-      let c2 : ComeOnce w.plan written w.from_hosts w.out n (λ r there. of_root written n (used w.plan s there acts) r) =
-      weaker w.plan written w.from_hosts w.out n _ _ (λ r there. omega (arith, of_root_less written n (used w.plan s there acts) 1 r (a.few.0 there))) c1 in
-      let P : List Entry → Type 0 = λ p. ComeOnce w.plan p w.from_hosts w.out n (in_hand w.plan s p acts (Waiting n false)) in
-      let c3 : P (made ∷ written) = note_quiet w.plan written w.from_hosts w.out n _ made tt c2 in
+      let c0 = note_all w.plan (standing w.stands) w.from_hosts w.out w.begun (λ r there. 0) late w.journal a.late_quiet
+      (weaker w.plan (standing w.stands) (reverse w.journal) w.from_hosts w.out w.begun (in_hand w.plan s (reverse w.journal) (act.Make frame ∷ acts) speech) (λ r there. 0) (λ r there. omega arith) a.come) in
+      let c1 = begin_one w.plan (standing w.stands) written w.from_hosts w.out w.begun (λ r there. 0) c0 in
+      let c2 : ComeOnce w.plan (standing w.stands) written w.from_hosts w.out n (λ r there. of_root written n (used w.plan s there acts) r) =
+      weaker w.plan (standing w.stands) written w.from_hosts w.out n _ _ (λ r there. omega (arith, of_root_less written n (used w.plan s there acts) 1 r (a.few.0 there))) c1 in
+      let P : List Entry → Type 0 = λ p. ComeOnce w.plan (standing w.stands) p w.from_hosts w.out n (in_hand w.plan s p acts (Waiting n false)) in
+      let c3 : P (made ∷ written) = note_quiet w.plan (standing w.stands) written w.from_hosts w.out n _ made tt c2 in
       let c4 : P (reverse ((w.journal ++ late) ++ made ∷ [])) = one_entry P (w.journal ++ late) made c3 in
-      let c5 : P (crossed ∷ reverse ((w.journal ++ late) ++ made ∷ [])) = note_quiet w.plan (reverse ((w.journal ++ late) ++ made ∷ [])) w.from_hosts w.out n _ crossed tt c4 in
+      let c5 : P (crossed ∷ reverse ((w.journal ++ late) ++ made ∷ [])) = note_quiet w.plan (standing w.stands) (reverse ((w.journal ++ late) ++ made ∷ [])) w.from_hosts w.out n _ crossed tt c4 in
       record { come = one_entry P ((w.journal ++ late) ++ made ∷ []) crossed c5; late_quiet = tt; few = a.few.1 }
 
   -- it is passed on, or copied
@@ -185,8 +185,8 @@ module _ (s k : ℕ) (w : WorldView) (acts : List Act) where
       (act_done s (amid w (Waiting id b) late) (act.Pass port frame)).late
   passes id b late port frame within a =
       let now : List Entry = reverse (w.journal ++ (if b then Crossed id (switch_no s) ∷ [] else [])) in
-      let P : List Entry → Type 0 = λ p. ComeOnce w.plan p w.from_hosts w.out w.begun (λ r there. of_root p id (claim w.plan s port there frame + used w.plan s there acts) r) in
-      let c : P now = again P b id (λ c. note_quiet w.plan (reverse w.journal) w.from_hosts w.out w.begun _ (Crossed id (switch_no s)) tt c) a.come in
+      let P : List Entry → Type 0 = λ p. ComeOnce w.plan (standing w.stands) p w.from_hosts w.out w.begun (λ r there. of_root p id (claim w.plan s port there frame + used w.plan s there acts) r) in
+      let c : P now = again P b id (λ c. note_quiet w.plan (standing w.stands) (reverse w.journal) w.from_hosts w.out w.begun _ (Crossed id (switch_no s)) tt c) a.come in
       record {
         come = out_or_not (is_failed_at w s port) now id port frame (Waiting id b) w.begun w.from_hosts w.out within c;
         late_quiet = quiet_end (is_failed_at w s port) late id a.late_quiet;
@@ -203,10 +203,10 @@ module _ (s k : ℕ) (w : WorldView) (acts : List Act) where
       let now : List Entry = Copied id n ∷ past in
       let new = is_new s k w (Passed id) late st in
       let f : ℕ → Spot → ℕ = λ r there. of_root past id (claim w.plan s port there frame + used w.plan s there acts) r in
-      let c1 : ComeOnce w.plan now w.from_hosts w.out n f = copy_one w.plan past w.from_hosts w.out w.begun id f f new.at_hosts new.at_ports (λ r there. omega arith) a.come in
-      let same : root now id ≡ root past id = root_kept w.plan past id n in
-      let copy : root now n ≡ root past id = copied_root w.plan past id n in
-      let Q : List Entry → Type 0 = λ p. (b : Bool) → ComeOnce w.plan p w.from_hosts
+      let c1 : ComeOnce w.plan (standing w.stands) now w.from_hosts w.out n f = copy_one w.plan (standing w.stands) past w.from_hosts w.out w.begun id f f new.at_hosts new.at_ports (λ r there. omega arith) a.come in
+      let same : root now id ≡ root past id = root_kept w.plan (standing w.stands) past id n in
+      let copy : root now n ≡ root past id = copied_root w.plan (standing w.stands) past id n in
+      let Q : List Entry → Type 0 = λ p. (b : Bool) → ComeOnce w.plan (standing w.stands) p w.from_hosts
       (if b then w.out else set w.out (port_index w.plan.k s port) (get_or w.out (port_index w.plan.k s port) [] ++ Data n frame ∷ [])) n
       (λ r there. of_root p id (used w.plan s there acts) r) in
       let less : (r : ℕ) (there : Spot) → of_root now n (claim w.plan s port there frame) r + of_root now id (used w.plan s there acts) r ≤ f r there =
@@ -226,11 +226,11 @@ module _ (s k : ℕ) (w : WorldView) (acts : List Act) where
   ends_here : (id : ℕ) (b : Bool) (late : List Entry) (e : Entry) → IsQuiet e → (a : Act) → IsAmid s (a ∷ acts) w (Waiting id b) late → MakesFew w.plan s acts →
       IsAmid s acts (record w { journal = (w.journal ++ (if b then Crossed id (switch_no s) ∷ [] else [])) ++ e ∷ [] }) Over late
   ends_here id b late e quiet a amid few =
-      let P : List Entry → Type 0 = λ p. ComeOnce w.plan p w.from_hosts w.out w.begun (λ r there. 0) in
-      let c0 : P (reverse w.journal) = weaker w.plan (reverse w.journal) w.from_hosts w.out w.begun _ (λ r there. 0) (λ r there. omega arith) amid.come in
-      let c1 = again P b id (λ c. note_quiet w.plan (reverse w.journal) w.from_hosts w.out w.begun _ (Crossed id (switch_no s)) tt c) c0 in
+      let P : List Entry → Type 0 = λ p. ComeOnce w.plan (standing w.stands) p w.from_hosts w.out w.begun (λ r there. 0) in
+      let c0 : P (reverse w.journal) = weaker w.plan (standing w.stands) (reverse w.journal) w.from_hosts w.out w.begun _ (λ r there. 0) (λ r there. omega arith) amid.come in
+      let c1 = again P b id (λ c. note_quiet w.plan (standing w.stands) (reverse w.journal) w.from_hosts w.out w.begun _ (Crossed id (switch_no s)) tt c) c0 in
       record {
-        come = one_entry P (w.journal ++ (if b then Crossed id (switch_no s) ∷ [] else [])) e (note_quiet w.plan _ w.from_hosts w.out w.begun _ e quiet c1);
+        come = one_entry P (w.journal ++ (if b then Crossed id (switch_no s) ∷ [] else [])) e (note_quiet w.plan (standing w.stands) _ w.from_hosts w.out w.begun _ e quiet c1);
         late_quiet = amid.late_quiet;
         few = few;
       }
@@ -239,9 +239,9 @@ module _ (s k : ℕ) (w : WorldView) (acts : List Act) where
   redirects : (id : ℕ) (b : Bool) (late : List Entry) (old new : Pmac) → IsAmid s (act.Redirect old new ∷ acts) w (Waiting id b) late →
       IsAmid s acts (record w { journal = w.journal ++ Redirected id old new ∷ [] }) (Waiting id true) late
   redirects id b late old new a =
-      let P : List Entry → Type 0 = λ p. ComeOnce w.plan p w.from_hosts w.out w.begun (in_hand w.plan s p acts (Waiting id true)) in
+      let P : List Entry → Type 0 = λ p. ComeOnce w.plan (standing w.stands) p w.from_hosts w.out w.begun (in_hand w.plan s p acts (Waiting id true)) in
       record {
-        come = one_entry P w.journal (Redirected id old new) (note_quiet w.plan (reverse w.journal) w.from_hosts w.out w.begun _ (Redirected id old new) tt a.come);
+        come = one_entry P w.journal (Redirected id old new) (note_quiet w.plan (standing w.stands) (reverse w.journal) w.from_hosts w.out w.begun _ (Redirected id old new) tt a.come);
         late_quiet = a.late_quiet;
         few = a.few;
       }
@@ -250,8 +250,8 @@ module _ (s k : ℕ) (w : WorldView) (acts : List Act) where
       IsAmid s acts (granted w s pmac o) speech late
   grants speech late pmac amac None a = record { come = same speech a.come; late_quiet = a.late_quiet; few = a.few }
     where
-      same : (speech : SpokenFrame) → ComeOnce w.plan (reverse w.journal) w.from_hosts w.out w.begun (in_hand w.plan s (reverse w.journal) (act.Grant pmac amac ∷ acts) speech) →
-          ComeOnce w.plan (reverse w.journal) w.from_hosts w.out w.begun (in_hand w.plan s (reverse w.journal) acts speech)
+      same : (speech : SpokenFrame) → ComeOnce w.plan (standing w.stands) (reverse w.journal) w.from_hosts w.out w.begun (in_hand w.plan s (reverse w.journal) (act.Grant pmac amac ∷ acts) speech) →
+          ComeOnce w.plan (standing w.stands) (reverse w.journal) w.from_hosts w.out w.begun (in_hand w.plan s (reverse w.journal) acts speech)
       same Silent c = c
       same (Waiting id b) c = c
       same (Passed id) c = c
@@ -261,16 +261,16 @@ module _ (s k : ℕ) (w : WorldView) (acts : List Act) where
       e : Entry
       e = Granted pmac (host_no h) (switch_no s) pmac.port
 
-      noted : (speech : SpokenFrame) → ComeOnce w.plan (reverse w.journal) w.from_hosts w.out w.begun (in_hand w.plan s (reverse w.journal) (act.Grant pmac amac ∷ acts) speech) →
-          ComeOnce w.plan (reverse (w.journal ++ e ∷ [])) w.from_hosts w.out w.begun (in_hand w.plan s (reverse (w.journal ++ e ∷ [])) acts speech)
-      noted Silent c = one_entry (λ p. ComeOnce w.plan p w.from_hosts w.out w.begun (in_hand w.plan s p acts Silent)) w.journal e
-          (note_quiet w.plan (reverse w.journal) w.from_hosts w.out w.begun _ e tt c)
-      noted (Waiting id b) c = one_entry (λ p. ComeOnce w.plan p w.from_hosts w.out w.begun (in_hand w.plan s p acts (Waiting id b))) w.journal e
-          (note_quiet w.plan (reverse w.journal) w.from_hosts w.out w.begun _ e tt c)
-      noted (Passed id) c = one_entry (λ p. ComeOnce w.plan p w.from_hosts w.out w.begun (in_hand w.plan s p acts (Passed id))) w.journal e
-          (note_quiet w.plan (reverse w.journal) w.from_hosts w.out w.begun _ e tt c)
-      noted Over c = one_entry (λ p. ComeOnce w.plan p w.from_hosts w.out w.begun (in_hand w.plan s p acts Over)) w.journal e
-          (note_quiet w.plan (reverse w.journal) w.from_hosts w.out w.begun _ e tt c)
+      noted : (speech : SpokenFrame) → ComeOnce w.plan (standing w.stands) (reverse w.journal) w.from_hosts w.out w.begun (in_hand w.plan s (reverse w.journal) (act.Grant pmac amac ∷ acts) speech) →
+          ComeOnce w.plan (standing w.stands) (reverse (w.journal ++ e ∷ [])) w.from_hosts w.out w.begun (in_hand w.plan s (reverse (w.journal ++ e ∷ [])) acts speech)
+      noted Silent c = one_entry (λ p. ComeOnce w.plan (standing w.stands) p w.from_hosts w.out w.begun (in_hand w.plan s p acts Silent)) w.journal e
+          (note_quiet w.plan (standing w.stands) (reverse w.journal) w.from_hosts w.out w.begun _ e tt c)
+      noted (Waiting id b) c = one_entry (λ p. ComeOnce w.plan (standing w.stands) p w.from_hosts w.out w.begun (in_hand w.plan s p acts (Waiting id b))) w.journal e
+          (note_quiet w.plan (standing w.stands) (reverse w.journal) w.from_hosts w.out w.begun _ e tt c)
+      noted (Passed id) c = one_entry (λ p. ComeOnce w.plan (standing w.stands) p w.from_hosts w.out w.begun (in_hand w.plan s p acts (Passed id))) w.journal e
+          (note_quiet w.plan (standing w.stands) (reverse w.journal) w.from_hosts w.out w.begun _ e tt c)
+      noted Over c = one_entry (λ p. ComeOnce w.plan (standing w.stands) p w.from_hosts w.out w.begun (in_hand w.plan s p acts Over)) w.journal e
+          (note_quiet w.plan (standing w.stands) (reverse w.journal) w.from_hosts w.out w.begun _ e tt c)
 
   -- a word to the manager
   tells : (speech : SpokenFrame) (late : List Entry) (told : ToManager) → IsAmid s (act.Tell told ∷ acts) w speech late →
@@ -325,14 +325,14 @@ acts_come s k w speech late (x ∷ acts) fits said st a =
 pub step_comes : (s k : ℕ) (w : WorldView) (speech : SpokenFrame) (old new : Place) (acts : List Act) → AllByRecursion (IsFit k) acts →
     is_said (fold speech_after (said_by speech) acts) ≡ true → Steady s k w speech [] → IsAmid s acts w speech [] → (after : WorldView) →
     after ≡ place_noted s old new (with_late (acts_done s (amid w speech []) acts)) →
-    ComeOnce after.plan (reverse after.journal) after.from_hosts after.out after.begun (λ r there. 0)
+    ComeOnce after.plan (standing after.stands) (reverse after.journal) after.from_hosts after.out after.begun (λ r there. 0)
 step_comes s k w speech old new acts fits said st a after is =
     let d : Doing = acts_done s (amid w speech []) acts in
     let done = acts_come s k w speech [] acts fits said st a in
-    let c = note_all d.world.plan d.world.from_hosts d.world.out d.world.begun (λ r there. 0) d.late d.world.journal done.late_quiet
-    (weaker d.world.plan (reverse d.world.journal) d.world.from_hosts d.world.out d.world.begun _ (λ r there. 0) (λ r there. omega arith) done.come) in
-    subst (λ (x : WorldView). ComeOnce x.plan (reverse x.journal) x.from_hosts x.out x.begun (λ r there. 0)) (sym is)
-    (note_all d.world.plan d.world.from_hosts d.world.out d.world.begun (λ r there. 0) (if same_place old new then [] else Placed (switch_no s) new ∷ [])
+    let c = note_all d.world.plan (standing d.world.stands) d.world.from_hosts d.world.out d.world.begun (λ r there. 0) d.late d.world.journal done.late_quiet
+    (weaker d.world.plan (standing d.world.stands) (reverse d.world.journal) d.world.from_hosts d.world.out d.world.begun _ (λ r there. 0) (λ r there. omega arith) done.come) in
+    subst (λ (x : WorldView). ComeOnce x.plan (standing x.stands) (reverse x.journal) x.from_hosts x.out x.begun (λ r there. 0)) (sym is)
+    (note_all d.world.plan (standing d.world.stands) d.world.from_hosts d.world.out d.world.begun (λ r there. 0) (if same_place old new then [] else Placed (switch_no s) new ∷ [])
     (d.world.journal ++ d.late) (placed (same_place old new)) c)
   where
     placed : (b : Bool) → AllByRecursion IsQuiet (if b then [] else Placed (switch_no s) new ∷ [])

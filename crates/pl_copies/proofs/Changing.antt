@@ -1,6 +1,6 @@
 -- What the small changes of a world do to the frames that came to a port or may still come: an entry is written, an item is put or taken, a
 -- frame begins, is copied, or arrives.
-use Rattle.std.proofs.Common.{◌≡◌, ℕ, suc, ◌+◌, ◌/◌, ◌%◌, ◌≤◌, ◌<◌, ◌==◌, ◌&&◌, ◌||◌, not, Bool, true, false, if◌then◌else◌, List, [], ◌∷◌, ◌++◌, Some, get_or, set, refl, sym, ap, ◌∙◌, subst, arith, inl, inr}
+use Rattle.std.proofs.Common.{◌≡◌, ℕ, suc, ◌+◌, ◌/◌, ◌%◌, ◌≤◌, ◌<◌, ◌==◌, ◌&&◌, ◌||◌, not, Bool, true, false, if◌then◌else◌, List, [], ◌∷◌, ◌++◌, Option, Some, get_or, set, refl, sym, ap, ◌∙◌, subst, arith, inl, inr}
 use Rattle.std.proofs.lemmas.Bool.{and_parts, cases_Bool, cond-false, cond-true, eq-eqb, eqb-true, ne_eqb}
 use Rattle.std.proofs.lemmas.Nat.{div-mul-add, mod-mul-add}
 use Rattle.pl_wiring.specs.declared.link.Peer.{Peer}
@@ -30,10 +30,11 @@ claim plan s port there frame = if may_come_by plan s port there frame then 1 el
 abbrev pub of_root : List Entry → ℕ → ℕ → ℕ → ℕ
 of_root past id many r = if root past id == r then many else 0
 
--- an entry that copies nothing, and with which nothing arrives
+-- an entry that copies nothing, and with which nothing arrives and no host moves
 abbrev pub IsQuiet : Entry → Type 0
 IsQuiet (Copied g c) = ⊥
 IsQuiet (Arrived g h f) = ⊥
+IsQuiet (Moved h s port) = ⊥
 IsQuiet entry = Unit {0}
 
 both_ones : (a b : Bool) → ◌≡◌ {A = ℕ} (if a && b then 1 else 0) (if a then (if b then 1 else 0) else 0)
@@ -47,10 +48,11 @@ claim_at_most_one plan s port there frame = at_most (may_come_by plan s port the
     at_most true = omega arith
     at_most false = omega arith
 
-module _ (plan : Plan) where
+module _ (plan : Plan) (at : ℕ → Option Spot) where
   pub weaker : (past : List Entry) (from_hosts out : List (List Item)) (many : ℕ) (f g : ℕ → Spot → ℕ) → ((r : ℕ) (there : Spot) → g r there ≤ f r there) →
-      ComeOnce plan past from_hosts out many f → ComeOnce plan past from_hosts out many g
+      ComeOnce plan at past from_hosts out many f → ComeOnce plan at past from_hosts out many g
   weaker past from_hosts out many f g less c = record {
+    standing = c.standing;
     unbegun = c.unbegun;
     once = λ r there. omega (arith, c.once r there, less r there);
   }
@@ -65,9 +67,10 @@ module _ (plan : Plan) where
 
   -- what is owed is put into a queue
   pub put_out : (past : List Entry) (from_hosts out : List (List Item)) (many : ℕ) (g : ℕ → Spot → ℕ) (s port id : ℕ) (frame : List ℕ) → port < plan.k →
-      ComeOnce plan past from_hosts out many (λ r there. of_root past id (claim plan s port there frame) r + g r there) →
-      ComeOnce plan past from_hosts (set out (port_index plan.k s port) (get_or out (port_index plan.k s port) [] ++ Data id frame ∷ [])) many g
+      ComeOnce plan at past from_hosts out many (λ r there. of_root past id (claim plan s port there frame) r + g r there) →
+      ComeOnce plan at past from_hosts (set out (port_index plan.k s port) (get_or out (port_index plan.k s port) [] ++ Data id frame ∷ [])) many g
   put_out past from_hosts out many g s port id frame within c = record {
+    standing = c.standing;
     unbegun = c.unbegun;
     once = λ r there. omega (
       arith,
@@ -78,25 +81,28 @@ module _ (plan : Plan) where
   }
 
   pub put_control : (past : List Entry) (from_hosts out : List (List Item)) (many : ℕ) (g : ℕ → Spot → ℕ) (n : ℕ) (frame : List ℕ) →
-      ComeOnce plan past from_hosts out many g → ComeOnce plan past from_hosts (set out n (get_or out n [] ++ Control frame ∷ [])) many g
+      ComeOnce plan at past from_hosts out many g → ComeOnce plan at past from_hosts (set out n (get_or out n [] ++ Control frame ∷ [])) many g
   put_control past from_hosts out many g n frame c = record {
+    standing = c.standing;
     unbegun = c.unbegun;
     once = λ r there. omega (arith, c.once r there, count_all-put (comes_from_place plan past r there) out n (Control frame));
   }
 
   pub put_host : (past : List Entry) (from_hosts out : List (List Item)) (many : ℕ) (g : ℕ → Spot → ℕ) (h id : ℕ) (frame : List ℕ) →
-      ComeOnce plan past from_hosts out many (λ r there. of_root past id 1 r + g r there) →
-      ComeOnce plan past (set from_hosts h (get_or from_hosts h [] ++ Data id frame ∷ [])) out many g
+      ComeOnce plan at past from_hosts out many (λ r there. of_root past id 1 r + g r there) →
+      ComeOnce plan at past (set from_hosts h (get_or from_hosts h [] ++ Data id frame ∷ [])) out many g
   put_host past from_hosts out many g h id frame c = record {
+    standing = c.standing;
     unbegun = c.unbegun;
     once = λ r there. omega (arith, c.once r there, count_all-put (λ n. has_root past r) from_hosts h (Data id frame));
   }
 
   -- the head of a queue is owed, where it is a data frame
   pub take_out : (past : List Entry) (from_hosts out : List (List Item)) (many s port id : ℕ) (frame : List ℕ) (items : List Item) → port < plan.k →
-      get_or out (port_index plan.k s port) [] ≡ Data id frame ∷ items → ComeOnce plan past from_hosts out many (λ r there. 0) →
-      ComeOnce plan past from_hosts (set out (port_index plan.k s port) items) many (λ r there. of_root past id (claim plan s port there frame) r)
+      get_or out (port_index plan.k s port) [] ≡ Data id frame ∷ items → ComeOnce plan at past from_hosts out many (λ r there. 0) →
+      ComeOnce plan at past from_hosts (set out (port_index plan.k s port) items) many (λ r there. of_root past id (claim plan s port there frame) r)
   take_out past from_hosts out many s port id frame items within is c = record {
+    standing = c.standing;
     unbegun = c.unbegun;
     once = λ r there. omega (
       arith,
@@ -107,62 +113,67 @@ module _ (plan : Plan) where
   }
 
   pub take_any : (past : List Entry) (from_hosts out : List (List Item)) (many n : ℕ) (item : Item) (items : List Item) →
-      get_or out n [] ≡ item ∷ items → ComeOnce plan past from_hosts out many (λ r there. 0) →
-      ComeOnce plan past from_hosts (set out n items) many (λ r there. 0)
+      get_or out n [] ≡ item ∷ items → ComeOnce plan at past from_hosts out many (λ r there. 0) →
+      ComeOnce plan at past from_hosts (set out n items) many (λ r there. 0)
   take_any past from_hosts out many n item items is c = record {
+    standing = c.standing;
     unbegun = c.unbegun;
     once = λ r there. omega (arith, c.once r there, count_all-take (comes_from_place plan past r there) out n item items is);
   }
 
   pub take_host : (past : List Entry) (from_hosts out : List (List Item)) (many h id : ℕ) (frame : List ℕ) (items : List Item) →
-      get_or from_hosts h [] ≡ Data id frame ∷ items → ComeOnce plan past from_hosts out many (λ r there. 0) →
-      ComeOnce plan past (set from_hosts h items) out many (λ r there. of_root past id 1 r)
+      get_or from_hosts h [] ≡ Data id frame ∷ items → ComeOnce plan at past from_hosts out many (λ r there. 0) →
+      ComeOnce plan at past (set from_hosts h items) out many (λ r there. of_root past id 1 r)
   take_host past from_hosts out many h id frame items is c = record {
+    standing = c.standing;
     unbegun = c.unbegun;
     once = λ r there. omega (arith, c.once r there, count_all-take (λ n. has_root past r) from_hosts h (Data id frame) items is);
   }
 
   pub empty_out : (past : List Entry) (from_hosts out : List (List Item)) (many n : ℕ) (g : ℕ → Spot → ℕ) →
-      ComeOnce plan past from_hosts out many g → ComeOnce plan past from_hosts (set out n []) many g
+      ComeOnce plan at past from_hosts out many g → ComeOnce plan at past from_hosts (set out n []) many g
   empty_out past from_hosts out many n g c = record {
+    standing = c.standing;
     unbegun = c.unbegun;
     once = λ r there. omega (arith, c.once r there, count_all-empty (comes_from_place plan past r there) out n);
   }
 
   pub empty_host : (past : List Entry) (from_hosts out : List (List Item)) (many h : ℕ) (g : ℕ → Spot → ℕ) →
-      ComeOnce plan past from_hosts out many g → ComeOnce plan past (set from_hosts h []) out many g
+      ComeOnce plan at past from_hosts out many g → ComeOnce plan at past (set from_hosts h []) out many g
   empty_host past from_hosts out many h g c = record {
+    standing = c.standing;
     unbegun = c.unbegun;
     once = λ r there. omega (arith, c.once r there, count_all-empty (λ n. has_root past r) from_hosts h);
   }
 
   -- an entry is written that copies nothing, and with which nothing arrives
   pub note_quiet : (past : List Entry) (from_hosts out : List (List Item)) (many : ℕ) (g : ℕ → Spot → ℕ) (e : Entry) → IsQuiet e →
-      ComeOnce plan past from_hosts out many g → ComeOnce plan (e ∷ past) from_hosts out many g
+      ComeOnce plan at past from_hosts out many g → ComeOnce plan at (e ∷ past) from_hosts out many g
   note_quiet past from_hosts out many g (Copied id copy) quiet c = absurd quiet
   note_quiet past from_hosts out many g (Arrived id h frame) quiet c = absurd quiet
-  note_quiet past from_hosts out many g (Line n) quiet c = record { unbegun = c.unbegun; once = c.once }
-  note_quiet past from_hosts out many g (Sent id h frame) quiet c = record { unbegun = c.unbegun; once = c.once }
-  note_quiet past from_hosts out many g (Skipped h skip) quiet c = record { unbegun = c.unbegun; once = c.once }
-  note_quiet past from_hosts out many g (Made id s frame) quiet c = record { unbegun = c.unbegun; once = c.once }
-  note_quiet past from_hosts out many g (Crossed id s) quiet c = record { unbegun = c.unbegun; once = c.once }
-  note_quiet past from_hosts out many g (Redirected id old new) quiet c = record { unbegun = c.unbegun; once = c.once }
-  note_quiet past from_hosts out many g (Taken id s) quiet c = record { unbegun = c.unbegun; once = c.once }
-  note_quiet past from_hosts out many g (Dropped id why) quiet c = record { unbegun = c.unbegun; once = c.once }
-  note_quiet past from_hosts out many g (Granted x h e p) quiet c = record { unbegun = c.unbegun; once = c.once }
-  note_quiet past from_hosts out many g (Registered x n) quiet c = record { unbegun = c.unbegun; once = c.once }
-  note_quiet past from_hosts out many g (Placed s place) quiet c = record { unbegun = c.unbegun; once = c.once }
-  note_quiet past from_hosts out many g (LinkDown x y) quiet c = record { unbegun = c.unbegun; once = c.once }
-  note_quiet past from_hosts out many g (LinkUp x y) quiet c = record { unbegun = c.unbegun; once = c.once }
-  note_quiet past from_hosts out many g (Moved h s port) quiet c = record { unbegun = c.unbegun; once = c.once }
-  note_quiet past from_hosts out many g (Settled n) quiet c = record { unbegun = c.unbegun; once = c.once }
-  note_quiet past from_hosts out many g (Unsettled n) quiet c = record { unbegun = c.unbegun; once = c.once }
+  note_quiet past from_hosts out many g (Line n) quiet c = record { standing = c.standing; unbegun = c.unbegun; once = c.once }
+  note_quiet past from_hosts out many g (Sent id h frame) quiet c = record { standing = c.standing; unbegun = c.unbegun; once = c.once }
+  note_quiet past from_hosts out many g (Skipped h skip) quiet c = record { standing = c.standing; unbegun = c.unbegun; once = c.once }
+  note_quiet past from_hosts out many g (Made id s frame) quiet c = record { standing = c.standing; unbegun = c.unbegun; once = c.once }
+  note_quiet past from_hosts out many g (Crossed id s) quiet c = record { standing = c.standing; unbegun = c.unbegun; once = c.once }
+  note_quiet past from_hosts out many g (Redirected id old new) quiet c = record { standing = c.standing; unbegun = c.unbegun; once = c.once }
+  note_quiet past from_hosts out many g (Taken id s) quiet c = record { standing = c.standing; unbegun = c.unbegun; once = c.once }
+  note_quiet past from_hosts out many g (Dropped id why) quiet c = record { standing = c.standing; unbegun = c.unbegun; once = c.once }
+  note_quiet past from_hosts out many g (Granted x h e p) quiet c = record { standing = c.standing; unbegun = c.unbegun; once = c.once }
+  note_quiet past from_hosts out many g (Registered x n) quiet c = record { standing = c.standing; unbegun = c.unbegun; once = c.once }
+  note_quiet past from_hosts out many g (Placed s place) quiet c = record { standing = c.standing; unbegun = c.unbegun; once = c.once }
+  note_quiet past from_hosts out many g (LinkDown x y) quiet c = record { standing = c.standing; unbegun = c.unbegun; once = c.once }
+  note_quiet past from_hosts out many g (LinkUp x y) quiet c = record { standing = c.standing; unbegun = c.unbegun; once = c.once }
+  note_quiet past from_hosts out many g (Moved h s port) quiet c = absurd quiet
+  note_quiet past from_hosts out many g (Settled n) quiet c = record { standing = c.standing; unbegun = c.unbegun; once = c.once }
+  note_quiet past from_hosts out many g (Unsettled n) quiet c = record { standing = c.standing; unbegun = c.unbegun; once = c.once }
 
   -- a frame begins: it is owed once at each port
   pub begin_one : (past : List Entry) (from_hosts out : List (List Item)) (many : ℕ) (g : ℕ → Spot → ℕ) →
-      ComeOnce plan past from_hosts out many g →
-      ComeOnce plan past from_hosts out (many + 1) (λ r there. of_root past (many + 1) 1 r + g r there)
+      ComeOnce plan at past from_hosts out many g →
+      ComeOnce plan at past from_hosts out (many + 1) (λ r there. of_root past (many + 1) 1 r + g r there)
   begin_one past from_hosts out many g c = record {
+    standing = c.standing;
     unbegun = λ id later. c.unbegun id (omega arith);
     once = λ r there.
         let itself : of_root past (many + 1) 1 r ≡ one (many + 1) r = ap (λ n. of_number n r) (c.unbegun (many + 1) (omega arith)) in
@@ -184,13 +195,14 @@ module _ (plan : Plan) where
       either false = refl
 
   pub copy_one : (past : List Entry) (from_hosts out : List (List Item)) (many id : ℕ) (f g : ℕ → Spot → ℕ) → times_in_all (many + 1) from_hosts ≡ 0 →
-      times_in_all (many + 1) out ≡ 0 → ((r : ℕ) (there : Spot) → g r there ≤ f r there) → ComeOnce plan past from_hosts out many f →
-      ComeOnce plan (Copied id (many + 1) ∷ past) from_hosts out (many + 1) g
+      times_in_all (many + 1) out ≡ 0 → ((r : ℕ) (there : Spot) → g r there ≤ f r there) → ComeOnce plan at past from_hosts out many f →
+      ComeOnce plan at (Copied id (many + 1) ∷ past) from_hosts out (many + 1) g
   copy_one past from_hosts out many id f g not_at_hosts not_out less c =
       let n : ℕ = many + 1 in
       let now : List Entry = Copied id n ∷ past in
       let kept : (g : ℕ) → (n == g) ≡ false → root now g ≡ root past g = λ g other. ap (root past) (cond-false (n == g) id g other) in
       record {
+        standing = c.standing;
         unbegun = λ x later. kept x (ne_eqb n x (λ e. absurd (omega arith))) ∙ c.unbegun x (omega arith);
         once = λ r there.
             let at_hosts = count_all-same (λ h. has_root now r) (λ h. has_root past r) n (λ h g frame other. ap (λ x. x == r) (kept g other)) from_hosts not_at_hosts in
@@ -202,12 +214,13 @@ module _ (plan : Plan) where
   -- a frame arrives at the port out of which it came
   pub arrive_one : (past : List Entry) (from_hosts out : List (List Item)) (many s port id : ℕ) (frame bytes : List ℕ) (h : HostNo) → peer_of plan s port ≡ HostPort →
       spot_of plan past h.0 ≡ Some (at_port s port) →
-      ComeOnce plan past from_hosts out many (λ r there. of_root past id (claim plan s port there frame) r) →
-      ComeOnce plan (Arrived id h bytes ∷ past) from_hosts out many (λ r there. 0)
-  arrive_one past from_hosts out many s port id frame bytes h peer at c = record {
+      ComeOnce plan at past from_hosts out many (λ r there. of_root past id (claim plan s port there frame) r) →
+      ComeOnce plan at (Arrived id h bytes ∷ past) from_hosts out many (λ r there. 0)
+  arrive_one past from_hosts out many s port id frame bytes h peer stands c = record {
+    standing = c.standing;
     unbegun = c.unbegun;
     once = λ r there.
-        let here : (b : Bool) → is_at (spot_of plan past h.0) there ≡ b → same_spot (at_port s port) there ≡ b = λ b e. sym (ap (λ o. is_at o there) at) ∙ e in
+        let here : (b : Bool) → is_at (spot_of plan past h.0) there ≡ b → same_spot (at_port s port) there ≡ b = λ b e. sym (ap (λ o. is_at o there) stands) ∙ e in
         let more = came (root past id == r) (is_at (spot_of plan past h.0) there) (is_group (destination_of frame)) (root_arrived_at plan past r there)
         (may_come plan.k s port (peer_of plan s port) there) (ap (λ p. may_come plan.k s port p there) peer ∙ here (is_at (spot_of plan past h.0) there) refl) in
         omega (arith, c.once r there, more);

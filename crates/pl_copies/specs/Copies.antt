@@ -1,5 +1,6 @@
 -- How many copies of a frame may still come to a port for hosts, and how many came there. The entries that are past have the newest first.
-use Rattle.std.specs.Prelude.{◌≡◌, ◌≤◌, ◌<◌, ℕ, ◌+◌, ◌/◌, ◌%◌, ◌==◌, ◌&&◌, ◌||◌, not, suc, Bool, true, false, if◌then◌else◌, List, [], ◌∷◌, reverse}
+use Rattle.std.specs.Prelude.{◌≡◌, ◌≤◌, ◌<◌, ℕ, ◌+◌, ◌/◌, ◌%◌, ◌==◌, ◌&&◌, ◌||◌, not, suc, Bool, true, false, if◌then◌else◌, List, [], ◌∷◌, Option, reverse, slice_get}
+use Rattle.std.specs.Option.{option_map}
 use Rattle.pl_frame.specs.Ethernet.{destination_of}
 use Rattle.pl_wiring.specs.declared.label.Label.{Label}
 use Rattle.pl_wiring.specs.declared.label.Label.TheVariants.{Aggregation, Core, Edge}
@@ -11,9 +12,10 @@ use Rattle.pl_wiring.specs.Plan.{Plan}
 use Rattle.pl_layouts.specs.Memberships.{is_group}
 use Rattle.pl_journal.specs.declared.entry.Entry.{Entry}
 use Rattle.pl_journal.specs.Flights.{root, root_arrived_at}
-use Rattle.pl_journal.specs.Places.{Spot, at_port, same_spot}
+use Rattle.pl_journal.specs.Places.{Spot, at_port, same_spot, spot_of}
 use Rattle.pl_world.specs.declared.item.Item.{Item}
 use Rattle.pl_world.specs.declared.item.Item.TheVariants.{Control, Data}
+use Rattle.pl_world.specs.declared.stand.Stand.{Stand}
 use Rattle.pl_world.specs.Flying.{born}
 use Rattle.pl_world.specs.Worlds.{WorldView}
 
@@ -69,11 +71,16 @@ still_to_come plan past from_hosts out r there =
 abbrev pub came_to : Plan → List Entry → ℕ → Spot → ℕ
 came_to plan past r there = if root_arrived_at plan past r there then 1 else 0
 
--- At each port, of each root: the frames that came, that may still come and that are owed are at most one, and none of a root that has not begun.
-pub record ComeOnce (plan : Plan) (past : List Entry) (from_hosts out : List (List Item)) (many : ℕ) (owed : ℕ → Spot → ℕ) : Type 0 where
+-- where hosts stand
+abbrev pub standing : List Stand → ℕ → Option Spot
+standing stands h = option_map (λ (stand : Stand). at_port stand.edge.0 stand.port) (slice_get stands h)
+
+-- The journal has hosts where they stand. At each port, of each root: the frames that came, that may still come and that are owed are at most one, and none of a root that has not begun.
+pub record ComeOnce (plan : Plan) (at : ℕ → Option Spot) (past : List Entry) (from_hosts out : List (List Item)) (many : ℕ) (owed : ℕ → Spot → ℕ) : Type 0 where
+  pub standing : (h : ℕ) → spot_of plan past h ≡ at h
   pub unbegun : (id : ℕ) → many < id → root past id ≡ id
   pub once : (r : ℕ) (there : Spot) → still_to_come plan past from_hosts out r there + owed r there + came_to plan past r there ≤ born r many
 
 -- So it is in a world, where nothing is owed.
 abbrev pub ComesOnce : WorldView → Type 0
-ComesOnce w = ComeOnce w.plan (reverse w.journal) w.from_hosts w.out w.begun (λ r there. 0)
+ComesOnce w = ComeOnce w.plan (standing w.stands) (reverse w.journal) w.from_hosts w.out w.begun (λ r there. 0)

@@ -4,3 +4,5 @@ pub mod Acting
 pub mod Ways
 pub mod Spreading
 pub mod SinglePasses
+pub mod Turning
+pub mod Happening

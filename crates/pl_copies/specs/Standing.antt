@@ -14,6 +14,7 @@ use Rattle.pl_core.specs.PortRecords.{id_at, is_open_to_hosts, place_at, port_of
 use Rattle.pl_core.specs.SwitchFacts.{part_of}
 use Rattle.pl_core.specs.SwitchViews.{SwitchView}
 use Rattle.pl_world.specs.declared.item.Item.TheVariants.{Data}
+use Rattle.pl_world.specs.declared.stand.Stand.{Stand}
 use Rattle.pl_world.specs.Changes.{out_of}
 use Rattle.pl_world.specs.Worlds.{WorldView}
 
@@ -34,8 +35,9 @@ pub record KnowsTree (plan : Plan) (t : ℕ) (v : SwitchView) : Type 0 where
   pub parts : (group : ℕ) (part : TreePart) (q : ℕ) (u : SwitchNo) (r : ℕ) (id : SwitchId) → rank (label_of plan.k t) ≡ 1 → part_of v group ≡ Some part →
       peer_of plan t q ≡ Switch u r → id_at v q ≡ Some id → list_any (λ d. d.0 == id.0) part.down ≡ true → rank (label_of plan.k u.0) ≡ 0
 
--- So does each switch, and none takes what comes over a link for a host's.
+-- So does each switch, and none takes what comes over a link for a host's. Hosts stand at ports without a link.
 pub record KnowTrees (w : WorldView) : Type 0 where
+  pub free : (h : ℕ) (stand : Stand) → slice_get w.stands h ≡ Some stand → peer_of w.plan stand.edge.0 stand.port ≡ HostPort
   pub each : (t : ℕ) (v : SwitchView) → slice_get w.switches t ≡ Some v → KnowsTree w.plan t v
   pub closed : (s port : ℕ) (t : SwitchNo) (q id : ℕ) (frame : List ℕ) (v : SwitchView) → peer_of w.plan s port ≡ Switch t q →
       Contains (out_of w s port) (Data id frame) → slice_get w.switches t.0 ≡ Some v → is_open_to_hosts (port_of v q) ≡ false

@@ -64,7 +64,7 @@ use Rattle.pl_copies.specs.Copies.{ComeOnce, ComesOnce, standing}
 use Rattle.pl_copies.specs.Standing.{KnowTrees}
 use Rattle.pl_copies.proofs.Acting.{in_hand, note_all, of_root_less, reverse_one, used}
 use Rattle.pl_copies.proofs.Changing.{IsQuiet, arrive_one, claim, empty_host, empty_out, note_quiet, of_root, take_any, take_host, take_out, weaker}
-use Rattle.pl_copies.proofs.SinglePasses.{hears_single, host_single, quiet_still, single_few, single_used, still_is_single}
+use Rattle.pl_copies.proofs.SinglePasses.{AreSingle, hears_single, host_single, quiet_still, single_few, single_used, still_is_single}
 use Rattle.pl_copies.proofs.Turning.{host_comes, over_link_few, peer_back, switch_comes}
 
 abbrev pub taken_out : WorldView → ℕ → ℕ → List Item → WorldView
@@ -90,7 +90,7 @@ module _ (accounts : AccountsForFrames Loose) (w : WorldView) (counted : IsCount
   ticks_come s turn =
       let shaped : IsShaped turn.before = all_found IsShaped w.switches s turn.before turn.found so.rest.shaped in
       let step : turn.acts ≡ (ticks turn.before).acts = turn.ruled.steps.done in
-      let few = single_few w.plan s false turn.acts (subst (λ a. Rattle.pl_copies.proofs.SinglePasses.AreSingle false a) (sym step)
+      let few = single_few w.plan s false turn.acts (subst (λ a. AreSingle false a) (sym step)
       (still_is_single false (ticks turn.before).acts (quiet_still turn.before (ticks turn.before) (quiet_ticks turn.before shaped)))) in
       switch_comes Loose accounts (record w { heard = heard_after_tick s w.stands w.heard }) s Tick Silent new refl (λ v size. tt)
       so.balance (heard_rest w _ (ticked_heard s w.stands w.heard) so.rest) turn come few
@@ -99,3 +99,73 @@ module _ (accounts : AccountsForFrames Loose) (w : WorldView) (counted : IsCount
       ticked_heard t [] heard = refl
       ticked_heard t (stand ∷ stands) [] = refl
       ticked_heard t (stand ∷ stands) (ticks ∷ heard) = ap suc (ticked_heard t stands heard)
+
+  says_come : (s : ℕ) (says : ToSwitch) (items : List ToSwitch) → SwitchTurn Loose (record w { from_manager = set w.from_manager s items }) s (Says says) Silent new →
+      ComesOnce new
+  says_come s says items turn =
+      let shaped : IsShaped turn.before = all_found IsShaped w.switches s turn.before turn.found so.rest.shaped in
+      let loose = turn.ruled in
+      let few = single_few w.plan s false turn.acts (subst (λ a. AreSingle false a) (sym loose.steps.done) (hears_single loose.choose turn.before says shaped)) in
+      switch_comes Loose accounts (record w { from_manager = set w.from_manager s items }) s (Says says) Silent new refl (λ v size. tt)
+      so.balance (says_rest w.from_manager _ (length-set w.from_manager s _) so.rest) turn come few
+
+  -- a control frame comes over a link
+  control_comes_over : (s port : ℕ) (frame : List ℕ) (items : List Item) (t : SwitchNo) (q : ℕ) → port < w.plan.k → out_of w s port ≡ Control frame ∷ items →
+      peer_of w.plan s port ≡ Switch t q → SwitchTurn Loose (taken_out w s port items) t.0 (Comes q frame) Silent new → ComesOnce new
+  control_comes_over s port frame items t q within head peer turn =
+      let is_frame : IsFrame true frame = head_is_item w.out (port_index w.plan.k s port) (Control frame) items head so.balance.port_items in
+      let port_there = subst (λ (p : Peer). IsPort w.plan.k p) peer (peer_is_port w.plan s port is_plan) in
+      let v : SwitchView = turn.before in
+      let shaped : IsShaped v = all_found IsShaped w.switches t.0 v turn.found so.rest.shaped in
+      let size : v.k ≡ w.plan.k = all_found (λ (u : SwitchView). u.k ≡ w.plan.k) w.switches t.0 v turn.found so.rest.ports in
+      let loose = turn.ruled in
+      let step : switch_step loose.choose v (Comes q frame) ≡ control_comes v q frame =
+      cond-true (is_control frame) (control_comes v q frame) (data_comes loose.choose v q frame) is_frame.kind in
+      let acts : turn.acts ≡ (control_comes v q frame).acts = loose.steps.done ∙ ap (λ (x : SwitchStep). x.acts) step in
+      let few = single_few w.plan t.0 false turn.acts (subst (λ a. AreSingle false a) (sym acts)
+      (still_is_single false (control_comes v q frame).acts (quiet_still v (control_comes v q frame) (quiet_control_comes v q frame shaped (subst (λ n. q < n) (sym size) port_there.1))))) in
+      let owes = took_out_balance w.plan w.from_hosts w.out w.journal w.begun (λ i. 0) (λ i. 0) (port_index w.plan.k s port) (Control frame) items head
+      (λ i. omega arith) so.balance in
+      switch_comes Loose accounts (taken_out w s port items) t.0 (Comes q frame) Silent new (rw (is_frame.kind) refl)
+      (λ u size. record { within = subst (λ n. q < n) (sym size) port_there.1; whole = is_frame.whole }) owes so.rest turn
+      (take_any w.plan (standing w.stands) (reverse w.journal) w.from_hosts w.out w.begun (port_index w.plan.k s port) (Control frame) items head come) few
+
+  -- a data frame comes over a link
+  data_comes_over : KnowTrees w → (s port id : ℕ) (frame : List ℕ) (items : List Item) (t : SwitchNo) (q : ℕ) → port < w.plan.k →
+      out_of w s port ≡ Data id frame ∷ items → peer_of w.plan s port ≡ Switch t q →
+      SwitchTurn Loose (noted (taken_out w s port items) (Crossed id t)) t.0 (Comes q frame) (Waiting id false) new → ComesOnce new
+  data_comes_over trees s port id frame items t q within head peer turn =
+      let is_frame : IsFrame false frame = head_is_item w.out (port_index w.plan.k s port) (Data id frame) items head so.balance.port_items in
+      let port_there = subst (λ (p : Peer). IsPort w.plan.k p) peer (peer_is_port w.plan s port is_plan) in
+      let v : SwitchView = turn.before in
+      let loose = turn.ruled in
+      let there : Contains (out_of w s port) (Data id frame) = subst (λ l. Contains l (Data id frame)) (sym head) (zero, omega arith, refl) in
+      let step : switch_step loose.choose v (Comes q frame) ≡ comes_from_switch loose.choose v q frame =
+      cond-false (is_control frame) (control_comes v q frame) (data_comes loose.choose v q frame) is_frame.kind
+      ∙ cond-false (is_open_to_hosts (port_of v q)) (comes_from_host loose.choose v q frame) (comes_from_switch loose.choose v q frame)
+      (trees.closed s port t q id frame v peer there turn.found) in
+      let acts : (comes_from_switch loose.choose v q frame).acts ≡ turn.acts = sym (loose.steps.done ∙ ap (λ (x : SwitchStep). x.acts) step) in
+      let lets = over_link_few w.plan is_plan t v (trees.each t.0 v turn.found) s port q frame loose.choose peer (peer_back w.plan s port t q is_plan peer) in
+      let owes = took_out_balance w.plan w.from_hosts w.out w.journal w.begun (λ i. 0) (λ i. times_in i (Data id frame ∷ [])) (port_index w.plan.k s port)
+      (Data id frame) items head (λ i. omega arith) so.balance in
+      let w1 : WorldView = taken_out w s port items in
+      let taken = take_out w.plan (standing w.stands) (reverse w.journal) w.from_hosts w.out w.begun s port id frame items within head come in
+      let c1 : ComeOnce w.plan (standing w.stands) (reverse w.journal) w.from_hosts w1.out w.begun (λ r there. of_root (reverse w.journal) id (used w.plan t.0 there turn.acts) r) =
+      subst (λ a. ComeOnce w.plan (standing w.stands) (reverse w.journal) w.from_hosts w1.out w.begun (λ r there. of_root (reverse w.journal) id (used w.plan t.0 there a) r)) acts
+      (weaker w.plan (standing w.stands) (reverse w.journal) w.from_hosts w1.out w.begun _ _
+      (λ r there. of_root_less (reverse w.journal) id (used w.plan t.0 there (comes_from_switch loose.choose v q frame).acts) (claim w.plan s port there frame) r (lets.0 there)) taken) in
+      let c2 : ComeOnce w.plan (standing w.stands) (reverse (w.journal ++ Crossed id t ∷ [])) w.from_hosts w1.out w.begun
+      (in_hand w.plan t.0 (reverse (w.journal ++ Crossed id t ∷ [])) turn.acts (Waiting id false)) =
+      subst (λ p. ComeOnce w.plan (standing w.stands) p w.from_hosts w1.out w.begun (in_hand w.plan t.0 p turn.acts (Waiting id false))) (sym (reverse_one w.journal (Crossed id t)))
+      (note_quiet w.plan (standing w.stands) (reverse w.journal) w.from_hosts w1.out w.begun _ (Crossed id t) tt c1) in
+      switch_comes Loose accounts (noted w1 (Crossed id t)) t.0 (Comes q frame) (Waiting id false) new (rw (is_frame.kind) refl)
+      (λ u size. record { within = subst (λ n. q < n) (sym size) port_there.1; whole = is_frame.whole })
+      (noted_owes w1 (λ i. times_in i (Data id frame ∷ [])) (λ i. one id i + 0) (Crossed id t ∷ []) refl (λ i. omega (arith, times_in-data i id frame [])) owes)
+      so.rest turn c2 (subst (λ a. Rattle.pl_copies.proofs.Acting.MakesFew w.plan t.0 a) acts lets.1)
+
+  -- a data frame of a host comes
+  of_host_comes : KnowTrees w → (h id : ℕ) (frame : List ℕ) (items : List Item) (stand : Stand) → items_at w.from_hosts h ≡ Data id frame ∷ items →
+      slice_get w.stands h ≡ Some stand →
+      SwitchTurn Loose (noted (heard_item (record w { from_hosts = set w.from_hosts h items }) h (Data id frame)) (Crossed id (switch_no stand.edge.0)))
+      stand.edge.0 (Comes stand.port frame) (Waiting id false) new → ComesOnce new
+  of_host_comes trees h id frame items stand head found turn = ?

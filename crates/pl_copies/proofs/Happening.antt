@@ -3,7 +3,9 @@ use Rattle.std.proofs.Common.{◌≡◌, ℕ, zero, suc, ◌+◌, ◌≤◌, ◌
 use Rattle.std.specs.List.{AllByRecursion, fold}
 use Rattle.std.specs.Option.{option_map}
 use Rattle.std.proofs.Math.ListN.{length-set}
-use Rattle.std.proofs.lemmas.Bool.{and_from, and_parts, cases_Bool, cases_eq, cond-false, cond-true, eq-eqb, eqb-true, ltb-true}
+use Rattle.std.proofs.lemmas.Bool.{and_from, and_parts, cases_Bool, cases_eq, cond-false, cond-true, eq-eqb, eqb-true, ltb-true, or_right}
+use Rattle.std.proofs.lemmas.List.Quantifiers.{position-Some}
+use Rattle.std.proofs.lemmas.Option.{slice_get-get_or}
 use Rattle.std.proofs.lemmas.List.{append_assoc, get_or-set_other, get_or-set_same}
 use Rattle.pl_frame.specs.Ethernet.{destination_of}
 use Rattle.pl_wiring.specs.declared.label.SwitchNo.{SwitchNo}
@@ -62,7 +64,7 @@ use Rattle.pl_world.proofs.StepBalances.{Sound, event_is_not_refused, heard_rest
 use Rattle.pl_world.proofs.SwitchActBalances.{HasRest, says_rest}
 use Rattle.pl_copies.specs.Copies.{ComeOnce, ComesOnce, standing}
 use Rattle.pl_copies.specs.Standing.{KnowTrees}
-use Rattle.pl_copies.proofs.Acting.{in_hand, note_all, of_root_less, reverse_one, used}
+use Rattle.pl_copies.proofs.Acting.{MakesFew, in_hand, note_all, of_root_less, reverse_one, used}
 use Rattle.pl_copies.proofs.Changing.{IsQuiet, arrive_one, claim, empty_host, empty_out, note_quiet, of_root, take_any, take_host, take_out, weaker}
 use Rattle.pl_copies.proofs.SinglePasses.{AreSingle, hears_single, host_single, quiet_still, single_few, single_used, still_is_single}
 use Rattle.pl_copies.proofs.Turning.{host_comes, over_link_few, peer_back, switch_comes}
@@ -77,6 +79,28 @@ pub noted_once : (w : WorldView) (g : ℕ → Spot → ℕ) (e : Entry) → IsQu
 noted_once w g e quiet c =
     subst (λ p. ComeOnce w.plan (standing w.stands) p w.from_hosts w.out w.begun g) (sym (reverse_one w.journal e))
     (note_quiet w.plan (standing w.stands) (reverse w.journal) w.from_hosts w.out w.begun g e quiet c)
+
+-- who gets a frame stands at the port out of which it comes, as the journal has it
+
+gets_there : (w : WorldView) (s port h : ℕ) (frame : List ℕ) → receiver w s port frame ≡ Some h → host_at w s port ≡ Some h
+gets_there w s port h frame is = by_host (host_at w s port) refl is
+  where
+    if_some : (b : Bool) (g : ℕ) → (if b then Some g else None) ≡ Some h → g ≡ h
+    if_some true g e = cc
+    if_some false g e = absurd (cc)
+
+    by_host : (o : Option ℕ) → host_at w s port ≡ o → if_for w.plan frame o ≡ Some h → host_at w s port ≡ Some h
+    by_host None at e = absurd (cc)
+    by_host (Some g) at e = at ∙ ap Some (if_some _ g e)
+
+pub stands_where : (w : WorldView) → ComesOnce w → (s port h : ℕ) → host_at w s port ≡ Some h → spot_of w.plan (reverse w.journal) h ≡ Some (at_port s port)
+stands_where w come s port h found =
+    let none : Stand = record { edge = record { 0 = 0 }; port = 0 } in
+    let all = position-Some (stands_at s port) w.stands h none found in
+    let stand : Stand = get_or w.stands h none in
+    let parts = and_parts (stand.edge.0 == s) (stand.port == port) all.1 in
+    come.standing h ∙ ap (option_map (λ (x : Stand). at_port x.edge.0 x.port)) (slice_get-get_or w.stands h none all.0)
+    ∙ ap Some (ap (λ a. at_port a stand.port) (eqb-true stand.edge.0 s parts.0) ∙ ap (λ b. at_port s b) (eqb-true stand.port port parts.1))
 
 module _ (accounts : AccountsForFrames Loose) (w : WorldView) (counted : IsCounted w) (come : ComesOnce w) (new : WorldView) where
   so : Sound w
@@ -161,11 +185,69 @@ module _ (accounts : AccountsForFrames Loose) (w : WorldView) (counted : IsCount
       switch_comes Loose accounts (noted w1 (Crossed id t)) t.0 (Comes q frame) (Waiting id false) new (rw (is_frame.kind) refl)
       (λ u size. record { within = subst (λ n. q < n) (sym size) port_there.1; whole = is_frame.whole })
       (noted_owes w1 (λ i. times_in i (Data id frame ∷ [])) (λ i. one id i + 0) (Crossed id t ∷ []) refl (λ i. omega (arith, times_in-data i id frame [])) owes)
-      so.rest turn c2 (subst (λ a. Rattle.pl_copies.proofs.Acting.MakesFew w.plan t.0 a) acts lets.1)
+      so.rest turn c2 (subst (λ a. MakesFew w.plan t.0 a) acts lets.1)
 
   -- a data frame of a host comes
   of_host_comes : KnowTrees w → (h id : ℕ) (frame : List ℕ) (items : List Item) (stand : Stand) → items_at w.from_hosts h ≡ Data id frame ∷ items →
       slice_get w.stands h ≡ Some stand →
       SwitchTurn Loose (noted (heard_item (record w { from_hosts = set w.from_hosts h items }) h (Data id frame)) (Crossed id (switch_no stand.edge.0)))
       stand.edge.0 (Comes stand.port frame) (Waiting id false) new → ComesOnce new
-  of_host_comes trees h id frame items stand head found turn = ?
+  of_host_comes trees h id frame items stand head found turn =
+      let is_frame : IsFrame false frame = sent_is_item w.from_hosts h (Data id frame) items head so.balance.host_items in
+      let at : IsAtPort w.plan.k stand = all_found (IsAtPort w.plan.k) w.stands h stand found so.rest.at_ports in
+      let s : ℕ = stand.edge.0 in
+      let v : SwitchView = turn.before in
+      let shaped : IsShaped v = all_found IsShaped w.switches s v turn.found so.rest.shaped in
+      let size : v.k ≡ w.plan.k = all_found (λ (u : SwitchView). u.k ≡ w.plan.k) w.switches s v turn.found so.rest.ports in
+      let loose = turn.ruled in
+      let opens : is_open_to_hosts (port_of v stand.port) ≡ true =
+      or_right (port_of v stand.port).host _ (ap is_none ((trees.each s v turn.found).strangers stand.port (trees.free h stand found))) in
+      let step : switch_step loose.choose v (Comes stand.port frame) ≡ comes_from_host loose.choose v stand.port frame =
+      cond-false (is_control frame) (control_comes v stand.port frame) (data_comes loose.choose v stand.port frame) is_frame.kind
+      ∙ cond-true (is_open_to_hosts (port_of v stand.port)) (comes_from_host loose.choose v stand.port frame) (comes_from_switch loose.choose v stand.port frame) opens in
+      let acts : (comes_from_host loose.choose v stand.port frame).acts ≡ turn.acts = sym (loose.steps.done ∙ ap (λ (x : SwitchStep). x.acts) step) in
+      let single : AreSingle true turn.acts = subst (λ a. AreSingle true a) acts
+      (host_single loose.choose v stand.port frame shaped (subst (λ n. stand.port < n) (sym size) at.port) is_frame.whole.low) in
+      let owes = took_host_balance w.plan w.from_hosts w.out w.journal w.begun (λ i. 0) (λ i. times_in i (Data id frame ∷ [])) h (Data id frame) items head
+      (λ i. omega arith) so.balance in
+      let w0 : WorldView = record w { from_hosts = set w.from_hosts h items } in
+      let w1 : WorldView = heard_item w0 h (Data id frame) in
+      let taken = take_host w.plan (standing w.stands) (reverse w.journal) w.from_hosts w.out w.begun h id frame items head come in
+      let c1 : ComeOnce w.plan (standing w.stands) (reverse w.journal) w0.from_hosts w.out w.begun (λ r there. of_root (reverse w.journal) id (used w.plan s there turn.acts) r) =
+      weaker w.plan (standing w.stands) (reverse w.journal) w0.from_hosts w.out w.begun _ _
+      (λ r there. of_root_less (reverse w.journal) id (used w.plan s there turn.acts) 1 r (single_used w.plan s there true turn.acts single)) taken in
+      let c2 : ComeOnce w.plan (standing w.stands) (reverse (w.journal ++ Crossed id (switch_no s) ∷ [])) w0.from_hosts w.out w.begun
+      (in_hand w.plan s (reverse (w.journal ++ Crossed id (switch_no s) ∷ [])) turn.acts (Waiting id false)) =
+      subst (λ p. ComeOnce w.plan (standing w.stands) p w0.from_hosts w.out w.begun (in_hand w.plan s p turn.acts (Waiting id false))) (sym (reverse_one w.journal (Crossed id (switch_no s))))
+      (note_quiet w.plan (standing w.stands) (reverse w.journal) w0.from_hosts w.out w.begun _ (Crossed id (switch_no s)) tt c1) in
+      switch_comes Loose accounts (noted w1 (Crossed id (switch_no s))) s (Comes stand.port frame) (Waiting id false) new (rw (is_frame.kind) refl)
+      (λ u size. record { within = subst (λ n. stand.port < n) (sym size) at.port; whole = is_frame.whole })
+      (noted_owes w1 (λ i. times_in i (Data id frame ∷ [])) (λ i. one id i + 0) (Crossed id (switch_no s) ∷ []) refl (λ i. omega (arith, times_in-data i id frame [])) owes)
+      (heard_rest w0 _ (length-set w.heard h _) so.rest) turn c2 (single_few w.plan s true turn.acts single)
+
+  -- a frame comes out of a port for hosts: where a host stands there it may arrive
+  receives_come : (rule : HostRule) (s port id : ℕ) (frame : List ℕ) (items : List Item) (h : ℕ) → port < w.plan.k → out_of w s port ≡ Data id frame ∷ items →
+      peer_of w.plan s port ≡ HostPort → spot_of w.plan (reverse w.journal) h ≡ Some (at_port s port) →
+      HostReceives rule (taken_out w s port items) h id frame new → ComesOnce new
+  receives_come rule s port id frame items h within head peer stands receives =
+      let taken = take_out w.plan (standing w.stands) (reverse w.journal) w.from_hosts w.out w.begun s port id frame items within head come in
+      host_comes rule (reception_noted (taken_out w s port items) h id frame receives.reception) h _ _ new (received receives.reception taken) receives.turn
+    where
+      out : List (List Item)
+      out = set w.out (port_index w.plan.k s port) items
+
+      received : (reception : Reception) →
+          ComeOnce w.plan (standing w.stands) (reverse w.journal) w.from_hosts out w.begun (λ r there. of_root (reverse w.journal) id (claim w.plan s port there frame) r) →
+          ComesOnce (reception_noted (taken_out w s port items) h id frame reception)
+      received Kept c = subst (λ p. ComeOnce w.plan (standing w.stands) p w.from_hosts out w.begun (λ r there. 0)) (sym (reverse_one w.journal (Arrived id (host_no h) frame)))
+          (arrive_one w.plan (standing w.stands) (reverse w.journal) w.from_hosts out w.begun s port id frame frame (host_no h) peer stands c)
+      received NotMember c = noted_once (taken_out w s port items) (λ r there. 0) (Dropped id cause.NoMember) tt
+          (weaker w.plan (standing w.stands) (reverse w.journal) w.from_hosts out w.begun _ (λ r there. 0) (λ r there. omega arith) c)
+
+  comes_out_of : (rule : HostRule) (s port id : ℕ) (frame : List ℕ) (items : List Item) → port < w.plan.k → out_of w s port ≡ Data id frame ∷ items →
+      peer_of w.plan s port ≡ HostPort → (to : Option ℕ) → receiver w s port frame ≡ to → ComesAtHost rule (taken_out w s port items) id frame to new → ComesOnce new
+  comes_out_of rule s port id frame items within head peer None at is =
+      subst ComesOnce (sym is) (noted_once (taken_out w s port items) (λ r there. 0) (Dropped id cause.HostGone) tt
+      (take_any w.plan (standing w.stands) (reverse w.journal) w.from_hosts w.out w.begun (port_index w.plan.k s port) (Data id frame) items head come))
+  comes_out_of rule s port id frame items within head peer (Some h) at is =
+      receives_come rule s port id frame items h within head peer (stands_where w come s port h (gets_there w s port h frame at)) is

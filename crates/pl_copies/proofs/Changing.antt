@@ -13,6 +13,7 @@ use Rattle.pl_layouts.specs.Memberships.{is_group}
 use Rattle.pl_journal.specs.declared.entry.Entry.{Entry}
 use Rattle.pl_journal.specs.declared.entry.Entry.TheVariants.{Arrived, Copied, Crossed, Dropped, Granted, Line, LinkDown, LinkUp, Made, Moved, Placed, Redirected, Registered, Sent, Settled, Skipped, Taken, Unsettled}
 use Rattle.pl_wiring.specs.declared.host.HostNo.{HostNo}
+use Rattle.pl_wiring.specs.declared.label.SwitchNo.{SwitchNo}
 use Rattle.pl_journal.specs.Flights.{before_copy, root, root_arrived_at}
 use Rattle.pl_journal.specs.Places.{Spot, at_port, is_at, same_spot, spot_of}
 use Rattle.pl_world.specs.declared.item.Item.{Item}
@@ -238,3 +239,13 @@ module _ (plan : Plan) (at : ℕ → Option Spot) where
       came true false true before may is = omega arith
       came true false false before may is = omega arith
       came false at group before may is = omega arith
+
+-- a host moves
+pub note_moved : (plan : Plan) (at later : ℕ → Option Spot) (past : List Entry) (from_hosts out : List (List Item)) (many : ℕ) (g : ℕ → Spot → ℕ)
+    (h : HostNo) (e : SwitchNo) (port : ℕ) → ((x : ℕ) → later x ≡ (if h.0 == x then Some (at_port e.0 port) else at x)) →
+    ComeOnce plan at past from_hosts out many g → ComeOnce plan later (Moved h e port ∷ past) from_hosts out many g
+note_moved plan at later past from_hosts out many g h e port moved c = record {
+  standing = λ x. ap (λ o. if◌then◌else◌ {A = Option Spot} (h.0 == x) (Some (at_port e.0 port)) o) (c.standing x) ∙ sym (moved x);
+  unbegun = c.unbegun;
+  once = c.once;
+}

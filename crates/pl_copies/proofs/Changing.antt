@@ -14,7 +14,7 @@ use Rattle.pl_journal.specs.declared.entry.Entry.{Entry}
 use Rattle.pl_journal.specs.declared.entry.Entry.TheVariants.{Arrived, Copied, Crossed, Dropped, Granted, Line, LinkDown, LinkUp, Made, Moved, Placed, Redirected, Registered, Sent, Settled, Skipped, Taken, Unsettled}
 use Rattle.pl_wiring.specs.declared.host.HostNo.{HostNo}
 use Rattle.pl_wiring.specs.declared.label.SwitchNo.{SwitchNo}
-use Rattle.pl_journal.specs.Flights.{before_copy, root, root_arrived_at}
+use Rattle.pl_journal.specs.Flights.{before_copy, root}
 use Rattle.pl_journal.specs.Places.{Spot, at_port, is_at, same_spot, spot_of}
 use Rattle.pl_world.specs.declared.item.Item.{Item}
 use Rattle.pl_world.specs.declared.item.Item.TheVariants.{Control, Data}
@@ -222,23 +222,18 @@ module _ (plan : Plan) (at : ℕ → Option Spot) where
     unbegun = c.unbegun;
     once = λ r there.
         let here : (b : Bool) → is_at (spot_of plan past h.0) there ≡ b → same_spot (at_port s port) there ≡ b = λ b e. sym (ap (λ o. is_at o there) stands) ∙ e in
-        let more = came (root past id == r) (is_at (spot_of plan past h.0) there) (is_group (destination_of frame)) (root_arrived_at plan past r there)
-        (may_come plan.k s port (peer_of plan s port) there) (ap (λ p. may_come plan.k s port p there) peer ∙ here (is_at (spot_of plan past h.0) there) refl) in
+        let more = came (root past id == r) (is_at (spot_of plan past h.0) there) (is_group (destination_of frame)) (may_come plan.k s port (peer_of plan s port) there)
+        (came_to plan past r there) (ap (λ p. may_come plan.k s port p there) peer ∙ here (is_at (spot_of plan past h.0) there) refl) in
         omega (arith, c.once r there, more);
   }
     where
-      came : (own at group before may : Bool) → may ≡ at →
-          (if (own && at) || before then 1 else 0) ≤ (if own then (if not group || may then 1 else 0) else 0) + (if before then 1 else 0)
-      came true true true true may is = rw is (omega arith)
-      came true true true false may is = rw is (omega arith)
-      came true true false before may is = by_any before
-        where
-          by_any : (b : Bool) → 1 ≤ 1 + (if b then 1 else 0)
-          by_any true = omega arith
-          by_any false = omega arith
-      came true false true before may is = omega arith
-      came true false false before may is = omega arith
-      came false at group before may is = omega arith
+      came : (own at group may : Bool) (before : ℕ) → may ≡ at →
+          (if own && at then suc before else before) ≤ (if own then (if not group || may then 1 else 0) else 0) + before
+      came true true true may before is = rw is (omega arith)
+      came true true false may before is = omega arith
+      came true false true may before is = omega arith
+      came true false false may before is = omega arith
+      came false at group may before is = omega arith
 
 -- a host moves
 pub note_moved : (plan : Plan) (at later : ℕ → Option Spot) (past : List Entry) (from_hosts out : List (List Item)) (many : ℕ) (g : ℕ → Spot → ℕ)

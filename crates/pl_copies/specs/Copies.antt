@@ -11,8 +11,9 @@ use Rattle.pl_wiring.specs.Peers.{peer_of}
 use Rattle.pl_wiring.specs.Plan.{Plan}
 use Rattle.pl_layouts.specs.Memberships.{is_group}
 use Rattle.pl_journal.specs.declared.entry.Entry.{Entry}
-use Rattle.pl_journal.specs.Flights.{root, root_arrived_at}
-use Rattle.pl_journal.specs.Places.{Spot, at_port, same_spot, spot_of}
+use Rattle.pl_journal.specs.declared.entry.Entry.TheVariants.{Arrived}
+use Rattle.pl_journal.specs.Flights.{root}
+use Rattle.pl_journal.specs.Places.{Spot, at_port, is_at, same_spot, spot_of}
 use Rattle.pl_world.specs.declared.item.Item.{Item}
 use Rattle.pl_world.specs.declared.item.Item.TheVariants.{Control, Data}
 use Rattle.pl_world.specs.declared.stand.Stand.{Stand}
@@ -68,8 +69,12 @@ abbrev pub still_to_come : Plan → List Entry → List (List Item) → List (Li
 still_to_come plan past from_hosts out r there =
     count_all (λ h. has_root past r) from_hosts + count_all (comes_from_place plan past r there) out
 
+-- how many frames of this root arrived at a port
 abbrev pub came_to : Plan → List Entry → ℕ → Spot → ℕ
-came_to plan past r there = if root_arrived_at plan past r there then 1 else 0
+came_to plan [] r there = 0
+came_to plan (Arrived id h frame ∷ past) r there =
+    if (root past id == r) && is_at (spot_of plan past h.0) there then suc (came_to plan past r there) else came_to plan past r there
+came_to plan (entry ∷ past) r there = came_to plan past r there
 
 -- where hosts stand
 abbrev pub standing : List Stand → ℕ → Option Spot

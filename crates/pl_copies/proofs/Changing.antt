@@ -59,7 +59,7 @@ module _ (plan : Plan) (at : ℕ → Option Spot) where
   }
 
   -- the count of one frame at its port
-  one_there : (past : List Entry) (r : ℕ) (there : Spot) (s port id : ℕ) (frame : List ℕ) → port < plan.k →
+  pub one_there : (past : List Entry) (r : ℕ) (there : Spot) (s port id : ℕ) (frame : List ℕ) → port < plan.k →
       count_in (comes_from_place plan past r there (port_index plan.k s port)) (Data id frame ∷ []) ≡ of_root past id (claim plan s port there frame) r
   one_there past r there s port id frame within =
       ap (λ b. if◌then◌else◌ {A = ℕ} b 1 0) (ap (λ a. has_root past r id frame && may_come_by plan a (port_index plan.k s port % plan.k) there frame) (div-mul-add s plan.k port within)

@@ -6,3 +6,4 @@ pub mod Spreading
 pub mod SinglePasses
 pub mod Turning
 pub mod Happening
+pub mod Runs

@@ -1,5 +1,5 @@
 -- The acts of a switch that passes no more on than came keep it that at each port at most one frame of each root comes.
-use Rattle.std.proofs.Common.{◌≡◌, ℕ, suc, ◌+◌, ◌≤◌, ◌<◌, ◌==◌, Bool, true, false, if◌then◌else◌, List, [], ◌∷◌, ◌++◌, Option, None, Some, get_or, reverse, set, refl, sym, ap, ◌∙◌, subst, arith, append-nil}
+use Rattle.std.proofs.Common.{◌≡◌, ℕ, ◌+◌, ◌≤◌, ◌<◌, ◌==◌, Bool, true, false, if◌then◌else◌, List, [], ◌∷◌, ◌++◌, Option, None, Some, get_or, reverse, set, refl, sym, ap, subst, arith, append-nil}
 use Rattle.std.specs.List.{AllByRecursion, fold}
 use Rattle.std.proofs.lemmas.Bool.Decides.{nat_tests}
 use Rattle.std.proofs.lemmas.List.{append_assoc, reverse-append}
@@ -11,7 +11,7 @@ use Rattle.pl_layouts.specs.declared.place.Place.{Place}
 use Rattle.pl_layouts.specs.Placement.{same_place}
 use Rattle.pl_journal.specs.declared.cause.Cause.TheVariants as cause
 use Rattle.pl_journal.specs.declared.entry.Entry.{Entry}
-use Rattle.pl_journal.specs.declared.entry.Entry.TheVariants.{Arrived, Copied, Crossed, Dropped, Granted, Made, Placed, Redirected, Taken}
+use Rattle.pl_journal.specs.declared.entry.Entry.TheVariants.{Copied, Crossed, Dropped, Granted, Made, Placed, Redirected, Taken}
 use Rattle.pl_journal.specs.Flights.{root}
 use Rattle.pl_journal.specs.Places.{Spot}
 use Rattle.pl_core.specs.declared.acts.Act.{Act}
@@ -26,8 +26,8 @@ use Rattle.pl_world.specs.Changes.{host_no, host_of, is_failed_at, switch_no, to
 use Rattle.pl_world.specs.Flying.{born, times_in_all}
 use Rattle.pl_world.specs.SwitchActs.{Doing, act_done, acts_done, granted, place_noted, with_late}
 use Rattle.pl_world.specs.Worlds.{WorldView}
-use Rattle.pl_world.proofs.Counts.{all_append, born_more, one}
-use Rattle.pl_world.proofs.SwitchActBalances.{IsLegal, IsSteady, Steady, act_said, act_steady, amid, owed_by, owes_nothing, said_by, said_is_legal}
+use Rattle.pl_world.proofs.Counts.{all_append, born_more}
+use Rattle.pl_world.proofs.SwitchActBalances.{IsLegal, Steady, act_said, act_steady, amid, said_by, said_is_legal}
 use Rattle.pl_copies.specs.Copies.{ComeOnce, standing}
 use Rattle.pl_copies.proofs.Changing.{IsQuiet, begin_one, claim, copied_root, copy_one, note_quiet, of_root, put_control, put_out, root_kept, weaker}
 

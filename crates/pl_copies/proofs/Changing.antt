@@ -1,9 +1,8 @@
 -- What the small changes of a world do to the frames that came to a port or may still come: an entry is written, an item is put or taken, a
 -- frame begins, is copied, or arrives.
-use Rattle.std.proofs.Common.{◌≡◌, ℕ, suc, ◌+◌, ◌/◌, ◌%◌, ◌≤◌, ◌<◌, ◌==◌, ◌&&◌, ◌||◌, not, Bool, true, false, if◌then◌else◌, List, [], ◌∷◌, ◌++◌, Option, Some, get_or, set, refl, sym, ap, ◌∙◌, subst, arith, inl, inr}
-use Rattle.std.proofs.lemmas.Bool.{and_parts, cases_Bool, cond-false, cond-true, eq-eqb, eqb-true, ne_eqb}
+use Rattle.std.proofs.Common.{◌≡◌, ℕ, suc, ◌+◌, ◌/◌, ◌%◌, ◌≤◌, ◌<◌, ◌==◌, ◌&&◌, ◌||◌, not, Bool, true, false, if◌then◌else◌, List, [], ◌∷◌, ◌++◌, Option, Some, get_or, set, refl, sym, ap, ◌∙◌, arith}
+use Rattle.std.proofs.lemmas.Bool.{cond-false, cond-true, eq-eqb, ne_eqb}
 use Rattle.std.proofs.lemmas.Nat.{div-mul-add, mod-mul-add}
-use Rattle.pl_wiring.specs.declared.link.Peer.{Peer}
 use Rattle.pl_wiring.specs.declared.link.Peer.TheVariants.{HostPort}
 use Rattle.pl_wiring.specs.Index.{port_index}
 use Rattle.pl_wiring.specs.Peers.{peer_of}
@@ -14,14 +13,14 @@ use Rattle.pl_journal.specs.declared.entry.Entry.{Entry}
 use Rattle.pl_journal.specs.declared.entry.Entry.TheVariants.{Arrived, Copied, Crossed, Dropped, Granted, Line, LinkDown, LinkUp, Made, Moved, Placed, Redirected, Registered, Sent, Settled, Skipped, Taken, Unsettled}
 use Rattle.pl_wiring.specs.declared.host.HostNo.{HostNo}
 use Rattle.pl_wiring.specs.declared.label.SwitchNo.{SwitchNo}
-use Rattle.pl_journal.specs.Flights.{before_copy, root}
+use Rattle.pl_journal.specs.Flights.{root}
 use Rattle.pl_journal.specs.Places.{Spot, at_port, is_at, same_spot, spot_of}
 use Rattle.pl_world.specs.declared.item.Item.{Item}
 use Rattle.pl_world.specs.declared.item.Item.TheVariants.{Control, Data}
-use Rattle.pl_world.specs.Flying.{born, times_in_all}
+use Rattle.pl_world.specs.Flying.{times_in_all}
 use Rattle.pl_world.proofs.Counts.{born_more, one}
-use Rattle.pl_copies.specs.Copies.{ComeOnce, came_to, comes_from_place, count_all, count_in, has_root, may_come, may_come_by, still_to_come}
-use Rattle.pl_copies.proofs.Queued.{count_all-empty, count_all-put, count_all-same, count_all-take, count_in-data, one_more}
+use Rattle.pl_copies.specs.Copies.{ComeOnce, came_to, comes_from_place, count_in, has_root, may_come, may_come_by}
+use Rattle.pl_copies.proofs.Queued.{count_all-empty, count_all-put, count_all-same, count_all-take}
 
 -- 1 where a frame that leaves by a port may come to this one
 abbrev pub claim : Plan → ℕ → ℕ → Spot → List ℕ → ℕ

@@ -1,28 +1,25 @@
 -- Each event keeps it that at each port at most one frame of each root comes.
-use Rattle.std.proofs.Common.{◌≡◌, ℕ, zero, suc, ◌+◌, ◌≤◌, ◌<◌, ◌==◌, ◌&&◌, ◌||◌, not, nat_lt, Bool, true, false, if◌then◌else◌, Contains, List, [], ◌∷◌, ◌++◌, length, Option, None, Some, is_none, get_or, reverse, set, slice_get, refl, sym, ap, ◌∙◌, subst, arith, append-nil, inl, inr}
+use Rattle.std.proofs.Common.{◌≡◌, ℕ, zero, suc, ◌+◌, ◌<◌, ◌==◌, nat_lt, Bool, true, false, if◌then◌else◌, Contains, List, [], ◌∷◌, ◌++◌, length, Option, None, Some, is_none, get_or, reverse, set, slice_get, refl, sym, ap, ◌∙◌, subst, arith, inl, inr}
 use Rattle.std.specs.List.{AllByRecursion, fold}
 use Rattle.std.specs.Option.{option_map}
 use Rattle.std.proofs.Math.ListN.{length-set}
-use Rattle.std.proofs.lemmas.Bool.{and_from, and_parts, cases_Bool, cases_eq, cond-false, cond-true, eq-eqb, eqb-true, ltb-true, ne_eqb, or_right}
+use Rattle.std.proofs.lemmas.Bool.{and_parts, cases_eq, cond-false, cond-true, eq-eqb, eqb-true, ltb-true, ne_eqb, or_right}
 use Rattle.std.proofs.lemmas.List.Quantifiers.{position-Some}
 use Rattle.std.proofs.lemmas.Option.{slice_get-get_or, slice_get_within}
-use Rattle.std.proofs.lemmas.List.{append_assoc, get_or-set_other, get_or-set_same}
-use Rattle.pl_frame.specs.Ethernet.{destination_of}
 use Rattle.pl_wiring.specs.declared.label.SwitchNo.{SwitchNo}
 use Rattle.pl_wiring.specs.declared.link.Link.{Link}
 use Rattle.pl_wiring.specs.declared.link.Peer.{Peer}
 use Rattle.pl_wiring.specs.declared.link.Peer.TheVariants.{HostPort, Switch}
 use Rattle.pl_wiring.specs.Index.{port_index}
 use Rattle.pl_wiring.specs.Peers.{IsPort, peer_of}
-use Rattle.pl_wiring.specs.Plan.{IsPlan, Plan}
+use Rattle.pl_wiring.specs.Plan.{IsPlan}
 use Rattle.pl_layouts.specs.Control.{is_control}
 use Rattle.pl_journal.specs.declared.cause.Cause.{Cause}
 use Rattle.pl_journal.specs.declared.cause.Cause.TheVariants as cause
 use Rattle.pl_journal.specs.declared.cause.Skip.{Skip}
 use Rattle.pl_journal.specs.declared.entry.Entry.{Entry}
 use Rattle.pl_journal.specs.declared.entry.Entry.TheVariants.{Arrived, Crossed, Dropped, LinkDown, LinkUp, Moved, Registered, Skipped}
-use Rattle.pl_journal.specs.Places.{Spot, at_port, is_host_port, spot_of}
-use Rattle.pl_core.specs.declared.acts.Act.{Act}
+use Rattle.pl_journal.specs.Places.{Spot, at_port, spot_of}
 use Rattle.pl_core.specs.declared.acts.ManagerAct.{ManagerAct}
 use Rattle.pl_core.specs.declared.acts.ManagerAct.TheVariants.{Number, Say}
 use Rattle.pl_core.specs.declared.messages.ToManager.{ToManager}
@@ -46,22 +43,21 @@ use Rattle.pl_world.specs.declared.event.Event.{Event}
 use Rattle.pl_world.specs.declared.event.Event.TheVariants as event
 use Rattle.pl_world.specs.declared.event.QueueName.{QueueName}
 use Rattle.pl_world.specs.declared.event.QueueName.TheVariants as queue
-use Rattle.pl_world.specs.declared.error.StepError.TheVariants.{NoSuch}
 use Rattle.pl_world.specs.declared.item.Item.{Item}
 use Rattle.pl_world.specs.declared.item.Item.TheVariants.{Control, Data}
 use Rattle.pl_world.specs.declared.spoken_frame.SpokenFrame.TheVariants.{Silent, Waiting}
 use Rattle.pl_world.specs.declared.stand.Stand.{Stand}
-use Rattle.pl_world.specs.Changes.{all_noted, ends_of, host_at, host_no, if_for, noted, out_of, receiver, said_to, stands_at, switch_no}
-use Rattle.pl_world.specs.Flying.{IsAtPort, IsCounted, IsDataItem, IsFrame, IsItem, times_in}
-use Rattle.pl_world.specs.LinksAndMoves.{host_moved, item_lost, link_between, link_failed, link_repaired}
+use Rattle.pl_world.specs.Changes.{ends_of, host_at, host_no, if_for, noted, out_of, receiver, said_to, stands_at, switch_no}
+use Rattle.pl_world.specs.Flying.{IsAtPort, IsCounted, IsDataItem, IsFrame, times_in}
+use Rattle.pl_world.specs.LinksAndMoves.{host_moved, item_lost, link_between}
 use Rattle.pl_world.specs.OtherActs.{heard_after_tick, manager_act_done, reception_noted, skip_noted}
-use Rattle.pl_world.specs.Refusals.{has_port, has_switch, is_linked, refusal, refusal_of_event, refusal_of_queue}
-use Rattle.pl_world.specs.WorldRule.{ComesAtHost, ComesAtSwitch, ComesIn, ComesOver, Delivers, DeliversFromHost, DeliversFromManager, DeliversOut, DeliversToManager, Fails, Goes, Happens, HostPlays, HostReceives, IsRepaired, Loses, ManagerTurn, SwitchTurn, Ticks, WorldStep, heard_item}
+use Rattle.pl_world.specs.Refusals.{has_port, has_switch, refusal_of_event, refusal_of_queue}
+use Rattle.pl_world.specs.WorldRule.{ComesAtHost, ComesIn, ComesOver, Delivers, DeliversFromHost, DeliversFromManager, DeliversOut, DeliversToManager, Fails, Goes, Happens, HostPlays, HostReceives, IsRepaired, Loses, ManagerTurn, SwitchTurn, Ticks, heard_item}
 use Rattle.pl_world.specs.Worlds.{WorldView}
-use Rattle.pl_world.proofs.Balances.{Owes, head_is_item, sent_is_item, took_host_balance, took_out_balance}
+use Rattle.pl_world.proofs.Balances.{head_is_item, sent_is_item, took_host_balance, took_out_balance}
 use Rattle.pl_world.proofs.Counts.{all_at, all_found, one, times_in-data}
-use Rattle.pl_world.proofs.StepBalances.{Sound, event_is_not_refused, heard_rest, noted_owes, peer_is_port, same_refusal, sound}
-use Rattle.pl_world.proofs.SwitchActBalances.{HasRest, says_rest}
+use Rattle.pl_world.proofs.StepBalances.{Sound, heard_rest, noted_owes, peer_is_port, sound}
+use Rattle.pl_world.proofs.SwitchActBalances.{says_rest}
 use Rattle.pl_copies.specs.Copies.{ComeOnce, ComesOnce, standing}
 use Rattle.pl_copies.specs.Standing.{KnowTrees}
 use Rattle.pl_copies.proofs.Acting.{MakesFew, in_hand, note_all, of_root_less, reverse_one, used}

@@ -1,11 +1,9 @@
 -- At the beginning nothing is on its way; each step keeps it that at each port at most one frame of each root comes; and what is kept says so of
 -- the journal.
-use Rattle.std.proofs.Common.{◌≡◌, ℕ, zero, suc, ◌+◌, ◌*◌, ◌≤◌, ◌<◌, ◌==◌, ◌&&◌, ◌||◌, not, Bool, true, false, if◌then◌else◌, Contains, List, [], ◌∷◌, length, map, replicate, Option, None, Some, get_or, reverse, slice_get, refl, sym, ap, ◌∙◌, subst, arith}
+use Rattle.std.proofs.Common.{◌≡◌, ℕ, zero, suc, ◌+◌, ◌*◌, ◌≤◌, ◌<◌, ◌==◌, ◌&&◌, ◌||◌, not, Bool, true, false, if◌then◌else◌, List, [], ◌∷◌, length, map, replicate, None, get_or, reverse, slice_get, refl, ap, ◌∙◌, arith}
 use Rattle.std.specs.Option.{option_map}
 use Rattle.std.proofs.lemmas.Bool.{and_from, cond-true, eq-eqb, or_right}
 use Rattle.pl_wiring.specs.declared.host.Host.{Host}
-use Rattle.pl_wiring.specs.declared.host.HostNo.{HostNo}
-use Rattle.pl_wiring.specs.declared.link.Peer.{Peer}
 use Rattle.pl_wiring.specs.declared.link.Peer.TheVariants.{HostPort}
 use Rattle.pl_wiring.specs.Index.{port_index}
 use Rattle.pl_wiring.specs.Labels.{switch_count}
@@ -18,30 +16,25 @@ use Rattle.pl_journal.specs.declared.entry.Entry.TheVariants.{Arrived, Copied, C
 use Rattle.pl_journal.specs.Causes.{goes_to_group}
 use Rattle.pl_journal.specs.Flights.{root, root_arrived_at}
 use Rattle.pl_journal.specs.Lossy.{copies_at}
-use Rattle.pl_journal.specs.Places.{Spot, at_port, first_spot, is_at, same_spot, spot_of}
-use Rattle.pl_core.specs.Accounting.{AccountsForFrames}
-use Rattle.pl_core.specs.HostDuties.{HostsSendData}
+use Rattle.pl_journal.specs.Places.{Spot, at_port, is_at, spot_of}
 use Rattle.pl_core.specs.HostInputs.{HostRule}
 use Rattle.pl_core.specs.ManagerDuties.{ManagerRule}
 use Rattle.pl_switch_rule.specs.SwitchRule.{Loose}
 use Rattle.pl_switch_rule.proofs.AccountedSteps.{loose_steps_are_accounted}
 use Rattle.pl_world.specs.declared.event.Event.{Event}
 use Rattle.pl_world.specs.declared.item.Item.{Item}
-use Rattle.pl_world.specs.declared.item.Item.TheVariants.{Control, Data}
+use Rattle.pl_world.specs.declared.item.Item.TheVariants.{Data}
 use Rattle.pl_world.specs.declared.limits.Limits.{Limits}
-use Rattle.pl_world.specs.declared.stand.Stand.{Stand}
 use Rattle.pl_world.specs.Booting.{booted, first_stand}
 use Rattle.pl_world.specs.Changes.{noted, out_of}
 use Rattle.pl_world.specs.Flying.{IsCounted, born}
 use Rattle.pl_world.specs.Refusals.{refusal}
-use Rattle.pl_world.specs.Runs.{IsMark, Moment, WorldRun}
-use Rattle.pl_world.specs.Runs.Moment.{Mark, Step}
+use Rattle.pl_world.specs.Runs.{IsMark}
 use Rattle.pl_world.specs.WorldRule.{WorldStep}
 use Rattle.pl_world.specs.Worlds.{WorldView}
 use Rattle.pl_world.proofs.Counts.{born_none}
-use Rattle.pl_world.proofs.Runs.{marked_counted}
-use Rattle.pl_world.proofs.StepBalances.{counted as to_counted, event_is_not_refused, same_refusal, sound, step_is_counted}
-use Rattle.pl_copies.specs.Copies.{ComeOnce, ComesOnce, came_to, comes_from_place, count_all, count_in, has_root, may_come, may_come_by, still_to_come, standing}
+use Rattle.pl_world.proofs.StepBalances.{counted as to_counted, event_is_not_refused, same_refusal, sound}
+use Rattle.pl_copies.specs.Copies.{ComesOnce, came_to, comes_from_place, count_all, count_in, has_root, may_come, may_come_by, standing}
 use Rattle.pl_copies.specs.Standing.{KnowTrees}
 use Rattle.pl_copies.proofs.Changing.{claim, of_root, one_there}
 use Rattle.pl_copies.proofs.Happening.{happens_once, noted_once}

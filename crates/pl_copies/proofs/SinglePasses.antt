@@ -1,14 +1,14 @@
 -- All other acts pass each frame on at most once.
-use Rattle.std.proofs.Common.{◌≡◌, ℕ, zero, suc, ◌+◌, ◌≤◌, ◌<◌, ◌==◌, ◌&&◌, ◌||◌, not, Bool, true, false, if◌then◌else◌, List, [], ◌∷◌, ◌++◌, map, Option, None, Some, is_none, is_some, length, refl, sym, ap, ◌∙◌, subst, arith}
-use Rattle.std.specs.List.{AllByRecursion, filter}
-use Rattle.std.proofs.lemmas.Bool.{cases_Bool, cond_both, false≢true}
+use Rattle.std.proofs.Common.{◌≡◌, ℕ, zero, suc, ◌≤◌, ◌<◌, ◌&&◌, ◌||◌, not, Bool, true, false, if◌then◌else◌, List, [], ◌∷◌, ◌++◌, Option, None, Some, is_none, is_some, length, refl, sym, ap, ◌∙◌, subst, arith}
+use Rattle.std.specs.List.{AllByRecursion}
+use Rattle.std.proofs.lemmas.Bool.{cond_both, false≢true}
 use Rattle.pl_frame.specs.declared.address.Ip4.{Ip4}
 use Rattle.pl_frame.specs.declared.address.Mac.{Mac}
 use Rattle.pl_frame.specs.Ethernet.{destination_of, source_of, with_destination}
 use Rattle.pl_pmac.specs.declared.pmac.Pmac.{Pmac}
 use Rattle.pl_pmac.specs.Pmac.{mac_of, pmac_of}
 use Rattle.pl_wiring.specs.Plan.{Plan}
-use Rattle.pl_layouts.specs.Frames.{arriving, is_arp, packet_in}
+use Rattle.pl_layouts.specs.Frames.{is_arp, packet_in}
 use Rattle.pl_layouts.specs.Memberships.{is_group, membership_in}
 use Rattle.pl_layouts.specs.Placement.{is_known, is_placed}
 use Rattle.pl_journal.specs.declared.cause.Cause.{Cause}
@@ -22,7 +22,6 @@ use Rattle.pl_core.specs.declared.messages.ToSwitch.{ToSwitch}
 use Rattle.pl_core.specs.declared.messages.ToSwitch.TheVariants.{Answer, Avoid, Flood, Invalidate, Pod, Tree}
 use Rattle.pl_core.specs.Accounting.{IsShaped, Speech, speech, speech_after}
 use Rattle.pl_core.specs.Accounting.Speech.{Ended, Passed, Redirected, Silent, Waiting, Wrong}
-use Rattle.pl_core.specs.PortRecords.{is_open_to_hosts, place_at, port_of}
 use Rattle.pl_core.specs.SwitchViews.{SwitchView}
 use Rattle.pl_steps.specs.Steps.{SwitchStep, does, rests, ◌▹◌}
 use Rattle.pl_switch_rule.specs.declared.came.Came.{Came}
@@ -30,19 +29,17 @@ use Rattle.pl_switch_rule.specs.declared.came.Came.TheVariants.{FromHost}
 use Rattle.pl_switch_rule.specs.Delivering.{addresses, arrives_home, begins, comes_home, delivers, delivers_or_redirects, delivers_to, destination, goes_on, if_newer, last_trap, makes, newer_address, redirects, redirects_on, tells_newer, tells_sender, trap_for}
 use Rattle.pl_switch_rule.specs.Forwarding.{Choice, candidates_by, forwards, leaves_by}
 use Rattle.pl_switch_rule.specs.Granting.{granted, has_no_address, is_granted, is_local, learns_source}
-use Rattle.pl_switch_rule.specs.GroupForwarding.{at_most_one, destination_group, forwards_group, group_ports_up, no_way, passes_or_drops}
+use Rattle.pl_switch_rule.specs.GroupForwarding.{at_most_one, destination_group, forwards_group, no_way, passes_or_drops}
 use Rattle.pl_switch_rule.specs.Intake.{comes_from_host, hears_members, is_for_switch, packet_acts, sends_in, takes, takes_in, takes_in_or_spent, with_pmac}
 use Rattle.pl_switch_rule.specs.Levels.{finds_host}
-use Rattle.pl_switch_rule.specs.Messages.{answer_frame, flood_frame, floods, forgets_members, hears_manager, invalidates, probe_frame, probes, probes_at, sets_trap}
-use Rattle.pl_switch_rule.specs.SwitchRule.{comes_from_switch}
-use Rattle.pl_switch_rule.proofs.ControlSteps.{quiet_control_comes}
+use Rattle.pl_switch_rule.specs.Messages.{answer_frame, flood_frame, floods, forgets_members, hears_manager, invalidates, probes, probes_at, sets_trap}
 use Rattle.pl_switch_rule.proofs.GoingHome.{AreGrantedAt, granted_at}
 use Rattle.pl_switch_rule.proofs.GrantingParts.{quiet_learns_source}
 use Rattle.pl_switch_rule.proofs.LevelParts.{quiet_finds_host}
 use Rattle.pl_switch_rule.proofs.MessageParts.{quiet_forgets_members, quiet_hears_members, quiet_hears_pod, quiet_packet_acts, quiet_sets_trap}
-use Rattle.pl_switch_rule.proofs.StepParts.{IsQuiet, IsSame, quiet_then_quiet}
+use Rattle.pl_switch_rule.proofs.StepParts.{IsQuiet, quiet_then_quiet}
 use Rattle.pl_copies.proofs.Acting.{MakesFew, used}
-use Rattle.pl_copies.proofs.Changing.{claim, claim_at_most_one}
+use Rattle.pl_copies.proofs.Changing.{claim_at_most_one}
 
 -- each frame that acts speak of is passed on at most once; whether the one in hand still may be
 abbrev pub AreSingle : Bool → List Act → Type 0

@@ -1,26 +1,22 @@
 -- The turns of switches, hosts and the manager keep it that at each port at most one frame of each root comes.
-use Rattle.std.proofs.Common.{◌≡◌, ℕ, zero, suc, ◌+◌, ◌≤◌, ◌<◌, ◌==◌, ◌&&◌, ◌||◌, not, Bool, true, false, if◌then◌else◌, Contains, List, [], ◌∷◌, ◌++◌, length, map, Option, None, Some, is_none, get_or, reverse, set, slice_get, refl, sym, ap, ◌∙◌, subst, arith, append-nil}
-use Rattle.std.specs.List.{AllByRecursion, fold}
-use Rattle.std.specs.Option.{option_map}
-use Rattle.std.proofs.lemmas.Bool.{cond-false, cond-true, cond_both, eq-eqb}
+use Rattle.std.proofs.Common.{◌≡◌, ℕ, ◌+◌, ◌≤◌, ◌<◌, ◌||◌, not, true, false, if◌then◌else◌, List, [], ◌∷◌, ◌++◌, length, map, Option, is_none, get_or, reverse, set, refl, sym, ap, ◌∙◌, subst, arith}
+use Rattle.std.specs.List.{fold}
+use Rattle.std.proofs.lemmas.Bool.{cond_both}
 use Rattle.std.proofs.lemmas.Option.{slice_get_within}
 use Rattle.pl_frame.specs.Ethernet.{destination_of, source_of}
 use Rattle.pl_pmac.specs.Pmac.{pmac_of}
 use Rattle.pl_wiring.specs.declared.label.SwitchNo.{SwitchNo}
-use Rattle.pl_wiring.specs.declared.link.Peer.{Peer}
-use Rattle.pl_wiring.specs.declared.link.Peer.TheVariants.{HostPort, Switch}
-use Rattle.pl_wiring.specs.Index.{port_index}
-use Rattle.pl_wiring.specs.Peers.{IsPeer, IsPort, peer_of}
+use Rattle.pl_wiring.specs.declared.link.Peer.TheVariants.{Switch}
+use Rattle.pl_wiring.specs.Peers.{IsPeer, peer_of}
 use Rattle.pl_wiring.specs.Plan.{IsPlan, Plan}
 use Rattle.pl_wiring.proofs.Ends.{IsPeer-is, IsPeer-turned}
 use Rattle.pl_wiring.proofs.Linked.{peer_says}
-use Rattle.pl_layouts.specs.Control.{is_control}
 use Rattle.pl_layouts.specs.Memberships.{is_group}
 use Rattle.pl_layouts.specs.Placement.{is_placed}
 use Rattle.pl_journal.specs.declared.cause.Cause.{Cause}
 use Rattle.pl_journal.specs.declared.cause.Cause.TheVariants.{NotPlaced}
 use Rattle.pl_journal.specs.declared.entry.Entry.{Entry}
-use Rattle.pl_journal.specs.declared.entry.Entry.TheVariants.{Crossed, Sent}
+use Rattle.pl_journal.specs.declared.entry.Entry.TheVariants.{Sent}
 use Rattle.pl_journal.specs.Places.{Spot}
 use Rattle.pl_core.specs.declared.acts.Act.{Act}
 use Rattle.pl_core.specs.declared.acts.Act.TheVariants as act
@@ -28,22 +24,18 @@ use Rattle.pl_core.specs.declared.acts.HostAct.{HostAct}
 use Rattle.pl_core.specs.declared.acts.HostAct.TheVariants.{Send}
 use Rattle.pl_core.specs.Accounting.{AccountsForFrames, CanCome, IsShaped, first_speech, is_said, speech_after}
 use Rattle.pl_core.specs.HostInputs.{HostAnswer, HostInput, HostRule}
-use Rattle.pl_core.specs.PortRecords.{is_open_to_hosts, place_at, port_of}
+use Rattle.pl_core.specs.PortRecords.{place_at}
 use Rattle.pl_core.specs.SwitchInputs.{SwitchInput, SwitchRule}
-use Rattle.pl_core.specs.SwitchInputs.SwitchInput.{Comes}
 use Rattle.pl_core.specs.SwitchViews.{SwitchView}
 use Rattle.pl_steps.specs.Steps.{SwitchStep, does}
 use Rattle.pl_switch_rule.specs.Delivering.{arrives_home, destination}
 use Rattle.pl_switch_rule.specs.Forwarding.{Choice, came_by, forwards}
 use Rattle.pl_switch_rule.specs.Granting.{is_local}
 use Rattle.pl_switch_rule.specs.GroupForwarding.{destination_group, forwards_group, group_ports, no_way, passes_or_drops, way_of}
-use Rattle.pl_switch_rule.specs.Intake.{comes_from_host}
-use Rattle.pl_switch_rule.specs.SwitchRule.{Loose, comes_from_switch, control_comes, data_comes, switch_step}
-use Rattle.pl_world.specs.declared.item.Item.{Item}
-use Rattle.pl_world.specs.declared.item.Item.TheVariants.{Control, Data}
+use Rattle.pl_switch_rule.specs.SwitchRule.{comes_from_switch}
+use Rattle.pl_world.specs.declared.item.Item.TheVariants.{Data}
 use Rattle.pl_world.specs.declared.spoken_frame.SpokenFrame.{SpokenFrame}
-use Rattle.pl_world.specs.declared.spoken_frame.SpokenFrame.TheVariants.{Silent, Waiting}
-use Rattle.pl_world.specs.Changes.{host_no, noted, out_of, switch_no}
+use Rattle.pl_world.specs.Changes.{host_no, switch_no}
 use Rattle.pl_world.specs.OtherActs.{host_act_done}
 use Rattle.pl_world.specs.WorldRule.{HostTurn, SwitchTurn}
 use Rattle.pl_world.specs.Worlds.{WorldView}
@@ -51,10 +43,10 @@ use Rattle.pl_world.proofs.Balances.{Owes}
 use Rattle.pl_world.proofs.Counts.{all_found}
 use Rattle.pl_world.proofs.StepBalances.{switches_rest}
 use Rattle.pl_world.proofs.SwitchActBalances.{HasRest, Steady, owed_by, said_by}
-use Rattle.pl_copies.specs.Copies.{ComeOnce, ComesOnce, may_come, may_come_by, standing}
+use Rattle.pl_copies.specs.Copies.{ComeOnce, ComesOnce, may_come, standing}
 use Rattle.pl_copies.specs.Standing.{KnowsTree}
-use Rattle.pl_copies.proofs.Acting.{MakesFew, in_hand, note_all, reverse_one, step_comes, used}
-use Rattle.pl_copies.proofs.Changing.{begin_one, claim, note_quiet, of_root, put_host, weaker}
+use Rattle.pl_copies.proofs.Acting.{MakesFew, in_hand, reverse_one, step_comes, used}
+use Rattle.pl_copies.proofs.Changing.{begin_one, claim, note_quiet, put_host}
 use Rattle.pl_copies.proofs.SinglePasses.{AreSingle, arrives_single, forwards_single, single_few, single_used}
 use Rattle.pl_copies.proofs.Spreading.{group_few}
 

@@ -1,14 +1,14 @@
 -- The ports of a switch lead apart: at each port for hosts at most one of those comes that are passed on downward, and only if the frame itself
 -- might have come there.
-use Rattle.std.proofs.Common.{◌≡◌, ℕ, zero, suc, ◌+◌, ◌≤◌, ◌<◌, ◌==◌, ◌&&◌, ◌||◌, ◌⊎◌, not, Bool, true, false, if◌then◌else◌, List, [], ◌∷◌, Contains, Option, None, Some, is_none, is_some, refl, sym, ap, ◌∙◌, subst, arith, inl, inr}
-use Rattle.std.specs.List.{AllByRecursion, filter, list_any, range_with_len}
-use Rattle.std.proofs.lemmas.Bool.{and_from, and_parts, both_ways, cases_Bool, cond-false, cond-true, eq-eqb, eqb-true, false≢true}
+use Rattle.std.proofs.Common.{◌≡◌, ℕ, zero, suc, ◌+◌, ◌≤◌, ◌<◌, ◌==◌, ◌⊎◌, Bool, true, List, [], ◌∷◌, refl, sym, ap, ◌∙◌, subst, arith, inl, inr}
+use Rattle.std.specs.List.{filter, range_with_len}
+use Rattle.std.proofs.lemmas.Bool.{cases_Bool, cond-false, cond-true, eq-eqb, eqb-true, false≢true}
 use Rattle.pl_wiring.specs.declared.label.Label.{Label}
 use Rattle.pl_wiring.specs.declared.label.Label.TheVariants.{Aggregation, Core, Edge}
 use Rattle.pl_wiring.specs.declared.label.SwitchNo.{SwitchNo}
 use Rattle.pl_wiring.specs.declared.link.Link.{Link}
 use Rattle.pl_wiring.specs.declared.link.Peer.{Peer}
-use Rattle.pl_wiring.specs.declared.link.Peer.TheVariants.{HostPort, Switch}
+use Rattle.pl_wiring.specs.declared.link.Peer.TheVariants.{Switch}
 use Rattle.pl_wiring.specs.FatTree.{IsBelow, IsTreeLink}
 use Rattle.pl_wiring.specs.Labels.{label_of, number_of}
 use Rattle.pl_wiring.specs.Peers.{IsBetween, IsPeer, peer_of}
@@ -16,7 +16,7 @@ use Rattle.pl_wiring.specs.Plan.{IsPlan, Plan}
 use Rattle.pl_wiring.proofs.Ends.{at_contained}
 use Rattle.pl_wiring.proofs.LabelOrder.{label_of-number_of, number_of-label_of}
 use Rattle.pl_wiring.proofs.Linked.{peer_says, same_between}
-use Rattle.pl_journal.specs.Places.{Spot, at_port, same_spot}
+use Rattle.pl_journal.specs.Places.{Spot}
 use Rattle.pl_copies.specs.Copies.{is_edge_of, leads_to, may_come}
 use Rattle.pl_copies.specs.Standing.{rank}
 

@@ -1,0 +1,3 @@
+//! Laws of the trees of groups: what switches tell of levels and members is so, and each part of a tree
+//! leads down.
+#![tactic(auto)]

@@ -77,7 +77,7 @@ got_earlier {T} p (y ∷ ys) i x is = by_test (p y) (λ i e. got_earlier p ys i 
 
 -- What the manager knows of one switch.
 
-found_true : {K X : Type 0} (P : K × X → Type 0) (test : K → Bool) (entries : List (K × X)) → AllByRecursion P entries → (x : X) → lookup test entries ≡ Some x →
+pub found_true : {K X : Type 0} (P : K × X → Type 0) (test : K → Bool) (entries : List (K × X)) → AllByRecursion P entries → (x : X) → lookup test entries ≡ Some x →
     (k : K) × (test k ≡ true) × P (k, x)
 found_true P test [] all x is = absurd (cc)
 found_true P test (e ∷ es) all x is = elim (cases_Bool (test e.0)) [

@@ -1,12 +1,12 @@
 -- Each step of the control plane keeps it that what is told and ordered is so.
-use Rattle.std.proofs.Common.{◌≡◌, ℕ, zero, suc, ◌+◌, ◌<◌, ◌==◌, ◌&&◌, ◌||◌, not, Bool, true, false, cond, if◌then◌else◌, List, [], ◌∷◌, ◌++◌, map, Option, None, Some, get_or, length, slice_get, nat_lt, is_none, is_some, refl, sym, ap, ◌∙◌, subst, arith, inl, inr}
-use Rattle.std.specs.List.{AllByRecursion, filter, flat_map, list_any, position}
+use Rattle.std.proofs.Common.{◌≡◌, ℕ, ◌+◌, ◌<◌, ◌==◌, ◌||◌, Bool, true, false, cond, if◌then◌else◌, List, [], ◌∷◌, ◌++◌, map, Option, None, Some, get_or, length, slice_get, is_none, is_some, refl, sym, ap, ◌∙◌, subst, inl, inr}
+use Rattle.std.specs.List.{AllByRecursion, flat_map, position}
 use Rattle.std.specs.Ordering.{match_ordering, nat_cmp}
 use Rattle.std.specs.declared.cmp.Ordering.{Ordering}
 use Rattle.std.specs.declared.cmp.Ordering.TheVariants.{Equal, Greater, Less}
 use Rattle.std.specs.BTreeMap.{insert_entry}
 use Rattle.std.specs.Map.{remove_entry}
-use Rattle.std.proofs.lemmas.Bool.{cases_Bool, cases_eq, cond-false, cond-true, cond_both, eqb-true, false≢true, or_cases}
+use Rattle.std.proofs.lemmas.Bool.{cases_Bool, cases_eq, cond-false, cond-true, cond_both, eqb-true, false≢true}
 use Rattle.std.proofs.lemmas.List.Quantifiers.{position-Some}
 use Rattle.std.proofs.lemmas.Option.{slice_get-get_or}
 use Rattle.std.proofs.lemmas.Map.Lookups.{CmpEqualImpliesEq, exact_unsigned}
@@ -19,10 +19,8 @@ use Rattle.pl_wiring.specs.declared.label.Label.TheVariants.{Aggregation, Core, 
 use Rattle.pl_wiring.specs.Labels.{edge_count, label_of, switch_count}
 use Rattle.pl_wiring.specs.Plan.{IsPlan, Plan}
 use Rattle.pl_wiring.proofs.LabelOrder.{label_of-edge}
-use Rattle.pl_layouts.specs.declared.place.Place.{Place}
 use Rattle.pl_layouts.specs.Control.{is_control}
 use Rattle.pl_layouts.specs.Equality.{same_switch}
-use Rattle.pl_core.specs.declared.acts.Act.{Act}
 use Rattle.pl_core.specs.declared.acts.ManagerAct.{ManagerAct}
 use Rattle.pl_core.specs.declared.acts.ManagerAct.TheVariants.{Number, Say}
 use Rattle.pl_core.specs.declared.messages.ToManager.{ToManager}
@@ -35,7 +33,7 @@ use Rattle.pl_core.specs.declared.neighbour.PortRecord.{PortRecord}
 use Rattle.pl_core.specs.declared.switch_records.Member.{Member}
 use Rattle.pl_core.specs.AvoidLists.{avoid_list}
 use Rattle.pl_core.specs.ManagerFacts.{groups}
-use Rattle.pl_core.specs.ManagerViews.{Learnt, ManagerView, Registration, id_cmp, lookup, members_cmp, newest, registry, switches}
+use Rattle.pl_core.specs.ManagerViews.{Learnt, ManagerView, Registration, id_cmp, lookup, members_cmp, newest, registry}
 use Rattle.pl_core.specs.PortRecords.{is_open_to_hosts, port_of}
 use Rattle.pl_core.specs.SwitchInputs.{SwitchInput}
 use Rattle.pl_core.specs.SwitchInputs.SwitchInput.{Comes, Says, Tick}
@@ -45,14 +43,12 @@ use Rattle.pl_manager_rule.specs.ManagerRule.{acts_of, answer_to, avoid_acts, ch
 use Rattle.pl_manager_rule.proofs.Avoided.{id_exact, same_is}
 use Rattle.pl_manager_rule.proofs.Kept.{members_exact}
 use Rattle.pl_switch_rule.specs.Intake.{comes_from_host, has_member_of}
-use Rattle.pl_switch_rule.specs.Messages.{with_part}
 use Rattle.pl_switch_rule.specs.SwitchRule.{Loose, comes_from_switch, control_comes, data_comes, switch_step}
 use Rattle.pl_control_plane.specs.ControlPlanes.{AreJoined, ControlPlane, tells}
-use Rattle.pl_control_plane.specs.PlaneSteps.{IsLeft, IsOrderTaken, IsReportTaken, IsTakenOut, LeftOver, ManagerTurns, PlaneStep, SwitchTurns, is_to, ordered, ordered_by}
+use Rattle.pl_control_plane.specs.PlaneSteps.{IsLeft, IsReportTaken, LeftOver, ManagerTurns, PlaneStep, SwitchTurns, is_to, ordered, ordered_by}
 use Rattle.pl_control_plane.specs.PlaneSteps.PlaneStep.{Carried, Entered, Heard, Left, Managed, Ordered, Ticked}
 use Rattle.pl_places.specs.Known.{level_of}
 use Rattle.pl_places.specs.Places.{ArePlaced}
-use Rattle.pl_places.specs.Told.{has_heard}
 use Rattle.pl_records.proofs.Recording.{one_switch}
 use Rattle.pl_records.proofs.Turning.{parts_then, tells_right}
 use Rattle.pl_copies.specs.Standing.{rank}

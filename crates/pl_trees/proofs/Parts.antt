@@ -1,12 +1,12 @@
 -- The parts that the manager hands out: by true places and members each part of an aggregation switch leads to edge switches.
-use Rattle.std.proofs.Common.{◌≡◌, ℕ, zero, suc, ◌==◌, ◌&&◌, ◌||◌, not, Bool, true, false, cond, List, [], ◌∷◌, ◌++◌, map, Option, None, Some, slice_get, unwrap_or, refl, sym, ap, ◌∙◌, subst, arith, inl, inr}
-use Rattle.std.specs.List.{AllByRecursion, cons_option, filter, filter_map, flat_map, list_any}
+use Rattle.std.proofs.Common.{◌≡◌, ℕ, zero, suc, ◌==◌, ◌&&◌, ◌||◌, Bool, true, false, cond, List, [], ◌∷◌, map, Option, None, Some, slice_get, unwrap_or, refl, sym, ap, ◌∙◌, subst, arith, inl, inr}
+use Rattle.std.specs.List.{AllByRecursion, cons_option, filter, filter_map, list_any}
 use Rattle.std.specs.Option.{option_and_then, option_map}
 use Rattle.std.specs.Ordering.{match_ordering}
 use Rattle.std.specs.declared.cmp.Ordering.{Ordering}
 use Rattle.std.specs.declared.cmp.Ordering.TheVariants.{Equal, Greater, Less}
 use Rattle.std.specs.Cmp.{Equal-is}
-use Rattle.std.specs.BTreeMap.{insert_entry, is_at}
+use Rattle.std.specs.BTreeMap.{is_at}
 use Rattle.std.specs.BTreeSet.{insert_key}
 use Rattle.std.specs.Map.{lookup}
 use Rattle.std.proofs.lemmas.Option.{same_Some}
@@ -17,11 +17,10 @@ use Rattle.pl_layouts.specs.declared.place.Place.{Place}
 use Rattle.pl_layouts.specs.Equality.{same_switch}
 use Rattle.pl_layouts.specs.Memberships.{flood}
 use Rattle.pl_layouts.specs.Placement.{is_known, nowhere}
-use Rattle.pl_core.specs.declared.messages.TreePart.{TreePart}
 use Rattle.pl_core.specs.ManagerViews.{Members, PlacedEdge, Told, edge_at, edge_with, has_level, id_cmp, in_order, is_alive, place_of, placed_edges, switches, value_at, with_members}
-use Rattle.pl_core.specs.Trees.{aggregation_part, best_cores, core_for, core_of, core_part, cores, edge_part, largest, needed_edges, part_under, reach, tree_part, turn}
+use Rattle.pl_core.specs.Trees.{aggregation_part, core_for, core_of, core_part, cores, edge_part, largest, needed_edges, part_under, reach, tree_part}
 use Rattle.pl_manager_rule.proofs.Avoided.{id_exact, same_is}
-use Rattle.pl_trees.specs.Trees.{AreTrueMembers, IsLevel, IsTruePart, IsTruePlace, LeadsToEdges, rank_of}
+use Rattle.pl_trees.specs.Trees.{AreTrueMembers, IsLevel, IsTruePart, IsTruePlace, rank_of}
 
 -- Lists.
 

@@ -1,5 +1,5 @@
 -- In every run parts of trees lead down, and so at each port at most one frame of each root comes.
-use Rattle.std.proofs.Common.{◌≡◌, ℕ, zero, suc, ◌==◌, ◌<◌, true, false, List, [], ◌∷◌, ◌++◌, map, replicate, Option, None, Some, get_or, slice_get, reverse, refl, sym, ap, ◌∙◌, subst, arith}
+use Rattle.std.proofs.Common.{◌≡◌, ℕ, zero, suc, ◌==◌, ◌<◌, true, List, [], ◌∷◌, ◌++◌, map, Option, None, Some, get_or, slice_get, refl, sym, ap, ◌∙◌, subst, arith}
 use Rattle.std.specs.List.{AllByRecursion, list_any}
 use Rattle.std.proofs.lemmas.Bool.{false≢true}
 use Rattle.std.proofs.lemmas.Option.{get_or_from_slice_get, slice_get_within}
@@ -21,7 +21,6 @@ use Rattle.pl_manager_rule.specs.ManagerRule.{manager_rule}
 use Rattle.pl_switch_rule.specs.SwitchRule.{Loose}
 use Rattle.pl_switch_rule.proofs.AccountedSteps.{loose_steps_are_accounted}
 use Rattle.pl_world.specs.declared.limits.Limits.{Limits}
-use Rattle.pl_world.specs.declared.stand.Stand.{Stand}
 use Rattle.pl_world.specs.Booting.{CanBegin, booted}
 use Rattle.pl_world.specs.Runs.{Befalls, Moment, WorldRun}
 use Rattle.pl_world.specs.Runs.Moment.{Mark, Step}
@@ -39,7 +38,7 @@ use Rattle.pl_kept.proofs.Keeping.{run_keeps_all}
 use Rattle.pl_records.proofs.LinkRuns.{names_neighbours}
 use Rattle.pl_records.proofs.Running.{replicated}
 use Rattle.pl_copies.specs.Copies.{ComesOnce}
-use Rattle.pl_copies.specs.Standing.{KnowTrees, KnowsTree, rank}
+use Rattle.pl_copies.specs.Standing.{KnowTrees, KnowsTree}
 use Rattle.pl_copies.proofs.Runs.{mark_once, once_at_first, step_once}
 use Rattle.pl_trees.specs.Trees.{AreTrees, IsTrueOrder, IsTruePart, IsTrueReport, rank_of}
 use Rattle.pl_trees.proofs.Keeping.{level_is, plane_trees}

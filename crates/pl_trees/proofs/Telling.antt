@@ -1,8 +1,8 @@
 -- What a switch tells in a step is so.
-use Rattle.std.proofs.Common.{◌≡◌, ℕ, zero, suc, ◌<◌, ◌==◌, ◌&&◌, ◌||◌, not, nat_lt, Bool, true, false, if◌then◌else◌, List, [], ◌∷◌, ◌++◌, map, Option, None, Some, Result, Ok, Err, is_none, is_some, refl, sym, ap, ◌∙◌, subst}
-use Rattle.std.specs.List.{AllByRecursion, filter, flat_map, list_any}
+use Rattle.std.proofs.Common.{◌≡◌, ℕ, zero, suc, ◌==◌, ◌&&◌, ◌||◌, not, nat_lt, Bool, true, false, if◌then◌else◌, List, [], ◌∷◌, ◌++◌, map, Option, None, Some, Result, Ok, Err, is_none, is_some, refl, sym, ap, ◌∙◌}
+use Rattle.std.specs.List.{AllByRecursion, filter, flat_map}
 use Rattle.std.proofs.lemmas.Option.{same_Some}
-use Rattle.std.proofs.lemmas.Bool.{cond_both, false≢true}
+use Rattle.std.proofs.lemmas.Bool.{cond_both}
 use Rattle.pl_frame.specs.declared.address.Ip4.{Ip4}
 use Rattle.pl_frame.specs.declared.address.Mac.{Mac}
 use Rattle.pl_frame.specs.declared.address.SwitchId.{SwitchId}
@@ -13,20 +13,17 @@ use Rattle.pl_pmac.specs.Pmac.{mac_of, pmac_of}
 use Rattle.pl_layouts.specs.declared.control.Control.{Control}
 use Rattle.pl_layouts.specs.declared.control.Control.TheVariants as control
 use Rattle.pl_layouts.specs.declared.control.ControlError.{ControlError}
-use Rattle.pl_layouts.specs.declared.control.Ldm.{Ldm}
-use Rattle.pl_layouts.specs.declared.control.Proposal.{Proposal}
 use Rattle.pl_layouts.specs.declared.control.Vote.{Vote}
 use Rattle.pl_layouts.specs.declared.place.Place.{Place}
-use Rattle.pl_layouts.specs.Control.{control_in, is_control}
-use Rattle.pl_layouts.specs.Frames.{arriving, is_arp, packet_in}
-use Rattle.pl_layouts.specs.Memberships.{changes_in, is_group, membership_in}
+use Rattle.pl_layouts.specs.Control.{control_in}
+use Rattle.pl_layouts.specs.Frames.{is_arp, packet_in}
+use Rattle.pl_layouts.specs.Memberships.{is_group, membership_in}
 use Rattle.pl_layouts.specs.Placement.{is_known, is_placed, same_place}
 use Rattle.pl_journal.specs.declared.cause.Cause.{Cause}
 use Rattle.pl_journal.specs.declared.cause.Cause.TheVariants.{BadArp, NotPlaced, Spent}
 use Rattle.pl_journal.specs.Places.{are_alike}
 use Rattle.pl_core.specs.declared.acts.Act.{Act}
 use Rattle.pl_core.specs.declared.acts.Act.TheVariants as act
-use Rattle.pl_core.specs.declared.messages.ToManager.{ToManager}
 use Rattle.pl_core.specs.declared.messages.ToManager.TheVariants as tell
 use Rattle.pl_core.specs.declared.messages.ToSwitch.{ToSwitch}
 use Rattle.pl_core.specs.declared.messages.ToSwitch.TheVariants.{Answer, Avoid, Flood, Invalidate, Pod, Tree}
@@ -45,10 +42,10 @@ use Rattle.pl_switch_rule.specs.Delivering.{addresses, arrives_home, begins, com
 use Rattle.pl_switch_rule.specs.Forwarding.{Choice, came_by, candidates_by, forwards, leaves_by}
 use Rattle.pl_switch_rule.specs.Granting.{address_at_port, forgets, grant_number, granted, grants_at, grants_next, grants_or_learns, grants_remembered, grants_source, has_no_address, in_use, is_granted, is_local, is_port_spent, learns_ip, learns_source, remembered_at, remembers, same_ip, sender_ip, with_grant}
 use Rattle.pl_switch_rule.specs.GroupForwarding.{destination_group, forwards_group, group_ports, no_way, passes_or_drops, way_of}
-use Rattle.pl_switch_rule.specs.Intake.{asks_manager, comes_from_host, group_told, groups_of, groups_told, has_member_of, hears_members, is_for_switch, is_member, members_become, packet_acts, query, sends_in, source_pmac, takes, takes_in, takes_in_or_spent, with_pmac}
-use Rattle.pl_switch_rule.specs.Levels.{after_message, becomes_edge, changes_to, finds_host, has_become_placed, hears_message, learns_level, learns_pod, notes_edge, settles_in, with_message, with_pod}
-use Rattle.pl_switch_rule.specs.Messages.{answer_frame, flood_frame, floods, forgets_members, hears_manager, hears_pod, invalidates, probe_frame, probes, probes_at, sets_trap, takes_pod}
-use Rattle.pl_switch_rule.specs.Positions.{after_vote, answers_proposal, counted, fixes_position, frees_others, half, hears_proposal, is_majority, marks, moves_on, notes_position, with_granted}
+use Rattle.pl_switch_rule.specs.Intake.{comes_from_host, group_told, groups_of, groups_told, has_member_of, hears_members, is_for_switch, is_member, packet_acts, query, sends_in, source_pmac, takes, takes_in, takes_in_or_spent, with_pmac}
+use Rattle.pl_switch_rule.specs.Levels.{after_message, becomes_edge, changes_to, finds_host, has_become_placed, settles_in, with_pod}
+use Rattle.pl_switch_rule.specs.Messages.{answer_frame, flood_frame, floods, forgets_members, hears_manager, invalidates, probes, probes_at, sets_trap, takes_pod}
+use Rattle.pl_switch_rule.specs.Positions.{after_vote, answers_proposal, counted, fixes_position, frees_others, half, moves_on, with_granted}
 use Rattle.pl_switch_rule.specs.SwitchRule.{comes_from_switch, control_comes, hears_control}
 use Rattle.pl_switch_rule.specs.Telling.{changes_told, link_to, link_told, place_told, pod_wanted}
 use Rattle.pl_control_plane.specs.ControlPlanes.{tells}

@@ -1,0 +1,2 @@
+//! Laws of joined groups: each host has joined what its frames say, by the journal.
+#![tactic(auto)]

@@ -272,14 +272,14 @@ pub host_single : (choose : Choice) (v : SwitchView) (port : ℕ) (frame : List 
 host_single choose v port frame shaped within long =
     cond_both (is_known v.place.level 1 || is_known v.place.level 2) (does v (act.Drop NotPlaced ∷ [])) _ IsSingle (λ no_hosts. tt)
     (λ edge.
-        let learns : SwitchView → SwitchStep = λ w. learns_source w port frame in
-        let known : SwitchStep = finds_host v port ▹ learns in
-        let quiet : IsQuiet v known = quiet_then_quiet v (finds_host v port) learns (quiet_finds_host v port shaped)
-        (λ w same. quiet_learns_source w port frame same.shaped (subst (λ k. port < k) (sym same.k) within) long) in
-        let rest : IsSingle (takes_in_or_spent choose port frame known.view) =
-        cond_both (has_no_address known.view port (source_of frame)) (does known.view (act.Drop Spent ∷ [])) (takes_in choose port frame known.view) IsSingle (λ spent. tt)
-        (λ fine. takes_in_single choose port frame known.view quiet.same.shaped) in
-        still_single true known.acts (takes_in_or_spent choose port frame known.view).acts (quiet_still v known quiet) rest)
+    let learns : SwitchView → SwitchStep = λ w. learns_source w port frame in
+    let known : SwitchStep = finds_host v port ▹ learns in
+    let quiet : IsQuiet v known = quiet_then_quiet v (finds_host v port) learns (quiet_finds_host v port shaped)
+    (λ w same. quiet_learns_source w port frame same.shaped (subst (λ k. port < k) (sym same.k) within) long) in
+    let rest : IsSingle (takes_in_or_spent choose port frame known.view) =
+    cond_both (has_no_address known.view port (source_of frame)) (does known.view (act.Drop Spent ∷ [])) (takes_in choose port frame known.view) IsSingle (λ spent. tt)
+    (λ fine. takes_in_single choose port frame known.view quiet.same.shaped) in
+    still_single true known.acts (takes_in_or_spent choose port frame known.view).acts (quiet_still v known quiet) rest)
 
 -- a message of the manager
 probes_single : (old : Pmac) (amac : Mac) (o : Option Ip4) (v : SwitchView) (b : Bool) → AreSingle b (probes_at old amac o v).acts

@@ -91,16 +91,19 @@ module _ (plan : Plan) (is_plan : IsPlan plan) (t : ℕ) (there : Spot) (frame :
       CountsAlone test (λ p. claim plan t p there frame) most q
   counts_alone test most down within q passes = elim (cases_Bool (may_come plan.k t q (peer_of plan t q) there)) [
     | inr never ↦ inl (claim_of_group plan t q there frame false group never)
-    | inl may ↦ inr ((let some = within q (down q passes) may in let one = claim_at_most_one plan t q there frame in omega arith), λ p also other.
-        elim (cases_Bool (may_come plan.k t p (peer_of plan t p) there)) [
-          | inr never ↦ claim_of_group plan t p there frame false group never
-          | inl may_too ↦
-              let d = down q passes in
-              let e = down p also in
-              absurd (other (one_port plan is_plan t q p d.at e.at d.to e.to d.peer e.peer
-              (leads_apart plan.k t d.to.0 e.to.0 there.edge (rung plan is_plan t q d.to d.at d.peer) (rung plan is_plan t p e.to e.at e.peer) d.lower e.lower
-              (leads_there q d may) (leads_there p e may_too))))
-        ])
+    | inl may ↦ inr (
+      (let some = within q (down q passes) may in let one = claim_at_most_one plan t q there frame in omega arith),
+      λ p also other.
+          elim (cases_Bool (may_come plan.k t p (peer_of plan t p) there)) [
+            | inr never ↦ claim_of_group plan t p there frame false group never
+            | inl may_too ↦
+                let d = down q passes in
+                let e = down p also in
+                absurd (other (one_port plan is_plan t q p d.at e.at d.to e.to d.peer e.peer
+                (leads_apart plan.k t d.to.0 e.to.0 there.edge (rung plan is_plan t q d.to d.at d.peer) (rung plan is_plan t p e.to e.at e.peer) d.lower e.lower
+                (leads_there q d may) (leads_there p e may_too))))
+          ],
+    )
   ]
 
   -- and so do ports for hosts
@@ -108,14 +111,17 @@ module _ (plan : Plan) (is_plan : IsPlan plan) (t : ℕ) (there : Spot) (frame :
       ((p : ℕ) → same_spot (at_port t p) there ≡ true → 1 ≤ most) → (q : ℕ) → test q ≡ true → CountsAlone test (λ p. claim plan t p there frame) most q
   hosts_alone test most at within q passes = elim (cases_Bool (same_spot (at_port t q) there)) [
     | inr never ↦ inl (claim_of_group plan t q there frame false group (ap (λ p. may_come plan.k t q p there) (at q passes) ∙ never))
-    | inl may ↦ inr ((let some = within q may in let one = claim_at_most_one plan t q there frame in omega arith), λ p also other.
-        elim (cases_Bool (same_spot (at_port t p) there)) [
-          | inr never ↦ claim_of_group plan t p there frame false group (ap (λ o. may_come plan.k t p o there) (at p also) ∙ never)
-          | inl may_too ↦
-              let one = and_parts (t == there.edge) (q == there.port) may in
-              let two = and_parts (t == there.edge) (p == there.port) may_too in
-              absurd (other (eqb-true q there.port one.1 ∙ sym (eqb-true p there.port two.1)))
-        ])
+    | inl may ↦ inr (
+      (let some = within q may in let one = claim_at_most_one plan t q there frame in omega arith),
+      λ p also other.
+          elim (cases_Bool (same_spot (at_port t p) there)) [
+            | inr never ↦ claim_of_group plan t p there frame false group (ap (λ o. may_come plan.k t p o there) (at p also) ∙ never)
+            | inl may_too ↦
+                let one = and_parts (t == there.edge) (q == there.port) may in
+                let two = and_parts (t == there.edge) (p == there.port) may_too in
+                absurd (other (eqb-true q there.port one.1 ∙ sym (eqb-true p there.port two.1)))
+          ],
+    )
   ]
 
 -- What a switch knows of its ports.

@@ -178,8 +178,8 @@ module _ (plan : Plan) (told : Told) (members : Members) (places : AllByRecursio
   under_true needed edges s id core named is_core =
       cond_both (same_switch id core) (Some (core_part told needed core)) _ (IsTruePart plan (rank_of plan s))
       (λ itself one.
-          let level = level_true plan told places s id 2 named (subst (λ c. has_level told c 2 ≡ true) (sym (same_is id core itself)) is_core) in
-          absurd (omega (arith, level, one)))
+      let level = level_true plan told places s id 2 named (subst (λ c. has_level told c 2 ≡ true) (sym (same_is id core itself)) is_core) in
+      absurd (omega (arith, level, one)))
       (λ other. cond_both (has_level told id 1 && is_alive told id core) (Some (aggregation_part told needed core id)) _ (IsTruePart plan (rank_of plan s))
       (λ aggregation one t d named_d below. edges t d named_d (any_filter (λ x. x.0 == d.0) (is_alive told id) needed below))
       (λ no_aggregation. by_edge (edge_at id (place_of told id))))

@@ -257,12 +257,12 @@ module _ (r : ℕ) where
   of_host_true choose v port frame edge =
       cond_both (is_known v.place.level 1 || is_known v.place.level 2) (does v (act.Drop NotPlaced ∷ [])) _ Says (λ no_hosts. (tt, tt))
       (λ may_host.
-          let learns : SwitchView → SwitchStep = λ w. learns_source w port frame in
-          let known : SwitchStep = finds_host v port ▹ learns in
-          true_append known.acts (takes_in_or_spent choose port frame known.view).acts
-          (true_append (finds_host v port).acts (learns_source (finds_host v port).view port frame).acts (changes_true v (becomes_edge (with_port v port (record (port_of v port) { host = true }))) (λ x level. sym (same_Some 0 x level) ∙ sym edge))
-          (learns_true (finds_host v port).view port frame))
-          (takes_in_true choose port frame known.view edge))
+      let learns : SwitchView → SwitchStep = λ w. learns_source w port frame in
+      let known : SwitchStep = finds_host v port ▹ learns in
+      true_append known.acts (takes_in_or_spent choose port frame known.view).acts
+      (true_append (finds_host v port).acts (learns_source (finds_host v port).view port frame).acts (changes_true v (becomes_edge (with_port v port (record (port_of v port) { host = true }))) (λ x level. sym (same_Some 0 x level) ∙ sym edge))
+      (learns_true (finds_host v port).view port frame))
+      (takes_in_true choose port frame known.view edge))
 
   -- a message of the manager
 

@@ -6,3 +6,5 @@ pub mod Leading
 pub mod Avoiding
 pub mod Rows
 pub mod Starting
+pub mod Passing
+pub mod Entering

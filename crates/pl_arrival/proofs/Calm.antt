@@ -1,5 +1,6 @@
 -- What is used of a settled fabric: what holds between its links, the views of its switches, and what the manager was told.
 use Rattle.std.proofs.Common.{◌≡◌, ◌⊎◌, ℕ, ◌<◌, ◌&&◌, nat_lt, Bool, true, false, Option, Some, None, refl, sym, ap, ◌∙◌, subst, inl, inr, true≢false}
+use Rattle.std.specs.Prelude.{slice_index_or}
 use Rattle.std.proofs.lemmas.Bool.{and_from, and_parts}
 use Rattle.pl_frame.specs.declared.address.SwitchId.{SwitchId}
 use Rattle.pl_wiring.specs.declared.label.Label.TheVariants.{Aggregation, Edge}
@@ -49,7 +50,8 @@ pub record Calm (n : Net) : Type 0 where
   -- places are true, and hold all that the records give
   pub own : (s : ℕ) → IsOwn n.plan.k (label_of n.plan.k s) (n.view s).place
   pub full : (s : ℕ) → s < switch_count n.plan.k → IsFull (n.view s).place (n.view s).ports
-  -- ids differ, positions of a pod differ, a pod has one number, and numbers of pods differ
+  -- ids are those of the wiring and differ, positions of a pod differ, a pod has one number, and numbers of pods differ
+  pub named : (s : ℕ) → (n.view s).id ≡ slice_index_or n.plan.ids s (record { 0 = 0 })
   pub ids : (s t : ℕ) → s < switch_count n.plan.k → t < switch_count n.plan.k → (n.view s).id ≡ (n.view t).id → s ≡ t
   pub positions : (pod i j x s t : ℕ) → label_of n.plan.k s ≡ Edge pod i → label_of n.plan.k t ≡ Edge pod j →
       (n.view s).place.position ≡ Some x → (n.view t).place.position ≡ Some x → s ≡ t
@@ -59,15 +61,15 @@ pub record Calm (n : Net) : Type 0 where
       pod_of (label_of n.plan.k s) ≡ pod_of (label_of n.plan.k t)
 
 module _ (n : Net) (calm : Calm n) where
-  pub back : (s t : ℕ) → AreLinked (fabric n) s t → AreLinked (fabric n) t s
-  back s t l = record {
-    port = l.by.into;
-    by = record {
-      into = l.port;
-      joined = joined_turned n.plan s l.port t l.by.into calm.is l.by.joined;
-      live = calm.both s l.port t l.by.into l.by.joined l.by.live;
-    };
+  pub turned : (s p t : ℕ) (l : LeadsBy (fabric n) s p t) → LeadsBy (fabric n) t l.into s
+  turned s p t l = record {
+    into = p;
+    joined = joined_turned n.plan s p t l.into calm.is l.joined;
+    live = calm.both s p t l.into l.joined l.live;
   }
+
+  pub back : (s t : ℕ) → AreLinked (fabric n) s t → AreLinked (fabric n) t s
+  back s t l = record { port = l.by.into; by = turned s l.port t l.by }
 
   pub here : (s t : ℕ) → AreLinked (fabric n) s t → s < switch_count n.plan.k
   here s t l = (joined_there n.plan s l.port t l.by.into calm.is l.by.joined).0

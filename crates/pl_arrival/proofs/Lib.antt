@@ -8,3 +8,7 @@ pub mod Rows
 pub mod Starting
 pub mod Passing
 pub mod Entering
+pub mod Alike
+pub mod Track
+pub mod Ready
+pub mod Onward

@@ -14,7 +14,7 @@ use Rattle.pl_layouts.specs.Equality.{same_mac}
 use Rattle.pl_layouts.specs.Frames.{HasSixBytes, arriving, is_arp, is_takeable, is_taken_packet, packet_in}
 use Rattle.pl_layouts.specs.Memberships.{is_group, membership_in}
 use Rattle.pl_layouts.specs.Placement.{is_known, is_placed}
-use Rattle.pl_layouts.proofs.Arrived.{destination_of-arriving}
+use Rattle.pl_layouts.proofs.Arrived.{destination_of-arriving, length-arriving}
 use Rattle.pl_journal.specs.declared.cause.Cause.TheVariants.{BadArp, NotPlaced, Spent}
 use Rattle.pl_core.specs.declared.acts.Act.{Act}
 use Rattle.pl_core.specs.declared.acts.Act.TheVariants.{Drop, Pass}
@@ -226,6 +226,9 @@ six_of (Some x) = six_of_pmac x
 
 pub destination_kept : (v : SwitchView) (port : ℕ) (frame : List ℕ) → 14 ≤ length frame → destination_of (with_pmac v port frame) ≡ destination_of frame
 destination_kept v port frame long = destination_of-arriving frame (mac_of_pmac (source_pmac v port frame)) None long (six_of (source_pmac v port frame)) tt
+
+pub length_kept : (v : SwitchView) (port : ℕ) (frame : List ℕ) → 14 ≤ length frame → length (with_pmac v port frame) ≡ length frame
+length_kept v port frame long = length-arriving frame (mac_of_pmac (source_pmac v port frame)) None long (six_of (source_pmac v port frame)) tt
 
 module _ (choose : Choice) (v : SwitchView) (frame : List ℕ) (unicast : is_group (destination_of frame) ≡ false) where
   abbrev where_to : SwitchStep

@@ -121,7 +121,7 @@ acts_append : (s : ℕ) (d : Doing) (xs ys : List Act) → acts_done s d (xs ++ 
 acts_append s d [] ys = refl
 acts_append s d (x ∷ xs) ys = acts_append s (act_done s d x) xs ys
 
-same_failed : (w new : WorldView) (s n : ℕ) → Goes w new → is_failed_at new s n ≡ is_failed_at w s n
+pub same_failed : (w new : WorldView) (s n : ℕ) → Goes w new → is_failed_at new s n ≡ is_failed_at w s n
 same_failed w new s n goes = λ i. not (is_host_port (peer_of (goes.plan i) s n)) && not (is_live_at (goes.links i) s n)
 
 pass_lands : (s : ℕ) (d : Doing) (id : ℕ) (again : Bool) (n : ℕ) (frame : List ℕ) → d.speech ≡ spoken_frame.Waiting id again → is_failed_at d.world s n ≡ false →

@@ -12,3 +12,5 @@ pub mod Alike
 pub mod Track
 pub mod Ready
 pub mod Onward
+pub mod Views
+pub mod Sending

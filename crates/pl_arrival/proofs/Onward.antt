@@ -68,12 +68,12 @@ placed_two : (v : SwitchView) → v.place.level ≡ Some 2 → is_placed v.place
 placed_two v level = rw level refl
 
 -- hosts have addresses of one host
-host_address : (plan : Plan) → IsPlan plan → (g : ℕ) (host : Host) → slice_get plan.hosts g ≡ Some host → IsHostMac host.mac
+pub host_address : (plan : Plan) → IsPlan plan → (g : ℕ) (host : Host) → slice_get plan.hosts g ≡ Some host → IsHostMac host.mac
 host_address plan is g host found =
     let within = slice_get_within plan.hosts g host found in
     subst (λ (x : Host). IsHostMac x.mac) (get_or_from_slice_get plan.hosts g host host found) (is.host_macs g host within)
 
-not_group : (mac : Mac) → IsHostMac mac → is_group mac ≡ false
+pub not_group : (mac : Mac) → IsHostMac mac → is_group mac ≡ false
 not_group mac is = by (is_group mac) refl
   where
     by : (b : Bool) → is_group mac ≡ b → b ≡ false

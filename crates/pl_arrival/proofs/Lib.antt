@@ -14,3 +14,4 @@ pub mod Ready
 pub mod Onward
 pub mod Views
 pub mod Sending
+pub mod Hosting

@@ -15,3 +15,4 @@ pub mod Onward
 pub mod Views
 pub mod Sending
 pub mod Hosting
+pub mod Turns

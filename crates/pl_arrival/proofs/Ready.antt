@@ -90,7 +90,7 @@ module _ (w : WorldView) (r : Ready w) where
     one_edge s v found local = r.grounded.apart s reg.stand.edge.0 v reg.edge x found reg.there local local_there
 
 -- what is of a place stays so
-same_local : (v u : SwitchView) (x : Pmac) → u.place ≡ v.place → is_local v x ≡ true → is_local u x ≡ true
+pub same_local : (v u : SwitchView) (x : Pmac) → u.place ≡ v.place → is_local v x ≡ true → is_local u x ≡ true
 same_local v u x same local = ap (λ (p : Place). is_known p.level 0 && (is_known p.pod x.pod && is_known p.position x.position)) same ∙ local
 
 -- a host that is registered by one address at two moments stands at one edge switch

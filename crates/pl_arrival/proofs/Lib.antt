@@ -16,3 +16,4 @@ pub mod Views
 pub mod Sending
 pub mod Hosting
 pub mod Turns
+pub mod Steps

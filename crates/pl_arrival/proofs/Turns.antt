@@ -56,7 +56,7 @@ use Rattle.pl_arrival.proofs.Track.{IsOnTrack, IsTakenLeaving, IsTakenUnder, IsT
 use Rattle.pl_arrival.proofs.Track.OnTrack.{Came}
 
 -- ---- what stays
-comes_in_goes : (w : WorldView) (h : ℕ) (item : Item) (o : Option Stand) (new : WorldView) → ComesIn Loose w h item o new → Goes w new
+pub comes_in_goes : (w : WorldView) (h : ℕ) (item : Item) (o : Option Stand) (new : WorldView) → ComesIn Loose w h item o new → Goes w new
 comes_in_goes w h item None new comes = absurd comes
 comes_in_goes w h item (Some stand) new comes =
     goes_then w (heard_item w h item) new (goes_heard w h item) (goes_at_switch Loose (heard_item w h item) stand.edge.0 stand.port item new comes)
@@ -69,7 +69,7 @@ comes_out_goes : (host : HostRule) (w : WorldView) (s p : ℕ) (item : Item) (ne
 comes_out_goes host w s p (Control frame) new comes = subst (Goes w) (sym comes) (goes_self w)
 comes_out_goes host w s p (Data id frame) new comes = at_host_goes host w id frame (receiver w s p frame) new comes
 
-comes_over_goes : (host : HostRule) (w : WorldView) (s p : ℕ) (item : Item) (peer : Peer) (new : WorldView) → ComesOver Loose host w s p item peer new → Goes w new
+pub comes_over_goes : (host : HostRule) (w : WorldView) (s p : ℕ) (item : Item) (peer : Peer) (new : WorldView) → ComesOver Loose host w s p item peer new → Goes w new
 comes_over_goes host w s p item (Switch t q) new comes = goes_at_switch Loose w t.0 q item new comes
 comes_over_goes host w s p item HostPort new comes = comes_out_goes host w s p item new comes
 

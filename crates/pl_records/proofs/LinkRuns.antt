@@ -18,13 +18,15 @@ use Rattle.pl_world.specs.Booting.{CanBegin, booted}
 use Rattle.pl_world.specs.Runs.{Befalls, Moment, WorldRun}
 use Rattle.pl_world.specs.Runs.Moment.{Mark, Step}
 use Rattle.pl_world.specs.Worlds.{WorldView}
-use Rattle.pl_control_plane.specs.ControlPlanes.{AreJoined, control_plane}
+use Rattle.pl_control_plane.specs.ControlPlanes.{AreJoined, ControlPlane, control_plane}
+use Rattle.pl_control_plane.specs.PlaneSteps.{LosesNoWord, PlaneStep}
 use Rattle.pl_control_plane.proofs.Joined.{joined_there, joined_turned}
 use Rattle.pl_control_plane.proofs.Stepping.{whole_step}
 use Rattle.pl_kept.specs.Kept.{Kept}
 use Rattle.pl_kept.proofs.Keeping.{run_keeps_all}
-use Rattle.pl_records.specs.Records.{HaveToldLinks, NamesNeighbours}
+use Rattle.pl_records.specs.Records.{HaveToldLinks, HaveToldNeighbours, NamesNeighbours}
 use Rattle.pl_records.proofs.Pairing.{links_at_first, plane_links}
+use Rattle.pl_records.proofs.Strangers.{neighbours_at_first, plane_neighbours}
 
 -- where places are true, switches name their neighbours as the wiring has them
 pub names_neighbours : (w : WorldView) → Kept w → NamesNeighbours (control_plane w)
@@ -58,21 +60,28 @@ module _ (host : HostRule) (sends : HostsSendData host) (owns : HostsSendOwn hos
   run_more old mid new [] moment run more = (new, subst (λ (w : WorldView). Befalls Loose manager_rule host w moment new) run more, refl)
   run_more old mid new (first ∷ moments) moment run more = (run.0, run.1, run_more run.0 mid new moments moment run.2 more)
 
-  -- from any moment of a run from the beginning on
-  links_from : (plan : Plan) (limits : Limits) → CanBegin plan → (before : List Moment) (old : WorldView) → WorldRun Loose manager_rule host (booted plan limits) before old →
-      HaveToldLinks (control_plane old) → (moments : List Moment) (new : WorldView) → WorldRun Loose manager_rule host old moments new → HaveToldLinks (control_plane new)
-  links_from plan limits can before old run told [] new same = subst (λ (w : WorldView). HaveToldLinks (control_plane w)) (sym same) told
-  links_from plan limits can before old run told (Step event ∷ moments) new rest =
-      let longer = run_more (booted plan limits) old rest.0 before (Step event) run rest.1 in
-      let kept = run_keeps_all host sends owns plan limits before old can run in
-      let after = run_keeps_all host sends owns plan limits (before ++ Step event ∷ []) rest.0 can longer in
-      let whole = whole_step Loose manager_rule host loose_steps_are_accounted old event rest.0 kept.counted kept.hosts rest.1.0 rest.1.1 in
-      links_from plan limits can (before ++ Step event ∷ []) rest.0 longer
-      (plane_links (control_plane old) (control_plane rest.0) kept.counted.formed.plan after.counted.formed.plan (names_neighbours rest.0 after) told whole.0 whole.1) moments new rest.2
-  links_from plan limits can before old run told (Mark entry ∷ moments) new rest =
-      let longer = run_more (booted plan limits) old rest.0 before (Mark entry) run rest.1 in
-      links_from plan limits can (before ++ Mark entry ∷ []) rest.0 longer (subst (λ (w : WorldView). HaveToldLinks (control_plane w)) (sym rest.1.1) told) moments new rest.2
+  -- What each step of the control plane keeps, from any moment of a run from the beginning on.
+  module _ (Holds : ControlPlane → Type 0) (keeps : (f g : ControlPlane) → IsPlan f.plan → IsPlan g.plan → NamesNeighbours g → Holds f → (step : PlaneStep Loose manager_rule f g) →
+      LosesNoWord Loose manager_rule f g step → Holds g) where
+    held_from : (plan : Plan) (limits : Limits) → CanBegin plan → (before : List Moment) (old : WorldView) → WorldRun Loose manager_rule host (booted plan limits) before old →
+        Holds (control_plane old) → (moments : List Moment) (new : WorldView) → WorldRun Loose manager_rule host old moments new → Holds (control_plane new)
+    held_from plan limits can before old run told [] new same = subst (λ (w : WorldView). Holds (control_plane w)) (sym same) told
+    held_from plan limits can before old run told (Step event ∷ moments) new rest =
+        let longer = run_more (booted plan limits) old rest.0 before (Step event) run rest.1 in
+        let kept = run_keeps_all host sends owns plan limits before old can run in
+        let after = run_keeps_all host sends owns plan limits (before ++ Step event ∷ []) rest.0 can longer in
+        let whole = whole_step Loose manager_rule host loose_steps_are_accounted old event rest.0 kept.counted kept.hosts rest.1.0 rest.1.1 in
+        held_from plan limits can (before ++ Step event ∷ []) rest.0 longer
+        (keeps (control_plane old) (control_plane rest.0) kept.counted.formed.plan after.counted.formed.plan (names_neighbours rest.0 after) told whole.0 whole.1) moments new rest.2
+    held_from plan limits can before old run told (Mark entry ∷ moments) new rest =
+        let longer = run_more (booted plan limits) old rest.0 before (Mark entry) run rest.1 in
+        held_from plan limits can (before ++ Mark entry ∷ []) rest.0 longer (subst (λ (w : WorldView). Holds (control_plane w)) (sym rest.1.1) told) moments new rest.2
 
   pub run_links : (plan : Plan) (limits : Limits) (moments : List Moment) (new : WorldView) → CanBegin plan →
       WorldRun Loose manager_rule host (booted plan limits) moments new → HaveToldLinks (control_plane new)
-  run_links plan limits moments new can run = links_from plan limits can [] (booted plan limits) refl (links_at_first plan limits) moments new run
+  run_links plan limits moments new can run = held_from HaveToldLinks plane_links plan limits can [] (booted plan limits) refl (links_at_first plan limits) moments new run
+
+  pub run_neighbours : (plan : Plan) (limits : Limits) (moments : List Moment) (new : WorldView) → CanBegin plan →
+      WorldRun Loose manager_rule host (booted plan limits) moments new → HaveToldNeighbours (control_plane new)
+  run_neighbours plan limits moments new can run =
+      held_from HaveToldNeighbours plane_neighbours plan limits can [] (booted plan limits) refl (neighbours_at_first plan limits) moments new run

@@ -17,3 +17,4 @@ pub mod Sending
 pub mod Hosting
 pub mod Turns
 pub mod Steps
+pub mod Grounds

@@ -63,7 +63,7 @@ module _ (host : HostRule) (sends : HostsSendData host) (owns : HostsSendOwn hos
   -- What each step of the control plane keeps, from any moment of a run from the beginning on.
   module _ (Holds : ControlPlane → Type 0) (keeps : (f g : ControlPlane) → IsPlan f.plan → IsPlan g.plan → NamesNeighbours g → Holds f → (step : PlaneStep Loose manager_rule f g) →
       LosesNoWord Loose manager_rule f g step → Holds g) where
-    held_from : (plan : Plan) (limits : Limits) → CanBegin plan → (before : List Moment) (old : WorldView) → WorldRun Loose manager_rule host (booted plan limits) before old →
+    pub held_from : (plan : Plan) (limits : Limits) → CanBegin plan → (before : List Moment) (old : WorldView) → WorldRun Loose manager_rule host (booted plan limits) before old →
         Holds (control_plane old) → (moments : List Moment) (new : WorldView) → WorldRun Loose manager_rule host old moments new → Holds (control_plane new)
     held_from plan limits can before old run told [] new same = subst (λ (w : WorldView). Holds (control_plane w)) (sym same) told
     held_from plan limits can before old run told (Step event ∷ moments) new rest =

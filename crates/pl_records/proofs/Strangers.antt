@@ -1,6 +1,6 @@
 -- Each step of the control plane keeps it that links to neighbours alone are told usable.
 use Rattle.std.proofs.Common.{◌≡◌, ◌⊎◌, ℕ, zero, suc, ◌+◌, ◌<◌, ◌==◌, Bool, true, false, List, [], ◌∷◌, ◌++◌, Option, Some, None, slice_get, refl, sym, ap, ◌∙◌, subst, inl, inr, arith, eq-eqb, eqb-true, true≢false}
-use Rattle.std.specs.List.{list_any, range_with_len}
+use Rattle.std.specs.List.{AllByRecursion, list_any, range_with_len}
 use Rattle.std.proofs.lemmas.Bool.{cases_eq, or_cases}
 use Rattle.pl_frame.specs.declared.address.SwitchId.{SwitchId}
 use Rattle.pl_layouts.specs.Equality.{same_switch}
@@ -25,8 +25,8 @@ use Rattle.pl_control_plane.specs.ControlPlanes.{AreJoined, ControlPlane, contro
 use Rattle.pl_control_plane.specs.PlaneSteps.{IsReportTaken, LosesNoWord, ManagerTurns, PlaneStep, SwitchTurns}
 use Rattle.pl_control_plane.specs.PlaneSteps.PlaneStep.{Carried, Entered, Heard, Left, Managed, Ordered, Ticked}
 use Rattle.pl_control_plane.proofs.Joined.{joined_there}
-use Rattle.pl_records.specs.Records.{HaveToldNeighbours, IsAtRest, LinksAreOfNeighbours, NamesNeighbours, is_neighbour, is_switch_with}
-use Rattle.pl_records.specs.Words.{last_said}
+use Rattle.pl_records.specs.Records.{HaveToldNeighbours, LinksAreOfNeighbours, NamesNeighbours, is_neighbour, is_switch_with}
+use Rattle.pl_records.specs.Words.{IsNoReport, last_said}
 use Rattle.pl_records.proofs.Last.{last_append, last_silent, silent_link}
 use Rattle.pl_records.proofs.Recording.{link_heard}
 use Rattle.pl_records.proofs.Reporting.{IsSameTo, heard_last, queue_front}
@@ -124,9 +124,9 @@ pub neighbours_at_first : (plan : Plan) (limits : Limits) → HaveToldNeighbours
 neighbours_at_first plan limits s id u named stranger = ap (last_said (link_said u) _) (replicated (switch_count plan.k) s [])
 
 -- where no report waits
-pub neighbours_at_rest : (f : ControlPlane) → HaveToldNeighbours f → IsAtRest f → LinksAreOfNeighbours f
-neighbours_at_rest f told rest s id u named usable = by (is_neighbour f.plan s u) refl
+pub neighbours_at_rest : (f : ControlPlane) → HaveToldNeighbours f → ((s : ℕ) → AllByRecursion IsNoReport (f.reports s)) → LinksAreOfNeighbours f
+neighbours_at_rest f told quiet s id u named usable = by (is_neighbour f.plan s u) refl
   where
     by : (b : Bool) → is_neighbour f.plan s u ≡ b → (p t q : ℕ) × AreJoined f.plan s p t q × (slice_get f.plan.ids t ≡ Some u)
     by true e = neighbour_at f.plan s u e
-    by false e = absurd (true≢false (sym usable ∙ sym (last_silent (link_said u) _ (f.reports s) (silent_link u (f.reports s) (rest.reports s))) ∙ told s id u named e))
+    by false e = absurd (true≢false (sym usable ∙ sym (last_silent (link_said u) _ (f.reports s) (silent_link u (f.reports s) (quiet s))) ∙ told s id u named e))

@@ -38,13 +38,10 @@ use Rattle.pl_kept.proofs.Grounding.{grounded}
 use Rattle.pl_records.specs.Records.{HaveToldNeighbours, LinksAreOfNeighbours}
 use Rattle.pl_records.specs.Words.{IsNoReport}
 use Rattle.pl_records.proofs.Strangers.{neighbours_at_rest}
+use Rattle.pl_arrival.specs.Orderly.{IsOrderly}
 use Rattle.pl_arrival.proofs.Calm.{Calm}
-use Rattle.pl_arrival.proofs.Ready.{Ready, StandApart, net}
+use Rattle.pl_arrival.proofs.Ready.{Ready, net}
 use Rattle.pl_arrival.proofs.Words.{same_itself, teller_of_level}
-
--- the manager heard the switches of the wiring alone
-abbrev pub HearsWiring : Plan → ManagerView → Type 0
-HearsWiring plan manager = (i : SwitchId) → IsTrue (is_heard manager i) → Contains plan.ids i
 
 all_contained : {X : Type 0} (P : X → Type 0) (xs : List X) → ((x : X) → Contains xs x → P x) → AllByRecursion P xs
 all_contained P [] each = tt
@@ -74,7 +71,10 @@ edge_there k z pod i edge = elim (cases_lt z (edge_count k)) [
   ]
 ]
 
-module _ (w : WorldView) (kept : Kept w) (is : IsSettled w) (heard : HearsWiring w.plan w.manager) (told : HaveToldNeighbours (control_plane w)) where
+module _ (w : WorldView) (order : IsOrderly w) (is : IsSettled w) where
+  abbrev kept : Kept w
+  kept = order.kept
+
   abbrev view : ℕ → SwitchView
   view = (control_plane w).view
 
@@ -112,7 +112,7 @@ module _ (w : WorldView) (kept : Kept w) (is : IsSettled w) (heard : HearsWiring
   known i x level =
       let teller = teller_of_level w.manager.told i x level in
       let speaks = among_left i (tellers w.manager.told) _ teller in
-      let at = heard i (any_among (λ t. same_switch t i) i (speakers w.manager) speaks (same_itself i)) in
+      let at = order.heard i (any_among (λ t. same_switch t i) i (speakers w.manager) speaks (same_itself i)) in
       let many = plan_is.ids_many in
       (at.0, omega (arith, at.1, many), kept.voting.ids at.0 ∙ sym (get_or_default w.plan.ids at.0 i (record { 0 = 0 }) at.1) ∙ at.2)
 
@@ -120,7 +120,7 @@ module _ (w : WorldView) (kept : Kept w) (is : IsSettled w) (heard : HearsWiring
   linked s u within usable =
       let quiet : (s : ℕ) → AllByRecursion IsNoReport (items_at w.to_manager s) =
       λ s. all_contained IsNoReport (items_at w.to_manager s) (λ t waits. question_reports_nothing t (is.queues.to_manager s t waits)) in
-      let at = neighbours_at_rest (control_plane w) told quiet s (view s).id u (named s within) usable in
+      let at = neighbours_at_rest (control_plane w) order.told quiet s (view s).id u (named s within) usable in
       let beyond = joined_there w.plan at.1 at.2 s at.0 plan_is (joined_turned w.plan s at.0 at.1 at.2 plan_is at.3) in
       (at.0, at.1, at.2, at.3, same_Some (view at.1).id u (sym (named at.1 beyond.0) ∙ at.4))
 
@@ -169,12 +169,12 @@ module _ (w : WorldView) (kept : Kept w) (is : IsSettled w) (heard : HearsWiring
     one_pod = one_pod;
   }
 
-  pub ready : StandApart w.stands → Ready w
-  ready apart = record {
+  pub ready : Ready w
+  ready = record {
     calm = calm;
     counted = kept.counted;
     hosts = kept.hosts;
     grounded = grounded w kept.counted kept.placed kept.voting kept.given;
     addresses = kept.addresses;
-    apart = apart;
+    apart = order.apart;
   }

@@ -18,7 +18,7 @@ use Rattle.pl_world.specs.declared.stand.Stand.{Stand}
 use Rattle.pl_world.specs.Booting.{first_stand}
 use Rattle.pl_world.specs.Changes.{host_at, if_for, is_address_of, receiver, stands_at}
 use Rattle.pl_world.specs.Worlds.{WorldView}
-use Rattle.pl_arrival.proofs.Ready.{StandApart}
+use Rattle.pl_arrival.specs.Orderly.{StandApart}
 use Rattle.pl_arrival.proofs.Views.{set_there}
 
 nobody : Stand

@@ -18,3 +18,5 @@ pub mod Hosting
 pub mod Turns
 pub mod Steps
 pub mod Grounds
+pub mod Orders
+pub mod Arriving

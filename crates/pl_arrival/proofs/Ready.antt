@@ -25,6 +25,7 @@ use Rattle.pl_control_plane.specs.ControlPlanes.{control_plane, no_switch}
 use Rattle.pl_control_plane.specs.HostsAtEdges.{HostsAtEdges, IsAtEdge}
 use Rattle.pl_addresses.specs.Addressed.{IsGrounded}
 use Rattle.pl_addresses.specs.InOrder.{IsInOrder}
+use Rattle.pl_arrival.specs.Orderly.{StandApart}
 use Rattle.pl_arrival.specs.Registered.{IsRegisteredBy}
 use Rattle.pl_arrival.specs.Ways.{LeadsBy, fabric_of}
 use Rattle.pl_arrival.proofs.Alike.{Alike}
@@ -34,10 +35,6 @@ use Rattle.pl_arrival.proofs.Entering.{granted_parts}
 
 abbrev pub net : WorldView → Net
 net w = record { plan = w.plan; links = w.links; view = (control_plane w).view; told = w.manager.told }
-
--- no two hosts stand at one port
-abbrev pub StandApart : List Stand → Type 0
-StandApart stands = (a b : ℕ) (stand : Stand) → slice_get stands a ≡ Some stand → slice_get stands b ≡ Some stand → a ≡ b
 
 pub record Ready (w : WorldView) : Type 0 where
   pub calm : Calm (net w)

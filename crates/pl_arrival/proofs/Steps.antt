@@ -82,7 +82,7 @@ alike_live : (b : Bool) → (if are_alike b false then Some AlreadySo else None)
 alike_live true e = refl
 alike_live false e = absurd (cc e)
 
-no_host : (w : WorldView) (h s p : ℕ) → refusal_of_move w h s p ≡ None → host_at w s p ≡ None
+pub no_host : (w : WorldView) (h s p : ℕ) → refusal_of_move w h s p ≡ None → host_at w s p ≡ None
 no_host w h s p = by (has_host w.plan h && is_for_hosts w.plan s p) (host_at w s p)
   where
     placed : (o : Option ℕ) → refusal_of_place h o ≡ None → o ≡ None

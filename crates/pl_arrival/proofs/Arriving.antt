@@ -98,6 +98,11 @@ ends_twice id e f (x ∷ journal) differ is_e is_f (inr a) (inr b) = by (ends_tw
     by less true = omega (arith, less)
     by less false = less
 
+-- the host that an entry says a frame arrived at
+abbrev pub receiver_of : Entry → ℕ
+receiver_of (Arrived id h frame) = h.0
+receiver_of entry = 0
+
 module _ (host : HostRule) (sends : HostsSendData host) (owns : HostsSendOwn host) (keeps : HostsKeepFrames host) where
   run_more : (old mid new : WorldView) (moments : List Moment) (moment : Moment) → WorldRun Loose manager_rule host old moments mid →
       Befalls Loose manager_rule host mid moment new → WorldRun Loose manager_rule host old (moments ++ moment ∷ []) new

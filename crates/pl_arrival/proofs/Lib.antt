@@ -20,3 +20,5 @@ pub mod Steps
 pub mod Grounds
 pub mod Orders
 pub mod Arriving
+pub mod Cores
+pub mod GoingOn

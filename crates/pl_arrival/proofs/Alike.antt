@@ -1,5 +1,5 @@
 -- From one moment of a settled fabric to the next no link and no place changes, so what leads on still does.
-use Rattle.std.proofs.Common.{◌≡◌, ◌⊎◌, ℕ, ◌<◌, true, Some, refl, sym, ap, ◌∙◌, subst, inl, inr}
+use Rattle.std.proofs.Common.{◌≡◌, ◌⊎◌, ℕ, ◌<◌, true, Some, sym, ap, ◌∙◌, subst, inl, inr}
 use Rattle.std.specs.Prelude.{slice_index_or}
 use Rattle.pl_frame.specs.declared.address.SwitchId.{SwitchId}
 use Rattle.pl_layouts.specs.declared.place.Place.{Place}
@@ -15,7 +15,7 @@ use Rattle.pl_control_plane.specs.ControlPlanes.{AreJoined, ControlPlane}
 use Rattle.pl_control_plane.specs.PlaneSteps.{PlaneStep}
 use Rattle.pl_control_plane.specs.PlaneSteps.PlaneStep.{Carried, Entered, Heard, Left, Managed, Ordered, Ticked}
 use Rattle.pl_control_plane.proofs.Joined.{joined_there, joined_turned}
-use Rattle.pl_arrival.specs.Ways.{AreLinked, Fabric, IsFirst, IsLast, IsTop, LeadsBy, LeadsDown}
+use Rattle.pl_arrival.specs.Ways.{AreLinked, Fabric, IsLast, IsTop, LeadsBy, LeadsDown}
 use Rattle.pl_arrival.proofs.Calm.{Calm, Net, fabric}
 
 pub record Alike (f g : Fabric) : Type 0 where

@@ -1,15 +1,14 @@
 -- A sure frame that has ended has arrived.
-use Rattle.std.proofs.Common.{◌≡◌, ◌⊎◌, ℕ, zero, suc, ◌+◌, ◌<◌, ◌≤◌, ◌==◌, nat_le, ◌&&◌, Bool, true, false, if◌then◌else◌, List, [], ◌∷◌, ◌++◌, Contains, None, refl, sym, ap, ◌∙◌, subst, inl, inr, arith, eq-eqb}
+use Rattle.std.proofs.Common.{◌≡◌, ℕ, zero, suc, ◌+◌, ◌≤◌, ◌==◌, nat_le, ◌&&◌, Bool, true, false, if◌then◌else◌, List, [], ◌∷◌, ◌++◌, Contains, refl, sym, ap, ◌∙◌, subst, inl, inr, arith, eq-eqb}
 use Rattle.std.proofs.lemmas.Bool.{cond-true}
 use Rattle.pl_pmac.specs.declared.pmac.Pmac.{Pmac}
 use Rattle.pl_wiring.specs.Plan.{Plan}
-use Rattle.pl_journal.specs.declared.cause.Cause.{Cause}
 use Rattle.pl_journal.specs.declared.entry.Entry.{Entry}
-use Rattle.pl_journal.specs.declared.entry.Entry.TheVariants.{Arrived, Dropped, Taken}
+use Rattle.pl_journal.specs.declared.entry.Entry.TheVariants.{Arrived}
 use Rattle.pl_journal.specs.Flights.{ended_by, ends, is_frame}
 use Rattle.pl_core.specs.HostDuties.{HostsKeepFrames, HostsSendData, HostsSendOwn}
 use Rattle.pl_core.specs.HostInputs.{HostRule}
-use Rattle.pl_core.proofs.Among.{Contains-of_among, IsAmong, among_left, among_of_Contains}
+use Rattle.pl_core.proofs.Among.{Contains-of_among, IsAmong, among_of_Contains}
 use Rattle.pl_manager_rule.specs.ManagerRule.{manager_rule}
 use Rattle.pl_switch_rule.specs.SwitchRule.{Loose}
 use Rattle.pl_queues.specs.Queues.{items_at}
@@ -23,17 +22,15 @@ use Rattle.pl_world.specs.Runs.{Befalls, Moment, WorldRun}
 use Rattle.pl_world.specs.Runs.Moment.{Mark, Step}
 use Rattle.pl_world.specs.Worlds.{WorldView}
 use Rattle.pl_arrival.specs.Losses.{IsLostAt}
-use Rattle.pl_arrival.specs.Orderly.{IsOrderly}
 use Rattle.pl_arrival.specs.Reach.{Reaches}
 use Rattle.pl_arrival.specs.SureFrames.{IsSure, IsSureMoment, StaysSure}
-use Rattle.pl_arrival.specs.Ways.{fabric_of}
 use Rattle.pl_arrival.proofs.Alike.{alike_by_views}
 use Rattle.pl_arrival.proofs.Grounds.{ready}
 use Rattle.pl_arrival.proofs.Orders.{run_is_orderly}
 use Rattle.pl_arrival.proofs.Ready.{Ready, net, stays_at_edge}
 use Rattle.pl_arrival.proofs.Staying.{Goes, goes_noted}
 use Rattle.pl_arrival.proofs.Steps.{step_keeps}
-use Rattle.pl_arrival.proofs.Track.{IsOnTrack, OnTrack}
+use Rattle.pl_arrival.proofs.Track.{IsOnTrack}
 use Rattle.pl_arrival.proofs.Track.OnTrack.{Came, Leaves, Under, Waits}
 use Rattle.pl_arrival.proofs.Turns.{keep}
 

@@ -1,17 +1,14 @@
 -- A switch avoids a neighbour above it for an address exactly where no way leads down from there.
-use Rattle.std.proofs.Common.{◌≡◌, ◌⊎◌, ℕ, ◌<◌, ◌==◌, ◌&&◌, not, Bool, true, false, Option, Some, None, refl, sym, ap, ◌∙◌, subst, inl, inr, eqb-true, eq-eqb, true≢false}
-use Rattle.std.specs.Prelude.{Contains}
-use Rattle.std.specs.List.{list_any}
+use Rattle.std.proofs.Common.{◌≡◌, ℕ, ◌<◌, ◌==◌, ◌&&◌, Bool, true, false, Some, refl, sym, ap, ◌∙◌, subst, eqb-true, eq-eqb}
 use Rattle.std.proofs.lemmas.Bool.{and_from, and_parts}
 use Rattle.pl_frame.specs.declared.address.SwitchId.{SwitchId}
 use Rattle.pl_pmac.specs.declared.pmac.Pmac.{Pmac}
 use Rattle.pl_layouts.specs.declared.place.Place.{Place}
-use Rattle.pl_layouts.specs.Equality.{same_switch}
 use Rattle.pl_layouts.specs.Placement.{is_known}
 use Rattle.pl_wiring.specs.declared.label.Label.{Label}
 use Rattle.pl_wiring.specs.declared.label.Label.TheVariants.{Aggregation, Core, Edge}
 use Rattle.pl_wiring.specs.Labels.{label_of, switch_count}
-use Rattle.pl_core.specs.AvoidLists.{Avoids, avoid_list, is_above, is_level_above, is_sent_down, leads_to}
+use Rattle.pl_core.specs.AvoidLists.{avoid_list, is_above, is_level_above, is_sent_down, leads_to}
 use Rattle.pl_core.specs.ManagerViews.{is_told_usable, place_of}
 use Rattle.pl_core.specs.SwitchFacts.{is_avoided}
 use Rattle.pl_core.specs.SwitchViews.{SwitchView}

@@ -1,9 +1,9 @@
 -- What is used of a settled fabric: what holds between its links, the views of its switches, and what the manager was told.
-use Rattle.std.proofs.Common.{◌≡◌, ◌⊎◌, ℕ, ◌<◌, ◌&&◌, nat_lt, Bool, true, false, Option, Some, None, refl, sym, ap, ◌∙◌, subst, inl, inr, true≢false}
+use Rattle.std.proofs.Common.{◌≡◌, ℕ, ◌<◌, ◌&&◌, nat_lt, Bool, true, false, Option, Some, None, refl, sym, ◌∙◌, subst}
 use Rattle.std.specs.Prelude.{slice_index_or}
 use Rattle.std.proofs.lemmas.Bool.{and_from, and_parts}
 use Rattle.pl_frame.specs.declared.address.SwitchId.{SwitchId}
-use Rattle.pl_wiring.specs.declared.label.Label.TheVariants.{Aggregation, Edge}
+use Rattle.pl_wiring.specs.declared.label.Label.TheVariants.{Edge}
 use Rattle.pl_wiring.specs.declared.link.Peer.{Peer}
 use Rattle.pl_wiring.specs.declared.link.Peer.TheVariants.{HostPort, Switch}
 use Rattle.pl_wiring.specs.Labels.{label_of, switch_count}

@@ -1,5 +1,5 @@
 -- A sure frame in a run of lawful cores is one in a run of the rules.
-use Rattle.std.proofs.Common.{◌≡◌, ℕ, List, [], ◌∷◌, refl, sym, subst}
+use Rattle.std.proofs.Common.{ℕ, List, [], ◌∷◌, refl, sym, subst}
 use Rattle.pl_pmac.specs.declared.pmac.Pmac.{Pmac}
 use Rattle.pl_core.specs.Accounting.{IsWithin}
 use Rattle.pl_core.specs.HostInputs.{HostRule}

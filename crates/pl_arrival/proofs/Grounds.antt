@@ -1,25 +1,25 @@
 -- In a settled fabric links, views and the manager's records agree.
-use Rattle.std.proofs.Common.{◌≡◌, ◌⊎◌, ℕ, zero, suc, ◌+◌, ◌<◌, ◌≤◌, true, List, [], ◌∷◌, map, length, get_or, Option, Some, None, slice_get, IsTrue, Contains, refl, sym, ap, ◌∙◌, subst, inl, inr, arith}
-use Rattle.std.specs.List.{AllByRecursion, list_any}
+use Rattle.std.proofs.Common.{◌≡◌, ℕ, zero, suc, ◌+◌, ◌<◌, true, List, [], ◌∷◌, length, get_or, Option, Some, slice_get, Contains, refl, sym, ap, ◌∙◌, subst, inl, inr, arith}
+use Rattle.std.specs.List.{AllByRecursion}
 use Rattle.std.proofs.lemmas.Bool.{cases_eq, cases_lt}
 use Rattle.std.proofs.lemmas.List.{get_or_default}
-use Rattle.std.proofs.lemmas.Option.{get_or_from_slice_get, same_Some, slice_get-get_or}
+use Rattle.std.proofs.lemmas.Option.{same_Some, slice_get-get_or}
 use Rattle.pl_frame.specs.declared.address.SwitchId.{SwitchId}
 use Rattle.pl_layouts.specs.Equality.{same_switch}
 use Rattle.pl_wiring.specs.declared.label.Label.TheVariants.{Edge}
 use Rattle.pl_wiring.specs.declared.link.Peer.{Peer}
 use Rattle.pl_wiring.specs.Labels.{edge_count, label_of, switch_count}
 use Rattle.pl_wiring.specs.LiveLinks.{is_live, is_live_at}
-use Rattle.pl_wiring.specs.Plan.{IsPlan, Plan}
+use Rattle.pl_wiring.specs.Plan.{IsPlan}
 use Rattle.pl_wiring.proofs.Ends.{at_contained}
 use Rattle.pl_wiring.proofs.LabelOrder.{label_of-aggregation, label_of-core}
 use Rattle.pl_wiring.proofs.Linked.{peer_is_switch}
 use Rattle.pl_core.specs.declared.messages.ToManager.{ToManager}
 use Rattle.pl_core.specs.declared.messages.ToManager.TheVariants as tell
-use Rattle.pl_core.specs.ManagerViews.{ManagerView, is_heard, is_told_usable, place_of, speakers, tellers}
+use Rattle.pl_core.specs.ManagerViews.{is_told_usable, place_of, speakers, tellers}
 use Rattle.pl_core.specs.PortRecords.{heard_id, heard_place}
 use Rattle.pl_core.specs.SwitchViews.{SwitchView}
-use Rattle.pl_core.proofs.Among.{IsAmong, among_left, any_among}
+use Rattle.pl_core.proofs.Among.{among_left, any_among}
 use Rattle.pl_queues.specs.Queues.{items_at}
 use Rattle.pl_world.specs.SettledQueues.{IsQuestion}
 use Rattle.pl_world.specs.Worlds.{WorldView}
@@ -35,7 +35,6 @@ use Rattle.pl_pods.proofs.Booted.{known_are_given}
 use Rattle.pl_pods.proofs.Numbers.{numbers_differ}
 use Rattle.pl_kept.specs.Kept.{Kept}
 use Rattle.pl_kept.proofs.Grounding.{grounded}
-use Rattle.pl_records.specs.Records.{HaveToldNeighbours, LinksAreOfNeighbours}
 use Rattle.pl_records.specs.Words.{IsNoReport}
 use Rattle.pl_records.proofs.Strangers.{neighbours_at_rest}
 use Rattle.pl_arrival.specs.Orderly.{IsOrderly}

@@ -1,22 +1,18 @@
 -- Where hosts stand: each at a port of its own, so that a frame that comes out of the port comes to the host.
-use Rattle.std.proofs.Common.{◌≡◌, ◌⊎◌, ℕ, zero, suc, ◌+◌, ◌<◌, ◌≤◌, ◌==◌, ◌&&◌, ◌||◌, nat_lt, Bool, true, false, cond, if◌then◌else◌, List, [], ◌∷◌, length, map, get_or, set, Option, Some, None, slice_get, position, option_map, refl, sym, ap, ◌∙◌, subst, inl, inr, arith, eqb-true, eq-eqb, lt-ltb, ltb-true, ltb-false, le-ltb, true≢false}
-use Rattle.std.specs.Prelude.{AllPairs}
+use Rattle.std.proofs.Common.{◌≡◌, ℕ, zero, suc, ◌<◌, ◌==◌, ◌||◌, nat_lt, Bool, true, false, cond, List, [], ◌∷◌, length, map, get_or, set, Option, Some, None, slice_get, position, option_map, refl, sym, ap, ◌∙◌, subst, inl, inr, arith, eqb-true, eq-eqb, lt-ltb, ltb-false, true≢false}
 use Rattle.std.specs.List.{position_or_len}
 use Rattle.std.proofs.lemmas.Bool.{and_from, and_parts, cases_eq, cases_lt, cond-true, or_right}
 use Rattle.std.proofs.lemmas.List.Sums.{fails_before_first, position_or_len_is}
 use Rattle.std.proofs.lemmas.Option.{get_or_from_slice_get, same_Some, slice_get-get_or, slice_get-map, slice_get_within}
 use Rattle.std.proofs.lemmas.Slice.Eq.{bytes_eq-Decides}
-use Rattle.pl_frame.specs.declared.address.Mac.{Mac}
 use Rattle.pl_frame.specs.Ethernet.{destination_of}
-use Rattle.pl_layouts.specs.Equality.{same_mac}
 use Rattle.pl_layouts.specs.Memberships.{is_group}
 use Rattle.pl_wiring.specs.declared.host.Host.{Host}
-use Rattle.pl_wiring.specs.declared.label.SwitchNo.{SwitchNo}
 use Rattle.pl_wiring.specs.Plan.{IsPlan, Plan}
 use Rattle.pl_journal.specs.Lossy.{mac_of_host}
 use Rattle.pl_world.specs.declared.stand.Stand.{Stand}
 use Rattle.pl_world.specs.Booting.{first_stand}
-use Rattle.pl_world.specs.Changes.{host_at, if_for, is_address_of, receiver, stands_at}
+use Rattle.pl_world.specs.Changes.{if_for, is_address_of, receiver, stands_at}
 use Rattle.pl_world.specs.Worlds.{WorldView}
 use Rattle.pl_arrival.specs.Orderly.{StandApart}
 use Rattle.pl_arrival.proofs.Views.{set_there}

@@ -1,5 +1,5 @@
 -- A frame that a switch passes on by a port whose link is live waits there then, whatever else the switch told and granted before.
-use Rattle.std.proofs.Common.{◌≡◌, ℕ, ◌+◌, ◌<◌, ◌&&◌, not, Bool, true, false, if◌then◌else◌, List, [], ◌∷◌, ◌++◌, length, fold, set, refl, sym, ap, ◌∙◌, subst, true≢false}
+use Rattle.std.proofs.Common.{◌≡◌, ℕ, ◌<◌, ◌&&◌, not, Bool, true, false, if◌then◌else◌, List, [], ◌∷◌, ◌++◌, length, set, refl, sym, ap, ◌∙◌, subst, true≢false}
 use Rattle.std.specs.List.{AllByRecursion}
 use Rattle.pl_wiring.specs.Index.{port_index}
 use Rattle.pl_wiring.specs.LiveLinks.{is_live_at}
@@ -12,11 +12,10 @@ use Rattle.pl_core.specs.Accounting.Speech.{Ended, Passed, Redirected, Silent, W
 use Rattle.pl_core.specs.SwitchInputs.{SwitchInput, SwitchRule}
 use Rattle.pl_core.proofs.Among.{IsAmong}
 use Rattle.pl_queues.specs.Queues.{items_at, put_at}
-use Rattle.pl_world.specs.declared.item.Item.{Item}
 use Rattle.pl_world.specs.declared.item.Item.TheVariants.{Data}
 use Rattle.pl_world.specs.declared.spoken_frame.SpokenFrame.{SpokenFrame}
 use Rattle.pl_world.specs.declared.spoken_frame.SpokenFrame.TheVariants as spoken_frame
-use Rattle.pl_world.specs.Changes.{host_of, is_failed_at}
+use Rattle.pl_world.specs.Changes.{is_failed_at}
 use Rattle.pl_world.specs.SwitchActs.{Doing, act_done, acts_done, begins, passed}
 use Rattle.pl_world.specs.WorldRule.{SwitchTurn}
 use Rattle.pl_world.specs.Worlds.{WorldView}

@@ -1,17 +1,16 @@
 -- The manager finds that a switch leads on to an edge switch exactly where a way leads down to it.
-use Rattle.std.proofs.Common.{◌≡◌, ◌⊎◌, ℕ, ◌<◌, ◌&&◌, Bool, true, false, cond, Option, Some, None, refl, sym, ap, ◌∙◌, subst, inl, inr}
+use Rattle.std.proofs.Common.{◌≡◌, ℕ, ◌<◌, ◌&&◌, Bool, true, false, cond, Some, refl, sym, ap, ◌∙◌, subst, inl, inr}
 use Rattle.std.specs.List.{list_any}
 use Rattle.std.proofs.lemmas.Bool.{and_from, and_parts}
 use Rattle.pl_frame.specs.declared.address.SwitchId.{SwitchId}
 use Rattle.pl_layouts.specs.declared.place.Place.{Place}
-use Rattle.pl_layouts.specs.Placement.{is_known}
 use Rattle.pl_wiring.specs.Labels.{switch_count}
 use Rattle.pl_core.specs.AvoidLists.{aggregation_leads_to, core_leads_to, leads_to}
 use Rattle.pl_core.specs.ManagerViews.{alive_at_level, alive_neighbours, has_level, has_pod, is_alive, is_told_usable, neighbours, place_of}
 use Rattle.pl_core.proofs.Among.{IsAmong, among_filter, among_filtered, any_among}
-use Rattle.pl_arrival.specs.Ways.{AreLinked, Fabric, IsFirst, IsLast, IsTop, LeadsDown}
+use Rattle.pl_arrival.specs.Ways.{AreLinked, IsLast, IsTop, LeadsDown}
 use Rattle.pl_arrival.proofs.Words.{any_of, is_of, known_is, known_other, near_of_usable, not_both, up_at_one, up_at_two}
-use Rattle.pl_arrival.proofs.Calm.{Calm, Net, alive_leads, back, fabric, here, there, told_alive}
+use Rattle.pl_arrival.proofs.Calm.{Calm, Net, alive_leads, fabric, there, told_alive}
 
 module _ (n : Net) (calm : Calm n) where
   abbrev id : ℕ → SwitchId

@@ -1,6 +1,5 @@
 -- A switch that gets a sure frame over a link passes it on, and it is on its track still.
-use Rattle.std.proofs.Common.{◌≡◌, ◌⊎◌, ℕ, ◌+◌, ◌<◌, ◌≤◌, ◌&&◌, Bool, true, false, List, [], ◌∷◌, ◌++◌, length, set, ◌%◌, Option, Some, None, is_none, option_map, slice_get, slice_index, eqb-true, refl, sym, ap, ◌∙◌, subst, inl, inr, arith}
-use Rattle.std.proofs.Math.ListN.{length-set}
+use Rattle.std.proofs.Common.{◌≡◌, ℕ, ◌<◌, ◌≤◌, Bool, true, false, List, [], ◌∷◌, ◌++◌, length, ◌%◌, Option, Some, None, is_none, option_map, slice_get, slice_index, eqb-true, refl, sym, ap, ◌∙◌, subst, inl, inr}
 use Rattle.std.proofs.lemmas.Bool.{and_left}
 use Rattle.std.proofs.lemmas.Option.{get_or_from_slice_get, same_Some, slice_get_within}
 use Rattle.pl_frame.specs.declared.address.Mac.{Mac}
@@ -28,13 +27,12 @@ use Rattle.pl_core.specs.SwitchInputs.{SwitchInput}
 use Rattle.pl_core.specs.SwitchInputs.SwitchInput.{Comes}
 use Rattle.pl_core.specs.SwitchViews.{SwitchView}
 use Rattle.pl_core.proofs.Among.{IsAmong}
-use Rattle.pl_steps.specs.Steps.{SwitchStep, does}
+use Rattle.pl_steps.specs.Steps.{SwitchStep}
 use Rattle.pl_switch_rule.specs.declared.came.Came.{Came}
 use Rattle.pl_switch_rule.specs.declared.came.Came.TheVariants.{FromAbove, FromBelow}
-use Rattle.pl_switch_rule.specs.Delivering.{destination}
 use Rattle.pl_switch_rule.specs.Forwarding.{came_between, came_by, candidates_by}
 use Rattle.pl_switch_rule.specs.Granting.{granted, is_local}
-use Rattle.pl_switch_rule.specs.SwitchRule.{Loose, switch_step}
+use Rattle.pl_switch_rule.specs.SwitchRule.{Loose}
 use Rattle.pl_queues.specs.Queues.{items_at}
 use Rattle.pl_world.specs.declared.item.Item.{Item}
 use Rattle.pl_world.specs.declared.item.Item.TheVariants.{Data}
@@ -43,20 +41,19 @@ use Rattle.pl_world.specs.WorldRule.{SwitchTurn}
 use Rattle.pl_world.specs.Worlds.{WorldView}
 use Rattle.pl_control_plane.specs.ControlPlanes.{control_plane}
 use Rattle.pl_control_plane.proofs.Joined.{joined_there}
-use Rattle.pl_arrival.specs.Reach.{Reaches}
 use Rattle.pl_arrival.specs.Registered.{IsRegisteredBy}
-use Rattle.pl_arrival.specs.Ways.{AreLinked, GoesOn, IsFirst, IsLast, IsTop, LeadsBy, fabric_of}
+use Rattle.pl_arrival.specs.Ways.{GoesOn, IsLast, IsTop, LeadsBy, fabric_of}
 use Rattle.pl_arrival.proofs.Alike.{Alike, still_by}
 use Rattle.pl_arrival.proofs.Calm.{place_of_port, turned}
 use Rattle.pl_arrival.proofs.Entering.{local_is_placed}
 use Rattle.pl_arrival.proofs.Landing.{AreMild, lands}
 use Rattle.pl_arrival.proofs.Passing.{ComesWell, arrives_over_link, chosen, goes_by}
-use Rattle.pl_arrival.proofs.Ready.{Ready, at_edge, edge_is, edge_within, free_port, home, index_within, is_there, live_port, local_there, net, no_trap, view_is}
+use Rattle.pl_arrival.proofs.Ready.{Ready, at_edge, edge_within, free_port, home, index_within, live_port, local_there, net, no_trap, view_is}
 use Rattle.pl_arrival.proofs.Rows.{first_goes_on, last_goes_down, last_goes_up_and_down, top_goes_on}
-use Rattle.pl_arrival.proofs.Track.{IsHeaded, IsOnTrack, OnTrack, still_headed}
+use Rattle.pl_arrival.proofs.Track.{IsHeaded, IsOnTrack, still_headed}
 use Rattle.pl_arrival.proofs.Track.IsHeaded.{FromEdge, FromFirst, FromLast, FromTop}
 use Rattle.pl_arrival.proofs.Track.OnTrack.{Leaves, Under}
-use Rattle.pl_arrival.proofs.Words.{known_other, level_differs}
+use Rattle.pl_arrival.proofs.Words.{known_other}
 
 some_is : {X : Type 0} (o : Option X) (y : X) → o ≡ Some y → is_none o ≡ false
 some_is o y e = ap is_none e

@@ -1,5 +1,5 @@
 -- Each moment of a run from the beginning is orderly.
-use Rattle.std.proofs.Common.{◌≡◌, ◌⊎◌, ℕ, zero, suc, ◌+◌, ◌<◌, ◌||◌, Bool, true, false, List, [], ◌∷◌, ◌++◌, length, set, Option, Some, None, slice_get, position, IsTrue, Contains, refl, sym, ap, ◌∙◌, subst, inl, inr, arith}
+use Rattle.std.proofs.Common.{◌≡◌, ℕ, zero, suc, ◌+◌, List, [], ◌∷◌, set, Option, Some, None, slice_get, IsTrue, Contains, refl, sym, ap, ◌∙◌, subst, inl, inr, arith}
 use Rattle.std.proofs.lemmas.Bool.{or_cases}
 use Rattle.pl_frame.specs.declared.address.SwitchId.{SwitchId}
 use Rattle.pl_layouts.specs.Equality.{same_switch}
@@ -26,25 +26,23 @@ use Rattle.pl_world.specs.declared.item.Item.TheVariants.{Control, Data}
 use Rattle.pl_world.specs.declared.limits.Limits.{Limits}
 use Rattle.pl_world.specs.declared.stand.Stand.{Stand}
 use Rattle.pl_world.specs.Booting.{CanBegin, booted}
-use Rattle.pl_world.specs.Changes.{out_of, stands_at}
+use Rattle.pl_world.specs.Changes.{out_of}
 use Rattle.pl_world.specs.LinksAndMoves.{host_moved, item_lost, link_between}
 use Rattle.pl_world.specs.OtherActs.{heard_after_tick}
-use Rattle.pl_world.specs.Refusals.{refusal, refusal_of_event, refusal_of_move}
-use Rattle.pl_world.specs.Runs.{Befalls, Moment, WorldRun}
+use Rattle.pl_world.specs.Refusals.{refusal_of_event, refusal_of_move}
+use Rattle.pl_world.specs.Runs.{Moment, WorldRun}
 use Rattle.pl_world.specs.Runs.Moment.{Mark, Step}
-use Rattle.pl_world.specs.WorldRule.{DeliversFromHost, DeliversFromManager, DeliversOut, DeliversToManager, Fails, Goes as MovesOn, Happens, IsRepaired, Loses, WorldStep}
+use Rattle.pl_world.specs.WorldRule.{DeliversFromHost, DeliversFromManager, DeliversOut, DeliversToManager, Fails, Goes as MovesOn, IsRepaired, Loses, WorldStep}
 use Rattle.pl_world.specs.Worlds.{WorldView}
 use Rattle.pl_world.proofs.StepBalances.{event_is_not_refused}
-use Rattle.pl_control_plane.specs.ControlPlanes.{ControlPlane, control_plane}
-use Rattle.pl_control_plane.specs.PlaneSteps.{LosesNoWord, PlaneStep}
+use Rattle.pl_control_plane.specs.ControlPlanes.{ControlPlane}
+use Rattle.pl_control_plane.specs.PlaneSteps.{PlaneStep}
 use Rattle.pl_control_plane.specs.PlaneSteps.PlaneStep.{Carried, Entered, Heard, Left, Managed, Ordered, Ticked}
 use Rattle.pl_kept.proofs.Keeping.{run_keeps_all}
-use Rattle.pl_records.specs.Records.{NamesNeighbours}
 use Rattle.pl_records.proofs.LinkRuns.{held_from, run_neighbours}
-use Rattle.pl_wiring.specs.Plan.{IsPlan}
 use Rattle.pl_arrival.specs.Orderly.{HearsWiring, IsOrderly, StandApart}
 use Rattle.pl_arrival.proofs.Hosting.{first_apart, moved_apart, somebody}
-use Rattle.pl_arrival.proofs.Staying.{Goes, goes_host, goes_manager, goes_noted, goes_plays, goes_self, goes_switch}
+use Rattle.pl_arrival.proofs.Staying.{Goes, goes_host, goes_manager, goes_plays, goes_switch}
 use Rattle.pl_arrival.proofs.Steps.{no_host}
 use Rattle.pl_arrival.proofs.Turns.{comes_in_goes, comes_over_goes}
 

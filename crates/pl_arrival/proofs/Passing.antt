@@ -1,25 +1,23 @@
 -- What a switch does with a frame that is under way: it passes it on by a port that leads on, or out to its host.
-use Rattle.std.proofs.Common.{◌≡◌, ◌⊎◌, ℕ, zero, suc, ◌+◌, ◌<◌, ◌||◌, nat_lt, not, Bool, true, false, if◌then◌else◌, List, [], ◌∷◌, ◌++◌, Option, Some, None, is_none, refl, sym, ap, ◌∙◌, subst, inl, inr, arith}
+use Rattle.std.proofs.Common.{◌≡◌, ℕ, zero, suc, ◌+◌, ◌<◌, ◌||◌, not, Bool, true, false, if◌then◌else◌, List, [], ◌∷◌, Some, None, is_none, refl, sym, ap, ◌∙◌, inl, inr, arith}
 use Rattle.std.specs.List.{filter, range_with_len}
 use Rattle.std.proofs.lemmas.Bool.{cond-false, cond-true}
 use Rattle.pl_frame.specs.Ethernet.{destination_of}
 use Rattle.pl_pmac.specs.declared.pmac.Pmac.{Pmac}
-use Rattle.pl_pmac.specs.Pmac.{pmac_of}
 use Rattle.pl_layouts.specs.Control.{is_control}
 use Rattle.pl_layouts.specs.Frames.{arriving}
 use Rattle.pl_layouts.specs.Memberships.{is_group}
 use Rattle.pl_layouts.specs.Placement.{is_placed}
 use Rattle.pl_core.specs.declared.acts.Act.TheVariants.{Pass}
 use Rattle.pl_core.specs.declared.switch_records.Grant.{Grant}
-use Rattle.pl_core.specs.declared.trap.Trap.{Trap}
 use Rattle.pl_core.specs.PortRecords.{is_open_to_hosts, place_at, port_of, ports_of_switch}
 use Rattle.pl_core.specs.SwitchInputs.SwitchInput.{Comes}
 use Rattle.pl_core.specs.SwitchViews.{SwitchView}
 use Rattle.pl_core.proofs.Among.{IsAmong, among_filter, among_filtered, among_of_Contains}
 use Rattle.pl_steps.specs.Steps.{SwitchStep, does, ◌▹◌}
 use Rattle.pl_switch_rule.specs.declared.came.Came.{Came}
-use Rattle.pl_switch_rule.specs.Delivering.{arrives_home, comes_home, delivers, delivers_or_redirects, delivers_to, destination, grant_trap, tells_sender, trap_for}
-use Rattle.pl_switch_rule.specs.Forwarding.{Choice, came_between, came_by, candidates, candidates_by, forwards, is_candidate, leaves_by}
+use Rattle.pl_switch_rule.specs.Delivering.{arrives_home, delivers_or_redirects, delivers_to, destination, grant_trap, tells_sender, trap_for}
+use Rattle.pl_switch_rule.specs.Forwarding.{Choice, came_by, candidates, candidates_by, forwards, is_candidate, leaves_by}
 use Rattle.pl_switch_rule.specs.Granting.{granted, is_local}
 use Rattle.pl_switch_rule.specs.GroupForwarding.{forwards_group}
 use Rattle.pl_switch_rule.specs.Intake.{comes_from_host}

@@ -1,5 +1,5 @@
 -- At each kind of place on its way a frame has a port by which it may leave, and each such port leads to a switch of the next kind.
-use Rattle.std.proofs.Common.{◌≡◌, ◌⊎◌, ℕ, ◌<◌, ◌&&◌, not, Bool, true, false, cond, Option, Some, None, refl, sym, ap, ◌∙◌, subst, inl, inr, true≢false}
+use Rattle.std.proofs.Common.{◌≡◌, ◌⊎◌, ℕ, ◌<◌, ◌&&◌, not, true, false, cond, Option, Some, None, refl, sym, ap, ◌∙◌, subst, inl, inr, true≢false}
 use Rattle.std.proofs.lemmas.Bool.{and_from, and_left, and_parts, and_right, not-true, not_from_false}
 use Rattle.pl_pmac.specs.declared.pmac.Pmac.{Pmac}
 use Rattle.pl_layouts.specs.declared.place.Place.{Place}
@@ -7,18 +7,17 @@ use Rattle.pl_layouts.specs.Placement.{is_known}
 use Rattle.pl_wiring.specs.declared.label.Label.{Label}
 use Rattle.pl_wiring.specs.declared.label.Label.TheVariants.{Aggregation, Core, Edge}
 use Rattle.pl_wiring.specs.FatTree.{IsBelow}
-use Rattle.pl_wiring.specs.Labels.{label_of, number_of, switch_count}
+use Rattle.pl_wiring.specs.Labels.{label_of, number_of}
 use Rattle.pl_wiring.proofs.LabelOrder.{number_of-label_of}
 use Rattle.pl_core.specs.AvoidLists.{is_level_above, is_sent_down, leads_to}
 use Rattle.pl_core.specs.ManagerViews.{has_level, has_pod, place_of}
 use Rattle.pl_core.specs.PortRecords.{id_at, is_usable, is_usable_to, place_at}
 use Rattle.pl_core.specs.SwitchFacts.{is_avoided}
-use Rattle.pl_switch_rule.specs.declared.came.Came.{Came}
 use Rattle.pl_switch_rule.specs.declared.came.Came.TheVariants.{FromAbove, FromBelow, FromHost}
 use Rattle.pl_switch_rule.specs.Forwarding.{is_candidate, leads_from_aggregation, leads_from_core, leads_from_edge, leads_to_pod, leads_to_position, leads_up}
 use Rattle.pl_switch_rule.specs.Granting.{is_local}
 use Rattle.pl_control_plane.proofs.Joined.{joined_labels}
-use Rattle.pl_places.specs.Known.{level_of, pod_of, told_at}
+use Rattle.pl_places.specs.Known.{level_of, pod_of}
 use Rattle.pl_places.proofs.Neighbours.{near_edge}
 use Rattle.pl_arrival.specs.Ways.{AreLinked, GoesOn, IsFirst, IsLast, IsTop, LeadsBy, LeadsDown}
 use Rattle.pl_arrival.proofs.Words.{at_aggregation, at_core, at_edge, is_of, known_is, known_other, level_differs}

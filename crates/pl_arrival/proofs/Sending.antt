@@ -1,6 +1,6 @@
 -- A sure frame of a host comes at its edge switch, which sends it on: it is on its track then.
-use Rattle.std.proofs.Common.{◌≡◌, ◌⊎◌, ℕ, ◌+◌, ◌<◌, ◌≤◌, ◌||◌, Bool, true, false, List, [], ◌∷◌, ◌++◌, length, Option, Some, None, is_none, slice_get, refl, sym, ap, ◌∙◌, subst, inl, inr, arith, true≢false}
-use Rattle.std.proofs.lemmas.Bool.{or_from, or_right}
+use Rattle.std.proofs.Common.{◌≡◌, ℕ, ◌<◌, ◌≤◌, ◌||◌, Bool, true, false, List, [], ◌∷◌, ◌++◌, length, Option, Some, None, is_none, slice_get, refl, sym, ap, ◌∙◌, subst, true≢false}
+use Rattle.std.proofs.lemmas.Bool.{or_right}
 use Rattle.std.proofs.lemmas.Option.{same_Some}
 use Rattle.pl_frame.specs.declared.address.Mac.{Mac}
 use Rattle.pl_frame.specs.Ethernet.{destination_of, source_of}
@@ -13,12 +13,11 @@ use Rattle.pl_layouts.specs.Placement.{is_known}
 use Rattle.pl_layouts.proofs.Arrived.{destination_of-arriving}
 use Rattle.pl_wiring.specs.declared.link.Peer.TheVariants.{HostPort}
 use Rattle.pl_wiring.specs.Index.{port_index}
-use Rattle.pl_wiring.specs.Labels.{edge_count, label_of, switch_count}
+use Rattle.pl_wiring.specs.Labels.{edge_count, switch_count}
 use Rattle.pl_wiring.specs.Peers.{peer_of}
 use Rattle.pl_wiring.specs.Plan.{Plan}
 use Rattle.pl_wiring.proofs.LabelOrder.{label_of-edge}
 use Rattle.pl_journal.specs.declared.entry.Entry.{Entry}
-use Rattle.pl_journal.specs.Lossy.{mac_of_host}
 use Rattle.pl_core.specs.declared.acts.Act.{Act}
 use Rattle.pl_core.specs.declared.acts.Act.TheVariants.{Pass}
 use Rattle.pl_core.specs.Accounting.{IsShaped}
@@ -28,11 +27,10 @@ use Rattle.pl_core.specs.SwitchViews.{SwitchView}
 use Rattle.pl_core.proofs.Among.{IsAmong}
 use Rattle.pl_steps.specs.Steps.{SwitchStep}
 use Rattle.pl_switch_rule.specs.declared.came.Came.TheVariants.{FromHost}
-use Rattle.pl_switch_rule.specs.Delivering.{destination}
 use Rattle.pl_switch_rule.specs.Forwarding.{candidates_by}
 use Rattle.pl_switch_rule.specs.Granting.{granted, is_local}
 use Rattle.pl_switch_rule.specs.Intake.{sends_in, with_pmac}
-use Rattle.pl_switch_rule.specs.SwitchRule.{Loose, switch_step}
+use Rattle.pl_switch_rule.specs.SwitchRule.{Loose}
 use Rattle.pl_queues.specs.Queues.{items_at}
 use Rattle.pl_world.specs.declared.item.Item.{Item}
 use Rattle.pl_world.specs.declared.item.Item.TheVariants.{Data}
@@ -41,7 +39,6 @@ use Rattle.pl_world.specs.Changes.{is_failed_at}
 use Rattle.pl_world.specs.WorldRule.{SwitchTurn}
 use Rattle.pl_world.specs.Worlds.{WorldView}
 use Rattle.pl_world.proofs.Counts.{all_found}
-use Rattle.pl_control_plane.specs.ControlPlanes.{control_plane}
 use Rattle.pl_control_plane.proofs.Joined.{joined_there}
 use Rattle.pl_places.specs.Known.{level_of}
 use Rattle.pl_arrival.specs.Reach.{IsPlainTo, Reaches}
@@ -55,7 +52,7 @@ use Rattle.pl_arrival.proofs.Ready.{Ready, at_edge, edge_is, edge_within, free_p
 use Rattle.pl_arrival.proofs.Rows.{edge_goes_on}
 use Rattle.pl_arrival.proofs.Starting.{starts}
 use Rattle.pl_arrival.proofs.Staying.{Goes, goes_switch}
-use Rattle.pl_arrival.proofs.Track.{IsOnTrack, OnTrack}
+use Rattle.pl_arrival.proofs.Track.{IsOnTrack}
 use Rattle.pl_arrival.proofs.Track.IsHeaded.{FromEdge}
 use Rattle.pl_arrival.proofs.Track.OnTrack.{Leaves, Under}
 use Rattle.pl_arrival.proofs.Views.{view_after}

@@ -1,5 +1,5 @@
 -- Where a live path goes up from one edge switch and down to another, the first link of it leads to a switch from which a way leads down.
-use Rattle.std.proofs.Common.{◌≡◌, ◌≢◌, ◌⊎◌, ℕ, ◌<◌, ◌≤◌, ◌++◌, true, List, [], ◌∷◌, length, reverse, get_or, slice_get, Option, Some, None, refl, sym, ap, ◌∙◌, subst, inl, inr, arith, Any, AllPairs, Contains}
+use Rattle.std.proofs.Common.{◌≡◌, ℕ, ◌≤◌, ◌++◌, true, List, [], ◌∷◌, length, reverse, slice_get, Option, Some, None, refl, sym, ap, ◌∙◌, subst, inl, inr, arith}
 use Rattle.std.proofs.lemmas.Option.{same_Some}
 use Rattle.pl_pmac.specs.declared.pmac.Pmac.{Pmac}
 use Rattle.pl_layouts.specs.declared.place.Place.{Place}
@@ -15,10 +15,10 @@ use Rattle.pl_wiring.proofs.Ends.{at_contained}
 use Rattle.pl_wiring.proofs.LabelOrder.{label_of-number_of}
 use Rattle.pl_wiring.proofs.Linked.{peer_is_switch}
 use Rattle.pl_control_plane.proofs.Joined.{joined_labels}
-use Rattle.pl_places.specs.Known.{level_of, pod_of}
+use Rattle.pl_places.specs.Known.{level_of}
 use Rattle.pl_places.proofs.Neighbours.{near_edge}
 use Rattle.pl_arrival.specs.Ways.{AreLinked, IsLast, LeadsDown}
-use Rattle.pl_arrival.proofs.Calm.{Calm, Net, back, fabric, here, place_of_port, there}
+use Rattle.pl_arrival.proofs.Calm.{Calm, Net, back, fabric, place_of_port, there}
 use Rattle.pl_arrival.proofs.Avoiding.{IsHome}
 use Rattle.pl_arrival.proofs.Rows.{one_below, pod_above}
 

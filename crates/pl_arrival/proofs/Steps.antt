@@ -1,5 +1,5 @@
 -- Each step between two sure moments keeps a frame on its track.
-use Rattle.std.proofs.Common.{◌≡◌, ◌⊎◌, ℕ, ◌+◌, ◌<◌, ◌==◌, ◌&&◌, nat_lt, not, Bool, true, false, if◌then◌else◌, List, [], ◌∷◌, ◌++◌, find, fold, get_or, set, Option, Some, None, slice_get, refl, sym, ap, ◌∙◌, subst, inl, inr, arith, ltb-true, true≢false}
+use Rattle.std.proofs.Common.{◌≡◌, ℕ, ◌+◌, ◌<◌, ◌==◌, ◌&&◌, nat_lt, Bool, true, false, if◌then◌else◌, List, [], ◌∷◌, fold, set, Option, Some, None, slice_get, refl, sym, ap, ◌∙◌, subst, inl, inr, ltb-true, true≢false}
 use Rattle.std.proofs.lemmas.Bool.{and_parts, cases_eq}
 use Rattle.std.proofs.lemmas.List.{get_or-set_other}
 use Rattle.std.proofs.lemmas.Nat.{same_from_place}
@@ -8,17 +8,14 @@ use Rattle.pl_pmac.specs.declared.pmac.Pmac.{Pmac}
 use Rattle.pl_wiring.specs.declared.host.Host.{Host}
 use Rattle.pl_wiring.specs.declared.label.SwitchNo.{SwitchNo}
 use Rattle.pl_wiring.specs.declared.link.Link.{Link}
-use Rattle.pl_wiring.specs.declared.link.Peer.{Peer}
 use Rattle.pl_wiring.specs.declared.link.Peer.TheVariants.{HostPort, Switch}
 use Rattle.pl_wiring.specs.Index.{port_index}
-use Rattle.pl_wiring.specs.Labels.{switch_count}
 use Rattle.pl_wiring.specs.LiveLinks.{is_live, is_live_at}
 use Rattle.pl_wiring.specs.Peers.{peer_of}
 use Rattle.pl_wiring.specs.Plan.{Plan}
 use Rattle.pl_wiring.proofs.Linked.{peer_is_switch}
 use Rattle.pl_wiring.proofs.Live.{changes}
 use Rattle.pl_journal.specs.declared.entry.Entry.{Entry}
-use Rattle.pl_journal.specs.declared.cause.Cause.TheVariants as cause
 use Rattle.pl_journal.specs.Places.{are_alike}
 use Rattle.pl_core.specs.HostDuties.{HostsKeepFrames}
 use Rattle.pl_core.specs.HostInputs.{HostAnswer, HostInput, HostRule}
@@ -36,7 +33,6 @@ use Rattle.pl_manager_rule.specs.ManagerRule.{manager_rule}
 use Rattle.pl_switch_rule.specs.SwitchRule.{Loose}
 use Rattle.pl_switch_rule.proofs.AccountedSteps.{loose_steps_are_accounted}
 use Rattle.pl_queues.specs.Queues.{items_at}
-use Rattle.pl_world.specs.declared.error.StepError.{StepError}
 use Rattle.pl_world.specs.declared.error.StepError.TheVariants.{AlreadySo, NoSuch, Occupied}
 use Rattle.pl_world.specs.declared.event.Event.{Event}
 use Rattle.pl_world.specs.declared.event.Event.TheVariants as event
@@ -44,15 +40,15 @@ use Rattle.pl_world.specs.declared.event.QueueName.TheVariants as queue
 use Rattle.pl_world.specs.declared.item.Item.{Item}
 use Rattle.pl_world.specs.declared.item.Item.TheVariants.{Control, Data}
 use Rattle.pl_world.specs.declared.stand.Stand.{Stand}
-use Rattle.pl_world.specs.Changes.{ends_of, host_at, out_of}
-use Rattle.pl_world.specs.LinksAndMoves.{host_moved, item_lost, joins, link_between, link_failed, link_repaired}
+use Rattle.pl_world.specs.Changes.{host_at, out_of}
+use Rattle.pl_world.specs.LinksAndMoves.{host_moved, item_lost, joins, link_between}
 use Rattle.pl_world.specs.OtherActs.{heard_after_tick, host_act_done}
 use Rattle.pl_world.specs.Refusals.{has_host, has_port, has_queue, has_switch, is_filled, is_for_hosts, refusal, refusal_of_event, refusal_of_link, refusal_of_move, refusal_of_place, refusal_of_queue}
-use Rattle.pl_world.specs.WorldRule.{DeliversFromHost, DeliversFromManager, DeliversOut, DeliversToManager, Fails, Goes as MovesOn, Happens, HostTurn, IsRepaired, Loses, WorldStep}
+use Rattle.pl_world.specs.WorldRule.{DeliversFromHost, DeliversFromManager, DeliversOut, DeliversToManager, Fails, Goes as MovesOn, HostTurn, IsRepaired, Loses, WorldStep}
 use Rattle.pl_world.specs.Worlds.{WorldView}
 use Rattle.pl_world.proofs.Counts.{all_found}
 use Rattle.pl_world.proofs.StepBalances.{event_is_not_refused, found_contained}
-use Rattle.pl_control_plane.specs.ControlPlanes.{ControlPlane, control_plane}
+use Rattle.pl_control_plane.specs.ControlPlanes.{control_plane}
 use Rattle.pl_control_plane.specs.HostsAtEdges.{IsAtEdge}
 use Rattle.pl_control_plane.specs.PlaneSteps.{PlaneStep}
 use Rattle.pl_control_plane.proofs.Joined.{joined_there}
@@ -65,7 +61,7 @@ use Rattle.pl_arrival.proofs.Alike.{Alike, alike_by_manager, alike_by_views, one
 use Rattle.pl_arrival.proofs.Hosting.{somebody}
 use Rattle.pl_arrival.proofs.Ready.{Ready, at_edge, net, stays_at_edge}
 use Rattle.pl_arrival.proofs.Staying.{Goes, goes_host, goes_manager, goes_noted, goes_plays, goes_self, goes_switch, goes_then}
-use Rattle.pl_arrival.proofs.Track.{IsOnTrack, IsTakenLeaving, IsTakenUnder, OnTrack, split_out, still_on}
+use Rattle.pl_arrival.proofs.Track.{IsOnTrack, OnTrack, split_out, still_on}
 use Rattle.pl_arrival.proofs.Track.OnTrack.{Came, Leaves, Under, Waits}
 use Rattle.pl_arrival.proofs.Turns.{comes_in_goes, comes_over_goes, from_host, keep, out_of_port}
 use Rattle.pl_arrival.proofs.Views.{set_there}

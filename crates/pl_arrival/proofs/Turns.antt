@@ -1,5 +1,5 @@
 -- At each delivery out of a queue a sure frame stays on its track.
-use Rattle.std.proofs.Common.{◌≡◌, ◌⊎◌, ℕ, zero, suc, ◌+◌, ◌*◌, ◌<◌, ◌≤◌, ◌&&◌, not, Bool, true, false, List, [], ◌∷◌, ◌++◌, length, get_or, set, Option, Some, None, slice_get, refl, sym, ap, ◌∙◌, subst, inl, inr, arith}
+use Rattle.std.proofs.Common.{◌≡◌, ℕ, zero, suc, ◌<◌, not, false, List, [], ◌∷◌, length, set, Option, Some, None, slice_get, refl, sym, ap, ◌∙◌, subst, inl, inr, arith}
 use Rattle.std.specs.List.{AllByRecursion}
 use Rattle.std.proofs.Math.ListN.{length-set}
 use Rattle.std.proofs.lemmas.Bool.{and_parts, cond-true}
@@ -11,19 +11,17 @@ use Rattle.pl_frame.specs.Ethernet.{destination_of, source_of}
 use Rattle.pl_pmac.specs.declared.pmac.Pmac.{Pmac}
 use Rattle.pl_layouts.specs.Equality.{same_mac}
 use Rattle.pl_layouts.specs.Frames.{packet_in}
-use Rattle.pl_layouts.specs.Memberships.{flood, group_of, is_group}
+use Rattle.pl_layouts.specs.Memberships.{group_of, is_group}
 use Rattle.pl_wiring.specs.declared.host.Host.{Host}
-use Rattle.pl_wiring.specs.declared.label.SwitchNo.{SwitchNo}
 use Rattle.pl_wiring.specs.declared.link.Peer.{Peer}
 use Rattle.pl_wiring.specs.declared.link.Peer.TheVariants.{HostPort, Switch}
 use Rattle.pl_wiring.specs.Index.{port_index}
 use Rattle.pl_wiring.specs.Peers.{peer_of}
 use Rattle.pl_wiring.specs.Plan.{Plan}
-use Rattle.pl_journal.specs.declared.entry.Entry.{Entry}
 use Rattle.pl_journal.specs.declared.entry.Entry.TheVariants.{Arrived}
 use Rattle.pl_core.specs.declared.reception.Reception.{Reception}
 use Rattle.pl_core.specs.declared.reception.Reception.TheVariants.{Kept}
-use Rattle.pl_core.specs.HostDuties.{HostsKeepFrames, is_of, is_own, is_routed}
+use Rattle.pl_core.specs.HostDuties.{HostsKeepFrames, is_of, is_routed}
 use Rattle.pl_core.specs.HostInputs.{HostRule}
 use Rattle.pl_core.specs.HostInputs.HostAnswer.{Received}
 use Rattle.pl_core.specs.HostInputs.HostInput.{Receives}
@@ -44,7 +42,6 @@ use Rattle.pl_world.proofs.Counts.{all_at}
 use Rattle.pl_control_plane.proofs.Joined.{joined_there}
 use Rattle.pl_addresses.specs.OwnFrames.{IsOwnItem}
 use Rattle.pl_arrival.specs.Reach.{Reaches}
-use Rattle.pl_arrival.specs.Registered.{IsRegisteredBy}
 use Rattle.pl_arrival.specs.Ways.{fabric_of}
 use Rattle.pl_arrival.proofs.Alike.{Alike}
 use Rattle.pl_arrival.proofs.Hosting.{comes_to}

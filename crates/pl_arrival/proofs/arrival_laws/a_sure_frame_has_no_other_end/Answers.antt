@@ -1,5 +1,4 @@
-use Rattle.std.proofs.Common.{◌≡◌, ℕ, List, refl, ap, eq-eqb}
-use Rattle.pl_journal.specs.declared.entry.Entry.{Entry}
+use Rattle.std.proofs.Common.{refl, ap, eq-eqb}
 use Rattle.pl_journal.specs.declared.entry.Entry.TheVariants.{Arrived, Dropped, Taken}
 use Rattle.pl_world.specs.Booting.{booted}
 use Rattle.pl_world.specs.Changes.{host_no}

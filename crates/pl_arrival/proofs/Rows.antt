@@ -116,9 +116,13 @@ module _ (n : Net) (calm : Calm n) where
         let both = and_parts (is_usable_to (n.view s) y p) (not (is_avoided (n.view s) (id_at (n.view s) p) to.pod to.position)) h in
         let at = to_switch s y p both.0 in
         let free = not-true (is_avoided (n.view s) (id_at (n.view s) p) to.pod to.position) both.1 in
-        let linked : AreLinked (fabric n) s at.0 = record { port = p; by = at.1 } in
-        (at.0, at.1, at.2, leads_unless n calm to t home s at.0 x y linked level at.2 above other not_down
-        (subst (λ o. is_avoided (n.view s) o to.pod to.position ≡ false) (id_of_port n calm s p at.0 at.1) free))
+        let linked : AreLinked (fabric n) s at.0 = record { port = p; by = at.1 } in (
+          at.0,
+          at.1,
+          at.2,
+          leads_unless n calm to t home s at.0 x y linked level at.2 above other not_down
+              (subst (λ o. is_avoided (n.view s) o to.pod to.position ≡ false) (id_of_port n calm s p at.0 at.1) free),
+        )
 
     -- ---- the edge switch where a frame begins
     pub edge_goes_on : (s own first : ℕ) → (n.view s).place.level ≡ Some 0 → (n.view s).place.pod ≡ Some own → is_local (n.view s) to ≡ false →

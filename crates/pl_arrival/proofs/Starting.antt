@@ -101,16 +101,19 @@ module _ (n : Net) (calm : Calm n) where
           let place_b = place_of_port n calm c down_b.port b down_b.by in
           let at_two = level_is c 2 two ((calm.full c (there n calm a c to_c.linked)).two down_a.port down_b.port own to.pod
           (ap (λ (p : Place). p.level) place_a ∙ first.level) (ap (λ (p : Place). p.level) place_b ∙ up.level)
-          (ap (λ (p : Place). p.pod) place_a ∙ first.pod) (ap (λ (p : Place). p.pod) place_b ∙ up.pod) other) in
-          (a, to_a.linked, inr (record {
-            level = first.level;
-            own = own;
-            pod_is = first.pod;
-            another = other;
-            top = c;
-            linked = to_c.linked;
-            is_top = record { level = at_two; last = b; linked = down_b; is_last = last };
-          }))
+          (ap (λ (p : Place). p.pod) place_a ∙ first.pod) (ap (λ (p : Place). p.pod) place_b ∙ up.pod) other) in (
+            a,
+            to_a.linked,
+            inr (record {
+              level = first.level;
+              own = own;
+              pod_is = first.pod;
+              another = other;
+              top = c;
+              linked = to_c.linked;
+              is_top = record { level = at_two; last = b; linked = down_b; is_last = last };
+            }),
+          )
 
       -- over a path with a switch at the top
       pub starts : (end : SwitchNo) (path : List SwitchNo) (from : SwitchNo) → from.0 ≡ s → end.0 ≡ t → (s ≡ t → ⊥) → IsLivePath n.plan n.links from end path → First

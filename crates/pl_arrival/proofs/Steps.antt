@@ -258,10 +258,12 @@ module _ (host : HostRule) (keeps : HostsKeepFrames host) (old new : WorldView) 
     repairs : (steps : ℕ) (o : Option Link) → IsRepaired (stepped steps) o new → Both
     repairs steps None is = absurd is
     repairs steps (Some link) is =
-        let alike = alike_by_views (net old) (net new) r.calm ahead.calm (ap (λ (w : WorldView). w.plan) is) (λ s. ap (λ (w : WorldView). (control_plane w).view s) is) in
-        (alike, still_on (fabric_of old) (fabric_of new) r.calm.is alike old.from_hosts old.out new.from_hosts new.out old.journal new.journal
-        (λ i y j. subst (λ (w : WorldView). IsAmong y (items_at w.from_hosts i)) (sym is) j) (λ i y j. subst (λ (w : WorldView). IsAmong y (items_at w.out i)) (sym is) j)
-        (λ e j. subst (λ (w : WorldView). IsAmong e w.journal) (sym is) (among_left e old.journal _ j)) h g end x id on)
+        let alike = alike_by_views (net old) (net new) r.calm ahead.calm (ap (λ (w : WorldView). w.plan) is) (λ s. ap (λ (w : WorldView). (control_plane w).view s) is) in (
+          alike,
+          still_on (fabric_of old) (fabric_of new) r.calm.is alike old.from_hosts old.out new.from_hosts new.out old.journal new.journal
+              (λ i y j. subst (λ (w : WorldView). IsAmong y (items_at w.from_hosts i)) (sym is) j) (λ i y j. subst (λ (w : WorldView). IsAmong y (items_at w.out i)) (sym is) j)
+              (λ e j. subst (λ (w : WorldView). IsAmong e w.journal) (sym is) (among_left e old.journal _ j)) h g end x id on,
+        )
 
     lost_goes : (w : WorldView) (item : Item) → Goes w (item_lost w item)
     lost_goes w (Control frame) = goes_self w

@@ -16,7 +16,7 @@ pub fn a_frame_goes_up_from_its_edge_switch()
     ensures { (w : WorldView) (h g : ℕ) (x : Pmac) → IsOrderly w → IsSettled w → (reach : Reaches w h g x) →
         (reach.from.1.stand.edge.0 ≡ reach.to.stand.edge.0 → ⊥) →
         GoesOn (fabric_of w) ((control_plane w).view reach.from.1.stand.edge.0) reach.from.1.stand.edge.0 x FromHost
-            (LeadsDown (fabric_of w) x.pod reach.to.stand.edge.0) }
+        (LeadsDown (fabric_of w) x.pod reach.to.stand.edge.0) }
 {}
 
 /// So it is at an aggregation switch: of another pod each port leads up to a core switch from which a way leads

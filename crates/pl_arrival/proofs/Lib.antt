@@ -21,4 +21,5 @@ pub mod Grounds
 pub mod Orders
 pub mod Arriving
 pub mod Cores
+pub mod JustSent
 pub mod GoingOn

@@ -4,11 +4,11 @@ use Rattle.std.proofs.lemmas.Bool.{cond-true}
 use Rattle.pl_pmac.specs.declared.pmac.Pmac.{Pmac}
 use Rattle.pl_wiring.specs.Plan.{Plan}
 use Rattle.pl_journal.specs.declared.entry.Entry.{Entry}
-use Rattle.pl_journal.specs.declared.entry.Entry.TheVariants.{Arrived}
+use Rattle.pl_journal.specs.declared.entry.Entry.TheVariants.{Arrived, Sent}
 use Rattle.pl_journal.specs.Flights.{ended_by, ends, is_frame}
 use Rattle.pl_core.specs.HostDuties.{HostsKeepFrames, HostsSendData, HostsSendOwn}
 use Rattle.pl_core.specs.HostInputs.{HostRule}
-use Rattle.pl_core.proofs.Among.{Contains-of_among, IsAmong, among_of_Contains}
+use Rattle.pl_core.proofs.Among.{Contains-of_among, IsAmong, among_append, among_of_Contains}
 use Rattle.pl_manager_rule.specs.ManagerRule.{manager_rule}
 use Rattle.pl_switch_rule.specs.SwitchRule.{Loose}
 use Rattle.pl_queues.specs.Queues.{items_at}
@@ -18,7 +18,7 @@ use Rattle.pl_world.specs.declared.limits.Limits.{Limits}
 use Rattle.pl_world.specs.Booting.{CanBegin, booted}
 use Rattle.pl_world.specs.Changes.{host_no}
 use Rattle.pl_world.specs.Flying.{IsCounted, born, flying, times_in, times_in_all}
-use Rattle.pl_world.specs.Runs.{Befalls, Moment, WorldRun}
+use Rattle.pl_world.specs.Runs.{Befalls, IsMark, Moment, WorldRun}
 use Rattle.pl_world.specs.Runs.Moment.{Mark, Step}
 use Rattle.pl_world.specs.Worlds.{WorldView}
 use Rattle.pl_arrival.specs.Losses.{IsLostAt}
@@ -26,6 +26,7 @@ use Rattle.pl_arrival.specs.Reach.{Reaches}
 use Rattle.pl_arrival.specs.SureFrames.{IsSure, IsSureMoment, StaysSure}
 use Rattle.pl_arrival.proofs.Alike.{alike_by_views}
 use Rattle.pl_arrival.proofs.Grounds.{ready}
+use Rattle.pl_arrival.proofs.JustSent.{waits_since}
 use Rattle.pl_arrival.proofs.Orders.{run_is_orderly}
 use Rattle.pl_arrival.proofs.Ready.{Ready, net, stays_at_edge}
 use Rattle.pl_arrival.proofs.Staying.{Goes, goes_noted}
@@ -147,18 +148,41 @@ module _ (host : HostRule) (sends : HostsSendData host) (owns : HostsSendOwn hos
   joined_runs old mid new before id h g x (m ∷ ms) run stays =
       joined_runs old stays.2.0 new (before ++ m ∷ []) id h g x ms (run_more old mid stays.2.0 before m run stays.2.1) stays.2.2
 
-  module _ (plan : Plan) (limits : Limits) (can : CanBegin plan) (before : List Moment) (sent : WorldView) (run : WorldRun Loose manager_rule host (booted plan limits) before sent)
-      (id h g : ℕ) (moments : List Moment) (new : WorldView) (sure : IsSure Loose manager_rule host sent moments new id h g) where
+  -- the moment that sends a frame puts it into the queue of its host
+  waits_at_once : (old : WorldView) (moment : Moment) (sent : WorldView) (id h : ℕ) (frame : List ℕ) → IsCounted old → Befalls Loose manager_rule host old moment sent →
+      Contains sent.journal (Sent id (host_no h) frame) → (Contains old.journal (Sent id (host_no h) frame) → ⊥) → IsAmong (Data id frame) (items_at sent.from_hosts h)
+  waits_at_once old (Step happens) sent id h frame counted befalls there fresh =
+      elim (waits_since Loose manager_rule host old sent counted happens befalls.1 id h frame (among_of_Contains (Sent id (host_no h) frame) sent.journal there)) [
+        | inl before ↦ absurd (fresh (Contains-of_among (Sent id (host_no h) frame) old.journal before))
+        | inr waits ↦ waits
+      ]
+  waits_at_once old (Mark entry) sent id h frame counted befalls there fresh =
+      elim (among_append (Sent id (host_no h) frame) old.journal (entry ∷ [])
+      (subst (λ (w : WorldView). IsAmong (Sent id (host_no h) frame) w.journal) befalls.1 (among_of_Contains (Sent id (host_no h) frame) sent.journal there))) [
+        | inl before ↦ absurd (fresh (Contains-of_among (Sent id (host_no h) frame) old.journal before))
+        | inr new ↦ absurd (marked new)
+      ]
+    where
+      marked : IsAmong (Sent id (host_no h) frame) (entry ∷ []) → ⊥
+      marked (inl is) = subst IsMark is befalls.0
+      marked (inr never) = never
+
+  module _ (plan : Plan) (limits : Limits) (can : CanBegin plan) (before : List Moment) (old : WorldView) (run : WorldRun Loose manager_rule host (booted plan limits) before old)
+      (id h g : ℕ) (moments : List Moment) (new : WorldView) (sure : IsSure Loose manager_rule host old moments new id h g) where
+    longer : WorldRun Loose manager_rule host (booted plan limits) (before ++ sure.moment ∷ []) sure.sent
+    longer = run_more (booted plan limits) old sure.sent before sure.moment run sure.befalls
+
     counted : IsCounted new
     counted =
-        let all = joined_runs (booted plan limits) sent new before id h g sure.address moments run sure.stays in
+        let all = joined_runs (booted plan limits) sure.sent new (before ++ sure.moment ∷ []) id h g sure.address moments longer sure.stays in
         (run_is_orderly host sends owns plan limits all.0 new can all.1).kept.counted
 
     pub arrives : 1 ≤ ends new.journal id → (frame : List ℕ) × Contains new.journal (Arrived id (host_no g) frame)
     arrives over =
-        let reach = (sure_at_first id h g sure.address sent moments new sure.stays).reaches in
-        let at_end = stays_on plan limits can id h g sure.address before sent run moments new reach
-        (Waits sure.frame (among_of_Contains (Data id sure.frame) (items_at sent.from_hosts h) sure.waits) sure.plain) sure.stays in
+        let first = (run_is_orderly host sends owns plan limits before old can run).kept.counted in
+        let waits = waits_at_once old sure.moment sure.sent id h sure.frame first sure.befalls sure.entry sure.at_once in
+        let reach = (sure_at_first id h g sure.address sure.sent moments new sure.stays).reaches in
+        let at_end = stays_on plan limits can id h g sure.address (before ++ sure.moment ∷ []) sure.sent longer moments new reach (Waits sure.frame waits sure.plain) sure.stays in
         has_come new counted id over h g at_end.0 sure.address at_end.1
 
     -- it has no other end

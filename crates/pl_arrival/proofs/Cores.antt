@@ -25,13 +25,16 @@ module _ (switch : SwitchRule) (manager : ManagerRule) (host : HostRule) (obeys 
   stays_lawful id h g x old (moment ∷ moments) new stays =
       (stays.0, stays.1, (stays.2.0, moment_lawful old moment stays.2.0 stays.2.1, stays_lawful id h g x stays.2.0 moments new stays.2.2))
 
-  pub sure_lawful : (sent : WorldView) (moments : List Moment) (new : WorldView) (id h g : ℕ) → IsSure switch manager host sent moments new id h g →
-      IsSure Loose manager_rule host sent moments new id h g
-  sure_lawful sent moments new id h g sure = record {
+  pub sure_lawful : (old : WorldView) (moments : List Moment) (new : WorldView) (id h g : ℕ) → IsSure switch manager host old moments new id h g →
+      IsSure Loose manager_rule host old moments new id h g
+  sure_lawful old moments new id h g sure = record {
+    moment = sure.moment;
+    sent = sure.sent;
+    befalls = moment_lawful old sure.moment sure.sent sure.befalls;
     frame = sure.frame;
     entry = sure.entry;
-    waits = sure.waits;
+    at_once = sure.at_once;
     address = sure.address;
     plain = sure.plain;
-    stays = stays_lawful id h g sure.address sent moments new sure.stays;
+    stays = stays_lawful id h g sure.address sure.sent moments new sure.stays;
   }

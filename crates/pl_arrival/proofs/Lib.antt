@@ -19,7 +19,7 @@ pub mod Turns
 pub mod Steps
 pub mod Grounds
 pub mod Orders
-pub mod Arriving
-pub mod Cores
 pub mod JustSent
+pub mod Cores
+pub mod Arriving
 pub mod GoingOn

@@ -5,9 +5,7 @@ use Rattle.pl_journal.specs.declared.entry.Entry.TheVariants.{Sent}
 use Rattle.pl_core.specs.HostInputs.{HostRule}
 use Rattle.pl_core.specs.ManagerDuties.{ManagerRule}
 use Rattle.pl_core.specs.SwitchInputs.{SwitchRule}
-use Rattle.pl_queues.specs.Queues.{items_at}
 use Rattle.pl_fabric.specs.Settled.{IsSettled}
-use Rattle.pl_world.specs.declared.item.Item.TheVariants.{Data}
 use Rattle.pl_world.specs.Changes.{host_no}
 use Rattle.pl_world.specs.Runs.{Befalls, Moment}
 use Rattle.pl_world.specs.Worlds.{WorldView}
@@ -26,12 +24,15 @@ StaysSure switch manager host id h g x old (moment ∷ moments) new =
     IsSureMoment old h g x × (IsLostAt old moment id → ⊥)
     × ((next : WorldView) × Befalls switch manager host old moment next × StaysSure switch manager host id h g x next moments new)
 
--- A frame that host h sent to the newest address of host g, and that no edge switch takes for itself: from a moment at which it waits at h, as it
--- does once it was sent, it stays sure to this one.
-pub record IsSure (switch : SwitchRule) (manager : ManagerRule) (host : HostRule) (sent : WorldView) (moments : List Moment) (new : WorldView) (id h g : ℕ) : Type 0 where
+-- A frame that host h sent to the newest address of host g, and that no edge switch takes for itself: one moment of a run sends it, and from
+-- then on it stays sure.
+pub record IsSure (switch : SwitchRule) (manager : ManagerRule) (host : HostRule) (old : WorldView) (moments : List Moment) (new : WorldView) (id h g : ℕ) : Type 0 where
+  pub moment : Moment
+  pub sent : WorldView
+  pub befalls : Befalls switch manager host old moment sent
   pub frame : List ℕ
   pub entry : Contains sent.journal (Sent id (host_no h) frame)
-  pub waits : Contains (items_at sent.from_hosts h) (Data id frame)
+  pub at_once : Contains old.journal (Sent id (host_no h) frame) → ⊥
   pub address : Pmac
   pub plain : IsPlainTo frame address
   pub stays : StaysSure switch manager host id h g address sent moments new

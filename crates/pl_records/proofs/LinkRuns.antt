@@ -20,13 +20,15 @@ use Rattle.pl_world.specs.Refusals.{refusal}
 use Rattle.pl_world.specs.Runs.{Moment, WorldRun}
 use Rattle.pl_world.specs.WorldRule.{WorldStep}
 use Rattle.pl_world.specs.Worlds.{WorldView}
-use Rattle.pl_control_plane.specs.ControlPlanes.{AreJoined, control_plane}
+use Rattle.pl_control_plane.specs.ControlPlanes.{AreJoined, ControlPlane, control_plane}
+use Rattle.pl_control_plane.specs.PlaneSteps.{LosesNoWord, PlaneStep}
 use Rattle.pl_control_plane.proofs.Joined.{joined_there, joined_turned}
 use Rattle.pl_control_plane.proofs.Stepping.{whole_step}
 use Rattle.pl_kept.specs.Kept.{Kept}
 use Rattle.pl_kept.proofs.Running.{holds_in_run, kept_at_first}
-use Rattle.pl_records.specs.Records.{HaveToldLinks, NamesNeighbours}
+use Rattle.pl_records.specs.Records.{HaveToldLinks, HaveToldNeighbours, NamesNeighbours}
 use Rattle.pl_records.proofs.Pairing.{links_at_first, plane_links}
+use Rattle.pl_records.proofs.Strangers.{neighbours_at_first, plane_neighbours}
 
 -- where places are true, switches name their neighbours as the wiring has them
 pub names_neighbours : (w : WorldView) → Kept w → NamesNeighbours (control_plane w)
@@ -55,14 +57,24 @@ names_neighbours w kept s p x h = by (peer_of w.plan s p) refl
         (t.0, q, e, slice_get-get_or w.plan.ids t.0 nobody (omega (arith, many, there)) ∙ ap Some (sym (kept.voting.ids t.0) ∙ id))
 
 module _ (host : HostRule) (sends : HostsSendData host) (owns : HostsSendOwn host) where
-  told_step : (old : WorldView) (event : Event) (new : WorldView) → Kept old → Kept new → HaveToldLinks (control_plane old) → refusal old event ≡ None →
-      WorldStep Loose manager_rule host old event new → HaveToldLinks (control_plane new)
-  told_step old event new kept after told none step =
-      let whole = whole_step Loose manager_rule host loose_steps_are_accounted old event new kept.counted kept.hosts none step in
-      plane_links (control_plane old) (control_plane new) kept.counted.formed.plan after.counted.formed.plan (names_neighbours new after) told whole.0 whole.1
+  -- What each step of the control plane keeps holds in every run from the beginning.
+  module _ (Holds : ControlPlane → Type 0) (keeps : (f g : ControlPlane) → IsPlan f.plan → IsPlan g.plan → NamesNeighbours g → Holds f → (step : PlaneStep Loose manager_rule f g) →
+      LosesNoWord Loose manager_rule f g step → Holds g) where
+    told_step : (old : WorldView) (event : Event) (new : WorldView) → Kept old → Kept new → Holds (control_plane old) → refusal old event ≡ None →
+        WorldStep Loose manager_rule host old event new → Holds (control_plane new)
+    told_step old event new kept after told none step =
+        let whole = whole_step Loose manager_rule host loose_steps_are_accounted old event new kept.counted kept.hosts none step in
+        keeps (control_plane old) (control_plane new) kept.counted.formed.plan after.counted.formed.plan (names_neighbours new after) told whole.0 whole.1
+
+    run_holds : (plan : Plan) (limits : Limits) (moments : List Moment) (new : WorldView) → CanBegin plan → Holds (control_plane (booted plan limits)) →
+        WorldRun Loose manager_rule host (booted plan limits) moments new → Holds (control_plane new)
+    run_holds plan limits moments new can first run =
+        holds_in_run host sends owns (λ w. Holds (control_plane w)) told_step (λ w entry is told. told) (booted plan limits) moments new (kept_at_first plan limits can) first run
 
   pub run_links : (plan : Plan) (limits : Limits) (moments : List Moment) (new : WorldView) → CanBegin plan →
       WorldRun Loose manager_rule host (booted plan limits) moments new → HaveToldLinks (control_plane new)
-  run_links plan limits moments new can run =
-      holds_in_run host sends owns (λ w. HaveToldLinks (control_plane w)) told_step (λ w entry is told. told) (booted plan limits) moments new (kept_at_first plan limits can)
-      (links_at_first plan limits) run
+  run_links plan limits moments new can run = run_holds HaveToldLinks plane_links plan limits moments new can (links_at_first plan limits) run
+
+  pub run_neighbours : (plan : Plan) (limits : Limits) (moments : List Moment) (new : WorldView) → CanBegin plan →
+      WorldRun Loose manager_rule host (booted plan limits) moments new → HaveToldNeighbours (control_plane new)
+  run_neighbours plan limits moments new can run = run_holds HaveToldNeighbours plane_neighbours plan limits moments new can (neighbours_at_first plan limits) run

@@ -35,7 +35,7 @@ use Rattle.pl_told.proofs.Hosting.{stands_on, stands_on_hosts}
 use Rattle.pl_told.proofs.Stepping.{first_addresses, is_more, numbers_well, stays_granted}
 
 -- ---- a mark of a script
-mark_told : (w : WorldView) (entry : Entry) → IsMark entry → IsCounted w → IsTold w → IsTold (noted w entry)
+pub mark_told : (w : WorldView) (entry : Entry) → IsMark entry → IsCounted w → IsTold w → IsTold (noted w entry)
 mark_told w entry is counted told = by entry is
   where
     by : (e : Entry) → IsMark e → IsTold (noted w e)

@@ -1,5 +1,5 @@
 -- What was written stays written.
-use Rattle.std.proofs.Common.{◌≡◌, ℕ, ◌+◌, List, [], ◌∷◌, ◌++◌, set, Option, Some, None, slice_get, refl, sym, subst}
+use Rattle.std.proofs.Common.{ℕ, ◌+◌, List, [], ◌∷◌, set, Option, Some, None, slice_get, sym, subst}
 use Rattle.pl_wiring.specs.declared.link.Link.{Link}
 use Rattle.pl_wiring.specs.Index.{port_index}
 use Rattle.pl_wiring.specs.Peers.{peer_of}
@@ -20,11 +20,11 @@ use Rattle.pl_world.specs.declared.stand.Stand.{Stand}
 use Rattle.pl_world.specs.Changes.{out_of}
 use Rattle.pl_world.specs.LinksAndMoves.{host_moved, item_lost, link_between}
 use Rattle.pl_world.specs.OtherActs.{heard_after_tick}
-use Rattle.pl_world.specs.Runs.{Befalls, Moment, WorldRun}
+use Rattle.pl_world.specs.Runs.{Moment, WorldRun}
 use Rattle.pl_world.specs.Runs.Moment.{Mark, Step}
 use Rattle.pl_world.specs.WorldRule.{DeliversFromHost, DeliversFromManager, DeliversOut, DeliversToManager, Fails, Goes as MovesOn, IsRepaired, Loses, WorldStep}
 use Rattle.pl_world.specs.Worlds.{WorldView}
-use Rattle.pl_arrival.proofs.Staying.{Goes, goes_host, goes_manager, goes_plays, goes_switch}
+use Rattle.pl_arrival.proofs.Staying.{goes_host, goes_manager, goes_plays, goes_switch}
 use Rattle.pl_arrival.proofs.Turns.{comes_in_goes, comes_over_goes}
 
 module _ (host : HostRule) (old new : WorldView) where

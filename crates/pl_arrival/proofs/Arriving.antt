@@ -27,6 +27,7 @@ use Rattle.pl_arrival.specs.SureFrames.{IsSure, IsSureMoment, StaysSure}
 use Rattle.pl_arrival.proofs.Alike.{alike_by_views}
 use Rattle.pl_arrival.proofs.Grounds.{ready}
 use Rattle.pl_arrival.proofs.JustSent.{waits_since}
+use Rattle.pl_arrival.proofs.Later.{stays_written}
 use Rattle.pl_arrival.proofs.Orders.{run_is_orderly}
 use Rattle.pl_arrival.proofs.Ready.{Ready, net, stays_at_edge}
 use Rattle.pl_arrival.proofs.Staying.{Goes, goes_noted}
@@ -148,6 +149,11 @@ module _ (host : HostRule) (sends : HostsSendData host) (owns : HostsSendOwn hos
   joined_runs old mid new before id h g x (m ∷ ms) run stays =
       joined_runs old stays.2.0 new (before ++ m ∷ []) id h g x ms (run_more old mid stays.2.0 before m run stays.2.1) stays.2.2
 
+  runs_joined : (old mid new : WorldView) (first second : List Moment) → WorldRun Loose manager_rule host old first mid → WorldRun Loose manager_rule host mid second new →
+      WorldRun Loose manager_rule host old (first ++ second) new
+  runs_joined old mid new [] second one other = subst (λ (w : WorldView). WorldRun Loose manager_rule host w second new) one other
+  runs_joined old mid new (m ∷ first) second one other = (one.0, one.1, runs_joined one.0 mid new first second one.2 other)
+
   -- the moment that sends a frame puts it into the queue of its host
   waits_at_once : (old : WorldView) (moment : Moment) (sent : WorldView) (id h : ℕ) (frame : List ℕ) → IsCounted old → Befalls Loose manager_rule host old moment sent →
       Contains sent.journal (Sent id (host_no h) frame) → (Contains old.journal (Sent id (host_no h) frame) → ⊥) → IsAmong (Data id frame) (items_at sent.from_hosts h)
@@ -185,12 +191,26 @@ module _ (host : HostRule) (sends : HostsSendData host) (owns : HostsSendOwn hos
         let at_end = stays_on plan limits can id h g sure.address (before ++ sure.moment ∷ []) sure.sent longer moments new reach (Waits sure.frame waits sure.plain) sure.stays in
         has_come new counted id over h g at_end.0 sure.address at_end.1
 
-    -- it has no other end
-    pub no_other_end : (e : Entry) → is_frame (ended_by e) id ≡ true → ((frame : List ℕ) → e ≡ Arrived id (host_no g) frame → ⊥) → Contains new.journal e → ⊥
-    no_other_end e is other there =
-        let among = among_of_Contains e new.journal there in
-        let come = arrives (ends_once id e new.journal is among) in
-        let twice = ends_twice id e (Arrived id (host_no g) come.0) new.journal (other come.0) is (eq-eqb id id refl) among (among_of_Contains (Arrived id (host_no g) come.0) new.journal come.1) in
-        let count = counted.flights id in
-        let few = born_once id new.begun in
-        omega (arith, count, few, twice)
+    -- and whatever befalls the world then, that stays its one end
+    module _ (more : List Moment) (final : WorldView) (rest : WorldRun Loose manager_rule host new more final) (over : 1 ≤ ends new.journal id) where
+      pub has_arrived : (frame : List ℕ) × Contains final.journal (Arrived id (host_no g) frame)
+      has_arrived =
+          let come = arrives over in
+          let e = Arrived id (host_no g) come.0 in
+          (come.0, Contains-of_among e final.journal (stays_written host new more final rest e (among_of_Contains e new.journal come.1)))
+
+      counted_then : IsCounted final
+      counted_then =
+          let all = joined_runs (booted plan limits) sure.sent new (before ++ sure.moment ∷ []) id h g sure.address moments longer sure.stays in
+          let whole = runs_joined (booted plan limits) new final all.0 more all.1 rest in
+          (run_is_orderly host sends owns plan limits (all.0 ++ more) final can whole).kept.counted
+
+      pub no_other_end : (e : Entry) → is_frame (ended_by e) id ≡ true → ((frame : List ℕ) → e ≡ Arrived id (host_no g) frame → ⊥) → Contains final.journal e → ⊥
+      no_other_end e is other there =
+          let among = among_of_Contains e final.journal there in
+          let come = has_arrived in
+          let at = among_of_Contains (Arrived id (host_no g) come.0) final.journal come.1 in
+          let twice = ends_twice id e (Arrived id (host_no g) come.0) final.journal (other come.0) is (eq-eqb id id refl) among at in
+          let count = counted_then.flights id in
+          let few = born_once id final.begun in
+          omega (arith, count, few, twice)

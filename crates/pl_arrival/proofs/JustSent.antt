@@ -8,7 +8,6 @@ use Rattle.pl_wiring.specs.declared.link.Peer.{Peer}
 use Rattle.pl_wiring.specs.declared.link.Peer.TheVariants.{HostPort, Switch}
 use Rattle.pl_wiring.specs.Index.{port_index}
 use Rattle.pl_wiring.specs.Peers.{peer_of}
-use Rattle.pl_layouts.specs.declared.place.Place.{Place}
 use Rattle.pl_layouts.specs.Placement.{same_place}
 use Rattle.pl_journal.specs.declared.cause.Cause.{Cause}
 use Rattle.pl_journal.specs.declared.cause.Cause.TheVariants as cause
@@ -38,12 +37,12 @@ use Rattle.pl_world.specs.declared.item.Item.TheVariants.{Control, Data}
 use Rattle.pl_world.specs.declared.spoken_frame.SpokenFrame.{SpokenFrame as Speech}
 use Rattle.pl_world.specs.declared.spoken_frame.SpokenFrame.TheVariants.{Over, Passed, Silent, Waiting}
 use Rattle.pl_world.specs.declared.stand.Stand.{Stand}
-use Rattle.pl_world.specs.Changes.{ends_of, host_no, host_of, is_failed_at, out_of, receiver, said_to}
+use Rattle.pl_world.specs.Changes.{ends_of, host_no, host_of, out_of, receiver, said_to}
 use Rattle.pl_world.specs.Flying.{IsCounted}
 use Rattle.pl_world.specs.LinksAndMoves.{host_moved, item_lost, link_between}
 use Rattle.pl_world.specs.OtherActs.{heard_after_tick, host_act_done, manager_act_done, reception_noted, skip_noted}
-use Rattle.pl_world.specs.SwitchActs.{Doing, act_done, acts_done, begins, ended, granted, passed, place_noted, redirected, with_late}
-use Rattle.pl_world.specs.WorldRule.{ComesAtHost, ComesAtSwitch, ComesIn, ComesOut, ComesOver, DeliversFromHost, DeliversFromManager, DeliversOut, DeliversToManager, Fails, Goes as MovesOn, HostPlays, HostTurn, IsRepaired, Loses, ManagerTurn, SwitchTurn, WorldStep, heard_item}
+use Rattle.pl_world.specs.SwitchActs.{Doing, act_done, acts_done, begins, ended, granted, passed, redirected, with_late}
+use Rattle.pl_world.specs.WorldRule.{ComesAtHost, ComesAtSwitch, ComesIn, ComesOver, DeliversFromHost, DeliversFromManager, DeliversOut, DeliversToManager, Fails, Goes as MovesOn, HostTurn, IsRepaired, Loses, SwitchTurn, WorldStep, heard_item}
 use Rattle.pl_world.specs.Worlds.{WorldView}
 use Rattle.pl_arrival.proofs.Staying.{put_keeps, put_there}
 

@@ -42,15 +42,16 @@ pub fn a_sure_frame_that_ends_has_arrived<S: LooseSwitch, M: LawfulManager, H: H
         1 ≤ ends new.journal id → (frame : List ℕ) × Contains new.journal (Arrived id (host_no g) frame) }
 {}
 
-/// So it is dropped for no cause, no edge switch takes it, and no other host gets it.
+/// And that stays its one end, whatever befalls the fabric then: it is dropped for no cause, no edge switch takes
+/// it, and no other host gets it.
 pub fn a_sure_frame_has_no_other_end<S: LooseSwitch, M: LawfulManager, H: HostCore>()
-    ensures dropped { (plan : Plan) (limits : Limits) (before moments : List Moment) (old new : WorldView) (id h g : ℕ) (cause : Cause) → CanBegin plan →
+    ensures dropped { (plan : Plan) (limits : Limits) (before moments more : List Moment) (old new last : WorldView) (id h g : ℕ) (cause : Cause) → CanBegin plan →
         WorldRun S.rule M.rule H.rule (booted plan limits) before old → IsSure S.rule M.rule H.rule old moments new id h g →
-        Contains new.journal (Dropped id cause) → ⊥ }
-    ensures taken { (plan : Plan) (limits : Limits) (before moments : List Moment) (old new : WorldView) (id h g : ℕ) (switch : SwitchNo) → CanBegin plan →
+        1 ≤ ends new.journal id → WorldRun S.rule M.rule H.rule new more last → Contains last.journal (Dropped id cause) → ⊥ }
+    ensures taken { (plan : Plan) (limits : Limits) (before moments more : List Moment) (old new last : WorldView) (id h g : ℕ) (switch : SwitchNo) → CanBegin plan →
         WorldRun S.rule M.rule H.rule (booted plan limits) before old → IsSure S.rule M.rule H.rule old moments new id h g →
-        Contains new.journal (Taken id switch) → ⊥ }
-    ensures elsewhere { (plan : Plan) (limits : Limits) (before moments : List Moment) (old new : WorldView) (id h g other : ℕ) (frame : List ℕ) → CanBegin plan →
+        1 ≤ ends new.journal id → WorldRun S.rule M.rule H.rule new more last → Contains last.journal (Taken id switch) → ⊥ }
+    ensures elsewhere { (plan : Plan) (limits : Limits) (before moments more : List Moment) (old new last : WorldView) (id h g other : ℕ) (frame : List ℕ) → CanBegin plan →
         WorldRun S.rule M.rule H.rule (booted plan limits) before old → IsSure S.rule M.rule H.rule old moments new id h g →
-        (other ≡ g → ⊥) → Contains new.journal (Arrived id (host_no other) frame) → ⊥ }
+        1 ≤ ends new.journal id → WorldRun S.rule M.rule H.rule new more last → (other ≡ g → ⊥) → Contains last.journal (Arrived id (host_no other) frame) → ⊥ }
 {}

@@ -189,6 +189,7 @@ pub record IsObeying (says : ToSwitch) (v : SwitchView) (s : SwitchStep) : Type 
   pub place : last_said place_said v.place (tells s.acts) ≡ s.view.place
   pub members : (group : ℕ) → last_said (members_said group) (has_member_of v.members group) (tells s.acts) ≡ has_member_of s.view.members group
   pub links : (u : SwitchId) (p : ℕ) → IsOnlyAt s.view u p → last_said (link_said u) (is_usable v p) (tells s.acts) ≡ is_usable s.view p
+  pub others : (u : SwitchId) → ((p : ℕ) → id_at s.view p ≡ Some u → ⊥) → (before : Bool) → last_said (link_said u) before (tells s.acts) ≡ before
   pub avoid : s.view.avoid ≡ unwrap_or (avoid_said says) v.avoid
   pub parts : s.view.parts ≡ parts_after says v.parts
 
@@ -198,19 +199,19 @@ pod_told v pod =
     (changes_right v (with_pod v (Some pod)) refl refl refl (λ p none. unheard v p none)) (still_told v _ (rests_still v))
 
 pub manager_obeyed : (choose : Choice) (v : SwitchView) (says : ToSwitch) → IsObeying says v (hears_manager choose v says)
-manager_obeyed choose v (Avoid list) = record { place = refl; members = λ group. refl; links = λ u p at. refl; avoid = refl; parts = refl }
-manager_obeyed choose v (Tree group part) = record { place = refl; members = λ group. refl; links = λ u p at. refl; avoid = refl; parts = refl }
+manager_obeyed choose v (Avoid list) = record { place = refl; members = λ group. refl; links = λ u p at. refl; others = λ u nowhere before. refl; avoid = refl; parts = refl }
+manager_obeyed choose v (Tree group part) = record { place = refl; members = λ group. refl; links = λ u p at. refl; others = λ u nowhere before. refl; avoid = refl; parts = refl }
 manager_obeyed choose v (Pod pod) =
-    let a = pod_told v pod in record { place = a.telling.place; members = a.telling.members; links = a.links; avoid = a.telling.avoid; parts = a.telling.parts }
+    let a = pod_told v pod in record { place = a.telling.place; members = a.telling.members; links = a.links; others = a.others; avoid = a.telling.avoid; parts = a.telling.parts }
 manager_obeyed choose v (Answer asker asker_ip ip pmac) =
     let a = still_told v _ (either_still v (is_granted v asker) (makes choose (answer_frame asker asker_ip ip pmac) v) (rests v)
     (makes_still choose (answer_frame asker asker_ip ip pmac) v) (rests_still v)) in
-    record { place = a.telling.place; members = a.telling.members; links = a.links; avoid = a.telling.avoid; parts = a.telling.parts }
+    record { place = a.telling.place; members = a.telling.members; links = a.links; others = a.others; avoid = a.telling.avoid; parts = a.telling.parts }
 manager_obeyed choose v (Flood asker asker_ip ip) =
     let a = still_told v _ (either_still v (is_granted v asker) (floods v (flood_frame asker asker_ip ip)) (rests v)
     (then_still v (does v (Make (flood_frame asker asker_ip ip) ∷ [])) (λ w. forwards_group w (Some FromHost) (flood_frame asker asker_ip ip))
     (does_still v _ (tt, tt)) (λ w. forwards_group_still w (Some FromHost) (flood_frame asker asker_ip ip))) (rests_still v)) in
-    record { place = a.telling.place; members = a.telling.members; links = a.links; avoid = a.telling.avoid; parts = a.telling.parts }
+    record { place = a.telling.place; members = a.telling.members; links = a.links; others = a.others; avoid = a.telling.avoid; parts = a.telling.parts }
 manager_obeyed choose v (Invalidate old new number ip) =
     let a = still_told v _ (invalidates_still v old (record { new = new; number = number; ip = ip }) (granted v old)) in
-    record { place = a.telling.place; members = a.telling.members; links = a.links; avoid = a.telling.avoid; parts = a.telling.parts }
+    record { place = a.telling.place; members = a.telling.members; links = a.links; others = a.others; avoid = a.telling.avoid; parts = a.telling.parts }

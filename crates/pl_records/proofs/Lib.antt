@@ -11,4 +11,5 @@ pub mod Changing
 pub mod Ordering
 pub mod Running
 pub mod Pairing
+pub mod Strangers
 pub mod LinkRuns

@@ -21,7 +21,7 @@ use Rattle.pl_switch_rule.specs.Telling.{changes_told, link_to, link_told, place
 use Rattle.pl_control_plane.specs.ControlPlanes.{tells}
 use Rattle.pl_records.specs.Words.{last_said}
 use Rattle.pl_steps.specs.Steps.{SwitchStep, ◌▹◌}
-use Rattle.pl_records.proofs.Telling.{IsStill, IsTelling, alike_is, said_more, then_telling}
+use Rattle.pl_records.proofs.Telling.{IsStill, IsTelling, alike_is, flat_silent, said_more, then_telling}
 
 -- a switch is heard at this port alone
 pub record IsOnlyAt (w : SwitchView) (u : SwitchId) (p : ℕ) : Type 0 where
@@ -121,6 +121,38 @@ module _ (old new : SwitchView) (u : SwitchId) (p : ℕ) (at : IsOnlyAt new u p)
       ∙ said_more (link_said u) (is_usable old p) place links ∙ ap (λ x. after x links) (place_silent (is_usable old p))
       ∙ told (ports_of_switch new.k) (among_range p 0 new.k p (omega arith) at.within)
 
+-- Nothing is told of a switch that is heard at no port.
+pub told_no_other : (old new : SwitchView) (u : SwitchId) → ((p : ℕ) → id_at new p ≡ Some u → ⊥) → (before : Bool) →
+    last_said (link_said u) before (tells (changes_told old new)) ≡ before
+told_no_other old new u nowhere before =
+    let place = place_told old.place new.place in
+    let links = flat_map (link_told old new) (ports_of_switch new.k) in
+    said_more (link_said u) before (place ++ links) (pod_wanted old.place new.place) ∙ wish (last_said (link_said u) before (tells (place ++ links)))
+    ∙ said_more (link_said u) before place links ∙ flat_silent (link_said u) (link_told old new) (ports_of_switch new.k) at_port (last_said (link_said u) before (tells place))
+    ∙ at_place before
+  where
+    wish : (x : Bool) → last_said (link_said u) x (tells (pod_wanted old.place new.place)) ≡ x
+    wish x =
+        cond_both (is_known new.place.level 0 && is_known new.place.position 0 && not (is_known old.place.position 0)) (Tell PodWanted ∷ []) []
+        (λ acts. last_said (link_said u) x (tells acts) ≡ x) (λ h. refl) (λ h. refl)
+
+    at_place : (x : Bool) → last_said (link_said u) x (tells (place_told old.place new.place)) ≡ x
+    at_place x =
+        cond_both (same_place old.place new.place) [] (Tell (TellPlace new.place) ∷ []) (λ acts. last_said (link_said u) x (tells acts) ≡ x) (λ h. refl) (λ h. refl)
+
+    another : (o : Option SwitchId) (usable : Bool) (x : Bool) → (o ≡ Some u → ⊥) → last_said (link_said u) x (tells (link_to o usable)) ≡ x
+    another None usable x differ = refl
+    another (Some y) usable x differ = by (same_switch y u) refl
+      where
+        by : (b : Bool) → same_switch y u ≡ b → unwrap_or (if b then Some usable else None) x ≡ x
+        by true e = absurd (differ (ap Some (same_is y u e)))
+        by false e = refl
+
+    at_port : (p : ℕ) (x : Bool) → last_said (link_said u) x (tells (link_told old new p)) ≡ x
+    at_port p x =
+        cond_both (are_alike (is_usable old p) (is_usable new p)) [] (link_to (id_at new p) (is_usable new p)) (λ acts. last_said (link_said u) x (tells acts) ≡ x)
+        (λ h. refl) (λ h. another (id_at new p) (is_usable new p) x (nowhere p))
+
 -- Parts of steps.
 
 pub only_same : (v w : SwitchView) (u : SwitchId) (p : ℕ) → w.k ≡ v.k → w.ports ≡ v.ports → IsOnlyAt w u p → IsOnlyAt v u p
@@ -133,15 +165,18 @@ only_same v w u p k ports at = record {
 pub usable_same : (v w : SwitchView) (p : ℕ) → w.id ≡ v.id → w.ports ≡ v.ports → is_usable w p ≡ is_usable v p
 usable_same v w p id ports = ap (λ x. is_usable_record x (port_of w p)) id ∙ ap (λ ps. is_usable_record v.id (get_or ps p new_port)) ports
 
--- and the last that is said of the link to a switch that is heard at one port alone says whether that port is usable then
+-- and the last that is said of the link to a switch that is heard at one port alone says whether that port is usable then; of a switch that is
+-- heard at no port nothing is said
 pub record IsTold (v : SwitchView) (s : SwitchStep) : Type 0 where
   pub telling : IsTelling v s
   pub links : (u : SwitchId) (p : ℕ) → IsOnlyAt s.view u p → last_said (link_said u) (is_usable v p) (tells s.acts) ≡ is_usable s.view p
+  pub others : (u : SwitchId) → ((p : ℕ) → id_at s.view p ≡ Some u → ⊥) → (before : Bool) → last_said (link_said u) before (tells s.acts) ≡ before
 
 pub still_told : (v : SwitchView) (s : SwitchStep) → IsStill v s → IsTold v s
 still_told v s still = record {
   telling = still.telling;
   links = λ u p at. still.links u (is_usable v p) ∙ sym (usable_same v s.view p still.id still.ports);
+  others = λ u nowhere before. still.links u before;
 }
 
 pub then_told : (v : SwitchView) (s : SwitchStep) (next : SwitchView → SwitchStep) → IsTold v s → ((w : SwitchView) → IsStill w (next w)) → IsTold v (s ▹ next)
@@ -150,6 +185,9 @@ then_told v s next a behind = let b = behind s.view in let rest = (next s.view).
   links = λ u p at.
       said_more (link_said u) (is_usable v p) s.acts rest ∙ b.links u (last_said (link_said u) (is_usable v p) (tells s.acts))
       ∙ a.links u p (only_same s.view (next s.view).view u p b.k b.ports at) ∙ sym (usable_same s.view (next s.view).view p b.id b.ports);
+  others = λ u nowhere before.
+      said_more (link_said u) before s.acts rest ∙ b.links u (last_said (link_said u) before (tells s.acts))
+      ∙ a.others u (λ p h. nowhere p (ap (λ ps. heard_id (get_or ps p new_port).heard) b.ports ∙ h)) before;
 }
 
 pub either_told : (v : SwitchView) (b : Bool) (x y : SwitchStep) → IsTold v x → IsTold v y → IsTold v (if b then x else y)

@@ -1,5 +1,5 @@
 -- Granting addresses and passing frames on tells the manager nothing of the place or of members.
-use Rattle.std.proofs.Common.{◌≡◌, ℕ, zero, suc, Bool, true, false, if◌then◌else◌, List, [], ◌∷◌, Option, Some, None, refl, ◌∙◌, ap, sym}
+use Rattle.std.proofs.Common.{◌≡◌, ℕ, zero, suc, get_or, Bool, true, false, if◌then◌else◌, List, [], ◌∷◌, Option, Some, None, refl, ◌∙◌, ap, sym}
 use Rattle.pl_frame.specs.declared.address.Ip4.{Ip4}
 use Rattle.pl_frame.specs.declared.address.Mac.{Mac}
 use Rattle.pl_frame.specs.Ethernet.{destination_of, source_of, with_destination}
@@ -30,9 +30,9 @@ use Rattle.pl_switch_rule.specs.Intake.{has_member_of}
 use Rattle.pl_switch_rule.specs.Telling.{changes_told}
 use Rattle.pl_control_plane.specs.ControlPlanes.{tells}
 use Rattle.pl_records.specs.Words.{last_said}
-use Rattle.pl_core.specs.PortRecords.{id_at, is_usable}
+use Rattle.pl_core.specs.PortRecords.{heard_id, id_at, is_usable, new_port}
 use Rattle.pl_records.proofs.Telling.{AreUnsaid, IsStill, does_still, either_still, rests_still, said_more, step_still, then_still, told_no_members, told_place, unsaid_map}
-use Rattle.pl_records.proofs.Linking.{IsTold, only_same, told_link, usable_same}
+use Rattle.pl_records.proofs.Linking.{IsTold, only_same, told_link, told_no_other, usable_same}
 
 -- Granting addresses.
 
@@ -96,6 +96,9 @@ changes_right old new members avoid parts silent =
           said_more (link_said u) (is_usable old p) told rest ∙ settled.links u (last_said (link_said u) (is_usable old p) (tells told))
           ∙ told_link old new u p (only_same new end u p settled.k settled.ports at) (silent p)
           ∙ sym (usable_same new end p settled.id settled.ports);
+      others = λ u nowhere before.
+          said_more (link_said u) before told rest ∙ settled.links u (last_said (link_said u) before (tells told))
+          ∙ told_no_other old new u (λ p h. nowhere p (ap (λ ps. heard_id (get_or ps p new_port).heard) settled.ports ∙ h)) before;
     }
 
 -- Passing frames on.

@@ -64,7 +64,7 @@ module _ {X : Type 0} (said : ToManager → Option X) where
   pub said_more : (before : X) (xs ys : List Act) → last_said said before (tells (xs ++ ys)) ≡ last_said said (last_said said before (tells xs)) (tells ys)
   said_more before xs ys = ap (last_said said before) (flat_map_append told_by xs ys) ∙ last_append said before (tells xs) (tells ys)
 
-  flat_silent : {T : Type 0} (f : T → List Act) (xs : List T) → ((x : T) (before : X) → last_said said before (tells (f x)) ≡ before) → (before : X) →
+  pub flat_silent : {T : Type 0} (f : T → List Act) (xs : List T) → ((x : T) (before : X) → last_said said before (tells (f x)) ≡ before) → (before : X) →
       last_said said before (tells (flat_map f xs)) ≡ before
   flat_silent f [] each before = refl
   flat_silent f (x ∷ xs) each before =

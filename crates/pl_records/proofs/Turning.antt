@@ -15,7 +15,7 @@ use Rattle.pl_layouts.specs.Votes.{counts, gives_way}
 use Rattle.pl_core.specs.declared.acts.Act.TheVariants.{Control as ControlAct}
 use Rattle.pl_core.specs.declared.messages.TreePart.{TreePart}
 use Rattle.pl_core.specs.Announcements.{announcement}
-use Rattle.pl_core.specs.PortRecords.{aged, heard_id, is_usable, new_port, place_at, port_of, ports_where}
+use Rattle.pl_core.specs.PortRecords.{aged, heard_id, id_at, is_usable, new_port, place_at, port_of, ports_where}
 use Rattle.pl_core.specs.SwitchFacts.{hold_at}
 use Rattle.pl_core.specs.SwitchInputs.{SwitchInput}
 use Rattle.pl_core.specs.SwitchInputs.SwitchInput.{Comes, Says, Tick}
@@ -33,7 +33,7 @@ use Rattle.pl_control_plane.specs.ControlPlanes.{tells}
 use Rattle.pl_records.specs.Words.{avoid_said, last_said}
 use Rattle.pl_core.specs.declared.neighbour.PortRecord.{PortRecord}
 use Rattle.pl_records.proofs.Telling.{AreUnsaid, IsStill, either_still, rests_still, said_more, step_still, told_no_members, told_place, unsaid_append, unsaid_map, unsaid_words}
-use Rattle.pl_records.proofs.Linking.{IsOnlyAt, IsTold, either_told, still_told, told_link, unheard}
+use Rattle.pl_records.proofs.Linking.{IsOnlyAt, IsTold, either_told, still_told, told_link, told_no_other, unheard}
 use Rattle.pl_records.proofs.Last.{last_silent, silent_link, silent_members, silent_place}
 use Rattle.pl_records.proofs.Passing.{changes_right}
 use Rattle.pl_records.proofs.Intaking.{data_right, manager_obeyed, parts_after, silent_with}
@@ -52,6 +52,7 @@ pub record TellsRight (input : SwitchInput) (v : SwitchView) (s : SwitchStep) : 
   pub place : last_said place_said v.place (tells s.acts) ≡ s.view.place
   pub members : (group : ℕ) → last_said (members_said group) (has_member_of v.members group) (tells s.acts) ≡ has_member_of s.view.members group
   pub links : (u : SwitchId) (p : ℕ) → IsOnlyAt s.view u p → last_said (link_said u) (is_usable v p) (tells s.acts) ≡ is_usable s.view p
+  pub others : (u : SwitchId) → ((p : ℕ) → id_at s.view p ≡ Some u → ⊥) → (before : Bool) → last_said (link_said u) before (tells s.acts) ≡ before
   pub avoid : s.view.avoid ≡ avoid_after input v.avoid
   pub parts : s.view.parts ≡ parts_then input v.parts
 
@@ -146,12 +147,14 @@ tick_told v =
       links = λ u p at.
           said_more (link_said u) (is_usable v p) told rest ∙ last_silent (link_said u) _ (tells rest) (silent_link u (tells rest) words)
           ∙ told_link v new u p at (λ none. unheard v p (sym (aged_at v.ports p) ∙ none));
+      others = λ u nowhere before.
+          said_more (link_said u) before told rest ∙ last_silent (link_said u) _ (tells rest) (silent_link u (tells rest) words) ∙ told_no_other v new u nowhere before;
     }
 
 pub tells_right : (choose : Choice) (v : SwitchView) (input : SwitchInput) → TellsRight input v (switch_step choose v input)
-tells_right choose v Tick = let a = tick_told v in record { place = a.telling.place; members = a.telling.members; links = a.links; avoid = a.telling.avoid; parts = a.telling.parts }
+tells_right choose v Tick = let a = tick_told v in record { place = a.telling.place; members = a.telling.members; links = a.links; others = a.others; avoid = a.telling.avoid; parts = a.telling.parts }
 tells_right choose v (Comes port frame) =
     let a = comes_told choose v port frame in
-    record { place = a.telling.place; members = a.telling.members; links = a.links; avoid = a.telling.avoid; parts = a.telling.parts }
+    record { place = a.telling.place; members = a.telling.members; links = a.links; others = a.others; avoid = a.telling.avoid; parts = a.telling.parts }
 tells_right choose v (Says says) =
-    let a = manager_obeyed choose v says in record { place = a.place; members = a.members; links = a.links; avoid = a.avoid; parts = a.parts }
+    let a = manager_obeyed choose v says in record { place = a.place; members = a.members; links = a.links; others = a.others; avoid = a.avoid; parts = a.parts }

@@ -1,15 +1,18 @@
 -- The manager's records are what the switches told, and each switch's avoid list and tree parts are those of the records: with what waits between
 -- them in every control plane of a run, and as they stand where nothing waits.
-use Rattle.std.specs.Prelude.{◌≡◌, ℕ, Bool, false, Some, unwrap_or, slice_get}
-use Rattle.std.specs.List.{AllByRecursion}
+use Rattle.std.specs.Prelude.{◌≡◌, ℕ, Bool, true, false, Some, unwrap_or, slice_get}
+use Rattle.std.specs.List.{AllByRecursion, list_any}
 use Rattle.std.specs.List.Sorted.{IsStrictlySortedBy}
 use Rattle.std.specs.Map.{keys_of}
 use Rattle.std.specs.Ordering.{nat_cmp}
 use Rattle.pl_frame.specs.declared.address.SwitchId.{SwitchId}
+use Rattle.pl_wiring.specs.declared.link.Peer.{Peer}
+use Rattle.pl_wiring.specs.declared.link.Peer.TheVariants.{HostPort, Switch}
+use Rattle.pl_wiring.specs.Peers.{peer_of}
 use Rattle.pl_wiring.specs.Plan.{Plan}
 use Rattle.pl_core.specs.AvoidLists.{avoid_list}
 use Rattle.pl_core.specs.ManagerViews.{Members, is_told_usable, members_cmp, place_of, value_at}
-use Rattle.pl_core.specs.PortRecords.{id_at, is_usable}
+use Rattle.pl_core.specs.PortRecords.{id_at, is_id, is_usable, ports_of_switch}
 use Rattle.pl_core.specs.SwitchFacts.{part_of}
 use Rattle.pl_core.specs.Trees.{tree_part}
 use Rattle.pl_manager_rule.specs.Histories.{link_said, members_said, place_said}
@@ -74,3 +77,22 @@ HaveToldLinks f = (s p t q : ℕ) (id u : SwitchId) → IsPair f.plan s p t q id
 -- what the manager recorded of each link is what both ends would tell now
 abbrev pub LinksAreCurrent : ControlPlane → Type 0
 LinksAreCurrent f = (s p t q : ℕ) (id u : SwitchId) → IsPair f.plan s p t q id u → is_told_usable f.manager.told id u ≡ is_usable (f.view s) p
+
+-- The switch of this id is at the other end of a link of switch s.
+
+abbrev pub is_switch_with : Plan → SwitchId → Peer → Bool
+is_switch_with plan u HostPort = false
+is_switch_with plan u (Switch t q) = is_id (slice_get plan.ids t.0) u
+
+abbrev pub is_neighbour : Plan → ℕ → SwitchId → Bool
+is_neighbour plan s u = list_any (λ p. is_switch_with plan u (peer_of plan s p)) (ports_of_switch plan.k)
+
+-- No report says that a link to another switch is usable.
+abbrev pub HaveToldNeighbours : ControlPlane → Type 0
+HaveToldNeighbours f = (s : ℕ) (id u : SwitchId) → slice_get f.plan.ids s ≡ Some id → is_neighbour f.plan s u ≡ false →
+    last_said (link_said u) (is_told_usable f.manager.told id u) (f.reports s) ≡ false
+
+-- what the manager recorded of a usable link is one of the wiring
+abbrev pub LinksAreOfNeighbours : ControlPlane → Type 0
+LinksAreOfNeighbours f = (s : ℕ) (id u : SwitchId) → slice_get f.plan.ids s ≡ Some id → is_told_usable f.manager.told id u ≡ true →
+    (p t q : ℕ) × AreJoined f.plan s p t q × (slice_get f.plan.ids t ≡ Some u)

@@ -12,7 +12,7 @@ ghost use Rattle.pl_world.specs.WorldRule.{WorldStep};
 ghost use Rattle.pl_world.specs.Worlds.{WorldView};
 ghost use Rattle.pl_control_plane.specs.ControlPlanes.{ControlPlane, control_plane};
 ghost use Rattle.pl_control_plane.specs.HostsAtEdges.{HostsAtEdges};
-ghost use Rattle.pl_records.specs.Records.{AreCurrent, HaveOrders, HaveReported, HaveToldLinks, IsAtRest, LinksAreCurrent, NamesNeighbours};
+ghost use Rattle.pl_records.specs.Records.{AreCurrent, HaveOrders, HaveReported, HaveToldLinks, HaveToldNeighbours, IsAtRest, LinksAreCurrent, LinksAreOfNeighbours, NamesNeighbours};
 
 use pl_core::HostCore;
 
@@ -77,4 +77,16 @@ pub fn links_are_told_in_every_run<H: HostCore>()
 /// Where no report waits, the usable pairs of the records are what both ends would tell now.
 pub fn usable_pairs_are_current_at_rest()
     ensures { (plane : ControlPlane) → HaveToldLinks plane → IsAtRest plane → LinksAreCurrent plane }
+{}
+
+/// In every run the last report of a switch on its link to another one says that it is not usable, where the
+/// wiring does not join the two.
+pub fn links_to_neighbours_alone_are_told_usable_in_every_run<H: HostCore>()
+    ensures { (plan : Plan) (limits : Limits) (moments : List Moment) (new : WorldView) → CanBegin plan →
+        WorldRun Loose manager_rule H.rule (booted plan limits) moments new → HaveToldNeighbours (control_plane new) }
+{}
+
+/// So where no report waits, each usable link of the records is one of the wiring.
+pub fn usable_links_are_those_of_the_wiring_at_rest()
+    ensures { (plane : ControlPlane) → HaveToldNeighbours plane → IsAtRest plane → LinksAreOfNeighbours plane }
 {}

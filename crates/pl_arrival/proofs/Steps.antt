@@ -1,0 +1,317 @@
+-- Each step between two sure moments keeps a frame on its track.
+use Rattle.std.proofs.Common.{◌≡◌, ℕ, ◌+◌, ◌<◌, ◌==◌, ◌&&◌, nat_lt, Bool, true, false, if◌then◌else◌, List, [], ◌∷◌, fold, set, Option, Some, None, slice_get, refl, sym, ap, ◌∙◌, subst, inl, inr, ltb-true, true≢false}
+use Rattle.std.proofs.lemmas.Bool.{and_parts, cases_eq}
+use Rattle.std.proofs.lemmas.List.{get_or-set_other}
+use Rattle.std.proofs.lemmas.Nat.{same_from_place}
+use Rattle.std.proofs.lemmas.Option.{same_Some}
+use Rattle.pl_pmac.specs.declared.pmac.Pmac.{Pmac}
+use Rattle.pl_wiring.specs.declared.host.Host.{Host}
+use Rattle.pl_wiring.specs.declared.label.SwitchNo.{SwitchNo}
+use Rattle.pl_wiring.specs.declared.link.Link.{Link}
+use Rattle.pl_wiring.specs.declared.link.Peer.TheVariants.{HostPort, Switch}
+use Rattle.pl_wiring.specs.Index.{port_index}
+use Rattle.pl_wiring.specs.LiveLinks.{is_live, is_live_at}
+use Rattle.pl_wiring.specs.Peers.{peer_of}
+use Rattle.pl_wiring.specs.Plan.{Plan}
+use Rattle.pl_wiring.proofs.Linked.{peer_is_switch}
+use Rattle.pl_wiring.proofs.Live.{changes}
+use Rattle.pl_journal.specs.declared.entry.Entry.{Entry}
+use Rattle.pl_journal.specs.Places.{are_alike}
+use Rattle.pl_core.specs.HostDuties.{HostsKeepFrames}
+use Rattle.pl_core.specs.HostInputs.{HostAnswer, HostInput, HostRule}
+use Rattle.pl_core.specs.HostInputs.HostAnswer.{Nothing}
+use Rattle.pl_core.specs.HostInputs.HostInput.{HasMoved}
+use Rattle.pl_core.specs.declared.acts.HostAct.{HostAct}
+use Rattle.pl_core.specs.declared.acts.HostAct.TheVariants.{Send}
+use Rattle.pl_core.specs.declared.messages.ToManager.{ToManager}
+use Rattle.pl_core.specs.declared.messages.ToSwitch.{ToSwitch}
+use Rattle.pl_core.specs.ManagerViews.{ManagerView, newest}
+use Rattle.pl_core.specs.PortRecords.{is_usable}
+use Rattle.pl_core.specs.SwitchViews.{SwitchView}
+use Rattle.pl_core.proofs.Among.{IsAmong, among_left}
+use Rattle.pl_manager_rule.specs.ManagerRule.{manager_rule}
+use Rattle.pl_switch_rule.specs.SwitchRule.{Loose}
+use Rattle.pl_switch_rule.proofs.AccountedSteps.{loose_steps_are_accounted}
+use Rattle.pl_queues.specs.Queues.{items_at}
+use Rattle.pl_world.specs.declared.error.StepError.TheVariants.{AlreadySo, NoSuch, Occupied}
+use Rattle.pl_world.specs.declared.event.Event.{Event}
+use Rattle.pl_world.specs.declared.event.Event.TheVariants as event
+use Rattle.pl_world.specs.declared.event.QueueName.TheVariants as queue
+use Rattle.pl_world.specs.declared.item.Item.{Item}
+use Rattle.pl_world.specs.declared.item.Item.TheVariants.{Control, Data}
+use Rattle.pl_world.specs.declared.stand.Stand.{Stand}
+use Rattle.pl_world.specs.Changes.{host_at, out_of}
+use Rattle.pl_world.specs.LinksAndMoves.{host_moved, item_lost, joins, link_between}
+use Rattle.pl_world.specs.OtherActs.{heard_after_tick, host_act_done}
+use Rattle.pl_world.specs.Refusals.{has_host, has_port, has_queue, has_switch, is_filled, is_for_hosts, refusal, refusal_of_event, refusal_of_link, refusal_of_move, refusal_of_place, refusal_of_queue}
+use Rattle.pl_world.specs.WorldRule.{DeliversFromHost, DeliversFromManager, DeliversOut, DeliversToManager, Fails, Goes as MovesOn, HostTurn, IsRepaired, Loses, WorldStep}
+use Rattle.pl_world.specs.Worlds.{WorldView}
+use Rattle.pl_world.proofs.Counts.{all_found}
+use Rattle.pl_world.proofs.StepBalances.{event_is_not_refused, found_contained}
+use Rattle.pl_control_plane.specs.ControlPlanes.{control_plane}
+use Rattle.pl_control_plane.specs.HostsAtEdges.{IsAtEdge}
+use Rattle.pl_control_plane.specs.PlaneSteps.{PlaneStep}
+use Rattle.pl_control_plane.proofs.Joined.{joined_there}
+use Rattle.pl_control_plane.proofs.Stepping.{step_in_plane}
+use Rattle.pl_arrival.specs.Losses.{IsLostBy}
+use Rattle.pl_arrival.specs.Reach.{Reaches}
+use Rattle.pl_arrival.specs.Registered.{IsRegisteredBy}
+use Rattle.pl_arrival.specs.Ways.{fabric_of}
+use Rattle.pl_arrival.proofs.Alike.{Alike, alike_by_manager, alike_by_views, one_of_both}
+use Rattle.pl_arrival.proofs.Hosting.{somebody}
+use Rattle.pl_arrival.proofs.Ready.{Ready, at_edge, net, stays_at_edge}
+use Rattle.pl_arrival.proofs.Staying.{Goes, goes_host, goes_manager, goes_noted, goes_plays, goes_self, goes_switch, goes_then}
+use Rattle.pl_arrival.proofs.Track.{IsOnTrack, OnTrack, split_out, still_on}
+use Rattle.pl_arrival.proofs.Track.OnTrack.{Came, Leaves, Under, Waits}
+use Rattle.pl_arrival.proofs.Turns.{comes_in_goes, comes_over_goes, from_host, keep, out_of_port}
+use Rattle.pl_arrival.proofs.Views.{set_there}
+
+-- ---- what is not refused
+there_if : (there filled : Bool) → refusal_of_queue there filled ≡ None → there ≡ true
+there_if true filled e = refl
+there_if false filled e = absurd (cc e)
+
+port_if : (plan : Plan) (s p : ℕ) → has_port plan s p ≡ true → p < plan.k
+port_if plan s p e = ltb-true p plan.k (and_parts (has_switch plan s) (nat_lt p plan.k) e).1
+
+alike_live : (b : Bool) → (if are_alike b false then Some AlreadySo else None) ≡ None → b ≡ true
+alike_live true e = refl
+alike_live false e = absurd (cc e)
+
+pub no_host : (w : WorldView) (h s p : ℕ) → refusal_of_move w h s p ≡ None → host_at w s p ≡ None
+no_host w h s p = by (has_host w.plan h && is_for_hosts w.plan s p) (host_at w s p)
+  where
+    placed : (o : Option ℕ) → refusal_of_place h o ≡ None → o ≡ None
+    placed None e = refl
+    placed (Some k) e = absurd (either (k == h) e)
+      where
+        either : (b : Bool) → (if b then Some AlreadySo else Some Occupied) ≡ None → ⊥
+        either true e = cc e
+        either false e = cc e
+
+    by : (b : Bool) (o : Option ℕ) → (if b then refusal_of_place h o else Some NoSuch) ≡ None → o ≡ None
+    by true o e = placed o e
+    by false o e = absurd (cc e)
+
+-- ---- a link
+module _ (old new : WorldView) (r : Ready old) (ahead : Ready new) where
+  -- a live link does not fail between two settled moments: both ends would still find it usable
+  fails_never : (steps a b : ℕ) (o : Option Link) → link_between old.plan a b ≡ o → refusal_of_link old false o ≡ None → Fails (record old { steps = steps }) o new → ⊥
+  fails_never steps a b None found none is = is
+  fails_never steps a b (Some link) found none is =
+      let there = found_contained (joins a b) old.plan.links link found in
+      let live : is_live_at old.links link.lower.0 link.lower_port ≡ true = alike_live (is_live old.links link) none in
+      let joined = (peer_is_switch old.plan link.lower.0 link.lower_port link.upper link.upper_port r.calm.is).1 (there.0, link, there.1, there.2, inl (refl, refl, refl, refl)) in
+      let plan : new.plan ≡ old.plan = ap (λ (w : WorldView). w.plan) is in
+      let view : (control_plane new).view link.lower.0 ≡ (control_plane old).view link.lower.0 = ap (λ (w : WorldView). (control_plane w).view link.lower.0) is in
+      let was = r.calm.usable link.lower.0 link.lower_port link.upper.0 link.upper_port joined ∙ live in
+      let now = ahead.calm.usable link.lower.0 link.lower_port link.upper.0 link.upper_port
+      (subst (λ (p : Plan). peer_of p link.lower.0 link.lower_port ≡ Switch link.upper link.upper_port) (sym plan) joined) in
+      let failed = (changes old.plan old.links link false r.calm.is.tree r.counted.formed.links there).at_link link.lower.0 link.lower_port (inl (refl, refl)) in
+      let dead : is_live_at new.links link.lower.0 link.lower_port ≡ false = ap (λ (w : WorldView). is_live_at w.links link.lower.0 link.lower_port) is ∙ failed in
+      true≢false (sym was ∙ ap (λ (v : SwitchView). is_usable v link.lower_port) (sym view) ∙ now ∙ dead)
+
+-- ---- the manager, where a host acts
+host_acts_manager : (w : WorldView) (h : ℕ) (acts : List HostAct) → (fold (host_act_done h) w acts).manager ≡ w.manager
+host_acts_manager w h [] = refl
+host_acts_manager w h (Send frame ∷ acts) = host_acts_manager (host_act_done h w (Send frame)) h acts
+
+host_manager : (rule : HostRule) (w : WorldView) (h : ℕ) (input : HostInput) (answer : HostAnswer) (new : WorldView) → HostTurn rule w h input answer new → new.manager ≡ w.manager
+host_manager rule w h input answer new turn = ap (λ (x : WorldView). x.manager) turn.changed ∙ host_acts_manager (record w { hosts = set w.hosts h turn.after }) h turn.acts
+
+emptied : (queues : List (List Item)) (n i : ℕ) (y : Item) → (i ≡ n → ⊥) → IsAmong y (items_at queues i) → IsAmong y (items_at (set queues n []) i)
+emptied queues n i y other among = subst (IsAmong y) (sym (get_or-set_other queues n i [] [] other)) among
+
+module _ (host : HostRule) (keeps : HostsKeepFrames host) (old new : WorldView) (r : Ready old) (ahead : Ready new) (h g : ℕ) (x : Pmac) (id : ℕ)
+    (reach : Reaches old h g x) (reached : Reaches new h g x) (on : IsOnTrack old h g reach.to.stand.edge.0 x id) where
+  abbrev end : ℕ
+  end = reach.to.stand.edge.0
+
+  abbrev Stays : Type 0
+  Stays = IsOnTrack new h g end x id
+
+  -- ---- moves
+  module _ (alike : Alike (fabric_of old) (fabric_of new)) (steps m s p : ℕ) (edge : SwitchNo) (same_s : edge.0 ≡ s) (from : Stand) (found : slice_get old.stands m ≡ Some from)
+      (none : refusal_of_move old m s p ≡ None) where
+    abbrev to : Stand
+    to = record { edge = edge; port = p }
+
+    abbrev moved : WorldView
+    moved = host_moved (record old { steps = steps }) m from to
+
+    -- a host that is registered by one address then and now did not move
+    not_moved : (y : Pmac) → new.stands ≡ set old.stands m to → (before : IsRegisteredBy old m y) → IsRegisteredBy new m y → ⊥
+    not_moved y stands before after =
+        let was : from ≡ before.stand = same_Some from before.stand (sym found ∙ before.stands) in
+        let now : to ≡ after.stand = same_Some to after.stand (sym (set_there old.stands m from to found) ∙ ap (λ ss. slice_get ss m) (sym stands) ∙ after.stands) in
+        let edges = stays_at_edge old new r ahead alike m y before after in
+        let ports = sym before.at_port ∙ after.at_port in
+        somebody old.stands m from found s p
+        (ap (λ (z : Stand). z.edge.0) was ∙ edges ∙ ap (λ (z : Stand). z.edge.0) (sym now) ∙ same_s)
+        (ap (λ (z : Stand). z.port) was ∙ ports ∙ ap (λ (z : Stand). z.port) (sym now)) (no_host old m s p none)
+
+    newest_same : new.manager ≡ old.manager → new.plan ≡ old.plan → (before : IsRegisteredBy old m reach.from.0) (after : IsRegisteredBy new m reached.from.0) → reached.from.0 ≡ reach.from.0
+    newest_same manager plan before after =
+        let hosts : after.host ≡ before.host = same_Some after.host before.host (sym after.is ∙ ap (λ (z : Plan). slice_get z.hosts m) plan ∙ before.is) in
+        let one : after.newest_one ≡ before.newest_one = same_Some after.newest_one before.newest_one
+        (sym after.is_newest ∙ ap (λ (z : ManagerView). newest z.learnt after.host.mac) manager ∙ ap (λ (z : Host). newest old.manager.learnt z.mac) hosts ∙ before.is_newest) in
+        sym after.address ∙ ap (λ z. z.pmac) one ∙ before.address
+
+    moves : HostTurn host moved m HasMoved Nothing new → Stays
+    moves turn = by on
+      where
+        goes : Goes moved new
+        goes = goes_host host moved m HasMoved Nothing new turn
+
+        journal : (e : Entry) → IsAmong e old.journal → IsAmong e moved.journal
+        journal e among = among_left e _ _ (among_left e _ _ (among_left e old.journal _ among))
+
+        rest : OnTrack (fabric_of old) moved.from_hosts moved.out moved.journal h g end x id → Stays
+        rest on_moved = keep host keeps old new r ahead h g x id reach reached moved goes alike on_moved
+
+        by : IsOnTrack old h g end x id → Stays
+        by (Waits frame among plain) = elim (cases_eq h m) [
+          | inr other ↦ rest (Waits frame (emptied old.from_hosts m h (Data id frame) other among) plain)
+          | inl same ↦
+              let before = subst (λ n. IsRegisteredBy old n reach.from.0) same reach.from.1 in
+              let after = subst (λ n. IsRegisteredBy new n reached.from.0) same reached.from.1 in
+              let one = newest_same (host_manager host moved m HasMoved Nothing new turn) goes.plan before after in
+              absurd (not_moved reach.from.0 goes.stands before (subst (IsRegisteredBy new m) one after))
+        ]
+        by (Under a b u frame l among one dest headed) = elim (cases_eq (port_index old.plan.k a b) (port_index old.plan.k from.edge.0 from.port)) [
+          | inr other ↦ rest (Under a b u frame l (emptied old.out (port_index old.plan.k from.edge.0 from.port) (port_index old.plan.k a b) (Data id frame) other among) one dest headed)
+          | inl same ↦
+              let at = all_found (IsAtEdge old.plan) old.stands m from found r.hosts in
+              let both = same_from_place a b from.edge.0 from.port old.plan.k (joined_there old.plan a b u l.into r.calm.is l.joined).1 at.port same in
+              let free = subst (λ n. peer_of old.plan n b ≡ HostPort) (sym both.0) (subst (λ n. peer_of old.plan from.edge.0 n ≡ HostPort) (sym both.1) at.free) in
+              absurd (no_link (sym free ∙ l.joined))
+        ]
+          where
+            no_link : {t : SwitchNo} {q : ℕ} → HostPort ≡ Switch t q → ⊥
+            no_link e = cc e
+        by (Leaves frame among one mac) = elim (cases_eq (port_index old.plan.k end x.port) (port_index old.plan.k from.edge.0 from.port)) [
+          | inr other ↦ rest (Leaves frame (emptied old.out (port_index old.plan.k from.edge.0 from.port) (port_index old.plan.k end x.port) (Data id frame) other among) one mac)
+          | inl same ↦
+              let at = all_found (IsAtEdge old.plan) old.stands m from found r.hosts in
+              let own = at_edge old r g x reach.to in
+              let within = subst (λ n. n < old.plan.k) (sym reach.to.at_port) own.port in
+              let both = same_from_place end x.port from.edge.0 from.port old.plan.k within at.port same in
+              let stand : reach.to.stand ≡ from = same_stand reach.to.stand from both.0 (sym reach.to.at_port ∙ both.1) in
+              let is_g : g ≡ m = r.apart g m from (reach.to.stands ∙ ap Some stand) found in
+              absurd (not_moved x goes.stands (subst (λ n. IsRegisteredBy old n x) is_g reach.to) (subst (λ n. IsRegisteredBy new n x) is_g reached.to))
+        ]
+          where
+            same_stand : (a b : Stand) → a.edge.0 ≡ b.edge.0 → a.port ≡ b.port → a ≡ b
+            same_stand a b edge port = λ i. record { edge = record { 0 = edge i }; port = port i }
+        by (Came frame among) = rest (Came frame (journal _ among))
+
+  -- ---- all events
+  module _ (plane : PlaneStep Loose manager_rule (control_plane old) (control_plane new)) where
+    alike_of : new.plan ≡ old.plan → new.links ≡ old.links → Alike (fabric_of old) (fabric_of new)
+    alike_of plan links = elim (one_of_both (control_plane old) (control_plane new) plane) [
+      | inl manager ↦ alike_by_manager (net old) (net new) r.calm ahead.calm plan links (ap (λ (m : ManagerView). m.told) manager)
+      | inr views ↦ alike_by_views (net old) (net new) r.calm ahead.calm plan views
+    ]
+
+    abbrev Both : Type 0
+    Both = Alike (fabric_of old) (fabric_of new) × Stays
+
+    -- where nothing is taken out of the queues of frames
+    quietly : (mid : WorldView) → Goes old mid → Goes mid new → Both
+    quietly mid to_mid goes =
+        let whole = goes_then old mid new to_mid goes in
+        let alike = alike_of whole.plan whole.links in
+        (alike, keep host keeps old new r ahead h g x id reach reached old whole alike on)
+
+    abbrev stepped : ℕ → WorldView
+    stepped steps = record old { steps = steps }
+
+    to_stepped : (steps : ℕ) → Goes old (stepped steps)
+    to_stepped steps = record { plan = refl; links = refl; stands = refl; many = refl; out = λ i y j. j; from_hosts = λ i y j. j; journal = λ e j. j }
+
+    out_of_host : (steps n : ℕ) (items : List Item) → items_at old.from_hosts n ≡ items → DeliversFromHost Loose (stepped steps) n items new → Both
+    out_of_host steps n [] head comes = absurd comes
+    out_of_host steps n (item ∷ items) head comes =
+        let goes = comes_in_goes (record old { steps = steps; from_hosts = set old.from_hosts n items }) n item (slice_get old.stands n) new comes in
+        let alike = alike_of goes.plan goes.links in
+        (alike, from_host host keeps old new r ahead h g x id reach reached steps alike on n (item ∷ items) head comes)
+
+    out_of_switch : (steps s p : ℕ) (items : List Item) → p < old.plan.k → out_of old s p ≡ items → DeliversOut Loose host (stepped steps) s p items new → Both
+    out_of_switch steps s p [] within head comes = absurd comes
+    out_of_switch steps s p (item ∷ items) within head comes =
+        let goes = comes_over_goes host (record old { steps = steps; out = set old.out (port_index old.plan.k s p) items }) s p item (peer_of old.plan s p) new comes in
+        let alike = alike_of goes.plan goes.links in
+        (alike, out_of_port host keeps old new r ahead h g x id reach reached steps alike on s p (item ∷ items) within head comes)
+
+    to_manager : (steps s : ℕ) (items : List ToManager) → DeliversToManager manager_rule (stepped steps) s items new → Both
+    to_manager steps s [] turn = absurd turn
+    to_manager steps s (told ∷ items) turn =
+        let mid : WorldView = record old { steps = steps; to_manager = set old.to_manager s items } in
+        quietly mid (record { plan = refl; links = refl; stands = refl; many = refl; out = λ i y j. j; from_hosts = λ i y j. j; journal = λ e j. j }) (goes_manager manager_rule mid s told new turn)
+
+    from_manager : (steps s : ℕ) (items : List ToSwitch) → DeliversFromManager Loose (stepped steps) s items new → Both
+    from_manager steps s [] turn = absurd turn
+    from_manager steps s (says ∷ items) turn =
+        let mid : WorldView = record old { steps = steps; from_manager = set old.from_manager s items } in
+        quietly mid (record { plan = refl; links = refl; stands = refl; many = refl; out = λ i y j. j; from_hosts = λ i y j. j; journal = λ e j. j }) (goes_switch Loose mid s _ _ new turn)
+
+    repairs : (steps : ℕ) (o : Option Link) → IsRepaired (stepped steps) o new → Both
+    repairs steps None is = absurd is
+    repairs steps (Some link) is =
+        let alike = alike_by_views (net old) (net new) r.calm ahead.calm (ap (λ (w : WorldView). w.plan) is) (λ s. ap (λ (w : WorldView). (control_plane w).view s) is) in (
+          alike,
+          still_on (fabric_of old) (fabric_of new) r.calm.is alike old.from_hosts old.out new.from_hosts new.out old.journal new.journal
+              (λ i y j. subst (λ (w : WorldView). IsAmong y (items_at w.from_hosts i)) (sym is) j) (λ i y j. subst (λ (w : WorldView). IsAmong y (items_at w.out i)) (sym is) j)
+              (λ e j. subst (λ (w : WorldView). IsAmong e w.journal) (sym is) (among_left e old.journal _ j)) h g end x id on,
+        )
+
+    lost_goes : (w : WorldView) (item : Item) → Goes w (item_lost w item)
+    lost_goes w (Control frame) = goes_self w
+    lost_goes w (Data n frame) = goes_noted w (_ ∷ [])
+
+    loses : (steps s p : ℕ) (items : List Item) → out_of old s p ≡ items → ((frame : List ℕ) → slice_get (out_of old s p) 0 ≡ Some (Data id frame) → ⊥) → Loses (stepped steps) s p items new → Both
+    loses steps s p [] head not_lost is = absurd is
+    loses steps s p (item ∷ items) head not_lost is =
+        let mid : WorldView = record old { steps = steps; out = set old.out (port_index old.plan.k s p) items } in
+        let goes : Goes mid new = subst (Goes mid) (sym is) (lost_goes mid item) in
+        elim (split_out (fabric_of old) old.from_hosts old.out old.journal (port_index old.plan.k s p) item items head h g end x id on) [
+          | inl rest ↦ (alike_of goes.plan goes.links, keep host keeps old new r ahead h g x id reach reached mid goes (alike_of goes.plan goes.links) rest)
+          | inr (inl taken) ↦ absurd (not_lost taken.frame (ap (λ xs. slice_get xs 0) head ∙ ap Some taken.is))
+          | inr (inr taken) ↦ absurd (not_lost taken.frame (ap (λ xs. slice_get xs 0) head ∙ ap Some taken.is))
+        ]
+
+    goes_away : (steps m s p : ℕ) (edge : SwitchNo) → edge.0 ≡ s → refusal_of_move old m s p ≡ None → (o : Option Stand) → slice_get old.stands m ≡ o →
+        MovesOn host (stepped steps) m (record { edge = edge; port = p }) o new → Both
+    goes_away steps m s p edge same none None found turn = absurd turn
+    goes_away steps m s p edge same none (Some from) found turn =
+        let goes = goes_host host (host_moved (stepped steps) m from (record { edge = edge; port = p })) m HasMoved Nothing new turn in
+        (alike_of goes.plan goes.links, moves (alike_of goes.plan goes.links) steps m s p edge same from found none turn)
+
+    pub stays : (happens : Event) → refusal_of_event old happens ≡ None → (IsLostBy old happens id → ⊥) → WorldStep Loose manager_rule host old happens new → Both
+    stays (event.Deliver (queue.FromHost n)) none kept comes = out_of_host (old.steps + 1) n.0 (items_at old.from_hosts n.0) refl comes
+    stays (event.Deliver (queue.Port s p)) none kept comes =
+        let within = port_if old.plan s.0 p (there_if (has_queue old.plan (queue.Port s p)) (is_filled old (queue.Port s p)) none) in
+        out_of_switch (old.steps + 1) s.0 p (out_of old s.0 p) within refl comes
+    stays (event.Deliver (queue.ToManager s)) none kept comes = to_manager (old.steps + 1) s.0 (items_at old.to_manager s.0) comes
+    stays (event.Deliver (queue.FromManager s)) none kept comes = from_manager (old.steps + 1) s.0 (items_at old.from_manager s.0) comes
+    stays (event.Tick s) none kept turn =
+        let mid : WorldView = record old { steps = old.steps + 1; heard = heard_after_tick s.0 old.stands old.heard } in
+        quietly mid (record { plan = refl; links = refl; stands = refl; many = refl; out = λ i y j. j; from_hosts = λ i y j. j; journal = λ e j. j }) (goes_switch Loose mid s.0 _ _ new turn)
+    stays (event.Fail a b) none kept is = absurd (fails_never old new r ahead (old.steps + 1) a.0 b.0 (link_between old.plan a.0 b.0) refl none is)
+    stays (event.Repair a b) none kept is = repairs (old.steps + 1) (link_between old.plan a.0 b.0) is
+    stays (event.Lose s p) none kept is =
+        loses (old.steps + 1) s.0 p (out_of old s.0 p) refl (λ frame first. kept (record { frame = frame; first = first })) is
+    stays (event.Move n s p) none kept turn = goes_away (old.steps + 1) n.0 s.0 p s refl none (slice_get old.stands n.0) refl turn
+    stays (event.Start n) none kept turn = quietly (stepped (old.steps + 1)) (to_stepped (old.steps + 1)) (goes_host host (stepped (old.steps + 1)) n.0 _ _ new turn)
+    stays (event.Play n frame original raw) none kept plays = quietly (stepped (old.steps + 1)) (to_stepped (old.steps + 1)) (goes_plays host (stepped (old.steps + 1)) n.0 _ new plays)
+    stays (event.Retry n) none kept turn = quietly (stepped (old.steps + 1)) (to_stepped (old.steps + 1)) (goes_host host (stepped (old.steps + 1)) n.0 _ _ new turn)
+    stays (event.Join n group) none kept turn = quietly (stepped (old.steps + 1)) (to_stepped (old.steps + 1)) (goes_host host (stepped (old.steps + 1)) n.0 _ _ new turn)
+    stays (event.Leave n group) none kept turn = quietly (stepped (old.steps + 1)) (to_stepped (old.steps + 1)) (goes_host host (stepped (old.steps + 1)) n.0 _ _ new turn)
+
+  -- each step
+  pub step_keeps : (happens : Event) → refusal old happens ≡ None → (IsLostBy old happens id → ⊥) → WorldStep Loose manager_rule host old happens new →
+      IsOnTrack new h g reached.to.stand.edge.0 x id
+  step_keeps happens none kept step =
+      let plane = step_in_plane Loose manager_rule host loose_steps_are_accounted old happens new r.counted r.hosts none step in
+      let both = stays plane happens (event_is_not_refused old happens none) kept step in
+      subst (λ t. IsOnTrack new h g t x id) (stays_at_edge old new r ahead both.0 g x reach.to reached.to) both.1

@@ -1,0 +1,12 @@
+use Rattle.pl_world.specs.Booting.{booted}
+use Rattle.pl_kept.proofs.Lawful.{run_lawful}
+use Rattle.pl_arrival.proofs.Arriving.{arrives}
+use Rattle.pl_arrival.proofs.Cores.{sure_lawful}
+use Rattle.pl_arrival.proofs.arrival_laws.a_sure_frame_that_ends_has_arrived.Goals as goal
+
+pub returns : goal.returns
+returns g c = λ plan limits before moments sent new id h k can run sure over.
+    arrives g.H.HostCore.rule g.met.H.HostCore.sends g.met.H.HostCore.owns g.met.H.HostCore.keeps plan limits can before sent
+    (run_lawful g.S.SwitchCore.rule g.M.ManagerCore.rule g.H.HostCore.rule g.met.S.LooseSwitch.obeys g.met.M.LawfulManager.lawful (booted plan limits) before sent run)
+    id h k moments new
+    (sure_lawful g.S.SwitchCore.rule g.M.ManagerCore.rule g.H.HostCore.rule g.met.S.LooseSwitch.obeys g.met.M.LawfulManager.lawful sent moments new id h k sure) over

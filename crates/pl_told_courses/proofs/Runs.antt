@@ -26,7 +26,7 @@ use Rattle.pl_control_plane.proofs.Stepping.{step_in_plane}
 use Rattle.pl_places.specs.Places.{ArePlaced}
 use Rattle.pl_kept.proofs.Keeping.{step_keeps_all}
 use Rattle.pl_kept.proofs.Lawful.{run_lawful}
-use Rattle.pl_kept_courses.proofs.Runs.{kept_at_first, lawful_run_keeps}
+use Rattle.pl_kept.proofs.Running.{kept_at_first, mark_keeps}
 use Rattle.pl_ledger_runs.proofs.Runs.{IsEnteredAll, entered_first, entered_mark, entered_step}
 use Rattle.pl_copies.proofs.Runs.{first_there, mark_once, step_once}
 use Rattle.pl_trees.specs.Trees.{AreTrees}
@@ -73,8 +73,7 @@ module _ (host : HostRule) (sends : HostsSendData host) (owns : HostsSendOwn hos
   mark_all w entry is all =
       let entered = entered_mark w entry is all.kept (entered_of w all) in
       record {
-        kept = lawful_run_keeps host sends owns Loose manager_rule (λ old input new acts r. r) (λ before s says after acts. (λ r. r, λ r. r)) w (Mark entry ∷ []) (noted w entry) all.kept
-            (noted w entry, (is, refl), refl);
+        kept = mark_keeps w entry is all.kept;
         asking = entered.asking;
         ledger = entered.ledger;
         trees = all.trees;

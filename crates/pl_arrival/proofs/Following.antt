@@ -1,5 +1,5 @@
 -- What each step leaves: the wiring, the live links or what switches know, and what was written.
-use Rattle.std.proofs.Common.{◌≡◌, ◌⊎◌, ℕ, ◌+◌, List, [], ◌∷◌, ◌++◌, set, Option, Some, None, slice_get, refl, sym, ap, ◌∙◌, subst, inl, inr}
+use Rattle.std.proofs.Common.{◌≡◌, ◌⊎◌, ℕ, ◌+◌, List, [], ◌∷◌, set, Option, Some, None, slice_get, refl, sym, ap, ◌∙◌, subst, inl, inr}
 use Rattle.pl_wiring.specs.declared.link.Link.{Link}
 use Rattle.pl_wiring.specs.Index.{port_index}
 use Rattle.pl_wiring.specs.Peers.{peer_of}
@@ -34,7 +34,7 @@ use Rattle.pl_arrival.specs.Orderly.{IsOrderly}
 use Rattle.pl_arrival.specs.Ways.{Alike, fabric_of}
 use Rattle.pl_arrival.proofs.Alike.{alike_by_manager, alike_by_views, one_of_both}
 use Rattle.pl_arrival.proofs.Grounds.{ready}
-use Rattle.pl_arrival.proofs.Ready.{Ready, net}
+use Rattle.pl_arrival.proofs.Ready.{net}
 use Rattle.pl_arrival.proofs.Staying.{Goes, goes_host, goes_manager, goes_noted, goes_plays, goes_self, goes_switch}
 use Rattle.pl_arrival.proofs.Turns.{comes_in_goes, comes_over_goes}
 

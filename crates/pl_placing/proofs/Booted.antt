@@ -1,6 +1,6 @@
 -- At the beginning no position was tried.
-use Rattle.std.proofs.Common.{◌≡◌, ℕ, zero, suc, ◌*◌, ◌/◌, ◌<◌, nat_lt, Bool, true, false, if◌then◌else◌, List, [], ◌∷◌, map, replicate, get_or, Some, None, refl, sym, ap, subst, arith}
-use Rattle.std.specs.List.{AllByRecursion}
+use Rattle.std.proofs.Common.{◌≡◌, ℕ, zero, suc, ◌*◌, ◌/◌, ◌<◌, nat_lt, Bool, true, false, if◌then◌else◌, List, [], ◌∷◌, map, replicate, get_or, Some, None, refl, sym, ap, ◌∙◌, true≢false, subst, arith}
+use Rattle.std.specs.List.{AllByRecursion, list_any}
 use Rattle.pl_frame.specs.declared.address.SwitchId.{SwitchId}
 use Rattle.pl_wiring.specs.Index.{port_index}
 use Rattle.pl_wiring.specs.Labels.{switch_count}
@@ -13,8 +13,10 @@ use Rattle.pl_world.specs.Booting.{booted}
 use Rattle.pl_control_plane.specs.ControlPlanes.{control_plane, no_switch, queue_out, said}
 use Rattle.pl_votes.specs.Voting.{aggregation_no, edge_no}
 use Rattle.pl_core.specs.PortRecords.{heard_place, new_port, place_at}
+use Rattle.pl_placing.specs.Asking.{HaveAsked, OnlyFirstAsk, is_wish}
 use Rattle.pl_placing.specs.Bounding.{IsBounded}
 use Rattle.pl_placing.specs.Noting.{AreNoted}
+use Rattle.pl_placing.specs.Receiving.{HaveCrossed, ItemHasCrossed}
 use Rattle.pl_placing.specs.Trying.{AreTrying, IsTrueVote, IsTrying}
 
 pub replicated : {X : Type 0} (n i : ℕ) (x : X) → get_or (replicate n x) i x ≡ x
@@ -71,3 +73,20 @@ noted_at_first plan limits pod i j p q edge aggregation joined = record {
 pub bounded_at_first : (plan : Plan) (limits : Limits) (s : ℕ) → IsBounded (booted plan limits).steps ((control_plane (booted plan limits)).view s)
 bounded_at_first plan limits s =
     booted_view (IsBounded 0) (λ id k. record { few = λ level. absurd (cc level); at_first = λ never. refl }) plan.k plan.ids s
+
+pub asked_at_first : (plan : Plan) (limits : Limits) → HaveAsked (control_plane (booted plan limits))
+asked_at_first plan limits s position none =
+    let nowhere = booted_view (λ v. v.place.position ≡ None) (λ id k. refl) plan.k plan.ids s in absurd (cc (nowhere, position))
+
+pub first_at_first : (plan : Plan) (limits : Limits) → OnlyFirstAsk (control_plane (booted plan limits))
+first_at_first plan limits = record {
+  waiting = λ s waits. absurd (true≢false (sym waits ∙ ap (list_any is_wish) (replicated (switch_count plan.k) s [])));
+  heard = tt;
+}
+
+pub crossed_at_first : (plan : Plan) → HaveCrossed [] (replicate (switch_count plan.k * plan.k) []) 0
+crossed_at_first plan = record { items = empty (switch_count plan.k * plan.k); unsent = λ id more. refl }
+  where
+    empty : (n : ℕ) → AllByRecursion (AllByRecursion (ItemHasCrossed [] 0)) (replicate n [])
+    empty zero = tt
+    empty (suc n) = (tt, empty n)

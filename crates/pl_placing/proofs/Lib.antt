@@ -11,6 +11,13 @@ pub mod Notes
 pub mod Booted
 pub mod Counting
 pub mod Bounding
+pub mod Wishes
+pub mod Asking
+pub mod Firsts
+pub mod Crossing
+pub mod Receiving
+pub mod HostLevels
+pub mod Levels
 pub mod Runs
 pub mod Resting
 pub mod AtRest

@@ -1,5 +1,5 @@
 -- Each step keeps edge switches on their way to their places, and so does each run from the beginning.
-use Rattle.std.proofs.Common.{◌≡◌, List, [], ◌∷◌, ◌++◌, None, refl, sym, subst}
+use Rattle.std.proofs.Common.{◌≡◌, List, None, inl, inr, true≢false, sym, subst}
 use Rattle.pl_wiring.specs.Plan.{Plan}
 use Rattle.pl_core.specs.HostDuties.{HostsSendData, HostsSendOwn}
 use Rattle.pl_core.specs.HostInputs.{HostRule}
@@ -11,29 +11,43 @@ use Rattle.pl_journal.specs.declared.entry.Entry.{Entry}
 use Rattle.pl_world.specs.declared.limits.Limits.{Limits}
 use Rattle.pl_world.specs.Booting.{CanBegin, booted}
 use Rattle.pl_world.specs.Refusals.{refusal}
-use Rattle.pl_world.specs.Runs.{Befalls, Moment, WorldRun}
+use Rattle.pl_world.specs.Runs.{IsMark, Moment, WorldRun}
 use Rattle.pl_world.specs.Changes.{noted}
-use Rattle.pl_world.specs.Runs.Moment.{Mark, Step}
 use Rattle.pl_world.specs.WorldRule.{WorldStep}
 use Rattle.pl_world.specs.Worlds.{WorldView}
 use Rattle.pl_control_plane.specs.ControlPlanes.{control_plane}
 use Rattle.pl_control_plane.proofs.Staying.{plan_stays}
-use Rattle.pl_control_plane.proofs.Stepping.{step_in_plane}
+use Rattle.pl_control_plane.proofs.Stepping.{whole_step}
 use Rattle.pl_votes.proofs.Differing.{fixed_are_apart}
 use Rattle.pl_pods.proofs.Booted.{numbers_fit}
 use Rattle.pl_kept.specs.Kept.{Kept}
-use Rattle.pl_kept.proofs.Keeping.{run_keeps_all}
+use Rattle.pl_kept.proofs.Running.{holds_in_run, kept_at_first}
 use Rattle.pl_kept.proofs.Telling.{can_tell}
 use Rattle.pl_placing.specs.Bounding.{IsBounded}
 use Rattle.pl_placing.specs.Noting.{AreNotedBy}
 use Rattle.pl_placing.specs.Placing.{ArePlacing}
 use Rattle.pl_placing.specs.Trying.{AreTryingBy}
+use Rattle.pl_placing.proofs.Asking.{step_asked}
 use Rattle.pl_placing.proofs.Bounding.{seen_bounded}
 use Rattle.pl_placing.proofs.Counting.{one_more_step}
-use Rattle.pl_placing.proofs.Booted.{bounded_at_first, noted_at_first, trying_at_first}
+use Rattle.pl_placing.proofs.Booted.{asked_at_first, bounded_at_first, crossed_at_first, first_at_first, noted_at_first, trying_at_first}
+use Rattle.pl_placing.proofs.Firsts.{step_first}
 use Rattle.pl_placing.proofs.Keeping.{seen_trying}
+use Rattle.pl_placing.proofs.Levels.{seen_later, step_levels}
 use Rattle.pl_placing.proofs.Notes.{seen_noted}
+use Rattle.pl_placing.proofs.Receiving.{marked_goes}
 use Rattle.pl_placing.proofs.Seeing.{step_seen}
+
+placing_at_first : (plan : Plan) (limits : Limits) → ArePlacing (booted plan limits)
+placing_at_first plan limits = record {
+  trying = trying_at_first plan limits;
+  noted = noted_at_first plan limits;
+  bounded = bounded_at_first plan limits;
+  asked = asked_at_first plan limits;
+  first = first_at_first plan limits;
+  crossed = crossed_at_first plan;
+  levels = λ s h. absurd (true≢false (sym h));
+}
 
 module _ (host : HostRule) (sends : HostsSendData host) where
   pub step_places : (old : WorldView) (event : Event) (new : WorldView) → Kept old → ArePlacing old → refusal old event ≡ None →
@@ -41,9 +55,12 @@ module _ (host : HostRule) (sends : HostsSendData host) where
   step_places old event new before placing none step =
       let f = control_plane old in let g = control_plane new in
       let is = before.counted.formed.plan in
-      let taken = step_in_plane Loose manager_rule host loose_steps_are_accounted old event new before.counted before.hosts none step in
+      let whole = whole_step Loose manager_rule host loose_steps_are_accounted old event new before.counted before.hosts none step in
+      let taken = whole.0 in
       let same = plan_stays Loose manager_rule f g taken in
       let seen = step_seen manager_rule f g is before.placed (fixed_are_apart f.plan f.view f.says is before.voting) (numbers_fit f is before.given) taken in
+      let later = seen_later f g seen in
+      let levels = step_levels old before new host event placing.crossed placing.levels later step in
       record {
         trying = subst (λ (p : Plan). AreTryingBy p g.view g.says) (sym same)
             (seen_trying f g is before.placed (can_tell old before.counted before.placed) placing.trying seen);
@@ -51,31 +68,28 @@ module _ (host : HostRule) (sends : HostsSendData host) where
             (seen_noted f g is before.placed (can_tell old before.counted before.placed) before.voting placing.noted seen);
         bounded = λ s. subst (λ n. IsBounded n (g.view s)) (sym (one_more_step Loose manager_rule host old event new step))
             (seen_bounded old.steps f g placing.bounded seen s);
+        asked = step_asked f is g before.placed (numbers_fit f is before.given) later placing.asked taken whole.1;
+        first = step_first f g same later placing.first taken whole.1;
+        crossed = levels.0;
+        levels = levels.1;
       }
 
   module _ (owns : HostsSendOwn host) where
-    run_more : (old mid new : WorldView) (moments : List Moment) (moment : Moment) → WorldRun Loose manager_rule host old moments mid →
-        Befalls Loose manager_rule host mid moment new → WorldRun Loose manager_rule host old (moments ++ moment ∷ []) new
-    run_more old mid new [] moment run more = (new, subst (λ (w : WorldView). Befalls Loose manager_rule host w moment new) run more, refl)
-    run_more old mid new (first ∷ moments) moment run more = (run.0, run.1, run_more run.0 mid new moments moment run.2 more)
-
-    noted_places : (old : WorldView) (entry : Entry) → ArePlacing old → ArePlacing (noted old entry)
-    noted_places old entry placing = record { trying = placing.trying; noted = placing.noted; bounded = placing.bounded }
-
-    -- from any moment of a run from the beginning on
-    places_from : (plan : Plan) (limits : Limits) → CanBegin plan → (before : List Moment) (old : WorldView) → WorldRun Loose manager_rule host (booted plan limits) before old →
-        ArePlacing old → (moments : List Moment) (new : WorldView) → WorldRun Loose manager_rule host old moments new → ArePlacing new
-    places_from plan limits can before old run placing [] new same = subst (λ (w : WorldView). ArePlacing w) (sym same) placing
-    places_from plan limits can before old run placing (Step event ∷ moments) new rest =
-        let kept = run_keeps_all host sends owns plan limits before old can run in
-        places_from plan limits can (before ++ Step event ∷ []) rest.0 (run_more (booted plan limits) old rest.0 before (Step event) run rest.1)
-        (step_places old event rest.0 kept placing rest.1.0 rest.1.1) moments new rest.2
-    places_from plan limits can before old run placing (Mark entry ∷ moments) new rest =
-        places_from plan limits can (before ++ Mark entry ∷ []) rest.0 (run_more (booted plan limits) old rest.0 before (Mark entry) run rest.1)
-        (subst (λ (w : WorldView). ArePlacing w) (sym rest.1.1) (noted_places old entry placing)) moments new rest.2
+    noted_places : (old : WorldView) (entry : Entry) → IsMark entry → ArePlacing old → ArePlacing (noted old entry)
+    noted_places old entry mark placing =
+        let goes = marked_goes old entry mark placing.crossed in
+        record {
+          trying = placing.trying;
+          noted = placing.noted;
+          bounded = placing.bounded;
+          asked = placing.asked;
+          first = record { waiting = placing.first.waiting; heard = placing.first.heard };
+          crossed = goes.crossed;
+          levels = λ s h. elim (goes.received s h) [ inl before ↦ placing.levels s before | inr never ↦ absurd never ];
+        }
 
     pub run_places : (plan : Plan) (limits : Limits) (moments : List Moment) (new : WorldView) → CanBegin plan →
         WorldRun Loose manager_rule host (booted plan limits) moments new → ArePlacing new
     run_places plan limits moments new can run =
-        places_from plan limits can [] (booted plan limits) refl
-        (record { trying = trying_at_first plan limits; noted = noted_at_first plan limits; bounded = bounded_at_first plan limits }) moments new run
+        holds_in_run host sends owns ArePlacing (λ old event next kept after placing none step. step_places old event next kept placing none step) noted_places
+        (booted plan limits) moments new (kept_at_first plan limits can) (placing_at_first plan limits) run

@@ -26,7 +26,7 @@ pub record IsCounted (v : SwitchView) (vote : Answer) : Type 0 where
   pub attempt : vote.attempt ≡ v.attempt
   pub position : vote.position ≡ v.proposed
 
-counts_says : (v : SwitchView) (vote : Answer) → counts v.place v.attempt v.proposed vote ≡ true → IsCounted v vote
+pub counts_says : (v : SwitchView) (vote : Answer) → counts v.place v.attempt v.proposed vote ≡ true → IsCounted v vote
 counts_says v vote h =
     let a = and_parts (is_known v.place.level 0 && is_none v.place.position && (vote.attempt == v.attempt)) (vote.position == v.proposed) h in
     let b = and_parts (is_known v.place.level 0 && is_none v.place.position) (vote.attempt == v.attempt) a.0 in

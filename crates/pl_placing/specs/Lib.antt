@@ -4,3 +4,5 @@ pub mod Noting
 pub mod Resting
 pub mod Bounding
 pub mod News
+pub mod Asking
+pub mod Receiving

@@ -1,3 +1,4 @@
 pub mod Records
 pub mod Pods
+pub mod Placed
 pub mod Runs

@@ -1,5 +1,5 @@
 -- Where the queues are settled no report and no order waits.
-use Rattle.std.proofs.Common.{ℕ, zero, suc, List, [], ◌∷◌, refl, arith, Contains}
+use Rattle.std.proofs.Common.{zero, suc, List, [], ◌∷◌, refl, arith, Contains}
 use Rattle.std.specs.List.{AllByRecursion}
 use Rattle.pl_core.specs.declared.messages.ToManager.{ToManager}
 use Rattle.pl_core.specs.declared.messages.ToManager.TheVariants as tell

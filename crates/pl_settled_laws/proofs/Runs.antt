@@ -1,5 +1,5 @@
 -- What holds of each moment of a run of lawful cores from the beginning, and what it comes to where the fabric is settled.
-use Rattle.std.proofs.Common.{◌≡◌, ◌<◌, ℕ, List, Some}
+use Rattle.std.proofs.Common.{◌≡◌, ◌<◌, ℕ, List, [], ◌∷◌, ◌++◌, Some, None, subst}
 use Rattle.pl_wiring.specs.declared.label.Label.TheVariants.{Edge}
 use Rattle.pl_wiring.specs.Labels.{IsLabel}
 use Rattle.pl_wiring.specs.Plan.{Plan}
@@ -16,7 +16,10 @@ use Rattle.pl_world.specs.Booting.{CanBegin, booted}
 use Rattle.pl_world.specs.Runs.{Moment, WorldRun}
 use Rattle.pl_world.specs.SettledQueues.{HasSettledQueues}
 use Rattle.pl_world.specs.Worlds.{WorldView}
+use Rattle.pl_fabric.specs.declared.settling.Settling.{Settling}
 use Rattle.pl_fabric.specs.Settled.{IsSettled}
+use Rattle.pl_fabric.specs.Settlings.{Settles}
+use Rattle.pl_fabric.proofs.CourseRuns.{rounds_are_run}
 use Rattle.pl_control_plane.specs.ControlPlanes.{control_plane}
 use Rattle.pl_votes.specs.Voting.{edge_no}
 use Rattle.pl_kept.proofs.Keeping.{run_keeps_all}
@@ -26,8 +29,10 @@ use Rattle.pl_records.proofs.LinkRuns.{run_links}
 use Rattle.pl_records.proofs.Running.{run_ordered, run_reported}
 use Rattle.pl_placing.specs.Resting.{HasFirst, HavePositions}
 use Rattle.pl_placing.proofs.Runs.{run_places}
+use Rattle.pl_settled_laws.specs.AtPlace.{ReceiversArePlaced}
 use Rattle.pl_settled_laws.specs.Whole.{IsWholePod}
 use Rattle.pl_settled_laws.proofs.Pods.{settled_first, settled_positions}
+use Rattle.pl_settled_laws.proofs.Placed.{receivers_placed}
 use Rattle.pl_settled_laws.proofs.Records.{are_current, links_current}
 
 module _ (switch : SwitchRule) (manager : ManagerRule) (host : HostRule) (within : IsWithin switch Loose) (lawful : IsManagerRule manager)
@@ -50,3 +55,20 @@ module _ (switch : SwitchRule) (manager : ManagerRule) (host : HostRule) (within
       ((control_plane new).view (edge_no new.plan.k pod i)).place.level ≡ Some 0 → HasFirst (control_plane new) pod
   run_first settled few pod whole i edge level =
       settled_first new (run_keeps_all host sends owns plan limits moments new can loose) settled (run_places host sends owns plan limits moments new can loose) few pod whole i edge level
+
+  pub run_placed : IsSettled new → new.steps < 4294967295 → (pod : ℕ) → IsWholePod new pod → ReceiversArePlaced new pod
+  run_placed settled few pod whole =
+      receivers_placed new (run_places host sends owns plan limits moments new can loose) (run_keeps_all host sends owns plan limits moments new can loose) settled few pod whole
+
+-- one run behind another
+runs_on : (switch : SwitchRule) (manager : ManagerRule) (host : HostRule) (old mid new : WorldView) (moments more : List Moment) → WorldRun switch manager host old moments mid →
+    WorldRun switch manager host mid more new → WorldRun switch manager host old (moments ++ more) new
+runs_on switch manager host old mid new [] more same run = subst (λ (w : WorldView). WorldRun switch manager host w more new) same run
+runs_on switch manager host old mid new (moment ∷ moments) more first run = (first.0, first.1, runs_on switch manager host first.0 mid new moments more first.2 run)
+
+-- a settling is one
+pub settled_by_run : (switch : SwitchRule) (manager : ManagerRule) (host : HostRule) (begun old new : WorldView) (moments : List Moment) (asked : ℕ) (answer : Settling) →
+    WorldRun switch manager host begun moments old → Settles switch manager host asked old answer new → (all : List Moment) × WorldRun switch manager host begun all new
+settled_by_run switch manager host begun old new moments asked answer run settles =
+    let rounds = rounds_are_run switch manager host settles.used old new None settles.rounds in
+    (moments ++ rounds.0, runs_on switch manager host begun old new moments rounds.0 run rounds.1)

@@ -9,7 +9,8 @@ ghost use Rattle.pl_votes.specs.Voting.{edge_no};
 ghost use Rattle.pl_kept.specs.Kept.{Kept};
 ghost use Rattle.pl_records.specs.Records.{AreCurrent, HaveOrders, HaveReported, HaveToldLinks, IsAtRest, LinksAreCurrent};
 ghost use Rattle.pl_placing.specs.Placing.{ArePlacing};
-ghost use Rattle.pl_placing.specs.Resting.{HasFirst, HavePositions, IsRestingPod};
+ghost use Rattle.pl_placing.specs.Resting.{FirstKnowsPod, HasFirst, HavePositions, IsRestingPod, KnowPod};
+ghost use Rattle.pl_settled_laws.specs.AtPlace.{ReceiversArePlaced};
 ghost use Rattle.pl_settled_laws.specs.Whole.{IsWholePod};
 
 /// Where the queues are settled, as they are in a settled fabric, no report and no order waits.
@@ -42,4 +43,18 @@ pub fn edge_switches_of_a_settled_pod_have_positions()
 pub fn one_of_a_settled_pod_has_position_0()
     ensures { (w : WorldView) → Kept w → ArePlacing w → IsSettled w → w.steps < 4294967295 → (pod : ℕ) → IsWholePod w pod →
         (i : ℕ) → IsLabel w.plan.k (Edge pod i) → ((control_plane w).view (edge_no w.plan.k pod i)).place.level ≡ Some 0 → HasFirst (control_plane w) pod }
+{}
+
+/// An edge switch with position 0 knows its pod where the queues are settled, since its wish was heard and
+/// answered; so each edge switch of the pod that knows its level does.
+pub fn edge_switches_of_a_settled_pod_know_the_pod()
+    ensures first { (w : WorldView) → ArePlacing w → HasSettledQueues w → (pod : ℕ) → FirstKnowsPod (control_plane w) pod }
+    ensures all { (w : WorldView) → Kept w → ArePlacing w → IsSettled w → w.steps < 4294967295 → (pod : ℕ) → IsWholePod w pod →
+        KnowPod (control_plane w) pod }
+{}
+
+/// And each edge switch of it that received a frame of a host has level 0, a position and a pod.
+pub fn edge_switches_of_a_settled_pod_that_received_frames_of_hosts_are_placed()
+    ensures { (w : WorldView) → Kept w → ArePlacing w → IsSettled w → w.steps < 4294967295 → (pod : ℕ) → IsWholePod w pod →
+        ReceiversArePlaced w pod }
 {}

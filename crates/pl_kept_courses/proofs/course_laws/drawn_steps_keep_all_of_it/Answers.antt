@@ -1,5 +1,5 @@
 use Rattle.pl_kept_courses.proofs.Courses.{draws_keep}
-use Rattle.pl_kept_courses.proofs.Runs.{lawful_run_keeps}
+use Rattle.pl_kept.proofs.Running.{lawful_run_keeps}
 use Rattle.pl_kept_courses.proofs.course_laws.drawn_steps_keep_all_of_it.Goals as goal
 
 pub returns : goal.returns

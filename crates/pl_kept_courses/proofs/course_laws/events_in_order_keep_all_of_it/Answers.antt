@@ -1,5 +1,5 @@
 use Rattle.pl_kept_courses.proofs.Courses.{makes_all_keeps, makes_keeps, ticks_all_keep}
-use Rattle.pl_kept_courses.proofs.Runs.{lawful_run_keeps}
+use Rattle.pl_kept.proofs.Running.{lawful_run_keeps}
 use Rattle.pl_kept_courses.proofs.course_laws.events_in_order_keep_all_of_it.Goals as goal
 
 pub returns-clause-one : goal.returns-clause-one

@@ -1,4 +1,4 @@
-use Rattle.pl_kept_courses.proofs.Runs.{lawful_run_keeps}
+use Rattle.pl_kept.proofs.Running.{lawful_run_keeps}
 use Rattle.pl_kept_courses.proofs.run_laws.runs_of_lawful_cores_keep_all_of_it.Goals as goal
 
 pub returns : goal.returns

@@ -1,4 +1,4 @@
-use Rattle.pl_settled_laws.proofs.Runs.{run_current, run_first, run_links_current, run_positions}
+use Rattle.pl_settled_laws.proofs.Runs.{run_current, run_first, run_links_current, run_placed, run_positions}
 use Rattle.pl_settled_laws.proofs.run_laws.settled_runs_have_current_records_and_positions.Goals as goal
 
 pub returns-clause-records : goal.returns-clause-records
@@ -12,3 +12,6 @@ returns-clause-positions g c = λ plan limits moments new can run. run_positions
 
 pub returns-clause-first : goal.returns-clause-first
 returns-clause-first g c = λ plan limits moments new can run. run_first g.S.SwitchCore.rule g.M.ManagerCore.rule g.H.HostCore.rule g.met.S.LooseSwitch.obeys g.met.M.LawfulManager.lawful g.met.H.HostCore.sends g.met.H.HostCore.owns plan limits moments new can run
+
+pub returns-clause-placed : goal.returns-clause-placed
+returns-clause-placed g c = λ plan limits moments new can run. run_placed g.S.SwitchCore.rule g.M.ManagerCore.rule g.H.HostCore.rule g.met.S.LooseSwitch.obeys g.met.M.LawfulManager.lawful g.met.H.HostCore.sends g.met.H.HostCore.owns plan limits moments new can run

@@ -1,5 +1,5 @@
--- What holds in every run holds at the beginning, and each run of lawful cores keeps it.
-use Rattle.std.proofs.Common.{List, [], ◌∷◌, refl, sym, subst}
+-- What holds in every run holds at the beginning, and each run of lawful cores keeps it. So does whatever each step keeps where all of it is kept.
+use Rattle.std.proofs.Common.{◌≡◌, List, [], ◌∷◌, None, refl, sym, subst}
 use Rattle.std.proofs.lemmas.Option.{none-some}
 use Rattle.pl_wiring.specs.Plan.{Plan}
 use Rattle.pl_journal.specs.declared.entry.Entry.{Entry}
@@ -12,11 +12,14 @@ use Rattle.pl_core.specs.Accounting.{IsWithin}
 use Rattle.pl_manager_rule.specs.Lawful.{IsManagerRule}
 use Rattle.pl_manager_rule.specs.ManagerRule.{manager_rule}
 use Rattle.pl_switch_rule.specs.SwitchRule.{Loose}
+use Rattle.pl_world.specs.declared.event.Event.{Event}
 use Rattle.pl_world.specs.declared.limits.Limits.{Limits}
 use Rattle.pl_world.specs.Booting.{CanBegin, booted}
 use Rattle.pl_world.specs.Changes.{noted}
+use Rattle.pl_world.specs.Refusals.{refusal}
 use Rattle.pl_world.specs.Runs.{IsMark, Moment, WorldRun}
 use Rattle.pl_world.specs.Runs.Moment.{Mark, Step}
+use Rattle.pl_world.specs.WorldRule.{WorldStep}
 use Rattle.pl_world.specs.Worlds.{WorldView}
 use Rattle.pl_world.proofs.BootBalances.{booted_is_counted}
 use Rattle.pl_world.proofs.Runs.{marked_counted}
@@ -57,7 +60,7 @@ mark_in_order w e is o =
     (record { addressed = o.addressed; own = o.own; since = λ s v found. absurd (none-some v found); once = o.once }) in
     record { addressed = n.addressed; own = n.own; once = n.once }
 
-mark_keeps : (w : WorldView) (e : Entry) → IsMark e → Kept w → Kept (noted w e)
+pub mark_keeps : (w : WorldView) (e : Entry) → IsMark e → Kept w → Kept (noted w e)
 mark_keeps w e is before = record {
   counted = marked_counted w (noted w e) e is refl before.counted;
   hosts = before.hosts;
@@ -69,12 +72,21 @@ mark_keeps w e is before = record {
 
 -- ---- a run
 module _ (host : HostRule) (sends : HostsSendData host) (owns : HostsSendOwn host) where
+  -- what each step keeps between worlds where all of it is kept, and each mark too, holds along a run
+  pub holds_in_run : (Holds : WorldView → Type 0) →
+      ((old : WorldView) (event : Event) (new : WorldView) → Kept old → Kept new → Holds old → refusal old event ≡ None →
+      WorldStep Loose manager_rule host old event new → Holds new) → ((w : WorldView) (entry : Entry) → IsMark entry → Holds w → Holds (noted w entry)) →
+      (old : WorldView) (moments : List Moment) (new : WorldView) → Kept old → Holds old → WorldRun Loose manager_rule host old moments new → Holds new
+  holds_in_run Holds steps marks old [] new before holds same = subst Holds (sym same) holds
+  holds_in_run Holds steps marks old (Step event ∷ moments) new before holds run =
+      let after = step_keeps_all host sends owns old event run.0 before run.1.0 run.1.1 in
+      holds_in_run Holds steps marks run.0 moments new after (steps old event run.0 before after holds run.1.0 run.1.1) run.2
+  holds_in_run Holds steps marks old (Mark entry ∷ moments) new before holds run =
+      holds_in_run Holds steps marks run.0 moments new (subst Kept (sym run.1.1) (mark_keeps old entry run.1.0 before))
+      (subst Holds (sym run.1.1) (marks old entry run.1.0 holds)) run.2
+
   run_keeps : (old : WorldView) (moments : List Moment) (new : WorldView) → Kept old → WorldRun Loose manager_rule host old moments new → Kept new
-  run_keeps old [] new before same = subst Kept (sym same) before
-  run_keeps old (Step event ∷ moments) new before run =
-      run_keeps run.0 moments new (step_keeps_all host sends owns old event run.0 before run.1.0 run.1.1) run.2
-  run_keeps old (Mark entry ∷ moments) new before run =
-      run_keeps run.0 moments new (subst Kept (sym run.1.1) (mark_keeps old entry run.1.0 before)) run.2
+  run_keeps old moments new before run = holds_in_run Kept (λ a event b kept after holds is step. after) mark_keeps old moments new before before run
 
   pub lawful_run_keeps : (switch : SwitchRule) (manager : ManagerRule) → IsWithin switch Loose → IsManagerRule manager →
       (old : WorldView) (moments : List Moment) (new : WorldView) → Kept old → WorldRun switch manager host old moments new → Kept new

@@ -1,0 +1,241 @@
+-- Each event keeps what is known of a host.
+use Rattle.std.proofs.Common.{◌≡◌, ◌≢◌, ◌⊎◌, ◌<◌, ◌+◌, ◌==◌, ◌&&◌, ◌||◌, ℕ, zero, suc, not, nat_lt, Bool, true, false, cond, if◌then◌else◌, set, Contains, List, [], ◌∷◌, ◌++◌, fold, find, length, length-set, Option, Some, None, slice_get, refl, sym, ap, subst, ◌∙◌, inl, inr, arith, get_or-set_same, get_or-set_other}
+use Rattle.std.specs.List.{AllByRecursion, list_any, position}
+use Rattle.std.proofs.lemmas.Bool.{and_parts, cases_Bool, cases_eq, false≢true, ltb-true}
+use Rattle.std.proofs.lemmas.Nat.{same_from_place}
+use Rattle.std.proofs.lemmas.Option.{none-some, same_Some, slice_get_within}
+use Rattle.pl_frame.specs.declared.address.SwitchId.{SwitchId}
+use Rattle.pl_wiring.specs.declared.host.Host.{Host}
+use Rattle.pl_wiring.specs.declared.link.Link.{Link}
+use Rattle.pl_wiring.specs.declared.link.Peer.{Peer}
+use Rattle.pl_wiring.specs.declared.link.Peer.TheVariants.{HostPort}
+use Rattle.pl_wiring.specs.FatTree.{IsAt}
+use Rattle.pl_wiring.specs.Index.{port_index}
+use Rattle.pl_wiring.specs.Peers.{peer_of}
+use Rattle.pl_wiring.specs.Plan.{IsPlan, Plan}
+use Rattle.pl_wiring.proofs.Ends.{at_contained}
+use Rattle.pl_wiring.proofs.Entered.{entry_at-in_range, kept_link}
+use Rattle.pl_wiring.proofs.Linked.{peer_is_none}
+use Rattle.pl_core.specs.declared.acts.ManagerAct.{ManagerAct}
+use Rattle.pl_core.specs.declared.acts.ManagerAct.TheVariants.{Number, Say}
+use Rattle.pl_core.specs.declared.messages.ToManager.{ToManager}
+use Rattle.pl_core.specs.declared.messages.ToSwitch.{ToSwitch}
+use Rattle.pl_core.specs.HostInputs.{HostAnswer, HostInput}
+use Rattle.pl_core.specs.ManagerDuties.{ManagerRule}
+use Rattle.pl_layouts.specs.Equality.{same_switch}
+use Rattle.pl_core.specs.SwitchInputs.SwitchInput.{Says, Tick}
+use Rattle.pl_core.specs.SwitchViews.{SwitchView}
+use Rattle.pl_journal.specs.declared.cause.Cause.{Cause}
+use Rattle.pl_journal.specs.declared.cause.Cause.TheVariants as cause
+use Rattle.pl_journal.specs.declared.cause.Skip.{Skip}
+use Rattle.pl_journal.specs.declared.entry.Entry.{Entry}
+use Rattle.pl_journal.specs.declared.entry.Entry.TheVariants.{Dropped, LinkDown, LinkUp, Moved, Registered, Skipped}
+use Rattle.pl_journal.specs.Places.{is_host_port}
+use Rattle.pl_queues.specs.Queues.{items_at}
+use Rattle.pl_switch_rule.specs.SwitchRule.{Loose}
+use Rattle.pl_world.specs.declared.error.StepError.{StepError}
+use Rattle.pl_world.specs.declared.error.StepError.TheVariants.{NoSuch, NothingThere}
+use Rattle.pl_world.specs.declared.item.Item.{Item}
+use Rattle.pl_world.specs.declared.item.Item.TheVariants.{Control, Data}
+use Rattle.pl_world.specs.declared.spoken_frame.SpokenFrame.TheVariants.{Silent}
+use Rattle.pl_world.specs.declared.stand.Stand.{Stand}
+use Rattle.pl_world.specs.Booting.{me_of}
+use Rattle.pl_world.specs.Changes.{all_noted, emptied_from_host, emptied_out, ends_of, host_no, noted, out_of, said_to, said_to_switch}
+use Rattle.pl_world.specs.LinksAndMoves.{host_moved, item_lost, joins, link_between, link_failed, link_repaired, with_link}
+use Rattle.pl_world.specs.OtherActs.{heard_after_tick, manager_act_done, manager_stepped, skip_noted}
+use Rattle.pl_world.specs.Refusals.{refusal_of_place, refusal_of_queue}
+use Rattle.pl_world.specs.WorldRule.{DeliversFromManager, DeliversToManager, Fails, IsRepaired, ManagerTurn, SwitchTurn}
+use Rattle.pl_world.specs.Worlds.{WorldView}
+use Rattle.pl_addresses.proofs.Words.{get-set_other}
+use Rattle.pl_attended.specs.Attended.{StandApart}
+use Rattle.pl_attended.specs.Stays.{Stay, first_stay, is_among, stay_after, stay_of}
+use Rattle.pl_attended.specs.Probes.{is_packet, is_probe}
+use Rattle.pl_attended.proofs.Numbers.{AreOld, IsPast, IsSoon, all_set, found_after}
+use Rattle.pl_attended.proofs.Acts.{AreQuiet, IsQuiet, noted_quiet, stay_then}
+use Rattle.pl_attended.proofs.Facts.{Facts}
+use Rattle.pl_attended.proofs.Leaving.{IsAsked, noticed_popped, popped, reached_noted, told_noted, told_popped}
+use Rattle.pl_attended.proofs.Places.{Attends, place_of, spot_of}
+use Rattle.pl_attended.proofs.Rows.{order_known, tick_still}
+use Rattle.pl_attended.proofs.Sending.{Keeps, any_spot, kept_places, turn_keeps}
+use Rattle.pl_attended.proofs.Told.{IsTold, Later, Told, told_on}
+use Rattle.pl_attended.proofs.Turns.{Follows, NoticedIn, Spot, has_reached_in, noticed_on, queue_to, turn_told}
+
+pub quiet_ends : (h : ℕ) (c : Cause) (items : List Item) → AreQuiet h (ends_of c items)
+quiet_ends h c [] = tt
+quiet_ends h c (Control frame ∷ items) = quiet_ends h c items
+quiet_ends h c (Data id frame ∷ items) = ((λ x. refl), quiet_ends h c items)
+
+module _ (h : ℕ) (w : WorldView) (f : Facts w) (apart : StandApart w.stands) (a : Attends h w) where
+  -- ---- the manager speaks to a switch, and a switch ticks
+  pub from_manager : (s : ℕ) (items : List ToSwitch) (new : WorldView) → DeliversFromManager Loose w s items new → Keeps h w new
+  from_manager s [] new turn = absurd turn
+  from_manager s (says ∷ rest) new turn =
+      let u : WorldView = record w { from_manager = set w.from_manager s rest } in
+      let t : IsTold h u = record { numbers = a.told.numbers; past = a.told.past; soon = a.told.soon } in
+      record {
+        rest = kept_places h w u s (Says says) Silent new turn t tt refl refl;
+        told = turn_told (any_spot h) u s (Says says) Silent new turn t tt;
+        noticed = λ host stand at_host at_stand.
+            let p = place_of w f h host stand at_host at_stand in
+            let edge = f.at_edges h stand at_stand in
+            turn_keeps (spot_of h host stand) u s (Says says) Silent new turn t tt (record { free = p.free; within = p.within; six = p.six; small = p.small }) (a.noticed host stand at_host at_stand)
+            (λ v same found choose knows. order_known (me_of host) stand.port choose v (f.homes stand.edge.0 stand.port v edge.edge edge.port edge.free found).ready says knows);
+      }
+
+  pub ticks_on : (s : ℕ) (new : WorldView) → SwitchTurn Loose (record w { heard = heard_after_tick s w.stands w.heard }) s Tick Silent new → Keeps h w new
+  ticks_on s new turn =
+      let u : WorldView = record w { heard = heard_after_tick s w.stands w.heard } in
+      let t : IsTold h u = record { numbers = a.told.numbers; past = a.told.past; soon = a.told.soon } in
+      record {
+        rest = kept_places h w u s Tick Silent new turn t tt refl refl;
+        told = turn_told (any_spot h) u s Tick Silent new turn t tt;
+        noticed = λ host stand at_host at_stand.
+            let p = place_of w f h host stand at_host at_stand in
+            let edge = f.at_edges h stand at_stand in
+            turn_keeps (spot_of h host stand) u s Tick Silent new turn t tt (record { free = p.free; within = p.within; six = p.six; small = p.small }) (a.noticed host stand at_host at_stand)
+            (λ v same found choose knows. inl (tick_still (me_of host) stand.port v (f.homes stand.edge.0 stand.port v edge.edge edge.port edge.free found).ready choose knows));
+      }
+
+  -- ---- nothing of this changes
+  record IsSame (new : WorldView) : Type 0 where
+    plan : new.plan ≡ w.plan
+    stands : new.stands ≡ w.stands
+    switches : new.switches ≡ w.switches
+    out : new.out ≡ w.out
+    from_hosts : new.from_hosts ≡ w.from_hosts
+    stay : stay_of new.journal h ≡ stay_of w.journal h
+    begun : new.begun ≡ w.begun
+
+  same_keeps : (new : WorldView) → IsSame new → Keeps h w new
+  same_keeps new same = record {
+    rest = (same.plan, same.stands);
+    told = subst (λ (s : Stay). Told h s new.begun new.out new.from_hosts) (sym same.stay)
+        (subst (λ (n : ℕ). Told h (stay_of w.journal h) n new.out new.from_hosts) (sym same.begun)
+        (subst (λ (out : List (List Item)). Told h (stay_of w.journal h) w.begun out new.from_hosts) (sym same.out)
+        (subst (λ (xs : List (List Item)). Told h (stay_of w.journal h) w.begun w.out xs) (sym same.from_hosts) a.told)));
+    noticed = λ host stand at_host at_stand.
+        noticed_on (spot_of h host stand) w new (record {
+          switches = same.switches;
+          reached = λ now. sym (ap (λ (s : Stay). s.reached) same.stay) ∙ now;
+          out = λ waits. (λ i. list_any (is_probe (me_of host)) (items_at (same.out i) (port_index (same.plan i).k stand.edge.0 stand.port))) ∙ waits;
+          mine = λ packet. ap (λ (xs : List (List Item)). list_any is_packet (items_at xs h)) same.from_hosts ∙ packet;
+        }) (a.noticed host stand at_host at_stand);
+  }
+
+  -- ---- a switch tells the manager
+  said_same : (u : WorldView) (to : ToSwitch) (o : Option ℕ) → IsSame u → IsSame (said_to u to o)
+  said_same u to None same = same
+  said_same u to (Some s) same = record { plan = same.plan; stands = same.stands; switches = same.switches; out = same.out; from_hosts = same.from_hosts; stay = same.stay; begun = same.begun }
+
+  one_said : (u : WorldView) (act : ManagerAct) → IsSame u → IsSame (manager_act_done u act)
+  one_said u (Say to says) same = said_same u says (position (same_switch to) u.plan.ids) same
+  one_said u (Number pmac n) same = record {
+    plan = same.plan;
+    stands = same.stands;
+    switches = same.switches;
+    out = same.out;
+    from_hosts = same.from_hosts;
+    stay = noted_quiet h u.journal (Registered pmac n ∷ []) ((λ x. refl), tt) ∙ same.stay;
+    begun = same.begun;
+  }
+
+  all_said : (u : WorldView) (acts : List ManagerAct) → IsSame u → IsSame (fold manager_act_done u acts)
+  all_said u [] same = same
+  all_said u (act ∷ acts) same = all_said (manager_act_done u act) acts (one_said u act same)
+
+  pub to_manager : (rule : ManagerRule) (s : ℕ) (items : List ToManager) (new : WorldView) → DeliversToManager rule w s items new → Keeps h w new
+  to_manager rule s [] new turn = absurd turn
+  to_manager rule s (told ∷ rest) new turn =
+      subst (λ (x : WorldView). Keeps h w x) (sym turn.changed)
+      (same_keeps (manager_stepped (record w { to_manager = set w.to_manager s rest }) turn.after turn.acts)
+      (all_said (record w { to_manager = set w.to_manager s rest; manager = turn.after }) turn.acts
+      (record { plan = refl; stands = refl; switches = refl; out = refl; from_hosts = refl; stay = refl; begun = refl })))
+
+  -- ---- links
+  found_contained : (p : Link → Bool) (links : List Link) (link : Link) → find p links ≡ Some link → Contains links link
+  found_contained p [] link is = absurd (none-some link is)
+  found_contained p (l ∷ links) link is = by_first (p l) (found_contained p links link) is
+    where
+      by_first : (b : Bool) → (find p links ≡ Some link → Contains links link) → (if b then Some l else find p links) ≡ Some link → Contains (l ∷ links) link
+      by_first true later e = (0, omega arith, same_Some l link e)
+      by_first false later e = let there = later e in (suc there.0, omega (arith, there.1), there.2)
+
+  pub fails_on : (p : Link → Bool) (found : Option Link) → find p w.plan.links ≡ found → (new : WorldView) → Fails w found new → Keeps h w new
+  fails_on p None is new none = absurd none
+  fails_on p (Some link) is new same =
+      let k = w.plan.k in
+      let lower = port_index k link.lower.0 link.lower_port in
+      let upper = port_index k link.upper.0 link.upper_port in
+      let there = found_contained p w.plan.links link is in
+      let first = set w.out lower [] in
+      let down = LinkDown link.lower link.upper ∷ [] in
+      let one = ends_of cause.LinkDown (items_at w.out lower) in
+      let two = ends_of cause.LinkDown (items_at first upper) in
+      let stay_is : stay_of (((w.journal ++ down) ++ one) ++ two) h ≡ stay_of w.journal h =
+      noted_quiet h ((w.journal ++ down) ++ one) two (quiet_ends h cause.LinkDown (items_at first upper))
+      ∙ noted_quiet h (w.journal ++ down) one (quiet_ends h cause.LinkDown (items_at w.out lower))
+      ∙ noted_quiet h w.journal down ((λ x. refl), tt) in
+      subst (λ (x : WorldView). Keeps h w x) (sym same) (record {
+        rest = (refl, refl);
+        told = subst (λ (s : Stay). Told h s w.begun (set first upper []) w.from_hosts) (sym stay_is) (record {
+          numbers = a.told.numbers;
+          past = all_set (IsPast (stay_of w.journal h) w.begun) first upper [] (all_set (IsPast (stay_of w.journal h) w.begun) w.out lower [] a.told.past tt) tt;
+          soon = a.told.soon;
+        });
+        noticed = λ host stand at_host at_stand.
+            let edge = f.at_edges h stand at_stand in
+            let away : IsAt link stand.edge.0 stand.port → ⊥ =
+            at_contained (λ (l : Link). IsAt l stand.edge.0 stand.port → ⊥) w.plan.links link ((peer_is_none w.plan stand.edge.0 stand.port f.plan).0 edge.free) there in
+            let ports = at_contained (λ (l : Link). (l.lower_port < k) × (l.upper_port < k)) w.plan.links link f.plan.tree.ports_in_range there in
+            let queue : items_at (set first upper []) (port_index k stand.edge.0 stand.port) ≡ items_at w.out (port_index k stand.edge.0 stand.port) =
+            sym (entry_at-in_range [] k (set first upper []) stand.edge.0 stand.port edge.port) ∙ kept_link [] k w.out link [] ports stand.edge.0 stand.port away
+            ∙ entry_at-in_range [] k w.out stand.edge.0 stand.port edge.port in
+            noticed_on (spot_of h host stand) w (link_failed w link) (record {
+              switches = refl;
+              reached = λ now. sym (ap (λ (s : Stay). s.reached) stay_is) ∙ now;
+              out = λ waits. ap (λ (xs : List Item). list_any (is_probe (me_of host)) xs) queue ∙ waits;
+              mine = λ x. x;
+            }) (a.noticed host stand at_host at_stand);
+      })
+
+  pub repaired_on : (found : Option Link) (new : WorldView) → IsRepaired w found new → Keeps h w new
+  repaired_on None new none = absurd none
+  repaired_on (Some link) new same =
+      subst (λ (x : WorldView). Keeps h w x) (sym same)
+      (same_keeps (link_repaired w link) (record {
+        plan = refl;
+        stands = refl;
+        switches = refl;
+        out = refl;
+        from_hosts = refl;
+        stay = noted_quiet h w.journal (LinkUp link.lower link.upper ∷ []) ((λ x. refl), tt);
+        begun = refl;
+      }))
+
+  -- ---- an item is lost
+  module _ (s port : ℕ) (item : Item) (rest : List Item) (head : out_of w s port ≡ item ∷ rest) (within : port < w.plan.k) (linked : not (is_host_port (peer_of w.plan s port)) ≡ true) where
+    never_asked : (host : Host) (stand : Stand) → slice_get w.stands h ≡ Some stand → IsAsked h w f apart a s port item rest head within host stand → ⊥
+    never_asked host stand at_stand is =
+        false≢true (ap (λ (p : Peer). not (is_host_port p)) (sym ((λ i. peer_of w.plan (sym is.edge i) (sym is.at_port i)) ∙ (f.at_edges h stand at_stand).free)) ∙ linked)
+
+    pub lost_on : (new : WorldView) → new ≡ item_lost (record w { out = set w.out (port_index w.plan.k s port) rest }) item → Keeps h w new
+    lost_on new same = subst (λ (x : WorldView). Keeps h w x) (sym same) (by item)
+      where
+        told : IsTold h (record w { out = set w.out (port_index w.plan.k s port) rest })
+        told = told_popped h w f apart a s port item rest head within
+
+        noticed : (host : Host) (stand : Stand) → slice_get w.plan.hosts h ≡ Some host → slice_get w.stands h ≡ Some stand → NoticedIn (spot_of h host stand) (record w { out = set w.out (port_index w.plan.k s port) rest })
+        noticed host stand at_host at_stand = noticed_popped h w f apart a s port item rest head within host stand at_host at_stand (never_asked host stand at_stand)
+
+        by : (i : Item) → Keeps h w (item_lost (record w { out = set w.out (port_index w.plan.k s port) rest }) i)
+        by (Control frame) = record { rest = (refl, refl); told = told; noticed = noticed }
+        by (Data id frame) =
+            let u : WorldView = record w { out = set w.out (port_index w.plan.k s port) rest } in
+            record {
+              rest = (refl, refl);
+              told = told_noted h u (Dropped id cause.Lost) (λ x. refl) told;
+              noticed = λ host stand at_host at_stand.
+                  noticed_on (spot_of h host stand) u (noted u (Dropped id cause.Lost))
+                  (record { switches = refl; reached = λ now. sym (reached_noted (spot_of h host stand) u (Dropped id cause.Lost) (λ x. refl)) ∙ now; out = λ x. x; mine = λ x. x })
+                  (noticed host stand at_host at_stand);
+            }

@@ -1,0 +1,213 @@
+-- Each step keeps what is known of each host, and so does each run from the beginning.
+use Rattle.std.proofs.Common.{◌≡◌, ◌≢◌, ◌⊎◌, ◌<◌, ◌≤◌, ◌+◌, ◌*◌, ◌==◌, ◌&&◌, ℕ, zero, suc, not, nat_lt, Bool, true, false, if◌then◌else◌, List, [], ◌∷◌, ◌++◌, map, replicate, get_or, length, Option, Some, None, slice_get, refl, sym, ap, subst, ◌∙◌, inl, inr, arith, AllPairs}
+use Rattle.std.specs.List.{AllByRecursion, position}
+use Rattle.std.proofs.lemmas.Bool.{and_parts, cases_eq, cases_lt, false≢true, ltb-true}
+use Rattle.std.proofs.lemmas.Option.{get_or_from_slice_get, none-some, same_Some, slice_get_within}
+use Rattle.pl_wiring.specs.declared.host.Host.{Host}
+use Rattle.pl_wiring.specs.declared.link.Link.{Link}
+use Rattle.pl_wiring.specs.Labels.{switch_count}
+use Rattle.pl_wiring.specs.Peers.{peer_of}
+use Rattle.pl_wiring.specs.Plan.{IsPlan, Plan, StandsAt}
+use Rattle.pl_core.specs.declared.acts.HostAct.{HostAct}
+use Rattle.pl_core.specs.HostDuties.{HostsSendData, HostsSendOwn}
+use Rattle.pl_core.specs.HostInputs.{HostAnswer, HostInput, HostRule}
+use Rattle.pl_core.specs.HostViews.{HostView}
+use Rattle.pl_host_rule.specs.HostRule.{host_rule}
+use Rattle.pl_journal.specs.declared.entry.Entry.{Entry}
+use Rattle.pl_journal.specs.declared.entry.Entry.TheVariants.{Crossed, Moved, Sent}
+use Rattle.pl_journal.specs.Places.{is_host_port}
+use Rattle.pl_manager_rule.specs.ManagerRule.{manager_rule}
+use Rattle.pl_queues.specs.Queues.{items_at}
+use Rattle.pl_switch_rule.specs.SwitchRule.{Loose}
+use Rattle.pl_world.specs.declared.error.StepError.{StepError}
+use Rattle.pl_world.specs.declared.error.StepError.TheVariants.{AlreadySo, NoSuch, NothingThere, Occupied}
+use Rattle.pl_world.specs.declared.event.Event.{Event}
+use Rattle.pl_world.specs.declared.event.Event.TheVariants as event
+use Rattle.pl_world.specs.declared.event.QueueName.{QueueName}
+use Rattle.pl_world.specs.declared.event.QueueName.TheVariants as queue
+use Rattle.pl_world.specs.declared.item.Item.{Item}
+use Rattle.pl_world.specs.declared.limits.Limits.{Limits}
+use Rattle.pl_world.specs.declared.stand.Stand.{Stand}
+use Rattle.pl_world.specs.Booting.{CanBegin, booted, first_stand}
+use Rattle.pl_world.specs.Changes.{host_at, noted, out_of}
+use Rattle.pl_world.specs.LinksAndMoves.{joins, link_between}
+use Rattle.pl_world.specs.Refusals.{has_host, has_port, has_switch, is_filled, is_for_hosts, is_linked, refusal, refusal_of_event, refusal_of_place, refusal_of_queue}
+use Rattle.pl_world.specs.Runs.{IsMark, Moment, WorldRun}
+use Rattle.pl_world.specs.WorldRule.{Delivers, DeliversOut, Goes, Happens, Loses, WorldStep}
+use Rattle.pl_world.specs.Worlds.{WorldView}
+use Rattle.pl_world.proofs.StepBalances.{event_is_not_refused, same_refusal}
+use Rattle.pl_kept.specs.Kept.{Kept}
+use Rattle.pl_attended.specs.Attended.{StandApart}
+use Rattle.pl_attended.specs.Stays.{first_stay}
+use Rattle.pl_attended.proofs.Numbers.{IsPast, IsSoon}
+use Rattle.pl_attended.proofs.Acts.{IsQuiet}
+use Rattle.pl_attended.proofs.Events.{fails_on, from_manager, lost_on, repaired_on, ticks_on, to_manager}
+use Rattle.pl_attended.proofs.Facts.{Facts, facts_of}
+use Rattle.pl_attended.proofs.Leaving.{over_there, reached_noted, told_noted}
+use Rattle.pl_attended.proofs.Moves.{goes_on, plays_on, sends_on}
+use Rattle.pl_attended.proofs.Places.{Attends, spot_of}
+use Rattle.pl_attended.proofs.Runs.{kept_from_beginning}
+use Rattle.pl_attended.proofs.Sending.{Keeps, from_host}
+use Rattle.pl_attended.proofs.Turns.{NoticedIn, Spot, noticed_on}
+
+-- what is kept beside: hosts stand apart, and each is noticed where it stands
+pub record AttendsAll (w : WorldView) : Type 0 where
+  pub apart : StandApart w.stands
+  pub each : (h : ℕ) → Attends h w
+
+abbrev After : ℕ → WorldView → Type 0
+After h new = Attends h new × StandApart new.stands
+
+-- ---- what is not refused
+there_is : (there filled : Bool) → refusal_of_queue there filled ≡ None → there ≡ true
+there_is true filled none = refl
+there_is false filled none = absurd (none-some NoSuch (sym none))
+
+may_go : (b : Bool) (o : Option StepError) → (if b then o else Some NoSuch) ≡ None → o ≡ None
+may_go true o none = none
+may_go false o none = absurd (none-some NoSuch (sym none))
+
+free_there : (h : ℕ) (there : Option ℕ) → refusal_of_place h there ≡ None → there ≡ None
+free_there h None none = refl
+free_there h (Some other) none = absurd (by (other == h) none)
+  where
+    by : (b : Bool) → (if b then Some AlreadySo else Some Occupied) ≡ None → ⊥
+    by true is = none-some AlreadySo (sym is)
+    by false is = none-some Occupied (sym is)
+
+port_within : (plan : Plan) (s port : ℕ) → has_port plan s port ≡ true → port < plan.k
+port_within plan s port is = ltb-true port plan.k (and_parts (has_switch plan s) (nat_lt port plan.k) is).1
+
+module _ (rule : HostRule) (lawful : (view : HostView) (input : HostInput) (after : HostView) (acts : List HostAct) (answer : HostAnswer) → rule view input after acts answer → host_rule view input after acts answer) where
+  module _ (h : ℕ) (w : WorldView) (f : Facts w) (apart : StandApart w.stands) (a : Attends h w) where
+    after : (new : WorldView) → Keeps h w new → After h new
+    after new k = (
+      record {
+        told = k.told;
+        noticed = λ host stand at_host at_stand.
+            k.noticed host stand (ap (λ (p : Plan). slice_get p.hosts h) (sym k.rest.0) ∙ at_host) (ap (λ (xs : List Stand). slice_get xs h) (sym k.rest.1) ∙ at_stand);
+      },
+      subst (λ (xs : List Stand). StandApart xs) (sym k.rest.1) apart,
+    )
+
+    out_of_port : (s port : ℕ) (items : List Item) (new : WorldView) → out_of w s port ≡ items → port < w.plan.k → DeliversOut Loose rule w s port items new → Keeps h w new
+    out_of_port s port [] new head within comes = absurd comes
+    out_of_port s port (item ∷ rest) new head within comes = over_there h w f apart a s port item rest head within rule lawful (peer_of w.plan s port) refl new comes
+
+    delivered : (name : QueueName) (new : WorldView) → refusal_of_event w (event.Deliver name) ≡ None → Delivers Loose manager_rule rule w name new → Keeps h w new
+    delivered (queue.FromHost g) new none comes = from_host h w f apart a g.0 (items_at w.from_hosts g.0) new refl comes
+    delivered (queue.Port s port) new none comes =
+        out_of_port s.0 port (out_of w s.0 port) new refl
+        (port_within w.plan s.0 port (there_is (has_port w.plan s.0 port) (is_filled w (queue.Port s port)) none)) comes
+    delivered (queue.ToManager s) new none comes = to_manager h w f apart a manager_rule s.0 (items_at w.to_manager s.0) new comes
+    delivered (queue.FromManager s) new none comes = from_manager h w f apart a s.0 (items_at w.from_manager s.0) new comes
+
+    loses : (s port : ℕ) (items : List Item) (filled : Bool) (new : WorldView) → out_of w s port ≡ items → refusal_of_queue (is_linked w.plan s port) filled ≡ None → Loses w s port items new → Keeps h w new
+    loses s port [] filled new head none is = absurd is
+    loses s port (item ∷ rest) filled new head none is =
+        let two = and_parts (has_port w.plan s port) (not (is_host_port (peer_of w.plan s port))) (there_is (is_linked w.plan s port) filled none) in
+        lost_on h w f apart a s port item rest head (port_within w.plan s port two.0) two.1 new is
+
+    goes : (g : ℕ) (to : Stand) (from : Option Stand) (new : WorldView) → slice_get w.stands g ≡ from → host_at w to.edge.0 to.port ≡ None → Goes rule w g to from new → After h new
+    goes g to None new was free turn = absurd turn
+    goes g to (Some from) new was free turn = goes_on h w f apart a rule g from to was free _ new turn
+
+    happens : (e : Event) (new : WorldView) → refusal_of_event w e ≡ None → Happens Loose manager_rule rule w e new → After h new
+    happens (event.Deliver name) new none is = after new (delivered name new none is)
+    happens (event.Tick s) new none is = after new (ticks_on h w f apart a s.0 new is)
+    happens (event.Fail x y) new none is = after new (fails_on h w f apart a (joins x.0 y.0) (link_between w.plan x.0 y.0) refl new is)
+    happens (event.Repair x y) new none is = after new (repaired_on h w f apart a (link_between w.plan x.0 y.0) new is)
+    happens (event.Lose s port) new none is = after new (loses s.0 port (out_of w s.0 port) _ new refl none is)
+    happens (event.Move g s port) new none is =
+        goes g.0 (record { edge = s; port = port }) (slice_get w.stands g.0) new refl
+        (free_there g.0 (host_at w s.0 port) (may_go (has_host w.plan g.0 && is_for_hosts w.plan s.0 port) (refusal_of_place g.0 (host_at w s.0 port)) none)) is
+    happens (event.Start g) new none is = after new (sends_on h w f apart a rule g.0 _ _ new is)
+    happens (event.Play g frame original raw) new none is = after new (plays_on h w f apart a rule g.0 _ new is)
+    happens (event.Retry g) new none is = after new (sends_on h w f apart a rule g.0 _ _ new is)
+    happens (event.Join g group) new none is = after new (sends_on h w f apart a rule g.0 _ _ new is)
+    happens (event.Leave g group) new none is = after new (sends_on h w f apart a rule g.0 _ _ new is)
+
+  -- ---- a step
+  pub step_attends : (old : WorldView) (e : Event) (new : WorldView) → Kept old → AttendsAll old → refusal old e ≡ None → WorldStep Loose manager_rule rule old e new → AttendsAll new
+  step_attends old e new kept all none step =
+      let w : WorldView = record old { steps = old.steps + 1 } in
+      let one : (h : ℕ) → After h new = (λ h.
+      let a = all.each h in
+      happens h w (facts_of old kept) all.apart (record { told = record { numbers = a.told.numbers; past = a.told.past; soon = a.told.soon }; noticed = a.noticed }) e new
+      (same_refusal old e ∙ event_is_not_refused old e none) step) in
+      record { apart = (one 0).1; each = λ h. (one h).0 }
+
+  -- ---- a mark
+  mark_quiet : (h : ℕ) (e : Entry) → IsMark e → IsQuiet h e
+  mark_quiet h (Moved g edge port) is = absurd is
+  mark_quiet h (Sent id g frame) is = absurd is
+  mark_quiet h (Crossed id s) is = absurd is
+  mark_quiet h e is = λ x. refl
+
+  mark_attends : (w : WorldView) (e : Entry) → IsMark e → AttendsAll w → AttendsAll (noted w e)
+  mark_attends w e is all = record {
+    apart = all.apart;
+    each = λ h. let a = all.each h in record {
+      told = told_noted h w e (mark_quiet h e is) a.told;
+      noticed = λ host stand at_host at_stand.
+          noticed_on (spot_of h host stand) w (noted w e)
+          (record { switches = refl; reached = λ now. sym (reached_noted (spot_of h host stand) w e (mark_quiet h e is)) ∙ now; out = λ x. x; mine = λ x. x })
+          (a.noticed host stand at_host at_stand);
+    };
+  }
+
+  module _ (sends : HostsSendData rule) (owns : HostsSendOwn rule) (plan : Plan) (limits : Limits) (can : CanBegin plan) where
+    -- ---- the beginning
+    nothing_at : (n i : ℕ) → items_at {T = Item} (replicate n []) i ≡ []
+    nothing_at zero i = refl
+    nothing_at (suc n) zero = refl
+    nothing_at (suc n) (suc i) = nothing_at n i
+
+    first_of : (hosts : List Host) (i : ℕ) (stand : Stand) → slice_get (map first_stand hosts) i ≡ Some stand → (host : Host) × (slice_get hosts i ≡ Some host) × (first_stand host ≡ stand)
+    first_of [] i stand is = absurd (none-some stand is)
+    first_of (host ∷ hosts) zero stand is = (host, refl, same_Some (first_stand host) stand is)
+    first_of (host ∷ hosts) (suc i) stand is = first_of hosts i stand is
+
+    boots_apart : StandApart (map first_stand plan.hosts)
+    boots_apart = λ g h x y at_x at_y edge port.
+        let one = first_of plan.hosts g x at_x in
+        let two = first_of plan.hosts h y at_y in
+        let edges : one.0.edge.0 ≡ two.0.edge.0 = ap (λ (s : Stand). s.edge.0) one.2 ∙ edge ∙ ap (λ (s : Stand). s.edge.0) (sym two.2) in
+        let ports : one.0.port ≡ two.0.port = ap (λ (s : Stand). s.port) one.2 ∙ port ∙ ap (λ (s : Stand). s.port) (sym two.2) in
+        elim (cases_eq g h) [
+          | inl same ↦ same
+          | inr other ↦ elim (cases_lt g h) [
+            | inl less ↦ absurd (never g h one.0 two.0 one.1 two.1 edges ports less)
+            | inr no_less ↦ absurd (never h g two.0 one.0 two.1 one.1 (sym edges) (sym ports) (below h g no_less (λ e. other (sym e))))
+          ]
+        ]
+      where
+        below : (i j : ℕ) → i ≤ j → i ≢ j → i < j
+        below i j le ne = elim (cases_lt i j) [ inl lt ↦ lt | inr ge ↦ absurd (ne (omega (arith, le, ge))) ]
+
+        never : (i j : ℕ) (p q : Host) → slice_get plan.hosts i ≡ Some p → slice_get plan.hosts j ≡ Some q → p.edge.0 ≡ q.edge.0 → p.port ≡ q.port → i < j → ⊥
+        never i j p q at_p at_q edges ports less =
+            let apart = can.is_plan.places_apart i j p less (slice_get_within plan.hosts j q at_q) in
+            let first = get_or_from_slice_get plan.hosts i p p at_p in
+            let second = get_or_from_slice_get plan.hosts j q p at_q in
+            apart (
+              ap (λ (x : Host). x.edge.0) first ∙ edges ∙ ap (λ (x : Host). x.edge.0) (sym second),
+              ap (λ (x : Host). x.port) first ∙ ports ∙ ap (λ (x : Host). x.port) (sym second),
+            )
+
+    boots_attended : AttendsAll (booted plan limits)
+    boots_attended = record {
+      apart = boots_apart;
+      each = λ h. record {
+        told = record {
+          numbers = tt;
+          past = λ i. subst (λ (xs : List Item). AllByRecursion (IsPast first_stay 0) xs) (sym (nothing_at (switch_count plan.k * plan.k) i)) tt;
+          soon = λ g. subst (λ (xs : List Item). AllByRecursion (IsSoon first_stay 0 (g ≡ h)) xs) (sym (nothing_at (length plan.hosts) g)) tt;
+        };
+        noticed = λ host stand at_host at_stand v found reached. absurd (false≢true reached);
+      };
+    }
+
+    pub run_attends : (moments : List Moment) (new : WorldView) → WorldRun Loose manager_rule rule (booted plan limits) moments new → AttendsAll new
+    run_attends moments new run =
+        kept_from_beginning rule sends owns AttendsAll step_attends mark_attends plan limits can boots_attended moments new run

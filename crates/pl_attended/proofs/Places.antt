@@ -1,0 +1,170 @@
+-- Where hosts stand: no two at one place; and what their own frames say.
+use Rattle.std.proofs.Common.{◌≡◌, ◌≢◌, ◌⊎◌, ◌<◌, ◌≤◌, ◌+◌, ◌*◌, ◌^◌, ◌==◌, ◌&&◌, ◌||◌, ◌/◌, ℕ, zero, suc, not, nat_lt, Bool, true, false, cond, if◌then◌else◌, set, List, [], ◌∷◌, length, map, get_or, Option, Some, None, is_some, option_map, slice_get, refl, sym, ap, subst, ◌∙◌, inl, inr, arith, eqb-true, eq-eqb, AllPairs}
+use Rattle.std.specs.List.{AllByRecursion, list_any, position}
+use Rattle.std.proofs.lemmas.Bool.{and_from, and_parts, cases_Bool, cases_eq, cases_lt, false≢true}
+use Rattle.std.proofs.lemmas.Iterator.Adapters.{position_from-zero}
+use Rattle.std.proofs.lemmas.Option.{get_or_from_slice_get, none-some, same_Some, slice_get_within}
+use Rattle.pl_arp.specs.declared.cache.Me.{Me}
+use Rattle.pl_arp.specs.declared.packet.Arp.{Arp}
+use Rattle.pl_arp.specs.Reception.{same_ip}
+use Rattle.pl_frame.specs.declared.address.Ip4.{Ip4}
+use Rattle.pl_frame.specs.Address.{IsGroup}
+use Rattle.pl_frame.specs.Ethernet.{destination_of, source_of}
+use Rattle.pl_wiring.specs.declared.host.Host.{Host}
+use Rattle.pl_wiring.specs.declared.label.SwitchNo.{SwitchNo}
+use Rattle.pl_wiring.specs.declared.link.Peer.TheVariants.{HostPort}
+use Rattle.pl_wiring.specs.Index.{port_index}
+use Rattle.pl_wiring.specs.Labels.{edge_count, switch_count}
+use Rattle.pl_wiring.specs.Plan.{IsHostIp, IsHostMac, IsPlan, Plan, StandsAt}
+use Rattle.pl_wiring.proofs.Entered.{port_index-below}
+use Rattle.pl_layouts.specs.Equality.{same_mac}
+use Rattle.pl_layouts.specs.Frames.{packet_in}
+use Rattle.pl_layouts.specs.Memberships.{is_group}
+use Rattle.pl_core.specs.HostDuties.{is_of, is_own}
+use Rattle.pl_switch_rule.specs.Granting.{sender_ip}
+use Rattle.pl_journal.specs.Lossy.{mac_of_host}
+use Rattle.pl_world.specs.declared.stand.Stand.{Stand}
+use Rattle.pl_world.specs.Booting.{first_stand, me_of}
+use Rattle.pl_world.specs.Changes.{host_at, if_for, is_address_of, receiver, stands_at}
+use Rattle.pl_world.specs.Worlds.{WorldView}
+use Rattle.pl_addresses.proofs.Numbers.{first_passes, none_passes}
+use Rattle.pl_addresses.proofs.Words.{get-set_other, get-set_same, mac_is, mac_itself}
+use Rattle.pl_control_plane.specs.HostsAtEdges.{IsAtEdge}
+use Rattle.pl_attended.specs.Attended.{StandApart}
+use Rattle.pl_attended.specs.Stays.{is_readable}
+use Rattle.pl_attended.proofs.Facts.{Facts}
+use Rattle.pl_attended.proofs.Turns.{IsPlace, NoticedIn, Spot}
+use Rattle.pl_attended.proofs.Told.{IsTold}
+
+-- ---- a host of the wiring at its place
+abbrev pub spot_of : ℕ → Host → Stand → Spot
+spot_of h host stand = record { h = h; me = me_of host; edge = stand.edge.0; port = stand.port }
+
+-- of one host: it is noticed where it stands
+pub record Attends (h : ℕ) (w : WorldView) : Type 0 where
+  pub told : IsTold h w
+  pub noticed : (host : Host) (stand : Stand) → slice_get w.plan.hosts h ≡ Some host → slice_get w.stands h ≡ Some stand → NoticedIn (spot_of h host stand) w
+
+-- ---- what the wiring says of a host
+module _ (plan : Plan) (is : IsPlan plan) (h : ℕ) (host : Host) (at : slice_get plan.hosts h ≡ Some host) where
+  of_host : (P : Host → Type 0) → P (get_or plan.hosts h host) → P host
+  of_host P it = subst P (get_or_from_slice_get plan.hosts h host host at) it
+
+  mac_of : IsHostMac host.mac
+  mac_of = of_host (λ (q : Host). IsHostMac q.mac) (is.host_macs h host (slice_get_within plan.hosts h host at))
+
+  pub six_of : length host.mac.0 ≡ 6
+  six_of = mac_of.six_bytes
+
+  pub single_of : IsGroup host.mac → ⊥
+  single_of = mac_of.no_group
+
+  pub small_of : host.ip.0 < 2 ^ 32
+  small_of =
+      let it : IsHostIp host.ip = of_host (λ (q : Host). IsHostIp q.ip) (is.host_ips h host (slice_get_within plan.hosts h host at)) in
+      let few = it.no_group in omega (arith, few)
+
+pub place_of : (w : WorldView) → Facts w → (h : ℕ) (host : Host) (stand : Stand) → slice_get w.plan.hosts h ≡ Some host → slice_get w.stands h ≡ Some stand →
+    IsPlace (spot_of h host stand) w
+place_of w f h host stand at_host at_stand =
+    let edge = f.at_edges h stand at_stand in
+    let low = edge.edge in
+    record {
+      free = edge.free;
+      within = subst (λ n. port_index w.plan.k stand.edge.0 stand.port < n) (sym f.many_out)
+          (port_index-below w.plan.k stand.edge.0 stand.port (switch_count w.plan.k) (below (edge_count w.plan.k) low (fewer w.plan.k)) edge.port);
+      six = six_of w.plan f.plan h host at_host;
+      small = small_of w.plan f.plan h host at_host;
+    }
+  where
+    below : {a c : ℕ} (b : ℕ) → a < b → b ≤ c → a < c
+    below b less le = omega (arith, less, le)
+
+    fewer : (k : ℕ) → edge_count k ≤ switch_count k
+    fewer k = omega arith
+
+-- ---- a host's own frames
+pub record OwnFrame (me : Me) (frame : List ℕ) : Type 0 where
+  pub source : source_of frame ≡ me.mac
+  pub said : ((is_readable frame ≡ true) × (sender_ip frame ≡ Some me.ip)) ⊎ ((is_readable frame ≡ false) × (sender_ip frame ≡ None))
+
+pub own_is : (me : Me) (frame : List ℕ) → is_own me frame ≡ true → OwnFrame me frame
+own_is me frame is =
+    let two = and_parts (same_mac (source_of frame) me.mac) (is_of me (packet_in frame)) is in
+    record { source = mac_is (source_of frame) me.mac two.0; said = by (packet_in frame) two.1 }
+  where
+    by : (o : Option Arp) → is_of me o ≡ true →
+        ((is_some o ≡ true) × (option_map {T = Arp} {U = Ip4} (λ arp. arp.spa) o ≡ Some me.ip)) ⊎ ((is_some o ≡ false) × (option_map {T = Arp} {U = Ip4} (λ arp. arp.spa) o ≡ None))
+    by None h = inr (refl, refl)
+    by (Some arp) h =
+        let both = and_parts (same_mac arp.sha me.mac) (same_ip arp.spa me.ip) h in
+        inl (refl, ap (λ n. Some (let a : Ip4 = record { 0 = n } in a)) (eqb-true arp.spa.0 me.ip.0 both.1))
+
+-- ---- who stands at a place
+stands_parts : (s port : ℕ) (stand : Stand) → stands_at s port stand ≡ true → (stand.edge.0 ≡ s) × (stand.port ≡ port)
+stands_parts s port stand is =
+    let two = and_parts (stand.edge.0 == s) (stand.port == port) is in (eqb-true stand.edge.0 s two.0, eqb-true stand.port port two.1)
+
+stands_there : (s port : ℕ) (stand : Stand) → stand.edge.0 ≡ s → stand.port ≡ port → stands_at s port stand ≡ true
+stands_there s port stand edge at = and_from (stand.edge.0 == s) (stand.port == port) (eq-eqb stand.edge.0 s edge) (eq-eqb stand.port port at)
+
+-- where nobody stands, this host does not
+pub nobody_there : (stands : List Stand) (s port : ℕ) → position (stands_at s port) stands ≡ None → (g : ℕ) (stand : Stand) → slice_get stands g ≡ Some stand →
+    stand.edge.0 ≡ s → stand.port ≡ port → ⊥
+nobody_there stands s port none g stand found edge at =
+    let fails = none_passes (stands_at s port) stands 0 (sym (position_from-zero (stands_at s port) stands) ∙ none) g stand found in
+    false≢true (sym fails ∙ stands_there s port stand edge at)
+
+pub who_is_there : (stands : List Stand) → StandApart stands → (h : ℕ) (stand : Stand) → slice_get stands h ≡ Some stand →
+    position (stands_at stand.edge.0 stand.port) stands ≡ Some h
+who_is_there stands apart h stand found = by (position (stands_at stand.edge.0 stand.port) stands) refl
+  where
+    by : (o : Option ℕ) → position (stands_at stand.edge.0 stand.port) stands ≡ o → position (stands_at stand.edge.0 stand.port) stands ≡ Some h
+    by None none = absurd (nobody_there stands stand.edge.0 stand.port none h stand found refl refl)
+    by (Some n) is =
+        let first = first_passes (stands_at stand.edge.0 stand.port) stands 0 n (sym (position_from-zero (stands_at stand.edge.0 stand.port) stands) ∙ is) in
+        let two = stands_parts stand.edge.0 stand.port first.item first.passes in
+        let same = apart first.at h first.item stand first.found found two.0 two.1 in
+        let it = first.is in
+        is ∙ ap Some (let n_is : n ≡ first.at = omega (arith, it) in n_is ∙ same)
+
+-- a frame that goes to the host's own address out of its port is for the host
+pub it_receives : (w : WorldView) → StandApart w.stands → (h : ℕ) (host : Host) (stand : Stand) → slice_get w.plan.hosts h ≡ Some host → slice_get w.stands h ≡ Some stand →
+    (frame : List ℕ) → destination_of frame ≡ host.mac → receiver w stand.edge.0 stand.port frame ≡ Some h
+it_receives w apart h host stand at_host at_stand frame to =
+    ap (λ (o : Option ℕ). if_for w.plan frame o) (who_is_there w.stands apart h stand at_stand)
+    ∙ ap (λ b. if◌then◌else◌ {A = Option ℕ} b (Some h) None) (either (is_group (destination_of frame)) (is_address_of (mac_of_host w.plan h) (destination_of frame)) goes)
+  where
+    either : (a b : Bool) → b ≡ true → (a || b) ≡ true
+    either true b is = refl
+    either false b is = is
+
+    goes : is_address_of (mac_of_host w.plan h) (destination_of frame) ≡ true
+    goes = ap (λ (o : Option Host). is_address_of (option_map (λ x. x.mac) o) (destination_of frame)) at_host ∙ ap (λ m. same_mac host.mac m) to ∙ mac_itself host.mac
+
+-- ---- somebody moves
+pub moved_apart : (stands : List Stand) (g : ℕ) (to : Stand) → StandApart stands → position (stands_at to.edge.0 to.port) stands ≡ None → StandApart (set stands g to)
+moved_apart stands g to apart free = λ i j a b at_a at_b edge port. elim (cases_eq i g) [
+  | inl i_is ↦ elim (cases_eq j g) [
+    | inl j_is ↦ i_is ∙ sym j_is
+    | inr j_other ↦
+        let a_is : to ≡ a = moved i i_is a at_a in
+        absurd (nobody_there stands to.edge.0 to.port free j b (sym (get-set_other stands g j to j_other) ∙ at_b)
+        (sym edge ∙ ap (λ (x : Stand). x.edge.0) (sym a_is)) (sym port ∙ ap (λ (x : Stand). x.port) (sym a_is)))
+  ]
+  | inr i_other ↦ elim (cases_eq j g) [
+    | inl j_is ↦
+        let b_is : to ≡ b = moved j j_is b at_b in
+        absurd (nobody_there stands to.edge.0 to.port free i a (sym (get-set_other stands g i to i_other) ∙ at_a)
+        (edge ∙ ap (λ (x : Stand). x.edge.0) (sym b_is)) (port ∙ ap (λ (x : Stand). x.port) (sym b_is)))
+    | inr j_other ↦ apart i j a b (sym (get-set_other stands g i to i_other) ∙ at_a) (sym (get-set_other stands g j to j_other) ∙ at_b) edge port
+  ]
+]
+  where
+    within : (n : ℕ) → (xs : List Stand) → (x y : Stand) → slice_get (set xs n x) n ≡ Some y → x ≡ y
+    within n [] x y is = absurd (none-some y is)
+    within zero (z ∷ xs) x y is = same_Some x y is
+    within (suc n) (z ∷ xs) x y is = within n xs x y is
+
+    moved : (i : ℕ) → i ≡ g → (a : Stand) → slice_get (set stands g to) i ≡ Some a → to ≡ a
+    moved i i_is a at_a = within g stands to a (ap (λ n. slice_get (set stands g to) n) (sym i_is) ∙ at_a)

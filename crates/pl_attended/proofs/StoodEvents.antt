@@ -1,0 +1,331 @@
+-- Each event grants addresses to hosts that stand there, or have stood there.
+use Rattle.std.proofs.Common.{◌≡◌, ◌≢◌, ◌⊎◌, ◌<◌, ◌+◌, ◌==◌, ◌&&◌, ◌||◌, ℕ, Bool, true, false, if◌then◌else◌, get_or, set, Contains, List, [], ◌∷◌, ◌++◌, reverse, fold, length, Option, Some, None, slice_get, slice_set, refl, sym, ap, subst, ◌∙◌, inl, inr, eqb-true, eq-eqb}
+use Rattle.std.specs.List.{AllByRecursion, position}
+use Rattle.std.proofs.lemmas.Bool.{and_from, cases_eq, false≢true}
+use Rattle.std.proofs.lemmas.List.Elements.{Contains-append_left, Contains-push}
+use Rattle.std.proofs.lemmas.Option.{none-some, same_Some, slice_get_within}
+use Rattle.pl_frame.specs.declared.address.Mac.{Mac}
+use Rattle.pl_frame.specs.Ethernet.{source_of}
+use Rattle.pl_wiring.specs.declared.host.Host.{Host}
+use Rattle.pl_wiring.specs.declared.link.Link.{Link}
+use Rattle.pl_wiring.specs.declared.link.Peer.{Peer}
+use Rattle.pl_wiring.specs.declared.link.Peer.TheVariants.{HostPort, Switch}
+use Rattle.pl_wiring.specs.Index.{port_index}
+use Rattle.pl_wiring.specs.Peers.{peer_of}
+use Rattle.pl_wiring.specs.Plan.{IsPlan, Plan}
+use Rattle.pl_layouts.specs.Control.{is_control}
+use Rattle.pl_layouts.specs.Equality.{same_switch}
+use Rattle.pl_core.specs.declared.acts.ManagerAct.{ManagerAct}
+use Rattle.pl_core.specs.declared.acts.ManagerAct.TheVariants.{Number, Say}
+use Rattle.pl_core.specs.declared.messages.ToManager.{ToManager}
+use Rattle.pl_core.specs.declared.messages.ToSwitch.{ToSwitch}
+use Rattle.pl_core.specs.declared.reception.Reception.{Reception}
+use Rattle.pl_core.specs.declared.reception.Reception.TheVariants.{Kept, NotMember}
+use Rattle.pl_core.specs.declared.switch_records.Source.{Source}
+use Rattle.pl_core.specs.HostDuties.{is_own}
+use Rattle.pl_core.specs.HostInputs.{HostAnswer, HostInput, HostRule}
+use Rattle.pl_core.specs.ManagerDuties.{ManagerRule}
+use Rattle.pl_core.specs.PortRecords.{is_open_to_hosts, port_of}
+use Rattle.pl_core.specs.SwitchInputs.{SwitchInput}
+use Rattle.pl_core.specs.SwitchInputs.SwitchInput.{Comes, Says, Tick}
+use Rattle.pl_core.specs.SwitchViews.{SwitchView}
+use Rattle.pl_journal.specs.declared.cause.Cause.TheVariants as cause
+use Rattle.pl_journal.specs.declared.cause.Skip.{Skip}
+use Rattle.pl_journal.specs.declared.entry.Entry.{Entry}
+use Rattle.pl_journal.specs.declared.entry.Entry.TheVariants.{Arrived, Crossed, Dropped, LinkDown, LinkUp, Moved, Registered, Skipped}
+use Rattle.pl_journal.specs.Places.{at_port, has_stood, same_spot}
+use Rattle.pl_queues.specs.Queues.{items_at}
+use Rattle.pl_switch_rule.specs.Forwarding.{Choice}
+use Rattle.pl_switch_rule.specs.Granting.{remembered_at}
+use Rattle.pl_switch_rule.specs.SwitchRule.{Loose, switch_step}
+use Rattle.pl_switch_rule.proofs.Shapes.{all_or}
+use Rattle.pl_world.specs.declared.event.Event.{Event}
+use Rattle.pl_world.specs.declared.event.Event.TheVariants as event
+use Rattle.pl_world.specs.declared.event.QueueName.{QueueName}
+use Rattle.pl_world.specs.declared.event.QueueName.TheVariants as queue
+use Rattle.pl_world.specs.declared.item.Item.{Item}
+use Rattle.pl_world.specs.declared.item.Item.TheVariants.{Control, Data}
+use Rattle.pl_world.specs.declared.spoken_frame.SpokenFrame.{SpokenFrame}
+use Rattle.pl_world.specs.declared.stand.Stand.{Stand}
+use Rattle.pl_world.specs.Booting.{me_of}
+use Rattle.pl_world.specs.Changes.{ends_of, host_no, noted, out_of, receiver, said_to, switch_no}
+use Rattle.pl_wiring.specs.declared.label.SwitchNo.{SwitchNo}
+use Rattle.pl_world.specs.Flying.{IsDataItem, IsItem}
+use Rattle.pl_world.specs.LinksAndMoves.{host_moved, item_lost, link_between, link_failed, link_repaired}
+use Rattle.pl_world.specs.OtherActs.{heard_after_tick, manager_act_done, manager_stepped, reception_noted, skip_noted}
+use Rattle.pl_world.specs.WorldRule.{ComesAtHost, ComesAtSwitch, ComesIn, ComesOut, ComesOver, Delivers, DeliversFromHost, DeliversFromManager, DeliversOut, DeliversToManager, Fails, Goes, Happens, HostPlays, HostTurn, IsRepaired, Loses, SwitchTurn, heard_item}
+use Rattle.pl_world.specs.Worlds.{WorldView}
+use Rattle.pl_addresses.specs.OwnFrames.{IsOwnItem}
+use Rattle.pl_addresses.proofs.Turns.{exists_at, filled_within}
+use Rattle.pl_addresses.proofs.Words.{get-set_other, get-set_same}
+use Rattle.pl_control_plane.proofs.Stepping.{turn_same}
+use Rattle.pl_attended.specs.Stood.{AreStoodFor}
+use Rattle.pl_attended.proofs.Acts.{Rest}
+use Rattle.pl_attended.proofs.Facts.{Facts}
+use Rattle.pl_core.specs.declared.acts.Act.{Act}
+use Rattle.pl_core.specs.declared.acts.Act.TheVariants as act
+use Rattle.pl_attended.proofs.GrantRows.{Fits, IsFine, IsGrantFor, Remembers, fits_frame, fits_order, fits_tick}
+use Rattle.pl_attended.proofs.Places.{own_is}
+use Rattle.pl_attended.proofs.StoodActs.{AreNoGrants, IsGrantThere, IsNoGrant, StepWrote, StoodThere, Wrote, host_wrote, none_of_ends, past_more, step_wrote, stood_later, wrote_all, wrote_nothing, wrote_quiet, wrote_then}
+
+-- Hosts have stood where they stand, and so have those that switches remember; and each address was granted to one that had.
+pub record Stood (plan : Plan) (stands : List Stand) (switches : List SwitchView) (journal : List Entry) : Type 0 where
+  pub stand : (g : ℕ) (stand : Stand) → slice_get stands g ≡ Some stand → has_stood plan (reverse journal) g (at_port stand.edge.0 stand.port) ≡ true
+  pub remembered : (s : ℕ) (v : SwitchView) → slice_get switches s ≡ Some v → Remembers (λ port mac. StoodThere plan (reverse journal) mac s port) v
+  pub granted : AreStoodFor plan (reverse journal)
+
+abbrev pub IsStood : WorldView → Type 0
+IsStood w = Stood w.plan w.stands w.switches w.journal
+
+fine_later : (plan : Plan) (before after : List Entry) → Wrote plan before after → (s : ℕ) (v : SwitchView) → Remembers (λ port mac. StoodThere plan (reverse before) mac s port) v →
+    Remembers (λ port mac. StoodThere plan (reverse after) mac s port) v
+fine_later plan before after wrote s v r port = by (remembered_at v port) (r port)
+  where
+    by : (o : Option Source) → IsFine (λ q mac. StoodThere plan (reverse before) mac s q) port o → IsFine (λ q mac. StoodThere plan (reverse after) mac s q) port o
+    by None is = tt
+    by (Some source) is = stood_later plan before after wrote source.amac s port is
+
+pub stood_on : (plan : Plan) (stands : List Stand) (switches : List SwitchView) (before after : List Entry) → Wrote plan before after → Stood plan stands switches before → Stood plan stands switches after
+stood_on plan stands switches before after wrote st = record {
+  stand = λ g stand at. wrote.later g (at_port stand.edge.0 stand.port) (st.stand g stand at);
+  remembered = λ s v at. fine_later plan before after wrote s v (st.remembered s v at);
+  granted = wrote.good st.granted;
+}
+
+-- the same wiring, stands and switches, and a later journal
+pub record Quietly (w new : WorldView) : Type 0 where
+  pub plan : new.plan ≡ w.plan
+  pub stands : new.stands ≡ w.stands
+  pub switches : new.switches ≡ w.switches
+  pub wrote : Wrote w.plan w.journal new.journal
+
+quiet_stood : (w new : WorldView) → Quietly w new → IsStood w → IsStood new
+quiet_stood w new q st =
+    subst (λ (p : Plan). Stood p new.stands new.switches new.journal) (sym q.plan)
+    (subst (λ (xs : List Stand). Stood w.plan xs new.switches new.journal) (sym q.stands)
+    (subst (λ (vs : List SwitchView). Stood w.plan w.stands vs new.journal) (sym q.switches) (stood_on w.plan w.stands w.switches w.journal new.journal q.wrote st)))
+
+-- ---- a switch
+switch_stood : (w : WorldView) → IsPlan w.plan → IsStood w → (s : ℕ) (input : SwitchInput) (speech : SpokenFrame) (new : WorldView) → SwitchTurn Loose w s input speech new →
+    ((v : SwitchView) → slice_get w.switches s ≡ Some v → (choose : Choice) → Fits (λ port mac. StoodThere w.plan (reverse w.journal) mac s port) v (switch_step choose v input)) → IsStood new
+switch_stood w is_plan st s input speech new turn fits =
+    let steps = turn.ruled.steps in
+    let f = fits turn.before turn.found turn.ruled.choose in
+    let r = st.remembered s turn.before turn.found in
+    let grants : AllByRecursion (IsGrantThere w.plan (reverse w.journal) s) turn.acts =
+    subst (λ (acts : List Act). AllByRecursion (IsGrantThere w.plan (reverse w.journal) s) acts) (sym steps.done) (same_grants _ (f.grants r)) in
+    let wrote : StepWrote w.plan w new (set w.switches s turn.after) =
+    subst (λ (x : WorldView). StepWrote w.plan w x (set w.switches s turn.after)) (sym turn.changed) (step_wrote w.plan is_plan w s turn.before turn.after speech turn.acts refl grants) in
+    let mid : Stood w.plan w.stands (set w.switches s turn.after) new.journal = record {
+      stand = λ g stand at. wrote.wrote.later g (at_port stand.edge.0 stand.port) (st.stand g stand at);
+      remembered = λ t v at. elim (cases_eq t s) [
+        | inr other ↦ fine_later w.plan w.journal new.journal wrote.wrote t v (st.remembered t v (sym (get-set_other w.switches s t turn.after other) ∙ at))
+        | inl same ↦
+            let view : turn.after ≡ v = same_Some turn.after v (sym (get-set_same w.switches s turn.after (slice_get_within w.switches s turn.before turn.found)) ∙ ap (λ n. slice_get (set w.switches s turn.after) n) (sym same) ∙ at) in
+            subst (λ (n : ℕ). Remembers (λ port mac. StoodThere w.plan (reverse new.journal) mac n port) v) (sym same)
+            (fine_later w.plan w.journal new.journal wrote.wrote s v
+            (subst (λ (u : SwitchView). Remembers (λ port mac. StoodThere w.plan (reverse w.journal) mac s port) u) (sym steps.view ∙ view) (f.holds r)))
+      ];
+      granted = wrote.wrote.good st.granted;
+    } in
+    subst (λ (x : Rest). Stood x.plan x.stands x.switches new.journal) (sym wrote.rest) mid
+  where
+    same_grants : (acts : List Act) → AllByRecursion (IsGrantFor (λ port mac. StoodThere w.plan (reverse w.journal) mac s port)) acts → AllByRecursion (IsGrantThere w.plan (reverse w.journal) s) acts
+    same_grants [] all = tt
+    same_grants (act.Grant x mac ∷ acts) all = (all.0, same_grants acts all.1)
+    same_grants (act.Tell told ∷ acts) all = (tt, same_grants acts all.1)
+    same_grants (act.Control port frame ∷ acts) all = (tt, same_grants acts all.1)
+    same_grants (act.Make frame ∷ acts) all = (tt, same_grants acts all.1)
+    same_grants (act.Redirect old new' ∷ acts) all = (tt, same_grants acts all.1)
+    same_grants (act.Pass port frame ∷ acts) all = (tt, same_grants acts all.1)
+    same_grants (act.Take ∷ acts) all = (tt, same_grants acts all.1)
+    same_grants (act.Drop cause ∷ acts) all = (tt, same_grants acts all.1)
+
+-- ---- a host
+host_stood : (rule : HostRule) (w : WorldView) → IsStood w → (g : ℕ) (input : HostInput) (answer : HostAnswer) (new : WorldView) → HostTurn rule w g input answer new → IsStood new
+host_stood rule w st g input answer new turn =
+    let same = turn_same rule w g input answer new turn in
+    let first : WorldView = record w { hosts = set w.hosts g turn.after } in
+    quiet_stood w new (record {
+      plan = same.plan;
+      stands = same.stands;
+      switches = same.switches;
+      wrote = subst (λ (x : WorldView). Wrote w.plan w.journal x.journal) (sym turn.changed) (host_wrote w.plan g first turn.acts);
+    }) st
+
+entry_stood : (w : WorldView) (e : Entry) → IsNoGrant e → IsStood w → IsStood (noted w e)
+entry_stood w e none st = stood_on w.plan w.stands w.switches w.journal (w.journal ++ e ∷ []) (wrote_quiet w.plan w.journal e none) st
+
+reception_stood : (w : WorldView) (g id : ℕ) (frame : List ℕ) (what : Reception) → IsStood w → IsStood (reception_noted w g id frame what)
+reception_stood w g id frame Kept st = entry_stood w (Arrived id (host_no g) frame) tt st
+reception_stood w g id frame NotMember st = entry_stood w (Dropped id cause.NoMember) tt st
+
+skip_stood : (w : WorldView) (g : ℕ) (skip : Option Skip) → IsStood w → IsStood (skip_noted w g skip)
+skip_stood w g None st = st
+skip_stood w g (Some skip) st = entry_stood w (Skipped (host_no g) skip) tt st
+
+module _ (w : WorldView) (f : Facts w) (st : IsStood w) where
+  -- ---- a frame of a host
+  host_frame : (g : ℕ) (item : Item) (rest : List Item) (new : WorldView) → items_at w.from_hosts g ≡ item ∷ rest → (place : Option Stand) → slice_get w.stands g ≡ place →
+      ComesIn Loose (record w { from_hosts = slice_set w.from_hosts g rest }) g item place new → IsStood new
+  host_frame g item rest new head None at comes = absurd comes
+  host_frame g (Control frame) rest new head (Some gs) at turn = absurd (subst (λ (xs : List Item). AllByRecursion IsDataItem xs) head (all_or (AllByRecursion IsDataItem) w.from_hosts g [] f.host_items tt)).0
+  host_frame g (Data id frame) rest new head (Some gs) at turn =
+      let mid : WorldView = noted (heard_item (record w { from_hosts = slice_set w.from_hosts g rest }) g (Data id frame)) (Crossed id (switch_no gs.edge.0)) in
+      let there : IsStood mid = stood_on w.plan w.stands w.switches w.journal mid.journal (wrote_quiet w.plan w.journal (Crossed id (switch_no gs.edge.0)) tt) st in
+      let within : g < length w.from_hosts = filled_within w.from_hosts g (Data id frame) rest head in
+      let view = exists_at w.hosts g (subst (λ n. g < n) f.many_from within) in
+      let host = exists_at w.plan.hosts g (subst (λ n. g < n) (f.many_from ∙ f.many_hosts) within) in
+      let own : is_own (me_of host.0) frame ≡ true = (subst (λ (xs : List Item). AllByRecursion (IsOwnItem (me_of host.0)) xs) head (f.own g host.0 view.0 host.1 view.1).sends).0 in
+      switch_stood mid f.plan there gs.edge.0 (Comes gs.port frame) _ new turn
+      (λ v found choose. fits_frame (λ port mac. StoodThere w.plan (reverse mid.journal) mac gs.edge.0 port) choose v gs.port frame (λ no_control takes. record {
+        number = g;
+        host = host.0;
+        is = host.1;
+        mac_is = sym (own_is (me_of host.0) frame own).source;
+        stood = there.stand g gs at;
+      }))
+
+  from_host : (g : ℕ) (items : List Item) (new : WorldView) → items_at w.from_hosts g ≡ items → DeliversFromHost Loose w g items new → IsStood new
+  from_host g [] new is comes = absurd comes
+  from_host g (item ∷ rest) new is comes = host_frame g item rest new is (slice_get w.stands g) refl comes
+
+  -- ---- out of a port
+  module _ (rule : HostRule) where
+    over_link : (s port : ℕ) (item : Item) (rest : List Item) → out_of w s port ≡ item ∷ rest → (t : SwitchNo) (q : ℕ) → peer_of w.plan s port ≡ Switch t q → (i : Item) → item ≡ i → (new : WorldView) →
+        ComesAtSwitch Loose (record w { out = set w.out (port_index w.plan.k s port) rest }) t.0 q i new → IsStood new
+    over_link s port item rest head t q leads (Control frame) is new turn =
+        let fine : IsItem (Control frame) = subst IsItem is (subst (λ (xs : List Item). AllByRecursion IsItem xs) head (all_or (AllByRecursion IsItem) w.out (port_index w.plan.k s port) [] f.port_items tt)).0 in
+        switch_stood (record w { out = set w.out (port_index w.plan.k s port) rest }) f.plan (record { stand = st.stand; remembered = st.remembered; granted = st.granted }) t.0 (Comes q frame) _ new turn
+        (λ v found choose. fits_frame (λ at mac. StoodThere w.plan (reverse w.journal) mac t.0 at) choose v q frame (λ no_control takes. absurd (false≢true (sym no_control ∙ fine.kind))))
+    over_link s port item rest head t q leads (Data id frame) is new turn =
+        let mid : WorldView = noted (record w { out = set w.out (port_index w.plan.k s port) rest }) (Crossed id (switch_no t.0)) in
+        let there : IsStood mid = stood_on w.plan w.stands w.switches w.journal mid.journal (wrote_quiet w.plan w.journal (Crossed id (switch_no t.0)) tt) st in
+        switch_stood mid f.plan there t.0 (Comes q frame) _ new turn
+        (λ v found choose. fits_frame (λ at mac. StoodThere w.plan (reverse mid.journal) mac t.0 at) choose v q frame (λ no_control takes.
+        absurd (false≢true (sym (f.neighbours s port t q id frame v leads
+        (subst (λ (xs : List Item). Contains xs (Data id frame)) (sym head) (subst (λ (j : Item). Contains (item ∷ rest) j) is (Contains-append_left (item ∷ []) rest item (Contains-push [] item)))) found) ∙ takes))))
+
+    at_host : (u : WorldView) → IsStood u → (id : ℕ) (frame : List ℕ) (to : Option ℕ) (new : WorldView) → ComesAtHost rule u id frame to new → IsStood new
+    at_host u su id frame None new same = subst (λ (x : WorldView). IsStood x) (sym same) (entry_stood u (Dropped id cause.HostGone) tt su)
+    at_host u su id frame (Some g) new is = host_stood rule (reception_noted u g id frame is.reception) (reception_stood u g id frame is.reception su) g _ _ new is.turn
+
+    comes_out : (u : WorldView) → IsStood u → (s port : ℕ) (item : Item) (new : WorldView) → ComesOut rule u s port item new → IsStood new
+    comes_out u su s port (Control frame) new same = subst (λ (x : WorldView). IsStood x) (sym same) su
+    comes_out u su s port (Data id frame) new comes = at_host u su id frame (receiver u s port frame) new comes
+
+    out_by : (s port : ℕ) (item : Item) (rest : List Item) → out_of w s port ≡ item ∷ rest → (peer : Peer) → peer_of w.plan s port ≡ peer → (new : WorldView) →
+        ComesOver Loose rule (record w { out = set w.out (port_index w.plan.k s port) rest }) s port item peer new → IsStood new
+    out_by s port item rest head (Switch t q) leads new comes = over_link s port item rest head t q leads item refl new comes
+    out_by s port item rest head HostPort leads new comes =
+        comes_out (record w { out = set w.out (port_index w.plan.k s port) rest }) (record { stand = st.stand; remembered = st.remembered; granted = st.granted }) s port item new comes
+
+    out_of_port : (s port : ℕ) (items : List Item) (new : WorldView) → out_of w s port ≡ items → DeliversOut Loose rule w s port items new → IsStood new
+    out_of_port s port [] new is comes = absurd comes
+    out_of_port s port (item ∷ rest) new is comes = out_by s port item rest is (peer_of w.plan s port) refl new comes
+
+    -- ---- the manager
+    one_said : (u : WorldView) (a : ManagerAct) → IsStood u → IsStood (manager_act_done u a)
+    one_said u (Say to says) su = by (position (same_switch to) u.plan.ids)
+      where
+        by : (o : Option ℕ) → IsStood (said_to u says o)
+        by None = su
+        by (Some s) = record { stand = su.stand; remembered = su.remembered; granted = su.granted }
+    one_said u (Number pmac n) su = entry_stood u (Registered pmac n) tt su
+
+    all_said : (u : WorldView) (acts : List ManagerAct) → IsStood u → IsStood (fold manager_act_done u acts)
+    all_said u [] su = su
+    all_said u (a ∷ acts) su = all_said (manager_act_done u a) acts (one_said u a su)
+
+    to_manager : (manager : ManagerRule) (s : ℕ) (items : List ToManager) (new : WorldView) → DeliversToManager manager w s items new → IsStood new
+    to_manager manager s [] new turn = absurd turn
+    to_manager manager s (told ∷ rest) new turn =
+        subst (λ (x : WorldView). IsStood x) (sym turn.changed)
+        (all_said (record w { to_manager = set w.to_manager s rest; manager = turn.after }) turn.acts (record { stand = st.stand; remembered = st.remembered; granted = st.granted }))
+
+    from_manager : (s : ℕ) (items : List ToSwitch) (new : WorldView) → DeliversFromManager Loose w s items new → IsStood new
+    from_manager s [] new turn = absurd turn
+    from_manager s (says ∷ rest) new turn =
+        switch_stood (record w { from_manager = set w.from_manager s rest }) f.plan (record { stand = st.stand; remembered = st.remembered; granted = st.granted }) s (Says says) _ new turn
+        (λ v found choose. fits_order (λ port mac. StoodThere w.plan (reverse w.journal) mac s port) choose v says)
+
+    delivers : (manager : ManagerRule) (name : QueueName) (new : WorldView) → Delivers Loose manager rule w name new → IsStood new
+    delivers manager (queue.FromHost g) new comes = from_host g.0 (items_at w.from_hosts g.0) new refl comes
+    delivers manager (queue.Port s port) new comes = out_of_port s.0 port (out_of w s.0 port) new refl comes
+    delivers manager (queue.ToManager s) new comes = to_manager manager s.0 (items_at w.to_manager s.0) new comes
+    delivers manager (queue.FromManager s) new comes = from_manager s.0 (items_at w.from_manager s.0) new comes
+
+    -- ---- links and moves
+    fails : (link : Option Link) (new : WorldView) → Fails w link new → IsStood new
+    fails None new none = absurd none
+    fails (Some link) new same =
+        let lower = port_index w.plan.k link.lower.0 link.lower_port in
+        let first = set w.out lower [] in
+        let one = ends_of cause.LinkDown (items_at w.out lower) in
+        let two = ends_of cause.LinkDown (items_at first (port_index w.plan.k link.upper.0 link.upper_port)) in
+        let j1 : List Entry = w.journal ++ LinkDown link.lower link.upper ∷ [] in
+        subst (λ (x : WorldView). IsStood x) (sym same)
+        (stood_on w.plan w.stands w.switches w.journal ((j1 ++ one) ++ two)
+        (wrote_then w.plan w.journal j1 ((j1 ++ one) ++ two) (wrote_quiet w.plan w.journal (LinkDown link.lower link.upper) tt)
+        (wrote_then w.plan j1 (j1 ++ one) ((j1 ++ one) ++ two) (wrote_all w.plan j1 one (none_of_ends w.plan cause.LinkDown (items_at w.out lower)))
+        (wrote_all w.plan (j1 ++ one) two (none_of_ends w.plan cause.LinkDown (items_at first (port_index w.plan.k link.upper.0 link.upper_port)))))) st)
+
+    repaired : (link : Option Link) (new : WorldView) → IsRepaired w link new → IsStood new
+    repaired None new none = absurd none
+    repaired (Some link) new same = subst (λ (x : WorldView). IsStood x) (sym same) (entry_stood w (LinkUp link.lower link.upper) tt st)
+
+    loses : (s port : ℕ) (items : List Item) (new : WorldView) → Loses w s port items new → IsStood new
+    loses s port [] new is = absurd is
+    loses s port (item ∷ rest) new same = subst (λ (x : WorldView). IsStood x) (sym same) (by item)
+      where
+        by : (i : Item) → IsStood (item_lost (record w { out = set w.out (port_index w.plan.k s port) rest }) i)
+        by (Control frame) = record { stand = st.stand; remembered = st.remembered; granted = st.granted }
+        by (Data id frame) = entry_stood w (Dropped id cause.Lost) tt st
+
+    moved : (g : ℕ) (from to : Stand) → slice_get w.stands g ≡ Some from → IsStood (host_moved w g from to)
+    moved g from to was =
+        let e = Moved (host_no g) to.edge to.port in
+        let j1 : List Entry = w.journal ++ e ∷ [] in
+        let one = ends_of cause.HostGone (items_at w.from_hosts g) in
+        let two = ends_of cause.HostGone (items_at w.out (port_index w.plan.k from.edge.0 from.port)) in
+        let wrote = wrote_then w.plan w.journal j1 ((j1 ++ one) ++ two) (wrote_quiet w.plan w.journal e tt)
+        (wrote_then w.plan j1 (j1 ++ one) ((j1 ++ one) ++ two) (wrote_all w.plan j1 one (none_of_ends w.plan cause.HostGone (items_at w.from_hosts g)))
+        (wrote_all w.plan (j1 ++ one) two (none_of_ends w.plan cause.HostGone (items_at w.out (port_index w.plan.k from.edge.0 from.port))))) in
+        let after = wrote_then w.plan j1 (j1 ++ one) ((j1 ++ one) ++ two) (wrote_all w.plan j1 one (none_of_ends w.plan cause.HostGone (items_at w.from_hosts g)))
+        (wrote_all w.plan (j1 ++ one) two (none_of_ends w.plan cause.HostGone (items_at w.out (port_index w.plan.k from.edge.0 from.port)))) in
+        record {
+          stand = λ h stand at. elim (cases_eq h g) [
+            | inr other ↦ wrote.later h (at_port stand.edge.0 stand.port) (st.stand h stand (sym (get-set_other w.stands g h to other) ∙ at))
+            | inl same ↦
+                let is_to : to ≡ stand = same_Some to stand (sym (get-set_same w.stands g to (slice_get_within w.stands g from was)) ∙ ap (λ n. slice_get (set w.stands g to) n) (sym same) ∙ at) in
+                after.later h (at_port stand.edge.0 stand.port)
+                (subst (λ (p : List Entry). has_stood w.plan p h (at_port stand.edge.0 stand.port) ≡ true) (sym (past_more w.journal e))
+                (or_first ((g == h) && same_spot (at_port to.edge.0 to.port) (at_port stand.edge.0 stand.port)) (has_stood w.plan (reverse w.journal) h (at_port stand.edge.0 stand.port))
+                (and_from (g == h) (same_spot (at_port to.edge.0 to.port) (at_port stand.edge.0 stand.port)) (eq-eqb g h (sym same))
+                (and_from (to.edge.0 == stand.edge.0) (to.port == stand.port) (eq-eqb to.edge.0 stand.edge.0 (ap (λ (x : Stand). x.edge.0) is_to)) (eq-eqb to.port stand.port (ap (λ (x : Stand). x.port) is_to))))))
+          ];
+          remembered = λ s v at. fine_later w.plan w.journal ((j1 ++ one) ++ two) wrote s v (st.remembered s v at);
+          granted = wrote.good st.granted;
+        }
+      where
+        or_first : (a b : Bool) → a ≡ true → (a || b) ≡ true
+        or_first a b is = ap (λ c. c || b) is
+
+    goes : (g : ℕ) (to : Stand) (from : Option Stand) (new : WorldView) → slice_get w.stands g ≡ from → Goes rule w g to from new → IsStood new
+    goes g to None new was turn = absurd turn
+    goes g to (Some from) new was turn = host_stood rule (host_moved w g from to) (moved g from to was) g _ _ new turn
+
+    pub event_stood : (manager : ManagerRule) (e : Event) (new : WorldView) → Happens Loose manager rule w e new → IsStood new
+    event_stood manager (event.Deliver name) new is = delivers manager name new is
+    event_stood manager (event.Tick s) new is =
+        switch_stood (record w { heard = heard_after_tick s.0 w.stands w.heard }) f.plan (record { stand = st.stand; remembered = st.remembered; granted = st.granted }) s.0 Tick _ new is
+        (λ v found choose. fits_tick (λ port mac. StoodThere w.plan (reverse w.journal) mac s.0 port) choose v)
+    event_stood manager (event.Fail a b) new is = fails (link_between w.plan a.0 b.0) new is
+    event_stood manager (event.Repair a b) new is = repaired (link_between w.plan a.0 b.0) new is
+    event_stood manager (event.Lose s port) new is = loses s.0 port (out_of w s.0 port) new is
+    event_stood manager (event.Move g s port) new is = goes g.0 (record { edge = s; port = port }) (slice_get w.stands g.0) new refl is
+    event_stood manager (event.Start g) new is = host_stood rule w st g.0 _ _ new is
+    event_stood manager (event.Play g frame original raw) new is = host_stood rule (skip_noted w g.0 is.skip) (skip_stood w g.0 is.skip st) g.0 _ _ new is.turn
+    event_stood manager (event.Retry g) new is = host_stood rule w st g.0 _ _ new is
+    event_stood manager (event.Join g group) new is = host_stood rule w st g.0 _ _ new is
+    event_stood manager (event.Leave g group) new is = host_stood rule w st g.0 _ _ new is

@@ -1,0 +1,26 @@
+ghost use Rattle.std.specs.Prelude.{List};
+ghost use Rattle.pl_wiring.specs.Plan.{Plan};
+ghost use Rattle.pl_manager_rule.specs.ManagerRule.{manager_rule};
+ghost use Rattle.pl_switch_rule.specs.SwitchRule.{Loose};
+ghost use Rattle.pl_world.specs.declared.limits.Limits.{Limits};
+ghost use Rattle.pl_world.specs.Booting.{CanBegin, booted};
+ghost use Rattle.pl_world.specs.Runs.{Moment, WorldRun};
+ghost use Rattle.pl_world.specs.Worlds.{WorldView};
+ghost use Rattle.pl_attended.specs.Attended.{AreAttended, StandApart};
+
+use pl_host_rule::LawfulHost;
+
+/// In every run each host is attended to of which an ARP frame that can be read reached the edge switch where
+/// it stands: that switch remembers it until it is placed, and then has an address in use for it, with its
+/// IPv4 address, unless the addresses of the port are used up; or a probe of the host waits at its port, or such
+/// a frame in its own queue.
+pub fn hosts_are_attended_in_every_run<H: LawfulHost>()
+    ensures { (plan : Plan) (limits : Limits) (moments : List Moment) (new : WorldView) → CanBegin plan →
+        WorldRun Loose manager_rule H.rule (booted plan limits) moments new → AreAttended new }
+{}
+
+/// In every run no two hosts stand at one place.
+pub fn no_two_hosts_stand_at_one_place<H: LawfulHost>()
+    ensures { (plan : Plan) (limits : Limits) (moments : List Moment) (new : WorldView) → CanBegin plan →
+        WorldRun Loose manager_rule H.rule (booted plan limits) moments new → StandApart new.stands }
+{}

@@ -1,0 +1,14 @@
+//! Laws of how hosts are attended to: the edge switch where a host stands knows it once an ARP frame of it
+//! came there, or is going to; so where every queue is empty it is registered there.
+#![tactic(auto)]
+
+pub use attended_laws::{hosts_are_attended_in_every_run, no_two_hosts_stand_at_one_place};
+pub use registration_laws::{
+    a_host_is_registered_at_rest, a_host_is_registered_at_rest_in_every_run,
+    lawful_cores_register_hosts_at_rest,
+};
+pub use stood_laws::addresses_are_granted_where_hosts_stood;
+
+mod attended_laws;
+mod registration_laws;
+mod stood_laws;

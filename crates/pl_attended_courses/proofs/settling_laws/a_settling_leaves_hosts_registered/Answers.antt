@@ -1,0 +1,7 @@
+use Rattle.pl_attended_courses.proofs.Settled.{settling_registers}
+use Rattle.pl_attended_courses.proofs.settling_laws.a_settling_leaves_hosts_registered.Goals as goal
+
+pub returns : goal.returns
+returns g c = λ plan limits moments old asked answer new can run settling fewer.
+    settling_registers g.S.SwitchCore.rule g.M.ManagerCore.rule g.H.HostCore.rule g.met.S.LooseSwitch.obeys g.met.M.LawfulManager.lawful g.met.H.LawfulHost.lawful
+    g.met.H.HostCore.sends g.met.H.HostCore.owns plan limits moments old asked answer new can run settling fewer

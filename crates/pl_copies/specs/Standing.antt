@@ -1,0 +1,43 @@
+-- What the count of copies needs of the other parts: what a switch knows of the tree around it.
+use Rattle.std.specs.Prelude.{◌≡◌, ℕ, ◌==◌, true, false, Contains, List, Some, None, slice_get}
+use Rattle.std.specs.List.{AllByRecursion, list_any}
+use Rattle.pl_frame.specs.declared.address.SwitchId.{SwitchId}
+use Rattle.pl_wiring.specs.declared.label.Label.{Label}
+use Rattle.pl_wiring.specs.declared.label.Label.TheVariants.{Aggregation, Core, Edge}
+use Rattle.pl_wiring.specs.declared.label.SwitchNo.{SwitchNo}
+use Rattle.pl_wiring.specs.declared.link.Peer.TheVariants.{HostPort, Switch}
+use Rattle.pl_wiring.specs.Labels.{label_of}
+use Rattle.pl_wiring.specs.Peers.{peer_of}
+use Rattle.pl_wiring.specs.Plan.{Plan}
+use Rattle.pl_core.specs.declared.messages.TreePart.{TreePart}
+use Rattle.pl_core.specs.PortRecords.{id_at, is_open_to_hosts, place_at, port_of}
+use Rattle.pl_core.specs.SwitchFacts.{part_of}
+use Rattle.pl_core.specs.SwitchViews.{SwitchView}
+use Rattle.pl_world.specs.declared.item.Item.TheVariants.{Data}
+use Rattle.pl_world.specs.declared.stand.Stand.{Stand}
+use Rattle.pl_world.specs.Changes.{out_of}
+use Rattle.pl_world.specs.Worlds.{WorldView}
+
+-- edge switches have rank 0, aggregation switches 1, core switches 2
+abbrev pub rank : Label → ℕ
+rank (Edge p i) = 0
+rank (Aggregation p j) = 1
+rank (Core j m) = 2
+
+-- What switch t knows of levels is so; hosts and members are at ports without a link, and nothing was heard there; and its part of a group's tree
+-- leads down from an aggregation switch to edge switches.
+pub record KnowsTree (plan : Plan) (t : ℕ) (v : SwitchView) : Type 0 where
+  pub level : (n : ℕ) → v.place.level ≡ Some n → n ≡ rank (label_of plan.k t)
+  pub near : (q : ℕ) (u : SwitchNo) (r n : ℕ) → peer_of plan t q ≡ Switch u r → (place_at v q).level ≡ Some n → n ≡ rank (label_of plan.k u.0)
+  pub strangers : (q : ℕ) → peer_of plan t q ≡ HostPort → (port_of v q).heard ≡ None
+  pub hosts : (q : ℕ) → (port_of v q).host ≡ true → peer_of plan t q ≡ HostPort
+  pub members : AllByRecursion (λ m. (port_of v m.port).host ≡ true) v.members
+  pub parts : (group : ℕ) (part : TreePart) (q : ℕ) (u : SwitchNo) (r : ℕ) (id : SwitchId) → rank (label_of plan.k t) ≡ 1 → part_of v group ≡ Some part →
+      peer_of plan t q ≡ Switch u r → id_at v q ≡ Some id → list_any (λ d. d.0 == id.0) part.down ≡ true → rank (label_of plan.k u.0) ≡ 0
+
+-- So does each switch, and none takes what comes over a link for a host's. Hosts stand at ports without a link.
+pub record KnowTrees (w : WorldView) : Type 0 where
+  pub free : (h : ℕ) (stand : Stand) → slice_get w.stands h ≡ Some stand → peer_of w.plan stand.edge.0 stand.port ≡ HostPort
+  pub each : (t : ℕ) (v : SwitchView) → slice_get w.switches t ≡ Some v → KnowsTree w.plan t v
+  pub closed : (s port : ℕ) (t : SwitchNo) (q id : ℕ) (frame : List ℕ) (v : SwitchView) → peer_of w.plan s port ≡ Switch t q →
+      Contains (out_of w s port) (Data id frame) → slice_get w.switches t.0 ≡ Some v → is_open_to_hosts (port_of v q) ≡ false

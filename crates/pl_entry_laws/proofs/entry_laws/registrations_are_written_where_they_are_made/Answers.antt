@@ -1,0 +1,6 @@
+use Rattle.pl_entry_laws.proofs.Laws.{registrations_written}
+use Rattle.pl_entry_laws.proofs.entry_laws.registrations_are_written_where_they_are_made.Goals as goal
+
+pub returns : goal.returns
+returns g c = λ old event new step.
+    registrations_written g.S.SwitchCore.rule g.M.ManagerCore.rule g.H.HostCore.rule old event new step g.met.M.ManagerCore.answers

@@ -1,0 +1,245 @@
+-- Each event keeps what is told, and so each step.
+use Rattle.std.proofs.Common.{inl, inr, ◌≡◌, ℕ, ◌+◌, ◌<◌, ◌==◌, ◌&&◌, not, nat_lt, Bool, true, false, if◌then◌else◌, List, [], ◌∷◌, Option, None, Some, reverse, set, slice_get, refl, sym, ◌∙◌, ap, subst}
+use Rattle.std.proofs.lemmas.Bool.{and_parts, cases_Bool, cond-true, ltb-true}
+use Rattle.std.proofs.lemmas.Option.{slice_get_within}
+use Rattle.pl_wiring.specs.declared.label.SwitchNo.{SwitchNo}
+use Rattle.pl_wiring.specs.declared.link.Link.{Link}
+use Rattle.pl_wiring.specs.declared.link.Peer.{Peer}
+use Rattle.pl_wiring.specs.declared.link.Peer.TheVariants.{HostPort, Switch}
+use Rattle.pl_wiring.specs.Index.{port_index}
+use Rattle.pl_wiring.specs.LiveLinks.{is_live}
+use Rattle.pl_wiring.specs.Peers.{peer_of}
+use Rattle.pl_journal.specs.Places.{are_alike, is_host_port}
+use Rattle.pl_core.specs.declared.messages.ToManager.{ToManager}
+use Rattle.pl_core.specs.declared.messages.ToSwitch.{ToSwitch}
+use Rattle.pl_core.specs.declared.messages.ToSwitch.TheVariants.{Answer, Avoid, Flood, Invalidate, Pod, Tree}
+use Rattle.pl_core.specs.Accounting.{AccountsForFrames}
+use Rattle.pl_core.specs.HostDuties.{HostsKeepFrames, HostsSendData}
+use Rattle.pl_core.specs.HostInputs.{HostRule}
+use Rattle.pl_core.specs.ManagerDuties.{ManagerRule}
+use Rattle.pl_core.specs.SwitchInputs.{SwitchInput}
+use Rattle.pl_core.specs.SwitchInputs.SwitchInput.{Comes, Says}
+use Rattle.pl_queues.specs.Queues.{items_at}
+use Rattle.pl_frame.specs.Ethernet.{payload_of}
+use Rattle.pl_layouts.specs.Control.{control_in, is_control}
+use Rattle.pl_core.specs.SwitchViews.{SwitchView}
+use Rattle.pl_steps.specs.Steps.{SwitchStep}
+use Rattle.pl_switch_rule.specs.Levels.{has_become_placed, with_pod}
+use Rattle.pl_switch_rule.proofs.AccountedSteps.{loose_steps_are_accounted}
+use Rattle.pl_switch_rule.specs.SwitchRule.{Loose, control_comes, data_comes, switch_step}
+use Rattle.pl_world.specs.declared.error.StepError.TheVariants.{AlreadySo, NoSuch, Occupied}
+use Rattle.pl_world.specs.declared.event.Event.{Event}
+use Rattle.pl_world.specs.declared.event.Event.TheVariants as event
+use Rattle.pl_world.specs.declared.event.QueueName.{QueueName}
+use Rattle.pl_world.specs.declared.event.QueueName.TheVariants as queue
+use Rattle.pl_world.specs.declared.item.Item.{Item}
+use Rattle.pl_world.specs.declared.item.Item.TheVariants.{Control, Data}
+use Rattle.pl_world.specs.declared.spoken_frame.SpokenFrame.TheVariants.{Silent}
+use Rattle.pl_world.specs.declared.stand.Stand.{Stand}
+use Rattle.pl_world.specs.Changes.{host_at, out_of, receiver}
+use Rattle.pl_world.specs.Flying.{IsCounted, IsFrame}
+use Rattle.pl_world.specs.LinksAndMoves.{joins, link_between, link_failed}
+use Rattle.pl_world.specs.Refusals.{refusal, has_host, has_port, has_switch, is_for_hosts, is_linked, refusal_of_event, refusal_of_link, refusal_of_move, refusal_of_place, refusal_of_queue}
+use Rattle.pl_world.specs.WorldRule.{ComesOver, Delivers, DeliversFromManager, DeliversOut, DeliversToManager, Fails, Goes, Happens, IsRepaired, Loses, SwitchTurn, WorldStep}
+use Rattle.pl_world.specs.Worlds.{WorldView}
+use Rattle.pl_world.proofs.Balances.{head_is_item}
+use Rattle.pl_world.proofs.Counts.{all_found}
+use Rattle.pl_world.proofs.StepBalances.{counted as to_counted, event_is_not_refused, fails, found_contained, same_refusal, sound}
+use Rattle.pl_flights.specs.Given.{IsGiven}
+use Rattle.pl_flights.specs.OnTheWay.{IsTold}
+use Rattle.pl_flights.specs.Standing.{StandsOn, StandsOnHosts}
+use Rattle.pl_flights.proofs.Arriving.{comes_out_told}
+use Rattle.pl_flights.proofs.AtHome.{over_link_told}
+use Rattle.pl_flights.proofs.Beginning.{lost_told}
+use Rattle.pl_flights.proofs.Failing.{fails_told, repaired_told}
+use Rattle.pl_flights.proofs.BecomingPlaced.{control_well, pod_well, unplaced_before, was_unplaced}
+use Rattle.pl_flights.proofs.ControlFrames.{control_told, pod_told, settles_by}
+use Rattle.pl_flights.proofs.FromHosts.{from_host_told}
+use Rattle.pl_flights.proofs.FromManager.{says_told}
+use Rattle.pl_flights.proofs.HostTurns.{host_told, plays_told}
+use Rattle.pl_flights.proofs.Moving.{goes_told, set_get}
+use Rattle.pl_flights.proofs.NoneJustIn.{none_just_in}
+use Rattle.pl_flights.proofs.Numbering.{manager_told}
+use Rattle.pl_flights.proofs.OverLinks.{taken_out}
+use Rattle.pl_flights.proofs.Settling.{GrantsWell}
+use Rattle.pl_flights.proofs.SilentSteps.{ticks_told}
+use Rattle.pl_flights.proofs.SwitchTurns.{turn_switches}
+
+there_is : (there filled : Bool) → refusal_of_queue there filled ≡ None → there ≡ true
+there_is true filled none = refl
+there_is false filled none = absurd (cc)
+
+live_before : (b : Bool) → (if are_alike b false then Some AlreadySo else None) ≡ None → b ≡ true
+live_before true fine = refl
+live_before false fine = absurd (cc)
+
+dead_before : (b : Bool) → (if are_alike b true then Some AlreadySo else None) ≡ None → b ≡ false
+dead_before true fine = absurd (cc)
+dead_before false fine = refl
+
+always_refused : (b : Bool) → (if b then Some AlreadySo else Some Occupied) ≡ None → ⊥
+always_refused true fine = absurd (cc)
+always_refused false fine = absurd (cc)
+
+move_fine : (a b : Bool) (h : ℕ) (o : Option ℕ) → (if a && b then refusal_of_place h o else Some NoSuch) ≡ None → (a ≡ true) × (b ≡ true) × (o ≡ None)
+move_fine true true h None fine = (refl, refl, refl)
+move_fine true true h (Some other) fine = absurd (always_refused (other == h) fine)
+move_fine true false h o fine = absurd (cc)
+move_fine false b h o fine = absurd (cc)
+
+module _ (manager : ManagerRule) (host : HostRule) (accounts : AccountsForFrames Loose) (sends : HostsSendData host) (keeps : HostsKeepFrames host)
+    (w : WorldView) (counted : IsCounted w) (told : IsTold w) (new : WorldView) (given : IsGiven manager host w new) where
+  abbrev on : StandsOn w
+  on = given.on
+
+  abbrev hosts : StandsOnHosts w
+  hosts = given.hosts
+
+  -- what a switch grants where it becomes placed
+  size_at : (t : ℕ) (v : SwitchView) → slice_get w.switches t ≡ Some v → v.k ≡ w.plan.k
+  size_at t v found = all_found (λ (x : SwitchView). x.k ≡ w.plan.k) w.switches t v found counted.formed.ports
+
+  after_there : (u : WorldView) (t : ℕ) (input : SwitchInput) (turn : SwitchTurn Loose u t input Silent new) → slice_get new.switches t ≡ Some turn.after
+  after_there u t input turn =
+      ap (λ vs. slice_get vs t) (turn_switches Loose accounts u t input Silent new turn) ∙ set_get u.switches t turn.after (slice_get_within u.switches t turn.before turn.found)
+
+  settled_grants : (s port : ℕ) (t : SwitchNo) (q : ℕ) (frame : List ℕ) (items : List Item) → out_of w s port ≡ Control frame ∷ items →
+      peer_of w.plan s port ≡ Switch t q → (turn : SwitchTurn Loose (taken_out w s port items) t.0 (Comes q frame) Silent new) →
+      settles_by turn.before q (control_in (payload_of frame)) ≡ true → GrantsWell w.plan t.0 turn.acts (reverse w.journal)
+  settled_grants s port t q frame items head peer turn settles =
+      let v : SwitchView = turn.before in
+      let item : IsFrame true frame =
+      head_is_item w.out (port_index w.plan.k s port) (Control frame) items head (sound w counted).balance.port_items in
+      let step : switch_step turn.ruled.choose v (Comes q frame) ≡ control_comes v q frame =
+      cond-true (is_control frame) (control_comes v q frame) (data_comes turn.ruled.choose v q frame) item.kind in
+      subst (λ acts. GrantsWell w.plan t.0 acts (reverse w.journal)) (sym (turn.ruled.steps.done ∙ ap (λ (x : SwitchStep). x.acts) step))
+      (control_well w new t.0 v turn.found (size_at t.0 v turn.found) (hosts.hosts t.0 v turn.found) given.first q frame settles
+      (after_there (taken_out w s port items) t.0 (Comes q frame) turn ∙ ap Some (turn.ruled.steps.view ∙ ap (λ (x : SwitchStep). x.view) step)))
+
+  pod_grants : (t pod : ℕ) (rest : List ToSwitch) (turn : SwitchTurn Loose (record w { from_manager = set w.from_manager t rest }) t (Says (Pod pod)) Silent new) →
+      has_become_placed turn.before.place (with_pod turn.before (Some pod)).place ≡ true → GrantsWell w.plan t turn.acts (reverse w.journal)
+  pod_grants t pod rest turn settles =
+      let v : SwitchView = turn.before in
+      subst (λ acts. GrantsWell w.plan t acts (reverse w.journal)) (sym turn.ruled.steps.done)
+      (pod_well w new t v turn.found (size_at t v turn.found) (hosts.hosts t v turn.found) given.first pod settles
+      (after_there (record w { from_manager = set w.from_manager t rest }) t (Says (Pod pod)) turn ∙ ap Some turn.ruled.steps.view))
+
+  -- an item comes to the other end
+  over_told : (s port : ℕ) (item : Item) (items : List Item) (peer : Peer) → port < w.plan.k → out_of w s port ≡ item ∷ items → peer_of w.plan s port ≡ peer →
+      ComesOver Loose host (taken_out w s port items) s port item peer new → IsTold new
+  over_told s port (Control frame) items (Switch t q) within head peer turn =
+      control_told w s port frame items t q new accounts counted told within head peer turn
+      (elim (cases_Bool (settles_by turn.before q (control_in (payload_of frame)))) [
+        | inl settles ↦ inr (record {
+          grants = settled_grants s port t q frame items head peer turn settles;
+          none_just_in = none_just_in w counted told t.0 turn.before turn.found (unplaced_before turn.before q (control_in (payload_of frame)) settles);
+        })
+        | inr stays ↦ inl stays
+      ]) given.more
+  over_told s port (Data id frame) items (Switch t q) within head peer turn =
+      over_link_told w counted told on accounts s port id frame items within head t q peer new turn
+  over_told s port (Control frame) items HostPort within head peer is = subst IsTold (sym is) (lost_told w s port (Control frame) items counted told within head)
+  over_told s port (Data id frame) items HostPort within head peer comes =
+      comes_out_told w counted told s port id frame items within head peer host keeps sends (given.come_first s port id frame items within peer head) given.members (receiver w s port frame) refl new comes
+
+  out_told : (s port : ℕ) (items : List Item) → port < w.plan.k → out_of w s port ≡ items → DeliversOut Loose host w s port items new → IsTold new
+  out_told s port [] within head comes = absurd comes
+  out_told s port (item ∷ items) within head comes = over_told s port item items (peer_of w.plan s port) within head refl comes
+
+  to_manager_told : (s : ℕ) (items : List ToManager) → items_at w.to_manager s ≡ items → DeliversToManager manager w s items new → IsTold new
+  to_manager_told s [] head comes = absurd comes
+  to_manager_told s (says ∷ items) head turn = manager_told manager w s says items new counted told turn
+      (given.numbers s says items turn.id turn.after turn.acts head turn.found turn.ruled)
+
+  from_manager_told : (t : ℕ) (items : List ToSwitch) → DeliversFromManager Loose w t items new → IsTold new
+  from_manager_told t [] comes = absurd comes
+  from_manager_told t (Pod pod ∷ items) turn = pod_told w t pod items new accounts counted told turn
+      (elim (cases_Bool (has_become_placed turn.before.place (with_pod turn.before (Some pod)).place)) [
+        | inl settles ↦ inr (record {
+          grants = pod_grants t pod items turn settles;
+          none_just_in = none_just_in w counted told t turn.before turn.found
+              (was_unplaced turn.before.place (with_pod turn.before (Some pod)).place settles);
+        })
+        | inr stays ↦ inl stays
+      ]) given.more
+  from_manager_told t (Avoid list ∷ items) turn = says_told w t (Avoid list) items new accounts counted told on tt turn
+  from_manager_told t (Tree group part ∷ items) turn = says_told w t (Tree group part) items new accounts counted told on tt turn
+  from_manager_told t (Answer asker asker_ip ip pmac ∷ items) turn = says_told w t (Answer asker asker_ip ip pmac) items new accounts counted told on tt turn
+  from_manager_told t (Flood asker asker_ip ip ∷ items) turn = says_told w t (Flood asker asker_ip ip) items new accounts counted told on tt turn
+  from_manager_told t (Invalidate old to number ip ∷ items) turn = says_told w t (Invalidate old to number ip) items new accounts counted told on tt turn
+
+  -- the head of a queue is delivered
+  delivers_told : (name : QueueName) → refusal_of_event w (event.Deliver name) ≡ None → Delivers Loose manager host w name new → IsTold new
+  delivers_told (queue.FromHost h) fine comes = from_host_told w counted told on hosts accounts h.0 new given.more comes
+  delivers_told (queue.Port s port) fine comes =
+      let there = and_parts (has_switch w.plan s.0) (nat_lt port w.plan.k) (there_is (has_port w.plan s.0 port) _ fine) in
+      out_told s.0 port (out_of w s.0 port) (ltb-true port w.plan.k there.1) refl comes
+  delivers_told (queue.ToManager s) fine comes = to_manager_told s.0 (items_at w.to_manager s.0) refl comes
+  delivers_told (queue.FromManager s) fine comes = from_manager_told s.0 (items_at w.from_manager s.0) comes
+
+  -- an item is lost
+  loses_told : (s port : ℕ) (items : List Item) → port < w.plan.k → out_of w s port ≡ items → Loses w s port items new → IsTold new
+  loses_told s port [] within head is = absurd is
+  loses_told s port (item ∷ items) within head is = subst IsTold (sym is) (lost_told w s port item items counted told within head)
+
+  -- a link fails, or is repaired
+  cut_told : (a b : ℕ) (o : Option Link) → link_between w.plan a b ≡ o → refusal_of_link w false o ≡ None → Fails w o new → IsTold new
+  cut_told a b None found fine is = absurd is
+  cut_told a b (Some link) found fine is = subst IsTold (sym is)
+      (fails_told w link counted told (found_contained (joins a b) w.plan.links link found) (live_before (is_live w.links link) fine)
+      (to_counted (link_failed w link) (fails w a b (Some link) (link_failed w link) found (sound w counted) refl)))
+
+  fixed_told : (a b : ℕ) (o : Option Link) → link_between w.plan a b ≡ o → refusal_of_link w true o ≡ None → IsRepaired w o new → IsTold new
+  fixed_told a b None found fine is = absurd is
+  fixed_told a b (Some link) found fine is = subst IsTold (sym is)
+      (repaired_told w link counted told (found_contained (joins a b) w.plan.links link found) (dead_before (is_live w.links link) fine))
+
+  -- a host moves
+  leaves_told : (h : ℕ) (to : Stand) (o : Option Stand) → slice_get w.stands h ≡ o → refusal_of_move w h to.edge.0 to.port ≡ None → Goes host w h to o new → IsTold new
+  leaves_told h to None found fine turn = absurd turn
+  leaves_told h to (Some from) found fine turn =
+      let may = move_fine (has_host w.plan h) (is_for_hosts w.plan to.edge.0 to.port) h (host_at w to.edge.0 to.port) fine in
+      goes_told w counted told h to from found may.0 may.1 may.2 host sends new turn
+
+  -- each event, over what is left
+  pub happens_told : (happens : Event) → refusal_of_event w happens ≡ None → Happens Loose manager host w happens new → IsTold new
+  happens_told (event.Deliver name) fine does = delivers_told name fine does
+  happens_told (event.Tick s) fine does = ticks_told w s.0 new accounts counted told does given.more
+  happens_told (event.Fail a b) fine does = cut_told a.0 b.0 (link_between w.plan a.0 b.0) refl fine does
+  happens_told (event.Repair a b) fine does = fixed_told a.0 b.0 (link_between w.plan a.0 b.0) refl fine does
+  happens_told (event.Lose s port) fine does =
+      let linked = and_parts (has_port w.plan s.0 port) (not (is_host_port (peer_of w.plan s.0 port))) (there_is (is_linked w.plan s.0 port) _ fine) in
+      let there = and_parts (has_switch w.plan s.0) (nat_lt port w.plan.k) linked.0 in
+      loses_told s.0 port (out_of w s.0 port) (ltb-true port w.plan.k there.1) refl does
+  happens_told (event.Move h s port) fine does = leaves_told h.0 (record { edge = s; port = port }) (slice_get w.stands h.0) refl fine does
+  happens_told (event.Start h) fine does = host_told host sends w h.0 _ _ new (sound w counted) told does
+  happens_told (event.Play h frame original raw) fine does = plays_told host sends w h.0 _ new (sound w counted) told does
+  happens_told (event.Retry h) fine does = host_told host sends w h.0 _ _ new (sound w counted) told does
+  happens_told (event.Join h group) fine does = host_told host sends w h.0 _ _ new (sound w counted) told does
+  happens_told (event.Leave h group) fine does = host_told host sends w h.0 _ _ new (sound w counted) told does
+
+-- the same, once the step is counted
+stepped_given : (manager : ManagerRule) (host : HostRule) (old new : WorldView) (n : ℕ) → IsGiven manager host old new → IsGiven manager host (record old { steps = n }) new
+stepped_given manager host old new n given = record {
+  on = record {
+    places = given.on.places;
+    neighbours = given.on.neighbours;
+    addresses = given.on.addresses;
+    evidence = given.on.evidence;
+  };
+  hosts = record { hosts = given.hosts.hosts; at_ports = given.hosts.at_ports; own = given.hosts.own };
+  more = given.more;
+  first = given.first;
+  numbers = given.numbers;
+  come_first = given.come_first;
+  members = given.members;
+}
+
+-- each step
+pub step_told : (manager : ManagerRule) (host : HostRule) → HostsSendData host → HostsKeepFrames host → (old : WorldView) (happens : Event) (new : WorldView) →
+    IsCounted old → IsGiven manager host old new → refusal old happens ≡ None → WorldStep Loose manager host old happens new → IsTold old → IsTold new
+step_told manager host sends keeps old happens new counted given none step told =
+    let so = sound old counted in
+    let w : WorldView = record old { steps = old.steps + 1 } in
+    happens_told manager host loose_steps_are_accounted sends keeps w (to_counted w (record { balance = so.balance; rest = so.rest })) told new
+    (stepped_given manager host old new (old.steps + 1) given) happens (same_refusal old happens ∙ event_is_not_refused old happens none) step

@@ -1,0 +1,131 @@
+-- Steps of a switch that speak of no frame at first: a tick, a message of the manager.
+use Rattle.std.proofs.Common.{◌≡◌, ℕ, suc, Bool, true, false, if◌then◌else◌, List, [], ◌∷◌, ◌++◌, length, map, Option, None, Some, reverse, refl, sym, ap, subst}
+use Rattle.std.specs.List.{AllByRecursion, flat_map}
+use Rattle.pl_frame.specs.declared.address.SwitchId.{SwitchId}
+use Rattle.pl_layouts.specs.declared.place.Place.{Place}
+use Rattle.pl_core.specs.declared.acts.Act.{Act}
+use Rattle.pl_core.specs.declared.acts.Act.TheVariants as act
+use Rattle.pl_core.specs.declared.messages.ToManager.{ToManager}
+use Rattle.pl_core.specs.Accounting.{AccountsForFrames, CanCome, first_speech}
+use Rattle.pl_core.specs.Accounting.Speech.{Silent as SaidNone}
+use Rattle.pl_core.specs.SwitchInputs.{SwitchInput, SwitchRule}
+use Rattle.pl_core.specs.SwitchInputs.SwitchInput.{Tick}
+use Rattle.pl_core.specs.SwitchViews.{SwitchView}
+use Rattle.pl_core.specs.Announcements.{announcement}
+use Rattle.pl_core.specs.PortRecords.{id_at, is_usable, ports_of_switch, ports_where}
+use Rattle.pl_layouts.specs.Placement.{same_place}
+use Rattle.pl_journal.specs.Places.{are_alike}
+use Rattle.pl_switch_rule.specs.Announcing.{announcements, announces_at, proposal, proposes_at, ticks, with_aged_ports}
+use Rattle.pl_switch_rule.specs.SwitchRule.{Loose}
+use Rattle.pl_switch_rule.specs.Telling.{changes_told, link_to, link_told, place_told, pod_wanted}
+use Rattle.pl_wiring.specs.Plan.{Plan}
+use Rattle.pl_world.specs.declared.spoken_frame.SpokenFrame.TheVariants.{Silent}
+use Rattle.pl_world.specs.declared.stand.Stand.{Stand}
+use Rattle.pl_world.specs.Flying.{IsCounted}
+use Rattle.pl_world.specs.OtherActs.{heard_after_tick}
+use Rattle.pl_world.specs.WorldRule.{SwitchTurn, Ticks}
+use Rattle.pl_world.specs.Worlds.{WorldView}
+use Rattle.pl_world.proofs.StepBalances.{Sound, heard_rest, sound}
+use Rattle.pl_flights.specs.OnTheWay.{Book, IsTold, book_of, place_in}
+use Rattle.pl_flights.specs.Standing.{IsMore}
+use Rattle.pl_flights.proofs.Growing.{tells_grown}
+use Rattle.pl_flights.proofs.Hands.{GoodActs, Hand}
+use Rattle.pl_flights.proofs.Hands.Hand.{Empty}
+use Rattle.pl_flights.proofs.SwitchTurns.{turn_told}
+
+-- an act that speaks of no frame, and grants nothing
+abbrev pub IsSilent : Act → Type 0
+IsSilent (act.Control port frame) = Unit {0}
+IsSilent (act.Tell told) = Unit {0}
+IsSilent _ = ⊥
+
+abbrev pub AreSilent : List Act → Type 0
+AreSilent acts = AllByRecursion IsSilent acts
+
+pub silent_append : (xs ys : List Act) → AreSilent xs → AreSilent ys → AreSilent (xs ++ ys)
+silent_append [] ys first next = next
+silent_append (x ∷ xs) ys first next = (first.0, silent_append xs ys first.1 next)
+
+pub silent_flat_map : {X : Type 0} (f : X → List Act) (xs : List X) → ((x : X) → AreSilent (f x)) → AreSilent (flat_map f xs)
+silent_flat_map f [] all = tt
+silent_flat_map f (x ∷ xs) all = silent_append (f x) (flat_map f xs) (all x) (silent_flat_map f xs all)
+
+silent_map : {X : Type 0} (f : X → Act) (xs : List X) → ((x : X) → IsSilent (f x)) → AreSilent (map f xs)
+silent_map f [] all = tt
+silent_map f (x ∷ xs) all = (all x, silent_map f xs all)
+
+silent_if : (b : Bool) (xs ys : List Act) → AreSilent xs → AreSilent ys → AreSilent (if b then xs else ys)
+silent_if true xs ys first next = first
+silent_if false xs ys first next = next
+
+pub none_or_told : (b : Bool) (told : ToManager) → AreSilent (if b then [] else act.Tell told ∷ [])
+none_or_told true told = tt
+none_or_told false told = (tt, tt)
+
+told_or_none : (b : Bool) (told : ToManager) → AreSilent (if b then act.Tell told ∷ [] else [])
+told_or_none true told = (tt, tt)
+told_or_none false told = tt
+
+silent_link : (o : Option SwitchId) (b : Bool) → AreSilent (link_to o b)
+silent_link None b = tt
+silent_link (Some id) b = (tt, tt)
+
+pub silent_changes : (old new : SwitchView) → AreSilent (changes_told old new)
+silent_changes old new = silent_append (place_told old.place new.place ++ flat_map (link_told old new) (ports_of_switch new.k)) (pod_wanted old.place new.place)
+    (silent_append (place_told old.place new.place) (flat_map (link_told old new) (ports_of_switch new.k))
+    (none_or_told (same_place old.place new.place) _)
+    (silent_flat_map (link_told old new) (ports_of_switch new.k)
+    (λ port. silent_if (are_alike (is_usable old port) (is_usable new port)) [] (link_to (id_at new port) (is_usable new port)) tt
+    (silent_link (id_at new port) (is_usable new port)))))
+    (told_or_none _ _)
+
+silent_announcements : (v : SwitchView) → AreSilent (announcements v)
+silent_announcements v = silent_append _ _ (silent_map (λ port. act.Control port (announcement v port)) (ports_where v (announces_at v)) (λ port. tt))
+    (silent_map (λ port. act.Control port (proposal v)) (ports_where v (proposes_at v)) (λ port. tt))
+
+-- silent acts are good, and what follows them
+pub silent_good : (plan : Plan) (place : ℕ → Place) (book : Book) (s : ℕ) (acts rest : List Act) (hand : Hand) → AreSilent acts →
+    GoodActs plan place book s rest hand → GoodActs plan place book s (acts ++ rest) hand
+silent_good plan place book s [] rest hand silent good = good
+silent_good plan place book s (act.Control port frame ∷ acts) rest hand silent good = silent_good plan place book s acts rest hand silent.1 good
+silent_good plan place book s (act.Tell told ∷ acts) rest hand silent good = silent_good plan place book s acts rest hand silent.1 good
+silent_good plan place book s (a ∷ acts) rest hand silent good = absurd silent.0
+
+pub all_silent_good : (plan : Plan) (place : ℕ → Place) (book : Book) (s : ℕ) (acts : List Act) (hand : Hand) → AreSilent acts → GoodActs plan place book s acts hand
+all_silent_good plan place book s [] hand silent = tt
+all_silent_good plan place book s (act.Control port frame ∷ acts) hand silent = all_silent_good plan place book s acts hand silent.1
+all_silent_good plan place book s (act.Tell told ∷ acts) hand silent = all_silent_good plan place book s acts hand silent.1
+all_silent_good plan place book s (a ∷ acts) hand silent = absurd silent.0
+
+-- a turn of a switch with no frame in hand
+pub silent_turn : (rule : SwitchRule) → AccountsForFrames rule → (w : WorldView) (s : ℕ) (input : SwitchInput) (new : WorldView) → SaidNone ≡ first_speech input →
+    ((v : SwitchView) → v.k ≡ w.plan.k → CanCome v input) → Sound w → IsTold w → (turn : SwitchTurn rule w s input Silent new) →
+    IsMore (place_in w.switches) (place_in new.switches) →
+    GoodActs w.plan (place_in new.switches) (book_of (reverse w.journal)) s turn.acts Empty → IsTold new
+silent_turn rule accounts w s input new same can so told turn more good =
+    turn_told rule accounts w s input Silent new turn same can so.balance so.rest Empty (reverse w.journal)
+    (record {
+      is = refl;
+      tells = tells_grown (place_in w.switches) (place_in new.switches) more w.plan (reverse w.journal) w.links w.stands w.from_hosts w.out told;
+      holds = tt;
+      puts_off = tt;
+    }) good
+
+ticked_heard : (t : ℕ) (stands : List Stand) (heard : List (Option ℕ)) → length (heard_after_tick t stands heard) ≡ length heard
+ticked_heard t [] heard = refl
+ticked_heard t (stand ∷ stands) [] = refl
+ticked_heard t (stand ∷ stands) (ticks ∷ heard) = ap suc (ticked_heard t stands heard)
+
+-- a switch ticks
+pub ticks_told : (w : WorldView) (s : ℕ) (new : WorldView) → AccountsForFrames Loose → IsCounted w → IsTold w → Ticks Loose w s new →
+    IsMore (place_in w.switches) (place_in new.switches) → IsTold new
+ticks_told w s new accounts counted told turn more =
+    let so = sound w counted in
+    let heard : WorldView = record w { heard = heard_after_tick s w.stands w.heard } in
+    let v : SwitchView = turn.before in
+    let silent : AreSilent (ticks v).acts =
+    silent_append (changes_told v (with_aged_ports v)) (announcements (with_aged_ports v)) (silent_changes v (with_aged_ports v)) (silent_announcements (with_aged_ports v)) in
+    let acts : turn.acts ≡ (ticks v).acts = turn.ruled.steps.done in
+    silent_turn Loose accounts heard s Tick new refl (λ u size. tt)
+    (record { balance = so.balance; rest = heard_rest w _ (ticked_heard s w.stands w.heard) so.rest }) told turn more
+    (all_silent_good w.plan (place_in new.switches) (book_of (reverse w.journal)) s turn.acts Empty (subst AreSilent (sym acts) silent))

@@ -1,0 +1,4 @@
+pub mod Routes
+pub mod OnTheWay
+pub mod Standing
+pub mod Given

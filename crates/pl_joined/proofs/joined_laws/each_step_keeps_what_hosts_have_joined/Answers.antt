@@ -1,0 +1,6 @@
+use Rattle.pl_switch_rule.specs.SwitchRule.{Loose}
+use Rattle.pl_joined.proofs.Runs.{step_joined}
+use Rattle.pl_joined.proofs.joined_laws.each_step_keeps_what_hosts_have_joined.Goals as goal
+
+pub returns : goal.returns
+returns g c = step_joined Loose g.M.ManagerCore.rule g.H.HostCore.rule g.met.H.HostCore.joins

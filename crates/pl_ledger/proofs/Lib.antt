@@ -1,0 +1,11 @@
+pub mod Giving
+pub mod Takes
+pub mod Sourcing
+pub mod StepTakes
+pub mod Writing
+pub mod Books
+pub mod Stepping
+pub mod Numbering
+pub mod Turning
+pub mod Events
+pub mod Beginning

@@ -1,0 +1,4 @@
+pub mod EachAct
+pub mod Wishing
+pub mod Asking
+pub mod Runs

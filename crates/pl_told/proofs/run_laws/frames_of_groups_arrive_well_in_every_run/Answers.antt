@@ -1,0 +1,8 @@
+use Rattle.pl_joined.proofs.Runs.{lawful_hosts_keep}
+use Rattle.pl_told.proofs.Grouping.{groups_are_well}
+use Rattle.pl_told.proofs.run_laws.frames_of_groups_arrive_well_in_every_run.Goals as goal
+
+pub returns : goal.returns
+returns g c = λ plan limits can.
+    groups_are_well g.H.HostCore.rule g.met.H.HostCore.sends g.met.H.HostCore.owns g.met.H.HostCore.joins
+    (lawful_hosts_keep g.H.HostCore.rule g.met.H.LawfulHost.lawful) plan limits can

@@ -1,0 +1,9 @@
+use Rattle.pl_joined.proofs.Runs.{lawful_hosts_keep}
+use Rattle.pl_told.proofs.Grouping.{groups_are_well}
+use Rattle.pl_told.proofs.Running.{told_in_run}
+use Rattle.pl_told.proofs.run_laws.what_is_told_is_so_in_every_run.Goals as goal
+
+pub returns : goal.returns
+returns g c = λ plan limits moments new can run.
+    told_in_run g.H.HostCore.rule g.met.H.HostCore.sends g.met.H.HostCore.owns g.met.H.HostCore.keeps plan limits can
+    (groups_are_well g.H.HostCore.rule g.met.H.HostCore.sends g.met.H.HostCore.owns g.met.H.HostCore.joins (lawful_hosts_keep g.H.HostCore.rule g.met.H.LawfulHost.lawful) plan limits can) moments new run

@@ -1,0 +1,20 @@
+-- What frames of groups give.
+use Rattle.std.specs.Prelude.{List}
+use Rattle.pl_wiring.specs.Plan.{Plan}
+use Rattle.pl_core.specs.HostInputs.{HostRule}
+use Rattle.pl_manager_rule.specs.ManagerRule.{manager_rule}
+use Rattle.pl_switch_rule.specs.SwitchRule.{Loose}
+use Rattle.pl_world.specs.declared.limits.Limits.{Limits}
+use Rattle.pl_world.specs.Booting.{booted}
+use Rattle.pl_world.specs.Runs.{Moment, WorldRun}
+use Rattle.pl_world.specs.Worlds.{WorldView}
+use Rattle.pl_flights.specs.Given.{AreMembers, GroupsComeFirst}
+
+-- A frame of a group comes out of a port for hosts as the first of its root, and a host that keeps one is a member.
+pub record GroupsArriveWell (host : HostRule) (w : WorldView) : Type 0 where
+  pub first : GroupsComeFirst w
+  pub members : AreMembers host w
+
+-- so it is in every run
+abbrev pub GroupsAreWell : HostRule → Plan → Limits → Type 0
+GroupsAreWell host plan limits = (moments : List Moment) (w : WorldView) → WorldRun Loose manager_rule host (booted plan limits) moments w → GroupsArriveWell host w

@@ -1,0 +1,155 @@
+-- In every run parts of trees lead down, and so at each port at most one frame of each root comes.
+use Rattle.std.proofs.Common.{◌≡◌, ℕ, zero, suc, ◌==◌, ◌<◌, true, List, [], ◌∷◌, ◌++◌, map, Option, None, Some, get_or, slice_get, refl, sym, ap, ◌∙◌, subst, arith}
+use Rattle.std.specs.List.{AllByRecursion, list_any}
+use Rattle.std.proofs.lemmas.Bool.{false≢true}
+use Rattle.std.proofs.lemmas.Option.{get_or_from_slice_get, slice_get_within}
+use Rattle.pl_frame.specs.declared.address.SwitchId.{SwitchId}
+use Rattle.pl_wiring.specs.declared.label.SwitchNo.{SwitchNo}
+use Rattle.pl_wiring.specs.declared.link.Peer.{Peer}
+use Rattle.pl_wiring.specs.declared.link.Peer.TheVariants.{HostPort, Switch}
+use Rattle.pl_wiring.specs.Labels.{switch_count}
+use Rattle.pl_wiring.specs.Peers.{peer_of}
+use Rattle.pl_wiring.specs.Plan.{IsPlan, Plan}
+use Rattle.pl_core.specs.declared.messages.TreePart.{TreePart}
+use Rattle.pl_core.specs.declared.neighbour.Neighbour.{Neighbour}
+use Rattle.pl_core.specs.HostDuties.{HostsSendData, HostsSendOwn}
+use Rattle.pl_core.specs.HostInputs.{HostRule}
+use Rattle.pl_core.specs.PortRecords.{heard_place, id_at, place_at, port_of}
+use Rattle.pl_core.specs.SwitchFacts.{part_of, switch_at_boot}
+use Rattle.pl_core.specs.SwitchViews.{SwitchView}
+use Rattle.pl_manager_rule.specs.ManagerRule.{manager_rule}
+use Rattle.pl_switch_rule.specs.SwitchRule.{Loose}
+use Rattle.pl_switch_rule.proofs.AccountedSteps.{loose_steps_are_accounted}
+use Rattle.pl_world.specs.declared.limits.Limits.{Limits}
+use Rattle.pl_world.specs.Booting.{CanBegin, booted}
+use Rattle.pl_world.specs.Runs.{Befalls, Moment, WorldRun}
+use Rattle.pl_world.specs.Runs.Moment.{Mark, Step}
+use Rattle.pl_world.specs.Worlds.{WorldView}
+use Rattle.pl_world.proofs.Counts.{all_found}
+use Rattle.pl_control_plane.specs.ControlPlanes.{AreJoined, ControlPlane, control_plane, no_switch}
+use Rattle.pl_control_plane.specs.HostsAtEdges.{IsAtEdge}
+use Rattle.pl_control_plane.proofs.Joined.{joined_turned}
+use Rattle.pl_control_plane.proofs.Staying.{plan_stays}
+use Rattle.pl_control_plane.proofs.Stepping.{step_in_plane}
+use Rattle.pl_places.specs.Places.{ArePlaced}
+use Rattle.pl_kept.specs.Kept.{Kept}
+use Rattle.pl_kept.proofs.Grounding.{grounded}
+use Rattle.pl_kept.proofs.Keeping.{run_keeps_all}
+use Rattle.pl_records.proofs.LinkRuns.{names_neighbours}
+use Rattle.pl_records.proofs.Running.{replicated}
+use Rattle.pl_copies.specs.Copies.{ComesOnce}
+use Rattle.pl_copies.specs.Standing.{KnowTrees, KnowsTree}
+use Rattle.pl_copies.proofs.Runs.{mark_once, once_at_first, step_once}
+use Rattle.pl_trees.specs.Trees.{AreTrees, IsTrueOrder, IsTruePart, IsTrueReport, rank_of}
+use Rattle.pl_trees.proofs.Keeping.{level_is, plane_trees}
+use Rattle.pl_trees.proofs.Parts.{found_true}
+
+-- where places are true and parts lead down, switches know the tree around them
+module _ (w : WorldView) (kept : Kept w) (trees : AreTrees w.plan (control_plane w)) where
+  f : ControlPlane
+  f = control_plane w
+
+  is : IsPlan w.plan
+  is = kept.counted.formed.plan
+
+  joined_back : (t q : ℕ) (u : SwitchNo) (r : ℕ) → peer_of w.plan t q ≡ Switch u r → AreJoined w.plan u.0 r t q
+  joined_back t q u r peer = joined_turned w.plan t q u.0 r is peer
+
+  near_level : (t q : ℕ) (u : SwitchNo) (r n : ℕ) → peer_of w.plan t q ≡ Switch u r → (place_at ((control_plane w).view t) q).level ≡ Some n → n ≡ rank_of w.plan u.0
+  near_level t q u r n peer level = by_heard (port_of ((control_plane w).view t) q).heard refl level
+    where
+      by_heard : (o : Option Neighbour) → (port_of ((control_plane w).view t) q).heard ≡ o → (heard_place o).level ≡ Some n → n ≡ rank_of w.plan u.0
+      by_heard None e known = absurd (cc)
+      by_heard (Some x) e known =
+          level_is w.plan (control_plane w) kept.placed u.0 n (((kept.placed.links u.0 r t q (joined_back t q u r peer)).recorded.known x e).so.level n known)
+
+  host_port : (t q : ℕ) → (port_of ((control_plane w).view t) q).host ≡ true → peer_of w.plan t q ≡ HostPort
+  host_port t q host = by_peer (peer_of w.plan t q) refl
+    where
+      by_peer : (p : Peer) → peer_of w.plan t q ≡ p → peer_of w.plan t q ≡ HostPort
+      by_peer HostPort e = e
+      by_peer (Switch u r) e = absurd (false≢true (sym (kept.placed.links u.0 r t q (joined_back t q u r e)).recorded.no_host ∙ host))
+
+  part_leads : (t group : ℕ) (part : TreePart) (q : ℕ) (u : SwitchNo) (r : ℕ) (id : SwitchId) → rank_of w.plan t ≡ 1 → part_of ((control_plane w).view t) group ≡ Some part →
+      peer_of w.plan t q ≡ Switch u r → id_at ((control_plane w).view t) q ≡ Some id → list_any (λ d. d.0 == id.0) part.down ≡ true → rank_of w.plan u.0 ≡ 0
+  part_leads t group part q u r id one has peer known below =
+      let named = names_neighbours w kept t q id known in
+      let found = found_true (λ part. IsTruePart w.plan (rank_of w.plan t) (Some part.1)) (λ g. g == group) ((control_plane w).view t).parts (trees.held t) part has in
+      let same : Switch u r ≡ Switch (record { 0 = named.0 }) named.1 = sym peer ∙ named.2 in
+      let there : u.0 ≡ named.0 = ap number_at same in
+      found.2 one u.0 id (ap (slice_get w.plan.ids) there ∙ named.3) below
+    where
+      number_at : Peer → ℕ
+      number_at (Switch x y) = x.0
+      number_at HostPort = 0
+
+  pub know_trees : KnowTrees w
+  know_trees = record {
+    free = λ h stand found. (all_found (IsAtEdge w.plan) w.stands h stand found kept.hosts).free;
+    each = λ t v found.
+        let here : (control_plane w).view t ≡ v = get_or_from_slice_get w.switches t v no_switch found in
+        let within = slice_get_within w.switches t v found in
+        let there : t < switch_count w.plan.k = (let many = kept.counted.formed.switches in omega arith) in
+        subst (λ (x : SwitchView). KnowsTree w.plan t x) here (record {
+          level = level_is w.plan (control_plane w) kept.placed t;
+          near = near_level t;
+          strangers = kept.placed.strangers t;
+          hosts = host_port t;
+          members = (kept.placed.sound t there).homes.members;
+          parts = part_leads t;
+        });
+    closed = (grounded w kept.counted kept.placed kept.voting kept.given).neighbours;
+  }
+
+-- At the beginning nothing was told.
+
+new_parts : (ids : List SwitchId) (k s : ℕ) → (get_or (map (λ id. switch_at_boot id k) ids) s no_switch).parts ≡ []
+new_parts [] k s = refl
+new_parts (id ∷ ids) k zero = refl
+new_parts (id ∷ ids) k (suc s) = new_parts ids k s
+
+trees_at_first : (plan : Plan) (limits : Limits) → AreTrees plan (control_plane (booted plan limits))
+trees_at_first plan limits = record {
+  reports = λ s. subst (AllByRecursion (IsTrueReport (rank_of plan s))) (sym (replicated (switch_count plan.k) s [])) tt;
+  places = tt;
+  members = tt;
+  orders = λ s. subst (AllByRecursion (IsTrueOrder plan (rank_of plan s))) (sym (replicated (switch_count plan.k) s [])) tt;
+  held = λ s. subst (AllByRecursion (λ part. IsTruePart plan (rank_of plan s) (Some part.1))) (sym (new_parts plan.ids plan.k s)) tt;
+}
+
+-- both at once
+pub record HoldsOnce (w : WorldView) : Type 0 where
+  pub trees : AreTrees w.plan (control_plane w)
+  pub come : ComesOnce w
+
+module _ (host : HostRule) (sends : HostsSendData host) (owns : HostsSendOwn host) where
+  run_more : (old mid new : WorldView) (moments : List Moment) (moment : Moment) → WorldRun Loose manager_rule host old moments mid →
+      Befalls Loose manager_rule host mid moment new → WorldRun Loose manager_rule host old (moments ++ moment ∷ []) new
+  run_more old mid new [] moment run more = (new, subst (λ (w : WorldView). Befalls Loose manager_rule host w moment new) run more, refl)
+  run_more old mid new (first ∷ moments) moment run more = (run.0, run.1, run_more run.0 mid new moments moment run.2 more)
+
+  -- from any moment of a run from the beginning on
+  once_from : (plan : Plan) (limits : Limits) → CanBegin plan → (before : List Moment) (old : WorldView) → WorldRun Loose manager_rule host (booted plan limits) before old →
+      HoldsOnce old → (moments : List Moment) (new : WorldView) → WorldRun Loose manager_rule host old moments new → HoldsOnce new
+  once_from plan limits can before old run holds [] new same = subst HoldsOnce (sym same) holds
+  once_from plan limits can before old run holds (Step event ∷ moments) new rest =
+      let longer = run_more (booted plan limits) old rest.0 before (Step event) run rest.1 in
+      let kept = run_keeps_all host sends owns plan limits before old can run in
+      let after = run_keeps_all host sends owns plan limits (before ++ Step event ∷ []) rest.0 can longer in
+      let taken = step_in_plane Loose manager_rule host loose_steps_are_accounted old event rest.0 kept.counted kept.hosts rest.1.0 rest.1.1 in
+      let same = plan_stays Loose manager_rule (control_plane old) (control_plane rest.0) taken in
+      let trees = plane_trees old.plan kept.counted.formed.plan (control_plane old) (control_plane rest.0) refl kept.placed
+      (subst (λ (p : Plan). ArePlaced p (control_plane rest.0)) same after.placed) holds.trees taken in
+      once_from plan limits can (before ++ Step event ∷ []) rest.0 longer (record {
+        trees = subst (λ (p : Plan). AreTrees p (control_plane rest.0)) (sym same) trees;
+        come = step_once manager_rule host old event rest.0 kept.counted (know_trees old kept holds.trees) rest.1.0 rest.1.1 holds.come;
+      }) moments new rest.2
+  once_from plan limits can before old run holds (Mark entry ∷ moments) new rest =
+      let longer = run_more (booted plan limits) old rest.0 before (Mark entry) run rest.1 in
+      once_from plan limits can (before ++ Mark entry ∷ []) rest.0 longer
+      (subst HoldsOnce (sym rest.1.1) (record { trees = holds.trees; come = mark_once old entry rest.1.0 holds.come })) moments new rest.2
+
+  pub run_once : (plan : Plan) (limits : Limits) (moments : List Moment) (new : WorldView) → CanBegin plan →
+      WorldRun Loose manager_rule host (booted plan limits) moments new → HoldsOnce new
+  run_once plan limits moments new can run =
+      once_from plan limits can [] (booted plan limits) refl (record { trees = trees_at_first plan limits; come = once_at_first plan limits }) moments new run

@@ -1,5 +1,5 @@
 -- From one moment of a settled fabric to the next no link and no place changes, so what leads on still does.
-use Rattle.std.proofs.Common.{◌≡◌, ◌⊎◌, ℕ, ◌<◌, true, Some, sym, ap, ◌∙◌, subst, inl, inr}
+use Rattle.std.proofs.Common.{◌≡◌, ◌⊎◌, ℕ, ◌<◌, Some, sym, ap, ◌∙◌, subst, inl, inr}
 use Rattle.std.specs.Prelude.{slice_index_or}
 use Rattle.pl_frame.specs.declared.address.SwitchId.{SwitchId}
 use Rattle.pl_layouts.specs.declared.place.Place.{Place}
@@ -15,20 +15,15 @@ use Rattle.pl_control_plane.specs.ControlPlanes.{AreJoined, ControlPlane}
 use Rattle.pl_control_plane.specs.PlaneSteps.{PlaneStep}
 use Rattle.pl_control_plane.specs.PlaneSteps.PlaneStep.{Carried, Entered, Heard, Left, Managed, Ordered, Ticked}
 use Rattle.pl_control_plane.proofs.Joined.{joined_there, joined_turned}
-use Rattle.pl_arrival.specs.Ways.{AreLinked, Fabric, IsLast, IsTop, LeadsBy, LeadsDown}
+use Rattle.pl_arrival.specs.Ways.{Alike, AreLinked, Fabric, IsLast, IsTop, LeadsBy, LeadsDown}
 use Rattle.pl_arrival.proofs.Calm.{Calm, Net, fabric}
-
-pub record Alike (f g : Fabric) : Type 0 where
-  pub plan : g.plan ≡ f.plan
-  pub live : (s p t q : ℕ) → AreJoined f.plan s p t q → is_live_at f.links s p ≡ true → is_live_at g.links s p ≡ true
-  pub place : (s : ℕ) → s < switch_count f.plan.k → g.place s ≡ f.place s
 
 module _ (f g : Fabric) (is : IsPlan f.plan) (same : Alike f g) where
   pub still_by : (s p t : ℕ) → LeadsBy f s p t → LeadsBy g s p t
   still_by s p t l = record {
     into = l.into;
     joined = subst (λ (plan : Plan). AreJoined plan s p t l.into) (sym same.plan) l.joined;
-    live = same.live s p t l.into l.joined l.live;
+    live = same.live s p t l.into l.joined ∙ l.live;
   }
 
   still_linked : (s t : ℕ) → AreLinked f s t → AreLinked g s t
@@ -81,8 +76,8 @@ module _ (m n : Net) (before : Calm m) (after : Calm n) (plan : n.plan ≡ m.pla
   pub alike_by_views : ((s : ℕ) → n.view s ≡ m.view s) → Alike (fabric m) (fabric n)
   alike_by_views views = record {
     plan = plan;
-    live = λ s p t q joined live.
-        sym (after.usable s p t q (there_now s p t q joined)) ∙ ap (λ (v : SwitchView). is_usable v p) (views s) ∙ before.usable s p t q joined ∙ live;
+    live = λ s p t q joined.
+        sym (after.usable s p t q (there_now s p t q joined)) ∙ ap (λ (v : SwitchView). is_usable v p) (views s) ∙ before.usable s p t q joined;
     place = λ s within. ap (λ (v : SwitchView). v.place) (views s);
   }
 
@@ -90,7 +85,7 @@ module _ (m n : Net) (before : Calm m) (after : Calm n) (plan : n.plan ≡ m.pla
   pub alike_by_manager : n.links ≡ m.links → n.told ≡ m.told → Alike (fabric m) (fabric n)
   alike_by_manager links told = record {
     plan = plan;
-    live = λ s p t q joined live. ap (λ (l : LivePorts). is_live_at l s p) links ∙ live;
+    live = λ s p t q joined. ap (λ (l : LivePorts). is_live_at l s p) links;
     place = λ s within.
         let id : (n.view s).id ≡ (m.view s).id = after.named s ∙ ap (λ (x : Plan). slice_index_or x.ids s (record { 0 = 0 })) plan ∙ sym (before.named s) in
         sym (after.places s (subst (λ (x : Plan). s < switch_count x.k) (sym plan) within))

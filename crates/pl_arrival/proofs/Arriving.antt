@@ -27,7 +27,7 @@ use Rattle.pl_arrival.specs.SureFrames.{IsSure, IsSureMoment, StaysSure}
 use Rattle.pl_arrival.proofs.Alike.{alike_by_views}
 use Rattle.pl_arrival.proofs.Grounds.{ready}
 use Rattle.pl_arrival.proofs.JustSent.{waits_since}
-use Rattle.pl_arrival.proofs.Later.{stays_written}
+use Rattle.pl_arrival.proofs.Following.{stays_written}
 use Rattle.pl_arrival.proofs.Orders.{run_is_orderly}
 use Rattle.pl_arrival.proofs.Ready.{Ready, net, stays_at_edge}
 use Rattle.pl_arrival.proofs.Staying.{Goes, goes_noted}

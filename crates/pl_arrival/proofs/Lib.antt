@@ -20,7 +20,7 @@ pub mod Steps
 pub mod Grounds
 pub mod Orders
 pub mod JustSent
-pub mod Later
+pub mod Following
 pub mod Cores
 pub mod Arriving
 pub mod GoingOn

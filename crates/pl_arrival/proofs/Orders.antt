@@ -39,7 +39,7 @@ use Rattle.pl_control_plane.specs.ControlPlanes.{ControlPlane}
 use Rattle.pl_control_plane.specs.PlaneSteps.{PlaneStep}
 use Rattle.pl_control_plane.specs.PlaneSteps.PlaneStep.{Carried, Entered, Heard, Left, Managed, Ordered, Ticked}
 use Rattle.pl_kept.proofs.Keeping.{run_keeps_all}
-use Rattle.pl_records.proofs.LinkRuns.{held_from, run_neighbours}
+use Rattle.pl_records.proofs.LinkRuns.{run_holds, run_neighbours}
 use Rattle.pl_arrival.specs.Orderly.{HearsWiring, IsOrderly, StandApart}
 use Rattle.pl_arrival.proofs.Hosting.{first_apart, moved_apart, somebody}
 use Rattle.pl_arrival.proofs.Staying.{Goes, goes_host, goes_manager, goes_plays, goes_switch}
@@ -161,8 +161,8 @@ module _ (host : HostRule) (sends : HostsSendData host) (owns : HostsSendOwn hos
       WorldRun Loose manager_rule host (booted plan limits) moments new → IsOrderly new
   run_is_orderly plan limits moments new can run = record {
     kept = run_keeps_all host sends owns plan limits moments new can run;
-    heard = held_from host sends owns (λ f. HearsWiring f.plan f.manager) (λ f g is is_g names heard step kept. plane_hears f g step heard) plan limits can [] (booted plan limits) refl
-        (hears_nobody plan limits) moments new run;
+    heard = run_holds host sends owns (λ f. HearsWiring f.plan f.manager) (λ f g is is_g names heard step kept. plane_hears f g step heard) plan limits moments new can
+        (hears_nobody plan limits) run;
     told = run_neighbours host sends owns plan limits moments new can run;
     apart = apart_in_run host (booted plan limits) moments new run (first_apart plan can.is_plan);
   }

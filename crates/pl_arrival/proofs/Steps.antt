@@ -56,8 +56,8 @@ use Rattle.pl_control_plane.proofs.Stepping.{step_in_plane}
 use Rattle.pl_arrival.specs.Losses.{IsLostBy}
 use Rattle.pl_arrival.specs.Reach.{Reaches}
 use Rattle.pl_arrival.specs.Registered.{IsRegisteredBy}
-use Rattle.pl_arrival.specs.Ways.{fabric_of}
-use Rattle.pl_arrival.proofs.Alike.{Alike, alike_by_manager, alike_by_views, one_of_both}
+use Rattle.pl_arrival.specs.Ways.{Alike, fabric_of}
+use Rattle.pl_arrival.proofs.Alike.{alike_by_manager, alike_by_views, one_of_both}
 use Rattle.pl_arrival.proofs.Hosting.{somebody}
 use Rattle.pl_arrival.proofs.Ready.{Ready, at_edge, net, stays_at_edge}
 use Rattle.pl_arrival.proofs.Staying.{Goes, goes_host, goes_manager, goes_noted, goes_plays, goes_self, goes_switch, goes_then}

@@ -16,8 +16,8 @@ use Rattle.pl_world.specs.declared.item.Item.TheVariants.{Data}
 use Rattle.pl_world.specs.Changes.{host_no}
 use Rattle.pl_world.specs.Worlds.{WorldView}
 use Rattle.pl_arrival.specs.Reach.{IsPlainTo}
-use Rattle.pl_arrival.specs.Ways.{Fabric, IsLast, IsTop, LeadsBy, LeadsDown, fabric_of}
-use Rattle.pl_arrival.proofs.Alike.{Alike, from_there, still_by, still_down, still_last, still_level, still_top}
+use Rattle.pl_arrival.specs.Ways.{Alike, Fabric, IsLast, IsTop, LeadsBy, LeadsDown, fabric_of}
+use Rattle.pl_arrival.proofs.Alike.{from_there, still_by, still_down, still_last, still_level, still_top}
 use Rattle.pl_arrival.proofs.Staying.{left_over}
 
 -- Between switches s and u on its way to edge switch t: from an edge switch to one from which a way leads down; from an aggregation switch to

@@ -42,8 +42,7 @@ use Rattle.pl_world.proofs.Counts.{all_at}
 use Rattle.pl_control_plane.proofs.Joined.{joined_there}
 use Rattle.pl_addresses.specs.OwnFrames.{IsOwnItem}
 use Rattle.pl_arrival.specs.Reach.{Reaches}
-use Rattle.pl_arrival.specs.Ways.{fabric_of}
-use Rattle.pl_arrival.proofs.Alike.{Alike}
+use Rattle.pl_arrival.specs.Ways.{Alike, fabric_of}
 use Rattle.pl_arrival.proofs.Hosting.{comes_to}
 use Rattle.pl_arrival.proofs.Onward.{comes_on}
 use Rattle.pl_arrival.proofs.Ready.{Ready, at_edge, stays_at_edge}

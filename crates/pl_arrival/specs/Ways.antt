@@ -2,6 +2,7 @@
 use Rattle.std.specs.Prelude.{◌≡◌, ◌<◌, ◌⊎◌, ℕ, true, Some}
 use Rattle.pl_pmac.specs.declared.pmac.Pmac.{Pmac}
 use Rattle.pl_layouts.specs.declared.place.Place.{Place}
+use Rattle.pl_wiring.specs.Labels.{switch_count}
 use Rattle.pl_wiring.specs.LiveLinks.{LivePorts, is_live_at}
 use Rattle.pl_wiring.specs.Plan.{Plan}
 use Rattle.pl_core.specs.SwitchViews.{SwitchView}
@@ -65,3 +66,9 @@ pub record GoesOn (f : Fabric) (v : SwitchView) (s : ℕ) (to : Pmac) (came : Ca
   pub within : port < v.k
   pub there : is_candidate v to came port ≡ true
   pub each : (p : ℕ) → is_candidate v to came p ≡ true → (u : ℕ) × LeadsBy f s p u × Kind u
+
+-- Two fabrics of one wiring with the same live links, whose switches know the same of their places.
+pub record Alike (f g : Fabric) : Type 0 where
+  pub plan : g.plan ≡ f.plan
+  pub live : (s p t q : ℕ) → AreJoined f.plan s p t q → is_live_at g.links s p ≡ is_live_at f.links s p
+  pub place : (s : ℕ) → s < switch_count f.plan.k → g.place s ≡ f.place s

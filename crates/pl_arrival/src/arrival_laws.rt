@@ -1,9 +1,11 @@
-ghost use Rattle.std.specs.Prelude.{◌≡◌, ◌≤◌, ℕ, Contains, List};
+ghost use Rattle.std.specs.Prelude.{◌≡◌, ◌≤◌, ℕ, Contains, List, None};
 ghost use Rattle.pl_wiring.specs.declared.label.SwitchNo.{SwitchNo};
 ghost use Rattle.pl_wiring.specs.Plan.{Plan};
 ghost use Rattle.pl_journal.specs.declared.cause.Cause.{Cause};
 ghost use Rattle.pl_journal.specs.declared.entry.Entry.TheVariants.{Arrived, Dropped, Sent, Taken};
 ghost use Rattle.pl_journal.specs.Flights.{ends};
+ghost use Rattle.pl_manager_rule.specs.ManagerRule.{manager_rule};
+ghost use Rattle.pl_switch_rule.specs.SwitchRule.{Loose};
 ghost use Rattle.pl_queues.specs.Queues.{items_at};
 ghost use Rattle.pl_world.specs.declared.event.Event.{Event};
 ghost use Rattle.pl_world.specs.declared.item.Item.TheVariants.{Data};
@@ -11,11 +13,14 @@ ghost use Rattle.pl_world.specs.declared.limits.Limits.{Limits};
 ghost use Rattle.pl_world.specs.Booting.{CanBegin, booted};
 ghost use Rattle.pl_world.specs.Changes.{host_no};
 ghost use Rattle.pl_world.specs.Flying.{IsCounted};
+ghost use Rattle.pl_world.specs.Refusals.{refusal};
 ghost use Rattle.pl_world.specs.Runs.{Moment, WorldRun};
 ghost use Rattle.pl_world.specs.WorldRule.{WorldStep};
 ghost use Rattle.pl_world.specs.Worlds.{WorldView};
 ghost use Rattle.pl_arrival.specs.Orderly.{IsOrderly};
 ghost use Rattle.pl_arrival.specs.SureFrames.{IsSure};
+ghost use Rattle.pl_arrival.specs.Ways.{Alike, fabric_of};
+ghost use Rattle.pl_fabric.specs.Settled.{IsSettled};
 
 use pl_core::{HostCore, ManagerCore, SwitchCore};
 use pl_manager_rule::LawfulManager;
@@ -25,6 +30,12 @@ use pl_switch_rule::LooseSwitch;
 pub fn each_run_is_orderly<S: LooseSwitch, M: LawfulManager, H: HostCore>()
     ensures { (plan : Plan) (limits : Limits) (moments : List Moment) (new : WorldView) → CanBegin plan →
         WorldRun S.rule M.rule H.rule (booted plan limits) moments new → IsOrderly new }
+{}
+
+/// Between two settled moments that one step joins no link and no place changes, whatever the step is.
+pub fn no_link_and_no_place_changes_between_settled_moments<H: HostCore>()
+    ensures { (old : WorldView) (event : Event) (new : WorldView) → IsOrderly old → IsOrderly new → IsSettled old → IsSettled new →
+        refusal old event ≡ None → WorldStep Loose manager_rule H.rule old event new → Alike (fabric_of old) (fabric_of new) }
 {}
 
 /// What a step sends waits in the queue of its host then, whatever the rules of switches, manager and hosts are.

@@ -5,6 +5,7 @@
 pub use arrival_laws::{
     a_frame_waits_at_its_host_once_it_is_sent, a_sure_frame_has_no_other_end,
     a_sure_frame_that_ends_has_arrived, each_run_is_orderly,
+    no_link_and_no_place_changes_between_settled_moments,
 };
 pub use forwarding_laws::{
     a_frame_comes_down_from_a_core_switch, a_frame_goes_on_from_an_aggregation_switch,

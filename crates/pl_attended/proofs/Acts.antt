@@ -1,7 +1,6 @@
 -- The acts of a switch put frames behind those that wait, and say nothing new of a host.
-use Rattle.std.proofs.Common.{◌≡◌, ◌≤◌, ◌+◌, ◌||◌, ℕ, Bool, true, false, cond, if◌then◌else◌, set, List, [], ◌∷◌, ◌++◌, fold, length, length-set, Option, Some, None, refl, sym, ap, subst, ◌∙◌, inl, inr, arith}
+use Rattle.std.proofs.Common.{◌≡◌, ◌≤◌, ◌+◌, ◌||◌, ℕ, Bool, true, false, if◌then◌else◌, set, List, [], ◌∷◌, ◌++◌, fold, length, length-set, Option, Some, None, refl, sym, ap, subst, ◌∙◌, arith}
 use Rattle.std.specs.List.{AllByRecursion}
-use Rattle.std.proofs.lemmas.Bool.{cases_Bool, false≢true}
 use Rattle.std.proofs.lemmas.List.Sums.{fold-append}
 use Rattle.pl_pmac.specs.declared.pmac.Pmac.{Pmac}
 use Rattle.pl_wiring.specs.LiveLinks.{LivePorts}
@@ -21,7 +20,7 @@ use Rattle.pl_world.specs.declared.item.Item.TheVariants.{Control, Data}
 use Rattle.pl_world.specs.declared.spoken_frame.SpokenFrame.{SpokenFrame}
 use Rattle.pl_world.specs.declared.spoken_frame.SpokenFrame.TheVariants.{Over, Passed, Silent, Waiting}
 use Rattle.pl_world.specs.declared.stand.Stand.{Stand}
-use Rattle.pl_world.specs.Changes.{all_noted, begun_by, host_no, host_of, is_failed_at, noted, sent_if_live, switch_no}
+use Rattle.pl_world.specs.Changes.{begun_by, host_no, host_of, is_failed_at, sent_if_live, switch_no}
 use Rattle.pl_world.specs.SwitchActs.{Doing, act_done, acts_done, begins, crossed_again, ended, goes_out, granted, in_world, made, passed, redirected, switch_stepped, with_late}
 use Rattle.pl_world.specs.Worlds.{WorldView}
 use Rattle.pl_attended.specs.Stays.{Stay, first_stay, is_among, stay_after, stay_of}

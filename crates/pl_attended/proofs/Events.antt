@@ -1,18 +1,14 @@
 -- Each event keeps what is known of a host.
-use Rattle.std.proofs.Common.{◌≡◌, ◌≢◌, ◌⊎◌, ◌<◌, ◌+◌, ◌==◌, ◌&&◌, ◌||◌, ℕ, zero, suc, not, nat_lt, Bool, true, false, cond, if◌then◌else◌, set, Contains, List, [], ◌∷◌, ◌++◌, fold, find, length, length-set, Option, Some, None, slice_get, refl, sym, ap, subst, ◌∙◌, inl, inr, arith, get_or-set_same, get_or-set_other}
-use Rattle.std.specs.List.{AllByRecursion, list_any, position}
-use Rattle.std.proofs.lemmas.Bool.{and_parts, cases_Bool, cases_eq, false≢true, ltb-true}
-use Rattle.std.proofs.lemmas.Nat.{same_from_place}
-use Rattle.std.proofs.lemmas.Option.{none-some, same_Some, slice_get_within}
-use Rattle.pl_frame.specs.declared.address.SwitchId.{SwitchId}
+use Rattle.std.proofs.Common.{◌≡◌, ◌≢◌, ◌<◌, ◌+◌, ℕ, suc, not, Bool, true, false, if◌then◌else◌, set, Contains, List, [], ◌∷◌, ◌++◌, fold, find, Option, Some, None, slice_get, refl, sym, ap, subst, ◌∙◌, inl, arith}
+use Rattle.std.specs.List.{list_any, position}
+use Rattle.std.proofs.lemmas.Bool.{false≢true}
+use Rattle.std.proofs.lemmas.Option.{none-some, same_Some}
 use Rattle.pl_wiring.specs.declared.host.Host.{Host}
 use Rattle.pl_wiring.specs.declared.link.Link.{Link}
 use Rattle.pl_wiring.specs.declared.link.Peer.{Peer}
-use Rattle.pl_wiring.specs.declared.link.Peer.TheVariants.{HostPort}
 use Rattle.pl_wiring.specs.FatTree.{IsAt}
 use Rattle.pl_wiring.specs.Index.{port_index}
 use Rattle.pl_wiring.specs.Peers.{peer_of}
-use Rattle.pl_wiring.specs.Plan.{IsPlan, Plan}
 use Rattle.pl_wiring.proofs.Ends.{at_contained}
 use Rattle.pl_wiring.proofs.Entered.{entry_at-in_range, kept_link}
 use Rattle.pl_wiring.proofs.Linked.{peer_is_none}
@@ -20,45 +16,37 @@ use Rattle.pl_core.specs.declared.acts.ManagerAct.{ManagerAct}
 use Rattle.pl_core.specs.declared.acts.ManagerAct.TheVariants.{Number, Say}
 use Rattle.pl_core.specs.declared.messages.ToManager.{ToManager}
 use Rattle.pl_core.specs.declared.messages.ToSwitch.{ToSwitch}
-use Rattle.pl_core.specs.HostInputs.{HostAnswer, HostInput}
 use Rattle.pl_core.specs.ManagerDuties.{ManagerRule}
 use Rattle.pl_layouts.specs.Equality.{same_switch}
 use Rattle.pl_core.specs.SwitchInputs.SwitchInput.{Says, Tick}
-use Rattle.pl_core.specs.SwitchViews.{SwitchView}
 use Rattle.pl_journal.specs.declared.cause.Cause.{Cause}
 use Rattle.pl_journal.specs.declared.cause.Cause.TheVariants as cause
-use Rattle.pl_journal.specs.declared.cause.Skip.{Skip}
-use Rattle.pl_journal.specs.declared.entry.Entry.{Entry}
-use Rattle.pl_journal.specs.declared.entry.Entry.TheVariants.{Dropped, LinkDown, LinkUp, Moved, Registered, Skipped}
+use Rattle.pl_journal.specs.declared.entry.Entry.TheVariants.{Dropped, LinkDown, LinkUp, Registered}
 use Rattle.pl_journal.specs.Places.{is_host_port}
 use Rattle.pl_queues.specs.Queues.{items_at}
 use Rattle.pl_switch_rule.specs.SwitchRule.{Loose}
-use Rattle.pl_world.specs.declared.error.StepError.{StepError}
-use Rattle.pl_world.specs.declared.error.StepError.TheVariants.{NoSuch, NothingThere}
 use Rattle.pl_world.specs.declared.item.Item.{Item}
 use Rattle.pl_world.specs.declared.item.Item.TheVariants.{Control, Data}
 use Rattle.pl_world.specs.declared.spoken_frame.SpokenFrame.TheVariants.{Silent}
 use Rattle.pl_world.specs.declared.stand.Stand.{Stand}
 use Rattle.pl_world.specs.Booting.{me_of}
-use Rattle.pl_world.specs.Changes.{all_noted, emptied_from_host, emptied_out, ends_of, host_no, noted, out_of, said_to, said_to_switch}
-use Rattle.pl_world.specs.LinksAndMoves.{host_moved, item_lost, joins, link_between, link_failed, link_repaired, with_link}
-use Rattle.pl_world.specs.OtherActs.{heard_after_tick, manager_act_done, manager_stepped, skip_noted}
-use Rattle.pl_world.specs.Refusals.{refusal_of_place, refusal_of_queue}
-use Rattle.pl_world.specs.WorldRule.{DeliversFromManager, DeliversToManager, Fails, IsRepaired, ManagerTurn, SwitchTurn}
+use Rattle.pl_world.specs.Changes.{ends_of, noted, out_of, said_to}
+use Rattle.pl_world.specs.LinksAndMoves.{item_lost, link_failed, link_repaired}
+use Rattle.pl_world.specs.OtherActs.{heard_after_tick, manager_act_done, manager_stepped}
+use Rattle.pl_world.specs.WorldRule.{DeliversFromManager, DeliversToManager, Fails, IsRepaired, SwitchTurn}
 use Rattle.pl_world.specs.Worlds.{WorldView}
-use Rattle.pl_addresses.proofs.Words.{get-set_other}
 use Rattle.pl_attended.specs.Attended.{StandApart}
-use Rattle.pl_attended.specs.Stays.{Stay, first_stay, is_among, stay_after, stay_of}
+use Rattle.pl_attended.specs.Stays.{Stay, stay_of}
 use Rattle.pl_attended.specs.Probes.{is_packet, is_probe}
-use Rattle.pl_attended.proofs.Numbers.{AreOld, IsPast, IsSoon, all_set, found_after}
-use Rattle.pl_attended.proofs.Acts.{AreQuiet, IsQuiet, noted_quiet, stay_then}
+use Rattle.pl_attended.proofs.Numbers.{IsPast, all_set}
+use Rattle.pl_attended.proofs.Acts.{AreQuiet, noted_quiet}
 use Rattle.pl_attended.proofs.Facts.{Facts}
-use Rattle.pl_attended.proofs.Leaving.{IsAsked, noticed_popped, popped, reached_noted, told_noted, told_popped}
+use Rattle.pl_attended.proofs.Leaving.{IsAsked, noticed_popped, reached_noted, told_noted, told_popped}
 use Rattle.pl_attended.proofs.Places.{Attends, place_of, spot_of}
 use Rattle.pl_attended.proofs.Rows.{order_known, tick_still}
 use Rattle.pl_attended.proofs.Sending.{Keeps, any_spot, kept_places, turn_keeps}
-use Rattle.pl_attended.proofs.Told.{IsTold, Later, Told, told_on}
-use Rattle.pl_attended.proofs.Turns.{Follows, NoticedIn, Spot, has_reached_in, noticed_on, queue_to, turn_told}
+use Rattle.pl_attended.proofs.Told.{IsTold, Told}
+use Rattle.pl_attended.proofs.Turns.{NoticedIn, noticed_on, turn_told}
 
 pub quiet_ends : (h : ℕ) (c : Cause) (items : List Item) → AreQuiet h (ends_of c items)
 quiet_ends h c [] = tt

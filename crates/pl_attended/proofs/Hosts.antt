@@ -1,7 +1,6 @@
 -- A turn of a host leaves what waits, and a host answers a probe.
-use Rattle.std.proofs.Common.{◌≡◌, ◌<◌, ◌+◌, ◌%◌, ◌==◌, ◌&&◌, ◌++◌, ℕ, not, nat_le, drop, Bool, true, false, cond, if◌then◌else◌, set, List, [], ◌∷◌, fold, map, length, Option, Some, None, option_map, slice_index, refl, sym, ap, subst, ◌∙◌, inl, inr, eqb-true, get_or-set_same}
+use Rattle.std.proofs.Common.{◌≡◌, ◌<◌, ◌+◌, ◌%◌, ◌==◌, ◌&&◌, ◌++◌, ℕ, not, nat_le, drop, true, false, cond, if◌then◌else◌, set, List, [], ◌∷◌, fold, map, length, Option, Some, None, slice_index, refl, sym, ap, subst, ◌∙◌, inl, inr, eqb-true, get_or-set_same}
 use Rattle.std.specs.List.{list_any}
-use Rattle.std.specs.Option.{option_to_list}
 use Rattle.std.proofs.lemmas.Bool.{and_from, and_parts, cases_Bool, false≢true}
 use Rattle.byteorder.specs.Endian.{big_number}
 use Rattle.pl_arp.specs.declared.cache.Me.{Me}
@@ -21,15 +20,14 @@ use Rattle.pl_core.specs.HostInputs.{HostAnswer, HostInput, HostRule}
 use Rattle.pl_core.specs.HostInputs.HostAnswer.{Received}
 use Rattle.pl_core.specs.HostInputs.HostInput.{Receives}
 use Rattle.pl_core.specs.HostViews.{HostView}
-use Rattle.pl_core.specs.declared.reception.Reception.{Reception}
 use Rattle.pl_core.specs.declared.reception.Reception.TheVariants.{NotMember}
-use Rattle.pl_host_rule.specs.HostRule.{HostStep, hearing, host_rule, host_step, is_not_joined, receiving, released_by, reply_frame, sending_on, step_to}
+use Rattle.pl_host_rule.specs.HostRule.{HostStep, hearing, host_rule, host_step, is_not_joined, released_by, reply_frame, sending_on, step_to}
 use Rattle.pl_host_rule.proofs.HostFrames.{packet_in-addresses}
-use Rattle.pl_queues.specs.Queues.{items_at, put_at}
+use Rattle.pl_queues.specs.Queues.{items_at}
 use Rattle.pl_world.specs.declared.item.Item.{Item}
-use Rattle.pl_world.specs.declared.item.Item.TheVariants.{Control, Data}
+use Rattle.pl_world.specs.declared.item.Item.TheVariants.{Data}
 use Rattle.pl_world.specs.Changes.{sent_by_host}
-use Rattle.pl_world.specs.OtherActs.{host_act_done, host_stepped}
+use Rattle.pl_world.specs.OtherActs.{host_act_done}
 use Rattle.pl_world.specs.WorldRule.{HostTurn}
 use Rattle.pl_world.specs.Worlds.{WorldView}
 use Rattle.pl_control_plane.proofs.Stepping.{turn_same}
@@ -37,9 +35,9 @@ use Rattle.pl_addresses.proofs.Words.{mac_is}
 use Rattle.pl_attended.specs.Probes.{asks_for, is_packet, is_probe}
 use Rattle.pl_attended.specs.Stays.{is_readable}
 use Rattle.pl_attended.proofs.Frames.{packet_is_readable}
-use Rattle.pl_attended.proofs.Numbers.{Grows, any_last}
+use Rattle.pl_attended.proofs.Numbers.{any_last}
 use Rattle.pl_attended.proofs.Told.{HostSends, IsTold, host_sends, one_sent}
-use Rattle.pl_attended.proofs.Turns.{Follows, Spot, has_reached_in, queue_to}
+use Rattle.pl_attended.proofs.Turns.{Follows, Spot}
 
 module _ (at : Spot) (rule : HostRule) (w : WorldView) (g : ℕ) (input : HostInput) (answer : HostAnswer) (new : WorldView) (turn : HostTurn rule w g input answer new) (t : IsTold at.h w) where
   sends : HostSends at.h w new

@@ -1,13 +1,11 @@
 -- Each step keeps what is known of each host, and so does each run from the beginning.
-use Rattle.std.proofs.Common.{◌≡◌, ◌≢◌, ◌⊎◌, ◌<◌, ◌≤◌, ◌+◌, ◌*◌, ◌==◌, ◌&&◌, ℕ, zero, suc, not, nat_lt, Bool, true, false, if◌then◌else◌, List, [], ◌∷◌, ◌++◌, map, replicate, get_or, length, Option, Some, None, slice_get, refl, sym, ap, subst, ◌∙◌, inl, inr, arith, AllPairs}
-use Rattle.std.specs.List.{AllByRecursion, position}
-use Rattle.std.proofs.lemmas.Bool.{and_parts, cases_eq, cases_lt, false≢true, ltb-true}
-use Rattle.std.proofs.lemmas.Option.{get_or_from_slice_get, none-some, same_Some, slice_get_within}
-use Rattle.pl_wiring.specs.declared.host.Host.{Host}
-use Rattle.pl_wiring.specs.declared.link.Link.{Link}
+use Rattle.std.proofs.Common.{◌≡◌, ◌≢◌, ◌<◌, ◌+◌, ◌*◌, ℕ, zero, suc, not, nat_lt, Bool, true, false, List, [], ◌∷◌, replicate, length, Option, Some, None, slice_get, refl, sym, ap, subst, ◌∙◌}
+use Rattle.std.specs.List.{AllByRecursion}
+use Rattle.std.proofs.lemmas.Bool.{and_parts, false≢true, ltb-true}
+use Rattle.std.proofs.lemmas.Option.{none-some}
 use Rattle.pl_wiring.specs.Labels.{switch_count}
 use Rattle.pl_wiring.specs.Peers.{peer_of}
-use Rattle.pl_wiring.specs.Plan.{IsPlan, Plan, StandsAt}
+use Rattle.pl_wiring.specs.Plan.{Plan}
 use Rattle.pl_core.specs.declared.acts.HostAct.{HostAct}
 use Rattle.pl_core.specs.HostDuties.{HostsSendData, HostsSendOwn}
 use Rattle.pl_core.specs.HostInputs.{HostAnswer, HostInput, HostRule}
@@ -19,8 +17,7 @@ use Rattle.pl_journal.specs.Places.{is_host_port}
 use Rattle.pl_manager_rule.specs.ManagerRule.{manager_rule}
 use Rattle.pl_queues.specs.Queues.{items_at}
 use Rattle.pl_switch_rule.specs.SwitchRule.{Loose}
-use Rattle.pl_world.specs.declared.error.StepError.{StepError}
-use Rattle.pl_world.specs.declared.error.StepError.TheVariants.{AlreadySo, NoSuch, NothingThere, Occupied}
+use Rattle.pl_world.specs.declared.error.StepError.TheVariants.{NoSuch}
 use Rattle.pl_world.specs.declared.event.Event.{Event}
 use Rattle.pl_world.specs.declared.event.Event.TheVariants as event
 use Rattle.pl_world.specs.declared.event.QueueName.{QueueName}
@@ -28,10 +25,10 @@ use Rattle.pl_world.specs.declared.event.QueueName.TheVariants as queue
 use Rattle.pl_world.specs.declared.item.Item.{Item}
 use Rattle.pl_world.specs.declared.limits.Limits.{Limits}
 use Rattle.pl_world.specs.declared.stand.Stand.{Stand}
-use Rattle.pl_world.specs.Booting.{CanBegin, booted, first_stand}
+use Rattle.pl_world.specs.Booting.{CanBegin, booted}
 use Rattle.pl_world.specs.Changes.{host_at, noted, out_of}
 use Rattle.pl_world.specs.LinksAndMoves.{joins, link_between}
-use Rattle.pl_world.specs.Refusals.{has_host, has_port, has_switch, is_filled, is_for_hosts, is_linked, refusal, refusal_of_event, refusal_of_place, refusal_of_queue}
+use Rattle.pl_world.specs.Refusals.{has_port, has_switch, is_filled, is_linked, refusal, refusal_of_event, refusal_of_queue}
 use Rattle.pl_world.specs.Runs.{IsMark, Moment, WorldRun}
 use Rattle.pl_world.specs.WorldRule.{Delivers, DeliversOut, Goes, Happens, Loses, WorldStep}
 use Rattle.pl_world.specs.Worlds.{WorldView}
@@ -45,10 +42,10 @@ use Rattle.pl_attended.proofs.Events.{fails_on, from_manager, lost_on, repaired_
 use Rattle.pl_attended.proofs.Facts.{Facts, facts_of}
 use Rattle.pl_attended.proofs.Leaving.{over_there, reached_noted, told_noted}
 use Rattle.pl_attended.proofs.Moves.{goes_on, plays_on, sends_on}
-use Rattle.pl_attended.proofs.Places.{Attends, spot_of}
+use Rattle.pl_attended.proofs.Places.{Attends, boots_apart, place_is_free, spot_of}
 use Rattle.pl_attended.proofs.Runs.{kept_from_beginning}
 use Rattle.pl_attended.proofs.Sending.{Keeps, from_host}
-use Rattle.pl_attended.proofs.Turns.{NoticedIn, Spot, noticed_on}
+use Rattle.pl_attended.proofs.Turns.{noticed_on}
 
 -- what is kept beside: hosts stand apart, and each is noticed where it stands
 pub record AttendsAll (w : WorldView) : Type 0 where
@@ -62,18 +59,6 @@ After h new = Attends h new × StandApart new.stands
 there_is : (there filled : Bool) → refusal_of_queue there filled ≡ None → there ≡ true
 there_is true filled none = refl
 there_is false filled none = absurd (none-some NoSuch (sym none))
-
-may_go : (b : Bool) (o : Option StepError) → (if b then o else Some NoSuch) ≡ None → o ≡ None
-may_go true o none = none
-may_go false o none = absurd (none-some NoSuch (sym none))
-
-free_there : (h : ℕ) (there : Option ℕ) → refusal_of_place h there ≡ None → there ≡ None
-free_there h None none = refl
-free_there h (Some other) none = absurd (by (other == h) none)
-  where
-    by : (b : Bool) → (if b then Some AlreadySo else Some Occupied) ≡ None → ⊥
-    by true is = none-some AlreadySo (sym is)
-    by false is = none-some Occupied (sym is)
 
 port_within : (plan : Plan) (s port : ℕ) → has_port plan s port ≡ true → port < plan.k
 port_within plan s port is = ltb-true port plan.k (and_parts (has_switch plan s) (nat_lt port plan.k) is).1
@@ -120,7 +105,7 @@ module _ (rule : HostRule) (lawful : (view : HostView) (input : HostInput) (afte
     happens (event.Lose s port) new none is = after new (loses s.0 port (out_of w s.0 port) _ new refl none is)
     happens (event.Move g s port) new none is =
         goes g.0 (record { edge = s; port = port }) (slice_get w.stands g.0) new refl
-        (free_there g.0 (host_at w s.0 port) (may_go (has_host w.plan g.0 && is_for_hosts w.plan s.0 port) (refusal_of_place g.0 (host_at w s.0 port)) none)) is
+        (place_is_free w g.0 s.0 port none) is
     happens (event.Start g) new none is = after new (sends_on h w f apart a rule g.0 _ _ new is)
     happens (event.Play g frame original raw) new none is = after new (plays_on h w f apart a rule g.0 _ new is)
     happens (event.Retry g) new none is = after new (sends_on h w f apart a rule g.0 _ _ new is)
@@ -163,41 +148,9 @@ module _ (rule : HostRule) (lawful : (view : HostView) (input : HostInput) (afte
     nothing_at (suc n) zero = refl
     nothing_at (suc n) (suc i) = nothing_at n i
 
-    first_of : (hosts : List Host) (i : ℕ) (stand : Stand) → slice_get (map first_stand hosts) i ≡ Some stand → (host : Host) × (slice_get hosts i ≡ Some host) × (first_stand host ≡ stand)
-    first_of [] i stand is = absurd (none-some stand is)
-    first_of (host ∷ hosts) zero stand is = (host, refl, same_Some (first_stand host) stand is)
-    first_of (host ∷ hosts) (suc i) stand is = first_of hosts i stand is
-
-    boots_apart : StandApart (map first_stand plan.hosts)
-    boots_apart = λ g h x y at_x at_y edge port.
-        let one = first_of plan.hosts g x at_x in
-        let two = first_of plan.hosts h y at_y in
-        let edges : one.0.edge.0 ≡ two.0.edge.0 = ap (λ (s : Stand). s.edge.0) one.2 ∙ edge ∙ ap (λ (s : Stand). s.edge.0) (sym two.2) in
-        let ports : one.0.port ≡ two.0.port = ap (λ (s : Stand). s.port) one.2 ∙ port ∙ ap (λ (s : Stand). s.port) (sym two.2) in
-        elim (cases_eq g h) [
-          | inl same ↦ same
-          | inr other ↦ elim (cases_lt g h) [
-            | inl less ↦ absurd (never g h one.0 two.0 one.1 two.1 edges ports less)
-            | inr no_less ↦ absurd (never h g two.0 one.0 two.1 one.1 (sym edges) (sym ports) (below h g no_less (λ e. other (sym e))))
-          ]
-        ]
-      where
-        below : (i j : ℕ) → i ≤ j → i ≢ j → i < j
-        below i j le ne = elim (cases_lt i j) [ inl lt ↦ lt | inr ge ↦ absurd (ne (omega (arith, le, ge))) ]
-
-        never : (i j : ℕ) (p q : Host) → slice_get plan.hosts i ≡ Some p → slice_get plan.hosts j ≡ Some q → p.edge.0 ≡ q.edge.0 → p.port ≡ q.port → i < j → ⊥
-        never i j p q at_p at_q edges ports less =
-            let apart = can.is_plan.places_apart i j p less (slice_get_within plan.hosts j q at_q) in
-            let first = get_or_from_slice_get plan.hosts i p p at_p in
-            let second = get_or_from_slice_get plan.hosts j q p at_q in
-            apart (
-              ap (λ (x : Host). x.edge.0) first ∙ edges ∙ ap (λ (x : Host). x.edge.0) (sym second),
-              ap (λ (x : Host). x.port) first ∙ ports ∙ ap (λ (x : Host). x.port) (sym second),
-            )
-
     boots_attended : AttendsAll (booted plan limits)
     boots_attended = record {
-      apart = boots_apart;
+      apart = boots_apart plan can;
       each = λ h. record {
         told = record {
           numbers = tt;

@@ -1,5 +1,5 @@
 -- The head of a queue out of a port is delivered: to a switch, or to the host that stands there, which answers a probe.
-use Rattle.std.proofs.Common.{◌≡◌, ◌≢◌, ◌⊎◌, ◌<◌, ◌+◌, ◌&&◌, ◌||◌, ℕ, Bool, true, false, set, Contains, List, [], ◌∷◌, ◌++◌, length, length-set, Option, Some, None, slice_get, slice_index_or, slice_set, refl, sym, ap, subst, ◌∙◌, inl, inr, arith, get_or-set_same, get_or-set_other}
+use Rattle.std.proofs.Common.{◌≡◌, ◌≢◌, ◌⊎◌, ◌<◌, ◌+◌, ℕ, true, false, set, Contains, List, [], ◌∷◌, ◌++◌, length, length-set, Option, Some, None, slice_get, refl, sym, ap, subst, ◌∙◌, inl, inr, get_or-set_same, get_or-set_other}
 use Rattle.std.specs.List.{AllByRecursion, list_any}
 use Rattle.std.proofs.lemmas.Bool.{cases_Bool, cases_eq, false≢true}
 use Rattle.std.proofs.lemmas.List.Elements.{Contains-append_left, Contains-push}
@@ -19,7 +19,6 @@ use Rattle.pl_core.specs.declared.reception.Reception.TheVariants.{Kept, NotMemb
 use Rattle.pl_core.specs.HostInputs.{HostAnswer, HostInput, HostRule}
 use Rattle.pl_core.specs.HostInputs.HostInput.{Receives}
 use Rattle.pl_core.specs.HostViews.{HostView}
-use Rattle.pl_core.specs.PortRecords.{is_open_to_hosts, port_of}
 use Rattle.pl_core.specs.SwitchInputs.SwitchInput.{Comes}
 use Rattle.pl_core.specs.SwitchViews.{SwitchView}
 use Rattle.pl_host_rule.specs.HostRule.{host_rule}
@@ -38,16 +37,15 @@ use Rattle.pl_world.specs.Booting.{me_of}
 use Rattle.pl_world.specs.Changes.{host_no, noted, out_of, receiver, switch_no}
 use Rattle.pl_world.specs.Flying.{IsItem}
 use Rattle.pl_world.specs.OtherActs.{reception_noted}
-use Rattle.pl_world.specs.WorldRule.{ComesAtHost, ComesAtSwitch, ComesOut, ComesOver, DeliversOut, HostTurn, SwitchTurn}
+use Rattle.pl_world.specs.WorldRule.{ComesAtHost, ComesAtSwitch, ComesOut, ComesOver, HostTurn}
 use Rattle.pl_world.specs.Worlds.{WorldView}
-use Rattle.pl_addresses.proofs.Turns.{filled_within}
 use Rattle.pl_addresses.proofs.Words.{any_rest}
 use Rattle.pl_control_plane.proofs.Stepping.{turn_same}
 use Rattle.pl_attended.specs.Attended.{StandApart}
 use Rattle.pl_attended.specs.Stays.{Stay, stay_of}
 use Rattle.pl_attended.specs.Probes.{is_packet, is_probe}
 use Rattle.pl_attended.proofs.Numbers.{IsNumber, IsPast, all_set}
-use Rattle.pl_attended.proofs.Acts.{AreQuiet, IsQuiet, IsSpoken, crossing_quiet, noted_quiet, stay_then}
+use Rattle.pl_attended.proofs.Acts.{IsQuiet, IsSpoken, crossing_quiet, noted_quiet, stay_then}
 use Rattle.pl_attended.proofs.Facts.{Facts}
 use Rattle.pl_attended.proofs.Hosts.{answers, asked, host_follows, turn_is_told}
 use Rattle.pl_attended.proofs.Places.{Attends, it_receives, place_of, single_of, six_of, spot_of}
@@ -55,7 +53,7 @@ use Rattle.pl_attended.proofs.Rows.{IsProbed, comes_still}
 use Rattle.pl_attended.proofs.Sending.{Keeps, any_spot, kept_places, turn_keeps}
 use Rattle.pl_attended.proofs.Sources.{KnowsAt}
 use Rattle.pl_attended.proofs.Told.{IsTold, Told}
-use Rattle.pl_attended.proofs.Turns.{Follows, IsPlace, NoticedIn, Spot, Waits, has_reached_in, noticed_on, queue_to, turn_told}
+use Rattle.pl_attended.proofs.Turns.{IsPlace, NoticedIn, Spot, Waits, has_reached_in, noticed_on, queue_to, turn_told}
 
 -- one thing that waits may take the place of another
 pub record Goes (at : Spot) (w new : WorldView) : Type 0 where

@@ -16,6 +16,7 @@ pub mod Moves
 pub mod Runs
 pub mod Keeping
 pub mod Registered
+pub mod Reached
 pub mod GrantRows
 pub mod StoodActs
 pub mod StoodEvents

@@ -1,16 +1,13 @@
 -- A host moves, and hosts send and play.
-use Rattle.std.proofs.Common.{◌≡◌, ◌≢◌, ◌⊎◌, ◌<◌, ◌+◌, ◌==◌, ◌&&◌, ℕ, Bool, true, false, if◌then◌else◌, set, List, [], ◌∷◌, ◌++◌, fold, length, Option, Some, None, slice_get, refl, sym, ap, subst, ◌∙◌, inl, inr, arith, eqb-true, eq-eqb, get_or-set_same, get_or-set_other}
+use Rattle.std.proofs.Common.{◌≡◌, ◌≢◌, ◌+◌, ◌==◌, ℕ, Bool, true, false, if◌then◌else◌, set, List, [], ◌∷◌, ◌++◌, Option, Some, None, slice_get, refl, sym, ap, subst, ◌∙◌, inl, inr, arith, eqb-true, eq-eqb, get_or-set_other}
 use Rattle.std.specs.List.{AllByRecursion, list_any, position}
 use Rattle.std.proofs.lemmas.Bool.{cases_Bool, cases_eq, false≢true}
 use Rattle.std.proofs.lemmas.Nat.{same_from_place}
-use Rattle.std.proofs.lemmas.Option.{none-some, same_Some, slice_get_within}
 use Rattle.pl_wiring.specs.declared.host.Host.{Host}
 use Rattle.pl_wiring.specs.Index.{port_index}
 use Rattle.pl_wiring.specs.Plan.{Plan}
 use Rattle.pl_core.specs.HostInputs.{HostAnswer, HostInput, HostRule}
-use Rattle.pl_core.specs.HostInputs.HostAnswer.{Nothing}
 use Rattle.pl_core.specs.HostInputs.HostInput.{HasMoved}
-use Rattle.pl_core.specs.SwitchViews.{SwitchView}
 use Rattle.pl_journal.specs.declared.cause.Cause.TheVariants as cause
 use Rattle.pl_journal.specs.declared.cause.Skip.{Skip}
 use Rattle.pl_journal.specs.declared.entry.Entry.{Entry}
@@ -22,14 +19,14 @@ use Rattle.pl_world.specs.Booting.{me_of}
 use Rattle.pl_world.specs.Changes.{ends_of, host_no, noted, stands_at}
 use Rattle.pl_world.specs.LinksAndMoves.{host_moved}
 use Rattle.pl_world.specs.OtherActs.{skip_noted}
-use Rattle.pl_world.specs.WorldRule.{Goes, HostPlays, HostTurn}
+use Rattle.pl_world.specs.WorldRule.{HostPlays, HostTurn}
 use Rattle.pl_world.specs.Worlds.{WorldView}
 use Rattle.pl_control_plane.proofs.Stepping.{turn_same}
 use Rattle.pl_addresses.proofs.Words.{get-set_other}
 use Rattle.pl_attended.specs.Attended.{StandApart}
-use Rattle.pl_attended.specs.Stays.{Stay, first_stay, is_among, stay_after, stay_of}
+use Rattle.pl_attended.specs.Stays.{Stay, first_stay, stay_of}
 use Rattle.pl_attended.specs.Probes.{is_packet, is_probe}
-use Rattle.pl_attended.proofs.Numbers.{AreOld, IsPast, IsSoon, all_set, found_after}
+use Rattle.pl_attended.proofs.Numbers.{IsPast, IsSoon, all_set, found_after}
 use Rattle.pl_attended.proofs.Acts.{noted_quiet, stay_then}
 use Rattle.pl_attended.proofs.Events.{quiet_ends}
 use Rattle.pl_attended.proofs.Facts.{Facts}
@@ -38,7 +35,7 @@ use Rattle.pl_attended.proofs.Leaving.{reached_noted, told_noted}
 use Rattle.pl_attended.proofs.Places.{Attends, moved_apart, spot_of}
 use Rattle.pl_attended.proofs.Sending.{Keeps, any_spot}
 use Rattle.pl_attended.proofs.Told.{IsTold, Later, Told, told_on}
-use Rattle.pl_attended.proofs.Turns.{Follows, NoticedIn, Spot, has_reached_in, noticed_on, queue_to}
+use Rattle.pl_attended.proofs.Turns.{NoticedIn, noticed_on}
 
 module _ (h : ℕ) (w : WorldView) (f : Facts w) (apart : StandApart w.stands) (a : Attends h w) (rule : HostRule) where
   -- ---- a host does what it is told

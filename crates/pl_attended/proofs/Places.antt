@@ -1,7 +1,7 @@
 -- Where hosts stand: no two at one place; and what their own frames say.
-use Rattle.std.proofs.Common.{◌≡◌, ◌≢◌, ◌⊎◌, ◌<◌, ◌≤◌, ◌+◌, ◌*◌, ◌^◌, ◌==◌, ◌&&◌, ◌||◌, ◌/◌, ℕ, zero, suc, not, nat_lt, Bool, true, false, cond, if◌then◌else◌, set, List, [], ◌∷◌, length, map, get_or, Option, Some, None, is_some, option_map, slice_get, refl, sym, ap, subst, ◌∙◌, inl, inr, arith, eqb-true, eq-eqb, AllPairs}
-use Rattle.std.specs.List.{AllByRecursion, list_any, position}
-use Rattle.std.proofs.lemmas.Bool.{and_from, and_parts, cases_Bool, cases_eq, cases_lt, false≢true}
+use Rattle.std.proofs.Common.{◌≡◌, ◌≢◌, ◌⊎◌, ◌<◌, ◌≤◌, ◌^◌, ◌==◌, ◌&&◌, ◌||◌, ℕ, zero, suc, not, Bool, true, false, if◌then◌else◌, set, List, [], ◌∷◌, length, map, get_or, Option, Some, None, is_some, option_map, slice_get, refl, sym, ap, subst, ◌∙◌, inl, inr, arith, eqb-true, eq-eqb}
+use Rattle.std.specs.List.{position}
+use Rattle.std.proofs.lemmas.Bool.{and_from, and_parts, cases_eq, cases_lt, false≢true}
 use Rattle.std.proofs.lemmas.Iterator.Adapters.{position_from-zero}
 use Rattle.std.proofs.lemmas.Option.{get_or_from_slice_get, none-some, same_Some, slice_get_within}
 use Rattle.pl_arp.specs.declared.cache.Me.{Me}
@@ -11,11 +11,9 @@ use Rattle.pl_frame.specs.declared.address.Ip4.{Ip4}
 use Rattle.pl_frame.specs.Address.{IsGroup}
 use Rattle.pl_frame.specs.Ethernet.{destination_of, source_of}
 use Rattle.pl_wiring.specs.declared.host.Host.{Host}
-use Rattle.pl_wiring.specs.declared.label.SwitchNo.{SwitchNo}
-use Rattle.pl_wiring.specs.declared.link.Peer.TheVariants.{HostPort}
 use Rattle.pl_wiring.specs.Index.{port_index}
 use Rattle.pl_wiring.specs.Labels.{edge_count, switch_count}
-use Rattle.pl_wiring.specs.Plan.{IsHostIp, IsHostMac, IsPlan, Plan, StandsAt}
+use Rattle.pl_wiring.specs.Plan.{IsHostIp, IsHostMac, IsPlan, Plan}
 use Rattle.pl_wiring.proofs.Entered.{port_index-below}
 use Rattle.pl_layouts.specs.Equality.{same_mac}
 use Rattle.pl_layouts.specs.Frames.{packet_in}
@@ -24,12 +22,14 @@ use Rattle.pl_core.specs.HostDuties.{is_of, is_own}
 use Rattle.pl_switch_rule.specs.Granting.{sender_ip}
 use Rattle.pl_journal.specs.Lossy.{mac_of_host}
 use Rattle.pl_world.specs.declared.stand.Stand.{Stand}
-use Rattle.pl_world.specs.Booting.{first_stand, me_of}
+use Rattle.pl_world.specs.Booting.{CanBegin, first_stand, me_of}
 use Rattle.pl_world.specs.Changes.{host_at, if_for, is_address_of, receiver, stands_at}
+use Rattle.pl_world.specs.declared.error.StepError.{StepError}
+use Rattle.pl_world.specs.declared.error.StepError.TheVariants.{AlreadySo, NoSuch, Occupied}
+use Rattle.pl_world.specs.Refusals.{has_host, is_for_hosts, refusal_of_move, refusal_of_place}
 use Rattle.pl_world.specs.Worlds.{WorldView}
 use Rattle.pl_addresses.proofs.Numbers.{first_passes, none_passes}
-use Rattle.pl_addresses.proofs.Words.{get-set_other, get-set_same, mac_is, mac_itself}
-use Rattle.pl_control_plane.specs.HostsAtEdges.{IsAtEdge}
+use Rattle.pl_addresses.proofs.Words.{get-set_other, mac_is, mac_itself}
 use Rattle.pl_attended.specs.Attended.{StandApart}
 use Rattle.pl_attended.specs.Stays.{is_readable}
 use Rattle.pl_attended.proofs.Facts.{Facts}
@@ -143,6 +143,23 @@ it_receives w apart h host stand at_host at_stand frame to =
     goes = ap (λ (o : Option Host). is_address_of (option_map (λ x. x.mac) o) (destination_of frame)) at_host ∙ ap (λ m. same_mac host.mac m) to ∙ mac_itself host.mac
 
 -- ---- somebody moves
+may_go : (b : Bool) (o : Option StepError) → (if b then o else Some NoSuch) ≡ None → o ≡ None
+may_go true o none = none
+may_go false o none = absurd (none-some NoSuch (sym none))
+
+free_there : (h : ℕ) (there : Option ℕ) → refusal_of_place h there ≡ None → there ≡ None
+free_there h None none = refl
+free_there h (Some other) none = absurd (by (other == h) none)
+  where
+    by : (b : Bool) → (if b then Some AlreadySo else Some Occupied) ≡ None → ⊥
+    by true is = none-some AlreadySo (sym is)
+    by false is = none-some Occupied (sym is)
+
+-- a host moves only to where nobody stands
+pub place_is_free : (w : WorldView) (g s port : ℕ) → refusal_of_move w g s port ≡ None → host_at w s port ≡ None
+place_is_free w g s port none =
+    free_there g (host_at w s port) (may_go (has_host w.plan g && is_for_hosts w.plan s port) (refusal_of_place g (host_at w s port)) none)
+
 pub moved_apart : (stands : List Stand) (g : ℕ) (to : Stand) → StandApart stands → position (stands_at to.edge.0 to.port) stands ≡ None → StandApart (set stands g to)
 moved_apart stands g to apart free = λ i j a b at_a at_b edge port. elim (cases_eq i g) [
   | inl i_is ↦ elim (cases_eq j g) [
@@ -168,3 +185,36 @@ moved_apart stands g to apart free = λ i j a b at_a at_b edge port. elim (cases
 
     moved : (i : ℕ) → i ≡ g → (a : Stand) → slice_get (set stands g to) i ≡ Some a → to ≡ a
     moved i i_is a at_a = within g stands to a (ap (λ n. slice_get (set stands g to) n) (sym i_is) ∙ at_a)
+
+-- ---- the beginning
+first_of : (hosts : List Host) (i : ℕ) (stand : Stand) → slice_get (map first_stand hosts) i ≡ Some stand → (host : Host) × (slice_get hosts i ≡ Some host) × (first_stand host ≡ stand)
+first_of [] i stand is = absurd (none-some stand is)
+first_of (host ∷ hosts) zero stand is = (host, refl, same_Some (first_stand host) stand is)
+first_of (host ∷ hosts) (suc i) stand is = first_of hosts i stand is
+
+pub boots_apart : (plan : Plan) → CanBegin plan → StandApart (map first_stand plan.hosts)
+boots_apart plan can = λ g h x y at_x at_y edge port.
+    let one = first_of plan.hosts g x at_x in
+    let two = first_of plan.hosts h y at_y in
+    let edges : one.0.edge.0 ≡ two.0.edge.0 = ap (λ (s : Stand). s.edge.0) one.2 ∙ edge ∙ ap (λ (s : Stand). s.edge.0) (sym two.2) in
+    let ports : one.0.port ≡ two.0.port = ap (λ (s : Stand). s.port) one.2 ∙ port ∙ ap (λ (s : Stand). s.port) (sym two.2) in
+    elim (cases_eq g h) [
+      | inl same ↦ same
+      | inr other ↦ elim (cases_lt g h) [
+        | inl less ↦ absurd (never g h one.0 two.0 one.1 two.1 edges ports less)
+        | inr no_less ↦ absurd (never h g two.0 one.0 two.1 one.1 (sym edges) (sym ports) (below h g no_less (λ e. other (sym e))))
+      ]
+    ]
+  where
+    below : (i j : ℕ) → i ≤ j → i ≢ j → i < j
+    below i j le ne = elim (cases_lt i j) [ inl lt ↦ lt | inr ge ↦ absurd (ne (omega (arith, le, ge))) ]
+
+    never : (i j : ℕ) (p q : Host) → slice_get plan.hosts i ≡ Some p → slice_get plan.hosts j ≡ Some q → p.edge.0 ≡ q.edge.0 → p.port ≡ q.port → i < j → ⊥
+    never i j p q at_p at_q edges ports less =
+        let apart = can.is_plan.places_apart i j p less (slice_get_within plan.hosts j q at_q) in
+        let first = get_or_from_slice_get plan.hosts i p p at_p in
+        let second = get_or_from_slice_get plan.hosts j q p at_q in
+        apart (
+          ap (λ (x : Host). x.edge.0) first ∙ edges ∙ ap (λ (x : Host). x.edge.0) (sym second),
+          ap (λ (x : Host). x.port) first ∙ ports ∙ ap (λ (x : Host). x.port) (sym second),
+        )

@@ -1,12 +1,11 @@
 -- At rest a host that reached its edge switch is registered there.
-use Rattle.std.proofs.Common.{◌≡◌, ◌<◌, ◌≤◌, ◌+◌, ◌&&◌, ℕ, not, nat_lt, Bool, true, false, List, [], ◌∷◌, length, Option, Some, None, slice_get, refl, sym, ap, subst, ◌∙◌, inl, inr, arith}
+use Rattle.std.proofs.Common.{◌≡◌, ◌<◌, ℕ, not, nat_lt, Bool, true, false, List, [], ◌∷◌, length, refl, sym, ap, ◌∙◌, inl, inr, arith}
 use Rattle.std.specs.List.{list_any}
-use Rattle.std.proofs.lemmas.Bool.{and_from, false≢true, ltb-true}
+use Rattle.std.proofs.lemmas.Bool.{and_from, false≢true}
 use Rattle.std.proofs.lemmas.Bool.Decides.{Decides-ltb}
 use Rattle.std.proofs.lemmas.Option.{slice_get_within}
 use Rattle.pl_arp.specs.declared.cache.Me.{Me}
 use Rattle.pl_wiring.specs.declared.host.Host.{Host}
-use Rattle.pl_wiring.specs.declared.label.SwitchNo.{SwitchNo}
 use Rattle.pl_wiring.specs.Labels.{edge_count, switch_count}
 use Rattle.pl_wiring.specs.Plan.{Plan}
 use Rattle.pl_layouts.specs.Placement.{is_placed}
@@ -20,7 +19,7 @@ use Rattle.pl_world.specs.Booting.{me_of}
 use Rattle.pl_world.specs.Changes.{host_no, out_of}
 use Rattle.pl_world.specs.Refusals.{has_port, has_switch}
 use Rattle.pl_world.specs.Worlds.{WorldView}
-use Rattle.pl_addresses.specs.AtRest.{IsRegistered, IsServed}
+use Rattle.pl_addresses.specs.AtRest.{IsRegistered}
 use Rattle.pl_addresses.specs.EdgeAddresses.{is_settled}
 use Rattle.pl_addresses.proofs.Consequences.{served_is_registered}
 use Rattle.pl_addresses.proofs.Numbers.{granted_here, local_here}
@@ -34,13 +33,12 @@ use Rattle.pl_world.specs.Booting.{CanBegin, booted}
 use Rattle.pl_world.specs.Runs.{Moment, WorldRun}
 use Rattle.pl_kept.specs.Kept.{Kept}
 use Rattle.pl_kept.proofs.Keeping.{run_keeps_all}
-use Rattle.pl_attended.specs.Attended.{AreAttended, IsAttended, IsKnownAt, NothingWaits, StandApart, StandsAt}
+use Rattle.pl_attended.specs.Attended.{AreAttended, IsKnownAt, NothingWaits, StandsAt}
 use Rattle.pl_attended.specs.Registering.{AreRegistered}
 use Rattle.pl_attended.specs.Probes.{is_packet, is_probe}
 use Rattle.pl_attended.specs.Stays.{has_reached}
-use Rattle.pl_attended.proofs.Facts.{Facts, facts_of}
+use Rattle.pl_attended.proofs.Facts.{facts_of}
 use Rattle.pl_attended.proofs.Keeping.{AttendsAll, run_attends}
-use Rattle.pl_attended.proofs.Places.{spot_of}
 use Rattle.pl_attended.proofs.Sources.{KnowsAt, low_placed}
 
 known_at : (me : Me) (v : SwitchView) (port : ℕ) → KnowsAt me v port → IsKnownAt v port me
@@ -110,9 +108,6 @@ module _ (rule : HostRule) (lawful : IsHostRule rule) (sends : HostsSendData rul
 
   pub run_attended : AreAttended new
   run_attended = all_attended new attends
-
-  pub run_apart : StandApart new.stands
-  run_apart = attends.apart
 
   pub run_registers : NothingWaits new → AreRegistered new
   run_registers nothing = λ h host stand v at placed reached room.

@@ -1,9 +1,8 @@
 -- Each row of a switch keeps what it knows of the host at a port; where it takes an address from the host, it sends a probe.
-use Rattle.std.proofs.Common.{◌≡◌, ◌≢◌, ◌⊎◌, ◌<◌, ◌+◌, ◌-◌, ◌==◌, ◌&&◌, ◌||◌, ℕ, nat_lt, Bool, true, false, cond, if◌then◌else◌, set, List, [], ◌∷◌, ◌++◌, length, Option, Some, None, Result, Ok, Err, refl, sym, ap, subst, ◌∙◌, inl, inr, get_or-set_same, length-set}
+use Rattle.std.proofs.Common.{◌≡◌, ◌≢◌, ◌⊎◌, ◌<◌, ◌+◌, ◌-◌, ◌||◌, ℕ, nat_lt, Bool, true, false, if◌then◌else◌, set, List, [], ◌∷◌, ◌++◌, length, Option, Some, None, Result, Ok, Err, refl, sym, ap, subst, ◌∙◌, inl, inr, get_or-set_same, length-set}
 use Rattle.std.proofs.lemmas.Bool.{cases_Bool, cases_eq, cond_both, false≢true}
-use Rattle.std.proofs.lemmas.Option.{none-some, same_Some}
+use Rattle.std.proofs.lemmas.Option.{same_Some}
 use Rattle.pl_frame.specs.declared.address.Ip4.{Ip4}
-use Rattle.pl_frame.specs.declared.address.Mac.{Mac}
 use Rattle.pl_frame.specs.Ethernet.{payload_of, source_of}
 use Rattle.pl_arp.specs.declared.cache.Me.{Me}
 use Rattle.pl_pmac.specs.declared.pmac.Pmac.{Pmac}
@@ -34,13 +33,12 @@ use Rattle.pl_switch_rule.specs.Delivering.{makes}
 use Rattle.pl_switch_rule.specs.Messages.{answer_frame, flood_frame, floods, forgets_members, hears_manager, invalidates, probe_frame, probes, probes_at, sets_trap, takes_pod}
 use Rattle.pl_switch_rule.specs.Positions.{after_vote}
 use Rattle.pl_switch_rule.specs.SwitchRule.{comes_from_switch, control_comes, data_comes, hears_control, switch_step}
-use Rattle.pl_addresses.specs.EdgeAddresses.{is_settled}
 use Rattle.pl_addresses.proofs.Asides.{floods_aside, forgets_members_aside, makes_aside, probes_aside, proposal_aside, switch_frame_aside, takes_in_aside, ticks_aside}
 use Rattle.pl_addresses.proofs.Numbers.{granted_parts, local_settled, number_set_other, number_within}
 use Rattle.pl_addresses.proofs.Placing.{IsPlacing, edge_placing, message_placing, pod_placing, vote_placing}
 use Rattle.pl_addresses.proofs.Rows.{IsAside, aside_then}
 use Rattle.pl_attended.proofs.Settling.{alike_changes, changes_know}
-use Rattle.pl_attended.proofs.Sources.{HasPort, IsLow, IsSaid, Knows, KnowsAt, Serves, aside_same, grants_elsewhere, learns_elsewhere, same_knows, teaches}
+use Rattle.pl_attended.proofs.Sources.{HasPort, IsLow, IsSaid, KnowsAt, Serves, aside_same, grants_elsewhere, learns_elsewhere, same_knows, teaches}
 
 -- a host port of an edge switch
 pub record IsReady (v : SwitchView) (port : ℕ) : Type 0 where

@@ -1,7 +1,7 @@
 -- A frame of a host comes at its edge switch.
-use Rattle.std.proofs.Common.{◌≡◌, ◌≢◌, ◌⊎◌, ◌<◌, ◌+◌, ◌||◌, ℕ, Bool, true, false, set, List, [], ◌∷◌, length, Option, Some, None, slice_get, slice_index_or, slice_set, refl, sym, ap, subst, ◌∙◌, inl, inr, arith, get_or-set_same, get_or-set_other}
+use Rattle.std.proofs.Common.{◌≡◌, ◌≢◌, ◌⊎◌, ◌<◌, ◌||◌, ℕ, Bool, true, false, set, List, [], ◌∷◌, length, Option, Some, None, slice_get, slice_set, refl, sym, ap, subst, ◌∙◌, inl, inr, get_or-set_same, get_or-set_other}
 use Rattle.std.specs.List.{AllByRecursion, list_any}
-use Rattle.std.proofs.lemmas.Bool.{cases_Bool, cases_eq, false≢true}
+use Rattle.std.proofs.lemmas.Bool.{cases_eq, false≢true}
 use Rattle.std.proofs.lemmas.Option.{same_Some}
 use Rattle.pl_wiring.specs.declared.host.Host.{Host}
 use Rattle.pl_layouts.specs.Control.{is_control}
@@ -22,7 +22,7 @@ use Rattle.pl_world.specs.declared.stand.Stand.{Stand}
 use Rattle.pl_world.specs.Booting.{me_of}
 use Rattle.pl_world.specs.Changes.{noted, switch_no}
 use Rattle.pl_world.specs.Flying.{IsDataItem}
-use Rattle.pl_world.specs.WorldRule.{ComesAtSwitch, ComesIn, DeliversFromHost, SwitchTurn, heard_item}
+use Rattle.pl_world.specs.WorldRule.{ComesIn, DeliversFromHost, SwitchTurn, heard_item}
 use Rattle.pl_world.specs.Worlds.{WorldView}
 use Rattle.pl_addresses.specs.OwnFrames.{IsOwnItem}
 use Rattle.pl_switch_rule.proofs.Shapes.{all_or}
@@ -30,15 +30,15 @@ use Rattle.pl_addresses.proofs.Turns.{exists_at, filled_within}
 use Rattle.pl_addresses.proofs.Words.{any_rest}
 use Rattle.pl_attended.specs.Attended.{StandApart}
 use Rattle.pl_attended.specs.Stays.{Stay, is_among, is_readable, stay_of}
-use Rattle.pl_attended.specs.Probes.{is_packet, is_probe}
+use Rattle.pl_attended.specs.Probes.{is_packet}
 use Rattle.pl_attended.proofs.Numbers.{IsSoon, IsSoonNumber, found_after}
-use Rattle.pl_attended.proofs.Acts.{IsSpoken, Rest, rest_of, stay_then}
+use Rattle.pl_attended.proofs.Acts.{IsSpoken, Rest, stay_then}
 use Rattle.pl_attended.proofs.Facts.{Facts}
-use Rattle.pl_attended.proofs.Places.{Attends, OwnFrame, own_is, place_of, spot_of}
-use Rattle.pl_attended.proofs.Rows.{ComesOf, IsProbed, comes_still, frame_known}
+use Rattle.pl_attended.proofs.Places.{Attends, own_is, place_of, spot_of}
+use Rattle.pl_attended.proofs.Rows.{IsProbed, comes_still, frame_known}
 use Rattle.pl_attended.proofs.Sources.{KnowsAt}
 use Rattle.pl_attended.proofs.Told.{IsTold, Told, crossed_stay, crossing_later, crossing_number, told_on}
-use Rattle.pl_attended.proofs.Turns.{Follows, IsPlace, Noticed, NoticedIn, Spot, Waits, has_reached_in, noticed_on, queue_to, turn_noticed, turn_rest, turn_told}
+use Rattle.pl_attended.proofs.Turns.{IsPlace, Noticed, NoticedIn, Spot, Waits, has_reached_in, noticed_on, queue_to, turn_noticed, turn_rest, turn_told}
 
 -- what an event leaves of the wiring and of where hosts stand, and what is kept of one host
 pub record Keeps (h : ℕ) (w new : WorldView) : Type 0 where

@@ -1,5 +1,5 @@
 -- An edge switch that becomes placed serves the hosts that it remembers, and one that was placed before serves whom it served.
-use Rattle.std.proofs.Common.{◌≡◌, ◌≢◌, ◌⊎◌, ◌≤◌, ◌<◌, ◌+◌, ◌-◌, ◌&&◌, ℕ, zero, suc, not, nat_lt, Bool, true, false, cond, if◌then◌else◌, get_or, set, List, [], ◌∷◌, ◌++◌, length, Option, Some, None, refl, sym, ap, subst, ◌∙◌, inl, inr, arith, length-set}
+use Rattle.std.proofs.Common.{◌≡◌, ◌≢◌, ◌≤◌, ◌<◌, ◌+◌, ◌-◌, ◌&&◌, ℕ, zero, suc, not, Bool, true, false, get_or, set, List, [], ◌∷◌, ◌++◌, length, Option, Some, None, refl, sym, ap, subst, ◌∙◌, inl, inr, arith, length-set}
 use Rattle.std.specs.List.{range_with_len}
 use Rattle.std.proofs.lemmas.Bool.{and_from, and_parts, cases_Bool, cases_eq, cases_lt, cond_both, false≢true}
 use Rattle.pl_frame.specs.declared.address.Ip4.{Ip4}
@@ -15,10 +15,10 @@ use Rattle.pl_core.specs.PortRecords.{ports_of_switch}
 use Rattle.pl_core.specs.SwitchViews.{SwitchView}
 use Rattle.pl_steps.specs.Steps.{SwitchStep, rests, ◌▹◌}
 use Rattle.pl_switch_rule.specs.Granting.{address_at_port, forgets, grant_number, grants_at, grants_next, grants_or_learns, grants_remembered, grants_source, in_use, is_port_spent, learns_ip, new_grant, remembered_at, same_ip, with_grant}
-use Rattle.pl_switch_rule.specs.Levels.{changes_to, has_become_placed, settles_in}
+use Rattle.pl_switch_rule.specs.Levels.{changes_to, has_become_placed}
 use Rattle.pl_addresses.specs.EdgeAddresses.{is_settled}
 use Rattle.pl_addresses.proofs.Placing.{IsPlacing}
-use Rattle.pl_attended.proofs.Sources.{HasPort, IsLow, IsSameAt, Knows, KnowsAt, Learns, ServesIfRoom, by_source, low_placed, mine, one_elsewhere, same_knows, same_self, same_then}
+use Rattle.pl_attended.proofs.Sources.{HasPort, IsLow, IsSameAt, KnowsAt, ServesIfRoom, by_source, low_placed, mine, one_elsewhere, same_knows, same_self, same_then}
 
 -- ---- what a part leaves of a switch, whatever it learns
 pub record IsAlike (v w : SwitchView) : Type 0 where

@@ -3,7 +3,6 @@ use Rattle.std.proofs.Common.{◌≡◌, ◌+◌, ◌==◌, ◌&&◌, ◌||◌, 
 use Rattle.std.specs.List.{AllByRecursion, position}
 use Rattle.std.proofs.lemmas.Iterator.Adapters.{position_from-zero}
 use Rattle.std.proofs.lemmas.List.{reverse-append}
-use Rattle.std.proofs.lemmas.Option.{same_Some}
 use Rattle.pl_frame.specs.declared.address.Mac.{Mac}
 use Rattle.pl_pmac.specs.declared.pmac.Pmac.{Pmac}
 use Rattle.pl_wiring.specs.declared.host.Host.{Host}
@@ -24,9 +23,9 @@ use Rattle.pl_world.specs.declared.item.Item.{Item}
 use Rattle.pl_world.specs.declared.item.Item.TheVariants.{Control, Data}
 use Rattle.pl_world.specs.declared.spoken_frame.SpokenFrame.{SpokenFrame}
 use Rattle.pl_world.specs.declared.spoken_frame.SpokenFrame.TheVariants.{Over, Passed, Silent, Waiting}
-use Rattle.pl_world.specs.Changes.{ends_of, host_no, host_of, is_failed_at, noted, switch_no}
+use Rattle.pl_world.specs.Changes.{ends_of, host_no, host_of, is_failed_at, switch_no}
 use Rattle.pl_world.specs.OtherActs.{host_act_done}
-use Rattle.pl_world.specs.SwitchActs.{Doing, act_done, acts_done, begins, ended, granted, in_world, passed, redirected, switch_stepped, with_late}
+use Rattle.pl_world.specs.SwitchActs.{Doing, act_done, acts_done, begins, ended, granted, in_world, passed, redirected, switch_stepped}
 use Rattle.pl_world.specs.Worlds.{WorldView}
 use Rattle.pl_addresses.proofs.Numbers.{first_passes}
 use Rattle.pl_addresses.proofs.Words.{mac_is, one_index}

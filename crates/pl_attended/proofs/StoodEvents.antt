@@ -1,19 +1,15 @@
 -- Each event grants addresses to hosts that stand there, or have stood there.
-use Rattle.std.proofs.Common.{◌≡◌, ◌≢◌, ◌⊎◌, ◌<◌, ◌+◌, ◌==◌, ◌&&◌, ◌||◌, ℕ, Bool, true, false, if◌then◌else◌, get_or, set, Contains, List, [], ◌∷◌, ◌++◌, reverse, fold, length, Option, Some, None, slice_get, slice_set, refl, sym, ap, subst, ◌∙◌, inl, inr, eqb-true, eq-eqb}
+use Rattle.std.proofs.Common.{◌≡◌, ◌≢◌, ◌<◌, ◌+◌, ◌==◌, ◌&&◌, ◌||◌, ℕ, Bool, true, false, set, Contains, List, [], ◌∷◌, ◌++◌, reverse, fold, length, Option, Some, None, slice_get, slice_set, refl, sym, ap, subst, ◌∙◌, inl, inr, eq-eqb}
 use Rattle.std.specs.List.{AllByRecursion, position}
 use Rattle.std.proofs.lemmas.Bool.{and_from, cases_eq, false≢true}
 use Rattle.std.proofs.lemmas.List.Elements.{Contains-append_left, Contains-push}
-use Rattle.std.proofs.lemmas.Option.{none-some, same_Some, slice_get_within}
-use Rattle.pl_frame.specs.declared.address.Mac.{Mac}
-use Rattle.pl_frame.specs.Ethernet.{source_of}
-use Rattle.pl_wiring.specs.declared.host.Host.{Host}
+use Rattle.std.proofs.lemmas.Option.{same_Some, slice_get_within}
 use Rattle.pl_wiring.specs.declared.link.Link.{Link}
 use Rattle.pl_wiring.specs.declared.link.Peer.{Peer}
 use Rattle.pl_wiring.specs.declared.link.Peer.TheVariants.{HostPort, Switch}
 use Rattle.pl_wiring.specs.Index.{port_index}
 use Rattle.pl_wiring.specs.Peers.{peer_of}
 use Rattle.pl_wiring.specs.Plan.{IsPlan, Plan}
-use Rattle.pl_layouts.specs.Control.{is_control}
 use Rattle.pl_layouts.specs.Equality.{same_switch}
 use Rattle.pl_core.specs.declared.acts.ManagerAct.{ManagerAct}
 use Rattle.pl_core.specs.declared.acts.ManagerAct.TheVariants.{Number, Say}
@@ -25,7 +21,6 @@ use Rattle.pl_core.specs.declared.switch_records.Source.{Source}
 use Rattle.pl_core.specs.HostDuties.{is_own}
 use Rattle.pl_core.specs.HostInputs.{HostAnswer, HostInput, HostRule}
 use Rattle.pl_core.specs.ManagerDuties.{ManagerRule}
-use Rattle.pl_core.specs.PortRecords.{is_open_to_hosts, port_of}
 use Rattle.pl_core.specs.SwitchInputs.{SwitchInput}
 use Rattle.pl_core.specs.SwitchInputs.SwitchInput.{Comes, Says, Tick}
 use Rattle.pl_core.specs.SwitchViews.{SwitchView}
@@ -48,28 +43,32 @@ use Rattle.pl_world.specs.declared.item.Item.TheVariants.{Control, Data}
 use Rattle.pl_world.specs.declared.spoken_frame.SpokenFrame.{SpokenFrame}
 use Rattle.pl_world.specs.declared.stand.Stand.{Stand}
 use Rattle.pl_world.specs.Booting.{me_of}
-use Rattle.pl_world.specs.Changes.{ends_of, host_no, noted, out_of, receiver, said_to, switch_no}
+use Rattle.pl_world.specs.Changes.{ends_of, host_at, host_no, noted, out_of, receiver, said_to, switch_no}
 use Rattle.pl_wiring.specs.declared.label.SwitchNo.{SwitchNo}
 use Rattle.pl_world.specs.Flying.{IsDataItem, IsItem}
-use Rattle.pl_world.specs.LinksAndMoves.{host_moved, item_lost, link_between, link_failed, link_repaired}
-use Rattle.pl_world.specs.OtherActs.{heard_after_tick, manager_act_done, manager_stepped, reception_noted, skip_noted}
-use Rattle.pl_world.specs.WorldRule.{ComesAtHost, ComesAtSwitch, ComesIn, ComesOut, ComesOver, Delivers, DeliversFromHost, DeliversFromManager, DeliversOut, DeliversToManager, Fails, Goes, Happens, HostPlays, HostTurn, IsRepaired, Loses, SwitchTurn, heard_item}
+use Rattle.pl_world.specs.LinksAndMoves.{host_moved, item_lost, link_between}
+use Rattle.pl_world.specs.OtherActs.{heard_after_tick, manager_act_done, reception_noted, skip_noted}
+use Rattle.pl_world.specs.Refusals.{refusal_of_event}
+use Rattle.pl_world.specs.WorldRule.{ComesAtHost, ComesAtSwitch, ComesIn, ComesOut, ComesOver, Delivers, DeliversFromHost, DeliversFromManager, DeliversOut, DeliversToManager, Fails, Goes, Happens, HostTurn, IsRepaired, Loses, SwitchTurn, heard_item}
 use Rattle.pl_world.specs.Worlds.{WorldView}
 use Rattle.pl_addresses.specs.OwnFrames.{IsOwnItem}
 use Rattle.pl_addresses.proofs.Turns.{exists_at, filled_within}
 use Rattle.pl_addresses.proofs.Words.{get-set_other, get-set_same}
 use Rattle.pl_control_plane.proofs.Stepping.{turn_same}
+use Rattle.pl_attended.specs.Attended.{StandApart}
 use Rattle.pl_attended.specs.Stood.{AreStoodFor}
 use Rattle.pl_attended.proofs.Acts.{Rest}
 use Rattle.pl_attended.proofs.Facts.{Facts}
 use Rattle.pl_core.specs.declared.acts.Act.{Act}
 use Rattle.pl_core.specs.declared.acts.Act.TheVariants as act
 use Rattle.pl_attended.proofs.GrantRows.{Fits, IsFine, IsGrantFor, Remembers, fits_frame, fits_order, fits_tick}
-use Rattle.pl_attended.proofs.Places.{own_is}
-use Rattle.pl_attended.proofs.StoodActs.{AreNoGrants, IsGrantThere, IsNoGrant, StepWrote, StoodThere, Wrote, host_wrote, none_of_ends, past_more, step_wrote, stood_later, wrote_all, wrote_nothing, wrote_quiet, wrote_then}
+use Rattle.pl_attended.proofs.Places.{moved_apart, own_is, place_is_free}
+use Rattle.pl_attended.proofs.StoodActs.{IsGrantThere, IsNoGrant, StepWrote, StoodThere, Wrote, host_wrote, none_of_ends, past_more, step_wrote, stood_later, wrote_all, wrote_quiet, wrote_then}
 
 -- Hosts have stood where they stand, and so have those that switches remember; and each address was granted to one that had.
 pub record Stood (plan : Plan) (stands : List Stand) (switches : List SwitchView) (journal : List Entry) : Type 0 where
+  -- no two hosts stand at one place
+  pub apart : StandApart stands
   pub stand : (g : ℕ) (stand : Stand) → slice_get stands g ≡ Some stand → has_stood plan (reverse journal) g (at_port stand.edge.0 stand.port) ≡ true
   pub remembered : (s : ℕ) (v : SwitchView) → slice_get switches s ≡ Some v → Remembers (λ port mac. StoodThere plan (reverse journal) mac s port) v
   pub granted : AreStoodFor plan (reverse journal)
@@ -87,6 +86,7 @@ fine_later plan before after wrote s v r port = by (remembered_at v port) (r por
 
 pub stood_on : (plan : Plan) (stands : List Stand) (switches : List SwitchView) (before after : List Entry) → Wrote plan before after → Stood plan stands switches before → Stood plan stands switches after
 stood_on plan stands switches before after wrote st = record {
+  apart = st.apart;
   stand = λ g stand at. wrote.later g (at_port stand.edge.0 stand.port) (st.stand g stand at);
   remembered = λ s v at. fine_later plan before after wrote s v (st.remembered s v at);
   granted = wrote.good st.granted;
@@ -117,6 +117,7 @@ switch_stood w is_plan st s input speech new turn fits =
     let wrote : StepWrote w.plan w new (set w.switches s turn.after) =
     subst (λ (x : WorldView). StepWrote w.plan w x (set w.switches s turn.after)) (sym turn.changed) (step_wrote w.plan is_plan w s turn.before turn.after speech turn.acts refl grants) in
     let mid : Stood w.plan w.stands (set w.switches s turn.after) new.journal = record {
+      apart = st.apart;
       stand = λ g stand at. wrote.wrote.later g (at_port stand.edge.0 stand.port) (st.stand g stand at);
       remembered = λ t v at. elim (cases_eq t s) [
         | inr other ↦ fine_later w.plan w.journal new.journal wrote.wrote t v (st.remembered t v (sym (get-set_other w.switches s t turn.after other) ∙ at))
@@ -196,7 +197,7 @@ module _ (w : WorldView) (f : Facts w) (st : IsStood w) where
         ComesAtSwitch Loose (record w { out = set w.out (port_index w.plan.k s port) rest }) t.0 q i new → IsStood new
     over_link s port item rest head t q leads (Control frame) is new turn =
         let fine : IsItem (Control frame) = subst IsItem is (subst (λ (xs : List Item). AllByRecursion IsItem xs) head (all_or (AllByRecursion IsItem) w.out (port_index w.plan.k s port) [] f.port_items tt)).0 in
-        switch_stood (record w { out = set w.out (port_index w.plan.k s port) rest }) f.plan (record { stand = st.stand; remembered = st.remembered; granted = st.granted }) t.0 (Comes q frame) _ new turn
+        switch_stood (record w { out = set w.out (port_index w.plan.k s port) rest }) f.plan (record { apart = st.apart; stand = st.stand; remembered = st.remembered; granted = st.granted }) t.0 (Comes q frame) _ new turn
         (λ v found choose. fits_frame (λ at mac. StoodThere w.plan (reverse w.journal) mac t.0 at) choose v q frame (λ no_control takes. absurd (false≢true (sym no_control ∙ fine.kind))))
     over_link s port item rest head t q leads (Data id frame) is new turn =
         let mid : WorldView = noted (record w { out = set w.out (port_index w.plan.k s port) rest }) (Crossed id (switch_no t.0)) in
@@ -218,7 +219,7 @@ module _ (w : WorldView) (f : Facts w) (st : IsStood w) where
         ComesOver Loose rule (record w { out = set w.out (port_index w.plan.k s port) rest }) s port item peer new → IsStood new
     out_by s port item rest head (Switch t q) leads new comes = over_link s port item rest head t q leads item refl new comes
     out_by s port item rest head HostPort leads new comes =
-        comes_out (record w { out = set w.out (port_index w.plan.k s port) rest }) (record { stand = st.stand; remembered = st.remembered; granted = st.granted }) s port item new comes
+        comes_out (record w { out = set w.out (port_index w.plan.k s port) rest }) (record { apart = st.apart; stand = st.stand; remembered = st.remembered; granted = st.granted }) s port item new comes
 
     out_of_port : (s port : ℕ) (items : List Item) (new : WorldView) → out_of w s port ≡ items → DeliversOut Loose rule w s port items new → IsStood new
     out_of_port s port [] new is comes = absurd comes
@@ -230,7 +231,7 @@ module _ (w : WorldView) (f : Facts w) (st : IsStood w) where
       where
         by : (o : Option ℕ) → IsStood (said_to u says o)
         by None = su
-        by (Some s) = record { stand = su.stand; remembered = su.remembered; granted = su.granted }
+        by (Some s) = record { apart = su.apart; stand = su.stand; remembered = su.remembered; granted = su.granted }
     one_said u (Number pmac n) su = entry_stood u (Registered pmac n) tt su
 
     all_said : (u : WorldView) (acts : List ManagerAct) → IsStood u → IsStood (fold manager_act_done u acts)
@@ -241,12 +242,12 @@ module _ (w : WorldView) (f : Facts w) (st : IsStood w) where
     to_manager manager s [] new turn = absurd turn
     to_manager manager s (told ∷ rest) new turn =
         subst (λ (x : WorldView). IsStood x) (sym turn.changed)
-        (all_said (record w { to_manager = set w.to_manager s rest; manager = turn.after }) turn.acts (record { stand = st.stand; remembered = st.remembered; granted = st.granted }))
+        (all_said (record w { to_manager = set w.to_manager s rest; manager = turn.after }) turn.acts (record { apart = st.apart; stand = st.stand; remembered = st.remembered; granted = st.granted }))
 
     from_manager : (s : ℕ) (items : List ToSwitch) (new : WorldView) → DeliversFromManager Loose w s items new → IsStood new
     from_manager s [] new turn = absurd turn
     from_manager s (says ∷ rest) new turn =
-        switch_stood (record w { from_manager = set w.from_manager s rest }) f.plan (record { stand = st.stand; remembered = st.remembered; granted = st.granted }) s (Says says) _ new turn
+        switch_stood (record w { from_manager = set w.from_manager s rest }) f.plan (record { apart = st.apart; stand = st.stand; remembered = st.remembered; granted = st.granted }) s (Says says) _ new turn
         (λ v found choose. fits_order (λ port mac. StoodThere w.plan (reverse w.journal) mac s port) choose v says)
 
     delivers : (manager : ManagerRule) (name : QueueName) (new : WorldView) → Delivers Loose manager rule w name new → IsStood new
@@ -279,11 +280,11 @@ module _ (w : WorldView) (f : Facts w) (st : IsStood w) where
     loses s port (item ∷ rest) new same = subst (λ (x : WorldView). IsStood x) (sym same) (by item)
       where
         by : (i : Item) → IsStood (item_lost (record w { out = set w.out (port_index w.plan.k s port) rest }) i)
-        by (Control frame) = record { stand = st.stand; remembered = st.remembered; granted = st.granted }
+        by (Control frame) = record { apart = st.apart; stand = st.stand; remembered = st.remembered; granted = st.granted }
         by (Data id frame) = entry_stood w (Dropped id cause.Lost) tt st
 
-    moved : (g : ℕ) (from to : Stand) → slice_get w.stands g ≡ Some from → IsStood (host_moved w g from to)
-    moved g from to was =
+    moved : (g : ℕ) (from to : Stand) → slice_get w.stands g ≡ Some from → host_at w to.edge.0 to.port ≡ None → IsStood (host_moved w g from to)
+    moved g from to was free =
         let e = Moved (host_no g) to.edge to.port in
         let j1 : List Entry = w.journal ++ e ∷ [] in
         let one = ends_of cause.HostGone (items_at w.from_hosts g) in
@@ -294,6 +295,7 @@ module _ (w : WorldView) (f : Facts w) (st : IsStood w) where
         let after = wrote_then w.plan j1 (j1 ++ one) ((j1 ++ one) ++ two) (wrote_all w.plan j1 one (none_of_ends w.plan cause.HostGone (items_at w.from_hosts g)))
         (wrote_all w.plan (j1 ++ one) two (none_of_ends w.plan cause.HostGone (items_at w.out (port_index w.plan.k from.edge.0 from.port)))) in
         record {
+          apart = moved_apart w.stands g to st.apart free;
           stand = λ h stand at. elim (cases_eq h g) [
             | inr other ↦ wrote.later h (at_port stand.edge.0 stand.port) (st.stand h stand (sym (get-set_other w.stands g h to other) ∙ at))
             | inl same ↦
@@ -311,21 +313,21 @@ module _ (w : WorldView) (f : Facts w) (st : IsStood w) where
         or_first : (a b : Bool) → a ≡ true → (a || b) ≡ true
         or_first a b is = ap (λ c. c || b) is
 
-    goes : (g : ℕ) (to : Stand) (from : Option Stand) (new : WorldView) → slice_get w.stands g ≡ from → Goes rule w g to from new → IsStood new
-    goes g to None new was turn = absurd turn
-    goes g to (Some from) new was turn = host_stood rule (host_moved w g from to) (moved g from to was) g _ _ new turn
+    goes : (g : ℕ) (to : Stand) (from : Option Stand) (new : WorldView) → slice_get w.stands g ≡ from → host_at w to.edge.0 to.port ≡ None → Goes rule w g to from new → IsStood new
+    goes g to None new was free turn = absurd turn
+    goes g to (Some from) new was free turn = host_stood rule (host_moved w g from to) (moved g from to was free) g _ _ new turn
 
-    pub event_stood : (manager : ManagerRule) (e : Event) (new : WorldView) → Happens Loose manager rule w e new → IsStood new
-    event_stood manager (event.Deliver name) new is = delivers manager name new is
-    event_stood manager (event.Tick s) new is =
-        switch_stood (record w { heard = heard_after_tick s.0 w.stands w.heard }) f.plan (record { stand = st.stand; remembered = st.remembered; granted = st.granted }) s.0 Tick _ new is
+    pub event_stood : (manager : ManagerRule) (e : Event) (new : WorldView) → refusal_of_event w e ≡ None → Happens Loose manager rule w e new → IsStood new
+    event_stood manager (event.Deliver name) new none is = delivers manager name new is
+    event_stood manager (event.Tick s) new none is =
+        switch_stood (record w { heard = heard_after_tick s.0 w.stands w.heard }) f.plan (record { apart = st.apart; stand = st.stand; remembered = st.remembered; granted = st.granted }) s.0 Tick _ new is
         (λ v found choose. fits_tick (λ port mac. StoodThere w.plan (reverse w.journal) mac s.0 port) choose v)
-    event_stood manager (event.Fail a b) new is = fails (link_between w.plan a.0 b.0) new is
-    event_stood manager (event.Repair a b) new is = repaired (link_between w.plan a.0 b.0) new is
-    event_stood manager (event.Lose s port) new is = loses s.0 port (out_of w s.0 port) new is
-    event_stood manager (event.Move g s port) new is = goes g.0 (record { edge = s; port = port }) (slice_get w.stands g.0) new refl is
-    event_stood manager (event.Start g) new is = host_stood rule w st g.0 _ _ new is
-    event_stood manager (event.Play g frame original raw) new is = host_stood rule (skip_noted w g.0 is.skip) (skip_stood w g.0 is.skip st) g.0 _ _ new is.turn
-    event_stood manager (event.Retry g) new is = host_stood rule w st g.0 _ _ new is
-    event_stood manager (event.Join g group) new is = host_stood rule w st g.0 _ _ new is
-    event_stood manager (event.Leave g group) new is = host_stood rule w st g.0 _ _ new is
+    event_stood manager (event.Fail a b) new none is = fails (link_between w.plan a.0 b.0) new is
+    event_stood manager (event.Repair a b) new none is = repaired (link_between w.plan a.0 b.0) new is
+    event_stood manager (event.Lose s port) new none is = loses s.0 port (out_of w s.0 port) new is
+    event_stood manager (event.Move g s port) new none is = goes g.0 (record { edge = s; port = port }) (slice_get w.stands g.0) new refl (place_is_free w g.0 s.0 port none) is
+    event_stood manager (event.Start g) new none is = host_stood rule w st g.0 _ _ new is
+    event_stood manager (event.Play g frame original raw) new none is = host_stood rule (skip_noted w g.0 is.skip) (skip_stood w g.0 is.skip st) g.0 _ _ new is.turn
+    event_stood manager (event.Retry g) new none is = host_stood rule w st g.0 _ _ new is
+    event_stood manager (event.Join g group) new none is = host_stood rule w st g.0 _ _ new is
+    event_stood manager (event.Leave g group) new none is = host_stood rule w st g.0 _ _ new is

@@ -12,7 +12,7 @@ use Rattle.pl_core.specs.SwitchFacts.{switch_at_boot}
 use Rattle.pl_core.specs.SwitchViews.{SwitchView}
 use Rattle.pl_journal.specs.declared.entry.Entry.{Entry}
 use Rattle.pl_journal.specs.declared.entry.Entry.TheVariants.{Granted}
-use Rattle.pl_journal.specs.Places.{Spot, at_port, has_stood, is_at}
+use Rattle.pl_journal.specs.Places.{at_port, is_at}
 use Rattle.pl_manager_rule.specs.ManagerRule.{manager_rule}
 use Rattle.pl_switch_rule.specs.SwitchRule.{Loose}
 use Rattle.pl_world.specs.declared.event.Event.{Event}
@@ -25,9 +25,12 @@ use Rattle.pl_world.specs.Runs.{IsMark, Moment, WorldRun}
 use Rattle.pl_world.specs.WorldRule.{WorldStep}
 use Rattle.pl_world.specs.Worlds.{WorldView}
 use Rattle.pl_kept.specs.Kept.{Kept}
+use Rattle.pl_world.proofs.StepBalances.{event_is_not_refused, same_refusal}
+use Rattle.pl_attended.specs.Attended.{StandApart}
 use Rattle.pl_attended.specs.Stood.{AreStoodFor}
 use Rattle.pl_attended.proofs.Facts.{facts_of}
 use Rattle.pl_attended.proofs.GrantRows.{IsFine}
+use Rattle.pl_attended.proofs.Places.{boots_apart}
 use Rattle.pl_attended.proofs.Runs.{kept_from_beginning}
 use Rattle.pl_attended.proofs.StoodActs.{IsNoGrant, StoodThere, wrote_quiet}
 use Rattle.pl_attended.proofs.StoodEvents.{IsStood, event_stood, stood_on}
@@ -41,7 +44,8 @@ marked w e is st = stood_on w.plan w.stands w.switches w.journal (noted w e).jou
 
 stepped : (rule : HostRule) (old : WorldView) (e : Event) (new : WorldView) → Kept old → IsStood old → refusal old e ≡ None → WorldStep Loose manager_rule rule old e new → IsStood new
 stepped rule old e new kept st none step =
-    event_stood (record old { steps = old.steps + 1 }) (facts_of old kept) (record { stand = st.stand; remembered = st.remembered; granted = st.granted }) rule manager_rule e new step
+    event_stood (record old { steps = old.steps + 1 }) (facts_of old kept) (record { apart = st.apart; stand = st.stand; remembered = st.remembered; granted = st.granted }) rule manager_rule e new
+    (same_refusal old e ∙ event_is_not_refused old e none) step
 
 -- ---- the beginning
 stands_first : (plan : Plan) (hosts : List Host) (g : ℕ) (stand : Stand) → slice_get (map first_stand hosts) g ≡ Some stand →
@@ -62,8 +66,9 @@ switch_first k [] s v is = absurd (none-some v is)
 switch_first k (id ∷ ids) zero v is = (id, same_Some (switch_at_boot id k) v is)
 switch_first k (id ∷ ids) (suc s) v is = switch_first k ids s v is
 
-boots_stood : (plan : Plan) (limits : Limits) → IsStood (booted plan limits)
-boots_stood plan limits = record {
+boots_stood : (plan : Plan) (limits : Limits) → CanBegin plan → IsStood (booted plan limits)
+boots_stood plan limits can = record {
+  apart = boots_apart plan can;
   stand = λ g stand is. stands_first plan plan.hosts g stand is;
   remembered = λ s v is port. let it = switch_first plan.k plan.ids s v is in
       subst (λ (u : SwitchView). IsFine (λ q mac. StoodThere plan [] mac s q) port (get_or u.remembered port None)) it.1
@@ -71,7 +76,16 @@ boots_stood plan limits = record {
   granted = tt;
 }
 
+stood_in_run : (rule : HostRule) → HostsSendData rule → HostsSendOwn rule → (plan : Plan) (limits : Limits) (moments : List Moment) (new : WorldView) → CanBegin plan →
+    WorldRun Loose manager_rule rule (booted plan limits) moments new → IsStood new
+stood_in_run rule sends owns plan limits moments new can run =
+    kept_from_beginning rule sends owns IsStood (stepped rule) marked plan limits can (boots_stood plan limits can) moments new run
+
 pub run_stood : (rule : HostRule) → HostsSendData rule → HostsSendOwn rule → (plan : Plan) (limits : Limits) (moments : List Moment) (new : WorldView) → CanBegin plan →
     WorldRun Loose manager_rule rule (booted plan limits) moments new → AreStoodFor new.plan (reverse new.journal)
 run_stood rule sends owns plan limits moments new can run =
-    (kept_from_beginning rule sends owns IsStood (stepped rule) marked plan limits can (boots_stood plan limits) moments new run).granted
+    (stood_in_run rule sends owns plan limits moments new can run).granted
+
+pub run_apart : (rule : HostRule) → HostsSendData rule → HostsSendOwn rule → (plan : Plan) (limits : Limits) (moments : List Moment) (new : WorldView) → CanBegin plan →
+    WorldRun Loose manager_rule rule (booted plan limits) moments new → StandApart new.stands
+run_apart rule sends owns plan limits moments new can run = (stood_in_run rule sends owns plan limits moments new can run).apart

@@ -1,20 +1,19 @@
 -- What waits, against what a host sent since it came where it stands.
-use Rattle.std.proofs.Common.{◌≡◌, ◌≢◌, ◌≤◌, ◌<◌, ◌⊎◌, ◌+◌, ◌==◌, ◌&&◌, ◌||◌, ℕ, Bool, true, false, if◌then◌else◌, set, List, [], ◌∷◌, ◌++◌, fold, length, refl, sym, ap, subst, ◌∙◌, inl, inr, arith, eqb-true}
-use Rattle.std.specs.List.{AllByRecursion, list_any}
-use Rattle.std.proofs.lemmas.Bool.{and_parts, cases_Bool, false≢true, or_left}
+use Rattle.std.proofs.Common.{◌≡◌, ◌≤◌, ◌+◌, ◌==◌, ◌&&◌, ◌||◌, ℕ, Bool, true, false, if◌then◌else◌, List, [], ◌∷◌, ◌++◌, fold, refl, sym, ap, subst, ◌∙◌, inl, inr, arith, eqb-true}
+use Rattle.std.specs.List.{AllByRecursion}
+use Rattle.std.proofs.lemmas.Bool.{and_parts, or_left}
 use Rattle.pl_core.specs.SwitchViews.{SwitchView}
 use Rattle.pl_core.specs.declared.acts.HostAct.{HostAct}
 use Rattle.pl_core.specs.declared.acts.HostAct.TheVariants.{Send}
-use Rattle.pl_journal.specs.declared.entry.Entry.{Entry}
-use Rattle.pl_journal.specs.declared.entry.Entry.TheVariants.{Crossed, Moved, Sent}
+use Rattle.pl_journal.specs.declared.entry.Entry.TheVariants.{Sent}
 use Rattle.pl_queues.specs.Queues.{items_at, put_at}
 use Rattle.pl_world.specs.declared.item.Item.{Item}
 use Rattle.pl_world.specs.declared.item.Item.TheVariants.{Control, Data}
-use Rattle.pl_world.specs.Changes.{host_no, sent_by_host, switch_no}
+use Rattle.pl_world.specs.Changes.{host_no, sent_by_host}
 use Rattle.pl_world.specs.OtherActs.{host_act_done}
 use Rattle.pl_world.specs.Worlds.{WorldView}
-use Rattle.pl_attended.specs.Stays.{Stay, first_stay, is_among, is_readable, stay_after, stay_of}
-use Rattle.pl_attended.proofs.Numbers.{AllQueues, AreOld, Grows, IsNumber, IsPast, IsSoon, IsSoonNumber, all_behind, all_map, among_old, any_last, found_after, grows_then, new_number, older, put_grows, sent_too}
+use Rattle.pl_attended.specs.Stays.{Stay, is_among, is_readable, stay_of}
+use Rattle.pl_attended.proofs.Numbers.{AllQueues, AreOld, Grows, IsNumber, IsPast, IsSoon, IsSoonNumber, all_behind, all_map, among_old, found_after, grows_then, new_number, older, put_grows, sent_too}
 use Rattle.pl_attended.proofs.Acts.{Rest, Stepped, stay_then}
 
 -- of one host: all frames that wait have begun, and those of its readable ARP frames that are past its edge switch were noticed

@@ -1,11 +1,10 @@
 -- A turn of a switch, and of a host, against what is known of a host.
-use Rattle.std.proofs.Common.{◌≡◌, ◌≢◌, ◌⊎◌, ◌<◌, ◌+◌, ◌^◌, ◌&&◌, ◌++◌, ℕ, not, Bool, true, false, cond, if◌then◌else◌, set, List, [], ◌∷◌, fold, length, Option, Some, None, slice_get, refl, sym, ap, subst, ◌∙◌, inl, inr, get_or-set_same}
+use Rattle.std.proofs.Common.{◌≡◌, ◌≢◌, ◌⊎◌, ◌<◌, ◌+◌, ◌^◌, ◌&&◌, ◌++◌, ℕ, not, Bool, true, false, if◌then◌else◌, set, List, [], ◌∷◌, length, Some, None, slice_get, refl, sym, ap, subst, ◌∙◌, inl, inr, get_or-set_same}
 use Rattle.std.specs.List.{list_any}
-use Rattle.std.proofs.lemmas.Bool.{cases_eq, false≢true}
+use Rattle.std.proofs.lemmas.Bool.{cases_eq}
 use Rattle.std.proofs.lemmas.List.Sums.{fold-append}
 use Rattle.std.proofs.lemmas.Option.{same_Some, slice_get_within}
 use Rattle.pl_arp.specs.declared.cache.Me.{Me}
-use Rattle.pl_frame.specs.declared.address.Mac.{Mac}
 use Rattle.pl_wiring.specs.declared.link.Peer.{Peer}
 use Rattle.pl_wiring.specs.declared.link.Peer.TheVariants.{HostPort}
 use Rattle.pl_wiring.specs.Index.{port_index}
@@ -26,14 +25,14 @@ use Rattle.pl_world.specs.declared.item.Item.{Item}
 use Rattle.pl_world.specs.declared.item.Item.TheVariants.{Data}
 use Rattle.pl_world.specs.declared.spoken_frame.SpokenFrame.{SpokenFrame}
 use Rattle.pl_world.specs.Changes.{is_failed_at}
-use Rattle.pl_world.specs.SwitchActs.{Doing, act_done, acts_done, begins, switch_stepped}
+use Rattle.pl_world.specs.SwitchActs.{Doing, act_done, acts_done, begins}
 use Rattle.pl_world.specs.WorldRule.{SwitchTurn}
 use Rattle.pl_world.specs.Worlds.{WorldView}
 use Rattle.pl_addresses.proofs.Words.{get-set_other, get-set_same}
 use Rattle.pl_attended.specs.Stays.{Stay, stay_of}
 use Rattle.pl_attended.specs.Probes.{is_packet, is_probe}
 use Rattle.pl_attended.proofs.Numbers.{any_last}
-use Rattle.pl_attended.proofs.Acts.{Comes, Good, IsSpoken, Rest, Stepped, all_acts, one_act, rest_of, switch_steps}
+use Rattle.pl_attended.proofs.Acts.{Good, IsSpoken, Rest, Stepped, all_acts, one_act, rest_of, switch_steps}
 use Rattle.pl_attended.proofs.Frames.{probe_is_one}
 use Rattle.pl_attended.proofs.Rows.{IsProbed}
 use Rattle.pl_attended.proofs.Sources.{KnowsAt}

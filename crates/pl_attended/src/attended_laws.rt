@@ -1,5 +1,6 @@
-ghost use Rattle.std.specs.Prelude.{List};
+ghost use Rattle.std.specs.Prelude.{◌≡◌, ◌↔◌, ℕ, true, List};
 ghost use Rattle.pl_wiring.specs.Plan.{Plan};
+ghost use Rattle.pl_journal.specs.declared.entry.Entry.{Entry};
 ghost use Rattle.pl_manager_rule.specs.ManagerRule.{manager_rule};
 ghost use Rattle.pl_switch_rule.specs.SwitchRule.{Loose};
 ghost use Rattle.pl_world.specs.declared.limits.Limits.{Limits};
@@ -7,8 +8,16 @@ ghost use Rattle.pl_world.specs.Booting.{CanBegin, booted};
 ghost use Rattle.pl_world.specs.Runs.{Moment, WorldRun};
 ghost use Rattle.pl_world.specs.Worlds.{WorldView};
 ghost use Rattle.pl_attended.specs.Attended.{AreAttended, StandApart};
+ghost use Rattle.pl_attended.specs.Stays.{HasReached, has_reached};
 
+use pl_core::HostCore;
 use pl_host_rule::LawfulHost;
+
+/// A journal says that a host has reached its edge switch exactly where the host sent an ARP frame that can be
+/// read, that frame crossed a switch then, and the host did not move since it sent it.
+pub fn what_a_journal_says_of_a_host_that_reached_its_edge_switch()
+    ensures { (journal : List Entry) (h : ℕ) → (has_reached journal h ≡ true) ↔ HasReached journal h }
+{}
 
 /// In every run each host is attended to of which an ARP frame that can be read reached the edge switch where
 /// it stands: that switch remembers it until it is placed, and then has an address in use for it, with its
@@ -19,8 +28,8 @@ pub fn hosts_are_attended_in_every_run<H: LawfulHost>()
         WorldRun Loose manager_rule H.rule (booted plan limits) moments new → AreAttended new }
 {}
 
-/// In every run no two hosts stand at one place.
-pub fn no_two_hosts_stand_at_one_place<H: LawfulHost>()
+/// In every run no two hosts stand at one place, whatever hosts do.
+pub fn no_two_hosts_stand_at_one_place<H: HostCore>()
     ensures { (plan : Plan) (limits : Limits) (moments : List Moment) (new : WorldView) → CanBegin plan →
         WorldRun Loose manager_rule H.rule (booted plan limits) moments new → StandApart new.stands }
 {}

@@ -2,7 +2,10 @@
 //! came there, or is going to; so where every queue is empty it is registered there.
 #![tactic(auto)]
 
-pub use attended_laws::{hosts_are_attended_in_every_run, no_two_hosts_stand_at_one_place};
+pub use attended_laws::{
+    hosts_are_attended_in_every_run, no_two_hosts_stand_at_one_place,
+    what_a_journal_says_of_a_host_that_reached_its_edge_switch,
+};
 pub use registration_laws::{
     a_host_is_registered_at_rest, a_host_is_registered_at_rest_in_every_run,
     lawful_cores_register_hosts_at_rest,

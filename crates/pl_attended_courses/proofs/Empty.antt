@@ -2,10 +2,11 @@
 use Rattle.std.proofs.Common.{◌≡◌, ◌<◌, ◌≤◌, ◌+◌, ◌-◌, ◌*◌, ◌/◌, ◌%◌, ◌&&◌, ℕ, nat_lt, Bool, true, false, cond, None, refl, sym, ap, subst, ◌∙◌, arith, length}
 use Rattle.std.proofs.lemmas.Bool.{and_parts, ltb-true}
 use Rattle.std.proofs.lemmas.Bool.Decides.{Decides-ltb}
-use Rattle.std.proofs.lemmas.Nat.{div-add-mod', mul-add-lt}
+use Rattle.std.proofs.lemmas.Nat.{div-add-mod'}
 use Rattle.pl_wiring.specs.Index.{port_index}
 use Rattle.pl_wiring.specs.Labels.{switch_count}
 use Rattle.pl_wiring.specs.Plan.{Plan}
+use Rattle.pl_wiring.proofs.Entered.{port_index-below}
 use Rattle.pl_queues.specs.Queues.{has_items, items_at}
 use Rattle.pl_world.specs.declared.event.QueueName.{QueueName}
 use Rattle.pl_world.specs.declared.event.QueueName.TheVariants as queue
@@ -78,7 +79,7 @@ module _ (w : WorldView) (none : next_queue w 0 ≡ None) where
   all_empty (queue.Port s port) there =
       let two = and_parts (has_switch w.plan s.0) (nat_lt port w.plan.k) there in
       let place = port_index w.plan.k s.0 port in
-      let inside : place < switch_count w.plan.k * w.plan.k = mul-add-lt s.0 w.plan.k port (switch_count w.plan.k) (ltb-true s.0 (switch_count w.plan.k) two.0) (ltb-true port w.plan.k two.1) in
+      let inside : place < switch_count w.plan.k * w.plan.k = port_index-below w.plan.k s.0 port (switch_count w.plan.k) (ltb-true s.0 (switch_count w.plan.k) two.0) (ltb-true port w.plan.k two.1) in
       let n = first_out w.plan + place in
       let back : n - first_out w.plan ≡ place = omega arith in
       ap (λ m. has_items (items_at w.out m)) (sym (div-add-mod' place w.plan.k))

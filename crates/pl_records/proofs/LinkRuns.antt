@@ -66,7 +66,7 @@ module _ (host : HostRule) (sends : HostsSendData host) (owns : HostsSendOwn hos
         let whole = whole_step Loose manager_rule host loose_steps_are_accounted old event new kept.counted kept.hosts none step in
         keeps (control_plane old) (control_plane new) kept.counted.formed.plan after.counted.formed.plan (names_neighbours new after) told whole.0 whole.1
 
-    run_holds : (plan : Plan) (limits : Limits) (moments : List Moment) (new : WorldView) → CanBegin plan → Holds (control_plane (booted plan limits)) →
+    pub run_holds : (plan : Plan) (limits : Limits) (moments : List Moment) (new : WorldView) → CanBegin plan → Holds (control_plane (booted plan limits)) →
         WorldRun Loose manager_rule host (booted plan limits) moments new → Holds (control_plane new)
     run_holds plan limits moments new can first run =
         holds_in_run host sends owns (λ w. Holds (control_plane w)) told_step (λ w entry is told. told) (booted plan limits) moments new (kept_at_first plan limits can) first run

@@ -20,7 +20,7 @@ use Rattle.pl_host_rule.specs.HostRule.{host_rule}
 use Rattle.pl_manager_rule.specs.ManagerRule.{manager_rule}
 use Rattle.pl_switch_rule.specs.SwitchRule.{Exact}
 use Rattle.pl_fabric.specs.Settled.{IsSettled}
-use Rattle.pl_kept.specs.Kept.{Kept}
+use Rattle.pl_theorem.specs.OneSwitch.{IsOneSwitch}
 use Rattle.pl_lines.specs.declared.stop.Stop.{Stop}
 use Rattle.pl_lines.specs.declared.stop.Stop.TheVariants.{ExpectFailed, Refused}
 use Rattle.pl_world.specs.declared.error.StepError.TheVariants as error
@@ -104,7 +104,8 @@ pub record AreLaws (plan : Plan) : Type 0 where
   pub wiring : (moments : List Stretch) (new : WorldView) → WorldRun Exact manager_rule host_rule (booted plan run_limits) moments new → new.plan ≡ plan
   pub savable : (moments : List Stretch) (new : WorldView) → WorldRun Exact manager_rule host_rule (booted plan run_limits) moments new →
       All (IsSavable plan) new.journal
-  pub kept : (moments : List Stretch) (new : WorldView) → WorldRun Exact manager_rule host_rule (booted plan run_limits) moments new → Kept new
+  pub one_switch : (moments : List Stretch) (new : WorldView) → WorldRun Exact manager_rule host_rule (booted plan run_limits) moments new →
+      IsOneSwitch Exact manager_rule host_rule plan run_limits new
 
 pub played_to : (i : Inputs) (p : Played) → AreLaws i.plan → HostsDoAsAsked i p.fabric → length i.captures ≡ length i.plan.hosts → IsPlayedOver i p → IsPlayedTo i p
 played_to i p laws deeds many over =
@@ -115,7 +116,7 @@ played_to i p laws deeds many over =
       plan = same;
       savable = subst (λ plan. All (IsSavable plan) p.fabric.world.journal) (sym same) (laws.savable run.0 p.fabric.world run.1);
       deeds = deeds;
-      kept = laws.kept run.0 p.fabric.world run.1;
+      one_switch = laws.one_switch run.0 p.fabric.world run.1;
       many = as_many p.captures.items ∙ ap (λ fs. length fs) over.captures ∙ many ∙ ap (λ (plan : Plan). length plan.hosts) (sym same);
     }
 
@@ -125,7 +126,7 @@ of_lent P plan lent journal read is was p = subst (λ j. P plan j) was (subst (�
 
 -- what is saved of it
 abbrev pub is_played : (i : Inputs) (p : Played) → IsPlayedTo i p → (settled : Bool) → IsTrue settled ↔ IsSettled p.fabric.world → IsPlayed i
-is_played i p to settled is = record { scene = p.fabric; played = to.over.played; deeds = to.deeds; kept = to.kept; settled = settled; is_settled = is }
+is_played i p to settled is = record { scene = p.fabric; played = to.over.played; deeds = to.deeds; one_switch = to.one_switch; settled = settled; is_settled = is }
 
 summary_as : (i : Inputs) (p : Played) → IsPlayedTo i p → (settled : Bool) → summary_by p settled ≡ summary_of i p.fabric settled
 summary_as i p to settled =

@@ -19,7 +19,7 @@ use Rattle.pl_world.specs.declared.error.StepError.{StepError}
 use Rattle.pl_world.specs.declared.error.StepError.TheVariants as error
 use Rattle.pl_world.specs.declared.limits.Limits.{Limits}
 use Rattle.pl_fabric.specs.Settled.{IsSettled}
-use Rattle.pl_kept.specs.Kept.{Kept}
+use Rattle.pl_theorem.specs.OneSwitch.{IsOneSwitch}
 use Rattle.pl_lines.specs.declared.stop.Stop.{Stop}
 use Rattle.pl_lines.specs.declared.stop.Stop.TheVariants.{ExpectFailed, Refused}
 use Rattle.pl_lines.specs.Asked.{DoesAsAsked}
@@ -61,12 +61,13 @@ abbrev pub HostsDoAsAsked : Inputs → Scene → Type 0
 HostsDoAsAsked i scene =
     (n : ℕ) (host : Host) → slice_get i.plan.hosts n ≡ Some host → DoesAsAsked host_rule i.plan (records_of i) i.lines n host scene.world
 
--- Inputs that were played to the end of the script, and whether the fabric is settled then. What holds in every run holds of the fabric.
+-- Inputs that were played to the end of the script, and whether the fabric is settled then. To its hosts the fabric is one lossy switch, and the
+-- journal is a run of that.
 pub record IsPlayed (i : Inputs) : Type 0 where
   pub scene : Scene
   pub played : PlaysTo i None scene
   pub deeds : HostsDoAsAsked i scene
-  pub kept : Kept scene.world
+  pub one_switch : IsOneSwitch Exact manager_rule host_rule i.plan run_limits scene.world
   pub settled : Bool
   pub is_settled : IsTrue settled ↔ IsSettled scene.world
 

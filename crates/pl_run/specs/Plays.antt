@@ -6,10 +6,13 @@ use Rattle.pl_inputs.specs.Inputs.{Inputs}
 use Rattle.pl_inputs.specs.Loaded.{files_of}
 use Rattle.pl_journal.specs.Savable.{IsSavable}
 use Rattle.pl_world.specs.Flying.{IsCounted}
-use Rattle.pl_kept.specs.Kept.{Kept}
+use Rattle.pl_host_rule.specs.HostRule.{host_rule}
+use Rattle.pl_manager_rule.specs.ManagerRule.{manager_rule}
+use Rattle.pl_switch_rule.specs.SwitchRule.{Exact}
+use Rattle.pl_theorem.specs.OneSwitch.{IsOneSwitch}
 use Rattle.pl_output.specs.Summary.{summary_text}
 use Rattle.pl_run.specs.declared.played.Played.{Played}
-use Rattle.pl_run.specs.Answers.{HostsDoAsAsked, IsStopped, PlaysTo, rests_from}
+use Rattle.pl_run.specs.Answers.{HostsDoAsAsked, IsStopped, PlaysTo, rests_from, run_limits}
 
 -- they were not played to the end of the script
 abbrev pub IsUnplayed : Inputs → Status → Type 0
@@ -28,7 +31,7 @@ pub record IsPlayedTo (i : Inputs) (p : Played) : Type 0 where
   pub plan : p.fabric.world.plan ≡ i.plan
   pub savable : All (IsSavable p.fabric.world.plan) p.fabric.world.journal
   pub deeds : HostsDoAsAsked i p.fabric
-  pub kept : Kept p.fabric.world
+  pub one_switch : IsOneSwitch Exact manager_rule host_rule i.plan run_limits p.fabric.world
   pub many : length p.captures.items ≡ length p.fabric.world.plan.hosts
 
 -- the summary of what was played, by what it was played over

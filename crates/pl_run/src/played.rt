@@ -10,13 +10,13 @@ use pl_core::HostCore;
 use pl_frame::Memory;
 use pl_host::Host;
 use pl_inputs::{Capture, Inputs, Status, StepReason};
-use pl_kept::lawful_cores_keep_all_of_it;
 use pl_lines::{Stop, a_script_is_a_run, hosts_do_what_is_asked};
 use pl_manager::Manager;
 use pl_network::{each_run_keeps_the_wiring, every_entry_can_be_saved};
 use pl_output::summary::{Rest, summary};
 use pl_player::{Player, Stopped};
 use pl_switch::PlainSwitch;
+use pl_theorem::lawful_cores_are_one_switch;
 use pl_wiring::HostNo;
 use pl_world::{Limits, StepError};
 use std::alloc::Global;
@@ -40,7 +40,7 @@ pub(crate) fn play(alloc: Global, inputs: Inputs) -> Result<Played, Status>
     hosts_do_what_is_asked::<PlainSwitch, Manager, Host>();
     every_entry_can_be_saved::<PlainSwitch, Manager, Host>();
     each_run_keeps_the_wiring::<PlainSwitch, Manager, Host>();
-    lawful_cores_keep_all_of_it::<PlainSwitch, Manager, Host>();
+    lawful_cores_are_one_switch::<PlainSwitch, Manager, Host>();
     // The laws are of plans, and the wiring's is one.
     let _hosts = inputs.wiring.hosts();
     play_script(alloc, inputs)

@@ -1,9 +1,0 @@
-use Rattle.pl_told_courses.proofs.Courses.{draws_keep}
-use Rattle.pl_joined.proofs.Runs.{lawful_hosts_keep}
-use Rattle.pl_told_courses.proofs.Runs.{lawful_run_all}
-use Rattle.pl_told_courses.proofs.course_laws.drawn_steps_keep_all_that_is_told.Goals as goal
-
-pub returns : goal.returns
-returns g c = draws_keep g.S.SwitchCore.rule g.M.ManagerCore.rule g.H.HostCore.rule
-    (lawful_run_all g.H.HostCore.rule g.met.H.HostCore.sends g.met.H.HostCore.owns g.met.H.HostCore.keeps g.met.H.HostCore.joins (lawful_hosts_keep g.H.HostCore.rule g.met.H.LawfulHost.lawful)
-    g.S.SwitchCore.rule g.M.ManagerCore.rule g.met.S.LooseSwitch.obeys g.met.M.LawfulManager.lawful)

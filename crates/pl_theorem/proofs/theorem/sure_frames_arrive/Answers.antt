@@ -2,7 +2,7 @@ use Rattle.pl_world.specs.Changes.{host_no}
 use Rattle.pl_journal.specs.declared.entry.Entry.TheVariants.{Arrived}
 use Rattle.pl_core.proofs.Among.{Contains-of_among, among_of_Contains}
 use Rattle.pl_kept.proofs.Lawful.{run_lawful}
-use Rattle.pl_arrival.proofs.Later.{stays_written}
+use Rattle.pl_arrival.proofs.Following.{stays_written}
 use Rattle.pl_theorem.proofs.theorem.sure_frames_arrive.Goals as goal
 
 pub returns : goal.returns

@@ -6,3 +6,4 @@ pub mod CompleteCaptures
 pub mod Stages
 pub mod CompleteAnswers
 pub mod CompleteStops
+pub mod FaultAnswers

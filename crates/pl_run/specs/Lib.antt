@@ -4,3 +4,4 @@ pub mod Generated
 pub mod Tasks
 pub mod Plays
 pub mod Complete
+pub mod Faults

@@ -5,6 +5,7 @@ ghost use Rattle.pl_inputs.specs.declared.words.Generation.{Generation as Drawn}
 ghost use Rattle.pl_run.specs.Answers.{Answers, IsUntouched, moment};
 ghost use Rattle.pl_run.specs.Checks.{AnswersCheck};
 ghost use Rattle.pl_run.specs.Complete.{IsComplete, IsCompleteCheck};
+ghost use Rattle.pl_run.specs.Faults.{TellsFaults};
 ghost use Rattle.pl_run.specs.Generated.{AnswersGenerated};
 ghost use Rattle.pl_run.specs.Plays.{answer_of};
 ghost use Rattle.pl_run.specs.Tasks.{AnswersTask};
@@ -59,6 +60,12 @@ pub fn portland<S: Shelf>(alloc: Global, words: &[&str], shelf: &mut S) -> Statu
         (moment (S.held shelf.old) (S.read_faults shelf.old) (S.write_faults shelf.old))
         (moment (S.held shelf.new) (S.read_faults shelf.new) (S.write_faults shelf.new))
         topology result }
+
+    // Where a count of failed calls is larger than before, it is `ReadFault`, or `WriteFault`, whatever memory is found.
+    ensures faults { TellsFaults
+        (moment (S.held shelf.old) (S.read_faults shelf.old) (S.write_faults shelf.old))
+        (moment (S.held shelf.new) (S.read_faults shelf.new) (S.write_faults shelf.new))
+        result }
 {
     let Some(task) = task_of(words) else {
         return Status::Usage;

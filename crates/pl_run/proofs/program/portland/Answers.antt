@@ -1,7 +1,9 @@
 use Rattle.std.proofs.Common.{rules}
 use Rattle.pl_run.specs.Answers.{Answers, Moment, records_of, run_limits}
 use Rattle.pl_run.proofs.CompleteAnswers.{OneEnd}
+use Rattle.pl_run.specs.Plays.{answer_of}
 use Rattle.pl_run.proofs.CompleteStops.{is_complete}
+use Rattle.pl_run.proofs.FaultAnswers.{task_tells}
 use Rattle.pl_run.proofs.program.portland.Goals as goal
 
 pub returns-clause-complete : goal.returns-clause-complete
@@ -17,3 +19,14 @@ returns-clause-complete g c asked is =
     (c.one_script_one_end.ensures i.plan run_limits (records_of i) i.lines end other scene another plays also).0 in
     let answers : Answers old new asked c.status_of.result = search rules in
     is_complete one old new asked c.status_of.result answers
+
+pub returns-clause-faults : goal.returns-clause-faults
+returns-clause-faults g c =
+    let S = g.S.Shelf in
+    let old : Moment = record { held = S.held c.args.shelf.now; read_faults = S.read_faults c.args.shelf.now; write_faults = S.write_faults c.args.shelf.now } in
+    let new : Moment = record {
+      held = S.held c.perform.new.shelf;
+      read_faults = S.read_faults c.perform.new.shelf;
+      write_faults = S.write_faults c.perform.new.shelf;
+    } in
+    rw c.status_of.ensures (task_tells old new _ (answer_of c.perform.result) c.perform.ensures)

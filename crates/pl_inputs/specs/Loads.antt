@@ -1,6 +1,7 @@
 -- Why one file was not read.
-use Rattle.std.specs.Prelude.{◌≡◌, ◌≢◌, ℕ, ◌≤◌, List, Result, Ok, Err}
+use Rattle.std.specs.Prelude.{◌≡◌, ◌≢◌, ℕ, ◌≤◌, List, Option, Result, Ok, Err}
 use Rattle.pl_shelf.specs.Held.{Held, IsLonger}
+use Rattle.pl_shelf.specs.Capacity.{IsReadable}
 use Rattle.pl_shelf.specs.Faults.{Rose}
 use Rattle.pl_topology.specs.declared.error.TopologyError.TheVariants as topology
 use Rattle.pl_topology.specs.Meaning.{topology_of}
@@ -35,3 +36,8 @@ abbrev pub Reads : {T : Type 0} → Result T Status → ℕ → ℕ → Type 0
 Reads (Ok x) old new = new ≡ old
 Reads (Err (status.ReadFault name)) old new = (old ≤ new) × Rose old new
 Reads (Err e) old new = new ≡ old
+
+-- The shelf did not promise that a name can be read at which a read failed.
+abbrev pub IsUnpromised : (List ℕ → Option ℕ) → (List ℕ → Held) → Status → Type 0
+IsUnpromised capacity held (status.ReadFault name) = IsReadable (capacity name) (held name) → ⊥
+IsUnpromised capacity held _ = Unit {0}

@@ -2,7 +2,7 @@ ghost use Rattle.std.specs.Prelude.{◌≡◌, IfOk, IfErr};
 ghost use Rattle.pl_shelf.specs.Held.{Same};
 ghost use Rattle.pl_inputs.specs.Inputs.{AreRead};
 ghost use Rattle.pl_inputs.specs.Loaded.{inputs_of};
-ghost use Rattle.pl_inputs.specs.Loads.{Reads};
+ghost use Rattle.pl_inputs.specs.Loads.{IsUnpromised, Reads};
 ghost use Rattle.pl_inputs.specs.Met.{asked};
 ghost use Rattle.pl_inputs.specs.Unread.{IsUnread};
 
@@ -32,6 +32,8 @@ pub fn load_inputs<S: Shelf>(
     ensures same { Same (S.held shelf.old) (S.held shelf.new) }
     ensures reads { Reads result (S.read_faults shelf.old) (S.read_faults shelf.new) }
     ensures writes { S.write_faults shelf.new ≡ S.write_faults shelf.old }
+    ensures capacity { S.capacity shelf.new ≡ S.capacity shelf.old }
+    ensures unpromised { IfErr result (λ e. IsUnpromised (S.capacity shelf.new) (S.held shelf.new) e) }
 {
     let wiring = load_wiring(alloc, shelf, files.topology)?;
     let script = load_script(alloc, shelf, files.script, &wiring)?;

@@ -6,3 +6,4 @@ pub mod Sorted
 pub mod Appended
 pub mod Turns
 pub mod Names
+pub mod Fitting

@@ -1,5 +1,5 @@
 -- The names under which a run is saved all differ.
-use Rattle.std.proofs.Common.{◌≡◌, ◌≢◌, ◌∙◌, ℕ, suc, ◌+◌, ◌<◌, List, [], ◌∷◌, ◌++◌, length, drop, codes, slice_index_or, All, AllPairs, sym, ap, subst, append_assoc, arith, length-append, string_bytes}
+use Rattle.std.proofs.Common.{◌≡◌, ◌≢◌, ◌∙◌, ℕ, suc, ◌+◌, ◌<◌, List, [], ◌∷◌, ◌++◌, length, drop, codes, Option, slice_index_or, All, AllPairs, sym, ap, subst, append_assoc, arith, length-append, string_bytes}
 use Rattle.std.proofs.lemmas.List.{append_cancel_left, append_cancel_right, drop_at}
 use Rattle.std.proofs.lemmas.List.Elements.{All-cons, All-nil, All-append}
 use Rattle.std.proofs.lemmas.List.Kept.{AllPairs-cons}
@@ -14,8 +14,10 @@ use Rattle.pl_inputs.specs.Folders.{in_folder}
 use Rattle.pl_output.specs.Mail.{capture_name}
 use Rattle.pl_output.specs.Receipts.{captures_from, journal_name, saved_texts}
 use Rattle.pl_output.specs.InTurn.{BreaksInTurn, SavedInTurn}
+use Rattle.pl_output.specs.Room.{HaveRoom, HaveRoomInTurn}
 use Rattle.pl_output.specs.Saved.{AreSaved, BreaksOff, Saving}
 use Rattle.pl_output.specs.Texts.{AreTexts, savings_of}
+use Rattle.pl_output.proofs.Fitting.{room_in_turn}
 use Rattle.pl_output.proofs.Turns.{AreApart, breaks_off, saved_all}
 
 files_same : (out a b : List ℕ) → in_folder out a ≡ in_folder out b → a ≡ b
@@ -105,3 +107,11 @@ one_broken old new out name plan journal texts is are turn =
     let savings = saved_texts out plan journal (string_bytes texts.summary) in
     breaks_off old new savings name (texts_apart out plan journal (string_bytes texts.summary) is)
     (subst (λ s. BreaksInTurn old s name new) (texts_saved out plan journal texts are) turn)
+
+pub texts_room : (capacity : List ℕ → Option ℕ) (old : List ℕ → Held) (out : List ℕ) (plan : Plan) (journal : List Entry) (texts : Texts) → IsPlan plan →
+    AreTexts out plan journal texts → HaveRoom capacity old (saved_texts out plan journal (string_bytes texts.summary)) →
+    HaveRoomInTurn capacity old (savings_of plan journal texts)
+texts_room capacity old out plan journal texts is are room =
+    let savings = saved_texts out plan journal (string_bytes texts.summary) in
+    subst (λ s. HaveRoomInTurn capacity old s) (sym (texts_saved out plan journal texts are))
+    (room_in_turn capacity old savings (texts_apart out plan journal (string_bytes texts.summary) is) room)

@@ -8,3 +8,4 @@ pub mod Receipts
 pub mod InTurn
 pub mod Texts
 pub mod WiringText
+pub mod Room

@@ -1,5 +1,6 @@
 ghost use Rattle.std.specs.Prelude.{◌≡◌, ◌⊎◌, ◌++◌, All, OnOk, OnErr, codes};
 ghost use Rattle.pl_shelf.specs.Held.{Same, Changes, IsCutOff, created, with_end};
+ghost use Rattle.pl_shelf.specs.Capacity.{Fits, IsFull};
 ghost use Rattle.pl_shelf.specs.Faults.{Counts};
 ghost use Rattle.pl_journal.specs.Text.{IsNamed, journal_text, parted, texts};
 ghost use Rattle.pl_output.specs.Printed.{BreaksOff, IsPrinted};
@@ -32,6 +33,9 @@ pub fn save_journal<S: Shelf>(
         (created name.now (S.held shelf.old name.now)) (journal_text wiring.now journal.now)) }
     ensures faults { Counts result (S.write_faults shelf.old) (S.write_faults shelf.new)
         (S.read_faults shelf.old) (S.read_faults shelf.new) }
+    ensures capacity { S.capacity shelf.new ≡ S.capacity shelf.old }
+    ensures unfit { OnErr result (Fits (S.capacity shelf.old name.now)
+        (created name.now (S.held shelf.old name.now)) (journal_text wiring.now journal.now) → ⊥) }
 {
     shelf.create(name)?;
     append_entries(shelf, name, wiring, journal.as_slice(), piece)
@@ -52,6 +56,8 @@ fn append_entries<S: Shelf>(
         (S.held shelf.old name.now) (journal_text wiring.now entries.now)) }
     ensures faults { Counts result (S.write_faults shelf.old) (S.write_faults shelf.new)
         (S.read_faults shelf.old) (S.read_faults shelf.new) }
+    ensures capacity { S.capacity shelf.new ≡ S.capacity shelf.old }
+    ensures full { OnErr result (IsFull (S.capacity shelf.new name.now) (S.held shelf.new name.now)) }
 {
     piece.clear();
     print_entries(shelf, name, wiring, entries, piece)?;
@@ -72,6 +78,8 @@ fn print_entries<S: Shelf>(
         piece.old (journal_text wiring.now entries.now)) }
     ensures faults { Counts result (S.write_faults shelf.old) (S.write_faults shelf.new)
         (S.read_faults shelf.old) (S.read_faults shelf.new) }
+    ensures capacity { S.capacity shelf.new ≡ S.capacity shelf.old }
+    ensures full { OnErr result (IsFull (S.capacity shelf.new name.now) (S.held shelf.new name.now)) }
 {
     for entry in entries {
         print_line(shelf, name, &entry.words(wiring), piece)?;
@@ -92,6 +100,8 @@ fn print_line<S: Shelf>(
         piece.old (parted (texts words.now) ++ codes "\n")) }
     ensures faults { Counts result (S.write_faults shelf.old) (S.write_faults shelf.new)
         (S.read_faults shelf.old) (S.read_faults shelf.new) }
+    ensures capacity { S.capacity shelf.new ≡ S.capacity shelf.old }
+    ensures full { OnErr result (IsFull (S.capacity shelf.new name.now) (S.held shelf.new name.now)) }
 {
     piece.print_words(shelf, name, words)?;
     piece.print(shelf, name, b"\n")

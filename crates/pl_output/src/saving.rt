@@ -4,6 +4,7 @@ ghost use Rattle.pl_shelf.specs.Held.{standard_output};
 ghost use Rattle.pl_journal.specs.Text.{IsNamed, journal_text};
 ghost use Rattle.pl_output.specs.InTurn.{BreaksInTurn, BreaksOne, SavedInTurn, SavesOne};
 ghost use Rattle.pl_output.specs.Receipts.{saved_texts};
+ghost use Rattle.pl_output.specs.Room.{HasRoom, HaveRoom, HaveRoomInTurn};
 ghost use Rattle.pl_journal.specs.Savable.{IsSavable};
 ghost use Rattle.pl_output.specs.Saved.{AreSaved, BreaksOff};
 ghost use Rattle.pl_output.specs.Texts.{AreTexts, savings_of};
@@ -39,6 +40,10 @@ pub fn save_all<S: Shelf>(
         (saved_texts out wiring.now journal.now (string_bytes texts.summary)) name) }
     ensures faults { Counts result (S.write_faults shelf.old) (S.write_faults shelf.new)
         (S.read_faults shelf.old) (S.read_faults shelf.new) }
+    ensures capacity { S.capacity shelf.new ≡ S.capacity shelf.old }
+    ensures unfit { (out : List ℕ) → AreTexts out wiring.now journal.now texts →
+        OnErr result (HaveRoom (S.capacity shelf.old) (S.held shelf.old)
+        (saved_texts out wiring.now journal.now (string_bytes texts.summary)) → ⊥) }
 {
     // The wiring's invariant is that no two hosts have one name.
     let _hosts = wiring.hosts();
@@ -60,6 +65,9 @@ fn save_in_turn<S: Shelf>(
         (S.held shelf.new)) }
     ensures faults { Counts result (S.write_faults shelf.old) (S.write_faults shelf.new)
         (S.read_faults shelf.old) (S.read_faults shelf.new) }
+    ensures capacity { S.capacity shelf.new ≡ S.capacity shelf.old }
+    ensures unfit { OnErr result (HaveRoomInTurn (S.capacity shelf.old) (S.held shelf.old)
+        (savings_of wiring.now journal.now texts) → ⊥) }
 {
     let Texts {
         inboxes,
@@ -89,6 +97,9 @@ fn save_entries<S: Shelf>(
         (record { name = name; text = journal_text wiring.now journal.now })) }
     ensures faults { Counts result (S.write_faults shelf.old) (S.write_faults shelf.new)
         (S.read_faults shelf.old) (S.read_faults shelf.new) }
+    ensures capacity { S.capacity shelf.new ≡ S.capacity shelf.old }
+    ensures unfit { OnErr result (HasRoom (S.capacity shelf.old) (S.held shelf.old)
+        (record { name = name; text = journal_text wiring.now journal.now }) → ⊥) }
 {
     match save_journal(shelf, name.text(), wiring, journal, piece) {
         Ok(()) => Ok(()),
@@ -104,6 +115,9 @@ fn save_summary<S: Shelf>(shelf: &mut S, output: Name, summary: &str) -> Result<
         (record { name = output; text = summary.now })) }
     ensures faults { Counts result (S.write_faults shelf.old) (S.write_faults shelf.new)
         (S.read_faults shelf.old) (S.read_faults shelf.new) }
+    ensures capacity { S.capacity shelf.new ≡ S.capacity shelf.old }
+    ensures unfit { OnErr result (HasRoom (S.capacity shelf.old) (S.held shelf.old)
+        (record { name = output; text = summary.now }) → ⊥) }
 {
     match save(shelf, output.text(), summary.as_bytes()) {
         Ok(()) => Ok(()),
@@ -120,6 +134,9 @@ pub fn print<S: Shelf>(shelf: &mut S, output: Name, text: &str) -> Result<(), Na
         (record { name = output; text = text.now } ∷ []) name) }
     ensures faults { Counts result (S.write_faults shelf.old) (S.write_faults shelf.new)
         (S.read_faults shelf.old) (S.read_faults shelf.new) }
+    ensures capacity { S.capacity shelf.new ≡ S.capacity shelf.old }
+    ensures unfit { OnErr result (HasRoom (S.capacity shelf.old) (S.held shelf.old)
+        (record { name = output; text = text.now }) → ⊥) }
 {
     save_summary(shelf, output, text)
 }

@@ -7,3 +7,4 @@ pub mod Stages
 pub mod CompleteAnswers
 pub mod CompleteStops
 pub mod FaultAnswers
+pub mod Preparing

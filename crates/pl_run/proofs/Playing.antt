@@ -175,7 +175,7 @@ breaks_run old new i p to settled is out text name told saved reads grows rose =
 abbrev pub one : List ℕ → List ℕ → List Saving
 one name text = record { name = name; text = text } ∷ []
 
-one_is : (i : Inputs) (p : Played) → IsPlayedTo i p → (settled : Bool) (output text : List ℕ) → output ≡ standard_output → text ≡ summary_by p settled →
+pub one_is : (i : Inputs) (p : Played) → IsPlayedTo i p → (settled : Bool) (output text : List ℕ) → output ≡ standard_output → text ≡ summary_by p settled →
     one output text ≡ one standard_output (summary_of i p.fabric settled)
 one_is i p to settled output text is told = ap (λ n. one n text) is ∙ ap (λ t. one standard_output t) (told ∙ summary_as i p to settled)
 

@@ -1,6 +1,8 @@
+ghost use Rattle.pl_output.specs.Room.{HaveRoom};
 ghost use Rattle.pl_run.specs.Answers.{moment};
-ghost use Rattle.pl_run.specs.Checks.{AnswersCheck, EndsCheck};
+ghost use Rattle.pl_run.specs.Checks.{AnswersCheck, EndsCheck, line_of};
 ghost use Rattle.pl_run.specs.Plays.{answer_of};
+ghost use Rattle.pl_run.specs.Prepared.{IsPreparedCheck, NamesNoFault};
 
 use pl_inputs::{Status, load_wiring};
 use pl_output::{print, wiring_line};
@@ -10,20 +12,22 @@ use std::alloc::Global;
 
 /// Reads a topology, and prints the line of its wiring.
 pub(crate) fn check<S: Shelf>(alloc: Global, topology: &str, shelf: &mut S) -> Result<(), Status>
-    ensures { AnswersCheck
+    ensures answers { AnswersCheck
         (moment (S.held shelf.old) (S.read_faults shelf.old) (S.write_faults shelf.old))
         (moment (S.held shelf.new) (S.read_faults shelf.new) (S.write_faults shelf.new))
         topology.now (answer_of result) }
+    ensures prepared { IsPreparedCheck (S.capacity shelf.old) (S.held shelf.old) topology.now → NamesNoFault (answer_of result) }
 {
     let wiring = load_wiring(alloc, shelf, topology)?;
     print_wiring(alloc, &wiring, shelf)
 }
 
 fn print_wiring<S: Shelf>(alloc: Global, wiring: &Wiring, shelf: &mut S) -> Result<(), Status>
-    ensures { EndsCheck
+    ensures ends { EndsCheck
         (moment (S.held shelf.old) (S.read_faults shelf.old) (S.write_faults shelf.old))
         (moment (S.held shelf.new) (S.read_faults shelf.new) (S.write_faults shelf.new))
         wiring.now (answer_of result) }
+    ensures prepared { HaveRoom (S.capacity shelf.old) (S.held shelf.old) (line_of wiring.now) → NamesNoFault (answer_of result) }
 {
     let line = wiring_line(alloc, wiring)?;
     let output = Name::copy(alloc, "-")?;

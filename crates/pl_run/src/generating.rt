@@ -5,6 +5,7 @@ ghost use Rattle.pl_inputs.specs.Met.{IsWithin, asked};
 ghost use Rattle.pl_run.specs.Answers.{Comes, moment, printed_of};
 ghost use Rattle.pl_run.specs.Generated.{AnswersGenerated, IsUngenerated, ReadsGenerated, generated_files, without_read_fault};
 ghost use Rattle.pl_run.specs.Plays.{IsPlayedTo, answer_of};
+ghost use Rattle.pl_run.specs.Prepared.{HasRoomFor, IsPreparedGenerated, NamesNoFault};
 ghost use Rattle.pl_world.specs.Flying.{IsCounted};
 
 use crate::played::{Played, play};
@@ -35,10 +36,11 @@ pub(crate) fn generate_and_run<S: Shelf>(
     shelf: &mut S,
 ) -> Result<(), Status>
     requires { IsWithin generation }
-    ensures { AnswersGenerated
+    ensures answers { AnswersGenerated
         (moment (S.held shelf.old) (S.read_faults shelf.old) (S.write_faults shelf.old))
         (moment (S.held shelf.new) (S.read_faults shelf.new) (S.write_faults shelf.new))
         generation.k generation.number generation.frames (answer_of result) }
+    ensures prepared { IsPreparedGenerated (S.capacity shelf.old) (S.held shelf.old) generation → NamesNoFault (answer_of result) }
 {
     let inputs = generated_inputs(alloc, generation)?;
     play_and_print(alloc, inputs, shelf)
@@ -67,10 +69,12 @@ fn without_read_fault(status: Status) -> Status
 }
 
 fn play_and_print<S: Shelf>(alloc: Global, inputs: Inputs, shelf: &mut S) -> Result<(), Status>
-    ensures { Comes
+    ensures comes { Comes
         (moment (S.held shelf.old) (S.read_faults shelf.old) (S.write_faults shelf.old))
         (moment (S.held shelf.new) (S.read_faults shelf.new) (S.write_faults shelf.new))
         (inputs_of inputs) (printed_of (inputs_of inputs)) (answer_of result) }
+    ensures prepared { HasRoomFor (S.capacity shelf.old) (S.held shelf.old) (inputs_of inputs) (printed_of (inputs_of inputs)) →
+        NamesNoFault (answer_of result) }
 {
     let played = play(alloc, inputs)?;
     print_played(alloc, &played, shelf)
@@ -80,10 +84,12 @@ fn play_and_print<S: Shelf>(alloc: Global, inputs: Inputs, shelf: &mut S) -> Res
 fn print_played<S: Shelf>(alloc: Global, played: &Played, shelf: &mut S) -> Result<(), Status>
     requires counted { IsCounted played.now.fabric.world }
     requires many { length played.now.captures.items ≡ length played.now.fabric.world.plan.hosts }
-    ensures { (i : Given) → IsPlayedTo i played.now → Comes
+    ensures comes { (i : Given) → IsPlayedTo i played.now → Comes
         (moment (S.held shelf.old) (S.read_faults shelf.old) (S.write_faults shelf.old))
         (moment (S.held shelf.new) (S.read_faults shelf.new) (S.write_faults shelf.new))
         i (printed_of i) (answer_of result) }
+    ensures prepared { (i : Given) → IsPlayedTo i played.now →
+        HasRoomFor (S.capacity shelf.old) (S.held shelf.old) i (printed_of i) → NamesNoFault (answer_of result) }
 {
     let is_settled = settled(played.fabric.world());
     let summary = played.summary(alloc, is_settled)?;

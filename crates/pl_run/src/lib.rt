@@ -1,11 +1,13 @@
 //! The one call that does all that the program does, with its theorem.
 #![tactic(auto)]
 
+pub use in_memory::portland_in_memory;
 pub use pl_inputs::{Status, StepReason};
 pub use program::portland;
 
 mod check;
 mod generating;
+mod in_memory;
 mod played;
 mod program;
 mod running;

@@ -1,6 +1,6 @@
 ghost use Rattle.std.specs.Prelude.{◌≡◌, ◌↔◌, ℕ, List, Some, None};
 ghost use Rattle.pl_inputs.specs.Met.{IsWithinLimits, task, texts};
-ghost use Rattle.pl_inputs.specs.Words.{Asked, Check, Generate, Run, task_of};
+ghost use Rattle.pl_inputs.specs.Words.{Asked, Check, Generate, Run, Task as Asking, task_of};
 ghost use Rattle.pl_inputs.specs.declared.words.Generation.{Generation as Drawn};
 ghost use Rattle.pl_run.specs.Answers.{Answers, IsUntouched, moment};
 ghost use Rattle.pl_run.specs.Checks.{AnswersCheck};
@@ -8,6 +8,7 @@ ghost use Rattle.pl_run.specs.Complete.{IsComplete, IsCompleteCheck};
 ghost use Rattle.pl_run.specs.Faults.{TellsFaults};
 ghost use Rattle.pl_run.specs.Generated.{AnswersGenerated};
 ghost use Rattle.pl_run.specs.Plays.{answer_of};
+ghost use Rattle.pl_run.specs.Prepared.{IsPrepared, NamesNoFault};
 ghost use Rattle.pl_run.specs.Tasks.{AnswersTask};
 
 use crate::check::check;
@@ -66,6 +67,10 @@ pub fn portland<S: Shelf>(alloc: Global, words: &[&str], shelf: &mut S) -> Statu
         (moment (S.held shelf.old) (S.read_faults shelf.old) (S.write_faults shelf.old))
         (moment (S.held shelf.new) (S.read_faults shelf.new) (S.write_faults shelf.new))
         result }
+
+    // It is neither, where the shelf promises that all that is read can be, and has room for all that is saved.
+    ensures prepared { (t : Asking) → task_of (texts words.now) ≡ Some t →
+        IsPrepared (S.capacity shelf.old) (S.held shelf.old) t → NamesNoFault result }
 {
     let Some(task) = task_of(words) else {
         return Status::Usage;
@@ -85,10 +90,11 @@ fn status_of(ended: Result<(), Status>) -> Status
 
 fn perform<S: Shelf>(alloc: Global, asked: &Task<'_>, shelf: &mut S) -> Result<(), Status>
     requires { IsWithinLimits asked.now }
-    ensures { AnswersTask
+    ensures answers { AnswersTask
         (moment (S.held shelf.old) (S.read_faults shelf.old) (S.write_faults shelf.old))
         (moment (S.held shelf.new) (S.read_faults shelf.new) (S.write_faults shelf.new))
         (task asked.now) (answer_of result) }
+    ensures prepared { IsPrepared (S.capacity shelf.old) (S.held shelf.old) (task asked.now) → NamesNoFault (answer_of result) }
 {
     match asked {
         Task::Run(files) => run(alloc, files, shelf),

@@ -6,6 +6,7 @@ ghost use Rattle.pl_journal.specs.Savable.{IsSavable};
 ghost use Rattle.pl_output.specs.Texts.{AreTexts};
 ghost use Rattle.pl_run.specs.Answers.{Answers, Comes, moment, texts_of};
 ghost use Rattle.pl_run.specs.Plays.{IsPlayedTo, answer_of, summary_by};
+ghost use Rattle.pl_run.specs.Prepared.{HasRoomFor, IsPreparedRun, NamesNoFault};
 ghost use Rattle.pl_world.specs.Flying.{IsCounted};
 
 use crate::played::{Played, play};
@@ -18,10 +19,11 @@ use std::alloc::Global;
 
 /// Reads what the words name, plays the script to its end, and saves what came of it.
 pub(crate) fn run<S: Shelf>(alloc: Global, files: &Files<'_>, shelf: &mut S) -> Result<(), Status>
-    ensures { Answers
+    ensures answers { Answers
         (moment (S.held shelf.old) (S.read_faults shelf.old) (S.write_faults shelf.old))
         (moment (S.held shelf.new) (S.read_faults shelf.new) (S.write_faults shelf.new))
         (asked files.now) (answer_of result) }
+    ensures prepared { IsPreparedRun (S.capacity shelf.old) (S.held shelf.old) (asked files.now) → NamesNoFault (answer_of result) }
 {
     let inputs = load_inputs(alloc, shelf, files)?;
     play_and_save(alloc, files.out, inputs, shelf)
@@ -33,10 +35,12 @@ fn play_and_save<S: Shelf>(
     inputs: Inputs,
     shelf: &mut S,
 ) -> Result<(), Status>
-    ensures { Comes
+    ensures comes { Comes
         (moment (S.held shelf.old) (S.read_faults shelf.old) (S.write_faults shelf.old))
         (moment (S.held shelf.new) (S.read_faults shelf.new) (S.write_faults shelf.new))
         (inputs_of inputs) (texts_of out.now (inputs_of inputs)) (answer_of result) }
+    ensures prepared { HasRoomFor (S.capacity shelf.old) (S.held shelf.old) (inputs_of inputs) (texts_of out.now (inputs_of inputs)) →
+        NamesNoFault (answer_of result) }
 {
     let played = play(alloc, inputs)?;
     save_played(alloc, out, &played, shelf)
@@ -52,10 +56,12 @@ fn save_played<S: Shelf>(
     requires counted { IsCounted played.now.fabric.world }
     requires savable { All (IsSavable played.now.fabric.world.plan) played.now.fabric.world.journal }
     requires many { length played.now.captures.items ≡ length played.now.fabric.world.plan.hosts }
-    ensures { (i : Given) → IsPlayedTo i played.now → Comes
+    ensures comes { (i : Given) → IsPlayedTo i played.now → Comes
         (moment (S.held shelf.old) (S.read_faults shelf.old) (S.write_faults shelf.old))
         (moment (S.held shelf.new) (S.read_faults shelf.new) (S.write_faults shelf.new))
         i (texts_of out.now i) (answer_of result) }
+    ensures prepared { (i : Given) → IsPlayedTo i played.now →
+        HasRoomFor (S.capacity shelf.old) (S.held shelf.old) i (texts_of out.now i) → NamesNoFault (answer_of result) }
 {
     let world = played.fabric.world();
     let is_settled = settled(world);

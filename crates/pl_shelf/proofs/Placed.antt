@@ -9,7 +9,7 @@ use Rattle.std.proofs.lemmas.Bool.{false_from_ne_true}
 use Rattle.std.proofs.lemmas.Map.Text.{is_eq-slice_cmp}
 use Rattle.std.proofs.lemmas.Slice.Eq.{bytes_eq-Decides}
 use Rattle.pl_shelf.specs.Held.{Held, absent, holds, Changes, with_end, emptied}
-use Rattle.pl_shelf.specs.MemoryShelf.{Place, Places, held_of, held_in, room_in, room_at, room_behind, put_changed, with_change, emptied_place, longer_place}
+use Rattle.pl_shelf.specs.MemoryShelf.{Place, Places, capacity_in, held_of, held_in, room_in, room_at, room_behind, put_changed, with_change, emptied_place, longer_place}
 
 at_name : (name : List ℕ) → eq_by_cmp (slice_cmp nat_cmp) name name ≡ true
 at_name name = is_eq-slice_cmp name name ∙ (bytes_eq-Decides name name).1 refl
@@ -93,3 +93,29 @@ put_none places name (Some p) is =
 -- no bytes more leave all as it is
 pub longer_none : (places : Places) (name : List ℕ) → with_change places name (longer_place []) ≡ places
 longer_none places name = put_none places name (get places name) refl
+
+cond_room : (b : Bool) (x y : Option Place) → (b ≡ true → option_map (λ p. p.room) x ≡ option_map (λ p. p.room) y) →
+    option_map (λ p. p.room) (cond b x y) ≡ option_map (λ p. p.room) y
+cond_room true x y same = same refl
+cond_room false x y same = refl
+
+room_put : (places : Places) (name : List ℕ) (change : Place → Place) → ((p : Place) → (change p).room ≡ p.room) → (o : Option Place) →
+    get places name ≡ o → (q : List ℕ) → capacity_in (put_changed places name change o) q ≡ capacity_in places q
+room_put places name change keeps None is q = refl
+room_put places name change keeps (Some p) is q =
+    ap (option_map (λ r. r.room)) (get-insert nat_list_cmp_total places name (change p) q)
+    ∙ cond_room _ _ _
+    (λ tied.
+    let here : q ≡ name = (bytes_eq-Decides q name).0 (sym (is_eq-slice_cmp q name) ∙ tied) in
+    ap (λ n. Some n) (keeps p) ∙ sym (ap (option_map (λ r. r.room)) (ap (get places) here ∙ is)))
+
+-- a change that keeps a place's room keeps what each name may hold
+capacity_kept : (places : Places) (name : List ℕ) (change : Place → Place) → ((p : Place) → (change p).room ≡ p.room) →
+    capacity_in (with_change places name change) ≡ capacity_in places
+capacity_kept places name change keeps = λ i q. room_put places name change keeps (get places name) refl q i
+
+pub emptied_capacity : (places : Places) (name : List ℕ) → capacity_in (with_change places name emptied_place) ≡ capacity_in places
+emptied_capacity places name = capacity_kept places name emptied_place (λ p. refl)
+
+pub longer_capacity : (places : Places) (name more : List ℕ) → capacity_in (with_change places name (longer_place more)) ≡ capacity_in places
+longer_capacity places name more = capacity_kept places name (longer_place more) (λ p. refl)

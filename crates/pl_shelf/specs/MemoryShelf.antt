@@ -1,5 +1,5 @@
 -- What a memory shelf is, and what each call makes of it.
-use Rattle.std.specs.Prelude.{ℕ, ◌+◌, ◌-◌, ◌^◌, List, [], ◌++◌, length, min, map, Contains, Option, None, Some, option_and_then, if◌then◌else◌, refl, String}
+use Rattle.std.specs.Prelude.{ℕ, ◌+◌, ◌-◌, ◌^◌, List, [], ◌∷◌, ◌++◌, length, min, map, Contains, Option, None, Some, option_and_then, if◌then◌else◌, refl, String}
 use Rattle.std.specs.Option.{option_map}
 use Rattle.std.specs.Ordering.{nat_cmp}
 use Rattle.std.specs.Cmp.Lexicographic.{slice_cmp}
@@ -77,6 +77,18 @@ room_at (Some p) = room_behind p.room p.content
 
 abbrev pub room_in : Places → List ℕ → ℕ
 room_in places name = room_at (get places name)
+
+-- how many bytes a name may hold; None where it was neither held nor allowed
+abbrev pub capacity_in : Places → List ℕ → Option ℕ
+capacity_in places name = option_map (λ p. p.room) (get places name)
+
+-- with a call that is to fail nothing is promised
+abbrev pub unless_failing : List ℕ → (List ℕ → Option ℕ) → List ℕ → Option ℕ
+unless_failing [] capacity = capacity
+unless_failing (call ∷ more) capacity = λ name. None
+
+abbrev pub capacity_of : MemoryState → List ℕ → Option ℕ
+capacity_of m = unless_failing m.failing (capacity_in m.places)
 
 -- the numbers of calls and of faults end at the last value of their type
 abbrev pub one_more : ℕ → ℕ

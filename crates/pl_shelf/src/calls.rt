@@ -1,6 +1,7 @@
 // The three calls of a shelf.
-ghost use Rattle.std.specs.Prelude.{◌≡◌, ℕ, ◌<◌, ◌≤◌, List, length, take, IfOk, OnOk, OnErr};
+ghost use Rattle.std.specs.Prelude.{◌≡◌, ℕ, ◌<◌, ◌≤◌, List, Option, None, length, take, IfOk, OnOk, OnErr};
 ghost use Rattle.pl_shelf.specs.Held.{Held, Same, Changes, IsRead, created, with_end};
+ghost use Rattle.pl_shelf.specs.Capacity.{IsFull, IsReadable};
 ghost use Rattle.pl_shelf.specs.Faults.{Counts};
 
 use crate::{ReadFailed, WriteFailed};
@@ -16,6 +17,10 @@ pub trait Shelf {
     /// How many calls of `create` and `write` failed so far. It ends at 2^64 - 1.
     ghost write_faults: { Self → ℕ };
 
+    /// How many bytes a name may hold, where the shelf promises that no call of it fails but for want
+    /// of room: what is held can be read, and the name can be created. None where nothing is promised.
+    ghost capacity: { Self → List ℕ → Option ℕ };
+
     /// Reads the bytes from offset `at` on into the front of the buffer, as many as the answer says.
     /// 0 with room in the buffer is the end of what the name holds. A name that is absent cannot be
     /// read.
@@ -24,7 +29,9 @@ pub trait Shelf {
         ensures read { IfOk result (λ n. IsRead (held self.old name.now) at n buf.new) }
         ensures same { Same (held self.old) (held self.new) }
         ensures faults { Counts result (read_faults self.old) (read_faults self.new)
-            (write_faults self.old) (write_faults self.new) };
+            (write_faults self.old) (write_faults self.new) }
+        ensures capacity { capacity self.new ≡ capacity self.old }
+        ensures unreadable { OnErr result (IsReadable (capacity self.new name.now) (held self.new name.now) → ⊥) };
 
     /// Leaves the name there with nothing in it. Standard output keeps what it has.
     fn create(&mut self, name: &str) -> Result<(), WriteFailed>
@@ -32,7 +39,9 @@ pub trait Shelf {
             (created name.now (held self.old name.now))) }
         ensures err { OnErr result (Same (held self.old) (held self.new)) }
         ensures faults { Counts result (write_faults self.old) (write_faults self.new)
-            (read_faults self.old) (read_faults self.new) };
+            (read_faults self.old) (read_faults self.new) }
+        ensures capacity { capacity self.new ≡ capacity self.old }
+        ensures unpromised { OnErr result (capacity self.new name.now ≡ None) };
 
     /// Adds a first part of the bytes at the end of what the name holds, and answers how many. It is
     /// not 0 unless there are none.
@@ -43,5 +52,7 @@ pub trait Shelf {
             (with_end (held self.old name.now) (take n bytes.now))) }
         ensures err { OnErr result (Same (held self.old) (held self.new)) }
         ensures faults { Counts result (write_faults self.old) (write_faults self.new)
-            (read_faults self.old) (read_faults self.new) };
+            (read_faults self.old) (read_faults self.new) }
+        ensures capacity { capacity self.new ≡ capacity self.old }
+        ensures full { OnErr result (IsFull (capacity self.new name.now) (held self.new name.now)) };
 }

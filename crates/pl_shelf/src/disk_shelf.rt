@@ -1,5 +1,5 @@
 // Files and standard output: the trusted edge.
-ghost use Rattle.std.specs.Prelude.{◌≡◌};
+ghost use Rattle.std.specs.Prelude.{◌≡◌, None};
 ghost use Rattle.pl_shelf.specs.Held.{untold};
 
 use crate::files::Handles;
@@ -8,7 +8,7 @@ use std::alloc::Global;
 use std::rt::Files;
 
 /// The system's files by their paths, and standard output as `-`. Both counts are 0 at first. It
-/// tells nothing of what a name holds.
+/// tells nothing of what a name holds, and promises nothing.
 ///
 /// A file stays open from one call to the next: the one that was read last, until a read comes to
 /// its end, and the one that was created or written last. `create` makes the folders above a file
@@ -39,6 +39,8 @@ impl<R: Files + Print + Drop> Shelf for DiskShelf<R> {
     ghost read_faults = { λ s. s.read_faults };
 
     ghost write_faults = { λ s. s.write_faults };
+
+    ghost capacity = { λ _ _. None };
 
     fn read_at(&mut self, name: &str, at: u64, buf: &mut [u8]) -> Result<usize, ReadFailed> {
         match self.handles.read_at(name, at, buf) {

@@ -2,8 +2,9 @@ ghost use Rattle.std.specs.Prelude.{◌≡◌, ◌≢◌, ◌-◌, ◌<◌, ◌�
 ghost use Rattle.std.specs.Option.{option_copied};
 ghost use Rattle.std.specs.FinMap.{get};
 ghost use Rattle.pl_shelf.specs.Held.{Same, Changes, IsRead, created, with_end, standard_output};
+ghost use Rattle.pl_shelf.specs.Capacity.{IsFull, IsReadable};
 ghost use Rattle.pl_shelf.specs.Faults.{Counts};
-ghost use Rattle.pl_shelf.specs.MemoryShelf.{IsToFail, allowed, content_in, counted, created_memory, empty_memory, held_in, longer_memory, one_more, placed, read_failed, room_in, write_failed};
+ghost use Rattle.pl_shelf.specs.MemoryShelf.{IsToFail, allowed, capacity_of, content_in, counted, created_memory, empty_memory, held_in, longer_memory, one_more, placed, read_failed, room_in, write_failed};
 
 use crate::kept::Kept;
 use crate::places::{add_at, content_of, empty_at, put};
@@ -136,6 +137,8 @@ impl Shelf for MemoryShelf {
 
     ghost write_faults = { λ m. m.write_faults };
 
+    ghost capacity = { λ m. capacity_of m };
+
     /// Reads as much as there is, up to the buffer's length.
     fn read_at(&mut self, name: &str, at: u64, buf: &mut [u8]) -> Result<usize, ReadFailed>
         ensures fails { IsErr result ↔ (IsToFail self.old ⊎ (content_in self.old.places name.now ≡ None)) }
@@ -150,6 +153,8 @@ impl Shelf for MemoryShelf {
         ensures same { Same (held_in self.old.places) (held_in self.new.places) }
         ensures faults { Counts result self.old.read_faults self.new.read_faults
             self.old.write_faults self.new.write_faults }
+        ensures capacity { capacity_of self.new ≡ capacity_of self.old }
+        ensures unreadable { OnErr result (IsReadable (capacity_of self.new name.now) (held_in self.new.places name.now) → ⊥) }
     {
         if !count_call(&mut self.calls, &self.failing)
             && let Some(content) = content_of(&self.files, name)
@@ -172,6 +177,8 @@ impl Shelf for MemoryShelf {
         ensures err { OnErr result (Same (held_in self.old.places) (held_in self.new.places)) }
         ensures faults { Counts result self.old.write_faults self.new.write_faults
             self.old.read_faults self.new.read_faults }
+        ensures capacity { capacity_of self.new ≡ capacity_of self.old }
+        ensures unpromised { OnErr result (capacity_of self.new name.now ≡ None) }
     {
         if !count_call(&mut self.calls, &self.failing)
             && (name == STANDARD_OUTPUT || empty_at(&mut self.files, name))
@@ -199,6 +206,8 @@ impl Shelf for MemoryShelf {
         ensures err { OnErr result (Same (held_in self.old.places) (held_in self.new.places)) }
         ensures faults { Counts result self.old.write_faults self.new.write_faults
             self.old.read_faults self.new.read_faults }
+        ensures capacity { capacity_of self.new ≡ capacity_of self.old }
+        ensures full { OnErr result (IsFull (capacity_of self.new name.now) (held_in self.new.places name.now)) }
     {
         if count_call(&mut self.calls, &self.failing) {
             self.write_faults = self.write_faults.saturating_add(1);

@@ -3,7 +3,7 @@ ghost use Rattle.std.specs.Prelude.{◌≡◌, ◌↔◌, length, min, take, IsT
 ghost use Rattle.std.specs.Option.{option_copied};
 ghost use Rattle.std.specs.FinMap.{get, insert};
 ghost use Rattle.pl_shelf.specs.Held.{Changes, emptied, with_end};
-ghost use Rattle.pl_shelf.specs.MemoryShelf.{places_of, content_in, held_in, room_in, with_change, emptied_place, longer_place};
+ghost use Rattle.pl_shelf.specs.MemoryShelf.{places_of, capacity_in, content_in, held_in, room_in, with_change, emptied_place, longer_place};
 
 use crate::kept::Kept;
 use std::alloc::{AllocError, Global};
@@ -37,6 +37,7 @@ pub fn empty_at(files: &mut BTreeMap<String, Kept>, name: &str) -> bool
     ensures after { places_of files.new ≡ with_change (places_of files.old) name.now emptied_place }
     ensures held { IsTrue result → Changes (held_in (places_of files.old)) (held_in (places_of files.new)) name.now
         (emptied (held_in (places_of files.old) name.now)) }
+    ensures capacity { capacity_in (places_of files.new) ≡ capacity_in (places_of files.old) }
 {
     match files.get_mut(name) {
         Some(kept) => {
@@ -56,6 +57,7 @@ pub fn add_at(files: &mut BTreeMap<String, Kept>, name: &str, bytes: &[u8], piec
     ensures held { Changes (held_in (places_of files.old)) (held_in (places_of files.new)) name.now
         (with_end (held_in (places_of files.old) name.now) (take result bytes.now)) }
     ensures none { result ≡ 0 → places_of files.new ≡ places_of files.old }
+    ensures capacity { capacity_in (places_of files.new) ≡ capacity_in (places_of files.old) }
 {
     match files.get_mut(name) {
         Some(kept) => kept.take(bytes, piece),

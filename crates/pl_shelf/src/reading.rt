@@ -1,5 +1,6 @@
 ghost use Rattle.std.specs.Prelude.{◌≡◌, ◌+◌, ◌≤◌, ◌<◌, length, vec_len, take, IfOk, OnOk, Err};
 ghost use Rattle.pl_shelf.specs.Held.{Same, IsWhole, IsLonger};
+ghost use Rattle.pl_shelf.specs.Capacity.{IsReadable};
 ghost use Rattle.pl_shelf.specs.Faults.{ReadCount};
 
 use crate::{LoadError, Shelf};
@@ -59,6 +60,9 @@ pub fn load<S: Shelf>(
     ensures same { Same (S.held shelf.old) (S.held shelf.new) }
     ensures faults { ReadCount result (S.read_faults shelf.old) (S.read_faults shelf.new) }
     ensures write_faults { S.write_faults shelf.new ≡ S.write_faults shelf.old }
+    ensures capacity { S.capacity shelf.new ≡ S.capacity shelf.old }
+    ensures unreadable { result ≡ Err LoadError.Fault →
+        IsReadable (S.capacity shelf.new name.now) (S.held shelf.new name.now) → ⊥ }
 {
     let mut bytes = Vec::new(alloc);
     let mut filled = 0;

@@ -1,5 +1,6 @@
 ghost use Rattle.std.specs.Prelude.{◌≡◌, ◌⊎◌, OnOk, OnErr};
 ghost use Rattle.pl_shelf.specs.Held.{Same, Changes, IsCutOff, created, with_end};
+ghost use Rattle.pl_shelf.specs.Capacity.{Fits, IsFull};
 ghost use Rattle.pl_shelf.specs.Faults.{Counts};
 
 use crate::{SaveError, Shelf};
@@ -13,6 +14,8 @@ pub fn append<S: Shelf>(shelf: &mut S, name: &str, bytes: &[u8]) -> Result<(), S
         (S.held shelf.old name.now) bytes.now) }
     ensures faults { Counts result (S.write_faults shelf.old) (S.write_faults shelf.new)
         (S.read_faults shelf.old) (S.read_faults shelf.new) }
+    ensures capacity { S.capacity shelf.new ≡ S.capacity shelf.old }
+    ensures full { OnErr result (IsFull (S.capacity shelf.new name.now) (S.held shelf.new name.now)) }
 {
     let mut rest = bytes;
     while !rest.is_empty() {
@@ -32,6 +35,9 @@ pub fn save<S: Shelf>(shelf: &mut S, name: &str, bytes: &[u8]) -> Result<(), Sav
         (created name.now (S.held shelf.old name.now)) bytes.now) }
     ensures faults { Counts result (S.write_faults shelf.old) (S.write_faults shelf.new)
         (S.read_faults shelf.old) (S.read_faults shelf.new) }
+    ensures capacity { S.capacity shelf.new ≡ S.capacity shelf.old }
+    ensures unfit { OnErr result (Fits (S.capacity shelf.old name.now)
+        (created name.now (S.held shelf.old name.now)) bytes.now → ⊥) }
 {
     shelf.create(name)?;
     append(shelf, name, bytes)

@@ -4,7 +4,7 @@ ghost use Rattle.pl_shelf.specs.Held.{Same};
 ghost use Rattle.pl_inputs.specs.Gathered.{IsUngathered, IsUntaken, IsRefusedBy};
 ghost use Rattle.pl_inputs.specs.Inputs.{AreCaptures, IsCaptureAt, all_bytes, captures_limit};
 ghost use Rattle.pl_inputs.specs.Loaded.{files_of};
-ghost use Rattle.pl_inputs.specs.Loads.{Reads};
+ghost use Rattle.pl_inputs.specs.Loads.{IsUnpromised, Reads};
 
 use crate::capture::Capture;
 use crate::folders::in_folder;
@@ -32,6 +32,8 @@ pub(crate) fn load_captures<S: Shelf>(
     ensures same { Same (S.held shelf.old) (S.held shelf.new) }
     ensures reads { Reads result (S.read_faults shelf.old) (S.read_faults shelf.new) }
     ensures writes { S.write_faults shelf.new ≡ S.write_faults shelf.old }
+    ensures capacity { S.capacity shelf.new ≡ S.capacity shelf.old }
+    ensures unpromised { IfErr result (λ e. IsUnpromised (S.capacity shelf.new) (S.held shelf.new) e) }
 {
     let mut captures = Vec::new(alloc);
     let mut left = CAPTURES_LIMIT;
@@ -58,6 +60,8 @@ fn load_capture<S: Shelf>(
     ensures same { Same (S.held shelf.old) (S.held shelf.new) }
     ensures reads { Reads result (S.read_faults shelf.old) (S.read_faults shelf.new) }
     ensures writes { S.write_faults shelf.new ≡ S.write_faults shelf.old }
+    ensures capacity { S.capacity shelf.new ≡ S.capacity shelf.old }
+    ensures unpromised { IfErr result (λ e. IsUnpromised (S.capacity shelf.new) (S.held shelf.new) e) }
 {
     match &host.capture {
         None => Ok(Capture::none(alloc)),

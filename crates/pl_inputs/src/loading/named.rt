@@ -1,7 +1,7 @@
 ghost use Rattle.std.specs.Prelude.{◌≡◌, IfOk, IfErr};
 ghost use Rattle.pl_shelf.specs.Held.{Same};
 ghost use Rattle.pl_inputs.specs.Inputs.{IsLoaded};
-ghost use Rattle.pl_inputs.specs.Loads.{IsUnloaded, Reads};
+ghost use Rattle.pl_inputs.specs.Loads.{IsUnloaded, IsUnpromised, Reads};
 
 use crate::status::Status;
 use pl_shelf::{Bytes, LoadError, Shelf, load};
@@ -20,6 +20,8 @@ pub(crate) fn load_named<S: Shelf>(
     ensures same { Same (S.held shelf.old) (S.held shelf.new) }
     ensures reads { Reads result (S.read_faults shelf.old) (S.read_faults shelf.new) }
     ensures writes { S.write_faults shelf.new ≡ S.write_faults shelf.old }
+    ensures capacity { S.capacity shelf.new ≡ S.capacity shelf.old }
+    ensures unpromised { IfErr result (λ e. IsUnpromised (S.capacity shelf.new) (S.held shelf.new) e) }
 {
     match load(alloc, shelf, name.text(), limit) {
         Ok(bytes) => Ok(bytes),

@@ -4,7 +4,7 @@ ghost use Rattle.pl_topology.specs.Meaning.{topology_of};
 ghost use Rattle.pl_script.specs.Meaning.{script_of};
 ghost use Rattle.pl_inputs.specs.Inputs.{HasLines, HasPlan};
 ghost use Rattle.pl_inputs.specs.Refusals.{IsRefusedPlan, IsRefusedScript};
-ghost use Rattle.pl_inputs.specs.Loads.{IsUnplanned, IsUnscripted, Reads};
+ghost use Rattle.pl_inputs.specs.Loads.{IsUnplanned, IsUnpromised, IsUnscripted, Reads};
 
 use crate::loading::named::load_named;
 use crate::status::Status;
@@ -25,6 +25,8 @@ pub fn load_wiring<S: Shelf>(alloc: Global, shelf: &mut S, name: &str) -> Result
     ensures same { Same (S.held shelf.old) (S.held shelf.new) }
     ensures reads { Reads result (S.read_faults shelf.old) (S.read_faults shelf.new) }
     ensures writes { S.write_faults shelf.new ≡ S.write_faults shelf.old }
+    ensures capacity { S.capacity shelf.new ≡ S.capacity shelf.old }
+    ensures unpromised { IfErr result (λ e. IsUnpromised (S.capacity shelf.new) (S.held shelf.new) e) }
 {
     let name = Name::copy(alloc, name)?;
     let file = load_named(alloc, shelf, name, TEXT_LIMIT)?;
@@ -43,6 +45,8 @@ pub(crate) fn load_script<S: Shelf>(
     ensures same { Same (S.held shelf.old) (S.held shelf.new) }
     ensures reads { Reads result (S.read_faults shelf.old) (S.read_faults shelf.new) }
     ensures writes { S.write_faults shelf.new ≡ S.write_faults shelf.old }
+    ensures capacity { S.capacity shelf.new ≡ S.capacity shelf.old }
+    ensures unpromised { IfErr result (λ e. IsUnpromised (S.capacity shelf.new) (S.held shelf.new) e) }
 {
     let name = Name::copy(alloc, name)?;
     let file = load_named(alloc, shelf, name, TEXT_LIMIT)?;

@@ -1,4 +1,5 @@
 ghost use Rattle.std.specs.Prelude.{◌≡◌, OnOk, OnErr};
+ghost use Rattle.pl_shelf.specs.Capacity.{IsFull};
 ghost use Rattle.pl_shelf.specs.Faults.{Counts};
 ghost use Rattle.pl_journal.specs.Text.{field_text, parted, text_after_blank, texts};
 ghost use Rattle.pl_output.specs.Printed.{BreaksOff, IsPrinted};
@@ -21,6 +22,8 @@ impl Piece {
             self.old (parted (texts words.now))) }
         ensures faults { Counts result (S.write_faults shelf.old) (S.write_faults shelf.new)
             (S.read_faults shelf.old) (S.read_faults shelf.new) }
+        ensures capacity { S.capacity shelf.new ≡ S.capacity shelf.old }
+        ensures full { OnErr result (IsFull (S.capacity shelf.new name.now) (S.held shelf.new name.now)) }
     {
         self.print(shelf, name, words.word.as_bytes())?;
         for field in words.fields.as_slice() {
@@ -42,6 +45,8 @@ impl Piece {
             self.old (text_after_blank field.entry)) }
         ensures faults { Counts result (S.write_faults shelf.old) (S.write_faults shelf.new)
             (S.read_faults shelf.old) (S.read_faults shelf.new) }
+        ensures capacity { S.capacity shelf.new ≡ S.capacity shelf.old }
+        ensures full { OnErr result (IsFull (S.capacity shelf.new name.now) (S.held shelf.new name.now)) }
     {
         match field {
             None => Ok(()),
@@ -64,6 +69,8 @@ impl Piece {
             self.old (field_text field.entry)) }
         ensures faults { Counts result (S.write_faults shelf.old) (S.write_faults shelf.new)
             (S.read_faults shelf.old) (S.read_faults shelf.new) }
+        ensures capacity { S.capacity shelf.new ≡ S.capacity shelf.old }
+        ensures full { OnErr result (IsFull (S.capacity shelf.new name.now) (S.held shelf.new name.now)) }
     {
         match field {
             Field::Number(n) => self.print_number(shelf, name, n),

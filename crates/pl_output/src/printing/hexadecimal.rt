@@ -1,5 +1,6 @@
 ghost use Rattle.std.specs.Prelude.{◌≡◌, ◌≤◌, length, OnOk, OnErr};
 ghost use Rattle.hex.specs.Hex.{encode_lower};
+ghost use Rattle.pl_shelf.specs.Capacity.{IsFull};
 ghost use Rattle.pl_shelf.specs.Faults.{Counts};
 ghost use Rattle.pl_frame.specs.Address.{hex_pair, mac_text};
 ghost use Rattle.pl_output.specs.Printed.{BreaksOff, IsPrinted};
@@ -25,6 +26,8 @@ impl Piece {
             self.old (encode_lower bytes.now)) }
         ensures faults { Counts result (S.write_faults shelf.old) (S.write_faults shelf.new)
             (S.read_faults shelf.old) (S.read_faults shelf.new) }
+        ensures capacity { S.capacity shelf.new ≡ S.capacity shelf.old }
+        ensures full { OnErr result (IsFull (S.capacity shelf.new name.now) (S.held shelf.new name.now)) }
     {
         let mut rest = bytes;
         while !rest.is_empty() {
@@ -48,6 +51,8 @@ impl Piece {
             self.old (encode_lower chunk.now)) }
         ensures faults { Counts result (S.write_faults shelf.old) (S.write_faults shelf.new)
             (S.read_faults shelf.old) (S.read_faults shelf.new) }
+        ensures capacity { S.capacity shelf.new ≡ S.capacity shelf.old }
+        ensures full { OnErr result (IsFull (S.capacity shelf.new name.now) (S.held shelf.new name.now)) }
     {
         let mut digits = [0; 2 * CHUNK_LEN];
         let digits = &mut digits[..2 * chunk.len()];
@@ -68,6 +73,8 @@ impl Piece {
             self.old (mac_text mac)) }
         ensures faults { Counts result (S.write_faults shelf.old) (S.write_faults shelf.new)
             (S.read_faults shelf.old) (S.read_faults shelf.new) }
+        ensures capacity { S.capacity shelf.new ≡ S.capacity shelf.old }
+        ensures full { OnErr result (IsFull (S.capacity shelf.new name.now) (S.held shelf.new name.now)) }
     {
         self.print(shelf, name, &address_text(mac))
     }

@@ -1,5 +1,6 @@
 ghost use Rattle.std.specs.Prelude.{◌≡◌, ◌++◌, OnOk, OnErr, codes, decimal};
 ghost use Rattle.std.specs.List.{flat_map};
+ghost use Rattle.pl_shelf.specs.Capacity.{IsFull};
 ghost use Rattle.pl_shelf.specs.Faults.{Counts};
 ghost use Rattle.pl_wiring.specs.Labels.{label_text};
 ghost use Rattle.pl_output.specs.Printed.{BreaksOff, IsPrinted};
@@ -22,6 +23,8 @@ impl Piece {
             self.old (label_text label)) }
         ensures faults { Counts result (S.write_faults shelf.old) (S.write_faults shelf.new)
             (S.read_faults shelf.old) (S.read_faults shelf.new) }
+        ensures capacity { S.capacity shelf.new ≡ S.capacity shelf.old }
+        ensures full { OnErr result (IsFull (S.capacity shelf.new name.now) (S.held shelf.new name.now)) }
     {
         let (letter, first, second) = parts(label);
         let mut first_digits = itoa::Buffer::new();
@@ -44,6 +47,8 @@ impl Piece {
             self.old (flat_map (λ part. part.now) parts.now)) }
         ensures faults { Counts result (S.write_faults shelf.old) (S.write_faults shelf.new)
             (S.read_faults shelf.old) (S.read_faults shelf.new) }
+        ensures capacity { S.capacity shelf.new ≡ S.capacity shelf.old }
+        ensures full { OnErr result (IsFull (S.capacity shelf.new name.now) (S.held shelf.new name.now)) }
     {
         for part in parts {
             self.print(shelf, name, part)?;
@@ -64,6 +69,8 @@ impl Piece {
             self.old (decimal n)) }
         ensures faults { Counts result (S.write_faults shelf.old) (S.write_faults shelf.new)
             (S.read_faults shelf.old) (S.read_faults shelf.new) }
+        ensures capacity { S.capacity shelf.new ≡ S.capacity shelf.old }
+        ensures full { OnErr result (IsFull (S.capacity shelf.new name.now) (S.held shelf.new name.now)) }
     {
         let mut buffer = itoa::Buffer::new();
         self.print(shelf, name, buffer.format(n).as_bytes())

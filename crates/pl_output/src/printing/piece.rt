@@ -1,5 +1,6 @@
 ghost use Rattle.std.specs.Prelude.{◌≡◌, ◌+◌, ◌-◌, ◌≤◌, [], ◌++◌, length, IfOk, OnOk, OnErr};
 ghost use Rattle.pl_shelf.specs.Held.{Changes, IsCutOff, with_end};
+ghost use Rattle.pl_shelf.specs.Capacity.{IsFull};
 ghost use Rattle.pl_shelf.specs.Faults.{Counts};
 ghost use Rattle.pl_output.specs.Printed.{BreaksOff, IsPrinted};
 
@@ -55,6 +56,8 @@ impl Piece {
             self.old text.now) }
         ensures faults { Counts result (S.write_faults shelf.old) (S.write_faults shelf.new)
             (S.read_faults shelf.old) (S.read_faults shelf.new) }
+        ensures capacity { S.capacity shelf.new ≡ S.capacity shelf.old }
+        ensures full { OnErr result (IsFull (S.capacity shelf.new name.now) (S.held shelf.new name.now)) }
     {
         let mut rest = text;
         while rest.len() > self.room() {
@@ -76,6 +79,8 @@ impl Piece {
             (S.held shelf.old name.now) self.old) }
         ensures faults { Counts result (S.write_faults shelf.old) (S.write_faults shelf.new)
             (S.read_faults shelf.old) (S.read_faults shelf.new) }
+        ensures capacity { S.capacity shelf.new ≡ S.capacity shelf.old }
+        ensures full { OnErr result (IsFull (S.capacity shelf.new name.now) (S.held shelf.new name.now)) }
     {
         append(shelf, name, &self.bytes)?;
         self.clear();

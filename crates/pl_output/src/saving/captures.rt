@@ -2,11 +2,13 @@ ghost use Rattle.std.specs.Prelude.{◌≡◌, ◌^◌, ◌<◌, ◌≤◌, ◌�
 ghost use Rattle.std.specs.List.{flat_map};
 ghost use Rattle.pl_capture.specs.declared.endianness.Endianness.TheVariants.{Little};
 ghost use Rattle.pl_capture.specs.Spelling.{packet_bytes, saved_bytes, saved_packet};
+ghost use Rattle.pl_shelf.specs.Capacity.{Fits, IsFull};
 ghost use Rattle.pl_shelf.specs.Faults.{Counts};
 ghost use Rattle.pl_shelf.specs.Held.{Changes, IsCutOff, Same, created, with_end};
 ghost use Rattle.pl_output.specs.InTurn.{BreaksInTurn, BreaksOne, SavedInTurn, SavesOne};
 ghost use Rattle.pl_output.specs.Mail.{frame_at, packets_at};
 ghost use Rattle.pl_output.specs.Receipts.{capture_in};
+ghost use Rattle.pl_output.specs.Room.{HasRoom, HaveRoomInTurn};
 ghost use Rattle.pl_journal.specs.Savable.{ArrivesCarried};
 
 use crate::saving::inbox::Inbox;
@@ -31,6 +33,9 @@ pub(crate) fn save_captures<S: Shelf>(
         (S.held shelf.new)) }
     ensures faults { Counts result (S.write_faults shelf.old) (S.write_faults shelf.new)
         (S.read_faults shelf.old) (S.read_faults shelf.new) }
+    ensures capacity { S.capacity shelf.new ≡ S.capacity shelf.old }
+    ensures unfit { OnErr result (HaveRoomInTurn (S.capacity shelf.old) (S.held shelf.old)
+        (map (capture_in journal.now) inboxes.items) → ⊥) }
 {
     for inbox in inboxes {
         save_inbox(shelf, journal, inbox)?;
@@ -47,6 +52,9 @@ fn save_inbox<S: Shelf>(shelf: &mut S, journal: &Journal, inbox: Inbox) -> Resul
         (capture_in journal.now inbox)) }
     ensures faults { Counts result (S.write_faults shelf.old) (S.write_faults shelf.new)
         (S.read_faults shelf.old) (S.read_faults shelf.new) }
+    ensures capacity { S.capacity shelf.new ≡ S.capacity shelf.old }
+    ensures unfit { OnErr result (HasRoom (S.capacity shelf.old) (S.held shelf.old)
+        (capture_in journal.now inbox) → ⊥) }
 {
     match save_capture(shelf, inbox.name(), journal, inbox.receipts()) {
         Ok(()) => Ok(()),
@@ -72,6 +80,9 @@ pub(crate) fn save_capture<S: Shelf>(
         (saved_bytes (packets_at journal.now receipts.now))) }
     ensures faults { Counts result (S.write_faults shelf.old) (S.write_faults shelf.new)
         (S.read_faults shelf.old) (S.read_faults shelf.new) }
+    ensures capacity { S.capacity shelf.new ≡ S.capacity shelf.old }
+    ensures unfit { OnErr result (Fits (S.capacity shelf.old name.now)
+        (created name.now (S.held shelf.old name.now)) (saved_bytes (packets_at journal.now receipts.now)) → ⊥) }
 {
     save(shelf, name, &write_header())?;
     append_packets(shelf, name, journal, receipts)
@@ -93,6 +104,8 @@ fn append_packets<S: Shelf>(
         (flat_map (packet_bytes Little) (packets_at journal.now receipts.now))) }
     ensures faults { Counts result (S.write_faults shelf.old) (S.write_faults shelf.new)
         (S.read_faults shelf.old) (S.read_faults shelf.new) }
+    ensures capacity { S.capacity shelf.new ≡ S.capacity shelf.old }
+    ensures full { OnErr result (IsFull (S.capacity shelf.new name.now) (S.held shelf.new name.now)) }
 {
     for receipt in receipts {
         append_packet(shelf, name, *receipt, frame_at(journal, receipt.entry))?;
@@ -116,6 +129,8 @@ fn append_packet<S: Shelf>(
         (packet_bytes Little (saved_packet receipt.seconds receipt.micros frame.now))) }
     ensures faults { Counts result (S.write_faults shelf.old) (S.write_faults shelf.new)
         (S.read_faults shelf.old) (S.read_faults shelf.new) }
+    ensures capacity { S.capacity shelf.new ≡ S.capacity shelf.old }
+    ensures full { OnErr result (IsFull (S.capacity shelf.new name.now) (S.held shelf.new name.now)) }
 {
     let len = frame.len() as u32;
     append(

@@ -28,4 +28,5 @@ loop-entry-preserved g c =
           c.loop-entry.invariant.printed _ next;
       write_faults = c.in_ok-print_line.ensures.faults.ok ∙ c.loop-entry.invariant.write_faults;
       read_faults = c.in_ok-print_line.ensures.faults.other ∙ c.loop-entry.invariant.read_faults;
+      capacity = c.in_ok-print_line.ensures.capacity ∙ c.loop-entry.invariant.capacity;
     }

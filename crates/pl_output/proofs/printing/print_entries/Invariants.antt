@@ -8,4 +8,5 @@ invariant-loop-entry g l = record {
   printed : IsPrinted (g.S.Shelf.held l.fn.shelf) (g.S.Shelf.held l.shelf) l.name l.fn.piece l.piece (journal_text l.wiring (take l.entry-index l.entries));
   write_faults : g.S.Shelf.write_faults l.shelf ≡ g.S.Shelf.write_faults l.fn.shelf;
   read_faults : g.S.Shelf.read_faults l.shelf ≡ g.S.Shelf.read_faults l.fn.shelf;
+  capacity : g.S.Shelf.capacity l.shelf ≡ g.S.Shelf.capacity l.fn.shelf;
 }

@@ -4,6 +4,8 @@ use Rattle.pl_inputs.specs.Loaded.{inputs_of}
 use Rattle.pl_run.specs.Answers.{Comes, Moment, printed_of}
 use Rattle.pl_run.specs.Plays.{answer_of}
 use Rattle.pl_run.proofs.Ending.{unplayed_comes}
+use Rattle.pl_run.specs.Prepared.{NamesNoFault}
+use Rattle.pl_run.proofs.Preparing.{unplayed_names_none}
 use Rattle.pl_run.proofs.generating.play_and_print.Goals as goal
 
 pub print_played-requires-clause-counted : goal.print_played-requires-clause-counted
@@ -12,8 +14,8 @@ print_played-requires-clause-counted g c = c.in_ok-played.ensures.ok.over.counte
 pub print_played-requires-clause-many : goal.print_played-requires-clause-many
 print_played-requires-clause-many g c = c.in_ok-played.ensures.ok.many
 
-pub returns-in_err-played : goal.returns-in_err-played
-returns-in_err-played g c =
+pub returns-in_err-played-clause-comes : goal.returns-in_err-played-clause-comes
+returns-in_err-played-clause-comes g c =
     let S = g.S.Shelf in
     let old : Moment = record { held = S.held c.args.shelf.now; read_faults = S.read_faults c.args.shelf.now; write_faults = S.write_faults c.args.shelf.now } in
     let i = inputs_of c.args.inputs in
@@ -22,5 +24,14 @@ returns-in_err-played g c =
     (subst (λ e. Comes old old i (printed_of i) e) (sym p.2)
     (unplayed_comes old old (record { same = λ q. refl; reads = refl; writes = refl }) i (printed_of i) _ c.in_err-played.ensures.err))
 
-pub returns : goal.returns
-returns g c = c.print_played.ensures (inputs_of c.args.inputs) c.in_ok-played.ensures.ok
+pub returns-clause-comes : goal.returns-clause-comes
+returns-clause-comes g c = c.print_played.ensures.comes (inputs_of c.args.inputs) c.in_ok-played.ensures.ok
+
+pub returns-in_err-played-clause-prepared : goal.returns-in_err-played-clause-prepared
+returns-in_err-played-clause-prepared g c room =
+    let p = err_from_is_err_and c.from_residual.result c.from_residual.ensures.1 in
+    subst (λ r. NamesNoFault (answer_of r)) (sym p.1)
+    (subst (λ e. NamesNoFault e) (sym p.2) (unplayed_names_none (inputs_of c.args.inputs) _ c.in_err-played.ensures.err))
+
+pub returns-clause-prepared : goal.returns-clause-prepared
+returns-clause-prepared g c room = c.print_played.ensures.prepared (inputs_of c.args.inputs) c.in_ok-played.ensures.ok room

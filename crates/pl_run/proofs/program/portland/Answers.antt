@@ -29,4 +29,4 @@ returns-clause-faults g c =
       read_faults = S.read_faults c.perform.new.shelf;
       write_faults = S.write_faults c.perform.new.shelf;
     } in
-    rw c.status_of.ensures (task_tells old new _ (answer_of c.perform.result) c.perform.ensures)
+    rw c.status_of.ensures (task_tells old new _ (answer_of c.perform.result) c.perform.ensures.answers)

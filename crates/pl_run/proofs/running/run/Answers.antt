@@ -1,12 +1,16 @@
+use Rattle.std.proofs.Common.{sym, subst}
+use Rattle.std.proofs.lemmas.Result.{err_from_is_err_and}
 use Rattle.pl_inputs.specs.Loaded.{inputs_of}
 use Rattle.pl_inputs.specs.Met.{asked}
 use Rattle.pl_run.specs.Answers.{Moment, texts_of}
 use Rattle.pl_run.specs.Plays.{answer_of}
 use Rattle.pl_run.proofs.Ending.{comes_since, run_answers}
+use Rattle.pl_run.specs.Prepared.{NamesNoFault}
+use Rattle.pl_run.proofs.Preparing.{room_since, unread_names_none}
 use Rattle.pl_run.proofs.running.run.Goals as goal
 
-pub returns : goal.returns
-returns g c =
+pub returns-clause-answers : goal.returns-clause-answers
+returns-clause-answers g c =
     let S = g.S.Shelf in
     let old : Moment = record { held = S.held c.args.shelf.now; read_faults = S.read_faults c.args.shelf.now; write_faults = S.write_faults c.args.shelf.now } in
     let mid : Moment = record {
@@ -23,4 +27,23 @@ returns g c =
     let i = inputs_of c.in_ok-inputs.inputs in
     run_answers old new (asked c.args.files.now) i e.ok (answer_of c.play_and_save.result)
     (comes_since old mid new (record { same = e.same; reads = e.reads; writes = e.writes }) i (texts_of c.args.files.now.out.now i) (answer_of c.play_and_save.result)
-    c.play_and_save.ensures)
+    c.play_and_save.ensures.comes)
+
+pub returns-in_err-inputs-clause-prepared : goal.returns-in_err-inputs-clause-prepared
+returns-in_err-inputs-clause-prepared g c is =
+    let S = g.S.Shelf in
+    let p = err_from_is_err_and c.from_residual.result c.from_residual.ensures.1 in
+    let e = c.in_err-inputs.ensures in
+    subst (λ r. NamesNoFault (answer_of r)) (sym p.1)
+    (subst (λ e. NamesNoFault e) (sym p.2)
+    (unread_names_none (S.capacity c.args.shelf.now) (S.capacity c.load_inputs.new.shelf) (S.held c.args.shelf.now) (S.held c.load_inputs.new.shelf)
+    (asked c.args.files.now) e.capacity e.same is _ e.err e.unpromised))
+
+pub returns-clause-prepared : goal.returns-clause-prepared
+returns-clause-prepared g c is =
+    let S = g.S.Shelf in
+    let e = c.in_ok-inputs.ensures in
+    let i = inputs_of c.in_ok-inputs.inputs in
+    c.play_and_save.ensures.prepared
+    (room_since (S.capacity c.args.shelf.now) (S.capacity c.load_inputs.new.shelf) (S.held c.args.shelf.now) (S.held c.load_inputs.new.shelf) i
+    (texts_of c.args.files.now.out.now i) e.capacity e.same (is.saves i e.ok))

@@ -1,8 +1,8 @@
 use Rattle.std.proofs.Common.{◌≡◌, ◌∙◌, ap, sym, subst, min, length, Some, None, [], take, rules, arith}
 use Rattle.pl_shelf.specs.Held.{Changes, with_end}
-use Rattle.pl_shelf.specs.MemoryShelf.{places_of, held_in, with_change, longer_place}
+use Rattle.pl_shelf.specs.MemoryShelf.{places_of, capacity_in, held_in, with_change, longer_place}
 use Rattle.pl_shelf.proofs.Naming.{room_found, changed_found, changed_missing}
-use Rattle.pl_shelf.proofs.Placed.{longer_held, longer_none}
+use Rattle.pl_shelf.proofs.Placed.{longer_capacity, longer_held, longer_none}
 use Rattle.pl_shelf.proofs.places.add_at.Goals as goal
 
 pub returns-in-Some-clause-number : goal.returns-in-Some-clause-number
@@ -41,3 +41,8 @@ returns-in-Some-clause-none c = λ zero.
     returns-in-Some-clause-after c
     ∙ ap (λ k. with_change (places_of c.args.files.now) c.args.name.now (longer_place (take k c.args.bytes.now))) zero
     ∙ longer_none (places_of c.args.files.now) c.args.name.now
+
+pub returns-in-Some-clause-capacity : goal.returns-in-Some-clause-capacity
+returns-in-Some-clause-capacity c =
+    ap capacity_in (returns-in-Some-clause-after c)
+    ∙ longer_capacity (places_of c.args.files.now) c.args.name.now (take c.take.result c.args.bytes.now)

@@ -1,8 +1,8 @@
-use Rattle.std.proofs.Common.{Some, None, rules, sym, subst}
+use Rattle.std.proofs.Common.{◌∙◌, Some, None, ap, rules, sym, subst}
 use Rattle.pl_shelf.specs.Held.{Changes, emptied}
-use Rattle.pl_shelf.specs.MemoryShelf.{places_of, held_in, emptied_place}
+use Rattle.pl_shelf.specs.MemoryShelf.{places_of, capacity_in, held_in, emptied_place}
 use Rattle.pl_shelf.proofs.Naming.{get_found, changed_found, changed_missing}
-use Rattle.pl_shelf.proofs.Placed.{emptied_held}
+use Rattle.pl_shelf.proofs.Placed.{emptied_capacity, emptied_held}
 use Rattle.pl_shelf.proofs.places.empty_at.Goals as goal
 
 pub returns-in-Some-clause-there : goal.returns-in-Some-clause-there
@@ -31,3 +31,6 @@ returns-in-Some-clause-held c = λ _.
     subst (λ places. Changes (held_in old) (held_in places) name (emptied (held_in old name)))
     (sym (returns-in-Some-clause-after c))
     (emptied_held old name c.in-Some.kept.now (get_found c.args.files.now name (Some c.in-Some.kept.now) c.in-Some.ensures.value))
+
+pub returns-in-Some-clause-capacity : goal.returns-in-Some-clause-capacity
+returns-in-Some-clause-capacity c = ap capacity_in (returns-in-Some-clause-after c) ∙ emptied_capacity (places_of c.args.files.now) c.args.name.now

@@ -27,4 +27,5 @@ loop-filled-preserved g c =
       same = λ q. read.same q ∙ invariant.same q;
       read_faults = read.faults.ok ∙ invariant.read_faults;
       write_faults = read.faults.other ∙ invariant.write_faults;
+      capacity = read.capacity ∙ invariant.capacity;
     }

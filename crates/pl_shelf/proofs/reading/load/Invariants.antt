@@ -11,6 +11,7 @@ invariant-loop-filled g l = record {
   same : Same (g.S.Shelf.held l.fn.shelf) (g.S.Shelf.held l.shelf);
   read_faults : g.S.Shelf.read_faults l.shelf ≡ g.S.Shelf.read_faults l.fn.shelf;
   write_faults : g.S.Shelf.write_faults l.shelf ≡ g.S.Shelf.write_faults l.fn.shelf;
+  capacity : g.S.Shelf.capacity l.shelf ≡ g.S.Shelf.capacity l.fn.shelf;
 }
 
 abbrev pub decreases-loop-filled : goal.decreases-loop-filled

@@ -18,4 +18,5 @@ loop-rest-preserved g c =
           (written_more _ _ _ _ _ _ _ c.loop-rest.invariant.written changes);
       write_faults = c.in_ok-n.ensures.faults.ok ∙ c.loop-rest.invariant.write_faults;
       read_faults = c.in_ok-n.ensures.faults.other ∙ c.loop-rest.invariant.read_faults;
+      capacity = c.in_ok-n.ensures.capacity ∙ c.loop-rest.invariant.capacity;
     }

@@ -35,4 +35,5 @@ loop-n-preserved g c =
       gathers = rw (files, long) next;
       reads = search rules;
       writes = search rules;
+      capacity = c.in_ok-capture.ensures.capacity ∙ l.invariant.capacity;
     }

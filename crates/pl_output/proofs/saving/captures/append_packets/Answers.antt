@@ -26,4 +26,5 @@ loop-receipt-preserved g c =
           c.loop-receipt.invariant.written changes;
       write_faults = c.in_ok-append_packet.ensures.faults.ok ∙ c.loop-receipt.invariant.write_faults;
       read_faults = c.in_ok-append_packet.ensures.faults.other ∙ c.loop-receipt.invariant.read_faults;
+      capacity = c.in_ok-append_packet.ensures.capacity ∙ c.loop-receipt.invariant.capacity;
     }

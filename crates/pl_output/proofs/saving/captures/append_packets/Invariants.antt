@@ -13,4 +13,5 @@ invariant-loop-receipt g l = record {
       (flat_map (packet_bytes Little) (packets_at l.journal (drop l.receipt-index l.receipts)));
   write_faults : g.S.Shelf.write_faults l.shelf ≡ g.S.Shelf.write_faults l.fn.shelf;
   read_faults : g.S.Shelf.read_faults l.shelf ≡ g.S.Shelf.read_faults l.fn.shelf;
+  capacity : g.S.Shelf.capacity l.shelf ≡ g.S.Shelf.capacity l.fn.shelf;
 }

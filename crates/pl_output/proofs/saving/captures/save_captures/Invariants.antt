@@ -3,6 +3,7 @@ use Rattle.std.specs.Vec.Iter.{into_iter_items, into_iter_len}
 use Rattle.pl_shelf.specs.Held.{Held}
 use Rattle.pl_output.specs.InTurn.{BreaksInTurn, SavedInTurn}
 use Rattle.pl_output.specs.Receipts.{capture_in}
+use Rattle.pl_output.specs.Room.{HaveRoomInTurn}
 use Rattle.pl_output.proofs.saving.captures.save_captures.Given as goal
 
 abbrev pub invariant-loop-inbox : goal.invariant-loop-inbox
@@ -15,5 +16,8 @@ invariant-loop-inbox g l = record {
       BreaksInTurn (g.S.Shelf.held l.fn.shelf) (map (capture_in l.journal) (into_iter_items l.initial.inbox-iterator)) name new;
   write_faults : g.S.Shelf.write_faults l.shelf ≡ g.S.Shelf.write_faults l.fn.shelf;
   read_faults : g.S.Shelf.read_faults l.shelf ≡ g.S.Shelf.read_faults l.fn.shelf;
+  capacity : g.S.Shelf.capacity l.shelf ≡ g.S.Shelf.capacity l.fn.shelf;
+  room : HaveRoomInTurn (g.S.Shelf.capacity l.fn.shelf) (g.S.Shelf.held l.fn.shelf) (map (capture_in l.journal) (into_iter_items l.initial.inbox-iterator)) →
+      HaveRoomInTurn (g.S.Shelf.capacity l.fn.shelf) (g.S.Shelf.held l.shelf) (map (capture_in l.journal) (into_iter_items l.inbox-iterator));
   long : into_iter_len l.inbox-iterator ≡ length (into_iter_items l.inbox-iterator);
 }

@@ -5,3 +5,6 @@ returns-in-Ok-clause-ok g c = rw (c.name.ensures, c.receipts.ensures) at c.in-Ok
 
 pub returns-in-Err-clause-err : goal.returns-in-Err-clause-err
 returns-in-Err-clause-err g c = rw (c.name.ensures, c.receipts.ensures) at c.in-Err.ensures.err
+
+pub returns-in-Err-clause-unfit : goal.returns-in-Err-clause-unfit
+returns-in-Err-clause-unfit g c = rw (c.name.ensures, c.receipts.ensures) at c.in-Err.ensures.unfit

@@ -17,4 +17,5 @@ loop-rest-preserved g c =
           (printed_rest _ _ _ _ _ _ _ _ _ c.loop-rest.invariant.printed sent);
       write_faults = c.in_ok-send.ensures.faults.ok ∙ c.loop-rest.invariant.write_faults;
       read_faults = c.in_ok-send.ensures.faults.other ∙ c.loop-rest.invariant.read_faults;
+      capacity = c.in_ok-send.ensures.capacity ∙ c.loop-rest.invariant.capacity;
     }

@@ -7,6 +7,7 @@ invariant-loop-rest g l = record {
   printed : IsPrintedUpTo (g.S.Shelf.held l.fn.shelf) (g.S.Shelf.held l.shelf) l.name l.fn.self l.self l.bytes l.rest;
   write_faults : g.S.Shelf.write_faults l.shelf ≡ g.S.Shelf.write_faults l.fn.shelf;
   read_faults : g.S.Shelf.read_faults l.shelf ≡ g.S.Shelf.read_faults l.fn.shelf;
+  capacity : g.S.Shelf.capacity l.shelf ≡ g.S.Shelf.capacity l.fn.shelf;
 }
 
 abbrev pub decreases-loop-rest : goal.decreases-loop-rest

@@ -16,4 +16,5 @@ loop-part-preserved g c = record {
       c.loop-part.invariant.printed _ c.in_ok-print.ensures.ok;
   write_faults = c.in_ok-print.ensures.faults.ok ∙ c.loop-part.invariant.write_faults;
   read_faults = c.in_ok-print.ensures.faults.other ∙ c.loop-part.invariant.read_faults;
+  capacity = c.in_ok-print.ensures.capacity ∙ c.loop-part.invariant.capacity;
 }

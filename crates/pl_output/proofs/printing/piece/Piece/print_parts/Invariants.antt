@@ -8,4 +8,5 @@ invariant-loop-part g l = record {
   printed : IsPrinted (g.S.Shelf.held l.fn.shelf) (g.S.Shelf.held l.shelf) l.name l.fn.self l.self (flat_map (λ part. part.now) (take l.part-index l.parts));
   write_faults : g.S.Shelf.write_faults l.shelf ≡ g.S.Shelf.write_faults l.fn.shelf;
   read_faults : g.S.Shelf.read_faults l.shelf ≡ g.S.Shelf.read_faults l.fn.shelf;
+  capacity : g.S.Shelf.capacity l.shelf ≡ g.S.Shelf.capacity l.fn.shelf;
 }

@@ -26,6 +26,7 @@ loop-field-preserved g c =
           c.loop-field.invariant.printed _ next;
       write_faults = c.in_ok-print_after_blank.ensures.faults.ok ∙ c.loop-field.invariant.write_faults;
       read_faults = c.in_ok-print_after_blank.ensures.faults.other ∙ c.loop-field.invariant.read_faults;
+      capacity = c.in_ok-print_after_blank.ensures.capacity ∙ c.loop-field.invariant.capacity;
     }
 
 pub returns-clause-ok : goal.returns-clause-ok

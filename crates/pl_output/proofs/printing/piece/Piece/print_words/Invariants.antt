@@ -10,4 +10,5 @@ invariant-loop-field g l = record {
       (l.words.word.now ++ flat_map text_after_blank (take l.field-index l.words.fields));
   write_faults : g.S.Shelf.write_faults l.shelf ≡ g.S.Shelf.write_faults l.fn.shelf;
   read_faults : g.S.Shelf.read_faults l.shelf ≡ g.S.Shelf.read_faults l.fn.shelf;
+  capacity : g.S.Shelf.capacity l.shelf ≡ g.S.Shelf.capacity l.fn.shelf;
 }

@@ -1,0 +1,45 @@
+-- A shelf that is prepared for a command: what is read of it can be read, and it has room for what is saved.
+use Rattle.std.specs.Prelude.{ℕ, List, Option}
+use Rattle.pl_shelf.specs.Capacity.{IsReadable}
+use Rattle.pl_shelf.specs.Held.{Held}
+use Rattle.pl_wiring.specs.Plan.{Plan}
+use Rattle.pl_inputs.specs.declared.status.Status.{Status}
+use Rattle.pl_inputs.specs.declared.status.Status.TheVariants as status
+use Rattle.pl_inputs.specs.declared.words.Generation.{Generation}
+use Rattle.pl_inputs.specs.Inputs.{AreRead, HasPlan, Inputs}
+use Rattle.pl_inputs.specs.Unread.{IsReadName}
+use Rattle.pl_inputs.specs.Words.{Asked, Check, Generate, Run, Task}
+use Rattle.pl_output.specs.Room.{HaveRoom}
+use Rattle.pl_output.specs.Saved.{Saving}
+use Rattle.pl_run.specs.Answers.{IsPlayed, printed_of, texts_of}
+use Rattle.pl_run.specs.Checks.{line_of}
+use Rattle.pl_run.specs.Generated.{ReadsGenerated}
+
+-- there is room for what is saved of these inputs, once they were played
+abbrev pub HasRoomFor : (List ℕ → Option ℕ) → (List ℕ → Held) → (i : Inputs) → (IsPlayed i → List Saving) → Type 0
+HasRoomFor capacity held i texts = (is : IsPlayed i) → HaveRoom capacity held (texts is)
+
+-- for a run: each name that it reads, and whatever it then saves
+pub record IsPreparedRun (capacity : List ℕ → Option ℕ) (held : List ℕ → Held) (asked : Asked) : Type 0 where
+  pub reads : (name : List ℕ) → IsReadName held asked name → IsReadable (capacity name) (held name)
+  pub saves : (i : Inputs) → AreRead held asked i → HasRoomFor capacity held i (texts_of asked.out i)
+
+-- for a topology that is checked
+pub record IsPreparedCheck (capacity : List ℕ → Option ℕ) (held : List ℕ → Held) (topology : List ℕ) : Type 0 where
+  pub reads : IsReadable (capacity topology) (held topology)
+  pub prints : (plan : Plan) → HasPlan held topology plan → HaveRoom capacity held (line_of plan)
+
+-- for a run that is generated
+abbrev pub IsPreparedGenerated : (List ℕ → Option ℕ) → (List ℕ → Held) → Generation → Type 0
+IsPreparedGenerated capacity held g = (i : Inputs) → ReadsGenerated g i → HasRoomFor capacity held i (printed_of i)
+
+abbrev pub IsPrepared : (List ℕ → Option ℕ) → (List ℕ → Held) → Task → Type 0
+IsPrepared capacity held (Run asked) = IsPreparedRun capacity held asked
+IsPrepared capacity held (Check topology) = IsPreparedCheck capacity held topology
+IsPrepared capacity held (Generate g) = IsPreparedGenerated capacity held g
+
+-- the answer names no call that failed
+abbrev pub NamesNoFault : Status → Type 0
+NamesNoFault (status.ReadFault name) = ⊥
+NamesNoFault (status.WriteFault name) = ⊥
+NamesNoFault e = Unit {0}

@@ -16,7 +16,7 @@ module _ {T : Type 0} where
       ap (λ m. slice_set m at b) marked ∙ ap (λ c. slice_set (map has_items queues) at c) (sym here) ∙ sym (map-set has_items queues at queue)
 
   -- a queue changes that had items and still has them
-  pub marks-kept : (marks : List Bool) (queues : List (List T)) (at : ℕ) (queue : List T)
+  marks-kept : (marks : List Bool) (queues : List (List T)) (at : ℕ) (queue : List T)
       → marks ≡ map has_items queues → has_items (items_at queues at) ≡ has_items queue → marks ≡ map has_items (slice_set queues at queue)
   marks-kept marks queues at queue marked same =
       marked ∙ ap (map has_items) (sym (set-get_or queues at []))
@@ -33,15 +33,33 @@ module _ {T : Type 0} where
   marks_put marks queues at queue old x marked longer =
       marks-changed marks queues at queue true marked (ap has_items longer ∙ has_items-push old x)
 
-  has_items_from_ne : (queue : List T) → (queue ≡ [] → ⊥) → has_items queue ≡ true
-  has_items_from_ne [] some = absurd (some refl)
-  has_items_from_ne (y ∷ ys) some = refl
+  has_items_of_some : (queue : List T) → 0 < length queue → has_items queue ≡ true
+  has_items_of_some [] some = absurd (omega (arith, some))
+  has_items_of_some (y ∷ ys) some = refl
 
-  -- a queue that has items once one was taken had some before
-  pub still_has_items : (old new : List T) (taken : Option T) → (new ≡ [] → ⊥)
-      → MatchOption taken ((old ≡ []) × (new ≡ [])) (λ x. old ≡ x ∷ new) → has_items old ≡ has_items new
-  still_has_items old new None some h = absurd (some h.1)
-  still_has_items old new (Some x) some h = ap has_items h ∙ sym (has_items_from_ne new some)
+  nothing_left : (queue : List T) → length queue ≡ 0 → queue ≡ []
+  nothing_left [] none = refl
+  nothing_left (y ∷ ys) none = absurd (omega (arith, none))
+
+  -- what taking the first item of a queue does
+  abbrev Takes : List (List T) → List (List T) → ℕ → Option T → Type 0
+  Takes old new at taken =
+      MatchOption taken ((items_at old at ≡ []) × (new ≡ old)) (λ x. (items_at old at ≡ x ∷ items_at new at) × (new ≡ slice_set old at (items_at new at)))
+
+  module _ (marks : List Bool) (old new : List (List T)) (at : ℕ) (marked : marks ≡ map has_items old) where
+    -- the queue is empty then, and its mark is cleared
+    pub marks_of_emptied : (taken : Option T) → Takes old new at taken → length (items_at new at) ≡ 0 → slice_set marks at false ≡ map has_items new
+    marks_of_emptied None h none =
+        marks-changed marks old at [] false marked refl
+        ∙ ap (map has_items) (ap (slice_set old at) (sym h.0) ∙ set-get_or old at [] ∙ sym h.1)
+    marks_of_emptied (Some x) h none =
+        marks-changed marks old at (items_at new at) false marked (ap has_items (nothing_left (items_at new at) none)) ∙ ap (map has_items) (sym h.1)
+
+    -- or it has items yet
+    pub marks_of_taken : (taken : Option T) → Takes old new at taken → 0 < length (items_at new at) → marks ≡ map has_items new
+    marks_of_taken None h some = marked ∙ ap (map has_items) (sym h.1)
+    marks_of_taken (Some x) h some =
+        marks-kept marks old at (items_at new at) marked (ap has_items h.0 ∙ sym (has_items_of_some (items_at new at) some)) ∙ ap (map has_items) (sym h.1)
 
   -- the mark of a place tells whether its queue has items
   is_marked-map : (queues : List (List T)) (at : ℕ) → is_marked (map has_items queues) at ≡ has_items (items_at queues at)

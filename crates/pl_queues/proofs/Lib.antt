@@ -2,7 +2,7 @@ pub mod Places
 pub mod WordBits
 pub mod Marks
 pub mod Banks
-pub mod Counting
+pub mod Pooled
 pub mod Ranges
 pub mod TallySums
 pub mod TallyChanges

@@ -4,7 +4,7 @@ ghost use Rattle.pl_queues.specs.Tallies.{marked_places};
 
 use crate::tally::Tally;
 use crate::words::WordSet;
-use pl_frame::Memory;
+use pl_pool::Memory;
 use std::alloc::Global;
 use std::marker::Model;
 

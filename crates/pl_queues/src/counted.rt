@@ -1,10 +1,9 @@
-ghost use Rattle.std.specs.Prelude.{◌≡◌, ◌<◌, ◌≤◌, ◌+◌, ◌++◌, ◌∷◌, [], cond, count_by, option_to_list, IfOk, MatchOption, OnErr, OnOk, length, replicate, slice_get, slice_set};
+ghost use Rattle.std.specs.Prelude.{◌≡◌, ◌<◌, ◌≤◌, ◌+◌, ◌++◌, ◌∷◌, [], cond, count_by, option_to_list, IfOk, MatchOption, OnErr, OnOk, length, replicate, slice_set};
 ghost use Rattle.pl_queues.specs.Counts.{counted_in, most};
 ghost use Rattle.pl_queues.specs.Queues.{items_at};
 
 use crate::Queues;
-use pl_frame::Memory;
-use pl_lists::Queue;
+use pl_pool::{Iter, Memory};
 use std::alloc::{AllocError, Global};
 use std::marker::Model;
 
@@ -63,15 +62,17 @@ impl<T: Counted> CountedQueues<T> {
         taken
     }
 
-    /// Takes a whole queue, and leaves an empty one.
-    pub fn take_all(&mut self, at: usize) -> Queue<T>
+    /// Takes all items of a queue, the first one first, and puts them behind those that are there.
+    pub fn clear_into(&mut self, at: usize, to: &mut Vec<T>) -> Result<(), Memory>
         requires { at < length self.old }
-        ensures taken { result ≡ items_at self.old at }
-        ensures left { self.new ≡ slice_set self.old at [] }
+        ensures items { OnOk result (to.new.items ≡ to.old.items ++ items_at self.old at) }
+        ensures left { OnOk result (self.new ≡ slice_set self.old at []) }
+        ensures err { OnErr result ((self.new ≡ self.old) × (to.new.items ≡ to.old.items)) }
     {
-        let queue = self.queues.take_all(at);
-        self.counted -= count_queue(&queue);
-        queue
+        let less = count_items(self.queues.iter(at));
+        self.queues.clear_into(at, to)?;
+        self.counted -= less;
+        Ok(())
     }
 }
 
@@ -129,24 +130,16 @@ fn count_taken<T: Counted>(taken: &Option<T>) -> u64
     }
 }
 
-// How many items of a queue count.
-fn count_queue<T: Counted>(queue: &Queue<T>) -> u64
-    ensures { result ≡ count_by T.counts queue.now }
+// How many items count.
+fn count_items<T: Counted>(items: Iter<'_, T>) -> u64
+    ensures { result ≡ count_by T.counts items.entry }
 {
+    let _few = items.len();
     let mut count = 0;
-    for n in 0..queue.len() {
-        count += count_item(queue, n);
+    for item in items {
+        count += one_if(item.counts());
     }
     count
-}
-
-fn count_item<T: Counted>(queue: &Queue<T>, n: usize) -> u64
-    ensures { result ≡ count_by T.counts (option_to_list (slice_get queue.now n)) }
-{
-    match queue.get(n) {
-        None => 0,
-        Some(item) => one_if(item.counts()),
-    }
 }
 
 #[cfg(test)]
@@ -176,8 +169,9 @@ mod tests {
         let first = bank.take(0);
         assert!(rt; first.is_some());
         assert_eq!(rt; bank.counted(), 2);
-        let queue = bank.take_all(2);
-        assert_eq!(rt; queue.len(), 2);
+        let mut items = Vec::new(rt.alloc());
+        bank.clear_into(2, &mut items)?;
+        assert_eq!(rt; items.len(), 2);
         assert_eq!(rt; bank.counted(), 0);
         assert_eq!(rt; bank.queues().len_at(0), 1);
         Ok(())

@@ -3,11 +3,12 @@
 
 pub use bit_set::BitSet;
 pub use counted::{Counted, CountedQueues, one_if};
-pub use pl_lists::Memory;
+pub use pl_pool::{Iter, Memory};
 pub use queues::Queues;
 
 mod bit_set;
 mod counted;
+mod lists;
 mod queues;
 mod tally;
 mod words;

@@ -3,17 +3,16 @@ ghost use Rattle.std.specs.Option.{option_copied};
 ghost use Rattle.pl_queues.specs.Queues.{filled_places, has_items, items_at, next_filled};
 
 use crate::BitSet;
-use pl_frame::Memory;
-use pl_lists::Queue;
+use crate::lists::Lists;
+use pl_pool::{Iter, Memory};
 use std::alloc::Global;
 use std::marker::Model;
-use std::mem;
 
-/// A bank of queues. Contracts see the list of them, each the list of its items, the first one first.
-/// A set of places says which of them have items, so that the next of these is found at once.
+/// A bank of queues in one pool. Contracts see the list of them, each the list of its items, the first one
+/// first. A set of places says which of them have items, so that the next of these is found at once.
 #[derive(Drop)]
 pub struct Queues<T> {
-    queues: Vec<Queue<T>>,
+    queues: Lists<T>,
     filled: BitSet,
 }
 
@@ -23,9 +22,9 @@ impl<T> Model for Queues<T> {
 
     ghost Value = { List (List T) };
 
-    ghost view = { λ bank. bank.queues.items };
+    ghost view = { λ bank. bank.queues };
 
-    ghost invariant = { λ bank. bank.filled ≡ map has_items bank.queues.items };
+    ghost invariant = { λ bank. bank.filled ≡ map has_items bank.queues };
 }
 
 impl<T> Queues<T> {
@@ -40,22 +39,22 @@ impl<T> Queues<T> {
         requires { at < length self.now }
         ensures { result ≡ length (items_at self.now at) }
     {
-        self.queues[at].len()
+        self.queues.len_at(at)
     }
 
     pub fn is_empty_at(&self, at: usize) -> bool
         requires { at < length self.now }
         ensures { IsTrue result ↔ (items_at self.now at ≡ []) }
     {
-        self.queues[at].is_empty()
+        self.queues.len_at(at) == 0
     }
 
-    /// A queue, to look at.
-    pub fn queue(&self, at: usize) -> &Queue<T>
+    /// The items of a queue, to look at, the first one first.
+    pub fn iter(&self, at: usize) -> Iter<'_, T>
         requires { at < length self.now }
-        ensures { result.now ≡ items_at self.now at }
+        ensures { result ≡ items_at self.now at }
     {
-        &self.queues[at]
+        self.queues.iter(at)
     }
 
     /// The first item of a queue; none where it is empty.
@@ -63,7 +62,7 @@ impl<T> Queues<T> {
         requires { at < length self.now }
         ensures { option_copied result ≡ slice_get (items_at self.now at) 0 }
     {
-        self.queues[at].get(0)
+        self.queues.first(at)
     }
 
     /// The first place from `from` on whose queue has items; none where there is none.
@@ -96,36 +95,33 @@ impl<T> Queues<T> {
         ensures { MatchOption result ((items_at self.old at ≡ []) × (self.new ≡ self.old))
             (λ x. (items_at self.old at ≡ x ∷ items_at self.new at) × (self.new ≡ slice_set self.old at (items_at self.new at))) }
     {
-        let queue = &mut self.queues[at];
-        let taken = queue.take_first();
-        if queue.is_empty() {
+        let taken = self.queues.take(at);
+        if self.queues.len_at(at) == 0 {
             self.filled.remove(at);
         }
         taken
     }
 
-    /// Takes a whole queue, and leaves an empty one.
-    pub fn take_all(&mut self, at: usize) -> Queue<T>
+    /// Takes all items of a queue, the first one first, and puts them behind those that are there.
+    pub fn clear_into(&mut self, at: usize, to: &mut Vec<T>) -> Result<(), Memory>
         requires { at < length self.old }
-        ensures taken { result ≡ items_at self.old at }
-        ensures left { self.new ≡ slice_set self.old at [] }
+        ensures items { OnOk result (to.new.items ≡ to.old.items ++ items_at self.old at) }
+        ensures left { OnOk result (self.new ≡ slice_set self.old at []) }
+        ensures err { OnErr result ((self.new ≡ self.old) × (to.new.items ≡ to.old.items)) }
     {
-        let empty = Queue::new(*self.queues.allocator());
+        self.queues.clear_into(at, to)?;
         self.filled.remove(at);
-        mem::replace(&mut self.queues[at], empty)
+        Ok(())
     }
 }
 
 impl<T: Drop> Queues<T> {
-    /// As many empty queues as asked for.
+    /// As many empty queues as asked for. More than 2^32 - 1 are as want of memory.
     pub fn new(alloc: Global, count: usize) -> Result<Queues<T>, Memory>
         ensures { IfOk result (λ bank. bank ≡ replicate count []) }
     {
         let filled = BitSet::new(alloc, count)?;
-        let mut queues = Vec::with_capacity(alloc, count)?;
-        for _ in 0..count {
-            queues.push(Queue::new(alloc))?;
-        }
+        let queues = Lists::new(alloc, count)?;
         Ok(Queues { queues, filled })
     }
 
@@ -136,7 +132,7 @@ impl<T: Drop> Queues<T> {
         ensures ok { OnOk result (self.new ≡ slice_set self.old at (items_at self.old at ++ item ∷ [])) }
         ensures err { OnErr result (self.new ≡ self.old) }
     {
-        self.queues[at].push(item)?;
+        self.queues.put(at, item)?;
         self.filled.insert(at);
         Ok(())
     }
@@ -171,11 +167,15 @@ mod tests {
     fn a_whole_queue_is_taken(rt: HostRuntime) -> Result<(), Fail> {
         let mut bank: Queues<u8> = Queues::new(rt.alloc(), 2)?;
         bank.put(1, 5)?;
+        bank.put(0, 7)?;
         bank.put(1, 6)?;
-        let queue = bank.take_all(1);
-        assert_eq!(rt; queue.len(), 2);
+        assert_eq!(rt; bank.iter(1).len(), 2);
+        let mut items = Vec::new(rt.alloc());
+        bank.clear_into(1, &mut items)?;
+        assert_eq!(rt; items.get(0), Some(&5));
+        assert_eq!(rt; items.get(1), Some(&6));
         assert_eq!(rt; bank.len_at(1), 0);
-        assert_eq!(rt; bank.next_filled(0), None);
+        assert_eq!(rt; bank.next_filled(1), None);
         Ok(())
     }
 }

@@ -3,7 +3,7 @@ ghost use Rattle.std.specs.List.{filter, range_with_len};
 ghost use Rattle.pl_queues.specs.Tallies.{is_counted, leaves_of, marked_places, IsSummed};
 
 use crate::counted::one_if;
-use pl_frame::Memory;
+use pl_pool::Memory;
 use std::alloc::{AllocError, Global};
 use std::marker::Model;
 

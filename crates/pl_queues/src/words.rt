@@ -1,7 +1,7 @@
 ghost use Rattle.std.specs.Prelude.{◌≡◌, ℕ, ◌+◌, ◌*◌, ◌/◌, ◌%◌, ◌^◌, ◌<◌, ◌≤◌, ◌==◌, true, false, IfOk, IfSome, length, not, replicate, slice_index, slice_set};
 ghost use Rattle.pl_queues.specs.Bits.{has_bit, is_marked, is_set, next_marked, with_bit, without_bit, IsLeast, IsNext};
 
-use pl_frame::Memory;
+use pl_pool::Memory;
 use std::alloc::Global;
 use std::marker::Model;
 

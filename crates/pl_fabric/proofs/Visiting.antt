@@ -5,9 +5,9 @@ use Rattle.pl_wiring.specs.Plan.{Plan}
 use Rattle.pl_core.specs.HostInputs.{HostRule}
 use Rattle.pl_core.specs.ManagerDuties.{ManagerRule}
 use Rattle.pl_core.specs.SwitchInputs.{SwitchRule}
-use Rattle.pl_queues.specs.Bits.{IsLeast}
+use Rattle.pl_banks.specs.Bits.{IsLeast}
 use Rattle.pl_queues.specs.Queues.{has_items, items_at}
-use Rattle.pl_queues.proofs.Places.{next_place_is_least}
+use Rattle.pl_banks.proofs.Places.{next_place_is_least}
 use Rattle.pl_world.specs.declared.error.StepError.{StepError}
 use Rattle.pl_world.specs.declared.event.Event.TheVariants.{Deliver}
 use Rattle.pl_world.specs.declared.event.QueueName.{QueueName}

@@ -4,3 +4,4 @@ pub mod Words
 pub mod Changes
 pub mod Moves
 pub mod Views
+pub mod Items

@@ -1,8 +1,9 @@
 -- How the lists of a pool lie in one slab: each is a chain of nodes. No public clause cites this module.
-use Rattle.std.specs.Prelude.{◌≡◌, ◌≢◌, ℕ, zero, suc, ◌+◌, ◌<◌, ◌≤◌, ◌==◌, ◌&&◌, not, if◌then◌else◌, List, [], ◌∷◌, map, length, sum_by, Option, None, Some, slice_index, slice_index_or}
+use Rattle.std.specs.Prelude.{◌≡◌, ◌≢◌, ⊤, ℕ, zero, suc, ◌+◌, ◌<◌, ◌≤◌, ◌==◌, ◌&&◌, not, if◌then◌else◌, List, [], ◌∷◌, map, length, sum_by, Option, None, Some, slice_index, slice_index_or}
 use Rattle.std.specs.List.{flat_map}
 use Rattle.std.specs.Option.{option_map, option_map_or}
-use Rattle.slab.specs.Slab.{Slab, get, slab_len}
+use Rattle.slab.specs.Slab.{Slab, ContainsKey, get, slab_len}
+use Rattle.pl_pool.specs.Pool.{items_of}
 use Rattle.pl_pool.specs.declared.key.Key.{Key}
 use Rattle.pl_pool.specs.declared.links.Node.{Node}
 use Rattle.pl_pool.specs.declared.links.Ends.{Ends}
@@ -72,6 +73,15 @@ module _ {T : Type 0} where
 
   abbrev pub lists_of : Slab (Node T) → List Ends → List (List (Key × T))
   lists_of nodes ends = map (pairs_of nodes) ends
+
+  -- the items of so many nodes, each the next of the one before
+  abbrev pub items_from : Slab (Node T) → ℕ → ℕ → List T
+  items_from nodes from n = items_of (entries (item_in nodes) (walk (next_of nodes) from n))
+
+  -- so many nodes are there, each the next of the one before
+  abbrev pub AreThere : Slab (Node T) → ℕ → ℕ → Type 0
+  AreThere nodes from zero = ⊤
+  AreThere nodes from (suc n) = ContainsKey nodes from × AreThere nodes (next_of nodes from) n
 
   abbrev pub IsChainIn : Slab (Node T) → ℕ → Ends → List ℕ → Type 0
   IsChainIn nodes = IsChain (owner_of nodes) (next_of nodes) (prev_of nodes)

@@ -4,7 +4,7 @@ ghost use Rattle.pl_pool.specs.Pool.{HaveOwnKeys, IsFirst, IsFree, first_key, ha
 
 use crate::links::{Ends, Node};
 use crate::nodes::{is_in, item_of, make_room, next_in, one_more, put_last, take_out, to_back};
-use crate::{Key, Memory};
+use crate::{Iter, Key, Memory};
 use slab::Slab;
 use std::alloc::Global;
 use std::marker::Model;
@@ -118,6 +118,19 @@ impl<T> Pool<T> {
         ensures { option_copied result ≡ item_at (list_at self.now list) key }
     {
         item_of(&self.nodes, list, key.slot)
+    }
+
+    /// The items of a list, the first one first.
+    pub fn iter(&self, list: u32) -> Iter<'_, T>
+        requires { list < length self.now.lists }
+        ensures { result ≡ items_of (list_at self.now list) }
+    {
+        let ends = self.ends[list as usize];
+        Iter {
+            nodes: &self.nodes,
+            next: ends.first,
+            left: ends.len,
+        }
     }
 
     /// Puts an item behind the last of a list, and answers its key. Where there is no memory, the item comes back;

@@ -1,4 +1,2 @@
-pub mod Bits
 pub mod Queues
 pub mod Counts
-pub mod Tallies

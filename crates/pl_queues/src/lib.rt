@@ -1,13 +1,7 @@
-//! Queues side by side: a bank of them, which of them have items, and how many of their items count.
+//! What queues side by side are: definitions, and what counts among their items. The bank that keeps them
+//! stands in pl_banks, so that the world and its laws, which speak of queues, stand on no code.
 #![tactic(auto)]
 
-pub use bit_set::BitSet;
-pub use counted::{Counted, CountedQueues, one_if};
-pub use pl_lists::Memory;
-pub use queues::Queues;
+pub use counted::Counted;
 
-mod bit_set;
 mod counted;
-mod queues;
-mod tally;
-mod words;

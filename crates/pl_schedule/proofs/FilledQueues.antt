@@ -8,7 +8,7 @@ use Rattle.std.proofs.lemmas.Nat.{div-add-mod'}
 use Rattle.std.proofs.lemmas.Option.{slice_get-map}
 use Rattle.pl_wiring.specs.Labels.{switch_count}
 use Rattle.pl_queues.specs.Queues.{filled_places, has_items, items_at}
-use Rattle.pl_queues.proofs.Ranges.{filter_same, slice_get_left, slice_get_right}
+use Rattle.pl_banks.proofs.Ranges.{filter_same, slice_get_left, slice_get_right}
 use Rattle.pl_world.specs.declared.event.QueueName.{QueueName}
 use Rattle.pl_world.specs.Flying.{IsFormed}
 use Rattle.pl_world.specs.QueueOrder.{filled_queues, host_queue, host_queues, order_queue, port_queue, queue_order, queues_out_of, report_queue, switch_numbers}

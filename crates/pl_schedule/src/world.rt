@@ -4,12 +4,12 @@ ghost use Rattle.pl_wiring.specs.Labels.{switch_count};
 ghost use Rattle.pl_world.specs.Changes.{all_noted, begun_by, host_of, is_failed_at, noted, said_to_switch, sent_if_live, told_manager};
 ghost use Rattle.pl_world.specs.SwitchActs.{granted};
 
+use pl_banks::{CountedQueues, Queues};
 use pl_core::{HostCore, ManagerCore, SwitchCore, ToManager, ToSwitch};
 use pl_frame::{Mac, Memory, SwitchId};
 use pl_journal::{Entry, Journal};
 use pl_lists::Queue;
 use pl_pmac::Pmac;
-use pl_queues::{CountedQueues, Queues};
 use pl_wiring::{LinkStates, Peer, SwitchNo, Wiring};
 use pl_world::{Item, Limits};
 use pl_world_parts::{Atlas, Book, Stands, Switches, WaitingToManager, WaitingToSwitch};

@@ -1,4 +1,4 @@
-ghost use Rattle.std.specs.Prelude.{◌≡◌, ◌<◌, ◌≤◌, ◌*◌, ◌∷◌, ℕ, [], cond, count_by, length, map, option_to_list, replicate, slice_get, slice_index_or, slice_set, sum_by, vec_len, IfOk, IfSome, MatchOption, OnErr, OnOk, Some};
+ghost use Rattle.std.specs.Prelude.{◌≡◌, ◌<◌, ◌≤◌, ◌*◌, ◌∷◌, ◌++◌, ℕ, [], cond, count_by, length, map, option_to_list, replicate, slice_get, slice_index_or, slice_set, sum_by, vec_len, IfOk, IfSome, MatchOption, OnErr, OnOk, Some};
 ghost use Rattle.std.specs.List.{AllByRecursion};
 ghost use Rattle.pl_wiring.specs.Index.{port_index};
 ghost use Rattle.pl_core.specs.Accounting.{CanCome};
@@ -14,11 +14,10 @@ ghost use Rattle.pl_world.specs.Pending.{HasQueues, is_stale, stale, stale_at_po
 use crate::incoming::Incoming;
 use crate::one_step::hear_at;
 use crate::said::{Said, all_said, says_still};
+use pl_banks::{CountedQueues, Iter, Queues, one_if};
 use pl_core::{Outbox, SwitchCore, SwitchFacts};
 use pl_frame::Memory;
 use pl_layouts::Place;
-use pl_lists::Queue;
-use pl_queues::{CountedQueues, Queues, one_if};
 use pl_world::Item;
 use std::alloc::Global;
 use std::marker::Model;
@@ -122,16 +121,18 @@ impl<S: SwitchCore> Switches<S> {
         taken
     }
 
-    /// Takes the whole queue at a place, and leaves an empty one.
-    pub fn take_all(&mut self, at: usize) -> Queue<Item>
+    /// Takes all items of the queue at a place, the first one first, and puts them behind those that are there.
+    pub fn clear_into(&mut self, at: usize, to: &mut Vec<Item>) -> Result<(), Memory>
         requires { at < length self.old.out }
-        ensures taken { result ≡ items_at self.old.out at }
-        ensures left { self.new ≡ record self.old { out = slice_set self.old.out at [] } }
+        ensures items { OnOk result (to.new.items ≡ to.old.items ++ items_at self.old.out at) }
+        ensures left { OnOk result (self.new ≡ record self.old { out = slice_set self.old.out at [] }) }
+        ensures err { OnErr result ((self.new ≡ self.old) × (to.new.items ≡ to.old.items)) }
     {
         let (_s, _port) = port_at(self.k, at);
+        self.out.clear_into(at, to)?;
         self.stale -= self.counts[at];
         self.counts[at] = 0;
-        self.out.take_all(at)
+        Ok(())
     }
 
     /// Something comes at one of the switches. The answer is its place before and after.
@@ -190,24 +191,15 @@ fn stale_taken<S: SwitchFacts>(core: &S, port: u8, taken: &Option<Item>) -> u64
     }
 }
 
-fn stale_item<S: SwitchFacts>(core: &S, port: u8, queue: &Queue<Item>, n: usize) -> u64
-    requires { port < (S.view core.now).k }
-    ensures { result ≡ count_by (is_stale (S.view core.now) port) (option_to_list (slice_get queue.now n)) }
-{
-    match queue.get(n) {
-        None => 0,
-        Some(item) => one_if(is_stale(core, port, item)),
-    }
-}
-
 // How many items are stale in a queue out of a port.
-fn stale_in<S: SwitchFacts>(core: &S, port: u8, queue: &Queue<Item>) -> u64
+fn stale_in<S: SwitchFacts>(core: &S, port: u8, items: Iter<'_, Item>) -> u64
     requires { port < (S.view core.now).k }
-    ensures { result ≡ count_by (is_stale (S.view core.now) port) queue.now }
+    ensures { result ≡ count_by (is_stale (S.view core.now) port) items.entry }
 {
+    let _few = items.len();
     let mut count = 0;
-    for n in 0..queue.len() {
-        count += stale_item(core, port, queue, n);
+    for item in items {
+        count += one_if(is_stale(core, port, item));
     }
     count
 }
@@ -216,18 +208,18 @@ fn stale_in<S: SwitchFacts>(core: &S, port: u8, queue: &Queue<Item>) -> u64
 fn count_port<S: SwitchFacts>(
     core: &S,
     port: u8,
-    queue: &Queue<Item>,
+    items: Iter<'_, Item>,
     said: &Said,
     count: u64,
 ) -> u64
     requires port { port < (S.view core.now).k }
-    requires known { count ≡ count_by (is_stale_under said.now) queue.now }
-    ensures { result ≡ count_by (is_stale (S.view core.now) port) queue.now }
+    requires known { count ≡ count_by (is_stale_under said.now) items }
+    ensures { result ≡ count_by (is_stale (S.view core.now) port) items.entry }
 {
     if says_still(core, port, said) {
         count
     } else {
-        stale_in(core, port, queue)
+        stale_in(core, port, items)
     }
 }
 
@@ -262,7 +254,7 @@ fn count_again<S: SwitchFacts>(
         let now = count_port(
             core,
             port,
-            out.queues().queue(at),
+            out.queues().iter(at),
             &said[port as usize],
             count,
         );

@@ -10,10 +10,10 @@ ghost use Rattle.pl_world.specs.Pending.{first_switches};
 
 use crate::world::World;
 use pl_arp::Me;
+use pl_banks::{CountedQueues, Queues};
 use pl_core::{HostCore, HostTable, ManagerCore, SwitchCore};
 use pl_frame::Memory;
 use pl_lists::Items;
-use pl_queues::{CountedQueues, Queues};
 use pl_wiring::{Host, LinkStates, SwitchNo, Wiring};
 use pl_world::Limits;
 use pl_world_parts::{Atlas, Book, Stands, Switches};

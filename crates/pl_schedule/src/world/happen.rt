@@ -16,7 +16,6 @@ use crate::world::World;
 use pl_core::{HostCore, ManagerCore, SwitchCore};
 use pl_frame::Memory;
 use pl_journal::{Cause, Entry};
-use pl_lists::Queue;
 use pl_wiring::{HostNo, Peer, SwitchNo};
 use pl_world::{Item, SpokenFrame, Stand};
 use pl_world_parts::{Incoming, Stands, Urge};
@@ -180,8 +179,9 @@ impl<S: SwitchCore, M: ManagerCore, H: HostCore> World<S, M, H> {
         requires { h.0 < length self.old.plan.hosts }
         ensures { OnOk result (self.new ≡ emptied_from_host self.old h.0 cause) }
     {
-        let mut items = self.from_hosts.take_all(h.0 as usize);
-        self.end_all(&mut items, cause)
+        let mut items = Vec::new(self.alloc);
+        self.from_hosts.clear_into(h.0 as usize, &mut items)?;
+        self.end_all(&items, cause)
     }
 
     pub(crate) fn empty_out(&mut self, s: SwitchNo, port: u8, cause: Cause) -> Result<(), Memory>
@@ -190,25 +190,26 @@ impl<S: SwitchCore, M: ManagerCore, H: HostCore> World<S, M, H> {
         ensures { OnOk result (self.new ≡ emptied_out self.old s.0 port cause) }
     {
         let place = self.queue_index(s, port);
-        let mut items = self.switches.take_all(place);
-        self.end_all(&mut items, cause)
+        let mut items = Vec::new(self.alloc);
+        self.switches.clear_into(place, &mut items)?;
+        self.end_all(&items, cause)
     }
 
-    fn end_all(&mut self, items: &mut Queue<Item>, cause: Cause) -> Result<(), Memory>
-        ensures { OnOk result (self.new ≡ all_noted self.old (ends_of cause items.old)) }
+    fn end_all(&mut self, items: &[Item], cause: Cause) -> Result<(), Memory>
+        ensures { OnOk result (self.new ≡ all_noted self.old (ends_of cause items.now)) }
     {
-        while let Some(item) = items.take_first() {
+        for item in items {
             self.end_item(item, cause)?;
         }
         Ok(())
     }
 
-    fn end_item(&mut self, item: Item, cause: Cause) -> Result<(), Memory>
-        ensures { OnOk result (self.new ≡ all_noted self.old (ends_of cause (item ∷ []))) }
+    fn end_item(&mut self, item: &Item, cause: Cause) -> Result<(), Memory>
+        ensures { OnOk result (self.new ≡ all_noted self.old (ends_of cause (item.now ∷ []))) }
     {
         match item {
             Item::Control(_) => Ok(()),
-            Item::Data(number, _) => self.note(Entry::Dropped(number, cause)),
+            Item::Data(number, _) => self.note(Entry::Dropped(*number, cause)),
         }
     }
 }

@@ -7,8 +7,8 @@ ghost use Rattle.pl_world.specs.QueueOrder.{filled_queues, first_from_manager, f
 ghost use Rattle.pl_world.specs.Refusals.{has_queue, is_filled, refusal_of_queue};
 
 use crate::world::World;
+use pl_banks::Queues;
 use pl_core::{HostCore, ManagerCore, SwitchCore};
-use pl_queues::Queues;
 use pl_wiring::{HostNo, SwitchNo, Wiring};
 use pl_world::QueueName;
 

@@ -9,16 +9,16 @@ pub count_port-now-requires-clause-known : goal.count_port-now-requires-clause-k
 count_port-now-requires-clause-known g c = known_here (g.S.SwitchFacts.view c.args.core.now).k c.args.s (g.S.SwitchFacts.view c.args.core.now) c.args.out.now c.args.counts.now.items c.requires.queues c.loop-port.counts.items c.loop-port.before c.loop-port.after c.loop-port.port
     c.loop-port.invariant (let known = c.k-k.ensures.known in let low = c.loop-port-test.true in omega (arith, known, low)) (c.args.s * c.k-k.result + c.loop-port.port) c.index-count.result.now
     (ap (λ n. c.args.s * n + c.loop-port.port) c.k-k.ensures.known) c.index-count.ensures
-    c.args.said.now _ c.queues-in-loop-port.result.now c.queue.result.now (let known = c.k-k.ensures.known in let low = c.loop-port-test.true in let few = c.k-k.ensures.within in let told = c.told-said in omega (arith, known, low, few, told))
+    c.args.said.now _ c.queues-in-loop-port.result.now c.iter.result (let known = c.k-k.ensures.known in let low = c.loop-port-test.true in let few = c.k-k.ensures.within in let told = c.told-said in omega (arith, known, low, few, told))
     (c.requires.known c.loop-port.port (let known = c.k-k.ensures.known in let low = c.loop-port-test.true in omega (arith, known, low)))
-    c.queues-in-loop-port.ensures c.queue.ensures
+    c.queues-in-loop-port.ensures c.iter.ensures
 
 pub overflow_add-before : goal.overflow_add-before
 overflow_add-before g c =
     let more = before_more (g.S.SwitchFacts.view c.args.core.now).k c.args.s (g.S.SwitchFacts.view c.args.core.now) c.args.out.now c.args.counts.now.items c.requires.queues c.loop-port.counts.items c.loop-port.before c.loop-port.after c.loop-port.port
     c.loop-port.invariant (let known = c.k-k.ensures.known in let low = c.loop-port-test.true in omega (arith, known, low)) (c.args.s * c.k-k.result + c.loop-port.port) c.index-count.result.now
     (ap (λ n. c.args.s * n + c.loop-port.port) c.k-k.ensures.known) c.index-count.ensures
-    c.queues-in-loop-port.result.now c.queue.result.now c.count_port-now.result c.queues-in-loop-port.ensures c.queue.ensures c.count_port-now.ensures in
+    c.queues-in-loop-port.result.now c.iter.result c.count_port-now.result c.queues-in-loop-port.ensures c.iter.ensures c.count_port-now.ensures in
     let known = c.k-k.ensures.known in
     let low = c.loop-port-test.true in
     let fits = known_fit (g.S.SwitchFacts.view c.args.core.now).k c.args.s c.args.out.now c.args.counts.now.items c.args.said.now (c.loop-port.port + 1) (let known = c.k-k.ensures.known in let low = c.loop-port-test.true in let few = c.k-k.ensures.within in let told = c.told-said in omega (arith, known, low, few, told))
@@ -31,7 +31,7 @@ overflow_add-after g c =
     let more = after_more (g.S.SwitchFacts.view c.args.core.now).k c.args.s (g.S.SwitchFacts.view c.args.core.now) c.args.out.now c.args.counts.now.items c.requires.queues c.loop-port.counts.items c.loop-port.before c.loop-port.after c.loop-port.port
     c.loop-port.invariant (let known = c.k-k.ensures.known in let low = c.loop-port-test.true in omega (arith, known, low)) (c.args.s * c.k-k.result + c.loop-port.port) c.index-count.result.now
     (ap (λ n. c.args.s * n + c.loop-port.port) c.k-k.ensures.known) c.index-count.ensures
-    c.queues-in-loop-port.result.now c.queue.result.now c.count_port-now.result c.queues-in-loop-port.ensures c.queue.ensures c.count_port-now.ensures in
+    c.queues-in-loop-port.result.now c.iter.result c.count_port-now.result c.queues-in-loop-port.ensures c.iter.ensures c.count_port-now.ensures in
     let known = c.k-k.ensures.known in
     let low = c.loop-port-test.true in
     let fits = ports_fit (g.S.SwitchFacts.view c.args.core.now).k c.args.out.now (Some (g.S.SwitchFacts.view c.args.core.now)) c.args.s (c.loop-port.port + 1) (let within = c.requires.queues in omega (arith, known, low, within)) in
@@ -46,4 +46,4 @@ pub loop-port-preserved : goal.loop-port-preserved
 loop-port-preserved g c = one_counted (g.S.SwitchFacts.view c.args.core.now).k c.args.s (g.S.SwitchFacts.view c.args.core.now) c.args.out.now c.args.counts.now.items c.requires.queues c.loop-port.counts.items c.loop-port.before c.loop-port.after c.loop-port.port
     c.loop-port.invariant (let known = c.k-k.ensures.known in let low = c.loop-port-test.true in omega (arith, known, low)) (c.args.s * c.k-k.result + c.loop-port.port) c.index-count.result.now
     (ap (λ n. c.args.s * n + c.loop-port.port) c.k-k.ensures.known) c.index-count.ensures
-    c.queues-in-loop-port.result.now c.queue.result.now c.count_port-now.result c.queues-in-loop-port.ensures c.queue.ensures c.count_port-now.ensures
+    c.queues-in-loop-port.result.now c.iter.result c.count_port-now.result c.queues-in-loop-port.ensures c.iter.ensures c.count_port-now.ensures

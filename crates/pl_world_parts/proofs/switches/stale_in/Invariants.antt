@@ -1,9 +1,13 @@
-use Rattle.std.proofs.Common.{◌≡◌, ◌≤◌, count_by, take}
+use Rattle.std.proofs.Common.{◌≡◌, ◌<◌, ◌+◌, ◌^◌, count_by, length}
 use Rattle.pl_world.specs.Pending.{is_stale}
 use Rattle.pl_world_parts.proofs.switches.stale_in.Given as goal
 
-abbrev pub invariant-loop-n : goal.invariant-loop-n
-invariant-loop-n g l = record {
-  counted : l.count ≡ count_by (is_stale (g.S.SwitchFacts.view l.core) l.port) (take l.n l.queue);
-  few : l.count ≤ l.n;
-}
+-- what was counted and what is to come is the whole
+abbrev pub invariant-loop-item : goal.invariant-loop-item
+invariant-loop-item g l =
+    record {
+      ready : (goal.iterator-loop-item g).can_next l.item-iterator;
+      ends : (goal.iterator-loop-item g).is_finite l.item-iterator;
+      counted : l.count + count_by (is_stale (g.S.SwitchFacts.view l.core) l.port) l.item-iterator ≡ count_by (is_stale (g.S.SwitchFacts.view l.core) l.port) l.fn.items;
+      few : l.count + length l.item-iterator < 2 ^ 64;
+    }

@@ -1,0 +1,8 @@
+pub mod Places
+pub mod WordBits
+pub mod Marks
+pub mod Banks
+pub mod Pooled
+pub mod Ranges
+pub mod TallySums
+pub mod TallyChanges

@@ -1,0 +1,181 @@
+ghost use Rattle.std.specs.Prelude.{◌≡◌, ◌↔◌, ◌<◌, ◌≤◌, ◌++◌, ◌∷◌, [], IfOk, IfSome, IsTrue, MatchOption, OnErr, OnOk, length, replicate, slice_get, slice_set, true};
+ghost use Rattle.std.specs.Option.{option_copied};
+ghost use Rattle.pl_queues.specs.Queues.{filled_places, has_items, items_at, next_filled};
+
+use crate::BitSet;
+use crate::lists::Lists;
+use pl_pool::{Iter, Memory};
+use std::alloc::Global;
+use std::marker::Model;
+
+/// A bank of queues in one pool. Contracts see the list of them, each the list of its items, the first one
+/// first. A set of places says which of them have items, so that the next of these is found at once.
+#[derive(Drop)]
+pub struct Queues<T> {
+    queues: Lists<T>,
+    filled: BitSet,
+}
+
+impl<T> Model for Queues<T> {
+    ghost use Rattle.std.specs.Prelude.{◌≡◌, List, map};
+    ghost use Rattle.pl_queues.specs.Queues.{has_items};
+
+    ghost Value = { List (List T) };
+
+    ghost view = { λ bank. bank.queues };
+
+    ghost invariant = { λ bank. bank.filled ≡ map has_items bank.queues };
+}
+
+impl<T> Queues<T> {
+    /// How many queues there are.
+    pub fn len(&self) -> usize
+        ensures { result ≡ length self.now }
+    {
+        self.queues.len()
+    }
+
+    pub fn len_at(&self, at: usize) -> usize
+        requires { at < length self.now }
+        ensures { result ≡ length (items_at self.now at) }
+    {
+        self.queues.len_at(at)
+    }
+
+    pub fn is_empty_at(&self, at: usize) -> bool
+        requires { at < length self.now }
+        ensures { IsTrue result ↔ (items_at self.now at ≡ []) }
+    {
+        self.queues.len_at(at) == 0
+    }
+
+    /// The items of a queue, to look at, the first one first.
+    pub fn iter(&self, at: usize) -> Iter<'_, T>
+        requires { at < length self.now }
+        ensures { result ≡ items_at self.now at }
+    {
+        self.queues.iter(at)
+    }
+
+    /// The first item of a queue; none where it is empty.
+    pub fn first(&self, at: usize) -> Option<&T>
+        requires { at < length self.now }
+        ensures { option_copied result ≡ slice_get (items_at self.now at) 0 }
+    {
+        self.queues.first(at)
+    }
+
+    /// The first place from `from` on whose queue has items; none where there is none.
+    pub fn next_filled(&self, from: usize) -> Option<usize>
+        ensures next { result ≡ next_filled self.now from }
+        ensures there { IfSome result (λ at. (from ≤ at) × (at < length self.now) × (has_items (items_at self.now at) ≡ true)) }
+    {
+        self.filled.next(from)
+    }
+
+    /// How many queues have items, in constant time.
+    pub fn filled_count(&self) -> usize
+        ensures count { result ≡ length (filled_places self.now) }
+        ensures within { result ≤ length self.now }
+    {
+        self.filled.count()
+    }
+
+    /// Number i of the places whose queues have items, in rising order; none past the last.
+    pub fn filled_place(&self, i: usize) -> Option<usize>
+        ensures number { result ≡ slice_get (filled_places self.now) i }
+        ensures there { IfSome result (λ at. at < length self.now) }
+    {
+        self.filled.nth(i)
+    }
+
+    /// Takes the first item of a queue; none where it is empty.
+    pub fn take(&mut self, at: usize) -> Option<T>
+        requires { at < length self.old }
+        ensures { MatchOption result ((items_at self.old at ≡ []) × (self.new ≡ self.old))
+            (λ x. (items_at self.old at ≡ x ∷ items_at self.new at) × (self.new ≡ slice_set self.old at (items_at self.new at))) }
+    {
+        let taken = self.queues.take(at);
+        if self.queues.len_at(at) == 0 {
+            self.filled.remove(at);
+        }
+        taken
+    }
+
+    /// Takes all items of a queue, the first one first, and puts them behind those that are there.
+    pub fn clear_into(&mut self, at: usize, to: &mut Vec<T>) -> Result<(), Memory>
+        requires { at < length self.old }
+        ensures items { OnOk result (to.new.items ≡ to.old.items ++ items_at self.old at) }
+        ensures left { OnOk result (self.new ≡ slice_set self.old at []) }
+        ensures err { OnErr result ((self.new ≡ self.old) × (to.new.items ≡ to.old.items)) }
+    {
+        self.queues.clear_into(at, to)?;
+        self.filled.remove(at);
+        Ok(())
+    }
+}
+
+impl<T: Drop> Queues<T> {
+    /// As many empty queues as asked for. More than 2^32 - 1 are as want of memory.
+    pub fn new(alloc: Global, count: usize) -> Result<Queues<T>, Memory>
+        ensures { IfOk result (λ bank. bank ≡ replicate count []) }
+    {
+        let filled = BitSet::new(alloc, count)?;
+        let queues = Lists::new(alloc, count)?;
+        Ok(Queues { queues, filled })
+    }
+
+    /// Puts an item behind the last of a queue.
+    #[tactic(auto, using(crate::proofs::Banks::marks_put))]
+    pub fn put(&mut self, at: usize, item: T) -> Result<(), Memory>
+        requires { at < length self.old }
+        ensures ok { OnOk result (self.new ≡ slice_set self.old at (items_at self.old at ++ item ∷ [])) }
+        ensures err { OnErr result (self.new ≡ self.old) }
+    {
+        self.queues.put(at, item)?;
+        self.filled.insert(at);
+        Ok(())
+    }
+}
+
+#[cfg(test)]
+mod tests {
+    use super::*;
+    use std::test::Fail;
+
+    #[test]
+    fn items_wait_each_in_its_queue(rt: HostRuntime) -> Result<(), Fail> {
+        let mut bank: Queues<u8> = Queues::new(rt.alloc(), 100)?;
+        assert_eq!(rt; bank.len(), 100);
+        bank.put(70, 1)?;
+        bank.put(70, 2)?;
+        bank.put(3, 9)?;
+        assert_eq!(rt; bank.next_filled(4), Some(70));
+        assert_eq!(rt; bank.filled_count(), 2);
+        assert_eq!(rt; bank.filled_place(1), Some(70));
+        assert_eq!(rt; bank.first(70), Some(&1));
+        assert_eq!(rt; bank.take(70), Some(1));
+        assert_eq!(rt; bank.len_at(70), 1);
+        assert_eq!(rt; bank.take(70), Some(2));
+        assert_eq!(rt; bank.take(70), None);
+        assert!(rt; bank.is_empty_at(70));
+        assert_eq!(rt; bank.next_filled(4), None);
+        Ok(())
+    }
+
+    #[test]
+    fn a_whole_queue_is_taken(rt: HostRuntime) -> Result<(), Fail> {
+        let mut bank: Queues<u8> = Queues::new(rt.alloc(), 2)?;
+        bank.put(1, 5)?;
+        bank.put(0, 7)?;
+        bank.put(1, 6)?;
+        assert_eq!(rt; bank.iter(1).len(), 2);
+        let mut items = Vec::new(rt.alloc());
+        bank.clear_into(1, &mut items)?;
+        assert_eq!(rt; items.get(0), Some(&5));
+        assert_eq!(rt; items.get(1), Some(&6));
+        assert_eq!(rt; bank.len_at(1), 0);
+        assert_eq!(rt; bank.next_filled(1), None);
+        Ok(())
+    }
+}

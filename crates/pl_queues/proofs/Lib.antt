@@ -1,8 +1,0 @@
-pub mod Places
-pub mod WordBits
-pub mod Marks
-pub mod Banks
-pub mod Counting
-pub mod Ranges
-pub mod TallySums
-pub mod TallyChanges

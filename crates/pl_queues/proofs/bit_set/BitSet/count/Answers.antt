@@ -1,9 +1,0 @@
-use Rattle.std.proofs.Common.{length, ap, ◌∙◌, arith}
-use Rattle.pl_queues.specs.Tallies.{marked_places}
-use Rattle.pl_queues.proofs.TallySums.{few_marked}
-use Rattle.pl_queues.proofs.bit_set.BitSet.count.Goals as goal
-
-pub returns-clause-within : goal.returns-clause-within
-returns-clause-within c =
-    let same = c.count.ensures ∙ ap (λ marks. length (marked_places marks)) (c.self.invariant ∙ c.self.view_is) in
-    omega (arith, same, few_marked c.args.self.now)

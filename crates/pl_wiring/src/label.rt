@@ -4,7 +4,7 @@ ghost use Rattle.pl_wiring.specs.Labels.{label_text};
 use std::fmt;
 
 /// A switch by its place in label order, from 0.
-#[derive(Clone, Copy, Debug, PartialEq, Eq, PartialOrd, Ord, Hash)]
+#[derive(Clone, Copy, Debug, Default, PartialEq, Eq, PartialOrd, Ord, Hash)]
 pub struct SwitchNo(pub u32);
 
 /// What a switch is called: an edge or aggregation switch by its pod and its number there, a core

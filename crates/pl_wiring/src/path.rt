@@ -7,31 +7,29 @@ ghost use Rattle.pl_wiring.specs.Plan.{IsPlan};
 
 use crate::order::half;
 use crate::{LinkStates, SwitchNo, Wiring};
+use arrayvec::ArrayVec;
 use std::marker::Model;
 
 /// The switches that a path goes through, in order: five at most. Contracts see it as their list.
 #[derive(Debug, Drop)]
 pub struct Path {
-    switches: [SwitchNo; 5],
-    len: usize,
+    switches: ArrayVec<SwitchNo, 5>,
 }
 
 impl Model for Path {
-    ghost use Rattle.std.specs.Prelude.{List, ◌≤◌, take};
+    ghost use Rattle.std.specs.Prelude.{List};
     ghost use Rattle.pl_wiring.specs.declared.label.SwitchNo.{SwitchNo};
 
     ghost Value = { List SwitchNo };
 
-    ghost view = { λ path. take path.len path.switches };
-
-    ghost invariant = { λ path. path.len ≤ 5 };
+    ghost view = { λ path. path.switches.items };
 }
 
 impl Path {
     pub fn len(&self) -> usize
         ensures { result ≡ length self.now }
     {
-        self.switches().len()
+        self.switches.len()
     }
 
     pub fn get(&self, n: usize) -> Option<&SwitchNo>
@@ -43,31 +41,32 @@ impl Path {
     pub fn switches(&self) -> &[SwitchNo]
         ensures { result.now ≡ self.now }
     {
-        &self.switches[..self.len]
+        self.switches.as_slice()
     }
 
     fn at(switch: SwitchNo) -> Path
         ensures { result ≡ switch ∷ [] }
     {
-        Path {
-            switches: [switch; 5],
-            len: 1,
-        }
+        let mut switches = ArrayVec::new();
+        switches.push(switch);
+        Path { switches }
     }
 
     fn over(start: SwitchNo, top: SwitchNo, end: SwitchNo) -> Path
         ensures { result ≡ start ∷ top ∷ end ∷ [] }
     {
-        Path {
-            switches: [start, top, end, end, end],
-            len: 3,
-        }
+        let mut path = Path::at(start);
+        path.switches.push(top);
+        path.switches.push(end);
+        path
     }
 
     fn over_core(switches: [SwitchNo; 5]) -> Path
         ensures { result ≡ switches }
     {
-        Path { switches, len: 5 }
+        Path {
+            switches: ArrayVec::from(switches),
+        }
     }
 }
 

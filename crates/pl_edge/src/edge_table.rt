@@ -66,6 +66,13 @@ impl EdgeTable {
         self.book.is_some()
     }
 
+    /// The switch has lost its place, and its book of addresses with it.
+    pub fn unplaced(&mut self)
+        ensures { self.new ≡ record self.old { book = None } }
+    {
+        self.book = None;
+    }
+
     /// To whom an address was granted, be it in use or not; none also before the switch is placed.
     pub fn find(&self, pmac: Pmac) -> Option<Grantee>
         ensures { result ≡ grantee_by self.now.book pmac }

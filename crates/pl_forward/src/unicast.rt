@@ -6,7 +6,7 @@ ghost use Rattle.pl_steps.specs.Taken.{IsTaken};
 ghost use Rattle.pl_switch_rule.specs.Forwarding.{came_by, candidates_by, forwards};
 ghost use Rattle.pl_switch_rule.specs.SwitchRule.{by_flow};
 
-use crate::{candidates, choose_by_flow};
+use crate::{UnicastFacts, choose_by_flow};
 use pl_core::{Act, Cause, Memory, Outbox, SwitchFacts};
 use pl_frame::{Frame, Mac};
 use pl_layouts::Place;
@@ -38,21 +38,21 @@ fn place_at<F: SwitchFacts>(facts: &F, port: u8) -> Place
 
 /// The port by which a unicast frame for another edge switch leaves: of the candidates the one that its
 /// flow names. It goes nowhere where it came from a neighbour of the switch's own level.
-pub fn next_port<F: SwitchFacts>(facts: &F, came: Option<Came>, frame: &[u8]) -> Option<u8>
+pub fn next_port<F: UnicastFacts>(facts: &F, came: Option<Came>, frame: &[u8]) -> Option<u8>
     requires { 14 ≤ length frame.now }
     ensures { result ≡ by_flow (candidates_by (F.view facts.now) (pmac_of (destination_of frame.now)) came) frame.now }
 {
     match came {
         Some(came) => {
             let to = pl_pmac::unpack(Mac::read_at(frame, 0));
-            choose_by_flow(candidates(facts, to, came), frame)
+            choose_by_flow(facts.candidates(to, came), frame)
         }
         None => None,
     }
 }
 
 /// Passes a unicast frame on to another edge switch, or drops it where it has no next hop.
-pub fn forward<F: SwitchFacts>(
+pub fn forward<F: UnicastFacts>(
     facts: &F,
     came: Option<Came>,
     frame: Frame,

@@ -21,6 +21,7 @@ impl PlainState {
         ensures taken { OnOk result (IsTaken (control_comes self.old port frame.now) self.new out.old out.new) }
         ensures id { self.new.id ≡ self.old.id }
         ensures k { self.new.k ≡ self.old.k }
+        ensures avoid { self.new.avoid ≡ self.old.avoid }
     {
         if self.ports.record(port).host {
             return Ok(());
@@ -41,6 +42,7 @@ impl PlainState {
         ensures taken { OnOk result (IsTaken (hears_control self.old port heard) self.new out.old out.new) }
         ensures id { self.new.id ≡ self.old.id }
         ensures k { self.new.k ≡ self.old.k }
+        ensures avoid { self.new.avoid ≡ self.old.avoid }
     {
         match heard {
             Ok(Control::Ldm(id, ldm)) => self.hear_message(port, id, &ldm, out),
@@ -64,6 +66,7 @@ impl PlainState {
         ensures taken { OnOk result (IsTaken (hears_message self.old port id ldm.now) self.new out.old out.new) }
         ensures id { self.new.id ≡ self.old.id }
         ensures k { self.new.k ≡ self.old.k }
+        ensures avoid { self.new.avoid ≡ self.old.avoid }
     {
         let before = self.ports.standing();
         self.ports.heard(port, id, ldm);
@@ -91,6 +94,7 @@ impl PlainState {
         ensures taken { OnOk result (IsTaken (hears_proposal self.old port edge proposal) self.new out.old out.new) }
         ensures id { self.new.id ≡ self.old.id }
         ensures k { self.new.k ≡ self.old.k }
+        ensures avoid { self.new.avoid ≡ self.old.avoid }
     {
         answer_proposal(
             self.alloc,
@@ -109,6 +113,7 @@ impl PlainState {
         ensures taken { OnOk result (IsTaken (changes_to self.old (after_vote self.old port vote.now)) self.new out.old out.new) }
         ensures id { self.new.id ≡ self.old.id }
         ensures k { self.new.k ≡ self.old.k }
+        ensures avoid { self.new.avoid ≡ self.old.avoid }
     {
         let before = self.ports.standing();
         count_vote(&mut self.ports, &mut self.proposer, port, vote);

@@ -25,6 +25,7 @@ impl PlainState {
         ensures id { self.new.id ≡ self.old.id }
         ensures k { self.new.k ≡ self.old.k }
         ensures edge { OnOk result (is_known self.new.place.level 0 ≡ true) }
+        ensures avoid { self.new.avoid ≡ self.old.avoid }
     {
         if knows_host(&self.ports, port) {
             return Ok(());
@@ -51,6 +52,8 @@ impl PlainState {
         ensures id { self.new.id ≡ self.old.id }
         ensures k { self.new.k ≡ self.old.k }
         ensures place { self.new.place ≡ self.old.place }
+        ensures ports { self.new.ports ≡ self.old.ports }
+        ensures avoid { self.new.avoid ≡ self.old.avoid }
     {
         self.edge.learn(port, frame, out)
     }

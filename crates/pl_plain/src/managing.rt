@@ -1,4 +1,4 @@
-ghost use Rattle.std.specs.Prelude.{◌≡◌, OnOk};
+ghost use Rattle.std.specs.Prelude.{◌≡◌, OnErr, OnOk};
 ghost use Rattle.pl_steps.specs.Taken.{IsTaken};
 ghost use Rattle.pl_switch_rule.specs.Messages.{hears_pod, with_part};
 
@@ -14,6 +14,7 @@ impl PlainState {
         ensures taken { OnOk result (IsTaken (hears_pod self.old pod) self.new out.old out.new) }
         ensures id { self.new.id ≡ self.old.id }
         ensures k { self.new.k ≡ self.old.k }
+        ensures avoid { self.new.avoid ≡ self.old.avoid }
     {
         let before = self.ports.standing();
         if !self.ports.take_pod(pod) {
@@ -33,6 +34,7 @@ impl PlainState {
         ensures avoid { OnOk result (self.new ≡ record self.old { avoid = list.now }) }
         ensures id { self.new.id ≡ self.old.id }
         ensures k { self.new.k ≡ self.old.k }
+        ensures err { OnErr result (self.new ≡ self.old) }
     {
         self.avoid = list.copied(self.alloc)?;
         Ok(())
@@ -43,6 +45,9 @@ impl PlainState {
         ensures parts { OnOk result (self.new ≡ record self.old { parts = with_part group part.now self.old.parts }) }
         ensures id { self.new.id ≡ self.old.id }
         ensures k { self.new.k ≡ self.old.k }
+        ensures place { self.new.place ≡ self.old.place }
+        ensures ports { self.new.ports ≡ self.old.ports }
+        ensures avoid { self.new.avoid ≡ self.old.avoid }
     {
         match part {
             Some(part) => {

@@ -1,6 +1,6 @@
 ghost use Rattle.std.specs.Prelude.{◌≡◌, true, is_some, IfOk};
 ghost use Rattle.pl_core.specs.SwitchFacts.{CanBoot, switch_at_boot};
-ghost use Rattle.pl_layouts.specs.Placement.{is_known};
+ghost use Rattle.pl_layouts.specs.Placement.{is_known, nowhere};
 ghost use Rattle.pl_ports.specs.PortsViews.{put_ports};
 ghost use Rattle.pl_edge.specs.EdgeViews.{edge_in, MayBeAt};
 ghost use Rattle.pl_plain.specs.PlainViews.{is_placed_edge};
@@ -58,6 +58,18 @@ impl PlainState {
     /// Where what is made, copied or kept gets its memory.
     pub fn alloc(&self) -> Global {
         self.alloc
+    }
+
+    /// The switch knows nothing any more of its place, of its ports and of the addresses that it granted: to
+    /// what it may be put after want of memory, when it is not used again.
+    pub fn forget_place(&mut self)
+        ensures place { self.new.place ≡ nowhere }
+        ensures id { self.new.id ≡ self.old.id }
+        ensures k { self.new.k ≡ self.old.k }
+    {
+        self.edge.unplaced();
+        self.ports = Ports::new(self.ports.id(), self.ports.k());
+        self.proposer = Proposer::new(self.ports.k());
     }
 
     /// What the switch knows of itself and of its ports.

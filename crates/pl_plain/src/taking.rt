@@ -38,6 +38,8 @@ impl PlainState {
         ensures place { self.new.place ≡ self.old.place }
         ensures id { self.new.id ≡ self.old.id }
         ensures k { self.new.k ≡ self.old.k }
+        ensures ports { self.new.ports ≡ self.old.ports }
+        ensures avoid { self.new.avoid ≡ self.old.avoid }
     {
         self.edge.ingress(port, frame, out)
     }
@@ -48,6 +50,9 @@ impl PlainState {
         ensures taken { OnOk result (IsTaken (invalidates self.old old to (granted self.old old)) self.new out.old out.new) }
         ensures id { self.new.id ≡ self.old.id }
         ensures k { self.new.k ≡ self.old.k }
+        ensures place { self.new.place ≡ self.old.place }
+        ensures ports { self.new.ports ≡ self.old.ports }
+        ensures avoid { self.new.avoid ≡ self.old.avoid }
     {
         self.edge.invalidate(old, to, out)
     }

@@ -27,6 +27,7 @@ impl PlainState {
         ensures taken { OnOk result (IsTaken (ticks self.old) self.new out.old out.new) }
         ensures id { self.new.id ≡ self.old.id }
         ensures k { self.new.k ≡ self.old.k }
+        ensures avoid { self.new.avoid ≡ self.old.avoid }
     {
         tick_ports(self.alloc, &mut self.ports, &self.proposer, out)
     }

@@ -1,9 +1,11 @@
 use pl_core::{AvoidList, PortRecord, SwitchFacts, TreePart};
-use pl_forward::GroupFacts;
+use pl_forward::{GroupFacts, UnicastFacts};
 use pl_frame::SwitchId;
 use pl_layouts::Place;
 use pl_lists::PortSet;
 use pl_plain::PlainState;
+use pl_pmac::Pmac;
+use pl_switch_rule::Came;
 
 /// A switch that does all by the rule, and nothing besides.
 #[derive(Drop)]
@@ -66,5 +68,11 @@ impl SwitchFacts for PlainSwitch {
 impl GroupFacts for PlainSwitch {
     fn member_ports(&self, group: u32) -> PortSet {
         self.state.member_ports(group)
+    }
+}
+
+impl UnicastFacts for PlainSwitch {
+    fn candidates(&self, to: Pmac, came: Came) -> PortSet {
+        pl_forward::candidates(&self.state, to, came)
     }
 }

@@ -2,9 +2,8 @@ ghost use Rattle.pl_switch_rule.proofs.AccountedSteps.{exact_is_loose, exact_ste
 ghost use Rattle.pl_switch_rule.specs.SwitchRule.{Exact};
 
 use crate::PlainSwitch;
-use crate::messages::hear_manager;
-use crate::steps::comes;
 use pl_core::{Memory, Outbox, SwitchCore, ToSwitch};
+use pl_data_rows::{comes, hear_manager};
 use pl_frame::SwitchId;
 use pl_plain::PlainState;
 use pl_switch_rule::{LawfulSwitch, LooseSwitch};

@@ -1,0 +1,9 @@
+pub mod Choosing
+pub mod LeadsMoved
+pub mod ListChanges
+pub mod Nothing
+pub mod Places
+pub mod PortSets
+pub mod Rows
+pub mod Setting
+pub mod Showing

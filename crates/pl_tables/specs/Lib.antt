@@ -1,0 +1,4 @@
+pub mod Rows
+pub mod Leads
+pub mod Tables
+pub mod Ways

@@ -1,5 +1,5 @@
 -- Lists that are made anew, and what was handed out.
-use Rattle.std.proofs.Common.{◌≡◌, ◌||◌, ◌<◌, ℕ, zero, suc, length, get_or, arith, Bool, true, false, cond, List, [], ◌∷◌, map, Option, Some, None, Ordering, Less, Equal, Greater, refl, sym, ap, ◌∙◌, subst, inl, inr}
+use Rattle.std.proofs.Common.{◌≡◌, ◌||◌, Bool, true, false, cond, List, [], ◌∷◌, map, Option, Some, None, Ordering, Less, Equal, Greater, refl, sym, ap, ◌∙◌, subst, inl, inr}
 use Rattle.std.specs.Prelude.{is_some, unwrap_or}
 use Rattle.std.specs.List.{filter, flat_map, list_any}
 use Rattle.std.specs.Ordering.{is_eq, ordering_reverse}
@@ -92,11 +92,6 @@ pub handed_of : (told : Told) (lists before : Lists) → AreListsOf told lists b
 handed_of told lists before h s =
     ap (λ (list : List Avoided). unwrap_or (value_at id_cmp before s) list) (ap (λ (o : Option (List Avoided)). unwrap_or o []) (h.current s) ∙ avoid_of told s)
 
-pub among_index : (xs : List SwitchId) (i : ℕ) (d : SwitchId) → i < length xs → IsAmong (get_or xs i d) xs
-among_index [] i d within = absurd (omega arith)
-among_index (x ∷ xs) zero d within = inl refl
-among_index (x ∷ xs) (suc i) d within = inr (among_index xs i d (omega arith))
-
 -- ---- one more list
 module _ (told : Told) (lists before : Lists) where
   pub none_renewed : AreRenewed told (λ t. false) lists before lists before
@@ -154,37 +149,6 @@ module _ (told : Told) (lists before : Lists) where
           (ap is_some (ap (λ own. with_note (value_at id_cmp b1 t) own (unwrap_or (value_at id_cmp l1 s) [])) (at_turned t s) ∙ sym (r.noted t)) ∙ e);
     }
 
-  -- a switch whose list is what it was
-  kept_more : (some more : SwitchId → Bool) (s : SwitchId) (l b : Lists) → ((t : SwitchId) → more t ≡ (some t || is_at (id_cmp t) s)) →
-      value_at id_cmp lists s ≡ Some (avoid_list told s) → AreRenewed told some lists before l b → AreRenewed told more lists before l b
-  kept_more some more s l b grows is h = record {
-    now = λ t.
-        h.now t ∙ by t (some t) (is_at (id_cmp t) s) refl ∙ ap (λ x. cond x (Some (avoid_list told t)) (value_at id_cmp lists t)) (sym (grows t));
-    handed_stays = h.handed_stays;
-    noted = λ t e.
-        ap (λ x. is_some (value_at id_cmp before t) || x) (grows t) ∙ wider (is_some (value_at id_cmp before t)) (some t) (is_at (id_cmp t) s) (h.noted t e);
-  }
-    where
-      by : (t : SwitchId) (b own : Bool) → is_at (id_cmp t) s ≡ own →
-          cond b (Some (avoid_list told t)) (value_at id_cmp lists t) ≡ cond (b || own) (Some (avoid_list told t)) (value_at id_cmp lists t)
-      by t true own e = refl
-      by t false false e = refl
-      by t false true e = subst (λ z. value_at id_cmp lists z ≡ Some (avoid_list told z)) (sym (at_is t s e)) is
-
-      wider : (x y z : Bool) → (x || y) ≡ true → (x || (y || z)) ≡ true
-      wider x y z e = elim (or_cases x y e) [ inl a ↦ or_left x (y || z) a | inr c ↦ or_right x (y || z) (or_left y z c) ]
-
-  pub one_more_tested : (some more : SwitchId → Bool) (s : SwitchId) (l1 b1 l2 b2 : Lists) (touched : Bool) →
-      ((t : SwitchId) → more t ≡ (some t || is_at (id_cmp t) s)) →
-      (touched ≡ true → IsRenewed s (avoid_list told s) l1 b1 l2 b2) → (touched ≡ false → (l2 ≡ l1) × (b2 ≡ b1)) →
-      (touched ≡ false → value_at id_cmp lists s ≡ Some (avoid_list told s)) →
-      AreRenewed told some lists before l1 b1 → AreRenewed told more lists before l2 b2
-  one_more_tested some more s l1 b1 l2 b2 true grows anew kept is h = one_more_renewed some more s (avoid_list told s) l1 b1 l2 b2 refl grows h (anew refl)
-  one_more_tested some more s l1 b1 l2 b2 false grows anew kept is h =
-      let same = kept refl in
-      subst (λ l. AreRenewed told more lists before l b2) (sym same.0)
-      (subst (λ b. AreRenewed told more lists before l1 b) (sym same.1) (kept_more some more s l1 b1 grows (is refl) h))
-
   -- by the same test in other words
   pub renewed_of : (some more : SwitchId → Bool) (l b : Lists) → ((t : SwitchId) → some t ≡ more t) →
       AreRenewed told some lists before l b → AreRenewed told more lists before l b
@@ -195,15 +159,14 @@ module _ (told : Told) (lists before : Lists) where
   }
 
 -- ---- all lists
-pub all_renewed : (told after : Told) (lists before l2 b2 : Lists) → AreListsOf told lists before →
-    ((t : SwitchId) → has_told told t ≡ true → has_told after t ≡ true) → AreRenewed after (has_told after) lists before l2 b2 → AreListsOf after l2 b2
-all_renewed told after lists before l2 b2 h stays r = record {
-  current = λ t. r.now t ∙ by t (has_told after t) (has_told told t) refl refl;
-  heard = λ t e. elim (or_cases (is_some (value_at id_cmp before t)) (has_told after t) (r.noted t e)) [ inl was ↦ stays t (h.heard t was) | inr now ↦ now ];
+pub all_renewed : (told after : Told) (lists before l2 b2 : Lists) (some : SwitchId → Bool) → AreListsOf told lists before →
+    ((t : SwitchId) → has_told told t ≡ true → has_told after t ≡ true) → ((t : SwitchId) → some t ≡ true → has_told after t ≡ true) →
+    ((t : SwitchId) → some t ≡ false → list_of told t ≡ list_of after t) → AreRenewed after some lists before l2 b2 → AreListsOf after l2 b2
+all_renewed told after lists before l2 b2 some h stays told_now same r = record {
+  current = λ t. r.now t ∙ by t (some t) refl;
+  heard = λ t e. elim (or_cases (is_some (value_at id_cmp before t)) (some t) (r.noted t e)) [ inl was ↦ stays t (h.heard t was) | inr now ↦ told_now t now ];
 }
   where
-    by : (t : SwitchId) (a b : Bool) → has_told after t ≡ a → has_told told t ≡ b →
-        cond a (Some (avoid_list after t)) (value_at id_cmp lists t) ≡ cond a (Some (avoid_list after t)) None
-    by t true b e f = refl
-    by t false true e f = let told_now : has_told after t ≡ true = stays t f in absurd (cc)
-    by t false false e f = h.current t ∙ ap (λ x. cond x (Some (avoid_list told t)) None) f
+    by : (t : SwitchId) (b : Bool) → some t ≡ b → cond b (Some (avoid_list after t)) (value_at id_cmp lists t) ≡ list_of after t
+    by t true e = ap (λ x. cond x (Some (avoid_list after t)) None) (sym (told_now t e))
+    by t false e = h.current t ∙ same t e

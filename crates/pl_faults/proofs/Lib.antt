@@ -2,10 +2,12 @@ pub mod Filling
 pub mod Made
 pub mod Anew
 pub mod Changed
+pub mod Gathered
 pub mod Reaching
+pub mod Nearby
 pub mod Unchanged
-pub mod Turned
 pub mod Words
 pub mod Missing
 pub mod Touched
-pub mod Adding
+pub mod WordBits
+pub mod Filled

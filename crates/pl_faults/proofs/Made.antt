@@ -12,8 +12,9 @@ use Rattle.pl_core.specs.ManagerViews.{PlacedEdge, Told, edge_at, neighbours, pl
 use Rattle.pl_core.specs.AvoidLists.{avoid_list, avoided_at, avoided_cmp, is_above, is_cut, is_level_above, is_sent_down, leads_to}
 use Rattle.pl_manager_rule.proofs.Avoided.{avoided_exact, avoided_total}
 use Rattle.pl_faults.specs.declared.edges.Edge.{Edge}
+use Rattle.pl_faults.specs.declared.leading.Leading.{Leading}
 use Rattle.pl_faults.specs.Making.{Avoided, placed_as, with_neighbour, with_placed}
-use Rattle.pl_faults.specs.Missed.{IsLeading, Misses, avoided_of, is_avoided, is_upper, missed_by, missed_in, with_missed}
+use Rattle.pl_faults.specs.Missed.{IsLeading, avoided_of, is_avoided, is_upper, missed_by, missed_in, with_missed}
 use Rattle.pl_faults.proofs.Filling.{fold_in_order}
 
 -- what passes a test, and then another
@@ -116,12 +117,23 @@ module _ (told : Told) (s u : SwitchId) where
   upper_above h = is_upper_above (place_of told s).level (place_of told u).level h
 
   -- where u is above s
-  pub avoided_kept : (es : List Edge) (missed : Misses) → IsLeading told es missed → is_above told s u ≡ true →
-      avoided_at told s u ≡ avoided_of (place_of told s) s u (missed_in missed u)
-  avoided_kept es missed leading above =
-      avoided_missed es leading.placed
+  pub avoided_kept : (known : Leading) → IsLeading told known → is_above told s u ≡ true →
+      avoided_at told s u ≡ avoided_of (place_of told s) s u (missed_in known.misses.entries u)
+  avoided_kept known leading above =
+      avoided_missed known.edges.items leading.placed
       ∙ ap (avoided_of (place_of told s) s u)
-      (sym (leading.missed_are u ∙ ap (λ b. cond b (missed_by told es u) []) (upper_above above)))
+      (sym (leading.missed_are u ∙ ap (λ b. cond b (missed_by told known.edges.items u) []) (upper_above above)))
+
+  -- a neighbour that misses none adds none
+  pub none_missed : (known : Leading) (list : List Avoided) → IsLeading told known → missed_in known.misses.entries u ≡ [] →
+      list ≡ with_neighbour told s list u
+  unfolding with_neighbour
+  none_missed known list leading none = by (is_above told s u) refl
+    where
+      by : (b : Bool) → is_above told s u ≡ b → list ≡ cond b (fold (insert_key avoided_cmp) list (avoided_at told s u)) list
+      by true above =
+          sym (ap (fold (insert_key avoided_cmp) list) (avoided_kept known leading above ∙ ap (avoided_of (place_of told s) s u) none))
+      by false above = refl
 
 -- ---- placed edge switches, one by one
 placed_one_by_one : {X Y : Type 0} (f : X → Option Y) (step : List Y → Option Y → List Y) →

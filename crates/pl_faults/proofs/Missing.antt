@@ -1,18 +1,19 @@
 -- Which edge switches each switch misses, switch by switch.
-use Rattle.std.proofs.Common.{◌≡◌, ℕ, ◌<◌, ◌+◌, Bool, true, false, cond, not, List, [], ◌∷◌, ◌++◌, length, take, get_or, Option, Some, None, refl, sym, ap, ◌∙◌}
-use Rattle.std.specs.Prelude.{unwrap_or}
-use Rattle.std.specs.List.{filter, list_any}
-use Rattle.std.specs.BTreeMap.{is_at}
+use Rattle.std.proofs.Common.{◌≡◌, ℕ, ◌<◌, ◌+◌, zero, suc, arith, Bool, true, false, cond, not, List, [], ◌∷◌, ◌++◌, length, take, get_or, Option, Some, None, refl, sym, ap, ◌∙◌}
+use Rattle.std.specs.List.{filter}
 use Rattle.std.proofs.lemmas.Bool.{false≢true}
 use Rattle.std.proofs.lemmas.List.{append-nil, take_more}
 use Rattle.std.proofs.lemmas.List.Elements.{filter-append}
 use Rattle.pl_frame.specs.declared.address.SwitchId.{SwitchId}
-use Rattle.pl_core.specs.ManagerViews.{Told, id_cmp, place_of, switches, value_at}
+use Rattle.pl_core.specs.ManagerViews.{Told, place_of, switches}
 use Rattle.pl_core.specs.AvoidLists.{leads_to}
 use Rattle.pl_reports.specs.Kept.{has_told}
 use Rattle.pl_faults.specs.declared.edges.Edge.{Edge}
-use Rattle.pl_faults.specs.Missed.{AreMissed, Misses, is_upper, missed_at, missed_by, with_unled}
-use Rattle.pl_faults.proofs.Reaching.{level_told}
+use Rattle.pl_faults.specs.Missed.{AreMissed, Misses, is_upper, missed_at, missed_by, missed_in, with_unled}
+use Rattle.pl_faults.specs.declared.reach.Reach.{Reach}
+use Rattle.pl_faults.specs.Listed.{is_in}
+use Rattle.pl_faults.specs.Rows.{HasSameRows, IsReach, leads_at, value_of}
+use Rattle.pl_faults.proofs.Reaching.{leads_by_rows, level_told}
 
 -- one that told nothing misses none
 untold_misses : (told : Told) (edges : List Edge) (u : SwitchId) → has_told told u ≡ false → missed_at told edges u ≡ []
@@ -22,22 +23,15 @@ untold_misses told edges u none = by (place_of told u).level refl
     by None e = refl
     by (Some level) e = absurd (false≢true (sym none ∙ level_told told u level e))
 
-pub misses_whole : (told : Told) (edges : List Edge) (missed : Misses) (ss : List SwitchId) → ss ≡ switches told →
-    ((t : SwitchId) → value_at id_cmp missed t ≡ cond (list_any (is_at (id_cmp t)) ss) (Some (missed_at told edges t)) None) → AreMissed told edges missed
-misses_whole told edges missed ss is h u =
-    ap (λ o. unwrap_or o []) (h u ∙ ap (λ xs. cond (list_any (is_at (id_cmp u)) xs) (Some (missed_at told edges u)) None) is)
-    ∙ by (has_told told u) refl
+-- all are put down anew
+pub misses_whole : (told : Told) (edges : List Edge) (first missed : Misses) (ss : List SwitchId) → ss ≡ switches told → first ≡ [] →
+    ((t : SwitchId) → missed_in missed t ≡ cond (is_in ss t) (missed_at told edges t) (missed_in first t)) → AreMissed told edges missed
+misses_whole told edges first missed ss is none h u =
+    h u ∙ (λ i. cond (is_in (is i) u) (missed_at told edges u) (missed_in (none i) u)) ∙ by (has_told told u) refl
   where
-    by : (b : Bool) → has_told told u ≡ b → unwrap_or (cond b (Some (missed_at told edges u)) None) [] ≡ missed_at told edges u
+    by : (b : Bool) → has_told told u ≡ b → cond b (missed_at told edges u) [] ≡ missed_at told edges u
     by true e = refl
     by false e = sym (untold_misses told edges u e)
-
-pub upper_told : (told : Told) (u : SwitchId) → is_upper (place_of told u).level ≡ true → has_told told u ≡ true
-upper_told told u upper = by (place_of told u).level refl upper
-  where
-    by : (o : Option ℕ) → (place_of told u).level ≡ o → is_upper o ≡ true → has_told told u ≡ true
-    by None e h = absurd (false≢true h)
-    by (Some level) e h = level_told told u level e
 
 -- one more edge switch
 kept_more : (f : Edge → Bool) (es : List Edge) (i : ℕ) (d : Edge) → i < length es →
@@ -53,3 +47,36 @@ pub missed_more : (told : Told) (edges : List Edge) (u : SwitchId) (i : ℕ) (d 
     missed_by told (take (i + 1) edges) u
     ≡ with_unled (leads_to told (get_or edges i d).pod (get_or edges i d).switch u) (missed_by told (take i edges) u) (get_or edges i d)
 missed_more told edges u i d within = kept_more (λ e. not (leads_to told e.pod e.switch u)) edges i d within
+
+-- ---- a switch at its place whose rows are what they were
+filter_alike : (f g : Edge → Bool) (es : List Edge) → ((i : ℕ) (d : Edge) → i < length es → f (get_or es i d) ≡ g (get_or es i d)) →
+    filter (λ e. not (f e)) es ≡ filter (λ e. not (g e)) es
+filter_alike f g [] h = refl
+filter_alike f g (e ∷ es) h =
+    let rest = filter_alike f g es (λ i d within. h (suc i) d (omega arith)) in
+    let first : f e ≡ g e = h zero e (omega arith) in
+    λ j. cond (not (first j)) (e ∷ rest j) (rest j)
+
+module _ (told after : Told) (edges : List Edge) (old new : Reach) (was : IsReach told edges old) (now : IsReach after edges new) where
+  same_missed : (u : SwitchId) → place_of after u ≡ place_of told u → HasSameRows old new u → missed_at told edges u ≡ missed_at after edges u
+  same_missed u at same =
+      (λ j. cond (is_upper (sym at j).level) (missed_by told edges u) [])
+      ∙ ap (λ es. cond (is_upper (place_of after u).level) es [])
+      (filter_alike (λ e. leads_to told e.pod e.switch u) (λ e. leads_to after e.pod e.switch u) edges
+      (λ i d within.
+      sym (leads_by_rows told edges old was u i d within)
+      ∙ (λ j. leads_at (sym at j) (get_or edges i d) (value_of (sym same.down j) i) (value_of (sym same.core j) i) (value_of (sym same.up j) i))
+      ∙ leads_by_rows after edges new now u i d within))
+
+  pub misses_near : (missed fresh : Misses) (turned : List SwitchId) → ((t : SwitchId) → place_of after t ≡ place_of told t) →
+      ((t : SwitchId) → is_in turned t ≡ false → HasSameRows old new t) → AreMissed told edges missed →
+      ((t : SwitchId) → missed_in fresh t ≡ cond (is_in turned t) (missed_at after edges t) (missed_in missed t)) → AreMissed after edges fresh
+  misses_near missed fresh turned places same h put u = put u ∙ by (is_in turned u) refl
+    where
+      by : (b : Bool) → is_in turned u ≡ b → cond b (missed_at after edges u) (missed_in missed u) ≡ missed_at after edges u
+      by true e = refl
+      by false e = h u ∙ same_missed u (places u) (same u e)
+
+pub missed_still : (turned : List SwitchId) (now was fresh : List Edge) (t : SwitchId) → is_in turned t ≡ false →
+    now ≡ cond (is_in turned t) fresh was → now ≡ was
+missed_still turned now was fresh t out put = put ∙ ap (λ b. cond b fresh was) out

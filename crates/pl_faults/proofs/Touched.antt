@@ -1,27 +1,26 @@
 -- After a word a list is what it was where nothing turned that it reads.
-use Rattle.std.proofs.Common.{◌≡◌, Bool, true, false, cond, List, [], ◌∷◌, ◌++◌, map, Some, None, refl, sym, ap, ◌∙◌, subst, inl, inr}
-use Rattle.std.specs.Prelude.{is_some}
-use Rattle.std.specs.List.{filter, flat_map, list_any}
+use Rattle.std.proofs.Common.{◌≡◌, ℕ, Bool, true, false, cond, List, [], ◌∷◌, ◌++◌, map, Some, None, refl, sym, ap, ◌∙◌, subst, inl, inr}
+use Rattle.std.specs.Prelude.{fold, is_some}
+use Rattle.std.specs.List.{filter, flat_map}
 use Rattle.std.specs.BTreeMap.{is_at}
-use Rattle.std.proofs.lemmas.Bool.{false≢true, or_cases, or_parts}
+use Rattle.std.proofs.lemmas.Bool.{false≢true, or_cases, or_left}
 use Rattle.pl_frame.specs.declared.address.SwitchId.{SwitchId}
 use Rattle.pl_core.specs.AvoidLists.{avoid_list, avoided_at, avoided_cmp, is_above, is_cut, is_level_above}
-use Rattle.pl_core.specs.ManagerViews.{PlacedEdge, Told, edge_at, id_cmp, in_order, neighbours, place_of, placed_edges, value_at}
+use Rattle.pl_core.specs.ManagerViews.{PlacedEdge, Told, edge_at, has_level, id_cmp, in_order, neighbours, place_of, placed_edges, value_at}
 use Rattle.pl_core.proofs.Among.{IsAmong}
 use Rattle.pl_manager_rule.proofs.Avoided.{IsPlacedAs, among_placed, placed_among}
 use Rattle.pl_reports.specs.Kept.{has_told}
 use Rattle.pl_faults.specs.declared.edges.Edge.{Edge}
-use Rattle.pl_faults.specs.Kept.{AreListsOf, AreRenewed, AreStill, IsKept, IsKeptUp, IsRenewed, IsWordOf, Lists, is_in, list_of}
+use Rattle.pl_faults.specs.declared.leading.Leading.{Leading}
+use Rattle.pl_faults.specs.Kept.{AreRenewed, IsKept, IsKeptUp, IsLinkWord, IsPlaceWord, IsRenewed, IsWordOf, Lists, list_of}
+use Rattle.pl_faults.specs.Listed.{AreHeard, Hearers, is_in, with_below}
 use Rattle.pl_faults.specs.Making.{Avoided, placed_as}
-use Rattle.pl_faults.specs.Missed.{AreMissed, IsLeading, Misses, avoided_of, is_some_edge, is_upper, missed_at, missed_by, missed_in}
-use Rattle.pl_faults.proofs.Anew.{all_renewed, at_is, at_turned, none_renewed, one_more_renewed}
+use Rattle.pl_faults.specs.Missed.{AreMissed, IsLeading, IsTurned, avoided_of, is_some_edge, is_upper, missed_at, missed_by}
+use Rattle.pl_faults.specs.Rows.{AreRows, Leads, Rows, leads_by, leads_down, row_at_level, row_of}
+use Rattle.pl_faults.proofs.Anew.{all_renewed, among_told, at_is, at_turned, none_renewed, one_more_renewed}
+use Rattle.pl_faults.proofs.Gathered.{below_from, in_below, in_below_before}
 use Rattle.pl_faults.proofs.Made.{avoided_kept}
-use Rattle.pl_faults.proofs.Reaching.{above_told}
-
-none_in : (f : SwitchId → Bool) (u : SwitchId) (us : List SwitchId) → list_any f us ≡ false → IsAmong u us → f u ≡ false
-none_in f u [] none among = absurd among
-none_in f u (x ∷ xs) none (inl is) = subst (λ z. f z ≡ false) is (or_parts (f x) (list_any f xs) none).0
-none_in f u (x ∷ xs) none (inr there) = none_in f u xs (or_parts (f x) (list_any f xs) none).1 there
+use Rattle.pl_faults.proofs.Reaching.{below_told}
 
 -- ---- a word of one switch
 module _ (s : SwitchId) (told after : Told) (w : IsWordOf s told after) where
@@ -31,69 +30,6 @@ module _ (s : SwitchId) (told after : Told) (w : IsWordOf s told after) where
       by : (b : Bool) → is_at (id_cmp s) t ≡ b → has_told after t ≡ true
       by true e = subst (λ z. has_told after z ≡ true) (at_is s t e) w.itself
       by false e = w.others t e ∙ h
-
-  module _ (old edges : List Edge) (missed fresh : Misses) (lead : IsLeading told old missed) (led : IsLeading after edges fresh)
-      (turned : List SwitchId) (itself : is_in turned s ≡ true)
-      (others : (t : SwitchId) → has_told after t ≡ true → is_in turned t ≡ false → missed_in missed t ≡ missed_in fresh t) where
-    another : (t : SwitchId) → is_in turned t ≡ false → is_at (id_cmp s) t ≡ false
-    another t out = by (is_at (id_cmp s) t) refl
-      where
-        by : (b : Bool) → is_at (id_cmp s) t ≡ b → b ≡ false
-        by true e = absurd (false≢true (sym out ∙ subst (λ z. is_in turned z ≡ true) (at_is s t e) itself))
-        by false e = refl
-
-    module _ (t : SwitchId) (at : place_of after t ≡ place_of told t) where
-      above_same : (u : SwitchId) → is_in turned u ≡ false → is_above after t u ≡ is_above told t u
-      above_same u out = λ j. is_level_above (at j).level (w.place u (another u out) j).level
-
-      avoided_same : (u : SwitchId) → is_in turned u ≡ false → is_above after t u ≡ true → avoided_at after t u ≡ avoided_at told t u
-      avoided_same u out above =
-          avoided_kept after t u edges fresh led above
-          ∙ (λ j. avoided_of (at j) t u (sym (others u (above_told after t u above) out) j))
-          ∙ sym (avoided_kept told t u old missed lead (sym (above_same u out) ∙ above))
-
-      all_same : (us : List SwitchId) → ((u : SwitchId) → IsAmong u us → is_in turned u ≡ false) →
-          flat_map (avoided_at after t) (filter (is_above after t) us) ≡ flat_map (avoided_at told t) (filter (is_above told t) us)
-      all_same [] out = refl
-      all_same (u ∷ us) out =
-          by (all_same us (λ x h. out x (inr h))) (is_above after t u) refl
-          ∙ ap (λ b. flat_map (avoided_at told t) (cond b (u ∷ filter (is_above told t) us) (filter (is_above told t) us))) (above_same u (out u (inl refl)))
-        where
-          by : flat_map (avoided_at after t) (filter (is_above after t) us) ≡ flat_map (avoided_at told t) (filter (is_above told t) us) →
-              (b : Bool) → is_above after t u ≡ b →
-              flat_map (avoided_at after t) (cond b (u ∷ filter (is_above after t) us) (filter (is_above after t) us))
-              ≡ flat_map (avoided_at told t) (cond b (u ∷ filter (is_above told t) us) (filter (is_above told t) us))
-          by rest true above = λ j. avoided_same u (out u (inl refl)) above j ++ rest j
-          by rest false above = rest
-
-      same_list : neighbours after t ≡ neighbours told t → ((u : SwitchId) → IsAmong u (neighbours after t) → is_in turned u ≡ false) →
-          avoid_list after t ≡ avoid_list told t
-      unfolding avoid_list
-      same_list near out =
-          ap (in_order avoided_cmp)
-          (all_same (neighbours after t) out
-          ∙ ap (λ us. flat_map (avoided_at told t) (filter (is_above told t) us)) near)
-
-    still_lists : (lists before : Lists) → AreListsOf told lists before → AreStill after turned lists
-    still_lists lists before are t heard untouched =
-        let two = or_parts (is_in turned t) (list_any (λ u. is_in turned u) (neighbours after t)) untouched in
-        let other = another t two.0 in
-        let out : (u : SwitchId) → IsAmong u (neighbours after t) → is_in turned u ≡ false = λ u h. none_in (λ x. is_in turned x) u (neighbours after t) two.1 h in
-        are.current t ∙ ap (λ b. cond b (Some (avoid_list told t)) None) (sym (w.others t other) ∙ heard)
-        ∙ ap Some (sym (same_list t (w.place t other) (w.near t other) out))
-
-  -- all lists are kept, where those that are touched were made anew
-  pub placed_kept : (old edges : List Edge) (missed fresh : Misses) (lists before l2 b2 : Lists) (turned : List SwitchId) →
-      IsKept told old missed lists before → IsLeading after edges fresh → is_in turned s ≡ true →
-      ((t : SwitchId) → has_told after t ≡ true → is_in turned t ≡ false → missed_in missed t ≡ missed_in fresh t) →
-      (AreStill after turned lists → AreRenewed after (has_told after) lists before l2 b2) →
-      IsKeptUp after lists before edges fresh l2 b2
-  placed_kept old edges missed fresh lists before l2 b2 turned kept led itself others renewed =
-      let r = renewed (still_lists old edges missed fresh kept.leading led turned itself others lists before kept.listed) in
-      record {
-        kept = record { leading = led; listed = all_renewed told after lists before l2 b2 kept.listed stays_heard r };
-        handed = r.handed_stays;
-      }
 
   -- ---- no edge switch is placed, nor was
   no_edges : (edges : List Edge) → is_some_edge edges ≡ false → edges ≡ []
@@ -130,12 +66,41 @@ nothing_missed told u = by (is_upper (place_of told u).level)
     by true = refl
     by false = refl
 
-pub unplaced_kept : (s : SwitchId) (told after : Told) (w : IsWordOf s told after) (edges : List Edge) (misses : Misses) (lists before l2 b2 : Lists) →
-    IsKept told edges misses lists before → is_some_edge edges ≡ false → is_some (edge_at s (place_of after s)) ≡ false →
-    IsRenewed s [] lists before l2 b2 → IsKeptUp after lists before edges misses l2 b2
-unplaced_kept s told after w edges misses lists before l2 b2 kept empty unplaced renewed = record {
+no_row : (told : Told) (level : ℕ) (f : Leads) (u : SwitchId) → row_at_level told level f [] u ≡ []
+no_row told level f u = by (has_level told u level)
+  where
+    by : (b : Bool) → cond b (row_of f [] u) [] ≡ []
+    by true = refl
+    by false = refl
+
+no_rows : (told after : Told) (level : ℕ) (f g : Leads) (edges : List Edge) (rows : Rows) → edges ≡ [] → AreRows told level edges f rows →
+    AreRows after level edges g rows
+no_rows told after level f g edges rows none h = record {
+  all = λ u.
+      h.all u ∙ ap (λ es. row_at_level told level f es u) none ∙ no_row told level f u ∙ sym (no_row after level g u)
+      ∙ ap (λ es. row_at_level after level g es u) (sym none);
+}
+
+pub still_all_heard : (told after : Told) {s : SwitchId} (w : IsPlaceWord s told after) (hearers : Hearers) → AreHeard told hearers → AreHeard after hearers
+still_all_heard told after w hearers h t u near = h t u (ap (λ us. is_in us u) (sym (w.near t)) ∙ near)
+
+pub unplaced_kept : (s : SwitchId) (told after : Told) (word : IsPlaceWord s told after) (known : Leading) (lists before l2 b2 : Lists) →
+    IsKept told known lists before → is_some_edge known.edges.items ≡ false → is_some (edge_at s (place_of after s)) ≡ false →
+    IsRenewed s [] lists before l2 b2 → IsKeptUp after lists before known l2 b2
+unplaced_kept s told after word known lists before l2 b2 kept empty unplaced renewed = record {
   kept = record {
-    leading = record { placed = ap (map placed_as) is_empty ∙ sym none; missed_are = missed_none };
+    leading = record {
+      placed = ap (map placed_as) is_empty ∙ sym none;
+      reach = record {
+        by_link = no_rows told after 1 (leads_down told) (leads_down after) edges known.reach.down.entries is_empty kept.leading.reach.by_link;
+        by_core = no_rows told after 2 (leads_by told 1 (leads_down told)) (leads_by after 1 (leads_down after)) edges known.reach.core.entries is_empty
+            kept.leading.reach.by_core;
+        by_two = no_rows told after 1 (leads_by told 2 (leads_by told 1 (leads_down told))) (leads_by after 2 (leads_by after 1 (leads_down after))) edges
+            known.reach.up.entries is_empty kept.leading.reach.by_two;
+      };
+      missed_are = missed_none;
+      heard = still_all_heard told after word known.hearers.entries kept.leading.heard;
+    };
     listed = record {
       current = λ t. r.now t ∙ by t (is_at (id_cmp t) s) refl;
       heard = λ t e. elim (or_cases (is_some (value_at id_cmp before t)) (is_at (id_cmp t) s) (r.noted t e)) [
@@ -147,10 +112,16 @@ unplaced_kept s told after w edges misses lists before l2 b2 kept empty unplaced
   handed = r.handed_stays;
 }
   where
+    w : IsWordOf s told after
+    w = word.word
+
+    edges : List Edge
+    edges = known.edges.items
+
     is_empty : edges ≡ []
     is_empty = no_edges s told after w edges empty
 
-    missed_none : AreMissed after edges misses
+    missed_none : AreMissed after edges known.misses.entries
     missed_none u =
         kept.leading.missed_are u ∙ ap (λ es. missed_at told es u) is_empty ∙ nothing_missed told u ∙ sym (nothing_missed after u)
         ∙ ap (λ es. missed_at after es u) (sym is_empty)
@@ -174,3 +145,98 @@ unplaced_kept s told after w edges misses lists before l2 b2 kept empty unplaced
         let apart : is_at (id_cmp s) t ≡ false = at_turned s t ∙ other in
         kept.listed.current t
         ∙ (λ i. cond (sym (w.others t apart) i) (Some ((nothing_avoided told t none_told ∙ sym (nothing_avoided after t none)) i)) None)
+
+-- ---- a word on a place, after which all is made anew
+pub placed_kept : (s : SwitchId) (told after : Told) (w : IsPlaceWord s told after) (was known : Leading) (lists before l2 b2 : Lists) →
+    IsKept told was lists before → IsLeading after known → AreRenewed after (has_told after) lists before l2 b2 → IsKeptUp after lists before known l2 b2
+placed_kept s told after w was known lists before l2 b2 kept led r = record {
+  kept = record {
+    leading = led;
+    listed = all_renewed told after lists before l2 b2 (has_told after) kept.listed (stays_heard s told after w.word) (λ t e. e)
+        (λ t out. nothing_told t out (has_told told t) refl) r;
+  };
+  handed = r.handed_stays;
+}
+  where
+    nothing_told : (t : SwitchId) → has_told after t ≡ false → (b : Bool) → has_told told t ≡ b → list_of told t ≡ list_of after t
+    nothing_told t out true e = absurd (false≢true (sym out ∙ stays_heard s told after w.word t e))
+    nothing_told t out false e =
+        ap (λ b. cond b (Some (avoid_list told t)) None) e ∙ sym (ap (λ b. cond b (Some (avoid_list after t)) None) out)
+
+-- ---- a word on a link, after which those lists are made anew that read what turned
+module _ (s u : SwitchId) (told after : Told) (w : IsLinkWord s u told after) (was known : Leading) (turned : List SwitchId)
+    (lead : IsLeading told was) (led : IsTurned after was known turned) where
+  module _ (t : SwitchId) where
+    above_same : (x : SwitchId) → is_above after t x ≡ is_above told t x
+    above_same x = λ j. is_level_above (w.place t j).level (w.place x j).level
+
+    avoided_same : (x : SwitchId) → is_in turned x ≡ false → is_above after t x ≡ true → avoided_at after t x ≡ avoided_at told t x
+    avoided_same x out above =
+        avoided_kept after t x known led.leading above
+        ∙ (λ j. avoided_of (w.place t j) t x (led.same x out j))
+        ∙ sym (avoided_kept told t x was lead (sym (above_same x) ∙ above))
+
+    all_same : (xs : List SwitchId) → ((x : SwitchId) → IsAmong x xs → is_above after t x ≡ true → is_in turned x ≡ false) →
+        flat_map (avoided_at after t) (filter (is_above after t) xs) ≡ flat_map (avoided_at told t) (filter (is_above told t) xs)
+    all_same [] out = refl
+    all_same (x ∷ xs) out =
+        by (all_same xs (λ z h. out z (inr h))) (is_above after t x) refl
+        ∙ ap (λ b. flat_map (avoided_at told t) (cond b (x ∷ filter (is_above told t) xs) (filter (is_above told t) xs))) (above_same x)
+      where
+        by : flat_map (avoided_at after t) (filter (is_above after t) xs) ≡ flat_map (avoided_at told t) (filter (is_above told t) xs) →
+            (b : Bool) → is_above after t x ≡ b →
+            flat_map (avoided_at after t) (cond b (x ∷ filter (is_above after t) xs) (filter (is_above after t) xs))
+            ≡ flat_map (avoided_at told t) (cond b (x ∷ filter (is_above told t) xs) (filter (is_above told t) xs))
+        by rest true above = λ j. avoided_same x (out x (inl refl) above) above j ++ rest j
+        by rest false above = rest
+
+    same_list : neighbours after t ≡ neighbours told t →
+        ((x : SwitchId) → IsAmong x (neighbours after t) → is_above after t x ≡ true → is_in turned x ≡ false) → avoid_list after t ≡ avoid_list told t
+    unfolding avoid_list
+    same_list near out =
+        ap (in_order avoided_cmp)
+        (all_same (neighbours after t) out
+        ∙ ap (λ us. flat_map (avoided_at told t) (filter (is_above told t) us)) near)
+
+  abbrev touched : List SwitchId
+  touched = fold (with_below after known.hearers.entries) (s ∷ []) turned
+
+  not_so : (b : Bool) → (b ≡ true → ⊥) → b ≡ false
+  not_so true f = absurd (f refl)
+  not_so false f = refl
+
+  alone : (t : SwitchId) → is_at (id_cmp t) s ≡ true → is_in (s ∷ []) t ≡ true
+  alone t at = or_left (is_at (id_cmp t) s) false at
+
+  untouched : (t : SwitchId) → is_in touched t ≡ false → list_of told t ≡ list_of after t
+  untouched t out =
+      let other : is_at (id_cmp s) t ≡ false =
+      at_turned s t
+      ∙ not_so (is_at (id_cmp t) s) (λ at. false≢true (sym out ∙ in_below_before after t known.hearers.entries turned (s ∷ []) (alone t at))) in
+      let far : (x : SwitchId) → IsAmong x (neighbours after t) → is_above after t x ≡ true → is_in turned x ≡ false =
+      λ x near above.
+      not_so (is_in turned x)
+      (λ there. false≢true (sym out ∙ in_below after t known.hearers.entries x turned (s ∷ []) there
+      (led.leading.heard t x (among_told x (neighbours after t) near)) above)) in
+      λ j. cond (sym (w.word.others t other) j) (Some (sym (same_list t (w.word.near t other) far) j)) None
+
+  touched_told : (t : SwitchId) → is_in touched t ≡ true → has_told after t ≡ true
+  touched_told t h = elim (below_from after t known.hearers.entries turned (s ∷ []) h) [
+    | inl own ↦ elim (or_cases (is_at (id_cmp t) s) false own) [
+      | inl at ↦ subst (λ z. has_told after z ≡ true) (sym (at_is t s at)) w.word.itself
+      | inr none ↦ absurd (false≢true none)
+    ]
+    | inr low ↦ below_told after t low.0 low.1
+  ]
+
+  pub near_kept : (lists before l2 b2 : Lists) (asked : List SwitchId) → IsKept told was lists before → asked ≡ touched →
+      AreRenewed after (is_in asked) lists before l2 b2 → IsKeptUp after lists before known l2 b2
+  near_kept lists before l2 b2 asked kept is r =
+      let on : AreRenewed after (is_in touched) lists before l2 b2 = subst (λ xs. AreRenewed after (is_in xs) lists before l2 b2) is r in
+      record {
+        kept = record {
+          leading = led.leading;
+          listed = all_renewed told after lists before l2 b2 (is_in touched) kept.listed (stays_heard s told after w.word) touched_told untouched on;
+        };
+        handed = on.handed_stays;
+      }

@@ -22,6 +22,10 @@ use Rattle.pl_reports.specs.Kept.{has_told}
 use Rattle.pl_reports.proofs.Ordering.{same_rising}
 use Rattle.pl_reports.proofs.Telling.{key_of_near, link_exact, link_total, other_neighbours, own_neighbours, switches_linked, switches_placed}
 use Rattle.pl_faults.specs.declared.edges.Edge.{Edge}
+use Rattle.pl_faults.specs.declared.leading.Leading.{Leading}
+use Rattle.pl_faults.specs.declared.reach.Reach.{Reach}
+use Rattle.pl_faults.specs.Listed.{is_in}
+use Rattle.pl_faults.specs.Rows.{AreRows, IsReach, Leads, Rows, leads_by, leads_down, row_of}
 use Rattle.pl_faults.specs.Kept.{IsKept, Lists}
 use Rattle.pl_faults.specs.Making.{Avoided}
 use Rattle.pl_faults.specs.Missed.{AreMissed, Misses, is_upper}
@@ -77,12 +81,42 @@ module _ (told after : Told) (places : (x : SwitchId) → place_of after x ≡ p
       ∙ (λ i. cond (is_upper (sym (places x) i).level)
       (filter (λ (e : Edge). not (on (λ z. sym (places z) i) (λ y z. sym (alive y z) i) (λ z. sym (near z) i) e.pod e.switch x)) edges) [])
 
-  alike_kept : (edges : List Edge) (missed : Misses) (lists before : Lists) →
-      IsKept told edges missed lists before → IsKept after edges missed lists before
-  alike_kept edges missed lists before kept = record {
+  rows_same : (level : ℕ) (f g : Leads) (edges : List Edge) (rows : Rows) →
+      ((u : SwitchId) → row_of f edges u ≡ row_of g edges u) → AreRows told level edges f rows → AreRows after level edges g rows
+  rows_same level f g edges rows same h = record {
+    all = λ u. h.all u ∙ (λ i. cond (is_known (sym (places u) i).level level) (same u i) []);
+  }
+
+  abbrev down_in : (SwitchId → Place) → (SwitchId → SwitchId → Bool) → Leads
+  down_in place living e u = is_known (place u).pod e.pod && living u e.switch
+
+  abbrev by_in : (SwitchId → Place) → (SwitchId → SwitchId → Bool) → (SwitchId → List SwitchId) → ℕ → Leads → Leads
+  by_in place living around level f e u = list_any (λ x. is_known (place x).level level && f e x) (filter (living u) (around u))
+
+  reach_same : (edges : List Edge) (known : Reach) → IsReach told edges known → IsReach after edges known
+  reach_same edges known h =
+      record {
+        by_link =
+            rows_same 1 (leads_down told) (leads_down after) edges known.down.entries
+            (λ u i. row_of (down_in (λ z. sym (places z) i) (λ y z. sym (alive y z) i)) edges u) h.by_link;
+        by_core =
+            rows_same 2 (leads_by told 1 (leads_down told)) (leads_by after 1 (leads_down after)) edges known.core.entries
+            (λ u i. row_of (by_in (λ z. sym (places z) i) (λ y z. sym (alive y z) i) (λ z. sym (near z) i) 1
+            (down_in (λ z. sym (places z) i) (λ y z. sym (alive y z) i))) edges u) h.by_core;
+        by_two =
+            rows_same 1 (leads_by told 2 (leads_by told 1 (leads_down told))) (leads_by after 2 (leads_by after 1 (leads_down after))) edges known.up.entries
+            (λ u i. row_of (by_in (λ z. sym (places z) i) (λ y z. sym (alive y z) i) (λ z. sym (near z) i) 2
+            (by_in (λ z. sym (places z) i) (λ y z. sym (alive y z) i) (λ z. sym (near z) i) 1
+            (down_in (λ z. sym (places z) i) (λ y z. sym (alive y z) i)))) edges u) h.by_two;
+      }
+
+  alike_kept : (known : Leading) (lists before : Lists) → IsKept told known lists before → IsKept after known lists before
+  alike_kept known lists before kept = record {
     leading = record {
       placed = kept.leading.placed ∙ sym edges_same;
-      missed_are = missed_same edges missed kept.leading.missed_are;
+      reach = reach_same known.edges.items known.reach kept.leading.reach;
+      missed_are = missed_same known.edges.items known.misses.entries kept.leading.missed_are;
+      heard = λ t u h. kept.leading.heard t u (ap (λ us. is_in us u) (sym (near t)) ∙ h);
     };
     listed = record {
       current = λ t. kept.listed.current t ∙ (λ i. cond (sym (heard_same t) i) (Some (sym (list_same t) i)) None);
@@ -90,7 +124,7 @@ module _ (told after : Told) (places : (x : SwitchId) → place_of after x ≡ p
     };
   }
 
-insert_nothing : (xs : List SwitchId) (k : SwitchId) → IsStrictlySortedBy id_cmp xs → IsAmong k xs → insert_key id_cmp xs k ≡ xs
+pub insert_nothing : (xs : List SwitchId) (k : SwitchId) → IsStrictlySortedBy id_cmp xs → IsAmong k xs → insert_key id_cmp xs k ≡ xs
 insert_nothing xs k s among =
     same_rising id_cmp id_total id_exact (insert_key id_cmp xs k) xs (rising_inserted id_cmp id_total k xs s) s
     (λ x h. elim (among_insert id_cmp k x xs h) [ inl is ↦ subst (λ z. IsAmong z xs) is among | inr j ↦ j ])
@@ -106,7 +140,7 @@ module _ (told : Told) (s u : SwitchId) (usable : Bool) where
   abbrev after : Told
   after = with_link told s u usable
 
-  usable_after : (x y : SwitchId) (own : Bool) → is_eq (link_cmp (x, y) (s, u)) ≡ own → own ≡ false → is_told_usable after x y ≡ is_told_usable told x y
+  pub usable_after : (x y : SwitchId) (own : Bool) → is_eq (link_cmp (x, y) (s, u)) ≡ own → own ≡ false → is_told_usable after x y ≡ is_told_usable told x y
   usable_after x y own is other =
       ap (λ (o : Option Bool). unwrap_or o false)
       (value_after link_cmp link_total link_exact told.links (s, u) (x, y) usable
@@ -147,14 +181,13 @@ module _ (told : Told) (s u : SwitchId) (usable : Bool) where
             other_neighbours told s u usable t
             (λ is. let so : is_at (id_cmp s) t ≡ true = subst (λ z. is_at (id_cmp s) z ≡ true) is (is_itself s) in absurd (cc))
 
-    pub known_kept : is_alive after s u ≡ is_alive told s u → (edges : List Edge) (missed : Misses) (lists before : Lists) →
-        IsKept told edges missed lists before → IsKept after edges missed lists before
+    pub known_kept : is_alive after s u ≡ is_alive told s u → (known : Leading) (lists before : Lists) →
+        IsKept told known lists before → IsKept after known lists before
     known_kept h = alike_kept told after (λ x. refl) (alive_after h) near_same switches_same
 
 -- a place that is told again
 pub place_kept : (told : Told) (s : SwitchId) (place : Place) → has_told told s ≡ true → place ≡ place_of told s →
-    (edges : List Edge) (missed : Misses) (lists before : Lists) →
-    IsKept told edges missed lists before → IsKept (with_place told s place) edges missed lists before
+    (known : Leading) (lists before : Lists) → IsKept told known lists before → IsKept (with_place told s place) known lists before
 place_kept told s place heard is =
     alike_kept told (with_place told s place) same (λ x y. refl) (λ x. refl)
     (switches_placed told s place ∙ insert_nothing (switches told) s (switches_rise told) (told_among s (switches told) heard))

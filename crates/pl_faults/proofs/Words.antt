@@ -1,23 +1,28 @@
 -- What one word leaves of what all other switches told.
-use Rattle.std.proofs.Common.{◌≡◌, Bool, true, false, cond, Option, Some, refl, sym, ap, ◌∙◌, subst, inl, inr}
+use Rattle.std.proofs.Common.{◌≡◌, ◌⊎◌, ◌&&◌, ℕ, Bool, true, false, cond, List, [], ◌∷◌, Option, Some, None, Ordering, Less, Equal, Greater, refl, sym, ap, ◌∙◌, subst, inl, inr}
 use Rattle.std.specs.Prelude.{unwrap_or}
-use Rattle.std.specs.List.{list_any}
+use Rattle.std.specs.List.{cons_option, filter, filter_map, list_any}
+use Rattle.std.specs.Ordering.{is_eq, match_ordering}
+use Rattle.std.specs.Cmp.{Equal-is}
 use Rattle.std.specs.BTreeMap.{is_at}
 use Rattle.std.specs.BTreeSet.{insert_key}
 use Rattle.std.proofs.lemmas.Bool.{false≢true}
 use Rattle.pl_frame.specs.declared.address.SwitchId.{SwitchId}
 use Rattle.pl_layouts.specs.declared.place.Place.{Place}
 use Rattle.pl_layouts.specs.Placement.{nowhere}
-use Rattle.pl_core.specs.ManagerViews.{Told, id_cmp, switches, value_at}
+use Rattle.pl_core.specs.ManagerViews.{PlacedEdge, Told, alive_neighbours, edge_at, edge_with, id_cmp, link_cmp, neighbours, place_of, placed_edges, switches, value_at}
 use Rattle.pl_core.proofs.Among.{IsAmong, among_insert, id_total}
 use Rattle.pl_manager_rule.specs.ManagerRule.{with_link, with_place}
-use Rattle.pl_manager_rule.proofs.Avoided.{id_exact}
+use Rattle.pl_manager_rule.proofs.Avoided.{id_exact, switches_rise}
 use Rattle.pl_manager_rule.proofs.History.{value_after}
-use Rattle.pl_reports.specs.Kept.{has_told}
-use Rattle.pl_reports.proofs.Telling.{other_neighbours, switches_linked, switches_placed}
-use Rattle.pl_faults.specs.Kept.{IsWordOf}
-use Rattle.pl_faults.proofs.Anew.{among_told, at_turned, is_itself, still_linked, still_placed, told_among}
-use Rattle.pl_faults.proofs.Turned.{in_itself}
+use Rattle.pl_reports.specs.Kept.{has_told, near_of, with_neighbour}
+use Rattle.pl_reports.proofs.Telling.{IsPair, link_exact, other_neighbours, own_neighbours, switches_linked, switches_placed}
+use Rattle.pl_faults.specs.Kept.{IsLinkWord, IsPlaceWord}
+use Rattle.pl_faults.specs.Listed.{AreHeard, Hearers, is_in}
+use Rattle.pl_faults.proofs.Anew.{among_told, at_is, at_turned, is_itself, still_linked, still_placed, told_among}
+use Rattle.pl_faults.proofs.Gathered.{in_itself, in_more}
+use Rattle.pl_faults.proofs.Reaching.{level_told}
+use Rattle.pl_faults.proofs.Unchanged.{insert_nothing, usable_after}
 
 -- a switch that is not the one that told is heard just where it was
 other_heard : (told after : Told) (s t : SwitchId) → switches after ≡ insert_key id_cmp (switches told) s →
@@ -34,24 +39,106 @@ other_heard told after s t is stays other = by (has_told after t) (has_told told
           | inr there ↦ sym (among_told t (switches told) there) ∙ f
         ]
 
-pub word_of_place : (told : Told) (s : SwitchId) (place : Place) → IsWordOf s told (with_place told s place)
+pub word_of_place : (told : Told) (s : SwitchId) (place : Place) → IsPlaceWord s told (with_place told s place)
 word_of_place told s place = record {
-  place = λ t other.
-      ap (λ (o : Option Place). unwrap_or o nowhere)
-      (value_after id_cmp id_total id_exact told.places s t place
-      ∙ ap (λ b. cond b (Some place) (value_at id_cmp told.places t)) (sym (at_turned s t) ∙ other));
-  near = λ t other. refl;
-  others = λ t other.
-      other_heard told (with_place told s place) s t (switches_placed told s place) (still_placed told s place t) other;
-  itself = ap (list_any (is_at (id_cmp s))) (switches_placed told s place) ∙ in_itself s (switches told);
+  word = record {
+    place = λ t other.
+        ap (λ (o : Option Place). unwrap_or o nowhere)
+        (value_after id_cmp id_total id_exact told.places s t place
+        ∙ ap (λ b. cond b (Some place) (value_at id_cmp told.places t)) (sym (at_turned s t) ∙ other));
+    near = λ t other. refl;
+    others = λ t other.
+        other_heard told (with_place told s place) s t (switches_placed told s place) (still_placed told s place t) other;
+    itself = ap (list_any (is_at (id_cmp s))) (switches_placed told s place) ∙ in_itself s (switches told);
+  };
+  near = λ t. refl;
 }
 
-pub word_of_link : (told : Told) (s u : SwitchId) (usable : Bool) → IsWordOf s told (with_link told s u usable)
+-- ---- a link
+-- a switch without a place adds no placed edge switch
+none_placed : (f : SwitchId → Option PlacedEdge) (s : SwitchId) → f s ≡ None → (xs : List SwitchId) → filter_map f (insert_key id_cmp xs s) ≡ filter_map f xs
+none_placed f s none [] = ap (λ o. cons_option o []) none
+none_placed f s none (x ∷ xs) = by (none_placed f s none xs) (id_cmp s x)
+  where
+    by : filter_map f (insert_key id_cmp xs s) ≡ filter_map f xs → (o : Ordering) →
+        filter_map f (match_ordering o (s ∷ x ∷ xs) (x ∷ xs) (x ∷ insert_key id_cmp xs s)) ≡ filter_map f (x ∷ xs)
+    by rest Less = ap (λ o. cons_option o (filter_map f (x ∷ xs))) none
+    by rest Equal = refl
+    by rest Greater = ap (cons_option (f x)) rest
+
+edges_linked : (told : Told) (s u : SwitchId) (usable : Bool) → placed_edges (with_link told s u usable) ≡ placed_edges told
+edges_linked told s u usable = ap (filter_map edge) (switches_linked told s u usable) ∙ by (has_told told s) refl
+  where
+    edge : SwitchId → Option PlacedEdge
+    edge t = edge_at t (place_of told t)
+
+    unlevelled : (a b d : Option ℕ) → ((n : ℕ) → a ≡ Some n → ⊥) → edge_with s a b d ≡ None
+    unlevelled None b d f = refl
+    unlevelled (Some n) b d f = absurd (f n refl)
+
+    by : (b : Bool) → has_told told s ≡ b → filter_map edge (insert_key id_cmp (switches told) s) ≡ placed_edges told
+    by true e = ap (filter_map edge) (insert_nothing (switches told) s (switches_rise told) (told_among s (switches told) e))
+    by false e =
+        none_placed edge s
+        (unlevelled (place_of told s).level (place_of told s).position (place_of told s).pod (λ n is. false≢true (sym e ∙ level_told told s n is)))
+        (switches told)
+
+-- the links of a switch that is at neither end
+module _ (told : Told) (s u : SwitchId) (usable : Bool) (t : SwitchId) (own : is_at (id_cmp s) t ≡ false) (other : is_at (id_cmp u) t ≡ false) where
+  not_here : (x : SwitchId) → is_at (id_cmp x) t ≡ false → x ≡ t → ⊥
+  not_here x apart is = false≢true (sym apart ∙ subst (λ z. is_at (id_cmp x) z ≡ true) is (is_itself x))
+
+  another : (x y : SwitchId) → (IsPair x y s u → ⊥) → is_eq (link_cmp (x, y) (s, u)) ≡ false
+  another x y apart = by (is_eq (link_cmp (x, y) (s, u))) refl
+    where
+      by : (b : Bool) → is_eq (link_cmp (x, y) (s, u)) ≡ b → b ≡ false
+      by false e = refl
+      by true e = absurd (apart (link_exact (x, y) (s, u) ((Equal-is (link_cmp (x, y) (s, u))).0 e)))
+
+  beside_same : alive_neighbours (with_link told s u usable) t ≡ alive_neighbours told t
+  beside_same = λ i.
+      filter (λ y. usable_after told s u usable t y false (another t y (λ p. not_here s own (sym (ap (λ (l : SwitchId × SwitchId). l.0) p)))) refl i
+      && usable_after told s u usable y t false (another y t (λ p. not_here u other (sym (ap (λ (l : SwitchId × SwitchId). l.1) p)))) refl i)
+      (other_neighbours told s u usable t (not_here s own) i)
+
+pub word_of_link : (told : Told) (s u : SwitchId) (usable : Bool) → IsLinkWord s u told (with_link told s u usable)
 word_of_link told s u usable = record {
-  place = λ t other. refl;
-  near = λ t other.
-      other_neighbours told s u usable t (λ is. false≢true (sym other ∙ subst (λ z. is_at (id_cmp s) z ≡ true) is (is_itself s)));
-  others = λ t other.
-      other_heard told (with_link told s u usable) s t (switches_linked told s u usable) (still_linked told s u usable t) other;
-  itself = ap (list_any (is_at (id_cmp s))) (switches_linked told s u usable) ∙ in_itself s (switches told);
+  word = record {
+    place = λ t other. refl;
+    near = λ t other.
+        other_neighbours told s u usable t (λ is. false≢true (sym other ∙ subst (λ z. is_at (id_cmp s) z ≡ true) is (is_itself s)));
+    others = λ t other.
+        other_heard told (with_link told s u usable) s t (switches_linked told s u usable) (still_linked told s u usable t) other;
+    itself = ap (list_any (is_at (id_cmp s))) (switches_linked told s u usable) ∙ in_itself s (switches told);
+  };
+  place = λ t. refl;
+  edges = edges_linked told s u usable;
+  near = own_neighbours told s u usable;
+  beside = beside_same told s u usable;
 }
+
+-- who told of a link is heard of once more
+pub heard_linked : (told after : Told) (s u : SwitchId) → IsLinkWord s u told after → (hearers more : Hearers) → AreHeard told hearers →
+    ((t : SwitchId) → near_of more t ≡ with_neighbour hearers u s t) → AreHeard after more
+heard_linked told after s u w hearers more h put t x near = by (is_at (id_cmp s) t) refl
+  where
+    -- a list is as long as it was, or longer
+    kept : is_in (near_of hearers x) t ≡ true → is_in (near_of more x) t ≡ true
+    kept was = ap (λ l. is_in l t) (put x) ∙ on (is_at (id_cmp u) x) refl
+      where
+        on : (b : Bool) → is_at (id_cmp u) x ≡ b → is_in (cond b (insert_key id_cmp (near_of hearers u) s) (near_of hearers x)) t ≡ true
+        on true e = in_more s t (near_of hearers u) (subst (λ z. is_in (near_of hearers z) t ≡ true) (sym (at_is u x e)) was)
+        on false e = was
+
+    own : s ≡ t → (u ≡ x) ⊎ IsAmong x (neighbours told s) → is_in (near_of more x) t ≡ true
+    own is (inl now) =
+        ap (λ l. is_in l t) (put x ∙ ap (λ b. cond b (insert_key id_cmp (near_of hearers u) s) (near_of hearers x)) (subst (λ z. is_at (id_cmp u) z ≡ true) now (is_itself u)))
+        ∙ subst (λ z. is_in (insert_key id_cmp (near_of hearers u) s) z ≡ true) is (in_itself s (near_of hearers u))
+    own is (inr was) = kept (h t x (subst (λ z. is_in (neighbours told z) x ≡ true) is (among_told x (neighbours told s) was)))
+
+    by : (b : Bool) → is_at (id_cmp s) t ≡ b → is_in (near_of more x) t ≡ true
+    by true e =
+        let is : s ≡ t = at_is s t e in
+        own is (among_insert id_cmp u x (neighbours told s)
+        (subst (IsAmong x) w.near (told_among x (neighbours after s) (subst (λ z. is_in (neighbours after z) x ≡ true) (sym is) near))))
+    by false e = kept (h t x (ap (λ us. is_in us x) (sym (w.word.near t e)) ∙ near))

@@ -1,16 +1,16 @@
 -- The lists that are kept, and those that were handed out.
 use Rattle.std.specs.Prelude.{◌≡◌, ◌||◌, Bool, true, false, not, List, [], if◌then◌else◌, Option, Some, None, is_some, unwrap_or}
-use Rattle.std.specs.List.{filter, list_any}
+use Rattle.std.specs.List.{filter}
 use Rattle.std.specs.BTreeMap.{is_at}
 use Rattle.std.specs.BTreeSet.{insert_key}
 use Rattle.pl_frame.specs.declared.address.SwitchId.{SwitchId}
-use Rattle.pl_core.specs.ManagerViews.{Told, id_cmp, neighbours, place_of, switches, value_at}
+use Rattle.pl_core.specs.ManagerViews.{Told, alive_neighbours, id_cmp, neighbours, place_of, placed_edges, switches, value_at}
 use Rattle.pl_core.specs.AvoidLists.{avoid_list}
 use Rattle.pl_manager_rule.specs.ManagerRule.{same_avoid_list}
 use Rattle.pl_reports.specs.Kept.{has_told, nothing_told}
-use Rattle.pl_faults.specs.declared.edges.Edge.{Edge}
+use Rattle.pl_faults.specs.declared.leading.Leading.{Leading}
 use Rattle.pl_faults.specs.Making.{Avoided}
-use Rattle.pl_faults.specs.Missed.{IsLeading, Misses}
+use Rattle.pl_faults.specs.Missed.{IsLeading}
 
 -- lists of switches, by rising id
 abbrev pub Lists : Type 0
@@ -78,25 +78,25 @@ pub record IsWordOf (s : SwitchId) (told after : Told) : Type 0 where
   pub others : (t : SwitchId) → is_at (id_cmp s) t ≡ false → has_told after t ≡ has_told told t
   pub itself : has_told after s ≡ true
 
--- whether a switch is in a list of them
-abbrev pub is_in : List SwitchId → SwitchId → Bool
-is_in list s = list_any (is_at (id_cmp s)) list
+-- what a word of a switch on its place leaves
+pub record IsPlaceWord (s : SwitchId) (told after : Told) : Type 0 where
+  pub word : IsWordOf s told after
+  pub near : (t : SwitchId) → neighbours after t ≡ neighbours told t
 
--- whether the list of a switch is to be made anew, where some turned
-abbrev pub is_touched : Told → List SwitchId → SwitchId → Bool
-is_touched told turned s = is_in turned s || list_any (λ u. is_in turned u) (neighbours told s)
-
--- the lists of the others are what they were
-abbrev pub AreStill : Told → List SwitchId → Lists → Type 0
-AreStill told turned lists =
-    (s : SwitchId) → has_told told s ≡ true → is_touched told turned s ≡ false → value_at id_cmp lists s ≡ Some (avoid_list told s)
+-- what a word of a switch on its link to u leaves
+pub record IsLinkWord (s u : SwitchId) (told after : Told) : Type 0 where
+  pub word : IsWordOf s told after
+  pub place : (t : SwitchId) → place_of after t ≡ place_of told t
+  pub edges : placed_edges after ≡ placed_edges told
+  pub near : neighbours after s ≡ insert_key id_cmp (neighbours told s) u
+  pub beside : (t : SwitchId) → is_at (id_cmp s) t ≡ false → is_at (id_cmp u) t ≡ false → alive_neighbours after t ≡ alive_neighbours told t
 
 -- what is missed, the lists, and the lists that were handed out, by what was told
-pub record IsKept (told : Told) (edges : List Edge) (missed : Misses) (lists before : Lists) : Type 0 where
-  pub leading : IsLeading told edges missed
+pub record IsKept (told : Told) (known : Leading) (lists before : Lists) : Type 0 where
+  pub leading : IsLeading told known
   pub listed : AreListsOf told lists before
 
 -- the same after a word, where what was handed out stays
-pub record IsKeptUp (told : Told) (lists before : Lists) (edges : List Edge) (missed : Misses) (lists_after before_after : Lists) : Type 0 where
-  pub kept : IsKept told edges missed lists_after before_after
+pub record IsKeptUp (told : Told) (lists before : Lists) (known : Leading) (lists_after before_after : Lists) : Type 0 where
+  pub kept : IsKept told known lists_after before_after
   pub handed : (s : SwitchId) → handed_in lists_after before_after s ≡ handed_in lists before s

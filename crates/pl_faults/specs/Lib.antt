@@ -1,4 +1,6 @@
 pub mod Making
 pub mod Kept
+pub mod Listed
 pub mod Rows
+pub mod Bits
 pub mod Missed

@@ -9,8 +9,10 @@ use Rattle.pl_layouts.specs.Placement.{is_known}
 use Rattle.pl_core.specs.ManagerViews.{Told, id_cmp, place_of, placed_edges, value_at}
 use Rattle.pl_core.specs.AvoidLists.{avoided_cmp}
 use Rattle.pl_faults.specs.declared.edges.Edge.{Edge}
+use Rattle.pl_faults.specs.declared.leading.Leading.{Leading}
+use Rattle.pl_faults.specs.Listed.{AreHeard, is_in}
 use Rattle.pl_faults.specs.Making.{Avoided, placed_as}
-use Rattle.pl_faults.specs.Rows.{leads_on}
+use Rattle.pl_faults.specs.Rows.{IsReach, leads_on}
 
 -- for each switch those that it misses
 abbrev pub Misses : Type 0
@@ -39,10 +41,17 @@ abbrev pub is_some_edge : List Edge → Bool
 is_some_edge [] = false
 is_some_edge (e ∷ es) = true
 
--- the placed edge switches, and which of them each switch misses
-pub record IsLeading (told : Told) (edges : List Edge) (missed : Misses) : Type 0 where
-  pub placed : map placed_as edges ≡ placed_edges told
-  pub missed_are : AreMissed told edges missed
+-- the placed edge switches, where the switches lead on to, which edge switches each misses, and who told of it
+pub record IsLeading (told : Told) (leading : Leading) : Type 0 where
+  pub placed : map placed_as leading.edges.items ≡ placed_edges told
+  pub reach : IsReach told leading.edges.items leading.reach
+  pub missed_are : AreMissed told leading.edges.items leading.misses.entries
+  pub heard : AreHeard told leading.hearers.entries
+
+-- the same by what is told now, and all but those that turned miss what they missed
+pub record IsTurned (told : Told) (old new : Leading) (turned : List SwitchId) : Type 0 where
+  pub leading : IsLeading told new
+  pub same : (t : SwitchId) → is_in turned t ≡ false → missed_in new.misses.entries t ≡ missed_in old.misses.entries t
 
 -- whether a switch at this place sends down for a pod
 abbrev pub sends_down : Place → ℕ → Bool

@@ -1,43 +1,101 @@
-ghost use Rattle.std.specs.Prelude.{◌≡◌, ◌&&◌, IfOk, IsTrue, OnOk, [], false, is_some, not, true};
+ghost use Rattle.std.specs.Prelude.{◌≡◌, ◌&&◌, IfOk, OnOk, [], is_some, not};
 ghost use Rattle.pl_frame.specs.declared.address.SwitchId.{SwitchId};
-ghost use Rattle.pl_core.specs.ManagerViews.{edge_at, place_of};
-ghost use Rattle.pl_reports.specs.Kept.{has_told};
-ghost use Rattle.pl_faults.specs.Kept.{is_in};
-ghost use Rattle.pl_faults.specs.Missed.{IsLeading, is_some_edge, missed_in};
+ghost use Rattle.pl_core.specs.ManagerViews.{Told, edge_at, place_of};
+ghost use Rattle.pl_faults.specs.Kept.{IsLinkWord};
+ghost use Rattle.pl_faults.specs.Listed.{AreHeard};
+ghost use Rattle.pl_faults.specs.Missed.{IsLeading, IsTurned, is_some_edge};
 
 use crate::edges::{Edge, edge_at, placed_edges};
-use crate::missed::{Misses, missed_in, misses_of};
+use crate::listed::{Hearers, hear};
+use crate::missed::{Misses, renew_misses};
+use crate::reach::{Reach, no_reach, reach_of, renew_reach};
 use pl_core::{Memory, SwitchList};
 use pl_frame::SwitchId;
 use pl_reports::Reports;
 use std::alloc::Global;
 use std::collections::BTreeMap;
 
-/// The placed edge switches, and which of them each switch misses.
+/// The placed edge switches, to which of them each switch leads on, which of them it misses, and who told of
+/// a link to it.
 #[derive(Debug, Drop)]
 pub(crate) struct Leading {
     pub(crate) edges: Vec<Edge>,
+    pub(crate) reach: Reach,
     pub(crate) misses: Misses,
+    pub(crate) hearers: Hearers,
 }
 
 /// No edge switch is placed.
 pub(crate) fn no_leading(alloc: Global) -> Leading
     ensures edges { result.edges.items ≡ [] }
+    ensures down { result.reach.down.entries ≡ [] }
+    ensures core { result.reach.core.entries ≡ [] }
+    ensures up { result.reach.up.entries ≡ [] }
     ensures misses { result.misses.entries ≡ [] }
+    ensures hearers { result.hearers.entries ≡ [] }
 {
     Leading {
         edges: Vec::new(alloc),
+        reach: no_reach(alloc),
         misses: BTreeMap::new(alloc),
+        hearers: BTreeMap::new(alloc),
     }
 }
 
-/// It, by what was told.
-pub(crate) fn leading_of(alloc: Global, reports: &Reports) -> Result<Leading, Memory>
-    ensures { IfOk result (λ leading. IsLeading reports.now leading.edges.items leading.misses.entries) }
+/// Makes it anew by what was told, but for who told of a link.
+pub(crate) fn place_leading(
+    leading: &mut Leading,
+    alloc: Global,
+    reports: &Reports,
+) -> Result<(), Memory>
+    ensures { OnOk result (AreHeard reports.now leading.old.hearers.entries → IsLeading reports.now leading.new) }
 {
     let edges = placed_edges(alloc, reports)?;
-    let misses = misses_of(alloc, reports, edges.as_slice())?;
-    Ok(Leading { edges, misses })
+    let reach = reach_of(alloc, reports, edges.as_slice())?;
+    let mut misses = BTreeMap::new(alloc);
+    renew_misses(
+        &mut misses,
+        alloc,
+        reports,
+        edges.as_slice(),
+        &reach,
+        reports.switches(),
+    )?;
+    leading.edges = edges;
+    leading.reach = reach;
+    leading.misses = misses;
+    Ok(())
+}
+
+/// Brings it up to a word on a link, which was told already. Answers the switches that may miss others.
+pub(crate) fn link_leading(
+    leading: &mut Leading,
+    alloc: Global,
+    reports: &Reports,
+    switch: SwitchId,
+    neighbour: SwitchId,
+) -> Result<SwitchList, Memory>
+    ensures { IfOk result (λ turned. (told : Told) → IsLinkWord switch neighbour told reports.now →
+        IsLeading told leading.old → IsTurned reports.now leading.old leading.new turned) }
+{
+    hear(&mut leading.hearers, alloc, switch, neighbour)?;
+    let turned = renew_reach(
+        &mut leading.reach,
+        alloc,
+        reports,
+        leading.edges.as_slice(),
+        switch,
+        neighbour,
+    )?;
+    renew_misses(
+        &mut leading.misses,
+        alloc,
+        reports,
+        leading.edges.as_slice(),
+        &leading.reach,
+        turned.as_slice(),
+    )?;
+    Ok(turned)
 }
 
 /// Whether no edge switch was placed, nor is this switch one now.
@@ -60,72 +118,4 @@ fn is_edge(reports: &Reports, switch: SwitchId) -> bool
     ensures { result ≡ is_some (edge_at switch (place_of reports.now switch)) }
 {
     edge_at(switch, reports.place_of(switch)).is_some()
-}
-
-fn are_same(a: &[Edge], b: &[Edge]) -> bool
-    ensures { IsTrue result → a.now ≡ b.now }
-{
-    if a.len() != b.len() {
-        return false;
-    }
-    for i in 0..a.len() {
-        if is_another(a[i], b[i]) {
-            return false;
-        }
-    }
-    true
-}
-
-fn is_another(a: Edge, b: Edge) -> bool
-    ensures { result ≡ false → a ≡ b }
-{
-    !is_same_edge(a, b)
-}
-
-fn is_same_edge(a: Edge, b: Edge) -> bool
-    ensures { IsTrue result → a ≡ b }
-{
-    a == b
-}
-
-/// A switch, and all that told something and miss others than before.
-pub(crate) fn turned_between(
-    alloc: Global,
-    reports: &Reports,
-    former: &Misses,
-    fresh: &Misses,
-    switch: SwitchId,
-) -> Result<SwitchList, Memory>
-    ensures itself { IfOk result (λ list. is_in list switch ≡ true) }
-    ensures others { IfOk result (λ list. (t : SwitchId) → has_told reports.now t ≡ true → is_in list t ≡ false → missed_in former.now.entries t ≡ missed_in fresh.now.entries t) }
-{
-    let mut list = SwitchList::new(alloc);
-    list.insert(switch)?;
-    for other in reports.switches() {
-        add_turned(&mut list, former, fresh, *other)?;
-    }
-    Ok(list)
-}
-
-// Puts in a switch that misses others.
-fn add_turned(
-    list: &mut SwitchList,
-    former: &Misses,
-    fresh: &Misses,
-    switch: SwitchId,
-) -> Result<(), Memory>
-    ensures stays { OnOk result ((t : SwitchId) → is_in list.old t ≡ true → is_in list.new t ≡ true) }
-    ensures same { OnOk result (is_in list.new switch ≡ false → missed_in former.now.entries switch ≡ missed_in fresh.now.entries switch) }
-{
-    if misses_the_same(former, fresh, switch) {
-        return Ok(());
-    }
-    list.insert(switch)?;
-    Ok(())
-}
-
-fn misses_the_same(former: &Misses, fresh: &Misses, switch: SwitchId) -> bool
-    ensures { IsTrue result → missed_in former.now.entries switch ≡ missed_in fresh.now.entries switch }
-{
-    are_same(missed_in(former, switch), missed_in(fresh, switch))
 }

@@ -7,6 +7,7 @@ pub use pl_reports::Reports;
 
 mod edges;
 mod leading;
+mod listed;
 mod lists;
 mod making;
 mod matrix;

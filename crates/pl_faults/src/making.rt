@@ -1,8 +1,8 @@
-ghost use Rattle.std.specs.Prelude.{◌≡◌, true, IfOk, OnOk, fold};
+ghost use Rattle.std.specs.Prelude.{◌≡◌, [], IfOk, IsTrue, OnOk, fold, true};
 ghost use Rattle.std.specs.BTreeSet.{insert_key};
-ghost use Rattle.pl_core.specs.AvoidLists.{avoid_list, avoided_at, avoided_cmp, is_above};
+ghost use Rattle.pl_core.specs.AvoidLists.{avoid_list, avoided_at, avoided_cmp, is_above, is_level_above};
 ghost use Rattle.pl_faults.specs.Making.{with_neighbour};
-ghost use Rattle.pl_faults.specs.Missed.{IsLeading, is_avoided, sends_down, with_missed};
+ghost use Rattle.pl_faults.specs.Missed.{IsLeading, is_avoided, missed_in, sends_down, with_missed};
 
 use crate::edges::Edge;
 use crate::leading::Leading;
@@ -20,8 +20,7 @@ pub(crate) fn avoid_list_of(
     leading: &Leading,
     switch: SwitchId,
 ) -> Result<AvoidList, Memory>
-    requires { IsLeading reports.now leading.now.edges.items leading.now.misses.entries }
-    ensures { IfOk result (λ list. list ≡ avoid_list reports.now switch) }
+    ensures { IfOk result (λ list. IsLeading reports.now leading.now → list ≡ avoid_list reports.now switch) }
 {
     let mut list = AvoidList::new(alloc);
     for neighbour in reports.neighbours(switch) {
@@ -38,13 +37,22 @@ fn add_neighbour(
     switch: SwitchId,
     neighbour: SwitchId,
 ) -> Result<(), Memory>
-    requires { IsLeading reports.now leading.now.edges.items leading.now.misses.entries }
-    ensures { OnOk result (list.new ≡ with_neighbour reports.now switch list.old neighbour) }
+    ensures { OnOk result (IsLeading reports.now leading.now →
+        list.new ≡ with_neighbour reports.now switch list.old neighbour) }
 {
+    if misses_none(leading, neighbour) {
+        return Ok(());
+    }
     if is_above(reports, switch, neighbour) {
         add_missed(list, reports, leading, switch, neighbour)?;
     }
     Ok(())
+}
+
+fn misses_none(leading: &Leading, neighbour: SwitchId) -> bool
+    ensures { IsTrue result → missed_in leading.now.misses.entries neighbour ≡ [] }
+{
+    missed_in(&leading.misses, neighbour).is_empty()
 }
 
 // Puts in those that a neighbour above misses.
@@ -55,9 +63,9 @@ fn add_missed(
     switch: SwitchId,
     neighbour: SwitchId,
 ) -> Result<(), Memory>
-    requires leading { IsLeading reports.now leading.now.edges.items leading.now.misses.entries }
-    requires above { is_above reports.now switch neighbour ≡ true }
-    ensures { OnOk result (list.new ≡ fold (insert_key avoided_cmp) list.old (avoided_at reports.now switch neighbour)) }
+    requires { is_above reports.now switch neighbour ≡ true }
+    ensures { OnOk result (IsLeading reports.now leading.now →
+        list.new ≡ fold (insert_key avoided_cmp) list.old (avoided_at reports.now switch neighbour)) }
 {
     let place = reports.place_of(switch);
     for edge in missed_in(&leading.misses, neighbour) {
@@ -92,10 +100,17 @@ fn is_avoided(place: Place, switch: SwitchId, edge: &Edge) -> bool
 fn is_above(reports: &Reports, switch: SwitchId, neighbour: SwitchId) -> bool
     ensures { result ≡ is_above reports.now switch neighbour }
 {
-    match (
+    is_level_above(
         reports.place_of(switch).level,
         reports.place_of(neighbour).level,
-    ) {
+    )
+}
+
+/// Whether the second of two levels is one above the first.
+pub(crate) fn is_level_above(low: Option<u8>, high: Option<u8>) -> bool
+    ensures { result ≡ is_level_above low high }
+{
+    match (low, high) {
         (Some(low), Some(high)) => u16::from(high) == u16::from(low) + 1,
         _ => false,
     }

@@ -33,7 +33,7 @@ impl Model for Matrix {
 
     ghost view = { λ m. record { told = m.reports; before = m.before.entries } };
 
-    ghost invariant = { λ m. IsKept m.reports m.leading.edges.items m.leading.misses.entries m.lists.entries m.before.entries };
+    ghost invariant = { λ m. IsKept m.reports m.leading m.lists.entries m.before.entries };
 }
 
 impl Matrix {

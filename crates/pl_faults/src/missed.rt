@@ -1,11 +1,13 @@
-ghost use Rattle.std.specs.Prelude.{◌≡◌, [], IfOk, OnOk, true};
+ghost use Rattle.std.specs.Prelude.{◌≡◌, [], IfOk, IsTrue, OnOk, true, if◌then◌else◌};
+ghost use Rattle.pl_faults.specs.Listed.{is_in};
 ghost use Rattle.pl_frame.specs.declared.address.SwitchId.{SwitchId};
-ghost use Rattle.pl_core.specs.ManagerViews.{place_of};
-ghost use Rattle.pl_faults.specs.Missed.{AreMissed, is_upper, missed_at, missed_by, missed_in, with_unled};
+ghost use Rattle.pl_core.specs.ManagerViews.{id_cmp, place_of};
+ghost use Rattle.std.specs.BTreeMap.{is_at};
+ghost use Rattle.pl_faults.specs.Missed.{is_upper, missed_at, missed_by, missed_in, with_unled};
 ghost use Rattle.pl_faults.specs.Rows.{IsReach};
 
 use crate::edges::Edge;
-use crate::reach::{Reach, leads_at, reach_of};
+use crate::reach::{Reach, leads_at};
 use pl_core::{Memory, Place};
 use pl_frame::SwitchId;
 use pl_reports::Reports;
@@ -50,6 +52,12 @@ impl Missed {
         Ok(())
     }
 
+    fn is_empty(&self) -> bool
+        ensures { IsTrue result → self.now ≡ [] }
+    {
+        self.edges.is_empty()
+    }
+
     fn as_slice(&self) -> &[Edge]
         ensures { result.now ≡ self.now }
     {
@@ -57,30 +65,37 @@ impl Missed {
     }
 }
 
-/// What each switch misses, by what was told.
-pub(crate) fn misses_of(alloc: Global, reports: &Reports, edges: &[Edge]) -> Result<Misses, Memory>
-    ensures { IfOk result (λ misses. AreMissed reports.now edges.now misses.entries) }
-{
-    let reach = reach_of(alloc, reports, edges)?;
-    let misses = misses_by(alloc, reports, edges, &reach)?;
-    Ok(misses)
-}
-
-fn misses_by(
+/// Puts down anew what these switches miss.
+pub(crate) fn renew_misses(
+    misses: &mut Misses,
     alloc: Global,
     reports: &Reports,
     edges: &[Edge],
     reach: &Reach,
-) -> Result<Misses, Memory>
-    requires { IsReach reports.now edges.now reach.now.down.entries reach.now.core.entries reach.now.up.entries }
-    ensures { IfOk result (λ misses. AreMissed reports.now edges.now misses.entries) }
+    asked: &[SwitchId],
+) -> Result<(), Memory>
+    ensures { OnOk result (IsReach reports.now edges.now reach.now → (t : SwitchId) →
+        missed_in misses.new.entries t
+        ≡ (if is_in asked.now t then missed_at reports.now edges.now t else missed_in misses.old.entries t)) }
 {
-    let mut misses = BTreeMap::new(alloc);
-    for switch in reports.switches() {
+    for switch in asked {
         let missed = missed_at(alloc, reports, edges, reach, *switch)?;
-        misses.insert(*switch, missed)?;
+        put_missed(misses, *switch, missed)?;
     }
-    Ok(misses)
+    Ok(())
+}
+
+// A switch that misses none has no entry.
+fn put_missed(misses: &mut Misses, switch: SwitchId, missed: Missed) -> Result<(), Memory>
+    ensures { OnOk result ((t : SwitchId) →
+        missed_in misses.new.entries t ≡ (if is_at (id_cmp switch) t then missed else missed_in misses.old.entries t)) }
+{
+    if missed.is_empty() {
+        let _gone = misses.remove(&switch);
+        return Ok(());
+    }
+    misses.insert(switch, missed)?;
+    Ok(())
 }
 
 fn missed_at(
@@ -90,8 +105,8 @@ fn missed_at(
     reach: &Reach,
     switch: SwitchId,
 ) -> Result<Missed, Memory>
-    requires { IsReach reports.now edges.now reach.now.down.entries reach.now.core.entries reach.now.up.entries }
-    ensures { IfOk result (λ missed. missed ≡ missed_at reports.now edges.now switch) }
+    ensures { IfOk result (λ missed. IsReach reports.now edges.now reach.now →
+        missed ≡ missed_at reports.now edges.now switch) }
 {
     if !is_upper(reports.place_of(switch)) {
         return Ok(Missed::none(alloc));
@@ -107,9 +122,9 @@ fn missed_by(
     reach: &Reach,
     switch: SwitchId,
 ) -> Result<Missed, Memory>
-    requires reach { IsReach reports.now edges.now reach.now.down.entries reach.now.core.entries reach.now.up.entries }
-    requires upper { is_upper (place_of reports.now switch).level ≡ true }
-    ensures { IfOk result (λ missed. missed ≡ missed_by reports.now edges.now switch) }
+    requires { is_upper (place_of reports.now switch).level ≡ true }
+    ensures { IfOk result (λ missed. IsReach reports.now edges.now reach.now →
+        missed ≡ missed_by reports.now edges.now switch) }
 {
     let place = reports.place_of(switch);
     let down = reach.down(switch);

@@ -1,48 +1,119 @@
-ghost use Rattle.std.specs.Prelude.{◌≡◌, IfOk, OnOk};
+ghost use Rattle.std.specs.Prelude.{◌≡◌, [], IfOk, IsTrue, OnOk, false, if◌then◌else◌, true};
+ghost use Rattle.std.specs.BTreeMap.{is_at};
 ghost use Rattle.std.specs.Option.{option_copied};
-ghost use Rattle.pl_core.specs.ManagerViews.{has_level};
+ghost use Rattle.pl_frame.specs.declared.address.SwitchId.{SwitchId};
+ghost use Rattle.pl_core.specs.ManagerViews.{Told, has_level, id_cmp, value_at};
 ghost use Rattle.pl_layouts.specs.Placement.{is_known};
-ghost use Rattle.pl_faults.specs.Rows.{AreRows, IsReach, Leads, leads_at, leads_by, leads_down, row_at, row_at_level, row_of, value_of, with_row};
+ghost use Rattle.pl_faults.specs.Kept.{IsLinkWord};
+ghost use Rattle.pl_faults.specs.Listed.{is_in};
+ghost use Rattle.pl_faults.specs.Rows.{AreRows, AreRowsRenewed, IsReach, IsReachRenewed, Leads, leads_at, leads_by, leads_down, row_at_level, row_in, row_of, row_or_none, value_of, with_row};
 
 use crate::edges::Edge;
+use crate::listed::{beside, put_all};
 use crate::row::Row;
-use pl_core::{Memory, Place};
+use pl_core::{Memory, Place, SwitchList};
 use pl_frame::SwitchId;
 use pl_reports::Reports;
 use std::alloc::Global;
 use std::collections::BTreeMap;
 
 /// For each switch a value for each placed edge switch.
-type Rows = BTreeMap<SwitchId, Row>;
+pub(crate) type Rows = BTreeMap<SwitchId, Row>;
 
 /// To which placed edge switches each switch leads on.
 #[derive(Debug, Drop)]
 pub(crate) struct Reach {
-    down: Rows,
-    core: Rows,
-    up: Rows,
+    pub(crate) down: Rows,
+    pub(crate) core: Rows,
+    pub(crate) up: Rows,
+}
+
+/// Of no edge switches.
+pub(crate) fn no_reach(alloc: Global) -> Reach
+    ensures down { result.down.entries ≡ [] }
+    ensures core { result.core.entries ≡ [] }
+    ensures up { result.up.entries ≡ [] }
+{
+    Reach {
+        down: BTreeMap::new(alloc),
+        core: BTreeMap::new(alloc),
+        up: BTreeMap::new(alloc),
+    }
 }
 
 /// It, by what was told.
 pub(crate) fn reach_of(alloc: Global, reports: &Reports, edges: &[Edge]) -> Result<Reach, Memory>
-    ensures { IfOk result (λ reach. IsReach reports.now edges.now reach.down.entries reach.core.entries reach.up.entries) }
+    ensures { IfOk result (λ reach. IsReach reports.now edges.now reach) }
 {
-    let down = rows_down(alloc, reports, edges)?;
-    let core = rows_by(alloc, reports, edges, &down, 2, 1)?;
-    let up = rows_by(alloc, reports, edges, &core, 1, 2)?;
+    let all = reports.switches();
+    let mut down = BTreeMap::new(alloc);
+    renew_down(&mut down, alloc, reports, edges, all)?;
+    let mut core = BTreeMap::new(alloc);
+    renew_by(&mut core, alloc, reports, edges, &down, 2, 1, all)?;
+    let mut up = BTreeMap::new(alloc);
+    renew_by(&mut up, alloc, reports, edges, &core, 1, 2, all)?;
     Ok(Reach { down, core, up })
 }
 
-// The rows of aggregation switches by the links down to edge switches of the own pod.
-fn rows_down(alloc: Global, reports: &Reports, edges: &[Edge]) -> Result<Rows, Memory>
-    ensures { IfOk result (λ rows. AreRows reports.now 1 edges.now (leads_down reports.now) rows.entries) }
+/// Brings it up to a word on a link, which was told already. Answers the switches that have other rows.
+pub(crate) fn renew_reach(
+    reach: &mut Reach,
+    alloc: Global,
+    reports: &Reports,
+    edges: &[Edge],
+    switch: SwitchId,
+    neighbour: SwitchId,
+) -> Result<SwitchList, Memory>
+    ensures { IfOk result (λ turned. (told : Told) → IsLinkWord switch neighbour told reports.now →
+        IsReach told edges.now reach.old → IsReachRenewed reports.now edges.now reach.old reach.new turned) }
 {
-    let mut rows = BTreeMap::new(alloc);
-    for switch in reports.switches() {
+    let mut ends = SwitchList::new(alloc);
+    ends.insert(switch)?;
+    ends.insert(neighbour)?;
+    let mut turned = renew_down(&mut reach.down, alloc, reports, edges, ends.as_slice())?;
+    let asked = beside(alloc, reports, &ends, turned.as_slice())?;
+    let cores = renew_by(
+        &mut reach.core,
+        alloc,
+        reports,
+        edges,
+        &reach.down,
+        2,
+        1,
+        asked.as_slice(),
+    )?;
+    put_all(&mut turned, cores.as_slice())?;
+    let asked_above = beside(alloc, reports, &ends, cores.as_slice())?;
+    let above = renew_by(
+        &mut reach.up,
+        alloc,
+        reports,
+        edges,
+        &reach.core,
+        1,
+        2,
+        asked_above.as_slice(),
+    )?;
+    put_all(&mut turned, above.as_slice())?;
+    Ok(turned)
+}
+
+// Makes the rows of aggregation switches anew by their links down to edge switches of the own pod.
+fn renew_down(
+    rows: &mut Rows,
+    alloc: Global,
+    reports: &Reports,
+    edges: &[Edge],
+    asked: &[SwitchId],
+) -> Result<SwitchList, Memory>
+    ensures { IfOk result (λ changed. AreRowsRenewed (row_at_level reports.now 1 (leads_down reports.now) edges.now) asked.now rows.old.entries rows.new.entries changed) }
+{
+    let mut changed = SwitchList::new(alloc);
+    for switch in asked {
         let row = row_down(alloc, reports, edges, *switch)?;
-        rows.insert(*switch, row)?;
+        put_row(rows, &mut changed, *switch, row)?;
     }
-    Ok(rows)
+    Ok(changed)
 }
 
 fn row_down(
@@ -60,23 +131,26 @@ fn row_down(
     Ok(row)
 }
 
-// The rows of a level by neighbours of another, each with its row.
-fn rows_by(
+// Makes the rows of a level anew by neighbours of another, each with its row.
+fn renew_by(
+    rows: &mut Rows,
     alloc: Global,
     reports: &Reports,
     edges: &[Edge],
     by: &Rows,
     own: u8,
     level: u8,
-) -> Result<Rows, Memory>
-    ensures { IfOk result (λ rows. (f : Leads) → AreRows reports.now level edges.now f by.now.entries → AreRows reports.now own edges.now (leads_by reports.now level f) rows.entries) }
+    asked: &[SwitchId],
+) -> Result<SwitchList, Memory>
+    ensures { IfOk result (λ changed. (f : Leads) → AreRows reports.now level edges.now f by.now.entries →
+        AreRowsRenewed (row_at_level reports.now own (leads_by reports.now level f) edges.now) asked.now rows.old.entries rows.new.entries changed) }
 {
-    let mut rows = BTreeMap::new(alloc);
-    for switch in reports.switches() {
+    let mut changed = SwitchList::new(alloc);
+    for switch in asked {
         let row = row_at_level(alloc, reports, edges, by, own, level, *switch)?;
-        rows.insert(*switch, row)?;
+        put_row(rows, &mut changed, *switch, row)?;
     }
-    Ok(rows)
+    Ok(changed)
 }
 
 fn row_at_level(
@@ -88,7 +162,8 @@ fn row_at_level(
     level: u8,
     switch: SwitchId,
 ) -> Result<Row, Memory>
-    ensures { IfOk result (λ row. (f : Leads) → AreRows reports.now level edges.now f by.now.entries → row ≡ row_at_level reports.now own (leads_by reports.now level f) edges.now switch) }
+    ensures { IfOk result (λ row. (f : Leads) → AreRows reports.now level edges.now f by.now.entries →
+        row ≡ row_at_level reports.now own (leads_by reports.now level f) edges.now switch) }
 {
     if !has_level(reports.place_of(switch), own) {
         return Ok(Row::none(alloc));
@@ -105,11 +180,12 @@ fn row_by(
     level: u8,
     switch: SwitchId,
 ) -> Result<Row, Memory>
-    ensures { IfOk result (λ row. (f : Leads) → AreRows reports.now level edges.now f by.now.entries → row ≡ row_of (leads_by reports.now level f) edges.now switch) }
+    ensures { IfOk result (λ row. (f : Leads) → AreRows reports.now level edges.now f by.now.entries →
+        row ≡ row_of (leads_by reports.now level f) edges.now switch) }
 {
     let mut row = Row::empty(alloc, edges)?;
     for neighbour in reports.alive_neighbours(switch) {
-        add_row(alloc, reports, &mut row, by, level, *neighbour)?;
+        add_row(alloc, reports, &mut row, by, level, *neighbour);
     }
     Ok(row)
 }
@@ -122,36 +198,66 @@ fn add_row(
     by: &Rows,
     level: u8,
     neighbour: SwitchId,
-) -> Result<(), Memory>
-    ensures { OnOk result (row.new ≡ with_row (has_level reports.now neighbour level) (row_at by.now.entries neighbour) row.old) }
+)
+    ensures { row.new ≡ with_row (has_level reports.now neighbour level) (row_in by.now.entries neighbour) row.old }
 {
     if !has_level(reports.place_of(neighbour), level) {
-        return Ok(());
+        return;
     }
     match by.get(&neighbour) {
-        Some(more) => row.add(alloc, more),
-        None => Ok(()),
+        Some(more) => row.add(more),
+        None => row.add(&Row::none(alloc)),
+    }
+}
+
+// Puts in a new row of a switch, and the switch among those that changed, unless it has this row.
+fn put_row(
+    rows: &mut Rows,
+    changed: &mut SwitchList,
+    switch: SwitchId,
+    row: Row,
+) -> Result<(), Memory>
+    ensures now { OnOk result ((t : SwitchId) →
+        row_in rows.new.entries t ≡ (if is_at (id_cmp switch) t then row else row_in rows.old.entries t)) }
+    ensures stays { OnOk result ((t : SwitchId) → is_in changed.old t ≡ true → is_in changed.new t ≡ true) }
+    ensures same { OnOk result ((t : SwitchId) → is_in changed.new t ≡ false →
+        row_in rows.new.entries t ≡ row_in rows.old.entries t) }
+{
+    if has_row(rows, switch, &row) {
+        return Ok(());
+    }
+    rows.insert(switch, row)?;
+    changed.insert(switch)?;
+    Ok(())
+}
+
+fn has_row(rows: &Rows, switch: SwitchId, row: &Row) -> bool
+    ensures { IsTrue result → row_in rows.now.entries switch ≡ row.now }
+{
+    match rows.get(&switch) {
+        Some(was) => was.is(row),
+        None => row.is_empty(),
     }
 }
 
 impl Reach {
     /// The row of a switch by its links down, if there is one.
     pub(crate) fn down(&self, switch: SwitchId) -> Option<&Row>
-        ensures { option_copied result ≡ row_at self.now.down.entries switch }
+        ensures { option_copied result ≡ value_at id_cmp self.now.down.entries switch }
     {
         self.down.get(&switch)
     }
 
     /// The row by aggregation switches.
     pub(crate) fn core(&self, switch: SwitchId) -> Option<&Row>
-        ensures { option_copied result ≡ row_at self.now.core.entries switch }
+        ensures { option_copied result ≡ value_at id_cmp self.now.core.entries switch }
     {
         self.core.get(&switch)
     }
 
     /// The row by core switches.
     pub(crate) fn up(&self, switch: SwitchId) -> Option<&Row>
-        ensures { option_copied result ≡ row_at self.now.up.entries switch }
+        ensures { option_copied result ≡ value_at id_cmp self.now.up.entries switch }
     {
         self.up.get(&switch)
     }
@@ -166,7 +272,7 @@ pub(crate) fn leads_at(
     edge: &Edge,
     i: usize,
 ) -> bool
-    ensures { result ≡ leads_at place edge.now (value_of (option_copied down.entry) i) (value_of (option_copied core.entry) i) (value_of (option_copied up.entry) i) }
+    ensures { result ≡ leads_at place edge.now (value_of (row_or_none (option_copied down.entry)) i) (value_of (row_or_none (option_copied core.entry)) i) (value_of (row_or_none (option_copied up.entry)) i) }
 {
     if has_level(place, 1) {
         if has_pod(place, edge.pod) {
@@ -181,7 +287,7 @@ pub(crate) fn leads_at(
 }
 
 fn value_of(row: Option<&Row>, i: usize) -> bool
-    ensures { result ≡ value_of (option_copied row.entry) i }
+    ensures { result ≡ value_of (row_or_none (option_copied row.entry)) i }
 {
     match row {
         Some(row) => row.value(i),

@@ -1,8 +1,8 @@
-ghost use Rattle.std.specs.Prelude.{◌≡◌, ◌&&◌, ◌||◌, [], IfOk, OnOk, false, length, map, slice_index_or};
-ghost use Rattle.std.specs.List.{zip};
+ghost use Rattle.std.specs.Prelude.{◌≡◌, ℕ, ◌&&◌, ◌*◌, ◌^◌, ◌/◌, ◌%◌, ◌<◌, [], IfOk, IsTrue, OnOk, bit_or, false, if◌then◌else◌, length, map, slice_index, slice_index_or, slice_set, true};
 ghost use Rattle.pl_core.specs.ManagerViews.{is_alive};
 ghost use Rattle.pl_layouts.specs.Placement.{is_known};
-ghost use Rattle.pl_faults.specs.Rows.{leads_down, row_of};
+ghost use Rattle.pl_faults.specs.Bits.{has_bit, with_bit};
+ghost use Rattle.pl_faults.specs.Rows.{either_row, leads_down, row_of};
 
 use crate::edges::Edge;
 use crate::reach::has_pod;
@@ -12,18 +12,22 @@ use pl_reports::Reports;
 use std::alloc::Global;
 use std::marker::Model;
 
-/// A value for each placed edge switch. Contracts see the list of them.
+/// A value for each placed edge switch, a bit each. Contracts see the list of them.
 #[derive(Debug, Drop)]
 pub(crate) struct Row {
-    values: Vec<bool>,
+    len: usize,
+    words: Vec<u64>,
 }
 
 impl Model for Row {
     ghost use Rattle.std.specs.Prelude.{Bool, List};
+    ghost use Rattle.pl_faults.specs.Bits.{HasRoom, bits_of};
 
     ghost Value = { List Bool };
 
-    ghost view = { λ row. row.values.items };
+    ghost view = { λ row. bits_of row.words.items row.len };
+
+    ghost invariant = { λ row. HasRoom row.len row.words.items };
 }
 
 impl Row {
@@ -32,7 +36,8 @@ impl Row {
         ensures { result ≡ [] }
     {
         Row {
-            values: Vec::new(alloc),
+            len: 0,
+            words: Vec::new(alloc),
         }
     }
 
@@ -40,8 +45,9 @@ impl Row {
     pub(crate) fn empty(alloc: Global, edges: &[Edge]) -> Result<Row, Memory>
         ensures { IfOk result (λ row. row ≡ map (λ e. false) edges.now) }
     {
-        let values = none_of(alloc, edges)?;
-        Ok(Row { values })
+        let len = edges.len();
+        let words = vec![in alloc; 0u64; len / 64 + 1]?;
+        Ok(Row { len, words })
     }
 
     /// The edge switches of its pod to which a switch has a link that is alive.
@@ -53,49 +59,63 @@ impl Row {
     ) -> Result<Row, Memory>
         ensures { IfOk result (λ row. row ≡ row_of (leads_down reports.now) edges.now switch) }
     {
-        let values = linked_of(alloc, reports, edges, switch)?;
-        Ok(Row { values })
+        let place = reports.place_of(switch);
+        let mut row = Row::empty(alloc, edges)?;
+        for i in 0..edges.len() {
+            let leads = is_linked_down(reports, place, &edges[i], switch);
+            row.set_if(i, leads);
+        }
+        Ok(row)
+    }
+
+    // Edge switch number i is reached, if it is to be.
+    fn set_if(&mut self, i: usize, leads: bool)
+        requires { i < length self.old }
+        ensures { self.new ≡ (if leads then slice_set self.old i true else self.old) }
+    {
+        if leads {
+            self.set(i);
+        }
+    }
+
+    fn set(&mut self, i: usize)
+        requires { i < length self.old }
+        ensures { self.new ≡ slice_set self.old i true }
+    {
+        set_bit(&mut self.words, i);
     }
 
     /// What another row reaches is reached too.
-    pub(crate) fn add(&mut self, alloc: Global, more: &Row) -> Result<(), Memory>
-        ensures { OnOk result (self.new ≡ map (λ p. p.0 || p.1) (zip self.old more.now)) }
+    pub(crate) fn add(&mut self, more: &Row)
+        ensures { self.new ≡ either_row self.old more.now }
     {
-        if self.values.len() == more.values.len() {
-            add_each(self.values.as_mut_slice(), more.values.as_slice());
-            return Ok(());
-        }
-        self.values = either_of(alloc, self.values.as_slice(), more.values.as_slice())?;
-        Ok(())
+        add_words(&mut self.words, more.words.as_slice());
+        self.len = self.len.min(more.len);
+    }
+
+    /// Whether this is another row.
+    pub(crate) fn is(&self, other: &Row) -> bool
+        ensures { IsTrue result → self.now ≡ other.now }
+    {
+        self.len == other.len && are_same(self.words.as_slice(), other.words.as_slice())
+    }
+
+    /// Whether this is a row of no values.
+    pub(crate) fn is_empty(&self) -> bool
+        ensures { IsTrue result → [] ≡ self.now }
+    {
+        self.len == 0
     }
 
     /// The value of edge switch number i.
     pub(crate) fn value(&self, i: usize) -> bool
         ensures { result ≡ slice_index_or self.now i false }
     {
-        value_at(self.values.as_slice(), i)
+        if i < self.len {
+            return bit_of(self.words.as_slice(), i);
+        }
+        false
     }
-}
-
-fn none_of(alloc: Global, edges: &[Edge]) -> Result<Vec<bool>, Memory>
-    ensures { IfOk result (λ values. values.items ≡ map (λ e. false) edges.now) }
-{
-    edges.iter().map(|_| false).collect(alloc)
-}
-
-fn linked_of(
-    alloc: Global,
-    reports: &Reports,
-    edges: &[Edge],
-    switch: SwitchId,
-) -> Result<Vec<bool>, Memory>
-    ensures { IfOk result (λ values. values.items ≡ row_of (leads_down reports.now) edges.now switch) }
-{
-    let place = reports.place_of(switch);
-    edges
-        .iter()
-        .map(|e| is_linked_down(reports, place, e, switch))
-        .collect(alloc)
 }
 
 // Whether a switch at this place has a link that is alive to an edge switch of its pod.
@@ -105,30 +125,40 @@ fn is_linked_down(reports: &Reports, place: Place, edge: &Edge, switch: SwitchId
     has_pod(place, edge.pod) && reports.is_alive(switch, edge.switch)
 }
 
-fn either_of(alloc: Global, a: &[bool], b: &[bool]) -> Result<Vec<bool>, Memory>
-    ensures { IfOk result (λ values. values.items ≡ map (λ p. p.0 || p.1) (zip a.now b.now)) }
+// Whether a bit of a row of words is set.
+fn bit_of(words: &[u64], at: usize) -> bool
+    requires { at < 64 * length words.now }
+    ensures { result ≡ has_bit words.now at }
 {
-    a.iter().zip(b).map(|(x, y)| *x || *y).collect(alloc)
+    (words[at / 64] >> (at % 64)) & 1 == 1
 }
 
-// The same in place, where both are of one length.
-fn add_each(row: &mut [bool], more: &[bool])
-    requires { length row.old ≡ length more.now }
-    ensures { row.new ≡ map (λ p. p.0 || p.1) (zip row.old more.now) }
+fn set_bit(words: &mut Vec<u64>, at: usize)
+    requires { at < 64 * length words.old.items }
+    ensures { words.new.items ≡ slice_set words.old.items (at / 64) (with_bit (slice_index words.old.items (at / 64)) (at % 64)) }
 {
-    for i in 0..row.len() {
-        row[i] = either(row[i], more[i]);
+    words[at / 64] |= 1 << (at % 64);
+}
+
+// The bits of other words are set too.
+fn add_words(words: &mut Vec<u64>, more: &[u64])
+    ensures len { length words.new.items ≡ length words.old.items }
+    ensures each { (i : ℕ) → i < length words.old.items →
+        slice_index words.new.items i ≡ bit_or (slice_index words.old.items i) (slice_index more.now i) }
+{
+    for i in 0..words.len() {
+        words[i] |= word_at(more, i);
     }
 }
 
-fn either(x: bool, y: bool) -> bool
-    ensures { result ≡ (x || y) }
+fn word_at(words: &[u64], i: usize) -> u64
+    ensures { result ≡ slice_index words.now i }
 {
-    x || y
+    if i < words.len() { words[i] } else { 0 }
 }
 
-fn value_at(row: &[bool], i: usize) -> bool
-    ensures { result ≡ slice_index_or row.now i false }
+fn are_same(a: &[u64], b: &[u64]) -> bool
+    ensures { IsTrue result → a.now ≡ b.now }
 {
-    if i < row.len() { row[i] } else { false }
+    a == b
 }

@@ -9,7 +9,7 @@ ghost use Rattle.pl_faults.specs.Kept.{IsKept, handed_in};
 
 use crate::leading::Leading;
 use crate::lists::Lists;
-use crate::renewing::renew_after;
+use crate::renewing::{renew_near, renew_placed};
 use pl_core::{Memory, Place};
 use pl_frame::SwitchId;
 use pl_reports::Reports;
@@ -25,9 +25,9 @@ pub(crate) fn keep_place(
     switch: SwitchId,
     place: Place,
 ) -> Result<(), Memory>
-    requires { IsKept reports.old leading.old.edges.items leading.old.misses.entries lists.old.entries before.old.entries }
+    requires { IsKept reports.old leading.old lists.old.entries before.old.entries }
     ensures told { OnOk result (reports.new ≡ with_place reports.old switch place) }
-    ensures kept { OnOk result (IsKept reports.new leading.new.edges.items leading.new.misses.entries lists.new.entries before.new.entries) }
+    ensures kept { OnOk result (IsKept reports.new leading.new lists.new.entries before.new.entries) }
     ensures handed { OnOk result ((s : SwitchId) → handed_in lists.new.entries before.new.entries s ≡ handed_in lists.old.entries before.old.entries s) }
 {
     let known = is_told_place(reports, switch, place);
@@ -35,7 +35,7 @@ pub(crate) fn keep_place(
     if known {
         return Ok(());
     }
-    renew_after(reports, leading, lists, before, alloc, switch)?;
+    renew_placed(reports, leading, lists, before, alloc, switch)?;
     Ok(())
 }
 
@@ -63,9 +63,9 @@ pub(crate) fn keep_link(
     neighbour: SwitchId,
     usable: bool,
 ) -> Result<(), Memory>
-    requires { IsKept reports.old leading.old.edges.items leading.old.misses.entries lists.old.entries before.old.entries }
+    requires { IsKept reports.old leading.old lists.old.entries before.old.entries }
     ensures told { OnOk result (reports.new ≡ with_link reports.old switch neighbour usable) }
-    ensures kept { OnOk result (IsKept reports.new leading.new.edges.items leading.new.misses.entries lists.new.entries before.new.entries) }
+    ensures kept { OnOk result (IsKept reports.new leading.new lists.new.entries before.new.entries) }
     ensures handed { OnOk result ((s : SwitchId) → handed_in lists.new.entries before.new.entries s ≡ handed_in lists.old.entries before.old.entries s) }
 {
     if knows(reports, switch, neighbour) {
@@ -103,13 +103,13 @@ fn keep_new_link(
     neighbour: SwitchId,
     usable: bool,
 ) -> Result<(), Memory>
-    requires { IsKept reports.old leading.old.edges.items leading.old.misses.entries lists.old.entries before.old.entries }
+    requires { IsKept reports.old leading.old lists.old.entries before.old.entries }
     ensures told { OnOk result (reports.new ≡ with_link reports.old switch neighbour usable) }
-    ensures kept { OnOk result (IsKept reports.new leading.new.edges.items leading.new.misses.entries lists.new.entries before.new.entries) }
+    ensures kept { OnOk result (IsKept reports.new leading.new lists.new.entries before.new.entries) }
     ensures handed { OnOk result ((s : SwitchId) → handed_in lists.new.entries before.new.entries s ≡ handed_in lists.old.entries before.old.entries s) }
 {
     reports.report(switch, neighbour, usable)?;
-    renew_after(reports, leading, lists, before, alloc, switch)?;
+    renew_near(reports, leading, lists, before, alloc, switch, neighbour)?;
     Ok(())
 }
 
@@ -124,10 +124,10 @@ fn keep_known_link(
     neighbour: SwitchId,
     usable: bool,
 ) -> Result<(), Memory>
-    requires kept { IsKept reports.old leading.old.edges.items leading.old.misses.entries lists.old.entries before.old.entries }
+    requires kept { IsKept reports.old leading.old lists.old.entries before.old.entries }
     requires known { list_any (λ x. same_switch x neighbour) (neighbours reports.old switch) ≡ true }
     ensures told { OnOk result (reports.new ≡ with_link reports.old switch neighbour usable) }
-    ensures kept { OnOk result (IsKept reports.new leading.new.edges.items leading.new.misses.entries lists.new.entries before.new.entries) }
+    ensures kept { OnOk result (IsKept reports.new leading.new lists.new.entries before.new.entries) }
     ensures handed { OnOk result ((s : SwitchId) → handed_in lists.new.entries before.new.entries s ≡ handed_in lists.old.entries before.old.entries s) }
 {
     let was = reports.is_alive(switch, neighbour);
@@ -136,7 +136,7 @@ fn keep_known_link(
     if is_still(now, was) {
         return Ok(());
     }
-    renew_after(reports, leading, lists, before, alloc, switch)?;
+    renew_near(reports, leading, lists, before, alloc, switch, neighbour)?;
     Ok(())
 }
 

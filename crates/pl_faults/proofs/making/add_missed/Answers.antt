@@ -8,7 +8,7 @@ use Rattle.pl_faults.proofs.Made.{avoided_kept, missed_put}
 use Rattle.pl_faults.proofs.making.add_missed.Goals as goal
 
 pub returns : goal.returns
-returns c =
+returns c led =
     let told = c.args.reports.now in let s = c.args.switch in let u = c.args.neighbour in let place = c.place_of-place.result in
     let leading = c.args.leading.now in let old = c.args.list.now in let missed = missed_in leading.misses.entries u in
     c.loop-edge.invariant
@@ -17,4 +17,4 @@ returns c =
     ∙ missed_put place s u missed old
     ∙ ap (fold (insert_key avoided_cmp) old)
     (ap (λ p. avoided_of p s u missed) c.place_of-place.ensures
-    ∙ sym (avoided_kept told s u leading.edges.items leading.misses.entries c.requires.leading c.requires.above))
+    ∙ sym (avoided_kept told s u leading led c.requires))

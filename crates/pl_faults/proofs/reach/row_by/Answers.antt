@@ -14,7 +14,7 @@ loop-neighbour-preserved c f h =
     let d : SwitchId = record { 0 = 0 } in
     row_more c.args.reports.now c.args.level c.args.edges.now f c.args.by.now.entries h c.alive_neighbours-neighbour-items.result.now
     c.loop-neighbour.neighbour-index d c.loop-neighbour-test.true c.loop-neighbour.row c.add_row.new.row
-    (c.loop-neighbour.invariant f h) c.in_ok-add_row.ensures
+    (c.loop-neighbour.invariant f h) c.add_row.ensures
 
 pub returns : goal.returns
 returns c f h =

@@ -1,27 +1,27 @@
 use Rattle.std.proofs.Common.{◌∙◌, ap, subst, sym}
 use Rattle.pl_core.specs.ManagerViews.{Told, is_alive, neighbours}
-use Rattle.pl_faults.specs.Kept.{IsKept, IsWordOf}
+use Rattle.pl_faults.specs.Kept.{IsKept, IsLinkWord}
 use Rattle.pl_faults.proofs.Unchanged.{known_among, known_kept, still_is}
 use Rattle.pl_faults.proofs.Words.{word_of_link}
 use Rattle.pl_faults.proofs.telling.keep_known_link.Goals as goal
 
 pub returns-clause-kept : goal.returns-clause-kept
 returns-clause-kept c =
-    (c.in_ok-renew_after.ensures c.args.reports.now
-    (subst (IsWordOf c.args.switch c.args.reports.now) (sym c.in_ok-report.ensures.ok) (word_of_link c.args.reports.now c.args.switch c.args.neighbour c.args.usable)) c.requires.kept).kept
+    (c.in_ok-renew_near.ensures c.args.reports.now
+    (subst (IsLinkWord c.args.switch c.args.neighbour c.args.reports.now) (sym c.in_ok-report.ensures.ok)
+    (word_of_link c.args.reports.now c.args.switch c.args.neighbour c.args.usable)) c.requires.kept).kept
 
 pub returns-clause-handed : goal.returns-clause-handed
 returns-clause-handed c s =
-    (c.in_ok-renew_after.ensures c.args.reports.now
-    (subst (IsWordOf c.args.switch c.args.reports.now) (sym c.in_ok-report.ensures.ok) (word_of_link c.args.reports.now c.args.switch c.args.neighbour c.args.usable)) c.requires.kept).handed s
+    (c.in_ok-renew_near.ensures c.args.reports.now
+    (subst (IsLinkWord c.args.switch c.args.neighbour c.args.reports.now) (sym c.in_ok-report.ensures.ok)
+    (word_of_link c.args.reports.now c.args.switch c.args.neighbour c.args.usable)) c.requires.kept).handed s
 
 pub returns-then-is_still-clause-kept : goal.returns-then-is_still-clause-kept
 returns-then-is_still-clause-kept c =
-    let told = c.args.reports.now in let s = c.args.switch in let u = c.args.neighbour in let leading = c.args.leading.now in
-    subst (λ (t : Told). IsKept t leading.edges.items leading.misses.entries
-    c.args.lists.now.entries c.args.before.now.entries) (sym c.in_ok-report.ensures.ok)
+    let told = c.args.reports.now in let s = c.args.switch in let u = c.args.neighbour in
+    subst (λ (t : Told). IsKept t c.args.leading.now c.args.lists.now.entries c.args.before.now.entries) (sym c.in_ok-report.ensures.ok)
     (known_kept told s u c.args.usable (known_among u (neighbours told s) c.requires.known)
     (ap (λ (t : Told). is_alive t s u) (sym c.in_ok-report.ensures.ok) ∙ sym c.is_alive-now.ensures
     ∙ still_is c.is_alive-now.result c.is_alive-was.result (sym c.is_still.ensures ∙ c.if-is_still.true) ∙ c.is_alive-was.ensures)
-    leading.edges.items leading.misses.entries
-    c.args.lists.now.entries c.args.before.now.entries c.requires.kept)
+    c.args.leading.now c.args.lists.now.entries c.args.before.now.entries c.requires.kept)

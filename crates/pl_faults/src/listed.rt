@@ -1,0 +1,123 @@
+ghost use Rattle.std.specs.Prelude.{◌≡◌, ◌∷◌, [], IfOk, OnOk, fold, if◌then◌else◌};
+ghost use Rattle.pl_reports.specs.Kept.{near_of};
+ghost use Rattle.pl_core.specs.AvoidLists.{is_level_above};
+ghost use Rattle.pl_core.specs.ManagerViews.{id_cmp, place_of};
+ghost use Rattle.std.specs.BTreeSet.{insert_key};
+ghost use Rattle.pl_reports.specs.Kept.{with_neighbour};
+ghost use Rattle.pl_faults.specs.Listed.{with_all, with_below, with_beside, with_lower};
+ghost use Rattle.pl_frame.specs.declared.address.SwitchId.{SwitchId};
+
+use crate::making::is_level_above;
+use pl_core::{Memory, SwitchList};
+use pl_frame::SwitchId;
+use pl_reports::Reports;
+use std::alloc::Global;
+use std::collections::BTreeMap;
+
+/// For each switch those that told of a link to it.
+pub(crate) type Hearers = BTreeMap<SwitchId, SwitchList>;
+
+/// Puts switches into a list.
+pub(crate) fn put_all(list: &mut SwitchList, more: &[SwitchId]) -> Result<(), Memory>
+    ensures { OnOk result (list.new ≡ with_all list.old more.now) }
+{
+    for switch in more {
+        list.insert(*switch)?;
+    }
+    Ok(())
+}
+
+/// A list with all to which these switches have links that are alive.
+pub(crate) fn beside(
+    alloc: Global,
+    reports: &Reports,
+    list: &SwitchList,
+    switches: &[SwitchId],
+) -> Result<SwitchList, Memory>
+    ensures { IfOk result (λ all. all ≡ fold (with_beside reports.now) list.now switches.now) }
+{
+    let mut all = list.copied(alloc)?;
+    for switch in switches {
+        put_all(&mut all, reports.alive_neighbours(*switch))?;
+    }
+    Ok(all)
+}
+
+/// A switch tells of a link.
+pub(crate) fn hear(
+    hearers: &mut Hearers,
+    alloc: Global,
+    switch: SwitchId,
+    neighbour: SwitchId,
+) -> Result<(), Memory>
+    ensures { OnOk result ((t : SwitchId) →
+        near_of hearers.new.entries t ≡ with_neighbour hearers.old.entries neighbour switch t) }
+{
+    match hearers.get_mut(&neighbour) {
+        Some(list) => list.insert(switch),
+        None => {
+            let mut list = SwitchList::new(alloc);
+            list.insert(switch)?;
+            hearers.insert(neighbour, list)?;
+            Ok(())
+        }
+    }
+}
+
+/// A switch, and all below one of these that told of a link to it.
+pub(crate) fn below(
+    alloc: Global,
+    reports: &Reports,
+    hearers: &Hearers,
+    switch: SwitchId,
+    turned: &[SwitchId],
+) -> Result<SwitchList, Memory>
+    ensures { IfOk result (λ list. list ≡ fold (with_below reports.now hearers.now.entries) (switch ∷ []) turned.now) }
+{
+    let mut list = SwitchList::new(alloc);
+    list.insert(switch)?;
+    for above in turned {
+        put_below(&mut list, reports, hearers_of(hearers, *above), *above)?;
+    }
+    Ok(list)
+}
+
+fn hearers_of(hearers: &Hearers, switch: SwitchId) -> &[SwitchId]
+    ensures { result.now ≡ near_of hearers.now.entries switch }
+{
+    match hearers.get(&switch) {
+        Some(list) => list.as_slice(),
+        None => &[],
+    }
+}
+
+fn put_below(
+    list: &mut SwitchList,
+    reports: &Reports,
+    hearers: &[SwitchId],
+    above: SwitchId,
+) -> Result<(), Memory>
+    ensures { OnOk result (list.new ≡ fold (with_lower reports.now above) list.old hearers.now) }
+{
+    let high = reports.place_of(above).level;
+    for switch in hearers {
+        put_lower(list, reports, *switch, high)?;
+    }
+    Ok(())
+}
+
+// Puts in a switch if this level is one above its own.
+fn put_lower(
+    list: &mut SwitchList,
+    reports: &Reports,
+    switch: SwitchId,
+    high: Option<u8>,
+) -> Result<(), Memory>
+    ensures { OnOk result (list.new
+        ≡ (if is_level_above (place_of reports.now switch).level high then insert_key id_cmp list.old switch else list.old)) }
+{
+    if is_level_above(reports.place_of(switch).level, high) {
+        list.insert(switch)?;
+    }
+    Ok(())
+}

@@ -22,7 +22,8 @@ use Rattle.pl_attended.proofs.Registered.{run_registers}
 use Rattle.pl_attended_courses.proofs.Empty.{all_empty}
 
 module _ (switch : SwitchRule) (manager : ManagerRule) (host : HostRule) where
-  longer : (x y z : WorldView) (moments more : List Moment) → WorldRun switch manager host x moments y → WorldRun switch manager host y more z →
+  -- two runs, one behind the other
+  pub longer : (x y z : WorldView) (moments more : List Moment) → WorldRun switch manager host x moments y → WorldRun switch manager host y more z →
       WorldRun switch manager host x (moments ++ more) z
   longer x y z [] more run rest = subst (λ (w : WorldView). WorldRun switch manager host w more z) run rest
   longer x y z (m ∷ moments) more run rest = (run.0, run.1, longer run.0 y z moments more run.2 rest)

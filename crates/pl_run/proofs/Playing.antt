@@ -1,11 +1,9 @@
 -- What is known of a script that was played.
 use Rattle.std.proofs.Common.{◌≡◌, ◌≤◌, ◌↔◌, ℕ, suc, Bool, IsTrue, All, List, [], ◌∷◌, length, Option, None, Some, refl, sym, ap, ◌∙◌, subst}
-use Rattle.std.proofs.lemmas.List.Elements.{All-weaker}
 use Rattle.pl_shelf.specs.Faults.{Rose}
 use Rattle.pl_shelf.specs.Held.{standard_output}
 use Rattle.pl_inputs.specs.declared.status.Status.TheVariants as status
-use Rattle.pl_wiring.specs.declared.host.Host.{Host}
-use Rattle.pl_wiring.specs.Plan.{IsHostMac, IsPlan, Plan}
+use Rattle.pl_wiring.specs.Plan.{Plan}
 use Rattle.pl_inputs.specs.declared.capture.Capture.{Capture}
 use Rattle.pl_inputs.specs.Inputs.{Inputs}
 use Rattle.pl_inputs.specs.Loaded.{files_of}
@@ -13,7 +11,7 @@ use Rattle.pl_inputs.specs.Records.{Recorded, records_of as records_walked}
 use Rattle.pl_journal.specs.declared.entry.Entry.{Entry}
 use Rattle.pl_journal.specs.Savable.{IsSavable}
 use Rattle.pl_script.specs.declared.script.ScriptLine.{ScriptLine}
-use Rattle.pl_world.specs.Booting.{CanBegin, booted}
+use Rattle.pl_world.specs.Booting.{booted}
 use Rattle.pl_world.specs.Runs.{Moment as Stretch, WorldRun}
 use Rattle.pl_world.specs.Worlds.{WorldView}
 use Rattle.pl_host_rule.specs.HostRule.{host_rule}
@@ -80,13 +78,6 @@ unplayed_so i line (Refused error.Memory) scene u = tt
 pub unplayed : (i : Inputs) (line : ℕ) (stop : Stop) (scene : Scene) (e : Status) → e ≡ outcome (Some (line, stop)) →
     UnlessWanting stop (PlaysTo i (Some (line, stop)) scene) → IsUnplayed i e
 unplayed i line stop scene e is u = subst (λ x. IsUnplayed i x) (sym is) (unplayed_so i line stop scene u)
-
--- a wiring is one at which a fabric can begin
-pub can_begin : (plan : Plan) → IsPlan plan → CanBegin plan
-can_begin plan is = record {
-  is_plan = is;
-  addresses = All-weaker (λ (h : Host). IsHostMac h.mac) (λ (h : Host). length h.mac.0 ≡ 6) (λ h mac. mac.six_bytes) plan.hosts is.host_macs;
-}
 
 -- a capture has one file
 as_many : (captures : List Capture) → length captures ≡ length (files_of captures)

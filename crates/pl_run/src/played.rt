@@ -15,14 +15,14 @@ use pl_manager::Manager;
 use pl_network::{each_run_keeps_the_wiring, every_entry_can_be_saved};
 use pl_output::summary::{Rest, summary};
 use pl_player::{Player, Stopped};
-use pl_switch::PlainSwitch;
+use pl_tables::TableSwitch;
 use pl_theorem::lawful_cores_are_one_switch;
 use pl_wiring::HostNo;
 use pl_world::{Limits, StepError};
 use std::alloc::Global;
 
-/// What is played: plain switches, the fabric manager, and hosts that play their captures.
-pub(crate) type Fabric = Player<PlainSwitch, Manager, Host>;
+/// What is played: switches that keep prefix tables, the fabric manager, and hosts that play their captures.
+pub(crate) type Fabric = Player<TableSwitch, Manager, Host>;
 
 /// A script that was played to its end, and the captures that it was played over.
 #[derive(Drop)]
@@ -36,11 +36,11 @@ pub(crate) fn play(alloc: Global, inputs: Inputs) -> Result<Played, Status>
     ensures ok { IfOk result (λ played. IsPlayedTo (inputs_of inputs) played) }
     ensures err { IfErr result (λ e. IsUnplayed (inputs_of inputs) e) }
 {
-    a_script_is_a_run::<PlainSwitch, Manager, Host>();
-    hosts_do_what_is_asked::<PlainSwitch, Manager, Host>();
-    every_entry_can_be_saved::<PlainSwitch, Manager, Host>();
-    each_run_keeps_the_wiring::<PlainSwitch, Manager, Host>();
-    lawful_cores_are_one_switch::<PlainSwitch, Manager, Host>();
+    a_script_is_a_run::<TableSwitch, Manager, Host>();
+    hosts_do_what_is_asked::<TableSwitch, Manager, Host>();
+    every_entry_can_be_saved::<TableSwitch, Manager, Host>();
+    each_run_keeps_the_wiring::<TableSwitch, Manager, Host>();
+    lawful_cores_are_one_switch::<TableSwitch, Manager, Host>();
     // The laws are of plans, and the wiring's is one.
     let _hosts = inputs.wiring.hosts();
     play_script(alloc, inputs)

@@ -12,6 +12,7 @@ use pl_manager::Manager;
 use pl_sample::{NextPort, PodAsker, PodGiver, Silent, TwoPorts};
 use pl_scenario_words::{first_word, is_remark, say};
 use pl_switch::PlainSwitch;
+use pl_tables::TableSwitch;
 use pl_wiring::Wiring;
 use pl_wiring::text::{ip, mac};
 use pl_world::Limits;
@@ -177,6 +178,7 @@ fn begin_world(
         "two-ports" => play_world::<TwoPorts, Silent>(alloc, wiring, limits, rest, out),
         "pod-asker" => play_world::<PodAsker, PodGiver>(alloc, wiring, limits, rest, out),
         "plain" => play_world::<PlainSwitch, Manager>(alloc, wiring, limits, rest, out),
+        "tables" => play_world::<TableSwitch, Manager>(alloc, wiring, limits, rest, out),
         _ => refuse(out),
     }
 }

@@ -2,7 +2,8 @@ use Rattle.std.proofs.lemmas.Result.{IfOk-weaker}
 use Rattle.pl_inputs.specs.Loaded.{inputs_of}
 use Rattle.pl_run.specs.Answers.{records_of, run_limits}
 use Rattle.pl_run.specs.Plays.{IsPlayedOver, IsPlayedTo}
-use Rattle.pl_run.proofs.Playing.{AreLaws, can_begin, files_many, played_to}
+use Rattle.pl_theorem.proofs.Beginning.{can_begin}
+use Rattle.pl_run.proofs.Playing.{AreLaws, files_many, played_to}
 use Rattle.pl_run.proofs.played.play.Goals as goal
 
 pub returns-clause-ok : goal.returns-clause-ok

@@ -1,0 +1,23 @@
+-- Worlds to which a run of the fabric has led from its beginning.
+use Rattle.std.specs.Prelude.{List}
+use Rattle.pl_wiring.specs.Plan.{Plan}
+use Rattle.pl_core.specs.HostInputs.{HostRule}
+use Rattle.pl_core.specs.ManagerDuties.{ManagerRule}
+use Rattle.pl_core.specs.SwitchInputs.{SwitchRule}
+use Rattle.pl_world.specs.declared.limits.Limits.{Limits}
+use Rattle.pl_world.specs.Booting.{CanBegin, booted}
+use Rattle.pl_world.specs.Runs.{Moment, WorldRun}
+use Rattle.pl_world.specs.Worlds.{WorldView}
+use Rattle.pl_theorem.specs.OneSwitch.{IsOneSwitch}
+
+-- Steps and marks have led to this world from a beginning.
+pub record IsOfRun (switch : SwitchRule) (manager : ManagerRule) (host : HostRule) (w : WorldView) : Type 0 where
+  pub plan : Plan
+  pub limits : Limits
+  pub begins : CanBegin plan
+  pub moments : List Moment
+  pub run : WorldRun switch manager host (booted plan limits) moments w
+
+-- What is promised of the network holds of this world, whatever the beginning.
+abbrev pub IsPromised : SwitchRule → ManagerRule → HostRule → WorldView → Type 0
+IsPromised switch manager host w = (plan : Plan) × (limits : Limits) × IsOneSwitch switch manager host plan limits w

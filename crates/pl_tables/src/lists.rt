@@ -1,4 +1,4 @@
-ghost use Rattle.std.specs.Prelude.{◌≡◌, ℕ, ◌==◌, ◌&&◌, not, ◌<◌, OnOk, length};
+ghost use Rattle.std.specs.Prelude.{◌≡◌, ℕ, ◌==◌, ◌&&◌, not, ◌<◌, true, OnOk, length};
 ghost use Rattle.std.specs.List.{list_any};
 ghost use Rattle.pl_tables.specs.Leads.{avoids_by, is_entry_for, lead_at, AreAvoided, SetsEach, SetsWhere};
 
@@ -35,33 +35,66 @@ fn set_beyond(
     requires { length leads.now ≡ 24 }
     ensures { OnOk result (SetsEach rows.old rows.new is_in (λ key q. avoids_by list.now (lead_at leads.now q).up key && not (avoids_by other.now (lead_at leads.now q).up key))) }
 {
+    let mut at = 0;
     for entry in list.as_slice() {
-        set_unless(rows, leads, *entry, other, is_in)?;
+        at = place_from(other.as_slice(), at, *entry);
+        set_unless(rows, leads, *entry, other, at, is_in)?;
     }
     Ok(())
 }
 
-// The same for one entry of the first list.
+// The first place from `from` on at which the entry may be in a list that rises. Where each search begins at the
+// place of the one before, all of them together go through the list once.
+fn place_from(entries: &[(SwitchId, u16, u8)], from: usize, entry: (SwitchId, u16, u8)) -> usize {
+    for at in from..entries.len() {
+        if entries[at] >= entry {
+            return at;
+        }
+    }
+    entries.len()
+}
+
+// The same for one entry of the first list, which the other one may have at a place.
 fn set_unless(
     rows: &mut PortRows,
     leads: &[Lead; 24],
     entry: (SwitchId, u16, u8),
     other: &AvoidList,
+    at: usize,
     is_in: bool,
 ) -> Result<(), Memory>
     requires { length leads.now ≡ 24 }
     ensures { OnOk result (SetsEach rows.old rows.new is_in (λ key q. is_entry_for (lead_at leads.now q).up key entry && not (avoids_by other.now (lead_at leads.now q).up key))) }
 {
-    if has_entry(other, entry) {
+    if has_entry(other, at, entry) {
         return Ok(());
     }
     set_at_ports(rows, leads, entry, is_in)
 }
 
-fn has_entry(list: &AvoidList, entry: (SwitchId, u16, u8)) -> bool
+// Whether a list has an entry: at this place, or elsewhere.
+fn has_entry(list: &AvoidList, at: usize, entry: (SwitchId, u16, u8)) -> bool
     ensures { result ≡ list_any (λ a. (a.0.0 == entry.0.0) && ((a.1 == entry.1) && (a.2 == entry.2))) list.now }
 {
+    if is_at(list.as_slice(), at, entry) {
+        return true;
+    }
     list.contains(&entry)
+}
+
+fn is_at(entries: &[(SwitchId, u16, u8)], at: usize, entry: (SwitchId, u16, u8)) -> bool
+    ensures { result ≡ true → list_any (λ a. (a.0.0 == entry.0.0) && ((a.1 == entry.1) && (a.2 == entry.2))) entries.now ≡ true }
+{
+    match entries.get(at) {
+        Some(other) => is_same(*other, entry),
+        None => false,
+    }
+}
+
+fn is_same(a: (SwitchId, u16, u8), b: (SwitchId, u16, u8)) -> bool
+    ensures { result ≡ ((a.0.0 == b.0.0) && ((a.1 == b.1) && (a.2 == b.2))) }
+{
+    a.0.0 == b.0.0 && (a.1 == b.1 && a.2 == b.2)
 }
 
 // Sets or clears each port to the neighbour of an entry under its key.

@@ -65,7 +65,7 @@ near_key_first links s u h =
     (among_mapped (λ (l : (SwitchId × SwitchId) × Bool). l.0.0) at.0 links at.1)
 
 -- one that told nothing has no neighbours, and avoids nothing
-no_neighbours : (told : Told) (s : SwitchId) → has_told told s ≡ false → neighbours told s ≡ []
+pub no_neighbours : (told : Told) (s : SwitchId) → has_told told s ≡ false → neighbours told s ≡ []
 no_neighbours told s none = by (neighbours told s) (λ u h. h)
   where
     by : (us : List SwitchId) → ((u : SwitchId) → IsAmong u us → IsAmong u (neighbours told s)) → us ≡ []

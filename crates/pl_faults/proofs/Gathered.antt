@@ -1,4 +1,4 @@
--- Switches that are gathered in lists: all of another list, all beside some, all below some.
+-- Switches that are gathered in lists: all of another list, all beside some, all that told something, all below some.
 use Rattle.std.proofs.Common.{◌≡◌, ◌⊎◌, Bool, true, false, cond, List, [], ◌∷◌, refl, sym, ap, ◌∙◌, subst, inl, inr}
 use Rattle.std.specs.Prelude.{fold}
 use Rattle.std.specs.BTreeMap.{is_at}
@@ -9,8 +9,8 @@ use Rattle.pl_core.specs.AvoidLists.{is_above}
 use Rattle.pl_core.specs.ManagerViews.{Told, alive_neighbours, id_cmp}
 use Rattle.pl_core.proofs.Among.{among_insert, id_total}
 use Rattle.pl_manager_rule.proofs.Avoided.{id_exact}
-use Rattle.pl_reports.specs.Kept.{near_of}
-use Rattle.pl_faults.specs.Listed.{Hearers, is_in, with_all, with_below, with_beside, with_lower}
+use Rattle.pl_reports.specs.Kept.{has_told, near_of}
+use Rattle.pl_faults.specs.Listed.{Hearers, is_in, with_all, with_below, with_beside, with_told}
 use Rattle.pl_faults.proofs.Anew.{among_told, at_is, told_among}
 use Rattle.pl_faults.proofs.Filling.{among_fold, among_put_in}
 
@@ -48,52 +48,68 @@ module _ (told : Told) (t : SwitchId) where
     | inr there ↦ in_beside x xs (with_beside told list y) there near
   ]
 
--- ---- all below some
-module _ (told : Told) (t : SwitchId) where
-  in_lower_before : (u : SwitchId) (ts list : List SwitchId) → is_in list t ≡ true → is_in (fold (with_lower told u) list ts) t ≡ true
-  in_lower_before u [] list h = h
-  in_lower_before u (x ∷ ts) list h = by (λ l j. in_lower_before u ts l j) (is_above told x u)
+-- ---- all of another list that pass a test
+module _ (test : SwitchId → Bool) (t : SwitchId) where
+  abbrev with_passing : List SwitchId → SwitchId → List SwitchId
+  with_passing list x = cond (test x) (insert_key id_cmp list x) list
+
+  in_passing_before : (ts list : List SwitchId) → is_in list t ≡ true → is_in (fold with_passing list ts) t ≡ true
+  in_passing_before [] list h = h
+  in_passing_before (x ∷ ts) list h = by (λ l j. in_passing_before ts l j) (test x)
     where
-      by : ((l : List SwitchId) → is_in l t ≡ true → is_in (fold (with_lower told u) l ts) t ≡ true) → (b : Bool) →
-          is_in (fold (with_lower told u) (cond b (insert_key id_cmp list x) list) ts) t ≡ true
+      by : ((l : List SwitchId) → is_in l t ≡ true → is_in (fold with_passing l ts) t ≡ true) → (b : Bool) →
+          is_in (fold with_passing (cond b (insert_key id_cmp list x) list) ts) t ≡ true
       by rest true = rest (insert_key id_cmp list x) (in_more x t list h)
       by rest false = rest list h
 
-  in_lower : (u : SwitchId) (ts list : List SwitchId) → is_in ts t ≡ true → is_above told t u ≡ true → is_in (fold (with_lower told u) list ts) t ≡ true
-  in_lower u [] list h above = absurd (false≢true h)
-  in_lower u (x ∷ ts) list h above = elim (or_cases (is_at (id_cmp t) x) (is_in ts t) h) [
+  in_passing : (ts list : List SwitchId) → is_in ts t ≡ true → test t ≡ true → is_in (fold with_passing list ts) t ≡ true
+  in_passing [] list h passes = absurd (false≢true h)
+  in_passing (x ∷ ts) list h passes = elim (or_cases (is_at (id_cmp t) x) (is_in ts t) h) [
     | inl here ↦
         let is : t ≡ x = at_is t x here in
-        let put : with_lower told u list x ≡ insert_key id_cmp list x =
-        ap (λ b. cond b (insert_key id_cmp list x) list) (subst (λ z. is_above told z u ≡ true) is above) in
-        in_lower_before u ts (with_lower told u list x)
+        let put : with_passing list x ≡ insert_key id_cmp list x =
+        ap (λ b. cond b (insert_key id_cmp list x) list) (subst (λ z. test z ≡ true) is passes) in
+        in_passing_before ts (with_passing list x)
         (ap (λ l. is_in l t) put ∙ subst (λ z. is_in (insert_key id_cmp list x) z ≡ true) (sym is) (in_itself x list))
-    | inr there ↦ in_lower u ts (with_lower told u list x) there above
+    | inr there ↦ in_passing ts (with_passing list x) there passes
   ]
 
-  -- one that is there was there, or is below u
-  abbrev Lower : SwitchId → Type 0
-  Lower u = is_above told t u ≡ true
-
-  lower_from : (u : SwitchId) (ts list : List SwitchId) → is_in (fold (with_lower told u) list ts) t ≡ true → (is_in list t ≡ true) ⊎ Lower u
-  lower_from u [] list h = inl h
-  lower_from u (x ∷ ts) list h = by (λ l j. lower_from u ts l j) (is_above told x u) refl h
+  -- one that is there was there, or passes
+  passing_from : (ts list : List SwitchId) → is_in (fold with_passing list ts) t ≡ true → (is_in list t ≡ true) ⊎ (test t ≡ true)
+  passing_from [] list h = inl h
+  passing_from (x ∷ ts) list h = by (λ l j. passing_from ts l j) (test x) refl h
     where
-      by : ((l : List SwitchId) → is_in (fold (with_lower told u) l ts) t ≡ true → (is_in l t ≡ true) ⊎ Lower u) → (b : Bool) → is_above told x u ≡ b →
-          is_in (fold (with_lower told u) (cond b (insert_key id_cmp list x) list) ts) t ≡ true → (is_in list t ≡ true) ⊎ Lower u
+      by : ((l : List SwitchId) → is_in (fold with_passing l ts) t ≡ true → (is_in l t ≡ true) ⊎ (test t ≡ true)) → (b : Bool) → test x ≡ b →
+          is_in (fold with_passing (cond b (insert_key id_cmp list x) list) ts) t ≡ true → (is_in list t ≡ true) ⊎ (test t ≡ true)
       by rest true e j = elim (rest (insert_key id_cmp list x) j) [
         | inl there ↦ elim (among_insert id_cmp x t list (told_among t (insert_key id_cmp list x) there)) [
-          | inl is ↦ inr (subst (λ z. is_above told z u ≡ true) is e)
+          | inl is ↦ inr (subst (λ z. test z ≡ true) is e)
           | inr old ↦ inl (among_told t list old)
         ]
-        | inr low ↦ inr low
+        | inr passes ↦ inr passes
       ]
       by rest false e j = rest list j
+
+-- ---- all that told something
+module _ (told : Told) (t : SwitchId) where
+  pub in_told_before : (ts list : List SwitchId) → is_in list t ≡ true → is_in (fold (with_told told) list ts) t ≡ true
+  in_told_before = in_passing_before (has_told told) t
+
+  pub in_told : (ts list : List SwitchId) → is_in ts t ≡ true → has_told told t ≡ true → is_in (fold (with_told told) list ts) t ≡ true
+  in_told = in_passing (has_told told) t
+
+  pub told_from : (ts list : List SwitchId) → is_in (fold (with_told told) list ts) t ≡ true → (is_in list t ≡ true) ⊎ (has_told told t ≡ true)
+  told_from = passing_from (has_told told) t
+
+-- ---- all below some
+module _ (told : Told) (t : SwitchId) where
+  abbrev Lower : SwitchId → Type 0
+  Lower u = is_above told t u ≡ true
 
   module _ (hearers : Hearers) where
     pub in_below_before : (us list : List SwitchId) → is_in list t ≡ true → is_in (fold (with_below told hearers) list us) t ≡ true
     in_below_before [] list h = h
-    in_below_before (u ∷ us) list h = in_below_before us (with_below told hearers list u) (in_lower_before u (near_of hearers u) list h)
+    in_below_before (u ∷ us) list h = in_below_before us (with_below told hearers list u) (in_passing_before (λ z. is_above told z u) t (near_of hearers u) list h)
 
     pub in_below : (u : SwitchId) (us list : List SwitchId) → is_in us u ≡ true → is_in (near_of hearers u) t ≡ true → is_above told t u ≡ true →
         is_in (fold (with_below told hearers) list us) t ≡ true
@@ -102,13 +118,13 @@ module _ (told : Told) (t : SwitchId) where
       | inl here ↦
           let is : u ≡ v = at_is u v here in
           in_below_before us (with_below told hearers list v)
-          (in_lower v (near_of hearers v) list (subst (λ z. is_in (near_of hearers z) t ≡ true) is heard) (subst (λ z. is_above told t z ≡ true) is above))
+          (in_passing (λ z. is_above told z v) t (near_of hearers v) list (subst (λ z. is_in (near_of hearers z) t ≡ true) is heard) (subst (λ z. is_above told t z ≡ true) is above))
       | inr there ↦ in_below u us (with_below told hearers list v) there heard above
     ]
 
     pub below_from : (us list : List SwitchId) → is_in (fold (with_below told hearers) list us) t ≡ true → (is_in list t ≡ true) ⊎ ((u : SwitchId) × Lower u)
     below_from [] list h = inl h
     below_from (u ∷ us) list h = elim (below_from us (with_below told hearers list u) h) [
-      | inl there ↦ elim (lower_from u (near_of hearers u) list there) [ inl was ↦ inl was | inr low ↦ inr (u, low) ]
+      | inl there ↦ elim (passing_from (λ z. is_above told z u) t (near_of hearers u) list there) [ inl was ↦ inl was | inr low ↦ inr (u, low) ]
       | inr low ↦ inr low
     ]

@@ -7,6 +7,7 @@ pub mod Reaching
 pub mod Nearby
 pub mod Unchanged
 pub mod Words
+pub mod Within
 pub mod Missing
 pub mod Touched
 pub mod WordBits

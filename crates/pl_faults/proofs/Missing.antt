@@ -68,14 +68,14 @@ module _ (told after : Told) (edges : List Edge) (old new : Reach) (was : IsReac
       ∙ (λ j. leads_at (sym at j) (get_or edges i d) (value_of (sym same.down j) i) (value_of (sym same.core j) i) (value_of (sym same.up j) i))
       ∙ leads_by_rows after edges new now u i d within))
 
-  pub misses_near : (missed fresh : Misses) (turned : List SwitchId) → ((t : SwitchId) → place_of after t ≡ place_of told t) →
+  pub misses_near : (missed fresh : Misses) (turned : List SwitchId) → ((t : SwitchId) → is_in turned t ≡ false → place_of after t ≡ place_of told t) →
       ((t : SwitchId) → is_in turned t ≡ false → HasSameRows old new t) → AreMissed told edges missed →
       ((t : SwitchId) → missed_in fresh t ≡ cond (is_in turned t) (missed_at after edges t) (missed_in missed t)) → AreMissed after edges fresh
   misses_near missed fresh turned places same h put u = put u ∙ by (is_in turned u) refl
     where
       by : (b : Bool) → is_in turned u ≡ b → cond b (missed_at after edges u) (missed_in missed u) ≡ missed_at after edges u
       by true e = refl
-      by false e = h u ∙ same_missed u (places u) (same u e)
+      by false e = h u ∙ same_missed u (places u e) (same u e)
 
 pub missed_still : (turned : List SwitchId) (now was fresh : List Edge) (t : SwitchId) → is_in turned t ≡ false →
     now ≡ cond (is_in turned t) fresh was → now ≡ was

@@ -3,7 +3,7 @@ use Rattle.std.proofs.Common.{◌≡◌, ℕ, Bool, true, false, cond, List, [],
 use Rattle.std.specs.Prelude.{fold, is_some}
 use Rattle.std.specs.List.{filter, flat_map}
 use Rattle.std.specs.BTreeMap.{is_at}
-use Rattle.std.proofs.lemmas.Bool.{false≢true, or_cases, or_left}
+use Rattle.std.proofs.lemmas.Bool.{false≢true, or_cases}
 use Rattle.pl_frame.specs.declared.address.SwitchId.{SwitchId}
 use Rattle.pl_core.specs.AvoidLists.{avoid_list, avoided_at, avoided_cmp, is_above, is_cut, is_level_above}
 use Rattle.pl_core.specs.ManagerViews.{PlacedEdge, Told, edge_at, has_level, id_cmp, in_order, neighbours, place_of, placed_edges, value_at}
@@ -12,7 +12,7 @@ use Rattle.pl_manager_rule.proofs.Avoided.{IsPlacedAs, among_placed, placed_amon
 use Rattle.pl_reports.specs.Kept.{has_told}
 use Rattle.pl_faults.specs.declared.edges.Edge.{Edge}
 use Rattle.pl_faults.specs.declared.leading.Leading.{Leading}
-use Rattle.pl_faults.specs.Kept.{AreRenewed, IsKept, IsKeptUp, IsLinkWord, IsPlaceWord, IsRenewed, IsWordOf, Lists, list_of}
+use Rattle.pl_faults.specs.Kept.{AreRenewed, IsKept, IsKeptUp, IsPlaceWord, IsRenewed, IsWordOf, IsWordWithin, Lists, list_of}
 use Rattle.pl_faults.specs.Listed.{AreHeard, Hearers, is_in, with_below}
 use Rattle.pl_faults.specs.Making.{Avoided, placed_as}
 use Rattle.pl_faults.specs.Missed.{AreMissed, IsLeading, IsTurned, avoided_of, is_some_edge, is_upper, missed_at, missed_by}
@@ -20,6 +20,7 @@ use Rattle.pl_faults.specs.Rows.{AreRows, Leads, Rows, leads_by, leads_down, row
 use Rattle.pl_faults.proofs.Anew.{all_renewed, among_told, at_is, at_turned, none_renewed, one_more_renewed}
 use Rattle.pl_faults.proofs.Gathered.{below_from, in_below, in_below_before}
 use Rattle.pl_faults.proofs.Made.{avoided_kept}
+use Rattle.pl_faults.proofs.Nearby.{not_in}
 use Rattle.pl_faults.proofs.Reaching.{below_told}
 
 -- ---- a word of one switch
@@ -163,69 +164,64 @@ placed_kept s told after w was known lists before l2 b2 kept led r = record {
     nothing_told t out false e =
         ap (λ b. cond b (Some (avoid_list told t)) None) e ∙ sym (ap (λ b. cond b (Some (avoid_list after t)) None) out)
 
--- ---- a word on a link, after which those lists are made anew that read what turned
-module _ (s u : SwitchId) (told after : Told) (w : IsLinkWord s u told after) (was known : Leading) (turned : List SwitchId)
-    (lead : IsLeading told was) (led : IsTurned after was known turned) where
-  module _ (t : SwitchId) where
-    above_same : (x : SwitchId) → is_above after t x ≡ is_above told t x
-    above_same x = λ j. is_level_above (w.place t j).level (w.place x j).level
+-- ---- a word after which those lists are made anew that read what turned
+module _ (s : SwitchId) (told after : Told) (w : IsWordOf s told after) (was known : Leading) (turned first : List SwitchId)
+    (lead : IsLeading told was) (led : IsTurned after was known turned) (within : IsWordWithin first neighbours told after)
+    (own : is_in first s ≡ true) (first_told : (t : SwitchId) → is_in first t ≡ true → has_told after t ≡ true) where
+  module _ (t : SwitchId) (away : is_in first t ≡ false) where
+    above_same : (x : SwitchId) → IsAmong x (neighbours after t) → is_above after t x ≡ is_above told t x
+    above_same x near = λ j.
+        is_level_above (within.place t away j).level (within.beside t x away (among_told x (neighbours after t) near) j).level
 
-    avoided_same : (x : SwitchId) → is_in turned x ≡ false → is_above after t x ≡ true → avoided_at after t x ≡ avoided_at told t x
-    avoided_same x out above =
+    avoided_same : (x : SwitchId) → IsAmong x (neighbours after t) → is_in turned x ≡ false → is_above after t x ≡ true →
+        avoided_at after t x ≡ avoided_at told t x
+    avoided_same x near out above =
         avoided_kept after t x known led.leading above
-        ∙ (λ j. avoided_of (w.place t j) t x (led.same x out j))
-        ∙ sym (avoided_kept told t x was lead (sym (above_same x) ∙ above))
+        ∙ (λ j. avoided_of (within.place t away j) t x (led.same x out j))
+        ∙ sym (avoided_kept told t x was lead (sym (above_same x near) ∙ above))
 
-    all_same : (xs : List SwitchId) → ((x : SwitchId) → IsAmong x xs → is_above after t x ≡ true → is_in turned x ≡ false) →
+    all_same : (xs : List SwitchId) → ((x : SwitchId) → IsAmong x xs → IsAmong x (neighbours after t)) →
+        ((x : SwitchId) → IsAmong x xs → is_above after t x ≡ true → is_in turned x ≡ false) →
         flat_map (avoided_at after t) (filter (is_above after t) xs) ≡ flat_map (avoided_at told t) (filter (is_above told t) xs)
-    all_same [] out = refl
-    all_same (x ∷ xs) out =
-        by (all_same xs (λ z h. out z (inr h))) (is_above after t x) refl
-        ∙ ap (λ b. flat_map (avoided_at told t) (cond b (x ∷ filter (is_above told t) xs) (filter (is_above told t) xs))) (above_same x)
+    all_same [] near out = refl
+    all_same (x ∷ xs) near out =
+        by (all_same xs (λ z h. near z (inr h)) (λ z h. out z (inr h))) (is_above after t x) refl
+        ∙ ap (λ b. flat_map (avoided_at told t) (cond b (x ∷ filter (is_above told t) xs) (filter (is_above told t) xs))) (above_same x (near x (inl refl)))
       where
         by : flat_map (avoided_at after t) (filter (is_above after t) xs) ≡ flat_map (avoided_at told t) (filter (is_above told t) xs) →
             (b : Bool) → is_above after t x ≡ b →
             flat_map (avoided_at after t) (cond b (x ∷ filter (is_above after t) xs) (filter (is_above after t) xs))
             ≡ flat_map (avoided_at told t) (cond b (x ∷ filter (is_above told t) xs) (filter (is_above told t) xs))
-        by rest true above = λ j. avoided_same x (out x (inl refl) above) above j ++ rest j
+        by rest true above = λ j. avoided_same x (near x (inl refl)) (out x (inl refl) above) above j ++ rest j
         by rest false above = rest
 
-    same_list : neighbours after t ≡ neighbours told t →
-        ((x : SwitchId) → IsAmong x (neighbours after t) → is_above after t x ≡ true → is_in turned x ≡ false) → avoid_list after t ≡ avoid_list told t
+    same_list : ((x : SwitchId) → IsAmong x (neighbours after t) → is_above after t x ≡ true → is_in turned x ≡ false) →
+        avoid_list after t ≡ avoid_list told t
     unfolding avoid_list
-    same_list near out =
+    same_list out =
         ap (in_order avoided_cmp)
-        (all_same (neighbours after t) out
-        ∙ ap (λ us. flat_map (avoided_at told t) (filter (is_above told t) us)) near)
+        (all_same (neighbours after t) (λ x h. h) out
+        ∙ ap (λ us. flat_map (avoided_at told t) (filter (is_above told t) us)) (within.near t away))
 
   abbrev touched : List SwitchId
-  touched = fold (with_below after known.hearers.entries) (s ∷ []) turned
-
-  not_so : (b : Bool) → (b ≡ true → ⊥) → b ≡ false
-  not_so true f = absurd (f refl)
-  not_so false f = refl
-
-  alone : (t : SwitchId) → is_at (id_cmp t) s ≡ true → is_in (s ∷ []) t ≡ true
-  alone t at = or_left (is_at (id_cmp t) s) false at
+  touched = fold (with_below after known.hearers.entries) first turned
 
   untouched : (t : SwitchId) → is_in touched t ≡ false → list_of told t ≡ list_of after t
   untouched t out =
+      let away : is_in first t ≡ false =
+      not_in (is_in first t) (λ at. false≢true (sym out ∙ in_below_before after t known.hearers.entries turned first at)) in
       let other : is_at (id_cmp s) t ≡ false =
-      at_turned s t
-      ∙ not_so (is_at (id_cmp t) s) (λ at. false≢true (sym out ∙ in_below_before after t known.hearers.entries turned (s ∷ []) (alone t at))) in
+      not_in (is_at (id_cmp s) t) (λ at. false≢true (sym away ∙ subst (λ z. is_in first z ≡ true) (at_is s t at) own)) in
       let far : (x : SwitchId) → IsAmong x (neighbours after t) → is_above after t x ≡ true → is_in turned x ≡ false =
       λ x near above.
-      not_so (is_in turned x)
-      (λ there. false≢true (sym out ∙ in_below after t known.hearers.entries x turned (s ∷ []) there
+      not_in (is_in turned x)
+      (λ there. false≢true (sym out ∙ in_below after t known.hearers.entries x turned first there
       (led.leading.heard t x (among_told x (neighbours after t) near)) above)) in
-      λ j. cond (sym (w.word.others t other) j) (Some (sym (same_list t (w.word.near t other) far) j)) None
+      λ j. cond (sym (w.others t other) j) (Some (sym (same_list t away far) j)) None
 
   touched_told : (t : SwitchId) → is_in touched t ≡ true → has_told after t ≡ true
-  touched_told t h = elim (below_from after t known.hearers.entries turned (s ∷ []) h) [
-    | inl own ↦ elim (or_cases (is_at (id_cmp t) s) false own) [
-      | inl at ↦ subst (λ z. has_told after z ≡ true) (sym (at_is t s at)) w.word.itself
-      | inr none ↦ absurd (false≢true none)
-    ]
+  touched_told t h = elim (below_from after t known.hearers.entries turned first h) [
+    | inl there ↦ first_told t there
     | inr low ↦ below_told after t low.0 low.1
   ]
 
@@ -236,7 +232,7 @@ module _ (s u : SwitchId) (told after : Told) (w : IsLinkWord s u told after) (w
       record {
         kept = record {
           leading = led.leading;
-          listed = all_renewed told after lists before l2 b2 (is_in touched) kept.listed (stays_heard s told after w.word) touched_told untouched on;
+          listed = all_renewed told after lists before l2 b2 (is_in touched) kept.listed (stays_heard s told after w) touched_told untouched on;
         };
         handed = on.handed_stays;
       }

@@ -1,6 +1,6 @@
 -- What one word leaves of what all other switches told.
-use Rattle.std.proofs.Common.{◌≡◌, ◌⊎◌, ◌&&◌, ℕ, Bool, true, false, cond, List, [], ◌∷◌, Option, Some, None, Ordering, Less, Equal, Greater, refl, sym, ap, ◌∙◌, subst, inl, inr}
-use Rattle.std.specs.Prelude.{unwrap_or}
+use Rattle.std.proofs.Common.{◌≡◌, ◌⊎◌, ◌&&◌, ◌||◌, ◌==◌, ℕ, Bool, true, false, cond, List, [], ◌∷◌, map, Option, Some, None, Ordering, Less, Equal, Greater, refl, sym, ap, ◌∙◌, subst, inl, inr}
+use Rattle.std.specs.Prelude.{is_some, unwrap_or}
 use Rattle.std.specs.List.{cons_option, filter, filter_map, list_any}
 use Rattle.std.specs.Ordering.{is_eq, match_ordering}
 use Rattle.std.specs.Cmp.{Equal-is}
@@ -9,16 +9,20 @@ use Rattle.std.specs.BTreeSet.{insert_key}
 use Rattle.std.proofs.lemmas.Bool.{false≢true}
 use Rattle.pl_frame.specs.declared.address.SwitchId.{SwitchId}
 use Rattle.pl_layouts.specs.declared.place.Place.{Place}
+use Rattle.pl_layouts.specs.Equality.{same_switch}
 use Rattle.pl_layouts.specs.Placement.{nowhere}
 use Rattle.pl_core.specs.ManagerViews.{PlacedEdge, Told, alive_neighbours, edge_at, edge_with, id_cmp, link_cmp, neighbours, place_of, placed_edges, switches, value_at}
-use Rattle.pl_core.proofs.Among.{IsAmong, among_insert, id_total}
+use Rattle.pl_core.proofs.Among.{IsAmong, among_filter_mapped, among_insert, among_map, any_among, id_total}
 use Rattle.pl_manager_rule.specs.ManagerRule.{with_link, with_place}
 use Rattle.pl_manager_rule.proofs.Avoided.{id_exact, switches_rise}
 use Rattle.pl_manager_rule.proofs.History.{value_after}
+use Rattle.pl_manager_rule.proofs.Speakers.{same_itself}
 use Rattle.pl_reports.specs.Kept.{has_told, near_of, with_neighbour}
 use Rattle.pl_reports.proofs.Telling.{IsPair, link_exact, other_neighbours, own_neighbours, switches_linked, switches_placed}
+use Rattle.pl_faults.specs.declared.edges.Edge.{Edge}
 use Rattle.pl_faults.specs.Kept.{IsLinkWord, IsPlaceWord}
 use Rattle.pl_faults.specs.Listed.{AreHeard, Hearers, is_in}
+use Rattle.pl_faults.specs.Making.{placed_as}
 use Rattle.pl_faults.proofs.Anew.{among_told, at_is, at_turned, is_itself, still_linked, still_placed, told_among}
 use Rattle.pl_faults.proofs.Gathered.{in_itself, in_more}
 use Rattle.pl_faults.proofs.Reaching.{level_told}
@@ -39,22 +43,10 @@ other_heard told after s t is stays other = by (has_told after t) (has_told told
           | inr there ↦ sym (among_told t (switches told) there) ∙ f
         ]
 
-pub word_of_place : (told : Told) (s : SwitchId) (place : Place) → IsPlaceWord s told (with_place told s place)
-word_of_place told s place = record {
-  word = record {
-    place = λ t other.
-        ap (λ (o : Option Place). unwrap_or o nowhere)
-        (value_after id_cmp id_total id_exact told.places s t place
-        ∙ ap (λ b. cond b (Some place) (value_at id_cmp told.places t)) (sym (at_turned s t) ∙ other));
-    near = λ t other. refl;
-    others = λ t other.
-        other_heard told (with_place told s place) s t (switches_placed told s place) (still_placed told s place t) other;
-    itself = ap (list_any (is_at (id_cmp s))) (switches_placed told s place) ∙ in_itself s (switches told);
-  };
-  near = λ t. refl;
-}
+-- ---- a place
+abbrev edge_in : Told → SwitchId → Option PlacedEdge
+edge_in told t = edge_at t (place_of told t)
 
--- ---- a link
 -- a switch without a place adds no placed edge switch
 none_placed : (f : SwitchId → Option PlacedEdge) (s : SwitchId) → f s ≡ None → (xs : List SwitchId) → filter_map f (insert_key id_cmp xs s) ≡ filter_map f xs
 none_placed f s none [] = ap (λ o. cons_option o []) none
@@ -66,22 +58,98 @@ none_placed f s none (x ∷ xs) = by (none_placed f s none xs) (id_cmp s x)
     by rest Equal = refl
     by rest Greater = ap (cons_option (f x)) rest
 
-edges_linked : (told : Told) (s u : SwitchId) (usable : Bool) → placed_edges (with_link told s u usable) ≡ placed_edges told
-edges_linked told s u usable = ap (filter_map edge) (switches_linked told s u usable) ∙ by (has_told told s) refl
+unplaced : (o : Option PlacedEdge) → is_some o ≡ false → o ≡ None
+unplaced None e = refl
+unplaced (Some x) e = absurd (false≢true (sym e))
+
+same_placed : (f g : SwitchId → Option PlacedEdge) → ((x : SwitchId) → f x ≡ g x) → (xs : List SwitchId) → filter_map f xs ≡ filter_map g xs
+same_placed f g h [] = refl
+same_placed f g h (x ∷ xs) = λ i. cons_option (h x i) (same_placed f g h xs i)
+
+module _ (told : Told) (s : SwitchId) (place : Place) where
+  abbrev placed : Told
+  placed = with_place told s place
+
+  other_place : (t : SwitchId) → is_at (id_cmp s) t ≡ false → place_of placed t ≡ place_of told t
+  other_place t other =
+      ap (λ (o : Option Place). unwrap_or o nowhere)
+      (value_after id_cmp id_total id_exact told.places s t place
+      ∙ ap (λ b. cond b (Some place) (value_at id_cmp told.places t)) (sym (at_turned s t) ∙ other))
+
+  unplaced_edges : is_some (edge_at s (place_of told s)) ≡ false → is_some (edge_at s (place_of placed s)) ≡ false → placed_edges placed ≡ placed_edges told
+  unplaced_edges was now =
+      ap (filter_map (edge_in placed)) (switches_placed told s place)
+      ∙ none_placed (edge_in placed) s (unplaced (edge_in placed s) now) (switches told)
+      ∙ same_placed (edge_in placed) (edge_in told) same (switches told)
+    where
+      same : (x : SwitchId) → edge_in placed x ≡ edge_in told x
+      same x = by (is_at (id_cmp s) x) refl
+        where
+          by : (b : Bool) → is_at (id_cmp s) x ≡ b → edge_in placed x ≡ edge_in told x
+          by true e = subst (λ z. edge_in placed z ≡ edge_in told z) (at_is s x e) (unplaced (edge_in placed s) now ∙ sym (unplaced (edge_in told s) was))
+          by false e = ap (edge_at x) (other_place x e)
+
+  pub word_of_place : IsPlaceWord s told placed
+  word_of_place = record {
+    word = record {
+      place = other_place;
+      near = λ t other. refl;
+      others = λ t other. other_heard told placed s t (switches_placed told s place) (still_placed told s place t) other;
+      itself = ap (list_any (is_at (id_cmp s))) (switches_placed told s place) ∙ in_itself s (switches told);
+    };
+    near = λ t. refl;
+    beside = λ t. refl;
+    edges = unplaced_edges;
+  }
+
+unlevelled : (s : SwitchId) (a b d : Option ℕ) → ((n : ℕ) → a ≡ Some n → ⊥) → edge_with s a b d ≡ None
+unlevelled s None b d f = refl
+unlevelled s (Some n) b d f = absurd (f n refl)
+
+untold_edge : (told : Told) (s : SwitchId) → has_told told s ≡ false → edge_in told s ≡ None
+untold_edge told s e =
+    unlevelled s (place_of told s).level (place_of told s).position (place_of told s).pod (λ n is. false≢true (sym e ∙ level_told told s n is))
+
+pub neither : (a b : Bool) → (a || b) ≡ false → (a ≡ false) × (b ≡ false)
+neither false b e = (refl, e)
+neither true b e = absurd (false≢true (sym e))
+
+-- a switch that is not among the placed edge switches is none
+edge_switch : (s : SwitchId) (a b d : Option ℕ) (e : PlacedEdge) → edge_with s a b d ≡ Some e → e.switch ≡ s
+edge_switch s (Some level) (Some position) (Some pod) e h = by (level == 0) h
   where
-    edge : SwitchId → Option PlacedEdge
-    edge t = edge_at t (place_of told t)
+    by : (b : Bool) → cond b (Some (let x : PlacedEdge = record { switch = s; pod = pod; position = position } in x)) None ≡ Some e → e.switch ≡ s
+    by true k =
+        let x : PlacedEdge = record { switch = s; pod = pod; position = position } in
+        let is : x ≡ e = cc in
+        sym (ap (λ r. r.switch) is)
+    by false k = let none : None ≡ Some e = k in cc
+edge_switch s None position pod e h = let none : None ≡ Some e = h in cc
+edge_switch s (Some level) None pod e h = let none : None ≡ Some e = h in cc
+edge_switch s (Some level) (Some position) None e h = let none : None ≡ Some e = h in cc
 
-    unlevelled : (a b d : Option ℕ) → ((n : ℕ) → a ≡ Some n → ⊥) → edge_with s a b d ≡ None
-    unlevelled None b d f = refl
-    unlevelled (Some n) b d f = absurd (f n refl)
+pub was_unplaced : (told : Told) (s : SwitchId) (es : List Edge) → map placed_as es ≡ placed_edges told →
+    list_any (λ e. same_switch e.switch s) es ≡ false → is_some (edge_at s (place_of told s)) ≡ false
+was_unplaced told s es placed out = by (has_told told s) (edge_in told s) refl refl
+  where
+    by : (b : Bool) (o : Option PlacedEdge) → has_told told s ≡ b → edge_in told s ≡ o → is_some o ≡ false
+    by b None e k = refl
+    by false (Some x) e k = ap is_some (sym k ∙ untold_edge told s e)
+    by true (Some x) e k =
+        let there = among_filter_mapped (edge_in told) x s (switches told) (told_among s (switches told) e) k in
+        let at = among_map placed_as x es (subst (IsAmong x) (sym placed) there) in
+        let is : at.0.switch ≡ s =
+        ap (λ (p : PlacedEdge). p.switch) at.2 ∙ edge_switch s (place_of told s).level (place_of told s).position (place_of told s).pod x k in
+        absurd (false≢true (sym out ∙ any_among (λ (y : Edge). same_switch y.switch s) at.0 es at.1
+        (subst (λ z. same_switch z s ≡ true) (sym is) (same_itself s))))
 
-    by : (b : Bool) → has_told told s ≡ b → filter_map edge (insert_key id_cmp (switches told) s) ≡ placed_edges told
-    by true e = ap (filter_map edge) (insert_nothing (switches told) s (switches_rise told) (told_among s (switches told) e))
-    by false e =
-        none_placed edge s
-        (unlevelled (place_of told s).level (place_of told s).position (place_of told s).pod (λ n is. false≢true (sym e ∙ level_told told s n is)))
-        (switches told)
+-- ---- a link
+edges_linked : (told : Told) (s u : SwitchId) (usable : Bool) → placed_edges (with_link told s u usable) ≡ placed_edges told
+edges_linked told s u usable = ap (filter_map (edge_in told)) (switches_linked told s u usable) ∙ by (has_told told s) refl
+  where
+    by : (b : Bool) → has_told told s ≡ b → filter_map (edge_in told) (insert_key id_cmp (switches told) s) ≡ placed_edges told
+    by true e = ap (filter_map (edge_in told)) (insert_nothing (switches told) s (switches_rise told) (told_among s (switches told) e))
+    by false e = none_placed (edge_in told) s (untold_edge told s e) (switches told)
 
 -- the links of a switch that is at neither end
 module _ (told : Told) (s u : SwitchId) (usable : Bool) (t : SwitchId) (own : is_at (id_cmp s) t ≡ false) (other : is_at (id_cmp u) t ≡ false) where

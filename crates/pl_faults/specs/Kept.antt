@@ -4,11 +4,12 @@ use Rattle.std.specs.List.{filter}
 use Rattle.std.specs.BTreeMap.{is_at}
 use Rattle.std.specs.BTreeSet.{insert_key}
 use Rattle.pl_frame.specs.declared.address.SwitchId.{SwitchId}
-use Rattle.pl_core.specs.ManagerViews.{Told, alive_neighbours, id_cmp, neighbours, place_of, placed_edges, switches, value_at}
+use Rattle.pl_core.specs.ManagerViews.{Told, alive_neighbours, edge_at, id_cmp, neighbours, place_of, placed_edges, switches, value_at}
 use Rattle.pl_core.specs.AvoidLists.{avoid_list}
 use Rattle.pl_manager_rule.specs.ManagerRule.{same_avoid_list}
 use Rattle.pl_reports.specs.Kept.{has_told, nothing_told}
 use Rattle.pl_faults.specs.declared.leading.Leading.{Leading}
+use Rattle.pl_faults.specs.Listed.{is_in}
 use Rattle.pl_faults.specs.Making.{Avoided}
 use Rattle.pl_faults.specs.Missed.{IsLeading}
 
@@ -78,10 +79,12 @@ pub record IsWordOf (s : SwitchId) (told after : Told) : Type 0 where
   pub others : (t : SwitchId) → is_at (id_cmp s) t ≡ false → has_told after t ≡ has_told told t
   pub itself : has_told after s ≡ true
 
--- what a word of a switch on its place leaves
+-- what a word of a switch on its place leaves; the placed edge switches, where it was none of them and is none
 pub record IsPlaceWord (s : SwitchId) (told after : Told) : Type 0 where
   pub word : IsWordOf s told after
   pub near : (t : SwitchId) → neighbours after t ≡ neighbours told t
+  pub beside : (t : SwitchId) → alive_neighbours after t ≡ alive_neighbours told t
+  pub edges : is_some (edge_at s (place_of told s)) ≡ false → is_some (edge_at s (place_of after s)) ≡ false → placed_edges after ≡ placed_edges told
 
 -- what a word of a switch on its link to u leaves
 pub record IsLinkWord (s u : SwitchId) (told after : Told) : Type 0 where
@@ -90,6 +93,12 @@ pub record IsLinkWord (s u : SwitchId) (told after : Told) : Type 0 where
   pub edges : placed_edges after ≡ placed_edges told
   pub near : neighbours after s ≡ insert_key id_cmp (neighbours told s) u
   pub beside : (t : SwitchId) → is_at (id_cmp s) t ≡ false → is_at (id_cmp u) t ≡ false → alive_neighbours after t ≡ alive_neighbours told t
+
+-- a word leaves the place of each switch but some, the neighbours of one kind that it has, and their places
+pub record IsWordWithin (some : List SwitchId) (near_in : Told → SwitchId → List SwitchId) (told after : Told) : Type 0 where
+  pub place : (t : SwitchId) → is_in some t ≡ false → place_of after t ≡ place_of told t
+  pub near : (t : SwitchId) → is_in some t ≡ false → near_in after t ≡ near_in told t
+  pub beside : (t x : SwitchId) → is_in some t ≡ false → is_in (near_in after t) x ≡ true → place_of after x ≡ place_of told x
 
 -- what is missed, the lists, and the lists that were handed out, by what was told
 pub record IsKept (told : Told) (known : Leading) (lists before : Lists) : Type 0 where

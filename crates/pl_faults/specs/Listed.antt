@@ -6,7 +6,7 @@ use Rattle.std.specs.BTreeSet.{insert_key}
 use Rattle.pl_frame.specs.declared.address.SwitchId.{SwitchId}
 use Rattle.pl_core.specs.ManagerViews.{Told, alive_neighbours, id_cmp, neighbours}
 use Rattle.pl_core.specs.AvoidLists.{is_above}
-use Rattle.pl_reports.specs.Kept.{near_of}
+use Rattle.pl_reports.specs.Kept.{has_told, near_of}
 
 -- whether a switch is in a list of them
 abbrev pub is_in : List SwitchId → SwitchId → Bool
@@ -19,6 +19,10 @@ with_all list more = fold (insert_key id_cmp) list more
 -- a list with all to which a switch has a link that is alive
 abbrev pub with_beside : Told → List SwitchId → SwitchId → List SwitchId
 with_beside told list x = with_all list (alive_neighbours told x)
+
+-- a list with one more switch, if that one told something
+abbrev pub with_told : Told → List SwitchId → SwitchId → List SwitchId
+with_told told list t = if has_told told t then insert_key id_cmp list t else list
 
 -- for each switch those that told of a link to it
 abbrev pub Hearers : Type 0

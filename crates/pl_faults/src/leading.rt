@@ -1,12 +1,14 @@
-ghost use Rattle.std.specs.Prelude.{◌≡◌, ◌&&◌, IfOk, OnOk, [], is_some, not};
+ghost use Rattle.std.specs.Prelude.{◌≡◌, ◌&&◌, ◌||◌, IfOk, OnOk, [], is_some, not};
+ghost use Rattle.std.specs.List.{list_any};
+ghost use Rattle.pl_layouts.specs.Equality.{same_switch};
 ghost use Rattle.pl_frame.specs.declared.address.SwitchId.{SwitchId};
-ghost use Rattle.pl_core.specs.ManagerViews.{Told, edge_at, place_of};
-ghost use Rattle.pl_faults.specs.Kept.{IsLinkWord};
+ghost use Rattle.pl_core.specs.ManagerViews.{Told, edge_at, place_of, placed_edges};
+ghost use Rattle.pl_faults.specs.Kept.{IsLinkWord, IsPlaceWord};
 ghost use Rattle.pl_faults.specs.Listed.{AreHeard};
 ghost use Rattle.pl_faults.specs.Missed.{IsLeading, IsTurned, is_some_edge};
 
 use crate::edges::{Edge, edge_at, placed_edges};
-use crate::listed::{Hearers, hear};
+use crate::listed::{Hearers, around, ends_of, hear};
 use crate::missed::{Misses, renew_misses};
 use crate::reach::{Reach, no_reach, reach_of, renew_reach};
 use pl_core::{Memory, SwitchList};
@@ -79,14 +81,46 @@ pub(crate) fn link_leading(
         IsLeading told leading.old → IsTurned reports.now leading.old leading.new turned) }
 {
     hear(&mut leading.hearers, alloc, switch, neighbour)?;
+    let ends = ends_of(alloc, switch, neighbour)?;
     let turned = renew_reach(
         &mut leading.reach,
         alloc,
         reports,
         leading.edges.as_slice(),
-        switch,
-        neighbour,
+        &ends,
     )?;
+    renew_misses(
+        &mut leading.misses,
+        alloc,
+        reports,
+        leading.edges.as_slice(),
+        &leading.reach,
+        turned.as_slice(),
+    )?;
+    Ok(turned)
+}
+
+/// Brings it up to a word of a switch on its place, which was told already and left the placed edge switches.
+/// Answers the switches that may miss others.
+pub(crate) fn move_leading(
+    leading: &mut Leading,
+    alloc: Global,
+    reports: &Reports,
+    switch: SwitchId,
+) -> Result<SwitchList, Memory>
+    ensures { IfOk result (λ turned. (told : Told) → IsPlaceWord switch told reports.now →
+        placed_edges reports.now ≡ placed_edges told →
+        IsLeading told leading.old → IsTurned reports.now leading.old leading.new turned) }
+{
+    let ends = around(alloc, reports, switch)?;
+    let mut turned = renew_reach(
+        &mut leading.reach,
+        alloc,
+        reports,
+        leading.edges.as_slice(),
+        &ends,
+    )?;
+    turned.insert(switch)?;
     renew_misses(
         &mut leading.misses,
         alloc,
@@ -103,6 +137,19 @@ pub(crate) fn is_none_placed(reports: &Reports, edges: &[Edge], switch: SwitchId
     ensures { result ≡ (not (is_some_edge edges.now) && not (is_some (edge_at switch (place_of reports.now switch)))) }
 {
     !has_some(edges) && !is_edge(reports, switch)
+}
+
+/// Whether a switch was a placed edge switch, or is one now.
+pub(crate) fn is_placed(reports: &Reports, edges: &[Edge], switch: SwitchId) -> bool
+    ensures { result ≡ (list_any (λ e. same_switch e.switch switch) edges.now || is_some (edge_at switch (place_of reports.now switch))) }
+{
+    was_placed(edges, switch) || is_edge(reports, switch)
+}
+
+fn was_placed(edges: &[Edge], switch: SwitchId) -> bool
+    ensures { result ≡ list_any (λ e. same_switch e.switch switch) edges.now }
+{
+    edges.iter().any(|e| e.switch.0 == switch.0)
 }
 
 fn has_some(edges: &[Edge]) -> bool

@@ -4,7 +4,7 @@ ghost use Rattle.pl_core.specs.AvoidLists.{is_level_above};
 ghost use Rattle.pl_core.specs.ManagerViews.{id_cmp, place_of};
 ghost use Rattle.std.specs.BTreeSet.{insert_key};
 ghost use Rattle.pl_reports.specs.Kept.{with_neighbour};
-ghost use Rattle.pl_faults.specs.Listed.{with_all, with_below, with_beside, with_lower};
+ghost use Rattle.pl_faults.specs.Listed.{with_all, with_below, with_beside, with_lower, with_told};
 ghost use Rattle.pl_frame.specs.declared.address.SwitchId.{SwitchId};
 
 use crate::making::is_level_above;
@@ -43,6 +43,34 @@ pub(crate) fn beside(
     Ok(all)
 }
 
+/// The two ends of a link.
+pub(crate) fn ends_of(
+    alloc: Global,
+    switch: SwitchId,
+    neighbour: SwitchId,
+) -> Result<SwitchList, Memory>
+    ensures { IfOk result (λ ends. ends ≡ insert_key id_cmp (switch ∷ []) neighbour) }
+{
+    let mut ends = SwitchList::new(alloc);
+    ends.insert(switch)?;
+    ends.insert(neighbour)?;
+    Ok(ends)
+}
+
+/// A switch, and all to which it has links that are alive.
+pub(crate) fn around(
+    alloc: Global,
+    reports: &Reports,
+    switch: SwitchId,
+) -> Result<SwitchList, Memory>
+    ensures { IfOk result (λ list. list ≡ with_beside reports.now (switch ∷ []) switch) }
+{
+    let mut list = SwitchList::new(alloc);
+    list.insert(switch)?;
+    put_all(&mut list, reports.alive_neighbours(switch))?;
+    Ok(list)
+}
+
 /// A switch tells of a link.
 pub(crate) fn hear(
     hearers: &mut Hearers,
@@ -64,22 +92,46 @@ pub(crate) fn hear(
     }
 }
 
-/// A switch, and all below one of these that told of a link to it.
-pub(crate) fn below(
+/// A switch, and all that told of a link to it.
+pub(crate) fn with_hearers(
     alloc: Global,
     reports: &Reports,
     hearers: &Hearers,
     switch: SwitchId,
-    turned: &[SwitchId],
 ) -> Result<SwitchList, Memory>
-    ensures { IfOk result (λ list. list ≡ fold (with_below reports.now hearers.now.entries) (switch ∷ []) turned.now) }
+    ensures { IfOk result (λ list. list ≡ fold (with_told reports.now) (switch ∷ []) (near_of hearers.now.entries switch)) }
 {
     let mut list = SwitchList::new(alloc);
     list.insert(switch)?;
-    for above in turned {
-        put_below(&mut list, reports, hearers_of(hearers, *above), *above)?;
+    for hearer in hearers_of(hearers, switch) {
+        put_told(&mut list, reports, *hearer)?;
     }
     Ok(list)
+}
+
+// Puts in a switch if it told something.
+fn put_told(list: &mut SwitchList, reports: &Reports, switch: SwitchId) -> Result<(), Memory>
+    ensures { OnOk result (list.new ≡ with_told reports.now list.old switch) }
+{
+    if reports.has_told(switch) {
+        list.insert(switch)?;
+    }
+    Ok(())
+}
+
+/// Puts in all that are below one of these and told of a link to it.
+pub(crate) fn put_all_below(
+    list: &mut SwitchList,
+    reports: &Reports,
+    hearers: &Hearers,
+    turned: &[SwitchId],
+) -> Result<(), Memory>
+    ensures { OnOk result (list.new ≡ fold (with_below reports.now hearers.now.entries) list.old turned.now) }
+{
+    for above in turned {
+        put_below(list, reports, hearers_of(hearers, *above), *above)?;
+    }
+    Ok(())
 }
 
 fn hearers_of(hearers: &Hearers, switch: SwitchId) -> &[SwitchId]

@@ -2,9 +2,9 @@ ghost use Rattle.std.specs.Prelude.{◌≡◌, [], IfOk, IsTrue, OnOk, false, if
 ghost use Rattle.std.specs.BTreeMap.{is_at};
 ghost use Rattle.std.specs.Option.{option_copied};
 ghost use Rattle.pl_frame.specs.declared.address.SwitchId.{SwitchId};
-ghost use Rattle.pl_core.specs.ManagerViews.{Told, has_level, id_cmp, value_at};
+ghost use Rattle.pl_core.specs.ManagerViews.{Told, alive_neighbours, has_level, id_cmp, value_at};
 ghost use Rattle.pl_layouts.specs.Placement.{is_known};
-ghost use Rattle.pl_faults.specs.Kept.{IsLinkWord};
+ghost use Rattle.pl_faults.specs.Kept.{IsWordWithin};
 ghost use Rattle.pl_faults.specs.Listed.{is_in};
 ghost use Rattle.pl_faults.specs.Rows.{AreRows, AreRowsRenewed, IsReach, IsReachRenewed, Leads, leads_at, leads_by, leads_down, row_at_level, row_in, row_of, row_or_none, value_of, with_row};
 
@@ -55,23 +55,20 @@ pub(crate) fn reach_of(alloc: Global, reports: &Reports, edges: &[Edge]) -> Resu
     Ok(Reach { down, core, up })
 }
 
-/// Brings it up to a word on a link, which was told already. Answers the switches that have other rows.
+/// Brings it up to a word, which was told already and left all switches but these. Answers the switches that
+/// have other rows.
 pub(crate) fn renew_reach(
     reach: &mut Reach,
     alloc: Global,
     reports: &Reports,
     edges: &[Edge],
-    switch: SwitchId,
-    neighbour: SwitchId,
+    ends: &SwitchList,
 ) -> Result<SwitchList, Memory>
-    ensures { IfOk result (λ turned. (told : Told) → IsLinkWord switch neighbour told reports.now →
+    ensures { IfOk result (λ turned. (told : Told) → IsWordWithin ends.now alive_neighbours told reports.now →
         IsReach told edges.now reach.old → IsReachRenewed reports.now edges.now reach.old reach.new turned) }
 {
-    let mut ends = SwitchList::new(alloc);
-    ends.insert(switch)?;
-    ends.insert(neighbour)?;
     let mut turned = renew_down(&mut reach.down, alloc, reports, edges, ends.as_slice())?;
-    let asked = beside(alloc, reports, &ends, turned.as_slice())?;
+    let asked = beside(alloc, reports, ends, turned.as_slice())?;
     let cores = renew_by(
         &mut reach.core,
         alloc,
@@ -83,7 +80,7 @@ pub(crate) fn renew_reach(
         asked.as_slice(),
     )?;
     put_all(&mut turned, cores.as_slice())?;
-    let asked_above = beside(alloc, reports, &ends, cores.as_slice())?;
+    let asked_above = beside(alloc, reports, ends, cores.as_slice())?;
     let above = renew_by(
         &mut reach.up,
         alloc,

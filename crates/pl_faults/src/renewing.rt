@@ -1,15 +1,17 @@
 ghost use Rattle.std.specs.Prelude.{◌≡◌, OnOk};
-ghost use Rattle.pl_core.specs.ManagerViews.{Told};
+ghost use Rattle.pl_core.specs.ManagerViews.{Told, placed_edges};
 ghost use Rattle.pl_frame.specs.declared.address.SwitchId.{SwitchId};
 ghost use Rattle.pl_faults.specs.Kept.{AreRenewed, IsKept, IsKeptUp, IsLinkWord, IsPlaceWord};
 ghost use Rattle.pl_faults.specs.Listed.{is_in};
 ghost use Rattle.pl_faults.specs.Missed.{IsLeading};
 
-use crate::leading::{Leading, is_none_placed, link_leading, place_leading};
-use crate::listed::below;
+use crate::leading::{
+    Leading, is_none_placed, is_placed, link_leading, move_leading, place_leading,
+};
+use crate::listed::{put_all_below, with_hearers};
 use crate::lists::{Lists, renew};
 use crate::making::avoid_list_of;
-use pl_core::{AvoidList, Memory};
+use pl_core::{AvoidList, Memory, SwitchList};
 use pl_frame::SwitchId;
 use pl_reports::Reports;
 use std::alloc::Global;
@@ -29,7 +31,14 @@ pub(crate) fn renew_near(
         IsKeptUp reports.now lists.old.entries before.old.entries leading.new lists.new.entries before.new.entries) }
 {
     let turned = link_leading(leading, alloc, reports, switch, neighbour)?;
-    let touched = below(alloc, reports, &leading.hearers, switch, turned.as_slice())?;
+    let mut touched = SwitchList::new(alloc);
+    touched.insert(switch)?;
+    put_all_below(
+        &mut touched,
+        reports,
+        &leading.hearers,
+        turned.as_slice(),
+    )?;
     renew_lists(reports, leading, lists, before, alloc, touched.as_slice())?;
     Ok(())
 }
@@ -51,11 +60,41 @@ pub(crate) fn renew_placed(
         renew(lists, before, alloc, switch, AvoidList::new(alloc))?;
         return Ok(());
     }
-    renew_all(reports, leading, lists, before, alloc)?;
+    if is_placed(reports, leading.edges.as_slice(), switch) {
+        renew_all(reports, leading, lists, before, alloc)?;
+        return Ok(());
+    }
+    renew_moved(reports, leading, lists, before, alloc, switch)?;
     Ok(())
 }
 
-// The same where an edge switch is placed, or was.
+// The same of a switch that was no placed edge switch and is none.
+fn renew_moved(
+    reports: &Reports,
+    leading: &mut Leading,
+    lists: &mut Lists,
+    before: &mut Lists,
+    alloc: Global,
+    switch: SwitchId,
+) -> Result<(), Memory>
+    ensures { OnOk result ((told : Told) → IsPlaceWord switch told reports.now →
+        placed_edges reports.now ≡ placed_edges told →
+        IsKept told leading.old lists.old.entries before.old.entries →
+        IsKeptUp reports.now lists.old.entries before.old.entries leading.new lists.new.entries before.new.entries) }
+{
+    let turned = move_leading(leading, alloc, reports, switch)?;
+    let mut touched = with_hearers(alloc, reports, &leading.hearers, switch)?;
+    put_all_below(
+        &mut touched,
+        reports,
+        &leading.hearers,
+        turned.as_slice(),
+    )?;
+    renew_lists(reports, leading, lists, before, alloc, touched.as_slice())?;
+    Ok(())
+}
+
+// The same, whatever the switch was and is.
 fn renew_all(
     reports: &Reports,
     leading: &mut Leading,

@@ -1,7 +1,5 @@
-use Rattle.std.proofs.Common.{◌≡◌, ◌∙◌, [], ap, subst}
+use Rattle.std.proofs.Common.{◌∙◌, ap, subst}
 use Rattle.std.specs.Prelude.{fold}
-use Rattle.std.specs.BTreeSet.{insert_key}
-use Rattle.pl_core.specs.ManagerViews.{id_cmp}
 use Rattle.pl_faults.specs.Listed.{with_all, with_beside}
 use Rattle.pl_faults.specs.Rows.{AreRowsRenewed, leads_by, leads_down, row_at_level}
 use Rattle.pl_faults.specs.declared.reach.Reach.{Reach}
@@ -10,17 +8,12 @@ use Rattle.pl_faults.proofs.reach.renew_reach.Goals as goal
 
 pub returns : goal.returns
 returns c told word reach =
-    let after = c.args.reports.now in let edges = c.args.edges.now in
-    let s = c.args.switch in let u = c.args.neighbour in
-    let ends = c.insert-2.new.self in let low = c.in_ok-turned.turned in let cores = c.in_ok-cores.cores in let above = c.in_ok-above.above in
+    let after = c.args.reports.now in let edges = c.args.edges.now in let ends = c.args.ends.now in
+    let low = c.in_ok-turned.turned in let cores = c.in_ok-cores.cores in let above = c.in_ok-above.above in
     let asked = c.in_ok-asked.asked in let asked_above = c.in_ok-asked_above.asked_above in
     let old = c.args.reach.now in
     let new : Reach = record { down = c.renew_down.new.rows; core = c.renew_by.new.rows; up = c.renew_by-2.new.rows } in
-    let ends_are : ends ≡ insert_key id_cmp (insert_key id_cmp [] s) u =
-    c.in_ok-insert-2.ensures.ok
-    ∙ ap (λ xs. insert_key id_cmp xs u) (c.in_ok-insert.ensures.ok ∙ ap (λ xs. insert_key id_cmp xs s) c.new-ends.ensures) in
-    reach_renewed s u told after word edges old new ends low cores asked above asked_above c.put_all-2.new.list reach
-    ends_are
+    reach_renewed ends told after word edges old new low cores asked above asked_above c.put_all-2.new.list reach
     (subst (λ xs. AreRowsRenewed (row_at_level after 1 (leads_down after) edges) xs old.down.entries new.down.entries low)
     c.as_slice.ensures.items c.in_ok-turned.ensures)
     (c.in_ok-asked.ensures ∙ ap (fold (with_beside after) ends) c.as_slice-2.ensures.items)

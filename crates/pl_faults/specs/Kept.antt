@@ -94,7 +94,7 @@ pub record IsLinkWord (s u : SwitchId) (told after : Told) : Type 0 where
   pub near : neighbours after s ≡ insert_key id_cmp (neighbours told s) u
   pub beside : (t : SwitchId) → is_at (id_cmp s) t ≡ false → is_at (id_cmp u) t ≡ false → alive_neighbours after t ≡ alive_neighbours told t
 
--- a word leaves the place of each switch but some, the neighbours of one kind that it has, and their places
+-- outside some switches a word leaves where each is, its neighbours of one kind, and where these are
 pub record IsWordWithin (some : List SwitchId) (near_in : Told → SwitchId → List SwitchId) (told after : Told) : Type 0 where
   pub place : (t : SwitchId) → is_in some t ≡ false → place_of after t ≡ place_of told t
   pub near : (t : SwitchId) → is_in some t ≡ false → near_in after t ≡ near_in told t

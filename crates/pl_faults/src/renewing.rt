@@ -33,12 +33,7 @@ pub(crate) fn renew_near(
     let turned = link_leading(leading, alloc, reports, switch, neighbour)?;
     let mut touched = SwitchList::new(alloc);
     touched.insert(switch)?;
-    put_all_below(
-        &mut touched,
-        reports,
-        &leading.hearers,
-        turned.as_slice(),
-    )?;
+    put_all_below(&mut touched, reports, &leading.hearers, turned.as_slice())?;
     renew_lists(reports, leading, lists, before, alloc, touched.as_slice())?;
     Ok(())
 }
@@ -84,12 +79,7 @@ fn renew_moved(
 {
     let turned = move_leading(leading, alloc, reports, switch)?;
     let mut touched = with_hearers(alloc, reports, &leading.hearers, switch)?;
-    put_all_below(
-        &mut touched,
-        reports,
-        &leading.hearers,
-        turned.as_slice(),
-    )?;
+    put_all_below(&mut touched, reports, &leading.hearers, turned.as_slice())?;
     renew_lists(reports, leading, lists, before, alloc, touched.as_slice())?;
     Ok(())
 }

@@ -1,18 +1,24 @@
 -- Which edge switches each switch misses, switch by switch.
-use Rattle.std.proofs.Common.{◌≡◌, ℕ, ◌<◌, ◌+◌, zero, suc, arith, Bool, true, false, cond, not, List, [], ◌∷◌, ◌++◌, length, take, get_or, Option, Some, None, refl, sym, ap, ◌∙◌}
+use Rattle.std.proofs.Common.{◌≡◌, ℕ, ◌<◌, ◌+◌, ◌==◌, ◌&&◌, zero, suc, arith, Bool, true, false, cond, not, List, [], ◌∷◌, ◌++◌, length, take, get_or, Option, Some, None, refl, sym, ap, ◌∙◌, inl, inr}
+use Rattle.std.specs.Bool.{Decides}
 use Rattle.std.specs.List.{filter}
-use Rattle.std.proofs.lemmas.Bool.{false≢true}
+use Rattle.std.specs.BTreeMap.{is_at}
+use Rattle.std.proofs.lemmas.Bool.{false≢true, or_cases}
+use Rattle.std.proofs.lemmas.Bool.Decides.{Decides-and, Decides-eqb}
+use Rattle.std.proofs.lemmas.List.Folds.{list_any_more}
 use Rattle.std.proofs.lemmas.List.{append-nil, take_more}
 use Rattle.std.proofs.lemmas.List.Elements.{filter-append}
 use Rattle.pl_frame.specs.declared.address.SwitchId.{SwitchId}
-use Rattle.pl_core.specs.ManagerViews.{Told, place_of, switches}
+use Rattle.pl_core.specs.ManagerViews.{Told, id_cmp, place_of, switches}
 use Rattle.pl_core.specs.AvoidLists.{leads_to}
 use Rattle.pl_reports.specs.Kept.{has_told}
 use Rattle.pl_faults.specs.declared.edges.Edge.{Edge}
-use Rattle.pl_faults.specs.Missed.{AreMissed, Misses, is_upper, missed_at, missed_by, missed_in, with_unled}
+use Rattle.pl_faults.specs.Missed.{AreMissed, AreTurned, Misses, is_upper, missed_at, missed_by, missed_in, with_unled}
 use Rattle.pl_faults.specs.declared.reach.Reach.{Reach}
 use Rattle.pl_faults.specs.Listed.{is_in}
 use Rattle.pl_faults.specs.Rows.{HasSameRows, IsReach, leads_at, value_of}
+use Rattle.pl_faults.proofs.Anew.{at_is}
+use Rattle.pl_faults.proofs.Gathered.{out_before}
 use Rattle.pl_faults.proofs.Reaching.{leads_by_rows, level_told}
 
 -- one that told nothing misses none
@@ -80,3 +86,43 @@ module _ (told after : Told) (edges : List Edge) (old new : Reach) (was : IsReac
 pub missed_still : (turned : List SwitchId) (now was fresh : List Edge) (t : SwitchId) → is_in turned t ≡ false →
     now ≡ cond (is_in turned t) fresh was → now ≡ was
 missed_still turned now was fresh t out put = put ∙ ap (λ b. cond b fresh was) out
+
+-- ---- those that miss others
+pub turned_more : (old new : Misses) (ss : List SwitchId) (i : ℕ) (d : SwitchId) → i < length ss → (turned more : List SwitchId) →
+    AreTurned old new (take i ss) turned → ((t : SwitchId) → is_in turned t ≡ true → is_in more t ≡ true) →
+    (is_in more (get_or ss i d) ≡ false → missed_in new (get_or ss i d) ≡ missed_in old (get_or ss i d)) → AreTurned old new (take (i + 1) ss) more
+turned_more old new ss i d within turned more h kept same t some out =
+    elim (or_cases (is_in (take i ss) t) (is_at (id_cmp t) (get_or ss i d)) (sym (list_any_more (is_at (id_cmp t)) ss i d within) ∙ some)) [
+      | inl before ↦ h t before (out_before (is_in turned t) (is_in more t) (kept t) out)
+      | inr own ↦
+          let is : t ≡ get_or ss i d = at_is t (get_or ss i d) own in
+          ap (missed_in new) is ∙ same (ap (is_in more) (sym is) ∙ out) ∙ ap (missed_in old) (sym is)
+    ]
+
+-- who told nothing misses none, before and after
+pub turned_whole : (told after : Told) (before edges : List Edge) (old new : Misses) (turned : List SwitchId) → AreMissed told before old →
+    AreMissed after edges new → ((t : SwitchId) → has_told told t ≡ true → has_told after t ≡ true) → AreTurned old new (switches after) turned →
+    (t : SwitchId) → is_in turned t ≡ false → missed_in new t ≡ missed_in old t
+turned_whole told after before edges old new turned was now stays h t out = by (has_told after t) refl
+  where
+    by : (b : Bool) → has_told after t ≡ b → missed_in new t ≡ missed_in old t
+    by true e = h t e out
+    by false e =
+        now t ∙ untold_misses after edges t e ∙ sym (untold_misses told before t (out_before (has_told told t) (has_told after t) (stays t) e))
+        ∙ sym (was t)
+
+-- `==` at edge switches tells just those apart that differ
+edge : ℕ → ℕ → ℕ → Edge
+edge id pod position = record { switch = record { 0 = id }; pod = pod; position = position }
+
+pub edge_decides : (a b : Edge) → Decides (a.switch.0 == b.switch.0 && (a.pod == b.pod && a.position == b.position)) (a ≡ b)
+unfolding edge
+edge_decides a b =
+    let both =
+    Decides-and (a.switch.0 == b.switch.0) (a.pod == b.pod && a.position == b.position) (Decides-eqb a.switch.0 b.switch.0)
+    (Decides-and (a.pod == b.pod) (a.position == b.position) (Decides-eqb a.pod b.pod) (Decides-eqb a.position b.position)) in (
+      λ h.
+          let is = both.0 h in
+          ap (λ n. edge n a.pod a.position) is.0 ∙ ap (λ n. edge b.switch.0 n a.position) is.1.0 ∙ ap (λ n. edge b.switch.0 b.pod n) is.1.1,
+      λ e. both.1 (ap (λ (x : Edge). x.switch.0) e, (ap (λ (x : Edge). x.pod) e, ap (λ (x : Edge). x.position) e)),
+    )

@@ -25,7 +25,7 @@ use Rattle.pl_faults.proofs.Reaching.{below_told}
 
 -- ---- a word of one switch
 module _ (s : SwitchId) (told after : Told) (w : IsWordOf s told after) where
-  stays_heard : (t : SwitchId) → has_told told t ≡ true → has_told after t ≡ true
+  pub stays_heard : (t : SwitchId) → has_told told t ≡ true → has_told after t ≡ true
   stays_heard t h = by (is_at (id_cmp s) t) refl
     where
       by : (b : Bool) → is_at (id_cmp s) t ≡ b → has_told after t ≡ true
@@ -146,23 +146,6 @@ unplaced_kept s told after word known lists before l2 b2 kept empty unplaced ren
         let apart : is_at (id_cmp s) t ≡ false = at_turned s t ∙ other in
         kept.listed.current t
         ∙ (λ i. cond (sym (w.others t apart) i) (Some ((nothing_avoided told t none_told ∙ sym (nothing_avoided after t none)) i)) None)
-
--- ---- a word on a place, after which all is made anew
-pub placed_kept : (s : SwitchId) (told after : Told) (w : IsPlaceWord s told after) (was known : Leading) (lists before l2 b2 : Lists) →
-    IsKept told was lists before → IsLeading after known → AreRenewed after (has_told after) lists before l2 b2 → IsKeptUp after lists before known l2 b2
-placed_kept s told after w was known lists before l2 b2 kept led r = record {
-  kept = record {
-    leading = led;
-    listed = all_renewed told after lists before l2 b2 (has_told after) kept.listed (stays_heard s told after w.word) (λ t e. e)
-        (λ t out. nothing_told t out (has_told told t) refl) r;
-  };
-  handed = r.handed_stays;
-}
-  where
-    nothing_told : (t : SwitchId) → has_told after t ≡ false → (b : Bool) → has_told told t ≡ b → list_of told t ≡ list_of after t
-    nothing_told t out true e = absurd (false≢true (sym out ∙ stays_heard s told after w.word t e))
-    nothing_told t out false e =
-        ap (λ b. cond b (Some (avoid_list told t)) None) e ∙ sym (ap (λ b. cond b (Some (avoid_list after t)) None) out)
 
 -- ---- a word after which those lists are made anew that read what turned
 module _ (s : SwitchId) (told after : Told) (w : IsWordOf s told after) (was known : Leading) (turned first : List SwitchId)

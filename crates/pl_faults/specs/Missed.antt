@@ -53,6 +53,10 @@ pub record IsTurned (told : Told) (old new : Leading) (turned : List SwitchId) :
   pub leading : IsLeading told new
   pub same : (t : SwitchId) → is_in turned t ≡ false → missed_in new.misses.entries t ≡ missed_in old.misses.entries t
 
+-- of some switches all but those that turned miss in a new table what they missed in the old one
+abbrev pub AreTurned : Misses → Misses → List SwitchId → List SwitchId → Type 0
+AreTurned old new some turned = (t : SwitchId) → is_in some t ≡ true → is_in turned t ≡ false → missed_in new t ≡ missed_in old t
+
 -- whether a switch at this place sends down for a pod
 abbrev pub sends_down : Place → ℕ → Bool
 sends_down place pod = is_known place.level 1 && is_known place.pod pod

@@ -4,12 +4,11 @@ ghost use Rattle.pl_layouts.specs.Equality.{same_switch};
 ghost use Rattle.pl_frame.specs.declared.address.SwitchId.{SwitchId};
 ghost use Rattle.pl_core.specs.ManagerViews.{Told, edge_at, place_of, placed_edges};
 ghost use Rattle.pl_faults.specs.Kept.{IsLinkWord, IsPlaceWord};
-ghost use Rattle.pl_faults.specs.Listed.{AreHeard};
 ghost use Rattle.pl_faults.specs.Missed.{IsLeading, IsTurned, is_some_edge};
 
 use crate::edges::{Edge, edge_at, placed_edges};
 use crate::listed::{Hearers, around, ends_of, hear};
-use crate::missed::{Misses, renew_misses};
+use crate::missed::{Misses, renew_misses, turned_among};
 use crate::reach::{Reach, no_reach, reach_of, renew_reach};
 use pl_core::{Memory, SwitchList};
 use pl_frame::SwitchId;
@@ -44,31 +43,6 @@ pub(crate) fn no_leading(alloc: Global) -> Leading
     }
 }
 
-/// Makes it anew by what was told, but for who told of a link.
-pub(crate) fn place_leading(
-    leading: &mut Leading,
-    alloc: Global,
-    reports: &Reports,
-) -> Result<(), Memory>
-    ensures { OnOk result (AreHeard reports.now leading.old.hearers.entries → IsLeading reports.now leading.new) }
-{
-    let edges = placed_edges(alloc, reports)?;
-    let reach = reach_of(alloc, reports, edges.as_slice())?;
-    let mut misses = BTreeMap::new(alloc);
-    renew_misses(
-        &mut misses,
-        alloc,
-        reports,
-        edges.as_slice(),
-        &reach,
-        reports.switches(),
-    )?;
-    leading.edges = edges;
-    leading.reach = reach;
-    leading.misses = misses;
-    Ok(())
-}
-
 /// Brings it up to a word on a link, which was told already. Answers the switches that may miss others.
 pub(crate) fn link_leading(
     leading: &mut Leading,
@@ -100,9 +74,54 @@ pub(crate) fn link_leading(
     Ok(turned)
 }
 
-/// Brings it up to a word of a switch on its place, which was told already and left the placed edge switches.
-/// Answers the switches that may miss others.
-pub(crate) fn move_leading(
+/// Brings it up to a word of a switch on its place, which was told already. Answers the switches that may
+/// miss others.
+pub(crate) fn place_leading(
+    leading: &mut Leading,
+    alloc: Global,
+    reports: &Reports,
+    switch: SwitchId,
+) -> Result<SwitchList, Memory>
+    ensures { IfOk result (λ turned. (told : Told) → IsPlaceWord switch told reports.now →
+        IsLeading told leading.old → IsTurned reports.now leading.old leading.new turned) }
+{
+    if is_placed(reports, leading.edges.as_slice(), switch) {
+        let turned = renew_leading(leading, alloc, reports)?;
+        return Ok(turned);
+    }
+    let turned = move_leading(leading, alloc, reports, switch)?;
+    Ok(turned)
+}
+
+// Makes it anew, but for who told of a link, whatever the switch was and is. Answers those that miss others.
+fn renew_leading(
+    leading: &mut Leading,
+    alloc: Global,
+    reports: &Reports,
+) -> Result<SwitchList, Memory>
+    ensures { IfOk result (λ turned. (switch : SwitchId) (told : Told) → IsPlaceWord switch told reports.now →
+        IsLeading told leading.old → IsTurned reports.now leading.old leading.new turned) }
+{
+    let edges = placed_edges(alloc, reports)?;
+    let reach = reach_of(alloc, reports, edges.as_slice())?;
+    let mut misses = BTreeMap::new(alloc);
+    renew_misses(
+        &mut misses,
+        alloc,
+        reports,
+        edges.as_slice(),
+        &reach,
+        reports.switches(),
+    )?;
+    let turned = turned_among(alloc, &leading.misses, &misses, reports.switches())?;
+    leading.edges = edges;
+    leading.reach = reach;
+    leading.misses = misses;
+    Ok(turned)
+}
+
+// Brings it up to the word of a switch that was no placed edge switch and is none.
+fn move_leading(
     leading: &mut Leading,
     alloc: Global,
     reports: &Reports,
@@ -139,8 +158,8 @@ pub(crate) fn is_none_placed(reports: &Reports, edges: &[Edge], switch: SwitchId
     !has_some(edges) && !is_edge(reports, switch)
 }
 
-/// Whether a switch was a placed edge switch, or is one now.
-pub(crate) fn is_placed(reports: &Reports, edges: &[Edge], switch: SwitchId) -> bool
+// Whether a switch was a placed edge switch, or is one now.
+fn is_placed(reports: &Reports, edges: &[Edge], switch: SwitchId) -> bool
     ensures { result ≡ (list_any (λ e. same_switch e.switch switch) edges.now || is_some (edge_at switch (place_of reports.now switch))) }
 {
     was_placed(edges, switch) || is_edge(reports, switch)

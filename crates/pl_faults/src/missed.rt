@@ -1,14 +1,14 @@
-ghost use Rattle.std.specs.Prelude.{◌≡◌, [], IfOk, IsTrue, OnOk, true, if◌then◌else◌};
+ghost use Rattle.std.specs.Prelude.{◌≡◌, [], IfOk, IsTrue, OnOk, false, true, if◌then◌else◌};
 ghost use Rattle.pl_faults.specs.Listed.{is_in};
 ghost use Rattle.pl_frame.specs.declared.address.SwitchId.{SwitchId};
 ghost use Rattle.pl_core.specs.ManagerViews.{id_cmp, place_of};
 ghost use Rattle.std.specs.BTreeMap.{is_at};
-ghost use Rattle.pl_faults.specs.Missed.{is_upper, missed_at, missed_by, missed_in, with_unled};
+ghost use Rattle.pl_faults.specs.Missed.{AreTurned, is_upper, missed_at, missed_by, missed_in, with_unled};
 ghost use Rattle.pl_faults.specs.Rows.{IsReach};
 
 use crate::edges::Edge;
 use crate::reach::{Reach, leads_at};
-use pl_core::{Memory, Place};
+use pl_core::{Memory, Place, SwitchList};
 use pl_frame::SwitchId;
 use pl_reports::Reports;
 use std::alloc::Global;
@@ -157,4 +157,42 @@ pub(crate) fn missed_in(misses: &Misses, switch: SwitchId) -> &[Edge]
         Some(missed) => missed.as_slice(),
         None => &[],
     }
+}
+
+/// Those of these switches that miss others in a new table than in the old one.
+pub(crate) fn turned_among(
+    alloc: Global,
+    old: &Misses,
+    new: &Misses,
+    switches: &[SwitchId],
+) -> Result<SwitchList, Memory>
+    ensures { IfOk result (λ turned. AreTurned old.now.entries new.now.entries switches.now turned) }
+{
+    let mut turned = SwitchList::new(alloc);
+    for switch in switches {
+        put_turned(&mut turned, old, new, *switch)?;
+    }
+    Ok(turned)
+}
+
+fn put_turned(
+    turned: &mut SwitchList,
+    old: &Misses,
+    new: &Misses,
+    switch: SwitchId,
+) -> Result<(), Memory>
+    ensures kept { OnOk result ((t : SwitchId) → is_in turned.old t ≡ true → is_in turned.new t ≡ true) }
+    ensures same { OnOk result (is_in turned.new switch ≡ false →
+        missed_in new.now.entries switch ≡ missed_in old.now.entries switch) }
+{
+    if !are_same(missed_in(new, switch), missed_in(old, switch)) {
+        turned.insert(switch)?;
+    }
+    Ok(())
+}
+
+fn are_same(a: &[Edge], b: &[Edge]) -> bool
+    ensures { IsTrue result → a.now ≡ b.now }
+{
+    a == b
 }

@@ -1,13 +1,11 @@
-ghost use Rattle.std.specs.Prelude.{◌≡◌, OnOk};
-ghost use Rattle.pl_core.specs.ManagerViews.{Told, placed_edges};
+ghost use Rattle.std.specs.Prelude.{OnOk};
+ghost use Rattle.pl_core.specs.ManagerViews.{Told};
 ghost use Rattle.pl_frame.specs.declared.address.SwitchId.{SwitchId};
 ghost use Rattle.pl_faults.specs.Kept.{AreRenewed, IsKept, IsKeptUp, IsLinkWord, IsPlaceWord};
 ghost use Rattle.pl_faults.specs.Listed.{is_in};
 ghost use Rattle.pl_faults.specs.Missed.{IsLeading};
 
-use crate::leading::{
-    Leading, is_none_placed, is_placed, link_leading, move_leading, place_leading,
-};
+use crate::leading::{Leading, is_none_placed, link_leading, place_leading};
 use crate::listed::{put_all_below, with_hearers};
 use crate::lists::{Lists, renew};
 use crate::making::avoid_list_of;
@@ -55,15 +53,11 @@ pub(crate) fn renew_placed(
         renew(lists, before, alloc, switch, AvoidList::new(alloc))?;
         return Ok(());
     }
-    if is_placed(reports, leading.edges.as_slice(), switch) {
-        renew_all(reports, leading, lists, before, alloc)?;
-        return Ok(());
-    }
     renew_moved(reports, leading, lists, before, alloc, switch)?;
     Ok(())
 }
 
-// The same of a switch that was no placed edge switch and is none.
+// The same where some edge switch was placed, or the switch is one.
 fn renew_moved(
     reports: &Reports,
     leading: &mut Leading,
@@ -73,31 +67,13 @@ fn renew_moved(
     switch: SwitchId,
 ) -> Result<(), Memory>
     ensures { OnOk result ((told : Told) → IsPlaceWord switch told reports.now →
-        placed_edges reports.now ≡ placed_edges told →
         IsKept told leading.old lists.old.entries before.old.entries →
         IsKeptUp reports.now lists.old.entries before.old.entries leading.new lists.new.entries before.new.entries) }
 {
-    let turned = move_leading(leading, alloc, reports, switch)?;
+    let turned = place_leading(leading, alloc, reports, switch)?;
     let mut touched = with_hearers(alloc, reports, &leading.hearers, switch)?;
     put_all_below(&mut touched, reports, &leading.hearers, turned.as_slice())?;
     renew_lists(reports, leading, lists, before, alloc, touched.as_slice())?;
-    Ok(())
-}
-
-// The same, whatever the switch was and is.
-fn renew_all(
-    reports: &Reports,
-    leading: &mut Leading,
-    lists: &mut Lists,
-    before: &mut Lists,
-    alloc: Global,
-) -> Result<(), Memory>
-    ensures { OnOk result ((switch : SwitchId) (told : Told) → IsPlaceWord switch told reports.now →
-        IsKept told leading.old lists.old.entries before.old.entries →
-        IsKeptUp reports.now lists.old.entries before.old.entries leading.new lists.new.entries before.new.entries) }
-{
-    place_leading(leading, alloc, reports)?;
-    renew_lists(reports, leading, lists, before, alloc, reports.switches())?;
     Ok(())
 }
 

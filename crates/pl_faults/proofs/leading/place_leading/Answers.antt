@@ -1,23 +1,21 @@
-use Rattle.std.proofs.Common.{◌≡◌, ◌∙◌, cond, sym, subst}
-use Rattle.pl_frame.specs.declared.address.SwitchId.{SwitchId}
-use Rattle.pl_faults.specs.Listed.{is_in}
-use Rattle.pl_faults.specs.Missed.{missed_at, missed_in}
-use Rattle.pl_faults.specs.Rows.{IsReach}
-use Rattle.pl_faults.proofs.Missing.{misses_whole}
+use Rattle.std.proofs.Common.{◌∙◌, sym, ap}
+use Rattle.std.specs.Prelude.{is_some}
+use Rattle.std.specs.List.{list_any}
+use Rattle.pl_layouts.specs.Equality.{same_switch}
+use Rattle.pl_core.specs.ManagerViews.{edge_at, place_of}
+use Rattle.pl_faults.specs.declared.edges.Edge.{Edge}
+use Rattle.pl_faults.proofs.Words.{neither, was_unplaced}
 use Rattle.pl_faults.proofs.leading.place_leading.Goals as goal
 
+pub returns-then-is_placed : goal.returns-then-is_placed
+returns-then-is_placed c told word was = c.in_ok-turned.ensures c.args.switch told word was
+
 pub returns : goal.returns
-returns c heard =
-    let told = c.args.reports.now in let edges = c.in_ok-edges.edges.items in let known = c.in_ok-reach.reach in
-    let reach : IsReach told edges known = subst (λ es. IsReach told es known) c.as_slice.ensures.value c.in_ok-reach.ensures in
-    let fresh = c.renew_misses.new.misses.entries in let first = c.new-misses.result.entries in let all = c.switches.result.now in
-    let put : (t : SwitchId) → missed_in fresh t ≡ cond (is_in all t) (missed_at told edges t) (missed_in first t) =
-    λ t.
-    c.in_ok-renew_misses.ensures (subst (λ es. IsReach told es known) (sym c.as_slice-2.ensures.value) reach) t
-    ∙ (λ i. cond (is_in all t) (missed_at told (c.as_slice-2.ensures.value i) t) (missed_in first t)) in
-    record {
-      placed = c.in_ok-edges.ensures;
-      reach = reach;
-      missed_are = misses_whole told edges first fresh all c.switches.ensures c.new-misses.ensures.empty put;
-      heard = heard;
-    }
+returns c told word was =
+    let s = c.args.switch in let after = c.args.reports.now in let es = c.args.leading.now.edges.items in
+    let among = list_any (λ (e : Edge). same_switch e.switch s) c.as_slice.result.now in let own = is_some (edge_at s (place_of after s)) in
+    let none = neither among own (sym c.is_placed.ensures ∙ c.if-is_placed.false) in
+    c.in_ok-turned-2.ensures told word
+    (word.edges
+    (was_unplaced told s es was.placed (ap (list_any (λ (e : Edge). same_switch e.switch s)) (sym c.as_slice.ensures.value) ∙ none.0)) none.1)
+    was

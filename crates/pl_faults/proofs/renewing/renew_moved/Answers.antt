@@ -6,9 +6,9 @@ use Rattle.pl_faults.proofs.Within.{first, first_told, itself_first, place_lists
 use Rattle.pl_faults.proofs.renewing.renew_moved.Goals as goal
 
 pub returns : goal.returns
-returns c told word placed kept =
+returns c told word kept =
     let after = c.args.reports.now in let s = c.args.switch in
-    let t = c.in_ok-turned.ensures told word placed kept.leading in let known = c.move_leading.new.leading in
+    let t = c.in_ok-turned.ensures told word kept.leading in let known = c.place_leading.new.leading in
     let hearers = known.hearers.entries in let heard = t.leading.heard in
     near_kept s told after word.word c.args.leading.now known c.in_ok-turned.turned (first s told after word hearers heard) kept.leading t
     (place_lists s told after word hearers heard) (itself_first s told after word hearers heard) (first_told s told after word hearers heard)

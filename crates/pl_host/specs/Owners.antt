@@ -1,20 +1,15 @@
--- What finds the hosts of a topology.
-use Rattle.std.specs.Prelude.{◌≡◌, List, find, Some, None, if◌then◌else◌}
-use Rattle.std.specs.Option.{option_or}
+-- What was found for the hardware addresses that were asked for.
+use Rattle.std.specs.Prelude.{◌≡◌, List, Option, Some, find}
 use Rattle.std.specs.Map.{lookup}
 use Rattle.pl_frame.specs.declared.address.Mac.{Mac}
 use Rattle.pl_arp.specs.declared.cache.Me.{Me}
 use Rattle.pl_layouts.specs.Equality.{same_mac}
 
--- hosts by their hardware addresses
+-- answers by hardware addresses
 abbrev pub Entries : Type 0
-Entries = List (Mac × Me)
+Entries = List (Mac × Option Me)
 
--- the entries have for each hardware address the first host with it
-abbrev pub IsIndex : List Me → Entries → Type 0
-IsIndex hosts entries = (mac : Mac) → lookup (same_mac mac) entries ≡ find (λ host. same_mac host.mac mac) hosts
-
--- a host is there too, unless one with its address was there before
-abbrev pub AddsHost : Entries → Me → Entries → Type 0
-AddsHost before host after =
-    (mac : Mac) → lookup (same_mac mac) after ≡ option_or (lookup (same_mac mac) before) (if same_mac host.mac mac then Some host else None)
+-- each answer is the first host with the address, or that there is none
+abbrev pub AreAnswers : List Me → Entries → Type 0
+AreAnswers hosts entries =
+    (mac : Mac) (answer : Option Me) → lookup (same_mac mac) entries ≡ Some answer → answer ≡ find (λ host. same_mac host.mac mac) hosts

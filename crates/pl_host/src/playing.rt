@@ -22,9 +22,10 @@ const HOLD_LIMIT: usize = 64;
 impl Host {
     /// Why a recorded frame is not played: the first thing that speaks against it.
     #[tactic(auto, unfolding(pl_host_rule::specs::HostRule::skip_of))]
-    pub(crate) fn skip_of(&self, raw: bool, frame: &[u8], original: u32) -> Option<Skip>
-        ensures skip { result ≡ skip_of (host_view self.now) raw frame.now original }
+    pub(crate) fn skip_of(&mut self, raw: bool, frame: &[u8], original: u32) -> Option<Skip>
+        ensures skip { result ≡ skip_of (host_view self.old) raw frame.now original }
         ensures carried { result ≡ None → IsWhole frame.now }
+        ensures stays { host_view self.new ≡ host_view self.old }
     {
         if frame.len() < original as usize {
             return Some(Skip::CutRecord);
@@ -51,7 +52,8 @@ impl Host {
         if is_group(dst) {
             return None;
         }
-        self.unicast_skip(self.hosts.other_host(self.me, dst))
+        let host = self.hosts.other_host(self.me, dst);
+        self.unicast_skip(host)
     }
 
     // Why a frame to one host is not played.

@@ -15,7 +15,7 @@ returns-clause-skip c =
     let frame = c.args.frame.now in
     let dst : c.read_at-dst.result ≡ destination_of frame = c.read_at-dst.ensures in
     c.unicast_skip.ensures
-    ∙ ap (λ (host : Option Me). unicast_skip view host) (c.other_host.ensures ∙ ap (λ (mac : Mac). other_host view mac) dst)
+    ∙ ap (λ (host : Option Me). unicast_skip view host) (c.other_host-host.ensures.found ∙ ap (λ (mac : Mac). other_host view mac) dst)
     ∙ sym (skip_of-last view frame c.args.original (le-ltb (length frame) c.args.original c.if-frame-original.false)
     (le-ltb (length frame) 14 c.if-frame-lt-SHORTEST.false) (le-ltb 65553 (length frame) c.if-frame-gt-LONGEST.false)
     (ap (λ raw. is_foreign c.args.self.now.me raw frame) (sym c.if-raw.false) ∙ sym c.is_foreign.ensures ∙ c.if-is_foreign.false)

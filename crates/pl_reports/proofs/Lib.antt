@@ -2,4 +2,5 @@ pub mod Ordering
 pub mod Telling
 pub mod Sorting
 pub mod Liveness
+pub mod Placing
 pub mod Keeping

@@ -17,13 +17,13 @@ use Rattle.pl_manager_rule.proofs.Tables.{found_key}
 use Rattle.pl_reports.specs.Kept.{is_living, living_by, near_of, usable_in, with_ends}
 use Rattle.pl_reports.proofs.Telling.{IsPair, link_exact, link_total, near_of_key, other_neighbours}
 
-is_here : (s t : SwitchId) → is_at (id_cmp s) t ≡ true → s ≡ t
+pub is_here : (s t : SwitchId) → is_at (id_cmp s) t ≡ true → s ≡ t
 is_here s t e = id_exact s t ((Equal-is (id_cmp s t)).0 e)
 
 is_itself : (s : SwitchId) → is_at (id_cmp s) s ≡ true
 is_itself s = ap is_eq (tied_itself id_total s)
 
-not_here : (s t : SwitchId) → is_at (id_cmp s) t ≡ false → s ≡ t → ⊥
+pub not_here : (s t : SwitchId) → is_at (id_cmp s) t ≡ false → s ≡ t → ⊥
 not_here s t e is = false≢true (sym e ∙ subst (λ z. is_at (id_cmp s) z ≡ true) is (is_itself s))
 
 among_any : (s : SwitchId) (xs : List SwitchId) → list_any (is_at (id_cmp s)) xs ≡ true → IsAmong s xs

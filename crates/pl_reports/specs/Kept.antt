@@ -1,10 +1,11 @@
 -- What is kept beside the reports of the switches.
-use Rattle.std.specs.Prelude.{◌≡◌, ◌&&◌, Bool, false, List, [], if◌then◌else◌, unwrap_or}
+use Rattle.std.specs.Prelude.{◌≡◌, ◌&&◌, not, Bool, false, List, [], if◌then◌else◌, map, unwrap_or}
 use Rattle.std.specs.List.{filter, list_any}
 use Rattle.std.specs.BTreeMap.{is_at}
 use Rattle.std.specs.BTreeSet.{insert_key}
 use Rattle.pl_frame.specs.declared.address.SwitchId.{SwitchId}
-use Rattle.pl_core.specs.ManagerViews.{Told, alive_neighbours, id_cmp, link_cmp, neighbours, switches, value_at}
+use Rattle.pl_layouts.specs.Equality.{same_switch}
+use Rattle.pl_core.specs.ManagerViews.{Told, alive_neighbours, id_cmp, link_cmp, neighbours, placed_edges, switches, value_at}
 
 -- no switch told anything
 abbrev pub nothing_told : Told
@@ -38,8 +39,13 @@ living_by links near s = filter (is_living links s) (near_of near s)
 abbrev pub with_ends : List (SwitchId × List SwitchId) → (SwitchId → List SwitchId) → SwitchId → SwitchId → SwitchId → List SwitchId
 with_ends table now a b t = if is_at (id_cmp b) t then now b else if is_at (id_cmp a) t then now a else near_of table t
 
--- the switches that told something, the neighbours of each, and those over links that are alive
-pub record IsKeptFor (told : Told) (speakers : List SwitchId) (near living : List (SwitchId × List SwitchId)) : Type 0 where
+-- a list of placed edge switches, once a switch told whether it is one
+abbrev pub with_edge : List SwitchId → SwitchId → Bool → List SwitchId
+with_edge edges s is_one = if is_one then insert_key id_cmp edges s else filter (λ t. not (same_switch t s)) edges
+
+-- the switches that told something, the placed edge switches, the neighbours of each, and those over links that are alive
+pub record IsKeptFor (told : Told) (speakers placed : List SwitchId) (near living : List (SwitchId × List SwitchId)) : Type 0 where
   pub tellers : speakers ≡ switches told
+  pub edges : placed ≡ map (λ e. e.switch) (placed_edges told)
   pub links : (s : SwitchId) → near_of near s ≡ neighbours told s
   pub alive : (s : SwitchId) → near_of living s ≡ alive_neighbours told s

@@ -64,8 +64,8 @@ fn living_of(
     Ok(list)
 }
 
-// Puts a switch into a list where it passes.
-fn add_if(list: &mut SwitchList, switch: SwitchId, passes: bool) -> Result<(), Memory>
+/// Puts a switch into a list where it passes.
+pub(crate) fn add_if(list: &mut SwitchList, switch: SwitchId, passes: bool) -> Result<(), Memory>
     ensures { OnOk result (list.new ≡ (if passes then insert_key id_cmp list.old switch else list.old)) }
 {
     if passes {

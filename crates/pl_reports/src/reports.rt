@@ -1,12 +1,13 @@
-ghost use Rattle.std.specs.Prelude.{◌≡◌, OnErr, OnOk, slice_get};
+ghost use Rattle.std.specs.Prelude.{◌≡◌, OnErr, OnOk, is_some, map, slice_get};
 ghost use Rattle.std.specs.BTreeMap.{insert_entry};
 ghost use Rattle.std.specs.List.Sorted.{IsStrictlySortedBy};
 ghost use Rattle.std.specs.BTreeSet.{insert_key};
-ghost use Rattle.pl_core.specs.ManagerViews.{alive_neighbours, id_cmp, is_alive, is_told_usable, link_cmp, neighbours, place_of, switches};
+ghost use Rattle.pl_core.specs.ManagerViews.{alive_neighbours, edge_at, id_cmp, is_alive, is_told_usable, link_cmp, neighbours, place_of, placed_edges, switches};
 ghost use Rattle.pl_manager_rule.specs.ManagerRule.{with_link, with_place};
-ghost use Rattle.pl_reports.specs.Kept.{has_told, living_by, near_of, nothing_told, with_ends, with_neighbour};
+ghost use Rattle.pl_reports.specs.Kept.{has_told, living_by, near_of, nothing_told, with_edge, with_ends, with_neighbour};
 ghost use Rattle.pl_frame.specs.declared.address.SwitchId.{SwitchId};
 
+use crate::edges::keep_edge;
 use crate::living::{Links, is_among, is_usable, renew_living};
 use crate::neighbours::{Neighbours, add_neighbour, neighbours_in};
 use pl_core::{Memory, Place, SwitchList};
@@ -31,6 +32,7 @@ pub struct Reports {
     places: Places,
     links: Links,
     speakers: SwitchList,
+    placed: SwitchList,
     near: Neighbours,
     living: Neighbours,
 }
@@ -43,7 +45,7 @@ impl Model for Reports {
 
     ghost view = { λ r. record { places = r.places.entries; links = r.links.entries } };
 
-    ghost invariant = { λ r. IsKeptFor (record { places = r.places.entries; links = r.links.entries }) r.speakers r.near.entries r.living.entries };
+    ghost invariant = { λ r. IsKeptFor (record { places = r.places.entries; links = r.links.entries }) r.speakers r.placed r.near.entries r.living.entries };
 }
 
 impl Reports {
@@ -55,6 +57,7 @@ impl Reports {
             places: BTreeMap::new(alloc),
             links: BTreeMap::new(alloc),
             speakers: SwitchList::new(alloc),
+            placed: SwitchList::new(alloc),
             near: BTreeMap::new(alloc),
             living: BTreeMap::new(alloc),
         }
@@ -66,7 +69,14 @@ impl Reports {
         ensures err { OnErr result (self.new ≡ nothing_told) }
     {
         let alloc = self.alloc;
-        match keep_place(&mut self.places, &mut self.speakers, switch, place) {
+        match keep_place(
+            &mut self.places,
+            &mut self.speakers,
+            &mut self.placed,
+            alloc,
+            switch,
+            place,
+        ) {
             Ok(()) => Ok(()),
             Err(memory) => {
                 *self = Reports::new(alloc);
@@ -149,6 +159,14 @@ impl Reports {
         self.switches().get(n).copied()
     }
 
+    /// The edge switches that told their pod and their position, by rising id.
+    pub fn placed_edges(&self) -> &[SwitchId]
+        ensures value { result.now ≡ map (λ e. e.switch) (placed_edges self.now) }
+        ensures rising { IsStrictlySortedBy id_cmp result.now }
+    {
+        self.placed.as_slice()
+    }
+
     /// The neighbours that a switch told of, by rising id.
     pub fn neighbours(&self, switch: SwitchId) -> &[SwitchId]
         ensures { result.now ≡ neighbours self.now switch }
@@ -176,14 +194,18 @@ impl Reports {
 fn keep_place(
     places: &mut Places,
     speakers: &mut SwitchList,
+    placed: &mut SwitchList,
+    alloc: Global,
     switch: SwitchId,
     place: Place,
 ) -> Result<(), Memory>
     ensures places { OnOk result (places.new.entries ≡ insert_entry id_cmp places.old.entries switch place) }
     ensures speakers { OnOk result (speakers.new ≡ insert_key id_cmp speakers.old switch) }
+    ensures placed { OnOk result (placed.new ≡ with_edge placed.old switch (is_some (edge_at switch place))) }
 {
     places.insert(switch, place)?;
     speakers.insert(switch)?;
+    keep_edge(placed, alloc, switch, place)?;
     Ok(())
 }
 

@@ -211,6 +211,13 @@ pub core_is : (told : Told) (members : Members) (group : ℕ) (needed : List Swi
 unfolding core_of
 core_is told members group needed o is found = found ∙ ap (core_for told group) is
 
+pub part_is : (told : Told) (members : Members) (group : ℕ) (needed : List SwitchId) (core : Option SwitchId) (part : Option TreePart) (s : SwitchId) →
+    needed ≡ needed_edges told members group → core ≡ core_for told group needed → part ≡ part_of_told told needed s core →
+    part ≡ tree_part told members group s
+part_is told members group needed core part s is found made =
+    made ∙ ap (λ (edges : List SwitchId). part_of_told told edges s core) is
+    ∙ parts_are told members group s core (core_is told members group needed core is found)
+
 -- ---- whether a neighbour above an edge switch leads up, tested in another order
 pub up_near : (joined in_pod linked : Bool) → (linked && in_pod) ≡ true → joined ≡ (joined && (in_pod && linked))
 up_near false in_pod linked h = refl

@@ -1,6 +1,6 @@
 -- Which edge switches a group needs, and which groups were told of.
-use Rattle.std.proofs.Common.{◌≡◌, ℕ, ◌==◌, ◌&&◌, Bool, true, false, cond, List, [], ◌∷◌, map, Option, Some, None, is_some, nat_cmp, refl, sym, ap, ◌∙◌, subst, inl, inr}
-use Rattle.std.specs.List.{cons_option, filter, filter_map, fold}
+use Rattle.std.proofs.Common.{◌≡◌, ℕ, ◌==◌, ◌&&◌, Bool, true, false, cond, List, [], ◌∷◌, map, nat_cmp, refl, ap, ◌∙◌, subst, inl, inr}
+use Rattle.std.specs.List.{filter, fold}
 use Rattle.std.specs.Map.{keys_of}
 use Rattle.std.specs.BTreeMap.{insert_entry}
 use Rattle.std.specs.BTreeSet.{insert_key}
@@ -9,7 +9,7 @@ use Rattle.std.proofs.lemmas.Map.Lookups.{exact_unsigned}
 use Rattle.pl_frame.specs.declared.address.SwitchId.{SwitchId}
 use Rattle.pl_layouts.specs.Memberships.{flood}
 use Rattle.pl_core.specs.ManagerFacts.{groups}
-use Rattle.pl_core.specs.ManagerViews.{Members, PlacedEdge, Told, edge_at, edge_with, members_cmp, place_of, with_members}
+use Rattle.pl_core.specs.ManagerViews.{Members, members_cmp, with_members}
 use Rattle.pl_core.proofs.Among.{IsAmong, among_map, among_mapped}
 use Rattle.pl_manager_rule.proofs.Kept.{members_exact, members_total}
 use Rattle.pl_manager_rule.proofs.Tables.{among_put}
@@ -33,32 +33,6 @@ fold_members group acc (m ∷ ms) = by (λ xs. fold_members group xs ms) (m.0.1 
 pub members_are : (members : Members) (group : ℕ) → fold (with_member group) [] members ≡ with_members members group
 members_are members group =
     fold_members group [] members ∙ all_in_order (map (λ m. m.0.0) (filter (λ m. m.0.1 == group && m.1) members))
-
--- ---- the placed edge switches
-edge_is : (s : SwitchId) (level position pod : Option ℕ) (e : PlacedEdge) → edge_with s level position pod ≡ Some e → e.switch ≡ s
-edge_is s None position pod e h = let none : None ≡ Some e = h in absurd (cc)
-edge_is s (Some level) None pod e h = let none : None ≡ Some e = h in absurd (cc)
-edge_is s (Some level) (Some position) None e h = let none : None ≡ Some e = h in absurd (cc)
-edge_is s (Some level) (Some position) (Some pod) e h = by (level == 0) h
-  where
-    by : (b : Bool) → cond b (Some (let x : PlacedEdge = record { switch = s; pod = pod; position = position } in x)) None ≡ Some e → e.switch ≡ s
-    by true j = let is : record { switch = s; pod = pod; position = position } ≡ e = cc in sym (ap (λ (x : PlacedEdge). x.switch) is)
-    by false j = let none : None ≡ Some e = j in absurd (cc)
-
-pub placed_in : (told : Told) (ss : List SwitchId) →
-    filter (λ s. is_some (edge_at s (place_of told s))) ss ≡ map (λ e. e.switch) (filter_map (λ s. edge_at s (place_of told s)) ss)
-placed_in told [] = refl
-placed_in told (s ∷ ss) = by (placed_in told ss) (edge_at s (place_of told s)) refl
-  where
-    by : filter (λ t. is_some (edge_at t (place_of told t))) ss ≡ map (λ e. e.switch) (filter_map (λ t. edge_at t (place_of told t)) ss) →
-        (o : Option PlacedEdge) → edge_at s (place_of told s) ≡ o →
-        cond (is_some o) (s ∷ filter (λ t. is_some (edge_at t (place_of told t))) ss) (filter (λ t. is_some (edge_at t (place_of told t))) ss)
-        ≡ map (λ e. e.switch) (cons_option o (filter_map (λ t. edge_at t (place_of told t)) ss))
-    by rest None is = rest
-    by rest (Some e) is =
-        let place = place_of told s in
-        let same = edge_is s place.level place.position place.pod e is in
-        λ i. sym same i ∷ rest i
 
 -- ---- the groups
 pub groups_more : (members : Members) (s : SwitchId) (group : ℕ) (any : Bool) →

@@ -1,19 +1,21 @@
 ghost use Rattle.std.specs.Prelude.{◌≡◌, ◌≢◌, ◌↔◌, ℕ, [], not, IfOk, IsTrue, None, OnOk, Some, filter, length, slice_get};
 ghost use Rattle.std.specs.BTreeMap.{insert_entry};
+ghost use Rattle.std.specs.List.Sorted.{IsStrictlySortedBy};
 ghost use Rattle.std.specs.Option.{option_copied};
 ghost use Rattle.pl_frame.specs.declared.address.SwitchId.{SwitchId};
 ghost use Rattle.pl_core.specs.ManagerFacts.{groups};
-ghost use Rattle.pl_core.specs.ManagerViews.{members_cmp, switches};
-ghost use Rattle.pl_core.specs.Trees.{core_of, tree_part};
+ghost use Rattle.pl_core.specs.ManagerViews.{id_cmp, members_cmp, switches};
+ghost use Rattle.pl_core.specs.Trees.{core_of, needed_edges, tree_part};
 ghost use Rattle.pl_manager_rule.specs.ManagerRule.{same_part};
 ghost use Rattle.pl_groups.specs.Kept.{core_kept, members_in, part_in_tree, part_kept};
 
 use crate::needs::{add_all, add_if};
 use crate::parts::same_part;
 use crate::roster::Roster;
-use crate::tree::{Tree, make_tree};
+use crate::tree::{Tree, has_no_parts, is_bare, make_tree};
 use pl_core::{Memory, SwitchList, TreePart};
 use pl_frame::SwitchId;
+use pl_multicast::FLOOD;
 use pl_reports::Reports;
 use std::alloc::Global;
 use std::collections::BTreeMap;
@@ -83,7 +85,34 @@ impl Groups {
         ensures other_cores { OnOk result ((g : ℕ) → g ≢ group → core_kept self.new g ≡ core_kept self.old g) }
         ensures members { members_in self.new ≡ members_in self.old }
     {
-        let tree = make_tree(self.alloc, reports, &self.roster, group)?;
+        if group == FLOOD {
+            return self.renew_for(reports, group, reports.placed_edges());
+        }
+        let edges = self.roster.with_members(self.alloc, group)?;
+        self.renew_for(reports, group, edges.as_slice())
+    }
+
+    // The same for a group that needs these edge switches.
+    fn renew_for(
+        &mut self,
+        reports: &Reports,
+        group: u32,
+        needed: &[SwitchId],
+    ) -> Result<SwitchList, Memory>
+        requires needed { needed.now ≡ needed_edges reports.now (members_in self.old) group }
+        requires rising { IsStrictlySortedBy id_cmp needed.now }
+        ensures changed { IfOk result (λ changed. changed ≡ filter (λ s. not (same_part (part_kept self.old group s)
+            (tree_part reports.now (members_in self.old) group s))) (switches reports.now)) }
+        ensures parts { OnOk result ((s : SwitchId) → part_kept self.new group s ≡ tree_part reports.now (members_in self.old) group s) }
+        ensures core { OnOk result (core_kept self.new group ≡ core_of reports.now (members_in self.old) group) }
+        ensures others { OnOk result ((g : ℕ) (s : SwitchId) → g ≢ group → part_kept self.new g s ≡ part_kept self.old g s) }
+        ensures other_cores { OnOk result ((g : ℕ) → g ≢ group → core_kept self.new g ≡ core_kept self.old g) }
+        ensures members { members_in self.new ≡ members_in self.old }
+    {
+        if needed.is_empty() && is_bare(self.trees.get(&group)) {
+            return Ok(SwitchList::new(self.alloc));
+        }
+        let tree = make_tree(self.alloc, reports, group, needed)?;
         let changed = changed(self.alloc, reports, self.trees.get(&group), &tree)?;
         self.trees.insert(group, tree)?;
         Ok(changed)
@@ -148,6 +177,9 @@ fn changed(
     ensures { IfOk result (λ changed. changed ≡ filter (λ s. not (same_part (part_in_tree (option_copied before.entry) s)
         (part_in_tree (Some after.now) s))) (switches reports.now)) }
 {
+    if has_no_parts(before) && has_no_parts(Some(after)) {
+        return Ok(SwitchList::new(alloc));
+    }
     let mut changed = SwitchList::new(alloc);
     for switch in reports.switches() {
         let is_same = same_part(part_of(before, *switch), part_of(Some(after), *switch));

@@ -1,18 +1,15 @@
-ghost use Rattle.std.specs.Prelude.{◌≡◌, ◌≤◌, [], IfOk, OnErr, OnOk, is_some, length, map, slice_get};
+ghost use Rattle.std.specs.Prelude.{◌≡◌, ◌≤◌, [], IfOk, OnErr, OnOk, length, slice_get};
 ghost use Rattle.std.specs.BTreeMap.{insert_entry};
 ghost use Rattle.std.specs.BTreeSet.{insert_key};
 ghost use Rattle.std.specs.List.Sorted.{IsStrictlySortedBy};
 ghost use Rattle.std.specs.Ordering.{nat_cmp};
 ghost use Rattle.std.specs.Vec.{vec_capacity, vec_len};
 ghost use Rattle.pl_core.specs.ManagerFacts.{groups};
-ghost use Rattle.pl_core.specs.ManagerViews.{edge_at, members_cmp, place_of, placed_edges, with_members};
-ghost use Rattle.pl_core.specs.Trees.{needed_edges};
+ghost use Rattle.pl_core.specs.ManagerViews.{members_cmp, with_members};
 
-use crate::needs::add_if;
 use pl_core::{Memory, SwitchList};
 use pl_frame::SwitchId;
 use pl_multicast::FLOOD;
-use pl_reports::Reports;
 use std::alloc::Global;
 use std::collections::BTreeMap;
 use std::marker::Model;
@@ -81,23 +78,8 @@ impl Roster {
         self.listed.len()
     }
 
-    /// The edge switches that a group needs, rising.
-    pub(crate) fn needed(
-        &self,
-        alloc: Global,
-        reports: &Reports,
-        group: u32,
-    ) -> Result<SwitchList, Memory>
-        ensures { IfOk result (λ needed. needed ≡ needed_edges reports.now self.now group) }
-    {
-        if group == FLOOD {
-            placed_edges(alloc, reports)
-        } else {
-            self.with_members(alloc, group)
-        }
-    }
-
-    fn with_members(&self, alloc: Global, group: u32) -> Result<SwitchList, Memory>
+    /// The edge switches with members of a group, rising.
+    pub(crate) fn with_members(&self, alloc: Global, group: u32) -> Result<SwitchList, Memory>
         ensures { IfOk result (λ edges. edges ≡ with_members self.now group) }
     {
         let mut edges = SwitchList::new(alloc);
@@ -120,23 +102,4 @@ fn insert_group(groups: &mut Vec<u32>, group: u32) -> Result<(), Memory>
         Ok(_) => Ok(()),
         Err(place) => Ok(groups.insert(place, group)?),
     }
-}
-
-// The placed edge switches, rising.
-fn placed_edges(alloc: Global, reports: &Reports) -> Result<SwitchList, Memory>
-    ensures { IfOk result (λ edges. edges ≡ map (λ e. e.switch) (placed_edges reports.now)) }
-{
-    let mut edges = SwitchList::new(alloc);
-    for switch in reports.switches() {
-        let passes = is_placed_edge(reports, *switch);
-        add_if(&mut edges, *switch, passes)?;
-    }
-    Ok(edges)
-}
-
-fn is_placed_edge(reports: &Reports, switch: SwitchId) -> bool
-    ensures { result ≡ is_some (edge_at switch (place_of reports.now switch)) }
-{
-    let place = reports.place_of(switch);
-    place.level == Some(0) && place.position.is_some() && place.pod.is_some()
 }

@@ -1,17 +1,18 @@
-ghost use Rattle.std.specs.Prelude.{◌≡◌, if◌then◌else◌, IfOk, None, OnOk};
+ghost use Rattle.std.specs.Prelude.{◌≡◌, if◌then◌else◌, IfOk, IsTrue, None, OnOk};
 ghost use Rattle.std.specs.List.{list_any};
-ghost use Rattle.std.specs.Option.{option_or};
+ghost use Rattle.std.specs.Option.{option_and_then, option_copied, option_or};
 ghost use Rattle.std.specs.List.Sorted.{IsStrictlySortedBy};
 ghost use Rattle.pl_frame.specs.declared.address.SwitchId.{SwitchId};
 ghost use Rattle.pl_layouts.specs.Equality.{same_switch};
 ghost use Rattle.pl_core.specs.ManagerViews.{id_cmp, switches, value_at};
-ghost use Rattle.pl_core.specs.Trees.{core_of, part_under, tree_part};
+ghost use Rattle.pl_core.specs.Trees.{core_for, part_under};
+ghost use Rattle.pl_groups.specs.Kept.{part_in_tree};
 ghost use Rattle.pl_groups.specs.Serving.{AreServed, part_of_told};
+ghost use Rattle.pl_groups.specs.declared.tree.Tree.{Tree};
 
 use crate::cores::core_for;
 use crate::needs::{Served, served_edges};
 use crate::parts::part_under;
-use crate::roster::Roster;
 use pl_core::{Memory, TreePart};
 use pl_frame::SwitchId;
 use pl_reports::Reports;
@@ -28,22 +29,48 @@ pub(crate) struct Tree {
     pub(crate) parts: Parts,
 }
 
-/// Makes the tree of a group.
+/// Makes the tree of a group that needs these edge switches.
 pub(crate) fn make_tree(
     alloc: Global,
     reports: &Reports,
-    roster: &Roster,
     group: u32,
+    needed: &[SwitchId],
 ) -> Result<Tree, Memory>
-    ensures core { IfOk result (λ tree. tree.core ≡ core_of reports.now roster.now group) }
-    ensures parts { IfOk result (λ tree. (s : SwitchId) → value_at id_cmp tree.parts.entries s ≡ tree_part reports.now roster.now group s) }
+    requires { IsStrictlySortedBy id_cmp needed.now }
+    ensures core { IfOk result (λ tree. tree.core ≡ core_for reports.now group needed.now) }
+    ensures parts { IfOk result (λ tree. (s : SwitchId) → value_at id_cmp tree.parts.entries s ≡ part_of_told reports.now needed.now s tree.core) }
 {
-    let edges = roster.needed(alloc, reports, group)?;
-    let needed = edges.as_slice();
     let served = served_edges(alloc, reports, needed)?;
     let core = core_for(alloc, reports, group, needed, &served)?;
     let parts = parts_of(alloc, reports, needed, &served, core)?;
     Ok(Tree { core, parts })
+}
+
+/// Whether no switch has a part in the tree.
+pub(crate) fn has_no_parts(tree: Option<&Tree>) -> bool
+    ensures { IsTrue result → (s : SwitchId) → part_in_tree (option_copied tree.entry) s ≡ None }
+{
+    match tree {
+        Some(tree) => tree.parts.is_empty(),
+        None => true,
+    }
+}
+
+/// Whether the tree has no core switch either.
+pub(crate) fn is_bare(tree: Option<&Tree>) -> bool
+    ensures parts { IsTrue result → (s : SwitchId) → part_in_tree (option_copied tree.entry) s ≡ None }
+    ensures core { IsTrue result → option_and_then (λ (t : Tree). t.core) (option_copied tree.entry) ≡ None }
+{
+    has_no_parts(tree) && has_no_core(tree)
+}
+
+fn has_no_core(tree: Option<&Tree>) -> bool
+    ensures { IsTrue result → option_and_then (λ (t : Tree). t.core) (option_copied tree.entry) ≡ None }
+{
+    match tree {
+        Some(tree) => tree.core.is_none(),
+        None => true,
+    }
 }
 
 // The parts of the switches; none where there is no core switch.

@@ -3,11 +3,12 @@ use Rattle.std.proofs.lemmas.Grind.{common_steps}
 use Rattle.std.specs.Option.{option_copied}
 use Rattle.std.specs.List.Sorted.{IsStrictlySortedBy}
 use Rattle.pl_frame.specs.declared.address.SwitchId.{SwitchId}
-use Rattle.pl_core.specs.ManagerViews.{id_cmp}
+use Rattle.pl_core.specs.ManagerViews.{id_cmp, switches}
 use Rattle.pl_manager_rule.specs.ManagerRule.{same_part}
 use Rattle.pl_manager_rule.proofs.Avoided.{switches_rise}
 use Rattle.pl_groups.specs.Kept.{part_in_tree}
 use Rattle.pl_reports.proofs.Sorting.{passing_done, passing_next}
+use Rattle.pl_groups.proofs.Bare.{none_differs}
 use Rattle.pl_groups.proofs.groups.changed.Goals as goal
 
 pub loop-switch-preserved : goal.loop-switch-preserved
@@ -16,6 +17,12 @@ loop-switch-preserved c =
     c.switches-switch-items.result.now c.loop-switch.switch-index _ c.loop-switch.changed c.add_if.new.list (not c.same_part-is_same.result)
     (grind (arith, common_steps)) c.loop-switch.invariant c.in_ok-add_if.ensures
     (ap not (c.same_part-is_same.ensures ∙ λ i. same_part (c.part_of.ensures i) (c.part_of-in-loop-switch.ensures i)))
+
+pub returns-then-has_no_parts-2 : goal.returns-then-has_no_parts-2
+returns-then-has_no_parts-2 c =
+    c.new.ensures
+    ∙ none_differs (part_in_tree (option_copied c.args.before)) (part_in_tree (Some c.args.after.now))
+    (c.has_no_parts.ensures c.if-has_no_parts.true) (c.has_no_parts-then-has_no_parts.ensures c.if-has_no_parts-2.true) (switches c.args.reports.now)
 
 pub returns : goal.returns
 returns c =

@@ -55,11 +55,6 @@ placed_in told (s ∷ ss) = by (placed_in told ss) (edge_at s (place_of told s))
         let same = edge_is s place.level place.position place.pod e is in
         λ i. sym same i ∷ rest i
 
-pub edges_rise : (told : Told) → IsStrictlySortedBy id_cmp (map (λ e. e.switch) (placed_edges told))
-edges_rise told =
-    subst (IsStrictlySortedBy id_cmp) (placed_in told (switches told))
-    (IsStrictlySortedBy-filter id_cmp (is_edge told) (switches told) (switches_rise told))
-
 -- one of them told its place
 edge_told : (told : Told) (s : SwitchId) → is_edge told s ≡ true → IsAmong s (switches told)
 edge_told told s h = by (value_at id_cmp told.places s) refl h

@@ -1,3 +1,4 @@
+pub mod Bits
 pub mod Serving
 pub mod Reaching
 pub mod Rostering

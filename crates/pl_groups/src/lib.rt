@@ -14,4 +14,5 @@ mod needs;
 mod parts;
 mod place_tests;
 mod roster;
+mod row;
 mod tree;

@@ -5,12 +5,12 @@ use Rattle.std.specs.Option.{option_map}
 use Rattle.std.proofs.lemmas.Bool.{false≢true}
 use Rattle.std.proofs.lemmas.Option.{slice_get-get_or}
 use Rattle.pl_frame.specs.declared.address.Mac.{Mac}
-use Rattle.pl_core.specs.declared.messages.ToSwitch.TheVariants as say
+use Rattle.pl_logic.specs.declared.messages.ToSwitch.TheVariants as say
 use Rattle.pl_pmac.specs.declared.pmac.Pmac.{Pmac}
-use Rattle.pl_core.specs.declared.switch_records.Grant.{Grant}
+use Rattle.pl_logic.specs.declared.switch_records.Grant.{Grant}
 use Rattle.pl_arp.specs.declared.cache.Me.{Me}
-use Rattle.pl_core.specs.ManagerViews.{Registration, ip_of, newest, registration}
-use Rattle.pl_core.specs.SwitchViews.{SwitchView}
+use Rattle.pl_logic.specs.ManagerViews.{Registration, ip_of, newest, registration}
+use Rattle.pl_logic.specs.SwitchViews.{SwitchView}
 use Rattle.pl_queues.specs.Queues.{items_at}
 use Rattle.pl_world.specs.Worlds.{WorldView}
 use Rattle.pl_switch_rule.specs.Granting.{granted, is_local}

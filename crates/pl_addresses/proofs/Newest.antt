@@ -6,7 +6,7 @@ use Rattle.std.proofs.lemmas.Option.{none-some, same_Some}
 use Rattle.pl_frame.specs.declared.address.Mac.{Mac}
 use Rattle.pl_pmac.specs.declared.pmac.Pmac.{Pmac}
 use Rattle.pl_layouts.specs.Equality.{same_mac, same_pmac}
-use Rattle.pl_core.specs.ManagerViews.{LearntAddress, Registration, numbered}
+use Rattle.pl_logic.specs.ManagerViews.{LearntAddress, Registration, numbered}
 use Rattle.pl_addresses.proofs.Words.{mac_itself}
 
 abbrev at : List Registration → Pmac → Option Registration

@@ -9,13 +9,13 @@ use Rattle.pl_frame.specs.declared.address.SwitchId.{SwitchId}
 use Rattle.pl_wiring.specs.declared.host.Host.{Host}
 use Rattle.pl_wiring.specs.Labels.{switch_count}
 use Rattle.pl_wiring.specs.Plan.{IsHostIp, IsPlan, Plan}
-use Rattle.pl_core.specs.declared.messages.ToManager.{ToManager}
-use Rattle.pl_core.specs.declared.messages.ToSwitch.{ToSwitch}
-use Rattle.pl_core.specs.HostDuties.{HostsSendData, HostsSendOwn}
-use Rattle.pl_core.specs.HostInputs.{HostRule}
-use Rattle.pl_core.specs.HostViews.{HostView, boot_host}
-use Rattle.pl_core.specs.SwitchFacts.{switch_at_boot}
-use Rattle.pl_core.specs.SwitchViews.{SwitchView}
+use Rattle.pl_logic.specs.declared.messages.ToManager.{ToManager}
+use Rattle.pl_logic.specs.declared.messages.ToSwitch.{ToSwitch}
+use Rattle.pl_logic.specs.HostDuties.{HostsSendData, HostsSendOwn}
+use Rattle.pl_logic.specs.HostInputs.{HostRule}
+use Rattle.pl_logic.specs.HostViews.{HostView, boot_host}
+use Rattle.pl_logic.specs.SwitchFacts.{switch_at_boot}
+use Rattle.pl_logic.specs.SwitchViews.{SwitchView}
 use Rattle.pl_host_rule.proofs.HostOwn.{boot_holds_own}
 use Rattle.pl_pmac.specs.declared.pmac.Pmac.{Pmac}
 use Rattle.pl_journal.specs.declared.entry.Entry.{Entry}

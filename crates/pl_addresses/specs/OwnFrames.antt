@@ -5,8 +5,8 @@ use Rattle.std.specs.List.{AllByRecursion}
 use Rattle.pl_arp.specs.declared.cache.Me.{Me}
 use Rattle.pl_wiring.specs.declared.host.Host.{Host}
 use Rattle.pl_wiring.specs.Plan.{Plan}
-use Rattle.pl_core.specs.HostDuties.{HoldsOwn, is_own}
-use Rattle.pl_core.specs.HostViews.{HostView}
+use Rattle.pl_logic.specs.HostDuties.{HoldsOwn, is_own}
+use Rattle.pl_logic.specs.HostViews.{HostView}
 use Rattle.pl_queues.specs.Queues.{items_at}
 use Rattle.pl_world.specs.declared.item.Item.{Item}
 use Rattle.pl_world.specs.declared.item.Item.TheVariants.{Control, Data}

@@ -4,7 +4,7 @@ use Rattle.std.specs.Option.{option_map}
 use Rattle.pl_frame.specs.declared.address.Ip4.{Ip4}
 use Rattle.pl_frame.specs.declared.address.Mac.{Mac}
 use Rattle.pl_pmac.specs.declared.pmac.Pmac.{Pmac}
-use Rattle.pl_core.specs.ManagerViews.{Learnt, Registration, ip_of, newest, registration, registry}
+use Rattle.pl_logic.specs.ManagerViews.{Learnt, Registration, ip_of, newest, registration, registry}
 
 -- what is registered of a pseudo address, the newest one of an actual address, the IPv4 address told with a pseudo address, and how many
 -- were registered

@@ -1,9 +1,9 @@
 ghost use Rattle.std.specs.Prelude.{◌≡◌, ◌≤◌, ◌⊎◌, ℕ, [], None, Some, true, slice_get};
 ghost use Rattle.std.specs.List.{list_any};
 ghost use Rattle.pl_arp.specs.declared.cache.Me.{Me};
-ghost use Rattle.pl_core.specs.declared.switch_records.Grant.{Grant};
-ghost use Rattle.pl_core.specs.ManagerViews.{Learnt, Registration, newest, registration};
-ghost use Rattle.pl_core.specs.SwitchViews.{SwitchView};
+ghost use Rattle.pl_logic.specs.declared.switch_records.Grant.{Grant};
+ghost use Rattle.pl_logic.specs.ManagerViews.{Learnt, Registration, newest, registration};
+ghost use Rattle.pl_logic.specs.SwitchViews.{SwitchView};
 ghost use Rattle.pl_frame.specs.declared.address.Ip4.{Ip4};
 ghost use Rattle.pl_frame.specs.declared.address.Mac.{Mac};
 ghost use Rattle.pl_pmac.specs.declared.pmac.Pmac.{Pmac};

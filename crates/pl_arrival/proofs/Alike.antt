@@ -6,9 +6,9 @@ use Rattle.pl_layouts.specs.declared.place.Place.{Place}
 use Rattle.pl_wiring.specs.Labels.{switch_count}
 use Rattle.pl_wiring.specs.LiveLinks.{LivePorts, is_live_at}
 use Rattle.pl_wiring.specs.Plan.{IsPlan, Plan}
-use Rattle.pl_core.specs.ManagerViews.{Told, place_of}
-use Rattle.pl_core.specs.PortRecords.{is_usable}
-use Rattle.pl_core.specs.SwitchViews.{SwitchView}
+use Rattle.pl_logic.specs.ManagerViews.{Told, place_of}
+use Rattle.pl_logic.specs.PortRecords.{is_usable}
+use Rattle.pl_logic.specs.SwitchViews.{SwitchView}
 use Rattle.pl_manager_rule.specs.ManagerRule.{manager_rule}
 use Rattle.pl_switch_rule.specs.SwitchRule.{Loose}
 use Rattle.pl_control_plane.specs.ControlPlanes.{AreJoined, ControlPlane}

@@ -6,9 +6,9 @@ use Rattle.pl_wiring.specs.Plan.{Plan}
 use Rattle.pl_journal.specs.declared.entry.Entry.{Entry}
 use Rattle.pl_journal.specs.declared.entry.Entry.TheVariants.{Arrived, Sent}
 use Rattle.pl_journal.specs.Flights.{ended_by, ends, is_frame}
-use Rattle.pl_core.specs.HostDuties.{HostsKeepFrames, HostsSendData, HostsSendOwn}
-use Rattle.pl_core.specs.HostInputs.{HostRule}
-use Rattle.pl_core.proofs.Among.{Contains-of_among, IsAmong, among_append, among_of_Contains}
+use Rattle.pl_logic.specs.HostDuties.{HostsKeepFrames, HostsSendData, HostsSendOwn}
+use Rattle.pl_logic.specs.HostInputs.{HostRule}
+use Rattle.pl_logic.proofs.Among.{Contains-of_among, IsAmong, among_append, among_of_Contains}
 use Rattle.pl_manager_rule.specs.ManagerRule.{manager_rule}
 use Rattle.pl_switch_rule.specs.SwitchRule.{Loose}
 use Rattle.pl_queues.specs.Queues.{items_at}

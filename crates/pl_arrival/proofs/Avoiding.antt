@@ -8,11 +8,11 @@ use Rattle.pl_layouts.specs.Placement.{is_known}
 use Rattle.pl_wiring.specs.declared.label.Label.{Label}
 use Rattle.pl_wiring.specs.declared.label.Label.TheVariants.{Aggregation, Core, Edge}
 use Rattle.pl_wiring.specs.Labels.{label_of, switch_count}
-use Rattle.pl_core.specs.AvoidLists.{avoid_list, is_above, is_level_above, is_sent_down, leads_to}
-use Rattle.pl_core.specs.ManagerViews.{is_told_usable, place_of}
-use Rattle.pl_core.specs.SwitchFacts.{is_avoided}
-use Rattle.pl_core.specs.SwitchViews.{SwitchView}
-use Rattle.pl_core.proofs.Among.{Contains-of_among, IsAmong, among_of_Contains, any_among}
+use Rattle.pl_logic.specs.AvoidLists.{avoid_list, is_above, is_level_above, is_sent_down, leads_to}
+use Rattle.pl_logic.specs.ManagerViews.{is_told_usable, place_of}
+use Rattle.pl_logic.specs.SwitchFacts.{is_avoided}
+use Rattle.pl_logic.specs.SwitchViews.{SwitchView}
+use Rattle.pl_logic.proofs.Among.{Contains-of_among, IsAmong, among_of_Contains, any_among}
 use Rattle.pl_manager_rule.proofs.Avoided.{avoided_is_listed, listed_is_avoided, same_is}
 use Rattle.pl_switch_rule.specs.Granting.{is_local}
 use Rattle.pl_places.specs.Known.{level_of, pod_of}

@@ -10,11 +10,11 @@ use Rattle.pl_wiring.specs.Labels.{label_of, switch_count}
 use Rattle.pl_wiring.specs.LiveLinks.{LivePorts, is_live_at}
 use Rattle.pl_wiring.specs.Peers.{peer_of}
 use Rattle.pl_wiring.specs.Plan.{IsPlan, Plan}
-use Rattle.pl_core.specs.declared.neighbour.Neighbour.{Neighbour}
-use Rattle.pl_core.specs.AvoidLists.{avoid_list}
-use Rattle.pl_core.specs.ManagerViews.{Told, is_alive, is_told_usable, place_of}
-use Rattle.pl_core.specs.PortRecords.{heard_echo, id_at, is_id, is_usable, place_at, port_of}
-use Rattle.pl_core.specs.SwitchViews.{SwitchView}
+use Rattle.pl_logic.specs.declared.neighbour.Neighbour.{Neighbour}
+use Rattle.pl_logic.specs.AvoidLists.{avoid_list}
+use Rattle.pl_logic.specs.ManagerViews.{Told, is_alive, is_told_usable, place_of}
+use Rattle.pl_logic.specs.PortRecords.{heard_echo, id_at, is_id, is_usable, place_at, port_of}
+use Rattle.pl_logic.specs.SwitchViews.{SwitchView}
 use Rattle.pl_control_plane.specs.ControlPlanes.{AreJoined}
 use Rattle.pl_control_plane.proofs.Joined.{joined_there, joined_turned}
 use Rattle.pl_places.specs.Known.{IsFull, IsOwn, pod_of}

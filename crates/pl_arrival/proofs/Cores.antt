@@ -1,10 +1,10 @@
--- A sure frame in a run of lawful cores is one in a run of the rules.
+-- A sure frame in a run of lawful logic is one in a run of the rules.
 use Rattle.std.proofs.Common.{ℕ, List, [], ◌∷◌, refl, sym, subst}
 use Rattle.pl_pmac.specs.declared.pmac.Pmac.{Pmac}
-use Rattle.pl_core.specs.Accounting.{IsWithin}
-use Rattle.pl_core.specs.HostInputs.{HostRule}
-use Rattle.pl_core.specs.ManagerDuties.{ManagerRule}
-use Rattle.pl_core.specs.SwitchInputs.{SwitchRule}
+use Rattle.pl_logic.specs.Accounting.{IsWithin}
+use Rattle.pl_logic.specs.HostInputs.{HostRule}
+use Rattle.pl_logic.specs.ManagerDuties.{ManagerRule}
+use Rattle.pl_logic.specs.SwitchInputs.{SwitchRule}
 use Rattle.pl_manager_rule.specs.Lawful.{IsManagerRule}
 use Rattle.pl_manager_rule.specs.ManagerRule.{manager_rule}
 use Rattle.pl_switch_rule.specs.SwitchRule.{Loose}

@@ -4,10 +4,10 @@ use Rattle.pl_wiring.specs.declared.link.Link.{Link}
 use Rattle.pl_wiring.specs.Index.{port_index}
 use Rattle.pl_wiring.specs.Peers.{peer_of}
 use Rattle.pl_journal.specs.declared.entry.Entry.{Entry}
-use Rattle.pl_core.specs.declared.messages.ToManager.{ToManager}
-use Rattle.pl_core.specs.declared.messages.ToSwitch.{ToSwitch}
-use Rattle.pl_core.specs.HostInputs.{HostRule}
-use Rattle.pl_core.proofs.Among.{IsAmong, among_left}
+use Rattle.pl_logic.specs.declared.messages.ToManager.{ToManager}
+use Rattle.pl_logic.specs.declared.messages.ToSwitch.{ToSwitch}
+use Rattle.pl_logic.specs.HostInputs.{HostRule}
+use Rattle.pl_logic.proofs.Among.{IsAmong, among_left}
 use Rattle.pl_manager_rule.specs.ManagerRule.{manager_rule}
 use Rattle.pl_switch_rule.specs.SwitchRule.{Loose}
 use Rattle.pl_queues.specs.Queues.{items_at}
@@ -28,7 +28,7 @@ use Rattle.pl_fabric.specs.Settled.{IsSettled}
 use Rattle.pl_control_plane.specs.ControlPlanes.{control_plane}
 use Rattle.pl_control_plane.proofs.Stepping.{step_in_plane}
 use Rattle.pl_switch_rule.proofs.AccountedSteps.{loose_steps_are_accounted}
-use Rattle.pl_core.specs.ManagerViews.{ManagerView}
+use Rattle.pl_logic.specs.ManagerViews.{ManagerView}
 use Rattle.pl_world.specs.Refusals.{refusal}
 use Rattle.pl_arrival.specs.Orderly.{IsOrderly}
 use Rattle.pl_arrival.specs.Ways.{Alike, fabric_of}

@@ -1,7 +1,7 @@
 -- At each kind of place in a settled fabric a frame has ports by which it goes on.
 use Rattle.std.proofs.Common.{◌≡◌, ℕ, Bool, true, false, refl, ap, ◌∙◌}
 use Rattle.pl_pmac.specs.declared.pmac.Pmac.{Pmac}
-use Rattle.pl_core.specs.SwitchViews.{SwitchView}
+use Rattle.pl_logic.specs.SwitchViews.{SwitchView}
 use Rattle.pl_switch_rule.specs.declared.came.Came.TheVariants.{FromAbove, FromBelow, FromHost}
 use Rattle.pl_switch_rule.specs.Granting.{is_local}
 use Rattle.pl_world.specs.Worlds.{WorldView}

@@ -14,12 +14,12 @@ use Rattle.pl_wiring.specs.Plan.{IsPlan}
 use Rattle.pl_wiring.proofs.Ends.{at_contained}
 use Rattle.pl_wiring.proofs.LabelOrder.{label_of-aggregation, label_of-core}
 use Rattle.pl_wiring.proofs.Linked.{peer_is_switch}
-use Rattle.pl_core.specs.declared.messages.ToManager.{ToManager}
-use Rattle.pl_core.specs.declared.messages.ToManager.TheVariants as tell
-use Rattle.pl_core.specs.ManagerViews.{is_told_usable, place_of, speakers, tellers}
-use Rattle.pl_core.specs.PortRecords.{heard_id, heard_place}
-use Rattle.pl_core.specs.SwitchViews.{SwitchView}
-use Rattle.pl_core.proofs.Among.{among_left, any_among}
+use Rattle.pl_logic.specs.declared.messages.ToManager.{ToManager}
+use Rattle.pl_logic.specs.declared.messages.ToManager.TheVariants as tell
+use Rattle.pl_logic.specs.ManagerViews.{is_told_usable, place_of, speakers, tellers}
+use Rattle.pl_logic.specs.PortRecords.{heard_id, heard_place}
+use Rattle.pl_logic.specs.SwitchViews.{SwitchView}
+use Rattle.pl_logic.proofs.Among.{among_left, any_among}
 use Rattle.pl_queues.specs.Queues.{items_at}
 use Rattle.pl_world.specs.SettledQueues.{IsQuestion}
 use Rattle.pl_world.specs.Worlds.{WorldView}

@@ -115,7 +115,7 @@ first_apart plan is a b stand at_a at_b = elim (cases_lt a b) [
         let here = get_or_from_slice_get plan.hosts i x.0 x.0 x.1 in
         let there = get_or_from_slice_get plan.hosts j y.0 x.0 y.1 in
         let same = x.2 ∙ sym y.2 in
-        is.places_apart i j x.0 less (slice_get_within plan.hosts j y.0 y.1) (
+        is.ports_apart i j x.0 less (slice_get_within plan.hosts j y.0 y.1) (
           ap (λ (h : Host). h.edge.0) here ∙ ap (λ (s : Stand). s.edge.0) same ∙ ap (λ (h : Host). h.edge.0) (sym there),
           ap (λ (h : Host). h.port) here ∙ ap (λ (s : Stand). s.port) same ∙ ap (λ (h : Host). h.port) (sym there),
         )

@@ -5,12 +5,12 @@ use Rattle.pl_wiring.specs.Index.{port_index}
 use Rattle.pl_wiring.specs.LiveLinks.{is_live_at}
 use Rattle.pl_wiring.specs.Peers.{peer_of}
 use Rattle.pl_journal.specs.Places.{is_host_port}
-use Rattle.pl_core.specs.declared.acts.Act.{Act}
-use Rattle.pl_core.specs.declared.acts.Act.TheVariants as act
-use Rattle.pl_core.specs.Accounting.{Speech, speech, speech_after}
-use Rattle.pl_core.specs.Accounting.Speech.{Ended, Passed, Redirected, Silent, Waiting, Wrong}
-use Rattle.pl_core.specs.SwitchInputs.{SwitchInput, SwitchRule}
-use Rattle.pl_core.proofs.Among.{IsAmong}
+use Rattle.pl_logic.specs.declared.acts.Act.{Act}
+use Rattle.pl_logic.specs.declared.acts.Act.TheVariants as act
+use Rattle.pl_logic.specs.Accounting.{Speech, speech, speech_after}
+use Rattle.pl_logic.specs.Accounting.Speech.{Ended, Passed, Redirected, Silent, Waiting, Wrong}
+use Rattle.pl_logic.specs.SwitchInputs.{SwitchInput, SwitchRule}
+use Rattle.pl_logic.proofs.Among.{IsAmong}
 use Rattle.pl_queues.specs.Queues.{items_at, put_at}
 use Rattle.pl_world.specs.declared.item.Item.TheVariants.{Data}
 use Rattle.pl_world.specs.declared.spoken_frame.SpokenFrame.{SpokenFrame}

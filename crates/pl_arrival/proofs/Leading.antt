@@ -5,9 +5,9 @@ use Rattle.std.proofs.lemmas.Bool.{and_from, and_parts}
 use Rattle.pl_frame.specs.declared.address.SwitchId.{SwitchId}
 use Rattle.pl_layouts.specs.declared.place.Place.{Place}
 use Rattle.pl_wiring.specs.Labels.{switch_count}
-use Rattle.pl_core.specs.AvoidLists.{aggregation_leads_to, core_leads_to, leads_to}
-use Rattle.pl_core.specs.ManagerViews.{alive_at_level, alive_neighbours, has_level, has_pod, is_alive, is_told_usable, neighbours, place_of}
-use Rattle.pl_core.proofs.Among.{IsAmong, among_filter, among_filtered, any_among}
+use Rattle.pl_logic.specs.AvoidLists.{aggregation_leads_to, core_leads_to, leads_to}
+use Rattle.pl_logic.specs.ManagerViews.{alive_at_level, alive_neighbours, has_level, has_pod, is_alive, is_told_usable, neighbours, place_of}
+use Rattle.pl_logic.proofs.Among.{IsAmong, among_filter, among_filtered, any_among}
 use Rattle.pl_arrival.specs.Ways.{AreLinked, IsLast, IsTop, LeadsDown}
 use Rattle.pl_arrival.proofs.Words.{any_of, is_of, known_is, known_other, near_of_usable, not_both, up_at_one, up_at_two}
 use Rattle.pl_arrival.proofs.Calm.{Calm, Net, alive_leads, fabric, there, told_alive}

@@ -8,12 +8,12 @@ use Rattle.pl_layouts.specs.Control.{is_control}
 use Rattle.pl_layouts.specs.Frames.{arriving}
 use Rattle.pl_layouts.specs.Memberships.{is_group}
 use Rattle.pl_layouts.specs.Placement.{is_placed}
-use Rattle.pl_core.specs.declared.acts.Act.TheVariants.{Pass}
-use Rattle.pl_core.specs.declared.switch_records.Grant.{Grant}
-use Rattle.pl_core.specs.PortRecords.{is_open_to_hosts, place_at, port_of, ports_of_switch}
-use Rattle.pl_core.specs.SwitchInputs.SwitchInput.{Comes}
-use Rattle.pl_core.specs.SwitchViews.{SwitchView}
-use Rattle.pl_core.proofs.Among.{IsAmong, among_filter, among_filtered, among_of_Contains}
+use Rattle.pl_logic.specs.declared.acts.Act.TheVariants.{Pass}
+use Rattle.pl_logic.specs.declared.switch_records.Grant.{Grant}
+use Rattle.pl_logic.specs.PortRecords.{is_open_to_hosts, place_at, port_of, ports_of_switch}
+use Rattle.pl_logic.specs.SwitchInputs.SwitchInput.{Comes}
+use Rattle.pl_logic.specs.SwitchViews.{SwitchView}
+use Rattle.pl_logic.proofs.Among.{IsAmong, among_filter, among_filtered, among_of_Contains}
 use Rattle.pl_steps.specs.Steps.{SwitchStep, does, ◌▹◌}
 use Rattle.pl_switch_rule.specs.declared.came.Came.{Came}
 use Rattle.pl_switch_rule.specs.Delivering.{arrives_home, delivers_or_redirects, delivers_to, destination, grant_trap, tells_sender, trap_for}

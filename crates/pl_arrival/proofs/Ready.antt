@@ -14,7 +14,7 @@ use Rattle.pl_wiring.specs.Peers.{peer_of}
 use Rattle.pl_wiring.specs.Plan.{Plan}
 use Rattle.pl_wiring.proofs.Entered.{port_index-below}
 use Rattle.pl_journal.specs.Places.{is_host_port}
-use Rattle.pl_core.specs.SwitchViews.{SwitchView}
+use Rattle.pl_logic.specs.SwitchViews.{SwitchView}
 use Rattle.pl_switch_rule.specs.Granting.{is_local}
 use Rattle.pl_world.specs.Changes.{is_failed_at}
 use Rattle.pl_world.specs.Flying.{IsCounted}

@@ -9,10 +9,10 @@ use Rattle.pl_wiring.specs.declared.label.Label.TheVariants.{Aggregation, Core, 
 use Rattle.pl_wiring.specs.FatTree.{IsBelow}
 use Rattle.pl_wiring.specs.Labels.{label_of, number_of}
 use Rattle.pl_wiring.proofs.LabelOrder.{number_of-label_of}
-use Rattle.pl_core.specs.AvoidLists.{is_level_above, is_sent_down, leads_to}
-use Rattle.pl_core.specs.ManagerViews.{has_level, has_pod, place_of}
-use Rattle.pl_core.specs.PortRecords.{id_at, is_usable, is_usable_to, place_at}
-use Rattle.pl_core.specs.SwitchFacts.{is_avoided}
+use Rattle.pl_logic.specs.AvoidLists.{is_level_above, is_sent_down, leads_to}
+use Rattle.pl_logic.specs.ManagerViews.{has_level, has_pod, place_of}
+use Rattle.pl_logic.specs.PortRecords.{id_at, is_usable, is_usable_to, place_at}
+use Rattle.pl_logic.specs.SwitchFacts.{is_avoided}
 use Rattle.pl_switch_rule.specs.declared.came.Came.TheVariants.{FromAbove, FromBelow, FromHost}
 use Rattle.pl_switch_rule.specs.Forwarding.{is_candidate, leads_from_aggregation, leads_from_core, leads_from_edge, leads_to_pod, leads_to_position, leads_up}
 use Rattle.pl_switch_rule.specs.Granting.{is_local}

@@ -17,18 +17,18 @@ use Rattle.pl_wiring.proofs.Linked.{peer_is_switch}
 use Rattle.pl_wiring.proofs.Live.{changes}
 use Rattle.pl_journal.specs.declared.entry.Entry.{Entry}
 use Rattle.pl_journal.specs.Places.{are_alike}
-use Rattle.pl_core.specs.HostDuties.{HostsKeepFrames}
-use Rattle.pl_core.specs.HostInputs.{HostAnswer, HostInput, HostRule}
-use Rattle.pl_core.specs.HostInputs.HostAnswer.{Nothing}
-use Rattle.pl_core.specs.HostInputs.HostInput.{HasMoved}
-use Rattle.pl_core.specs.declared.acts.HostAct.{HostAct}
-use Rattle.pl_core.specs.declared.acts.HostAct.TheVariants.{Send}
-use Rattle.pl_core.specs.declared.messages.ToManager.{ToManager}
-use Rattle.pl_core.specs.declared.messages.ToSwitch.{ToSwitch}
-use Rattle.pl_core.specs.ManagerViews.{ManagerView, newest}
-use Rattle.pl_core.specs.PortRecords.{is_usable}
-use Rattle.pl_core.specs.SwitchViews.{SwitchView}
-use Rattle.pl_core.proofs.Among.{IsAmong, among_left}
+use Rattle.pl_logic.specs.HostDuties.{HostsKeepFrames}
+use Rattle.pl_logic.specs.HostInputs.{HostAnswer, HostInput, HostRule}
+use Rattle.pl_logic.specs.HostInputs.HostAnswer.{Nothing}
+use Rattle.pl_logic.specs.HostInputs.HostInput.{HasMoved}
+use Rattle.pl_logic.specs.declared.acts.HostAct.{HostAct}
+use Rattle.pl_logic.specs.declared.acts.HostAct.TheVariants.{Send}
+use Rattle.pl_logic.specs.declared.messages.ToManager.{ToManager}
+use Rattle.pl_logic.specs.declared.messages.ToSwitch.{ToSwitch}
+use Rattle.pl_logic.specs.ManagerViews.{ManagerView, newest}
+use Rattle.pl_logic.specs.PortRecords.{is_usable}
+use Rattle.pl_logic.specs.SwitchViews.{SwitchView}
+use Rattle.pl_logic.proofs.Among.{IsAmong, among_left}
 use Rattle.pl_manager_rule.specs.ManagerRule.{manager_rule}
 use Rattle.pl_switch_rule.specs.SwitchRule.{Loose}
 use Rattle.pl_switch_rule.proofs.AccountedSteps.{loose_steps_are_accounted}

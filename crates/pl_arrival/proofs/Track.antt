@@ -9,7 +9,7 @@ use Rattle.pl_wiring.specs.Plan.{IsPlan, Plan}
 use Rattle.pl_journal.specs.declared.entry.Entry.{Entry}
 use Rattle.pl_journal.specs.declared.entry.Entry.TheVariants.{Arrived}
 use Rattle.pl_journal.specs.Lossy.{mac_of_host}
-use Rattle.pl_core.proofs.Among.{IsAmong}
+use Rattle.pl_logic.proofs.Among.{IsAmong}
 use Rattle.pl_queues.specs.Queues.{items_at}
 use Rattle.pl_world.specs.declared.item.Item.{Item}
 use Rattle.pl_world.specs.declared.item.Item.TheVariants.{Data}

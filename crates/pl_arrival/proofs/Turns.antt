@@ -19,14 +19,14 @@ use Rattle.pl_wiring.specs.Index.{port_index}
 use Rattle.pl_wiring.specs.Peers.{peer_of}
 use Rattle.pl_wiring.specs.Plan.{Plan}
 use Rattle.pl_journal.specs.declared.entry.Entry.TheVariants.{Arrived}
-use Rattle.pl_core.specs.declared.reception.Reception.{Reception}
-use Rattle.pl_core.specs.declared.reception.Reception.TheVariants.{Kept}
-use Rattle.pl_core.specs.HostDuties.{HostsKeepFrames, is_of, is_routed}
-use Rattle.pl_core.specs.HostInputs.{HostRule}
-use Rattle.pl_core.specs.HostInputs.HostAnswer.{Received}
-use Rattle.pl_core.specs.HostInputs.HostInput.{Receives}
-use Rattle.pl_core.specs.HostViews.{HostView}
-use Rattle.pl_core.proofs.Among.{Contains-of_among, IsAmong, among_right}
+use Rattle.pl_logic.specs.declared.reception.Reception.{Reception}
+use Rattle.pl_logic.specs.declared.reception.Reception.TheVariants.{Kept}
+use Rattle.pl_logic.specs.HostDuties.{HostsKeepFrames, is_of, is_routed}
+use Rattle.pl_logic.specs.HostInputs.{HostRule}
+use Rattle.pl_logic.specs.HostInputs.HostAnswer.{Received}
+use Rattle.pl_logic.specs.HostInputs.HostInput.{Receives}
+use Rattle.pl_logic.specs.HostViews.{HostView}
+use Rattle.pl_logic.proofs.Among.{Contains-of_among, IsAmong, among_right}
 use Rattle.pl_switch_rule.specs.SwitchRule.{Loose}
 use Rattle.pl_queues.specs.Queues.{items_at}
 use Rattle.pl_world.specs.declared.item.Item.{Item}

@@ -8,8 +8,8 @@ use Rattle.pl_frame.specs.declared.address.SwitchId.{SwitchId}
 use Rattle.pl_layouts.specs.declared.place.Place.{Place}
 use Rattle.pl_layouts.specs.Equality.{same_switch}
 use Rattle.pl_layouts.specs.Placement.{is_known, nowhere}
-use Rattle.pl_core.specs.ManagerViews.{Told, id_cmp, is_told_usable, link_cmp, neighbours, place_of, tellers, value_at}
-use Rattle.pl_core.proofs.Among.{IsAmong, among_filtered, among_in_order, among_left, among_map, among_mapped}
+use Rattle.pl_logic.specs.ManagerViews.{Told, id_cmp, is_told_usable, link_cmp, neighbours, place_of, tellers, value_at}
+use Rattle.pl_logic.proofs.Among.{IsAmong, among_filtered, among_in_order, among_left, among_map, among_mapped}
 use Rattle.pl_manager_rule.proofs.Avoided.{both_equal, id_exact, same_is}
 use Rattle.pl_manager_rule.proofs.Tables.{found_key}
 

@@ -2,7 +2,7 @@
 use Rattle.std.specs.Prelude.{◌≡◌, ℕ, IsTrue, Contains, List, Some, slice_get}
 use Rattle.pl_frame.specs.declared.address.SwitchId.{SwitchId}
 use Rattle.pl_wiring.specs.Plan.{Plan}
-use Rattle.pl_core.specs.ManagerViews.{ManagerView, is_heard}
+use Rattle.pl_logic.specs.ManagerViews.{ManagerView, is_heard}
 use Rattle.pl_control_plane.specs.ControlPlanes.{control_plane}
 use Rattle.pl_kept.specs.Kept.{Kept}
 use Rattle.pl_records.specs.Records.{HaveToldNeighbours}

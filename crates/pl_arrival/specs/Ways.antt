@@ -5,7 +5,7 @@ use Rattle.pl_layouts.specs.declared.place.Place.{Place}
 use Rattle.pl_wiring.specs.Labels.{switch_count}
 use Rattle.pl_wiring.specs.LiveLinks.{LivePorts, is_live_at}
 use Rattle.pl_wiring.specs.Plan.{Plan}
-use Rattle.pl_core.specs.SwitchViews.{SwitchView}
+use Rattle.pl_logic.specs.SwitchViews.{SwitchView}
 use Rattle.pl_switch_rule.specs.declared.came.Came.{Came}
 use Rattle.pl_switch_rule.specs.Forwarding.{is_candidate}
 use Rattle.pl_control_plane.specs.ControlPlanes.{AreJoined, control_plane}

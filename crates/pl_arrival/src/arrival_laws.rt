@@ -22,32 +22,32 @@ ghost use Rattle.pl_arrival.specs.SureFrames.{IsSure};
 ghost use Rattle.pl_arrival.specs.Ways.{Alike, fabric_of};
 ghost use Rattle.pl_fabric.specs.Settled.{IsSettled};
 
-use pl_core::{HostCore, ManagerCore, SwitchCore};
+use pl_logic::{HostLogic, ManagerLogic, SwitchLogic};
 use pl_manager_rule::LawfulManager;
 use pl_switch_rule::LooseSwitch;
 
-/// At each moment of each run of lawful cores from the beginning all is in order that arrival stands on.
-pub fn each_run_is_orderly<S: LooseSwitch, M: LawfulManager, H: HostCore>()
+/// At each moment of each run of lawful logic from the beginning all is in order that arrival stands on.
+pub fn each_run_is_orderly<S: LooseSwitch, M: LawfulManager, H: HostLogic>()
     ensures { (plan : Plan) (limits : Limits) (moments : List Moment) (new : WorldView) → CanBegin plan →
         WorldRun S.rule M.rule H.rule (booted plan limits) moments new → IsOrderly new }
 {}
 
 /// Between two settled moments that one step joins no link and no place changes, whatever the step is.
-pub fn no_link_and_no_place_changes_between_settled_moments<H: HostCore>()
+pub fn no_link_and_no_place_changes_between_settled_moments<H: HostLogic>()
     ensures { (old : WorldView) (event : Event) (new : WorldView) → IsOrderly old → IsOrderly new → IsSettled old → IsSettled new →
         refusal old event ≡ None → WorldStep Loose manager_rule H.rule old event new → Alike (fabric_of old) (fabric_of new) }
 {}
 
 /// What a step sends waits in the queue of its host then, whatever the rules of switches, manager and hosts are.
-pub fn a_frame_waits_at_its_host_once_it_is_sent<S: SwitchCore, M: ManagerCore, H: HostCore>()
+pub fn a_frame_waits_at_its_host_once_it_is_sent<S: SwitchLogic, M: ManagerLogic, H: HostLogic>()
     ensures { (old : WorldView) (event : Event) (new : WorldView) (id h : ℕ) (frame : List ℕ) → IsCounted old →
         WorldStep S.rule M.rule H.rule old event new → Contains new.journal (Sent id (host_no h) frame) →
         (Contains old.journal (Sent id (host_no h) frame) → ⊥) → Contains (items_at new.from_hosts h) (Data id frame) }
 {}
 
-/// In each run of lawful cores from the beginning, whatever its wiring, its events and the choices of the
+/// In each run of lawful logic from the beginning, whatever its wiring, its events and the choices of the
 /// switches: a sure frame that has ended has arrived at the host to which it was sent.
-pub fn a_sure_frame_that_ends_has_arrived<S: LooseSwitch, M: LawfulManager, H: HostCore>()
+pub fn a_sure_frame_that_ends_has_arrived<S: LooseSwitch, M: LawfulManager, H: HostLogic>()
     ensures { (plan : Plan) (limits : Limits) (before moments : List Moment) (old new : WorldView) (id h g : ℕ) → CanBegin plan →
         WorldRun S.rule M.rule H.rule (booted plan limits) before old → IsSure S.rule M.rule H.rule old moments new id h g →
         1 ≤ ends new.journal id → (frame : List ℕ) × Contains new.journal (Arrived id (host_no g) frame) }
@@ -55,7 +55,7 @@ pub fn a_sure_frame_that_ends_has_arrived<S: LooseSwitch, M: LawfulManager, H: H
 
 /// And that stays its one end, whatever befalls the fabric then: it is dropped for no cause, no edge switch takes
 /// it, and no other host gets it.
-pub fn a_sure_frame_has_no_other_end<S: LooseSwitch, M: LawfulManager, H: HostCore>()
+pub fn a_sure_frame_has_no_other_end<S: LooseSwitch, M: LawfulManager, H: HostLogic>()
     ensures dropped { (plan : Plan) (limits : Limits) (before moments more : List Moment) (old new last : WorldView) (id h g : ℕ) (cause : Cause) → CanBegin plan →
         WorldRun S.rule M.rule H.rule (booted plan limits) before old → IsSure S.rule M.rule H.rule old moments new id h g →
         1 ≤ ends new.journal id → WorldRun S.rule M.rule H.rule new more last → Contains last.journal (Dropped id cause) → ⊥ }

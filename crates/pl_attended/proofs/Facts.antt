@@ -10,12 +10,12 @@ use Rattle.pl_wiring.specs.Plan.{IsPlan}
 use Rattle.pl_wiring.proofs.LabelOrder.{label_of-edge}
 use Rattle.pl_layouts.specs.declared.place.Place.{Place}
 use Rattle.pl_layouts.specs.Placement.{is_known}
-use Rattle.pl_core.specs.declared.neighbour.Neighbour.{Neighbour}
-use Rattle.pl_core.specs.declared.neighbour.PortRecord.{PortRecord}
-use Rattle.pl_core.specs.Accounting.{IsShaped}
-use Rattle.pl_core.specs.HostDuties.{HoldsData}
-use Rattle.pl_core.specs.PortRecords.{is_open_to_hosts, port_of}
-use Rattle.pl_core.specs.SwitchViews.{SwitchView}
+use Rattle.pl_logic.specs.declared.neighbour.Neighbour.{Neighbour}
+use Rattle.pl_logic.specs.declared.neighbour.PortRecord.{PortRecord}
+use Rattle.pl_logic.specs.Accounting.{IsShaped}
+use Rattle.pl_logic.specs.HostDuties.{HoldsData}
+use Rattle.pl_logic.specs.PortRecords.{is_open_to_hosts, port_of}
+use Rattle.pl_logic.specs.SwitchViews.{SwitchView}
 use Rattle.pl_world.specs.declared.stand.Stand.{Stand}
 use Rattle.pl_world.specs.Flying.{IsDataItem, IsItem}
 use Rattle.pl_world.specs.Worlds.{WorldView}

@@ -6,10 +6,10 @@ use Rattle.std.proofs.lemmas.Option.{none-some}
 use Rattle.pl_wiring.specs.Labels.{switch_count}
 use Rattle.pl_wiring.specs.Peers.{peer_of}
 use Rattle.pl_wiring.specs.Plan.{Plan}
-use Rattle.pl_core.specs.declared.acts.HostAct.{HostAct}
-use Rattle.pl_core.specs.HostDuties.{HostsSendData, HostsSendOwn}
-use Rattle.pl_core.specs.HostInputs.{HostAnswer, HostInput, HostRule}
-use Rattle.pl_core.specs.HostViews.{HostView}
+use Rattle.pl_logic.specs.declared.acts.HostAct.{HostAct}
+use Rattle.pl_logic.specs.HostDuties.{HostsSendData, HostsSendOwn}
+use Rattle.pl_logic.specs.HostInputs.{HostAnswer, HostInput, HostRule}
+use Rattle.pl_logic.specs.HostViews.{HostView}
 use Rattle.pl_host_rule.specs.HostRule.{host_rule}
 use Rattle.pl_journal.specs.declared.entry.Entry.{Entry}
 use Rattle.pl_journal.specs.declared.entry.Entry.TheVariants.{Crossed, Moved, Sent}

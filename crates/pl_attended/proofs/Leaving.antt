@@ -13,14 +13,14 @@ use Rattle.pl_wiring.specs.Index.{port_index}
 use Rattle.pl_wiring.specs.Plan.{Plan}
 use Rattle.pl_wiring.specs.Peers.{peer_of}
 use Rattle.pl_layouts.specs.Control.{is_control}
-use Rattle.pl_core.specs.declared.acts.HostAct.{HostAct}
-use Rattle.pl_core.specs.declared.reception.Reception.{Reception}
-use Rattle.pl_core.specs.declared.reception.Reception.TheVariants.{Kept, NotMember}
-use Rattle.pl_core.specs.HostInputs.{HostAnswer, HostInput, HostRule}
-use Rattle.pl_core.specs.HostInputs.HostInput.{Receives}
-use Rattle.pl_core.specs.HostViews.{HostView}
-use Rattle.pl_core.specs.SwitchInputs.SwitchInput.{Comes}
-use Rattle.pl_core.specs.SwitchViews.{SwitchView}
+use Rattle.pl_logic.specs.declared.acts.HostAct.{HostAct}
+use Rattle.pl_logic.specs.declared.reception.Reception.{Reception}
+use Rattle.pl_logic.specs.declared.reception.Reception.TheVariants.{Kept, NotMember}
+use Rattle.pl_logic.specs.HostInputs.{HostAnswer, HostInput, HostRule}
+use Rattle.pl_logic.specs.HostInputs.HostInput.{Receives}
+use Rattle.pl_logic.specs.HostViews.{HostView}
+use Rattle.pl_logic.specs.SwitchInputs.SwitchInput.{Comes}
+use Rattle.pl_logic.specs.SwitchViews.{SwitchView}
 use Rattle.pl_host_rule.specs.HostRule.{host_rule}
 use Rattle.pl_journal.specs.declared.cause.Cause.TheVariants.{HostGone, NoMember}
 use Rattle.pl_journal.specs.declared.entry.Entry.{Entry}

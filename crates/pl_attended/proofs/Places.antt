@@ -18,7 +18,7 @@ use Rattle.pl_wiring.proofs.Entered.{port_index-below}
 use Rattle.pl_layouts.specs.Equality.{same_mac}
 use Rattle.pl_layouts.specs.Frames.{packet_in}
 use Rattle.pl_layouts.specs.Memberships.{is_group}
-use Rattle.pl_core.specs.HostDuties.{is_of, is_own}
+use Rattle.pl_logic.specs.HostDuties.{is_of, is_own}
 use Rattle.pl_switch_rule.specs.Granting.{sender_ip}
 use Rattle.pl_journal.specs.Lossy.{mac_of_host}
 use Rattle.pl_world.specs.declared.stand.Stand.{Stand}
@@ -211,7 +211,7 @@ boots_apart plan can = λ g h x y at_x at_y edge port.
 
     never : (i j : ℕ) (p q : Host) → slice_get plan.hosts i ≡ Some p → slice_get plan.hosts j ≡ Some q → p.edge.0 ≡ q.edge.0 → p.port ≡ q.port → i < j → ⊥
     never i j p q at_p at_q edges ports less =
-        let apart = can.is_plan.places_apart i j p less (slice_get_within plan.hosts j q at_q) in
+        let apart = can.is_plan.ports_apart i j p less (slice_get_within plan.hosts j q at_q) in
         let first = get_or_from_slice_get plan.hosts i p p at_p in
         let second = get_or_from_slice_get plan.hosts j q p at_q in
         apart (

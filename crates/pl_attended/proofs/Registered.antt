@@ -9,7 +9,7 @@ use Rattle.pl_wiring.specs.declared.host.Host.{Host}
 use Rattle.pl_wiring.specs.Labels.{edge_count, switch_count}
 use Rattle.pl_wiring.specs.Plan.{Plan}
 use Rattle.pl_layouts.specs.Placement.{is_placed}
-use Rattle.pl_core.specs.SwitchViews.{SwitchView}
+use Rattle.pl_logic.specs.SwitchViews.{SwitchView}
 use Rattle.pl_queues.specs.Queues.{has_items, items_at}
 use Rattle.pl_switch_rule.specs.Granting.{address_at_port, grants_at, is_port_spent}
 use Rattle.pl_world.specs.declared.event.QueueName.TheVariants as queue
@@ -23,8 +23,8 @@ use Rattle.pl_addresses.specs.AtRest.{IsRegistered}
 use Rattle.pl_addresses.specs.EdgeAddresses.{is_settled}
 use Rattle.pl_addresses.proofs.Consequences.{served_is_registered}
 use Rattle.pl_addresses.proofs.Numbers.{granted_here, local_here}
-use Rattle.pl_core.specs.HostDuties.{HostsSendData, HostsSendOwn}
-use Rattle.pl_core.specs.HostInputs.{HostRule}
+use Rattle.pl_logic.specs.HostDuties.{HostsSendData, HostsSendOwn}
+use Rattle.pl_logic.specs.HostInputs.{HostRule}
 use Rattle.pl_host_rule.specs.HostRule.{IsHostRule}
 use Rattle.pl_manager_rule.specs.ManagerRule.{manager_rule}
 use Rattle.pl_switch_rule.specs.SwitchRule.{Loose}

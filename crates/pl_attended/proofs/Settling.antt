@@ -7,12 +7,12 @@ use Rattle.pl_frame.specs.declared.address.Mac.{Mac}
 use Rattle.pl_arp.specs.declared.cache.Me.{Me}
 use Rattle.pl_layouts.specs.declared.place.Place.{Place}
 use Rattle.pl_layouts.specs.Placement.{is_known, is_placed}
-use Rattle.pl_core.specs.declared.acts.Act.TheVariants as act
-use Rattle.pl_core.specs.declared.messages.ToManager.TheVariants as tell
-use Rattle.pl_core.specs.declared.switch_records.Grant.{Grant}
-use Rattle.pl_core.specs.declared.switch_records.Source.{Source}
-use Rattle.pl_core.specs.PortRecords.{ports_of_switch}
-use Rattle.pl_core.specs.SwitchViews.{SwitchView}
+use Rattle.pl_logic.specs.declared.acts.Act.TheVariants as act
+use Rattle.pl_logic.specs.declared.messages.ToManager.TheVariants as tell
+use Rattle.pl_logic.specs.declared.switch_records.Grant.{Grant}
+use Rattle.pl_logic.specs.declared.switch_records.Source.{Source}
+use Rattle.pl_logic.specs.PortRecords.{ports_of_switch}
+use Rattle.pl_logic.specs.SwitchViews.{SwitchView}
 use Rattle.pl_steps.specs.Steps.{SwitchStep, rests, ◌▹◌}
 use Rattle.pl_switch_rule.specs.Granting.{address_at_port, forgets, grant_number, grants_at, grants_next, grants_or_learns, grants_remembered, grants_source, in_use, is_port_spent, learns_ip, new_grant, remembered_at, same_ip, with_grant}
 use Rattle.pl_switch_rule.specs.Levels.{changes_to, has_become_placed}

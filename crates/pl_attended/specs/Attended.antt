@@ -3,7 +3,7 @@ use Rattle.std.specs.Prelude.{◌≡◌, ◌⊎◌, ℕ, true, false, List, Opti
 use Rattle.std.specs.List.{list_any}
 use Rattle.pl_arp.specs.declared.cache.Me.{Me}
 use Rattle.pl_wiring.specs.declared.host.Host.{Host}
-use Rattle.pl_core.specs.SwitchViews.{SwitchView}
+use Rattle.pl_logic.specs.SwitchViews.{SwitchView}
 use Rattle.pl_queues.specs.Queues.{items_at}
 use Rattle.pl_switch_rule.specs.Granting.{is_port_spent, remembered_at}
 use Rattle.pl_world.specs.declared.event.QueueName.{QueueName}

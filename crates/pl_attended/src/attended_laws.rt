@@ -10,8 +10,8 @@ ghost use Rattle.pl_world.specs.Worlds.{WorldView};
 ghost use Rattle.pl_attended.specs.Attended.{AreAttended, StandApart};
 ghost use Rattle.pl_attended.specs.Stays.{HasReached, has_reached};
 
-use pl_core::HostCore;
 use pl_host_rule::LawfulHost;
+use pl_logic::HostLogic;
 
 /// A journal says that a host has reached its edge switch exactly where the host sent an ARP frame that can be
 /// read, that frame crossed a switch then, and the host did not move since it sent it.
@@ -29,7 +29,7 @@ pub fn hosts_are_attended_in_every_run<H: LawfulHost>()
 {}
 
 /// In every run no two hosts stand at one place, whatever hosts do.
-pub fn no_two_hosts_stand_at_one_place<H: HostCore>()
+pub fn no_two_hosts_stand_at_one_place<H: HostLogic>()
     ensures { (plan : Plan) (limits : Limits) (moments : List Moment) (new : WorldView) → CanBegin plan →
         WorldRun Loose manager_rule H.rule (booted plan limits) moments new → StandApart new.stands }
 {}

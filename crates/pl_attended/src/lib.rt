@@ -8,7 +8,7 @@ pub use attended_laws::{
 };
 pub use registration_laws::{
     a_host_is_registered_at_rest, a_host_is_registered_at_rest_in_every_run,
-    lawful_cores_register_hosts_at_rest,
+    lawful_logic_registers_hosts_at_rest,
 };
 pub use stood_laws::addresses_are_granted_where_hosts_stood;
 

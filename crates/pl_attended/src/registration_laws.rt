@@ -2,7 +2,7 @@ ghost use Rattle.std.specs.Prelude.{◌≡◌, ℕ, false, true, List};
 ghost use Rattle.pl_wiring.specs.declared.host.Host.{Host};
 ghost use Rattle.pl_wiring.specs.Plan.{Plan};
 ghost use Rattle.pl_layouts.specs.Placement.{is_placed};
-ghost use Rattle.pl_core.specs.SwitchViews.{SwitchView};
+ghost use Rattle.pl_logic.specs.SwitchViews.{SwitchView};
 ghost use Rattle.pl_manager_rule.specs.ManagerRule.{manager_rule};
 ghost use Rattle.pl_switch_rule.specs.Granting.{is_port_spent};
 ghost use Rattle.pl_switch_rule.specs.SwitchRule.{Loose};
@@ -34,8 +34,8 @@ pub fn a_host_is_registered_at_rest_in_every_run<H: LawfulHost>()
         WorldRun Loose manager_rule H.rule (booted plan limits) moments new → NothingWaits new → AreRegistered new }
 {}
 
-/// And in every run of lawful cores.
-pub fn lawful_cores_register_hosts_at_rest<S: LooseSwitch, M: LawfulManager, H: LawfulHost>()
+/// And in every run of lawful logic.
+pub fn lawful_logic_registers_hosts_at_rest<S: LooseSwitch, M: LawfulManager, H: LawfulHost>()
     ensures { (plan : Plan) (limits : Limits) (moments : List Moment) (new : WorldView) → CanBegin plan →
         WorldRun S.rule M.rule H.rule (booted plan limits) moments new → NothingWaits new → AreRegistered new }
 {}

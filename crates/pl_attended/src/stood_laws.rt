@@ -8,11 +8,11 @@ ghost use Rattle.pl_world.specs.Runs.{Moment, WorldRun};
 ghost use Rattle.pl_world.specs.Worlds.{WorldView};
 ghost use Rattle.pl_attended.specs.Stood.{AreStoodFor};
 
-use pl_core::HostCore;
+use pl_logic::HostLogic;
 
 /// In every run each address is granted at its own port, to a host that stands there, or has stood there:
 /// the journal says so, as the one lossy switch wants it of each grant.
-pub fn addresses_are_granted_where_hosts_stood<H: HostCore>()
+pub fn addresses_are_granted_where_hosts_stood<H: HostLogic>()
     ensures { (plan : Plan) (limits : Limits) (moments : List Moment) (new : WorldView) → CanBegin plan →
         WorldRun Loose manager_rule H.rule (booted plan limits) moments new → AreStoodFor new.plan (reverse new.journal) }
 {}

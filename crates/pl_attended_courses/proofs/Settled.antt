@@ -1,11 +1,11 @@
 -- What settlings leave.
 use Rattle.std.proofs.Common.{◌≡◌, ◌<◌, ℕ, List, [], ◌∷◌, ◌++◌, None, refl, sym, subst}
 use Rattle.pl_wiring.specs.Plan.{Plan}
-use Rattle.pl_core.specs.Accounting.{IsWithin}
-use Rattle.pl_core.specs.HostDuties.{HostsSendData, HostsSendOwn}
-use Rattle.pl_core.specs.HostInputs.{HostRule}
-use Rattle.pl_core.specs.ManagerDuties.{ManagerRule}
-use Rattle.pl_core.specs.SwitchInputs.{SwitchRule}
+use Rattle.pl_logic.specs.Accounting.{IsWithin}
+use Rattle.pl_logic.specs.HostDuties.{HostsSendData, HostsSendOwn}
+use Rattle.pl_logic.specs.HostInputs.{HostRule}
+use Rattle.pl_logic.specs.ManagerDuties.{ManagerRule}
+use Rattle.pl_logic.specs.SwitchInputs.{SwitchRule}
 use Rattle.pl_host_rule.specs.HostRule.{IsHostRule}
 use Rattle.pl_manager_rule.specs.Lawful.{IsManagerRule}
 use Rattle.pl_switch_rule.specs.SwitchRule.{Loose}

@@ -14,7 +14,7 @@ use pl_host_rule::LawfulHost;
 use pl_manager_rule::LawfulManager;
 use pl_switch_rule::LooseSwitch;
 
-/// A script that is played on lawful cores and leaves the fabric at rest leaves its hosts registered so.
+/// A script that is played on lawful logic and leaves the fabric at rest leaves its hosts registered so.
 pub fn a_script_that_ends_at_rest_leaves_hosts_registered<
     S: LooseSwitch,
     M: LawfulManager,

@@ -18,7 +18,7 @@ pub fn a_fabric_at_rest_has_empty_queues()
     ensures { (w : WorldView) → IsAtRest w → NothingWaits w }
 {}
 
-/// So at each moment of a run of lawful cores at which the fabric is at rest, each host is registered where it
+/// So at each moment of a run of lawful logic at which the fabric is at rest, each host is registered where it
 /// stands whose edge switch is placed, of which an ARP frame that can be read reached that switch since it came
 /// there, and at whose port not all addresses were given.
 pub fn a_fabric_at_rest_has_its_hosts_registered<S: LooseSwitch, M: LawfulManager, H: LawfulHost>()

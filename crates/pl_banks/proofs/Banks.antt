@@ -2,11 +2,11 @@
 use Rattle.std.proofs.Common.{◌≡◌, ℕ, Option, None, Some, MatchOption, IfSome, ◌-◌, ◌<◌, ◌≤◌, Bool, true, false, List, [], ◌∷◌, ◌++◌, map, length, replicate, slice_get, slice_set, sym, refl, ap, ◌∙◌, zero, suc, arith}
 use Rattle.std.specs.List.{filter, range_with_len}
 use Rattle.std.proofs.lemmas.List.{map-set, length-map, set-get_or}
-use Rattle.pl_queues.specs.Queues.{filled_places, has_items, items_at, next_filled, next_place}
+use Rattle.pl_queues.specs.Queues.{filled_indices, has_items, items_at, next_filled, next_index}
 use Rattle.pl_banks.specs.Bits.{is_marked, next_marked}
-use Rattle.pl_banks.specs.Tallies.{marked_places}
-use Rattle.pl_banks.proofs.Ranges.{filter_same, place_below}
-use Rattle.pl_banks.proofs.Places.{find_same, next_place_is_least}
+use Rattle.pl_banks.specs.Tallies.{marked_indices}
+use Rattle.pl_banks.proofs.Ranges.{filter_same, index_below}
+use Rattle.pl_banks.proofs.Places.{find_same, next_index_is_least}
 
 module _ {T : Type 0} where
   -- a queue changes, and its mark with it
@@ -72,7 +72,7 @@ module _ {T : Type 0} where
       → next_marked marks from ≡ next_filled queues from
   next_mark_is_next_filled marks queues from marked =
       ap (λ m. next_marked m from) marked
-      ∙ ap (λ n. next_place (is_marked (map has_items queues)) n from) (length-map queues has_items)
+      ∙ ap (λ n. next_index (is_marked (map has_items queues)) n from) (length-map queues has_items)
       ∙ find_same (is_marked (map has_items queues)) (λ at. has_items (items_at queues at)) (is_marked-map queues) (range_with_len from (length queues - from))
 
   -- the next queue that has items is one of the bank
@@ -80,22 +80,22 @@ module _ {T : Type 0} where
       → IfSome answer (λ at. (from ≤ at) × (at < length queues) × (has_items (items_at queues at) ≡ true))
   next_filled_is_there queues from None e = tt
   next_filled_is_there queues from (Some at) e =
-      let found = next_place_is_least (λ k. has_items (items_at queues k)) (length queues) from (Some at) e in
+      let found = next_index_is_least (λ k. has_items (items_at queues k)) (length queues) from (Some at) e in
       (found.0.reached, found.1, found.0.passes)
 
 -- the marked places are those whose queues have items
-pub marked_are_filled : {T : Type 0} (marks : List Bool) (queues : List (List T)) → marks ≡ map has_items queues → marked_places marks ≡ filled_places queues
+pub marked_are_filled : {T : Type 0} (marks : List Bool) (queues : List (List T)) → marks ≡ map has_items queues → marked_indices marks ≡ filled_indices queues
 marked_are_filled marks queues marked =
-    ap marked_places marked
+    ap marked_indices marked
     ∙ ap (λ n. filter (is_marked (map has_items queues)) (range_with_len 0 n)) (length-map queues has_items)
     ∙ filter_same (is_marked (map has_items queues)) (λ at. has_items (items_at queues at)) (is_marked-map queues) (range_with_len 0 (length queues))
 
 -- each is a place of the bank
-pub filled_is_there : {T : Type 0} (queues : List (List T)) (i : ℕ) (answer : Option ℕ) → answer ≡ slice_get (filled_places queues) i
+pub filled_is_there : {T : Type 0} (queues : List (List T)) (i : ℕ) (answer : Option ℕ) → answer ≡ slice_get (filled_indices queues) i
     → IfSome answer (λ at. at < length queues)
 filled_is_there queues i None is = tt
 filled_is_there queues i (Some at) is =
-    let low = place_below (λ at. has_items (items_at queues at)) (length queues) 0 i at (sym is) in
+    let low = index_below (λ at. has_items (items_at queues at)) (length queues) 0 i at (sym is) in
     omega arith
 
 -- queues that are all empty have no mark

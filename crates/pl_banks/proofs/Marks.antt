@@ -6,9 +6,9 @@ use Rattle.std.proofs.lemmas.List.{get_or_past, get_or-set_same, get_or-set_othe
 use Rattle.std.proofs.lemmas.List.FromFn.{length-map-range_with_len, get_or-map-range_with_len}
 use Rattle.std.proofs.lemmas.Nat.{and_le_l}
 use Rattle.std.proofs.lemmas.Nat.Bits.{bit_at_set_same, bit_at_set_other, bit_at_clear_same, bit_at_clear_other}
-use Rattle.pl_queues.specs.Queues.{next_place}
+use Rattle.pl_queues.specs.Queues.{next_index}
 use Rattle.pl_banks.specs.Bits.{is_marked, next_marked, is_set, has_bit, with_bit, without_bit, marks_of, IsNext, IsTwoLevel}
-use Rattle.pl_banks.proofs.Places.{find_same, next_place_is}
+use Rattle.pl_banks.proofs.Places.{find_same, next_index_is}
 use Rattle.pl_banks.proofs.WordBits.{is_set-zero, has_bit-changed_same, has_bit-changed_other}
 
 -- there is a mark for each place
@@ -39,9 +39,9 @@ is_marked-marks_of words n within at =
 pub next_bit_is_next_mark : (words : List ℕ) (n from : ℕ) (answer : Option ℕ) → ((at : ℕ) → has_bit words at ≡ true → at < n)
     → IsNext (has_bit words) from answer → answer ≡ next_marked (marks_of words n) from
 next_bit_is_next_mark words n from answer within h =
-    next_place_is (has_bit words) n from answer h within
+    next_index_is (has_bit words) n from answer h within
     ∙ find_same (has_bit words) (is_marked (marks_of words n)) (λ at. sym (is_marked-marks_of words n within at)) (range_with_len from (n - from))
-    ∙ ap (λ m. next_place (is_marked (marks_of words n)) m from) (sym (length-marks_of words n))
+    ∙ ap (λ m. next_index (is_marked (marks_of words n)) m from) (sym (length-marks_of words n))
 
 -- past the last mark there is none
 pub no_next_mark : (marks : List Bool) (from : ℕ) → length marks ≤ from → None ≡ next_marked marks from
@@ -250,5 +250,5 @@ IsTwoLevel-zeros n count above room room_above = record {
 }
 
 -- a place of the marks is below n
-pub place_below : (words : List ℕ) (n at : ℕ) (marks : List Bool) → marks_of words n ≡ marks → at < length marks → at < n
-place_below words n at marks e h = omega (arith, ap length e, length-marks_of words n)
+pub index_below : (words : List ℕ) (n at : ℕ) (marks : List Bool) → marks_of words n ≡ marks → at < length marks → at < n
+index_below words n at marks e h = omega (arith, ap length e, length-marks_of words n)

@@ -2,7 +2,7 @@
 use Rattle.std.proofs.Common.{◌≡◌, ℕ, zero, suc, ◌+◌, ◌-◌, ◌<◌, ◌≤◌, Bool, true, false, cond, List, [], ◌∷◌, Option, None, Some, MatchOption, sym, refl, ap, subst, ◌∙◌, inl, inr, arith}
 use Rattle.std.specs.List.{find, range_with_len}
 use Rattle.std.proofs.lemmas.Bool.{cases_eq}
-use Rattle.pl_queues.specs.Queues.{next_place}
+use Rattle.pl_queues.specs.Queues.{next_index}
 use Rattle.pl_banks.specs.Bits.{IsLeast, IsNext}
 
 -- tests that agree find the same
@@ -28,10 +28,10 @@ module _ (test : ℕ → Bool) where
       ∙ find_nothing n (from + 1) (λ k low. h k (omega arith))
 
   -- an answer that is the least, or none where none passes, is the next place
-  pub next_place_is : (n from : ℕ) (answer : Option ℕ) → IsNext test from answer → ((at : ℕ) → test at ≡ true → at < n)
-      → answer ≡ next_place test n from
-  next_place_is n from None h within = sym (find_nothing (n - from) from h)
-  next_place_is n from (Some at) h within =
+  pub next_index_is : (n from : ℕ) (answer : Option ℕ) → IsNext test from answer → ((at : ℕ) → test at ≡ true → at < n)
+      → answer ≡ next_index test n from
+  next_index_is n from None h within = sym (find_nothing (n - from) from h)
+  next_index_is n from (Some at) h within =
       let low = h.reached in
       let high : at < n = within at h.passes in
       sym (find_least (n - from) from at h (omega arith))
@@ -68,9 +68,9 @@ module _ (test : ℕ → Bool) where
       ] refl
 
   -- the next place is the least that passes, and below n; where there is none, none of those below n passes
-  pub next_place_is_least : (n from : ℕ) (answer : Option ℕ) → answer ≡ next_place test n from
+  pub next_index_is_least : (n from : ℕ) (answer : Option ℕ) → answer ≡ next_index test n from
       → MatchOption answer ((k : ℕ) → from ≤ k → k < n → test k ≡ false) (λ at. IsLeast test from at × (at < n))
-  next_place_is_least n from answer e =
+  next_index_is_least n from answer e =
       subst (λ o. MatchOption o ((k : ℕ) → from ≤ k → k < n → test k ≡ false) (λ at. IsLeast test from at × (at < n))) (sym e)
       (within n from (find test (range_with_len from (n - from))) (found_is_least (n - from) from))
     where

@@ -55,9 +55,9 @@ module _ (test : ℕ → Bool) where
   one_more true from rest (suc i) at is = inr (i, is)
   one_more false from rest i at is = inr (i, is)
 
-  pub place_below : (n from i at : ℕ) → slice_get (those from n) i ≡ Some at → at < from + n
-  place_below zero from i at is = absurd (none-some at is)
-  place_below (suc n) from i at is = elim (one_more (test from) from (those (from + 1) n) i at is) [
+  pub index_below : (n from i at : ℕ) → slice_get (those from n) i ≡ Some at → at < from + n
+  index_below zero from i at is = absurd (none-some at is)
+  index_below (suc n) from i at is = elim (one_more (test from) from (those (from + 1) n) i at is) [
     | inl first ↦ omega arith
-    | inr later ↦ let low = place_below n (from + 1) later.0 at later.1 in omega arith
+    | inr later ↦ let low = index_below n (from + 1) later.0 at later.1 in omega arith
   ]

@@ -8,7 +8,7 @@ use Rattle.std.proofs.lemmas.List.Sums.{count_by-le-length, length-filter}
 use Rattle.std.proofs.lemmas.List.FromFn.{length-range_with_len, length-map-range_with_len, get_or-map-range_with_len}
 use Rattle.std.proofs.lemmas.Option.{slice_get_past}
 use Rattle.pl_banks.specs.Bits.{is_marked}
-use Rattle.pl_banks.specs.Tallies.{IsSummed, IsTally, is_counted, leaves_of, marked_places, marks_in}
+use Rattle.pl_banks.specs.Tallies.{IsSummed, IsTally, is_counted, leaves_of, marked_indices, marks_in}
 use Rattle.pl_banks.proofs.Ranges.{filter_same, none_there, slice_get_left, slice_get_right, those, those_split}
 
 pub some_leaves : (levels : ℕ) → 0 < leaves_of levels
@@ -136,7 +136,7 @@ module _ (width : ℕ) (tree : List ℕ) (is : IsSummed width tree) where
       )
 
 -- no more places are marked than there are
-pub few_marked : (marks : List Bool) → length (marked_places marks) ≤ length marks
+pub few_marked : (marks : List Bool) → length (marked_indices marks) ≤ length marks
 few_marked marks =
     let kept = length-filter (is_marked marks) (range_with_len 0 (length marks)) in
     let few = count_by-le-length (is_marked marks) (range_with_len 0 (length marks)) in
@@ -144,21 +144,21 @@ few_marked marks =
 
 -- what a tally counts
 module _ (n levels width : ℕ) (tree : List ℕ) (is : IsTally n levels width tree) where
-  abbrev all_places : List ℕ
-  all_places = those (is_counted width tree) 0 n
+  abbrev all_indices : List ℕ
+  all_indices = those (is_counted width tree) 0 n
 
   not_past : (k : ℕ) → n ≤ k → is_counted width tree k ≡ false
   not_past k past = ap (λ count. count == 1) (is.none k past)
 
-  whole : those (is_counted width tree) 0 width ≡ all_places
+  whole : those (is_counted width tree) 0 width ≡ all_indices
   whole =
       let room = is.room in
       let many : width ≡ n + (width - n) = omega arith in
       let place : 0 + n ≡ n = omega arith in
       ap (those (is_counted width tree) 0) many ∙ those_split (is_counted width tree) n (width - n) 0
-      ∙ ap (λ a. all_places ++ those (is_counted width tree) a (width - n)) place
-      ∙ ap (λ l. all_places ++ l) (none_there (is_counted width tree) (width - n) n not_past)
-      ∙ append-nil all_places
+      ∙ ap (λ a. all_indices ++ those (is_counted width tree) a (width - n)) place
+      ∙ ap (λ l. all_indices ++ l) (none_there (is_counted width tree) (width - n) n not_past)
+      ∙ append-nil all_indices
 
   pub length-marks_in : length (marks_in width tree n) ≡ n
   unfolding marks_in
@@ -171,7 +171,7 @@ module _ (n levels width : ℕ) (tree : List ℕ) (is : IsTally n levels width t
     | inr past ↦ get_or_past (marks_in width tree n) at false (omega (arith, past, length-marks_in)) ∙ sym (not_past at past)
   ]
 
-  pub marked_are : marked_places (marks_in width tree n) ≡ those (is_counted width tree) 0 width
+  pub marked_are : marked_indices (marks_in width tree n) ≡ those (is_counted width tree) 0 width
   marked_are =
       ap (λ m. filter (is_marked (marks_in width tree n)) (range_with_len 0 m)) length-marks_in
       ∙ filter_same (is_marked (marks_in width tree n)) (is_counted width tree) mark_is (range_with_len 0 n)
@@ -191,12 +191,12 @@ module _ (n levels width : ℕ) (tree : List ℕ) (is : IsTally n levels width t
       omega arith
 
   -- the root counts all
-  pub count_is : slice_index tree 1 ≡ length (marked_places (marks_in width tree n))
+  pub count_is : slice_index tree 1 ≡ length (marked_indices (marks_in width tree n))
   count_is = sym (ap length marked_are ∙ root_counts)
 
   -- the way down begins at the root
   pub leads_from_root : (i : ℕ) → i < slice_index tree 1
-      → LeadsTo width tree (slice_get (marked_places (marks_in width tree n)) i) levels 1 i
+      → LeadsTo width tree (slice_get (marked_indices (marks_in width tree n)) i) levels 1 i
   leads_from_root i some =
       let leaves = is.leaves in
       let place : 0 ≡ 1 * leaves_of levels - width = omega arith in
@@ -210,5 +210,5 @@ module _ (n levels width : ℕ) (tree : List ℕ) (is : IsTally n levels width t
             ∙ ap (λ a. slice_get (those (is_counted width tree) a (leaves_of levels)) i) place;
       }
 
-  pub none_from_root : (i : ℕ) → slice_index tree 1 ≤ i → None ≡ slice_get (marked_places (marks_in width tree n)) i
-  none_from_root i past = sym (slice_get_past (marked_places (marks_in width tree n)) i (omega (arith, past, count_is)))
+  pub none_from_root : (i : ℕ) → slice_index tree 1 ≤ i → None ≡ slice_get (marked_indices (marks_in width tree n)) i
+  none_from_root i past = sym (slice_get_past (marked_indices (marks_in width tree n)) i (omega (arith, past, count_is)))

@@ -122,9 +122,9 @@ module _ (words : List ℕ) (at word : ℕ) (b : Bool) where
       ]
 
 -- where bits are set below a number alone, the place of a set bit is below it
-pub place_of_bit : (words : List ℕ) (n w b : ℕ) → ((at : ℕ) → has_bit words at ≡ true → at < n) → is_set (slice_index words w) b ≡ true → b < 64
+pub index_of_bit : (words : List ℕ) (n w b : ℕ) → ((at : ℕ) → has_bit words at ≡ true → at < n) → is_set (slice_index words w) b ≡ true → b < 64
     → w * 64 + b < n
-place_of_bit words n w b within set small = within (w * 64 + b) (has_bit_at words w b small ∙ set)
+index_of_bit words n w b within set small = within (w * 64 + b) (has_bit_at words w b small ∙ set)
 
 -- words whose bits above are clear have no bit
 pub none_between : (words filled : List ℕ) (from w : ℕ) → ((k : ℕ) → from ≤ k → k / 64 < from / 64 + 1 → has_bit words k ≡ false)

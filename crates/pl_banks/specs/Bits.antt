@@ -2,7 +2,7 @@
 use Rattle.std.specs.Prelude.{◌≡◌, ℕ, ◌*◌, ◌/◌, ◌%◌, ◌^◌, ◌<◌, ◌≤◌, ◌==◌, Bool, true, false, not, List, [], ◌∷◌, length, map, Option, None, Some, MatchOption, slice_index, slice_index_or, bit_and, bit_or, refl}
 use Rattle.std.specs.Int.{bit_at, bit_not, w64}
 use Rattle.std.specs.List.{range_with_len}
-use Rattle.pl_queues.specs.Queues.{next_place}
+use Rattle.pl_queues.specs.Queues.{next_index}
 
 -- whether a place is marked; past the last none is
 abbrev pub is_marked : List Bool → ℕ → Bool
@@ -10,7 +10,7 @@ is_marked marks at = slice_index_or marks at false
 
 -- the first marked place from `from` on
 abbrev pub next_marked : List Bool → ℕ → Option ℕ
-next_marked marks from = next_place (is_marked marks) (length marks) from
+next_marked marks from = next_index (is_marked marks) (length marks) from
 
 -- whether a bit of a word is set
 abbrev pub is_set : ℕ → ℕ → Bool
@@ -53,9 +53,9 @@ pub record IsTwoLevel (n : ℕ) (words filled : List ℕ) : Type 0 where
   pub summary : (word : ℕ) → has_bit filled word ≡ not (slice_index words word == 0)
 
 -- bits 1 and 66 of two words are the marks of the places 1 and 66
-pub two_words_mark_two_places
+pub two_words_mark_two_indices
     : (next_marked (marks_of (2 ∷ 4 ∷ []) 100) 0 ≡ Some 1)
     × (next_marked (marks_of (2 ∷ 4 ∷ []) 100) 2 ≡ Some 66)
     × (next_marked (marks_of (2 ∷ 4 ∷ []) 100) 67 ≡ None)
 unfolding marks_of
-two_words_mark_two_places = (refl, refl, refl)
+two_words_mark_two_indices = (refl, refl, refl)

@@ -4,8 +4,8 @@ use Rattle.std.specs.List.{filter, range_with_len}
 use Rattle.pl_banks.specs.Bits.{is_marked}
 
 -- the marked places, rising
-abbrev pub marked_places : List Bool → List ℕ
-marked_places marks = filter (is_marked marks) (range_with_len 0 (length marks))
+abbrev pub marked_indices : List Bool → List ℕ
+marked_indices marks = filter (is_marked marks) (range_with_len 0 (length marks))
 
 -- how many leaves a tree of so many levels has
 abbrev pub leaves_of : ℕ → ℕ
@@ -39,6 +39,6 @@ pub record IsTally (n levels width : ℕ) (tree : List ℕ) : Type 0 where
 
 -- of four places 1 and 2 are marked: number 1 of the marked ones is place 2, and there is no number 2
 two_of_four
-    : (slice_get (marked_places (false ∷ true ∷ true ∷ false ∷ [])) 1 ≡ Some 2)
-    × (slice_get (marked_places (false ∷ true ∷ true ∷ false ∷ [])) 2 ≡ None)
+    : (slice_get (marked_indices (false ∷ true ∷ true ∷ false ∷ [])) 1 ≡ Some 2)
+    × (slice_get (marked_indices (false ∷ true ∷ true ∷ false ∷ [])) 2 ≡ None)
 two_of_four = (refl, refl)

@@ -1,6 +1,6 @@
 ghost use Rattle.std.specs.Prelude.{◌≡◌, ◌<◌, ◌≤◌, true, false, IfOk, length, replicate, slice_get, slice_set};
 ghost use Rattle.pl_banks.specs.Bits.{is_marked, next_marked};
-ghost use Rattle.pl_banks.specs.Tallies.{marked_places};
+ghost use Rattle.pl_banks.specs.Tallies.{marked_indices};
 
 use crate::tally::Tally;
 use crate::words::WordSet;
@@ -76,7 +76,7 @@ impl BitSet {
 
     /// How many places are in the set, in constant time.
     pub fn count(&self) -> usize
-        ensures count { result ≡ length (marked_places self.now) }
+        ensures count { result ≡ length (marked_indices self.now) }
         ensures within { result ≤ length self.now }
     {
         self.tally.count()
@@ -84,7 +84,7 @@ impl BitSet {
 
     /// Number i of the places of the set, in rising order; none past the last.
     pub fn nth(&self, i: usize) -> Option<usize>
-        ensures { result ≡ slice_get (marked_places self.now) i }
+        ensures { result ≡ slice_get (marked_indices self.now) i }
     {
         self.tally.nth(i)
     }
@@ -96,7 +96,7 @@ mod tests {
     use std::test::Fail;
 
     #[test]
-    fn places_are_found_across_words(rt: HostRuntime) -> Result<(), Fail> {
+    fn indices_are_found_across_words(rt: HostRuntime) -> Result<(), Fail> {
         let mut set = BitSet::new(rt.alloc(), 10_000)?;
         assert_eq!(rt; set.len(), 10_000);
         assert_eq!(rt; set.next(0), None);

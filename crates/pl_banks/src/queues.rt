@@ -1,6 +1,6 @@
 ghost use Rattle.std.specs.Prelude.{◌≡◌, ◌↔◌, ◌<◌, ◌≤◌, ◌++◌, ◌∷◌, [], IfOk, IfSome, IsTrue, MatchOption, OnErr, OnOk, length, replicate, slice_get, slice_set, true};
 ghost use Rattle.std.specs.Option.{option_copied};
-ghost use Rattle.pl_queues.specs.Queues.{filled_places, has_items, items_at, next_filled};
+ghost use Rattle.pl_queues.specs.Queues.{filled_indices, has_items, items_at, next_filled};
 
 use crate::BitSet;
 use crate::lists::Lists;
@@ -75,15 +75,15 @@ impl<T> Queues<T> {
 
     /// How many queues have items, in constant time.
     pub fn filled_count(&self) -> usize
-        ensures count { result ≡ length (filled_places self.now) }
+        ensures count { result ≡ length (filled_indices self.now) }
         ensures within { result ≤ length self.now }
     {
         self.filled.count()
     }
 
     /// Number i of the places whose queues have items, in rising order; none past the last.
-    pub fn filled_place(&self, i: usize) -> Option<usize>
-        ensures number { result ≡ slice_get (filled_places self.now) i }
+    pub fn filled_index(&self, i: usize) -> Option<usize>
+        ensures number { result ≡ slice_get (filled_indices self.now) i }
         ensures there { IfSome result (λ at. at < length self.now) }
     {
         self.filled.nth(i)
@@ -152,7 +152,7 @@ mod tests {
         bank.put(3, 9)?;
         assert_eq!(rt; bank.next_filled(4), Some(70));
         assert_eq!(rt; bank.filled_count(), 2);
-        assert_eq!(rt; bank.filled_place(1), Some(70));
+        assert_eq!(rt; bank.filled_index(1), Some(70));
         assert_eq!(rt; bank.first(70), Some(&1));
         assert_eq!(rt; bank.take(70), Some(1));
         assert_eq!(rt; bank.len_at(70), 1);

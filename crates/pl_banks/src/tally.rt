@@ -1,6 +1,6 @@
 ghost use Rattle.std.specs.Prelude.{◌≡◌, ℕ, ◌+◌, ◌<◌, ◌≤◌, Some, cond, false, IfOk, length, replicate, slice_get, slice_index, slice_set};
 ghost use Rattle.std.specs.List.{filter, range_with_len};
-ghost use Rattle.pl_banks.specs.Tallies.{is_counted, leaves_of, marked_places, IsSummed};
+ghost use Rattle.pl_banks.specs.Tallies.{is_counted, leaves_of, marked_indices, IsSummed};
 
 use crate::counted::one_if;
 use pl_pool::Memory;
@@ -55,14 +55,14 @@ impl Tally {
 
     /// How many marks are set.
     pub(crate) fn count(&self) -> usize
-        ensures { result ≡ length (marked_places self.now) }
+        ensures { result ≡ length (marked_indices self.now) }
     {
         self.tree[1]
     }
 
     /// The place of number i of those that are marked, in rising order; none past the last.
     pub(crate) fn nth(&self, i: usize) -> Option<usize>
-        ensures { result ≡ slice_get (marked_places self.now) i }
+        ensures { result ≡ slice_get (marked_indices self.now) i }
     {
         if i >= self.tree[1] {
             return None;

@@ -1,5 +1,5 @@
 pub mod Examples
-pub mod Places
+pub mod Cursors
 pub mod Reading
 pub mod Spelled
 pub mod Standing

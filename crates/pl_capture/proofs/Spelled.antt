@@ -61,7 +61,7 @@ header_of-heading h more (inr nanos) =
     subst (λ (magic : ℕ). header_of (heading_bytes (heading h.order magic h.zone h.accuracy h.snapshot) ++ more) ≡ Ok (Some h.order))
     (sym nanos) (header_of-nanos h.order h.zone h.accuracy h.snapshot more)
 
--- A record, by its place in the packet's bytes.
+-- A record, by its offset in the packet's bytes.
 
 packet-length : (order : Endianness) (p : Packet) →
     length (packet_bytes order p) ≡ 16 + length p.frame

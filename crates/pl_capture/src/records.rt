@@ -2,7 +2,7 @@ ghost use Rattle.std.specs.Prelude.{◌≡◌, ◌+◌, ◌<◌, ◌≤◌, List
 ghost use Rattle.pl_capture.specs.declared.records.Captured.{Captured};
 ghost use Rattle.pl_capture.specs.Record.{behind};
 ghost use Rattle.pl_capture.specs.Capture.{reading_of};
-ghost use Rattle.pl_capture.specs.Records.{begin_of, record_at, place_after, tail_of, HasRead, IsPlaceIn};
+ghost use Rattle.pl_capture.specs.Records.{begin_of, record_at, cursor_after, tail_of, HasRead, IsCursorIn};
 
 use crate::endianness::Endianness;
 use crate::error::CaptureError;
@@ -26,8 +26,8 @@ pub struct Captured {
     pub original: u32,
 }
 
-/// A reading place in a capture file. The file itself is handed in at each call, and has to be one
-/// that the place stands in: that which [`Records::begin`] was given.
+/// A reading cursor in a capture file. The file itself is handed in at each call, and has to be one
+/// that the cursor stands in: that which [`Records::begin`] was given.
 #[derive(Clone, Copy, Debug, PartialEq, Eq)]
 pub struct Records {
     endianness: Option<Endianness>,
@@ -35,7 +35,7 @@ pub struct Records {
 }
 
 impl Records {
-    /// The place before the first record. A file below 24 bytes has no record, and is all tail.
+    /// The cursor before the first record. A file below 24 bytes has no record, and is all tail.
     ///
     /// The header is refused as [`CaptureError::BadMagic`], then [`CaptureError::BadVersion`], then
     /// [`CaptureError::BadLink`].
@@ -43,10 +43,10 @@ impl Records {
         ensures exact { result ≡ begin_of file.now }
 
         // No record was read yet, or the file has no reading.
-        ensures ok { IfOk result (λ place. HasRead file.now [] place) }
+        ensures ok { IfOk result (λ cursor. HasRead file.now [] cursor) }
         ensures err { IfErr result (λ e. reading_of file.now ≡ Err e) }
     {
-        let place = match read_header(file)? {
+        let cursor = match read_header(file)? {
             Some(order) => Records {
                 endianness: Some(order),
                 at: HEADER_LEN,
@@ -56,17 +56,17 @@ impl Records {
                 at: 0,
             },
         };
-        Ok(place)
+        Ok(cursor)
     }
 
-    /// Reads the record at this place and moves behind it. None is answered exactly where no whole
+    /// Reads the record at this cursor and moves behind it. None is answered exactly where no whole
     /// record follows, and [`CaptureError::BadRecord`] exactly where a whole head has a captured
-    /// length above 262,144; the place then stays, so the next call answers the same again.
+    /// length above 262,144; the cursor then stays, so the next call answers the same again.
     pub fn next(&mut self, file: &[u8]) -> Result<Option<Captured>, CaptureError>
-        requires { IsPlaceIn file.now self.old }
+        requires { IsCursorIn file.now self.old }
         ensures exact { result ≡ record_at file.now self.old }
-        ensures place { self.new ≡ place_after self.old result }
-        ensures same_file { IsPlaceIn file.now self.new }
+        ensures cursor { self.new ≡ cursor_after self.old result }
+        ensures same_file { IsCursorIn file.now self.new }
 
         // The records that were read so far, and this one, are the first of the file.
         ensures found { (records : List Captured) → HasRead file.now records self.old →
@@ -94,14 +94,14 @@ impl Records {
     /// The number of bytes behind the last record that was read, or behind the header where none
     /// was; of a file below 24 bytes its length.
     pub fn tail(&self, file: &[u8]) -> u64
-        requires { IsPlaceIn file.now self.now }
+        requires { IsCursorIn file.now self.now }
         ensures { result ≡ tail_of file.now self.now }
     {
         self.room(file) as u64
     }
 
     fn room(&self, file: &[u8]) -> usize
-        requires { IsPlaceIn file.now self.now }
+        requires { IsCursorIn file.now self.now }
         ensures { result + self.now.at ≡ length file.now }
     {
         file.len() - self.at
@@ -109,7 +109,7 @@ impl Records {
 
     #[tactic(auto, unfolding(crate::specs::Record::record_in))]
     fn record(&self, file: &[u8]) -> Result<Option<Captured>, CaptureError>
-        requires { IsPlaceIn file.now self.now }
+        requires { IsCursorIn file.now self.now }
         ensures exact { result ≡ record_at file.now self.now }
         ensures within { IfOk result (λ found. IfSome found (λ c. behind c ≤ length file.now)) }
     {

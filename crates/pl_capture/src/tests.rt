@@ -71,12 +71,12 @@ fn walk(alloc: Global, file: &[u8]) -> Result<(Vec<Captured>, u64), WalkError>
     ensures ok { IfOk result (λ read. reading_of file.now ≡ Ok (read.0.items, read.1)) }
     ensures refused { (e : CaptureError) → result ≡ Err (Refused e) → reading_of file.now ≡ Err e }
 {
-    let mut place = Records::begin(file)?;
+    let mut cursor = Records::begin(file)?;
     let mut records = Vec::new(alloc);
-    while let Some(captured) = place.next(file)? {
+    while let Some(captured) = cursor.next(file)? {
         records.push(captured)?;
     }
-    let tail = place.tail(file);
+    let tail = cursor.tail(file);
     Ok((records, tail))
 }
 
@@ -225,11 +225,11 @@ fn the_longest_captured_length_is_262144(rt: HostRuntime) -> Result<(), Fail> {
 fn a_refused_record_is_refused_again(rt: HostRuntime) -> Result<(), Fail> {
     let mut file = BIG;
     file[51] = 0x10;
-    let mut place = Records::begin(&file)?;
-    assert_eq!(rt; place.next(&file)?, Some(FIRST));
-    assert_eq!(rt; place.next(&file), Err(CaptureError::BadRecord(42)));
-    assert_eq!(rt; place.next(&file), Err(CaptureError::BadRecord(42)));
-    assert_eq!(rt; place.tail(&file), 17);
+    let mut cursor = Records::begin(&file)?;
+    assert_eq!(rt; cursor.next(&file)?, Some(FIRST));
+    assert_eq!(rt; cursor.next(&file), Err(CaptureError::BadRecord(42)));
+    assert_eq!(rt; cursor.next(&file), Err(CaptureError::BadRecord(42)));
+    assert_eq!(rt; cursor.tail(&file), 17);
     Ok(())
 }
 

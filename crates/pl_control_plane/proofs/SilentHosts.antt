@@ -14,12 +14,12 @@ use Rattle.pl_layouts.specs.Memberships.{changes_in, group_number, is_group, mem
 use Rattle.pl_layouts.specs.Placement.{is_placed}
 use Rattle.pl_journal.specs.declared.cause.Cause.TheVariants.{BadArp, NotPlaced, Spent}
 use Rattle.pl_journal.specs.Places.{are_alike}
-use Rattle.pl_core.specs.declared.acts.Act.TheVariants as act
-use Rattle.pl_core.specs.declared.switch_records.Grant.{Grant}
-use Rattle.pl_core.specs.declared.switch_records.Member.{Member}
-use Rattle.pl_core.specs.declared.trap.Trap.{Trap}
-use Rattle.pl_core.specs.PortRecords.{port_of}
-use Rattle.pl_core.specs.SwitchViews.{SwitchView}
+use Rattle.pl_logic.specs.declared.acts.Act.TheVariants as act
+use Rattle.pl_logic.specs.declared.switch_records.Grant.{Grant}
+use Rattle.pl_logic.specs.declared.switch_records.Member.{Member}
+use Rattle.pl_logic.specs.declared.trap.Trap.{Trap}
+use Rattle.pl_logic.specs.PortRecords.{port_of}
+use Rattle.pl_logic.specs.SwitchViews.{SwitchView}
 use Rattle.pl_steps.specs.Steps.{SwitchStep, does, rests, ◌▹◌}
 use Rattle.pl_switch_rule.specs.declared.came.Came.TheVariants.{FromHost}
 use Rattle.pl_switch_rule.specs.Delivering.{arrives_home, destination, makes}
@@ -31,7 +31,7 @@ use Rattle.pl_switch_rule.specs.Messages.{floods, forgets_members, invalidates, 
 use Rattle.pl_switch_rule.specs.SwitchRule.{IsChoice}
 use Rattle.pl_control_plane.specs.Homes.{HasHomes}
 use Rattle.pl_control_plane.proofs.SilentFrames.{arrives_home_silent, filter_keeps, forwards_group_silent, forwards_silent, granted_host, makes_silent}
-use Rattle.pl_core.specs.declared.messages.ToManager.TheVariants.{Members}
+use Rattle.pl_logic.specs.declared.messages.ToManager.TheVariants.{Members}
 use Rattle.pl_control_plane.proofs.Silent.{IsSilent, IsStill, grants_homes, seen_self, silent_if, silent_then, still_does, still_flat_map, still_if, still_step}
 
 -- Members.

@@ -4,8 +4,8 @@ use Rattle.std.proofs.lemmas.Bool.{cases_eq, or_right}
 use Rattle.pl_wiring.specs.Index.{port_index}
 use Rattle.pl_wiring.specs.Labels.{switch_count}
 use Rattle.pl_wiring.proofs.Entered.{entry_at-in_range, same_port}
-use Rattle.pl_core.specs.declared.messages.ToManager.{ToManager}
-use Rattle.pl_core.specs.declared.messages.ToSwitch.{ToSwitch}
+use Rattle.pl_logic.specs.declared.messages.ToManager.{ToManager}
+use Rattle.pl_logic.specs.declared.messages.ToSwitch.{ToSwitch}
 use Rattle.pl_queues.specs.Queues.{items_at}
 use Rattle.pl_world.specs.declared.item.Item.{Item}
 use Rattle.pl_world.specs.Changes.{out_of}

@@ -1,8 +1,8 @@
 -- Where a switch knows hosts: at host ports alone.
 use Rattle.std.specs.Prelude.{◌≡◌, ℕ, true, false, [], None}
 use Rattle.std.specs.List.{AllByRecursion}
-use Rattle.pl_core.specs.PortRecords.{port_of}
-use Rattle.pl_core.specs.SwitchViews.{SwitchView}
+use Rattle.pl_logic.specs.PortRecords.{port_of}
+use Rattle.pl_logic.specs.SwitchViews.{SwitchView}
 use Rattle.pl_switch_rule.specs.Granting.{grants_at, remembered_at}
 
 -- addresses are granted, sources remembered and members known there alone

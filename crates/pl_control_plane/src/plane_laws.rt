@@ -17,7 +17,7 @@ ghost use Rattle.pl_control_plane.specs.HostsAtEdges.{HostsAtEdges};
 ghost use Rattle.pl_control_plane.specs.Ids.{HasIds};
 ghost use Rattle.pl_control_plane.specs.PlaneSteps.{PlaneStep};
 
-use pl_core::{HostCore, ManagerCore};
+use pl_logic::{HostLogic, ManagerLogic};
 
 /// A message that can be told is read in its control frame as it was written.
 pub fn a_written_message_is_read()
@@ -26,25 +26,25 @@ pub fn a_written_message_is_read()
 
 /// Each step of a world is one of its control plane: items leave queues, or one switch or the manager
 /// steps by its rule, and what it sends is put behind the queues.
-pub fn each_step_is_one_of_the_control_plane<M: ManagerCore, H: HostCore>()
+pub fn each_step_is_one_of_the_control_plane<M: ManagerLogic, H: HostLogic>()
     ensures { (old : WorldView) (event : Event) (new : WorldView) → IsCounted old → HostsAtEdges old → refusal old event ≡ None →
         WorldStep Loose M.rule H.rule old event new → PlaneStep Loose M.rule (control_plane old) (control_plane new) }
 {}
 
 /// Hosts stand at ports of edge switches that have no link, after each step.
-pub fn each_step_keeps_hosts_at_edges<M: ManagerCore, H: HostCore>()
+pub fn each_step_keeps_hosts_at_edges<M: ManagerLogic, H: HostLogic>()
     ensures { (old : WorldView) (event : Event) (new : WorldView) → IsCounted old → HostsAtEdges old → refusal old event ≡ None →
         WorldStep Loose M.rule H.rule old event new → HostsAtEdges new }
 {}
 
 /// So they do at each moment of each run from the beginning.
-pub fn hosts_stand_at_edges_in_every_run<M: ManagerCore, H: HostCore>()
+pub fn hosts_stand_at_edges_in_every_run<M: ManagerLogic, H: HostLogic>()
     ensures { (plan : Plan) (limits : Limits) (moments : List Moment) (new : WorldView) → CanBegin plan →
         WorldRun Loose M.rule H.rule (booted plan limits) moments new → HostsAtEdges new }
 {}
 
 /// And each switch has the id that the wiring gives it.
-pub fn switches_keep_their_ids_in_every_run<M: ManagerCore, H: HostCore>()
+pub fn switches_keep_their_ids_in_every_run<M: ManagerLogic, H: HostLogic>()
     ensures { (plan : Plan) (limits : Limits) (moments : List Moment) (new : WorldView) → CanBegin plan →
         WorldRun Loose M.rule H.rule (booted plan limits) moments new → HasIds (control_plane new) }
 {}

@@ -17,8 +17,8 @@ use Rattle.pl_journal.specs.Causes.{goes_to_group}
 use Rattle.pl_journal.specs.Flights.{root, root_arrived_at}
 use Rattle.pl_journal.specs.Lossy.{copies_at}
 use Rattle.pl_journal.specs.Places.{Spot, at_port, is_at, spot_of}
-use Rattle.pl_core.specs.HostInputs.{HostRule}
-use Rattle.pl_core.specs.ManagerDuties.{ManagerRule}
+use Rattle.pl_logic.specs.HostInputs.{HostRule}
+use Rattle.pl_logic.specs.ManagerDuties.{ManagerRule}
 use Rattle.pl_switch_rule.specs.SwitchRule.{Loose}
 use Rattle.pl_switch_rule.proofs.AccountedSteps.{loose_steps_are_accounted}
 use Rattle.pl_world.specs.declared.event.Event.{Event}

@@ -15,12 +15,12 @@ use Rattle.pl_wiring.specs.Plan.{IsPlan, Plan}
 use Rattle.pl_layouts.specs.declared.place.Place.{Place}
 use Rattle.pl_layouts.specs.Memberships.{flood, is_group}
 use Rattle.pl_journal.specs.Places.{Spot, at_port, same_spot}
-use Rattle.pl_core.specs.declared.acts.Act.TheVariants as act
-use Rattle.pl_core.specs.declared.messages.TreePart.{TreePart}
-use Rattle.pl_core.specs.declared.switch_records.Member.{Member}
-use Rattle.pl_core.specs.PortRecords.{heard_id, id_at, is_usable, place_at, port_of}
-use Rattle.pl_core.specs.SwitchFacts.{part_of}
-use Rattle.pl_core.specs.SwitchViews.{SwitchView}
+use Rattle.pl_logic.specs.declared.acts.Act.TheVariants as act
+use Rattle.pl_logic.specs.declared.messages.TreePart.{TreePart}
+use Rattle.pl_logic.specs.declared.switch_records.Member.{Member}
+use Rattle.pl_logic.specs.PortRecords.{heard_id, id_at, is_usable, place_at, port_of}
+use Rattle.pl_logic.specs.SwitchFacts.{part_of}
+use Rattle.pl_logic.specs.SwitchViews.{SwitchView}
 use Rattle.pl_journal.specs.declared.cause.Cause.{Cause}
 use Rattle.pl_switch_rule.specs.declared.came.Came.TheVariants.{FromAbove, FromBelow}
 use Rattle.pl_switch_rule.specs.declared.came.Way.{Way}

@@ -19,7 +19,7 @@ ghost use Rattle.pl_world.specs.Worlds.{WorldView};
 ghost use Rattle.pl_copies.specs.Copies.{ComesOnce, came_to};
 ghost use Rattle.pl_copies.specs.Standing.{KnowTrees};
 
-use pl_core::{HostCore, ManagerCore};
+use pl_logic::{HostLogic, ManagerLogic};
 
 /// At the beginning no frame came, and none may still come.
 pub fn no_copy_is_on_its_way_at_first()
@@ -29,7 +29,7 @@ pub fn no_copy_is_on_its_way_at_first()
 /// Each step keeps it that of the frames of one root at most one came or may still come to each port, where
 /// what the switches know of the tree around them is so: no switch lets more come to a port than came to
 /// the switch itself.
-pub fn each_step_lets_one_copy_come<M: ManagerCore, H: HostCore>()
+pub fn each_step_lets_one_copy_come<M: ManagerLogic, H: HostLogic>()
     ensures { (old : WorldView) (event : Event) (new : WorldView) → IsCounted old → KnowTrees old → refusal old event ≡ None →
         WorldStep Loose M.rule H.rule old event new → ComesOnce old → ComesOnce new }
 {}

@@ -1,7 +1,7 @@
 -- Frames that come home, or are made.
 use Rattle.std.proofs.Common.{◌≡◌, ◌≤◌, ℕ, List, Option, Some, None, IfSome, length, sym, subst, arith}
-use Rattle.pl_core.specs.declared.acts.Act.{Act}
-use Rattle.pl_core.specs.SwitchViews.{SwitchView}
+use Rattle.pl_logic.specs.declared.acts.Act.{Act}
+use Rattle.pl_logic.specs.SwitchViews.{SwitchView}
 use Rattle.pl_delivery.proofs.Rest.{sender_told}
 use Rattle.pl_delivery.specs.declared.sent.Sent.{Sent}
 use Rattle.pl_delivery.specs.declared.sent.Sent.TheVariants.{Here, Upward}

@@ -2,9 +2,9 @@
 use Rattle.std.proofs.Common.{◌≡◌, ℕ, not, Bool, true, false, if◌then◌else◌, List, [], ◌∷◌, ◌++◌, sym, ap, ◌∙◌, subst, append_assoc}
 use Rattle.pl_frame.specs.Ethernet.{source_of}
 use Rattle.pl_journal.specs.declared.cause.Cause.TheVariants.{NotPlaced, Spent}
-use Rattle.pl_core.specs.declared.acts.Act.{Act}
-use Rattle.pl_core.specs.declared.acts.Act.TheVariants.{Drop}
-use Rattle.pl_core.specs.SwitchViews.{SwitchView}
+use Rattle.pl_logic.specs.declared.acts.Act.{Act}
+use Rattle.pl_logic.specs.declared.acts.Act.TheVariants.{Drop}
+use Rattle.pl_logic.specs.SwitchViews.{SwitchView}
 use Rattle.pl_edge.specs.Begun.{left_to_do}
 use Rattle.pl_edge.specs.declared.edge_act.EdgeAct.{EdgeAct}
 use Rattle.pl_steps.proofs.Parts.{rest_done, taken_then}

@@ -1,6 +1,6 @@
 ghost use Rattle.std.specs.Prelude.{◌≡◌, ◌<◌, ◌≤◌, not, true, length, IfOk, OnOk};
 ghost use Rattle.pl_frame.specs.Ethernet.{source_of};
-ghost use Rattle.pl_core.specs.Accounting.{IsComing};
+ghost use Rattle.pl_logic.specs.Accounting.{IsComing};
 ghost use Rattle.pl_edge.specs.Begun.{left_to_do};
 ghost use Rattle.pl_edge.specs.EdgeViews.{edge_in, MayBeAt};
 ghost use Rattle.pl_layouts.specs.Placement.{is_known};
@@ -13,10 +13,10 @@ ghost use Rattle.pl_switch_rule.specs.Levels.{finds_host};
 ghost use Rattle.pl_switch_rule.specs.Messages.{hears_pod, invalidates, with_part};
 ghost use Rattle.pl_switch_rule.specs.SwitchRule.{control_comes};
 
-use pl_core::{AvoidList, Memory, Outbox, Trap, TreePart};
 use pl_edge::{EdgeAct, EdgeTable};
 use pl_forward::{GroupFacts, UnicastFacts};
 use pl_frame::Frame;
+use pl_logic::{AvoidList, Memory, Outbox, Trap, TreePart};
 use pl_pmac::Pmac;
 use std::alloc::Global;
 

@@ -1,7 +1,7 @@
 -- The reply to the sender of a frame that meets a trap.
 use Rattle.std.proofs.Common.{◌≡◌, ℕ, true, false, if◌then◌else◌, List, [], Option, Some, None, option_map, refl, sym, ap, ◌∙◌}
-use Rattle.pl_core.specs.declared.trap.Trap.{Trap}
-use Rattle.pl_core.specs.SwitchViews.{SwitchView}
+use Rattle.pl_logic.specs.declared.trap.Trap.{Trap}
+use Rattle.pl_logic.specs.SwitchViews.{SwitchView}
 use Rattle.pl_delivery.specs.Replies.{last_from, reply_to}
 use Rattle.pl_delivery.specs.Sending.{makes_any}
 use Rattle.pl_frame.specs.declared.address.Ip4.{Ip4}

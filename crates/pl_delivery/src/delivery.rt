@@ -1,13 +1,13 @@
 ghost use Rattle.std.specs.Prelude.{◌≡◌, ◌≤◌, ◌∷◌, ◌++◌, [], length, None, OnOk, Some};
-ghost use Rattle.pl_core.specs.declared.acts.Act.{Act};
+ghost use Rattle.pl_logic.specs.declared.acts.Act.{Act};
 ghost use Rattle.pl_layouts.specs.Frames.{arriving};
 ghost use Rattle.pl_migrate.specs.Books.{book_in};
 ghost use Rattle.pl_steps.specs.Taken.{IsTakenByPart};
 ghost use Rattle.pl_switch_rule.specs.Delivering.{delivers, destination};
 
-use pl_core::{Act, Cause, Memory, Outbox};
 use pl_frame::{Frame, Mac};
 use pl_layouts::frames::arrive;
+use pl_logic::{Act, Cause, Memory, Outbox};
 use pl_migrate::AddressBook;
 use pl_pmac::Pmac;
 

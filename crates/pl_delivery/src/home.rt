@@ -6,8 +6,8 @@ ghost use Rattle.pl_switch_rule.specs.Delivering.{comes_home, goes_on, is_trappe
 
 use crate::Sent;
 use crate::delivery::{deliver, destination};
-use pl_core::{Act, Memory, Outbox};
 use pl_frame::{Frame, set_destination};
+use pl_logic::{Act, Memory, Outbox};
 use pl_migrate::{AddressBook, Trap};
 use pl_pmac::{Pmac, pack};
 use std::alloc::Global;

@@ -1,6 +1,6 @@
 ghost use Rattle.std.specs.Prelude.{◌≡◌, ◌∷◌, ◌++◌, [], IfOk, None, Ok, OnOk, Some};
-ghost use Rattle.pl_core.specs.declared.acts.Act.{Act};
-ghost use Rattle.pl_core.specs.SwitchViews.{SwitchView};
+ghost use Rattle.pl_logic.specs.declared.acts.Act.{Act};
+ghost use Rattle.pl_logic.specs.SwitchViews.{SwitchView};
 ghost use Rattle.pl_migrate.specs.Books.{book_in, granted_in, traps};
 ghost use Rattle.pl_migrate.specs.Keeping.{KeepsGrants};
 ghost use Rattle.pl_steps.specs.Taken.{IsTaken};
@@ -8,9 +8,9 @@ ghost use Rattle.pl_switch_rule.specs.Messages.{probe_frame, probes, probes_at};
 
 use crate::delivery::address_to_host;
 use pl_arp::{Arp, REQUEST};
-use pl_core::{Act, Memory, Outbox};
 use pl_frame::{Frame, Ip4, Mac};
 use pl_layouts::frames::{ARP_FRAME, arp_frame};
+use pl_logic::{Act, Memory, Outbox};
 use pl_migrate::{AddressBook, Grant, Trap};
 use pl_pmac::{Pmac, pack};
 use std::alloc::Global;

@@ -1,5 +1,5 @@
 ghost use Rattle.std.specs.Prelude.{◌≡◌, ◌≤◌, length, option_map, IfOk, IfSome};
-ghost use Rattle.pl_core.specs.SwitchViews.{SwitchView};
+ghost use Rattle.pl_logic.specs.SwitchViews.{SwitchView};
 ghost use Rattle.pl_delivery.specs.Replies.{last_from, reply_to};
 ghost use Rattle.pl_delivery.specs.Sending.{makes_any};
 ghost use Rattle.pl_migrate.specs.Books.{book_in, trap_in};
@@ -9,9 +9,9 @@ ghost use Rattle.pl_switch_rule.specs.Messages.{answer_frame, flood_frame};
 
 use crate::delivery::destination;
 use pl_arp::{Arp, REPLY, REQUEST};
-use pl_core::Memory;
 use pl_frame::{Frame, Ip4, Mac};
 use pl_layouts::frames::{arp_frame, is_arp};
+use pl_logic::Memory;
 use pl_migrate::{AddressBook, Trap};
 use pl_pmac::{Pmac, pack};
 use std::alloc::Global;

@@ -13,8 +13,8 @@ use Rattle.std.proofs.lemmas.Bool.{cases_eq, eq-eqb, ne_eqb, true≢false}
 use Rattle.std.proofs.lemmas.Cmp.{nat_cmp_total}
 use Rattle.std.proofs.lemmas.List.Elements.{All-cons, All-head, All-nil, All-tail}
 use Rattle.pl_frame.specs.declared.address.Mac.{Mac}
-use Rattle.pl_core.specs.declared.switch_records.Member.{Member}
-use Rattle.pl_core.proofs.Among.{rising_inserted}
+use Rattle.pl_logic.specs.declared.switch_records.Member.{Member}
+use Rattle.pl_logic.proofs.Among.{rising_inserted}
 use Rattle.pl_layouts.specs.declared.membership.Change.{Change}
 use Rattle.pl_layouts.specs.Frames.{mac_number}
 use Rattle.pl_layouts.specs.Memberships.{group_number}

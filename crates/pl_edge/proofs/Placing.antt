@@ -3,11 +3,11 @@ use Rattle.std.proofs.Common.{◌≡◌, ℕ, List, Option, Some, None, ◌++◌
 use Rattle.pl_frame.specs.declared.address.Ip4.{Ip4}
 use Rattle.pl_frame.specs.declared.address.Mac.{Mac}
 use Rattle.pl_frame.specs.Ethernet.{source_of}
-use Rattle.pl_core.specs.declared.acts.Act.{Act}
-use Rattle.pl_core.specs.declared.switch_records.Member.{Member}
-use Rattle.pl_core.specs.declared.switch_records.Source.{Source}
-use Rattle.pl_core.specs.PortRecords.{ports_of_switch}
-use Rattle.pl_core.specs.SwitchViews.{SwitchView}
+use Rattle.pl_logic.specs.declared.acts.Act.{Act}
+use Rattle.pl_logic.specs.declared.switch_records.Member.{Member}
+use Rattle.pl_logic.specs.declared.switch_records.Source.{Source}
+use Rattle.pl_logic.specs.PortRecords.{ports_of_switch}
+use Rattle.pl_logic.specs.SwitchViews.{SwitchView}
 use Rattle.pl_steps.specs.Taken.{IsTaken, IsTakenByPart}
 use Rattle.pl_switch_rule.specs.Granting.{grants_at, grants_or_learns, grants_remembered, in_use, learns_source, sender_ip}
 use Rattle.pl_switch_rule.specs.Intake.{groups_told, members_become}

@@ -8,9 +8,9 @@ use Rattle.pl_frame.specs.Ethernet.{destination_of, kind_of, payload_of, source_
 use Rattle.pl_arp.specs.Packet.{arp_in}
 use Rattle.pl_arp.specs.declared.packet.Arp.{Arp}
 use Rattle.pl_journal.specs.declared.cause.Cause.TheVariants.{BadArp, NotPlaced}
-use Rattle.pl_core.specs.declared.acts.Act.{Act}
-use Rattle.pl_core.specs.declared.acts.Act.TheVariants.{Drop, Take}
-use Rattle.pl_core.specs.SwitchViews.{SwitchView}
+use Rattle.pl_logic.specs.declared.acts.Act.{Act}
+use Rattle.pl_logic.specs.declared.acts.Act.TheVariants.{Drop, Take}
+use Rattle.pl_logic.specs.SwitchViews.{SwitchView}
 use Rattle.pl_layouts.specs.Frames.{arriving, is_arp, packet_in}
 use Rattle.pl_layouts.specs.Memberships.{header_length, is_membership, membership_in}
 use Rattle.pl_layouts.specs.Placement.{is_placed}

@@ -1,15 +1,15 @@
 ghost use Rattle.std.specs.Prelude.{◌≡◌, ◌<◌, ◌≤◌, ◌++◌, ℕ, [], None, not, is_some, length, IfOk, OnErr, OnOk};
 ghost use Rattle.pl_frame.specs.Ethernet.{source_of};
-ghost use Rattle.pl_core.specs.PortRecords.{ports_of_switch};
-ghost use Rattle.pl_core.specs.SwitchViews.{SwitchView};
+ghost use Rattle.pl_logic.specs.PortRecords.{ports_of_switch};
+ghost use Rattle.pl_logic.specs.SwitchViews.{SwitchView};
 ghost use Rattle.pl_steps.specs.Taken.{IsTaken};
 ghost use Rattle.pl_switch_rule.specs.Granting.{grants_remembered, has_no_address, learns_source, remembered_ip};
 ghost use Rattle.pl_migrate.specs.Books.{edge_at};
 ghost use Rattle.pl_edge.specs.EdgeViews.{edge_in, grantee_by, new_edge, with_source, placed_at, KeepsBook, KeepsEdge, MayBeAt};
 
 use crate::reading::{sender_ip, source_of};
-use pl_core::{Memory, Outbox, Source};
 use pl_frame::{Frame, Ip4, Mac};
+use pl_logic::{Memory, Outbox, Source};
 use pl_members::Members;
 use pl_migrate::{AddressBook, Grantee};
 use pl_pmac::Pmac;

@@ -1,5 +1,5 @@
 ghost use Rattle.std.specs.Prelude.{◌≡◌, ◌≤◌, length, IfOk, IfSome, OnOk};
-ghost use Rattle.pl_core.specs.SwitchViews.{SwitchView};
+ghost use Rattle.pl_logic.specs.SwitchViews.{SwitchView};
 ghost use Rattle.pl_delivery.specs.Sending.{HasLength, left_to_do, makes_any};
 ghost use Rattle.pl_layouts.specs.declared.place.Place.{Place};
 ghost use Rattle.pl_steps.specs.Taken.{IsTaken, IsTakenUpTo};
@@ -11,9 +11,9 @@ ghost use Rattle.pl_migrate.specs.Books.{traps};
 ghost use Rattle.pl_edge.specs.EdgeViews.{edge_in, place_by, MayBeAt};
 
 use crate::EdgeTable;
-use pl_core::{Act, Cause, Grant, Memory, Outbox, Trap};
 use pl_delivery::{Sent, begin, egress, invalidate, probe, reply};
 use pl_frame::Frame;
+use pl_logic::{Act, Cause, Grant, Memory, Outbox, Trap};
 use pl_pmac::Pmac;
 
 impl EdgeTable {

@@ -1,6 +1,6 @@
 ghost use Rattle.std.specs.Prelude.{◌≡◌, ◌<◌, ◌≤◌, ◌++◌, ◌==◌, ◌&&◌, if◌then◌else◌, None, OnOk, IfOk, is_none, length};
 ghost use Rattle.pl_frame.specs.Ethernet.{source_of};
-ghost use Rattle.pl_core.specs.SwitchViews.{SwitchView};
+ghost use Rattle.pl_logic.specs.SwitchViews.{SwitchView};
 ghost use Rattle.pl_layouts.specs.Frames.{arriving, is_arp};
 ghost use Rattle.pl_layouts.specs.Memberships.{membership_in};
 ghost use Rattle.pl_steps.specs.Taken.{IsTakenUpTo};
@@ -16,9 +16,9 @@ use crate::membership::is_membership;
 use crate::reading::{destination_of, is_group, source_of};
 use crate::{EdgeAct, EdgeTable};
 use pl_arp::{Arp, REQUEST};
-use pl_core::{Act, Cause, Memory, Outbox, ToManager};
 use pl_frame::{Frame, Mac};
 use pl_layouts::frames::{arrive, is_arp, packet_in};
+use pl_logic::{Act, Cause, Memory, Outbox, ToManager};
 use pl_migrate::AddressBook;
 use pl_multicast::group_of;
 use pl_pmac::{Pmac, pack, unpack};

@@ -9,8 +9,8 @@
 
 pub use edge_act::EdgeAct;
 pub use edge_table::EdgeTable;
-pub use pl_core::Memory;
 pub use pl_delivery::Sent;
+pub use pl_logic::Memory;
 
 mod edge_act;
 mod edge_table;

@@ -12,8 +12,8 @@ ghost use Rattle.pl_edge.specs.Told.{told_if_none, AreNoted};
 
 use crate::EdgeTable;
 use crate::groups_before::{GroupsBefore, tell_change};
-use pl_core::{Change, Memory, Outbox, PortSet};
 use pl_frame::{Frame, FrameView, Ip4, Mac};
+use pl_logic::{Change, Memory, Outbox, PortSet};
 use pl_members::Members;
 use pl_multicast::read_igmp;
 use std::alloc::Global;

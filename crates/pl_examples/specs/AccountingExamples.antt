@@ -2,10 +2,10 @@
 use Rattle.std.specs.Prelude.{◌≡◌, [], ◌∷◌, refl}
 use Rattle.std.proofs.Common.{lt_irrefl}
 use Rattle.pl_pmac.specs.declared.pmac.Pmac.{Pmac}
-use Rattle.pl_core.specs.declared.acts.Act.TheVariants.{Control, Grant as GrantAct, Pass, Redirect, Take, Tell}
-use Rattle.pl_core.specs.declared.messages.ToManager.TheVariants.{PodWanted}
-use Rattle.pl_core.specs.Accounting.{IsFit, speech}
-use Rattle.pl_core.specs.Accounting.Speech.{Ended, Passed, Waiting, Wrong}
+use Rattle.pl_logic.specs.declared.acts.Act.TheVariants.{Control, Grant as GrantAct, Pass, Redirect, Take, Tell}
+use Rattle.pl_logic.specs.declared.messages.ToManager.TheVariants.{PodWanted}
+use Rattle.pl_logic.specs.Accounting.{IsFit, speech}
+use Rattle.pl_logic.specs.Accounting.Speech.{Ended, Passed, Waiting, Wrong}
 use Rattle.pl_examples.specs.ExampleFrames.{mac_a, pmac_a, pmac_b}
 
 -- the manager and the neighbours may be told behind the end of a frame, and between its copies

@@ -5,9 +5,9 @@ use Rattle.std.proofs.lemmas.Bool.{false≢true}
 use Rattle.hex.specs.Hex.{decode_pairs}
 use Rattle.pl_frame.specs.Ethernet.{with_destination}
 use Rattle.pl_pmac.specs.Pmac.{mac_of}
-use Rattle.pl_core.specs.SwitchInputs.SwitchInput.{Comes, Says}
-use Rattle.pl_core.specs.SwitchViews.{SwitchView}
-use Rattle.pl_core.specs.declared.messages.ToSwitch.TheVariants.{Flood}
+use Rattle.pl_logic.specs.SwitchInputs.SwitchInput.{Comes, Says}
+use Rattle.pl_logic.specs.SwitchViews.{SwitchView}
+use Rattle.pl_logic.specs.declared.messages.ToSwitch.TheVariants.{Flood}
 use Rattle.pl_journal.specs.declared.cause.Cause.TheVariants.{NoAddress, NoMember, NoNextHop, NotPlaced}
 use Rattle.pl_examples.specs.EdgeExamples.{a_to_d, a_to_d_above, flooded, ip_of, moved_twice, to_group, with_hosts}
 use Rattle.pl_examples.specs.ExampleFrames.{a_starts, a_to_b, pmac_a, pmac_b}

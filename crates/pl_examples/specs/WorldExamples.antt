@@ -2,24 +2,24 @@
 use Rattle.std.specs.Prelude.{◌≡◌, ℕ, false, List, [], ◌∷◌, Some, None, refl, slice_set}
 use Rattle.pl_wiring.specs.declared.label.SwitchNo.{SwitchNo}
 use Rattle.pl_wiring.specs.declared.link.Link.{Link}
-use Rattle.pl_core.specs.declared.acts.Act.{Act}
-use Rattle.pl_core.specs.declared.acts.Act.TheVariants as act
-use Rattle.pl_core.specs.declared.acts.HostAct.TheVariants.{Send}
+use Rattle.pl_logic.specs.declared.acts.Act.{Act}
+use Rattle.pl_logic.specs.declared.acts.Act.TheVariants as act
+use Rattle.pl_logic.specs.declared.acts.HostAct.TheVariants.{Send}
 use Rattle.pl_journal.specs.declared.cause.Cause.TheVariants as cause
 use Rattle.pl_journal.specs.declared.entry.Entry.{Entry}
 use Rattle.pl_journal.specs.declared.entry.Entry.TheVariants.{Arrived, Copied, Crossed, Dropped, LinkDown, Made, Moved, Redirected, Sent, Taken}
 use Rattle.pl_world.specs.declared.event.Event.TheVariants.{Deliver, Fail, Lose, Move, Repair}
 use Rattle.pl_world.specs.declared.event.QueueName.TheVariants as queue
-use Rattle.pl_core.specs.declared.reception.Reception.TheVariants.{Kept}
+use Rattle.pl_logic.specs.declared.reception.Reception.TheVariants.{Kept}
 use Rattle.pl_layouts.specs.ArpFrames.{arp_frame}
 use Rattle.pl_examples.specs.ExampleFrames.{mac_a, pmac_a, pmac_b}
 use Rattle.pl_examples.specs.FirstPath.{a, b, e00, switch, two_hosts}
 use Rattle.pl_host_rule.specs.HostRule.{start_frame}
-use Rattle.pl_core.specs.HostInputs.{HostRule}
-use Rattle.pl_core.specs.HostInputs.HostAnswer.{Nothing, Received}
-use Rattle.pl_core.specs.ManagerDuties.{ManagerRule}
-use Rattle.pl_core.specs.SwitchInputs.{SwitchRule}
-use Rattle.pl_core.specs.SwitchInputs.SwitchInput.{Comes}
+use Rattle.pl_logic.specs.HostInputs.{HostRule}
+use Rattle.pl_logic.specs.HostInputs.HostAnswer.{Nothing, Received}
+use Rattle.pl_logic.specs.ManagerDuties.{ManagerRule}
+use Rattle.pl_logic.specs.SwitchInputs.{SwitchRule}
+use Rattle.pl_logic.specs.SwitchInputs.SwitchInput.{Comes}
 use Rattle.pl_world.specs.declared.error.StepError.TheVariants.{AlreadySo, NoSuch, NothingThere, Occupied, StepsSpent}
 use Rattle.pl_world.specs.declared.item.Item.{Item}
 use Rattle.pl_world.specs.declared.item.Item.TheVariants.{Control, Data}

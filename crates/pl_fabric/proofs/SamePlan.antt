@@ -7,25 +7,25 @@ use Rattle.pl_wiring.specs.declared.link.Peer.TheVariants.{HostPort, Switch}
 use Rattle.pl_wiring.specs.Index.{port_index}
 use Rattle.pl_wiring.specs.Peers.{peer_of}
 use Rattle.pl_wiring.specs.Plan.{Plan}
-use Rattle.pl_core.specs.declared.acts.Act.{Act}
-use Rattle.pl_core.specs.declared.acts.Act.TheVariants as act
-use Rattle.pl_core.specs.declared.acts.HostAct.{HostAct}
-use Rattle.pl_core.specs.declared.acts.HostAct.TheVariants.{Send}
-use Rattle.pl_core.specs.declared.acts.ManagerAct.{ManagerAct}
-use Rattle.pl_core.specs.declared.acts.ManagerAct.TheVariants.{Number, Say}
+use Rattle.pl_logic.specs.declared.acts.Act.{Act}
+use Rattle.pl_logic.specs.declared.acts.Act.TheVariants as act
+use Rattle.pl_logic.specs.declared.acts.HostAct.{HostAct}
+use Rattle.pl_logic.specs.declared.acts.HostAct.TheVariants.{Send}
+use Rattle.pl_logic.specs.declared.acts.ManagerAct.{ManagerAct}
+use Rattle.pl_logic.specs.declared.acts.ManagerAct.TheVariants.{Number, Say}
 use Rattle.pl_journal.specs.declared.cause.Skip.{Skip}
 use Rattle.pl_journal.specs.declared.entry.Entry.{Entry}
 use Rattle.pl_world.specs.declared.event.Event.{Event}
 use Rattle.pl_world.specs.declared.event.Event.TheVariants as event
 use Rattle.pl_world.specs.declared.event.QueueName.{QueueName}
 use Rattle.pl_world.specs.declared.event.QueueName.TheVariants as queue
-use Rattle.pl_core.specs.declared.messages.ToManager.{ToManager}
-use Rattle.pl_core.specs.declared.messages.ToSwitch.{ToSwitch}
-use Rattle.pl_core.specs.declared.reception.Reception.{Reception}
-use Rattle.pl_core.specs.declared.reception.Reception.TheVariants.{Kept, NotMember}
-use Rattle.pl_core.specs.HostInputs.{HostAnswer, HostInput, HostRule}
-use Rattle.pl_core.specs.ManagerDuties.{ManagerRule}
-use Rattle.pl_core.specs.SwitchInputs.{SwitchInput, SwitchRule}
+use Rattle.pl_logic.specs.declared.messages.ToManager.{ToManager}
+use Rattle.pl_logic.specs.declared.messages.ToSwitch.{ToSwitch}
+use Rattle.pl_logic.specs.declared.reception.Reception.{Reception}
+use Rattle.pl_logic.specs.declared.reception.Reception.TheVariants.{Kept, NotMember}
+use Rattle.pl_logic.specs.HostInputs.{HostAnswer, HostInput, HostRule}
+use Rattle.pl_logic.specs.ManagerDuties.{ManagerRule}
+use Rattle.pl_logic.specs.SwitchInputs.{SwitchInput, SwitchRule}
 use Rattle.pl_world.specs.declared.item.Item.{Item}
 use Rattle.pl_world.specs.declared.item.Item.TheVariants.{Control, Data}
 use Rattle.pl_world.specs.declared.spoken_frame.SpokenFrame.{SpokenFrame as Speech}

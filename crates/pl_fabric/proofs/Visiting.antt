@@ -2,12 +2,12 @@
 use Rattle.std.proofs.Common.{◌≡◌, ℕ, zero, suc, ◌+◌, ◌-◌, ◌<◌, ◌≤◌, Bool, true, false, cond, List, [], ◌∷◌, length, map, replicate, Option, Some, None, MatchOption, unwrap_or, refl, sym, subst, arith}
 use Rattle.std.specs.List.{range_with_len}
 use Rattle.pl_wiring.specs.Plan.{Plan}
-use Rattle.pl_core.specs.HostInputs.{HostRule}
-use Rattle.pl_core.specs.ManagerDuties.{ManagerRule}
-use Rattle.pl_core.specs.SwitchInputs.{SwitchRule}
+use Rattle.pl_logic.specs.HostInputs.{HostRule}
+use Rattle.pl_logic.specs.ManagerDuties.{ManagerRule}
+use Rattle.pl_logic.specs.SwitchInputs.{SwitchRule}
 use Rattle.pl_banks.specs.Bits.{IsLeast}
 use Rattle.pl_queues.specs.Queues.{has_items, items_at}
-use Rattle.pl_banks.proofs.Places.{next_place_is_least}
+use Rattle.pl_banks.proofs.Places.{next_index_is_least}
 use Rattle.pl_world.specs.declared.error.StepError.{StepError}
 use Rattle.pl_world.specs.declared.event.Event.TheVariants.{Deliver}
 use Rattle.pl_world.specs.declared.event.QueueName.{QueueName}
@@ -37,7 +37,7 @@ IsFirst w from next = MatchOption next
     (λ n. IsLeast (has_items_at w) from n × (n < queue_count w.plan))
 
 pub next_is_first : (w : WorldView) (from : ℕ) (next : Option ℕ) → next ≡ next_queue w from → IsFirst w from next
-next_is_first w from next is = next_place_is_least (has_items_at w) (queue_count w.plan) from next is
+next_is_first w from next is = next_index_is_least (has_items_at w) (queue_count w.plan) from next is
 
 module _ (switch : SwitchRule) (manager : ManagerRule) (host : HostRule) (w : WorldView) where
   stays : (name : QueueName) → is_filled w name ≡ false → Visits switch manager host name w None w

@@ -1,8 +1,8 @@
 -- What is done to a world step by step, up to its end, or up to a step that is refused.
 use Rattle.std.specs.Prelude.{◌≡◌, ℕ, zero, suc, List, [], ◌∷◌, Option, Some, None, Result, MatchOption, MatchResult}
-use Rattle.pl_core.specs.HostInputs.{HostRule}
-use Rattle.pl_core.specs.ManagerDuties.{ManagerRule}
-use Rattle.pl_core.specs.SwitchInputs.{SwitchRule}
+use Rattle.pl_logic.specs.HostInputs.{HostRule}
+use Rattle.pl_logic.specs.ManagerDuties.{ManagerRule}
+use Rattle.pl_logic.specs.SwitchInputs.{SwitchRule}
 use Rattle.pl_world.specs.declared.error.StepError.{StepError}
 use Rattle.pl_world.specs.declared.error.StepError.TheVariants.{Memory}
 use Rattle.pl_world.specs.declared.event.Event.{Event}

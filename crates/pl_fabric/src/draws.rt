@@ -5,14 +5,14 @@ ghost use Rattle.pl_fabric.specs.Courses.{EndsAs};
 ghost use Rattle.pl_fabric.specs.Draws.{Draws, drawn};
 
 use crate::making::make;
-use pl_core::{HostCore, ManagerCore, SwitchCore};
 use pl_draws::{next_number, upper_half};
+use pl_logic::{HostLogic, ManagerLogic, SwitchLogic};
 use pl_schedule::World;
 use pl_wiring::SwitchNo;
 use pl_world::{Event, StepError};
 
 // What a number draws.
-fn drawn<S: SwitchCore, M: ManagerCore, H: HostCore>(world: &World<S, M, H>, x: u64) -> Event
+fn drawn<S: SwitchLogic, M: ManagerLogic, H: HostLogic>(world: &World<S, M, H>, x: u64) -> Event
     ensures { result ≡ drawn world.now x }
 {
     let filled = world.filled_count();
@@ -27,7 +27,7 @@ fn drawn<S: SwitchCore, M: ManagerCore, H: HostCore>(world: &World<S, M, H>, x: 
 /// Makes so many steps, each drawn by the next number behind `number`: the delivery of the head of one of
 /// the queues with items, or the tick of one of the switches. Where a step is refused the steps before it
 /// stand. After want of memory the world is not used again.
-pub fn random<S: SwitchCore, M: ManagerCore, H: HostCore>(
+pub fn random<S: SwitchLogic, M: ManagerLogic, H: HostLogic>(
     world: &mut World<S, M, H>,
     number: u64,
     steps: u32,

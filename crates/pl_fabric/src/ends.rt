@@ -1,10 +1,10 @@
 ghost use Rattle.std.specs.Prelude.{◌≡◌, ◌↔◌, ◌<◌, IsTrue, Some, true};
-ghost use Rattle.pl_core.specs.PortRecords.{id_at, is_usable, port_of};
+ghost use Rattle.pl_logic.specs.PortRecords.{id_at, is_usable, port_of};
 ghost use Rattle.pl_fabric.specs.Settled.{IsSettledEnd, announced_at};
 
 use crate::votes::would_change;
-use pl_core::{ManagerCore, Neighbour, SwitchFacts};
 use pl_frame::SwitchId;
+use pl_logic::{ManagerLogic, Neighbour, SwitchFacts};
 
 fn id_at<F: SwitchFacts>(facts: &F, port: u8) -> Option<SwitchId>
     requires { port < (F.view facts.now).k }
@@ -61,7 +61,7 @@ fn is_current_if<F: SwitchFacts>(live: bool, facts: &F, port: u8, other: &F, the
 }
 
 /// Whether nothing would change what is known of one direction of a link.
-pub(crate) fn is_settled_end<S: SwitchFacts, M: ManagerCore>(
+pub(crate) fn is_settled_end<S: SwitchFacts, M: ManagerLogic>(
     manager: &M,
     live: bool,
     switch: &S,

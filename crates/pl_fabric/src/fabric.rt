@@ -1,14 +1,16 @@
 ghost use Rattle.std.specs.Prelude.{◌≡◌, ◌↔◌, ℕ, IsTrue, Some, slice_get};
-ghost use Rattle.pl_core.specs.SwitchViews.{SwitchView};
+ghost use Rattle.pl_logic.specs.SwitchViews.{SwitchView};
 ghost use Rattle.pl_world.specs.Flying.{IsCounted};
 ghost use Rattle.pl_fabric.specs.Settled.{IsSettled, IsSettledSwitch};
 
 use crate::switches::is_settled_switch;
-use pl_core::{HostCore, ManagerCore, SwitchCore};
+use pl_logic::{HostLogic, ManagerLogic, SwitchLogic};
 use pl_schedule::World;
 use pl_wiring::SwitchNo;
 
-fn are_settled_switches<S: SwitchCore, M: ManagerCore, H: HostCore>(world: &World<S, M, H>) -> bool
+fn are_settled_switches<S: SwitchLogic, M: ManagerLogic, H: HostLogic>(
+    world: &World<S, M, H>,
+) -> bool
     requires { IsCounted world.now }
     ensures { IsTrue result ↔ ((s : ℕ) (v : SwitchView) → slice_get world.now.switches s ≡ Some v → IsSettledSwitch world.now s v) }
 {
@@ -23,7 +25,7 @@ fn are_settled_switches<S: SwitchCore, M: ManagerCore, H: HostCore>(world: &Worl
 /// Whether the fabric is settled: nothing would change what its switches and its manager know of places
 /// and links. Takes no memory. What waits in queues is asked first, by a count that is kept; then each
 /// port, record and list is looked at once.
-pub fn settled<S: SwitchCore, M: ManagerCore, H: HostCore>(world: &World<S, M, H>) -> bool
+pub fn settled<S: SwitchLogic, M: ManagerLogic, H: HostLogic>(world: &World<S, M, H>) -> bool
     requires { IsCounted world.now }
     ensures { IsTrue result ↔ IsSettled world.now }
 {

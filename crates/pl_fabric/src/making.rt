@@ -5,13 +5,13 @@ ghost use Rattle.pl_world.specs.Hearing.{IsWithinHearing};
 ghost use Rattle.pl_fabric.specs.Courses.{EndsAs, Makes, MakesAll};
 ghost use Rattle.pl_fabric.specs.Rounds.{TicksAll, Visits};
 
-use pl_core::{HostCore, ManagerCore, SwitchCore};
+use pl_logic::{HostLogic, ManagerLogic, SwitchLogic};
 use pl_schedule::World;
 use pl_wiring::SwitchNo;
 use pl_world::{Event, QueueName, StepError};
 
 /// One step. Where it is refused, nothing changes. After want of memory the world is not used again.
-pub fn make<S: SwitchCore, M: ManagerCore, H: HostCore>(
+pub fn make<S: SwitchLogic, M: ManagerLogic, H: HostLogic>(
     world: &mut World<S, M, H>,
     event: &Event,
 ) -> Result<(), StepError>
@@ -26,7 +26,7 @@ pub fn make<S: SwitchCore, M: ManagerCore, H: HostCore>(
 }
 
 // So many items are delivered from a queue.
-fn deliver<S: SwitchCore, M: ManagerCore, H: HostCore>(
+fn deliver<S: SwitchLogic, M: ManagerLogic, H: HostLogic>(
     world: &mut World<S, M, H>,
     name: QueueName,
     many: usize,
@@ -45,7 +45,7 @@ fn deliver<S: SwitchCore, M: ManagerCore, H: HostCore>(
 }
 
 // As many items of a queue are delivered as it holds.
-pub(crate) fn visit<S: SwitchCore, M: ManagerCore, H: HostCore>(
+pub(crate) fn visit<S: SwitchLogic, M: ManagerLogic, H: HostLogic>(
     world: &mut World<S, M, H>,
     name: QueueName,
 ) -> Result<(), StepError>
@@ -62,7 +62,7 @@ pub(crate) fn visit<S: SwitchCore, M: ManagerCore, H: HostCore>(
 
 /// A tick of each switch, in label order. Where a step is refused the steps before it stand. After want of
 /// memory the world is not used again.
-pub fn tick_all<S: SwitchCore, M: ManagerCore, H: HostCore>(
+pub fn tick_all<S: SwitchLogic, M: ManagerLogic, H: HostLogic>(
     world: &mut World<S, M, H>,
 ) -> Result<(), StepError>
     requires counted { IsCounted world.old }

@@ -5,14 +5,14 @@ ghost use Rattle.pl_fabric.specs.Courses.{EndsAs, Times};
 ghost use Rattle.pl_fabric.specs.Rounds.{GoesRound, Sweeps};
 
 use crate::making::{tick_all, visit};
-use pl_core::{HostCore, ManagerCore, SwitchCore};
+use pl_logic::{HostLogic, ManagerLogic, SwitchLogic};
 use pl_schedule::World;
 use pl_world::StepError;
 
 /// A sweep: all queues are visited in queue order, and from each as many items are delivered as it held
 /// when the sweep came to it. No empty queue is looked at. Where a step is refused the steps before it
 /// stand. After want of memory the world is not used again.
-pub fn sweep<S: SwitchCore, M: ManagerCore, H: HostCore>(
+pub fn sweep<S: SwitchLogic, M: ManagerLogic, H: HostLogic>(
     world: &mut World<S, M, H>,
 ) -> Result<(), StepError>
     requires counted { IsCounted world.old }
@@ -34,7 +34,7 @@ pub fn sweep<S: SwitchCore, M: ManagerCore, H: HostCore>(
 
 /// So many sweeps, one after the other. Where a step is refused the steps before it stand. After want of
 /// memory the world is not used again.
-pub fn sweep_often<S: SwitchCore, M: ManagerCore, H: HostCore>(
+pub fn sweep_often<S: SwitchLogic, M: ManagerLogic, H: HostLogic>(
     world: &mut World<S, M, H>,
     times: u32,
 ) -> Result<(), StepError>
@@ -53,7 +53,7 @@ pub fn sweep_often<S: SwitchCore, M: ManagerCore, H: HostCore>(
 
 /// A round: a tick of each switch in label order, and then four sweeps. Where a step is refused the steps
 /// before it stand. After want of memory the world is not used again.
-pub fn round<S: SwitchCore, M: ManagerCore, H: HostCore>(
+pub fn round<S: SwitchLogic, M: ManagerLogic, H: HostLogic>(
     world: &mut World<S, M, H>,
 ) -> Result<(), StepError>
     requires counted { IsCounted world.old }

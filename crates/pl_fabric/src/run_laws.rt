@@ -8,23 +8,23 @@ ghost use Rattle.pl_fabric.specs.Draws.{Draws};
 ghost use Rattle.pl_fabric.specs.Rounds.{Sweeps, queues_from};
 ghost use Rattle.pl_fabric.specs.Settlings.{GoesRounds};
 
-use pl_core::{HostCore, ManagerCore, SwitchCore};
+use pl_logic::{HostLogic, ManagerLogic, SwitchLogic};
 
 /// What a sweep does is a run: steps one after the other, none of which is refused. So what holds of each
 /// run holds of it.
-pub fn a_sweep_is_a_run<S: SwitchCore, M: ManagerCore, H: HostCore>()
+pub fn a_sweep_is_a_run<S: SwitchLogic, M: ManagerLogic, H: HostLogic>()
     ensures { (old new : WorldView) (end : Option StepError) → Sweeps S.rule M.rule H.rule old end new →
         (moments : List Moment) × WorldRun S.rule M.rule H.rule old moments new }
 {}
 
 /// So is what the rounds of a settling do.
-pub fn the_rounds_of_a_settling_are_a_run<S: SwitchCore, M: ManagerCore, H: HostCore>()
+pub fn the_rounds_of_a_settling_are_a_run<S: SwitchLogic, M: ManagerLogic, H: HostLogic>()
     ensures { (rounds : ℕ) (old new : WorldView) (end : Option StepError) → GoesRounds S.rule M.rule H.rule rounds old end new →
         (moments : List Moment) × WorldRun S.rule M.rule H.rule old moments new }
 {}
 
 /// And so are steps that are drawn by numbers.
-pub fn drawn_steps_are_a_run<S: SwitchCore, M: ManagerCore, H: HostCore>()
+pub fn drawn_steps_are_a_run<S: SwitchLogic, M: ManagerLogic, H: HostLogic>()
     ensures { (steps number : ℕ) (old new : WorldView) (end : Option StepError) → Draws S.rule M.rule H.rule steps number old end new →
         (moments : List Moment) × WorldRun S.rule M.rule H.rule old moments new }
 {}

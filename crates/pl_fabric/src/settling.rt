@@ -6,7 +6,7 @@ ghost use Rattle.pl_fabric.specs.Settlings.{GoesRounds, IsAnswer, IsAtRest, Sett
 
 use crate::fabric::settled;
 use crate::rounds::round;
-use pl_core::{HostCore, ManagerCore, SwitchCore};
+use pl_logic::{HostLogic, ManagerLogic, SwitchLogic};
 use pl_schedule::World;
 use pl_world::StepError;
 
@@ -20,7 +20,7 @@ pub enum Settling {
 }
 
 // Whether the fabric is settled and no queue has items.
-fn is_at_rest<S: SwitchCore, M: ManagerCore, H: HostCore>(world: &World<S, M, H>) -> bool
+fn is_at_rest<S: SwitchLogic, M: ManagerLogic, H: HostLogic>(world: &World<S, M, H>) -> bool
     requires { IsCounted world.now }
     ensures { IsTrue result ↔ IsAtRest world.now }
 {
@@ -31,7 +31,10 @@ fn is_at_rest<S: SwitchCore, M: ManagerCore, H: HostCore>(world: &World<S, M, H>
     }
 }
 
-fn answer<S: SwitchCore, M: ManagerCore, H: HostCore>(world: &World<S, M, H>, used: u32) -> Settling
+fn answer<S: SwitchLogic, M: ManagerLogic, H: HostLogic>(
+    world: &World<S, M, H>,
+    used: u32,
+) -> Settling
     requires { IsCounted world.now }
     ensures { IsAnswer world.now used result }
 {
@@ -45,7 +48,7 @@ fn answer<S: SwitchCore, M: ManagerCore, H: HostCore>(world: &World<S, M, H>, us
 /// Makes the least number of rounds, at most as many as asked, after which the fabric is settled and all
 /// queues are empty. Answers whether it is settled at the end. Where a step is refused the steps before
 /// it stand. After want of memory the world is not used again.
-pub fn settle<S: SwitchCore, M: ManagerCore, H: HostCore>(
+pub fn settle<S: SwitchLogic, M: ManagerLogic, H: HostLogic>(
     world: &mut World<S, M, H>,
     rounds: u32,
 ) -> Result<Settling, StepError>

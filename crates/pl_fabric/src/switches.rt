@@ -1,23 +1,23 @@
 ghost use Rattle.std.specs.Prelude.{◌≡◌, ◌↔◌, ◌<◌, ℕ, IsTrue, Some, slice_get};
 ghost use Rattle.pl_wiring.specs.Labels.{switch_count};
 ghost use Rattle.pl_wiring.specs.Peers.{IsPort, peer_of};
-ghost use Rattle.pl_core.specs.AvoidLists.{avoid_list};
-ghost use Rattle.pl_core.specs.ManagerFacts.{group_at};
-ghost use Rattle.pl_core.specs.ManagerViews.{place_of};
-ghost use Rattle.pl_core.specs.SwitchFacts.{group_of_part};
-ghost use Rattle.pl_core.specs.SwitchViews.{SwitchView};
+ghost use Rattle.pl_logic.specs.AvoidLists.{avoid_list};
+ghost use Rattle.pl_logic.specs.ManagerFacts.{group_at};
+ghost use Rattle.pl_logic.specs.ManagerViews.{place_of};
+ghost use Rattle.pl_logic.specs.SwitchFacts.{group_of_part};
+ghost use Rattle.pl_logic.specs.SwitchViews.{SwitchView};
 ghost use Rattle.pl_world.specs.Flying.{IsCounted};
 ghost use Rattle.pl_fabric.specs.Settled.{HasPart, IsSettledSwitch, IsSettledTowards, group_limit};
 
 use crate::ends::is_settled_end;
-use pl_core::{AvoidList, HostCore, ManagerCore, SwitchCore, SwitchFacts};
+use pl_logic::{AvoidList, HostLogic, ManagerLogic, SwitchFacts, SwitchLogic};
 use pl_schedule::World;
 use pl_wiring::{Peer, SwitchNo};
 
 // Groups are numbers of 32 bits.
 const GROUP_LIMIT: usize = 4_294_967_296;
 
-fn is_settled_towards<S: SwitchCore, M: ManagerCore, H: HostCore>(
+fn is_settled_towards<S: SwitchLogic, M: ManagerLogic, H: HostLogic>(
     world: &World<S, M, H>,
     s: SwitchNo,
     port: u8,
@@ -42,7 +42,7 @@ fn is_settled_towards<S: SwitchCore, M: ManagerCore, H: HostCore>(
     }
 }
 
-fn is_settled_port<S: SwitchCore, M: ManagerCore, H: HostCore>(
+fn is_settled_port<S: SwitchLogic, M: ManagerLogic, H: HostLogic>(
     world: &World<S, M, H>,
     s: SwitchNo,
     port: u8,
@@ -56,7 +56,7 @@ fn is_settled_port<S: SwitchCore, M: ManagerCore, H: HostCore>(
     is_settled_towards(world, s, port, world.wiring().peer(s, port))
 }
 
-fn are_settled_ports<S: SwitchCore, M: ManagerCore, H: HostCore>(
+fn are_settled_ports<S: SwitchLogic, M: ManagerLogic, H: HostLogic>(
     world: &World<S, M, H>,
     s: SwitchNo,
 ) -> bool
@@ -74,7 +74,7 @@ fn are_settled_ports<S: SwitchCore, M: ManagerCore, H: HostCore>(
 }
 
 // Whether the parts of the groups that the manager knows are those that it says.
-fn has_parts_of_groups<S: SwitchFacts, M: ManagerCore>(manager: &M, switch: &S) -> bool
+fn has_parts_of_groups<S: SwitchFacts, M: ManagerLogic>(manager: &M, switch: &S) -> bool
     ensures { IsTrue result ↔ ((n group : ℕ) → n < group_limit → group_at (M.view manager.now) n ≡ Some group →
         HasPart (M.view manager.now) (S.view switch.now) group) }
 {
@@ -92,7 +92,7 @@ fn has_parts_of_groups<S: SwitchFacts, M: ManagerCore>(manager: &M, switch: &S) 
 }
 
 // And those of the groups of which the switch knows a part.
-fn has_its_parts<S: SwitchFacts, M: ManagerCore>(manager: &M, switch: &S) -> bool
+fn has_its_parts<S: SwitchFacts, M: ManagerLogic>(manager: &M, switch: &S) -> bool
     ensures { IsTrue result ↔ ((n group : ℕ) → n < group_limit → group_of_part (S.view switch.now) n ≡ Some group →
         HasPart (M.view manager.now) (S.view switch.now) group) }
 {
@@ -115,20 +115,20 @@ fn is_same_list(a: &AvoidList, b: &AvoidList) -> bool
     a.as_slice() == b.as_slice()
 }
 
-fn is_told<S: SwitchFacts, M: ManagerCore>(manager: &M, switch: &S) -> bool
+fn is_told<S: SwitchFacts, M: ManagerLogic>(manager: &M, switch: &S) -> bool
     ensures { IsTrue result ↔ (place_of (M.view manager.now).told (S.view switch.now).id ≡ (S.view switch.now).place) }
 {
     manager.place_of(switch.id()) == switch.place()
 }
 
-fn avoids_as_told<S: SwitchFacts, M: ManagerCore>(manager: &M, switch: &S) -> bool
+fn avoids_as_told<S: SwitchFacts, M: ManagerLogic>(manager: &M, switch: &S) -> bool
     ensures { IsTrue result ↔ ((S.view switch.now).avoid ≡ avoid_list (M.view manager.now).told (S.view switch.now).id) }
 {
     is_same_list(switch.avoid_list(), manager.avoid_list(switch.id()))
 }
 
 /// Whether nothing would change what a switch knows, and what the manager was told of it.
-pub(crate) fn is_settled_switch<S: SwitchCore, M: ManagerCore, H: HostCore>(
+pub(crate) fn is_settled_switch<S: SwitchLogic, M: ManagerLogic, H: HostLogic>(
     world: &World<S, M, H>,
     s: SwitchNo,
 ) -> bool

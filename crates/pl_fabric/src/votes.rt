@@ -1,12 +1,12 @@
 ghost use Rattle.std.specs.Prelude.{◌≡◌, ◌<◌, ◌/◌};
-ghost use Rattle.pl_core.specs.PortRecords.{is_usable_to, place_at};
+ghost use Rattle.pl_logic.specs.PortRecords.{is_usable_to, place_at};
 ghost use Rattle.pl_layouts.specs.Placement.{is_known};
-ghost use Rattle.pl_core.specs.SwitchFacts.{holder_of};
+ghost use Rattle.pl_logic.specs.SwitchFacts.{holder_of};
 ghost use Rattle.pl_fabric.specs.Settled.{holds_another, is_another, is_answered, is_holder, is_news, would_change, would_change_by};
 
-use pl_core::SwitchFacts;
 use pl_frame::SwitchId;
 use pl_layouts::Place;
+use pl_logic::SwitchFacts;
 
 // What the neighbour at a port is known to be.
 fn place_at<F: SwitchFacts>(facts: &F, port: u8) -> Place

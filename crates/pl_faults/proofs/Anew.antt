@@ -11,9 +11,9 @@ use Rattle.std.proofs.lemmas.Cmp.{tied_itself}
 use Rattle.pl_frame.specs.declared.address.SwitchId.{SwitchId}
 use Rattle.pl_layouts.specs.declared.place.Place.{Place}
 use Rattle.pl_layouts.specs.Equality.{same_switch}
-use Rattle.pl_core.specs.AvoidLists.{avoid_list, avoided_at, avoided_cmp, is_above}
-use Rattle.pl_core.specs.ManagerViews.{Told, id_cmp, in_order, neighbours, switches, tellers, value_at}
-use Rattle.pl_core.proofs.Among.{IsAmong, among_in_order, among_map, among_mapped, among_ordered, among_right, any_among, id_total}
+use Rattle.pl_logic.specs.AvoidLists.{avoid_list, avoided_at, avoided_cmp, is_above}
+use Rattle.pl_logic.specs.ManagerViews.{Told, id_cmp, in_order, neighbours, switches, tellers, value_at}
+use Rattle.pl_logic.proofs.Among.{IsAmong, among_in_order, among_map, among_mapped, among_ordered, among_right, any_among, id_total}
 use Rattle.pl_manager_rule.specs.ManagerRule.{with_link, with_place}
 use Rattle.pl_manager_rule.proofs.Avoided.{id_exact}
 use Rattle.pl_reports.specs.Kept.{has_told}

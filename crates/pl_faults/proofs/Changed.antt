@@ -10,9 +10,9 @@ use Rattle.std.specs.BTreeSet.{insert_key}
 use Rattle.std.proofs.lemmas.Bool.{not-true, not_from_false}
 use Rattle.std.proofs.lemmas.List.Kept.{IsStrictlySortedBy-filter}
 use Rattle.pl_frame.specs.declared.address.SwitchId.{SwitchId}
-use Rattle.pl_core.specs.AvoidLists.{avoid_list}
-use Rattle.pl_core.specs.ManagerViews.{Told, id_cmp, switches, value_at}
-use Rattle.pl_core.proofs.Among.{IsAmong, among_filter, among_filtered, among_insert, id_total, rising_inserted}
+use Rattle.pl_logic.specs.AvoidLists.{avoid_list}
+use Rattle.pl_logic.specs.ManagerViews.{Told, id_cmp, switches, value_at}
+use Rattle.pl_logic.proofs.Among.{IsAmong, among_filter, among_filtered, among_insert, id_total, rising_inserted}
 use Rattle.pl_manager_rule.specs.ManagerRule.{same_avoid_list}
 use Rattle.pl_manager_rule.proofs.Avoided.{id_exact, switches_rise}
 use Rattle.pl_manager_rule.proofs.Sameness.{avoid_lists_alike}

@@ -6,8 +6,8 @@ use Rattle.std.specs.Ordering.{match_ordering}
 use Rattle.std.specs.Cmp.{IsTotalOrder}
 use Rattle.std.specs.BTreeSet.{insert_key}
 use Rattle.std.proofs.lemmas.Map.Lookups.{CmpEqualImpliesEq}
-use Rattle.pl_core.specs.ManagerViews.{in_order}
-use Rattle.pl_core.proofs.Among.{IsAmong, among_in_order, among_insert, among_ordered, rising_in_order, rising_inserted}
+use Rattle.pl_logic.specs.ManagerViews.{in_order}
+use Rattle.pl_logic.proofs.Among.{IsAmong, among_in_order, among_insert, among_ordered, rising_in_order, rising_inserted}
 use Rattle.pl_reports.proofs.Ordering.{same_rising}
 
 module _ {K : Type 0} (R : K → K → Ordering) (o : IsTotalOrder R) (exact : CmpEqualImpliesEq R) where

@@ -8,8 +8,8 @@ use Rattle.std.specs.BTreeSet.{insert_key}
 use Rattle.pl_frame.specs.declared.address.SwitchId.{SwitchId}
 use Rattle.pl_layouts.specs.declared.place.Place.{Place}
 use Rattle.pl_layouts.specs.Equality.{same_switch}
-use Rattle.pl_core.specs.ManagerViews.{PlacedEdge, Told, edge_at, neighbours, place_of, placed_edges, switches}
-use Rattle.pl_core.specs.AvoidLists.{avoid_list, avoided_at, avoided_cmp, is_above, is_cut, is_level_above, is_sent_down, leads_to}
+use Rattle.pl_logic.specs.ManagerViews.{PlacedEdge, Told, edge_at, neighbours, place_of, placed_edges, switches}
+use Rattle.pl_logic.specs.AvoidLists.{avoid_list, avoided_at, avoided_cmp, is_above, is_cut, is_level_above, is_sent_down, leads_to}
 use Rattle.pl_manager_rule.proofs.Avoided.{avoided_exact, avoided_total}
 use Rattle.pl_faults.specs.declared.edges.Edge.{Edge}
 use Rattle.pl_faults.specs.declared.leading.Leading.{Leading}

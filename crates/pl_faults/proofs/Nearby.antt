@@ -6,8 +6,8 @@ use Rattle.std.specs.BTreeMap.{is_at}
 use Rattle.std.proofs.lemmas.Bool.{false≢true}
 use Rattle.pl_frame.specs.declared.address.SwitchId.{SwitchId}
 use Rattle.pl_layouts.specs.Placement.{is_known}
-use Rattle.pl_core.specs.ManagerViews.{Told, alive_neighbours, has_level, id_cmp, is_alive, is_told_usable, neighbours, place_of}
-use Rattle.pl_core.proofs.Among.{IsAmong, among_filter}
+use Rattle.pl_logic.specs.ManagerViews.{Told, alive_neighbours, has_level, id_cmp, is_alive, is_told_usable, neighbours, place_of}
+use Rattle.pl_logic.proofs.Among.{IsAmong, among_filter}
 use Rattle.pl_reports.proofs.Liveness.{any_alive}
 use Rattle.pl_faults.specs.declared.edges.Edge.{Edge}
 use Rattle.pl_faults.specs.declared.reach.Reach.{Reach}

@@ -9,9 +9,9 @@ use Rattle.std.proofs.lemmas.List.Folds.{list_any_more}
 use Rattle.pl_frame.specs.declared.address.SwitchId.{SwitchId}
 use Rattle.pl_layouts.specs.declared.place.Place.{Place}
 use Rattle.pl_layouts.specs.Placement.{is_known, nowhere}
-use Rattle.pl_core.specs.AvoidLists.{core_leads_to, is_above, is_level_above, leads_to}
-use Rattle.pl_core.specs.ManagerViews.{Told, alive_at_level, alive_neighbours, has_level, has_pod, id_cmp, is_alive, place_of, switches, tellers, value_at}
-use Rattle.pl_core.proofs.Among.{among_in_order, among_left}
+use Rattle.pl_logic.specs.AvoidLists.{core_leads_to, is_above, is_level_above, leads_to}
+use Rattle.pl_logic.specs.ManagerViews.{Told, alive_at_level, alive_neighbours, has_level, has_pod, id_cmp, is_alive, place_of, switches, tellers, value_at}
+use Rattle.pl_logic.proofs.Among.{among_in_order, among_left}
 use Rattle.pl_manager_rule.proofs.Avoided.{id_exact}
 use Rattle.pl_manager_rule.proofs.Tables.{found_key}
 use Rattle.pl_reports.specs.Kept.{has_told}

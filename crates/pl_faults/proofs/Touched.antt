@@ -5,9 +5,9 @@ use Rattle.std.specs.List.{filter, flat_map}
 use Rattle.std.specs.BTreeMap.{is_at}
 use Rattle.std.proofs.lemmas.Bool.{false≢true, or_cases}
 use Rattle.pl_frame.specs.declared.address.SwitchId.{SwitchId}
-use Rattle.pl_core.specs.AvoidLists.{avoid_list, avoided_at, avoided_cmp, is_above, is_cut, is_level_above}
-use Rattle.pl_core.specs.ManagerViews.{PlacedEdge, Told, edge_at, has_level, id_cmp, in_order, neighbours, place_of, placed_edges, value_at}
-use Rattle.pl_core.proofs.Among.{IsAmong}
+use Rattle.pl_logic.specs.AvoidLists.{avoid_list, avoided_at, avoided_cmp, is_above, is_cut, is_level_above}
+use Rattle.pl_logic.specs.ManagerViews.{PlacedEdge, Told, edge_at, has_level, id_cmp, in_order, neighbours, place_of, placed_edges, value_at}
+use Rattle.pl_logic.proofs.Among.{IsAmong}
 use Rattle.pl_manager_rule.proofs.Avoided.{IsPlacedAs, among_placed, placed_among}
 use Rattle.pl_reports.specs.Kept.{has_told}
 use Rattle.pl_faults.specs.declared.edges.Edge.{Edge}

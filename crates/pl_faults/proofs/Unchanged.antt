@@ -12,9 +12,9 @@ use Rattle.pl_frame.specs.declared.address.SwitchId.{SwitchId}
 use Rattle.pl_layouts.specs.declared.place.Place.{Place}
 use Rattle.pl_layouts.specs.Equality.{same_switch}
 use Rattle.pl_layouts.specs.Placement.{is_known, nowhere}
-use Rattle.pl_core.specs.AvoidLists.{avoid_list, avoided_cmp, is_level_above}
-use Rattle.pl_core.specs.ManagerViews.{PlacedEdge, Told, edge_at, id_cmp, in_order, is_alive, is_told_usable, link_cmp, neighbours, place_of, placed_edges, switches, tellers, value_at}
-use Rattle.pl_core.proofs.Among.{IsAmong, among_in_order, among_insert, among_ordered, among_right, id_total, rising_inserted}
+use Rattle.pl_logic.specs.AvoidLists.{avoid_list, avoided_cmp, is_level_above}
+use Rattle.pl_logic.specs.ManagerViews.{PlacedEdge, Told, edge_at, id_cmp, in_order, is_alive, is_told_usable, link_cmp, neighbours, place_of, placed_edges, switches, tellers, value_at}
+use Rattle.pl_logic.proofs.Among.{IsAmong, among_in_order, among_insert, among_ordered, among_right, id_total, rising_inserted}
 use Rattle.pl_manager_rule.specs.ManagerRule.{with_link, with_place}
 use Rattle.pl_manager_rule.proofs.Avoided.{id_exact, neighbours_rise, same_is, switches_rise}
 use Rattle.pl_manager_rule.proofs.History.{value_after}

@@ -4,8 +4,8 @@ use Rattle.std.specs.List.{filter}
 use Rattle.std.specs.BTreeMap.{is_at}
 use Rattle.std.specs.BTreeSet.{insert_key}
 use Rattle.pl_frame.specs.declared.address.SwitchId.{SwitchId}
-use Rattle.pl_core.specs.ManagerViews.{Told, alive_neighbours, edge_at, id_cmp, neighbours, place_of, placed_edges, switches, value_at}
-use Rattle.pl_core.specs.AvoidLists.{avoid_list}
+use Rattle.pl_logic.specs.ManagerViews.{Told, alive_neighbours, edge_at, id_cmp, neighbours, place_of, placed_edges, switches, value_at}
+use Rattle.pl_logic.specs.AvoidLists.{avoid_list}
 use Rattle.pl_manager_rule.specs.ManagerRule.{same_avoid_list}
 use Rattle.pl_reports.specs.Kept.{has_told, nothing_told}
 use Rattle.pl_faults.specs.declared.leading.Leading.{Leading}

@@ -4,8 +4,8 @@ use Rattle.std.specs.List.{list_any, zip}
 use Rattle.pl_frame.specs.declared.address.SwitchId.{SwitchId}
 use Rattle.pl_layouts.specs.declared.place.Place.{Place}
 use Rattle.pl_layouts.specs.Placement.{is_known}
-use Rattle.pl_core.specs.ManagerViews.{Told, alive_neighbours, has_level, has_pod, id_cmp, is_alive, value_at}
-use Rattle.pl_core.specs.AvoidLists.{leads_to}
+use Rattle.pl_logic.specs.ManagerViews.{Told, alive_neighbours, has_level, has_pod, id_cmp, is_alive, value_at}
+use Rattle.pl_logic.specs.AvoidLists.{leads_to}
 use Rattle.pl_faults.specs.declared.edges.Edge.{Edge}
 use Rattle.pl_faults.specs.declared.reach.Reach.{Reach}
 use Rattle.pl_faults.specs.Listed.{is_in}

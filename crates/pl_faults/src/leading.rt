@@ -2,7 +2,7 @@ ghost use Rattle.std.specs.Prelude.{◌≡◌, ◌&&◌, ◌||◌, IfOk, OnOk, [
 ghost use Rattle.std.specs.List.{list_any};
 ghost use Rattle.pl_layouts.specs.Equality.{same_switch};
 ghost use Rattle.pl_frame.specs.declared.address.SwitchId.{SwitchId};
-ghost use Rattle.pl_core.specs.ManagerViews.{Told, edge_at, place_of, placed_edges};
+ghost use Rattle.pl_logic.specs.ManagerViews.{Told, edge_at, place_of, placed_edges};
 ghost use Rattle.pl_faults.specs.Kept.{IsLinkWord, IsPlaceWord};
 ghost use Rattle.pl_faults.specs.Missed.{IsLeading, IsTurned, is_some_edge};
 
@@ -10,8 +10,8 @@ use crate::edges::{Edge, edge_at, placed_edges};
 use crate::listed::{Hearers, around, ends_of, hear};
 use crate::missed::{Misses, renew_misses, turned_among};
 use crate::reach::{Reach, no_reach, reach_of, renew_reach};
-use pl_core::{Memory, SwitchList};
 use pl_frame::SwitchId;
+use pl_logic::{Memory, SwitchList};
 use pl_reports::Reports;
 use std::alloc::Global;
 use std::collections::BTreeMap;

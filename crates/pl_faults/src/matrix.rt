@@ -1,15 +1,15 @@
 ghost use Rattle.std.specs.Prelude.{◌≡◌, [], IfOk, OnErr, OnOk};
 ghost use Rattle.std.specs.Option.{option_copied};
 ghost use Rattle.pl_frame.specs.declared.address.SwitchId.{SwitchId};
-ghost use Rattle.pl_core.specs.AvoidLists.{avoid_list};
+ghost use Rattle.pl_logic.specs.AvoidLists.{avoid_list};
 ghost use Rattle.pl_manager_rule.specs.ManagerRule.{with_link, with_place};
 ghost use Rattle.pl_faults.specs.Kept.{changed_lists, empty_matrix, handed, list_of};
 
 use crate::leading::{Leading, no_leading};
 use crate::lists::{Lists, copy_in, differing, list_in};
 use crate::telling::{keep_link, keep_place};
-use pl_core::{AvoidList, Memory, Place, SwitchList};
 use pl_frame::SwitchId;
+use pl_logic::{AvoidList, Memory, Place, SwitchList};
 use pl_reports::Reports;
 use std::alloc::Global;
 use std::collections::BTreeMap;

@@ -2,7 +2,7 @@ ghost use Rattle.std.specs.Prelude.{◌≡◌, [], IfOk, IsTrue, OnOk, false, if
 ghost use Rattle.std.specs.BTreeMap.{is_at};
 ghost use Rattle.std.specs.Option.{option_copied};
 ghost use Rattle.pl_frame.specs.declared.address.SwitchId.{SwitchId};
-ghost use Rattle.pl_core.specs.ManagerViews.{Told, alive_neighbours, has_level, id_cmp, value_at};
+ghost use Rattle.pl_logic.specs.ManagerViews.{Told, alive_neighbours, has_level, id_cmp, value_at};
 ghost use Rattle.pl_layouts.specs.Placement.{is_known};
 ghost use Rattle.pl_faults.specs.Kept.{IsWordWithin};
 ghost use Rattle.pl_faults.specs.Listed.{is_in};
@@ -11,8 +11,8 @@ ghost use Rattle.pl_faults.specs.Rows.{AreRows, AreRowsRenewed, IsReach, IsReach
 use crate::edges::Edge;
 use crate::listed::{beside, put_all};
 use crate::row::Row;
-use pl_core::{Memory, Place, SwitchList};
 use pl_frame::SwitchId;
+use pl_logic::{Memory, Place, SwitchList};
 use pl_reports::Reports;
 use std::alloc::Global;
 use std::collections::BTreeMap;

@@ -1,5 +1,5 @@
 ghost use Rattle.std.specs.Prelude.{OnOk};
-ghost use Rattle.pl_core.specs.ManagerViews.{Told};
+ghost use Rattle.pl_logic.specs.ManagerViews.{Told};
 ghost use Rattle.pl_frame.specs.declared.address.SwitchId.{SwitchId};
 ghost use Rattle.pl_faults.specs.Kept.{AreRenewed, IsKept, IsKeptUp, IsLinkWord, IsPlaceWord};
 ghost use Rattle.pl_faults.specs.Listed.{is_in};
@@ -9,8 +9,8 @@ use crate::leading::{Leading, is_none_placed, link_leading, place_leading};
 use crate::listed::{put_all_below, with_hearers};
 use crate::lists::{Lists, renew};
 use crate::making::avoid_list_of;
-use pl_core::{AvoidList, Memory, SwitchList};
 use pl_frame::SwitchId;
+use pl_logic::{AvoidList, Memory, SwitchList};
 use pl_reports::Reports;
 use std::alloc::Global;
 

@@ -1,13 +1,13 @@
 ghost use Rattle.std.specs.Prelude.{◌≡◌, ℕ, ◌&&◌, ◌*◌, ◌^◌, ◌/◌, ◌%◌, ◌<◌, [], IfOk, IsTrue, OnOk, bit_or, false, if◌then◌else◌, length, map, slice_index, slice_index_or, slice_set, true};
-ghost use Rattle.pl_core.specs.ManagerViews.{is_alive};
+ghost use Rattle.pl_logic.specs.ManagerViews.{is_alive};
 ghost use Rattle.pl_layouts.specs.Placement.{is_known};
 ghost use Rattle.pl_faults.specs.Bits.{has_bit, with_bit};
 ghost use Rattle.pl_faults.specs.Rows.{either_row, leads_down, row_of};
 
 use crate::edges::Edge;
 use crate::reach::has_pod;
-use pl_core::{Memory, Place};
 use pl_frame::SwitchId;
+use pl_logic::{Memory, Place};
 use pl_reports::Reports;
 use std::alloc::Global;
 use std::marker::Model;

@@ -1,7 +1,7 @@
 ghost use Rattle.std.specs.Prelude.{◌≡◌, IsTrue, OnOk, if◌then◌else◌, not, true};
 ghost use Rattle.std.specs.List.{list_any};
 ghost use Rattle.pl_layouts.specs.Equality.{same_switch};
-ghost use Rattle.pl_core.specs.ManagerViews.{neighbours, place_of};
+ghost use Rattle.pl_logic.specs.ManagerViews.{neighbours, place_of};
 ghost use Rattle.pl_frame.specs.declared.address.SwitchId.{SwitchId};
 ghost use Rattle.pl_manager_rule.specs.ManagerRule.{with_link, with_place};
 ghost use Rattle.pl_reports.specs.Kept.{has_told};
@@ -10,8 +10,8 @@ ghost use Rattle.pl_faults.specs.Kept.{IsKept, handed_in};
 use crate::leading::Leading;
 use crate::lists::Lists;
 use crate::renewing::{renew_near, renew_placed};
-use pl_core::{Memory, Place};
 use pl_frame::SwitchId;
+use pl_logic::{Memory, Place};
 use pl_reports::Reports;
 use std::alloc::Global;
 

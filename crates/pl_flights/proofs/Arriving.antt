@@ -23,12 +23,12 @@ use Rattle.pl_journal.specs.Flights.{address, first_of, flight_of, leg, root}
 use Rattle.pl_journal.specs.Lossy.{ArrivesByAddress, ArrivesByGroup, EndsAt, Needs, UnalteredFrom, is_member, is_root_there, is_same_place, mac_of_host}
 use Rattle.pl_journal.specs.Places.{Spot, at_port, holder, is_at, spot, spot_of}
 use Rattle.pl_journal.proofs.Hosts.{hosts_apart}
-use Rattle.pl_core.specs.declared.reception.Reception.{Reception}
-use Rattle.pl_core.specs.declared.reception.Reception.TheVariants.{Kept, NotMember}
-use Rattle.pl_core.specs.HostDuties.{HostsKeepFrames, HostsSendData}
-use Rattle.pl_core.specs.HostInputs.{HostRule}
-use Rattle.pl_core.specs.HostInputs.HostAnswer.{Received}
-use Rattle.pl_core.specs.HostInputs.HostInput.{Receives}
+use Rattle.pl_logic.specs.declared.reception.Reception.{Reception}
+use Rattle.pl_logic.specs.declared.reception.Reception.TheVariants.{Kept, NotMember}
+use Rattle.pl_logic.specs.HostDuties.{HostsKeepFrames, HostsSendData}
+use Rattle.pl_logic.specs.HostInputs.{HostRule}
+use Rattle.pl_logic.specs.HostInputs.HostAnswer.{Received}
+use Rattle.pl_logic.specs.HostInputs.HostInput.{Receives}
 use Rattle.pl_world.specs.declared.item.Item.{Item}
 use Rattle.pl_world.specs.declared.item.Item.TheVariants.{Data}
 use Rattle.pl_world.specs.declared.stand.Stand.{Stand}

@@ -10,8 +10,8 @@ use Rattle.pl_layouts.specs.declared.control.Control.TheVariants as control
 use Rattle.pl_layouts.specs.declared.control.ControlError.{ControlError}
 use Rattle.pl_layouts.specs.declared.place.Place.{Place}
 use Rattle.pl_layouts.specs.Placement.{is_known, is_placed}
-use Rattle.pl_core.specs.PortRecords.{port_of, ports_of_switch}
-use Rattle.pl_core.specs.SwitchViews.{SwitchView}
+use Rattle.pl_logic.specs.PortRecords.{port_of, ports_of_switch}
+use Rattle.pl_logic.specs.SwitchViews.{SwitchView}
 use Rattle.pl_steps.specs.Steps.{SwitchStep, rests}
 use Rattle.pl_switch_rule.specs.Granting.{grants_remembered}
 use Rattle.pl_switch_rule.specs.Levels.{after_message, changes_to, has_become_placed, settles_in, with_pod}

@@ -19,11 +19,11 @@ use Rattle.pl_journal.specs.declared.entry.Entry.TheVariants.{Crossed, Granted}
 use Rattle.pl_journal.specs.Flights.{Flight}
 use Rattle.pl_journal.specs.Lossy.{IsGrantable, mac_of_host}
 use Rattle.pl_journal.specs.Places.{Spot, at_port, same_spot, spot_of}
-use Rattle.pl_core.specs.declared.acts.Act.{Act}
-use Rattle.pl_core.specs.declared.acts.Act.TheVariants as act
-use Rattle.pl_core.specs.declared.messages.ToManager.TheVariants.{Learned}
-use Rattle.pl_core.specs.declared.switch_records.Grant.{Grant}
-use Rattle.pl_core.specs.SwitchViews.{SwitchView}
+use Rattle.pl_logic.specs.declared.acts.Act.{Act}
+use Rattle.pl_logic.specs.declared.acts.Act.TheVariants as act
+use Rattle.pl_logic.specs.declared.messages.ToManager.TheVariants.{Learned}
+use Rattle.pl_logic.specs.declared.switch_records.Grant.{Grant}
+use Rattle.pl_logic.specs.SwitchViews.{SwitchView}
 use Rattle.pl_steps.specs.Steps.{SwitchStep, does, rests, ◌▹◌}
 use Rattle.pl_switch_rule.specs.Forwarding.{Choice}
 use Rattle.pl_switch_rule.specs.Granting.{address_at_port, grant_number, granted, grants_at, grants_next, grants_or_learns, has_no_address, in_use, is_local, is_port_spent, learns_ip, learns_source, new_grant, remembers, sender_ip, with_grants}

@@ -7,8 +7,8 @@ use Rattle.pl_layouts.specs.Placement.{is_known}
 use Rattle.pl_layouts.specs.declared.control.Control.{Control}
 use Rattle.pl_layouts.specs.declared.control.Control.TheVariants as control
 use Rattle.pl_layouts.specs.declared.control.ControlError.{ControlError}
-use Rattle.pl_core.specs.PortRecords.{place_at, port_of, ports_of_switch}
-use Rattle.pl_core.specs.SwitchViews.{SwitchView}
+use Rattle.pl_logic.specs.PortRecords.{place_at, port_of, ports_of_switch}
+use Rattle.pl_logic.specs.SwitchViews.{SwitchView}
 use Rattle.pl_steps.specs.Steps.{SwitchStep, rests}
 use Rattle.pl_switch_rule.specs.Granting.{grants_remembered}
 use Rattle.pl_switch_rule.specs.Levels.{after_message, changes_to, has_become_placed, settles_in}
@@ -24,10 +24,10 @@ use Rattle.pl_wiring.specs.declared.link.Peer.{Peer}
 use Rattle.pl_wiring.specs.declared.link.Peer.TheVariants.{Switch}
 use Rattle.pl_wiring.specs.Index.{port_index}
 use Rattle.pl_wiring.specs.Peers.{IsPort, peer_of}
-use Rattle.pl_core.specs.Accounting.{AccountsForFrames}
-use Rattle.pl_core.specs.SwitchInputs.SwitchInput.{Comes, Says}
-use Rattle.pl_core.specs.declared.messages.ToSwitch.{ToSwitch}
-use Rattle.pl_core.specs.declared.messages.ToSwitch.TheVariants.{Pod}
+use Rattle.pl_logic.specs.Accounting.{AccountsForFrames}
+use Rattle.pl_logic.specs.SwitchInputs.SwitchInput.{Comes, Says}
+use Rattle.pl_logic.specs.declared.messages.ToSwitch.{ToSwitch}
+use Rattle.pl_logic.specs.declared.messages.ToSwitch.TheVariants.{Pod}
 use Rattle.pl_world.specs.declared.item.Item.{Item}
 use Rattle.pl_world.specs.declared.item.Item.TheVariants.{Control as ControlItem}
 use Rattle.pl_world.specs.declared.spoken_frame.SpokenFrame.TheVariants.{Silent}
@@ -44,7 +44,7 @@ use Rattle.pl_flights.proofs.Beginning.{lost_told}
 use Rattle.pl_flights.proofs.Hands.Hand.{Empty}
 use Rattle.pl_flights.proofs.OverLinks.{taken_out}
 use Rattle.pl_flights.proofs.Settling.{GrantsWell, HasNoneJustIn, settling_turn}
-use Rattle.pl_core.specs.declared.acts.Act.{Act}
+use Rattle.pl_logic.specs.declared.acts.Act.{Act}
 use Rattle.pl_flights.proofs.SilentSteps.{AreSilent, all_silent_good, silent_append, silent_changes, silent_turn}
 
 -- what changed is told, and nothing is granted

@@ -20,12 +20,12 @@ use Rattle.pl_journal.specs.declared.cause.Cause.TheVariants as cause
 use Rattle.pl_journal.specs.Causes.{is_routed}
 use Rattle.pl_journal.specs.Flights.{Flight}
 use Rattle.pl_journal.specs.Places.{Spot, at_port, is_at, is_host_port}
-use Rattle.pl_core.specs.declared.acts.Act.{Act}
-use Rattle.pl_core.specs.declared.acts.Act.TheVariants as act
-use Rattle.pl_core.specs.PortRecords.{is_usable, is_usable_to, place_at, ports_of_switch}
-use Rattle.pl_core.specs.SwitchFacts.{is_avoided}
-use Rattle.pl_core.specs.SwitchViews.{SwitchView}
-use Rattle.pl_core.proofs.Among.{among_filter, among_of_Contains}
+use Rattle.pl_logic.specs.declared.acts.Act.{Act}
+use Rattle.pl_logic.specs.declared.acts.Act.TheVariants as act
+use Rattle.pl_logic.specs.PortRecords.{is_usable, is_usable_to, place_at, ports_of_switch}
+use Rattle.pl_logic.specs.SwitchFacts.{is_avoided}
+use Rattle.pl_logic.specs.SwitchViews.{SwitchView}
+use Rattle.pl_logic.proofs.Among.{among_filter, among_of_Contains}
 use Rattle.pl_steps.specs.Steps.{SwitchStep}
 use Rattle.pl_switch_rule.specs.declared.came.Way.{Way}
 use Rattle.pl_switch_rule.specs.declared.came.Way.TheVariants.{Down, Nowhere, ToHosts, Up}

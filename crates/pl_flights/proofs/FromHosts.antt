@@ -10,10 +10,10 @@ use Rattle.pl_journal.specs.declared.entry.Entry.{Entry}
 use Rattle.pl_journal.specs.declared.entry.Entry.TheVariants.{Crossed, Granted}
 use Rattle.pl_journal.specs.Flights.{Flight, has_just_come_in, is_empty, trail}
 use Rattle.pl_journal.specs.Places.{at_port, spot_of}
-use Rattle.pl_core.specs.Accounting.{AccountsForFrames}
-use Rattle.pl_core.specs.PortRecords.{is_open_to_hosts, port_of}
-use Rattle.pl_core.specs.SwitchInputs.SwitchInput.{Comes}
-use Rattle.pl_core.specs.SwitchViews.{SwitchView}
+use Rattle.pl_logic.specs.Accounting.{AccountsForFrames}
+use Rattle.pl_logic.specs.PortRecords.{is_open_to_hosts, port_of}
+use Rattle.pl_logic.specs.SwitchInputs.SwitchInput.{Comes}
+use Rattle.pl_logic.specs.SwitchViews.{SwitchView}
 use Rattle.pl_steps.specs.Steps.{SwitchStep}
 use Rattle.pl_queues.specs.Queues.{items_at}
 use Rattle.pl_switch_rule.specs.Intake.{comes_from_host}

@@ -10,16 +10,16 @@ use Rattle.pl_journal.specs.declared.entry.Entry.TheVariants.{Granted}
 use Rattle.pl_journal.specs.Flights.{Flight, address_at, ends, has_just_come_in}
 use Rattle.pl_journal.specs.Lossy.{IsGrantable}
 use Rattle.pl_journal.specs.Places.{at_port}
-use Rattle.pl_core.specs.declared.acts.Act.{Act}
-use Rattle.pl_core.specs.declared.acts.Act.TheVariants as act
+use Rattle.pl_logic.specs.declared.acts.Act.{Act}
+use Rattle.pl_logic.specs.declared.acts.Act.TheVariants as act
 use Rattle.std.proofs.lemmas.Option.{slice_get_within}
-use Rattle.pl_core.specs.Accounting.{AccountsForFrames, CanCome, IsFit, IsShaped, first_speech, is_said, speech_after}
-use Rattle.pl_core.specs.SwitchInputs.{SwitchInput, SwitchRule}
-use Rattle.pl_core.specs.SwitchViews.{SwitchView}
+use Rattle.pl_logic.specs.Accounting.{AccountsForFrames, CanCome, IsFit, IsShaped, first_speech, is_said, speech_after}
+use Rattle.pl_logic.specs.SwitchInputs.{SwitchInput, SwitchRule}
+use Rattle.pl_logic.specs.SwitchViews.{SwitchView}
 use Rattle.pl_world.specs.WorldRule.{SwitchTurn}
 use Rattle.pl_world.proofs.Balances.{Owes}
 use Rattle.pl_world.proofs.StepBalances.{switches_rest}
-use Rattle.pl_core.specs.Accounting.Speech.{Waiting as SaidWaiting}
+use Rattle.pl_logic.specs.Accounting.Speech.{Waiting as SaidWaiting}
 use Rattle.pl_world.specs.declared.spoken_frame.SpokenFrame.TheVariants.{Waiting}
 use Rattle.pl_world.specs.Changes.{host_no, host_of, switch_no}
 use Rattle.pl_world.specs.SwitchActs.{Doing, act_done, acts_done, granted}

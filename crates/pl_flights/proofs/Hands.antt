@@ -20,8 +20,8 @@ use Rattle.pl_journal.specs.Causes.{is_bad_arp, is_routed}
 use Rattle.pl_journal.specs.Flights.{Flight, first_flight, first_of, flight_of, is_empty, is_flying, is_redirected, leg, trail, was_live}
 use Rattle.pl_journal.specs.Lossy.{IsNewer}
 use Rattle.pl_journal.specs.Places.{Spot, at_port, has_failed_link, is_failed}
-use Rattle.pl_core.specs.declared.acts.Act.{Act}
-use Rattle.pl_core.specs.declared.acts.Act.TheVariants as act
+use Rattle.pl_logic.specs.declared.acts.Act.{Act}
+use Rattle.pl_logic.specs.declared.acts.Act.TheVariants as act
 use Rattle.pl_world.specs.declared.item.Item.{Item}
 use Rattle.pl_world.specs.declared.spoken_frame.SpokenFrame.{SpokenFrame}
 use Rattle.pl_world.specs.declared.spoken_frame.SpokenFrame.TheVariants.{Over, Passed, Silent, Waiting}

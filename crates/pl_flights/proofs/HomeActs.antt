@@ -20,9 +20,9 @@ use Rattle.pl_layouts.proofs.Arrived.{destination_of-arriving}
 use Rattle.pl_journal.specs.Flights.{Flight, first_of, level_of}
 use Rattle.pl_journal.specs.Lossy.{UnalteredFrom}
 use Rattle.pl_journal.specs.Places.{is_host_port}
-use Rattle.pl_core.specs.declared.acts.Act.{Act}
-use Rattle.pl_core.specs.declared.switch_records.Grant.{Grant}
-use Rattle.pl_core.specs.SwitchViews.{SwitchView}
+use Rattle.pl_logic.specs.declared.acts.Act.{Act}
+use Rattle.pl_logic.specs.declared.switch_records.Grant.{Grant}
+use Rattle.pl_logic.specs.SwitchViews.{SwitchView}
 use Rattle.pl_switch_rule.specs.declared.came.Came.TheVariants.{FromHost}
 use Rattle.pl_switch_rule.specs.Delivering.{delivers, delivers_to, destination, goes_on}
 use Rattle.pl_switch_rule.specs.Forwarding.{Choice, candidates, candidates_by, forwards, is_candidate, leads_from_edge, leads_up, leaves_by}

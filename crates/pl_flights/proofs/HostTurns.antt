@@ -9,10 +9,10 @@ use Rattle.pl_journal.specs.declared.entry.Entry.{Entry}
 use Rattle.pl_journal.specs.declared.entry.Entry.TheVariants.{Sent, Skipped}
 use Rattle.pl_journal.specs.Flights.{begun}
 use Rattle.pl_journal.proofs.Unbegun.{flight_sent}
-use Rattle.pl_core.specs.declared.acts.HostAct.{HostAct}
-use Rattle.pl_core.specs.declared.acts.HostAct.TheVariants.{Send}
-use Rattle.pl_core.specs.HostDuties.{HoldsData, HostsSendData, are_data, is_data, sent_by}
-use Rattle.pl_core.specs.HostInputs.{HostAnswer, HostInput, HostRule}
+use Rattle.pl_logic.specs.declared.acts.HostAct.{HostAct}
+use Rattle.pl_logic.specs.declared.acts.HostAct.TheVariants.{Send}
+use Rattle.pl_logic.specs.HostDuties.{HoldsData, HostsSendData, are_data, is_data, sent_by}
+use Rattle.pl_logic.specs.HostInputs.{HostAnswer, HostInput, HostRule}
 use Rattle.pl_world.specs.declared.item.Item.TheVariants.{Data}
 use Rattle.pl_world.specs.Changes.{host_no}
 use Rattle.pl_world.specs.OtherActs.{host_act_done, skip_noted}

@@ -18,9 +18,9 @@ use Rattle.pl_journal.specs.declared.entry.Entry.{Entry}
 use Rattle.pl_journal.specs.declared.entry.Entry.TheVariants.{Granted}
 use Rattle.pl_journal.specs.Lossy.{mac_of_host}
 use Rattle.pl_journal.specs.Places.{Spot, at_port, holder, spot}
-use Rattle.pl_core.specs.declared.switch_records.Grant.{Grant}
-use Rattle.pl_core.specs.declared.trap.Trap.{Trap}
-use Rattle.pl_core.specs.SwitchViews.{SwitchView}
+use Rattle.pl_logic.specs.declared.switch_records.Grant.{Grant}
+use Rattle.pl_logic.specs.declared.trap.Trap.{Trap}
+use Rattle.pl_logic.specs.SwitchViews.{SwitchView}
 use Rattle.pl_switch_rule.specs.Delivering.{grant_trap, trap_for}
 use Rattle.pl_switch_rule.specs.Granting.{address_at_port, grant_number, granted, grants_at, in_use, is_local, learns_ip, new_grant, same_ip, with_grant, with_grants}
 use Rattle.pl_steps.specs.Steps.{SwitchStep, rests}

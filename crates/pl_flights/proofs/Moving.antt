@@ -30,8 +30,8 @@ use Rattle.pl_world.specs.declared.item.Item.{Item}
 use Rattle.pl_world.specs.declared.item.Item.TheVariants.{Control, Data}
 use Rattle.pl_world.specs.declared.stand.Stand.{Stand}
 use Rattle.pl_world.specs.Changes.{ends_of, host_at, host_no}
-use Rattle.pl_core.specs.HostDuties.{HostsSendData}
-use Rattle.pl_core.specs.HostInputs.{HostRule}
+use Rattle.pl_logic.specs.HostDuties.{HostsSendData}
+use Rattle.pl_logic.specs.HostInputs.{HostRule}
 use Rattle.pl_world.specs.Flying.{IsAtPort, IsCounted}
 use Rattle.pl_world.specs.LinksAndMoves.{host_moved}
 use Rattle.pl_world.specs.Refusals.{has_host, has_port, has_switch, is_for_hosts}

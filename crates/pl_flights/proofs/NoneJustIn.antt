@@ -16,7 +16,7 @@ use Rattle.pl_journal.specs.Flights.{Flight, begun, came_in, ends, has_just_come
 use Rattle.pl_journal.specs.Lossy.{RunTo}
 use Rattle.pl_journal.specs.Places.{Spot}
 use Rattle.pl_journal.proofs.Numbered.{begun_within}
-use Rattle.pl_core.specs.SwitchViews.{SwitchView}
+use Rattle.pl_logic.specs.SwitchViews.{SwitchView}
 use Rattle.pl_queues.specs.Queues.{items_at}
 use Rattle.pl_world.specs.declared.item.Item.{Item}
 use Rattle.pl_world.specs.declared.item.Item.TheVariants.{Control, Data}

@@ -6,11 +6,11 @@ use Rattle.pl_layouts.specs.Equality.{same_switch}
 use Rattle.pl_journal.specs.declared.entry.Entry.{Entry}
 use Rattle.pl_journal.specs.declared.entry.Entry.TheVariants.{Registered}
 use Rattle.pl_journal.specs.Lossy.{Needs}
-use Rattle.pl_core.specs.declared.acts.ManagerAct.{ManagerAct}
-use Rattle.pl_core.specs.declared.acts.ManagerAct.TheVariants.{Number, Say}
-use Rattle.pl_core.specs.declared.messages.ToManager.{ToManager}
-use Rattle.pl_core.specs.declared.messages.ToSwitch.{ToSwitch}
-use Rattle.pl_core.specs.ManagerDuties.{ManagerRule}
+use Rattle.pl_logic.specs.declared.acts.ManagerAct.{ManagerAct}
+use Rattle.pl_logic.specs.declared.acts.ManagerAct.TheVariants.{Number, Say}
+use Rattle.pl_logic.specs.declared.messages.ToManager.{ToManager}
+use Rattle.pl_logic.specs.declared.messages.ToSwitch.{ToSwitch}
+use Rattle.pl_logic.specs.ManagerDuties.{ManagerRule}
 use Rattle.pl_wiring.specs.Plan.{Plan}
 use Rattle.pl_world.specs.Changes.{said_to}
 use Rattle.pl_world.specs.Flying.{IsCounted}

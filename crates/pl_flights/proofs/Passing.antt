@@ -11,9 +11,9 @@ use Rattle.pl_wiring.specs.Plan.{IsPlan, Plan}
 use Rattle.pl_layouts.specs.declared.place.Place.{Place}
 use Rattle.pl_layouts.specs.Placement.{is_known, is_placed}
 use Rattle.pl_journal.specs.Flights.{level_of}
-use Rattle.pl_core.specs.PortRecords.{is_usable, is_usable_to, place_at}
-use Rattle.pl_core.specs.SwitchFacts.{is_avoided}
-use Rattle.pl_core.specs.SwitchViews.{SwitchView}
+use Rattle.pl_logic.specs.PortRecords.{is_usable, is_usable_to, place_at}
+use Rattle.pl_logic.specs.SwitchFacts.{is_avoided}
+use Rattle.pl_logic.specs.SwitchViews.{SwitchView}
 use Rattle.pl_switch_rule.specs.declared.came.Came.{Came}
 use Rattle.pl_switch_rule.specs.declared.came.Came.TheVariants.{FromAbove, FromBelow}
 use Rattle.pl_switch_rule.specs.Forwarding.{came_between, came_by, is_candidate, leads_from_aggregation, leads_from_core, leads_from_edge, leads_to_pod, leads_to_position, leads_up}

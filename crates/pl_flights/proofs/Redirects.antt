@@ -16,10 +16,10 @@ use Rattle.pl_layouts.proofs.Arrivals.{packet_behind, packet_in-behind, parts}
 use Rattle.pl_layouts.proofs.Arrived.{arriving_readable, arriving_unreadable}
 use Rattle.pl_journal.specs.Flights.{Flight, first_of}
 use Rattle.pl_journal.specs.Lossy.{UnalteredFrom}
-use Rattle.pl_core.specs.declared.acts.Act.{Act}
-use Rattle.pl_core.specs.declared.switch_records.Grant.{Grant}
-use Rattle.pl_core.specs.declared.trap.Trap.{Trap}
-use Rattle.pl_core.specs.SwitchViews.{SwitchView}
+use Rattle.pl_logic.specs.declared.acts.Act.{Act}
+use Rattle.pl_logic.specs.declared.switch_records.Grant.{Grant}
+use Rattle.pl_logic.specs.declared.trap.Trap.{Trap}
+use Rattle.pl_logic.specs.SwitchViews.{SwitchView}
 use Rattle.pl_switch_rule.specs.Delivering.{addresses, comes_home, delivers_or_redirects, destination, goes_on, grant_trap, if_newer, last_on, last_trap, redirects, redirects_on, trap_for}
 use Rattle.pl_switch_rule.specs.Forwarding.{Choice}
 use Rattle.pl_switch_rule.specs.Granting.{granted, is_local}

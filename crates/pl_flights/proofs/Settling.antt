@@ -11,12 +11,12 @@ use Rattle.pl_journal.specs.declared.entry.Entry.TheVariants.{Granted}
 use Rattle.pl_journal.specs.Flights.{came_in, has_just_come_in}
 use Rattle.pl_journal.specs.Lossy.{IsGrantable}
 use Rattle.pl_journal.specs.Places.{Spot, at_port}
-use Rattle.pl_core.specs.declared.acts.Act.{Act}
-use Rattle.pl_core.specs.declared.acts.Act.TheVariants as act
-use Rattle.pl_core.specs.Accounting.{AccountsForFrames, CanCome, IsFit, IsShaped, first_speech, is_said, speech_after}
-use Rattle.pl_core.specs.Accounting.Speech.{Silent as SaidNone}
-use Rattle.pl_core.specs.SwitchInputs.{SwitchInput, SwitchRule}
-use Rattle.pl_core.specs.SwitchViews.{SwitchView}
+use Rattle.pl_logic.specs.declared.acts.Act.{Act}
+use Rattle.pl_logic.specs.declared.acts.Act.TheVariants as act
+use Rattle.pl_logic.specs.Accounting.{AccountsForFrames, CanCome, IsFit, IsShaped, first_speech, is_said, speech_after}
+use Rattle.pl_logic.specs.Accounting.Speech.{Silent as SaidNone}
+use Rattle.pl_logic.specs.SwitchInputs.{SwitchInput, SwitchRule}
+use Rattle.pl_logic.specs.SwitchViews.{SwitchView}
 use Rattle.pl_world.specs.declared.spoken_frame.SpokenFrame.TheVariants.{Silent}
 use Rattle.pl_world.specs.Changes.{host_no, host_of, switch_no}
 use Rattle.pl_world.specs.SwitchActs.{Doing, act_done, acts_done, granted}

@@ -3,16 +3,16 @@ use Rattle.std.proofs.Common.{◌≡◌, ℕ, suc, Bool, true, false, if◌then�
 use Rattle.std.specs.List.{AllByRecursion, flat_map}
 use Rattle.pl_frame.specs.declared.address.SwitchId.{SwitchId}
 use Rattle.pl_layouts.specs.declared.place.Place.{Place}
-use Rattle.pl_core.specs.declared.acts.Act.{Act}
-use Rattle.pl_core.specs.declared.acts.Act.TheVariants as act
-use Rattle.pl_core.specs.declared.messages.ToManager.{ToManager}
-use Rattle.pl_core.specs.Accounting.{AccountsForFrames, CanCome, first_speech}
-use Rattle.pl_core.specs.Accounting.Speech.{Silent as SaidNone}
-use Rattle.pl_core.specs.SwitchInputs.{SwitchInput, SwitchRule}
-use Rattle.pl_core.specs.SwitchInputs.SwitchInput.{Tick}
-use Rattle.pl_core.specs.SwitchViews.{SwitchView}
-use Rattle.pl_core.specs.Announcements.{announcement}
-use Rattle.pl_core.specs.PortRecords.{id_at, is_usable, ports_of_switch, ports_where}
+use Rattle.pl_logic.specs.declared.acts.Act.{Act}
+use Rattle.pl_logic.specs.declared.acts.Act.TheVariants as act
+use Rattle.pl_logic.specs.declared.messages.ToManager.{ToManager}
+use Rattle.pl_logic.specs.Accounting.{AccountsForFrames, CanCome, first_speech}
+use Rattle.pl_logic.specs.Accounting.Speech.{Silent as SaidNone}
+use Rattle.pl_logic.specs.SwitchInputs.{SwitchInput, SwitchRule}
+use Rattle.pl_logic.specs.SwitchInputs.SwitchInput.{Tick}
+use Rattle.pl_logic.specs.SwitchViews.{SwitchView}
+use Rattle.pl_logic.specs.Announcements.{announcement}
+use Rattle.pl_logic.specs.PortRecords.{id_at, is_usable, ports_of_switch, ports_where}
 use Rattle.pl_layouts.specs.Placement.{same_place}
 use Rattle.pl_journal.specs.Places.{are_alike}
 use Rattle.pl_switch_rule.specs.Announcing.{announcements, announces_at, proposal, proposes_at, ticks, with_aged_ports}

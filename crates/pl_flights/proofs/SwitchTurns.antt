@@ -4,11 +4,11 @@ use Rattle.std.specs.List.{fold}
 use Rattle.std.proofs.lemmas.Option.{slice_get_within}
 use Rattle.pl_pmac.specs.declared.pmac.Pmac.{Pmac}
 use Rattle.pl_journal.specs.declared.entry.Entry.{Entry}
-use Rattle.pl_core.specs.declared.acts.Act.{Act}
-use Rattle.pl_core.specs.declared.acts.Act.TheVariants as act
-use Rattle.pl_core.specs.Accounting.{AccountsForFrames, CanCome, IsShaped, first_speech, is_said, speech_after}
-use Rattle.pl_core.specs.SwitchInputs.{SwitchInput, SwitchRule}
-use Rattle.pl_core.specs.SwitchViews.{SwitchView}
+use Rattle.pl_logic.specs.declared.acts.Act.{Act}
+use Rattle.pl_logic.specs.declared.acts.Act.TheVariants as act
+use Rattle.pl_logic.specs.Accounting.{AccountsForFrames, CanCome, IsShaped, first_speech, is_said, speech_after}
+use Rattle.pl_logic.specs.SwitchInputs.{SwitchInput, SwitchRule}
+use Rattle.pl_logic.specs.SwitchViews.{SwitchView}
 use Rattle.pl_world.specs.declared.spoken_frame.SpokenFrame.{SpokenFrame}
 use Rattle.pl_world.specs.declared.spoken_frame.SpokenFrame.TheVariants.{Over, Passed, Silent, Waiting}
 use Rattle.pl_world.specs.Changes.{host_of}

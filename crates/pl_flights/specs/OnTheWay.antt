@@ -21,7 +21,7 @@ use Rattle.pl_journal.specs.declared.entry.Entry.{Entry}
 use Rattle.pl_journal.specs.Flights.{Flight, first_flight, first_of, flight_of, was_live}
 use Rattle.pl_journal.specs.Lossy.{GoodTrailTo, RunTo, UnalteredFrom, mac_of_host}
 use Rattle.pl_journal.specs.Places.{Spot, at_port, holder, is_at, is_failed, is_spent, number, spot, spot_of}
-use Rattle.pl_core.specs.SwitchViews.{SwitchView}
+use Rattle.pl_logic.specs.SwitchViews.{SwitchView}
 use Rattle.pl_queues.specs.Queues.{items_at}
 use Rattle.pl_world.specs.declared.item.Item.{Item}
 use Rattle.pl_world.specs.declared.item.Item.TheVariants.{Control, Data}

@@ -11,7 +11,7 @@ ghost use Rattle.pl_world.specs.Worlds.{WorldView};
 ghost use Rattle.pl_flights.specs.OnTheWay.{IsTold};
 ghost use Rattle.pl_flights.specs.Given.{IsGiven};
 
-use pl_core::{HostCore, ManagerCore};
+use pl_logic::{HostLogic, ManagerLogic};
 
 /// At the beginning the journal says nothing, links are live, hosts stand where the wiring has them, and no
 /// frame is on its way.
@@ -22,7 +22,7 @@ pub fn what_is_told_is_so_at_first()
 /// Each step keeps the journal a run of the one lossy switch with good trails, and each frame in a queue
 /// where the journal says that it is on its way, with the bytes that it arrives with, as far as what
 /// switches, hosts and the manager know is so.
-pub fn each_step_keeps_what_is_told<M: ManagerCore, H: HostCore>()
+pub fn each_step_keeps_what_is_told<M: ManagerLogic, H: HostLogic>()
     ensures { (old : WorldView) (event : Event) (new : WorldView) → IsCounted old → IsGiven M.rule H.rule old new → refusal old event ≡ None →
         WorldStep Loose M.rule H.rule old event new → IsTold old → IsTold new }
 {}

@@ -3,8 +3,8 @@ ghost use Rattle.pl_lists.specs.Ports.{ports_of};
 ghost use Rattle.pl_switch_rule.specs.Forwarding.{candidates};
 
 use crate::port_test::{PortTest, ports_that_pass};
-use pl_core::SwitchFacts;
 use pl_lists::PortSet;
+use pl_logic::SwitchFacts;
 use pl_pmac::Pmac;
 use pl_switch_rule::{Came, is_candidate};
 

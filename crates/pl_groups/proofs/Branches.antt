@@ -12,10 +12,10 @@ use Rattle.pl_frame.specs.declared.address.SwitchId.{SwitchId}
 use Rattle.pl_layouts.specs.declared.place.Place.{Place}
 use Rattle.pl_layouts.specs.Equality.{same_switch}
 use Rattle.pl_layouts.specs.Placement.{is_known, nowhere}
-use Rattle.pl_core.specs.declared.messages.TreePart.{TreePart}
-use Rattle.pl_core.specs.ManagerViews.{Members, Told, alive_at_level, edge_at, has_level, id_cmp, is_alive, neighbours, place_of, switches, tellers, value_at}
-use Rattle.pl_core.specs.Trees.{aggregation_part, best_cores, core_for, core_of, core_part, cores, edge_part, largest, needed_edges, part_under, reach, serves, tree_part}
-use Rattle.pl_core.proofs.Among.{IsAmong, among_filter, among_in_order, among_left, any_among}
+use Rattle.pl_logic.specs.declared.messages.TreePart.{TreePart}
+use Rattle.pl_logic.specs.ManagerViews.{Members, Told, alive_at_level, edge_at, has_level, id_cmp, is_alive, neighbours, place_of, switches, tellers, value_at}
+use Rattle.pl_logic.specs.Trees.{aggregation_part, best_cores, core_for, core_of, core_part, cores, edge_part, largest, needed_edges, part_under, reach, serves, tree_part}
+use Rattle.pl_logic.proofs.Among.{IsAmong, among_filter, among_in_order, among_left, any_among}
 use Rattle.pl_manager_rule.proofs.Avoided.{id_exact, same_is}
 use Rattle.pl_manager_rule.proofs.Registered.{switch_turned}
 use Rattle.pl_manager_rule.proofs.Speakers.{same_itself}

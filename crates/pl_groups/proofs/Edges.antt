@@ -10,8 +10,8 @@ use Rattle.std.proofs.lemmas.Bool.{and_parts, false≢true}
 use Rattle.std.proofs.lemmas.Cmp.{tied_itself}
 use Rattle.pl_frame.specs.declared.address.SwitchId.{SwitchId}
 use Rattle.pl_layouts.specs.Equality.{same_switch}
-use Rattle.pl_core.specs.ManagerViews.{Told, alive_neighbours, id_cmp, is_alive, is_told_usable, link_cmp, neighbours, value_at}
-use Rattle.pl_core.proofs.Among.{IsAmong, among_filter, among_filtered, among_in_order, any_among, id_total}
+use Rattle.pl_logic.specs.ManagerViews.{Told, alive_neighbours, id_cmp, is_alive, is_told_usable, link_cmp, neighbours, value_at}
+use Rattle.pl_logic.proofs.Among.{IsAmong, among_filter, among_filtered, among_in_order, any_among, id_total}
 use Rattle.pl_manager_rule.proofs.Avoided.{id_exact, same_is}
 use Rattle.pl_manager_rule.proofs.Tables.{found_key}
 use Rattle.pl_reports.proofs.Telling.{link_exact, near_of_key}

@@ -8,9 +8,9 @@ use Rattle.std.proofs.lemmas.List.{map-append}
 use Rattle.std.proofs.lemmas.List.Kept.{IsStrictlySortedBy-filter}
 use Rattle.pl_frame.specs.declared.address.SwitchId.{SwitchId}
 use Rattle.pl_layouts.specs.Equality.{same_switch}
-use Rattle.pl_core.specs.ManagerViews.{Told, alive_at_level, alive_neighbours, has_level, id_cmp, is_alive}
-use Rattle.pl_core.specs.Trees.{best_cores, core_for, core_reaches, cores, largest, reach, turn}
-use Rattle.pl_core.proofs.Among.{IsAmong, among_filter, among_filtered, any_among, id_total}
+use Rattle.pl_logic.specs.ManagerViews.{Told, alive_at_level, alive_neighbours, has_level, id_cmp, is_alive}
+use Rattle.pl_logic.specs.Trees.{best_cores, core_for, core_reaches, cores, largest, reach, turn}
+use Rattle.pl_logic.proofs.Among.{IsAmong, among_filter, among_filtered, any_among, id_total}
 use Rattle.pl_manager_rule.proofs.Avoided.{id_exact, same_is}
 use Rattle.pl_reports.proofs.Ordering.{same_rising}
 use Rattle.pl_groups.specs.Serving.{AreServed, served_by}

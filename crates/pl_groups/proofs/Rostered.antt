@@ -8,9 +8,9 @@ use Rattle.std.proofs.lemmas.Cmp.{nat_cmp_total}
 use Rattle.std.proofs.lemmas.Map.Lookups.{exact_unsigned}
 use Rattle.pl_frame.specs.declared.address.SwitchId.{SwitchId}
 use Rattle.pl_layouts.specs.Memberships.{flood}
-use Rattle.pl_core.specs.ManagerFacts.{groups}
-use Rattle.pl_core.specs.ManagerViews.{Members, members_cmp, with_members}
-use Rattle.pl_core.proofs.Among.{IsAmong, among_map, among_mapped}
+use Rattle.pl_logic.specs.ManagerFacts.{groups}
+use Rattle.pl_logic.specs.ManagerViews.{Members, members_cmp, with_members}
+use Rattle.pl_logic.proofs.Among.{IsAmong, among_map, among_mapped}
 use Rattle.pl_manager_rule.proofs.Kept.{members_exact, members_total}
 use Rattle.pl_manager_rule.proofs.Tables.{among_put}
 use Rattle.pl_reports.proofs.Ordering.{same_order}

@@ -2,8 +2,8 @@
 use Rattle.std.specs.Prelude.{◌≡◌, if◌then◌else◌, List, [], Option, None, Some, fold, ⊤}
 use Rattle.std.specs.BTreeSet.{insert_key}
 use Rattle.pl_frame.specs.declared.address.SwitchId.{SwitchId}
-use Rattle.pl_core.specs.ManagerViews.{Told, alive_neighbours, has_level, id_cmp}
-use Rattle.pl_core.specs.Trees.{reach}
+use Rattle.pl_logic.specs.ManagerViews.{Told, alive_neighbours, has_level, id_cmp}
+use Rattle.pl_logic.specs.Trees.{reach}
 use Rattle.pl_groups.specs.Serving.{served_by}
 use Rattle.pl_groups.specs.declared.cores.CoreReach.{CoreReach}
 

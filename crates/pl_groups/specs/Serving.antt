@@ -3,9 +3,9 @@ use Rattle.std.specs.Prelude.{◌≡◌, if◌then◌else◌, List, [], Option, 
 use Rattle.std.specs.List.{filter, list_any}
 use Rattle.pl_frame.specs.declared.address.SwitchId.{SwitchId}
 use Rattle.pl_layouts.specs.Equality.{same_switch}
-use Rattle.pl_core.specs.declared.messages.TreePart.{TreePart}
-use Rattle.pl_core.specs.ManagerViews.{Told, id_cmp, is_alive, switches, value_at}
-use Rattle.pl_core.specs.Trees.{part_under}
+use Rattle.pl_logic.specs.declared.messages.TreePart.{TreePart}
+use Rattle.pl_logic.specs.ManagerViews.{Told, id_cmp, is_alive, switches, value_at}
+use Rattle.pl_logic.specs.Trees.{part_under}
 
 -- those that a switch serves by a table
 abbrev pub served_by : List (SwitchId × List SwitchId) → SwitchId → List SwitchId

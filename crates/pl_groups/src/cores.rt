@@ -1,15 +1,15 @@
 ghost use Rattle.std.specs.Prelude.{◌≡◌, ◌==◌, [], ◌∷◌, ◌++◌, if◌then◌else◌, IfOk, IsTrue, OnOk, filter, map};
 ghost use Rattle.std.specs.List.Sorted.{IsStrictlySortedBy};
 ghost use Rattle.pl_frame.specs.declared.address.SwitchId.{SwitchId};
-ghost use Rattle.pl_core.specs.ManagerViews.{alive_neighbours, has_level, id_cmp};
-ghost use Rattle.pl_core.specs.Trees.{best_cores, core_for, cores, largest, reach, turn};
+ghost use Rattle.pl_logic.specs.ManagerViews.{alive_neighbours, has_level, id_cmp};
+ghost use Rattle.pl_logic.specs.Trees.{best_cores, core_for, cores, largest, reach, turn};
 ghost use Rattle.pl_groups.specs.Reaching.{IsReachOf, reached_by, reached_with, reach_at};
 ghost use Rattle.pl_groups.specs.Serving.{AreServed};
 
 use crate::needs::{Served, add_all, edges_of};
 use crate::place_tests::has_level;
-use pl_core::{Memory, SwitchList};
 use pl_frame::SwitchId;
+use pl_logic::{Memory, SwitchList};
 use pl_reports::Reports;
 use std::alloc::Global;
 

@@ -4,11 +4,11 @@ ghost use Rattle.std.specs.BTreeSet.{insert_key};
 ghost use Rattle.std.specs.List.{filter};
 ghost use Rattle.std.specs.List.Sorted.{IsStrictlySortedBy};
 ghost use Rattle.pl_frame.specs.declared.address.SwitchId.{SwitchId};
-ghost use Rattle.pl_core.specs.ManagerViews.{id_cmp, is_alive};
+ghost use Rattle.pl_logic.specs.ManagerViews.{id_cmp, is_alive};
 ghost use Rattle.pl_groups.specs.Serving.{AreServed, served_by};
 
-use pl_core::{Memory, SwitchList};
 use pl_frame::SwitchId;
+use pl_logic::{Memory, SwitchList};
 use pl_reports::Reports;
 use std::alloc::Global;
 use std::collections::BTreeMap;

@@ -4,15 +4,15 @@ ghost use Rattle.std.specs.List.Sorted.{IsStrictlySortedBy};
 ghost use Rattle.std.specs.Option.{option_copied};
 ghost use Rattle.pl_frame.specs.declared.address.SwitchId.{SwitchId};
 ghost use Rattle.pl_layouts.specs.Equality.{same_switch};
-ghost use Rattle.pl_core.specs.ManagerViews.{alive_at_level, edge_at, has_level, has_pod, id_cmp, is_alive, place_of};
-ghost use Rattle.pl_core.specs.Trees.{aggregation_part, core_part, edge_part, part_under};
+ghost use Rattle.pl_logic.specs.ManagerViews.{alive_at_level, edge_at, has_level, has_pod, id_cmp, is_alive, place_of};
+ghost use Rattle.pl_logic.specs.Trees.{aggregation_part, core_part, edge_part, part_under};
 ghost use Rattle.pl_manager_rule.specs.ManagerRule.{same_part, same_up};
 ghost use Rattle.pl_groups.specs.Serving.{AreServed, served_by};
 
 use crate::needs::{Served, add_all, add_if, edges_of};
 use crate::place_tests::{has_level, has_pod, is_joined};
-use pl_core::{Memory, SwitchList, TreePart};
 use pl_frame::SwitchId;
+use pl_logic::{Memory, SwitchList, TreePart};
 use pl_reports::Reports;
 use std::alloc::Global;
 

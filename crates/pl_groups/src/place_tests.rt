@@ -1,5 +1,5 @@
 ghost use Rattle.std.specs.Prelude.{◌≡◌, ◌&&◌};
-ghost use Rattle.pl_core.specs.ManagerViews.{has_level, has_pod, is_alive};
+ghost use Rattle.pl_logic.specs.ManagerViews.{has_level, has_pod, is_alive};
 
 use pl_frame::SwitchId;
 use pl_reports::Reports;

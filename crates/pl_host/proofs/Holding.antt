@@ -12,7 +12,7 @@ use Rattle.std.proofs.lemmas.Map.Keys.{sorted_tail}
 use Rattle.pl_frame.specs.declared.address.Ip4.{Ip4}
 use Rattle.std.proofs.lemmas.Bool.{and_from, and_parts}
 use Rattle.pl_arp.specs.Reception.{Table, hardware_of, same_ip}
-use Rattle.pl_core.specs.HostViews.{Held, held_for, ip_cmp, with_held}
+use Rattle.pl_logic.specs.HostViews.{Held, held_for, ip_cmp, with_held}
 use Rattle.pl_host.specs.Waiting.{AreRising, are_unknown}
 
 pub ip_cmp_total : IsTotalOrder ip_cmp

@@ -16,7 +16,7 @@ use Rattle.pl_arp.specs.declared.packet.Arp.{Arp}
 use Rattle.pl_arp.specs.declared.cache.Me.{Me}
 use Rattle.pl_arp.specs.Reception.{Table, hardware_of, is_target, same_ip, table_after, with_pair}
 use Rattle.pl_arp.proofs.Tables.{hardware_of-others, hardware_of-with_pair}
-use Rattle.pl_core.specs.HostViews.{Held, held_for, ip_cmp}
+use Rattle.pl_logic.specs.HostViews.{Held, held_for, ip_cmp}
 use Rattle.pl_host_rule.specs.HostRule.{released, released_by, still_held}
 use Rattle.pl_host.specs.Waiting.{AreRising, are_unknown}
 

@@ -9,12 +9,12 @@ use Rattle.pl_frame.specs.Ethernet.{destination_of, kind_of}
 use Rattle.pl_arp.specs.declared.packet.Arp.{Arp}
 use Rattle.pl_arp.specs.declared.cache.Me.{Me}
 use Rattle.pl_arp.specs.Reception.{Table, answer_to, table_after}
-use Rattle.pl_core.specs.declared.acts.HostAct.{HostAct}
-use Rattle.pl_core.specs.declared.acts.HostAct.TheVariants.{Send}
-use Rattle.pl_core.specs.declared.reception.Reception.TheVariants.{Kept}
+use Rattle.pl_logic.specs.declared.acts.HostAct.{HostAct}
+use Rattle.pl_logic.specs.declared.acts.HostAct.TheVariants.{Send}
+use Rattle.pl_logic.specs.declared.reception.Reception.TheVariants.{Kept}
 use Rattle.pl_layouts.specs.Memberships.{group_of, is_group}
-use Rattle.pl_core.specs.HostViews.{Held, HostView, groups_after}
-use Rattle.pl_core.specs.HostInputs.HostAnswer.{Received}
+use Rattle.pl_logic.specs.HostViews.{Held, HostView, groups_after}
+use Rattle.pl_logic.specs.HostInputs.HostAnswer.{Received}
 use Rattle.pl_host_rule.specs.HostRule.{HostStep, hearing, is_foreign, other_host, playing_frame, released_by, report_frame, request_frame, sending, sending_to_host, skip_of, still_held, unicast_skip}
 use Rattle.pl_host.specs.Carried.{replies, six_bytes}
 use Rattle.pl_host.specs.Host.{Takes}

@@ -5,7 +5,7 @@ use Rattle.std.specs.List.Sorted.{IsStrictlySortedBy}
 use Rattle.std.specs.Map.{keys_of, values_of}
 use Rattle.pl_frame.specs.declared.address.Ip4.{Ip4}
 use Rattle.pl_arp.specs.Reception.{Table, hardware_of}
-use Rattle.pl_core.specs.HostViews.{Held, ip_cmp}
+use Rattle.pl_logic.specs.HostViews.{Held, ip_cmp}
 
 -- each address is smaller than those behind it
 abbrev pub AreRising : List Ip4 → Type 0

@@ -1,6 +1,6 @@
 ghost use Rattle.std.specs.Prelude.{◌≡◌, IfOk, length};
 ghost use Rattle.pl_frame.specs.Ethernet.{fields, fields_of, with_destination};
-ghost use Rattle.pl_core.specs.Accounting.{IsWhole};
+ghost use Rattle.pl_logic.specs.Accounting.{IsWhole};
 
 use pl_frame::{Frame, FrameView, Mac, Memory};
 use std::alloc::Global;
@@ -14,7 +14,7 @@ pub(crate) struct Carried {
 
 impl Model for Carried {
     ghost use Rattle.std.specs.Prelude.{ℕ, List};
-    ghost use Rattle.pl_core.specs.Accounting.{IsWhole};
+    ghost use Rattle.pl_logic.specs.Accounting.{IsWhole};
 
     ghost Value = { List ℕ };
 

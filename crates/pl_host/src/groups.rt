@@ -1,16 +1,16 @@
 ghost use Rattle.std.specs.Prelude.{◌≡◌, [], ◌++◌, OnOk, map};
-ghost use Rattle.pl_core.specs.declared.acts.HostAct.TheVariants.{Send};
+ghost use Rattle.pl_logic.specs.declared.acts.HostAct.TheVariants.{Send};
 ghost use Rattle.pl_host_rule.specs.HostRule.{report_frame};
-ghost use Rattle.pl_core.specs.HostViews.{groups_after, groups_after_change, has_group, without_group};
+ghost use Rattle.pl_logic.specs.HostViews.{groups_after, groups_after_change, has_group, without_group};
 ghost use Rattle.pl_layouts.specs.Memberships.{group_number};
 
 use crate::carried::Carried;
 use crate::frames::membership;
 use crate::sending::put;
 use pl_arp::Me;
-use pl_core::HostOutbox;
 use pl_frame::{Ip4, Memory};
 use pl_layouts::Change;
+use pl_logic::HostOutbox;
 use pl_multicast::read_igmp;
 use std::alloc::Global;
 use std::collections::BTreeSet;

@@ -4,8 +4,8 @@ ghost use Rattle.pl_layouts.specs.Equality.{same_mac};
 
 use indexmap::IndexMap;
 use pl_arp::Me;
-use pl_core::HostTable;
 use pl_frame::{Mac, Memory};
+use pl_logic::HostTable;
 use std::alloc::Global;
 use std::marker::Model;
 

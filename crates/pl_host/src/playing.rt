@@ -1,8 +1,8 @@
 ghost use Rattle.std.specs.Prelude.{◌≡◌, IfOk, None, OnOk};
 ghost use Rattle.pl_arp.specs.Reception.{hardware_of};
 ghost use Rattle.pl_host_rule.specs.HostRule.{holding, playing_frame, sending, sending_to, skip_of, unicast_skip};
-ghost use Rattle.pl_core.specs.HostInputs.HostAnswer.{Played};
-ghost use Rattle.pl_core.specs.Accounting.{IsWhole};
+ghost use Rattle.pl_logic.specs.HostInputs.HostAnswer.{Played};
+ghost use Rattle.pl_logic.specs.Accounting.{IsWhole};
 ghost use Rattle.pl_host.specs.Host.{Takes, host_view};
 
 use crate::carried::Carried;
@@ -11,10 +11,10 @@ use crate::host::Host;
 use crate::reading::{is_foreign, is_group};
 use crate::sending::{put, send};
 use pl_arp::Me;
-use pl_core::HostOutbox;
 use pl_frame::{Ip4, LONGEST, Mac, Memory, SHORTEST};
 use pl_journal::Skip;
 use pl_layouts::frames::{is_arp, is_control};
+use pl_logic::HostOutbox;
 
 // So many frames wait for an address at most.
 const HOLD_LIMIT: usize = 64;

@@ -1,6 +1,6 @@
 ghost use Rattle.std.specs.Prelude.{◌≡◌, [], ◌∷◌, ◌++◌, OnOk, Some, fold, map};
-ghost use Rattle.pl_core.specs.declared.acts.HostAct.TheVariants.{Send};
-ghost use Rattle.pl_core.specs.HostViews.{groups_after};
+ghost use Rattle.pl_logic.specs.declared.acts.HostAct.TheVariants.{Send};
+ghost use Rattle.pl_logic.specs.HostViews.{groups_after};
 ghost use Rattle.pl_host_rule.specs.HostRule.{released};
 ghost use Rattle.pl_host.specs.Carried.{replies};
 
@@ -8,9 +8,9 @@ use crate::carried::Carried;
 use crate::frames::reply;
 use crate::groups::Groups;
 use pl_arp::Arp;
-use pl_core::{HostAct, HostOutbox};
 use pl_frame::{Mac, Memory};
 use pl_lists::Queue;
+use pl_logic::{HostAct, HostOutbox};
 use std::alloc::Global;
 
 /// A frame is sent, whatever it says.

@@ -1,8 +1,8 @@
 ghost use Rattle.std.specs.Prelude.{◌≡◌, ◌+◌, [], ◌++◌, OnErr, OnOk, length, map, sum_by};
 ghost use Rattle.std.specs.Map.{keys_of, values_of, remove_entry};
 ghost use Rattle.pl_arp.specs.Reception.{same_ip};
-ghost use Rattle.pl_core.specs.declared.acts.HostAct.TheVariants.{Send};
-ghost use Rattle.pl_core.specs.HostViews.{held_for, with_held};
+ghost use Rattle.pl_logic.specs.declared.acts.HostAct.TheVariants.{Send};
+ghost use Rattle.pl_logic.specs.HostViews.{held_for, with_held};
 ghost use Rattle.pl_host_rule.specs.HostRule.{request_frame};
 ghost use Rattle.pl_host.specs.Waiting.{AreRising};
 
@@ -10,9 +10,9 @@ use crate::carried::Carried;
 use crate::frames::request;
 use crate::sending::put;
 use pl_arp::Me;
-use pl_core::HostOutbox;
 use pl_frame::{Ip4, Memory};
 use pl_lists::Queue;
+use pl_logic::HostOutbox;
 use std::alloc::{AllocError, Global};
 use std::collections::BTreeMap;
 use std::marker::Model;
@@ -29,7 +29,7 @@ pub(crate) struct Waiting {
 }
 
 impl Model for Waiting {
-    ghost use Rattle.pl_core.specs.HostViews.{Held};
+    ghost use Rattle.pl_logic.specs.HostViews.{Held};
     ghost use Rattle.pl_host.specs.Waiting.{IsTallied};
 
     ghost Value = { Held };

@@ -18,7 +18,7 @@ use Rattle.pl_layouts.specs.declared.membership.Change.{Change}
 use Rattle.pl_layouts.specs.Checksum.{checksum_of}
 use Rattle.pl_layouts.specs.Frames.{packet_in}
 use Rattle.pl_layouts.specs.Reports.{group_mac, header_of, header_with, membership_frame, message_of_change, message_with, receiver_of}
-use Rattle.pl_core.specs.HostDuties.{are_data, is_data}
+use Rattle.pl_logic.specs.HostDuties.{are_data, is_data}
 use Rattle.pl_layouts.specs.ArpFrames.{arp_frame}
 
 -- the three things that are asked of a frame

@@ -20,9 +20,9 @@ use Rattle.pl_layouts.specs.Checksum.{checksum_of}
 use Rattle.pl_layouts.specs.Memberships.{change_if_routed, changes_in, changes_of, group_number, header_length, is_membership, is_routed_group, message_changes}
 use Rattle.pl_layouts.specs.Reports.{group_mac, header_of, header_with, message_of_change, message_with}
 use Rattle.pl_journal.specs.Lossy.{joined_after}
-use Rattle.pl_core.specs.HostViews.{groups_after, groups_after_change, has_group, ip_cmp, without_group}
+use Rattle.pl_logic.specs.HostViews.{groups_after, groups_after_change, has_group, ip_cmp, without_group}
 use Rattle.pl_host_rule.specs.HostRule.{report_frame}
-use Rattle.pl_core.specs.HostDuties.{joined_by}
+use Rattle.pl_logic.specs.HostDuties.{joined_by}
 use Rattle.pl_layouts.specs.ArpFrames.{arp_frame}
 
 -- without one group a host is in each other as before

@@ -13,18 +13,18 @@ use Rattle.pl_frame.specs.Ethernet.{destination_of, kind_of, with_destination}
 use Rattle.pl_arp.specs.declared.packet.Arp.{Arp}
 use Rattle.pl_arp.specs.declared.cache.Me.{Me}
 use Rattle.pl_arp.specs.Reception.{Table, answer_to, hardware_of, table_after}
-use Rattle.pl_core.specs.declared.acts.HostAct.{HostAct}
+use Rattle.pl_logic.specs.declared.acts.HostAct.{HostAct}
 use Rattle.pl_journal.specs.declared.cause.Skip.{Skip}
 use Rattle.pl_journal.specs.declared.cause.Skip.TheVariants as skips
 use Rattle.pl_layouts.specs.declared.membership.Change.{Change}
-use Rattle.pl_core.specs.declared.reception.Reception.TheVariants as reception
+use Rattle.pl_logic.specs.declared.reception.Reception.TheVariants as reception
 use Rattle.pl_layouts.specs.Frames.{is_arp, packet_in}
 use Rattle.pl_layouts.specs.Memberships.{changes_in, group_number, group_of, is_group}
-use Rattle.pl_core.specs.HostViews.{Held, HostView, IsOrderly, are_apart, are_rising, boot_host, groups_after, groups_after_change, has_group, held_for, hold_limit, ip_cmp, is_waiting, with_held, without_group}
+use Rattle.pl_logic.specs.HostViews.{Held, HostView, IsOrderly, are_apart, are_rising, boot_host, groups_after, groups_after_change, has_group, held_for, hold_limit, ip_cmp, is_waiting, with_held, without_group}
 use Rattle.pl_host_rule.specs.HostRule.{HostStep, leave_frame, report_frame, having_sent, hearing, host_rule, host_step, is_foreign, is_full, is_not_joined, other_host, playing_frame, receiving, released_by, reply_frame, sending, sending_on, sending_to, sending_to_host, skip_of, step_to, still_held, unicast_skip, unless_skipped}
-use Rattle.pl_core.specs.HostInputs.HostInput.{HasMoved, Joins, Leaves, PlaysRaw, Plays, Receives, Retries, Starts}
-use Rattle.pl_core.specs.HostInputs.HostAnswer.{Received}
-use Rattle.pl_core.specs.HostInputs.{HostAnswer, HostInput}
+use Rattle.pl_logic.specs.HostInputs.HostInput.{HasMoved, Joins, Leaves, PlaysRaw, Plays, Receives, Retries, Starts}
+use Rattle.pl_logic.specs.HostInputs.HostAnswer.{Received}
+use Rattle.pl_logic.specs.HostInputs.{HostAnswer, HostInput}
 use Rattle.pl_host_rule.proofs.HostGroups.{has_group-insert, has_group-without, turned_away}
 use Rattle.pl_host_rule.proofs.HostSends.{unskipped}
 

@@ -24,23 +24,23 @@ use Rattle.pl_arp.specs.declared.packet.ArpError.TheVariants.{Cut, OtherKind}
 use Rattle.pl_arp.specs.declared.cache.Me.{Me}
 use Rattle.pl_arp.specs.Packet.{arp_in, ethernet_ipv4, fields_at_front, layout}
 use Rattle.pl_arp.specs.Reception.{Table, answer_to, hardware_of, is_target, same_ip, table_after}
-use Rattle.pl_core.specs.declared.acts.HostAct.{HostAct}
+use Rattle.pl_logic.specs.declared.acts.HostAct.{HostAct}
 use Rattle.pl_journal.specs.declared.cause.Skip.{Skip}
 use Rattle.pl_journal.specs.declared.cause.Skip.TheVariants as skips
-use Rattle.pl_core.specs.declared.reception.Reception.{Reception}
-use Rattle.pl_core.specs.declared.reception.Reception.TheVariants as reception
+use Rattle.pl_logic.specs.declared.reception.Reception.{Reception}
+use Rattle.pl_logic.specs.declared.reception.Reception.TheVariants as reception
 use Rattle.pl_layouts.specs.declared.membership.Change.{Change}
 use Rattle.pl_layouts.specs.ArpFrames.{arp_frame, broadcast, no_mac}
 use Rattle.pl_layouts.specs.Equality.{same_mac}
 use Rattle.pl_layouts.specs.Frames.{is_arp, packet_in}
 use Rattle.pl_layouts.specs.Memberships.{group_of, is_group}
 use Rattle.pl_layouts.specs.Reports.{group_mac, header_of, membership_frame, message_of_change, receiver_of}
-use Rattle.pl_core.specs.HostDuties.{HoldsData, HoldsOwn, SendsOwn, are_own, is_of, is_own, is_routed}
-use Rattle.pl_core.specs.HostInputs.{HostAnswer, HostInput}
-use Rattle.pl_core.specs.HostViews.{Held, HostView, boot_host, has_group, held_for, ip_cmp, with_held}
+use Rattle.pl_logic.specs.HostDuties.{HoldsData, HoldsOwn, SendsOwn, are_own, is_of, is_own, is_routed}
+use Rattle.pl_logic.specs.HostInputs.{HostAnswer, HostInput}
+use Rattle.pl_logic.specs.HostViews.{Held, HostView, boot_host, has_group, held_for, ip_cmp, with_held}
 use Rattle.pl_host_rule.specs.HostRule.{HostStep, first_request, having_sent, hearing, holding, host_rule, host_step, is_foreign, is_not_joined, other_host, playing, playing_frame, playing_raw, receiving, released, released_by, reply_frame, report_frame, request_frame, sending, sending_to, sending_to_host, skip_of, skipping, start_frame, step_to, still_held, unless_skipped}
-use Rattle.pl_core.specs.HostInputs.HostInput.{HasMoved, Joins, Leaves, PlaysRaw, Plays, Receives, Retries, Starts}
-use Rattle.pl_core.specs.HostInputs.HostAnswer.{Nothing, Played, Received}
+use Rattle.pl_logic.specs.HostInputs.HostInput.{HasMoved, Joins, Leaves, PlaysRaw, Plays, Receives, Retries, Starts}
+use Rattle.pl_logic.specs.HostInputs.HostAnswer.{Nothing, Played, Received}
 use Rattle.pl_host_rule.proofs.HostFrames.{packet_in-addresses}
 use Rattle.pl_host_rule.proofs.HostSends.{knows_six, sent-Send, six_after, unskipped}
 

@@ -13,21 +13,21 @@ use Rattle.pl_frame.specs.Ethernet.{destination_of, kind_of, with_destination}
 use Rattle.pl_arp.specs.declared.packet.Arp.{Arp}
 use Rattle.pl_arp.specs.declared.cache.Me.{Me}
 use Rattle.pl_arp.specs.Reception.{Table, answer_to, hardware_of, is_target, same_ip, table_after, with_pair}
-use Rattle.pl_core.specs.declared.acts.HostAct.{HostAct}
-use Rattle.pl_core.specs.declared.acts.HostAct.TheVariants.{Send}
+use Rattle.pl_logic.specs.declared.acts.HostAct.{HostAct}
+use Rattle.pl_logic.specs.declared.acts.HostAct.TheVariants.{Send}
 use Rattle.pl_journal.specs.declared.cause.Skip.{Skip}
 use Rattle.pl_journal.specs.declared.cause.Skip.TheVariants as skips
-use Rattle.pl_core.specs.declared.reception.Reception.TheVariants as reception
+use Rattle.pl_logic.specs.declared.reception.Reception.TheVariants as reception
 use Rattle.pl_layouts.specs.Frames.{packet_in}
 use Rattle.pl_layouts.specs.Memberships.{changes_in, group_of, is_group}
 use Rattle.pl_journal.specs.Lossy.{joined_after}
-use Rattle.pl_core.specs.HostViews.{has_group, Held, HostView, boot_host, held_for, ip_cmp, with_held}
+use Rattle.pl_logic.specs.HostViews.{has_group, Held, HostView, boot_host, held_for, ip_cmp, with_held}
 use Rattle.pl_layouts.specs.Reports.{membership_frame}
 use Rattle.pl_host_rule.specs.HostRule.{HostStep, first_request, having_sent, hearing, holding, host_rule, host_step, is_foreign, is_not_joined, other_host, playing, playing_frame, playing_raw, receiving, released, released_by, reply_frame, report_frame, request_frame, sending, sending_on, sending_to, sending_to_host, skip_of, skipping, start_frame, step_to, still_held, unless_skipped}
-use Rattle.pl_core.specs.HostInputs.HostInput.{HasMoved, Joins, Leaves, PlaysRaw, Plays, Receives, Retries, Starts}
-use Rattle.pl_core.specs.HostInputs.HostAnswer.{Nothing, Played, Received}
-use Rattle.pl_core.specs.HostDuties.{JoinsBySending, joined_by, HoldsData, SendsData, are_data, is_data, sent_by}
-use Rattle.pl_core.specs.HostInputs.{HostAnswer, HostInput}
+use Rattle.pl_logic.specs.HostInputs.HostInput.{HasMoved, Joins, Leaves, PlaysRaw, Plays, Receives, Retries, Starts}
+use Rattle.pl_logic.specs.HostInputs.HostAnswer.{Nothing, Played, Received}
+use Rattle.pl_logic.specs.HostDuties.{JoinsBySending, joined_by, HoldsData, SendsData, are_data, is_data, sent_by}
+use Rattle.pl_logic.specs.HostInputs.{HostAnswer, HostInput}
 use Rattle.pl_host_rule.proofs.HostGroups.{arp_frame_is_silent, has_group-sent, reports_change_nothing}
 use Rattle.pl_host_rule.proofs.HostFrames.{data_append, data_arp_frame, data_from, data_membership_frame, data_one, data_with_destination, data_with_destinations, packet_in-addresses}
 use Rattle.pl_layouts.specs.ArpFrames.{broadcast, no_mac}

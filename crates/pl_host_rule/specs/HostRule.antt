@@ -6,22 +6,22 @@ use Rattle.pl_frame.specs.Ethernet.{destination_of, source_of, with_destination}
 use Rattle.pl_arp.specs.declared.packet.Arp.{Arp}
 use Rattle.pl_arp.specs.declared.cache.Me.{Me}
 use Rattle.pl_arp.specs.Reception.{Table, answer_to, hardware_of, table_after}
-use Rattle.pl_core.specs.declared.acts.HostAct.{HostAct}
-use Rattle.pl_core.specs.declared.acts.HostAct.TheVariants.{Send}
+use Rattle.pl_logic.specs.declared.acts.HostAct.{HostAct}
+use Rattle.pl_logic.specs.declared.acts.HostAct.TheVariants.{Send}
 use Rattle.pl_journal.specs.declared.cause.Skip.{Skip}
 use Rattle.pl_journal.specs.declared.cause.Skip.TheVariants.{CutRecord, Short, Long, ForeignSource, ControlType, RecordedArp, NoOwner, HoldFull}
-use Rattle.pl_core.specs.declared.reception.Reception.TheVariants.{Kept, NotMember}
+use Rattle.pl_logic.specs.declared.reception.Reception.TheVariants.{Kept, NotMember}
 use Rattle.pl_layouts.specs.Control.{is_control}
 use Rattle.pl_layouts.specs.Frames.{is_arp, packet_in}
 use Rattle.pl_layouts.specs.Memberships.{flood, group_of, is_group}
 use Rattle.pl_layouts.specs.Reports.{membership_frame}
-use Rattle.pl_core.specs.HostViews.{Held, HostView, groups_after, has_group, held_for, hold_limit, with_held}
+use Rattle.pl_logic.specs.HostViews.{Held, HostView, groups_after, has_group, held_for, hold_limit, with_held}
 use Rattle.pl_layouts.specs.ArpFrames.{arp_frame, broadcast, no_mac}
 use Rattle.pl_layouts.specs.Equality.{same_mac}
-use Rattle.pl_core.specs.HostDuties.{is_of}
-use Rattle.pl_core.specs.HostInputs.{HostInput, HostAnswer, HostRule}
-use Rattle.pl_core.specs.HostInputs.HostInput.{Starts, Retries, HasMoved, Plays, PlaysRaw, Joins, Leaves, Receives}
-use Rattle.pl_core.specs.HostInputs.HostAnswer.{Nothing, Played, Received}
+use Rattle.pl_logic.specs.HostDuties.{is_of}
+use Rattle.pl_logic.specs.HostInputs.{HostInput, HostAnswer, HostRule}
+use Rattle.pl_logic.specs.HostInputs.HostInput.{Starts, Retries, HasMoved, Plays, PlaysRaw, Joins, Leaves, Receives}
+use Rattle.pl_logic.specs.HostInputs.HostAnswer.{Nothing, Played, Received}
 
 -- the host after a step, what it did, and its answer
 pub record HostStep : Type 0 where

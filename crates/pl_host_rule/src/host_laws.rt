@@ -1,10 +1,10 @@
 ghost use Rattle.std.specs.Prelude.{◌≡◌, ◌<◌, ◌^◌, List, length};
 ghost use Rattle.pl_arp.specs.declared.cache.Me.{Me};
-ghost use Rattle.pl_core.specs.declared.acts.HostAct.{HostAct};
-ghost use Rattle.pl_core.specs.HostViews.{HostView, IsOrderly, boot_host};
+ghost use Rattle.pl_logic.specs.declared.acts.HostAct.{HostAct};
+ghost use Rattle.pl_logic.specs.HostViews.{HostView, IsOrderly, boot_host};
 ghost use Rattle.pl_host_rule.specs.HostRule.{host_rule};
-ghost use Rattle.pl_core.specs.HostDuties.{HoldsData, HoldsOwn, HostsJoinBySending, HostsKeepFrames, HostsSendData, HostsSendOwn};
-ghost use Rattle.pl_core.specs.HostInputs.{HostAnswer, HostInput};
+ghost use Rattle.pl_logic.specs.HostDuties.{HoldsData, HoldsOwn, HostsJoinBySending, HostsKeepFrames, HostsSendData, HostsSendOwn};
+ghost use Rattle.pl_logic.specs.HostInputs.{HostAnswer, HostInput};
 
 /// A host holds and sends only frames of 14 to 65,553 bytes that are no control frames, from its boot
 /// on and whatever it is told or hears, and it keeps its addresses and its table.

@@ -1,8 +1,8 @@
 ghost use Rattle.pl_host_rule.specs.HostRule.{IsHostRule};
 
-use pl_core::HostCore;
+use pl_logic::HostLogic;
 
 /// A host that takes each step that a host is to take, and no other.
-pub trait LawfulHost: HostCore {
+pub trait LawfulHost: HostLogic {
     ghost lawful: { IsHostRule Self.rule };
 }

@@ -40,11 +40,11 @@ pub any_text : (names : List (Bor (List ℕ))) (name : List ℕ) → list_any (�
 any_text [] name = refl
 any_text (n ∷ names) name = ap (λ t. bytes_eq n.now name || t) (any_text names name)
 
--- the words from this place on, as a slice of them
+-- the words from this index on, as a slice of them
 abbrev pub rest_at : List (Bor (List ℕ)) → ℕ → List (Bor (List ℕ))
 rest_at words at = take (length words - at) (drop at words)
 
--- The walk has come to the word at this place, where what was found and what follows give the whole.
+-- The walk has come to the word at this index, where what was found and what follows give the whole.
 module _ (name : List ℕ) (names : List (List ℕ)) (words : List (Bor (List ℕ))) (at : ℕ) (found : Option (Bor (List ℕ))) (whole : Option (List ℕ))
     (so_far : value_with (option_copied found) name (items_of names (drop at (texts words))) ≡ whole) where
   rest_is : drop at (texts words) ≡ texts (rest_at words at)

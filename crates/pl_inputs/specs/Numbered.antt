@@ -1,4 +1,4 @@
--- A host by its place in the list of hosts.
+-- A host by its number in the list of hosts.
 use Rattle.std.specs.Prelude.{ℕ}
 use Rattle.pl_wiring.specs.declared.host.HostNo.{HostNo}
 

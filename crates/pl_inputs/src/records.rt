@@ -12,7 +12,7 @@ pub struct RecordedFrame<'a> {
     pub original: u32,
 }
 
-/// The record of a host at a place, from 0.
+/// The record of a host at an index, from 0.
 pub fn record_at(captures: &[Capture], host: HostNo, n: u64) -> Option<RecordedFrame<'_>>
     ensures { option_map recorded result ≡ slice_get (slice_index_or (records_of captures.now) host.0 []) n }
 {

@@ -10,10 +10,10 @@ use Rattle.pl_journal.specs.declared.cause.Cause.TheVariants as cause
 use Rattle.pl_journal.specs.declared.entry.Entry.{Entry}
 use Rattle.pl_journal.specs.declared.entry.Entry.TheVariants.{Arrived, Copied, Crossed, Dropped, Granted, Line, LinkDown, LinkUp, Made, Moved, Placed, Redirected, Registered, Sent, Settled, Skipped, Taken, Unsettled}
 use Rattle.pl_journal.specs.Lossy.{has_joined}
-use Rattle.pl_core.specs.declared.acts.Act.{Act}
-use Rattle.pl_core.specs.declared.acts.Act.TheVariants as act
-use Rattle.pl_core.specs.HostViews.{HostView}
-use Rattle.pl_core.specs.SwitchInputs.{SwitchInput, SwitchRule}
+use Rattle.pl_logic.specs.declared.acts.Act.{Act}
+use Rattle.pl_logic.specs.declared.acts.Act.TheVariants as act
+use Rattle.pl_logic.specs.HostViews.{HostView}
+use Rattle.pl_logic.specs.SwitchInputs.{SwitchInput, SwitchRule}
 use Rattle.pl_world.specs.declared.item.Item.{Item}
 use Rattle.pl_world.specs.declared.item.Item.TheVariants.{Control, Data}
 use Rattle.pl_world.specs.declared.spoken_frame.SpokenFrame.{SpokenFrame}

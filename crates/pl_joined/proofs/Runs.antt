@@ -10,15 +10,15 @@ use Rattle.pl_layouts.specs.Memberships.{flood, group_of, is_group}
 use Rattle.pl_journal.specs.declared.entry.Entry.{Entry}
 use Rattle.pl_journal.specs.declared.entry.Entry.TheVariants.{Arrived, Copied, Crossed, Dropped, Granted, Line, LinkDown, LinkUp, Made, Moved, Placed, Redirected, Registered, Sent, Settled, Skipped, Taken, Unsettled}
 use Rattle.pl_journal.specs.Lossy.{has_joined, is_member}
-use Rattle.pl_core.specs.declared.reception.Reception.TheVariants.{Kept, NotMember}
-use Rattle.pl_core.specs.Accounting.{AccountsForFrames}
-use Rattle.pl_core.specs.HostDuties.{HostsJoinBySending, HostsSendData}
-use Rattle.pl_core.specs.HostInputs.{HostRule}
-use Rattle.pl_core.specs.HostInputs.HostAnswer.{Received}
-use Rattle.pl_core.specs.HostInputs.HostInput.{Receives}
-use Rattle.pl_core.specs.HostViews.{HostView, boot_host, has_group}
-use Rattle.pl_core.specs.ManagerDuties.{ManagerRule}
-use Rattle.pl_core.specs.SwitchInputs.{SwitchRule}
+use Rattle.pl_logic.specs.declared.reception.Reception.TheVariants.{Kept, NotMember}
+use Rattle.pl_logic.specs.Accounting.{AccountsForFrames}
+use Rattle.pl_logic.specs.HostDuties.{HostsJoinBySending, HostsSendData}
+use Rattle.pl_logic.specs.HostInputs.{HostRule}
+use Rattle.pl_logic.specs.HostInputs.HostAnswer.{Received}
+use Rattle.pl_logic.specs.HostInputs.HostInput.{Receives}
+use Rattle.pl_logic.specs.HostViews.{HostView, boot_host, has_group}
+use Rattle.pl_logic.specs.ManagerDuties.{ManagerRule}
+use Rattle.pl_logic.specs.SwitchInputs.{SwitchRule}
 use Rattle.pl_arp.specs.declared.cache.Me.{Me}
 use Rattle.pl_host_rule.specs.HostRule.{HostStep, IsHostRule, hearing, host_rule, is_not_joined, receiving, step_to}
 use Rattle.pl_world.specs.declared.event.Event.{Event}

@@ -52,7 +52,7 @@ earlier_apart : (plan : Plan) (i j : ℕ) (g h : Host) → IsPlan plan → i < j
 earlier_apart plan i j g h is lt at_i at_j within same =
     let apart : StandsAt g h.edge.0 h.port → ⊥ =
     subst₂ (λ (a b : Host). StandsAt a b.edge.0 b.port → ⊥) (get_or_from_slice_get plan.hosts i g g at_i) (get_or_from_slice_get plan.hosts j h g at_j)
-    (is.places_apart i j g lt within) in
+    (is.ports_apart i j g lt within) in
     apart (ap (λ s. s.edge) same, ap (λ s. s.port) same)
 
 first_apart : (plan : Plan) (g h : ℕ) (there : Spot) → IsPlan plan → first_spot plan g ≡ Some there → first_spot plan h ≡ Some there → g ≡ h

@@ -1,8 +1,8 @@
 -- Each step keeps all of it, and so does each run from the beginning.
 use Rattle.std.proofs.Common.{◌≡◌, List, None, sym, subst}
 use Rattle.pl_wiring.specs.Plan.{Plan}
-use Rattle.pl_core.specs.HostDuties.{HostsSendData, HostsSendOwn}
-use Rattle.pl_core.specs.HostInputs.{HostRule}
+use Rattle.pl_logic.specs.HostDuties.{HostsSendData, HostsSendOwn}
+use Rattle.pl_logic.specs.HostInputs.{HostRule}
 use Rattle.pl_manager_rule.specs.ManagerRule.{manager_rule}
 use Rattle.pl_switch_rule.specs.SwitchRule.{Loose}
 use Rattle.pl_switch_rule.proofs.AccountedSteps.{loose_steps_are_accounted}

@@ -14,24 +14,24 @@ ghost use Rattle.pl_votes.specs.Voting.{FixedAreApart, FixedAreHeld};
 ghost use Rattle.pl_pods.specs.Pods.{KnownAreGiven};
 ghost use Rattle.pl_kept.specs.Kept.{Kept};
 
-use pl_core::HostCore;
+use pl_logic::HostLogic;
 
 /// Each step keeps all of it.
-pub fn each_step_keeps_all_of_it<H: HostCore>()
+pub fn each_step_keeps_all_of_it<H: HostLogic>()
     ensures { (old : WorldView) (event : Event) (new : WorldView) → Kept old → refusal old event ≡ None →
         WorldStep Loose manager_rule H.rule old event new → Kept new }
 {}
 
 /// So it holds at each moment of each run from the beginning, whatever the wiring, the events and the
 /// choices of the switches.
-pub fn every_run_keeps_all_of_it<H: HostCore>()
+pub fn every_run_keeps_all_of_it<H: HostLogic>()
     ensures { (plan : Plan) (limits : Limits) (moments : List Moment) (new : WorldView) → CanBegin plan →
         WorldRun Loose manager_rule H.rule (booted plan limits) moments new → Kept new }
 {}
 
 /// In every run a fixed position is held for its edge switch by more than half of the aggregation switches
 /// of its pod, and no two edge switches of a pod have one.
-pub fn edge_switches_of_a_pod_differ_in_every_run<H: HostCore>()
+pub fn edge_switches_of_a_pod_differ_in_every_run<H: HostLogic>()
     ensures { (plan : Plan) (limits : Limits) (moments : List Moment) (new : WorldView) → CanBegin plan →
         WorldRun Loose manager_rule H.rule (booted plan limits) moments new →
         FixedAreHeld new.plan (control_plane new).view × FixedAreApart new.plan (control_plane new).view }
@@ -39,7 +39,7 @@ pub fn edge_switches_of_a_pod_differ_in_every_run<H: HostCore>()
 
 /// In every run a known pod is the number that the manager gave to the edge switch with position 0 of that
 /// pod.
-pub fn known_pods_were_given_in_every_run<H: HostCore>()
+pub fn known_pods_were_given_in_every_run<H: HostLogic>()
     ensures { (plan : Plan) (limits : Limits) (moments : List Moment) (new : WorldView) → CanBegin plan →
         WorldRun Loose manager_rule H.rule (booted plan limits) moments new → KnownAreGiven (control_plane new) }
 {}

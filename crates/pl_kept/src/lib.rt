@@ -13,8 +13,8 @@ pub use kept_laws::{
     every_run_keeps_all_of_it, known_pods_were_given_in_every_run,
 };
 pub use lawful_laws::{
-    each_run_of_lawful_cores_is_a_run_of_the_rules, lawful_cores_grant_no_address_twice,
-    lawful_cores_keep_all_of_it, lawful_cores_keep_what_they_granted,
+    each_run_of_lawful_logic_is_a_run_of_the_rules, lawful_logic_grants_no_address_twice,
+    lawful_logic_keeps_all_of_it, lawful_logic_keeps_what_it_granted,
 };
 
 mod address_laws;

@@ -6,7 +6,7 @@ ghost use Rattle.pl_world.specs.Runs.{Moment, WorldRun};
 ghost use Rattle.pl_world.specs.Worlds.{WorldView};
 ghost use Rattle.pl_kept.specs.Kept.{Kept};
 
-use pl_core::HostCore;
+use pl_logic::HostLogic;
 use pl_manager_rule::LawfulManager;
 use pl_switch_rule::LooseSwitch;
 
@@ -15,8 +15,8 @@ pub fn all_of_it_holds_at_the_beginning()
     ensures { (plan : Plan) (limits : Limits) → CanBegin plan → Kept (booted plan limits) }
 {}
 
-/// Where all of it holds before a run of lawful cores, all of it holds after the run.
-pub fn runs_of_lawful_cores_keep_all_of_it<S: LooseSwitch, M: LawfulManager, H: HostCore>()
+/// Where all of it holds before a run of lawful logic, all of it holds after the run.
+pub fn runs_of_lawful_logic_keep_all_of_it<S: LooseSwitch, M: LawfulManager, H: HostLogic>()
     ensures { (old : WorldView) (moments : List Moment) (new : WorldView) → Kept old →
         WorldRun S.rule M.rule H.rule old moments new → Kept new }
 {}

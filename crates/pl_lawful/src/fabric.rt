@@ -24,12 +24,12 @@ use pl_journal::Entry;
 use pl_manager_rule::LawfulManager;
 use pl_schedule::World;
 use pl_switch_rule::LooseSwitch;
-use pl_theorem::lawful_cores_are_one_switch;
+use pl_theorem::lawful_logic_is_one_switch;
 use pl_wiring::Wiring;
 use pl_world::{Event, Limits, StepError};
 use std::alloc::Global;
 
-/// A fabric of lawful cores as it begins.
+/// A fabric of lawful logic as it begins.
 pub fn boot<S: LooseSwitch, M: LawfulManager, H: LawfulHost>(
     alloc: Global,
     wiring: Wiring,
@@ -42,7 +42,7 @@ pub fn boot<S: LooseSwitch, M: LawfulManager, H: LawfulHost>(
     ensures moment { IfOk result (λ w. IsOfRun S.rule M.rule H.rule w) }
     ensures promised { IfOk result (λ w. IsPromised S.rule M.rule H.rule w) }
 {
-    lawful_cores_are_one_switch::<S, M, H>();
+    lawful_logic_is_one_switch::<S, M, H>();
     // A wiring is a fat tree.
     let _hosts = wiring.hosts();
     World::boot(alloc, wiring, limits)
@@ -62,7 +62,7 @@ pub fn make<S: LooseSwitch, M: LawfulManager, H: LawfulHost>(
     ensures moment { EndsAs result (λ _. IsOfRun S.rule M.rule H.rule world.new) }
     ensures promised { EndsAs result (λ _. IsPromised S.rule M.rule H.rule world.new) }
 {
-    lawful_cores_are_one_switch::<S, M, H>();
+    lawful_logic_is_one_switch::<S, M, H>();
     pl_fabric::make(world, event)
 }
 
@@ -82,7 +82,7 @@ pub fn mark<S: LooseSwitch, M: LawfulManager, H: LawfulHost>(
     ensures moment { OnOk result (IsOfRun S.rule M.rule H.rule world.new) }
     ensures promised { OnOk result (IsPromised S.rule M.rule H.rule world.new) }
 {
-    lawful_cores_are_one_switch::<S, M, H>();
+    lawful_logic_is_one_switch::<S, M, H>();
     world.mark(entry)
 }
 
@@ -99,7 +99,7 @@ pub fn sweep<S: LooseSwitch, M: LawfulManager, H: LawfulHost>(
     ensures moment { EndsAs result (λ _. IsOfRun S.rule M.rule H.rule world.new) }
     ensures promised { EndsAs result (λ _. IsPromised S.rule M.rule H.rule world.new) }
 {
-    lawful_cores_are_one_switch::<S, M, H>();
+    lawful_logic_is_one_switch::<S, M, H>();
     a_sweep_is_a_run::<S, M, H>();
     pl_fabric::sweep(world)
 }
@@ -124,7 +124,7 @@ pub fn settle<S: LooseSwitch, M: LawfulManager, H: LawfulHost>(
     ensures moment { EndsAs result (λ _. IsOfRun S.rule M.rule H.rule world.new) }
     ensures promised { EndsAs result (λ _. IsPromised S.rule M.rule H.rule world.new) }
 {
-    lawful_cores_are_one_switch::<S, M, H>();
+    lawful_logic_is_one_switch::<S, M, H>();
     the_rounds_of_a_settling_are_a_run::<S, M, H>();
     a_fabric_at_rest_has_empty_queues();
     pl_fabric::settle(world, rounds)
@@ -145,7 +145,7 @@ pub fn random<S: LooseSwitch, M: LawfulManager, H: LawfulHost>(
     ensures moment { EndsAs result (λ _. IsOfRun S.rule M.rule H.rule world.new) }
     ensures promised { EndsAs result (λ _. IsPromised S.rule M.rule H.rule world.new) }
 {
-    lawful_cores_are_one_switch::<S, M, H>();
+    lawful_logic_is_one_switch::<S, M, H>();
     drawn_steps_are_a_run::<S, M, H>();
     pl_fabric::random(world, number, steps)
 }

@@ -11,7 +11,7 @@ use Rattle.pl_wiring.specs.Plan.{Plan}
 use Rattle.pl_journal.specs.declared.entry.Entry.{Entry}
 use Rattle.pl_journal.specs.declared.entry.Entry.TheVariants.{Granted, Moved, Registered}
 use Rattle.pl_journal.specs.Places.{Spot, are_alike, at_port, granted_at, has_stood, holder, is_of_edge, is_spent, number, registered, same_pod_and_position, same_spot, spot}
-use Rattle.pl_core.specs.SwitchViews.{SwitchView}
+use Rattle.pl_logic.specs.SwitchViews.{SwitchView}
 use Rattle.pl_world.specs.Changes.{host_of}
 use Rattle.pl_ledger.specs.Ledgers.{IsBacked, IsGrantedThere, ledger}
 use Rattle.pl_ledger.proofs.Giving.{AreRising, ComesBefore, Giving, IsOneOf}

@@ -6,10 +6,10 @@ use Rattle.std.proofs.lemmas.Option.{none-some, same_Some, slice_get_within}
 use Rattle.pl_frame.specs.declared.address.Mac.{Mac}
 use Rattle.pl_pmac.specs.declared.pmac.Pmac.{Pmac}
 use Rattle.pl_pmac.specs.Pmac.{Fits, pmac_number}
-use Rattle.pl_core.specs.declared.switch_records.Grant.{Grant}
-use Rattle.pl_core.specs.Accounting.{IsShaped}
-use Rattle.pl_core.specs.ManagerViews.{Learnt}
-use Rattle.pl_core.specs.SwitchViews.{SwitchView}
+use Rattle.pl_logic.specs.declared.switch_records.Grant.{Grant}
+use Rattle.pl_logic.specs.Accounting.{IsShaped}
+use Rattle.pl_logic.specs.ManagerViews.{Learnt}
+use Rattle.pl_logic.specs.SwitchViews.{SwitchView}
 use Rattle.pl_journal.specs.declared.entry.Entry.{Entry}
 use Rattle.pl_journal.specs.Places.{at_port}
 use Rattle.pl_switch_rule.specs.Granting.{granted, grants_at, is_local, remembered_at}

@@ -8,16 +8,16 @@ use Rattle.pl_frame.specs.declared.address.Mac.{Mac}
 use Rattle.pl_frame.specs.Ethernet.{source_of}
 use Rattle.pl_layouts.specs.Equality.{same_mac}
 use Rattle.pl_layouts.specs.Frames.{packet_in}
-use Rattle.pl_core.specs.declared.acts.Act.{Act}
-use Rattle.pl_core.specs.declared.acts.ManagerAct.{ManagerAct}
-use Rattle.pl_core.specs.declared.messages.ToManager.{ToManager}
-use Rattle.pl_core.specs.declared.messages.ToManager.TheVariants as tell
-use Rattle.pl_core.specs.declared.messages.ToSwitch.{ToSwitch}
-use Rattle.pl_core.specs.Accounting.{IsShaped}
-use Rattle.pl_core.specs.HostDuties.{is_of, is_own}
-use Rattle.pl_core.specs.ManagerViews.{Learnt, ManagerView}
-use Rattle.pl_core.specs.SwitchInputs.{SwitchInput}
-use Rattle.pl_core.specs.SwitchViews.{SwitchView}
+use Rattle.pl_logic.specs.declared.acts.Act.{Act}
+use Rattle.pl_logic.specs.declared.acts.ManagerAct.{ManagerAct}
+use Rattle.pl_logic.specs.declared.messages.ToManager.{ToManager}
+use Rattle.pl_logic.specs.declared.messages.ToManager.TheVariants as tell
+use Rattle.pl_logic.specs.declared.messages.ToSwitch.{ToSwitch}
+use Rattle.pl_logic.specs.Accounting.{IsShaped}
+use Rattle.pl_logic.specs.HostDuties.{is_of, is_own}
+use Rattle.pl_logic.specs.ManagerViews.{Learnt, ManagerView}
+use Rattle.pl_logic.specs.SwitchInputs.{SwitchInput}
+use Rattle.pl_logic.specs.SwitchViews.{SwitchView}
 use Rattle.pl_journal.specs.Places.{at_port}
 use Rattle.pl_manager_rule.specs.Histories.{known}
 use Rattle.pl_manager_rule.specs.ManagerRule.{manager_hears, manager_rule}

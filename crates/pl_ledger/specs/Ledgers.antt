@@ -10,10 +10,10 @@ use Rattle.pl_wiring.specs.Plan.{Plan}
 use Rattle.pl_journal.specs.declared.entry.Entry.{Entry}
 use Rattle.pl_journal.specs.declared.entry.Entry.TheVariants.{Granted, Moved, Registered}
 use Rattle.pl_journal.specs.Places.{Spot, at_port, granted_at, has_stood, holder, number, registered, spot}
-use Rattle.pl_core.specs.declared.switch_records.Grant.{Grant}
-use Rattle.pl_core.specs.declared.switch_records.Source.{Source}
-use Rattle.pl_core.specs.ManagerViews.{Learnt, registry}
-use Rattle.pl_core.specs.SwitchViews.{SwitchView}
+use Rattle.pl_logic.specs.declared.switch_records.Grant.{Grant}
+use Rattle.pl_logic.specs.declared.switch_records.Source.{Source}
+use Rattle.pl_logic.specs.ManagerViews.{Learnt, registry}
+use Rattle.pl_logic.specs.SwitchViews.{SwitchView}
 use Rattle.pl_switch_rule.specs.Granting.{granted, grants_at, is_local, remembered_at}
 use Rattle.pl_world.specs.declared.stand.Stand.{Stand}
 use Rattle.pl_world.specs.Changes.{host_of}

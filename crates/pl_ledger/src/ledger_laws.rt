@@ -12,7 +12,7 @@ ghost use Rattle.pl_addresses.specs.Addressed.{AreApart, IsGrounded};
 ghost use Rattle.pl_addresses.specs.InOrder.{IsInOrder};
 ghost use Rattle.pl_ledger.specs.Ledgers.{AreInBounds, IsLedger};
 
-use pl_core::HostCore;
+use pl_logic::HostLogic;
 
 /// At the beginning no address is granted or registered, and the journal says so.
 pub fn the_ledger_begins_empty()
@@ -22,7 +22,7 @@ pub fn the_ledger_begins_empty()
 /// Each step keeps it that the journal says of addresses what the switches granted and the fabric manager
 /// registered, whichever candidates the switches choose, where hosts stand at edge switches, addresses are in
 /// order, placed edge switches stand apart, and their pods and positions are numbers of one byte.
-pub fn each_step_keeps_the_ledger<H: HostCore>()
+pub fn each_step_keeps_the_ledger<H: HostLogic>()
     ensures { (old : WorldView) (event : Event) (new : WorldView) → IsCounted old → IsCounted new → HostsAtEdges old → IsInOrder old → IsGrounded old →
         AreApart new.switches → AreInBounds old.switches → AreInBounds new.switches → WorldStep Loose manager_rule H.rule old event new →
         IsLedger old → IsLedger new }

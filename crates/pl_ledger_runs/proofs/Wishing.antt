@@ -15,19 +15,19 @@ use Rattle.pl_layouts.specs.Control.{control_in, is_control}
 use Rattle.pl_layouts.specs.Placement.{is_known, is_placed, same_place}
 use Rattle.pl_journal.specs.declared.cause.Cause.TheVariants as cause
 use Rattle.pl_journal.specs.Places.{are_alike}
-use Rattle.pl_core.specs.declared.acts.Act.{Act}
-use Rattle.pl_core.specs.declared.acts.Act.TheVariants as act
-use Rattle.pl_core.specs.declared.messages.ToManager.{ToManager}
-use Rattle.pl_core.specs.declared.messages.ToManager.TheVariants as tell
-use Rattle.pl_core.specs.declared.messages.ToSwitch.{ToSwitch}
-use Rattle.pl_core.specs.declared.messages.ToSwitch.TheVariants as say
-use Rattle.pl_core.specs.declared.switch_records.Grant.{Grant}
-use Rattle.pl_core.specs.declared.switch_records.Source.{Source}
-use Rattle.pl_core.specs.declared.trap.Trap.{Trap}
-use Rattle.pl_core.specs.PortRecords.{id_at, is_open_to_hosts, is_usable, port_of, ports_of_switch, with_port}
-use Rattle.pl_core.specs.SwitchInputs.{SwitchInput}
-use Rattle.pl_core.specs.SwitchInputs.SwitchInput.{Comes, Says, Tick}
-use Rattle.pl_core.specs.SwitchViews.{SwitchView}
+use Rattle.pl_logic.specs.declared.acts.Act.{Act}
+use Rattle.pl_logic.specs.declared.acts.Act.TheVariants as act
+use Rattle.pl_logic.specs.declared.messages.ToManager.{ToManager}
+use Rattle.pl_logic.specs.declared.messages.ToManager.TheVariants as tell
+use Rattle.pl_logic.specs.declared.messages.ToSwitch.{ToSwitch}
+use Rattle.pl_logic.specs.declared.messages.ToSwitch.TheVariants as say
+use Rattle.pl_logic.specs.declared.switch_records.Grant.{Grant}
+use Rattle.pl_logic.specs.declared.switch_records.Source.{Source}
+use Rattle.pl_logic.specs.declared.trap.Trap.{Trap}
+use Rattle.pl_logic.specs.PortRecords.{id_at, is_open_to_hosts, is_usable, port_of, ports_of_switch, with_port}
+use Rattle.pl_logic.specs.SwitchInputs.{SwitchInput}
+use Rattle.pl_logic.specs.SwitchInputs.SwitchInput.{Comes, Says, Tick}
+use Rattle.pl_logic.specs.SwitchViews.{SwitchView}
 use Rattle.pl_steps.specs.Steps.{SwitchStep, does, rests, ◌▹◌}
 use Rattle.pl_switch_rule.specs.Announcing.{announcements, with_aged_ports}
 use Rattle.pl_switch_rule.specs.Delivering.{makes}

@@ -11,16 +11,16 @@ use Rattle.pl_journal.specs.declared.cause.Cause.TheVariants as cause
 use Rattle.pl_journal.specs.declared.cause.Skip.{Skip}
 use Rattle.pl_journal.specs.declared.entry.Entry.{Entry}
 use Rattle.pl_journal.specs.declared.entry.Entry.TheVariants.{Arrived, Dropped, Sent, Skipped}
-use Rattle.pl_core.specs.declared.acts.HostAct.{HostAct}
-use Rattle.pl_core.specs.declared.acts.HostAct.TheVariants.{Send}
-use Rattle.pl_core.specs.declared.reception.Reception.{Reception}
-use Rattle.pl_core.specs.declared.reception.Reception.TheVariants.{Kept, NotMember}
-use Rattle.pl_core.specs.HostInputs.{HostAnswer, HostInput, HostRule}
-use Rattle.pl_core.specs.HostInputs.HostAnswer.{Nothing, Played, Received}
-use Rattle.pl_core.specs.HostInputs.HostInput.{HasMoved, Joins, Leaves, Plays, PlaysRaw, Receives, Retries, Starts}
-use Rattle.pl_core.specs.HostViews.{HostView}
-use Rattle.pl_core.specs.ManagerDuties.{ManagerRule}
-use Rattle.pl_core.specs.SwitchInputs.{SwitchRule}
+use Rattle.pl_logic.specs.declared.acts.HostAct.{HostAct}
+use Rattle.pl_logic.specs.declared.acts.HostAct.TheVariants.{Send}
+use Rattle.pl_logic.specs.declared.reception.Reception.{Reception}
+use Rattle.pl_logic.specs.declared.reception.Reception.TheVariants.{Kept, NotMember}
+use Rattle.pl_logic.specs.HostInputs.{HostAnswer, HostInput, HostRule}
+use Rattle.pl_logic.specs.HostInputs.HostAnswer.{Nothing, Played, Received}
+use Rattle.pl_logic.specs.HostInputs.HostInput.{HasMoved, Joins, Leaves, Plays, PlaysRaw, Receives, Retries, Starts}
+use Rattle.pl_logic.specs.HostViews.{HostView}
+use Rattle.pl_logic.specs.ManagerDuties.{ManagerRule}
+use Rattle.pl_logic.specs.SwitchInputs.{SwitchRule}
 use Rattle.pl_queues.specs.Queues.{items_at}
 use Rattle.pl_world.specs.declared.event.Event.{Event}
 use Rattle.pl_world.specs.declared.event.Event.TheVariants as event

@@ -16,13 +16,13 @@ use Rattle.pl_script.specs.declared.command.Who.TheVariants as who
 use Rattle.pl_script.specs.declared.command.Who.TheVariants.{One}
 use Rattle.pl_script.specs.declared.script.ScriptLine.{ScriptLine}
 use Rattle.pl_inputs.specs.Records.{Recorded}
-use Rattle.pl_core.specs.declared.acts.HostAct.{HostAct}
-use Rattle.pl_core.specs.declared.acts.HostAct.TheVariants.{Send}
-use Rattle.pl_core.specs.declared.reception.Reception.TheVariants.{Kept}
-use Rattle.pl_core.specs.HostInputs.{HostAnswer, HostInput, HostRule}
-use Rattle.pl_core.specs.HostInputs.HostAnswer.{Played, Received}
-use Rattle.pl_core.specs.HostInputs.HostInput.{HasMoved, Joins, Leaves, Plays, PlaysRaw, Receives, Retries, Starts}
-use Rattle.pl_core.specs.HostViews.{HostView, boot_host}
+use Rattle.pl_logic.specs.declared.acts.HostAct.{HostAct}
+use Rattle.pl_logic.specs.declared.acts.HostAct.TheVariants.{Send}
+use Rattle.pl_logic.specs.declared.reception.Reception.TheVariants.{Kept}
+use Rattle.pl_logic.specs.HostInputs.{HostAnswer, HostInput, HostRule}
+use Rattle.pl_logic.specs.HostInputs.HostAnswer.{Played, Received}
+use Rattle.pl_logic.specs.HostInputs.HostInput.{HasMoved, Joins, Leaves, Plays, PlaysRaw, Receives, Retries, Starts}
+use Rattle.pl_logic.specs.HostViews.{HostView, boot_host}
 use Rattle.pl_world.specs.Booting.{host_table, me_of}
 use Rattle.pl_world.specs.Worlds.{WorldView}
 

@@ -11,11 +11,11 @@ ghost use Rattle.pl_lines.specs.Asked.{DoesAsAsked};
 ghost use Rattle.pl_lines.specs.Lines.{Plays};
 ghost use Rattle.pl_lines.specs.Scenes.{Scene};
 
-use pl_core::{HostCore, ManagerCore, SwitchCore};
+use pl_logic::{HostLogic, ManagerLogic, SwitchLogic};
 
 /// What a script does to a fabric is a run of it from its beginning on: steps, none of which is refused, and
 /// marks. So what holds of each run holds of it.
-pub fn a_script_is_a_run<S: SwitchCore, M: ManagerCore, H: HostCore>()
+pub fn a_script_is_a_run<S: SwitchLogic, M: ManagerLogic, H: HostLogic>()
     ensures { (plan : Plan) (limits : Limits) (records : List (List Recorded)) (lines : List ScriptLine) (end : Option (ℕ × Stop)) (scene : Scene) →
         Plays S.rule M.rule H.rule plan limits records lines end scene →
         (moments : List Moment) × WorldRun S.rule M.rule H.rule (booted plan limits) moments scene.world }
@@ -23,7 +23,7 @@ pub fn a_script_is_a_run<S: SwitchCore, M: ManagerCore, H: HostCore>()
 
 /// Where a script is played to its end, each host does just what the script asks of it and what the frames
 /// that arrive bring about: each record is played once, in order.
-pub fn hosts_do_what_is_asked<S: SwitchCore, M: ManagerCore, H: HostCore>()
+pub fn hosts_do_what_is_asked<S: SwitchLogic, M: ManagerLogic, H: HostLogic>()
     ensures { (plan : Plan) (limits : Limits) (records : List (List Recorded)) (lines : List ScriptLine) (scene : Scene) (n : ℕ) (host : Host) →
         CanBegin plan → Plays S.rule M.rule H.rule plan limits records lines None scene → slice_get plan.hosts n ≡ Some host →
         DoesAsAsked H.rule plan records lines n host scene.world }

@@ -1,11 +1,12 @@
--- What a binary search says of the place of an item in a list that rises strictly, and what an insertion
+-- What a binary search says of the index of an item in a list that rises strictly, and what an insertion
 -- there makes of the list.
-use Rattle.std.proofs.Common.{◌≡◌, ℕ, zero, suc, ◌<◌, ◌≤◌, true, false, List, [], ◌∷◌, length, get_or, Result, Ok, Err, IfOk, IfErr, is_ok, sym, refl, ap, ◌∙◌, inl, inr, arith}
+use Rattle.std.proofs.Common.{◌≡◌, ℕ, zero, suc, ◌+◌, ◌-◌, ◌<◌, ◌≤◌, true, false, List, [], ◌∷◌, length, get_or, Result, Ok, Err, Some, IfOk, IfErr, is_ok, sym, refl, ap, ◌∙◌, inl, inr, arith}
 use Rattle.std.specs.declared.cmp.Ordering.{Ordering}
 use Rattle.std.specs.declared.cmp.Ordering.TheVariants.{Less, Equal, Greater}
 use Rattle.std.specs.Ordering.{is_eq, ordering_index, ordering_reverse, match_ordering}
 use Rattle.std.specs.Cmp.{IsTotalOrder, alike_right, tied_back}
-use Rattle.std.specs.List.{All, AllByRecursion, AllWithin, HoldsAt, insert, list_any}
+use Rattle.std.proofs.lemmas.Option.{get_or_from_slice_get, slice_get_within}
+use Rattle.std.specs.List.{All, AllByRecursion, AllWithin, HoldsAt, insert, list_any, slice_get}
 use Rattle.std.specs.List.Sorted.{IsStrictlySortedBy, IsNonDecreasingBy, IsBinarySearchResult, IsSearchInRange}
 use Rattle.std.specs.BTreeSet.{insert_key}
 use Rattle.std.proofs.lemmas.Bool.{cases_lt}
@@ -22,6 +23,11 @@ index_le_two : (r : Ordering) → ordering_index r ≤ 2
 index_le_two Less = omega arith
 index_le_two Equal = omega arith
 index_le_two Greater = omega arith
+
+is_less : (r : Ordering) → ordering_index r ≡ 0 → r ≡ Less
+is_less Less e = refl
+is_less Equal e = absurd (omega (arith, e))
+is_less Greater e = absurd (omega (arith, e))
 
 module _ {K : Type 0} where
   all_map : (P Q : K → Type 0) → ((y : K) → P y → Q y) → (ys : List K) → AllByRecursion P ys → AllByRecursion Q ys
@@ -56,7 +62,7 @@ module _ {K : Type 0} {R : K → K → Ordering} (o : IsTotalOrder R) where
   comparisons_rise x (y ∷ ys) s (suc i) zero d h lt = absurd (omega arith)
   comparisons_rise x (y ∷ ys) s (suc i) (suc j) d h lt = comparisons_rise x ys s.1 i j d (omega arith) (omega arith)
 
-  -- at the place between the lower and the higher items an insertion makes `insert_key`
+  -- at the index between the lower and the higher items an insertion makes `insert_key`
   insert_at_gap : (x : K) (xs : List K) (i : ℕ) → AllWithin (λ y. R y x ≡ Less) xs 0 i → AllWithin (λ y. R y x ≡ Greater) xs i (length xs)
       → i ≤ length xs → insert xs i x ≡ insert_key R xs x
   insert_at_gap x [] zero below above h = refl
@@ -93,7 +99,33 @@ module _ {K : Type 0} {R : K → K → Ordering} (o : IsTotalOrder R) where
       (λ e. s)
       (λ e. (all_inserted (λ z. R y z ≡ Less) x ys (less_back x y e) s.0, insert_key_rises x ys s.1))
 
-  -- what is found at a place is a member
+  -- where the last item comes before another, each does
+  pub all_before_last : (x : K) (xs : List K) (n : ℕ) (d : K) → IsStrictlySortedBy R xs → n + 1 ≡ length xs → R (get_or xs n d) x ≡ Less
+      → AllByRecursion (λ y. R y x ≡ Less) xs
+  unfolding IsStrictlySortedBy
+  all_before_last x [] n d s many last = tt
+  all_before_last x (y ∷ []) zero d s many last = (last, tt)
+  all_before_last x (y ∷ []) (suc n) d s many last = absurd (omega arith)
+  all_before_last x (y ∷ z ∷ zs) zero d s many last = absurd (omega arith)
+  all_before_last x (y ∷ z ∷ zs) (suc n) d s many last =
+      let rest = all_before_last x (z ∷ zs) n d s.1 (omega arith) last in (o.trans y z x s.0.0 rest.0, rest)
+
+  pub all_before : (x last : K) (xs ys : List K) (r : Ordering) → IsStrictlySortedBy R xs → ys ≡ xs
+      → Some last ≡ slice_get ys (length ys - 1) → r ≡ R last x → ordering_index r ≡ 0 → AllByRecursion (λ y. R y x ≡ Less) xs
+  all_before x last xs ys r sorted same at ranked less =
+      let found : slice_get xs (length xs - 1) ≡ Some last = rw (← same) (sym at) in
+      let within = slice_get_within xs (length xs - 1) last found in
+      let is = get_or_from_slice_get xs (length xs - 1) last last found in
+      all_before_last x xs (length xs - 1) last sorted (omega (arith, within)) (rw is (sym ranked ∙ is_less r less))
+
+  -- an item above all others goes behind the last
+  pub goes_last : (x : K) (xs : List K) → AllByRecursion (λ y. R y x ≡ Less) xs
+      → (insert xs (length xs) x ≡ insert_key R xs x) × (false ≡ list_any (λ y. is_eq (R x y)) xs)
+  goes_last x [] low = (refl, refl)
+  goes_last x (y ∷ ys) low =
+      let e : R x y ≡ Greater = greater_back y x low.0 in let rest = goes_last x ys low.1 in rw e (ap (λ l. y ∷ l) rest.0, rest.1)
+
+  -- what is found at an index is a member
   found_there : (x : K) (xs : List K) (i : ℕ) → i < length xs → HoldsAt (λ y. R y x ≡ Equal) xs i → true ≡ list_any (λ y. is_eq (R x y)) xs
   found_there x xs i h at = sym (list_any_at (λ y. is_eq (R x y)) xs i x h (ap is_eq (tied_back o (get_or xs i x) x (at x))))
 
@@ -115,7 +147,7 @@ module _ {K : Type 0} {R : K → K → Ordering} (o : IsTotalOrder R) where
     found_inserts_nothing (Ok i) h at = sym (insert_present x xs i s h at)
     found_inserts_nothing (Err i) h parted = tt
 
-    -- one that it missed goes to the place that it answered
+    -- one that it missed goes to the index that it answered
     pub missed_inserts : (r : Result ℕ ℕ) → IsSearchInRange r (length xs) → IsBinarySearchResult (λ y. R y x) xs r
         → IfErr r (λ i. insert xs i x ≡ insert_key R xs x)
     missed_inserts (Ok i) h at = tt

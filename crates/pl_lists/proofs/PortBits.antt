@@ -37,7 +37,7 @@ ports_from-other set port h other =
     let e : 32 - port ≡ suc (32 - (port + 1)) = omega arith in
     rw e (ap (λ b. cond b (port ∷ ports_from set (port + 1)) (ports_from set (port + 1))) other)
 
--- what stands at a place behind the first
+-- what stands at an index behind the first
 pub slice_get-next : (x : ℕ) (xs : List ℕ) (k : ℕ) → k ≢ 0 → slice_get (x ∷ xs) k ≡ slice_get xs (k - 1)
 slice_get-next x xs zero h = absurd (h refl)
 slice_get-next x xs (suc k) h = let e : suc k - 1 ≡ k = omega arith in rw e refl
@@ -102,7 +102,7 @@ module _ (old new : ℕ → Bool) where
         | false ↦ sym (insert_below old a (a + 1) n (omega arith))
       ])
 
-  -- a test that passes one number more keeps that one besides, at its place
+  -- a test that passes one number more keeps that one besides, at its index
   kept_inserted : (port a n : ℕ) → new port ≡ true → ((p : ℕ) → p ≢ port → new p ≡ old p) → a ≤ port → port < a + n
       → kept new a n ≡ insert_key nat_cmp (kept old a n) port
   kept_inserted port a zero here others h k = absurd (omega arith)

@@ -40,7 +40,7 @@ impl<T> Items<T> {
         self.items.is_empty()
     }
 
-    /// The item at a place, counted from 0; none past the last.
+    /// The item at an index, counted from 0; none past the last.
     pub fn get(&self, n: usize) -> Option<&T>
         ensures { option_copied result ≡ slice_get self.now n }
     {

@@ -42,7 +42,7 @@ impl<T> Queue<T> {
         self.items.is_empty()
     }
 
-    /// The item at a place, counted from 0 at the front; none past the last.
+    /// The item at an index, counted from 0 at the front; none past the last.
     pub fn get(&self, n: usize) -> Option<&T>
         ensures { option_copied result ≡ slice_get self.now n }
     {

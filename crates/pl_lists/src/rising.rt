@@ -1,12 +1,14 @@
 ghost use Rattle.std.specs.Prelude.{◌≡◌, ◌↔◌, ◌≤◌, [], IfErr, IfOk, IsTrue, OnOk, OnErr, is_ok, length, slice_get};
 ghost use Rattle.std.specs.BTreeSet.{insert_key};
-ghost use Rattle.std.specs.List.{insert, list_any};
+ghost use Rattle.std.specs.List.{AllByRecursion, insert, list_any};
 ghost use Rattle.std.specs.List.Sorted.{IsStrictlySortedBy};
 ghost use Rattle.std.specs.Option.{option_copied};
 ghost use Rattle.std.specs.Ordering.{is_eq};
+ghost use Rattle.std.specs.declared.cmp.Ordering.TheVariants.{Less};
 
 use crate::Memory;
 use std::alloc::Global;
+use std::cmp::Ordering;
 use std::marker::Model;
 
 /// Items in rising order, none twice. Contracts see the list of them.
@@ -47,7 +49,7 @@ impl<T: Ord> Rising<T> {
         self.items.is_empty()
     }
 
-    /// The item at a place, counted from 0; none past the last.
+    /// The item at an index, counted from 0; none past the last.
     pub fn get(&self, n: usize) -> Option<&T>
         ensures { option_copied result ≡ slice_get self.now n }
     {
@@ -76,9 +78,23 @@ impl<T: Ord> Rising<T> {
         ensures member { is_ok result ≡ list_any (λ x. is_eq (T.cmp item.now x)) self.now }
         ensures rising { IsStrictlySortedBy T.cmp (insert_key T.cmp self.now item.now) }
     {
+        if self.ends_below(item) {
+            return Err(self.len());
+        }
         match self.items.binary_search(item) {
             Ok(_) => Ok(()),
-            Err(place) => Err(place),
+            Err(index) => Err(index),
+        }
+    }
+
+    // Whether each item comes before this one, by the last of them.
+    fn ends_below(&self, item: &T) -> bool
+        ensures below { IsTrue result → AllByRecursion (λ x. T.cmp x item.now ≡ Less) self.now }
+        ensures rising { IsStrictlySortedBy T.cmp self.now }
+    {
+        match self.items.last() {
+            Some(last) => last.cmp(item) == Ordering::Less,
+            None => true,
         }
     }
 }
@@ -94,13 +110,13 @@ impl<T: Ord + Copy> Rising<T> {
 }
 
 impl<T: Ord + Drop> Rising<T> {
-    /// Puts an item at its place, unless it is there already.
+    /// Puts an item where it goes, unless it is there already.
     pub fn insert(&mut self, item: T) -> Result<(), Memory>
         ensures ok { OnOk result (self.new ≡ insert_key T.cmp self.old item) }
         ensures err { OnErr result (self.new ≡ self.old) }
     {
         match self.search(&item) {
-            Err(place) => Ok(self.items.insert(place, item)?),
+            Err(index) => Ok(self.items.insert(index, item)?),
             Ok(()) => Ok(()),
         }
     }
@@ -112,7 +128,7 @@ mod tests {
     use std::test::Fail;
 
     #[test]
-    fn an_item_is_listed_once_in_its_place(rt: HostRuntime) -> Result<(), Fail> {
+    fn an_item_is_listed_once_and_in_order(rt: HostRuntime) -> Result<(), Fail> {
         let mut list: Rising<u8> = Rising::new(rt.alloc());
         assert!(rt; list.is_empty());
         list.insert(7)?;

@@ -6,14 +6,14 @@ use Rattle.std.proofs.lemmas.Cmp.{nat_cmp_total}
 use Rattle.std.proofs.lemmas.Map.Lookups.{exact_unsigned}
 use Rattle.pl_frame.specs.declared.address.SwitchId.{SwitchId}
 use Rattle.pl_layouts.specs.Memberships.{flood}
-use Rattle.pl_core.specs.declared.acts.ManagerAct.{ManagerAct}
-use Rattle.pl_core.specs.declared.acts.ManagerAct.TheVariants.{Say}
-use Rattle.pl_core.specs.declared.messages.ToSwitch.TheVariants as say
-use Rattle.pl_core.specs.AvoidLists.{avoid_list}
-use Rattle.pl_core.specs.ManagerFacts.{groups}
-use Rattle.pl_core.specs.ManagerViews.{Told, members_cmp, switches}
-use Rattle.pl_core.specs.Trees.{core_for, core_of, needed_edges, tree_part}
-use Rattle.pl_core.proofs.Among.{IsAmong}
+use Rattle.pl_logic.specs.declared.acts.ManagerAct.{ManagerAct}
+use Rattle.pl_logic.specs.declared.acts.ManagerAct.TheVariants.{Say}
+use Rattle.pl_logic.specs.declared.messages.ToSwitch.TheVariants as say
+use Rattle.pl_logic.specs.AvoidLists.{avoid_list}
+use Rattle.pl_logic.specs.ManagerFacts.{groups}
+use Rattle.pl_logic.specs.ManagerViews.{Told, members_cmp, switches}
+use Rattle.pl_logic.specs.Trees.{core_for, core_of, needed_edges, tree_part}
+use Rattle.pl_logic.proofs.Among.{IsAmong}
 use Rattle.pl_manager_rule.specs.ManagerRule.{avoid_acts, same_avoid_list, same_part}
 use Rattle.pl_manager_rule.proofs.Avoided.{groups_rise}
 use Rattle.pl_manager_rule.proofs.Repeated.{none_differ}

@@ -2,8 +2,8 @@
 use Rattle.std.proofs.Common.{◌≡◌, List, [], Option, Some, None, sym, ap, ◌∙◌}
 use Rattle.std.specs.Prelude.{unwrap_or}
 use Rattle.pl_frame.specs.declared.address.SwitchId.{SwitchId}
-use Rattle.pl_core.specs.AvoidLists.{avoid_list}
-use Rattle.pl_core.specs.ManagerViews.{Told}
+use Rattle.pl_logic.specs.AvoidLists.{avoid_list}
+use Rattle.pl_logic.specs.ManagerViews.{Told}
 use Rattle.pl_faults.specs.Kept.{list_of}
 use Rattle.pl_faults.specs.Making.{Avoided}
 use Rattle.pl_faults.proofs.Anew.{avoid_of}

@@ -10,10 +10,10 @@ use Rattle.std.proofs.lemmas.Map.Made.{length-le_from_is_member}
 use Rattle.std.proofs.Math.Nat.{div-le_self, mul-le-mul_left, mul-le-mul_right}
 use Rattle.pl_frame.specs.declared.address.SwitchId.{SwitchId}
 use Rattle.pl_layouts.specs.Equality.{same_switch}
-use Rattle.pl_core.specs.ManagerFacts.{CanHear, heard, switch_count}
-use Rattle.pl_core.specs.ManagerViews.{ManagerView, PodGiven, id_cmp, pods_given, speakers, tellers}
-use Rattle.pl_core.specs.SwitchFacts.{IsTreeSize}
-use Rattle.pl_core.proofs.Among.{IsAmong, among_in_order, among_left, among_right, any_among}
+use Rattle.pl_logic.specs.ManagerFacts.{CanHear, heard, switch_count}
+use Rattle.pl_logic.specs.ManagerViews.{ManagerView, PodGiven, id_cmp, pods_given, speakers, tellers}
+use Rattle.pl_logic.specs.SwitchFacts.{IsTreeSize}
+use Rattle.pl_logic.proofs.Among.{IsAmong, among_in_order, among_left, among_right, any_among}
 use Rattle.pl_manager_rule.proofs.Avoided.{id_exact}
 use Rattle.pl_manager_rule.proofs.Registered.{askers_once}
 use Rattle.pl_groups.proofs.Reached.{one_passes}

@@ -6,11 +6,11 @@ use Rattle.std.proofs.lemmas.Bool.{eqb-true, false≢true, or_left, or_parts}
 use Rattle.std.proofs.lemmas.Grind.{flat_map-append}
 use Rattle.std.proofs.lemmas.Option.{slice_get-get_or}
 use Rattle.pl_frame.specs.declared.address.SwitchId.{SwitchId}
-use Rattle.pl_core.specs.declared.acts.ManagerAct.{ManagerAct}
-use Rattle.pl_core.specs.declared.acts.ManagerAct.TheVariants.{Say}
-use Rattle.pl_core.specs.declared.messages.ToSwitch.TheVariants as say
-use Rattle.pl_core.specs.ManagerViews.{Members, Told, switches}
-use Rattle.pl_core.specs.Trees.{tree_part}
+use Rattle.pl_logic.specs.declared.acts.ManagerAct.{ManagerAct}
+use Rattle.pl_logic.specs.declared.acts.ManagerAct.TheVariants.{Say}
+use Rattle.pl_logic.specs.declared.messages.ToSwitch.TheVariants as say
+use Rattle.pl_logic.specs.ManagerViews.{Members, Told, switches}
+use Rattle.pl_logic.specs.Trees.{tree_part}
 use Rattle.pl_manager_rule.specs.ManagerRule.{same_part}
 use Rattle.pl_groups.specs.Kept.{members_in, part_kept}
 use Rattle.pl_groups.specs.declared.groups.Groups.{Groups}

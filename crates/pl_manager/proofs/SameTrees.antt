@@ -14,10 +14,10 @@ use Rattle.pl_layouts.specs.declared.place.Place.{Place}
 use Rattle.pl_layouts.specs.Equality.{same_switch}
 use Rattle.pl_layouts.specs.Memberships.{flood}
 use Rattle.pl_layouts.specs.Placement.{is_known, nowhere}
-use Rattle.pl_core.specs.declared.messages.TreePart.{TreePart}
-use Rattle.pl_core.specs.ManagerViews.{Members, PlacedEdge, Told, alive_neighbours, edge_at, has_level, id_cmp, is_alive, is_told_usable, link_cmp, neighbours, place_of, placed_edges, switches, tellers, value_at, with_members}
-use Rattle.pl_core.specs.Trees.{core_for, core_of, cores, largest, needed_edges, tree_part, turn}
-use Rattle.pl_core.proofs.Among.{IsAmong, among_in_order, among_insert, among_left, id_total, rising_inserted}
+use Rattle.pl_logic.specs.declared.messages.TreePart.{TreePart}
+use Rattle.pl_logic.specs.ManagerViews.{Members, PlacedEdge, Told, alive_neighbours, edge_at, has_level, id_cmp, is_alive, is_told_usable, link_cmp, neighbours, place_of, placed_edges, switches, tellers, value_at, with_members}
+use Rattle.pl_logic.specs.Trees.{core_for, core_of, cores, largest, needed_edges, tree_part, turn}
+use Rattle.pl_logic.proofs.Among.{IsAmong, among_in_order, among_insert, among_left, id_total, rising_inserted}
 use Rattle.pl_manager_rule.specs.ManagerRule.{with_link, with_place}
 use Rattle.pl_manager_rule.proofs.Avoided.{id_exact, neighbours_rise, switches_rise}
 use Rattle.pl_manager_rule.proofs.History.{value_after}

@@ -1,4 +1,4 @@
-//! The fabric manager: a `ManagerCore` whose rule is that of `pl_manager_rule`, to the letter.
+//! The fabric manager: a `ManagerLogic` whose rule is that of `pl_manager_rule`, to the letter.
 //!
 //! `Routing` is what the switches told of the tree and of the members of groups, with the avoid lists and
 //! the trees of the groups, each as its switch was told it: a word that is heard tells just those switches
@@ -8,7 +8,7 @@
 pub use manager::Manager;
 
 mod manager;
-mod manager_core;
+mod manager_logic;
 mod renewing;
 mod routing;
 mod saying;

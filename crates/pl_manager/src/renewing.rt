@@ -1,8 +1,8 @@
 ghost use Rattle.std.specs.Prelude.{◌≡◌, ◌↔◌, ◌++◌, ◌∷◌, [], ℕ, OnOk, Some, if◌then◌else◌, not, slice_get, IsTrue};
 ghost use Rattle.std.specs.BTreeMap.{insert_entry};
 ghost use Rattle.pl_frame.specs.declared.address.SwitchId.{SwitchId};
-ghost use Rattle.pl_core.specs.AvoidLists.{avoid_list};
-ghost use Rattle.pl_core.specs.ManagerViews.{Told, members_cmp};
+ghost use Rattle.pl_logic.specs.AvoidLists.{avoid_list};
+ghost use Rattle.pl_logic.specs.ManagerViews.{Told, members_cmp};
 ghost use Rattle.pl_groups.specs.Kept.{members_in};
 ghost use Rattle.pl_manager_rule.specs.ManagerRule.{avoid_acts, with_link, with_place};
 ghost use Rattle.pl_faults.specs.Kept.{handed};
@@ -10,10 +10,10 @@ ghost use Rattle.pl_manager.specs.Routing.{AreOf, routed, trees_told_anew};
 ghost use Rattle.pl_manager.specs.Telling.{AreRenewed, listed_groups};
 
 use crate::telling::{renew, tell_lists};
-use pl_core::{ManagerOutbox, Memory, Place};
 use pl_faults::Matrix;
 use pl_frame::SwitchId;
 use pl_groups::Groups;
+use pl_logic::{ManagerOutbox, Memory, Place};
 use pl_reports::Reports;
 use std::alloc::Global;
 

@@ -1,18 +1,18 @@
 ghost use Rattle.std.specs.Prelude.{◌≡◌, ◌++◌, ◌↔◌, IfOk, IsTrue, OnOk, slice_get};
 ghost use Rattle.std.specs.BTreeMap.{insert_entry};
 ghost use Rattle.std.specs.Option.{option_copied};
-ghost use Rattle.pl_core.specs.AvoidLists.{avoid_list};
-ghost use Rattle.pl_core.specs.ManagerFacts.{groups};
-ghost use Rattle.pl_core.specs.ManagerViews.{members_cmp};
-ghost use Rattle.pl_core.specs.Trees.{tree_part};
+ghost use Rattle.pl_logic.specs.AvoidLists.{avoid_list};
+ghost use Rattle.pl_logic.specs.ManagerFacts.{groups};
+ghost use Rattle.pl_logic.specs.ManagerViews.{members_cmp};
+ghost use Rattle.pl_logic.specs.Trees.{tree_part};
 ghost use Rattle.pl_manager_rule.specs.ManagerRule.{avoid_acts, with_link, with_place};
 ghost use Rattle.pl_manager.specs.Routing.{nothing_routed, trees_told_anew};
 
 use crate::renewing::{forget, tell_link, tell_members, tell_place};
-use pl_core::{AvoidList, ManagerOutbox, Memory, Place, TreePart};
 use pl_faults::Matrix;
 use pl_frame::SwitchId;
 use pl_groups::Groups;
+use pl_logic::{AvoidList, ManagerOutbox, Memory, Place, TreePart};
 use pl_reports::Reports;
 use std::alloc::Global;
 use std::marker::Model;

@@ -1,11 +1,11 @@
 ghost use Rattle.std.specs.Prelude.{◌≡◌, ◌++◌, ◌∷◌, [], OnOk};
-ghost use Rattle.pl_core.specs.declared.acts.ManagerAct.TheVariants.{Say};
+ghost use Rattle.pl_logic.specs.declared.acts.ManagerAct.TheVariants.{Say};
 ghost use Rattle.pl_manager.specs.Telling.{AreRenewed, lists_told, parts_told};
 
-use pl_core::{ManagerAct, ManagerOutbox, Memory, SwitchList, ToSwitch};
 use pl_faults::Matrix;
 use pl_frame::SwitchId;
 use pl_groups::Groups;
+use pl_logic::{ManagerAct, ManagerOutbox, Memory, SwitchList, ToSwitch};
 use pl_reports::Reports;
 
 /// A switch is told.

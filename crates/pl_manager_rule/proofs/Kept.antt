@@ -11,11 +11,11 @@ use Rattle.pl_frame.specs.declared.address.Ip4.{Ip4}
 use Rattle.pl_frame.specs.declared.address.SwitchId.{SwitchId}
 use Rattle.pl_pmac.specs.declared.pmac.Pmac.{Pmac}
 use Rattle.pl_layouts.specs.Equality.{same_pmac, same_switch}
-use Rattle.pl_core.specs.declared.messages.ToManager.{ToManager}
-use Rattle.pl_core.specs.declared.messages.ToManager.TheVariants as tell
-use Rattle.pl_core.specs.HostViews.{ip_cmp}
-use Rattle.pl_core.specs.ManagerViews.{LearntAddress, ManagerView, PodGiven, Registration, booted_manager, id_cmp, link_cmp, members_cmp, numbered, pods_given}
-use Rattle.pl_core.proofs.Among.{id_total}
+use Rattle.pl_logic.specs.declared.messages.ToManager.{ToManager}
+use Rattle.pl_logic.specs.declared.messages.ToManager.TheVariants as tell
+use Rattle.pl_logic.specs.HostViews.{ip_cmp}
+use Rattle.pl_logic.specs.ManagerViews.{LearntAddress, ManagerView, PodGiven, Registration, booted_manager, id_cmp, link_cmp, members_cmp, numbered, pods_given}
+use Rattle.pl_logic.proofs.Among.{id_total}
 use Rattle.pl_manager_rule.specs.ManagerRule.{manager_hears, told_again, view_after, with_address, with_asker, with_owner}
 use Rattle.pl_manager_rule.specs.Histories.{Word, known}
 use Rattle.pl_manager_rule.specs.Repeats.{IsInOrder}

@@ -8,7 +8,7 @@ use Rattle.std.proofs.lemmas.List.{length-map, reverse-append}
 use Rattle.pl_frame.specs.declared.address.SwitchId.{SwitchId}
 use Rattle.pl_pmac.specs.declared.pmac.Pmac.{Pmac}
 use Rattle.pl_layouts.specs.Equality.{same_pmac, same_switch}
-use Rattle.pl_core.specs.ManagerViews.{LearntAddress, PodGiven, Registration, numbered, pod_given, pods_given}
+use Rattle.pl_logic.specs.ManagerViews.{LearntAddress, PodGiven, Registration, numbered, pod_given, pods_given}
 use Rattle.pl_manager_rule.specs.ManagerRule.{with_asker}
 
 range_more : (a n : ℕ) → range_with_len a (suc n) ≡ range_with_len a n ++ (a + n) ∷ []

@@ -8,20 +8,20 @@ use Rattle.pl_frame.specs.declared.address.Mac.{Mac}
 use Rattle.pl_frame.specs.declared.address.SwitchId.{SwitchId}
 use Rattle.pl_pmac.specs.declared.pmac.Pmac.{Pmac}
 use Rattle.pl_layouts.specs.Equality.{same_pmac, same_switch}
-use Rattle.pl_core.specs.declared.acts.ManagerAct.TheVariants.{Number}
-use Rattle.pl_core.specs.declared.messages.ToManager.{ToManager}
-use Rattle.pl_core.specs.declared.messages.ToManager.TheVariants as tell
-use Rattle.pl_core.specs.HostViews.{ip_cmp}
-use Rattle.pl_core.specs.ManagerFacts.{groups}
-use Rattle.pl_core.specs.ManagerViews.{Learnt, LearntAddress, ManagerView, Told, id_cmp, link_cmp, members_cmp, newest, numbered, pods_given, registration, registry, switches}
-use Rattle.pl_core.specs.AvoidLists.{avoid_list}
+use Rattle.pl_logic.specs.declared.acts.ManagerAct.TheVariants.{Number}
+use Rattle.pl_logic.specs.declared.messages.ToManager.{ToManager}
+use Rattle.pl_logic.specs.declared.messages.ToManager.TheVariants as tell
+use Rattle.pl_logic.specs.HostViews.{ip_cmp}
+use Rattle.pl_logic.specs.ManagerFacts.{groups}
+use Rattle.pl_logic.specs.ManagerViews.{Learnt, LearntAddress, ManagerView, Told, id_cmp, link_cmp, members_cmp, newest, numbered, pods_given, registration, registry, switches}
+use Rattle.pl_logic.specs.AvoidLists.{avoid_list}
 use Rattle.pl_manager_rule.specs.ManagerRule.{ManagerStep, acts_of, avoid_acts, invalidation, manager_hears, part_in, reply, same_avoid_list, same_part, told_again, tree_acts, tree_acts_of, view_after, with_address, with_learnt}
 use Rattle.pl_manager_rule.specs.Repeats.{HasToldLast, IsInOrder, IsKnownAddress, answers}
 use Rattle.pl_manager_rule.proofs.Kept.{ip_exact, ip_total, link_exact, link_total, members_exact, members_total, pmac_is, pmac_itself}
 use Rattle.pl_manager_rule.proofs.Avoided.{id_exact}
 use Rattle.pl_manager_rule.proofs.Sameness.{avoid_lists_alike, parts_alike}
 use Rattle.pl_manager_rule.proofs.Tables.{put_again}
-use Rattle.pl_core.proofs.Among.{id_total}
+use Rattle.pl_logic.proofs.Among.{id_total}
 
 -- ---- what is the same brings no act about
 pub none_differ : {X : Type 0} (same : X → Bool) → ((x : X) → same x ≡ true) → (xs : List X) → filter (λ x. not (same x)) xs ≡ []

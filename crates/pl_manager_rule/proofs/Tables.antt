@@ -9,8 +9,8 @@ use Rattle.std.specs.Ordering.{is_eq, match_ordering, ordering_reverse}
 use Rattle.std.specs.Cmp.{Equal-is, IsTotalOrder}
 use Rattle.std.proofs.lemmas.Cmp.{tied_itself}
 use Rattle.std.proofs.lemmas.Map.Lookups.{CmpEqualImpliesEq}
-use Rattle.pl_core.specs.ManagerViews.{value_at}
-use Rattle.pl_core.proofs.Among.{IsAmong, among_insert, rising_inserted}
+use Rattle.pl_logic.specs.ManagerViews.{value_at}
+use Rattle.pl_logic.proofs.Among.{IsAmong, among_insert, rising_inserted}
 
 holds_of : {K : Type 0} (P : K → Type 0) (x : K) (xs : List K) → AllByRecursion P xs → IsAmong x xs → P x
 holds_of P x [] all h = absurd h

@@ -1,8 +1,8 @@
 ghost use Rattle.pl_manager_rule.specs.Lawful.{IsManagerRule};
 
-use pl_core::ManagerCore;
+use pl_logic::ManagerLogic;
 
 /// A manager that does just what the rule of the fabric manager says.
-pub trait LawfulManager: ManagerCore {
+pub trait LawfulManager: ManagerLogic {
     ghost lawful: { IsManagerRule Self.rule };
 }

@@ -6,10 +6,10 @@
 //! - `members SWITCH GROUP some|none`, `renew GROUP`, `part SWITCH GROUP`, `core GROUP`, `groups`.
 use crate::naming::{named, say_list, say_part, say_switches, usable};
 use crate::tree::{Tally, fail_links, tell_all, tell_both};
-use pl_core::{Memory, Place, SwitchList};
 use pl_faults::Matrix;
 use pl_frame::SwitchId;
 use pl_groups::Groups;
+use pl_logic::{Memory, Place, SwitchList};
 use pl_scenario_words::{first_word, is_remark, number, say};
 use pl_topology::TopologyError;
 use pl_wiring::{SwitchNo, Wiring};

@@ -1,5 +1,5 @@
-use pl_core::{AvoidList, Memory, SwitchList, TreePart};
 use pl_frame::SwitchId;
+use pl_logic::{AvoidList, Memory, SwitchList, TreePart};
 use pl_scenario_words::say;
 use pl_wiring::{Label, Wiring};
 use std::alloc::Global;

@@ -1,9 +1,9 @@
 ghost use Rattle.std.specs.Prelude.{◌<◌};
 ghost use Rattle.pl_wiring.specs.Labels.{switch_count};
 
-use pl_core::{Memory, Place};
 use pl_faults::Matrix;
 use pl_frame::SwitchId;
+use pl_logic::{Memory, Place};
 use pl_wiring::{Label, Peer, SwitchNo, Wiring};
 
 /// The place of a switch in a settled fabric whose pods are numbered as in the labels.

@@ -11,7 +11,7 @@ use Rattle.std.specs.Option.{is_some}
 use Rattle.std.specs.Ordering.{is_le, match_ordering, nat_cmp}
 use Rattle.std.proofs.lemmas.Bool.{cases_eq, cases_lt, eq-eqb, ne_eqb}
 use Rattle.std.proofs.lemmas.List.Elements.{All-cons, All-nil, All-weaker}
-use Rattle.pl_core.specs.declared.switch_records.Member.{Member}
+use Rattle.pl_logic.specs.declared.switch_records.Member.{Member}
 use Rattle.pl_layouts.specs.Frames.{mac_number}
 use Rattle.pl_lists.specs.declared.port_set.PortSet.{PortSet}
 use Rattle.pl_lists.specs.Ports.{has_port, ports_of}

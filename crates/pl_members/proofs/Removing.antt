@@ -12,7 +12,7 @@ use Rattle.std.proofs.lemmas.Slice.Eq.{bytes_eq-Decides}
 use Rattle.byteorder.specs.Endian.{big_bytes}
 use Rattle.pl_frame.specs.declared.address.Mac.{Mac}
 use Rattle.pl_frame.proofs.Numbers.{big_bytes-big_number}
-use Rattle.pl_core.specs.declared.switch_records.Member.{Member}
+use Rattle.pl_logic.specs.declared.switch_records.Member.{Member}
 use Rattle.pl_layouts.specs.Equality.{same_mac}
 use Rattle.pl_layouts.specs.Frames.{mac_number}
 use Rattle.pl_switch_rule.specs.Intake.{is_member, leaves, member_cmp, then_by}

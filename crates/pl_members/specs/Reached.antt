@@ -3,8 +3,8 @@ use Rattle.std.specs.Prelude.{◌≡◌, ◌<◌, ℕ, ◌==◌, ◌&&◌, Bool,
 use Rattle.std.specs.List.{All, filter, list_any}
 use Rattle.std.specs.List.Sorted.{IsStrictlySortedBy}
 use Rattle.pl_frame.specs.declared.address.Mac.{Mac}
-use Rattle.pl_core.specs.declared.switch_records.Member.{Member}
-use Rattle.pl_core.specs.PortRecords.{ports_of_switch}
+use Rattle.pl_logic.specs.declared.switch_records.Member.{Member}
+use Rattle.pl_logic.specs.PortRecords.{ports_of_switch}
 use Rattle.pl_switch_rule.specs.Intake.{groups_of, joins, member_cmp}
 
 -- a member of the group is at this port

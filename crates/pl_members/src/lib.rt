@@ -6,7 +6,7 @@
 #![tactic(auto)]
 
 pub use members::Members;
-pub use pl_core::{Memory, PortSet};
+pub use pl_logic::{Memory, PortSet};
 
 mod members;
 mod ranked;

@@ -9,9 +9,9 @@ use Rattle.pl_frame.specs.declared.address.Ip4.{Ip4}
 use Rattle.pl_frame.specs.declared.address.Mac.{Mac}
 use Rattle.pl_pmac.specs.declared.pmac.Pmac.{Pmac}
 use Rattle.pl_layouts.specs.Equality.{same_mac}
-use Rattle.pl_core.specs.declared.switch_records.Grant.{Grant}
-use Rattle.pl_core.specs.declared.trap.Trap.{Trap}
-use Rattle.pl_core.specs.Traps.{newer_trap}
+use Rattle.pl_logic.specs.declared.switch_records.Grant.{Grant}
+use Rattle.pl_logic.specs.declared.trap.Trap.{Trap}
+use Rattle.pl_logic.specs.Traps.{newer_trap}
 use Rattle.pl_switch_rule.specs.Delivering.{grant_trap}
 use Rattle.pl_switch_rule.specs.Granting.{grant_number, in_use, new_grant}
 use Rattle.pl_migrate.specs.Books.{BookView, address_in, address_in_use, granted_in, grantee_at, grants_of, is_here, is_in_use, is_used, next_address, numbered, trap_in, with_granted, with_next, with_port}

@@ -2,8 +2,8 @@
 use Rattle.std.specs.Prelude.{◌≡◌, ◌≤◌, ◌⊎◌, ℕ, true, List, length, Option, Some, None, All, Contains, fold}
 use Rattle.pl_frame.specs.declared.address.Mac.{Mac}
 use Rattle.pl_pmac.specs.declared.pmac.Pmac.{Pmac}
-use Rattle.pl_core.specs.declared.trap.Trap.{Trap}
-use Rattle.pl_core.specs.Traps.{newer_trap}
+use Rattle.pl_logic.specs.declared.trap.Trap.{Trap}
+use Rattle.pl_logic.specs.Traps.{newer_trap}
 use Rattle.pl_migrate.specs.declared.grantee.Grantee.{Grantee}
 use Rattle.pl_migrate.specs.Books.{BookView, address_in_use, granted_in, grantee_in, is_in_use, trap_in}
 

@@ -2,11 +2,11 @@ ghost use Rattle.std.specs.Prelude.{◌≡◌, ◌≢◌, ◌↔◌, ◌<◌, �
 ghost use Rattle.std.specs.List.{sum_by};
 ghost use Rattle.pl_frame.specs.declared.address.Mac.{Mac};
 ghost use Rattle.pl_pmac.specs.declared.pmac.Pmac.{Pmac};
-ghost use Rattle.pl_core.specs.declared.acts.Act.{Act};
-ghost use Rattle.pl_core.specs.declared.messages.ToManager.{ToManager};
-ghost use Rattle.pl_core.specs.PortRecords.{ports_of_switch};
-ghost use Rattle.pl_core.specs.SwitchViews.{SwitchView};
-ghost use Rattle.pl_core.specs.Traps.{newer_trap};
+ghost use Rattle.pl_logic.specs.declared.acts.Act.{Act};
+ghost use Rattle.pl_logic.specs.declared.messages.ToManager.{ToManager};
+ghost use Rattle.pl_logic.specs.PortRecords.{ports_of_switch};
+ghost use Rattle.pl_logic.specs.SwitchViews.{SwitchView};
+ghost use Rattle.pl_logic.specs.Traps.{newer_trap};
 ghost use Rattle.pl_steps.specs.Steps.{does};
 ghost use Rattle.pl_steps.specs.Taken.{IsTaken, IsTakenByPart};
 ghost use Rattle.pl_switch_rule.specs.Delivering.{addresses, if_newer, last_trap, redirects};
@@ -17,8 +17,8 @@ ghost use Rattle.pl_migrate.specs.PortGrants.{TakesPlaceOf};
 
 use crate::port_grants::PortGrants;
 use crate::{GrantError, Grantee};
-use pl_core::{Act, Grant, Memory, Outbox, Source, ToManager, Trap};
 use pl_frame::{Ip4, Mac};
+use pl_logic::{Act, Grant, Memory, Outbox, Source, ToManager, Trap};
 use pl_pmac::Pmac;
 use std::alloc::Global;
 use std::marker::Model;

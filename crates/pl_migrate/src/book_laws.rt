@@ -1,8 +1,8 @@
 ghost use Rattle.std.specs.Prelude.{◌≡◌, ℕ, List, [], MatchOption, None, Some};
 ghost use Rattle.pl_frame.specs.declared.address.Mac.{Mac};
 ghost use Rattle.pl_pmac.specs.declared.pmac.Pmac.{Pmac};
-ghost use Rattle.pl_core.specs.declared.trap.Trap.{Trap};
-ghost use Rattle.pl_core.specs.SwitchViews.{SwitchView};
+ghost use Rattle.pl_logic.specs.declared.trap.Trap.{Trap};
+ghost use Rattle.pl_logic.specs.SwitchViews.{SwitchView};
 ghost use Rattle.pl_switch_rule.specs.Delivering.{trap_for};
 ghost use Rattle.pl_switch_rule.specs.Granting.{granted, grants_at, in_use, is_local};
 ghost use Rattle.pl_switch_rule.specs.Intake.{pmac_at};

@@ -13,7 +13,7 @@ pub use book_laws::{
 };
 pub use error::GrantError;
 pub use grantee::Grantee;
-pub use pl_core::{Grant, Memory, Trap};
+pub use pl_logic::{Grant, Memory, Trap};
 
 mod address_book;
 mod book_laws;

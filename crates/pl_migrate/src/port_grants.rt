@@ -2,8 +2,8 @@ ghost use Rattle.std.specs.Prelude.{◌≡◌, ◌-◌, ◌<◌, ◌≤◌, ◌�
 ghost use Rattle.pl_switch_rule.specs.Granting.{grant_number, in_use, new_grant};
 ghost use Rattle.pl_migrate.specs.PortGrants.{is_used_by, ArePortGrants, AtMostOne, TakesPlaceOf};
 
-use pl_core::{Grant, Memory};
 use pl_frame::{Ip4, Mac};
+use pl_logic::{Grant, Memory};
 use std::alloc::Global;
 use std::marker::Model;
 
@@ -16,7 +16,7 @@ pub(crate) struct PortGrants {
 
 impl Model for PortGrants {
     ghost use Rattle.std.specs.Prelude.{List};
-    ghost use Rattle.pl_core.specs.declared.switch_records.Grant.{Grant};
+    ghost use Rattle.pl_logic.specs.declared.switch_records.Grant.{Grant};
     ghost use Rattle.pl_migrate.specs.PortGrants.{ArePortGrants};
 
     ghost Value = { List Grant };

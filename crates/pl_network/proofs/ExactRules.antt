@@ -1,8 +1,8 @@
 -- The rules of the plain switch, the manager and the hosts leave no choice.
 use Rattle.std.proofs.Common.{◌≡◌, List, sym, ◌∙◌, ap}
-use Rattle.pl_core.specs.declared.acts.HostAct.{HostAct}
-use Rattle.pl_core.specs.HostInputs.{HostAnswer}
-use Rattle.pl_core.specs.HostViews.{HostView}
+use Rattle.pl_logic.specs.declared.acts.HostAct.{HostAct}
+use Rattle.pl_logic.specs.HostInputs.{HostAnswer}
+use Rattle.pl_logic.specs.HostViews.{HostView}
 use Rattle.pl_host_rule.specs.HostRule.{HostStep, host_rule}
 use Rattle.pl_manager_rule.specs.ManagerRule.{manager_rule}
 use Rattle.pl_switch_rule.specs.SwitchRule.{Exact}

@@ -1,16 +1,16 @@
 -- Rules that leave no choice: from what is known and what comes, one step alone may follow.
 use Rattle.std.specs.Prelude.{◌≡◌, List}
 use Rattle.pl_frame.specs.declared.address.SwitchId.{SwitchId}
-use Rattle.pl_core.specs.declared.acts.Act.{Act}
-use Rattle.pl_core.specs.declared.acts.HostAct.{HostAct}
-use Rattle.pl_core.specs.declared.acts.ManagerAct.{ManagerAct}
-use Rattle.pl_core.specs.declared.messages.ToManager.{ToManager}
-use Rattle.pl_core.specs.HostInputs.{HostAnswer, HostInput, HostRule}
-use Rattle.pl_core.specs.HostViews.{HostView}
-use Rattle.pl_core.specs.ManagerDuties.{ManagerRule}
-use Rattle.pl_core.specs.ManagerViews.{ManagerView}
-use Rattle.pl_core.specs.SwitchInputs.{SwitchInput, SwitchRule}
-use Rattle.pl_core.specs.SwitchViews.{SwitchView}
+use Rattle.pl_logic.specs.declared.acts.Act.{Act}
+use Rattle.pl_logic.specs.declared.acts.HostAct.{HostAct}
+use Rattle.pl_logic.specs.declared.acts.ManagerAct.{ManagerAct}
+use Rattle.pl_logic.specs.declared.messages.ToManager.{ToManager}
+use Rattle.pl_logic.specs.HostInputs.{HostAnswer, HostInput, HostRule}
+use Rattle.pl_logic.specs.HostViews.{HostView}
+use Rattle.pl_logic.specs.ManagerDuties.{ManagerRule}
+use Rattle.pl_logic.specs.ManagerViews.{ManagerView}
+use Rattle.pl_logic.specs.SwitchInputs.{SwitchInput, SwitchRule}
+use Rattle.pl_logic.specs.SwitchViews.{SwitchView}
 
 -- what a switch knows then and its acts are those of every other step that it might take
 abbrev pub LeavesSwitchNoChoice : SwitchRule → Type 0

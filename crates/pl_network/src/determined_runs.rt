@@ -8,17 +8,17 @@ ghost use Rattle.pl_world.specs.WorldRule.{WorldStep};
 ghost use Rattle.pl_world.specs.Worlds.{WorldView};
 ghost use Rattle.pl_network.specs.NoChoice.{LeavesHostNoChoice, LeavesManagerNoChoice, LeavesSwitchNoChoice};
 
-use pl_core::{HostCore, ManagerCore, SwitchCore};
+use pl_logic::{HostLogic, ManagerLogic, SwitchLogic};
 
 /// Rules that leave no choice determine each step: one event makes one world of a world.
-pub fn rules_that_leave_no_choice_determine_a_step<S: SwitchCore, M: ManagerCore, H: HostCore>()
+pub fn rules_that_leave_no_choice_determine_a_step<S: SwitchLogic, M: ManagerLogic, H: HostLogic>()
     ensures { LeavesSwitchNoChoice S.rule → LeavesManagerNoChoice M.rule → LeavesHostNoChoice H.rule →
         (old : WorldView) (event : Event) (one other : WorldView) →
         WorldStep S.rule M.rule H.rule old event one → WorldStep S.rule M.rule H.rule old event other → one ≡ other }
 {}
 
 /// So they determine each run, by the events of its steps and the marks between them.
-pub fn rules_that_leave_no_choice_determine_a_run<S: SwitchCore, M: ManagerCore, H: HostCore>()
+pub fn rules_that_leave_no_choice_determine_a_run<S: SwitchLogic, M: ManagerLogic, H: HostLogic>()
     ensures { LeavesSwitchNoChoice S.rule → LeavesManagerNoChoice M.rule → LeavesHostNoChoice H.rule →
         (old : WorldView) (moments : List Moment) (one other : WorldView) →
         WorldRun S.rule M.rule H.rule old moments one → WorldRun S.rule M.rule H.rule old moments other → one ≡ other }

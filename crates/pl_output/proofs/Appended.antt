@@ -50,7 +50,7 @@ cut_part old mid new name whole part rest left is far cut =
     (cut_front old new name (old name) (far.front ++ part) rest
     (cut_behind old mid new name (old name) far.front part far.changes cut))
 
--- the records of the receipts from a place on: that of the first, and the others
+-- the records of the receipts from an index on: that of the first, and the others
 packets-next : (journal : List Entry) (receipts : List Receipt) (i : ℕ) (d : Receipt) → i < length receipts →
     flat_map (packet_bytes Little) (packets_at journal (drop i receipts))
     ≡ packet_bytes Little (packet_at journal (slice_index_or receipts i d)) ++ flat_map (packet_bytes Little) (packets_at journal (drop (i + 1) receipts))

@@ -12,7 +12,7 @@ use Rattle.pl_journal.specs.declared.entry.Entry.{Entry}
 use Rattle.pl_output.specs.declared.summary.Rest.{Rest}
 use Rattle.pl_output.specs.declared.summary.tally.Tally.{Tally}
 use Rattle.pl_output.specs.declared.summary.totals.Totals.{Totals}
-use Rattle.pl_output.specs.Summary.{totals_of, count_of, sender_of, receiver_of, skipper_of, ending_of, is_line, is_sent, is_made, is_copied, is_arrived, is_taken, is_dropped, place_of, counts_of, host_line, host_lines}
+use Rattle.pl_output.specs.Summary.{totals_of, count_of, sender_of, receiver_of, skipper_of, ending_of, is_line, is_sent, is_made, is_copied, is_arrived, is_taken, is_dropped, index_of, counts_of, host_line, host_lines}
 use Rattle.pl_output.specs.Tallied.{IsCounted, IsTally, plus, with_one}
 
 pub counted_none : (many : ℕ) (number : Entry → Option ℕ) → IsCounted (replicate many 0) many number []
@@ -84,16 +84,16 @@ tally_more old new hosts past e so_far totals ended sent arrived skipped = recor
   skipped = subst (λ c. IsCounted c hosts skipper_of (past ++ e ∷ [])) (sym skipped) (counted_more old.skipped.items hosts skipper_of past e so_far.skipped);
 }
 
-pub place_within : (cause : Cause) → place_of cause < 9
-place_within causes.NotPlaced = omega arith
-place_within causes.NoNextHop = omega arith
-place_within causes.NoAddress = omega arith
-place_within causes.HostGone = omega arith
-place_within causes.LinkDown = omega arith
-place_within causes.Lost = omega arith
-place_within causes.Spent = omega arith
-place_within causes.BadArp = omega arith
-place_within causes.NoMember = omega arith
+pub index_within : (cause : Cause) → index_of cause < 9
+index_within causes.NotPlaced = omega arith
+index_within causes.NoNextHop = omega arith
+index_within causes.NoAddress = omega arith
+index_within causes.HostGone = omega arith
+index_within causes.LinkDown = omega arith
+index_within causes.Lost = omega arith
+index_within causes.Spent = omega arith
+index_within causes.BadArp = omega arith
+index_within causes.NoMember = omega arith
 
 -- the lines of the hosts from one on: its own, and those of the hosts behind it
 pub host_lines_more : (journal : List Entry) (n : ℕ) (hosts : List Host) (rests : List Rest) (h : Host) (r : Rest) →

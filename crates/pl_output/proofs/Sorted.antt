@@ -19,11 +19,11 @@ abbrev pub IsComing : List Entry → ℕ → LastLine → List Entry → Mail �
 IsComing journal n line rest mail =
     packets_at journal mail.receipts ++ received_from n line.number (earlier_in mail line) rest ≡ received_by n journal
 
--- the entries before this place are read
-pub record Sorted (journal : List Entry) (place : ℕ) (line : LastLine) (boxes : List Mail) : Type 0 where
-  pub coming : (n : ℕ) (d : Mail) → n < length boxes → IsComing journal n line (drop place journal) (slice_index_or boxes n d)
+-- the entries before this index are read
+pub record Sorted (journal : List Entry) (index : ℕ) (line : LastLine) (boxes : List Mail) : Type 0 where
+  pub coming : (n : ℕ) (d : Mail) → n < length boxes → IsComing journal n line (drop index journal) (slice_index_or boxes n d)
   pub begun : All (λ m. m.behind ≤ line.behind) boxes
-  pub within : line.behind ≤ place
+  pub within : line.behind ≤ index
 
 -- only the last microsecond counts
 same_micros : (n line a b : ℕ) (es : List Entry) → min a 999999 ≡ min b 999999 → received_from n line a es ≡ received_from n line b es
@@ -40,24 +40,24 @@ same_micros n line a b (Arrived id h f ∷ es) is =
     ]
 same_micros n line a b (e ∷ es) is = same_micros n line a b es is
 
-coming_line : (journal rest : List Entry) (n number place : ℕ) (line : LastLine) (mail : Mail) →
-    IsComing journal n line (Line number ∷ rest) mail → mail.behind ≤ line.behind → line.behind ≤ place →
-    IsComing journal n (record { number = number; behind = place + 1 }) rest mail
-coming_line journal rest n number place line mail is begun within =
-    let other : (mail.behind == place + 1) ≡ false = false_from_ne_true _ (λ same.
-    let e : mail.behind ≡ place + 1 = eqb-true mail.behind (place + 1) same in
+coming_line : (journal rest : List Entry) (n number index : ℕ) (line : LastLine) (mail : Mail) →
+    IsComing journal n line (Line number ∷ rest) mail → mail.behind ≤ line.behind → line.behind ≤ index →
+    IsComing journal n (record { number = number; behind = index + 1 }) rest mail
+coming_line journal rest n number index line mail is begun within =
+    let other : (mail.behind == index + 1) ≡ false = false_from_ne_true _ (λ same.
+    let e : mail.behind ≡ index + 1 = eqb-true mail.behind (index + 1) same in
     absurd (omega (arith, e, begun, within))) in
     ap (λ b. packets_at journal mail.receipts ++ received_from n number (if b then mail.earlier else 0) rest) other ∙ is
 
-coming_here : (journal rest : List Entry) (n id place : ℕ) (h : _) (f : List ℕ) (line : LastLine) (mail : Mail) →
-    IsComing journal n line (Arrived id h f ∷ rest) mail → (h.0 == n) ≡ true → slice_get journal place ≡ Some (Arrived id h f) →
-    IsComing journal n line rest (with_receipt mail line place)
-coming_here journal rest n id place h f line mail coming is at =
+coming_here : (journal rest : List Entry) (n id index : ℕ) (h : _) (f : List ℕ) (line : LastLine) (mail : Mail) →
+    IsComing journal n line (Arrived id h f ∷ rest) mail → (h.0 == n) ≡ true → slice_get journal index ≡ Some (Arrived id h f) →
+    IsComing journal n line rest (with_receipt mail line index)
+coming_here journal rest n id index h f line mail coming is at =
     let e = earlier_in mail line in
     let before = packets_at journal mail.receipts in
     let packet = saved_packet line.number (min e 999999) f in
-    let next = with_receipt mail line place in
-    let one : packet_at journal (record { seconds = line.number; micros = min e 999999; entry = place }) ≡ packet =
+    let next = with_receipt mail line index in
+    let one : packet_at journal (record { seconds = line.number; micros = min e 999999; entry = index }) ≡ packet =
     ap (λ o. saved_packet line.number (min e 999999) (frame_in o)) at in
     let all : packets_at journal next.receipts ≡ before ++ packet ∷ [] =
     map-append (packet_at journal) mail.receipts _ ∙ ap (λ p. before ++ p ∷ []) one in
@@ -79,12 +79,12 @@ coming_elsewhere journal rest n id h f line mail coming is =
     ≡ received_by n journal) is coming
 
 -- the boxes with one more receipt
-coming_set : (journal rest : List Entry) (place id : ℕ) (h : _) (f : List ℕ) (line : LastLine) (boxes : List Mail) →
+coming_set : (journal rest : List Entry) (index id : ℕ) (h : _) (f : List ℕ) (line : LastLine) (boxes : List Mail) →
     ((n : ℕ) (d : Mail) → n < length boxes → IsComing journal n line (Arrived id h f ∷ rest) (slice_index_or boxes n d)) →
-    slice_get journal place ≡ Some (Arrived id h f) → (n : ℕ) (d : Mail) → n < length boxes →
-    IsComing journal n line rest (slice_index_or (delivered boxes (Some h.0) line place) n d)
-coming_set journal rest place id h f line boxes coming at n d within =
-    let box = with_receipt (slice_index_or boxes h.0 (no_mail [])) line place in
+    slice_get journal index ≡ Some (Arrived id h f) → (n : ℕ) (d : Mail) → n < length boxes →
+    IsComing journal n line rest (slice_index_or (delivered boxes (Some h.0) line index) n d)
+coming_set journal rest index id h f line boxes coming at n d within =
+    let box = with_receipt (slice_index_or boxes h.0 (no_mail [])) line index in
     elim (h.0 == n) as (λ b. (h.0 == n) ≡ b → IsComing journal n line rest (slice_index_or (slice_set boxes h.0 box) n d)) [
       | true ↦ λ is.
           let same : h.0 ≡ n = eqb-true h.0 n is in
@@ -92,7 +92,7 @@ coming_set journal rest place id h f line boxes coming at n d within =
           ap (λ k. slice_index_or (slice_set boxes h.0 box) k d) (sym same) ∙ get_or-set_same boxes h.0 box d (omega (arith, same, within)) in
           let old : IsComing journal n line (Arrived id h f ∷ rest) (slice_index_or boxes h.0 (no_mail [])) =
           subst (λ k. IsComing journal n line (Arrived id h f ∷ rest) (slice_index_or boxes k (no_mail []))) (sym same) (coming n (no_mail []) within) in
-          subst (λ m. IsComing journal n line rest m) (sym here) (coming_here journal rest n id place h f line (slice_index_or boxes h.0 (no_mail [])) old is at)
+          subst (λ m. IsComing journal n line rest m) (sym here) (coming_here journal rest n id index h f line (slice_index_or boxes h.0 (no_mail [])) old is at)
       | false ↦ λ is.
           let other : n ≢ h.0 = λ e. eqb-false h.0 n is (sym e) in
           subst (λ m. IsComing journal n line rest m) (sym (get_or-set_other boxes h.0 n box d other))
@@ -116,35 +116,35 @@ begun_set boxes h behind box begun is k d within =
           omega (arith, it, was)
     ] refl
 
-sorted_entry : (journal rest : List Entry) (place : ℕ) (line : LastLine) (boxes : List Mail) (entry : Entry) →
+sorted_entry : (journal rest : List Entry) (index : ℕ) (line : LastLine) (boxes : List Mail) (entry : Entry) →
     ((n : ℕ) (d : Mail) → n < length boxes → IsComing journal n line (entry ∷ rest) (slice_index_or boxes n d)) →
-    All (λ m. m.behind ≤ line.behind) boxes → line.behind ≤ place → rest ≡ drop (place + 1) journal → slice_get journal place ≡ Some entry →
-    Sorted journal (place + 1) (line_after entry place line) (delivered boxes (arrives_at entry) line place)
-sorted_entry journal rest place line boxes (Line number) coming begun within is at = record {
-  coming = λ n d lt. subst (λ r. IsComing journal n (record { number = number; behind = place + 1 }) r (slice_index_or boxes n d)) is
-      (coming_line journal rest n number place line (slice_index_or boxes n d) (coming n d lt) (begun n d lt) within);
+    All (λ m. m.behind ≤ line.behind) boxes → line.behind ≤ index → rest ≡ drop (index + 1) journal → slice_get journal index ≡ Some entry →
+    Sorted journal (index + 1) (line_after entry index line) (delivered boxes (arrives_at entry) line index)
+sorted_entry journal rest index line boxes (Line number) coming begun within is at = record {
+  coming = λ n d lt. subst (λ r. IsComing journal n (record { number = number; behind = index + 1 }) r (slice_index_or boxes n d)) is
+      (coming_line journal rest n number index line (slice_index_or boxes n d) (coming n d lt) (begun n d lt) within);
   begun = λ k d lt. let was = begun k d lt in omega (arith, was, within);
   within = omega arith;
 }
-sorted_entry journal rest place line boxes (Arrived id h f) coming begun within is at =
-    let box = with_receipt (slice_index_or boxes h.0 (no_mail [])) line place in
+sorted_entry journal rest index line boxes (Arrived id h f) coming begun within is at =
+    let box = with_receipt (slice_index_or boxes h.0 (no_mail [])) line index in
     record {
       coming = λ n d lt. subst (λ r. IsComing journal n line r (slice_index_or (slice_set boxes h.0 box) n d)) is
-          (coming_set journal rest place id h f line boxes coming at n d (omega (arith, lt, length-set boxes h.0 box)));
+          (coming_set journal rest index id h f line boxes coming at n d (omega (arith, lt, length-set boxes h.0 box)));
       begun = begun_set boxes h.0 line.behind box begun refl;
       within = omega (arith, within);
     }
-sorted_entry journal rest place line boxes entry coming begun within is at = record {
+sorted_entry journal rest index line boxes entry coming begun within is at = record {
   coming = λ n d lt. subst (λ r. IsComing journal n line r (slice_index_or boxes n d)) is (coming n d lt);
   begun = begun;
   within = omega (arith, within);
 }
 
-pub sorted_more : (journal : List Entry) (place : ℕ) (line : LastLine) (boxes : List Mail) (entry : Entry) →
-    drop place journal ≡ entry ∷ drop (place + 1) journal → slice_get journal place ≡ Some entry → Sorted journal place line boxes →
-    Sorted journal (place + 1) (line_after entry place line) (delivered boxes (arrives_at entry) line place)
-sorted_more journal place line boxes entry here at sorted =
-    sorted_entry journal (drop (place + 1) journal) place line boxes entry
+pub sorted_more : (journal : List Entry) (index : ℕ) (line : LastLine) (boxes : List Mail) (entry : Entry) →
+    drop index journal ≡ entry ∷ drop (index + 1) journal → slice_get journal index ≡ Some entry → Sorted journal index line boxes →
+    Sorted journal (index + 1) (line_after entry index line) (delivered boxes (arrives_at entry) line index)
+sorted_more journal index line boxes entry here at sorted =
+    sorted_entry journal (drop (index + 1) journal) index line boxes entry
     (λ n d lt. subst (λ r. IsComing journal n line r (slice_index_or boxes n d)) here (sorted.coming n d lt))
     sorted.begun sorted.within refl at
 
@@ -162,12 +162,12 @@ sorted_none journal line boxes first start empty = record {
   within = omega (arith, start);
 }
 
-pub sorted_all : (journal : List Entry) (place : ℕ) (line : LastLine) (boxes : List Mail) → length journal ≤ place → Sorted journal place line boxes →
+pub sorted_all : (journal : List Entry) (index : ℕ) (line : LastLine) (boxes : List Mail) → length journal ≤ index → Sorted journal index line boxes →
     AreReceived journal boxes
-sorted_all journal place line boxes long sorted n d within =
+sorted_all journal index line boxes long sorted n d within =
     let mail = slice_index_or boxes n d in
     sym (append-nil (packets_at journal mail.receipts))
-    ∙ sym (ap (λ r. packets_at journal mail.receipts ++ received_from n line.number (earlier_in mail line) r) (drop_all place journal long))
+    ∙ sym (ap (λ r. packets_at journal mail.receipts ++ received_from n line.number (earlier_in mail line) r) (drop_all index journal long))
     ∙ sorted.coming n d within
 
 abbrev saving : List ℕ → List ℕ → Saving
@@ -192,18 +192,18 @@ captures_received n out journal (b ∷ bs) (h ∷ hs) names all =
     ∙ ap (λ r. saving (capture_name out h) (saved_bytes (received_by n journal)) ∷ r)
     (captures_received (n + 1) out journal bs hs others rest)
 
-pub entry_at : (entries : List Entry) (place : ℕ) (entry : Entry) → place < length entries → entry ≡ slice_index_or entries place entry →
-    (drop place entries ≡ entry ∷ drop (place + 1) entries) × (slice_get entries place ≡ Some entry)
-entry_at entries place entry within is = (
-  rw add-one (drop-cons entries place entry within ∙ ap (λ e. e ∷ drop (suc place) entries) (sym is)),
-  slice_get_read entries (length entries) place entry refl within is,
+pub entry_at : (entries : List Entry) (index : ℕ) (entry : Entry) → index < length entries → entry ≡ slice_index_or entries index entry →
+    (drop index entries ≡ entry ∷ drop (index + 1) entries) × (slice_get entries index ≡ Some entry)
+entry_at entries index entry within is = (
+  rw add-one (drop-cons entries index entry within ∙ ap (λ e. e ∷ drop (suc index) entries) (sym is)),
+  slice_get_read entries (length entries) index entry refl within is,
 )
 
 -- the names of the boxes stay
-pub delivered-names : (boxes : List Mail) (host : Option ℕ) (line : LastLine) (place : ℕ) →
-    map name_of (delivered boxes host line place) ≡ map name_of boxes
-delivered-names boxes None line place = refl
-delivered-names boxes (Some host) line place = map-set_same name_of boxes host _ (no_mail []) refl
+pub delivered-names : (boxes : List Mail) (host : Option ℕ) (line : LastLine) (index : ℕ) →
+    map name_of (delivered boxes host line index) ≡ map name_of boxes
+delivered-names boxes None line index = refl
+delivered-names boxes (Some host) line index = map-set_same name_of boxes host _ (no_mail []) refl
 
 pub empty_all : (out : List ℕ) (hosts : List Host) → All IsEmpty (map (empty_mail out) hosts)
 empty_all out [] k d within = absurd (omega arith)

@@ -8,7 +8,7 @@ use Rattle.pl_output.specs.declared.saving.receipt.Receipt.{Receipt}
 use Rattle.pl_output.specs.declared.saving.receipt.LastLine.{LastLine}
 use Rattle.pl_inputs.specs.Folders.{in_folder}
 
--- the name of the capture that is saved of it; the receipts; the place behind the line at which the last one came, and how many came
+-- the name of the capture that is saved of it; the receipts; the index behind the line at which the last one came, and how many came
 -- since that line, counted to a million
 pub record Mail : Type 0 where
   pub name : List ℕ
@@ -22,7 +22,7 @@ frame_in (Some (Arrived id host frame)) = frame
 frame_in _ = []
 
 abbrev pub frame_at : List Entry → ℕ → List ℕ
-frame_at journal place = frame_in (slice_get journal place)
+frame_at journal index = frame_in (slice_get journal index)
 
 -- the packet of a receipt
 abbrev pub packet_at : List Entry → Receipt → Packet
@@ -54,14 +54,14 @@ empty_mail out host = no_mail (capture_name out host)
 abbrev pub earlier_in : Mail → LastLine → ℕ
 earlier_in mail line = if mail.behind == line.behind then mail.earlier else 0
 
--- with one more, whose entry stands at this place
+-- with one more, whose entry stands at this index
 abbrev pub with_receipt : Mail → LastLine → ℕ → Mail
-with_receipt mail line place =
+with_receipt mail line index =
     record mail {
       receipts = mail.receipts ++ record {
         seconds = line.number;
         micros = min (earlier_in mail line) 999999;
-        entry = place;
+        entry = index;
       } ∷ [];
       behind = line.behind;
       earlier = min (earlier_in mail line) 999999 + 1;
@@ -69,8 +69,8 @@ with_receipt mail line place =
 
 -- the last line behind an entry
 abbrev pub line_after : Entry → ℕ → LastLine → LastLine
-line_after (Line number) place line = record { number = number; behind = place + 1 }
-line_after entry place line = line
+line_after (Line number) index line = record { number = number; behind = index + 1 }
+line_after entry index line = line
 
 -- the host at which an entry says that a frame arrived
 abbrev pub arrives_at : Entry → Option ℕ
@@ -79,6 +79,6 @@ arrives_at entry = None
 
 -- the inboxes of the hosts, with one more receipt at a host, if there is that host
 abbrev pub delivered : List Mail → Option ℕ → LastLine → ℕ → List Mail
-delivered inboxes None line place = inboxes
-delivered inboxes (Some host) line place =
-    slice_set inboxes host (with_receipt (slice_index_or inboxes host (no_mail [])) line place)
+delivered inboxes None line index = inboxes
+delivered inboxes (Some host) line index =
+    slice_set inboxes host (with_receipt (slice_index_or inboxes host (no_mail [])) line index)

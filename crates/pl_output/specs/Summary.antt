@@ -71,25 +71,25 @@ abbrev pub skipper_of : Entry → Option ℕ
 skipper_of (Skipped host skip) = Some host.0
 skipper_of _ = None
 
--- the causes for which a frame ends, in their order, and the place of each in it
+-- the causes for which a frame ends, in their order, and the index of each in it
 abbrev pub all_causes : List Cause
 all_causes =
     causes.NotPlaced ∷ causes.NoNextHop ∷ causes.NoAddress ∷ causes.HostGone ∷ causes.LinkDown ∷ causes.Lost ∷ causes.Spent
     ∷ causes.BadArp ∷ causes.NoMember ∷ []
 
-abbrev pub place_of : Cause → ℕ
-place_of causes.NotPlaced = 0
-place_of causes.NoNextHop = 1
-place_of causes.NoAddress = 2
-place_of causes.HostGone = 3
-place_of causes.LinkDown = 4
-place_of causes.Lost = 5
-place_of causes.Spent = 6
-place_of causes.BadArp = 7
-place_of causes.NoMember = 8
+abbrev pub index_of : Cause → ℕ
+index_of causes.NotPlaced = 0
+index_of causes.NoNextHop = 1
+index_of causes.NoAddress = 2
+index_of causes.HostGone = 3
+index_of causes.LinkDown = 4
+index_of causes.Lost = 5
+index_of causes.Spent = 6
+index_of causes.BadArp = 7
+index_of causes.NoMember = 8
 
 abbrev pub ending_of : Entry → Option ℕ
-ending_of (Dropped id cause) = Some (place_of cause)
+ending_of (Dropped id cause) = Some (index_of cause)
 ending_of _ = None
 
 -- how many entries have this number
@@ -145,5 +145,5 @@ settled_line settled = if settled then codes "settled yes\n" else codes "settled
 unfoldable pub summary_text : Plan → List Entry → ℕ → List Rest → Bool → List ℕ
 summary_text plan journal steps rests settled =
     fabric_line plan ++ steps_line (totals_of journal).lines steps (length journal) ++ frames_line (totals_of journal)
-    ++ flat_map (λ cause. cause_line cause (count_of ending_of (place_of cause) journal)) all_causes
+    ++ flat_map (λ cause. cause_line cause (count_of ending_of (index_of cause) journal)) all_causes
     ++ host_lines journal 0 plan.hosts rests ++ settled_line settled

@@ -22,7 +22,7 @@ abbrev pub with_one : List ℕ → Option ℕ → List ℕ
 with_one counts None = counts
 with_one counts (Some n) = slice_set counts n (slice_index counts n + 1)
 
--- a table of so many counts has at each place how many entries have its number
+-- a table of so many counts has at each index how many entries have its number
 pub record IsCounted (counts : List ℕ) (many : ℕ) (number : Entry → Option ℕ) (journal : List Entry) : Type 0 where
   pub long : length counts ≡ many
   pub exact : (n : ℕ) → n < many → slice_index counts n ≡ count_of number n journal

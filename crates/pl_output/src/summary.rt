@@ -1,7 +1,7 @@
 ghost use Rattle.std.specs.Prelude.{◌≡◌, ◌++◌, ℕ, List, length, string_bytes, IfOk, OnOk};
 ghost use Rattle.std.specs.List.{flat_map};
 ghost use Rattle.pl_journal.specs.declared.entry.Entry.{Entry};
-ghost use Rattle.pl_output.specs.Summary.{all_causes, cause_line, count_of, ending_of, fabric_line, frames_line, host_line, host_lines, place_of, steps_line, summary_text};
+ghost use Rattle.pl_output.specs.Summary.{all_causes, cause_line, count_of, ending_of, fabric_line, frames_line, host_line, host_lines, index_of, steps_line, summary_text};
 ghost use Rattle.pl_output.specs.Tallied.{IsTally};
 
 use crate::summary::lines::{CauseLine, FabricLine, HostLine, StepsLine, settled_line};
@@ -89,7 +89,7 @@ fn first_lines(
 fn add_cause_lines(alloc: Global, text: &mut String, tally: &Tally) -> Result<(), Memory>
     ensures { OnOk result ((hosts : ℕ) (journal : List Entry) → IsTally tally.now hosts journal →
         string_bytes text.new ≡ string_bytes text.old
-        ++ flat_map (λ cause. cause_line cause (count_of ending_of (place_of cause) journal)) all_causes) }
+        ++ flat_map (λ cause. cause_line cause (count_of ending_of (index_of cause) journal)) all_causes) }
 {
     for cause in CAUSES.as_slice() {
         let line = CauseLine {

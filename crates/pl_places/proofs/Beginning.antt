@@ -6,11 +6,11 @@ use Rattle.pl_ldp.specs.Writable.{IsId}
 use Rattle.pl_wiring.specs.Index.{port_index}
 use Rattle.pl_wiring.specs.Labels.{switch_count}
 use Rattle.pl_wiring.specs.Plan.{IsPlan, Plan}
-use Rattle.pl_core.specs.declared.neighbour.PortRecord.{PortRecord}
-use Rattle.pl_core.specs.declared.switch_records.Hold.{Hold}
-use Rattle.pl_core.specs.PortRecords.{heard_place, new_port, port_of}
-use Rattle.pl_core.specs.SwitchFacts.{switch_at_boot}
-use Rattle.pl_core.specs.SwitchViews.{SwitchView}
+use Rattle.pl_logic.specs.declared.neighbour.PortRecord.{PortRecord}
+use Rattle.pl_logic.specs.declared.switch_records.Hold.{Hold}
+use Rattle.pl_logic.specs.PortRecords.{heard_place, new_port, port_of}
+use Rattle.pl_logic.specs.SwitchFacts.{switch_at_boot}
+use Rattle.pl_logic.specs.SwitchViews.{SwitchView}
 use Rattle.pl_world.specs.declared.item.Item.{Item}
 use Rattle.pl_world.specs.declared.limits.Limits.{Limits}
 use Rattle.pl_world.specs.Booting.{booted}

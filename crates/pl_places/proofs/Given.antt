@@ -5,9 +5,9 @@ use Rattle.std.proofs.lemmas.Bool.{and_from, and_parts, eq-eqb, ne_eqb, or_left,
 use Rattle.std.proofs.lemmas.Option.{same_Some}
 use Rattle.pl_layouts.specs.declared.place.Place.{Place}
 use Rattle.pl_layouts.specs.Placement.{is_known}
-use Rattle.pl_core.specs.declared.neighbour.PortRecord.{PortRecord}
-use Rattle.pl_core.specs.PortRecords.{new_port}
-use Rattle.pl_core.specs.SwitchViews.{SwitchView}
+use Rattle.pl_logic.specs.declared.neighbour.PortRecord.{PortRecord}
+use Rattle.pl_logic.specs.PortRecords.{new_port}
+use Rattle.pl_logic.specs.SwitchViews.{SwitchView}
 use Rattle.pl_switch_rule.specs.Levels.{is_of_other_pod, level_after, other_pod, pod_after, share_a_pod}
 use Rattle.pl_places.proofs.Voting.{known_is, none_is}
 

@@ -16,9 +16,9 @@ use Rattle.pl_wiring.specs.FatTree.{IsBelow}
 use Rattle.pl_wiring.specs.Labels.{label_of, switch_count}
 use Rattle.pl_wiring.specs.Peers.{peer_of}
 use Rattle.pl_wiring.specs.Plan.{IsPlan, Plan}
-use Rattle.pl_core.specs.declared.neighbour.PortRecord.{PortRecord}
-use Rattle.pl_core.specs.PortRecords.{heard_place, new_port, port_of}
-use Rattle.pl_core.specs.SwitchViews.{SwitchView}
+use Rattle.pl_logic.specs.declared.neighbour.PortRecord.{PortRecord}
+use Rattle.pl_logic.specs.PortRecords.{heard_place, new_port, port_of}
+use Rattle.pl_logic.specs.SwitchViews.{SwitchView}
 use Rattle.pl_steps.specs.Steps.{rests}
 use Rattle.pl_switch_rule.specs.Levels.{after_message, changes_to, hears_message, is_of_other_pod, learns_level, learns_pod, level_after, notes_edge, other_pod, pod_after, share_a_pod, with_message}
 use Rattle.pl_switch_rule.specs.SwitchRule.{hears_control}

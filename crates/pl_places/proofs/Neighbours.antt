@@ -9,9 +9,9 @@ use Rattle.pl_wiring.specs.FatTree.{IsBelow}
 use Rattle.pl_wiring.specs.Labels.{label_of}
 use Rattle.pl_wiring.specs.Peers.{peer_of}
 use Rattle.pl_wiring.specs.Plan.{IsPlan, Plan}
-use Rattle.pl_core.specs.declared.neighbour.Neighbour.{Neighbour}
-use Rattle.pl_core.specs.PortRecords.{heard_place, port_of}
-use Rattle.pl_core.specs.SwitchViews.{SwitchView}
+use Rattle.pl_logic.specs.declared.neighbour.Neighbour.{Neighbour}
+use Rattle.pl_logic.specs.PortRecords.{heard_place, port_of}
+use Rattle.pl_logic.specs.SwitchViews.{SwitchView}
 use Rattle.pl_control_plane.specs.ControlPlanes.{AreJoined, ControlPlane}
 use Rattle.pl_control_plane.proofs.Joined.{joined_turned}
 use Rattle.pl_places.specs.Known.{HasPod, IsZeroOf, level_of, pod_of, told_at}

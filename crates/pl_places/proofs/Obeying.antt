@@ -7,7 +7,7 @@ use Rattle.pl_wiring.specs.declared.label.Label.{Label}
 use Rattle.pl_wiring.specs.declared.label.Label.TheVariants.{Aggregation, Core, Edge}
 use Rattle.pl_wiring.specs.Labels.{label_of, switch_count}
 use Rattle.pl_wiring.specs.Plan.{IsPlan, Plan}
-use Rattle.pl_core.specs.SwitchViews.{SwitchView}
+use Rattle.pl_logic.specs.SwitchViews.{SwitchView}
 use Rattle.pl_steps.specs.Steps.{rests}
 use Rattle.pl_switch_rule.specs.Levels.{changes_to}
 use Rattle.pl_control_plane.specs.ControlPlanes.{ControlPlane}
@@ -16,8 +16,8 @@ use Rattle.pl_places.specs.Known.{level_of}
 use Rattle.pl_places.specs.Places.{ArePlaced}
 use Rattle.pl_places.proofs.Later.{IsGoodTurn}
 use Rattle.pl_places.proofs.Turns.{IsGoodView, new_view, same_ports, silent_turn, view_itself}
-use Rattle.pl_core.specs.declared.messages.ToSwitch.{ToSwitch}
-use Rattle.pl_core.specs.declared.messages.ToSwitch.TheVariants.{Answer, Avoid, Flood, Invalidate, Pod, Tree}
+use Rattle.pl_logic.specs.declared.messages.ToSwitch.{ToSwitch}
+use Rattle.pl_logic.specs.declared.messages.ToSwitch.TheVariants.{Answer, Avoid, Flood, Invalidate, Pod, Tree}
 use Rattle.pl_switch_rule.specs.Forwarding.{Choice}
 use Rattle.pl_switch_rule.specs.Granting.{granted, is_granted}
 use Rattle.pl_switch_rule.specs.Levels.{with_pod}

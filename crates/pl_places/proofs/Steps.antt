@@ -1,7 +1,7 @@
 -- Each step of the world keeps places true.
 use Rattle.std.proofs.Common.{◌≡◌, None, sym, subst}
-use Rattle.pl_core.specs.HostInputs.{HostRule}
-use Rattle.pl_core.specs.ManagerDuties.{ManagerRule}
+use Rattle.pl_logic.specs.HostInputs.{HostRule}
+use Rattle.pl_logic.specs.ManagerDuties.{ManagerRule}
 use Rattle.pl_wiring.specs.Plan.{Plan}
 use Rattle.pl_switch_rule.specs.SwitchRule.{Loose}
 use Rattle.pl_switch_rule.proofs.AccountedSteps.{loose_steps_are_accounted}

@@ -7,11 +7,11 @@ use Rattle.pl_wiring.specs.declared.link.Peer.TheVariants.{HostPort}
 use Rattle.pl_wiring.specs.Labels.{label_of, switch_count}
 use Rattle.pl_wiring.specs.Peers.{peer_of}
 use Rattle.pl_wiring.specs.Plan.{IsPlan, Plan}
-use Rattle.pl_core.specs.declared.neighbour.Neighbour.{Neighbour}
-use Rattle.pl_core.specs.declared.neighbour.PortRecord.{PortRecord}
-use Rattle.pl_core.specs.declared.switch_records.Member.{Member}
-use Rattle.pl_core.specs.PortRecords.{heard_echo, heard_place, is_id, is_usable, new_port, port_of}
-use Rattle.pl_core.specs.SwitchViews.{SwitchView}
+use Rattle.pl_logic.specs.declared.neighbour.Neighbour.{Neighbour}
+use Rattle.pl_logic.specs.declared.neighbour.PortRecord.{PortRecord}
+use Rattle.pl_logic.specs.declared.switch_records.Member.{Member}
+use Rattle.pl_logic.specs.PortRecords.{heard_echo, heard_place, is_id, is_usable, new_port, port_of}
+use Rattle.pl_logic.specs.SwitchViews.{SwitchView}
 use Rattle.pl_steps.specs.Steps.{SwitchStep}
 use Rattle.pl_control_plane.specs.ControlPlanes.{AreJoined, ControlPlane}
 use Rattle.pl_control_plane.specs.Homes.{HasHomes}

@@ -5,11 +5,11 @@ use Rattle.pl_ldp.specs.Writable.{IsId}
 use Rattle.pl_wiring.specs.declared.label.Label.{Label}
 use Rattle.pl_wiring.specs.declared.label.Label.TheVariants.{Aggregation, Core, Edge}
 use Rattle.pl_wiring.specs.Labels.{label_of}
-use Rattle.pl_core.specs.declared.neighbour.PortRecord.{PortRecord}
-use Rattle.pl_core.specs.declared.switch_records.Hold.{Hold}
-use Rattle.pl_core.specs.PortRecords.{heard_place, new_port}
-use Rattle.pl_core.specs.SwitchFacts.{hold_at}
-use Rattle.pl_core.specs.SwitchViews.{SwitchView}
+use Rattle.pl_logic.specs.declared.neighbour.PortRecord.{PortRecord}
+use Rattle.pl_logic.specs.declared.switch_records.Hold.{Hold}
+use Rattle.pl_logic.specs.PortRecords.{heard_place, new_port}
+use Rattle.pl_logic.specs.SwitchFacts.{hold_at}
+use Rattle.pl_logic.specs.SwitchViews.{SwitchView}
 use Rattle.pl_control_plane.specs.Homes.{HasHomes}
 
 abbrev pub level_of : Label → ℕ

@@ -6,9 +6,9 @@ use Rattle.pl_wiring.specs.declared.link.Peer.TheVariants.{HostPort}
 use Rattle.pl_wiring.specs.Labels.{label_of, switch_count}
 use Rattle.pl_wiring.specs.Peers.{peer_of}
 use Rattle.pl_wiring.specs.Plan.{Plan}
-use Rattle.pl_core.specs.declared.messages.ToSwitch.{ToSwitch}
-use Rattle.pl_core.specs.declared.messages.ToSwitch.TheVariants.{Pod}
-use Rattle.pl_core.specs.PortRecords.{port_of}
+use Rattle.pl_logic.specs.declared.messages.ToSwitch.{ToSwitch}
+use Rattle.pl_logic.specs.declared.messages.ToSwitch.TheVariants.{Pod}
+use Rattle.pl_logic.specs.PortRecords.{port_of}
 use Rattle.pl_control_plane.specs.ControlPlanes.{AreJoined, ControlPlane}
 use Rattle.pl_places.specs.Known.{HasPod, IsOwn, IsSound}
 use Rattle.pl_places.specs.Told.{IsGoodLink}

@@ -12,7 +12,7 @@ ghost use Rattle.pl_control_plane.specs.ControlPlanes.{control_plane};
 ghost use Rattle.pl_control_plane.specs.HostsAtEdges.{HostsAtEdges};
 ghost use Rattle.pl_places.specs.Places.{ArePlaced, ArePodNumbers, PositionsDiffer};
 
-use pl_core::{HostCore, ManagerCore};
+use pl_logic::{HostLogic, ManagerLogic};
 
 /// At the beginning no switch knows a place, and nothing was told.
 pub fn places_are_true_at_first()
@@ -21,7 +21,7 @@ pub fn places_are_true_at_first()
 
 /// Each step keeps places true, whatever it is, where no two edge switches of a pod had one position before
 /// it, and no order waited whose number of a pod is the code of an unknown one.
-pub fn each_step_keeps_places_true<M: ManagerCore, H: HostCore>()
+pub fn each_step_keeps_places_true<M: ManagerLogic, H: HostLogic>()
     ensures { (old : WorldView) (event : Event) (new : WorldView) → IsCounted old → HostsAtEdges old →
         PositionsDiffer old.plan (control_plane old) → ArePodNumbers (control_plane old) → refusal old event ≡ None →
         WorldStep Loose M.rule H.rule old event new →

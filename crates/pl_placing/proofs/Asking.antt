@@ -14,18 +14,18 @@ use Rattle.pl_layouts.specs.Placement.{is_known}
 use Rattle.pl_layouts.specs.Votes.{counts, gives_way}
 use Rattle.pl_frame.specs.Ethernet.{payload_of}
 use Rattle.pl_wiring.specs.Plan.{IsPlan}
-use Rattle.pl_core.specs.declared.acts.Act.{Act}
-use Rattle.pl_core.specs.declared.acts.ManagerAct.{ManagerAct}
-use Rattle.pl_core.specs.declared.acts.ManagerAct.TheVariants.{Say}
-use Rattle.pl_core.specs.declared.messages.ToManager.{ToManager}
-use Rattle.pl_core.specs.declared.messages.ToManager.TheVariants as tell
-use Rattle.pl_core.specs.declared.messages.ToSwitch.{ToSwitch}
-use Rattle.pl_core.specs.declared.messages.ToSwitch.TheVariants as say
-use Rattle.pl_core.specs.ManagerViews.{ManagerView, pod_given}
-use Rattle.pl_core.specs.PortRecords.{port_of, ports_of_switch}
-use Rattle.pl_core.specs.SwitchInputs.{SwitchInput}
-use Rattle.pl_core.specs.SwitchInputs.SwitchInput.{Comes, Says, Tick}
-use Rattle.pl_core.specs.SwitchViews.{SwitchView}
+use Rattle.pl_logic.specs.declared.acts.Act.{Act}
+use Rattle.pl_logic.specs.declared.acts.ManagerAct.{ManagerAct}
+use Rattle.pl_logic.specs.declared.acts.ManagerAct.TheVariants.{Say}
+use Rattle.pl_logic.specs.declared.messages.ToManager.{ToManager}
+use Rattle.pl_logic.specs.declared.messages.ToManager.TheVariants as tell
+use Rattle.pl_logic.specs.declared.messages.ToSwitch.{ToSwitch}
+use Rattle.pl_logic.specs.declared.messages.ToSwitch.TheVariants as say
+use Rattle.pl_logic.specs.ManagerViews.{ManagerView, pod_given}
+use Rattle.pl_logic.specs.PortRecords.{port_of, ports_of_switch}
+use Rattle.pl_logic.specs.SwitchInputs.{SwitchInput}
+use Rattle.pl_logic.specs.SwitchInputs.SwitchInput.{Comes, Says, Tick}
+use Rattle.pl_logic.specs.SwitchViews.{SwitchView}
 use Rattle.pl_steps.specs.Steps.{SwitchStep, rests}
 use Rattle.pl_manager_rule.specs.ManagerRule.{avoid_acts, manager_hears, manager_rule, tree_acts, view_after}
 use Rattle.pl_switch_rule.specs.Forwarding.{Choice}

@@ -5,14 +5,14 @@ use Rattle.pl_frame.specs.declared.address.SwitchId.{SwitchId}
 use Rattle.pl_wiring.specs.Index.{port_index}
 use Rattle.pl_wiring.specs.Labels.{switch_count}
 use Rattle.pl_wiring.specs.Plan.{Plan}
-use Rattle.pl_core.specs.declared.switch_records.Hold.{Hold}
-use Rattle.pl_core.specs.SwitchFacts.{hold_at, switch_at_boot}
-use Rattle.pl_core.specs.SwitchViews.{SwitchView}
+use Rattle.pl_logic.specs.declared.switch_records.Hold.{Hold}
+use Rattle.pl_logic.specs.SwitchFacts.{hold_at, switch_at_boot}
+use Rattle.pl_logic.specs.SwitchViews.{SwitchView}
 use Rattle.pl_world.specs.declared.limits.Limits.{Limits}
 use Rattle.pl_world.specs.Booting.{booted}
 use Rattle.pl_control_plane.specs.ControlPlanes.{control_plane, no_switch, queue_out, said}
 use Rattle.pl_votes.specs.Voting.{aggregation_no, edge_no}
-use Rattle.pl_core.specs.PortRecords.{heard_place, new_port, place_at}
+use Rattle.pl_logic.specs.PortRecords.{heard_place, new_port, place_at}
 use Rattle.pl_placing.specs.Asking.{HaveAsked, OnlyFirstAsk, is_wish}
 use Rattle.pl_placing.specs.Bounding.{IsBounded}
 use Rattle.pl_placing.specs.Noting.{AreNoted}

@@ -6,9 +6,9 @@ use Rattle.std.proofs.lemmas.Option.{same_Some}
 use Rattle.pl_layouts.specs.Control.{is_control}
 use Rattle.pl_wiring.specs.Labels.{label_of}
 use Rattle.pl_wiring.proofs.LabelOrder.{label_of-edge}
-use Rattle.pl_core.specs.HostInputs.{HostRule}
-use Rattle.pl_core.specs.SwitchInputs.SwitchInput.{Comes}
-use Rattle.pl_core.specs.SwitchViews.{SwitchView}
+use Rattle.pl_logic.specs.HostInputs.{HostRule}
+use Rattle.pl_logic.specs.SwitchInputs.SwitchInput.{Comes}
+use Rattle.pl_logic.specs.SwitchViews.{SwitchView}
 use Rattle.pl_journal.specs.declared.entry.Entry.TheVariants.{Crossed}
 use Rattle.pl_queues.specs.Queues.{items_at}
 use Rattle.pl_steps.specs.Steps.{SwitchStep}

@@ -10,11 +10,11 @@ use Rattle.pl_layouts.specs.Placement.{is_known}
 use Rattle.pl_wiring.specs.declared.label.Label.TheVariants.{Aggregation, Edge}
 use Rattle.pl_wiring.specs.Labels.{IsLabel}
 use Rattle.pl_wiring.specs.Plan.{IsPlan, Plan}
-use Rattle.pl_core.specs.declared.neighbour.Neighbour.{Neighbour}
-use Rattle.pl_core.specs.declared.switch_records.Hold.{Hold}
-use Rattle.pl_core.specs.PortRecords.{heard_place, place_at, port_of}
-use Rattle.pl_core.specs.SwitchFacts.{hold_at}
-use Rattle.pl_core.specs.SwitchViews.{SwitchView}
+use Rattle.pl_logic.specs.declared.neighbour.Neighbour.{Neighbour}
+use Rattle.pl_logic.specs.declared.switch_records.Hold.{Hold}
+use Rattle.pl_logic.specs.PortRecords.{heard_place, place_at, port_of}
+use Rattle.pl_logic.specs.SwitchFacts.{hold_at}
+use Rattle.pl_logic.specs.SwitchViews.{SwitchView}
 use Rattle.pl_steps.specs.Steps.{SwitchStep}
 use Rattle.pl_switch_rule.specs.Positions.{freed_but, frees_others, half, is_held_for, marked_for, marks, notes_position}
 use Rattle.pl_control_plane.specs.ControlPlanes.{AreJoined, ControlPlane, sends, unless}

@@ -10,8 +10,8 @@ use Rattle.pl_wiring.specs.Labels.{IsLabel, label_of}
 use Rattle.pl_wiring.specs.Plan.{IsPlan, Plan}
 use Rattle.pl_wiring.proofs.LabelOrder.{half_at_least, label_of-number_of}
 use Rattle.pl_wiring.proofs.Linked.{peer_is_switch}
-use Rattle.pl_core.specs.PortRecords.{place_at}
-use Rattle.pl_core.specs.SwitchFacts.{has_granted}
+use Rattle.pl_logic.specs.PortRecords.{place_at}
+use Rattle.pl_logic.specs.SwitchFacts.{has_granted}
 use Rattle.pl_switch_rule.specs.Positions.{half}
 use Rattle.pl_control_plane.specs.ControlPlanes.{AreJoined, ControlPlane}
 use Rattle.pl_places.specs.Known.{level_of}

@@ -6,7 +6,7 @@ use Rattle.pl_frame.specs.declared.address.SwitchId.{SwitchId}
 use Rattle.pl_layouts.specs.declared.control.Vote.{Vote as Answer}
 use Rattle.pl_layouts.specs.Placement.{is_known}
 use Rattle.pl_layouts.specs.Votes.{counts, gives_way, is_smaller}
-use Rattle.pl_core.specs.SwitchViews.{SwitchView}
+use Rattle.pl_logic.specs.SwitchViews.{SwitchView}
 use Rattle.pl_switch_rule.specs.Positions.{after_vote, counted, fixes_position, half, is_majority, moves_on, with_granted}
 use Rattle.pl_placing.specs.Trying.{HasReason, IsHolder, IsTrying, NamesHolder}
 use Rattle.pl_placing.specs.Trying.HasReason.{IsBehind, IsTaken}

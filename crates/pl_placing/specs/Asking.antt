@@ -2,10 +2,10 @@
 use Rattle.std.specs.Prelude.{◌≡◌, ◌||◌, ℕ, Bool, true, false, Some, None, slice_get}
 use Rattle.std.specs.List.{AllByRecursion, list_any}
 use Rattle.pl_frame.specs.declared.address.SwitchId.{SwitchId}
-use Rattle.pl_core.specs.declared.messages.ToManager.{ToManager}
-use Rattle.pl_core.specs.declared.messages.ToManager.TheVariants.{PodWanted}
-use Rattle.pl_core.specs.declared.messages.ToSwitch.{ToSwitch}
-use Rattle.pl_core.specs.declared.messages.ToSwitch.TheVariants.{Pod}
+use Rattle.pl_logic.specs.declared.messages.ToManager.{ToManager}
+use Rattle.pl_logic.specs.declared.messages.ToManager.TheVariants.{PodWanted}
+use Rattle.pl_logic.specs.declared.messages.ToSwitch.{ToSwitch}
+use Rattle.pl_logic.specs.declared.messages.ToSwitch.TheVariants.{Pod}
 use Rattle.pl_control_plane.specs.ControlPlanes.{ControlPlane}
 
 abbrev pub is_wish : ToManager → Bool

@@ -1,8 +1,8 @@
 -- What an edge switch would learn from its proposal, if it sent that again.
 use Rattle.std.specs.Prelude.{ℕ, ◌==◌, ◌&&◌, ◌||◌, not, nat_lt, Bool, true, if◌then◌else◌, Option, Some, None}
 use Rattle.pl_frame.specs.declared.address.SwitchId.{SwitchId}
-use Rattle.pl_core.specs.SwitchFacts.{has_granted}
-use Rattle.pl_core.specs.SwitchViews.{SwitchView}
+use Rattle.pl_logic.specs.SwitchFacts.{has_granted}
+use Rattle.pl_logic.specs.SwitchViews.{SwitchView}
 
 -- It is news that the position is free; that it is held for this edge switch, which did not count the grant; or that it is held for another one
 -- to which it gives way, unless this is its last attempt.

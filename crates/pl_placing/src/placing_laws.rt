@@ -2,8 +2,8 @@ ghost use Rattle.std.specs.Prelude.{◌≡◌, ◌<◌, ℕ, List, None, Some, f
 ghost use Rattle.pl_wiring.specs.declared.label.Label.TheVariants.{Edge};
 ghost use Rattle.pl_wiring.specs.Labels.{IsLabel};
 ghost use Rattle.pl_wiring.specs.Plan.{Plan};
-ghost use Rattle.pl_core.specs.SwitchFacts.{holder_of};
-ghost use Rattle.pl_core.specs.SwitchViews.{SwitchView};
+ghost use Rattle.pl_logic.specs.SwitchFacts.{holder_of};
+ghost use Rattle.pl_logic.specs.SwitchViews.{SwitchView};
 ghost use Rattle.pl_manager_rule.specs.ManagerRule.{manager_rule};
 ghost use Rattle.pl_switch_rule.specs.SwitchRule.{Loose};
 ghost use Rattle.pl_world.specs.declared.event.Event.{Event};
@@ -20,16 +20,16 @@ ghost use Rattle.pl_placing.specs.News.{is_news};
 ghost use Rattle.pl_placing.specs.Placing.{ArePlacing};
 ghost use Rattle.pl_placing.specs.Resting.{FirstKnowsPod, HasFirst, HavePositions, IsAnswered, IsRestingPod, KnowPod};
 
-use pl_core::HostCore;
+use pl_logic::HostLogic;
 
 /// Each step keeps edge switches on their way to their places.
-pub fn each_step_keeps_edge_switches_placing<H: HostCore>()
+pub fn each_step_keeps_edge_switches_placing<H: HostLogic>()
     ensures { (old : WorldView) (event : Event) (new : WorldView) → Kept old → ArePlacing old → refusal old event ≡ None →
         WorldStep Loose manager_rule H.rule old event new → ArePlacing new }
 {}
 
 /// So it is at each moment of each run from the beginning.
-pub fn every_run_keeps_edge_switches_placing<H: HostCore>()
+pub fn every_run_keeps_edge_switches_placing<H: HostLogic>()
     ensures { (plan : Plan) (limits : Limits) (moments : List Moment) (new : WorldView) → CanBegin plan →
         WorldRun Loose manager_rule H.rule (booted plan limits) moments new → ArePlacing new }
 {}

@@ -6,11 +6,11 @@ use Rattle.pl_frame.specs.declared.address.SwitchId.{SwitchId}
 use Rattle.pl_pmac.specs.declared.pmac.Pmac.{Pmac}
 use Rattle.pl_layouts.specs.declared.place.Place.{Place}
 use Rattle.pl_layouts.specs.Placement.{is_known, is_placed, nowhere}
-use Rattle.pl_core.specs.declared.acts.Act.{Act}
-use Rattle.pl_core.specs.declared.messages.TreePart.{TreePart}
-use Rattle.pl_core.specs.declared.switch_records.Grant.{Grant}
-use Rattle.pl_core.specs.declared.switch_records.Hold.{Hold}
-use Rattle.pl_core.specs.SwitchViews.{SwitchView}
+use Rattle.pl_logic.specs.declared.acts.Act.{Act}
+use Rattle.pl_logic.specs.declared.messages.TreePart.{TreePart}
+use Rattle.pl_logic.specs.declared.switch_records.Grant.{Grant}
+use Rattle.pl_logic.specs.declared.switch_records.Hold.{Hold}
+use Rattle.pl_logic.specs.SwitchViews.{SwitchView}
 use Rattle.pl_steps.specs.Steps.{SwitchStep}
 use Rattle.pl_steps.specs.Taken.{IsTaken, IsTakenUpTo}
 use Rattle.pl_switch_rule.specs.Forwarding.{Choice}

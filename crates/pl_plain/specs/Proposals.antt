@@ -1,10 +1,10 @@
 -- What neighbours are told and asked, and which proposals are answered.
 use Rattle.std.specs.Prelude.{ℕ, ◌&&◌, nat_lt, Bool, List, map}
-use Rattle.pl_core.specs.declared.acts.Act.{Act}
-use Rattle.pl_core.specs.declared.acts.Act.TheVariants.{Control}
-use Rattle.pl_core.specs.Announcements.{announcement}
-use Rattle.pl_core.specs.PortRecords.{place_at, ports_where}
-use Rattle.pl_core.specs.SwitchViews.{SwitchView}
+use Rattle.pl_logic.specs.declared.acts.Act.{Act}
+use Rattle.pl_logic.specs.declared.acts.Act.TheVariants.{Control}
+use Rattle.pl_logic.specs.Announcements.{announcement}
+use Rattle.pl_logic.specs.PortRecords.{place_at, ports_where}
+use Rattle.pl_logic.specs.SwitchViews.{SwitchView}
 use Rattle.pl_layouts.specs.declared.control.Proposal.{Proposal}
 use Rattle.pl_layouts.specs.Placement.{is_known}
 use Rattle.pl_switch_rule.specs.Announcing.{announces_at, proposal, proposes_at}

@@ -1,6 +1,6 @@
 ghost use Rattle.std.specs.Prelude.{◌≡◌, IfOk};
 
-use pl_core::{Memory, TreePart};
+use pl_logic::{Memory, TreePart};
 use std::alloc::Global;
 
 /// The same part of a tree.

@@ -1,7 +1,7 @@
 use crate::PlainState;
-use pl_core::{AvoidList, PortRecord, SwitchFacts, TreePart};
 use pl_frame::SwitchId;
 use pl_layouts::Place;
+use pl_logic::{AvoidList, PortRecord, SwitchFacts, TreePart};
 
 impl SwitchFacts for PlainState {
     ghost view = { λ state. state };

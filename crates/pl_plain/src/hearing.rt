@@ -1,5 +1,5 @@
 ghost use Rattle.std.specs.Prelude.{◌≡◌, ◌<◌, IfOk, OnOk};
-ghost use Rattle.pl_core.specs.Accounting.{IsComing};
+ghost use Rattle.pl_logic.specs.Accounting.{IsComing};
 ghost use Rattle.pl_ldp.specs.Writable.{IsWritable};
 ghost use Rattle.pl_steps.specs.Taken.{IsTaken};
 ghost use Rattle.pl_switch_rule.specs.Levels.{changes_to, hears_message};
@@ -9,10 +9,10 @@ ghost use Rattle.pl_switch_rule.specs.SwitchRule.{control_comes, hears_control};
 use crate::PlainState;
 use crate::settling::settle;
 use crate::voting::{answer_proposal, count_vote, note_edge};
-use pl_core::{Memory, Outbox};
 use pl_frame::SwitchId;
 use pl_layouts::{Control, ControlError, Ldm, Proposal, Vote};
 use pl_ldp::read_control;
+use pl_logic::{Memory, Outbox};
 
 impl PlainState {
     /// A control frame comes at a port. One that cannot be read, or that a host sent, is ignored.

@@ -1,6 +1,6 @@
 ghost use Rattle.std.specs.Prelude.{◌≡◌, ◌<◌, ◌≤◌, ◌&&◌, not, true, length, IfOk, OnOk};
 ghost use Rattle.pl_frame.specs.Ethernet.{source_of};
-ghost use Rattle.pl_core.specs.PortRecords.{port_of};
+ghost use Rattle.pl_logic.specs.PortRecords.{port_of};
 ghost use Rattle.pl_layouts.specs.Placement.{is_known};
 ghost use Rattle.pl_steps.specs.Taken.{IsTaken};
 ghost use Rattle.pl_switch_rule.specs.Granting.{has_no_address, learns_source};
@@ -11,8 +11,8 @@ ghost use Rattle.pl_ports.specs.SoundPorts.{IsSoundPlace};
 
 use crate::PlainState;
 use crate::settling::settle;
-use pl_core::{Memory, Outbox};
 use pl_frame::Frame;
+use pl_logic::{Memory, Outbox};
 use pl_ports::Ports;
 
 impl PlainState {

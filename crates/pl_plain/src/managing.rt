@@ -5,7 +5,7 @@ ghost use Rattle.pl_switch_rule.specs.Messages.{hears_pod, with_part};
 use crate::PlainState;
 use crate::copying::copy_part;
 use crate::settling::settle;
-use pl_core::{AvoidList, Memory, Outbox, TreePart};
+use pl_logic::{AvoidList, Memory, Outbox, TreePart};
 
 impl PlainState {
     /// The fabric manager says the number of the pod. A number that this switch did not wait for changes

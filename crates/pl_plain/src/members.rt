@@ -2,11 +2,11 @@ ghost use Rattle.std.specs.Prelude.{◌≡◌, ◌<◌, ◌≤◌, ◌==◌, ◌
 ghost use Rattle.std.specs.BTreeSet.{insert_key};
 ghost use Rattle.std.specs.List.{filter, list_any};
 ghost use Rattle.std.specs.Ordering.{nat_cmp};
-ghost use Rattle.pl_core.specs.PortRecords.{ports_of_switch, ports_where};
+ghost use Rattle.pl_logic.specs.PortRecords.{ports_of_switch, ports_where};
 ghost use Rattle.pl_lists.specs.Ports.{ports_of};
 
 use crate::PlainState;
-use pl_core::PortSet;
+use pl_logic::PortSet;
 
 impl PlainState {
     /// The ports at which a host has joined a group.

@@ -1,13 +1,13 @@
 ghost use Rattle.std.specs.Prelude.{◌≡◌, true, is_some, IfOk};
-ghost use Rattle.pl_core.specs.SwitchFacts.{CanBoot, switch_at_boot};
+ghost use Rattle.pl_logic.specs.SwitchFacts.{CanBoot, switch_at_boot};
 ghost use Rattle.pl_layouts.specs.Placement.{is_known, nowhere};
 ghost use Rattle.pl_ports.specs.PortsViews.{put_ports};
 ghost use Rattle.pl_edge.specs.EdgeViews.{edge_in, MayBeAt};
 ghost use Rattle.pl_plain.specs.PlainViews.{is_placed_edge};
 
-use pl_core::{AvoidList, Memory, Rising, TreePart};
 use pl_edge::EdgeTable;
 use pl_frame::SwitchId;
+use pl_logic::{AvoidList, Memory, Rising, TreePart};
 use pl_ports::Ports;
 use pl_position::{Holder, Proposer};
 use std::alloc::Global;
@@ -27,7 +27,7 @@ pub struct PlainState {
 }
 
 impl Model for PlainState {
-    ghost use Rattle.pl_core.specs.SwitchViews.{SwitchView};
+    ghost use Rattle.pl_logic.specs.SwitchViews.{SwitchView};
     ghost use Rattle.pl_plain.specs.PlainViews.{plain_view, AreOfOne};
 
     ghost Value = { SwitchView };

@@ -1,17 +1,17 @@
 ghost use Rattle.std.specs.Prelude.{◌≡◌, ◌<◌, ◌≤◌, ◌==◌, ◌++◌, map, IfOk, OnOk};
 ghost use Rattle.std.specs.List.{list_any};
-ghost use Rattle.pl_core.specs.declared.acts.Act.{Act};
-ghost use Rattle.pl_core.specs.PortRecords.{ports_where};
-ghost use Rattle.pl_core.specs.SwitchViews.{SwitchView};
+ghost use Rattle.pl_logic.specs.declared.acts.Act.{Act};
+ghost use Rattle.pl_logic.specs.PortRecords.{ports_where};
+ghost use Rattle.pl_logic.specs.SwitchViews.{SwitchView};
 ghost use Rattle.pl_layouts.specs.Control.{control_frame};
 ghost use Rattle.pl_switch_rule.specs.Announcing.{proposal, proposes_at};
 ghost use Rattle.pl_ports.specs.PortsViews.{ports_alone, put_ports};
 ghost use Rattle.pl_position.specs.Candidacy.{with_candidacy};
 
-use pl_core::{Memory, Outbox, Proposal};
 use pl_frame::Frame;
 use pl_layouts::Control;
 use pl_ldp::write_control;
+use pl_logic::{Memory, Outbox, Proposal};
 use pl_ports::Ports;
 use pl_position::Proposer;
 use pl_steps::{SendsAtPort, send_at_each_port};

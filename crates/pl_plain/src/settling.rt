@@ -1,9 +1,9 @@
 //! The end of a step that may have changed what a switch knows of its place and its ports.
 ghost use Rattle.std.specs.Prelude.{◌≡◌, ℕ, List, Option, true, is_some, OnErr, OnOk};
 ghost use Rattle.pl_frame.specs.declared.address.SwitchId.{SwitchId};
-ghost use Rattle.pl_core.specs.declared.messages.TreePart.{TreePart};
-ghost use Rattle.pl_core.specs.declared.switch_records.Hold.{Hold};
-ghost use Rattle.pl_core.specs.SwitchViews.{SwitchView};
+ghost use Rattle.pl_logic.specs.declared.messages.TreePart.{TreePart};
+ghost use Rattle.pl_logic.specs.declared.switch_records.Hold.{Hold};
+ghost use Rattle.pl_logic.specs.SwitchViews.{SwitchView};
 ghost use Rattle.pl_steps.specs.Taken.{IsTaken};
 ghost use Rattle.pl_switch_rule.specs.Levels.{changes_to, settles_in};
 ghost use Rattle.pl_ports.specs.PortsViews.{put_ports};
@@ -12,9 +12,9 @@ ghost use Rattle.pl_edge.specs.EdgeViews.{edge_in};
 ghost use Rattle.pl_plain.specs.PlainViews.{plain_view, HasBookAt};
 ghost use Rattle.pl_plain.specs.Settling.{PlaceGrows};
 
-use pl_core::{Memory, Outbox};
 use pl_edge::EdgeTable;
 use pl_layouts::Place;
+use pl_logic::{Memory, Outbox};
 use pl_ports::{Ports, Standing};
 use pl_position::Proposer;
 

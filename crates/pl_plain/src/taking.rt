@@ -8,9 +8,9 @@ ghost use Rattle.pl_switch_rule.specs.Intake.{takes_in};
 ghost use Rattle.pl_switch_rule.specs.Messages.{invalidates};
 
 use crate::PlainState;
-use pl_core::{Memory, Outbox, Trap};
 use pl_edge::EdgeAct;
 use pl_frame::Frame;
+use pl_logic::{Memory, Outbox, Trap};
 use pl_pmac::Pmac;
 
 impl PlainState {

@@ -1,10 +1,10 @@
 ghost use Rattle.std.specs.Prelude.{◌≡◌, ◌++◌, ℕ, List, Option, OnOk};
 ghost use Rattle.pl_frame.specs.declared.address.SwitchId.{SwitchId};
-ghost use Rattle.pl_core.specs.declared.messages.TreePart.{TreePart};
-ghost use Rattle.pl_core.specs.declared.switch_records.Hold.{Hold};
+ghost use Rattle.pl_logic.specs.declared.messages.TreePart.{TreePart};
+ghost use Rattle.pl_logic.specs.declared.switch_records.Hold.{Hold};
 ghost use Rattle.pl_steps.specs.Taken.{IsTaken};
 ghost use Rattle.pl_switch_rule.specs.Announcing.{ticks};
-ghost use Rattle.pl_core.specs.SwitchViews.{SwitchView};
+ghost use Rattle.pl_logic.specs.SwitchViews.{SwitchView};
 ghost use Rattle.pl_switch_rule.specs.Telling.{changes_told};
 ghost use Rattle.pl_ports.specs.PortsViews.{ports_alone, put_ports};
 ghost use Rattle.pl_ports.specs.Standings.{IsStandingOf};
@@ -15,7 +15,7 @@ ghost use Rattle.pl_plain.specs.Proposals.{announced, proposed};
 
 use crate::PlainState;
 use crate::proposing::propose;
-use pl_core::{Memory, Outbox};
+use pl_logic::{Memory, Outbox};
 use pl_ports::{Ports, Standing};
 use pl_position::Proposer;
 use std::alloc::Global;

@@ -1,7 +1,7 @@
 //! What votes and positions change of the parts of a switch.
 ghost use Rattle.std.specs.Prelude.{◌≡◌, ◌<◌, ◌/◌, ℕ, List, length, IfOk, OnOk};
-ghost use Rattle.pl_core.specs.declared.messages.TreePart.{TreePart};
-ghost use Rattle.pl_core.specs.SwitchViews.{SwitchView};
+ghost use Rattle.pl_logic.specs.declared.messages.TreePart.{TreePart};
+ghost use Rattle.pl_logic.specs.SwitchViews.{SwitchView};
 ghost use Rattle.pl_layouts.specs.Control.{control_frame};
 ghost use Rattle.pl_layouts.specs.Placement.{is_known};
 ghost use Rattle.pl_ldp.specs.Writable.{IsId, IsWritable};
@@ -16,10 +16,10 @@ ghost use Rattle.pl_position.specs.Holding.{with_holds, AreHeldByIds};
 ghost use Rattle.pl_plain.specs.Proposals.{is_answered};
 ghost use Rattle.pl_plain.specs.Settling.{PlaceGrows};
 
-use pl_core::{Act, Memory, Outbox};
 use pl_frame::{Frame, SwitchId};
 use pl_layouts::{Control, Place, Proposal, Vote};
 use pl_ldp::write_control;
+use pl_logic::{Act, Memory, Outbox};
 use pl_ports::Ports;
 use pl_position::{Holder, Proposer};
 use std::alloc::Global;

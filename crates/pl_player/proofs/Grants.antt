@@ -8,7 +8,7 @@ use Rattle.pl_wiring.specs.declared.host.HostNo.{HostNo}
 use Rattle.pl_wiring.specs.declared.label.SwitchNo.{SwitchNo}
 use Rattle.pl_journal.specs.declared.entry.Entry.{Entry}
 use Rattle.pl_journal.specs.declared.entry.Entry.TheVariants.{Granted, Registered}
-use Rattle.pl_core.proofs.Among.{Contains-of_among, IsAmong, among_filter_map, among_filter_mapped, among_of_Contains, any_among}
+use Rattle.pl_logic.proofs.Among.{Contains-of_among, IsAmong, among_filter_map, among_filter_mapped, among_of_Contains, any_among}
 use Rattle.pl_lines.specs.Expecting.{IsGrantedTo, IsNewest}
 use Rattle.pl_player.specs.Newest.{granted_to, grants_of, is_one_of, is_registered_by, number_in}
 use Rattle.pl_player.proofs.Largest.{is_largest, none_largest}

@@ -1,8 +1,8 @@
 -- Lines that are played one after the other.
 use Rattle.std.proofs.Common.{◌≡◌, ℕ, List, [], ◌∷◌, Option, Some, None, get_or, refl, subst}
-use Rattle.pl_core.specs.HostInputs.{HostRule}
-use Rattle.pl_core.specs.ManagerDuties.{ManagerRule}
-use Rattle.pl_core.specs.SwitchInputs.{SwitchRule}
+use Rattle.pl_logic.specs.HostInputs.{HostRule}
+use Rattle.pl_logic.specs.ManagerDuties.{ManagerRule}
+use Rattle.pl_logic.specs.SwitchInputs.{SwitchRule}
 use Rattle.pl_script.specs.declared.command.Command.TheVariants.{Start}
 use Rattle.pl_script.specs.declared.command.Who.TheVariants.{One}
 use Rattle.pl_script.specs.declared.script.ScriptLine.{ScriptLine}

@@ -5,15 +5,15 @@ ghost use Rattle.pl_world.specs.Hearing.{IsWithinHearing};
 ghost use Rattle.pl_fabric.specs.Courses.{EndsAs, MakesAll};
 ghost use Rattle.pl_lines.specs.Lines.{hosts_meant};
 
-use pl_core::{HostCore, ManagerCore, SwitchCore};
 use pl_fabric::make;
+use pl_logic::{HostLogic, ManagerLogic, SwitchLogic};
 use pl_schedule::World;
 use pl_script::Who;
 use pl_wiring::HostNo;
 use pl_world::{Event, StepError};
 
 /// Each host starts, in the order of the wiring.
-pub(crate) fn start_all<S: SwitchCore, M: ManagerCore, H: HostCore>(
+pub(crate) fn start_all<S: SwitchLogic, M: ManagerLogic, H: HostLogic>(
     world: &mut World<S, M, H>,
 ) -> Result<(), StepError>
     requires counted { IsCounted world.old }
@@ -30,7 +30,7 @@ pub(crate) fn start_all<S: SwitchCore, M: ManagerCore, H: HostCore>(
 }
 
 /// Each host asks again for the addresses that it waits for.
-pub(crate) fn retry_all<S: SwitchCore, M: ManagerCore, H: HostCore>(
+pub(crate) fn retry_all<S: SwitchLogic, M: ManagerLogic, H: HostLogic>(
     world: &mut World<S, M, H>,
 ) -> Result<(), StepError>
     requires counted { IsCounted world.old }

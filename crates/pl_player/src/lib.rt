@@ -1,4 +1,4 @@
-//! Plays scripts on a fabric, line by line, over any three cores.
+//! Plays scripts on a fabric, line by line, over any logic of its nodes.
 //!
 //! A `Player` is a world and how many records of each host were asked for; contracts see it as a `Scene`
 //! of pl_lines, and what its calls do is said there.

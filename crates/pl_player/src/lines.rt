@@ -9,11 +9,11 @@ ghost use Rattle.pl_player.specs.Endings.{EndsLines};
 
 use crate::expecting::{arrivals, ended_settled, endings, is_newest};
 use crate::player::{Player, Stopped};
-use pl_core::{HostCore, ManagerCore, SwitchCore};
 use pl_frame::Memory;
 use pl_inputs::Capture;
 use pl_journal::{Cause, Entry};
 use pl_lines::Stop;
+use pl_logic::{HostLogic, ManagerLogic, SwitchLogic};
 use pl_pmac::Pmac;
 use pl_script::{Command, ScriptLine};
 use pl_wiring::HostNo;
@@ -30,7 +30,7 @@ fn expect(holds: bool) -> Result<(), Stop>
     }
 }
 
-impl<S: SwitchCore, M: ManagerCore, H: HostCore> Player<S, M, H> {
+impl<S: SwitchLogic, M: ManagerLogic, H: HostLogic> Player<S, M, H> {
     fn expect_arrived(&self, h: HostNo, many: u64) -> Result<(), Stop>
         ensures { Ends result (λ end. Expects (arrivals self.now.world.journal h ≡ many) self.now end self.now) }
     {

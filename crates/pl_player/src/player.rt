@@ -3,10 +3,10 @@ ghost use Rattle.pl_lines.specs.Scenes.{first_scene};
 ghost use Rattle.pl_world.specs.Flying.{IsCounted};
 ghost use Rattle.pl_world.specs.Hearing.{IsWithinHearing};
 
-use pl_core::{HostCore, ManagerCore, SwitchCore};
 use pl_frame::Memory;
 use pl_journal::Entry;
 use pl_lines::Stop;
+use pl_logic::{HostLogic, ManagerLogic, SwitchLogic};
 use pl_schedule::World;
 use pl_wiring::{HostNo, Wiring};
 use pl_world::{Limits, Stand};
@@ -15,14 +15,14 @@ use std::marker::Model;
 
 /// A fabric on which a script is played. Contracts see it as a `Scene` (`specs/Scenes.antt` of pl_lines).
 #[derive(Drop)]
-pub struct Player<S: SwitchCore, M: ManagerCore, H: HostCore> {
+pub struct Player<S: SwitchLogic, M: ManagerLogic, H: HostLogic> {
     pub(crate) alloc: Global,
     pub(crate) world: World<S, M, H>,
     /// For each host how many of its records were asked for.
     pub(crate) asked: Vec<u64>,
 }
 
-impl<S: SwitchCore, M: ManagerCore, H: HostCore> Model for Player<S, M, H> {
+impl<S: SwitchLogic, M: ManagerLogic, H: HostLogic> Model for Player<S, M, H> {
     ghost use Rattle.pl_lines.specs.Scenes.{Scene};
 
     ghost Value = { Scene };
@@ -37,7 +37,7 @@ pub struct Stopped {
     pub stop: Stop,
 }
 
-impl<S: SwitchCore, M: ManagerCore, H: HostCore> Player<S, M, H> {
+impl<S: SwitchLogic, M: ManagerLogic, H: HostLogic> Player<S, M, H> {
     /// A fabric at its beginning, on which no line was played.
     pub fn begin(alloc: Global, wiring: Wiring, limits: Limits) -> Result<Player<S, M, H>, Memory>
         requires { limits.steps ≤ 4000000000 }

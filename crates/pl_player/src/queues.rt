@@ -2,7 +2,7 @@ ghost use Rattle.std.specs.Prelude.{◌≡◌};
 ghost use Rattle.pl_lines.specs.Queues.{between_switches, from_host, port_of, port_towards, queue_between, to_host};
 
 use crate::player::Player;
-use pl_core::{HostCore, ManagerCore, SwitchCore};
+use pl_logic::{HostLogic, ManagerLogic, SwitchLogic};
 use pl_script::End;
 use pl_wiring::{HostNo, Link, SwitchNo};
 use pl_world::QueueName;
@@ -19,7 +19,7 @@ fn port_of(a: SwitchNo, link: Link) -> u8
     }
 }
 
-impl<S: SwitchCore, M: ManagerCore, H: HostCore> Player<S, M, H> {
+impl<S: SwitchLogic, M: ManagerLogic, H: HostLogic> Player<S, M, H> {
     /// The port of a switch whose link leads to another.
     pub(crate) fn port_towards(&self, a: SwitchNo, b: SwitchNo) -> Option<u8>
         ensures { result ≡ port_towards self.now.world.plan a.0 b.0 }

@@ -8,15 +8,15 @@ ghost use Rattle.pl_lines.specs.Lines.{Asks, AsksNext, left_of};
 ghost use Rattle.pl_lines.specs.Scenes.{Ends, OfWorld, Often, asked_more, asked_of};
 
 use crate::player::Player;
-use pl_core::{HostCore, ManagerCore, SwitchCore};
 use pl_frame::{Frame, Memory};
 use pl_inputs::{Capture, one_more, record_at, record_count};
 use pl_lines::Stop;
+use pl_logic::{HostLogic, ManagerLogic, SwitchLogic};
 use pl_script::Count;
 use pl_wiring::HostNo;
 use pl_world::{Event, StepError};
 
-impl<S: SwitchCore, M: ManagerCore, H: HostCore> Player<S, M, H> {
+impl<S: SwitchLogic, M: ManagerLogic, H: HostLogic> Player<S, M, H> {
     /// How many records of a host were asked for.
     pub fn asked_of(&self, h: HostNo) -> u64
         ensures { result ≡ asked_of self.now h.0 }

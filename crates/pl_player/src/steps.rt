@@ -11,10 +11,10 @@ ghost use Rattle.pl_lines.specs.Scenes.{Ends, OfWorld};
 
 use crate::hosts::{retry_all, start_all};
 use crate::player::Player;
-use pl_core::{HostCore, ManagerCore, SwitchCore};
 use pl_fabric::{Settling, make, random, settle, sweep_often, tick_all};
 use pl_journal::Entry;
 use pl_lines::Stop;
+use pl_logic::{HostLogic, ManagerLogic, SwitchLogic};
 use pl_script::{End, Who};
 use pl_wiring::SwitchNo;
 use pl_world::{Event, QueueName};
@@ -48,7 +48,7 @@ fn delivery(name: Option<QueueName>) -> Event
     }
 }
 
-impl<S: SwitchCore, M: ManagerCore, H: HostCore> Player<S, M, H> {
+impl<S: SwitchLogic, M: ManagerLogic, H: HostLogic> Player<S, M, H> {
     /// One event.
     pub(crate) fn happen(&mut self, event: &Event) -> Result<(), Stop>
         requires counted { IsCounted self.old.world }

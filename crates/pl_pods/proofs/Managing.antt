@@ -7,15 +7,15 @@ use Rattle.pl_frame.specs.declared.address.SwitchId.{SwitchId}
 use Rattle.pl_pmac.specs.declared.pmac.Pmac.{Pmac}
 use Rattle.pl_wiring.specs.Plan.{Plan}
 use Rattle.pl_layouts.specs.Equality.{same_pmac, same_switch}
-use Rattle.pl_core.specs.declared.acts.ManagerAct.{ManagerAct}
-use Rattle.pl_core.specs.declared.acts.ManagerAct.TheVariants.{Number, Say}
-use Rattle.pl_core.specs.declared.messages.ToManager.{ToManager}
-use Rattle.pl_core.specs.declared.messages.ToManager.TheVariants as tell
-use Rattle.pl_core.specs.declared.messages.ToSwitch.{ToSwitch}
-use Rattle.pl_core.specs.declared.messages.ToSwitch.TheVariants as say
-use Rattle.pl_core.specs.ManagerViews.{Learnt, ManagerView, Registration, lookup, newest, pod_given, pods_given, registry}
-use Rattle.pl_core.specs.ManagerFacts.{groups}
-use Rattle.pl_core.specs.AvoidLists.{avoid_list}
+use Rattle.pl_logic.specs.declared.acts.ManagerAct.{ManagerAct}
+use Rattle.pl_logic.specs.declared.acts.ManagerAct.TheVariants.{Number, Say}
+use Rattle.pl_logic.specs.declared.messages.ToManager.{ToManager}
+use Rattle.pl_logic.specs.declared.messages.ToManager.TheVariants as tell
+use Rattle.pl_logic.specs.declared.messages.ToSwitch.{ToSwitch}
+use Rattle.pl_logic.specs.declared.messages.ToSwitch.TheVariants as say
+use Rattle.pl_logic.specs.ManagerViews.{Learnt, ManagerView, Registration, lookup, newest, pod_given, pods_given, registry}
+use Rattle.pl_logic.specs.ManagerFacts.{groups}
+use Rattle.pl_logic.specs.AvoidLists.{avoid_list}
 use Rattle.pl_manager_rule.specs.ManagerRule.{answer_to, avoid_acts, changed, changed_of_group, invalidation, manager_hears, part_in, reply, tree_acts, tree_acts_of, view_after, with_asker}
 use Rattle.pl_manager_rule.proofs.Registered.{asker_has_pod}
 use Rattle.pl_control_plane.specs.PlaneSteps.{is_to, ordered, ordered_by}

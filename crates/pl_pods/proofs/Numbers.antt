@@ -10,8 +10,8 @@ use Rattle.pl_frame.specs.declared.address.SwitchId.{SwitchId}
 use Rattle.pl_wiring.specs.Labels.{switch_count}
 use Rattle.pl_wiring.specs.Plan.{IsPlan, Plan}
 use Rattle.pl_layouts.specs.Equality.{same_switch}
-use Rattle.pl_core.specs.ManagerViews.{PodGiven, pod_given, pods_given}
-use Rattle.pl_core.proofs.Among.{among_of_Contains, any_among}
+use Rattle.pl_logic.specs.ManagerViews.{PodGiven, pod_given, pods_given}
+use Rattle.pl_logic.proofs.Among.{among_of_Contains, any_among}
 use Rattle.pl_manager_rule.specs.ManagerRule.{with_asker}
 use Rattle.pl_manager_rule.proofs.Registered.{askers_once}
 

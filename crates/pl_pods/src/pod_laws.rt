@@ -1,7 +1,7 @@
 ghost use Rattle.std.specs.Prelude.{◌≡◌, ℕ, List, None, Some};
 ghost use Rattle.pl_frame.specs.declared.address.SwitchId.{SwitchId};
 ghost use Rattle.pl_wiring.specs.Plan.{IsPlan, Plan};
-ghost use Rattle.pl_core.specs.ManagerViews.{pod_given};
+ghost use Rattle.pl_logic.specs.ManagerViews.{pod_given};
 ghost use Rattle.pl_manager_rule.specs.ManagerRule.{manager_rule, with_asker};
 ghost use Rattle.pl_switch_rule.specs.SwitchRule.{Loose};
 ghost use Rattle.pl_world.specs.declared.event.Event.{Event};
@@ -17,7 +17,7 @@ ghost use Rattle.pl_places.specs.Places.{ArePlaced, ArePodNumbers};
 ghost use Rattle.pl_votes.specs.Voting.{FixedAreApart};
 ghost use Rattle.pl_pods.specs.Pods.{AreGiven, KnownAreGiven};
 
-use pl_core::HostCore;
+use pl_logic::HostLogic;
 
 /// No two switches were given one number.
 pub fn no_two_switches_have_one_number()
@@ -38,7 +38,7 @@ pub fn the_numbers_begin_as_given()
 
 /// Each step keeps the numbers as they were given, where places are true before it and positions of a pod
 /// differ before and after it.
-pub fn each_step_keeps_the_numbers_as_given<H: HostCore>()
+pub fn each_step_keeps_the_numbers_as_given<H: HostLogic>()
     ensures { (old : WorldView) (event : Event) (new : WorldView) → IsCounted old → HostsAtEdges old →
         ArePlaced old.plan (control_plane old) → FixedAreApart old.plan (control_plane old).view → FixedAreApart old.plan (control_plane new).view →
         refusal old event ≡ None → WorldStep Loose manager_rule H.rule old event new →

@@ -44,7 +44,7 @@ chain_kept owner owner' next prev next' prev' list ends slots chain same =
       apart = chain.apart;
     }
 
--- places before and behind a slot that is left out
+-- indices before and behind a slot that is left out
 module _ (xs ys : List ℕ) (slot : ℕ) where
   pub length_with : length (xs ++ slot ∷ ys) ≡ length xs + length ys + 1
   length_with = omega (arith, length-append xs (slot ∷ ys))
@@ -63,9 +63,9 @@ module _ (xs ys : List ℕ) (slot : ℕ) where
       get_or-append_right xs ys (length xs) i 0 refl high
       ∙ sym (ap (slice_index (slot ∷ ys)) shift) ∙ sym (get_or-append_right xs (slot ∷ ys) (length xs) (i + 1) 0 refl (omega arith))
 
-  -- each place of what is left is one of the whole
-  pub place_with : (i : ℕ) → (j : ℕ) × (slice_index (xs ++ ys) i ≡ slice_index (xs ++ slot ∷ ys) j) × (((i < length xs) × (j ≡ i)) ⊎ ((length xs ≤ i) × (j ≡ i + 1)))
-  place_with i = elim (cases_lt i (length xs)) [
+  -- each index of what is left is one of the whole
+  pub index_with : (i : ℕ) → (j : ℕ) × (slice_index (xs ++ ys) i ≡ slice_index (xs ++ slot ∷ ys) j) × (((i < length xs) × (j ≡ i)) ⊎ ((length xs ≤ i) × (j ≡ i + 1)))
+  index_with i = elim (cases_lt i (length xs)) [
     | inl low ↦ (i, before_slot i low, inl (low, refl))
     | inr high ↦ (i + 1, behind_slot i high, inr (high, refl))
   ]
@@ -93,11 +93,11 @@ module _ (xs ys : List ℕ) (slot : ℕ) where
   pub slot_not_left : ((i j : ℕ) → i < length (xs ++ slot ∷ ys) → j < length (xs ++ slot ∷ ys) → slice_index (xs ++ slot ∷ ys) i ≡ slice_index (xs ++ slot ∷ ys) j → i ≡ j)
       → ¬ IsAmong slot (xs ++ ys)
   slot_not_left apart among =
-      let place = place_with among.0 in
-      let same = sym place.1 ∙ among.2 ∙ sym at_slot in
-      elim place.2 [
-        | inl p ↦ omega (arith, p.0, p.1, apart place.0 (length xs) (omega (arith, p.0, p.1, length_with)) (omega (arith, length_with)) same)
-        | inr p ↦ omega (arith, p.0, p.1, apart place.0 (length xs) (omega (arith, p.0, p.1, among.1, length_with, length-append xs ys)) (omega (arith, length_with)) same)
+      let index = index_with among.0 in
+      let same = sym index.1 ∙ among.2 ∙ sym at_slot in
+      elim index.2 [
+        | inl p ↦ omega (arith, p.0, p.1, apart index.0 (length xs) (omega (arith, p.0, p.1, length_with)) (omega (arith, length_with)) same)
+        | inr p ↦ omega (arith, p.0, p.1, apart index.0 (length xs) (omega (arith, p.0, p.1, among.1, length_with, length-append xs ys)) (omega (arith, length_with)) same)
       ]
 
 pub among_older : (slots : List ℕ) (slot k : ℕ) → IsAmong k slots → IsAmong k (slots ++ slot ∷ [])
@@ -133,7 +133,7 @@ module _ (owner owner' : ℕ → Option ℕ) (next prev next' prev' : ℕ → �
   here : slice_index (xs ++ slot ∷ ys) (length xs) ≡ slot
   here = at_slot xs ys slot
 
-  -- no other place has the slot of one
+  -- no other index has the slot of one
   elsewhere : (i j : ℕ) → i < length (xs ++ slot ∷ ys) → j < length (xs ++ slot ∷ ys) → i ≢ j → slice_index (xs ++ slot ∷ ys) i ≢ slice_index (xs ++ slot ∷ ys) j
   elsewhere i j low high differ same = differ (chain.apart i j low high same)
 
@@ -237,14 +237,14 @@ module _ (owner owner' : ℕ → Option ℕ) (next prev next' prev' : ℕ → �
 
   owned_left : (i : ℕ) → i < length (xs ++ ys) → owner' (slice_index (xs ++ ys) i) ≡ Some list
   owned_left i within =
-      let place = place_with xs ys slot i in
-      let low : place.0 < length (xs ++ slot ∷ ys) = elim place.2 [ inl p ↦ omega (arith, p.0, p.1, whole_length) | inr p ↦ omega (arith, p.0, p.1, whole_length, rest_length) ] in
-      owners (slice_index (xs ++ ys) i) ∙ ap owner place.1 ∙ chain.owned place.0 low
+      let index = index_with xs ys slot i in
+      let low : index.0 < length (xs ++ slot ∷ ys) = elim index.2 [ inl p ↦ omega (arith, p.0, p.1, whole_length) | inr p ↦ omega (arith, p.0, p.1, whole_length, rest_length) ] in
+      owners (slice_index (xs ++ ys) i) ∙ ap owner index.1 ∙ chain.owned index.0 low
 
   apart_left : (i j : ℕ) → i < length (xs ++ ys) → j < length (xs ++ ys) → slice_index (xs ++ ys) i ≡ slice_index (xs ++ ys) j → i ≡ j
   apart_left i j low high same =
-      let one = place_with xs ys slot i in
-      let two = place_with xs ys slot j in
+      let one = index_with xs ys slot i in
+      let two = index_with xs ys slot j in
       let one_low : one.0 < length (xs ++ slot ∷ ys) = elim one.2 [ inl p ↦ omega (arith, p.0, p.1, whole_length) | inr p ↦ omega (arith, p.0, p.1, whole_length, rest_length) ] in
       let two_low : two.0 < length (xs ++ slot ∷ ys) = elim two.2 [ inl p ↦ omega (arith, p.0, p.1, whole_length) | inr p ↦ omega (arith, p.0, p.1, whole_length, rest_length) ] in
       let equal : one.0 ≡ two.0 = chain.apart one.0 two.0 one_low two_low (sym one.1 ∙ same ∙ two.1) in

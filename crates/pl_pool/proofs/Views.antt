@@ -40,18 +40,18 @@ module _ {T : Type 0} where
   pub first_is : (items : ℕ → Option T) (slot : ℕ) (slots : List ℕ) (item : T) → items slot ≡ Some item → first_key (entries items (slot ∷ slots)) ≡ Some (record { slot = slot })
   first_is items slot slots item is = ap first_key (entries_around items [] slots slot item is)
 
-  -- the pair at a place is that of the slot there
-  pub pair_place : (items : ℕ → Option T) (slots : List ℕ) → ((i : ℕ) → i < length slots → (item : T) × (items (slice_index slots i) ≡ Some item))
+  -- the pair at an index is that of the slot there
+  pub pair_index : (items : ℕ → Option T) (slots : List ℕ) → ((i : ℕ) → i < length slots → (item : T) × (items (slice_index slots i) ≡ Some item))
       → (i : ℕ) (pair : Key × T) → slice_get (entries items slots) i ≡ Some pair → (i < length slots) × (slice_index slots i ≡ pair.0.slot)
-  pair_place items [] have i pair e = absurd (none-some pair e)
-  pair_place items (slot ∷ slots) have zero pair e =
+  pair_index items [] have i pair e = absurd (none-some pair e)
+  pair_index items (slot ∷ slots) have zero pair e =
       let here = have 0 (omega arith) in
       let got = sym (ap (λ (l : List (Key × T)). slice_get l 0) (entries_around items [] slots slot here.0 here.1)) ∙ e in
       (omega arith, ap (λ (p : Key × T). p.0.slot) (same_Some (record { slot = slot }, here.0) pair got))
-  pair_place items (slot ∷ slots) have (suc i) pair e =
+  pair_index items (slot ∷ slots) have (suc i) pair e =
       let here = have 0 (omega arith) in
       let got = sym (ap (λ (l : List (Key × T)). slice_get l (suc i)) (entries_around items [] slots slot here.0 here.1)) ∙ e in
-      let rest = pair_place items slots (λ j low. have (suc j) (omega arith)) i pair got in
+      let rest = pair_index items slots (λ j low. have (suc j) (omega arith)) i pair got in
       (omega (arith, rest.0), rest.1)
 
   pub length_entries : (items : ℕ → Option T) (slots : List ℕ) → ((i : ℕ) → i < length slots → (item : T) × (items (slice_index slots i) ≡ Some item)) → length (entries items slots) ≡ length slots
@@ -202,12 +202,12 @@ module _ {T : Type 0} where
         ∙ entries_around (item_in nodes) [] (first_cut some).0 (ends_at ends list).first item is
 
   module _ (nodes : Slab (Node T)) (ends : List Ends) (spare : ℕ) (pool : IsPool nodes ends spare) where
-    place_of : (list i : ℕ) (pair : Key × T) → slice_get (slice_index_or (lists_of nodes ends) list []) i ≡ Some pair
+    index_of : (list i : ℕ) (pair : Key × T) → slice_get (slice_index_or (lists_of nodes ends) list []) i ≡ Some pair
         → (list < length ends) × (i < length (slots_of nodes (ends_at ends list))) × (slice_index (slots_of nodes (ends_at ends list)) i ≡ pair.0.slot)
-    place_of list i pair e =
+    index_of list i pair e =
         elim (cases_lt list (length ends)) [
           | inl within ↦
-              let at = pair_place (item_in nodes) (slots_of nodes (ends_at ends list)) (items_there nodes ends spare pool list within) i pair
+              let at = pair_index (item_in nodes) (slots_of nodes (ends_at ends list)) (items_there nodes ends spare pool list within) i pair
               (sym (ap (λ (pairs : List (Key × T)). slice_get pairs i) (list_read nodes ends list within)) ∙ e) in
               (within, at.0, at.1)
           | inr past ↦ absurd (none-some pair (sym (ap (λ (pairs : List (Key × T)). slice_get pairs i) (get_or_past (lists_of nodes ends) list [] (omega (arith, past, length-map ends (pairs_of nodes))))) ∙ e))
@@ -216,8 +216,8 @@ module _ {T : Type 0} where
     pub own_keys : HaveOwnKeys (record { lists = lists_of nodes ends; spare = spare })
     own_keys =
         λ list other i j pair twin e f same.
-        let one = place_of list i pair e in
-        let two = place_of other j twin f in
+        let one = index_of list i pair e in
+        let two = index_of other j twin f in
         let equal : slice_index (slots_of nodes (ends_at ends list)) i ≡ slice_index (slots_of nodes (ends_at ends other)) j = one.2 ∙ same ∙ sym two.2 in
         let lists : list ≡ other = same_Some list other (sym ((pool.chains list one.0).owned i one.1) ∙ ap (owner_of nodes) equal ∙ (pool.chains other two.0).owned j two.1) in
         let back = ap (λ l. slots_of nodes (ends_at ends l)) lists in (

@@ -93,7 +93,7 @@ module _ {T : Type 0} where
       has_key_of_entry slot (items slot) (entries items slots) key (λ same. h (0, omega arith, same))
       (no_entry items slots key (λ among. h (suc among.0, omega (arith, among.1), among.2)))
 
--- two maps that agree but at one place
+-- two maps that agree but at one key
 module _ {A B : Type 0} (f g : A → B) (d : A) where
   map_same_at : (xs : List A) → ((i : ℕ) → i < length xs → f (get_or xs i d) ≡ g (get_or xs i d)) → map f xs ≡ map g xs
   map_same_at [] same = refl

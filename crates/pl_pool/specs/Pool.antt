@@ -71,7 +71,7 @@ module _ {T : Type 0} where
   abbrev pub IsFree : Lists T → Key → Type 0
   IsFree pool key = (list : ℕ) → has_key (list_at pool list) key ≡ false
 
-  -- two places with the same key are the same place: no item is in two lists, and no two items have one key
+  -- two indices with the same key are the same index: no item is in two lists, and no two items have one key
   abbrev pub HaveOwnKeys : Lists T → Type 0
   HaveOwnKeys pool =
       (list other i j : ℕ) (pair twin : Key × T)

@@ -1,6 +1,6 @@
 -- The ports age.
 use Rattle.std.proofs.Common.{◌≡◌, map, sym, ap, ◌∙◌}
-use Rattle.pl_core.specs.PortRecords.{aged, ports_where}
+use Rattle.pl_logic.specs.PortRecords.{aged, ports_where}
 use Rattle.pl_ports.specs.Changes.{ceased, ceases}
 use Rattle.pl_ports.specs.PortsViews.{PortsView, ports_alone}
 use Rattle.pl_ports.proofs.Tables.{aged_at}

@@ -9,9 +9,9 @@ use Rattle.std.proofs.lemmas.List.Folds.{list_any_at}
 use Rattle.pl_frame.specs.declared.address.SwitchId.{SwitchId}
 use Rattle.pl_layouts.specs.declared.control.Ldm.{Ldm}
 use Rattle.pl_layouts.specs.Placement.{is_known}
-use Rattle.pl_core.specs.declared.neighbour.PortRecord.{PortRecord}
-use Rattle.pl_core.specs.PortRecords.{aged, heard_place, new_port}
-use Rattle.pl_core.specs.SwitchViews.{SwitchView}
+use Rattle.pl_logic.specs.declared.neighbour.PortRecord.{PortRecord}
+use Rattle.pl_logic.specs.PortRecords.{aged, heard_place, new_port}
+use Rattle.pl_logic.specs.SwitchViews.{SwitchView}
 use Rattle.pl_journal.specs.Flights.{first_of}
 use Rattle.pl_switch_rule.specs.Levels.{is_of_other_pod, learns_level, other_pod, told_pod, with_message}
 use Rattle.pl_ports.specs.Changes.{with_host}

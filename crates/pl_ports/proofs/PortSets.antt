@@ -6,7 +6,7 @@ use Rattle.std.specs.BTreeSet.{insert_key}
 use Rattle.std.specs.Ordering.{nat_cmp}
 use Rattle.std.proofs.lemmas.Bool.{le-ltb, ne_eqb}
 use Rattle.std.proofs.lemmas.List.{append-nil}
-use Rattle.pl_core.specs.PortRecords.{ports_of_switch}
+use Rattle.pl_logic.specs.PortRecords.{ports_of_switch}
 use Rattle.pl_steps.proofs.Ports.{ports_more}
 
 insert_last : (x : ℕ) (ys : List ℕ) → AllByRecursion (λ y. y < x) ys → insert_key nat_cmp ys x ≡ ys ++ x ∷ []

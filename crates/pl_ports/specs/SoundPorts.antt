@@ -3,10 +3,10 @@ use Rattle.std.specs.Prelude.{◌≡◌, ℕ, ◌<◌, ◌⊎◌, IfSome, List, 
 use Rattle.pl_frame.specs.declared.address.SwitchId.{SwitchId}
 use Rattle.pl_layouts.specs.declared.place.Place.{Place}
 use Rattle.pl_ldp.specs.Writable.{IsId}
-use Rattle.pl_core.specs.declared.neighbour.Neighbour.{Neighbour}
-use Rattle.pl_core.specs.declared.neighbour.PortRecord.{PortRecord}
-use Rattle.pl_core.specs.PortRecords.{new_port}
-use Rattle.pl_core.specs.SwitchFacts.{IsTreeSize}
+use Rattle.pl_logic.specs.declared.neighbour.Neighbour.{Neighbour}
+use Rattle.pl_logic.specs.declared.neighbour.PortRecord.{PortRecord}
+use Rattle.pl_logic.specs.PortRecords.{new_port}
+use Rattle.pl_logic.specs.SwitchFacts.{IsTreeSize}
 
 -- the greatest number of two bytes stands for a pod that is not known
 abbrev pub IsPod : ℕ → Type 0

@@ -1,5 +1,5 @@
 ghost use Rattle.std.specs.Prelude.{◌≡◌, ◌<◌, if◌then◌else◌};
-ghost use Rattle.pl_core.specs.SwitchViews.{SwitchView};
+ghost use Rattle.pl_logic.specs.SwitchViews.{SwitchView};
 ghost use Rattle.pl_ldp.specs.Writable.{IsWritable};
 ghost use Rattle.pl_lists.specs.Ports.{ports_of};
 ghost use Rattle.pl_switch_rule.specs.Announcing.{with_aged_ports};
@@ -8,10 +8,10 @@ ghost use Rattle.pl_ports.specs.Changes.{becomes_host_port, ceased, takes_host, 
 ghost use Rattle.pl_ports.specs.PortsViews.{ports_alone, put_ports};
 
 use crate::Ports;
-use pl_core::{Neighbour, PortRecord};
 use pl_frame::SwitchId;
 use pl_layouts::{Control, Ldm};
 use pl_lists::PortSet;
+use pl_logic::{Neighbour, PortRecord};
 
 impl Ports {
     /// A location discovery message comes at a port, and the port's record is replaced. The answer is

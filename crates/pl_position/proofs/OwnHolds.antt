@@ -6,7 +6,7 @@ use Rattle.std.proofs.lemmas.Option.{same_Some}
 use Rattle.pl_frame.specs.declared.address.SwitchId.{SwitchId}
 use Rattle.pl_layouts.specs.declared.control.Proposal.{Proposal}
 use Rattle.pl_layouts.specs.declared.control.Vote.{Vote}
-use Rattle.pl_core.specs.declared.switch_records.Hold.{Hold}
+use Rattle.pl_logic.specs.declared.switch_records.Hold.{Hold}
 use Rattle.pl_switch_rule.specs.Positions.{freed_but, is_free_for, is_held_for, kept_or_new, marked_for, vote_on}
 use Rattle.pl_position.specs.Holding.{AreHeldByIds, HoldsFor, IsAnswer, IsId, hold_in}
 use Rattle.pl_position.proofs.Freeing.{freed, freed_at, freed_itself, length_freed}

@@ -1,7 +1,7 @@
 ghost use Rattle.std.specs.Prelude.{◌≡◌, ◌<◌, ◌≤◌, ℕ, ◌/◌, [], ◌∷◌, length, replicate, IfSome, None};
-ghost use Rattle.pl_core.specs.declared.acts.Act.TheVariants.{Control};
-ghost use Rattle.pl_core.specs.SwitchFacts.{holder_of, IsTreeSize};
-ghost use Rattle.pl_core.specs.SwitchViews.{SwitchView};
+ghost use Rattle.pl_logic.specs.declared.acts.Act.TheVariants.{Control};
+ghost use Rattle.pl_logic.specs.SwitchFacts.{holder_of, IsTreeSize};
+ghost use Rattle.pl_logic.specs.SwitchViews.{SwitchView};
 ghost use Rattle.pl_layouts.specs.declared.control.Control.TheVariants as control;
 ghost use Rattle.pl_layouts.specs.Control.{control_frame};
 ghost use Rattle.pl_position.specs.Holding.{with_holds, AreHeldByIds, HoldsFor, IsAnswer, IsId, IsMarked, NamesHolder};
@@ -9,8 +9,8 @@ ghost use Rattle.pl_steps.specs.Steps.{does};
 ghost use Rattle.pl_switch_rule.specs.Positions.{answers_proposal, frees_others, half, notes_position};
 
 use crate::holds::{mark_in, vote_in};
-use pl_core::{Hold, Proposal, Vote};
 use pl_frame::SwitchId;
+use pl_logic::{Hold, Proposal, Vote};
 use std::marker::Model;
 
 // The positions of a pod of the largest fat tree.
@@ -27,7 +27,7 @@ pub struct Holder {
 
 impl Model for Holder {
     ghost use Rattle.std.specs.Prelude.{◌≤◌, List, Option, take};
-    ghost use Rattle.pl_core.specs.declared.switch_records.Hold.{Hold};
+    ghost use Rattle.pl_logic.specs.declared.switch_records.Hold.{Hold};
 
     ghost Value = { List (Option Hold) };
 

@@ -1,15 +1,15 @@
 //! What is held at each position, as a slice.
 ghost use Rattle.std.specs.Prelude.{◌≡◌, ◌<◌, ℕ, [], ◌∷◌, length, IfSome};
-ghost use Rattle.pl_core.specs.declared.acts.Act.TheVariants.{Control};
-ghost use Rattle.pl_core.specs.SwitchViews.{SwitchView};
+ghost use Rattle.pl_logic.specs.declared.acts.Act.TheVariants.{Control};
+ghost use Rattle.pl_logic.specs.SwitchViews.{SwitchView};
 ghost use Rattle.pl_layouts.specs.declared.control.Control.TheVariants as control;
 ghost use Rattle.pl_layouts.specs.Control.{control_frame};
 ghost use Rattle.pl_position.specs.Holding.{with_holds, AreHeldByIds, HoldsFor, IsAnswer, IsId, IsMarked, NamesHolder};
 ghost use Rattle.pl_steps.specs.Steps.{does};
 ghost use Rattle.pl_switch_rule.specs.Positions.{answers_proposal, freed_but, frees_others, is_free_for, is_held_for, kept_or_new, marked_for, marks, vote_on};
 
-use pl_core::{Hold, Proposal, Vote};
 use pl_frame::SwitchId;
+use pl_logic::{Hold, Proposal, Vote};
 
 /// The answer to a proposal.
 pub(crate) fn vote_in(holds: &mut [Option<Hold>], edge: SwitchId, proposal: Proposal) -> Vote

@@ -12,17 +12,17 @@ use Rattle.pl_layouts.specs.declared.place.Place.{Place}
 use Rattle.pl_layouts.specs.Equality.{same_switch}
 use Rattle.pl_layouts.specs.Memberships.{flood}
 use Rattle.pl_layouts.specs.Placement.{is_known, nowhere}
-use Rattle.pl_core.specs.declared.acts.ManagerAct.{ManagerAct}
-use Rattle.pl_core.specs.declared.acts.ManagerAct.TheVariants.{Say}
-use Rattle.pl_core.specs.declared.messages.ToManager.{ToManager}
-use Rattle.pl_core.specs.declared.messages.ToManager.TheVariants as tell
-use Rattle.pl_core.specs.declared.messages.ToSwitch.TheVariants as say
-use Rattle.pl_core.specs.declared.messages.TreePart.{TreePart}
-use Rattle.pl_core.specs.AvoidLists.{avoid_list, avoided_at, avoided_cmp, is_above}
-use Rattle.pl_core.specs.ManagerFacts.{groups}
-use Rattle.pl_core.specs.ManagerViews.{ManagerView, Members, PlacedEdge, Told, edge_at, has_level, id_cmp, in_order, is_alive, link_cmp, members_cmp, place_of, placed_edges, switches, tellers, value_at, with_members}
-use Rattle.pl_core.specs.Trees.{aggregation_part, best_cores, core_for, core_of, core_part, cores, edge_part, needed_edges, part_under, reach, largest, tree_part}
-use Rattle.pl_core.proofs.Among.{IsAmong, among_append, among_filter, among_filtered, among_in_order, among_left, among_map, among_mapped, among_ordered, among_right, any_among}
+use Rattle.pl_logic.specs.declared.acts.ManagerAct.{ManagerAct}
+use Rattle.pl_logic.specs.declared.acts.ManagerAct.TheVariants.{Say}
+use Rattle.pl_logic.specs.declared.messages.ToManager.{ToManager}
+use Rattle.pl_logic.specs.declared.messages.ToManager.TheVariants as tell
+use Rattle.pl_logic.specs.declared.messages.ToSwitch.TheVariants as say
+use Rattle.pl_logic.specs.declared.messages.TreePart.{TreePart}
+use Rattle.pl_logic.specs.AvoidLists.{avoid_list, avoided_at, avoided_cmp, is_above}
+use Rattle.pl_logic.specs.ManagerFacts.{groups}
+use Rattle.pl_logic.specs.ManagerViews.{ManagerView, Members, PlacedEdge, Told, edge_at, has_level, id_cmp, in_order, is_alive, link_cmp, members_cmp, place_of, placed_edges, switches, tellers, value_at, with_members}
+use Rattle.pl_logic.specs.Trees.{aggregation_part, best_cores, core_for, core_of, core_part, cores, edge_part, needed_edges, part_under, reach, largest, tree_part}
+use Rattle.pl_logic.proofs.Among.{IsAmong, among_append, among_filter, among_filtered, among_in_order, among_left, among_map, among_mapped, among_ordered, among_right, any_among}
 use Rattle.pl_manager_rule.specs.ManagerRule.{avoid_acts, changed, changed_of_group, part_in, same_avoid_list, same_part, tree_acts, tree_acts_of, view_after}
 use Rattle.pl_manager_rule.proofs.Avoided.{among_switches, id_exact, same_is}
 use Rattle.pl_manager_rule.proofs.Sameness.{avoid_lists_alike, parts_alike}

@@ -5,14 +5,14 @@ use Rattle.pl_frame.specs.declared.address.Mac.{Mac}
 use Rattle.pl_frame.specs.Ethernet.{destination_of, source_of}
 use Rattle.pl_pmac.specs.declared.pmac.Pmac.{Pmac}
 use Rattle.pl_arp.specs.declared.packet.Arp.{Arp}
-use Rattle.pl_core.specs.declared.acts.Act.TheVariants.{Drop, Make}
-use Rattle.pl_core.specs.declared.messages.ToSwitch.{ToSwitch}
-use Rattle.pl_core.specs.declared.messages.ToSwitch.TheVariants.{Answer, Avoid, Flood, Invalidate, Pod, Tree}
-use Rattle.pl_core.specs.declared.switch_records.Grant.{Grant}
-use Rattle.pl_core.specs.declared.switch_records.Member.{Member}
-use Rattle.pl_core.specs.declared.trap.Trap.{Trap}
-use Rattle.pl_core.specs.PortRecords.{is_open_to_hosts, place_at, port_of, with_port}
-use Rattle.pl_core.specs.SwitchViews.{SwitchView}
+use Rattle.pl_logic.specs.declared.acts.Act.TheVariants.{Drop, Make}
+use Rattle.pl_logic.specs.declared.messages.ToSwitch.{ToSwitch}
+use Rattle.pl_logic.specs.declared.messages.ToSwitch.TheVariants.{Answer, Avoid, Flood, Invalidate, Pod, Tree}
+use Rattle.pl_logic.specs.declared.switch_records.Grant.{Grant}
+use Rattle.pl_logic.specs.declared.switch_records.Member.{Member}
+use Rattle.pl_logic.specs.declared.trap.Trap.{Trap}
+use Rattle.pl_logic.specs.PortRecords.{is_open_to_hosts, place_at, port_of, with_port}
+use Rattle.pl_logic.specs.SwitchViews.{SwitchView}
 use Rattle.pl_journal.specs.declared.cause.Cause.TheVariants.{BadArp, NotPlaced, Spent}
 use Rattle.pl_layouts.specs.Frames.{is_arp, packet_in}
 use Rattle.pl_layouts.specs.Memberships.{is_group, membership_in}
@@ -28,7 +28,7 @@ use Rattle.pl_switch_rule.specs.Levels.{becomes_edge, changes_to, finds_host, wi
 use Rattle.pl_switch_rule.specs.Messages.{answer_frame, flood_frame, floods, forgets_members, hears_manager, invalidates, probes, probes_at, sets_trap, takes_pod, hears_pod}
 use Rattle.pl_switch_rule.specs.SwitchRule.{comes_from_switch, data_comes}
 use Rattle.std.specs.Prelude.{unwrap_or}
-use Rattle.pl_core.specs.declared.messages.TreePart.{TreePart}
+use Rattle.pl_logic.specs.declared.messages.TreePart.{TreePart}
 use Rattle.pl_manager_rule.specs.Histories.{link_said, members_said, place_said}
 use Rattle.pl_switch_rule.specs.Messages.{with_part}
 use Rattle.pl_control_plane.specs.ControlPlanes.{tells}
@@ -37,9 +37,9 @@ use Rattle.std.proofs.Common.{length, inl, inr, get_or-set_same, get_or-set_othe
 use Rattle.std.proofs.lemmas.Bool.{cases_eq, cases_lt}
 use Rattle.std.proofs.lemmas.List.{get_or_past}
 use Rattle.pl_frame.specs.declared.address.SwitchId.{SwitchId}
-use Rattle.pl_core.specs.declared.neighbour.Neighbour.{Neighbour}
-use Rattle.pl_core.specs.declared.neighbour.PortRecord.{PortRecord}
-use Rattle.pl_core.specs.PortRecords.{heard_id, id_at, is_usable, new_port}
+use Rattle.pl_logic.specs.declared.neighbour.Neighbour.{Neighbour}
+use Rattle.pl_logic.specs.declared.neighbour.PortRecord.{PortRecord}
+use Rattle.pl_logic.specs.PortRecords.{heard_id, id_at, is_usable, new_port}
 use Rattle.pl_records.proofs.Linking.{IsOnlyAt, IsTold, either_told, still_told, then_told, unheard}
 use Rattle.pl_records.proofs.Telling.{AreUnsaid, IsStill, does_still, either_still, groups_are_told, groups_no_link, groups_no_place, rests_still, step_still, then_still, unsaid_if}
 use Rattle.pl_records.proofs.Passing.{arrives_home_still, changes_right, forwards_group_still, forwards_still, grants_or_learns_still, makes_still}

@@ -7,13 +7,13 @@ use Rattle.pl_frame.specs.declared.address.SwitchId.{SwitchId}
 use Rattle.pl_layouts.specs.Equality.{same_switch}
 use Rattle.pl_layouts.specs.Placement.{is_known, same_place}
 use Rattle.pl_journal.specs.Places.{are_alike}
-use Rattle.pl_core.specs.declared.acts.Act.{Act}
-use Rattle.pl_core.specs.declared.acts.Act.TheVariants.{Tell}
-use Rattle.pl_core.specs.declared.messages.ToManager.TheVariants.{PodWanted, Place as TellPlace}
-use Rattle.pl_core.specs.declared.neighbour.Neighbour.{Neighbour}
-use Rattle.pl_core.specs.PortRecords.{heard_echo, heard_id, id_at, is_id, is_usable, is_usable_record, new_port, port_of, ports_of_switch}
-use Rattle.pl_core.specs.SwitchViews.{SwitchView}
-use Rattle.pl_core.proofs.Among.{IsAmong}
+use Rattle.pl_logic.specs.declared.acts.Act.{Act}
+use Rattle.pl_logic.specs.declared.acts.Act.TheVariants.{Tell}
+use Rattle.pl_logic.specs.declared.messages.ToManager.TheVariants.{PodWanted, Place as TellPlace}
+use Rattle.pl_logic.specs.declared.neighbour.Neighbour.{Neighbour}
+use Rattle.pl_logic.specs.PortRecords.{heard_echo, heard_id, id_at, is_id, is_usable, is_usable_record, new_port, port_of, ports_of_switch}
+use Rattle.pl_logic.specs.SwitchViews.{SwitchView}
+use Rattle.pl_logic.proofs.Among.{IsAmong}
 use Rattle.pl_manager_rule.specs.Histories.{link_said}
 use Rattle.pl_manager_rule.proofs.Avoided.{same_is}
 use Rattle.pl_manager_rule.proofs.Speakers.{same_itself}

@@ -11,16 +11,16 @@ use Rattle.std.proofs.lemmas.Cmp.{nat_cmp_total, tied_itself}
 use Rattle.std.proofs.lemmas.Map.Lookups.{exact_unsigned}
 use Rattle.pl_frame.specs.declared.address.SwitchId.{SwitchId}
 use Rattle.pl_wiring.specs.Plan.{IsPlan}
-use Rattle.pl_core.specs.declared.messages.ToManager.{ToManager}
-use Rattle.pl_core.specs.declared.messages.ToSwitch.{ToSwitch}
-use Rattle.pl_core.specs.declared.messages.ToSwitch.TheVariants as say
-use Rattle.pl_core.specs.declared.messages.TreePart.{TreePart}
-use Rattle.pl_core.specs.AvoidLists.{avoid_list}
-use Rattle.pl_core.specs.ManagerViews.{ManagerView, value_at}
-use Rattle.pl_core.specs.SwitchFacts.{part_of}
-use Rattle.pl_core.specs.SwitchInputs.{SwitchInput}
-use Rattle.pl_core.specs.SwitchInputs.SwitchInput.{Comes, Says, Tick}
-use Rattle.pl_core.specs.Trees.{tree_part}
+use Rattle.pl_logic.specs.declared.messages.ToManager.{ToManager}
+use Rattle.pl_logic.specs.declared.messages.ToSwitch.{ToSwitch}
+use Rattle.pl_logic.specs.declared.messages.ToSwitch.TheVariants as say
+use Rattle.pl_logic.specs.declared.messages.TreePart.{TreePart}
+use Rattle.pl_logic.specs.AvoidLists.{avoid_list}
+use Rattle.pl_logic.specs.ManagerViews.{ManagerView, value_at}
+use Rattle.pl_logic.specs.SwitchFacts.{part_of}
+use Rattle.pl_logic.specs.SwitchInputs.{SwitchInput}
+use Rattle.pl_logic.specs.SwitchInputs.SwitchInput.{Comes, Says, Tick}
+use Rattle.pl_logic.specs.Trees.{tree_part}
 use Rattle.pl_manager_rule.specs.ManagerRule.{avoid_acts, manager_hears, manager_rule, part_in, reply, tree_acts, view_after}
 use Rattle.pl_manager_rule.proofs.History.{word_after}
 use Rattle.pl_manager_rule.proofs.Tables.{rising_put}

@@ -5,13 +5,13 @@ use Rattle.pl_frame.specs.declared.address.Mac.{Mac}
 use Rattle.pl_frame.specs.Ethernet.{destination_of, source_of, with_destination}
 use Rattle.pl_pmac.specs.declared.pmac.Pmac.{Pmac}
 use Rattle.pl_pmac.specs.Pmac.{mac_of, pmac_of}
-use Rattle.pl_core.specs.declared.acts.Act.TheVariants.{Make, Pass, Redirect, Tell}
-use Rattle.pl_core.specs.declared.messages.ToManager.TheVariants.{Learned}
-use Rattle.pl_core.specs.declared.switch_records.Grant.{Grant}
-use Rattle.pl_core.specs.declared.switch_records.Source.{Source}
-use Rattle.pl_core.specs.declared.trap.Trap.{Trap}
-use Rattle.pl_core.specs.PortRecords.{ports_of_switch}
-use Rattle.pl_core.specs.SwitchViews.{SwitchView}
+use Rattle.pl_logic.specs.declared.acts.Act.TheVariants.{Make, Pass, Redirect, Tell}
+use Rattle.pl_logic.specs.declared.messages.ToManager.TheVariants.{Learned}
+use Rattle.pl_logic.specs.declared.switch_records.Grant.{Grant}
+use Rattle.pl_logic.specs.declared.switch_records.Source.{Source}
+use Rattle.pl_logic.specs.declared.trap.Trap.{Trap}
+use Rattle.pl_logic.specs.PortRecords.{ports_of_switch}
+use Rattle.pl_logic.specs.SwitchViews.{SwitchView}
 use Rattle.pl_journal.specs.declared.cause.Cause.{Cause}
 use Rattle.pl_layouts.specs.declared.place.Place.{Place}
 use Rattle.pl_layouts.specs.Frames.{is_arp}
@@ -30,7 +30,7 @@ use Rattle.pl_switch_rule.specs.Intake.{has_member_of}
 use Rattle.pl_switch_rule.specs.Telling.{changes_told}
 use Rattle.pl_control_plane.specs.ControlPlanes.{tells}
 use Rattle.pl_records.specs.Words.{last_said}
-use Rattle.pl_core.specs.PortRecords.{heard_id, id_at, is_usable, new_port}
+use Rattle.pl_logic.specs.PortRecords.{heard_id, id_at, is_usable, new_port}
 use Rattle.pl_records.proofs.Telling.{AreUnsaid, IsStill, does_still, either_still, rests_still, said_more, step_still, then_still, told_no_members, told_place, unsaid_map}
 use Rattle.pl_records.proofs.Linking.{IsTold, only_same, told_link, told_no_other, usable_same}
 

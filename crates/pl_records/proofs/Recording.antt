@@ -7,10 +7,10 @@ use Rattle.pl_frame.specs.declared.address.SwitchId.{SwitchId}
 use Rattle.pl_layouts.specs.Equality.{same_switch}
 use Rattle.pl_layouts.specs.Placement.{nowhere}
 use Rattle.pl_wiring.specs.Plan.{IsPlan, Plan}
-use Rattle.pl_core.specs.declared.messages.ToManager.{ToManager}
-use Rattle.pl_core.specs.declared.messages.ToManager.TheVariants as tell
-use Rattle.pl_core.specs.ManagerViews.{ManagerView, id_cmp, is_told_usable, link_cmp, members_cmp, place_of, value_at}
-use Rattle.pl_core.proofs.Among.{id_total}
+use Rattle.pl_logic.specs.declared.messages.ToManager.{ToManager}
+use Rattle.pl_logic.specs.declared.messages.ToManager.TheVariants as tell
+use Rattle.pl_logic.specs.ManagerViews.{ManagerView, id_cmp, is_told_usable, link_cmp, members_cmp, place_of, value_at}
+use Rattle.pl_logic.proofs.Among.{id_total}
 use Rattle.pl_manager_rule.specs.Histories.{link_said, members_said, place_said}
 use Rattle.pl_manager_rule.specs.ManagerRule.{view_after}
 use Rattle.pl_manager_rule.proofs.Avoided.{id_exact, same_is}

@@ -6,11 +6,11 @@ use Rattle.pl_frame.specs.declared.address.SwitchId.{SwitchId}
 use Rattle.pl_layouts.specs.Placement.{nowhere}
 use Rattle.pl_wiring.specs.Labels.{switch_count}
 use Rattle.pl_wiring.specs.Plan.{Plan}
-use Rattle.pl_core.specs.HostDuties.{HostsSendData}
-use Rattle.pl_core.specs.HostInputs.{HostRule}
-use Rattle.pl_core.specs.ManagerViews.{booted_manager}
-use Rattle.pl_core.specs.SwitchFacts.{switch_at_boot}
-use Rattle.pl_core.specs.SwitchViews.{SwitchView}
+use Rattle.pl_logic.specs.HostDuties.{HostsSendData}
+use Rattle.pl_logic.specs.HostInputs.{HostRule}
+use Rattle.pl_logic.specs.ManagerViews.{booted_manager}
+use Rattle.pl_logic.specs.SwitchFacts.{switch_at_boot}
+use Rattle.pl_logic.specs.SwitchViews.{SwitchView}
 use Rattle.pl_manager_rule.specs.Histories.{members_said, place_said}
 use Rattle.pl_manager_rule.specs.ManagerRule.{manager_rule}
 use Rattle.pl_switch_rule.specs.Intake.{has_member_of}

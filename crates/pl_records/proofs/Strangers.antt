@@ -9,13 +9,13 @@ use Rattle.pl_wiring.specs.declared.link.Peer.TheVariants.{HostPort, Switch}
 use Rattle.pl_wiring.specs.Labels.{switch_count}
 use Rattle.pl_wiring.specs.Peers.{peer_of}
 use Rattle.pl_wiring.specs.Plan.{IsPlan, Plan}
-use Rattle.pl_core.specs.declared.messages.ToManager.{ToManager}
-use Rattle.pl_core.specs.ManagerViews.{is_told_usable}
-use Rattle.pl_core.specs.PortRecords.{id_at, is_id, ports_of_switch}
-use Rattle.pl_core.specs.SwitchInputs.SwitchInput.{Comes, Says, Tick}
-use Rattle.pl_core.specs.SwitchInputs.{SwitchInput}
-use Rattle.pl_core.specs.SwitchViews.{SwitchView}
-use Rattle.pl_core.proofs.Among.{IsAmong, any_among}
+use Rattle.pl_logic.specs.declared.messages.ToManager.{ToManager}
+use Rattle.pl_logic.specs.ManagerViews.{is_told_usable}
+use Rattle.pl_logic.specs.PortRecords.{id_at, is_id, ports_of_switch}
+use Rattle.pl_logic.specs.SwitchInputs.SwitchInput.{Comes, Says, Tick}
+use Rattle.pl_logic.specs.SwitchInputs.{SwitchInput}
+use Rattle.pl_logic.specs.SwitchViews.{SwitchView}
+use Rattle.pl_logic.proofs.Among.{IsAmong, any_among}
 use Rattle.pl_manager_rule.specs.Histories.{link_said}
 use Rattle.pl_manager_rule.specs.ManagerRule.{manager_hears, manager_rule, view_after}
 use Rattle.pl_switch_rule.specs.SwitchRule.{Loose, switch_step}

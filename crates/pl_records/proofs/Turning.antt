@@ -12,14 +12,14 @@ use Rattle.pl_layouts.specs.declared.place.Place.{Place}
 use Rattle.pl_layouts.specs.Control.{control_in, is_control}
 use Rattle.pl_layouts.specs.Placement.{is_known}
 use Rattle.pl_layouts.specs.Votes.{counts, gives_way}
-use Rattle.pl_core.specs.declared.acts.Act.TheVariants.{Control as ControlAct}
-use Rattle.pl_core.specs.declared.messages.TreePart.{TreePart}
-use Rattle.pl_core.specs.Announcements.{announcement}
-use Rattle.pl_core.specs.PortRecords.{aged, heard_id, id_at, is_usable, new_port, place_at, port_of, ports_where}
-use Rattle.pl_core.specs.SwitchFacts.{hold_at}
-use Rattle.pl_core.specs.SwitchInputs.{SwitchInput}
-use Rattle.pl_core.specs.SwitchInputs.SwitchInput.{Comes, Says, Tick}
-use Rattle.pl_core.specs.SwitchViews.{SwitchView}
+use Rattle.pl_logic.specs.declared.acts.Act.TheVariants.{Control as ControlAct}
+use Rattle.pl_logic.specs.declared.messages.TreePart.{TreePart}
+use Rattle.pl_logic.specs.Announcements.{announcement}
+use Rattle.pl_logic.specs.PortRecords.{aged, heard_id, id_at, is_usable, new_port, place_at, port_of, ports_where}
+use Rattle.pl_logic.specs.SwitchFacts.{hold_at}
+use Rattle.pl_logic.specs.SwitchInputs.{SwitchInput}
+use Rattle.pl_logic.specs.SwitchInputs.SwitchInput.{Comes, Says, Tick}
+use Rattle.pl_logic.specs.SwitchViews.{SwitchView}
 use Rattle.pl_manager_rule.specs.Histories.{link_said, members_said, place_said}
 use Rattle.pl_steps.specs.Steps.{SwitchStep, rests}
 use Rattle.pl_switch_rule.specs.Announcing.{announcements, announces_at, proposal, proposes_at, ticks, with_aged_ports}
@@ -31,7 +31,7 @@ use Rattle.pl_switch_rule.specs.SwitchRule.{control_comes, data_comes, hears_con
 use Rattle.pl_switch_rule.specs.Telling.{changes_told}
 use Rattle.pl_control_plane.specs.ControlPlanes.{tells}
 use Rattle.pl_records.specs.Words.{avoid_said, last_said}
-use Rattle.pl_core.specs.declared.neighbour.PortRecord.{PortRecord}
+use Rattle.pl_logic.specs.declared.neighbour.PortRecord.{PortRecord}
 use Rattle.pl_records.proofs.Telling.{AreUnsaid, IsStill, either_still, rests_still, said_more, step_still, told_no_members, told_place, unsaid_append, unsaid_map, unsaid_words}
 use Rattle.pl_records.proofs.Linking.{IsOnlyAt, IsTold, either_told, still_told, told_link, told_no_other, unheard}
 use Rattle.pl_records.proofs.Last.{last_silent, silent_link, silent_members, silent_place}

@@ -10,11 +10,11 @@ use Rattle.pl_wiring.specs.declared.link.Peer.{Peer}
 use Rattle.pl_wiring.specs.declared.link.Peer.TheVariants.{HostPort, Switch}
 use Rattle.pl_wiring.specs.Peers.{peer_of}
 use Rattle.pl_wiring.specs.Plan.{Plan}
-use Rattle.pl_core.specs.AvoidLists.{avoid_list}
-use Rattle.pl_core.specs.ManagerViews.{Members, is_told_usable, members_cmp, place_of, value_at}
-use Rattle.pl_core.specs.PortRecords.{id_at, is_id, is_usable, ports_of_switch}
-use Rattle.pl_core.specs.SwitchFacts.{part_of}
-use Rattle.pl_core.specs.Trees.{tree_part}
+use Rattle.pl_logic.specs.AvoidLists.{avoid_list}
+use Rattle.pl_logic.specs.ManagerViews.{Members, is_told_usable, members_cmp, place_of, value_at}
+use Rattle.pl_logic.specs.PortRecords.{id_at, is_id, is_usable, ports_of_switch}
+use Rattle.pl_logic.specs.SwitchFacts.{part_of}
+use Rattle.pl_logic.specs.Trees.{tree_part}
 use Rattle.pl_manager_rule.specs.Histories.{link_said, members_said, place_said}
 use Rattle.pl_switch_rule.specs.Intake.{has_member_of}
 use Rattle.pl_control_plane.specs.ControlPlanes.{AreJoined, ControlPlane}

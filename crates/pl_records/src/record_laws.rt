@@ -14,7 +14,7 @@ ghost use Rattle.pl_control_plane.specs.ControlPlanes.{ControlPlane, control_pla
 ghost use Rattle.pl_control_plane.specs.HostsAtEdges.{HostsAtEdges};
 ghost use Rattle.pl_records.specs.Records.{AreCurrent, HaveOrders, HaveReported, HaveToldLinks, HaveToldNeighbours, IsAtRest, LinksAreCurrent, LinksAreOfNeighbours, NamesNeighbours};
 
-use pl_core::HostCore;
+use pl_logic::HostLogic;
 
 /// At the beginning nothing was told, and there is nothing to tell.
 pub fn the_records_begin_current()
@@ -24,27 +24,27 @@ pub fn the_records_begin_current()
 
 /// Each step keeps it that the last report of each switch on its place and its members says what the switch
 /// would tell now.
-pub fn each_step_keeps_reports<H: HostCore>()
+pub fn each_step_keeps_reports<H: HostLogic>()
     ensures { (old : WorldView) (event : Event) (new : WorldView) → IsCounted old → HostsAtEdges old → refusal old event ≡ None →
         WorldStep Loose manager_rule H.rule old event new → HaveReported (control_plane old) → HaveReported (control_plane new) }
 {}
 
 /// Each step keeps it that the last avoid list and the last tree parts that each switch was sent are those of
 /// the manager's records.
-pub fn each_step_keeps_orders<H: HostCore>()
+pub fn each_step_keeps_orders<H: HostLogic>()
     ensures { (old : WorldView) (event : Event) (new : WorldView) → IsCounted old → HostsAtEdges old → refusal old event ≡ None →
         WorldStep Loose manager_rule H.rule old event new → HaveOrders (control_plane old) → HaveOrders (control_plane new) }
 {}
 
 /// So in every run from the beginning the last report of each switch is what it would tell now.
-pub fn reports_are_kept_in_every_run<H: HostCore>()
+pub fn reports_are_kept_in_every_run<H: HostLogic>()
     ensures { (plan : Plan) (limits : Limits) (moments : List Moment) (new : WorldView) → CanBegin plan →
         WorldRun Loose manager_rule H.rule (booted plan limits) moments new → HaveReported (control_plane new) }
 {}
 
 /// And in every run the last avoid list and the last tree parts that each switch was sent are those of the
 /// manager's records.
-pub fn orders_are_of_the_records_in_every_run<H: HostCore>()
+pub fn orders_are_of_the_records_in_every_run<H: HostLogic>()
     ensures { (plan : Plan) (limits : Limits) (moments : List Moment) (new : WorldView) → CanBegin plan →
         WorldRun Loose manager_rule H.rule (booted plan limits) moments new → HaveOrders (control_plane new) }
 {}
@@ -62,14 +62,14 @@ pub fn the_links_begin_current()
 
 /// Each step keeps it that the last report of a switch on its link to another says whether its port is usable,
 /// where after it the switches name their neighbours as the wiring has them.
-pub fn each_step_keeps_links<H: HostCore>()
+pub fn each_step_keeps_links<H: HostLogic>()
     ensures { (old : WorldView) (event : Event) (new : WorldView) → IsCounted old → HostsAtEdges old → NamesNeighbours (control_plane new) →
         refusal old event ≡ None → WorldStep Loose manager_rule H.rule old event new →
         HaveToldLinks (control_plane old) → HaveToldLinks (control_plane new) }
 {}
 
 /// So in every run from the beginning it says that.
-pub fn links_are_told_in_every_run<H: HostCore>()
+pub fn links_are_told_in_every_run<H: HostLogic>()
     ensures { (plan : Plan) (limits : Limits) (moments : List Moment) (new : WorldView) → CanBegin plan →
         WorldRun Loose manager_rule H.rule (booted plan limits) moments new → HaveToldLinks (control_plane new) }
 {}
@@ -81,7 +81,7 @@ pub fn usable_pairs_are_current_at_rest()
 
 /// In every run the last report of a switch on its link to another one says that it is not usable, where the
 /// wiring does not join the two.
-pub fn links_to_neighbours_alone_are_told_usable_in_every_run<H: HostCore>()
+pub fn links_to_neighbours_alone_are_told_usable_in_every_run<H: HostLogic>()
     ensures { (plan : Plan) (limits : Limits) (moments : List Moment) (new : WorldView) → CanBegin plan →
         WorldRun Loose manager_rule H.rule (booted plan limits) moments new → HaveToldNeighbours (control_plane new) }
 {}

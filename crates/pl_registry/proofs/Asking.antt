@@ -6,7 +6,7 @@ use Rattle.std.specs.Map.{keys_of, lookup}
 use Rattle.std.proofs.lemmas.List.{map-append, reverse-append}
 use Rattle.pl_frame.specs.declared.address.SwitchId.{SwitchId}
 use Rattle.pl_layouts.specs.Equality.{same_switch}
-use Rattle.pl_core.specs.ManagerViews.{PodGiven, pod_given, pods_given}
+use Rattle.pl_logic.specs.ManagerViews.{PodGiven, pod_given, pods_given}
 use Rattle.pl_manager_rule.specs.ManagerRule.{with_asker}
 use Rattle.pl_registry.specs.Askers.{AreGiven}
 

@@ -10,7 +10,7 @@ use Rattle.pl_frame.specs.declared.address.Mac.{Mac}
 use Rattle.pl_pmac.specs.declared.pmac.Pmac.{Pmac}
 use Rattle.pl_pmac.specs.contracts.pmac.PmacPartialEq.TheImpl.{eq-value}
 use Rattle.pl_layouts.specs.Equality.{same_mac, same_pmac}
-use Rattle.pl_core.specs.ManagerViews.{LearntAddress, Registration, numbered}
+use Rattle.pl_logic.specs.ManagerViews.{LearntAddress, Registration, numbered}
 use Rattle.pl_manager_rule.specs.ManagerRule.{told_again, with_address}
 use Rattle.pl_manager_rule.proofs.HeardSwitches.{same_numbers}
 use Rattle.pl_manager_rule.proofs.Kept.{pmac_is}

@@ -9,8 +9,8 @@ use Rattle.std.proofs.lemmas.Bool.{eq-eqb, eqb-true, false≢true}
 use Rattle.std.proofs.lemmas.Cmp.{nat_eq_equiv, tied_itself}
 use Rattle.pl_frame.specs.declared.address.Ip4.{Ip4}
 use Rattle.pl_pmac.specs.declared.pmac.Pmac.{Pmac}
-use Rattle.pl_core.specs.HostViews.{ip_cmp}
-use Rattle.pl_core.specs.ManagerViews.{value_at}
+use Rattle.pl_logic.specs.HostViews.{ip_cmp}
+use Rattle.pl_logic.specs.ManagerViews.{value_at}
 use Rattle.pl_manager_rule.proofs.History.{value_after}
 use Rattle.pl_manager_rule.proofs.Kept.{ip_exact, ip_total}
 use Rattle.pl_manager_rule.proofs.Tables.{rising_put}

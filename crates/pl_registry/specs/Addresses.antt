@@ -5,7 +5,7 @@ use Rattle.std.specs.Option.{option_map}
 use Rattle.pl_frame.specs.declared.address.Mac.{Mac}
 use Rattle.pl_pmac.specs.declared.pmac.Pmac.{Pmac}
 use Rattle.pl_layouts.specs.Equality.{same_mac, same_pmac}
-use Rattle.pl_core.specs.ManagerViews.{LearntAddress, Registration, numbered}
+use Rattle.pl_logic.specs.ManagerViews.{LearntAddress, Registration, numbered}
 use Rattle.pl_registry.specs.declared.addresses.Known.{Known}
 use Rattle.pl_registry.specs.declared.addresses.Registered.{Registered}
 

@@ -1,10 +1,10 @@
 ghost use Rattle.std.specs.Prelude.{◌≡◌, ◌<◌, [], IfOk, OnErr, OnOk, length, unwrap_or};
-ghost use Rattle.pl_core.specs.ManagerViews.{pod_given, pods_given};
+ghost use Rattle.pl_logic.specs.ManagerViews.{pod_given, pods_given};
 ghost use Rattle.pl_manager_rule.specs.ManagerRule.{with_asker};
 
 use indexmap::IndexMap;
-use pl_core::Memory;
 use pl_frame::SwitchId;
+use pl_logic::Memory;
 use std::alloc::Global;
 use std::marker::Model;
 

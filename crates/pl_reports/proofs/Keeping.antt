@@ -4,7 +4,7 @@ use Rattle.std.specs.BTreeMap.{insert_entry}
 use Rattle.std.specs.BTreeSet.{insert_key}
 use Rattle.pl_frame.specs.declared.address.SwitchId.{SwitchId}
 use Rattle.pl_layouts.specs.declared.place.Place.{Place}
-use Rattle.pl_core.specs.ManagerViews.{Told, alive_neighbours, edge_at, id_cmp, link_cmp, neighbours, placed_edges, switches}
+use Rattle.pl_logic.specs.ManagerViews.{Told, alive_neighbours, edge_at, id_cmp, link_cmp, neighbours, placed_edges, switches}
 use Rattle.pl_manager_rule.specs.ManagerRule.{with_link}
 use Rattle.pl_reports.specs.Kept.{IsKeptFor, living_by, near_of, with_edge, with_ends, with_neighbour}
 use Rattle.pl_reports.proofs.Liveness.{living_linked}

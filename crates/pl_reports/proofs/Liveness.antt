@@ -8,8 +8,8 @@ use Rattle.std.specs.BTreeMap.{insert_entry, is_at}
 use Rattle.std.proofs.lemmas.Bool.{and_parts, false≢true, or_cases}
 use Rattle.std.proofs.lemmas.Cmp.{tied_itself}
 use Rattle.pl_frame.specs.declared.address.SwitchId.{SwitchId}
-use Rattle.pl_core.specs.ManagerViews.{Told, alive_neighbours, id_cmp, is_alive, is_told_usable, link_cmp, neighbours, value_at}
-use Rattle.pl_core.proofs.Among.{IsAmong, among_filter, among_filtered, among_in_order, any_among, id_total}
+use Rattle.pl_logic.specs.ManagerViews.{Told, alive_neighbours, id_cmp, is_alive, is_told_usable, link_cmp, neighbours, value_at}
+use Rattle.pl_logic.proofs.Among.{IsAmong, among_filter, among_filtered, among_in_order, any_among, id_total}
 use Rattle.pl_manager_rule.specs.ManagerRule.{with_link}
 use Rattle.pl_manager_rule.proofs.Avoided.{id_exact}
 use Rattle.pl_manager_rule.proofs.History.{value_after}

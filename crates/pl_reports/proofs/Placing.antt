@@ -13,8 +13,8 @@ use Rattle.pl_frame.specs.declared.address.SwitchId.{SwitchId}
 use Rattle.pl_layouts.specs.declared.place.Place.{Place}
 use Rattle.pl_layouts.specs.Equality.{same_switch}
 use Rattle.pl_layouts.specs.Placement.{nowhere}
-use Rattle.pl_core.specs.ManagerViews.{PlacedEdge, Told, edge_at, edge_with, id_cmp, place_of, placed_edges, switches, tellers, value_at}
-use Rattle.pl_core.proofs.Among.{IsAmong, among_filter, among_filtered, among_in_order, among_insert, among_left, id_total, rising_inserted}
+use Rattle.pl_logic.specs.ManagerViews.{PlacedEdge, Told, edge_at, edge_with, id_cmp, place_of, placed_edges, switches, tellers, value_at}
+use Rattle.pl_logic.proofs.Among.{IsAmong, among_filter, among_filtered, among_in_order, among_insert, among_left, id_total, rising_inserted}
 use Rattle.pl_manager_rule.specs.ManagerRule.{with_link, with_place}
 use Rattle.pl_manager_rule.proofs.Avoided.{id_exact, same_is, switches_rise}
 use Rattle.pl_manager_rule.proofs.History.{value_after}

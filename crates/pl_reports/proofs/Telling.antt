@@ -12,8 +12,8 @@ use Rattle.std.proofs.lemmas.Map.Lookups.{CmpEqualImpliesEq, exact_pairs}
 use Rattle.pl_frame.specs.declared.address.SwitchId.{SwitchId}
 use Rattle.pl_layouts.specs.declared.place.Place.{Place}
 use Rattle.pl_layouts.specs.Equality.{same_switch}
-use Rattle.pl_core.specs.ManagerViews.{Told, id_cmp, link_cmp, neighbours, switches, tellers, value_at}
-use Rattle.pl_core.proofs.Among.{IsAmong, among_append, among_filter, among_filtered, among_left, among_map, among_mapped, among_right, id_total}
+use Rattle.pl_logic.specs.ManagerViews.{Told, id_cmp, link_cmp, neighbours, switches, tellers, value_at}
+use Rattle.pl_logic.proofs.Among.{IsAmong, among_append, among_filter, among_filtered, among_left, among_map, among_mapped, among_right, id_total}
 use Rattle.pl_manager_rule.specs.ManagerRule.{with_link, with_place}
 use Rattle.pl_manager_rule.proofs.Avoided.{id_exact, same_is}
 use Rattle.pl_manager_rule.proofs.Speakers.{same_itself}

@@ -11,7 +11,7 @@ use Rattle.pl_inputs.specs.Inputs.{AreRead, Inputs}
 use Rattle.pl_inputs.specs.Records.{Recorded, records_in_file, tail_of_file}
 use Rattle.pl_inputs.specs.Unread.{IsUnread}
 use Rattle.pl_inputs.specs.Words.{Asked}
-use Rattle.pl_core.specs.HostViews.{held_count}
+use Rattle.pl_logic.specs.HostViews.{held_count}
 use Rattle.pl_host_rule.specs.HostRule.{host_rule}
 use Rattle.pl_manager_rule.specs.ManagerRule.{manager_rule}
 use Rattle.pl_switch_rule.specs.SwitchRule.{Exact}

@@ -6,17 +6,17 @@ ghost use Rattle.pl_lines.specs.declared.stop.Stop.TheVariants as stop;
 ghost use Rattle.pl_run.specs.Answers.{held_at, outcome, rests_from};
 ghost use Rattle.pl_run.specs.Plays.{IsPlayedOver, IsPlayedTo, IsUnplayed, summary_by};
 
-use pl_core::HostCore;
 use pl_frame::Memory;
 use pl_host::Host;
 use pl_inputs::{Capture, Inputs, Status, StepReason};
 use pl_lines::{Stop, a_script_is_a_run, hosts_do_what_is_asked};
+use pl_logic::HostLogic;
 use pl_manager::Manager;
 use pl_network::{each_run_keeps_the_wiring, every_entry_can_be_saved};
 use pl_output::summary::{Rest, summary};
 use pl_player::{Player, Stopped};
 use pl_tables::TableSwitch;
-use pl_theorem::lawful_cores_are_one_switch;
+use pl_theorem::lawful_logic_is_one_switch;
 use pl_wiring::HostNo;
 use pl_world::{Limits, StepError};
 use std::alloc::Global;
@@ -40,7 +40,7 @@ pub(crate) fn play(alloc: Global, inputs: Inputs) -> Result<Played, Status>
     hosts_do_what_is_asked::<TableSwitch, Manager, Host>();
     every_entry_can_be_saved::<TableSwitch, Manager, Host>();
     each_run_keeps_the_wiring::<TableSwitch, Manager, Host>();
-    lawful_cores_are_one_switch::<TableSwitch, Manager, Host>();
+    lawful_logic_is_one_switch::<TableSwitch, Manager, Host>();
     // The laws are of plans, and the wiring's is one.
     let _hosts = inputs.wiring.hosts();
     play_script(alloc, inputs)

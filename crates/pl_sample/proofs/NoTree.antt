@@ -2,9 +2,9 @@
 use Rattle.std.proofs.Common.{◌≡◌, ℕ, ◌==◌, Bool, true, false, if◌then◌else◌, [], map, None, refl, ap}
 use Rattle.std.specs.Option.{option_and_then}
 use Rattle.pl_frame.specs.declared.address.SwitchId.{SwitchId}
-use Rattle.pl_core.specs.ManagerViews.{Told, placed_edges, with_members}
+use Rattle.pl_logic.specs.ManagerViews.{Told, placed_edges, with_members}
 use Rattle.pl_layouts.specs.Memberships.{flood}
-use Rattle.pl_core.specs.Trees.{core_for, core_of, part_under, tree_part}
+use Rattle.pl_logic.specs.Trees.{core_for, core_of, part_under, tree_part}
 
 -- what a manager knows at boot
 abbrev nothing : Told

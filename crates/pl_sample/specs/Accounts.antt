@@ -2,14 +2,14 @@
 use Rattle.std.proofs.Common.{◌≡◌, ℕ, ◌+◌, Bool, true, false, if◌then◌else◌, List, [], ◌∷◌, refl, sym, ap, subst}
 use Rattle.std.proofs.Math.Nat.{le-add_right, le_trans, mod-lt}
 use Rattle.std.specs.List.{AllByRecursion}
-use Rattle.pl_core.specs.declared.acts.Act.{Act}
-use Rattle.pl_core.specs.declared.acts.Act.TheVariants.{Pass, Tell}
-use Rattle.pl_core.specs.Accounting.{AccountsForFrames, CanCome, IsAccounted, IsFit, IsShaped, IsWhole, is_said, speech}
-use Rattle.pl_core.specs.Accounting.Speech.{Passed, Silent, Waiting}
+use Rattle.pl_logic.specs.declared.acts.Act.{Act}
+use Rattle.pl_logic.specs.declared.acts.Act.TheVariants.{Pass, Tell}
+use Rattle.pl_logic.specs.Accounting.{AccountsForFrames, CanCome, IsAccounted, IsFit, IsShaped, IsWhole, is_said, speech}
+use Rattle.pl_logic.specs.Accounting.Speech.{Passed, Silent, Waiting}
 use Rattle.pl_layouts.specs.Control.{is_control}
-use Rattle.pl_core.specs.SwitchInputs.{SwitchInput}
-use Rattle.pl_core.specs.SwitchInputs.SwitchInput.{Comes, Says, Tick}
-use Rattle.pl_core.specs.SwitchViews.{SwitchView}
+use Rattle.pl_logic.specs.SwitchInputs.{SwitchInput}
+use Rattle.pl_logic.specs.SwitchInputs.SwitchInput.{Comes, Says, Tick}
+use Rattle.pl_logic.specs.SwitchViews.{SwitchView}
 use Rattle.pl_sample.specs.Asking.{AsksForPods, asked}
 use Rattle.pl_sample.specs.Passing.{PassesNext, PassesTwo, passed_next, passed_two, port_after}
 

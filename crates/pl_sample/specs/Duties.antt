@@ -4,18 +4,18 @@ use Rattle.std.proofs.Math.Nat.{le-add_right}
 use Rattle.std.proofs.lemmas.Bool.{or_right}
 use Rattle.std.specs.List.{filter_map, list_all}
 use Rattle.pl_frame.specs.declared.address.SwitchId.{SwitchId}
-use Rattle.pl_core.specs.declared.acts.HostAct.{HostAct}
+use Rattle.pl_logic.specs.declared.acts.HostAct.{HostAct}
 use Rattle.pl_layouts.specs.Equality.{same_switch}
 use Rattle.pl_host_rule.specs.HostRule.{HostStep}
-use Rattle.pl_core.specs.HostDuties.{HoldsData, HoldsOwn, HostsJoinBySending, HostsKeepFrames, HostsSendData, HostsSendOwn, JoinsBySending, SendsData, SendsOwn}
-use Rattle.pl_core.specs.HostInputs.{HostAnswer, HostInput}
-use Rattle.pl_core.specs.HostInputs.HostAnswer.{Received}
-use Rattle.pl_core.specs.HostInputs.HostInput.{HasMoved, Joins, Leaves, Plays, PlaysRaw, Receives, Retries, Starts}
-use Rattle.pl_core.specs.HostViews.{HostView}
-use Rattle.pl_core.specs.ManagerDuties.{AnswersDuly, IsGrown, is_for_heard, numbered_by, with_number}
-use Rattle.pl_core.specs.ManagerViews.{ManagerView, is_heard, registry}
-use Rattle.pl_core.specs.declared.reception.Reception.{Reception}
-use Rattle.pl_core.specs.declared.reception.Reception.TheVariants.{Kept}
+use Rattle.pl_logic.specs.HostDuties.{HoldsData, HoldsOwn, HostsJoinBySending, HostsKeepFrames, HostsSendData, HostsSendOwn, JoinsBySending, SendsData, SendsOwn}
+use Rattle.pl_logic.specs.HostInputs.{HostAnswer, HostInput}
+use Rattle.pl_logic.specs.HostInputs.HostAnswer.{Received}
+use Rattle.pl_logic.specs.HostInputs.HostInput.{HasMoved, Joins, Leaves, Plays, PlaysRaw, Receives, Retries, Starts}
+use Rattle.pl_logic.specs.HostViews.{HostView}
+use Rattle.pl_logic.specs.ManagerDuties.{AnswersDuly, IsGrown, is_for_heard, numbered_by, with_number}
+use Rattle.pl_logic.specs.ManagerViews.{ManagerView, is_heard, registry}
+use Rattle.pl_logic.specs.declared.reception.Reception.{Reception}
+use Rattle.pl_logic.specs.declared.reception.Reception.TheVariants.{Kept}
 use Rattle.pl_host_rule.proofs.HostOwn as own
 use Rattle.pl_host_rule.proofs.HostSends.{joins_by_sending, owes_sends}
 use Rattle.pl_sample.specs.Sending.{SendsOneFrame, one_frame_step}

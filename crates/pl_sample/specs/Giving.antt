@@ -4,13 +4,13 @@ use Rattle.std.proofs.lemmas.Bool.{and_from, or_left}
 use Rattle.std.proofs.lemmas.Bool.Decides.{Decides-eqb}
 use Rattle.std.specs.List.{filter_map, list_all}
 use Rattle.pl_frame.specs.declared.address.SwitchId.{SwitchId}
-use Rattle.pl_core.specs.declared.acts.ManagerAct.{ManagerAct}
-use Rattle.pl_core.specs.declared.acts.ManagerAct.TheVariants.{Say}
-use Rattle.pl_core.specs.declared.messages.ToManager.{ToManager}
-use Rattle.pl_core.specs.declared.messages.ToManager.TheVariants.{PodWanted}
-use Rattle.pl_core.specs.declared.messages.ToSwitch.TheVariants.{Pod}
-use Rattle.pl_core.specs.ManagerDuties.{AnswersDuly, IsGrown, ManagerRule, is_for_heard, numbered_by, with_number}
-use Rattle.pl_core.specs.ManagerViews.{ManagerView, is_heard, registry}
+use Rattle.pl_logic.specs.declared.acts.ManagerAct.{ManagerAct}
+use Rattle.pl_logic.specs.declared.acts.ManagerAct.TheVariants.{Say}
+use Rattle.pl_logic.specs.declared.messages.ToManager.{ToManager}
+use Rattle.pl_logic.specs.declared.messages.ToManager.TheVariants.{PodWanted}
+use Rattle.pl_logic.specs.declared.messages.ToSwitch.TheVariants.{Pod}
+use Rattle.pl_logic.specs.ManagerDuties.{AnswersDuly, IsGrown, ManagerRule, is_for_heard, numbered_by, with_number}
+use Rattle.pl_logic.specs.ManagerViews.{ManagerView, is_heard, registry}
 use Rattle.pl_layouts.specs.Equality.{same_switch}
 use Rattle.pl_sample.specs.Duties.{grown}
 

@@ -1,14 +1,14 @@
 -- Switches that pass each data frame on by their next ports, and do nothing else.
 use Rattle.std.specs.Prelude.{◌≡◌, ℕ, ◌+◌, ◌%◌, if◌then◌else◌, List, [], ◌∷◌}
 use Rattle.pl_frame.specs.declared.address.SwitchId.{SwitchId}
-use Rattle.pl_core.specs.declared.acts.Act.{Act}
-use Rattle.pl_core.specs.declared.acts.Act.TheVariants.{Pass}
-use Rattle.pl_core.specs.Announcements.{announcement}
+use Rattle.pl_logic.specs.declared.acts.Act.{Act}
+use Rattle.pl_logic.specs.declared.acts.Act.TheVariants.{Pass}
+use Rattle.pl_logic.specs.Announcements.{announcement}
 use Rattle.pl_layouts.specs.Control.{is_control}
-use Rattle.pl_core.specs.SwitchFacts.{switch_at_boot}
-use Rattle.pl_core.specs.SwitchInputs.{SwitchInput, SwitchRule}
-use Rattle.pl_core.specs.SwitchInputs.SwitchInput.{Comes}
-use Rattle.pl_core.specs.SwitchViews.{SwitchView}
+use Rattle.pl_logic.specs.SwitchFacts.{switch_at_boot}
+use Rattle.pl_logic.specs.SwitchInputs.{SwitchInput, SwitchRule}
+use Rattle.pl_logic.specs.SwitchInputs.SwitchInput.{Comes}
+use Rattle.pl_logic.specs.SwitchViews.{SwitchView}
 
 -- the port that is so many after a port; the first one comes after the last
 abbrev pub port_after : ℕ → ℕ → ℕ → ℕ

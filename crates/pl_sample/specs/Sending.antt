@@ -1,12 +1,12 @@
 -- A host that sends one frame when it starts.
 use Rattle.std.specs.Prelude.{◌≡◌, []}
 use Rattle.pl_journal.specs.declared.cause.Skip.TheVariants.{HoldFull}
-use Rattle.pl_core.specs.declared.reception.Reception.TheVariants.{Kept}
+use Rattle.pl_logic.specs.declared.reception.Reception.TheVariants.{Kept}
 use Rattle.pl_host_rule.specs.HostRule.{HostStep, skipping, starting, step_to}
-use Rattle.pl_core.specs.HostInputs.{HostInput, HostRule}
-use Rattle.pl_core.specs.HostInputs.HostAnswer.{Nothing, Received}
-use Rattle.pl_core.specs.HostInputs.HostInput.{Plays, PlaysRaw, Receives, Starts}
-use Rattle.pl_core.specs.HostViews.{HostView}
+use Rattle.pl_logic.specs.HostInputs.{HostInput, HostRule}
+use Rattle.pl_logic.specs.HostInputs.HostAnswer.{Nothing, Received}
+use Rattle.pl_logic.specs.HostInputs.HostInput.{Plays, PlaysRaw, Receives, Starts}
+use Rattle.pl_logic.specs.HostViews.{HostView}
 
 -- At start it asks for its own address. It has no room for a recorded frame, and keeps what arrives.
 abbrev pub one_frame_step : HostView → HostInput → HostStep

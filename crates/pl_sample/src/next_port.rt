@@ -1,16 +1,16 @@
 ghost use Rattle.std.specs.Prelude.{◌≡◌, ◌↔◌, ◌<◌, [], ◌∷◌, ◌++◌, IsTrue, OnOk};
-ghost use Rattle.pl_core.specs.declared.acts.Act.TheVariants.{Pass};
-ghost use Rattle.pl_core.specs.SwitchFacts.{CanBoot, IsAnnounced, switch_at_boot};
+ghost use Rattle.pl_logic.specs.declared.acts.Act.TheVariants.{Pass};
+ghost use Rattle.pl_logic.specs.SwitchFacts.{CanBoot, IsAnnounced, switch_at_boot};
 ghost use Rattle.pl_ldp.specs.Writable.{IsId};
 ghost use Rattle.pl_sample.specs.Passing.{PassesNext, first_announcement, port_after};
 ghost use Rattle.pl_sample.specs.Accounts.{passes_next_accounts};
 
-use pl_core::{Act, AvoidList, Outbox, PortRecord, SwitchCore, SwitchFacts, ToSwitch, TreePart};
 use pl_frame::{Frame, Memory, SwitchId};
 use pl_layouts::frames::is_control;
 use pl_layouts::{Control, Ldm, Place};
 use pl_ldp::write_control;
 use pl_lists::Rising;
+use pl_logic::{Act, AvoidList, Outbox, PortRecord, SwitchFacts, SwitchLogic, ToSwitch, TreePart};
 use std::alloc::Global;
 
 /// A switch that passes each data frame on by the next port, the first one after the last. It does
@@ -123,7 +123,7 @@ impl SwitchFacts for NextPort {
     }
 }
 
-impl SwitchCore for NextPort {
+impl SwitchLogic for NextPort {
     ghost rule = { PassesNext };
 
     ghost accounts = { passes_next_accounts };

@@ -1,15 +1,15 @@
 ghost use Rattle.std.specs.Prelude.{◌≡◌, IfOk};
 ghost use Rattle.pl_host_rule.specs.HostRule.{start_frame};
-ghost use Rattle.pl_core.specs.HostViews.{boot_host};
+ghost use Rattle.pl_logic.specs.HostViews.{boot_host};
 ghost use Rattle.pl_sample.specs.Duties.{joins_no_group, keeps_all, sends_data, sends_own};
 ghost use Rattle.pl_sample.specs.Sending.{SendsOneFrame};
 
 use pl_arp::{Arp, Me, REQUEST};
-use pl_core::{HostAct, HostCore, HostOutbox, HostTable, Reception};
 use pl_frame::{Frame, Ip4, Mac, Memory};
 use pl_journal::Skip;
 use pl_layouts::frames::{ARP_FRAME, arp_frame};
 use pl_lists::Items;
+use pl_logic::{HostAct, HostLogic, HostOutbox, HostTable, Reception};
 use std::alloc::Global;
 
 /// A host that sends one frame when it starts, the ARP request for its own address. It plays no
@@ -45,7 +45,7 @@ fn start_frame(me: Me) -> [u8; ARP_FRAME]
     arp_frame(Mac::BROADCAST, &arp)
 }
 
-impl HostCore for OneFrame {
+impl HostLogic for OneFrame {
     ghost view = { λ host. boot_host host.me host.table };
 
     ghost rule = { SendsOneFrame };

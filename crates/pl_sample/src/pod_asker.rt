@@ -1,14 +1,14 @@
 ghost use Rattle.std.specs.Prelude.{◌≡◌};
-ghost use Rattle.pl_core.specs.SwitchFacts.{switch_at_boot};
+ghost use Rattle.pl_logic.specs.SwitchFacts.{switch_at_boot};
 ghost use Rattle.pl_sample.specs.Accounts.{asks_for_pods_accounts};
 ghost use Rattle.pl_sample.specs.Asking.{AsksForPods};
 
 use crate::NextPort;
-use pl_core::{
-    Act, AvoidList, Outbox, PortRecord, SwitchCore, SwitchFacts, ToManager, ToSwitch, TreePart,
-};
 use pl_frame::{Memory, SwitchId};
 use pl_layouts::Place;
+use pl_logic::{
+    Act, AvoidList, Outbox, PortRecord, SwitchFacts, SwitchLogic, ToManager, ToSwitch, TreePart,
+};
 use std::alloc::Global;
 
 /// A switch that asks the manager for the number of its pod at each tick, and takes no notice of the
@@ -70,7 +70,7 @@ impl SwitchFacts for PodAsker {
     }
 }
 
-impl SwitchCore for PodAsker {
+impl SwitchLogic for PodAsker {
     ghost rule = { AsksForPods };
 
     ghost accounts = { asks_for_pods_accounts };

@@ -1,11 +1,11 @@
 ghost use Rattle.std.specs.Prelude.{◌≡◌};
-ghost use Rattle.pl_core.specs.ManagerViews.{booted_manager};
+ghost use Rattle.pl_logic.specs.ManagerViews.{booted_manager};
 ghost use Rattle.pl_sample.specs.Giving.{GivesPods, gives_pods_duly};
 
 use crate::Silent;
-use pl_core::{AvoidList, ManagerAct, ManagerCore, ManagerOutbox, ToManager, ToSwitch, TreePart};
 use pl_frame::{Ip4, Mac, Memory, SwitchId};
 use pl_layouts::Place;
+use pl_logic::{AvoidList, ManagerAct, ManagerLogic, ManagerOutbox, ToManager, ToSwitch, TreePart};
 use pl_pmac::Pmac;
 use std::alloc::Global;
 
@@ -16,7 +16,7 @@ pub struct PodGiver {
     silent: Silent,
 }
 
-impl ManagerCore for PodGiver {
+impl ManagerLogic for PodGiver {
     ghost view = { λ manager. booted_manager manager.silent.k };
 
     ghost rule = { GivesPods };

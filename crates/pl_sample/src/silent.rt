@@ -1,12 +1,12 @@
 ghost use Rattle.std.specs.Prelude.{◌≡◌, []};
-ghost use Rattle.pl_core.specs.ManagerViews.{booted_manager};
+ghost use Rattle.pl_logic.specs.ManagerViews.{booted_manager};
 ghost use Rattle.pl_sample.specs.Duties.{says_nothing_duly};
 ghost use Rattle.pl_sample.specs.Silence.{SaysNothing};
 
-use pl_core::{AvoidList, ManagerCore, ManagerOutbox, ToManager, TreePart};
 use pl_frame::{Ip4, Mac, Memory, SwitchId};
 use pl_layouts::Place;
 use pl_lists::Rising;
+use pl_logic::{AvoidList, ManagerLogic, ManagerOutbox, ToManager, TreePart};
 use pl_pmac::Pmac;
 use std::alloc::Global;
 
@@ -21,7 +21,7 @@ pub struct Silent {
     ghost nothing: { avoid ≡ [] },
 }
 
-impl ManagerCore for Silent {
+impl ManagerLogic for Silent {
     ghost view = { λ manager. booted_manager manager.k };
 
     ghost rule = { SaysNothing };
@@ -64,7 +64,7 @@ impl ManagerCore for Silent {
         false
     }
 
-    #[tactic(auto, unfolding(pl_core::specs::AvoidLists::avoid_list))]
+    #[tactic(auto, unfolding(pl_logic::specs::AvoidLists::avoid_list))]
     fn avoid_list(&self, _switch: SwitchId) -> &AvoidList {
         &self.avoid
     }

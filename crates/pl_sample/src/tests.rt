@@ -37,7 +37,7 @@ fn start(world: &mut World<NextPort, Silent, OneFrame>) -> Result<(), Fail>
 }
 
 #[test]
-fn the_smallest_cores_make_a_world(rt: HostRuntime) -> Result<(), Fail> {
+fn the_smallest_logic_makes_a_world(rt: HostRuntime) -> Result<(), Fail> {
     let wiring = pl_topology::read(rt.alloc(), WIRING.as_bytes())?;
     let mut world = World::boot(rt.alloc(), wiring, LIMITS)?;
     start(&mut world)

@@ -1,13 +1,13 @@
 ghost use Rattle.std.specs.Prelude.{◌≡◌};
-ghost use Rattle.pl_core.specs.SwitchFacts.{switch_at_boot};
+ghost use Rattle.pl_logic.specs.SwitchFacts.{switch_at_boot};
 ghost use Rattle.pl_sample.specs.Accounts.{passes_two_accounts};
 ghost use Rattle.pl_sample.specs.Passing.{PassesTwo};
 
 use crate::NextPort;
-use pl_core::{AvoidList, Outbox, PortRecord, SwitchCore, SwitchFacts, ToSwitch, TreePart};
 use pl_frame::{Memory, SwitchId};
 use pl_layouts::Place;
 use pl_layouts::frames::is_control;
+use pl_logic::{AvoidList, Outbox, PortRecord, SwitchFacts, SwitchLogic, ToSwitch, TreePart};
 use std::alloc::Global;
 
 /// A switch that passes each data frame on by the next port, and a copy of it by the one after that.
@@ -69,7 +69,7 @@ impl SwitchFacts for TwoPorts {
     }
 }
 
-impl SwitchCore for TwoPorts {
+impl SwitchLogic for TwoPorts {
     ghost rule = { PassesTwo };
 
     ghost accounts = { passes_two_accounts };

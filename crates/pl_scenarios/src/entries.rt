@@ -1,17 +1,17 @@
 ghost use Rattle.std.specs.Prelude.{IsTrue};
 ghost use Rattle.pl_journal.specs.Text.{IsNamed};
 
-use pl_core::{ManagerCore, SwitchCore};
 use pl_frame::Memory;
 use pl_host::Host;
 use pl_journal::{Entry, write_line};
+use pl_logic::{ManagerLogic, SwitchLogic};
 use pl_scenario_words::say;
 use pl_schedule::World;
 use pl_wiring::Wiring;
 use std::alloc::Global;
 
 /// Prints the entries of a world's journal behind the first ones, which were told before.
-pub(crate) fn tell_entries<S: SwitchCore, M: ManagerCore>(
+pub(crate) fn tell_entries<S: SwitchLogic, M: ManagerLogic>(
     world: &World<S, M, Host>,
     alloc: Global,
     told: usize,

@@ -7,18 +7,18 @@ use crate::entries::tell_entries;
 use crate::event::event;
 use crate::looks::look;
 use crate::settling::play_fabric;
-use pl_core::{ManagerCore, SwitchCore};
 use pl_frame::Memory;
 use pl_host::Host;
 use pl_journal::Entry;
+use pl_logic::{ManagerLogic, SwitchLogic};
 use pl_scenario_words::{first_word, is_remark, say};
 use pl_schedule::World;
 use pl_wiring::Wiring;
 use pl_world::{Event, Limits, StepError};
 use std::alloc::{AllocError, Global};
 
-/// Boots a world of these cores, and plays its lines.
-pub(crate) fn play_world<S: SwitchCore, M: ManagerCore>(
+/// Boots a world of this logic, and plays its lines.
+pub(crate) fn play_world<S: SwitchLogic, M: ManagerLogic>(
     alloc: Global,
     wiring: Wiring,
     limits: Limits,
@@ -31,7 +31,7 @@ pub(crate) fn play_world<S: SwitchCore, M: ManagerCore>(
     play_all(&mut world, alloc, lines, out)
 }
 
-fn play_all<S: SwitchCore, M: ManagerCore>(
+fn play_all<S: SwitchLogic, M: ManagerLogic>(
     world: &mut World<S, M, Host>,
     alloc: Global,
     lines: &[&str],
@@ -48,7 +48,7 @@ fn play_all<S: SwitchCore, M: ManagerCore>(
 
 // Plays a line in a world: each entry of the journal that it brings about is printed, and then what it
 // answers.
-fn play<S: SwitchCore, M: ManagerCore>(
+fn play<S: SwitchLogic, M: ManagerLogic>(
     world: &mut World<S, M, Host>,
     alloc: Global,
     line: &str,
@@ -69,7 +69,7 @@ fn play<S: SwitchCore, M: ManagerCore>(
     out.push_str(&said)
 }
 
-fn answer<S: SwitchCore, M: ManagerCore>(
+fn answer<S: SwitchLogic, M: ManagerLogic>(
     world: &mut World<S, M, Host>,
     alloc: Global,
     line: &str,
@@ -93,7 +93,7 @@ fn answer<S: SwitchCore, M: ManagerCore>(
 }
 
 // An event, which is made or refused.
-fn step<S: SwitchCore, M: ManagerCore>(
+fn step<S: SwitchLogic, M: ManagerLogic>(
     world: &mut World<S, M, Host>,
     alloc: Global,
     line: &str,
@@ -114,7 +114,7 @@ fn step<S: SwitchCore, M: ManagerCore>(
 }
 
 // SWITCH TIMES
-fn ticks<S: SwitchCore, M: ManagerCore>(
+fn ticks<S: SwitchLogic, M: ManagerLogic>(
     world: &mut World<S, M, Host>,
     alloc: Global,
     rest: &str,
@@ -136,7 +136,7 @@ fn ticks<S: SwitchCore, M: ManagerCore>(
     }
 }
 
-fn make_often<S: SwitchCore, M: ManagerCore>(
+fn make_often<S: SwitchLogic, M: ManagerLogic>(
     world: &mut World<S, M, Host>,
     event: &Event,
     times: u32,
@@ -153,7 +153,7 @@ fn make_often<S: SwitchCore, M: ManagerCore>(
 }
 
 // Makes a step, or answers why it is refused.
-fn make<S: SwitchCore, M: ManagerCore>(
+fn make<S: SwitchLogic, M: ManagerLogic>(
     world: &mut World<S, M, Host>,
     event: &Event,
 ) -> Result<Option<StepError>, Memory>
@@ -182,7 +182,7 @@ fn say_refused(alloc: Global, refused: Option<StepError>, said: &mut String) -> 
 }
 
 // line N, settled N or unsettled N
-fn mark<S: SwitchCore, M: ManagerCore>(
+fn mark<S: SwitchLogic, M: ManagerLogic>(
     world: &mut World<S, M, Host>,
     rest: &str,
     said: &mut String,

@@ -1,9 +1,9 @@
 use pl_arp::Me;
-use pl_core::{HostAct, HostCore, HostOutbox, HostTable, Reception};
 use pl_frame::Memory;
 use pl_host::Host;
 use pl_journal::Skip;
 use pl_lists::Queue;
+use pl_logic::{HostAct, HostLogic, HostOutbox, HostTable, Reception};
 use pl_scenario_words::{first_word, frame, group, is_remark, say, say_frame};
 use std::alloc::Global;
 

@@ -1,14 +1,14 @@
 use crate::event::{host, queue, switch};
-use pl_core::{ManagerCore, SwitchCore};
 use pl_frame::Memory;
 use pl_host::Host;
+use pl_logic::{ManagerLogic, SwitchLogic};
 use pl_scenario_words::say;
 use pl_schedule::World;
 use pl_wiring::HostNo;
 use std::alloc::Global;
 
 /// What a world shows of itself, by a verb.
-pub(crate) fn look<S: SwitchCore, M: ManagerCore>(
+pub(crate) fn look<S: SwitchLogic, M: ManagerLogic>(
     world: &World<S, M, Host>,
     alloc: Global,
     verb: &str,
@@ -31,7 +31,7 @@ fn say_number(alloc: Global, word: &str, n: u64, said: &mut String) -> Result<()
 }
 
 // HOST
-fn heard<S: SwitchCore, M: ManagerCore>(
+fn heard<S: SwitchLogic, M: ManagerLogic>(
     world: &World<S, M, Host>,
     alloc: Global,
     rest: &str,
@@ -43,7 +43,7 @@ fn heard<S: SwitchCore, M: ManagerCore>(
     }
 }
 
-fn heard_from<S: SwitchCore, M: ManagerCore>(
+fn heard_from<S: SwitchLogic, M: ManagerLogic>(
     world: &World<S, M, Host>,
     alloc: Global,
     h: HostNo,
@@ -59,7 +59,7 @@ fn heard_from<S: SwitchCore, M: ManagerCore>(
 }
 
 // QUEUE
-fn len<S: SwitchCore, M: ManagerCore>(
+fn len<S: SwitchLogic, M: ManagerLogic>(
     world: &World<S, M, Host>,
     alloc: Global,
     rest: &str,
@@ -75,7 +75,7 @@ fn len<S: SwitchCore, M: ManagerCore>(
 }
 
 // SWITCH: its usable ports, rising.
-fn usable<S: SwitchCore, M: ManagerCore>(
+fn usable<S: SwitchLogic, M: ManagerLogic>(
     world: &World<S, M, Host>,
     alloc: Global,
     rest: &str,
@@ -89,10 +89,10 @@ fn usable<S: SwitchCore, M: ManagerCore>(
     }
 }
 
-fn say_usable<S: SwitchCore>(alloc: Global, core: &S, said: &mut String) -> Result<(), Memory> {
+fn say_usable<S: SwitchLogic>(alloc: Global, device: &S, said: &mut String) -> Result<(), Memory> {
     said.push_str("usable")?;
-    for port in 0..core.k() {
-        if core.port(port).is_usable(core.id()) {
+    for port in 0..device.k() {
+        if device.port(port).is_usable(device.id()) {
             let word = format!(in alloc; " {port}")?;
             said.push_str(word.as_str())?;
         }
@@ -101,7 +101,7 @@ fn say_usable<S: SwitchCore>(alloc: Global, core: &S, said: &mut String) -> Resu
 }
 
 // The first queue with items, of those from a number on.
-fn next<S: SwitchCore, M: ManagerCore>(
+fn next<S: SwitchLogic, M: ManagerLogic>(
     world: &World<S, M, Host>,
     alloc: Global,
     rest: &str,

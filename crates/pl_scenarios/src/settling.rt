@@ -2,17 +2,17 @@ ghost use Rattle.std.specs.Prelude.{OnOk};
 ghost use Rattle.pl_world.specs.Flying.{IsCounted};
 ghost use Rattle.pl_world.specs.Hearing.{IsWithinHearing};
 
-use pl_core::{ManagerCore, SwitchCore};
 use pl_fabric::{Settling, random, settle, sweep};
 use pl_frame::Memory;
 use pl_host::Host;
+use pl_logic::{ManagerLogic, SwitchLogic};
 use pl_scenario_words::{first_word, say};
 use pl_schedule::World;
 use pl_world::StepError;
 use std::alloc::{AllocError, Global};
 
 /// `settle ROUNDS`, `sweep TIMES` or `random NUMBER STEPS`.
-pub(crate) fn play_fabric<S: SwitchCore, M: ManagerCore>(
+pub(crate) fn play_fabric<S: SwitchLogic, M: ManagerLogic>(
     world: &mut World<S, M, Host>,
     alloc: Global,
     verb: &str,
@@ -37,7 +37,7 @@ pub(crate) fn play_fabric<S: SwitchCore, M: ManagerCore>(
     }
 }
 
-fn settle_within<S: SwitchCore, M: ManagerCore>(
+fn settle_within<S: SwitchLogic, M: ManagerLogic>(
     world: &mut World<S, M, Host>,
     alloc: Global,
     rounds: u32,
@@ -64,7 +64,7 @@ fn say_settling(alloc: Global, settling: Settling, said: &mut String) -> Result<
     say(said, line.as_str())
 }
 
-fn sweep_often<S: SwitchCore, M: ManagerCore>(
+fn sweep_often<S: SwitchLogic, M: ManagerLogic>(
     world: &mut World<S, M, Host>,
     times: u32,
     said: &mut String,
@@ -81,7 +81,7 @@ fn sweep_often<S: SwitchCore, M: ManagerCore>(
 }
 
 // Where a step is refused the steps before it stand.
-fn sweep_once<S: SwitchCore, M: ManagerCore>(world: &mut World<S, M, Host>) -> Result<(), Memory>
+fn sweep_once<S: SwitchLogic, M: ManagerLogic>(world: &mut World<S, M, Host>) -> Result<(), Memory>
     requires counted { IsCounted world.old }
     requires hearing { IsWithinHearing world.old }
     ensures counted { OnOk result (IsCounted world.new) }
@@ -95,7 +95,7 @@ fn sweep_once<S: SwitchCore, M: ManagerCore>(world: &mut World<S, M, Host>) -> R
     }
 }
 
-fn draw<S: SwitchCore, M: ManagerCore>(
+fn draw<S: SwitchLogic, M: ManagerLogic>(
     world: &mut World<S, M, Host>,
     number: u64,
     steps: u32,

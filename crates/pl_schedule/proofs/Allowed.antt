@@ -6,11 +6,11 @@ use Rattle.pl_frame.specs.declared.address.SwitchId.{SwitchId}
 use Rattle.pl_wiring.specs.Labels.{switch_count}
 use Rattle.pl_wiring.specs.Plan.{Plan}
 use Rattle.pl_world.specs.declared.event.Event.{Event}
-use Rattle.pl_core.specs.HostInputs.{HostRule}
-use Rattle.pl_core.specs.ManagerFacts.{CanHear}
-use Rattle.pl_core.specs.ManagerDuties.{ManagerRule}
+use Rattle.pl_logic.specs.HostInputs.{HostRule}
+use Rattle.pl_logic.specs.ManagerFacts.{CanHear}
+use Rattle.pl_logic.specs.ManagerDuties.{ManagerRule}
 use Rattle.pl_journal.specs.Places.{is_host_port}
-use Rattle.pl_core.specs.SwitchInputs.{SwitchRule}
+use Rattle.pl_logic.specs.SwitchInputs.{SwitchRule}
 use Rattle.pl_wiring.specs.Peers.{peer_of}
 use Rattle.pl_wiring.specs.declared.label.SwitchNo.{SwitchNo}
 use Rattle.pl_world.specs.declared.error.StepError.{StepError}

@@ -7,7 +7,7 @@ use Rattle.std.proofs.lemmas.List.Elements.{filter-append}
 use Rattle.std.proofs.lemmas.Nat.{div-add-mod'}
 use Rattle.std.proofs.lemmas.Option.{slice_get-map}
 use Rattle.pl_wiring.specs.Labels.{switch_count}
-use Rattle.pl_queues.specs.Queues.{filled_places, has_items, items_at}
+use Rattle.pl_queues.specs.Queues.{filled_indices, has_items, items_at}
 use Rattle.pl_banks.proofs.Ranges.{filter_same, slice_get_left, slice_get_right}
 use Rattle.pl_world.specs.declared.event.QueueName.{QueueName}
 use Rattle.pl_world.specs.Flying.{IsFormed}
@@ -40,16 +40,16 @@ module _ {A : Type 0} (f : ℕ → A) (places : List ℕ) (rest : List A) where
 
 module _ (w : WorldView) where
   abbrev hosts : List ℕ
-  hosts = filled_places w.from_hosts
+  hosts = filled_indices w.from_hosts
 
   abbrev ports : List ℕ
-  ports = filled_places w.out
+  ports = filled_indices w.out
 
   abbrev reports : List ℕ
-  reports = filled_places w.to_manager
+  reports = filled_indices w.to_manager
 
   abbrev orders : List ℕ
-  orders = filled_places w.from_manager
+  orders = filled_indices w.from_manager
 
   abbrev of_manager : List QueueName
   of_manager = map report_queue reports ++ map order_queue orders
@@ -59,7 +59,7 @@ module _ (w : WorldView) where
 
   -- the places of a bank of n queues, whose names pass where their queues have items
   bank_is : {T : Type 0} (name : ℕ → QueueName) (bank : List (List T)) (n : ℕ) → ((at : ℕ) → is_filled w (name at) ≡ has_items (items_at bank at))
-      → length bank ≡ n → filter (is_filled w) (map name (range_with_len 0 n)) ≡ map name (filled_places bank)
+      → length bank ≡ n → filter (is_filled w) (map name (range_with_len 0 n)) ≡ map name (filled_indices bank)
   bank_is name bank n same long =
       filter_map (is_filled w) name (range_with_len 0 n)
       ∙ ap (map name) (filter_same (λ at. is_filled w (name at)) (λ at. has_items (items_at bank at)) same (range_with_len 0 n))

@@ -7,8 +7,8 @@ use Rattle.pl_wiring.specs.Labels.{switch_count}
 use Rattle.pl_wiring.specs.Plan.{Plan}
 use Rattle.pl_world.specs.declared.event.QueueName.TheVariants as queue
 use Rattle.pl_banks.specs.Bits.{IsLeast}
-use Rattle.pl_queues.specs.Queues.{has_items, items_at, next_filled, next_place}
-use Rattle.pl_banks.proofs.Places.{next_place_is_least}
+use Rattle.pl_queues.specs.Queues.{has_items, items_at, next_filled, next_index}
+use Rattle.pl_banks.proofs.Places.{next_index_is_least}
 use Rattle.pl_world.specs.Changes.{host_no, switch_no}
 use Rattle.pl_world.specs.Flying.{IsFormed}
 use Rattle.pl_world.specs.QueueOrder.{first_from_manager, first_out, first_to_manager, has_items_at, next_in, next_queue, port_queue, queue_at, queue_count}
@@ -61,9 +61,9 @@ module _ (test : ℕ → Bool) (from : ℕ) where
     ]
   ]
 
-  pub first_is_next : (high : ℕ) (answer : Option ℕ) → IsFirst 0 high answer → answer ≡ next_place test high from
+  pub first_is_next : (high : ℕ) (answer : Option ℕ) → IsFirst 0 high answer → answer ≡ next_index test high from
   first_is_next high answer first =
-      same_first high answer (next_place test high from) first (next_place_is_least test high from (next_place test high from) refl)
+      same_first high answer (next_index test high from) first (next_index_is_least test high from (next_index test high from) refl)
 
   -- a bank whose queues have the numbers from `first` on
   pub first_in_bank : {T : Type 0} (first : ℕ) (bank : List (List T)) (answer : Option ℕ)
@@ -71,7 +71,7 @@ module _ (test : ℕ → Bool) (from : ℕ) where
       → answer ≡ next_in first bank from → IsFirst first (first + length bank) answer
   first_in_bank first bank answer same is =
       subst (IsFirst first (first + length bank)) (sym is)
-      (found (next_filled bank (from - first)) (next_place_is_least (λ at. has_items (items_at bank at)) (length bank) (from - first) (next_filled bank (from - first)) refl))
+      (found (next_filled bank (from - first)) (next_index_is_least (λ at. has_items (items_at bank at)) (length bank) (from - first) (next_filled bank (from - first)) refl))
     where
       at_place : (k : ℕ) → first ≤ k → k < first + length bank → test k ≡ has_items (items_at bank (k - first))
       at_place k above below =

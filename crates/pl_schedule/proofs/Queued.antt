@@ -2,7 +2,7 @@
 use Rattle.std.proofs.Common.{◌≡◌, ℕ, List, Result, Ok, Err, OnErr, OnOk, length, slice_set, ap, ◌∙◌, subst, sym}
 use Rattle.std.specs.List.{AllByRecursion}
 use Rattle.std.proofs.lemmas.List.{length-set}
-use Rattle.pl_core.specs.SwitchViews.{SwitchView}
+use Rattle.pl_logic.specs.SwitchViews.{SwitchView}
 use Rattle.pl_queues.specs.Queues.{put_at}
 use Rattle.pl_world.specs.declared.item.Item.{Item}
 use Rattle.pl_world.specs.Flying.{IsFormed}

@@ -1,8 +1,8 @@
 -- The head of a queue is taken, and nothing else changes.
 use Rattle.std.specs.Prelude.{◌≡◌, ℕ, List, ◌∷◌, slice_set}
 use Rattle.pl_wiring.specs.Index.{port_index}
-use Rattle.pl_core.specs.declared.messages.ToManager.{ToManager}
-use Rattle.pl_core.specs.declared.messages.ToSwitch.{ToSwitch}
+use Rattle.pl_logic.specs.declared.messages.ToManager.{ToManager}
+use Rattle.pl_logic.specs.declared.messages.ToSwitch.{ToSwitch}
 use Rattle.pl_world.specs.declared.item.Item.{Item}
 use Rattle.pl_world.specs.Changes.{out_of}
 use Rattle.pl_queues.specs.Queues.{items_at}

@@ -1,4 +1,4 @@
-//! The world in code: a `World` over any three cores goes on by events.
+//! The world in code: a `World` over any logic of its nodes goes on by events.
 //!
 //! Contracts see it as a `WorldView` of pl_world, and each of its calls is one equation of it.
 #![tactic(auto)]

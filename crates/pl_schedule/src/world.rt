@@ -5,10 +5,10 @@ ghost use Rattle.pl_world.specs.Changes.{all_noted, begun_by, host_of, is_failed
 ghost use Rattle.pl_world.specs.SwitchActs.{granted};
 
 use pl_banks::{CountedQueues, Queues};
-use pl_core::{HostCore, ManagerCore, SwitchCore, ToManager, ToSwitch};
 use pl_frame::{Mac, Memory, SwitchId};
 use pl_journal::{Entry, Journal};
 use pl_lists::Queue;
+use pl_logic::{HostLogic, ManagerLogic, SwitchLogic, ToManager, ToSwitch};
 use pl_pmac::Pmac;
 use pl_wiring::{LinkStates, Peer, SwitchNo, Wiring};
 use pl_world::{Item, Limits};
@@ -19,7 +19,7 @@ use std::marker::Model;
 /// The switches, hosts and manager of a fabric, the queues between them, and the journal of all that
 /// befell its frames. Contracts see it as a `WorldView` (`specs/Worlds.antt`).
 #[derive(Drop)]
-pub struct World<S: SwitchCore, M: ManagerCore, H: HostCore> {
+pub struct World<S: SwitchLogic, M: ManagerLogic, H: HostLogic> {
     alloc: Global,
     atlas: Atlas,
     links: LinkStates,
@@ -37,7 +37,7 @@ pub struct World<S: SwitchCore, M: ManagerCore, H: HostCore> {
     limits: Limits,
 }
 
-impl<S: SwitchCore, M: ManagerCore, H: HostCore> Model for World<S, M, H> {
+impl<S: SwitchLogic, M: ManagerLogic, H: HostLogic> Model for World<S, M, H> {
     ghost use Rattle.std.specs.Prelude.{map};
     ghost use Rattle.pl_world.specs.Flying.{IsFormed};
     ghost use Rattle.pl_world.specs.Worlds.{WorldView};
@@ -65,7 +65,7 @@ impl<S: SwitchCore, M: ManagerCore, H: HostCore> Model for World<S, M, H> {
     ghost invariant = { λ w. IsFormed (view w) };
 }
 
-impl<S: SwitchCore, M: ManagerCore, H: HostCore> World<S, M, H> {
+impl<S: SwitchLogic, M: ManagerLogic, H: HostLogic> World<S, M, H> {
     pub fn journal(&self) -> &Journal
         ensures { result.now ≡ self.now.journal }
     {

@@ -29,7 +29,7 @@ ended : (line bytes : List ℕ) → without_empty_last (line ∷ slice_split is_
 ended line [] = refl
 ended line (byte ∷ bytes) = ended_at line byte bytes (is_newline byte)
 
--- the first place that passes, by what `position` gives
+-- the first index that passes, by what `position` gives
 first_at : (file : List ℕ) (n : ℕ) → position is_newline file ≡ Some n → (position_or_len is_newline file < length file) × (position_or_len is_newline file ≡ n)
 first_at file n found = elim (cases_lt (position_or_len is_newline file) (length file)) [
   | inl less ↦ (
@@ -54,7 +54,7 @@ nowhere file none = elim (cases_lt (position_or_len is_newline file) (length fil
   | inr past ↦ past
 ]
 
--- the first newline that a search finds is the first place that passes
+-- the first newline that a search finds is the first index that passes
 pub newline_found : (file : List ℕ) (r : Option ℕ) → IsFirstByte (is_byte 10) file r → r ≡ position is_newline file
 newline_found file None none =
     let at : position_or_len is_newline file ≡ length file =

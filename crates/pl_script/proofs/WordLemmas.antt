@@ -10,7 +10,7 @@ use Rattle.std.proofs.lemmas.List.Sums.{fails_before_first, passes_at_first, pre
 use Rattle.std.proofs.lemmas.Str.{IsCharBoundary-after_ascii, IsCharBoundary-before_ascii, IsCharBoundary-end}
 use Rattle.pl_script.specs.Texts.{is_blank, is_some_text, words_of}
 
--- the first place that passes, or the length where there is none
+-- the first index that passes, or the length where there is none
 pub unwrap_or_position : {X : Type 0} (p : X → Bool) (xs : List X) → unwrap_or (position p xs) (length xs) ≡ position_or_len p xs
 unwrap_or_position p xs =
     elim (cases_lt (position_or_len p xs) (length xs)) [

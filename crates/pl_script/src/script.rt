@@ -61,7 +61,7 @@ impl Script {
         self.lines.is_empty()
     }
 
-    /// The command at a place, counted from 0; none past the last.
+    /// The command at an index, counted from 0; none past the last.
     pub fn get(&self, n: usize) -> Option<&ScriptLine>
         ensures { option_copied result ≡ slice_get self.now n }
     {

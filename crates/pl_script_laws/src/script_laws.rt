@@ -11,11 +11,11 @@ ghost use Rattle.pl_lines.specs.declared.stop.Stop.{Stop};
 ghost use Rattle.pl_lines.specs.Lines.{Plays};
 ghost use Rattle.pl_lines.specs.Scenes.{Scene};
 
-use pl_core::{HostCore, ManagerCore, SwitchCore};
+use pl_logic::{HostLogic, ManagerLogic, SwitchLogic};
 
 /// With rules that leave no choice a script comes to one end, however often it is played: it is done, or it
 /// is stopped at the same line for the same reason, and the fabric and its journal are the same then.
-pub fn a_script_goes_one_way<S: SwitchCore, M: ManagerCore, H: HostCore>()
+pub fn a_script_goes_one_way<S: SwitchLogic, M: ManagerLogic, H: HostLogic>()
     ensures { LeavesSwitchNoChoice S.rule → LeavesManagerNoChoice M.rule → LeavesHostNoChoice H.rule →
         (plan : Plan) (limits : Limits) (records : List (List Recorded)) (lines : List ScriptLine) (end other : Option (ℕ × Stop)) (scene another : Scene) →
         Plays S.rule M.rule H.rule plan limits records lines end scene → Plays S.rule M.rule H.rule plan limits records lines other another →

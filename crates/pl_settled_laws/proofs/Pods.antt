@@ -11,9 +11,9 @@ use Rattle.pl_wiring.specs.LiveLinks.{is_live, is_live_at}
 use Rattle.pl_wiring.proofs.Ends.{at_contained}
 use Rattle.pl_wiring.proofs.LabelOrder.{label_of-number_of}
 use Rattle.pl_wiring.proofs.Linked.{peer_is_switch}
-use Rattle.pl_core.specs.PortRecords.{heard_place, is_usable, place_at}
-use Rattle.pl_core.specs.SwitchFacts.{holder_of, present_attempt}
-use Rattle.pl_core.specs.SwitchViews.{SwitchView}
+use Rattle.pl_logic.specs.PortRecords.{heard_place, is_usable, place_at}
+use Rattle.pl_logic.specs.SwitchFacts.{holder_of, present_attempt}
+use Rattle.pl_logic.specs.SwitchViews.{SwitchView}
 use Rattle.pl_frame.specs.declared.address.SwitchId.{SwitchId}
 use Rattle.pl_world.specs.Worlds.{WorldView}
 use Rattle.pl_fabric.specs.Settled.{IsSettled, IsSettledEnd, IsSettledTowards, holds_another, is_answered, would_change, would_change_by}

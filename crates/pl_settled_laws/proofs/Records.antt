@@ -1,10 +1,10 @@
 -- Where the queues are settled no report and no order waits.
 use Rattle.std.proofs.Common.{zero, suc, List, [], ◌∷◌, refl, arith, Contains}
 use Rattle.std.specs.List.{AllByRecursion}
-use Rattle.pl_core.specs.declared.messages.ToManager.{ToManager}
-use Rattle.pl_core.specs.declared.messages.ToManager.TheVariants as tell
-use Rattle.pl_core.specs.declared.messages.ToSwitch.{ToSwitch}
-use Rattle.pl_core.specs.declared.messages.ToSwitch.TheVariants as say
+use Rattle.pl_logic.specs.declared.messages.ToManager.{ToManager}
+use Rattle.pl_logic.specs.declared.messages.ToManager.TheVariants as tell
+use Rattle.pl_logic.specs.declared.messages.ToSwitch.{ToSwitch}
+use Rattle.pl_logic.specs.declared.messages.ToSwitch.TheVariants as say
 use Rattle.pl_queues.specs.Queues.{items_at}
 use Rattle.pl_world.specs.SettledQueues.{HasSettledQueues, IsQuestion, IsReply}
 use Rattle.pl_world.specs.Worlds.{WorldView}

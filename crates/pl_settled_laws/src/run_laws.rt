@@ -17,17 +17,17 @@ ghost use Rattle.pl_placing.specs.Resting.{HasFirst, HavePositions};
 ghost use Rattle.pl_settled_laws.specs.AtPlace.{ReceiversArePlaced};
 ghost use Rattle.pl_settled_laws.specs.Whole.{IsWholePod};
 
-use pl_core::HostCore;
+use pl_logic::HostLogic;
 use pl_manager_rule::LawfulManager;
 use pl_switch_rule::LooseSwitch;
 
-/// In each run of lawful cores from the beginning, wherever the queues are settled, the manager's records are
+/// In each run of lawful logic from the beginning, wherever the queues are settled, the manager's records are
 /// what the switches would tell now, of places, members and links, and each switch holds the avoid list and
 /// the tree parts of the records.
 pub fn records_are_current_in_every_run_where_queues_are_settled<
     S: LooseSwitch,
     M: LawfulManager,
-    H: HostCore,
+    H: HostLogic,
 >()
     ensures { (plan : Plan) (limits : Limits) (moments : List Moment) (new : WorldView) → CanBegin plan →
         WorldRun S.rule M.rule H.rule (booted plan limits) moments new → HasSettledQueues new →
@@ -41,7 +41,7 @@ pub fn records_are_current_in_every_run_where_queues_are_settled<
 pub fn settled_runs_have_current_records_and_positions<
     S: LooseSwitch,
     M: LawfulManager,
-    H: HostCore,
+    H: HostLogic,
 >()
     ensures records { (plan : Plan) (limits : Limits) (moments : List Moment) (new : WorldView) → CanBegin plan →
         WorldRun S.rule M.rule H.rule (booted plan limits) moments new → IsSettled new →
@@ -63,7 +63,7 @@ pub fn settled_runs_have_current_records_and_positions<
 pub fn settlings_end_with_current_records_and_placed_edge_switches<
     S: LooseSwitch,
     M: LawfulManager,
-    H: HostCore,
+    H: HostLogic,
 >()
     ensures records { (plan : Plan) (limits : Limits) (moments : List Moment) (old : WorldView) (asked rounds : ℕ) (new : WorldView) → CanBegin plan →
         WorldRun S.rule M.rule H.rule (booted plan limits) moments old → Settles S.rule M.rule H.rule asked old (Settled rounds) new →

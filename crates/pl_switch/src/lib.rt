@@ -1,7 +1,7 @@
 //! The plain switch: what PortLand's software does at an edge, an aggregation or a core switch (SIGCOMM
 //! 2009), and nothing besides.
 //!
-//! `PlainSwitch` is a `SwitchCore` under the exact rule of a switch (pl_switch_rule, `specs/SwitchRule.antt`):
+//! `PlainSwitch` is a `SwitchLogic` under the exact rule of a switch (pl_switch_rule, `specs/SwitchRule.antt`):
 //! of what comes and of what it knows, all that it does and will know follows. What it keeps, and what it
 //! does with control frames, stands in pl_plain, and the rows for data frames in pl_data_rows; the ports by
 //! which a unicast frame may leave it finds by a look at each port.
@@ -11,4 +11,4 @@ pub use plain_switch::PlainSwitch;
 
 mod plain_switch;
 mod records;
-mod switch_core;
+mod switch_logic;

@@ -1,8 +1,8 @@
-use pl_core::{AvoidList, PortRecord, SwitchFacts, TreePart};
 use pl_forward::{GroupFacts, UnicastFacts};
 use pl_frame::SwitchId;
 use pl_layouts::Place;
 use pl_lists::PortSet;
+use pl_logic::{AvoidList, PortRecord, SwitchFacts, TreePart};
 use pl_plain::PlainState;
 use pl_pmac::Pmac;
 use pl_switch_rule::Came;

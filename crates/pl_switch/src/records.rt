@@ -1,8 +1,8 @@
 use crate::PlainSwitch;
-use pl_core::{AvoidList, Memory, Outbox, Trap, TreePart};
 use pl_data_rows::KeepsRecords;
 use pl_edge::{EdgeAct, EdgeTable};
 use pl_frame::Frame;
+use pl_logic::{AvoidList, Memory, Outbox, Trap, TreePart};
 use pl_pmac::Pmac;
 use std::alloc::Global;
 

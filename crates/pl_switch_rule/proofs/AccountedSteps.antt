@@ -4,7 +4,7 @@ use Rattle.std.proofs.lemmas.List.{get_or_default}
 use Rattle.std.proofs.lemmas.Option.{slice_get-get_or}
 use Rattle.pl_layouts.specs.Flow.{flow_hash}
 use Rattle.pl_switch_rule.specs.Forwarding.{Choice}
-use Rattle.pl_core.specs.Accounting.{AccountsForFrames, IsWithin}
+use Rattle.pl_logic.specs.Accounting.{AccountsForFrames, IsWithin}
 use Rattle.pl_switch_rule.specs.SwitchRule.{Exact, IsChoice, Loose, by_flow}
 use Rattle.pl_switch_rule.proofs.AllSteps.{HandlesFrames, exact_is_accounted, loose_is_accounted}
 use Rattle.pl_switch_rule.proofs.ComingIn.{data_comes_ends}

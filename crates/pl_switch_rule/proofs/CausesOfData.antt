@@ -4,11 +4,11 @@ use Rattle.pl_frame.specs.declared.address.Mac.{Mac}
 use Rattle.pl_frame.specs.Ethernet.{destination_of, source_of}
 use Rattle.pl_pmac.specs.declared.pmac.Pmac.{Pmac}
 use Rattle.pl_pmac.specs.Pmac.{pmac_of}
-use Rattle.pl_core.specs.Accounting.{IsComing, IsShaped, IsWhole}
-use Rattle.pl_core.specs.PortRecords.{place_at}
-use Rattle.pl_core.specs.SwitchViews.{SwitchView}
-use Rattle.pl_core.specs.declared.acts.Act.TheVariants.{Drop, Pass}
-use Rattle.pl_core.specs.declared.trap.Trap.{Trap}
+use Rattle.pl_logic.specs.Accounting.{IsComing, IsShaped, IsWhole}
+use Rattle.pl_logic.specs.PortRecords.{place_at}
+use Rattle.pl_logic.specs.SwitchViews.{SwitchView}
+use Rattle.pl_logic.specs.declared.acts.Act.TheVariants.{Drop, Pass}
+use Rattle.pl_logic.specs.declared.trap.Trap.{Trap}
 use Rattle.pl_journal.specs.declared.cause.Cause.{Cause}
 use Rattle.pl_journal.specs.declared.cause.Cause.TheVariants.{BadArp, NoMember, NoNextHop, NotPlaced, Spent}
 use Rattle.pl_layouts.specs.Frames.{is_arp, packet_in}

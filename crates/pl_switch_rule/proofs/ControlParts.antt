@@ -7,22 +7,22 @@ use Rattle.byteorder.specs.Numbers.{length-bytes_high_first}
 use Rattle.pl_frame.specs.declared.address.SwitchId.{SwitchId}
 use Rattle.pl_frame.specs.Ethernet.{Fields, frame_of}
 use Rattle.pl_frame.proofs.Fields.{fields_of-frame_of}
-use Rattle.pl_core.specs.declared.acts.Act.TheVariants.{Control}
+use Rattle.pl_logic.specs.declared.acts.Act.TheVariants.{Control}
 use Rattle.pl_layouts.specs.declared.control.Control.TheVariants as control
 use Rattle.pl_layouts.specs.declared.control.Control as declared
 use Rattle.pl_layouts.specs.declared.control.Ldm.{Ldm}
 use Rattle.pl_layouts.specs.declared.control.Proposal.{Proposal}
 use Rattle.pl_layouts.specs.declared.control.Vote.{Vote}
 use Rattle.pl_switch_rule.specs.Announcing.{announcements, announces_at, proposal, proposes_at, ticks, with_aged_ports}
-use Rattle.pl_core.specs.PortRecords.{aged, id_at, place_at, ports_of_switch, ports_where}
-use Rattle.pl_core.specs.Announcements.{announcement, direction_of}
+use Rattle.pl_logic.specs.PortRecords.{aged, id_at, place_at, ports_of_switch, ports_where}
+use Rattle.pl_logic.specs.Announcements.{announcement, direction_of}
 use Rattle.pl_layouts.specs.Control.{bit, control_bytes, control_frame, control_group, id_code, ldm_bytes, level_code, pod_code, position_code, proposal_bytes, sender_of, vote_bytes}
-use Rattle.pl_core.specs.Accounting.{IsSent, IsShaped}
+use Rattle.pl_logic.specs.Accounting.{IsSent, IsShaped}
 use Rattle.pl_switch_rule.specs.Positions.{answers_proposal, frees_others, half, hears_proposal, holds_for, is_free_for, vote_on}
-use Rattle.pl_core.specs.SwitchFacts.{hold_at}
+use Rattle.pl_logic.specs.SwitchFacts.{hold_at}
 use Rattle.pl_layouts.specs.Placement.{is_known}
 use Rattle.pl_steps.specs.Steps.{SwitchStep, rests}
-use Rattle.pl_core.specs.SwitchViews.{SwitchView}
+use Rattle.pl_logic.specs.SwitchViews.{SwitchView}
 use Rattle.pl_switch_rule.specs.Telling.{changes_told}
 use Rattle.pl_switch_rule.proofs.StepParts.{IsQuiet, IsSame, all_append, fit_at, same_then}
 use Rattle.pl_switch_rule.proofs.Shapes.{all_filter, all_range, same_self, same_with_ports}

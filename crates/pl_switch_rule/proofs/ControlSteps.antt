@@ -5,21 +5,21 @@ use Rattle.pl_frame.specs.Ethernet.{payload_of}
 use Rattle.pl_layouts.specs.declared.control.Control.{Control}
 use Rattle.pl_layouts.specs.declared.control.Control.TheVariants as control
 use Rattle.pl_layouts.specs.declared.control.ControlError.{ControlError}
-use Rattle.pl_core.specs.declared.messages.ToSwitch.TheVariants.{Avoid, Pod, Tree}
-use Rattle.pl_core.specs.declared.messages.TreePart.{TreePart}
+use Rattle.pl_logic.specs.declared.messages.ToSwitch.TheVariants.{Avoid, Pod, Tree}
+use Rattle.pl_logic.specs.declared.messages.TreePart.{TreePart}
 use Rattle.pl_switch_rule.specs.Announcing.{ticks}
 use Rattle.pl_layouts.specs.Control.{control_in, is_control}
 use Rattle.pl_switch_rule.specs.Forwarding.{Choice}
-use Rattle.pl_core.specs.Accounting.{IsComing, IsAccounted, IsShaped, Speech, first_speech, is_said, speech}
-use Rattle.pl_core.specs.Accounting.Speech.{Silent, Waiting}
+use Rattle.pl_logic.specs.Accounting.{IsComing, IsAccounted, IsShaped, Speech, first_speech, is_said, speech}
+use Rattle.pl_logic.specs.Accounting.Speech.{Silent, Waiting}
 use Rattle.pl_switch_rule.specs.Messages.{hears_pod, with_part}
-use Rattle.pl_core.specs.PortRecords.{port_of}
+use Rattle.pl_logic.specs.PortRecords.{port_of}
 use Rattle.pl_switch_rule.specs.Positions.{after_vote}
 use Rattle.pl_steps.specs.Steps.{SwitchStep, rests}
 use Rattle.pl_switch_rule.specs.SwitchRule.{control_comes, data_comes, hears_control, switch_step}
-use Rattle.pl_core.specs.SwitchInputs.{SwitchInput}
-use Rattle.pl_core.specs.SwitchInputs.SwitchInput.{Comes, Says, Tick}
-use Rattle.pl_core.specs.SwitchViews.{SwitchView}
+use Rattle.pl_logic.specs.SwitchInputs.{SwitchInput}
+use Rattle.pl_logic.specs.SwitchInputs.SwitchInput.{Comes, Says, Tick}
+use Rattle.pl_logic.specs.SwitchViews.{SwitchView}
 use Rattle.pl_switch_rule.proofs.StepParts.{HasEnded, IsEnding, IsMaking, IsQuiet}
 use Rattle.pl_switch_rule.proofs.QuietActs.{quiet_either, quiet_self}
 use Rattle.pl_switch_rule.proofs.LevelParts.{quiet_changes_to, quiet_hears_message}

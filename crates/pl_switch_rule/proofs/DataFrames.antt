@@ -13,7 +13,7 @@ use Rattle.pl_pmac.specs.declared.pmac.Pmac.{Pmac}
 use Rattle.pl_pmac.specs.Pmac.{mac_of, pmac_number}
 use Rattle.pl_switch_rule.specs.Delivering.{newer_address}
 use Rattle.pl_layouts.specs.Frames.{HasSixBytes, arriving}
-use Rattle.pl_core.specs.Accounting.{IsMade, IsWhole}
+use Rattle.pl_logic.specs.Accounting.{IsMade, IsWhole}
 use Rattle.pl_switch_rule.specs.Messages.{answer_frame, flood_frame, probe_frame}
 use Rattle.pl_layouts.proofs.Arrived.{length-arriving}
 use Rattle.pl_switch_rule.proofs.ControlParts.{length-frame_of}

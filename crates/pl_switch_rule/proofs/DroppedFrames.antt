@@ -5,12 +5,12 @@ use Rattle.pl_frame.specs.declared.address.Mac.{Mac}
 use Rattle.pl_frame.specs.Ethernet.{destination_of, source_of}
 use Rattle.pl_pmac.specs.declared.pmac.Pmac.{Pmac}
 use Rattle.pl_pmac.specs.Pmac.{pmac_of}
-use Rattle.pl_core.specs.declared.acts.Act.TheVariants.{Drop}
+use Rattle.pl_logic.specs.declared.acts.Act.TheVariants.{Drop}
 use Rattle.pl_switch_rule.specs.declared.came.Came.{Came}
 use Rattle.pl_switch_rule.specs.declared.came.Came.TheVariants.{FromHost}
 use Rattle.pl_journal.specs.declared.cause.Cause.{Cause}
 use Rattle.pl_journal.specs.declared.cause.Cause.TheVariants.{BadArp, NotPlaced, Spent}
-use Rattle.pl_core.specs.Accounting.{IsComing, IsShaped, IsWhole}
+use Rattle.pl_logic.specs.Accounting.{IsComing, IsShaped, IsWhole}
 use Rattle.pl_layouts.specs.Control.{is_control}
 use Rattle.pl_switch_rule.specs.Delivering.{arrives_home, destination}
 use Rattle.pl_switch_rule.specs.DropCauses.{CauseHolds, first_drop, has_no_hosts, is_of_host, seen}
@@ -21,11 +21,11 @@ use Rattle.pl_switch_rule.specs.GroupForwarding.{forwards_group}
 use Rattle.pl_switch_rule.specs.Intake.{hears_members, is_for_switch, mac_of_pmac, packet_acts, sends_in, source_pmac, takes, takes_in, takes_in_or_spent, with_pmac}
 use Rattle.pl_switch_rule.specs.Levels.{finds_host}
 use Rattle.pl_layouts.specs.Memberships.{is_group, membership_in}
-use Rattle.pl_core.specs.PortRecords.{place_at}
+use Rattle.pl_logic.specs.PortRecords.{place_at}
 use Rattle.pl_layouts.specs.Placement.{is_placed}
 use Rattle.pl_steps.specs.Steps.{SwitchStep, does, ◌▹◌}
 use Rattle.pl_switch_rule.specs.SwitchRule.{IsChoice, comes_from_switch, data_comes}
-use Rattle.pl_core.specs.SwitchViews.{SwitchView}
+use Rattle.pl_logic.specs.SwitchViews.{SwitchView}
 use Rattle.pl_layouts.proofs.Arrived.{destination_of-arriving, length-arriving, source_of-arriving}
 use Rattle.pl_switch_rule.proofs.DataFrames.{kind_of-arriving, six_of_pmac}
 use Rattle.pl_switch_rule.proofs.DroppedHome.{arrives_home_drops}

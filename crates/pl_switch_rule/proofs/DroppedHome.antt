@@ -8,12 +8,12 @@ use Rattle.pl_frame.specs.Ethernet.{destination_of, with_destination}
 use Rattle.pl_frame.proofs.Fields.{front_of}
 use Rattle.pl_pmac.specs.declared.pmac.Pmac.{Pmac}
 use Rattle.pl_pmac.specs.Pmac.{mac_of, pmac_of}
-use Rattle.pl_core.specs.declared.acts.Act.{Act}
-use Rattle.pl_core.specs.declared.acts.Act.TheVariants.{Redirect}
+use Rattle.pl_logic.specs.declared.acts.Act.{Act}
+use Rattle.pl_logic.specs.declared.acts.Act.TheVariants.{Redirect}
 use Rattle.pl_switch_rule.specs.declared.came.Came.TheVariants.{FromHost}
 use Rattle.pl_journal.specs.declared.cause.Cause.{Cause}
 use Rattle.pl_journal.specs.declared.cause.Cause.TheVariants.{NoAddress}
-use Rattle.pl_core.specs.declared.trap.Trap.{Trap}
+use Rattle.pl_logic.specs.declared.trap.Trap.{Trap}
 use Rattle.pl_switch_rule.specs.Delivering.{addresses, arrives_home, comes_home, delivers, delivers_or_redirects, delivers_to, destination, goes_on, if_newer, is_trapped, last_trap, redirects, redirects_on, tells_newer, tells_sender, trap_for}
 use Rattle.pl_switch_rule.specs.DropCauses.{CauseHolds, address_after, first_drop}
 use Rattle.pl_switch_rule.specs.Forwarding.{Choice, forwards}
@@ -22,8 +22,8 @@ use Rattle.pl_switch_rule.specs.Granting.{granted, is_local}
 use Rattle.pl_layouts.specs.Memberships.{is_group}
 use Rattle.pl_steps.specs.Steps.{does}
 use Rattle.pl_switch_rule.specs.SwitchRule.{IsChoice}
-use Rattle.pl_core.specs.declared.switch_records.Grant.{Grant}
-use Rattle.pl_core.specs.SwitchViews.{SwitchView}
+use Rattle.pl_logic.specs.declared.switch_records.Grant.{Grant}
+use Rattle.pl_logic.specs.SwitchViews.{SwitchView}
 use Rattle.pl_switch_rule.proofs.DataFrames.{six_of_pmac}
 use Rattle.pl_switch_rule.proofs.DroppedOut.{HasNoWay, forwards_drops}
 use Rattle.pl_switch_rule.proofs.FirstDrops.{AllGoOn, either_drops, first_before, first_behind}

@@ -6,7 +6,7 @@ use Rattle.pl_frame.specs.declared.address.Mac.{Mac}
 use Rattle.pl_frame.specs.Ethernet.{destination_of, source_of}
 use Rattle.pl_pmac.specs.declared.pmac.Pmac.{Pmac}
 use Rattle.pl_pmac.specs.Pmac.{pmac_of}
-use Rattle.pl_core.specs.declared.acts.Act.TheVariants.{Pass}
+use Rattle.pl_logic.specs.declared.acts.Act.TheVariants.{Pass}
 use Rattle.pl_switch_rule.specs.declared.came.Came.{Came}
 use Rattle.pl_journal.specs.declared.cause.Cause.{Cause}
 use Rattle.pl_journal.specs.declared.cause.Cause.TheVariants.{NoMember, NoNextHop}
@@ -18,7 +18,7 @@ use Rattle.pl_switch_rule.specs.GroupForwarding.{forwards_group, destination_gro
 use Rattle.pl_layouts.specs.Frames.{is_arp}
 use Rattle.pl_layouts.specs.Memberships.{flood, group_of, is_group}
 use Rattle.pl_switch_rule.specs.SwitchRule.{IsChoice}
-use Rattle.pl_core.specs.SwitchViews.{SwitchView}
+use Rattle.pl_logic.specs.SwitchViews.{SwitchView}
 
 -- Unicast.
 

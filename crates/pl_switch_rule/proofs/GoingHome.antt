@@ -6,21 +6,21 @@ use Rattle.pl_frame.specs.declared.address.Ip4.{Ip4}
 use Rattle.pl_frame.specs.Ethernet.{destination_of, with_destination}
 use Rattle.pl_pmac.specs.declared.pmac.Pmac.{Pmac}
 use Rattle.pl_pmac.specs.Pmac.{mac_of, pmac_of}
-use Rattle.pl_core.specs.declared.acts.Act.{Act}
-use Rattle.pl_core.specs.declared.acts.Act.TheVariants.{Redirect}
+use Rattle.pl_logic.specs.declared.acts.Act.{Act}
+use Rattle.pl_logic.specs.declared.acts.Act.TheVariants.{Redirect}
 use Rattle.pl_switch_rule.specs.declared.came.Came.TheVariants.{FromHost}
 use Rattle.pl_journal.specs.declared.cause.Cause.TheVariants.{NoAddress}
-use Rattle.pl_core.specs.declared.trap.Trap.{Trap}
+use Rattle.pl_logic.specs.declared.trap.Trap.{Trap}
 use Rattle.pl_switch_rule.specs.Delivering.{addresses, arrives_home, begins, comes_home, delivers, delivers_or_redirects, delivers_to, destination, goes_on, if_newer, is_trapped, last_trap, makes, newer_address, redirects, redirects_on, tells_newer, tells_sender, trap_for}
 use Rattle.pl_switch_rule.specs.Forwarding.{Choice, candidates_by, forwards, leaves_by}
 use Rattle.pl_layouts.specs.Frames.{arriving, is_arp}
 use Rattle.pl_switch_rule.specs.Granting.{grant_number, granted, grants_at, is_local}
-use Rattle.pl_core.specs.Accounting.{HasMac, IsFit, IsMade, IsShaped, IsWhole, speech}
-use Rattle.pl_core.specs.Accounting.Speech.{Redirected, Waiting}
+use Rattle.pl_logic.specs.Accounting.{HasMac, IsFit, IsMade, IsShaped, IsWhole, speech}
+use Rattle.pl_logic.specs.Accounting.Speech.{Redirected, Waiting}
 use Rattle.pl_steps.specs.Steps.{SwitchStep, does, ◌▹◌}
 use Rattle.pl_switch_rule.specs.SwitchRule.{IsChoice}
-use Rattle.pl_core.specs.declared.switch_records.Grant.{Grant}
-use Rattle.pl_core.specs.SwitchViews.{SwitchView}
+use Rattle.pl_logic.specs.declared.switch_records.Grant.{Grant}
+use Rattle.pl_logic.specs.SwitchViews.{SwitchView}
 use Rattle.pl_switch_rule.proofs.DataFrames.{arriving_made, newer_address_made, six_of_pmac, with_destination_made}
 use Rattle.pl_switch_rule.proofs.GoingOut.{drop_ends, forwards_ends, pass_ends}
 use Rattle.pl_switch_rule.proofs.Shapes.{same_self}

@@ -5,8 +5,8 @@ use Rattle.std.specs.List.{AllByRecursion, IsAmong}
 use Rattle.pl_frame.specs.Ethernet.{destination_of, source_of}
 use Rattle.pl_pmac.specs.declared.pmac.Pmac.{Pmac}
 use Rattle.pl_pmac.specs.Pmac.{pmac_of}
-use Rattle.pl_core.specs.declared.acts.Act.{Act}
-use Rattle.pl_core.specs.declared.acts.Act.TheVariants.{Drop, Pass}
+use Rattle.pl_logic.specs.declared.acts.Act.{Act}
+use Rattle.pl_logic.specs.declared.acts.Act.TheVariants.{Drop, Pass}
 use Rattle.pl_switch_rule.specs.declared.came.Came.{Came}
 use Rattle.pl_switch_rule.specs.declared.came.Way.{Way}
 use Rattle.pl_switch_rule.specs.declared.came.Way.TheVariants.{Down, Nowhere, ToHosts, Up}
@@ -15,11 +15,11 @@ use Rattle.pl_journal.specs.declared.cause.Cause.TheVariants.{NoNextHop}
 use Rattle.pl_switch_rule.specs.Forwarding.{Choice, candidates, candidates_by, forwards, is_candidate, leaves_by}
 use Rattle.pl_switch_rule.specs.GroupForwarding.{at_most_one, forwards_group, destination_group, group_ports, no_way, passes_or_drops, way_of}
 use Rattle.pl_switch_rule.specs.Intake.{takes}
-use Rattle.pl_core.specs.Accounting.{IsFit, IsMade, IsSent, IsShaped, speech}
-use Rattle.pl_core.specs.Accounting.Speech.{Passed}
+use Rattle.pl_logic.specs.Accounting.{IsFit, IsMade, IsSent, IsShaped, speech}
+use Rattle.pl_logic.specs.Accounting.Speech.{Passed}
 use Rattle.pl_steps.specs.Steps.{does}
 use Rattle.pl_switch_rule.specs.SwitchRule.{IsChoice}
-use Rattle.pl_core.specs.SwitchViews.{SwitchView}
+use Rattle.pl_logic.specs.SwitchViews.{SwitchView}
 use Rattle.pl_switch_rule.proofs.ControlParts.{ports_within}
 use Rattle.pl_switch_rule.proofs.Shapes.{same_self}
 use Rattle.pl_switch_rule.proofs.StepParts.{IsEnding}

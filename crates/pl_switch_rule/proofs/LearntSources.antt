@@ -10,24 +10,24 @@ use Rattle.pl_frame.specs.declared.address.Ip4.{Ip4}
 use Rattle.pl_frame.specs.declared.address.Mac.{Mac}
 use Rattle.pl_frame.specs.Ethernet.{source_of}
 use Rattle.pl_pmac.specs.declared.pmac.Pmac.{Pmac}
-use Rattle.pl_core.specs.declared.acts.Act.TheVariants.{Tell}
-use Rattle.pl_core.specs.declared.messages.ToManager.TheVariants.{Learned, Members}
-use Rattle.pl_core.specs.declared.neighbour.PortRecord.{PortRecord}
+use Rattle.pl_logic.specs.declared.acts.Act.TheVariants.{Tell}
+use Rattle.pl_logic.specs.declared.messages.ToManager.TheVariants.{Learned, Members}
+use Rattle.pl_logic.specs.declared.neighbour.PortRecord.{PortRecord}
 use Rattle.pl_layouts.specs.declared.place.Place.{Place}
-use Rattle.pl_core.specs.Accounting.{IsShaped}
+use Rattle.pl_logic.specs.Accounting.{IsShaped}
 use Rattle.pl_switch_rule.specs.Granting.{address_at_port, forgets, grant_number, grants_at, grants_next, grants_or_learns, grants_remembered, grants_source, has_no_address, in_use, is_port_spent, learns_ip, learns_source, new_grant, remembered_at, remembers, same_ip, sender_ip, with_grant, with_grants}
 use Rattle.pl_switch_rule.specs.Intake.{changes_member, group_told, groups_of, has_member_of, hears_members}
 use Rattle.pl_layouts.specs.Equality.{same_mac}
 use Rattle.pl_switch_rule.specs.Levels.{becomes_edge, changes_to, finds_host, has_become_placed, settles_in}
 use Rattle.pl_layouts.specs.Memberships.{changes_in}
 use Rattle.pl_journal.specs.Places.{are_alike}
-use Rattle.pl_core.specs.PortRecords.{is_open_to_hosts, new_port, port_of, ports_of_switch, with_port}
+use Rattle.pl_logic.specs.PortRecords.{is_open_to_hosts, new_port, port_of, ports_of_switch, with_port}
 use Rattle.pl_layouts.specs.Placement.{is_placed}
 use Rattle.pl_steps.specs.Steps.{SwitchStep, rests, ◌▹◌}
-use Rattle.pl_core.specs.declared.switch_records.Grant.{Grant}
-use Rattle.pl_core.specs.declared.switch_records.Member.{Member}
-use Rattle.pl_core.specs.declared.switch_records.Source.{Source}
-use Rattle.pl_core.specs.SwitchViews.{SwitchView}
+use Rattle.pl_logic.specs.declared.switch_records.Grant.{Grant}
+use Rattle.pl_logic.specs.declared.switch_records.Member.{Member}
+use Rattle.pl_logic.specs.declared.switch_records.Source.{Source}
+use Rattle.pl_logic.specs.SwitchViews.{SwitchView}
 use Rattle.pl_switch_rule.specs.Telling.{changes_told}
 use Rattle.pl_switch_rule.proofs.FirstDrops.{AllGoOn, GoesOn, go_on_flat_map, go_on_if, quiet_go_on}
 use Rattle.pl_switch_rule.proofs.LevelParts.{quiet_changes_told, quiet_finds_host}

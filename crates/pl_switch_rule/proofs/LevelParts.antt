@@ -2,19 +2,19 @@
 use Rattle.std.proofs.Common.{◌&&◌, not, ℕ, Bool, true, if◌then◌else◌, [], ◌∷◌, ◌++◌, Option, Some, None, is_none, arith}
 use Rattle.std.specs.List.{flat_map}
 use Rattle.pl_frame.specs.declared.address.SwitchId.{SwitchId}
-use Rattle.pl_core.specs.declared.acts.Act.TheVariants.{Tell}
-use Rattle.pl_core.specs.declared.messages.ToManager.TheVariants.{Place as TellPlace, PodWanted}
+use Rattle.pl_logic.specs.declared.acts.Act.TheVariants.{Tell}
+use Rattle.pl_logic.specs.declared.messages.ToManager.TheVariants.{Place as TellPlace, PodWanted}
 use Rattle.pl_layouts.specs.declared.control.Ldm.{Ldm}
 use Rattle.pl_layouts.specs.declared.place.Place.{Place}
 use Rattle.pl_switch_rule.specs.Granting.{grants_remembered}
-use Rattle.pl_core.specs.Accounting.{IsShaped}
+use Rattle.pl_logic.specs.Accounting.{IsShaped}
 use Rattle.pl_switch_rule.specs.Levels.{after_message, becomes_edge, changes_to, finds_host, has_become_placed, hears_message, learns_level, learns_pod, level_after, notes_edge, pod_after, pod_told_before, settles_in, with_level, with_message, with_pod}
 use Rattle.pl_journal.specs.Places.{are_alike}
 use Rattle.pl_switch_rule.specs.Positions.{notes_position}
-use Rattle.pl_core.specs.PortRecords.{id_at, is_usable, port_of, ports_of_switch, with_port}
+use Rattle.pl_logic.specs.PortRecords.{id_at, is_usable, port_of, ports_of_switch, with_port}
 use Rattle.pl_layouts.specs.Placement.{is_known, same_place}
 use Rattle.pl_steps.specs.Steps.{does, rests}
-use Rattle.pl_core.specs.SwitchViews.{SwitchView}
+use Rattle.pl_logic.specs.SwitchViews.{SwitchView}
 use Rattle.pl_switch_rule.specs.Telling.{changes_told, link_to, link_told, place_told, pod_wanted}
 use Rattle.pl_switch_rule.proofs.StepParts.{IsQuiet, IsSame, all_append, quiet_then_quiet, same_then}
 use Rattle.pl_switch_rule.proofs.Shapes.{all_range, same_self, same_with_port}

@@ -5,22 +5,22 @@ use Rattle.pl_frame.specs.declared.address.Ip4.{Ip4}
 use Rattle.pl_frame.specs.declared.address.Mac.{Mac}
 use Rattle.pl_pmac.specs.declared.pmac.Pmac.{Pmac}
 use Rattle.pl_switch_rule.specs.declared.came.Came.TheVariants.{FromHost}
-use Rattle.pl_core.specs.declared.messages.ToSwitch.{ToSwitch}
-use Rattle.pl_core.specs.declared.messages.ToSwitch.TheVariants.{Answer, Flood, Invalidate}
-use Rattle.pl_core.specs.declared.trap.Trap.{Trap}
+use Rattle.pl_logic.specs.declared.messages.ToSwitch.{ToSwitch}
+use Rattle.pl_logic.specs.declared.messages.ToSwitch.TheVariants.{Answer, Flood, Invalidate}
+use Rattle.pl_logic.specs.declared.trap.Trap.{Trap}
 use Rattle.pl_switch_rule.specs.Delivering.{makes}
 use Rattle.pl_switch_rule.specs.Forwarding.{Choice}
 use Rattle.pl_layouts.specs.Frames.{arriving}
 use Rattle.pl_switch_rule.specs.Granting.{granted, is_granted}
 use Rattle.pl_switch_rule.specs.GroupForwarding.{forwards_group}
-use Rattle.pl_core.specs.Accounting.{IsFit, IsAccounted, IsMade, IsShaped, is_said, speech}
-use Rattle.pl_core.specs.Accounting.Speech.{Silent}
+use Rattle.pl_logic.specs.Accounting.{IsFit, IsAccounted, IsMade, IsShaped, is_said, speech}
+use Rattle.pl_logic.specs.Accounting.Speech.{Silent}
 use Rattle.pl_switch_rule.specs.Messages.{answer_frame, flood_frame, floods, forgets_members, hears_manager, invalidates, probe_frame, probes, probes_at, sets_trap}
 use Rattle.pl_steps.specs.Steps.{SwitchStep, does, rests, ◌▹◌}
 use Rattle.pl_switch_rule.specs.SwitchRule.{IsChoice}
-use Rattle.pl_core.specs.SwitchInputs.SwitchInput.{Says}
-use Rattle.pl_core.specs.declared.switch_records.Grant.{Grant}
-use Rattle.pl_core.specs.SwitchViews.{SwitchView}
+use Rattle.pl_logic.specs.SwitchInputs.SwitchInput.{Says}
+use Rattle.pl_logic.specs.declared.switch_records.Grant.{Grant}
+use Rattle.pl_logic.specs.SwitchViews.{SwitchView}
 use Rattle.pl_switch_rule.proofs.AllSteps.{IsAccountedStep}
 use Rattle.pl_switch_rule.proofs.ControlSteps.{ended_is_said}
 use Rattle.pl_switch_rule.proofs.DataFrames.{answer_frame_made, arriving_made, flood_frame_made, probe_frame_made}

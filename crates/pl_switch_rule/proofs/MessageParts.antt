@@ -6,22 +6,22 @@ use Rattle.pl_frame.specs.declared.address.SwitchId.{SwitchId}
 use Rattle.pl_frame.specs.Ethernet.{source_of}
 use Rattle.pl_arp.specs.declared.packet.Arp.{Arp}
 use Rattle.pl_pmac.specs.declared.pmac.Pmac.{Pmac}
-use Rattle.pl_core.specs.declared.acts.Act.TheVariants.{Tell}
-use Rattle.pl_core.specs.declared.messages.ToManager.TheVariants.{Members}
-use Rattle.pl_core.specs.declared.messages.TreePart.{TreePart}
-use Rattle.pl_core.specs.declared.trap.Trap.{Trap}
+use Rattle.pl_logic.specs.declared.acts.Act.TheVariants.{Tell}
+use Rattle.pl_logic.specs.declared.messages.ToManager.TheVariants.{Members}
+use Rattle.pl_logic.specs.declared.messages.TreePart.{TreePart}
+use Rattle.pl_logic.specs.declared.trap.Trap.{Trap}
 use Rattle.pl_switch_rule.specs.Intake.{asks_manager, changes_member, group_told, groups_of, groups_told, has_member_of, hears_members, is_member, members_become, packet_acts, query, source_pmac, with_members}
-use Rattle.pl_core.specs.Accounting.{HasMac, IsShaped}
+use Rattle.pl_logic.specs.Accounting.{HasMac, IsShaped}
 use Rattle.pl_switch_rule.specs.Levels.{changes_to, with_pod}
 use Rattle.pl_layouts.specs.Memberships.{changes_in}
 use Rattle.pl_switch_rule.specs.Messages.{forgets_members, hears_pod, sets_trap, takes_pod, with_part}
-use Rattle.pl_core.specs.Traps.{newer_trap}
+use Rattle.pl_logic.specs.Traps.{newer_trap}
 use Rattle.pl_journal.specs.Places.{are_alike}
 use Rattle.pl_layouts.specs.Placement.{is_placed}
 use Rattle.pl_steps.specs.Steps.{does, rests}
-use Rattle.pl_core.specs.declared.switch_records.Grant.{Grant}
-use Rattle.pl_core.specs.declared.switch_records.Member.{Member}
-use Rattle.pl_core.specs.SwitchViews.{SwitchView}
+use Rattle.pl_logic.specs.declared.switch_records.Grant.{Grant}
+use Rattle.pl_logic.specs.declared.switch_records.Member.{Member}
+use Rattle.pl_logic.specs.SwitchViews.{SwitchView}
 use Rattle.pl_switch_rule.proofs.StepParts.{IsQuiet, IsSame}
 use Rattle.pl_switch_rule.proofs.Shapes.{same_but, same_self, same_shape}
 use Rattle.pl_switch_rule.proofs.QuietActs.{AreQuiet, quiet_either, quiet_flat_map, quiet_if, quiet_rests, quiet_self, quiet_step}

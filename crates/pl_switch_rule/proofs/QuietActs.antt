@@ -1,12 +1,12 @@
 -- Acts that speak of no frame's end: control frames, messages to the manager, grants.
 use Rattle.std.proofs.Common.{◌≡◌, ◌<◌, ℕ, Bool, true, false, List, [], ◌∷◌, map, if◌then◌else◌, refl}
 use Rattle.std.specs.List.{AllByRecursion, flat_map}
-use Rattle.pl_core.specs.declared.acts.Act.{Act}
-use Rattle.pl_core.specs.declared.acts.Act.TheVariants.{Control, Drop, Grant as GrantAct, Make, Pass, Redirect, Take, Tell}
-use Rattle.pl_core.specs.Accounting.{IsFit, IsSent, IsShaped, speech}
-use Rattle.pl_core.specs.Accounting.Speech.{Silent, Waiting}
+use Rattle.pl_logic.specs.declared.acts.Act.{Act}
+use Rattle.pl_logic.specs.declared.acts.Act.TheVariants.{Control, Drop, Grant as GrantAct, Make, Pass, Redirect, Take, Tell}
+use Rattle.pl_logic.specs.Accounting.{IsFit, IsSent, IsShaped, speech}
+use Rattle.pl_logic.specs.Accounting.Speech.{Silent, Waiting}
 use Rattle.pl_steps.specs.Steps.{SwitchStep, rests}
-use Rattle.pl_core.specs.SwitchViews.{SwitchView}
+use Rattle.pl_logic.specs.SwitchViews.{SwitchView}
 use Rattle.pl_switch_rule.proofs.StepParts.{IsQuiet, IsSame, all_append}
 use Rattle.pl_switch_rule.proofs.Shapes.{same_self}
 

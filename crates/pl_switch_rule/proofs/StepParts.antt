@@ -2,12 +2,12 @@
 -- what comes behind it.
 use Rattle.std.proofs.Common.{◌≡◌, ℕ, List, [], ◌∷◌, ◌++◌, refl, sym, ap, subst, ◌∙◌, ◌⊎◌, inl, inr}
 use Rattle.std.specs.List.{AllByRecursion}
-use Rattle.pl_core.specs.declared.acts.Act.{Act}
-use Rattle.pl_core.specs.declared.acts.Act.TheVariants.{Make}
-use Rattle.pl_core.specs.Accounting.{IsFit, IsMade, IsShaped, Speech, speech, speech_after}
-use Rattle.pl_core.specs.Accounting.Speech.{Ended, Passed, Silent, Waiting}
+use Rattle.pl_logic.specs.declared.acts.Act.{Act}
+use Rattle.pl_logic.specs.declared.acts.Act.TheVariants.{Make}
+use Rattle.pl_logic.specs.Accounting.{IsFit, IsMade, IsShaped, Speech, speech, speech_after}
+use Rattle.pl_logic.specs.Accounting.Speech.{Ended, Passed, Silent, Waiting}
 use Rattle.pl_steps.specs.Steps.{SwitchStep, ◌▹◌, does}
-use Rattle.pl_core.specs.SwitchViews.{SwitchView}
+use Rattle.pl_logic.specs.SwitchViews.{SwitchView}
 
 -- the same switch, of the same shape
 pub record IsSame (v w : SwitchView) : Type 0 where

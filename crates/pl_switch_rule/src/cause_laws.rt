@@ -1,10 +1,10 @@
 ghost use Rattle.std.specs.Prelude.{◌≡◌, ℕ, false, List, Some};
-ghost use Rattle.pl_core.specs.Accounting.{IsComing, IsShaped};
+ghost use Rattle.pl_logic.specs.Accounting.{IsComing, IsShaped};
 ghost use Rattle.pl_layouts.specs.Control.{is_control};
 ghost use Rattle.pl_switch_rule.specs.DropCauses.{CauseHolds, first_drop, seen};
 ghost use Rattle.pl_switch_rule.specs.Forwarding.{Choice};
 ghost use Rattle.pl_switch_rule.specs.SwitchRule.{Exact, IsChoice, Loose, data_comes};
-ghost use Rattle.pl_core.specs.SwitchViews.{SwitchView};
+ghost use Rattle.pl_logic.specs.SwitchViews.{SwitchView};
 ghost use Rattle.pl_journal.specs.declared.cause.Cause.{Cause};
 ghost use Rattle.pl_switch_rule.specs.CauseOf.{DropsForFirstCause};
 

@@ -1,10 +1,10 @@
-ghost use Rattle.pl_core.specs.Accounting.{AreOneRule, IsWithin};
+ghost use Rattle.pl_logic.specs.Accounting.{AreOneRule, IsWithin};
 ghost use Rattle.pl_switch_rule.specs.SwitchRule.{Exact, Loose};
 
-use pl_core::SwitchCore;
+use pl_logic::SwitchLogic;
 
 /// A switch that does all by the rule, and takes of the candidate ports the one that the flow names.
-pub trait LawfulSwitch: SwitchCore {
+pub trait LawfulSwitch: SwitchLogic {
     ghost lawful: { AreOneRule Self.rule Exact };
 }
 

@@ -1,7 +1,7 @@
 ghost use Rattle.std.specs.Prelude.{ℕ};
 ghost use Rattle.pl_frame.specs.declared.address.SwitchId.{SwitchId};
-ghost use Rattle.pl_core.specs.Accounting.{AccountsForFrames, IsShaped, IsWithin};
-ghost use Rattle.pl_core.specs.SwitchFacts.{CanBoot, switch_at_boot};
+ghost use Rattle.pl_logic.specs.Accounting.{AccountsForFrames, IsShaped, IsWithin};
+ghost use Rattle.pl_logic.specs.SwitchFacts.{CanBoot, switch_at_boot};
 ghost use Rattle.pl_switch_rule.specs.SwitchRule.{Exact, Loose};
 
 /// A switch that knows its id and its ports alone has the shape that its steps ask for and keep.

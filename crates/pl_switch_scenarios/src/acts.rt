@@ -1,5 +1,5 @@
-use pl_core::{Act, Memory, Outbox};
 use pl_frame::Mac;
+use pl_logic::{Act, Memory, Outbox};
 use pl_pmac::{Pmac, pack};
 use pl_scenario_words::{say, say_frame};
 use std::alloc::Global;

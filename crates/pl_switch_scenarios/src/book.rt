@@ -1,9 +1,9 @@
 //! `grant PORT MAC`, `learn PORT MAC [IP]`, `fill PORT COUNT`, `in-use PORT MAC`, `find PMAC`, `follow PMAC`,
 //! `trap PMAC NEW NUMBER [IP]`.
 use crate::pmacs::trap_to;
-use pl_core::{Memory, Outbox};
 use pl_frame::{Ip4, Mac};
 use pl_lists::Queue;
+use pl_logic::{Memory, Outbox};
 use pl_migrate::{AddressBook, GrantError};
 use pl_pmac::Pmac;
 use pl_scenario_words::{byte, first_word, is_remark, number, pmac, say};

@@ -1,8 +1,8 @@
 //! `hash FRAME`, `bytes BYTES`, `choose HASH PORT..`; frames and bytes are in hexadecimal.
-use pl_core::PortSet;
 use pl_flow::{flow_hash, fnv1a};
 use pl_forward::choose;
 use pl_frame::{Memory, view};
+use pl_logic::PortSet;
 use pl_scenario_words::{byte, first_word, frame, is_remark, number, say};
 use std::alloc::Global;
 

@@ -1,7 +1,7 @@
 //! `join PORT MAC GROUP`, `leave PORT MAC GROUP`, `forget PORT MAC`, `ports GROUP`, `groups`; a group is
 //! its number.
-use pl_core::PortSet;
 use pl_frame::{Mac, Memory};
+use pl_logic::PortSet;
 use pl_members::Members;
 use pl_scenario_words::{byte, first_word, is_remark, number, say};
 use pl_wiring::text::mac;

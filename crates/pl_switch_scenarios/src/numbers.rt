@@ -1,5 +1,5 @@
 ghost use Rattle.std.specs.Prelude.{IfSome};
-ghost use Rattle.pl_core.specs.SwitchFacts.{CanBoot, IsTreeSize};
+ghost use Rattle.pl_logic.specs.SwitchFacts.{CanBoot, IsTreeSize};
 
 use pl_frame::SwitchId;
 use pl_scenario_words::{byte, first_word, id};

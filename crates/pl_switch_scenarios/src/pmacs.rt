@@ -1,4 +1,4 @@
-use pl_core::Trap;
+use pl_logic::Trap;
 use pl_scenario_words::{first_word, pmac};
 use pl_wiring::text::ip;
 

@@ -3,11 +3,11 @@
 //! vote number V comes to E. `announces E A`: E says to A that its position is fixed. `propose E`,
 //! `hold A POSITION`.
 ghost use Rattle.std.specs.Prelude.{◌<◌};
-ghost use Rattle.pl_core.specs.SwitchFacts.{IsTreeSize};
+ghost use Rattle.pl_logic.specs.SwitchFacts.{IsTreeSize};
 
 use crate::numbers::tree_size;
-use pl_core::{Memory, Vote};
 use pl_frame::SwitchId;
+use pl_logic::{Memory, Vote};
 use pl_position::{Holder, Proposer};
 use pl_scenario_words::{byte, first_word, id, is_remark, say};
 use std::alloc::Global;

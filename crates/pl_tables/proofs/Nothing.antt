@@ -5,9 +5,9 @@ use Rattle.pl_frame.specs.declared.address.SwitchId.{SwitchId}
 use Rattle.pl_layouts.specs.declared.place.Place.{Place}
 use Rattle.pl_layouts.specs.Placement.{is_known, nowhere}
 use Rattle.pl_lists.specs.Ports.{ports_of}
-use Rattle.pl_core.specs.declared.neighbour.PortRecord.{PortRecord}
-use Rattle.pl_core.specs.PortRecords.{port_of}
-use Rattle.pl_core.specs.SwitchViews.{SwitchView}
+use Rattle.pl_logic.specs.declared.neighbour.PortRecord.{PortRecord}
+use Rattle.pl_logic.specs.PortRecords.{port_of}
+use Rattle.pl_logic.specs.SwitchViews.{SwitchView}
 use Rattle.pl_tables.specs.declared.lead.Lead.{Lead}
 use Rattle.pl_tables.specs.declared.port_rows.PortRow.{PortRow}
 use Rattle.pl_tables.specs.declared.prefix_tables.PrefixTables.{PrefixTables}

@@ -8,12 +8,12 @@ use Rattle.pl_layouts.specs.Placement.{is_known}
 use Rattle.pl_lists.specs.declared.port_set.PortSet.{PortSet}
 use Rattle.pl_lists.specs.Ports.{ports_of}
 use Rattle.pl_lists.proofs.PortBits.{has_port_is}
-use Rattle.pl_core.specs.AvoidLists.{is_level_above}
-use Rattle.pl_core.specs.declared.neighbour.Neighbour.{Neighbour}
-use Rattle.pl_core.specs.declared.neighbour.PortRecord.{PortRecord}
-use Rattle.pl_core.specs.PortRecords.{heard_id, heard_place, is_usable_record, port_of, ports_of_switch}
-use Rattle.pl_core.specs.SwitchFacts.{is_avoided}
-use Rattle.pl_core.specs.SwitchViews.{SwitchView}
+use Rattle.pl_logic.specs.AvoidLists.{is_level_above}
+use Rattle.pl_logic.specs.declared.neighbour.Neighbour.{Neighbour}
+use Rattle.pl_logic.specs.declared.neighbour.PortRecord.{PortRecord}
+use Rattle.pl_logic.specs.PortRecords.{heard_id, heard_place, is_usable_record, port_of, ports_of_switch}
+use Rattle.pl_logic.specs.SwitchFacts.{is_avoided}
+use Rattle.pl_logic.specs.SwitchViews.{SwitchView}
 use Rattle.pl_tables.specs.declared.lead.Lead.{Lead}
 use Rattle.pl_tables.specs.declared.port_rows.PortRow.{PortRow}
 use Rattle.pl_tables.specs.declared.prefix_tables.PrefixTables.{PrefixTables}

@@ -5,11 +5,11 @@ use Rattle.pl_frame.specs.declared.address.SwitchId.{SwitchId}
 use Rattle.pl_lists.specs.Ports.{ports_of}
 use Rattle.pl_layouts.specs.declared.place.Place.{Place}
 use Rattle.pl_layouts.specs.Placement.{is_known}
-use Rattle.pl_core.specs.AvoidLists.{is_level_above}
-use Rattle.pl_core.specs.declared.neighbour.Neighbour.{Neighbour}
-use Rattle.pl_core.specs.declared.neighbour.PortRecord.{PortRecord}
-use Rattle.pl_core.specs.PortRecords.{is_usable_record, port_of}
-use Rattle.pl_core.specs.SwitchViews.{SwitchView}
+use Rattle.pl_logic.specs.AvoidLists.{is_level_above}
+use Rattle.pl_logic.specs.declared.neighbour.Neighbour.{Neighbour}
+use Rattle.pl_logic.specs.declared.neighbour.PortRecord.{PortRecord}
+use Rattle.pl_logic.specs.PortRecords.{is_usable_record, port_of}
+use Rattle.pl_logic.specs.SwitchViews.{SwitchView}
 use Rattle.pl_tables.specs.declared.lead.Lead.{Lead}
 use Rattle.pl_tables.specs.declared.port_rows.PortRow.{PortRow}
 use Rattle.pl_tables.specs.declared.prefix_tables.PrefixTables.{PrefixTables}

@@ -1,14 +1,14 @@
 ghost use Rattle.std.specs.Prelude.{◌≡◌, ℕ, ◌<◌, ◌≤◌, true, OnOk, length, slice_set};
-ghost use Rattle.pl_core.specs.PortRecords.{port_of};
+ghost use Rattle.pl_logic.specs.PortRecords.{port_of};
 ghost use Rattle.pl_layouts.specs.Placement.{is_known};
 ghost use Rattle.pl_tables.specs.Leads.{avoids_by, lead_at, lead_of, no_lead, AreOfLeads, ChangesRows, Follows, Moves, MovesLead};
 
 use crate::filling::{set_avoided, set_down, with_port};
 use crate::lead::{Lead, lead_of};
 use crate::{PortRows, PrefixTables};
-use pl_core::{AvoidList, SwitchFacts};
 use pl_frame::SwitchId;
 use pl_lists::Memory;
+use pl_logic::{AvoidList, SwitchFacts};
 
 /// What is known of each port leads to its part of the tables: those of the ports that lead elsewhere than
 /// before are changed, and no others.

@@ -5,7 +5,7 @@ use crate::PrefixTables;
 use crate::following::follow;
 use crate::lead::{Lead, no_leads};
 use crate::lists::change_list;
-use pl_core::{AvoidList, Memory, SwitchFacts};
+use pl_logic::{AvoidList, Memory, SwitchFacts};
 use pl_plain::PlainState;
 
 /// The tables follow what a call has changed at the ports. After want of memory, in the call or here, the

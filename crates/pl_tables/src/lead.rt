@@ -1,9 +1,9 @@
 ghost use Rattle.std.specs.Prelude.{◌≡◌, replicate};
 ghost use Rattle.pl_tables.specs.Leads.{above, key_below, lead_of, no_lead};
 
-use pl_core::{Neighbour, PortRecord};
 use pl_frame::SwitchId;
 use pl_layouts::Place;
+use pl_logic::{Neighbour, PortRecord};
 
 /// What the neighbour at a usable port is to a switch: one above, by its id, or one below, by the key of
 /// its row.

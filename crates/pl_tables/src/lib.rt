@@ -1,7 +1,7 @@
 //! A switch that keeps prefix tables: of its usable ports those up, of these the ones that an address is not
 //! to take, and those down by position or by pod.
 //!
-//! `TableSwitch` is a `SwitchCore` under the exact rule of a switch, as the plain switch is: the tables follow
+//! `TableSwitch` is a `SwitchLogic` under the exact rule of a switch, as the plain switch is: the tables follow
 //! from what a switch knows, and say of a unicast frame what its rule says. A frame costs a look-up by
 //! halving. What comes changes the rows that it touches: each port's lead is kept, which is what its
 //! neighbour is to the switch, and a port whose lead is what it was is passed over.
@@ -24,5 +24,5 @@ mod lists;
 mod port_rows;
 mod prefix_tables;
 mod records;
-mod switch_core;
+mod switch_logic;
 mod table_switch;

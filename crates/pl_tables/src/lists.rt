@@ -5,9 +5,9 @@ ghost use Rattle.pl_tables.specs.Leads.{avoids_by, is_entry_for, lead_at, AreAvo
 use crate::PortRows;
 use crate::filling::set_entry;
 use crate::lead::Lead;
-use pl_core::AvoidList;
 use pl_frame::SwitchId;
 use pl_lists::Memory;
+use pl_logic::AvoidList;
 
 /// The rows of the ports up follow a new avoid list: what it no longer has is cleared, what it has anew is
 /// set, and no other row is touched.

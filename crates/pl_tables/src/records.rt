@@ -1,9 +1,9 @@
 use crate::TableSwitch;
 use crate::keeping::{keep_up, take_list};
-use pl_core::{AvoidList, Memory, Outbox, Trap, TreePart};
 use pl_data_rows::KeepsRecords;
 use pl_edge::{EdgeAct, EdgeTable};
 use pl_frame::Frame;
+use pl_logic::{AvoidList, Memory, Outbox, Trap, TreePart};
 use pl_pmac::Pmac;
 use std::alloc::Global;
 

@@ -2,11 +2,11 @@ ghost use Rattle.pl_tables.specs.Tables.{AreTables};
 
 use crate::PrefixTables;
 use crate::lead::Lead;
-use pl_core::{AvoidList, PortRecord, SwitchFacts, TreePart};
 use pl_forward::{GroupFacts, UnicastFacts};
 use pl_frame::SwitchId;
 use pl_layouts::Place;
 use pl_lists::PortSet;
+use pl_logic::{AvoidList, PortRecord, SwitchFacts, TreePart};
 use pl_plain::PlainState;
 use pl_pmac::Pmac;
 use pl_switch_rule::Came;
@@ -22,7 +22,7 @@ pub struct TableSwitch {
 }
 
 impl Model for TableSwitch {
-    ghost use Rattle.pl_core.specs.SwitchViews.{SwitchView};
+    ghost use Rattle.pl_logic.specs.SwitchViews.{SwitchView};
     ghost use Rattle.pl_tables.specs.Leads.{Follows};
 
     ghost Value = { SwitchView };

@@ -6,9 +6,9 @@ use Rattle.pl_journal.specs.declared.cause.Cause.{Cause}
 use Rattle.pl_journal.specs.declared.entry.Entry.TheVariants.{Arrived, Dropped, Taken}
 use Rattle.pl_journal.specs.Flights.{ends}
 use Rattle.pl_journal.specs.Lossy.{GoodTrail, Run}
-use Rattle.pl_core.specs.HostInputs.{HostRule}
-use Rattle.pl_core.specs.ManagerDuties.{ManagerRule}
-use Rattle.pl_core.specs.SwitchInputs.{SwitchRule}
+use Rattle.pl_logic.specs.HostInputs.{HostRule}
+use Rattle.pl_logic.specs.ManagerDuties.{ManagerRule}
+use Rattle.pl_logic.specs.SwitchInputs.{SwitchRule}
 use Rattle.pl_world.specs.declared.limits.Limits.{Limits}
 use Rattle.pl_world.specs.Booting.{booted}
 use Rattle.pl_world.specs.Changes.{host_no}

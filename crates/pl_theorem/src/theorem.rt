@@ -7,15 +7,15 @@ ghost use Rattle.pl_world.specs.Worlds.{WorldView};
 ghost use Rattle.pl_theorem.specs.OneSwitch.{IsOneSwitch, SureFramesArrive};
 
 use pl_arrival::{a_sure_frame_has_no_other_end, a_sure_frame_that_ends_has_arrived};
-use pl_attended::lawful_cores_register_hosts_at_rest;
+use pl_attended::lawful_logic_registers_hosts_at_rest;
 use pl_host_rule::LawfulHost;
-use pl_kept::lawful_cores_keep_all_of_it;
+use pl_kept::lawful_logic_keeps_all_of_it;
 use pl_manager_rule::LawfulManager;
 use pl_settled_laws::settled_runs_have_current_records_and_positions;
 use pl_switch_rule::LooseSwitch;
-use pl_told::{lawful_cores_are_one_lossy_switch, lawful_cores_tell_what_is_so};
+use pl_told::{lawful_logic_is_one_lossy_switch, lawful_logic_tells_what_is_so};
 
-/// In each run of lawful cores each frame that was sure until it ended has arrived, and has no other end.
+/// In each run of lawful logic each frame that was sure until it ended has arrived, and has no other end.
 pub fn sure_frames_arrive<S: LooseSwitch, M: LawfulManager, H: LawfulHost>()
     ensures { (plan : Plan) (limits : Limits) (moments : List Moment) (new : WorldView) → CanBegin plan →
         WorldRun S.rule M.rule H.rule (booted plan limits) moments new → SureFramesArrive S.rule M.rule H.rule plan limits new }
@@ -25,15 +25,15 @@ pub fn sure_frames_arrive<S: LooseSwitch, M: LawfulManager, H: LawfulHost>()
 }
 
 /// Whatever the wiring, the events and the ports that switches choose among their candidates: at each moment of
-/// each run from the beginning a fabric of lawful cores is one lossy switch.
-pub fn lawful_cores_are_one_switch<S: LooseSwitch, M: LawfulManager, H: LawfulHost>()
+/// each run from the beginning a fabric of lawful logic is one lossy switch.
+pub fn lawful_logic_is_one_switch<S: LooseSwitch, M: LawfulManager, H: LawfulHost>()
     ensures { (plan : Plan) (limits : Limits) (moments : List Moment) (new : WorldView) → CanBegin plan →
         WorldRun S.rule M.rule H.rule (booted plan limits) moments new → IsOneSwitch S.rule M.rule H.rule plan limits new }
 {
-    lawful_cores_keep_all_of_it::<S, M, H>();
-    lawful_cores_are_one_lossy_switch::<S, M, H>();
-    lawful_cores_tell_what_is_so::<S, M, H>();
+    lawful_logic_keeps_all_of_it::<S, M, H>();
+    lawful_logic_is_one_lossy_switch::<S, M, H>();
+    lawful_logic_tells_what_is_so::<S, M, H>();
     settled_runs_have_current_records_and_positions::<S, M, H>();
-    lawful_cores_register_hosts_at_rest::<S, M, H>();
+    lawful_logic_registers_hosts_at_rest::<S, M, H>();
     sure_frames_arrive::<S, M, H>();
 }

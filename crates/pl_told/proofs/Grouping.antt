@@ -1,7 +1,7 @@
 -- In every run frames of groups arrive well.
 use Rattle.pl_wiring.specs.Plan.{Plan}
-use Rattle.pl_core.specs.HostDuties.{HostsJoinBySending, HostsSendData, HostsSendOwn}
-use Rattle.pl_core.specs.HostInputs.{HostRule}
+use Rattle.pl_logic.specs.HostDuties.{HostsJoinBySending, HostsSendData, HostsSendOwn}
+use Rattle.pl_logic.specs.HostInputs.{HostRule}
 use Rattle.pl_manager_rule.specs.ManagerRule.{manager_rule}
 use Rattle.pl_switch_rule.specs.SwitchRule.{Loose}
 use Rattle.pl_switch_rule.proofs.AccountedSteps.{loose_steps_are_accounted}

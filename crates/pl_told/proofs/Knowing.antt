@@ -13,9 +13,9 @@ use Rattle.pl_wiring.specs.Peers.{peer_of}
 use Rattle.pl_wiring.proofs.LabelOrder.{label_of-aggregation, label_of-core, label_of-edge}
 use Rattle.pl_journal.specs.Flights.{level_of}
 use Rattle.pl_journal.specs.Places.{is_host_port, number}
-use Rattle.pl_core.specs.declared.neighbour.Neighbour.{Neighbour}
-use Rattle.pl_core.specs.PortRecords.{heard_echo, heard_place, is_id, is_usable, place_at, port_of}
-use Rattle.pl_core.specs.SwitchViews.{SwitchView}
+use Rattle.pl_logic.specs.declared.neighbour.Neighbour.{Neighbour}
+use Rattle.pl_logic.specs.PortRecords.{heard_echo, heard_place, is_id, is_usable, place_at, port_of}
+use Rattle.pl_logic.specs.SwitchViews.{SwitchView}
 use Rattle.pl_world.specs.Worlds.{WorldView}
 use Rattle.pl_control_plane.specs.ControlPlanes.{control_plane, no_switch}
 use Rattle.pl_control_plane.proofs.Joined.{joined_turned}

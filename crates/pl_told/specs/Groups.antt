@@ -1,7 +1,7 @@
 -- What frames of groups give.
 use Rattle.std.specs.Prelude.{List}
 use Rattle.pl_wiring.specs.Plan.{Plan}
-use Rattle.pl_core.specs.HostInputs.{HostRule}
+use Rattle.pl_logic.specs.HostInputs.{HostRule}
 use Rattle.pl_manager_rule.specs.ManagerRule.{manager_rule}
 use Rattle.pl_switch_rule.specs.SwitchRule.{Loose}
 use Rattle.pl_world.specs.declared.limits.Limits.{Limits}

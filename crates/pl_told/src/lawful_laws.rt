@@ -11,15 +11,15 @@ use pl_host_rule::LawfulHost;
 use pl_manager_rule::LawfulManager;
 use pl_switch_rule::LooseSwitch;
 
-/// So it is in each run of lawful cores: what the journal says of frames, links and hosts is so.
-pub fn lawful_cores_tell_what_is_so<S: LooseSwitch, M: LawfulManager, H: LawfulHost>()
+/// So it is in each run of lawful logic: what the journal says of frames, links and hosts is so.
+pub fn lawful_logic_tells_what_is_so<S: LooseSwitch, M: LawfulManager, H: LawfulHost>()
     ensures { (plan : Plan) (limits : Limits) (moments : List Moment) (new : WorldView) → CanBegin plan →
         WorldRun S.rule M.rule H.rule (booted plan limits) moments new → IsTold new }
 {}
 
-/// Whatever the wiring, the events and the choices of the switches, lawful cores are one lossy switch with
+/// Whatever the wiring, the events and the choices of the switches, lawful logic is one lossy switch with
 /// good trails, as their journal shows.
-pub fn lawful_cores_are_one_lossy_switch<S: LooseSwitch, M: LawfulManager, H: LawfulHost>()
+pub fn lawful_logic_is_one_lossy_switch<S: LooseSwitch, M: LawfulManager, H: LawfulHost>()
     ensures run { (plan : Plan) (limits : Limits) (moments : List Moment) (new : WorldView) → CanBegin plan →
         WorldRun S.rule M.rule H.rule (booted plan limits) moments new → Run new.plan new.journal }
     ensures trails { (plan : Plan) (limits : Limits) (moments : List Moment) (new : WorldView) → CanBegin plan →

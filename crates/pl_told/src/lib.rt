@@ -3,7 +3,7 @@
 //! journal says that it is on its way.
 #![tactic(auto)]
 
-pub use lawful_laws::{lawful_cores_are_one_lossy_switch, lawful_cores_tell_what_is_so};
+pub use lawful_laws::{lawful_logic_is_one_lossy_switch, lawful_logic_tells_what_is_so};
 pub use run_laws::{
     frames_of_groups_arrive_well_in_every_run, the_journal_is_a_run_of_one_lossy_switch,
     the_manager_numbers_well_in_every_run, the_trails_of_the_journal_are_good,

@@ -12,12 +12,12 @@ ghost use Rattle.pl_flights.specs.OnTheWay.{IsTold};
 ghost use Rattle.pl_flights.specs.Standing.{StandsOn, StandsOnHosts};
 ghost use Rattle.pl_told.specs.Groups.{GroupsAreWell};
 
-use pl_core::HostCore;
 use pl_host_rule::LawfulHost;
+use pl_logic::HostLogic;
 
 /// In every run what switches know of places, of addresses and of the hosts at their ports is so, by the
 /// journal.
-pub fn what_switches_know_is_so_in_every_run<H: HostCore>()
+pub fn what_switches_know_is_so_in_every_run<H: HostLogic>()
     ensures addresses { (plan : Plan) (limits : Limits) (moments : List Moment) (new : WorldView) → CanBegin plan →
         WorldRun Loose manager_rule H.rule (booted plan limits) moments new → StandsOn new }
     ensures hosts { (plan : Plan) (limits : Limits) (moments : List Moment) (new : WorldView) → CanBegin plan →
@@ -26,7 +26,7 @@ pub fn what_switches_know_is_so_in_every_run<H: HostCore>()
 
 /// In every run each address that the manager numbers may be numbered then: it is granted, it has no number
 /// yet, and its number is the next one.
-pub fn the_manager_numbers_well_in_every_run<H: HostCore>()
+pub fn the_manager_numbers_well_in_every_run<H: HostLogic>()
     ensures { (plan : Plan) (limits : Limits) (moments : List Moment) (new : WorldView) → CanBegin plan →
         WorldRun Loose manager_rule H.rule (booted plan limits) moments new → ManagerNumbersWell manager_rule new }
 {}

@@ -6,7 +6,7 @@ use Rattle.pl_wiring.specs.declared.label.Label.TheVariants.{Edge, Aggregation, 
 use Rattle.pl_wiring.specs.Labels.{IsArity, IsLabel, edge_count, number_of, label_of}
 use Rattle.pl_wiring.specs.FatTree.{IsAt, above, canonical_link, link_count, lower_at, number_below, upper_at}
 use Rattle.pl_wiring.proofs.LabelOrder.{half_at_least, label_of-IsLabel, number_of-label_of, twice_half}
-use Rattle.pl_wiring.proofs.LinkOrder.{lower_at-below, upper_at-same_place}
+use Rattle.pl_wiring.proofs.LinkOrder.{lower_at-below, upper_at-same_uplink}
 
 -- a switch has a smaller number than one above it
 above-higher : (k x : ℕ) (label : Label) → IsLabel k label → number_of k label < edge_count k + edge_count k → number_of k label < number_of k (above label x)
@@ -18,15 +18,15 @@ above-higher k x (Core g m) is low = absurd (omega arith)
 above-one : (k x : ℕ) (a b : Label) → IsLabel k a → IsLabel k b → number_of k a < edge_count k + edge_count k → number_of k b < edge_count k + edge_count k → x < k / 2 →
     number_of k (above a x) ≡ number_of k (above b x) → number_below a ≡ number_below b → number_of k a ≡ number_of k b
 above-one k x (Edge p i) (Edge q j) ha hb la lb lx e n =
-    let places : p * (k / 2) + x ≡ q * (k / 2) + x = omega arith in
-    let pods = (same_from_place p x q x (k / 2) lx lx places).0 in
+    let same : p * (k / 2) + x ≡ q * (k / 2) + x = omega arith in
+    let pods = (same_from_place p x q x (k / 2) lx lx same).0 in
     let same : i ≡ j = n in
     rw (pods, same) refl
 above-one k x (Edge p i) (Aggregation q j) ha hb la lb lx e n = absurd (omega (arith, mul-add-lt p (k / 2) x k ha.0 lx))
 above-one k x (Aggregation p i) (Edge q j) ha hb la lb lx e n = absurd (omega (arith, mul-add-lt q (k / 2) x k hb.0 lx))
 above-one k x (Aggregation p i) (Aggregation q j) ha hb la lb lx e n =
-    let places : i * (k / 2) + x ≡ j * (k / 2) + x = omega arith in
-    let numbers = (same_from_place i x j x (k / 2) lx lx places).0 in
+    let same : i * (k / 2) + x ≡ j * (k / 2) + x = omega arith in
+    let numbers = (same_from_place i x j x (k / 2) lx lx same).0 in
     let pods : p ≡ q = n in
     rw (pods, numbers) refl
 above-one k x (Core g m) b ha hb la lb lx e n = absurd (omega arith)
@@ -51,7 +51,7 @@ lower-upper k n pos within =
     rw number_of-label_of at (above-higher k (n % (k / 2)) (label_of k (lower_at k n)) label low)
 
 same_number : (k m n : ℕ) → lower_at k m ≡ lower_at k n → m % (k / 2) ≡ n % (k / 2) → m ≡ n
-same_number k m n low place = sym (div-add-mod' m (k / 2)) ∙ rw (low, place) (div-add-mod' n (k / 2))
+same_number k m n low uplink = sym (div-add-mod' m (k / 2)) ∙ rw (low, uplink) (div-add-mod' n (k / 2))
 
 pub canonical_apart : (k m n : ℕ) → IsArity k → m < link_count k → n < link_count k → m ≢ n → (s p : ℕ) → IsAt (canonical_link k m) s p → IsAt (canonical_link k n) s p → ⊥
 canonical_apart k m n arity lm ln differ s p at_m at_n =
@@ -75,10 +75,10 @@ canonical_apart k m n arity lm ln differ s p at_m at_n =
             no_up_port k (n % (k / 2)) (m % (k / 2)) (lower_at k n) (label_of k (lower_at k m)) label_m below_n low_m (upper_m.0 ∙ sym lower_n.0) (lower_n.1 ∙ sym upper_m.1)
         | inr upper_n ↦
             let upper : upper_at k m ≡ upper_at k n = upper_m.0 ∙ sym upper_n.0 in
-            let place = upper_at-same_place k m n pos lm ln upper in
-            let aligned : number_of k (above (label_of k (lower_at k m)) (n % (k / 2))) ≡ number_of k (above (label_of k (lower_at k n)) (n % (k / 2))) = (rw place at upper) in
+            let uplink = upper_at-same_uplink k m n pos lm ln upper in
+            let aligned : number_of k (above (label_of k (lower_at k m)) (n % (k / 2))) ≡ number_of k (above (label_of k (lower_at k n)) (n % (k / 2))) = (rw uplink at upper) in
             let low = above-one k (n % (k / 2)) (label_of k (lower_at k m)) (label_of k (lower_at k n)) label_m label_n low_m low_n (mod_below n (k / 2) pos) aligned (upper_m.1 ∙ sym upper_n.1) in
-            differ (same_number k m n (sym (number_of-label_of k (lower_at k m)) ∙ low ∙ number_of-label_of k (lower_at k n)) place)
+            differ (same_number k m n (sym (number_of-label_of k (lower_at k m)) ∙ low ∙ number_of-label_of k (lower_at k n)) uplink)
       ]
     ]
 
@@ -93,6 +93,6 @@ canonical_ports k n arity within =
     let two = half_at_least k arity in
     let twice = twice_half k arity in
     let pos : 0 < k / 2 = omega arith in
-    let place = mod_below n (k / 2) pos in
+    let uplink = mod_below n (k / 2) pos in
     let half : k / 2 ≤ k = omega arith in
     (omega arith, number_below-port k (label_of k (lower_at k n)) (lower_is k n pos within).0 half)

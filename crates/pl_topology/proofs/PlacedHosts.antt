@@ -71,9 +71,9 @@ taken_place g h k fit edge port =
     let here = use_here (record { switch = g.edge; port = g.port; counts = true }) h.edge.0 (port_number h.port) refl edge (port_number-is k g.port fit ∙ ap (λ n. pos n) port) in
     rw here refl
 
-places_apart : (k : ℕ) (given : List LinkEntry) (hosts : List HostEntry) → AgreeHosts k given hosts →
+ports_apart : (k : ℕ) (given : List LinkEntry) (hosts : List HostEntry) → AgreeHosts k given hosts →
     AllPairs (λ g h. (g.edge.0 ≡ h.edge.0) × (port_number g.port ≡ port_number h.port) → ⊥) hosts
-places_apart k given hosts agree i j d less within same =
+ports_apart k given hosts agree i j d less within same =
     let low : i < length hosts = omega arith in
     let g = get_or hosts i d in
     let h = get_or hosts j d in
@@ -83,7 +83,7 @@ no_host : HostEntry
 no_host = record { name = []; mac = record { 0 = [] }; ip = record { 0 = 0 }; edge = record { 0 = 0 }; port = pos 0; capture = None }
 
 pub hosts_places_apart : (k : ℕ) (given : List LinkEntry) (hosts : List HostEntry) → AgreeHosts k given hosts → AllPairs (λ g h. StandsAt g h.edge.0 h.port → ⊥) (map host_of hosts)
-hosts_places_apart k given hosts agree = AllPairs-map (λ g h. StandsAt g h.edge.0 h.port → ⊥) host_of no_host hosts (places_apart k given hosts agree)
+hosts_places_apart k given hosts agree = AllPairs-map (λ g h. StandsAt g h.edge.0 h.port → ⊥) host_of no_host hosts (ports_apart k given hosts agree)
 
 pub hosts_names_apart : (k : ℕ) (given : List LinkEntry) (hosts : List HostEntry) → AgreeHosts k given hosts → AllPairs (λ g h. g.name ≢ h.name) (map host_of hosts)
 hosts_names_apart k given hosts agree = AllPairs-map (λ g h. g.name ≢ h.name) host_of no_host hosts agree.names
@@ -94,9 +94,9 @@ hosts_macs_apart k given hosts agree = AllPairs-map (λ g h. g.mac ≢ h.mac) ho
 pub hosts_ips_apart : (k : ℕ) (given : List LinkEntry) (hosts : List HostEntry) → AgreeHosts k given hosts → AllPairs (λ g h. g.ip ≢ h.ip) (map host_of hosts)
 hosts_ips_apart k given hosts agree = AllPairs-map (λ g h. g.ip ≢ h.ip) host_of no_host hosts agree.ips
 
--- the place of a host's port among all
-place : ℕ → HostEntry → ℕ
-place k host = host.edge.0 * k + port_number host.port
+-- the index of a host's port among all
+index_of : ℕ → HostEntry → ℕ
+index_of k host = host.edge.0 * k + port_number host.port
 
 any_below : (n q : ℕ) (xs : List ℕ) → All (λ x. x < n) xs → list_any (eqb q) xs ≡ true → q < n
 any_below n q [] all there = cc
@@ -106,25 +106,25 @@ any_below n q (x ∷ xs) all there = elim (cases_Bool (eqb q x)) [
 ]
 
 pub few_hosts : (k : ℕ) (given : List LinkEntry) (hosts : List HostEntry) → IsArity k → AgreeHosts k given hosts → length hosts < 2 ^ 32
-unfolding place
+unfolding index_of
 few_hosts k given hosts arity agree =
     let most = arity.most in
     let half : k / 2 ≤ 12 = omega arith in
     let edges : k * (k / 2) ≤ 24 * 12 = omega (arith, mul-le-mul_right (k / 2) most, mul-le-mul_left 24 half) in
     let ports : edge_count k * k ≤ 24 * 12 * 24 = omega (arith, mul-le-mul_right k edges, mul-le-mul_left (24 * 12) most) in
-    let apart : AllPairs (λ x y. x ≢ y) (map (place k) hosts) = AllPairs-map (λ x y. x ≢ y) (place k) no_host hosts
+    let apart : AllPairs (λ x y. x ≢ y) (map (index_of k) hosts) = AllPairs-map (λ x y. x ≢ y) (index_of k) no_host hosts
     (λ i j d less within same.
     let low : i < length hosts = omega arith in
     let g = get_or hosts i d in
     let h = get_or hosts j d in
     let below_g = port_number-below k g.port (hosts_fit k given hosts agree i d low) in
     let below_h = port_number-below k h.port (hosts_fit k given hosts agree j d within) in
-    places_apart k given hosts agree i j d less within (same_from_place g.edge.0 (port_number g.port) h.edge.0 (port_number h.port) k below_g below_h same)) in
-    let below : All (λ x. x < edge_count k * k) (map (place k) hosts) = All-map (λ x. x < edge_count k * k) (place k) hosts
+    ports_apart k given hosts agree i j d less within (same_from_place g.edge.0 (port_number g.port) h.edge.0 (port_number h.port) k below_g below_h same)) in
+    let below : All (λ x. x < edge_count k * k) (map (index_of k) hosts) = All-map (λ x. x < edge_count k * k) (index_of k) hosts
     (λ i d within.
     let h = get_or hosts i d in
     let inside = mul-add-lt h.edge.0 k (port_number h.port) (edge_count k) (agree.edges i d within) (port_number-below k h.port (hosts_fit k given hosts agree i d within)) in
     omega arith) in
-    let few = length-le_from_distinct_below (map (place k) hosts) (edge_count k * k) (IsDistinct-from_AllPairs Decides-eqb (map (place k) hosts) apart) (λ q there. any_below (edge_count k * k) q (map (place k) hosts) below there) in
+    let few = length-le_from_distinct_below (map (index_of k) hosts) (edge_count k * k) (IsDistinct-from_AllPairs Decides-eqb (map (index_of k) hosts) apart) (λ q there. any_below (edge_count k * k) q (map (index_of k) hosts) below there) in
     let many : length hosts ≤ edge_count k * k = (rw length-map at few) in
     omega arith

@@ -208,11 +208,11 @@ kept_any k n given within none s p at =
     let here : list_any (is_at s (pos p)) (canonical_uses (get_or (canonical_links k) n c)) ≡ true = rw is (canonical_at c s p at) in
     any_kept_group (is_at s (pos p)) canonical_uses (is_unspoken given) (canonical_links k) n c inside kept here
 
--- an entry that speaks of a link: its place, and what is known of it
+-- an entry that speaks of a link: its index, and what is known of it
 pub record Speaks (k : ℕ) (given : List LinkEntry) (link : Link) (entry : LinkEntry) : Type 0 where
-  pub place : ℕ
-  pub within : place < length given
-  pub there : (d : LinkEntry) → get_or given place d ≡ entry
+  pub index : ℕ
+  pub within : index < length given
+  pub there : (d : LinkEntry) → get_or given index d ≡ entry
   pub ends : Oriented link entry
   pub fit : HasPorts k entry
   pub joined : are_joined k entry.a entry.b ≡ true
@@ -223,7 +223,7 @@ speaks k given link entry agree found =
     let at = found_at (is_between link.lower link.upper) given entry found in
     let is = at.2 entry in
     record {
-      place = at.0;
+      index = at.0;
       within = at.1;
       there = at.2;
       ends = oriented link entry at.3;
@@ -256,23 +256,23 @@ one_link k m n entry half lm ln (inr a) (inl b) =
     absurd (omega arith)
 
 -- the ports of an entry are none of those of an entry before it
-entries_apart : (k : ℕ) (given : List LinkEntry) (link other : Link) (e f : LinkEntry) → Agree k given → (first : Speaks k given link e) (second : Speaks k given other f) → first.place < second.place →
+entries_apart : (k : ℕ) (given : List LinkEntry) (link other : Link) (e f : LinkEntry) → Agree k given → (first : Speaks k given link e) (second : Speaks k given other f) → first.index < second.index →
     (s p : ℕ) → HasUse e s p → HasUse f s p → ⊥
 entries_apart k given link other e f agree first second less s p at_e at_f =
-    let pair = agree.apart first.place second.place e less second.within in
-    let P : LinkEntry → Type 0 = λ x. All (IsFree k (link_uses k x)) (link_uses k (get_or given second.place e)) in
+    let pair = agree.apart first.index second.index e less second.within in
+    let P : LinkEntry → Type 0 = λ x. All (IsFree k (link_uses k x)) (link_uses k (get_or given second.index e)) in
     let Q : LinkEntry → Type 0 = λ y. All (IsFree k (link_uses k e)) (link_uses k y) in
     let free = subst Q (second.there e) (subst P (first.there e) pair) in
     false≢true (sym (use_free k (link_uses k e) f second.joined free s p at_f) ∙ use_any k e first.joined s p at_e)
 
 both_given : (k m n : ℕ) (given : List LinkEntry) (e f : LinkEntry) → 0 < k / 2 → Agree k given → m < link_count k → n < link_count k → m ≢ n →
     Speaks k given (canonical_link k m) e → Speaks k given (canonical_link k n) f → (s p : ℕ) → HasUse e s p → HasUse f s p → ⊥
-both_given k m n given e f half agree lm ln differ first second s p at_e at_f = elim (cases_lt first.place second.place) [
+both_given k m n given e f half agree lm ln differ first second s p at_e at_f = elim (cases_lt first.index second.index) [
   | inl less ↦ entries_apart k given (canonical_link k m) (canonical_link k n) e f agree first second less s p at_e at_f
-  | inr no_less ↦ elim (cases_lt second.place first.place) [
+  | inr no_less ↦ elim (cases_lt second.index first.index) [
     | inl more ↦ entries_apart k given (canonical_link k n) (canonical_link k m) f e agree second first more s p at_f at_e
     | inr no_more ↦
-        let one : first.place ≡ second.place = omega arith in
+        let one : first.index ≡ second.index = omega arith in
         let same : e ≡ f = sym (first.there e) ∙ ap (λ i. get_or given i e) one ∙ second.there e in
         let P : LinkEntry → Type 0 = λ x. Oriented (canonical_link k n) x in
         differ (one_link k m n e half lm ln first.ends (subst P (sym same) second.ends))
@@ -331,8 +331,8 @@ placed_seen k n given arity agree within s p at =
           let spoken = speaks k given (canonical_link k n) found.0 agree found.1 in
           let has = use_of k n given found.0 positive within spoken s p (is_at_moved _ _ s p (link_of-given given (canonical_link k n) found.0 found.1) at) in
           let is = spoken.there found.0 in
-          let used : list_any (is_at s (pos p)) (link_uses k (get_or given spoken.place found.0)) ≡ true = rw is (use_any k found.0 spoken.joined s p has) in
-          whole ∙ or_true (list_any (is_at s (pos p)) (kept_uses k given)) _ (any_group (is_at s (pos p)) (link_uses k) given spoken.place found.0 spoken.within used)
+          let used : list_any (is_at s (pos p)) (link_uses k (get_or given spoken.index found.0)) ≡ true = rw is (use_any k found.0 spoken.joined s p has) in
+          whole ∙ or_true (list_any (is_at s (pos p)) (kept_uses k given)) _ (any_group (is_at s (pos p)) (link_uses k) given spoken.index found.0 spoken.within used)
     ]
 
 at_ports-below : (k : ℕ) (link : Link) (entry : LinkEntry) → HasPorts k entry → ((at_ports link entry).lower_port < k) × ((at_ports link entry).upper_port < k)

@@ -19,7 +19,7 @@ use Rattle.pl_wiring.specs.FatTree.{canonical_links}
 use Rattle.pl_wiring.specs.Labels.{label_of, switch_count}
 use Rattle.pl_topology.specs.Refusal.{◌>>=◌, each_beside, refused_if}
 
--- a switch that no table names has its place in label order plus 1 as its id
+-- a switch that no table names has its number in label order plus 1 as its id
 abbrev pub canonical_entry : ℕ → SwitchEntry
 canonical_entry n = record { switch = record { 0 = n }; id = record { 0 = n + 1 } }
 

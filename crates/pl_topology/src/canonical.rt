@@ -36,26 +36,26 @@ fn canonical_link(k: u8, number: u32) -> Link
     ensures { result ≡ canonical_link_of k number }
 {
     let lower = SwitchNo(number / half(k));
-    let place = (number % half(k)) as u8;
+    let uplink = (number % half(k)) as u8;
     let label = label_at(k, lower);
     Link {
         lower,
-        lower_port: k / 2 + place,
-        upper: switch_at(k, label_above(k, label, place)),
+        lower_port: k / 2 + uplink,
+        upper: switch_at(k, label_above(k, label, uplink)),
         upper_port: port_below(label),
     }
 }
 
-fn label_above(k: u8, label: Label, place: u8) -> Label
+fn label_above(k: u8, label: Label, uplink: u8) -> Label
     requires in_range { IsLabel k label }
     requires not_core { number_of k label < edge_count k + edge_count k }
-    requires few { place < k / 2 }
-    ensures above { result ≡ above label place }
+    requires few { uplink < k / 2 }
+    ensures above { result ≡ above label uplink }
     ensures label { IsLabel k result }
 {
     match label {
-        Label::Edge(pod, _) => Label::Aggregation(pod, place),
-        Label::Aggregation(_, j) => Label::Core(j, place),
+        Label::Edge(pod, _) => Label::Aggregation(pod, uplink),
+        Label::Aggregation(_, j) => Label::Core(j, uplink),
         Label::Core(_, _) => unreachable!(),
     }
 }

@@ -33,7 +33,7 @@ const HOST_KEYS: [Key; 5] = [Key::Name, Key::Mac, Key::Ip, Key::Edge, Key::Port]
 
 /// Reads a topology file, a TOML document. Its `k`, an even number from 4 to 24, is the number of
 /// ports of each switch. A `[[switch]]` table with `label` and `id` gives a switch another id than
-/// its place in label order plus 1, a `[[link]]` table with `a`, `port_a`, `b` and `port_b` gives a
+/// its number in label order plus 1, a `[[link]]` table with `a`, `port_a`, `b` and `port_b` gives a
 /// link other ports than the canonical ones, and a `[[host]]` table with `name`, `mac`, `ip`,
 /// `edge`, `port` and, if wanted, `capture` adds a host. Other keys are ignored.
 #[tactic(auto, unfolding(crate::specs::Meaning::topology_of))]

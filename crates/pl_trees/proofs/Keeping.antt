@@ -21,23 +21,23 @@ use Rattle.pl_wiring.specs.Plan.{IsPlan, Plan}
 use Rattle.pl_wiring.proofs.LabelOrder.{label_of-edge}
 use Rattle.pl_layouts.specs.Control.{is_control}
 use Rattle.pl_layouts.specs.Equality.{same_switch}
-use Rattle.pl_core.specs.declared.acts.ManagerAct.{ManagerAct}
-use Rattle.pl_core.specs.declared.acts.ManagerAct.TheVariants.{Number, Say}
-use Rattle.pl_core.specs.declared.messages.ToManager.{ToManager}
-use Rattle.pl_core.specs.declared.messages.ToManager.TheVariants as tell
-use Rattle.pl_core.specs.declared.messages.ToSwitch.{ToSwitch}
-use Rattle.pl_core.specs.declared.messages.ToSwitch.TheVariants as say
-use Rattle.pl_core.specs.declared.messages.TreePart.{TreePart}
-use Rattle.pl_core.specs.declared.neighbour.Neighbour.{Neighbour}
-use Rattle.pl_core.specs.declared.neighbour.PortRecord.{PortRecord}
-use Rattle.pl_core.specs.declared.switch_records.Member.{Member}
-use Rattle.pl_core.specs.AvoidLists.{avoid_list}
-use Rattle.pl_core.specs.ManagerFacts.{groups}
-use Rattle.pl_core.specs.ManagerViews.{Learnt, ManagerView, Registration, id_cmp, lookup, members_cmp, newest, registry}
-use Rattle.pl_core.specs.PortRecords.{is_open_to_hosts, port_of}
-use Rattle.pl_core.specs.SwitchInputs.{SwitchInput}
-use Rattle.pl_core.specs.SwitchInputs.SwitchInput.{Comes, Says, Tick}
-use Rattle.pl_core.specs.SwitchViews.{SwitchView}
+use Rattle.pl_logic.specs.declared.acts.ManagerAct.{ManagerAct}
+use Rattle.pl_logic.specs.declared.acts.ManagerAct.TheVariants.{Number, Say}
+use Rattle.pl_logic.specs.declared.messages.ToManager.{ToManager}
+use Rattle.pl_logic.specs.declared.messages.ToManager.TheVariants as tell
+use Rattle.pl_logic.specs.declared.messages.ToSwitch.{ToSwitch}
+use Rattle.pl_logic.specs.declared.messages.ToSwitch.TheVariants as say
+use Rattle.pl_logic.specs.declared.messages.TreePart.{TreePart}
+use Rattle.pl_logic.specs.declared.neighbour.Neighbour.{Neighbour}
+use Rattle.pl_logic.specs.declared.neighbour.PortRecord.{PortRecord}
+use Rattle.pl_logic.specs.declared.switch_records.Member.{Member}
+use Rattle.pl_logic.specs.AvoidLists.{avoid_list}
+use Rattle.pl_logic.specs.ManagerFacts.{groups}
+use Rattle.pl_logic.specs.ManagerViews.{Learnt, ManagerView, Registration, id_cmp, lookup, members_cmp, newest, registry}
+use Rattle.pl_logic.specs.PortRecords.{is_open_to_hosts, port_of}
+use Rattle.pl_logic.specs.SwitchInputs.{SwitchInput}
+use Rattle.pl_logic.specs.SwitchInputs.SwitchInput.{Comes, Says, Tick}
+use Rattle.pl_logic.specs.SwitchViews.{SwitchView}
 use Rattle.pl_steps.specs.Steps.{SwitchStep}
 use Rattle.pl_manager_rule.specs.ManagerRule.{acts_of, answer_to, avoid_acts, changed, changed_of_group, invalidation, learning, manager_hears, manager_rule, part_in, reply, tree_acts, tree_acts_of, view_after}
 use Rattle.pl_manager_rule.proofs.Avoided.{id_exact, same_is}

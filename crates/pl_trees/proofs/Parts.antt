@@ -17,8 +17,8 @@ use Rattle.pl_layouts.specs.declared.place.Place.{Place}
 use Rattle.pl_layouts.specs.Equality.{same_switch}
 use Rattle.pl_layouts.specs.Memberships.{flood}
 use Rattle.pl_layouts.specs.Placement.{is_known, nowhere}
-use Rattle.pl_core.specs.ManagerViews.{Members, PlacedEdge, Told, edge_at, edge_with, has_level, id_cmp, in_order, is_alive, place_of, placed_edges, switches, value_at, with_members}
-use Rattle.pl_core.specs.Trees.{aggregation_part, core_for, core_of, core_part, cores, edge_part, largest, needed_edges, part_under, reach, tree_part}
+use Rattle.pl_logic.specs.ManagerViews.{Members, PlacedEdge, Told, edge_at, edge_with, has_level, id_cmp, in_order, is_alive, place_of, placed_edges, switches, value_at, with_members}
+use Rattle.pl_logic.specs.Trees.{aggregation_part, core_for, core_of, core_part, cores, edge_part, largest, needed_edges, part_under, reach, tree_part}
 use Rattle.pl_manager_rule.proofs.Avoided.{id_exact, same_is}
 use Rattle.pl_trees.specs.Trees.{AreTrueMembers, IsLevel, IsTruePart, IsTruePlace, rank_of}
 

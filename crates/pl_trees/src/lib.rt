@@ -3,7 +3,7 @@
 #![tactic(auto)]
 
 pub use tree_laws::{
-    lawful_cores_let_one_copy_arrive, one_copy_arrives_at_each_port_in_every_run,
+    lawful_logic_lets_one_copy_arrive, one_copy_arrives_at_each_port_in_every_run,
     one_copy_may_come_to_each_port_in_every_run, parts_of_trees_lead_down_in_every_run,
 };
 

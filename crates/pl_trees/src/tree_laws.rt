@@ -13,13 +13,13 @@ ghost use Rattle.pl_copies.specs.Copies.{ComesOnce, came_to};
 ghost use Rattle.pl_copies.specs.Standing.{KnowTrees};
 ghost use Rattle.pl_trees.specs.Trees.{AreTrees};
 
-use pl_core::HostCore;
+use pl_logic::HostLogic;
 use pl_manager_rule::LawfulManager;
 use pl_switch_rule::LooseSwitch;
 
 /// In every run what switches tell of their levels and members is so, and each part of a tree leads down: that
 /// of an aggregation switch names edge switches alone. So each switch knows the tree around it.
-pub fn parts_of_trees_lead_down_in_every_run<H: HostCore>()
+pub fn parts_of_trees_lead_down_in_every_run<H: HostLogic>()
     ensures trees { (plan : Plan) (limits : Limits) (moments : List Moment) (new : WorldView) → CanBegin plan →
         WorldRun Loose manager_rule H.rule (booted plan limits) moments new → AreTrees new.plan (control_plane new) }
     ensures around { (plan : Plan) (limits : Limits) (moments : List Moment) (new : WorldView) → CanBegin plan →
@@ -27,22 +27,22 @@ pub fn parts_of_trees_lead_down_in_every_run<H: HostCore>()
 {}
 
 /// In every run of the frames of one root at most one comes, or may still come, to each port for hosts.
-pub fn one_copy_may_come_to_each_port_in_every_run<H: HostCore>()
+pub fn one_copy_may_come_to_each_port_in_every_run<H: HostLogic>()
     ensures { (plan : Plan) (limits : Limits) (moments : List Moment) (new : WorldView) → CanBegin plan →
         WorldRun Loose manager_rule H.rule (booted plan limits) moments new → ComesOnce new }
 {}
 
 /// So of one broadcast or group frame at most one copy arrives at each port for hosts, whatever the wiring, the
 /// events and the choices of the switches.
-pub fn one_copy_arrives_at_each_port_in_every_run<H: HostCore>()
+pub fn one_copy_arrives_at_each_port_in_every_run<H: HostLogic>()
     ensures frames { (plan : Plan) (limits : Limits) (moments : List Moment) (new : WorldView) (r : ℕ) (there : Spot) → CanBegin plan →
         WorldRun Loose manager_rule H.rule (booted plan limits) moments new → came_to new.plan (reverse new.journal) r there ≤ 1 }
     ensures copies { (plan : Plan) (limits : Limits) (moments : List Moment) (new : WorldView) (r : ℕ) (there : Spot) → CanBegin plan →
         WorldRun Loose manager_rule H.rule (booted plan limits) moments new → copies_at new.plan (reverse new.journal) r there ≤ 1 }
 {}
 
-/// The same of each run of lawful cores.
-pub fn lawful_cores_let_one_copy_arrive<S: LooseSwitch, M: LawfulManager, H: HostCore>()
+/// The same of each run of lawful logic.
+pub fn lawful_logic_lets_one_copy_arrive<S: LooseSwitch, M: LawfulManager, H: HostLogic>()
     ensures { (plan : Plan) (limits : Limits) (moments : List Moment) (new : WorldView) (r : ℕ) (there : Spot) → CanBegin plan →
         WorldRun S.rule M.rule H.rule (booted plan limits) moments new → copies_at new.plan (reverse new.journal) r there ≤ 1 }
 {}

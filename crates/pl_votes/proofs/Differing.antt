@@ -8,8 +8,8 @@ use Rattle.pl_wiring.specs.declared.label.Label.TheVariants.{Edge}
 use Rattle.pl_wiring.specs.Labels.{IsLabel, edge_count, label_of, number_of}
 use Rattle.pl_wiring.specs.Plan.{IsPlan, Plan}
 use Rattle.pl_wiring.proofs.LabelOrder.{half_at_least, label_of-IsLabel, label_of-aggregation, label_of-core, number_of-label_of}
-use Rattle.pl_core.specs.SwitchFacts.{hold_at}
-use Rattle.pl_core.specs.SwitchViews.{SwitchView}
+use Rattle.pl_logic.specs.SwitchFacts.{hold_at}
+use Rattle.pl_logic.specs.SwitchViews.{SwitchView}
 use Rattle.pl_switch_rule.specs.Positions.{is_held_for}
 use Rattle.pl_votes.specs.Voting.{FixedAreApart, FixedAreHeld, IsVoting, aggregation_no, edge_no}
 use Rattle.pl_votes.proofs.Majority.{held_by_most_once, most_hold}

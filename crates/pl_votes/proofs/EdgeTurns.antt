@@ -10,8 +10,8 @@ use Rattle.pl_layouts.specs.declared.control.Control.TheVariants.{Ldm, Proposal,
 use Rattle.pl_layouts.specs.declared.control.Vote.{Vote as Answer}
 use Rattle.pl_layouts.specs.Placement.{is_known}
 use Rattle.pl_layouts.specs.Votes.{counts, gives_way}
-use Rattle.pl_core.specs.declared.switch_records.Hold.{Hold}
-use Rattle.pl_core.specs.SwitchViews.{SwitchView}
+use Rattle.pl_logic.specs.declared.switch_records.Hold.{Hold}
+use Rattle.pl_logic.specs.SwitchViews.{SwitchView}
 use Rattle.pl_switch_rule.specs.Positions.{after_vote, counted, fixes_position, half, is_majority, moves_on, with_granted}
 use Rattle.pl_control_plane.specs.ControlPlanes.{unless}
 use Rattle.pl_votes.specs.Counting.{AreRising, IsCounting, LeadsUp}

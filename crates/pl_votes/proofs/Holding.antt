@@ -5,9 +5,9 @@ use Rattle.std.proofs.lemmas.List.{set_past}
 use Rattle.pl_frame.specs.declared.address.SwitchId.{SwitchId}
 use Rattle.pl_layouts.specs.declared.control.Proposal.{Proposal as Proposed}
 use Rattle.pl_layouts.specs.declared.control.Vote.{Vote as Answer}
-use Rattle.pl_core.specs.declared.switch_records.Hold.{Hold}
-use Rattle.pl_core.specs.SwitchFacts.{hold_at}
-use Rattle.pl_core.specs.SwitchViews.{SwitchView}
+use Rattle.pl_logic.specs.declared.switch_records.Hold.{Hold}
+use Rattle.pl_logic.specs.SwitchFacts.{hold_at}
+use Rattle.pl_logic.specs.SwitchViews.{SwitchView}
 use Rattle.pl_switch_rule.specs.Positions.{frees_others, freed_but, half, holds_for, is_free_for, is_held_for, kept_or_new, marked_for, marks, notes_position, vote_on}
 use Rattle.pl_votes.specs.Pairs.{Voter}
 use Rattle.pl_votes.proofs.PairMoves.{IsKept, IsKeptAt, IsKeptHold, IsMarked}

@@ -16,9 +16,9 @@ use Rattle.pl_wiring.specs.Peers.{HasEnds, IsBetween, peer_of}
 use Rattle.pl_wiring.specs.Plan.{IsPlan, Plan}
 use Rattle.pl_wiring.proofs.Ends.{at_contained, link_rises}
 use Rattle.pl_wiring.proofs.Linked.{peer_is_switch, same_between}
-use Rattle.pl_core.specs.declared.switch_records.Hold.{Hold}
-use Rattle.pl_core.specs.SwitchFacts.{has_granted, hold_at}
-use Rattle.pl_core.specs.SwitchViews.{SwitchView}
+use Rattle.pl_logic.specs.declared.switch_records.Hold.{Hold}
+use Rattle.pl_logic.specs.SwitchFacts.{has_granted, hold_at}
+use Rattle.pl_logic.specs.SwitchViews.{SwitchView}
 use Rattle.pl_switch_rule.specs.Positions.{half, is_held_for}
 use Rattle.pl_votes.specs.Counting.{AreRising, IsCounting, IsHeldByMost, LeadsUp, holders}
 use Rattle.pl_votes.proofs.PairMoves.{all_weaker}

@@ -7,7 +7,7 @@ use Rattle.pl_layouts.specs.declared.control.Control.TheVariants.{Ldm, Proposal,
 use Rattle.pl_layouts.specs.declared.control.Ldm.{Ldm as Message}
 use Rattle.pl_layouts.specs.declared.control.Proposal.{Proposal as Proposed}
 use Rattle.pl_layouts.specs.declared.control.Vote.{Vote as Answer}
-use Rattle.pl_core.specs.declared.switch_records.Hold.{Hold}
+use Rattle.pl_logic.specs.declared.switch_records.Hold.{Hold}
 use Rattle.pl_switch_rule.specs.Positions.{is_held_for}
 use Rattle.pl_votes.specs.Pairs.{Voter, IsSent, IsNotBefore, IsNoProposal, IsRising, Names, IsSecure, IsSound, IsGoodPair}
 

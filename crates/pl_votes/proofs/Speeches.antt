@@ -9,13 +9,13 @@ use Rattle.pl_layouts.specs.declared.control.Ldm.{Ldm as Message}
 use Rattle.pl_layouts.specs.Control.{control_frame}
 use Rattle.pl_layouts.specs.Placement.{is_known}
 use Rattle.pl_ldp.specs.Writable.{IsId, IsWritable}
-use Rattle.pl_core.specs.declared.acts.Act.{Act}
-use Rattle.pl_core.specs.declared.acts.Act.TheVariants as act
-use Rattle.pl_core.specs.declared.neighbour.PortRecord.{PortRecord}
-use Rattle.pl_core.specs.Announcements.{announcement, direction_of}
-use Rattle.pl_core.specs.PortRecords.{aged, heard_id, id_at, is_usable_to, new_port, place_at, ports_where}
-use Rattle.pl_core.specs.SwitchFacts.{has_granted}
-use Rattle.pl_core.specs.SwitchViews.{SwitchView}
+use Rattle.pl_logic.specs.declared.acts.Act.{Act}
+use Rattle.pl_logic.specs.declared.acts.Act.TheVariants as act
+use Rattle.pl_logic.specs.declared.neighbour.PortRecord.{PortRecord}
+use Rattle.pl_logic.specs.Announcements.{announcement, direction_of}
+use Rattle.pl_logic.specs.PortRecords.{aged, heard_id, id_at, is_usable_to, new_port, place_at, ports_where}
+use Rattle.pl_logic.specs.SwitchFacts.{has_granted}
+use Rattle.pl_logic.specs.SwitchViews.{SwitchView}
 use Rattle.pl_switch_rule.specs.Announcing.{announcements, announces_at, proposal, proposes_at, ticks, with_aged_ports}
 use Rattle.pl_switch_rule.specs.Telling.{changes_told}
 use Rattle.pl_control_plane.specs.ControlPlanes.{message_in, messages_of, sends, sent_by}

@@ -8,10 +8,10 @@ use Rattle.pl_ldp.specs.Writable.{IsId, IsWritable}
 use Rattle.pl_wiring.specs.declared.label.Label.TheVariants.{Aggregation, Edge}
 use Rattle.pl_wiring.specs.Labels.{IsLabel, label_of, number_of, switch_count}
 use Rattle.pl_wiring.specs.Plan.{IsPlan, Plan}
-use Rattle.pl_core.specs.declared.switch_records.Hold.{Hold}
-use Rattle.pl_core.specs.PortRecords.{id_at}
-use Rattle.pl_core.specs.SwitchFacts.{hold_at}
-use Rattle.pl_core.specs.SwitchViews.{SwitchView}
+use Rattle.pl_logic.specs.declared.switch_records.Hold.{Hold}
+use Rattle.pl_logic.specs.PortRecords.{id_at}
+use Rattle.pl_logic.specs.SwitchFacts.{hold_at}
+use Rattle.pl_logic.specs.SwitchViews.{SwitchView}
 use Rattle.pl_control_plane.specs.ControlPlanes.{AreJoined, ControlPlane}
 use Rattle.pl_control_plane.specs.Discovery.{CanBeTold, CanPropose}
 use Rattle.pl_votes.specs.Counting.{IsCounting, IsHeldByMost}

@@ -12,7 +12,7 @@ ghost use Rattle.pl_control_plane.specs.ControlPlanes.{ControlPlane, control_pla
 ghost use Rattle.pl_control_plane.specs.HostsAtEdges.{HostsAtEdges};
 ghost use Rattle.pl_votes.specs.Voting.{AreVoting, CanTell, FixedAreApart, FixedAreHeld};
 
-use pl_core::{HostCore, ManagerCore};
+use pl_logic::{HostLogic, ManagerLogic};
 
 /// At the beginning nothing is proposed, granted or held, so the votes are in order.
 pub fn the_votes_begin_in_order()
@@ -21,7 +21,7 @@ pub fn the_votes_begin_in_order()
 
 /// Each step keeps the votes in order, where what is told can be read as it was written, whatever port a
 /// switch chooses for a data frame.
-pub fn each_step_keeps_the_votes_in_order<M: ManagerCore, H: HostCore>()
+pub fn each_step_keeps_the_votes_in_order<M: ManagerLogic, H: HostLogic>()
     ensures { (old : WorldView) (event : Event) (new : WorldView) → IsCounted old → HostsAtEdges old → CanTell (control_plane old) →
         refusal old event ≡ None → WorldStep Loose M.rule H.rule old event new →
         AreVoting (control_plane old) → AreVoting (control_plane new) }

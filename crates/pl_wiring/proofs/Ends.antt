@@ -129,21 +129,21 @@ IsPeer-in_range k links s p (Switch t q) tree says =
       | inr e ↦ (omega (arith, e.2, in_tree.joins.0, low), omega (arith, e.3, ports.0))
     ]
 
-above_place : (k x : ℕ) (label : Label) → number_of k label < edge_count k + edge_count k → x < k / 2 → number_of k (above label x) % (k / 2) ≡ x
-above_place k x (Edge p i) low less =
+above_uplink : (k x : ℕ) (label : Label) → number_of k label < edge_count k + edge_count k → x < k / 2 → number_of k (above label x) % (k / 2) ≡ x
+above_uplink k x (Edge p i) low less =
     let e : number_of k (above (Edge p i) x) ≡ (k + p) * (k / 2) + x = omega arith in rw e (mod-mul-add (k + p) (k / 2) x less)
-above_place k x (Aggregation p j) low less =
+above_uplink k x (Aggregation p j) low less =
     let e : number_of k (above (Aggregation p j) x) ≡ (k + k + j) * (k / 2) + x = omega arith in rw e (mod-mul-add (k + k + j) (k / 2) x less)
-above_place k x (Core g m) low less = absurd (omega arith)
+above_uplink k x (Core g m) low less = absurd (omega arith)
 
 -- a link's number from its two switches
 pub number_from_ends : (k n : ℕ) → 0 < k / 2 → n < link_count k → n ≡ lower_at k n * (k / 2) + upper_at k n % (k / 2)
 number_from_ends k n pos less =
     let low = lower_at-below k n pos less in
-    let place = above_place k (n % (k / 2)) (label_of k (n / (k / 2))) (rw (number_of-label_of k (n / (k / 2))) low) (mod_below n (k / 2) pos) in
-    rw place (sym (div-add-mod' n (k / 2)))
+    let uplink = above_uplink k (n % (k / 2)) (label_of k (n / (k / 2))) (rw (number_of-label_of k (n / (k / 2))) low) (mod_below n (k / 2) pos) in
+    rw uplink (sym (div-add-mod' n (k / 2)))
 
--- no link joins two switches where none stands at the place that a link of theirs would have
+-- no link joins two switches where none has the uplink that a link of theirs would have
 pub none_joins : (k : ℕ) (links : List Link) (lower upper : SwitchNo) → 0 < k / 2 → IsInLinkOrder k links →
     ((lower.0 * (k / 2) + upper.0 % (k / 2) < length links)
     × HoldsAt (λ (link : Link). (link.lower ≡ lower) × (link.upper ≡ upper)) links (lower.0 * (k / 2) + upper.0 % (k / 2)) → ⊥) →

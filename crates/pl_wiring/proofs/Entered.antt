@@ -49,7 +49,7 @@ IsIndex-more {K} {X} old new IsAtKey items m d0 within index decide wrote kept a
   ];
 }
 
--- the place of a port is within the table
+-- the index of a port is within the table
 pub port_index-below : (k s p count : ℕ) → s < count → p < k → port_index k s p < count * k
 port_index-below k s p count hs hp = omega (arith, mul-add-lt s k p count hs hp)
 
@@ -147,27 +147,27 @@ pub enter_host : (k m : ℕ) (hosts : List Host) (table : List (Option ℕ)) (d 
     (λ (h : Host) (key : ℕ × ℕ). StandsAt h key.0 key.1) hosts (m + 1)
 enter_host k m hosts table d in_range apart within long index =
     let here = in_range m d within in
-    let place : port_index k (get_or hosts m d).edge.0 (get_or hosts m d).port < length table =
+    let low : port_index k (get_or hosts m d).edge.0 (get_or hosts m d).port < length table =
     rw long (port_index-below k (get_or hosts m d).edge.0 (get_or hosts m d).port (switch_count k) here.0 here.1) in
     IsIndex-more (look_at k table) (look_at k (set table (port_index k (get_or hosts m d).edge.0 (get_or hosts m d).port) (Some m)))
     (λ (h : Host) (key : ℕ × ℕ). StandsAt h key.0 key.1) hosts m d within index
     (λ key. same_port (get_or hosts m d).edge.0 (get_or hosts m d).port key.0 key.1)
-    (λ key at. rw (← at.0, ← at.1) (entry_at-set_same None k table (get_or hosts m d).edge.0 (get_or hosts m d).port (Some m) here.1 place))
+    (λ key at. rw (← at.0, ← at.1) (entry_at-set_same None k table (get_or hosts m d).edge.0 (get_or hosts m d).port (Some m) here.1 low))
     (λ key away. entry_at-set_other None k table (get_or hosts m d).edge.0 (get_or hosts m d).port (Some m) key.0 key.1 here.1 away)
     (λ n key less there now. apart n m d less within (rw (now.0, now.1) there))
 
--- the places of a link's ends are within the table
-pub link_places : (k m : ℕ) (links : List Link) (d : Link) → IsFatTree k links → m < length links →
+-- the indices of a link's ends are within the table
+pub link_within : (k m : ℕ) (links : List Link) (d : Link) → IsFatTree k links → m < length links →
     (port_index k (get_or links m d).lower.0 (get_or links m d).lower_port < switch_count k * k)
     × (port_index k (get_or links m d).upper.0 (get_or links m d).upper_port < switch_count k * k)
-link_places k m links d tree within =
+link_within k m links d tree within =
     let ends = tree_ends k (get_or links m d) (tree.no_other m d within) in
     let ports = tree.ports_in_range m d within in
     (port_index-below k _ _ (switch_count k) ends.0 ports.0, port_index-below k _ _ (switch_count k) ends.1 ports.1)
 
-pub host_place : (k m : ℕ) (hosts : List Host) (host : Host) → All (λ h. (h.edge.0 < switch_count k) × (h.port < k)) hosts → m < length hosts →
+pub host_within : (k m : ℕ) (hosts : List Host) (host : Host) → All (λ h. (h.edge.0 < switch_count k) × (h.port < k)) hosts → m < length hosts →
     host ≡ get_or hosts m host → port_index k host.edge.0 host.port < switch_count k * k
-host_place k m hosts host in_range within is =
+host_within k m hosts host in_range within is =
     let here = in_range m host within in rw is (port_index-below k _ _ (switch_count k) here.0 here.1)
 
 -- where the table has nothing no item is at the key

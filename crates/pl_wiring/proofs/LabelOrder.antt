@@ -74,17 +74,17 @@ above-IsBelow k x (Edge p i) low = refl
 above-IsBelow k x (Aggregation p j) low = refl
 above-IsBelow k x (Core g m) low = absurd (omega arith)
 
--- what is above two switches is one switch only where it has one place above both
-pub above-same_place : (k x y : ℕ) (a b : Label) → IsLabel k a → IsLabel k b →
+-- what is above two switches is one switch only where it has one uplink of both
+pub above-same_uplink : (k x y : ℕ) (a b : Label) → IsLabel k a → IsLabel k b →
     number_of k a < edge_count k + edge_count k → number_of k b < edge_count k + edge_count k → x < k / 2 → y < k / 2 →
     number_of k (above a x) ≡ number_of k (above b y) → x ≡ y
-above-same_place k x y (Edge p i) (Edge q j) ha hb la lb lx ly e =
-    let places : p * (k / 2) + x ≡ q * (k / 2) + y = omega arith in (same_from_place p x q y (k / 2) lx ly places).1
-above-same_place k x y (Edge p i) (Aggregation q j) ha hb la lb lx ly e =
+above-same_uplink k x y (Edge p i) (Edge q j) ha hb la lb lx ly e =
+    let numbers : p * (k / 2) + x ≡ q * (k / 2) + y = omega arith in (same_from_place p x q y (k / 2) lx ly numbers).1
+above-same_uplink k x y (Edge p i) (Aggregation q j) ha hb la lb lx ly e =
     absurd (omega (arith, mul-add-lt p (k / 2) x k ha.0 lx))
-above-same_place k x y (Aggregation p i) (Edge q j) ha hb la lb lx ly e =
+above-same_uplink k x y (Aggregation p i) (Edge q j) ha hb la lb lx ly e =
     absurd (omega (arith, mul-add-lt q (k / 2) y k hb.0 ly))
-above-same_place k x y (Aggregation p i) (Aggregation q j) ha hb la lb lx ly e =
-    let places : i * (k / 2) + x ≡ j * (k / 2) + y = omega arith in (same_from_place i x j y (k / 2) lx ly places).1
-above-same_place k x y (Core g m) b ha hb la lb lx ly e = absurd (omega arith)
-above-same_place k x y a (Core g m) ha hb la lb lx ly e = absurd (omega arith)
+above-same_uplink k x y (Aggregation p i) (Aggregation q j) ha hb la lb lx ly e =
+    let numbers : i * (k / 2) + x ≡ j * (k / 2) + y = omega arith in (same_from_place i x j y (k / 2) lx ly numbers).1
+above-same_uplink k x y (Core g m) b ha hb la lb lx ly e = absurd (omega arith)
+above-same_uplink k x y a (Core g m) ha hb la lb lx ly e = absurd (omega arith)

@@ -7,14 +7,14 @@ use Rattle.pl_wiring.specs.declared.label.Label.TheVariants.{Edge, Aggregation, 
 use Rattle.pl_wiring.specs.declared.link.Link.{Link}
 use Rattle.pl_wiring.specs.Labels.{IsArity, IsLabel, edge_count, number_of, label_of}
 use Rattle.pl_wiring.specs.FatTree.{IsBelow, Joins, IsAt, IsTreeLink, IsFatTree, IsInLinkOrder, above, link_count, lower_at, upper_at}
-use Rattle.pl_wiring.proofs.LabelOrder.{half_at_least, label_of-IsLabel, number_of-label_of, label_of-number_of, number_of-edge_below, above-IsLabel, above-IsBelow, above-same_place}
+use Rattle.pl_wiring.proofs.LabelOrder.{half_at_least, label_of-IsLabel, number_of-label_of, label_of-number_of, number_of-edge_below, above-IsLabel, above-IsBelow, above-same_uplink}
 
 pub lower_at-below : (k n : ℕ) → 0 < k / 2 → n < link_count k → lower_at k n < edge_count k + edge_count k
 lower_at-below k n pos less = div_below n (k / 2) (edge_count k + edge_count k) pos less
 
--- the link of a lower switch to the switch that has this place above it
+-- the link of a lower switch to the switch by this uplink
 abbrev pub link_number : ℕ → ℕ → ℕ → ℕ
-link_number k lower place = lower * (k / 2) + place
+link_number k lower uplink = lower * (k / 2) + uplink
 
 pub link_number-below : (k lower x : ℕ) → lower < edge_count k + edge_count k → x < k / 2 → link_number k lower x < link_count k
 link_number-below k lower x low less = omega (arith, mul-add-lt lower (k / 2) x (edge_count k + edge_count k) low less)
@@ -25,12 +25,12 @@ lower_at-link_number k lower x less = div-mul-add lower (k / 2) x less
 pub upper_at-link_number : (k lower x : ℕ) → x < k / 2 → upper_at k (link_number k lower x) ≡ number_of k (above (label_of k lower) x)
 upper_at-link_number k lower x less = rw (div-mul-add lower (k / 2) x less, mod-mul-add lower (k / 2) x less) refl
 
--- an upper switch has one place above each switch that it is linked to
-pub upper_at-same_place : (k m n : ℕ) → 0 < k / 2 → m < link_count k → n < link_count k → upper_at k m ≡ upper_at k n → m % (k / 2) ≡ n % (k / 2)
-upper_at-same_place k m n pos lm ln e =
+-- an upper switch is at one uplink of each switch below that it is linked to
+pub upper_at-same_uplink : (k m n : ℕ) → 0 < k / 2 → m < link_count k → n < link_count k → upper_at k m ≡ upper_at k n → m % (k / 2) ≡ n % (k / 2)
+upper_at-same_uplink k m n pos lm ln e =
     let low_m = lower_at-below k m pos lm in
     let low_n = lower_at-below k n pos ln in
-    above-same_place k (m % (k / 2)) (n % (k / 2)) (label_of k (m / (k / 2))) (label_of k (n / (k / 2)))
+    above-same_uplink k (m % (k / 2)) (n % (k / 2)) (label_of k (m / (k / 2))) (label_of k (n / (k / 2)))
     (label_of-IsLabel k (m / (k / 2)) pos (omega arith)) (label_of-IsLabel k (n / (k / 2)) pos (omega arith))
     (rw (number_of-label_of k (m / (k / 2))) low_m) (rw (number_of-label_of k (n / (k / 2))) low_n)
     (mod_below m (k / 2) pos) (mod_below n (k / 2) pos) e
@@ -38,8 +38,8 @@ upper_at-same_place k m n pos lm ln e =
 -- two links that join the same switches are one
 pub same_link : (k m n : ℕ) → 0 < k / 2 → m < link_count k → n < link_count k → lower_at k m ≡ lower_at k n → upper_at k m ≡ upper_at k n → m ≡ n
 same_link k m n pos lm ln low up =
-    let place = upper_at-same_place k m n pos lm ln up in
-    sym (div-add-mod' m (k / 2)) ∙ rw (low, place) (div-add-mod' n (k / 2))
+    let uplink = upper_at-same_uplink k m n pos lm ln up in
+    sym (div-add-mod' m (k / 2)) ∙ rw (low, uplink) (div-add-mod' n (k / 2))
 
 tree_link : (k : ℕ) (links : List Link) → 0 < k / 2 → IsInLinkOrder k links → All (IsTreeLink k) links
 tree_link k links pos order n d less =

@@ -58,7 +58,7 @@ peer_is_none plan s p is = (
   λ none. sym (IsPeer-is plan.k plan.links s p HostPort is.tree (λ link there at. none there.0 link there.1 (subst (λ (m : Link). IsAt m s p) (sym there.2) at))),
 )
 
--- two links between the same switches have one place
+-- two links between the same switches have one uplink
 pub one_between : (k : ℕ) (links : List Link) (m n : ℕ) (d : Link) (a b : ℕ) → IsFatTree k links → m < length links → n < length links →
     IsBetween (get_or links m d) a b → IsBetween (get_or links n d) a b → m ≡ n
 one_between k links m n d a b tree hm hn bm bn =

@@ -56,9 +56,9 @@ all_live k table links index = lower_present k table links index
 
 pub made_for_links : (plan : Plan) (table : List (Option ℕ)) → FindsLinks plan.k table plan.links → length table ≡ switch_count plan.k * plan.k →
     IsFor plan (flags_of plan.k table)
-made_for_links plan table index places = record {
+made_for_links plan table index room = record {
   same_k = refl;
-  places = length-map table is_some ∙ places;
+  room = length-map table is_some ∙ room;
   agree = λ n d within. upper_present plan.k table plan.links index n d within ∙ sym (lower_present plan.k table plan.links index n d within);
   linked = λ s p live.
       let there = something (look_at plan.k table (s, p)) (sym (entry_at-present plan.k table s p) ∙ live) in
@@ -104,7 +104,7 @@ changes plan states link live tree for there =
     let ports = at_contained (λ l. (l.lower_port < plan.k) × (l.upper_port < plan.k)) plan.links link tree.ports_in_range there in
     let Q : ℕ → Type 0 = (λ k. ((link.lower_port < k) × (link.upper_port < k)) × (length states.flags ≡ switch_count k * k)
     × ((link.lower.0 < switch_count k) × (link.upper.0 < switch_count k))) in
-    let here : Q states.k = subst Q (sym for.same_k) (ports, for.places, ends) in
+    let here : Q states.k = subst Q (sym for.same_k) (ports, for.room, ends) in
     record {
       at_link = λ s p at. wrote_link false states.k states.flags link live here.1 here.2 here.0 s p at;
       elsewhere = λ s p away. kept_link false states.k states.flags link live here.0 s p away;
@@ -115,7 +115,7 @@ pub flags_within : (plan : Plan) (states : LivePorts) (link : Link) → IsFatTre
 flags_within plan states link tree for there =
     let ends = tree_ends plan.k link (at_contained (IsTreeLink plan.k) plan.links link tree.no_other there) in
     let ports = at_contained (λ l. (l.lower_port < plan.k) × (l.upper_port < plan.k)) plan.links link tree.ports_in_range there in
-    rw (for.same_k, for.places) (port_index-below plan.k _ _ (switch_count plan.k) ends.0 ports.0, port_index-below plan.k _ _ (switch_count plan.k) ends.1 ports.1)
+    rw (for.same_k, for.room) (port_index-below plan.k _ _ (switch_count plan.k) ends.0 ports.0, port_index-below plan.k _ _ (switch_count plan.k) ends.1 ports.1)
 
 -- the number of a link, and those that share no port with it
 apart_from : (k : ℕ) (links : List Link) (m n : ℕ) (d : Link) → IsFatTree k links → m < length links → n < length links → m ≢ n →
@@ -153,7 +153,7 @@ made_for_changed plan states link live tree for there =
     let m = there.0 in
     record {
       same_k = for.same_k;
-      places = rw (length-set, length-set) for.places;
+      room = rw (length-set, length-set) for.room;
       agree = λ n d within.
           let is : get_or plan.links m d ≡ link = get_or_default plan.links m d link there.1 ∙ there.2 in
           let l = get_or plan.links n d in

@@ -162,8 +162,8 @@ core_full plan group m q is hg hm hq =
     (λ x hx. (up_link plan x group m is hx hg hm).0)
     (λ x y less hy e.
     let rows = (same_from_place (edge_count plan.k + (x * (plan.k / 2) + group)) m (edge_count plan.k + (y * (plan.k / 2) + group)) m (plan.k / 2) hm hm e).0 in
-    let places : x * (plan.k / 2) + group ≡ y * (plan.k / 2) + group = omega (arith, rows) in
-    let same = (same_from_place x group y group (plan.k / 2) hg hg places).0 in absurd (omega (arith, same)))
+    let numbers : x * (plan.k / 2) + group ≡ y * (plan.k / 2) + group = omega (arith, rows) in
+    let same = (same_from_place x group y group (plan.k / 2) hg hg numbers).0 in absurd (omega (arith, same)))
     (λ x hx. (is.tree.ports_in_range (number x) no_link (up_link plan x group m is hx hg hm).0).1)
     (λ x hx. inr ((up_link plan x group m is hx hg hm).2, refl))
     q hq
@@ -194,8 +194,8 @@ links_differ plan pod j x y is hp hj less hy e =
                 absurd (omega (arith, rows))
             | inr hy_up ↦
                 let ey = (up_is plan.links plan.k pod j y hy_up).0 in
-                let place : y - plan.k / 2 < plan.k / 2 = omega (arith, twice) in
-                let rows = (same_from_place (pod * (plan.k / 2) + x) j (edge_count plan.k + (pod * (plan.k / 2) + j)) (y - plan.k / 2) (plan.k / 2) hj place (sym ex ∙ e ∙ ey)).0 in
+                let uplink : y - plan.k / 2 < plan.k / 2 = omega (arith, twice) in
+                let rows = (same_from_place (pod * (plan.k / 2) + x) j (edge_count plan.k + (pod * (plan.k / 2) + j)) (y - plan.k / 2) (plan.k / 2) hj uplink (sym ex ∙ e ∙ ey)).0 in
                 let low = number_of-edge_below plan.k pod x hp lx in
                 absurd (omega (arith, rows, low))
           ]
@@ -204,8 +204,8 @@ links_differ plan pod j x y is hp hj less hy e =
           let ey = (up_is plan.links plan.k pod j y (omega arith)).0 in
           let px : x - plan.k / 2 < plan.k / 2 = omega (arith, twice) in
           let py : y - plan.k / 2 < plan.k / 2 = omega (arith, twice) in
-          let places = (same_from_place (edge_count plan.k + (pod * (plan.k / 2) + j)) (x - plan.k / 2) (edge_count plan.k + (pod * (plan.k / 2) + j)) (y - plan.k / 2) (plan.k / 2) px py (sym ex ∙ e ∙ ey)).1 in
-          absurd (omega (arith, places))
+          let numbers = (same_from_place (edge_count plan.k + (pod * (plan.k / 2) + j)) (x - plan.k / 2) (edge_count plan.k + (pod * (plan.k / 2) + j)) (y - plan.k / 2) (plan.k / 2) px py (sym ex ∙ e ∙ ey)).1 in
+          absurd (omega (arith, numbers))
     ]
 
 aggregation_full : (plan : Plan) (pod j q : ℕ) → IsPlan plan → pod < plan.k → j < plan.k / 2 → q < plan.k →

@@ -29,7 +29,7 @@ number_of k (Edge pod i) = pod * (k / 2) + i
 number_of k (Aggregation pod j) = edge_count k + (pod * (k / 2) + j)
 number_of k (Core group m) = edge_count k + edge_count k + (group * (k / 2) + m)
 
--- the label at a place of label order
+-- the label at a number of label order
 abbrev pub label_of : ℕ → ℕ → Label
 label_of k n =
     if nat_lt n (edge_count k) then Edge (n / (k / 2)) (n % (k / 2))

@@ -19,10 +19,10 @@ is_live_at states switch port = entry_at false states.k states.flags switch port
 abbrev pub is_live : LivePorts → Link → Bool
 is_live states link = is_live_at states link.lower.0 link.lower_port
 
--- made for this wiring: there is a place for each port, both ends of a link agree, and no link is live at a port that has none
+-- made for this wiring: there is a flag for each port, both ends of a link agree, and no link is live at a port that has none
 pub record IsFor (plan : Plan) (states : LivePorts) : Type 0 where
   pub same_k : states.k ≡ plan.k
-  pub places : length states.flags ≡ switch_count plan.k * plan.k
+  pub room : length states.flags ≡ switch_count plan.k * plan.k
   pub agree : All (λ l. is_live_at states l.upper.0 l.upper_port ≡ is_live states l) plan.links
   pub linked : (switch port : ℕ) → IsTrue (is_live_at states switch port) → Any (λ l. IsAt l switch port) plan.links
 

@@ -44,19 +44,19 @@ LeadsUp plan states lower upper = Rises plan.links (IsLive states) lower upper
 abbrev pub NeverMeet : Plan → LivePorts → SwitchNo → SwitchNo → Type 0
 NeverMeet plan states a b = (top : SwitchNo) → LeadsUp plan states a top → LeadsUp plan states b top → ⊥
 
--- a live link leads from the lower switch to the upper one, which has this place among those above it
+-- a live link leads from the lower switch to the upper one, by this uplink of it, of those above it
 abbrev pub RisesAt : Plan → (Link → Type 0) → SwitchNo → ℕ → SwitchNo → Type 0
-RisesAt plan Live lower place upper = HoldsAt (λ l. (l.upper ≡ upper) × Live l) plan.links (lower.0 * (plan.k / 2) + place)
+RisesAt plan Live lower uplink upper = HoldsAt (λ l. (l.upper ≡ upper) × Live l) plan.links (lower.0 * (plan.k / 2) + uplink)
 
 abbrev pub LeadsUpAt : Plan → LivePorts → SwitchNo → ℕ → SwitchNo → Type 0
-LeadsUpAt plan states lower place upper = RisesAt plan (IsLive states) lower place upper
+LeadsUpAt plan states lower uplink upper = RisesAt plan (IsLive states) lower uplink upper
 
--- the same from one place above both switches
+-- the same by one uplink of both switches
 abbrev pub NeverMeetAt : Plan → LivePorts → SwitchNo → SwitchNo → ℕ → Type 0
-NeverMeetAt plan states a b place =
-    (top : SwitchNo) → LeadsUpAt plan states a place top → LeadsUpAt plan states b place top → ⊥
+NeverMeetAt plan states a b uplink =
+    (top : SwitchNo) → LeadsUpAt plan states a uplink top → LeadsUpAt plan states b uplink top → ⊥
 
--- nor do they from the switches at one place above these two
+-- nor do they from the switches by one uplink of these two
 abbrev pub NeverMeetOver : Plan → LivePorts → SwitchNo → SwitchNo → ℕ → Type 0
-NeverMeetOver plan states start end place = (left right : SwitchNo) →
-    LeadsUpAt plan states start place left → LeadsUpAt plan states end place right → NeverMeet plan states left right
+NeverMeetOver plan states start end uplink = (left right : SwitchNo) →
+    LeadsUpAt plan states start uplink left → LeadsUpAt plan states end uplink right → NeverMeet plan states left right

@@ -42,7 +42,7 @@ pub record IsPlan (plan : Plan) : Type 0 where
   -- each host stands at a port of an edge switch that neither a link nor another host has
   pub at_edges : All (λ h. (h.edge.0 < edge_count plan.k) × (h.port < plan.k)) plan.hosts
   pub at_free_ports : All (λ h. All (λ l. IsAt l h.edge.0 h.port → ⊥) plan.links) plan.hosts
-  pub places_apart : AllPairs (λ g h. StandsAt g h.edge.0 h.port → ⊥) plan.hosts
+  pub ports_apart : AllPairs (λ g h. StandsAt g h.edge.0 h.port → ⊥) plan.hosts
   -- each host has addresses of one host
   pub host_macs : All (λ h. IsHostMac h.mac) plan.hosts
   pub host_ips : All (λ h. IsHostIp h.ip) plan.hosts

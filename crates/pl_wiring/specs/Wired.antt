@@ -13,5 +13,5 @@ pub record IsWired (w : Inside) : Type 0 where
   pub links_by_port : FindsLinks w.k w.link_at.items w.links.items
   pub hosts_by_port : FindsHosts w.k w.host_at.items w.hosts.items
   pub hosts_by_name : FindsNames w.names w.hosts.items
-  pub link_places : length w.link_at.items ≡ switch_count w.k * w.k
-  pub host_places : length w.host_at.items ≡ switch_count w.k * w.k
+  pub link_room : length w.link_at.items ≡ switch_count w.k * w.k
+  pub host_room : length w.host_at.items ≡ switch_count w.k * w.k

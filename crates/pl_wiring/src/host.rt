@@ -1,7 +1,7 @@
 use crate::{Name, SwitchNo};
 use pl_frame::{Ip4, Mac};
 
-/// A host by its place in the list of hosts, from 0.
+/// A host by its number in the list of hosts, from 0.
 #[derive(Clone, Copy, Debug, PartialEq, Eq, PartialOrd, Ord, Hash)]
 pub struct HostNo(pub u32);
 

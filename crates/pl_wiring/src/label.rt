@@ -3,7 +3,7 @@ ghost use Rattle.pl_wiring.specs.Labels.{label_text};
 
 use std::fmt;
 
-/// A switch by its place in label order, from 0.
+/// A switch by its number in label order, from 0.
 #[derive(Clone, Copy, Debug, Default, PartialEq, Eq, PartialOrd, Ord, Hash)]
 pub struct SwitchNo(pub u32);
 

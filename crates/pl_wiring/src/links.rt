@@ -75,10 +75,10 @@ impl LinkStates {
     }
 }
 
-fn flag_at(flags: &[bool], place: usize) -> bool
-    ensures { result ≡ slice_index_or flags.now place false }
+fn flag_at(flags: &[bool], at: usize) -> bool
+    ensures { result ≡ slice_index_or flags.now at false }
 {
-    match flags.get(place) {
+    match flags.get(at) {
         None => false,
         Some(flag) => *flag,
     }

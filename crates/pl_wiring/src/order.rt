@@ -44,13 +44,13 @@ pub fn label_at(k: u8, switch: SwitchNo) -> Label
     }
 }
 
-fn row_and_column(place: u32, width: u32) -> (u16, u8)
+fn row_and_column(number: u32, width: u32) -> (u16, u8)
     requires some { 0 < width }
     requires narrow { width < 256 }
-    requires low { place < 65536 * width }
-    ensures { result ≡ (place / width, place % width) }
+    requires low { number < 65536 * width }
+    ensures { result ≡ (number / width, number % width) }
 {
-    ((place / width) as u16, (place % width) as u8)
+    ((number / width) as u16, (number % width) as u8)
 }
 
 pub fn is_label(k: u8, label: Label) -> bool

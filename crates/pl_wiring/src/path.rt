@@ -105,32 +105,32 @@ impl Wiring {
         ensures none { IfNone result ((path : List SwitchNo) →
             IsLivePath self.now links.now start end path → ⊥) }
     {
-        for place in 0..half(self.k()) {
-            if let Some(path) = self.live_path_at(links, start, end, place) {
+        for uplink in 0..half(self.k()) {
+            if let Some(path) = self.live_path_at(links, start, end, uplink) {
                 return Some(path);
             }
         }
         None
     }
 
-    // A path by the aggregation switches that have this place above both edge switches.
+    // A path by the aggregation switches by this uplink of both edge switches.
     fn live_path_at(
         &self,
         links: &LinkStates,
         start: SwitchNo,
         end: SwitchNo,
-        place: u32,
+        uplink: u32,
     ) -> Option<Path>
         requires start { start.0 < edge_count self.now.k }
         requires end { end.0 < edge_count self.now.k }
-        requires place { place < self.now.k / 2 }
+        requires uplink { uplink < self.now.k / 2 }
         requires apart { start ≢ end }
         requires not_below { NeverMeet self.now links.now start end }
         ensures found { IfSome result (IsLivePath self.now links.now start end) }
-        ensures none { IfNone result (NeverMeetOver self.now links.now start end place) }
+        ensures none { IfNone result (NeverMeetOver self.now links.now start end uplink) }
     {
-        let left = self.live_above(links, start, place)?;
-        let right = self.live_above(links, end, place)?;
+        let left = self.live_above(links, start, uplink)?;
+        let right = self.live_above(links, end, uplink)?;
         let core = self.live_above_both(links, left, right)?;
         Some(Path::over_core([start, left, core, right, end]))
     }
@@ -144,8 +144,8 @@ impl Wiring {
         ensures none { IfNone result (NeverMeet self.now links.now a b) }
         ensures plan { IsPlan self.now }
     {
-        for place in 0..half(self.k()) {
-            if let Some(top) = self.live_above_both_at(links, a, b, place) {
+        for uplink in 0..half(self.k()) {
+            if let Some(top) = self.live_above_both_at(links, a, b, uplink) {
                 return Some(top);
             }
         }
@@ -157,30 +157,30 @@ impl Wiring {
         links: &LinkStates,
         a: SwitchNo,
         b: SwitchNo,
-        place: u32,
+        uplink: u32,
     ) -> Option<SwitchNo>
         requires a { a.0 < edge_count self.now.k + edge_count self.now.k }
         requires b { b.0 < edge_count self.now.k + edge_count self.now.k }
-        requires place { place < self.now.k / 2 }
+        requires uplink { uplink < self.now.k / 2 }
         ensures found { IfSome result (λ top.
-            LeadsUpAt self.now links.now a place top × LeadsUpAt self.now links.now b place top) }
-        ensures none { IfNone result (NeverMeetAt self.now links.now a b place) }
+            LeadsUpAt self.now links.now a uplink top × LeadsUpAt self.now links.now b uplink top) }
+        ensures none { IfNone result (NeverMeetAt self.now links.now a b uplink) }
     {
-        let left = self.live_above(links, a, place)?;
-        let right = self.live_above(links, b, place)?;
+        let left = self.live_above(links, a, uplink)?;
+        let right = self.live_above(links, b, uplink)?;
         if left == right { Some(left) } else { None }
     }
 
-    // The switch at a place above this one, where the link to it is live.
-    fn live_above(&self, links: &LinkStates, lower: SwitchNo, place: u32) -> Option<SwitchNo>
+    // The switch by an uplink of this one, where the link to it is live.
+    fn live_above(&self, links: &LinkStates, lower: SwitchNo, uplink: u32) -> Option<SwitchNo>
         requires lower { lower.0 < edge_count self.now.k + edge_count self.now.k }
-        requires place { place < self.now.k / 2 }
-        ensures found { IfSome result (LeadsUpAt self.now links.now lower place) }
+        requires uplink { uplink < self.now.k / 2 }
+        ensures found { IfSome result (LeadsUpAt self.now links.now lower uplink) }
         ensures none { IfNone result ((upper : SwitchNo) →
-            LeadsUpAt self.now links.now lower place upper → ⊥) }
+            LeadsUpAt self.now links.now lower uplink upper → ⊥) }
         ensures plan { IsPlan self.now }
     {
-        let link = self.link_above(lower, place);
+        let link = self.link_above(lower, uplink);
         if links.is_live(link) {
             Some(link.upper)
         } else {

@@ -197,15 +197,15 @@ impl Wiring {
         }
     }
 
-    // The link of a switch to the one that has this place among those above it.
-    pub(crate) fn link_above(&self, lower: SwitchNo, place: u32) -> &Link
+    // The link of a switch by one of its uplinks, from 0.
+    pub(crate) fn link_above(&self, lower: SwitchNo, uplink: u32) -> &Link
         requires lower { lower.0 < edge_count self.now.k + edge_count self.now.k }
-        requires place { place < self.now.k / 2 }
+        requires uplink { uplink < self.now.k / 2 }
         ensures link { HoldsAt (λ link. link ≡ result.now) self.now.links
-            (lower.0 * (self.now.k / 2) + place) }
+            (lower.0 * (self.now.k / 2) + uplink) }
         ensures plan { IsPlan self.now }
     {
-        &self.links[lower.0 as usize * half(self.k) as usize + place as usize]
+        &self.links[lower.0 as usize * half(self.k) as usize + uplink as usize]
     }
 
     // A flag for each port that has a link.

@@ -7,12 +7,12 @@ use Rattle.pl_wiring.specs.Labels.{IsArity, switch_count}
 use Rattle.pl_wiring.specs.LiveLinks.{IsFor, IsLive, LivePorts}
 use Rattle.pl_wiring.specs.Plan.{IsPlan, Plan}
 use Rattle.pl_journal.specs.declared.entry.Entry.{Entry}
-use Rattle.pl_core.specs.declared.messages.ToManager.{ToManager}
-use Rattle.pl_core.specs.declared.messages.ToSwitch.{ToSwitch}
-use Rattle.pl_core.specs.HostViews.{HostView, boot_host}
-use Rattle.pl_core.specs.ManagerViews.{ManagerView, booted_manager}
-use Rattle.pl_core.specs.SwitchFacts.{CanBoot, IsTreeSize, switch_at_boot}
-use Rattle.pl_core.specs.SwitchViews.{SwitchView}
+use Rattle.pl_logic.specs.declared.messages.ToManager.{ToManager}
+use Rattle.pl_logic.specs.declared.messages.ToSwitch.{ToSwitch}
+use Rattle.pl_logic.specs.HostViews.{HostView, boot_host}
+use Rattle.pl_logic.specs.ManagerViews.{ManagerView, booted_manager}
+use Rattle.pl_logic.specs.SwitchFacts.{CanBoot, IsTreeSize, switch_at_boot}
+use Rattle.pl_logic.specs.SwitchViews.{SwitchView}
 use Rattle.pl_world.specs.Booting.{CanBegin, all_live, booted, first_stand, me_of}
 use Rattle.pl_world.specs.declared.item.Item.{Item}
 use Rattle.pl_world.specs.declared.limits.Limits.{Limits}
@@ -55,10 +55,10 @@ taken_more (z ∷ ys) zero y found = let same : y ≡ z = cc in ap (λ u. u ∷ 
 taken_more (z ∷ ys) (suc n) y found = ap (λ zs. z ∷ zs) (taken_more ys n y found)
 
 -- one more switch, or host, has booted
-pub booted_more : {X Y : Type 0} (view : X → Y) (cores : List X) (core : X) (ys : List Y) (n : ℕ) → map view cores ≡ take n ys →
-    slice_get ys n ≡ Some (view core) → map view (cores ++ core ∷ []) ≡ take (n + 1) ys
-booted_more view cores core ys n so_far found =
-    rw add-one (map_more view cores core ∙ ap (λ zs. zs ++ view core ∷ []) so_far ∙ taken_more ys n (view core) found)
+pub booted_more : {X Y : Type 0} (view : X → Y) (devices : List X) (device : X) (ys : List Y) (n : ℕ) → map view devices ≡ take n ys →
+    slice_get ys n ≡ Some (view device) → map view (devices ++ device ∷ []) ≡ take (n + 1) ys
+booted_more view devices device ys n so_far found =
+    rw add-one (map_more view devices device ∙ ap (λ zs. zs ++ view device ∷ []) so_far ∙ taken_more ys n (view device) found)
 
 pub all_taken : {Y : Type 0} (ys : List Y) (n : ℕ) → n ≡ length ys → take n ys ≡ ys
 all_taken [] n many = let e : n ≡ 0 = many in rw e refl

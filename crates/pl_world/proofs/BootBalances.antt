@@ -20,13 +20,13 @@ use Rattle.pl_wiring.specs.Peers.{peer_among, peer_of}
 use Rattle.pl_wiring.specs.Plan.{IsPlan, Plan}
 use Rattle.pl_wiring.proofs.Ends.{IsPeer-is, contained_at}
 use Rattle.pl_wiring.proofs.Entered.{entry_at-in_range, entry_at-out_of_range, port_index-below, tree_ends}
-use Rattle.pl_core.specs.Accounting.{IsShaped}
-use Rattle.pl_core.specs.HostDuties.{HoldsData}
-use Rattle.pl_core.specs.HostViews.{boot_host}
+use Rattle.pl_logic.specs.Accounting.{IsShaped}
+use Rattle.pl_logic.specs.HostDuties.{HoldsData}
+use Rattle.pl_logic.specs.HostViews.{boot_host}
 use Rattle.pl_journal.specs.Places.{is_host_port}
-use Rattle.pl_core.specs.SwitchFacts.{CanBoot, switch_at_boot}
-use Rattle.pl_core.specs.SwitchViews.{SwitchView}
-use Rattle.pl_core.proofs.Booted.{booted_is_shaped}
+use Rattle.pl_logic.specs.SwitchFacts.{CanBoot, switch_at_boot}
+use Rattle.pl_logic.specs.SwitchViews.{SwitchView}
+use Rattle.pl_logic.proofs.Booted.{booted_is_shaped}
 use Rattle.pl_world.specs.declared.limits.Limits.{Limits}
 use Rattle.pl_world.specs.Booting.{CanBegin, all_live, booted, first_stand, host_table, me_of}
 use Rattle.pl_world.specs.Flying.{IsAtPort, IsCounted, IsDataItem, IsItem, times_in_all}
@@ -113,7 +113,7 @@ live_has_link plan s p live = elim (cases_lt p plan.k) [
 pub all_live_is_for : (plan : Plan) → IsPlan plan → IsFor plan (all_live plan)
 all_live_is_for plan is = record {
   same_k = refl;
-  places = length-map-range_with_len (λ n. has_link plan (n / plan.k) (n % plan.k)) 0 (switch_count plan.k * plan.k);
+  room = length-map-range_with_len (λ n. has_link plan (n / plan.k) (n % plan.k)) 0 (switch_count plan.k * plan.k);
   agree = λ n d within. upper_live plan is n d within ∙ sym (lower_live plan is n d within);
   linked = live_has_link plan;
 }

@@ -8,11 +8,11 @@ use Rattle.pl_world.specs.declared.event.Event.{Event}
 use Rattle.pl_world.specs.declared.event.Event.TheVariants as event
 use Rattle.pl_world.specs.declared.event.QueueName.{QueueName}
 use Rattle.pl_world.specs.declared.event.QueueName.TheVariants as queue
-use Rattle.pl_core.specs.declared.messages.ToSwitch.{ToSwitch}
-use Rattle.pl_core.specs.Accounting.{IsWithin}
-use Rattle.pl_core.specs.HostInputs.{HostRule}
-use Rattle.pl_core.specs.ManagerDuties.{ManagerRule}
-use Rattle.pl_core.specs.SwitchInputs.{SwitchInput, SwitchRule}
+use Rattle.pl_logic.specs.declared.messages.ToSwitch.{ToSwitch}
+use Rattle.pl_logic.specs.Accounting.{IsWithin}
+use Rattle.pl_logic.specs.HostInputs.{HostRule}
+use Rattle.pl_logic.specs.ManagerDuties.{ManagerRule}
+use Rattle.pl_logic.specs.SwitchInputs.{SwitchInput, SwitchRule}
 use Rattle.pl_world.specs.declared.item.Item.{Item}
 use Rattle.pl_world.specs.declared.item.Item.TheVariants.{Control, Data}
 use Rattle.pl_world.specs.declared.spoken_frame.SpokenFrame.{SpokenFrame}

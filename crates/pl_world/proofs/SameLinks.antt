@@ -35,8 +35,8 @@ module _ (plan : Plan) where
       let read : (z : LivePorts) → IsFor plan z → (n : ℕ) → is_live_at z (n / k) (n % k) ≡ get_or z.flags n false = (λ z forz n.
       entry_at-in_range false z.k z.flags (n / k) (n % k) (rw forz.same_k (mod_below n k pos))
       ∙ ap (λ j. get_or z.flags (n / k * j + n % k) false) forz.same_k ∙ ap (λ m. get_or z.flags m false) (div-add-mod' n k)) in
-      let flags : x.flags ≡ y.flags = same_lists x.flags y.flags (forx.places ∙ sym fory.places) (λ n d within.
+      let flags : x.flags ≡ y.flags = same_lists x.flags y.flags (forx.room ∙ sym fory.room) (λ n d within.
       get_or_default x.flags n d false within ∙ sym (read x forx n) ∙ at (n / k) (n % k) ∙ read y fory n
-      ∙ get_or_default y.flags n false d (let long = forx.places ∙ sym fory.places in omega arith)) in
+      ∙ get_or_default y.flags n false d (let long = forx.room ∙ sym fory.room in omega arith)) in
       let made : ℕ → List Bool → LivePorts = (λ j f. record { k = j; flags = f }) in
       ap (λ j. made j x.flags) (forx.same_k ∙ sym fory.same_k) ∙ ap (made y.k) flags

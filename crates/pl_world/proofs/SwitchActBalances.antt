@@ -8,20 +8,20 @@ use Rattle.pl_wiring.specs.Labels.{switch_count}
 use Rattle.pl_wiring.specs.LiveLinks.{IsFor, LivePorts}
 use Rattle.pl_wiring.specs.Plan.{IsPlan, Plan}
 use Rattle.pl_wiring.proofs.Entered.{port_index-below}
-use Rattle.pl_core.specs.declared.acts.Act.{Act}
-use Rattle.pl_core.specs.declared.acts.Act.TheVariants as act
+use Rattle.pl_logic.specs.declared.acts.Act.{Act}
+use Rattle.pl_logic.specs.declared.acts.Act.TheVariants as act
 use Rattle.pl_journal.specs.declared.cause.Cause.TheVariants as cause
 use Rattle.pl_journal.specs.declared.entry.Entry.{Entry}
 use Rattle.pl_journal.specs.declared.entry.Entry.TheVariants.{Copied, Crossed, Dropped, Granted, Made, Placed, Redirected, Taken}
-use Rattle.pl_core.specs.declared.messages.ToManager.{ToManager}
-use Rattle.pl_core.specs.declared.messages.ToSwitch.{ToSwitch}
+use Rattle.pl_logic.specs.declared.messages.ToManager.{ToManager}
+use Rattle.pl_logic.specs.declared.messages.ToSwitch.{ToSwitch}
 use Rattle.pl_layouts.specs.declared.place.Place.{Place}
-use Rattle.pl_core.specs.Accounting.{IsFit, IsSent, IsShaped, Speech as Said, is_said, speech_after}
-use Rattle.pl_core.specs.Accounting.Speech.{Ended as SaidEnded, Passed as SaidPassed, Redirected as SaidRedirected, Silent as SaidNone, Waiting as SaidWaiting, Wrong}
+use Rattle.pl_logic.specs.Accounting.{IsFit, IsSent, IsShaped, Speech as Said, is_said, speech_after}
+use Rattle.pl_logic.specs.Accounting.Speech.{Ended as SaidEnded, Passed as SaidPassed, Redirected as SaidRedirected, Silent as SaidNone, Waiting as SaidWaiting, Wrong}
 use Rattle.pl_journal.specs.Flights.{begun, ends}
-use Rattle.pl_core.specs.HostDuties.{HoldsData}
-use Rattle.pl_core.specs.HostViews.{HostView}
-use Rattle.pl_core.specs.SwitchViews.{SwitchView}
+use Rattle.pl_logic.specs.HostDuties.{HoldsData}
+use Rattle.pl_logic.specs.HostViews.{HostView}
+use Rattle.pl_logic.specs.SwitchViews.{SwitchView}
 use Rattle.pl_layouts.specs.Placement.{same_place}
 use Rattle.pl_world.specs.declared.item.Item.TheVariants.{Control, Data}
 use Rattle.pl_world.specs.declared.spoken_frame.SpokenFrame.{SpokenFrame as Speech}
@@ -120,9 +120,9 @@ abbrev pub IsSteady : ℕ → ℕ → Doing → Type 0
 IsSteady s k d = Steady s k d.world d.speech d.late
 
 module _ (s k : ℕ) (w : WorldView) where
-  place_below : (port : ℕ) → w.plan.k ≡ k → s < switch_count k → port < k → length w.out ≡ switch_count w.plan.k * w.plan.k →
+  index_below : (port : ℕ) → w.plan.k ≡ k → s < switch_count k → port < k → length w.out ≡ switch_count w.plan.k * w.plan.k →
       port_index w.plan.k s port < length w.out
-  place_below port size switch within long =
+  index_below port size switch within long =
       rw (long, size) (port_index-below k s port (switch_count k) switch within)
 
   -- an item is sent out unless the link is failed
@@ -152,7 +152,7 @@ module _ (s k : ℕ) (w : WorldView) where
     switch = st.switch;
     none = st.none;
     balance = control_out (is_failed_at w s port) _ (port_index w.plan.k s port) frame
-        (place_below port st.size st.switch fit.within st.balance.ports) (record { kind = fit.kind; whole = fit.whole }) st.balance;
+        (index_below port st.size st.switch fit.within st.balance.ports) (record { kind = fit.kind; whole = fit.whole }) st.balance;
     rest = st.rest;
   }
 
@@ -199,7 +199,7 @@ module _ (s k : ℕ) (w : WorldView) where
     switch = st.switch;
     none = late_begins_none (is_failed_at w s port) late id st.none;
     balance = data_out (is_failed_at w s port) late _ id (port_index w.plan.k s port) frame
-        (place_below port st.size st.switch fit.within st.balance.ports) (record { kind = fit.kind; whole = fit.whole }) (λ i. refl) st.balance;
+        (index_below port st.size st.switch fit.within st.balance.ports) (record { kind = fit.kind; whole = fit.whole }) (λ i. refl) st.balance;
     rest = st.rest;
   }
 

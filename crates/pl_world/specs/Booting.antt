@@ -7,10 +7,10 @@ use Rattle.pl_wiring.specs.Labels.{switch_count}
 use Rattle.pl_wiring.specs.LiveLinks.{LivePorts}
 use Rattle.pl_wiring.specs.Peers.{peer_of}
 use Rattle.pl_wiring.specs.Plan.{IsPlan, Plan}
-use Rattle.pl_core.specs.HostViews.{boot_host}
-use Rattle.pl_core.specs.ManagerViews.{booted_manager}
+use Rattle.pl_logic.specs.HostViews.{boot_host}
+use Rattle.pl_logic.specs.ManagerViews.{booted_manager}
 use Rattle.pl_journal.specs.Places.{is_host_port}
-use Rattle.pl_core.specs.SwitchFacts.{switch_at_boot}
+use Rattle.pl_logic.specs.SwitchFacts.{switch_at_boot}
 use Rattle.pl_world.specs.declared.limits.Limits.{Limits}
 use Rattle.pl_world.specs.declared.stand.Stand.{Stand}
 use Rattle.pl_world.specs.Worlds.{WorldView}

@@ -4,10 +4,10 @@ use Rattle.std.specs.List.{AllByRecursion}
 use Rattle.pl_wiring.specs.Labels.{switch_count}
 use Rattle.pl_wiring.specs.LiveLinks.{IsFor}
 use Rattle.pl_wiring.specs.Plan.{IsPlan}
-use Rattle.pl_core.specs.Accounting.{IsShaped, IsWhole}
+use Rattle.pl_logic.specs.Accounting.{IsShaped, IsWhole}
 use Rattle.pl_layouts.specs.Control.{is_control}
 use Rattle.pl_journal.specs.Flights.{begun, ends}
-use Rattle.pl_core.specs.HostDuties.{HoldsData}
+use Rattle.pl_logic.specs.HostDuties.{HoldsData}
 use Rattle.pl_world.specs.declared.item.Item.{Item}
 use Rattle.pl_world.specs.declared.item.Item.TheVariants.{Control, Data}
 use Rattle.pl_world.specs.declared.stand.Stand.{Stand}

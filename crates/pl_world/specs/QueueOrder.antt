@@ -6,7 +6,7 @@ use Rattle.pl_wiring.specs.Labels.{switch_count}
 use Rattle.pl_wiring.specs.Plan.{Plan}
 use Rattle.pl_world.specs.declared.event.QueueName.{QueueName}
 use Rattle.pl_world.specs.declared.event.QueueName.TheVariants as queue
-use Rattle.pl_queues.specs.Queues.{next_filled, next_place}
+use Rattle.pl_queues.specs.Queues.{next_filled, next_index}
 use Rattle.pl_world.specs.Changes.{host_no, switch_no}
 use Rattle.pl_world.specs.Refusals.{is_filled}
 use Rattle.pl_world.specs.Worlds.{WorldView}
@@ -70,7 +70,7 @@ has_items_at w n = is_filled w (queue_at w.plan n)
 
 -- the number of the first queue from number `from` on that has items
 abbrev pub next_queue : WorldView → ℕ → Option ℕ
-next_queue w from = next_place (has_items_at w) (queue_count w.plan) from
+next_queue w from = next_index (has_items_at w) (queue_count w.plan) from
 
 -- the same, of a bank whose first queue has number `first`
 abbrev pub next_in : {T : Type 0} → ℕ → List (List T) → ℕ → Option ℕ

@@ -3,11 +3,11 @@ use Rattle.std.specs.Prelude.{ℕ, List, Option}
 use Rattle.pl_wiring.specs.Plan.{Plan}
 use Rattle.pl_wiring.specs.LiveLinks.{LivePorts}
 use Rattle.pl_journal.specs.declared.entry.Entry.{Entry}
-use Rattle.pl_core.specs.declared.messages.ToManager.{ToManager}
-use Rattle.pl_core.specs.declared.messages.ToSwitch.{ToSwitch}
-use Rattle.pl_core.specs.SwitchViews.{SwitchView}
-use Rattle.pl_core.specs.ManagerViews.{ManagerView}
-use Rattle.pl_core.specs.HostViews.{HostView}
+use Rattle.pl_logic.specs.declared.messages.ToManager.{ToManager}
+use Rattle.pl_logic.specs.declared.messages.ToSwitch.{ToSwitch}
+use Rattle.pl_logic.specs.SwitchViews.{SwitchView}
+use Rattle.pl_logic.specs.ManagerViews.{ManagerView}
+use Rattle.pl_logic.specs.HostViews.{HostView}
 use Rattle.pl_world.specs.declared.item.Item.{Item}
 use Rattle.pl_world.specs.declared.limits.Limits.{Limits}
 use Rattle.pl_world.specs.declared.stand.Stand.{Stand}

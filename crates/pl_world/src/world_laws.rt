@@ -18,7 +18,7 @@ ghost use Rattle.pl_world.specs.SettledQueues.{HasSettledQueues};
 ghost use Rattle.pl_world.specs.WorldRule.{WorldStep};
 ghost use Rattle.pl_world.specs.Worlds.{WorldView};
 
-use pl_core::{HostCore, ManagerCore, SwitchCore};
+use pl_logic::{HostLogic, ManagerLogic, SwitchLogic};
 
 /// A world at its beginning has no frames, and one of each for each host, switch and port.
 pub fn a_new_world_has_its_frames_in_order()
@@ -28,21 +28,21 @@ pub fn a_new_world_has_its_frames_in_order()
 /// Whatever the rules of switches, manager and hosts are, as long as switches account for their frames
 /// and hosts send data frames: each frame that began has ended once, or is in one place of one queue,
 /// before and after each event that is not refused.
-pub fn each_step_keeps_its_frames_in_order<S: SwitchCore, M: ManagerCore, H: HostCore>()
+pub fn each_step_keeps_its_frames_in_order<S: SwitchLogic, M: ManagerLogic, H: HostLogic>()
     ensures { (old : WorldView) (happens : Event) (new : WorldView) → IsCounted old →
         refusal old happens ≡ None → WorldStep S.rule M.rule H.rule old happens new → IsCounted new }
 {}
 
 /// So it is at each moment of each run from the beginning, whatever a script writes of itself between the
 /// steps.
-pub fn each_run_keeps_its_frames_in_order<S: SwitchCore, M: ManagerCore, H: HostCore>()
+pub fn each_run_keeps_its_frames_in_order<S: SwitchLogic, M: ManagerLogic, H: HostLogic>()
     ensures { (plan : Plan) (limits : Limits) (moments : List Moment) (new : WorldView) → CanBegin plan →
         WorldRun S.rule M.rule H.rule (booted plan limits) moments new → IsCounted new }
 {}
 
 /// At each moment of each run the manager has heard the switches of the wiring alone, and has learnt no
 /// more addresses than steps were made: so it can hear whatever comes next.
-pub fn each_run_stays_within_hearing<S: SwitchCore, M: ManagerCore, H: HostCore>()
+pub fn each_run_stays_within_hearing<S: SwitchLogic, M: ManagerLogic, H: HostLogic>()
     ensures { (plan : Plan) (limits : Limits) (moments : List Moment) (new : WorldView) → limits.steps ≤ 4000000000 →
         WorldRun S.rule M.rule H.rule (booted plan limits) moments new → IsWithinHearing new }
 {}
@@ -55,7 +55,7 @@ pub fn nothing_is_pending_exactly_where_the_queues_are_settled()
 {}
 
 /// At each moment of each run a host's queue holds data frames alone.
-pub fn hosts_have_no_control_frames_in_their_queues<S: SwitchCore, M: ManagerCore, H: HostCore>()
+pub fn hosts_have_no_control_frames_in_their_queues<S: SwitchLogic, M: ManagerLogic, H: HostLogic>()
     ensures { (plan : Plan) (limits : Limits) (moments : List Moment) (new : WorldView) → CanBegin plan →
         WorldRun S.rule M.rule H.rule (booted plan limits) moments new →
         (h : ℕ) (frame : List ℕ) → Contains (items_at new.from_hosts h) (Control frame) → ⊥ }
@@ -66,9 +66,9 @@ pub fn hosts_have_no_control_frames_in_their_queues<S: SwitchCore, M: ManagerCor
 /// the queue to the host, or it comes out of a port where no host stands that it is for, as `HostGone`.
 /// That a host is no member of a frame's group is said by the next law.
 pub fn a_step_that_is_no_switchs_drops_frames_for_their_causes_alone<
-    S: SwitchCore,
-    M: ManagerCore,
-    H: HostCore,
+    S: SwitchLogic,
+    M: ManagerLogic,
+    H: HostLogic,
 >()
     ensures { (old : WorldView) (happens : Event) (new : WorldView) (id : ℕ) (cause : Cause) →
         WorldStep S.rule M.rule H.rule old happens new → (IsOfSwitch old happens → ⊥) → (cause ≡ NoMember → ⊥) →
@@ -78,9 +78,9 @@ pub fn a_step_that_is_no_switchs_drops_frames_for_their_causes_alone<
 /// Such a step drops a frame as `NoMember` only where it comes out of a port to a host that answers so; and
 /// wherever one does, if its rule leaves its answers to a frame no choice.
 pub fn a_step_that_is_no_switchs_drops_a_frame_where_a_host_is_no_member<
-    S: SwitchCore,
-    M: ManagerCore,
-    H: HostCore,
+    S: SwitchLogic,
+    M: ManagerLogic,
+    H: HostLogic,
 >()
     ensures only { (old : WorldView) (happens : Event) (new : WorldView) (id : ℕ) →
         WorldStep S.rule M.rule H.rule old happens new → (IsOfSwitch old happens → ⊥) →
@@ -93,9 +93,9 @@ pub fn a_step_that_is_no_switchs_drops_a_frame_where_a_host_is_no_member<
 /// A step of a switch drops a frame only for a cause that its rule names in an act, or as `LinkDown` where
 /// it passes a frame on by a port whose link is failed.
 pub fn a_switch_drops_frames_by_its_rule_or_on_a_failed_link<
-    S: SwitchCore,
-    M: ManagerCore,
-    H: HostCore,
+    S: SwitchLogic,
+    M: ManagerLogic,
+    H: HostLogic,
 >()
     ensures { (old : WorldView) (happens : Event) (new : WorldView) (id : ℕ) (cause : Cause) →
         WorldStep S.rule M.rule H.rule old happens new → IsOfSwitch old happens →

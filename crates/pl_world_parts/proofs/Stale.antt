@@ -7,10 +7,10 @@ use Rattle.std.proofs.lemmas.List.Sums.{sum_by-le-sum_by, sum_by-take-le, sum_by
 use Rattle.std.proofs.lemmas.List.Folds.{sum_by-replicate}
 use Rattle.std.proofs.lemmas.Nat.{same_from_place}
 use Rattle.pl_wiring.specs.Index.{port_index}
-use Rattle.pl_core.specs.Announcements.{announcement}
-use Rattle.pl_core.specs.PortRecords.{port_of}
-use Rattle.pl_core.specs.SwitchFacts.{IsAnnounced}
-use Rattle.pl_core.specs.SwitchViews.{SwitchView}
+use Rattle.pl_logic.specs.Announcements.{announcement}
+use Rattle.pl_logic.specs.PortRecords.{port_of}
+use Rattle.pl_logic.specs.SwitchFacts.{IsAnnounced}
+use Rattle.pl_logic.specs.SwitchViews.{SwitchView}
 use Rattle.pl_queues.specs.Counts.{counted_in}
 use Rattle.pl_queues.specs.Queues.{items_at}
 use Rattle.pl_world.specs.declared.item.Item.{Item}

@@ -10,8 +10,8 @@ use Rattle.pl_wiring.specs.Index.{port_index}
 use Rattle.pl_layouts.specs.declared.control.Control.TheVariants as control
 use Rattle.pl_layouts.specs.Control.{control_frame}
 use Rattle.pl_layouts.specs.Placement.{nowhere}
-use Rattle.pl_core.specs.PortRecords.{ports_of_switch}
-use Rattle.pl_core.specs.SwitchViews.{SwitchView}
+use Rattle.pl_logic.specs.PortRecords.{ports_of_switch}
+use Rattle.pl_logic.specs.SwitchViews.{SwitchView}
 use Rattle.pl_queues.specs.Counts.{counted_in}
 use Rattle.pl_queues.specs.Queues.{items_at, put_at}
 use Rattle.pl_world.specs.declared.item.Item.{Item}
@@ -358,47 +358,47 @@ row_fits k (suc s) (suc n) low =
     omega (arith, mine, all, rest)
 
 -- a switch hears something, and is looked at before and after
-module _ {T : Type 0} (view : T → SwitchView) (k : ℕ) (cores new : List T) (out : List (List Item)) (counts : List ℕ) (s kept : ℕ) (was is : T)
-    (keeps : KeepsStale (all_switches k (map view cores) out) kept) (each : KeepsEach (all_switches k (map view cores) out) counts)
-    (low : s < length (map view cores)) (seen : was ≡ get_or cores s was) (same : sizes (map view new) ≡ sizes (map view cores))
+module _ {T : Type 0} (view : T → SwitchView) (k : ℕ) (devices new : List T) (out : List (List Item)) (counts : List ℕ) (s kept : ℕ) (was is : T)
+    (keeps : KeepsStale (all_switches k (map view devices) out) kept) (each : KeepsEach (all_switches k (map view devices) out) counts)
+    (low : s < length (map view devices)) (seen : was ≡ get_or devices s was) (same : sizes (map view new) ≡ sizes (map view devices))
     (again : is ≡ get_or new s is) where
-  found_before : slice_get (map view cores) s ≡ Some (view was)
-  found_before = let many = length-map cores view in found-map view cores s was (omega (arith, low, many)) (sym seen)
+  found_before : slice_get (map view devices) s ≡ Some (view was)
+  found_before = let many = length-map devices view in found-map view devices s was (omega (arith, low, many)) (sym seen)
 
   found_after : slice_get (map view new) s ≡ Some (view is)
   found_after =
       let many = length-map new view in
-      let all = sizes_many (map view cores) (map view new) same in
+      let all = sizes_many (map view devices) (map view new) same in
       found-map view new s is (omega (arith, low, many, all)) (sym again)
 
   before_size : (view was).k ≡ k
-  before_size = same_size k (map view cores) out s (view was) keeps.queues found_before
+  before_size = same_size k (map view devices) out s (view was) keeps.queues found_before
 
   after_size : (view is).k ≡ k
-  after_size = same_size k (map view new) out s (view is) (queues_kept k (map view cores) out s kept 0 0 (map view new) keeps low same) found_after
+  after_size = same_size k (map view new) out s (view is) (queues_kept k (map view devices) out s kept 0 0 (map view new) keeps low same) found_after
 
   pub hear_queues : port_index (view is).k s (view is).k ≤ length out
   hear_queues =
-      let fits : s * k + k ≤ length (map view cores) * k = row_fits k s (length (map view cores)) low in
+      let fits : s * k + k ≤ length (map view devices) * k = row_fits k s (length (map view devices)) low in
       let here : port_index (view is).k s (view is).k ≡ port_index k s k = ap (λ n. port_index n s n) after_size in
       omega (arith, fits, here, keeps.queues.queues)
 
   pub hear_known : (said : List Said) → ((port : ℕ) → port < (view was).k → slice_get said port ≡ Some (said_at (view was) port)) →
       (port : ℕ) → port < (view is).k → IsKnownAt (view is).k s out counts said port
-  hear_known said told = known_before k (map view cores) out counts s (view was) (view is) each found_before after_size said before_size told
+  hear_known said told = known_before k (map view devices) out counts s (view was) (view is) each found_before after_size said before_size told
 
   pub hear_first : (first : ℕ) → first ≡ sum_by (λ port. slice_index_or counts (port_index (view is).k s port) 0) (ports_of_switch (view is).k) →
-      first ≡ stale_at k (map view cores) out s
-  hear_first = first_is k (map view cores) out counts s (view was) (view is) each found_before after_size
+      first ≡ stale_at k (map view devices) out s
+  hear_first = first_is k (map view devices) out counts s (view was) (view is) each found_before after_size
 
   pub hear_last : (last : ℕ) → last ≡ stale_at_ports (view is).k (Some (view is)) out s → last ≡ stale_at k (map view new) out s
-  hear_last = last_is k (map view cores) out counts s (view was) (view is) each found_before after_size (map view new) found_after
+  hear_last = last_is k (map view devices) out counts s (view was) (view is) each found_before after_size (map view new) found_after
 
-  pub hear_each : (renewed : List ℕ) → IsOneChanged (map view cores) s (map view new) → length renewed ≡ length out →
+  pub hear_each : (renewed : List ℕ) → IsOneChanged (map view devices) s (map view new) → length renewed ≡ length out →
       ((port : ℕ) → port < (view is).k → slice_index_or renewed (port_index (view is).k s port) 0 ≡ stale_in (Some (view is)) port (items_at out (port_index (view is).k s port))) →
       ((t port : ℕ) → port < (view is).k → (t ≡ s → ⊥) → slice_index_or renewed (port_index (view is).k t port) 0 ≡ slice_index_or counts (port_index (view is).k t port) 0) →
       KeepsEach (all_switches k (map view new) out) renewed
-  hear_each = each_again k (map view cores) out counts s (view was) (view is) each found_before after_size (map view new) found_after
+  hear_each = each_again k (map view devices) out counts s (view was) (view is) each found_before after_size (map view new) found_after
 
 -- where no control frame waits, nothing is stale whatever the switches announce
 module _ (k : ℕ) (switches new : List SwitchView) (out : List (List Item)) (none : counted_in is_control_item out ≡ 0) (same : sizes new ≡ sizes switches) where

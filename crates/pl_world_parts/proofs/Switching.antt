@@ -6,8 +6,8 @@ use Rattle.std.proofs.lemmas.List.{length-replicate, length-set}
 use Rattle.std.proofs.lemmas.List.Sums.{sum_by-cons, sum_by_push}
 use Rattle.pl_frame.specs.declared.address.SwitchId.{SwitchId}
 use Rattle.pl_wiring.specs.Index.{port_index}
-use Rattle.pl_core.specs.SwitchFacts.{switch_at_boot}
-use Rattle.pl_core.specs.SwitchViews.{SwitchView}
+use Rattle.pl_logic.specs.SwitchFacts.{switch_at_boot}
+use Rattle.pl_logic.specs.SwitchViews.{SwitchView}
 use Rattle.pl_queues.specs.Counts.{counted_in}
 use Rattle.pl_queues.specs.Queues.{items_at, put_at}
 use Rattle.pl_world.specs.declared.item.Item.{Item}
@@ -139,20 +139,20 @@ none_stale_yet k switches out n ports many empty =
     let queues : length out ≡ length switches * k = ap length empty ∙ length-replicate n [] ∙ sym many in
     record { queues = record { ports = ports; queues = queues }; is = sym (none_stale k n switches out queues empty) }
 
-module _ {T : Type 0} (view : T → SwitchView) (k : ℕ) (cores : List T) (out : List (List Item)) (f : SwitchesView) (s port at : ℕ) (core : T)
-    (has : HasQueues (all_switches k (map view cores) out)) (seen : all_switches k (map view cores) out ≡ f) (low : at < length f.out)
-    (place : port_index k s port ≡ at) (here : core ≡ get_or cores s core) where
+module _ {T : Type 0} (view : T → SwitchView) (k : ℕ) (devices : List T) (out : List (List Item)) (f : SwitchesView) (s port at : ℕ) (device : T)
+    (has : HasQueues (all_switches k (map view devices) out)) (seen : all_switches k (map view devices) out ≡ f) (low : at < length f.out)
+    (place : port_index k s port ≡ at) (here : device ≡ get_or devices s device) where
   pub place_there : at < length out
   place_there = let same = ap (λ a. length a.out) seen in omega (arith, low, same)
 
-  pub core_found : slice_get (map view cores) s ≡ Some (view core)
-  core_found =
-      let there = switch_is_there k (map view cores) out s port at has place place_there in
-      let many = length-map cores view in
-      found-map view cores s core (omega (arith, there, many)) (sym here)
+  pub device_found : slice_get (map view devices) s ≡ Some (view device)
+  device_found =
+      let there = switch_is_there k (map view devices) out s port at has place place_there in
+      let many = length-map devices view in
+      found-map view devices s device (omega (arith, there, many)) (sym here)
 
-  pub port_there : port < k → port < (view core).k
-  port_there within = let size = same_size k (map view cores) out s (view core) has core_found in omega (arith, within, size)
+  pub port_there : port < k → port < (view device).k
+  port_there within = let size = same_size k (map view devices) out s (view device) has device_found in omega (arith, within, size)
 
 -- the three counts together, as the world sees them
 pub pending_seen : (f : SwitchesView) (v w : WorldView) (a b c : ℕ) → v ≡ w → IsFormed v → HasQueues f → f.switches ≡ v.switches → f.out ≡ v.out →

@@ -1,4 +1,4 @@
-use pl_core::ToSwitch;
+use pl_logic::ToSwitch;
 
 /// What comes at a switch: a frame at a port, a tick, or a message of the manager.
 #[derive(Clone, Copy)]

@@ -1,20 +1,20 @@
 ghost use Rattle.std.specs.Prelude.{◌≡◌, ◌<◌, length, map, slice_get, vec_len, IfOk, OnOk, Some};
-ghost use Rattle.pl_core.specs.Accounting.{CanCome};
-ghost use Rattle.pl_core.specs.Gains.{Gains};
-ghost use Rattle.pl_core.specs.HostInputs.HostAnswer.{Nothing, Played, Received};
-ghost use Rattle.pl_core.specs.HostInputs.HostInput.{Receives};
-ghost use Rattle.pl_core.specs.SwitchViews.{SwitchView};
+ghost use Rattle.pl_logic.specs.Accounting.{CanCome};
+ghost use Rattle.pl_logic.specs.Gains.{Gains};
+ghost use Rattle.pl_logic.specs.HostInputs.HostAnswer.{Nothing, Played, Received};
+ghost use Rattle.pl_logic.specs.HostInputs.HostInput.{Receives};
+ghost use Rattle.pl_logic.specs.SwitchViews.{SwitchView};
 ghost use Rattle.pl_world_parts.specs.OneStep.{HostSteps, IsOneChanged, SwitchSteps, input_from, input_of, sizes};
 ghost use Rattle.pl_world.specs.WorldRule.{played_as};
 
 use crate::incoming::Incoming;
 use crate::urge::Urge;
-use pl_core::{HostCore, HostOutbox, Outbox, Reception, SwitchCore};
 use pl_frame::Memory;
 use pl_journal::Skip;
 use pl_layouts::Place;
+use pl_logic::{HostLogic, HostOutbox, Outbox, Reception, SwitchLogic};
 
-fn hear<S: SwitchCore>(switch: &mut S, incoming: Incoming, out: &mut Outbox) -> Result<(), Memory>
+fn hear<S: SwitchLogic>(switch: &mut S, incoming: Incoming, out: &mut Outbox) -> Result<(), Memory>
     requires { CanCome (S.view switch.old) (input_from incoming) }
     ensures step { OnOk result (Gains out.old out.new (S.rule (S.view switch.old) (input_from incoming.entry) (S.view switch.new))) }
     ensures k { (S.view switch.new).k ≡ (S.view switch.old).k }
@@ -27,7 +27,7 @@ fn hear<S: SwitchCore>(switch: &mut S, incoming: Incoming, out: &mut Outbox) -> 
 }
 
 /// Something comes at one of some switches. The answer is its place before and after.
-pub fn hear_at<S: SwitchCore>(
+pub fn hear_at<S: SwitchLogic>(
     switches: &mut Vec<S>,
     s: usize,
     incoming: Incoming,
@@ -45,7 +45,7 @@ pub fn hear_at<S: SwitchCore>(
     Ok((old, switches[s].place()))
 }
 
-fn urge<H: HostCore>(host: &mut H, urge: Urge, out: &mut HostOutbox) -> Result<(), Memory>
+fn urge<H: HostLogic>(host: &mut H, urge: Urge, out: &mut HostOutbox) -> Result<(), Memory>
     ensures { OnOk result (Gains out.old out.new (λ acts. H.rule (H.view host.old) (input_of urge) (H.view host.new) acts Nothing)) }
 {
     match urge {
@@ -57,7 +57,7 @@ fn urge<H: HostCore>(host: &mut H, urge: Urge, out: &mut HostOutbox) -> Result<(
     }
 }
 
-fn play<H: HostCore>(
+fn play<H: HostLogic>(
     host: &mut H,
     frame: &[u8],
     original: u32,
@@ -75,7 +75,7 @@ fn play<H: HostCore>(
 }
 
 /// One of some hosts does something of itself.
-pub fn urge_at<H: HostCore>(
+pub fn urge_at<H: HostLogic>(
     hosts: &mut Vec<H>,
     h: usize,
     to: Urge,
@@ -91,7 +91,7 @@ pub fn urge_at<H: HostCore>(
 }
 
 /// It plays a recorded frame, raw or not.
-pub fn play_at<H: HostCore>(
+pub fn play_at<H: HostLogic>(
     hosts: &mut Vec<H>,
     h: usize,
     frame: &[u8],
@@ -109,7 +109,7 @@ pub fn play_at<H: HostCore>(
 }
 
 /// A frame arrives at it.
-pub fn arrive_at<H: HostCore>(
+pub fn arrive_at<H: HostLogic>(
     hosts: &mut Vec<H>,
     h: usize,
     frame: &[u8],

@@ -1,10 +1,10 @@
 ghost use Rattle.std.specs.Prelude.{◌≡◌, ◌<◌, ℕ, slice_get, IsTrue, Some};
-ghost use Rattle.pl_core.specs.PortRecords.{heard_id, heard_place};
+ghost use Rattle.pl_logic.specs.PortRecords.{heard_id, heard_place};
 ghost use Rattle.pl_world_parts.specs.StaleCounts.{direction_by, said_at};
 
-use pl_core::{PortRecord, SwitchFacts};
 use pl_frame::SwitchId;
 use pl_layouts::{Ldm, Place};
+use pl_logic::{PortRecord, SwitchFacts};
 
 /// What a switch announces out of a port, and whether a host is there, so that it announces nothing.
 #[derive(Clone, Copy, Debug, PartialEq, Eq)]
@@ -30,22 +30,22 @@ const NOTHING: Said = Said {
 };
 
 /// What a switch announces out of each port now.
-pub fn all_said<S: SwitchFacts>(core: &S) -> [Said; 24]
-    ensures { (port : ℕ) → port < (S.view core.now).k → slice_get result port ≡ Some (said_at (S.view core.now) port) }
+pub fn all_said<S: SwitchFacts>(device: &S) -> [Said; 24]
+    ensures { (port : ℕ) → port < (S.view device.now).k → slice_get result port ≡ Some (said_at (S.view device.now) port) }
 {
     let mut said = [NOTHING; 24];
-    for port in 0..core.k() {
-        said[port as usize] = said_at(core, port);
+    for port in 0..device.k() {
+        said[port as usize] = said_at(device, port);
     }
     said
 }
 
 /// Whether it announces out of a port what it did.
-pub fn says_still<S: SwitchFacts>(core: &S, port: u8, said: &Said) -> bool
-    requires { port < (S.view core.now).k }
-    ensures { IsTrue result → said.now ≡ said_at (S.view core.now) port }
+pub fn says_still<S: SwitchFacts>(device: &S, port: u8, said: &Said) -> bool
+    requires { port < (S.view device.now).k }
+    ensures { IsTrue result → said.now ≡ said_at (S.view device.now) port }
 {
-    is_same(said, &said_at(core, port))
+    is_same(said, &said_at(device, port))
 }
 
 fn is_same(a: &Said, b: &Said) -> bool
@@ -54,15 +54,15 @@ fn is_same(a: &Said, b: &Said) -> bool
     a == b
 }
 
-fn said_at<S: SwitchFacts>(core: &S, port: u8) -> Said
-    requires { port < (S.view core.now).k }
-    ensures { result ≡ said_at (S.view core.now) port }
+fn said_at<S: SwitchFacts>(device: &S, port: u8) -> Said
+    requires { port < (S.view device.now).k }
+    ensures { result ≡ said_at (S.view device.now) port }
 {
-    let record = core.port(port);
-    let place = core.place();
+    let record = device.port(port);
+    let place = device.place();
     Said {
         host: record.host,
-        id: core.id(),
+        id: device.id(),
         ldm: Ldm {
             place,
             direction: direction(place.level, heard_level(&record)),

@@ -1,10 +1,10 @@
 ghost use Rattle.std.specs.Prelude.{◌≡◌, ◌<◌, ◌≤◌, ◌*◌, ◌∷◌, ◌++◌, ℕ, [], cond, count_by, length, map, option_to_list, replicate, slice_get, slice_index_or, slice_set, sum_by, vec_len, IfOk, IfSome, MatchOption, OnErr, OnOk, Some};
 ghost use Rattle.std.specs.List.{AllByRecursion};
 ghost use Rattle.pl_wiring.specs.Index.{port_index};
-ghost use Rattle.pl_core.specs.Accounting.{CanCome};
-ghost use Rattle.pl_core.specs.Gains.{Gains};
-ghost use Rattle.pl_core.specs.PortRecords.{ports_of_switch};
-ghost use Rattle.pl_core.specs.SwitchViews.{SwitchView};
+ghost use Rattle.pl_logic.specs.Accounting.{CanCome};
+ghost use Rattle.pl_logic.specs.Gains.{Gains};
+ghost use Rattle.pl_logic.specs.PortRecords.{ports_of_switch};
+ghost use Rattle.pl_logic.specs.SwitchViews.{SwitchView};
 ghost use Rattle.pl_queues.specs.Counts.{most};
 ghost use Rattle.pl_queues.specs.Queues.{items_at, put_at};
 ghost use Rattle.pl_world_parts.specs.OneStep.{SwitchSteps, input_from, sizes};
@@ -15,9 +15,9 @@ use crate::incoming::Incoming;
 use crate::one_step::hear_at;
 use crate::said::{Said, all_said, says_still};
 use pl_banks::{CountedQueues, Iter, Queues, one_if};
-use pl_core::{Outbox, SwitchCore, SwitchFacts};
 use pl_frame::Memory;
 use pl_layouts::Place;
+use pl_logic::{Outbox, SwitchFacts, SwitchLogic};
 use pl_world::Item;
 use std::alloc::Global;
 use std::marker::Model;
@@ -26,53 +26,53 @@ use std::marker::Model;
 /// frame there is stale, unless its switch would send it out of that port now; how many are stale is kept,
 /// for each port and in all.
 #[derive(Drop)]
-pub struct Switches<S: SwitchCore> {
+pub struct Switches<S: SwitchLogic> {
     k: u8,
-    cores: Vec<S>,
+    devices: Vec<S>,
     out: CountedQueues<Item>,
     counts: Vec<u64>,
     stale: u64,
 }
 
-impl<S: SwitchCore> Model for Switches<S> {
+impl<S: SwitchLogic> Model for Switches<S> {
     ghost use Rattle.std.specs.Prelude.{map};
     ghost use Rattle.pl_world.specs.Pending.{KeepsStale, SwitchesView};
     ghost use Rattle.pl_world_parts.specs.StaleCounts.{KeepsEach};
 
     ghost Value = { SwitchesView };
 
-    ghost view = { λ all. record { k = all.k; switches = map S.view all.cores.items; out = all.out } };
+    ghost view = { λ all. record { k = all.k; switches = map S.view all.devices.items; out = all.out } };
 
     ghost invariant = { λ all. KeepsStale (view all) all.stale × KeepsEach (view all) all.counts.items };
 }
 
-impl<S: SwitchCore> Switches<S> {
+impl<S: SwitchLogic> Switches<S> {
     /// Switches with empty queues.
     pub fn new(
         alloc: Global,
         k: u8,
-        cores: Vec<S>,
+        devices: Vec<S>,
         out: CountedQueues<Item>,
     ) -> Result<Switches<S>, Memory>
-        requires ports { AllByRecursion (λ v. v.k ≡ k) (map S.view cores.items) }
-        requires queues { out ≡ replicate (vec_len cores * k) [] }
-        ensures { IfOk result (λ all. all ≡ record { k = k; switches = map S.view cores.items; out = out }) }
+        requires ports { AllByRecursion (λ v. v.k ≡ k) (map S.view devices.items) }
+        requires queues { out ≡ replicate (vec_len devices * k) [] }
+        ensures { IfOk result (λ all. all ≡ record { k = k; switches = map S.view devices.items; out = out }) }
     {
         let counts = zeros(alloc, out.queues().len())?;
         Ok(Switches {
             k,
-            cores,
+            devices,
             out,
             counts,
             stale: 0,
         })
     }
 
-    pub fn core(&self, s: usize) -> &S
+    pub fn device(&self, s: usize) -> &S
         requires { s < length self.now.switches }
         ensures { slice_get self.now.switches s ≡ Some (S.view result.now) }
     {
-        &self.cores[s]
+        &self.devices[s]
     }
 
     /// The queues out of all ports, to look at.
@@ -100,7 +100,7 @@ impl<S: SwitchCore> Switches<S> {
     {
         let _bound = self.out.counted();
         let (s, port) = port_at(self.k, at);
-        let more = one_if(is_stale(&self.cores[s], port, &item));
+        let more = one_if(is_stale(&self.devices[s], port, &item));
         self.out.put(at, item)?;
         self.counts[at] += more;
         self.stale += more;
@@ -115,7 +115,7 @@ impl<S: SwitchCore> Switches<S> {
     {
         let (s, port) = port_at(self.k, at);
         let taken = self.out.take(at);
-        let less = stale_taken(&self.cores[s], port, &taken);
+        let less = stale_taken(&self.devices[s], port, &taken);
         self.counts[at] -= less;
         self.stale -= less;
         taken
@@ -151,11 +151,11 @@ impl<S: SwitchCore> Switches<S> {
     {
         let waiting = self.out.counted();
         if waiting == 0 {
-            return hear_at(&mut self.cores, s, incoming, out);
+            return hear_at(&mut self.devices, s, incoming, out);
         }
-        let said = all_said(&self.cores[s]);
-        let done = hear_at(&mut self.cores, s, incoming, out);
-        let (before, after) = count_again(&mut self.counts, &self.cores[s], &self.out, s, &said);
+        let said = all_said(&self.devices[s]);
+        let done = hear_at(&mut self.devices, s, incoming, out);
+        let (before, after) = count_again(&mut self.counts, &self.devices[s], &self.out, s, &said);
         self.stale = self.stale - before + after;
         done
     }
@@ -171,55 +171,55 @@ fn port_at(k: u8, at: usize) -> (usize, u8)
 }
 
 #[tactic(auto, using(crate::proofs::Stale::not_announced_is), unfolding(pl_world::specs::Pending::is_stale))]
-fn is_stale<S: SwitchFacts>(core: &S, port: u8, item: &Item) -> bool
-    requires { port < (S.view core.now).k }
-    ensures { result ≡ is_stale (S.view core.now) port item.now }
+fn is_stale<S: SwitchFacts>(device: &S, port: u8, item: &Item) -> bool
+    requires { port < (S.view device.now).k }
+    ensures { result ≡ is_stale (S.view device.now) port item.now }
 {
     match item {
-        Item::Control(frame) => !core.announces(port, frame.bytes()),
+        Item::Control(frame) => !device.announces(port, frame.bytes()),
         Item::Data(..) => false,
     }
 }
 
-fn stale_taken<S: SwitchFacts>(core: &S, port: u8, taken: &Option<Item>) -> u64
-    requires { port < (S.view core.now).k }
-    ensures { result ≡ count_by (is_stale (S.view core.now) port) (option_to_list taken.now) }
+fn stale_taken<S: SwitchFacts>(device: &S, port: u8, taken: &Option<Item>) -> u64
+    requires { port < (S.view device.now).k }
+    ensures { result ≡ count_by (is_stale (S.view device.now) port) (option_to_list taken.now) }
 {
     match taken {
         None => 0,
-        Some(item) => one_if(is_stale(core, port, item)),
+        Some(item) => one_if(is_stale(device, port, item)),
     }
 }
 
 // How many items are stale in a queue out of a port.
-fn stale_in<S: SwitchFacts>(core: &S, port: u8, items: Iter<'_, Item>) -> u64
-    requires { port < (S.view core.now).k }
-    ensures { result ≡ count_by (is_stale (S.view core.now) port) items.entry }
+fn stale_in<S: SwitchFacts>(device: &S, port: u8, items: Iter<'_, Item>) -> u64
+    requires { port < (S.view device.now).k }
+    ensures { result ≡ count_by (is_stale (S.view device.now) port) items.entry }
 {
     let _few = items.len();
     let mut count = 0;
     for item in items {
-        count += one_if(is_stale(core, port, item));
+        count += one_if(is_stale(device, port, item));
     }
     count
 }
 
 // The same, where a count is known of what the switch announced before.
 fn count_port<S: SwitchFacts>(
-    core: &S,
+    device: &S,
     port: u8,
     items: Iter<'_, Item>,
     said: &Said,
     count: u64,
 ) -> u64
-    requires port { port < (S.view core.now).k }
+    requires port { port < (S.view device.now).k }
     requires known { count ≡ count_by (is_stale_under said.now) items }
-    ensures { result ≡ count_by (is_stale (S.view core.now) port) items.entry }
+    ensures { result ≡ count_by (is_stale (S.view device.now) port) items.entry }
 {
-    if says_still(core, port, said) {
+    if says_still(device, port, said) {
         count
     } else {
-        stale_in(core, port, items)
+        stale_in(device, port, items)
     }
 }
 
@@ -227,32 +227,32 @@ fn count_port<S: SwitchFacts>(
 // answer is how many were stale in those out of all its ports, and how many are.
 fn count_again<S: SwitchFacts>(
     counts: &mut Vec<u64>,
-    core: &S,
+    device: &S,
     out: &CountedQueues<Item>,
     s: usize,
     said: &[Said; 24],
 ) -> (u64, u64)
-    requires queues { port_index (S.view core.now).k s (S.view core.now).k ≤ length out.now }
+    requires queues { port_index (S.view device.now).k s (S.view device.now).k ≤ length out.now }
     requires many { vec_len counts.old ≡ length out.now }
-    requires known { (port : ℕ) → port < (S.view core.now).k → IfSome (slice_get said.now port) (λ was.
-        slice_index_or counts.old.items (port_index (S.view core.now).k s port) 0
-        ≡ count_by (is_stale_under was) (items_at out.now (port_index (S.view core.now).k s port))) }
+    requires known { (port : ℕ) → port < (S.view device.now).k → IfSome (slice_get said.now port) (λ was.
+        slice_index_or counts.old.items (port_index (S.view device.now).k s port) 0
+        ≡ count_by (is_stale_under was) (items_at out.now (port_index (S.view device.now).k s port))) }
     ensures many { vec_len counts.new ≡ length out.now }
-    ensures before { result.0 ≡ sum_by (λ port. slice_index_or counts.old.items (port_index (S.view core.now).k s port) 0) (ports_of_switch (S.view core.now).k) }
-    ensures after { result.1 ≡ stale_at_ports (S.view core.now).k (Some (S.view core.now)) out.now s }
-    ensures each { (port : ℕ) → port < (S.view core.now).k → slice_index_or counts.new.items (port_index (S.view core.now).k s port) 0
-        ≡ stale_in (Some (S.view core.now)) port (items_at out.now (port_index (S.view core.now).k s port)) }
-    ensures others { (t port : ℕ) → port < (S.view core.now).k → (t ≡ s → ⊥) →
-        slice_index_or counts.new.items (port_index (S.view core.now).k t port) 0 ≡ slice_index_or counts.old.items (port_index (S.view core.now).k t port) 0 }
+    ensures before { result.0 ≡ sum_by (λ port. slice_index_or counts.old.items (port_index (S.view device.now).k s port) 0) (ports_of_switch (S.view device.now).k) }
+    ensures after { result.1 ≡ stale_at_ports (S.view device.now).k (Some (S.view device.now)) out.now s }
+    ensures each { (port : ℕ) → port < (S.view device.now).k → slice_index_or counts.new.items (port_index (S.view device.now).k s port) 0
+        ≡ stale_in (Some (S.view device.now)) port (items_at out.now (port_index (S.view device.now).k s port)) }
+    ensures others { (t port : ℕ) → port < (S.view device.now).k → (t ≡ s → ⊥) →
+        slice_index_or counts.new.items (port_index (S.view device.now).k t port) 0 ≡ slice_index_or counts.old.items (port_index (S.view device.now).k t port) 0 }
 {
-    let k = core.k();
+    let k = device.k();
     let (_bound, _many) = (out.counted(), out.queues().len());
     let (mut before, mut after) = (0, 0);
     for port in 0..k {
         let at = s * k as usize + port as usize;
         let count = counts[at];
         let now = count_port(
-            core,
+            device,
             port,
             out.queues().iter(at),
             &said[port as usize],

@@ -43,10 +43,10 @@ pub(crate) fn read_records(alloc: Global, file: &[u8]) -> Result<Walk, WalkError
     ensures err { IfErr result (λ e. IsRefusedWalk file.now e) }
 {
     let mut records = Vec::new(alloc);
-    let mut place = Records::begin(file)?;
-    while let Some(record) = place.next(file)? {
+    let mut cursor = Records::begin(file)?;
+    while let Some(record) = cursor.next(file)? {
         records.push(record)?;
     }
-    let tail = place.tail(file);
+    let tail = cursor.tail(file);
     Ok(Walk { records, tail })
 }

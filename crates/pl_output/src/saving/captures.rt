@@ -141,12 +141,12 @@ fn append_packet<S: Shelf>(
     append(shelf, name, frame)
 }
 
-/// The frame that the entry at a place brings to a host.
-fn frame_at(journal: &Journal, place: usize) -> &[u8]
-    ensures frame { result.now ≡ frame_at journal.now place }
+/// The frame that the entry at an index brings to a host.
+fn frame_at(journal: &Journal, index: usize) -> &[u8]
+    ensures frame { result.now ≡ frame_at journal.now index }
     ensures carried { All ArrivesCarried journal.now → length result.now ≤ 65553 }
 {
-    match journal.get(place) {
+    match journal.get(index) {
         Some(Entry::Arrived(_, _, frame)) => frame.bytes(),
         _ => &[],
     }

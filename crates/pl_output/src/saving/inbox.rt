@@ -15,7 +15,7 @@ const LAST_MICRO: u32 = 999_999;
 pub struct Inbox {
     name: Name,
     receipts: Vec<Receipt>,
-    /// The place behind the line at which the last receipt came.
+    /// The index behind the line at which the last receipt came.
     behind: usize,
     /// How many came since that line, counted to 1,000,000.
     earlier: u32,
@@ -65,15 +65,15 @@ impl Inbox {
         self.receipts.as_slice()
     }
 
-    /// A frame is received, whose entry stands at this place.
-    pub fn receive(&mut self, line: LastLine, place: usize) -> Result<(), Memory>
-        ensures { OnOk result (self.new ≡ with_receipt self.old line place) }
+    /// A frame is received, whose entry stands at this index.
+    pub fn receive(&mut self, line: LastLine, index: usize) -> Result<(), Memory>
+        ensures { OnOk result (self.new ≡ with_receipt self.old line index) }
     {
         let micros = self.earlier(line).min(LAST_MICRO);
         self.receipts.push(Receipt {
             seconds: line.number,
             micros,
-            entry: place,
+            entry: index,
         })?;
         self.behind = line.behind;
         self.earlier = micros + 1;

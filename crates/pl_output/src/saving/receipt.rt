@@ -1,4 +1,4 @@
-/// An arrival of the journal by the place of its entry, with its time stamp.
+/// An arrival of the journal by the index of its entry, with its time stamp.
 #[derive(Clone, Copy, Debug)]
 pub struct Receipt {
     pub seconds: u32,
@@ -6,7 +6,7 @@ pub struct Receipt {
     pub entry: usize,
 }
 
-/// The last line before a place of the journal: its number, and the place behind its entry. Both are
+/// The last line before an index of the journal: its number, and the index behind its entry. Both are
 /// 0 where there is none.
 #[derive(Clone, Copy, Debug)]
 pub struct LastLine {

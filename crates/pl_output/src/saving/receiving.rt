@@ -56,9 +56,9 @@ fn sort(inboxes: &mut Vec<Inbox>, entries: &[Entry]) -> Result<(), Memory>
         number: 0,
         behind: 0,
     };
-    for (place, entry) in entries.iter().enumerate() {
-        deliver(inboxes, host_of(entry), line, place)?;
-        line = line_behind(entry, place, line);
+    for (index, entry) in entries.iter().enumerate() {
+        deliver(inboxes, host_of(entry), line, index)?;
+        line = line_behind(entry, index, line);
     }
     Ok(())
 }
@@ -67,29 +67,29 @@ fn deliver(
     inboxes: &mut Vec<Inbox>,
     host: Option<HostNo>,
     line: LastLine,
-    place: usize,
+    index: usize,
 ) -> Result<(), Memory>
     ensures { OnOk result (inboxes.new.items
-        ≡ delivered inboxes.old.items (option_map number_of host) line place) }
+        ≡ delivered inboxes.old.items (option_map number_of host) line index) }
 {
     let Some(number) = host else {
         return Ok(());
     };
     if let Some(inbox) = inboxes.get_mut(number.0 as usize) {
-        inbox.receive(line, place)?;
+        inbox.receive(line, index)?;
     }
     Ok(())
 }
 
 /// The last line behind an entry.
-fn line_behind(entry: &Entry, place: usize, line: LastLine) -> LastLine
-    requires { place < 2 ^ 64 - 1 }
-    ensures { result ≡ line_after entry.now place line }
+fn line_behind(entry: &Entry, index: usize, line: LastLine) -> LastLine
+    requires { index < 2 ^ 64 - 1 }
+    ensures { result ≡ line_after entry.now index line }
 {
     match entry {
         Entry::Line(number) => LastLine {
             number: *number,
-            behind: place + 1,
+            behind: index + 1,
         },
         _ => line,
     }

@@ -1,6 +1,6 @@
 ghost use Rattle.std.specs.Prelude.{◌≡◌, ◌<◌, ℕ, List, [], ◌∷◌, ◌++◌, slice_index, IfOk, OnOk};
 ghost use Rattle.pl_journal.specs.declared.entry.Entry.{Entry};
-ghost use Rattle.pl_output.specs.Summary.{count_of, counts_of, ending_of, place_of, receiver_of, sender_of, skipper_of};
+ghost use Rattle.pl_output.specs.Summary.{count_of, counts_of, ending_of, index_of, receiver_of, sender_of, skipper_of};
 ghost use Rattle.pl_output.specs.Tallied.{IsTally, with_one};
 
 use crate::summary::host_counts::HostCounts;
@@ -13,7 +13,7 @@ use std::alloc::Global;
 /// How many causes there are.
 const CAUSE_COUNT: usize = 9;
 
-/// What a journal has counted: the entries of each kind, the dropped ones by their cause's place, and
+/// What a journal has counted: the entries of each kind, the dropped ones by their cause's index, and
 /// those of each host by its number.
 #[derive(Debug, Drop)]
 pub(crate) struct Tally {
@@ -39,9 +39,9 @@ impl Tally {
     /// How many frames ended for a cause.
     pub fn ended_for(&self, cause: Cause) -> u64
         ensures { (hosts : ℕ) (journal : List Entry) → IsTally self.now hosts journal →
-            result ≡ count_of ending_of (place_of cause) journal }
+            result ≡ count_of ending_of (index_of cause) journal }
     {
-        count_in(self.ended.as_slice(), place(cause))
+        count_in(self.ended.as_slice(), index_of(cause))
     }
 
     pub fn of_host(&self, n: usize) -> HostCounts
@@ -128,14 +128,14 @@ fn ending(entry: &Entry) -> Option<usize>
     ensures { result ≡ ending_of entry.now }
 {
     match entry {
-        Entry::Dropped(_, cause) => Some(place(*cause)),
+        Entry::Dropped(_, cause) => Some(index_of(*cause)),
         _ => None,
     }
 }
 
-// The place of a cause in their order.
-fn place(cause: Cause) -> usize
-    ensures { result ≡ place_of cause }
+// The index of a cause in their order.
+fn index_of(cause: Cause) -> usize
+    ensures { result ≡ index_of cause }
 {
     cause as usize
 }

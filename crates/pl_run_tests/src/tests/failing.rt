@@ -23,13 +23,13 @@ const NAMES: [&str; 7] = [
     "-",
 ];
 
-// The place of the name at which a call failed.
+// The index of the name at which a call failed.
 fn port_index(alloc: Global, status: &Status) -> Result<usize, Fail> {
     let line = format!(in alloc; "{status}")?;
-    for (place, name) in NAMES.iter().enumerate() {
-        let does = if place < 3 { "read" } else { "write" };
+    for (index, name) in NAMES.iter().enumerate() {
+        let does = if index < 3 { "read" } else { "write" };
         if line == format!(in alloc; "portland: cannot {does} {name}")? {
-            return Ok(place);
+            return Ok(index);
         }
     }
     Err(Fail::from("no fault"))
@@ -43,14 +43,14 @@ fn is_absent_or_cut(found: Option<&[u8]>, whole: Option<&[u8]>) -> bool {
     }
 }
 
-// Whether the names before the place are whole, the one at it is absent or cut off, and those behind
+// Whether the names before the index are whole, the one at it is absent or cut off, and those behind
 // it are as they were.
 fn is_broken_off(shelf: &MemoryShelf, whole: &MemoryShelf, broken: usize) -> bool {
-    for (place, name) in NAMES.iter().enumerate().skip(3) {
+    for (index, name) in NAMES.iter().enumerate().skip(3) {
         let (found, text) = (shelf.content(name), whole.content(name));
-        let stands = if place < broken {
+        let stands = if index < broken {
             found == text
-        } else if place == broken {
+        } else if index == broken {
             is_absent_or_cut(found, text)
         } else {
             found == untouched(name)
@@ -71,10 +71,10 @@ fn each_call_that_fails_is_told_by_its_name(rt: HostRuntime) -> Result<(), Fail>
     for call in 1..=whole.calls() {
         let mut shelf = first_path(alloc)?;
         shelf.fail_at(call)?;
-        let place = port_index(alloc, &play(alloc, &mut shelf))?;
-        assert!(rt; last <= place && place - last <= 1, "at call {call}");
-        assert!(rt; is_broken_off(&shelf, &whole, place), "at call {call}");
-        last = place;
+        let index = port_index(alloc, &play(alloc, &mut shelf))?;
+        assert!(rt; last <= index && index - last <= 1, "at call {call}");
+        assert!(rt; is_broken_off(&shelf, &whole, index), "at call {call}");
+        last = index;
     }
     assert_eq!(rt; last, 6);
     Ok(())

@@ -2,19 +2,19 @@ ghost use Rattle.std.specs.Prelude.{◌≡◌, ◌<◌, OnOk};
 ghost use Rattle.std.specs.List.{AllByRecursion};
 ghost use Rattle.pl_wiring.specs.Labels.{switch_count};
 ghost use Rattle.pl_journal.specs.declared.entry.Entry.TheVariants as entry;
-ghost use Rattle.pl_core.specs.Accounting.{IsFit};
+ghost use Rattle.pl_logic.specs.Accounting.{IsFit};
 ghost use Rattle.pl_world.specs.SwitchActs.{act_done, acts_done, amid, crossed_again, ended, goes_out, made, passed, place_noted, redirected, with_late};
 
 use crate::world::World;
-use pl_core::{Act, HostCore, ManagerCore, Outbox, SwitchCore};
 use pl_frame::{Frame, Memory};
 use pl_journal::{Cause, Entry};
 use pl_layouts::Place;
+use pl_logic::{Act, HostLogic, ManagerLogic, Outbox, SwitchLogic};
 use pl_pmac::Pmac;
 use pl_wiring::SwitchNo;
 use pl_world::{Aside, Item, SpokenFrame};
 
-impl<S: SwitchCore, M: ManagerCore, H: HostCore> World<S, M, H> {
+impl<S: SwitchLogic, M: ManagerLogic, H: HostLogic> World<S, M, H> {
     // What one act of a switch brings about.
     fn do_act(&mut self, s: SwitchNo, act: Act, aside: &mut Aside) -> Result<(), Memory>
         requires switch { s.0 < switch_count self.old.plan.k }

@@ -1,8 +1,8 @@
 ghost use Rattle.std.specs.Prelude.{◌≡◌, ◌<◌, ◌≤◌, ◌*◌, All, length, map, replicate, slice_get, None, Some, IfOk};
 ghost use Rattle.pl_wiring.specs.Labels.{switch_count};
-ghost use Rattle.pl_core.specs.HostViews.{boot_host};
-ghost use Rattle.pl_core.specs.ManagerViews.{booted_manager};
-ghost use Rattle.pl_core.specs.SwitchFacts.{switch_at_boot};
+ghost use Rattle.pl_logic.specs.HostViews.{boot_host};
+ghost use Rattle.pl_logic.specs.ManagerViews.{booted_manager};
+ghost use Rattle.pl_logic.specs.SwitchFacts.{switch_at_boot};
 ghost use Rattle.pl_world.specs.Booting.{CanBegin, all_live, booted, me_of};
 ghost use Rattle.pl_world.specs.Flying.{IsCounted};
 ghost use Rattle.pl_world.specs.Hearing.{IsWithinHearing};
@@ -11,15 +11,15 @@ ghost use Rattle.pl_world.specs.Pending.{first_switches};
 use crate::world::World;
 use pl_arp::Me;
 use pl_banks::{CountedQueues, Queues};
-use pl_core::{HostCore, HostTable, ManagerCore, SwitchCore};
 use pl_frame::Memory;
 use pl_lists::Items;
+use pl_logic::{HostLogic, HostTable, ManagerLogic, SwitchLogic};
 use pl_wiring::{Host, LinkStates, SwitchNo, Wiring};
 use pl_world::Limits;
 use pl_world_parts::{Atlas, Book, Stands, Switches};
 use std::alloc::Global;
 
-impl<S: SwitchCore, M: ManagerCore, H: HostCore> World<S, M, H> {
+impl<S: SwitchLogic, M: ManagerLogic, H: HostLogic> World<S, M, H> {
     /// A world at its beginning: all links are live, each host stands where the wiring has it, nothing
     /// waits, and the journal is empty.
     pub fn boot(alloc: Global, wiring: Wiring, limits: Limits) -> Result<World<S, M, H>, Memory>
@@ -132,50 +132,50 @@ fn host_table(alloc: Global, hosts: &[Host]) -> Result<HostTable, Memory>
     Ok(table)
 }
 
-fn boot_hosts<H: HostCore>(
+fn boot_hosts<H: HostLogic>(
     alloc: Global,
     hosts: &[Host],
     table: &HostTable,
 ) -> Result<Vec<H>, Memory>
-    ensures { IfOk result (λ cores. map H.view cores.items ≡ map (λ host. boot_host (me_of host) table.now) hosts.now) }
+    ensures { IfOk result (λ devices. map H.view devices.items ≡ map (λ host. boot_host (me_of host) table.now) hosts.now) }
 {
-    let mut cores = Vec::new(alloc);
+    let mut devices = Vec::new(alloc);
     for host in hosts {
-        cores.push(H::boot(alloc, me_of(host), table)?)?;
+        devices.push(H::boot(alloc, me_of(host), table)?)?;
     }
-    Ok(cores)
+    Ok(devices)
 }
 
-fn boot_with_queues<S: SwitchCore>(alloc: Global, wiring: &Wiring) -> Result<Switches<S>, Memory>
+fn boot_with_queues<S: SwitchLogic>(alloc: Global, wiring: &Wiring) -> Result<Switches<S>, Memory>
     ensures { IfOk result (λ all. all ≡ first_switches wiring.now) }
 {
     let k = wiring.k();
-    let cores = boot_switches(alloc, wiring)?;
+    let devices = boot_switches(alloc, wiring)?;
     let out = CountedQueues::new(alloc, port_count(wiring))?;
-    Switches::new(alloc, k, cores, out)
+    Switches::new(alloc, k, devices, out)
 }
 
-fn boot_switches<S: SwitchCore>(alloc: Global, wiring: &Wiring) -> Result<Vec<S>, Memory>
-    ensures { IfOk result (λ cores. map S.view cores.items ≡ map (λ id. switch_at_boot id wiring.now.k) wiring.now.ids) }
+fn boot_switches<S: SwitchLogic>(alloc: Global, wiring: &Wiring) -> Result<Vec<S>, Memory>
+    ensures { IfOk result (λ devices. map S.view devices.items ≡ map (λ id. switch_at_boot id wiring.now.k) wiring.now.ids) }
 {
-    let mut cores = Vec::new(alloc);
+    let mut devices = Vec::new(alloc);
     for n in 0..wiring.switch_count() {
-        cores.push(boot_switch(alloc, wiring, SwitchNo(n))?)?;
+        devices.push(boot_switch(alloc, wiring, SwitchNo(n))?)?;
     }
-    Ok(cores)
+    Ok(devices)
 }
 
-fn boot_switch<S: SwitchCore>(alloc: Global, wiring: &Wiring, s: SwitchNo) -> Result<S, Memory>
+fn boot_switch<S: SwitchLogic>(alloc: Global, wiring: &Wiring, s: SwitchNo) -> Result<S, Memory>
     requires { s.0 < switch_count wiring.now.k }
-    ensures { IfOk result (λ core. slice_get (map (λ id. switch_at_boot id wiring.now.k) wiring.now.ids) s.0 ≡ Some (S.view core)) }
+    ensures { IfOk result (λ device. slice_get (map (λ id. switch_at_boot id wiring.now.k) wiring.now.ids) s.0 ≡ Some (S.view device)) }
 {
     let k = wiring.k();
     let id = wiring.id(s);
     S::boot(alloc, id, k)
 }
 
-fn boot_manager<M: ManagerCore>(alloc: Global, wiring: &Wiring) -> Result<M, Memory>
-    ensures { IfOk result (λ core. M.view core ≡ booted_manager wiring.now.k) }
+fn boot_manager<M: ManagerLogic>(alloc: Global, wiring: &Wiring) -> Result<M, Memory>
+    ensures { IfOk result (λ device. M.view device ≡ booted_manager wiring.now.k) }
 {
     let k = wiring.k();
     M::boot(alloc, k)

@@ -3,7 +3,7 @@ ghost use Rattle.std.specs.List.{AllByRecursion};
 ghost use Rattle.pl_frame.specs.Ethernet.{destination_of};
 ghost use Rattle.pl_wiring.specs.Labels.{switch_count};
 ghost use Rattle.pl_wiring.specs.Peers.{IsPort};
-ghost use Rattle.pl_core.specs.Accounting.{IsShaped};
+ghost use Rattle.pl_logic.specs.Accounting.{IsShaped};
 ghost use Rattle.pl_layouts.specs.Frames.{packet_in};
 ghost use Rattle.pl_journal.specs.Lossy.{mac_of_host};
 ghost use Rattle.pl_layouts.specs.Memberships.{is_group};
@@ -17,14 +17,14 @@ ghost use Rattle.pl_world.specs.WorldRule.{ComesAtHost, ComesAtSwitch, ComesIn, 
 use crate::world::World;
 use byteorder::{BigEndian, ByteOrder};
 use pl_arp::read;
-use pl_core::{HostCore, ManagerCore, SwitchCore, ToManager, ToSwitch};
 use pl_frame::{Frame, Mac, Memory, SHORTEST, TYPE_ARP};
 use pl_journal::{Cause, Entry};
+use pl_logic::{HostLogic, ManagerLogic, SwitchLogic, ToManager, ToSwitch};
 use pl_wiring::{HostNo, Peer, SwitchNo};
 use pl_world::{Item, SpokenFrame, Stand};
 use pl_world_parts::Incoming;
 
-impl<S: SwitchCore, M: ManagerCore, H: HostCore> World<S, M, H> {
+impl<S: SwitchLogic, M: ManagerLogic, H: HostLogic> World<S, M, H> {
     // An item comes at a port of a switch.
     fn come_at_switch(&mut self, s: SwitchNo, port: u8, item: Item) -> Result<(), Memory>
         requires switch { s.0 < switch_count self.old.plan.k }

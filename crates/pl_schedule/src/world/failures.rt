@@ -3,13 +3,13 @@ ghost use Rattle.pl_wiring.specs.Labels.{switch_count};
 ghost use Rattle.pl_world.specs.LinksAndMoves.{link_failed, link_repaired, with_link};
 
 use crate::world::World;
-use pl_core::{HostCore, ManagerCore, SwitchCore};
 use pl_frame::Memory;
 use pl_journal::{Cause, Entry};
+use pl_logic::{HostLogic, ManagerLogic, SwitchLogic};
 use pl_wiring::Link;
 use pl_world_parts::set_live;
 
-impl<S: SwitchCore, M: ManagerCore, H: HostCore> World<S, M, H> {
+impl<S: SwitchLogic, M: ManagerLogic, H: HostLogic> World<S, M, H> {
     // A link fails. What waits at its ends goes no further.
     pub(crate) fn fail(&mut self, link: Link) -> Result<(), Memory>
         requires { Contains self.old.plan.links link }

@@ -3,8 +3,8 @@ ghost use Rattle.std.specs.List.{AllByRecursion};
 ghost use Rattle.pl_frame.specs.declared.address.SwitchId.{SwitchId};
 ghost use Rattle.pl_wiring.specs.Labels.{switch_count};
 ghost use Rattle.pl_wiring.specs.Peers.{IsPort, peer_of};
-ghost use Rattle.pl_core.specs.Accounting.{IsShaped};
-ghost use Rattle.pl_core.specs.ManagerFacts.{CanHear};
+ghost use Rattle.pl_logic.specs.Accounting.{IsShaped};
+ghost use Rattle.pl_logic.specs.ManagerFacts.{CanHear};
 ghost use Rattle.pl_world.specs.Changes.{all_noted, emptied_from_host, emptied_out, ends_of, host_at, out_of};
 ghost use Rattle.pl_world.specs.Flying.{IsAtPort, IsDataItem, IsItem};
 ghost use Rattle.pl_queues.specs.Queues.{has_items, items_at};
@@ -13,14 +13,14 @@ ghost use Rattle.pl_world.specs.OtherActs.{heard_after_tick, one_more_tick};
 ghost use Rattle.pl_world.specs.WorldRule.{DeliversFromHost, DeliversFromManager, DeliversOut, DeliversToManager, Goes, Loses, Ticks};
 
 use crate::world::World;
-use pl_core::{HostCore, ManagerCore, SwitchCore};
 use pl_frame::Memory;
 use pl_journal::{Cause, Entry};
+use pl_logic::{HostLogic, ManagerLogic, SwitchLogic};
 use pl_wiring::{HostNo, Peer, SwitchNo};
 use pl_world::{Item, SpokenFrame, Stand};
 use pl_world_parts::{Incoming, Stands, Urge};
 
-impl<S: SwitchCore, M: ManagerCore, H: HostCore> World<S, M, H> {
+impl<S: SwitchLogic, M: ManagerLogic, H: HostLogic> World<S, M, H> {
     pub(crate) fn deliver_from_host(&mut self, h: HostNo) -> Result<(), Memory>
         requires host { h.0 < length self.old.plan.hosts }
         requires items { AllByRecursion (AllByRecursion IsDataItem) self.old.from_hosts }

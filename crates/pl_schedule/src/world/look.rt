@@ -9,13 +9,13 @@ ghost use Rattle.pl_world.specs.Refusals.{has_port};
 ghost use Rattle.pl_world.specs.Runs.{IsMark};
 
 use crate::world::World;
-use pl_core::{HostCore, ManagerCore, SwitchCore};
 use pl_frame::Memory;
 use pl_journal::Entry;
+use pl_logic::{HostLogic, ManagerLogic, SwitchLogic};
 use pl_wiring::{HostNo, SwitchNo};
 use pl_world::{QueueName, Stand};
 
-impl<S: SwitchCore, M: ManagerCore, H: HostCore> World<S, M, H> {
+impl<S: SwitchLogic, M: ManagerLogic, H: HostLogic> World<S, M, H> {
     /// How many items wait in a queue; none exactly where the wiring has no such queue.
     pub fn queue_len(&self, name: QueueName) -> Option<usize>
         ensures { result ≡ queue_len self.now name }
@@ -89,7 +89,7 @@ impl<S: SwitchCore, M: ManagerCore, H: HostCore> World<S, M, H> {
         requires { s.0 < switch_count self.now.plan.k }
         ensures { slice_get self.now.switches s.0 ≡ Some (S.view result.now) }
     {
-        self.switches.core(s.0 as usize)
+        self.switches.device(s.0 as usize)
     }
 
     pub fn manager(&self) -> &M

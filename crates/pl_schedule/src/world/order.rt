@@ -1,6 +1,6 @@
 ghost use Rattle.std.specs.Prelude.{◌≡◌, ◌+◌, ◌*◌, ◌<◌, ◌≤◌, ◌^◌, length, slice_get, IfSome, None, Some};
 ghost use Rattle.std.specs.Option.{option_map};
-ghost use Rattle.pl_queues.specs.Queues.{filled_places};
+ghost use Rattle.pl_queues.specs.Queues.{filled_indices};
 ghost use Rattle.pl_wiring.specs.Plan.{IsPlan};
 ghost use Rattle.pl_world.specs.Flying.{IsFormed};
 ghost use Rattle.pl_world.specs.QueueOrder.{filled_queues, first_from_manager, first_out, first_to_manager, host_queue, next_in, next_queue, order_queue, port_queue, queue_at, queue_count, queue_order, report_queue};
@@ -8,11 +8,11 @@ ghost use Rattle.pl_world.specs.Refusals.{has_queue, is_filled, refusal_of_queue
 
 use crate::world::World;
 use pl_banks::Queues;
-use pl_core::{HostCore, ManagerCore, SwitchCore};
+use pl_logic::{HostLogic, ManagerLogic, SwitchLogic};
 use pl_wiring::{HostNo, SwitchNo, Wiring};
 use pl_world::QueueName;
 
-impl<S: SwitchCore, M: ManagerCore, H: HostCore> World<S, M, H> {
+impl<S: SwitchLogic, M: ManagerLogic, H: HostLogic> World<S, M, H> {
     /// How many queues the wiring has.
     pub fn queue_count(&self) -> usize
         ensures count { result ≡ queue_count self.now.plan }
@@ -84,31 +84,31 @@ impl<S: SwitchCore, M: ManagerCore, H: HostCore> World<S, M, H> {
 
     // Number i of the hosts' queues with items, of those out of ports, to the manager, and from it.
     fn filled_from_host(&self, i: usize) -> Option<QueueName>
-        ensures name { result ≡ option_map host_queue (slice_get (filled_places self.now.from_hosts) i) }
+        ensures name { result ≡ option_map host_queue (slice_get (filled_indices self.now.from_hosts) i) }
         ensures formed { IsFormed self.now }
     {
-        let h = self.from_hosts.filled_place(i)?;
+        let h = self.from_hosts.filled_index(i)?;
         Some(QueueName::FromHost(HostNo(h as u32)))
     }
 
     fn filled_out(&self, i: usize) -> Option<QueueName>
-        ensures { result ≡ option_map (port_queue self.now.plan.k) (slice_get (filled_places self.now.out) i) }
+        ensures { result ≡ option_map (port_queue self.now.plan.k) (slice_get (filled_indices self.now.out) i) }
     {
-        let place = self.switches.out().filled_place(i)?;
+        let place = self.switches.out().filled_index(i)?;
         Some(port_queue(self.atlas.wiring().k(), place))
     }
 
     fn filled_to_manager(&self, i: usize) -> Option<QueueName>
-        ensures { result ≡ option_map report_queue (slice_get (filled_places self.now.to_manager) i) }
+        ensures { result ≡ option_map report_queue (slice_get (filled_indices self.now.to_manager) i) }
     {
-        let s = self.to_manager.queues().filled_place(i)?;
+        let s = self.to_manager.queues().filled_index(i)?;
         Some(QueueName::ToManager(SwitchNo(s as u32)))
     }
 
     fn filled_from_manager(&self, i: usize) -> Option<QueueName>
-        ensures { result ≡ option_map order_queue (slice_get (filled_places self.now.from_manager) i) }
+        ensures { result ≡ option_map order_queue (slice_get (filled_indices self.now.from_manager) i) }
     {
-        let s = self.from_manager.queues().filled_place(i)?;
+        let s = self.from_manager.queues().filled_index(i)?;
         Some(QueueName::FromManager(SwitchNo(s as u32)))
     }
 

@@ -9,12 +9,12 @@ ghost use Rattle.pl_world.specs.LinksAndMoves.{link_between};
 ghost use Rattle.pl_world.specs.Refusals.{has_host, has_port, has_queue, has_switch, is_filled, is_for_hosts, is_linked, refusal, refusal_of_event, refusal_of_link, refusal_of_move, refusal_of_place, refusal_of_queue, unless_there};
 
 use crate::world::World;
-use pl_core::{HostCore, ManagerCore, SwitchCore};
+use pl_logic::{HostLogic, ManagerLogic, SwitchLogic};
 use pl_wiring::{HostNo, Link, Peer, SwitchNo};
 use pl_world::{Event, QueueName, StepError};
 use pl_world_parts::link_of;
 
-impl<S: SwitchCore, M: ManagerCore, H: HostCore> World<S, M, H> {
+impl<S: SwitchLogic, M: ManagerLogic, H: HostLogic> World<S, M, H> {
     /// Why an event is refused, by the first reason that holds; none where the step is made.
     pub fn refusal(&self, event: &Event) -> Option<StepError>
         ensures { result ≡ refusal self.now event.now }

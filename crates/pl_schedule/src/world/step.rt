@@ -1,6 +1,6 @@
 ghost use Rattle.std.specs.Prelude.{◌≡◌, ◌+◌, ℕ, true, false, nat_le, slice_get, IfErr, None, OnOk, Some};
 ghost use Rattle.pl_frame.specs.declared.address.SwitchId.{SwitchId};
-ghost use Rattle.pl_core.specs.ManagerFacts.{CanHear};
+ghost use Rattle.pl_logic.specs.ManagerFacts.{CanHear};
 ghost use Rattle.pl_world.specs.declared.error.StepError.{StepError};
 ghost use Rattle.pl_world.specs.Flying.{IsCounted};
 ghost use Rattle.pl_world.specs.Hearing.{IsWithinHearing};
@@ -9,13 +9,13 @@ ghost use Rattle.pl_world.specs.Refusals.{has_queue, is_filled, refusal, refusal
 ghost use Rattle.pl_world.specs.WorldRule.{Delivers, Fails, Happens, IsRepaired, WorldStep};
 
 use crate::world::World;
-use pl_core::{HostCore, ManagerCore, SwitchCore};
 use pl_frame::Memory;
+use pl_logic::{HostLogic, ManagerLogic, SwitchLogic};
 use pl_wiring::SwitchNo;
 use pl_world::{Event, QueueName, Stand, StepError};
 use pl_world_parts::{Urge, link_of};
 
-impl<S: SwitchCore, M: ManagerCore, H: HostCore> World<S, M, H> {
+impl<S: SwitchLogic, M: ManagerLogic, H: HostLogic> World<S, M, H> {
     fn deliver(&mut self, name: &QueueName) -> Result<(), Memory>
         requires counted { IsCounted self.old }
         requires hears { (s : ℕ) (id : SwitchId) → slice_get self.old.plan.ids s ≡ Some id → CanHear self.old.manager id }

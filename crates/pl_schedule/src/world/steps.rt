@@ -1,29 +1,29 @@
 ghost use Rattle.std.specs.Prelude.{◌≡◌, ◌<◌, length, slice_get, Some, OnOk};
 ghost use Rattle.pl_frame.specs.declared.address.SwitchId.{SwitchId};
-ghost use Rattle.pl_core.specs.ManagerFacts.{CanHear};
+ghost use Rattle.pl_logic.specs.ManagerFacts.{CanHear};
 ghost use Rattle.std.specs.List.{AllByRecursion, fold};
 ghost use Rattle.pl_wiring.specs.Labels.{switch_count};
-ghost use Rattle.pl_core.specs.Accounting.{CanCome, IsShaped};
-ghost use Rattle.pl_core.specs.HostInputs.HostAnswer.{Nothing};
-ghost use Rattle.pl_core.specs.SwitchViews.{SwitchView};
+ghost use Rattle.pl_logic.specs.Accounting.{CanCome, IsShaped};
+ghost use Rattle.pl_logic.specs.HostInputs.HostAnswer.{Nothing};
+ghost use Rattle.pl_logic.specs.SwitchViews.{SwitchView};
 ghost use Rattle.pl_world.specs.Changes.{sent_by_host};
 ghost use Rattle.pl_world_parts.specs.OneStep.{input_from, input_of};
 ghost use Rattle.pl_world.specs.OtherActs.{host_act_done, manager_act_done, reception_noted, skip_noted};
 ghost use Rattle.pl_world.specs.WorldRule.{HostTurn, HostPlays, HostReceives, ManagerTurn, SwitchTurn, played_as};
 
 use crate::world::World;
-use pl_core::{
-    HostAct, HostCore, HostOutbox, ManagerAct, ManagerCore, ManagerOutbox, Reception, SwitchCore,
-    ToManager,
-};
 use pl_frame::{Frame, Memory};
 use pl_journal::{Cause, Entry, Skip};
 use pl_lists::Queue;
+use pl_logic::{
+    HostAct, HostLogic, HostOutbox, ManagerAct, ManagerLogic, ManagerOutbox, Reception,
+    SwitchLogic, ToManager,
+};
 use pl_wiring::{HostNo, SwitchNo};
 use pl_world::{Aside, Item, SpokenFrame};
 use pl_world_parts::{Incoming, Urge, arrive_at, play_at, urge_at};
 
-impl<S: SwitchCore, M: ManagerCore, H: HostCore> World<S, M, H> {
+impl<S: SwitchLogic, M: ManagerLogic, H: HostLogic> World<S, M, H> {
     // Something comes at a switch. The switch's acts speak first of the frame that is said here.
     pub(crate) fn switch_hears(
         &mut self,

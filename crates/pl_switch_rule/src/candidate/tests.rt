@@ -2,10 +2,10 @@ ghost use Rattle.std.specs.Prelude.{◌≡◌, []};
 ghost use Rattle.pl_switch_rule.specs.HostsAlone.{hosts_alone};
 
 use super::*;
-use pl_core::{AvoidList, PortRecord, TreePart};
 use pl_frame::SwitchId;
 use pl_layouts::Place;
 use pl_lists::Rising;
+use pl_logic::{AvoidList, PortRecord, TreePart};
 use std::test::Fail;
 
 // Switch 5, of four ports, with a host at each.

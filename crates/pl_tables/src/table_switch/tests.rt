@@ -1,6 +1,6 @@
 use super::*;
 use crate::PortRow;
-use pl_core::{Memory, Outbox, Rising, SwitchCore, ToSwitch};
+use pl_logic::{Memory, Outbox, Rising, SwitchLogic, ToSwitch};
 use std::alloc::Global;
 use std::test::Fail;
 

@@ -3,4 +3,4 @@ use Rattle.pl_addresses.proofs.own_frames.each_step_keeps_frames_with_their_host
 
 pub returns : goal.returns
 returns g c = λ old event new counted step o.
-    step_own g.S.SwitchCore.rule g.M.ManagerCore.rule g.H.HostCore.rule g.met.H.HostCore.sends g.met.H.HostCore.owns old event new counted step o
+    step_own g.S.SwitchLogic.rule g.M.ManagerLogic.rule g.H.HostLogic.rule g.met.H.HostLogic.sends g.met.H.HostLogic.owns old event new counted step o

@@ -3,4 +3,4 @@ use Rattle.pl_addresses.proofs.runs_in_order.each_step_keeps_addresses_in_order.
 
 pub returns : goal.returns
 returns g c = λ old event new counted grounded apart step o.
-    one_step g.H.HostCore.rule g.met.H.HostCore.sends g.met.H.HostCore.owns old event new counted grounded apart step o
+    one_step g.H.HostLogic.rule g.met.H.HostLogic.sends g.met.H.HostLogic.owns old event new counted grounded apart step o

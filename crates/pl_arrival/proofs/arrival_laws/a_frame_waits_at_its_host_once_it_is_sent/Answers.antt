@@ -1,6 +1,6 @@
 use Rattle.std.proofs.Common.{inl, inr}
 use Rattle.pl_journal.specs.declared.entry.Entry.TheVariants.{Sent}
-use Rattle.pl_core.proofs.Among.{Contains-of_among, among_of_Contains}
+use Rattle.pl_logic.proofs.Among.{Contains-of_among, among_of_Contains}
 use Rattle.pl_queues.specs.Queues.{items_at}
 use Rattle.pl_world.specs.declared.item.Item.TheVariants.{Data}
 use Rattle.pl_world.specs.Changes.{host_no}
@@ -9,7 +9,7 @@ use Rattle.pl_arrival.proofs.arrival_laws.a_frame_waits_at_its_host_once_it_is_s
 
 pub returns : goal.returns
 returns g c = λ old event new id h frame counted step there fresh.
-    elim (waits_since g.S.SwitchCore.rule g.M.ManagerCore.rule g.H.HostCore.rule old new counted event step id h frame (among_of_Contains (Sent id (host_no h) frame) new.journal there)) [
+    elim (waits_since g.S.SwitchLogic.rule g.M.ManagerLogic.rule g.H.HostLogic.rule old new counted event step id h frame (among_of_Contains (Sent id (host_no h) frame) new.journal there)) [
       | inl before ↦ absurd (fresh (Contains-of_among (Sent id (host_no h) frame) old.journal before))
       | inr waits ↦ Contains-of_among (Data id frame) (items_at new.from_hosts h) waits
     ]

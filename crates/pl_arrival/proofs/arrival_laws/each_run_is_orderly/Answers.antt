@@ -5,5 +5,5 @@ use Rattle.pl_arrival.proofs.arrival_laws.each_run_is_orderly.Goals as goal
 
 pub returns : goal.returns
 returns g c = λ plan limits moments new can run.
-    run_is_orderly g.H.HostCore.rule g.met.H.HostCore.sends g.met.H.HostCore.owns plan limits moments new can
-    (run_lawful g.S.SwitchCore.rule g.M.ManagerCore.rule g.H.HostCore.rule g.met.S.LooseSwitch.obeys g.met.M.LawfulManager.lawful (booted plan limits) moments new run)
+    run_is_orderly g.H.HostLogic.rule g.met.H.HostLogic.sends g.met.H.HostLogic.owns plan limits moments new can
+    (run_lawful g.S.SwitchLogic.rule g.M.ManagerLogic.rule g.H.HostLogic.rule g.met.S.LooseSwitch.obeys g.met.M.LawfulManager.lawful (booted plan limits) moments new run)

@@ -2,4 +2,4 @@ use Rattle.pl_attended.proofs.Registered.{run_registers}
 use Rattle.pl_attended.proofs.registration_laws.a_host_is_registered_at_rest_in_every_run.Goals as goal
 
 pub returns : goal.returns
-returns g c = run_registers g.H.HostCore.rule g.met.H.LawfulHost.lawful g.met.H.HostCore.sends g.met.H.HostCore.owns
+returns g c = run_registers g.H.HostLogic.rule g.met.H.LawfulHost.lawful g.met.H.HostLogic.sends g.met.H.HostLogic.owns

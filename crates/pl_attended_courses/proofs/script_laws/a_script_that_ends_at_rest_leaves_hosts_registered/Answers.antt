@@ -4,6 +4,6 @@ use Rattle.pl_attended_courses.proofs.script_laws.a_script_that_ends_at_rest_lea
 
 pub returns : goal.returns
 returns g c = λ plan limits records lines end scene can plays rest.
-    let run = plays_is_run g.S.SwitchCore.rule g.M.ManagerCore.rule g.H.HostCore.rule plan limits records lines end scene plays in
-    rest_registers g.S.SwitchCore.rule g.M.ManagerCore.rule g.H.HostCore.rule g.met.S.LooseSwitch.obeys g.met.M.LawfulManager.lawful g.met.H.LawfulHost.lawful
-    g.met.H.HostCore.sends g.met.H.HostCore.owns plan limits run.0 scene.world can run.1 rest
+    let run = plays_is_run g.S.SwitchLogic.rule g.M.ManagerLogic.rule g.H.HostLogic.rule plan limits records lines end scene plays in
+    rest_registers g.S.SwitchLogic.rule g.M.ManagerLogic.rule g.H.HostLogic.rule g.met.S.LooseSwitch.obeys g.met.M.LawfulManager.lawful g.met.H.LawfulHost.lawful
+    g.met.H.HostLogic.sends g.met.H.HostLogic.owns plan limits run.0 scene.world can run.1 rest

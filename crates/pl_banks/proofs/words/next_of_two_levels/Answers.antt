@@ -1,17 +1,17 @@
 use Rattle.std.proofs.Common.{◌/◌, ◌^◌, ◌+◌, arith}
-use Rattle.pl_banks.proofs.WordBits.{place_of_bit, none_in_first, none_between, least_in_later}
+use Rattle.pl_banks.proofs.WordBits.{index_of_bit, none_in_first, none_between, least_in_later}
 use Rattle.pl_banks.proofs.words.next_of_two_levels.Goals as goal
 
 pub overflow_mul-result-in-Some-next_of_words : goal.overflow_mul-result-in-Some-next_of_words
 overflow_mul-result-in-Some-next_of_words c =
     let least = c.lowest_bit-bit.ensures.least in
-    let fits = place_of_bit c.args.words.now (2 ^ 64) c.in-Some-next_of_words.word c.lowest_bit-bit.result c.requires.within least.passes c.lowest_bit-bit.ensures.within in
+    let fits = index_of_bit c.args.words.now (2 ^ 64) c.in-Some-next_of_words.word c.lowest_bit-bit.result c.requires.within least.passes c.lowest_bit-bit.ensures.within in
     omega arith
 
 pub overflow_add-result-in-Some-next_of_words : goal.overflow_add-result-in-Some-next_of_words
 overflow_add-result-in-Some-next_of_words c =
     let least = c.lowest_bit-bit.ensures.least in
-    let fits = place_of_bit c.args.words.now (2 ^ 64) c.in-Some-next_of_words.word c.lowest_bit-bit.result c.requires.within least.passes c.lowest_bit-bit.ensures.within in
+    let fits = index_of_bit c.args.words.now (2 ^ 64) c.in-Some-next_of_words.word c.lowest_bit-bit.result c.requires.within least.passes c.lowest_bit-bit.ensures.within in
     omega arith
 
 pub returns-in-Some-next_of_words : goal.returns-in-Some-next_of_words

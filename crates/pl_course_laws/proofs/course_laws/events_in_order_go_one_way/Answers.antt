@@ -2,10 +2,10 @@ use Rattle.pl_course_laws.proofs.Courses.{makes_all_one_way, makes_one_way, tick
 use Rattle.pl_course_laws.proofs.course_laws.events_in_order_go_one_way.Goals as goal
 
 pub returns-clause-one : goal.returns-clause-one
-returns-clause-one g c = makes_one_way g.S.SwitchCore.rule g.M.ManagerCore.rule g.H.HostCore.rule
+returns-clause-one g c = makes_one_way g.S.SwitchLogic.rule g.M.ManagerLogic.rule g.H.HostLogic.rule
 
 pub returns-clause-many : goal.returns-clause-many
-returns-clause-many g c = makes_all_one_way g.S.SwitchCore.rule g.M.ManagerCore.rule g.H.HostCore.rule
+returns-clause-many g c = makes_all_one_way g.S.SwitchLogic.rule g.M.ManagerLogic.rule g.H.HostLogic.rule
 
 pub returns-clause-ticks : goal.returns-clause-ticks
-returns-clause-ticks g c = ticks_all_one_way g.S.SwitchCore.rule g.M.ManagerCore.rule g.H.HostCore.rule
+returns-clause-ticks g c = ticks_all_one_way g.S.SwitchLogic.rule g.M.ManagerLogic.rule g.H.HostLogic.rule

@@ -1,6 +1,6 @@
 use Rattle.std.proofs.Common.{◌≡◌, List, ℕ, None, Option, option_map, sym, ap, ◌∙◌}
 use Rattle.std.proofs.lemmas.Result.{IfOk-weaker}
-use Rattle.pl_core.specs.SwitchViews.{SwitchView}
+use Rattle.pl_logic.specs.SwitchViews.{SwitchView}
 use Rattle.pl_delivery.proofs.Newer.{none_for, none_for_arp, some_for, tells}
 use Rattle.pl_delivery.proofs.made.reply.Goals as goal
 use Rattle.pl_delivery.specs.Replies.{last_from, reply_to}

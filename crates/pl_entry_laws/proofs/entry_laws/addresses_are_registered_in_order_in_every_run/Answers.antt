@@ -5,9 +5,9 @@ use Rattle.pl_entry_laws.proofs.entry_laws.addresses_are_registered_in_order_in_
 
 pub returns-clause-same : goal.returns-clause-same
 returns-clause-same g c = λ plan limits moments new run.
-    run_registered g.S.SwitchCore.rule g.M.ManagerCore.rule g.H.HostCore.rule g.met.M.ManagerCore.answers (booted plan limits) moments new refl run
+    run_registered g.S.SwitchLogic.rule g.M.ManagerLogic.rule g.H.HostLogic.rule g.met.M.ManagerLogic.answers (booted plan limits) moments new refl run
 
 pub returns-clause-numbers : goal.returns-clause-numbers
 returns-clause-numbers g c = λ plan limits moments new run.
     numbers_registered new
-    (run_registered g.S.SwitchCore.rule g.M.ManagerCore.rule g.H.HostCore.rule g.met.M.ManagerCore.answers (booted plan limits) moments new refl run)
+    (run_registered g.S.SwitchLogic.rule g.M.ManagerLogic.rule g.H.HostLogic.rule g.met.M.ManagerLogic.answers (booted plan limits) moments new refl run)

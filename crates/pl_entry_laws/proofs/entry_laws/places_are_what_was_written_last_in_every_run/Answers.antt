@@ -4,4 +4,4 @@ use Rattle.pl_entry_laws.proofs.entry_laws.places_are_what_was_written_last_in_e
 
 pub returns : goal.returns
 returns g c = λ plan limits moments new run.
-    run_written g.S.SwitchCore.rule g.M.ManagerCore.rule g.H.HostCore.rule (booted plan limits) moments new (written_at_first plan limits) run
+    run_written g.S.SwitchLogic.rule g.M.ManagerLogic.rule g.H.HostLogic.rule (booted plan limits) moments new (written_at_first plan limits) run

@@ -3,4 +3,4 @@ use Rattle.pl_entry_laws.proofs.entry_laws.registrations_are_written_where_they_
 
 pub returns : goal.returns
 returns g c = λ old event new step.
-    registrations_written g.S.SwitchCore.rule g.M.ManagerCore.rule g.H.HostCore.rule old event new step g.met.M.ManagerCore.answers
+    registrations_written g.S.SwitchLogic.rule g.M.ManagerLogic.rule g.H.HostLogic.rule old event new step g.met.M.ManagerLogic.answers

@@ -8,7 +8,7 @@ use Rattle.pl_fabric.proofs.draws.random.Goals as goal
 pub loop-init : goal.loop-init
 loop-init g c = (
   record { counted = c.requires.counted; hearing = c.requires.hearing; plan = refl },
-  λ left all. leads_all (λ n. Draws g.S.SwitchCore.rule g.M.ManagerCore.rule g.H.HostCore.rule n c.args.number) c.args.steps left c.args.world.now all,
+  λ left all. leads_all (λ n. Draws g.S.SwitchLogic.rule g.M.ManagerLogic.rule g.H.HostLogic.rule n c.args.number) c.args.steps left c.args.world.now all,
 )
 
 pub loop-preserved : goal.loop-preserved
@@ -20,14 +20,14 @@ loop-preserved g c =
         hearing = c.in_ok-make.ensures.hearing;
         plan = c.in_ok-make.ensures.plan ∙ c.loop.invariant.0.plan;
       },
-      λ left all. subst (λ y. Leads (Draws g.S.SwitchCore.rule g.M.ManagerCore.rule g.H.HostCore.rule left y) c.make.new.world
-          (Draws g.S.SwitchCore.rule g.M.ManagerCore.rule g.H.HostCore.rule c.args.steps c.args.number) c.args.world.now) (sym x)
-          (led_on (Makes g.S.SwitchCore.rule g.M.ManagerCore.rule g.H.HostCore.rule (drawn c.loop.world (next_number c.loop.x)))
-          (Draws g.S.SwitchCore.rule g.M.ManagerCore.rule g.H.HostCore.rule left (next_number c.loop.x))
-          (Draws g.S.SwitchCore.rule g.M.ManagerCore.rule g.H.HostCore.rule c.args.steps c.args.number)
+      λ left all. subst (λ y. Leads (Draws g.S.SwitchLogic.rule g.M.ManagerLogic.rule g.H.HostLogic.rule left y) c.make.new.world
+          (Draws g.S.SwitchLogic.rule g.M.ManagerLogic.rule g.H.HostLogic.rule c.args.steps c.args.number) c.args.world.now) (sym x)
+          (led_on (Makes g.S.SwitchLogic.rule g.M.ManagerLogic.rule g.H.HostLogic.rule (drawn c.loop.world (next_number c.loop.x)))
+          (Draws g.S.SwitchLogic.rule g.M.ManagerLogic.rule g.H.HostLogic.rule left (next_number c.loop.x))
+          (Draws g.S.SwitchLogic.rule g.M.ManagerLogic.rule g.H.HostLogic.rule c.args.steps c.args.number)
           c.loop.world c.make.new.world c.args.world.now
           (record { on = (c.loop.invariant.1 (suc left) (omega arith)).on })
-          (subst (λ e. Makes g.S.SwitchCore.rule g.M.ManagerCore.rule g.H.HostCore.rule e c.loop.world None c.make.new.world) event c.in_ok-make.ensures.made)),
+          (subst (λ e. Makes g.S.SwitchLogic.rule g.M.ManagerLogic.rule g.H.HostLogic.rule e c.loop.world None c.make.new.world) event c.in_ok-make.ensures.made)),
     )
 
 pub returns-in_err-make : goal.returns-in_err-make
@@ -39,12 +39,12 @@ returns-in_err-make g c =
     let all : suc left + c.loop.counter ≡ c.args.steps = omega arith in
     rw (p.1, p.2) (record {
       drawn = unless_weaker c.in_err-make.field-0.0 _ _
-          (λ stopped. led_stops (Makes g.S.SwitchCore.rule g.M.ManagerCore.rule g.H.HostCore.rule (drawn c.loop.world (next_number c.loop.x)))
-          (Draws g.S.SwitchCore.rule g.M.ManagerCore.rule g.H.HostCore.rule left (next_number c.loop.x))
-          (Draws g.S.SwitchCore.rule g.M.ManagerCore.rule g.H.HostCore.rule c.args.steps c.args.number)
+          (λ stopped. led_stops (Makes g.S.SwitchLogic.rule g.M.ManagerLogic.rule g.H.HostLogic.rule (drawn c.loop.world (next_number c.loop.x)))
+          (Draws g.S.SwitchLogic.rule g.M.ManagerLogic.rule g.H.HostLogic.rule left (next_number c.loop.x))
+          (Draws g.S.SwitchLogic.rule g.M.ManagerLogic.rule g.H.HostLogic.rule c.args.steps c.args.number)
           c.loop.world c.make.new.world c.args.world.now c.in_err-make.field-0.0
           (record { on = (c.loop.invariant.1 (suc left) all).on })
-          (subst (λ e. Makes g.S.SwitchCore.rule g.M.ManagerCore.rule g.H.HostCore.rule e c.loop.world (Some c.in_err-make.field-0.0) c.make.new.world) event stopped))
+          (subst (λ e. Makes g.S.SwitchLogic.rule g.M.ManagerLogic.rule g.H.HostLogic.rule e c.loop.world (Some c.in_err-make.field-0.0) c.make.new.world) event stopped))
           c.in_err-make.ensures.made;
       counted = c.in_err-make.ensures.counted;
       hearing = c.in_err-make.ensures.hearing;

@@ -7,5 +7,5 @@ abbrev pub invariant-loop : goal.invariant-loop
 invariant-loop g l =
     Keeps l.initial.world l.world
     × ((left : ℕ) → left + l.counter ≡ l.steps →
-    Leads (Draws g.S.SwitchCore.rule g.M.ManagerCore.rule g.H.HostCore.rule left l.x) l.world
-    (Draws g.S.SwitchCore.rule g.M.ManagerCore.rule g.H.HostCore.rule l.steps l.number) l.initial.world)
+    Leads (Draws g.S.SwitchLogic.rule g.M.ManagerLogic.rule g.H.HostLogic.rule left l.x) l.world
+    (Draws g.S.SwitchLogic.rule g.M.ManagerLogic.rule g.H.HostLogic.rule l.steps l.number) l.initial.world)

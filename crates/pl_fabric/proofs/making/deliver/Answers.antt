@@ -8,7 +8,7 @@ use Rattle.pl_fabric.proofs.making.deliver.Goals as goal
 pub loop-init : goal.loop-init
 loop-init g c = (
   record { counted = c.requires.counted; hearing = c.requires.hearing; plan = refl },
-  λ left all. leads_all (λ n. MakesAll g.S.SwitchCore.rule g.M.ManagerCore.rule g.H.HostCore.rule (replicate n (Deliver c.args.name)))
+  λ left all. leads_all (λ n. MakesAll g.S.SwitchLogic.rule g.M.ManagerLogic.rule g.H.HostLogic.rule (replicate n (Deliver c.args.name)))
       c.args.many left c.args.world.now all,
 )
 
@@ -19,9 +19,9 @@ loop-preserved g c = (
     hearing = c.in_ok-make.ensures.hearing;
     plan = c.in_ok-make.ensures.plan ∙ c.loop.invariant.0.plan;
   },
-  λ left all. led_on (Makes g.S.SwitchCore.rule g.M.ManagerCore.rule g.H.HostCore.rule (Deliver c.args.name))
-      (MakesAll g.S.SwitchCore.rule g.M.ManagerCore.rule g.H.HostCore.rule (replicate left (Deliver c.args.name)))
-      (MakesAll g.S.SwitchCore.rule g.M.ManagerCore.rule g.H.HostCore.rule (replicate c.args.many (Deliver c.args.name)))
+  λ left all. led_on (Makes g.S.SwitchLogic.rule g.M.ManagerLogic.rule g.H.HostLogic.rule (Deliver c.args.name))
+      (MakesAll g.S.SwitchLogic.rule g.M.ManagerLogic.rule g.H.HostLogic.rule (replicate left (Deliver c.args.name)))
+      (MakesAll g.S.SwitchLogic.rule g.M.ManagerLogic.rule g.H.HostLogic.rule (replicate c.args.many (Deliver c.args.name)))
       c.loop.world c.make.new.world c.args.world.now (c.loop.invariant.1 (suc left) (omega arith)) c.in_ok-make.ensures.made,
 )
 
@@ -32,9 +32,9 @@ returns-in_err-make g c =
     let all : suc left + c.loop.counter ≡ c.args.many = omega arith in
     rw (p.1, p.2) (record {
       made = unless_weaker c.in_err-make.field-0.0 _ _
-          (led_stops (Makes g.S.SwitchCore.rule g.M.ManagerCore.rule g.H.HostCore.rule (Deliver c.args.name))
-          (MakesAll g.S.SwitchCore.rule g.M.ManagerCore.rule g.H.HostCore.rule (replicate left (Deliver c.args.name)))
-          (MakesAll g.S.SwitchCore.rule g.M.ManagerCore.rule g.H.HostCore.rule (replicate c.args.many (Deliver c.args.name)))
+          (led_stops (Makes g.S.SwitchLogic.rule g.M.ManagerLogic.rule g.H.HostLogic.rule (Deliver c.args.name))
+          (MakesAll g.S.SwitchLogic.rule g.M.ManagerLogic.rule g.H.HostLogic.rule (replicate left (Deliver c.args.name)))
+          (MakesAll g.S.SwitchLogic.rule g.M.ManagerLogic.rule g.H.HostLogic.rule (replicate c.args.many (Deliver c.args.name)))
           c.loop.world c.make.new.world c.args.world.now c.in_err-make.field-0.0 (c.loop.invariant.1 (suc left) all))
           c.in_err-make.ensures.made;
       counted = c.in_err-make.ensures.counted;

@@ -8,5 +8,5 @@ abbrev pub invariant-loop : goal.invariant-loop
 invariant-loop g l =
     Keeps l.initial.world l.world
     × ((left : ℕ) → left + l.counter ≡ l.many →
-    Leads (MakesAll g.S.SwitchCore.rule g.M.ManagerCore.rule g.H.HostCore.rule (replicate left (Deliver l.name))) l.world
-    (MakesAll g.S.SwitchCore.rule g.M.ManagerCore.rule g.H.HostCore.rule (replicate l.many (Deliver l.name))) l.initial.world)
+    Leads (MakesAll g.S.SwitchLogic.rule g.M.ManagerLogic.rule g.H.HostLogic.rule (replicate left (Deliver l.name))) l.world
+    (MakesAll g.S.SwitchLogic.rule g.M.ManagerLogic.rule g.H.HostLogic.rule (replicate l.many (Deliver l.name))) l.initial.world)

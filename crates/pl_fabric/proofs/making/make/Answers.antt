@@ -6,15 +6,15 @@ use Rattle.pl_fabric.proofs.making.make.Goals as goal
 pub returns : goal.returns
 returns g c = record {
   made =
-      step_makes g.S.SwitchCore.rule g.M.ManagerCore.rule g.H.HostCore.rule c.args.world.now c.step.new.self c.args.event.now c.step.result
+      step_makes g.S.SwitchLogic.rule g.M.ManagerLogic.rule g.H.HostLogic.rule c.args.world.now c.step.new.self c.args.event.now c.step.result
       c.step.ensures.step c.step.ensures.refused c.step.ensures.memory;
   counted =
-      step_keeps g.S.SwitchCore.rule g.M.ManagerCore.rule g.H.HostCore.rule c.args.world.now c.step.new.self c.args.event.now IsCounted c.requires.counted
+      step_keeps g.S.SwitchLogic.rule g.M.ManagerLogic.rule g.H.HostLogic.rule c.args.world.now c.step.new.self c.args.event.now IsCounted c.requires.counted
       c.step.result c.step.ensures.counted c.step.ensures.refused c.step.ensures.memory;
   hearing =
-      step_keeps g.S.SwitchCore.rule g.M.ManagerCore.rule g.H.HostCore.rule c.args.world.now c.step.new.self c.args.event.now IsWithinHearing c.requires.hearing
+      step_keeps g.S.SwitchLogic.rule g.M.ManagerLogic.rule g.H.HostLogic.rule c.args.world.now c.step.new.self c.args.event.now IsWithinHearing c.requires.hearing
       c.step.result c.step.ensures.hearing c.step.ensures.refused c.step.ensures.memory;
   plan =
-      step_keeps_plan g.S.SwitchCore.rule g.M.ManagerCore.rule g.H.HostCore.rule c.args.world.now c.step.new.self c.args.event.now c.step.result
+      step_keeps_plan g.S.SwitchLogic.rule g.M.ManagerLogic.rule g.H.HostLogic.rule c.args.world.now c.step.new.self c.args.event.now c.step.result
       c.step.ensures.step c.step.ensures.refused c.step.ensures.memory;
 }

@@ -15,7 +15,7 @@ loop-s-init g c =
     c.switch_count-many.ensures.count ∙ ap (λ plan. switch_count plan.k) c.wiring.ensures in (
       record { counted = c.requires.counted; hearing = c.requires.hearing; plan = refl },
       λ left all. record {
-        on = (leads_all (λ n. MakesAll g.S.SwitchCore.rule g.M.ManagerCore.rule g.H.HostCore.rule (map (λ s. Tick (switch_no s)) (range_with_len 0 n)))
+        on = (leads_all (λ n. MakesAll g.S.SwitchLogic.rule g.M.ManagerLogic.rule g.H.HostLogic.rule (map (λ s. Tick (switch_no s)) (range_with_len 0 n)))
             (switch_count c.args.world.now.plan.k) left c.args.world.now (all ∙ many)).on;
       },
     )
@@ -27,9 +27,9 @@ loop-s-preserved g c = (
     hearing = c.in_ok-make.ensures.hearing;
     plan = c.in_ok-make.ensures.plan ∙ c.loop-s.invariant.0.plan;
   },
-  λ left all. led_on (Makes g.S.SwitchCore.rule g.M.ManagerCore.rule g.H.HostCore.rule (Tick (switch_no c.loop-s.s)))
-      (MakesAll g.S.SwitchCore.rule g.M.ManagerCore.rule g.H.HostCore.rule (map (λ s. Tick (switch_no s)) (range_with_len (c.loop-s.s + 1) left)))
-      (TicksAll g.S.SwitchCore.rule g.M.ManagerCore.rule g.H.HostCore.rule)
+  λ left all. led_on (Makes g.S.SwitchLogic.rule g.M.ManagerLogic.rule g.H.HostLogic.rule (Tick (switch_no c.loop-s.s)))
+      (MakesAll g.S.SwitchLogic.rule g.M.ManagerLogic.rule g.H.HostLogic.rule (map (λ s. Tick (switch_no s)) (range_with_len (c.loop-s.s + 1) left)))
+      (TicksAll g.S.SwitchLogic.rule g.M.ManagerLogic.rule g.H.HostLogic.rule)
       c.loop-s.world c.make.new.world c.args.world.now (c.loop-s.invariant.1 (suc left) (omega arith)) c.in_ok-make.ensures.made,
 )
 
@@ -40,9 +40,9 @@ returns-in_err-make g c =
     let all : suc left + c.loop-s.s ≡ c.switch_count-many.result = omega arith in
     rw (p.1, p.2) (record {
       made = unless_weaker c.in_err-make.field-0.0 _ _
-          (led_stops (Makes g.S.SwitchCore.rule g.M.ManagerCore.rule g.H.HostCore.rule (Tick (switch_no c.loop-s.s)))
-          (MakesAll g.S.SwitchCore.rule g.M.ManagerCore.rule g.H.HostCore.rule (map (λ s. Tick (switch_no s)) (range_with_len (c.loop-s.s + 1) left)))
-          (TicksAll g.S.SwitchCore.rule g.M.ManagerCore.rule g.H.HostCore.rule)
+          (led_stops (Makes g.S.SwitchLogic.rule g.M.ManagerLogic.rule g.H.HostLogic.rule (Tick (switch_no c.loop-s.s)))
+          (MakesAll g.S.SwitchLogic.rule g.M.ManagerLogic.rule g.H.HostLogic.rule (map (λ s. Tick (switch_no s)) (range_with_len (c.loop-s.s + 1) left)))
+          (TicksAll g.S.SwitchLogic.rule g.M.ManagerLogic.rule g.H.HostLogic.rule)
           c.loop-s.world c.make.new.world c.args.world.now c.in_err-make.field-0.0 (c.loop-s.invariant.1 (suc left) all))
           c.in_err-make.ensures.made;
       counted = c.in_err-make.ensures.counted;

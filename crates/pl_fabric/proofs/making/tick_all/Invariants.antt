@@ -11,5 +11,5 @@ abbrev pub invariant-loop-s : goal.invariant-loop-s
 invariant-loop-s g l =
     Keeps l.initial.world l.world
     × ((left : ℕ) → left + l.s ≡ l.many →
-    Leads (MakesAll g.S.SwitchCore.rule g.M.ManagerCore.rule g.H.HostCore.rule (map (λ s. Tick (switch_no s)) (range_with_len l.s left))) l.world
-    (TicksAll g.S.SwitchCore.rule g.M.ManagerCore.rule g.H.HostCore.rule) l.initial.world)
+    Leads (MakesAll g.S.SwitchLogic.rule g.M.ManagerLogic.rule g.H.HostLogic.rule (map (λ s. Tick (switch_no s)) (range_with_len l.s left))) l.world
+    (TicksAll g.S.SwitchLogic.rule g.M.ManagerLogic.rule g.H.HostLogic.rule) l.initial.world)

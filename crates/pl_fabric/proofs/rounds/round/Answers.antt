@@ -10,8 +10,8 @@ returns-in_err-tick_all g c =
     let p = err_from_is_err_and c.from_residual.result c.from_residual.ensures.1 in
     rw (p.1, p.2) (record {
       went = unless_weaker c.in_err-tick_all.field-0.0 _ _
-          (then_stops (TicksAll g.S.SwitchCore.rule g.M.ManagerCore.rule g.H.HostCore.rule)
-          (Times 4 (Sweeps g.S.SwitchCore.rule g.M.ManagerCore.rule g.H.HostCore.rule)) c.args.world.now c.tick_all.new.world c.in_err-tick_all.field-0.0)
+          (then_stops (TicksAll g.S.SwitchLogic.rule g.M.ManagerLogic.rule g.H.HostLogic.rule)
+          (Times 4 (Sweeps g.S.SwitchLogic.rule g.M.ManagerLogic.rule g.H.HostLogic.rule)) c.args.world.now c.tick_all.new.world c.in_err-tick_all.field-0.0)
           c.in_err-tick_all.ensures.made;
       counted = c.in_err-tick_all.ensures.counted;
       hearing = c.in_err-tick_all.ensures.hearing;
@@ -21,8 +21,8 @@ returns-in_err-tick_all g c =
 pub returns : goal.returns
 returns g c = record {
   went = ends_weaker _ _
-      (λ end. then_on (TicksAll g.S.SwitchCore.rule g.M.ManagerCore.rule g.H.HostCore.rule)
-      (Times 4 (Sweeps g.S.SwitchCore.rule g.M.ManagerCore.rule g.H.HostCore.rule)) c.args.world.now c.tick_all.new.world end c.sweep_often.new.world
+      (λ end. then_on (TicksAll g.S.SwitchLogic.rule g.M.ManagerLogic.rule g.H.HostLogic.rule)
+      (Times 4 (Sweeps g.S.SwitchLogic.rule g.M.ManagerLogic.rule g.H.HostLogic.rule)) c.args.world.now c.tick_all.new.world end c.sweep_often.new.world
       c.in_ok-tick_all.ensures.made)
       c.sweep_often.result c.sweep_often.ensures.swept;
   counted = c.sweep_often.ensures.counted;

@@ -17,7 +17,7 @@ loop-n-preserved g c =
     let n : ℕ = c.in-Some.n in
     let same : w.plan ≡ plan = c.loop-n.invariant.0.plan in
     let first = next_is_first w c.loop-n.from (Some n) c.in-Some.ensures.next in
-    let visited = subst (λ name. Visits g.S.SwitchCore.rule g.M.ManagerCore.rule g.H.HostCore.rule name w None c.visit.new.world)
+    let visited = subst (λ name. Visits g.S.SwitchLogic.rule g.M.ManagerLogic.rule g.H.HostLogic.rule name w None c.visit.new.world)
     (c.queue_at-name.ensures.name ∙ ap (λ p. queue_at p n) same) c.in_ok-visit.ensures.made in (
       record {
         counted = c.in_ok-visit.ensures.counted;
@@ -26,9 +26,9 @@ loop-n-preserved g c =
       },
       record {
         on = λ end new rest. c.loop-n.invariant.1.on end new
-            (next_visited g.S.SwitchCore.rule g.M.ManagerCore.rule g.H.HostCore.rule w plan c.loop-n.from n end new same first
-            (then_on (Visits g.S.SwitchCore.rule g.M.ManagerCore.rule g.H.HostCore.rule (queue_at plan n))
-            (VisitsAll g.S.SwitchCore.rule g.M.ManagerCore.rule g.H.HostCore.rule (queues_from plan (n + 1))) w c.visit.new.world end new visited rest));
+            (next_visited g.S.SwitchLogic.rule g.M.ManagerLogic.rule g.H.HostLogic.rule w plan c.loop-n.from n end new same first
+            (then_on (Visits g.S.SwitchLogic.rule g.M.ManagerLogic.rule g.H.HostLogic.rule (queue_at plan n))
+            (VisitsAll g.S.SwitchLogic.rule g.M.ManagerLogic.rule g.H.HostLogic.rule (queues_from plan (n + 1))) w c.visit.new.world end new visited rest));
       },
     )
 
@@ -44,10 +44,10 @@ returns-in_err-visit g c =
     rw (p.1, p.2) (record {
       swept = unless_weaker c.in_err-visit.field-0.0 _ _
           (λ stopped. c.loop-n.invariant.1.on (Some c.in_err-visit.field-0.0) c.visit.new.world
-          (next_visited g.S.SwitchCore.rule g.M.ManagerCore.rule g.H.HostCore.rule w plan c.loop-n.from n (Some c.in_err-visit.field-0.0) c.visit.new.world same first
-          (then_stops (Visits g.S.SwitchCore.rule g.M.ManagerCore.rule g.H.HostCore.rule (queue_at plan n))
-          (VisitsAll g.S.SwitchCore.rule g.M.ManagerCore.rule g.H.HostCore.rule (queues_from plan (n + 1))) w c.visit.new.world c.in_err-visit.field-0.0
-          (subst (λ name. Visits g.S.SwitchCore.rule g.M.ManagerCore.rule g.H.HostCore.rule name w (Some c.in_err-visit.field-0.0) c.visit.new.world) is stopped))))
+          (next_visited g.S.SwitchLogic.rule g.M.ManagerLogic.rule g.H.HostLogic.rule w plan c.loop-n.from n (Some c.in_err-visit.field-0.0) c.visit.new.world same first
+          (then_stops (Visits g.S.SwitchLogic.rule g.M.ManagerLogic.rule g.H.HostLogic.rule (queue_at plan n))
+          (VisitsAll g.S.SwitchLogic.rule g.M.ManagerLogic.rule g.H.HostLogic.rule (queues_from plan (n + 1))) w c.visit.new.world c.in_err-visit.field-0.0
+          (subst (λ name. Visits g.S.SwitchLogic.rule g.M.ManagerLogic.rule g.H.HostLogic.rule name w (Some c.in_err-visit.field-0.0) c.visit.new.world) is stopped))))
           c.in_err-visit.ensures.made;
       counted = c.in_err-visit.ensures.counted;
       hearing = c.in_err-visit.ensures.hearing;
@@ -59,7 +59,7 @@ returns g c =
     let w = c.loop-n.world in
     record {
       swept = c.loop-n.invariant.1.on None w
-          (none_visited g.S.SwitchCore.rule g.M.ManagerCore.rule g.H.HostCore.rule w c.args.world.now.plan c.loop-n.from c.loop-n.invariant.0.plan
+          (none_visited g.S.SwitchLogic.rule g.M.ManagerLogic.rule g.H.HostLogic.rule w c.args.world.now.plan c.loop-n.from c.loop-n.invariant.0.plan
           (next_is_first w c.loop-n.from None c.in_default.ensures.next));
       counted = c.loop-n.invariant.0.counted;
       hearing = c.loop-n.invariant.0.hearing;

@@ -8,7 +8,7 @@ use Rattle.pl_fabric.proofs.rounds.sweep_often.Goals as goal
 pub loop-init : goal.loop-init
 loop-init g c = (
   record { counted = c.requires.counted; hearing = c.requires.hearing; plan = refl },
-  λ left all. leads_all (λ n. Times n (Sweeps g.S.SwitchCore.rule g.M.ManagerCore.rule g.H.HostCore.rule)) c.args.times left c.args.world.now all,
+  λ left all. leads_all (λ n. Times n (Sweeps g.S.SwitchLogic.rule g.M.ManagerLogic.rule g.H.HostLogic.rule)) c.args.times left c.args.world.now all,
 )
 
 pub loop-preserved : goal.loop-preserved
@@ -18,9 +18,9 @@ loop-preserved g c = (
     hearing = c.in_ok-sweep.ensures.hearing;
     plan = c.in_ok-sweep.ensures.plan ∙ c.loop.invariant.0.plan;
   },
-  λ left all. led_on (Sweeps g.S.SwitchCore.rule g.M.ManagerCore.rule g.H.HostCore.rule)
-      (Times left (Sweeps g.S.SwitchCore.rule g.M.ManagerCore.rule g.H.HostCore.rule))
-      (Times c.args.times (Sweeps g.S.SwitchCore.rule g.M.ManagerCore.rule g.H.HostCore.rule))
+  λ left all. led_on (Sweeps g.S.SwitchLogic.rule g.M.ManagerLogic.rule g.H.HostLogic.rule)
+      (Times left (Sweeps g.S.SwitchLogic.rule g.M.ManagerLogic.rule g.H.HostLogic.rule))
+      (Times c.args.times (Sweeps g.S.SwitchLogic.rule g.M.ManagerLogic.rule g.H.HostLogic.rule))
       c.loop.world c.sweep.new.world c.args.world.now (c.loop.invariant.1 (suc left) (omega arith)) c.in_ok-sweep.ensures.swept,
 )
 
@@ -31,9 +31,9 @@ returns-in_err-sweep g c =
     let all : suc left + c.loop.counter ≡ c.args.times = omega arith in
     rw (p.1, p.2) (record {
       swept = unless_weaker c.in_err-sweep.field-0.0 _ _
-          (led_stops (Sweeps g.S.SwitchCore.rule g.M.ManagerCore.rule g.H.HostCore.rule)
-          (Times left (Sweeps g.S.SwitchCore.rule g.M.ManagerCore.rule g.H.HostCore.rule))
-          (Times c.args.times (Sweeps g.S.SwitchCore.rule g.M.ManagerCore.rule g.H.HostCore.rule))
+          (led_stops (Sweeps g.S.SwitchLogic.rule g.M.ManagerLogic.rule g.H.HostLogic.rule)
+          (Times left (Sweeps g.S.SwitchLogic.rule g.M.ManagerLogic.rule g.H.HostLogic.rule))
+          (Times c.args.times (Sweeps g.S.SwitchLogic.rule g.M.ManagerLogic.rule g.H.HostLogic.rule))
           c.loop.world c.sweep.new.world c.args.world.now c.in_err-sweep.field-0.0 (c.loop.invariant.1 (suc left) all))
           c.in_err-sweep.ensures.swept;
       counted = c.in_err-sweep.ensures.counted;

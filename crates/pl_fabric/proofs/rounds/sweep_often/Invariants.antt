@@ -8,5 +8,5 @@ abbrev pub invariant-loop : goal.invariant-loop
 invariant-loop g l =
     Keeps l.initial.world l.world
     × ((left : ℕ) → left + l.counter ≡ l.times →
-    Leads (Times left (Sweeps g.S.SwitchCore.rule g.M.ManagerCore.rule g.H.HostCore.rule)) l.world
-    (Times l.times (Sweeps g.S.SwitchCore.rule g.M.ManagerCore.rule g.H.HostCore.rule)) l.initial.world)
+    Leads (Times left (Sweeps g.S.SwitchLogic.rule g.M.ManagerLogic.rule g.H.HostLogic.rule)) l.world
+    (Times l.times (Sweeps g.S.SwitchLogic.rule g.M.ManagerLogic.rule g.H.HostLogic.rule)) l.initial.world)

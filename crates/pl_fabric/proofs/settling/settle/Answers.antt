@@ -8,7 +8,7 @@ use Rattle.pl_fabric.proofs.settling.settle.Goals as goal
 pub loop-used-init : goal.loop-used-init
 loop-used-init g c = (
   record { counted = c.requires.counted; hearing = c.requires.hearing; plan = refl },
-  λ n all is. leads_all (GoesRounds g.S.SwitchCore.rule g.M.ManagerCore.rule g.H.HostCore.rule) all n c.args.world.now is,
+  λ n all is. leads_all (GoesRounds g.S.SwitchLogic.rule g.M.ManagerLogic.rule g.H.HostLogic.rule) all n c.args.world.now is,
 )
 
 pub loop-used-preserved : goal.loop-used-preserved
@@ -22,8 +22,8 @@ loop-used-preserved g c =
       λ n all is. record {
         on = λ end new rest. (c.loop-used.invariant.1 (suc n) all (omega arith)).on end new (
           unrest,
-          then_on (GoesRound g.S.SwitchCore.rule g.M.ManagerCore.rule g.H.HostCore.rule)
-              (GoesRounds g.S.SwitchCore.rule g.M.ManagerCore.rule g.H.HostCore.rule n) c.loop-used.world c.round.new.world end new
+          then_on (GoesRound g.S.SwitchLogic.rule g.M.ManagerLogic.rule g.H.HostLogic.rule)
+              (GoesRounds g.S.SwitchLogic.rule g.M.ManagerLogic.rule g.H.HostLogic.rule n) c.loop-used.world c.round.new.world end new
               c.in_ok-round.ensures.went rest,
         );
       },
@@ -40,8 +40,8 @@ returns-in_err-round g c =
       refused = unless_weaker c.in_err-round.field-0.0 _ _
           (λ stopped. (c.loop-used.invariant.1 (suc left) c.args.rounds all).on (Some c.in_err-round.field-0.0) c.round.new.world (
             unrest,
-            then_stops (GoesRound g.S.SwitchCore.rule g.M.ManagerCore.rule g.H.HostCore.rule)
-                (GoesRounds g.S.SwitchCore.rule g.M.ManagerCore.rule g.H.HostCore.rule left) c.loop-used.world c.round.new.world c.in_err-round.field-0.0 stopped,
+            then_stops (GoesRound g.S.SwitchLogic.rule g.M.ManagerLogic.rule g.H.HostLogic.rule)
+                (GoesRounds g.S.SwitchLogic.rule g.M.ManagerLogic.rule g.H.HostLogic.rule left) c.loop-used.world c.round.new.world c.in_err-round.field-0.0 stopped,
           ))
           c.in_err-round.ensures.went;
       counted = c.in_err-round.ensures.counted;

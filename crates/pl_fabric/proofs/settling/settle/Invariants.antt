@@ -7,5 +7,5 @@ abbrev pub invariant-loop-used : goal.invariant-loop-used
 invariant-loop-used g l =
     Keeps l.initial.world l.world
     × ((n all : ℕ) → n + l.used ≡ all →
-    Leads (GoesRounds g.S.SwitchCore.rule g.M.ManagerCore.rule g.H.HostCore.rule n) l.world
-    (GoesRounds g.S.SwitchCore.rule g.M.ManagerCore.rule g.H.HostCore.rule all) l.initial.world)
+    Leads (GoesRounds g.S.SwitchLogic.rule g.M.ManagerLogic.rule g.H.HostLogic.rule n) l.world
+    (GoesRounds g.S.SwitchLogic.rule g.M.ManagerLogic.rule g.H.HostLogic.rule all) l.initial.world)

@@ -1,7 +1,7 @@
 use Rattle.std.proofs.Common.{◌≡◌, ◌∙◌, cond, false, sym, ap, subst}
 use Rattle.std.specs.BTreeSet.{insert_key}
 use Rattle.pl_frame.specs.declared.address.SwitchId.{SwitchId}
-use Rattle.pl_core.specs.ManagerViews.{alive_neighbours, id_cmp}
+use Rattle.pl_logic.specs.ManagerViews.{alive_neighbours, id_cmp}
 use Rattle.pl_faults.specs.Kept.{IsWordWithin}
 use Rattle.pl_faults.specs.Listed.{is_in}
 use Rattle.pl_faults.specs.Missed.{missed_at, missed_in}

@@ -1,6 +1,6 @@
 use Rattle.std.proofs.Common.{◌≡◌, ◌&&◌, map, take}
 use Rattle.std.specs.List.{list_any}
-use Rattle.pl_core.specs.ManagerViews.{has_level}
+use Rattle.pl_logic.specs.ManagerViews.{has_level}
 use Rattle.pl_faults.specs.Rows.{AreRows, Leads}
 use Rattle.pl_faults.proofs.reach.row_by.Given as goal
 

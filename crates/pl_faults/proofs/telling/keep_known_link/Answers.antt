@@ -1,5 +1,5 @@
 use Rattle.std.proofs.Common.{◌∙◌, ap, subst, sym}
-use Rattle.pl_core.specs.ManagerViews.{Told, is_alive, neighbours}
+use Rattle.pl_logic.specs.ManagerViews.{Told, is_alive, neighbours}
 use Rattle.pl_faults.specs.Kept.{IsKept, IsLinkWord}
 use Rattle.pl_faults.proofs.Unchanged.{known_among, known_kept, still_is}
 use Rattle.pl_faults.proofs.Words.{word_of_link}

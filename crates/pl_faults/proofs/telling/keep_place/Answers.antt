@@ -1,5 +1,5 @@
 use Rattle.std.proofs.Common.{subst, sym}
-use Rattle.pl_core.specs.ManagerViews.{Told}
+use Rattle.pl_logic.specs.ManagerViews.{Told}
 use Rattle.pl_faults.specs.Kept.{IsKept, IsPlaceWord}
 use Rattle.pl_faults.proofs.Unchanged.{place_kept}
 use Rattle.pl_faults.proofs.Words.{word_of_place}

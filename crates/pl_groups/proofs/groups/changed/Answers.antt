@@ -3,7 +3,7 @@ use Rattle.std.proofs.lemmas.Grind.{common_steps}
 use Rattle.std.specs.Option.{option_copied}
 use Rattle.std.specs.List.Sorted.{IsStrictlySortedBy}
 use Rattle.pl_frame.specs.declared.address.SwitchId.{SwitchId}
-use Rattle.pl_core.specs.ManagerViews.{id_cmp, switches}
+use Rattle.pl_logic.specs.ManagerViews.{id_cmp, switches}
 use Rattle.pl_manager_rule.specs.ManagerRule.{same_part}
 use Rattle.pl_manager_rule.proofs.Avoided.{switches_rise}
 use Rattle.pl_groups.specs.Kept.{part_in_tree}

@@ -2,9 +2,9 @@ use Rattle.std.proofs.Common.{◌≡◌, ◌∙◌, ◌==◌, ◌&&◌, Bool, Li
 use Rattle.std.proofs.lemmas.Grind.{common_steps}
 use Rattle.std.specs.List.Sorted.{IsStrictlySortedBy}
 use Rattle.pl_frame.specs.declared.address.SwitchId.{SwitchId}
-use Rattle.pl_core.specs.declared.messages.TreePart.{TreePart}
-use Rattle.pl_core.specs.ManagerViews.{alive_at_level, id_cmp}
-use Rattle.pl_core.specs.Trees.{serves}
+use Rattle.pl_logic.specs.declared.messages.TreePart.{TreePart}
+use Rattle.pl_logic.specs.ManagerViews.{alive_at_level, id_cmp}
+use Rattle.pl_logic.specs.Trees.{serves}
 use Rattle.pl_manager_rule.proofs.Avoided.{neighbours_rise}
 use Rattle.pl_groups.specs.Serving.{served_by}
 use Rattle.pl_groups.proofs.Branches.{core_down}

@@ -2,7 +2,7 @@ use Rattle.std.proofs.Common.{◌∙◌, ◌&&◌, Bool, ap, arith, sym, take_al
 use Rattle.std.specs.List.{find}
 use Rattle.std.proofs.lemmas.Grind.{common_steps}
 use Rattle.pl_frame.specs.declared.address.SwitchId.{SwitchId}
-use Rattle.pl_core.specs.ManagerViews.{has_pod, is_alive}
+use Rattle.pl_logic.specs.ManagerViews.{has_pod, is_alive}
 use Rattle.pl_groups.proofs.Branches.{found_next, none_next, up_found}
 use Rattle.pl_groups.proofs.Reached.{is_joined}
 use Rattle.pl_groups.proofs.parts.first_up.Goals as goal

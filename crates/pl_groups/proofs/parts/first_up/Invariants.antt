@@ -1,7 +1,7 @@
 use Rattle.std.proofs.Common.{◌≡◌, ◌&&◌, None, take}
 use Rattle.std.specs.List.{find}
 use Rattle.pl_frame.specs.declared.address.SwitchId.{SwitchId}
-use Rattle.pl_core.specs.ManagerViews.{has_pod, is_alive}
+use Rattle.pl_logic.specs.ManagerViews.{has_pod, is_alive}
 use Rattle.pl_groups.proofs.Reached.{is_joined}
 use Rattle.pl_groups.proofs.parts.first_up.Given as goal
 

@@ -1,5 +1,5 @@
 use Rattle.std.proofs.Common.{◌∙◌, sym}
-use Rattle.pl_core.specs.ManagerViews.{has_pod, is_alive}
+use Rattle.pl_logic.specs.ManagerViews.{has_pod, is_alive}
 use Rattle.pl_groups.proofs.Branches.{up_far, up_near}
 use Rattle.pl_groups.proofs.Reached.{is_joined}
 use Rattle.pl_groups.proofs.parts.leads_up.Goals as goal

@@ -4,7 +4,7 @@ use Rattle.std.specs.Map.{set_value, values_of}
 use Rattle.std.specs.BTreeMap.{insert_entry, is_at}
 use Rattle.std.proofs.lemmas.Result.{on_err_weaker, on_ok_weaker}
 use Rattle.std.proofs.lemmas.Map.Steps.{set_value_same}
-use Rattle.pl_core.specs.HostViews.{Held, ip_cmp}
+use Rattle.pl_logic.specs.HostViews.{Held, ip_cmp}
 use Rattle.pl_host.proofs.Holding.{count_behind, count_first, held_behind}
 use Rattle.pl_host.proofs.waiting.put_behind.Goals as goal
 

@@ -7,5 +7,5 @@ use Rattle.pl_joined.proofs.joined_laws.hosts_have_joined_what_their_frames_said
 
 pub returns : goal.returns
 returns g c = λ plan limits moments new can run.
-    run_joined Loose g.M.ManagerCore.rule g.H.HostCore.rule g.met.H.HostCore.joins loose_steps_are_accounted g.met.H.HostCore.sends (booted plan limits) moments new
+    run_joined Loose g.M.ManagerLogic.rule g.H.HostLogic.rule g.met.H.HostLogic.joins loose_steps_are_accounted g.met.H.HostLogic.sends (booted plan limits) moments new
     (booted_is_counted plan limits can) (joined_at_first plan limits) run

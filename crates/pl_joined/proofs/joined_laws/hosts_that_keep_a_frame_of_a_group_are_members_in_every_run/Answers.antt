@@ -7,6 +7,6 @@ use Rattle.pl_joined.proofs.joined_laws.hosts_that_keep_a_frame_of_a_group_are_m
 
 pub returns : goal.returns
 returns g c = λ plan limits moments new can run.
-    members_are g.H.HostCore.rule (lawful_hosts_keep g.H.HostCore.rule g.met.H.LawfulHost.lawful) new
-    (run_joined Loose g.M.ManagerCore.rule g.H.HostCore.rule g.met.H.HostCore.joins loose_steps_are_accounted g.met.H.HostCore.sends (booted plan limits) moments new
+    members_are g.H.HostLogic.rule (lawful_hosts_keep g.H.HostLogic.rule g.met.H.LawfulHost.lawful) new
+    (run_joined Loose g.M.ManagerLogic.rule g.H.HostLogic.rule g.met.H.HostLogic.joins loose_steps_are_accounted g.met.H.HostLogic.sends (booted plan limits) moments new
     (booted_is_counted plan limits can) (joined_at_first plan limits) run)

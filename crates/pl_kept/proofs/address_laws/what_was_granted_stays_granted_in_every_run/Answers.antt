@@ -4,4 +4,4 @@ use Rattle.pl_kept.proofs.address_laws.what_was_granted_stays_granted_in_every_r
 
 pub returns : goal.returns
 returns g c = λ plan limits moments more old new can run rest.
-    since_then g.H.HostCore.rule g.met.H.HostCore.sends g.met.H.HostCore.owns plan limits can (runs_are_grounded g.H.HostCore.rule g.met.H.HostCore.sends plan limits can) moments more old new run rest
+    since_then g.H.HostLogic.rule g.met.H.HostLogic.sends g.met.H.HostLogic.owns plan limits can (runs_are_grounded g.H.HostLogic.rule g.met.H.HostLogic.sends plan limits can) moments more old new run rest

@@ -2,4 +2,4 @@ use Rattle.pl_kept.proofs.Keeping.{step_keeps_all}
 use Rattle.pl_kept.proofs.kept_laws.each_step_keeps_all_of_it.Goals as goal
 
 pub returns : goal.returns
-returns g c = step_keeps_all g.H.HostCore.rule g.met.H.HostCore.sends g.met.H.HostCore.owns
+returns g c = step_keeps_all g.H.HostLogic.rule g.met.H.HostLogic.sends g.met.H.HostLogic.owns

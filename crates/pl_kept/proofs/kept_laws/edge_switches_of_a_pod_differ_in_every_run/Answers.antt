@@ -5,6 +5,6 @@ use Rattle.pl_kept.proofs.kept_laws.edge_switches_of_a_pod_differ_in_every_run.G
 
 pub returns : goal.returns
 returns g c = λ plan limits moments new can run.
-    let all = run_keeps_all g.H.HostCore.rule g.met.H.HostCore.sends g.met.H.HostCore.owns plan limits moments new can run in
+    let all = run_keeps_all g.H.HostLogic.rule g.met.H.HostLogic.sends g.met.H.HostLogic.owns plan limits moments new can run in
     let f = control_plane new in
     (fixed_are_held f.plan f.view f.says all.counted.formed.plan all.voting, fixed_are_apart f.plan f.view f.says all.counted.formed.plan all.voting)

@@ -2,4 +2,4 @@ use Rattle.pl_kept.proofs.Keeping.{run_keeps_all}
 use Rattle.pl_kept.proofs.kept_laws.every_run_keeps_all_of_it.Goals as goal
 
 pub returns : goal.returns
-returns g c = run_keeps_all g.H.HostCore.rule g.met.H.HostCore.sends g.met.H.HostCore.owns
+returns g c = run_keeps_all g.H.HostLogic.rule g.met.H.HostLogic.sends g.met.H.HostLogic.owns

@@ -5,5 +5,5 @@ use Rattle.pl_kept.proofs.kept_laws.known_pods_were_given_in_every_run.Goals as 
 
 pub returns : goal.returns
 returns g c = λ plan limits moments new can run.
-    let all = run_keeps_all g.H.HostCore.rule g.met.H.HostCore.sends g.met.H.HostCore.owns plan limits moments new can run in
+    let all = run_keeps_all g.H.HostLogic.rule g.met.H.HostLogic.sends g.met.H.HostLogic.owns plan limits moments new can run in
     known_are_given (control_plane new) all.placed all.given

@@ -8,12 +8,12 @@ use Rattle.pl_lawful.proofs.fabric.boot.Goals as goal
 
 pub returns : goal.returns
 returns g c =
-    let begun = λ (w : WorldView) (is : w ≡ booted c.args.wiring c.args.limits). subst (λ (v : WorldView). IsOfRun g.S.SwitchCore.rule g.M.ManagerCore.rule g.H.HostCore.rule v) (sym is) (begins g.S.SwitchCore.rule g.M.ManagerCore.rule g.H.HostCore.rule c.args.wiring c.args.limits c.hosts-hosts.ensures.plan) in
+    let begun = λ (w : WorldView) (is : w ≡ booted c.args.wiring c.args.limits). subst (λ (v : WorldView). IsOfRun g.S.SwitchLogic.rule g.M.ManagerLogic.rule g.H.HostLogic.rule v) (sym is) (begins g.S.SwitchLogic.rule g.M.ManagerLogic.rule g.H.HostLogic.rule c.args.wiring c.args.limits c.hosts-hosts.ensures.plan) in
     record {
       booted = c.boot.ensures.booted;
       counted = c.boot.ensures.counted;
       hearing = c.boot.ensures.hearing;
-      moment = IfOk-weaker c.boot.result (λ w. w ≡ booted c.args.wiring c.args.limits) (λ w. IsOfRun g.S.SwitchCore.rule g.M.ManagerCore.rule g.H.HostCore.rule w) begun c.boot.ensures.booted;
-      promised = IfOk-weaker c.boot.result (λ w. w ≡ booted c.args.wiring c.args.limits) (λ w. IsPromised g.S.SwitchCore.rule g.M.ManagerCore.rule g.H.HostCore.rule w)
-          (λ w is. promised g.S.SwitchCore.rule g.M.ManagerCore.rule g.H.HostCore.rule c.lawful_cores_are_one_switch.ensures w (begun w is)) c.boot.ensures.booted;
+      moment = IfOk-weaker c.boot.result (λ w. w ≡ booted c.args.wiring c.args.limits) (λ w. IsOfRun g.S.SwitchLogic.rule g.M.ManagerLogic.rule g.H.HostLogic.rule w) begun c.boot.ensures.booted;
+      promised = IfOk-weaker c.boot.result (λ w. w ≡ booted c.args.wiring c.args.limits) (λ w. IsPromised g.S.SwitchLogic.rule g.M.ManagerLogic.rule g.H.HostLogic.rule w)
+          (λ w is. promised g.S.SwitchLogic.rule g.M.ManagerLogic.rule g.H.HostLogic.rule c.lawful_logic_is_one_switch.ensures w (begun w is)) c.boot.ensures.booted;
     }

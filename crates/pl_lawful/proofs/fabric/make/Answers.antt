@@ -7,11 +7,11 @@ use Rattle.pl_lawful.proofs.fabric.make.Goals as goal
 
 pub returns : goal.returns
 returns g c =
-    let on = λ (end : Option StepError) (done : Makes g.S.SwitchCore.rule g.M.ManagerCore.rule g.H.HostCore.rule c.args.event.now c.args.world.now end c.make.new.world). goes_on g.S.SwitchCore.rule g.M.ManagerCore.rule g.H.HostCore.rule c.args.world.now c.make.new.world c.requires.moment (makes_run g.S.SwitchCore.rule g.M.ManagerCore.rule g.H.HostCore.rule c.args.event.now c.args.world.now end c.make.new.world done) in
+    let on = λ (end : Option StepError) (done : Makes g.S.SwitchLogic.rule g.M.ManagerLogic.rule g.H.HostLogic.rule c.args.event.now c.args.world.now end c.make.new.world). goes_on g.S.SwitchLogic.rule g.M.ManagerLogic.rule g.H.HostLogic.rule c.args.world.now c.make.new.world c.requires.moment (makes_run g.S.SwitchLogic.rule g.M.ManagerLogic.rule g.H.HostLogic.rule c.args.event.now c.args.world.now end c.make.new.world done) in
     record {
       made = c.make.ensures.made;
       counted = c.make.ensures.counted;
       hearing = c.make.ensures.hearing;
       moment = ends_weaker _ _ on c.make.result c.make.ensures.made;
-      promised = ends_weaker _ _ (λ end done. promised g.S.SwitchCore.rule g.M.ManagerCore.rule g.H.HostCore.rule c.lawful_cores_are_one_switch.ensures c.make.new.world (on end done)) c.make.result c.make.ensures.made;
+      promised = ends_weaker _ _ (λ end done. promised g.S.SwitchLogic.rule g.M.ManagerLogic.rule g.H.HostLogic.rule c.lawful_logic_is_one_switch.ensures c.make.new.world (on end done)) c.make.result c.make.ensures.made;
     }

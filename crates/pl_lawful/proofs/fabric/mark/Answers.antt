@@ -8,13 +8,13 @@ use Rattle.pl_lawful.proofs.fabric.mark.Goals as goal
 
 pub returns : goal.returns
 returns g c =
-    let on = λ (is : c.mark.new.self ≡ noted c.args.world.now c.args.entry). subst (λ (v : WorldView). IsOfRun g.S.SwitchCore.rule g.M.ManagerCore.rule g.H.HostCore.rule v) (sym is)
-    (goes_on g.S.SwitchCore.rule g.M.ManagerCore.rule g.H.HostCore.rule c.args.world.now (noted c.args.world.now c.args.entry) c.requires.moment (marks_run g.S.SwitchCore.rule g.M.ManagerCore.rule g.H.HostCore.rule c.args.entry c.args.world.now c.requires.mark)) in
+    let on = λ (is : c.mark.new.self ≡ noted c.args.world.now c.args.entry). subst (λ (v : WorldView). IsOfRun g.S.SwitchLogic.rule g.M.ManagerLogic.rule g.H.HostLogic.rule v) (sym is)
+    (goes_on g.S.SwitchLogic.rule g.M.ManagerLogic.rule g.H.HostLogic.rule c.args.world.now (noted c.args.world.now c.args.entry) c.requires.moment (marks_run g.S.SwitchLogic.rule g.M.ManagerLogic.rule g.H.HostLogic.rule c.args.entry c.args.world.now c.requires.mark)) in
     record {
       marked = c.mark.ensures.marked;
       err = c.mark.ensures.err;
       counted = on_ok_weaker c.mark.result (λ keeps. keeps c.requires.counted) c.mark.ensures.counted;
       hearing = on_ok_weaker c.mark.result (λ keeps. keeps c.requires.hearing) c.mark.ensures.hearing;
       moment = on_ok_weaker c.mark.result on c.mark.ensures.marked;
-      promised = on_ok_weaker c.mark.result (λ is. promised g.S.SwitchCore.rule g.M.ManagerCore.rule g.H.HostCore.rule c.lawful_cores_are_one_switch.ensures c.mark.new.self (on is)) c.mark.ensures.marked;
+      promised = on_ok_weaker c.mark.result (λ is. promised g.S.SwitchLogic.rule g.M.ManagerLogic.rule g.H.HostLogic.rule c.lawful_logic_is_one_switch.ensures c.mark.new.self (on is)) c.mark.ensures.marked;
     }

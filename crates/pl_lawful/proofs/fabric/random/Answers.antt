@@ -7,11 +7,11 @@ use Rattle.pl_lawful.proofs.fabric.random.Goals as goal
 
 pub returns : goal.returns
 returns g c =
-    let on = λ (end : Option StepError) (done : Draws g.S.SwitchCore.rule g.M.ManagerCore.rule g.H.HostCore.rule c.args.steps c.args.number c.args.world.now end c.random.new.world). goes_on g.S.SwitchCore.rule g.M.ManagerCore.rule g.H.HostCore.rule c.args.world.now c.random.new.world c.requires.moment (c.drawn_steps_are_a_run.ensures c.args.steps c.args.number c.args.world.now c.random.new.world end done) in
+    let on = λ (end : Option StepError) (done : Draws g.S.SwitchLogic.rule g.M.ManagerLogic.rule g.H.HostLogic.rule c.args.steps c.args.number c.args.world.now end c.random.new.world). goes_on g.S.SwitchLogic.rule g.M.ManagerLogic.rule g.H.HostLogic.rule c.args.world.now c.random.new.world c.requires.moment (c.drawn_steps_are_a_run.ensures c.args.steps c.args.number c.args.world.now c.random.new.world end done) in
     record {
       drawn = c.random.ensures.drawn;
       counted = c.random.ensures.counted;
       hearing = c.random.ensures.hearing;
       moment = ends_weaker _ _ on c.random.result c.random.ensures.drawn;
-      promised = ends_weaker _ _ (λ end done. promised g.S.SwitchCore.rule g.M.ManagerCore.rule g.H.HostCore.rule c.lawful_cores_are_one_switch.ensures c.random.new.world (on end done)) c.random.result c.random.ensures.drawn;
+      promised = ends_weaker _ _ (λ end done. promised g.S.SwitchLogic.rule g.M.ManagerLogic.rule g.H.HostLogic.rule c.lawful_logic_is_one_switch.ensures c.random.new.world (on end done)) c.random.result c.random.ensures.drawn;
     }

@@ -18,24 +18,24 @@ returns g c =
     let old = c.args.world.now in
     let new = c.settle.new.world in
     let asked = c.args.rounds in
-    let on = λ (run : IsRun g.S.SwitchCore.rule g.M.ManagerCore.rule g.H.HostCore.rule old new). goes_on g.S.SwitchCore.rule g.M.ManagerCore.rule g.H.HostCore.rule old new c.requires.moment run in
-    let holds = λ (run : IsRun g.S.SwitchCore.rule g.M.ManagerCore.rule g.H.HostCore.rule old new). promised g.S.SwitchCore.rule g.M.ManagerCore.rule g.H.HostCore.rule c.lawful_cores_are_one_switch.ensures new (on run) in
-    let runs = settling_runs g.S.SwitchCore.rule g.M.ManagerCore.rule g.H.HostCore.rule asked old new c.settle.result (λ n end done. c.the_rounds_of_a_settling_are_a_run.ensures n old new end done) c.settle.ensures.settles c.settle.ensures.refused in
-    let ran = λ (answer : Settling) (settles : Settles g.S.SwitchCore.rule g.M.ManagerCore.rule g.H.HostCore.rule asked old answer new). c.the_rounds_of_a_settling_are_a_run.ensures settles.used old new None settles.rounds in
+    let on = λ (run : IsRun g.S.SwitchLogic.rule g.M.ManagerLogic.rule g.H.HostLogic.rule old new). goes_on g.S.SwitchLogic.rule g.M.ManagerLogic.rule g.H.HostLogic.rule old new c.requires.moment run in
+    let holds = λ (run : IsRun g.S.SwitchLogic.rule g.M.ManagerLogic.rule g.H.HostLogic.rule old new). promised g.S.SwitchLogic.rule g.M.ManagerLogic.rule g.H.HostLogic.rule c.lawful_logic_is_one_switch.ensures new (on run) in
+    let runs = settling_runs g.S.SwitchLogic.rule g.M.ManagerLogic.rule g.H.HostLogic.rule asked old new c.settle.result (λ n end done. c.the_rounds_of_a_settling_are_a_run.ensures n old new end done) c.settle.ensures.settles c.settle.ensures.refused in
+    let ran = λ (answer : Settling) (settles : Settles g.S.SwitchLogic.rule g.M.ManagerLogic.rule g.H.HostLogic.rule asked old answer new). c.the_rounds_of_a_settling_are_a_run.ensures settles.used old new None settles.rounds in
     record {
       settles = c.settle.ensures.settles;
       refused = c.settle.ensures.refused;
-      placed = IfOk-weaker c.settle.result (λ answer. Settles g.S.SwitchCore.rule g.M.ManagerCore.rule g.H.HostCore.rule asked old answer new)
+      placed = IfOk-weaker c.settle.result (λ answer. Settles g.S.SwitchLogic.rule g.M.ManagerLogic.rule g.H.HostLogic.rule asked old answer new)
           (λ answer. (used : ℕ) → answer ≡ Settled used → new.steps < 4294967295 → (pod : ℕ) → IsWholePod new pod → ReceiversArePlaced new pod)
-          (λ answer settles used is few pod whole. (holds (ran answer settles)).2.placed (is_settled_then g.S.SwitchCore.rule g.M.ManagerCore.rule g.H.HostCore.rule asked old new answer settles used is) few pod whole)
+          (λ answer settles used is few pod whole. (holds (ran answer settles)).2.placed (is_settled_then g.S.SwitchLogic.rule g.M.ManagerLogic.rule g.H.HostLogic.rule asked old new answer settles used is) few pod whole)
           c.settle.ensures.settles;
-      registered = IfOk-weaker c.settle.result (λ answer. Settles g.S.SwitchCore.rule g.M.ManagerCore.rule g.H.HostCore.rule asked old answer new)
+      registered = IfOk-weaker c.settle.result (λ answer. Settles g.S.SwitchLogic.rule g.M.ManagerLogic.rule g.H.HostLogic.rule asked old answer new)
           (λ answer. (used : ℕ) → answer ≡ Settled used → used < asked → AreRegistered new)
           (λ answer settles used is fewer. (holds (ran answer settles)).2.registered
-          (c.a_fabric_at_rest_has_empty_queues.ensures new (is_at_rest_then g.S.SwitchCore.rule g.M.ManagerCore.rule g.H.HostCore.rule asked old new answer settles used is fewer)))
+          (c.a_fabric_at_rest_has_empty_queues.ensures new (is_at_rest_then g.S.SwitchLogic.rule g.M.ManagerLogic.rule g.H.HostLogic.rule asked old new answer settles used is fewer)))
           c.settle.ensures.settles;
       counted = c.settle.ensures.counted;
       hearing = c.settle.ensures.hearing;
-      moment = ends_weaker (λ _. IsRun g.S.SwitchCore.rule g.M.ManagerCore.rule g.H.HostCore.rule old new) (λ _. IsOfRun g.S.SwitchCore.rule g.M.ManagerCore.rule g.H.HostCore.rule new) (λ end run. on run) c.settle.result runs;
-      promised = ends_weaker (λ _. IsRun g.S.SwitchCore.rule g.M.ManagerCore.rule g.H.HostCore.rule old new) (λ _. IsPromised g.S.SwitchCore.rule g.M.ManagerCore.rule g.H.HostCore.rule new) (λ end run. holds run) c.settle.result runs;
+      moment = ends_weaker (λ _. IsRun g.S.SwitchLogic.rule g.M.ManagerLogic.rule g.H.HostLogic.rule old new) (λ _. IsOfRun g.S.SwitchLogic.rule g.M.ManagerLogic.rule g.H.HostLogic.rule new) (λ end run. on run) c.settle.result runs;
+      promised = ends_weaker (λ _. IsRun g.S.SwitchLogic.rule g.M.ManagerLogic.rule g.H.HostLogic.rule old new) (λ _. IsPromised g.S.SwitchLogic.rule g.M.ManagerLogic.rule g.H.HostLogic.rule new) (λ end run. holds run) c.settle.result runs;
     }

@@ -7,11 +7,11 @@ use Rattle.pl_lawful.proofs.fabric.sweep.Goals as goal
 
 pub returns : goal.returns
 returns g c =
-    let on = λ (end : Option StepError) (done : Sweeps g.S.SwitchCore.rule g.M.ManagerCore.rule g.H.HostCore.rule c.args.world.now end c.sweep.new.world). goes_on g.S.SwitchCore.rule g.M.ManagerCore.rule g.H.HostCore.rule c.args.world.now c.sweep.new.world c.requires.moment (c.a_sweep_is_a_run.ensures c.args.world.now c.sweep.new.world end done) in
+    let on = λ (end : Option StepError) (done : Sweeps g.S.SwitchLogic.rule g.M.ManagerLogic.rule g.H.HostLogic.rule c.args.world.now end c.sweep.new.world). goes_on g.S.SwitchLogic.rule g.M.ManagerLogic.rule g.H.HostLogic.rule c.args.world.now c.sweep.new.world c.requires.moment (c.a_sweep_is_a_run.ensures c.args.world.now c.sweep.new.world end done) in
     record {
       swept = c.sweep.ensures.swept;
       counted = c.sweep.ensures.counted;
       hearing = c.sweep.ensures.hearing;
       moment = ends_weaker _ _ on c.sweep.result c.sweep.ensures.swept;
-      promised = ends_weaker _ _ (λ end done. promised g.S.SwitchCore.rule g.M.ManagerCore.rule g.H.HostCore.rule c.lawful_cores_are_one_switch.ensures c.sweep.new.world (on end done)) c.sweep.result c.sweep.ensures.swept;
+      promised = ends_weaker _ _ (λ end done. promised g.S.SwitchLogic.rule g.M.ManagerLogic.rule g.H.HostLogic.rule c.lawful_logic_is_one_switch.ensures c.sweep.new.world (on end done)) c.sweep.result c.sweep.ensures.swept;
     }

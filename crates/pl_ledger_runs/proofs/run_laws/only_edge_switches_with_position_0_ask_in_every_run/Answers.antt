@@ -3,4 +3,4 @@ use Rattle.pl_ledger_runs.proofs.run_laws.only_edge_switches_with_position_0_ask
 
 pub returns : goal.returns
 returns g c = λ plan limits moments new can run.
-    (entered_in_run g.H.HostCore.rule g.met.H.HostCore.sends g.met.H.HostCore.owns plan limits can moments new run).asking
+    (entered_in_run g.H.HostLogic.rule g.met.H.HostLogic.sends g.met.H.HostLogic.owns plan limits can moments new run).asking

@@ -4,5 +4,5 @@ use Rattle.pl_ledger_runs.proofs.run_laws.pods_and_positions_are_of_one_byte_in_
 
 pub returns : goal.returns
 returns g c = λ plan limits moments new can run.
-    in_bounds new (run_keeps_all g.H.HostCore.rule g.met.H.HostCore.sends g.met.H.HostCore.owns plan limits moments new can run)
-    (entered_in_run g.H.HostCore.rule g.met.H.HostCore.sends g.met.H.HostCore.owns plan limits can moments new run).asking
+    in_bounds new (run_keeps_all g.H.HostLogic.rule g.met.H.HostLogic.sends g.met.H.HostLogic.owns plan limits moments new can run)
+    (entered_in_run g.H.HostLogic.rule g.met.H.HostLogic.sends g.met.H.HostLogic.owns plan limits can moments new run).asking

@@ -3,4 +3,4 @@ use Rattle.pl_ledger_runs.proofs.run_laws.the_journal_says_what_was_granted_in_e
 
 pub returns : goal.returns
 returns g c = λ plan limits moments new can run.
-    (entered_in_run g.H.HostCore.rule g.met.H.HostCore.sends g.met.H.HostCore.owns plan limits can moments new run).ledger
+    (entered_in_run g.H.HostLogic.rule g.met.H.HostLogic.sends g.met.H.HostLogic.owns plan limits can moments new run).ledger

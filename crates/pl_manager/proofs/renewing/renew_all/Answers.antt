@@ -1,5 +1,5 @@
 use Rattle.std.proofs.Common.{ap, arith, subst, take_all}
-use Rattle.pl_core.specs.ManagerFacts.{groups}
+use Rattle.pl_logic.specs.ManagerFacts.{groups}
 use Rattle.pl_manager_rule.proofs.Avoided.{groups_rise}
 use Rattle.pl_groups.specs.Kept.{members_in}
 use Rattle.pl_manager.specs.Telling.{AreRenewed, listed_groups}

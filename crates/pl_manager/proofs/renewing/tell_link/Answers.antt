@@ -1,8 +1,8 @@
 use Rattle.std.proofs.Common.{◌≡◌, ◌∙◌, ◌++◌, ap, subst, sym}
 use Rattle.pl_frame.specs.declared.address.SwitchId.{SwitchId}
-use Rattle.pl_core.specs.AvoidLists.{avoid_list}
+use Rattle.pl_logic.specs.AvoidLists.{avoid_list}
 use Rattle.pl_faults.specs.Kept.{handed}
-use Rattle.pl_core.specs.ManagerViews.{Told, is_alive}
+use Rattle.pl_logic.specs.ManagerViews.{Told, is_alive}
 use Rattle.pl_manager_rule.specs.ManagerRule.{avoid_acts, with_link}
 use Rattle.pl_manager.specs.Routing.{AreOf, routed, trees_told_anew}
 use Rattle.pl_manager.specs.Telling.{AreRenewed, listed_groups}

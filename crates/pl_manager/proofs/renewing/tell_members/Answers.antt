@@ -1,5 +1,5 @@
 use Rattle.std.proofs.Common.{◌∷◌, [], subst}
-use Rattle.pl_core.specs.ManagerViews.{Told}
+use Rattle.pl_logic.specs.ManagerViews.{Told}
 use Rattle.pl_manager.specs.Telling.{AreRenewed}
 use Rattle.pl_manager.proofs.Changes.{members_kept, members_now, members_said}
 use Rattle.pl_manager.proofs.renewing.tell_members.Goals as goal

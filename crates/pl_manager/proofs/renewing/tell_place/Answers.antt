@@ -1,9 +1,9 @@
 use Rattle.std.proofs.Common.{◌≡◌, ◌∙◌, ◌++◌, ap, subst, sym}
 use Rattle.pl_frame.specs.declared.address.SwitchId.{SwitchId}
-use Rattle.pl_core.specs.AvoidLists.{avoid_list}
+use Rattle.pl_logic.specs.AvoidLists.{avoid_list}
 use Rattle.pl_faults.specs.Kept.{handed}
 use Rattle.pl_groups.specs.Kept.{members_in}
-use Rattle.pl_core.specs.ManagerViews.{Told, place_of}
+use Rattle.pl_logic.specs.ManagerViews.{Told, place_of}
 use Rattle.pl_manager_rule.specs.ManagerRule.{avoid_acts, with_place}
 use Rattle.pl_manager.specs.Routing.{AreOf, routed, trees_told_anew}
 use Rattle.pl_manager.specs.Telling.{AreRenewed, listed_groups}

@@ -5,5 +5,5 @@ use Rattle.pl_network.proofs.saved_entries.each_run_keeps_the_wiring.Goals as go
 
 pub returns : goal.returns
 returns g c = λ plan limits moments new can run.
-    (run_saves plan g.S.SwitchCore.rule g.M.ManagerCore.rule g.H.HostCore.rule g.met.S.SwitchCore.accounts g.met.H.HostCore.sends
+    (run_saves plan g.S.SwitchLogic.rule g.M.ManagerLogic.rule g.H.HostLogic.rule g.met.S.SwitchLogic.accounts g.met.H.HostLogic.sends
     (booted plan limits) moments new (booted_is_counted plan limits can) (begins_savable plan limits) run).same

@@ -4,4 +4,4 @@ use Rattle.pl_network.proofs.saved_entries.each_step_writes_entries_that_can_be_
 
 pub returns : goal.returns
 returns g c = λ old event new counted none step all.
-    (step_saves old.plan g.S.SwitchCore.rule g.M.ManagerCore.rule g.H.HostCore.rule old event new counted none step (record { same = refl; all = all })).all
+    (step_saves old.plan g.S.SwitchLogic.rule g.M.ManagerLogic.rule g.H.HostLogic.rule old event new counted none step (record { same = refl; all = all })).all

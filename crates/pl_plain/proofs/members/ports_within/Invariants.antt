@@ -1,6 +1,6 @@
 use Rattle.std.proofs.Common.{◌≡◌, ◌==◌}
 use Rattle.std.specs.List.{filter, list_any}
-use Rattle.pl_core.specs.PortRecords.{ports_of_switch}
+use Rattle.pl_logic.specs.PortRecords.{ports_of_switch}
 use Rattle.pl_lists.specs.Ports.{ports_of}
 use Rattle.pl_plain.proofs.members.ports_within.Given as goal
 

@@ -1,4 +1,4 @@
-use Rattle.pl_core.specs.SwitchFacts.{switch_at_boot}
+use Rattle.pl_logic.specs.SwitchFacts.{switch_at_boot}
 use Rattle.pl_plain.proofs.proposing.has_granted.Goals as goal
 
 pub returns : goal.returns

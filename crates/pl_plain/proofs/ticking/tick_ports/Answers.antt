@@ -1,6 +1,6 @@
 use Rattle.std.proofs.Common.{◌∙◌, ap, sym, refl}
 use Rattle.pl_edge.proofs.Delivered.{on_ok}
-use Rattle.pl_core.specs.SwitchViews.{SwitchView}
+use Rattle.pl_logic.specs.SwitchViews.{SwitchView}
 use Rattle.pl_ports.specs.PortsViews.{ports_alone}
 use Rattle.pl_plain.specs.PlainViews.{plain_view}
 use Rattle.pl_plain.proofs.Rows.{ticked}

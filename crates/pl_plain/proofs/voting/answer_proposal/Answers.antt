@@ -1,5 +1,5 @@
 use Rattle.std.proofs.Common.{◌∙◌, ◌++◌, [], ◌∷◌, ap, sym, subst, refl}
-use Rattle.pl_core.specs.declared.acts.Act.TheVariants.{Control}
+use Rattle.pl_logic.specs.declared.acts.Act.TheVariants.{Control}
 use Rattle.pl_ldp.specs.Writable.{IsId}
 use Rattle.pl_plain.specs.PlainViews.{plain_view}
 use Rattle.pl_plain.proofs.Votes.{proposal_answered, proposal_ignored, vote_writable}

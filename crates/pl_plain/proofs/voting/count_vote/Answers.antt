@@ -1,5 +1,5 @@
 use Rattle.std.proofs.Common.{◌≡◌, Some, is_none, ap, sym, ◌∙◌}
-use Rattle.pl_core.specs.SwitchViews.{SwitchView}
+use Rattle.pl_logic.specs.SwitchViews.{SwitchView}
 use Rattle.pl_layouts.specs.Placement.{is_known}
 use Rattle.pl_ports.specs.PortsViews.{ports_alone, put_ports}
 use Rattle.pl_ports.specs.Changes.{with_position}

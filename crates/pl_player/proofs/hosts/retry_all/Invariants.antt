@@ -12,5 +12,5 @@ abbrev pub invariant-loop-h : goal.invariant-loop-h
 invariant-loop-h g l =
     Keeps l.initial.world l.world
     × ((left : ℕ) → left + l.h ≡ l.many →
-    Leads (MakesAll g.S.SwitchCore.rule g.M.ManagerCore.rule g.H.HostCore.rule (map event.Retry (map host_no (range_with_len l.h left)))) l.world
-    (MakesAll g.S.SwitchCore.rule g.M.ManagerCore.rule g.H.HostCore.rule (map event.Retry (hosts_meant l.initial.world.plan who.All))) l.initial.world)
+    Leads (MakesAll g.S.SwitchLogic.rule g.M.ManagerLogic.rule g.H.HostLogic.rule (map event.Retry (map host_no (range_with_len l.h left)))) l.world
+    (MakesAll g.S.SwitchLogic.rule g.M.ManagerLogic.rule g.H.HostLogic.rule (map event.Retry (hosts_meant l.initial.world.plan who.All))) l.initial.world)

@@ -16,7 +16,7 @@ loop-h-init g c =
     c.host_count-many.ensures ∙ ap (λ (plan : Plan). length plan.hosts) c.wiring.ensures in (
       record { counted = c.requires.counted; hearing = c.requires.hearing; plan = refl },
       λ left all. record {
-        on = (leads_all (λ n. MakesAll g.S.SwitchCore.rule g.M.ManagerCore.rule g.H.HostCore.rule (map event.Start (map host_no (range_with_len 0 n))))
+        on = (leads_all (λ n. MakesAll g.S.SwitchLogic.rule g.M.ManagerLogic.rule g.H.HostLogic.rule (map event.Start (map host_no (range_with_len 0 n))))
             (length c.args.world.now.plan.hosts) left c.args.world.now (all ∙ many)).on;
       },
     )
@@ -34,9 +34,9 @@ loop-h-preserved g c = (
     hearing = c.in_ok-make.ensures.hearing;
     plan = c.in_ok-make.ensures.plan ∙ c.loop-h.invariant.0.plan;
   },
-  λ left all. led_on (Makes g.S.SwitchCore.rule g.M.ManagerCore.rule g.H.HostCore.rule (event.Start (host_no c.loop-h.h)))
-      (MakesAll g.S.SwitchCore.rule g.M.ManagerCore.rule g.H.HostCore.rule (map event.Start (map host_no (range_with_len (c.loop-h.h + 1) left))))
-      (MakesAll g.S.SwitchCore.rule g.M.ManagerCore.rule g.H.HostCore.rule (map event.Start (hosts_meant c.args.world.now.plan who.All)))
+  λ left all. led_on (Makes g.S.SwitchLogic.rule g.M.ManagerLogic.rule g.H.HostLogic.rule (event.Start (host_no c.loop-h.h)))
+      (MakesAll g.S.SwitchLogic.rule g.M.ManagerLogic.rule g.H.HostLogic.rule (map event.Start (map host_no (range_with_len (c.loop-h.h + 1) left))))
+      (MakesAll g.S.SwitchLogic.rule g.M.ManagerLogic.rule g.H.HostLogic.rule (map event.Start (hosts_meant c.args.world.now.plan who.All)))
       c.loop-h.world c.make.new.world c.args.world.now (c.loop-h.invariant.1 (suc left) (omega arith)) c.in_ok-make.ensures.made,
 )
 
@@ -47,9 +47,9 @@ returns-in_err-make g c =
     let all : suc left + c.loop-h.h ≡ c.host_count-many.result = omega arith in
     rw (p.1, p.2) (record {
       made = unless_weaker c.in_err-make.field-0.0 _ _
-          (led_stops (Makes g.S.SwitchCore.rule g.M.ManagerCore.rule g.H.HostCore.rule (event.Start (host_no c.loop-h.h)))
-          (MakesAll g.S.SwitchCore.rule g.M.ManagerCore.rule g.H.HostCore.rule (map event.Start (map host_no (range_with_len (c.loop-h.h + 1) left))))
-          (MakesAll g.S.SwitchCore.rule g.M.ManagerCore.rule g.H.HostCore.rule (map event.Start (hosts_meant c.args.world.now.plan who.All)))
+          (led_stops (Makes g.S.SwitchLogic.rule g.M.ManagerLogic.rule g.H.HostLogic.rule (event.Start (host_no c.loop-h.h)))
+          (MakesAll g.S.SwitchLogic.rule g.M.ManagerLogic.rule g.H.HostLogic.rule (map event.Start (map host_no (range_with_len (c.loop-h.h + 1) left))))
+          (MakesAll g.S.SwitchLogic.rule g.M.ManagerLogic.rule g.H.HostLogic.rule (map event.Start (hosts_meant c.args.world.now.plan who.All)))
           c.loop-h.world c.make.new.world c.args.world.now c.in_err-make.field-0.0 (c.loop-h.invariant.1 (suc left) all))
           c.in_err-make.ensures.made;
       counted = c.in_err-make.ensures.counted;

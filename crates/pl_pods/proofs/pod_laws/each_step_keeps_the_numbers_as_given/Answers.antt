@@ -9,4 +9,4 @@ use Rattle.pl_pods.proofs.pod_laws.each_step_keeps_the_numbers_as_given.Goals as
 pub returns : goal.returns
 returns g c = λ old event new counted hosts placed apart then_apart none step given.
     plane_given (control_plane old) (control_plane new) counted.formed.plan placed apart then_apart given
-    (step_in_plane Loose manager_rule g.H.HostCore.rule loose_steps_are_accounted old event new counted hosts none step)
+    (step_in_plane Loose manager_rule g.H.HostLogic.rule loose_steps_are_accounted old event new counted hosts none step)

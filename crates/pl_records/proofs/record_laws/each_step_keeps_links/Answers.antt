@@ -11,6 +11,6 @@ use Rattle.pl_records.proofs.record_laws.each_step_keeps_links.Goals as goal
 
 pub returns : goal.returns
 returns g c = λ old event new counted hosts names none step told.
-    let whole = whole_step Loose manager_rule g.H.HostCore.rule loose_steps_are_accounted old event new counted hosts none step in
+    let whole = whole_step Loose manager_rule g.H.HostLogic.rule loose_steps_are_accounted old event new counted hosts none step in
     let f = control_plane old in let h = control_plane new in
     plane_links f h counted.formed.plan (subst IsPlan (sym (plan_stays Loose manager_rule f h whole.0)) counted.formed.plan) names told whole.0 whole.1

@@ -2,4 +2,4 @@ use Rattle.pl_records.proofs.LinkRuns.{run_neighbours}
 use Rattle.pl_records.proofs.record_laws.links_to_neighbours_alone_are_told_usable_in_every_run.Goals as goal
 
 pub returns : goal.returns
-returns g c = run_neighbours g.H.HostCore.rule g.met.H.HostCore.sends g.met.H.HostCore.owns
+returns g c = run_neighbours g.H.HostLogic.rule g.met.H.HostLogic.sends g.met.H.HostLogic.owns

@@ -14,7 +14,7 @@ returns-clause-ok c =
       run = λ end records lines scene plays. c.a_script_is_a_run.ensures i.plan run_limits records lines end scene plays;
       wiring = λ moments new run. c.each_run_keeps_the_wiring.ensures i.plan run_limits moments new begins run;
       savable = λ moments new run. c.every_entry_can_be_saved.ensures i.plan run_limits moments new begins run;
-      one_switch = λ moments new run. c.lawful_cores_are_one_switch.ensures i.plan run_limits moments new begins run;
+      one_switch = λ moments new run. c.lawful_logic_is_one_switch.ensures i.plan run_limits moments new begins run;
     } in
     IfOk-weaker c.play_script.result (λ p. IsPlayedOver i p) (λ p. IsPlayedTo i p)
     (λ p over. played_to i p laws

@@ -3,6 +3,6 @@ use Rattle.pl_settled_laws.proofs.run_laws.records_are_current_in_every_run_wher
 
 pub returns : goal.returns
 returns g c = λ plan limits moments new can run queues. (
-  run_current g.S.SwitchCore.rule g.M.ManagerCore.rule g.H.HostCore.rule g.met.S.LooseSwitch.obeys g.met.M.LawfulManager.lawful g.met.H.HostCore.sends g.met.H.HostCore.owns plan limits moments new can run queues,
-  run_links_current g.S.SwitchCore.rule g.M.ManagerCore.rule g.H.HostCore.rule g.met.S.LooseSwitch.obeys g.met.M.LawfulManager.lawful g.met.H.HostCore.sends g.met.H.HostCore.owns plan limits moments new can run queues,
+  run_current g.S.SwitchLogic.rule g.M.ManagerLogic.rule g.H.HostLogic.rule g.met.S.LooseSwitch.obeys g.met.M.LawfulManager.lawful g.met.H.HostLogic.sends g.met.H.HostLogic.owns plan limits moments new can run queues,
+  run_links_current g.S.SwitchLogic.rule g.M.ManagerLogic.rule g.H.HostLogic.rule g.met.S.LooseSwitch.obeys g.met.M.LawfulManager.lawful g.met.H.HostLogic.sends g.met.H.HostLogic.owns plan limits moments new can run queues,
 )

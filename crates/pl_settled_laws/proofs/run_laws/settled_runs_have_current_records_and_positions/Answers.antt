@@ -3,15 +3,15 @@ use Rattle.pl_settled_laws.proofs.run_laws.settled_runs_have_current_records_and
 
 pub returns-clause-records : goal.returns-clause-records
 returns-clause-records g c = λ plan limits moments new can run settled. (
-  run_current g.S.SwitchCore.rule g.M.ManagerCore.rule g.H.HostCore.rule g.met.S.LooseSwitch.obeys g.met.M.LawfulManager.lawful g.met.H.HostCore.sends g.met.H.HostCore.owns plan limits moments new can run settled.queues,
-  run_links_current g.S.SwitchCore.rule g.M.ManagerCore.rule g.H.HostCore.rule g.met.S.LooseSwitch.obeys g.met.M.LawfulManager.lawful g.met.H.HostCore.sends g.met.H.HostCore.owns plan limits moments new can run settled.queues,
+  run_current g.S.SwitchLogic.rule g.M.ManagerLogic.rule g.H.HostLogic.rule g.met.S.LooseSwitch.obeys g.met.M.LawfulManager.lawful g.met.H.HostLogic.sends g.met.H.HostLogic.owns plan limits moments new can run settled.queues,
+  run_links_current g.S.SwitchLogic.rule g.M.ManagerLogic.rule g.H.HostLogic.rule g.met.S.LooseSwitch.obeys g.met.M.LawfulManager.lawful g.met.H.HostLogic.sends g.met.H.HostLogic.owns plan limits moments new can run settled.queues,
 )
 
 pub returns-clause-positions : goal.returns-clause-positions
-returns-clause-positions g c = λ plan limits moments new can run. run_positions g.S.SwitchCore.rule g.M.ManagerCore.rule g.H.HostCore.rule g.met.S.LooseSwitch.obeys g.met.M.LawfulManager.lawful g.met.H.HostCore.sends g.met.H.HostCore.owns plan limits moments new can run
+returns-clause-positions g c = λ plan limits moments new can run. run_positions g.S.SwitchLogic.rule g.M.ManagerLogic.rule g.H.HostLogic.rule g.met.S.LooseSwitch.obeys g.met.M.LawfulManager.lawful g.met.H.HostLogic.sends g.met.H.HostLogic.owns plan limits moments new can run
 
 pub returns-clause-first : goal.returns-clause-first
-returns-clause-first g c = λ plan limits moments new can run. run_first g.S.SwitchCore.rule g.M.ManagerCore.rule g.H.HostCore.rule g.met.S.LooseSwitch.obeys g.met.M.LawfulManager.lawful g.met.H.HostCore.sends g.met.H.HostCore.owns plan limits moments new can run
+returns-clause-first g c = λ plan limits moments new can run. run_first g.S.SwitchLogic.rule g.M.ManagerLogic.rule g.H.HostLogic.rule g.met.S.LooseSwitch.obeys g.met.M.LawfulManager.lawful g.met.H.HostLogic.sends g.met.H.HostLogic.owns plan limits moments new can run
 
 pub returns-clause-placed : goal.returns-clause-placed
-returns-clause-placed g c = λ plan limits moments new can run. run_placed g.S.SwitchCore.rule g.M.ManagerCore.rule g.H.HostCore.rule g.met.S.LooseSwitch.obeys g.met.M.LawfulManager.lawful g.met.H.HostCore.sends g.met.H.HostCore.owns plan limits moments new can run
+returns-clause-placed g c = λ plan limits moments new can run. run_placed g.S.SwitchLogic.rule g.M.ManagerLogic.rule g.H.HostLogic.rule g.met.S.LooseSwitch.obeys g.met.M.LawfulManager.lawful g.met.H.HostLogic.sends g.met.H.HostLogic.owns plan limits moments new can run

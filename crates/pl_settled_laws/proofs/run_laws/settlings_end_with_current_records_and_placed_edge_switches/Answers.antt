@@ -5,12 +5,12 @@ use Rattle.pl_settled_laws.proofs.run_laws.settlings_end_with_current_records_an
 
 pub returns-clause-records : goal.returns-clause-records
 returns-clause-records g c = λ plan limits moments old asked rounds new can run settles.
-    let all = settled_by_run g.S.SwitchCore.rule g.M.ManagerCore.rule g.H.HostCore.rule (booted plan limits) old new moments asked (Settled rounds) run settles in (
-      run_current g.S.SwitchCore.rule g.M.ManagerCore.rule g.H.HostCore.rule g.met.S.LooseSwitch.obeys g.met.M.LawfulManager.lawful g.met.H.HostCore.sends g.met.H.HostCore.owns plan limits all.0 new can all.1 settles.answered.0.queues,
-      run_links_current g.S.SwitchCore.rule g.M.ManagerCore.rule g.H.HostCore.rule g.met.S.LooseSwitch.obeys g.met.M.LawfulManager.lawful g.met.H.HostCore.sends g.met.H.HostCore.owns plan limits all.0 new can all.1 settles.answered.0.queues,
+    let all = settled_by_run g.S.SwitchLogic.rule g.M.ManagerLogic.rule g.H.HostLogic.rule (booted plan limits) old new moments asked (Settled rounds) run settles in (
+      run_current g.S.SwitchLogic.rule g.M.ManagerLogic.rule g.H.HostLogic.rule g.met.S.LooseSwitch.obeys g.met.M.LawfulManager.lawful g.met.H.HostLogic.sends g.met.H.HostLogic.owns plan limits all.0 new can all.1 settles.answered.0.queues,
+      run_links_current g.S.SwitchLogic.rule g.M.ManagerLogic.rule g.H.HostLogic.rule g.met.S.LooseSwitch.obeys g.met.M.LawfulManager.lawful g.met.H.HostLogic.sends g.met.H.HostLogic.owns plan limits all.0 new can all.1 settles.answered.0.queues,
     )
 
 pub returns-clause-placed : goal.returns-clause-placed
 returns-clause-placed g c = λ plan limits moments old asked rounds new can run settles.
-    let all = settled_by_run g.S.SwitchCore.rule g.M.ManagerCore.rule g.H.HostCore.rule (booted plan limits) old new moments asked (Settled rounds) run settles in
-    run_placed g.S.SwitchCore.rule g.M.ManagerCore.rule g.H.HostCore.rule g.met.S.LooseSwitch.obeys g.met.M.LawfulManager.lawful g.met.H.HostCore.sends g.met.H.HostCore.owns plan limits all.0 new can all.1 settles.answered.0
+    let all = settled_by_run g.S.SwitchLogic.rule g.M.ManagerLogic.rule g.H.HostLogic.rule (booted plan limits) old new moments asked (Settled rounds) run settles in
+    run_placed g.S.SwitchLogic.rule g.M.ManagerLogic.rule g.H.HostLogic.rule g.met.S.LooseSwitch.obeys g.met.M.LawfulManager.lawful g.met.H.HostLogic.sends g.met.H.HostLogic.owns plan limits all.0 new can all.1 settles.answered.0

@@ -4,5 +4,5 @@ use Rattle.pl_told.proofs.run_laws.frames_of_groups_arrive_well_in_every_run.Goa
 
 pub returns : goal.returns
 returns g c = λ plan limits can.
-    groups_are_well g.H.HostCore.rule g.met.H.HostCore.sends g.met.H.HostCore.owns g.met.H.HostCore.joins
-    (lawful_hosts_keep g.H.HostCore.rule g.met.H.LawfulHost.lawful) plan limits can
+    groups_are_well g.H.HostLogic.rule g.met.H.HostLogic.sends g.met.H.HostLogic.owns g.met.H.HostLogic.joins
+    (lawful_hosts_keep g.H.HostLogic.rule g.met.H.LawfulHost.lawful) plan limits can

@@ -5,5 +5,5 @@ use Rattle.pl_told.proofs.run_laws.the_manager_numbers_well_in_every_run.Goals a
 
 pub returns : goal.returns
 returns g c = λ plan limits moments new can run.
-    numbers_well new (run_keeps_all g.H.HostCore.rule g.met.H.HostCore.sends g.met.H.HostCore.owns plan limits moments new can run)
-    (entered_in_run g.H.HostCore.rule g.met.H.HostCore.sends g.met.H.HostCore.owns plan limits can moments new run)
+    numbers_well new (run_keeps_all g.H.HostLogic.rule g.met.H.HostLogic.sends g.met.H.HostLogic.owns plan limits moments new can run)
+    (entered_in_run g.H.HostLogic.rule g.met.H.HostLogic.sends g.met.H.HostLogic.owns plan limits can moments new run)

@@ -5,10 +5,10 @@ use Rattle.pl_told.proofs.run_laws.what_switches_know_is_so_in_every_run.Goals a
 
 pub returns-clause-addresses : goal.returns-clause-addresses
 returns-clause-addresses g c = λ plan limits moments new can run.
-    stands_on new (run_keeps_all g.H.HostCore.rule g.met.H.HostCore.sends g.met.H.HostCore.owns plan limits moments new can run)
-    (entered_in_run g.H.HostCore.rule g.met.H.HostCore.sends g.met.H.HostCore.owns plan limits can moments new run)
+    stands_on new (run_keeps_all g.H.HostLogic.rule g.met.H.HostLogic.sends g.met.H.HostLogic.owns plan limits moments new can run)
+    (entered_in_run g.H.HostLogic.rule g.met.H.HostLogic.sends g.met.H.HostLogic.owns plan limits can moments new run)
 
 pub returns-clause-hosts : goal.returns-clause-hosts
 returns-clause-hosts g c = λ plan limits moments new can run.
-    stands_on_hosts new (run_keeps_all g.H.HostCore.rule g.met.H.HostCore.sends g.met.H.HostCore.owns plan limits moments new can run)
-    (entered_in_run g.H.HostCore.rule g.met.H.HostCore.sends g.met.H.HostCore.owns plan limits can moments new run)
+    stands_on_hosts new (run_keeps_all g.H.HostLogic.rule g.met.H.HostLogic.sends g.met.H.HostLogic.owns plan limits moments new can run)
+    (entered_in_run g.H.HostLogic.rule g.met.H.HostLogic.sends g.met.H.HostLogic.owns plan limits can moments new run)

@@ -6,8 +6,8 @@ use Rattle.pl_trees.proofs.tree_laws.one_copy_arrives_at_each_port_in_every_run.
 pub returns : goal.returns
 returns g c = record {
   frames = λ plan limits moments new r there can run. came_at_most_once new
-      (run_once g.H.HostCore.rule g.met.H.HostCore.sends g.met.H.HostCore.owns plan limits moments new can run).come r there;
+      (run_once g.H.HostLogic.rule g.met.H.HostLogic.sends g.met.H.HostLogic.owns plan limits moments new can run).come r there;
   copies = λ plan limits moments new r there can run.
-      let most = came_at_most_once new (run_once g.H.HostCore.rule g.met.H.HostCore.sends g.met.H.HostCore.owns plan limits moments new can run).come r there in
+      let most = came_at_most_once new (run_once g.H.HostLogic.rule g.met.H.HostLogic.sends g.met.H.HostLogic.owns plan limits moments new can run).come r there in
       omega (arith, most, copies_at_most_came new.plan (reverse new.journal) r there);
 }

@@ -4,8 +4,8 @@ use Rattle.pl_trees.proofs.tree_laws.parts_of_trees_lead_down_in_every_run.Goals
 
 pub returns : goal.returns
 returns g c = record {
-  trees = λ plan limits moments new can run. (run_once g.H.HostCore.rule g.met.H.HostCore.sends g.met.H.HostCore.owns plan limits moments new can run).trees;
+  trees = λ plan limits moments new can run. (run_once g.H.HostLogic.rule g.met.H.HostLogic.sends g.met.H.HostLogic.owns plan limits moments new can run).trees;
   around = λ plan limits moments new can run. know_trees new
-      (run_keeps_all g.H.HostCore.rule g.met.H.HostCore.sends g.met.H.HostCore.owns plan limits moments new can run)
-      (run_once g.H.HostCore.rule g.met.H.HostCore.sends g.met.H.HostCore.owns plan limits moments new can run).trees;
+      (run_keeps_all g.H.HostLogic.rule g.met.H.HostLogic.sends g.met.H.HostLogic.owns plan limits moments new can run)
+      (run_once g.H.HostLogic.rule g.met.H.HostLogic.sends g.met.H.HostLogic.owns plan limits moments new can run).trees;
 }

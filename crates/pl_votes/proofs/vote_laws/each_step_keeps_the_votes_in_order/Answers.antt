@@ -10,7 +10,7 @@ use Rattle.pl_votes.proofs.vote_laws.each_step_keeps_the_votes_in_order.Goals as
 
 pub returns : goal.returns
 returns g c = λ old event new counted hosts can none step votes.
-    let taken = step_in_plane Loose g.M.ManagerCore.rule g.H.HostCore.rule loose_steps_are_accounted old event new counted hosts none step in
+    let taken = step_in_plane Loose g.M.ManagerLogic.rule g.H.HostLogic.rule loose_steps_are_accounted old event new counted hosts none step in
     let after = control_plane new in
-    subst (λ (plan : Plan). IsVoting plan after.view after.says) (sym (plane_plan g.M.ManagerCore.rule (control_plane old) after taken))
-    (plane_votes g.M.ManagerCore.rule (control_plane old) after can votes taken)
+    subst (λ (plan : Plan). IsVoting plan after.view after.says) (sym (plane_plan g.M.ManagerLogic.rule (control_plane old) after taken))
+    (plane_votes g.M.ManagerLogic.rule (control_plane old) after can votes taken)

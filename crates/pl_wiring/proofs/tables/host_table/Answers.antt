@@ -1,12 +1,12 @@
 use Rattle.std.proofs.Common.{◌≡◌, ◌*◌, length, arith, sym}
 use Rattle.pl_wiring.specs.Labels.{switch_count}
-use Rattle.pl_wiring.proofs.Entered.{enter_host, host_place}
+use Rattle.pl_wiring.proofs.Entered.{enter_host, host_within}
 use Rattle.pl_wiring.proofs.tables.host_table.Goals as goal
 
 pub index_mut-requires : goal.index_mut-requires
 index_mut-requires c =
-    let place = host_place c.args.k c.loop-number.number c.args.hosts.now c.index-hosts-number.result c.requires.in_range c.loop-number-test.true c.index-hosts-number.is in
-    omega (arith, place, c.index_in_table.ensures)
+    let index = host_within c.args.k c.loop-number.number c.args.hosts.now c.index-hosts-number.result c.requires.in_range c.loop-number-test.true c.index-hosts-number.is in
+    omega (arith, index, c.index_in_table.ensures)
 
 pub loop-number-preserved : goal.loop-number-preserved
 loop-number-preserved c =

@@ -1,18 +1,18 @@
 use Rattle.std.proofs.Common.{◌≡◌, ◌*◌, length, arith}
 use Rattle.pl_wiring.specs.Labels.{switch_count}
-use Rattle.pl_wiring.proofs.Entered.{enter_link, link_places}
+use Rattle.pl_wiring.proofs.Entered.{enter_link, link_within}
 use Rattle.pl_wiring.proofs.LinkOrder.{no_link}
 use Rattle.pl_wiring.proofs.tables.link_table.Goals as goal
 
 pub index_mut-requires : goal.index_mut-requires
 index_mut-requires c =
-    let places = link_places c.args.k c.loop-number.number c.args.links.now no_link c.requires.tree c.loop-number-test.true in
-    omega (arith, places.0, c.index_in_table.ensures)
+    let indices = link_within c.args.k c.loop-number.number c.args.links.now no_link c.requires.tree c.loop-number-test.true in
+    omega (arith, indices.0, c.index_in_table.ensures)
 
 pub index_mut-requires-in-loop-number : goal.index_mut-requires-in-loop-number
 index_mut-requires-in-loop-number c =
-    let places = link_places c.args.k c.loop-number.number c.args.links.now no_link c.requires.tree c.loop-number-test.true in
-    omega (arith, places.1, c.index_in_table-in-loop-number.ensures)
+    let indices = link_within c.args.k c.loop-number.number c.args.links.now no_link c.requires.tree c.loop-number-test.true in
+    omega (arith, indices.1, c.index_in_table-in-loop-number.ensures)
 
 pub loop-number-preserved : goal.loop-number-preserved
 loop-number-preserved c =

@@ -5,5 +5,5 @@ use Rattle.pl_world.proofs.world_laws.each_run_keeps_its_frames_in_order.Goals a
 
 pub returns : goal.returns
 returns g c = λ plan limits moments new can.
-    run_is_counted g.S.SwitchCore.rule g.M.ManagerCore.rule g.H.HostCore.rule g.met.S.SwitchCore.accounts g.met.H.HostCore.sends
+    run_is_counted g.S.SwitchLogic.rule g.M.ManagerLogic.rule g.H.HostLogic.rule g.met.S.SwitchLogic.accounts g.met.H.HostLogic.sends
     (booted plan limits) moments new (booted_is_counted plan limits can)

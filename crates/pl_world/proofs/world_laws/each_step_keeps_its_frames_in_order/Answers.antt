@@ -2,4 +2,4 @@ use Rattle.pl_world.proofs.StepBalances.{step_is_counted}
 use Rattle.pl_world.proofs.world_laws.each_step_keeps_its_frames_in_order.Goals as goal
 
 pub returns : goal.returns
-returns g c = step_is_counted g.S.SwitchCore.rule g.M.ManagerCore.rule g.H.HostCore.rule g.met.S.SwitchCore.accounts g.met.H.HostCore.sends
+returns g c = step_is_counted g.S.SwitchLogic.rule g.M.ManagerLogic.rule g.H.HostLogic.rule g.met.S.SwitchLogic.accounts g.met.H.HostLogic.sends

@@ -17,7 +17,7 @@ returns-clause-kept g c = sizes_kept g.S.SwitchFacts.view c.args.switches.now.it
 
 pub returns-clause-step : goal.returns-clause-step
 returns-clause-step g c = switch_steps g.S.SwitchFacts.view c.args.switches.now.items c.args.s c.index_mut.result.now c.hear.new.switch c.index.result.now
-    c.index-2.result.now g.S.SwitchCore.rule (input_from c.args.incoming) c.place-old.result c.place.result c.args.out.now c.hear.new.out (let ok = c.args.switches.now.ok in let r = c.requires.within in omega arith) c.index_mut.ensures.value
+    c.index-2.result.now g.S.SwitchLogic.rule (input_from c.args.incoming) c.place-old.result c.place.result c.args.out.now c.hear.new.out (let ok = c.args.switches.now.ok in let r = c.requires.within in omega arith) c.index_mut.ensures.value
     c.index.ensures c.index-2.ensures c.place-old.ensures c.place.ensures c.in_ok-hear.ensures.step
 
 pub returns-in_err-hear-clause-others : goal.returns-in_err-hear-clause-others

@@ -8,6 +8,6 @@ invariant-loop-item g l =
     record {
       ready : (goal.iterator-loop-item g).can_next l.item-iterator;
       ends : (goal.iterator-loop-item g).is_finite l.item-iterator;
-      counted : l.count + count_by (is_stale (g.S.SwitchFacts.view l.core) l.port) l.item-iterator ≡ count_by (is_stale (g.S.SwitchFacts.view l.core) l.port) l.fn.items;
+      counted : l.count + count_by (is_stale (g.S.SwitchFacts.view l.device) l.port) l.item-iterator ≡ count_by (is_stale (g.S.SwitchFacts.view l.device) l.port) l.fn.items;
       few : l.count + length l.item-iterator < 2 ^ 64;
     }

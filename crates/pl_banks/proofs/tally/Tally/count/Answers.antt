@@ -1,6 +1,6 @@
 use Rattle.std.proofs.Common.{length, ◌∙◌, ap, arith}
 use Rattle.std.proofs.lemmas.List.{get_or_read}
-use Rattle.pl_banks.specs.Tallies.{marked_places}
+use Rattle.pl_banks.specs.Tallies.{marked_indices}
 use Rattle.pl_banks.proofs.TallySums.{count_is, root_there}
 use Rattle.pl_banks.proofs.tally.Tally.count.Goals as goal
 
@@ -13,4 +13,4 @@ index-requires c =
 pub returns : goal.returns
 returns c =
     get_or_read c.self.inside.tree.items 1 c.index.result.now (root_there _ _ _ _ c.self.invariant) c.index.ensures 0
-    ∙ count_is _ _ _ _ c.self.invariant ∙ ap (λ marks. length (marked_places marks)) c.self.view_is
+    ∙ count_is _ _ _ _ c.self.invariant ∙ ap (λ marks. length (marked_indices marks)) c.self.view_is

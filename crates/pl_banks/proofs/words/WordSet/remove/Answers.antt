@@ -1,29 +1,29 @@
 use Rattle.std.proofs.Common.{◌∙◌, ◌/◌, length, false, slice_set, slice_index, sym, ap, subst, arith}
 use Rattle.std.proofs.lemmas.List.{length-set, get_or_read}
 use Rattle.pl_banks.specs.Bits.{marks_of, IsTwoLevel}
-use Rattle.pl_banks.proofs.Marks.{bit_cleared, place_below, room_for, room_above_for, marks_of-bit_cleared, IsTwoLevel-cleared, IsTwoLevel-cleared_both}
+use Rattle.pl_banks.proofs.Marks.{bit_cleared, index_below, room_for, room_above_for, marks_of-bit_cleared, IsTwoLevel-cleared, IsTwoLevel-cleared_both}
 use Rattle.pl_banks.proofs.words.WordSet.remove.Goals as goal
 
 pub clear_bit-requires : goal.clear_bit-requires
 clear_bit-requires c =
-    let below = place_below c.self.inside.words.items c.self.inside.len c.args.at _ c.self.view_is c.requires in
+    let below = index_below c.self.inside.words.items c.self.inside.len c.args.at _ c.self.view_is c.requires in
     room_for _ _ _ c.args.at c.self.invariant below
 
 pub index-requires : goal.index-requires
 index-requires c =
-    let below = place_below c.self.inside.words.items c.self.inside.len c.args.at _ c.self.view_is c.requires in
+    let below = index_below c.self.inside.words.items c.self.inside.len c.args.at _ c.self.view_is c.requires in
     let room = room_for _ _ _ c.args.at c.self.invariant below in
     let many = ap length c.clear_bit.ensures ∙ length-set _ _ _ in
     omega arith
 
 pub clear_bit-requires-then-index-eq0 : goal.clear_bit-requires-then-index-eq0
 clear_bit-requires-then-index-eq0 c =
-    let below = place_below c.self.inside.words.items c.self.inside.len c.args.at _ c.self.view_is c.requires in
+    let below = index_below c.self.inside.words.items c.self.inside.len c.args.at _ c.self.view_is c.requires in
     room_above_for _ _ _ c.args.at c.self.invariant below
 
 pub invariant_of-self : goal.invariant_of-self
 invariant_of-self c =
-    let below = place_below c.self.inside.words.items c.self.inside.len c.args.at _ c.self.view_is c.requires in
+    let below = index_below c.self.inside.words.items c.self.inside.len c.args.at _ c.self.view_is c.requires in
     let room = room_for _ _ _ c.args.at c.self.invariant below in
     let many = ap length c.clear_bit.ensures ∙ length-set _ _ _ in
     let read = get_or_read c.clear_bit.new.words.items (c.args.at / 64) c.index.result.now (omega arith) c.index.ensures 0 in
@@ -34,7 +34,7 @@ invariant_of-self c =
 
 pub invariant_of-self-else-index-eq0 : goal.invariant_of-self-else-index-eq0
 invariant_of-self-else-index-eq0 c =
-    let below = place_below c.self.inside.words.items c.self.inside.len c.args.at _ c.self.view_is c.requires in
+    let below = index_below c.self.inside.words.items c.self.inside.len c.args.at _ c.self.view_is c.requires in
     let room = room_for _ _ _ c.args.at c.self.invariant below in
     let many = ap length c.clear_bit.ensures ∙ length-set _ _ _ in
     let read = get_or_read c.clear_bit.new.words.items (c.args.at / 64) c.index.result.now (omega arith) c.index.ensures 0 in
@@ -44,14 +44,14 @@ invariant_of-self-else-index-eq0 c =
 
 pub returns-then-index-eq0 : goal.returns-then-index-eq0
 returns-then-index-eq0 c =
-    let below = place_below c.self.inside.words.items c.self.inside.len c.args.at _ c.self.view_is c.requires in
+    let below = index_below c.self.inside.words.items c.self.inside.len c.args.at _ c.self.view_is c.requires in
     ap (λ words. marks_of words c.self.inside.len) c.clear_bit.ensures
     ∙ marks_of-bit_cleared _ _ _ c.args.at c.self.invariant below
     ∙ ap (λ marks. slice_set marks c.args.at false) c.self.view_is
 
 pub returns-else-index-eq0 : goal.returns-else-index-eq0
 returns-else-index-eq0 c =
-    let below = place_below c.self.inside.words.items c.self.inside.len c.args.at _ c.self.view_is c.requires in
+    let below = index_below c.self.inside.words.items c.self.inside.len c.args.at _ c.self.view_is c.requires in
     ap (λ words. marks_of words c.self.inside.len) c.clear_bit.ensures
     ∙ marks_of-bit_cleared _ _ _ c.args.at c.self.invariant below
     ∙ ap (λ marks. slice_set marks c.args.at false) c.self.view_is

@@ -1,7 +1,7 @@
 use Rattle.std.proofs.Common.{sym, ◌∙◌, ap, arith}
 use Rattle.std.proofs.lemmas.Result.{err_from_is_err_and}
 use Rattle.pl_capture.proofs.Standing.{read_as}
-use Rattle.pl_capture.proofs.Places.{HasRead-push, HasRead-ended, HasRead-refused, record_at-room}
+use Rattle.pl_capture.proofs.Cursors.{HasRead-push, HasRead-ended, HasRead-refused, record_at-room}
 use Rattle.pl_capture.proofs.records.Records.next.Goals as goal
 
 pub returns-in_err-found-clause-refused : goal.returns-in_err-found-clause-refused

@@ -1,6 +1,6 @@
 use Rattle.std.proofs.Common.{◌≡◌, ◌∙◌, Some, ap, arith, length, subst, sym}
 use Rattle.std.proofs.lemmas.List.{with_items_is}
-use Rattle.pl_core.specs.PortRecords.{ports_of_switch}
+use Rattle.pl_logic.specs.PortRecords.{ports_of_switch}
 use Rattle.pl_steps.specs.Taken.{IsTaken}
 use Rattle.pl_switch_rule.specs.Granting.{grants_remembered}
 use Rattle.pl_migrate.specs.Books.{BookView, edge_at, empty_book, sources_in}

@@ -1,5 +1,5 @@
 use Rattle.std.proofs.Common.{◌≡◌, ◌∙◌, false, sym, ap, subst}
-use Rattle.pl_core.specs.SwitchViews.{SwitchView}
+use Rattle.pl_logic.specs.SwitchViews.{SwitchView}
 use Rattle.pl_layouts.specs.Frames.{packet_in}
 use Rattle.pl_switch_rule.specs.Intake.{sends_in}
 use Rattle.pl_migrate.specs.Books.{book_in}

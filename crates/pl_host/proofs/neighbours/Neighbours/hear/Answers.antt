@@ -1,6 +1,6 @@
 use Rattle.std.proofs.Common.{◌∙◌, List, ℕ, map, sym, ap, not, is_some}
 use Rattle.pl_frame.specs.Ethernet.{with_destination}
-use Rattle.pl_core.specs.HostViews.{Held}
+use Rattle.pl_logic.specs.HostViews.{Held}
 use Rattle.pl_host.specs.Waiting.{are_unknown}
 use Rattle.pl_host.proofs.Releasing.{released_by-heard, released_by-unknown, still_held-heard, still_held-unknown, unknown-still_held, unknown-unheard}
 use Rattle.pl_host.proofs.neighbours.Neighbours.hear.Goals as goal

@@ -1,6 +1,6 @@
 use Rattle.std.proofs.Common.{◌∙◌, ap}
 use Rattle.std.proofs.lemmas.Result.{on_err_weaker, on_ok_weaker}
-use Rattle.pl_core.specs.HostViews.{Held}
+use Rattle.pl_logic.specs.HostViews.{Held}
 use Rattle.pl_host.specs.Waiting.{are_unknown}
 use Rattle.pl_host.proofs.Holding.{on_either, unknown-with_held}
 use Rattle.pl_host.proofs.neighbours.Neighbours.hold.Goals as goal

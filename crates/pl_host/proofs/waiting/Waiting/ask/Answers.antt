@@ -1,8 +1,8 @@
 use Rattle.std.proofs.Common.{◌∙◌, ◌++◌, map, sym, ap}
 use Rattle.std.specs.Map.{keys_of}
 use Rattle.std.proofs.lemmas.List.{append-nil}
-use Rattle.pl_core.specs.declared.acts.HostAct.TheVariants.{Send}
-use Rattle.pl_core.specs.HostViews.{Held}
+use Rattle.pl_logic.specs.declared.acts.HostAct.TheVariants.{Send}
+use Rattle.pl_logic.specs.HostViews.{Held}
 use Rattle.pl_host_rule.specs.HostRule.{request_frame}
 use Rattle.pl_host.proofs.Stepping.{asks}
 use Rattle.pl_host.proofs.waiting.Waiting.ask.Goals as goal

@@ -1,6 +1,6 @@
 use Rattle.std.proofs.Common.{◌∙◌, sym, ap, length}
 use Rattle.std.specs.List.{sum_by}
-use Rattle.pl_core.specs.HostViews.{Held}
+use Rattle.pl_logic.specs.HostViews.{Held}
 use Rattle.pl_host.proofs.Holding.{count-entries}
 use Rattle.pl_host.proofs.waiting.Waiting.count.Goals as goal
 

@@ -3,7 +3,7 @@ use Rattle.std.specs.List.{sum_by}
 use Rattle.std.specs.Map.{values_of}
 use Rattle.std.specs.BTreeMap.{is_at}
 use Rattle.std.proofs.lemmas.Map.Entries.{sum_by-remove_entry}
-use Rattle.pl_core.specs.HostViews.{Held, ip_cmp}
+use Rattle.pl_logic.specs.HostViews.{Held, ip_cmp}
 use Rattle.pl_host.proofs.waiting.Waiting.take.Goals as goal
 
 pub overflow_sub-self : goal.overflow_sub-self

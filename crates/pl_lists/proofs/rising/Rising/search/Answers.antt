@@ -1,6 +1,6 @@
-use Rattle.std.proofs.Common.{length, subst, ◌∙◌, ◌<◌, ◌≤◌, Ok, Err}
+use Rattle.std.proofs.Common.{◌≡◌, arith, length, subst, ◌∙◌, ◌<◌, ◌≤◌, Ok, Err}
 use Rattle.std.specs.List.Sorted.{IsStrictlySortedBy, IsBinarySearchResult}
-use Rattle.pl_lists.proofs.Insertion.{found_inserts_nothing, missed_inserts, tells_member, insert_key_rises}
+use Rattle.pl_lists.proofs.Insertion.{goes_last, found_inserts_nothing, missed_inserts, tells_member, insert_key_rises}
 use Rattle.pl_lists.proofs.rising.Rising.search.Goals as goal
 
 pub returns-in-Ok : goal.returns-in-Ok
@@ -25,7 +25,7 @@ pub returns-in-Err : goal.returns-in-Err
 returns-in-Err g c =
     let list = c.args.self.now in
     let x = c.args.item.now in
-    let i = c.in-Err.place in
+    let i = c.in-Err.index in
     let total = g.met.T.Ord.total in
     let sorted = subst (IsStrictlySortedBy g.T.Ord.cmp) c.self.view_is c.self.invariant in
     let seen = c.deref.ensures.value ∙ c.self.view_is in
@@ -37,4 +37,19 @@ returns-in-Err g c =
       missed = missed_inserts total x list sorted (Err i) bound position;
       member = tells_member total x list sorted (Err i) bound position;
       rising = insert_key_rises total x list sorted;
+    }
+
+pub returns-then-ends_below : goal.returns-then-ends_below
+returns-then-ends_below g c =
+    let list = c.args.self.now in
+    let x = c.args.item.now in
+    let total = g.met.T.Ord.total in
+    let last = goes_last total x list (c.ends_below.ensures.below c.if-ends_below.true) in
+    let many : c.len.result ≡ length list = c.len.ensures in
+    record {
+      found = tt;
+      bound = omega (arith, many);
+      missed = rw many last.0;
+      member = last.1;
+      rising = insert_key_rises total x list c.ends_below.ensures.rising;
     }

@@ -3,7 +3,7 @@ use Rattle.std.specs.List.{All}
 use Rattle.std.specs.Ordering.{is_eq}
 use Rattle.std.proofs.lemmas.Map.Views.{All-remove_key}
 use Rattle.std.specs.Set.{remove_key}
-use Rattle.pl_core.specs.declared.switch_records.Member.{Member}
+use Rattle.pl_logic.specs.declared.switch_records.Member.{Member}
 use Rattle.pl_switch_rule.specs.Intake.{leaves, member_cmp}
 use Rattle.pl_members.specs.Reached.{IsAtPort}
 use Rattle.pl_members.proofs.Removing.{removed_leaves}

@@ -1,6 +1,6 @@
 use Rattle.std.proofs.Common.{◌≤◌, ◌+◌, List, length, ap, ◌∙◌, arith}
 use Rattle.std.specs.List.{sum_by}
-use Rattle.pl_core.specs.declared.switch_records.Grant.{Grant}
+use Rattle.pl_logic.specs.declared.switch_records.Grant.{Grant}
 use Rattle.pl_migrate.specs.Books.{BookView}
 use Rattle.pl_migrate.proofs.Counted.{all_counted, counted_first, counted_more}
 use Rattle.pl_migrate.proofs.address_book.AddressBook.addresses.Goals as goal

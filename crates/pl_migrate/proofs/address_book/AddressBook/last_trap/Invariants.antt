@@ -1,5 +1,5 @@
 use Rattle.std.proofs.Common.{◌≡◌}
-use Rattle.pl_core.specs.SwitchViews.{SwitchView}
+use Rattle.pl_logic.specs.SwitchViews.{SwitchView}
 use Rattle.pl_switch_rule.specs.Delivering.{last_trap}
 use Rattle.pl_migrate.specs.Books.{book_in}
 use Rattle.pl_migrate.proofs.address_book.AddressBook.last_trap.Given as goal

@@ -1,5 +1,5 @@
 use Rattle.std.proofs.Common.{◌≡◌, Some, refl, sym, ap, subst, ◌∙◌}
-use Rattle.pl_core.specs.declared.switch_records.Grant.{Grant}
+use Rattle.pl_logic.specs.declared.switch_records.Grant.{Grant}
 use Rattle.pl_migrate.specs.Books.{BookView, address_in_use, granted_in}
 use Rattle.pl_migrate.specs.Keeping.{KeepsGrants, KeepsTraps}
 use Rattle.pl_migrate.proofs.Granted.{keeps_changed, traps_changed, used_changed}

@@ -1,7 +1,7 @@
 use Rattle.std.proofs.Common.{subst}
 use Rattle.std.specs.Prelude.{◌↔◌, IsTrue}
-use Rattle.pl_core.specs.SwitchFacts.{IsAnnounced}
-use Rattle.pl_core.specs.SwitchViews.{SwitchView}
+use Rattle.pl_logic.specs.SwitchFacts.{IsAnnounced}
+use Rattle.pl_logic.specs.SwitchViews.{SwitchView}
 use Rattle.pl_plain.specs.PlainViews.{plain_view}
 use Rattle.pl_plain.proofs.facts.PlainStateSwitchFacts.announces.Goals as goal
 

@@ -1,6 +1,6 @@
 use Rattle.std.proofs.Common.{◌∙◌, ap}
-use Rattle.pl_core.specs.SwitchFacts.{has_granted}
-use Rattle.pl_core.specs.SwitchViews.{SwitchView}
+use Rattle.pl_logic.specs.SwitchFacts.{has_granted}
+use Rattle.pl_logic.specs.SwitchViews.{SwitchView}
 use Rattle.pl_plain.specs.PlainViews.{plain_view}
 use Rattle.pl_plain.proofs.facts.PlainStateSwitchFacts.granted.Goals as goal
 

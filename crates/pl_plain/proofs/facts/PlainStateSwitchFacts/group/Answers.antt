@@ -1,8 +1,8 @@
 use Rattle.std.proofs.Common.{◌∙◌, ap}
 use Rattle.std.proofs.lemmas.Iterator.Consumers.{nth_from_yields_List, YieldsList-from_rest}
 use Rattle.std.proofs.lemmas.Option.{slice_get-map}
-use Rattle.pl_core.specs.SwitchFacts.{group_of_part}
-use Rattle.pl_core.specs.SwitchViews.{SwitchView}
+use Rattle.pl_logic.specs.SwitchFacts.{group_of_part}
+use Rattle.pl_logic.specs.SwitchViews.{SwitchView}
 use Rattle.pl_plain.proofs.facts.PlainStateSwitchFacts.group.Goals as goal
 
 pub returns : goal.returns

@@ -1,6 +1,6 @@
 use Rattle.std.proofs.Common.{◌/◌, ap, sym, ◌∙◌}
 use Rattle.pl_edge.proofs.Delivered.{on_ok}
-use Rattle.pl_core.specs.SwitchViews.{SwitchView}
+use Rattle.pl_logic.specs.SwitchViews.{SwitchView}
 use Rattle.pl_layouts.specs.Placement.{is_known}
 use Rattle.pl_ports.specs.Changes.{takes_host, with_host}
 use Rattle.pl_ports.specs.PortsViews.{PortsView, ports_alone}

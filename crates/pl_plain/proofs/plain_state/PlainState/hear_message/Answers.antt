@@ -1,6 +1,6 @@
 use Rattle.std.proofs.Common.{◌/◌, ap, sym, ◌∙◌}
 use Rattle.pl_edge.proofs.Delivered.{on_ok}
-use Rattle.pl_core.specs.SwitchViews.{SwitchView}
+use Rattle.pl_logic.specs.SwitchViews.{SwitchView}
 use Rattle.pl_switch_rule.specs.Levels.{after_message}
 use Rattle.pl_ports.specs.PortsViews.{ports_alone}
 use Rattle.pl_plain.specs.PlainViews.{plain_view}

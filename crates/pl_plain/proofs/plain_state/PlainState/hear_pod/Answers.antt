@@ -1,6 +1,6 @@
 use Rattle.std.proofs.Common.{◌≡◌, ◌/◌, ap, sym, ◌∙◌, subst}
 use Rattle.pl_edge.proofs.Delivered.{on_ok}
-use Rattle.pl_core.specs.SwitchViews.{SwitchView}
+use Rattle.pl_logic.specs.SwitchViews.{SwitchView}
 use Rattle.pl_switch_rule.specs.Levels.{with_pod}
 use Rattle.pl_switch_rule.specs.Messages.{takes_pod}
 use Rattle.pl_ports.specs.PortsViews.{PortsView, ports_alone}

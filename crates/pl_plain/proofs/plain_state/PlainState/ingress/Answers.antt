@@ -1,5 +1,5 @@
 use Rattle.std.proofs.Common.{◌∙◌, ap}
-use Rattle.pl_core.specs.SwitchViews.{SwitchView}
+use Rattle.pl_logic.specs.SwitchViews.{SwitchView}
 use Rattle.pl_layouts.specs.Placement.{is_known}
 use Rattle.pl_plain.proofs.Agreeing.{may_be}
 use Rattle.pl_plain.proofs.Tables.{begun_by_table, same_book_at, same_parts, stands}

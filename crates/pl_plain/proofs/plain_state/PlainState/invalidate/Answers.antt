@@ -1,5 +1,5 @@
 use Rattle.std.proofs.Common.{◌∙◌, ap}
-use Rattle.pl_core.specs.SwitchViews.{SwitchView}
+use Rattle.pl_logic.specs.SwitchViews.{SwitchView}
 use Rattle.pl_layouts.specs.Placement.{is_known}
 use Rattle.pl_switch_rule.specs.Granting.{granted}
 use Rattle.pl_switch_rule.specs.Messages.{invalidates}

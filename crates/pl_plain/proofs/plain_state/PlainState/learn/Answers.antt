@@ -1,7 +1,7 @@
 use Rattle.std.proofs.Common.{ap, ◌∙◌}
 use Rattle.pl_edge.proofs.Delivered.{on_ok}
 use Rattle.pl_frame.specs.Ethernet.{source_of}
-use Rattle.pl_core.specs.SwitchViews.{SwitchView}
+use Rattle.pl_logic.specs.SwitchViews.{SwitchView}
 use Rattle.pl_layouts.specs.Placement.{is_known}
 use Rattle.pl_switch_rule.specs.Granting.{has_no_address, learns_source}
 use Rattle.pl_plain.specs.PlainViews.{plain_view, HasBookAt}

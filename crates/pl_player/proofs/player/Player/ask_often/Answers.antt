@@ -9,7 +9,7 @@ use Rattle.pl_player.proofs.player.Player.ask_often.Goals as goal
 pub loop-init : goal.loop-init
 loop-init g c = (
   record { counted = c.requires.counted; hearing = c.requires.hearing },
-  λ left all. leads_all (λ n. Often n (AsksNext g.S.SwitchCore.rule g.M.ManagerCore.rule g.H.HostCore.rule (records_of c.args.captures.now) c.args.h c.args.raw)) c.args.times left c.args.self.now all,
+  λ left all. leads_all (λ n. Often n (AsksNext g.S.SwitchLogic.rule g.M.ManagerLogic.rule g.H.HostLogic.rule (records_of c.args.captures.now) c.args.h c.args.raw)) c.args.times left c.args.self.now all,
 )
 
 pub ask_next-requires-clause-counted : goal.ask_next-requires-clause-counted
@@ -21,9 +21,9 @@ ask_next-requires-clause-hearing g c = c.loop.invariant.0.hearing
 pub loop-preserved : goal.loop-preserved
 loop-preserved g c = (
   record { counted = c.in_ok-ask_next.ensures.counted; hearing = c.in_ok-ask_next.ensures.hearing },
-  λ left all. led_on (AsksNext g.S.SwitchCore.rule g.M.ManagerCore.rule g.H.HostCore.rule (records_of c.args.captures.now) c.args.h c.args.raw)
-      (Often left (AsksNext g.S.SwitchCore.rule g.M.ManagerCore.rule g.H.HostCore.rule (records_of c.args.captures.now) c.args.h c.args.raw))
-      (Often c.args.times (AsksNext g.S.SwitchCore.rule g.M.ManagerCore.rule g.H.HostCore.rule (records_of c.args.captures.now) c.args.h c.args.raw))
+  λ left all. led_on (AsksNext g.S.SwitchLogic.rule g.M.ManagerLogic.rule g.H.HostLogic.rule (records_of c.args.captures.now) c.args.h c.args.raw)
+      (Often left (AsksNext g.S.SwitchLogic.rule g.M.ManagerLogic.rule g.H.HostLogic.rule (records_of c.args.captures.now) c.args.h c.args.raw))
+      (Often c.args.times (AsksNext g.S.SwitchLogic.rule g.M.ManagerLogic.rule g.H.HostLogic.rule (records_of c.args.captures.now) c.args.h c.args.raw))
       c.loop.self c.ask_next.new.self c.args.self.now (c.loop.invariant.1 (suc left) (omega arith)) c.in_ok-ask_next.ensures.does,
 )
 
@@ -34,9 +34,9 @@ returns-in_err-ask_next g c =
     let all : suc left + c.loop.counter ≡ c.args.times = omega arith in
     rw (p.1, p.2) (record {
       does = unless_weaker c.in_err-ask_next.field-0.0 _ _
-          (led_stops (AsksNext g.S.SwitchCore.rule g.M.ManagerCore.rule g.H.HostCore.rule (records_of c.args.captures.now) c.args.h c.args.raw)
-          (Often left (AsksNext g.S.SwitchCore.rule g.M.ManagerCore.rule g.H.HostCore.rule (records_of c.args.captures.now) c.args.h c.args.raw))
-          (Often c.args.times (AsksNext g.S.SwitchCore.rule g.M.ManagerCore.rule g.H.HostCore.rule (records_of c.args.captures.now) c.args.h c.args.raw))
+          (led_stops (AsksNext g.S.SwitchLogic.rule g.M.ManagerLogic.rule g.H.HostLogic.rule (records_of c.args.captures.now) c.args.h c.args.raw)
+          (Often left (AsksNext g.S.SwitchLogic.rule g.M.ManagerLogic.rule g.H.HostLogic.rule (records_of c.args.captures.now) c.args.h c.args.raw))
+          (Often c.args.times (AsksNext g.S.SwitchLogic.rule g.M.ManagerLogic.rule g.H.HostLogic.rule (records_of c.args.captures.now) c.args.h c.args.raw))
           c.loop.self c.ask_next.new.self c.args.self.now c.in_err-ask_next.field-0.0 (c.loop.invariant.1 (suc left) all))
           c.in_err-ask_next.ensures.does;
       counted = c.in_err-ask_next.ensures.counted;

@@ -9,5 +9,5 @@ abbrev pub invariant-loop : goal.invariant-loop
 invariant-loop g l =
     Keeps l.self
     × ((left : ℕ) → left + l.counter ≡ l.times →
-    Leads (Often left (AsksNext g.S.SwitchCore.rule g.M.ManagerCore.rule g.H.HostCore.rule (records_of l.captures) l.h l.raw)) l.self
-    (Often l.times (AsksNext g.S.SwitchCore.rule g.M.ManagerCore.rule g.H.HostCore.rule (records_of l.captures) l.h l.raw)) l.initial.self)
+    Leads (Often left (AsksNext g.S.SwitchLogic.rule g.M.ManagerLogic.rule g.H.HostLogic.rule (records_of l.captures) l.h l.raw)) l.self
+    (Often l.times (AsksNext g.S.SwitchLogic.rule g.M.ManagerLogic.rule g.H.HostLogic.rule (records_of l.captures) l.h l.raw)) l.initial.self)

@@ -7,5 +7,5 @@ use Rattle.pl_player.proofs.player.Player.deliver.Goals as goal
 
 pub returns-clause-does : goal.returns-clause-does
 returns-clause-does g c =
-    subst (λ (e : Event). Ends c.happen.result (λ end. Happen g.S.SwitchCore.rule g.M.ManagerCore.rule g.H.HostCore.rule (e ∷ []) c.args.self.now end c.happen.new.self))
+    subst (λ (e : Event). Ends c.happen.result (λ end. Happen g.S.SwitchLogic.rule g.M.ManagerLogic.rule g.H.HostLogic.rule (e ∷ []) c.args.self.now end c.happen.new.self))
     (c.delivery-event.ensures ∙ ap delivery c.queue_between.ensures) c.happen.ensures.does

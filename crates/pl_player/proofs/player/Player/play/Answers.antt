@@ -15,26 +15,26 @@ play_line-requires-clause-hearing g c = c.loop-line.invariant.0.hearing
 pub loop-line-init : goal.loop-line-init
 loop-line-init g c = (
   record { counted = c.requires.counted; hearing = c.requires.hearing },
-  from_here (DoesLines g.S.SwitchCore.rule g.M.ManagerCore.rule g.H.HostCore.rule (records_of c.args.captures.now) c.args.lines.now) c.args.self.now,
+  from_here (DoesLines g.S.SwitchLogic.rule g.M.ManagerLogic.rule g.H.HostLogic.rule (records_of c.args.captures.now) c.args.lines.now) c.args.self.now,
 )
 
 pub loop-line-preserved : goal.loop-line-preserved
 loop-line-preserved g c = (
   record { counted = c.in_default.ensures.counted; hearing = c.in_default.ensures.hearing },
-  played_on g.S.SwitchCore.rule g.M.ManagerCore.rule g.H.HostCore.rule (records_of c.args.captures.now) (line_at c.args.lines.now c.loop-line.line-index)
+  played_on g.S.SwitchLogic.rule g.M.ManagerLogic.rule g.H.HostLogic.rule (records_of c.args.captures.now) (line_at c.args.lines.now c.loop-line.line-index)
       (drop (c.loop-line.line-index + 1) c.args.lines.now) (drop c.loop-line.line-index c.args.lines.now)
       (drop_more c.args.lines.now c.loop-line.line-index (line_at [] 0) c.loop-line-test.true)
-      (DoesLines g.S.SwitchCore.rule g.M.ManagerCore.rule g.H.HostCore.rule (records_of c.args.captures.now) c.args.lines.now) c.loop-line.self c.play_line.new.self c.args.self.now c.loop-line.invariant.1
+      (DoesLines g.S.SwitchLogic.rule g.M.ManagerLogic.rule g.H.HostLogic.rule (records_of c.args.captures.now) c.args.lines.now) c.loop-line.self c.play_line.new.self c.args.self.now c.loop-line.invariant.1
       c.in_default.ensures.does,
 )
 
 pub returns-in-Err : goal.returns-in-Err
 returns-in-Err g c = record {
   does = unless_weaker c.in-Err.stop _ _
-      (played_up_to g.S.SwitchCore.rule g.M.ManagerCore.rule g.H.HostCore.rule (records_of c.args.captures.now) (line_at c.args.lines.now c.loop-line.line-index)
+      (played_up_to g.S.SwitchLogic.rule g.M.ManagerLogic.rule g.H.HostLogic.rule (records_of c.args.captures.now) (line_at c.args.lines.now c.loop-line.line-index)
       (drop (c.loop-line.line-index + 1) c.args.lines.now) (drop c.loop-line.line-index c.args.lines.now)
       (drop_more c.args.lines.now c.loop-line.line-index (line_at [] 0) c.loop-line-test.true)
-      (DoesLines g.S.SwitchCore.rule g.M.ManagerCore.rule g.H.HostCore.rule (records_of c.args.captures.now) c.args.lines.now) c.loop-line.self c.play_line.new.self c.args.self.now c.loop-line.invariant.1
+      (DoesLines g.S.SwitchLogic.rule g.M.ManagerLogic.rule g.H.HostLogic.rule (records_of c.args.captures.now) c.args.lines.now) c.loop-line.self c.play_line.new.self c.args.self.now c.loop-line.invariant.1
       c.in-Err.stop) c.in-Err.ensures.does;
   counted = c.in-Err.ensures.counted;
   hearing = c.in-Err.ensures.hearing;
@@ -42,8 +42,8 @@ returns-in-Err g c = record {
 
 pub returns : goal.returns
 returns g c = record {
-  does = played_all g.S.SwitchCore.rule g.M.ManagerCore.rule g.H.HostCore.rule (records_of c.args.captures.now) (drop c.loop-line.line-index c.args.lines.now)
-      (DoesLines g.S.SwitchCore.rule g.M.ManagerCore.rule g.H.HostCore.rule (records_of c.args.captures.now) c.args.lines.now) c.loop-line.self c.args.self.now
+  does = played_all g.S.SwitchLogic.rule g.M.ManagerLogic.rule g.H.HostLogic.rule (records_of c.args.captures.now) (drop c.loop-line.line-index c.args.lines.now)
+      (DoesLines g.S.SwitchLogic.rule g.M.ManagerLogic.rule g.H.HostLogic.rule (records_of c.args.captures.now) c.args.lines.now) c.loop-line.self c.args.self.now
       (drop_all c.loop-line.line-index c.args.lines.now (omega arith)) c.loop-line.invariant.1;
   counted = c.loop-line.invariant.0.counted;
   hearing = c.loop-line.invariant.0.hearing;

@@ -8,4 +8,4 @@ use Rattle.pl_player.proofs.player.Player.play.Given as goal
 abbrev pub invariant-loop-line : goal.invariant-loop-line
 invariant-loop-line g l =
     Keeps l.self
-    × PlaysOn (DoesLines g.S.SwitchCore.rule g.M.ManagerCore.rule g.H.HostCore.rule (records_of l.captures) (drop l.line-index l.lines)) l.self (DoesLines g.S.SwitchCore.rule g.M.ManagerCore.rule g.H.HostCore.rule (records_of l.captures) l.lines) l.initial.self
+    × PlaysOn (DoesLines g.S.SwitchLogic.rule g.M.ManagerLogic.rule g.H.HostLogic.rule (records_of l.captures) (drop l.line-index l.lines)) l.self (DoesLines g.S.SwitchLogic.rule g.M.ManagerLogic.rule g.H.HostLogic.rule (records_of l.captures) l.lines) l.initial.self

@@ -3,7 +3,7 @@ use Rattle.std.specs.List.{list_any}
 use Rattle.std.specs.Map.{lookup}
 use Rattle.indexmap.specs.IndexMap.{insert_entry}
 use Rattle.pl_layouts.specs.Equality.{same_mac, same_pmac}
-use Rattle.pl_core.specs.ManagerViews.{LearntAddress, Registration, numbered}
+use Rattle.pl_logic.specs.ManagerViews.{LearntAddress, Registration, numbered}
 use Rattle.pl_registry.specs.declared.addresses.Known.{Known}
 use Rattle.pl_registry.specs.declared.addresses.Registered.{Registered}
 use Rattle.pl_registry.specs.Addresses.{AreFound, learnt_at, newest_first}

@@ -3,7 +3,7 @@ use Rattle.std.specs.Map.{keys_of, lookup}
 use Rattle.indexmap.proofs.CallerLemmas.{insert_entry-new}
 use Rattle.pl_frame.specs.declared.address.SwitchId.{SwitchId}
 use Rattle.pl_layouts.specs.Equality.{same_switch}
-use Rattle.pl_core.specs.ManagerViews.{pod_given}
+use Rattle.pl_logic.specs.ManagerViews.{pod_given}
 use Rattle.pl_manager_rule.specs.ManagerRule.{with_asker}
 use Rattle.pl_registry.specs.Askers.{AreGiven}
 use Rattle.pl_registry.proofs.Asking.{asks_again, asks_first, first_pod, is_given, newest_asker}

@@ -1,6 +1,6 @@
 use Rattle.std.proofs.Common.{◌≡◌, length}
 use Rattle.std.specs.List.{AllByRecursion}
-use Rattle.pl_core.specs.Accounting.{IsFit}
+use Rattle.pl_logic.specs.Accounting.{IsFit}
 use Rattle.pl_world.specs.SwitchActs.{acts_done, amid}
 use Rattle.pl_schedule.proofs.world.World.do_acts.Given as goal
 

@@ -7,7 +7,7 @@ hears-requires g c = can_hear _ c.args.self.now c.args.s.0 c.id-id.result c.self
     (ap (λ plan. slice_get plan.ids c.args.s.0) (sym c.wiring.ensures) ∙ c.id-id.ensures)
 
 pub returns : goal.returns
-returns g c = manager_moved g.M.ManagerCore.rule _ c.args.self.now c.args.s.0 c.args.told.now c.id-id.result (g.M.ManagerCore.view c.hears.new.self)
+returns g c = manager_moved g.M.ManagerLogic.rule _ c.args.self.now c.args.s.0 c.args.told.now c.id-id.result (g.M.ManagerLogic.view c.hears.new.self)
     c.new-acts.result c.hears.new.out c.manager_does.new.self c.self.view_is c.new-acts.ensures
     (ap (λ plan. slice_get plan.ids c.args.s.0) (sym c.wiring.ensures) ∙ c.id-id.ensures) c.in_ok-hears.ensures.step
     c.in_ok-manager_does.ensures

@@ -7,10 +7,10 @@ use Rattle.pl_schedule.proofs.world.World.step.Goals as goal
 pub returns-in-Ok-clause-counted : goal.returns-in-Ok-clause-counted
 returns-in-Ok-clause-counted g c =
     let none : refusal c.args.self.now c.args.event.now ≡ None = let first = c.refusal.ensures in let is = c.in-None.is in cc in
-    step_is_counted g.S.SwitchCore.rule g.M.ManagerCore.rule g.H.HostCore.rule g.met.S.SwitchCore.accounts g.met.H.HostCore.sends
+    step_is_counted g.S.SwitchLogic.rule g.M.ManagerLogic.rule g.H.HostLogic.rule g.met.S.SwitchLogic.accounts g.met.H.HostLogic.sends
     c.args.self.now c.args.event.now c.make_step.new.self c.requires.counted none c.in-Ok.ensures
 
 pub returns-in-Ok-clause-hearing : goal.returns-in-Ok-clause-hearing
 returns-in-Ok-clause-hearing g c =
-    step_within g.S.SwitchCore.rule g.M.ManagerCore.rule g.H.HostCore.rule g.met.M.ManagerCore.answers
+    step_within g.S.SwitchLogic.rule g.M.ManagerLogic.rule g.H.HostLogic.rule g.met.M.ManagerLogic.answers
     c.args.self.now c.args.event.now c.make_step.new.self c.requires.hearing c.in-Ok.ensures

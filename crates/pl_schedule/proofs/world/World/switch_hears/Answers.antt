@@ -14,6 +14,6 @@ pub invariant_of-self-2 : goal.invariant_of-self-2
 invariant_of-self-2 g c = formed_stepped _ c.hear.new.self.switches c.hear.new.self.out c.hear.ensures.kept c.hear.ensures.queues c.self.invariant
 
 pub finish-requires-clause-fit : goal.finish-requires-clause-fit
-finish-requires-clause-fit g c = acts_fit g.S.SwitchCore.rule _ c.args.self.now c.args.s.0 (input_from c.args.incoming) c.hear.new.self.switches
+finish-requires-clause-fit g c = acts_fit g.S.SwitchLogic.rule _ c.args.self.now c.args.s.0 (input_from c.args.incoming) c.hear.new.self.switches
     c.in_ok-old.old c.in_ok-old.new c.new-acts.result c.hear.new.out c.self.view_is c.new-acts.ensures c.in_ok-old.ensures.step
-    g.met.S.SwitchCore.accounts c.self.invariant c.requires.shaped (can_come _ c.args.self.now (input_from c.args.incoming) c.self.view_is c.requires.coming)
+    g.met.S.SwitchLogic.accounts c.self.invariant c.requires.shaped (can_come _ c.args.self.now (input_from c.args.incoming) c.self.view_is c.requires.coming)

@@ -4,4 +4,4 @@ use Rattle.pl_schedule.proofs.world.boot.boot_with_queues.Goals as goal
 
 pub new-requires-2-clause-ports : goal.new-requires-2-clause-ports
 new-requires-2-clause-ports g c =
-    first_ports c.k-k.result c.args.wiring.now.k c.args.wiring.now.ids (map g.S.SwitchFacts.view c.in_ok-cores.cores.items) c.k-k.ensures.k c.in_ok-cores.ensures
+    first_ports c.k-k.result c.args.wiring.now.k c.args.wiring.now.ids (map g.S.SwitchFacts.view c.in_ok-devices.devices.items) c.k-k.ensures.k c.in_ok-devices.ensures

@@ -1,6 +1,6 @@
 use Rattle.std.proofs.Common.{sym, ◌∙◌}
 use Rattle.std.proofs.lemmas.Bool.{and_parts}
-use Rattle.pl_core.specs.PortRecords.{port_of}
+use Rattle.pl_logic.specs.PortRecords.{port_of}
 use Rattle.pl_layouts.specs.Placement.{is_known}
 use Rattle.pl_plain.proofs.HostsKnown.{known_host}
 use Rattle.pl_plain.proofs.Settled.{known_level}

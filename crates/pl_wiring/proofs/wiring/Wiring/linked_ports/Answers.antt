@@ -6,7 +6,7 @@ use Rattle.pl_wiring.proofs.wiring.Wiring.linked_ports.Goals as goal
 pub returns-clause-made_for : goal.returns-clause-made_for
 returns-clause-made_for c =
     rw (← c.self.view_is) (if_ok c.present.result
-    (λ flags is. let e : flags.items ≡ map is_some c.self.inside.link_at.items = is ∙ ap (λ t. map is_some t) c.deref.ensures.value in rw e (made_for_links (plan_of c.self.inside) c.self.inside.link_at.items c.self.invariant.links_by_port c.self.invariant.link_places))
+    (λ flags is. let e : flags.items ≡ map is_some c.self.inside.link_at.items = is ∙ ap (λ t. map is_some t) c.deref.ensures.value in rw e (made_for_links (plan_of c.self.inside) c.self.inside.link_at.items c.self.invariant.links_by_port c.self.invariant.link_room))
     c.present.ensures)
 
 pub returns-clause-live : goal.returns-clause-live

@@ -1,0 +1,31 @@
+-- A switch that has just started.
+use Rattle.std.proofs.Common.{ℕ, zero, suc, ◌/◌, [], replicate, None}
+use Rattle.std.specs.List.{AllByRecursion}
+use Rattle.std.proofs.lemmas.List.{length-replicate}
+use Rattle.pl_frame.specs.declared.address.SwitchId.{SwitchId}
+use Rattle.pl_logic.specs.Accounting.{HasMac, IsShaped, RemembersMac}
+use Rattle.pl_logic.specs.PortRecords.{new_port}
+use Rattle.pl_logic.specs.SwitchFacts.{CanBoot, switch_at_boot}
+
+no_grants : (k : ℕ) → AllByRecursion (AllByRecursion HasMac) (replicate k [])
+no_grants zero = tt
+no_grants (suc k) = (tt, no_grants k)
+
+no_sources : (k : ℕ) → AllByRecursion RemembersMac (replicate k None)
+no_sources zero = tt
+no_sources (suc k) = (tt, no_sources k)
+
+pub booted_is_shaped : (id : SwitchId) (k : ℕ) → CanBoot id k → IsShaped (switch_at_boot id k)
+booted_is_shaped id k can = record {
+  named = can.named;
+  id = can.within;
+  low = can.size.low;
+  high = can.size.high;
+  even = can.size.even;
+  ports = length-replicate k new_port;
+  holds = length-replicate (k / 2) None;
+  grants = length-replicate k [];
+  remembered = length-replicate k None;
+  granted = no_grants k;
+  sources = no_sources k;
+}

@@ -92,7 +92,7 @@ impl Roster {
     }
 }
 
-// Puts a group at its place, unless it is there already. There is memory for it.
+// Puts a group where it goes, unless it is there already. There is memory for it.
 fn insert_group(groups: &mut Vec<u32>, group: u32) -> Result<(), Memory>
     requires { IsStrictlySortedBy nat_cmp groups.old.items }
     ensures ok { OnOk result (groups.new.items ≡ insert_key nat_cmp groups.old.items group) }
@@ -100,6 +100,6 @@ fn insert_group(groups: &mut Vec<u32>, group: u32) -> Result<(), Memory>
 {
     match groups.binary_search(&group) {
         Ok(_) => Ok(()),
-        Err(place) => Ok(groups.insert(place, group)?),
+        Err(index) => Ok(groups.insert(index, group)?),
     }
 }

@@ -2,7 +2,7 @@ pub mod Choosing
 pub mod LeadsMoved
 pub mod ListChanges
 pub mod Nothing
-pub mod Places
+pub mod Indices
 pub mod PortSets
 pub mod Rows
 pub mod Setting

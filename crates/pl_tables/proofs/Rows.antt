@@ -6,7 +6,7 @@ use Rattle.pl_lists.specs.Ports.{ports_of}
 use Rattle.pl_tables.specs.declared.port_rows.PortRow.{PortRow}
 use Rattle.pl_tables.specs.Rows.{ports_at, row_at, IsAt}
 
--- no row before place i has the key
+-- no row before index i has the key
 abbrev pub NoKeyBefore : List PortRow → ℕ → ℕ → Type 0
 NoKeyBefore l k i = (j : ℕ) → j < i → (row_at l j).key ≢ k
 

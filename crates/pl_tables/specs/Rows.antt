@@ -19,12 +19,12 @@ pub record AreRows (rows : List PortRow) : Type 0 where
   pub rising : (i j : ℕ) → i < j → j < length rows → (row_at rows i).key < (row_at rows j).key
   pub filled : (i : ℕ) → i < length rows → ports_of (row_at rows i).ports ≢ []
 
--- the row at place i has the key
+-- the row at index i has the key
 pub record IsAt (rows : List PortRow) (key i : ℕ) : Type 0 where
   pub within : i < length rows
   pub has_key : (row_at rows i).key ≡ key
 
--- the key would go at place i: smaller keys before it, and greater keys from it on
+-- the key would go at index i: smaller keys before it, and greater keys from it on
 pub record IsGapFor (rows : List PortRow) (key i : ℕ) : Type 0 where
   pub within : i ≤ length rows
   pub smaller_before : (j : ℕ) → j < i → (row_at rows j).key < key

@@ -37,15 +37,15 @@ fn set_beyond(
 {
     let mut at = 0;
     for entry in list.as_slice() {
-        at = place_from(other.as_slice(), at, *entry);
+        at = index_from(other.as_slice(), at, *entry);
         set_unless(rows, leads, *entry, other, at, is_in)?;
     }
     Ok(())
 }
 
-// The first place from `from` on at which the entry may be in a list that rises. Where each search begins at the
-// place of the one before, all of them together go through the list once.
-fn place_from(entries: &[(SwitchId, u16, u8)], from: usize, entry: (SwitchId, u16, u8)) -> usize {
+// The first index from `from` on at which the entry may be in a list that rises. Where each search begins at the
+// index of the one before, all of them together go through the list once.
+fn index_from(entries: &[(SwitchId, u16, u8)], from: usize, entry: (SwitchId, u16, u8)) -> usize {
     for at in from..entries.len() {
         if entries[at] >= entry {
             return at;
@@ -54,7 +54,7 @@ fn place_from(entries: &[(SwitchId, u16, u8)], from: usize, entry: (SwitchId, u1
     entries.len()
 }
 
-// The same for one entry of the first list, which the other one may have at a place.
+// The same for one entry of the first list, which the other one may have at an index.
 fn set_unless(
     rows: &mut PortRows,
     leads: &[Lead; 24],
@@ -72,7 +72,7 @@ fn set_unless(
     set_at_ports(rows, leads, entry, is_in)
 }
 
-// Whether a list has an entry: at this place, or elsewhere.
+// Whether a list has an entry: at this index, or elsewhere.
 fn has_entry(list: &AvoidList, at: usize, entry: (SwitchId, u16, u8)) -> bool
     ensures { result ≡ list_any (λ a. (a.0.0 == entry.0.0) && ((a.1 == entry.1) && (a.2 == entry.2))) list.now }
 {

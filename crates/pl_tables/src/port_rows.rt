@@ -53,7 +53,7 @@ impl PortRows {
         self.rows.is_empty()
     }
 
-    /// The row at a place, counted from 0; none past the last.
+    /// The row at an index, counted from 0; none past the last.
     pub fn get(&self, n: usize) -> Option<&PortRow>
         ensures { option_copied result ≡ slice_get self.now n }
     {

@@ -17,7 +17,7 @@ pub returns-in_ok-insert-in-Err-clause-ok : goal.returns-in_ok-insert-in-Err-cla
 returns-in_ok-insert-in-Err-clause-ok c =
     let list = c.args.groups.now.items in
     let seen = c.deref.ensures.value in
-    let i = c.in-Err.place in
+    let i = c.in-Err.index in
     let bound = subst (λ (l : List ℕ). i ≤ length l) seen c.in-Err.ensures.bound in
     let position = subst (λ (l : List ℕ). IsBinarySearchResult (λ y. nat_cmp y c.args.group) l (Err i)) seen c.in-Err.ensures.position in
     c.in_ok-insert-in-Err.ensures.items ∙ missed_inserts nat_cmp_total c.args.group list c.requires (Err i) bound position

@@ -3,7 +3,7 @@ use Rattle.std.proofs.lemmas.List.{get_or_default}
 use Rattle.pl_lists.specs.Ports.{ports_of}
 use Rattle.pl_tables.specs.declared.port_rows.PortRow.{PortRow}
 use Rattle.pl_tables.specs.Rows.{no_row, ports_at, IsAt}
-use Rattle.pl_tables.proofs.Places.{ports_found, ports_in_gap}
+use Rattle.pl_tables.proofs.Indices.{ports_found, ports_in_gap}
 use Rattle.pl_tables.proofs.port_rows.PortRows.ports.Goals as goal
 
 pub returns-in-Ok : goal.returns-in-Ok

@@ -1,6 +1,6 @@
 use Rattle.std.proofs.Common.{refl, subst}
 use Rattle.pl_tables.specs.Rows.{AreRows}
-use Rattle.pl_tables.proofs.Places.{puts_in, puts_over, rows_over, rows_with}
+use Rattle.pl_tables.proofs.Indices.{puts_in, puts_over, rows_over, rows_with}
 use Rattle.pl_tables.proofs.port_rows.PortRows.put_in.Goals as goal
 
 pub invariant_of-self : goal.invariant_of-self

@@ -1,7 +1,7 @@
 use Rattle.std.proofs.Common.{rules}
 use Rattle.std.proofs.lemmas.List.Sorted.{answers_always}
 use Rattle.pl_tables.specs.declared.port_rows.PortRow.{PortRow}
-use Rattle.pl_tables.proofs.Places.{searched}
+use Rattle.pl_tables.proofs.Indices.{searched}
 use Rattle.pl_tables.proofs.port_rows.PortRows.search.Goals as goal
 
 pub returns-clause-found : goal.returns-clause-found

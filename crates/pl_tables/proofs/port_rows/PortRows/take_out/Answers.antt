@@ -1,6 +1,6 @@
 use Rattle.std.proofs.Common.{subst}
 use Rattle.pl_tables.specs.Rows.{AreRows}
-use Rattle.pl_tables.proofs.Places.{none_taken, takes_out}
+use Rattle.pl_tables.proofs.Indices.{none_taken, takes_out}
 use Rattle.pl_tables.proofs.port_rows.PortRows.take_out.Goals as goal
 
 pub returns-in-Ok : goal.returns-in-Ok

@@ -1,7 +1,7 @@
 use Rattle.std.proofs.Common.{◌≤◌, sym, ap, subst}
 use Rattle.pl_logic.specs.SwitchViews.{SwitchView}
 use Rattle.pl_tables.proofs.Nothing.{nothing_follows}
-use Rattle.pl_tables.proofs.switch_logic.TableSwitchSwitchCore.boot.Goals as goal
+use Rattle.pl_tables.proofs.switch_logic.TableSwitchSwitchLogic.boot.Goals as goal
 
 pub invariant_of-result : goal.invariant_of-result
 invariant_of-result c =

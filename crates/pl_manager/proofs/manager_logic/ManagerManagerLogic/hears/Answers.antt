@@ -1,7 +1,7 @@
 use Rattle.pl_manager.specs.Manager.{manager_view}
 use Rattle.pl_manager.proofs.Heard.{address_told, link_told, members_told, place_told, pod_told, question_told}
 use Rattle.pl_manager.proofs.Pods.{few_pods}
-use Rattle.pl_manager.proofs.manager_logic.ManagerManagerCore.hears.Goals as goal
+use Rattle.pl_manager.proofs.manager_logic.ManagerManagerLogic.hears.Goals as goal
 
 pub give_pod-requires : goal.give_pod-requires
 give_pod-requires c = few_pods (manager_view c.args.self.now) c.args.switch c.args.self.now.size c.requires

@@ -35,15 +35,15 @@ pub has_bit_of_zero : (words : List ℕ) (k w : ℕ) → k / 64 ≡ w → slice_
 has_bit_of_zero words k w e none = has_bit_in words k w e ∙ is_set-zero (slice_index words w) (k % 64) none
 
 -- nor has a row of words that are all 0
-pub word_of_zeros : (count w : ℕ) → slice_index (replicate count 0) w ≡ 0
-word_of_zeros count w =
-    elim (cases_lt w count) [
-      | inl inside ↦ get_or-replicate count w 0 0 inside
-      | inr past ↦ get_or_past (replicate count 0) w 0 (omega (arith, length-replicate {A = ℕ} count 0))
+pub zeros_at : (count at : ℕ) → slice_index (replicate count 0) at ≡ 0
+zeros_at count at =
+    elim (cases_lt at count) [
+      | inl inside ↦ get_or-replicate count at 0 0 inside
+      | inr past ↦ get_or_past (replicate count 0) at 0 (omega (arith, length-replicate {A = ℕ} count 0))
     ]
 
 pub no_bit_of_zeros : (count at : ℕ) → has_bit (replicate count 0) at ≡ false
-no_bit_of_zeros count at = is_set-zero (slice_index (replicate count 0) (at / 64)) (at % 64) (word_of_zeros count (at / 64))
+no_bit_of_zeros count at = is_set-zero (slice_index (replicate count 0) (at / 64)) (at % 64) (zeros_at count (at / 64))
 
 -- one word of a row is changed in one bit
 module _ (words : List ℕ) (at word : ℕ) (b : Bool) where

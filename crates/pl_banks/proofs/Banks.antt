@@ -6,7 +6,7 @@ use Rattle.pl_queues.specs.Queues.{filled_indices, has_items, items_at, next_fil
 use Rattle.pl_banks.specs.Bits.{is_marked, next_marked}
 use Rattle.pl_banks.specs.Tallies.{marked_indices}
 use Rattle.pl_banks.proofs.Ranges.{filter_same, index_below}
-use Rattle.pl_banks.proofs.Places.{find_same, next_index_is_least}
+use Rattle.pl_banks.proofs.Indices.{find_same, next_index_is_least}
 
 module _ {T : Type 0} where
   -- a queue changes, and its mark with it
@@ -61,7 +61,7 @@ module _ {T : Type 0} where
     marks_of_taken (Some x) h some =
         marks-kept marks old at (items_at new at) marked (ap has_items h.0 ∙ sym (has_items_of_some (items_at new at) some)) ∙ ap (map has_items) (sym h.1)
 
-  -- the mark of a place tells whether its queue has items
+  -- the mark of an index tells whether its queue has items
   is_marked-map : (queues : List (List T)) (at : ℕ) → is_marked (map has_items queues) at ≡ has_items (items_at queues at)
   is_marked-map [] at = refl
   is_marked-map (queue ∷ queues) zero = refl
@@ -83,14 +83,14 @@ module _ {T : Type 0} where
       let found = next_index_is_least (λ k. has_items (items_at queues k)) (length queues) from (Some at) e in
       (found.0.reached, found.1, found.0.passes)
 
--- the marked places are those whose queues have items
+-- the marked indices are those whose queues have items
 pub marked_are_filled : {T : Type 0} (marks : List Bool) (queues : List (List T)) → marks ≡ map has_items queues → marked_indices marks ≡ filled_indices queues
 marked_are_filled marks queues marked =
     ap marked_indices marked
     ∙ ap (λ n. filter (is_marked (map has_items queues)) (range_with_len 0 n)) (length-map queues has_items)
     ∙ filter_same (is_marked (map has_items queues)) (λ at. has_items (items_at queues at)) (is_marked-map queues) (range_with_len 0 (length queues))
 
--- each is a place of the bank
+-- each is an index of the bank
 pub filled_is_there : {T : Type 0} (queues : List (List T)) (i : ℕ) (answer : Option ℕ) → answer ≡ slice_get (filled_indices queues) i
     → IfSome answer (λ at. at < length queues)
 filled_is_there queues i None is = tt

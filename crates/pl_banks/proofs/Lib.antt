@@ -1,5 +1,5 @@
-pub mod Places
-pub mod WordBits
+pub mod Indices
+pub mod NextBits
 pub mod Marks
 pub mod Banks
 pub mod Pooled

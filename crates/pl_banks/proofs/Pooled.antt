@@ -17,7 +17,7 @@ module _ {T : Type 0} where
   no_items zero = refl
   no_items (suc count) = ap (λ (l : List (List T)). [] ∷ l) (no_items count)
 
-  -- the list of a number, at its place
+  -- the list of a number, at its index
   module _ (old new : pool.Lists T) (v : List (List T)) (at list : ℕ) (same : list ≡ at) (seen : map items_of old.lists ≡ v) where
     replaced : (pairs : List (Key × T)) → map items_of (slice_set old.lists list pairs) ≡ slice_set v at (items_of pairs)
     replaced pairs =

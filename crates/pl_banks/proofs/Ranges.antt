@@ -1,4 +1,4 @@
--- The places of a range that pass a test, and what stands where in two lists one behind the other.
+-- The indices of a range that pass a test, and what stands where in two lists one behind the other.
 use Rattle.std.proofs.Common.{◌≡◌, ℕ, zero, suc, ◌+◌, ◌-◌, ◌<◌, ◌≤◌, Bool, true, false, cond, List, [], ◌∷◌, ◌++◌, length, Some, slice_get, ◌⊎◌, refl, ap, ◌∙◌, inl, inr, arith}
 use Rattle.std.proofs.lemmas.Option.{none-some, same_Some}
 use Rattle.std.specs.List.{filter, range_with_len}
@@ -21,13 +21,13 @@ slice_get_right (x ∷ xs) ys (suc i) past =
 pub range_split : (m n from : ℕ) → range_with_len from (m + n) ≡ range_with_len from m ++ range_with_len (from + m) n
 range_split zero n from =
     let many : 0 + n ≡ n = omega arith in
-    let place : from ≡ from + 0 = omega arith in
-    ap (range_with_len from) many ∙ ap (λ a. range_with_len a n) place
+    let start : from ≡ from + 0 = omega arith in
+    ap (range_with_len from) many ∙ ap (λ a. range_with_len a n) start
 range_split (suc m) n from =
     let many : suc m + n ≡ suc (m + n) = omega arith in
-    let place : from + 1 + m ≡ from + suc m = omega arith in
+    let start : from + 1 + m ≡ from + suc m = omega arith in
     ap (range_with_len from) many
-    ∙ ap (λ l. from ∷ l) (range_split m n (from + 1) ∙ ap (λ a. range_with_len (from + 1) m ++ range_with_len a n) place)
+    ∙ ap (λ l. from ∷ l) (range_split m n (from + 1) ∙ ap (λ a. range_with_len (from + 1) m ++ range_with_len a n) start)
 
 -- tests that agree keep the same
 pub filter_same : {A : Type 0} (f g : A → Bool) → ((x : A) → f x ≡ g x) → (xs : List A) → filter f xs ≡ filter g xs
@@ -36,7 +36,7 @@ filter_same f g same (x ∷ xs) =
     ap (λ b. cond b (x ∷ filter f xs) (filter f xs)) (same x) ∙ ap (λ l. cond (g x) (x ∷ l) l) (filter_same f g same xs)
 
 module _ (test : ℕ → Bool) where
-  -- the places that pass, of n places
+  -- the indices that pass, of n indices
   abbrev pub those : ℕ → ℕ → List ℕ
   those from n = filter test (range_with_len from n)
 

@@ -1,12 +1,13 @@
 -- A leaf of a tree of counts changes, and the nodes above it after it.
 use Rattle.std.proofs.Common.{◌≡◌, ℕ, ◌+◌, ◌*◌, ◌/◌, ◌<◌, ◌≤◌, ◌≢◌, ◌==◌, Bool, true, false, cond, List, length, replicate, slice_index, slice_index_or, slice_set, refl, sym, ap, ◌∙◌, inl, inr, arith}
 use Rattle.std.proofs.Math.Nat.{mul-le-mul_left}
-use Rattle.std.proofs.lemmas.Bool.{cases_eq, cases_lt}
-use Rattle.std.proofs.lemmas.List.{get_or_past, get_or-set_same, get_or-set_other, get_or-replicate, length-replicate, length-set, same_lists}
+use Rattle.std.proofs.lemmas.Bool.{cases_eq}
+use Rattle.std.proofs.lemmas.List.{get_or-set_same, get_or-set_other, get_or-replicate, length-replicate, length-set, same_lists}
 use Rattle.std.proofs.lemmas.List.FromFn.{length-map-range_with_len, get_or-map-range_with_len}
+use Rattle.pl_bits.proofs.WordBits.{zeros_at}
 use Rattle.pl_banks.specs.Tallies.{IsSummed, IsTally, is_counted, leaves_of, marks_in}
 
--- the leaf of a place has a new count, and only the node above `node` may not yet be the sum of those below it
+-- the leaf of an index has a new count, and only the node above `node` may not yet be the sum of those below it
 pub record IsRenewed (width : ℕ) (old now : List ℕ) (at count node : ℕ) : Type 0 where
   pub size : length now ≡ width + width
   pub some : 0 < node
@@ -165,14 +166,7 @@ module _ (n levels width : ℕ) (old : List ℕ) (at : ℕ) (mark : Bool) (is : 
     none = λ k past. elsewhere k (omega arith) ∙ is.none k past;
   }
 
--- no place is counted
-index_of_zeros : (many k : ℕ) → slice_index (replicate many 0) k ≡ 0
-index_of_zeros many k =
-    elim (cases_lt k many) [
-      | inl within ↦ get_or-replicate many k 0 0 within
-      | inr past ↦ get_or_past (replicate many 0) k 0 (omega (arith, length-replicate {A = ℕ} many 0))
-    ]
-
+-- no index is counted
 pub IsTally-zeros : (n levels width : ℕ) → width ≡ leaves_of levels → n ≤ width → width ≤ 2199023255552 → IsTally n levels width (replicate (2 * width) 0)
 IsTally-zeros n levels width leaves room small = record {
   leaves = leaves;
@@ -181,14 +175,14 @@ IsTally-zeros n levels width leaves room small = record {
   summed = record {
     size = let long = length-replicate {A = ℕ} (2 * width) 0 in omega arith;
     sums = λ k some low.
-        let here = index_of_zeros (2 * width) k in
-        let left = index_of_zeros (2 * width) (2 * k) in
-        let right = index_of_zeros (2 * width) (2 * k + 1) in
+        let here = zeros_at (2 * width) k in
+        let left = zeros_at (2 * width) (2 * k) in
+        let right = zeros_at (2 * width) (2 * k + 1) in
         omega arith;
-    ones = λ at. let none = index_of_zeros (2 * width) (width + at) in omega arith;
-    few = λ k. let none : slice_index (replicate (2 * width) 0) k * k ≡ 0 * k = ap (λ x. x * k) (index_of_zeros (2 * width) k) in omega arith;
+    ones = λ at. let none = zeros_at (2 * width) (width + at) in omega arith;
+    few = λ k. let none : slice_index (replicate (2 * width) 0) k * k ≡ 0 * k = ap (λ x. x * k) (zeros_at (2 * width) k) in omega arith;
   };
-  none = λ at past. index_of_zeros (2 * width) (width + at);
+  none = λ at past. zeros_at (2 * width) (width + at);
 }
 
 pub marks_in-zeros : (n width : ℕ) → marks_in width (replicate (2 * width) 0) n ≡ replicate n false
@@ -199,9 +193,9 @@ marks_in-zeros n width =
     (λ k d h.
     let within : k < n = omega (arith, length-map-range_with_len (is_counted width (replicate (2 * width) 0)) 0 n) in
     get_or-map-range_with_len (is_counted width (replicate (2 * width) 0)) 0 n k k d within (omega arith)
-    ∙ ap (λ x. x == 1) (index_of_zeros (2 * width) (width + k)) ∙ sym (get_or-replicate n k false d within))
+    ∙ ap (λ x. x == 1) (zeros_at (2 * width) (width + k)) ∙ sym (get_or-replicate n k false d within))
 
--- a place of the marks is below n
-pub place_within : (n width at : ℕ) (tree : List ℕ) (marks : List Bool) → marks_in width tree n ≡ marks → at < length marks → at < n
+-- an index of the marks is below n
+pub index_within : (n width at : ℕ) (tree : List ℕ) (marks : List Bool) → marks_in width tree n ≡ marks → at < length marks → at < n
 unfolding marks_in
-place_within n width at tree marks e h = omega (arith, ap length e, length-map-range_with_len (is_counted width tree) 0 n)
+index_within n width at tree marks e h = omega (arith, ap length e, length-map-range_with_len (is_counted width tree) 0 n)

@@ -8,9 +8,9 @@ use pl_pool::Memory;
 use std::alloc::Global;
 use std::marker::Model;
 
-/// A set of places below a number that stays. Contracts see a mark for each place, which is true where
-/// the place is in the set. The next place of the set from a place on is found in nearly constant time,
-/// and the place of a number in the logarithm of the number of places.
+/// A set of indices below a number that stays. Contracts see a mark for each index, which is true where
+/// the index is in the set. The next index of the set from one on is found in nearly constant time, and
+/// the index of a number in the logarithm of how many indices there are.
 #[derive(Drop)]
 pub struct BitSet {
     words: WordSet,
@@ -28,7 +28,7 @@ impl Model for BitSet {
 }
 
 impl BitSet {
-    /// The set of no place, of those below `len`.
+    /// The set of no index, of those below `len`.
     pub fn new(alloc: Global, len: usize) -> Result<BitSet, Memory>
         ensures { IfOk result (λ set. set ≡ replicate len false) }
     {
@@ -37,7 +37,7 @@ impl BitSet {
         Ok(BitSet { words, tally })
     }
 
-    /// How many places there are, in the set or not.
+    /// How many indices there are, in the set or not.
     pub fn len(&self) -> usize
         ensures { result ≡ length self.now }
     {
@@ -67,14 +67,14 @@ impl BitSet {
         self.tally.set(at, false);
     }
 
-    /// The least place of the set that is at least `from`; none where there is none.
+    /// The least index of the set that is at least `from`; none where there is none.
     pub fn next(&self, from: usize) -> Option<usize>
         ensures { result ≡ next_marked self.now from }
     {
         self.words.next(from)
     }
 
-    /// How many places are in the set, in constant time.
+    /// How many indices are in the set, in constant time.
     pub fn count(&self) -> usize
         ensures count { result ≡ length (marked_indices self.now) }
         ensures within { result ≤ length self.now }
@@ -82,35 +82,10 @@ impl BitSet {
         self.tally.count()
     }
 
-    /// Number i of the places of the set, in rising order; none past the last.
+    /// Number i of the indices of the set, in rising order; none past the last.
     pub fn nth(&self, i: usize) -> Option<usize>
         ensures { result ≡ slice_get (marked_indices self.now) i }
     {
         self.tally.nth(i)
-    }
-}
-
-#[cfg(test)]
-mod tests {
-    use super::*;
-    use std::test::Fail;
-
-    #[test]
-    fn indices_are_found_across_words(rt: HostRuntime) -> Result<(), Fail> {
-        let mut set = BitSet::new(rt.alloc(), 10_000)?;
-        assert_eq!(rt; set.len(), 10_000);
-        assert_eq!(rt; set.next(0), None);
-        set.insert(5);
-        set.insert(9_000);
-        assert_eq!(rt; set.next(5), Some(5));
-        assert_eq!(rt; set.next(6), Some(9_000));
-        assert_eq!(rt; set.count(), 2);
-        assert_eq!(rt; set.nth(1), Some(9_000));
-        assert_eq!(rt; set.nth(2), None);
-        set.remove(9_000);
-        assert_eq!(rt; set.next(6), None);
-        assert_eq!(rt; set.nth(0), Some(5));
-        assert!(rt; set.contains(5));
-        Ok(())
     }
 }

@@ -132,39 +132,3 @@ fn count_items<T: Counted>(items: Iter<'_, T>) -> u64
     }
     count
 }
-
-#[cfg(test)]
-mod tests {
-    use super::*;
-    use std::test::Fail;
-
-    #[derive(Drop)]
-    struct Flag(bool);
-
-    impl Counted for Flag {
-        ghost counts = { λ flag. flag.0 };
-
-        fn counts(&self) -> bool {
-            self.0
-        }
-    }
-
-    #[test]
-    fn a_count_follows_what_is_put_and_taken(rt: HostRuntime) -> Result<(), Fail> {
-        let mut bank: CountedQueues<Flag> = CountedQueues::new(rt.alloc(), 3)?;
-        bank.put(0, Flag(true))?;
-        bank.put(0, Flag(false))?;
-        bank.put(2, Flag(true))?;
-        bank.put(2, Flag(true))?;
-        assert_eq!(rt; bank.counted(), 3);
-        let first = bank.take(0);
-        assert!(rt; first.is_some());
-        assert_eq!(rt; bank.counted(), 2);
-        let mut items = Vec::new(rt.alloc());
-        bank.clear_into(2, &mut items)?;
-        assert_eq!(rt; items.len(), 2);
-        assert_eq!(rt; bank.counted(), 0);
-        assert_eq!(rt; bank.queues().len_at(0), 1);
-        Ok(())
-    }
-}

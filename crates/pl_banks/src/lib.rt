@@ -11,4 +11,6 @@ mod counted;
 mod lists;
 mod queues;
 mod tally;
+#[cfg(test)]
+mod tests;
 mod words;

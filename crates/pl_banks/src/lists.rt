@@ -99,7 +99,7 @@ impl<T: Drop> Lists<T> {
     }
 }
 
-// The number of the list at a place.
+// The number of the list at an index.
 fn number(at: usize) -> u32
     requires { at < 2 ^ 32 }
     ensures { result ≡ at }

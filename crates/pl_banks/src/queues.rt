@@ -9,7 +9,7 @@ use std::alloc::Global;
 use std::marker::Model;
 
 /// A bank of queues in one pool. Contracts see the list of them, each the list of its items, the first one
-/// first. A set of places says which of them have items, so that the next of these is found at once.
+/// first. A set of indices says which of them have items, so that the next of these is found at once.
 #[derive(Drop)]
 pub struct Queues<T> {
     queues: Lists<T>,
@@ -65,7 +65,7 @@ impl<T> Queues<T> {
         self.queues.first(at)
     }
 
-    /// The first place from `from` on whose queue has items; none where there is none.
+    /// The first index from `from` on whose queue has items; none where there is none.
     pub fn next_filled(&self, from: usize) -> Option<usize>
         ensures next { result ≡ next_filled self.now from }
         ensures there { IfSome result (λ at. (from ≤ at) × (at < length self.now) × (has_items (items_at self.now at) ≡ true)) }
@@ -81,7 +81,7 @@ impl<T> Queues<T> {
         self.filled.count()
     }
 
-    /// Number i of the places whose queues have items, in rising order; none past the last.
+    /// Number i of the indices whose queues have items, in rising order; none past the last.
     pub fn filled_index(&self, i: usize) -> Option<usize>
         ensures number { result ≡ slice_get (filled_indices self.now) i }
         ensures there { IfSome result (λ at. at < length self.now) }
@@ -134,48 +134,6 @@ impl<T: Drop> Queues<T> {
     {
         self.queues.put(at, item)?;
         self.filled.insert(at);
-        Ok(())
-    }
-}
-
-#[cfg(test)]
-mod tests {
-    use super::*;
-    use std::test::Fail;
-
-    #[test]
-    fn items_wait_each_in_its_queue(rt: HostRuntime) -> Result<(), Fail> {
-        let mut bank: Queues<u8> = Queues::new(rt.alloc(), 100)?;
-        assert_eq!(rt; bank.len(), 100);
-        bank.put(70, 1)?;
-        bank.put(70, 2)?;
-        bank.put(3, 9)?;
-        assert_eq!(rt; bank.next_filled(4), Some(70));
-        assert_eq!(rt; bank.filled_count(), 2);
-        assert_eq!(rt; bank.filled_index(1), Some(70));
-        assert_eq!(rt; bank.first(70), Some(&1));
-        assert_eq!(rt; bank.take(70), Some(1));
-        assert_eq!(rt; bank.len_at(70), 1);
-        assert_eq!(rt; bank.take(70), Some(2));
-        assert_eq!(rt; bank.take(70), None);
-        assert!(rt; bank.is_empty_at(70));
-        assert_eq!(rt; bank.next_filled(4), None);
-        Ok(())
-    }
-
-    #[test]
-    fn a_whole_queue_is_taken(rt: HostRuntime) -> Result<(), Fail> {
-        let mut bank: Queues<u8> = Queues::new(rt.alloc(), 2)?;
-        bank.put(1, 5)?;
-        bank.put(0, 7)?;
-        bank.put(1, 6)?;
-        assert_eq!(rt; bank.iter(1).len(), 2);
-        let mut items = Vec::new(rt.alloc());
-        bank.clear_into(1, &mut items)?;
-        assert_eq!(rt; items.get(0), Some(&5));
-        assert_eq!(rt; items.get(1), Some(&6));
-        assert_eq!(rt; bank.len_at(1), 0);
-        assert_eq!(rt; bank.next_filled(1), None);
         Ok(())
     }
 }

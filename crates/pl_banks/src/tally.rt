@@ -9,8 +9,8 @@ use std::marker::Model;
 
 const MOST: usize = 1 << 40;
 
-/// Marks of places below a number that stays, with how many of them are set. Contracts see the marks.
-/// The counts stand in a tree, of which `width` leaves are the places, so that the place of a mark by its
+/// Marks of indices below a number that stays, with how many of them are set. Contracts see the marks.
+/// The counts stand in a tree, of which `width` leaves are the indices, so that the index of a mark by its
 /// number is found on one way down.
 #[derive(Drop)]
 pub(crate) struct Tally {
@@ -32,7 +32,7 @@ impl Model for Tally {
 }
 
 impl Tally {
-    /// No mark is set. Where there are more places than can be counted, this is as want of memory.
+    /// No mark is set. Where there are more indices than can be counted, this is as want of memory.
     pub(crate) fn new(alloc: Global, len: usize) -> Result<Tally, Memory>
         ensures { IfOk result (λ tally. tally ≡ replicate len false) }
     {
@@ -60,7 +60,7 @@ impl Tally {
         self.tree[1]
     }
 
-    /// The place of number i of those that are marked, in rising order; none past the last.
+    /// The index of number i of those that are marked, in rising order; none past the last.
     pub(crate) fn nth(&self, i: usize) -> Option<usize>
         ensures { result ≡ slice_get (marked_indices self.now) i }
     {
@@ -101,7 +101,7 @@ impl Shape {
 fn put_leaf(tree: &mut Vec<usize>, width: usize, at: usize, count: usize)
     requires summed { IsSummed width tree.old.items }
     requires small { width ≤ 2199023255552 }
-    requires place { at < width }
+    requires within { at < width }
     requires one { count ≤ 1 }
     ensures summed { IsSummed width tree.new.items }
     ensures leaves { (j : ℕ) → slice_index tree.new.items (width + j) ≡ slice_index (slice_set tree.old.items (width + at) count) (width + j) }
@@ -114,7 +114,7 @@ fn put_leaf(tree: &mut Vec<usize>, width: usize, at: usize, count: usize)
     }
 }
 
-// The place of number i of those that are counted.
+// The index of number i of those that are counted.
 fn leaf_below(tree: &[usize], levels: usize, width: usize, i: usize) -> usize
     requires summed { IsSummed width tree.now }
     requires small { width ≤ 2199023255552 }

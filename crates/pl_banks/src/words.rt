@@ -1,12 +1,14 @@
-ghost use Rattle.std.specs.Prelude.{◌≡◌, ℕ, ◌+◌, ◌*◌, ◌/◌, ◌%◌, ◌^◌, ◌<◌, ◌≤◌, ◌==◌, true, false, IfOk, IfSome, length, not, replicate, slice_index, slice_set};
-ghost use Rattle.pl_banks.specs.Bits.{has_bit, is_marked, is_set, next_marked, with_bit, without_bit, IsLeast, IsNext};
+ghost use Rattle.std.specs.Prelude.{◌≡◌, ℕ, ◌^◌, ◌<◌, ◌==◌, true, false, IfOk, IfSome, length, not, replicate, slice_index, slice_set};
+ghost use Rattle.pl_bits.specs.Bits.{has_bit, is_set};
+ghost use Rattle.pl_banks.specs.Bits.{is_marked, next_marked, IsLeast, IsNext};
 
+use pl_bits::{bit_of, clear_bit, set_bit};
 use pl_pool::Memory;
 use std::alloc::Global;
 use std::marker::Model;
 
-/// A set of places below a number that stays, seen as a mark for each place. A bit of `filled` stands for
-/// a word of `words` that is not 0, so that the next place is found without a look at each word.
+/// A set of indices below a number that stays, seen as a mark for each index. A bit of `filled` stands for
+/// a word of `words` that is not 0, so that the next index is found without a look at each word.
 #[derive(Drop)]
 pub(crate) struct WordSet {
     len: usize,
@@ -16,17 +18,18 @@ pub(crate) struct WordSet {
 
 impl Model for WordSet {
     ghost use Rattle.std.specs.Prelude.{Bool, List};
-    ghost use Rattle.pl_banks.specs.Bits.{marks_of, IsTwoLevel};
+    ghost use Rattle.pl_bits.specs.Bits.{bits_of};
+    ghost use Rattle.pl_banks.specs.Bits.{IsTwoLevel};
 
     ghost Value = { List Bool };
 
-    ghost view = { λ set. marks_of set.words.items set.len };
+    ghost view = { λ set. bits_of set.words.items set.len };
 
     ghost invariant = { λ set. IsTwoLevel set.len set.words.items set.filled.items };
 }
 
 impl WordSet {
-    /// The set of no place, of those below `len`.
+    /// The set of no index, of those below `len`.
     pub(crate) fn new(alloc: Global, len: usize) -> Result<WordSet, Memory>
         ensures { IfOk result (λ set. set ≡ replicate len false) }
     {
@@ -35,7 +38,7 @@ impl WordSet {
         Ok(WordSet { len, words, filled })
     }
 
-    /// How many places there are, in the set or not.
+    /// How many indices there are, in the set or not.
     pub(crate) fn len(&self) -> usize
         ensures { result ≡ length self.now }
     {
@@ -67,7 +70,7 @@ impl WordSet {
         }
     }
 
-    /// The least place of the set that is at least `from`; none where there is none.
+    /// The least index of the set that is at least `from`; none where there is none.
     pub(crate) fn next(&self, from: usize) -> Option<usize>
         ensures { result ≡ next_marked self.now from }
     {
@@ -76,28 +79,6 @@ impl WordSet {
         }
         next_of_two_levels(self.words.as_slice(), self.filled.as_slice(), from)
     }
-}
-
-// Whether a bit of a row of words is set.
-fn bit_of(words: &[u64], at: usize) -> bool
-    requires { at < 64 * length words.now }
-    ensures { result ≡ has_bit words.now at }
-{
-    (words[at / 64] >> (at % 64)) & 1 == 1
-}
-
-fn set_bit(words: &mut Vec<u64>, at: usize)
-    requires { at < 64 * length words.old.items }
-    ensures { words.new.items ≡ slice_set words.old.items (at / 64) (with_bit (slice_index words.old.items (at / 64)) (at % 64)) }
-{
-    words[at / 64] |= 1 << (at % 64);
-}
-
-fn clear_bit(words: &mut Vec<u64>, at: usize)
-    requires { at < 64 * length words.old.items }
-    ensures { words.new.items ≡ slice_set words.old.items (at / 64) (without_bit (slice_index words.old.items (at / 64)) (at % 64)) }
-{
-    words[at / 64] &= !(1 << (at % 64));
 }
 
 // The lowest bit that is set in a word that is not 0.

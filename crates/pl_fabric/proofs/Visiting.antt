@@ -7,7 +7,7 @@ use Rattle.pl_logic.specs.ManagerDuties.{ManagerRule}
 use Rattle.pl_logic.specs.SwitchInputs.{SwitchRule}
 use Rattle.pl_banks.specs.Bits.{IsLeast}
 use Rattle.pl_queues.specs.Queues.{has_items, items_at}
-use Rattle.pl_banks.proofs.Places.{next_index_is_least}
+use Rattle.pl_banks.proofs.Indices.{next_index_is_least}
 use Rattle.pl_world.specs.declared.error.StepError.{StepError}
 use Rattle.pl_world.specs.declared.event.Event.TheVariants.{Deliver}
 use Rattle.pl_world.specs.declared.event.QueueName.{QueueName}

@@ -8,7 +8,7 @@ use Rattle.pl_wiring.specs.Plan.{Plan}
 use Rattle.pl_world.specs.declared.event.QueueName.TheVariants as queue
 use Rattle.pl_banks.specs.Bits.{IsLeast}
 use Rattle.pl_queues.specs.Queues.{has_items, items_at, next_filled, next_index}
-use Rattle.pl_banks.proofs.Places.{next_index_is_least}
+use Rattle.pl_banks.proofs.Indices.{next_index_is_least}
 use Rattle.pl_world.specs.Changes.{host_no, switch_no}
 use Rattle.pl_world.specs.Flying.{IsFormed}
 use Rattle.pl_world.specs.QueueOrder.{first_from_manager, first_out, first_to_manager, has_items_at, next_in, next_queue, port_queue, queue_at, queue_count}

@@ -14,5 +14,5 @@ loop-node-preserved c =
     get_or_read tree (2 * above + 1) c.index-in-loop-node.result.now (omega arith) c.index-in-loop-node.ensures 0 in
     let sum : slice_index tree (2 * above) + slice_index tree (2 * above + 1) ≡ c.index.result.now + c.index-in-loop-node.result.now = omega arith in
     subst (λ n. IsRenewed c.args.width c.args.tree.now.items (slice_set tree above n) c.args.at c.args.count above) sum
-    (renewed_above c.args.width c.args.tree.now.items c.args.at c.args.count c.requires.summed c.requires.place c.requires.one tree c.loop-node.node
+    (renewed_above c.args.width c.args.tree.now.items c.args.at c.args.count c.requires.summed c.requires.within c.requires.one tree c.loop-node.node
     c.loop-node.invariant c.loop-node-test.true)

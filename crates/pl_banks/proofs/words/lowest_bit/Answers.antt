@@ -1,5 +1,5 @@
 use Rattle.std.proofs.Common.{rules}
-use Rattle.pl_banks.proofs.WordBits.{lowest_is_least}
+use Rattle.pl_banks.proofs.NextBits.{lowest_is_least}
 use Rattle.pl_banks.proofs.words.lowest_bit.Goals as goal
 
 pub returns-clause-least : goal.returns-clause-least

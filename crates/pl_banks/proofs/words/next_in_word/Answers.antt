@@ -1,5 +1,6 @@
 use Rattle.std.proofs.Common.{rules}
-use Rattle.pl_banks.proofs.WordBits.{none_shifted, least_shifted, set_bit_within}
+use Rattle.pl_bits.proofs.WordBits.{set_bit_within}
+use Rattle.pl_banks.proofs.NextBits.{none_shifted, least_shifted}
 use Rattle.pl_banks.proofs.words.next_in_word.Goals as goal
 
 pub returns-then-left-eq0-clause-next : goal.returns-then-left-eq0-clause-next

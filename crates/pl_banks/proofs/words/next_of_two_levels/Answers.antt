@@ -1,5 +1,5 @@
 use Rattle.std.proofs.Common.{◌/◌, ◌^◌, ◌+◌, arith}
-use Rattle.pl_banks.proofs.WordBits.{index_of_bit, none_in_first, none_between, least_in_later}
+use Rattle.pl_banks.proofs.NextBits.{index_of_bit, none_in_first, none_between, least_in_later}
 use Rattle.pl_banks.proofs.words.next_of_two_levels.Goals as goal
 
 pub overflow_mul-result-in-Some-next_of_words : goal.overflow_mul-result-in-Some-next_of_words

@@ -1,5 +1,5 @@
 use Rattle.std.proofs.Common.{◌^◌, arith}
-use Rattle.pl_banks.proofs.WordBits.{index_of_bit}
+use Rattle.pl_banks.proofs.NextBits.{index_of_bit}
 use Rattle.pl_banks.proofs.words.next_of_words.Goals as goal
 
 pub overflow_mul-result-then-words-word-ne0 : goal.overflow_mul-result-then-words-word-ne0

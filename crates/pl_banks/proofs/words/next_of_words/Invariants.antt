@@ -1,5 +1,5 @@
 use Rattle.std.proofs.Common.{◌≡◌, ℕ, ◌/◌, ◌<◌, ◌≤◌, false}
-use Rattle.pl_banks.specs.Bits.{has_bit}
+use Rattle.pl_bits.specs.Bits.{has_bit}
 use Rattle.pl_banks.proofs.words.next_of_words.Given as goal
 
 abbrev pub invariant-loop-word : goal.invariant-loop-word

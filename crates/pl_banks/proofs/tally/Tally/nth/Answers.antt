@@ -27,5 +27,5 @@ pub returns : goal.returns
 returns c =
     let found = subst (λ tree. slice_get (filter (is_counted c.self.inside.width tree) (range_with_len 0 c.self.inside.width)) c.args.i ≡ Some c.leaf_below.result)
     c.as_slice.ensures.value c.leaf_below.ensures in
-    sym found ∙ ap (λ places. slice_get places c.args.i) (sym (marked_are _ _ _ _ c.self.invariant))
+    sym found ∙ ap (λ indices. slice_get indices c.args.i) (sym (marked_are _ _ _ _ c.self.invariant))
     ∙ ap (λ marks. slice_get (marked_indices marks) c.args.i) c.self.view_is

@@ -1,6 +1,9 @@
 use Rattle.std.proofs.Common.{◌∙◌, ◌/◌, true, slice_set, sym, ap, subst}
-use Rattle.pl_banks.specs.Bits.{marks_of, IsTwoLevel}
-use Rattle.pl_banks.proofs.Marks.{bit_set, index_below, room_for, room_above_for, marks_of-bit_set, IsTwoLevel-set}
+use Rattle.pl_bits.specs.Bits.{bits_of}
+use Rattle.pl_bits.proofs.WordBits.{bit_set}
+use Rattle.pl_bits.proofs.RowBits.{bits_of-bit_set, index_below}
+use Rattle.pl_banks.specs.Bits.{IsTwoLevel}
+use Rattle.pl_banks.proofs.Marks.{room_for, room_above_for, word_there, IsTwoLevel-set}
 use Rattle.pl_banks.proofs.words.WordSet.insert.Goals as goal
 
 pub set_bit-requires : goal.set_bit-requires
@@ -23,6 +26,6 @@ invariant_of-self c =
 pub returns : goal.returns
 returns c =
     let below = index_below c.self.inside.words.items c.self.inside.len c.args.at _ c.self.view_is c.requires in
-    ap (λ words. marks_of words c.self.inside.len) c.set_bit.ensures
-    ∙ marks_of-bit_set _ _ _ c.args.at c.self.invariant below
+    ap (λ words. bits_of words c.self.inside.len) c.set_bit.ensures
+    ∙ bits_of-bit_set _ _ c.args.at (word_there _ _ _ c.args.at c.self.invariant below) below
     ∙ ap (λ marks. slice_set marks c.args.at true) c.self.view_is

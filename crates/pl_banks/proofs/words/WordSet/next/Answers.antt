@@ -1,6 +1,8 @@
 use Rattle.std.proofs.Common.{◌∙◌, subst, sym, ap, length, arith}
-use Rattle.pl_banks.specs.Bits.{has_bit, next_marked, IsNext}
-use Rattle.pl_banks.proofs.Marks.{length-marks_of, next_bit_is_next_mark, no_next_mark}
+use Rattle.pl_bits.specs.Bits.{has_bit}
+use Rattle.pl_bits.proofs.RowBits.{length-bits_of}
+use Rattle.pl_banks.specs.Bits.{next_marked, IsNext}
+use Rattle.pl_banks.proofs.Marks.{next_bit_is_next_mark, no_next_mark}
 use Rattle.pl_banks.proofs.words.WordSet.next.Goals as goal
 
 pub next_of_two_levels-requires-clause-within : goal.next_of_two_levels-requires-clause-within
@@ -10,7 +12,7 @@ next_of_two_levels-requires-clause-within c at set =
 
 pub returns-then-from-self : goal.returns-then-from-self
 returns-then-from-self c =
-    let many = sym (length-marks_of c.self.inside.words.items c.self.inside.len) ∙ ap length c.self.view_is in
+    let many = sym (length-bits_of c.self.inside.words.items c.self.inside.len) ∙ ap length c.self.view_is in
     no_next_mark c.args.self.now c.args.from (omega arith)
 
 pub returns : goal.returns

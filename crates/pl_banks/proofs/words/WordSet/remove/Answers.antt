@@ -1,7 +1,10 @@
 use Rattle.std.proofs.Common.{◌∙◌, ◌/◌, length, false, slice_set, slice_index, sym, ap, subst, arith}
 use Rattle.std.proofs.lemmas.List.{length-set, get_or_read}
-use Rattle.pl_banks.specs.Bits.{marks_of, IsTwoLevel}
-use Rattle.pl_banks.proofs.Marks.{bit_cleared, index_below, room_for, room_above_for, marks_of-bit_cleared, IsTwoLevel-cleared, IsTwoLevel-cleared_both}
+use Rattle.pl_bits.specs.Bits.{bits_of}
+use Rattle.pl_bits.proofs.WordBits.{bit_cleared}
+use Rattle.pl_bits.proofs.RowBits.{bits_of-bit_cleared, index_below}
+use Rattle.pl_banks.specs.Bits.{IsTwoLevel}
+use Rattle.pl_banks.proofs.Marks.{room_for, room_above_for, word_there, IsTwoLevel-cleared, IsTwoLevel-cleared_both}
 use Rattle.pl_banks.proofs.words.WordSet.remove.Goals as goal
 
 pub clear_bit-requires : goal.clear_bit-requires
@@ -45,13 +48,13 @@ invariant_of-self-else-index-eq0 c =
 pub returns-then-index-eq0 : goal.returns-then-index-eq0
 returns-then-index-eq0 c =
     let below = index_below c.self.inside.words.items c.self.inside.len c.args.at _ c.self.view_is c.requires in
-    ap (λ words. marks_of words c.self.inside.len) c.clear_bit.ensures
-    ∙ marks_of-bit_cleared _ _ _ c.args.at c.self.invariant below
+    ap (λ words. bits_of words c.self.inside.len) c.clear_bit.ensures
+    ∙ bits_of-bit_cleared _ _ c.args.at (word_there _ _ _ c.args.at c.self.invariant below) below
     ∙ ap (λ marks. slice_set marks c.args.at false) c.self.view_is
 
 pub returns-else-index-eq0 : goal.returns-else-index-eq0
 returns-else-index-eq0 c =
     let below = index_below c.self.inside.words.items c.self.inside.len c.args.at _ c.self.view_is c.requires in
-    ap (λ words. marks_of words c.self.inside.len) c.clear_bit.ensures
-    ∙ marks_of-bit_cleared _ _ _ c.args.at c.self.invariant below
+    ap (λ words. bits_of words c.self.inside.len) c.clear_bit.ensures
+    ∙ bits_of-bit_cleared _ _ c.args.at (word_there _ _ _ c.args.at c.self.invariant below) below
     ∙ ap (λ marks. slice_set marks c.args.at false) c.self.view_is

@@ -1,4 +1,4 @@
--- The first place that passes, and tests that agree.
+-- The first index that passes, and tests that agree.
 use Rattle.std.proofs.Common.{◌≡◌, ℕ, zero, suc, ◌+◌, ◌-◌, ◌<◌, ◌≤◌, Bool, true, false, cond, List, [], ◌∷◌, Option, None, Some, MatchOption, sym, refl, ap, subst, ◌∙◌, inl, inr, arith}
 use Rattle.std.specs.List.{find, range_with_len}
 use Rattle.std.proofs.lemmas.Bool.{cases_eq}
@@ -27,7 +27,7 @@ module _ (test : ℕ → Bool) where
       ap (λ b. cond b (Some from) (find test (range_with_len (from + 1) n))) (h from (omega arith))
       ∙ find_nothing n (from + 1) (λ k low. h k (omega arith))
 
-  -- an answer that is the least, or none where none passes, is the next place
+  -- an answer that is the least, or none where none passes, is the next index
   pub next_index_is : (n from : ℕ) (answer : Option ℕ) → IsNext test from answer → ((at : ℕ) → test at ≡ true → at < n)
       → answer ≡ next_index test n from
   next_index_is n from None h within = sym (find_nothing (n - from) from h)
@@ -36,7 +36,7 @@ module _ (test : ℕ → Bool) where
       let high : at < n = within at h.passes in
       sym (find_least (n - from) from at h (omega arith))
 
-  -- an answer of a range that begins one place later is one of the whole, where the first place does not pass
+  -- an answer of a range that begins one index later is one of the whole, where the first index does not pass
   later : (n from : ℕ) (o : Option ℕ) → test from ≡ false
       → MatchOption o ((k : ℕ) → from + 1 ≤ k → k < from + 1 + n → test k ≡ false) (λ at. IsLeast test (from + 1) at × (at < from + 1 + n))
       → MatchOption o ((k : ℕ) → from ≤ k → k < from + suc n → test k ≡ false) (λ at. IsLeast test from at × (at < from + suc n))
@@ -67,7 +67,7 @@ module _ (test : ℕ → Bool) where
         | false ↦ λ e. later n from (find test (range_with_len (from + 1) n)) e (found_is_least n (from + 1))
       ] refl
 
-  -- the next place is the least that passes, and below n; where there is none, none of those below n passes
+  -- the next index is the least that passes, and below n; where there is none, none of those below n passes
   pub next_index_is_least : (n from : ℕ) (answer : Option ℕ) → answer ≡ next_index test n from
       → MatchOption answer ((k : ℕ) → from ≤ k → k < n → test k ≡ false) (λ at. IsLeast test from at × (at < n))
   next_index_is_least n from answer e =

@@ -1,28 +1,14 @@
--- The bits of a row of words: in one word, in the words before it, and past the last.
-use Rattle.std.proofs.Common.{◌≡◌, ℕ, ◌+◌, ◌-◌, ◌*◌, ◌/◌, ◌%◌, ◌^◌, ◌<◌, ◌≤◌, ◌≢◌, ◌==◌, Bool, true, false, not, List, length, slice_index, slice_set, w64, sym, refl, ap, ◌∙◌, inl, inr, arith}
+-- The next bit of a row of words that is set: in one word, and in the words behind it.
+use Rattle.std.proofs.Common.{◌≡◌, ℕ, ◌+◌, ◌-◌, ◌*◌, ◌/◌, ◌%◌, ◌^◌, ◌<◌, ◌≤◌, ◌==◌, true, false, not, List, slice_index, w64, sym, refl, ap, ◌∙◌, inl, inr, arith}
 use Rattle.std.specs.Int.{trailing_zeros}
-use Rattle.std.proofs.lemmas.Bool.{cases_lt, cases_eq, true≢false, not-false, eqb-true}
-use Rattle.std.proofs.lemmas.List.{get_or_past, get_or-set_same, get_or-set_other}
-use Rattle.std.proofs.lemmas.Nat.{shr-shr, div-mul-add, mod-mul-add}
-use Rattle.std.proofs.lemmas.Nat.Bits.{bit_at-zero, bit_at_above, bit_at-trailing_zeros}
-use Rattle.pl_banks.specs.Bits.{is_set, has_bit, IsLeast}
+use Rattle.std.proofs.lemmas.Bool.{cases_lt, not-false, eqb-true}
+use Rattle.std.proofs.lemmas.Nat.{shr-shr}
+use Rattle.std.proofs.lemmas.Nat.Bits.{bit_at-trailing_zeros}
+use Rattle.pl_bits.specs.Bits.{is_set, has_bit}
+use Rattle.pl_bits.proofs.WordBits.{is_set-zero, has_bit_at, has_bit_in, has_bit_of_zero}
+use Rattle.pl_banks.specs.Bits.{IsLeast}
 
--- a word of 64 bits has none from 64 on
-pub is_set_above : (word k : ℕ) → word < 2 ^ 64 → 64 ≤ k → is_set word k ≡ false
-is_set_above word k small above = ap (λ b. b == 1) (bit_at_above word 64 k small above)
-
-pub set_bit_within : (word k : ℕ) → word < 2 ^ 64 → is_set word k ≡ true → k < 64
-set_bit_within word k small set =
-    elim (cases_lt k 64) [
-      | inl within ↦ within
-      | inr above ↦ absurd (true≢false (sym set ∙ is_set_above word k small above))
-    ]
-
--- 0 has none
-pub is_set-zero : (word k : ℕ) → word ≡ 0 → is_set word k ≡ false
-is_set-zero word k none = ap (λ w. is_set w k) none ∙ ap (λ b. b == 1) (bit_at-zero k)
-
--- the number of zeros below the lowest bit is its place
+-- the number of zeros below the lowest bit is its index
 pub lowest_is_least : (word : ℕ) → 0 < word → word < 2 ^ 64 → IsLeast (is_set word) 0 (trailing_zeros w64 word)
 lowest_is_least word some small =
     let lowest = bit_at-trailing_zeros w64 word some small in
@@ -49,23 +35,6 @@ least_shifted word from b h = record {
       let e : k ≡ from + (k - from) = omega arith in
       ap (is_set word) e ∙ sym (is_set_shifted word from (k - from)) ∙ h.least (k - from) (omega arith) (omega arith);
 }
-
--- bit b of word w is bit 64 w + b of all
-pub has_bit_at : (words : List ℕ) (w b : ℕ) → b < 64 → has_bit words (w * 64 + b) ≡ is_set (slice_index words w) b
-has_bit_at words w b h =
-    ap (λ q. is_set (slice_index words q) ((w * 64 + b) % 64)) (div-mul-add w 64 b h) ∙ ap (is_set (slice_index words w)) (mod-mul-add w 64 b h)
-
--- a bit of a known word
-has_bit_in : (words : List ℕ) (k w : ℕ) → k / 64 ≡ w → has_bit words k ≡ is_set (slice_index words w) (k % 64)
-has_bit_in words k w e = ap (λ q. is_set (slice_index words q) (k % 64)) e
-
--- past the last word there is none
-pub has_bit_past : (words : List ℕ) (k : ℕ) → length words ≤ k / 64 → has_bit words k ≡ false
-has_bit_past words k past = is_set-zero (slice_index words (k / 64)) (k % 64) (get_or_past words (k / 64) 0 past)
-
--- a word that is 0 has none
-pub has_bit_of_zero : (words : List ℕ) (k w : ℕ) → k / 64 ≡ w → slice_index words w ≡ 0 → has_bit words k ≡ false
-has_bit_of_zero words k w e none = has_bit_in words k w e ∙ is_set-zero (slice_index words w) (k % 64) none
 
 -- the next bit in the word where the search begins
 pub least_in_first : (words : List ℕ) (from b : ℕ) → IsLeast (is_set (slice_index words (from / 64))) (from % 64) b → b < 64
@@ -102,26 +71,7 @@ least_in_later words from w b later none h small = record {
       ];
 }
 
--- one word of a row is changed in one bit
-module _ (words : List ℕ) (at word : ℕ) (b : Bool) where
-  pub has_bit-changed_same : at / 64 < length words → is_set word (at % 64) ≡ b → has_bit (slice_set words (at / 64) word) at ≡ b
-  has_bit-changed_same within here = ap (λ w. is_set w (at % 64)) (get_or-set_same words (at / 64) word 0 within) ∙ here
-
-  pub has_bit-changed_other : at / 64 < length words
-      → ((i : ℕ) → i < 64 → i ≢ at % 64 → is_set word i ≡ is_set (slice_index words (at / 64)) i)
-      → (k : ℕ) → k ≢ at → has_bit (slice_set words (at / 64) word) k ≡ has_bit words k
-  has_bit-changed_other within others k other =
-      elim (cases_eq (k / 64) (at / 64)) [
-        | inl same ↦
-            let apart : k % 64 ≢ at % 64 = λ e. other (omega arith) in
-            has_bit_in (slice_set words (at / 64) word) k (at / 64) same
-            ∙ ap (λ w. is_set w (k % 64)) (get_or-set_same words (at / 64) word 0 within)
-            ∙ others (k % 64) (omega arith) apart
-            ∙ sym (has_bit_in words k (at / 64) same)
-        | inr apart ↦ ap (λ w. is_set w (k % 64)) (get_or-set_other words (at / 64) (k / 64) word 0 apart)
-      ]
-
--- where bits are set below a number alone, the place of a set bit is below it
+-- where bits are set below a number alone, the index of a set bit is below it
 pub index_of_bit : (words : List ℕ) (n w b : ℕ) → ((at : ℕ) → has_bit words at ≡ true → at < n) → is_set (slice_index words w) b ≡ true → b < 64
     → w * 64 + b < n
 index_of_bit words n w b within set small = within (w * 64 + b) (has_bit_at words w b small ∙ set)

@@ -2,12 +2,10 @@
 use Rattle.std.proofs.Common.{◌≡◌, ℕ, ◌+◌, ◌++◌, take, drop, append_assoc, take-append-drop, zero, suc, ◌%◌, ◌==◌, ◌&&◌, ◌||◌, not, Bool, true, false, cond, List, [], ◌∷◌, length, map, Option, Some, None, refl, sym, ap, ◌∙◌, inl, inr}
 use Rattle.std.specs.Prelude.{slice_get, unwrap_or}
 use Rattle.std.specs.List.{filter, find, list_any}
-use Rattle.std.specs.List.Sorted.{IsStrictlySortedBy}
 use Rattle.std.specs.Option.{option_and_then, option_map, option_or}
 use Rattle.std.specs.Map.{keys_of}
 use Rattle.std.proofs.Math.Dec.{eqb-suc-zero}
 use Rattle.std.proofs.lemmas.Bool.{false≢true}
-use Rattle.std.proofs.lemmas.List.Kept.{IsStrictlySortedBy-filter}
 use Rattle.pl_frame.specs.declared.address.SwitchId.{SwitchId}
 use Rattle.pl_layouts.specs.declared.place.Place.{Place}
 use Rattle.pl_layouts.specs.Equality.{same_switch}
@@ -20,13 +18,10 @@ use Rattle.pl_manager_rule.proofs.Avoided.{id_exact, same_is}
 use Rattle.pl_manager_rule.proofs.Registered.{switch_turned}
 use Rattle.pl_manager_rule.proofs.Speakers.{same_itself}
 use Rattle.pl_manager_rule.proofs.Tables.{found_key}
-use Rattle.pl_groups.specs.Serving.{AreServed, part_of_told, served_by}
+use Rattle.pl_groups.specs.Serving.{AreServed, many_served, part_of_told}
 use Rattle.pl_groups.proofs.Reached.{is_joined}
-use Rattle.pl_reports.proofs.Sorting.{all_rising, put_all}
-use Rattle.pl_groups.proofs.Edges.{any_more}
-
-abbrev Served : Type 0
-Served = List (SwitchId × List SwitchId)
+use Rattle.pl_groups.proofs.Edges.{Served, any_more}
+use Rattle.pl_groups.proofs.Rows.{many_is}
 
 -- ---- lists
 filter_twice : {X : Type 0} (p q : X → Bool) (xs : List X) → filter q (filter p xs) ≡ filter (λ x. p x && q x) xs
@@ -63,20 +58,15 @@ pub joined_at_level : (told : Told) (s : SwitchId) → alive_at_level told s 1 �
 joined_at_level told s = filter_twice (is_alive told s) (λ u. has_level told u 1) (neighbours told s)
 
 pub core_down : (told : Told) (needed : List SwitchId) (served : Served) (core : SwitchId) → AreServed told needed served →
-    filter (λ a. is_joined told core a && not (length (served_by served a) == 0)) (neighbours told core)
+    filter (λ a. is_joined told core a && not (many_served (value_at id_cmp served a) == 0)) (neighbours told core)
     ≡ filter (serves told needed) (alive_at_level told core 1)
 core_down told needed served core all =
     (λ i. filter (λ a. is_joined told core a && serving a i) (neighbours told core))
     ∙ sym (filter_twice (is_joined told core) (serves told needed) (neighbours told core))
     ∙ ap (filter (serves told needed)) (sym (joined_at_level told core))
   where
-    serving : (a : SwitchId) → not (length (served_by served a) == 0) ≡ serves told needed a
-    serving a = ap (λ xs. not (length xs == 0)) (all a) ∙ sym (any_kept (is_alive told a) needed)
-
-pub aggregation_down : (told : Told) (needed : List SwitchId) (served : Served) (s : SwitchId) → IsStrictlySortedBy id_cmp needed → AreServed told needed served →
-    put_all [] (served_by served s) ≡ filter (is_alive told s) needed
-aggregation_down told needed served s rising all =
-    ap (put_all []) (all s) ∙ all_rising (filter (is_alive told s) needed) (IsStrictlySortedBy-filter id_cmp (is_alive told s) needed rising)
+    serving : (a : SwitchId) → not (many_served (value_at id_cmp served a) == 0) ≡ serves told needed a
+    serving a = ap (λ n. not (n == 0)) (many_is told needed served a all) ∙ sym (any_kept (is_alive told a) needed)
 
 pub up_found : (told : Told) (s : SwitchId) (test : SwitchId → Bool) →
     find (λ a. is_joined told s a && test a) (neighbours told s) ≡ find test (alive_at_level told s 1)

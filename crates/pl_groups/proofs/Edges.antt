@@ -1,13 +1,14 @@
 -- What each switch serves, edge switch by edge switch.
-use Rattle.std.proofs.Common.{◌≡◌, ℕ, ◌+◌, take, drop, append_assoc, take-append-drop, ◌&&◌, ◌||◌, Bool, true, false, cond, List, [], ◌∷◌, ◌++◌, Option, Some, None, Ordering, Less, Equal, Greater, refl, sym, ap, ◌∙◌, subst, eq-eqb}
+use Rattle.std.proofs.Common.{◌≡◌, ℕ, ◌+◌, take, ◌&&◌, ◌||◌, Bool, true, false, cond, List, [], ◌∷◌, ◌++◌, map, slice_set, Option, Some, None, refl, sym, ap, ◌∙◌, subst, eq-eqb}
 use Rattle.std.specs.Prelude.{unwrap_or}
-use Rattle.std.specs.List.{AllByRecursion, filter, list_any}
-use Rattle.std.specs.List.Sorted.{IsStrictlySortedBy}
-use Rattle.std.specs.Ordering.{is_eq, match_ordering, ordering_reverse}
+use Rattle.std.specs.List.{list_any}
+use Rattle.std.specs.Ordering.{is_eq}
 use Rattle.std.specs.Cmp.{Equal-is}
 use Rattle.std.specs.BTreeMap.{is_at}
 use Rattle.std.proofs.lemmas.Bool.{and_parts, false≢true}
 use Rattle.std.proofs.lemmas.Cmp.{tied_itself}
+use Rattle.std.proofs.lemmas.List.{set-set}
+use Rattle.std.proofs.lemmas.List.Folds.{list_any-append}
 use Rattle.pl_frame.specs.declared.address.SwitchId.{SwitchId}
 use Rattle.pl_layouts.specs.Equality.{same_switch}
 use Rattle.pl_logic.specs.ManagerViews.{Told, alive_neighbours, id_cmp, is_alive, is_told_usable, link_cmp, neighbours, value_at}
@@ -15,12 +16,11 @@ use Rattle.pl_logic.proofs.Among.{IsAmong, among_filter, among_filtered, among_i
 use Rattle.pl_manager_rule.proofs.Avoided.{id_exact, same_is}
 use Rattle.pl_manager_rule.proofs.Tables.{found_key}
 use Rattle.pl_reports.proofs.Telling.{link_exact, near_of_key}
-use Rattle.pl_groups.specs.Serving.{AreServed, served_by}
-use Rattle.pl_reports.proofs.Sorting.{filter_more, put_in}
+use Rattle.pl_groups.specs.Serving.{row_in}
 use Rattle.pl_groups.proofs.Reached.{one_passes}
 
 abbrev pub Served : Type 0
-Served = List (SwitchId × List SwitchId)
+Served = List (SwitchId × List Bool)
 
 -- ---- a link that is alive was told by the other end
 pub alive_back : (told : Told) (a b : SwitchId) → is_alive told a b ≡ is_alive told b a
@@ -77,116 +77,55 @@ is_here x a = by (is_eq (id_cmp x a)) (same_switch a x) refl refl
     by false true at same =
         absurd (false≢true (sym at ∙ subst (λ z. is_eq (id_cmp x z) ≡ true) (sym (same_is a x same)) (ap is_eq (tied_itself id_total x))))
 
-put_twice : (xs : List SwitchId) (k : SwitchId) → put_in (put_in xs k) k ≡ put_in xs k
-put_twice [] k = ap (λ r. match_ordering r (k ∷ k ∷ []) (k ∷ []) (k ∷ k ∷ [])) (tied_itself id_total k)
-put_twice (y ∷ xs) k = by (put_twice xs k) (id_cmp k y) refl
-  where
-    by : put_in (put_in xs k) k ≡ put_in xs k → (r : Ordering) → id_cmp k y ≡ r →
-        put_in (match_ordering r (k ∷ y ∷ xs) (y ∷ xs) (y ∷ put_in xs k)) k ≡ match_ordering r (k ∷ y ∷ xs) (y ∷ xs) (y ∷ put_in xs k)
-    by rest Less e = ap (λ r. match_ordering r (k ∷ k ∷ y ∷ xs) (k ∷ y ∷ xs) (k ∷ put_in (y ∷ xs) k)) (tied_itself id_total k)
-    by rest Equal e = ap (λ r. match_ordering r (k ∷ y ∷ xs) (y ∷ xs) (y ∷ put_in xs k)) e
-    by rest Greater e =
-        ap (λ r. match_ordering r (k ∷ y ∷ put_in xs k) (y ∷ put_in xs k) (y ∷ put_in (put_in xs k) k)) e ∙ ap (λ zs. y ∷ zs) rest
+pub or_false : (b : Bool) → b ≡ (b || false)
+or_false true = refl
+or_false false = refl
 
 pub any_more : {X : Type 0} (p : X → Bool) (xs : List X) (x : X) → list_any p (xs ++ x ∷ []) ≡ (list_any p xs || p x)
-any_more p [] x = last (p x)
+any_more p xs x = list_any-append p xs (x ∷ []) ∙ ap (λ b. list_any p xs || b) (sym (or_false (p x)))
+
+-- what rows say once some of the neighbours of edge switch number i serve it
+abbrev pub served_so_far : Served → List SwitchId → ℕ → List SwitchId → SwitchId → List Bool
+served_so_far before needed i xs a =
+    cond (list_any (same_switch a) xs) (slice_set (row_in before needed a) i true) (row_in before needed a)
+
+again : (l : Bool) (i : ℕ) (row : List Bool) → slice_set (cond l (slice_set row i true) row) i true ≡ cond (l || true) (slice_set row i true) row
+again true i row = set-set row i true true
+again false i row = refl
+
+pub serve_next : (before old new : Served) (needed : List SwitchId) (i : ℕ) (items : List SwitchId) (j : ℕ) (x : SwitchId) →
+    take (j + 1) items ≡ take j items ++ x ∷ [] →
+    ((a : SwitchId) → row_in old needed a ≡ served_so_far before needed i (take j items) a) →
+    ((a : SwitchId) → row_in new needed a ≡ cond (is_at (id_cmp x) a) (slice_set (row_in old needed x) i true) (row_in old needed a)) →
+    (a : SwitchId) → row_in new needed a ≡ served_so_far before needed i (take (j + 1) items) a
+serve_next before old new needed i items j x more were says a =
+    says a ∙ ap (λ b. cond b (slice_set (row_in old needed x) i true) (row_in old needed a)) (is_here x a)
+    ∙ by (same_switch a x) refl
+    ∙ ap (λ b. cond b (slice_set (row_in before needed a) i true) (row_in before needed a))
+    (sym (ap (list_any (same_switch a)) more ∙ any_more (same_switch a) (take j items) x))
   where
-    last : (b : Bool) → (b || false) ≡ (false || b)
-    last true = refl
-    last false = refl
-any_more p (y ∷ xs) x = by (any_more p xs x) (p y)
-  where
-    by : list_any p (xs ++ x ∷ []) ≡ (list_any p xs || p x) → (b : Bool) → (b || list_any p (xs ++ x ∷ [])) ≡ ((b || list_any p xs) || p x)
-    by rest true = refl
-    by rest false = rest
-
--- what is served once some of the neighbours of an edge switch serve it
-abbrev pub served_so_far : Served → SwitchId → List SwitchId → SwitchId → List SwitchId
-served_so_far before edge xs a =
-    cond (list_any (same_switch a) xs) (put_in (served_by before a) edge) (served_by before a)
-
-again : (l : Bool) (edge : SwitchId) (all : List SwitchId) → put_in (cond l (put_in all edge) all) edge ≡ cond (l || true) (put_in all edge) all
-again true edge all = put_twice all edge
-again false edge all = refl
-
-none_more : (l : Bool) (xs ys : List SwitchId) → cond l xs ys ≡ cond (l || false) xs ys
-none_more true xs ys = refl
-none_more false xs ys = refl
-
-pub serve_more : (before old new : Served) (edge x : SwitchId) (xs : List SwitchId) →
-    ((a : SwitchId) → served_by old a ≡ served_so_far before edge xs a) →
-    ((a : SwitchId) → served_by new a ≡ cond (is_at (id_cmp x) a) (put_in (served_by old x) edge) (served_by old a)) →
-    (a : SwitchId) → served_by new a ≡ served_so_far before edge (xs ++ x ∷ []) a
-serve_more before old new edge x xs were says a =
-    says a ∙ by (is_at (id_cmp x) a) refl
-    ∙ ap (λ c. cond c (put_in (served_by before a) edge) (served_by before a)) (sym (any_more (same_switch a) xs x))
-  where
-    by : (b : Bool) → is_at (id_cmp x) a ≡ b →
-        cond b (put_in (served_by old x) edge) (served_by old a)
-        ≡ cond (list_any (same_switch a) xs || same_switch a x) (put_in (served_by before a) edge) (served_by before a)
-    by true at =
-        let is : x ≡ a = id_exact x a ((Equal-is (id_cmp x a)).0 at) in
-        let l = list_any (same_switch a) xs in
-        ap (λ z. put_in (served_by old z) edge) is
-        ∙ ap (λ zs. put_in zs edge) (were a)
-        ∙ again l edge (served_by before a)
-        ∙ ap (λ s. cond (l || s) (put_in (served_by before a) edge) (served_by before a)) (sym (sym (is_here x a) ∙ at))
-    by false at =
-        let l = list_any (same_switch a) xs in
-        were a ∙ none_more l (put_in (served_by before a) edge) (served_by before a)
-        ∙ ap (λ s. cond (l || s) (put_in (served_by before a) edge) (served_by before a)) (sym (sym (is_here x a) ∙ at))
-
-pub serve_next : (before old new : Served) (edge : SwitchId) (items : List SwitchId) (i : ℕ) (x : SwitchId) →
-    take (i + 1) items ≡ take i items ++ x ∷ [] →
-    ((a : SwitchId) → served_by old a ≡ served_so_far before edge (take i items) a) →
-    ((a : SwitchId) → served_by new a ≡ cond (is_at (id_cmp x) a) (put_in (served_by old x) edge) (served_by old a)) →
-    (a : SwitchId) → served_by new a ≡ served_so_far before edge (take (i + 1) items) a
-serve_next before old new edge items i x more were says a =
-    serve_more before old new edge x (take i items) were says a ∙ ap (λ xs. served_so_far before edge xs a) (sym more)
+    by : (b : Bool) → same_switch a x ≡ b → cond b (slice_set (row_in old needed x) i true) (row_in old needed a)
+        ≡ cond (list_any (same_switch a) (take j items) || b) (slice_set (row_in before needed a) i true) (row_in before needed a)
+    by true same =
+        ap (λ z. slice_set (row_in old needed z) i true) (sym (same_is a x same))
+        ∙ ap (λ row. slice_set row i true) (were a) ∙ again (list_any (same_switch a) (take j items)) i (row_in before needed a)
+    by false same = were a ∙ ap (λ b. cond b (slice_set (row_in before needed a) i true) (row_in before needed a)) (or_false (list_any (same_switch a) (take j items)))
 
 -- all of its neighbours
-pub serve_all : (told : Told) (before new : Served) (edge : SwitchId) →
-    ((a : SwitchId) → served_by new a ≡ served_so_far before edge (alive_neighbours told edge) a) →
-    (a : SwitchId) → served_by new a ≡ cond (is_alive told a edge) (put_in (served_by before a) edge) (served_by before a)
-serve_all told before new edge says a =
-    says a ∙ ap (λ c. cond c (put_in (served_by before a) edge) (served_by before a)) (served_by_neighbours told edge a)
+pub serve_all : (told : Told) (before new : Served) (needed : List SwitchId) (i : ℕ) (edge : SwitchId) →
+    ((a : SwitchId) → row_in new needed a ≡ served_so_far before needed i (alive_neighbours told edge) a) →
+    (a : SwitchId) → row_in new needed a ≡ cond (is_alive told a edge) (slice_set (row_in before needed a) i true) (row_in before needed a)
+serve_all told before new needed i edge says a =
+    says a ∙ ap (λ c. cond c (slice_set (row_in before needed a) i true) (row_in before needed a)) (served_by_neighbours told edge a)
 
--- ---- one edge switch after another
-all_below : (xs ys : List SwitchId) (e : SwitchId) → IsStrictlySortedBy id_cmp (xs ++ e ∷ ys) → AllByRecursion (λ x. id_cmp x e ≡ Less) xs
-unfolding IsStrictlySortedBy
-all_below [] ys e s = tt
-all_below (x ∷ xs) ys e s = (last_of xs s.0, all_below xs ys e s.1)
+-- ---- the table, with a row of its own for one more switch
+pub row_started : (served after : Served) (needed : List SwitchId) (s : SwitchId) (i : ℕ) (row : List Bool) (t : SwitchId) →
+    value_at id_cmp served s ≡ None → row ≡ slice_set (map (λ e. false) needed) i true →
+    value_at id_cmp after t ≡ cond (is_at (id_cmp s) t) (Some row) (value_at id_cmp served t) →
+    row_in after needed t ≡ cond (is_at (id_cmp s) t) (slice_set (row_in served needed s) i true) (row_in served needed t)
+row_started served after needed s i row t none one put = ap (λ o. unwrap_or o (map (λ e. false) needed)) put ∙ by (is_at (id_cmp s) t)
   where
-    last_of : (zs : List SwitchId) → AllByRecursion (λ z. id_cmp x z ≡ Less) (zs ++ e ∷ ys) → id_cmp x e ≡ Less
-    last_of [] all = all.0
-    last_of (z ∷ zs) all = last_of zs all.1
-
-put_last : (p : SwitchId → Bool) (xs : List SwitchId) (e : SwitchId) → AllByRecursion (λ x. id_cmp x e ≡ Less) xs → put_in (filter p xs) e ≡ filter p xs ++ e ∷ []
-put_last p [] e all = refl
-put_last p (x ∷ xs) e all = by (put_last p xs e all.1) (p x)
-  where
-    by : put_in (filter p xs) e ≡ filter p xs ++ e ∷ [] → (b : Bool) →
-        put_in (cond b (x ∷ filter p xs) (filter p xs)) e ≡ cond b (x ∷ filter p xs) (filter p xs) ++ e ∷ []
-    by rest true =
-        ap (λ r. match_ordering r (e ∷ x ∷ filter p xs) (x ∷ filter p xs) (x ∷ put_in (filter p xs) e)) (id_total.antisymm e x ∙ ap ordering_reverse all.0)
-        ∙ ap (λ zs. x ∷ zs) rest
-    by rest false = rest
-
-pub one_more_served : (told : Told) (xs ys : List SwitchId) (e : SwitchId) (old new : Served) → IsStrictlySortedBy id_cmp (xs ++ e ∷ ys) →
-    AreServed told xs old →
-    ((a : SwitchId) → served_by new a ≡ cond (is_alive told a e) (put_in (served_by old a) e) (served_by old a)) → AreServed told (xs ++ e ∷ []) new
-one_more_served told xs ys e old new rising were says a =
-    let p = is_alive told a in
-    says a ∙ (λ i. cond (p e) (put_in (were a i) e) (were a i))
-    ∙ ap (λ zs. cond (p e) zs (filter p xs)) (put_last p xs e (all_below xs ys e rising))
-    ∙ sym (filter_more p xs e)
-
-pub served_next : (told : Told) (needed : List SwitchId) (i : ℕ) (x : SwitchId) (old new : Served) → IsStrictlySortedBy id_cmp needed →
-    take (i + 1) needed ≡ take i needed ++ x ∷ [] → AreServed told (take i needed) old →
-    ((a : SwitchId) → served_by new a ≡ cond (is_alive told a x) (put_in (served_by old a) x) (served_by old a)) → AreServed told (take (i + 1) needed) new
-served_next told needed i x old new rising more were says =
-    let rest = drop (i + 1) needed in
-    let whole : take i needed ++ x ∷ rest ≡ needed =
-    sym (append_assoc (take i needed) (x ∷ []) rest) ∙ ap (λ xs. xs ++ rest) (sym more) ∙ take-append-drop (i + 1) needed in
-    subst (λ xs. AreServed told xs new) (sym more)
-    (one_more_served told (take i needed) rest x old new (subst (IsStrictlySortedBy id_cmp) (sym whole) rising) were says)
+    by : (b : Bool) → unwrap_or (cond b (Some row) (value_at id_cmp served t)) (map (λ e. false) needed)
+        ≡ cond b (slice_set (row_in served needed s) i true) (row_in served needed t)
+    by true = one ∙ ap (λ o. slice_set (unwrap_or o (map (λ e. false) needed)) i true) (sym none)
+    by false = refl

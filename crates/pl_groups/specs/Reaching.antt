@@ -1,20 +1,19 @@
 -- What a core switch reaches, by what its aggregation switches serve.
-use Rattle.std.specs.Prelude.{◌≡◌, if◌then◌else◌, List, [], Option, None, Some, fold, ⊤}
-use Rattle.std.specs.BTreeSet.{insert_key}
+use Rattle.std.specs.Prelude.{◌≡◌, Bool, if◌then◌else◌, List, Option, None, Some, ⊤}
+use Rattle.pl_bits.specs.Rows.{either_row}
 use Rattle.pl_frame.specs.declared.address.SwitchId.{SwitchId}
-use Rattle.pl_logic.specs.ManagerViews.{Told, alive_neighbours, has_level, id_cmp}
+use Rattle.pl_logic.specs.ManagerViews.{Told, has_level, id_cmp, value_at}
 use Rattle.pl_logic.specs.Trees.{reach}
-use Rattle.pl_groups.specs.Serving.{served_by}
 use Rattle.pl_groups.specs.declared.cores.CoreReach.{CoreReach}
 
--- with what one more neighbour of the core switch serves
-abbrev pub reached_with : Told → List (SwitchId × List SwitchId) → List SwitchId → SwitchId → List SwitchId
-reached_with told served reached a =
-    if has_level told a 1 then fold (insert_key id_cmp) reached (served_by served a) else reached
+-- a row, with that of a switch that has one
+abbrev pub with_row : List Bool → Option (List Bool) → List Bool
+with_row row None = row
+with_row row (Some more) = either_row row more
 
--- with what all of them over links that are alive serve
-abbrev pub reached_by : Told → List (SwitchId × List SwitchId) → SwitchId → List SwitchId
-reached_by told served core = fold (reached_with told served) [] (alive_neighbours told core)
+-- with what one more neighbour of the core switch serves
+abbrev pub reached_with : Told → List (SwitchId × List Bool) → List Bool → SwitchId → List Bool
+reached_with told served row a = if has_level told a 1 then with_row row (value_at id_cmp served a) else row
 
 -- a core switch with its reach
 abbrev pub reach_at : Told → List SwitchId → SwitchId → CoreReach

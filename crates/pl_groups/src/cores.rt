@@ -1,15 +1,16 @@
 ghost use Rattle.std.specs.Prelude.{◌≡◌, ◌==◌, [], ◌∷◌, ◌++◌, if◌then◌else◌, IfOk, IsTrue, OnOk, filter, map};
-ghost use Rattle.std.specs.List.Sorted.{IsStrictlySortedBy};
+ghost use Rattle.std.specs.Option.{option_copied};
 ghost use Rattle.pl_frame.specs.declared.address.SwitchId.{SwitchId};
-ghost use Rattle.pl_logic.specs.ManagerViews.{alive_neighbours, has_level, id_cmp};
-ghost use Rattle.pl_logic.specs.Trees.{best_cores, core_for, cores, largest, reach, turn};
-ghost use Rattle.pl_groups.specs.Reaching.{IsReachOf, reached_by, reached_with, reach_at};
+ghost use Rattle.pl_logic.specs.ManagerViews.{alive_neighbours, has_level};
+ghost use Rattle.pl_logic.specs.Trees.{best_cores, core_for, core_reaches, cores, largest, reach, turn};
+ghost use Rattle.pl_groups.specs.Reaching.{IsReachOf, reach_at, reached_with, with_row};
 ghost use Rattle.pl_groups.specs.Serving.{AreServed};
 
-use crate::needs::{Served, add_all, edges_of};
+use crate::needs::Served;
 use crate::place_tests::has_level;
+use pl_bits::Row;
 use pl_frame::SwitchId;
-use pl_logic::{Memory, SwitchList};
+use pl_logic::Memory;
 use pl_reports::Reports;
 use std::alloc::Global;
 
@@ -28,7 +29,6 @@ pub(crate) fn core_for(
     needed: &[SwitchId],
     served: &Served,
 ) -> Result<Option<SwitchId>, Memory>
-    requires rising { IsStrictlySortedBy id_cmp needed.now }
     requires served { AreServed reports.now needed.now served.now.entries }
     ensures { IfOk result (λ core. core ≡ core_for reports.now group needed.now) }
 {
@@ -47,7 +47,6 @@ fn reaches(
     needed: &[SwitchId],
     served: &Served,
 ) -> Result<Vec<CoreReach>, Memory>
-    requires rising { IsStrictlySortedBy id_cmp needed.now }
     requires served { AreServed reports.now needed.now served.now.entries }
     ensures { IfOk result (λ reaches. reaches.items ≡ map (reach_at reports.now needed.now) (cores reports.now)) }
 {
@@ -69,7 +68,6 @@ fn rank(
     switch: SwitchId,
     last: Option<CoreReach>,
 ) -> Result<Option<CoreReach>, Memory>
-    requires rising { IsStrictlySortedBy id_cmp needed.now }
     requires served { AreServed reports.now needed.now served.now.entries }
     requires last { IsReachOf reports.now needed.now last }
     ensures ranked { OnOk result (reaches.new.items
@@ -93,7 +91,6 @@ fn reach_after(
     core: SwitchId,
     last: Option<CoreReach>,
 ) -> Result<CoreReach, Memory>
-    requires rising { IsStrictlySortedBy id_cmp needed.now }
     requires served { AreServed reports.now needed.now served.now.entries }
     requires last { IsReachOf reports.now needed.now last }
     ensures { IfOk result (λ now. now ≡ reach_at reports.now needed.now core) }
@@ -112,7 +109,6 @@ fn reach_beside(
     core: SwitchId,
     before: CoreReach,
 ) -> Result<CoreReach, Memory>
-    requires rising { IsStrictlySortedBy id_cmp needed.now }
     requires served { AreServed reports.now needed.now served.now.entries }
     requires before { before.edges ≡ reach reports.now needed.now before.core }
     ensures { IfOk result (λ now. now ≡ reach_at reports.now needed.now core) }
@@ -133,7 +129,6 @@ fn reach_anew(
     served: &Served,
     core: SwitchId,
 ) -> Result<CoreReach, Memory>
-    requires rising { IsStrictlySortedBy id_cmp needed.now }
     requires served { AreServed reports.now needed.now served.now.entries }
     ensures { IfOk result (λ now. now ≡ reach_at reports.now needed.now core) }
 {
@@ -162,43 +157,46 @@ fn reach(
     served: &Served,
     core: SwitchId,
 ) -> Result<usize, Memory>
-    requires rising { IsStrictlySortedBy id_cmp needed.now }
     requires served { AreServed reports.now needed.now served.now.entries }
     ensures { IfOk result (λ edges. edges ≡ reach reports.now needed.now core) }
 {
-    let reached = reached(alloc, reports, served, core)?;
-    Ok(reached.len())
+    let reached = reached(alloc, reports, needed, served, core)?;
+    Ok(reached.count())
 }
 
-// What its aggregation switches serve.
+// Which of them its aggregation switches serve.
 fn reached(
     alloc: Global,
     reports: &Reports,
+    needed: &[SwitchId],
     served: &Served,
     core: SwitchId,
-) -> Result<SwitchList, Memory>
-    ensures { IfOk result (λ reached. reached ≡ reached_by reports.now served.now.entries core) }
+) -> Result<Row, Memory>
+    requires served { AreServed reports.now needed.now served.now.entries }
+    ensures { IfOk result (λ reached. reached ≡ map (core_reaches reports.now core) needed.now) }
 {
-    let mut reached = SwitchList::new(alloc);
+    let mut reached = Row::new(alloc, needed.len())?;
     for switch in reports.alive_neighbours(core) {
-        reach_by(&mut reached, reports, served, *switch)?;
+        reach_by(&mut reached, reports, served, *switch);
     }
     Ok(reached)
 }
 
-// What a neighbour serves, if it is one of these.
-fn reach_by(
-    reached: &mut SwitchList,
-    reports: &Reports,
-    served: &Served,
-    neighbour: SwitchId,
-) -> Result<(), Memory>
-    ensures { OnOk result (reached.new ≡ reached_with reports.now served.now.entries reached.old neighbour) }
+// With what a neighbour serves, if it is one of these.
+fn reach_by(reached: &mut Row, reports: &Reports, served: &Served, neighbour: SwitchId)
+    ensures { reached.new ≡ reached_with reports.now served.now.entries reached.old neighbour }
 {
     if has_level(reports, neighbour, 1) {
-        add_all(reached, edges_of(served, neighbour))?;
+        add_row(reached, served.get(&neighbour));
     }
-    Ok(())
+}
+
+fn add_row(reached: &mut Row, more: Option<&Row>)
+    ensures { reached.new ≡ with_row reached.old (option_copied more.entry) }
+{
+    if let Some(row) = more {
+        reached.add(row);
+    }
 }
 
 // Those of the largest reach.

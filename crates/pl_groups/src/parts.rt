@@ -1,15 +1,15 @@
-ghost use Rattle.std.specs.Prelude.{◌≡◌, ◌==◌, ◌&&◌, IfOk, find, length, not, option_map};
+ghost use Rattle.std.specs.Prelude.{◌≡◌, ◌==◌, ◌&&◌, IfOk, find, not, option_map};
 ghost use Rattle.std.specs.Cmp.Lexicographic.{pointwise};
 ghost use Rattle.std.specs.List.Sorted.{IsStrictlySortedBy};
 ghost use Rattle.std.specs.Option.{option_copied};
 ghost use Rattle.pl_frame.specs.declared.address.SwitchId.{SwitchId};
 ghost use Rattle.pl_layouts.specs.Equality.{same_switch};
-ghost use Rattle.pl_logic.specs.ManagerViews.{alive_at_level, edge_at, has_level, has_pod, id_cmp, is_alive, place_of};
+ghost use Rattle.pl_logic.specs.ManagerViews.{alive_at_level, edge_at, has_level, has_pod, id_cmp, is_alive, place_of, value_at};
 ghost use Rattle.pl_logic.specs.Trees.{aggregation_part, core_part, edge_part, part_under};
 ghost use Rattle.pl_manager_rule.specs.ManagerRule.{same_part, same_up};
-ghost use Rattle.pl_groups.specs.Serving.{AreServed, served_by};
+ghost use Rattle.pl_groups.specs.Serving.{AreServed, many_served};
 
-use crate::needs::{Served, add_all, add_if, edges_of};
+use crate::needs::{Served, add_if, edges_of, many_served};
 use crate::place_tests::{has_level, has_pod, is_joined};
 use pl_frame::SwitchId;
 use pl_logic::{Memory, SwitchList, TreePart};
@@ -60,9 +60,9 @@ fn core_part(
 // Whether a neighbour of the core switch is one of these.
 fn is_below(reports: &Reports, served: &Served, core: SwitchId, neighbour: SwitchId) -> bool
     ensures { result ≡ ((is_alive reports.now core neighbour && has_level reports.now neighbour 1)
-        && not (length (served_by served.now.entries neighbour) == 0)) }
+        && not (many_served (value_at id_cmp served.now.entries neighbour) == 0)) }
 {
-    is_joined(reports, core, neighbour) && !edges_of(served, neighbour).is_empty()
+    is_joined(reports, core, neighbour) && many_served(served, neighbour) != 0
 }
 
 // An aggregation switch sends up to the core switch, and down to the edge switches that it serves.
@@ -78,8 +78,7 @@ fn aggregation_part(
     requires served { AreServed reports.now needed.now served.now.entries }
     ensures { IfOk result (λ part. part ≡ aggregation_part reports.now needed.now core switch) }
 {
-    let mut down = SwitchList::new(alloc);
-    add_all(&mut down, edges_of(served, switch))?;
+    let down = edges_of(alloc, needed, served, switch)?;
     Ok(TreePart {
         up: Some(core),
         down,

@@ -1,9 +1,9 @@
-use Rattle.std.proofs.Common.{◌∙◌, ap, length, List}
-use Rattle.pl_frame.specs.declared.address.SwitchId.{SwitchId}
-use Rattle.pl_groups.proofs.Reached.{reached_is}
+use Rattle.std.proofs.Common.{◌∙◌, ap}
+use Rattle.pl_bits.specs.Rows.{trues}
+use Rattle.pl_logic.specs.Trees.{core_reaches}
+use Rattle.pl_groups.proofs.Rows.{count_is}
 use Rattle.pl_groups.proofs.cores.reach.Goals as goal
 
 pub returns : goal.returns
 returns c =
-    c.len.ensures
-    ∙ ap (λ (xs : List SwitchId). length xs) (c.in_ok-reached.ensures ∙ reached_is c.args.reports.now c.args.served.now.entries c.args.core c.args.needed.now c.requires.rising c.requires.served)
+    c.count.ensures ∙ ap trues c.in_ok-reached.ensures ∙ count_is (core_reaches c.args.reports.now c.args.core) c.args.needed.now

@@ -1,7 +1,7 @@
-use Rattle.std.proofs.Common.{◌≡◌, [], fold, take}
-use Rattle.pl_groups.specs.Reaching.{reached_with}
+use Rattle.std.proofs.Common.{◌≡◌, map, take}
+use Rattle.pl_groups.proofs.Rows.{reached_in}
 use Rattle.pl_groups.proofs.cores.reached.Given as goal
 
 abbrev pub invariant-loop-switch : goal.invariant-loop-switch
 invariant-loop-switch l =
-    l.reached ≡ fold (reached_with l.reports l.served.entries) [] (take l.switch-index l.switch-items)
+    l.reached ≡ map (reached_in l.reports (take l.switch-index l.switch-items)) l.needed

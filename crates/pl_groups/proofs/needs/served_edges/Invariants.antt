@@ -1,7 +1,10 @@
-use Rattle.std.proofs.Common.{take}
-use Rattle.pl_groups.specs.Serving.{AreServed}
+use Rattle.std.proofs.Common.{◌≡◌}
+use Rattle.pl_frame.specs.declared.address.SwitchId.{SwitchId}
+use Rattle.pl_logic.specs.ManagerViews.{is_alive}
+use Rattle.pl_groups.specs.Serving.{row_in}
+use Rattle.pl_groups.proofs.Filled.{filled_to}
 use Rattle.pl_groups.proofs.needs.served_edges.Given as goal
 
-abbrev pub invariant-loop-edge : goal.invariant-loop-edge
-invariant-loop-edge l =
-    AreServed l.reports (take l.edge-index l.needed) l.served.entries
+abbrev pub invariant-loop-i : goal.invariant-loop-i
+invariant-loop-i l =
+    (a : SwitchId) → row_in l.served.entries l.needed a ≡ filled_to (is_alive l.fn.reports a) l.needed l.i

@@ -25,18 +25,18 @@ filter_map p f [] = refl
 filter_map p f (x ∷ xs) =
     ap (λ l. cond (p (f x)) (f x ∷ l) l) (filter_map p f xs) ∙ map_chosen f (p (f x)) x (filter (λ y. p (f y)) xs)
 
--- names of the places of a bank, and others behind them
-module _ {A : Type 0} (f : ℕ → A) (places : List ℕ) (rest : List A) where
-  in_front : (i : ℕ) → i < length places → option_map f (slice_get places i) ≡ slice_get (map f places ++ rest) i
-  in_front i within = sym (slice_get-map f places i) ∙ sym (slice_get_left (map f places) rest i (omega (arith, within, length-map places f)))
+-- names of the indices of a bank, and others behind them
+module _ {A : Type 0} (f : ℕ → A) (indices : List ℕ) (rest : List A) where
+  in_front : (i : ℕ) → i < length indices → option_map f (slice_get indices i) ≡ slice_get (map f indices ++ rest) i
+  in_front i within = sym (slice_get-map f indices i) ∙ sym (slice_get_left (map f indices) rest i (omega (arith, within, length-map indices f)))
 
-  behind : (i n : ℕ) → n ≡ length places → n ≤ i → slice_get rest (i - n) ≡ slice_get (map f places ++ rest) i
+  behind : (i n : ℕ) → n ≡ length indices → n ≤ i → slice_get rest (i - n) ≡ slice_get (map f indices ++ rest) i
   behind i n many past =
-      ap (λ m. slice_get rest (i - m)) (many ∙ sym (length-map places f))
-      ∙ sym (slice_get_right (map f places) rest i (omega (arith, many, past, length-map places f)))
+      ap (λ m. slice_get rest (i - m)) (many ∙ sym (length-map indices f))
+      ∙ sym (slice_get_right (map f indices) rest i (omega (arith, many, past, length-map indices f)))
 
-  length_of_both : length (map f places ++ rest) ≡ length places + length rest
-  length_of_both = let both = length-append (map f places) rest in omega (arith, both, length-map places f)
+  length_of_both : length (map f indices ++ rest) ≡ length indices + length rest
+  length_of_both = let both = length-append (map f indices) rest in omega (arith, both, length-map indices f)
 
 module _ (w : WorldView) where
   abbrev hosts : List ℕ
@@ -57,7 +57,7 @@ module _ (w : WorldView) where
   abbrev behind_hosts : List QueueName
   behind_hosts = map (port_queue w.plan.k) ports ++ of_manager
 
-  -- the places of a bank of n queues, whose names pass where their queues have items
+  -- the indices of a bank of n queues, whose names pass where their queues have items
   bank_is : {T : Type 0} (name : ℕ → QueueName) (bank : List (List T)) (n : ℕ) → ((at : ℕ) → is_filled w (name at) ≡ has_items (items_at bank at))
       → length bank ≡ n → filter (is_filled w) (map name (range_with_len 0 n)) ≡ map name (filled_indices bank)
   bank_is name bank n same long =
@@ -72,7 +72,7 @@ module _ (w : WorldView) where
     ports_are : filter (is_filled w) (flat_map (queues_out_of w.plan.k) (switch_numbers w.plan)) ≡ map (port_queue w.plan.k) ports
     ports_are =
         ap (filter (is_filled w)) (ports_in_a_row w.plan (omega (arith, formed.plan.arity.least)))
-        ∙ bank_is (port_queue w.plan.k) w.out (switch_count w.plan.k * w.plan.k) (λ at. ap (λ place. has_items (items_at w.out place)) (div-add-mod' at w.plan.k)) formed.out
+        ∙ bank_is (port_queue w.plan.k) w.out (switch_count w.plan.k * w.plan.k) (λ at. ap (λ index. has_items (items_at w.out index)) (div-add-mod' at w.plan.k)) formed.out
 
     reports_are : filter (is_filled w) (map report_queue (switch_numbers w.plan)) ≡ map report_queue reports
     reports_are = bank_is report_queue w.to_manager (switch_count w.plan.k) (λ at. refl) formed.to_manager

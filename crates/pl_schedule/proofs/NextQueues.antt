@@ -67,29 +67,29 @@ module _ (test : ℕ → Bool) (from : ℕ) where
 
   -- a bank whose queues have the numbers from `first` on
   pub first_in_bank : {T : Type 0} (first : ℕ) (bank : List (List T)) (answer : Option ℕ)
-      → ((place : ℕ) → place < length bank → test (first + place) ≡ has_items (items_at bank place))
+      → ((index : ℕ) → index < length bank → test (first + index) ≡ has_items (items_at bank index))
       → answer ≡ next_in first bank from → IsFirst first (first + length bank) answer
   first_in_bank first bank answer same is =
       subst (IsFirst first (first + length bank)) (sym is)
       (found (next_filled bank (from - first)) (next_index_is_least (λ at. has_items (items_at bank at)) (length bank) (from - first) (next_filled bank (from - first)) refl))
     where
-      at_place : (k : ℕ) → first ≤ k → k < first + length bank → test k ≡ has_items (items_at bank (k - first))
-      at_place k above below =
+      at_index : (k : ℕ) → first ≤ k → k < first + length bank → test k ≡ has_items (items_at bank (k - first))
+      at_index k above below =
           let back : k ≡ first + (k - first) = omega arith in
           ap test back ∙ same (k - first) (omega arith)
 
       found : (o : Option ℕ)
           → MatchOption o ((k : ℕ) → from - first ≤ k → k < length bank → has_items (items_at bank k) ≡ false)
           (λ at. IsLeast (λ at. has_items (items_at bank at)) (from - first) at × (at < length bank))
-          → IsFirst first (first + length bank) (option_map (λ place. first + place) o)
-      found None h = λ k late above below. at_place k above below ∙ h (k - first) (omega arith) (omega arith)
-      found (Some place) h =
+          → IsFirst first (first + length bank) (option_map (λ index. first + index) o)
+      found None h = λ k late above below. at_index k above below ∙ h (k - first) (omega arith) (omega arith)
+      found (Some index) h =
           let reached = h.0.reached in (
             omega arith,
             omega (arith, h.1),
             omega arith,
-            same place h.1 ∙ h.0.passes,
-            λ k late above below. at_place k above (omega (arith, h.1)) ∙ h.0.least (k - first) (omega arith) (omega arith),
+            same index h.1 ∙ h.0.passes,
+            λ k late above below. at_index k above (omega (arith, h.1)) ∙ h.0.least (k - first) (omega arith) (omega arith),
           )
 
 -- the queues of a number
@@ -97,10 +97,10 @@ module _ (plan : Plan) where
   pub queue_at-host : (n : ℕ) → n < first_out plan → queue_at plan n ≡ queue.FromHost (host_no n)
   queue_at-host n h = rw (lt-ltb n (first_out plan) h) refl
 
-  pub queue_at-out : (place : ℕ) → place < switch_count plan.k * plan.k → queue_at plan (first_out plan + place) ≡ port_queue plan.k place
-  queue_at-out place h =
-      let back : first_out plan + place - first_out plan ≡ place = omega arith in
-      rw (le-ltb (first_out plan + place) (first_out plan) (omega arith), lt-ltb (first_out plan + place) (first_to_manager plan) (omega arith), back) refl
+  pub queue_at-out : (index : ℕ) → index < switch_count plan.k * plan.k → queue_at plan (first_out plan + index) ≡ port_queue plan.k index
+  queue_at-out index h =
+      let back : first_out plan + index - first_out plan ≡ index = omega arith in
+      rw (le-ltb (first_out plan + index) (first_out plan) (omega arith), lt-ltb (first_out plan + index) (first_to_manager plan) (omega arith), back) refl
 
   pub queue_at-to_manager : (s : ℕ) → s < switch_count plan.k → queue_at plan (first_to_manager plan + s) ≡ queue.ToManager (switch_no s)
   queue_at-to_manager s h =
@@ -124,15 +124,15 @@ module _ (plan : Plan) where
 
 -- each bank of a world has the queues of its numbers
 module _ (w : WorldView) (formed : IsFormed w) where
-  items_from_host : (place : ℕ) → place < length w.from_hosts → has_items_at w (0 + place) ≡ has_items (items_at w.from_hosts place)
-  items_from_host place h =
-      ap (has_items_at w) (zero-add place)
-      ∙ ap (is_filled w) (queue_at-host w.plan place (omega (arith, h, formed.from_hosts)))
+  items_from_host : (index : ℕ) → index < length w.from_hosts → has_items_at w (0 + index) ≡ has_items (items_at w.from_hosts index)
+  items_from_host index h =
+      ap (has_items_at w) (zero-add index)
+      ∙ ap (is_filled w) (queue_at-host w.plan index (omega (arith, h, formed.from_hosts)))
 
-  items_out : (place : ℕ) → place < length w.out → has_items_at w (first_out w.plan + place) ≡ has_items (items_at w.out place)
-  items_out place h =
-      ap (is_filled w) (queue_at-out w.plan place (omega (arith, h, formed.out)))
-      ∙ ap (λ at. has_items (items_at w.out at)) (div-add-mod' place w.plan.k)
+  items_out : (index : ℕ) → index < length w.out → has_items_at w (first_out w.plan + index) ≡ has_items (items_at w.out index)
+  items_out index h =
+      ap (is_filled w) (queue_at-out w.plan index (omega (arith, h, formed.out)))
+      ∙ ap (λ at. has_items (items_at w.out at)) (div-add-mod' index w.plan.k)
 
   items_to_manager : (s : ℕ) → s < length w.to_manager → has_items_at w (first_to_manager w.plan + s) ≡ has_items (items_at w.to_manager s)
   items_to_manager s h =
@@ -203,11 +203,11 @@ queue_is_there plan n ports within = elim (cases_lt n (first_out plan)) [
   | inl host ↦ ap (has_queue plan) (queue_at-host plan n host) ∙ lt-ltb n (first_out plan) host
   | inr past ↦ elim (cases_lt n (first_to_manager plan)) [
     | inl out ↦
-        let place : ℕ = n - first_out plan in
-        let low : place < switch_count plan.k * plan.k = omega arith in
-        ap (λ m. has_queue plan (queue_at plan m)) (omega arith) ∙ ap (has_queue plan) (queue_at-out plan place low)
-        ∙ ap (λ b. b && ltb (place % plan.k) plan.k) (lt-ltb (place / plan.k) (switch_count plan.k) (div_below place plan.k (switch_count plan.k) ports low))
-        ∙ lt-ltb (place % plan.k) plan.k (mod_below place plan.k ports)
+        let index : ℕ = n - first_out plan in
+        let low : index < switch_count plan.k * plan.k = omega arith in
+        ap (λ m. has_queue plan (queue_at plan m)) (omega arith) ∙ ap (has_queue plan) (queue_at-out plan index low)
+        ∙ ap (λ b. b && ltb (index % plan.k) plan.k) (lt-ltb (index / plan.k) (switch_count plan.k) (div_below index plan.k (switch_count plan.k) ports low))
+        ∙ lt-ltb (index % plan.k) plan.k (mod_below index plan.k ports)
     | inr beyond ↦ elim (cases_lt n (first_from_manager plan)) [
       | inl report ↦
           let s : ℕ = n - first_to_manager plan in

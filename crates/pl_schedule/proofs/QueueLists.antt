@@ -68,15 +68,15 @@ module _ (plan : Plan) where
   length-from_manager : length from_manager ≡ switch_count plan.k
   length-from_manager = length-map-range_with_len (λ s. queue.FromManager (switch_no s)) 0 (switch_count plan.k)
 
-  -- the queues out of all ports, by the places of the ports
+  -- the queues out of all ports, by the indices of the ports
   pub ports_in_a_row : 0 < plan.k → out ≡ map (port_queue plan.k) (range_with_len 0 (switch_count plan.k * plan.k))
   ports_in_a_row ports =
       let d : QueueName = queue.FromHost (host_no 0) in
-      fill_by_all (port_queue plan.k) out (switch_count plan.k * plan.k) d length-out (λ place low.
-      let row : place / plan.k < switch_count plan.k = div_below place plan.k (switch_count plan.k) ports low in
-      ap (λ at. get_or out at d) (sym (div-add-mod' place plan.k))
-      ∙ at_row plan.k d (switch_count plan.k) 0 (place / plan.k) (place % plan.k) row (mod_below place plan.k ports)
-      ∙ ap (λ s. queue.Port (switch_no s) (place % plan.k)) (zero-add (place / plan.k)))
+      fill_by_all (port_queue plan.k) out (switch_count plan.k * plan.k) d length-out (λ index low.
+      let row : index / plan.k < switch_count plan.k = div_below index plan.k (switch_count plan.k) ports low in
+      ap (λ at. get_or out at d) (sym (div-add-mod' index plan.k))
+      ∙ at_row plan.k d (switch_count plan.k) 0 (index / plan.k) (index % plan.k) row (mod_below index plan.k ports)
+      ∙ ap (λ s. queue.Port (switch_no s) (index % plan.k)) (zero-add (index / plan.k)))
 
   pub length_of_order : length (queue_order plan) ≡ queue_count plan
   unfolding queue_order
@@ -112,15 +112,15 @@ module _ (plan : Plan) where
 
     at_port : 0 < plan.k → first_out plan ≤ n → n < first_to_manager plan → get_or (queue_order plan) n d ≡ queue_at plan n
     at_port ports past h =
-        let place : ℕ = n - first_out plan in
-        let low : place < switch_count plan.k * plan.k = omega arith in
-        let row : place / plan.k < switch_count plan.k = div_below place plan.k (switch_count plan.k) ports low in
+        let index : ℕ = n - first_out plan in
+        let low : index < switch_count plan.k * plan.k = omega arith in
+        let row : index / plan.k < switch_count plan.k = div_below index plan.k (switch_count plan.k) ports low in
         behind_hosts past
-        ∙ get_or_append_left out (to_manager ++ from_manager) d place (omega (arith, low, length-out))
-        ∙ ap (λ at. get_or out at d) (sym (div-add-mod' place plan.k))
-        ∙ at_row plan.k d (switch_count plan.k) 0 (place / plan.k) (place % plan.k) row (mod_below place plan.k ports)
-        ∙ ap (λ s. queue.Port (switch_no s) (place % plan.k)) (zero-add (place / plan.k))
-        ∙ sym (queue_at-out plan place low) ∙ ap (queue_at plan) (omega arith)
+        ∙ get_or_append_left out (to_manager ++ from_manager) d index (omega (arith, low, length-out))
+        ∙ ap (λ at. get_or out at d) (sym (div-add-mod' index plan.k))
+        ∙ at_row plan.k d (switch_count plan.k) 0 (index / plan.k) (index % plan.k) row (mod_below index plan.k ports)
+        ∙ ap (λ s. queue.Port (switch_no s) (index % plan.k)) (zero-add (index / plan.k))
+        ∙ sym (queue_at-out plan index low) ∙ ap (queue_at plan) (omega arith)
 
     at_report : first_to_manager plan ≤ n → n < first_from_manager plan → get_or (queue_order plan) n d ≡ queue_at plan n
     at_report past h =

@@ -1,5 +1,4 @@
-ghost use Rattle.std.specs.Prelude.{◌≡◌, ◌<◌, ◌+◌, [], length, IfOk, OnErr, OnOk};
-ghost use Rattle.pl_wiring.specs.Index.{port_index};
+ghost use Rattle.std.specs.Prelude.{◌≡◌, ◌<◌, ◌+◌, [], IfOk, OnErr, OnOk};
 ghost use Rattle.pl_wiring.specs.Labels.{switch_count};
 ghost use Rattle.pl_world.specs.Changes.{all_noted, begun_by, host_of, is_failed_at, noted, said_to_switch, sent_if_live, told_manager};
 ghost use Rattle.pl_world.specs.SwitchActs.{granted};
@@ -109,17 +108,6 @@ impl<S: SwitchLogic, M: ManagerLogic, H: HostLogic> World<S, M, H> {
         }
     }
 
-    // The place of a port's queue.
-    fn queue_index(&self, s: SwitchNo, port: u8) -> usize
-        requires switch { s.0 < switch_count self.now.plan.k }
-        requires port { port < self.now.plan.k }
-        ensures place { result ≡ port_index self.now.plan.k s.0 port }
-        ensures within { result < length self.now.out }
-    {
-        let k = self.atlas.wiring().k();
-        s.0 as usize * k as usize + port as usize
-    }
-
     fn send_out(&mut self, s: SwitchNo, port: u8, item: Item) -> Result<(), Memory>
         requires switch { s.0 < switch_count self.old.plan.k }
         requires port { port < self.old.plan.k }
@@ -128,8 +116,7 @@ impl<S: SwitchLogic, M: ManagerLogic, H: HostLogic> World<S, M, H> {
         if self.is_failed_at(s, port) {
             return Ok(());
         }
-        let place = self.queue_index(s, port);
-        self.switches.put(place, item)
+        self.switches.put(s.0 as usize, port, item)
     }
 
     fn tell(&mut self, s: SwitchNo, told: ToManager) -> Result<(), Memory>

@@ -1,4 +1,4 @@
-pub mod FirstPlaces
+pub mod FirstIndices
 pub mod Standing
 pub mod OneChanged
 pub mod Stepping

@@ -43,7 +43,7 @@ one_between k links m n d a b tree hm hn bm bn =
       ]
     ]
 
--- where the link at a place passes, and no other does, it is found
+-- where the link at an index passes, and no other does, it is found
 found_only : (p : Link → Bool) (links : List Link) (m : ℕ) (link : Link) → m < length links → get_or links m link ≡ link → p link ≡ true →
     ((n : ℕ) → n < length links → p (get_or links n link) ≡ true → n ≡ m) → find p links ≡ Some link
 found_only p [] m link within is passes only = absurd (omega arith)

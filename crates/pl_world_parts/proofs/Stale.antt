@@ -31,46 +31,46 @@ module _ (k : ℕ) (switches : List SwitchView) (out : List (List Item)) (s port
   module _ (queue : List Item) where
     at_other : (t q : ℕ) → q < k → port < k → port_index k s port ≡ at → ((t ≡ s) × (q ≡ port) → ⊥) →
         items_at (slice_set out at queue) (port_index k t q) ≡ items_at out (port_index k t q)
-    at_other t q low within place apart =
-        get_or-set_other out at (port_index k t q) queue [] (λ e. apart (same_from_place t q s port k low within (e ∙ sym place)))
+    at_other t q low within index apart =
+        get_or-set_other out at (port_index k t q) queue [] (λ e. apart (same_from_place t q s port k low within (e ∙ sym index)))
 
     at_this : port < k → port_index k s port ≡ at → at < length out →
         stale_at k switches (slice_set out at queue) s + stale_in (slice_get switches s) port (items_at out at)
         ≡ stale_at k switches out s + stale_in (slice_get switches s) port queue
-    at_this within place there =
+    at_this within index there =
         let v : Option SwitchView = slice_get switches s in
         let new : ℕ → ℕ = λ q. stale_in v q (items_at (slice_set out at queue) (port_index k s q)) in
         let old : ℕ → ℕ = λ q. stale_in v q (items_at out (port_index k s q)) in
         let sums : stale_at k switches (slice_set out at queue) s + old port ≡ stale_at k switches out s + new port =
         sums_changed new old k 0 port (omega arith) (omega (arith, within))
-        (λ q low high apart. ap (stale_in v q) (at_other s q (omega (arith, high)) within place (λ e. apart e.1))) in
-        let was : old port ≡ stale_in v port (items_at out at) = ap (λ n. stale_in v port (items_at out n)) place in
+        (λ q low high apart. ap (stale_in v q) (at_other s q (omega (arith, high)) within index (λ e. apart e.1))) in
+        let was : old port ≡ stale_in v port (items_at out at) = ap (λ n. stale_in v port (items_at out n)) index in
         let is : new port ≡ stale_in v port queue =
-        ap (λ n. stale_in v port (items_at (slice_set out at queue) n)) place ∙ ap (stale_in v port) (get_or-set_same out at queue [] there) in
+        ap (λ n. stale_in v port (items_at (slice_set out at queue) n)) index ∙ ap (stale_in v port) (get_or-set_same out at queue [] there) in
         omega (arith, sums, was, is)
 
     -- a queue becomes another
     pub queue_changes : port < k → port_index k s port ≡ at → at < length out → s < length switches →
         stale k switches (slice_set out at queue) + stale_in (slice_get switches s) port (items_at out at)
         ≡ stale k switches out + stale_in (slice_get switches s) port queue
-    queue_changes within place there low =
+    queue_changes within index there low =
         let sums : stale k switches (slice_set out at queue) + stale_at k switches out s ≡ stale k switches out + stale_at k switches (slice_set out at queue) s =
         sums_changed (stale_at k switches (slice_set out at queue)) (stale_at k switches out) (length switches) 0 s (omega arith) (omega (arith, low))
         (λ t above below apart.
         sums_same (λ q. stale_in (slice_get switches t) q (items_at (slice_set out at queue) (port_index k t q)))
         (λ q. stale_in (slice_get switches t) q (items_at out (port_index k t q))) k 0
-        (λ q above below. ap (stale_in (slice_get switches t) q) (at_other t q (omega (arith, below)) within place (λ e. apart e.0)))) in
-        let here = at_this within place there in
+        (λ q above below. ap (stale_in (slice_get switches t) q) (at_other t q (omega (arith, below)) within index (λ e. apart e.0)))) in
+        let here = at_this within index there in
         omega (arith, sums, here)
 
   -- one queue has no more than all
   pub queue_le : port < k → port_index k s port ≡ at → s < length switches → stale_in (slice_get switches s) port (items_at out at) ≤ stale k switches out
-  queue_le within place low =
+  queue_le within index low =
       let one : stale_at k switches out s ≤ stale k switches out = one_le_sum (stale_at k switches out) (length switches) 0 s (omega arith) (omega (arith, low)) in
       let mine : stale_in (slice_get switches s) port (items_at out (port_index k s port)) ≤ stale_at k switches out s =
       one_le_sum (λ q. stale_in (slice_get switches s) q (items_at out (port_index k s q))) k 0 port (omega arith) (omega (arith, within)) in
       let here : stale_in (slice_get switches s) port (items_at out (port_index k s port)) ≡ stale_in (slice_get switches s) port (items_at out at) =
-      ap (λ n. stale_in (slice_get switches s) port (items_at out n)) place in
+      ap (λ n. stale_in (slice_get switches s) port (items_at out n)) index in
       omega (arith, one, mine, here)
 
 module _ {X : Type 0} where

@@ -20,6 +20,7 @@ use Rattle.pl_world.specs.Pending.{HasQueues, KeepsStale, is_control_item, is_st
 use Rattle.pl_world.proofs.SettledQueues.{none_in}
 use Rattle.pl_world_parts.specs.declared.said.Said.{Said}
 use Rattle.pl_world_parts.specs.OneStep.{IsOneChanged, sizes}
+use Rattle.pl_world_parts.specs.QueueIndices.{IsQueueIndex}
 use Rattle.pl_world_parts.specs.StaleCounts.{KeepsEach, is_stale_under, said_at}
 use Rattle.pl_world_parts.proofs.OneChanged.{found-map}
 use Rattle.pl_world_parts.proofs.Stale.{one_at_most, parts_fit, port_part, queue_changes, queue_le, slice_get-set_other, stale_fits, stale_in_le}
@@ -68,14 +69,14 @@ set_back (queue ∷ queues) (suc at) = ap (λ rest. queue ∷ rest) (set_back qu
 
 module _ (k : ℕ) (switches : List SwitchView) (out : List (List Item)) (counts : List ℕ) where
   pub each_at : KeepsEach (all_switches k switches out) counts → (s port at : ℕ) → port < k → port_index k s port ≡ at → slice_index_or counts at 0 ≡ stale_in (slice_get switches s) port (items_at out at)
-  each_at each s port at within place =
-      subst (λ n. slice_index_or counts n 0 ≡ stale_in (slice_get switches s) port (items_at out n)) place (each.are s port within)
+  each_at each s port at within index =
+      subst (λ n. slice_index_or counts n 0 ≡ stale_in (slice_get switches s) port (items_at out n)) index (each.are s port within)
 
   -- a queue becomes another
   pub each_set : KeepsEach (all_switches k switches out) counts → (s port at n : ℕ) (queue : List Item) (new : List (List Item)) (after : List ℕ) →
       port < k → port_index k s port ≡ at → at < length out → n ≡ stale_in (slice_get switches s) port queue →
       new ≡ slice_set out at queue → after ≡ slice_set counts at n → KeepsEach (all_switches k switches new) after
-  each_set each s port at n queue new after within place there is queues numbers =
+  each_set each s port at n queue new after within index there is queues numbers =
       let many : length after ≡ length counts = ap length numbers ∙ length-set counts at n in
       let banks : length new ≡ length out = ap length queues ∙ length-set out at queue in
       let low : at < length counts = omega (arith, there, each.many) in
@@ -93,7 +94,7 @@ module _ (k : ℕ) (switches : List SwitchView) (out : List (List Item)) (counts
       set_at t q inside low =
           elim (cases_eq (port_index k t q) at) [
             | inl same ↦
-                let both = same_from_place t q s port k inside within (same ∙ sym place) in
+                let both = same_from_place t q s port k inside within (same ∙ sym index) in
                 ap (λ i. slice_index_or (slice_set counts at n) i 0) same ∙ get_or-set_same counts at n 0 low ∙ is
                 ∙ ap (λ i. stale_in (slice_get switches i) port queue) (sym both.0) ∙ ap (λ i. stale_in (slice_get switches t) i queue) (sym both.1)
                 ∙ ap (stale_in (slice_get switches t) q) (sym (get_or-set_same out at queue [] there) ∙ ap (items_at (slice_set out at queue)) (sym same))
@@ -102,15 +103,15 @@ module _ (k : ℕ) (switches : List SwitchView) (out : List (List Item)) (counts
                 ∙ ap (stale_in (slice_get switches t) q) (sym (get_or-set_other out at (port_index k t q) queue [] other))
           ]
 
-  module _ (each : KeepsEach (all_switches k switches out) counts) (s port at was : ℕ) (within : port < k) (place : port_index k s port ≡ at) (there : at < length out)
+  module _ (each : KeepsEach (all_switches k switches out) counts) (s port at was : ℕ) (index : IsQueueIndex (all_switches k switches out) s port at)
       (read : was ≡ get_or counts at was) where
     was_is : was ≡ stale_in (slice_get switches s) port (items_at out at)
-    was_is = get_or_read_under counts at (length out) was 0 read there (sym each.many) ∙ each_at each s port at within place
+    was_is = get_or_read_under counts at (length out) was 0 read index.there (sym each.many) ∙ each_at each s port at index.within index.is
 
     pub was_within : (kept : ℕ) → KeepsStale (all_switches k switches out) kept → was ≤ kept
     was_within kept keeps =
-        let low = switch_is_there k switches out s port at keeps.queues place there in
-        let fits = queue_le k switches out s port at within place low in
+        let low = switch_is_there k switches out s port at keeps.queues index.is index.there in
+        let fits = queue_le k switches out s port at index.within index.is low in
         let here = was_is in
         omega (arith, fits, here, keeps.is)
 
@@ -120,13 +121,13 @@ module _ (k : ℕ) (switches : List SwitchView) (out : List (List Item)) (counts
 
     -- a queue is emptied
     pub each_emptied : (new : List (List Item)) → new ≡ slice_set out at [] → KeepsEach (all_switches k switches new) (slice_set counts at 0)
-    each_emptied new same = each_set each s port at 0 [] new (slice_set counts at 0) within place there (sym (nothing (slice_get switches s))) same refl
+    each_emptied new same = each_set each s port at 0 [] new (slice_set counts at 0) index.within index.is index.there (sym (nothing (slice_get switches s))) same refl
 
     pub keeps_emptied : (kept : ℕ) (new : List (List Item)) → KeepsStale (all_switches k switches out) kept → new ≡ slice_set out at [] →
         KeepsStale (all_switches k switches new) (kept - was)
     keeps_emptied kept new keeps same =
-        let low = switch_is_there k switches out s port at keeps.queues place there in
-        let all = queue_changes k switches out s port at [] within place there low in
+        let low = switch_is_there k switches out s port at keeps.queues index.is index.there in
+        let all = queue_changes k switches out s port at [] index.within index.is index.there low in
         let last = nothing (slice_get switches s) in
         let here = was_is in
         let seen : stale k switches new ≡ stale k switches (slice_set out at []) = ap (stale k switches) same in
@@ -142,7 +143,7 @@ module _ (k : ℕ) (switches : List SwitchView) (out : List (List Item)) (counts
       with_queue : (queue : List Item) (new : List (List Item)) (n : ℕ) → n ≡ count_by (is_stale v port) queue → new ≡ slice_set out at queue →
           KeepsEach (all_switches k switches new) (slice_set counts at n)
       with_queue queue new n is same =
-          each_set each s port at n queue new (slice_set counts at n) within place there (is ∙ ap (λ o. stale_in o port queue) (sym found)) same refl
+          each_set each s port at n queue new (slice_set counts at n) index.within index.is index.there (is ∙ ap (λ o. stale_in o port queue) (sym found)) same refl
 
       -- an item is put into a queue, or taken from it
       pub each_put : (new : List (List Item)) (item : Item) (b : Bool) (more : ℕ) → new ≡ put_at out at item → more ≡ cond b 1 0 → b ≡ is_stale v port item →
@@ -251,11 +252,11 @@ module _ (k s : ℕ) (v : SwitchView) (out : List (List Item)) (old : List ℕ) 
   }
 
   module _ (counts : List ℕ) (before after port : ℕ) (so_far : AreCounted k s v out old counts before after port) (inside : port < k) (at count : ℕ)
-      (place : at ≡ port_index k s port) (read : count ≡ get_or counts at count) where
+      (index : at ≡ port_index k s port) (read : count ≡ get_or counts at count) where
     pub count_read : count ≡ slice_index_or old (port_index k s port) 0
     count_read =
-        get_or_read_under counts at (length out) count 0 read (omega (arith, place, inside, within)) (sym so_far.many)
-        ∙ ap (λ i. slice_index_or counts i 0) place ∙ so_far.left port (omega arith) inside
+        get_or_read_under counts at (length out) count 0 read (omega (arith, index, inside, within)) (sym so_far.many)
+        ∙ ap (λ i. slice_index_or counts i 0) index ∙ so_far.left port (omega arith) inside
 
     pub known_here : (said : List Said) (d : Said) (bank : List (List Item)) (queue : List Item) → port < length said → IsKnownAt k s out old said port → bank ≡ out →
         queue ≡ items_at bank at → count ≡ count_by (is_stale_under (slice_index_or said port d)) queue
@@ -263,11 +264,11 @@ module _ (k s : ℕ) (v : SwitchView) (out : List (List Item)) (old : List ℕ) 
         count_read
         ∙ some_at (λ was. slice_index_or old (port_index k s port) 0 ≡ count_by (is_stale_under was) (items_at out (port_index k s port)))
         (slice_get said port) (get_or said port d) (slice_get-get_or said port d room) known
-        ∙ sym (ap (count_by (is_stale_under (get_or said port d))) (is ∙ ap (λ o. items_at o at) same ∙ ap (items_at out) place))
+        ∙ sym (ap (count_by (is_stale_under (get_or said port d))) (is ∙ ap (λ o. items_at o at) same ∙ ap (items_at out) index))
 
     module _ (bank : List (List Item)) (queue : List Item) (now : ℕ) (same : bank ≡ out) (is : queue ≡ items_at bank at) (again : now ≡ count_by (is_stale v port) queue) where
       now_is : now ≡ port_part k out (Some v) s port
-      now_is = again ∙ ap (count_by (is_stale v port)) (is ∙ ap (λ o. items_at o at) same ∙ ap (items_at out) place)
+      now_is = again ∙ ap (count_by (is_stale v port)) (is ∙ ap (λ o. items_at o at) same ∙ ap (items_at out) index)
 
       pub before_more : before + count ≡ sum_from (λ q. slice_index_or old (port_index k s q) 0) 0 (port + 1)
       before_more =
@@ -289,14 +290,14 @@ module _ (k s : ℕ) (v : SwitchView) (out : List (List Item)) (old : List ℕ) 
         done = λ q low.
             elim (cases_eq q port) [
               | inl same ↦
-                  ap (λ i. slice_index_or (slice_set counts at now) (port_index k s i) 0) same ∙ ap (λ i. slice_index_or (slice_set counts at now) i 0) (sym place)
-                  ∙ get_or-set_same counts at now 0 (omega (arith, place, inside, within, so_far.many)) ∙ now_is
+                  ap (λ i. slice_index_or (slice_set counts at now) (port_index k s i) 0) same ∙ ap (λ i. slice_index_or (slice_set counts at now) i 0) (sym index)
+                  ∙ get_or-set_same counts at now 0 (omega (arith, index, inside, within, so_far.many)) ∙ now_is
                   ∙ ap (λ i. port_part k out (Some v) s i) (sym same)
-              | inr other ↦ elsewhere (port_index k s q) (λ e. other (omega (arith, e, place))) ∙ so_far.done q (omega (arith, low, other))
+              | inr other ↦ elsewhere (port_index k s q) (λ e. other (omega (arith, e, index))) ∙ so_far.done q (omega (arith, low, other))
             ];
-        left = λ q low high. elsewhere (port_index k s q) (λ e. omega (arith, e, place, low)) ∙ so_far.left q (omega (arith, low)) high;
+        left = λ q low high. elsewhere (port_index k s q) (λ e. omega (arith, e, index, low)) ∙ so_far.left q (omega (arith, low)) high;
         others = λ t q low apart.
-            elsewhere (port_index k t q) (λ e. apart (same_from_place t q s port k low inside (e ∙ place)).0) ∙ so_far.others t q low apart;
+            elsewhere (port_index k t q) (λ e. apart (same_from_place t q s port k low inside (e ∙ index)).0) ∙ so_far.others t q low apart;
       }
         where
           elsewhere : (i : ℕ) → (i ≡ at → ⊥) → slice_index_or (slice_set counts at now) i 0 ≡ slice_index_or counts i 0

@@ -15,7 +15,7 @@ use Rattle.pl_world.specs.declared.stand.Stand.{Stand}
 use Rattle.pl_world.specs.Booting.{first_stand}
 use Rattle.pl_world.specs.Changes.{stands_at}
 use Rattle.pl_world_parts.specs.Stands.{TellsWhoStands, same_stand}
-use Rattle.pl_world_parts.proofs.FirstPlaces.{position_append, position_fails, position_free, position_none, position_same}
+use Rattle.pl_world_parts.proofs.FirstIndices.{position_append, position_fails, position_free, position_none, position_same}
 
 -- who stands at the port of another
 abbrev pub at_port : Stand → Stand → Bool
@@ -88,8 +88,8 @@ nobody = record { found = λ at. refl; alone = λ n stand at. absurd (cc) }
 module _ (stands : List Stand) (before after : List (Stand × HostNo)) (stand : Stand) (h : HostNo) (is : h.0 ≡ length stands)
     (free : position (at_port stand) stands ≡ None) (tells : TellsWhoStands stands before)
     (came : (at : Stand) → lookup (same_stand at) after ≡ cond (at_port at stand) (Some h) (lookup (same_stand at) before)) where
-  last_place : position (at_port stand) (stands ++ stand ∷ []) ≡ Some (length stands)
-  last_place =
+  last_index : position (at_port stand) (stands ++ stand ∷ []) ≡ Some (length stands)
+  last_index =
       position_append (at_port stand) stands stand
       ∙ ap (λ o. option_or o (cond (at_port stand stand) (Some (length stands)) None)) free
       ∙ ap (λ b. cond b (Some (length stands)) None) (at_itself stand)
@@ -98,7 +98,7 @@ module _ (stands : List Stand) (before after : List (Stand × HostNo)) (stand : 
       option_map (λ (n : HostNo). n.0) (cond b (Some h) (lookup (same_stand at) before)) ≡ position (at_port at) (stands ++ stand ∷ [])
   found_more at true e =
       let same : at ≡ stand = at_port-is at stand e in
-      subst (λ a. Some h.0 ≡ position (at_port a) (stands ++ stand ∷ [])) (sym same) (ap (λ n. Some n) is ∙ sym last_place)
+      subst (λ a. Some h.0 ≡ position (at_port a) (stands ++ stand ∷ [])) (sym same) (ap (λ n. Some n) is ∙ sym last_index)
   found_more at false e =
       tells.found at
       ∙ sym (position_append (at_port at) stands stand
@@ -108,7 +108,7 @@ module _ (stands : List Stand) (before after : List (Stand × HostNo)) (stand : 
   alone_more : (n : ℕ) (x : Stand) → (slice_get stands n ≡ Some x) ⊎ ((n ≡ length stands) × (stand ≡ x)) → position (at_port x) (stands ++ stand ∷ []) ≡ Some n
   alone_more n x (inl at) =
       position_append (at_port x) stands stand ∙ ap (λ o. option_or o (cond (at_port x stand) (Some (length stands)) None)) (tells.alone n x at)
-  alone_more n x (inr at) = subst (λ y. position (at_port y) (stands ++ stand ∷ []) ≡ Some n) at.1 (last_place ∙ ap (λ m. Some m) (sym at.0))
+  alone_more n x (inr at) = subst (λ y. position (at_port y) (stands ++ stand ∷ []) ≡ Some n) at.1 (last_index ∙ ap (λ m. Some m) (sym at.0))
 
   pub one_more : TellsWhoStands (stands ++ stand ∷ []) after
   one_more = record {
@@ -125,8 +125,8 @@ module _ (stands : List Stand) (before mid after : List (Stand × HostNo)) (h : 
   not_there n x at same =
       not_both (at_port to to) (at_itself to) (ap (at_port to) (sym same) ∙ position_none (at_port to) stands free n x at)
 
-  one_place : (n m : ℕ) (x y : Stand) → slice_get stands n ≡ Some x → slice_get stands m ≡ Some y → x ≡ y → n ≡ m
-  one_place n m x y at there same =
+  one_index : (n m : ℕ) (x y : Stand) → slice_get stands n ≡ Some x → slice_get stands m ≡ Some y → x ≡ y → n ≡ m
+  one_index n m x y at there same =
       some_is n m (sym (tells.alone n x at) ∙ ap (λ s. position (at_port s) stands) same ∙ tells.alone m y there)
 
   leaves : (n : ℕ) (x : Stand) (b : Bool) → (h.0 == n) ≡ b → slice_get (set stands h.0 to) n ≡ Some x → at_port from x ≡ false
@@ -137,7 +137,7 @@ module _ (stands : List Stand) (before mid after : List (Stand × HostNo)) (h : 
   leaves n x false e at =
       let apart = apart_numbers h.0 n e in
       let there = sym (get_other stands h.0 n to apart) ∙ at in
-      false_from from x (at_port from x) (at_port-is from x) (λ f. apart (one_place h.0 n from x stood there f))
+      false_from from x (at_port from x) (at_port-is from x) (λ f. apart (one_index h.0 n from x stood there f))
 
   came_there : position (at_port to) (set stands h.0 to) ≡ Some h.0
   came_there = position_free (at_port to) stands h.0 to within free (at_itself to)
@@ -167,7 +167,7 @@ module _ (stands : List Stand) (before mid after : List (Stand × HostNo)) (h : 
       let apart = apart_numbers h.0 n e in
       let there = sym (get_other stands h.0 n to apart) ∙ at in
       position_same (at_port x) stands h.0 to
-      (λ y here. false_from x y (at_port x y) (at_port-is x y) (λ f. apart (one_place h.0 n y x here there (sym f))))
+      (λ y here. false_from x y (at_port x y) (at_port-is x y) (λ f. apart (one_index h.0 n y x here there (sym f))))
       (false_from x to (at_port x to) (at_port-is x to) (not_there n x there))
       ∙ tells.alone n x there
 

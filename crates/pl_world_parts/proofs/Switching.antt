@@ -6,6 +6,7 @@ use Rattle.std.proofs.lemmas.List.{length-replicate, length-set}
 use Rattle.std.proofs.lemmas.List.Sums.{sum_by-cons, sum_by_push}
 use Rattle.pl_frame.specs.declared.address.SwitchId.{SwitchId}
 use Rattle.pl_wiring.specs.Index.{port_index}
+use Rattle.pl_wiring.proofs.Entered.{port_index-below}
 use Rattle.pl_logic.specs.SwitchFacts.{switch_at_boot}
 use Rattle.pl_logic.specs.SwitchViews.{SwitchView}
 use Rattle.pl_queues.specs.Counts.{counted_in}
@@ -13,6 +14,7 @@ use Rattle.pl_queues.specs.Queues.{items_at, put_at}
 use Rattle.pl_world.specs.declared.item.Item.{Item}
 use Rattle.pl_world.specs.Flying.{IsFormed}
 use Rattle.pl_world_parts.specs.OneStep.{IsOneChanged, sizes}
+use Rattle.pl_world_parts.specs.QueueIndices.{IsQueueIndex}
 use Rattle.pl_world.specs.Pending.{HasQueues, KeepsStale, SwitchesView, is_control_item, is_order, is_report, is_stale, pending, stale, stale_at, stale_in}
 use Rattle.pl_world.specs.Worlds.{WorldView}
 use Rattle.pl_world.proofs.Counts.{all_found}
@@ -24,16 +26,9 @@ abbrev pub all_switches : ℕ → List SwitchView → List (List Item) → Switc
 all_switches k switches out = record { k = k; switches = switches; out = out }
 
 module _ (k : ℕ) (switches : List SwitchView) (out : List (List Item)) where
-  -- a place is one of a switch, and there are ports
-  pub ports_are_there : (at : ℕ) → HasQueues (all_switches k switches out) → at < length out → 0 < k
-  ports_are_there at has there = some_ports k (length switches) (omega (arith, there, has.queues))
-    where
-      some_ports : (k n : ℕ) → 0 < n * k → 0 < k
-      some_ports zero n some = absurd (omega (arith, some))
-      some_ports (suc k) n some = omega arith
-
+  -- an index is one of a switch
   pub switch_is_there : (s port at : ℕ) → HasQueues (all_switches k switches out) → port_index k s port ≡ at → at < length out → s < length switches
-  switch_is_there s port at has place there = lt_of_mul-lt-mul_right k (omega (arith, place, there, has.queues))
+  switch_is_there s port at has index there = lt_of_mul-lt-mul_right k (omega (arith, index, there, has.queues))
 
   pub kept_fits : (kept : ℕ) → KeepsStale (all_switches k switches out) kept → kept ≤ counted_in is_control_item out
   kept_fits kept keeps = let fits = stale_fits k out switches keeps.queues.queues in omega (arith, fits, keeps.is)
@@ -42,13 +37,13 @@ module _ (k : ℕ) (switches : List SwitchView) (out : List (List Item)) where
   same_size s v has found = all_found (λ v. v.k ≡ k) switches s v found has.ports
 
   module _ (s port at kept : ℕ) (v : SwitchView) (keeps : KeepsStale (all_switches k switches out) kept) (found : slice_get switches s ≡ Some v)
-      (within : port < k) (place : port_index k s port ≡ at) (there : at < length out) where
+      (index : IsQueueIndex (all_switches k switches out) s port at) where
     -- a queue becomes another
     changed : (new : List (List Item)) (queue : List Item) → new ≡ slice_set out at queue →
         stale k switches new + count_by (is_stale v port) (items_at out at) ≡ stale k switches out + count_by (is_stale v port) queue
     changed new queue same =
-        let low = switch_is_there s port at keeps.queues place there in
-        let all = queue_changes k switches out s port at queue within place there low in
+        let low = switch_is_there s port at keeps.queues index.is index.there in
+        let all = queue_changes k switches out s port at queue index.within index.is index.there low in
         let was : stale_in (slice_get switches s) port (items_at out at) ≡ count_by (is_stale v port) (items_at out at) =
         ap (λ o. stale_in o port (items_at out at)) found in
         let is : stale_in (slice_get switches s) port queue ≡ count_by (is_stale v port) queue = ap (λ o. stale_in o port queue) found in
@@ -66,8 +61,8 @@ module _ (k : ℕ) (switches : List SwitchView) (out : List (List Item)) where
 
     pub line_le : count_by (is_stale v port) (items_at out at) ≤ kept
     line_le =
-        let low = switch_is_there s port at keeps.queues place there in
-        let all = queue_le k switches out s port at within place low in
+        let low = switch_is_there s port at keeps.queues index.is index.there in
+        let all = queue_le k switches out s port at index.within index.is low in
         let was : stale_in (slice_get switches s) port (items_at out at) ≡ count_by (is_stale v port) (items_at out at) =
         ap (λ o. stale_in o port (items_at out at)) found in
         omega (arith, all, was, keeps.is)
@@ -139,20 +134,32 @@ none_stale_yet k switches out n ports many empty =
     let queues : length out ≡ length switches * k = ap length empty ∙ length-replicate n [] ∙ sym many in
     record { queues = record { ports = ports; queues = queues }; is = sym (none_stale k n switches out queues empty) }
 
-module _ {T : Type 0} (view : T → SwitchView) (k : ℕ) (devices : List T) (out : List (List Item)) (f : SwitchesView) (s port at : ℕ) (device : T)
-    (has : HasQueues (all_switches k (map view devices) out)) (seen : all_switches k (map view devices) out ≡ f) (low : at < length f.out)
-    (place : port_index k s port ≡ at) (here : device ≡ get_or devices s device) where
-  pub place_there : at < length out
-  place_there = let same = ap (λ a. length a.out) seen in omega (arith, low, same)
-
+-- a switch is there, and has a port
+module _ {T : Type 0} (view : T → SwitchView) (k : ℕ) (devices : List T) (out : List (List Item)) (f : SwitchesView) (s : ℕ) (device : T)
+    (seen : all_switches k (map view devices) out ≡ f) (low : s < length f.switches) (here : device ≡ get_or devices s device) where
   pub device_found : slice_get (map view devices) s ≡ Some (view device)
   device_found =
-      let there = switch_is_there k (map view devices) out s port at has place place_there in
       let many = length-map devices view in
-      found-map view devices s device (omega (arith, there, many)) (sym here)
+      let same = ap (λ a. length a.switches) seen in
+      found-map view devices s device (omega (arith, low, many, same)) (sym here)
 
-  pub port_there : port < k → port < (view device).k
-  port_there within = let size = same_size k (map view devices) out s (view device) has device_found in omega (arith, within, size)
+  pub port_there : (port : ℕ) → ((v : SwitchView) → slice_get f.switches s ≡ Some v → port < v.k) → port < (view device).k
+  port_there port within = within (view device) (ap (λ a. slice_get a.switches s) (sym seen) ∙ device_found)
+
+-- so the queue out of the port is there
+port_below : (k s port : ℕ) (switches : List SwitchView) → AllByRecursion (λ v. v.k ≡ k) switches → s < length switches →
+    ((v : SwitchView) → slice_get switches s ≡ Some v → port < v.k) → port < k
+port_below k s port [] ports low within = absurd (omega (arith, low))
+port_below k zero port (v ∷ switches) ports low within = let here = within v refl in omega (arith, here, ports.0)
+port_below k (suc s) port (v ∷ switches) ports low within = port_below k s port switches ports.1 (omega (arith, low)) within
+
+pub queue_is_there : (f : SwitchesView) (s port k : ℕ) → HasQueues f → k ≡ f.k → s < length f.switches →
+    ((v : SwitchView) → slice_get f.switches s ≡ Some v → port < v.k) → IsQueueIndex f s port (port_index k s port)
+queue_is_there f s port k has size low within =
+    let below = port_below f.k s port f.switches has.ports low within in
+    let fits = port_index-below f.k s port (length f.switches) low below in
+    let same : port_index k s port ≡ port_index f.k s port = ap (λ n. port_index n s port) size in
+    record { within = below; is = sym same; there = omega (arith, fits, same, has.queues) }
 
 -- the three counts together, as the world sees them
 pub pending_seen : (f : SwitchesView) (v w : WorldView) (a b c : ℕ) → v ≡ w → IsFormed v → HasQueues f → f.switches ≡ v.switches → f.out ≡ v.out →

@@ -2,3 +2,4 @@ pub mod OneStep
 pub mod Atlas
 pub mod Stands
 pub mod StaleCounts
+pub mod QueueIndices

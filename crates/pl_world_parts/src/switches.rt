@@ -8,6 +8,7 @@ ghost use Rattle.pl_logic.specs.SwitchViews.{SwitchView};
 ghost use Rattle.pl_queues.specs.Counts.{most};
 ghost use Rattle.pl_queues.specs.Queues.{items_at, put_at};
 ghost use Rattle.pl_world_parts.specs.OneStep.{SwitchSteps, input_from, sizes};
+ghost use Rattle.pl_world_parts.specs.QueueIndices.{IsQueueIndex};
 ghost use Rattle.pl_world_parts.specs.StaleCounts.{is_stale_under};
 ghost use Rattle.pl_world.specs.Pending.{HasQueues, is_stale, stale, stale_at_ports, stale_in};
 
@@ -92,14 +93,27 @@ impl<S: SwitchLogic> Switches<S> {
         self.stale
     }
 
-    /// Puts an item behind the last of the queue at a place.
-    pub fn put(&mut self, at: usize, item: Item) -> Result<(), Memory>
-        requires { at < length self.old.out }
-        ensures ok { OnOk result (self.new ≡ record self.old { out = put_at self.old.out at item }) }
+    /// How many items wait in the queue out of a port.
+    pub fn queue_len(&self, s: usize, port: u8) -> usize
+        requires switch { s < length self.now.switches }
+        requires port { (v : SwitchView) → slice_get self.now.switches s ≡ Some v → port < v.k }
+        ensures len { result ≡ length (items_at self.now.out (port_index self.now.k s port)) }
+        ensures queues { HasQueues self.now }
+    {
+        let at = self.queue_index(s, port);
+        self.out.queues().len_at(at)
+    }
+
+    /// Puts an item behind the last of the queue out of a port.
+    pub fn put(&mut self, s: usize, port: u8, item: Item) -> Result<(), Memory>
+        requires switch { s < length self.old.switches }
+        requires port { (v : SwitchView) → slice_get self.old.switches s ≡ Some v → port < v.k }
+        ensures ok { OnOk result (self.new ≡ record self.old { out = put_at self.old.out (port_index self.old.k s port) item }) }
         ensures err { OnErr result (self.new ≡ self.old) }
+        ensures queues { HasQueues self.old }
     {
         let _bound = self.out.counted();
-        let (s, port) = port_at(self.k, at);
+        let at = self.queue_index(s, port);
         let more = one_if(is_stale(&self.devices[s], port, &item));
         self.out.put(at, item)?;
         self.counts[at] += more;
@@ -107,13 +121,16 @@ impl<S: SwitchLogic> Switches<S> {
         Ok(())
     }
 
-    /// Takes the first item of the queue at a place; none where it is empty.
-    pub fn take(&mut self, at: usize) -> Option<Item>
-        requires { at < length self.old.out }
-        ensures { MatchOption result ((items_at self.old.out at ≡ []) × (self.new ≡ self.old))
+    /// Takes the first item of the queue out of a port; none where it is empty.
+    pub fn take(&mut self, s: usize, port: u8) -> Option<Item>
+        requires switch { s < length self.old.switches }
+        requires port { (v : SwitchView) → slice_get self.old.switches s ≡ Some v → port < v.k }
+        ensures taken { let at = port_index self.old.k s port in
+            MatchOption result ((items_at self.old.out at ≡ []) × (self.new ≡ self.old))
             (λ x. (items_at self.old.out at ≡ x ∷ items_at self.new.out at) × (self.new ≡ record self.old { out = slice_set self.old.out at (items_at self.new.out at) })) }
+        ensures queues { HasQueues self.old }
     {
-        let (s, port) = port_at(self.k, at);
+        let at = self.queue_index(s, port);
         let taken = self.out.take(at);
         let less = stale_taken(&self.devices[s], port, &taken);
         self.counts[at] -= less;
@@ -121,18 +138,32 @@ impl<S: SwitchLogic> Switches<S> {
         taken
     }
 
-    /// Takes all items of the queue at a place, the first one first, and puts them behind those that are there.
-    pub fn clear_into(&mut self, at: usize, to: &mut Vec<Item>) -> Result<(), Memory>
-        requires { at < length self.old.out }
-        ensures items { OnOk result (to.new.items ≡ to.old.items ++ items_at self.old.out at) }
-        ensures left { OnOk result (self.new ≡ record self.old { out = slice_set self.old.out at [] }) }
+    /// Takes all items of the queue out of a port, the first one first, and puts them behind those that
+    /// are there.
+    pub fn clear_into(&mut self, s: usize, port: u8, to: &mut Vec<Item>) -> Result<(), Memory>
+        requires switch { s < length self.old.switches }
+        requires port { (v : SwitchView) → slice_get self.old.switches s ≡ Some v → port < v.k }
+        ensures items { OnOk result (to.new.items ≡ to.old.items ++ items_at self.old.out (port_index self.old.k s port)) }
+        ensures left { OnOk result (self.new ≡ record self.old { out = slice_set self.old.out (port_index self.old.k s port) [] }) }
         ensures err { OnErr result ((self.new ≡ self.old) × (to.new.items ≡ to.old.items)) }
+        ensures queues { HasQueues self.old }
     {
-        let (_s, _port) = port_at(self.k, at);
+        let at = self.queue_index(s, port);
         self.out.clear_into(at, to)?;
         self.stale -= self.counts[at];
         self.counts[at] = 0;
         Ok(())
+    }
+
+    // The index of the queue out of a port, in the row of all queues.
+    fn queue_index(&self, s: usize, port: u8) -> usize
+        requires switch { s < length self.now.switches }
+        requires port { (v : SwitchView) → slice_get self.now.switches s ≡ Some v → port < v.k }
+        ensures index { IsQueueIndex self.now s port result }
+        ensures queues { HasQueues self.now }
+    {
+        let _many = self.out.queues().len();
+        s * self.k as usize + port as usize
     }
 
     /// Something comes at one of the switches. The answer is its place before and after.
@@ -159,15 +190,6 @@ impl<S: SwitchLogic> Switches<S> {
         self.stale = self.stale - before + after;
         done
     }
-}
-
-// The switch and the port that have a place.
-fn port_at(k: u8, at: usize) -> (usize, u8)
-    requires { 0 < k }
-    ensures place { port_index k result.0 result.1 ≡ at }
-    ensures port { result.1 < k }
-{
-    (at / k as usize, (at % k as usize) as u8)
 }
 
 #[tactic(auto, using(crate::proofs::Stale::not_announced_is), unfolding(pl_world::specs::Pending::is_stale))]

@@ -163,8 +163,7 @@ impl<S: SwitchLogic, M: ManagerLogic, H: HostLogic> World<S, M, H> {
         requires port { port < self.old.plan.k }
         ensures { MatchOption result (out_of self.old s.0 port ≡ []) (IsTakenOut self.old s.0 port self.new) }
     {
-        let place = self.queue_index(s, port);
-        self.switches.take(place)
+        self.switches.take(s.0 as usize, port)
     }
 
     pub(crate) fn take_to_manager(&mut self, s: SwitchNo) -> Option<ToManager>

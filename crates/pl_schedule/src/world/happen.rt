@@ -189,9 +189,8 @@ impl<S: SwitchLogic, M: ManagerLogic, H: HostLogic> World<S, M, H> {
         requires port { port < self.old.plan.k }
         ensures { OnOk result (self.new ≡ emptied_out self.old s.0 port cause) }
     {
-        let place = self.queue_index(s, port);
         let mut items = Vec::new(self.alloc);
-        self.switches.clear_into(place, &mut items)?;
+        self.switches.clear_into(s.0 as usize, port, &mut items)?;
         self.end_all(&items, cause)
     }
 

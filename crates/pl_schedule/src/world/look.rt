@@ -52,8 +52,7 @@ impl<S: SwitchLogic, M: ManagerLogic, H: HostLogic> World<S, M, H> {
         requires { has_port self.now.plan s.0 port ≡ true }
         ensures { result ≡ length (out_of self.now s.0 port) }
     {
-        let place = self.queue_index(s, port);
-        self.switches.out().len_at(place)
+        self.switches.queue_len(s.0 as usize, port)
     }
 
     fn len_to_manager(&self, s: SwitchNo) -> Option<usize>

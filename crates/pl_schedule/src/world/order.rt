@@ -94,8 +94,8 @@ impl<S: SwitchLogic, M: ManagerLogic, H: HostLogic> World<S, M, H> {
     fn filled_out(&self, i: usize) -> Option<QueueName>
         ensures { result ≡ option_map (port_queue self.now.plan.k) (slice_get (filled_indices self.now.out) i) }
     {
-        let place = self.switches.out().filled_index(i)?;
-        Some(port_queue(self.atlas.wiring().k(), place))
+        let at = self.switches.out().filled_index(i)?;
+        Some(port_queue(self.atlas.wiring().k(), at))
     }
 
     fn filled_to_manager(&self, i: usize) -> Option<QueueName>
@@ -190,14 +190,14 @@ fn name_at(wiring: &Wiring, n: usize) -> QueueName
     }
 }
 
-// The port that has a place in the row of all ports.
-fn port_queue(k: u8, place: usize) -> QueueName
+// The port at an index in the row of all ports.
+fn port_queue(k: u8, at: usize) -> QueueName
     requires ports { 0 < k }
-    requires place { place < 2 ^ 32 }
-    ensures { result ≡ port_queue k place }
+    requires index { at < 2 ^ 32 }
+    ensures { result ≡ port_queue k at }
 {
     let k = k as usize;
-    QueueName::Port(SwitchNo((place / k) as u32), (place % k) as u8)
+    QueueName::Port(SwitchNo((at / k) as u32), (at % k) as u8)
 }
 
 // The number of the next queue with items, of a bank whose first queue has number `first`.
@@ -205,6 +205,6 @@ fn next_in<T>(bank: &Queues<T>, first: usize, from: usize) -> Option<usize>
     requires { first + length bank.now < 2 ^ 64 }
     ensures { result ≡ next_in first bank.now from }
 {
-    let place = bank.next_filled(from.saturating_sub(first))?;
-    Some(first + place)
+    let at = bank.next_filled(from.saturating_sub(first))?;
+    Some(first + at)
 }

@@ -1,7 +1,7 @@
 use Rattle.std.proofs.Common.{refl}
 use Rattle.pl_layouts.specs.Equality.{same_mac}
 use Rattle.pl_world.specs.Changes.{host_no}
-use Rattle.pl_world_parts.proofs.FirstPlaces.{finds_next}
+use Rattle.pl_world_parts.proofs.FirstIndices.{finds_next}
 use Rattle.pl_world_parts.proofs.atlas.hosts_by_mac.Goals as goal
 
 pub loop-n-preserved : goal.loop-n-preserved

@@ -3,7 +3,7 @@ use Rattle.std.specs.Option.{option_or}
 use Rattle.std.specs.Map.{lookup}
 use Rattle.pl_layouts.specs.Equality.{same_switch}
 use Rattle.pl_world.specs.Changes.{switch_no}
-use Rattle.pl_world_parts.proofs.FirstPlaces.{finds_there, same_either_way}
+use Rattle.pl_world_parts.proofs.FirstIndices.{finds_there, same_either_way}
 use Rattle.pl_world_parts.proofs.atlas.switches_by_id.Goals as goal
 
 pub loop-n-preserved : goal.loop-n-preserved

@@ -1,4 +1,4 @@
--- The place of the first item that passes a test, where items are added and changed.
+-- The index of the first item that passes a test, where items are added and changed.
 use Rattle.std.proofs.Common.{◌≡◌, ℕ, zero, suc, ◌+◌, ◌<◌, ◌==◌, get_or, take, subst, Bool, true, false, cond, List, [], ◌∷◌, ◌++◌, length, set, Option, Some, None, slice_get, refl, sym, ◌∙◌, ap, arith}
 use Rattle.std.specs.List.{position, position_from}
 use Rattle.std.specs.Map.{lookup}

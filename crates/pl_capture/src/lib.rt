@@ -26,6 +26,3 @@ pub use error::CaptureError;
 pub use laws::{one_at_each_offset, one_reading, records_are_within, written_is_read};
 pub use records::{Captured, Records};
 pub use writing::{write_header, write_record_head};
-
-#[cfg(test)]
-mod tests;

@@ -104,6 +104,3 @@ impl UnicastFacts for TableSwitch {
         self.tables.ports(self.state.place(), to, came)
     }
 }
-
-#[cfg(test)]
-mod tests;

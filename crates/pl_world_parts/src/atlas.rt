@@ -1,6 +1,7 @@
 ghost use Rattle.std.specs.Prelude.{◌≡◌, ◌^◌, ◌<◌, length, option_map, IfOk, OnOk};
 ghost use Rattle.std.specs.List.{position};
-ghost use Rattle.pl_layouts.specs.Equality.{same_mac, same_switch};
+ghost use Rattle.pl_layouts.specs.Equality.{same_switch};
+ghost use Rattle.pl_world.specs.Changes.{host_of};
 ghost use Rattle.pl_world_parts.specs.Atlas.{AddsHost, AddsSwitch, FindsHosts, FindsSwitches};
 
 use indexmap::IndexMap;
@@ -57,7 +58,7 @@ impl Atlas {
 
     /// The host that has a hardware address.
     pub fn host_with(&self, mac: Mac) -> Option<HostNo>
-        ensures { option_map (λ h. h.0) result ≡ position (λ host. same_mac host.mac mac) self.now.hosts }
+        ensures { option_map (λ h. h.0) result ≡ host_of self.now mac }
     {
         self.by_mac.get(&mac).copied()
     }

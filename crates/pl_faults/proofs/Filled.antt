@@ -1,5 +1,5 @@
 -- A row is filled in place.
-use Rattle.std.proofs.Common.{◌≡◌, ℕ, ◌<◌, ◌≤◌, ◌+◌, zero, suc, Bool, true, false, cond, List, [], ◌∷◌, ◌++◌, map, length, take, drop, get_or, set, ap, ◌∙◌, arith}
+use Rattle.std.proofs.Common.{◌≡◌, ℕ, ◌<◌, ◌≤◌, ◌+◌, zero, suc, Bool, true, false, cond, List, [], ◌∷◌, ◌++◌, map, length, take, drop, get_or, set, replicate, refl, ap, ◌∙◌, arith}
 use Rattle.std.proofs.lemmas.List.{append-nil, drop_all, take_all}
 
 -- what is filled so far, and then the rest
@@ -22,3 +22,8 @@ filled_more f xs row i d b within is was =
 
 pub filled_all : {X : Type 0} (f : X → Bool) (xs : List X) (i : ℕ) → length xs ≤ i → filled_to f xs i ≡ map f xs
 filled_all f xs i past = (λ j. map f (take_all i xs past j) ++ map (λ x. false) (drop_all i xs past j)) ∙ append-nil (map f xs)
+
+-- nothing is filled yet
+pub none_filled : {X : Type 0} (xs : List X) → replicate (length xs) false ≡ map (λ x. false) xs
+none_filled [] = refl
+none_filled (x ∷ xs) = ap (λ row. false ∷ row) (none_filled xs)

@@ -10,5 +10,4 @@ pub mod Words
 pub mod Within
 pub mod Missing
 pub mod Touched
-pub mod WordBits
 pub mod Filled

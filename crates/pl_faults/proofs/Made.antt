@@ -1,6 +1,6 @@
 -- A list that is made item by item is all that its switch avoids.
 use Rattle.std.proofs.Common.{◌≡◌, ℕ, ◌+◌, ◌==◌, ◌&&◌, ◌||◌, not, arith, Bool, true, false, cond, List, [], ◌∷◌, ◌++◌, map, Option, Some, None, append_assoc, refl, sym, ap, ◌∙◌}
-use Rattle.std.specs.Prelude.{fold}
+use Rattle.std.specs.Prelude.{fold, is_some}
 use Rattle.std.specs.List.{cons_option, filter, filter_map, flat_map, list_any}
 use Rattle.std.proofs.lemmas.Bool.{eqb-true, false≢true}
 use Rattle.std.proofs.lemmas.List.{append-nil}
@@ -11,6 +11,7 @@ use Rattle.pl_layouts.specs.Equality.{same_switch}
 use Rattle.pl_logic.specs.ManagerViews.{PlacedEdge, Told, edge_at, neighbours, place_of, placed_edges, switches}
 use Rattle.pl_logic.specs.AvoidLists.{avoid_list, avoided_at, avoided_cmp, is_above, is_cut, is_level_above, is_sent_down, leads_to}
 use Rattle.pl_manager_rule.proofs.Avoided.{avoided_exact, avoided_total}
+use Rattle.pl_reports.proofs.Placing.{placed_in}
 use Rattle.pl_faults.specs.declared.edges.Edge.{Edge}
 use Rattle.pl_faults.specs.declared.leading.Leading.{Leading}
 use Rattle.pl_faults.specs.Making.{Avoided, placed_as, with_neighbour, with_placed}
@@ -147,5 +148,24 @@ placed_one_by_one {X} {Y} f step none some (x ∷ xs) acc = by (λ l. placed_one
     by rest None = rest (step acc None) ∙ ap (λ l. l ++ filter_map f xs) (none acc)
     by rest (Some y) = rest (step acc (Some y)) ∙ ap (λ l. l ++ filter_map f xs) (some acc y) ∙ append_assoc acc (y ∷ []) (filter_map f xs)
 
-pub edges_placed : (told : Told) → fold (λ es s. with_placed es (edge_at s (place_of told s))) [] (switches told) ≡ placed_edges told
-edges_placed told = placed_one_by_one (λ s. edge_at s (place_of told s)) with_placed (λ es. refl) (λ es e. refl) (switches told) []
+-- those of which nothing comes can be left out first
+of_some : {X Y : Type 0} (f : X → Option Y) (xs : List X) → filter_map f (filter (λ x. is_some (f x)) xs) ≡ filter_map f xs
+of_some f [] = refl
+of_some f (x ∷ xs) = by (of_some f xs) (f x) refl
+  where
+    by : filter_map f (filter (λ z. is_some (f z)) xs) ≡ filter_map f xs → (o : Option _) → f x ≡ o →
+        filter_map f (cond (is_some o) (x ∷ filter (λ z. is_some (f z)) xs) (filter (λ z. is_some (f z)) xs)) ≡ cons_option (f x) (filter_map f xs)
+    by rest None e = rest ∙ ap (λ o. cons_option o (filter_map f xs)) (sym e)
+    by rest (Some y) e = ap (cons_option (f x)) rest
+
+-- what a switch is as a placed edge switch
+abbrev pub edge_in : Told → SwitchId → Option PlacedEdge
+edge_in told s = edge_at s (place_of told s)
+
+-- the placed edge switches, of their ids
+pub edges_again : (told : Told) → filter_map (edge_in told) (map (λ e. e.switch) (placed_edges told)) ≡ placed_edges told
+edges_again told = ap (filter_map (edge_in told)) (sym (placed_in told (switches told))) ∙ of_some (edge_in told) (switches told)
+
+pub edges_placed : (told : Told) → fold (λ es s. with_placed es (edge_in told s)) [] (map (λ e. e.switch) (placed_edges told)) ≡ placed_edges told
+edges_placed told =
+    placed_one_by_one (edge_in told) with_placed (λ es. refl) (λ es e. refl) (map (λ e. e.switch) (placed_edges told)) [] ∙ edges_again told

@@ -4,6 +4,7 @@ use Rattle.std.specs.Prelude.{fold}
 use Rattle.std.specs.List.{list_any}
 use Rattle.std.specs.BTreeMap.{is_at}
 use Rattle.std.proofs.lemmas.Bool.{false≢true}
+use Rattle.pl_bits.specs.Rows.{either_row}
 use Rattle.pl_frame.specs.declared.address.SwitchId.{SwitchId}
 use Rattle.pl_layouts.specs.Placement.{is_known}
 use Rattle.pl_logic.specs.ManagerViews.{Told, alive_neighbours, has_level, id_cmp, is_alive, is_told_usable, neighbours, place_of}
@@ -13,7 +14,7 @@ use Rattle.pl_faults.specs.declared.edges.Edge.{Edge}
 use Rattle.pl_faults.specs.declared.reach.Reach.{Reach}
 use Rattle.pl_faults.specs.Kept.{IsWordWithin}
 use Rattle.pl_faults.specs.Listed.{is_in, with_all, with_beside}
-use Rattle.pl_faults.specs.Rows.{AreRows, AreRowsRenewed, IsReach, IsReachRenewed, Leads, Rows, either_row, leads_by, leads_down, row_at_level, row_in, row_of}
+use Rattle.pl_faults.specs.Rows.{AreRows, AreRowsRenewed, IsReach, IsReachRenewed, Leads, Rows, leads_by, leads_down, row_at_level, row_in, row_of}
 use Rattle.pl_faults.proofs.Anew.{among_told}
 use Rattle.pl_faults.proofs.Gathered.{in_all_before, in_all_new, in_beside, in_beside_before, out_before}
 use Rattle.pl_faults.proofs.Reaching.{either_of, rows_near}

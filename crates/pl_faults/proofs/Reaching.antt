@@ -6,6 +6,7 @@ use Rattle.std.specs.BTreeMap.{is_at}
 use Rattle.std.specs.BTreeSet.{insert_key}
 use Rattle.std.proofs.lemmas.Bool.{false≢true}
 use Rattle.std.proofs.lemmas.List.Folds.{list_any_more}
+use Rattle.pl_bits.specs.Rows.{either_row}
 use Rattle.pl_frame.specs.declared.address.SwitchId.{SwitchId}
 use Rattle.pl_layouts.specs.declared.place.Place.{Place}
 use Rattle.pl_layouts.specs.Placement.{is_known, nowhere}
@@ -18,7 +19,7 @@ use Rattle.pl_reports.specs.Kept.{has_told}
 use Rattle.pl_faults.specs.declared.edges.Edge.{Edge}
 use Rattle.pl_faults.specs.declared.reach.Reach.{Reach}
 use Rattle.pl_faults.specs.Listed.{is_in}
-use Rattle.pl_faults.specs.Rows.{AreRows, AreRowsRenewed, IsReach, Leads, Rows, either_row, leads_at, leads_by, leads_down, row_at_level, row_in, row_of, row_or_none, value_in, value_of, with_row}
+use Rattle.pl_faults.specs.Rows.{AreRows, AreRowsRenewed, IsReach, Leads, Rows, leads_at, leads_by, leads_down, row_at_level, row_in, row_of, row_or_none, value_in, value_of, with_row}
 use Rattle.pl_faults.proofs.Anew.{among_told, at_is, at_turned}
 use Rattle.pl_faults.proofs.Gathered.{in_itself, out_before}
 use Rattle.pl_faults.proofs.Made.{any_kept}

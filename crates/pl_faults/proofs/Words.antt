@@ -1,8 +1,8 @@
 -- What one word leaves of what all other switches told.
-use Rattle.std.proofs.Common.{◌≡◌, ◌⊎◌, ◌&&◌, ◌||◌, ◌==◌, ℕ, Bool, true, false, cond, List, [], ◌∷◌, map, Option, Some, None, Ordering, Less, Equal, Greater, refl, sym, ap, ◌∙◌, subst, inl, inr}
+use Rattle.std.proofs.Common.{◌≡◌, ◌⊎◌, ◌&&◌, ◌||◌, ℕ, Bool, true, false, cond, List, [], ◌∷◌, map, Option, Some, None, refl, sym, ap, ◌∙◌, subst, inl, inr}
 use Rattle.std.specs.Prelude.{is_some, unwrap_or}
 use Rattle.std.specs.List.{cons_option, filter, filter_map, list_any}
-use Rattle.std.specs.Ordering.{is_eq, match_ordering}
+use Rattle.std.specs.Ordering.{is_eq}
 use Rattle.std.specs.Cmp.{Equal-is}
 use Rattle.std.specs.BTreeMap.{is_at}
 use Rattle.std.specs.BTreeSet.{insert_key}
@@ -12,12 +12,14 @@ use Rattle.pl_layouts.specs.declared.place.Place.{Place}
 use Rattle.pl_layouts.specs.Equality.{same_switch}
 use Rattle.pl_layouts.specs.Placement.{nowhere}
 use Rattle.pl_logic.specs.ManagerViews.{PlacedEdge, Told, alive_neighbours, edge_at, edge_with, id_cmp, link_cmp, neighbours, place_of, placed_edges, switches, value_at}
-use Rattle.pl_logic.proofs.Among.{IsAmong, among_filter_mapped, among_insert, among_map, any_among, id_total}
+use Rattle.pl_logic.proofs.Among.{IsAmong, among_filter, among_filtered, among_insert, among_map, any_among, id_total}
 use Rattle.pl_manager_rule.specs.ManagerRule.{with_link, with_place}
-use Rattle.pl_manager_rule.proofs.Avoided.{id_exact, switches_rise}
+use Rattle.pl_manager_rule.proofs.Avoided.{id_exact}
 use Rattle.pl_manager_rule.proofs.History.{value_after}
 use Rattle.pl_manager_rule.proofs.Speakers.{same_itself}
-use Rattle.pl_reports.specs.Kept.{has_told, near_of, with_neighbour}
+use Rattle.pl_manager_rule.proofs.Tables.{value_put}
+use Rattle.pl_reports.specs.Kept.{has_told, near_of, with_edge, with_neighbour}
+use Rattle.pl_reports.proofs.Placing.{edges_linked, edges_placed, is_edge, placed_in, without_none}
 use Rattle.pl_reports.proofs.Telling.{IsPair, link_exact, other_neighbours, own_neighbours, switches_linked, switches_placed}
 use Rattle.pl_faults.specs.declared.edges.Edge.{Edge}
 use Rattle.pl_faults.specs.Kept.{IsLinkWord, IsPlaceWord}
@@ -25,8 +27,10 @@ use Rattle.pl_faults.specs.Listed.{AreHeard, Hearers, is_in}
 use Rattle.pl_faults.specs.Making.{placed_as}
 use Rattle.pl_faults.proofs.Anew.{among_told, at_is, at_turned, is_itself, still_linked, still_placed, told_among}
 use Rattle.pl_faults.proofs.Gathered.{in_itself, in_more}
+use Rattle.pl_faults.proofs.Made.{edge_in, edges_again}
+use Rattle.pl_faults.proofs.Nearby.{not_in}
 use Rattle.pl_faults.proofs.Reaching.{level_told}
-use Rattle.pl_faults.proofs.Unchanged.{insert_nothing, usable_after}
+use Rattle.pl_faults.proofs.Unchanged.{usable_after}
 
 -- a switch that is not the one that told is heard just where it was
 other_heard : (told after : Told) (s t : SwitchId) → switches after ≡ insert_key id_cmp (switches told) s →
@@ -44,20 +48,6 @@ other_heard told after s t is stays other = by (has_told after t) (has_told told
         ]
 
 -- ---- a place
-abbrev edge_in : Told → SwitchId → Option PlacedEdge
-edge_in told t = edge_at t (place_of told t)
-
--- a switch without a place adds no placed edge switch
-none_placed : (f : SwitchId → Option PlacedEdge) (s : SwitchId) → f s ≡ None → (xs : List SwitchId) → filter_map f (insert_key id_cmp xs s) ≡ filter_map f xs
-none_placed f s none [] = ap (λ o. cons_option o []) none
-none_placed f s none (x ∷ xs) = by (none_placed f s none xs) (id_cmp s x)
-  where
-    by : filter_map f (insert_key id_cmp xs s) ≡ filter_map f xs → (o : Ordering) →
-        filter_map f (match_ordering o (s ∷ x ∷ xs) (x ∷ xs) (x ∷ insert_key id_cmp xs s)) ≡ filter_map f (x ∷ xs)
-    by rest Less = ap (λ o. cons_option o (filter_map f (x ∷ xs))) none
-    by rest Equal = refl
-    by rest Greater = ap (cons_option (f x)) rest
-
 unplaced : (o : Option PlacedEdge) → is_some o ≡ false → o ≡ None
 unplaced None e = refl
 unplaced (Some x) e = absurd (false≢true (sym e))
@@ -78,9 +68,17 @@ module _ (told : Told) (s : SwitchId) (place : Place) where
 
   unplaced_edges : is_some (edge_at s (place_of told s)) ≡ false → is_some (edge_at s (place_of placed s)) ≡ false → placed_edges placed ≡ placed_edges told
   unplaced_edges was now =
-      ap (filter_map (edge_in placed)) (switches_placed told s place)
-      ∙ none_placed (edge_in placed) s (unplaced (edge_in placed s) now) (switches told)
-      ∙ same_placed (edge_in placed) (edge_in told) same (switches told)
+      let before = map (λ e. e.switch) (placed_edges told) in
+      let own : is_some (edge_at s place) ≡ false =
+      sym (ap (λ (o : Option Place). is_some (edge_at s (unwrap_or o nowhere))) (value_put id_cmp id_total told.places s place)) ∙ now in
+      let out : is_in before s ≡ false =
+      not_in (is_in before s)
+      (λ there.
+      let among = subst (IsAmong s) (sym (placed_in told (switches told))) (told_among s before there) in
+      false≢true (sym was ∙ (among_filter (is_edge told) s (switches told) among).1)) in
+      sym (edges_again placed)
+      ∙ ap (filter_map (edge_in placed)) (edges_placed told s place ∙ ap (with_edge before s) own ∙ without_none s before out)
+      ∙ same_placed (edge_in placed) (edge_in told) same before ∙ edges_again told
     where
       same : (x : SwitchId) → edge_in placed x ≡ edge_in told x
       same x = by (is_at (id_cmp s) x) refl
@@ -115,42 +113,22 @@ neither false b e = (refl, e)
 neither true b e = absurd (false≢true (sym e))
 
 -- a switch that is not among the placed edge switches is none
-edge_switch : (s : SwitchId) (a b d : Option ℕ) (e : PlacedEdge) → edge_with s a b d ≡ Some e → e.switch ≡ s
-edge_switch s (Some level) (Some position) (Some pod) e h = by (level == 0) h
-  where
-    by : (b : Bool) → cond b (Some (let x : PlacedEdge = record { switch = s; pod = pod; position = position } in x)) None ≡ Some e → e.switch ≡ s
-    by true k =
-        let x : PlacedEdge = record { switch = s; pod = pod; position = position } in
-        let is : x ≡ e = cc in
-        sym (ap (λ r. r.switch) is)
-    by false k = let none : None ≡ Some e = k in cc
-edge_switch s None position pod e h = let none : None ≡ Some e = h in cc
-edge_switch s (Some level) None pod e h = let none : None ≡ Some e = h in cc
-edge_switch s (Some level) (Some position) None e h = let none : None ≡ Some e = h in cc
-
 pub was_unplaced : (told : Told) (s : SwitchId) (es : List Edge) → map placed_as es ≡ placed_edges told →
     list_any (λ e. same_switch e.switch s) es ≡ false → is_some (edge_at s (place_of told s)) ≡ false
-was_unplaced told s es placed out = by (has_told told s) (edge_in told s) refl refl
+was_unplaced told s es placed out = by (has_told told s) (is_edge told s) refl refl
   where
-    by : (b : Bool) (o : Option PlacedEdge) → has_told told s ≡ b → edge_in told s ≡ o → is_some o ≡ false
-    by b None e k = refl
-    by false (Some x) e k = ap is_some (sym k ∙ untold_edge told s e)
-    by true (Some x) e k =
-        let there = among_filter_mapped (edge_in told) x s (switches told) (told_among s (switches told) e) k in
-        let at = among_map placed_as x es (subst (IsAmong x) (sym placed) there) in
-        let is : at.0.switch ≡ s =
-        ap (λ (p : PlacedEdge). p.switch) at.2 ∙ edge_switch s (place_of told s).level (place_of told s).position (place_of told s).pod x k in
-        absurd (false≢true (sym out ∙ any_among (λ (y : Edge). same_switch y.switch s) at.0 es at.1
+    by : (b c : Bool) → has_told told s ≡ b → is_edge told s ≡ c → c ≡ false
+    by b false e k = refl
+    by false true e k = absurd (false≢true (sym (ap is_some (untold_edge told s e)) ∙ k))
+    by true true e k =
+        let there = among_filtered (is_edge told) s (switches told) (told_among s (switches told) e) k in
+        let at = among_map (λ (p : PlacedEdge). p.switch) s (placed_edges told) (subst (IsAmong s) (placed_in told (switches told)) there) in
+        let own = among_map placed_as at.0 es (subst (IsAmong at.0) (sym placed) at.1) in
+        let is : own.0.switch ≡ s = ap (λ (p : PlacedEdge). p.switch) own.2 ∙ at.2 in
+        absurd (false≢true (sym out ∙ any_among (λ (y : Edge). same_switch y.switch s) own.0 es own.1
         (subst (λ z. same_switch z s ≡ true) (sym is) (same_itself s))))
 
 -- ---- a link
-edges_linked : (told : Told) (s u : SwitchId) (usable : Bool) → placed_edges (with_link told s u usable) ≡ placed_edges told
-edges_linked told s u usable = ap (filter_map (edge_in told)) (switches_linked told s u usable) ∙ by (has_told told s) refl
-  where
-    by : (b : Bool) → has_told told s ≡ b → filter_map (edge_in told) (insert_key id_cmp (switches told) s) ≡ placed_edges told
-    by true e = ap (filter_map (edge_in told)) (insert_nothing (switches told) s (switches_rise told) (told_among s (switches told) e))
-    by false e = none_placed (edge_in told) s (untold_edge told s e) (switches told)
-
 -- the links of a switch that is at neither end
 module _ (told : Told) (s u : SwitchId) (usable : Bool) (t : SwitchId) (own : is_at (id_cmp s) t ≡ false) (other : is_at (id_cmp u) t ≡ false) where
   not_here : (x : SwitchId) → is_at (id_cmp x) t ≡ false → x ≡ t → ⊥

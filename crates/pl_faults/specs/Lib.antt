@@ -2,5 +2,4 @@ pub mod Making
 pub mod Kept
 pub mod Listed
 pub mod Rows
-pub mod Bits
 pub mod Missed

@@ -10,6 +10,7 @@ use Rattle.pl_logic.specs.ManagerViews.{Told, id_cmp, place_of, placed_edges, va
 use Rattle.pl_logic.specs.AvoidLists.{avoided_cmp}
 use Rattle.pl_faults.specs.declared.edges.Edge.{Edge}
 use Rattle.pl_faults.specs.declared.leading.Leading.{Leading}
+use Rattle.pl_faults.specs.declared.reach.Reach.{Reach}
 use Rattle.pl_faults.specs.Listed.{AreHeard, is_in}
 use Rattle.pl_faults.specs.Making.{Avoided, placed_as}
 use Rattle.pl_faults.specs.Rows.{IsReach, leads_on}
@@ -52,6 +53,12 @@ pub record IsLeading (told : Told) (leading : Leading) : Type 0 where
 pub record IsTurned (told : Told) (old new : Leading) (turned : List SwitchId) : Type 0 where
   pub leading : IsLeading told new
   pub same : (t : SwitchId) → is_in turned t ≡ false → missed_in new.misses.entries t ≡ missed_in old.misses.entries t
+
+-- rows and what is missed, by what is told now, and all but those that turned miss what they missed
+pub record AreMissedAnew (told : Told) (edges : List Edge) (known : Reach) (old new : Misses) (turned : List SwitchId) : Type 0 where
+  pub reach : IsReach told edges known
+  pub missed_are : AreMissed told edges new
+  pub same : (t : SwitchId) → is_in turned t ≡ false → missed_in new t ≡ missed_in old t
 
 -- of some switches all but those that turned miss in a new table what they missed in the old one
 abbrev pub AreTurned : Misses → Misses → List SwitchId → List SwitchId → Type 0

@@ -1,6 +1,7 @@
 -- Where the switches above the edge switches lead on to, in rows: for each switch a value for each placed edge switch.
-use Rattle.std.specs.Prelude.{◌≡◌, ◌&&◌, ◌||◌, ℕ, Bool, true, false, List, [], if◌then◌else◌, Option, map, slice_index_or, unwrap_or}
-use Rattle.std.specs.List.{list_any, zip}
+use Rattle.std.specs.Prelude.{◌≡◌, ◌&&◌, ℕ, Bool, true, false, List, [], if◌then◌else◌, Option, map, slice_index_or, unwrap_or}
+use Rattle.std.specs.List.{list_any}
+use Rattle.pl_bits.specs.Rows.{either_row}
 use Rattle.pl_frame.specs.declared.address.SwitchId.{SwitchId}
 use Rattle.pl_layouts.specs.declared.place.Place.{Place}
 use Rattle.pl_layouts.specs.Placement.{is_known}
@@ -53,10 +54,6 @@ pub record IsReach (told : Told) (edges : List Edge) (reach : Reach) : Type 0 wh
   pub by_link : AreRows told 1 edges (leads_down told) reach.down.entries
   pub by_core : AreRows told 2 edges (leads_by told 1 (leads_down told)) reach.core.entries
   pub by_two : AreRows told 1 edges (leads_by told 2 (leads_by told 1 (leads_down told))) reach.up.entries
-
--- what one of two rows says
-abbrev pub either_row : List Bool → List Bool → List Bool
-either_row row more = map (λ p. p.0 || p.1) (zip row more)
 
 -- a row, with that of a neighbour if it is to be added
 abbrev pub with_row : Bool → List Bool → List Bool → List Bool

@@ -21,7 +21,7 @@ pub(crate) fn placed_edges(alloc: Global, reports: &Reports) -> Result<Vec<Edge>
     ensures { IfOk result (λ edges. map placed_as edges.items ≡ placed_edges reports.now) }
 {
     let mut edges = Vec::new(alloc);
-    for switch in reports.switches() {
+    for switch in reports.placed_edges() {
         add_placed(&mut edges, *switch, reports.place_of(*switch))?;
     }
     Ok(edges)

@@ -1,13 +1,15 @@
-ghost use Rattle.std.specs.Prelude.{◌≡◌, ◌&&◌, ◌||◌, IfOk, OnOk, [], is_some, not};
+ghost use Rattle.std.specs.Prelude.{◌≡◌, ◌&&◌, ◌||◌, IfOk, OnOk, [], false, is_some, not};
 ghost use Rattle.std.specs.List.{list_any};
 ghost use Rattle.pl_layouts.specs.Equality.{same_switch};
 ghost use Rattle.pl_frame.specs.declared.address.SwitchId.{SwitchId};
-ghost use Rattle.pl_logic.specs.ManagerViews.{Told, edge_at, place_of, placed_edges};
-ghost use Rattle.pl_faults.specs.Kept.{IsLinkWord, IsPlaceWord};
-ghost use Rattle.pl_faults.specs.Missed.{IsLeading, IsTurned, is_some_edge};
+ghost use Rattle.pl_logic.specs.ManagerViews.{Told, alive_neighbours, edge_at, place_of, placed_edges};
+ghost use Rattle.pl_faults.specs.Kept.{IsLinkWord, IsPlaceWord, IsWordWithin};
+ghost use Rattle.pl_faults.specs.Listed.{is_in};
+ghost use Rattle.pl_faults.specs.Missed.{AreMissed, AreMissedAnew, IsLeading, IsTurned, is_some_edge};
+ghost use Rattle.pl_faults.specs.Rows.{IsReach};
 
 use crate::edges::{Edge, edge_at, placed_edges};
-use crate::listed::{Hearers, around, ends_of, hear};
+use crate::listed::{Hearers, around, ends_of, hear, put_all};
 use crate::missed::{Misses, renew_misses, turned_among};
 use crate::reach::{Reach, no_reach, reach_of, renew_reach};
 use pl_frame::SwitchId;
@@ -56,20 +58,14 @@ pub(crate) fn link_leading(
 {
     hear(&mut leading.hearers, alloc, switch, neighbour)?;
     let ends = ends_of(alloc, switch, neighbour)?;
-    let turned = renew_reach(
+    let turned = renew_beside(
         &mut leading.reach,
-        alloc,
-        reports,
-        leading.edges.as_slice(),
-        &ends,
-    )?;
-    renew_misses(
         &mut leading.misses,
         alloc,
         reports,
         leading.edges.as_slice(),
-        &leading.reach,
-        turned.as_slice(),
+        &ends,
+        &[],
     )?;
     Ok(turned)
 }
@@ -132,22 +128,37 @@ fn move_leading(
         IsLeading told leading.old → IsTurned reports.now leading.old leading.new turned) }
 {
     let ends = around(alloc, reports, switch)?;
-    let mut turned = renew_reach(
+    let turned = renew_beside(
         &mut leading.reach,
-        alloc,
-        reports,
-        leading.edges.as_slice(),
-        &ends,
-    )?;
-    turned.insert(switch)?;
-    renew_misses(
         &mut leading.misses,
         alloc,
         reports,
         leading.edges.as_slice(),
-        &leading.reach,
-        turned.as_slice(),
+        &ends,
+        &[switch],
     )?;
+    Ok(turned)
+}
+
+// Brings the rows and what is missed up to a word, which was told already, left all switches but `ends`, and
+// left all but those that moved where they are. Answers the switches that may miss others.
+fn renew_beside(
+    reach: &mut Reach,
+    misses: &mut Misses,
+    alloc: Global,
+    reports: &Reports,
+    edges: &[Edge],
+    ends: &SwitchList,
+    moved: &[SwitchId],
+) -> Result<SwitchList, Memory>
+    ensures { IfOk result (λ turned. (told : Told) → IsWordWithin ends.now alive_neighbours told reports.now →
+        ((t : SwitchId) → is_in moved.now t ≡ false → place_of reports.now t ≡ place_of told t) →
+        IsReach told edges.now reach.old → AreMissed told edges.now misses.old.entries →
+        AreMissedAnew reports.now edges.now reach.new misses.old.entries misses.new.entries turned) }
+{
+    let mut turned = renew_reach(reach, alloc, reports, edges, ends)?;
+    put_all(&mut turned, moved)?;
+    renew_misses(misses, alloc, reports, edges, reach, turned.as_slice())?;
     Ok(turned)
 }
 

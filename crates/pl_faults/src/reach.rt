@@ -10,7 +10,8 @@ ghost use Rattle.pl_faults.specs.Rows.{AreRows, AreRowsRenewed, IsReach, IsReach
 
 use crate::edges::Edge;
 use crate::listed::{beside, put_all};
-use crate::row::Row;
+use crate::row::{linked_down, none_reached};
+use pl_bits::Row;
 use pl_frame::SwitchId;
 use pl_logic::{Memory, Place, SwitchList};
 use pl_reports::Reports;
@@ -124,7 +125,7 @@ fn row_down(
     if !has_level(reports.place_of(switch), 1) {
         return Ok(Row::none(alloc));
     }
-    let row = Row::down(alloc, reports, edges, switch)?;
+    let row = linked_down(alloc, reports, edges, switch)?;
     Ok(row)
 }
 
@@ -180,7 +181,7 @@ fn row_by(
     ensures { IfOk result (λ row. (f : Leads) → AreRows reports.now level edges.now f by.now.entries →
         row ≡ row_of (leads_by reports.now level f) edges.now switch) }
 {
-    let mut row = Row::empty(alloc, edges)?;
+    let mut row = none_reached(alloc, edges)?;
     for neighbour in reports.alive_neighbours(switch) {
         add_row(alloc, reports, &mut row, by, level, *neighbour);
     }

@@ -11,5 +11,5 @@ returns c =
     let told = c.args.reports.now in
     c.loop-switch.invariant
     ∙ ap (λ ss. fold (λ es s. with_placed es (edge_at s (place_of told s))) [] ss)
-    (take_all c.loop-switch.switch-index c.switches-switch-items.result.now c.loop-switch-test.false ∙ c.switches-switch-items.ensures)
+    (take_all c.loop-switch.switch-index c.placed_edges-switch-items.result.now c.loop-switch-test.false ∙ c.placed_edges-switch-items.ensures.value)
     ∙ edges_placed told

@@ -4,7 +4,7 @@ use Rattle.pl_logic.specs.ManagerViews.{is_alive}
 use Rattle.pl_faults.specs.declared.edges.Edge.{Edge}
 use Rattle.pl_faults.specs.Rows.{leads_down}
 use Rattle.pl_faults.proofs.Filled.{filled_all, filled_more}
-use Rattle.pl_faults.proofs.row.Row.down.Goals as goal
+use Rattle.pl_faults.proofs.row.linked_down.Goals as goal
 
 pub loop-i-preserved : goal.loop-i-preserved
 loop-i-preserved c =

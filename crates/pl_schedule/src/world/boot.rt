@@ -1,9 +1,9 @@
-ghost use Rattle.std.specs.Prelude.{◌≡◌, ◌<◌, ◌≤◌, ◌*◌, All, length, map, replicate, slice_get, None, Some, IfOk};
+ghost use Rattle.std.specs.Prelude.{◌≡◌, ◌<◌, ◌≤◌, ◌*◌, [], All, length, map, replicate, slice_get, None, Some, IfOk};
 ghost use Rattle.pl_wiring.specs.Labels.{switch_count};
 ghost use Rattle.pl_logic.specs.HostViews.{boot_host};
 ghost use Rattle.pl_logic.specs.ManagerViews.{booted_manager};
 ghost use Rattle.pl_logic.specs.SwitchFacts.{switch_at_boot};
-ghost use Rattle.pl_world.specs.Booting.{CanBegin, all_live, booted, me_of};
+ghost use Rattle.pl_world.specs.Booting.{CanBegin, all_live, booted, first_stand, me_of};
 ghost use Rattle.pl_world.specs.Flying.{IsCounted};
 ghost use Rattle.pl_world.specs.Hearing.{IsWithinHearing};
 ghost use Rattle.pl_world.specs.Pending.{first_switches};
@@ -15,8 +15,8 @@ use pl_frame::Memory;
 use pl_lists::Items;
 use pl_logic::{HostLogic, HostTable, ManagerLogic, SwitchLogic};
 use pl_wiring::{Host, LinkStates, SwitchNo, Wiring};
-use pl_world::Limits;
-use pl_world_parts::{Atlas, Book, Stands, Switches};
+use pl_world::{Item, Limits};
+use pl_world_parts::{Atlas, Book, Stands, Switches, WaitingToManager, WaitingToSwitch};
 use std::alloc::Global;
 
 impl<S: SwitchLogic, M: ManagerLogic, H: HostLogic> World<S, M, H> {
@@ -29,33 +29,101 @@ impl<S: SwitchLogic, M: ManagerLogic, H: HostLogic> World<S, M, H> {
         ensures hearing { IfOk result (λ w. IsWithinHearing w) }
     {
         see_addresses(&wiring);
-        let links = live_links(alloc, &wiring)?;
-        let stands = Stands::first(alloc, wiring.hosts())?;
-        let heard = silent_hosts(alloc, &wiring)?;
-        let switches = boot_with_queues(alloc, &wiring)?;
-        let manager = boot_manager(alloc, &wiring)?;
-        let table = host_table(alloc, wiring.hosts())?;
-        let hosts = boot_hosts(alloc, wiring.hosts(), &table)?;
-        let from_hosts = Queues::new(alloc, wiring.host_count() as usize)?;
-        let to_manager = CountedQueues::new(alloc, wiring.switch_count() as usize)?;
-        let from_manager = CountedQueues::new(alloc, wiring.switch_count() as usize)?;
+        let standing = Standing::first(alloc, &wiring)?;
+        let devices = Devices::boot(alloc, &wiring)?;
+        let queues = EmptyQueues::new(alloc, &wiring)?;
         let atlas = Atlas::of_wiring(alloc, wiring)?;
         Ok(World {
             alloc,
             atlas,
-            links,
-            stands,
-            heard,
-            switches,
-            manager,
-            hosts,
-            from_hosts,
-            to_manager,
-            from_manager,
+            links: standing.links,
+            stands: standing.stands,
+            heard: standing.heard,
+            switches: devices.switches,
+            manager: devices.manager,
+            hosts: devices.hosts,
+            from_hosts: queues.from_hosts,
+            to_manager: queues.to_manager,
+            from_manager: queues.from_manager,
             book: Book::new(alloc),
             begun: 0,
             steps: 0,
             limits,
+        })
+    }
+}
+
+// The links, where hosts stand, and how long ago each was heard.
+#[derive(Drop)]
+struct Standing {
+    links: LinkStates,
+    stands: Stands,
+    heard: Vec<Option<u32>>,
+}
+
+impl Standing {
+    fn first(alloc: Global, wiring: &Wiring) -> Result<Standing, Memory>
+        ensures links { IfOk result (λ all. all.links ≡ all_live wiring.now) }
+        ensures stands { IfOk result (λ all. all.stands ≡ map first_stand wiring.now.hosts) }
+        ensures heard { IfOk result (λ all. all.heard.items ≡ replicate (length wiring.now.hosts) None) }
+    {
+        let links = live_links(alloc, wiring)?;
+        let stands = Stands::first(alloc, wiring.hosts())?;
+        let heard = silent_hosts(alloc, wiring)?;
+        Ok(Standing {
+            links,
+            stands,
+            heard,
+        })
+    }
+}
+
+// The switches, the manager and the hosts.
+#[derive(Drop)]
+struct Devices<S: SwitchLogic, M: ManagerLogic, H: HostLogic> {
+    switches: Switches<S>,
+    manager: M,
+    hosts: Vec<H>,
+}
+
+impl<S: SwitchLogic, M: ManagerLogic, H: HostLogic> Devices<S, M, H> {
+    fn boot(alloc: Global, wiring: &Wiring) -> Result<Devices<S, M, H>, Memory>
+        ensures switches { IfOk result (λ all. all.switches ≡ first_switches wiring.now) }
+        ensures manager { IfOk result (λ all. M.view all.manager ≡ booted_manager wiring.now.k) }
+        ensures hosts { IfOk result (λ all. map H.view all.hosts.items ≡ map (λ host. boot_host (me_of host) (map me_of wiring.now.hosts)) wiring.now.hosts) }
+    {
+        let switches = boot_with_queues(alloc, wiring)?;
+        let manager = boot_manager(alloc, wiring)?;
+        let hosts = boot_with_table(alloc, wiring)?;
+        Ok(Devices {
+            switches,
+            manager,
+            hosts,
+        })
+    }
+}
+
+// The queues of hosts, to the manager and from it.
+#[derive(Drop)]
+struct EmptyQueues {
+    from_hosts: Queues<Item>,
+    to_manager: CountedQueues<WaitingToManager>,
+    from_manager: CountedQueues<WaitingToSwitch>,
+}
+
+impl EmptyQueues {
+    fn new(alloc: Global, wiring: &Wiring) -> Result<EmptyQueues, Memory>
+        ensures from_hosts { IfOk result (λ all. all.from_hosts ≡ replicate (length wiring.now.hosts) []) }
+        ensures to_manager { IfOk result (λ all. all.to_manager ≡ replicate (switch_count wiring.now.k) []) }
+        ensures from_manager { IfOk result (λ all. all.from_manager ≡ replicate (switch_count wiring.now.k) []) }
+    {
+        let from_hosts = Queues::new(alloc, wiring.host_count() as usize)?;
+        let to_manager = CountedQueues::new(alloc, wiring.switch_count() as usize)?;
+        let from_manager = CountedQueues::new(alloc, wiring.switch_count() as usize)?;
+        Ok(EmptyQueues {
+            from_hosts,
+            to_manager,
+            from_manager,
         })
     }
 }
@@ -130,6 +198,14 @@ fn host_table(alloc: Global, hosts: &[Host]) -> Result<HostTable, Memory>
         table.push(me_of(host))?;
     }
     Ok(table)
+}
+
+// The hosts, each of which knows the table of all.
+fn boot_with_table<H: HostLogic>(alloc: Global, wiring: &Wiring) -> Result<Vec<H>, Memory>
+    ensures { IfOk result (λ devices. map H.view devices.items ≡ map (λ host. boot_host (me_of host) (map me_of wiring.now.hosts)) wiring.now.hosts) }
+{
+    let table = host_table(alloc, wiring.hosts())?;
+    boot_hosts(alloc, wiring.hosts(), &table)
 }
 
 fn boot_hosts<H: HostLogic>(

@@ -22,8 +22,9 @@ fn holds(
     Ok(load(alloc, shelf, name, 99)?.bytes() == wanted)
 }
 
-// The file is closed for another one, and both are read in between.
+// Each file is closed for the other one, which has had a longer text.
 fn write_by_turns(shelf: &mut impl Shelf, name: &str, other: &str) -> Result<(), SaveError> {
+    save(shelf, other, b"xyz")?;
     save(shelf, name, &DIGITS[..4])?;
     save(shelf, other, b"x")?;
     append(shelf, name, &DIGITS[4..])?;

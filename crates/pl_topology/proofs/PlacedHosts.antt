@@ -1,5 +1,5 @@
 -- The hosts of a file: at free ports, and no two alike.
-use Rattle.std.proofs.Common.{◌≡◌, ◌≢◌, ℕ, suc, pos, ◌+◌, ◌*◌, ◌/◌, ◌^◌, ◌<◌, ◌≤◌, true, false, eqb, List, [], ◌∷◌, ◌++◌, length, get_or, map, None, All, AllPairs, refl, sym, ap, ◌∙◌, arith, inl, inr}
+use Rattle.std.proofs.Common.{◌≡◌, ◌≢◌, ℕ, suc, pos, ◌+◌, ◌*◌, ◌/◌, ◌^◌, ◌<◌, ◌≤◌, true, false, eqb, List, [], ◌∷◌, ◌++◌, length, get_or, map, None, IsTrue, All, AllPairs, refl, sym, ap, ◌∙◌, arith, inl, inr}
 use Rattle.std.specs.List.{flat_map, list_any}
 use Rattle.std.proofs.lemmas.Bool.{cases_Bool, eqb-true, false≢true}
 use Rattle.std.proofs.lemmas.Bool.Decides.{Decides-eqb}
@@ -17,6 +17,7 @@ use Rattle.pl_wiring.specs.FatTree.{IsAt, link_count}
 use Rattle.pl_wiring.specs.Labels.{IsArity, edge_count}
 use Rattle.pl_topology.specs.Meaning.{host_of, links_of, port_number}
 use Rattle.pl_wiring.specs.Plan.{IsHostIp, IsHostMac, StandsAt}
+use Rattle.pl_wiring.specs.Texts.{is_name}
 use Rattle.pl_topology.proofs.PlacedLinks.{Agree, is_at_moved, links_of-at, links_of-length, placed_seen, port_number-below, port_number-is, use_here}
 use Rattle.pl_topology.proofs.PortsApart.{IsFree}
 use Rattle.pl_topology.proofs.Readings.{AllPairs-map}
@@ -28,6 +29,7 @@ uses_of_links k given = kept_uses k given ++ flat_map (link_uses k) given
 -- what the checks of the `host` tables tell
 pub record AgreeHosts (k : ℕ) (given : List LinkEntry) (hosts : List HostEntry) : Type 0 where
   pub edges : All (λ h. h.edge.0 < edge_count k) hosts
+  pub named : All (λ h. IsTrue (is_name h.name)) hosts
   pub of_one_mac : All (λ h. IsHostMac h.mac) hosts
   pub of_one_ip : All (λ h. IsHostIp h.ip) hosts
   pub names : AllPairs (λ g h. g.name ≢ h.name) hosts

@@ -1,5 +1,5 @@
 -- What a topology file means is a wiring.
-use Rattle.std.proofs.Common.{◌≡◌, ◌≢◌, ℕ, ℤ, pos, negsuc, ◌%◌, ◌<◌, ◌≤◌, ◌^◌, Bool, true, false, not, ◌&&◌, ◌||◌, ltb, leb, eqb, cond, List, [], ◌∷◌, ◌++◌, get_or, Some, None, option_and_then, Result, Ok, All, AllPairs, subst, refl, sym, ap, ◌∙◌, arith}
+use Rattle.std.proofs.Common.{◌≡◌, ◌≢◌, ℕ, ℤ, pos, negsuc, ◌%◌, ◌<◌, ◌≤◌, ◌^◌, Bool, true, false, not, ◌&&◌, ◌||◌, ltb, leb, eqb, cond, List, [], ◌∷◌, ◌++◌, get_or, Some, None, option_and_then, Result, Ok, IsTrue, All, AllPairs, subst, refl, sym, ap, ◌∙◌, arith}
 use Rattle.std.specs.Prelude.{codes}
 use Rattle.std.specs.Bool.{⊤}
 use Rattle.std.specs.List.{flat_map, list_any}
@@ -30,7 +30,7 @@ use Rattle.pl_wiring.specs.Labels.{IsArity, edge_count, label_of, number_of, swi
 use Rattle.pl_topology.specs.Meaning.{host_of, plan_of_entries}
 use Rattle.pl_wiring.specs.Plan.{IsHostIp, IsHostMac, IsPlan}
 use Rattle.pl_topology.specs.Refusal.{all_beside, each, each_beside, or_refused, refused_if}
-use Rattle.pl_wiring.specs.Texts.{ip_of_text, label_of_text, mac_of_text}
+use Rattle.pl_wiring.specs.Texts.{ip_of_text, is_name, label_of_text, mac_of_text}
 use Rattle.pl_wiring.proofs.EntryLemmas.{is_label-Decides}
 use Rattle.pl_wiring.proofs.LabelOrder.{number_of-below}
 use Rattle.pl_topology.proofs.PlacedHosts.{AgreeHosts, few_hosts, hosts_at_edges, hosts_at_free_ports, hosts_ips_apart, hosts_macs_apart, hosts_names_apart, hosts_places_apart, uses_of_links}
@@ -103,6 +103,7 @@ made_host made entry is = cc
 
 -- what a host table says is of one host at an edge switch
 pub record IsHostEntry (k : ℕ) (host : HostEntry) : Type 0 where
+  pub named : IsTrue (is_name host.name)
   pub at_edge : host.edge.0 < edge_count k
   pub of_one_mac : IsHostMac host.mac
   pub of_one_ip : IsHostIp host.ip
@@ -110,7 +111,7 @@ pub record IsHostEntry (k : ℕ) (host : HostEntry) : Type 0 where
 host_entry-is : (k : ℕ) (found : Members) (entry : HostEntry) → host_entry k found ≡ Ok entry → IsHostEntry k entry
 unfolding host_entry
 host_entry-is k found entry given =
-    let (name, is_name, rest) = bind_ok (or_refused (option_and_then name_if (text_at key.Name found)) (error.BadValue key.Name)) _ entry given in
+    let (name, of_text, rest) = bind_ok (or_refused (option_and_then name_if (text_at key.Name found)) (error.BadValue key.Name)) _ entry given in
     let (mac, is_mac, rest2) = bind_ok (or_refused (option_and_then mac_of_text (text_at key.Mac found)) (error.BadValue key.Mac)) _ entry rest in
     let (ip, is_ip, rest3) = bind_ok (or_refused (option_and_then ip_of_text (text_at key.Ip found)) (error.BadValue key.Ip)) _ entry rest2 in
     let (edge, is_edge, rest4) = bind_ok (or_refused (option_and_then (edge_if k) (switch_at k key.Edge found)) (error.BadValue key.Edge)) _ entry rest3 in
@@ -119,10 +120,14 @@ host_entry-is k found entry given =
     let same = made_host (record { name = name; mac = mac; ip = ip; edge = edge; port = port; capture = capture }) entry made in
     let (mac_text, mac_there, mac_read) = then_some mac_of_text (text_at key.Mac found) mac (or_refused_ok _ _ mac is_mac) in
     let (ip_text, ip_there, ip_read) = then_some ip_of_text (text_at key.Ip found) ip (or_refused_ok _ _ ip is_ip) in
+    let (name_text, name_there, name_read) = then_some name_if (text_at key.Name found) name (or_refused_ok _ _ name of_text) in
+    let (name_fit, name_is) = some_if (is_name name_text) name_text name name_read in
+    let N : List ℕ → Type 0 = λ text. IsTrue (is_name text) in
     let (switch, named, low) = then_some (edge_if k) (switch_at k key.Edge found) edge (or_refused_ok _ _ edge is_edge) in
     let (below, is) = some_if (ltb switch.0 (edge_count k)) switch edge low in
     let P : SwitchNo → Type 0 = λ s. s.0 < edge_count k in
     subst (IsHostEntry k) same (record {
+      named = subst N name_is name_fit;
       at_edge = subst P is (ltb-true switch.0 (edge_count k) below);
       of_one_mac = mac_of_text-one mac_text mac mac_read;
       of_one_ip = ip_of_text-one ip_text ip ip_read;
@@ -235,6 +240,7 @@ pub agree_hosts : (k : ℕ) (links : List LinkEntry) (hosts : List HostEntry) �
 agree_hosts k links hosts are names addresses ports =
     let passed = (ports_agree k links hosts ports).1 in
     record {
+      named = All-weaker (IsHostEntry k) (λ h. IsTrue (is_name h.name)) hosts (λ h is. is.named) are;
       edges = All-weaker (IsHostEntry k) (λ h. h.edge.0 < edge_count k) hosts (λ h is. is.at_edge) are;
       of_one_mac = All-weaker (IsHostEntry k) (λ h. IsHostMac h.mac) hosts (λ h is. is.of_one_mac) are;
       of_one_ip = All-weaker (IsHostEntry k) (λ h. IsHostIp h.ip) hosts (λ h is. is.of_one_ip) are;
@@ -298,6 +304,7 @@ plan_of_entries-IsPlan k e arity agree = record {
   ports_apart = hosts_places_apart k e.links e.hosts agree.hosts;
   host_macs = All-map (λ h. IsHostMac h.mac) host_of e.hosts agree.hosts.of_one_mac;
   host_ips = All-map (λ h. IsHostIp h.ip) host_of e.hosts agree.hosts.of_one_ip;
+  names = All-map (λ h. IsTrue (is_name h.name)) host_of e.hosts agree.hosts.named;
   names_apart = hosts_names_apart k e.links e.hosts agree.hosts;
   macs_apart = hosts_macs_apart k e.links e.hosts agree.hosts;
   ips_apart = hosts_ips_apart k e.links e.hosts agree.hosts;

@@ -1,5 +1,5 @@
 -- What a wiring is: a fat tree whose switches have ids, with hosts at free ports of its edge switches.
-use Rattle.std.specs.Prelude.{◌≡◌, ◌≢◌, ℕ, ◌^◌, ◌/◌, ◌<◌, ◌≤◌, List, [], ◌∷◌, length, All, AllPairs, HoldsAt}
+use Rattle.std.specs.Prelude.{◌≡◌, ◌≢◌, ℕ, ◌^◌, ◌/◌, ◌<◌, ◌≤◌, IsTrue, List, [], ◌∷◌, length, All, AllPairs, HoldsAt}
 use Rattle.pl_frame.specs.declared.address.SwitchId.{SwitchId}
 use Rattle.pl_frame.specs.declared.address.Mac.{Mac}
 use Rattle.pl_frame.specs.declared.address.Ip4.{Ip4}
@@ -8,6 +8,7 @@ use Rattle.pl_wiring.specs.declared.link.Link.{Link}
 use Rattle.pl_wiring.specs.declared.host.Host.{Host}
 use Rattle.pl_wiring.specs.Labels.{IsArity, edge_count, switch_count}
 use Rattle.pl_wiring.specs.FatTree.{IsAt, IsFatTree, IsInLinkOrder}
+use Rattle.pl_wiring.specs.Texts.{is_name}
 
 -- the ids in label order, the links in link order
 pub record Plan : Type 0 where
@@ -46,7 +47,8 @@ pub record IsPlan (plan : Plan) : Type 0 where
   -- each host has addresses of one host
   pub host_macs : All (λ h. IsHostMac h.mac) plan.hosts
   pub host_ips : All (λ h. IsHostIp h.ip) plan.hosts
-  -- no two hosts have one name, MAC address or IPv4 address
+  -- each host has a name; no two hosts have one name, MAC address or IPv4 address
+  pub names : All (λ h. IsTrue (is_name h.name)) plan.hosts
   pub names_apart : AllPairs (λ g h. g.name ≢ h.name) plan.hosts
   pub macs_apart : AllPairs (λ g h. g.mac ≢ h.mac) plan.hosts
   pub ips_apart : AllPairs (λ g h. g.ip ≢ h.ip) plan.hosts

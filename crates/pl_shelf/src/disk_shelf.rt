@@ -12,7 +12,8 @@ use std::rt::Files;
 ///
 /// A file stays open from one call to the next: the one that was read last, until a read comes to
 /// its end, and the one that was created or written last. `create` makes the folders above a file
-/// that are missing. Standard output cannot be read.
+/// that are missing. Standard output cannot be read. Where the program began with one of its three
+/// standard descriptors closed, no file takes its place: what is written there fails.
 #[derive(Drop)]
 pub struct DiskShelf<R: Files + Print + Drop> {
     handles: Handles<R>,

@@ -8,12 +8,26 @@ use std::path::Path;
 use std::rt::Files;
 use std::{fs, io};
 
+// Nothing can be written to it where it is opened to be read.
+const NULL_DEVICE: &str = "/dev/null";
+
 #[derive(Drop)]
 pub struct Handles<R: Files + Print + Drop> {
     alloc: Global,
     rt: R,
+    stand_ins: StandIns<R::File>,
     reading: Option<Reading<R::File>>,
     writing: Option<Writing<R::File>>,
+}
+
+// A file that is opened takes the lowest descriptor that is free. Where the program began with standard
+// input, output or error closed, these three take their places, so that no file of the shelf does, and
+// what is written to standard output or error fails.
+#[derive(Drop)]
+struct StandIns<F: Drop> {
+    first: Option<F>,
+    second: Option<F>,
+    third: Option<F>,
 }
 
 #[derive(Drop)]
@@ -31,10 +45,17 @@ struct Writing<F: Drop> {
 }
 
 impl<R: Files + Print + Drop> Handles<R> {
+    /// Opens the null device three times, and goes without where it cannot be opened.
     pub fn new(alloc: Global, rt: R) -> Self {
+        let stand_ins = StandIns {
+            first: fs::open(&rt, NULL_DEVICE).ok(),
+            second: fs::open(&rt, NULL_DEVICE).ok(),
+            third: fs::open(&rt, NULL_DEVICE).ok(),
+        };
         Handles {
             alloc,
             rt,
+            stand_ins,
             reading: None,
             writing: None,
         }

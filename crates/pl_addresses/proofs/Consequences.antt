@@ -8,14 +8,16 @@ use Rattle.pl_frame.specs.declared.address.Mac.{Mac}
 use Rattle.pl_logic.specs.declared.messages.ToSwitch.TheVariants as say
 use Rattle.pl_pmac.specs.declared.pmac.Pmac.{Pmac}
 use Rattle.pl_logic.specs.declared.switch_records.Grant.{Grant}
-use Rattle.pl_arp.specs.declared.cache.Me.{Me}
+use Rattle.pl_wiring.specs.declared.host.Host.{Host}
 use Rattle.pl_logic.specs.ManagerViews.{Registration, ip_of, newest, registration}
 use Rattle.pl_logic.specs.SwitchViews.{SwitchView}
 use Rattle.pl_queues.specs.Queues.{items_at}
+use Rattle.pl_world.specs.declared.stand.Stand.{Stand}
+use Rattle.pl_world.specs.Booting.{me_of}
 use Rattle.pl_world.specs.Worlds.{WorldView}
 use Rattle.pl_switch_rule.specs.Granting.{granted, is_local}
 use Rattle.pl_addresses.specs.Addressed.{AreApart, IsAddressed, IsGrantedBySome}
-use Rattle.pl_addresses.specs.AtRest.{IsRegistered, IsServed}
+use Rattle.pl_addresses.specs.Registered.{IsRegisteredWithIp, IsServed}
 use Rattle.pl_addresses.specs.EdgeAddresses.{IsGoodGrant, IsGoodOrder, IsGoodRecall, is_live, recalls, tells, tells_ip}
 use Rattle.pl_addresses.specs.OwnAddresses.{own_ip}
 use Rattle.pl_addresses.specs.Registries.{Leads, Registry, number_of, registry_of}
@@ -35,32 +37,58 @@ pub granted_once : (switches : List SwitchView) → AreApart switches → (s t :
 granted_once switches apart s t v u x at_s at_t live other = apart s t v u x at_s at_t (live_at v x live) (live_at u x other)
 
 -- where nothing waits between an edge switch and the manager, each host that it serves is registered
-pub served_is_registered : (w : WorldView) → IsAddressed w → (s : ℕ) (v : SwitchView) → slice_get w.switches s ≡ Some v → items_at w.to_manager s ≡ [] →
-    items_at w.from_manager s ≡ [] → (port : ℕ) (me : Me) → IsServed v port me → IsRegistered w.manager.learnt v port me
-served_is_registered w a s v at up down port me served = by (registration w.manager.learnt served.address) refl
+pub served_is_registered : (w : WorldView) → IsAddressed w → (h : ℕ) (host : Host) (stand : Stand) (v : SwitchView) → slice_get w.plan.hosts h ≡ Some host →
+    slice_get w.stands h ≡ Some stand → slice_get w.switches stand.edge.0 ≡ Some v → items_at w.to_manager stand.edge.0 ≡ [] →
+    items_at w.from_manager stand.edge.0 ≡ [] → IsServed v stand.port (me_of host) → IsRegisteredWithIp w h
+served_is_registered w a h host stand v is stands at up down served = by (registration w.manager.learnt served.address) refl
   where
-    good : IsGoodGrant (λ mac. own_ip w.plan mac) (registry_of w.manager.learnt) (items_at w.to_manager s) (items_at w.from_manager s) served.address served.grant
-    good = (a.edges s v at).grants served.address served.grant served.found
+    good : IsGoodGrant (λ mac. own_ip w.plan mac) (registry_of w.manager.learnt) (items_at w.to_manager stand.edge.0) (items_at w.from_manager stand.edge.0)
+        served.address served.grant
+    good = (a.edges stand.edge.0 v at).grants served.address served.grant served.found
 
     nothing : {T : Type 0} (p : T → Bool) (xs : List T) → xs ≡ [] → list_any p xs ≡ true → ⊥
     nothing p xs is any = false≢true (ap (λ ys. list_any p ys) (sym is) ∙ any)
 
-    by : (o : Option Registration) → registration w.manager.learnt served.address ≡ o → IsRegistered w.manager.learnt v port me
-    by None none = absurd (nothing (tells served.address) (items_at w.to_manager s) up (good.told served.used none))
+    with_ip : ip_of w.manager.learnt served.address ≡ Some host.ip
+    with_ip = elim (good.told_ip served.used host.ip served.ip) [
+      | inl knows ↦ knows
+      | inr waits ↦ absurd (nothing (tells_ip served.address) (items_at w.to_manager stand.edge.0) up waits)
+    ]
+
+    by : (o : Option Registration) → registration w.manager.learnt served.address ≡ o → IsRegisteredWithIp w h
+    by None none = absurd (nothing (tells served.address) (items_at w.to_manager stand.edge.0) up (good.told served.used none))
     by (Some reg) known =
         let name : reg.pmac ≡ served.address = a.registry.named served.address reg known in
+        let newest_is : newest w.manager.learnt host.mac ≡ Some reg = elim (good.current served.used reg known) [
+          | inl is_newest ↦ ap (λ m. newest w.manager.learnt m) (sym served.mac) ∙ is_newest
+          | inr waits ↦ absurd (nothing (recalls served.address) (items_at w.from_manager stand.edge.0) down waits)
+        ] in
         record {
-          served = served;
-          newest_one = reg;
-          is_newest = elim (good.current served.used reg known) [
-            | inl newest_is ↦ ap (λ m. newest w.manager.learnt m) (sym served.mac) ∙ newest_is
-            | inr waits ↦ absurd (nothing (recalls served.address) (items_at w.from_manager s) down waits)
-          ];
-          is_served = name;
-          knows_ip = elim (good.told_ip served.used me.ip served.ip) [
-            | inl knows ↦ ap (λ x. ip_of w.manager.learnt x) name ∙ knows
-            | inr waits ↦ absurd (nothing (tells_ip served.address) (items_at w.to_manager s) up waits)
-          ];
+          address = served.address;
+          by = record {
+            host = host;
+            is = is;
+            stand = stand;
+            stands = stands;
+            newest_one = reg;
+            is_newest = newest_is;
+            address = name;
+            edge = v;
+            there = at;
+            grant = served.grant;
+            found = served.found;
+            used = served.used;
+            by_host = served.mac;
+            at_port = served.at_port;
+            knows_ip = record {
+              told = reg;
+              found = ap (λ x. registration w.manager.learnt x) name ∙ known;
+              for_host = (a.registry.newest_is host.mac reg newest_is).0;
+              with_ip = ap (λ x. ip_of w.manager.learnt x) name ∙ with_ip;
+            };
+          };
+          at_edge = served.ip;
+          at_manager = with_ip;
         }
 
 -- each item of a list

@@ -4,6 +4,6 @@ pub mod Registries
 pub mod EdgeAddresses
 pub mod Addressed
 pub mod Standing
-pub mod AtRest
+pub mod Registered
 pub mod GrantedOnce
 pub mod InOrder

@@ -1,6 +1,6 @@
 ghost use Rattle.std.specs.Prelude.{◌≡◌, ◌≤◌, ◌⊎◌, ℕ, [], None, Some, true, slice_get};
 ghost use Rattle.std.specs.List.{list_any};
-ghost use Rattle.pl_arp.specs.declared.cache.Me.{Me};
+ghost use Rattle.pl_wiring.specs.declared.host.Host.{Host};
 ghost use Rattle.pl_logic.specs.declared.switch_records.Grant.{Grant};
 ghost use Rattle.pl_logic.specs.ManagerViews.{Learnt, Registration, newest, registration};
 ghost use Rattle.pl_logic.specs.SwitchViews.{SwitchView};
@@ -9,9 +9,11 @@ ghost use Rattle.pl_frame.specs.declared.address.Mac.{Mac};
 ghost use Rattle.pl_pmac.specs.declared.pmac.Pmac.{Pmac};
 ghost use Rattle.pl_queues.specs.Queues.{items_at};
 ghost use Rattle.pl_switch_rule.specs.Granting.{granted};
+ghost use Rattle.pl_world.specs.declared.stand.Stand.{Stand};
+ghost use Rattle.pl_world.specs.Booting.{me_of};
 ghost use Rattle.pl_world.specs.Worlds.{WorldView};
 ghost use Rattle.pl_addresses.specs.Addressed.{AreApart, IsAddressed, IsGrantedBySome};
-ghost use Rattle.pl_addresses.specs.AtRest.{IsRegistered, IsServed};
+ghost use Rattle.pl_addresses.specs.Registered.{IsRegisteredWithIp, IsServed};
 ghost use Rattle.pl_addresses.specs.EdgeAddresses.{is_live, recalls, tells, tells_ip};
 ghost use Rattle.pl_addresses.specs.OwnAddresses.{IsOwn, own_ip};
 ghost use Rattle.pl_addresses.specs.Registries.{HasOwnIp, Leads, Registry, number_of, registry_of};
@@ -64,11 +66,12 @@ pub fn an_address_in_use_is_the_newest_or_recalled()
 {}
 
 /// Where nothing waits between an edge switch and the fabric manager, each host that the switch serves is
-/// registered: the address that it has in use there is its newest one, and the manager knows its IPv4 address.
+/// registered: the address that it has in use there is its newest one, and the manager was told its IPv4 address
+/// with it.
 pub fn a_served_host_is_registered_at_rest()
-    ensures { (w : WorldView) → IsAddressed w → (s : ℕ) (v : SwitchView) → slice_get w.switches s ≡ Some v →
-        items_at w.to_manager s ≡ [] → items_at w.from_manager s ≡ [] → (port : ℕ) (me : Me) → IsServed v port me →
-        IsRegistered w.manager.learnt v port me }
+    ensures { (w : WorldView) → IsAddressed w → (h : ℕ) (host : Host) (stand : Stand) (v : SwitchView) → slice_get w.plan.hosts h ≡ Some host →
+        slice_get w.stands h ≡ Some stand → slice_get w.switches stand.edge.0 ≡ Some v → items_at w.to_manager stand.edge.0 ≡ [] →
+        items_at w.from_manager stand.edge.0 ≡ [] → IsServed v stand.port (me_of host) → IsRegisteredWithIp w h }
 {}
 
 /// The address that a host has in use at a port is the last one that was granted to it there, and no trap

@@ -9,7 +9,7 @@ use Rattle.pl_fabric.specs.Settled.{IsSettled}
 use Rattle.pl_control_plane.specs.ControlPlanes.{control_plane}
 use Rattle.pl_arrival.specs.Orderly.{IsOrderly}
 use Rattle.pl_arrival.specs.Reach.{Reaches}
-use Rattle.pl_arrival.specs.Registered.{IsRegisteredBy}
+use Rattle.pl_addresses.specs.Registered.{IsRegisteredBy}
 use Rattle.pl_arrival.specs.Ways.{GoesOn, IsFirst, IsLast, IsTop, LeadsDown, fabric_of}
 use Rattle.pl_arrival.proofs.Grounds.{ready}
 use Rattle.pl_arrival.proofs.Ready.{Ready, edge_is, home, net, one_edge}

@@ -41,7 +41,7 @@ use Rattle.pl_world.specs.WorldRule.{SwitchTurn}
 use Rattle.pl_world.specs.Worlds.{WorldView}
 use Rattle.pl_control_plane.specs.ControlPlanes.{control_plane}
 use Rattle.pl_control_plane.proofs.Joined.{joined_there}
-use Rattle.pl_arrival.specs.Registered.{IsRegisteredBy}
+use Rattle.pl_addresses.specs.Registered.{IsRegisteredBy}
 use Rattle.pl_arrival.specs.Ways.{Alike, GoesOn, IsLast, IsTop, LeadsBy, fabric_of}
 use Rattle.pl_arrival.proofs.Alike.{still_by}
 use Rattle.pl_arrival.proofs.Calm.{place_of_port, turned}

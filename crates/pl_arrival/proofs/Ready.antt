@@ -25,7 +25,7 @@ use Rattle.pl_control_plane.specs.HostsAtEdges.{HostsAtEdges, IsAtEdge}
 use Rattle.pl_addresses.specs.Addressed.{IsGrounded}
 use Rattle.pl_addresses.specs.InOrder.{IsInOrder}
 use Rattle.pl_arrival.specs.Orderly.{StandApart}
-use Rattle.pl_arrival.specs.Registered.{IsRegisteredBy}
+use Rattle.pl_addresses.specs.Registered.{IsRegisteredBy}
 use Rattle.pl_arrival.specs.Ways.{Alike, LeadsBy, fabric_of}
 use Rattle.pl_arrival.proofs.Avoiding.{IsHome, home_of}
 use Rattle.pl_arrival.proofs.Calm.{Calm, Net}

@@ -42,7 +42,7 @@ use Rattle.pl_world.proofs.Counts.{all_found}
 use Rattle.pl_control_plane.proofs.Joined.{joined_there}
 use Rattle.pl_places.specs.Known.{level_of}
 use Rattle.pl_arrival.specs.Reach.{IsPlainTo, Reaches}
-use Rattle.pl_arrival.specs.Registered.{IsRegisteredBy}
+use Rattle.pl_addresses.specs.Registered.{IsRegisteredBy}
 use Rattle.pl_arrival.specs.Ways.{GoesOn, LeadsDown, fabric_of}
 use Rattle.pl_arrival.proofs.Entering.{HasInUse, destination_kept, enters, length_kept, sends_home, sends_on}
 use Rattle.pl_arrival.proofs.Landing.{AreMild, lands, same_failed}

@@ -55,7 +55,7 @@ use Rattle.pl_control_plane.proofs.Joined.{joined_there}
 use Rattle.pl_control_plane.proofs.Stepping.{step_in_plane}
 use Rattle.pl_arrival.specs.Losses.{IsLostBy}
 use Rattle.pl_arrival.specs.Reach.{Reaches}
-use Rattle.pl_arrival.specs.Registered.{IsRegisteredBy}
+use Rattle.pl_addresses.specs.Registered.{IsRegisteredBy}
 use Rattle.pl_arrival.specs.Ways.{Alike, fabric_of}
 use Rattle.pl_arrival.proofs.Alike.{alike_by_manager, alike_by_views, one_of_both}
 use Rattle.pl_arrival.proofs.Hosting.{somebody}

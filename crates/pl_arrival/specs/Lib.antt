@@ -1,5 +1,4 @@
 pub mod Ways
-pub mod Registered
 pub mod Reach
 pub mod Losses
 pub mod Orderly

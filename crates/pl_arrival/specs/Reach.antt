@@ -8,7 +8,7 @@ use Rattle.pl_layouts.specs.Memberships.{is_group}
 use Rattle.pl_wiring.specs.declared.label.SwitchNo.{SwitchNo}
 use Rattle.pl_wiring.specs.Paths.{IsLivePath}
 use Rattle.pl_world.specs.Worlds.{WorldView}
-use Rattle.pl_arrival.specs.Registered.{IsRegistered, IsRegisteredBy}
+use Rattle.pl_addresses.specs.Registered.{IsRegistered, IsRegisteredBy}
 
 -- both hosts are registered, the second one by this address, and a live up-down path joins the edge switches where they stand
 pub record Reaches (w : WorldView) (h g : ℕ) (x : Pmac) : Type 0 where

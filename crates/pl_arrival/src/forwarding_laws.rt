@@ -6,7 +6,7 @@ ghost use Rattle.pl_fabric.specs.Settled.{IsSettled};
 ghost use Rattle.pl_control_plane.specs.ControlPlanes.{control_plane};
 ghost use Rattle.pl_arrival.specs.Orderly.{IsOrderly};
 ghost use Rattle.pl_arrival.specs.Reach.{Reaches};
-ghost use Rattle.pl_arrival.specs.Registered.{IsRegisteredBy};
+ghost use Rattle.pl_addresses.specs.Registered.{IsRegisteredBy};
 ghost use Rattle.pl_arrival.specs.Ways.{GoesOn, IsFirst, IsLast, IsTop, LeadsDown, fabric_of};
 
 /// In a settled fabric, where the one host reaches the other one at another edge switch: at its own edge switch a

@@ -19,7 +19,7 @@ use Rattle.pl_world.specs.Booting.{me_of}
 use Rattle.pl_world.specs.Changes.{host_no, out_of}
 use Rattle.pl_world.specs.Refusals.{has_port, has_switch}
 use Rattle.pl_world.specs.Worlds.{WorldView}
-use Rattle.pl_addresses.specs.AtRest.{IsRegistered}
+use Rattle.pl_addresses.specs.Registered.{IsRegisteredWithIp}
 use Rattle.pl_addresses.specs.EdgeAddresses.{is_settled}
 use Rattle.pl_addresses.proofs.Consequences.{served_is_registered}
 use Rattle.pl_addresses.proofs.Numbers.{granted_here, local_here}
@@ -75,7 +75,7 @@ none_of : (p : Item → Bool) (xs : List Item) → xs ≡ [] → list_any p xs �
 none_of p xs is any = false≢true (ap (λ (ys : List Item). list_any p ys) (sym is) ∙ any)
 
 pub registered_at_rest : (w : WorldView) → Kept w → AreAttended w → NothingWaits w → (h : ℕ) (host : Host) (stand : Stand) (v : SwitchView) → StandsAt w h host stand v →
-    is_placed v.place ≡ true → has_reached w.journal h ≡ true → is_port_spent v stand.port ≡ false → IsRegistered w.manager.learnt v stand.port (me_of host)
+    is_placed v.place ≡ true → has_reached w.journal h ≡ true → is_port_spent v stand.port ≡ false → IsRegisteredWithIp w h
 registered_at_rest w kept attended nothing h host stand v at placed reached room =
     let f = facts_of w kept in
     let edge = f.at_edges h stand at.stands in
@@ -90,7 +90,7 @@ registered_at_rest w kept attended nothing h host stand v at placed reached room
     let up = no_items (items_at w.to_manager stand.edge.0) (nothing (queue.ToManager stand.edge) there) in
     let down = no_items (items_at w.from_manager stand.edge.0) (nothing (queue.FromManager stand.edge) there) in
     elim (attended h host stand v at reached) [
-      | inl known ↦ served_is_registered w kept.addresses.addressed stand.edge.0 v at.switch up down stand.port (me_of host) (known.placed settled room)
+      | inl known ↦ served_is_registered w kept.addresses.addressed h host stand v at.is_host at.stands at.switch up down (known.placed settled room)
       | inr waits ↦ elim waits [
         | inl probe ↦ absurd (none_of (is_probe (me_of host)) (out_of w stand.edge.0 stand.port) out probe)
         | inr packet ↦ absurd (none_of is_packet (items_at w.from_hosts h) mine packet)

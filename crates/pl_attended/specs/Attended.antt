@@ -12,7 +12,7 @@ use Rattle.pl_world.specs.Booting.{me_of}
 use Rattle.pl_world.specs.Changes.{out_of}
 use Rattle.pl_world.specs.Refusals.{has_queue, is_filled}
 use Rattle.pl_world.specs.Worlds.{WorldView}
-use Rattle.pl_addresses.specs.AtRest.{IsServed}
+use Rattle.pl_addresses.specs.Registered.{IsServed}
 use Rattle.pl_addresses.specs.EdgeAddresses.{is_settled}
 use Rattle.pl_attended.specs.Probes.{is_packet, is_probe}
 use Rattle.pl_attended.specs.Stays.{has_reached}

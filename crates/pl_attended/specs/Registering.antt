@@ -5,9 +5,8 @@ use Rattle.pl_layouts.specs.Placement.{is_placed}
 use Rattle.pl_logic.specs.SwitchViews.{SwitchView}
 use Rattle.pl_switch_rule.specs.Granting.{is_port_spent}
 use Rattle.pl_world.specs.declared.stand.Stand.{Stand}
-use Rattle.pl_world.specs.Booting.{me_of}
 use Rattle.pl_world.specs.Worlds.{WorldView}
-use Rattle.pl_addresses.specs.AtRest.{IsRegistered}
+use Rattle.pl_addresses.specs.Registered.{IsRegisteredWithIp}
 use Rattle.pl_attended.specs.Attended.{StandsAt}
 use Rattle.pl_attended.specs.Stays.{has_reached}
 
@@ -15,4 +14,4 @@ use Rattle.pl_attended.specs.Stays.{has_reached}
 -- there, and at whose port vmid 65,535 was not given.
 abbrev pub AreRegistered : WorldView → Type 0
 AreRegistered w = (h : ℕ) (host : Host) (stand : Stand) (v : SwitchView) → StandsAt w h host stand v → is_placed v.place ≡ true →
-    has_reached w.journal h ≡ true → is_port_spent v stand.port ≡ false → IsRegistered w.manager.learnt v stand.port (me_of host)
+    has_reached w.journal h ≡ true → is_port_spent v stand.port ≡ false → IsRegisteredWithIp w h

@@ -11,7 +11,6 @@ ghost use Rattle.pl_world.specs.declared.stand.Stand.{Stand};
 ghost use Rattle.pl_world.specs.Booting.{CanBegin, booted, me_of};
 ghost use Rattle.pl_world.specs.Runs.{Moment, WorldRun};
 ghost use Rattle.pl_world.specs.Worlds.{WorldView};
-ghost use Rattle.pl_addresses.specs.AtRest.{IsRegistered};
 ghost use Rattle.pl_kept.specs.Kept.{Kept};
 ghost use Rattle.pl_attended.specs.Attended.{AreAttended, NothingWaits, StandsAt};
 ghost use Rattle.pl_attended.specs.Registering.{AreRegistered};
@@ -23,7 +22,7 @@ use pl_switch_rule::LooseSwitch;
 
 /// Where every queue is empty, a host is registered whose edge switch is placed, of which an ARP frame that can be
 /// read reached that switch since it came there, and at whose port not all addresses were given: its newest
-/// address is in use at that port, and the fabric manager knows its IPv4 address.
+/// address is in use at that port, and the fabric manager was told its IPv4 address with it.
 pub fn a_host_is_registered_at_rest()
     ensures { (w : WorldView) → Kept w → AreAttended w → NothingWaits w → AreRegistered w }
 {}

@@ -1,5 +1,5 @@
 -- What holds of each moment of a run of lawful logic from the beginning, and what it comes to where the fabric is settled.
-use Rattle.std.proofs.Common.{◌≡◌, ◌<◌, ℕ, List, [], ◌∷◌, ◌++◌, Some, None, subst}
+use Rattle.std.proofs.Common.{◌≡◌, ◌↔◌, ◌<◌, ℕ, false, List, [], ◌∷◌, ◌++◌, Some, None, slice_get, subst}
 use Rattle.pl_wiring.specs.declared.label.Label.TheVariants.{Edge}
 use Rattle.pl_wiring.specs.Labels.{IsLabel}
 use Rattle.pl_wiring.specs.Plan.{Plan}
@@ -17,7 +17,8 @@ use Rattle.pl_world.specs.Runs.{Moment, WorldRun}
 use Rattle.pl_world.specs.SettledQueues.{HasSettledQueues}
 use Rattle.pl_world.specs.Worlds.{WorldView}
 use Rattle.pl_fabric.specs.declared.settling.Settling.{Settling}
-use Rattle.pl_fabric.specs.Settled.{IsSettled}
+use Rattle.pl_logic.specs.SwitchViews.{SwitchView}
+use Rattle.pl_fabric.specs.Settled.{IsSettled, would_change}
 use Rattle.pl_fabric.specs.Settlings.{Settles}
 use Rattle.pl_fabric.proofs.CourseRuns.{rounds_are_run}
 use Rattle.pl_control_plane.specs.ControlPlanes.{control_plane}
@@ -29,10 +30,12 @@ use Rattle.pl_records.proofs.LinkRuns.{run_links}
 use Rattle.pl_records.proofs.Running.{run_ordered, run_reported}
 use Rattle.pl_placing.specs.Resting.{HasFirst, HavePositions}
 use Rattle.pl_placing.proofs.Runs.{run_places}
+use Rattle.pl_settled_laws.specs.Agreed.{IsAgreed}
 use Rattle.pl_settled_laws.specs.AtPlace.{ReceiversArePlaced}
 use Rattle.pl_settled_laws.specs.Whole.{IsWholePod}
 use Rattle.pl_settled_laws.proofs.Pods.{settled_first, settled_positions}
 use Rattle.pl_settled_laws.proofs.Placed.{receivers_placed}
+use Rattle.pl_settled_laws.proofs.Proposals.{table_is_rows_here}
 use Rattle.pl_settled_laws.proofs.Records.{are_current, links_current}
 
 module _ (switch : SwitchRule) (manager : ManagerRule) (host : HostRule) (within : IsWithin switch Loose) (lawful : IsManagerRule manager)
@@ -59,6 +62,12 @@ module _ (switch : SwitchRule) (manager : ManagerRule) (host : HostRule) (within
   pub run_placed : IsSettled new → new.steps < 4294967295 → (pod : ℕ) → IsWholePod new pod → ReceiversArePlaced new pod
   run_placed settled few pod whole =
       receivers_placed new (run_places host sends owns plan limits moments new can loose) (run_keeps_all host sends owns plan limits moments new can loose) settled few pod whole
+
+  -- the table of proposals says what the rows say
+  pub run_agrees : (s t : ℕ) (v u : SwitchView) (port q : ℕ) → slice_get new.switches s ≡ Some v → slice_get new.switches t ≡ Some u →
+      (would_change v port u q ≡ false) ↔ IsAgreed v port u q
+  run_agrees s t v u port q at_s at_t =
+      table_is_rows_here new (run_keeps_all host sends owns plan limits moments new can loose) (run_places host sends owns plan limits moments new can loose) s t v u at_s at_t port q
 
 -- one run behind another
 runs_on : (switch : SwitchRule) (manager : ManagerRule) (host : HostRule) (old mid new : WorldView) (moments more : List Moment) → WorldRun switch manager host old moments mid →

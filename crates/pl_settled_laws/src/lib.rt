@@ -14,6 +14,8 @@ pub use settled_laws::{
     one_of_a_settled_pod_has_position_0, records_are_current_where_queues_are_settled,
     settled_queues_are_at_rest,
 };
+pub use vote_laws::a_proposal_sent_again_changes_nothing_exactly_where_the_rows_leave_both;
 
 mod run_laws;
 mod settled_laws;
+mod vote_laws;

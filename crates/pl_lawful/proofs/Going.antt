@@ -18,7 +18,7 @@ use Rattle.pl_world.specs.Worlds.{WorldView}
 use Rattle.pl_fabric.specs.Courses.{Makes}
 use Rattle.pl_fabric.proofs.CourseRuns.{IsRun}
 use Rattle.pl_attended_courses.proofs.Settled.{longer}
-use Rattle.pl_lawful.specs.Moments.{IsOfRun, IsPromised}
+use Rattle.pl_lawful.specs.Moments.{IsOfRun}
 use Rattle.pl_theorem.proofs.Beginning.{can_begin}
 use Rattle.pl_theorem.specs.OneSwitch.{IsOneSwitch}
 
@@ -48,6 +48,6 @@ module _ (switch : SwitchRule) (manager : ManagerRule) (host : HostRule) where
   pub marks_run : (entry : Entry) (old : WorldView) → IsMark entry → IsRun switch manager host old (noted old entry)
   marks_run entry old is = (Mark entry ∷ [], (noted old entry, (is, refl), refl))
 
-  module _ (law : (plan : Plan) (limits : Limits) (moments : List Moment) (new : WorldView) → CanBegin plan → WorldRun switch manager host (booted plan limits) moments new → IsOneSwitch switch manager host plan limits new) where
-    pub promised : (w : WorldView) → IsOfRun switch manager host w → IsPromised switch manager host w
-    promised w of = (of.plan, of.limits, law of.plan of.limits of.moments w of.begins of.run)
+  module _ (law : (plan : Plan) (limits : Limits) (moments : List Moment) (new : WorldView) → CanBegin plan → WorldRun switch manager host (booted plan limits) moments new → IsOneSwitch switch manager host new) where
+    pub promised : (w : WorldView) → IsOfRun switch manager host w → IsOneSwitch switch manager host w
+    promised w of = law of.plan of.limits of.moments w of.begins of.run

@@ -8,7 +8,6 @@ use Rattle.pl_world.specs.declared.limits.Limits.{Limits}
 use Rattle.pl_world.specs.Booting.{CanBegin, booted}
 use Rattle.pl_world.specs.Runs.{Moment, WorldRun}
 use Rattle.pl_world.specs.Worlds.{WorldView}
-use Rattle.pl_theorem.specs.OneSwitch.{IsOneSwitch}
 
 -- Steps and marks have led to this world from a beginning.
 pub record IsOfRun (switch : SwitchRule) (manager : ManagerRule) (host : HostRule) (w : WorldView) : Type 0 where
@@ -17,7 +16,3 @@ pub record IsOfRun (switch : SwitchRule) (manager : ManagerRule) (host : HostRul
   pub begins : CanBegin plan
   pub moments : List Moment
   pub run : WorldRun switch manager host (booted plan limits) moments w
-
--- What is promised of the network holds of this world, whatever the beginning.
-abbrev pub IsPromised : SwitchRule → ManagerRule → HostRule → WorldView → Type 0
-IsPromised switch manager host w = (plan : Plan) × (limits : Limits) × IsOneSwitch switch manager host plan limits w

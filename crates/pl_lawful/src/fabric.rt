@@ -12,7 +12,8 @@ ghost use Rattle.pl_fabric.specs.Settlings.{GoesRounds, Settles};
 ghost use Rattle.pl_settled_laws.specs.AtPlace.{ReceiversArePlaced};
 ghost use Rattle.pl_settled_laws.specs.Whole.{IsWholePod};
 ghost use Rattle.pl_attended.specs.Registering.{AreRegistered};
-ghost use Rattle.pl_lawful.specs.Moments.{IsOfRun, IsPromised};
+ghost use Rattle.pl_theorem.specs.OneSwitch.{IsOneSwitch};
+ghost use Rattle.pl_lawful.specs.Moments.{IsOfRun};
 
 use pl_attended_courses::a_fabric_at_rest_has_empty_queues;
 use pl_fabric::{
@@ -40,7 +41,7 @@ pub fn boot<S: LooseSwitch, M: LawfulManager, H: LawfulHost>(
     ensures counted { IfOk result (λ w. IsCounted w) }
     ensures hearing { IfOk result (λ w. IsWithinHearing w) }
     ensures moment { IfOk result (λ w. IsOfRun S.rule M.rule H.rule w) }
-    ensures promised { IfOk result (λ w. IsPromised S.rule M.rule H.rule w) }
+    ensures one_switch { IfOk result (λ w. IsOneSwitch S.rule M.rule H.rule w) }
 {
     lawful_logic_is_one_switch::<S, M, H>();
     // A wiring is a fat tree.
@@ -60,7 +61,7 @@ pub fn make<S: LooseSwitch, M: LawfulManager, H: LawfulHost>(
     ensures counted { EndsAs result (λ _. IsCounted world.new) }
     ensures hearing { EndsAs result (λ _. IsWithinHearing world.new) }
     ensures moment { EndsAs result (λ _. IsOfRun S.rule M.rule H.rule world.new) }
-    ensures promised { EndsAs result (λ _. IsPromised S.rule M.rule H.rule world.new) }
+    ensures one_switch { EndsAs result (λ _. IsOneSwitch S.rule M.rule H.rule world.new) }
 {
     lawful_logic_is_one_switch::<S, M, H>();
     pl_fabric::make(world, event)
@@ -80,7 +81,7 @@ pub fn mark<S: LooseSwitch, M: LawfulManager, H: LawfulHost>(
     ensures counted { OnOk result (IsCounted world.new) }
     ensures hearing { OnOk result (IsWithinHearing world.new) }
     ensures moment { OnOk result (IsOfRun S.rule M.rule H.rule world.new) }
-    ensures promised { OnOk result (IsPromised S.rule M.rule H.rule world.new) }
+    ensures one_switch { OnOk result (IsOneSwitch S.rule M.rule H.rule world.new) }
 {
     lawful_logic_is_one_switch::<S, M, H>();
     world.mark(entry)
@@ -97,7 +98,7 @@ pub fn sweep<S: LooseSwitch, M: LawfulManager, H: LawfulHost>(
     ensures counted { EndsAs result (λ _. IsCounted world.new) }
     ensures hearing { EndsAs result (λ _. IsWithinHearing world.new) }
     ensures moment { EndsAs result (λ _. IsOfRun S.rule M.rule H.rule world.new) }
-    ensures promised { EndsAs result (λ _. IsPromised S.rule M.rule H.rule world.new) }
+    ensures one_switch { EndsAs result (λ _. IsOneSwitch S.rule M.rule H.rule world.new) }
 {
     lawful_logic_is_one_switch::<S, M, H>();
     a_sweep_is_a_run::<S, M, H>();
@@ -122,7 +123,7 @@ pub fn settle<S: LooseSwitch, M: LawfulManager, H: LawfulHost>(
     ensures counted { EndsAs result (λ _. IsCounted world.new) }
     ensures hearing { EndsAs result (λ _. IsWithinHearing world.new) }
     ensures moment { EndsAs result (λ _. IsOfRun S.rule M.rule H.rule world.new) }
-    ensures promised { EndsAs result (λ _. IsPromised S.rule M.rule H.rule world.new) }
+    ensures one_switch { EndsAs result (λ _. IsOneSwitch S.rule M.rule H.rule world.new) }
 {
     lawful_logic_is_one_switch::<S, M, H>();
     the_rounds_of_a_settling_are_a_run::<S, M, H>();
@@ -143,7 +144,7 @@ pub fn random<S: LooseSwitch, M: LawfulManager, H: LawfulHost>(
     ensures counted { EndsAs result (λ _. IsCounted world.new) }
     ensures hearing { EndsAs result (λ _. IsWithinHearing world.new) }
     ensures moment { EndsAs result (λ _. IsOfRun S.rule M.rule H.rule world.new) }
-    ensures promised { EndsAs result (λ _. IsPromised S.rule M.rule H.rule world.new) }
+    ensures one_switch { EndsAs result (λ _. IsOneSwitch S.rule M.rule H.rule world.new) }
 {
     lawful_logic_is_one_switch::<S, M, H>();
     drawn_steps_are_a_run::<S, M, H>();

@@ -7,10 +7,10 @@ use Rattle.pl_wiring.specs.Plan.{Plan}
 use Rattle.pl_script.specs.declared.script.ScriptLine.{ScriptLine}
 use Rattle.pl_script.specs.Meaning.{script_of}
 use Rattle.pl_topology.specs.Meaning.{topology_of}
-use Rattle.pl_run.specs.Complete.{AreCapturesTold, AreTold, IsCaptureTold, IsTold}
 use Rattle.pl_inputs.specs.Folders.{in_folder}
 use Rattle.pl_inputs.specs.Inputs.{AreCaptures, AreRead, HasLines, HasPlan, Inputs, IsCaptureAt}
 use Rattle.pl_inputs.specs.Words.{Asked}
+use Rattle.pl_run.specs.Complete.{AreCapturesTold, AreTold, IsCaptureTold, IsTold}
 
 pub ok_err : {T E : Type 0} (r : Result T E) (x : T) (e : E) → r ≡ Ok x → r ≡ Err e → ⊥
 ok_err r x e ok err = cc

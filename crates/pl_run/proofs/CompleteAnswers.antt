@@ -7,13 +7,14 @@ use Rattle.pl_wiring.specs.declared.host.Host.{Host}
 use Rattle.pl_wiring.specs.Plan.{Plan}
 use Rattle.pl_script.specs.declared.error.ScriptError.TheVariants.{Line}
 use Rattle.pl_inputs.specs.declared.status.Status.{Status}
-use Rattle.pl_inputs.specs.declared.status.Status.TheVariants as status
 use Rattle.pl_inputs.specs.Inputs.{AreRead, Inputs, text_limit}
 use Rattle.pl_inputs.specs.Unread.{IsLongName, IsRefusedCapture, IsTooMuch}
 use Rattle.pl_inputs.specs.Words.{Asked}
 use Rattle.pl_lines.specs.declared.stop.Stop.{Stop}
 use Rattle.pl_lines.specs.Scenes.{Scene}
-use Rattle.pl_run.specs.Answers.{Answers, IsStopped, Moment, PlaysTo, outcome}
+use Rattle.pl_inputs.specs.declared.status.Status.TheVariants as status
+use Rattle.pl_playing.specs.Outcomes.{IsStopped, Moment, PlaysTo, outcome}
+use Rattle.pl_run.specs.Answers.{Answers}
 use Rattle.pl_run.specs.Complete.{AnswersByPlaying, AnswersInputs, AreCapturesTold, AreTold, IsCaptureTold}
 use Rattle.pl_run.proofs.Complete.{one_input, one_plan}
 use Rattle.pl_run.proofs.CompleteCaptures.{long_stop, none_stops, refused_stop}

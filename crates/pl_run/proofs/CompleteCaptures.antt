@@ -9,10 +9,10 @@ use Rattle.pl_shelf.specs.Held.{Held, IsLonger}
 use Rattle.pl_capture.specs.declared.error.CaptureError.{CaptureError}
 use Rattle.pl_capture.specs.Capture.{reading_of}
 use Rattle.pl_wiring.specs.declared.host.Host.{Host}
-use Rattle.pl_run.specs.Complete.{AreCapturesTold, IsCaptureTold}
 use Rattle.pl_inputs.specs.Folders.{in_folder}
 use Rattle.pl_inputs.specs.Inputs.{AreCaptures, IsCapture, IsCaptureAt, all_bytes, captures_limit}
 use Rattle.pl_inputs.specs.Unread.{ComesTo, IsRefusedCapture, IsTooMuch}
+use Rattle.pl_run.specs.Complete.{AreCapturesTold, IsCaptureTold}
 use Rattle.pl_run.proofs.Complete.{not_longer, ok_err, one_capture, one_err, one_list}
 
 -- the capture of a host is accepted behind these files, and together they are within this

@@ -7,12 +7,13 @@ use Rattle.pl_wiring.specs.declared.host.Host.{Host}
 use Rattle.pl_wiring.specs.Plan.{Plan}
 use Rattle.pl_script.specs.declared.error.ScriptError.TheVariants.{Line}
 use Rattle.pl_inputs.specs.declared.status.Status.{Status}
-use Rattle.pl_inputs.specs.declared.status.Status.TheVariants as status
-use Rattle.pl_run.specs.Answers.{Answers, Moment}
-use Rattle.pl_run.specs.Complete.{AnswersBadCapture, AnswersLongCapture, AreCapturesTold, IsComplete, IsTold}
 use Rattle.pl_inputs.specs.Inputs.{AreCaptures, AreRead, HasPlan, Inputs, text_limit}
 use Rattle.pl_inputs.specs.Unread.{ComesTo, IsRefusedCapture, IsTooMuch}
 use Rattle.pl_inputs.specs.Words.{Asked}
+use Rattle.pl_inputs.specs.declared.status.Status.TheVariants as status
+use Rattle.pl_playing.specs.Outcomes.{Moment}
+use Rattle.pl_run.specs.Answers.{Answers}
+use Rattle.pl_run.specs.Complete.{AnswersBadCapture, AnswersLongCapture, AreCapturesTold, IsComplete, IsTold}
 use Rattle.pl_run.proofs.Complete.{one_plan}
 use Rattle.pl_run.proofs.CompleteAnswers.{OneEnd, answers_by_playing, answers_inputs}
 use Rattle.pl_run.proofs.Stages.{answers_bad_script, answers_bad_topology, answers_long_script, answers_long_topology, no_bad_script, no_bad_topology, no_long_script, no_long_topology, no_read_fault, no_write_fault}

@@ -1,25 +1,23 @@
 -- What comes of inputs that were read, told of the shelf at first.
-use Rattle.std.proofs.Common.{◌≡◌, ℕ, ◌≤◌, Bool, true, false, List, [], ◌∷◌, ◌++◌, take, All, Some, Err, refl, sym, ap, ◌∙◌, subst, inl, inr}
+use Rattle.std.proofs.Common.{◌≡◌, ℕ, ◌≤◌, List, [], ◌∷◌, ◌++◌, take, All, Err, refl, sym, ap, ◌∙◌, subst, inl, inr}
 use Rattle.std.proofs.lemmas.List.Elements.{All-weaker}
 use Rattle.pl_shelf.specs.Held.{Held, Same}
 use Rattle.pl_shelf.specs.Faults.{Rose}
 use Rattle.pl_wiring.specs.Plan.{Plan}
 use Rattle.pl_inputs.specs.declared.status.Status.{Status}
-use Rattle.pl_inputs.specs.declared.status.Status.TheVariants as status
 use Rattle.pl_inputs.specs.declared.words.Generation.{Generation}
 use Rattle.pl_inputs.specs.Inputs.{AreRead, HasPlan, Inputs}
 use Rattle.pl_inputs.specs.Loads.{IsUnplanned, Reads}
 use Rattle.pl_inputs.specs.Unread.{IsUnread}
 use Rattle.pl_inputs.specs.Words.{Asked}
 use Rattle.pl_output.specs.Saved.{AreSaved, BreaksOff, IsBroken, IsWhole, OthersStay, Saving, once_saved}
-use Rattle.pl_lines.specs.declared.stop.Stop.{Stop}
-use Rattle.pl_lines.specs.declared.stop.Stop.TheVariants.{ExpectFailed, Refused}
-use Rattle.pl_world.specs.declared.error.StepError.TheVariants as error
-use Rattle.pl_run.specs.Answers.{Answers, Comes, IsPlayed, IsStopped, IsUntouched, Moment, Saves, SavingFails, outcome, printed_of, texts_of}
+use Rattle.pl_generator.specs.Generated.{AreGenerated}
+use Rattle.pl_inputs.specs.declared.status.Status.TheVariants as status
+use Rattle.pl_playing.specs.Outcomes.{Comes, IsPlayed, IsUntouched, Moment, Saves, SavingFails, printed_of, texts_of}
+use Rattle.pl_playing.proofs.Stopped.{no_stop}
+use Rattle.pl_run.specs.Answers.{Answers}
 use Rattle.pl_run.specs.Checks.{AnswersCheck, EndsCheck, line_of}
 use Rattle.pl_run.specs.Generated.{AnswersGenerated, IsUngenerated, ReadsGenerated, generated_files, without_read_fault}
-use Rattle.pl_generator.specs.Generated.{AreGenerated}
-use Rattle.pl_run.specs.Plays.{IsUnplayed}
 
 -- a shelf that holds the same, and of which no call failed
 pub record IsSameMoment (old new : Moment) : Type 0 where
@@ -88,31 +86,6 @@ comes_since old mid new is i texts (status.Refused line reason) c = (c.0, untouc
 comes_since old mid new is i texts (status.StepsSpent line) c = (c.0, untouched_since old mid new is c.1)
 comes_since old mid new is i texts (status.JournalFull line) c = (c.0, untouched_since old mid new is c.1)
 
--- the answers that a stopped script has
-abbrev is_of_stop : Status → Bool
-is_of_stop (status.ExpectFailed line) = true
-is_of_stop (status.Refused line reason) = true
-is_of_stop (status.StepsSpent line) = true
-is_of_stop (status.JournalFull line) = true
-is_of_stop status.OutOfMemory = true
-is_of_stop _ = false
-
-outcome_is : (stopped : ℕ × Stop) → is_of_stop (outcome (Some stopped)) ≡ true
-outcome_is (line, ExpectFailed) = refl
-outcome_is (line, Refused error.StepsSpent) = refl
-outcome_is (line, Refused error.JournalFull) = refl
-outcome_is (line, Refused error.NoSuch) = refl
-outcome_is (line, Refused error.Occupied) = refl
-outcome_is (line, Refused error.AlreadySo) = refl
-outcome_is (line, Refused error.NothingThere) = refl
-outcome_is (line, Refused error.Memory) = refl
-
-not_both : (b : Bool) → b ≡ false → b ≡ true → ⊥
-not_both b is was = cc
-
-pub no_stop : (i : Inputs) (e : Status) → is_of_stop e ≡ false → IsStopped i e → ⊥
-no_stop i e other s = not_both (is_of_stop e) other (ap is_of_stop s.answered ∙ outcome_is s.stopped)
-
 -- a run whose inputs were read
 pub run_answers : (old new : Moment) (asked : Asked) (i : Inputs) → AreRead old.held asked i → (e : Status) → Comes old new i (texts_of asked.out i) e → Answers old new asked e
 run_answers old new asked i read status.Done c = (i, read, c)
@@ -146,22 +119,6 @@ unread_answers old new asked same writes (status.ExpectFailed line) u reads = ab
 unread_answers old new asked same writes (status.Refused line reason) u reads = absurd u
 unread_answers old new asked same writes (status.StepsSpent line) u reads = absurd u
 unread_answers old new asked same writes (status.JournalFull line) u reads = absurd u
-
--- a script that was not played to its end
-pub unplayed_comes : (old new : Moment) → IsUntouched old new → (i : Inputs) (texts : IsPlayed i → List Saving) (e : Status) → IsUnplayed i e → Comes old new i texts e
-unplayed_comes old new stays i texts status.Done u = absurd (no_stop i status.Done refl u)
-unplayed_comes old new stays i texts (status.WriteFault name) u = absurd (no_stop i (status.WriteFault name) refl u)
-unplayed_comes old new stays i texts status.OutOfMemory u = stays
-unplayed_comes old new stays i texts status.Usage u = (u, stays)
-unplayed_comes old new stays i texts (status.ReadFault name) u = (u, stays)
-unplayed_comes old new stays i texts (status.TooLong name) u = (u, stays)
-unplayed_comes old new stays i texts (status.BadTopology reason) u = (u, stays)
-unplayed_comes old new stays i texts (status.BadScript line reason) u = (u, stays)
-unplayed_comes old new stays i texts (status.BadCapture host e at) u = (u, stays)
-unplayed_comes old new stays i texts (status.ExpectFailed line) u = (u, stays)
-unplayed_comes old new stays i texts (status.Refused line reason) u = (u, stays)
-unplayed_comes old new stays i texts (status.StepsSpent line) u = (u, stays)
-unplayed_comes old new stays i texts (status.JournalFull line) u = (u, stays)
 
 -- a topology that was read
 pub check_answers : (old mid new : Moment) (topology : List ℕ) (plan : Plan) → HasPlan old.held topology plan → IsSameMoment old mid → (e : Status) →

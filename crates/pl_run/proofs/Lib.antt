@@ -1,5 +1,3 @@
-pub mod Remaining
-pub mod Playing
 pub mod Ending
 pub mod Complete
 pub mod CompleteCaptures

@@ -11,11 +11,12 @@ use Rattle.pl_script.specs.Meaning.{script_of}
 use Rattle.pl_topology.specs.declared.error.TopologyError.{TopologyError}
 use Rattle.pl_topology.specs.Meaning.{topology_of}
 use Rattle.pl_inputs.specs.declared.status.Status.{Status}
-use Rattle.pl_inputs.specs.declared.status.Status.TheVariants as status
 use Rattle.pl_inputs.specs.Inputs.{HasLines, HasPlan, IsLoaded, text_limit}
 use Rattle.pl_inputs.specs.Unread.{AreTextsRead}
 use Rattle.pl_inputs.specs.Words.{Asked}
-use Rattle.pl_run.specs.Answers.{Answers, IsRun, Moment}
+use Rattle.pl_inputs.specs.declared.status.Status.TheVariants as status
+use Rattle.pl_playing.specs.Outcomes.{Moment}
+use Rattle.pl_run.specs.Answers.{Answers, IsRun}
 use Rattle.pl_run.specs.Checks.{AnswersCheck}
 use Rattle.pl_run.specs.Complete.{AnswersBadScript, AnswersBadTopology, AnswersLongScript, AnswersLongTopology, AnswersTopology, IsTold, NoFaults}
 use Rattle.pl_run.proofs.Complete.{not_longer, ok_err, one_err, one_file, one_plan}

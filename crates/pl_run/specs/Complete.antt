@@ -12,14 +12,14 @@ use Rattle.pl_script.specs.Meaning.{script_of}
 use Rattle.pl_topology.specs.declared.error.TopologyError.{TopologyError}
 use Rattle.pl_topology.specs.Meaning.{topology_of}
 use Rattle.pl_inputs.specs.declared.status.Status.{Status}
-use Rattle.pl_inputs.specs.declared.status.Status.TheVariants as status
 use Rattle.pl_inputs.specs.Folders.{in_folder}
 use Rattle.pl_inputs.specs.Inputs.{AreRead, HasPlan, Inputs, IsLoaded, text_limit}
 use Rattle.pl_inputs.specs.Unread.{AreTextsRead, IsRefusedCapture, IsTooMuch}
 use Rattle.pl_inputs.specs.Words.{Asked}
 use Rattle.pl_lines.specs.declared.stop.Stop.{Stop}
 use Rattle.pl_lines.specs.Scenes.{Scene}
-use Rattle.pl_run.specs.Answers.{Moment, PlaysTo, outcome}
+use Rattle.pl_inputs.specs.declared.status.Status.TheVariants as status
+use Rattle.pl_playing.specs.Outcomes.{Moment, PlaysTo, outcome}
 
 -- the shelf tells what this name holds
 abbrev pub IsTold : (List ℕ → Held) → List ℕ → Type 0

@@ -2,13 +2,13 @@
 use Rattle.std.specs.Prelude.{ℕ, List, [], codes}
 use Rattle.pl_shelf.specs.Held.{Held}
 use Rattle.pl_inputs.specs.declared.status.Status.{Status}
-use Rattle.pl_inputs.specs.declared.status.Status.TheVariants as status
 use Rattle.pl_inputs.specs.Inputs.{AreRead, Inputs}
 use Rattle.pl_inputs.specs.Unread.{IsUnread}
 use Rattle.pl_inputs.specs.Words.{Asked}
 use Rattle.pl_inputs.specs.declared.words.Generation.{Generation}
 use Rattle.pl_generator.specs.Generated.{AreGenerated}
-use Rattle.pl_run.specs.Answers.{Comes, IsUntouched, Moment, printed_of}
+use Rattle.pl_inputs.specs.declared.status.Status.TheVariants as status
+use Rattle.pl_playing.specs.Outcomes.{Comes, IsUntouched, Moment, printed_of}
 
 -- the names of the generated files; nothing is saved
 abbrev pub generated_files : Asked

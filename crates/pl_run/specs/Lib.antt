@@ -2,7 +2,6 @@ pub mod Answers
 pub mod Checks
 pub mod Generated
 pub mod Tasks
-pub mod Plays
 pub mod Complete
 pub mod Faults
 pub mod Prepared

@@ -3,21 +3,15 @@ use Rattle.std.specs.Prelude.{ℕ, List, Option}
 use Rattle.pl_shelf.specs.Capacity.{IsReadable}
 use Rattle.pl_shelf.specs.Held.{Held}
 use Rattle.pl_wiring.specs.Plan.{Plan}
-use Rattle.pl_inputs.specs.declared.status.Status.{Status}
-use Rattle.pl_inputs.specs.declared.status.Status.TheVariants as status
 use Rattle.pl_inputs.specs.declared.words.Generation.{Generation}
 use Rattle.pl_inputs.specs.Inputs.{AreRead, HasPlan, Inputs}
 use Rattle.pl_inputs.specs.Unread.{IsReadName}
 use Rattle.pl_inputs.specs.Words.{Asked, Check, Generate, Run, Task}
 use Rattle.pl_output.specs.Room.{HaveRoom}
-use Rattle.pl_output.specs.Saved.{Saving}
-use Rattle.pl_run.specs.Answers.{IsPlayed, printed_of, texts_of}
+use Rattle.pl_playing.specs.Outcomes.{printed_of, texts_of}
+use Rattle.pl_playing.specs.Prepared.{HasRoomFor}
 use Rattle.pl_run.specs.Checks.{line_of}
 use Rattle.pl_run.specs.Generated.{ReadsGenerated}
-
--- there is room for what is saved of these inputs, once they were played
-abbrev pub HasRoomFor : (List ℕ → Option ℕ) → (List ℕ → Held) → (i : Inputs) → (IsPlayed i → List Saving) → Type 0
-HasRoomFor capacity held i texts = (is : IsPlayed i) → HaveRoom capacity held (texts is)
 
 -- for a run: each name that it reads, and whatever it then saves
 pub record IsPreparedRun (capacity : List ℕ → Option ℕ) (held : List ℕ → Held) (asked : Asked) : Type 0 where
@@ -37,9 +31,3 @@ abbrev pub IsPrepared : (List ℕ → Option ℕ) → (List ℕ → Held) → Ta
 IsPrepared capacity held (Run asked) = IsPreparedRun capacity held asked
 IsPrepared capacity held (Check topology) = IsPreparedCheck capacity held topology
 IsPrepared capacity held (Generate g) = IsPreparedGenerated capacity held g
-
--- the answer names no call that failed
-abbrev pub NamesNoFault : Status → Type 0
-NamesNoFault (status.ReadFault name) = ⊥
-NamesNoFault (status.WriteFault name) = ⊥
-NamesNoFault e = Unit {0}

@@ -1,7 +1,8 @@
 -- What is answered for each command.
 use Rattle.pl_inputs.specs.declared.status.Status.{Status}
 use Rattle.pl_inputs.specs.Words.{Task, Run, Check, Generate}
-use Rattle.pl_run.specs.Answers.{Answers, Moment}
+use Rattle.pl_playing.specs.Outcomes.{Moment}
+use Rattle.pl_run.specs.Answers.{Answers}
 use Rattle.pl_run.specs.Checks.{AnswersCheck}
 use Rattle.pl_run.specs.Generated.{AnswersGenerated}
 

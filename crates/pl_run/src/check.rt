@@ -1,8 +1,9 @@
 ghost use Rattle.pl_output.specs.Room.{HaveRoom};
-ghost use Rattle.pl_run.specs.Answers.{moment};
+ghost use Rattle.pl_playing.specs.Outcomes.{moment};
+ghost use Rattle.pl_playing.specs.Plays.{answer_of};
+ghost use Rattle.pl_playing.specs.Prepared.{NamesNoFault};
 ghost use Rattle.pl_run.specs.Checks.{AnswersCheck, EndsCheck, line_of};
-ghost use Rattle.pl_run.specs.Plays.{answer_of};
-ghost use Rattle.pl_run.specs.Prepared.{IsPreparedCheck, NamesNoFault};
+ghost use Rattle.pl_run.specs.Prepared.{IsPreparedCheck};
 
 use pl_inputs::{Status, load_wiring};
 use pl_output::{print, wiring_line};

@@ -2,7 +2,8 @@ ghost use Rattle.std.specs.Prelude.{◌≡◌, [], Some};
 ghost use Rattle.pl_shelf.specs.MemoryShelf.{capacity_in, held_in};
 ghost use Rattle.pl_inputs.specs.Met.{texts};
 ghost use Rattle.pl_inputs.specs.Words.{Task as Asking, task_of};
-ghost use Rattle.pl_run.specs.Prepared.{IsPrepared, NamesNoFault};
+ghost use Rattle.pl_playing.specs.Prepared.{NamesNoFault};
+ghost use Rattle.pl_run.specs.Prepared.{IsPrepared};
 
 use crate::program::portland;
 use pl_inputs::Status;

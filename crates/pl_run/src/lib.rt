@@ -8,6 +8,5 @@ pub use program::portland;
 mod check;
 mod generating;
 mod in_memory;
-mod played;
 mod program;
 mod running;

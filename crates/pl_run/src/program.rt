@@ -2,13 +2,15 @@ ghost use Rattle.std.specs.Prelude.{◌≡◌, ◌↔◌, ℕ, List, Some, None}
 ghost use Rattle.pl_inputs.specs.Met.{IsWithinLimits, task, texts};
 ghost use Rattle.pl_inputs.specs.Words.{Asked, Check, Generate, Run, Task as Asking, task_of};
 ghost use Rattle.pl_inputs.specs.declared.words.Generation.{Generation as Drawn};
-ghost use Rattle.pl_run.specs.Answers.{Answers, IsUntouched, moment};
+ghost use Rattle.pl_playing.specs.Outcomes.{IsUntouched, moment};
+ghost use Rattle.pl_playing.specs.Plays.{answer_of};
+ghost use Rattle.pl_playing.specs.Prepared.{NamesNoFault};
+ghost use Rattle.pl_run.specs.Answers.{Answers};
 ghost use Rattle.pl_run.specs.Checks.{AnswersCheck};
 ghost use Rattle.pl_run.specs.Complete.{IsComplete, IsCompleteCheck};
 ghost use Rattle.pl_run.specs.Faults.{TellsFaults};
 ghost use Rattle.pl_run.specs.Generated.{AnswersGenerated};
-ghost use Rattle.pl_run.specs.Plays.{answer_of};
-ghost use Rattle.pl_run.specs.Prepared.{IsPrepared, NamesNoFault};
+ghost use Rattle.pl_run.specs.Prepared.{IsPrepared};
 ghost use Rattle.pl_run.specs.Tasks.{AnswersTask};
 
 use crate::check::check;

@@ -1,19 +1,12 @@
-ghost use Rattle.std.specs.Prelude.{◌≡◌, [], All, IfOk, length, string_bytes};
-ghost use Rattle.pl_inputs.specs.Inputs.{Inputs as Given};
-ghost use Rattle.pl_inputs.specs.Loaded.{inputs_of};
 ghost use Rattle.pl_inputs.specs.Met.{asked};
-ghost use Rattle.pl_journal.specs.Savable.{IsSavable};
-ghost use Rattle.pl_output.specs.Texts.{AreTexts};
-ghost use Rattle.pl_run.specs.Answers.{Answers, Comes, moment, texts_of};
-ghost use Rattle.pl_run.specs.Plays.{IsPlayedTo, answer_of, summary_by};
-ghost use Rattle.pl_run.specs.Prepared.{HasRoomFor, IsPreparedRun, NamesNoFault};
-ghost use Rattle.pl_world.specs.Flying.{IsCounted};
+ghost use Rattle.pl_playing.specs.Outcomes.{moment};
+ghost use Rattle.pl_playing.specs.Plays.{answer_of};
+ghost use Rattle.pl_playing.specs.Prepared.{NamesNoFault};
+ghost use Rattle.pl_run.specs.Answers.{Answers};
+ghost use Rattle.pl_run.specs.Prepared.{IsPreparedRun};
 
-use crate::played::{Played, play};
-use pl_fabric::settled;
-use pl_frame::Memory;
-use pl_inputs::{Files, Inputs, Status, load_inputs};
-use pl_output::{Piece, Texts, save_all};
+use pl_inputs::{Files, Status, load_inputs};
+use pl_playing::play_and_save;
 use pl_shelf::Shelf;
 use std::alloc::Global;
 
@@ -29,58 +22,3 @@ pub(crate) fn run<S: Shelf>(alloc: Global, files: &Files<'_>, shelf: &mut S) -> 
     play_and_save(alloc, files.out, inputs, shelf)
 }
 
-fn play_and_save<S: Shelf>(
-    alloc: Global,
-    out: &str,
-    inputs: Inputs,
-    shelf: &mut S,
-) -> Result<(), Status>
-    ensures comes { Comes
-        (moment (S.held shelf.old) (S.read_faults shelf.old) (S.write_faults shelf.old))
-        (moment (S.held shelf.new) (S.read_faults shelf.new) (S.write_faults shelf.new))
-        (inputs_of inputs) (texts_of out.now (inputs_of inputs)) (answer_of result) }
-    ensures prepared { HasRoomFor (S.capacity shelf.old) (S.held shelf.old) (inputs_of inputs) (texts_of out.now (inputs_of inputs)) →
-        NamesNoFault (answer_of result) }
-{
-    let played = play(alloc, inputs)?;
-    save_played(alloc, out, &played, shelf)
-}
-
-/// Saves what came of a script that was played.
-fn save_played<S: Shelf>(
-    alloc: Global,
-    out: &str,
-    played: &Played,
-    shelf: &mut S,
-) -> Result<(), Status>
-    requires counted { IsCounted played.now.fabric.world }
-    requires savable { All (IsSavable played.now.fabric.world.plan) played.now.fabric.world.journal }
-    requires many { length played.now.captures.items ≡ length played.now.fabric.world.plan.hosts }
-    ensures comes { (i : Given) → IsPlayedTo i played.now → Comes
-        (moment (S.held shelf.old) (S.read_faults shelf.old) (S.write_faults shelf.old))
-        (moment (S.held shelf.new) (S.read_faults shelf.new) (S.write_faults shelf.new))
-        i (texts_of out.now i) (answer_of result) }
-    ensures prepared { (i : Given) → IsPlayedTo i played.now →
-        HasRoomFor (S.capacity shelf.old) (S.held shelf.old) i (texts_of out.now i) → NamesNoFault (answer_of result) }
-{
-    let world = played.fabric.world();
-    let is_settled = settled(world);
-    let texts = texts_of(alloc, out, played, is_settled)?;
-    match save_all(shelf, world.wiring(), world.journal(), texts) {
-        Ok(()) => Ok(()),
-        Err(name) => Err(Status::WriteFault(name)),
-    }
-}
-
-/// All that is saved of a run, with its names; `is_settled` says whether the fabric is settled now.
-fn texts_of(alloc: Global, out: &str, played: &Played, is_settled: bool) -> Result<Texts, Memory>
-    requires { length played.now.captures.items ≡ length played.now.fabric.world.plan.hosts }
-    ensures are { IfOk result (λ texts. AreTexts out.now played.now.fabric.world.plan played.now.fabric.world.journal texts) }
-    ensures summary { IfOk result (λ texts. string_bytes texts.summary ≡ summary_by played.now is_settled) }
-    ensures piece { IfOk result (λ texts. texts.piece ≡ []) }
-{
-    let world = played.fabric.world();
-    let summary = played.summary(alloc, is_settled)?;
-    let piece = Piece::new(alloc)?;
-    Texts::new(alloc, out, world.wiring(), world.journal(), summary, piece)
-}

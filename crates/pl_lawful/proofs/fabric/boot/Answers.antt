@@ -2,7 +2,8 @@ use Rattle.std.proofs.Common.{◌≡◌, sym, subst}
 use Rattle.std.proofs.lemmas.Result.{IfOk-weaker}
 use Rattle.pl_world.specs.Booting.{booted}
 use Rattle.pl_world.specs.Worlds.{WorldView}
-use Rattle.pl_lawful.specs.Moments.{IsOfRun, IsPromised}
+use Rattle.pl_theorem.specs.OneSwitch.{IsOneSwitch}
+use Rattle.pl_lawful.specs.Moments.{IsOfRun}
 use Rattle.pl_lawful.proofs.Going.{begins, promised}
 use Rattle.pl_lawful.proofs.fabric.boot.Goals as goal
 
@@ -14,6 +15,6 @@ returns g c =
       counted = c.boot.ensures.counted;
       hearing = c.boot.ensures.hearing;
       moment = IfOk-weaker c.boot.result (λ w. w ≡ booted c.args.wiring c.args.limits) (λ w. IsOfRun g.S.SwitchLogic.rule g.M.ManagerLogic.rule g.H.HostLogic.rule w) begun c.boot.ensures.booted;
-      promised = IfOk-weaker c.boot.result (λ w. w ≡ booted c.args.wiring c.args.limits) (λ w. IsPromised g.S.SwitchLogic.rule g.M.ManagerLogic.rule g.H.HostLogic.rule w)
+      one_switch = IfOk-weaker c.boot.result (λ w. w ≡ booted c.args.wiring c.args.limits) (λ w. IsOneSwitch g.S.SwitchLogic.rule g.M.ManagerLogic.rule g.H.HostLogic.rule w)
           (λ w is. promised g.S.SwitchLogic.rule g.M.ManagerLogic.rule g.H.HostLogic.rule c.lawful_logic_is_one_switch.ensures w (begun w is)) c.boot.ensures.booted;
     }

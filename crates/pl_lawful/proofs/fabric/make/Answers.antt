@@ -13,5 +13,5 @@ returns g c =
       counted = c.make.ensures.counted;
       hearing = c.make.ensures.hearing;
       moment = ends_weaker _ _ on c.make.result c.make.ensures.made;
-      promised = ends_weaker _ _ (λ end done. promised g.S.SwitchLogic.rule g.M.ManagerLogic.rule g.H.HostLogic.rule c.lawful_logic_is_one_switch.ensures c.make.new.world (on end done)) c.make.result c.make.ensures.made;
+      one_switch = ends_weaker _ _ (λ end done. promised g.S.SwitchLogic.rule g.M.ManagerLogic.rule g.H.HostLogic.rule c.lawful_logic_is_one_switch.ensures c.make.new.world (on end done)) c.make.result c.make.ensures.made;
     }

@@ -16,5 +16,5 @@ returns g c =
       counted = on_ok_weaker c.mark.result (λ keeps. keeps c.requires.counted) c.mark.ensures.counted;
       hearing = on_ok_weaker c.mark.result (λ keeps. keeps c.requires.hearing) c.mark.ensures.hearing;
       moment = on_ok_weaker c.mark.result on c.mark.ensures.marked;
-      promised = on_ok_weaker c.mark.result (λ is. promised g.S.SwitchLogic.rule g.M.ManagerLogic.rule g.H.HostLogic.rule c.lawful_logic_is_one_switch.ensures c.mark.new.self (on is)) c.mark.ensures.marked;
+      one_switch = on_ok_weaker c.mark.result (λ is. promised g.S.SwitchLogic.rule g.M.ManagerLogic.rule g.H.HostLogic.rule c.lawful_logic_is_one_switch.ensures c.mark.new.self (on is)) c.mark.ensures.marked;
     }

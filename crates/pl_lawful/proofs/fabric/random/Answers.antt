@@ -13,5 +13,5 @@ returns g c =
       counted = c.random.ensures.counted;
       hearing = c.random.ensures.hearing;
       moment = ends_weaker _ _ on c.random.result c.random.ensures.drawn;
-      promised = ends_weaker _ _ (λ end done. promised g.S.SwitchLogic.rule g.M.ManagerLogic.rule g.H.HostLogic.rule c.lawful_logic_is_one_switch.ensures c.random.new.world (on end done)) c.random.result c.random.ensures.drawn;
+      one_switch = ends_weaker _ _ (λ end done. promised g.S.SwitchLogic.rule g.M.ManagerLogic.rule g.H.HostLogic.rule c.lawful_logic_is_one_switch.ensures c.random.new.world (on end done)) c.random.result c.random.ensures.drawn;
     }

@@ -8,7 +8,8 @@ use Rattle.pl_fabric.proofs.CourseSteps.{ends_weaker}
 use Rattle.pl_settled_laws.specs.AtPlace.{ReceiversArePlaced}
 use Rattle.pl_settled_laws.specs.Whole.{IsWholePod}
 use Rattle.pl_attended.specs.Registering.{AreRegistered}
-use Rattle.pl_lawful.specs.Moments.{IsOfRun, IsPromised}
+use Rattle.pl_theorem.specs.OneSwitch.{IsOneSwitch}
+use Rattle.pl_lawful.specs.Moments.{IsOfRun}
 use Rattle.pl_lawful.proofs.Going.{goes_on, promised}
 use Rattle.pl_lawful.proofs.Settled.{is_at_rest_then, is_settled_then, settling_runs}
 use Rattle.pl_lawful.proofs.fabric.settle.Goals as goal
@@ -27,15 +28,15 @@ returns g c =
       refused = c.settle.ensures.refused;
       placed = IfOk-weaker c.settle.result (λ answer. Settles g.S.SwitchLogic.rule g.M.ManagerLogic.rule g.H.HostLogic.rule asked old answer new)
           (λ answer. (used : ℕ) → answer ≡ Settled used → new.steps < 4294967295 → (pod : ℕ) → IsWholePod new pod → ReceiversArePlaced new pod)
-          (λ answer settles used is few pod whole. (holds (ran answer settles)).2.placed (is_settled_then g.S.SwitchLogic.rule g.M.ManagerLogic.rule g.H.HostLogic.rule asked old new answer settles used is) few pod whole)
+          (λ answer settles used is few pod whole. (holds (ran answer settles)).invariant.placed (is_settled_then g.S.SwitchLogic.rule g.M.ManagerLogic.rule g.H.HostLogic.rule asked old new answer settles used is) few pod whole)
           c.settle.ensures.settles;
       registered = IfOk-weaker c.settle.result (λ answer. Settles g.S.SwitchLogic.rule g.M.ManagerLogic.rule g.H.HostLogic.rule asked old answer new)
           (λ answer. (used : ℕ) → answer ≡ Settled used → used < asked → AreRegistered new)
-          (λ answer settles used is fewer. (holds (ran answer settles)).2.registered
+          (λ answer settles used is fewer. (holds (ran answer settles)).invariant.registered
           (c.a_fabric_at_rest_has_empty_queues.ensures new (is_at_rest_then g.S.SwitchLogic.rule g.M.ManagerLogic.rule g.H.HostLogic.rule asked old new answer settles used is fewer)))
           c.settle.ensures.settles;
       counted = c.settle.ensures.counted;
       hearing = c.settle.ensures.hearing;
       moment = ends_weaker (λ _. IsRun g.S.SwitchLogic.rule g.M.ManagerLogic.rule g.H.HostLogic.rule old new) (λ _. IsOfRun g.S.SwitchLogic.rule g.M.ManagerLogic.rule g.H.HostLogic.rule new) (λ end run. on run) c.settle.result runs;
-      promised = ends_weaker (λ _. IsRun g.S.SwitchLogic.rule g.M.ManagerLogic.rule g.H.HostLogic.rule old new) (λ _. IsPromised g.S.SwitchLogic.rule g.M.ManagerLogic.rule g.H.HostLogic.rule new) (λ end run. holds run) c.settle.result runs;
+      one_switch = ends_weaker (λ _. IsRun g.S.SwitchLogic.rule g.M.ManagerLogic.rule g.H.HostLogic.rule old new) (λ _. IsOneSwitch g.S.SwitchLogic.rule g.M.ManagerLogic.rule g.H.HostLogic.rule new) (λ end run. holds run) c.settle.result runs;
     }

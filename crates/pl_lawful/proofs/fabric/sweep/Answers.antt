@@ -13,5 +13,5 @@ returns g c =
       counted = c.sweep.ensures.counted;
       hearing = c.sweep.ensures.hearing;
       moment = ends_weaker _ _ on c.sweep.result c.sweep.ensures.swept;
-      promised = ends_weaker _ _ (λ end done. promised g.S.SwitchLogic.rule g.M.ManagerLogic.rule g.H.HostLogic.rule c.lawful_logic_is_one_switch.ensures c.sweep.new.world (on end done)) c.sweep.result c.sweep.ensures.swept;
+      one_switch = ends_weaker _ _ (λ end done. promised g.S.SwitchLogic.rule g.M.ManagerLogic.rule g.H.HostLogic.rule c.lawful_logic_is_one_switch.ensures c.sweep.new.world (on end done)) c.sweep.result c.sweep.ensures.swept;
     }

@@ -1,10 +1,10 @@
 use Rattle.std.proofs.Common.{sym, subst}
 use Rattle.std.proofs.lemmas.Result.{err_from_is_err_and}
-use Rattle.pl_run.specs.Answers.{Moment}
+use Rattle.pl_playing.specs.Outcomes.{Moment}
+use Rattle.pl_playing.specs.Plays.{answer_of}
+use Rattle.pl_playing.specs.Prepared.{NamesNoFault}
 use Rattle.pl_run.specs.Checks.{line_of}
-use Rattle.pl_run.specs.Plays.{answer_of}
 use Rattle.pl_run.proofs.Ending.{check_answers}
-use Rattle.pl_run.specs.Prepared.{NamesNoFault}
 use Rattle.pl_run.proofs.Preparing.{have_room_since, unplanned_names_none}
 use Rattle.pl_run.proofs.check.check.Goals as goal
 

@@ -1,11 +1,11 @@
 use Rattle.std.proofs.Common.{refl, sym, subst}
 use Rattle.std.proofs.lemmas.Result.{err_from_is_err_and}
 use Rattle.pl_inputs.specs.Loaded.{inputs_of}
-use Rattle.pl_run.specs.Answers.{Moment}
+use Rattle.pl_playing.specs.Outcomes.{Moment}
+use Rattle.pl_playing.specs.Plays.{answer_of}
+use Rattle.pl_playing.specs.Prepared.{NamesNoFault}
 use Rattle.pl_run.specs.Generated.{AnswersGenerated}
-use Rattle.pl_run.specs.Plays.{answer_of}
 use Rattle.pl_run.proofs.Ending.{generated_answers, ungenerated_answers}
-use Rattle.pl_run.specs.Prepared.{NamesNoFault}
 use Rattle.pl_run.proofs.Preparing.{ungenerated_names_none}
 use Rattle.pl_run.proofs.generating.generate_and_run.Goals as goal
 

@@ -1,7 +1,8 @@
 use Rattle.std.proofs.Common.{rules}
-use Rattle.pl_run.specs.Answers.{Answers, Moment, records_of, run_limits}
+use Rattle.pl_playing.specs.Outcomes.{Moment, records_of, run_limits}
+use Rattle.pl_playing.specs.Plays.{answer_of}
+use Rattle.pl_run.specs.Answers.{Answers}
 use Rattle.pl_run.proofs.CompleteAnswers.{OneEnd}
-use Rattle.pl_run.specs.Plays.{answer_of}
 use Rattle.pl_run.proofs.CompleteStops.{is_complete}
 use Rattle.pl_run.proofs.FaultAnswers.{task_tells}
 use Rattle.pl_run.proofs.program.portland.Goals as goal

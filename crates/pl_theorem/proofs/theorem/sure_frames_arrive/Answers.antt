@@ -1,3 +1,7 @@
+use Rattle.std.proofs.Common.{◌≡◌, subst}
+use Rattle.pl_wiring.specs.Plan.{Plan}
+use Rattle.pl_world.specs.Booting.{booted}
+use Rattle.pl_world.specs.Runs.{WorldRun}
 use Rattle.pl_world.specs.Changes.{host_no}
 use Rattle.pl_journal.specs.declared.entry.Entry.TheVariants.{Arrived}
 use Rattle.pl_logic.proofs.Among.{Contains-of_among, among_of_Contains}
@@ -6,7 +10,10 @@ use Rattle.pl_arrival.proofs.Following.{stays_written}
 use Rattle.pl_theorem.proofs.theorem.sure_frames_arrive.Goals as goal
 
 pub returns : goal.returns
-returns g c = λ plan limits moments new can run before during after old ended id h k began sure over went.
+returns g c = λ plan limit moments new can run limits before during after old ended id h k start sure over went.
+    let same = c.each_run_keeps_the_wiring.ensures plan limit moments new can run in
+    let from : Plan → Type 0 = λ p. WorldRun g.S.SwitchLogic.rule g.M.ManagerLogic.rule g.H.HostLogic.rule (booted p limits) before old in
+    let began = subst from same start in
     let come = c.a_sure_frame_that_ends_has_arrived.ensures plan limits before during old ended id h k can began sure over in
     let no_other = c.a_sure_frame_has_no_other_end.ensures in
     let loose = run_lawful g.S.SwitchLogic.rule g.M.ManagerLogic.rule g.H.HostLogic.rule g.met.S.LooseSwitch.obeys g.met.M.LawfulManager.lawful ended after new went in

@@ -1,0 +1,4 @@
+pub mod Remaining
+pub mod Stopped
+pub mod Playing
+pub mod Preparing

@@ -1,0 +1,37 @@
+use Rattle.std.proofs.Common.{refl, sym, subst}
+use Rattle.std.proofs.lemmas.Result.{err_from_is_err_and}
+use Rattle.pl_inputs.specs.Loaded.{inputs_of}
+use Rattle.pl_playing.specs.Outcomes.{Comes, Moment, printed_of}
+use Rattle.pl_playing.specs.Plays.{answer_of}
+use Rattle.pl_playing.proofs.Stopped.{unplayed_comes}
+use Rattle.pl_playing.specs.Prepared.{NamesNoFault}
+use Rattle.pl_playing.proofs.Preparing.{unplayed_names_none}
+use Rattle.pl_playing.proofs.printing.play_and_print.Goals as goal
+
+pub print_played-requires-clause-counted : goal.print_played-requires-clause-counted
+print_played-requires-clause-counted g c = c.in_ok-played.ensures.ok.over.counted
+
+pub print_played-requires-clause-many : goal.print_played-requires-clause-many
+print_played-requires-clause-many g c = c.in_ok-played.ensures.ok.many
+
+pub returns-in_err-played-clause-comes : goal.returns-in_err-played-clause-comes
+returns-in_err-played-clause-comes g c =
+    let S = g.S.Shelf in
+    let old : Moment = record { held = S.held c.args.shelf.now; read_faults = S.read_faults c.args.shelf.now; write_faults = S.write_faults c.args.shelf.now } in
+    let i = inputs_of c.args.inputs in
+    let p = err_from_is_err_and c.from_residual.result c.from_residual.ensures.1 in
+    subst (λ r. Comes old old i (printed_of i) (answer_of r)) (sym p.1)
+    (subst (λ e. Comes old old i (printed_of i) e) (sym p.2)
+    (unplayed_comes old old (record { same = λ q. refl; reads = refl; writes = refl }) i (printed_of i) _ c.in_err-played.ensures.err))
+
+pub returns-clause-comes : goal.returns-clause-comes
+returns-clause-comes g c = c.print_played.ensures.comes (inputs_of c.args.inputs) c.in_ok-played.ensures.ok
+
+pub returns-in_err-played-clause-prepared : goal.returns-in_err-played-clause-prepared
+returns-in_err-played-clause-prepared g c room =
+    let p = err_from_is_err_and c.from_residual.result c.from_residual.ensures.1 in
+    subst (λ r. NamesNoFault (answer_of r)) (sym p.1)
+    (subst (λ e. NamesNoFault e) (sym p.2) (unplayed_names_none (inputs_of c.args.inputs) _ c.in_err-played.ensures.err))
+
+pub returns-clause-prepared : goal.returns-clause-prepared
+returns-clause-prepared g c room = c.print_played.ensures.prepared (inputs_of c.args.inputs) c.in_ok-played.ensures.ok room

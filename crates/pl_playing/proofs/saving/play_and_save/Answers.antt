@@ -1,0 +1,41 @@
+use Rattle.std.proofs.Common.{refl, sym, subst}
+use Rattle.std.proofs.lemmas.Result.{err_from_is_err_and}
+use Rattle.pl_inputs.specs.Loaded.{inputs_of}
+use Rattle.pl_playing.specs.Outcomes.{Comes, Moment, texts_of}
+use Rattle.pl_playing.specs.Plays.{answer_of}
+use Rattle.pl_playing.proofs.Stopped.{unplayed_comes}
+use Rattle.pl_playing.specs.Prepared.{NamesNoFault}
+use Rattle.pl_playing.proofs.Preparing.{unplayed_names_none}
+use Rattle.pl_playing.proofs.saving.play_and_save.Goals as goal
+
+pub save_played-requires-clause-counted : goal.save_played-requires-clause-counted
+save_played-requires-clause-counted g c = c.in_ok-played.ensures.ok.over.counted
+
+pub save_played-requires-clause-savable : goal.save_played-requires-clause-savable
+save_played-requires-clause-savable g c = c.in_ok-played.ensures.ok.savable
+
+pub save_played-requires-clause-many : goal.save_played-requires-clause-many
+save_played-requires-clause-many g c = c.in_ok-played.ensures.ok.many
+
+pub returns-in_err-played-clause-comes : goal.returns-in_err-played-clause-comes
+returns-in_err-played-clause-comes g c =
+    let S = g.S.Shelf in
+    let old : Moment = record { held = S.held c.args.shelf.now; read_faults = S.read_faults c.args.shelf.now; write_faults = S.write_faults c.args.shelf.now } in
+    let i = inputs_of c.args.inputs in
+    let texts = texts_of c.args.out.now i in
+    let p = err_from_is_err_and c.from_residual.result c.from_residual.ensures.1 in
+    subst (λ r. Comes old old i texts (answer_of r)) (sym p.1)
+    (subst (λ e. Comes old old i texts e) (sym p.2)
+    (unplayed_comes old old (record { same = λ q. refl; reads = refl; writes = refl }) i texts _ c.in_err-played.ensures.err))
+
+pub returns-clause-comes : goal.returns-clause-comes
+returns-clause-comes g c = c.save_played.ensures.comes (inputs_of c.args.inputs) c.in_ok-played.ensures.ok
+
+pub returns-in_err-played-clause-prepared : goal.returns-in_err-played-clause-prepared
+returns-in_err-played-clause-prepared g c room =
+    let p = err_from_is_err_and c.from_residual.result c.from_residual.ensures.1 in
+    subst (λ r. NamesNoFault (answer_of r)) (sym p.1)
+    (subst (λ e. NamesNoFault e) (sym p.2) (unplayed_names_none (inputs_of c.args.inputs) _ c.in_err-played.ensures.err))
+
+pub returns-clause-prepared : goal.returns-clause-prepared
+returns-clause-prepared g c room = c.save_played.ensures.prepared (inputs_of c.args.inputs) c.in_ok-played.ensures.ok room

@@ -1,0 +1,144 @@
+-- What comes of inputs that are played.
+use Rattle.std.specs.Prelude.{◌≡◌, ◌≤◌, ◌↔◌, ℕ, suc, ◌-◌, Bool, IsTrue, List, [], ◌∷◌, length, map, slice_get, Option, None, Some}
+use Rattle.std.specs.Option.{option_map_or}
+use Rattle.pl_shelf.specs.Held.{Held, Same, standard_output}
+use Rattle.pl_shelf.specs.Faults.{Rose}
+use Rattle.pl_wiring.specs.declared.host.Host.{Host}
+use Rattle.pl_inputs.specs.declared.status.Status.{Status}
+use Rattle.pl_inputs.specs.Inputs.{Inputs}
+use Rattle.pl_inputs.specs.Records.{Recorded, records_in_file, tail_of_file}
+use Rattle.pl_logic.specs.HostViews.{held_count}
+use Rattle.pl_host_rule.specs.HostRule.{host_rule}
+use Rattle.pl_manager_rule.specs.ManagerRule.{manager_rule}
+use Rattle.pl_switch_rule.specs.SwitchRule.{Exact}
+use Rattle.pl_world.specs.declared.error.StepError.{StepError}
+use Rattle.pl_world.specs.declared.limits.Limits.{Limits}
+use Rattle.pl_fabric.specs.Settled.{IsSettled}
+use Rattle.pl_theorem.specs.OneSwitch.{IsOneSwitch}
+use Rattle.pl_lines.specs.declared.stop.Stop.{Stop}
+use Rattle.pl_lines.specs.declared.stop.Stop.TheVariants.{ExpectFailed, Refused}
+use Rattle.pl_lines.specs.Asked.{DoesAsAsked}
+use Rattle.pl_lines.specs.Lines.{Plays}
+use Rattle.pl_lines.specs.Scenes.{Scene, asked_of}
+use Rattle.pl_output.specs.declared.summary.Rest.{Rest}
+use Rattle.pl_output.specs.Receipts.{saved_texts}
+use Rattle.pl_output.specs.Saved.{AreSaved, BreaksOff, Saving}
+use Rattle.pl_output.specs.Summary.{summary_text}
+use Rattle.pl_inputs.specs.declared.status.Status.TheVariants as status
+use Rattle.pl_inputs.specs.declared.step.StepReason.TheVariants as step
+use Rattle.pl_world.specs.declared.error.StepError.TheVariants as error
+
+-- how long a run may become
+abbrev pub run_limits : Limits
+run_limits = record { steps = 50000000; entries = 5000000; bytes = 268435456 }
+
+-- for each host the records of its capture
+abbrev pub records_of : Inputs → List (List Recorded)
+records_of i = map records_in_file i.captures
+
+-- The script of what was read is played on a fabric of switches, the manager and hosts, by their rules: up to its last line,
+-- or up to the first line that is stopped.
+abbrev pub PlaysTo : Inputs → Option (ℕ × Stop) → Scene → Type 0
+PlaysTo i end scene = Plays Exact manager_rule host_rule i.plan run_limits (records_of i) i.lines end scene
+
+-- what is left of each host at the end, the first of them with this number
+abbrev pub held_at : Scene → ℕ → ℕ
+held_at scene n = option_map_or held_count (slice_get scene.world.hosts n) 0
+
+abbrev pub rests_from : ℕ → List (List ℕ) → Scene → List Rest
+rests_from n [] scene = []
+rests_from n (file ∷ files) scene =
+    record { held = held_at scene n; unread = length (records_in_file file) - asked_of scene n; tail = tail_of_file file }
+    ∷ rests_from (suc n) files scene
+
+abbrev pub summary_of : Inputs → Scene → Bool → List ℕ
+summary_of i scene settled = summary_text i.plan scene.world.journal scene.world.steps (rests_from 0 i.captures scene) settled
+
+-- each host did just what the script asks of it, and what the frames that arrived bring about
+abbrev pub HostsDoAsAsked : Inputs → Scene → Type 0
+HostsDoAsAsked i scene =
+    (n : ℕ) (host : Host) → slice_get i.plan.hosts n ≡ Some host → DoesAsAsked host_rule i.plan (records_of i) i.lines n host scene.world
+
+-- Inputs that were played to the end of the script, and whether the fabric is settled then. To its hosts the fabric is one lossy switch, and the
+-- journal is a run of that.
+pub record IsPlayed (i : Inputs) : Type 0 where
+  pub scene : Scene
+  pub played : PlaysTo i None scene
+  pub wiring : scene.world.plan ≡ i.plan
+  pub deeds : HostsDoAsAsked i scene
+  pub one_switch : IsOneSwitch Exact manager_rule host_rule scene.world
+  pub settled : Bool
+  pub is_settled : IsTrue settled ↔ IsSettled scene.world
+
+-- what is saved of them in this folder: the captures that the hosts receive, the journal and the summary
+abbrev pub texts_of : List ℕ → (i : Inputs) → IsPlayed i → List Saving
+texts_of out i is = saved_texts out i.plan is.scene.world.journal (summary_of i is.scene is.settled)
+
+-- the summary alone, on standard output
+abbrev pub printed_of : (i : Inputs) → IsPlayed i → List Saving
+printed_of i is = record { name = standard_output; text = summary_of i is.scene is.settled } ∷ []
+
+-- a shelf at a moment: what it holds by name, and how many of its calls failed
+pub record Moment : Type 0 where
+  pub held : List ℕ → Held
+  pub read_faults : ℕ
+  pub write_faults : ℕ
+
+abbrev pub moment : (List ℕ → Held) → ℕ → ℕ → Moment
+moment held reads writes = record { held = held; read_faults = reads; write_faults = writes }
+
+-- each name holds what it held, and no call failed
+pub record IsUntouched (old new : Moment) : Type 0 where
+  pub same : Same old.held new.held
+  pub reads : new.read_faults ≡ old.read_faults
+  pub writes : new.write_faults ≡ old.write_faults
+
+pub record ReadFails (old new : Moment) : Type 0 where
+  pub same : Same old.held new.held
+  pub grows : old.read_faults ≤ new.read_faults
+  pub rose : Rose old.read_faults new.read_faults
+  pub writes : new.write_faults ≡ old.write_faults
+
+-- these texts were saved, and no call failed
+pub record Saves (old new : Moment) (savings : List Saving) : Type 0 where
+  pub saved : AreSaved old.held new.held savings
+  pub reads : new.read_faults ≡ old.read_faults
+  pub writes : new.write_faults ≡ old.write_faults
+
+-- a write of them failed, under this name
+pub record SavingFails (old new : Moment) (savings : List Saving) (name : List ℕ) : Type 0 where
+  pub saved : BreaksOff old.held new.held savings name
+  pub reads : new.read_faults ≡ old.read_faults
+  pub grows : old.write_faults ≤ new.write_faults
+  pub rose : Rose old.write_faults new.write_faults
+
+-- what is answered for a refused step of a line
+abbrev pub refused_at : ℕ → StepError → Status
+refused_at line error.StepsSpent = status.StepsSpent line
+refused_at line error.JournalFull = status.JournalFull line
+refused_at line error.NoSuch = status.Refused line step.NoSuch
+refused_at line error.Occupied = status.Refused line step.Occupied
+refused_at line error.AlreadySo = status.Refused line step.AlreadySo
+refused_at line error.NothingThere = status.Refused line step.NothingThere
+refused_at line error.Memory = status.OutOfMemory
+
+-- what is answered for a script that ended so
+abbrev pub outcome : Option (ℕ × Stop) → Status
+outcome None = status.Done
+outcome (Some (line, ExpectFailed)) = status.ExpectFailed line
+outcome (Some (line, Refused reason)) = refused_at line reason
+
+-- the script was stopped, and this is what is answered for it
+pub record IsStopped (i : Inputs) (e : Status) : Type 0 where
+  pub stopped : ℕ × Stop
+  pub scene : Scene
+  pub played : PlaysTo i (Some stopped) scene
+  pub answered : e ≡ outcome (Some stopped)
+
+-- What comes of inputs that were read, of which these texts are saved once they were played. Want of memory has no cause that could be
+-- told, and it leaves all as it was, as each stop does.
+abbrev pub Comes : Moment → Moment → (i : Inputs) → (IsPlayed i → List Saving) → Status → Type 0
+Comes old new i texts status.Done = (is : IsPlayed i) × Saves old new (texts is)
+Comes old new i texts (status.WriteFault name) = (is : IsPlayed i) × SavingFails old new (texts is) name
+Comes old new i texts status.OutOfMemory = IsUntouched old new
+Comes old new i texts e = IsStopped i e × IsUntouched old new

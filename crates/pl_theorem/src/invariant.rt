@@ -1,0 +1,106 @@
+ghost use Rattle.std.specs.Prelude.{List};
+ghost use Rattle.pl_wiring.specs.Plan.{Plan};
+ghost use Rattle.pl_manager_rule.specs.ManagerRule.{manager_rule};
+ghost use Rattle.pl_switch_rule.specs.SwitchRule.{Loose};
+ghost use Rattle.pl_world.specs.declared.limits.Limits.{Limits};
+ghost use Rattle.pl_world.specs.Booting.{CanBegin, booted};
+ghost use Rattle.pl_world.specs.Runs.{Moment, WorldRun};
+ghost use Rattle.pl_world.specs.Worlds.{WorldView};
+ghost use Rattle.pl_control_plane.specs.ControlPlanes.{control_plane};
+ghost use Rattle.pl_theorem.specs.Invariant.{CopiesAreInOrder, HostsAreInOrder, NetworkInvariant, PlacesAreInOrder, RecordsAreInOrder};
+
+use pl_attended::{
+    addresses_are_granted_where_hosts_stood, hosts_are_attended_in_every_run,
+    lawful_logic_registers_hosts_at_rest, no_two_hosts_stand_at_one_place,
+};
+use pl_entry_laws::{
+    addresses_are_registered_in_order_in_every_run, places_are_what_was_written_last_in_every_run,
+};
+use pl_host_rule::LawfulHost;
+use pl_joined::hosts_have_joined_what_their_frames_said_in_every_run;
+use pl_kept::{each_run_of_lawful_logic_is_a_run_of_the_rules, lawful_logic_keeps_all_of_it};
+use pl_ledger_runs::{
+    no_more_numbers_are_given_than_there_are_pods, pods_and_positions_are_of_one_byte_in_every_run,
+    the_journal_says_what_was_granted_in_every_run,
+};
+use pl_logic::HostLogic;
+use pl_manager_rule::LawfulManager;
+use pl_network::each_run_is_a_loose_run;
+use pl_placing::every_run_keeps_edge_switches_placing;
+use pl_records::{
+    links_are_told_in_every_run, links_to_neighbours_alone_are_told_usable_in_every_run,
+    orders_are_of_the_records_in_every_run, records_are_current_at_rest,
+    reports_are_kept_in_every_run, usable_links_are_those_of_the_wiring_at_rest,
+    usable_pairs_are_current_at_rest,
+};
+use pl_settled_laws::settled_runs_have_current_records_and_positions;
+use pl_switch_rule::LooseSwitch;
+use pl_told::{lawful_logic_is_one_lossy_switch, lawful_logic_tells_what_is_so};
+use pl_trees::{
+    one_copy_may_come_to_each_port_in_every_run, parts_of_trees_lead_down_in_every_run,
+};
+
+/// In every run edge switches come to their places as they should.
+pub fn places_are_in_order_in_every_run<H: HostLogic>()
+    ensures { (plan : Plan) (limits : Limits) (moments : List Moment) (new : WorldView) → CanBegin plan →
+        WorldRun Loose manager_rule H.rule (booted plan limits) moments new → PlacesAreInOrder new }
+{
+    every_run_keeps_edge_switches_placing::<H>();
+    no_more_numbers_are_given_than_there_are_pods::<H>();
+    pods_and_positions_are_of_one_byte_in_every_run::<H>();
+}
+
+/// In every run hosts are attended to, and the journal has each grant and each number.
+pub fn hosts_are_in_order_in_every_run<H: LawfulHost>()
+    ensures { (plan : Plan) (limits : Limits) (moments : List Moment) (new : WorldView) → CanBegin plan →
+        WorldRun Loose manager_rule H.rule (booted plan limits) moments new → HostsAreInOrder new }
+{
+    no_two_hosts_stand_at_one_place::<H>();
+    hosts_are_attended_in_every_run::<H>();
+    the_journal_says_what_was_granted_in_every_run::<H>();
+    addresses_are_granted_where_hosts_stood::<H>();
+}
+
+/// In every run what the manager knows and ordered follows from what it was told.
+pub fn records_are_in_order_in_every_run<H: HostLogic>()
+    ensures { (plan : Plan) (limits : Limits) (moments : List Moment) (new : WorldView) → CanBegin plan →
+        WorldRun Loose manager_rule H.rule (booted plan limits) moments new → RecordsAreInOrder (control_plane new) }
+{
+    reports_are_kept_in_every_run::<H>();
+    links_are_told_in_every_run::<H>();
+    links_to_neighbours_alone_are_told_usable_in_every_run::<H>();
+    orders_are_of_the_records_in_every_run::<H>();
+    records_are_current_at_rest();
+    usable_pairs_are_current_at_rest();
+    usable_links_are_those_of_the_wiring_at_rest();
+}
+
+/// In every run of the frames of one root at most one copy comes to each port.
+pub fn copies_are_in_order_in_every_run<H: HostLogic>()
+    ensures { (plan : Plan) (limits : Limits) (moments : List Moment) (new : WorldView) → CanBegin plan →
+        WorldRun Loose manager_rule H.rule (booted plan limits) moments new → CopiesAreInOrder new }
+{
+    parts_of_trees_lead_down_in_every_run::<H>();
+    one_copy_may_come_to_each_port_in_every_run::<H>();
+}
+
+/// So lawful logic has the invariant of the network at each moment of each run from the beginning.
+pub fn lawful_logic_keeps_the_invariant<S: LooseSwitch, M: LawfulManager, H: LawfulHost>()
+    ensures { (plan : Plan) (limits : Limits) (moments : List Moment) (new : WorldView) → CanBegin plan →
+        WorldRun S.rule M.rule H.rule (booted plan limits) moments new → NetworkInvariant new }
+{
+    each_run_of_lawful_logic_is_a_run_of_the_rules::<S, M, H>();
+    each_run_is_a_loose_run::<S, M, H>();
+    lawful_logic_keeps_all_of_it::<S, M, H>();
+    places_are_in_order_in_every_run::<H>();
+    hosts_are_in_order_in_every_run::<H>();
+    records_are_in_order_in_every_run::<H>();
+    copies_are_in_order_in_every_run::<H>();
+    hosts_have_joined_what_their_frames_said_in_every_run::<M, H>();
+    places_are_what_was_written_last_in_every_run::<S, M, H>();
+    addresses_are_registered_in_order_in_every_run::<S, M, H>();
+    lawful_logic_is_one_lossy_switch::<S, M, H>();
+    lawful_logic_tells_what_is_so::<S, M, H>();
+    settled_runs_have_current_records_and_positions::<S, M, H>();
+    lawful_logic_registers_hosts_at_rest::<S, M, H>();
+}

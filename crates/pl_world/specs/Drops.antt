@@ -1,5 +1,5 @@
 -- Which frames a step drops, and for which causes: what the journal says, and what the step's own turn says.
-use Rattle.std.specs.Prelude.{ℕ, ◌+◌, Bool, if◌then◌else◌, List, [], ◌∷◌, ◌++◌, drop, filter_map, length, map, take, Option, None, Some, slice_get}
+use Rattle.std.specs.Prelude.{◌≡◌, ℕ, ◌+◌, Bool, if◌then◌else◌, List, [], ◌∷◌, ◌++◌, drop, filter_map, length, map, take, Option, None, Some, slice_get}
 use Rattle.pl_wiring.specs.declared.link.Link.{Link}
 use Rattle.pl_wiring.specs.declared.link.Peer.{Peer}
 use Rattle.pl_wiring.specs.declared.link.Peer.TheVariants.{HostPort, Switch}
@@ -196,6 +196,11 @@ module _ (switch : SwitchRule) (manager : ManagerRule) (host : HostRule) where
   turn_of old happens new turn = Other
 
 -- ---- what a step drops
+
+-- a lose event takes the frame away that is the first to leave by a port
+pub record IsTakenAway (w : WorldView) (s port id : ℕ) : Type 0 where
+  pub frame : List ℕ
+  pub first : slice_get (out_of w s port) 0 ≡ Some (Data id frame)
 
 -- the data frames among some items
 abbrev pub number_in : Item → Option ℕ

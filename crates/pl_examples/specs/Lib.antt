@@ -15,3 +15,4 @@ pub mod ManagerExamples
 pub mod WorldExamples
 pub mod PendingExamples
 pub mod QueueExamples
+pub mod StepDropExamples

@@ -1,3 +1,4 @@
 pub mod Savable
 pub mod Determined
 pub mod ExactRules
+pub mod NamedDrops

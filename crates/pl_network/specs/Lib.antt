@@ -1,1 +1,2 @@
 pub mod NoChoice
+pub mod NamedDrops

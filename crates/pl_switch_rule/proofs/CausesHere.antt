@@ -28,7 +28,7 @@ use Rattle.pl_switch_rule.specs.Forwarding.{Choice, candidates_by, forwards, lea
 use Rattle.pl_switch_rule.specs.Granting.{grant_number, granted, grants_at, is_granted, is_local}
 use Rattle.pl_steps.specs.Steps.{SwitchStep, does}
 use Rattle.pl_switch_rule.specs.SwitchRule.{IsChoice}
-use Rattle.pl_switch_rule.proofs.DroppedHome.{new_destination, redirects_go_on}
+use Rattle.pl_switch_rule.proofs.Redirects.{new_destination, redirects_go_on}
 use Rattle.pl_switch_rule.proofs.FirstCauses.{AllMakeNone, MakesNone, drops_before, drops_made, either_first, either_make_none, go_on_make_none}
 use Rattle.pl_switch_rule.proofs.FirstDrops.{first_behind}
 use Rattle.pl_switch_rule.proofs.GrantingParts.{source_has_six}

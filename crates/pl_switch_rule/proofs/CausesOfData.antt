@@ -28,8 +28,7 @@ use Rattle.pl_switch_rule.specs.Levels.{finds_host}
 use Rattle.pl_steps.specs.Steps.{SwitchStep, does, ◌▹◌}
 use Rattle.pl_switch_rule.specs.SwitchRule.{IsChoice, comes_from_switch, data_comes}
 use Rattle.pl_switch_rule.proofs.CausesHere.{forwards_cause, forwards_make_none, home_drops_for, no_trap_elsewhere}
-use Rattle.pl_switch_rule.proofs.DroppedFrames.{goes_where, host_sent_on, switch_sent_on}
-use Rattle.pl_switch_rule.proofs.DroppedOut.{IsSentOn, number_to, passes_drop_none}
+use Rattle.pl_switch_rule.proofs.SentFrames.{IsSentOn, goes_where, host_sent_on, number_to, passes_drop_none, switch_sent_on}
 use Rattle.pl_switch_rule.proofs.FirstCauses.{AllMakeNone, drops_behind, drops_nothing, drops_without}
 use Rattle.pl_switch_rule.proofs.FirstDrops.{AllGoOn, GoesOn, quiet_go_on}
 use Rattle.pl_switch_rule.proofs.LearntSources.{Finds, finds_host_finds, finds_then, finds_then_served, hears_learns_source, hears_members_on}

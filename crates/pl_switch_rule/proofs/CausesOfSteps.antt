@@ -50,7 +50,7 @@ use Rattle.pl_switch_rule.proofs.AccountedSteps.{exact_is_loose}
 use Rattle.pl_switch_rule.proofs.CausesHere.{destination_of-arp_frame, makes_drops_for}
 use Rattle.pl_switch_rule.proofs.CausesOfData.{data_drops_for, passes_cause, passes_make_none}
 use Rattle.pl_switch_rule.proofs.DataFrames.{six_of_pmac}
-use Rattle.pl_switch_rule.proofs.DroppedOut.{number_to}
+use Rattle.pl_switch_rule.proofs.SentFrames.{number_to}
 use Rattle.pl_switch_rule.proofs.FirstCauses.{drops_behind, drops_made, drops_nothing}
 use Rattle.pl_switch_rule.proofs.FirstDrops.{AllGoOn, GoesOn, go_on_flat_map, quiet_go_on}
 use Rattle.pl_switch_rule.proofs.LearntSources.{hears_changes_to, tells_group}

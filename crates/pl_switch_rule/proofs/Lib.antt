@@ -16,9 +16,8 @@ pub mod Managed
 pub mod AccountedSteps
 pub mod FirstDrops
 pub mod LearntSources
-pub mod DroppedOut
-pub mod DroppedHome
-pub mod DroppedFrames
+pub mod SentFrames
+pub mod Redirects
 pub mod FirstCauses
 pub mod CausesHere
 pub mod CausesOfData

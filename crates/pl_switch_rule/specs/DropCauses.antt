@@ -1,6 +1,6 @@
--- Why a switch drops a data frame that comes: each cause by what the switch knows then, whatever the rows of its rule.
-use Rattle.std.specs.Prelude.{◌≡◌, ◌⊎◌, ℕ, ◌==◌, ◌&&◌, ◌||◌, not, Bool, true, false, if◌then◌else◌, List, [], ◌∷◌, Option, Some, None, is_none, unwrap_or, IsSome, IsTrue}
-use Rattle.pl_frame.specs.Ethernet.{destination_of, source_of}
+-- What the causes for which a switch drops a data frame are read of, whatever the rows of its rule.
+use Rattle.std.specs.Prelude.{ℕ, ◌==◌, ◌&&◌, ◌||◌, not, Bool, if◌then◌else◌, List, [], ◌∷◌, Option, Some, None, is_none, unwrap_or}
+use Rattle.pl_frame.specs.Ethernet.{source_of}
 use Rattle.pl_pmac.specs.declared.pmac.Pmac.{Pmac}
 use Rattle.pl_pmac.specs.Pmac.{mac_of, pmac_of}
 use Rattle.pl_logic.specs.declared.acts.Act.{Act}
@@ -8,19 +8,17 @@ use Rattle.pl_logic.specs.declared.acts.Act.TheVariants.{Drop, Make}
 use Rattle.pl_switch_rule.specs.declared.came.Came.{Came}
 use Rattle.pl_switch_rule.specs.declared.came.Came.TheVariants.{FromHost}
 use Rattle.pl_journal.specs.declared.cause.Cause.{Cause}
-use Rattle.pl_journal.specs.declared.cause.Cause.TheVariants.{BadArp, HostGone, LinkDown, Lost, NoAddress, NoMember, NoNextHop, NotPlaced, Spent}
 use Rattle.pl_logic.specs.declared.trap.Trap.{Trap}
-use Rattle.pl_switch_rule.specs.Delivering.{addresses, destination, last_trap, trap_for}
-use Rattle.pl_switch_rule.specs.Forwarding.{came_by, candidates_by}
-use Rattle.pl_layouts.specs.Frames.{is_arp, packet_in}
-use Rattle.pl_switch_rule.specs.Granting.{granted, has_no_address, is_local, is_port_spent, learns_source}
+use Rattle.pl_switch_rule.specs.Delivering.{addresses, last_trap}
+use Rattle.pl_switch_rule.specs.Forwarding.{came_by}
+use Rattle.pl_switch_rule.specs.Granting.{learns_source}
 use Rattle.pl_switch_rule.specs.GroupForwarding.{destination_group, group_ports, is_on_its_way_down, way_of}
 use Rattle.pl_logic.specs.SwitchFacts.{part_of}
 use Rattle.pl_switch_rule.specs.Intake.{mac_of_pmac, source_pmac}
 use Rattle.pl_switch_rule.specs.Levels.{finds_host}
-use Rattle.pl_layouts.specs.Memberships.{flood, is_group}
-use Rattle.pl_logic.specs.PortRecords.{is_open_to_hosts, place_at, port_of}
-use Rattle.pl_layouts.specs.Placement.{is_known, is_placed}
+use Rattle.pl_layouts.specs.Memberships.{flood}
+use Rattle.pl_logic.specs.PortRecords.{is_open_to_hosts, port_of}
+use Rattle.pl_layouts.specs.Placement.{is_known}
 use Rattle.pl_steps.specs.Steps.{◌▹◌}
 use Rattle.pl_logic.specs.SwitchViews.{SwitchView}
 
@@ -51,9 +49,6 @@ abbrev pub address_after : SwitchView → Pmac → Option Trap → Pmac
 address_after v address None = address
 address_after v address (Some trap) = pmac_of (mac_of (last_trap (addresses v) v trap).new)
 
-abbrev pub last_address : SwitchView → List ℕ → Pmac
-last_address v frame = address_after v (destination frame) (trap_for v (destination frame))
-
 -- the address under which the frame goes on
 abbrev pub known_source : SwitchView → ℕ → List ℕ → Pmac
 known_source v port frame =
@@ -68,41 +63,3 @@ places v port frame = group_ports v (way_of v.place (came_in v port)) (destinati
 abbrev pub is_for_members : SwitchView → ℕ → List ℕ → Bool
 is_for_members v port frame =
     not (destination_group frame == flood) && (is_none (part_of v (destination_group frame)) || is_on_its_way_down v (came_in v port))
-
--- a frame to a group has nowhere to go
-pub record HasNoPlace (v : SwitchView) (port : ℕ) (frame : List ℕ) (members : Bool) : Type 0 where
-  pub group : is_group (destination_of frame) ≡ true
-  pub places : places v port frame ≡ []
-  pub for_members : is_for_members v port frame ≡ members
-
--- a unicast frame for another edge switch has no candidate
-pub record HasNoCandidate (v : SwitchView) (came : Option Came) (frame : List ℕ) (address : Pmac) : Type 0 where
-  pub unicast : is_group (destination_of frame) ≡ false
-  pub elsewhere : is_local v address ≡ false
-  pub candidates : candidates_by v address came ≡ []
-
--- a unicast frame met a trap, which leads to another edge switch, and has no candidate there
-pub record IsLedNowhere (v : SwitchView) (frame : List ℕ) : Type 0 where
-  pub trapped : IsSome (trap_for v (destination frame))
-  pub led : HasNoCandidate v (Some FromHost) frame (last_address v frame)
-
--- a unicast frame is for an address that nobody here was granted
-pub record HasNoHost (v : SwitchView) (frame : List ℕ) (address : Pmac) : Type 0 where
-  pub unicast : is_group (destination_of frame) ≡ false
-  pub here : is_local v address ≡ true
-  pub never : granted v address ≡ None
-
--- The cause of a frame that comes at a port of a switch, by what the switch knows once the source is learnt. Three causes are no switch's: the
--- host is gone, the link is down, the frame is lost.
-abbrev pub CauseHolds : SwitchView → ℕ → List ℕ → Cause → Type 0
-CauseHolds v port frame NotPlaced =
-    IsTrue (not (is_placed v.place) || (if is_of_host v port then has_no_hosts v else is_none (place_at v port).level))
-CauseHolds v port frame NoNextHop =
-    HasNoPlace v port frame false ⊎ HasNoCandidate v (came_in v port) frame (destination frame) ⊎ IsLedNowhere v frame
-CauseHolds v port frame NoAddress = HasNoHost v frame (last_address v frame)
-CauseHolds v port frame Spent = IsTrue (is_of_host v port && (has_no_address v port (source_of frame) && is_port_spent v port))
-CauseHolds v port frame BadArp = IsTrue (is_of_host v port && (is_arp frame && is_none (packet_in frame)))
-CauseHolds v port frame NoMember = HasNoPlace v port frame true
-CauseHolds v port frame HostGone = ⊥
-CauseHolds v port frame LinkDown = ⊥
-CauseHolds v port frame Lost = ⊥

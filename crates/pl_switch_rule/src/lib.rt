@@ -3,7 +3,7 @@
 
 pub use came::{Came, Way};
 pub use candidate::is_candidate;
-pub use cause_laws::{a_dropped_frame_has_its_cause, each_drop_is_for_the_first_cause};
+pub use cause_laws::each_drop_is_for_the_first_cause;
 pub use lawful_switch::{LawfulSwitch, a_lawful_switch_is_loose};
 pub use loose_switch::LooseSwitch;
 pub use switch_laws::{

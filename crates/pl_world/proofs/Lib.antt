@@ -8,7 +8,7 @@ pub mod Hearing
 pub mod Knowing
 pub mod Runs
 pub mod SettledQueues
-pub mod Drops
 pub mod SwitchDrops
+pub mod Drops
 pub mod Begun
 pub mod Looser

@@ -1,297 +1,253 @@
--- What a step of a switch writes of dropped frames.
-use Rattle.std.proofs.Common.{◌≡◌, ℕ, ◌+◌, Bool, true, false, if◌then◌else◌, List, [], ◌∷◌, ◌++◌, Contains, drop, fold, length, Option, None, Some, set, slice_get, refl, sym, ◌∙◌, ap, subst, inl, inr, append-nil, append_assoc}
-use Rattle.std.proofs.Math.Seq.{drop-append_seam}
+-- What the acts of a switch write of dropped frames.
+use Rattle.std.proofs.Common.{◌≡◌, ℕ, ◌+◌, Bool, true, false, if◌then◌else◌, List, [], ◌∷◌, ◌++◌, fold, length, Option, None, Some, set, refl, sym, ◌∙◌, ap, subst, append-nil, append_assoc, add-zero, arith}
+use Rattle.std.specs.List.{cons_option}
+use Rattle.std.proofs.lemmas.List.Elements.{filter_map-append}
+use Rattle.pl_frame.specs.declared.address.Mac.{Mac}
 use Rattle.pl_pmac.specs.declared.pmac.Pmac.{Pmac}
-use Rattle.pl_wiring.specs.declared.link.Peer.{Peer}
-use Rattle.pl_wiring.specs.declared.link.Peer.TheVariants.{HostPort, Switch}
-use Rattle.pl_wiring.specs.Index.{port_index}
-use Rattle.pl_wiring.specs.LiveLinks.{LivePorts}
-use Rattle.pl_wiring.specs.Peers.{peer_of}
-use Rattle.pl_wiring.specs.Plan.{Plan}
 use Rattle.pl_logic.specs.declared.acts.Act.{Act}
 use Rattle.pl_logic.specs.declared.acts.Act.TheVariants as act
-use Rattle.pl_logic.specs.declared.messages.ToSwitch.{ToSwitch}
-use Rattle.pl_logic.specs.HostInputs.{HostRule}
-use Rattle.pl_logic.specs.ManagerDuties.{ManagerRule}
+use Rattle.pl_logic.specs.declared.messages.ToManager.{ToManager}
 use Rattle.pl_logic.specs.SwitchInputs.{SwitchInput, SwitchRule}
-use Rattle.pl_logic.proofs.Among.{Contains-of_among, IsAmong, among_append, among_of_Contains}
 use Rattle.pl_layouts.specs.declared.place.Place.{Place}
 use Rattle.pl_layouts.specs.Placement.{same_place}
 use Rattle.pl_journal.specs.declared.cause.Cause.{Cause}
 use Rattle.pl_journal.specs.declared.cause.Cause.TheVariants.{LinkDown}
 use Rattle.pl_journal.specs.declared.entry.Entry.{Entry}
 use Rattle.pl_journal.specs.declared.entry.Entry.TheVariants.{Copied, Crossed, Dropped, Granted, Made, Placed, Redirected, Taken}
-use Rattle.pl_queues.specs.Queues.{items_at}
-use Rattle.pl_world.specs.declared.event.Event.{Event}
-use Rattle.pl_world.specs.declared.event.Event.TheVariants as event
-use Rattle.pl_world.specs.declared.event.QueueName.TheVariants as queue
-use Rattle.pl_world.specs.declared.item.Item.{Item}
 use Rattle.pl_world.specs.declared.item.Item.TheVariants.{Control, Data}
 use Rattle.pl_world.specs.declared.spoken_frame.SpokenFrame.{SpokenFrame}
 use Rattle.pl_world.specs.declared.spoken_frame.SpokenFrame.TheVariants.{Over, Passed, Silent, Waiting}
-use Rattle.pl_world.specs.declared.stand.Stand.{Stand}
-use Rattle.pl_world.specs.Changes.{begun_by, host_no, host_of, is_failed_at, noted, out_of, sent_if_live, switch_no}
-use Rattle.pl_world.specs.Drops.{IsDroppedByActs, IsDroppedBySwitch, IsOfSwitch, IsSwitch, written}
-use Rattle.pl_world.specs.SwitchActs.{Doing, act_done, acts_done, begins, crossed_again, ended, goes_out, granted, in_world, made, passed, place_noted, redirected, with_late}
-use Rattle.pl_world.specs.WorldRule.{ComesAtSwitch, ComesIn, ComesOver, DeliversFromHost, DeliversFromManager, DeliversOut, SwitchTurn, WorldStep, heard_item}
+use Rattle.pl_world.specs.Changes.{all_noted, begun_by, host_no, host_of, is_failed_at, noted, sent_if_live, switch_no, told_manager}
+use Rattle.pl_world.specs.Drops.{copies_dropped, drop_in, dropped_by_acts, dropped_of_made, dropped_on, drops_in, made_by_acts, made_in, make_in, numbers_made, ports_passed}
+use Rattle.pl_world.specs.SwitchActs.{act_done, acts_done, begins, crossed_again, granted, place_noted, with_late}
+use Rattle.pl_world.specs.WorldRule.{SwitchTurn}
 use Rattle.pl_world.specs.Worlds.{WorldView}
 
--- a journal becomes another one, and frames were dropped for such causes alone
-record Dropping (Q : Cause → Type 0) (before after : List Entry) : Type 0 where
-  entries : List Entry
-  added : after ≡ before ++ entries
-  only : (id : ℕ) (c : Cause) → IsAmong (Dropped id c) entries → Q c
+-- a journal becomes another one, and just these frames were dropped, and those made
+pub record Adds (before after : List Entry) (drops : List (ℕ × Cause)) (makes : List ℕ) : Type 0 where
+  pub entries : List Entry
+  pub added : after ≡ before ++ entries
+  pub dropped : drops_in entries ≡ drops
+  pub made : made_in entries ≡ makes
 
-module _ {Q : Cause → Type 0} where
-  drops_none : (j : List Entry) → Dropping Q j j
-  drops_none j = record { entries = []; added = sym (append-nil j); only = λ id c h. absurd h }
+pub adds_listed : (j es : List Entry) → Adds j (j ++ es) (drops_in es) (made_in es)
+adds_listed j es = record { entries = es; added = refl; dropped = refl; made = refl }
 
-  drops_then : {a b c : List Entry} → Dropping Q a b → Dropping Q b c → Dropping Q a c
-  drops_then {a} {b} {c} x y = record {
-    entries = x.entries ++ y.entries;
-    added = y.added ∙ ap (λ j. j ++ y.entries) x.added ∙ append_assoc a x.entries y.entries;
-    only = λ id cause h. elim (among_append (Dropped id cause) x.entries y.entries h) [
-      | inl first ↦ x.only id cause first
-      | inr last ↦ y.only id cause last
-    ];
-  }
+pub adds_nothing : (j : List Entry) → Adds j j [] []
+adds_nothing j = record { entries = []; added = sym (append-nil j); dropped = refl; made = refl }
 
-  drops_listed : (j es : List Entry) → ((id : ℕ) (c : Cause) → IsAmong (Dropped id c) es → Q c) → Dropping Q j (j ++ es)
-  drops_listed j es only = record { entries = es; added = refl; only = only }
+-- an entry that says neither
+pub adds_quiet : (j : List Entry) (e : Entry) → drop_in e ≡ None → make_in e ≡ None → Adds j (j ++ e ∷ []) [] []
+adds_quiet j e none other = record { entries = e ∷ []; added = refl; dropped = ap (λ o. cons_option o []) none; made = ap (λ o. cons_option o []) other }
 
-  drops_quiet : (j : List Entry) (e : Entry) → ((id : ℕ) (c : Cause) → e ≡ Dropped id c → ⊥) → Dropping Q j (j ++ e ∷ [])
-  drops_quiet j e quiet = drops_listed j (e ∷ []) (λ id c h. elim h [ inl is ↦ absurd (quiet id c is) | inr none ↦ absurd none ])
+pub adds_drop : (j : List Entry) (id : ℕ) (cause : Cause) → Adds j (j ++ Dropped id cause ∷ []) ((id, cause) ∷ []) []
+adds_drop j id cause = record { entries = Dropped id cause ∷ []; added = refl; dropped = refl; made = refl }
 
-  drops_one : (j : List Entry) (number : ℕ) (cause : Cause) → Q cause → Dropping Q j (j ++ Dropped number cause ∷ [])
-  drops_one j number cause is = drops_listed j (Dropped number cause ∷ []) (λ id c h. elim h [
-    | inl same ↦ (let alike : cause ≡ c = cc in subst Q alike is)
-    | inr none ↦ absurd none
-  ])
+adds_made : (j : List Entry) (id s : ℕ) (frame : List ℕ) → Adds j (j ++ Made id (switch_no s) frame ∷ []) [] (id ∷ [])
+adds_made j id s frame = record { entries = Made id (switch_no s) frame ∷ []; added = refl; dropped = refl; made = refl }
 
-module _ (Q : Cause → Type 0) (s : ℕ) (j : List Entry) (w : WorldView) where
-  -- amid the acts of switch s
-  record Amid (d : Doing) : Type 0 where
-    plan : d.world.plan ≡ w.plan
-    links : d.world.links ≡ w.links
-    wrote : Dropping Q j d.world.journal
-    late : (id : ℕ) (c : Cause) → IsAmong (Dropped id c) d.late → Q c
+pub adds_then : {a b c : List Entry} {d e : List (ℕ × Cause)} {m n : List ℕ} → Adds a b d m → Adds b c e n → Adds a c (d ++ e) (m ++ n)
+adds_then {a} {b} {c} {d} {e} {m} {n} x y = record {
+  entries = x.entries ++ y.entries;
+  added = y.added ∙ ap (λ j. j ++ y.entries) x.added ∙ append_assoc a x.entries y.entries;
+  dropped = filter_map-append drop_in x.entries y.entries ∙ ap (λ ds. ds ++ drops_in y.entries) x.dropped ∙ ap (λ ds. d ++ ds) y.dropped;
+  made = filter_map-append make_in x.entries y.entries ∙ ap (λ ms. ms ++ made_in y.entries) x.made ∙ ap (λ ms. m ++ ms) y.made;
+}
 
-  -- what an act drops, it drops for such a cause
-  record Drops (a : Act) : Type 0 where
-    ends : (c : Cause) → a ≡ act.Drop c → Q c
-    passes : (port : ℕ) (frame : List ℕ) → a ≡ act.Pass port frame → is_failed_at w s port ≡ true → Q LinkDown
+pub adds_is : {a b : List Entry} {d e : List (ℕ × Cause)} {m n : List ℕ} → d ≡ e → m ≡ n → Adds a b d m → Adds a b e n
+adds_is same alike x = record { entries = x.entries; added = x.added; dropped = x.dropped ∙ same; made = x.made ∙ alike }
 
-  more : (d : Doing) (world : WorldView) (speech : SpokenFrame) → world.plan ≡ d.world.plan → world.links ≡ d.world.links →
-      Dropping Q d.world.journal world.journal → Amid d → Amid (record { world = world; speech = speech; late = d.late })
-  more d world speech plan links writes a = record {
-    plan = plan ∙ a.plan;
-    links = links ∙ a.links;
-    wrote = drops_then a.wrote writes;
-    late = a.late;
-  }
+-- what is still dropped and made, where acts go on to speak of a frame
+abbrev rest : (ℕ → Bool) → ℕ → SpokenFrame → List Act → List (ℕ × Cause)
+rest is_failed begun Silent acts = dropped_of_made is_failed begun acts
+rest is_failed begun (Waiting id again) acts = dropped_by_acts is_failed begun (Some id) acts
+rest is_failed begun (Passed id) acts = copies_dropped is_failed begun (ports_passed acts) ++ dropped_of_made is_failed (begun + length (ports_passed acts)) acts
+rest is_failed begun Over acts = dropped_of_made is_failed begun acts
 
-  grants : (d : Doing) (pmac : Pmac) (h : Option ℕ) → Amid d → Amid (in_world d (granted d.world s pmac h))
-  grants d pmac None a = more d d.world d.speech refl refl (drops_none d.world.journal) a
-  grants d pmac (Some h) a = more d (noted d.world (Granted pmac (host_no h) (switch_no s) pmac.port)) d.speech refl refl
-      (drops_quiet d.world.journal (Granted pmac (host_no h) (switch_no s) pmac.port) (λ id c is. absurd (cc))) a
+abbrev made_later : ℕ → SpokenFrame → List Act → List ℕ
+made_later begun Silent acts = numbers_made begun acts
+made_later begun (Waiting id again) acts = made_by_acts begun (Some id) acts
+made_later begun (Passed id) acts = numbers_made (begun + length (ports_passed acts)) acts
+made_later begun Over acts = numbers_made begun acts
 
-  makes : (d : Doing) (frame : List ℕ) → Amid d → Amid (made s d frame)
-  makes d frame a = record {
-    plan = a.plan;
-    links = a.links;
-    wrote = drops_then (drops_then (drops_then a.wrote (drops_listed d.world.journal d.late a.late))
-        (drops_quiet (d.world.journal ++ d.late) (Made (d.world.begun + 1) (switch_no s) frame) (λ id c is. absurd (cc))))
-        (drops_quiet _ (Crossed (d.world.begun + 1) (switch_no s)) (λ id c is. absurd (cc)));
-    late = λ id c h. absurd h;
-  }
+-- no end was put off while a frame waits for its own
+abbrev IsFresh : SpokenFrame → List Entry → Type 0
+IsFresh (Waiting id again) late = late ≡ []
+IsFresh speech late = Unit {0}
 
-  redirects : (d : Doing) (old new : Pmac) (speech : SpokenFrame) → Amid d → Amid (redirected d old new speech)
-  redirects d old new Silent a = a
-  redirects d old new (Waiting id again) a = more d (noted d.world (Redirected id old new)) (Waiting id true) refl refl
-      (drops_quiet d.world.journal (Redirected id old new) (λ n c is. absurd (cc))) a
-  redirects d old new (Passed id) a = a
-  redirects d old new Over a = a
+-- what acts leave to those behind them
+record LeavesTo (is_failed : ℕ → Bool) (begun : ℕ) (speech : SpokenFrame) (acts behind : List Act) : Type 0 where
+  drops : rest is_failed begun speech behind ≡ rest is_failed begun speech acts
+  makes : made_later begun speech behind ≡ made_later begun speech acts
 
-  crosses : (v : WorldView) (id : ℕ) (again : Bool) → Dropping Q v.journal (crossed_again v s id again).journal
-  crosses v id true = drops_quiet v.journal (Crossed id (switch_no s)) (λ n c is. absurd (cc))
-  crosses v id false = drops_listed v.journal [] (λ n c h. absurd h)
+module _ (is_failed : ℕ → Bool) (begun : ℕ) where
+  none_left : (speech : SpokenFrame) → ([] ≡ rest is_failed begun speech []) × ([] ≡ made_later begun speech [])
+  none_left Silent = (refl, refl)
+  none_left (Waiting id again) = (refl, refl)
+  none_left (Passed id) = (refl, refl)
+  none_left Over = (refl, refl)
 
-  failed_there : (v : WorldView) (port : ℕ) → v.plan ≡ w.plan → v.links ≡ w.links → is_failed_at v s port ≡ is_failed_at w s port
-  failed_there v port plan links =
-      let one : is_failed_at v s port ≡ is_failed_at (record v { plan = w.plan }) s port = ap (λ (p : Plan). is_failed_at (record v { plan = p }) s port) plan in
-      one ∙ ap (λ (l : LivePorts). is_failed_at (record v { plan = w.plan; links = l }) s port) links
+  module _ (acts : List Act) where
+    over_control : (speech : SpokenFrame) (port : ℕ) (frame : List ℕ) → LeavesTo is_failed begun speech (act.Control port frame ∷ acts) acts
+    over_control Silent port frame = record { drops = refl; makes = refl }
+    over_control (Waiting id again) port frame = record { drops = refl; makes = refl }
+    over_control (Passed id) port frame = record { drops = refl; makes = refl }
+    over_control Over port frame = record { drops = refl; makes = refl }
 
-  -- the frame goes out of a port, or its end is put off
-  goes : (d : Doing) (id port : ℕ) (frame : List ℕ) → (is_failed_at w s port ≡ true → Q LinkDown) → Amid d → Amid (goes_out s d id port frame)
-  goes d id port frame fails a = record {
-    plan = a.plan;
-    links = a.links;
-    wrote = a.wrote;
-    late = λ n c h. put_off n c (is_failed_at d.world s port) (sym (failed_there d.world port a.plan a.links)) h;
-  }
+    over_tell : (speech : SpokenFrame) (told : ToManager) → LeavesTo is_failed begun speech (act.Tell told ∷ acts) acts
+    over_tell Silent told = record { drops = refl; makes = refl }
+    over_tell (Waiting id again) told = record { drops = refl; makes = refl }
+    over_tell (Passed id) told = record { drops = refl; makes = refl }
+    over_tell Over told = record { drops = refl; makes = refl }
+
+    over_grant : (speech : SpokenFrame) (pmac : Pmac) (amac : Mac) → LeavesTo is_failed begun speech (act.Grant pmac amac ∷ acts) acts
+    over_grant Silent pmac amac = record { drops = refl; makes = refl }
+    over_grant (Waiting id again) pmac amac = record { drops = refl; makes = refl }
+    over_grant (Passed id) pmac amac = record { drops = refl; makes = refl }
+    over_grant Over pmac amac = record { drops = refl; makes = refl }
+
+    -- a frame that is made has the next number, whatever was said before
+    made_next : (speech : SpokenFrame) (frame : List ℕ) →
+        (dropped_by_acts is_failed (begun + 1) (Some (begun + 1)) acts ≡ rest is_failed begun speech (act.Make frame ∷ acts))
+        × ((begun + 1) ∷ made_by_acts (begun + 1) (Some (begun + 1)) acts ≡ made_later begun speech (act.Make frame ∷ acts))
+    made_next Silent frame = (refl, refl)
+    made_next (Waiting id again) frame = (ap (λ b. dropped_of_made is_failed b (act.Make frame ∷ acts)) (sym (add-zero begun)), ap (λ b. numbers_made b (act.Make frame ∷ acts)) (sym (add-zero begun)))
+    made_next (Passed id) frame = (ap (λ b. dropped_of_made is_failed b (act.Make frame ∷ acts)) (sym (add-zero begun)), ap (λ b. numbers_made b (act.Make frame ∷ acts)) (sym (add-zero begun)))
+    made_next Over frame = (refl, refl)
+
+crosses : (s : ℕ) (w : WorldView) (id : ℕ) (again : Bool) → Adds w.journal (crossed_again w s id again).journal [] []
+crosses s w id true = adds_quiet w.journal (Crossed id (switch_no s)) refl refl
+crosses s w id false = adds_listed w.journal []
+
+module _ (s : ℕ) where
+  -- an end that is put off stands between what was put off and what follows
+  put_off : (late : List Entry) (id : ℕ) (b : Bool) → drops_in (if b then late ++ Dropped id LinkDown ∷ [] else late) ≡ drops_in late ++ (if b then (id, LinkDown) ∷ [] else [])
+  put_off late id true = filter_map-append drop_in late (Dropped id LinkDown ∷ [])
+  put_off late id false = sym (append-nil (drops_in late))
+
+  shifted : (late : List Entry) (id : ℕ) (b : Bool) (c m : List (ℕ × Cause)) →
+      drops_in (if b then late ++ Dropped id LinkDown ∷ [] else late) ++ (c ++ m) ≡ drops_in late ++ (((if b then (id, LinkDown) ∷ [] else []) ++ c) ++ m)
+  shifted late id b c m =
+      let on : List (ℕ × Cause) = if b then (id, LinkDown) ∷ [] else [] in
+      ap (λ x. x ++ (c ++ m)) (put_off late id b) ∙ append_assoc (drops_in late) on (c ++ m) ∙ ap (λ x. drops_in late ++ x) (sym (append_assoc on c m))
+
+  makes_none : (late : List Entry) (id : ℕ) (b : Bool) → made_in (if b then late ++ Dropped id LinkDown ∷ [] else late) ≡ made_in late
+  makes_none late id true = filter_map-append make_in late (Dropped id LinkDown ∷ []) ∙ append-nil (made_in late)
+  makes_none late id false = refl
+
+  before_none : (late : List Entry) (x : ℕ × Cause) (m : List (ℕ × Cause)) → late ≡ [] → x ∷ (drops_in late ++ m) ≡ drops_in late ++ x ∷ m
+  before_none late x m fresh = ap (λ es. x ∷ (drops_in es ++ m)) fresh ∙ sym (ap (λ es. drops_in es ++ x ∷ m) fresh)
+
+  one_more : (begun : ℕ) (port : ℕ) (ports : List ℕ) → begun + 1 + length ports ≡ begun + length (port ∷ ports)
+  one_more begun port ports = grind arith
+
+  abbrev Walk : WorldView → SpokenFrame → List Entry → List Act → Type 0
+  Walk w speech late acts =
+      Adds w.journal (with_late (fold (act_done s) (record { world = w; speech = speech; late = late }) acts)).journal
+      (drops_in late ++ rest (is_failed_at w s) w.begun speech acts) (made_in late ++ made_later w.begun speech acts)
+
+  -- acts that say nothing of it leave it to those behind them
+  leaves : (w : WorldView) (speech : SpokenFrame) (late : List Entry) (acts behind : List Act) (after : List Entry) →
+      LeavesTo (is_failed_at w s) w.begun speech acts behind →
+      Adds w.journal after (drops_in late ++ rest (is_failed_at w s) w.begun speech behind) (made_in late ++ made_later w.begun speech behind) →
+      Adds w.journal after (drops_in late ++ rest (is_failed_at w s) w.begun speech acts) (made_in late ++ made_later w.begun speech acts)
+  leaves w speech late acts behind after to x = adds_is (ap (λ r. drops_in late ++ r) to.drops) (ap (λ r. made_in late ++ r) to.makes) x
+
+  grants : (w : WorldView) (speech : SpokenFrame) (late : List Entry) (pmac : Pmac) (acts : List Act) (h : Option ℕ) →
+      ((v : WorldView) → Walk v speech late acts) →
+      Adds w.journal (with_late (fold (act_done s) (record { world = granted w s pmac h; speech = speech; late = late }) acts)).journal
+      (drops_in late ++ rest (is_failed_at w s) w.begun speech acts) (made_in late ++ made_later w.begun speech acts)
+  grants w speech late pmac acts None go = go w
+  grants w speech late pmac acts (Some h) go =
+      adds_then (adds_quiet w.journal (Granted pmac (host_no h) (switch_no s) pmac.port) refl refl) (go (noted w (Granted pmac (host_no h) (switch_no s) pmac.port)))
+
+  walk : (w : WorldView) (speech : SpokenFrame) (late : List Entry) (acts : List Act) → IsFresh speech late → Walk w speech late acts
+  walk w speech late [] fresh =
+      let none = none_left (is_failed_at w s) w.begun speech in
+      adds_is (sym (append-nil (drops_in late)) ∙ ap (λ r. drops_in late ++ r) none.0) (sym (append-nil (made_in late)) ∙ ap (λ r. made_in late ++ r) none.1)
+      (adds_listed w.journal late)
+  walk w speech late (act.Control port frame ∷ acts) fresh =
+      leaves w speech late (act.Control port frame ∷ acts) acts _ (over_control (is_failed_at w s) w.begun acts speech port frame)
+      (walk (sent_if_live w s port (Control frame)) speech late acts fresh)
+  walk w speech late (act.Tell told ∷ acts) fresh =
+      leaves w speech late (act.Tell told ∷ acts) acts _ (over_tell (is_failed_at w s) w.begun acts speech told) (walk (told_manager w s told) speech late acts fresh)
+  walk w speech late (act.Grant pmac amac ∷ acts) fresh =
+      leaves w speech late (act.Grant pmac amac ∷ acts) acts _ (over_grant (is_failed_at w s) w.begun acts speech pmac amac)
+      (grants w speech late pmac acts (host_of w.plan amac) (λ v. walk v speech late acts fresh))
+  walk w speech late (act.Make frame ∷ acts) fresh =
+      let next : ℕ = w.begun + 1 in
+      let said = made_next (is_failed_at w s) w.begun acts speech frame in
+      adds_is (ap (λ r. drops_in late ++ r) said.0) (ap (λ r. made_in late ++ r) said.1)
+      (adds_then (adds_listed w.journal late)
+      (adds_then (adds_made (w.journal ++ late) next s frame)
+      (adds_then (adds_quiet ((w.journal ++ late) ++ Made next (switch_no s) frame ∷ []) (Crossed next (switch_no s)) refl refl)
+      (walk (noted (begun_by (all_noted w late) (Made next (switch_no s) frame)) (Crossed next (switch_no s))) (Waiting next false) [] acts refl))))
+  walk w Silent late (act.Redirect old new ∷ acts) fresh = walk w Silent late acts fresh
+  walk w (Waiting id again) late (act.Redirect old new ∷ acts) fresh =
+      adds_then (adds_quiet w.journal (Redirected id old new) refl refl) (walk (noted w (Redirected id old new)) (Waiting id true) late acts fresh)
+  walk w (Passed id) late (act.Redirect old new ∷ acts) fresh = walk w (Passed id) late acts fresh
+  walk w Over late (act.Redirect old new ∷ acts) fresh = walk w Over late acts fresh
+  walk w Silent late (act.Pass port frame ∷ acts) fresh = walk w Silent late acts fresh
+  walk w (Waiting id again) late (act.Pass port frame ∷ acts) fresh =
+      let is_failed : ℕ → Bool = is_failed_at w s in
+      let further : List ℕ = ports_passed acts in
+      adds_is (shifted late id (is_failed port) (copies_dropped is_failed w.begun further) (dropped_of_made is_failed (w.begun + length further) acts))
+      (ap (λ ms. ms ++ numbers_made (w.begun + length further) acts) (makes_none late id (is_failed port)))
+      (adds_then (crosses s w id again)
+      (walk (sent_if_live (crossed_again w s id again) s port (Data id frame)) (Passed id) (if is_failed port then late ++ Dropped id LinkDown ∷ [] else late) acts tt))
+  walk w (Passed id) late (act.Pass port frame ∷ acts) fresh =
+      let is_failed : ℕ → Bool = is_failed_at w s in
+      let further : List ℕ = ports_passed acts in
+      let next : ℕ = w.begun + 1 in
+      let many = one_more w.begun port further in
+      adds_is (shifted late next (is_failed port) (copies_dropped is_failed next further) (dropped_of_made is_failed (next + length further) acts)
+      ∙ ap (λ b. drops_in late ++ ((dropped_on is_failed next port ++ copies_dropped is_failed next further) ++ dropped_of_made is_failed b acts)) many)
+      (ap (λ ms. ms ++ numbers_made (next + length further) acts) (makes_none late next (is_failed port)) ∙ ap (λ b. made_in late ++ numbers_made b acts) many)
+      (adds_then (adds_quiet w.journal (Copied id next) refl refl)
+      (walk (sent_if_live (begun_by w (Copied id next)) s port (Data next frame)) (Passed id) (if is_failed port then late ++ Dropped next LinkDown ∷ [] else late) acts tt))
+  walk w Over late (act.Pass port frame ∷ acts) fresh = walk w Over late acts fresh
+  walk w Silent late (act.Take ∷ acts) fresh = walk w Silent late acts fresh
+  walk w (Waiting id again) late (act.Take ∷ acts) fresh =
+      adds_is (ap (λ b. drops_in late ++ dropped_of_made (is_failed_at w s) b acts) (sym (add-zero w.begun)))
+      (ap (λ b. made_in late ++ numbers_made b acts) (sym (add-zero w.begun)))
+      (adds_then (crosses s w id again) (adds_then (adds_quiet (crossed_again w s id again).journal (Taken id (switch_no s)) refl refl)
+      (walk (noted (crossed_again w s id again) (Taken id (switch_no s))) Over late acts tt)))
+  walk w (Passed id) late (act.Take ∷ acts) fresh = walk w (Passed id) late acts fresh
+  walk w Over late (act.Take ∷ acts) fresh = walk w Over late acts fresh
+  walk w Silent late (act.Drop cause ∷ acts) fresh = walk w Silent late acts fresh
+  walk w (Waiting id again) late (act.Drop cause ∷ acts) fresh =
+      adds_is (before_none late (id, cause) (dropped_of_made (is_failed_at w s) w.begun acts) fresh
+      ∙ ap (λ b. drops_in late ++ (id, cause) ∷ dropped_of_made (is_failed_at w s) b acts) (sym (add-zero w.begun)))
+      (ap (λ b. made_in late ++ numbers_made b acts) (sym (add-zero w.begun)))
+      (adds_then (crosses s w id again) (adds_then (adds_drop (crossed_again w s id again).journal id cause)
+      (walk (noted (crossed_again w s id again) (Dropped id cause)) Over late acts tt)))
+  walk w (Passed id) late (act.Drop cause ∷ acts) fresh = walk w (Passed id) late acts fresh
+  walk w Over late (act.Drop cause ∷ acts) fresh = walk w Over late acts fresh
+
+  places : (w : WorldView) (old new : Place) → Adds w.journal (place_noted s old new w).journal [] []
+  places w old new = by (same_place old new)
     where
-      put_off : (n : ℕ) (c : Cause) (b : Bool) → is_failed_at w s port ≡ b →
-          IsAmong (Dropped n c) (if b then d.late ++ Dropped id LinkDown ∷ [] else d.late) → Q c
-      put_off n c true failed h = elim (among_append (Dropped n c) d.late (Dropped id LinkDown ∷ []) h) [
-        | inl before ↦ a.late n c before
-        | inr last ↦ elim last [
-          | inl same ↦ (let alike : LinkDown ≡ c = cc in subst Q alike (fails failed))
-          | inr none ↦ absurd none
-        ]
-      ]
-      put_off n c false failed h = a.late n c h
+      by : (b : Bool) → Adds w.journal (w.journal ++ (if b then [] else Placed (switch_no s) new ∷ [])) [] []
+      by true = adds_listed w.journal []
+      by false = adds_quiet w.journal (Placed (switch_no s) new) refl refl
 
-  passing : (d : Doing) (port : ℕ) (frame : List ℕ) (speech : SpokenFrame) → (is_failed_at w s port ≡ true → Q LinkDown) → Amid d → Amid (passed s d port frame speech)
-  passing d port frame Silent fails a = a
-  passing d port frame (Waiting id again) fails a =
-      goes (in_world d (crossed_again d.world s id again)) id port frame fails
-      (more d (crossed_again d.world s id again) d.speech refl refl (crosses d.world id again) a)
-  passing d port frame (Passed id) fails a =
-      let out = goes (in_world d (begun_by d.world (Copied id (d.world.begun + 1)))) (d.world.begun + 1) port frame fails
-      (more d (begun_by d.world (Copied id (d.world.begun + 1))) d.speech refl refl
-      (drops_quiet d.world.journal (Copied id (d.world.begun + 1)) (λ n c is. absurd (cc))) a) in
-      record { plan = out.plan; links = out.links; wrote = out.wrote; late = out.late }
-  passing d port frame Over fails a = a
+  -- a switch's turn drops and makes what is left to be said
+  turn_adds : (rule : SwitchRule) (w : WorldView) (input : SwitchInput) (speech : SpokenFrame) (new : WorldView) → IsFresh speech [] →
+      (m : SwitchTurn rule w s input speech new) → Adds w.journal new.journal (rest (is_failed_at w s) w.begun speech m.acts) (made_later w.begun speech m.acts)
+  turn_adds rule w input speech new fresh m =
+      let drops : List (ℕ × Cause) = rest (is_failed_at w s) w.begun speech m.acts in
+      let makes : List ℕ = made_later w.begun speech m.acts in
+      let start : WorldView = record w { switches = set w.switches s m.after } in
+      subst (λ (x : WorldView). Adds w.journal x.journal drops makes) (sym m.changed)
+      (adds_is (append-nil drops) (append-nil makes)
+      (adds_then (walk start speech [] m.acts fresh) (places (with_late (acts_done s (begins start speech) m.acts)) m.before.place m.after.place)))
 
-  ending : (d : Doing) (end : ℕ → Entry) (speech : SpokenFrame) → ((v : WorldView) (id : ℕ) → Dropping Q v.journal (v.journal ++ end id ∷ [])) →
-      Amid d → Amid (ended s d end speech)
-  ending d end Silent ends a = a
-  ending d end (Waiting id again) ends a = more d (noted (crossed_again d.world s id again) (end id)) Over refl refl
-      (drops_then (crosses d.world id again) (ends (crossed_again d.world s id again) id)) a
-  ending d end (Passed id) ends a = a
-  ending d end Over ends a = a
+pub none_came : (rule : SwitchRule) (w : WorldView) (s : ℕ) (input : SwitchInput) (new : WorldView) (m : SwitchTurn rule w s input Silent new) →
+    Adds w.journal new.journal (dropped_by_acts (is_failed_at w s) w.begun None m.acts) (made_by_acts w.begun None m.acts)
+none_came rule w s input new m = turn_adds s rule w input Silent new tt m
 
-  one_act : (d : Doing) (a : Act) → Drops a → Amid d → Amid (act_done s d a)
-  one_act d (act.Control port frame) drops a = more d (sent_if_live d.world s port (Control frame)) d.speech refl refl (drops_none d.world.journal) a
-  one_act d (act.Tell told) drops a = more d _ d.speech refl refl (drops_none d.world.journal) a
-  one_act d (act.Grant pmac amac) drops a = grants d pmac (host_of d.world.plan amac) a
-  one_act d (act.Make frame) drops a = makes d frame a
-  one_act d (act.Redirect old new) drops a = redirects d old new d.speech a
-  one_act d (act.Pass port frame) drops a = passing d port frame d.speech (λ failed. drops.passes port frame refl failed) a
-  one_act d act.Take drops a = ending d (λ id. Taken id (switch_no s)) d.speech
-      (λ v id. drops_quiet v.journal (Taken id (switch_no s)) (λ n c is. absurd (cc))) a
-  one_act d (act.Drop cause) drops a = ending d (λ id. Dropped id cause) d.speech (λ v id. drops_one v.journal id cause (drops.ends cause refl)) a
-
-  each_act : (d : Doing) (acts : List Act) → ((a : Act) → IsAmong a acts → Drops a) → Amid d → Amid (fold (act_done s) d acts)
-  each_act d [] drops a = a
-  each_act d (x ∷ acts) drops a = each_act (act_done s d x) acts (λ y h. drops y (inr h)) (one_act d x (drops x (inl refl)) a)
-
-  places : (v : WorldView) (old new : Place) → Dropping Q v.journal (place_noted s old new v).journal
-  places v old new = by (same_place old new)
-    where
-      by : (b : Bool) → Dropping Q v.journal (v.journal ++ (if b then [] else Placed (switch_no s) new ∷ []))
-      by true = drops_listed v.journal [] (λ n c h. absurd h)
-      by false = drops_quiet v.journal (Placed (switch_no s) new) (λ n c is. absurd (cc))
-
-module _ (rule : SwitchRule) where
-  moves_drop : (w : WorldView) (s : ℕ) (input : SwitchInput) (first : SpokenFrame) (new : WorldView) (m : SwitchTurn rule w s input first new) →
-      Dropping (IsDroppedByActs w s m.acts) w.journal new.journal
-  moves_drop w s input first new m =
-      let Q : Cause → Type 0 = IsDroppedByActs w s m.acts in
-      let start : Doing = begins (record w { switches = set w.switches s m.after }) first in
-      let done : Amid Q s w.journal w (acts_done s start m.acts) = each_act Q s w.journal w start m.acts (λ a h. record {
-        ends = λ c is. inl (Contains-of_among (act.Drop c) m.acts (subst (λ x. IsAmong x m.acts) is h));
-        passes = λ port frame is failed. inr (
-          refl,
-          record {
-            port = port;
-            frame = frame;
-            passed = Contains-of_among (act.Pass port frame) m.acts (subst (λ x. IsAmong x m.acts) is h);
-            failed = failed;
-          },
-        );
-      }) (record { plan = refl; links = refl; wrote = drops_none w.journal; late = λ id c h. absurd h }) in
-      subst (λ (x : WorldView). Dropping Q w.journal x.journal) (sym m.changed)
-      (drops_then (drops_then done.wrote (drops_listed (acts_done s start m.acts).world.journal (acts_done s start m.acts).late done.late))
-      (places Q s w.journal w (with_late (acts_done s start m.acts)) m.before.place m.after.place))
-
-  weaker : {Q R : Cause → Type 0} {a b : List Entry} → ((c : Cause) → Q c → R c) → Dropping Q a b → Dropping R a b
-  weaker to x = record { entries = x.entries; added = x.added; only = λ id c h. to c (x.only id c h) }
-
-  -- in a world that is as another one where it matters
-  by_moves : (old w : WorldView) (s : ℕ) (input : SwitchInput) (first : SpokenFrame) (new : WorldView) → w.plan ≡ old.plan → w.links ≡ old.links →
-      w.switches ≡ old.switches → SwitchTurn rule w s input first new → Dropping (IsDroppedBySwitch rule old) w.journal new.journal
-  by_moves old w s input first new plan links switches m = weaker (λ c d. record {
-    switch = s;
-    before = m.before;
-    after = m.after;
-    input = input;
-    acts = m.acts;
-    found = ap (λ vs. slice_get vs s) (sym switches) ∙ m.found;
-    ruled = m.ruled;
-    drops = elim d [
-      | inl said ↦ inl said
-      | inr put ↦ inr (
-        put.0,
-        record {
-          port = put.1.port;
-          frame = put.1.frame;
-          passed = put.1.passed;
-          failed = sym (failed_there (IsDroppedBySwitch rule old) s [] old w put.1.port plan links) ∙ put.1.failed;
-        },
-      )
-    ];
-  }) (moves_drop w s input first new m)
-
-  module _ (old : WorldView) where
-    at_switch : (w : WorldView) (s port : ℕ) (item : Item) (new : WorldView) → w.plan ≡ old.plan → w.links ≡ old.links → w.switches ≡ old.switches →
-        ComesAtSwitch rule w s port item new → Dropping (IsDroppedBySwitch rule old) w.journal new.journal
-    at_switch w s port (Control frame) new plan links switches m = by_moves old w s _ _ new plan links switches m
-    at_switch w s port (Data id frame) new plan links switches m =
-        drops_then (drops_quiet w.journal (Crossed id (switch_no s)) (λ n c is. absurd (cc)))
-        (by_moves old (noted w (Crossed id (switch_no s))) s _ _ new plan links switches m)
-
-    comes_in : (w : WorldView) (h : ℕ) (item : Item) (stand : Option Stand) (new : WorldView) → w.plan ≡ old.plan → w.links ≡ old.links → w.switches ≡ old.switches →
-        ComesIn rule w h item stand new → Dropping (IsDroppedBySwitch rule old) w.journal new.journal
-    comes_in w h item None new plan links switches m = absurd m
-    comes_in w h (Control frame) (Some stand) new plan links switches m = at_switch w stand.edge.0 stand.port (Control frame) new plan links switches m
-    comes_in w h (Data id frame) (Some stand) new plan links switches m =
-        at_switch (heard_item w h (Data id frame)) stand.edge.0 stand.port (Data id frame) new plan links switches m
-
-    from_host : (h : ℕ) (items : List Item) (new : WorldView) → DeliversFromHost rule (record old { steps = old.steps + 1 }) h items new →
-        Dropping (IsDroppedBySwitch rule old) old.journal new.journal
-    from_host h [] new m = absurd m
-    from_host h (item ∷ items) new m =
-        comes_in (record old { steps = old.steps + 1; from_hosts = set old.from_hosts h items }) h item (slice_get old.stands h) new refl refl refl m
-
-    from_manager : (s : ℕ) (items : List ToSwitch) (new : WorldView) → DeliversFromManager rule (record old { steps = old.steps + 1 }) s items new →
-        Dropping (IsDroppedBySwitch rule old) old.journal new.journal
-    from_manager s [] new m = absurd m
-    from_manager s (says ∷ items) new m =
-        by_moves old (record old { steps = old.steps + 1; from_manager = set old.from_manager s items }) s _ _ new refl refl refl m
-
-    over : (host : HostRule) (s port : ℕ) (item : Item) (items : List Item) (peer : Peer) (new : WorldView) → IsSwitch peer →
-        ComesOver rule host (record old { steps = old.steps + 1; out = set old.out (port_index old.plan.k s port) items }) s port item peer new →
-        Dropping (IsDroppedBySwitch rule old) old.journal new.journal
-    over host s port item items (Switch t q) new is m =
-        at_switch (record old { steps = old.steps + 1; out = set old.out (port_index old.plan.k s port) items }) t.0 q item new refl refl refl m
-    over host s port item items HostPort new is m = absurd is
-
-    out : (host : HostRule) (s port : ℕ) (items : List Item) (new : WorldView) → IsSwitch (peer_of old.plan s port) →
-        DeliversOut rule host (record old { steps = old.steps + 1 }) s port items new → Dropping (IsDroppedBySwitch rule old) old.journal new.journal
-    out host s port [] new is m = absurd m
-    out host s port (item ∷ items) new is m = over host s port item items (peer_of old.plan s port) new is m
-
-    switch_step : (manager : ManagerRule) (host : HostRule) (happens : Event) (new : WorldView) → IsOfSwitch old happens →
-        WorldStep rule manager host old happens new → Dropping (IsDroppedBySwitch rule old) old.journal new.journal
-    switch_step manager host (event.Deliver (queue.FromHost h)) new is m = from_host h.0 (items_at old.from_hosts h.0) new m
-    switch_step manager host (event.Deliver (queue.Port s port)) new is m = out host s.0 port (out_of old s.0 port) new is m
-    switch_step manager host (event.Deliver (queue.ToManager s)) new is m = absurd is
-    switch_step manager host (event.Deliver (queue.FromManager s)) new is m = from_manager s.0 (items_at old.from_manager s.0) new m
-    switch_step manager host (event.Tick s) new is m = by_moves old _ s.0 _ _ new refl refl refl m
-    switch_step manager host (event.Fail a b) new is m = absurd is
-    switch_step manager host (event.Repair a b) new is m = absurd is
-    switch_step manager host (event.Lose s port) new is m = absurd is
-    switch_step manager host (event.Move h s port) new is m = absurd is
-    switch_step manager host (event.Start h) new is m = absurd is
-    switch_step manager host (event.Play h frame original raw) new is m = absurd is
-    switch_step manager host (event.Retry h) new is m = absurd is
-    switch_step manager host (event.Join h group) new is m = absurd is
-    switch_step manager host (event.Leave h group) new is m = absurd is
-
-    pub switch_step_drops : (manager : ManagerRule) (host : HostRule) (happens : Event) (new : WorldView) (id : ℕ) (c : Cause) →
-        WorldStep rule manager host old happens new → IsOfSwitch old happens → Contains (written old new) (Dropped id c) → IsDroppedBySwitch rule old c
-    switch_step_drops manager host happens new id c step is there =
-        let x = switch_step manager host happens new is step in
-        let same : written old new ≡ x.entries = ap (drop (length old.journal)) x.added ∙ drop-append_seam old.journal x.entries in
-        x.only id c (among_of_Contains (Dropped id c) x.entries (subst (λ es. Contains es (Dropped id c)) same there))
+pub one_came : (rule : SwitchRule) (w : WorldView) (s : ℕ) (input : SwitchInput) (id : ℕ) (new : WorldView)
+    (m : SwitchTurn rule (noted w (Crossed id (switch_no s))) s input (Waiting id false) new) →
+    Adds w.journal new.journal (dropped_by_acts (is_failed_at w s) w.begun (Some id) m.acts) (made_by_acts w.begun (Some id) m.acts)
+one_came rule w s input id new m =
+    adds_then (adds_quiet w.journal (Crossed id (switch_no s)) refl refl) (turn_adds s rule (noted w (Crossed id (switch_no s))) input (Waiting id false) new refl m)

@@ -14,12 +14,9 @@ pub use limits::Limits;
 pub use spoken_frame::SpokenFrame;
 pub use stand::Stand;
 pub use world_laws::{
-    a_new_world_has_its_frames_in_order,
-    a_step_that_is_no_switchs_drops_a_frame_where_a_host_is_no_member,
-    a_step_that_is_no_switchs_drops_frames_for_their_causes_alone,
-    a_switch_drops_frames_by_its_rule_or_on_a_failed_link, each_run_keeps_its_frames_in_order,
-    each_run_stays_within_hearing, each_step_keeps_its_frames_in_order,
-    hosts_have_no_control_frames_in_their_queues,
+    a_new_world_has_its_frames_in_order, a_step_drops_what_its_turn_says,
+    each_run_keeps_its_frames_in_order, each_run_stays_within_hearing,
+    each_step_keeps_its_frames_in_order, hosts_have_no_control_frames_in_their_queues,
     nothing_is_pending_exactly_where_the_queues_are_settled,
 };
 

@@ -1,14 +1,11 @@
 ghost use Rattle.std.specs.Prelude.{◌≡◌, ◌≤◌, ◌↔◌, ℕ, Contains, List, None};
-ghost use Rattle.pl_wiring.specs.Plan.{Plan};
+ghost use Rattle.pl_wiring.specs.Plan.{IsPlan, Plan};
 ghost use Rattle.pl_world.specs.declared.event.Event.{Event};
-ghost use Rattle.pl_journal.specs.declared.cause.Cause.{Cause};
-ghost use Rattle.pl_journal.specs.declared.cause.Cause.TheVariants.{NoMember};
-ghost use Rattle.pl_journal.specs.declared.entry.Entry.TheVariants.{Dropped};
 ghost use Rattle.pl_queues.specs.Queues.{items_at};
 ghost use Rattle.pl_world.specs.declared.item.Item.TheVariants.{Control};
 ghost use Rattle.pl_world.specs.declared.limits.Limits.{Limits};
 ghost use Rattle.pl_world.specs.Booting.{CanBegin, booted};
-ghost use Rattle.pl_world.specs.Drops.{AnswersOneWay, IsDroppedBySwitch, IsDroppedFor, IsOfSwitch, IsRefusedByHost, written};
+ghost use Rattle.pl_world.specs.Drops.{dropped, drops_in, made, made_in, turn_of, written};
 ghost use Rattle.pl_world.specs.Flying.{IsCounted};
 ghost use Rattle.pl_world.specs.Hearing.{IsWithinHearing};
 ghost use Rattle.pl_world.specs.Pending.{pending};
@@ -61,43 +58,13 @@ pub fn hosts_have_no_control_frames_in_their_queues<S: SwitchLogic, M: ManagerLo
         (h : ℕ) (frame : List ℕ) → Contains (items_at new.from_hosts h) (Control frame) → ⊥ }
 {}
 
-/// A step that is no switch's drops a frame exactly in these places: a lose event takes it, as `Lost`; its
-/// link fails while it waits there, as `LinkDown`; its host moves while it waits in the host's queue or in
-/// the queue to the host, or it comes out of a port where no host stands that it is for, as `HostGone`.
-/// That a host is no member of a frame's group is said by the next law.
-pub fn a_step_that_is_no_switchs_drops_frames_for_their_causes_alone<
-    S: SwitchLogic,
-    M: ManagerLogic,
-    H: HostLogic,
->()
-    ensures { (old : WorldView) (happens : Event) (new : WorldView) (id : ℕ) (cause : Cause) →
-        WorldStep S.rule M.rule H.rule old happens new → (IsOfSwitch old happens → ⊥) → (cause ≡ NoMember → ⊥) →
-        Contains (written old new) (Dropped id cause) ↔ IsDroppedFor old happens id cause }
-{}
-
-/// Such a step drops a frame as `NoMember` only where it comes out of a port to a host that answers so; and
-/// wherever one does, if its rule leaves its answers to a frame no choice.
-pub fn a_step_that_is_no_switchs_drops_a_frame_where_a_host_is_no_member<
-    S: SwitchLogic,
-    M: ManagerLogic,
-    H: HostLogic,
->()
-    ensures only { (old : WorldView) (happens : Event) (new : WorldView) (id : ℕ) →
-        WorldStep S.rule M.rule H.rule old happens new → (IsOfSwitch old happens → ⊥) →
-        Contains (written old new) (Dropped id NoMember) → IsRefusedByHost H.rule old happens id }
-    ensures always { (old : WorldView) (happens : Event) (new : WorldView) (id : ℕ) →
-        WorldStep S.rule M.rule H.rule old happens new → (IsOfSwitch old happens → ⊥) → AnswersOneWay H.rule →
-        IsRefusedByHost H.rule old happens id → Contains (written old new) (Dropped id NoMember) }
-{}
-
-/// A step of a switch drops a frame only for a cause that its rule names in an act, or as `LinkDown` where
-/// it passes a frame on by a port whose link is failed.
-pub fn a_switch_drops_frames_by_its_rule_or_on_a_failed_link<
-    S: SwitchLogic,
-    M: ManagerLogic,
-    H: HostLogic,
->()
-    ensures { (old : WorldView) (happens : Event) (new : WorldView) (id : ℕ) (cause : Cause) →
-        WorldStep S.rule M.rule H.rule old happens new → IsOfSwitch old happens →
-        Contains (written old new) (Dropped id cause) → IsDroppedBySwitch S.rule old cause }
+/// The frames that a step drops, each with its cause, are just those that its own turn says (`dropped`): what a
+/// switch's acts say of the frame that came and of those that it makes; what waits on a failed link, a lost
+/// item, what waits of a host that moves and for it; and a frame that comes out of a port to nobody that it is
+/// for, or to a host that is no member of its group. And so are the numbers of the frames that it makes.
+pub fn a_step_drops_what_its_turn_says<S: SwitchLogic, M: ManagerLogic, H: HostLogic>()
+    ensures drops { (old : WorldView) (happens : Event) (new : WorldView) (step : WorldStep S.rule M.rule H.rule old happens new) →
+        IsPlan old.plan → drops_in (written old new) ≡ dropped old happens (turn_of S.rule M.rule H.rule old happens new step) }
+    ensures makes { (old : WorldView) (happens : Event) (new : WorldView) (step : WorldStep S.rule M.rule H.rule old happens new) →
+        IsPlan old.plan → made_in (written old new) ≡ made old happens (turn_of S.rule M.rule H.rule old happens new step) }
 {}

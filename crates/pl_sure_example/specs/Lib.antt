@@ -1,0 +1,4 @@
+pub mod Executing
+pub mod Deciding
+pub mod Scene
+pub mod Worked

@@ -49,7 +49,7 @@ use Rattle.pl_attended.proofs.Acts.{IsQuiet, IsSpoken, crossing_quiet, noted_qui
 use Rattle.pl_attended.proofs.Facts.{Facts}
 use Rattle.pl_attended.proofs.Hosts.{answers, asked, host_follows, turn_is_told}
 use Rattle.pl_attended.proofs.Places.{Attends, it_receives, place_of, single_of, six_of, spot_of}
-use Rattle.pl_attended.proofs.Rows.{IsProbed, comes_still}
+use Rattle.pl_attended.proofs.Rows.{KnowsOrProbes, comes_still}
 use Rattle.pl_attended.proofs.Sending.{Keeps, any_spot, kept_places, turn_keeps}
 use Rattle.pl_attended.proofs.Sources.{KnowsAt}
 use Rattle.pl_attended.proofs.Told.{IsTold, Told}
@@ -63,7 +63,7 @@ pub record Goes (at : Spot) (w new : WorldView) : Type 0 where
 
 pub noticed_by : (at : Spot) (w new : WorldView) → Goes at w new → NoticedIn at w → NoticedIn at new
 noticed_by at w new goes noticed = λ v found reached.
-    elim (noticed v (ap (λ (vs : List SwitchView). slice_get vs at.edge) (sym goes.switches) ∙ found) (goes.reached reached)) [ inl knows ↦ inl knows | inr waits ↦ inr (goes.waits waits) ]
+    elim (noticed v (ap (λ (vs : List SwitchView). slice_get vs at.edge) (sym goes.switches) ∙ found) (goes.reached reached)) [ inl knows ↦ inl knows | inr waits ↦ inr (waits.0, goes.waits waits.1) ]
 
 -- an entry that says nothing of the host
 pub told_noted : (h : ℕ) (w : WorldView) (e : Entry) → IsQuiet h e → IsTold h w → IsTold h (noted w e)
@@ -159,7 +159,7 @@ module _ (h : ℕ) (w : WorldView) (f : Facts w) (apart : StandApart w.stands) (
     -- what comes over a link is taken for no host's
     still_known : (id : ℕ) (frame : List ℕ) → (is_control frame ≡ false → item ≡ Data id frame) → (host : Host) (stand : Stand) → slice_get w.stands h ≡ Some stand → (v : SwitchView) → stand.edge.0 ≡ t.0 →
         slice_get w.switches stand.edge.0 ≡ Some v → (choose : Choice) → KnowsAt (me_of host) v stand.port →
-        KnowsAt (me_of host) (switch_step choose v (Comes q frame)).view stand.port ⊎ IsProbed (me_of host) stand.port (switch_step choose v (Comes q frame)).acts
+        KnowsOrProbes (me_of host) stand.port (switch_step choose v (Comes q frame))
     still_known id frame is host stand at_stand v same found choose knows =
         let edge = f.at_edges h stand at_stand in
         let home = f.homes stand.edge.0 stand.port v edge.edge edge.port edge.free found in

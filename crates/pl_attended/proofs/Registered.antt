@@ -33,7 +33,7 @@ use Rattle.pl_world.specs.Booting.{CanBegin, booted}
 use Rattle.pl_world.specs.Runs.{Moment, WorldRun}
 use Rattle.pl_kept.specs.Kept.{Kept}
 use Rattle.pl_kept.proofs.Keeping.{run_keeps_all}
-use Rattle.pl_attended.specs.Attended.{AreAttended, IsKnownAt, NothingWaits, StandsAt}
+use Rattle.pl_attended.specs.Attended.{AreAttended, AreRemembered, IsKnownAt, NothingWaits, StandsAt}
 use Rattle.pl_attended.specs.Registering.{AreRegistered}
 use Rattle.pl_attended.specs.Probes.{is_packet, is_probe}
 use Rattle.pl_attended.specs.Stays.{has_reached}
@@ -67,6 +67,13 @@ all_attended w all h host stand v at reached = elim ((all.each h).noticed host s
   | inr waits ↦ inr waits
 ]
 
+-- an edge switch that is not placed remembers it
+pub all_remembered : (w : WorldView) → AreAttended w → AreRemembered w
+all_remembered w attended h host stand v at reached unsettled = elim (attended h host stand v at reached) [
+  | inl known ↦ known.unplaced unsettled
+  | inr waits ↦ absurd (false≢true (sym unsettled ∙ waits.0))
+]
+
 no_items : {T : Type 0} (xs : List T) → has_items xs ≡ false → xs ≡ []
 no_items [] h = refl
 no_items (x ∷ xs) h = absurd (false≢true (sym h))
@@ -91,7 +98,7 @@ registered_at_rest w kept attended nothing h host stand v at placed reached room
     let down = no_items (items_at w.from_manager stand.edge.0) (nothing (queue.FromManager stand.edge) there) in
     elim (attended h host stand v at reached) [
       | inl known ↦ served_is_registered w kept.addresses.addressed h host stand v at.is_host at.stands at.switch up down (known.placed settled room)
-      | inr waits ↦ elim waits [
+      | inr waits ↦ elim waits.1 [
         | inl probe ↦ absurd (none_of (is_probe (me_of host)) (out_of w stand.edge.0 stand.port) out probe)
         | inr packet ↦ absurd (none_of is_packet (items_at w.from_hosts h) mine packet)
       ]
@@ -108,6 +115,9 @@ module _ (rule : HostRule) (lawful : IsHostRule rule) (sends : HostsSendData rul
 
   pub run_attended : AreAttended new
   run_attended = all_attended new attends
+
+  pub run_remembers : AreRemembered new
+  run_remembers = all_remembered new run_attended
 
   pub run_registers : NothingWaits new → AreRegistered new
   run_registers nothing = λ h host stand v at placed reached room.

@@ -1,5 +1,5 @@
 -- Each row of a switch keeps what it knows of the host at a port; where it takes an address from the host, it sends a probe.
-use Rattle.std.proofs.Common.{◌≡◌, ◌≢◌, ◌⊎◌, ◌<◌, ◌+◌, ◌-◌, ◌||◌, ℕ, nat_lt, Bool, true, false, if◌then◌else◌, set, List, [], ◌∷◌, ◌++◌, length, Option, Some, None, Result, Ok, Err, refl, sym, ap, subst, ◌∙◌, inl, inr, get_or-set_same, length-set}
+use Rattle.std.proofs.Common.{arith, ◌≡◌, ◌≢◌, ◌⊎◌, ◌<◌, ◌+◌, ◌-◌, ◌||◌, ℕ, nat_lt, Bool, true, false, if◌then◌else◌, set, List, [], ◌∷◌, ◌++◌, length, Option, Some, None, Result, Ok, Err, refl, sym, ap, subst, ◌∙◌, inl, inr, get_or-set_same, length-set}
 use Rattle.std.proofs.lemmas.Bool.{cases_Bool, cases_eq, cond_both, false≢true}
 use Rattle.std.proofs.lemmas.Option.{same_Some}
 use Rattle.pl_frame.specs.declared.address.Ip4.{Ip4}
@@ -20,6 +20,7 @@ use Rattle.pl_logic.specs.declared.messages.ToSwitch.TheVariants as say
 use Rattle.pl_logic.specs.declared.switch_records.Grant.{Grant}
 use Rattle.pl_logic.specs.declared.trap.Trap.{Trap}
 use Rattle.pl_logic.specs.PortRecords.{is_open_to_hosts, port_of, with_port}
+use Rattle.pl_logic.specs.SwitchInputs.{SwitchInput}
 use Rattle.pl_logic.specs.SwitchInputs.SwitchInput.{Comes, Says, Tick}
 use Rattle.pl_logic.specs.SwitchViews.{SwitchView}
 use Rattle.pl_logic.specs.Traps.{newer_trap}
@@ -33,6 +34,7 @@ use Rattle.pl_switch_rule.specs.Delivering.{makes}
 use Rattle.pl_switch_rule.specs.Messages.{answer_frame, flood_frame, floods, forgets_members, hears_manager, invalidates, probe_frame, probes, probes_at, sets_trap, takes_pod}
 use Rattle.pl_switch_rule.specs.Positions.{after_vote}
 use Rattle.pl_switch_rule.specs.SwitchRule.{comes_from_switch, control_comes, data_comes, hears_control, switch_step}
+use Rattle.pl_addresses.specs.EdgeAddresses.{is_settled}
 use Rattle.pl_addresses.proofs.Asides.{floods_aside, forgets_members_aside, makes_aside, probes_aside, proposal_aside, switch_frame_aside, takes_in_aside, ticks_aside}
 use Rattle.pl_addresses.proofs.Numbers.{granted_parts, local_settled, number_set_other, number_within}
 use Rattle.pl_addresses.proofs.Placing.{IsPlacing, edge_placing, message_placing, pod_placing, vote_placing}
@@ -45,6 +47,64 @@ pub record IsReady (v : SwitchView) (port : ℕ) : Type 0 where
   pub low : IsLow v.place
   pub has : HasPort v port
   pub within : port < v.k
+
+-- where an address is recalled, the place and the other ports are left alone
+trapping_aside : (v : SwitchView) (old : Pmac) (trap : Trap) (g : Grant) →
+    IsAside (sets_trap v old g trap) (does (sets_trap v old g trap) [] ▹ forgets_members old.port g.amac ▹ probes old g)
+trapping_aside v old trap g =
+    aside_then (sets_trap v old g trap) (does (sets_trap v old g trap) [] ▹ forgets_members old.port g.amac) (probes old g)
+    (aside_then (sets_trap v old g trap) (does (sets_trap v old g trap) []) (forgets_members old.port g.amac)
+    (record { place = refl; k = refl; grants = refl; remembered = refl; silent = tt })
+    (λ u. forgets_members_aside old.port g.amac u)) (λ u. probes_aside old g u)
+
+-- The place of a placed edge switch stays.
+
+changed_place : (v w : SwitchView) → IsPlacing v w → is_settled v.place ≡ true → (changes_to v w).view.place ≡ v.place
+changed_place v w p settled = (alike_changes v w).place ∙ p.place settled
+
+control_place : (v : SwitchView) (q : ℕ) (m : Result Control ControlError) → is_settled v.place ≡ true → (hears_control v q m).view.place ≡ v.place
+control_place v q (Err e) settled = refl
+control_place v q (Ok (control.Ldm id m)) settled = changed_place v (after_message v q id m) (message_placing v q id m) settled
+control_place v q (Ok (control.Proposal id p)) settled = (proposal_aside v q id p).place
+control_place v q (Ok (control.Vote id vote)) settled = changed_place v (after_vote v q vote) (vote_placing v q vote) settled
+
+host_place : (choose : Choice) (v : SwitchView) (q : ℕ) (frame : List ℕ) → is_settled v.place ≡ true → (comes_from_host choose v q frame).view.place ≡ v.place
+host_place choose v q frame settled =
+    let u = (finds_host v q).view in
+    let learnt = (learns_source u q frame).view in
+    cond_both (is_known v.place.level 1 || is_known v.place.level 2) (does v (act.Drop cause.NotPlaced ∷ []))
+    (finds_host v q ▹ (λ u. learns_source u q frame) ▹ takes_in_or_spent choose q frame) (λ (s : SwitchStep). s.view.place ≡ v.place)
+    (λ h. refl)
+    (λ h. (takes_in_aside choose q frame learnt).place ∙ (learns_elsewhere (q + 1) q (λ same. absurd (omega (arith, same))) u frame).place
+    ∙ changed_place v (becomes_edge (with_port v q (record (port_of v q) { host = true }))) (edge_placing v q) settled)
+
+order_place : (choose : Choice) (v : SwitchView) (says : ToSwitch) → is_settled v.place ≡ true → (hears_manager choose v says).view.place ≡ v.place
+order_place choose v (say.Pod pod) settled =
+    cond_both (takes_pod v pod) (changes_to v (with_pod v (Some pod))) (rests v) (λ (s : SwitchStep). s.view.place ≡ v.place)
+    (λ takes. changed_place v (with_pod v (Some pod)) (pod_placing v pod takes) settled) (λ h. refl)
+order_place choose v (say.Avoid list) settled = refl
+order_place choose v (say.Tree group part) settled = refl
+order_place choose v (say.Answer asker asker_ip ip pmac) settled =
+    cond_both (is_granted v asker) (makes choose (answer_frame asker asker_ip ip pmac) v) (rests v) (λ (s : SwitchStep). s.view.place ≡ v.place)
+    (λ h. (makes_aside choose (answer_frame asker asker_ip ip pmac) v).place) (λ h. refl)
+order_place choose v (say.Flood asker asker_ip ip) settled =
+    cond_both (is_granted v asker) (floods v (flood_frame asker asker_ip ip)) (rests v) (λ (s : SwitchStep). s.view.place ≡ v.place)
+    (λ h. (floods_aside v (flood_frame asker asker_ip ip)).place) (λ h. refl)
+order_place choose v (say.Invalidate old new number ip) settled = by (granted v old)
+  where
+    by : (o : Option Grant) → (invalidates v old (record { new = new; number = number; ip = ip }) o).view.place ≡ v.place
+    by None = refl
+    by (Some g) = (trapping_aside v old (record { new = new; number = number; ip = ip }) g).place
+
+pub place_stays : (choose : Choice) (v : SwitchView) (input : SwitchInput) → is_settled v.place ≡ true → (switch_step choose v input).view.place ≡ v.place
+place_stays choose v Tick settled = (ticks_aside v).place
+place_stays choose v (Says says) settled = order_place choose v says settled
+place_stays choose v (Comes q frame) settled =
+    cond_both (is_control frame) (control_comes v q frame) (data_comes choose v q frame) (λ (s : SwitchStep). s.view.place ≡ v.place)
+    (λ h. cond_both (port_of v q).host (rests v) (hears_control v q (control_in (payload_of frame))) (λ (s : SwitchStep). s.view.place ≡ v.place)
+    (λ host. refl) (λ linked. control_place v q (control_in (payload_of frame)) settled))
+    (λ of_data. cond_both (is_open_to_hosts (port_of v q)) (comes_from_host choose v q frame) (comes_from_switch choose v q frame) (λ (s : SwitchStep). s.view.place ≡ v.place)
+    (λ host. host_place choose v q frame settled) (λ linked. (switch_frame_aside choose v q frame).place))
 
 module _ (me : Me) (port : ℕ) where
   -- a step after which all is known that was known
@@ -179,11 +239,7 @@ module _ (me : Me) (port : ℕ) where
 
     step_aside : IsAside trapped step
     unfolding standing trapped step
-    step_aside =
-        aside_then (sets_trap v old g trap) (does (sets_trap v old g trap) [] ▹ forgets_members old.port g.amac) (probes old g)
-        (aside_then (sets_trap v old g trap) (does (sets_trap v old g trap) []) (forgets_members old.port g.amac)
-        (record { place = refl; k = refl; grants = refl; remembered = refl; silent = tt })
-        (λ u. forgets_members_aside old.port g.amac u)) (λ u. probes_aside old g u)
+    step_aside = trapping_aside v old trap g
 
     -- the address of another port, or one that the host does not use
     other_port : port ≢ old.port → Still v step
@@ -248,9 +304,9 @@ module _ (me : Me) (port : ℕ) where
       ]
     ]
 
-  -- what a message of the manager leaves known, or a probe
+  -- what a step leaves known; or it is that of a placed edge switch, and ends with a probe
   abbrev pub KnowsOrProbes : SwitchStep → Type 0
-  KnowsOrProbes s = KnowsAt me s.view port ⊎ IsProbed s.acts
+  KnowsOrProbes s = KnowsAt me s.view port ⊎ ((is_settled s.view.place ≡ true) × IsProbed s.acts)
 
   pub order_known : (choose : Choice) (v : SwitchView) → IsReady v port → (says : ToSwitch) → KnowsAt me v port → KnowsOrProbes (switch_step choose v (Says says))
   unfolding standing trapped step
@@ -271,4 +327,10 @@ module _ (me : Me) (port : ℕ) where
     where
       by : (o : Option Grant) → granted v old ≡ o → KnowsOrProbes (invalidates v old (record { new = new; number = number; ip = ip }) o)
       by None none = inl knows
-      by (Some g) was = invalidated v old (record { new = new; number = number; ip = ip }) g was ready.has.grants knows
+      by (Some g) was = elim (invalidated v old (record { new = new; number = number; ip = ip }) g was ready.has.grants knows) [
+        | inl known ↦ inl known
+        | inr probed ↦ inr (
+          ap (λ (p : Place). is_settled p) (trapping_aside v old (record { new = new; number = number; ip = ip }) g).place ∙ local_settled v old (granted_parts v old g was).0,
+          probed,
+        )
+      ]

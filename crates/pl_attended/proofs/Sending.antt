@@ -28,6 +28,7 @@ use Rattle.pl_addresses.specs.OwnFrames.{IsOwnItem}
 use Rattle.pl_switch_rule.proofs.Shapes.{all_or}
 use Rattle.pl_addresses.proofs.Turns.{exists_at, filled_within}
 use Rattle.pl_addresses.proofs.Words.{any_rest}
+use Rattle.pl_addresses.specs.EdgeAddresses.{is_settled}
 use Rattle.pl_attended.specs.Attended.{StandApart}
 use Rattle.pl_attended.specs.Stays.{Stay, is_among, is_readable, stay_of}
 use Rattle.pl_attended.specs.Probes.{is_packet}
@@ -35,7 +36,7 @@ use Rattle.pl_attended.proofs.Numbers.{IsSoon, IsSoonNumber, found_after}
 use Rattle.pl_attended.proofs.Acts.{IsSpoken, Rest, stay_then}
 use Rattle.pl_attended.proofs.Facts.{Facts}
 use Rattle.pl_attended.proofs.Places.{Attends, own_is, place_of, spot_of}
-use Rattle.pl_attended.proofs.Rows.{IsProbed, comes_still, frame_known}
+use Rattle.pl_attended.proofs.Rows.{KnowsOrProbes, comes_still, frame_known}
 use Rattle.pl_attended.proofs.Sources.{KnowsAt}
 use Rattle.pl_attended.proofs.Told.{IsTold, Told, crossed_stay, crossing_later, crossing_number, told_on}
 use Rattle.pl_attended.proofs.Turns.{IsPlace, Noticed, NoticedIn, Spot, Waits, has_reached_in, noticed_on, queue_to, turn_noticed, turn_rest, turn_told}
@@ -50,14 +51,14 @@ pub record Keeps (h : ℕ) (w new : WorldView) : Type 0 where
 pub turn_keeps : (at : Spot) (w : WorldView) (s : ℕ) (input : SwitchInput) (speech : SpokenFrame) (new : WorldView) → (turn : SwitchTurn Loose w s input speech new) → (t : IsTold at.h w) →
     IsSpoken at.h (stay_of w.journal at.h) w.begun speech → IsPlace at w → NoticedIn at w →
     ((v : SwitchView) → at.edge ≡ s → slice_get w.switches at.edge ≡ Some v → (choose : Choice) → KnowsAt at.me v at.port →
-    KnowsAt at.me (switch_step choose v input).view at.port ⊎ IsProbed at.me at.port (switch_step choose v input).acts) → NoticedIn at new
+    KnowsOrProbes at.me at.port (switch_step choose v input)) → NoticedIn at new
 turn_keeps at w s input speech new turn t spoken place noticed still =
     turn_noticed at w s input speech new turn t spoken place
     (λ v same found choose reached. by v same (ap (λ n. slice_get w.switches n) same ∙ found) choose (noticed v (ap (λ n. slice_get w.switches n) same ∙ found) reached))
     (λ other. noticed)
   where
     by : (v : SwitchView) → at.edge ≡ s → slice_get w.switches at.edge ≡ Some v → (choose : Choice) → Noticed at v (queue_to at w) (items_at w.from_hosts at.h) →
-        (KnowsAt at.me (switch_step choose v input).view at.port ⊎ IsProbed at.me at.port (switch_step choose v input).acts) ⊎ Waits at (queue_to at w) (items_at w.from_hosts at.h)
+        KnowsOrProbes at.me at.port (switch_step choose v input) ⊎ ((is_settled v.place ≡ true) × Waits at (queue_to at w) (items_at w.from_hosts at.h))
     by v same found choose (inl knows) = inl (still v same found choose knows)
     by v same found choose (inr waits) = inr waits
 
@@ -152,10 +153,13 @@ module _ (h : ℕ) (w : WorldView) (f : Facts w) (apart : StandApart w.stands) (
               elim (a.noticed host stand at_host at_stand v here before) [
                 | inl knows ↦
                     inl (inl (comes_still (me_of host) stand.port v home.ready choose gs.port frame (λ no_control takes. inr (ports, (mine.source, inr silent.1))) knows))
-                | inr waits ↦ elim waits [
-                  | inl probe ↦ inr (inl probe)
-                  | inr packet ↦ inr (inr (still_packet silent.0 packet))
-                ]
+                | inr waits ↦ inr (
+                  waits.0,
+                  elim waits.1 [
+                    | inl probe ↦ inl probe
+                    | inr packet ↦ inr (still_packet silent.0 packet)
+                  ],
+                )
               ]
         ])
         (λ other. absurd (other (ap (λ (x : Stand). x.edge.0) stand_is)))

@@ -11,6 +11,7 @@ use Rattle.pl_wiring.specs.Index.{port_index}
 use Rattle.pl_wiring.specs.LiveLinks.{is_live_at}
 use Rattle.pl_wiring.specs.Peers.{peer_of}
 use Rattle.pl_wiring.specs.Plan.{Plan}
+use Rattle.pl_layouts.specs.declared.place.Place.{Place}
 use Rattle.pl_layouts.specs.Frames.{arriving}
 use Rattle.pl_logic.specs.declared.acts.Act.{Act}
 use Rattle.pl_logic.specs.declared.acts.Act.TheVariants as act
@@ -28,13 +29,14 @@ use Rattle.pl_world.specs.Changes.{is_failed_at}
 use Rattle.pl_world.specs.SwitchActs.{Doing, act_done, acts_done, begins}
 use Rattle.pl_world.specs.WorldRule.{SwitchTurn}
 use Rattle.pl_world.specs.Worlds.{WorldView}
+use Rattle.pl_addresses.specs.EdgeAddresses.{is_settled}
 use Rattle.pl_addresses.proofs.Words.{get-set_other, get-set_same}
 use Rattle.pl_attended.specs.Stays.{Stay, stay_of}
 use Rattle.pl_attended.specs.Probes.{is_packet, is_probe}
 use Rattle.pl_attended.proofs.Numbers.{any_last}
 use Rattle.pl_attended.proofs.Acts.{Good, IsSpoken, Rest, Stepped, all_acts, one_act, rest_of, switch_steps}
 use Rattle.pl_attended.proofs.Frames.{probe_is_one}
-use Rattle.pl_attended.proofs.Rows.{IsProbed}
+use Rattle.pl_attended.proofs.Rows.{IsProbed, KnowsOrProbes, place_stays}
 use Rattle.pl_attended.proofs.Sources.{KnowsAt}
 use Rattle.pl_attended.proofs.Told.{IsTold, switch_told}
 
@@ -56,9 +58,9 @@ module _ (at : Spot) where
   abbrev pub Waits : List Item → List Item → Type 0
   Waits queue mine = (list_any (is_probe at.me) queue ≡ true) ⊎ (list_any is_packet mine ≡ true)
 
-  -- the host is known to an edge switch, or that waits
+  -- the host is known to an edge switch, or that is placed, and one of these waits
   abbrev pub Noticed : SwitchView → List Item → List Item → Type 0
-  Noticed v queue mine = KnowsAt at.me v at.port ⊎ Waits queue mine
+  Noticed v queue mine = KnowsAt at.me v at.port ⊎ ((is_settled v.place ≡ true) × Waits queue mine)
 
   abbrev pub NoticedIn : WorldView → Type 0
   NoticedIn w = (v : SwitchView) → slice_get w.switches at.edge ≡ Some v → has_reached_in w ≡ true → Noticed v (queue_to w) (items_at w.from_hosts at.h)
@@ -80,7 +82,7 @@ module _ (at : Spot) where
   pub noticed_on : (w new : WorldView) → Follows w new → NoticedIn w → NoticedIn new
   noticed_on w new f noticed = λ v found reached. elim (noticed v (ap (λ (vs : List SwitchView). slice_get vs at.edge) (sym f.switches) ∙ found) (f.reached reached)) [
     | inl knows ↦ inl knows
-    | inr waits ↦ elim waits [ inl probe ↦ inr (inl (f.out probe)) | inr packet ↦ inr (inr (f.mine packet)) ]
+    | inr waits ↦ inr (waits.0, elim waits.1 [ inl probe ↦ inl (f.out probe) | inr packet ↦ inr (f.mine packet) ])
   ]
 
   -- ---- a switch
@@ -145,7 +147,7 @@ module _ (at : Spot) where
     -- what is known then
     pub turn_noticed : IsPlace w →
         ((v : SwitchView) → at.edge ≡ s → slice_get w.switches s ≡ Some v → (choose : Choice) → has_reached_in w ≡ true →
-        (KnowsAt at.me (switch_step choose v input).view at.port ⊎ IsProbed at.me at.port (switch_step choose v input).acts) ⊎ Waits (queue_to w) (items_at w.from_hosts at.h)) →
+        KnowsOrProbes at.me at.port (switch_step choose v input) ⊎ ((is_settled v.place ≡ true) × Waits (queue_to w) (items_at w.from_hosts at.h))) →
         (at.edge ≢ s → NoticedIn w) → NoticedIn new
     turn_noticed place here there = λ v found reached.
         let was : has_reached_in w ≡ true = ap (λ (x : Stay). x.reached) (sym stepped.is) ∙ reached in
@@ -156,16 +158,24 @@ module _ (at : Spot) where
               let view : turn.after ≡ v =
               same_Some turn.after v (sym (get-set_same w.switches s turn.after (slice_get_within w.switches s turn.before turn.found)) ∙ ap (λ n. slice_get (set w.switches s turn.after) n) (sym same) ∙ found_in) in
               let steps = turn.ruled.steps in
+              let settled_then : (switch_step turn.ruled.choose turn.before input).view.place ≡ turn.before.place → is_settled turn.before.place ≡ true → is_settled v.place ≡ true =
+              λ stays settled. ap (λ (u : SwitchView). is_settled u.place) (sym view ∙ steps.view) ∙ ap (λ (p : Place). is_settled p) stays ∙ settled in
               elim (here turn.before same turn.found turn.ruled.choose was) [
-                | inr waits ↦ inr (still waits)
+                | inr waits ↦ inr (
+                  settled_then (place_stays turn.ruled.choose turn.before input waits.0) waits.0,
+                  still waits.1,
+                )
                 | inl known ↦ elim known [
                   | inl knows ↦ inl (subst (λ (u : SwitchView). KnowsAt at.me u at.port) (sym steps.view ∙ view) knows)
-                  | inr probed ↦ inr (inl (probe_waits same place (subst (λ (xs : List Act). IsProbed at.me at.port xs) (sym steps.done) probed)))
+                  | inr probed ↦ inr (
+                    ap (λ (u : SwitchView). is_settled u.place) (sym view ∙ steps.view) ∙ probed.0,
+                    inl (probe_waits same place (subst (λ (xs : List Act). IsProbed at.me at.port xs) (sym steps.done) probed.1)),
+                  )
                 ]
               ]
           | inr other ↦ elim (there other v (sym (get-set_other w.switches s at.edge turn.after other) ∙ found_in) was) [
             | inl knows ↦ inl knows
-            | inr waits ↦ inr (still waits)
+            | inr waits ↦ inr (waits.0, still waits.1)
           ]
         ]
       where

@@ -29,15 +29,20 @@ pub record StandsAt (w : WorldView) (h : ℕ) (host : Host) (stand : Stand) (v :
   pub stands : slice_get w.stands h ≡ Some stand
   pub switch : slice_get w.switches stand.edge.0 ≡ Some v
 
--- it is known there, or a probe of it waits at its port, or an ARP frame that can be read in its own queue
+-- it is known there, or that switch is placed, and a probe of it waits at its port, or an ARP frame that can be read in its own queue
 abbrev pub IsAttended : WorldView → ℕ → Host → Stand → SwitchView → Type 0
 IsAttended w h host stand v =
     IsKnownAt v stand.port (me_of host)
-    ⊎ ((list_any (is_probe (me_of host)) (out_of w stand.edge.0 stand.port) ≡ true) ⊎ (list_any is_packet (items_at w.from_hosts h) ≡ true))
+    ⊎ ((is_settled v.place ≡ true) × ((list_any (is_probe (me_of host)) (out_of w stand.edge.0 stand.port) ≡ true) ⊎ (list_any is_packet (items_at w.from_hosts h) ≡ true)))
 
 -- each host of which such a frame reached the edge switch where it stands
 abbrev pub AreAttended : WorldView → Type 0
 AreAttended w = (h : ℕ) (host : Host) (stand : Stand) (v : SwitchView) → StandsAt w h host stand v → has_reached w.journal h ≡ true → IsAttended w h host stand v
+
+-- An edge switch that is not placed remembers each of these hosts, with its IPv4 address.
+abbrev pub AreRemembered : WorldView → Type 0
+AreRemembered w = (h : ℕ) (host : Host) (stand : Stand) (v : SwitchView) → StandsAt w h host stand v → has_reached w.journal h ≡ true → is_settled v.place ≡ false →
+    remembered_at v stand.port ≡ Some (record { amac = host.mac; ip = Some host.ip })
 
 -- no two hosts stand at one place
 abbrev pub StandApart : List Stand → Type 0

@@ -7,7 +7,7 @@ ghost use Rattle.pl_world.specs.declared.limits.Limits.{Limits};
 ghost use Rattle.pl_world.specs.Booting.{CanBegin, booted};
 ghost use Rattle.pl_world.specs.Runs.{Moment, WorldRun};
 ghost use Rattle.pl_world.specs.Worlds.{WorldView};
-ghost use Rattle.pl_attended.specs.Attended.{AreAttended, StandApart};
+ghost use Rattle.pl_attended.specs.Attended.{AreAttended, AreRemembered, StandApart};
 ghost use Rattle.pl_attended.specs.Stays.{HasReached, has_reached};
 
 use pl_host_rule::LawfulHost;
@@ -21,11 +21,18 @@ pub fn what_a_journal_says_of_a_host_that_reached_its_edge_switch()
 
 /// In every run each host is attended to of which an ARP frame that can be read reached the edge switch where
 /// it stands: that switch remembers it until it is placed, and then has an address in use for it, with its
-/// IPv4 address, unless the addresses of the port are used up; or a probe of the host waits at its port, or such
-/// a frame in its own queue.
+/// IPv4 address, unless the addresses of the port are used up; or it is placed, and a probe of the host waits at
+/// its port, or such a frame in the host's own queue.
 pub fn hosts_are_attended_in_every_run<H: LawfulHost>()
     ensures { (plan : Plan) (limits : Limits) (moments : List Moment) (new : WorldView) → CanBegin plan →
         WorldRun Loose manager_rule H.rule (booted plan limits) moments new → AreAttended new }
+{}
+
+/// So an edge switch that is not placed remembers, with its IPv4 address, each host of which an ARP frame that can
+/// be read reached it on the host's present port since the host came there.
+pub fn unplaced_edge_switches_remember_hosts<H: LawfulHost>()
+    ensures { (plan : Plan) (limits : Limits) (moments : List Moment) (new : WorldView) → CanBegin plan →
+        WorldRun Loose manager_rule H.rule (booted plan limits) moments new → AreRemembered new }
 {}
 
 /// In every run no two hosts stand at one place, whatever hosts do.

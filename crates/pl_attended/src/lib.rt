@@ -4,6 +4,7 @@
 
 pub use attended_laws::{
     hosts_are_attended_in_every_run, no_two_hosts_stand_at_one_place,
+    unplaced_edge_switches_remember_hosts,
     what_a_journal_says_of_a_host_that_reached_its_edge_switch,
 };
 pub use registration_laws::{

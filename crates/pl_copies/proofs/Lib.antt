@@ -7,3 +7,4 @@ pub mod SinglePasses
 pub mod Turning
 pub mod Happening
 pub mod Runs
+pub mod Alone

@@ -95,7 +95,7 @@ mark_once w (Moved host edge port) is c = absurd is
 
 -- What is kept says this of the journal.
 
-born_at_most_one : (id many : ℕ) → born id many ≤ 1
+pub born_at_most_one : (id many : ℕ) → born id many ≤ 1
 born_at_most_one id many = by_test _
   where
     by_test : (b : Bool) → (if b then 1 else 0) ≤ 1
@@ -162,7 +162,7 @@ none_came plan (Unsettled n ∷ past) r there none = none_came plan past r there
 
 -- a frame that waits at a port for hosts is the first of its root there
 
-count_all-at : (test : ℕ → ℕ → List ℕ → Bool) (queues : List (List Item)) (n : ℕ) → count_in (test n) (get_or queues n []) ≤ count_all test queues
+pub count_all-at : (test : ℕ → ℕ → List ℕ → Bool) (queues : List (List Item)) (n : ℕ) → count_in (test n) (get_or queues n []) ≤ count_all test queues
 count_all-at test [] n = omega arith
 count_all-at test (queue ∷ queues) zero = omega arith
 count_all-at test (queue ∷ queues) (suc n) = omega (arith, count_all-at (λ i. test (suc i)) queues n)

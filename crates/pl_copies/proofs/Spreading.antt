@@ -35,13 +35,13 @@ use Rattle.pl_copies.proofs.Ways.{CountsAlone, LeadsDown, Rung, leads_apart, lea
 use Rattle.pl_copies.proofs.Ways.Rung.{DownFromCore, DownToEdge, UpFromEdge, UpToCore}
 
 -- which way a frame of a group goes, by the rank of the switch and of the neighbour that it came from
-abbrev GoesBy : ℕ → ℕ → Way → Type 0
+abbrev pub GoesBy : ℕ → ℕ → Way → Type 0
 GoesBy own other Up = other < own
 GoesBy own other Down = (own ≡ 2) ⊎ ((own ≡ 1) × (own < other))
 GoesBy own other ToHosts = own ≡ 0
 GoesBy own other Nowhere = Unit {0}
 
-ways : (level position pod near : Option ℕ) (own other : ℕ) → ((n : ℕ) → level ≡ Some n → n ≡ own) → ((n : ℕ) → near ≡ Some n → n ≡ other) →
+pub ways : (level position pod near : Option ℕ) (own other : ℕ) → ((n : ℕ) → level ≡ Some n → n ≡ own) → ((n : ℕ) → near ≡ Some n → n ≡ other) →
     GoesBy own other (way_of (record { level = level; position = position; pod = pod }) (came_between level near))
 ways None position pod near own other is also = tt
 ways (Some a) position pod None own other is also =
@@ -126,14 +126,14 @@ module _ (plan : Plan) (is_plan : IsPlan plan) (t : ℕ) (there : Spot) (frame :
 
 -- What a switch knows of its ports.
 module _ (plan : Plan) (is_plan : IsPlan plan) (t : ℕ) (v : SwitchView) (knows : KnowsTree plan t v) where
-  record IsNamedDown (group q : ℕ) : Type 0 where
-    part : TreePart
-    id : SwitchId
-    part_is : part_of v group ≡ Some part
-    id_is : id_at v q ≡ Some id
-    named : list_any (λ d. d.0 == id.0) part.down ≡ true
+  pub record IsNamedDown (group q : ℕ) : Type 0 where
+    pub part : TreePart
+    pub id : SwitchId
+    pub part_is : part_of v group ≡ Some part
+    pub id_is : id_at v q ≡ Some id
+    pub named : list_any (λ d. d.0 == id.0) part.down ≡ true
 
-  named_down : (group q : ℕ) → is_down (part_of v group) (id_at v q) ≡ true → IsNamedDown group q
+  pub named_down : (group q : ℕ) → is_down (part_of v group) (id_at v q) ≡ true → IsNamedDown group q
   named_down group q down = by_both (part_of v group) (id_at v q) refl refl down
     where
       by_both : (o : Option TreePart) (x : Option SwitchId) → part_of v group ≡ o → id_at v q ≡ x → is_down o x ≡ true → IsNamedDown group q
@@ -141,25 +141,35 @@ module _ (plan : Plan) (is_plan : IsPlan plan) (t : ℕ) (v : SwitchView) (knows
       by_both (Some part) None part_is id_is is = absurd (false≢true is)
       by_both (Some part) (Some id) part_is id_is is = record { part = part; id = id; part_is = part_is; id_is = id_is; named = is }
 
-  below : (group q : ℕ) (u : SwitchNo) (r : ℕ) (n : IsNamedDown group q) → (rank (label_of plan.k t) ≡ 2) ⊎ (rank (label_of plan.k t) ≡ 1) → peer_of plan t q ≡ Switch u r →
-      rank (label_of plan.k u.0) < rank (label_of plan.k t)
-  below group q u r n (inr one) peer = (let edge = knows.parts group n.part q u r n.id one n.part_is peer n.id_is n.named in omega arith)
-  below group q u r n (inl two) peer = by_rung (rung plan is_plan t q u r peer)
-    where
-      by_rung : Rung plan.k t u.0 → rank (label_of plan.k u.0) < rank (label_of plan.k t)
-      by_rung (UpFromEdge p i j at to) = (let x = ap rank at in absurd (omega arith))
-      by_rung (UpToCore p j m at to) = (let x = ap rank at in absurd (omega arith))
-      by_rung (DownFromCore p j m at to) = (let x = ap rank to in omega arith)
-      by_rung (DownToEdge p i j at to) = (let x = ap rank at in absurd (omega arith))
+  pub below : (group q : ℕ) (u : SwitchNo) (r : ℕ) → IsNamedDown group q → peer_of plan t q ≡ Switch u r → rank (label_of plan.k u.0) + 1 ≡ rank (label_of plan.k t)
+  below group q u r n peer = knows.down group n.part q u r n.id n.part_is peer n.id_is n.named
 
-  pub leads_down : (group q : ℕ) → (rank (label_of plan.k t) ≡ 2) ⊎ (rank (label_of plan.k t) ≡ 1) →
-      (is_usable v q && is_down (part_of v group) (id_at v q)) ≡ true → LeadsDown plan t q
-  leads_down group q level passes =
+  pub above : (group q : ℕ) (u : SwitchNo) (r : ℕ) → is_up (part_of v group) (id_at v q) ≡ true → peer_of plan t q ≡ Switch u r →
+      rank (label_of plan.k u.0) ≡ rank (label_of plan.k t) + 1
+  above group q u r leads peer = by_both (part_of v group) (id_at v q) refl refl leads
+    where
+      by_up : (part : TreePart) (id : SwitchId) (o : Option SwitchId) → part_of v group ≡ Some part → id_at v q ≡ Some id → part.up ≡ o →
+          is_up (Some (record { up = o; down = part.down })) (Some id) ≡ true → rank (label_of plan.k u.0) ≡ rank (label_of plan.k t) + 1
+      by_up part id None part_is id_is up_is is = absurd (false≢true is)
+      by_up part id (Some x) part_is id_is up_is is = knows.up group part q u r id part_is peer id_is
+          (up_is ∙ ap Some (ap (λ n. let y : SwitchId = record { 0 = n } in y) (eqb-true x.0 id.0 is)))
+
+      by_both : (o : Option TreePart) (x : Option SwitchId) → part_of v group ≡ o → id_at v q ≡ x → is_up o x ≡ true → rank (label_of plan.k u.0) ≡ rank (label_of plan.k t) + 1
+      by_both None x part_is id_is is = absurd (false≢true is)
+      by_both (Some part) None part_is id_is is = absurd (no_id part.up is)
+        where
+          no_id : (o : Option SwitchId) → is_up (Some (record { up = o; down = part.down })) None ≡ true → ⊥
+          no_id None e = false≢true e
+          no_id (Some y) e = false≢true e
+      by_both (Some part) (Some id) part_is id_is is = by_up part id part.up part_is id_is refl is
+
+  pub leads_down : (group q : ℕ) → (is_usable v q && is_down (part_of v group) (id_at v q)) ≡ true → LeadsDown plan t q
+  leads_down group q passes =
       let n = named_down group q (and_parts (is_usable v q) (is_down (part_of v group) (id_at v q)) passes).1 in
       by_peer n (peer_of plan t q) refl
     where
       by_peer : IsNamedDown group q → (p : Peer) → peer_of plan t q ≡ p → LeadsDown plan t q
-      by_peer n (Switch u r) peer = record { to = u; at = r; peer = peer; lower = below group q u r n level peer }
+      by_peer n (Switch u r) peer = record { to = u; at = r; peer = peer; lower = (let next = below group q u r n peer in omega (arith, next)) }
       by_peer n HostPort peer = (let none : id_at v q ≡ None = ap heard_id (knows.strangers q peer) in let some = n.id_is in absurd (cc))
 
   pub for_hosts : (group q : ℕ) (source : Pmac) → (is_reached v group q && not (is_source v source q)) ≡ true → peer_of plan t q ≡ HostPort
@@ -239,12 +249,12 @@ module _ (plan : Plan) (is_plan : IsPlan plan) (t : ℕ) (v : SwitchView) (knows
     few_by Down number source (inl two) =
         let most = most_at_core two in
         let test : ℕ → Bool = λ p. is_usable v p && is_down (part_of v number) (id_at v p) in
-        let down : (p : ℕ) → test p ≡ true → LeadsDown plan t p = λ p passes. leads_down number p (inl two) passes in
+        let down : (p : ℕ) → test p ≡ true → LeadsDown plan t p = λ p passes. leads_down number p passes in
         one_only test (λ p. claim plan t p there frame) (claim plan s port there frame) 0 v.k
         (counts_alone plan is_plan t there frame group test (claim plan s port there frame) down (λ p d may. omega arith))
     few_by Down number source (inr below_core) =
         let test : ℕ → Bool = λ p. is_usable v p && is_down (part_of v number) (id_at v p) in
-        let down : (p : ℕ) → test p ≡ true → LeadsDown plan t p = λ p passes. leads_down number p (inr below_core.0) passes in
+        let down : (p : ℕ) → test p ≡ true → LeadsDown plan t p = λ p passes. leads_down number p passes in
         one_only test (λ p. claim plan t p there frame) (claim plan s port there frame) 0 v.k
         (counts_alone plan is_plan t there frame group test (claim plan s port there frame) down (λ p d may. from_core p below_core.0 below_core.1 d may))
     few_by ToHosts number source zero_rank =

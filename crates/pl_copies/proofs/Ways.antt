@@ -10,7 +10,7 @@ use Rattle.pl_wiring.specs.declared.link.Link.{Link}
 use Rattle.pl_wiring.specs.declared.link.Peer.{Peer}
 use Rattle.pl_wiring.specs.declared.link.Peer.TheVariants.{Switch}
 use Rattle.pl_wiring.specs.FatTree.{IsBelow, IsTreeLink}
-use Rattle.pl_wiring.specs.Labels.{label_of, number_of}
+use Rattle.pl_wiring.specs.Labels.{IsLabel, label_of, number_of}
 use Rattle.pl_wiring.specs.Peers.{IsBetween, IsPeer, peer_of}
 use Rattle.pl_wiring.specs.Plan.{IsPlan, Plan}
 use Rattle.pl_wiring.proofs.Ends.{at_contained}
@@ -63,6 +63,17 @@ module _ (plan : Plan) (is_plan : IsPlan plan) where
         elim (says.2) [
           | inl up ↦ subst (λ n. Rung plan.k s n) up.2 (subst (λ n. Rung plan.k n says.0.upper.0) up.0 both.0)
           | inr down ↦ subst (λ n. Rung plan.k s n) down.2 (subst (λ n. Rung plan.k n says.0.lower.0) down.0 both.1)
+        ]
+
+    -- the label of the switch at the other end is one of the tree
+    pub label_there : IsLabel plan.k (label_of plan.k t.0)
+    label_there =
+        let tree : IsTreeLink plan.k says.0 = at_contained (IsTreeLink plan.k) plan.links says.0 is_plan.tree.no_other says.1 in
+        let low : label_of plan.k says.0.lower.0 ≡ tree.lower = ap (label_of plan.k) tree.joins.0 ∙ label_of-number_of plan.k tree.lower tree.lower_in_range in
+        let high : label_of plan.k says.0.upper.0 ≡ tree.upper = ap (label_of plan.k) tree.joins.1 ∙ label_of-number_of plan.k tree.upper tree.upper_in_range in
+        elim (says.2) [
+          | inl up ↦ subst (λ l. IsLabel plan.k l) (sym high ∙ ap (label_of plan.k) up.2) tree.upper_in_range
+          | inr down ↦ subst (λ l. IsLabel plan.k l) (sym low ∙ ap (label_of plan.k) down.2) tree.lower_in_range
         ]
 
     between : IsBetween says.0 s t.0

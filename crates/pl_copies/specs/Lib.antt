@@ -1,2 +1,3 @@
 pub mod Copies
 pub mod Standing
+pub mod Alone

@@ -16,6 +16,7 @@ ghost use Rattle.pl_world.specs.Flying.{IsCounted};
 ghost use Rattle.pl_world.specs.Refusals.{refusal};
 ghost use Rattle.pl_world.specs.WorldRule.{WorldStep};
 ghost use Rattle.pl_world.specs.Worlds.{WorldView};
+ghost use Rattle.pl_copies.specs.Alone.{AreAlone};
 ghost use Rattle.pl_copies.specs.Copies.{ComesOnce, came_to};
 ghost use Rattle.pl_copies.specs.Standing.{KnowTrees};
 
@@ -42,4 +43,9 @@ pub fn copies_come_once()
     ensures first { (w : WorldView) (s port id : ℕ) (frame : List ℕ) (items : List Item) → ComesOnce w → port < w.plan.k →
         peer_of w.plan s port ≡ HostPort → out_of w s port ≡ Data id frame ∷ items →
         root_arrived_at w.plan (reverse w.journal) (root (reverse w.journal) id) (at_port s port) ≡ false }
+{}
+
+/// And at most one of a root is on its way up, and at most one waits in the queue out of each port.
+pub fn frames_of_a_root_are_alone()
+    ensures { (w : WorldView) → IsCounted w → ComesOnce w → AreAlone w }
 {}

@@ -3,7 +3,8 @@
 #![tactic(auto)]
 
 pub use copy_laws::{
-    copies_come_once, each_step_lets_one_copy_come, no_copy_is_on_its_way_at_first,
+    copies_come_once, each_step_lets_one_copy_come, frames_of_a_root_are_alone,
+    no_copy_is_on_its_way_at_first,
 };
 
 mod copy_laws;

@@ -42,6 +42,7 @@ use Rattle.pl_world.specs.WorldRule.{SwitchTurn}
 use Rattle.pl_world.specs.Worlds.{WorldView}
 use Rattle.pl_world.proofs.StepBalances.{sound}
 use Rattle.pl_flights.specs.OnTheWay.{Book, IsBetween, IsGoing, IsTold, book_of, place_in}
+use Rattle.pl_copies.specs.Standing.{KnowTrees}
 use Rattle.pl_flights.specs.Standing.{KnowsAddresses, KnowsNeighbours, KnowsPlaces, StandsOn}
 use Rattle.pl_flights.proofs.ForwardActs.{crossed_at}
 use Rattle.pl_flights.proofs.Hands.{GoodActs, Hand, made_here}
@@ -117,10 +118,10 @@ module _ (plan : Plan) (place : ℕ → Place) (book : Book) (t : ℕ) (v : Swit
         (tells_good (trap_for v (destination frame))) knows choose is level placed frame long f again here own)
 
 -- a data frame comes over a link
-pub over_link_told : (w : WorldView) → IsCounted w → IsTold w → StandsOn w → AccountsForFrames Loose → (s port id : ℕ) (frame : List ℕ) (items : List Item) →
+pub over_link_told : (w : WorldView) → IsCounted w → IsTold w → StandsOn w → KnowTrees w → AccountsForFrames Loose → (s port id : ℕ) (frame : List ℕ) (items : List Item) →
     port < w.plan.k → out_of w s port ≡ Data id frame ∷ items → (t : SwitchNo) (q : ℕ) → peer_of w.plan s port ≡ Switch t q → (new : WorldView) →
     SwitchTurn Loose (noted (taken_out w s port items) (Crossed id t)) t.0 (Comes q frame) (Waiting id false) new → IsTold new
-over_link_told w counted told on accounts s port id frame items within head t q peer new turn =
+over_link_told w counted told on trees accounts s port id frame items within head t q peer new turn =
     let took = taken w counted told s port id frame items within head in
     let past = reverse w.journal in
     let b : IsBetween w.plan (place_in w.switches) (book_of past) (flight_of w.plan past id) (was_live past id s t.0) frame s t.0 =
@@ -141,4 +142,4 @@ over_link_told w counted told on accounts s port id frame items within head t q 
       sender = (b.one unicast).sender;
       unaltered = (b.one unicast).unaltered;
     }) own in
-    comes_told w counted told on s port id frame items within head t q peer accounts home new turn
+    comes_told w counted told on s port id frame items within head t q peer accounts trees home new turn

@@ -137,7 +137,7 @@ module _ (manager : ManagerRule) (host : HostRule) (accounts : AccountsForFrames
         | inr stays ↦ inl stays
       ]) given.more
   over_told s port (Data id frame) items (Switch t q) within head peer turn =
-      over_link_told w counted told on accounts s port id frame items within head t q peer new turn
+      over_link_told w counted told on given.trees accounts s port id frame items within head t q peer new turn
   over_told s port (Control frame) items HostPort within head peer is = subst IsTold (sym is) (lost_told w s port (Control frame) items counted told within head)
   over_told s port (Data id frame) items HostPort within head peer comes =
       comes_out_told w counted told s port id frame items within head peer host keeps sends (given.come_first s port id frame items within peer head) given.members (receiver w s port frame) refl new comes
@@ -233,6 +233,7 @@ stepped_given manager host old new n given = record {
   numbers = given.numbers;
   come_first = given.come_first;
   members = given.members;
+  trees = record { free = given.trees.free; each = given.trees.each; closed = given.trees.closed };
 }
 
 -- each step

@@ -36,8 +36,10 @@ use Rattle.pl_switch_rule.specs.Forwarding.{Choice, candidates, candidates_by, c
 use Rattle.pl_switch_rule.specs.Granting.{is_local}
 use Rattle.pl_switch_rule.specs.GroupForwarding.{at_most_one, destination_group, forwards_group, group_ports, is_reached, is_source, passes_or_drops, way_of}
 use Rattle.pl_switch_rule.specs.SwitchRule.{IsChoice, comes_from_switch}
+use Rattle.pl_copies.specs.Standing.{KnowsTree}
 use Rattle.pl_flights.specs.OnTheWay.{Book, IsBetween, IsForMany}
 use Rattle.pl_flights.specs.Standing.{KnowsAddresses, KnowsNeighbours, KnowsPlaces}
+use Rattle.pl_flights.proofs.GroupLegs.{AreWaysOn, IsWayOn, all_filtered, first_alone, ways_on}
 use Rattle.pl_flights.proofs.Hands.{GoodActs, MayEnd, MayLeave}
 use Rattle.pl_flights.proofs.Hands.Hand.{Spreads, Waits}
 use Rattle.pl_flights.proofs.Passing.{passes_on}
@@ -108,17 +110,6 @@ not_is_true false is = refl
 abbrev pub MayReach : SwitchView → Pmac → ℕ → Type 0
 MayReach v source p = (is_usable v p ≡ true) ⊎ (is_source v source p ≡ false)
 
-all_filtered : (P : ℕ → Type 0) (test : ℕ → Bool) → ((p : ℕ) → test p ≡ true → P p) → (ports : List ℕ) → AllByRecursion P (filter test ports)
-all_filtered P test passes [] = tt
-all_filtered P test passes (p ∷ ports) = elim (cases_Bool (test p)) [
-  | inl is ↦ subst (λ l. AllByRecursion P l) (sym (cond-true (test p) (p ∷ filter test ports) (filter test ports) is)) (passes p is, all_filtered P test passes ports)
-  | inr not_it ↦ subst (λ l. AllByRecursion P l) (sym (cond-false (test p) (p ∷ filter test ports) (filter test ports) not_it)) (all_filtered P test passes ports)
-]
-
-first_alone : (P : ℕ → Type 0) (ports : List ℕ) → AllByRecursion P ports → AllByRecursion P (at_most_one ports)
-first_alone P [] all = tt
-first_alone P (p ∷ ports) all = (all.0, tt)
-
 -- the ports by which a frame of a group leaves
 pub group_ports_reach : (v : SwitchView) (way : Way) (group : ℕ) (source : Pmac) → AllByRecursion (MayReach v source) (group_ports v way group source)
 group_ports_reach v Up group source = first_alone (MayReach v source) _ (all_filtered (MayReach v source) _
@@ -151,7 +142,7 @@ reaches_host plan place book t v neighbours addresses frame p x fits source ther
 
 module _ (plan : Plan) (place : ℕ → Place) (book : Book) (t : ℕ) (v : SwitchView) (is_plan : IsPlan plan) (places : KnowsPlaces plan.k place)
     (knows : KnowsNeighbours plan place t v) (addresses : KnowsAddresses plan book t v) (s q port : ℕ) (from : peer_of plan t q ≡ Switch (record { 0 = s }) port) (f : Flight) (frame : List ℕ)
-    (b : IsBetween plan place book f true frame s t) where
+    (b : IsBetween plan place book f true frame s t) (trees : KnowsTree plan t v) where
   abbrev Good : List Act → Type 0
   Good acts = GoodActs plan place book t acts (Waits (crossed_at t f) false)
 
@@ -167,18 +158,19 @@ module _ (plan : Plan) (place : ℕ → Place) (book : Book) (t : ℕ) (v : Swit
   }
 
   -- a frame of a group goes out by ports to other switches, and by ports of hosts but that of its source
-  may_spread : (p : ℕ) (peer : Peer) → peer_of plan t p ≡ peer → MayReach v (pmac_of (source_of frame)) p → is_group (destination_of frame) ≡ true →
-      MayLeave plan place book t p peer (crossed_at t f) frame
-  may_spread p (Switch u r) is may group = record {
+  may_spread : (p : ℕ) (peer : Peer) → peer_of plan t p ≡ peer → MayReach v (pmac_of (source_of frame)) p → IsWayOn plan t (t ∷ f.leg) peer →
+      is_group (destination_of frame) ≡ true → MayLeave plan place book t p peer (crossed_at t f) frame
+  may_spread p (Switch u r) is may on group = record {
     last = refl;
     group = b.group;
     kept = b.kept;
     address = b.address;
     home = b.home;
     many = λ group. crossed_many (b.many group);
+    rises = λ group. on;
     one = λ unicast. absurd (both_ways (is_group (destination_of frame)) unicast group);
   }
-  may_spread p HostPort is may group = record {
+  may_spread p HostPort is may on group = record {
     last = refl;
     group = b.group;
     kept = b.kept;
@@ -186,13 +178,14 @@ module _ (plan : Plan) (place : ℕ → Place) (book : Book) (t : ℕ) (v : Swit
         (b.many group).there (b.many group).granted is may;
     home = b.home;
     many = λ group. crossed_many (b.many group);
+    rises = λ group. on;
     one = λ unicast. absurd (both_ways (is_group (destination_of frame)) unicast group);
   }
 
-  spreads : (ports : List ℕ) → AllByRecursion (MayReach v (pmac_of (source_of frame))) ports → is_group (destination_of frame) ≡ true →
-      GoodActs plan place book t (map (λ p. act.Pass p frame) ports) (Spreads (crossed_at t f))
-  spreads [] may group = tt
-  spreads (p ∷ ports) may group = (b.group ∙ group, may_spread p (peer_of plan t p) refl may.0 group, spreads ports may.1 group)
+  spreads : (ports : List ℕ) → AllByRecursion (MayReach v (pmac_of (source_of frame))) ports → AreWaysOn plan t (t ∷ f.leg) ports →
+      is_group (destination_of frame) ≡ true → GoodActs plan place book t (map (λ p. act.Pass p frame) ports) (Spreads (crossed_at t f))
+  spreads [] may on group = tt
+  spreads (p ∷ ports) may on group = (b.group ∙ group, may_spread p (peer_of plan t p) refl may.0 on.0 group, spreads ports may.1 on.1 group)
 
   nowhere_shown : (routed part : Bool) → routed ≡ not (destination_group frame == flood) → is_group (destination_of frame) ≡ true →
       MayEnd book (crossed_at t f) (if routed && part then cause.NoMember else cause.NoNextHop)
@@ -202,25 +195,27 @@ module _ (plan : Plan) (place : ℕ → Place) (book : Book) (t : ℕ) (v : Swit
       let other : (destination_group frame == flood) ≡ false = not_is_true (destination_group frame == flood) (sym is) in
       ap (λ d. is_routed (group_of d)) (b.kept group) ∙ routed_group (group_of (destination_of frame)) other
 
-  passes_group : (ports : List ℕ) (why : Cause) → AllByRecursion (MayReach v (pmac_of (source_of frame))) ports → is_group (destination_of frame) ≡ true →
-      MayEnd book (crossed_at t f) why → Good (passes_or_drops ports frame why)
-  passes_group [] why reach group may = (may, tt)
-  passes_group (p ∷ ports) why reach group may = (may_spread p (peer_of plan t p) refl reach.0 group, spreads ports reach.1 group)
+  passes_group : (ports : List ℕ) (why : Cause) → AllByRecursion (MayReach v (pmac_of (source_of frame))) ports → AreWaysOn plan t (t ∷ f.leg) ports →
+      is_group (destination_of frame) ≡ true → MayEnd book (crossed_at t f) why → Good (passes_or_drops ports frame why)
+  passes_group [] why reach on group may = (may, tt)
+  passes_group (p ∷ ports) why reach on group may = (may_spread p (peer_of plan t p) refl reach.0 on.0 group, spreads ports reach.1 on.1 group)
 
   pub group_good : is_group (destination_of frame) ≡ true → Good (forwards_group v (came_by v q) frame).acts
-  group_good group = passes_group _ _ (group_ports_reach v (way_of v.place (came_by v q)) (destination_group frame) (pmac_of (source_of frame))) group (nowhere_shown (not (destination_group frame == flood)) _ refl group)
+  group_good group = passes_group _ _ (group_ports_reach v (way_of v.place (came_by v q)) (destination_group frame) (pmac_of (source_of frame)))
+      (ways_on plan is_plan t v trees knows.linked s q port from f.leg (b.rises group) (destination_group frame) (pmac_of (source_of frame))) group (nowhere_shown (not (destination_group frame == flood)) _ refl group)
 
   -- a frame to one host goes out by a candidate
   may_leave : (came : Came) (p : ℕ) (peer : Peer) → came_by v q ≡ Some came → is_placed v.place ≡ true →
-      is_candidate v (destination frame) came p ≡ true → peer_of plan t p ≡ peer → is_host_port peer ≡ false →
+      is_candidate v (destination frame) came p ≡ true → peer_of plan t p ≡ peer → is_host_port peer ≡ false → is_group (destination_of frame) ≡ false →
       MayLeave plan place book t p peer (crossed_at t f) frame
-  may_leave came p (Switch u r) by placed leads peer linked = record {
+  may_leave came p (Switch u r) by placed leads peer linked one_host = record {
     last = refl;
     group = b.group;
     kept = b.kept;
     address = b.address;
     home = b.home;
     many = λ group. crossed_many (b.many group);
+    rises = λ group. absurd (both_ways (is_group (destination_of frame)) one_host group);
     one = λ unicast. let w = b.one unicast in record {
       route = passes_on plan place t v is_plan places knows (destination frame) p u r peer s q port came from by placed leads f.leg w.route;
       whole = refl;
@@ -228,15 +223,15 @@ module _ (plan : Plan) (place : ℕ → Place) (book : Book) (t : ℕ) (v : Swit
       sender = w.sender;
     };
   }
-  may_leave came p HostPort by placed leads peer linked = absurd (false≢true (sym linked))
+  may_leave came p HostPort by placed leads peer linked one_host = absurd (false≢true (sym linked))
 
-  leaves : (choose : Choice) → IsChoice choose → is_placed v.place ≡ true → (came : Option Came) → came_by v q ≡ came → (chosen : Option ℕ) →
+  leaves : (choose : Choice) → IsChoice choose → is_group (destination_of frame) ≡ false → is_placed v.place ≡ true → (came : Option Came) → came_by v q ≡ came → (chosen : Option ℕ) →
       choose (candidates_by v (destination frame) came) frame ≡ chosen → Good (leaves_by v frame chosen).acts
-  leaves choose is placed came by None found = (tt, tt)
-  leaves choose is placed None by (Some p) found = let none = is.empty frame in absurd (cc)
-  leaves choose is placed (Some came) by (Some p) found =
+  leaves choose is one_host placed came by None found = (tt, tt)
+  leaves choose is one_host placed None by (Some p) found = let none = is.empty frame in absurd (cc)
+  leaves choose is one_host placed (Some came) by (Some p) found =
       let leads = among_candidates v (destination frame) came p (chosen_among choose (candidates v (destination frame) came) frame p is found) in
-      (may_leave came p (peer_of plan t p) by placed leads refl (knows.linked p (candidate_usable v (destination frame) came p leads)), tt)
+      (may_leave came p (peer_of plan t p) by placed leads refl (knows.linked p (candidate_usable v (destination frame) came p leads)) one_host, tt)
 
   -- whatever comes from a neighbour, where what is done with a unicast frame for the switch's own hosts is good
   pub forward_good : (choose : Choice) → IsChoice choose →
@@ -252,4 +247,4 @@ module _ (plan : Plan) (place : ℕ → Place) (book : Book) (t : ℕ) (v : Swit
       (λ group. group_good group)
       (λ unicast. cond_both (is_local v (destination frame)) _ _ G
       (λ own. home unicast own)
-      (λ away. leaves choose is placed (came_by v q) refl _ refl)))
+      (λ away. leaves choose is unicast placed (came_by v q) refl _ refl)))

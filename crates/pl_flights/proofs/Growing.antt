@@ -82,6 +82,7 @@ module _ (place later : ℕ → Place) (more : IsMore place later) where
     address = b.address;
     home = λ there is. placed_grown there.edge (b.home there is);
     many = b.many;
+    rises = b.rises;
     one = λ unicast. let w = b.one unicast in record { route = route_grown plan.k _ f.leg s t w.route; whole = w.whole; unaltered = w.unaltered; sender = w.sender };
   }
 
@@ -93,6 +94,7 @@ module _ (place later : ℕ → Place) (more : IsMore place later) where
     kept = b.kept;
     home = λ there is. placed_grown there.edge (b.home there is);
     many = b.many;
+    rises = b.rises;
     not_back = b.not_back;
     one = b.one;
   }

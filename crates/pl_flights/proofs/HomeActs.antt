@@ -93,6 +93,7 @@ module _ (plan : Plan) (place : ℕ → Place) (book : Book) (t : ℕ) (v : Swit
         kept = λ group. absurd (both_ways (is_group (destination_of (arriving frame None (Some grant.amac)))) one_host group);
         home = here.home;
         many = λ group. absurd (both_ways (is_group (destination_of (arriving frame None (Some grant.amac)))) one_host group);
+        rises = λ group. absurd (both_ways (is_group (destination_of (arriving frame None (Some grant.amac)))) one_host group);
         not_back = λ group. absurd (both_ways (is_group (destination_of (arriving frame None (Some grant.amac)))) one_host group);
         one = λ unicast. record {
           host = is.host;
@@ -141,6 +142,7 @@ module _ (plan : Plan) (place : ℕ → Place) (book : Book) (t : ℕ) (v : Swit
     address = here.address;
     home = here.home;
     many = λ group. absurd (both_ways (is_group (destination_of frame)) here.unicast group);
+    rises = λ group. absurd (both_ways (is_group (destination_of frame)) here.unicast group);
     one = λ unicast. record { route = by_rung (rung plan t p u r is_plan peer); whole = refl; unaltered = here.unaltered; sender = here.sender };
   }
     where

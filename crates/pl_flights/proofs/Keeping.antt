@@ -75,6 +75,7 @@ module _ (plan : Plan) (place : ℕ → Place) where
     address = b.address;
     home = b.home;
     many = λ group. many_kept book after f frame keeps (b.many group);
+    rises = b.rises;
     one = λ unicast. let w = b.one unicast in record { route = w.route; whole = more w.whole; unaltered = w.unaltered; sender = w.sender };
   })
 
@@ -86,6 +87,7 @@ module _ (plan : Plan) (place : ℕ → Place) where
     kept = b.kept;
     home = b.home;
     many = λ group. many_kept book later f frame more (b.many group);
+    rises = b.rises;
     not_back = λ group.
         let m = b.many group in
         let n : mac_number (source_of frame) ≡ pmac_number m.from = ap mac_number m.source ∙ number_of_mac m.from m.fits in

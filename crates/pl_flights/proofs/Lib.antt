@@ -12,6 +12,7 @@ pub mod Acting
 pub mod Passing
 pub mod Growing
 pub mod SwitchTurns
+pub mod GroupLegs
 pub mod ForwardActs
 pub mod OverLinks
 pub mod Failing

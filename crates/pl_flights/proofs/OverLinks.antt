@@ -46,6 +46,7 @@ use Rattle.pl_world.proofs.Balances.{Owes, head_is_item, took_out_balance}
 use Rattle.pl_world.proofs.Counts.{one, times_in-data}
 use Rattle.pl_world.proofs.StepBalances.{noted_owes, peer_is_port, sound}
 use Rattle.pl_flights.specs.OnTheWay.{IsBetween, IsGoing, IsOut, IsTold, Tells, book_of, place_in}
+use Rattle.pl_copies.specs.Standing.{KnowTrees}
 use Rattle.pl_flights.specs.Standing.{StandsOn}
 use Rattle.pl_flights.proofs.Counting.{IsNowhere, IsOwed, counts, owed}
 use Rattle.pl_flights.proofs.Crossing.{crosses_well}
@@ -159,7 +160,7 @@ IsGoodAtHome w t id frame = (v : SwitchView) (choose : Choice) → slice_get w.s
 
 module _ (w : WorldView) (counted : IsCounted w) (told : IsTold w) (on : StandsOn w) (s port id : ℕ) (frame : List ℕ) (items : List Item)
     (within : port < w.plan.k) (head : out_of w s port ≡ Data id frame ∷ items) (t : SwitchNo) (q : ℕ) (peer : peer_of w.plan s port ≡ Switch t q)
-    (accounts : AccountsForFrames Loose) (home : IsGoodAtHome w t.0 id frame) where
+    (accounts : AccountsForFrames Loose) (trees : KnowTrees w) (home : IsGoodAtHome w t.0 id frame) where
   pub comes_told : (new : WorldView) → SwitchTurn Loose (noted (taken_out w s port items) (Crossed id t)) t.0 (Comes q frame) (Waiting id false) new →
       IsTold new
   comes_told new turn =
@@ -204,7 +205,8 @@ module _ (w : WorldView) (counted : IsCounted w) (told : IsTold w) (on : StandsO
       let same : w.switches ≡ new.switches = sym (turn_switches Loose accounts _ t.0 _ _ new turn
       ∙ ap (λ x. set w.switches t.0 x) same_view ∙ set_found w.switches t.0 v turn.found) in
       let good : GoodActs w.plan place (book_of past) t.0 (comes_from_switch loose.choose v q frame).acts (Waits (crossed_at t.0 f) false) =
-      forward_good w.plan place (book_of past) t.0 v is_plan on.places (on.neighbours t.0 v turn.found) (on.addresses t.0 v turn.found) s q port back f frame live loose.choose loose.is_choice
+      forward_good w.plan place (book_of past) t.0 v is_plan on.places (on.neighbours t.0 v turn.found) (on.addresses t.0 v turn.found) s q port back f frame live (trees.each t.0 v turn.found)
+      loose.choose loose.is_choice
       (home v loose.choose turn.found loose.is_choice) in
       let acts : turn.acts ≡ (comes_from_switch loose.choose v q frame).acts = loose.steps.done ∙ ap (λ (x : SwitchStep). x.acts) step in
       let good_there : GoodActs w.plan place (book_of now) t.0 turn.acts (Waits (crossed_at t.0 f) false) =

@@ -1,7 +1,7 @@
 -- The manager speaks to a switch.
 use Rattle.std.proofs.Common.{◌≡◌, ℕ, ◌≤◌, ◌==◌, ◌&&◌, not, Bool, true, false, if◌then◌else◌, List, [], ◌∷◌, ◌++◌, length, map, take, Option, None, Some, refl, sym, ◌∙◌, ap, subst}
 use Rattle.std.specs.List.{AllByRecursion}
-use Rattle.std.proofs.lemmas.Bool.{both_ways}
+use Rattle.std.proofs.lemmas.Bool.{and_parts, both_ways, false≢true}
 use Rattle.byteorder.specs.Endian.{big_bytes}
 use Rattle.pl_frame.specs.declared.address.Mac.{Mac}
 use Rattle.pl_frame.proofs.Fields.{front_of, rest_of}
@@ -23,17 +23,17 @@ use Rattle.pl_layouts.proofs.Arrived.{destination_of-arriving}
 use Rattle.pl_journal.specs.declared.cause.Cause.{Cause}
 use Rattle.pl_journal.specs.declared.cause.Cause.TheVariants as cause
 use Rattle.pl_journal.specs.Causes.{is_routed}
-use Rattle.pl_journal.specs.Flights.{Flight, first_of}
-use Rattle.pl_journal.specs.Places.{at_port}
+use Rattle.pl_journal.specs.Flights.{Flight, first_of, level_of}
+use Rattle.pl_journal.specs.Places.{at_port, is_host_port}
 use Rattle.pl_logic.specs.declared.acts.Act.TheVariants as act
 use Rattle.pl_logic.specs.declared.switch_records.Grant.{Grant}
+use Rattle.pl_logic.specs.PortRecords.{is_usable, ports_of_switch}
 use Rattle.pl_logic.specs.SwitchViews.{SwitchView}
-use Rattle.pl_switch_rule.specs.declared.came.Came.{Came}
 use Rattle.pl_switch_rule.specs.declared.came.Came.TheVariants.{FromHost}
 use Rattle.pl_switch_rule.specs.Delivering.{makes}
 use Rattle.pl_switch_rule.specs.Forwarding.{Choice}
 use Rattle.pl_switch_rule.specs.Granting.{grant_number, granted, grants_at, is_local}
-use Rattle.pl_switch_rule.specs.GroupForwarding.{destination_group, forwards_group, passes_or_drops, way_of}
+use Rattle.pl_switch_rule.specs.GroupForwarding.{destination_group, forwards_group, passes_or_drops}
 use Rattle.pl_switch_rule.specs.Messages.{answer_frame, flood_frame, floods, probe_frame}
 use Rattle.pl_switch_rule.specs.SwitchRule.{IsChoice}
 use Rattle.pl_switch_rule.proofs.CausesHere.{destination_of-arp_frame}
@@ -41,14 +41,17 @@ use Rattle.pl_switch_rule.proofs.DataFrames.{arp_frame_made}
 use Rattle.pl_flights.specs.OnTheWay.{Book, CameInPlaced, IsForMany, IsLeaving}
 use Rattle.pl_flights.specs.Standing.{IsGranted, KnowsAddresses, KnowsNeighbours, KnowsPlaces}
 use Rattle.pl_flights.proofs.AtHome.{begins_good, is_arp-arp_frame, local_is_placed}
-use Rattle.pl_flights.proofs.ForwardActs.{MayReach, group_ports_reach, not_is_true, reaches_host, routed_group}
+use Rattle.pl_flights.specs.Routes.{levels}
+use Rattle.pl_flights.proofs.ForwardActs.{not_is_true, routed_group}
+use Rattle.pl_flights.proofs.GroupLegs.{all_filtered, first_alone, first_ways}
 use Rattle.pl_flights.proofs.Hands.{GoodActs, MayEnd, MayLeave, made_here}
 use Rattle.pl_flights.proofs.Hands.Hand.{Empty, Spreads, Waits}
 use Rattle.pl_flights.proofs.PmacNumbers.{number_of_mac}
 
--- A frame of a group in hand at switch t, as it was begun.
+-- A frame of a group in hand at switch t, which it crossed alone, as it was begun.
 pub record IsSpreading (place : ℕ → Place) (book : Book) (t : ℕ) (f : Flight) (frame : List ℕ) : Type 0 where
   pub last : first_of f.trail ≡ Some t
+  pub alone : f.leg ≡ t ∷ []
   pub group : is_group (destination_of frame) ≡ true
   pub kept : destination_of f.beginning ≡ destination_of frame
   pub address : f.address ≡ mac_number (destination_of frame)
@@ -56,28 +59,21 @@ pub record IsSpreading (place : ℕ → Place) (book : Book) (t : ℕ) (f : Flig
   pub many : IsForMany book f frame
 
 module _ (plan : Plan) (place : ℕ → Place) (book : Book) (t : ℕ) (v : SwitchView) (f : Flight) (frame : List ℕ) (here : IsSpreading place book t f frame)
-    (neighbours : KnowsNeighbours plan place t v) (knows : KnowsAddresses plan book t v) where
-  spread : (p : ℕ) (peer : Peer) → peer_of plan t p ≡ peer → MayReach v (pmac_of (source_of frame)) p → MayLeave plan place book t p peer f frame
-  spread p (Switch u r) is may = record {
+    (is_plan : IsPlan plan) (neighbours : KnowsNeighbours plan place t v) (edge : level_of plan.k t ≡ 0) where
+  spread : (p : ℕ) (peer : Peer) → peer_of plan t p ≡ peer → is_usable v p ≡ true → MayLeave plan place book t p peer f frame
+  spread p (Switch u r) is usable = record {
     last = here.last;
     group = ap is_group here.kept;
     kept = λ group. here.kept;
     address = here.address;
     home = here.home;
     many = λ group. here.many;
+    rises = λ group. ap (levels plan.k) here.alone ∙ first_ways plan t v is_plan neighbours.linked edge p (Switch u r) is usable;
     one = λ unicast. absurd (both_ways (is_group (destination_of frame)) unicast here.group);
   }
-  spread p HostPort is may = record {
-    last = here.last;
-    not_back = λ many. reaches_host plan place book t v neighbours knows frame p here.many.from here.many.fits here.many.source here.many.there here.many.granted is may;
-    group = ap is_group here.kept;
-    kept = λ group. here.kept;
-    home = here.home;
-    many = λ group. here.many;
-    one = λ unicast. absurd (both_ways (is_group (destination_of frame)) unicast here.group);
-  }
+  spread p HostPort is usable = absurd (false≢true (sym (neighbours.linked p usable) ∙ ap is_host_port is))
 
-  spreads_on : (ports : List ℕ) → AllByRecursion (MayReach v (pmac_of (source_of frame))) ports →
+  spreads_on : (ports : List ℕ) → AllByRecursion (λ p. is_usable v p ≡ true) ports →
       GoodActs plan place book t (map (λ p. act.Pass p frame) ports) (Spreads f)
   spreads_on [] may = tt
   spreads_on (p ∷ ports) may = (ap is_group here.kept ∙ here.group, spread p (peer_of plan t p) refl may.0, spreads_on ports may.1)
@@ -90,14 +86,16 @@ module _ (plan : Plan) (place : ℕ → Place) (book : Book) (t : ℕ) (v : Swit
       let other : (destination_group frame == flood) ≡ false = not_is_true (destination_group frame == flood) (sym is) in
       ap (λ d. is_routed (group_of d)) here.kept ∙ routed_group (group_of (destination_of frame)) other
 
-  passes_all : (ports : List ℕ) (why : Cause) (again : Bool) → AllByRecursion (MayReach v (pmac_of (source_of frame))) ports → MayEnd book f why →
+  passes_all : (ports : List ℕ) (why : Cause) (again : Bool) → AllByRecursion (λ p. is_usable v p ≡ true) ports → MayEnd book f why →
       GoodActs plan place book t (passes_or_drops ports frame why) (Waits f again)
   passes_all [] why again reach may = (may, tt)
   passes_all (p ∷ ports) why again reach may = (spread p (peer_of plan t p) refl reach.0, spreads_on ports reach.1)
 
-  -- a frame of a group goes out, wherever it came from
-  pub spreads_good : (came : Option Came) (again : Bool) → GoodActs plan place book t (forwards_group v came frame).acts (Waits f again)
-  spreads_good came again = passes_all _ _ again (group_ports_reach v (way_of v.place came) (destination_group frame) (pmac_of (source_of frame))) (none_shown (not (destination_group frame == flood)) _ refl)
+  -- a frame of a group that a host sent, or that is made here, goes up
+  pub spreads_good : (again : Bool) → GoodActs plan place book t (forwards_group v (Some FromHost) frame).acts (Waits f again)
+  spreads_good again = passes_all _ _ again
+      (first_alone (λ p. is_usable v p ≡ true) _ (all_filtered (λ p. is_usable v p ≡ true) _ (λ p passes. (and_parts (is_usable v p) _ passes).0) (ports_of_switch v.k)))
+      (none_shown (not (destination_group frame == flood)) _ refl)
 
 -- the sender of an ARP packet is the source of its frame
 source_of-arp_frame : (to : Mac) (a : Arp) → length to.0 ≡ 6 → length a.sha.0 ≡ 6 → source_of (arp_frame to a) ≡ a.sha
@@ -134,6 +132,7 @@ module _ (plan : Plan) (place : ℕ → Place) (book : Book) (t : ℕ) (v : Swit
       spreads_good plan place book t v (made_here root t (flood_frame asker asker_ip ip)) (flood_frame asker asker_ip ip)
       (record {
         last = refl;
+        alone = refl;
         group = ap is_group to;
         kept = refl;
         address = refl;
@@ -147,7 +146,8 @@ module _ (plan : Plan) (place : ℕ → Place) (book : Book) (t : ℕ) (v : Swit
           there = at_port t asker.port;
           granted = x.there;
         };
-      }) neighbours knows (Some FromHost) false
+      }) is_plan neighbours
+      (places.level t 0 (subst (λ (w : Place). w.level ≡ Some 0) neighbours.own (local_is_placed v asker (granted_is_local v asker grant found)).0)) false
 
   -- the request to a host that may still stand at an old address
   pub probe_good : (old : Pmac) (ip : Ip4) (grant : Grant) → granted v old ≡ Some grant →
@@ -168,6 +168,7 @@ module _ (plan : Plan) (place : ℕ → Place) (book : Book) (t : ℕ) (v : Swit
         kept = λ group. absurd (both_ways (is_group (destination_of (arriving probe None (Some grant.amac)))) one_host group);
         home = λ there is. absurd (cc);
         many = λ group. absurd (both_ways (is_group (destination_of (arriving probe None (Some grant.amac)))) one_host group);
+        rises = λ group. absurd (both_ways (is_group (destination_of (arriving probe None (Some grant.amac)))) one_host group);
         not_back = λ group. absurd (both_ways (is_group (destination_of (arriving probe None (Some grant.amac)))) one_host group);
         one = λ unicast. record {
           host = x.host;

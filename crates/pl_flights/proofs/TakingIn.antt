@@ -150,6 +150,7 @@ module _ (plan : Plan) (place : ℕ → Place) (book : Book) (t : ℕ) (v : Swit
       cond_both (is_group (destination_of frame2)) _ _ G
       (λ group. spreads_good plan place book t v f frame2 (record {
         last = ap first_of new.once;
+        alone = new.alone;
         group = group;
         kept = ap destination_of new.beginning ∙ sym same_destination;
         address = new.address ∙ ap mac_number (sym same_destination);
@@ -163,7 +164,7 @@ module _ (plan : Plan) (place : ℕ → Place) (book : Book) (t : ℕ) (v : Swit
           there = at_port t x.port;
           granted = it.there;
         };
-      }) neighbours knows (Some FromHost) false)
+      }) is_plan neighbours (places.level t 0 (subst (λ (w : Place). w.level ≡ Some 0) neighbours.own level)) false)
       (λ unicast. cond_both (is_local v (destination frame2)) _ _ G
       (λ local. arrives_good plan place book t v is_plan places neighbours knows choose is level placed frame2 (here unicast).long
       (here unicast).sender f false (here unicast) local)

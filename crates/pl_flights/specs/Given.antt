@@ -27,6 +27,7 @@ use Rattle.pl_world.specs.declared.item.Item.{Item}
 use Rattle.pl_world.specs.declared.item.Item.TheVariants.{Data}
 use Rattle.pl_world.specs.Changes.{out_of}
 use Rattle.pl_world.specs.Worlds.{WorldView}
+use Rattle.pl_copies.specs.Standing.{KnowTrees}
 use Rattle.pl_flights.specs.OnTheWay.{place_in}
 use Rattle.pl_flights.specs.Standing.{FirstAddresses, IsMore, StandsOn, StandsOnHosts}
 
@@ -58,7 +59,7 @@ AreMembers rule w = (h : ℕ) (before after : HostView) (acts : List HostAct) (f
     is_member (reverse w.journal) h (group_of (destination_of frame)) ≡ true
 
 -- Of a world and the one after a step: what switches know of places, addresses and hosts is so, what was known of places is known later, and first
--- addresses, numbers and frames of groups are as the lossy switch wants them.
+-- addresses, numbers and frames of groups are as the lossy switch wants them, and switches know the trees of groups around them.
 pub record IsGiven (manager : ManagerRule) (host : HostRule) (w new : WorldView) : Type 0 where
   pub on : StandsOn w
   pub hosts : StandsOnHosts w
@@ -67,3 +68,4 @@ pub record IsGiven (manager : ManagerRule) (host : HostRule) (w new : WorldView)
   pub numbers : ManagerNumbersWell manager w
   pub come_first : GroupsComeFirst w
   pub members : AreMembers host w
+  pub trees : KnowTrees w

@@ -18,7 +18,7 @@ use Rattle.pl_layouts.specs.Frames.{arriving, is_arp, mac_number}
 use Rattle.pl_layouts.specs.Memberships.{is_group}
 use Rattle.pl_layouts.specs.Placement.{is_placed, nowhere}
 use Rattle.pl_journal.specs.declared.entry.Entry.{Entry}
-use Rattle.pl_journal.specs.Flights.{Flight, first_flight, first_of, flight_of, was_live}
+use Rattle.pl_journal.specs.Flights.{Flight, first_flight, first_of, flight_of, level_of, was_live}
 use Rattle.pl_journal.specs.Lossy.{GoodTrailTo, RunTo, UnalteredFrom, mac_of_host}
 use Rattle.pl_journal.specs.Places.{Spot, at_port, holder, is_at, is_failed, is_spent, number, spot, spot_of}
 use Rattle.pl_logic.specs.SwitchViews.{SwitchView}
@@ -27,7 +27,7 @@ use Rattle.pl_world.specs.declared.item.Item.{Item}
 use Rattle.pl_world.specs.declared.item.Item.TheVariants.{Control, Data}
 use Rattle.pl_world.specs.declared.stand.Stand.{Stand}
 use Rattle.pl_world.specs.Worlds.{WorldView}
-use Rattle.pl_flights.specs.Routes.{Route}
+use Rattle.pl_flights.specs.Routes.{Route, fallen, levels, risen_or_fallen}
 
 -- the place of a switch, as far as it knows it
 abbrev pub known_place : Option SwitchView → Place
@@ -73,7 +73,8 @@ pub record IsForMany (book : Book) (f : Flight) (frame : List ℕ) : Type 0 wher
   pub there : Spot
   pub granted : book.spots (pmac_number from) ≡ Some there
 
--- a frame is between two switches: it crossed the first one last, and carries its present address
+-- a frame is between two switches: it crossed the first one last, and carries its present address; one to a group only rose, or rose to a core switch
+-- and then only fell
 pub record IsBetween (plan : Plan) (place : ℕ → Place) (book : Book) (f : Flight) (live : Bool) (frame : List ℕ) (s t : ℕ) : Type 0 where
   pub last : first_of f.trail ≡ Some s
   pub group : is_group (destination_of f.beginning) ≡ is_group (destination_of frame)
@@ -81,6 +82,7 @@ pub record IsBetween (plan : Plan) (place : ℕ → Place) (book : Book) (f : Fl
   pub address : f.address ≡ mac_number (destination_of frame)
   pub home : CameInPlaced place f.came_in
   pub many : is_group (destination_of frame) ≡ true → IsForMany book f frame
+  pub rises : is_group (destination_of frame) ≡ true → levels plan.k f.leg ≡ risen_or_fallen (level_of plan.k s) (level_of plan.k t)
   pub one : is_group (destination_of frame) ≡ false → IsOnWay plan place f live frame s t
 
 -- a frame leaves by a port for the host that holds its present address, which was granted there
@@ -92,13 +94,15 @@ pub record IsForHost (plan : Plan) (book : Book) (f : Flight) (frame : List ℕ)
   pub mac : mac_of_host plan host ≡ Some (destination_of frame)
   pub unaltered : UnalteredFrom f.sender f.source f.beginning (mac_of_host plan host) frame
 
--- a frame leaves by a host port of the switch that it crossed last, which is not the port of its source where it goes to a group
+-- a frame leaves by a host port of the switch that it crossed last, which is not the port of its source where it goes to a group: such a one came down to
+-- that edge switch from a core switch
 pub record IsLeaving (plan : Plan) (place : ℕ → Place) (book : Book) (f : Flight) (frame : List ℕ) (s port : ℕ) : Type 0 where
   pub last : first_of f.trail ≡ Some s
   pub group : is_group (destination_of f.beginning) ≡ is_group (destination_of frame)
   pub kept : is_group (destination_of frame) ≡ true → destination_of f.beginning ≡ destination_of frame
   pub home : CameInPlaced place f.came_in
   pub many : is_group (destination_of frame) ≡ true → IsForMany book f frame
+  pub rises : is_group (destination_of frame) ≡ true → levels plan.k f.leg ≡ fallen 0
   pub not_back : is_group (destination_of frame) ≡ true → is_at (book.spots (mac_number (source_of frame))) (at_port s port) ≡ false
   pub one : is_group (destination_of frame) ≡ false → IsForHost plan book f frame s port
 

@@ -43,7 +43,7 @@ any_of test [] h = absurd (true≢false (sym h))
 any_of test (x ∷ xs) h = elim (or_cases (test x) (list_any test xs) h) [ inl here ↦ (x, here) | inr later ↦ any_of test xs later ]
 
 -- the switch at the other end of a link is a neighbour
-neighbour_is : (plan : Plan) (s p t q : ℕ) (u : SwitchId) → IsPlan plan → AreJoined plan s p t q → slice_get plan.ids t ≡ Some u → is_neighbour plan s u ≡ true
+pub neighbour_is : (plan : Plan) (s p t q : ℕ) (u : SwitchId) → IsPlan plan → AreJoined plan s p t q → slice_get plan.ids t ≡ Some u → is_neighbour plan s u ≡ true
 neighbour_is plan s p t q u is joined named =
     let within = (joined_there plan s p t q is joined).1 in
     any_among (λ p. is_switch_with plan u (peer_of plan s p)) p (ports_of_switch plan.k) (among_range p 0 plan.k p (omega arith) within)

@@ -12,11 +12,12 @@ use Rattle.pl_kept.specs.Kept.{Kept}
 use Rattle.pl_placing.specs.Placing.{ArePlacing}
 use Rattle.pl_records.specs.Records.{AreCurrent, HaveOrders, HaveReported, HaveToldLinks, HaveToldNeighbours, IsAtRest, LinksAreCurrent, LinksAreOfNeighbours}
 use Rattle.pl_trees.specs.Trees.{AreTrees}
+use Rattle.pl_copies.specs.Alone.{AreAlone}
 use Rattle.pl_copies.specs.Copies.{ComesOnce}
 use Rattle.pl_copies.specs.Standing.{KnowTrees}
 use Rattle.pl_joined.specs.Joined.{HaveJoined}
 use Rattle.pl_ledger.specs.Ledgers.{AreInBounds, IsLedger}
-use Rattle.pl_attended.specs.Attended.{AreAttended, NothingWaits, StandApart}
+use Rattle.pl_attended.specs.Attended.{AreAttended, AreRemembered, NothingWaits, StandApart}
 use Rattle.pl_attended.specs.Registering.{AreRegistered}
 use Rattle.pl_attended.specs.Stood.{AreStoodFor}
 use Rattle.pl_settled_laws.specs.AtPlace.{ReceiversArePlaced}
@@ -36,6 +37,7 @@ pub record HostsAreInOrder (w : WorldView) : Type 0 where
   -- no two hosts stand at one port
   pub apart : StandApart w.stands
   -- an edge switch remembers the hosts that it heard until it is placed, and has addresses in use for them then
+  pub remembered : AreRemembered w
   pub attended : AreAttended w
   -- the journal's grants are those of the switches, to hosts that stood there, and its numbers are those of the manager
   pub granted : IsLedger w
@@ -54,13 +56,15 @@ pub record RecordsAreInOrder (f : ControlPlane) : Type 0 where
   pub pairs : IsAtRest f → LinksAreCurrent f
   pub joined : IsAtRest f → LinksAreOfNeighbours f
 
--- Frames of groups.
+-- What is told and ordered, and frames of groups.
 pub record CopiesAreInOrder (w : WorldView) : Type 0 where
-  -- what is told of members is so, and parts of trees lead down
+  -- what is told of places, links and members is so, and parts of trees lead up and down
   pub trees : AreTrees w.plan (control_plane w)
   pub around : KnowTrees w
   -- of the frames of one root at most one comes, or may still come, to each port for hosts
   pub once : ComesOnce w
+  -- and at most one is on its way up, and at most one waits in the queue out of each port
+  pub alone : AreAlone w
 
 pub record NetworkInvariant (w : WorldView) : Type 0 where
   -- each frame is counted, and what is known of places, votes, pods and addresses is in order

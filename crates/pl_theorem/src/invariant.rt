@@ -12,6 +12,7 @@ ghost use Rattle.pl_theorem.specs.Invariant.{CopiesAreInOrder, HostsAreInOrder, 
 use pl_attended::{
     addresses_are_granted_where_hosts_stood, hosts_are_attended_in_every_run,
     lawful_logic_registers_hosts_at_rest, no_two_hosts_stand_at_one_place,
+    unplaced_edge_switches_remember_hosts,
 };
 use pl_entry_laws::{
     addresses_are_registered_in_order_in_every_run, places_are_what_was_written_last_in_every_run,
@@ -37,7 +38,8 @@ use pl_settled_laws::settled_runs_have_current_records_and_positions;
 use pl_switch_rule::LooseSwitch;
 use pl_told::{lawful_logic_is_one_lossy_switch, lawful_logic_tells_what_is_so};
 use pl_trees::{
-    one_copy_may_come_to_each_port_in_every_run, parts_of_trees_lead_down_in_every_run,
+    frames_of_a_root_are_alone_in_every_run, one_copy_may_come_to_each_port_in_every_run,
+    what_is_told_and_ordered_is_so_in_every_run,
 };
 
 /// In every run edge switches come to their places as they should.
@@ -57,6 +59,7 @@ pub fn hosts_are_in_order_in_every_run<H: LawfulHost>()
 {
     no_two_hosts_stand_at_one_place::<H>();
     hosts_are_attended_in_every_run::<H>();
+    unplaced_edge_switches_remember_hosts::<H>();
     the_journal_says_what_was_granted_in_every_run::<H>();
     addresses_are_granted_where_hosts_stood::<H>();
 }
@@ -75,13 +78,14 @@ pub fn records_are_in_order_in_every_run<H: HostLogic>()
     usable_links_are_those_of_the_wiring_at_rest();
 }
 
-/// In every run of the frames of one root at most one copy comes to each port.
+/// In every run what is told and ordered is so, and of the frames of one root at most one copy comes to each port.
 pub fn copies_are_in_order_in_every_run<H: HostLogic>()
     ensures { (plan : Plan) (limits : Limits) (moments : List Moment) (new : WorldView) → CanBegin plan →
         WorldRun Loose manager_rule H.rule (booted plan limits) moments new → CopiesAreInOrder new }
 {
-    parts_of_trees_lead_down_in_every_run::<H>();
+    what_is_told_and_ordered_is_so_in_every_run::<H>();
     one_copy_may_come_to_each_port_in_every_run::<H>();
+    frames_of_a_root_are_alone_in_every_run::<H>();
 }
 
 /// So lawful logic has the invariant of the network at each moment of each run from the beginning.

@@ -8,16 +8,20 @@ use Rattle.pl_switch_rule.proofs.AccountedSteps.{loose_steps_are_accounted}
 use Rattle.pl_world.specs.declared.limits.Limits.{Limits}
 use Rattle.pl_world.specs.Booting.{CanBegin, booted}
 use Rattle.pl_world.proofs.BootBalances.{booted_is_counted}
+use Rattle.pl_kept.proofs.Keeping.{run_keeps_all}
 use Rattle.pl_copies.proofs.Runs.{first_there}
 use Rattle.pl_joined.specs.Joined.{HostsKeepTheirGroups}
 use Rattle.pl_joined.proofs.Runs.{joined_at_first, members_are, run_joined}
-use Rattle.pl_trees.proofs.Running.{run_once}
+use Rattle.pl_trees.proofs.Running.{know_trees, run_once}
 use Rattle.pl_told.specs.Groups.{GroupsAreWell}
 
 pub groups_are_well : (host : HostRule) → HostsSendData host → HostsSendOwn host → HostsJoinBySending host → HostsKeepTheirGroups host →
     (plan : Plan) (limits : Limits) → CanBegin plan → GroupsAreWell host plan limits
-groups_are_well host sends owns joins keeps plan limits can = λ moments w run. record {
-  first = λ s port id frame items within peer head group. first_there w (run_once host sends owns plan limits moments w can run).come s port id frame items within peer head;
-  members = members_are host keeps w
-      (run_joined Loose manager_rule host joins loose_steps_are_accounted sends (booted plan limits) moments w (booted_is_counted plan limits can) (joined_at_first plan limits) run);
-}
+groups_are_well host sends owns joins keeps plan limits can = λ moments w run.
+    let once = run_once host sends owns plan limits moments w can run in
+    record {
+      first = λ s port id frame items within peer head group. first_there w once.come s port id frame items within peer head;
+      members = members_are host keeps w
+          (run_joined Loose manager_rule host joins loose_steps_are_accounted sends (booted plan limits) moments w (booted_is_counted plan limits can) (joined_at_first plan limits) run);
+      trees = know_trees w (run_keeps_all host sends owns plan limits moments w can run) once.trees;
+    }

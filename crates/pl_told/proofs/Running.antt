@@ -68,6 +68,7 @@ module _ (host : HostRule) (sends : HostsSendData host) (owns : HostsSendOwn hos
         numbers = numbers_well old kept entered;
         come_first = groups.first;
         members = groups.members;
+        trees = groups.trees;
       }
 
   record HoldsBoth (w : WorldView) : Type 0 where

@@ -8,12 +8,14 @@ use Rattle.pl_world.specs.declared.limits.Limits.{Limits}
 use Rattle.pl_world.specs.Booting.{booted}
 use Rattle.pl_world.specs.Runs.{Moment, WorldRun}
 use Rattle.pl_world.specs.Worlds.{WorldView}
+use Rattle.pl_copies.specs.Standing.{KnowTrees}
 use Rattle.pl_flights.specs.Given.{AreMembers, GroupsComeFirst}
 
--- A frame of a group comes out of a port for hosts as the first of its root, and a host that keeps one is a member.
+-- A frame of a group comes out of a port for hosts as the first of its root, and a host that keeps one is a member; switches know the trees of groups.
 pub record GroupsArriveWell (host : HostRule) (w : WorldView) : Type 0 where
   pub first : GroupsComeFirst w
   pub members : AreMembers host w
+  pub trees : KnowTrees w
 
 -- so it is in every run
 abbrev pub GroupsAreWell : HostRule → Plan → Limits → Type 0

@@ -1,5 +1,5 @@
 -- Each step of the control plane keeps it that what is told and ordered is so.
-use Rattle.std.proofs.Common.{◌≡◌, ℕ, ◌+◌, ◌<◌, ◌==◌, ◌||◌, Bool, true, false, cond, if◌then◌else◌, List, [], ◌∷◌, ◌++◌, map, Option, None, Some, get_or, length, slice_get, is_none, is_some, refl, sym, ap, ◌∙◌, subst, inl, inr}
+use Rattle.std.proofs.Common.{◌≡◌, ℕ, ◌+◌, ◌<◌, ◌==◌, ◌||◌, Bool, true, false, cond, if◌then◌else◌, List, [], ◌∷◌, ◌++◌, map, Option, None, Some, get_or, length, slice_get, is_none, is_some, unwrap_or, refl, sym, ap, ◌∙◌, subst, inl, inr, true≢false}
 use Rattle.std.specs.List.{AllByRecursion, flat_map, position}
 use Rattle.std.specs.Ordering.{match_ordering, nat_cmp}
 use Rattle.std.specs.declared.cmp.Ordering.{Ordering}
@@ -19,6 +19,7 @@ use Rattle.pl_wiring.specs.declared.label.Label.TheVariants.{Aggregation, Core, 
 use Rattle.pl_wiring.specs.Labels.{edge_count, label_of, switch_count}
 use Rattle.pl_wiring.specs.Plan.{IsPlan, Plan}
 use Rattle.pl_wiring.proofs.LabelOrder.{label_of-edge}
+use Rattle.pl_layouts.specs.declared.place.Place.{Place}
 use Rattle.pl_layouts.specs.Control.{is_control}
 use Rattle.pl_layouts.specs.Equality.{same_switch}
 use Rattle.pl_logic.specs.declared.acts.ManagerAct.{ManagerAct}
@@ -33,28 +34,36 @@ use Rattle.pl_logic.specs.declared.neighbour.PortRecord.{PortRecord}
 use Rattle.pl_logic.specs.declared.switch_records.Member.{Member}
 use Rattle.pl_logic.specs.AvoidLists.{avoid_list}
 use Rattle.pl_logic.specs.ManagerFacts.{groups}
-use Rattle.pl_logic.specs.ManagerViews.{Learnt, ManagerView, Registration, id_cmp, lookup, members_cmp, newest, registry}
-use Rattle.pl_logic.specs.PortRecords.{is_open_to_hosts, port_of}
+use Rattle.pl_logic.specs.ManagerViews.{Learnt, ManagerView, Registration, id_cmp, link_cmp, lookup, members_cmp, newest, registry}
+use Rattle.pl_logic.specs.PortRecords.{id_at, is_open_to_hosts, port_of}
 use Rattle.pl_logic.specs.SwitchInputs.{SwitchInput}
 use Rattle.pl_logic.specs.SwitchInputs.SwitchInput.{Comes, Says, Tick}
 use Rattle.pl_logic.specs.SwitchViews.{SwitchView}
 use Rattle.pl_steps.specs.Steps.{SwitchStep}
+use Rattle.pl_manager_rule.specs.Histories.{link_said}
 use Rattle.pl_manager_rule.specs.ManagerRule.{acts_of, answer_to, avoid_acts, changed, changed_of_group, invalidation, learning, manager_hears, manager_rule, part_in, reply, tree_acts, tree_acts_of, view_after}
 use Rattle.pl_manager_rule.proofs.Avoided.{id_exact, same_is}
-use Rattle.pl_manager_rule.proofs.Kept.{members_exact}
+use Rattle.pl_manager_rule.proofs.Kept.{link_exact, members_exact}
+use Rattle.pl_manager_rule.proofs.Speakers.{same_itself}
 use Rattle.pl_switch_rule.specs.Intake.{comes_from_host, has_member_of}
+use Rattle.pl_switch_rule.specs.Forwarding.{Choice}
+use Rattle.pl_switch_rule.specs.Messages.{hears_manager}
 use Rattle.pl_switch_rule.specs.SwitchRule.{Loose, comes_from_switch, control_comes, data_comes, switch_step}
 use Rattle.pl_control_plane.specs.ControlPlanes.{AreJoined, ControlPlane, tells}
 use Rattle.pl_control_plane.specs.PlaneSteps.{IsLeft, IsReportTaken, LeftOver, ManagerTurns, PlaneStep, SwitchTurns, is_to, ordered, ordered_by}
 use Rattle.pl_control_plane.specs.PlaneSteps.PlaneStep.{Carried, Entered, Heard, Left, Managed, Ordered, Ticked}
 use Rattle.pl_places.specs.Known.{level_of}
 use Rattle.pl_places.specs.Places.{ArePlaced}
+use Rattle.pl_places.specs.Told.{IsTrueOf}
+use Rattle.pl_places.proofs.Later.{true_later, true_of_itself}
+use Rattle.pl_records.specs.Records.{is_neighbour}
+use Rattle.pl_records.specs.Words.{last_said}
 use Rattle.pl_records.proofs.Recording.{one_switch}
 use Rattle.pl_records.proofs.Turning.{parts_then, tells_right}
 use Rattle.pl_copies.specs.Standing.{rank}
-use Rattle.pl_trees.specs.Trees.{AreTrees, AreTrueMembers, IsLevel, IsTrueOrder, IsTruePart, IsTruePlace, IsTrueReport, rank_of}
-use Rattle.pl_trees.proofs.Parts.{part_true}
-use Rattle.pl_trees.proofs.Telling.{AreTrue, control_true, hears_true, of_host_true, over_link_true, ticks_true, true_words}
+use Rattle.pl_trees.specs.Trees.{AreTrees, AreTrueMembers, IsTrueLink, IsTrueOrder, IsTruePart, IsTruePlace, IsTrueReport, rank_of}
+use Rattle.pl_trees.proofs.Parts.{HasLevel, IsLevel, part_true}
+use Rattle.pl_trees.proofs.Telling.{AreTrue, IsSaid, control_true, hears_true, of_host_true, over_link_true, ticks_true, true_words}
 
 -- Lists.
 
@@ -93,12 +102,89 @@ same_rank (Edge p i) = refl
 same_rank (Aggregation p j) = refl
 same_rank (Core j m) = refl
 
+all_later : {T : Type 0} (P Q : T → Type 0) → ((x : T) → P x → Q x) → (xs : List T) → AllByRecursion P xs → AllByRecursion Q xs
+all_later P Q later [] all = tt
+all_later P Q later (x ∷ xs) all = (later x all.0, all_later P Q later xs all.1)
+
+-- what was told stays so where more is known of places
+report_later : (plan : Plan) (s : ℕ) (old new : Place) → IsTrueOf old new → (told : ToManager) → IsTrueReport plan s old told → IsTrueReport plan s new told
+report_later plan s old new later (tell.Place place) so = true_later place old new so later
+report_later plan s old new later (tell.Link u usable) so = so
+report_later plan s old new later tell.PodWanted so = so
+report_later plan s old new later (tell.Learned pmac amac ip) so = so
+report_later plan s old new later (tell.Query asker asker_ip ip) so = so
+report_later plan s old new later (tell.Members group any) so = so
+
+reports_later : (plan : Plan) (s : ℕ) (old new : Place) → IsTrueOf old new → (words : List ToManager) → AllByRecursion (IsTrueReport plan s old) words →
+    AllByRecursion (IsTrueReport plan s new) words
+reports_later plan s old new later words all = all_later (IsTrueReport plan s old) (IsTrueReport plan s new) (report_later plan s old new later) words all
+
+places_later : (plan : Plan) (old new : ℕ → SwitchView) → ((t : ℕ) → IsTrueOf (old t).place (new t).place) → (entries : List (SwitchId × Place)) →
+    AllByRecursion (IsTruePlace plan old) entries → AllByRecursion (IsTruePlace plan new) entries
+places_later plan old new later entries all = all_later (IsTruePlace plan old) (IsTruePlace plan new)
+    (λ entry so t named. true_later entry.1 (old t).place (new t).place (so t named) (later t)) entries all
+
+levels_of : (plan : Plan) (view : ℕ → SwitchView) → ((t : ℕ) → IsLevel (rank_of plan t) (view t).place) → (entries : List (SwitchId × Place)) →
+    AllByRecursion (IsTruePlace plan view) entries → AllByRecursion (HasLevel plan) entries
+levels_of plan view level entries all = all_later (IsTruePlace plan view) (HasLevel plan) (λ entry so t named x is. level t x ((so t named).level x is)) entries all
+
+-- Links are told to neighbours alone.
+
+module _ (plan : Plan) (s : ℕ) where
+  abbrev IsNear : ToManager → Type 0
+  IsNear (tell.Link u usable) = is_neighbour plan s u ≡ true
+  IsNear told = Unit {0}
+
+  -- of no stranger a word is said
+  abbrev NoStranger : List ToManager → Type 0
+  NoStranger words = (u : SwitchId) → is_neighbour plan s u ≡ false → (before : Bool) → last_said (link_said u) before words ≡ before
+
+  -- for that word would be the last whatever stood before it
+  not_said : (u : SwitchId) (usable : Bool) (x : SwitchId) (words : List ToManager) → same_switch x u ≡ true → is_neighbour plan s u ≡ false →
+      NoStranger (tell.Link x usable ∷ words) → ⊥
+  not_said u usable x words here stranger quiet =
+      let said : (before : Bool) → last_said (link_said u) before (tell.Link x usable ∷ words) ≡ last_said (link_said u) usable words =
+      λ before. ap (λ b. last_said (link_said u) (unwrap_or (if b then Some usable else None) before) words) here in
+      true≢false (sym (quiet u stranger true) ∙ said true ∙ sym (said false) ∙ quiet u stranger false)
+
+  near_words : (words : List ToManager) → NoStranger words → AllByRecursion IsNear words
+  near_words [] quiet = tt
+  near_words (tell.Link x usable ∷ words) quiet = (
+    elim (cases_Bool (is_neighbour plan s x)) [
+      | inl near ↦ near
+      | inr stranger ↦ absurd (not_said x usable x words (same_itself x) stranger quiet)
+    ],
+    near_words words (λ u stranger before. elim (cases_Bool (same_switch x u)) [
+      | inl here ↦ absurd (not_said u usable x words here stranger quiet)
+      | inr other ↦ sym (ap (λ b. last_said (link_said u) (unwrap_or (if b then Some usable else None) before) words) other) ∙ quiet u stranger before
+    ]),
+  )
+  near_words (tell.Place place ∷ words) quiet = (tt, near_words words quiet)
+  near_words (tell.PodWanted ∷ words) quiet = (tt, near_words words quiet)
+  near_words (tell.Learned pmac amac ip ∷ words) quiet = (tt, near_words words quiet)
+  near_words (tell.Query asker asker_ip ip ∷ words) quiet = (tt, near_words words quiet)
+  near_words (tell.Members group any ∷ words) quiet = (tt, near_words words quiet)
+
+  both_true : (own : Place) (words : List ToManager) → AllByRecursion (IsSaid (λ place. IsTrueOf place own) (rank_of plan s ≡ 0)) words → AllByRecursion IsNear words →
+      AllByRecursion (IsTrueReport plan s own) words
+  both_true own [] said near = tt
+  both_true own (tell.Place place ∷ words) said near = (said.0, both_true own words said.1 near.1)
+  both_true own (tell.Link u usable ∷ words) said near = (near.0, both_true own words said.1 near.1)
+  both_true own (tell.PodWanted ∷ words) said near = (tt, both_true own words said.1 near.1)
+  both_true own (tell.Learned pmac amac ip ∷ words) said near = (tt, both_true own words said.1 near.1)
+  both_true own (tell.Query asker asker_ip ip ∷ words) said near = (tt, both_true own words said.1 near.1)
+  both_true own (tell.Members group any ∷ words) said near = (said.0, both_true own words said.1 near.1)
+
 module _ (plan : Plan) (is : IsPlan plan) where
   -- items leave queues
   left_trees : (f g : ControlPlane) → IsLeft f g → AreTrees plan f → AreTrees plan g
   left_trees f g left trees = record {
-    reports = λ s. all_left (IsTrueReport (rank_of plan s)) (f.reports s) (g.reports s) (left.reports s) (trees.reports s);
-    places = subst (λ (m : ManagerView). AllByRecursion (IsTruePlace plan) m.told.places) (sym left.manager) trees.places;
+    reports = λ s. all_left (IsTrueReport plan s (g.view s).place) (f.reports s) (g.reports s) (left.reports s)
+        (subst (λ (v : SwitchView). AllByRecursion (IsTrueReport plan s v.place) (f.reports s)) (sym (left.view s)) (trees.reports s));
+    places = subst (λ (m : ManagerView). AllByRecursion (IsTruePlace plan g.view) m.told.places) (sym left.manager)
+        (places_later plan f.view g.view (λ t. subst (λ (v : SwitchView). IsTrueOf (f.view t).place v.place) (sym (left.view t)) (true_of_itself (f.view t).place))
+        f.manager.told.places trees.places);
+    links = subst (λ (m : ManagerView). AllByRecursion (IsTrueLink plan) m.told.links) (sym left.manager) trees.links;
     members = subst (λ (m : ManagerView). AllByRecursion (AreTrueMembers plan) m.members) (sym left.manager) trees.members;
     orders = λ s. all_left (IsTrueOrder plan (rank_of plan s)) (f.orders s) (g.orders s) (left.orders s) (trees.orders s);
     held = λ s. subst (λ (v : SwitchView). AllByRecursion (λ part. IsTruePart plan (rank_of plan s) (Some part.1)) v.parts) (sym (left.view s)) (trees.held s);
@@ -119,23 +205,33 @@ module _ (plan : Plan) (is : IsPlan plan) where
   parts_true s (Says (say.Invalidate a b c d)) parts order all = all
 
   -- a switch steps
-  turn_trees : (f g : ControlPlane) (s : ℕ) (input : SwitchInput) (turns : SwitchTurns Loose f s input g) →
-      AreTrue (rank_of plan s) (switch_step turns.ruled.choose (f.view s) input).acts → ((says : ToSwitch) → input ≡ Says says → IsTrueOrder plan (rank_of plan s) says) →
-      AreTrees plan f → AreTrees plan g
-  turn_trees f g s input turns words order trees =
+  turn_trees : (f g : ControlPlane) (s : ℕ) (input : SwitchInput) (turns : SwitchTurns Loose f s input g) → ((t : ℕ) → IsTrueOf (f.view t).place (g.view t).place) →
+      ((p : ℕ) (u : SwitchId) → id_at (g.view s) p ≡ Some u → is_neighbour plan s u ≡ true) →
+      AreTrue (λ place. IsTrueOf place (g.view s).place) (rank_of plan s ≡ 0) (switch_step turns.ruled.choose (f.view s) input).acts →
+      ((says : ToSwitch) → input ≡ Says says → IsTrueOrder plan (rank_of plan s) says) → AreTrees plan f → AreTrees plan g
+  turn_trees f g s input turns grown near words order trees =
       let step : SwitchStep = switch_step turns.ruled.choose (f.view s) input in
-      let told : AllByRecursion (IsTrueReport (rank_of plan s)) (tells turns.acts) =
-      subst (λ a. AllByRecursion (IsTrueReport (rank_of plan s)) (tells a)) (sym turns.ruled.steps.done) (true_words (rank_of plan s) step.acts words) in
-      let parts : (g.view s).parts ≡ parts_then input (f.view s).parts =
-      ap (λ (v : SwitchView). v.parts) (turns.acted.here ∙ turns.ruled.steps.view) ∙ (tells_right turns.ruled.choose (f.view s) input).parts in
+      let view : g.view s ≡ step.view = turns.acted.here ∙ turns.ruled.steps.view in
+      let right = tells_right turns.ruled.choose (f.view s) input in
+      let quiet : NoStranger plan s (tells step.acts) = λ u stranger before. right.others u (λ p at.
+      true≢false (sym (near p u (ap (λ (v : SwitchView). id_at v p) view ∙ at)) ∙ stranger)) before in
+      let told : AllByRecursion (IsTrueReport plan s (g.view s).place) (tells turns.acts) =
+      subst (λ a. AllByRecursion (IsTrueReport plan s (g.view s).place) (tells a)) (sym turns.ruled.steps.done)
+      (both_true plan s (g.view s).place (tells step.acts) (true_words (λ place. IsTrueOf place (g.view s).place) (rank_of plan s ≡ 0) step.acts words)
+      (near_words plan s (tells step.acts) quiet)) in
+      let parts : (g.view s).parts ≡ parts_then input (f.view s).parts = ap (λ (v : SwitchView). v.parts) view ∙ right.parts in
       record {
         reports = λ t. elim (cases_eq t s) [
-          | inl here ↦ subst (λ n. AllByRecursion (IsTrueReport (rank_of plan n)) (g.reports n)) (sym here)
-              (subst (AllByRecursion (IsTrueReport (rank_of plan s))) (sym turns.acted.reports)
-              (all_append (IsTrueReport (rank_of plan s)) (f.reports s) (tells turns.acts) (trees.reports s) told))
-          | inr other ↦ subst (AllByRecursion (IsTrueReport (rank_of plan t))) (sym (turns.acted.other_reports t other)) (trees.reports t)
+          | inl here ↦ subst (λ n. AllByRecursion (IsTrueReport plan n (g.view n).place) (g.reports n)) (sym here)
+              (subst (AllByRecursion (IsTrueReport plan s (g.view s).place)) (sym turns.acted.reports)
+              (all_append (IsTrueReport plan s (g.view s).place) (f.reports s) (tells turns.acts)
+              (reports_later plan s (f.view s).place (g.view s).place (grown s) (f.reports s) (trees.reports s)) told))
+          | inr other ↦ subst (AllByRecursion (IsTrueReport plan t (g.view t).place)) (sym (turns.acted.other_reports t other))
+              (reports_later plan t (f.view t).place (g.view t).place (grown t) (f.reports t) (trees.reports t))
         ];
-        places = subst (λ (m : ManagerView). AllByRecursion (IsTruePlace plan) m.told.places) (sym turns.acted.manager) trees.places;
+        places = subst (λ (m : ManagerView). AllByRecursion (IsTruePlace plan g.view) m.told.places) (sym turns.acted.manager)
+            (places_later plan f.view g.view grown f.manager.told.places trees.places);
+        links = subst (λ (m : ManagerView). AllByRecursion (IsTrueLink plan) m.told.links) (sym turns.acted.manager) trees.links;
         members = subst (λ (m : ManagerView). AllByRecursion (AreTrueMembers plan) m.members) (sym turns.acted.manager) trees.members;
         orders = λ t. subst (AllByRecursion (IsTrueOrder plan (rank_of plan t))) (sym (turns.acted.orders t)) (trees.orders t);
         held = λ t. elim (cases_eq t s) [
@@ -207,14 +303,14 @@ module _ (plan : Plan) (is : IsPlan plan) where
   said_flat f [] each = tt
   said_flat f (x ∷ xs) each = said_append (f x) (flat_map f xs) (each x) (said_flat f xs each)
 
-  trees_said : (before after : ManagerView) → AllByRecursion (IsTruePlace plan) after.told.places → AllByRecursion (AreTrueMembers plan) after.members →
+  trees_said : (before after : ManagerView) → AllByRecursion (HasLevel plan) after.told.places → AllByRecursion (AreTrueMembers plan) after.members →
       AreTrueSaid (tree_acts before after)
   trees_said before after places members =
       said_flat (tree_acts_of before after) (groups after.members) (λ group.
       said_map (λ x. Say x (say.Tree group (part_in after group x))) (changed_of_group before after group)
       (λ x s named. part_true plan after.told after.members places members group s x named))
 
-  acts_true : (before after : ManagerView) (id : SwitchId) (told : ToManager) → AllByRecursion (IsTruePlace plan) after.told.places →
+  acts_true : (before after : ManagerView) (id : SwitchId) (told : ToManager) → AllByRecursion (HasLevel plan) after.told.places →
       AllByRecursion (AreTrueMembers plan) after.members → AreTrueSaid (acts_of before after id told)
   acts_true before after id told places members =
       said_append (reply before after id told ++ avoid_acts before.told after.told) (tree_acts before after)
@@ -223,44 +319,66 @@ module _ (plan : Plan) (is : IsPlan plan) where
       (trees_said before after places members)
 
   -- what it knows once it heard what is so
-  places_after : (view : ManagerView) (s : ℕ) (id : SwitchId) (told : ToManager) → slice_get plan.ids s ≡ Some id → IsTrueReport (rank_of plan s) told →
-      AllByRecursion (IsTruePlace plan) view.told.places → AllByRecursion (IsTruePlace plan) (view_after view id told).told.places
-  places_after view s id (tell.Place place) named so all =
-      all_inserted id_cmp id_exact (IsTruePlace plan) view.told.places id place
-      (λ t also x level. subst (λ n. x ≡ rank_of plan n) (one_switch plan is s t id id named also refl) (so x level)) all
-  places_after view s id (tell.Link u usable) named so all = all
-  places_after view s id tell.PodWanted named so all = all
-  places_after view s id (tell.Learned pmac amac ip) named so all = all
-  places_after view s id (tell.Query asker asker_ip ip) named so all = all
-  places_after view s id (tell.Members group any) named so all = all
+  module _ (view : ManagerView) (s : ℕ) (id : SwitchId) (named : slice_get plan.ids s ≡ Some id) where
+    itself : (t : ℕ) → slice_get plan.ids t ≡ Some id → s ≡ t
+    itself t also = one_switch plan is s t id id named also refl
 
-  members_after : (view : ManagerView) (s : ℕ) (id : SwitchId) (told : ToManager) → slice_get plan.ids s ≡ Some id → IsTrueReport (rank_of plan s) told →
-      AllByRecursion (AreTrueMembers plan) view.members → AllByRecursion (AreTrueMembers plan) (view_after view id told).members
-  members_after view s id (tell.Members group any) named so all =
-      all_inserted members_cmp members_exact (AreTrueMembers plan) view.members (id, group) any
-      (λ t also some. subst (λ n. rank_of plan n ≡ 0) (one_switch plan is s t id id named also refl) (so some)) all
-  members_after view s id (tell.Place place) named so all = all
-  members_after view s id (tell.Link u usable) named so all = all
-  members_after view s id tell.PodWanted named so all = all
-  members_after view s id (tell.Learned pmac amac ip) named so all = all
-  members_after view s id (tell.Query asker asker_ip ip) named so all = all
+    places_after : (views : ℕ → SwitchView) (told : ToManager) → IsTrueReport plan s (views s).place told → AllByRecursion (IsTruePlace plan views) view.told.places →
+        AllByRecursion (IsTruePlace plan views) (view_after view id told).told.places
+    places_after views (tell.Place place) so all =
+        all_inserted id_cmp id_exact (IsTruePlace plan views) view.told.places id place
+        (λ t also. subst (λ n. IsTrueOf place (views n).place) (itself t also) so) all
+    places_after views (tell.Link u usable) so all = all
+    places_after views tell.PodWanted so all = all
+    places_after views (tell.Learned pmac amac ip) so all = all
+    places_after views (tell.Query asker asker_ip ip) so all = all
+    places_after views (tell.Members group any) so all = all
 
-  manager_trees : (f m g : ControlPlane) (s : ℕ) (id : SwitchId) (told : ToManager) → f.plan ≡ plan → slice_get plan.ids s ≡ Some id → IsReportTaken f s told m →
-      ManagerTurns manager_rule m id told g → AreTrees plan f → AreTrees plan g
+    links_after : (own : Place) (told : ToManager) → IsTrueReport plan s own told → AllByRecursion (IsTrueLink plan) view.told.links →
+        AllByRecursion (IsTrueLink plan) (view_after view id told).told.links
+    links_after own (tell.Link u usable) so all =
+        all_inserted link_cmp link_exact (IsTrueLink plan) view.told.links (id, u) usable (λ t also. subst (λ n. is_neighbour plan n u ≡ true) (itself t also) so) all
+    links_after own (tell.Place place) so all = all
+    links_after own tell.PodWanted so all = all
+    links_after own (tell.Learned pmac amac ip) so all = all
+    links_after own (tell.Query asker asker_ip ip) so all = all
+    links_after own (tell.Members group any) so all = all
+
+    members_after : (own : Place) (told : ToManager) → IsTrueReport plan s own told → AllByRecursion (AreTrueMembers plan) view.members →
+        AllByRecursion (AreTrueMembers plan) (view_after view id told).members
+    members_after own (tell.Members group any) so all =
+        all_inserted members_cmp members_exact (AreTrueMembers plan) view.members (id, group) any (λ t also. subst (λ n. rank_of plan n ≡ 0) (itself t also) so) all
+    members_after own (tell.Place place) so all = all
+    members_after own (tell.Link u usable) so all = all
+    members_after own tell.PodWanted so all = all
+    members_after own (tell.Learned pmac amac ip) so all = all
+    members_after own (tell.Query asker asker_ip ip) so all = all
+
+  manager_trees : (f m g : ControlPlane) (s : ℕ) (id : SwitchId) (told : ToManager) → f.plan ≡ plan → ((t : ℕ) → IsLevel (rank_of plan t) (f.view t).place) →
+      slice_get plan.ids s ≡ Some id → IsReportTaken f s told m → ManagerTurns manager_rule m id told g → AreTrees plan f → AreTrees plan g
   unfolding manager_hears
-  manager_trees f m g s id told same named taken turns trees =
+  manager_trees f m g s id told same level named taken turns trees =
       let mid = left_trees f m taken.left trees in
-      let so : IsTrueReport (rank_of plan s) told =
-      (let all : AllByRecursion (IsTrueReport (rank_of plan s)) (told ∷ m.reports s) = subst (AllByRecursion (IsTrueReport (rank_of plan s))) taken.first (trees.reports s) in all.0) in
-      let known : g.manager ≡ view_after m.manager id told = turns.manager ∙ turns.ruled.0 in
-      let acts : turns.acts ≡ acts_of m.manager (view_after m.manager id told) id told = turns.ruled.1 in
-      let places = places_after m.manager s id told named so mid.places in
-      let members = members_after m.manager s id told named so mid.members in
-      let good : AreTrueSaid turns.acts = subst AreTrueSaid (sym acts) (acts_true m.manager (view_after m.manager id told) id told places members) in
+      let so : IsTrueReport plan s (m.view s).place told =
+      (let all : AllByRecursion (IsTrueReport plan s (f.view s).place) (told ∷ m.reports s) =
+      subst (AllByRecursion (IsTrueReport plan s (f.view s).place)) taken.first (trees.reports s) in
+      subst (λ (v : SwitchView). IsTrueReport plan s v.place told) (sym (taken.left.view s)) all.0) in
+      let after : ManagerView = view_after m.manager id told in
+      let known : g.manager ≡ after = turns.manager ∙ turns.ruled.0 in
+      let acts : turns.acts ≡ acts_of m.manager after id told = turns.ruled.1 in
+      let places = places_after m.manager s id named m.view told so mid.places in
+      let members = members_after m.manager s id named (m.view s).place told so mid.members in
+      let levels = levels_of plan m.view (λ t. subst (λ (v : SwitchView). IsLevel (rank_of plan t) v.place) (sym (taken.left.view t)) (level t)) after.told.places places in
+      let good : AreTrueSaid turns.acts = subst AreTrueSaid (sym acts) (acts_true m.manager after id told levels members) in
       let at : m.plan ≡ plan = taken.left.plan ∙ same in
       record {
-        reports = λ t. subst (AllByRecursion (IsTrueReport (rank_of plan t))) (sym (turns.reports t)) (mid.reports t);
-        places = subst (λ (x : ManagerView). AllByRecursion (IsTruePlace plan) x.told.places) (sym known) places;
+        reports = λ t. subst (λ (v : SwitchView). AllByRecursion (IsTrueReport plan t v.place) (g.reports t)) (sym (turns.view t))
+            (subst (AllByRecursion (IsTrueReport plan t (m.view t).place)) (sym (turns.reports t)) (mid.reports t));
+        places = subst (λ (x : ManagerView). AllByRecursion (IsTruePlace plan g.view) x.told.places) (sym known)
+            (places_later plan m.view g.view (λ t. subst (λ (v : SwitchView). IsTrueOf (m.view t).place v.place) (sym (turns.view t)) (true_of_itself (m.view t).place))
+            after.told.places places);
+        links = subst (λ (x : ManagerView). AllByRecursion (IsTrueLink plan) x.told.links) (sym known)
+            (links_after m.manager s id named (m.view s).place told so mid.links);
         members = subst (λ (x : ManagerView). AllByRecursion (AreTrueMembers plan) x.members) (sym known) members;
         orders = λ t. subst (AllByRecursion (IsTrueOrder plan (rank_of plan t))) (sym (turns.orders t ∙ ap (λ p. m.orders t ++ ordered p t turns.acts) at))
             (all_append (IsTrueOrder plan (rank_of plan t)) (m.orders t) (ordered plan t turns.acts) (mid.orders t) (all_ordered t turns.acts good));
@@ -289,18 +407,61 @@ closed_by r no_host heard = ap (λ b. b || is_none r.heard) no_host ∙ by_optio
 
 -- A step of the control plane.
 
-module _ (plan : Plan) (is : IsPlan plan) (f g : ControlPlane) (same : f.plan ≡ plan) (before : ArePlaced plan f) (after : ArePlaced plan g) where
+module _ (plan : Plan) (is : IsPlan plan) (f g : ControlPlane) (same : f.plan ≡ plan) (before : ArePlaced plan f)
+    (grown : (s : ℕ) → IsTrueOf (f.view s).place (g.view s).place) (near : (s p : ℕ) (u : SwitchId) → id_at (g.view s) p ≡ Some u → is_neighbour plan s u ≡ true) where
+  -- what is told in the step is told of the place behind it
+  abbrev Tells : ℕ → SwitchStep → Type 0
+  Tells s step = AreTrue (λ place. IsTrueOf place (g.view s).place) (rank_of plan s ≡ 0) step.acts
+
+  turn : (m : ControlPlane) (s : ℕ) (input : SwitchInput) (turns : SwitchTurns Loose m s input g) → ((t : ℕ) → m.view t ≡ f.view t) →
+      Tells s (switch_step turns.ruled.choose (m.view s) input) → ((says : ToSwitch) → input ≡ Says says → IsTrueOrder plan (rank_of plan s) says) → AreTrees plan m → AreTrees plan g
+  turn m s input turns view words order trees =
+      turn_trees plan is m g s input turns (λ t. subst (λ (v : SwitchView). IsTrueOf v.place (g.view t).place) (sym (view t)) (grown t)) (near s) words order trees
+
+  -- the place behind the step, by the step
+  then_place : (m : ControlPlane) (s : ℕ) (input : SwitchInput) (turns : SwitchTurns Loose m s input g) (step : SwitchStep) →
+      switch_step turns.ruled.choose (m.view s) input ≡ step → IsTrueOf step.view.place (g.view s).place
+  then_place m s input turns step is_step =
+      subst (λ (v : SwitchView). IsTrueOf v.place (g.view s).place) (turns.acted.here ∙ turns.ruled.steps.view ∙ ap (λ (x : SwitchStep). x.view) is_step)
+      (true_of_itself (g.view s).place)
+
   -- a control frame at a port
-  heard_true : (m : ControlPlane) (s port : ℕ) (frame : List ℕ) (turns : SwitchTurns Loose m s (Comes port frame) g) → m.view s ≡ f.view s → is_control frame ≡ true →
-      AreTrue (rank_of plan s) (switch_step turns.ruled.choose (m.view s) (Comes port frame)).acts
-  heard_true m s port frame turns same_view control =
+  heard_true : (m : ControlPlane) (s port : ℕ) (frame : List ℕ) (turns : SwitchTurns Loose m s (Comes port frame) g) → is_control frame ≡ true →
+      Tells s (switch_step turns.ruled.choose (m.view s) (Comes port frame))
+  heard_true m s port frame turns control =
       let v : SwitchView = m.view s in
       let step : switch_step turns.ruled.choose v (Comes port frame) ≡ control_comes v port frame =
       cond-true (is_control frame) (control_comes v port frame) (data_comes turns.ruled.choose v port frame) control in
-      let then_view : g.view s ≡ (control_comes v port frame).view = turns.acted.here ∙ turns.ruled.steps.view ∙ ap (λ (x : SwitchStep). x.view) step in
-      subst (λ (x : SwitchStep). AreTrue (rank_of plan s) x.acts) (sym step)
-      (control_true (rank_of plan s) v port frame (subst (λ (x : SwitchView). IsLevel (rank_of plan s) x.place) (sym same_view) (level_is plan f before s))
-      (subst (λ (x : SwitchView). IsLevel (rank_of plan s) x.place) then_view (level_is plan g after s)))
+      subst (Tells s) (sym step)
+      (control_true (λ place. IsTrueOf place (g.view s).place) (rank_of plan s ≡ 0) v port frame (then_place m s (Comes port frame) turns (control_comes v port frame) step))
+
+  -- a data frame over a link
+  carried_true : (m : ControlPlane) (t q s port : ℕ) (frame : List ℕ) (turns : SwitchTurns Loose m s (Comes port frame) g) → m.view s ≡ f.view s →
+      AreJoined f.plan t q s port → is_control frame ≡ false → f.carries t q ≡ true → Tells s (switch_step turns.ruled.choose (m.view s) (Comes port frame))
+  carried_true m t q s port frame turns same_view joined control carries =
+      let v : SwitchView = m.view s in
+      let link = before.links t q s port (subst (λ (p : Plan). AreJoined p t q s port) same joined) in
+      let closed : is_open_to_hosts (port_of v port) ≡ false = subst (λ (x : SwitchView). is_open_to_hosts (port_of x port) ≡ false) (sym same_view)
+      (closed_by (port_of (f.view s) port) link.recorded.no_host (link.evidence carries)) in
+      let step : switch_step turns.ruled.choose v (Comes port frame) ≡ comes_from_switch turns.ruled.choose v port frame =
+      cond-false (is_control frame) (control_comes v port frame) (data_comes turns.ruled.choose v port frame) control
+      ∙ cond-false (is_open_to_hosts (port_of v port)) (comes_from_host turns.ruled.choose v port frame) (comes_from_switch turns.ruled.choose v port frame) closed in
+      subst (Tells s) (sym step) (over_link_true (λ place. IsTrueOf place (g.view s).place) (rank_of plan s ≡ 0) turns.ruled.choose v port frame)
+
+  -- a frame of a host
+  entered_true : (s port : ℕ) (frame : List ℕ) (turns : SwitchTurns Loose f s (Comes port frame) g) → rank_of plan s ≡ 0 → is_control frame ≡ false →
+      Tells s (switch_step turns.ruled.choose (f.view s) (Comes port frame))
+  entered_true s port frame turns edge control =
+      let v : SwitchView = f.view s in
+      let choose : Choice = turns.ruled.choose in
+      let own : Place → Type 0 = λ place. IsTrueOf place (g.view s).place in
+      let data_step = cond-false (is_control frame) (control_comes v port frame) (data_comes choose v port frame) control in
+      subst (Tells s) (sym data_step)
+      (cond_both (is_open_to_hosts (port_of v port)) (comes_from_host choose v port frame) (comes_from_switch choose v port frame)
+      (λ (step : SwitchStep). own step.view.place → Tells s step)
+      (λ opens later. of_host_true own (rank_of plan s ≡ 0) choose v port frame edge later)
+      (λ closed later. over_link_true own (rank_of plan s ≡ 0) choose v port frame)
+      (then_place f s (Comes port frame) turns (data_comes choose v port frame) data_step))
 
   edge_rank : (s : ℕ) → s < edge_count plan.k → rank_of plan s ≡ 0
   edge_rank s edge = ap rank (label_of-edge plan.k s edge)
@@ -308,36 +469,21 @@ module _ (plan : Plan) (is : IsPlan plan) (f g : ControlPlane) (same : f.plan �
   pub plane_trees : AreTrees plan f → PlaneStep Loose manager_rule f g → AreTrees plan g
   plane_trees trees (Left left) = left_trees plan is f g left trees
   plane_trees trees (Ticked s turns) =
-      turn_trees plan is f g s Tick turns (ticks_true (rank_of plan s) (f.view s) (level_is plan f before s)) (λ says e. absurd (cc)) trees
+      turn f s Tick turns (λ t. refl) (ticks_true (λ place. IsTrueOf place (g.view s).place) (rank_of plan s ≡ 0) (f.view s) (grown s)) (λ says e. absurd (cc)) trees
   plane_trees trees (Heard t q s port frame mid joined control taken turns) =
-      turn_trees plan is mid g s (Comes port frame) turns (heard_true mid s port frame turns (taken.left.view s) control) (λ says e. absurd (cc))
-      (left_trees plan is f mid taken.left trees)
+      turn mid s (Comes port frame) turns taken.left.view (heard_true mid s port frame turns control) (λ says e. absurd (cc)) (left_trees plan is f mid taken.left trees)
   plane_trees trees (Carried t q s port frame mid joined control carries taken turns) =
-      let v : SwitchView = mid.view s in
-      let link = before.links t q s port (subst (λ (p : Plan). AreJoined p t q s port) same joined) in
-      let closed : is_open_to_hosts (port_of v port) ≡ false = subst (λ (x : SwitchView). is_open_to_hosts (port_of x port) ≡ false) (sym (taken.left.view s))
-      (closed_by (port_of (f.view s) port) link.recorded.no_host (link.evidence carries)) in
-      let step : switch_step turns.ruled.choose v (Comes port frame) ≡ comes_from_switch turns.ruled.choose v port frame =
-      cond-false (is_control frame) (control_comes v port frame) (data_comes turns.ruled.choose v port frame) control
-      ∙ cond-false (is_open_to_hosts (port_of v port)) (comes_from_host turns.ruled.choose v port frame) (comes_from_switch turns.ruled.choose v port frame) closed in
-      turn_trees plan is mid g s (Comes port frame) turns
-      (subst (λ (x : SwitchStep). AreTrue (rank_of plan s) x.acts) (sym step) (over_link_true (rank_of plan s) turns.ruled.choose v port frame)) (λ says e. absurd (cc))
+      turn mid s (Comes port frame) turns taken.left.view (carried_true mid t q s port frame turns (taken.left.view s) joined control carries) (λ says e. absurd (cc))
       (left_trees plan is f mid taken.left trees)
   plane_trees trees (Entered s port frame edge within free control turns) =
-      let v : SwitchView = f.view s in
-      let zero_rank = edge_rank s (subst (λ (p : Plan). s < edge_count p.k) same edge) in
-      turn_trees plan is f g s (Comes port frame) turns
-      (cond_both (is_control frame) (control_comes v port frame) (data_comes turns.ruled.choose v port frame) (λ step. AreTrue (rank_of plan s) step.acts)
-      (λ is_one. absurd (false≢true (sym control ∙ is_one)))
-      (λ data_frame. cond_both (is_open_to_hosts (port_of v port)) (comes_from_host turns.ruled.choose v port frame) (comes_from_switch turns.ruled.choose v port frame)
-      (λ step. AreTrue (rank_of plan s) step.acts) (λ opens. of_host_true (rank_of plan s) turns.ruled.choose v port frame zero_rank)
-      (λ closed. over_link_true (rank_of plan s) turns.ruled.choose v port frame))) (λ says e. absurd (cc)) trees
+      turn f s (Comes port frame) turns (λ t. refl) (entered_true s port frame turns (edge_rank s (subst (λ (p : Plan). s < edge_count p.k) same edge)) control)
+      (λ says e. absurd (cc)) trees
   plane_trees trees (Ordered s says mid taken turns) =
       let order : AllByRecursion (IsTrueOrder plan (rank_of plan s)) (says ∷ mid.orders s) = subst (AllByRecursion (IsTrueOrder plan (rank_of plan s))) taken.first (trees.orders s) in
-      let v : SwitchView = mid.view s in
       let there : s < switch_count plan.k = subst (λ (p : Plan). s < switch_count p.k) (taken.left.plan ∙ same) turns.there in
-      turn_trees plan is mid g s (Says says) turns
-      (hears_true (rank_of plan s) turns.ruled.choose v says (subst (λ (x : SwitchView). IsLevel (rank_of plan s) x.place) (sym (taken.left.view s)) (level_is plan f before s))
+      turn mid s (Says says) turns taken.left.view
+      (hears_true (λ place. IsTrueOf place (g.view s).place) (rank_of plan s ≡ 0) turns.ruled.choose (mid.view s) says
+      (then_place mid s (Says says) turns (hears_manager turns.ruled.choose (mid.view s) says) refl)
       (subst (λ (x : SwitchView). (group : ℕ) → has_member_of x.members group ≡ true → rank_of plan s ≡ 0) (sym (taken.left.view s)) (members_are plan f before s there)))
       (λ word e. subst (IsTrueOrder plan (rank_of plan s)) (said_is says word e) order.0)
       (left_trees plan is f mid taken.left trees)
@@ -350,4 +496,4 @@ module _ (plan : Plan) (is : IsPlan plan) (f g : ControlPlane) (same : f.plan �
       said_is : (a b : ToSwitch) → Says a ≡ Says b → a ≡ b
       said_is a b e = ap said_of e
   plane_trees trees (Managed s id told mid there named taken turns) =
-      manager_trees plan is f mid g s id told same (ap (λ (p : Plan). slice_get p.ids s) (sym same) ∙ named) taken turns trees
+      manager_trees plan is f mid g s id told same (level_is plan f before) (ap (λ (p : Plan). slice_get p.ids s) (sym same) ∙ named) taken turns trees

@@ -1,6 +1,6 @@
--- The parts that the manager hands out: by true places and members each part of an aggregation switch leads to edge switches.
+-- The parts that the manager hands out: by true levels and members each part leads up and down by one level.
 use Rattle.std.proofs.Common.{◌≡◌, ℕ, zero, suc, ◌==◌, ◌&&◌, ◌||◌, Bool, true, false, cond, List, [], ◌∷◌, map, Option, None, Some, slice_get, unwrap_or, refl, sym, ap, ◌∙◌, subst, arith, inl, inr}
-use Rattle.std.specs.List.{AllByRecursion, cons_option, filter, filter_map, list_any}
+use Rattle.std.specs.List.{AllByRecursion, cons_option, filter, filter_map, find, list_any}
 use Rattle.std.specs.Option.{option_and_then, option_map}
 use Rattle.std.specs.Ordering.{match_ordering}
 use Rattle.std.specs.declared.cmp.Ordering.{Ordering}
@@ -10,17 +10,25 @@ use Rattle.std.specs.BTreeMap.{is_at}
 use Rattle.std.specs.BTreeSet.{insert_key}
 use Rattle.std.specs.Map.{lookup}
 use Rattle.std.proofs.lemmas.Option.{same_Some}
-use Rattle.std.proofs.lemmas.Bool.{and_parts, cases_Bool, cond-false, cond-true, cond_both, eqb-true, false≢true, or_cases, or_left, or_right}
+use Rattle.std.proofs.lemmas.Bool.{and_parts, cases_Bool, cond-false, cond-true, cond_both, eq-eqb, eqb-true, false≢true, or_cases, or_left, or_right}
 use Rattle.pl_frame.specs.declared.address.SwitchId.{SwitchId}
 use Rattle.pl_wiring.specs.Plan.{Plan}
 use Rattle.pl_layouts.specs.declared.place.Place.{Place}
 use Rattle.pl_layouts.specs.Equality.{same_switch}
 use Rattle.pl_layouts.specs.Memberships.{flood}
 use Rattle.pl_layouts.specs.Placement.{is_known, nowhere}
-use Rattle.pl_logic.specs.ManagerViews.{Members, PlacedEdge, Told, edge_at, edge_with, has_level, id_cmp, in_order, is_alive, place_of, placed_edges, switches, value_at, with_members}
-use Rattle.pl_logic.specs.Trees.{aggregation_part, core_for, core_of, core_part, cores, edge_part, largest, needed_edges, part_under, reach, tree_part}
+use Rattle.pl_logic.specs.ManagerViews.{Members, PlacedEdge, Told, alive_at_level, alive_neighbours, edge_at, edge_with, has_level, has_pod, id_cmp, in_order, is_alive, place_of, placed_edges, switches, value_at, with_members}
+use Rattle.pl_logic.specs.Trees.{aggregation_part, core_for, core_of, core_part, cores, edge_part, largest, needed_edges, part_under, reach, serves, tree_part}
 use Rattle.pl_manager_rule.proofs.Avoided.{id_exact, same_is}
-use Rattle.pl_trees.specs.Trees.{AreTrueMembers, IsLevel, IsTruePart, IsTruePlace, rank_of}
+use Rattle.pl_trees.specs.Trees.{AreTrueMembers, IsTruePart, rank_of}
+
+-- a known level is the rank of the switch
+abbrev pub IsLevel : ℕ → Place → Type 0
+IsLevel r place = (x : ℕ) → place.level ≡ Some x → x ≡ r
+
+-- so it is where the manager knows one, by the id of the switch
+abbrev pub HasLevel : Plan → SwitchId × Place → Type 0
+HasLevel plan entry = (t : ℕ) → slice_get plan.ids t ≡ Some entry.0 → IsLevel (rank_of plan t) entry.1
 
 -- Lists.
 
@@ -74,6 +82,33 @@ got_earlier {T} p (y ∷ ys) i x is = by_test (p y) (λ i e. got_earlier p ys i 
     by_test true rest (suc i) e = (let there = rest i e in (suc there.0, there.1))
     by_test false rest i e = (let there = rest i e in (suc there.0, there.1))
 
+any_found : (p : SwitchId → Bool) (xs : List SwitchId) (x : SwitchId) → find p xs ≡ Some x → list_any (λ (d : SwitchId). d.0 == x.0) xs ≡ true
+any_found p [] x is = absurd (cc)
+any_found p (y ∷ ys) x is = elim (cases_Bool (p y)) [
+  | inl here ↦ (let same : y ≡ x = same_Some y x (sym (cond-true (p y) (Some y) (find p ys) here) ∙ is) in
+      or_left (y.0 == x.0) (list_any (λ (d : SwitchId). d.0 == x.0) ys) (eq-eqb y.0 x.0 (ap (λ (d : SwitchId). d.0) same)))
+  | inr other ↦ or_right (y.0 == x.0) (list_any (λ (d : SwitchId). d.0 == x.0) ys) (any_found p ys x (sym (cond-false (p y) (Some y) (find p ys) other) ∙ is))
+]
+
+-- what is among those of a level has it
+any_level : (told : Told) (n : ℕ) (xs : List SwitchId) (x : SwitchId) → list_any (λ (d : SwitchId). d.0 == x.0) (filter (λ u. has_level told u n) xs) ≡ true →
+    has_level told x n ≡ true
+any_level told n [] x is = absurd (false≢true is)
+any_level told n (y ∷ ys) x is = by_test (has_level told y n) refl (any_level told n ys x) is
+  where
+    named : List SwitchId → Bool
+    named ids = list_any (λ (d : SwitchId). d.0 == x.0) ids
+
+    rest : List SwitchId
+    rest = filter (λ u. has_level told u n) ys
+
+    by_test : (b : Bool) → has_level told y n ≡ b → (named rest ≡ true → has_level told x n ≡ true) → named (cond b (y ∷ rest) rest) ≡ true → has_level told x n ≡ true
+    by_test false has later e = later e
+    by_test true has later e = elim (or_cases (y.0 == x.0) (named rest) e) [
+      | inl here ↦ ap (λ z. has_level told z n) (sym (same_is y x here)) ∙ has
+      | inr behind ↦ later behind
+    ]
+
 -- What the manager knows of one switch.
 
 pub found_true : {K X : Type 0} (P : K × X → Type 0) (test : K → Bool) (entries : List (K × X)) → AllByRecursion P entries → (x : X) → lookup test entries ≡ Some x →
@@ -85,14 +120,14 @@ found_true P test (e ∷ es) all x is = elim (cases_Bool (test e.0)) [
   | inr other ↦ found_true P test es all.1 x (sym (cond-false (test e.0) (Some e.1) (lookup test es) other) ∙ is)
 ]
 
-module _ (plan : Plan) (told : Told) (places : AllByRecursion (IsTruePlace plan) told.places) where
+module _ (plan : Plan) (told : Told) (places : AllByRecursion (HasLevel plan) told.places) where
   pub place_true : (t : ℕ) (s : SwitchId) → slice_get plan.ids t ≡ Some s → IsLevel (rank_of plan t) (place_of told s)
   place_true t s named = by_found (value_at id_cmp told.places s) refl
     where
       by_found : (o : Option Place) → value_at id_cmp told.places s ≡ o → IsLevel (rank_of plan t) (unwrap_or o nowhere)
       by_found None is x level = absurd (cc)
       by_found (Some place) is x level =
-          let found = found_true (IsTruePlace plan) (is_at (id_cmp s)) told.places places place is in
+          let found = found_true (HasLevel plan) (is_at (id_cmp s)) told.places places place is in
           let same : s ≡ found.0 = id_exact s found.0 ((Equal-is (id_cmp s found.0)).0 found.1) in
           found.2 t (named ∙ ap Some same) x level
 
@@ -119,6 +154,23 @@ module _ (plan : Plan) (told : Told) (places : AllByRecursion (IsTruePlace plan)
             sym (place_true t s (named ∙ ap Some (sym ids)) n at) ∙ eqb-true n 0 zero_level
         | inr other ↦ (let made : PlacedEdge = record { switch = s; pod = q; position = p } in let none = cond-false (n == 0) (Some made) None other in absurd (cc))
       ]
+
+  -- it is named by its own id
+  edge_named : (s : SwitchId) (level position pod : Option ℕ) (e : PlacedEdge) → edge_with s level position pod ≡ Some e → e.switch ≡ s
+  edge_named s None position pod e is = absurd (cc)
+  edge_named s (Some n) None pod e is = absurd (cc)
+  edge_named s (Some n) (Some p) None e is = absurd (cc)
+  edge_named s (Some n) (Some p) (Some q) e is =
+      let made : PlacedEdge = record { switch = s; pod = q; position = p } in
+      elim (cases_Bool (n == 0)) [
+        | inl edge ↦ ap (λ (x : PlacedEdge). x.switch) (sym (same_Some made e (sym (cond-true (n == 0) (Some made) None edge) ∙ is)))
+        | inr other ↦ (let none = cond-false (n == 0) (Some made) None other in absurd (cc))
+      ]
+
+  edge_itself : (t : ℕ) (id : SwitchId) (e : PlacedEdge) → slice_get plan.ids t ≡ Some id → edge_at id (place_of told id) ≡ Some e → rank_of plan t ≡ 0
+  edge_itself t id e named is =
+      let own = edge_named id (place_of told id).level (place_of told id).position (place_of told id).pod e is in
+      edge_true t id id e named is (eq-eqb e.switch.0 id.0 (ap (λ (d : SwitchId). d.0) own))
 
   placed_true : (t : ℕ) (id : SwitchId) → slice_get plan.ids t ≡ Some id → (ids : List SwitchId) →
       list_any (λ (d : SwitchId). d.0 == id.0) (map (λ (e : PlacedEdge). e.switch) (filter_map (λ s. edge_at s (place_of told s)) ids)) ≡ true → rank_of plan t ≡ 0
@@ -153,11 +205,11 @@ members_true plan (m ∷ members) all group t id named is =
     by_test : (b : Bool) → (m.0.1 == group && m.1) ≡ b → (named_in rest ≡ true → rank_of plan t ≡ 0) → named_in (cond b (m ∷ rest) rest) ≡ true → rank_of plan t ≡ 0
     by_test false here later e = later e
     by_test true here later e = elim (or_cases (m.0.0.0 == id.0) (named_in rest) e) [
-      | inl own ↦ all.0 t (named ∙ ap Some (sym (same_is m.0.0 id own))) (and_parts (m.0.1 == group) m.1 here).1
+      | inl own ↦ all.0 t (named ∙ ap Some (sym (same_is m.0.0 id own)))
       | inr behind ↦ later behind
     ]
 
-module _ (plan : Plan) (told : Told) (members : Members) (places : AllByRecursion (IsTruePlace plan) told.places) (all : AllByRecursion (AreTrueMembers plan) members) where
+module _ (plan : Plan) (told : Told) (members : Members) (places : AllByRecursion (HasLevel plan) told.places) (all : AllByRecursion (AreTrueMembers plan) members) where
   needed_true : (group t : ℕ) (id : SwitchId) → slice_get plan.ids t ≡ Some id → list_any (λ (d : SwitchId). d.0 == id.0) (needed_edges told members group) ≡ true → rank_of plan t ≡ 0
   needed_true group t id named =
       cond_both (group == flood) (map (λ (e : PlacedEdge). e.switch) (placed_edges told)) (with_members members group)
@@ -173,20 +225,41 @@ module _ (plan : Plan) (told : Told) (members : Members) (places : AllByRecursio
       let among = got_earlier best (cores told) _ core is in
       got_filtered (λ c. has_level told c 2) (switches told) among.0 core among.1
 
-  under_true : (needed : List SwitchId) → ((t : ℕ) (id : SwitchId) → slice_get plan.ids t ≡ Some id → list_any (λ (d : SwitchId). d.0 == id.0) needed ≡ true → rank_of plan t ≡ 0) →
-      (s : ℕ) (id core : SwitchId) → slice_get plan.ids s ≡ Some id → has_level told core 2 ≡ true → IsTruePart plan (rank_of plan s) (part_under told needed id core)
-  under_true needed edges s id core named is_core =
-      cond_both (same_switch id core) (Some (core_part told needed core)) _ (IsTruePart plan (rank_of plan s))
-      (λ itself one.
-      let level = level_true plan told places s id 2 named (subst (λ c. has_level told c 2 ≡ true) (sym (same_is id core itself)) is_core) in
-      absurd (omega (arith, level, one)))
-      (λ other. cond_both (has_level told id 1 && is_alive told id core) (Some (aggregation_part told needed core id)) _ (IsTruePart plan (rank_of plan s))
-      (λ aggregation one t d named_d below. edges t d named_d (any_filter (λ x. x.0 == d.0) (is_alive told id) needed below))
-      (λ no_aggregation. by_edge (edge_at id (place_of told id))))
-    where
-      by_edge : (o : Option PlacedEdge) → IsTruePart plan (rank_of plan s) (option_map (edge_part told core) o)
-      by_edge None = tt
-      by_edge (Some e) = λ one t d named_d below. absurd (false≢true below)
+  module _ (needed : List SwitchId) (edges : (t : ℕ) (id : SwitchId) → slice_get plan.ids t ≡ Some id → list_any (λ (d : SwitchId). d.0 == id.0) needed ≡ true → rank_of plan t ≡ 0)
+      (s : ℕ) (id core : SwitchId) (named : slice_get plan.ids s ≡ Some id) (is_core : has_level told core 2 ≡ true) where
+    core_leads : same_switch id core ≡ true → IsTruePart plan (rank_of plan s) (Some (core_part told needed core))
+    core_leads itself =
+        let two = level_true plan told places s id 2 named (subst (λ c. has_level told c 2 ≡ true) (sym (same_is id core itself)) is_core) in
+        record {
+          up = λ t d named_d above. absurd (cc);
+          down = λ t d named_d below. (let one = level_true plan told places t d 1 named_d (any_level told 1 (alive_neighbours told core) d
+              (any_filter (λ x. x.0 == d.0) (serves told needed) (alive_at_level told core 1) below)) in omega (arith, one, two));
+        }
+
+    aggregation_leads : (has_level told id 1 && is_alive told id core) ≡ true → IsTruePart plan (rank_of plan s) (Some (aggregation_part told needed core id))
+    aggregation_leads is =
+        let one = level_true plan told places s id 1 named (and_parts (has_level told id 1) (is_alive told id core) is).0 in
+        record {
+          up = λ t d named_d above. (let two = level_true plan told places t d 2 named_d (subst (λ c. has_level told c 2 ≡ true) (same_Some core d above) is_core) in
+              omega (arith, one, two));
+          down = λ t d named_d below. (let edge = edges t d named_d (any_filter (λ x. x.0 == d.0) (is_alive told id) needed below) in omega (arith, one, edge));
+        }
+
+    edge_leads : (o : Option PlacedEdge) → edge_at id (place_of told id) ≡ o → IsTruePart plan (rank_of plan s) (option_map (edge_part told core) o)
+    edge_leads None is = tt
+    edge_leads (Some e) is =
+        let edge = edge_itself plan told places s id e named is in
+        record {
+          up = λ t d named_d above. (let one = level_true plan told places t d 1 named_d (any_level told 1 (alive_neighbours told e.switch) d
+              (any_found (λ a. has_pod told a e.pod && is_alive told a core) (alive_at_level told e.switch 1) d above)) in omega (arith, one, edge));
+          down = λ t d named_d below. absurd (false≢true below);
+        }
+
+    under_true : IsTruePart plan (rank_of plan s) (part_under told needed id core)
+    under_true =
+        cond_both (same_switch id core) (Some (core_part told needed core)) _ (IsTruePart plan (rank_of plan s)) core_leads
+        (λ other. cond_both (has_level told id 1 && is_alive told id core) (Some (aggregation_part told needed core id)) _ (IsTruePart plan (rank_of plan s)) aggregation_leads
+        (λ no_aggregation. edge_leads (edge_at id (place_of told id)) refl))
 
   pub part_true : (group s : ℕ) (id : SwitchId) → slice_get plan.ids s ≡ Some id → IsTruePart plan (rank_of plan s) (tree_part told members group id)
   unfolding tree_part core_of

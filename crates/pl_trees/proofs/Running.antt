@@ -1,6 +1,6 @@
 -- In every run parts of trees lead down, and so at each port at most one frame of each root comes.
 use Rattle.std.proofs.Common.{◌≡◌, ℕ, zero, suc, ◌==◌, ◌<◌, true, List, [], ◌∷◌, ◌++◌, map, Option, None, Some, get_or, slice_get, refl, sym, ap, ◌∙◌, subst, arith}
-use Rattle.std.specs.List.{AllByRecursion, list_any}
+use Rattle.std.specs.List.{AllByRecursion}
 use Rattle.std.proofs.lemmas.Bool.{false≢true}
 use Rattle.std.proofs.lemmas.Option.{get_or_from_slice_get, slice_get_within}
 use Rattle.pl_frame.specs.declared.address.SwitchId.{SwitchId}
@@ -31,16 +31,21 @@ use Rattle.pl_control_plane.specs.HostsAtEdges.{IsAtEdge}
 use Rattle.pl_control_plane.proofs.Joined.{joined_turned}
 use Rattle.pl_control_plane.proofs.Staying.{plan_stays}
 use Rattle.pl_control_plane.proofs.Stepping.{step_in_plane}
-use Rattle.pl_places.specs.Places.{ArePlaced}
+use Rattle.pl_votes.proofs.Differing.{fixed_are_apart}
+use Rattle.pl_pods.proofs.Booted.{numbers_fit}
+use Rattle.pl_placing.proofs.Levels.{seen_later}
+use Rattle.pl_placing.proofs.Seeing.{step_seen}
 use Rattle.pl_kept.specs.Kept.{Kept}
 use Rattle.pl_kept.proofs.Grounding.{grounded}
 use Rattle.pl_kept.proofs.Keeping.{run_keeps_all}
+use Rattle.pl_records.specs.Records.{is_neighbour}
 use Rattle.pl_records.proofs.LinkRuns.{names_neighbours}
 use Rattle.pl_records.proofs.Running.{replicated}
+use Rattle.pl_records.proofs.Strangers.{neighbour_is}
 use Rattle.pl_copies.specs.Copies.{ComesOnce}
 use Rattle.pl_copies.specs.Standing.{KnowTrees, KnowsTree}
 use Rattle.pl_copies.proofs.Runs.{mark_once, once_at_first, step_once}
-use Rattle.pl_trees.specs.Trees.{AreTrees, IsTrueOrder, IsTruePart, IsTrueReport, rank_of}
+use Rattle.pl_trees.specs.Trees.{AreTrees, IsTrueOrder, IsTruePart, IsTrueReport, LeadsOn, rank_of}
 use Rattle.pl_trees.proofs.Keeping.{level_is, plane_trees}
 use Rattle.pl_trees.proofs.Parts.{found_true}
 
@@ -70,14 +75,18 @@ module _ (w : WorldView) (kept : Kept w) (trees : AreTrees w.plan (control_plane
       by_peer HostPort e = e
       by_peer (Switch u r) e = absurd (false≢true (sym (kept.placed.links u.0 r t q (joined_back t q u r e)).recorded.no_host ∙ host))
 
-  part_leads : (t group : ℕ) (part : TreePart) (q : ℕ) (u : SwitchNo) (r : ℕ) (id : SwitchId) → rank_of w.plan t ≡ 1 → part_of ((control_plane w).view t) group ≡ Some part →
-      peer_of w.plan t q ≡ Switch u r → id_at ((control_plane w).view t) q ≡ Some id → list_any (λ d. d.0 == id.0) part.down ≡ true → rank_of w.plan u.0 ≡ 0
-  part_leads t group part q u r id one has peer known below =
+  -- the part of a switch, and the switch that is named at a port of it
+  held_part : (t group : ℕ) (part : TreePart) → part_of ((control_plane w).view t) group ≡ Some part → LeadsOn w.plan (rank_of w.plan t) part
+  held_part t group part has =
+      (found_true (λ part. IsTruePart w.plan (rank_of w.plan t) (Some part.1)) (λ g. g == group) ((control_plane w).view t).parts (trees.held t) part has).2
+
+  named_there : (t q : ℕ) (u : SwitchNo) (r : ℕ) (id : SwitchId) → peer_of w.plan t q ≡ Switch u r → id_at ((control_plane w).view t) q ≡ Some id →
+      slice_get w.plan.ids u.0 ≡ Some id
+  named_there t q u r id peer known =
       let named = names_neighbours w kept t q id known in
-      let found = found_true (λ part. IsTruePart w.plan (rank_of w.plan t) (Some part.1)) (λ g. g == group) ((control_plane w).view t).parts (trees.held t) part has in
       let same : Switch u r ≡ Switch (record { 0 = named.0 }) named.1 = sym peer ∙ named.2 in
       let there : u.0 ≡ named.0 = ap number_at same in
-      found.2 one u.0 id (ap (slice_get w.plan.ids) there ∙ named.3) below
+      ap (slice_get w.plan.ids) there ∙ named.3
     where
       number_at : Peer → ℕ
       number_at (Switch x y) = x.0
@@ -96,7 +105,8 @@ module _ (w : WorldView) (kept : Kept w) (trees : AreTrees w.plan (control_plane
           strangers = kept.placed.strangers t;
           hosts = host_port t;
           members = (kept.placed.sound t there).homes.members;
-          parts = part_leads t;
+          up = λ group part q u r id has peer known. (held_part t group part has).up u.0 id (named_there t q u r id peer known);
+          down = λ group part q u r id has peer known. (held_part t group part has).down u.0 id (named_there t q u r id peer known);
         });
     closed = (grounded w kept.counted kept.placed kept.voting kept.given).neighbours;
   }
@@ -110,8 +120,9 @@ new_parts (id ∷ ids) k (suc s) = new_parts ids k s
 
 trees_at_first : (plan : Plan) (limits : Limits) → AreTrees plan (control_plane (booted plan limits))
 trees_at_first plan limits = record {
-  reports = λ s. subst (AllByRecursion (IsTrueReport (rank_of plan s))) (sym (replicated (switch_count plan.k) s [])) tt;
+  reports = λ s. subst (AllByRecursion (IsTrueReport plan s ((control_plane (booted plan limits)).view s).place)) (sym (replicated (switch_count plan.k) s [])) tt;
   places = tt;
+  links = tt;
   members = tt;
   orders = λ s. subst (AllByRecursion (IsTrueOrder plan (rank_of plan s))) (sym (replicated (switch_count plan.k) s [])) tt;
   held = λ s. subst (AllByRecursion (λ part. IsTruePart plan (rank_of plan s) (Some part.1))) (sym (new_parts plan.ids plan.k s)) tt;
@@ -138,8 +149,12 @@ module _ (host : HostRule) (sends : HostsSendData host) (owns : HostsSendOwn hos
       let after = run_keeps_all host sends owns plan limits (before ++ Step event ∷ []) rest.0 can longer in
       let taken = step_in_plane Loose manager_rule host loose_steps_are_accounted old event rest.0 kept.counted kept.hosts rest.1.0 rest.1.1 in
       let same = plan_stays Loose manager_rule (control_plane old) (control_plane rest.0) taken in
-      let trees = plane_trees old.plan kept.counted.formed.plan (control_plane old) (control_plane rest.0) refl kept.placed
-      (subst (λ (p : Plan). ArePlaced p (control_plane rest.0)) same after.placed) holds.trees taken in
+      let grown = seen_later (control_plane old) (control_plane rest.0) (step_seen manager_rule (control_plane old) (control_plane rest.0) kept.counted.formed.plan kept.placed
+      (fixed_are_apart old.plan (control_plane old).view (control_plane old).says kept.counted.formed.plan kept.voting) (numbers_fit (control_plane old) kept.counted.formed.plan kept.given) taken) in
+      let near : (s p : ℕ) (u : SwitchId) → id_at ((control_plane rest.0).view s) p ≡ Some u → is_neighbour old.plan s u ≡ true = λ s p u at.
+      let names = names_neighbours rest.0 after s p u at in
+      subst (λ (x : Plan). is_neighbour x s u ≡ true) same (neighbour_is rest.0.plan s p names.0 names.1 u after.counted.formed.plan names.2 names.3) in
+      let trees = plane_trees old.plan kept.counted.formed.plan (control_plane old) (control_plane rest.0) refl kept.placed grown near holds.trees taken in
       once_from plan limits can (before ++ Step event ∷ []) rest.0 longer (record {
         trees = subst (λ (p : Plan). AreTrees p (control_plane rest.0)) (sym same) trees;
         come = step_once manager_rule host old event rest.0 kept.counted (know_trees old kept holds.trees) rest.1.0 rest.1.1 holds.come;

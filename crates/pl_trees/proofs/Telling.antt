@@ -1,8 +1,7 @@
 -- What a switch tells in a step is so.
-use Rattle.std.proofs.Common.{◌≡◌, ℕ, zero, suc, ◌==◌, ◌&&◌, ◌||◌, not, nat_lt, Bool, true, false, if◌then◌else◌, List, [], ◌∷◌, ◌++◌, map, Option, None, Some, Result, Ok, Err, is_none, is_some, refl, sym, ap, ◌∙◌}
+use Rattle.std.proofs.Common.{◌≡◌, ℕ, zero, suc, ◌==◌, ◌&&◌, ◌||◌, not, nat_lt, Bool, true, false, if◌then◌else◌, List, [], ◌∷◌, ◌++◌, map, Option, None, Some, Result, Ok, Err, is_none, is_some, refl, sym, ◌∙◌, subst}
 use Rattle.std.specs.List.{AllByRecursion, filter, flat_map}
-use Rattle.std.proofs.lemmas.Option.{same_Some}
-use Rattle.std.proofs.lemmas.Bool.{cond_both}
+use Rattle.std.proofs.lemmas.Bool.{cond_both, false≢true}
 use Rattle.pl_frame.specs.declared.address.Ip4.{Ip4}
 use Rattle.pl_frame.specs.declared.address.Mac.{Mac}
 use Rattle.pl_frame.specs.declared.address.SwitchId.{SwitchId}
@@ -13,7 +12,6 @@ use Rattle.pl_pmac.specs.Pmac.{mac_of, pmac_of}
 use Rattle.pl_layouts.specs.declared.control.Control.{Control}
 use Rattle.pl_layouts.specs.declared.control.Control.TheVariants as control
 use Rattle.pl_layouts.specs.declared.control.ControlError.{ControlError}
-use Rattle.pl_layouts.specs.declared.control.Vote.{Vote}
 use Rattle.pl_layouts.specs.declared.place.Place.{Place}
 use Rattle.pl_layouts.specs.Control.{control_in}
 use Rattle.pl_layouts.specs.Frames.{is_arp, packet_in}
@@ -24,6 +22,7 @@ use Rattle.pl_journal.specs.declared.cause.Cause.TheVariants.{BadArp, NotPlaced,
 use Rattle.pl_journal.specs.Places.{are_alike}
 use Rattle.pl_logic.specs.declared.acts.Act.{Act}
 use Rattle.pl_logic.specs.declared.acts.Act.TheVariants as act
+use Rattle.pl_logic.specs.declared.messages.ToManager.{ToManager}
 use Rattle.pl_logic.specs.declared.messages.ToManager.TheVariants as tell
 use Rattle.pl_logic.specs.declared.messages.ToSwitch.{ToSwitch}
 use Rattle.pl_logic.specs.declared.messages.ToSwitch.TheVariants.{Answer, Avoid, Flood, Invalidate, Pod, Tree}
@@ -45,22 +44,65 @@ use Rattle.pl_switch_rule.specs.GroupForwarding.{destination_group, forwards_gro
 use Rattle.pl_switch_rule.specs.Intake.{comes_from_host, group_told, groups_of, groups_told, has_member_of, hears_members, is_for_switch, is_member, packet_acts, query, sends_in, source_pmac, takes, takes_in, takes_in_or_spent, with_pmac}
 use Rattle.pl_switch_rule.specs.Levels.{after_message, becomes_edge, changes_to, finds_host, has_become_placed, settles_in, with_pod}
 use Rattle.pl_switch_rule.specs.Messages.{answer_frame, flood_frame, floods, forgets_members, hears_manager, invalidates, probes, probes_at, sets_trap, takes_pod}
-use Rattle.pl_switch_rule.specs.Positions.{after_vote, answers_proposal, counted, fixes_position, frees_others, half, moves_on, with_granted}
+use Rattle.pl_switch_rule.specs.Positions.{after_vote, answers_proposal, frees_others, half}
 use Rattle.pl_switch_rule.specs.SwitchRule.{comes_from_switch, control_comes, hears_control}
 use Rattle.pl_switch_rule.specs.Telling.{changes_told, link_to, link_told, place_told, pod_wanted}
 use Rattle.pl_control_plane.specs.ControlPlanes.{tells}
-use Rattle.pl_trees.specs.Trees.{IsLevel, IsTrueReport}
+use Rattle.pl_addresses.proofs.Asides.{takes_in_aside}
 use Rattle.pl_trees.proofs.Parts.{any_filter}
 
-module _ (r : ℕ) where
+-- the places that are told are such, and members are told at an edge switch alone
+abbrev pub IsSaid : (Place → Type 0) → Type 0 → ToManager → Type 0
+IsSaid own edge (tell.Place place) = own place
+IsSaid own edge (tell.Members group any) = edge
+IsSaid own edge told = Unit {0}
+
+-- What settles in keeps its place.
+
+ip_place : (v : SwitchView) (address : Pmac) (o : Option Grant) (ip : Option Ip4) → (learns_ip v address o ip).view.place ≡ v.place
+ip_place v address None ip = refl
+ip_place v address (Some grant) None = refl
+ip_place v address (Some grant) (Some ip) = by_test (same_ip grant.ip ip)
+  where
+    by_test : (b : Bool) → (if◌then◌else◌ {A = SwitchStep} b (rests v) (record { view = with_grant v address (record grant { ip = Some ip }); acts = act.Tell (tell.Learned address grant.amac (Some ip)) ∷ [] })).view.place ≡ v.place
+    by_test true = refl
+    by_test false = refl
+
+grants_place : (v : SwitchView) (port : ℕ) (amac : Mac) (ip : Option Ip4) (o : Option ℕ) → (grants_or_learns v port amac ip o).view.place ≡ v.place
+grants_place v port amac ip (Some vmid) = ip_place v (address_at_port v port vmid) (grant_number (grants_at v port) vmid) ip
+grants_place v port amac ip None =
+    cond_both (is_port_spent v port) (rests v) (grants_next v port amac ip) (λ step. step.view.place ≡ v.place) (λ spent. refl) (λ free. refl)
+
+source_place : (v : SwitchView) (port : ℕ) (o : Option Source) → (grants_source v port o).view.place ≡ v.place
+source_place v port None = refl
+source_place v port (Some source) = grants_place v port source.amac source.ip (in_use (grants_at v port) source.amac)
+
+remembered_place : (ports : List ℕ) (v : SwitchView) → (grants_remembered ports v).view.place ≡ v.place
+unfolding grants_remembered
+remembered_place [] v = refl
+remembered_place (port ∷ ports) v =
+    let first : SwitchStep = grants_source v port (remembered_at v port) ▹ forgets port in
+    remembered_place ports first.view ∙ source_place v port (remembered_at v port)
+
+pub changes_place : (old new : SwitchView) → (changes_to old new).view.place ≡ new.place
+changes_place old new = cond_both (has_become_placed old.place new.place) (grants_remembered (ports_of_switch new.k) new) (rests new) (λ step. step.view.place ≡ new.place)
+    (λ settles. remembered_place (ports_of_switch new.k) new) (λ stays. refl)
+
+learns_place : (v : SwitchView) (port : ℕ) (frame : List ℕ) → (learns_source v port frame).view.place ≡ v.place
+learns_place v port frame =
+    cond_both (is_placed v.place) (grants_or_learns v port (source_of frame) (sender_ip frame) (in_use (grants_at v port) (source_of frame)))
+    (remembers v port (source_of frame) (sender_ip frame)) (λ step. step.view.place ≡ v.place)
+    (λ placed. grants_place v port (source_of frame) (sender_ip frame) (in_use (grants_at v port) (source_of frame))) (λ unplaced. refl)
+
+module _ (own : Place → Type 0) (edge : Type 0) where
   abbrev pub IsTrueAct : Act → Type 0
-  IsTrueAct (act.Tell told) = IsTrueReport r told
+  IsTrueAct (act.Tell told) = IsSaid own edge told
   IsTrueAct a = Unit {0}
 
   abbrev pub AreTrue : List Act → Type 0
   AreTrue acts = AllByRecursion IsTrueAct acts
 
-  pub true_words : (acts : List Act) → AreTrue acts → AllByRecursion (IsTrueReport r) (tells acts)
+  pub true_words : (acts : List Act) → AreTrue acts → AllByRecursion (IsSaid own edge) (tells acts)
   true_words [] all = tt
   true_words (act.Tell told ∷ acts) all = (all.0, true_words acts all.1)
   true_words (act.Control port frame ∷ acts) all = true_words acts all.1
@@ -197,33 +239,39 @@ module _ (r : ℕ) where
   link_true None b = tt
   link_true (Some id) b = (tt, tt)
 
-  told_true : (old new : SwitchView) → IsLevel r new.place → AreTrue (changes_told old new)
-  told_true old new level =
+  told_true : (old new : SwitchView) → own new.place → AreTrue (changes_told old new)
+  told_true old new so =
       true_append (place_told old.place new.place ++ flat_map (link_told old new) (ports_of_switch new.k)) (pod_wanted old.place new.place)
       (true_append (place_told old.place new.place) (flat_map (link_told old new) (ports_of_switch new.k))
-      (cond_both (same_place old.place new.place) [] (act.Tell (tell.Place new.place) ∷ []) AreTrue (λ same. tt) (λ other. (level, tt)))
+      (cond_both (same_place old.place new.place) [] (act.Tell (tell.Place new.place) ∷ []) AreTrue (λ same. tt) (λ other. (so, tt)))
       (true_flat (link_told old new) (ports_of_switch new.k) (λ port. cond_both (are_alike (is_usable old port) (is_usable new port)) [] (link_to (id_at new port) (is_usable new port)) AreTrue
       (λ same. tt) (λ other. link_true (id_at new port) (is_usable new port)))))
       (cond_both (is_known new.place.level 0 && is_known new.place.position 0 && not (is_known old.place.position 0)) (act.Tell tell.PodWanted ∷ []) [] AreTrue
       (λ wanted. (tt, tt)) (λ unwanted. tt))
 
-  pub changes_true : (old new : SwitchView) → IsLevel r new.place → Says (changes_to old new)
-  changes_true old new level = true_append (changes_told old new) (settles_in old.place new).acts (told_true old new level) (settles_true old.place new)
+  pub changes_true : (old new : SwitchView) → own new.place → Says (changes_to old new)
+  changes_true old new so = true_append (changes_told old new) (settles_in old.place new).acts (told_true old new so) (settles_true old.place new)
 
-  pub ticks_true : (v : SwitchView) → IsLevel r v.place → Says (ticks v)
-  ticks_true v level =
+  pub ticks_true : (v : SwitchView) → own v.place → Says (ticks v)
+  ticks_true v so =
       let new : SwitchView = with_aged_ports v in
-      true_append (changes_told v new) (announcements new) (told_true v new level)
+      true_append (changes_told v new) (announcements new) (told_true v new so)
       (true_append (map (λ port. act.Control port (announcement new port)) (ports_where new (announces_at new))) _
       (true_map (λ port. act.Control port (announcement new port)) (ports_where new (announces_at new)) (λ port. tt))
       (true_map (λ port. act.Control port (proposal new)) (ports_where new (proposes_at new)) (λ port. tt)))
 
   -- members
 
-  groups_true : (old new : List Member) → ((group : ℕ) → has_member_of new group ≡ true → r ≡ 0) → AreTrue (groups_told old new)
-  groups_true old new edge = true_flat (group_told old new) (groups_of (old ++ new)) (λ group.
+  groups_true : (old new : List Member) → ((group : ℕ) → are_alike (has_member_of old group) (has_member_of new group) ≡ false → edge) → AreTrue (groups_told old new)
+  groups_true old new changed = true_flat (group_told old new) (groups_of (old ++ new)) (λ group.
       cond_both (are_alike (has_member_of old group) (has_member_of new group)) [] (act.Tell (tell.Members group (has_member_of new group)) ∷ []) AreTrue
-      (λ same. tt) (λ other. (edge group, tt)))
+      (λ same. tt) (λ other. (changed group other, tt)))
+
+  -- where a group lost its last member, it had one
+  had_one : (old new : Bool) → (old ≡ true → edge) → (new ≡ true → edge) → are_alike old new ≡ false → edge
+  had_one true new before after other = before refl
+  had_one false true before after other = after refl
+  had_one false false before after other = absurd (false≢true (sym other))
 
   -- a frame of a host, at an edge switch
 
@@ -242,27 +290,32 @@ module _ (r : ℕ) where
       (λ unicast. cond_both (is_local v (destination frame)) (arrives_home choose v frame) (forwards choose v (Some FromHost) frame) Says
       (λ own. arrives_true choose v frame) (λ other. forwards_true choose v (Some FromHost) frame))
 
-  takes_in_true : (choose : Choice) (port : ℕ) (frame : List ℕ) (v : SwitchView) → r ≡ 0 → Says (takes_in_or_spent choose port frame v)
-  takes_in_true choose port frame v edge =
+  takes_in_true : (choose : Choice) (port : ℕ) (frame : List ℕ) (v : SwitchView) → edge → Says (takes_in_or_spent choose port frame v)
+  takes_in_true choose port frame v at_edge =
       cond_both (has_no_address v port (source_of frame)) (does v (act.Drop Spent ∷ [])) (takes_in choose port frame v) Says (λ spent. (tt, tt))
       (λ has. cond_both (is_arp frame && is_none (packet_in frame)) (does v (act.Drop BadArp ∷ [])) _ Says (λ bad. (tt, tt))
       (λ fine. cond_both (is_for_switch v (destination_of frame) (packet_in frame)) (does v (packet_acts v port frame (packet_in frame)) ▹ takes) _ Says
       (λ packet. true_append (packet_acts v port frame (packet_in frame)) (act.Take ∷ []) (packet_true v port frame (packet_in frame)) (tt, tt))
       (λ no_packet. cond_both (is_some (membership_in frame)) (hears_members v port frame ▹ takes) _ Says
-      (λ membership. true_append (hears_members v port frame).acts (act.Take ∷ []) (groups_true v.members _ (λ group any. edge)) (tt, tt))
+      (λ membership. true_append (hears_members v port frame).acts (act.Take ∷ []) (groups_true v.members _ (λ group other. at_edge)) (tt, tt))
       (λ data_frame. cond_both (not (is_placed v.place)) (does v (act.Drop NotPlaced ∷ [])) (sends_in choose (with_pmac v port frame) v) Says (λ unplaced. (tt, tt))
       (λ placed. sends_true choose (with_pmac v port frame) v)))))
 
-  pub of_host_true : (choose : Choice) (v : SwitchView) (port : ℕ) (frame : List ℕ) → r ≡ 0 → Says (comes_from_host choose v port frame)
-  of_host_true choose v port frame edge =
-      cond_both (is_known v.place.level 1 || is_known v.place.level 2) (does v (act.Drop NotPlaced ∷ [])) _ Says (λ no_hosts. (tt, tt))
-      (λ may_host.
+  pub of_host_true : (choose : Choice) (v : SwitchView) (port : ℕ) (frame : List ℕ) → edge → own (comes_from_host choose v port frame).view.place →
+      Says (comes_from_host choose v port frame)
+  of_host_true choose v port frame at_edge later =
       let learns : SwitchView → SwitchStep = λ w. learns_source w port frame in
       let known : SwitchStep = finds_host v port ▹ learns in
+      let found : SwitchView = becomes_edge (with_port v port (record (port_of v port) { host = true })) in
+      let same : (known ▹ takes_in_or_spent choose port frame).view.place ≡ found.place =
+      (takes_in_aside choose port frame known.view).place ∙ learns_place (finds_host v port).view port frame ∙ changes_place v found in
+      cond_both (is_known v.place.level 1 || is_known v.place.level 2) (does v (act.Drop NotPlaced ∷ [])) (known ▹ takes_in_or_spent choose port frame)
+      (λ (step : SwitchStep). own step.view.place → Says step) (λ no_hosts so. (tt, tt))
+      (λ may_host so.
       true_append known.acts (takes_in_or_spent choose port frame known.view).acts
-      (true_append (finds_host v port).acts (learns_source (finds_host v port).view port frame).acts (changes_true v (becomes_edge (with_port v port (record (port_of v port) { host = true }))) (λ x level. sym (same_Some 0 x level) ∙ sym edge))
+      (true_append (finds_host v port).acts (learns_source (finds_host v port).view port frame).acts (changes_true v found (subst own same so))
       (learns_true (finds_host v port).view port frame))
-      (takes_in_true choose port frame known.view edge))
+      (takes_in_true choose port frame known.view at_edge)) later
 
   -- a message of the manager
 
@@ -270,87 +323,49 @@ module _ (r : ℕ) where
   probes_true old amac None v = tt
   probes_true old amac (Some ip) v = (tt, (tt, tt))
 
-  invalidates_true : (v : SwitchView) (old : Pmac) (trap : Trap) (o : Option Grant) → ((group : ℕ) → has_member_of v.members group ≡ true → r ≡ 0) → Says (invalidates v old trap o)
-  invalidates_true v old trap None edge = tt
-  invalidates_true v old trap (Some grant) edge =
+  invalidates_true : (v : SwitchView) (old : Pmac) (trap : Trap) (o : Option Grant) → ((group : ℕ) → has_member_of v.members group ≡ true → edge) → Says (invalidates v old trap o)
+  invalidates_true v old trap None members = tt
+  invalidates_true v old trap (Some grant) members =
       let set : SwitchView = sets_trap v old grant trap in
       let forgot : SwitchStep = does set [] ▹ forgets_members old.port grant.amac in
       true_append forgot.acts (probes old grant forgot.view).acts
       (groups_true v.members (filter (λ m. not (is_member old.port grant.amac m)) v.members)
-      (λ group any. edge group (any_filter (λ m. m.group == group) (λ m. not (is_member old.port grant.amac m)) v.members any)))
+      (λ group other. had_one (has_member_of v.members group) (has_member_of (filter (λ m. not (is_member old.port grant.amac m)) v.members) group) (members group)
+      (λ any. members group (any_filter (λ m. m.group == group) (λ m. not (is_member old.port grant.amac m)) v.members any)) other))
       (cond_both grant.in_use (probes_at old grant.amac grant.ip forgot.view) (rests forgot.view) Says
       (λ used. probes_true old grant.amac grant.ip forgot.view) (λ unused. tt))
 
-  pub hears_true : (choose : Choice) (v : SwitchView) (says : ToSwitch) → IsLevel r v.place → ((group : ℕ) → has_member_of v.members group ≡ true → r ≡ 0) →
-      Says (hears_manager choose v says)
-  hears_true choose v (Pod pod) level edge =
-      cond_both (takes_pod v pod) (changes_to v (with_pod v (Some pod))) (rests v) Says (λ takes. changes_true v (with_pod v (Some pod)) level) (λ stays. tt)
-  hears_true choose v (Avoid list) level edge = tt
-  hears_true choose v (Tree group part) level edge = tt
-  hears_true choose v (Answer asker asker_ip ip pmac) level edge =
+  pub hears_true : (choose : Choice) (v : SwitchView) (says : ToSwitch) → own (hears_manager choose v says).view.place →
+      ((group : ℕ) → has_member_of v.members group ≡ true → edge) → Says (hears_manager choose v says)
+  hears_true choose v (Pod pod) later members =
+      cond_both (takes_pod v pod) (changes_to v (with_pod v (Some pod))) (rests v) (λ (step : SwitchStep). own step.view.place → Says step)
+      (λ takes so. changes_true v (with_pod v (Some pod)) (subst own (changes_place v (with_pod v (Some pod))) so)) (λ stays so. tt) later
+  hears_true choose v (Avoid list) later members = tt
+  hears_true choose v (Tree group part) later members = tt
+  hears_true choose v (Answer asker asker_ip ip pmac) later members =
       cond_both (is_granted v asker) (makes choose (answer_frame asker asker_ip ip pmac) v) (rests v) Says
       (λ known. makes_true choose (answer_frame asker asker_ip ip pmac) v) (λ unknown. tt)
-  hears_true choose v (Flood asker asker_ip ip) level edge =
+  hears_true choose v (Flood asker asker_ip ip) later members =
       cond_both (is_granted v asker) (floods v (flood_frame asker asker_ip ip)) (rests v) Says
       (λ known. (tt, group_true v (Some FromHost) (flood_frame asker asker_ip ip))) (λ unknown. tt)
-  hears_true choose v (Invalidate old new number ip) level edge = invalidates_true v old (record { new = new; number = number; ip = ip }) (granted v old) edge
-
--- What settles in keeps its place.
-
-ip_place : (v : SwitchView) (address : Pmac) (o : Option Grant) (ip : Option Ip4) → (learns_ip v address o ip).view.place ≡ v.place
-ip_place v address None ip = refl
-ip_place v address (Some grant) None = refl
-ip_place v address (Some grant) (Some ip) = by_test (same_ip grant.ip ip)
-  where
-    by_test : (b : Bool) → (if◌then◌else◌ {A = SwitchStep} b (rests v) (record { view = with_grant v address (record grant { ip = Some ip }); acts = act.Tell (tell.Learned address grant.amac (Some ip)) ∷ [] })).view.place ≡ v.place
-    by_test true = refl
-    by_test false = refl
-
-grants_place : (v : SwitchView) (port : ℕ) (amac : Mac) (ip : Option Ip4) (o : Option ℕ) → (grants_or_learns v port amac ip o).view.place ≡ v.place
-grants_place v port amac ip (Some vmid) = ip_place v (address_at_port v port vmid) (grant_number (grants_at v port) vmid) ip
-grants_place v port amac ip None =
-    cond_both (is_port_spent v port) (rests v) (grants_next v port amac ip) (λ step. step.view.place ≡ v.place) (λ spent. refl) (λ free. refl)
-
-source_place : (v : SwitchView) (port : ℕ) (o : Option Source) → (grants_source v port o).view.place ≡ v.place
-source_place v port None = refl
-source_place v port (Some source) = grants_place v port source.amac source.ip (in_use (grants_at v port) source.amac)
-
-remembered_place : (ports : List ℕ) (v : SwitchView) → (grants_remembered ports v).view.place ≡ v.place
-unfolding grants_remembered
-remembered_place [] v = refl
-remembered_place (port ∷ ports) v =
-    let first : SwitchStep = grants_source v port (remembered_at v port) ▹ forgets port in
-    remembered_place ports first.view ∙ source_place v port (remembered_at v port)
-
-pub changes_place : (old new : SwitchView) → (changes_to old new).view.place ≡ new.place
-changes_place old new = cond_both (has_become_placed old.place new.place) (grants_remembered (ports_of_switch new.k) new) (rests new) (λ step. step.view.place ≡ new.place)
-    (λ settles. remembered_place (ports_of_switch new.k) new) (λ stays. refl)
+  hears_true choose v (Invalidate old new number ip) later members = invalidates_true v old (record { new = new; number = number; ip = ip }) (granted v old) members
 
 -- A control frame.
 
-module _ (r : ℕ) where
-  voted_level : (v : SwitchView) (port : ℕ) (vote : Vote) → IsLevel r v.place → IsLevel r (after_vote v port vote).place
-  voted_level v port vote level =
-      let P : SwitchView → Type 0 = λ w. IsLevel r w.place in
-      cond_both _ (counted v port vote) v P
-      (λ counts. cond_both vote.granted (fixes_position (with_granted v port)) _ P (λ granted. level)
-      (λ refused. cond_both _ (moves_on v) v P (λ gives_way. cond_both (v.attempt == 4294967295) v _ P (λ last. level) (λ more. level)) (λ stays. level)))
-      (λ stays. level)
-
-  pub control_true : (v : SwitchView) (port : ℕ) (frame : List ℕ) → IsLevel r v.place → IsLevel r (control_comes v port frame).view.place → AreTrue r (control_comes v port frame).acts
-  control_true v port frame level later =
+module _ (own : Place → Type 0) (edge : Type 0) where
+  pub control_true : (v : SwitchView) (port : ℕ) (frame : List ℕ) → own (control_comes v port frame).view.place → AreTrue own edge (control_comes v port frame).acts
+  control_true v port frame later =
       by_host (port_of v port).host (control_in (payload_of frame)) later
     where
-      by_kind : (read : Result Control ControlError) → IsLevel r (hears_control v port read).view.place → AreTrue r (hears_control v port read).acts
-      by_kind (Err e) after = tt
-      by_kind (Ok (control.Ldm id m)) after =
-          changes_true r v (after_message v port id m) (λ x level. after x (ap (λ (p : Place). p.level) (changes_place v (after_message v port id m)) ∙ level))
-      by_kind (Ok (control.Proposal id p)) after =
+      by_kind : (read : Result Control ControlError) → own (hears_control v port read).view.place → AreTrue own edge (hears_control v port read).acts
+      by_kind (Err e) so = tt
+      by_kind (Ok (control.Ldm id m)) so = changes_true own edge v (after_message v port id m) (subst own (changes_place v (after_message v port id m)) so)
+      by_kind (Ok (control.Proposal id p)) so =
           cond_both (is_known v.place.level 1 && is_known (place_at v port).level 0 && nat_lt p.position (half v.k)) (answers_proposal (frees_others v id p.position) port id p) (rests v)
-          (λ step. AreTrue r step.acts) (λ answers. (tt, tt)) (λ stays. tt)
-      by_kind (Ok (control.Vote id vote)) after = changes_true r v (after_vote v port vote) (voted_level v port vote level)
+          (λ step. AreTrue own edge step.acts) (λ answers. (tt, tt)) (λ stays. tt)
+      by_kind (Ok (control.Vote id vote)) so = changes_true own edge v (after_vote v port vote) (subst own (changes_place v (after_vote v port vote)) so)
 
-      by_host : (b : Bool) (read : Result Control ControlError) → IsLevel r (if◌then◌else◌ {A = SwitchStep} b (rests v) (hears_control v port read)).view.place →
-          AreTrue r (if◌then◌else◌ {A = SwitchStep} b (rests v) (hears_control v port read)).acts
-      by_host true read after = tt
-      by_host false read after = by_kind read after
+      by_host : (b : Bool) (read : Result Control ControlError) → own (if◌then◌else◌ {A = SwitchStep} b (rests v) (hears_control v port read)).view.place →
+          AreTrue own edge (if◌then◌else◌ {A = SwitchStep} b (rests v) (hears_control v port read)).acts
+      by_host true read so = tt
+      by_host false read so = by_kind read so

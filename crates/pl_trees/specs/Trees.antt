@@ -1,5 +1,5 @@
--- That what switches tell of their levels and their members is so, and that each part of a group's tree leads down.
-use Rattle.std.specs.Prelude.{◌≡◌, ℕ, ◌==◌, Bool, true, Option, Some, None, slice_get}
+-- That what switches tell of their places, their links and their members is so, and that each part of a group's tree leads up and down by one level.
+use Rattle.std.specs.Prelude.{◌≡◌, ◌+◌, ℕ, ◌==◌, Bool, true, Option, Some, None, slice_get}
 use Rattle.std.specs.List.{AllByRecursion, list_any}
 use Rattle.pl_frame.specs.declared.address.SwitchId.{SwitchId}
 use Rattle.pl_wiring.specs.Labels.{label_of}
@@ -10,46 +10,50 @@ use Rattle.pl_logic.specs.declared.messages.ToManager.TheVariants as tell
 use Rattle.pl_logic.specs.declared.messages.ToSwitch.{ToSwitch}
 use Rattle.pl_logic.specs.declared.messages.ToSwitch.TheVariants as say
 use Rattle.pl_logic.specs.declared.messages.TreePart.{TreePart}
+use Rattle.pl_logic.specs.SwitchViews.{SwitchView}
 use Rattle.pl_control_plane.specs.ControlPlanes.{ControlPlane}
+use Rattle.pl_places.specs.Told.{IsTrueOf}
+use Rattle.pl_records.specs.Records.{is_neighbour}
 use Rattle.pl_copies.specs.Standing.{rank}
 
 abbrev pub rank_of : Plan → ℕ → ℕ
 rank_of plan s = rank (label_of plan.k s)
 
--- a known level is the rank of the switch
-abbrev pub IsLevel : ℕ → Place → Type 0
-IsLevel r place = (x : ℕ) → place.level ≡ Some x → x ≡ r
+-- What switch s tells: of its place each known part is its own, a link is to a neighbour, and edge switches alone tell of members.
+abbrev pub IsTrueReport : Plan → ℕ → Place → ToManager → Type 0
+IsTrueReport plan s own (tell.Place place) = IsTrueOf place own
+IsTrueReport plan s own (tell.Link neighbour usable) = is_neighbour plan s neighbour ≡ true
+IsTrueReport plan s own (tell.Members group any) = rank_of plan s ≡ 0
+IsTrueReport plan s own told = Unit {0}
 
--- what a switch of this rank tells: its own level, and members only if it is an edge switch
-abbrev pub IsTrueReport : ℕ → ToManager → Type 0
-IsTrueReport r (tell.Place place) = IsLevel r place
-IsTrueReport r (tell.Members group any) = any ≡ true → r ≡ 0
-IsTrueReport r told = Unit {0}
+-- A part of a tree, at a switch of this rank, leads up to a switch of the next rank, and down to switches of the rank before.
+pub record LeadsOn (plan : Plan) (r : ℕ) (part : TreePart) : Type 0 where
+  pub up : (t : ℕ) (id : SwitchId) → slice_get plan.ids t ≡ Some id → part.up ≡ Some id → rank_of plan t ≡ r + 1
+  pub down : (t : ℕ) (id : SwitchId) → slice_get plan.ids t ≡ Some id → list_any (λ d. d.0 == id.0) part.down ≡ true → rank_of plan t + 1 ≡ r
 
--- below are edge switches alone
-abbrev pub LeadsToEdges : Plan → TreePart → Type 0
-LeadsToEdges plan part = (t : ℕ) (id : SwitchId) → slice_get plan.ids t ≡ Some id → list_any (λ d. d.0 == id.0) part.down ≡ true → rank_of plan t ≡ 0
-
--- so it is in the parts of aggregation switches
 abbrev pub IsTruePart : Plan → ℕ → Option TreePart → Type 0
 IsTruePart plan r None = Unit {0}
-IsTruePart plan r (Some part) = r ≡ 1 → LeadsToEdges plan part
+IsTruePart plan r (Some part) = LeadsOn plan r part
 
 abbrev pub IsTrueOrder : Plan → ℕ → ToSwitch → Type 0
 IsTrueOrder plan r (say.Tree group part) = IsTruePart plan r part
 IsTrueOrder plan r says = Unit {0}
 
--- what the manager knows of a place, and of members, by the id of the switch
-abbrev pub IsTruePlace : Plan → SwitchId × Place → Type 0
-IsTruePlace plan entry = (t : ℕ) → slice_get plan.ids t ≡ Some entry.0 → IsLevel (rank_of plan t) entry.1
+-- what the manager knows of a place, of a link, and of members, by the id of the switch
+abbrev pub IsTruePlace : Plan → (ℕ → SwitchView) → SwitchId × Place → Type 0
+IsTruePlace plan view entry = (t : ℕ) → slice_get plan.ids t ≡ Some entry.0 → IsTrueOf entry.1 (view t).place
+
+abbrev pub IsTrueLink : Plan → (SwitchId × SwitchId) × Bool → Type 0
+IsTrueLink plan entry = (t : ℕ) → slice_get plan.ids t ≡ Some entry.0.0 → is_neighbour plan t entry.0.1 ≡ true
 
 abbrev pub AreTrueMembers : Plan → (SwitchId × ℕ) × Bool → Type 0
-AreTrueMembers plan entry = (t : ℕ) → slice_get plan.ids t ≡ Some entry.0.0 → entry.1 ≡ true → rank_of plan t ≡ 0
+AreTrueMembers plan entry = (t : ℕ) → slice_get plan.ids t ≡ Some entry.0.0 → rank_of plan t ≡ 0
 
 -- All that was told and ordered, waits or is known.
 pub record AreTrees (plan : Plan) (f : ControlPlane) : Type 0 where
-  pub reports : (s : ℕ) → AllByRecursion (IsTrueReport (rank_of plan s)) (f.reports s)
-  pub places : AllByRecursion (IsTruePlace plan) f.manager.told.places
+  pub reports : (s : ℕ) → AllByRecursion (IsTrueReport plan s (f.view s).place) (f.reports s)
+  pub places : AllByRecursion (IsTruePlace plan f.view) f.manager.told.places
+  pub links : AllByRecursion (IsTrueLink plan) f.manager.told.links
   pub members : AllByRecursion (AreTrueMembers plan) f.manager.members
   pub orders : (s : ℕ) → AllByRecursion (IsTrueOrder plan (rank_of plan s)) (f.orders s)
   pub held : (s : ℕ) → AllByRecursion (λ part. IsTruePart plan (rank_of plan s) (Some part.1)) (f.view s).parts

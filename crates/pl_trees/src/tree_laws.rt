@@ -9,6 +9,7 @@ ghost use Rattle.pl_world.specs.Booting.{CanBegin, booted};
 ghost use Rattle.pl_world.specs.Runs.{Moment, WorldRun};
 ghost use Rattle.pl_world.specs.Worlds.{WorldView};
 ghost use Rattle.pl_control_plane.specs.ControlPlanes.{control_plane};
+ghost use Rattle.pl_copies.specs.Alone.{AreAlone};
 ghost use Rattle.pl_copies.specs.Copies.{ComesOnce, came_to};
 ghost use Rattle.pl_copies.specs.Standing.{KnowTrees};
 ghost use Rattle.pl_trees.specs.Trees.{AreTrees};
@@ -17,9 +18,10 @@ use pl_logic::HostLogic;
 use pl_manager_rule::LawfulManager;
 use pl_switch_rule::LooseSwitch;
 
-/// In every run what switches tell of their levels and members is so, and each part of a tree leads down: that
-/// of an aggregation switch names edge switches alone. So each switch knows the tree around it.
-pub fn parts_of_trees_lead_down_in_every_run<H: HostLogic>()
+/// In every run what switches tell, and what waits or is recorded of it, is so: each known part of a place is the
+/// switch's own, each link is to a neighbour by the wiring, and edge switches alone tell of members. And each part
+/// of a tree leads up to the next level and down to the one before. So each switch knows the tree around it.
+pub fn what_is_told_and_ordered_is_so_in_every_run<H: HostLogic>()
     ensures trees { (plan : Plan) (limits : Limits) (moments : List Moment) (new : WorldView) → CanBegin plan →
         WorldRun Loose manager_rule H.rule (booted plan limits) moments new → AreTrees new.plan (control_plane new) }
     ensures around { (plan : Plan) (limits : Limits) (moments : List Moment) (new : WorldView) → CanBegin plan →
@@ -32,7 +34,13 @@ pub fn one_copy_may_come_to_each_port_in_every_run<H: HostLogic>()
         WorldRun Loose manager_rule H.rule (booted plan limits) moments new → ComesOnce new }
 {}
 
-/// So of one broadcast or group frame at most one copy arrives at each port for hosts, whatever the wiring, the
+/// So of the frames of one root at most one is on its way up, and at most one waits in the queue out of each port.
+pub fn frames_of_a_root_are_alone_in_every_run<H: HostLogic>()
+    ensures { (plan : Plan) (limits : Limits) (moments : List Moment) (new : WorldView) → CanBegin plan →
+        WorldRun Loose manager_rule H.rule (booted plan limits) moments new → AreAlone new }
+{}
+
+/// And of one broadcast or group frame at most one copy arrives at each port for hosts, whatever the wiring, the
 /// events and the choices of the switches.
 pub fn one_copy_arrives_at_each_port_in_every_run<H: HostLogic>()
     ensures frames { (plan : Plan) (limits : Limits) (moments : List Moment) (new : WorldView) (r : ℕ) (there : Spot) → CanBegin plan →

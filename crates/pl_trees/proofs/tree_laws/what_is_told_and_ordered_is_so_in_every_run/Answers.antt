@@ -1,6 +1,6 @@
 use Rattle.pl_kept.proofs.Keeping.{run_keeps_all}
 use Rattle.pl_trees.proofs.Running.{know_trees, run_once}
-use Rattle.pl_trees.proofs.tree_laws.parts_of_trees_lead_down_in_every_run.Goals as goal
+use Rattle.pl_trees.proofs.tree_laws.what_is_told_and_ordered_is_so_in_every_run.Goals as goal
 
 pub returns : goal.returns
 returns g c = record {

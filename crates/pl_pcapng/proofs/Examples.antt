@@ -105,114 +105,174 @@ abbrev custom : List ℕ
 custom =
     1 ∷ 0 ∷ 0 ∷ 0x80 ∷ 0x10 ∷ 0 ∷ 0 ∷ 0 ∷ 0 ∷ 0 ∷ 0 ∷ 0 ∷ 0x10 ∷ 0 ∷ 0 ∷ 0 ∷ []
 
-one_packet : reading_of (little_section ++ ethernet ++ packet)
+-- a section header with another magic number
+abbrev other_magic : List ℕ
+other_magic =
+    0xa ∷ 0xd ∷ 0xd ∷ 0xa ∷ 0x1c ∷ 0 ∷ 0 ∷ 0 ∷ 0x4e ∷ 0x3c ∷ 0x2b ∷ 0x1a ∷ 1 ∷ 0 ∷ 0 ∷ 0 ∷ 0xff ∷ 0xff ∷ 0xff ∷ 0xff ∷ 0xff ∷ 0xff ∷ 0xff ∷
+    0xff ∷ 0x1c ∷ 0 ∷ 0 ∷ 0 ∷ []
+
+-- version 2.0
+abbrev version_2 : List ℕ
+version_2 =
+    0xa ∷ 0xd ∷ 0xd ∷ 0xa ∷ 0x1c ∷ 0 ∷ 0 ∷ 0 ∷ 0x4d ∷ 0x3c ∷ 0x2b ∷ 0x1a ∷ 2 ∷ 0 ∷ 0 ∷ 0 ∷ 0xff ∷ 0xff ∷ 0xff ∷ 0xff ∷ 0xff ∷ 0xff ∷ 0xff ∷
+    0xff ∷ 0x1c ∷ 0 ∷ 0 ∷ 0 ∷ []
+
+-- statistics whose total length is 17
+abbrev odd_total : List ℕ
+odd_total =
+    5 ∷ 0 ∷ 0 ∷ 0 ∷ 0x11 ∷ 0 ∷ 0 ∷ 0 ∷ 0 ∷ 0 ∷ 0 ∷ 0 ∷ 0 ∷ 0x11 ∷ 0 ∷ 0 ∷ 0 ∷ []
+
+-- an interface whose total length is 16
+abbrev small_interface : List ℕ
+small_interface =
+    1 ∷ 0 ∷ 0 ∷ 0 ∷ 0x10 ∷ 0 ∷ 0 ∷ 0 ∷ 0 ∷ 0 ∷ 0 ∷ 0 ∷ 0x10 ∷ 0 ∷ 0 ∷ 0 ∷ []
+
+-- a packet of 32 bytes that ends in a total length of 28
+abbrev other_trailer : List ℕ
+other_trailer =
+    6 ∷ 0 ∷ 0 ∷ 0 ∷ 0x20 ∷ 0 ∷ 0 ∷ 0 ∷ 0 ∷ 0 ∷ 0 ∷ 0 ∷ 0 ∷ 0 ∷ 0 ∷ 0 ∷ 0 ∷ 0 ∷ 0 ∷ 0 ∷ 0 ∷ 0 ∷ 0 ∷ 0 ∷ 0 ∷ 0 ∷ 0 ∷ 0 ∷ 0x1c ∷ 0 ∷ 0 ∷ 0 ∷ []
+
+-- 262,145 bytes
+abbrev long_packet : List ℕ
+long_packet =
+    6 ∷ 0 ∷ 0 ∷ 0 ∷ 0x28 ∷ 0 ∷ 0 ∷ 0 ∷ 0 ∷ 0 ∷ 0 ∷ 0 ∷ 0 ∷ 0 ∷ 0 ∷ 0 ∷ 0 ∷ 0 ∷ 0 ∷ 0 ∷ 1 ∷ 0 ∷ 4 ∷ 0 ∷ 1 ∷ 0 ∷ 4 ∷ 0 ∷ 0 ∷ 0 ∷ 0 ∷ 0 ∷ 0 ∷
+    0 ∷ 0 ∷ 0 ∷ 0x28 ∷ 0 ∷ 0 ∷ 0 ∷ []
+
+-- 40 bytes in a block that has room for 8
+abbrev wide_packet : List ℕ
+wide_packet =
+    6 ∷ 0 ∷ 0 ∷ 0 ∷ 0x28 ∷ 0 ∷ 0 ∷ 0 ∷ 0 ∷ 0 ∷ 0 ∷ 0 ∷ 0 ∷ 0 ∷ 0 ∷ 0 ∷ 0 ∷ 0 ∷ 0 ∷ 0 ∷ 0x28 ∷ 0 ∷ 0 ∷ 0 ∷ 0x28 ∷ 0 ∷ 0 ∷ 0 ∷ 0 ∷ 0 ∷ 0 ∷
+    0 ∷ 0 ∷ 0 ∷ 0 ∷ 0 ∷ 0x28 ∷ 0 ∷ 0 ∷ 0 ∷ []
+
+one_packet :
+    reading_of (little_section ++ ethernet ++ packet)
     ≡ Ok (record { at = 48; start = 76; len = 60; original = 60 } ∷ [], 0)
 unfolding reading_of reading_from block_in head_in block_of
 one_packet = refl
 
-big_endian : reading_of (big_section ++ big_ethernet ++ big_packet)
+big_endian :
+    reading_of (big_section ++ big_ethernet ++ big_packet)
     ≡ Ok (record { at = 48; start = 76; len = 60; original = 60 } ∷ [], 0)
 unfolding reading_of reading_from block_in head_in block_of
 big_endian = refl
 
 -- padding is no part of the frame
-odd_length : reading_of (little_section ++ ethernet ++ odd_packet)
+odd_length :
+    reading_of (little_section ++ ethernet ++ odd_packet)
     ≡ Ok (record { at = 48; start = 76; len = 59; original = 59 } ∷ [], 0)
 unfolding reading_of reading_from block_in head_in block_of
 odd_length = refl
 
-options : reading_of (little_section ++ ethernet ++ packet_with_comment)
+options :
+    reading_of (little_section ++ ethernet ++ packet_with_comment)
     ≡ Ok (record { at = 48; start = 76; len = 60; original = 60 } ∷ [], 0)
 unfolding reading_of reading_from block_in head_in block_of
 options = refl
 
 -- each section has its own byte order and its own interfaces
-two_sections : reading_of (little_section ++ ethernet ++ packet ++ big_section ++ big_ethernet ++ big_packet)
+two_sections :
+    reading_of (little_section ++ ethernet ++ packet ++ big_section ++ big_ethernet ++ big_packet)
     ≡ Ok (record { at = 48; start = 76; len = 60; original = 60 } ∷ record { at = 188; start = 216; len = 60; original = 60 } ∷ [], 0)
 unfolding reading_of reading_from block_in head_in block_of
 two_sections = refl
 
 -- packets of the interface of another link type are passed over
-other_link_type : reading_of (little_section ++ radio ++ ethernet ++ packet ++ packet_of_one)
+other_link_type :
+    reading_of (little_section ++ radio ++ ethernet ++ packet ++ packet_of_one)
     ≡ Ok (record { at = 160; start = 188; len = 60; original = 60 } ∷ [], 0)
 unfolding reading_of reading_from block_in head_in block_of
 other_link_type = refl
 
-simple_packet : reading_of (little_section ++ ethernet ++ simple)
+simple_packet :
+    reading_of (little_section ++ ethernet ++ simple)
     ≡ Ok (record { at = 48; start = 60; len = 60; original = 60 } ∷ [], 0)
 unfolding reading_of reading_from block_in head_in block_of
 simple_packet = refl
 
-simple_packet_cut : reading_of (little_section ++ cut_at_60 ++ simple ++ simple_of_90)
+simple_packet_cut :
+    reading_of (little_section ++ cut_at_60 ++ simple ++ simple_of_90)
     ≡ Ok (record { at = 48; start = 60; len = 60; original = 60 } ∷ record { at = 124; start = 136; len = 60; original = 90 } ∷ [], 0)
 unfolding reading_of reading_from block_in head_in block_of
 simple_packet_cut = refl
 
-unknown_blocks : reading_of (little_section ++ statistics ++ ethernet ++ names ++ packet ++ obsolete_packet ++ custom)
+unknown_blocks :
+    reading_of (little_section ++ statistics ++ ethernet ++ names ++ packet ++ obsolete_packet ++ custom)
     ≡ Ok (record { at = 100; start = 128; len = 60; original = 60 } ∷ [], 0)
 unfolding reading_of reading_from block_in head_in block_of
 unknown_blocks = refl
 
-tail : reading_of (little_section ++ ethernet ++ packet ++ 6 ∷ 0 ∷ 0 ∷ [])
+tail :
+    reading_of (little_section ++ ethernet ++ packet ++ 6 ∷ 0 ∷ 0 ∷ [])
     ≡ Ok (record { at = 48; start = 76; len = 60; original = 60 } ∷ [], 3)
 unfolding reading_of reading_from block_in head_in block_of
 tail = refl
 
-cut_packet : reading_of (little_section ++ ethernet ++ packet ++ take 50 packet)
+cut_packet :
+    reading_of (little_section ++ ethernet ++ packet ++ take 50 packet)
     ≡ Ok (record { at = 48; start = 76; len = 60; original = 60 } ∷ [], 50)
 unfolding reading_of reading_from block_in head_in block_of
 cut_packet = refl
 
 -- 9 bytes of a section header do not tell its byte order
-cut_section : reading_of (little_section ++ ethernet ++ packet ++ take 9 big_section)
+cut_section :
+    reading_of (little_section ++ ethernet ++ packet ++ take 9 big_section)
     ≡ Ok (record { at = 48; start = 76; len = 60; original = 60 } ∷ [], 9)
 unfolding reading_of reading_from block_in head_in block_of
 cut_section = refl
 
-four_bytes : reading_of (take 4 little_section)
+four_bytes :
+    reading_of (take 4 little_section)
     ≡ Ok ([], 4)
 unfolding reading_of reading_from block_in head_in block_of
 four_bytes = refl
 
 -- the refusals, in the order of the table
-bad_magic : reading_of ((0xa ∷ 0xd ∷ 0xd ∷ 0xa ∷ 0x1c ∷ 0 ∷ 0 ∷ 0 ∷ 0x4e ∷ 0x3c ∷ 0x2b ∷ 0x1a ∷ 1 ∷ 0 ∷ 0 ∷ 0 ∷ 0xff ∷ 0xff ∷ 0xff ∷ 0xff ∷ 0xff ∷ 0xff ∷ 0xff ∷ 0xff ∷ 0x1c ∷ 0 ∷ 0 ∷ 0 ∷ []) ++ ethernet)
+bad_magic :
+    reading_of (other_magic ++ ethernet)
     ≡ Err (BadMagic 0)
 unfolding reading_of reading_from block_in head_in block_of
 bad_magic = refl
 
 -- no multiple of 4
-bad_length : reading_of (little_section ++ ethernet ++ 5 ∷ 0 ∷ 0 ∷ 0 ∷ 0x11 ∷ 0 ∷ 0 ∷ 0 ∷ 0 ∷ 0 ∷ 0 ∷ 0 ∷ 0 ∷ 0x11 ∷ 0 ∷ 0 ∷ 0 ∷ [])
+bad_length :
+    reading_of (little_section ++ ethernet ++ odd_total)
     ≡ Err (BadBlock 48)
 unfolding reading_of reading_from block_in head_in block_of
 bad_length = refl
 
-small_length : reading_of (little_section ++ 1 ∷ 0 ∷ 0 ∷ 0 ∷ 0x10 ∷ 0 ∷ 0 ∷ 0 ∷ 0 ∷ 0 ∷ 0 ∷ 0 ∷ 0x10 ∷ 0 ∷ 0 ∷ 0 ∷ [])
+small_length :
+    reading_of (little_section ++ small_interface)
     ≡ Err (BadBlock 28)
 unfolding reading_of reading_from block_in head_in block_of
 small_length = refl
 
-bad_trailer : reading_of (little_section ++ ethernet ++ 6 ∷ 0 ∷ 0 ∷ 0 ∷ 0x20 ∷ 0 ∷ 0 ∷ 0 ∷ 0 ∷ 0 ∷ 0 ∷ 0 ∷ 0 ∷ 0 ∷ 0 ∷ 0 ∷ 0 ∷ 0 ∷ 0 ∷ 0 ∷ 0 ∷ 0 ∷ 0 ∷ 0 ∷ 0 ∷ 0 ∷ 0 ∷ 0 ∷ 0x1c ∷ 0 ∷ 0 ∷ 0 ∷ [])
+bad_trailer :
+    reading_of (little_section ++ ethernet ++ other_trailer)
     ≡ Err (BadTrailer 48)
 unfolding reading_of reading_from block_in head_in block_of
 bad_trailer = refl
 
-bad_version : reading_of ((0xa ∷ 0xd ∷ 0xd ∷ 0xa ∷ 0x1c ∷ 0 ∷ 0 ∷ 0 ∷ 0x4d ∷ 0x3c ∷ 0x2b ∷ 0x1a ∷ 2 ∷ 0 ∷ 0 ∷ 0 ∷ 0xff ∷ 0xff ∷ 0xff ∷ 0xff ∷ 0xff ∷ 0xff ∷ 0xff ∷ 0xff ∷ 0x1c ∷ 0 ∷ 0 ∷ 0 ∷ []) ++ ethernet)
+bad_version :
+    reading_of (version_2 ++ ethernet)
     ≡ Err (BadVersion 0)
 unfolding reading_of reading_from block_in head_in block_of
 bad_version = refl
 
 -- the second section has no interface
-bad_interface : reading_of (little_section ++ ethernet ++ packet ++ big_section ++ big_packet)
+bad_interface :
+    reading_of (little_section ++ ethernet ++ packet ++ big_section ++ big_packet)
     ≡ Err (BadInterface 168)
 unfolding reading_of reading_from block_in head_in block_of
 bad_interface = refl
 
-bad_record : reading_of (little_section ++ ethernet ++ 6 ∷ 0 ∷ 0 ∷ 0 ∷ 0x28 ∷ 0 ∷ 0 ∷ 0 ∷ 0 ∷ 0 ∷ 0 ∷ 0 ∷ 0 ∷ 0 ∷ 0 ∷ 0 ∷ 0 ∷ 0 ∷ 0 ∷ 0 ∷ 1 ∷ 0 ∷ 4 ∷ 0 ∷ 1 ∷ 0 ∷ 4 ∷ 0 ∷ 0 ∷ 0 ∷ 0 ∷ 0 ∷ 0 ∷ 0 ∷ 0 ∷ 0 ∷ 0x28 ∷ 0 ∷ 0 ∷ 0 ∷ [])
+bad_record :
+    reading_of (little_section ++ ethernet ++ long_packet)
     ≡ Err (BadRecord 48)
 unfolding reading_of reading_from block_in head_in block_of
 bad_record = refl
 
-beyond_the_block : reading_of (little_section ++ ethernet ++ 6 ∷ 0 ∷ 0 ∷ 0 ∷ 0x28 ∷ 0 ∷ 0 ∷ 0 ∷ 0 ∷ 0 ∷ 0 ∷ 0 ∷ 0 ∷ 0 ∷ 0 ∷ 0 ∷ 0 ∷ 0 ∷ 0 ∷ 0 ∷ 0x28 ∷ 0 ∷ 0 ∷ 0 ∷ 0x28 ∷ 0 ∷ 0 ∷ 0 ∷ 0 ∷ 0 ∷ 0 ∷ 0 ∷ 0 ∷ 0 ∷ 0 ∷ 0 ∷ 0x28 ∷ 0 ∷ 0 ∷ 0 ∷ [])
+beyond_the_block :
+    reading_of (little_section ++ ethernet ++ wide_packet)
     ≡ Err (BadBlock 48)
 unfolding reading_of reading_from block_in head_in block_of
 beyond_the_block = refl

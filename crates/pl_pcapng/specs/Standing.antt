@@ -27,7 +27,9 @@ abbrev pub ended : ℕ → Said → Found
 ended end (Ok content) = Ok (Some (record { content = content; end = end }))
 ended end (Err e) = Err e
 
--- The packet of interface n, which is a record as the interface says, in a block that begins at an offset and ends at another.
+-- A packet of interface n, in a block that begins at an offset and ends at another; `captured` is its record as the interface has it. It is
+-- refused where the section has no such interface, where the captured length is above the limit, and where the padded bytes do not fit into
+-- the block, in this order; else it is a record where the interface is an Ethernet, and passed over where it is not.
 pub data IsPacket (interfaces : List Interface) (n : ℕ) (captured : Interface → Captured) (at end : ℕ) : Said → Type 0 where
   OfNone : slice_get interfaces n ≡ None → IsPacket interfaces n captured at end (Err (BadInterface at))
   TooLong : (i : Interface) → slice_get interfaces n ≡ Some i → 262144 < (captured i).len → IsPacket interfaces n captured at end (Err (BadRecord at))
@@ -38,12 +40,13 @@ pub data IsPacket (interfaces : List Interface) (n : ℕ) (captured : Interface 
   OfAnother : (i : Interface) → slice_get interfaces n ≡ Some i → (captured i).len ≤ 262144 → least_end (captured i) ≤ end → (i.link ≡ 1 → ⊥) →
       IsPacket interfaces n captured at end (Ok PassedOver)
 
--- what a block of some kind says
+-- What a whole block of some kind says. A section of another version than 1 is refused; blocks of unknown types are passed over.
 pub data Says (file : List ℕ) (p : Position) (order : Endianness) : BlockKind → Said → Type 0 where
   OtherVersion : (major_at file order p.at ≡ 1 → ⊥) → Says file p order SectionHeader (Err (BadVersion p.at))
   Section : major_at file order p.at ≡ 1 → Says file p order SectionHeader (Ok (BeginsSection order))
   Interfaces : Says file p order InterfaceDescription (Ok (AddsInterface (interface_at file order p.at)))
-  Enhanced : (said : Said) → IsPacket p.interfaces (field file order (p.at + 8) 4) (λ i. enhanced_packet file order p.at) p.at (end_at file order p.at) said →
+  Enhanced : (said : Said) →
+      IsPacket p.interfaces (field file order (p.at + 8) 4) (λ i. enhanced_packet file order p.at) p.at (end_at file order p.at) said →
       Says file p order EnhancedPacket said
   Simple : (said : Said) → IsPacket p.interfaces 0 (simple_packet file order p.at) p.at (end_at file order p.at) said →
       Says file p order SimplePacket said
@@ -64,6 +67,7 @@ pub record IsWhole (file : List ℕ) (p : Position) (order : Endianness) : Type 
   pub sized : IsSized file p order
   pub whole : end_at file order p.at ≤ length file
 
+-- What stands at a position: less than a whole block, a block that is refused, or a whole block with what it says.
 pub data Stands (file : List ℕ) (p : Position) : Found → Type 0 where
   NoHead : length file < p.at + head_len file p.at → Stands file p (Ok None)
   OtherMagic : p.at + head_len file p.at ≤ length file → order_of file p ≡ None → Stands file p (Err (BadMagic p.at))

@@ -22,6 +22,7 @@ mod laws;
 mod records;
 mod writing;
 
+pub use endianness::Endianness;
 pub use error::CaptureError;
 pub use laws::{one_at_each_offset, one_reading, records_are_within, written_is_read};
 pub use records::{Captured, Records};

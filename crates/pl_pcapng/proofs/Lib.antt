@@ -1,0 +1,4 @@
+pub mod Tables
+pub mod Walks
+pub mod Cursors
+pub mod Examples

@@ -5,12 +5,12 @@ globalThis.Rows = (() => {
     const HEIGHT = 40;
     const LONGEST = 8e6;
 
-    // `fill(element, n)` makes row n; `choose(n)` is called where row n is clicked.
-    const make = (box, fill, choose) => {
+    // `fill(element, n)` makes row n; `choose(n)` is called where row n is clicked. Rows are options of a list box, or rows of a table.
+    const make = (box, fill, choose, role = "option") => {
         const inner = document.createElement("div");
         inner.className = "rows";
         box.append(inner);
-        const list = { count: 0, marked: -1 };
+        const list = { count: 0, marked: -1, isNow: true };
 
         const longest = () => list.count * HEIGHT;
         const scrolled = () => Math.min(longest(), LONGEST);
@@ -25,10 +25,14 @@ globalThis.Rows = (() => {
             const rows = [];
             for (let n = first; n < last; n++) {
                 const row = document.createElement("div");
-                row.className = n === list.marked ? "row now" : "row";
+                row.className = n !== list.marked ? "row" : list.isNow ? "row now" : "row last";
                 row.dataset.row = n;
-                row.setAttribute("role", "option");
-                row.setAttribute("aria-selected", String(n === list.marked));
+                row.setAttribute("role", role);
+                if (role === "option") {
+                    row.setAttribute("aria-selected", String(n === list.marked && list.isNow));
+                    row.setAttribute("aria-posinset", n + 1);
+                    row.setAttribute("aria-setsize", list.count);
+                } else row.setAttribute("aria-rowindex", n + 1);
                 row.style.top = `${box.scrollTop + n * HEIGHT - from}px`;
                 fill(row, n);
                 rows.push(row);
@@ -49,9 +53,11 @@ globalThis.Rows = (() => {
             const row = event.target.closest(".row");
             if (row) choose(Number(row.dataset.row));
         });
-        list.set = (count, marked) => {
+        // so many rows, and the one that is marked: as that of now, or as the last one before it
+        list.set = (count, marked, isNow = true) => {
             list.count = count;
             list.marked = marked;
+            list.isNow = isNow;
             inner.style.height = `${scrolled()}px`;
             if (marked >= 0) show(marked);
             draw();

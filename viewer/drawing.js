@@ -20,8 +20,7 @@ globalThis.Drawing = (() => {
 
     const pods = p => {
         const { c } = p.pen;
-        const { layout, scale, colour } = p;
-        const below = scale < 0.5 ? 8 : -8; // from a pod's lower edge to the middle of its name
+        const { layout, colour } = p;
         layout.pods.forEach((pod, n) => {
             const at = p.shown(pod);
             c.beginPath();
@@ -31,8 +30,8 @@ globalThis.Drawing = (() => {
             if (layout.folds && pod.isOpen) p.pen.outline(colour.link, 1);
             const mark = !layout.folds ? "" : pod.isOpen ? "\u25be " : "\u25b8 ";
             const texts = [`${mark}pod ${n}${layout.folds ? "" : " of the wiring"}`, `pod ${n}`, `${n}`];
-            const y = layout.folds ? at.y + at.height - 9 : at.y + at.height + below;
-            p.pen.write(texts, at.x + at.width / 2, y, at.width - 4, 11, colour.muted);
+            const y = at.y + at.height - Math.max(7, Math.min(10, 12 * p.scale));
+            p.pen.write(texts, at.x + at.width / 2, y, at.width - 4, Math.max(8, Math.min(11, 16 * p.scale)), colour.muted);
         });
     };
 

@@ -55,7 +55,7 @@
         if (!isLoads) return;
         const most = Drawing.largest(page.state.carried);
         const bounds = Drawing.bounds(most);
-        $("scale").replaceChildren("frames:", ...bounds.flatMap((least, n) => {
+        $("scale").replaceChildren("over a link:", ...bounds.flatMap((least, n) => {
             const top = n < 4 ? bounds[n + 1] - 1 : most;
             if (top < least) return [];
             const colour = document.createElement("i");

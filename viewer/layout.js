@@ -14,7 +14,7 @@ globalThis.Layout = (() => {
     const FOLDED = { least: 11, most: 40, beside: 22 }; // width of a folded pod; `beside` an open one
     const READABLE = 20; // points on the screen: a narrower column cannot be read
     const HEAD = 24; // above the first row
-    const FOOT = 40; // below the hosts: the pod's name
+    const FOOT = 46; // below the hosts: the pod's name
 
     const widthOf = (k, { column, gap }) => k * (k / 2 * column + gap) + gap;
 
@@ -59,8 +59,8 @@ globalThis.Layout = (() => {
         const group = (width - size.gap) / h * 0.94;
         const named = h < 10 ? 30 : 38; // so wide that its label can be read
         if (group < named) return { across: 4, rows: Math.ceil(h / 4), box: [group / 4 - 1.5, 9] };
-        const across = Math.min(h, Math.floor(group / (named + 2)) || 1);
-        return { across, rows: Math.ceil(h / across), box: [named, 15] };
+        const across = Math.max(1, Math.min(h, Math.round(group / (named + 2))));
+        return { across, rows: Math.ceil(h / across), box: [Math.min(named, group / across - 2), 15] };
     };
 
     const placeCore = (fabric, layout, core) => {

@@ -175,12 +175,17 @@ globalThis.Page = (() => {
 
     const storyName = () => `${Facts.name(page.run, page.subject)}: ${Words.plural(page.story.length, "entry", "entries")}`;
 
+    const HEADS = { placed: ["switch", "place", "placed by"], addresses: ["host", "address", "granted and registered by"] };
+
     const drawKnown = () => {
         if ($("fabric").hidden) return;
         if (!page.known) page.known = Knowledge.of(page.run);
         const { entry } = page.state;
         const list = $("knowledge").value;
         knownRows = Knowledge.rows(page.known, list, $("filter").value, entry);
+        [...$("heads").children].slice(1).forEach((head, n) => {
+            head.textContent = HEADS[list][n];
+        });
         knowledge.set(knownRows.length, -1);
         const shown = $("filter").value.trim() === "" ? "" : `; ${Words.plural(knownRows.length, "row")} with this text`;
         $("known").textContent = `${Knowledge.summary(page.known, list, entry)}${shown}`;

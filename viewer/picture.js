@@ -15,7 +15,7 @@ globalThis.Picture = (() => {
             this.key = ""; // what the kept picture was made of
             this.pen = Pen.of(this.screen);
             Object.assign(this, { width: 0, height: 0, scale: 1, x: 0, y: 0, progress: 1, isLoads: false, open: new Set(), touched: null });
-            Object.assign(this, { run: null, fabric: null, layout: null, state: null, scene: null, stacks: new Map(), lines: null });
+            Object.assign(this, { run: null, fabric: null, layout: null, state: null, scene: null, names: new Map(), lines: null });
         }
 
         // takes the size that the canvas has on the page, in points
@@ -74,22 +74,36 @@ globalThis.Picture = (() => {
             this.state = state;
             this.scene = scene;
             this.touched = null;
-            this.stack();
+            this.placeNames();
         }
 
-        // Switches and hosts of a folded pod that are named share its boxes: which one of how many each is there.
-        stack() {
+        // Where the names stand that want a box of their own: over their places, and beside each other where these are near.
+        placeNames() {
+            this.names = new Map();
             const { way, now, subject } = this.scene;
-            const places = [...way, ...(now && now.place ? [now.place] : []), ...(subject && subject.frame === undefined ? [subject] : [])];
-            const boxes = new Map();
-            for (const place of places.filter(one => one.link === undefined)) {
-                const box = this.boxOf(place);
-                if (box.pod === undefined) continue;
-                if (!boxes.has(box)) boxes.set(box, []);
-                const name = this.nameOf(place);
-                if (!boxes.get(box).includes(name)) boxes.get(box).push(name);
+            const places = [...(now && now.place ? [now.place] : []), ...(subject && subject.frame === undefined ? [subject] : []), ...way];
+            for (const place of places) {
+                if (place.link !== undefined || !this.wantsName(place) || this.names.has(this.nameOf(place))) continue;
+                this.names.set(this.nameOf(place), this.freePlace(this.nameBox(place)));
             }
-            this.stacks = boxes;
+        }
+
+        nameBox(place) {
+            const at = this.shown(this.boxOf(place));
+            const width = Math.max(Math.min(at.width, 80), 11 + 7 * this.nameOf(place).length);
+            const x = this.isWhole ? Math.min(Math.max(at.x, width / 2 + 2), this.width - width / 2 - 2) : at.x;
+            return { x, y: at.y, width, height: 17 };
+        }
+
+        // the box, or so near above or below it that it covers no other name
+        freePlace(box) {
+            const taken = [...this.names.values()];
+            const isFree = y => taken.every(other => Math.abs(other.x - box.x) >= (other.width + box.width) / 2 || Math.abs(other.y - y) >= 19);
+            for (let n = 0; n < 12; n++) {
+                const y = box.y + (n % 2 === 0 ? -1 : 1) * Math.ceil(n / 2) * 20;
+                if (isFree(y)) return { ...box, y };
+            }
+            return box;
         }
 
         nameOf(place) {
@@ -126,14 +140,8 @@ globalThis.Picture = (() => {
 
         // The place on the canvas of a switch or a host, with room for its name.
         spotOf(place) {
-            const box = this.boxOf(place);
-            const at = this.shown(box);
-            if (!this.wantsName(place)) return at;
-            const name = this.nameOf(place);
-            const names = this.stacks.get(box) || [name];
-            const width = Math.max(at.width, 11 + 7 * name.length);
-            const x = Math.min(Math.max(at.x, width / 2 + 2), this.width - width / 2 - 2);
-            return { x, y: at.y + (names.indexOf(name) - (names.length - 1) / 2) * 20, width, height: 17 };
+            if (!this.wantsName(place)) return this.shown(this.boxOf(place));
+            return this.names.get(this.nameOf(place)) || this.nameBox(place);
         }
 
         // from the upper edge of the lower end to the lower edge of the upper one
@@ -256,7 +264,7 @@ globalThis.Picture = (() => {
             const pod = Layout.podOf(this.fabric, place, this.state.spots);
             if (pod >= 0 && !this.layout.pods[pod].isOpen) {
                 this.openPods([pod]);
-                this.stack();
+                this.placeNames();
             }
             const box = this.boxOf(place);
             if (box.width * this.scale >= 24) return this.reveal(place);

@@ -27,6 +27,7 @@ globalThis.Rows = (() => {
                 const row = document.createElement("div");
                 row.className = n !== list.marked ? "row" : list.isNow ? "row now" : "row last";
                 row.dataset.row = n;
+                row.id = `${box.id}-${n}`;
                 row.setAttribute("role", role);
                 if (role === "option") {
                     row.setAttribute("aria-selected", String(n === list.marked && list.isNow));
@@ -38,6 +39,9 @@ globalThis.Rows = (() => {
                 rows.push(row);
             }
             inner.replaceChildren(...rows);
+            const marked = rows.find(row => Number(row.dataset.row) === list.marked);
+            if (marked) box.setAttribute("aria-activedescendant", marked.id);
+            else box.removeAttribute("aria-activedescendant");
         };
 
         // brings a row into sight
@@ -49,6 +53,13 @@ globalThis.Rows = (() => {
         };
 
         box.addEventListener("scroll", draw);
+        box.addEventListener("keydown", event => {
+            const step = { ArrowUp: -1, ArrowDown: 1 }[event.key];
+            if (role !== "option" || step === undefined || event.target !== box) return;
+            event.preventDefault();
+            const row = list.isNow || step > 0 ? list.marked + step : list.marked;
+            if (row >= 0 && row < list.count) choose(row);
+        });
         inner.addEventListener("click", event => {
             const row = event.target.closest(".row");
             if (row) choose(Number(row.dataset.row));

@@ -32,6 +32,7 @@ globalThis.Rules = (() => {
         BadArp: "Look at the frame's header, which says what is wrong with its ARP part.",
         NoMember: "Look at the `join` and `leave` lines of the script for that group, and at whether the reports arrived.",
     };
+    const BACK = "No loss: the tree of a group, or of a flood, reaches the sender's own switch too, and nobody else there is to have a copy.";
     const BRIDGE = "A learning bridge floods what it has not learnt, and sends the rest by the port where it last heard the address.";
 
     const part = row => (row ? [{ says: row.says.replace(/"/g, "`"), files: row.files }] : []);
@@ -47,7 +48,8 @@ globalThis.Rules = (() => {
 
     const look = (run, n) => {
         if (run.kind[n] !== KIND.dropped) return "";
-        return Journal.isOfBridge(run) ? BRIDGE : LOOK[CAUSES[run.b[n]]];
+        if (Journal.isOfBridge(run)) return BRIDGE;
+        return Words.isBack(run, n) ? BACK : LOOK[CAUSES[run.b[n]]];
     };
 
     return { of, look, rowOf };

@@ -1,7 +1,8 @@
 "use strict";
 // Draws on a picture's fabric what moves: the way of the frame in focus, the frames in flight, and what the entry of now says.
 globalThis.Traces = (() => {
-    const NARROW = 40; // boxes that are narrower have a dot for a frame, since a number would cover their names
+    // Whether a text beside a box would cover much of it, or of the next one: then a dot stands for a frame.
+    const isWideFor = (text, at) => 7 * text.length + 10 > 0.6 * at.width;
 
     const place = (p, where, isMarked) => {
         if (where.link !== undefined) return;
@@ -39,10 +40,10 @@ globalThis.Traces = (() => {
             const at = p.shown(box);
             if (!p.isSeen(at)) continue;
             const [right, top] = [at.x + at.width / 2, at.y - at.height / 2];
-            const isNarrow = at.width < NARROW;
-            if (ids.length > 1) frameLabel(p, `\u00d7${ids.length}`, right - (isNarrow ? 6 : 5), top - 6, false, isNarrow ? 9 : 11);
-            else if (isNarrow) p.pen.dot(right - 2, top, 4, p.colour.paper, p.colour.ink);
-            else frameLabel(p, `${ids[0]}`, right - 5, top - 5, false);
+            const text = ids.length > 1 ? `\u00d7${ids.length}` : `${ids[0]}`;
+            if (!isWideFor(text, at)) frameLabel(p, text, right - 5, top - 5, false);
+            else if (ids.length > 1) frameLabel(p, text, right - 6, top - 6, false, 9);
+            else p.pen.dot(right - 2, top, 4, p.colour.paper, p.colour.ink);
         }
     };
 
@@ -83,6 +84,7 @@ globalThis.Traces = (() => {
     };
 
     const draw = p => {
+        p.placeNames();
         way(p);
         flying(p);
         frameOfNow(p);

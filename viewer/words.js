@@ -287,5 +287,5 @@ globalThis.Words = (() => {
         return rows;
     };
 
-    return { CAUSE, SKIP, sentence, header, parts, who, kindOf, placeText, trail, plural, switchOf, hostOf };
+    return { CAUSE, SKIP, isBack, sentence, header, parts, who, kindOf, placeText, trail, plural, switchOf, hostOf };
 })();

@@ -142,8 +142,11 @@ const the_rule_stands_below_the_sentence = async (browser, width) => {
     assert.match(await browser.text("said"), /NoMember, it came back to its sender's own switch, and nobody else there has joined its group\.$/);
     const rule = await browser.text("rule");
     for (const part of ["no_way", "crates/pl_switch_rule/specs/GroupForwarding.antt", "cause_of"]) assert(rule.includes(part), rule);
-    assert.match(await browser.text("look"), /^Look at the `join` and `leave` lines/);
+    assert.match(await browser.text("look"), /^No loss: the tree/);
     await picture(browser, `rule-${width}`);
+    const lost = run.journal.split("\n").findIndex(line => line.endsWith(" HostGone")) + 1;
+    await browser.value(`Page.step(${lost})`);
+    assert.match(await browser.text("look"), /^Look at the story of the host/);
     await browser.value("Page.step(80)");
     assert.equal(await browser.text("look"), "");
     assert((await browser.text("rule")).startsWith("Rule: "));
@@ -158,7 +161,7 @@ const loads_and_the_chart = async (browser, width) => {
     const crossed = run.journal.split("\n").slice(0, 600).filter(line => /^crossed \d+ e0\.0$/.test(line)).length;
     const shown = await texts(browser);
     assert(shown.includes(`${crossed} frames`) || shown.includes(`${crossed}`), `${crossed}: ${shown}`);
-    assert.match(await browser.text("scale"), /^frames:1/);
+    assert.match(await browser.text("scale"), /^over a link:1/);
     await picture(browser, `loads-${width}`);
     const box = await browser.value(`(() => { const e = document.querySelector("#chart > svg"); e.scrollIntoView({ block: "center" });
         const r = e.getBoundingClientRect(); return { x: r.x, y: r.y + r.height / 2, width: r.width }; })()`);

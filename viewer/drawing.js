@@ -39,6 +39,18 @@ globalThis.Drawing = (() => {
     const levelOf = (count, most) => (count === 0 ? 0 : Math.min(5, 1 + Math.floor(4.999 * Math.log(count) / Math.log(Math.max(2, most)))));
     const largest = counts => counts.reduce((most, count) => Math.max(most, count), 0);
 
+    // A number that changes where what is shown of the loads does: the levels of links and switches, and where boxes are so large
+    // that they have texts the numbers of frames too.
+    const loadKey = p => {
+        const { carried, crossings } = p.state;
+        const [mostCarried, mostCrossings] = [largest(carried), largest(crossings)];
+        const hasTexts = p.layout.folded.length > 0 || p.layout.box[0] * p.scale >= BARE;
+        let key = 1;
+        for (const count of carried) key = Math.imul(key ^ levelOf(count, mostCarried), 16777619);
+        for (const count of crossings) key = Math.imul(key ^ (hasTexts ? count : levelOf(count, mostCrossings)), 16777619);
+        return key;
+    };
+
     // the least count of each level above 0
     const bounds = most => [1, 2, 3, 4, 5].map(level => Math.ceil(Math.max(2, most) ** ((level - 1) / 4.999) - 1e-9));
 
@@ -280,5 +292,5 @@ globalThis.Drawing = (() => {
         pen.write([p.nameOf(place)], at.x, at.y + 0.5, at.width - 4, 11, colour.ink, true);
     };
 
-    return { fabric, oneSwitch, oneHost, named, placeTexts, bounds, largest };
+    return { fabric, oneSwitch, oneHost, named, placeTexts, bounds, largest, loadKey };
 })();

@@ -271,7 +271,10 @@
     });
 
     const resize = () => {
-        if (!page.run) return picture.draw();
+        if (!page.run) {
+            picture.measure();
+            return picture.draw();
+        }
         picture.resized();
         return Page.draw(false);
     };

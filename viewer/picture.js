@@ -9,16 +9,17 @@ globalThis.Picture = (() => {
     class Picture {
         constructor(canvas) {
             this.canvas = canvas;
-            this.screen = canvas.getContext("2d");
+            this.screen = canvas.getContext("2d", { alpha: false });
             this.kept = document.createElement("canvas");
-            this.keptContext = this.kept.getContext("2d");
+            this.keptContext = this.kept.getContext("2d", { alpha: false });
             this.key = ""; // what the kept picture was made of
             this.pen = Pen.of(this.screen);
             Object.assign(this, { width: 0, height: 0, scale: 1, x: 0, y: 0, progress: 1, isLoads: false, open: new Set(), touched: null });
             Object.assign(this, { run: null, fabric: null, layout: null, state: null, scene: null, names: new Map(), lines: null });
         }
 
-        // takes the size that the canvas has on the page, in points
+        // Takes the size that the canvas has on the page, in points. It is asked for where that may have changed alone: a page that
+        // is asked for it in each step lays itself out twice.
         measure() {
             this.width = this.canvas.clientWidth;
             this.height = this.canvas.clientHeight;
@@ -55,6 +56,7 @@ globalThis.Picture = (() => {
 
         // the canvas has another size
         resized() {
+            this.measure();
             if (this.isWhole) this.arrange();
         }
 
@@ -155,12 +157,13 @@ globalThis.Picture = (() => {
             return Math.max(x, toX) > 0 && Math.min(x, toX) < this.width && Math.max(y, toY) > 0 && Math.min(y, toY) < this.height;
         }
 
-        // The fabric looks the same while none of these entries happens and the view stays.
+        // The fabric looks the same while none of these entries happens, no load gets another colour or number, and the view stays.
         keyOf(width, height, ratio) {
-            const { counts, entry } = this.state;
+            const { counts } = this.state;
             const kinds = [KIND.placed, KIND.granted, KIND.freed, KIND.moved, KIND.linkdown, KIND.linkup];
-            const happened = this.isLoads ? [entry] : kinds.map(kind => counts[kind]);
-            return [width, height, ratio, this.scale, this.x, this.y, this.isLoads, this.scene.subject !== null, ...happened].join(" ");
+            const happened = kinds.map(kind => counts[kind]);
+            const loads = this.isLoads ? Drawing.loadKey(this) : 0;
+            return [width, height, ratio, this.scale, this.x, this.y, loads, this.scene.subject !== null, ...happened].join(" ");
         }
 
         drawKept(width, height, ratio) {
@@ -187,7 +190,6 @@ globalThis.Picture = (() => {
         }
 
         draw() {
-            this.measure();
             const { canvas, screen, width, height } = this;
             const ratio = window.devicePixelRatio || 1;
             if (canvas.width !== Math.round(width * ratio)) canvas.width = Math.round(width * ratio);

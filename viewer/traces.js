@@ -34,7 +34,8 @@ globalThis.Traces = (() => {
         for (const [key, ids] of places) {
             const others = ids.filter(id => id !== focus);
             const box = p.boxOf(key < 0 ? { spot: -1 - key } : { switch: key });
-            if (others.length > 0) counts.set(box, [...(counts.get(box) || []), ...others]);
+            if (others.length > 0 && !counts.has(box)) counts.set(box, others);
+            else if (others.length > 0) for (const id of others) counts.get(box).push(id);
         }
         for (const [box, ids] of counts) {
             const at = p.shown(box);

@@ -59,8 +59,9 @@ globalThis.Layout = (() => {
         const group = (width - size.gap) / h * 0.94;
         const named = h < 10 ? 30 : 38; // so wide that its label can be read
         if (group < named) return { across: 4, rows: Math.ceil(h / 4), box: [group / 4 - 1.5, 9] };
-        const across = Math.max(1, Math.min(h, Math.round(group / (named + 2))));
-        return { across, rows: Math.ceil(h / across), box: [Math.min(named, group / across - 2), 15] };
+        const rows = Math.ceil(h / Math.max(1, Math.min(h, Math.round(group / (named + 2)))));
+        const across = Math.ceil(h / rows);
+        return { across, rows, box: [Math.min(named, group / across - 2), 15] };
     };
 
     const placeCore = (fabric, layout, core) => {

@@ -44,7 +44,7 @@ globalThis.Traces = (() => {
             const text = ids.length > 1 ? `\u00d7${ids.length}` : `${ids[0]}`;
             if (!isWideFor(text, at)) frameLabel(p, text, right - 5, top - 5, false);
             else if (ids.length > 1) frameLabel(p, text, right - 6, top - 6, false, 9);
-            else p.pen.dot(right - 2, top, 4, p.colour.paper, p.colour.ink);
+            else p.pen.dot(right - 2, top, Math.max(3, Math.min(4, at.height / 6)), p.colour.paper, p.colour.ink);
         }
     };
 

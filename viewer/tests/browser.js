@@ -6,7 +6,7 @@ const os = require("os");
 const path = require("path");
 
 // Keys that are no letters, as the protocol wants them.
-const CODES = { ArrowLeft: 37, ArrowRight: 39, Home: 36, End: 35, Escape: 27, Enter: 13, " ": 32 };
+const CODES = { ArrowLeft: 37, ArrowRight: 39, ArrowUp: 38, ArrowDown: 40, Home: 36, End: 35, Escape: 27, Enter: 13, " ": 32 };
 
 class Browser {
     constructor(program, folder) {

@@ -7,7 +7,7 @@ const os = require("os");
 const path = require("path");
 
 // Keys that are no letters, as WebDriver names them.
-const KEYS = { ArrowLeft: "\uE012", ArrowRight: "\uE014", Home: "\uE011", End: "\uE010", Escape: "\uE00C", Enter: "\uE007", Tab: "\uE004" };
+const KEYS = { ArrowLeft: "\uE012", ArrowRight: "\uE014", ArrowUp: "\uE013", ArrowDown: "\uE015", Home: "\uE011", End: "\uE010", Escape: "\uE00C", Enter: "\uE007", Tab: "\uE004" };
 const SHIFT = "\uE008";
 const ELEMENT = "element-6066-11e4-a52e-4f735466cecf";
 const PREFERENCES = {

@@ -135,6 +135,27 @@ const a_large_fabric_is_read = async (browser, width) => {
     assert(step < 200, `a step takes ${step} milliseconds`);
 };
 
+// By keys alone: a pod is opened, all are opened and folded, and a row of the list is gone to.
+const keys_reach_everything = async browser => {
+    await openedLarge(browser, 8, 2000);
+    const isFolding = await browser.value("Page.picture.layout.folds");
+    await browser.value("Page.step(1900)");
+    await browser.press("o");
+    assert.equal(await browser.value("Page.picture.open.size"), isFolding ? 1 : 0);
+    await browser.press("p");
+    await browser.press("p");
+    assert.equal(await browser.value("Page.picture.open.size"), isFolding ? 8 : 0);
+    await browser.value("(() => { document.getElementById('journal').focus(); })()");
+    await browser.press("ArrowDown");
+    assert.equal(await browser.value("Page.page.state.entry"), 1901);
+    assert.equal(await browser.value("document.getElementById('journal').getAttribute('aria-activedescendant')"), "journal-1900");
+    await browser.press("ArrowUp");
+    assert.equal(await browser.value("Page.page.state.entry"), 1900);
+    const nameless = await browser.value(`[...document.querySelectorAll("button, input, select, canvas, [role=listbox], [role=table]")]
+        .filter(e => !(e.getAttribute("aria-label") || e.textContent.trim() || e.title || e.closest("label"))).map(e => e.id)`);
+    assert.deepEqual(nameless, []);
+};
+
 const the_rule_stands_below_the_sentence = async (browser, width) => {
     const run = await opened(browser, "tests/fabric/random-04");
     await browser.value("Page.step(81)");
@@ -291,6 +312,6 @@ const aging_restarts_and_bridges_are_told = async browser => {
 
 module.exports = {
     the_page_fits_its_screen, fingers_name_and_zoom, nothing_covers_switches_or_names, what_is_found_is_not_taken_for_now,
-    a_large_fabric_is_read, the_rule_stands_below_the_sentence, loads_and_the_chart, what_the_fabric_knows, a_second_run_goes_beside,
+    a_large_fabric_is_read, keys_reach_everything, the_rule_stands_below_the_sentence, loads_and_the_chart, what_the_fabric_knows, a_second_run_goes_beside,
     the_welcome_page_shows_an_example, a_moment_is_kept, packed_pages_open_at_a_moment, aging_restarts_and_bridges_are_told,
 };

@@ -122,10 +122,11 @@ globalThis.Drawing = (() => {
     const loaded = (p, segments, width) => {
         const most = largest(p.state.carried);
         const levels = segments.map(({ load }) => levelOf(load, most));
+        const wider = Math.max(0.12, Math.min(1, 80 / segments.length)) * Math.max(0.5, Math.min(1, p.scale)); // for each level
         for (let level = 0; level <= 5; level++) {
             const drawn = segments.filter((_, n) => levels[n] === level).map(({ ends }) => ends);
             if (level === 0) p.pen.faint(Math.min(0.6, faded(p, segments.length)), () => p.pen.lines(drawn, p.colour.link, width, []));
-            else p.pen.lines(drawn, p.colour[`load${level}`], 0.6 + level * Math.max(0.5, Math.min(1, p.scale)), []);
+            else p.pen.lines(drawn, p.colour[`load${level}`], 0.5 + level * wider, []);
         }
     };
 

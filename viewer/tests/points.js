@@ -236,7 +236,9 @@ const a_second_run_goes_beside = async (browser, width) => {
     await browser.value("Page.toLine(5)");
     await browser.press("ArrowLeft");
     assert.equal(await browser.text("second-where"), `${at(begins(5) - 1)}, line 4 of the script`);
+    await browser.press("l");
     await picture(browser, `beside-${width}`);
+    await browser.press("l");
     await browser.press("End");
     assert.equal(await browser.text("second-where"), `${at(525)}, line 6 of the script`);
     const crossed = await browser.value("[...document.querySelectorAll('#second-counts tr')].map(row => [...row.children].map(cell => cell.textContent))");

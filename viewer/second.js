@@ -4,7 +4,7 @@ globalThis.Second = (() => {
     const $ = id => document.getElementById(id);
     const { page } = Page;
     const picture = Picture.of($("other"));
-    const second = { run: null, states: null, state: null, script: null };
+    const second = { first: null, run: null, states: null, state: null, script: null };
     const COUNTS = ["sent", "made", "copied", "crossed", "arrived", "taken", "dropped"];
 
     const cell = (name, text) => {
@@ -34,6 +34,10 @@ globalThis.Second = (() => {
 
     const draw = () => {
         if (!second.run || !page.run) return;
+        if (second.first !== page.run) {
+            close(); // another run was opened
+            return;
+        }
         const { run, states, script } = second;
         second.state = At.at(states, Step.of(page.run, run, page.state.entry, page.state.line), second.state);
         const { entry, line } = second.state;
@@ -49,7 +53,7 @@ globalThis.Second = (() => {
     };
 
     const close = () => {
-        Object.assign(second, { run: null, states: null, state: null, script: null });
+        Object.assign(second, { first: null, run: null, states: null, state: null, script: null });
         $("second").hidden = $("alone").hidden = true;
         $("besides").hidden = false;
         document.body.classList.remove("two");
@@ -58,7 +62,7 @@ globalThis.Second = (() => {
     // Opens the files of a second run; a topology or a script that is not among them is that of the first.
     const open = files => {
         if (!files.journal) throw new Error("No journal is among these files: the second run is one of the same script.");
-        Object.assign(second, Files.runOf({ ...page.files, ...files }), { state: null });
+        Object.assign(second, Files.runOf({ ...page.files, ...files }), { first: page.run, state: null });
         $("second").hidden = $("alone").hidden = false;
         $("besides").hidden = true;
         document.body.classList.add("two");

@@ -33,13 +33,13 @@ const dropped = async (browser, folder) => {
 };
 
 // opens the one page that viewer/pack makes of a run
-const packed = async (browser, folder) => {
+const packed = async (browser, folder, end = "") => {
     const run = open(folder);
     const file = path.join(work, "page.html");
     const made = spawnSync(path.join(top, "viewer/pack"), [run.folder], { encoding: "buffer", maxBuffer: 1e9 });
     assert.equal(made.status, 0);
     fs.writeFileSync(file, made.stdout);
-    await browser.open(file);
+    await browser.open(file, end);
     await browser.until(isOpen(run.run.count));
     return run;
 };

@@ -247,6 +247,10 @@ const a_second_run_goes_beside = async (browser, width) => {
     await fits(browser);
     await browser.clickOn("#alone");
     assert.equal(await browser.value("document.getElementById('second').hidden"), true);
+    await browser.choose([path.join(LEARNT, "expected/journal.txt")], "#beside");
+    await browser.until("document.getElementById('second').hidden === false");
+    await browser.choose(filesOf(path.join(top, "examples/group")));
+    await browser.until("document.getElementById('second').hidden === true");
 };
 
 const the_welcome_page_shows_an_example = async (browser, width) => {
@@ -291,10 +295,11 @@ const a_moment_is_kept = async (browser, width) => {
 };
 
 const packed_pages_open_at_a_moment = async browser => {
-    const run = await packed(browser, "examples/host-moves-twice");
-    await browser.value("(() => { location.hash = '#entry=60'; })()");
-    await browser.until("Page.page.state.entry === 60");
+    const run = await packed(browser, "examples/host-moves-twice", "#entry=60");
     await says(browser, run, 60);
+    await browser.value("(() => { location.hash = '#entry=70'; })()");
+    await browser.until("Page.page.state.entry === 70");
+    await says(browser, run, 70);
 };
 
 const aging_restarts_and_bridges_are_told = async browser => {

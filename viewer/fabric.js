@@ -122,7 +122,8 @@ globalThis.Fabric = (() => {
         if (edge < 0 || fabric.switches[edge].level !== 0) refuse(`host ${name} stands at no edge switch`);
         const port = portOf(fabric.k, table, "port");
         if (fabric.switches[edge].ports[port] >= 0) refuse(`host ${name} stands at a port of a link`);
-        if (fabric.hosts.some(host => host.edge === edge && host.port === port)) refuse(`host ${name} stands where another does`);
+        if (fabric.taken.has(edge * fabric.k + port)) refuse(`host ${name} stands where another does`);
+        fabric.taken.add(edge * fabric.k + port);
         return { number, name, mac: mac.toLowerCase(), ip, edge, port };
     };
 
@@ -130,7 +131,7 @@ globalThis.Fabric = (() => {
     const of = document => {
         const k = document.k;
         if (!Number.isInteger(k) || k < 4 || k > 24 || k % 2 === 1) refuse("`k` is no even number from 4 to 24");
-        const fabric = { k, switches: switchesOf(k), links: linksOf(k), hosts: [], names: new Map(), macs: new Map() };
+        const fabric = { k, switches: switchesOf(k), links: linksOf(k), hosts: [], names: new Map(), macs: new Map(), taken: new Set() };
         tablesOf(document, "switch").forEach(table => applySwitch(fabric, table));
         tablesOf(document, "link").forEach(table => applyLink(fabric, table));
         joinPorts(fabric);

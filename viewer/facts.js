@@ -47,11 +47,11 @@ globalThis.Facts = (() => {
         ];
     };
 
-    const addressFacts = (run, state, number) => run.addresses
-        .filter(address => address.host === number && address.granted < state.entry)
+    const addressFacts = (run, state, host) => run.addresses
+        .filter(address => address.host === host && address.granted < state.entry)
         .map(address => {
-            const isRegistered = address.registered >= 0 && address.registered < state.entry;
-            const registered = isRegistered ? `registered as ${address.registration}` : "not registered";
+            const number = Journal.registrationAt(address, state.entry);
+            const registered = Journal.isFreed(address, state.entry) ? "freed" : number > 0 ? `registered as ${number}` : "not registered";
             return [Frames.macText(address.number), `port ${address.port} of ${Words.switchOf(run, address.edge)}, ${registered}`];
         });
 

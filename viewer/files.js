@@ -2,7 +2,7 @@
 // Reads the files of a run: those that are chosen or dropped, or those that `viewer/pack` put into the page.
 globalThis.Files = (() => {
     const COMMANDS = ["start", "send", "raw", "retry", "join", "leave", "move", "fail", "repair", "lose", "deliver", "tick",
-        "sweep", "settle", "random", "expect"];
+        "sweep", "settle", "random", "restart", "expect"];
 
     // What a file of a run is: by its name, else by its first word. Captures and pages are none.
     const kindOf = (name, bytes) => {
@@ -30,8 +30,8 @@ globalThis.Files = (() => {
         return { run, states: At.run(run), script: files.script ? Script.read(text(files.script)) : null };
     };
 
-    const unpacked = async element => {
-        const letters = atob(element.textContent);
+    const unpacked = async text => {
+        const letters = atob(text);
         const bytes = new Uint8Array(letters.length);
         for (let n = 0; n < letters.length; n++) bytes[n] = letters.charCodeAt(n);
         const stream = new Blob([bytes]).stream().pipeThrough(new DecompressionStream("gzip"));
@@ -42,10 +42,18 @@ globalThis.Files = (() => {
     const packed = async () => {
         const files = {};
         for (const element of document.querySelectorAll("script[data-packed]")) {
-            files[element.dataset.packed] = await unpacked(element);
+            files[element.dataset.packed] = await unpacked(element.textContent);
         }
         const title = document.querySelector("meta[name='run']");
         return files.journal ? { files, name: title ? title.content : "packed run" } : null;
+    };
+
+    // the run that is behind the button of the welcome page
+    const example = async () => {
+        const { name, ...packedFiles } = Example;
+        const files = {};
+        for (const [kind, text] of Object.entries(packedFiles)) files[kind] = await unpacked(text);
+        return { files, name };
     };
 
     const bytesOf = async file => {
@@ -88,5 +96,5 @@ globalThis.Files = (() => {
         return chosen((await Promise.all(handles.filter(Boolean).map(handle => below(handle, 2)))).flat());
     };
 
-    return { kindOf, runOf, packed, chosen, dropped };
+    return { kindOf, runOf, packed, example, chosen, dropped };
 })();

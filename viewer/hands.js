@@ -5,7 +5,9 @@
     const { page, picture } = Page;
 
     const redraw = () => {
-        if (page.run) picture.draw();
+        if (!page.run) return;
+        picture.draw();
+        $("canvas").classList.toggle("near", !picture.isWhole);
     };
     const zoom = (factor, x, y) => {
         picture.zoom(factor, x, y);
@@ -20,6 +22,69 @@
         redraw();
     };
 
+    // Where pods fold: all are opened, or all are folded. The button says what it would do.
+    const drawPods = () => {
+        const { layout } = picture;
+        $("pods").hidden = !layout || !layout.folds;
+        $("pods").textContent = picture.open.size > 0 ? "fold pods" : "open pods";
+    };
+    const laid = () => {
+        Page.draw(false);
+        drawPods();
+    };
+    const pods = () => {
+        if (!picture.layout.folds) return;
+        picture.openPods(picture.open.size > 0 ? [] : picture.layout.pods.keys());
+        laid();
+    };
+    // opens the pod of whose story is shown, else that of the entry of now
+    const openPod = () => {
+        const { subject, now } = picture.scene;
+        const place = subject && subject.frame === undefined ? subject : now && now.place;
+        if (!place || place.link !== undefined) return;
+        const pod = Layout.podOf(page.run.fabric, place, page.state.spots);
+        if (pod >= 0 && picture.layout.folds) picture.toggle(pod);
+        laid();
+    };
+
+    // the colours of the layer of loads, with the least number of frames of each
+    const drawScale = () => {
+        const { isLoads } = picture;
+        $("loads").setAttribute("aria-pressed", String(isLoads));
+        $("scale").hidden = !isLoads;
+        if (!isLoads) return;
+        const most = Drawing.largest(page.state.carried);
+        const bounds = Drawing.bounds(most);
+        $("scale").replaceChildren("over a link:", ...bounds.flatMap((least, n) => {
+            const top = n < 4 ? bounds[n + 1] - 1 : most;
+            if (top < least) return [];
+            const colour = document.createElement("i");
+            colour.style.background = `var(--load${n + 1})`;
+            return [colour, top === least ? `${least}` : `${least}–${top}`];
+        }));
+    };
+    const loads = () => {
+        picture.isLoads = !picture.isLoads;
+        Page.draw(false);
+    };
+    page.followers.push(drawScale, drawPods);
+
+    const toldMoment = () => [$("where").textContent, $("said").textContent];
+    const fileName = () => `portland-entry-${page.state.entry}`;
+    const keep = {
+        link: async () => {
+            const link = `${window.location.href.replace(/#.*/, "")}${Moment.text(page.run, page.state.entry, page.subject)}`;
+            try {
+                await navigator.clipboard.writeText(link);
+                $("kept").textContent = "copied";
+            } catch {
+                window.prompt("The link to this moment:", link);
+            }
+        },
+        png: async () => Moment.save(await Moment.png(picture, ...toldMoment()), `${fileName()}.png`),
+        svg: () => Moment.save(new Blob([Moment.svg(picture, ...toldMoment())], { type: "image/svg+xml" }), `${fileName()}.svg`),
+    };
+
     const ACTS = {
         first: () => Page.step(0),
         last: () => Page.step(Infinity),
@@ -32,9 +97,17 @@
         in: () => zoomAtSight(1.3),
         out: () => zoomAtSight(1 / 1.3),
         fit,
+        pods,
+        loads,
+        ...keep,
+        alone: () => {
+            Second.close();
+            resize();
+        },
         all: () => Page.tell(null),
         "tab-journal": () => Page.choose("journal"),
         "tab-script": () => Page.choose("script"),
+        "tab-fabric": () => Page.choose("fabric"),
         help: () => $("manual").showModal(),
     };
     for (const [id, act] of Object.entries(ACTS)) {
@@ -57,6 +130,9 @@
         w: () => pan(0, 80),
         s: () => pan(0, -80),
         f: () => Page.tellNow(),
+        l: loads,
+        p: pods,
+        o: openPod,
         "[": () => Page.faster(-1),
         "]": () => Page.faster(1),
         "/": () => $("find").focus(),
@@ -113,36 +189,44 @@
     });
     $("find").addEventListener("input", () => $("find").setCustomValidity(""));
 
-    let drag = null;
-    $("canvas").addEventListener("pointerdown", event => {
-        drag = { x: event.clientX, y: event.clientY, isMoved: false };
-        $("canvas").setPointerCapture(event.pointerId);
+    $("knowledge").addEventListener("change", Page.drawKnown);
+    $("filter").addEventListener("input", Page.drawKnown);
+
+    // what is at a place of the picture, in words
+    const nameOf = found => {
+        if (found.pod !== undefined) return `pod ${found.pod}: ${picture.open.has(found.pod) ? "fold" : "open"} it`;
+        if (found.host !== undefined) return `${Facts.name(page.run, found)}, ${page.run.fabric.hosts[found.host].ip}`;
+        return `${Facts.name(page.run, found)}, ${Drawing.placeTexts(At.place(page.state, found.switch))[0].replace("?", "place not known")}`;
+    };
+    Pointers.on($("canvas"), picture, {
+        isOpen: () => page.run !== null,
+        redraw,
+        name: nameOf,
+        choose: (found, isTouch) => {
+            if (found.pod !== undefined) {
+                picture.toggle(found.pod);
+                laid();
+                return;
+            }
+            Page.tell(found);
+            if (isTouch) picture.touched = { place: found, text: nameOf(found) };
+            redraw();
+        },
     });
-    $("canvas").addEventListener("pointermove", event => {
-        if (!page.run) return;
-        if (!drag) {
-            const found = picture.find(event.offsetX, event.offsetY);
-            $("canvas").style.cursor = found ? "pointer" : "grab";
-            $("canvas").title = found ? Facts.name(page.run, found) : "";
-            return;
-        }
-        const [x, y] = [event.clientX - drag.x, event.clientY - drag.y];
-        if (!drag.isMoved && Math.hypot(x, y) < 4) return;
-        picture.pan(x, y);
-        drag = { x: event.clientX, y: event.clientY, isMoved: true };
-        redraw();
+    Pointers.on($("other"), Second.picture, {
+        isOpen: () => Second.second.run !== null,
+        redraw: () => Second.picture.draw(),
+        name: found => (found.pod === undefined ? Facts.name(Second.second.run, found) : `pod ${found.pod}`),
+        choose: found => {
+            if (found.pod !== undefined) {
+                Second.picture.toggle(found.pod);
+                Second.draw();
+                return;
+            }
+            const subject = Stories.find(page.run, Moment.nameOf(Second.second.run, found));
+            if (subject) Page.tell(subject);
+        },
     });
-    $("canvas").addEventListener("pointerup", event => {
-        const isClick = drag && !drag.isMoved;
-        drag = null;
-        if (!isClick || !page.run) return;
-        const found = picture.find(event.offsetX, event.offsetY);
-        if (found) Page.tell(found);
-    });
-    $("canvas").addEventListener("wheel", event => {
-        event.preventDefault();
-        if (page.run) zoom(Math.exp(-event.deltaY / 500), event.offsetX, event.offsetY);
-    }, { passive: false });
 
     // Opens what `files` answers; what cannot be read is told.
     const open = async (files, name) => {
@@ -152,6 +236,20 @@
             Page.refuse(error);
         }
     };
+    $("example").addEventListener("click", () => {
+        const { files, name } = { files: Files.example().then(found => found.files), name: Example.name };
+        open(files, name);
+    });
+    $("beside").addEventListener("change", async () => {
+        $("kept").textContent = "";
+        try {
+            Second.open(await Files.chosen([...$("beside").files]));
+            resize();
+        } catch (error) {
+            $("kept").textContent = error.message;
+        }
+        $("beside").value = "";
+    });
     for (const id of ["files", "folder"]) {
         $(id).addEventListener("change", async () => {
             const list = [...$(id).files];
@@ -173,16 +271,26 @@
     });
 
     const resize = () => {
-        if (!page.run) return picture.draw();
+        if (!page.run) {
+            picture.measure();
+            return picture.draw();
+        }
         picture.resized();
         return Page.draw(false);
     };
     new ResizeObserver(resize).observe($("canvas"));
+    new ResizeObserver(Second.resized).observe($("other"));
+    window.addEventListener("hashchange", Page.toMoment);
     window.matchMedia("(prefers-color-scheme: dark)").addEventListener("change", () => {
         picture.themed();
+        Second.picture.themed();
         resize();
     });
 
     picture.themed();
-    Files.packed().then(found => found && Page.open(found.files, found.name)).catch(Page.refuse);
+    Files.packed().then(async found => {
+        if (!found) return;
+        await Page.open(found.files, found.name);
+        if (found.files.second) Second.open({ journal: found.files.second });
+    }).catch(Page.refuse);
 })();

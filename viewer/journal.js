@@ -5,7 +5,7 @@
 globalThis.Journal = (() => {
     // the words that lines begin with; an entry's kind is the place of its word here
     const WORDS = ["line", "sent", "skipped", "made", "crossed", "redirected", "copied", "arrived", "taken", "dropped",
-        "granted", "registered", "placed", "linkdown", "linkup", "moved", "settled", "unsettled"];
+        "granted", "registered", "placed", "linkdown", "linkup", "moved", "settled", "unsettled", "freed", "restarted"];
     const KIND = Object.fromEntries(WORDS.map((word, kind) => [word, kind]));
     const CAUSES = ["NotPlaced", "NoNextHop", "NoAddress", "HostGone", "LinkDown", "Lost", "Spent", "BadArp", "NoMember"];
     const SKIPS = ["CutRecord", "Short", "Long", "ForeignSource", "ControlType", "RecordedArp", "NoOwner", "HoldFull"];
@@ -82,19 +82,19 @@ globalThis.Journal = (() => {
             this.at++;
         }
 
-        digits(what) {
+        digits(what, most = LARGEST) {
             const { bytes } = this;
             const from = this.at;
             let value = 0;
-            for (let c = bytes[from]; c >= 48 && c <= 57 && value <= LARGEST; c = bytes[++this.at]) value = value * 10 + c - 48;
+            for (let c = bytes[from]; c >= 48 && c <= 57 && value <= most; c = bytes[++this.at]) value = value * 10 + c - 48;
             const length = this.at - from;
-            if (length === 0 || (length > 1 && bytes[from] === 48) || value > LARGEST) this.refuse(`${what} is missing or none`);
+            if (length === 0 || (length > 1 && bytes[from] === 48) || value > most) this.refuse(`${what} is missing or none`);
             return value;
         }
 
-        number(what) {
+        number(what, most = LARGEST) {
             this.blank();
-            return this.digits(what);
+            return this.digits(what, most);
         }
 
         // a part of a place, -1 where it is not known
@@ -176,8 +176,11 @@ globalThis.Journal = (() => {
             spot: column(), // of `sent` and `arrived` the port of an edge switch where the host stood then
             // of each frame by its number: its first and last entry, the frame that it is a copy of, the first one of these
             begin: [-1], end: [-1], parent: [0], root: [0],
-            addresses: [], // { number, host, edge, port, granted, registered, registration }
-            byAddress: new Map(),
+            // Each grant of an address: { number, host, edge, port, granted, freed, registrations: [{ entry, number }], earlier },
+            // where `freed` is -1 while it is in use, and `earlier` is the grant of the same address before it, -1 where there is none.
+            addresses: [],
+            byAddress: new Map(), // the last grant of each address
+            restarts: [], // the entries `restarted N`
             scriptLines: [], // the entries `line N`
             spots: Int32Array.from(fabric.hosts, host => host.edge * fabric.k + host.port), // where hosts stand meanwhile
         };
@@ -195,12 +198,14 @@ globalThis.Journal = (() => {
         const number = lines.address();
         const found = run.byAddress.get(number);
         if (found === undefined) lines.refuse("an address that was not granted");
+        if (run.addresses[found].freed >= 0) lines.refuse("an address that was freed and not granted again");
         return found;
     };
 
     const grant = (lines, run, n) => {
         const number = lines.address();
-        if (run.byAddress.has(number)) lines.refuse("an address that was granted before");
+        const earlier = run.byAddress.has(number) ? run.byAddress.get(number) : -1;
+        if (earlier >= 0 && run.addresses[earlier].freed < 0) lines.refuse("an address that was granted before");
         const host = lines.host(run.fabric);
         const edge = lines.switch(run.fabric.k);
         const port = lines.part("a port", run.fabric.k - 1);
@@ -208,16 +213,31 @@ globalThis.Journal = (() => {
         run.b[n] = host;
         run.c[n] = edge * run.fabric.k + port;
         run.byAddress.set(number, run.addresses.length);
-        run.addresses.push({ number, host, edge, port, granted: n, registered: -1, registration: 0 });
+        run.addresses.push({ number, host, edge, port, granted: n, freed: -1, registrations: [], earlier });
     };
 
+    const free = (lines, run, n) => {
+        run.a[n] = addressOf(lines, run);
+        run.b[n] = run.addresses[run.a[n]].host;
+        run.addresses[run.a[n]].freed = n;
+    };
+
+    // An address is registered once, and once more after each restart of the manager, whose numbers go on above 2 to the 32nd.
     const register = (lines, run, n) => {
         run.a[n] = addressOf(lines, run);
-        run.b[n] = lines.number("a registration number");
-        const address = run.addresses[run.a[n]];
-        if (address.registered >= 0) lines.refuse("an address that was registered before");
-        address.registered = n;
-        address.registration = run.b[n];
+        const { registrations } = run.addresses[run.a[n]];
+        const number = lines.number("a registration number", Number.MAX_SAFE_INTEGER);
+        const since = run.restarts.length > 0 ? run.restarts[run.restarts.length - 1] : -1;
+        const last = registrations[registrations.length - 1];
+        if (last && last.entry > since) lines.refuse("an address that was registered before");
+        run.b[n] = registrations.length;
+        registrations.push({ entry: n, number });
+    };
+
+    const restart = (lines, run, n) => {
+        run.a[n] = lines.number("a number");
+        if (run.a[n] !== run.restarts.length + 1) lines.refuse(`restart ${run.a[n]} stands where restart ${run.restarts.length + 1} is next`);
+        run.restarts.push(n);
     };
 
     const joined = (lines, run, n) => {
@@ -300,6 +320,8 @@ globalThis.Journal = (() => {
         else if (kind === KIND.placed) place(lines, run, n);
         else if (kind === KIND.linkdown || kind === KIND.linkup) joined(lines, run, n);
         else if (kind === KIND.moved) moved(lines, run, n);
+        else if (kind === KIND.freed) free(lines, run, n);
+        else if (kind === KIND.restarted) restart(lines, run, n);
         else {
             run.a[n] = lines.number("a number");
             if (kind === KIND.line) run.scriptLines.push(n);
@@ -358,5 +380,26 @@ globalThis.Journal = (() => {
         return low < run.scriptLines.length ? run.scriptLines[low] : -1;
     };
 
-    return { WORDS, KIND, CAUSES, SKIPS, read, text, frame, hasFrame, frameOf, beginning, ofLine, unpackPlace };
+    // the grant of an address that was the last of the first n entries, or null
+    const grantAt = (run, number, n) => {
+        let found = run.byAddress.has(number) ? run.byAddress.get(number) : -1;
+        while (found >= 0 && run.addresses[found].granted >= n) found = run.addresses[found].earlier;
+        return found < 0 ? null : run.addresses[found];
+    };
+
+    const isFreed = (address, n) => address.freed >= 0 && address.freed < n;
+
+    // the number with which a grant is registered once n entries have happened, 0 where it is not
+    const registrationAt = ({ registrations }, n) => {
+        const found = registrations.filter(({ entry }) => entry < n);
+        return found.length === 0 ? 0 : found[found.length - 1].number;
+    };
+
+    // Whether a learning bridge played the run: it takes links out before the first line of the script.
+    const isOfBridge = run => run.count > 0 && run.kind[0] === KIND.linkdown;
+
+    return {
+        WORDS, KIND, CAUSES, SKIPS, read, text, frame, hasFrame, frameOf, beginning, ofLine, unpackPlace,
+        grantAt, isFreed, registrationAt, isOfBridge,
+    };
 })();

@@ -1,49 +1,112 @@
 "use strict";
 // Where a fabric's switches, hosts and links are drawn: core switches in the first row, then aggregation and edge switches by
-// pod, and below each edge switch its ports for hosts, by rising port. Places are in units of the drawing, which has its
-// origin at the top left.
+// pod, and below each edge switch its ports for hosts, by rising port. Where a pod's switches would be too narrow to be read, the
+// pod is folded: one box for its aggregation switches, one for its edge switches and one for its hosts, until it is opened.
+// Places are in units of the drawing, which has its origin at the top left.
 globalThis.Layout = (() => {
-    // width of an edge switch's column, how many hosts stand side by side in it, and the sizes of boxes
-    const sizes = k => {
-        if (k === 4) return { column: 116, across: 2, box: [94, 50], cell: [55, 50], gap: 26 };
-        if (k === 6) return { column: 60, across: 1, box: [52, 46], cell: [54, 36], gap: 18 };
-        return { column: 36, across: 1, box: [32, 42], cell: [33, 25], gap: 9 };
+    // Width of an edge switch's column, how many hosts stand side by side in it, the sizes of boxes, and the gap between pods:
+    // roomy ones first. `few` is the least part of that size at which they are read.
+    const ROOMY = { column: 116, across: 2, box: [94, 50], cell: [55, 50], gap: 26 };
+    const MIDDLE = { column: 60, across: 1, box: [52, 46], cell: [54, 36], gap: 18 };
+    const NARROW = { column: 45, across: 1, box: [42, 32], cell: [42, 30], gap: 6 };
+    const LARGE = { column: 36, across: 1, box: [32, 42], cell: [33, 25], gap: 9 };
+    const SIZES = { 4: [ROOMY, NARROW], 6: [MIDDLE, LARGE] };
+    const FOLDED = { least: 11, most: 40, beside: 22 }; // width of a folded pod; `beside` an open one
+    const READABLE = 20; // points on the screen: a narrower column cannot be read
+    const HEAD = 24; // above the first row
+    const FOOT = 46; // below the hosts: the pod's name
+
+    const widthOf = (k, { column, gap }) => k * (k / 2 * column + gap) + gap;
+
+    // the sizes for a canvas of this width, and whether pods fold there
+    const sizesFor = (k, room, isAnyOpen) => {
+        const sizes = SIZES[k] || [LARGE];
+        const size = sizes.find(one => room >= 0.6 * widthOf(k, one)) || sizes[sizes.length - 1];
+        const folds = room * size.column / widthOf(k, size) < READABLE;
+        return folds ? { ...size, folds, gap: isAnyOpen || room / k < 30 ? 4 : size.gap } : { ...size, folds };
     };
 
-    const row = (fabric, level, x, y, [width, height]) => {
-        const inRow = fabric.switches.filter(s => s.level === level);
-        for (const s of inRow) fabric.layout.switches[s.number] = { x: x(s), y, width, height };
+    // the width of a folded pod, so that all of them have their true size on the canvas
+    const foldedWidth = (k, size, room, isAnyOpen) => {
+        const width = Math.max(FOLDED.least, Math.min(FOLDED.most, Math.floor((room - size.gap) / k) - size.gap));
+        return isAnyOpen ? Math.min(width, FOLDED.beside) : width;
     };
 
-    // The drawing of a fabric in an area of this shape, width by height: the rows stand apart so that it fills the area.
-    const of = (fabric, shape) => {
-        const { k } = fabric;
-        const h = k / 2;
-        const { column, across, box, cell, gap } = sizes(k);
-        const width = k * (h * column + gap) + gap;
-        const hostRows = Math.ceil(h / across);
-        const below = hostRows * (cell[1] + 3) + 40;
-        const least = 3 * box[1] + below + 170;
-        const height = Math.max(least, Math.min(width / shape, least + width * 0.45));
-        const step = (height - below - box[1] - 60) / 2;
-        const layout = { width, height, box, cell, across, column, switches: [], pods: [], cells: new Map() };
-        const view = { ...fabric, layout };
-        const first = h * k;
-        const inPod = s => gap + Math.floor((s.number % first) / h) * (h * column + gap) + ((s.number % h) + 0.5) * column;
-        const top = 46 + box[1] / 2;
-        row(view, 2, s => gap / 2 + (s.number - 2 * first + 0.5) * ((width - gap) / (h * h)), top, box);
-        row(view, 1, inPod, top + step, box);
-        row(view, 0, inPod, top + 2 * step, box);
+    // where each pod begins and how wide it is
+    const columnsOf = (k, size, isOpen, folded) => {
+        let x = size.gap;
+        const columns = [];
         for (let pod = 0; pod < k; pod++) {
-            const x = gap + pod * (h * column + gap);
-            const y = top + step - box[1] / 2 - 8;
-            layout.pods.push({ x: x - gap * 0.3, y, width: h * column + gap * 0.6, height: step + box[1] + 8 + below });
+            const width = isOpen(pod) ? k / 2 * size.column : folded;
+            columns.push({ x, width });
+            x += width + size.gap;
         }
-        for (let edge = 0; edge < first; edge++) placeHosts(fabric, layout, edge, cell, across);
-        return layout;
+        return { columns, width: x };
     };
 
-    const placeHosts = (fabric, layout, edge, cell, across) => {
+    // the heights of the rows, so far apart that the drawing has the shape of its canvas
+    const rowsOf = (shape, width, size, core, below) => {
+        const boxes = core.rows * (core.box[1] + 3) + 2 * size.box[1];
+        const least = HEAD + boxes + below + (size.folds ? 100 : 140);
+        const height = Math.max(least, Math.min(width / shape, least + width * 0.45));
+        const between = (height - HEAD - boxes - below) / 2;
+        const aggregation = HEAD + core.rows * (core.box[1] + 3) + between + size.box[1] / 2;
+        return { height, aggregation, edge: aggregation + between + size.box[1] };
+    };
+
+    const coreOf = (h, width, size) => {
+        if (width / (h * h) > size.box[0] + 3) return { across: h, rows: 1, box: size.box };
+        const group = (width - size.gap) / h * 0.94;
+        const named = h < 10 ? 30 : 38; // so wide that its label can be read
+        if (group < named) return { across: 4, rows: Math.ceil(h / 4), box: [group / 4 - 1.5, 9] };
+        const rows = Math.ceil(h / Math.max(1, Math.min(h, Math.round(group / (named + 2)))));
+        const across = Math.ceil(h / rows);
+        return { across, rows, box: [Math.min(named, group / across - 2), 15] };
+    };
+
+    const placeCore = (fabric, layout, core) => {
+        const h = fabric.k / 2;
+        const group = (layout.width - layout.gap) / h;
+        for (const s of fabric.switches.filter(one => one.level === 2)) {
+            const n = s.number - 2 * fabric.k * h;
+            const place = n % h;
+            const column = (place % core.across + 0.5) / core.across;
+            const x = layout.gap / 2 + (Math.floor(n / h) + 0.03 + 0.94 * column) * group;
+            const y = HEAD + core.box[1] / 2 + Math.floor(place / core.across) * (core.box[1] + 3);
+            layout.switches[s.number] = { x, y, width: core.box[0], height: core.box[1] };
+        }
+        layout.groups = Array.from({ length: h }, (_, n) => (
+            { x: layout.gap / 2 + (n + 0.5) * group, y: HEAD + core.rows * (core.box[1] + 3) - 3, width: group * 0.94 }));
+    };
+
+    const placeOpen = (fabric, layout, size, pod, rows) => {
+        const h = fabric.k / 2;
+        const { x } = layout.pods[pod].column;
+        const [width, height] = size.box;
+        for (let n = 0; n < h; n++) {
+            const middle = x + (n + 0.5) * size.column;
+            const edge = pod * h + n;
+            layout.switches[edge] = { x: middle, y: rows.edge, width, height };
+            layout.switches[fabric.k * h + edge] = { x: middle, y: rows.aggregation, width, height };
+            placeHosts(fabric, layout, edge, size);
+        }
+    };
+
+    const placeFolded = (fabric, layout, size, pod, rows) => {
+        const h = fabric.k / 2;
+        const { column } = layout.pods[pod];
+        const box = y => ({ x: column.x + column.width / 2, y, width: column.width - 4, height: size.box[1] * 0.8, pod });
+        const [aggregation, edge] = [box(rows.aggregation), box(rows.edge)];
+        const hosts = box(rows.edge + size.box[1] + 22);
+        layout.folded.push({ pod, aggregation, edge, hosts });
+        for (let n = 0; n < h; n++) {
+            layout.switches[pod * h + n] = edge;
+            layout.switches[(fabric.k + pod) * h + n] = aggregation;
+            for (const port of fabric.switches[pod * h + n].hostPorts) layout.cells.set((pod * h + n) * fabric.k + port, hosts);
+        }
+    };
+
+    const placeHosts = (fabric, layout, edge, { across, cell }) => {
         const s = layout.switches[edge];
         fabric.switches[edge].hostPorts.forEach((port, n) => {
             const x = s.x + ((n % across) - (across - 1) / 2) * (cell[0] + 3);
@@ -52,10 +115,38 @@ globalThis.Layout = (() => {
         });
     };
 
+    // The drawing of a fabric for a canvas of this width and height: the rows stand apart so that it fills it. `open` are the pods
+    // that are opened where pods fold.
+    const of = (fabric, canvas, open = new Set()) => {
+        const { k } = fabric;
+        const h = k / 2;
+        const size = sizesFor(k, canvas.width, open.size > 0);
+        const isOpen = pod => !size.folds || open.has(pod);
+        const isAnyOpen = !size.folds || open.size > 0;
+        const { columns, width } = columnsOf(k, size, isOpen, foldedWidth(k, size, canvas.width, isAnyOpen));
+        const core = coreOf(h, width, size);
+        const below = FOOT + (isAnyOpen ? Math.ceil(h / size.across) * (size.cell[1] + 3) : size.box[1] + 12);
+        const rows = rowsOf(Math.max(0.5, canvas.width / Math.max(1, canvas.height)), width, size, core, below);
+        const layout = { width, height: rows.height, gap: size.gap, box: size.box, cell: size.cell, across: size.across, folds: size.folds,
+            switches: [], pods: [], folded: [], cells: new Map() };
+        const top = rows.aggregation - size.box[1] / 2 - 8;
+        layout.pods = columns.map((column, pod) => ({ x: column.x - size.gap * 0.3, y: top, width: column.width + size.gap * 0.6,
+            height: rows.height - top - 6, isOpen: isOpen(pod), column }));
+        placeCore(fabric, layout, core);
+        for (let pod = 0; pod < k; pod++) (isOpen(pod) ? placeOpen : placeFolded)(fabric, layout, size, pod, rows);
+        return layout;
+    };
+
     const isIn = (box, x, y) => Math.abs(x - box.x) <= box.width / 2 && Math.abs(y - box.y) <= box.height / 2;
 
-    // what is drawn at a place: a switch, a host where it stands now, or nothing
+    // the pod whose box or, where it is open, whose name is at a place
+    const podAt = (layout, x, y) => layout.pods.findIndex(pod => x >= pod.x && x <= pod.x + pod.width && y <= pod.y + pod.height
+        && y >= (pod.isOpen ? pod.y + pod.height - 22 : pod.y));
+
+    // what is drawn at a place: a switch, a host where it stands now, a pod that folds, or nothing
     const find = (fabric, layout, state, x, y) => {
+        const pod = layout.folds ? podAt(layout, x, y) : -1;
+        if (pod >= 0) return { pod };
         const number = layout.switches.findIndex(box => isIn(box, x, y));
         if (number >= 0) return { switch: number };
         for (const [spot, box] of layout.cells) {
@@ -65,5 +156,13 @@ globalThis.Layout = (() => {
         return null;
     };
 
-    return { of, find };
+    // the pod of a place that is in one, else -1
+    const podOf = (fabric, place, spots) => {
+        const spot = place.spot === undefined && place.host !== undefined ? spots[place.host] : place.spot;
+        const number = place.switch === undefined ? Math.floor(spot / fabric.k) : place.switch;
+        const { pod } = fabric.switches[number];
+        return pod === null ? -1 : pod;
+    };
+
+    return { of, find, podOf };
 })();

@@ -7,6 +7,8 @@ globalThis.Page = (() => {
     const page = {
         files: {}, run: null, states: null, script: null, state: null,
         subject: null, story: null, // whose story is shown, and its entries
+        known: null, // what the Fabric list shows
+        followers: [], // called with each new state: what goes with this page
         playing: 0, owed: 0, way: 1, // when the last picture was made while playing; entries that are due; 1 is on, -1 back
         moving: 0, // when the frame of now set out
     };
@@ -74,6 +76,23 @@ globalThis.Page = (() => {
         $("facts").replaceChildren(...parts);
     };
 
+    const elementOf = (name, text) => {
+        const element = document.createElement(name);
+        element.textContent = text;
+        return element;
+    };
+
+    // the rules behind the entry of now, each as what the table of rules says and the files that it stands in
+    const drawRule = n => {
+        const rules = n < 0 ? [] : Rules.of(page.run, n);
+        $("look").textContent = n < 0 ? "" : Rules.look(page.run, n);
+        $("rule").replaceChildren(...rules.flatMap(({ says, files }, at) => {
+            const parts = says.split("`").map((text, i) => (i % 2 === 1 ? elementOf("code", text) : text));
+            const names = files.flatMap((file, i) => [i === 0 ? " in " : ", ", elementOf("code", file)]);
+            return [at === 0 ? "Rule: " : "; ", ...parts, ...names];
+        }));
+    };
+
     const countsText = () => {
         const { counts, causes, flying } = page.state;
         const of = word => `${word} ${counts[Journal.KIND[word]]}`;
@@ -90,6 +109,8 @@ globalThis.Page = (() => {
         $("said").textContent = n < 0 ? BEGINNING : Words.sentence(run, n, script);
         $("said").setAttribute("aria-live", page.playing ? "off" : "polite");
         $("raw").textContent = n < 0 ? "" : Journal.text(run, n, 400);
+        drawRule(n);
+        chart.set(state);
         $("counts").textContent = countsText();
         $("slider").value = state.entry;
         $("entry").value = state.entry;
@@ -100,7 +121,9 @@ globalThis.Page = (() => {
     };
 
     const entryOfRow = n => (page.story ? page.story[n] : n);
+    // The row of the entry of now; where a story does not have it, the last of its rows that has happened.
     const markedRow = () => (page.story ? Stories.happened(page.story, page.state.entry) : page.state.entry) - 1;
+    const isNow = row => row >= 0 && entryOfRow(row) === page.state.entry - 1;
 
     const fillEntry = (element, n) => {
         const entry = entryOfRow(n);
@@ -121,17 +144,61 @@ globalThis.Page = (() => {
         element.append(code, span);
     };
 
+    const linkTo = (text, title, act) => {
+        const element = elementOf("button", text);
+        element.type = "button";
+        element.className = "link";
+        element.title = title;
+        element.addEventListener("click", act);
+        return element;
+    };
+
+    const fillKnown = (element, n) => {
+        const { subject, cells, entries: happened, note } = Knowledge.row(page.known, $("knowledge").value, knownRows[n], page.state.entry);
+        element.classList.add("cells");
+        const number = elementOf("span", `${knownRows[n] + 1}`);
+        number.className = "number";
+        const name = document.createElement("span");
+        name.append(linkTo(cells[0], `the story of ${Facts.name(page.run, subject)}`, () => tell(subject)));
+        const when = document.createElement("span");
+        for (const [word, entry] of happened) when.append(linkTo(`${word} ${entry + 1}`, `to entry ${entry + 1}`, () => step(entry + 1)), " ");
+        if (note) when.append(note);
+        element.append(number, name, elementOf("span", cells[1]), when);
+        for (const cell of element.children) cell.setAttribute("role", "cell");
+    };
+
     const entries = Rows.make($("journal"), fillEntry, n => go(entryOfRow(n) + 1));
     const lines = Rows.make($("script"), fillLine, n => toLine(n + 1));
+    const knowledge = Rows.make($("table"), fillKnown, () => {}, "row");
+    let knownRows = [];
+    const chart = Chart.make($("chart"), n => step(n));
 
     const storyName = () => `${Facts.name(page.run, page.subject)}: ${Words.plural(page.story.length, "entry", "entries")}`;
 
+    const HEADS = { placed: ["switch", "place", "placed by"], addresses: ["host", "address", "granted and registered by"] };
+
+    const drawKnown = () => {
+        if ($("fabric").hidden) return;
+        if (!page.known) page.known = Knowledge.of(page.run);
+        const { entry } = page.state;
+        const list = $("knowledge").value;
+        knownRows = Knowledge.rows(page.known, list, $("filter").value, entry);
+        [...$("heads").children].slice(1).forEach((head, n) => {
+            head.textContent = HEADS[list][n];
+        });
+        knowledge.set(knownRows.length, -1);
+        const shown = $("filter").value.trim() === "" ? "" : `; ${Words.plural(knownRows.length, "row")} with this text`;
+        $("known").textContent = `${Knowledge.summary(page.known, list, entry)}${shown}`;
+    };
+
     const drawLists = () => {
-        entries.set(page.story ? page.story.length : page.run.count, markedRow());
+        const marked = markedRow();
+        entries.set(page.story ? page.story.length : page.run.count, marked, isNow(marked));
         const line = page.state.line < 0 ? -1 : page.run.a[page.state.line] - 1;
         if (page.script && !$("script").hidden) lines.set(page.script.length, line);
         $("telling").textContent = page.subject ? storyName() : "";
         $("all").hidden = !page.subject;
+        drawKnown();
     };
 
     const summary = () => {
@@ -148,15 +215,37 @@ globalThis.Page = (() => {
     };
 
     const draw = isMoving => {
-        picture.state = page.state;
-        picture.scene = Scene.of(page.run, page.state, page.subject);
+        picture.set(page.state, Scene.of(page.run, page.state, page.subject));
         const { now } = picture.scene;
         page.moving = isMoving && now && now.from && !still.matches ? performance.now() : -1000;
         if (now && now.place && now.place.link === undefined) picture.reveal(now.place);
         drawNow();
         drawLists();
         $("canvas").setAttribute("aria-label", summary());
+        $("canvas").classList.toggle("near", !picture.isWhole);
+        for (const follow of page.followers) follow(page);
+        if (!page.playing) keepMoment();
         drawPicture();
+    };
+
+    // The page's own address names the moment, once it has stood there for a while.
+    let moment = 0;
+    const keepMoment = () => {
+        clearTimeout(moment);
+        moment = setTimeout(() => {
+            const text = page.run ? Moment.text(page.run, page.state.entry, page.subject) : "";
+            if (text !== window.location.hash) window.history.replaceState(null, "", text || window.location.pathname);
+        }, 250);
+    };
+
+    // goes to the moment that the end of the page's address names; answers whether it names one
+    const toMoment = () => {
+        const wanted = page.run ? Moment.read(page.run, window.location.hash) : null;
+        if (!wanted) return false;
+        page.subject = wanted.subject;
+        page.story = wanted.subject ? Stories.of(page.run, wanted.subject) : null;
+        go(wanted.entry < 0 ? page.story[0] + 1 : wanted.entry);
+        return true;
     };
 
     // so many entries have happened
@@ -199,7 +288,10 @@ globalThis.Page = (() => {
         page.playing = 0;
         $("play").textContent = "play \u25B6";
         $("playback").textContent = "\u25C0";
-        if (page.run) drawNow();
+        if (page.run) {
+            drawNow();
+            keepMoment();
+        }
     };
 
     const tick = time => {
@@ -262,7 +354,7 @@ globalThis.Page = (() => {
     };
 
     const choose = name => {
-        for (const tab of ["journal", "script"]) {
+        for (const tab of ["journal", "script", "fabric"]) {
             $(tab).hidden = tab !== name;
             $(`tab-${tab}`).setAttribute("aria-selected", String(tab === name));
         }
@@ -279,16 +371,19 @@ globalThis.Page = (() => {
 
     const show = (opened, name) => {
         if (page.playing) stop();
-        Object.assign(page, opened, { state: At.at(opened.states, 0), subject: null, story: null });
-        picture.show(page.run);
+        Object.assign(page, opened, { state: At.at(opened.states, 0), subject: null, story: null, known: null });
         $("welcome").hidden = true;
-        $("zooming").hidden = false;
+        $("tools").hidden = false;
+        picture.show(page.run);
+        chart.show(page.run);
         $("find").disabled = false;
         $("slider").max = $("entry").max = page.run.count;
         $("opened").textContent = `${name ? `${name}: ` : ""}${nameOf(page.run)}`;
         $("tab-script").hidden = !page.script;
+        $("filter").value = "";
+        picture.set(page.state, Scene.of(page.run, page.state, null));
         choose("journal");
-        go(0);
+        if (!toMoment()) go(0);
         document.body.dataset.open = page.run.count;
     };
 
@@ -299,14 +394,17 @@ globalThis.Page = (() => {
         page.files = {};
         picture.scene = null;
         $("refused").textContent = error.message;
+        $("wanted").textContent = "";
         $("opened").textContent = "no run is open";
         $("find").disabled = true;
-        $("zooming").hidden = true;
+        $("tools").hidden = true;
         $("welcome").hidden = false;
     };
 
     // a moment in which the page is drawn
     const drawn = () => new Promise(done => requestAnimationFrame(() => setTimeout(done)));
+
+    const NONE = "No topology, journal or script is among these files.";
 
     // Opens the files of a run. Topology and journal are wanted; until both are there, what was given is kept. While a run is open,
     // another topology begins a new one, and another journal is one of that topology.
@@ -318,11 +416,13 @@ globalThis.Page = (() => {
         const isNone = Object.keys(files).length === 0;
         if (isNone || missing.length > 0) {
             const wanted = `Now open its ${missing.join(" and its ")}.`;
-            $(page.run ? "opened" : "refused").textContent = isNone ? "No topology, journal or script is among these files." : wanted;
+            $("refused").textContent = isNone && !page.run ? NONE : "";
+            $("wanted").textContent = isNone ? "" : wanted;
+            if (page.run) $("opened").textContent = isNone ? NONE : wanted;
             return;
         }
         try {
-            $("refused").textContent = "";
+            $("refused").textContent = $("wanted").textContent = "";
             $("opened").textContent = "reading the run";
             await drawn();
             show(Files.runOf(page.files), name);
@@ -332,6 +432,7 @@ globalThis.Page = (() => {
     };
 
     return {
-        page, picture, open, refuse, go, draw, step, onwards, backwards, lineOn, toLine, play, tell, tellNow, choose, faster,
+        page, picture, open, refuse, go, draw, drawKnown, step, onwards, backwards, lineOn, toLine, play, tell, tellNow, toMoment,
+        choose, faster,
     };
 })();

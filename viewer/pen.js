@@ -3,6 +3,8 @@
 globalThis.Pen = (() => {
     const FONT = "system-ui, 'DejaVu Sans', sans-serif";
     const SMALLEST = 6; // no text is written smaller
+    const [MEASURED, MOST] = [100, 20000]; // the size at which texts are measured, and how many widths are kept
+    const widths = new Map();
 
     class Pen {
         constructor(context) {
@@ -13,13 +15,25 @@ globalThis.Pen = (() => {
             this.c.font = `${isBold ? "bold " : ""}${size}px ${FONT}`;
         }
 
+        // how wide a text is, which grows as its size does
+        widthOf(text, size, isBold) {
+            const key = isBold ? `b${text}` : `n${text}`;
+            let width = widths.get(key);
+            if (width === undefined) {
+                this.font(MEASURED, isBold);
+                width = this.c.measureText(text).width;
+                if (widths.size >= MOST) widths.clear();
+                widths.set(key, width);
+            }
+            return width * size / MEASURED;
+        }
+
         // Writes the first of the texts that fits at nearly this size, else the last one smaller; nothing where that is too small.
         write(texts, x, y, width, size, ink, isBold = false) {
             const { c } = this;
             if (size < SMALLEST) return;
             for (const [n, text] of texts.entries()) {
-                this.font(size, isBold);
-                const fits = Math.min(size, size * width / Math.max(1, c.measureText(text).width));
+                const fits = Math.min(size, size * width / Math.max(1, this.widthOf(text, size, isBold)));
                 if (fits < (n < texts.length - 1 ? Math.max(SMALLEST, 0.75 * size) : SMALLEST)) continue;
                 this.font(fits, isBold);
                 c.fillStyle = ink;
@@ -42,7 +56,31 @@ globalThis.Pen = (() => {
             c.setLineDash([]);
         }
 
+        // strokes the shape that was begun last
+        outline(ink, width) {
+            this.c.strokeStyle = ink;
+            this.c.lineWidth = width;
+            this.c.stroke();
+        }
+
+        // draws by `act` so faintly: 1 is as usual
+        faint(alpha, act) {
+            this.c.globalAlpha = alpha;
+            act();
+            this.c.globalAlpha = 1;
+        }
+
+        dot(x, y, radius, fill, ink) {
+            const { c } = this;
+            c.beginPath();
+            c.roundRect(x - radius, y - radius, 2 * radius, 2 * radius, radius);
+            c.fillStyle = fill;
+            c.fill();
+            this.outline(ink, 1.8);
+        }
+
         lines(segments, ink, width, dash) {
+            if (segments.length === 0) return;
             const { c } = this;
             c.beginPath();
             for (const [x, y, toX, toY] of segments) {
@@ -76,8 +114,8 @@ globalThis.Pen = (() => {
         // a text on a round or square ground, by its middle; it stays between 0 and `most`
         label(text, x, y, { size, radius, fill, ink, edge, most }) {
             const { c } = this;
+            const [width, height] = [Math.max(size + 5, this.widthOf(text, size, true) + size * 0.8), size + 5];
             this.font(size, true);
-            const [width, height] = [Math.max(size + 5, c.measureText(text).width + size * 0.8), size + 5];
             const left = Math.min(Math.max(1, x - width / 2), Math.max(1, most - width - 1));
             c.beginPath();
             c.roundRect(left, y - height / 2, width, height, radius);

@@ -5,60 +5,90 @@ globalThis.Rows = (() => {
     const HEIGHT = 40;
     const LONGEST = 8e6;
 
-    // `fill(element, n)` makes row n; `choose(n)` is called where row n is clicked.
-    const make = (box, fill, choose) => {
-        const inner = document.createElement("div");
-        inner.className = "rows";
-        box.append(inner);
-        const list = { count: 0, marked: -1 };
+    class Rows {
+        constructor(box, fill, choose, role) {
+            Object.assign(this, { box, fill, choose, role, count: 0, marked: -1, isNow: true });
+            this.inner = document.createElement("div");
+            this.inner.className = "rows";
+            if (role === "row") this.inner.setAttribute("role", "presentation");
+            box.append(this.inner);
+            box.addEventListener("scroll", () => this.draw());
+            box.addEventListener("keydown", event => this.key(event));
+            this.inner.addEventListener("click", event => {
+                const row = event.target.closest(".row");
+                if (row) choose(Number(row.dataset.row));
+            });
+        }
 
-        const longest = () => list.count * HEIGHT;
-        const scrolled = () => Math.min(longest(), LONGEST);
-        const hidden = size => Math.max(1, size - box.clientHeight);
-        const top = () => box.scrollTop * (longest() > LONGEST ? hidden(longest()) / hidden(LONGEST) : 1);
+        get longest() {
+            return this.count * HEIGHT;
+        }
 
-        const draw = () => {
-            inner.style.height = `${scrolled()}px`;
-            const from = top();
-            const first = Math.max(0, Math.floor(from / HEIGHT));
-            const last = Math.min(list.count, Math.ceil((from + box.clientHeight) / HEIGHT) + 1);
+        // how many pixels of the list a pixel of the bar is
+        get ratio() {
+            const hidden = size => Math.max(1, size - this.box.clientHeight);
+            return this.longest > LONGEST ? hidden(this.longest) / hidden(LONGEST) : 1;
+        }
+
+        row(n) {
+            const row = document.createElement("div");
+            row.className = n !== this.marked ? "row" : this.isNow ? "row now" : "row last";
+            row.dataset.row = n;
+            row.id = `${this.box.id}-${n}`;
+            row.setAttribute("role", this.role);
+            if (this.role === "option") {
+                row.setAttribute("aria-selected", String(n === this.marked && this.isNow));
+                row.setAttribute("aria-posinset", n + 1);
+                row.setAttribute("aria-setsize", this.count);
+            } else row.setAttribute("aria-rowindex", n + 2); // the first row has the heads
+            this.fill(row, n);
+            return row;
+        }
+
+        draw() {
+            const { box, inner } = this;
+            inner.style.height = `${Math.min(this.longest, LONGEST)}px`;
+            const { scrollTop, clientHeight } = box;
+            const from = scrollTop * this.ratio;
             const rows = [];
-            for (let n = first; n < last; n++) {
-                const row = document.createElement("div");
-                row.className = n === list.marked ? "row now" : "row";
-                row.dataset.row = n;
-                row.setAttribute("role", "option");
-                row.setAttribute("aria-selected", String(n === list.marked));
-                row.style.top = `${box.scrollTop + n * HEIGHT - from}px`;
-                fill(row, n);
+            const last = Math.min(this.count, Math.ceil((from + clientHeight) / HEIGHT) + 1);
+            for (let n = Math.max(0, Math.floor(from / HEIGHT)); n < last; n++) {
+                const row = this.row(n);
+                row.style.top = `${scrollTop + n * HEIGHT - from}px`;
                 rows.push(row);
             }
             inner.replaceChildren(...rows);
-        };
+            const marked = rows.find(row => Number(row.dataset.row) === this.marked);
+            if (marked) box.setAttribute("aria-activedescendant", marked.id);
+            else box.removeAttribute("aria-activedescendant");
+        }
 
         // brings a row into sight
-        const show = n => {
-            const from = top();
+        show(n) {
+            const { box, ratio } = this;
+            const from = box.scrollTop * ratio;
             if (n * HEIGHT >= from && (n + 1) * HEIGHT <= from + box.clientHeight) return;
-            const wanted = Math.max(0, n * HEIGHT - box.clientHeight / 2);
-            box.scrollTop = wanted / (longest() > LONGEST ? hidden(longest()) / hidden(LONGEST) : 1);
-        };
+            box.scrollTop = Math.max(0, n * HEIGHT - box.clientHeight / 2) / ratio;
+        }
 
-        box.addEventListener("scroll", draw);
-        inner.addEventListener("click", event => {
-            const row = event.target.closest(".row");
-            if (row) choose(Number(row.dataset.row));
-        });
-        list.set = (count, marked) => {
-            list.count = count;
-            list.marked = marked;
-            inner.style.height = `${scrolled()}px`;
-            if (marked >= 0) show(marked);
-            draw();
-        };
-        list.draw = draw;
-        return list;
-    };
+        // up and down choose the row before and the next one; of rows of a table none is chosen
+        key(event) {
+            const step = { ArrowUp: -1, ArrowDown: 1 }[event.key];
+            if (this.role !== "option" || step === undefined || event.target !== this.box) return;
+            event.preventDefault();
+            const row = this.isNow || step > 0 ? this.marked + step : this.marked;
+            if (row >= 0 && row < this.count) this.choose(row);
+        }
 
-    return { make };
+        // so many rows, and the one that is marked: as that of now, or as the last one before it
+        set(count, marked, isNow = true) {
+            Object.assign(this, { count, marked, isNow });
+            this.inner.style.height = `${Math.min(this.longest, LONGEST)}px`;
+            if (marked >= 0) this.show(marked);
+            this.draw();
+        }
+    }
+
+    // `fill(element, n)` makes row n; `choose(n)` is called where row n is clicked. Rows are options of a list box, or rows of a table.
+    return { make: (box, fill, choose, role = "option") => new Rows(box, fill, choose, role) };
 })();

@@ -39,6 +39,7 @@ globalThis.Scene = (() => {
             case KIND.moved: return "moved here";
             case KIND.linkdown: return "\u2715 link fails";
             case KIND.linkup: return "link repaired";
+            case KIND.freed: return "address freed";
             default: return "";
         }
     };
@@ -50,6 +51,7 @@ globalThis.Scene = (() => {
         if (kind === KIND.skipped || kind === KIND.moved) return { host: run.a[n] };
         if (kind === KIND.granted) return { host: run.b[n] };
         if (kind === KIND.registered) return { host: run.addresses[run.a[n]].host };
+        if (kind === KIND.freed) return { switch: run.addresses[run.a[n]].edge };
         if (kind === KIND.placed) return { switch: run.a[n] };
         return kind === KIND.linkdown || kind === KIND.linkup ? { link: run.a[n] } : null;
     };

@@ -25,6 +25,7 @@ globalThis.Script = (() => {
         sweep: ([n]) => `${n} times, all that waits in the queues is delivered`,
         settle: ([n]) => `rounds until nothing is left to do, ${n} at most: each switch ticks, then queues are swept`,
         random: ([seed, n]) => `${n} steps that are drawn by the number ${seed}`,
+        restart: () => "the fabric manager forgets all that it knows, and the switches tell it anew",
         expect: ([what, ...rest]) => (Object.hasOwn(CHECKS, what) ? `it is checked that ${CHECKS[what](rest)}` : rest.join(" ")),
     };
 
@@ -46,7 +47,8 @@ globalThis.Script = (() => {
     const sentence = line => {
         const [first, ...rest] = wordsOf(line);
         if (first === undefined) return "";
-        return Object.hasOwn(SENTENCES, first) && rest.length > 0 ? SENTENCES[first](rest) : rest.join(" ");
+        const isWhole = rest.length > 0 || first === "restart";
+        return Object.hasOwn(SENTENCES, first) && isWhole ? SENTENCES[first](rest) : rest.join(" ");
     };
 
     return { read, wordsOf, sentence };

@@ -16,7 +16,9 @@ globalThis.At = (() => {
             places: new Int32Array(fabric.switches.length), // packed as in Journal
             failed: new Uint8Array(fabric.links.length),
             spots: Int32Array.from(fabric.hosts, host => host.edge * fabric.k + host.port),
-            newest: new Int32Array(fabric.hosts.length).fill(-1), // the address that a host was granted last
+            newest: new Int32Array(fabric.hosts.length).fill(-1), // the address that a host was granted last, where it is not freed
+            crossings: new Int32Array(fabric.switches.length), // how many frames each switch received
+            carried: new Int32Array(fabric.links.length), // how many frames came over each link
             flying: new Map(), // frames that have begun and not ended, each with its newest entry
             counts: new Int32Array(Journal.WORDS.length),
             causes: new Int32Array(Journal.CAUSES.length),
@@ -29,6 +31,8 @@ globalThis.At = (() => {
         failed: state.failed.slice(),
         spots: state.spots.slice(),
         newest: state.newest.slice(),
+        crossings: state.crossings.slice(),
+        carried: state.carried.slice(),
         flying: new Map(state.flying),
         counts: state.counts.slice(),
         causes: state.causes.slice(),
@@ -41,6 +45,15 @@ globalThis.At = (() => {
         const state = copy({ ...mark, flying: [] });
         for (let i = 0; i < mark.flying.length; i += 2) state.flying.set(mark.flying[i], mark.flying[i + 1]);
         return state;
+    };
+
+    // A frame comes at a switch: a load of that switch, and of the link that it came over.
+    const load = (run, state, n) => {
+        const [here, before] = [run.b[n], run.before[n]];
+        const from = before < 0 ? -1 : run.at[before];
+        state.crossings[here]++;
+        const link = from < 0 ? -1 : Fabric.link(run.fabric, from, here);
+        if (link >= 0) state.carried[link]++;
     };
 
     // the next entry happens
@@ -59,11 +72,15 @@ globalThis.At = (() => {
             case KIND.linkup: state.failed[a] = 0; break;
             case KIND.moved: state.spots[a] = b * run.fabric.k + c; break;
             case KIND.granted: state.newest[b] = a; break;
+            case KIND.freed: if (state.newest[b] === a) state.newest[b] = -1; break;
             case KIND.copied: state.flying.set(a, n).set(b, n); break;
             case KIND.sent:
             case KIND.made:
-            case KIND.crossed:
             case KIND.redirected: state.flying.set(a, n); break;
+            case KIND.crossed:
+                load(run, state, n);
+                state.flying.set(a, n);
+                break;
             case KIND.dropped: state.causes[b]++; // falls through: it ends
             case KIND.arrived:
             case KIND.taken: state.flying.delete(a); break;

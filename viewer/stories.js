@@ -24,6 +24,7 @@ globalThis.Stories = (() => {
         switch (run.kind[n]) {
             case KIND.sent:
             case KIND.arrived:
+            case KIND.freed:
             case KIND.granted: return run.b[n] === host;
             case KIND.skipped:
             case KIND.moved: return run.a[n] === host;
@@ -49,6 +50,7 @@ globalThis.Stories = (() => {
             case KIND.linkdown:
             case KIND.linkup: return run.b[n] === number || run.c[n] === number;
             case KIND.moved: return run.b[n] === number;
+            case KIND.freed: return run.addresses[run.a[n]].edge === number;
             default: return false;
         }
     });

@@ -7,13 +7,19 @@ globalThis.Words = (() => {
     const CAUSE = {
         NotPlaced: "the switch does not know its place yet, or not that of the neighbour whom it came from",
         NoNextHop: "no port leads on to its address",
-        NoAddress: "its address was never granted at the switch that it names",
+        NoAddress: "its address is granted to nobody at the switch that it names",
         HostGone: "the host that it is for does not stand where it was led, or its sender moved away while it still waited",
         LinkDown: "the link that it was put on is failed, or failed while it waited there",
         Lost: "a `lose` line of the script took it off its link",
-        Spent: "the port has granted all its addresses, and the sender has none in use there",
+        Spent: "the port has granted all its addresses, none of them is free, and the sender has none in use there",
         BadArp: "its ARP packet cannot be read",
         NoMember: "nobody is reached there who has joined its group",
+    };
+    // what else a cause means where learning bridges play
+    const BRIDGE_CAUSE = {
+        NoNextHop: "its destination stands behind the port by which it came",
+        HostGone: "nobody stands at that port, or it is for another host than the one there",
+        LinkDown: "the link that it was put on is failed, or none of the tree",
     };
     const SKIP = {
         CutRecord: "the capture holds only a part of the frame",
@@ -31,6 +37,10 @@ globalThis.Words = (() => {
 
     const switchOf = (run, number) => Fabric.label(run.fabric, number);
     const hostOf = (run, number) => run.fabric.hosts[number].name;
+    const ordinal = n => {
+        const ending = [11, 12, 13].includes(n % 100) ? "th" : ["th", "st", "nd", "rd"][n % 10] || "th";
+        return `${n}${ending}`;
+    };
     const plural = (n, word, more = `${word}s`) => `${n} ${n === 1 ? word : more}`;
 
     // the pod, position, port and number of a pseudo address
@@ -44,10 +54,10 @@ globalThis.Words = (() => {
         return group === null ? "a group that is flooded" : `routed group ${group}`;
     };
 
-    // the pseudo address of this number, where it was granted by one of the first n entries
+    // the grant of a pseudo address by one of the first n entries, where it is not freed by then
     const grantedSoFar = (run, value, n) => {
-        const found = run.byAddress.get(value);
-        return found !== undefined && run.addresses[found].granted < n ? run.addresses[found] : null;
+        const address = Journal.grantAt(run, value, n);
+        return address && !Journal.isFreed(address, n) ? address : null;
     };
 
     // the address as a pseudo address, and who was granted it once n entries have happened
@@ -55,6 +65,7 @@ globalThis.Words = (() => {
         const address = grantedSoFar(run, value, n);
         if (address) return `pseudo address of ${hostOf(run, address.host)}: ${parts(value)}`;
         if (value % 65536 === 0) return `sender of a probe: ${parts(value)}`;
+        if (Journal.grantAt(run, value, n)) return `freed, granted to nobody now; as a pseudo address: ${parts(value)}`;
         return `granted to nobody so far; as a pseudo address: ${parts(value)}`;
     };
 
@@ -147,13 +158,30 @@ globalThis.Words = (() => {
         return `Switch ${switchOf(run, run.b[n])} takes frame ${run.a[n]}${what}: it is for the switch itself.`;
     };
 
+    // the switch that a frame's sender stood at, or that made it
+    const originOf = (run, id) => {
+        const first = Journal.beginning(run, id);
+        return run.kind[first] === KIND.made ? run.b[first] : Math.floor(run.spot[first] / run.fabric.k);
+    };
+
+    // Whether a frame to many ended at its sender's own switch once it came back there: a tree reaches all of its switches.
+    const isBack = (run, n) => ["NoNextHop", "NoMember"].includes(CAUSES[run.b[n]]) && run.at[n] === originOf(run, run.a[n])
+        && trail(run, n).length > 1 && Frames.isGroup(asBegun(run, n).destination);
+
+    const causeText = (run, n) => {
+        const cause = CAUSES[run.b[n]];
+        if (Journal.isOfBridge(run)) return BRIDGE_CAUSE[cause] || CAUSE[cause];
+        if (!isBack(run, n)) return CAUSE[cause];
+        return `it came back to its sender's own switch, and nobody else ${cause === "NoMember" ? "there has joined its group" : "stands there"}`;
+    };
+
     const dropped = (run, n) => {
         const cause = CAUSES[run.b[n]];
         const at = At.where(run, n);
         const place = at.host !== undefined ? `after host ${hostOf(run, at.host)} sent it, before it crossed a switch`
             : AT_SWITCH.includes(cause) ? `at switch ${switchOf(run, at.switch)}`
             : `after switch ${switchOf(run, at.switch)}, which it crossed last`;
-        return `Frame ${run.a[n]} ends ${place}: ${cause}, ${CAUSE[cause]}.`;
+        return `Frame ${run.a[n]} ends ${place}: ${cause}, ${causeText(run, n)}.`;
     };
 
     const granted = (run, n) => {
@@ -163,9 +191,20 @@ globalThis.Words = (() => {
     };
 
     const registered = (run, n) => {
-        const { number, host } = run.addresses[run.a[n]];
-        return `The fabric manager has learnt ${Frames.macText(number)} of host ${hostOf(run, host)}, with number ${run.b[n]}.`;
+        const { number, host, registrations } = run.addresses[run.a[n]];
+        const as = registrations[run.b[n]].number;
+        const again = run.b[n] > 0 ? " anew" : "";
+        return `The fabric manager has learnt${again} ${Frames.macText(number)} of host ${hostOf(run, host)}, with number ${as}.`;
     };
+
+    const freed = (run, n) => {
+        const { number, host, edge, port } = run.addresses[run.a[n]];
+        return `Switch ${switchOf(run, edge)} frees the pseudo address ${Frames.macText(number)}, which host ${hostOf(run, host)} had: `
+            + `nobody uses it now, and port ${port} may grant it again.`;
+    };
+
+    const restarted = (run, n) => `The fabric manager restarts, for the ${ordinal(run.a[n])} time: it has forgotten all, `
+        + "what was on its way to it and from it is lost, and each switch tells it anew what it knows.";
 
     const placeText = ({ level, position, pod }) => {
         const part = (name, value) => (value === null ? `${name} not known` : `${name} ${value}`);
@@ -191,6 +230,11 @@ globalThis.Words = (() => {
 
     const linkOf = (run, n) => `The link between ${switchOf(run, run.b[n])} and ${switchOf(run, run.c[n])}`;
 
+    const linkdown = (run, n) => {
+        const isBefore = Journal.isOfBridge(run) && (run.scriptLines.length === 0 || n < run.scriptLines[0]);
+        return isBefore ? `${linkOf(run, n)} is left out before the first line: a learning bridge wants a tree.` : `${linkOf(run, n)} fails.`;
+    };
+
     const SENTENCES = {
         line,
         sent: (run, n) => begins(run, n, `Host ${hostOf(run, run.b[n])} sends`),
@@ -205,12 +249,14 @@ globalThis.Words = (() => {
         granted,
         registered,
         placed: (run, n) => `Switch ${switchOf(run, run.a[n])} knows of its place now: ${placeText(Journal.unpackPlace(run.b[n]))}.`,
-        linkdown: (run, n) => `${linkOf(run, n)} fails.`,
+        linkdown,
         linkup: (run, n) => `${linkOf(run, n)} is repaired.`,
         moved: (run, n) => `Host ${hostOf(run, run.a[n])} moves to port ${run.c[n]} of ${switchOf(run, run.b[n])}.`,
         settled: (run, n) => `A \`settle\` line ends after ${plural(run.a[n], "round")}: the fabric is settled.`,
         unsettled: (run, n) => `A \`settle\` line ends and the fabric is not settled: `
             + `${plural(run.a[n], "thing that stands against it waits", "things that stand against it wait")}.`,
+        freed,
+        restarted,
     };
 
     // what entry n means; `script` are the lines of the script, or null
@@ -241,5 +287,5 @@ globalThis.Words = (() => {
         return rows;
     };
 
-    return { CAUSE, SKIP, sentence, header, parts, who, kindOf, placeText, trail, plural, switchOf, hostOf };
+    return { CAUSE, SKIP, isBack, sentence, header, parts, who, kindOf, placeText, trail, plural, switchOf, hostOf };
 })();

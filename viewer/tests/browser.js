@@ -6,7 +6,7 @@ const os = require("os");
 const path = require("path");
 
 // Keys that are no letters, as the protocol wants them.
-const CODES = { ArrowLeft: 37, ArrowRight: 39, Home: 36, End: 35, Escape: 27, Enter: 13, " ": 32 };
+const CODES = { ArrowLeft: 37, ArrowRight: 39, ArrowUp: 38, ArrowDown: 40, Home: 36, End: 35, Escape: 27, Enter: 13, " ": 32 };
 
 class Browser {
     constructor(program, folder) {
@@ -59,7 +59,14 @@ class Browser {
         const { targetId } = targetInfos.find(info => info.type === "page");
         this.session = (await this.call("Target.attachToTarget", { targetId, flatten: true })).sessionId;
         for (const domain of ["Page", "Runtime", "Network", "DOM", "Log"]) await this.call(`${domain}.enable`);
-        await this.call("Emulation.setDeviceMetricsOverride", { width, height, deviceScaleFactor: 1, mobile: false });
+        await this.size(width, height);
+    }
+
+    // the page has this size; a small one is that of a telephone, which is touched
+    async size(width, height) {
+        const mobile = Math.min(width, height) < 600;
+        await this.call("Emulation.setDeviceMetricsOverride", { width, height, deviceScaleFactor: 1, mobile });
+        await this.call("Emulation.setTouchEmulationEnabled", { enabled: mobile, maxTouchPoints: 2 });
     }
 
     // the scheme of the colours, `light` or `dark`, and whether things may move
@@ -68,10 +75,11 @@ class Browser {
         await this.call("Emulation.setEmulatedMedia", { features });
     }
 
-    async open(file) {
+    async open(file, end = "") {
         this.asked = [];
         this.errors = [];
-        await this.call("Page.navigate", { url: `file://${path.resolve(file)}` });
+        await this.call("Page.navigate", { url: "about:blank" });
+        await this.call("Page.navigate", { url: `file://${path.resolve(file)}${end}` });
         await this.until("document.readyState === 'complete' && typeof Page === 'object'");
     }
 
@@ -126,9 +134,25 @@ class Browser {
         await this.call("Input.dispatchMouseEvent", { type: "mouseReleased", ...event });
     }
 
+    async touch(x, y) {
+        await this.call("Input.dispatchTouchEvent", { type: "touchStart", touchPoints: [{ x, y }] });
+        await this.call("Input.dispatchTouchEvent", { type: "touchEnd", touchPoints: [] });
+    }
+
+    // two fingers at these places move to those
+    async pinch(from, to) {
+        const points = places => places.map(([x, y], id) => ({ x, y, id }));
+        await this.call("Input.dispatchTouchEvent", { type: "touchStart", touchPoints: points(from) });
+        for (const part of [0.25, 0.5, 0.75, 1]) {
+            const between = from.map(([x, y], n) => [x + (to[n][0] - x) * part, y + (to[n][1] - y) * part]);
+            await this.call("Input.dispatchTouchEvent", { type: "touchMove", touchPoints: points(between) });
+        }
+        await this.call("Input.dispatchTouchEvent", { type: "touchEnd", touchPoints: [] });
+    }
+
     async clickOn(selector) {
-        const box = await this.value(`(() => { const r = document.querySelector(${JSON.stringify(selector)}).getBoundingClientRect();
-            return { x: r.x + r.width / 2, y: r.y + r.height / 2 }; })()`);
+        const box = await this.value(`(() => { const e = document.querySelector(${JSON.stringify(selector)}); e.scrollIntoView({ block: "nearest" });
+            const r = e.getBoundingClientRect(); return { x: r.x + r.width / 2, y: r.y + r.height / 2 }; })()`);
         await this.click(box.x, box.y);
     }
 

@@ -4,14 +4,15 @@ const fs = require("fs");
 const path = require("path");
 
 const top = path.resolve(__dirname, "../..");
-for (const name of ["toml", "fabric", "journal", "frames", "state", "stories", "script", "words", "scene", "layout", "facts", "files"]) {
+for (const name of ["toml", "fabric", "journal", "frames", "state", "stories", "script", "words", "table", "rules", "scene", "layout",
+    "facts", "knowledge", "step", "moment", "example", "chart", "svg", "files"]) {
     require(path.join(top, "viewer", `${name}.js`));
 }
 
 const journalOf = folder => [path.join(folder, "journal.txt"), path.join(folder, "expected/journal.txt")].find(file => fs.existsSync(file));
 
 // the folders of stored runs that have a journal
-const folders = () => ["examples", "tests/fabric"].flatMap(parent => fs.readdirSync(path.join(top, parent)).sort()
+const folders = () => ["examples", "tests/fabric", "viewer/tests/runs"].flatMap(parent => fs.readdirSync(path.join(top, parent)).sort()
     .map(name => path.join(top, parent, name)).filter(folder => journalOf(folder)));
 
 const open = name => {
@@ -31,7 +32,13 @@ const open = name => {
     };
 };
 
+// another journal of a stored run's topology
+const openFiles = (name, journal) => {
+    const folder = path.join(top, name);
+    return Files.runOf({ topology: fs.readFileSync(path.join(folder, "topology.toml")), journal: new Uint8Array(fs.readFileSync(path.join(folder, journal))) });
+};
+
 // a run of a topology and a journal that a test has as texts
 const openTexts = (topology, journal) => Files.runOf({ topology: Buffer.from(topology), journal: new Uint8Array(Buffer.from(journal)) }).run;
 
-module.exports = { top, folders, open, openTexts, journalOf };
+module.exports = { top, folders, open, openFiles, openTexts, journalOf };

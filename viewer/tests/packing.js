@@ -40,7 +40,7 @@ const another_journal_of_the_topology_is_packed = () => {
 };
 
 const what_is_no_run_is_refused = () => {
-    for (const words of [[], ["nowhere"], ["viewer"], ["tests/fabric/already-failed"], ["a", "b", "c"]]) {
+    for (const words of [[], ["nowhere"], ["viewer"], ["tests/fabric/already-failed"], ["a", "b", "c", "d"]]) {
         const { status, stdout, stderr } = pack(...words);
         assert.deepEqual([status, stdout, stderr.trim().split("\n").length], [2, "", 1], words.join(" "));
     }
@@ -57,4 +57,30 @@ const the_page_reaches_no_network = () => {
     }
 };
 
-module.exports = { a_packed_page_has_the_run_and_the_viewer, another_journal_of_the_topology_is_packed, what_is_no_run_is_refused, the_page_reaches_no_network };
+// What viewer/take takes from elsewhere is as it stands there.
+const what_was_taken_is_not_behind = () => {
+    const rules = stored("docs/RULES.md");
+    const from = rules.indexOf("## From a line of a journal to its rule");
+    const section = rules.slice(from, rules.indexOf("\n## ", from));
+    const rows = section.split("\n").filter(line => line.startsWith("|"));
+    assert(rows.length > 20);
+    assert.deepEqual(Table.trim().split("\n"), rows.map(row => row.replace(/`/g, '"')), "run viewer/take: docs/RULES.md has changed");
+    const unpacked = text => zlib.gunzipSync(Buffer.from(text, "base64")).toString();
+    for (const [kind, file] of [["topology", "topology.toml"], ["script", "script"], ["journal", "expected/journal.txt"]]) {
+        assert.equal(unpacked(Example[kind]), stored(`examples/${Example.name}/${file}`), "run viewer/take: the example has changed");
+    }
+};
+
+const a_second_journal_is_packed = () => {
+    const folder = "viewer/tests/runs/bridge-learnt";
+    const { status, stdout } = pack(folder, `${folder}/portland.txt`, `${folder}/expected/journal.txt`);
+    assert.equal(status, 0);
+    assert.equal(packed(stdout, "journal"), stored(`${folder}/portland.txt`));
+    assert.equal(packed(stdout, "second"), stored(`${folder}/expected/journal.txt`));
+    assert.equal(pack(folder, `${folder}/portland.txt`, "nowhere").status, 2);
+};
+
+module.exports = {
+    a_packed_page_has_the_run_and_the_viewer, another_journal_of_the_topology_is_packed, what_is_no_run_is_refused, the_page_reaches_no_network,
+    what_was_taken_is_not_behind, a_second_journal_is_packed,
+};

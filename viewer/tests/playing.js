@@ -7,6 +7,7 @@ const long = require("./long.js");
 const plain = state => ({
     ...state, flying: [...state.flying].sort(([a], [b]) => a - b), places: [...state.places], failed: [...state.failed],
     spots: [...state.spots], newest: [...state.newest], counts: [...state.counts], causes: [...state.causes],
+    crossings: [...state.crossings], carried: [...state.carried],
 });
 
 // the places in a journal's words of a run's switches that know some of theirs

@@ -125,10 +125,25 @@ const a_line_that_is_no_entry_is_refused_with_its_number = () => {
         ["linkdown e0.0 c0.0\n", 1, "no link joins"],
         ["moved a e0.0 2\n", 1, "none for hosts"],
         ["skipped a Tired\n", 1, "reason to skip"],
+        ["freed 00:00:00:00:00:01\n", 1, "not granted"],
+        [`${GRANT}freed 00:00:00:00:00:01\nfreed 00:00:00:00:00:01\n`, 3, "not granted again"],
+        [`${GRANT}freed 00:00:00:00:00:01\nregistered 00:00:00:00:00:01 1\n`, 3, "not granted again"],
+        [`${GRANT}registered 00:00:00:00:00:01 1\nregistered 00:00:00:00:00:01 2\n`, 3, "registered before"],
+        ["restarted 2\n", 1, "restart 1 is next"],
     ];
     for (const [text, line, what] of table) {
         assert.throws(() => openTexts(HOSTS, text), error => error.message.includes(`line ${line}: `) && error.message.includes(what), text);
     }
+};
+
+const an_address_is_freed_granted_and_registered_again = () => {
+    const free = "freed 00:00:00:00:00:01\n";
+    const run = openTexts(HOSTS, `${GRANT}registered 00:00:00:00:00:01 1\nrestarted 1\nregistered 00:00:00:00:00:01 4294967297\n${free}${GRANT}`);
+    assert.deepEqual(run.addresses.map(({ granted, freed, earlier }) => [granted, freed, earlier]), [[0, 4, -1], [5, -1, 0]]);
+    assert.deepEqual([1, 2, 3, 4].map(n => Journal.registrationAt(run.addresses[0], n)), [0, 1, 1, 4294967297]);
+    assert.equal(Journal.grantAt(run, 1, 5), run.addresses[0]);
+    assert.equal(Journal.grantAt(run, 1, 6), run.addresses[1]);
+    assert.equal(Journal.grantAt(run, 1, 0), null);
 };
 
 const a_last_line_needs_no_newline = () => {
@@ -196,7 +211,7 @@ const files_are_known_by_name_or_first_word = () => {
 module.exports = {
     a_toml_document_is_read, what_is_no_toml_is_refused_with_its_line, a_wiring_is_a_fat_tree, other_ids_and_ports_are_read,
     a_topology_that_does_not_fit_is_refused, each_stored_journal_is_read_and_spelled_again,
-    a_line_that_is_no_entry_is_refused_with_its_number, a_last_line_needs_no_newline, a_pseudo_address_has_four_parts,
+    a_line_that_is_no_entry_is_refused_with_its_number, an_address_is_freed_granted_and_registered_again, a_last_line_needs_no_newline, a_pseudo_address_has_four_parts,
     headers_of_frames_are_read, membership_reports_of_several_groups_are_read, ports_of_whole_packets_are_read,
     each_line_of_the_stored_scripts_has_a_sentence, files_are_known_by_name_or_first_word,
 };

@@ -212,19 +212,34 @@ const facts_are_those_of_the_entry = () => {
     assert(text(132, e).includes("placed yes"));
 };
 
-// Nothing overlaps in the drawing, and each port for hosts has its place.
+// Nothing overlaps in the drawing, whether pods are folded or open, and each port for hosts has its place.
 const a_fabric_is_laid_out_without_overlaps = () => {
     for (const k of [4, 6, 8, 10, 24]) {
         const fabric = Fabric.of({ k });
-        const layout = Layout.of(fabric, 1.5);
-        assert.equal(layout.cells.size, (k * k * k) / 4);
-        const boxes = [...layout.switches, ...layout.cells.values()].sort((a, b) => a.y - b.y || a.x - b.x);
-        for (let n = 1; n < boxes.length; n++) {
-            const [a, b] = [boxes[n - 1], boxes[n]];
-            if (a.y === b.y) assert(b.x - a.x >= (a.width + b.width) / 2, `k ${k}`);
+        for (const [width, height] of [[360, 380], [390, 390], [844, 280], [883, 560], [1325, 830]]) {
+            for (const open of [[], [1], [...Array(k).keys()]]) {
+                const layout = Layout.of(fabric, { width, height }, new Set(open));
+                assert.equal(layout.cells.size, (k * k * k) / 4);
+                assert.equal(layout.folded.length, layout.folds ? k - open.length : 0);
+                const boxes = [...new Set([...layout.switches, ...layout.cells.values()])].sort((a, b) => a.y - b.y || a.x - b.x);
+                const what = `k ${k} at ${width}, ${open.length} open`;
+                for (let n = 1; n < boxes.length; n++) {
+                    const [a, b] = [boxes[n - 1], boxes[n]];
+                    if (a.y === b.y) assert(b.x - a.x >= (a.width + b.width) / 2, what);
+                }
+                for (const box of boxes) {
+                    assert(box.x >= box.width / 2 && box.x + box.width / 2 <= layout.width && box.y + box.height / 2 <= layout.height, what);
+                }
+            }
         }
-        for (const box of boxes) assert(box.x >= box.width / 2 && box.x + box.width / 2 <= layout.width && box.y + box.height / 2 <= layout.height);
     }
+};
+
+// A fabric folds where its switches could not be read: not that of k = 4 or 8 on a desk, but those of k = 8 and 24 on a telephone.
+const pods_fold_where_they_would_be_too_narrow = () => {
+    const folds = (k, width) => Layout.of(Fabric.of({ k }), { width, height: 500 }).folds;
+    const table = [[4, 360, false], [4, 1920, false], [8, 883, false], [8, 390, true], [24, 390, true], [24, 1920, true]];
+    for (const [k, width, wanted] of table) assert.equal(folds(k, width), wanted, `k ${k} at ${width}`);
 };
 
 module.exports = {
@@ -232,5 +247,5 @@ module.exports = {
     what_is_drawn_follows_from_the_journal, a_way_without_a_link_is_not_drawn, a_frame_is_drawn_where_its_host_stood, ways_go_by_links_of_the_wiring, each_frame_in_flight_is_drawn_once,
     the_story_of_a_frame_is_its_lines, the_story_of_a_copy_begins_with_what_it_is_a_copy_of, the_story_of_a_host_is_what_befalls_it,
     the_story_of_a_switch_is_what_happens_at_it, subjects_are_found_by_their_names, facts_are_those_of_the_entry,
-    a_fabric_is_laid_out_without_overlaps,
+    a_fabric_is_laid_out_without_overlaps, pods_fold_where_they_would_be_too_narrow,
 };

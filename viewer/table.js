@@ -1,0 +1,33 @@
+"use strict";
+// The tables of docs/RULES.md that lead from a line of a journal to its rule; viewer/take has made this file of it.
+globalThis.Table = String.raw`
+| line | definition | file |
+|---|---|---|
+| "sent ID HOST HEX" | "sent_by_host": a host put a frame out, by "starting", "playing", "playing_raw", "retrying", "moving", "joining", "leaving" or "receiving" | pl_world/Changes, pl_host_rule/HostRule |
+| "skipped HOST SKIP" | "skip_noted": a record is not played, for the first reason of "skip_of" | pl_world/OtherActs, pl_host_rule/HostRule |
+| "made ID SWITCH HEX" | "made": an answer, a flood, a probe or a word to a sender, by "makes" | pl_world/SwitchActs, pl_switch_rule/Delivering |
+| "crossed ID SWITCH" | "ComesAtSwitch", "made", "crossed_again" | pl_world/WorldRule, pl_world/SwitchActs |
+| "redirected ID OLD NEW" | "redirected", by "redirects" | pl_world/SwitchActs, pl_switch_rule/Delivering |
+| "copied ID NEWID" | "passed", by "forwards_group" | pl_world/SwitchActs, pl_switch_rule/GroupForwarding |
+| "arrived ID HOST HEX" | "reception_noted", at the host that "receiver" finds | pl_world/OtherActs, pl_world/Changes |
+| "taken ID SWITCH" | "ended", by "takes" of "takes_in" | pl_world/SwitchActs, pl_switch_rule/Intake |
+| "dropped ID CAUSE" | "ended" and others: see the causes below | pl_world/SwitchActs |
+| "granted PMAC HOST SWITCH PORT" | "act_done", by "grants_next" | pl_world/SwitchActs, pl_switch_rule/Granting |
+| "registered PMAC NUMBER" | "manager_act_done", by "learning" | pl_world/OtherActs, pl_manager_rule/ManagerRule |
+| "placed SWITCH LEVEL POSITION POD" | "place_noted" | pl_world/SwitchActs |
+| "linkdown A B", "linkup A B" | "link_failed", "link_repaired" | pl_world/LinksAndMoves |
+| "moved HOST SWITCH PORT" | "host_moved" | pl_world/LinksAndMoves |
+| cause of "dropped" | definition | file |
+|---|---|---|
+| "NotPlaced" | "comes_from_switch", "comes_from_host", "takes_in" | pl_switch_rule/SwitchRule, pl_switch_rule/Intake |
+| "NoNextHop" | "leaves_by" where "candidates_by" has none; of a group "no_way" | pl_switch_rule/Forwarding, pl_switch_rule/GroupForwarding |
+| "NoAddress" | "delivers" where "granted" finds none | pl_switch_rule/Delivering, pl_switch_rule/Granting |
+| "HostGone" | "ComesAtHost", "host_moved" | pl_world/WorldRule, pl_world/LinksAndMoves |
+| "LinkDown" | "goes_out", "link_failed" | pl_world/SwitchActs, pl_world/LinksAndMoves |
+| "Lost" | "item_lost" | pl_world/LinksAndMoves |
+| "Spent" | "takes_in_or_spent" where "has_no_address" holds | pl_switch_rule/Intake, pl_switch_rule/Granting |
+| "BadArp" | "takes_in" | pl_switch_rule/Intake |
+| "NoMember" | "no_way"; at a host that has not joined "reception_noted" | pl_switch_rule/GroupForwarding, pl_world/OtherActs |
+| all of them: what the switch knows then; what the journal shows | "CauseHolds"; "CauseShows" | pl_switch_rule/DropCauses, pl_journal/Causes |
+| which of them, in their order: of a frame that came; of one that the switch made | "cause_of"; "cause_of_made" | pl_switch_rule/CauseOf |
+`;

@@ -1,0 +1,141 @@
+"use strict";
+// What stands beside the picture: rules, loads, what the fabric knows, a second run, links to a moment; and what aging, restarts
+// of the manager and learning bridges bring.
+const assert = require("assert");
+const fs = require("fs");
+const path = require("path");
+const { top, folders, open, openFiles } = require("./load.js");
+
+// run, line of the journal, words of its rules, and how what to look at begins
+const RULES = [
+    ["examples/four-hosts", 2, "`sent_by_host`", "crates/pl_world/specs/Changes.antt", ""],
+    ["examples/four-hosts", 4, "`ComesAtSwitch`", "crates/pl_world/specs/WorldRule.antt", ""],
+    ["examples/four-hosts", 10, "by `grants_next`", "crates/pl_switch_rule/specs/Granting.antt", ""],
+    ["tests/fabric/link-fails-with-frames", 104, "`goes_out`, `link_failed`", "crates/pl_world/specs/LinksAndMoves.antt", "Look at the last `linkdown`"],
+    ["tests/fabric/group", 133, "`no_way`", "crates/pl_switch_rule/specs/GroupForwarding.antt", "Look at the `join`"],
+];
+
+const the_rule_of_an_entry_is_that_of_the_table = () => {
+    for (const [name, line, says, file, look] of RULES) {
+        const { run } = open(name);
+        const rules = Rules.of(run, line - 1);
+        assert(rules.some(rule => rule.says.includes(says) && rule.files.includes(file)), `${name}, line ${line}: ${JSON.stringify(rules)}`);
+        assert(Rules.look(run, line - 1).startsWith(look) && (look !== "" || Rules.look(run, line - 1) === ""));
+    }
+    const { run } = open("examples/four-hosts");
+    assert.deepEqual(Rules.of(run, 0), []); // `line 1`, which the player of the script writes
+    for (const cause of Journal.CAUSES) assert(Rules.rowOf(cause), cause);
+    for (const { files } of [...Journal.WORDS, ...Journal.CAUSES].map(Rules.rowOf).filter(Boolean)) {
+        for (const file of files) assert(fs.existsSync(path.join(top, file)), file);
+    }
+};
+
+// A frame to many that comes back to the switch of its sender says that nobody else is there.
+const a_copy_that_comes_back_says_why_it_ends = () => {
+    const said = (name, line) => Words.sentence(open(name).run, line - 1);
+    assert(said("tests/fabric/random-04", 81).endsWith("nobody else there has joined its group."));
+    assert(said("tests/fabric/random-04", 204).endsWith("it came back to its sender's own switch, and nobody else stands there."));
+    assert(!said("tests/fabric/group", 133).includes("nobody else"));
+};
+
+// run, line of the journal, and what is said of it: aging, a manager that restarts, and a learning bridge
+const LATER = [
+    ["address-given-again", "freed 00:01:00:00:00:01", "Switch e1.0 frees the pseudo address 00:01:00:00:00:01, which host d had: nobody uses it now, and port 0 may grant it again."],
+    ["restart-before-a-move-was-told", "restarted 1", "The fabric manager restarts, for the 1st time: it has forgotten all, what was on its way to it and from it is lost, and each switch tells it anew what it knows."],
+    ["restart-before-a-move-was-told", "registered 00:01:00:00:00:01 4294967301", "The fabric manager has learnt anew 00:01:00:00:00:01 of host d, with number 4294967301."],
+    ["bridge-learnt", "linkdown e0.0 a0.1", "The link between e0.0 and a0.1 is left out before the first line: a learning bridge wants a tree."],
+    ["bridge-link-fails", "linkdown e1.0 a1.0", "The link between e1.0 and a1.0 fails."],
+];
+
+const what_aging_restarts_and_bridges_bring_is_said = () => {
+    for (const [name, line, wanted] of LATER) {
+        const { run, journal } = open(`viewer/tests/runs/${name}`);
+        const n = journal.split("\n").indexOf(line);
+        assert(n >= 0, `${name}: ${line}`);
+        assert.equal(Words.sentence(run, n), wanted);
+        if (line.startsWith("freed")) {
+            assert(Words.who(run, 0x000100000001, n + 1).startsWith("freed, granted to nobody now"));
+            assert.equal(Stories.of(run, { host: run.fabric.names.get("d") }).includes(n), true);
+        }
+    }
+    const { run, states } = open("viewer/tests/runs/address-given-again");
+    const again = run.addresses.filter(({ number }) => number === 0x000100000001);
+    assert.deepEqual(again.map(({ host }) => run.fabric.hosts[host].name), ["d", "b"]);
+    assert.equal(Journal.grantAt(run, 0x000100000001, run.count), again[1]);
+    assert.equal(At.at(states, run.count).newest[run.fabric.names.get("b")], run.addresses.indexOf(again[1]));
+};
+
+const the_second_run_is_in_step_by_line = () => {
+    const { run: second } = open("viewer/tests/runs/bridge-learnt");
+    const { run: first } = openFiles("viewer/tests/runs/bridge-learnt", "portland.txt");
+    const states = At.run(first);
+    const at = entry => Step.of(first, second, entry, At.at(states, entry).line);
+    for (let n = 1; n <= 6; n++) {
+        const [begin, other] = [Journal.ofLine(first, n), Journal.ofLine(second, n)];
+        assert.equal(at(begin + 1), other + 1);
+        const end = n < 6 ? Journal.ofLine(first, n + 1) : first.count;
+        assert.equal(at(end), n < 6 ? Journal.ofLine(second, n + 1) : second.count);
+    }
+    let last = 0;
+    for (let n = 0; n <= first.count; n++) {
+        assert(at(n) >= last, `${n}`);
+        last = at(n);
+    }
+};
+
+const what_is_known_is_what_has_happened = () => {
+    const { run, journal } = open("viewer/tests/runs/restart-before-a-move-was-told");
+    const known = Knowledge.of(run);
+    const lines = journal.split("\n");
+    for (let now = 0; now <= run.count; now++) {
+        const granted = lines.slice(0, now).filter(line => line.startsWith("granted ")).map(line => line.split(" ")[2]);
+        const rows = Knowledge.rows(known, "addresses", "", now).map(n => Knowledge.row(known, "addresses", n, now).cells[0]);
+        assert.deepEqual(rows, granted);
+    }
+    assert.deepEqual(Knowledge.rows(known, "addresses", "NOT registered", run.count), []);
+    assert.equal(Knowledge.rows(known, "addresses", "4294967301", run.count).length, 1);
+    assert.equal(Knowledge.summary(known, "placed", 0), "0 of 20 switches are placed");
+};
+
+const loads_are_the_crossings = () => {
+    for (const folder of folders()) {
+        const { run, states, journal } = open(folder);
+        const { crossings, carried } = At.at(states, run.count);
+        const wanted = new Int32Array(run.fabric.switches.length);
+        for (const [, label] of journal.matchAll(/^crossed \d+ (\S+)$/gm)) wanted[Fabric.number(run.fabric, label)]++;
+        assert.deepEqual([...crossings], [...wanted], folder);
+        assert(carried.reduce((sum, count) => sum + count, 0) <= wanted.reduce((sum, count) => sum + count, 0));
+    }
+    const { run, states } = open("examples/four-hosts");
+    const { carried } = At.at(states, 93);
+    const link = (a, b) => carried[Fabric.link(run.fabric, Fabric.number(run.fabric, a), Fabric.number(run.fabric, b))];
+    assert.deepEqual([link("a0.0", "c0.0"), link("c0.0", "a1.0"), link("a1.0", "e1.0"), link("a1.1", "e1.0")], [1, 1, 1, 0]);
+};
+
+const the_chart_counts_what_the_summary_counts = () => {
+    for (const folder of folders()) {
+        const { run, summary } = open(folder);
+        const rows = Chart.of(run);
+        const last = name => { const row = rows.find(one => one.name === name); return row.counts[row.counts.length - 1]; };
+        assert(summary.some(line => line.startsWith(`sent ${last("sent")} `) && line.includes(` arrived ${last("arrived")} `)), folder);
+        const causes = rows.slice(2).map(({ name }) => `dropped ${name} ${last(name)}`);
+        assert.deepEqual(causes, summary.filter(line => line.startsWith("dropped ")), folder);
+    }
+};
+
+const a_link_names_a_moment = () => {
+    const { run } = open("examples/four-hosts");
+    for (const subject of [null, { frame: 13 }, { host: 0 }, { switch: 0 }]) {
+        assert.deepEqual(Moment.read(run, Moment.text(run, 91, subject)), { entry: 91, subject });
+    }
+    assert.equal(Moment.text(run, 91, { frame: 13 }), "#entry=91&story=13");
+    assert.deepEqual(Moment.read(run, "#story=e0.0"), { entry: -1, subject: { switch: 0 } });
+    assert.deepEqual(Moment.read(run, "#entry=1000"), { entry: run.count, subject: null });
+    for (const none of ["", "#", "#entry=x", "#story=nobody", "#other"]) assert.equal(Moment.read(run, none), null);
+};
+
+module.exports = {
+    the_rule_of_an_entry_is_that_of_the_table, a_copy_that_comes_back_says_why_it_ends, what_aging_restarts_and_bridges_bring_is_said,
+    the_second_run_is_in_step_by_line, what_is_known_is_what_has_happened, loads_are_the_crossings,
+    the_chart_counts_what_the_summary_counts, a_link_names_a_moment,
+};

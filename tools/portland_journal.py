@@ -15,6 +15,7 @@ import re
 import tomllib
 from dataclasses import dataclass, field, make_dataclass
 from functools import cached_property
+from itertools import pairwise
 
 CAUSES = {
     "NotPlaced": "the switch does not know its own place yet, or not that of its neighbour",
@@ -89,6 +90,7 @@ class Frame:
     line: int  # the script's line in which it began
     data: bytes  # as it began
     origin: int | None = None  # the frame that it is a copy of
+    before: int = 0  # how many switches that one had crossed by then
     path: list = field(default_factory=list)  # the switches that it crossed, in order
     redirects: list = field(default_factory=list)  # pairs: how many switches it had crossed by then, and its address from then on
     end: str = "flying"  # arrived, taken, dropped, or flying at the end of the journal
@@ -101,6 +103,12 @@ class Frame:
     def at(self):
         """The switch that it was at last; of a frame that crossed none the one that began it, or none."""
         return self.path[-1] if self.path else (None if self.begun == "sent" else self.by)
+
+    @property
+    def hops(self):
+        """The links that it crossed, each as where it came from and where it came to; hosts' links too, by the host's name."""
+        nodes = [self.by, *self.path, *([self.host] if self.end == "arrived" else [])]
+        return [(a, b) for a, b in pairwise(nodes) if a != b]
 
 
 class Frames:
@@ -128,8 +136,8 @@ class Frames:
         elif kind == "redirected":
             frame.redirects.append((len(frame.path), entry.new))
         elif kind == "copied":
-            copy = Frame(entry.copy, kind, frame.at, entry.line, frame.data, entry.frame)
-            self.add(copy, entry.row)
+            before = frame.before + len(frame.path)
+            self.add(Frame(entry.copy, kind, frame.at, entry.line, frame.data, entry.frame, before), entry.row)
         else:
             frame.end, frame.ended = kind, entry.line
             if kind == "arrived":
@@ -139,6 +147,52 @@ class Frames:
 
 
 OF_FRAMES = frozenset(kind for kind, form in FORMS.items() if "frame" in form)
+
+
+@dataclass(slots=True)
+class Place:
+    """What a switch knows of its place; None for what it does not."""
+
+    level: int | None = None
+    position: int | None = None
+    pod: int | None = None
+
+    @property
+    def is_placed(self):
+        needed = {0: (self.position, self.pod), 1: (self.pod,), 2: ()}
+        return self.level is not None and None not in needed[self.level]
+
+
+class State:
+    """What a journal says of the fabric, once its entries up to some row were read."""
+
+    def __init__(self, fabric):
+        self.places = {switch.label: Place() for switch in fabric.switches}
+        self.failed = set()  # of links, each by its two ends in both orders
+        self.spots = {host.name: (host.edge, host.port) for host in fabric.hosts}
+        self.granted = {}  # for each pseudo address the host, the edge switch and the port that it was granted for
+        self.addresses = {host.name: [] for host in fabric.hosts}  # for each host its registered ones, the newest last
+        self.is_settled = False  # as of the last `settle` line, and no link failed or host moved since
+
+    def read(self, entry):
+        kind = entry.kind
+        if kind == "placed":
+            self.places[entry.switch] = Place(entry.level, entry.position, entry.pod)
+        elif kind == "granted":
+            self.granted[entry.address] = entry.host, entry.switch, entry.port
+        elif kind == "registered":
+            if entry.address in self.granted:
+                self.addresses[self.granted[entry.address][0]].append(entry.address)
+        elif kind == "moved":
+            self.spots[entry.host] = entry.switch, entry.port
+        elif kind == "linkdown":
+            self.failed |= {(entry.a, entry.b), (entry.b, entry.a)}
+        elif kind == "linkup":
+            self.failed -= {(entry.a, entry.b), (entry.b, entry.a)}
+        if kind in ("settled", "unsettled"):
+            self.is_settled = kind == "settled"
+        elif kind in ("moved", "linkdown", "linkup"):
+            self.is_settled = False
 
 
 class Run:
@@ -165,6 +219,16 @@ class Run:
                 except Fault as fault:
                     raise Fault(f"{self.path}: {fault}") from None
         return built.frames
+
+    def state(self, row=None):
+        """The fabric once the journal was read up to a row, or to its end."""
+        state = State(self.needs_fabric())
+        try:
+            for entry in self.entries[:row]:
+                state.read(entry)
+        except KeyError as error:
+            raise Fault(f"{self.path} is no journal of that topology: it names {error.args[0]}") from None
+        return state
 
     def needs_fabric(self):
         if self.fabric is None:

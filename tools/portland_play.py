@@ -8,7 +8,8 @@ import signal
 import subprocess
 import sys
 
-from portland_journal import Fault
+from portland_frames import kind_of, mac_bytes
+from portland_journal import Fabric, Fault, Host
 
 TOP = pathlib.Path(__file__).resolve().parent.parent
 DEBIAN = "/usr/bin/python3"
@@ -80,3 +81,73 @@ def capture_writer(path):
 
 def write_record(writer, data, seconds, micros=0, original=None):
     writer.write_packet(data, sec=seconds, usec=micros, caplen=len(data), wirelen=original or len(data))
+
+
+# Folders that hold a whole run: topology.toml, script and captures/, and what comes of them.
+
+
+def play_folder(folder):
+    """Plays the run of a folder, and saves journal, captures and summary beside it."""
+    folder = pathlib.Path(folder)
+    summary = play(folder / "topology.toml", folder / "script", folder / "captures", folder)
+    (folder / "summary").write_text(summary)
+    return summary
+
+
+def new_folder(path, *inputs):
+    """A folder for a whole run, made if it is not there; none in which an input lies."""
+    folder = pathlib.Path(path)
+    for given in inputs:
+        if given and pathlib.Path(given).resolve() in (folder.resolve(), *folder.resolve().glob("*")):
+            raise Fault(f"{given} lies in {folder}, where the run is to be saved: name another folder by --out")
+    try:
+        (folder / "captures").mkdir(parents=True, exist_ok=True)
+    except OSError as error:
+        raise Fault(f"{error.strerror}: {folder}") from None
+    return folder
+
+
+def all_hosts(k):
+    """A fabric of k ports with a host at each place, as `portland gen` draws it."""
+    fabric = Fabric(k)
+    for edge in (switch.label for switch in fabric.switches if switch.level == 0):
+        for port in fabric.host_ports(edge):
+            n = len(fabric.hosts)
+            mac = f"02:00:00:00:{n // 256:02x}:{n % 256:02x}"
+            fabric.hosts.append(Host(f"h{n}", mac, f"10.1.{(n + 1) // 256}.{(n + 1) % 256}", edge, port))
+    return fabric
+
+
+def arity(word):
+    if int(word) not in range(4, 25, 2):
+        raise ValueError
+    return int(word)
+
+
+# Test frames: each host sends to each other one. They have the type 88b6, which is free for experiments.
+
+
+def probe(hosts, a, b, turn=0):
+    """The frame of host number a to host number b."""
+    ends = mac_bytes(hosts[b].mac) + mac_bytes(hosts[a].mac)
+    return ends + bytes.fromhex("88b6") + b"".join(n.to_bytes(2, "big") for n in (a, b, turn)) + bytes(40)
+
+
+def read_probe(data):
+    """The sender, the receiver and the turn of a test frame; None of other frames."""
+    if kind_of(data) != 0x88B6 or len(data) != 60:
+        return None
+    return tuple(int.from_bytes(data[at : at + 2], "big") for at in (14, 16, 18))
+
+
+def write_probes(fabric, folder, turns=1):
+    """For each host a capture with its frames to each other one, as often as asked."""
+    hosts = fabric.hosts
+    for a, host in enumerate(hosts):
+        host.capture = f"{host.name}.pcap"
+        writer = capture_writer(folder / host.capture)
+        for turn in range(turns):
+            for b in range(len(hosts)):
+                if a != b:
+                    write_record(writer, probe(hosts, a, b, turn), turn)
+        writer.close()

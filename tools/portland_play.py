@@ -1,5 +1,6 @@
 """What the tools share: how one ends, which packages it needs, how a run is played, how captures are written."""
 
+import contextlib
 import importlib
 import os
 import pathlib
@@ -7,12 +8,14 @@ import shutil
 import signal
 import subprocess
 import sys
+from dataclasses import dataclass
 
 from portland_frames import kind_of, mac_bytes
 from portland_journal import Fabric, Fault, Host
 
 TOP = pathlib.Path(__file__).resolve().parent.parent
 DEBIAN = "/usr/bin/python3"
+LONGEST = 262144  # no record of a capture is longer
 
 
 def run_tool(name, main):
@@ -74,7 +77,7 @@ def play(topology, script, captures, out):
 def capture_writer(path):
     """A new capture of Ethernet frames, for `write_record`."""
     utils = needed("scapy.utils", "python3-scapy")
-    writer = utils.RawPcapWriter(str(path), linktype=1, endianness="<", snaplen=262144)
+    writer = utils.RawPcapWriter(str(path), linktype=1, endianness="<", snaplen=LONGEST)
     writer.write_header(None)
     return writer
 
@@ -151,3 +154,48 @@ def write_probes(fabric, folder, turns=1):
                 if a != b:
                     write_record(writer, probe(hosts, a, b, turn), turn)
         writer.close()
+
+
+@dataclass(slots=True)
+class Record:
+    data: bytes
+    seconds: int
+    nanos: int
+    original: int  # the frame's length, of which the capture may have less
+
+
+def record_of(data, meta):
+    """A record as scapy reads it: of pcap with seconds and micro- or nanoseconds, of pcapng with ticks."""
+    if hasattr(meta, "tshigh"):
+        ticks = (meta.tshigh or 0) << 32 | (meta.tslow or 0)
+        seconds, rest = divmod(ticks, meta.tsresol or 1_000_000)
+        return Record(data, seconds, rest * 1_000_000_000 // (meta.tsresol or 1_000_000), meta.wirelen or len(data))
+    return Record(data, meta.sec, meta.usec, meta.wirelen)
+
+
+def raw_records(reader):
+    """The records of a reader of scapy, each with what is said of it; of pcap whole, however long they are."""
+    is_pcapng = "Ng" in type(reader).__name__
+    with contextlib.closing(reader), contextlib.suppress(EOFError):
+        while True:
+            yield reader._read_packet() if is_pcapng else reader._read_packet(size=LONGEST)
+
+
+def read_records(path):
+    """The records of a capture, pcap or pcapng, packed by gzip or not; the link type has to be Ethernet."""
+    utils = needed("scapy.utils", "python3-scapy")
+    try:
+        reader = utils.RawPcapReader(str(path))
+        is_nano = getattr(reader, "nano", False)
+        for data, meta in raw_records(reader):
+            linktype = getattr(meta, "linktype", None) or getattr(reader, "linktype", 1)
+            if linktype != 1:
+                raise Fault(f"{path} has frames of link type {linktype}, and not of Ethernet: capture on an Ethernet interface")
+            record = record_of(data, meta)
+            if not hasattr(meta, "tshigh") and not is_nano:
+                record.nanos *= 1000
+            yield record
+    except OSError as error:
+        raise Fault(f"{error.strerror or error}: {path}") from None
+    except utils.Scapy_Exception as error:
+        raise Fault(f"{path} is no capture that can be read: {error}") from None

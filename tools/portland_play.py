@@ -47,10 +47,12 @@ def needed(module, package):
         raise Fault(f"needs the Debian package {package}: sudo apt install {package}") from None
 
 
-def needed_program(name, package):
-    found = shutil.which(name)
-    if found is None:
-        raise Fault(f"needs the Debian package {package}: sudo apt install {package}")
+def needed_parallel():
+    """GNU parallel; moreutils has another program of that name."""
+    found = shutil.which("parallel")
+    said = subprocess.run([found, "--version"], capture_output=True, text=True, check=False).stdout if found else ""
+    if not said.startswith("GNU parallel"):
+        raise Fault("needs GNU parallel, the Debian package parallel: sudo apt install parallel")
     return found
 
 

@@ -198,15 +198,23 @@ class State:
 class Run:
     """A journal, and the topology and the script that lie with it; None for what does not."""
 
-    def __init__(self, path, entries, fabric=None, script=None):
+    def __init__(self, path, entries, fabric=None, script=None, summary=None):
         self.path = path
         self.entries = entries
         self.fabric = fabric
         self.script = script
+        self.summary = summary  # the text that the program printed
 
     def of(self, *kinds):
         """The rows of these kinds."""
         return [entry for entry in self.entries if entry.kind in kinds]
+
+    @property
+    def is_settled(self):
+        """Whether the fabric is settled at the end: by the summary, else as of the last `settle` line."""
+        if self.summary:
+            return self.summary.rstrip().endswith("settled yes")
+        return self.state().is_settled
 
     @cached_property
     def frames(self):
@@ -530,5 +538,11 @@ def read(path, topology=None, script=None):
     entries = read_journal(journal)
     topology = topology or beside(journal, "topology.toml")
     script = script or beside(journal, "script")
-    fabric = read_topology(topology) if topology else None
-    return Run(journal, entries, fabric, read_script(script) if script else None)
+    summary = beside(journal, "summary")
+    return Run(
+        journal,
+        entries,
+        read_topology(topology) if topology else None,
+        read_script(script) if script else None,
+        text_of(summary, "utf-8") if summary else None,
+    )

@@ -66,13 +66,14 @@ def program():
 
 
 def play(topology, script, captures, out):
-    """Plays a run and gives its summary; files are saved in `out`."""
+    """Plays a run and gives its summary; files are saved in `out`. Somebody at a terminal sees what the program says."""
     pathlib.Path(out).mkdir(parents=True, exist_ok=True)
     words = [program(), "run", "--topology", topology, "--script", script, "--captures", captures, "--out", out]
-    played = subprocess.run([str(word) for word in words], stdin=subprocess.DEVNULL, capture_output=True, text=True, check=False)
+    errors = None if sys.stderr.isatty() else subprocess.PIPE
+    played = subprocess.run(list(map(str, words)), stdin=subprocess.DEVNULL, stdout=subprocess.PIPE, stderr=errors, text=True, check=False)
     if played.returncode != 0:
-        said = [line for line in played.stderr.splitlines() if line]
-        raise Fault((said or [f"portland ended with status {played.returncode}"])[-1])
+        said = [line for line in (played.stderr or "").splitlines() if line and "not proved yet" not in line]
+        raise Fault("\n".join(said) or f"the program ended with status {played.returncode}")
     return played.stdout
 
 
@@ -102,9 +103,9 @@ def play_folder(folder):
 def new_folder(path, *inputs):
     """A folder for a whole run, made if it is not there; none in which an input lies."""
     folder = pathlib.Path(path)
-    for given in inputs:
-        if given and pathlib.Path(given).resolve() in (folder.resolve(), *folder.resolve().glob("*")):
-            raise Fault(f"{given} lies in {folder}, where the run is to be saved: name another folder by --out")
+    for given in map(pathlib.Path, filter(None, inputs)):
+        if folder.resolve() in (given.resolve(), given.resolve().parent) or (folder / "captures").resolve() == given.resolve().parent:
+            raise Fault(f"{given} lies in {folder}, where the run is to be saved: name another folder")
     try:
         (folder / "captures").mkdir(parents=True, exist_ok=True)
     except OSError as error:

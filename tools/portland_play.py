@@ -1,5 +1,6 @@
 """What the tools share: how one ends, which packages it needs, how a run is played, how captures are written."""
 
+import argparse
 import contextlib
 import importlib
 import os
@@ -125,8 +126,9 @@ def all_hosts(k):
 
 
 def arity(word):
-    if int(word) not in range(4, 25, 2):
-        raise ValueError
+    """The k that a word of the command line says."""
+    if not word.isdecimal() or int(word) not in range(4, 25, 2):
+        raise argparse.ArgumentTypeError(f"{word} is no even number from 4 to 24")
     return int(word)
 
 

@@ -117,9 +117,9 @@ class Frames:
     def __init__(self):
         self.frames = []
 
-    def add(self, frame, path):
+    def add(self, frame, row):
         if frame.number != len(self.frames) + 1:
-            raise Fault(f"row {path}: frame {frame.number} begins out of order")
+            raise Fault(f"row {row}: frame {frame.number} begins out of order")
         self.frames.append(frame)
 
     def read(self, entry):

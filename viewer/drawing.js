@@ -6,7 +6,7 @@ globalThis.Drawing = (() => {
     // Boxes that are narrower than this have neither outlines nor texts.
     const BARE = 10;
     // Of more links than this each is drawn fainter, on a canvas that is wide enough for so many.
-    const MANY = 120;
+    const MANY = 80;
     const faded = (p, count) => Math.max(0.1, Math.min(1, Math.min(MANY, p.width / 6) / count));
 
     // What a switch knows of its place, in texts that fall in length. An unknown part is - as in a journal.

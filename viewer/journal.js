@@ -60,8 +60,10 @@ globalThis.Journal = (() => {
             let end = at;
             while (end < bytes.length && bytes[end] > BLANK) end++;
             const kind = end - at > 15 ? -1 : BY_KEY[keyOf(bytes[at], bytes[at + 2], end - at)];
-            const spelled = kind < 0 ? null : SPELLED[kind];
-            if (!spelled || spelled.length !== end - at || !spelled.every((c, n) => bytes[at + n] === c)) {
+            const spelled = kind < 0 ? [] : SPELLED[kind];
+            let same = 0;
+            while (same < spelled.length && bytes[at + same] === spelled[same]) same++;
+            if (same === 0 || same !== end - at || same !== spelled.length) {
                 this.refuse(`\`${this.text(at, end)}\` begins no line of a journal`);
             }
             this.at = end;

@@ -10,6 +10,7 @@ globalThis.Page = (() => {
         known: null, // what the Fabric list shows
         followers: [], // called with each new state: what goes with this page
         playing: 0, owed: 0, way: 1, // when the last picture was made while playing; entries that are due; 1 is on, -1 back
+        revealed: -1, // the entry whose place was brought into sight
         moving: 0, // when the frame of now set out
     };
 
@@ -218,7 +219,8 @@ globalThis.Page = (() => {
         picture.set(page.state, Scene.of(page.run, page.state, page.subject));
         const { now } = picture.scene;
         page.moving = isMoving && now && now.from && !still.matches ? performance.now() : -1000;
-        if (now && now.place && now.place.link === undefined) picture.reveal(now.place);
+        if (now && now.place && now.place.link === undefined && page.revealed !== page.state.entry) picture.reveal(now.place);
+        page.revealed = page.state.entry;
         drawNow();
         drawLists();
         $("canvas").setAttribute("aria-label", summary());

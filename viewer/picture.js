@@ -133,10 +133,10 @@ globalThis.Picture = (() => {
             return { x: x + width / 2, y: y + height / 2, width, height };
         }
 
-        // Whether a place wants a box of its own for its name: in a folded pod, or as a switch whose box is too narrow for it.
+        // Whether a place wants a box of its own for its name: in a folded pod, or where its box is too narrow for it.
         wantsName(place) {
             const box = this.boxOf(place);
-            if (place.switch === undefined) return place.host !== undefined && box.pod !== undefined;
+            if (place.switch === undefined) return place.host !== undefined && (box.pod !== undefined || box.width * this.scale < 20);
             return box.pod !== undefined || box.width * this.scale < 6 * this.nameOf(place).length;
         }
 

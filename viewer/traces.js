@@ -7,8 +7,9 @@ globalThis.Traces = (() => {
     const place = (p, where, isMarked) => {
         if (where.link !== undefined) return;
         const isMoved = where.host !== undefined && where.spot !== undefined && where.spot !== p.state.spots[where.host];
-        if (p.wantsName(where)) Drawing.named(p, where, p.spotOf(where), isMarked);
-        else if (where.switch !== undefined) Drawing.oneSwitch(p, p.fabric.switches[where.switch], isMarked);
+        if (p.wantsName(where)) {
+            if (!isMoved || p.boxOf(where).pod !== undefined) Drawing.named(p, where, p.spotOf(where), isMarked);
+        } else if (where.switch !== undefined) Drawing.oneSwitch(p, p.fabric.switches[where.switch], isMarked);
         else if (!isMoved) Drawing.oneHost(p, p.fabric.hosts[where.host], isMarked);
     };
 

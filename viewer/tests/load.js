@@ -1,6 +1,7 @@
 "use strict";
 // The viewer's scripts that need no page, and the stored runs of the repository, for tests.
 const fs = require("fs");
+const os = require("os");
 const path = require("path");
 
 const top = path.resolve(__dirname, "../..");
@@ -41,4 +42,7 @@ const openFiles = (name, journal) => {
 // a run of a topology and a journal that a test has as texts
 const openTexts = (topology, journal) => Files.runOf({ topology: Buffer.from(topology), journal: new Uint8Array(Buffer.from(journal)) }).run;
 
-module.exports = { top, folders, open, openFiles, openTexts, journalOf };
+// A machine that has more to do than it can takes so many times as long.
+const patience = () => 1 + os.loadavg()[0] / os.cpus().length;
+
+module.exports = { patience, top, folders, open, openFiles, openTexts, journalOf };

@@ -5,7 +5,7 @@ const fs = require("fs");
 const os = require("os");
 const path = require("path");
 const { spawnSync } = require("child_process");
-const { top, open, journalOf } = require("./load.js");
+const { top, open, journalOf, patience } = require("./load.js");
 
 const PAGE = path.join(top, "viewer/index.html");
 const SHIFT = 8;
@@ -65,4 +65,4 @@ const isQuiet = browser => {
     assert.deepEqual(browser.asked.filter(url => !/^(file|data):/.test(url)), []);
 };
 
-module.exports = { PAGE, SHIFT, work, filesOf, isOpen, opened, dropped, packed, says, picture, isQuiet };
+module.exports = { patience, PAGE, SHIFT, work, filesOf, isOpen, opened, dropped, packed, says, picture, isQuiet };

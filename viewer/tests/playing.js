@@ -1,7 +1,7 @@
 "use strict";
 // The state at an entry: what a journal says of the fabric once so many of its entries have happened.
 const assert = require("assert");
-const { folders, open } = require("./load.js");
+const { folders, open, patience } = require("./load.js");
 const long = require("./long.js");
 
 const plain = state => ({
@@ -120,12 +120,12 @@ const a_million_lines_are_read_within_five_seconds = () => {
     const begun = performance.now();
     const run = Journal.read(text, fabric);
     const states = At.run(run);
-    assert(performance.now() - begun < 5000);
+    assert(performance.now() - begun < 5000 * patience());
     assert(run.count >= 1e6);
     const set = performance.now();
     let state = At.at(states, run.count);
     for (let n = 1; n <= 50; n++) state = At.at(states, run.count - n, state);
-    assert(performance.now() - set < 1000);
+    assert(performance.now() - set < 1000 * patience());
     assert.equal(state.counts[Journal.KIND.arrived], 6 + Math.floor((run.count - 50 - 94) / long.FLIGHT));
 };
 

@@ -5,7 +5,7 @@ const fs = require("fs");
 const path = require("path");
 const { top, open } = require("./load.js");
 const wide = require("./wide.js");
-const { PAGE, work, filesOf, isOpen, opened, packed, says, picture } = require("./pages.js");
+const { patience, PAGE, work, filesOf, isOpen, opened, packed, says, picture } = require("./pages.js");
 
 const RUNS = "viewer/tests/runs";
 const LEARNT = path.join(top, RUNS, "bridge-learnt");
@@ -114,7 +114,7 @@ const what_is_found_is_not_taken_for_now = async (browser, width) => {
 
 const a_large_fabric_is_read = async (browser, width) => {
     const milliseconds = await openedLarge(browser, 24, 150001);
-    assert(milliseconds < 8000, `opened in ${milliseconds} milliseconds`);
+    assert(milliseconds < 2000 * patience(), `opened in ${milliseconds} milliseconds`);
     await browser.value("Page.step(100004)");
     await browser.press("f");
     const named = ["h3434", "e23.10", "a23.10", "c10.10", "a19.10", "e19.10", "h2858"];
@@ -132,7 +132,7 @@ const a_large_fabric_is_read = async (browser, width) => {
     assert.deepEqual(await browser.value("[...Page.picture.open]"), []);
     const step = await browser.value(`(() => { const begun = performance.now(); for (let n = 0; n < 20; n++) Page.step(100004 - n);
         return (performance.now() - begun) / 20; })()`);
-    assert(step < 200, `a step takes ${step} milliseconds`);
+    assert(step < 30 * patience(), `a step takes ${step} milliseconds`);
 };
 
 // By keys alone: a pod is opened, all are opened and folded, and a row of the list is gone to.

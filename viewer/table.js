@@ -28,6 +28,6 @@ globalThis.Table = String.raw`
 | "Spent" | "takes_in_or_spent" where "has_no_address" holds | pl_switch_rule/Intake, pl_switch_rule/Granting |
 | "BadArp" | "takes_in" | pl_switch_rule/Intake |
 | "NoMember" | "no_way"; at a host that has not joined "reception_noted" | pl_switch_rule/GroupForwarding, pl_world/OtherActs |
-| all of them: what the switch knows then; what the journal shows | "CauseHolds"; "CauseShows" | pl_switch_rule/DropCauses, pl_journal/Causes |
-| which of them, in their order: of a frame that came; of one that the switch made | "cause_of"; "cause_of_made" | pl_switch_rule/CauseOf |
+| which of a switch's, by what it knows then, in their order: of a frame that came; of one that the switch made | "cause_of"; "cause_of_made" | pl_switch_rule/CauseOf |
+| all of them: which frames a step drops; what the journal shows | "dropped"; "CauseShows" | pl_world/Drops, pl_journal/Causes |
 `;

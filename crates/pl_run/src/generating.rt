@@ -63,4 +63,3 @@ fn without_read_fault(status: Status) -> Status
         other => other,
     }
 }
-

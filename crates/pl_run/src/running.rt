@@ -21,4 +21,3 @@ pub(crate) fn run<S: Shelf>(alloc: Global, files: &Files<'_>, shelf: &mut S) -> 
     let inputs = load_inputs(alloc, shelf, files)?;
     play_and_save(alloc, files.out, inputs, shelf)
 }
-

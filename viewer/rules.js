@@ -13,7 +13,7 @@ globalThis.Rules = (() => {
     const rowOf = name => ROWS.find(({ names }) => names.includes(name)) || null;
     const OF_WORD = WORDS.map(rowOf);
     const OF_CAUSE = CAUSES.map(rowOf);
-    const OF_EACH_CAUSE = ROWS.find(({ what }) => what.startsWith("which of them")) || null;
+    const OF_EACH_CAUSE = ROWS.find(({ says }) => says.includes('"cause_of"')) || null;
 
     // what to look at where a frame ended so
     const LOOK = {

@@ -9,7 +9,7 @@ use Rattle.pl_frame.specs.declared.address.SwitchId.{SwitchId}
 use Rattle.pl_frame.specs.Ethernet.{source_of}
 use Rattle.pl_pmac.specs.declared.pmac.Pmac.{Pmac}
 use Rattle.pl_layouts.specs.declared.place.Place.{Place}
-use Rattle.pl_layouts.specs.Equality.{same_mac, same_pmac}
+use Rattle.pl_layouts.specs.Equality.{is_ip, same_mac, same_pmac}
 use Rattle.pl_layouts.specs.Placement.{is_known, is_placed}
 use Rattle.pl_logic.specs.declared.acts.Act.TheVariants as act
 use Rattle.pl_logic.specs.declared.messages.ToManager.{ToManager}
@@ -20,7 +20,7 @@ use Rattle.pl_logic.specs.declared.switch_records.Source.{Source}
 use Rattle.pl_logic.specs.SwitchViews.{SwitchView}
 use Rattle.pl_manager_rule.proofs.Kept.{pmac_itself}
 use Rattle.pl_steps.specs.Steps.{SwitchStep, rests, ◌▹◌}
-use Rattle.pl_switch_rule.specs.Granting.{address_at_port, forgets, grant_number, granted, grants_at, grants_next, grants_or_learns, grants_remembered, grants_source, in_use, is_local, is_port_spent, learns_ip, learns_source, new_grant, or_else, remembered_at, remembered_ip, remembers, same_ip, sender_ip, with_grant, with_grants}
+use Rattle.pl_switch_rule.specs.Granting.{address_at_port, forgets, grant_number, granted, grants_at, grants_next, grants_or_learns, grants_remembered, grants_source, in_use, is_local, is_port_spent, learns_ip, learns_source, new_grant, or_else, remembered_at, remembered_ip, remembers, sender_ip, with_grant, with_grants}
 use Rattle.pl_addresses.specs.OwnAddresses.{IsOwn}
 use Rattle.pl_addresses.specs.Registries.{Registry}
 use Rattle.pl_addresses.specs.EdgeAddresses.{IsGoodBook, edge_of, is_settled, tells, tells_ip}
@@ -75,7 +75,7 @@ learning_stays : (v : SwitchView) (x : Pmac) (g : Option Grant) (ip : Option Ip4
 learning_stays v x None ip = (refl, refl)
 learning_stays v x (Some g) None = (refl, refl)
 learning_stays v x (Some g) (Some ip) =
-    cond_both (same_ip g.ip ip) (rests v)
+    cond_both (is_ip g.ip ip) (rests v)
     (record { view = with_grant v x (record g { ip = Some ip }); acts = act.Tell (tell.Learned x g.amac (Some ip)) ∷ [] }) (StaysWith v)
     (λ same. (refl, refl)) (λ new. (refl, refl))
 
@@ -233,7 +233,7 @@ module _ (own : Mac → Option Ip4) (r : Registry) (id : Option SwitchId) (down 
     unfolding old known said
     keeps_known vmid None is_own u = rests_keeps own r id down v
     keeps_known vmid (Some ip) is_own u =
-        keeps_either own r id down v (same_ip u.grant.ip ip) (rests v)
+        keeps_either own r id down v (is_ip u.grant.ip ip) (rests v)
         (record { view = with_grant v (address_at_port v port vmid) (record u.grant { ip = Some ip }); acts = act.Tell (tell.Learned (address_at_port v port vmid) u.grant.amac (Some ip)) ∷ [] })
         (λ same. rests_keeps own r id down v) (λ new. keeps_learnt v port vmid mac ip settled within u is_own)
 

@@ -15,10 +15,11 @@ use Rattle.pl_logic.specs.SwitchViews.{SwitchView}
 use Rattle.pl_logic.proofs.Among.{Contains-of_among, IsAmong, among_of_Contains, any_among}
 use Rattle.pl_manager_rule.proofs.Avoided.{avoided_is_listed, listed_is_avoided, same_is}
 use Rattle.pl_switch_rule.specs.Granting.{is_local}
-use Rattle.pl_places.specs.Known.{level_of, pod_of}
+use Rattle.pl_places.specs.Known.{pod_of}
 use Rattle.pl_arrival.specs.Ways.{AreLinked}
 use Rattle.pl_arrival.proofs.Words.{any_of, differ_not_same, known_is, near_of_usable, not_both}
 use Rattle.pl_arrival.proofs.Calm.{Calm, Net, fabric, here, there, told_alive}
+use Rattle.pl_journal.specs.Flights.{label_level}
 
 -- an entry of a list, and the test for it
 entry_is : (x : SwitchId × ℕ × ℕ) (u : SwitchId) (pod position : ℕ) → ((x.0.0 == u.0) && ((x.1 == pod) && (x.2 == position))) ≡ true → x ≡ (u, pod, position)
@@ -42,7 +43,7 @@ among_avoided v u pod position h =
     (and_from (pod == pod) (position == position) (eq-eqb pod pod refl) (eq-eqb position position refl)))
 
 -- the label of an edge switch
-pub edge_label : (label : Label) → level_of label ≡ 0 → (pod i : ℕ) × (label ≡ Edge pod i)
+pub edge_label : (label : Label) → label_level label ≡ 0 → (pod i : ℕ) × (label ≡ Edge pod i)
 edge_label (Edge pod i) e = (pod, i, refl)
 edge_label (Aggregation pod j) e = absurd (cc e)
 edge_label (Core group m) e = absurd (cc e)

@@ -17,21 +17,22 @@ use Rattle.pl_switch_rule.specs.declared.came.Came.TheVariants.{FromAbove, FromB
 use Rattle.pl_switch_rule.specs.Forwarding.{is_candidate, leads_from_aggregation, leads_from_core, leads_from_edge, leads_to_pod, leads_to_position, leads_up}
 use Rattle.pl_switch_rule.specs.Granting.{is_local}
 use Rattle.pl_control_plane.proofs.Joined.{joined_labels}
-use Rattle.pl_places.specs.Known.{level_of, pod_of}
+use Rattle.pl_places.specs.Known.{pod_of}
 use Rattle.pl_places.proofs.Neighbours.{near_edge}
 use Rattle.pl_arrival.specs.Ways.{AreLinked, GoesOn, IsFirst, IsLast, IsTop, LeadsBy, LeadsDown}
 use Rattle.pl_arrival.proofs.Words.{at_aggregation, at_core, at_edge, is_of, known_is, known_other, level_differs}
 use Rattle.pl_arrival.proofs.Calm.{Calm, Net, back, fabric, here, id_of_port, place_of_port, port_here, port_usable, there, usable_leads}
 use Rattle.pl_arrival.proofs.Leading.{down_leads, leads_is_down, leads_is_top, top_leads}
 use Rattle.pl_arrival.proofs.Avoiding.{IsHome, edge_label, leads_unless, not_avoided, one_edge_pod}
+use Rattle.pl_journal.specs.Flights.{label_level}
 
 -- ---- labels
-upper_label : (label : Label) → level_of label ≡ 1 → (pod j : ℕ) × (label ≡ Aggregation pod j)
+upper_label : (label : Label) → label_level label ≡ 1 → (pod j : ℕ) × (label ≡ Aggregation pod j)
 upper_label (Edge pod i) e = absurd (cc e)
 upper_label (Aggregation pod j) e = (pod, j, refl)
 upper_label (Core group m) e = absurd (cc e)
 
-core_label : (label : Label) → level_of label ≡ 2 → (group m : ℕ) × (label ≡ Core group m)
+core_label : (label : Label) → label_level label ≡ 2 → (group m : ℕ) × (label ≡ Core group m)
 core_label (Edge pod i) e = absurd (cc e)
 core_label (Aggregation pod j) e = absurd (cc e)
 core_label (Core group m) e = (group, m, refl)
@@ -61,7 +62,7 @@ module _ (n : Net) (calm : Calm n) where
   within_k s u l = subst (λ k. l.port < k) (sym (calm.size s (here n calm s u l))) (port_here n calm s u l)
 
   -- two aggregation switches of one pod below one core switch are one
-  pub one_below : (c u a x : ℕ) → AreLinked (fabric n) c u → AreLinked (fabric n) c a → level_of (label_of n.plan.k c) ≡ 2 → (n.view u).place.level ≡ Some 1 →
+  pub one_below : (c u a x : ℕ) → AreLinked (fabric n) c u → AreLinked (fabric n) c a → label_level (label_of n.plan.k c) ≡ 2 → (n.view u).place.level ≡ Some 1 →
       (n.view a).place.level ≡ Some 1 → (n.view u).place.pod ≡ Some x → (n.view a).place.pod ≡ Some x → u ≡ a
   one_below c u a x to_u to_a two level_u level_a pod_u pod_a =
       let k = n.plan.k in
@@ -79,8 +80,8 @@ module _ (n : Net) (calm : Calm n) where
       (n.view u).place.position ≡ Some x → (n.view t).place.position ≡ Some x → u ≡ t
   one_position a u t x to_u to_t level_u level_t at_u at_t =
       let k = n.plan.k in
-      let zero_u : level_of (label_of k u) ≡ 0 = sym ((calm.own u).level 0 level_u) in
-      let zero_t : level_of (label_of k t) ≡ 0 = sym ((calm.own t).level 0 level_t) in
+      let zero_u : label_level (label_of k u) ≡ 0 = sym ((calm.own u).level 0 level_u) in
+      let zero_t : label_level (label_of k t) ≡ 0 = sym ((calm.own t).level 0 level_t) in
       let one = edge_label (label_of k u) zero_u in
       let other = edge_label (label_of k t) zero_t in
       let p = (near_edge (label_of k a) (label_of k u) (joined_labels n.plan a to_u.port u to_u.by.into calm.is to_u.by.joined) zero_u).1 in

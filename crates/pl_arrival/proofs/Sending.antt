@@ -40,7 +40,6 @@ use Rattle.pl_world.specs.WorldRule.{SwitchTurn}
 use Rattle.pl_world.specs.Worlds.{WorldView}
 use Rattle.pl_world.proofs.Counts.{all_found}
 use Rattle.pl_control_plane.proofs.Joined.{joined_there}
-use Rattle.pl_places.specs.Known.{level_of}
 use Rattle.pl_arrival.specs.Reach.{IsPlainTo, Reaches}
 use Rattle.pl_addresses.specs.Registered.{IsRegisteredBy}
 use Rattle.pl_arrival.specs.Ways.{GoesOn, LeadsDown, fabric_of}
@@ -56,6 +55,7 @@ use Rattle.pl_arrival.proofs.Track.{IsOnTrack}
 use Rattle.pl_arrival.proofs.Track.IsHeaded.{FromEdge}
 use Rattle.pl_arrival.proofs.Track.OnTrack.{Leaves, Under}
 use Rattle.pl_arrival.proofs.Views.{view_after}
+use Rattle.pl_journal.specs.Flights.{label_level}
 
 no_upper : (o : Option ℕ) → ((y : ℕ) → o ≡ Some y → y ≡ 0) → (is_known o 1 || is_known o 2) ≡ false
 no_upper None zero = refl
@@ -125,7 +125,7 @@ module _ (old new : WorldView) (r : Ready old) (ahead : Ready new) (h g : ℕ) (
           or_right (port_of v from.stand.port).host (is_none (port_of v from.stand.port).heard)
           (ap (λ (u : SwitchView). is_none (port_of u from.stand.port).heard) (sym view) ∙ ap is_none unheard) in
           let low : here < edge_count old.plan.k = subst (λ n. here < edge_count n) (sym k) at.edge in
-          let edge = no_upper v.place.level (λ y e. (r.calm.own here).level y (ap (λ (u : SwitchView). u.place.level) view ∙ e) ∙ ap level_of (label_of-edge old.plan.k here low)) in
+          let edge = no_upper v.place.level (λ y e. (r.calm.own here).level y (ap (λ (u : SwitchView). u.place.level) view ∙ e) ∙ ap label_level (label_of-edge old.plan.k here low)) in
           let u = turn.ruled.steps.view in
           let used = subst (λ w. HasInUse w from.stand.port (source_of frame)) (sym after_is ∙ u) in_use in
           let e = enters turn.ruled.choose from.stand.port frame plain.readable plain.not_taken v shaped within long data_frame accepts edge used in

@@ -15,14 +15,14 @@ use Rattle.pl_wiring.proofs.Ends.{at_contained}
 use Rattle.pl_wiring.proofs.LabelOrder.{label_of-number_of}
 use Rattle.pl_wiring.proofs.Linked.{peer_is_switch}
 use Rattle.pl_control_plane.proofs.Joined.{joined_labels}
-use Rattle.pl_places.specs.Known.{level_of}
 use Rattle.pl_places.proofs.Neighbours.{near_edge}
 use Rattle.pl_arrival.specs.Ways.{AreLinked, IsLast, LeadsDown}
 use Rattle.pl_arrival.proofs.Calm.{Calm, Net, back, fabric, place_of_port, there}
 use Rattle.pl_arrival.proofs.Avoiding.{IsHome}
 use Rattle.pl_arrival.proofs.Rows.{one_below, pod_above}
+use Rattle.pl_journal.specs.Flights.{label_level}
 
-core_above : (a c : Label) → IsBelow a c → level_of a ≡ 1 → level_of c ≡ 2
+core_above : (a c : Label) → IsBelow a c → label_level a ≡ 1 → label_level c ≡ 2
 core_above (Aggregation p j) (Core g m) below e = refl
 core_above (Aggregation p j) (Edge q i) below e = absurd below
 core_above (Aggregation p j) (Aggregation q i) below e = absurd below
@@ -56,7 +56,7 @@ up_of n calm a b any =
 
 module _ (n : Net) (calm : Calm n) where
   -- what a known level is
-  level_is : (s x : ℕ) → level_of (label_of n.plan.k s) ≡ x → ((n.view s).place.level ≡ None → ⊥) → (n.view s).place.level ≡ Some x
+  level_is : (s x : ℕ) → label_level (label_of n.plan.k s) ≡ x → ((n.view s).place.level ≡ None → ⊥) → (n.view s).place.level ≡ Some x
   level_is s x label some = by (n.view s).place.level refl
     where
       by : (o : Option ℕ) → (n.view s).place.level ≡ o → (n.view s).place.level ≡ Some x
@@ -67,7 +67,7 @@ module _ (n : Net) (calm : Calm n) where
   record IsAbove (s x a : ℕ) : Type 0 where
     level : (n.view a).place.level ≡ Some 1
     pod : (n.view a).place.pod ≡ Some x
-    label : level_of (label_of n.plan.k a) ≡ 1
+    label : label_level (label_of n.plan.k a) ≡ 1
 
   above : (s x a : ℕ) → AreLinked (fabric n) s a → (n.view s).place.level ≡ Some 0 → (n.view s).place.pod ≡ Some x → IsAbove s x a
   above s x a l level of_pod =

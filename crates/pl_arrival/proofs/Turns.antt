@@ -21,7 +21,7 @@ use Rattle.pl_wiring.specs.Plan.{Plan}
 use Rattle.pl_journal.specs.declared.entry.Entry.TheVariants.{Arrived}
 use Rattle.pl_logic.specs.declared.reception.Reception.{Reception}
 use Rattle.pl_logic.specs.declared.reception.Reception.TheVariants.{Kept}
-use Rattle.pl_logic.specs.HostDuties.{HostsKeepFrames, is_of, is_routed}
+use Rattle.pl_logic.specs.HostDuties.{HostsKeepFrames, is_of}
 use Rattle.pl_logic.specs.HostInputs.{HostRule}
 use Rattle.pl_logic.specs.HostInputs.HostAnswer.{Received}
 use Rattle.pl_logic.specs.HostInputs.HostInput.{Receives}
@@ -50,6 +50,7 @@ use Rattle.pl_arrival.proofs.Sending.{sends_out}
 use Rattle.pl_arrival.proofs.Staying.{Goes, goes_at_switch, goes_heard, goes_host, goes_noted, goes_receives, goes_self, goes_then}
 use Rattle.pl_arrival.proofs.Track.{IsOnTrack, IsTakenLeaving, IsTakenUnder, IsTakenWaiting, OnTrack, split_hosts, split_out, still_on}
 use Rattle.pl_arrival.proofs.Track.OnTrack.{Came}
+use Rattle.pl_journal.specs.Causes.{is_routed}
 
 -- ---- what stays
 pub comes_in_goes : (w : WorldView) (h : ℕ) (item : Item) (o : Option Stand) (new : WorldView) → ComesIn Loose w h item o new → Goes w new

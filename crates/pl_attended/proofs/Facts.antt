@@ -21,7 +21,7 @@ use Rattle.pl_world.specs.Flying.{IsDataItem, IsItem}
 use Rattle.pl_world.specs.Worlds.{WorldView}
 use Rattle.pl_control_plane.specs.ControlPlanes.{control_plane, no_switch}
 use Rattle.pl_control_plane.specs.HostsAtEdges.{IsAtEdge}
-use Rattle.pl_places.specs.Known.{IsOwn, level_of}
+use Rattle.pl_places.specs.Known.{IsOwn}
 use Rattle.pl_addresses.specs.Addressed.{KnowNeighbours}
 use Rattle.pl_addresses.specs.OwnFrames.{HostsAreOwn}
 use Rattle.pl_addresses.proofs.Turns.{all_here}
@@ -29,6 +29,7 @@ use Rattle.pl_kept.specs.Kept.{Kept}
 use Rattle.pl_kept.proofs.Grounding.{grounded}
 use Rattle.pl_attended.proofs.Rows.{IsReady}
 use Rattle.pl_attended.proofs.Sources.{IsLow}
+use Rattle.pl_journal.specs.Flights.{label_level}
 
 -- a host port of an edge switch takes in hosts
 pub record IsHome (v : SwitchView) (port : ℕ) : Type 0 where
@@ -55,7 +56,7 @@ not_level k s n place edge own other = by place.level refl
     by : (o : Option ℕ) → place.level ≡ o → is_known o n ≡ false
     by None is = refl
     by (Some m) is =
-        let zero_is : m ≡ 0 = own.level m is ∙ ap (λ (l : Label). level_of l) (label_of-edge k s edge) in
+        let zero_is : m ≡ 0 = own.level m is ∙ ap (λ (l : Label). label_level l) (label_of-edge k s edge) in
         ap (λ x. x == n) zero_is ∙ other
 
 takes_hosts : (r : PortRecord) → r.heard ≡ None → is_open_to_hosts r ≡ true

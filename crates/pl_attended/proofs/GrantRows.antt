@@ -26,7 +26,7 @@ use Rattle.pl_journal.specs.declared.cause.Cause.TheVariants as cause
 use Rattle.pl_steps.specs.Steps.{SwitchStep, does, rests, ◌▹◌}
 use Rattle.pl_switch_rule.specs.Delivering.{makes}
 use Rattle.pl_switch_rule.specs.Forwarding.{Choice}
-use Rattle.pl_switch_rule.specs.Granting.{address_at_port, forgets, grant_number, granted, grants_at, grants_next, grants_or_learns, grants_remembered, grants_source, in_use, is_granted, is_port_spent, learns_ip, learns_source, or_else, remembered_at, remembered_ip, remembers, same_ip, sender_ip, with_grant}
+use Rattle.pl_switch_rule.specs.Granting.{address_at_port, forgets, grant_number, granted, grants_at, grants_next, grants_or_learns, grants_remembered, grants_source, in_use, is_granted, is_port_spent, learns_ip, learns_source, or_else, remembered_at, remembered_ip, remembers, sender_ip, with_grant}
 use Rattle.pl_switch_rule.specs.Intake.{comes_from_host, takes_in_or_spent}
 use Rattle.pl_switch_rule.specs.Levels.{after_message, becomes_edge, changes_to, finds_host, has_become_placed, settles_in, with_pod}
 use Rattle.pl_switch_rule.specs.Messages.{answer_frame, flood_frame, floods, forgets_members, invalidates, probes, sets_trap, takes_pod}
@@ -37,6 +37,7 @@ use Rattle.pl_switch_rule.proofs.StepParts.{all_append}
 use Rattle.pl_addresses.proofs.Asides.{changes_silent, floods_aside, forgets_members_aside, makes_aside, probes_aside, proposal_aside, switch_frame_aside, takes_in_aside, ticks_aside}
 use Rattle.pl_addresses.proofs.Placing.{IsPlacing, edge_placing, message_placing, pod_placing, vote_placing}
 use Rattle.pl_addresses.proofs.Rows.{AreSilent, IsAside, aside_does, aside_then}
+use Rattle.pl_layouts.specs.Equality.{is_ip}
 
 -- what is found where something may have been put
 found_source : (P : Option Source → Type 0) (xs : List (Option Source)) (n m : ℕ) (x : Option Source) → P (get_or xs m None) → (m ≡ n → P x) → P (get_or (set xs n x) m None)
@@ -98,7 +99,7 @@ module _ (P : ℕ → Mac → Type 0) where
   fits_ip v x None ip = fits_rests v
   fits_ip v x (Some g) None = fits_rests v
   fits_ip v x (Some g) (Some ip) =
-      fits_either v (same_ip g.ip ip) (rests v) (record { view = with_grant v x (record g { ip = Some ip }); acts = act.Tell (tell.Learned x g.amac (Some ip)) ∷ [] })
+      fits_either v (is_ip g.ip ip) (rests v) (record { view = with_grant v x (record g { ip = Some ip }); acts = act.Tell (tell.Learned x g.amac (Some ip)) ∷ [] })
       (λ h. fits_rests v) (λ h. record { holds = λ r. r; grants = λ r. (tt, tt) })
 
   fits_mac : (v : SwitchView) (port : ℕ) (mac : Mac) (ip : Option Ip4) (o : Option ℕ) → P port mac → Fits v (grants_or_learns v port mac ip o)

@@ -14,11 +14,12 @@ use Rattle.pl_logic.specs.declared.switch_records.Source.{Source}
 use Rattle.pl_logic.specs.PortRecords.{ports_of_switch}
 use Rattle.pl_logic.specs.SwitchViews.{SwitchView}
 use Rattle.pl_steps.specs.Steps.{SwitchStep, rests, ◌▹◌}
-use Rattle.pl_switch_rule.specs.Granting.{address_at_port, forgets, grant_number, grants_at, grants_next, grants_or_learns, grants_remembered, grants_source, in_use, is_port_spent, learns_ip, new_grant, remembered_at, same_ip, with_grant}
+use Rattle.pl_switch_rule.specs.Granting.{address_at_port, forgets, grant_number, grants_at, grants_next, grants_or_learns, grants_remembered, grants_source, in_use, is_port_spent, learns_ip, new_grant, remembered_at, with_grant}
 use Rattle.pl_switch_rule.specs.Levels.{changes_to, has_become_placed}
 use Rattle.pl_addresses.specs.EdgeAddresses.{is_settled}
 use Rattle.pl_addresses.proofs.Placing.{IsPlacing}
 use Rattle.pl_attended.proofs.Sources.{HasPort, IsLow, IsSameAt, KnowsAt, ServesIfRoom, by_source, low_placed, mine, one_elsewhere, same_knows, same_self, same_then}
+use Rattle.pl_layouts.specs.Equality.{is_ip}
 
 -- ---- what a part leaves of a switch, whatever it learns
 pub record IsAlike (v w : SwitchView) : Type 0 where
@@ -40,7 +41,7 @@ alike_ip : (v : SwitchView) (q vmid : ℕ) (o : Option Grant) (ip : Option Ip4) 
 alike_ip v q vmid None ip = alike_self v
 alike_ip v q vmid (Some g) None = alike_self v
 alike_ip v q vmid (Some g) (Some ip) =
-    cond_both (same_ip g.ip ip) (rests v)
+    cond_both (is_ip g.ip ip) (rests v)
     (record { view = with_grant v (address_at_port v q vmid) (record g { ip = Some ip }); acts = act.Tell (tell.Learned (address_at_port v q vmid) g.amac (Some ip)) ∷ [] })
     (λ (s : SwitchStep). IsAlike v s.view) (λ h. alike_self v) (λ h. alike_grants v q (set (grants_at v q) (vmid - 1) (record g { ip = Some ip })))
 

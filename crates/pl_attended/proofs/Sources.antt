@@ -14,11 +14,12 @@ use Rattle.pl_logic.specs.SwitchViews.{SwitchView}
 use Rattle.pl_steps.specs.Steps.{SwitchStep, rests, ◌▹◌}
 use Rattle.pl_logic.specs.declared.acts.Act.TheVariants as act
 use Rattle.pl_logic.specs.declared.messages.ToManager.TheVariants as tell
-use Rattle.pl_switch_rule.specs.Granting.{address_at_port, forgets, grant_number, grants_at, grants_next, grants_or_learns, grants_source, in_use, is_port_spent, learns_ip, learns_source, new_grant, or_else, remembered_at, remembered_ip, remembers, same_ip, sender_ip, with_grant, with_grants}
+use Rattle.pl_switch_rule.specs.Granting.{address_at_port, forgets, grant_number, grants_at, grants_next, grants_or_learns, grants_source, in_use, is_port_spent, learns_ip, learns_source, new_grant, or_else, remembered_at, remembered_ip, remembers, sender_ip, with_grant, with_grants}
 use Rattle.pl_addresses.specs.EdgeAddresses.{is_settled}
 use Rattle.pl_addresses.proofs.Numbers.{IsInUse, none_used, number_push_same, number_set_same, used_is}
 use Rattle.pl_addresses.proofs.Rows.{IsAside}
 use Rattle.pl_addresses.proofs.Words.{mac_itself}
+use Rattle.pl_layouts.specs.Equality.{is_ip}
 
 -- ---- an edge switch is placed or not: its level is not another one
 pub record IsLow (place : Place) : Type 0 where
@@ -105,7 +106,7 @@ module _ (port q : ℕ) (other : port ≢ q) where
   ip_elsewhere v vmid None ip = same_self port v
   ip_elsewhere v vmid (Some g) None = same_self port v
   ip_elsewhere v vmid (Some g) (Some ip) =
-      cond_both (same_ip g.ip ip) (rests v)
+      cond_both (is_ip g.ip ip) (rests v)
       (record { view = with_grant v (address_at_port v q vmid) (record g { ip = Some ip }); acts = act.Tell (tell.Learned (address_at_port v q vmid) g.amac (Some ip)) ∷ [] })
       (λ (s : SwitchStep). IsSameAt port v s.view) (λ h. same_self port v)
       (λ h. grants_elsewhere v (set (grants_at v q) (vmid - 1) (record g { ip = Some ip })))
@@ -174,7 +175,7 @@ module _ (me : Me) where
     pub many_remembered : length s.view.remembered ≡ length v.remembered
     pub serves : ServesIfRoom (grants_at s.view port)
 
-  ip_is : (o : Option Ip4) (ip : Ip4) → same_ip o ip ≡ true → o ≡ Some ip
+  ip_is : (o : Option Ip4) (ip : Ip4) → is_ip o ip ≡ true → o ≡ Some ip
   ip_is None ip is = absurd (false≢true is)
   ip_is (Some known) ip is = ap Some (ap (λ n. let a : Ip4 = record { 0 = n } in a) (eqb-true known.0 ip.0 is))
 
@@ -205,7 +206,7 @@ module _ (me : Me) where
         let its : ◌≡◌ {A = Option Ip4} (Some j) (Some me.ip) = is in
         let known : Grant = record u.grant { ip = Some j } in
         let new : List Grant = set (grants_at v port) (vmid - 1) known in
-        cond_both (same_ip u.grant.ip j) (rests v)
+        cond_both (is_ip u.grant.ip j) (rests v)
         (record { view = with_grant v (address_at_port v port vmid) known; acts = act.Tell (tell.Learned (address_at_port v port vmid) u.grant.amac (Some j)) ∷ [] })
         (Learns port v)
         (λ same. nothing_new (λ room. record { vmid = vmid; grant = u.grant; found = u.found; used = u.used; mac = u.mac_is; ip = ip_is u.grant.ip j same ∙ its }))

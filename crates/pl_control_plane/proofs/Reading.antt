@@ -8,11 +8,12 @@ use Rattle.pl_layouts.specs.declared.control.Control.TheVariants as control
 use Rattle.pl_layouts.specs.declared.control.Ldm.{Ldm}
 use Rattle.pl_layouts.specs.declared.control.Proposal.{Proposal}
 use Rattle.pl_layouts.specs.declared.place.Place.{Place}
-use Rattle.pl_layouts.specs.Control.{control_bytes, control_frame, control_in, is_level, is_sound_ldm}
+use Rattle.pl_layouts.specs.Control.{control_bytes, control_frame, control_in, is_sound_ldm}
 use Rattle.pl_ldp.specs.Writable.{IsId, IsWritable}
 use Rattle.pl_ldp.proofs.Written.{control_in-control_bytes}
 use Rattle.pl_control_plane.specs.ControlPlanes.{message_in}
 use Rattle.pl_control_plane.specs.Discovery.{CanBeTold, CanPropose}
+use Rattle.pl_layouts.specs.Placement.{is_known}
 
 pub written_is_read : (c : Control) → IsWritable c → message_in (control_frame c) ≡ Ok c
 unfolding message_in control_frame
@@ -20,17 +21,17 @@ written_is_read c w = ap (λ bytes. control_in bytes) (sym (append-nil (control_
 
 -- a location discovery message of a place that can be told
 level_sound : (level : Option ℕ) → ((x : ℕ) → level ≡ Some x → x < 3) →
-    (is_none level || is_level level 0 || is_level level 1 || is_level level 2) ≡ true
+    (is_none level || is_known level 0 || is_known level 1 || is_known level 2) ≡ true
 level_sound None low = refl
 level_sound (Some x) low = let less = low x refl in grind (arith, nat_tests)
 
 position_sound : (level position : Option ℕ) → ((x : ℕ) → position ≡ Some x → (level ≡ Some 0) × (x < 255)) →
-    (is_none position || is_level level 0) ≡ true
+    (is_none position || is_known level 0) ≡ true
 position_sound level None is = refl
 position_sound level (Some x) is = rw ((is x refl).0) refl
 
 pod_sound : (level pod : Option ℕ) → ((x : ℕ) → pod ≡ Some x → ((level ≡ Some 0) ⊎ (level ≡ Some 1)) × (x < 65535)) →
-    (is_none pod || is_level level 0 || is_level level 1) ≡ true
+    (is_none pod || is_known level 0 || is_known level 1) ≡ true
 pod_sound level None is = refl
 pod_sound level (Some x) is = elim (is x refl).0 [ inl e ↦ rw e refl | inr e ↦ rw e refl ]
 
@@ -49,9 +50,9 @@ pub ldm_writable : (id : SwitchId) (place : Place) (direction : ℕ) (echo : Opt
     ((x : SwitchId) → echo ≡ Some x → IsId x) → IsWritable (control.Ldm id (record { place = place; direction = direction; echo = echo }))
 ldm_writable id place direction echo is can low heard =
     let m : Ldm = record { place = place; direction = direction; echo = echo } in
-    let levels : Bool = is_none place.level || is_level place.level 0 || is_level place.level 1 || is_level place.level 2 in
-    let positions : Bool = is_none place.position || is_level place.level 0 in
-    let pods : Bool = is_none place.pod || is_level place.level 0 || is_level place.level 1 in
+    let levels : Bool = is_none place.level || is_known place.level 0 || is_known place.level 1 || is_known place.level 2 in
+    let positions : Bool = is_none place.position || is_known place.level 0 in
+    let pods : Bool = is_none place.pod || is_known place.level 0 || is_known place.level 1 in
     let one = and_from levels (nat_lt direction 3) (level_sound place.level can.level) (lt-ltb direction 3 low) in
     let two = and_from (levels && nat_lt direction 3) positions one (position_sound place.level place.position can.position) in
     let three = and_from (levels && nat_lt direction 3 && positions) pods two (pod_sound place.level place.pod can.pod) in

@@ -19,12 +19,13 @@ use Rattle.pl_logic.specs.declared.switch_records.Source.{Source}
 use Rattle.pl_logic.specs.PortRecords.{id_at, is_usable, port_of, ports_of_switch}
 use Rattle.pl_logic.specs.SwitchViews.{SwitchView}
 use Rattle.pl_steps.specs.Steps.{SwitchStep, does, rests, ◌▹◌}
-use Rattle.pl_switch_rule.specs.Granting.{address_at_port, forgets, grant_number, granted, grants_at, grants_next, grants_or_learns, grants_remembered, grants_source, in_use, is_port_spent, learns_ip, learns_source, new_grant, or_else, remembered_at, remembered_ip, remembers, same_ip, sender_ip, with_grant, with_grants}
+use Rattle.pl_switch_rule.specs.Granting.{address_at_port, forgets, grant_number, granted, grants_at, grants_next, grants_or_learns, grants_remembered, grants_source, in_use, is_port_spent, learns_ip, learns_source, new_grant, or_else, remembered_at, remembered_ip, remembers, sender_ip, with_grant, with_grants}
 use Rattle.pl_switch_rule.specs.Levels.{changes_to, has_become_placed, settles_in}
 use Rattle.pl_switch_rule.specs.Telling.{changes_told, link_to, link_told, place_told, pod_wanted}
 use Rattle.pl_control_plane.specs.ControlPlanes.{passes, sends}
 use Rattle.pl_control_plane.specs.Homes.{HasHomes}
 use Rattle.pl_world.proofs.Counts.{all_append}
+use Rattle.pl_layouts.specs.Equality.{is_ip}
 
 -- discovery sees the same
 pub record IsSeen (v w : SwitchView) : Type 0 where
@@ -203,7 +204,7 @@ learns_ip_silent v address None ip host homes = still_does v [] homes tt
 learns_ip_silent v address (Some grant) None host homes = still_does v [] homes tt
 learns_ip_silent v address (Some grant) (Some ip) host homes =
     let new : Grant = record grant { ip = Some ip } in
-    silent_if v (same_ip grant.ip ip) (rests v) (record { view = with_grant v address new; acts = act.Tell (Learned address grant.amac (Some ip)) ∷ [] })
+    silent_if v (is_ip grant.ip ip) (rests v) (record { view = with_grant v address new; acts = act.Tell (Learned address grant.amac (Some ip)) ∷ [] })
     (λ e. still_does v [] homes tt)
     (λ e. still_step v (with_grant v address new) (act.Tell (Learned address grant.amac (Some ip)) ∷ []) (seen_grants v address.port _)
     (grants_homes v address.port _ host homes) (tt, tt))

@@ -22,10 +22,10 @@ use Rattle.pl_world.specs.Changes.{out_of}
 use Rattle.pl_world.specs.Worlds.{WorldView}
 use Rattle.pl_copies.specs.Alone.{AreAlone, goes_up, is_above, rising}
 use Rattle.pl_copies.specs.Copies.{ComesOnce, comes_from_place, count_all, count_in, has_root, leads_to, may_come, may_come_by}
-use Rattle.pl_copies.specs.Standing.{rank}
 use Rattle.pl_copies.proofs.Runs.{born_at_most_one, count_all-at}
 use Rattle.pl_copies.proofs.Ways.{Rung, label_there, rung}
 use Rattle.pl_copies.proofs.Ways.Rung.{DownFromCore, DownToEdge, UpFromEdge, UpToCore}
+use Rattle.pl_journal.specs.Flights.{label_level}
 
 -- what passes one test passes another
 fewer_in : (p q : ℕ → List ℕ → Bool) → ((id : ℕ) (frame : List ℕ) → p id frame ≡ true → q id frame ≡ true) → (items : List Item) → count_in p items ≤ count_in q items
@@ -48,7 +48,7 @@ fewer_all p q also (queue ∷ queues) =
     omega (arith, here, rest)
 
 -- what goes up may come to every port for hosts
-up_leads : (from to : Label) (itself : Bool) (edge : Label) → nat_lt (rank from) (rank to) ≡ true → leads_to from to itself edge ≡ true
+up_leads : (from to : Label) (itself : Bool) (edge : Label) → nat_lt (label_level from) (label_level to) ≡ true → leads_to from to itself edge ≡ true
 up_leads (Edge p i) to itself edge up = refl
 up_leads (Aggregation p j) (Edge q i) itself edge up = absurd (false≢true up)
 up_leads (Aggregation p j) (Aggregation q i) itself edge up = refl

@@ -28,13 +28,14 @@ use Rattle.pl_switch_rule.specs.declared.came.Way.TheVariants.{Down, Nowhere, To
 use Rattle.pl_switch_rule.specs.Forwarding.{came_between, came_by}
 use Rattle.pl_switch_rule.specs.GroupForwarding.{at_most_one, destination_group, forwards_group, group_ports, is_down, is_reached, is_source, is_up, no_way, passes_or_drops, way_of}
 use Rattle.pl_copies.specs.Copies.{leads_to, may_come}
-use Rattle.pl_copies.specs.Standing.{KnowsTree, rank}
+use Rattle.pl_copies.specs.Standing.{KnowsTree}
 use Rattle.pl_copies.proofs.Changing.{claim, claim_at_most_one}
 use Rattle.pl_copies.proofs.Acting.{used}
 use Rattle.pl_copies.proofs.Ways.{CountsAlone, LeadsDown, Rung, leads_apart, leads_within, may_come_down, one_only, one_port, rung, sum_of}
 use Rattle.pl_copies.proofs.Ways.Rung.{DownFromCore, DownToEdge, UpFromEdge, UpToCore}
+use Rattle.pl_journal.specs.Flights.{label_level}
 
--- which way a frame of a group goes, by the rank of the switch and of the neighbour that it came from
+-- which way a frame of a group goes, by the level of the switch and of the neighbour that it came from
 abbrev pub GoesBy : ℕ → ℕ → Way → Type 0
 GoesBy own other Up = other < own
 GoesBy own other Down = (own ≡ 2) ⊎ ((own ≡ 1) × (own < other))
@@ -141,20 +142,20 @@ module _ (plan : Plan) (is_plan : IsPlan plan) (t : ℕ) (v : SwitchView) (knows
       by_both (Some part) None part_is id_is is = absurd (false≢true is)
       by_both (Some part) (Some id) part_is id_is is = record { part = part; id = id; part_is = part_is; id_is = id_is; named = is }
 
-  pub below : (group q : ℕ) (u : SwitchNo) (r : ℕ) → IsNamedDown group q → peer_of plan t q ≡ Switch u r → rank (label_of plan.k u.0) + 1 ≡ rank (label_of plan.k t)
+  pub below : (group q : ℕ) (u : SwitchNo) (r : ℕ) → IsNamedDown group q → peer_of plan t q ≡ Switch u r → label_level (label_of plan.k u.0) + 1 ≡ label_level (label_of plan.k t)
   below group q u r n peer = knows.down group n.part q u r n.id n.part_is peer n.id_is n.named
 
   pub above : (group q : ℕ) (u : SwitchNo) (r : ℕ) → is_up (part_of v group) (id_at v q) ≡ true → peer_of plan t q ≡ Switch u r →
-      rank (label_of plan.k u.0) ≡ rank (label_of plan.k t) + 1
+      label_level (label_of plan.k u.0) ≡ label_level (label_of plan.k t) + 1
   above group q u r leads peer = by_both (part_of v group) (id_at v q) refl refl leads
     where
       by_up : (part : TreePart) (id : SwitchId) (o : Option SwitchId) → part_of v group ≡ Some part → id_at v q ≡ Some id → part.up ≡ o →
-          is_up (Some (record { up = o; down = part.down })) (Some id) ≡ true → rank (label_of plan.k u.0) ≡ rank (label_of plan.k t) + 1
+          is_up (Some (record { up = o; down = part.down })) (Some id) ≡ true → label_level (label_of plan.k u.0) ≡ label_level (label_of plan.k t) + 1
       by_up part id None part_is id_is up_is is = absurd (false≢true is)
       by_up part id (Some x) part_is id_is up_is is = knows.up group part q u r id part_is peer id_is
           (up_is ∙ ap Some (ap (λ n. let y : SwitchId = record { 0 = n } in y) (eqb-true x.0 id.0 is)))
 
-      by_both : (o : Option TreePart) (x : Option SwitchId) → part_of v group ≡ o → id_at v q ≡ x → is_up o x ≡ true → rank (label_of plan.k u.0) ≡ rank (label_of plan.k t) + 1
+      by_both : (o : Option TreePart) (x : Option SwitchId) → part_of v group ≡ o → id_at v q ≡ x → is_up o x ≡ true → label_level (label_of plan.k u.0) ≡ label_level (label_of plan.k t) + 1
       by_both None x part_is id_is is = absurd (false≢true is)
       by_both (Some part) None part_is id_is is = absurd (no_id part.up is)
         where
@@ -196,33 +197,33 @@ module _ (plan : Plan) (is_plan : IsPlan plan) (t : ℕ) (v : SwitchView) (knows
     claim_is b is = claim_of_group plan s port there frame b group (ap (λ p. may_come plan.k s port p there) peer
         ∙ ap (λ n. leads_to (label_of plan.k s) (label_of plan.k n) (n == there.edge) (label_of plan.k there.edge)) itself ∙ is)
 
-    most_up : rank (label_of plan.k s) < rank (label_of plan.k t) → claim plan s port there frame ≡ 1
+    most_up : label_level (label_of plan.k s) < label_level (label_of plan.k t) → claim plan s port there frame ≡ 1
     most_up less = by_rung came_rung
       where
         by_rung : Rung plan.k s t → claim plan s port there frame ≡ 1
         by_rung (UpFromEdge p i j from to) = claim_is true (rw from refl)
         by_rung (UpToCore p j m from to) = claim_is true (rw (from, to) refl)
-        by_rung (DownFromCore p j m from to) = (let x = ap rank from in let y = ap rank to in absurd (omega arith))
-        by_rung (DownToEdge p i j from to) = (let x = ap rank from in let y = ap rank to in absurd (omega arith))
+        by_rung (DownFromCore p j m from to) = (let x = ap label_level from in let y = ap label_level to in absurd (omega arith))
+        by_rung (DownToEdge p i j from to) = (let x = ap label_level from in let y = ap label_level to in absurd (omega arith))
 
-    most_at_core : rank (label_of plan.k t) ≡ 2 → claim plan s port there frame ≡ 1
+    most_at_core : label_level (label_of plan.k t) ≡ 2 → claim plan s port there frame ≡ 1
     most_at_core two = by_rung came_rung
       where
         by_rung : Rung plan.k s t → claim plan s port there frame ≡ 1
-        by_rung (UpFromEdge p i j from to) = (let y = ap rank to in absurd (omega arith))
+        by_rung (UpFromEdge p i j from to) = (let y = ap label_level to in absurd (omega arith))
         by_rung (UpToCore p j m from to) = claim_is true (rw (from, to) refl)
-        by_rung (DownFromCore p j m from to) = (let y = ap rank to in absurd (omega arith))
-        by_rung (DownToEdge p i j from to) = (let y = ap rank to in absurd (omega arith))
+        by_rung (DownFromCore p j m from to) = (let y = ap label_level to in absurd (omega arith))
+        by_rung (DownToEdge p i j from to) = (let y = ap label_level to in absurd (omega arith))
 
     -- from above to an aggregation switch
-    from_core : (p : ℕ) → rank (label_of plan.k t) ≡ 1 → rank (label_of plan.k t) < rank (label_of plan.k s) → LeadsDown plan t p →
+    from_core : (p : ℕ) → label_level (label_of plan.k t) ≡ 1 → label_level (label_of plan.k t) < label_level (label_of plan.k s) → LeadsDown plan t p →
         may_come plan.k t p (peer_of plan t p) there ≡ true → 1 ≤ claim plan s port there frame
     from_core p one above d may = by_rung came_rung
       where
         by_rung : Rung plan.k s t → 1 ≤ claim plan s port there frame
-        by_rung (UpFromEdge p2 i j from to) = (let x = ap rank from in let y = ap rank to in absurd (omega arith))
-        by_rung (UpToCore p2 j m from to) = (let y = ap rank to in absurd (omega arith))
-        by_rung (DownToEdge p2 i j from to) = (let y = ap rank to in absurd (omega arith))
+        by_rung (UpFromEdge p2 i j from to) = (let x = ap label_level from in let y = ap label_level to in absurd (omega arith))
+        by_rung (UpToCore p2 j m from to) = (let y = ap label_level to in absurd (omega arith))
+        by_rung (DownToEdge p2 i j from to) = (let y = ap label_level to in absurd (omega arith))
         by_rung (DownFromCore p2 j m from to) =
             let inside = leads_within plan.k t d.to.0 there.edge p2 j to (rung plan is_plan t p d.to d.at d.peer) d.lower
             (leads_there plan is_plan t there frame group p d may) in
@@ -230,18 +231,18 @@ module _ (plan : Plan) (is_plan : IsPlan plan) (t : ℕ) (v : SwitchView) (knows
             omega arith
 
     -- from above to an edge switch
-    at_edge : (p : ℕ) → rank (label_of plan.k t) ≡ 0 → same_spot (at_port t p) there ≡ true → 1 ≤ claim plan s port there frame
+    at_edge : (p : ℕ) → label_level (label_of plan.k t) ≡ 0 → same_spot (at_port t p) there ≡ true → 1 ≤ claim plan s port there frame
     at_edge p zero_rank may = by_rung came_rung
       where
         by_rung : Rung plan.k s t → 1 ≤ claim plan s port there frame
-        by_rung (UpFromEdge p2 i j from to) = (let y = ap rank to in absurd (omega arith))
-        by_rung (UpToCore p2 j m from to) = (let y = ap rank to in absurd (omega arith))
-        by_rung (DownFromCore p2 j m from to) = (let y = ap rank to in absurd (omega arith))
+        by_rung (UpFromEdge p2 i j from to) = (let y = ap label_level to in absurd (omega arith))
+        by_rung (UpToCore p2 j m from to) = (let y = ap label_level to in absurd (omega arith))
+        by_rung (DownFromCore p2 j m from to) = (let y = ap label_level to in absurd (omega arith))
         by_rung (DownToEdge p2 i j from to) =
             let all = claim_is true (rw (from, to) (and_parts (t == there.edge) (p == there.port) may).0) in
             omega arith
 
-    few_by : (way : Way) (number : ℕ) (source : Pmac) → GoesBy (rank (label_of plan.k t)) (rank (label_of plan.k s)) way →
+    few_by : (way : Way) (number : ℕ) (source : Pmac) → GoesBy (label_level (label_of plan.k t)) (label_level (label_of plan.k s)) way →
         sum_of (λ p. claim plan t p there frame) (group_ports v way number source) ≤ claim plan s port there frame
     few_by Up number source less =
         let most = most_up less in
@@ -271,7 +272,7 @@ module _ (plan : Plan) (is_plan : IsPlan plan) (t : ℕ) (v : SwitchView) (knows
         let number : ℕ = destination_group frame in
         let source : Pmac = pmac_of (source_of frame) in
         let way : Way = way_of v.place (came_by v q) in
-        let by = ways v.place.level v.place.position v.place.pod (place_at v q).level (rank (label_of plan.k t)) (rank (label_of plan.k s)) knows.level
+        let by = ways v.place.level v.place.position v.place.pod (place_at v q).level (label_level (label_of plan.k t)) (label_level (label_of plan.k s)) knows.level
         (λ n is. knows.near q (record { 0 = s }) port n back is) in
         let few = few_by way number source by in
         let all = passed_used plan t there frame (no_way v (came_by v q) number) (group_ports v way number source) in

@@ -18,7 +18,7 @@ use Rattle.pl_wiring.proofs.LabelOrder.{label_of-number_of, number_of-label_of}
 use Rattle.pl_wiring.proofs.Linked.{peer_says, same_between}
 use Rattle.pl_journal.specs.Places.{Spot}
 use Rattle.pl_copies.specs.Copies.{is_edge_of, leads_to, may_come}
-use Rattle.pl_copies.specs.Standing.{rank}
+use Rattle.pl_journal.specs.Flights.{label_level}
 
 -- from one switch to the other a link leads up, or down
 pub data Rung (k s t : ℕ) : Type 0 where
@@ -144,25 +144,25 @@ edge_of p (Edge q i) is = record { i = i; is = ap (λ n. Edge n i) (sym (eqb-tru
 edge_of p (Aggregation q j) is = absurd (false≢true is)
 edge_of p (Core j m) is = absurd (false≢true is)
 
-edge_label : (a b : Label) (x y : ℕ) → a ≡ b → rank a ≡ x → rank b ≡ y → x ≡ y
-edge_label a b x y same at_a at_b = sym at_a ∙ ap rank same ∙ at_b
+edge_label : (a b : Label) (x y : ℕ) → a ≡ b → label_level a ≡ x → label_level b ≡ y → x ≡ y
+edge_label a b x y same at_a at_b = sym at_a ∙ ap label_level same ∙ at_b
 
 -- a port that leads down
 pub record LeadsDown (plan : Plan) (s q : ℕ) : Type 0 where
   pub to : SwitchNo
   pub at : ℕ
   pub peer : peer_of plan s q ≡ Switch to at
-  pub lower : rank (label_of plan.k to.0) < rank (label_of plan.k s)
+  pub lower : label_level (label_of plan.k to.0) < label_level (label_of plan.k s)
 
 pub may_come_down : (k s q : ℕ) (to : SwitchNo) (at : ℕ) (peer : Peer) (there : Spot) → peer ≡ Switch to at → may_come k s q peer there ≡ true →
     leads_to (label_of k s) (label_of k to.0) (to.0 == there.edge) (label_of k there.edge) ≡ true
 may_come_down k s q to at peer there is may = sym (ap (λ p. may_come k s q p there) is) ∙ may
 
 -- what leads down to one edge switch is one switch
-pub leads_apart : (k s t u e : ℕ) → Rung k s t → Rung k s u → rank (label_of k t) < rank (label_of k s) → rank (label_of k u) < rank (label_of k s) →
+pub leads_apart : (k s t u e : ℕ) → Rung k s t → Rung k s u → label_level (label_of k t) < label_level (label_of k s) → label_level (label_of k u) < label_level (label_of k s) →
     leads_to (label_of k s) (label_of k t) (t == e) (label_of k e) ≡ true → leads_to (label_of k s) (label_of k u) (u == e) (label_of k e) ≡ true → t ≡ u
-leads_apart k s t u e (UpFromEdge p i j at to) r low lower a b = absurd (let x = ap rank at in let y = ap rank to in omega arith)
-leads_apart k s t u e (UpToCore p j m at to) r low lower a b = absurd (let x = ap rank at in let y = ap rank to in omega arith)
+leads_apart k s t u e (UpFromEdge p i j at to) r low lower a b = absurd (let x = ap label_level at in let y = ap label_level to in omega arith)
+leads_apart k s t u e (UpToCore p j m at to) r low lower a b = absurd (let x = ap label_level at in let y = ap label_level to in omega arith)
 leads_apart k s t u e (DownFromCore p j m at to) (UpFromEdge p2 i2 j2 at2 to2) low lower a b = (let x = sym at ∙ at2 in absurd (cc))
 leads_apart k s t u e (DownFromCore p j m at to) (UpToCore p2 j2 m2 at2 to2) low lower a b = (let x = sym at ∙ at2 in absurd (cc))
 leads_apart k s t u e (DownFromCore p j m at to) (DownToEdge p2 i2 j2 at2 to2) low lower a b = (let x = sym at ∙ at2 in absurd (cc))
@@ -177,7 +177,7 @@ leads_apart k s t u e (DownFromCore p j m at to) (DownFromCore p2 j2 m2 at2 to2)
     let groups : j ≡ j2 = cc in
     same_label k t u (to ∙ ap (λ n. Aggregation n j) pods ∙ ap (λ n. Aggregation p2 n) groups ∙ sym to2)
 leads_apart k s t u e (DownToEdge p i j at to) (UpFromEdge p2 i2 j2 at2 to2) low lower a b = (let x = sym at ∙ at2 in absurd (cc))
-leads_apart k s t u e (DownToEdge p i j at to) (UpToCore p2 j2 m2 at2 to2) low lower a b = absurd (let x = ap rank at2 in let y = ap rank to2 in omega arith)
+leads_apart k s t u e (DownToEdge p i j at to) (UpToCore p2 j2 m2 at2 to2) low lower a b = absurd (let x = ap label_level at2 in let y = ap label_level to2 in omega arith)
 leads_apart k s t u e (DownToEdge p i j at to) (DownFromCore p2 j2 m2 at2 to2) low lower a b = (let x = sym at ∙ at2 in absurd (cc))
 leads_apart k s t u e (DownToEdge p i j at to) (DownToEdge p2 i2 j2 at2 to2) low lower a b =
     let one : (t == e) ≡ true = rw (at, to) at a in
@@ -185,10 +185,10 @@ leads_apart k s t u e (DownToEdge p i j at to) (DownToEdge p2 i2 j2 at2 to2) low
     eqb-true t e one ∙ sym (eqb-true u e two)
 
 -- what leads down from an aggregation switch leads to its pod
-pub leads_within : (k s t e p j : ℕ) → label_of k s ≡ Aggregation p j → Rung k s t → rank (label_of k t) < rank (label_of k s) →
+pub leads_within : (k s t e p j : ℕ) → label_of k s ≡ Aggregation p j → Rung k s t → label_level (label_of k t) < label_level (label_of k s) →
     leads_to (label_of k s) (label_of k t) (t == e) (label_of k e) ≡ true → is_edge_of p (label_of k e) ≡ true
 leads_within k s t e p j at (UpFromEdge p2 i2 j2 at2 to2) lower is = (let x = sym at ∙ at2 in absurd (cc))
-leads_within k s t e p j at (UpToCore p2 j2 m2 at2 to2) lower is = absurd (let x = ap rank at2 in let y = ap rank to2 in omega arith)
+leads_within k s t e p j at (UpToCore p2 j2 m2 at2 to2) lower is = absurd (let x = ap label_level at2 in let y = ap label_level to2 in omega arith)
 leads_within k s t e p j at (DownFromCore p2 j2 m2 at2 to2) lower is = (let x = sym at ∙ at2 in absurd (cc))
 leads_within k s t e p j at (DownToEdge p2 i2 j2 at2 to2) lower is =
     let one : (t == e) ≡ true = rw (at2, to2) at is in

@@ -9,12 +9,12 @@ use Rattle.pl_journal.specs.declared.entry.Entry.{Entry}
 use Rattle.pl_world.specs.Changes.{out_of}
 use Rattle.pl_world.specs.Worlds.{WorldView}
 use Rattle.pl_copies.specs.Copies.{count_all, count_in, has_root}
-use Rattle.pl_copies.specs.Standing.{rank}
+use Rattle.pl_journal.specs.Flights.{label_level}
 
--- what is at the other end of a port of switch s is a switch of a higher rank
+-- what is at the other end of a port of switch s is a switch of a higher level
 abbrev pub is_above : ℕ → ℕ → Peer → Bool
 is_above k s HostPort = false
-is_above k s (Switch t q) = nat_lt (rank (label_of k s)) (rank (label_of k t.0))
+is_above k s (Switch t q) = nat_lt (label_level (label_of k s)) (label_level (label_of k t.0))
 
 -- a frame of this root in the queue out of a port that leads up, by the port's place among all ports
 abbrev pub goes_up : Plan → List Entry → ℕ → ℕ → ℕ → List ℕ → Bool

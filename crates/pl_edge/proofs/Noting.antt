@@ -8,7 +8,7 @@ use Rattle.std.specs.List.{All, filter, list_any}
 use Rattle.std.specs.List.Sorted.{IsStrictlySortedBy}
 use Rattle.std.specs.Map.{keys_of, lookup}
 use Rattle.std.specs.Option.{is_some}
-use Rattle.std.specs.Ordering.{match_ordering, nat_cmp}
+use Rattle.std.specs.Ordering.{match_ordering, nat_cmp, ordering_then}
 use Rattle.std.proofs.lemmas.Bool.{cases_eq, eq-eqb, ne_eqb, true≢false}
 use Rattle.std.proofs.lemmas.Cmp.{nat_cmp_total}
 use Rattle.std.proofs.lemmas.List.Elements.{All-cons, All-head, All-nil, All-tail}
@@ -18,7 +18,7 @@ use Rattle.pl_logic.proofs.Among.{rising_inserted}
 use Rattle.pl_layouts.specs.declared.membership.Change.{Change}
 use Rattle.pl_layouts.specs.Frames.{mac_number}
 use Rattle.pl_layouts.specs.Memberships.{group_number}
-use Rattle.pl_switch_rule.specs.Intake.{changes_member, has_member_of, is_member, joins, leaves, member_cmp, then_by}
+use Rattle.pl_switch_rule.specs.Intake.{changes_member, has_member_of, is_member, joins, leaves, member_cmp}
 use Rattle.pl_members.proofs.Comparing.{equal_numbers, from_equal}
 use Rattle.pl_members.proofs.Reaching.{any_inserted}
 use Rattle.pl_edge.specs.Told.{is_noted, notes, AreNoted}
@@ -117,7 +117,7 @@ noted_changed old now after es g noted there same = record {
   ];
 }
 
-first_equal : (first next : Ordering) → then_by first next ≡ Equal → first ≡ Equal
+first_equal : (first next : Ordering) → ordering_then first next ≡ Equal → first ≡ Equal
 first_equal Less next e = e
 first_equal Equal next e = refl
 first_equal Greater next e = e
@@ -142,7 +142,7 @@ any_joined m q (x ∷ ms) = by (any_joined m q ms) (member_cmp m x) refl
     by rest Equal e =
         or_same (x.group == q) (has_member_of ms q)
         ∙ ap (λ k. (k == q) || ((x.group == q) || has_member_of ms q))
-        (sym (from_equal m.group x.group (first_equal (nat_cmp m.group x.group) (then_by (nat_cmp m.port x.port) (nat_cmp (mac_number m.amac) (mac_number x.amac))) e)))
+        (sym (from_equal m.group x.group (first_equal (nat_cmp m.group x.group) (ordering_then (nat_cmp m.port x.port) (nat_cmp (mac_number m.amac) (mac_number x.amac))) e)))
     by rest Greater e = ap (λ b. (x.group == q) || b) rest ∙ or_swap (x.group == q) (m.group == q) (has_member_of ms q)
 
 -- members of other groups stay

@@ -1,5 +1,5 @@
 -- When a fabric is settled: nothing would change what its switches and its manager know of places and links.
-use Rattle.std.specs.Prelude.{◌≡◌, ◌<◌, ℕ, ◌/◌, ◌==◌, ◌&&◌, ◌||◌, not, nat_lt, Bool, true, false, if◌then◌else◌, Option, Some, None, slice_get, [], ◌∷◌, refl}
+use Rattle.std.specs.Prelude.{◌≡◌, ◌<◌, ℕ, ◌/◌, ◌==◌, ◌&&◌, ◌||◌, not, nat_lt, Bool, true, false, Option, Some, None, slice_get, [], ◌∷◌, refl}
 use Rattle.std.specs.List.{list_any, range_with_len}
 use Rattle.pl_frame.specs.declared.address.SwitchId.{SwitchId}
 use Rattle.pl_wiring.specs.declared.link.Peer.{Peer}
@@ -12,7 +12,7 @@ use Rattle.pl_logic.specs.AvoidLists.{avoid_list}
 use Rattle.pl_logic.specs.ManagerFacts.{group_at}
 use Rattle.pl_logic.specs.ManagerViews.{ManagerView, is_told_usable, place_of}
 use Rattle.pl_logic.specs.PortRecords.{id_at, is_usable, is_usable_to, place_at, port_of}
-use Rattle.pl_logic.specs.SwitchFacts.{group_of_part, has_granted, holder_of, part_of, present_attempt, switch_at_boot}
+use Rattle.pl_logic.specs.SwitchFacts.{group_of_part, holder_of, is_news, part_of, present_attempt, switch_at_boot}
 use Rattle.pl_logic.specs.SwitchViews.{SwitchView}
 use Rattle.pl_logic.specs.Trees.{tree_part}
 use Rattle.pl_world.specs.SettledQueues.{HasSettledQueues}
@@ -38,14 +38,6 @@ is_another u edge position p = not (p == position) && is_holder edge (holder_of 
 -- it holds another position for this edge switch, which it would free
 abbrev pub holds_another : SwitchView → SwitchId → ℕ → Bool
 holds_another u edge position = list_any (is_another u edge position) (range_with_len 0 (u.k / 2))
-
--- The position is free, so that it would be held; or it is held for this edge switch, which does not know so yet; or another one holds it,
--- to which this one would give way.
-abbrev pub is_news : SwitchView → ℕ → ℕ → Option (SwitchId × Bool) → Bool
-is_news v port attempt None = true
-is_news v port attempt (Some hold) =
-    if hold.0.0 == v.id.0 then not (has_granted v port)
-    else (hold.1 || nat_lt hold.0.0 v.id.0) && not (attempt == 4294967295)
 
 abbrev pub would_change_by : SwitchView → ℕ → SwitchView → ℕ → Option (ℕ × ℕ) → Bool
 would_change_by v port u q None = false

@@ -10,10 +10,11 @@ use Rattle.pl_logic.specs.declared.switch_records.Grant.{Grant}
 use Rattle.pl_logic.specs.PortRecords.{heard_echo, heard_place, is_id, is_usable, new_port, port_of, with_port}
 use Rattle.pl_logic.specs.SwitchViews.{SwitchView}
 use Rattle.pl_steps.specs.Steps.{SwitchStep, rests}
-use Rattle.pl_switch_rule.specs.Granting.{learns_ip, same_ip}
+use Rattle.pl_switch_rule.specs.Granting.{learns_ip}
 use Rattle.pl_switch_rule.specs.Levels.{becomes_edge, finds_host, has_become_placed, pod_told_before}
 use Rattle.pl_switch_rule.specs.Telling.{changes_told}
 use Rattle.pl_flights.specs.Standing.{KnowsNeighbours}
+use Rattle.pl_layouts.specs.Equality.{is_ip}
 
 abbrev placed_at : Option ℕ → Option ℕ → Option ℕ → Place
 placed_at level position pod = record { level = level; position = position; pod = pod }
@@ -108,5 +109,5 @@ Alike v step = LooksAlike v step.view
 ip_alike : (v : SwitchView) (x : Pmac) (o : Option Grant) (ip : Option Ip4) → Alike v (learns_ip v x o ip)
 ip_alike v x None ip = record { place = refl; heard = λ q. refl; usable = λ q. refl }
 ip_alike v x (Some grant) None = record { place = refl; heard = λ q. refl; usable = λ q. refl }
-ip_alike v x (Some grant) (Some ip) = cond_both (same_ip grant.ip ip) (rests v) _ (Alike v)
+ip_alike v x (Some grant) (Some ip) = cond_both (is_ip grant.ip ip) (rests v) _ (Alike v)
     (λ known. record { place = refl; heard = λ q. refl; usable = λ q. refl }) (λ new. record { place = refl; heard = λ q. refl; usable = λ q. refl })

@@ -11,7 +11,7 @@ use Rattle.pl_wiring.specs.declared.link.Peer.TheVariants.{HostPort, Switch}
 use Rattle.pl_wiring.specs.Labels.{label_of}
 use Rattle.pl_wiring.specs.Peers.{peer_of}
 use Rattle.pl_wiring.specs.Plan.{IsPlan, Plan}
-use Rattle.pl_journal.specs.Flights.{level_of}
+use Rattle.pl_journal.specs.Flights.{label_level, level_of}
 use Rattle.pl_journal.specs.Places.{is_host_port}
 use Rattle.pl_logic.specs.PortRecords.{id_at, is_usable, place_at, ports_of_switch}
 use Rattle.pl_logic.specs.SwitchFacts.{part_of}
@@ -20,12 +20,11 @@ use Rattle.pl_switch_rule.specs.declared.came.Way.{Way}
 use Rattle.pl_switch_rule.specs.declared.came.Way.TheVariants.{Down, Nowhere, ToHosts, Up}
 use Rattle.pl_switch_rule.specs.Forwarding.{came_by}
 use Rattle.pl_switch_rule.specs.GroupForwarding.{at_most_one, group_ports, is_down, is_reached, is_source, is_up, way_of}
-use Rattle.pl_copies.specs.Standing.{KnowsTree, rank}
+use Rattle.pl_copies.specs.Standing.{KnowsTree}
 use Rattle.pl_copies.proofs.Spreading.{GoesBy, above, below, for_hosts, named_down, ways}
 use Rattle.pl_flights.specs.Routes.{fallen, levels, risen_or_fallen}
-use Rattle.pl_flights.proofs.Legs.{level, level_is}
-use Rattle.pl_flights.proofs.Rungs.{Rung, rung}
-use Rattle.pl_flights.proofs.Rungs.Rung.{DownFromCore, DownToEdge, UpFromEdge, UpToCore}
+use Rattle.pl_copies.proofs.Ways.{Rung, rung}
+use Rattle.pl_copies.proofs.Ways.Rung.{DownFromCore, DownToEdge, UpFromEdge, UpToCore}
 
 pub all_filtered : (P : ℕ → Type 0) (test : ℕ → Bool) → ((p : ℕ) → test p ≡ true → P p) → (ports : List ℕ) → AllByRecursion P (filter test ports)
 all_filtered P test passes [] = tt
@@ -38,15 +37,6 @@ pub first_alone : (P : ℕ → Type 0) (ports : List ℕ) → AllByRecursion P p
 first_alone P [] all = tt
 first_alone P (p ∷ ports) all = (all.0, tt)
 
--- a rank is a level
-rank_is : (label : Label) → rank label ≡ level label
-rank_is (Edge p i) = refl
-rank_is (Aggregation p j) = refl
-rank_is (Core j m) = refl
-
-pub rank_level : (k s : ℕ) → rank (label_of k s) ≡ level_of k s
-rank_level k s = rank_is (label_of k s) ∙ sym (level_is k s)
-
 -- the levels of the two ends of a link
 pub data Levels (here there : ℕ) : Type 0 where
   FromEdge : here ≡ 0 → there ≡ 1 → Levels here there
@@ -55,10 +45,10 @@ pub data Levels (here there : ℕ) : Type 0 where
   ToEdge : here ≡ 1 → there ≡ 0 → Levels here there
 
 pub link_levels : (plan : Plan) (s q : ℕ) (t : SwitchNo) (p : ℕ) → IsPlan plan → peer_of plan s q ≡ Switch t p → Levels (level_of plan.k s) (level_of plan.k t.0)
-link_levels plan s q t p is peer = by (rung plan s q t p is peer)
+link_levels plan s q t p is peer = by (rung plan is s q t p peer)
   where
-    at : (n : ℕ) (label : Label) → label_of plan.k n ≡ label → level_of plan.k n ≡ level label
-    at n label same = level_is plan.k n ∙ ap level same
+    at : (n : ℕ) (label : Label) → label_of plan.k n ≡ label → level_of plan.k n ≡ label_level label
+    at n label same = ap label_level same
 
     by : Rung plan.k s t.0 → Levels (level_of plan.k s) (level_of plan.k t.0)
     by (UpFromEdge a i j here there) = FromEdge (at s (Edge a i) here) (at t.0 (Aggregation a j) there)
@@ -165,7 +155,7 @@ module _ (plan : Plan) (is_plan : IsPlan plan) (t : ℕ) (v : SwitchView) (trees
       by : (peer : Peer) → peer_of plan t p ≡ peer → GoesOn peer
       by HostPort peer = absurd (false≢true (sym (linked p both.0) ∙ ap is_host_port peer))
       by (Switch u r) peer =
-          on_up less p u r peer (sym (rank_level plan.k u.0) ∙ above plan is_plan t v trees number p u r both.1 peer ∙ ap (λ n. n + 1) (rank_level plan.k t))
+          on_up less p u r peer (above plan is_plan t v trees number p u r both.1 peer)
 
   down_at : (number : ℕ) → (here ≡ 2) ⊎ ((here ≡ 1) × (here < back)) → (p : ℕ) → (is_usable v p && is_down (part_of v number) (id_at v p)) ≡ true → GoesOn (peer_of plan t p)
   down_at number way p passes = by (peer_of plan t p) refl
@@ -176,8 +166,7 @@ module _ (plan : Plan) (is_plan : IsPlan plan) (t : ℕ) (v : SwitchView) (trees
       by : (peer : Peer) → peer_of plan t p ≡ peer → GoesOn peer
       by HostPort peer = absurd (false≢true (sym (linked p both.0) ∙ ap is_host_port peer))
       by (Switch u r) peer =
-          on_down way u r (ap (λ n. n + 1) (sym (rank_level plan.k u.0)) ∙ below plan is_plan t v trees number p u r (named_down plan is_plan t v trees number p both.1) peer
-          ∙ rank_level plan.k t)
+          on_down way u r (below plan is_plan t v trees number p u r (named_down plan is_plan t v trees number p both.1) peer)
 
   by_way : (way : Way) (number : ℕ) (source : Pmac) → GoesBy here back way → AreWaysOn plan t (t ∷ leg) (group_ports v way number source)
   by_way Up number source less = first_alone _ _ (all_filtered (λ p. GoesOn (peer_of plan t p)) _ (up_at number less) (ports_of_switch v.k))
@@ -189,5 +178,5 @@ module _ (plan : Plan) (is_plan : IsPlan plan) (t : ℕ) (v : SwitchView) (trees
   -- by whatever port it goes on
   pub ways_on : (number : ℕ) (source : Pmac) → AreWaysOn plan t (t ∷ leg) (group_ports v (way_of v.place (came_by v q)) number source)
   ways_on number source = by_way (way_of v.place (came_by v q)) number source
-      (ways v.place.level v.place.position v.place.pod (place_at v q).level here back (λ n known. trees.level n known ∙ rank_level plan.k t)
-      (λ n known. trees.near q (record { 0 = s }) port n from known ∙ rank_level plan.k s))
+      (ways v.place.level v.place.position v.place.pod (place_at v q).level here back trees.level
+      (λ n known. trees.near q (record { 0 = s }) port n from known))

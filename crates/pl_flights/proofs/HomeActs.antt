@@ -38,8 +38,8 @@ use Rattle.pl_flights.proofs.Hands.Hand.{Empty, Spreads, Waits}
 use Rattle.pl_flights.proofs.Legs.{level_at}
 use Rattle.pl_flights.proofs.Passing.{known, something}
 use Rattle.pl_flights.proofs.PmacNumbers.{number_in}
-use Rattle.pl_flights.proofs.Rungs.{Rung, rung}
-use Rattle.pl_flights.proofs.Rungs.Rung.{DownFromCore, DownToEdge, UpFromEdge, UpToCore}
+use Rattle.pl_copies.proofs.Ways.{Rung, rung}
+use Rattle.pl_copies.proofs.Ways.Rung.{DownFromCore, DownToEdge, UpFromEdge, UpToCore}
 
 two_levels : (n m : ℕ) → n ≡ 0 → n ≡ suc m → ⊥
 two_levels n m none some = omega arith
@@ -143,7 +143,7 @@ module _ (plan : Plan) (place : ℕ → Place) (book : Book) (t : ℕ) (v : Swit
     home = here.home;
     many = λ group. absurd (both_ways (is_group (destination_of frame)) here.unicast group);
     rises = λ group. absurd (both_ways (is_group (destination_of frame)) here.unicast group);
-    one = λ unicast. record { route = by_rung (rung plan t p u r is_plan peer); whole = refl; unaltered = here.unaltered; sender = here.sender };
+    one = λ unicast. record { route = by_rung (rung plan is_plan t p u r peer); whole = refl; unaltered = here.unaltered; sender = here.sender };
   }
     where
       low : level_of plan.k t ≡ 0

@@ -12,7 +12,7 @@ use Rattle.pl_pmac.proofs.Inverse.{pmac_of-mac_of}
 use Rattle.pl_wiring.specs.declared.link.Peer.TheVariants.{HostPort}
 use Rattle.pl_wiring.specs.Peers.{peer_of}
 use Rattle.pl_wiring.specs.Plan.{Plan}
-use Rattle.pl_layouts.specs.Equality.{same_mac, same_pmac}
+use Rattle.pl_layouts.specs.Equality.{is_ip, same_mac, same_pmac}
 use Rattle.pl_layouts.specs.Memberships.{is_group}
 use Rattle.pl_journal.specs.declared.entry.Entry.{Entry}
 use Rattle.pl_journal.specs.declared.entry.Entry.TheVariants.{Granted}
@@ -22,7 +22,7 @@ use Rattle.pl_logic.specs.declared.switch_records.Grant.{Grant}
 use Rattle.pl_logic.specs.declared.trap.Trap.{Trap}
 use Rattle.pl_logic.specs.SwitchViews.{SwitchView}
 use Rattle.pl_switch_rule.specs.Delivering.{grant_trap, trap_for}
-use Rattle.pl_switch_rule.specs.Granting.{address_at_port, grant_number, granted, grants_at, in_use, is_local, learns_ip, new_grant, same_ip, with_grant, with_grants}
+use Rattle.pl_switch_rule.specs.Granting.{address_at_port, grant_number, granted, grants_at, in_use, is_local, learns_ip, new_grant, with_grant, with_grants}
 use Rattle.pl_steps.specs.Steps.{SwitchStep, rests}
 use Rattle.pl_world.specs.Changes.{host_no, switch_no}
 use Rattle.pl_flights.specs.OnTheWay.{Book, book_of}
@@ -165,7 +165,7 @@ pub learns_of : (v : SwitchView) (port vmid : ℕ) → is_settled v.place ≡ tr
     grant_number (grants_at v port) vmid ≡ o → (ip : Option Ip4) → Learns v port (learns_ip v (address_at_port v port vmid) o ip)
 learns_of v port vmid settled within None found ip = learns_nothing v port
 learns_of v port vmid settled within (Some g) found None = learns_nothing v port
-learns_of v port vmid settled within (Some g) found (Some ip) = cond_both (same_ip g.ip ip) (rests v) _ (Learns v port)
+learns_of v port vmid settled within (Some g) found (Some ip) = cond_both (is_ip g.ip ip) (rests v) _ (Learns v port)
     (λ known. learns_nothing v port)
     (λ new. record {
       alike = record { place = refl; heard = λ q. refl; usable = λ q. refl };

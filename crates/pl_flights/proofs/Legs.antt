@@ -1,34 +1,18 @@
 -- A route is a good leg, with the switch where it leads.
-use Rattle.std.proofs.Common.{◌≡◌, ℕ, ◌+◌, ◌-◌, ◌/◌, ◌%◌, ◌==◌, nat_lt, Bool, true, false, if◌then◌else◌, List, ◌∷◌, Some, refl, sym, ap, ◌∙◌, subst}
+use Rattle.std.proofs.Common.{◌≡◌, ℕ, ◌-◌, ◌==◌, true, false, List, ◌∷◌, Some, refl, sym, ap, ◌∙◌, subst}
 use Rattle.std.proofs.lemmas.Bool.{ne_eqb}
 use Rattle.pl_pmac.specs.declared.pmac.Pmac.{Pmac}
 use Rattle.pl_wiring.specs.declared.label.Label.{Label}
 use Rattle.pl_wiring.specs.declared.label.Label.TheVariants.{Aggregation, Core, Edge}
-use Rattle.pl_wiring.specs.Labels.{edge_count, label_of, number_of}
+use Rattle.pl_wiring.specs.Labels.{label_of, number_of}
 use Rattle.pl_wiring.proofs.LabelOrder.{number_of-label_of}
 use Rattle.pl_layouts.specs.declared.place.Place.{Place}
-use Rattle.pl_journal.specs.Flights.{is_good_leg, level_of}
+use Rattle.pl_journal.specs.Flights.{is_good_leg, label_level, level_of}
 use Rattle.pl_flights.specs.Routes.{Route}
 use Rattle.pl_flights.specs.Routes.Route.{Climbs, Enters, Falls, Leaves, Turns}
 
--- the level of a label
-abbrev pub level : Label → ℕ
-level (Edge p i) = 0
-level (Aggregation p j) = 1
-level (Core j m) = 2
-
-pub level_is : (k s : ℕ) → level_of k s ≡ level (label_of k s)
-level_is k s = by_tests (nat_lt s (edge_count k)) (nat_lt s (edge_count k + edge_count k))
-  where
-    by_tests : (x y : Bool) → (if x then 0 else if y then 1 else 2) ≡ level (if x then Edge (s / (k / 2)) (s % (k / 2))
-        else if y then Aggregation ((s - edge_count k) / (k / 2)) ((s - edge_count k) % (k / 2))
-        else Core ((s - (edge_count k + edge_count k)) / (k / 2)) ((s - (edge_count k + edge_count k)) % (k / 2)))
-    by_tests true y = refl
-    by_tests false true = refl
-    by_tests false false = refl
-
-pub level_at : (k s : ℕ) (label : Label) → label_of k s ≡ label → level_of k s ≡ level label
-level_at k s label is = level_is k s ∙ ap level is
+pub level_at : (k s : ℕ) (label : Label) → label_of k s ≡ label → level_of k s ≡ label_level label
+level_at k s label is = ap label_level is
 
 -- switches of two labels are two
 pub other_label : (k s t : ℕ) (a b : Label) → label_of k s ≡ a → label_of k t ≡ b → (a ≡ b → ⊥) → (s == t) ≡ false
@@ -44,8 +28,8 @@ pod_number (Aggregation p j) = p
 pod_number (Core j m) = 0
 
 module _ (k : ℕ) where
-  other_level : (s t : ℕ) (a b : Label) → label_of k s ≡ a → label_of k t ≡ b → (level a ≡ level b → ⊥) → (s == t) ≡ false
-  other_level s t a b at_s at_t differ = other_label k s t a b at_s at_t (λ same. differ (ap level same))
+  other_level : (s t : ℕ) (a b : Label) → label_of k s ≡ a → label_of k t ≡ b → (label_level a ≡ label_level b → ⊥) → (s == t) ≡ false
+  other_level s t a b at_s at_t differ = other_label k s t a b at_s at_t (λ same. differ (ap label_level same))
 
   pub good : (place : ℕ → Place) (to : Pmac) (leg : List ℕ) (s t : ℕ) → Route k place to leg s t → is_good_leg k (t ∷ leg) ≡ true
   good place to leg s t (Climbs p i j at_s at_t is elsewhere) =

@@ -21,8 +21,8 @@ use Rattle.pl_flights.specs.Routes.{IsOfOtherPod, Route}
 use Rattle.pl_flights.specs.Routes.Route.{Climbs, Enters, Falls, Leaves, Turns}
 use Rattle.pl_flights.specs.Standing.{KnowsNeighbours, KnowsPlaces}
 use Rattle.pl_flights.proofs.Legs.{level_at, same_label}
-use Rattle.pl_flights.proofs.Rungs.{Rung, rung}
-use Rattle.pl_flights.proofs.Rungs.Rung.{DownFromCore, DownToEdge, UpFromEdge, UpToCore}
+use Rattle.pl_copies.proofs.Ways.{Rung, rung}
+use Rattle.pl_copies.proofs.Ways.Rung.{DownFromCore, DownToEdge, UpFromEdge, UpToCore}
 
 pub known : (o : Option ℕ) (n : ℕ) → is_known o n ≡ true → o ≡ Some n
 known None n is = absurd (false≢true is)
@@ -78,7 +78,7 @@ module _ (plan : Plan) (place : ℕ → Place) (t : ℕ) (v : SwitchView) (is_pl
 
   -- down from an aggregation switch
   edge_below : (q j : ℕ) → label_of plan.k t ≡ Aggregation q j → level_of plan.k u.0 ≡ 0 → (x : ℕ) × (label_of plan.k u.0 ≡ Edge q x)
-  edge_below q j at_t low = by_rung (rung plan t p u r is_plan peer)
+  edge_below q j at_t low = by_rung (rung plan is_plan t p u r peer)
     where
       by_rung : Rung plan.k t u.0 → (x : ℕ) × (label_of plan.k u.0 ≡ Edge q x)
       by_rung (UpFromEdge a i b at_s at_u) = absurd (cc)
@@ -87,7 +87,7 @@ module _ (plan : Plan) (place : ℕ → Place) (t : ℕ) (v : SwitchView) (is_pl
       by_rung (DownToEdge a i b at_s at_u) = (i, cc)
 
   core_above : (q j : ℕ) → label_of plan.k t ≡ Aggregation q j → level_of plan.k u.0 ≡ 2 → (m : ℕ) × (label_of plan.k u.0 ≡ Core j m)
-  core_above q j at_t high = by_rung (rung plan t p u r is_plan peer)
+  core_above q j at_t high = by_rung (rung plan is_plan t p u r peer)
     where
       by_rung : Rung plan.k t u.0 → (m : ℕ) × (label_of plan.k u.0 ≡ Core j m)
       by_rung (UpFromEdge a i b at_s at_u) = absurd (cc)
@@ -96,7 +96,7 @@ module _ (plan : Plan) (place : ℕ → Place) (t : ℕ) (v : SwitchView) (is_pl
       by_rung (DownToEdge a i b at_s at_u) = (let none = level_at plan.k u.0 _ at_u in absurd (cc))
 
   below_core : (j m : ℕ) → label_of plan.k t ≡ Core j m → (q : ℕ) × (label_of plan.k u.0 ≡ Aggregation q j)
-  below_core j m at_t = by_rung (rung plan t p u r is_plan peer)
+  below_core j m at_t = by_rung (rung plan is_plan t p u r peer)
     where
       by_rung : Rung plan.k t u.0 → (q : ℕ) × (label_of plan.k u.0 ≡ Aggregation q j)
       by_rung (UpFromEdge a i b at_s at_u) = absurd (cc)
@@ -105,7 +105,7 @@ module _ (plan : Plan) (place : ℕ → Place) (t : ℕ) (v : SwitchView) (is_pl
       by_rung (DownToEdge a i b at_s at_u) = absurd (cc)
 
   above_edge : (q i : ℕ) → label_of plan.k t ≡ Edge q i → (j : ℕ) × (label_of plan.k u.0 ≡ Aggregation q j)
-  above_edge q i at_t = by_rung (rung plan t p u r is_plan peer)
+  above_edge q i at_t = by_rung (rung plan is_plan t p u r peer)
     where
       by_rung : Rung plan.k t u.0 → (j : ℕ) × (label_of plan.k u.0 ≡ Aggregation q j)
       by_rung (UpFromEdge a x b at_s at_u) = (b, cc)

@@ -1,18 +1,15 @@
 -- What an edge switch does with a frame of a host whose source was learnt is good.
-use Rattle.std.proofs.Common.{◌≡◌, ℕ, ◌≤◌, ◌==◌, ◌&&◌, ◌||◌, inl, inr, not, Bool, true, false, if◌then◌else◌, IsSome, List, [], ◌∷◌, length, Option, None, Some, Result, Ok, Err, is_none, is_some, refl, sym, ◌∙◌, ap, subst, append-nil}
+use Rattle.std.proofs.Common.{◌≡◌, ℕ, ◌≤◌, ◌==◌, ◌&&◌, ◌||◌, inl, inr, not, Bool, true, false, IsSome, List, [], ◌∷◌, length, Option, None, Some, is_some, refl, sym, ◌∙◌, ap, subst, append-nil}
 use Rattle.std.specs.List.{fold}
-use Rattle.std.specs.Result.{is_err, result_ok}
 use Rattle.std.proofs.lemmas.Bool.{and_parts, cond_both, false≢true, or_cases, or_left, or_right}
 use Rattle.pl_frame.specs.declared.address.Mac.{Mac}
-use Rattle.pl_frame.specs.Ethernet.{destination_of, payload_of, source_of}
+use Rattle.pl_frame.specs.Ethernet.{destination_of, source_of}
 use Rattle.pl_arp.specs.declared.packet.Arp.{Arp}
-use Rattle.pl_arp.specs.declared.packet.ArpError.{ArpError}
-use Rattle.pl_arp.specs.Packet.{arp_in}
 use Rattle.pl_pmac.specs.declared.pmac.Pmac.{Pmac}
 use Rattle.pl_pmac.specs.Pmac.{mac_of, pmac_of}
 use Rattle.pl_wiring.specs.Plan.{IsPlan, Plan}
 use Rattle.pl_layouts.specs.declared.place.Place.{Place}
-use Rattle.pl_layouts.specs.Frames.{arriving, is_arp, is_taken_packet, is_takeable, mac_number, packet_in}
+use Rattle.pl_layouts.specs.Frames.{arriving, is_taken_packet, is_takeable, mac_number, packet_in}
 use Rattle.pl_layouts.specs.Memberships.{changes_in, is_group, membership_in}
 use Rattle.pl_layouts.specs.Placement.{is_placed}
 use Rattle.pl_layouts.proofs.Arrived.{destination_of-arriving, length-arriving, source_of-arriving}
@@ -52,11 +49,6 @@ pub record IsNew (t : ℕ) (f : Flight) (frame : List ℕ) : Type 0 where
   pub long : 14 ≤ length frame
 
 -- an ARP packet that cannot be read
-bad_if : (arp : Bool) (r : Result Arp ArpError) → (arp && is_none (if arp then result_ok r else None)) ≡ true → (arp && is_err r) ≡ true
-bad_if true (Ok packet) is = absurd (false≢true is)
-bad_if true (Err e) is = refl
-bad_if false r is = absurd (false≢true is)
-
 -- what a switch takes may be taken
 for_switch : (v : SwitchView) (dst : Mac) (o : Option Arp) → is_for_switch v dst o ≡ true → is_taken_packet dst o ≡ true
 for_switch v dst None is = absurd (false≢true is)
@@ -84,8 +76,8 @@ module _ (plan : Plan) (place : ℕ → Place) (book : Book) (t : ℕ) (v : Swit
   pub takes_in_good : (is_placed v.place ≡ true → Good (sends_in choose (with_pmac v port frame) v).acts) → Good (takes_in choose port frame v).acts
   takes_in_good sends =
       let G : SwitchStep → Type 0 = λ step. Good step.acts in
-      cond_both (is_arp frame && is_none (packet_in frame)) _ _ G
-      (λ bad. ((ap length new.once, ap is_bad_arp new.beginning ∙ bad_if (is_arp frame) (arp_in (payload_of frame)) bad), tt))
+      cond_both (is_bad_arp frame) _ _ G
+      (λ bad. ((ap length new.once, ap is_bad_arp new.beginning ∙ bad), tt))
       (λ fine. cond_both (is_for_switch v (destination_of frame) (packet_in frame)) _ _ G
       (λ own. silent_good plan place book t (packet_acts v port frame (packet_in frame)) (act.Take ∷ []) (Waits f false) (silent_packet v port frame (packet_in frame))
       (takeable (or_left (is_taken_packet (destination_of frame) (packet_in frame)) _ (for_switch v (destination_of frame) (packet_in frame) own)), tt))

@@ -35,7 +35,7 @@ use Rattle.pl_layouts.specs.Equality.{same_mac}
 use Rattle.pl_layouts.specs.Frames.{is_arp, packet_in}
 use Rattle.pl_layouts.specs.Memberships.{group_of, is_group}
 use Rattle.pl_layouts.specs.Reports.{group_mac, header_of, membership_frame, message_of_change, receiver_of}
-use Rattle.pl_logic.specs.HostDuties.{HoldsData, HoldsOwn, SendsOwn, are_own, is_of, is_own, is_routed}
+use Rattle.pl_logic.specs.HostDuties.{HoldsData, HoldsOwn, SendsOwn, are_own, is_of, is_own}
 use Rattle.pl_logic.specs.HostInputs.{HostAnswer, HostInput}
 use Rattle.pl_logic.specs.HostViews.{Held, HostView, boot_host, has_group, held_for, ip_cmp, with_held}
 use Rattle.pl_host_rule.specs.HostRule.{HostStep, first_request, having_sent, hearing, holding, host_rule, host_step, is_foreign, is_not_joined, other_host, playing, playing_frame, playing_raw, receiving, released, released_by, reply_frame, report_frame, request_frame, sending, sending_to, sending_to_host, skip_of, skipping, start_frame, step_to, still_held, unless_skipped}
@@ -43,6 +43,7 @@ use Rattle.pl_logic.specs.HostInputs.HostInput.{HasMoved, Joins, Leaves, PlaysRa
 use Rattle.pl_logic.specs.HostInputs.HostAnswer.{Nothing, Played, Received}
 use Rattle.pl_host_rule.proofs.HostFrames.{packet_in-addresses}
 use Rattle.pl_host_rule.proofs.HostSends.{knows_six, sent-Send, six_after, unskipped}
+use Rattle.pl_journal.specs.Causes.{is_routed}
 
 same_self : (mac : Mac) → same_mac mac mac ≡ true
 same_self mac = (bytes_eq-Decides mac.0 mac.0).1 refl

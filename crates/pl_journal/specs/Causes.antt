@@ -1,14 +1,12 @@
 -- What a journal shows of the cause for which a frame ended. The entries that are past have the newest first.
-use Rattle.std.specs.Prelude.{◌≡◌, ℕ, ◌==◌, ◌&&◌, ◌⊎◌, not, Bool, false, List, length, Option, Some, None, IsTrue}
-use Rattle.std.specs.Result.{is_err}
-use Rattle.pl_frame.specs.Ethernet.{destination_of, payload_of}
-use Rattle.pl_arp.specs.Packet.{arp_in}
+use Rattle.std.specs.Prelude.{◌≡◌, ℕ, ◌==◌, ◌&&◌, ◌⊎◌, not, Bool, false, List, length, Option, Some, None, is_none, IsTrue}
+use Rattle.pl_frame.specs.Ethernet.{destination_of}
 use Rattle.pl_wiring.specs.Plan.{Plan}
 use Rattle.pl_journal.specs.declared.entry.Entry.{Entry}
 use Rattle.pl_journal.specs.declared.cause.Cause.{Cause}
 use Rattle.pl_journal.specs.declared.cause.Cause.TheVariants.{NotPlaced, NoNextHop, NoAddress, HostGone, LinkDown, Lost, Spent, BadArp, NoMember}
 use Rattle.pl_layouts.specs.Memberships.{is_group, group_of, flood}
-use Rattle.pl_layouts.specs.Frames.{is_arp}
+use Rattle.pl_layouts.specs.Frames.{is_arp, packet_in}
 use Rattle.pl_journal.specs.Places.{Spot, is_at, holder, spot, spot_of, is_spent, has_failed_link}
 use Rattle.pl_journal.specs.Flights.{address, beginning, came_in, first_of, is_empty, sender, has_moved_since, trail}
 
@@ -42,7 +40,7 @@ came_in_at_spent_port past (Some there) = is_spent past there
 
 -- type 0x0806 with a payload that is no ARP packet
 abbrev pub is_bad_arp : List ℕ → Bool
-is_bad_arp frame = is_arp frame && is_err (arp_in (payload_of frame))
+is_bad_arp frame = is_arp frame && is_none (packet_in frame)
 
 abbrev pub CauseShows : Plan → List Entry → ℕ → Cause → Type 0
 -- the frame has crossed a switch

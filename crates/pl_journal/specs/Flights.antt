@@ -6,7 +6,9 @@ use Rattle.std.specs.Option.{option_and_then}
 use Rattle.pl_frame.specs.Ethernet.{destination_of}
 use Rattle.pl_pmac.specs.declared.pmac.Pmac.{Pmac}
 use Rattle.pl_pmac.specs.Pmac.{pmac_number}
-use Rattle.pl_wiring.specs.Labels.{edge_count}
+use Rattle.pl_wiring.specs.declared.label.Label.{Label}
+use Rattle.pl_wiring.specs.declared.label.Label.TheVariants.{Aggregation, Core, Edge}
+use Rattle.pl_wiring.specs.Labels.{label_of}
 use Rattle.pl_wiring.specs.Plan.{Plan}
 use Rattle.pl_journal.specs.declared.entry.Entry.{Entry}
 use Rattle.pl_journal.specs.declared.entry.Entry.TheVariants.{Sent, Made, Crossed, Redirected, Copied, Arrived, Taken, Dropped, Granted, LinkDown, Moved}
@@ -170,8 +172,14 @@ was_live (LinkDown x y ∷ past) id a b = if same_ends x.0 y.0 a b then false el
 was_live (Copied g c ∷ past) id a b = was_live past (before_copy g c id) a b
 was_live (entry ∷ past) id a b = was_live past id a b
 
+-- edge switches are at level 0, aggregation switches at 1, core switches at 2
+abbrev pub label_level : Label → ℕ
+label_level (Edge pod i) = 0
+label_level (Aggregation pod j) = 1
+label_level (Core group m) = 2
+
 abbrev pub level_of : ℕ → ℕ → ℕ
-level_of k s = if nat_lt s (edge_count k) then 0 else if nat_lt s (edge_count k + edge_count k) then 1 else 2
+level_of k s = label_level (label_of k s)
 
 -- each switch is of a lower level than the one before it
 abbrev pub falls : ℕ → List ℕ → Bool

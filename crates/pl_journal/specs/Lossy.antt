@@ -1,7 +1,7 @@
 -- One lossy switch. Its hosts hang on it by its ports and may move; it grants them addresses, loses frames for named causes, may copy
 -- frames of a group, and delivers what it delivers once and unaltered. A journal is a run of it where each entry may follow those before.
 -- It knows no records, control frames, votes, lists, tables or hashes of the switches that the fabric is made of.
-use Rattle.std.specs.Prelude.{◌≡◌, ℕ, ◌+◌, ◌%◌, ◌^◌, ◌<◌, ◌==◌, ◌&&◌, ◌||◌, Bool, true, false, if◌then◌else◌, List, [], ◌∷◌, reverse, Option, Some, None, IsSome, IsTrue, MatchBool, slice_get}
+use Rattle.std.specs.Prelude.{◌≡◌, ℕ, ◌+◌, ◌<◌, ◌==◌, ◌&&◌, ◌||◌, Bool, true, false, if◌then◌else◌, List, [], ◌∷◌, reverse, Option, Some, None, IsSome, IsTrue, MatchBool, slice_get}
 use Rattle.std.specs.Bool.{IsFalse}
 use Rattle.std.specs.Option.{option_map}
 use Rattle.pl_frame.specs.declared.address.Mac.{Mac}
@@ -12,7 +12,7 @@ use Rattle.pl_wiring.specs.Plan.{Plan}
 use Rattle.pl_layouts.specs.declared.membership.Change.{Change}
 use Rattle.pl_journal.specs.declared.entry.Entry.{Entry}
 use Rattle.pl_journal.specs.declared.entry.Entry.TheVariants.{Line, Sent, Skipped, Made, Crossed, Redirected, Copied, Arrived, Taken, Dropped, Granted, Registered, Placed, LinkDown, LinkUp, Moved, Settled, Unsettled}
-use Rattle.pl_layouts.specs.Memberships.{group_of, changes_in, flood}
+use Rattle.pl_layouts.specs.Memberships.{group_of, group_number, changes_in, flood}
 use Rattle.pl_layouts.specs.Frames.{mac_number, arriving, is_takeable}
 use Rattle.pl_journal.specs.Places.{Spot, at_port, is_at, holder, spot, spot_of, has_stood, is_free, is_of_edge, number, registered, is_joined, is_failed}
 use Rattle.pl_journal.specs.Flights.{address, beginning, begun, first_of, is_flying, is_good_leg, is_led_to, is_redirected, leg, root, root_arrived_at, sender, sender_address}
@@ -21,7 +21,7 @@ use Rattle.pl_journal.specs.Causes.{CauseShows, goes_to_group}
 -- what the last of these changes for a group says, else what was before
 abbrev pub joined_after : List Change → ℕ → Bool → Bool
 joined_after [] n before = before
-joined_after (c ∷ changes) n before = joined_after changes n (if c.group.0 % 2 ^ 23 == n then c.join else before)
+joined_after (c ∷ changes) n before = joined_after changes n (if group_number c.group == n then c.join else before)
 
 -- Whether a host has joined a group: of what its own frames said of that group, the last is a join.
 abbrev pub has_joined : List Entry → ℕ → ℕ → Bool

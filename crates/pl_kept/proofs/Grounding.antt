@@ -24,7 +24,7 @@ use Rattle.pl_world.specs.Flying.{IsCounted}
 use Rattle.pl_world.specs.Worlds.{WorldView}
 use Rattle.pl_control_plane.specs.ControlPlanes.{ControlPlane, control_plane, has_data, is_data_item, no_switch}
 use Rattle.pl_control_plane.proofs.Joined.{joined_there}
-use Rattle.pl_places.specs.Known.{IsZeroOf, level_of, pod_of}
+use Rattle.pl_places.specs.Known.{IsZeroOf, pod_of}
 use Rattle.pl_places.specs.Places.{ArePlaced}
 use Rattle.pl_votes.specs.Voting.{AreVoting, FixedAreApart}
 use Rattle.pl_votes.proofs.Differing.{fixed_are_apart}
@@ -32,13 +32,14 @@ use Rattle.pl_votes.proofs.Wired.{ids_differ}
 use Rattle.pl_pods.specs.Pods.{AreGiven, id_of}
 use Rattle.pl_pods.proofs.Numbers.{numbers_differ}
 use Rattle.pl_addresses.specs.Addressed.{IsGrounded}
+use Rattle.pl_journal.specs.Flights.{label_level}
 
 known_is : (o : Option ℕ) (n : ℕ) → is_known o n ≡ true → o ≡ Some n
 known_is None n is = absurd (cc is)
 known_is (Some m) n is = ap Some (eqb-true m n is)
 
 -- a switch of level 0 in a pod has the label of an edge switch of the pod
-edge_of : (label : Label) (pod : ℕ) → 0 ≡ level_of label → pod_of label ≡ Some pod → (i : ℕ) × (label ≡ Edge pod i)
+edge_of : (label : Label) (pod : ℕ) → 0 ≡ label_level label → pod_of label ≡ Some pod → (i : ℕ) × (label ≡ Edge pod i)
 edge_of (Edge other i) pod is of = (let same : other ≡ pod = cc of in (i, ap (λ p. Edge p i) same))
 edge_of (Aggregation other j) pod is of = absurd (omega (arith, is))
 edge_of (Core group m) pod is of = absurd (omega (arith, is))

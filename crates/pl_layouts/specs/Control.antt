@@ -11,6 +11,7 @@ use Rattle.pl_layouts.specs.declared.control.Control.{Control}
 use Rattle.pl_layouts.specs.declared.control.Control.TheVariants as control
 use Rattle.pl_layouts.specs.declared.control.ControlError.{ControlError}
 use Rattle.pl_layouts.specs.declared.control.ControlError.TheVariants.{Cut, BadVersion, BadKind, BadField}
+use Rattle.pl_layouts.specs.Placement.{is_known}
 
 -- what is not known has all its bits set
 abbrev pub level_code : Option ℕ → ℕ
@@ -108,15 +109,11 @@ vote_at payload = record {
 }
 
 -- a level is 0, 1, 2 or unknown; a direction 0, 1 or 2; a position is known at level 0 alone, a pod at levels 0 and 1 alone
-abbrev pub is_level : Option ℕ → ℕ → Bool
-is_level None n = false
-is_level (Some level) n = level == n
-
 abbrev pub is_sound_ldm : Ldm → Bool
 is_sound_ldm m =
-    (is_none m.place.level || is_level m.place.level 0 || is_level m.place.level 1 || is_level m.place.level 2) && nat_lt m.direction 3
-    && (is_none m.place.position || is_level m.place.level 0)
-    && (is_none m.place.pod || is_level m.place.level 0 || is_level m.place.level 1)
+    (is_none m.place.level || is_known m.place.level 0 || is_known m.place.level 1 || is_known m.place.level 2) && nat_lt m.direction 3
+    && (is_none m.place.position || is_known m.place.level 0)
+    && (is_none m.place.pod || is_known m.place.level 0 || is_known m.place.level 1)
 
 -- a grant names no holder and nothing fixed, a refusal names its holder
 abbrev pub is_sound_vote : Vote → Bool

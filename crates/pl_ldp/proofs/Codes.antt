@@ -3,8 +3,9 @@ use Rattle.std.proofs.Common.{◌≡◌, ℕ, ◌+◌, ◌^◌, ◌<◌, ◌==�
 use Rattle.std.proofs.lemmas.Bool.{eqb-true, eqb-false, eq-eqb, ne_eqb, cases_Bool, ltb-true}
 use Rattle.std.proofs.lemmas.Bool.Decides.{nat_tests}
 use Rattle.pl_frame.specs.declared.address.SwitchId.{SwitchId}
-use Rattle.pl_layouts.specs.Control.{known_unless, id_code, id_of_code, bit, is_bit, is_level}
+use Rattle.pl_layouts.specs.Control.{known_unless, id_code, id_of_code, bit, is_bit}
 use Rattle.pl_ldp.specs.Writable.{IsId}
+use Rattle.pl_layouts.specs.Placement.{is_known}
 
 -- what is known keeps clear of the code of what is not
 pub known_unless-unwrap_or : (unknown : ℕ) (known : Option ℕ) → IfSome known (λ n. n < unknown) → known_unless unknown (unwrap_or known unknown) ≡ known
@@ -54,7 +55,7 @@ is_bit-bit false = refl
 
 -- a level that is 0, 1, 2 or unknown keeps clear of the code of an unknown one
 abbrev pub is_known_level : Option ℕ → Bool
-is_known_level level = is_none level || is_level level 0 || is_level level 1 || is_level level 2
+is_known_level level = is_none level || is_known level 0 || is_known level 1 || is_known level 2
 
 pub level-fits : (level : Option ℕ) → is_known_level level ≡ true → IfSome level (λ n. n < 255)
 level-fits None h = tt

@@ -7,8 +7,9 @@ use Rattle.pl_layouts.specs.declared.control.Control.{Control}
 use Rattle.pl_layouts.specs.declared.control.Control.TheVariants as control
 use Rattle.pl_layouts.specs.declared.control.ControlError.{ControlError}
 use Rattle.pl_layouts.specs.declared.control.ControlError.TheVariants.{Cut, BadField}
-use Rattle.pl_layouts.specs.Control.{known_unless, id_of_code, is_level, is_bit, is_sound, sender_at, ldm_at, vote_at, sound_or_refused}
+use Rattle.pl_layouts.specs.Control.{known_unless, id_of_code, is_bit, is_sound, sender_at, ldm_at, vote_at, sound_or_refused}
 use Rattle.pl_ldp.specs.Refusals.{HasBadField}
+use Rattle.pl_layouts.specs.Placement.{is_known}
 
 abbrev Read : Type 0
 Read = Result Control ControlError
@@ -16,8 +17,8 @@ Read = Result Control ControlError
 is_none-known_unless : (unknown n : ℕ) → is_none (known_unless unknown n) ≡ (n == unknown)
 is_none-known_unless unknown n = elim (cases_Bool (n == unknown)) [ inl e ↦ rw e refl | inr e ↦ rw e refl ]
 
-is_level-known_unless : (unknown n level : ℕ) → level ≢ unknown → is_level (known_unless unknown n) level ≡ (n == level)
-is_level-known_unless unknown n level other =
+is_known-known_unless : (unknown n level : ℕ) → level ≢ unknown → is_known (known_unless unknown n) level ≡ (n == level)
+is_known-known_unless unknown n level other =
     elim (cases_Bool (n == unknown)) [
       | inl e ↦ rw e (sym (ne_eqb n level (λ same. other (sym same ∙ eqb-true n unknown e))))
       | inr e ↦ rw e refl
@@ -43,9 +44,9 @@ ldm_test_is : (p : List ℕ) → is_sound (control.Ldm (sender_at p) (ldm_at p))
 ldm_test_is p =
     let level = slice_index p 8 in
     let none : is_none (known_unless 255 level) ≡ (level == 255) = is_none-known_unless 255 level in
-    let edge : is_level (known_unless 255 level) 0 ≡ (level == 0) = is_level-known_unless 255 level 0 (λ e. omega (arith, e)) in
-    let aggregation : is_level (known_unless 255 level) 1 ≡ (level == 1) = is_level-known_unless 255 level 1 (λ e. omega (arith, e)) in
-    let core : is_level (known_unless 255 level) 2 ≡ (level == 2) = is_level-known_unless 255 level 2 (λ e. omega (arith, e)) in
+    let edge : is_known (known_unless 255 level) 0 ≡ (level == 0) = is_known-known_unless 255 level 0 (λ e. omega (arith, e)) in
+    let aggregation : is_known (known_unless 255 level) 1 ≡ (level == 1) = is_known-known_unless 255 level 1 (λ e. omega (arith, e)) in
+    let core : is_known (known_unless 255 level) 2 ≡ (level == 2) = is_known-known_unless 255 level 2 (λ e. omega (arith, e)) in
     let position : is_none (known_unless 255 (slice_index p 9)) ≡ (slice_index p 9 == 255) = is_none-known_unless 255 (slice_index p 9) in
     let pod : is_none (known_unless 65535 (big_number 2 (drop 10 p))) ≡ (big_number 2 (drop 10 p) == 65535) = is_none-known_unless 65535 (big_number 2 (drop 10 p)) in
     simp (none, edge, aggregation, core, position, pod)

@@ -9,9 +9,10 @@ use Rattle.pl_layouts.specs.declared.control.Proposal.{Proposal}
 use Rattle.pl_layouts.specs.declared.control.Vote.{Vote}
 use Rattle.pl_layouts.specs.declared.control.Control.{Control}
 use Rattle.pl_layouts.specs.declared.control.Control.TheVariants as control
-use Rattle.pl_layouts.specs.Control.{known_unless, id_code, id_of_code, pod_code, bit, is_bit, sender_at, ldm_at, proposal_at, vote_at, is_level, is_sound, is_sound_ldm, sound_or_refused, ldm_bytes, proposal_bytes, vote_bytes, control_bytes, control_in}
+use Rattle.pl_layouts.specs.Control.{known_unless, id_code, id_of_code, pod_code, bit, is_bit, sender_at, ldm_at, proposal_at, vote_at, is_sound, is_sound_ldm, sound_or_refused, ldm_bytes, proposal_bytes, vote_bytes, control_bytes, control_in}
 use Rattle.pl_ldp.specs.Writable.{IsId, FitsLdm, FitsProposal, FitsVote, IsWritable}
 use Rattle.pl_ldp.proofs.Codes.{known_unless-unwrap_or, unwrap_or-fits, id_of_code-id_code, id_code-fits, of-bit, is_bit-bit, is_known_level, level-fits}
+use Rattle.pl_layouts.specs.Placement.{is_known}
 
 abbrev pub switch_id : ℕ → SwitchId
 switch_id n = record { 0 = n }
@@ -87,8 +88,8 @@ pub sound_level : (m : Ldm) → is_sound_ldm m ≡ true → is_known_level m.pla
 sound_level m sound =
     let levels : Bool = is_known_level m.place.level in
     let direction : Bool = nat_lt m.direction 3 in
-    let position : Bool = is_none m.place.position || is_level m.place.level 0 in
-    let pod : Bool = is_none m.place.pod || is_level m.place.level 0 || is_level m.place.level 1 in
+    let position : Bool = is_none m.place.position || is_known m.place.level 0 in
+    let pod : Bool = is_none m.place.pod || is_known m.place.level 0 || is_known m.place.level 1 in
     let front = and_parts (levels && direction && position) pod sound in
     (and_parts levels direction (and_parts (levels && direction) position front.0).0).0
 

@@ -15,7 +15,7 @@ use Rattle.pl_logic.specs.declared.switch_records.Source.{Source}
 use Rattle.pl_logic.specs.PortRecords.{ports_of_switch}
 use Rattle.pl_logic.specs.SwitchViews.{SwitchView}
 use Rattle.pl_steps.specs.Steps.{does, rests, ◌▹◌}
-use Rattle.pl_switch_rule.specs.Granting.{address_at_port, forgets, granted, grants_at, grants_next, grants_or_learns, grants_remembered, grants_source, in_use, is_port_spent, learns_ip, learns_source, or_else, remembered_at, remembered_ip, remembers, same_ip, sender_ip, with_grant}
+use Rattle.pl_switch_rule.specs.Granting.{address_at_port, forgets, granted, grants_at, grants_next, grants_or_learns, grants_remembered, grants_source, in_use, is_port_spent, learns_ip, learns_source, or_else, remembered_at, remembered_ip, remembers, sender_ip, with_grant}
 use Rattle.pl_switch_rule.specs.Levels.{changes_to, has_become_placed, settles_in}
 use Rattle.pl_switch_rule.specs.Telling.{changes_told}
 use Rattle.pl_switch_rule.proofs.Shapes.{all_range}
@@ -24,6 +24,7 @@ use Rattle.pl_addresses.proofs.Asides.{changes_silent}
 use Rattle.pl_addresses.proofs.Numbers.{IsInUse, granted_here, local_here, used_is}
 use Rattle.pl_addresses.proofs.Rows.{aside_does}
 use Rattle.pl_ledger.proofs.Takes.{AreOf, Takes, aside_takes, changed_takes, next_takes, put_takes, rests_takes, takes_either, takes_then}
+use Rattle.pl_layouts.specs.Equality.{is_ip}
 
 module _ (P : ℕ → Mac → Type 0) where
   -- the IPv4 address of an address in use
@@ -32,7 +33,7 @@ module _ (P : ℕ → Mac → Type 0) where
   known_takes v port vmid mac None settled within u = rests_takes P v
   known_takes v port vmid mac (Some ip) settled within u =
       let here = local_here v port vmid settled in
-      takes_either P v (same_ip u.grant.ip ip) (rests v)
+      takes_either P v (is_ip u.grant.ip ip) (rests v)
       (record { view = with_grant v (address_at_port v port vmid) (record u.grant { ip = Some ip }); acts = act.Tell (tell.Learned (address_at_port v port vmid) u.grant.amac (Some ip)) ∷ [] })
       (λ same. rests_takes P v)
       (λ new. changed_takes P v (address_at_port v port vmid) u.grant (record u.grant { ip = Some ip })

@@ -32,7 +32,7 @@ use Rattle.pl_steps.specs.Steps.{SwitchStep, does, rests, ◌▹◌}
 use Rattle.pl_switch_rule.specs.Announcing.{announcements, with_aged_ports}
 use Rattle.pl_switch_rule.specs.Delivering.{makes}
 use Rattle.pl_switch_rule.specs.Forwarding.{Choice}
-use Rattle.pl_switch_rule.specs.Granting.{address_at_port, forgets, grant_number, granted, grants_at, grants_next, grants_or_learns, grants_remembered, grants_source, in_use, is_granted, is_port_spent, learns_ip, learns_source, remembered_at, remembers, same_ip, sender_ip, with_grant}
+use Rattle.pl_switch_rule.specs.Granting.{address_at_port, forgets, grant_number, granted, grants_at, grants_next, grants_or_learns, grants_remembered, grants_source, in_use, is_granted, is_port_spent, learns_ip, learns_source, remembered_at, remembers, sender_ip, with_grant}
 use Rattle.pl_switch_rule.specs.Intake.{comes_from_host, takes_in_or_spent}
 use Rattle.pl_switch_rule.specs.Levels.{after_message, becomes_edge, changes_to, finds_host, has_become_placed, settles_in, with_pod}
 use Rattle.pl_switch_rule.specs.Messages.{answer_frame, flood_frame, floods, forgets_members, hears_manager, invalidates, probes, sets_trap, takes_pod}
@@ -45,6 +45,7 @@ use Rattle.pl_addresses.proofs.Placing.{keeps_changes}
 use Rattle.pl_addresses.specs.Registries.{Registry}
 use Rattle.pl_control_plane.specs.ControlPlanes.{tells}
 use Rattle.pl_ledger_runs.proofs.EachAct.{IsPlainAct, announced_each, floods_each, forgets_members_each, makes_each, probes_each, proposal_each, switch_frame_each, takes_in_each}
+use Rattle.pl_layouts.specs.Equality.{is_ip}
 
 -- a switch of this place may say so
 abbrev pub IsWishWord : Place → ToManager → Type 0
@@ -104,7 +105,7 @@ learns_wishes : (place : Place) (v : SwitchView) (x : Pmac) (g : Option Grant) (
 learns_wishes place v x None ip = tt
 learns_wishes place v x (Some g) None = tt
 learns_wishes place v x (Some g) (Some ip) =
-    wish_if place (same_ip g.ip ip) (rests v) (record { view = with_grant v x (record g { ip = Some ip }); acts = act.Tell (tell.Learned x g.amac (Some ip)) ∷ [] }) (λ h. tt) (λ h. (tt, tt))
+    wish_if place (is_ip g.ip ip) (rests v) (record { view = with_grant v x (record g { ip = Some ip }); acts = act.Tell (tell.Learned x g.amac (Some ip)) ∷ [] }) (λ h. tt) (λ h. (tt, tt))
 
 grants_wishes : (place : Place) (v : SwitchView) (port : ℕ) (mac : Mac) (ip : Option Ip4) (o : Option ℕ) → AreWishes place (grants_or_learns v port mac ip o).acts
 grants_wishes place v port mac ip (Some vmid) = learns_wishes place v (address_at_port v port vmid) (grant_number (grants_at v port) vmid) ip
@@ -142,7 +143,7 @@ learns_place : (v : SwitchView) (x : Pmac) (g : Option Grant) (ip : Option Ip4) 
 learns_place v x None ip = refl
 learns_place v x (Some g) None = refl
 learns_place v x (Some g) (Some ip) =
-    place_if v (same_ip g.ip ip) (rests v) (record { view = with_grant v x (record g { ip = Some ip }); acts = act.Tell (tell.Learned x g.amac (Some ip)) ∷ [] }) refl refl
+    place_if v (is_ip g.ip ip) (rests v) (record { view = with_grant v x (record g { ip = Some ip }); acts = act.Tell (tell.Learned x g.amac (Some ip)) ∷ [] }) refl refl
 
 grants_place : (v : SwitchView) (port : ℕ) (mac : Mac) (ip : Option Ip4) (o : Option ℕ) → (grants_or_learns v port mac ip o).view.place ≡ v.place
 grants_place v port mac ip (Some vmid) = learns_place v (address_at_port v port vmid) (grant_number (grants_at v port) vmid) ip

@@ -10,7 +10,7 @@ use Rattle.pl_logic.specs.declared.acts.HostAct.TheVariants.{Send}
 use Rattle.pl_layouts.specs.Control.{is_control}
 use Rattle.pl_layouts.specs.Equality.{same_mac}
 use Rattle.pl_layouts.specs.Frames.{packet_in}
-use Rattle.pl_layouts.specs.Memberships.{changes_in, flood, group_of}
+use Rattle.pl_layouts.specs.Memberships.{changes_in, group_of}
 use Rattle.pl_journal.specs.Lossy.{joined_after}
 use Rattle.pl_logic.specs.HostViews.{HostView, has_group}
 use Rattle.pl_logic.specs.HostInputs.{HostInput, HostAnswer, HostRule}
@@ -18,6 +18,7 @@ use Rattle.pl_logic.specs.HostInputs.HostInput.{Receives}
 use Rattle.pl_logic.specs.HostInputs.HostAnswer.{Received}
 use Rattle.pl_logic.specs.declared.reception.Reception.{Reception}
 use Rattle.pl_logic.specs.declared.reception.Reception.TheVariants.{Kept}
+use Rattle.pl_journal.specs.Causes.{is_routed}
 
 -- a frame of 14 to 65,553 bytes that is no control frame
 abbrev pub is_data : List ℕ → Bool
@@ -66,11 +67,6 @@ pub record HoldsOwn (view : HostView) : Type 0 where
 pub record SendsOwn (before after : HostView) (acts : List HostAct) : Type 0 where
   pub sends : IsTrue (are_own before.me (map sent_by acts))
   pub holds : HoldsOwn after
-
--- whether a group is a routed one
-abbrev pub is_routed : Option ℕ → Bool
-is_routed None = false
-is_routed (Some group) = not (group == flood)
 
 -- whether a host has joined a group, by its number, once it has sent these frames
 abbrev pub joined_by : List (List ℕ) → ℕ → Bool → Bool

@@ -1,5 +1,5 @@
 -- What is asked of a switch from outside, by what it knows; and what it knows at first.
-use Rattle.std.specs.Prelude.{◌≡◌, ◌<◌, ◌≤◌, ℕ, ◌/◌, ◌%◌, ◌^◌, ◌==◌, ◌&&◌, Bool, false, if◌then◌else◌, List, [], Option, Some, None, is_none, option_map, replicate, slice_get, slice_index_or}
+use Rattle.std.specs.Prelude.{◌≡◌, ◌<◌, ◌≤◌, ℕ, ◌/◌, ◌%◌, ◌^◌, ◌==◌, ◌&&◌, ◌||◌, not, nat_lt, Bool, true, false, if◌then◌else◌, List, [], Option, Some, None, is_none, option_map, replicate, slice_get, slice_index_or}
 use Rattle.std.specs.List.{list_any}
 use Rattle.pl_frame.specs.declared.address.SwitchId.{SwitchId}
 use Rattle.pl_logic.specs.Announcements.{announcement}
@@ -62,6 +62,14 @@ holder_and_mark hold = (hold.edge, hold.fixed)
 -- who holds a position, and whether it is marked as fixed there
 abbrev pub holder_of : SwitchView → ℕ → Option (SwitchId × Bool)
 holder_of v position = option_map holder_and_mark (hold_at v position)
+
+-- An edge switch that has no position would learn from its proposal out of a port, if it sent that again to one who answers so: that the position is
+-- free; that it is held for this edge switch, which did not count the grant; or that it is held for another one to which it gives way, unless this is
+-- its last attempt.
+abbrev pub is_news : SwitchView → ℕ → ℕ → Option (SwitchId × Bool) → Bool
+is_news v port attempt None = true
+is_news v port attempt (Some hold) =
+    if hold.0.0 == v.id.0 then not (has_granted v port) else (hold.1 || nat_lt hold.0.0 v.id.0) && not (attempt == 4294967295)
 
 -- group number n, rising, of those of which a part is known
 abbrev pub group_of_part : SwitchView → ℕ → Option ℕ

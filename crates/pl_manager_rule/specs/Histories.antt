@@ -6,7 +6,7 @@ use Rattle.pl_frame.specs.declared.address.Ip4.{Ip4}
 use Rattle.pl_frame.specs.declared.address.SwitchId.{SwitchId}
 use Rattle.pl_pmac.specs.declared.pmac.Pmac.{Pmac}
 use Rattle.pl_layouts.specs.declared.place.Place.{Place}
-use Rattle.pl_layouts.specs.Equality.{same_pmac, same_switch}
+use Rattle.pl_layouts.specs.Equality.{is_ip, same_pmac, same_switch}
 use Rattle.pl_logic.specs.declared.messages.ToManager.{ToManager}
 use Rattle.pl_logic.specs.declared.messages.ToManager.TheVariants as tell
 use Rattle.pl_logic.specs.ManagerViews.{ManagerView, PodGiven, Registration, booted_manager}
@@ -50,11 +50,6 @@ said_by s said w = if same_switch w.switch s then said w.says else None
 abbrev pub ip_said : Pmac → ToManager → Option Ip4
 ip_said x (tell.Learned pmac amac ip) = if same_pmac pmac x then ip else None
 ip_said x says = None
-
--- whether this IPv4 address was told
-abbrev pub is_ip : Option Ip4 → Ip4 → Bool
-is_ip None ip = false
-is_ip (Some told) ip = told.0 == ip.0
 
 -- with which pseudo address it names this IPv4 address
 abbrev pub owner_said : Ip4 → ToManager → Option Pmac

@@ -5,10 +5,10 @@ use Rattle.std.proofs.lemmas.Cmp.{ranked}
 use Rattle.std.specs.Cmp.{nat_cmp_is}
 use Rattle.std.specs.declared.cmp.Ordering.{Ordering}
 use Rattle.std.specs.declared.cmp.Ordering.TheVariants.{Less, Equal, Greater}
-use Rattle.std.specs.Ordering.{is_eq, is_le, nat_cmp}
+use Rattle.std.specs.Ordering.{is_eq, is_le, nat_cmp, ordering_then}
 use Rattle.pl_logic.specs.declared.switch_records.Member.{Member}
 use Rattle.pl_layouts.specs.Frames.{mac_number}
-use Rattle.pl_switch_rule.specs.Intake.{member_cmp, then_by}
+use Rattle.pl_switch_rule.specs.Intake.{member_cmp}
 
 pub is_less : (a b : ℕ) → a < b → nat_cmp a b ≡ Less
 is_less a b h = sym (nat_cmp_is a b Less h)
@@ -43,7 +43,7 @@ equal_numbers a b = elim (cases_eq b a) [
   ]
 ]
 
-pub equal_both : (first next : Ordering) → is_eq (then_by first next) ≡ (is_eq first && is_eq next)
+pub equal_both : (first next : Ordering) → is_eq (ordering_then first next) ≡ (is_eq first && is_eq next)
 equal_both Less next = refl
 equal_both Equal next = refl
 equal_both Greater next = refl
@@ -51,6 +51,6 @@ equal_both Greater next = refl
 -- a member that is behind another is of no lower group
 pub groups_rise : (a b : Member) → member_cmp a b ≡ Less → a.group ≤ b.group
 groups_rise a b e = elim (cases_lt b.group a.group) [
-  | inl lt ↦ absurd (less_greater (sym (ap (λ r. then_by r (then_by (nat_cmp a.port b.port) (nat_cmp (mac_number a.amac) (mac_number b.amac)))) (is_greater a.group b.group lt)) ∙ e))
+  | inl lt ↦ absurd (less_greater (sym (ap (λ r. ordering_then r (ordering_then (nat_cmp a.port b.port) (nat_cmp (mac_number a.amac) (mac_number b.amac)))) (is_greater a.group b.group lt)) ∙ e))
   | inr ge ↦ ge
 ]

@@ -8,7 +8,7 @@ use Rattle.std.specs.declared.ops.Bound.TheVariants.{Included, Excluded}
 use Rattle.std.specs.List.{All, filter, list_any, range_with_len}
 use Rattle.std.specs.Map.Iter.{TakesFirst}
 use Rattle.std.specs.Option.{is_some}
-use Rattle.std.specs.Ordering.{is_le, match_ordering, nat_cmp}
+use Rattle.std.specs.Ordering.{is_le, match_ordering, nat_cmp, ordering_then}
 use Rattle.std.proofs.lemmas.Bool.{cases_eq, cases_lt, eq-eqb, ne_eqb}
 use Rattle.std.proofs.lemmas.List.Elements.{All-cons, All-nil, All-weaker}
 use Rattle.pl_logic.specs.declared.switch_records.Member.{Member}
@@ -16,7 +16,7 @@ use Rattle.pl_layouts.specs.Frames.{mac_number}
 use Rattle.pl_lists.specs.declared.port_set.PortSet.{PortSet}
 use Rattle.pl_lists.specs.Ports.{has_port, ports_of}
 use Rattle.pl_lists.proofs.PortBits.{has_port_is}
-use Rattle.pl_switch_rule.specs.Intake.{has_member_of, member_cmp, then_by}
+use Rattle.pl_switch_rule.specs.Intake.{has_member_of, member_cmp}
 use Rattle.pl_members.specs.Reached.{IsAtPort, start_of, has_member_at, end_of, ports_with_member}
 use Rattle.pl_members.proofs.Comparing.{from_equal, is_equal, is_greater, is_less}
 use Rattle.pl_members.proofs.Removing.{filter_alike}
@@ -26,13 +26,13 @@ in_range group = range_contains member_cmp (Included (start_of group)) (Excluded
 
 -- by port and address, which stand behind the group
 abbrev rest_cmp : Member → Member → Ordering
-rest_cmp a b = then_by (nat_cmp a.port b.port) (nat_cmp (mac_number a.amac) (mac_number b.amac))
+rest_cmp a b = ordering_then (nat_cmp a.port b.port) (nat_cmp (mac_number a.amac) (mac_number b.amac))
 
 zero_first : (n : ℕ) → is_le (nat_cmp 0 n) ≡ true
 zero_first zero = refl
 zero_first (suc n) = ap is_le (is_less 0 (suc n) (omega arith))
 
-le_then : (first next : Ordering) → is_le first ≡ true → is_le next ≡ true → is_le (then_by first next) ≡ true
+le_then : (first next : Ordering) → is_le first ≡ true → is_le next ≡ true → is_le (ordering_then first next) ≡ true
 le_then Less next a b = refl
 le_then Equal next a b = b
 le_then Greater next a b = a

@@ -2,7 +2,7 @@
 use Rattle.std.proofs.Common.{◌≡◌, ℕ, ◌==◌, ◌&&◌, not, Bool, true, false, cond, List, [], ◌∷◌, refl, sym, ap, ◌∙◌, inl, inr}
 use Rattle.std.specs.List.{All, AllByRecursion, filter}
 use Rattle.std.specs.List.Sorted.{IsStrictlySortedBy}
-use Rattle.std.specs.Ordering.{is_eq, nat_cmp}
+use Rattle.std.specs.Ordering.{is_eq, nat_cmp, ordering_then}
 use Rattle.std.specs.declared.cmp.Ordering.TheVariants.{Less}
 use Rattle.std.specs.Set.{remove_key}
 use Rattle.std.specs.Str.{bytes_eq}
@@ -15,7 +15,7 @@ use Rattle.pl_frame.proofs.Numbers.{big_bytes-big_number}
 use Rattle.pl_logic.specs.declared.switch_records.Member.{Member}
 use Rattle.pl_layouts.specs.Equality.{same_mac}
 use Rattle.pl_layouts.specs.Frames.{mac_number}
-use Rattle.pl_switch_rule.specs.Intake.{is_member, leaves, member_cmp, then_by}
+use Rattle.pl_switch_rule.specs.Intake.{is_member, leaves, member_cmp}
 use Rattle.pl_members.specs.Ranking.{member_cmp_total}
 use Rattle.pl_members.specs.Reached.{IsAtPort, IsMac}
 use Rattle.pl_members.proofs.Comparing.{equal_both, equal_is, equal_numbers}
@@ -66,8 +66,8 @@ same_address a b is_a is_b = equal_numbers (mac_number a) (mac_number b) ∙ eli
 
 pub same_member : (x m : Member) → IsMac x.amac → IsMac m.amac → is_it x m ≡ ((m.group == x.group) && is_member x.port x.amac m)
 same_member x m is_x is_m =
-    equal_both (nat_cmp x.group m.group) (then_by (nat_cmp x.port m.port) (nat_cmp (mac_number x.amac) (mac_number m.amac)))
-    ∙ ap (λ b. b && is_eq (then_by (nat_cmp x.port m.port) (nat_cmp (mac_number x.amac) (mac_number m.amac)))) (equal_numbers x.group m.group)
+    equal_both (nat_cmp x.group m.group) (ordering_then (nat_cmp x.port m.port) (nat_cmp (mac_number x.amac) (mac_number m.amac)))
+    ∙ ap (λ b. b && is_eq (ordering_then (nat_cmp x.port m.port) (nat_cmp (mac_number x.amac) (mac_number m.amac)))) (equal_numbers x.group m.group)
     ∙ ap (λ b. (m.group == x.group) && b) (equal_both (nat_cmp x.port m.port) (nat_cmp (mac_number x.amac) (mac_number m.amac))
     ∙ ap (λ b. b && is_eq (nat_cmp (mac_number x.amac) (mac_number m.amac))) (equal_numbers x.port m.port)
     ∙ ap (λ b. (m.port == x.port) && b) (same_address x.amac m.amac is_x is_m))

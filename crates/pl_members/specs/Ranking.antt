@@ -1,14 +1,13 @@
 -- Members rise by group, port and address: that is a total order.
 use Rattle.std.specs.Prelude.{◌≡◌, refl}
 use Rattle.std.specs.declared.cmp.Ordering.{Ordering}
-use Rattle.std.specs.declared.cmp.Ordering.TheVariants.{Less, Equal, Greater}
 use Rattle.std.specs.Cmp.{IsTotalOrder}
-use Rattle.std.specs.Ordering.{nat_cmp, on, ordering_reverse, ordering_then, then_cmp}
+use Rattle.std.specs.Ordering.{nat_cmp, on, ordering_reverse, then_cmp}
 use Rattle.std.proofs.Common.{sym, ap, ◌∙◌}
 use Rattle.std.proofs.lemmas.Cmp.{nat_cmp_total, on_total, then_total}
 use Rattle.pl_logic.specs.declared.switch_records.Member.{Member}
 use Rattle.pl_layouts.specs.Frames.{mac_number}
-use Rattle.pl_switch_rule.specs.Intake.{member_cmp, then_by}
+use Rattle.pl_switch_rule.specs.Intake.{member_cmp}
 
 abbrev ranks : Member → Member → Ordering
 ranks = then_cmp (on (λ m. m.group) nat_cmp) (then_cmp (on (λ m. m.port) nat_cmp) (on (λ m. mac_number m.amac) nat_cmp))
@@ -16,16 +15,8 @@ ranks = then_cmp (on (λ m. m.group) nat_cmp) (then_cmp (on (λ m. m.port) nat_c
 ranks_total : IsTotalOrder ranks
 ranks_total = then_total (on_total (λ m. m.group) nat_cmp_total) (then_total (on_total (λ m. m.port) nat_cmp_total) (on_total (λ m. mac_number m.amac) nat_cmp_total))
 
-pub then_same : (first next : Ordering) → then_by first next ≡ ordering_then first next
-then_same Less next = refl
-then_same Equal next = refl
-then_same Greater next = refl
-
 same_rank : (a b : Member) → member_cmp a b ≡ ranks a b
-same_rank a b =
-    let ports = nat_cmp a.port b.port in
-    let macs = nat_cmp (mac_number a.amac) (mac_number b.amac) in
-    then_same (nat_cmp a.group b.group) (then_by ports macs) ∙ ap (ordering_then (nat_cmp a.group b.group)) (then_same ports macs)
+same_rank a b = refl
 
 pub member_cmp_total : IsTotalOrder member_cmp
 member_cmp_total = record {

@@ -10,10 +10,11 @@ ghost use Rattle.pl_logic.specs.Traps.{newer_trap};
 ghost use Rattle.pl_steps.specs.Steps.{does};
 ghost use Rattle.pl_steps.specs.Taken.{IsTaken, IsTakenByPart};
 ghost use Rattle.pl_switch_rule.specs.Delivering.{addresses, if_newer, last_trap, redirects};
-ghost use Rattle.pl_switch_rule.specs.Granting.{granted, grants_at, grants_or_learns, grants_remembered, grants_source, in_use, learns_ip, same_ip};
+ghost use Rattle.pl_switch_rule.specs.Granting.{granted, grants_at, grants_or_learns, grants_remembered, grants_source, in_use, learns_ip};
 ghost use Rattle.pl_migrate.specs.Books.{address_in, address_in_use, book_in, empty_book, granted_in, grantee_in, grants_of, is_here, is_in_use, is_last_given, next_address, sources_in, trap_in, traps, with_granted, with_next};
 ghost use Rattle.pl_migrate.specs.Keeping.{IsGrantedOnce, IsHostsOwn, KeepsGrants, KeepsTraps};
 ghost use Rattle.pl_migrate.specs.PortGrants.{TakesPlaceOf};
+ghost use Rattle.pl_layouts.specs.Equality.{is_ip};
 
 use crate::port_grants::PortGrants;
 use crate::{GrantError, Grantee};
@@ -431,7 +432,7 @@ impl AddressBook {
 }
 
 fn is_same_ip(known: Option<Ip4>, ip: Ip4) -> bool
-    ensures { result ≡ same_ip known ip }
+    ensures { result ≡ is_ip known ip }
 {
     known == Some(ip)
 }

@@ -19,14 +19,14 @@ use Rattle.pl_switch_rule.specs.Levels.{changes_to}
 use Rattle.pl_control_plane.specs.ControlPlanes.{AreJoined, ControlPlane}
 use Rattle.pl_control_plane.proofs.Joined.{joined_labels, joined_turned}
 use Rattle.pl_control_plane.proofs.Silent.{changes_to_silent, still_does}
-use Rattle.pl_places.specs.Known.{IsSound, level_of, told_at}
+use Rattle.pl_places.specs.Known.{IsSound, told_at}
 use Rattle.pl_places.specs.Places.{ArePlaced}
 use Rattle.pl_places.specs.Told.{has_heard}
 use Rattle.pl_places.proofs.Later.{IsGoodTurn}
 use Rattle.pl_places.proofs.Turns.{IsGoodView, homes_same, silent_turn, view_itself}
 use Rattle.pl_wiring.specs.Labels.{edge_count}
 use Rattle.pl_wiring.proofs.LabelOrder.{label_of-edge}
-use Rattle.pl_journal.specs.Flights.{first_of}
+use Rattle.pl_journal.specs.Flights.{first_of, label_level}
 use Rattle.pl_journal.specs.declared.cause.Cause.TheVariants.{NotPlaced}
 use Rattle.pl_logic.specs.Accounting.{IsShaped}
 use Rattle.pl_logic.specs.PortRecords.{is_open_to_hosts, with_port}
@@ -103,7 +103,7 @@ module _ (plan : Plan) (f : ControlPlane) (s : ℕ) (is : IsPlan plan) (old : Ar
           (comes_from_switch_silent choose (f.view s) port frame chooses (old.sound s there).homes)
 
   module _ (port : ℕ) (at_edge : s < edge_count plan.k) (within : port < plan.k) (free : peer_of plan s port ≡ HostPort) where
-    edge_level : level_of (label_of plan.k s) ≡ 0
+    edge_level : label_level (label_of plan.k s) ≡ 0
     edge_level = rw (label_of-edge plan.k s at_edge) refl
 
     abbrev found : SwitchView

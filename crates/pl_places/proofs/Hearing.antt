@@ -25,7 +25,7 @@ use Rattle.pl_switch_rule.specs.SwitchRule.{hears_control}
 use Rattle.pl_control_plane.specs.ControlPlanes.{AreJoined, ControlPlane, messages_of}
 use Rattle.pl_control_plane.proofs.Joined.{joined_labels, joined_turned}
 use Rattle.pl_control_plane.proofs.Silent.{changes_to_silent, still_does}
-use Rattle.pl_places.specs.Known.{HasPod, IsFull, IsSound, level_of, pod_of, told_at}
+use Rattle.pl_places.specs.Known.{HasPod, IsFull, IsSound, pod_of, told_at}
 use Rattle.pl_places.specs.Places.{ArePlaced, PositionsDiffer}
 use Rattle.pl_places.specs.Told.{IsGoodMessage, IsTold, IsTrueOf, has_heard}
 use Rattle.pl_places.proofs.Later.{IsGoodTurn}
@@ -35,6 +35,7 @@ use Rattle.pl_places.proofs.Given.GivesLevel.{FromEdge, FromPods, Stays, Unknown
 use Rattle.pl_places.proofs.Given.GivesPod.{KeptPod, ToldPod}
 use Rattle.pl_places.proofs.Neighbours.{near_aggregation, near_edge, neighbour_at, one_number, one_peer, turned_below, zero_of_pod}
 use Rattle.pl_places.proofs.Voting.{holds_view, known_is, noted_edge, proposal_turn, vote_turn}
+use Rattle.pl_journal.specs.Flights.{label_level}
 
 pub set_or_old : {T : Type 0} (xs : List T) (n m : ℕ) (x d : T) → ((m ≡ n) × (get_or (set xs n x) m d ≡ x)) ⊎ (get_or (set xs n x) m d ≡ get_or xs m d)
 set_or_old [] n m x d = inr refl
@@ -161,12 +162,12 @@ module _ (plan : Plan) (f : ControlPlane) (s : ℕ) (is : IsPlan plan) (old : Ar
   labels : IsBelow (label_of plan.k s) (label_of plan.k t) ⊎ IsBelow (label_of plan.k t) (label_of plan.k s)
   labels = joined_labels plan s port t q is (joined_turned plan t q s port is joined)
 
-  told_level : (x : ℕ) → m.place.level ≡ Some x → level_of (label_of plan.k t) ≡ x
+  told_level : (x : ℕ) → m.place.level ≡ Some x → label_level (label_of plan.k t) ≡ x
   told_level x e = sym ((old.own t).level x (told.so.level x e))
 
   -- two aggregation switches of different pods are below a core switch
   core_level : (ports : List PortRecord) → ports ≡ set (f.view s).ports port (record { host = (port_of (f.view s) port).host; heard = Some (record { id = id; place = m.place; echo = m.echo }); silent = 0 }) →
-      m.place.level ≡ Some 1 → list_any (is_of_other_pod m.place.pod) ports ≡ true → level_of (label_of plan.k s) ≡ 2
+      m.place.level ≡ Some 1 → list_any (is_of_other_pod m.place.pod) ports ≡ true → label_level (label_of plan.k s) ≡ 2
   core_level ports ports_are level any = elim (near_aggregation (label_of plan.k s) (label_of plan.k t) labels (told_level 1 level)) [
     | inl edge ↦
         let found = found_other m.place.pod ports any in
@@ -189,7 +190,7 @@ module _ (plan : Plan) (f : ControlPlane) (s : ℕ) (is : IsPlan plan) (old : Ar
   ]
 
   own_level : (ports : List PortRecord) → ports ≡ set (f.view s).ports port (record { host = (port_of (f.view s) port).host; heard = Some (record { id = id; place = m.place; echo = m.echo }); silent = 0 }) →
-      (level : Option ℕ) → GivesLevel (f.view s).place m.place ports level → (x : ℕ) → level ≡ Some x → x ≡ level_of (label_of plan.k s)
+      (level : Option ℕ) → GivesLevel (f.view s).place m.place ports level → (x : ℕ) → level ≡ Some x → x ≡ label_level (label_of plan.k s)
   own_level ports ports_are level (Stays n was now) x e = (old.own s).level x (was ∙ sym now ∙ e)
   own_level ports ports_are level (FromEdge was edge now) x e =
       sym (same_Some 1 x (sym now ∙ e)) ∙ sym (near_edge (label_of plan.k s) (label_of plan.k t) labels (told_level 0 edge)).0

@@ -14,18 +14,19 @@ use Rattle.pl_logic.specs.PortRecords.{heard_place, port_of}
 use Rattle.pl_logic.specs.SwitchViews.{SwitchView}
 use Rattle.pl_control_plane.specs.ControlPlanes.{AreJoined, ControlPlane}
 use Rattle.pl_control_plane.proofs.Joined.{joined_turned}
-use Rattle.pl_places.specs.Known.{HasPod, IsZeroOf, level_of, pod_of, told_at}
+use Rattle.pl_places.specs.Known.{HasPod, IsZeroOf, pod_of, told_at}
 use Rattle.pl_places.specs.Places.{ArePlaced, PositionsDiffer}
+use Rattle.pl_journal.specs.Flights.{label_level}
 
 -- an edge switch has aggregation switches of its pod above it
-edge_below : (a b : Label) → IsBelow a b → level_of a ≡ 0 → (level_of b ≡ 1) × (pod_of a ≡ pod_of b)
+edge_below : (a b : Label) → IsBelow a b → label_level a ≡ 0 → (label_level b ≡ 1) × (pod_of a ≡ pod_of b)
 edge_below (Edge p i) (Aggregation q j) below e = (refl, ap (λ x. Some x) below)
 edge_below (Edge p i) (Edge q j) below e = absurd below
 edge_below (Edge p i) (Core q j) below e = absurd below
 edge_below (Aggregation p i) b below e = absurd (omega (arith, e))
 edge_below (Core p i) b below e = absurd (omega (arith, e))
 
-no_edge_above : (a b : Label) → IsBelow a b → level_of b ≡ 0 → ⊥
+no_edge_above : (a b : Label) → IsBelow a b → label_level b ≡ 0 → ⊥
 no_edge_above (Edge p i) (Aggregation q j) below e = omega (arith, e)
 no_edge_above (Edge p i) (Edge q j) below e = below
 no_edge_above (Edge p i) (Core q j) below e = below
@@ -36,7 +37,7 @@ no_edge_above (Core p i) (Edge q j) below e = below
 no_edge_above (Core p i) (Aggregation q j) below e = below
 no_edge_above (Core p i) (Core q j) below e = below
 
-other_end : (a b : Label) → IsBelow a b → level_of b ≡ 1 → level_of a ≡ 0
+other_end : (a b : Label) → IsBelow a b → label_level b ≡ 1 → label_level a ≡ 0
 other_end (Edge p i) b below e = refl
 other_end (Aggregation p i) (Core q j) below e = absurd (omega (arith, e))
 other_end (Aggregation p i) (Edge q j) below e = absurd below
@@ -45,7 +46,7 @@ other_end (Core p i) (Edge q j) below e = absurd below
 other_end (Core p i) (Aggregation q j) below e = absurd below
 other_end (Core p i) (Core q j) below e = absurd below
 
-above_end : (a b : Label) → IsBelow a b → level_of a ≡ 1 → level_of b ≡ 2
+above_end : (a b : Label) → IsBelow a b → label_level a ≡ 1 → label_level b ≡ 2
 above_end (Aggregation p i) (Core q j) below e = refl
 above_end (Aggregation p i) (Edge q j) below e = absurd below
 above_end (Aggregation p i) (Aggregation q j) below e = absurd below
@@ -53,11 +54,11 @@ above_end (Edge p i) b below e = absurd (omega (arith, e))
 above_end (Core p i) b below e = absurd (omega (arith, e))
 
 -- of two neighbours, in either order
-pub near_edge : (a b : Label) → IsBelow a b ⊎ IsBelow b a → level_of b ≡ 0 → (level_of a ≡ 1) × (pod_of a ≡ pod_of b)
+pub near_edge : (a b : Label) → IsBelow a b ⊎ IsBelow b a → label_level b ≡ 0 → (label_level a ≡ 1) × (pod_of a ≡ pod_of b)
 near_edge a b (inl below) e = absurd (no_edge_above a b below e)
 near_edge a b (inr below) e = let x = edge_below b a below e in (x.0, sym x.1)
 
-pub near_aggregation : (a b : Label) → IsBelow a b ⊎ IsBelow b a → level_of b ≡ 1 → (level_of a ≡ 0) ⊎ (level_of a ≡ 2)
+pub near_aggregation : (a b : Label) → IsBelow a b ⊎ IsBelow b a → label_level b ≡ 1 → (label_level a ≡ 0) ⊎ (label_level a ≡ 2)
 near_aggregation a b (inl below) e = inl (other_end a b below e)
 near_aggregation a b (inr below) e = inr (above_end b a below e)
 

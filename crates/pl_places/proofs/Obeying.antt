@@ -12,7 +12,6 @@ use Rattle.pl_steps.specs.Steps.{rests}
 use Rattle.pl_switch_rule.specs.Levels.{changes_to}
 use Rattle.pl_control_plane.specs.ControlPlanes.{ControlPlane}
 use Rattle.pl_control_plane.proofs.Silent.{changes_to_silent, still_does}
-use Rattle.pl_places.specs.Known.{level_of}
 use Rattle.pl_places.specs.Places.{ArePlaced}
 use Rattle.pl_places.proofs.Later.{IsGoodTurn}
 use Rattle.pl_places.proofs.Turns.{IsGoodView, new_view, same_ports, silent_turn, view_itself}
@@ -27,8 +26,9 @@ use Rattle.pl_control_plane.proofs.Silent.{still_step}
 use Rattle.pl_control_plane.proofs.SilentHosts.{answers_silent, floods_silent, invalidates_silent}
 use Rattle.pl_places.specs.Places.{IsPodNumber}
 use Rattle.pl_places.proofs.Voting.{known_is, none_is}
+use Rattle.pl_journal.specs.Flights.{label_level}
 
-is_edge : (label : Label) → 0 ≡ level_of label → (pod : ℕ) × (i : ℕ) × (label ≡ Edge pod i)
+is_edge : (label : Label) → 0 ≡ label_level label → (pod : ℕ) × (i : ℕ) × (label ≡ Edge pod i)
 is_edge (Edge pod i) e = (pod, i, refl)
 is_edge (Aggregation pod j) e = absurd (omega (arith, e))
 is_edge (Core group m) e = absurd (omega (arith, e))

@@ -28,13 +28,14 @@ use Rattle.pl_control_plane.proofs.PlaneQueues.{any_append, flat_map_append}
 use Rattle.pl_control_plane.proofs.Reading.{ldm_writable, proposal_writable, written_is_read}
 use Rattle.pl_control_plane.proofs.Silent.{IsStill, changes_told_still, mute_sends_none, still_mute}
 use Rattle.pl_world.proofs.Counts.{all_append}
-use Rattle.pl_places.specs.Known.{IsAble, IsOwn, IsSound, level_of}
+use Rattle.pl_places.specs.Known.{IsAble, IsOwn, IsSound}
 use Rattle.pl_places.specs.Places.{ArePlaced}
 use Rattle.pl_places.specs.Told.{IsGoodMessage, has_heard}
 use Rattle.pl_places.proofs.Later.{IsGoodTurn, true_of_itself}
 use Rattle.pl_places.proofs.Turns.{IsGoodView, SamePorts, full_same, homes_same, same_view}
+use Rattle.pl_journal.specs.Flights.{label_level}
 
-level_low : (label : Label) → level_of label < 3
+level_low : (label : Label) → label_level label < 3
 level_low (Edge pod i) = omega arith
 level_low (Aggregation pod j) = omega arith
 level_low (Core group m) = omega arith

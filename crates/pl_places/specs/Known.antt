@@ -11,11 +11,7 @@ use Rattle.pl_logic.specs.PortRecords.{heard_place, new_port}
 use Rattle.pl_logic.specs.SwitchFacts.{hold_at}
 use Rattle.pl_logic.specs.SwitchViews.{SwitchView}
 use Rattle.pl_control_plane.specs.Homes.{HasHomes}
-
-abbrev pub level_of : Label → ℕ
-level_of (Edge pod i) = 0
-level_of (Aggregation pod j) = 1
-level_of (Core group m) = 2
+use Rattle.pl_journal.specs.Flights.{label_level}
 
 -- the pod of the tree that a label is in; a core switch is in none
 abbrev pub pod_of : Label → Option ℕ
@@ -25,7 +21,7 @@ pod_of (Core group m) = None
 
 -- a known level is the label's; an edge switch alone has a position, one of the pod, and no core switch knows a pod
 pub record IsOwn (k : ℕ) (label : Label) (place : Place) : Type 0 where
-  pub level : (x : ℕ) → place.level ≡ Some x → x ≡ level_of label
+  pub level : (x : ℕ) → place.level ≡ Some x → x ≡ label_level label
   pub position : (x : ℕ) → place.position ≡ Some x → (place.level ≡ Some 0) × (x < k / 2)
   pub pod : (x : ℕ) → place.pod ≡ Some x → ((place.level ≡ Some 0) ⊎ (place.level ≡ Some 1)) × (x < 65535)
 

@@ -2,9 +2,8 @@
 use Rattle.std.proofs.Common.{◌≡◌, ℕ, ◌<◌, ◌==◌, ◌&&◌, ◌||◌, not, nat_lt, Bool, true, false, true≢false, if◌then◌else◌, Option, Some, None, refl, sym, ◌∙◌, ap, eq-eqb, ne_eqb, lt-ltb, arith}
 use Rattle.std.specs.Option.{option_map}
 use Rattle.pl_logic.specs.declared.switch_records.Hold.{Hold}
-use Rattle.pl_logic.specs.SwitchFacts.{has_granted, hold_at, holder_and_mark, holder_of}
+use Rattle.pl_logic.specs.SwitchFacts.{has_granted, hold_at, holder_and_mark, holder_of, is_news}
 use Rattle.pl_logic.specs.SwitchViews.{SwitchView}
-use Rattle.pl_placing.specs.News.{is_news}
 use Rattle.pl_placing.specs.Resting.{IsAnswered}
 use Rattle.pl_placing.specs.Resting.IsAnswered.{Counted, Refused}
 

@@ -7,9 +7,10 @@ use Rattle.pl_wiring.specs.Plan.{IsPlan, Plan}
 use Rattle.pl_wiring.proofs.LabelOrder.{half_at_least, label_of-IsLabel, label_of-number_of, number_of-label_of}
 use Rattle.pl_control_plane.specs.ControlPlanes.{AreJoined}
 use Rattle.pl_control_plane.proofs.Joined.{joined_labels, joined_there}
-use Rattle.pl_places.specs.Known.{level_of, pod_of}
+use Rattle.pl_places.specs.Known.{pod_of}
 use Rattle.pl_places.proofs.Neighbours.{near_edge, turned_below}
 use Rattle.pl_votes.specs.Voting.{aggregation_no, edge_no}
+use Rattle.pl_journal.specs.Flights.{label_level}
 
 -- an edge switch of this pod
 pub record IsEdgeAt (k pod s : ℕ) : Type 0 where
@@ -17,7 +18,7 @@ pub record IsEdgeAt (k pod s : ℕ) : Type 0 where
   pub edge : IsLabel k (Edge pod i)
   pub at : s ≡ edge_no k pod i
 
-edge_of : (k pod s : ℕ) (label : Label) → label_of k s ≡ label → IsLabel k label → level_of label ≡ 0 → pod_of label ≡ Some pod → IsEdgeAt k pod s
+edge_of : (k pod s : ℕ) (label : Label) → label_of k s ≡ label → IsLabel k label → label_level label ≡ 0 → pod_of label ≡ Some pod → IsEdgeAt k pod s
 edge_of k pod s (Edge other i) is within level of =
     let same : other ≡ pod = cc of in
     record {
@@ -30,7 +31,7 @@ edge_of k pod s (Core group m) is within level of = absurd (omega (arith, level)
 
 -- a switch of level 0 that is joined to an aggregation switch is an edge switch of its pod
 pub edge_joined : (plan : Plan) (t q pod j port : ℕ) → IsPlan plan → IsLabel plan.k (Aggregation pod j) → AreJoined plan t q (aggregation_no plan.k pod j) port →
-    0 ≡ level_of (label_of plan.k t) → IsEdgeAt plan.k pod t
+    0 ≡ label_level (label_of plan.k t) → IsEdgeAt plan.k pod t
 edge_joined plan t q pod j port is label joined level =
     let a = aggregation_no plan.k pod j in
     let two = half_at_least plan.k is.arity in

@@ -31,7 +31,6 @@ use Rattle.pl_control_plane.specs.ControlPlanes.{ControlPlane, control_plane}
 use Rattle.pl_control_plane.specs.HostsAtEdges.{IsAtEdge}
 use Rattle.pl_control_plane.specs.PlaneSteps.{SwitchTurns}
 use Rattle.pl_control_plane.proofs.Turning.{solid, switch_turns}
-use Rattle.pl_places.specs.Known.{level_of}
 use Rattle.pl_places.specs.Told.{IsTrueOf}
 use Rattle.pl_places.proofs.Later.{true_of_itself}
 use Rattle.pl_kept.specs.Kept.{Kept}
@@ -40,6 +39,7 @@ use Rattle.pl_placing.proofs.HostLevels.{host_gives_level}
 use Rattle.pl_placing.proofs.Receiving.{HostComesAt, step_goes}
 use Rattle.pl_placing.proofs.Seeing.{Seen, Turned}
 use Rattle.pl_placing.proofs.Seeing.Seen.{Gone, Hears, Quiet, Ticks}
+use Rattle.pl_journal.specs.Flights.{label_level}
 
 -- what was known of places is known later
 turned_later : (f m g : ControlPlane) (x : ℕ) (st : SwitchStep) → Turned f m g x st → (s : ℕ) → IsTrueOf (f.view s).place (g.view s).place
@@ -57,7 +57,7 @@ seen_later f g (Ticks x turn) s = turned_later f f g x _ turn s
 seen_later f g (Hears m t q x port read joined taken good turn) s = turned_later f m g x _ turn s
 
 module _ (old : WorldView) (kept : Kept old) (new : WorldView) where
-  edge_level : (s : ℕ) → level_of (label_of old.plan.k s) ≡ 0 → (((control_plane old).view s).place.level ≡ None) ⊎ (((control_plane old).view s).place.level ≡ Some 0)
+  edge_level : (s : ℕ) → label_level (label_of old.plan.k s) ≡ 0 → (((control_plane old).view s).place.level ≡ None) ⊎ (((control_plane old).view s).place.level ≡ Some 0)
   edge_level s edge = by ((control_plane old).view s).place.level refl
     where
       by : (o : Option ℕ) → ((control_plane old).view s).place.level ≡ o → (((control_plane old).view s).place.level ≡ None) ⊎ (((control_plane old).view s).place.level ≡ Some 0)
@@ -72,7 +72,7 @@ module _ (old : WorldView) (kept : Kept old) (new : WorldView) where
       let choose = turns.ruled.choose in
       let step = ap (λ b. (if◌then◌else◌ {A = SwitchStep} b (control_comes v stand.port frame) (data_comes choose v stand.port frame)).view) is_frame in
       let within : stand.port < length v.ports = let size = turns.size in let shaped = turns.shaped.ports in let port = at.port in omega (arith, size, shaped, port) in
-      let edge = ap level_of (label_of-edge old.plan.k s at.edge) in
+      let edge = ap label_level (label_of-edge old.plan.k s at.edge) in
       ap (λ (x : SwitchView). x.place.level) (turns.acted.here ∙ turns.ruled.steps.view ∙ step)
       ∙ host_gives_level choose v stand.port frame turns.ruled.is_choice (kept.placed.strangers s stand.port at.free) (edge_level s edge) within (kept.placed.sound s turns.there).homes
 

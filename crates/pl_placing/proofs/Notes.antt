@@ -24,7 +24,6 @@ use Rattle.pl_switch_rule.specs.Positions.{after_vote, answers_proposal, frees_o
 use Rattle.pl_switch_rule.specs.SwitchRule.{hears_control}
 use Rattle.pl_control_plane.specs.ControlPlanes.{AreJoined, ControlPlane, message_in, messages_of, sends}
 use Rattle.pl_control_plane.proofs.Joined.{joined_there, joined_turned}
-use Rattle.pl_places.specs.Known.{level_of}
 use Rattle.pl_places.specs.Places.{ArePlaced}
 use Rattle.pl_places.specs.Told.{IsGoodMessage, has_heard}
 use Rattle.pl_places.proofs.Later.{left_keeps}
@@ -41,6 +40,7 @@ use Rattle.pl_placing.proofs.Ports.{heard_aged}
 use Rattle.pl_placing.proofs.Seeing.{Seen}
 use Rattle.pl_placing.proofs.Seeing.Seen.{Gone, Hears, Quiet, Ticks}
 use Rattle.pl_placing.proofs.Telling.{Fits, heard_here, heard_there, noted_other}
+use Rattle.pl_journal.specs.Flights.{label_level}
 
 all_front : {X : Type 0} (P : X → Type 0) (xs ys : List X) → AllByRecursion P (xs ++ ys) → AllByRecursion P xs
 all_front P [] ys all = tt
@@ -153,7 +153,7 @@ seen_noted f g is placed can v n (Hears m t at s port read joined taken good tur
         (heard_here (m.view s) port (m.view t).id read (m.view e) (m.says e p) (ap (λ x. (m.view x).id.0) ends.0)
         (let ports = turn.shaped.ports in let size = turn.size in let there = joined_there f.plan s port t at is back in let within = there.1 in omega (arith, ports, size, within))
         turn.shaped.holds
-        (λ x level. (placed_m.own s).level x level ∙ ap (λ y. level_of (label_of f.plan.k y)) (sym here) ∙ ap level_of (label_of-number_of f.plan.k (Aggregation pod j) aggregation))
+        (λ x level. (placed_m.own s).level x level ∙ ap (λ y. label_level (label_of f.plan.k y)) (sym here) ∙ ap label_level (label_of-number_of f.plan.k (Aggregation pod j) aggregation))
         (from_sender (m.view t).id (m.view t).place (has_heard (m.view t) at) (messages_of read) good)
         (fits_of (m.view s).k (m.view t).id (m.view t).place (has_heard (m.view t) at)
         (λ x position. subst (λ k. x < half k) (sym turn.size) ((placed_m.own t).position x position).1) (messages_of read) good)

@@ -5,7 +5,7 @@ use Rattle.std.proofs.lemmas.Bool.{and_parts, cases_eq}
 use Rattle.pl_frame.specs.declared.address.SwitchId.{SwitchId}
 use Rattle.pl_layouts.specs.declared.control.Control.{Control}
 use Rattle.pl_layouts.specs.declared.control.Ldm.{Ldm as Message}
-use Rattle.pl_layouts.specs.Control.{is_level, is_sound_ldm}
+use Rattle.pl_layouts.specs.Control.{is_sound_ldm}
 use Rattle.pl_layouts.specs.Placement.{is_known}
 use Rattle.pl_wiring.specs.declared.label.Label.TheVariants.{Aggregation, Edge}
 use Rattle.pl_wiring.specs.Labels.{IsLabel}
@@ -116,12 +116,12 @@ silent_tick v x fixed said says =
 -- a message that tells a position tells level 0
 pub told_level : (m : Message) (x : ℕ) → is_sound_ldm m ≡ true → m.place.position ≡ Some x → is_known m.place.level 0 ≡ true
 told_level m x sound told =
-    let a = and_parts ((is_none m.place.level || is_level m.place.level 0 || is_level m.place.level 1 || is_level m.place.level 2) && nat_lt m.direction 3 && (is_none m.place.position || is_level m.place.level 0))
-    (is_none m.place.pod || is_level m.place.level 0 || is_level m.place.level 1) sound in
-    let b = and_parts ((is_none m.place.level || is_level m.place.level 0 || is_level m.place.level 1 || is_level m.place.level 2) && nat_lt m.direction 3) (is_none m.place.position || is_level m.place.level 0) a.0 in
-    level m.place.level (subst (λ o. (is_none o || is_level m.place.level 0) ≡ true) told b.1)
+    let a = and_parts ((is_none m.place.level || is_known m.place.level 0 || is_known m.place.level 1 || is_known m.place.level 2) && nat_lt m.direction 3 && (is_none m.place.position || is_known m.place.level 0))
+    (is_none m.place.pod || is_known m.place.level 0 || is_known m.place.level 1) sound in
+    let b = and_parts ((is_none m.place.level || is_known m.place.level 0 || is_known m.place.level 1 || is_known m.place.level 2) && nat_lt m.direction 3) (is_none m.place.position || is_known m.place.level 0) a.0 in
+    level m.place.level (subst (λ o. (is_none o || is_known m.place.level 0) ≡ true) told b.1)
   where
-    level : (o : Option ℕ) → is_level o 0 ≡ true → is_known o 0 ≡ true
+    level : (o : Option ℕ) → is_known o 0 ≡ true → is_known o 0 ≡ true
     level None h = absurd (cc h)
     level (Some n) h = h
 

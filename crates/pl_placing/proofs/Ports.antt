@@ -17,7 +17,7 @@ use Rattle.pl_logic.specs.PortRecords.{aged, is_open_to_hosts, new_port, port_of
 use Rattle.pl_logic.specs.SwitchViews.{SwitchView}
 use Rattle.pl_steps.specs.Steps.{SwitchStep, rests, ◌▹◌}
 use Rattle.pl_switch_rule.specs.Forwarding.{Choice}
-use Rattle.pl_switch_rule.specs.Granting.{address_at_port, forgets, grant_number, grants_at, granted, grants_next, grants_or_learns, grants_remembered, grants_source, in_use, is_granted, is_port_spent, learns_ip, remembered_at, same_ip, with_grant}
+use Rattle.pl_switch_rule.specs.Granting.{address_at_port, forgets, grant_number, grants_at, granted, grants_next, grants_or_learns, grants_remembered, grants_source, in_use, is_granted, is_port_spent, learns_ip, remembered_at, with_grant}
 use Rattle.pl_switch_rule.specs.Intake.{comes_from_host}
 use Rattle.pl_switch_rule.specs.Levels.{changes_to, has_become_placed, with_pod}
 use Rattle.pl_switch_rule.specs.Messages.{answer_frame, flood_frame, hears_manager, takes_pod}
@@ -26,11 +26,12 @@ use Rattle.pl_switch_rule.specs.SwitchRule.{IsChoice, comes_from_switch, data_co
 use Rattle.pl_control_plane.specs.Homes.{HasHomes}
 use Rattle.pl_control_plane.proofs.SilentFrames.{comes_from_switch_silent}
 use Rattle.pl_control_plane.proofs.SilentHosts.{answers_silent, floods_silent, invalidates_silent}
+use Rattle.pl_layouts.specs.Equality.{is_ip}
 
 ports_learns_ip : (v : SwitchView) (address : Pmac) (grant : Option Grant) (ip : Option Ip4) → (learns_ip v address grant ip).view.ports ≡ v.ports
 ports_learns_ip v address None ip = refl
 ports_learns_ip v address (Some grant) None = refl
-ports_learns_ip v address (Some grant) (Some ip) = by (same_ip grant.ip ip)
+ports_learns_ip v address (Some grant) (Some ip) = by (is_ip grant.ip ip)
   where
     by : (b : Bool) → (if◌then◌else◌ {A = SwitchStep} b (rests v) (record { view = with_grant v address (record grant { ip = Some ip }); acts = Tell (Learned address grant.amac (Some ip)) ∷ [] })).view.ports ≡ v.ports
     by true = refl

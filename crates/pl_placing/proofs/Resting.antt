@@ -14,7 +14,6 @@ use Rattle.pl_logic.specs.PortRecords.{place_at}
 use Rattle.pl_logic.specs.SwitchFacts.{has_granted}
 use Rattle.pl_switch_rule.specs.Positions.{half}
 use Rattle.pl_control_plane.specs.ControlPlanes.{AreJoined, ControlPlane}
-use Rattle.pl_places.specs.Known.{level_of}
 use Rattle.pl_places.specs.Places.{ArePlaced}
 use Rattle.pl_votes.specs.Voting.{AreVoting, aggregation_no, edge_no}
 use Rattle.pl_votes.proofs.Wired.{number_there, same_end}
@@ -23,6 +22,7 @@ use Rattle.pl_placing.specs.Resting.{FirstKnowsPod, HasFirst, HavePositions, IsA
 use Rattle.pl_placing.specs.Resting.IsAnswered.{Counted, Refused}
 use Rattle.pl_placing.specs.Trying.{AreTrying, HasReason}
 use Rattle.pl_placing.specs.Trying.HasReason.{IsBehind, IsTaken}
+use Rattle.pl_journal.specs.Flights.{label_level}
 
 -- Each of n numbers has a port among these, and no two have one: so there are n of them.
 
@@ -231,4 +231,4 @@ module _ (f : ControlPlane) (is : IsPlan f.plan) (placed : ArePlaced f.plan f) (
         level_of_it aggregation some =
             let a = aggregation_no f.plan.k pod 0 in
             let level = known (f.view a).place.level some in
-            level.1 ∙ ap Some ((placed.own a).level level.0 level.1 ∙ ap level_of (label_of-number_of f.plan.k (Aggregation pod 0) aggregation))
+            level.1 ∙ ap Some ((placed.own a).level level.0 level.1 ∙ ap label_level (label_of-number_of f.plan.k (Aggregation pod 0) aggregation))

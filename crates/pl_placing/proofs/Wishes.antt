@@ -32,7 +32,7 @@ use Rattle.pl_switch_rule.specs.declared.came.Came.{Came}
 use Rattle.pl_switch_rule.specs.declared.came.Came.TheVariants.{FromHost}
 use Rattle.pl_switch_rule.specs.Delivering.{addresses, arrives_home, begins, comes_home, delivers, delivers_or_redirects, delivers_to, destination, goes_on, if_newer, is_trapped, last_trap, makes, newer_address, redirects, redirects_on, tells_newer, tells_sender, trap_for}
 use Rattle.pl_switch_rule.specs.Forwarding.{Choice, came_by, candidates_by, forwards, leaves_by}
-use Rattle.pl_switch_rule.specs.Granting.{address_at_port, forgets, granted, grants_at, grants_next, grants_or_learns, grants_remembered, grants_source, grant_number, has_no_address, in_use, is_granted, is_local, is_port_spent, learns_ip, learns_source, remembered_at, remembers, same_ip, sender_ip, with_grant}
+use Rattle.pl_switch_rule.specs.Granting.{address_at_port, forgets, granted, grants_at, grants_next, grants_or_learns, grants_remembered, grants_source, grant_number, has_no_address, in_use, is_granted, is_local, is_port_spent, learns_ip, learns_source, remembered_at, remembers, sender_ip, with_grant}
 use Rattle.pl_switch_rule.specs.GroupForwarding.{destination_group, forwards_group, group_ports, no_way, passes_or_drops, way_of}
 use Rattle.pl_switch_rule.specs.Intake.{comes_from_host, group_told, groups_of, groups_told, has_member_of, hears_members, is_for_switch, members_become, packet_acts, query, sends_in, source_pmac, takes, takes_in, takes_in_or_spent, with_pmac}
 use Rattle.pl_switch_rule.specs.Levels.{becomes_edge, changes_to, finds_host, has_become_placed, settles_in, with_pod}
@@ -55,6 +55,7 @@ use Rattle.pl_switch_rule.specs.SwitchRule.{control_comes, hears_control, switch
 use Rattle.pl_control_plane.specs.ControlPlanes.{tells}
 use Rattle.pl_votes.proofs.Aside.{Stance, aside_data, changes, mild_manager}
 use Rattle.pl_placing.specs.Asking.{is_wish}
+use Rattle.pl_layouts.specs.Equality.{is_ip}
 
 -- an act tells no wish for a pod
 abbrev IsNoWish : Act → Type 0
@@ -132,7 +133,7 @@ no_wish_told old new = by (is_known new.place.level 0 && is_known new.place.posi
 content_learns_ip : (v : SwitchView) (address : Pmac) (grant : Option Granting) (ip : Option Ip4) → IsContent v (learns_ip v address grant ip)
 content_learns_ip v address None ip = content_rests v
 content_learns_ip v address (Some grant) None = content_rests v
-content_learns_ip v address (Some grant) (Some ip) = by (same_ip grant.ip ip)
+content_learns_ip v address (Some grant) (Some ip) = by (is_ip grant.ip ip)
   where
     by : (b : Bool) → IsContent v (if b then rests v else record { view = with_grant v address (record grant { ip = Some ip }); acts = Tell (Learned address grant.amac (Some ip)) ∷ [] })
     by true = content_rests v

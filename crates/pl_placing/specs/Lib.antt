@@ -3,6 +3,5 @@ pub mod Placing
 pub mod Noting
 pub mod Resting
 pub mod Bounding
-pub mod News
 pub mod Asking
 pub mod Receiving

@@ -2,7 +2,7 @@ ghost use Rattle.std.specs.Prelude.{◌≡◌, ◌<◌, ℕ, List, None, Some, f
 ghost use Rattle.pl_wiring.specs.declared.label.Label.TheVariants.{Edge};
 ghost use Rattle.pl_wiring.specs.Labels.{IsLabel};
 ghost use Rattle.pl_wiring.specs.Plan.{Plan};
-ghost use Rattle.pl_logic.specs.SwitchFacts.{holder_of};
+ghost use Rattle.pl_logic.specs.SwitchFacts.{holder_of, is_news};
 ghost use Rattle.pl_logic.specs.SwitchViews.{SwitchView};
 ghost use Rattle.pl_manager_rule.specs.ManagerRule.{manager_rule};
 ghost use Rattle.pl_switch_rule.specs.SwitchRule.{Loose};
@@ -16,7 +16,6 @@ ghost use Rattle.pl_world.specs.Worlds.{WorldView};
 ghost use Rattle.pl_control_plane.specs.ControlPlanes.{control_plane};
 ghost use Rattle.pl_votes.specs.Voting.{edge_no};
 ghost use Rattle.pl_kept.specs.Kept.{Kept};
-ghost use Rattle.pl_placing.specs.News.{is_news};
 ghost use Rattle.pl_placing.specs.Placing.{ArePlacing};
 ghost use Rattle.pl_placing.specs.Resting.{FirstKnowsPod, HasFirst, HavePositions, IsAnswered, IsRestingPod, KnowPod};
 

@@ -25,22 +25,23 @@ use Rattle.pl_switch_rule.specs.Positions.{after_vote, answers_proposal, counted
 use Rattle.pl_switch_rule.specs.SwitchRule.{hears_control}
 use Rattle.pl_control_plane.specs.ControlPlanes.{AreJoined, ControlPlane}
 use Rattle.pl_control_plane.proofs.Joined.{joined_labels}
-use Rattle.pl_places.specs.Known.{IsZeroOf, level_of, pod_of}
+use Rattle.pl_places.specs.Known.{IsZeroOf, pod_of}
 use Rattle.pl_places.specs.Places.{ArePlaced}
 use Rattle.pl_votes.specs.Voting.{FixedAreApart}
 use Rattle.pl_votes.proofs.AggregationTurns.{is_asked, same_stance}
 use Rattle.pl_votes.proofs.Aside.{IsAside, Stance, changes}
+use Rattle.pl_journal.specs.Flights.{label_level}
 
 -- Labels.
 
 -- a switch of level 0 has the label of an edge switch
-edge_of : (label : Label) → 0 ≡ level_of label → (pod : ℕ) × (i : ℕ) × (label ≡ Edge pod i)
+edge_of : (label : Label) → 0 ≡ label_level label → (pod : ℕ) × (i : ℕ) × (label ≡ Edge pod i)
 edge_of (Edge pod i) is = (pod, i, refl)
 edge_of (Aggregation pod j) is = absurd (omega (arith, is))
 edge_of (Core group m) is = absurd (omega (arith, is))
 
 -- an edge and an aggregation switch that are joined are of one pod
-one_pod : (s t : Label) (pod i : ℕ) → s ≡ Edge pod i → 1 ≡ level_of t → IsBelow s t ⊎ IsBelow t s → pod_of t ≡ Some pod
+one_pod : (s t : Label) (pod i : ℕ) → s ≡ Edge pod i → 1 ≡ label_level t → IsBelow s t ⊎ IsBelow t s → pod_of t ≡ Some pod
 one_pod s (Aggregation other j) pod i is level (inl below) = let same : pod ≡ other = subst (λ (x : Label). IsBelow x (Aggregation other j)) is below in ap Some (sym same)
 one_pod s (Aggregation other j) pod i is level (inr below) = absurd (subst (λ (x : Label). IsBelow (Aggregation other j) x) is below)
 one_pod s (Edge other j) pod i is level joined = absurd (omega (arith, level))

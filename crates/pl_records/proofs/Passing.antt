@@ -20,7 +20,7 @@ use Rattle.pl_switch_rule.specs.declared.came.Came.{Came}
 use Rattle.pl_switch_rule.specs.declared.came.Came.TheVariants.{FromHost}
 use Rattle.pl_switch_rule.specs.Delivering.{addresses, arrives_home, begins, comes_home, delivers, delivers_or_redirects, delivers_to, destination, goes_on, if_newer, is_trapped, last_trap, makes, newer_address, redirects, redirects_on, tells_newer, tells_sender, trap_for}
 use Rattle.pl_switch_rule.specs.Forwarding.{Choice, candidates_by, forwards, leaves_by}
-use Rattle.pl_switch_rule.specs.Granting.{address_at_port, forgets, granted, grants_at, grants_next, grants_or_learns, grants_remembered, grants_source, grant_number, in_use, is_local, is_port_spent, learns_ip, remembered_at, same_ip, with_grant}
+use Rattle.pl_switch_rule.specs.Granting.{address_at_port, forgets, granted, grants_at, grants_next, grants_or_learns, grants_remembered, grants_source, grant_number, in_use, is_local, is_port_spent, learns_ip, remembered_at, with_grant}
 use Rattle.pl_switch_rule.specs.GroupForwarding.{destination_group, forwards_group, group_ports, no_way, passes_or_drops, way_of}
 use Rattle.pl_switch_rule.specs.Intake.{has_member_of}
 use Rattle.pl_switch_rule.specs.Levels.{changes_to, has_become_placed, settles_in}
@@ -33,13 +33,14 @@ use Rattle.pl_records.specs.Words.{last_said}
 use Rattle.pl_logic.specs.PortRecords.{heard_id, id_at, is_usable, new_port}
 use Rattle.pl_records.proofs.Telling.{AreUnsaid, IsStill, does_still, either_still, rests_still, said_more, step_still, then_still, told_no_members, told_place, unsaid_map}
 use Rattle.pl_records.proofs.Linking.{IsTold, only_same, told_link, told_no_other, usable_same}
+use Rattle.pl_layouts.specs.Equality.{is_ip}
 
 -- Granting addresses.
 
 learns_ip_still : (v : SwitchView) (address : Pmac) (grant : Option Grant) (ip : Option Ip4) → IsStill v (learns_ip v address grant ip)
 learns_ip_still v address None ip = rests_still v
 learns_ip_still v address (Some grant) None = rests_still v
-learns_ip_still v address (Some grant) (Some ip) = by (same_ip grant.ip ip)
+learns_ip_still v address (Some grant) (Some ip) = by (is_ip grant.ip ip)
   where
     by : (b : Bool) → IsStill v (if b then rests v else record { view = with_grant v address (record grant { ip = Some ip }); acts = Tell (Learned address grant.amac (Some ip)) ∷ [] })
     by true = rests_still v

@@ -1,5 +1,5 @@
 -- What is told last of an IPv4 address, in the order of the addresses.
-use Rattle.std.proofs.Common.{◌≡◌, ◌==◌, Bool, true, false, cond, List, [], ◌∷◌, Some, refl, sym, ap, ◌∙◌}
+use Rattle.std.proofs.Common.{◌≡◌, Bool, true, false, cond, List, [], ◌∷◌, Some, refl, sym, ap, ◌∙◌}
 use Rattle.std.specs.List.Sorted.{IsStrictlySortedBy}
 use Rattle.std.specs.Map.{keys_of, lookup}
 use Rattle.std.specs.BTreeMap.{insert_entry}
@@ -16,9 +16,7 @@ use Rattle.pl_manager_rule.proofs.Kept.{ip_exact, ip_total}
 use Rattle.pl_manager_rule.proofs.Tables.{rising_put}
 use Rattle.pl_registry.specs.Owners.{by_address}
 use Rattle.pl_registry.proofs.Alike.{same_tables}
-
-abbrev pub same_ip : Ip4 → Ip4 → Bool
-same_ip a b = a.0 == b.0
+use Rattle.pl_arp.specs.Reception.{same_ip}
 
 is_same : (a b : Ip4) → is_eq (ip_cmp a b) ≡ same_ip a b
 is_same a b = by (same_ip a b) (is_eq (ip_cmp a b)) refl refl

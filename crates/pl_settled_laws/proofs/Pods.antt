@@ -12,23 +12,21 @@ use Rattle.pl_wiring.proofs.Ends.{at_contained}
 use Rattle.pl_wiring.proofs.LabelOrder.{label_of-number_of}
 use Rattle.pl_wiring.proofs.Linked.{peer_is_switch}
 use Rattle.pl_logic.specs.PortRecords.{heard_place, is_usable, place_at}
-use Rattle.pl_logic.specs.SwitchFacts.{holder_of, present_attempt}
+use Rattle.pl_logic.specs.SwitchFacts.{holder_of, is_news, present_attempt}
 use Rattle.pl_logic.specs.SwitchViews.{SwitchView}
-use Rattle.pl_frame.specs.declared.address.SwitchId.{SwitchId}
 use Rattle.pl_world.specs.Worlds.{WorldView}
 use Rattle.pl_fabric.specs.Settled.{IsSettled, IsSettledEnd, IsSettledTowards, holds_another, is_answered, would_change, would_change_by}
-use Rattle.pl_fabric.specs.Settled as settled
 use Rattle.pl_control_plane.specs.ControlPlanes.{AreJoined, control_plane, no_switch}
 use Rattle.pl_control_plane.proofs.Joined.{joined_there, joined_turned}
-use Rattle.pl_places.specs.Known.{level_of}
 use Rattle.pl_votes.specs.Voting.{aggregation_no, edge_no}
 use Rattle.pl_kept.specs.Kept.{Kept}
-use Rattle.pl_placing.specs.News.{is_news}
 use Rattle.pl_placing.specs.Placing.{ArePlacing}
 use Rattle.pl_placing.specs.Resting.{HasFirst, HavePositions, IsRestingLink, IsRestingPod}
 use Rattle.pl_placing.proofs.Answering.{answered}
 use Rattle.pl_placing.proofs.AtRest.{world_first, world_positions}
 use Rattle.pl_settled_laws.specs.Whole.{IsWholePod}
+use Rattle.pl_settled_laws.proofs.Proposals.{presents}
+use Rattle.pl_journal.specs.Flights.{label_level}
 
 all_at : {X : Type 0} (P : X → Type 0) (xs : List X) (i : ℕ) (d : X) → i < length xs → AllByRecursion P xs → P (get_or xs i d)
 all_at P [] i d within all = absurd (omega (arith, within))
@@ -49,14 +47,6 @@ both a b x y = ap (λ c. c && b) x ∙ y
 three : (a b c : Bool) → a ≡ true → b ≡ true → c ≡ true → (a && b && c) ≡ true
 three a b c x y z = rw (x, y, z) refl
 
--- the two definitions of news are one
-same_news : (v : SwitchView) (p attempt : ℕ) (o : Option (SwitchId × Bool)) → settled.is_news v p attempt o ≡ is_news v p attempt o
-same_news v p attempt None = refl
-same_news v p attempt (Some hold) = refl
-
-presents : (v : SwitchView) → v.place.level ≡ Some 0 → v.place.position ≡ None → present_attempt v ≡ Some (v.attempt, v.proposed)
-presents v level none = rw (level, none) refl
-
 -- A proposal that reaches an aggregation switch, and would change nothing, brings no news.
 no_news : (v : SwitchView) (p : ℕ) (u : SwitchView) (q : ℕ) → would_change v p u q ≡ false → is_usable v p ≡ true → place_at v p ≡ u.place → place_at u q ≡ v.place →
     u.place.level ≡ Some 1 → v.proposed < u.k / 2 → v.place.level ≡ Some 0 → v.place.position ≡ None → is_news v p v.attempt (holder_of u v.proposed) ≡ false
@@ -66,8 +56,7 @@ no_news v p u q unchanged usable down up above within level none =
     let at : would_change_by v p u q (Some (v.attempt, v.proposed)) ≡ false = subst (λ (o : Option (ℕ × ℕ)). would_change_by v p u q o ≡ false) (presents v level none) changed in
     let answers : is_answered u q v.proposed ≡ true =
     three _ _ _ (ap (λ (x : Option ℕ). is_known x 1) above) (ap (λ (x : Place). is_known x.level 0) up ∙ ap (λ (x : Option ℕ). is_known x 0) level) (lt-ltb v.proposed (u.k / 2) within) in
-    sym (same_news v p v.attempt (holder_of u v.proposed))
-    ∙ neither (holds_another u v.id v.proposed) (settled.is_news v p v.attempt (holder_of u v.proposed)) (second (is_answered u q v.proposed) _ at answers)
+    neither (holds_another u v.id v.proposed) (is_news v p v.attempt (holder_of u v.proposed)) (second (is_answered u q v.proposed) _ at answers)
 
 module _ (w : WorldView) (kept : Kept w) (is : IsSettled w) where
   there : (s : ℕ) → s < switch_count w.plan.k → slice_get w.switches s ≡ Some ((control_plane w).view s)
@@ -113,7 +102,7 @@ module _ (w : WorldView) (kept : Kept w) (is : IsSettled w) where
         where
           known : (o : Option ℕ) → ((control_plane w).view t).place.level ≡ o → ((control_plane w).view t).place.level ≡ Some 1
           known None none = absurd ((kept.placed.sound t below).full.one q told none)
-          known (Some x) some = some ∙ ap Some ((kept.placed.own t).level x some ∙ ap level_of of)
+          known (Some x) some = some ∙ ap Some ((kept.placed.own t).level x some ∙ ap label_level of)
 
   module _ (placing : ArePlacing w) (few : w.steps < 4294967295) (pod : ℕ) (whole : IsWholePod w pod) where
     resting_link : (i j p q : ℕ) → IsLabel w.plan.k (Edge pod i) → IsLabel w.plan.k (Aggregation pod j) →

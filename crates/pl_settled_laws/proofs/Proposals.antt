@@ -20,11 +20,11 @@ use Rattle.pl_logic.specs.declared.switch_records.Hold.{Hold}
 use Rattle.pl_logic.specs.declared.acts.Act.{Act}
 use Rattle.pl_logic.specs.Accounting.{IsShaped}
 use Rattle.pl_logic.specs.PortRecords.{is_usable_to, place_at}
-use Rattle.pl_logic.specs.SwitchFacts.{has_granted, hold_at, holder_and_mark, holder_of, present_attempt}
+use Rattle.pl_logic.specs.SwitchFacts.{has_granted, hold_at, holder_and_mark, holder_of, is_news, present_attempt}
 use Rattle.pl_logic.specs.SwitchViews.{SwitchView}
 use Rattle.pl_steps.specs.Steps.{SwitchStep, rests}
 use Rattle.pl_switch_rule.specs.Positions.{after_vote, answers_proposal, counted, fixes_position, freed_but, frees_others, half, hears_proposal, holds_for, is_free_for, is_held_for, is_majority, kept_or_new, moves_on, vote_on, with_granted}
-use Rattle.pl_fabric.specs.Settled.{holds_another, is_another, is_answered, is_holder, is_news, would_change, would_change_by}
+use Rattle.pl_fabric.specs.Settled.{holds_another, is_another, is_answered, is_holder, would_change, would_change_by}
 use Rattle.pl_fabric.proofs.SettledParts.{all_found}
 use Rattle.pl_fabric.proofs.Tests.{any_below, none_below}
 use Rattle.pl_votes.specs.Counting.{AreRising}
@@ -32,11 +32,11 @@ use Rattle.pl_votes.proofs.Granted.{has_new}
 use Rattle.pl_votes.proofs.Holding.{freed_is}
 use Rattle.pl_world.specs.Worlds.{WorldView}
 use Rattle.pl_control_plane.specs.ControlPlanes.{no_switch}
-use Rattle.pl_places.specs.Known.{level_of}
 use Rattle.pl_votes.specs.Voting.{edge_no}
 use Rattle.pl_kept.specs.Kept.{Kept}
 use Rattle.pl_placing.specs.Placing.{ArePlacing}
 use Rattle.pl_settled_laws.specs.Agreed.{IsAgreed, LeavesBoth, proposal_of, vote_of}
+use Rattle.pl_journal.specs.Flights.{label_level}
 
 none_is_held : (edge : SwitchId) (h : Option Hold) → h ≡ None → is_held_for edge h ≡ false
 none_is_held edge h is = ap (is_held_for edge) is
@@ -296,7 +296,7 @@ presented (Some n) (Some m) a x is = by (n == 0) is
     by true is = absurd (none-some x is)
     by false is = absurd (none-some x is)
 
-presents : (v : SwitchView) → v.place.level ≡ Some 0 → v.place.position ≡ None → present_attempt v ≡ Some (v.attempt, v.proposed)
+pub presents : (v : SwitchView) → v.place.level ≡ Some 0 → v.place.position ≡ None → present_attempt v ≡ Some (v.attempt, v.proposed)
 presents v level none = rw (level, none) refl
 
 neither : (a b : Bool) → (a || b) ≡ false → (a ≡ false) × (b ≡ false)
@@ -391,12 +391,12 @@ module _ (w : WorldView) (kept : Kept w) (placing : ArePlacing w) (s t : ℕ) (v
       two : 2 ≤ w.plan.k / 2
       two = half_at_least w.plan.k kept.counted.formed.plan.arity
 
-      by : (label : Label) → label_of w.plan.k s ≡ label → IsLabel w.plan.k label → 0 ≡ level_of (label_of w.plan.k s) → AreRising v.granted
+      by : (label : Label) → label_of w.plan.k s ≡ label → IsLabel w.plan.k label → 0 ≡ label_level (label_of w.plan.k s) → AreRising v.granted
       by (Edge pod i) is label level =
           let number : edge_no w.plan.k pod i ≡ s = ap (number_of w.plan.k) (sym is) ∙ number_of-label_of w.plan.k s in
           subst (λ (x : SwitchView). AreRising x.granted) (ap (λ n. get_or w.switches n no_switch) number ∙ found_is w.switches s v at_s) (kept.voting.counting pod i label).once
-      by (Aggregation pod j) is label level = let no_edge : 0 ≡ 1 = level ∙ ap level_of is in absurd (omega (arith, no_edge))
-      by (Core group m) is label level = let no_edge : 0 ≡ 2 = level ∙ ap level_of is in absurd (omega (arith, no_edge))
+      by (Aggregation pod j) is label level = let no_edge : 0 ≡ 1 = level ∙ ap label_level is in absurd (omega (arith, no_edge))
+      by (Core group m) is label level = let no_edge : 0 ≡ 2 = level ∙ ap label_level is in absurd (omega (arith, no_edge))
 
   pub table_is_rows_here : (port q : ℕ) → (would_change v port u q ≡ false) ↔ IsAgreed v port u q
   table_is_rows_here port q =

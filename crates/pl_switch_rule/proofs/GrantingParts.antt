@@ -9,7 +9,7 @@ use Rattle.pl_frame.specs.Ethernet.{source_of}
 use Rattle.pl_pmac.specs.declared.pmac.Pmac.{Pmac}
 use Rattle.pl_logic.specs.declared.acts.Act.TheVariants.{Grant as GrantAct, Tell}
 use Rattle.pl_logic.specs.declared.messages.ToManager.TheVariants.{Learned}
-use Rattle.pl_switch_rule.specs.Granting.{address_at_port, forgets, grant_number, granted, grants_at, grants_next, grants_or_learns, grants_remembered, grants_source, in_use, is_local, is_port_spent, learns_ip, learns_source, new_grant, or_else, remembered_at, remembered_ip, remembers, same_ip, sender_ip, with_grant, with_grants}
+use Rattle.pl_switch_rule.specs.Granting.{address_at_port, forgets, grant_number, granted, grants_at, grants_next, grants_or_learns, grants_remembered, grants_source, in_use, is_local, is_port_spent, learns_ip, learns_source, new_grant, or_else, remembered_at, remembered_ip, remembers, sender_ip, with_grant, with_grants}
 use Rattle.pl_logic.specs.Accounting.{HasMac, IsShaped, RemembersMac}
 use Rattle.pl_layouts.specs.Placement.{is_placed}
 use Rattle.pl_steps.specs.Steps.{SwitchStep, rests, ◌▹◌}
@@ -19,6 +19,7 @@ use Rattle.pl_logic.specs.SwitchViews.{SwitchView}
 use Rattle.pl_switch_rule.proofs.StepParts.{IsQuiet, IsSame, all_append, quiet_then_quiet}
 use Rattle.pl_switch_rule.proofs.Shapes.{all_get, all_set, grants_have_macs, same_with_grants, same_with_source, source_has_mac}
 use Rattle.pl_switch_rule.proofs.QuietActs.{quiet_either, quiet_rests, quiet_self, quiet_step}
+use Rattle.pl_layouts.specs.Equality.{is_ip}
 
 -- a grant by its number has an address of six bytes
 pub numbered_has_mac : (grants : List Grant) (vmid : ℕ) → AllByRecursion HasMac grants → IfSome (grant_number grants vmid) HasMac
@@ -56,7 +57,7 @@ quiet_learns_ip v address (Some grant) None s mac = quiet_self v s
 quiet_learns_ip v address (Some grant) (Some ip) s mac =
     let new : Grant = record grant { ip = Some ip } in
     let told : SwitchStep = record { view = with_grant v address new; acts = Tell (Learned address grant.amac (Some ip)) ∷ [] } in
-    quiet_either v (same_ip grant.ip ip) (rests v) told (λ h. quiet_self v s)
+    quiet_either v (is_ip grant.ip ip) (rests v) told (λ h. quiet_self v s)
     (λ h. quiet_step v (with_grant v address new) (Tell (Learned address grant.amac (Some ip)) ∷ []) (same_with_grant v address new s mac) (tt, tt))
 
 pub quiet_grants_or_learns : (v : SwitchView) (port : ℕ) (amac : Mac) (ip : Option Ip4) (vmid : Option ℕ) → IsShaped v → port < v.k → length amac.0 ≡ 6 →

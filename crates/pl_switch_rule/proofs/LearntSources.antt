@@ -15,9 +15,9 @@ use Rattle.pl_logic.specs.declared.messages.ToManager.TheVariants.{Learned, Memb
 use Rattle.pl_logic.specs.declared.neighbour.PortRecord.{PortRecord}
 use Rattle.pl_layouts.specs.declared.place.Place.{Place}
 use Rattle.pl_logic.specs.Accounting.{IsShaped}
-use Rattle.pl_switch_rule.specs.Granting.{address_at_port, forgets, grant_number, grants_at, grants_next, grants_or_learns, grants_remembered, grants_source, has_no_address, in_use, is_port_spent, learns_ip, learns_source, new_grant, remembered_at, remembers, same_ip, sender_ip, with_grant, with_grants}
+use Rattle.pl_switch_rule.specs.Granting.{address_at_port, forgets, grant_number, grants_at, grants_next, grants_or_learns, grants_remembered, grants_source, has_no_address, in_use, is_port_spent, learns_ip, learns_source, new_grant, remembered_at, remembers, sender_ip, with_grant, with_grants}
 use Rattle.pl_switch_rule.specs.Intake.{changes_member, group_told, groups_of, has_member_of, hears_members}
-use Rattle.pl_layouts.specs.Equality.{same_mac}
+use Rattle.pl_layouts.specs.Equality.{is_ip, same_mac}
 use Rattle.pl_switch_rule.specs.Levels.{becomes_edge, changes_to, finds_host, has_become_placed, settles_in}
 use Rattle.pl_layouts.specs.Memberships.{changes_in}
 use Rattle.pl_journal.specs.Places.{are_alike}
@@ -61,7 +61,7 @@ hears_learns_ip v address (Some grant) None = hears_rests v
 hears_learns_ip v address (Some grant) (Some ip) =
     let new : Grant = record grant { ip = Some ip } in
     let told : SwitchStep = record { view = with_grant v address new; acts = Tell (Learned address grant.amac (Some ip)) ∷ [] } in
-    hears_either v (same_ip grant.ip ip) (rests v) told (hears_rests v) (record { ports = refl; on = (tt, tt) })
+    hears_either v (is_ip grant.ip ip) (rests v) told (hears_rests v) (record { ports = refl; on = (tt, tt) })
 
 hears_grants_or_learns : (v : SwitchView) (port : ℕ) (amac : Mac) (ip : Option Ip4) (vmid : Option ℕ) →
     Hears v (grants_or_learns v port amac ip vmid)
@@ -161,7 +161,7 @@ served_learns_ip v port vmid amac (Some grant) (Some ip) within has at =
     let new : Grant = record grant { ip = Some ip } in
     let told : SwitchStep = record { view = with_grant v address new; acts = Tell (Learned address grant.amac (Some ip)) ∷ [] } in
     let grants : List Grant = slice_set (grants_at v port) (vmid - 1) new in
-    cond_both (same_ip grant.ip ip) (rests v) told (IsServed port amac) (λ known. has_served port amac (rests v) has)
+    cond_both (is_ip grant.ip ip) (rests v) told (IsServed port amac) (λ known. has_served port amac (rests v) has)
     (λ heard. has_served port amac told
     (ap (λ gs. is_some (in_use gs amac)) (grants_at-with v port grants within)
     ∙ ap is_some (replaced_found (λ g. g.in_use && same_mac g.amac amac) 1 (grants_at v port) (vmid - 1) grant new

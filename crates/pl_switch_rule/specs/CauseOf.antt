@@ -28,6 +28,7 @@ use Rattle.pl_switch_rule.specs.Forwarding.{candidates_by}
 use Rattle.pl_switch_rule.specs.Granting.{has_no_address, is_granted, is_local, is_port_spent}
 use Rattle.pl_switch_rule.specs.GroupForwarding.{group_ports_up}
 use Rattle.pl_switch_rule.specs.Intake.{is_for_switch}
+use Rattle.pl_journal.specs.Causes.{is_bad_arp}
 
 -- Before a frame is sent on: it is dropped, taken, or sent on.
 pub data Intake : Type 0 where
@@ -39,7 +40,7 @@ pub data Intake : Type 0 where
 abbrev pub intake_of_host : SwitchView → ℕ → List ℕ → Intake
 intake_of_host v port frame =
     if has_no_address v port (source_of frame) && is_port_spent v port then Refused Spent
-    else if is_arp frame && is_none (packet_in frame) then Refused BadArp
+    else if is_bad_arp frame then Refused BadArp
     else if is_for_switch v (destination_of frame) (packet_in frame) then TakenIn
     else if is_some (membership_in frame) then TakenIn
     else if not (is_placed v.place) then Refused NotPlaced

@@ -13,7 +13,7 @@ use Rattle.pl_steps.specs.Steps.{SwitchStep, rests, ◌▹◌}
 use Rattle.pl_logic.specs.declared.switch_records.Grant.{Grant}
 use Rattle.pl_logic.specs.declared.switch_records.Source.{Source}
 use Rattle.pl_logic.specs.SwitchViews.{SwitchView}
-use Rattle.pl_layouts.specs.Equality.{same_mac}
+use Rattle.pl_layouts.specs.Equality.{is_ip, same_mac}
 
 -- the address number vmid of a port; vmids begin at 1
 abbrev pub address_at_port : SwitchView → ℕ → ℕ → Pmac
@@ -60,16 +60,12 @@ grants_next v port amac ip = let address = address_at_port v port (length (grant
       acts = GrantAct address amac ∷ Tell (Learned address amac ip) ∷ [];
     }
 
-abbrev pub same_ip : Option Ip4 → Ip4 → Bool
-same_ip None ip = false
-same_ip (Some known) ip = known.0 == ip.0
-
 -- a frame gives an address in use an IPv4 address: where that is new, it is kept, and the manager is told
 abbrev pub learns_ip : SwitchView → Pmac → Option Grant → Option Ip4 → SwitchStep
 learns_ip v address None ip = rests v
 learns_ip v address (Some grant) None = rests v
 learns_ip v address (Some grant) (Some ip) =
-    if same_ip grant.ip ip then rests v else record {
+    if is_ip grant.ip ip then rests v else record {
       view = with_grant v address (record grant { ip = Some ip });
       acts = Tell (Learned address grant.amac (Some ip)) ∷ [];
     }

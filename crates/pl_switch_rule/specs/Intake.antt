@@ -1,8 +1,8 @@
 -- What an edge switch does with a frame of a host at one of its ports.
-use Rattle.std.specs.Prelude.{ℕ, ◌==◌, ◌&&◌, ◌||◌, not, Bool, false, if◌then◌else◌, List, [], ◌∷◌, ◌++◌, Option, Some, None, is_some, is_none, fold}
+use Rattle.std.specs.Prelude.{ℕ, ◌==◌, ◌&&◌, ◌||◌, not, Bool, false, if◌then◌else◌, List, [], ◌∷◌, ◌++◌, Option, Some, None, is_some, fold}
 use Rattle.std.specs.List.{filter, flat_map, list_any}
 use Rattle.std.specs.BTreeSet.{insert_key}
-use Rattle.std.specs.Ordering.{match_ordering, nat_cmp}
+use Rattle.std.specs.Ordering.{nat_cmp, ordering_then}
 use Rattle.std.specs.declared.cmp.Ordering.{Ordering}
 use Rattle.pl_frame.specs.declared.address.Mac.{Mac}
 use Rattle.pl_frame.specs.Ethernet.{destination_of, source_of}
@@ -17,7 +17,7 @@ use Rattle.pl_layouts.specs.declared.membership.Change.{Change}
 use Rattle.pl_logic.specs.declared.messages.ToManager.TheVariants.{Members, Query}
 use Rattle.pl_switch_rule.specs.Delivering.{arrives_home, destination}
 use Rattle.pl_switch_rule.specs.Forwarding.{Choice, forwards}
-use Rattle.pl_layouts.specs.Frames.{arriving, is_arp, mac_number, packet_in}
+use Rattle.pl_layouts.specs.Frames.{arriving, mac_number, packet_in}
 use Rattle.pl_switch_rule.specs.Granting.{address_at_port, grants_at, has_no_address, in_use, is_local, learns_source}
 use Rattle.pl_switch_rule.specs.GroupForwarding.{forwards_group}
 use Rattle.pl_switch_rule.specs.Levels.{finds_host}
@@ -28,15 +28,13 @@ use Rattle.pl_steps.specs.Steps.{SwitchStep, does, ◌▹◌}
 use Rattle.pl_logic.specs.declared.switch_records.Member.{Member}
 use Rattle.pl_logic.specs.SwitchViews.{SwitchView}
 use Rattle.pl_layouts.specs.Equality.{same_mac}
+use Rattle.pl_journal.specs.Causes.{is_bad_arp}
 
 -- Members.
 
-abbrev pub then_by : Ordering → Ordering → Ordering
-then_by first next = match_ordering first first next first
-
 -- by group, then by port, then by address
 abbrev pub member_cmp : Member → Member → Ordering
-member_cmp a b = then_by (nat_cmp a.group b.group) (then_by (nat_cmp a.port b.port) (nat_cmp (mac_number a.amac) (mac_number b.amac)))
+member_cmp a b = ordering_then (nat_cmp a.group b.group) (ordering_then (nat_cmp a.port b.port) (nat_cmp (mac_number a.amac) (mac_number b.amac)))
 
 abbrev pub is_member : ℕ → Mac → Member → Bool
 is_member port amac m = (m.port == port) && same_mac m.amac amac
@@ -128,7 +126,7 @@ sends_in choose frame v =
 -- under the pseudo address of its source.
 abbrev pub takes_in : Choice → ℕ → List ℕ → SwitchView → SwitchStep
 takes_in choose port frame v =
-    if is_arp frame && is_none (packet_in frame) then does v (Drop BadArp ∷ [])
+    if is_bad_arp frame then does v (Drop BadArp ∷ [])
     else if is_for_switch v (destination_of frame) (packet_in frame) then does v (packet_acts v port frame (packet_in frame)) ▹ takes
     else if is_some (membership_in frame) then hears_members v port frame ▹ takes
     else if not (is_placed v.place) then does v (Drop NotPlaced ∷ [])

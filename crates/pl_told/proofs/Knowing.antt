@@ -1,6 +1,6 @@
 -- Where all of it is kept, what switches know of places and addresses is what the journal says.
-use Rattle.std.proofs.Common.{◌≡◌, ◌≤◌, ◌+◌, ◌&&◌, nat_lt, ℕ, zero, suc, if◌then◌else◌, Bool, true, false, get_or, List, [], ◌∷◌, Option, Some, None, slice_get, refl, sym, ap, ◌∙◌, inl, inr, arith}
-use Rattle.std.proofs.lemmas.Bool.{cases_Bool, cases_lt, cond-false, cond-true, false≢true, lt-ltb, ltb-true}
+use Rattle.std.proofs.Common.{◌≡◌, ◌&&◌, nat_lt, ℕ, zero, suc, Bool, true, false, get_or, List, [], ◌∷◌, Option, Some, None, slice_get, refl, sym, ap, ◌∙◌, inl, inr, arith}
+use Rattle.std.proofs.lemmas.Bool.{false≢true}
 use Rattle.std.proofs.lemmas.Option.{get_or_from_slice_get, none-some, same_Some}
 use Rattle.pl_layouts.specs.declared.place.Place.{Place}
 use Rattle.pl_layouts.specs.Placement.{nowhere}
@@ -8,10 +8,7 @@ use Rattle.pl_wiring.specs.declared.label.Label.TheVariants.{Edge}
 use Rattle.pl_wiring.specs.declared.label.SwitchNo.{SwitchNo}
 use Rattle.pl_wiring.specs.declared.link.Peer.{Peer}
 use Rattle.pl_wiring.specs.declared.link.Peer.TheVariants.{HostPort, Switch}
-use Rattle.pl_wiring.specs.Labels.{edge_count, label_of}
 use Rattle.pl_wiring.specs.Peers.{peer_of}
-use Rattle.pl_wiring.proofs.LabelOrder.{label_of-aggregation, label_of-core, label_of-edge}
-use Rattle.pl_journal.specs.Flights.{level_of}
 use Rattle.pl_journal.specs.Places.{is_host_port, number}
 use Rattle.pl_logic.specs.declared.neighbour.Neighbour.{Neighbour}
 use Rattle.pl_logic.specs.PortRecords.{heard_echo, heard_place, is_id, is_usable, place_at, port_of}
@@ -19,7 +16,7 @@ use Rattle.pl_logic.specs.SwitchViews.{SwitchView}
 use Rattle.pl_world.specs.Worlds.{WorldView}
 use Rattle.pl_control_plane.specs.ControlPlanes.{control_plane, no_switch}
 use Rattle.pl_control_plane.proofs.Joined.{joined_turned}
-use Rattle.pl_places.specs.Known.{level_of as label_level, pod_of}
+use Rattle.pl_places.specs.Known.{pod_of}
 use Rattle.pl_votes.proofs.Differing.{fixed_are_apart}
 use Rattle.pl_kept.specs.Kept.{Kept}
 use Rattle.pl_ledger.proofs.Books.{says}
@@ -42,24 +39,6 @@ unusable u q none = ap (λ (o : Option Neighbour). nat_lt (port_of u q).silent 3
     never true = refl
     never false = refl
 
--- the level that a label has
-level_is : (k s : ℕ) → level_of k s ≡ label_level (label_of k s)
-level_is k s = elim (cases_lt s (edge_count k)) [
-  | inl low ↦
-      cond-true (nat_lt s (edge_count k)) 0 (if nat_lt s (edge_count k + edge_count k) then 1 else 2) (lt-ltb s (edge_count k) low) ∙ sym (ap label_level (label_of-edge k s low))
-  | inr high ↦ elim (cases_lt s (edge_count k + edge_count k)) [
-    | inl less ↦
-        cond-false (nat_lt s (edge_count k)) 0 (if nat_lt s (edge_count k + edge_count k) then 1 else 2) (not_less s (edge_count k) high)
-        ∙ cond-true (nat_lt s (edge_count k + edge_count k)) 1 2 (lt-ltb s (edge_count k + edge_count k) less) ∙ sym (ap label_level (label_of-aggregation k s high less))
-    | inr more ↦
-        cond-false (nat_lt s (edge_count k)) 0 (if nat_lt s (edge_count k + edge_count k) then 1 else 2) (not_less s (edge_count k) high)
-        ∙ cond-false (nat_lt s (edge_count k + edge_count k)) 1 2 (not_less s (edge_count k + edge_count k) more) ∙ sym (ap label_level (label_of-core k s more))
-  ]
-]
-  where
-    not_less : (a b : ℕ) → b ≤ a → nat_lt a b ≡ false
-    not_less a b le = elim (cases_Bool (nat_lt a b)) [ inl less ↦ (let lt = ltb-true a b less in absurd (omega (arith, le, lt))) | inr no_less ↦ no_less ]
-
 module _ (w : WorldView) (kept : Kept w) where
   view_at : (t : ℕ) (v : SwitchView) → slice_get w.switches t ≡ Some v → (control_plane w).view t ≡ v
   view_at t v found = get_or_from_slice_get w.switches t v no_switch found
@@ -68,7 +47,7 @@ module _ (w : WorldView) (kept : Kept w) where
   knows_places =
       let f = control_plane w in
       record {
-        level = λ s n is. level_is w.plan.k s ∙ sym ((kept.placed.own s).level n (ap (λ (p : Place). p.level) (sym (place_is w s)) ∙ is));
+        level = λ s n is. sym ((kept.placed.own s).level n (ap (λ (p : Place). p.level) (sym (place_is w s)) ∙ is));
         one_pod = λ s t p i j x y edge up at_s at_t.
             let a = kept.placed.pods s x (ap (λ (q : Place). q.pod) (sym (place_is w s)) ∙ at_s) in
             let b = kept.placed.pods t y (ap (λ (q : Place). q.pod) (sym (place_is w t)) ∙ at_t) in

@@ -14,8 +14,6 @@ use Rattle.pl_frame.specs.declared.address.SwitchId.{SwitchId}
 use Rattle.pl_frame.specs.declared.address.Ip4.{Ip4}
 use Rattle.pl_frame.specs.declared.address.Mac.{Mac}
 use Rattle.pl_pmac.specs.declared.pmac.Pmac.{Pmac}
-use Rattle.pl_wiring.specs.declared.label.Label.{Label}
-use Rattle.pl_wiring.specs.declared.label.Label.TheVariants.{Aggregation, Core, Edge}
 use Rattle.pl_wiring.specs.Labels.{edge_count, label_of, switch_count}
 use Rattle.pl_wiring.specs.Plan.{IsPlan, Plan}
 use Rattle.pl_wiring.proofs.LabelOrder.{label_of-edge}
@@ -52,7 +50,6 @@ use Rattle.pl_switch_rule.specs.SwitchRule.{Loose, comes_from_switch, control_co
 use Rattle.pl_control_plane.specs.ControlPlanes.{AreJoined, ControlPlane, tells}
 use Rattle.pl_control_plane.specs.PlaneSteps.{IsLeft, IsReportTaken, LeftOver, ManagerTurns, PlaneStep, SwitchTurns, is_to, ordered, ordered_by}
 use Rattle.pl_control_plane.specs.PlaneSteps.PlaneStep.{Carried, Entered, Heard, Left, Managed, Ordered, Ticked}
-use Rattle.pl_places.specs.Known.{level_of}
 use Rattle.pl_places.specs.Places.{ArePlaced}
 use Rattle.pl_places.specs.Told.{IsTrueOf}
 use Rattle.pl_places.proofs.Later.{true_later, true_of_itself}
@@ -60,10 +57,10 @@ use Rattle.pl_records.specs.Records.{is_neighbour}
 use Rattle.pl_records.specs.Words.{last_said}
 use Rattle.pl_records.proofs.Recording.{one_switch}
 use Rattle.pl_records.proofs.Turning.{parts_then, tells_right}
-use Rattle.pl_copies.specs.Standing.{rank}
-use Rattle.pl_trees.specs.Trees.{AreTrees, AreTrueMembers, IsTrueLink, IsTrueOrder, IsTruePart, IsTruePlace, IsTrueReport, rank_of}
+use Rattle.pl_trees.specs.Trees.{AreTrees, AreTrueMembers, IsTrueLink, IsTrueOrder, IsTruePart, IsTruePlace, IsTrueReport}
 use Rattle.pl_trees.proofs.Parts.{HasLevel, IsLevel, part_true}
 use Rattle.pl_trees.proofs.Telling.{AreTrue, IsSaid, control_true, hears_true, of_host_true, over_link_true, ticks_true, true_words}
+use Rattle.pl_journal.specs.Flights.{label_level, level_of}
 
 -- Lists.
 
@@ -97,11 +94,6 @@ all_removed P test (e ∷ es) all = by_test (test e.0) (all_removed P test es al
     by_test true rest = all.1
     by_test false rest = (all.0, rest)
 
-same_rank : (label : Label) → level_of label ≡ rank label
-same_rank (Edge p i) = refl
-same_rank (Aggregation p j) = refl
-same_rank (Core j m) = refl
-
 all_later : {T : Type 0} (P Q : T → Type 0) → ((x : T) → P x → Q x) → (xs : List T) → AllByRecursion P xs → AllByRecursion Q xs
 all_later P Q later [] all = tt
 all_later P Q later (x ∷ xs) all = (later x all.0, all_later P Q later xs all.1)
@@ -124,7 +116,7 @@ places_later : (plan : Plan) (old new : ℕ → SwitchView) → ((t : ℕ) → I
 places_later plan old new later entries all = all_later (IsTruePlace plan old) (IsTruePlace plan new)
     (λ entry so t named. true_later entry.1 (old t).place (new t).place (so t named) (later t)) entries all
 
-levels_of : (plan : Plan) (view : ℕ → SwitchView) → ((t : ℕ) → IsLevel (rank_of plan t) (view t).place) → (entries : List (SwitchId × Place)) →
+levels_of : (plan : Plan) (view : ℕ → SwitchView) → ((t : ℕ) → IsLevel (level_of plan.k t) (view t).place) → (entries : List (SwitchId × Place)) →
     AllByRecursion (IsTruePlace plan view) entries → AllByRecursion (HasLevel plan) entries
 levels_of plan view level entries all = all_later (IsTruePlace plan view) (HasLevel plan) (λ entry so t named x is. level t x ((so t named).level x is)) entries all
 
@@ -165,7 +157,7 @@ module _ (plan : Plan) (s : ℕ) where
   near_words (tell.Query asker asker_ip ip ∷ words) quiet = (tt, near_words words quiet)
   near_words (tell.Members group any ∷ words) quiet = (tt, near_words words quiet)
 
-  both_true : (own : Place) (words : List ToManager) → AllByRecursion (IsSaid (λ place. IsTrueOf place own) (rank_of plan s ≡ 0)) words → AllByRecursion IsNear words →
+  both_true : (own : Place) (words : List ToManager) → AllByRecursion (IsSaid (λ place. IsTrueOf place own) (level_of plan.k s ≡ 0)) words → AllByRecursion IsNear words →
       AllByRecursion (IsTrueReport plan s own) words
   both_true own [] said near = tt
   both_true own (tell.Place place ∷ words) said near = (said.0, both_true own words said.1 near.1)
@@ -186,18 +178,18 @@ module _ (plan : Plan) (is : IsPlan plan) where
         f.manager.told.places trees.places);
     links = subst (λ (m : ManagerView). AllByRecursion (IsTrueLink plan) m.told.links) (sym left.manager) trees.links;
     members = subst (λ (m : ManagerView). AllByRecursion (AreTrueMembers plan) m.members) (sym left.manager) trees.members;
-    orders = λ s. all_left (IsTrueOrder plan (rank_of plan s)) (f.orders s) (g.orders s) (left.orders s) (trees.orders s);
-    held = λ s. subst (λ (v : SwitchView). AllByRecursion (λ part. IsTruePart plan (rank_of plan s) (Some part.1)) v.parts) (sym (left.view s)) (trees.held s);
+    orders = λ s. all_left (IsTrueOrder plan (level_of plan.k s)) (f.orders s) (g.orders s) (left.orders s) (trees.orders s);
+    held = λ s. subst (λ (v : SwitchView). AllByRecursion (λ part. IsTruePart plan (level_of plan.k s) (Some part.1)) v.parts) (sym (left.view s)) (trees.held s);
   }
 
   -- the parts of a switch, once this came
-  parts_true : (s : ℕ) (input : SwitchInput) (parts : List (ℕ × TreePart)) → ((says : ToSwitch) → input ≡ Says says → IsTrueOrder plan (rank_of plan s) says) →
-      AllByRecursion (λ part. IsTruePart plan (rank_of plan s) (Some part.1)) parts → AllByRecursion (λ part. IsTruePart plan (rank_of plan s) (Some part.1)) (parts_then input parts)
+  parts_true : (s : ℕ) (input : SwitchInput) (parts : List (ℕ × TreePart)) → ((says : ToSwitch) → input ≡ Says says → IsTrueOrder plan (level_of plan.k s) says) →
+      AllByRecursion (λ part. IsTruePart plan (level_of plan.k s) (Some part.1)) parts → AllByRecursion (λ part. IsTruePart plan (level_of plan.k s) (Some part.1)) (parts_then input parts)
   parts_true s Tick parts order all = all
   parts_true s (Comes port frame) parts order all = all
-  parts_true s (Says (say.Tree group None)) parts order all = all_removed (λ part. IsTruePart plan (rank_of plan s) (Some part.1)) (λ g. g == group) parts all
+  parts_true s (Says (say.Tree group None)) parts order all = all_removed (λ part. IsTruePart plan (level_of plan.k s) (Some part.1)) (λ g. g == group) parts all
   parts_true s (Says (say.Tree group (Some part))) parts order all =
-      all_inserted nat_cmp exact_unsigned (λ part. IsTruePart plan (rank_of plan s) (Some part.1)) parts group part (order (say.Tree group (Some part)) refl) all
+      all_inserted nat_cmp exact_unsigned (λ part. IsTruePart plan (level_of plan.k s) (Some part.1)) parts group part (order (say.Tree group (Some part)) refl) all
   parts_true s (Says (say.Pod pod)) parts order all = all
   parts_true s (Says (say.Avoid list)) parts order all = all
   parts_true s (Says (say.Answer a b c d)) parts order all = all
@@ -207,8 +199,8 @@ module _ (plan : Plan) (is : IsPlan plan) where
   -- a switch steps
   turn_trees : (f g : ControlPlane) (s : ℕ) (input : SwitchInput) (turns : SwitchTurns Loose f s input g) → ((t : ℕ) → IsTrueOf (f.view t).place (g.view t).place) →
       ((p : ℕ) (u : SwitchId) → id_at (g.view s) p ≡ Some u → is_neighbour plan s u ≡ true) →
-      AreTrue (λ place. IsTrueOf place (g.view s).place) (rank_of plan s ≡ 0) (switch_step turns.ruled.choose (f.view s) input).acts →
-      ((says : ToSwitch) → input ≡ Says says → IsTrueOrder plan (rank_of plan s) says) → AreTrees plan f → AreTrees plan g
+      AreTrue (λ place. IsTrueOf place (g.view s).place) (level_of plan.k s ≡ 0) (switch_step turns.ruled.choose (f.view s) input).acts →
+      ((says : ToSwitch) → input ≡ Says says → IsTrueOrder plan (level_of plan.k s) says) → AreTrees plan f → AreTrees plan g
   turn_trees f g s input turns grown near words order trees =
       let step : SwitchStep = switch_step turns.ruled.choose (f.view s) input in
       let view : g.view s ≡ step.view = turns.acted.here ∙ turns.ruled.steps.view in
@@ -217,7 +209,7 @@ module _ (plan : Plan) (is : IsPlan plan) where
       true≢false (sym (near p u (ap (λ (v : SwitchView). id_at v p) view ∙ at)) ∙ stranger)) before in
       let told : AllByRecursion (IsTrueReport plan s (g.view s).place) (tells turns.acts) =
       subst (λ a. AllByRecursion (IsTrueReport plan s (g.view s).place) (tells a)) (sym turns.ruled.steps.done)
-      (both_true plan s (g.view s).place (tells step.acts) (true_words (λ place. IsTrueOf place (g.view s).place) (rank_of plan s ≡ 0) step.acts words)
+      (both_true plan s (g.view s).place (tells step.acts) (true_words (λ place. IsTrueOf place (g.view s).place) (level_of plan.k s ≡ 0) step.acts words)
       (near_words plan s (tells step.acts) quiet)) in
       let parts : (g.view s).parts ≡ parts_then input (f.view s).parts = ap (λ (v : SwitchView). v.parts) view ∙ right.parts in
       record {
@@ -233,11 +225,11 @@ module _ (plan : Plan) (is : IsPlan plan) where
             (places_later plan f.view g.view grown f.manager.told.places trees.places);
         links = subst (λ (m : ManagerView). AllByRecursion (IsTrueLink plan) m.told.links) (sym turns.acted.manager) trees.links;
         members = subst (λ (m : ManagerView). AllByRecursion (AreTrueMembers plan) m.members) (sym turns.acted.manager) trees.members;
-        orders = λ t. subst (AllByRecursion (IsTrueOrder plan (rank_of plan t))) (sym (turns.acted.orders t)) (trees.orders t);
+        orders = λ t. subst (AllByRecursion (IsTrueOrder plan (level_of plan.k t))) (sym (turns.acted.orders t)) (trees.orders t);
         held = λ t. elim (cases_eq t s) [
-          | inl here ↦ subst (λ n. AllByRecursion (λ part. IsTruePart plan (rank_of plan n) (Some part.1)) (g.view n).parts) (sym here)
-              (subst (AllByRecursion (λ part. IsTruePart plan (rank_of plan s) (Some part.1))) (sym parts) (parts_true s input (f.view s).parts order (trees.held s)))
-          | inr other ↦ subst (λ (v : SwitchView). AllByRecursion (λ part. IsTruePart plan (rank_of plan t) (Some part.1)) v.parts) (sym (turns.acted.others t other)) (trees.held t)
+          | inl here ↦ subst (λ n. AllByRecursion (λ part. IsTruePart plan (level_of plan.k n) (Some part.1)) (g.view n).parts) (sym here)
+              (subst (AllByRecursion (λ part. IsTruePart plan (level_of plan.k s) (Some part.1))) (sym parts) (parts_true s input (f.view s).parts order (trees.held s)))
+          | inr other ↦ subst (λ (v : SwitchView). AllByRecursion (λ part. IsTruePart plan (level_of plan.k t) (Some part.1)) v.parts) (sym (turns.acted.others t other)) (trees.held t)
         ];
       }
 
@@ -245,18 +237,18 @@ module _ (plan : Plan) (is : IsPlan plan) where
 
   -- what it says to a switch is so
   abbrev IsTrueSaid : ManagerAct → Type 0
-  IsTrueSaid (Say to says) = (s : ℕ) → slice_get plan.ids s ≡ Some to → IsTrueOrder plan (rank_of plan s) says
+  IsTrueSaid (Say to says) = (s : ℕ) → slice_get plan.ids s ≡ Some to → IsTrueOrder plan (level_of plan.k s) says
   IsTrueSaid (Number pmac n) = Unit {0}
 
   abbrev AreTrueSaid : List ManagerAct → Type 0
   AreTrueSaid acts = AllByRecursion IsTrueSaid acts
 
   said_to_one : (s : ℕ) (to : SwitchId) (says : ToSwitch) (o : Option ℕ) → position (same_switch to) plan.ids ≡ o → IsTrueSaid (Say to says) →
-      AllByRecursion (IsTrueOrder plan (rank_of plan s)) (if is_to o s then says ∷ [] else [])
+      AllByRecursion (IsTrueOrder plan (level_of plan.k s)) (if is_to o s then says ∷ [] else [])
   said_to_one s to says None is good = tt
   said_to_one s to says (Some t) is good = elim (cases_Bool (t == s)) [
-    | inr other ↦ subst (AllByRecursion (IsTrueOrder plan (rank_of plan s))) (sym (cond-false (t == s) (says ∷ []) [] other)) tt
-    | inl here ↦ subst (AllByRecursion (IsTrueOrder plan (rank_of plan s))) (sym (cond-true (t == s) (says ∷ []) [] here))
+    | inr other ↦ subst (AllByRecursion (IsTrueOrder plan (level_of plan.k s))) (sym (cond-false (t == s) (says ∷ []) [] other)) tt
+    | inl here ↦ subst (AllByRecursion (IsTrueOrder plan (level_of plan.k s))) (sym (cond-true (t == s) (says ∷ []) [] here))
         (let nobody : SwitchId = record { 0 = 0 } in
         let all = position-Some (same_switch to) plan.ids t nobody is in
         let x : SwitchId = get_or plan.ids t nobody in
@@ -264,10 +256,10 @@ module _ (plan : Plan) (is : IsPlan plan) where
         (good s named, tt))
   ]
 
-  all_ordered : (s : ℕ) (acts : List ManagerAct) → AreTrueSaid acts → AllByRecursion (IsTrueOrder plan (rank_of plan s)) (ordered plan s acts)
+  all_ordered : (s : ℕ) (acts : List ManagerAct) → AreTrueSaid acts → AllByRecursion (IsTrueOrder plan (level_of plan.k s)) (ordered plan s acts)
   all_ordered s [] all = tt
   all_ordered s (Say to says ∷ acts) all =
-      all_append (IsTrueOrder plan (rank_of plan s)) (ordered_by plan s (Say to says)) (ordered plan s acts)
+      all_append (IsTrueOrder plan (level_of plan.k s)) (ordered_by plan s (Say to says)) (ordered plan s acts)
       (said_to_one s to says (position (same_switch to) plan.ids) refl all.0) (all_ordered s acts all.1)
   all_ordered s (Number pmac n ∷ acts) all = all_ordered s acts all.1
 
@@ -347,14 +339,14 @@ module _ (plan : Plan) (is : IsPlan plan) where
     members_after : (own : Place) (told : ToManager) → IsTrueReport plan s own told → AllByRecursion (AreTrueMembers plan) view.members →
         AllByRecursion (AreTrueMembers plan) (view_after view id told).members
     members_after own (tell.Members group any) so all =
-        all_inserted members_cmp members_exact (AreTrueMembers plan) view.members (id, group) any (λ t also. subst (λ n. rank_of plan n ≡ 0) (itself t also) so) all
+        all_inserted members_cmp members_exact (AreTrueMembers plan) view.members (id, group) any (λ t also. subst (λ n. level_of plan.k n ≡ 0) (itself t also) so) all
     members_after own (tell.Place place) so all = all
     members_after own (tell.Link u usable) so all = all
     members_after own tell.PodWanted so all = all
     members_after own (tell.Learned pmac amac ip) so all = all
     members_after own (tell.Query asker asker_ip ip) so all = all
 
-  manager_trees : (f m g : ControlPlane) (s : ℕ) (id : SwitchId) (told : ToManager) → f.plan ≡ plan → ((t : ℕ) → IsLevel (rank_of plan t) (f.view t).place) →
+  manager_trees : (f m g : ControlPlane) (s : ℕ) (id : SwitchId) (told : ToManager) → f.plan ≡ plan → ((t : ℕ) → IsLevel (level_of plan.k t) (f.view t).place) →
       slice_get plan.ids s ≡ Some id → IsReportTaken f s told m → ManagerTurns manager_rule m id told g → AreTrees plan f → AreTrees plan g
   unfolding manager_hears
   manager_trees f m g s id told same level named taken turns trees =
@@ -368,7 +360,7 @@ module _ (plan : Plan) (is : IsPlan plan) where
       let acts : turns.acts ≡ acts_of m.manager after id told = turns.ruled.1 in
       let places = places_after m.manager s id named m.view told so mid.places in
       let members = members_after m.manager s id named (m.view s).place told so mid.members in
-      let levels = levels_of plan m.view (λ t. subst (λ (v : SwitchView). IsLevel (rank_of plan t) v.place) (sym (taken.left.view t)) (level t)) after.told.places places in
+      let levels = levels_of plan m.view (λ t. subst (λ (v : SwitchView). IsLevel (level_of plan.k t) v.place) (sym (taken.left.view t)) (level t)) after.told.places places in
       let good : AreTrueSaid turns.acts = subst AreTrueSaid (sym acts) (acts_true m.manager after id told levels members) in
       let at : m.plan ≡ plan = taken.left.plan ∙ same in
       record {
@@ -380,21 +372,21 @@ module _ (plan : Plan) (is : IsPlan plan) where
         links = subst (λ (x : ManagerView). AllByRecursion (IsTrueLink plan) x.told.links) (sym known)
             (links_after m.manager s id named (m.view s).place told so mid.links);
         members = subst (λ (x : ManagerView). AllByRecursion (AreTrueMembers plan) x.members) (sym known) members;
-        orders = λ t. subst (AllByRecursion (IsTrueOrder plan (rank_of plan t))) (sym (turns.orders t ∙ ap (λ p. m.orders t ++ ordered p t turns.acts) at))
-            (all_append (IsTrueOrder plan (rank_of plan t)) (m.orders t) (ordered plan t turns.acts) (mid.orders t) (all_ordered t turns.acts good));
-        held = λ t. subst (λ (v : SwitchView). AllByRecursion (λ part. IsTruePart plan (rank_of plan t) (Some part.1)) v.parts) (sym (turns.view t)) (mid.held t);
+        orders = λ t. subst (AllByRecursion (IsTrueOrder plan (level_of plan.k t))) (sym (turns.orders t ∙ ap (λ p. m.orders t ++ ordered p t turns.acts) at))
+            (all_append (IsTrueOrder plan (level_of plan.k t)) (m.orders t) (ordered plan t turns.acts) (mid.orders t) (all_ordered t turns.acts good));
+        held = λ t. subst (λ (v : SwitchView). AllByRecursion (λ part. IsTruePart plan (level_of plan.k t) (Some part.1)) v.parts) (sym (turns.view t)) (mid.held t);
       }
 
 -- What places give: known levels are so, and members are at edge switches alone.
 
 module _ (plan : Plan) (f : ControlPlane) (placed : ArePlaced plan f) where
-  pub level_is : (s : ℕ) → IsLevel (rank_of plan s) (f.view s).place
-  level_is s x level = (placed.own s).level x level ∙ same_rank (label_of plan.k s)
+  pub level_is : (s : ℕ) → IsLevel (level_of plan.k s) (f.view s).place
+  level_is s x level = (placed.own s).level x level
 
-  pub members_are : (s : ℕ) → s < switch_count plan.k → (group : ℕ) → has_member_of (f.view s).members group ≡ true → rank_of plan s ≡ 0
+  pub members_are : (s : ℕ) → s < switch_count plan.k → (group : ℕ) → has_member_of (f.view s).members group ≡ true → level_of plan.k s ≡ 0
   members_are s there group has = by_members (f.view s).members (placed.sound s there).homes.members has
     where
-      by_members : (members : List Member) → AllByRecursion (λ m. (port_of (f.view s) m.port).host ≡ true) members → has_member_of members group ≡ true → rank_of plan s ≡ 0
+      by_members : (members : List Member) → AllByRecursion (λ m. (port_of (f.view s) m.port).host ≡ true) members → has_member_of members group ≡ true → level_of plan.k s ≡ 0
       by_members [] all any = absurd (false≢true any)
       by_members (m ∷ members) all any = sym (level_is s 0 ((placed.sound s there).full.host m.port all.0))
 
@@ -411,10 +403,10 @@ module _ (plan : Plan) (is : IsPlan plan) (f g : ControlPlane) (same : f.plan �
     (grown : (s : ℕ) → IsTrueOf (f.view s).place (g.view s).place) (near : (s p : ℕ) (u : SwitchId) → id_at (g.view s) p ≡ Some u → is_neighbour plan s u ≡ true) where
   -- what is told in the step is told of the place behind it
   abbrev Tells : ℕ → SwitchStep → Type 0
-  Tells s step = AreTrue (λ place. IsTrueOf place (g.view s).place) (rank_of plan s ≡ 0) step.acts
+  Tells s step = AreTrue (λ place. IsTrueOf place (g.view s).place) (level_of plan.k s ≡ 0) step.acts
 
   turn : (m : ControlPlane) (s : ℕ) (input : SwitchInput) (turns : SwitchTurns Loose m s input g) → ((t : ℕ) → m.view t ≡ f.view t) →
-      Tells s (switch_step turns.ruled.choose (m.view s) input) → ((says : ToSwitch) → input ≡ Says says → IsTrueOrder plan (rank_of plan s) says) → AreTrees plan m → AreTrees plan g
+      Tells s (switch_step turns.ruled.choose (m.view s) input) → ((says : ToSwitch) → input ≡ Says says → IsTrueOrder plan (level_of plan.k s) says) → AreTrees plan m → AreTrees plan g
   turn m s input turns view words order trees =
       turn_trees plan is m g s input turns (λ t. subst (λ (v : SwitchView). IsTrueOf v.place (g.view t).place) (sym (view t)) (grown t)) (near s) words order trees
 
@@ -433,7 +425,7 @@ module _ (plan : Plan) (is : IsPlan plan) (f g : ControlPlane) (same : f.plan �
       let step : switch_step turns.ruled.choose v (Comes port frame) ≡ control_comes v port frame =
       cond-true (is_control frame) (control_comes v port frame) (data_comes turns.ruled.choose v port frame) control in
       subst (Tells s) (sym step)
-      (control_true (λ place. IsTrueOf place (g.view s).place) (rank_of plan s ≡ 0) v port frame (then_place m s (Comes port frame) turns (control_comes v port frame) step))
+      (control_true (λ place. IsTrueOf place (g.view s).place) (level_of plan.k s ≡ 0) v port frame (then_place m s (Comes port frame) turns (control_comes v port frame) step))
 
   -- a data frame over a link
   carried_true : (m : ControlPlane) (t q s port : ℕ) (frame : List ℕ) (turns : SwitchTurns Loose m s (Comes port frame) g) → m.view s ≡ f.view s →
@@ -446,10 +438,10 @@ module _ (plan : Plan) (is : IsPlan plan) (f g : ControlPlane) (same : f.plan �
       let step : switch_step turns.ruled.choose v (Comes port frame) ≡ comes_from_switch turns.ruled.choose v port frame =
       cond-false (is_control frame) (control_comes v port frame) (data_comes turns.ruled.choose v port frame) control
       ∙ cond-false (is_open_to_hosts (port_of v port)) (comes_from_host turns.ruled.choose v port frame) (comes_from_switch turns.ruled.choose v port frame) closed in
-      subst (Tells s) (sym step) (over_link_true (λ place. IsTrueOf place (g.view s).place) (rank_of plan s ≡ 0) turns.ruled.choose v port frame)
+      subst (Tells s) (sym step) (over_link_true (λ place. IsTrueOf place (g.view s).place) (level_of plan.k s ≡ 0) turns.ruled.choose v port frame)
 
   -- a frame of a host
-  entered_true : (s port : ℕ) (frame : List ℕ) (turns : SwitchTurns Loose f s (Comes port frame) g) → rank_of plan s ≡ 0 → is_control frame ≡ false →
+  entered_true : (s port : ℕ) (frame : List ℕ) (turns : SwitchTurns Loose f s (Comes port frame) g) → level_of plan.k s ≡ 0 → is_control frame ≡ false →
       Tells s (switch_step turns.ruled.choose (f.view s) (Comes port frame))
   entered_true s port frame turns edge control =
       let v : SwitchView = f.view s in
@@ -459,17 +451,17 @@ module _ (plan : Plan) (is : IsPlan plan) (f g : ControlPlane) (same : f.plan �
       subst (Tells s) (sym data_step)
       (cond_both (is_open_to_hosts (port_of v port)) (comes_from_host choose v port frame) (comes_from_switch choose v port frame)
       (λ (step : SwitchStep). own step.view.place → Tells s step)
-      (λ opens later. of_host_true own (rank_of plan s ≡ 0) choose v port frame edge later)
-      (λ closed later. over_link_true own (rank_of plan s ≡ 0) choose v port frame)
+      (λ opens later. of_host_true own (level_of plan.k s ≡ 0) choose v port frame edge later)
+      (λ closed later. over_link_true own (level_of plan.k s ≡ 0) choose v port frame)
       (then_place f s (Comes port frame) turns (data_comes choose v port frame) data_step))
 
-  edge_rank : (s : ℕ) → s < edge_count plan.k → rank_of plan s ≡ 0
-  edge_rank s edge = ap rank (label_of-edge plan.k s edge)
+  edge_rank : (s : ℕ) → s < edge_count plan.k → level_of plan.k s ≡ 0
+  edge_rank s edge = ap label_level (label_of-edge plan.k s edge)
 
   pub plane_trees : AreTrees plan f → PlaneStep Loose manager_rule f g → AreTrees plan g
   plane_trees trees (Left left) = left_trees plan is f g left trees
   plane_trees trees (Ticked s turns) =
-      turn f s Tick turns (λ t. refl) (ticks_true (λ place. IsTrueOf place (g.view s).place) (rank_of plan s ≡ 0) (f.view s) (grown s)) (λ says e. absurd (cc)) trees
+      turn f s Tick turns (λ t. refl) (ticks_true (λ place. IsTrueOf place (g.view s).place) (level_of plan.k s ≡ 0) (f.view s) (grown s)) (λ says e. absurd (cc)) trees
   plane_trees trees (Heard t q s port frame mid joined control taken turns) =
       turn mid s (Comes port frame) turns taken.left.view (heard_true mid s port frame turns control) (λ says e. absurd (cc)) (left_trees plan is f mid taken.left trees)
   plane_trees trees (Carried t q s port frame mid joined control carries taken turns) =
@@ -479,13 +471,13 @@ module _ (plan : Plan) (is : IsPlan plan) (f g : ControlPlane) (same : f.plan �
       turn f s (Comes port frame) turns (λ t. refl) (entered_true s port frame turns (edge_rank s (subst (λ (p : Plan). s < edge_count p.k) same edge)) control)
       (λ says e. absurd (cc)) trees
   plane_trees trees (Ordered s says mid taken turns) =
-      let order : AllByRecursion (IsTrueOrder plan (rank_of plan s)) (says ∷ mid.orders s) = subst (AllByRecursion (IsTrueOrder plan (rank_of plan s))) taken.first (trees.orders s) in
+      let order : AllByRecursion (IsTrueOrder plan (level_of plan.k s)) (says ∷ mid.orders s) = subst (AllByRecursion (IsTrueOrder plan (level_of plan.k s))) taken.first (trees.orders s) in
       let there : s < switch_count plan.k = subst (λ (p : Plan). s < switch_count p.k) (taken.left.plan ∙ same) turns.there in
       turn mid s (Says says) turns taken.left.view
-      (hears_true (λ place. IsTrueOf place (g.view s).place) (rank_of plan s ≡ 0) turns.ruled.choose (mid.view s) says
+      (hears_true (λ place. IsTrueOf place (g.view s).place) (level_of plan.k s ≡ 0) turns.ruled.choose (mid.view s) says
       (then_place mid s (Says says) turns (hears_manager turns.ruled.choose (mid.view s) says) refl)
-      (subst (λ (x : SwitchView). (group : ℕ) → has_member_of x.members group ≡ true → rank_of plan s ≡ 0) (sym (taken.left.view s)) (members_are plan f before s there)))
-      (λ word e. subst (IsTrueOrder plan (rank_of plan s)) (said_is says word e) order.0)
+      (subst (λ (x : SwitchView). (group : ℕ) → has_member_of x.members group ≡ true → level_of plan.k s ≡ 0) (sym (taken.left.view s)) (members_are plan f before s there)))
+      (λ word e. subst (IsTrueOrder plan (level_of plan.k s)) (said_is says word e) order.0)
       (left_trees plan is f mid taken.left trees)
     where
       said_of : SwitchInput → ToSwitch

@@ -20,15 +20,16 @@ use Rattle.pl_layouts.specs.Placement.{is_known, nowhere}
 use Rattle.pl_logic.specs.ManagerViews.{Members, PlacedEdge, Told, alive_at_level, alive_neighbours, edge_at, edge_with, has_level, has_pod, id_cmp, in_order, is_alive, place_of, placed_edges, switches, value_at, with_members}
 use Rattle.pl_logic.specs.Trees.{aggregation_part, core_for, core_of, core_part, cores, edge_part, largest, needed_edges, part_under, reach, serves, tree_part}
 use Rattle.pl_manager_rule.proofs.Avoided.{id_exact, same_is}
-use Rattle.pl_trees.specs.Trees.{AreTrueMembers, IsTruePart, rank_of}
+use Rattle.pl_trees.specs.Trees.{AreTrueMembers, IsTruePart}
+use Rattle.pl_journal.specs.Flights.{level_of}
 
--- a known level is the rank of the switch
+-- a known level is the level of the switch
 abbrev pub IsLevel : ℕ → Place → Type 0
 IsLevel r place = (x : ℕ) → place.level ≡ Some x → x ≡ r
 
 -- so it is where the manager knows one, by the id of the switch
 abbrev pub HasLevel : Plan → SwitchId × Place → Type 0
-HasLevel plan entry = (t : ℕ) → slice_get plan.ids t ≡ Some entry.0 → IsLevel (rank_of plan t) entry.1
+HasLevel plan entry = (t : ℕ) → slice_get plan.ids t ≡ Some entry.0 → IsLevel (level_of plan.k t) entry.1
 
 -- Lists.
 
@@ -121,28 +122,28 @@ found_true P test (e ∷ es) all x is = elim (cases_Bool (test e.0)) [
 ]
 
 module _ (plan : Plan) (told : Told) (places : AllByRecursion (HasLevel plan) told.places) where
-  pub place_true : (t : ℕ) (s : SwitchId) → slice_get plan.ids t ≡ Some s → IsLevel (rank_of plan t) (place_of told s)
+  pub place_true : (t : ℕ) (s : SwitchId) → slice_get plan.ids t ≡ Some s → IsLevel (level_of plan.k t) (place_of told s)
   place_true t s named = by_found (value_at id_cmp told.places s) refl
     where
-      by_found : (o : Option Place) → value_at id_cmp told.places s ≡ o → IsLevel (rank_of plan t) (unwrap_or o nowhere)
+      by_found : (o : Option Place) → value_at id_cmp told.places s ≡ o → IsLevel (level_of plan.k t) (unwrap_or o nowhere)
       by_found None is x level = absurd (cc)
       by_found (Some place) is x level =
           let found = found_true (HasLevel plan) (is_at (id_cmp s)) told.places places place is in
           let same : s ≡ found.0 = id_exact s found.0 ((Equal-is (id_cmp s found.0)).0 found.1) in
           found.2 t (named ∙ ap Some same) x level
 
-  level_true : (t : ℕ) (s : SwitchId) (n : ℕ) → slice_get plan.ids t ≡ Some s → has_level told s n ≡ true → n ≡ rank_of plan t
+  level_true : (t : ℕ) (s : SwitchId) (n : ℕ) → slice_get plan.ids t ≡ Some s → has_level told s n ≡ true → n ≡ level_of plan.k t
   level_true t s n named has = by_level (place_of told s).level refl has
     where
-      by_level : (o : Option ℕ) → (place_of told s).level ≡ o → is_known o n ≡ true → n ≡ rank_of plan t
+      by_level : (o : Option ℕ) → (place_of told s).level ≡ o → is_known o n ≡ true → n ≡ level_of plan.k t
       by_level None is known = absurd (false≢true known)
       by_level (Some m) is known = sym (eqb-true m n known) ∙ place_true t s named m is
 
   -- a placed edge switch is one
-  edge_true : (t : ℕ) (id s : SwitchId) (e : PlacedEdge) → slice_get plan.ids t ≡ Some id → edge_at s (place_of told s) ≡ Some e → (e.switch.0 == id.0) ≡ true → rank_of plan t ≡ 0
+  edge_true : (t : ℕ) (id s : SwitchId) (e : PlacedEdge) → slice_get plan.ids t ≡ Some id → edge_at s (place_of told s) ≡ Some e → (e.switch.0 == id.0) ≡ true → level_of plan.k t ≡ 0
   edge_true t id s e named is same = by_parts (place_of told s).level (place_of told s).position (place_of told s).pod refl is
     where
-      by_parts : (level position pod : Option ℕ) → (place_of told s).level ≡ level → edge_with s level position pod ≡ Some e → rank_of plan t ≡ 0
+      by_parts : (level position pod : Option ℕ) → (place_of told s).level ≡ level → edge_with s level position pod ≡ Some e → level_of plan.k t ≡ 0
       by_parts None position pod at found = absurd (cc)
       by_parts (Some n) None pod at found = absurd (cc)
       by_parts (Some n) (Some p) None at found = absurd (cc)
@@ -167,13 +168,13 @@ module _ (plan : Plan) (told : Told) (places : AllByRecursion (HasLevel plan) to
         | inr other ↦ (let none = cond-false (n == 0) (Some made) None other in absurd (cc))
       ]
 
-  edge_itself : (t : ℕ) (id : SwitchId) (e : PlacedEdge) → slice_get plan.ids t ≡ Some id → edge_at id (place_of told id) ≡ Some e → rank_of plan t ≡ 0
+  edge_itself : (t : ℕ) (id : SwitchId) (e : PlacedEdge) → slice_get plan.ids t ≡ Some id → edge_at id (place_of told id) ≡ Some e → level_of plan.k t ≡ 0
   edge_itself t id e named is =
       let own = edge_named id (place_of told id).level (place_of told id).position (place_of told id).pod e is in
       edge_true t id id e named is (eq-eqb e.switch.0 id.0 (ap (λ (d : SwitchId). d.0) own))
 
   placed_true : (t : ℕ) (id : SwitchId) → slice_get plan.ids t ≡ Some id → (ids : List SwitchId) →
-      list_any (λ (d : SwitchId). d.0 == id.0) (map (λ (e : PlacedEdge). e.switch) (filter_map (λ s. edge_at s (place_of told s)) ids)) ≡ true → rank_of plan t ≡ 0
+      list_any (λ (d : SwitchId). d.0 == id.0) (map (λ (e : PlacedEdge). e.switch) (filter_map (λ s. edge_at s (place_of told s)) ids)) ≡ true → level_of plan.k t ≡ 0
   placed_true t id named [] is = absurd (false≢true is)
   placed_true t id named (s ∷ ids) is = by_edge (edge_at s (place_of told s)) refl (placed_true t id named ids) is
     where
@@ -183,7 +184,7 @@ module _ (plan : Plan) (told : Told) (places : AllByRecursion (HasLevel plan) to
       named_in : List PlacedEdge → Bool
       named_in edges = list_any (λ (d : SwitchId). d.0 == id.0) (map (λ (e : PlacedEdge). e.switch) edges)
 
-      by_edge : (o : Option PlacedEdge) → edge_at s (place_of told s) ≡ o → (named_in rest ≡ true → rank_of plan t ≡ 0) → named_in (cons_option o rest) ≡ true → rank_of plan t ≡ 0
+      by_edge : (o : Option PlacedEdge) → edge_at s (place_of told s) ≡ o → (named_in rest ≡ true → level_of plan.k t ≡ 0) → named_in (cons_option o rest) ≡ true → level_of plan.k t ≡ 0
       by_edge None at later e = later e
       by_edge (Some edge) at later e = elim (or_cases (edge.switch.0 == id.0) (named_in rest) e) [
         | inl here ↦ edge_true t id s edge named at here
@@ -191,7 +192,7 @@ module _ (plan : Plan) (told : Told) (places : AllByRecursion (HasLevel plan) to
       ]
 
 members_true : (plan : Plan) (members : Members) → AllByRecursion (AreTrueMembers plan) members → (group t : ℕ) (id : SwitchId) → slice_get plan.ids t ≡ Some id →
-    list_any (λ (d : SwitchId). d.0 == id.0) (map (λ (m : (SwitchId × ℕ) × Bool). m.0.0) (filter (λ (m : (SwitchId × ℕ) × Bool). m.0.1 == group && m.1) members)) ≡ true → rank_of plan t ≡ 0
+    list_any (λ (d : SwitchId). d.0 == id.0) (map (λ (m : (SwitchId × ℕ) × Bool). m.0.0) (filter (λ (m : (SwitchId × ℕ) × Bool). m.0.1 == group && m.1) members)) ≡ true → level_of plan.k t ≡ 0
 members_true plan [] all group t id named is = absurd (false≢true is)
 members_true plan (m ∷ members) all group t id named is =
     by_test (m.0.1 == group && m.1) refl (members_true plan members all.1 group t id named) is
@@ -202,7 +203,7 @@ members_true plan (m ∷ members) all group t id named is =
     named_in : List ((SwitchId × ℕ) × Bool) → Bool
     named_in entries = list_any (λ (d : SwitchId). d.0 == id.0) (map (λ (m : (SwitchId × ℕ) × Bool). m.0.0) entries)
 
-    by_test : (b : Bool) → (m.0.1 == group && m.1) ≡ b → (named_in rest ≡ true → rank_of plan t ≡ 0) → named_in (cond b (m ∷ rest) rest) ≡ true → rank_of plan t ≡ 0
+    by_test : (b : Bool) → (m.0.1 == group && m.1) ≡ b → (named_in rest ≡ true → level_of plan.k t ≡ 0) → named_in (cond b (m ∷ rest) rest) ≡ true → level_of plan.k t ≡ 0
     by_test false here later e = later e
     by_test true here later e = elim (or_cases (m.0.0.0 == id.0) (named_in rest) e) [
       | inl own ↦ all.0 t (named ∙ ap Some (sym (same_is m.0.0 id own)))
@@ -210,10 +211,10 @@ members_true plan (m ∷ members) all group t id named is =
     ]
 
 module _ (plan : Plan) (told : Told) (members : Members) (places : AllByRecursion (HasLevel plan) told.places) (all : AllByRecursion (AreTrueMembers plan) members) where
-  needed_true : (group t : ℕ) (id : SwitchId) → slice_get plan.ids t ≡ Some id → list_any (λ (d : SwitchId). d.0 == id.0) (needed_edges told members group) ≡ true → rank_of plan t ≡ 0
+  needed_true : (group t : ℕ) (id : SwitchId) → slice_get plan.ids t ≡ Some id → list_any (λ (d : SwitchId). d.0 == id.0) (needed_edges told members group) ≡ true → level_of plan.k t ≡ 0
   needed_true group t id named =
       cond_both (group == flood) (map (λ (e : PlacedEdge). e.switch) (placed_edges told)) (with_members members group)
-      (λ ids. list_any (λ (d : SwitchId). d.0 == id.0) ids ≡ true → rank_of plan t ≡ 0)
+      (λ ids. list_any (λ (d : SwitchId). d.0 == id.0) ids ≡ true → level_of plan.k t ≡ 0)
       (λ flooded is. placed_true plan told places t id named (switches told) is)
       (λ routed is. members_true plan members all group t id named (any_ordered id_cmp (λ d. d.0 == id.0) _ is))
 
@@ -225,9 +226,9 @@ module _ (plan : Plan) (told : Told) (members : Members) (places : AllByRecursio
       let among = got_earlier best (cores told) _ core is in
       got_filtered (λ c. has_level told c 2) (switches told) among.0 core among.1
 
-  module _ (needed : List SwitchId) (edges : (t : ℕ) (id : SwitchId) → slice_get plan.ids t ≡ Some id → list_any (λ (d : SwitchId). d.0 == id.0) needed ≡ true → rank_of plan t ≡ 0)
+  module _ (needed : List SwitchId) (edges : (t : ℕ) (id : SwitchId) → slice_get plan.ids t ≡ Some id → list_any (λ (d : SwitchId). d.0 == id.0) needed ≡ true → level_of plan.k t ≡ 0)
       (s : ℕ) (id core : SwitchId) (named : slice_get plan.ids s ≡ Some id) (is_core : has_level told core 2 ≡ true) where
-    core_leads : same_switch id core ≡ true → IsTruePart plan (rank_of plan s) (Some (core_part told needed core))
+    core_leads : same_switch id core ≡ true → IsTruePart plan (level_of plan.k s) (Some (core_part told needed core))
     core_leads itself =
         let two = level_true plan told places s id 2 named (subst (λ c. has_level told c 2 ≡ true) (sym (same_is id core itself)) is_core) in
         record {
@@ -236,7 +237,7 @@ module _ (plan : Plan) (told : Told) (members : Members) (places : AllByRecursio
               (any_filter (λ x. x.0 == d.0) (serves told needed) (alive_at_level told core 1) below)) in omega (arith, one, two));
         }
 
-    aggregation_leads : (has_level told id 1 && is_alive told id core) ≡ true → IsTruePart plan (rank_of plan s) (Some (aggregation_part told needed core id))
+    aggregation_leads : (has_level told id 1 && is_alive told id core) ≡ true → IsTruePart plan (level_of plan.k s) (Some (aggregation_part told needed core id))
     aggregation_leads is =
         let one = level_true plan told places s id 1 named (and_parts (has_level told id 1) (is_alive told id core) is).0 in
         record {
@@ -245,7 +246,7 @@ module _ (plan : Plan) (told : Told) (members : Members) (places : AllByRecursio
           down = λ t d named_d below. (let edge = edges t d named_d (any_filter (λ x. x.0 == d.0) (is_alive told id) needed below) in omega (arith, one, edge));
         }
 
-    edge_leads : (o : Option PlacedEdge) → edge_at id (place_of told id) ≡ o → IsTruePart plan (rank_of plan s) (option_map (edge_part told core) o)
+    edge_leads : (o : Option PlacedEdge) → edge_at id (place_of told id) ≡ o → IsTruePart plan (level_of plan.k s) (option_map (edge_part told core) o)
     edge_leads None is = tt
     edge_leads (Some e) is =
         let edge = edge_itself plan told places s id e named is in
@@ -255,17 +256,17 @@ module _ (plan : Plan) (told : Told) (members : Members) (places : AllByRecursio
           down = λ t d named_d below. absurd (false≢true below);
         }
 
-    under_true : IsTruePart plan (rank_of plan s) (part_under told needed id core)
+    under_true : IsTruePart plan (level_of plan.k s) (part_under told needed id core)
     under_true =
-        cond_both (same_switch id core) (Some (core_part told needed core)) _ (IsTruePart plan (rank_of plan s)) core_leads
-        (λ other. cond_both (has_level told id 1 && is_alive told id core) (Some (aggregation_part told needed core id)) _ (IsTruePart plan (rank_of plan s)) aggregation_leads
+        cond_both (same_switch id core) (Some (core_part told needed core)) _ (IsTruePart plan (level_of plan.k s)) core_leads
+        (λ other. cond_both (has_level told id 1 && is_alive told id core) (Some (aggregation_part told needed core id)) _ (IsTruePart plan (level_of plan.k s)) aggregation_leads
         (λ no_aggregation. edge_leads (edge_at id (place_of told id)) refl))
 
-  pub part_true : (group s : ℕ) (id : SwitchId) → slice_get plan.ids s ≡ Some id → IsTruePart plan (rank_of plan s) (tree_part told members group id)
+  pub part_true : (group s : ℕ) (id : SwitchId) → slice_get plan.ids s ≡ Some id → IsTruePart plan (level_of plan.k s) (tree_part told members group id)
   unfolding tree_part core_of
   part_true group s id named = by_core (core_for told group (needed_edges told members group)) refl
     where
       by_core : (o : Option SwitchId) → core_for told group (needed_edges told members group) ≡ o →
-          IsTruePart plan (rank_of plan s) (option_and_then (part_under told (needed_edges told members group) id) o)
+          IsTruePart plan (level_of plan.k s) (option_and_then (part_under told (needed_edges told members group) id) o)
       by_core None is = tt
       by_core (Some core) is = under_true (needed_edges told members group) (needed_true group) s id core named (core_true (needed_edges told members group) group core is)

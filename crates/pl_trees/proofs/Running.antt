@@ -45,9 +45,10 @@ use Rattle.pl_records.proofs.Strangers.{neighbour_is}
 use Rattle.pl_copies.specs.Copies.{ComesOnce}
 use Rattle.pl_copies.specs.Standing.{KnowTrees, KnowsTree}
 use Rattle.pl_copies.proofs.Runs.{mark_once, once_at_first, step_once}
-use Rattle.pl_trees.specs.Trees.{AreTrees, IsTrueOrder, IsTruePart, IsTrueReport, LeadsOn, rank_of}
+use Rattle.pl_trees.specs.Trees.{AreTrees, IsTrueOrder, IsTruePart, IsTrueReport, LeadsOn}
 use Rattle.pl_trees.proofs.Keeping.{level_is, plane_trees}
 use Rattle.pl_trees.proofs.Parts.{found_true}
+use Rattle.pl_journal.specs.Flights.{level_of}
 
 -- where places are true and parts lead down, switches know the tree around them
 module _ (w : WorldView) (kept : Kept w) (trees : AreTrees w.plan (control_plane w)) where
@@ -60,10 +61,10 @@ module _ (w : WorldView) (kept : Kept w) (trees : AreTrees w.plan (control_plane
   joined_back : (t q : ℕ) (u : SwitchNo) (r : ℕ) → peer_of w.plan t q ≡ Switch u r → AreJoined w.plan u.0 r t q
   joined_back t q u r peer = joined_turned w.plan t q u.0 r is peer
 
-  near_level : (t q : ℕ) (u : SwitchNo) (r n : ℕ) → peer_of w.plan t q ≡ Switch u r → (place_at ((control_plane w).view t) q).level ≡ Some n → n ≡ rank_of w.plan u.0
+  near_level : (t q : ℕ) (u : SwitchNo) (r n : ℕ) → peer_of w.plan t q ≡ Switch u r → (place_at ((control_plane w).view t) q).level ≡ Some n → n ≡ level_of w.plan.k u.0
   near_level t q u r n peer level = by_heard (port_of ((control_plane w).view t) q).heard refl level
     where
-      by_heard : (o : Option Neighbour) → (port_of ((control_plane w).view t) q).heard ≡ o → (heard_place o).level ≡ Some n → n ≡ rank_of w.plan u.0
+      by_heard : (o : Option Neighbour) → (port_of ((control_plane w).view t) q).heard ≡ o → (heard_place o).level ≡ Some n → n ≡ level_of w.plan.k u.0
       by_heard None e known = absurd (cc)
       by_heard (Some x) e known =
           level_is w.plan (control_plane w) kept.placed u.0 n (((kept.placed.links u.0 r t q (joined_back t q u r peer)).recorded.known x e).so.level n known)
@@ -76,9 +77,9 @@ module _ (w : WorldView) (kept : Kept w) (trees : AreTrees w.plan (control_plane
       by_peer (Switch u r) e = absurd (false≢true (sym (kept.placed.links u.0 r t q (joined_back t q u r e)).recorded.no_host ∙ host))
 
   -- the part of a switch, and the switch that is named at a port of it
-  held_part : (t group : ℕ) (part : TreePart) → part_of ((control_plane w).view t) group ≡ Some part → LeadsOn w.plan (rank_of w.plan t) part
+  held_part : (t group : ℕ) (part : TreePart) → part_of ((control_plane w).view t) group ≡ Some part → LeadsOn w.plan (level_of w.plan.k t) part
   held_part t group part has =
-      (found_true (λ part. IsTruePart w.plan (rank_of w.plan t) (Some part.1)) (λ g. g == group) ((control_plane w).view t).parts (trees.held t) part has).2
+      (found_true (λ part. IsTruePart w.plan (level_of w.plan.k t) (Some part.1)) (λ g. g == group) ((control_plane w).view t).parts (trees.held t) part has).2
 
   named_there : (t q : ℕ) (u : SwitchNo) (r : ℕ) (id : SwitchId) → peer_of w.plan t q ≡ Switch u r → id_at ((control_plane w).view t) q ≡ Some id →
       slice_get w.plan.ids u.0 ≡ Some id
@@ -124,8 +125,8 @@ trees_at_first plan limits = record {
   places = tt;
   links = tt;
   members = tt;
-  orders = λ s. subst (AllByRecursion (IsTrueOrder plan (rank_of plan s))) (sym (replicated (switch_count plan.k) s [])) tt;
-  held = λ s. subst (AllByRecursion (λ part. IsTruePart plan (rank_of plan s) (Some part.1))) (sym (new_parts plan.ids plan.k s)) tt;
+  orders = λ s. subst (AllByRecursion (IsTrueOrder plan (level_of plan.k s))) (sym (replicated (switch_count plan.k) s [])) tt;
+  held = λ s. subst (AllByRecursion (λ part. IsTruePart plan (level_of plan.k s) (Some part.1))) (sym (new_parts plan.ids plan.k s)) tt;
 }
 
 -- both at once

@@ -39,7 +39,7 @@ use Rattle.pl_switch_rule.specs.declared.came.Came.{Came}
 use Rattle.pl_switch_rule.specs.declared.came.Came.TheVariants.{FromHost}
 use Rattle.pl_switch_rule.specs.Delivering.{addresses, arrives_home, begins, comes_home, delivers, delivers_or_redirects, delivers_to, destination, goes_on, if_newer, last_trap, makes, newer_address, redirects, redirects_on, tells_newer, tells_sender, trap_for}
 use Rattle.pl_switch_rule.specs.Forwarding.{Choice, came_by, candidates_by, forwards, leaves_by}
-use Rattle.pl_switch_rule.specs.Granting.{address_at_port, forgets, grant_number, granted, grants_at, grants_next, grants_or_learns, grants_remembered, grants_source, has_no_address, in_use, is_granted, is_local, is_port_spent, learns_ip, learns_source, remembered_at, remembers, same_ip, sender_ip, with_grant}
+use Rattle.pl_switch_rule.specs.Granting.{address_at_port, forgets, grant_number, granted, grants_at, grants_next, grants_or_learns, grants_remembered, grants_source, has_no_address, in_use, is_granted, is_local, is_port_spent, learns_ip, learns_source, remembered_at, remembers, sender_ip, with_grant}
 use Rattle.pl_switch_rule.specs.GroupForwarding.{destination_group, forwards_group, group_ports, no_way, passes_or_drops, way_of}
 use Rattle.pl_switch_rule.specs.Intake.{comes_from_host, group_told, groups_of, groups_told, has_member_of, hears_members, is_for_switch, is_member, packet_acts, query, sends_in, source_pmac, takes, takes_in, takes_in_or_spent, with_pmac}
 use Rattle.pl_switch_rule.specs.Levels.{after_message, becomes_edge, changes_to, finds_host, has_become_placed, settles_in, with_pod}
@@ -50,6 +50,7 @@ use Rattle.pl_switch_rule.specs.Telling.{changes_told, link_to, link_told, place
 use Rattle.pl_control_plane.specs.ControlPlanes.{tells}
 use Rattle.pl_addresses.proofs.Asides.{takes_in_aside}
 use Rattle.pl_trees.proofs.Parts.{any_filter}
+use Rattle.pl_layouts.specs.Equality.{is_ip}
 
 -- the places that are told are such, and members are told at an edge switch alone
 abbrev pub IsSaid : (Place → Type 0) → Type 0 → ToManager → Type 0
@@ -62,7 +63,7 @@ IsSaid own edge told = Unit {0}
 ip_place : (v : SwitchView) (address : Pmac) (o : Option Grant) (ip : Option Ip4) → (learns_ip v address o ip).view.place ≡ v.place
 ip_place v address None ip = refl
 ip_place v address (Some grant) None = refl
-ip_place v address (Some grant) (Some ip) = by_test (same_ip grant.ip ip)
+ip_place v address (Some grant) (Some ip) = by_test (is_ip grant.ip ip)
   where
     by_test : (b : Bool) → (if◌then◌else◌ {A = SwitchStep} b (rests v) (record { view = with_grant v address (record grant { ip = Some ip }); acts = act.Tell (tell.Learned address grant.amac (Some ip)) ∷ [] })).view.place ≡ v.place
     by_test true = refl
@@ -202,7 +203,7 @@ module _ (own : Place → Type 0) (edge : Type 0) where
   ip_true : (v : SwitchView) (address : Pmac) (o : Option Grant) (ip : Option Ip4) → Says (learns_ip v address o ip)
   ip_true v address None ip = tt
   ip_true v address (Some grant) None = tt
-  ip_true v address (Some grant) (Some ip) = by_test (same_ip grant.ip ip)
+  ip_true v address (Some grant) (Some ip) = by_test (is_ip grant.ip ip)
     where
       by_test : (b : Bool) → Says (if b then rests v else record { view = with_grant v address (record grant { ip = Some ip }); acts = act.Tell (tell.Learned address grant.amac (Some ip)) ∷ [] })
       by_test true = tt

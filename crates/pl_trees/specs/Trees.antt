@@ -2,7 +2,6 @@
 use Rattle.std.specs.Prelude.{◌≡◌, ◌+◌, ℕ, ◌==◌, Bool, true, Option, Some, None, slice_get}
 use Rattle.std.specs.List.{AllByRecursion, list_any}
 use Rattle.pl_frame.specs.declared.address.SwitchId.{SwitchId}
-use Rattle.pl_wiring.specs.Labels.{label_of}
 use Rattle.pl_wiring.specs.Plan.{Plan}
 use Rattle.pl_layouts.specs.declared.place.Place.{Place}
 use Rattle.pl_logic.specs.declared.messages.ToManager.{ToManager}
@@ -14,22 +13,19 @@ use Rattle.pl_logic.specs.SwitchViews.{SwitchView}
 use Rattle.pl_control_plane.specs.ControlPlanes.{ControlPlane}
 use Rattle.pl_places.specs.Told.{IsTrueOf}
 use Rattle.pl_records.specs.Records.{is_neighbour}
-use Rattle.pl_copies.specs.Standing.{rank}
-
-abbrev pub rank_of : Plan → ℕ → ℕ
-rank_of plan s = rank (label_of plan.k s)
+use Rattle.pl_journal.specs.Flights.{level_of}
 
 -- What switch s tells: of its place each known part is its own, a link is to a neighbour, and edge switches alone tell of members.
 abbrev pub IsTrueReport : Plan → ℕ → Place → ToManager → Type 0
 IsTrueReport plan s own (tell.Place place) = IsTrueOf place own
 IsTrueReport plan s own (tell.Link neighbour usable) = is_neighbour plan s neighbour ≡ true
-IsTrueReport plan s own (tell.Members group any) = rank_of plan s ≡ 0
+IsTrueReport plan s own (tell.Members group any) = level_of plan.k s ≡ 0
 IsTrueReport plan s own told = Unit {0}
 
--- A part of a tree, at a switch of this rank, leads up to a switch of the next rank, and down to switches of the rank before.
+-- A part of a tree, at a switch of this level, leads up to a switch of the next level, and down to switches of the level before.
 pub record LeadsOn (plan : Plan) (r : ℕ) (part : TreePart) : Type 0 where
-  pub up : (t : ℕ) (id : SwitchId) → slice_get plan.ids t ≡ Some id → part.up ≡ Some id → rank_of plan t ≡ r + 1
-  pub down : (t : ℕ) (id : SwitchId) → slice_get plan.ids t ≡ Some id → list_any (λ d. d.0 == id.0) part.down ≡ true → rank_of plan t + 1 ≡ r
+  pub up : (t : ℕ) (id : SwitchId) → slice_get plan.ids t ≡ Some id → part.up ≡ Some id → level_of plan.k t ≡ r + 1
+  pub down : (t : ℕ) (id : SwitchId) → slice_get plan.ids t ≡ Some id → list_any (λ d. d.0 == id.0) part.down ≡ true → level_of plan.k t + 1 ≡ r
 
 abbrev pub IsTruePart : Plan → ℕ → Option TreePart → Type 0
 IsTruePart plan r None = Unit {0}
@@ -47,7 +43,7 @@ abbrev pub IsTrueLink : Plan → (SwitchId × SwitchId) × Bool → Type 0
 IsTrueLink plan entry = (t : ℕ) → slice_get plan.ids t ≡ Some entry.0.0 → is_neighbour plan t entry.0.1 ≡ true
 
 abbrev pub AreTrueMembers : Plan → (SwitchId × ℕ) × Bool → Type 0
-AreTrueMembers plan entry = (t : ℕ) → slice_get plan.ids t ≡ Some entry.0.0 → rank_of plan t ≡ 0
+AreTrueMembers plan entry = (t : ℕ) → slice_get plan.ids t ≡ Some entry.0.0 → level_of plan.k t ≡ 0
 
 -- All that was told and ordered, waits or is known.
 pub record AreTrees (plan : Plan) (f : ControlPlane) : Type 0 where
@@ -55,5 +51,5 @@ pub record AreTrees (plan : Plan) (f : ControlPlane) : Type 0 where
   pub places : AllByRecursion (IsTruePlace plan f.view) f.manager.told.places
   pub links : AllByRecursion (IsTrueLink plan) f.manager.told.links
   pub members : AllByRecursion (AreTrueMembers plan) f.manager.members
-  pub orders : (s : ℕ) → AllByRecursion (IsTrueOrder plan (rank_of plan s)) (f.orders s)
-  pub held : (s : ℕ) → AllByRecursion (λ part. IsTruePart plan (rank_of plan s) (Some part.1)) (f.view s).parts
+  pub orders : (s : ℕ) → AllByRecursion (IsTrueOrder plan (level_of plan.k s)) (f.orders s)
+  pub held : (s : ℕ) → AllByRecursion (λ part. IsTruePart plan (level_of plan.k s) (Some part.1)) (f.view s).parts

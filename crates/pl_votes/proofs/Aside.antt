@@ -31,13 +31,14 @@ use Rattle.pl_switch_rule.specs.declared.came.Came.{Came}
 use Rattle.pl_switch_rule.specs.declared.came.Came.TheVariants.{FromHost}
 use Rattle.pl_switch_rule.specs.Delivering.{addresses, arrives_home, begins, comes_home, delivers, delivers_or_redirects, delivers_to, destination, goes_on, if_newer, is_trapped, last_trap, makes, newer_address, redirects, redirects_on, tells_newer, tells_sender, trap_for}
 use Rattle.pl_switch_rule.specs.Forwarding.{Choice, came_by, candidates_by, forwards, leaves_by}
-use Rattle.pl_switch_rule.specs.Granting.{address_at_port, forgets, granted, grants_at, grants_next, grants_or_learns, grants_remembered, grants_source, grant_number, has_no_address, in_use, is_granted, is_local, is_port_spent, learns_ip, learns_source, remembered_at, remembers, same_ip, sender_ip, with_grant}
+use Rattle.pl_switch_rule.specs.Granting.{address_at_port, forgets, granted, grants_at, grants_next, grants_or_learns, grants_remembered, grants_source, grant_number, has_no_address, in_use, is_granted, is_local, is_port_spent, learns_ip, learns_source, remembered_at, remembers, sender_ip, with_grant}
 use Rattle.pl_switch_rule.specs.GroupForwarding.{destination_group, forwards_group, group_ports, no_way, passes_or_drops, way_of}
 use Rattle.pl_switch_rule.specs.Intake.{comes_from_host, group_told, groups_of, groups_told, has_member_of, hears_members, is_for_switch, members_become, packet_acts, query, sends_in, source_pmac, takes, takes_in, takes_in_or_spent, with_pmac}
 use Rattle.pl_switch_rule.specs.Levels.{becomes_edge, changes_to, pod_told_before, finds_host, has_become_placed, settles_in, with_pod}
 use Rattle.pl_switch_rule.specs.Messages.{answer_frame, flood_frame, floods, forgets_members, hears_manager, invalidates, probes, probes_at, sets_trap, takes_pod, hears_pod}
 use Rattle.pl_switch_rule.specs.SwitchRule.{comes_from_switch, data_comes}
 use Rattle.pl_switch_rule.specs.Telling.{changes_told, link_to, link_told, place_told, pod_wanted}
+use Rattle.pl_layouts.specs.Equality.{is_ip}
 
 -- what a switch has to do with votes as one that proposes
 pub record Stance : Type 0 where
@@ -130,7 +131,7 @@ unsaid_told old new =
 aside_learns_ip : (v : SwitchView) (address : Pmac) (grant : Option Grant) (ip : Option Ip4) → IsAside v (learns_ip v address grant ip)
 aside_learns_ip v address None ip = aside_rests v
 aside_learns_ip v address (Some grant) None = aside_rests v
-aside_learns_ip v address (Some grant) (Some ip) = by (same_ip grant.ip ip)
+aside_learns_ip v address (Some grant) (Some ip) = by (is_ip grant.ip ip)
   where
     by : (b : Bool) → IsAside v (if b then rests v else record { view = with_grant v address (record grant { ip = Some ip }); acts = Tell (Learned address grant.amac (Some ip)) ∷ [] })
     by true = aside_rests v

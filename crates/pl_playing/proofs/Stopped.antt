@@ -2,6 +2,9 @@
 use Rattle.std.proofs.Common.{◌≡◌, ℕ, Bool, true, false, List, Some, refl, ap, ◌∙◌}
 use Rattle.pl_inputs.specs.declared.status.Status.{Status}
 use Rattle.pl_inputs.specs.Inputs.{Inputs}
+use Rattle.pl_logic.specs.HostInputs.{HostRule}
+use Rattle.pl_logic.specs.ManagerDuties.{ManagerRule}
+use Rattle.pl_logic.specs.SwitchInputs.{SwitchRule}
 use Rattle.pl_output.specs.Saved.{Saving}
 use Rattle.pl_lines.specs.declared.stop.Stop.{Stop}
 use Rattle.pl_lines.specs.declared.stop.Stop.TheVariants.{ExpectFailed, Refused}
@@ -32,21 +35,22 @@ outcome_is (line, Refused error.Memory) = refl
 not_both : (b : Bool) → b ≡ false → b ≡ true → ⊥
 not_both b is was = cc
 
-pub no_stop : (i : Inputs) (e : Status) → is_of_stop e ≡ false → IsStopped i e → ⊥
-no_stop i e other s = not_both (is_of_stop e) other (ap is_of_stop s.answered ∙ outcome_is s.stopped)
+module _ (switch : SwitchRule) (manager : ManagerRule) (host : HostRule) where
+  pub no_stop : (i : Inputs) (e : Status) → is_of_stop e ≡ false → IsStopped switch manager host i e → ⊥
+  no_stop i e other s = not_both (is_of_stop e) other (ap is_of_stop s.answered ∙ outcome_is s.stopped)
 
--- a script that was not played to its end
-pub unplayed_comes : (old new : Moment) → IsUntouched old new → (i : Inputs) (texts : IsPlayed i → List Saving) (e : Status) → IsUnplayed i e → Comes old new i texts e
-unplayed_comes old new stays i texts status.Done u = absurd (no_stop i status.Done refl u)
-unplayed_comes old new stays i texts (status.WriteFault name) u = absurd (no_stop i (status.WriteFault name) refl u)
-unplayed_comes old new stays i texts status.OutOfMemory u = stays
-unplayed_comes old new stays i texts status.Usage u = (u, stays)
-unplayed_comes old new stays i texts (status.ReadFault name) u = (u, stays)
-unplayed_comes old new stays i texts (status.TooLong name) u = (u, stays)
-unplayed_comes old new stays i texts (status.BadTopology reason) u = (u, stays)
-unplayed_comes old new stays i texts (status.BadScript line reason) u = (u, stays)
-unplayed_comes old new stays i texts (status.BadCapture host e at) u = (u, stays)
-unplayed_comes old new stays i texts (status.ExpectFailed line) u = (u, stays)
-unplayed_comes old new stays i texts (status.Refused line reason) u = (u, stays)
-unplayed_comes old new stays i texts (status.StepsSpent line) u = (u, stays)
-unplayed_comes old new stays i texts (status.JournalFull line) u = (u, stays)
+  -- a script that was not played to its end
+  pub unplayed_comes : (old new : Moment) → IsUntouched old new → (i : Inputs) (texts : IsPlayed switch manager host i → List Saving) (e : Status) → IsUnplayed switch manager host i e → Comes switch manager host old new i texts e
+  unplayed_comes old new stays i texts status.Done u = absurd (no_stop i status.Done refl u)
+  unplayed_comes old new stays i texts (status.WriteFault name) u = absurd (no_stop i (status.WriteFault name) refl u)
+  unplayed_comes old new stays i texts status.OutOfMemory u = stays
+  unplayed_comes old new stays i texts status.Usage u = (u, stays)
+  unplayed_comes old new stays i texts (status.ReadFault name) u = (u, stays)
+  unplayed_comes old new stays i texts (status.TooLong name) u = (u, stays)
+  unplayed_comes old new stays i texts (status.BadTopology reason) u = (u, stays)
+  unplayed_comes old new stays i texts (status.BadScript line reason) u = (u, stays)
+  unplayed_comes old new stays i texts (status.BadCapture host e at) u = (u, stays)
+  unplayed_comes old new stays i texts (status.ExpectFailed line) u = (u, stays)
+  unplayed_comes old new stays i texts (status.Refused line reason) u = (u, stays)
+  unplayed_comes old new stays i texts (status.StepsSpent line) u = (u, stays)
+  unplayed_comes old new stays i texts (status.JournalFull line) u = (u, stays)

@@ -8,9 +8,9 @@ use Rattle.pl_inputs.specs.declared.status.Status.{Status}
 use Rattle.pl_inputs.specs.Inputs.{Inputs}
 use Rattle.pl_inputs.specs.Records.{Recorded, records_in_file, tail_of_file}
 use Rattle.pl_logic.specs.HostViews.{held_count}
-use Rattle.pl_host_rule.specs.HostRule.{host_rule}
-use Rattle.pl_manager_rule.specs.ManagerRule.{manager_rule}
-use Rattle.pl_switch_rule.specs.SwitchRule.{Exact}
+use Rattle.pl_logic.specs.HostInputs.{HostRule}
+use Rattle.pl_logic.specs.ManagerDuties.{ManagerRule}
+use Rattle.pl_logic.specs.SwitchInputs.{SwitchRule}
 use Rattle.pl_world.specs.declared.error.StepError.{StepError}
 use Rattle.pl_world.specs.declared.limits.Limits.{Limits}
 use Rattle.pl_fabric.specs.Settled.{IsSettled}
@@ -36,11 +36,6 @@ run_limits = record { steps = 50000000; entries = 5000000; bytes = 268435456 }
 abbrev pub records_of : Inputs → List (List Recorded)
 records_of i = map records_in_file i.captures
 
--- The script of what was read is played on a fabric of switches, the manager and hosts, by their rules: up to its last line,
--- or up to the first line that is stopped.
-abbrev pub PlaysTo : Inputs → Option (ℕ × Stop) → Scene → Type 0
-PlaysTo i end scene = Plays Exact manager_rule host_rule i.plan run_limits (records_of i) i.lines end scene
-
 -- what is left of each host at the end, the first of them with this number
 abbrev pub held_at : Scene → ℕ → ℕ
 held_at scene n = option_map_or held_count (slice_get scene.world.hosts n) 0
@@ -53,30 +48,6 @@ rests_from n (file ∷ files) scene =
 
 abbrev pub summary_of : Inputs → Scene → Bool → List ℕ
 summary_of i scene settled = summary_text i.plan scene.world.journal scene.world.steps (rests_from 0 i.captures scene) settled
-
--- each host did just what the script asks of it, and what the frames that arrived bring about
-abbrev pub HostsDoAsAsked : Inputs → Scene → Type 0
-HostsDoAsAsked i scene =
-    (n : ℕ) (host : Host) → slice_get i.plan.hosts n ≡ Some host → DoesAsAsked host_rule i.plan (records_of i) i.lines n host scene.world
-
--- Inputs that were played to the end of the script, and whether the fabric is settled then. To its hosts the fabric is one lossy switch, and the
--- journal is a run of that.
-pub record IsPlayed (i : Inputs) : Type 0 where
-  pub scene : Scene
-  pub played : PlaysTo i None scene
-  pub wiring : scene.world.plan ≡ i.plan
-  pub deeds : HostsDoAsAsked i scene
-  pub one_switch : IsOneSwitch Exact manager_rule host_rule scene.world
-  pub settled : Bool
-  pub is_settled : IsTrue settled ↔ IsSettled scene.world
-
--- what is saved of them in this folder: the captures that the hosts receive, the journal and the summary
-abbrev pub texts_of : List ℕ → (i : Inputs) → IsPlayed i → List Saving
-texts_of out i is = saved_texts out i.plan is.scene.world.journal (summary_of i is.scene is.settled)
-
--- the summary alone, on standard output
-abbrev pub printed_of : (i : Inputs) → IsPlayed i → List Saving
-printed_of i is = record { name = standard_output; text = summary_of i is.scene is.settled } ∷ []
 
 -- a shelf at a moment: what it holds by name, and how many of its calls failed
 pub record Moment : Type 0 where
@@ -128,17 +99,47 @@ outcome None = status.Done
 outcome (Some (line, ExpectFailed)) = status.ExpectFailed line
 outcome (Some (line, Refused reason)) = refused_at line reason
 
--- the script was stopped, and this is what is answered for it
-pub record IsStopped (i : Inputs) (e : Status) : Type 0 where
-  pub stopped : ℕ × Stop
-  pub scene : Scene
-  pub played : PlaysTo i (Some stopped) scene
-  pub answered : e ≡ outcome (Some stopped)
+module _ (switch : SwitchRule) (manager : ManagerRule) (host : HostRule) where
+  -- The script of what was read is played on a fabric of switches, the manager and hosts, by these rules: up to its last line,
+  -- or up to the first line that is stopped.
+  abbrev pub PlaysTo : Inputs → Option (ℕ × Stop) → Scene → Type 0
+  PlaysTo i end scene = Plays switch manager host i.plan run_limits (records_of i) i.lines end scene
 
--- What comes of inputs that were read, of which these texts are saved once they were played. Want of memory has no cause that could be
--- told, and it leaves all as it was, as each stop does.
-abbrev pub Comes : Moment → Moment → (i : Inputs) → (IsPlayed i → List Saving) → Status → Type 0
-Comes old new i texts status.Done = (is : IsPlayed i) × Saves old new (texts is)
-Comes old new i texts (status.WriteFault name) = (is : IsPlayed i) × SavingFails old new (texts is) name
-Comes old new i texts status.OutOfMemory = IsUntouched old new
-Comes old new i texts e = IsStopped i e × IsUntouched old new
+  -- each host did just what the script asks of it, and what the frames that arrived bring about
+  abbrev pub HostsDoAsAsked : Inputs → Scene → Type 0
+  HostsDoAsAsked i scene =
+      (n : ℕ) (at : Host) → slice_get i.plan.hosts n ≡ Some at → DoesAsAsked host i.plan (records_of i) i.lines n at scene.world
+
+  -- Inputs that were played to the end of the script, and whether the fabric is settled then. To its hosts the fabric is one lossy switch, and the
+  -- journal is a run of that.
+  pub record IsPlayed (i : Inputs) : Type 0 where
+    pub scene : Scene
+    pub played : PlaysTo i None scene
+    pub wiring : scene.world.plan ≡ i.plan
+    pub deeds : HostsDoAsAsked i scene
+    pub one_switch : IsOneSwitch switch manager host scene.world
+    pub settled : Bool
+    pub is_settled : IsTrue settled ↔ IsSettled scene.world
+
+  -- what is saved of them in this folder: the captures that the hosts receive, the journal and the summary
+  abbrev pub texts_of : List ℕ → (i : Inputs) → IsPlayed i → List Saving
+  texts_of out i is = saved_texts out i.plan is.scene.world.journal (summary_of i is.scene is.settled)
+
+  -- the summary alone, on standard output
+  abbrev pub printed_of : (i : Inputs) → IsPlayed i → List Saving
+  printed_of i is = record { name = standard_output; text = summary_of i is.scene is.settled } ∷ []
+
+  -- the script was stopped, and this is what is answered for it
+  pub record IsStopped (i : Inputs) (e : Status) : Type 0 where
+    pub stopped : ℕ × Stop
+    pub scene : Scene
+    pub played : PlaysTo i (Some stopped) scene
+    pub answered : e ≡ outcome (Some stopped)
+
+  -- What comes of inputs that were read, of which these texts are saved once they were played. Want of memory has no cause that could be
+  -- told, and it leaves all as it was, as each stop does.
+  abbrev pub Comes : Moment → Moment → (i : Inputs) → (IsPlayed i → List Saving) → Status → Type 0
+  Comes old new i texts status.Done = (is : IsPlayed i) × Saves old new (texts is)
+  Comes old new i texts (status.WriteFault name) = (is : IsPlayed i) × SavingFails old new (texts is) name
+  Comes old new i texts status.OutOfMemory = IsUntouched old new
+  Comes old new i texts e = IsStopped i e × IsUntouched old new

@@ -5,41 +5,51 @@ use Rattle.pl_inputs.specs.Inputs.{Inputs}
 use Rattle.pl_inputs.specs.Loaded.{files_of}
 use Rattle.pl_journal.specs.Savable.{IsSavable}
 use Rattle.pl_world.specs.Flying.{IsCounted}
-use Rattle.pl_host_rule.specs.HostRule.{host_rule}
-use Rattle.pl_manager_rule.specs.ManagerRule.{manager_rule}
-use Rattle.pl_switch_rule.specs.SwitchRule.{Exact}
+use Rattle.pl_logic.specs.HostInputs.{HostRule}
+use Rattle.pl_logic.specs.ManagerDuties.{ManagerRule}
+use Rattle.pl_logic.specs.SwitchInputs.{SwitchRule}
+use Rattle.pl_lines.specs.Scenes.{Scene}
 use Rattle.pl_theorem.specs.OneSwitch.{IsOneSwitch}
 use Rattle.pl_output.specs.Summary.{summary_text}
 use Rattle.pl_inputs.specs.declared.status.Status.TheVariants as status
-use Rattle.pl_playing.specs.declared.played.Played.{Played}
+use Rattle.pl_inputs.specs.declared.capture.Capture.{Capture}
 use Rattle.pl_playing.specs.Outcomes.{HostsDoAsAsked, IsStopped, PlaysTo, rests_from}
 
--- they were not played to the end of the script
-abbrev pub IsUnplayed : Inputs → Status → Type 0
-IsUnplayed i status.OutOfMemory = Unit {0}
-IsUnplayed i e = IsStopped i e
+-- what was played, and the captures that it was played over
+pub record Played : Type 0 where
+  pub fabric : Scene
+  pub captures : List Capture
 
--- they were, over these captures
-pub record IsPlayedOver (i : Inputs) (p : Played) : Type 0 where
-  pub played : PlaysTo i None p.fabric
-  pub captures : files_of p.captures.items ≡ i.captures
-  pub counted : IsCounted p.fabric.world
-
--- and what is needed of it to save it
-pub record IsPlayedTo (i : Inputs) (p : Played) : Type 0 where
-  pub over : IsPlayedOver i p
-  pub plan : p.fabric.world.plan ≡ i.plan
-  pub savable : All (IsSavable p.fabric.world.plan) p.fabric.world.journal
-  pub deeds : HostsDoAsAsked i p.fabric
-  pub one_switch : IsOneSwitch Exact manager_rule host_rule p.fabric.world
-  pub many : length p.captures.items ≡ length p.fabric.world.plan.hosts
+abbrev pub played_over : Scene → List Capture → Played
+played_over fabric captures = record { fabric = fabric; captures = captures }
 
 -- the summary of what was played, by what it was played over
 abbrev pub summary_by : Played → Bool → List ℕ
 summary_by p settled =
-    summary_text p.fabric.world.plan p.fabric.world.journal p.fabric.world.steps (rests_from 0 (files_of p.captures.items) p.fabric) settled
+    summary_text p.fabric.world.plan p.fabric.world.journal p.fabric.world.steps (rests_from 0 (files_of p.captures) p.fabric) settled
 
 -- the answer of a call that gives nothing else
 abbrev pub answer_of : {T : Type 0} → Result T Status → Status
 answer_of (Ok u) = status.Done
 answer_of (Err e) = e
+
+module _ (switch : SwitchRule) (manager : ManagerRule) (host : HostRule) where
+  -- they were not played to the end of the script
+  abbrev pub IsUnplayed : Inputs → Status → Type 0
+  IsUnplayed i status.OutOfMemory = Unit {0}
+  IsUnplayed i e = IsStopped switch manager host i e
+
+  -- they were, over these captures
+  pub record IsPlayedOver (i : Inputs) (p : Played) : Type 0 where
+    pub played : PlaysTo switch manager host i None p.fabric
+    pub captures : files_of p.captures ≡ i.captures
+    pub counted : IsCounted p.fabric.world
+
+  -- and what is needed of it to save it
+  pub record IsPlayedTo (i : Inputs) (p : Played) : Type 0 where
+    pub over : IsPlayedOver i p
+    pub plan : p.fabric.world.plan ≡ i.plan
+    pub savable : All (IsSavable p.fabric.world.plan) p.fabric.world.journal
+    pub deeds : HostsDoAsAsked switch manager host i p.fabric
+    pub one_switch : IsOneSwitch switch manager host p.fabric.world
+    pub many : length p.captures ≡ length p.fabric.world.plan.hosts

@@ -3,17 +3,21 @@ use Rattle.std.specs.Prelude.{ℕ, List, Option}
 use Rattle.pl_shelf.specs.Held.{Held}
 use Rattle.pl_inputs.specs.declared.status.Status.{Status}
 use Rattle.pl_inputs.specs.Inputs.{Inputs}
+use Rattle.pl_logic.specs.HostInputs.{HostRule}
+use Rattle.pl_logic.specs.ManagerDuties.{ManagerRule}
+use Rattle.pl_logic.specs.SwitchInputs.{SwitchRule}
 use Rattle.pl_output.specs.Room.{HaveRoom}
 use Rattle.pl_output.specs.Saved.{Saving}
 use Rattle.pl_inputs.specs.declared.status.Status.TheVariants as status
 use Rattle.pl_playing.specs.Outcomes.{IsPlayed}
-
--- there is room for what is saved of these inputs, once they were played
-abbrev pub HasRoomFor : (List ℕ → Option ℕ) → (List ℕ → Held) → (i : Inputs) → (IsPlayed i → List Saving) → Type 0
-HasRoomFor capacity held i texts = (is : IsPlayed i) → HaveRoom capacity held (texts is)
 
 -- the answer names no call that failed
 abbrev pub NamesNoFault : Status → Type 0
 NamesNoFault (status.ReadFault name) = ⊥
 NamesNoFault (status.WriteFault name) = ⊥
 NamesNoFault e = Unit {0}
+
+module _ (switch : SwitchRule) (manager : ManagerRule) (host : HostRule) where
+  -- there is room for what is saved of these inputs, once they were played
+  abbrev pub HasRoomFor : (List ℕ → Option ℕ) → (List ℕ → Held) → (i : Inputs) → (IsPlayed switch manager host i → List Saving) → Type 0
+  HasRoomFor capacity held i texts = (is : IsPlayed switch manager host i) → HaveRoom capacity held (texts is)

@@ -13,12 +13,13 @@ use Rattle.pl_inputs.specs.Words.{Asked}
 use Rattle.pl_lines.specs.declared.stop.Stop.{Stop}
 use Rattle.pl_lines.specs.Scenes.{Scene}
 use Rattle.pl_inputs.specs.declared.status.Status.TheVariants as status
-use Rattle.pl_playing.specs.Outcomes.{IsStopped, Moment, PlaysTo, outcome}
+use Rattle.pl_playing.specs.Outcomes.{Moment, outcome}
 use Rattle.pl_run.specs.Answers.{Answers}
 use Rattle.pl_run.specs.Complete.{AnswersByPlaying, AnswersInputs, AreCapturesTold, AreTold, IsCaptureTold}
 use Rattle.pl_run.proofs.Complete.{one_input, one_plan}
 use Rattle.pl_run.proofs.CompleteCaptures.{long_stop, none_stops, refused_stop}
 use Rattle.pl_run.proofs.Stages.{no_bad_script, no_bad_topology, no_long_script, no_long_topology, no_read_fault, no_write_fault}
+use Rattle.pl_run.specs.Fabric.{IsStopped, PlaysTo}
 
 -- the inputs that were played are these
 abbrev pub IsPlayedAs : Inputs → Status → Type 0

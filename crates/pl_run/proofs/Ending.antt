@@ -13,11 +13,15 @@ use Rattle.pl_inputs.specs.Words.{Asked}
 use Rattle.pl_output.specs.Saved.{AreSaved, BreaksOff, IsBroken, IsWhole, OthersStay, Saving, once_saved}
 use Rattle.pl_generator.specs.Generated.{AreGenerated}
 use Rattle.pl_inputs.specs.declared.status.Status.TheVariants as status
-use Rattle.pl_playing.specs.Outcomes.{Comes, IsPlayed, IsUntouched, Moment, Saves, SavingFails, printed_of, texts_of}
+use Rattle.pl_playing.specs.Outcomes.{IsUntouched, Moment, Saves, SavingFails}
+use Rattle.pl_host_rule.specs.HostRule.{host_rule}
+use Rattle.pl_manager_rule.specs.ManagerRule.{manager_rule}
+use Rattle.pl_switch_rule.specs.SwitchRule.{Exact}
 use Rattle.pl_playing.proofs.Stopped.{no_stop}
 use Rattle.pl_run.specs.Answers.{Answers}
 use Rattle.pl_run.specs.Checks.{AnswersCheck, EndsCheck, line_of}
 use Rattle.pl_run.specs.Generated.{AnswersGenerated, IsUngenerated, ReadsGenerated, generated_files, without_read_fault}
+use Rattle.pl_run.specs.Fabric.{Comes, IsPlayed, printed_of, texts_of}
 
 -- a shelf that holds the same, and of which no call failed
 pub record IsSameMoment (old new : Moment) : Type 0 where
@@ -95,12 +99,12 @@ run_answers old new asked i read (status.Refused line reason) c = (i, read, c)
 run_answers old new asked i read (status.StepsSpent line) c = (i, read, c)
 run_answers old new asked i read (status.JournalFull line) c = (i, read, c)
 run_answers old new asked i read status.OutOfMemory c = (tt, c)
-run_answers old new asked i read status.Usage c = absurd (no_stop i status.Usage refl c.0)
-run_answers old new asked i read (status.ReadFault name) c = absurd (no_stop i (status.ReadFault name) refl c.0)
-run_answers old new asked i read (status.TooLong name) c = absurd (no_stop i (status.TooLong name) refl c.0)
-run_answers old new asked i read (status.BadTopology reason) c = absurd (no_stop i (status.BadTopology reason) refl c.0)
-run_answers old new asked i read (status.BadScript line reason) c = absurd (no_stop i (status.BadScript line reason) refl c.0)
-run_answers old new asked i read (status.BadCapture host e at) c = absurd (no_stop i (status.BadCapture host e at) refl c.0)
+run_answers old new asked i read status.Usage c = absurd (no_stop Exact manager_rule host_rule i status.Usage refl c.0)
+run_answers old new asked i read (status.ReadFault name) c = absurd (no_stop Exact manager_rule host_rule i (status.ReadFault name) refl c.0)
+run_answers old new asked i read (status.TooLong name) c = absurd (no_stop Exact manager_rule host_rule i (status.TooLong name) refl c.0)
+run_answers old new asked i read (status.BadTopology reason) c = absurd (no_stop Exact manager_rule host_rule i (status.BadTopology reason) refl c.0)
+run_answers old new asked i read (status.BadScript line reason) c = absurd (no_stop Exact manager_rule host_rule i (status.BadScript line reason) refl c.0)
+run_answers old new asked i read (status.BadCapture host e at) c = absurd (no_stop Exact manager_rule host_rule i (status.BadCapture host e at) refl c.0)
 
 -- a run whose inputs were not read
 pub unread_answers : (old new : Moment) (asked : Asked) → Same old.held new.held → new.write_faults ≡ old.write_faults → (e : Status) →
@@ -165,12 +169,12 @@ generated_answers old new g i read (status.Refused line reason) c = (read.0, rea
 generated_answers old new g i read (status.StepsSpent line) c = (read.0, read.1, (i, read.2, c))
 generated_answers old new g i read (status.JournalFull line) c = (read.0, read.1, (i, read.2, c))
 generated_answers old new g i read status.OutOfMemory c = c
-generated_answers old new g i read status.Usage c = absurd (no_stop i status.Usage refl c.0)
-generated_answers old new g i read (status.ReadFault name) c = absurd (no_stop i (status.ReadFault name) refl c.0)
-generated_answers old new g i read (status.TooLong name) c = absurd (no_stop i (status.TooLong name) refl c.0)
-generated_answers old new g i read (status.BadTopology reason) c = absurd (no_stop i (status.BadTopology reason) refl c.0)
-generated_answers old new g i read (status.BadScript line reason) c = absurd (no_stop i (status.BadScript line reason) refl c.0)
-generated_answers old new g i read (status.BadCapture host e at) c = absurd (no_stop i (status.BadCapture host e at) refl c.0)
+generated_answers old new g i read status.Usage c = absurd (no_stop Exact manager_rule host_rule i status.Usage refl c.0)
+generated_answers old new g i read (status.ReadFault name) c = absurd (no_stop Exact manager_rule host_rule i (status.ReadFault name) refl c.0)
+generated_answers old new g i read (status.TooLong name) c = absurd (no_stop Exact manager_rule host_rule i (status.TooLong name) refl c.0)
+generated_answers old new g i read (status.BadTopology reason) c = absurd (no_stop Exact manager_rule host_rule i (status.BadTopology reason) refl c.0)
+generated_answers old new g i read (status.BadScript line reason) c = absurd (no_stop Exact manager_rule host_rule i (status.BadScript line reason) refl c.0)
+generated_answers old new g i read (status.BadCapture host e at) c = absurd (no_stop Exact manager_rule host_rule i (status.BadCapture host e at) refl c.0)
 
 -- and those that were not
 pub ungenerated_answers : (old new : Moment) → IsUntouched old new → (g : Generation) (e : Status) → IsUngenerated g e → AnswersGenerated old new g.k g.number g.frames e

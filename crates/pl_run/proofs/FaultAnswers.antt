@@ -6,12 +6,13 @@ use Rattle.pl_inputs.specs.Inputs.{Inputs}
 use Rattle.pl_inputs.specs.Words.{Asked, Check, Generate, Run, Task}
 use Rattle.pl_output.specs.Saved.{Saving}
 use Rattle.pl_inputs.specs.declared.status.Status.TheVariants as status
-use Rattle.pl_playing.specs.Outcomes.{Comes, IsPlayed, IsUntouched, Moment, ReadFails, Saves, SavingFails, printed_of, texts_of}
+use Rattle.pl_playing.specs.Outcomes.{IsUntouched, Moment, ReadFails, Saves, SavingFails}
 use Rattle.pl_run.specs.Answers.{Answers, IsRun}
 use Rattle.pl_run.specs.Checks.{AnswersCheck, line_of}
 use Rattle.pl_run.specs.Faults.{TellsFaults}
 use Rattle.pl_run.specs.Generated.{AnswersGenerated, AnswersOver, IsGeneratedRun}
 use Rattle.pl_run.specs.Tasks.{AnswersTask}
+use Rattle.pl_run.specs.Fabric.{Comes, IsPlayed, printed_of, texts_of}
 
 -- a count that stands did not rise
 no_rise : (old new : ℕ) → new ≡ old → old < new → ⊥

@@ -12,10 +12,10 @@ use Rattle.pl_inputs.specs.Words.{Asked}
 use Rattle.pl_output.specs.Room.{HasRoom, HaveRoom}
 use Rattle.pl_output.specs.Saved.{Saving}
 use Rattle.pl_inputs.specs.declared.status.Status.TheVariants as status
-use Rattle.pl_playing.specs.Outcomes.{IsPlayed}
-use Rattle.pl_playing.specs.Prepared.{HasRoomFor, NamesNoFault}
+use Rattle.pl_playing.specs.Prepared.{NamesNoFault}
 use Rattle.pl_run.specs.Generated.{IsUngenerated}
 use Rattle.pl_run.specs.Prepared.{IsPreparedRun}
+use Rattle.pl_run.specs.Fabric.{HasRoomFor, IsPlayed}
 
 -- what could be read at first can be read still
 readable_since : (before after : List ℕ → Option ℕ) (old new : List ℕ → Held) (name : List ℕ) → after ≡ before → Same old new →

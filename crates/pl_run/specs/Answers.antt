@@ -4,7 +4,8 @@ use Rattle.pl_inputs.specs.Inputs.{AreRead, Inputs}
 use Rattle.pl_inputs.specs.Unread.{IsUnread}
 use Rattle.pl_inputs.specs.Words.{Asked}
 use Rattle.pl_inputs.specs.declared.status.Status.TheVariants as status
-use Rattle.pl_playing.specs.Outcomes.{texts_of, Moment, IsUntouched, ReadFails, Comes}
+use Rattle.pl_playing.specs.Outcomes.{Moment, IsUntouched, ReadFails}
+use Rattle.pl_run.specs.Fabric.{Comes, texts_of}
 
 -- What each answer says of a run whose inputs are read from the shelf: they were read and something came of them; or they were not.
 abbrev pub IsRun : Moment → Moment → Asked → Status → Type 0

@@ -19,7 +19,8 @@ use Rattle.pl_inputs.specs.Words.{Asked}
 use Rattle.pl_lines.specs.declared.stop.Stop.{Stop}
 use Rattle.pl_lines.specs.Scenes.{Scene}
 use Rattle.pl_inputs.specs.declared.status.Status.TheVariants as status
-use Rattle.pl_playing.specs.Outcomes.{Moment, PlaysTo, outcome}
+use Rattle.pl_playing.specs.Outcomes.{Moment, outcome}
+use Rattle.pl_run.specs.Fabric.{PlaysTo}
 
 -- the shelf tells what this name holds
 abbrev pub IsTold : (List ℕ → Held) → List ℕ → Type 0

@@ -8,7 +8,8 @@ use Rattle.pl_inputs.specs.Words.{Asked}
 use Rattle.pl_inputs.specs.declared.words.Generation.{Generation}
 use Rattle.pl_generator.specs.Generated.{AreGenerated}
 use Rattle.pl_inputs.specs.declared.status.Status.TheVariants as status
-use Rattle.pl_playing.specs.Outcomes.{Comes, IsUntouched, Moment, printed_of}
+use Rattle.pl_playing.specs.Outcomes.{IsUntouched, Moment}
+use Rattle.pl_run.specs.Fabric.{Comes, printed_of}
 
 -- the names of the generated files; nothing is saved
 abbrev pub generated_files : Asked

@@ -5,3 +5,4 @@ pub mod Tasks
 pub mod Complete
 pub mod Faults
 pub mod Prepared
+pub mod Fabric

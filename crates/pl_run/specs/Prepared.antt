@@ -8,10 +8,9 @@ use Rattle.pl_inputs.specs.Inputs.{AreRead, HasPlan, Inputs}
 use Rattle.pl_inputs.specs.Unread.{IsReadName}
 use Rattle.pl_inputs.specs.Words.{Asked, Check, Generate, Run, Task}
 use Rattle.pl_output.specs.Room.{HaveRoom}
-use Rattle.pl_playing.specs.Outcomes.{printed_of, texts_of}
-use Rattle.pl_playing.specs.Prepared.{HasRoomFor}
 use Rattle.pl_run.specs.Checks.{line_of}
 use Rattle.pl_run.specs.Generated.{ReadsGenerated}
+use Rattle.pl_run.specs.Fabric.{HasRoomFor, printed_of, texts_of}
 
 -- for a run: each name that it reads, and whatever it then saves
 pub record IsPreparedRun (capacity : List ℕ → Option ℕ) (held : List ℕ → Held) (asked : Asked) : Type 0 where

@@ -8,9 +8,12 @@ ghost use Rattle.pl_run.specs.Generated.{AnswersGenerated, IsUngenerated, ReadsG
 ghost use Rattle.pl_run.specs.Prepared.{IsPreparedGenerated};
 
 use pl_generator::generate;
+use pl_host::Host;
 use pl_inputs::{Files, Generation, Inputs, Status, load_inputs};
+use pl_manager::Manager;
 use pl_playing::play_and_print;
 use pl_shelf::Shelf;
+use pl_tables::TableSwitch;
 use std::alloc::Global;
 
 // The files of a generated run by their names; nothing is saved of it.
@@ -39,7 +42,7 @@ pub(crate) fn generate_and_run<S: Shelf>(
     ensures prepared { IsPreparedGenerated (S.capacity shelf.old) (S.held shelf.old) generation → NamesNoFault (answer_of result) }
 {
     let inputs = generated_inputs(alloc, generation)?;
-    play_and_print(alloc, inputs, shelf)
+    play_and_print::<TableSwitch, Manager, Host, S>(alloc, inputs, shelf)
 }
 
 // What is read of the generated files.

@@ -1,51 +1,48 @@
 use Rattle.std.proofs.Common.{ℕ, IfOk, IfErr, Some, None, refl, sym, subst, arith}
 use Rattle.std.proofs.lemmas.Result.{err_from_is_err_and}
-use Rattle.pl_host_rule.specs.HostRule.{host_rule}
-use Rattle.pl_manager_rule.specs.ManagerRule.{manager_rule}
-use Rattle.pl_switch_rule.specs.SwitchRule.{Exact}
 use Rattle.pl_inputs.specs.Loaded.{inputs_of}
 use Rattle.pl_inputs.specs.Records.{records_of}
 use Rattle.pl_lines.specs.Lines.{DoesLines}
 use Rattle.pl_playing.specs.Outcomes.{PlaysTo}
-use Rattle.pl_playing.specs.Plays.{IsPlayedOver, IsUnplayed}
+use Rattle.pl_playing.specs.Plays.{IsPlayedOver, IsUnplayed, played_over}
 use Rattle.pl_playing.proofs.Playing.{plays_over, unless_map, unplayed}
 use Rattle.pl_playing.proofs.played.play_script.Goals as goal
 
 pub begin-requires : goal.begin-requires
-begin-requires c = omega arith
+begin-requires g c = omega arith
 
 pub play-requires-clause-counted : goal.play-requires-clause-counted
-play-requires-clause-counted c = c.in_ok-fabric.ensures.counted
+play-requires-clause-counted g c = c.in_ok-fabric.ensures.counted
 
 pub play-requires-clause-hearing : goal.play-requires-clause-hearing
-play-requires-clause-hearing c = c.in_ok-fabric.ensures.hearing
+play-requires-clause-hearing g c = c.in_ok-fabric.ensures.hearing
 
 pub returns-in_err-fabric-clause-ok : goal.returns-in_err-fabric-clause-ok
-returns-in_err-fabric-clause-ok c =
+returns-in_err-fabric-clause-ok g c =
     let p = err_from_is_err_and c.from_residual.result c.from_residual.ensures.1 in
-    subst (λ r. IfOk r (λ played. IsPlayedOver (inputs_of c.args.inputs) played)) (sym p.1) tt
+    subst (λ r. IfOk r (λ played. IsPlayedOver g.S.SwitchLogic.rule g.M.ManagerLogic.rule g.H.HostLogic.rule (inputs_of c.args.inputs) (played_over played.0 played.1.items))) (sym p.1) tt
 
 pub returns-in_err-fabric-clause-err : goal.returns-in_err-fabric-clause-err
-returns-in_err-fabric-clause-err c =
+returns-in_err-fabric-clause-err g c =
     let p = err_from_is_err_and c.from_residual.result c.from_residual.ensures.1 in
-    subst (λ r. IfErr r (λ e. IsUnplayed (inputs_of c.args.inputs) e)) (sym p.1) (subst (λ e. IsUnplayed (inputs_of c.args.inputs) e) (sym p.2) tt)
+    subst (λ r. IfErr r (λ e. IsUnplayed g.S.SwitchLogic.rule g.M.ManagerLogic.rule g.H.HostLogic.rule (inputs_of c.args.inputs) e)) (sym p.1) (subst (λ e. IsUnplayed g.S.SwitchLogic.rule g.M.ManagerLogic.rule g.H.HostLogic.rule (inputs_of c.args.inputs) e) (sym p.2) tt)
 
 pub returns-in-Ok-clause-ok : goal.returns-in-Ok-clause-ok
-returns-in-Ok-clause-ok c = record {
-  played = plays_over c.args.inputs.wiring c.args.inputs.captures.items c.deref.result.now c.args.inputs.script c.lines.result.now c.in_ok-fabric.fabric c.play.new.self None
+returns-in-Ok-clause-ok g c = record {
+  played = plays_over g.S.SwitchLogic.rule g.M.ManagerLogic.rule g.H.HostLogic.rule c.args.inputs.wiring c.args.inputs.captures.items c.deref.result.now c.args.inputs.script c.lines.result.now c.in_ok-fabric.fabric c.play.new.self None
       c.deref.ensures.value c.lines.ensures c.in_ok-fabric.ensures.scene c.in-Ok.ensures.does;
   captures = refl;
   counted = c.in-Ok.ensures.counted;
 }
 
 pub returns-clause-err : goal.returns-clause-err
-returns-clause-err c =
+returns-clause-err g c =
     let i = inputs_of c.args.inputs in
     let line : ℕ = c.in-Err.stopped.line in
     let stop = c.in-Err.stopped.stop in
-    unplayed i line stop c.play.new.self c.status_of.result c.status_of.ensures
-    (unless_map stop (DoesLines Exact manager_rule host_rule (records_of c.deref.result.now) c.lines.result.now c.in_ok-fabric.fabric (Some (line, stop)) c.play.new.self)
-    (PlaysTo i (Some (line, stop)) c.play.new.self)
-    (λ does. plays_over c.args.inputs.wiring c.args.inputs.captures.items c.deref.result.now c.args.inputs.script c.lines.result.now c.in_ok-fabric.fabric c.play.new.self (Some (line, stop))
+    unplayed g.S.SwitchLogic.rule g.M.ManagerLogic.rule g.H.HostLogic.rule i line stop c.play.new.self c.status_of.result c.status_of.ensures
+    (unless_map stop (DoesLines g.S.SwitchLogic.rule g.M.ManagerLogic.rule g.H.HostLogic.rule (records_of c.deref.result.now) c.lines.result.now c.in_ok-fabric.fabric (Some (line, stop)) c.play.new.self)
+    (PlaysTo g.S.SwitchLogic.rule g.M.ManagerLogic.rule g.H.HostLogic.rule i (Some (line, stop)) c.play.new.self)
+    (λ does. plays_over g.S.SwitchLogic.rule g.M.ManagerLogic.rule g.H.HostLogic.rule c.args.inputs.wiring c.args.inputs.captures.items c.deref.result.now c.args.inputs.script c.lines.result.now c.in_ok-fabric.fabric c.play.new.self (Some (line, stop))
     c.deref.ensures.value c.lines.ensures c.in_ok-fabric.ensures.scene does)
     c.in-Err.ensures.does)

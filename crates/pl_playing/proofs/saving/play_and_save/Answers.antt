@@ -19,14 +19,14 @@ save_played-requires-clause-many g c = c.in_ok-played.ensures.ok.many
 
 pub returns-in_err-played-clause-comes : goal.returns-in_err-played-clause-comes
 returns-in_err-played-clause-comes g c =
-    let S = g.S.Shelf in
-    let old : Moment = record { held = S.held c.args.shelf.now; read_faults = S.read_faults c.args.shelf.now; write_faults = S.write_faults c.args.shelf.now } in
+    let D = g.D.Shelf in
+    let old : Moment = record { held = D.held c.args.shelf.now; read_faults = D.read_faults c.args.shelf.now; write_faults = D.write_faults c.args.shelf.now } in
     let i = inputs_of c.args.inputs in
-    let texts = texts_of c.args.out.now i in
+    let texts = texts_of g.S.SwitchLogic.rule g.M.ManagerLogic.rule g.H.HostLogic.rule c.args.out.now i in
     let p = err_from_is_err_and c.from_residual.result c.from_residual.ensures.1 in
-    subst (λ r. Comes old old i texts (answer_of r)) (sym p.1)
-    (subst (λ e. Comes old old i texts e) (sym p.2)
-    (unplayed_comes old old (record { same = λ q. refl; reads = refl; writes = refl }) i texts _ c.in_err-played.ensures.err))
+    subst (λ r. Comes g.S.SwitchLogic.rule g.M.ManagerLogic.rule g.H.HostLogic.rule old old i texts (answer_of r)) (sym p.1)
+    (subst (λ e. Comes g.S.SwitchLogic.rule g.M.ManagerLogic.rule g.H.HostLogic.rule old old i texts e) (sym p.2)
+    (unplayed_comes g.S.SwitchLogic.rule g.M.ManagerLogic.rule g.H.HostLogic.rule old old (record { same = λ q. refl; reads = refl; writes = refl }) i texts _ c.in_err-played.ensures.err))
 
 pub returns-clause-comes : goal.returns-clause-comes
 returns-clause-comes g c = c.save_played.ensures.comes (inputs_of c.args.inputs) c.in_ok-played.ensures.ok
@@ -35,7 +35,7 @@ pub returns-in_err-played-clause-prepared : goal.returns-in_err-played-clause-pr
 returns-in_err-played-clause-prepared g c room =
     let p = err_from_is_err_and c.from_residual.result c.from_residual.ensures.1 in
     subst (λ r. NamesNoFault (answer_of r)) (sym p.1)
-    (subst (λ e. NamesNoFault e) (sym p.2) (unplayed_names_none (inputs_of c.args.inputs) _ c.in_err-played.ensures.err))
+    (subst (λ e. NamesNoFault e) (sym p.2) (unplayed_names_none g.S.SwitchLogic.rule g.M.ManagerLogic.rule g.H.HostLogic.rule (inputs_of c.args.inputs) _ c.in_err-played.ensures.err))
 
 pub returns-clause-prepared : goal.returns-clause-prepared
 returns-clause-prepared g c room = c.save_played.ensures.prepared (inputs_of c.args.inputs) c.in_ok-played.ensures.ok room

@@ -6,58 +6,59 @@ use Rattle.pl_output.specs.Texts.{AreTexts}
 use Rattle.pl_world.specs.Worlds.{WorldView}
 use Rattle.pl_output.specs.Room.{HaveRoom}
 use Rattle.pl_playing.specs.Outcomes.{Moment}
+use Rattle.pl_playing.specs.Plays.{played_over}
 use Rattle.pl_playing.proofs.Playing.{breaks_run, of_lent, saves_run}
 use Rattle.pl_playing.proofs.Preparing.{room_for_run}
 use Rattle.pl_playing.proofs.saving.save_played.Goals as goal
 
 pub returns-in-Ok-clause-comes : goal.returns-in-Ok-clause-comes
 returns-in-Ok-clause-comes g c i to =
-    let S = g.S.Shelf in
-    let old : Moment = record { held = S.held c.args.shelf.now; read_faults = S.read_faults c.args.shelf.now; write_faults = S.write_faults c.args.shelf.now } in
+    let D = g.D.Shelf in
+    let old : Moment = record { held = D.held c.args.shelf.now; read_faults = D.read_faults c.args.shelf.now; write_faults = D.write_faults c.args.shelf.now } in
     let new : Moment = record {
-      held = S.held c.save_all.new.shelf;
-      read_faults = S.read_faults c.save_all.new.shelf;
-      write_faults = S.write_faults c.save_all.new.shelf;
+      held = D.held c.save_all.new.shelf;
+      read_faults = D.read_faults c.save_all.new.shelf;
+      write_faults = D.write_faults c.save_all.new.shelf;
     } in
-    let world : WorldView = c.args.played.now.fabric.world in
+    let world : WorldView = c.args.fabric.now.world in
     let out = c.args.out.now in
     let texts = c.in_ok-texts.texts in
     let plan : c.wiring.result.now ≡ world.plan = c.wiring.ensures ∙ ap (λ (w : WorldView). w.plan) c.world-world.ensures in
     let journal : c.journal.result.now ≡ world.journal = c.journal.ensures ∙ ap (λ (w : WorldView). w.journal) c.world-world.ensures in
     let settled = subst (λ w. IsTrue c.settled-is_settled.result ↔ IsSettled w) c.world-world.ensures c.settled-is_settled.ensures in
     let are = of_lent (λ p j. AreTexts out p j texts) c.wiring.result.now world.plan c.journal.result.now world.journal (sym plan) (sym journal) c.in_ok-texts.ensures.are in
-    saves_run old new i c.args.played.now to c.settled-is_settled.result settled out (string_bytes texts.summary) c.in_ok-texts.ensures.summary
+    saves_run g.S.SwitchLogic.rule g.M.ManagerLogic.rule g.H.HostLogic.rule old new i (played_over c.args.fabric.now c.args.captures.now) to c.settled-is_settled.result settled out (string_bytes texts.summary) c.in_ok-texts.ensures.summary
     (of_lent (λ p j. AreSaved old.held new.held (saved_texts out p j (string_bytes texts.summary))) world.plan c.wiring.result.now world.journal c.journal.result.now plan journal
     (c.in-Ok.ensures.ok out are))
     c.in-Ok.ensures.faults.other c.in-Ok.ensures.faults.ok
 
 pub returns-in-Err-clause-comes : goal.returns-in-Err-clause-comes
 returns-in-Err-clause-comes g c i to =
-    let S = g.S.Shelf in
-    let old : Moment = record { held = S.held c.args.shelf.now; read_faults = S.read_faults c.args.shelf.now; write_faults = S.write_faults c.args.shelf.now } in
+    let D = g.D.Shelf in
+    let old : Moment = record { held = D.held c.args.shelf.now; read_faults = D.read_faults c.args.shelf.now; write_faults = D.write_faults c.args.shelf.now } in
     let new : Moment = record {
-      held = S.held c.save_all.new.shelf;
-      read_faults = S.read_faults c.save_all.new.shelf;
-      write_faults = S.write_faults c.save_all.new.shelf;
+      held = D.held c.save_all.new.shelf;
+      read_faults = D.read_faults c.save_all.new.shelf;
+      write_faults = D.write_faults c.save_all.new.shelf;
     } in
-    let world : WorldView = c.args.played.now.fabric.world in
+    let world : WorldView = c.args.fabric.now.world in
     let out = c.args.out.now in
     let texts = c.in_ok-texts.texts in
     let plan : c.wiring.result.now ≡ world.plan = c.wiring.ensures ∙ ap (λ (w : WorldView). w.plan) c.world-world.ensures in
     let journal : c.journal.result.now ≡ world.journal = c.journal.ensures ∙ ap (λ (w : WorldView). w.journal) c.world-world.ensures in
     let settled = subst (λ w. IsTrue c.settled-is_settled.result ↔ IsSettled w) c.world-world.ensures c.settled-is_settled.ensures in
     let are = of_lent (λ p j. AreTexts out p j texts) c.wiring.result.now world.plan c.journal.result.now world.journal (sym plan) (sym journal) c.in_ok-texts.ensures.are in
-    breaks_run old new i c.args.played.now to c.settled-is_settled.result settled out (string_bytes texts.summary) c.in-Err.name c.in_ok-texts.ensures.summary
+    breaks_run g.S.SwitchLogic.rule g.M.ManagerLogic.rule g.H.HostLogic.rule old new i (played_over c.args.fabric.now c.args.captures.now) to c.settled-is_settled.result settled out (string_bytes texts.summary) c.in-Err.name c.in_ok-texts.ensures.summary
     (of_lent (λ p j. BreaksOff old.held new.held (saved_texts out p j (string_bytes texts.summary)) c.in-Err.name) world.plan c.wiring.result.now world.journal c.journal.result.now plan journal
     (c.in-Err.ensures.err out are))
     c.in-Err.ensures.faults.other c.in-Err.ensures.faults.grows c.in-Err.ensures.faults.err
 
 pub returns-in-Err-clause-prepared : goal.returns-in-Err-clause-prepared
 returns-in-Err-clause-prepared g c i to room =
-    let S = g.S.Shelf in
-    let capacity = S.capacity c.args.shelf.now in
-    let held = S.held c.args.shelf.now in
-    let world : WorldView = c.args.played.now.fabric.world in
+    let D = g.D.Shelf in
+    let capacity = D.capacity c.args.shelf.now in
+    let held = D.held c.args.shelf.now in
+    let world : WorldView = c.args.fabric.now.world in
     let out = c.args.out.now in
     let texts = c.in_ok-texts.texts in
     let plan : c.wiring.result.now ≡ world.plan = c.wiring.ensures ∙ ap (λ (w : WorldView). w.plan) c.world-world.ensures in
@@ -67,4 +68,4 @@ returns-in-Err-clause-prepared g c i to room =
     c.in-Err.ensures.unfit out are
     (of_lent (λ p j. HaveRoom capacity held (saved_texts out p j (string_bytes texts.summary))) c.wiring.result.now world.plan c.journal.result.now world.journal
     (sym plan) (sym journal)
-    (room_for_run capacity held i c.args.played.now to c.settled-is_settled.result settled out (string_bytes texts.summary) c.in_ok-texts.ensures.summary room))
+    (room_for_run g.S.SwitchLogic.rule g.M.ManagerLogic.rule g.H.HostLogic.rule capacity held i (played_over c.args.fabric.now c.args.captures.now) to c.settled-is_settled.result settled out (string_bytes texts.summary) c.in_ok-texts.ensures.summary room))

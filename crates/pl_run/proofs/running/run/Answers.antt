@@ -2,12 +2,13 @@ use Rattle.std.proofs.Common.{sym, subst}
 use Rattle.std.proofs.lemmas.Result.{err_from_is_err_and}
 use Rattle.pl_inputs.specs.Loaded.{inputs_of}
 use Rattle.pl_inputs.specs.Met.{asked}
-use Rattle.pl_playing.specs.Outcomes.{Moment, texts_of}
+use Rattle.pl_playing.specs.Outcomes.{Moment}
 use Rattle.pl_playing.specs.Plays.{answer_of}
 use Rattle.pl_playing.specs.Prepared.{NamesNoFault}
 use Rattle.pl_run.proofs.Ending.{comes_since, run_answers}
 use Rattle.pl_run.proofs.Preparing.{room_since, unread_names_none}
 use Rattle.pl_run.proofs.running.run.Goals as goal
+use Rattle.pl_run.specs.Fabric.{texts_of}
 
 pub returns-clause-answers : goal.returns-clause-answers
 returns-clause-answers g c =

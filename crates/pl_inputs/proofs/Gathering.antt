@@ -7,9 +7,11 @@ use Rattle.pl_shelf.specs.Held.{Held, IsLonger, IsWhole, Same}
 use Rattle.pl_wiring.specs.declared.host.Host.{Host}
 use Rattle.pl_wiring.specs.Plan.{Plan}
 use Rattle.pl_script.specs.declared.script.ScriptLine.{ScriptLine}
+use Rattle.pl_inputs.specs.declared.fault.CaptureFault.{CaptureFault}
+use Rattle.pl_inputs.specs.declared.fault.CaptureFault.TheVariants.{OfRecords, OfSections}
 use Rattle.pl_inputs.specs.declared.status.Status.{Status}
 use Rattle.pl_inputs.specs.declared.status.Status.TheVariants as status
-use Rattle.pl_inputs.specs.Gathered.{IsUngathered, IsUntaken}
+use Rattle.pl_inputs.specs.Gathered.{IsRefusedFile, IsUngathered, IsUntaken}
 use Rattle.pl_inputs.specs.Folders.{in_folder}
 use Rattle.pl_inputs.specs.Inputs.{AreCaptures, HasLines, HasPlan, IsCapture, IsCaptureAt, IsLoaded, all_bytes, captures_limit, text_limit}
 use Rattle.pl_inputs.specs.Loads.{IsUnplanned, IsUnscripted}
@@ -109,7 +111,9 @@ ungathered old mid new first same asked plan lines has written (status.ReadFault
 ungathered old mid new first same asked plan lines has written (status.TooLong name) u =
     inr (inr (plan, texts_read first asked plan lines has written, same_too_much same asked.captures plan.hosts name u))
 ungathered old mid new first same asked plan lines has written (status.BadCapture host e at) u =
-    (plan, texts_read first asked plan lines has written, same_refused same asked.captures plan.hosts host.0 e u.0, u.1)
+    (plan, texts_read first asked plan lines has written, same_refused same asked.captures plan.hosts host.0 (OfRecords e) u.0, u.1)
+ungathered old mid new first same asked plan lines has written (status.BadSection host e) u =
+    (plan, texts_read first asked plan lines has written, same_refused same asked.captures plan.hosts host.0 (OfSections e) u)
 ungathered old mid new first same asked plan lines has written status.OutOfMemory u = tt
 ungathered old mid new first same asked plan lines has written _ u = absurd u
 
@@ -143,6 +147,19 @@ comes_to old new folder hosts n files left host g stands =
 left_is : (files : List (List ℕ)) (left : ℕ) → all_bytes files + left ≡ captures_limit → left ≡ captures_limit - all_bytes files
 left_is files left limit = omega arith
 
+refused_at : (old new : List ℕ → Held) (folder : List ℕ) (hosts : List Host) (n : ℕ) (files : List (List ℕ)) (left : ℕ) (host : Host) →
+    Gathers old new folder hosts n files left → slice_get hosts n ≡ Some host → (file : List ℕ) → host.capture ≡ Some file → (number : ℕ) (e : CaptureFault) →
+    number ≡ n → IsRefusedFile new folder file left e → IsRefusedCapture old folder hosts number e
+refused_at old new folder hosts n files left host g stands file is number e at refused =
+    subst (λ m. IsRefusedCapture old folder hosts m e) (sym at) (record {
+    host = host;
+    comes = comes_to old new folder hosts n files left host g stands;
+    file = refused.0;
+    is = subst (λ c. IsCaptureAt old folder c refused.0) (sym is) (same_capture g.same folder (Some file) refused.0 refused.1);
+    limit = subst (λ l. length refused.0 ≤ l) (left_is files left g.limit) refused.2;
+    refused = refused.3;
+  })
+
 untaken_by : (old new : List ℕ → Held) (folder : List ℕ) (hosts : List Host) (n : ℕ) (files : List (List ℕ)) (left : ℕ) (host : Host) →
     Gathers old new folder hosts n files left → slice_get hosts n ≡ Some host → (capture : Option (List ℕ)) → host.capture ≡ capture → (e : Status) →
     IsUntaken new folder capture n left e → IsUngathered old folder hosts e
@@ -166,17 +183,10 @@ untaken_by old new folder hosts n files left host g stands (Some file) is (statu
   is = u.0;
   longer = subst (λ l. IsLonger (old name) l) (left_is files left g.limit) (same_longer g.same name left u.1);
 }
-untaken_by old new folder hosts n files left host g stands (Some file) is (status.BadCapture h e at) u = (
-  subst (λ m. IsRefusedCapture old folder hosts m e) (sym u.0) (record {
-    host = host;
-    comes = comes_to old new folder hosts n files left host g stands;
-    file = u.2.0;
-    is = subst (λ c. IsCaptureAt old folder c u.2.0) (sym is) (same_capture g.same folder (Some file) u.2.0 u.2.1);
-    limit = subst (λ l. length u.2.0 ≤ l) (left_is files left g.limit) u.2.2;
-    refused = u.2.3;
-  }),
-  u.1,
-)
+untaken_by old new folder hosts n files left host g stands (Some file) is (status.BadCapture h e at) u =
+    (refused_at old new folder hosts n files left host g stands file is h.0 (OfRecords e) u.0 u.2, u.1)
+untaken_by old new folder hosts n files left host g stands (Some file) is (status.BadSection h e) u =
+    refused_at old new folder hosts n files left host g stands file is h.0 (OfSections e) u.0 u.1
 untaken_by old new folder hosts n files left host g stands (Some file) is _ u = absurd u
 
 pub untaken : (old new : List ℕ → Held) (folder : List ℕ) (hosts : List Host) (n : ℕ) (files : List (List ℕ)) (left : ℕ) (host : Host) →

@@ -1,4 +1,6 @@
 pub mod Nothing
+pub mod Reading
+pub mod Within
 pub mod Gathering
 pub mod Parted
 pub mod ItemLemmas

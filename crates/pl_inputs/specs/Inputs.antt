@@ -3,13 +3,13 @@ use Rattle.std.specs.Prelude.{◌≡◌, ℕ, ◌≤◌, List, [], ◌∷◌, le
 use Rattle.std.specs.List.{sum_by}
 use Rattle.pl_shelf.specs.Held.{Held, IsWhole}
 use Rattle.pl_capture.specs.declared.records.Captured.{Captured}
-use Rattle.pl_capture.specs.Capture.{reading_of}
 use Rattle.pl_wiring.specs.declared.host.Host.{Host}
 use Rattle.pl_topology.specs.Meaning.{topology_of}
 use Rattle.pl_wiring.specs.Plan.{Plan}
 use Rattle.pl_script.specs.declared.script.ScriptLine.{ScriptLine}
 use Rattle.pl_script.specs.Meaning.{script_of}
 use Rattle.pl_inputs.specs.Folders.{in_folder}
+use Rattle.pl_inputs.specs.Readings.{reading_of}
 use Rattle.pl_inputs.specs.Words.{Asked}
 
 -- the most bytes that are read of a topology or of a script, and of all captures together
@@ -29,7 +29,7 @@ abbrev pub IsCaptureAt : (List ℕ → Held) → List ℕ → Option (List ℕ) 
 IsCaptureAt held folder None file = file ≡ []
 IsCaptureAt held folder (Some name) file = IsWhole (held (in_folder folder name)) file
 
--- a file that is a capture
+-- a file that is a capture, by the grammar of its kind
 abbrev pub IsCapture : List ℕ → Type 0
 IsCapture file = (read : List Captured × ℕ) × (reading_of file ≡ Ok read)
 

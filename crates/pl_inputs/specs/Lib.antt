@@ -1,4 +1,5 @@
 pub mod Numbered
+pub mod Readings
 pub mod Records
 pub mod Words
 pub mod Inputs
@@ -6,6 +7,7 @@ pub mod Unread
 pub mod Loads
 pub mod Loaded
 pub mod Walks
+pub mod Reader
 pub mod Gathered
 pub mod Refusals
 pub mod Met

@@ -1,10 +1,10 @@
 -- The records of the hosts' captures.
 use Rattle.std.specs.Prelude.{ℕ, List, [], map, Ok, Err}
 use Rattle.pl_capture.specs.declared.records.Captured.{Captured}
-use Rattle.pl_capture.specs.Capture.{Reading, reading_of}
 use Rattle.pl_capture.specs.Spelling.{frame_of}
 use Rattle.pl_inputs.specs.declared.capture.Capture.{Capture}
 use Rattle.pl_inputs.specs.declared.records.RecordedFrame.{RecordedFrame}
+use Rattle.pl_inputs.specs.Readings.{Reading, reading_of}
 
 -- a record of a capture: the bytes that it has of a frame, and how many the frame had
 pub record Recorded : Type 0 where

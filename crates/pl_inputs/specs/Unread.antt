@@ -1,9 +1,7 @@
 -- Why a run was not begun.
 use Rattle.std.specs.Prelude.{◌≡◌, ◌≢◌, ℕ, ◌-◌, ◌≤◌, ◌⊎◌, List, take, length, slice_get, Some, Err}
 use Rattle.pl_shelf.specs.Held.{Held, IsLonger}
-use Rattle.pl_capture.specs.declared.error.CaptureError.{CaptureError}
 use Rattle.pl_capture.specs.CaptureError.{offset_of}
-use Rattle.pl_capture.specs.Capture.{reading_of}
 use Rattle.pl_topology.specs.declared.error.TopologyError.TheVariants as topology
 use Rattle.pl_topology.specs.Meaning.{topology_of}
 use Rattle.pl_wiring.specs.declared.host.Host.{Host}
@@ -11,11 +9,14 @@ use Rattle.pl_wiring.specs.Plan.{Plan}
 use Rattle.pl_script.specs.declared.error.ScriptError.TheVariants.{Line}
 use Rattle.pl_script.specs.declared.script.ScriptLine.{ScriptLine}
 use Rattle.pl_script.specs.Meaning.{script_of}
+use Rattle.pl_inputs.specs.declared.fault.CaptureFault.{CaptureFault}
+use Rattle.pl_inputs.specs.declared.fault.CaptureFault.TheVariants.{OfRecords, OfSections}
 use Rattle.pl_inputs.specs.declared.status.Status.{Status}
 use Rattle.pl_inputs.specs.declared.status.Status.TheVariants as status
 use Rattle.pl_inputs.specs.Words.{Asked}
 use Rattle.pl_inputs.specs.Folders.{in_folder}
 use Rattle.pl_inputs.specs.Inputs.{AreCaptures, HasLines, HasPlan, IsCaptureAt, IsLoaded, all_bytes, captures_limit, text_limit}
+use Rattle.pl_inputs.specs.Readings.{reading_of}
 
 -- the topology and the script were accepted
 pub record AreTextsRead (held : List ℕ → Held) (asked : Asked) (plan : Plan) : Type 0 where
@@ -31,7 +32,7 @@ pub record ComesTo (held : List ℕ → Held) (folder : List ℕ) (hosts : List 
   pub limit : all_bytes files ≤ captures_limit
 
 -- the capture of this host is refused
-pub record IsRefusedCapture (held : List ℕ → Held) (folder : List ℕ) (hosts : List Host) (n : ℕ) (e : CaptureError) : Type 0 where
+pub record IsRefusedCapture (held : List ℕ → Held) (folder : List ℕ) (hosts : List Host) (n : ℕ) (e : CaptureFault) : Type 0 where
   pub host : Host
   pub comes : ComesTo held folder hosts n host
   pub file : List ℕ
@@ -83,6 +84,8 @@ IsUnread held asked (status.BadScript n reason) =
     (plan : Plan) × HasPlan held asked.topology plan
     × ((file : List ℕ) × IsLoaded held asked.script text_limit file × (script_of plan file ≡ Err (Line n reason)))
 IsUnread held asked (status.BadCapture host e at) =
-    (plan : Plan) × AreTextsRead held asked plan × IsRefusedCapture held asked.captures plan.hosts host.0 e × (at ≡ offset_of e)
+    (plan : Plan) × AreTextsRead held asked plan × IsRefusedCapture held asked.captures plan.hosts host.0 (OfRecords e) × (at ≡ offset_of e)
+IsUnread held asked (status.BadSection host e) =
+    (plan : Plan) × AreTextsRead held asked plan × IsRefusedCapture held asked.captures plan.hosts host.0 (OfSections e)
 IsUnread held asked status.OutOfMemory = Unit {0}
 IsUnread held asked _ = ⊥

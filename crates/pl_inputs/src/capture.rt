@@ -1,5 +1,5 @@
 ghost use Rattle.std.specs.Prelude.{◌≡◌, ◌+◌, ◌≤◌, All, length, Ok, []};
-ghost use Rattle.pl_capture.specs.Capture.{reading_of};
+ghost use Rattle.pl_inputs.specs.Readings.{reading_of};
 
 use pl_capture::Captured;
 use std::alloc::Global;

@@ -3,6 +3,7 @@
 #![tactic(auto)]
 
 pub use capture::Capture;
+pub use fault::CaptureFault;
 pub use folders::in_folder;
 pub use loading::{Inputs, load_inputs, load_wiring};
 pub use numbers::one_more;
@@ -12,6 +13,7 @@ pub use step::StepReason;
 pub use words::{Files, Generation, Task, task_of};
 
 mod capture;
+mod fault;
 mod folders;
 mod loading;
 mod numbers;

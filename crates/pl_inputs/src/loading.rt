@@ -18,6 +18,7 @@ pub use texts::load_wiring;
 mod captures;
 mod inputs;
 mod named;
+mod reader;
 mod texts;
 mod walk;
 

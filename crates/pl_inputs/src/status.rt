@@ -1,9 +1,11 @@
 ghost use Rattle.std.specs.Prelude.{◌≡◌, Some};
-ghost use Rattle.pl_inputs.specs.Status.{status_number, status_text, capture_reason_text};
+ghost use Rattle.pl_pcapng.specs.BlockError.{offset_of};
+ghost use Rattle.pl_inputs.specs.Status.{status_number, status_text, capture_reason_text, section_reason_text, section_place_text};
 ghost use Rattle.pl_inputs.specs.declared.status.Status.TheVariants.{OutOfMemory};
 
 use crate::StepReason;
 use pl_capture::CaptureError;
+use pl_pcapng::BlockError;
 use pl_script::ScriptReason;
 use pl_topology::TopologyError;
 use pl_wiring::{HostNo, Name};
@@ -22,7 +24,7 @@ pub enum Status {
     BadTopology(TopologyError),
     /// The first line that is refused, counted from 1, and why.
     BadScript(u32, ScriptReason),
-    /// The host, why its capture is refused, and at which byte.
+    /// The host, why its libpcap file is refused, and at which byte.
     BadCapture(HostNo, CaptureError, u64),
     /// This file could not be written.
     WriteFault(Name),
@@ -37,6 +39,8 @@ pub enum Status {
     /// The line with a step for which the journal has no room.
     JournalFull(u32),
     OutOfMemory,
+    /// The host, and why its pcapng file is refused.
+    BadSection(HostNo, BlockError),
 }
 
 impl Status {
@@ -57,6 +61,7 @@ impl Status {
             Status::TooLong(_) => 10,
             Status::StepsSpent(_) | Status::JournalFull(_) => 11,
             Status::OutOfMemory => 12,
+            Status::BadSection(_, _) => 15,
         }
     }
 }
@@ -109,6 +114,11 @@ impl fmt::Display for Status {
             Status::StepsSpent(line) => write!(f, "steps spent, line {line}"),
             Status::JournalFull(line) => write!(f, "journal full, line {line}"),
             Status::OutOfMemory => write!(f, "out of memory"),
+            Status::BadSection(HostNo(host), e) => {
+                let place = SectionPlace(*e);
+                let reason = SectionReason(*e);
+                write!(f, "bad capture of host number {host}{place}: {reason}")
+            }
         }
     }
 }
@@ -126,6 +136,41 @@ impl fmt::Display for CaptureReason {
             CaptureError::BadVersion => write!(f, "BadVersion"),
             CaptureError::BadLink => write!(f, "BadLink"),
             CaptureError::BadRecord(at) => write!(f, "BadRecord {at}"),
+        }
+    }
+}
+
+// Which block is refused. Want of memory refuses none.
+#[derive(Clone, Copy)]
+struct SectionPlace(BlockError);
+
+impl fmt::Display for SectionPlace {
+    ghost output = { λ place. Some (section_place_text (offset_of place.0)) };
+
+    fn fmt<W: fmt::Write>(&self, f: &mut fmt::Formatter<W>) -> fmt::Result {
+        match self.0.offset() {
+            Some(at) => write!(f, " at byte {at}"),
+            None => Ok(()),
+        }
+    }
+}
+
+// The same as CaptureReason, of a pcapng file.
+#[derive(Clone, Copy)]
+struct SectionReason(BlockError);
+
+impl fmt::Display for SectionReason {
+    ghost output = { λ reason. Some (section_reason_text reason.0) };
+
+    fn fmt<W: fmt::Write>(&self, f: &mut fmt::Formatter<W>) -> fmt::Result {
+        match self.0 {
+            BlockError::BadMagic(at) => write!(f, "BadMagic {at}"),
+            BlockError::BadBlock(at) => write!(f, "BadBlock {at}"),
+            BlockError::BadTrailer(at) => write!(f, "BadTrailer {at}"),
+            BlockError::BadVersion(at) => write!(f, "BadVersion {at}"),
+            BlockError::BadInterface(at) => write!(f, "BadInterface {at}"),
+            BlockError::BadRecord(at) => write!(f, "BadRecord {at}"),
+            BlockError::Memory => write!(f, "out of memory"),
         }
     }
 }

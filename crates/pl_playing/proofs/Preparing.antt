@@ -27,6 +27,7 @@ module _ (switch : SwitchRule) (manager : ManagerRule) (host : HostRule) where
   unplayed_names_none i (status.BadTopology reason) u = tt
   unplayed_names_none i (status.BadScript line reason) u = tt
   unplayed_names_none i (status.BadCapture host e at) u = tt
+  unplayed_names_none i (status.BadSection host e) u = tt
   unplayed_names_none i (status.ExpectFailed line) u = tt
   unplayed_names_none i (status.Refused line reason) u = tt
   unplayed_names_none i (status.StepsSpent line) u = tt

@@ -50,6 +50,7 @@ module _ (switch : SwitchRule) (manager : ManagerRule) (host : HostRule) where
   unplayed_comes old new stays i texts (status.BadTopology reason) u = (u, stays)
   unplayed_comes old new stays i texts (status.BadScript line reason) u = (u, stays)
   unplayed_comes old new stays i texts (status.BadCapture host e at) u = (u, stays)
+  unplayed_comes old new stays i texts (status.BadSection host e) u = (u, stays)
   unplayed_comes old new stays i texts (status.ExpectFailed line) u = (u, stays)
   unplayed_comes old new stays i texts (status.Refused line reason) u = (u, stays)
   unplayed_comes old new stays i texts (status.StepsSpent line) u = (u, stays)

@@ -2,10 +2,11 @@
 use Rattle.std.proofs.Common.{◌≡◌, ℕ, suc, List, take, Option, None, Some, refl, sym, ap, ◌∙◌, subst, inl, inr}
 use Rattle.std.proofs.lemmas.List.Elements.{All-take}
 use Rattle.pl_shelf.specs.Held.{Held, IsLonger}
-use Rattle.pl_capture.specs.declared.error.CaptureError.{CaptureError}
 use Rattle.pl_wiring.specs.declared.host.Host.{Host}
 use Rattle.pl_wiring.specs.Plan.{Plan}
 use Rattle.pl_script.specs.declared.error.ScriptError.TheVariants.{Line}
+use Rattle.pl_inputs.specs.declared.fault.CaptureFault.{CaptureFault}
+use Rattle.pl_inputs.specs.declared.fault.CaptureFault.TheVariants.{OfRecords, OfSections}
 use Rattle.pl_inputs.specs.declared.status.Status.{Status}
 use Rattle.pl_inputs.specs.Inputs.{AreRead, Inputs, text_limit}
 use Rattle.pl_inputs.specs.Unread.{IsLongName, IsRefusedCapture, IsTooMuch}
@@ -40,7 +41,7 @@ no_much held asked i told is name m =
     none_stops held asked.captures i.plan.hosts m.n m.host m.comes (told_front held asked.captures i.plan.hosts (suc m.n) told.captures) i.captures is.captures is.limit
     (long_stop held asked.captures i.plan.hosts name m)
 
-no_bad_capture : (held : List ℕ → Held) (asked : Asked) (i : Inputs) → AreTold held asked i.plan.hosts → AreRead held asked i → (n : ℕ) (e : CaptureError) →
+no_bad_capture : (held : List ℕ → Held) (asked : Asked) (i : Inputs) → AreTold held asked i.plan.hosts → AreRead held asked i → (n : ℕ) (e : CaptureFault) →
     IsRefusedCapture held asked.captures i.plan.hosts n e → ⊥
 no_bad_capture held asked i told is n e r =
     none_stops held asked.captures i.plan.hosts n r.host r.comes (told_front held asked.captures i.plan.hosts (suc n) told.captures) i.captures is.captures is.limit
@@ -77,7 +78,10 @@ answers_by_playing old new asked (status.BadScript line reason) a i is told none
     absurd (no_bad_script old.held asked i.plan a.0.0 i.lines told.topology told.script is.topology a.0.1 is.script a.0.2.0 (Line line reason) a.0.2.1 a.0.2.2)
 answers_by_playing old new asked (status.BadCapture host e at) a i is told none =
     let same : a.0.0 ≡ i.plan = one_plan old.held asked.topology told.topology a.0.0 i.plan a.0.1.topology is.topology in
-    absurd (no_bad_capture old.held asked i told is host.0 e (subst (λ (p : Plan). IsRefusedCapture old.held asked.captures p.hosts host.0 e) same a.0.2))
+    absurd (no_bad_capture old.held asked i told is host.0 (OfRecords e) (subst (λ (p : Plan). IsRefusedCapture old.held asked.captures p.hosts host.0 (OfRecords e)) same a.0.2))
+answers_by_playing old new asked (status.BadSection host e) a i is told none =
+    let same : a.0.0 ≡ i.plan = one_plan old.held asked.topology told.topology a.0.0 i.plan a.0.1.topology is.topology in
+    absurd (no_bad_capture old.held asked i told is host.0 (OfSections e) (subst (λ (p : Plan). IsRefusedCapture old.held asked.captures p.hosts host.0 (OfSections e)) same a.0.2))
 answers_by_playing old new asked status.OutOfMemory a i is told none = inr refl
 answers_by_playing old new asked status.Usage a i is told none = absurd a.0
 

@@ -6,11 +6,11 @@ use Rattle.std.proofs.lemmas.List.Elements.{All-head, All-tail, All-take}
 use Rattle.std.proofs.lemmas.List.Sums.{sum_by-cons}
 use Rattle.std.proofs.lemmas.Option.{none-some, same_Some}
 use Rattle.pl_shelf.specs.Held.{Held, IsLonger}
-use Rattle.pl_capture.specs.declared.error.CaptureError.{CaptureError}
-use Rattle.pl_capture.specs.Capture.{reading_of}
 use Rattle.pl_wiring.specs.declared.host.Host.{Host}
+use Rattle.pl_inputs.specs.declared.fault.CaptureFault.{CaptureFault}
 use Rattle.pl_inputs.specs.Folders.{in_folder}
 use Rattle.pl_inputs.specs.Inputs.{AreCaptures, IsCapture, IsCaptureAt, all_bytes, captures_limit}
+use Rattle.pl_inputs.specs.Readings.{reading_of}
 use Rattle.pl_inputs.specs.Unread.{ComesTo, IsRefusedCapture, IsTooMuch}
 use Rattle.pl_run.specs.Complete.{AreCapturesTold, IsCaptureTold}
 use Rattle.pl_run.proofs.Complete.{not_longer, ok_err, one_capture, one_err, one_list}
@@ -47,7 +47,7 @@ accepted held folder (h ∷ hosts) (suc n) host (f ∷ files) (g ∷ before) tol
 
 -- a capture that is refused, or with which all are longer than is allowed
 abbrev pub IsRefusedAt : (List ℕ → Held) → List ℕ → Host → Type 0
-IsRefusedAt held folder host = (file : List ℕ) × (e : CaptureError) × IsCaptureAt held folder host.capture file × (reading_of file ≡ Err e)
+IsRefusedAt held folder host = (file : List ℕ) × (e : CaptureFault) × IsCaptureAt held folder host.capture file × (reading_of file ≡ Err e)
 
 abbrev pub IsLongAt : (List ℕ → Held) → List ℕ → Host → List (List ℕ) → Type 0
 IsLongAt held folder host files =
@@ -127,12 +127,12 @@ pub long_stop : (held : List ℕ → Held) (folder : List ℕ) (hosts : List Hos
 long_stop held folder hosts name m =
     inr (m.file, m.names, subst (λ n. IsLonger (held n) (captures_limit - all_bytes m.comes.files)) m.is m.longer)
 
-pub refused_stop : (held : List ℕ → Held) (folder : List ℕ) (hosts : List Host) (n : ℕ) (e : CaptureError) (r : IsRefusedCapture held folder hosts n e) →
+pub refused_stop : (held : List ℕ → Held) (folder : List ℕ) (hosts : List Host) (n : ℕ) (e : CaptureFault) (r : IsRefusedCapture held folder hosts n e) →
     IsStop held folder r.host r.comes.files
 refused_stop held folder hosts n e r = inl (r.file, e, r.is, r.refused)
 
 -- one capture is not both refused and too long
-pub refused_not_long : (held : List ℕ → Held) (folder : List ℕ) (hosts : List Host) (n : ℕ) (e : CaptureError) (name : List ℕ) → IsRefusedCapture held folder hosts n e →
+pub refused_not_long : (held : List ℕ → Held) (folder : List ℕ) (hosts : List Host) (n : ℕ) (e : CaptureFault) (name : List ℕ) → IsRefusedCapture held folder hosts n e →
     (m : IsTooMuch held folder hosts name) → AreCapturesTold held folder (take (suc n) hosts) → n ≡ m.n → ⊥
 refused_not_long held folder hosts n e name r m told at =
     let host : r.host ≡ m.host = one_host hosts n m.n r.host m.host r.comes.stands m.comes.stands at in
@@ -144,7 +144,7 @@ refused_not_long held folder hosts n e name r m told at =
     (subst (λ q. IsLonger (held q) (captures_limit - all_bytes m.comes.files)) m.is m.longer))
 
 -- it is refused for one reason
-pub one_reason : (held : List ℕ → Held) (folder : List ℕ) (hosts : List Host) (n m : ℕ) (e f : CaptureError) → IsRefusedCapture held folder hosts n e →
+pub one_reason : (held : List ℕ → Held) (folder : List ℕ) (hosts : List Host) (n m : ℕ) (e f : CaptureFault) → IsRefusedCapture held folder hosts n e →
     IsRefusedCapture held folder hosts m f → AreCapturesTold held folder (take (suc n) hosts) → n ≡ m → e ≡ f
 one_reason held folder hosts n m e f r s told at =
     let host : r.host ≡ s.host = one_host hosts n m r.host s.host r.comes.stands s.comes.stands at in

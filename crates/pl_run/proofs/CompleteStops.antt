@@ -1,11 +1,11 @@
 -- What is answered where the shelf tells the captures, and one is refused or too long.
 use Rattle.std.proofs.Common.{◌≡◌, ℕ, suc, ◌+◌, List, take, refl, sym, ap, ◌∙◌, subst, inl, inr, arith}
 use Rattle.pl_shelf.specs.Held.{Held, IsLonger}
-use Rattle.pl_capture.specs.declared.error.CaptureError.{CaptureError}
-use Rattle.pl_capture.specs.CaptureError.{offset_of}
 use Rattle.pl_wiring.specs.declared.host.Host.{Host}
 use Rattle.pl_wiring.specs.Plan.{Plan}
 use Rattle.pl_script.specs.declared.error.ScriptError.TheVariants.{Line}
+use Rattle.pl_inputs.specs.declared.fault.CaptureFault.{CaptureFault}
+use Rattle.pl_inputs.specs.declared.fault.CaptureFault.TheVariants.{OfRecords, OfSections}
 use Rattle.pl_inputs.specs.declared.status.Status.{Status}
 use Rattle.pl_inputs.specs.Inputs.{AreCaptures, AreRead, HasPlan, Inputs, text_limit}
 use Rattle.pl_inputs.specs.Unread.{ComesTo, IsRefusedCapture, IsTooMuch}
@@ -13,7 +13,7 @@ use Rattle.pl_inputs.specs.Words.{Asked}
 use Rattle.pl_inputs.specs.declared.status.Status.TheVariants as status
 use Rattle.pl_playing.specs.Outcomes.{Moment}
 use Rattle.pl_run.specs.Answers.{Answers}
-use Rattle.pl_run.specs.Complete.{AnswersBadCapture, AnswersLongCapture, AreCapturesTold, IsComplete, IsTold}
+use Rattle.pl_run.specs.Complete.{AnswersBadCapture, AnswersLongCapture, AreCapturesTold, IsComplete, IsTold, refusal}
 use Rattle.pl_run.proofs.Complete.{one_plan}
 use Rattle.pl_run.proofs.CompleteAnswers.{OneEnd, answers_by_playing, answers_inputs}
 use Rattle.pl_run.proofs.Stages.{answers_bad_script, answers_bad_topology, answers_long_script, answers_long_topology, no_bad_script, no_bad_topology, no_long_script, no_long_topology, no_read_fault, no_write_fault}
@@ -35,34 +35,34 @@ much_of : (held : List ℕ → Held) (asked : Asked) (plan other : Plan) (name :
 much_of held asked plan other name topology has had much =
     subst (λ (p : Plan). IsTooMuch held asked.captures p.hosts name) (one_plan held asked.topology topology other plan had has) much
 
-refused_of : (held : List ℕ → Held) (asked : Asked) (plan other : Plan) (n : ℕ) (e : CaptureError) → IsTold held asked.topology → HasPlan held asked.topology plan →
+refused_of : (held : List ℕ → Held) (asked : Asked) (plan other : Plan) (n : ℕ) (e : CaptureFault) → IsTold held asked.topology → HasPlan held asked.topology plan →
     HasPlan held asked.topology other → IsRefusedCapture held asked.captures other.hosts n e → IsRefusedCapture held asked.captures plan.hosts n e
 refused_of held asked plan other n e topology has had r =
     subst (λ (p : Plan). IsRefusedCapture held asked.captures p.hosts n e) (one_plan held asked.topology topology other plan had has) r
 
 -- a capture that is refused, and another that is too long
-not_both : (held : List ℕ → Held) (folder : List ℕ) (hosts : List Host) (n : ℕ) (e : CaptureError) (name : List ℕ) → IsRefusedCapture held folder hosts n e →
+not_both : (held : List ℕ → Held) (folder : List ℕ) (hosts : List Host) (n : ℕ) (e : CaptureFault) (name : List ℕ) → IsRefusedCapture held folder hosts n e →
     IsTooMuch held folder hosts name → AreCapturesTold held folder (take (suc n) hosts) → ⊥
 not_both held folder hosts n e name r m told =
     refused_not_long held folder hosts n e name r m told
     (one_stop held folder hosts n m.n r.host m.host r.comes m.comes told (refused_stop held folder hosts n e r) (long_stop held folder hosts name m))
 
-nor_both : (held : List ℕ → Held) (folder : List ℕ) (hosts : List Host) (n : ℕ) (e : CaptureError) (name : List ℕ) (r : IsRefusedCapture held folder hosts n e)
+nor_both : (held : List ℕ → Held) (folder : List ℕ) (hosts : List Host) (n : ℕ) (e : CaptureFault) (name : List ℕ) (r : IsRefusedCapture held folder hosts n e)
     (m : IsTooMuch held folder hosts name) → AreCapturesTold held folder (take (suc m.n) hosts) → ⊥
 nor_both held folder hosts n e name r m told =
     let at : m.n ≡ n = one_stop held folder hosts m.n n m.host r.host m.comes r.comes told (long_stop held folder hosts name m) (refused_stop held folder hosts n e r) in
     refused_not_long held folder hosts n e name r m (subst (λ k. AreCapturesTold held folder (take (suc k) hosts)) at told) (sym at)
 
-abbrev bad : ℕ → CaptureError → ℕ → Status
-bad n e at = status.BadCapture (record { 0 = n }) e at
+abbrev refused_at : ℕ → CaptureFault → Status
+refused_at n e = refusal (record { 0 = n }) e
 
 -- one capture is the first that is refused
-same_bad : (held : List ℕ → Held) (folder : List ℕ) (hosts : List Host) (n m : ℕ) (e f : CaptureError) (at : ℕ) → IsRefusedCapture held folder hosts n e →
-    IsRefusedCapture held folder hosts m f → AreCapturesTold held folder (take (suc n) hosts) → at ≡ offset_of f → bad m f at ≡ bad n e (offset_of e)
-same_bad held folder hosts n m e f at r s told is =
+same_refusal : (held : List ℕ → Held) (folder : List ℕ) (hosts : List Host) (n m : ℕ) (e f : CaptureFault) → IsRefusedCapture held folder hosts n e →
+    IsRefusedCapture held folder hosts m f → AreCapturesTold held folder (take (suc n) hosts) → refused_at m f ≡ refused_at n e
+same_refusal held folder hosts n m e f r s told =
     let same : n ≡ m = one_stop held folder hosts n m r.host s.host r.comes s.comes told (refused_stop held folder hosts n e r) (refused_stop held folder hosts m f s) in
     let reason : f ≡ e = sym (one_reason held folder hosts n m e f r s told same) in
-    ap (λ k. bad k f at) (sym same) ∙ ap (λ x. bad n f x) is ∙ ap (λ x. bad n x (offset_of x)) reason
+    ap (λ k. refused_at k f) (sym same) ∙ ap (refused_at n) reason
 
 pub answers_bad_capture : (old new : Moment) (asked : Asked) (e : Status) → Answers old new asked e → AnswersBadCapture old new asked e
 answers_bad_capture old new asked status.Done a plan n e told texts r none =
@@ -94,8 +94,14 @@ answers_bad_capture old new asked (status.BadTopology cause) a plan n e told tex
 answers_bad_capture old new asked (status.BadScript line cause) a plan n e told texts r none =
     absurd (no_bad_script old.held asked plan a.0.0 texts.lines told.topology told.script texts.topology a.0.1 texts.script a.0.2.0 (Line line cause) a.0.2.1 a.0.2.2)
 answers_bad_capture old new asked (status.BadCapture m f at) a plan n e told texts r none =
-    inl (same_bad old.held asked.captures plan.hosts n.0 m.0 e f at r (refused_of old.held asked plan a.0.0 m.0 f told.topology texts.topology a.0.1.topology a.0.2)
-    (next old.held asked.captures plan.hosts n.0 told.captures) a.0.3)
+    inl (ap (λ x. status.BadCapture m f x) a.0.3
+    ∙ same_refusal old.held asked.captures plan.hosts n.0 m.0 e (OfRecords f) r
+    (refused_of old.held asked plan a.0.0 m.0 (OfRecords f) told.topology texts.topology a.0.1.topology a.0.2)
+    (next old.held asked.captures plan.hosts n.0 told.captures))
+answers_bad_capture old new asked (status.BadSection m f) a plan n e told texts r none =
+    inl (same_refusal old.held asked.captures plan.hosts n.0 m.0 e (OfSections f) r
+    (refused_of old.held asked plan a.0.0 m.0 (OfSections f) told.topology texts.topology a.0.1.topology a.0.2)
+    (next old.held asked.captures plan.hosts n.0 told.captures))
 answers_bad_capture old new asked status.OutOfMemory a plan n e told texts r none = inr refl
 answers_bad_capture old new asked status.Usage a plan n e told texts r none = absurd a.0
 
@@ -136,8 +142,11 @@ answers_long_capture old new asked (status.BadTopology cause) a plan name texts 
 answers_long_capture old new asked (status.BadScript line cause) a plan name texts m told none =
     absurd (no_bad_script old.held asked plan a.0.0 texts.lines told.topology told.script texts.topology a.0.1 texts.script a.0.2.0 (Line line cause) a.0.2.1 a.0.2.2)
 answers_long_capture old new asked (status.BadCapture n e at) a plan name texts m told none =
-    absurd (nor_both old.held asked.captures plan.hosts n.0 e name (refused_of old.held asked plan a.0.0 n.0 e told.topology texts.topology a.0.1.topology a.0.2) m
-    (next old.held asked.captures plan.hosts m.n told.captures))
+    absurd (nor_both old.held asked.captures plan.hosts n.0 (OfRecords e) name
+    (refused_of old.held asked plan a.0.0 n.0 (OfRecords e) told.topology texts.topology a.0.1.topology a.0.2) m (next old.held asked.captures plan.hosts m.n told.captures))
+answers_long_capture old new asked (status.BadSection n e) a plan name texts m told none =
+    absurd (nor_both old.held asked.captures plan.hosts n.0 (OfSections e) name
+    (refused_of old.held asked plan a.0.0 n.0 (OfSections e) told.topology texts.topology a.0.1.topology a.0.2) m (next old.held asked.captures plan.hosts m.n told.captures))
 answers_long_capture old new asked status.OutOfMemory a plan name texts m told none = inr refl
 answers_long_capture old new asked status.Usage a plan name texts m told none = absurd a.0
 

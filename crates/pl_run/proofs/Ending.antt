@@ -85,6 +85,7 @@ comes_since old mid new is i texts (status.TooLong name) c = (c.0, untouched_sin
 comes_since old mid new is i texts (status.BadTopology reason) c = (c.0, untouched_since old mid new is c.1)
 comes_since old mid new is i texts (status.BadScript line reason) c = (c.0, untouched_since old mid new is c.1)
 comes_since old mid new is i texts (status.BadCapture host e at) c = (c.0, untouched_since old mid new is c.1)
+comes_since old mid new is i texts (status.BadSection host e) c = (c.0, untouched_since old mid new is c.1)
 comes_since old mid new is i texts (status.ExpectFailed line) c = (c.0, untouched_since old mid new is c.1)
 comes_since old mid new is i texts (status.Refused line reason) c = (c.0, untouched_since old mid new is c.1)
 comes_since old mid new is i texts (status.StepsSpent line) c = (c.0, untouched_since old mid new is c.1)
@@ -105,6 +106,7 @@ run_answers old new asked i read (status.TooLong name) c = absurd (no_stop Exact
 run_answers old new asked i read (status.BadTopology reason) c = absurd (no_stop Exact manager_rule host_rule i (status.BadTopology reason) refl c.0)
 run_answers old new asked i read (status.BadScript line reason) c = absurd (no_stop Exact manager_rule host_rule i (status.BadScript line reason) refl c.0)
 run_answers old new asked i read (status.BadCapture host e at) c = absurd (no_stop Exact manager_rule host_rule i (status.BadCapture host e at) refl c.0)
+run_answers old new asked i read (status.BadSection host e) c = absurd (no_stop Exact manager_rule host_rule i (status.BadSection host e) refl c.0)
 
 -- a run whose inputs were not read
 pub unread_answers : (old new : Moment) (asked : Asked) → Same old.held new.held → new.write_faults ≡ old.write_faults → (e : Status) →
@@ -115,6 +117,7 @@ unread_answers old new asked same writes (status.TooLong name) u reads = (u, rec
 unread_answers old new asked same writes (status.BadTopology reason) u reads = (u, record { same = same; reads = reads; writes = writes })
 unread_answers old new asked same writes (status.BadScript line reason) u reads = (u, record { same = same; reads = reads; writes = writes })
 unread_answers old new asked same writes (status.BadCapture host e at) u reads = (u, record { same = same; reads = reads; writes = writes })
+unread_answers old new asked same writes (status.BadSection host e) u reads = (u, record { same = same; reads = reads; writes = writes })
 unread_answers old new asked same writes status.OutOfMemory u reads = (u, record { same = same; reads = reads; writes = writes })
 unread_answers old new asked same writes status.Done u reads = absurd u
 unread_answers old new asked same writes status.Usage u reads = absurd u
@@ -136,6 +139,7 @@ check_answers old mid new topology plan has is (status.TooLong name) c = absurd 
 check_answers old mid new topology plan has is (status.BadTopology reason) c = absurd c
 check_answers old mid new topology plan has is (status.BadScript line reason) c = absurd c
 check_answers old mid new topology plan has is (status.BadCapture host e at) c = absurd c
+check_answers old mid new topology plan has is (status.BadSection host e) c = absurd c
 check_answers old mid new topology plan has is (status.ExpectFailed line) c = absurd c
 check_answers old mid new topology plan has is (status.Refused line reason) c = absurd c
 check_answers old mid new topology plan has is (status.StepsSpent line) c = absurd c
@@ -151,6 +155,7 @@ unplanned_answers old new topology same writes (status.BadTopology reason) u rea
 unplanned_answers old new topology same writes status.OutOfMemory u reads = (u, record { same = same; reads = reads; writes = writes })
 unplanned_answers old new topology same writes (status.BadScript line reason) u reads = absurd u
 unplanned_answers old new topology same writes (status.BadCapture host e at) u reads = absurd u
+unplanned_answers old new topology same writes (status.BadSection host e) u reads = absurd u
 unplanned_answers old new topology same writes status.Done u reads = absurd u
 unplanned_answers old new topology same writes status.Usage u reads = absurd u
 unplanned_answers old new topology same writes (status.WriteFault name) u reads = absurd u
@@ -175,6 +180,7 @@ generated_answers old new g i read (status.TooLong name) c = absurd (no_stop Exa
 generated_answers old new g i read (status.BadTopology reason) c = absurd (no_stop Exact manager_rule host_rule i (status.BadTopology reason) refl c.0)
 generated_answers old new g i read (status.BadScript line reason) c = absurd (no_stop Exact manager_rule host_rule i (status.BadScript line reason) refl c.0)
 generated_answers old new g i read (status.BadCapture host e at) c = absurd (no_stop Exact manager_rule host_rule i (status.BadCapture host e at) refl c.0)
+generated_answers old new g i read (status.BadSection host e) c = absurd (no_stop Exact manager_rule host_rule i (status.BadSection host e) refl c.0)
 
 -- and those that were not
 pub ungenerated_answers : (old new : Moment) → IsUntouched old new → (g : Generation) (e : Status) → IsUngenerated g e → AnswersGenerated old new g.k g.number g.frames e
@@ -184,6 +190,7 @@ ungenerated_answers old new stays g (status.TooLong name) u = (u.0, u.1, (u.2, s
 ungenerated_answers old new stays g (status.BadTopology reason) u = (u.0, u.1, (u.2, stays))
 ungenerated_answers old new stays g (status.BadScript line reason) u = (u.0, u.1, (u.2, stays))
 ungenerated_answers old new stays g (status.BadCapture host e at) u = (u.0, u.1, (u.2, stays))
+ungenerated_answers old new stays g (status.BadSection host e) u = (u.0, u.1, (u.2, stays))
 ungenerated_answers old new stays g status.Usage u = absurd u.2
 ungenerated_answers old new stays g status.Done u = absurd u.2
 ungenerated_answers old new stays g (status.WriteFault name) u = absurd u.2
@@ -201,6 +208,7 @@ not_generated g held are (status.TooLong name) u = (held, are, u)
 not_generated g held are (status.BadTopology reason) u = (held, are, u)
 not_generated g held are (status.BadScript line reason) u = (held, are, u)
 not_generated g held are (status.BadCapture host e at) u = (held, are, u)
+not_generated g held are (status.BadSection host e) u = (held, are, u)
 not_generated g held are status.Usage u = absurd u
 not_generated g held are status.Done u = absurd u
 not_generated g held are (status.WriteFault name) u = absurd u

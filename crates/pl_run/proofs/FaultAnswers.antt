@@ -52,6 +52,7 @@ comes_tells old new i texts (status.TooLong name) c = untouched_tells old new (s
 comes_tells old new i texts (status.BadTopology reason) c = untouched_tells old new (status.BadTopology reason) c.1
 comes_tells old new i texts (status.BadScript line reason) c = untouched_tells old new (status.BadScript line reason) c.1
 comes_tells old new i texts (status.BadCapture host e at) c = untouched_tells old new (status.BadCapture host e at) c.1
+comes_tells old new i texts (status.BadSection host e) c = untouched_tells old new (status.BadSection host e) c.1
 comes_tells old new i texts (status.ExpectFailed line) c = untouched_tells old new (status.ExpectFailed line) c.1
 comes_tells old new i texts (status.Refused line reason) c = untouched_tells old new (status.Refused line reason) c.1
 comes_tells old new i texts (status.StepsSpent line) c = untouched_tells old new (status.StepsSpent line) c.1
@@ -74,6 +75,7 @@ answers_tells old new asked (status.TooLong name) a = untouched_tells old new (s
 answers_tells old new asked (status.BadTopology reason) a = untouched_tells old new (status.BadTopology reason) a.1
 answers_tells old new asked (status.BadScript line reason) a = untouched_tells old new (status.BadScript line reason) a.1
 answers_tells old new asked (status.BadCapture host e at) a = untouched_tells old new (status.BadCapture host e at) a.1
+answers_tells old new asked (status.BadSection host e) a = untouched_tells old new (status.BadSection host e) a.1
 
 check_tells : (old new : Moment) (topology : List ℕ) (e : Status) → AnswersCheck old new topology e → TellsFaults old new e
 check_tells old new topology status.Done a = saves_tells old new (line_of a.0) status.Done a.2
@@ -85,6 +87,7 @@ check_tells old new topology (status.TooLong name) a = untouched_tells old new (
 check_tells old new topology (status.BadTopology reason) a = untouched_tells old new (status.BadTopology reason) a.1
 check_tells old new topology (status.BadScript line reason) a = untouched_tells old new (status.BadScript line reason) a.1
 check_tells old new topology (status.BadCapture host e at) a = untouched_tells old new (status.BadCapture host e at) a.1
+check_tells old new topology (status.BadSection host e) a = untouched_tells old new (status.BadSection host e) a.1
 check_tells old new topology (status.ExpectFailed line) a = untouched_tells old new (status.ExpectFailed line) a.1
 check_tells old new topology (status.Refused line reason) a = untouched_tells old new (status.Refused line reason) a.1
 check_tells old new topology (status.StepsSpent line) a = untouched_tells old new (status.StepsSpent line) a.1
@@ -108,6 +111,7 @@ over_tells old new held (status.TooLong name) a = untouched_tells old new (statu
 over_tells old new held (status.BadTopology reason) a = untouched_tells old new (status.BadTopology reason) a.1
 over_tells old new held (status.BadScript line reason) a = untouched_tells old new (status.BadScript line reason) a.1
 over_tells old new held (status.BadCapture host e at) a = untouched_tells old new (status.BadCapture host e at) a.1
+over_tells old new held (status.BadSection host e) a = untouched_tells old new (status.BadSection host e) a.1
 
 generated_tells : (old new : Moment) (k number frames : ℕ) (e : Status) → AnswersGenerated old new k number frames e → TellsFaults old new e
 generated_tells old new k number frames status.OutOfMemory a = untouched_tells old new status.OutOfMemory a
@@ -123,6 +127,7 @@ generated_tells old new k number frames (status.TooLong name) a = over_tells old
 generated_tells old new k number frames (status.BadTopology reason) a = over_tells old new a.0 (status.BadTopology reason) a.2
 generated_tells old new k number frames (status.BadScript line reason) a = over_tells old new a.0 (status.BadScript line reason) a.2
 generated_tells old new k number frames (status.BadCapture host e at) a = over_tells old new a.0 (status.BadCapture host e at) a.2
+generated_tells old new k number frames (status.BadSection host e) a = over_tells old new a.0 (status.BadSection host e) a.2
 
 pub task_tells : (old new : Moment) (task : Task) (e : Status) → AnswersTask old new task e → TellsFaults old new e
 task_tells old new (Run asked) e a = answers_tells old new asked e a

@@ -51,6 +51,7 @@ unread_names_none before after old new asked kept same is (status.TooLong name) 
 unread_names_none before after old new asked kept same is (status.BadTopology reason) u none = tt
 unread_names_none before after old new asked kept same is (status.BadScript line reason) u none = tt
 unread_names_none before after old new asked kept same is (status.BadCapture host e at) u none = tt
+unread_names_none before after old new asked kept same is (status.BadSection host e) u none = tt
 unread_names_none before after old new asked kept same is (status.ExpectFailed line) u none = tt
 unread_names_none before after old new asked kept same is (status.Refused line reason) u none = tt
 unread_names_none before after old new asked kept same is (status.StepsSpent line) u none = tt
@@ -69,6 +70,7 @@ unplanned_names_none before after old new topology kept same is (status.TooLong 
 unplanned_names_none before after old new topology kept same is (status.BadTopology reason) u none = tt
 unplanned_names_none before after old new topology kept same is (status.BadScript line reason) u none = tt
 unplanned_names_none before after old new topology kept same is (status.BadCapture host e at) u none = tt
+unplanned_names_none before after old new topology kept same is (status.BadSection host e) u none = tt
 unplanned_names_none before after old new topology kept same is (status.ExpectFailed line) u none = tt
 unplanned_names_none before after old new topology kept same is (status.Refused line reason) u none = tt
 unplanned_names_none before after old new topology kept same is (status.StepsSpent line) u none = tt
@@ -85,6 +87,7 @@ ungenerated_names_none g (status.TooLong name) u = tt
 ungenerated_names_none g (status.BadTopology reason) u = tt
 ungenerated_names_none g (status.BadScript line reason) u = tt
 ungenerated_names_none g (status.BadCapture host e at) u = tt
+ungenerated_names_none g (status.BadSection host e) u = tt
 ungenerated_names_none g (status.ExpectFailed line) u = tt
 ungenerated_names_none g (status.Refused line reason) u = tt
 ungenerated_names_none g (status.StepsSpent line) u = tt

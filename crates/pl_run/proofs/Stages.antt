@@ -118,6 +118,7 @@ script_stage old new asked (status.TooLong name) (inr (inr l), stays) = inl (l.0
 script_stage old new asked (status.BadTopology reason) a = inr (inr (inr (inl (reason, a.0.1.0, a.0.1.1, a.0.1.2, refl))))
 script_stage old new asked (status.BadScript line reason) a = inr (inl (a.0.0, a.0.2.0, line, reason, a.0.1, a.0.2.1, a.0.2.2, refl))
 script_stage old new asked (status.BadCapture host e at) a = inl (a.0.0, a.0.1)
+script_stage old new asked (status.BadSection host e) a = inl (a.0.0, a.0.1)
 script_stage old new asked status.OutOfMemory a = inr (inr (inr (inr (inr (inr refl)))))
 script_stage old new asked status.Usage a = absurd a.0
 
@@ -136,6 +137,7 @@ check_stage old new topology (status.StepsSpent line) a = absurd a.0
 check_stage old new topology (status.JournalFull line) a = absurd a.0
 check_stage old new topology (status.BadScript line reason) a = absurd a.0
 check_stage old new topology (status.BadCapture host e at) a = absurd a.0
+check_stage old new topology (status.BadSection host e) a = absurd a.0
 
 -- a topology that is refused, or too long
 bad_topology_by : (old new : Moment) (topology : List ℕ) (e : Status) → TopologyStage old new topology e → AnswersBadTopology old new topology e
@@ -195,6 +197,7 @@ check_accepted old new topology (status.StepsSpent line) a plan told has none = 
 check_accepted old new topology (status.JournalFull line) a plan told has none = absurd a.0
 check_accepted old new topology (status.BadScript line reason) a plan told has none = absurd a.0
 check_accepted old new topology (status.BadCapture host e at) a plan told has none = absurd a.0
+check_accepted old new topology (status.BadSection host e) a plan told has none = absurd a.0
 
 abbrev script_status : ScriptError → Status
 script_status (Line n reason) = status.BadScript n reason

@@ -1,7 +1,6 @@
 -- What is answered where the shelf tells what is read, and no call fails: what the bytes ask for.
 use Rattle.std.specs.Prelude.{◌≡◌, ◌⊎◌, ℕ, ◌+◌, ◌-◌, ◌^◌, ◌<◌, List, All, take, Option, None, Some, Err}
 use Rattle.pl_shelf.specs.Held.{Held, IsLonger, holds}
-use Rattle.pl_capture.specs.declared.error.CaptureError.{CaptureError}
 use Rattle.pl_capture.specs.CaptureError.{offset_of}
 use Rattle.pl_wiring.specs.declared.host.Host.{Host}
 use Rattle.pl_wiring.specs.declared.host.HostNo.{HostNo}
@@ -11,6 +10,8 @@ use Rattle.pl_script.specs.declared.error.ScriptReason.{ScriptReason}
 use Rattle.pl_script.specs.Meaning.{script_of}
 use Rattle.pl_topology.specs.declared.error.TopologyError.{TopologyError}
 use Rattle.pl_topology.specs.Meaning.{topology_of}
+use Rattle.pl_inputs.specs.declared.fault.CaptureFault.{CaptureFault}
+use Rattle.pl_inputs.specs.declared.fault.CaptureFault.TheVariants.{OfRecords, OfSections}
 use Rattle.pl_inputs.specs.declared.status.Status.{Status}
 use Rattle.pl_inputs.specs.Folders.{in_folder}
 use Rattle.pl_inputs.specs.Inputs.{AreRead, HasPlan, Inputs, IsLoaded, text_limit}
@@ -93,12 +94,17 @@ AnswersLongScript old new asked result =
     → HasPlan old.held asked.topology plan → IsLonger (old.held asked.script) text_limit
     → NoFaults old new → IsAnswered result (status.TooLong asked.script)
 
--- the first capture that is refused is answered with its host, the reason and the offset
+-- the answer to a capture that is refused: its host, the reason and the offset, by the grammar of its kind of file
+abbrev pub refusal : HostNo → CaptureFault → Status
+refusal n (OfRecords e) = status.BadCapture n e (offset_of e)
+refusal n (OfSections e) = status.BadSection n e
+
+-- the first capture that is refused is answered so
 abbrev pub AnswersBadCapture : Moment → Moment → Asked → Status → Type 0
 AnswersBadCapture old new asked result =
-    (plan : Plan) (n : HostNo) (e : CaptureError) → AreTold old.held asked (take (n.0 + 1) plan.hosts)
+    (plan : Plan) (n : HostNo) (e : CaptureFault) → AreTold old.held asked (take (n.0 + 1) plan.hosts)
     → AreTextsRead old.held asked plan → IsRefusedCapture old.held asked.captures plan.hosts n.0 e
-    → NoFaults old new → IsAnswered result (status.BadCapture n e (offset_of e))
+    → NoFaults old new → IsAnswered result (refusal n e)
 
 -- the first capture with which all are longer than is allowed is answered with its name
 abbrev pub AnswersLongCapture : Moment → Moment → Asked → Status → Type 0

@@ -7,11 +7,11 @@ ghost use Rattle.pl_inputs.specs.Loaded.{files_of};
 ghost use Rattle.pl_inputs.specs.Loads.{IsUnpromised, Reads};
 
 use crate::capture::Capture;
+use crate::fault::CaptureFault;
 use crate::folders::in_folder;
 use crate::loading::named::load_named;
 use crate::loading::walk::{Walk, WalkError, read_records};
 use crate::status::Status;
-use pl_capture::records_are_within;
 use pl_shelf::Shelf;
 use pl_wiring::{Host, HostNo, Name, Wiring};
 use std::alloc::Global;
@@ -73,19 +73,22 @@ fn load_capture<S: Shelf>(
     }
 }
 
-/// The records of a capture's file.
+/// The records of a capture's file, by the grammar of its kind.
+#[tactic(auto, using(crate::proofs::Within::all_within))]
 fn read_capture(alloc: Global, number: HostNo, bytes: Vec<u8>) -> Result<Capture, Status>
     ensures ok { IfOk result (λ c. c.bytes.items ≡ bytes.items) }
     ensures err { IfErr result (λ e. IsRefusedBy number.0 bytes.items e) }
 {
-    records_are_within();
     match read_records(alloc, &bytes) {
         Ok(Walk { records, tail }) => Ok(Capture {
             bytes,
             records,
             tail,
         }),
-        Err(WalkError::Refused(e)) => Err(Status::BadCapture(number, e, e.offset())),
+        Err(WalkError::Refused(CaptureFault::OfRecords(e))) => {
+            Err(Status::BadCapture(number, e, e.offset()))
+        }
+        Err(WalkError::Refused(CaptureFault::OfSections(e))) => Err(Status::BadSection(number, e)),
         Err(WalkError::Memory) => Err(Status::OutOfMemory),
     }
 }

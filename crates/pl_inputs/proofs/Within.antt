@@ -25,6 +25,6 @@ all_within file cs tail is =
     elim (is_pcapng file) as
     (λ b. (if b then by_sections (pcapng.reading_of file) else by_records (libpcap.reading_of file)) ≡ read cs tail →
     All (λ c. c.start + c.len ≤ length file) cs) [
-  | true ↦ λ h. sections.reading-within file cs tail (of_sections (pcapng.reading_of file) cs tail h)
-  | false ↦ λ h. records.reading-within file cs tail (of_records (libpcap.reading_of file) cs tail h)
-] is
+      | true ↦ λ h. sections.reading-within file cs tail (of_sections (pcapng.reading_of file) cs tail h)
+      | false ↦ λ h. records.reading-within file cs tail (of_records (libpcap.reading_of file) cs tail h)
+    ] is

@@ -1,5 +1,5 @@
 -- The records of a file lie within it, by the grammar of each kind.
-use Rattle.std.proofs.Common.{◌≡◌, ℕ, ◌+◌, ◌≤◌, Bool, true, false, if◌then◌else◌, List, length, All, Ok, Err}
+use Rattle.std.proofs.Common.{◌≡◌, ℕ, ◌+◌, ◌≤◌, true, false, if◌then◌else◌, List, length, All, Ok, Err}
 use Rattle.pl_capture.specs.declared.records.Captured.{Captured}
 use Rattle.pl_capture.specs.Capture as libpcap
 use Rattle.pl_capture.proofs.Reading as records

@@ -152,13 +152,13 @@ refused_at : (old new : List ℕ → Held) (folder : List ℕ) (hosts : List Hos
     number ≡ n → IsRefusedFile new folder file left e → IsRefusedCapture old folder hosts number e
 refused_at old new folder hosts n files left host g stands file is number e at refused =
     subst (λ m. IsRefusedCapture old folder hosts m e) (sym at) (record {
-    host = host;
-    comes = comes_to old new folder hosts n files left host g stands;
-    file = refused.0;
-    is = subst (λ c. IsCaptureAt old folder c refused.0) (sym is) (same_capture g.same folder (Some file) refused.0 refused.1);
-    limit = subst (λ l. length refused.0 ≤ l) (left_is files left g.limit) refused.2;
-    refused = refused.3;
-  })
+      host = host;
+      comes = comes_to old new folder hosts n files left host g stands;
+      file = refused.0;
+      is = subst (λ c. IsCaptureAt old folder c refused.0) (sym is) (same_capture g.same folder (Some file) refused.0 refused.1);
+      limit = subst (λ l. length refused.0 ≤ l) (left_is files left g.limit) refused.2;
+      refused = refused.3;
+    })
 
 untaken_by : (old new : List ℕ → Held) (folder : List ℕ) (hosts : List Host) (n : ℕ) (files : List (List ℕ)) (left : ℕ) (host : Host) →
     Gathers old new folder hosts n files left → slice_get hosts n ≡ Some host → (capture : Option (List ℕ)) → host.capture ≡ capture → (e : Status) →

@@ -1,5 +1,5 @@
 -- The records of a file lie within it, by the grammar of each kind.
-use Rattle.std.proofs.Common.{◌≡◌, ℕ, ◌+◌, ◌≤◌, Bool, true, false, if◌then◌else◌, List, length, All, Ok, Err}
+use Rattle.std.proofs.Common.{◌≡◌, ℕ, ◌+◌, ◌≤◌, true, false, if◌then◌else◌, List, length, All, Ok, Err}
 use Rattle.pl_capture.specs.declared.records.Captured.{Captured}
 use Rattle.pl_capture.specs.Capture as libpcap
 use Rattle.pl_capture.proofs.Reading as records
@@ -25,6 +25,6 @@ all_within file cs tail is =
     elim (is_pcapng file) as
     (λ b. (if b then by_sections (pcapng.reading_of file) else by_records (libpcap.reading_of file)) ≡ read cs tail →
     All (λ c. c.start + c.len ≤ length file) cs) [
-  | true ↦ λ h. sections.reading-within file cs tail (of_sections (pcapng.reading_of file) cs tail h)
-  | false ↦ λ h. records.reading-within file cs tail (of_records (libpcap.reading_of file) cs tail h)
-] is
+      | true ↦ λ h. sections.reading-within file cs tail (of_sections (pcapng.reading_of file) cs tail h)
+      | false ↦ λ h. records.reading-within file cs tail (of_records (libpcap.reading_of file) cs tail h)
+    ] is

@@ -1,7 +1,7 @@
 //! Plays a scenario, which comes on standard input, through a part of a switch: each line is one call of
 //! the part, and what the part answers is printed, a line each.
 //!
-//! The first line of a scenario names the part and says what it needs: `ports ID K`, `votes K`,
+//! The first line of a scenario names the part and says what it needs: `ports ID K`, `tables ID K`, `votes K`,
 //! `book K POD POSITION`, `edge K`, `members` or `flows`. What can be said to a part stands in the file of its name. A line
 //! that begins with `#` is printed as it is, and with `new` another scenario begins.
 #![tactic(auto)]
@@ -14,6 +14,7 @@ mod members;
 mod numbers;
 mod pmacs;
 mod ports;
+mod tables;
 mod votes;
 
 use crate::book::play_book;
@@ -21,6 +22,7 @@ use crate::edge::play_edge;
 use crate::flows::play_flows;
 use crate::members::play_members;
 use crate::ports::play_ports;
+use crate::tables::play_tables;
 use crate::votes::play_votes;
 use pl_frame::Memory;
 use pl_scenario_words::{Player, first_word, play_each, say};
@@ -59,6 +61,7 @@ fn play_scenario(
     let (part, words) = first_word(first);
     match part {
         "ports" => play_ports(alloc, words, lines, out),
+        "tables" => play_tables(alloc, words, lines, out),
         "votes" => play_votes(alloc, words, lines, out),
         "book" => play_book(alloc, words, lines, out),
         "edge" => play_edge(alloc, words, lines, out),

@@ -44,11 +44,11 @@ const main = async () => {
         await browser.close();
         fs.rmSync(work, { recursive: true, force: true });
     }
-    console.log(`tests/page: browser ${kind}: ${tests.length - failed} of ${tests.length} passed`);
+    console.log(`tests/check/page: browser ${kind}: ${tests.length - failed} of ${tests.length} passed`);
     return failed === 0 ? 0 : 1;
 };
 
 main().then(status => process.exit(status), error => {
-    console.log(`tests/page: browser ${kind}: ${error.message}`);
+    console.log(`tests/check/page: browser ${kind}: ${error.message}`);
     process.exit(1);
 });

@@ -10,5 +10,5 @@ for (const [name, test] of tests) {
         console.log(`${name}: ${error.stack}`);
     }
 }
-console.log(`tests/page: functions: ${tests.length - failed} of ${tests.length} passed`);
+console.log(`tests/check/page: functions: ${tests.length - failed} of ${tests.length} passed`);
 process.exit(failed === 0 ? 0 : 1);

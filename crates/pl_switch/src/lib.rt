@@ -1,5 +1,5 @@
-//! The plain switch: what PortLand's software does at an edge, an aggregation or a core switch (SIGCOMM
-//! 2009), and nothing besides.
+//! The plain switch, the reference beside the switch of pl_tables, which the program runs: what PortLand's
+//! software does at an edge, an aggregation or a core switch (SIGCOMM 2009), and nothing besides.
 //!
 //! `PlainSwitch` is a `SwitchLogic` under the exact rule of a switch (pl_switch_rule, `specs/SwitchRule.antt`):
 //! of what comes and of what it knows, all that it does and will know follows. What it keeps, and what it

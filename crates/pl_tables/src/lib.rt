@@ -1,5 +1,5 @@
-//! A switch that keeps prefix tables: of its usable ports those up, of these the ones that an address is not
-//! to take, and those down by position or by pod.
+//! The switch that the program runs (pl_switch has the reference): it keeps prefix tables, of its usable
+//! ports those up, of these the ones that an address is not to take, and those down by position or by pod.
 //!
 //! `TableSwitch` is a `SwitchLogic` under the exact rule of a switch, as the plain switch is: the tables follow
 //! from what a switch knows, and say of a unicast frame what its rule says. A frame costs a look-up by

@@ -5,7 +5,7 @@ use Rattle.pl_playing.proofs.played.rests.Given as goal
 
 abbrev pub invariant-loop-n : goal.invariant-loop-n
 invariant-loop-n g l = record {
-  rests : l.rests.items ++ rests_from l.n (files_of (drop l.n l.captures.now)) l.fabric.now
-      ≡ rests_from 0 (files_of l.captures.now) l.fabric.now;
+  rests : l.rests.items ++ rests_from l.n (files_of (drop l.n l.captures)) l.fabric
+      ≡ rests_from 0 (files_of l.captures) l.fabric;
   many : length l.rests.items ≡ l.n;
 }

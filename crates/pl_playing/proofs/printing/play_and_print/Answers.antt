@@ -9,29 +9,29 @@ use Rattle.pl_playing.proofs.Preparing.{unplayed_names_none}
 use Rattle.pl_playing.proofs.printing.play_and_print.Goals as goal
 
 pub print_played-requires-clause-counted : goal.print_played-requires-clause-counted
-print_played-requires-clause-counted g c = c.in_ok-played.ensures.ok.over.counted
+print_played-requires-clause-counted g c = c.in_ok-fabric.ensures.ok.over.counted
 
 pub print_played-requires-clause-many : goal.print_played-requires-clause-many
-print_played-requires-clause-many g c = c.in_ok-played.ensures.ok.many
+print_played-requires-clause-many g c = c.in_ok-fabric.ensures.ok.many
 
-pub returns-in_err-played-clause-comes : goal.returns-in_err-played-clause-comes
-returns-in_err-played-clause-comes g c =
+pub returns-in_err-fabric-clause-comes : goal.returns-in_err-fabric-clause-comes
+returns-in_err-fabric-clause-comes g c =
     let D = g.D.Shelf in
     let old : Moment = record { held = D.held c.args.shelf.now; read_faults = D.read_faults c.args.shelf.now; write_faults = D.write_faults c.args.shelf.now } in
     let i = inputs_of c.args.inputs in
     let p = err_from_is_err_and c.from_residual.result c.from_residual.ensures.1 in
     subst (λ r. Comes g.S.SwitchLogic.rule g.M.ManagerLogic.rule g.H.HostLogic.rule old old i (printed_of g.S.SwitchLogic.rule g.M.ManagerLogic.rule g.H.HostLogic.rule i) (answer_of r)) (sym p.1)
     (subst (λ e. Comes g.S.SwitchLogic.rule g.M.ManagerLogic.rule g.H.HostLogic.rule old old i (printed_of g.S.SwitchLogic.rule g.M.ManagerLogic.rule g.H.HostLogic.rule i) e) (sym p.2)
-    (unplayed_comes g.S.SwitchLogic.rule g.M.ManagerLogic.rule g.H.HostLogic.rule old old (record { same = λ q. refl; reads = refl; writes = refl }) i (printed_of g.S.SwitchLogic.rule g.M.ManagerLogic.rule g.H.HostLogic.rule i) _ c.in_err-played.ensures.err))
+    (unplayed_comes g.S.SwitchLogic.rule g.M.ManagerLogic.rule g.H.HostLogic.rule old old (record { same = λ q. refl; reads = refl; writes = refl }) i (printed_of g.S.SwitchLogic.rule g.M.ManagerLogic.rule g.H.HostLogic.rule i) _ c.in_err-fabric.ensures.err))
 
 pub returns-clause-comes : goal.returns-clause-comes
-returns-clause-comes g c = c.print_played.ensures.comes (inputs_of c.args.inputs) c.in_ok-played.ensures.ok
+returns-clause-comes g c = c.print_played.ensures.comes (inputs_of c.args.inputs) c.in_ok-fabric.ensures.ok
 
-pub returns-in_err-played-clause-prepared : goal.returns-in_err-played-clause-prepared
-returns-in_err-played-clause-prepared g c room =
+pub returns-in_err-fabric-clause-prepared : goal.returns-in_err-fabric-clause-prepared
+returns-in_err-fabric-clause-prepared g c room =
     let p = err_from_is_err_and c.from_residual.result c.from_residual.ensures.1 in
     subst (λ r. NamesNoFault (answer_of r)) (sym p.1)
-    (subst (λ e. NamesNoFault e) (sym p.2) (unplayed_names_none g.S.SwitchLogic.rule g.M.ManagerLogic.rule g.H.HostLogic.rule (inputs_of c.args.inputs) _ c.in_err-played.ensures.err))
+    (subst (λ e. NamesNoFault e) (sym p.2) (unplayed_names_none g.S.SwitchLogic.rule g.M.ManagerLogic.rule g.H.HostLogic.rule (inputs_of c.args.inputs) _ c.in_err-fabric.ensures.err))
 
 pub returns-clause-prepared : goal.returns-clause-prepared
-returns-clause-prepared g c room = c.print_played.ensures.prepared (inputs_of c.args.inputs) c.in_ok-played.ensures.ok room
+returns-clause-prepared g c room = c.print_played.ensures.prepared (inputs_of c.args.inputs) c.in_ok-fabric.ensures.ok room

@@ -9,16 +9,16 @@ use Rattle.pl_playing.proofs.Preparing.{unplayed_names_none}
 use Rattle.pl_playing.proofs.saving.play_and_save.Goals as goal
 
 pub save_played-requires-clause-counted : goal.save_played-requires-clause-counted
-save_played-requires-clause-counted g c = c.in_ok-played.ensures.ok.over.counted
+save_played-requires-clause-counted g c = c.in_ok-fabric.ensures.ok.over.counted
 
 pub save_played-requires-clause-savable : goal.save_played-requires-clause-savable
-save_played-requires-clause-savable g c = c.in_ok-played.ensures.ok.savable
+save_played-requires-clause-savable g c = c.in_ok-fabric.ensures.ok.savable
 
 pub save_played-requires-clause-many : goal.save_played-requires-clause-many
-save_played-requires-clause-many g c = c.in_ok-played.ensures.ok.many
+save_played-requires-clause-many g c = c.in_ok-fabric.ensures.ok.many
 
-pub returns-in_err-played-clause-comes : goal.returns-in_err-played-clause-comes
-returns-in_err-played-clause-comes g c =
+pub returns-in_err-fabric-clause-comes : goal.returns-in_err-fabric-clause-comes
+returns-in_err-fabric-clause-comes g c =
     let D = g.D.Shelf in
     let old : Moment = record { held = D.held c.args.shelf.now; read_faults = D.read_faults c.args.shelf.now; write_faults = D.write_faults c.args.shelf.now } in
     let i = inputs_of c.args.inputs in
@@ -26,16 +26,16 @@ returns-in_err-played-clause-comes g c =
     let p = err_from_is_err_and c.from_residual.result c.from_residual.ensures.1 in
     subst (λ r. Comes g.S.SwitchLogic.rule g.M.ManagerLogic.rule g.H.HostLogic.rule old old i texts (answer_of r)) (sym p.1)
     (subst (λ e. Comes g.S.SwitchLogic.rule g.M.ManagerLogic.rule g.H.HostLogic.rule old old i texts e) (sym p.2)
-    (unplayed_comes g.S.SwitchLogic.rule g.M.ManagerLogic.rule g.H.HostLogic.rule old old (record { same = λ q. refl; reads = refl; writes = refl }) i texts _ c.in_err-played.ensures.err))
+    (unplayed_comes g.S.SwitchLogic.rule g.M.ManagerLogic.rule g.H.HostLogic.rule old old (record { same = λ q. refl; reads = refl; writes = refl }) i texts _ c.in_err-fabric.ensures.err))
 
 pub returns-clause-comes : goal.returns-clause-comes
-returns-clause-comes g c = c.save_played.ensures.comes (inputs_of c.args.inputs) c.in_ok-played.ensures.ok
+returns-clause-comes g c = c.save_played.ensures.comes (inputs_of c.args.inputs) c.in_ok-fabric.ensures.ok
 
-pub returns-in_err-played-clause-prepared : goal.returns-in_err-played-clause-prepared
-returns-in_err-played-clause-prepared g c room =
+pub returns-in_err-fabric-clause-prepared : goal.returns-in_err-fabric-clause-prepared
+returns-in_err-fabric-clause-prepared g c room =
     let p = err_from_is_err_and c.from_residual.result c.from_residual.ensures.1 in
     subst (λ r. NamesNoFault (answer_of r)) (sym p.1)
-    (subst (λ e. NamesNoFault e) (sym p.2) (unplayed_names_none g.S.SwitchLogic.rule g.M.ManagerLogic.rule g.H.HostLogic.rule (inputs_of c.args.inputs) _ c.in_err-played.ensures.err))
+    (subst (λ e. NamesNoFault e) (sym p.2) (unplayed_names_none g.S.SwitchLogic.rule g.M.ManagerLogic.rule g.H.HostLogic.rule (inputs_of c.args.inputs) _ c.in_err-fabric.ensures.err))
 
 pub returns-clause-prepared : goal.returns-clause-prepared
-returns-clause-prepared g c room = c.save_played.ensures.prepared (inputs_of c.args.inputs) c.in_ok-played.ensures.ok room
+returns-clause-prepared g c room = c.save_played.ensures.prepared (inputs_of c.args.inputs) c.in_ok-fabric.ensures.ok room

@@ -1,8 +1,9 @@
-use Rattle.std.proofs.Common.{refl, sym, subst}
+use Rattle.std.proofs.Common.{List, length, refl, sym, ap, ◌∙◌, subst}
 use Rattle.std.proofs.lemmas.Result.{err_from_is_err_and}
+use Rattle.pl_inputs.specs.declared.capture.Capture.{Capture}
 use Rattle.pl_inputs.specs.Loaded.{inputs_of}
 use Rattle.pl_playing.specs.Outcomes.{Comes, Moment, texts_of}
-use Rattle.pl_playing.specs.Plays.{answer_of}
+use Rattle.pl_playing.specs.Plays.{IsPlayedTo, answer_of, played_over}
 use Rattle.pl_playing.proofs.Stopped.{unplayed_comes}
 use Rattle.pl_playing.specs.Prepared.{NamesNoFault}
 use Rattle.pl_playing.proofs.Preparing.{unplayed_names_none}
@@ -15,7 +16,7 @@ pub save_played-requires-clause-savable : goal.save_played-requires-clause-savab
 save_played-requires-clause-savable g c = c.in_ok-fabric.ensures.ok.savable
 
 pub save_played-requires-clause-many : goal.save_played-requires-clause-many
-save_played-requires-clause-many g c = c.in_ok-fabric.ensures.ok.many
+save_played-requires-clause-many g c = ap (λ (cs : List Capture). length cs) c.deref.ensures.value ∙ c.in_ok-fabric.ensures.ok.many
 
 pub returns-in_err-fabric-clause-comes : goal.returns-in_err-fabric-clause-comes
 returns-in_err-fabric-clause-comes g c =
@@ -29,7 +30,10 @@ returns-in_err-fabric-clause-comes g c =
     (unplayed_comes g.S.SwitchLogic.rule g.M.ManagerLogic.rule g.H.HostLogic.rule old old (record { same = λ q. refl; reads = refl; writes = refl }) i texts _ c.in_err-fabric.ensures.err))
 
 pub returns-clause-comes : goal.returns-clause-comes
-returns-clause-comes g c = c.save_played.ensures.comes (inputs_of c.args.inputs) c.in_ok-fabric.ensures.ok
+returns-clause-comes g c =
+    let i = inputs_of c.args.inputs in
+    c.save_played.ensures.comes i (subst (λ (cs : List Capture). IsPlayedTo g.S.SwitchLogic.rule g.M.ManagerLogic.rule g.H.HostLogic.rule i (played_over c.in_ok-fabric.fabric cs)) (sym c.deref.ensures.value)
+    c.in_ok-fabric.ensures.ok)
 
 pub returns-in_err-fabric-clause-prepared : goal.returns-in_err-fabric-clause-prepared
 returns-in_err-fabric-clause-prepared g c room =
@@ -38,4 +42,7 @@ returns-in_err-fabric-clause-prepared g c room =
     (subst (λ e. NamesNoFault e) (sym p.2) (unplayed_names_none g.S.SwitchLogic.rule g.M.ManagerLogic.rule g.H.HostLogic.rule (inputs_of c.args.inputs) _ c.in_err-fabric.ensures.err))
 
 pub returns-clause-prepared : goal.returns-clause-prepared
-returns-clause-prepared g c room = c.save_played.ensures.prepared (inputs_of c.args.inputs) c.in_ok-fabric.ensures.ok room
+returns-clause-prepared g c room =
+    let i = inputs_of c.args.inputs in
+    c.save_played.ensures.prepared i (subst (λ (cs : List Capture). IsPlayedTo g.S.SwitchLogic.rule g.M.ManagerLogic.rule g.H.HostLogic.rule i (played_over c.in_ok-fabric.fabric cs)) (sym c.deref.ensures.value)
+    c.in_ok-fabric.ensures.ok) room

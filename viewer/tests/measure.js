@@ -14,7 +14,8 @@ const [K, ENTRIES, TIMES, STEPS] = [24, 150001, 5, 200];
 const median = numbers => [...numbers].sort((a, b) => a - b)[Math.floor(numbers.length / 2)];
 const said = (what, numbers) => {
     const round = number => Math.round(number * 10) / 10;
-    console.log(`${what}: median ${round(median(numbers))} ms, most ${round(Math.max(...numbers))} ms, of ${numbers.length}`);
+    const slow = numbers.filter(number => number > 30).length;
+    console.log(`${what}: median ${round(median(numbers))} ms, most ${round(Math.max(...numbers))} ms, ${slow} of ${numbers.length} above 30 ms`);
 };
 
 const files = () => {

@@ -12,10 +12,10 @@ const { begin } = require("./browser.js");
 const [K, ENTRIES, TIMES, STEPS] = [24, 150001, 5, 200];
 
 const median = numbers => [...numbers].sort((a, b) => a - b)[Math.floor(numbers.length / 2)];
-const said = (what, numbers) => {
+const said = (what, limit, numbers) => {
     const round = number => Math.round(number * 10) / 10;
-    const slow = numbers.filter(number => number > 30).length;
-    console.log(`${what}: median ${round(median(numbers))} ms, most ${round(Math.max(...numbers))} ms, ${slow} of ${numbers.length} above 30 ms`);
+    const slow = numbers.filter(number => number > limit).length;
+    console.log(`${what}: median ${round(median(numbers))} ms, most ${round(Math.max(...numbers))} ms, ${slow} of ${numbers.length} above ${limit} ms`);
 };
 
 const files = () => {
@@ -51,10 +51,10 @@ const main = async () => {
     const browser = await begin(process.argv[2], 1920, 1080);
     try {
         const run = files();
-        said("opening", await openings(browser, run));
-        said("a step", await worked(browser, ENTRIES, 1));
-        said("a step far away", await worked(browser, ENTRIES, 601));
-        said("a step until it is painted", await steps(browser, ENTRIES, 1));
+        said("opening", 2000, await openings(browser, run));
+        said("a step", 30, await worked(browser, ENTRIES, 1));
+        said("a step far away", 30, await worked(browser, ENTRIES, 601));
+        said("a step until it is painted", 30, await steps(browser, ENTRIES, 1));
     } finally {
         await browser.close();
         fs.rmSync(work, { recursive: true, force: true });

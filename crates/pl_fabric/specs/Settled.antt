@@ -12,7 +12,7 @@ use Rattle.pl_logic.specs.AvoidLists.{avoid_list}
 use Rattle.pl_logic.specs.ManagerFacts.{group_at}
 use Rattle.pl_logic.specs.ManagerViews.{ManagerView, is_told_usable, place_of}
 use Rattle.pl_logic.specs.PortRecords.{id_at, is_usable, is_usable_to, place_at, port_of}
-use Rattle.pl_logic.specs.SwitchFacts.{group_of_part, holder_of, is_news, part_of, present_attempt, switch_at_boot}
+use Rattle.pl_logic.specs.SwitchFacts.{group_of_part, holder_of, is_answered, is_news, part_of, present_attempt, switch_at_boot}
 use Rattle.pl_logic.specs.SwitchViews.{SwitchView}
 use Rattle.pl_logic.specs.Trees.{tree_part}
 use Rattle.pl_world.specs.SettledQueues.{HasSettledQueues}
@@ -23,10 +23,6 @@ abbrev pub announced_at : SwitchView → ℕ → Neighbour
 announced_at u q = record { id = u.id; place = u.place; echo = id_at u q }
 
 -- An edge switch without a position proposes one to the aggregation switches above it. What would come of it if it did so again?
-
--- an aggregation switch answers what an edge switch proposes, if a pod has that position
-abbrev pub is_answered : SwitchView → ℕ → ℕ → Bool
-is_answered u q position = is_known u.place.level 1 && is_known (place_at u q).level 0 && nat_lt position (u.k / 2)
 
 abbrev pub is_holder : SwitchId → Option (SwitchId × Bool) → Bool
 is_holder edge None = false

@@ -3,7 +3,7 @@ use Rattle.std.specs.Prelude.{◌≡◌, ◌<◌, ◌≤◌, ℕ, ◌/◌, ◌%�
 use Rattle.std.specs.List.{list_any}
 use Rattle.pl_frame.specs.declared.address.SwitchId.{SwitchId}
 use Rattle.pl_logic.specs.Announcements.{announcement}
-use Rattle.pl_logic.specs.PortRecords.{new_port, port_of}
+use Rattle.pl_logic.specs.PortRecords.{new_port, place_at, port_of}
 use Rattle.pl_layouts.specs.Placement.{is_known, nowhere}
 use Rattle.pl_logic.specs.declared.switch_records.Hold.{Hold}
 use Rattle.pl_logic.specs.SwitchViews.{SwitchView}
@@ -49,6 +49,10 @@ pub record IsAnnounced (v : SwitchView) (port : ℕ) (frame : List ℕ) : Type 0
 abbrev pub present_attempt : SwitchView → Option (ℕ × ℕ)
 present_attempt v =
     if is_known v.place.level 0 && is_none v.place.position then Some (v.attempt, v.proposed) else None
+
+-- an aggregation switch answers what an edge switch proposes, if a pod has that position
+abbrev pub is_answered : SwitchView → ℕ → ℕ → Bool
+is_answered v port position = is_known v.place.level 1 && is_known (place_at v port).level 0 && nat_lt position (v.k / 2)
 
 abbrev pub has_granted : SwitchView → ℕ → Bool
 has_granted v port = list_any (λ p. p == port) v.granted

@@ -15,7 +15,7 @@ use Rattle.pl_wiring.specs.Labels.{IsLabel, switch_count}
 use Rattle.pl_wiring.specs.Plan.{IsPlan}
 use Rattle.pl_logic.specs.declared.switch_records.Hold.{Hold}
 use Rattle.pl_logic.specs.PortRecords.{place_at}
-use Rattle.pl_logic.specs.SwitchFacts.{hold_at}
+use Rattle.pl_logic.specs.SwitchFacts.{hold_at, is_answered}
 use Rattle.pl_logic.specs.SwitchViews.{SwitchView}
 use Rattle.pl_steps.specs.Steps.{SwitchStep, rests}
 use Rattle.pl_switch_rule.specs.Announcing.{ticks}
@@ -29,7 +29,7 @@ use Rattle.pl_places.specs.Told.{IsGoodMessage, has_heard}
 use Rattle.pl_places.proofs.Later.{all_weaker, left_keeps, true_of_itself}
 use Rattle.pl_places.proofs.Neighbours.{neighbour_at, one_peer}
 use Rattle.pl_votes.specs.Voting.{CanTell, aggregation_no, edge_no}
-use Rattle.pl_votes.proofs.AggregationTurns.{is_asked, learnt, same_stance, vote_elsewhere, vote_here, vote_said}
+use Rattle.pl_votes.proofs.AggregationTurns.{learnt, same_stance, vote_elsewhere, vote_here, vote_said}
 use Rattle.pl_votes.proofs.Aside.{Stance, changes, stance}
 use Rattle.pl_votes.proofs.EdgeTurns.{vote_holds}
 use Rattle.pl_votes.proofs.Holding.{after_proposal}
@@ -129,12 +129,12 @@ module _ (f m : ControlPlane) (is : IsPlan f.plan) (placed : ArePlaced f.plan m)
 
     proposal_owes : (id : SwitchId) (p : Proposed) → IsGoodMessage (m.view n).id (m.view n).place (has_heard (m.view n) q) (Proposal id p) →
         Owes f.plan m.view s (hears_proposal (m.view s) port id p)
-    proposal_owes id p good = by (is_asked (m.view s) port p) refl
+    proposal_owes id p good = by (is_answered (m.view s) port p.position) refl
       where
         old : OwesHolds f.plan m.view s (m.view s)
         old = holds_same f.plan m.view m.says t s (m.view s) refl
 
-        level : is_asked (m.view s) port p ≡ true → (m.view n).place.level ≡ Some 0
+        level : is_answered (m.view s) port p.position ≡ true → (m.view n).place.level ≡ Some 0
         level asked =
             let a = and_parts (is_known (m.view s).place.level 1 && is_known (place_at (m.view s) port).level 0) (nat_lt p.position (half (m.view s).k)) asked in
             let b = and_parts (is_known (m.view s).place.level 1) (is_known (place_at (m.view s) port).level 0) a.0 in
@@ -164,7 +164,7 @@ module _ (f m : ControlPlane) (is : IsPlan f.plan) (placed : ArePlaced f.plan m)
               | inr other ↦ subst (AllByRecursion (IsTrueVote f.plan.k m.view pod)) (sym (vote_elsewhere (m.view s) port x id p other)) tt
             ]
 
-        by : (b : Bool) → is_asked (m.view s) port p ≡ b →
+        by : (b : Bool) → is_answered (m.view s) port p.position ≡ b →
             Owes f.plan m.view s (if◌then◌else◌ {A = SwitchStep} b (answers_proposal (frees_others (m.view s) id p.position) port id p) (rests (m.view s)))
         by false asked = quiet_owes (rests (m.view s)) refl refl (λ x. refl)
         by true asked =

@@ -14,6 +14,7 @@ use Rattle.pl_wiring.specs.Labels.{IsLabel, label_of}
 use Rattle.pl_wiring.specs.Plan.{IsPlan}
 use Rattle.pl_wiring.proofs.LabelOrder.{label_of-number_of}
 use Rattle.pl_logic.specs.declared.neighbour.PortRecord.{PortRecord}
+use Rattle.pl_logic.specs.SwitchFacts.{is_answered}
 use Rattle.pl_logic.specs.declared.switch_records.Hold.{Hold}
 use Rattle.pl_logic.specs.PortRecords.{heard_place, new_port}
 use Rattle.pl_logic.specs.SwitchViews.{SwitchView}
@@ -29,7 +30,7 @@ use Rattle.pl_places.specs.Told.{IsGoodMessage, has_heard}
 use Rattle.pl_places.proofs.Later.{left_keeps}
 use Rattle.pl_votes.specs.Pairs.{IsNoProposal, IsRising}
 use Rattle.pl_votes.specs.Voting.{CanTell, IsVoting, aggregation_no, edge_no}
-use Rattle.pl_votes.proofs.AggregationTurns.{answer_to, is_asked, vote_elsewhere, vote_here, vote_said}
+use Rattle.pl_votes.proofs.AggregationTurns.{answer_to, vote_elsewhere, vote_here, vote_said}
 use Rattle.pl_votes.proofs.Aside.{changes}
 use Rattle.pl_votes.proofs.Majority.{one_port_to}
 use Rattle.pl_votes.proofs.Speeches.{sends_none, tick_says}
@@ -54,7 +55,7 @@ silent_heard v port q (Ok (Ldm id m)) said =
     subst (AllByRecursion IsNoProposal) (sym (sends_none q (changes_to v (after_message v port id m)).acts (changes v (after_message v port id m)).unsaid)) tt
 silent_heard v port q (Ok (Vote id vote)) said =
     subst (AllByRecursion IsNoProposal) (sym (sends_none q (changes_to v (after_vote v port vote)).acts (changes v (after_vote v port vote)).unsaid)) tt
-silent_heard v port q (Ok (Proposal id p)) said = by (is_asked v port p)
+silent_heard v port q (Ok (Proposal id p)) said = by (is_answered v port p.position)
   where
     by : (b : Bool) → AllByRecursion IsNoProposal (sends q (if◌then◌else◌ {A = SwitchStep} b (answers_proposal (frees_others v id p.position) port id p) (rests v)).acts)
     by false = tt

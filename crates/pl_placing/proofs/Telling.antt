@@ -14,7 +14,7 @@ use Rattle.pl_layouts.specs.Placement.{is_known}
 use Rattle.pl_logic.specs.declared.neighbour.PortRecord.{PortRecord}
 use Rattle.pl_logic.specs.declared.switch_records.Hold.{Hold}
 use Rattle.pl_logic.specs.PortRecords.{heard_place, new_port, place_at, port_of}
-use Rattle.pl_logic.specs.SwitchFacts.{hold_at}
+use Rattle.pl_logic.specs.SwitchFacts.{hold_at, is_answered}
 use Rattle.pl_logic.specs.SwitchViews.{SwitchView}
 use Rattle.pl_steps.specs.Steps.{SwitchStep, rests}
 use Rattle.pl_switch_rule.specs.Levels.{after_message, changes_to, hears_message, is_of_other_pod}
@@ -22,7 +22,7 @@ use Rattle.pl_switch_rule.specs.Positions.{after_vote, answers_proposal, frees_o
 use Rattle.pl_switch_rule.specs.SwitchRule.{hears_control}
 use Rattle.pl_control_plane.specs.ControlPlanes.{messages_of}
 use Rattle.pl_votes.specs.Pairs.{IsRising}
-use Rattle.pl_votes.proofs.AggregationTurns.{is_asked, learnt}
+use Rattle.pl_votes.proofs.AggregationTurns.{learnt}
 use Rattle.pl_votes.proofs.Aside.{changes}
 use Rattle.pl_votes.proofs.EdgeTurns.{vote_holds}
 use Rattle.pl_placing.specs.Noting.{IsNoted}
@@ -124,7 +124,7 @@ module _ (v : SwitchView) (port : ℕ) (id : SwitchId) where
 
   -- a proposal changes no record
   proposal_ports : (p : Proposed) → (hears_proposal v port id p).view.ports ≡ v.ports
-  proposal_ports p = by (is_asked v port p)
+  proposal_ports p = by (is_answered v port p.position)
     where
       by : (b : Bool) → (if◌then◌else◌ {A = SwitchStep} b (answers_proposal (frees_others v id p.position) port id p) (rests v)).view.ports ≡ v.ports
       by false = refl
@@ -134,7 +134,7 @@ module _ (v : SwitchView) (port : ℕ) (id : SwitchId) where
 
   proposal_there : (p : Proposed) (e : SwitchView) (q : ℕ) (up : List Control) → (id.0 ≡ e.id.0 → ⊥) → IsNoted e v q up → IsNoted e (hears_proposal v port id p).view q up
   proposal_there p e q up apart n =
-      noted_other e v (hears_proposal v port id p).view q up (λ y hold has own. was (is_asked v port p) y hold own has)
+      noted_other e v (hears_proposal v port id p).view q up (λ y hold has own. was (is_answered v port p.position) y hold own has)
       (ap (λ (ps : List PortRecord). (heard_place (get_or ps q new_port).heard).position) (proposal_ports p)) n
     where
       was : (b : Bool) (y : ℕ) (hold : Hold) → hold.edge.0 ≡ e.id.0 →

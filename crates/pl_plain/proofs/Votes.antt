@@ -4,6 +4,7 @@ use Rattle.std.proofs.lemmas.Bool.{and_from, and_parts, false≢true, ne_eqb}
 use Rattle.std.specs.Prelude.{is_some, IfSome, IsSome}
 use Rattle.pl_frame.specs.declared.address.SwitchId.{SwitchId}
 use Rattle.pl_logic.specs.declared.acts.Act.{Act}
+use Rattle.pl_logic.specs.SwitchFacts.{is_answered}
 use Rattle.pl_logic.specs.declared.acts.Act.TheVariants.{Control}
 use Rattle.pl_logic.specs.declared.messages.TreePart.{TreePart}
 use Rattle.pl_logic.specs.declared.switch_records.Hold.{Hold}
@@ -23,11 +24,10 @@ use Rattle.pl_switch_rule.specs.Positions.{after_vote, answers_proposal, counted
 use Rattle.pl_position.specs.Candidacy.{Candidacy, with_candidacy}
 use Rattle.pl_position.specs.Holding.{with_holds}
 use Rattle.pl_ports.specs.Changes.{with_position}
-use Rattle.pl_ports.specs.PortsViews.{PortsView, put_ports}
+use Rattle.pl_ports.specs.PortsViews.{PortsView, ports_alone, put_ports}
 use Rattle.pl_edge.specs.EdgeViews.{EdgeView}
 use Rattle.pl_plain.specs.PlainViews.{plain_view}
 use Rattle.pl_plain.specs.Settling.{PlaceGrows}
-use Rattle.pl_plain.specs.Proposals.{is_answered}
 use Rattle.pl_plain.proofs.Rows.{KeepsSelf}
 
 -- the candidacy of a switch is its part
@@ -48,7 +48,7 @@ vote_counted p₀ p c₀ c h edge avoid parts port vote before after is_counted 
 
 pub proposal_answered : (v : SwitchView) (p : PortsView) (c : Candidacy) (h₀ h : List (Option Hold)) (edge : EdgeView) (avoid : List (SwitchId × ℕ × ℕ)) (parts : List (ℕ × TreePart))
     (port : ℕ) (from : SwitchId) (q : Proposal) (vote : Vote) (out : List Act) →
-    plain_view p c h₀ edge avoid parts ≡ v → is_answered p port q ≡ true →
+    plain_view p c h₀ edge avoid parts ≡ v → is_answered (ports_alone p) port q.position ≡ true →
     ((u : SwitchView) (n : ℕ) → answers_proposal (frees_others (with_holds h₀ u) from q.position) n from q
     ≡ does (with_holds h u) (Control n (control_frame (control.Vote u.id vote)) ∷ [])) →
     IsTaken (hears_proposal v port from q) (plain_view p c h edge avoid parts) out (out ++ Control port (control_frame (control.Vote p.id vote)) ∷ [])
@@ -63,7 +63,7 @@ proposal_answered v p c h₀ h edge avoid parts port from q vote out is answered
 
 pub proposal_ignored : (v : SwitchView) (p : PortsView) (c : Candidacy) (h : List (Option Hold)) (edge : EdgeView) (avoid : List (SwitchId × ℕ × ℕ)) (parts : List (ℕ × TreePart))
     (port : ℕ) (from : SwitchId) (q : Proposal) (out : List Act) →
-    plain_view p c h edge avoid parts ≡ v → is_answered p port q ≡ false → IsTaken (hears_proposal v port from q) (plain_view p c h edge avoid parts) out out
+    plain_view p c h edge avoid parts ≡ v → is_answered (ports_alone p) port q.position ≡ false → IsTaken (hears_proposal v port from q) (plain_view p c h edge avoid parts) out out
 proposal_ignored v p c h edge avoid parts port from q out is ignored =
     let old = plain_view p c h edge avoid parts in
     let whole : rests old ≡ hears_proposal old port from q =

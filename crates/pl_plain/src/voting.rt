@@ -1,6 +1,7 @@
 //! What votes and positions change of the parts of a switch.
 ghost use Rattle.std.specs.Prelude.{◌≡◌, ◌<◌, ◌/◌, ℕ, List, length, IfOk, OnOk};
 ghost use Rattle.pl_logic.specs.declared.messages.TreePart.{TreePart};
+ghost use Rattle.pl_logic.specs.SwitchFacts.{is_answered};
 ghost use Rattle.pl_logic.specs.SwitchViews.{SwitchView};
 ghost use Rattle.pl_layouts.specs.Control.{control_frame};
 ghost use Rattle.pl_layouts.specs.Placement.{is_known};
@@ -10,10 +11,9 @@ ghost use Rattle.pl_steps.specs.Taken.{IsTaken};
 ghost use Rattle.pl_switch_rule.specs.Positions.{after_vote, hears_proposal};
 ghost use Rattle.pl_edge.specs.EdgeViews.{EdgeView};
 ghost use Rattle.pl_plain.specs.PlainViews.{plain_view};
-ghost use Rattle.pl_ports.specs.PortsViews.{put_ports};
+ghost use Rattle.pl_ports.specs.PortsViews.{ports_alone, put_ports};
 ghost use Rattle.pl_position.specs.Candidacy.{with_candidacy, Candidacy};
 ghost use Rattle.pl_position.specs.Holding.{with_holds, AreHeldByIds};
-ghost use Rattle.pl_plain.specs.Proposals.{is_answered};
 ghost use Rattle.pl_plain.specs.Settling.{PlaceGrows};
 
 use pl_frame::{Frame, SwitchId};
@@ -105,7 +105,7 @@ pub(crate) fn answer_proposal(
 // Whether an aggregation switch answers a proposal: an edge switch proposes a position of the pod.
 fn answers(ports: &Ports, port: u8, proposal: &Proposal) -> bool
     requires { port < ports.now.k }
-    ensures { result ≡ is_answered ports.now port proposal.now }
+    ensures { result ≡ is_answered (ports_alone ports.now) port proposal.now.position }
 {
     ports.place().level == Some(1)
         && ports.place_at(port).level == Some(0)

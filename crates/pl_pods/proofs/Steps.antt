@@ -16,7 +16,7 @@ use Rattle.pl_layouts.specs.declared.control.Vote.{Vote as Answer}
 use Rattle.pl_layouts.specs.declared.place.Place.{Place}
 use Rattle.pl_layouts.specs.Placement.{is_known}
 use Rattle.pl_layouts.specs.Votes.{counts, gives_way}
-use Rattle.pl_logic.specs.SwitchFacts.{hold_at}
+use Rattle.pl_logic.specs.SwitchFacts.{hold_at, is_answered}
 use Rattle.pl_logic.specs.SwitchViews.{SwitchView}
 use Rattle.pl_steps.specs.Steps.{SwitchStep, rests}
 use Rattle.pl_switch_rule.specs.Levels.{after_message, changes_to, hears_message, learns_level, learns_pod, notes_edge, share_a_pod, with_message, with_pod}
@@ -28,7 +28,7 @@ use Rattle.pl_control_plane.proofs.Joined.{joined_labels}
 use Rattle.pl_places.specs.Known.{IsZeroOf, pod_of}
 use Rattle.pl_places.specs.Places.{ArePlaced}
 use Rattle.pl_votes.specs.Voting.{FixedAreApart}
-use Rattle.pl_votes.proofs.AggregationTurns.{is_asked, same_stance}
+use Rattle.pl_votes.proofs.AggregationTurns.{same_stance}
 use Rattle.pl_votes.proofs.Aside.{IsAside, Stance, changes}
 use Rattle.pl_journal.specs.Flights.{label_level}
 
@@ -99,7 +99,7 @@ module _ (v : SwitchView) (own : (x : ℕ) → v.place.position ≡ Some x → v
       knows_same s.view.place (aside.stands (own 0 stays)) n position pod
 
 proposal_place : (v : SwitchView) (port : ℕ) (id : SwitchId) (p : Proposed) → (hears_proposal v port id p).view.place ≡ v.place
-proposal_place v port id p = by (is_asked v port p)
+proposal_place v port id p = by (is_answered v port p.position)
   where
     by : (b : Bool) → (if◌then◌else◌ {A = SwitchStep} b (answers_proposal (frees_others v id p.position) port id p) (rests v)).view.place ≡ v.place
     by false = refl

@@ -12,10 +12,10 @@ use Rattle.pl_wiring.proofs.Ends.{at_contained}
 use Rattle.pl_wiring.proofs.LabelOrder.{label_of-number_of}
 use Rattle.pl_wiring.proofs.Linked.{peer_is_switch}
 use Rattle.pl_logic.specs.PortRecords.{heard_place, is_usable, place_at}
-use Rattle.pl_logic.specs.SwitchFacts.{holder_of, is_news, present_attempt}
+use Rattle.pl_logic.specs.SwitchFacts.{holder_of, is_answered, is_news, present_attempt}
 use Rattle.pl_logic.specs.SwitchViews.{SwitchView}
 use Rattle.pl_world.specs.Worlds.{WorldView}
-use Rattle.pl_fabric.specs.Settled.{IsSettled, IsSettledEnd, IsSettledTowards, holds_another, is_answered, would_change, would_change_by}
+use Rattle.pl_fabric.specs.Settled.{IsSettled, IsSettledEnd, IsSettledTowards, holds_another, would_change, would_change_by}
 use Rattle.pl_control_plane.specs.ControlPlanes.{AreJoined, control_plane, no_switch}
 use Rattle.pl_control_plane.proofs.Joined.{joined_there, joined_turned}
 use Rattle.pl_votes.specs.Voting.{aggregation_no, edge_no}

@@ -20,11 +20,11 @@ use Rattle.pl_logic.specs.declared.switch_records.Hold.{Hold}
 use Rattle.pl_logic.specs.declared.acts.Act.{Act}
 use Rattle.pl_logic.specs.Accounting.{IsShaped}
 use Rattle.pl_logic.specs.PortRecords.{is_usable_to, place_at}
-use Rattle.pl_logic.specs.SwitchFacts.{has_granted, hold_at, holder_and_mark, holder_of, is_news, present_attempt}
+use Rattle.pl_logic.specs.SwitchFacts.{has_granted, hold_at, holder_and_mark, holder_of, is_answered, is_news, present_attempt}
 use Rattle.pl_logic.specs.SwitchViews.{SwitchView}
 use Rattle.pl_steps.specs.Steps.{SwitchStep, rests}
 use Rattle.pl_switch_rule.specs.Positions.{after_vote, answers_proposal, counted, fixes_position, freed_but, frees_others, half, hears_proposal, holds_for, is_free_for, is_held_for, is_majority, kept_or_new, moves_on, vote_on, with_granted}
-use Rattle.pl_fabric.specs.Settled.{holds_another, is_another, is_answered, is_holder, would_change, would_change_by}
+use Rattle.pl_fabric.specs.Settled.{holds_another, is_another, is_holder, would_change, would_change_by}
 use Rattle.pl_fabric.proofs.SettledParts.{all_found}
 use Rattle.pl_fabric.proofs.Tests.{any_below, none_below}
 use Rattle.pl_votes.specs.Counting.{AreRising}

@@ -14,7 +14,7 @@ use Rattle.pl_steps.specs.Steps.{SwitchStep, does, rests}
 use Rattle.pl_logic.specs.declared.switch_records.Hold.{Hold}
 use Rattle.pl_logic.specs.SwitchViews.{SwitchView}
 use Rattle.pl_layouts.specs.Votes.{counts, gives_way}
-use Rattle.pl_logic.specs.SwitchFacts.{hold_at}
+use Rattle.pl_logic.specs.SwitchFacts.{hold_at, is_answered}
 
 -- half of the ports of a switch: so many positions are there in a pod, and so many aggregation switches vote
 abbrev pub half : ℕ → ℕ
@@ -62,9 +62,7 @@ answers_proposal v port edge p =
 -- An aggregation switch answers an edge switch that proposes a position of the pod. First it frees what else it holds for it.
 abbrev pub hears_proposal : SwitchView → ℕ → SwitchId → Proposal → SwitchStep
 hears_proposal v port edge p =
-    if is_known v.place.level 1 && is_known (place_at v port).level 0 && nat_lt p.position (half v.k) then
-    answers_proposal (frees_others v edge p.position) port edge p
-    else rests v
+    if is_answered v port p.position then answers_proposal (frees_others v edge p.position) port edge p else rests v
 
 -- An edge switch says that its position is fixed: it is held for it where it is free, and is marked where it is held for it.
 abbrev pub marked_for : SwitchId → Option Hold → Option Hold

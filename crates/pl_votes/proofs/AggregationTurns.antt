@@ -12,7 +12,7 @@ use Rattle.pl_layouts.specs.Placement.{is_known}
 use Rattle.pl_ldp.specs.Writable.{IsId, IsWritable}
 use Rattle.pl_logic.specs.declared.switch_records.Hold.{Hold}
 use Rattle.pl_logic.specs.PortRecords.{place_at}
-use Rattle.pl_logic.specs.SwitchFacts.{hold_at}
+use Rattle.pl_logic.specs.SwitchFacts.{hold_at, is_answered}
 use Rattle.pl_logic.specs.SwitchViews.{SwitchView}
 use Rattle.pl_steps.specs.Steps.{SwitchStep, rests}
 use Rattle.pl_switch_rule.specs.Levels.{after_message, learns_level, learns_pod, with_message}
@@ -96,8 +96,6 @@ vote_attempt edge p (Some hold) = by (hold.edge.0 == edge.0)
     by false = refl
 
 -- What a proposal does: nothing, or the holds change and the vote goes back.
-abbrev pub is_asked : SwitchView → ℕ → Proposed → Bool
-is_asked v port p = is_known v.place.level 1 && is_known (place_at v port).level 0 && nat_lt p.position (half v.k)
 
 -- the votes on a proposal, out of the port it came from and out of others
 pub vote_here : (v : SwitchView) (port : ℕ) (edge : SwitchId) (p : Proposed) →
@@ -118,9 +116,9 @@ module _ (e : Voter) (v : SwitchView) (port : ℕ) (id : SwitchId) (up down : Li
   pub hears_own_proposal : (p : Proposed) → IsId v.id → IsWritable (Proposal id p) → HoldsIds v → length v.holds ≡ half v.k →
       IsGoodPair e (hold_at v) (Proposal id p ∷ up) down →
       IsGoodPair e (hold_at (hears_proposal v port id p).view) up (down ++ unless failed (sends port (hears_proposal v port id p).acts))
-  hears_own_proposal p is w ids many g = by (is_asked v port p) refl
+  hears_own_proposal p is w ids many g = by (is_answered v port p.position) refl
     where
-      answered : (b : Bool) → is_asked v port p ≡ true →
+      answered : (b : Bool) → is_answered v port p.position ≡ true →
           IsGoodPair e (hold_at (after_proposal v id p.position)) up (down ++ unless b (Vote v.id (answer_to v id p) ∷ []))
       answered true asked = down_none e (hold_at (after_proposal v id p.position)) up down
           (hears e p.position (hold_at v) (hold_at (after_proposal v id p.position)) (Proposal id p) up down (λ q names. names) (own_proposes e v id p.position) g)
@@ -132,7 +130,7 @@ module _ (e : Voter) (v : SwitchView) (port : ℕ) (id : SwitchId) (up down : Li
           (grant_holds v id p (subst (λ n. p.position < n) (sym many) within) granted))
           g
 
-      by : (b : Bool) → is_asked v port p ≡ b →
+      by : (b : Bool) → is_answered v port p.position ≡ b →
           IsGoodPair e (hold_at (if◌then◌else◌ {A = SwitchStep} b (answers_proposal (frees_others v id p.position) port id p) (rests v)).view) up
           (down ++ unless failed (sends port (if◌then◌else◌ {A = SwitchStep} b (answers_proposal (frees_others v id p.position) port id p) (rests v)).acts))
       by false asked = down_unless e (hold_at v) up [] failed (down_none e (hold_at v) up) down (head_gone e (hold_at v) (Proposal id p) up down g)
@@ -142,7 +140,7 @@ module _ (e : Voter) (v : SwitchView) (port : ℕ) (id : SwitchId) (up down : Li
   -- and another edge switch
   pub hears_other_proposal : (p : Proposed) (q : ℕ) → (port ≡ q → ⊥) → (id.0 ≡ e.id.0 → ⊥) → IsGoodPair e (hold_at v) up down →
       IsGoodPair e (hold_at (hears_proposal v port id p).view) up (down ++ unless failed (sends q (hears_proposal v port id p).acts))
-  hears_other_proposal p q elsewhere apart g = by (is_asked v port p)
+  hears_other_proposal p q elsewhere apart g = by (is_answered v port p.position)
     where
       by : (b : Bool) →
           IsGoodPair e (hold_at (if◌then◌else◌ {A = SwitchStep} b (answers_proposal (frees_others v id p.position) port id p) (rests v)).view) up
@@ -223,7 +221,7 @@ message_ids v port id m is ids =
         (λ h. ids)
 
 pub proposal_ids : (v : SwitchView) (port : ℕ) (id : SwitchId) (p : Proposed) → IsId id → HoldsIds v → HoldsIds (hears_proposal v port id p).view
-proposal_ids v port id p is ids = by (is_asked v port p)
+proposal_ids v port id p is ids = by (is_answered v port p.position)
   where
     new : (h : Option Hold) → ((hold : Hold) → h ≡ Some hold → IsId hold.edge) → (hold : Hold) → kept_or_new id h ≡ Some hold → IsId hold.edge
     new None old hold same = named (record { edge = id; fixed = false }) hold same is
@@ -240,7 +238,7 @@ proposal_ids v port id p is ids = by (is_asked v port p)
 
 -- a proposal changes no stance
 pub proposal_stance : (v : SwitchView) (port : ℕ) (id : SwitchId) (p : Proposed) → stance (hears_proposal v port id p).view ≡ stance v
-proposal_stance v port id p = by (is_asked v port p)
+proposal_stance v port id p = by (is_answered v port p.position)
   where
     by : (b : Bool) → stance (if◌then◌else◌ {A = SwitchStep} b (answers_proposal (frees_others v id p.position) port id p) (rests v)).view ≡ stance v
     by false = refl

@@ -14,7 +14,7 @@ use Rattle.pl_layouts.specs.Control.{sender_of}
 use Rattle.pl_ldp.specs.Writable.{IsId, IsWritable}
 use Rattle.pl_logic.specs.declared.acts.Act.{Act}
 use Rattle.pl_logic.specs.declared.switch_records.Hold.{Hold}
-use Rattle.pl_logic.specs.SwitchFacts.{hold_at}
+use Rattle.pl_logic.specs.SwitchFacts.{hold_at, is_answered}
 use Rattle.pl_logic.specs.SwitchViews.{SwitchView}
 use Rattle.pl_steps.specs.Steps.{SwitchStep, rests}
 use Rattle.pl_switch_rule.specs.Announcing.{ticks}
@@ -24,7 +24,7 @@ use Rattle.pl_switch_rule.specs.SwitchRule.{hears_control}
 use Rattle.pl_control_plane.specs.ControlPlanes.{messages_of, sends, unless}
 use Rattle.pl_votes.specs.Counting.{IsCounting, LeadsUp}
 use Rattle.pl_votes.specs.Pairs.{IsGoodPair, Voter, voter_of}
-use Rattle.pl_votes.proofs.AggregationTurns.{HoldsIds, answer_to, down_none, down_tick, down_unless, hears_other_message, hears_other_proposal, hears_own_message, hears_own_proposal, is_asked, message_ids, proposal_ids, proposal_stance, same_stance, vote_elsewhere, vote_here, vote_said}
+use Rattle.pl_votes.proofs.AggregationTurns.{HoldsIds, answer_to, down_none, down_tick, down_unless, hears_other_message, hears_other_proposal, hears_own_message, hears_own_proposal, message_ids, proposal_ids, proposal_stance, same_stance, vote_elsewhere, vote_here, vote_said}
 use Rattle.pl_votes.proofs.Aside.{IsMild, changes, stance}
 use Rattle.pl_votes.proofs.EdgeTurns.{counts_votes, same_counting, same_voter, up_none, up_tick, up_unless, up_vote, vote_holds, votes_here, votes_there}
 use Rattle.pl_votes.proofs.PairMoves.{answer_gone, head_gone}
@@ -161,7 +161,7 @@ hearing_place v port id m is =
 -- what is said out of a port where a proposal is heard: nothing, or the vote
 proposal_says : (P : List Control → Type 0) (v : SwitchView) (port q : ℕ) (id : SwitchId) (p : Proposed) → IsId v.id → IsWritable (Proposal id p) → HoldsIds v →
     P [] → P (Vote v.id (answer_to v id p) ∷ []) → P (sends q (hears_proposal v port id p).acts)
-proposal_says P v port q id p is w ids none vote = by (is_asked v port p)
+proposal_says P v port q id p is w ids none vote = by (is_answered v port p.position)
   where
     said : (port ≡ q → ⊥) → P (sends q (answers_proposal (frees_others v id p.position) port id p).acts)
     said other = subst P (sym (vote_elsewhere v port q id p other)) none

@@ -1,6 +1,6 @@
 -- Parts of a step of a switch that keep its addresses in order, and how they go together.
-use Rattle.std.proofs.Common.{◌≡◌, ◌≤◌, ◌+◌, ℕ, arith, inl, inr, Bool, true, false, cond, if◌then◌else◌, get_or, List, [], ◌∷◌, ◌++◌, map, length, Option, Some, None, refl, sym, ap, subst, ◌∙◌, append_assoc}
-use Rattle.std.specs.List.{AllByRecursion, flat_map}
+use Rattle.std.proofs.Common.{◌≡◌, ◌≤◌, ◌+◌, ℕ, arith, inl, inr, Bool, true, false, if◌then◌else◌, get_or, List, [], ◌∷◌, ◌++◌, length, Option, Some, None, refl, sym, ap, subst, ◌∙◌, append_assoc}
+use Rattle.std.specs.List.{AllByRecursion}
 use Rattle.std.proofs.lemmas.Bool.{cases_Bool, cases_lt}
 use Rattle.std.proofs.lemmas.Option.{none-some}
 use Rattle.pl_frame.specs.declared.address.Ip4.{Ip4}
@@ -34,13 +34,7 @@ told_by (act ∷ acts) = told_by acts
 pub told_append : (xs ys : List Act) → told_by (xs ++ ys) ≡ told_by xs ++ told_by ys
 told_append [] ys = refl
 told_append (act.Tell told ∷ xs) ys = ap (λ ts. told ∷ ts) (told_append xs ys)
-told_append (act.Control port frame ∷ xs) ys = told_append xs ys
-told_append (act.Grant pmac amac ∷ xs) ys = told_append xs ys
-told_append (act.Make frame ∷ xs) ys = told_append xs ys
-told_append (act.Redirect old new ∷ xs) ys = told_append xs ys
-told_append (act.Pass port frame ∷ xs) ys = told_append xs ys
-told_append (act.Take ∷ xs) ys = told_append xs ys
-told_append (act.Drop cause ∷ xs) ys = told_append xs ys
+told_append (a ∷ xs) ys = told_append xs ys
 
 -- an act that tells the manager of no address
 abbrev pub IsSilentWord : ToManager → Type 0
@@ -66,25 +60,8 @@ silent_word own f (tell.Members group any) is = tt
 silent_words : (own : Mac → Option Ip4) (f : Pmac → Option Grant) (acts : List Act) → AreSilent acts → AllByRecursion (IsGoodWord own f) (told_by acts)
 silent_words own f [] are = tt
 silent_words own f (act.Tell told ∷ acts) are = (silent_word own f told are.0, silent_words own f acts are.1)
-silent_words own f (act.Control port frame ∷ acts) are = silent_words own f acts are.1
 silent_words own f (act.Grant pmac amac ∷ acts) are = absurd are.0
-silent_words own f (act.Make frame ∷ acts) are = silent_words own f acts are.1
-silent_words own f (act.Redirect old new ∷ acts) are = silent_words own f acts are.1
-silent_words own f (act.Pass port frame ∷ acts) are = silent_words own f acts are.1
-silent_words own f (act.Take ∷ acts) are = silent_words own f acts are.1
-silent_words own f (act.Drop cause ∷ acts) are = silent_words own f acts are.1
-
-pub silent_if : (test : Bool) (xs ys : List Act) → AreSilent xs → AreSilent ys → AreSilent (cond test xs ys)
-silent_if true xs ys a b = a
-silent_if false xs ys a b = b
-
-pub silent_flat_map : {X : Type 0} (f : X → List Act) (xs : List X) → ((x : X) → AreSilent (f x)) → AreSilent (flat_map f xs)
-silent_flat_map f [] each = tt
-silent_flat_map f (x ∷ xs) each = all_append IsSilent (f x) (flat_map f xs) (each x) (silent_flat_map f xs each)
-
-pub silent_map : {X : Type 0} (f : X → Act) (xs : List X) → ((x : X) → IsSilent (f x)) → AreSilent (map f xs)
-silent_map f [] each = tt
-silent_map f (x ∷ xs) each = (each x, silent_map f xs each)
+silent_words own f (a ∷ acts) are = silent_words own f acts are.1
 
 -- ---- a part that leaves addresses alone
 pub record IsAside (v : SwitchView) (s : SwitchStep) : Type 0 where
@@ -106,10 +83,6 @@ aside_then v s next a each = let b = each s.view in record {
   silent = all_append IsSilent s.acts (next s.view).acts a.silent b.silent;
 }
 
-pub aside_either : (v : SwitchView) (test : Bool) (s t : SwitchStep) → IsAside v s → IsAside v t → IsAside v (if test then s else t)
-aside_either v true s t a b = a
-aside_either v false s t a b = b
-
 -- ---- what was granted stays granted, and what is granted was not
 -- an address that is granted now was granted to nobody before, and is granted to this host then
 abbrev pub IsNewGrant : SwitchView → SwitchView → Act → Type 0
@@ -125,13 +98,7 @@ grant_acts x (act ∷ acts) = grant_acts x acts
 grant_acts_append : (x : Pmac) (a b : List Act) → grant_acts x (a ++ b) ≡ grant_acts x a + grant_acts x b
 grant_acts_append x [] b = omega arith
 grant_acts_append x (act.Grant y mac ∷ a) b = let rest = grant_acts_append x a b in omega (arith, rest)
-grant_acts_append x (act.Tell told ∷ a) b = grant_acts_append x a b
-grant_acts_append x (act.Control port frame ∷ a) b = grant_acts_append x a b
-grant_acts_append x (act.Make frame ∷ a) b = grant_acts_append x a b
-grant_acts_append x (act.Redirect old new ∷ a) b = grant_acts_append x a b
-grant_acts_append x (act.Pass port frame ∷ a) b = grant_acts_append x a b
-grant_acts_append x (act.Take ∷ a) b = grant_acts_append x a b
-grant_acts_append x (act.Drop cause ∷ a) b = grant_acts_append x a b
+grant_acts_append x (act ∷ a) b = grant_acts_append x a b
 
 pub record Grows (v : SwitchView) (s : SwitchStep) : Type 0 where
   pub once : (x : Pmac) → grant_acts x s.acts ≤ 1
@@ -154,24 +121,12 @@ some_grant v w x (act.Grant y mac ∷ acts) all some = elim (cases_Bool (same_pm
       some_grant v w x acts all.1
       (let sum : (if same_pmac y x then 1 else 0) + grant_acts x acts ≡ 0 + grant_acts x acts = ap (λ b. (if b then 1 else 0) + grant_acts x acts) other in omega (arith, some, sum))
 ]
-some_grant v w x (act.Tell told ∷ acts) all some = some_grant v w x acts all.1 some
-some_grant v w x (act.Control port frame ∷ acts) all some = some_grant v w x acts all.1 some
-some_grant v w x (act.Make frame ∷ acts) all some = some_grant v w x acts all.1 some
-some_grant v w x (act.Redirect old new ∷ acts) all some = some_grant v w x acts all.1 some
-some_grant v w x (act.Pass port frame ∷ acts) all some = some_grant v w x acts all.1 some
-some_grant v w x (act.Take ∷ acts) all some = some_grant v w x acts all.1 some
-some_grant v w x (act.Drop cause ∷ acts) all some = some_grant v w x acts all.1 some
+some_grant v w x (a ∷ acts) all some = some_grant v w x acts all.1 some
 
 silent_counts : (x : Pmac) (acts : List Act) → AreSilent acts → grant_acts x acts ≡ 0
 silent_counts x [] are = refl
 silent_counts x (act.Grant y mac ∷ acts) are = absurd are.0
-silent_counts x (act.Tell told ∷ acts) are = silent_counts x acts are.1
-silent_counts x (act.Control port frame ∷ acts) are = silent_counts x acts are.1
-silent_counts x (act.Make frame ∷ acts) are = silent_counts x acts are.1
-silent_counts x (act.Redirect old new ∷ acts) are = silent_counts x acts are.1
-silent_counts x (act.Pass port frame ∷ acts) are = silent_counts x acts are.1
-silent_counts x (act.Take ∷ acts) are = silent_counts x acts are.1
-silent_counts x (act.Drop cause ∷ acts) are = silent_counts x acts are.1
+silent_counts x (a ∷ acts) are = silent_counts x acts are.1
 
 never_before : (v w : SwitchView) → KeepsGrantees (λ x. granted v x) (λ x. granted w x) → (x : Pmac) → granted w x ≡ None → granted v x ≡ None
 never_before v w stays x none = by (granted v x) refl
@@ -184,35 +139,17 @@ never_before v w stays x none = by (granted v x) refl
 seen_from : (u v w : SwitchView) → KeepsGrantees (λ x. granted u x) (λ x. granted v x) → (acts : List Act) → AllByRecursion (IsNewGrant v w) acts → AllByRecursion (IsNewGrant u w) acts
 seen_from u v w stays [] all = tt
 seen_from u v w stays (act.Grant x mac ∷ acts) all = ((never_before u v stays x all.0.0, all.0.1), seen_from u v w stays acts all.1)
-seen_from u v w stays (act.Tell told ∷ acts) all = (tt, seen_from u v w stays acts all.1)
-seen_from u v w stays (act.Control port frame ∷ acts) all = (tt, seen_from u v w stays acts all.1)
-seen_from u v w stays (act.Make frame ∷ acts) all = (tt, seen_from u v w stays acts all.1)
-seen_from u v w stays (act.Redirect old new ∷ acts) all = (tt, seen_from u v w stays acts all.1)
-seen_from u v w stays (act.Pass port frame ∷ acts) all = (tt, seen_from u v w stays acts all.1)
-seen_from u v w stays (act.Take ∷ acts) all = (tt, seen_from u v w stays acts all.1)
-seen_from u v w stays (act.Drop cause ∷ acts) all = (tt, seen_from u v w stays acts all.1)
+seen_from u v w stays (a ∷ acts) all = (tt, seen_from u v w stays acts all.1)
 
 seen_later : (v w z : SwitchView) → KeepsGrantees (λ x. granted w x) (λ x. granted z x) → (acts : List Act) → AllByRecursion (IsNewGrant v w) acts → AllByRecursion (IsNewGrant v z) acts
 seen_later v w z stays [] all = tt
 seen_later v w z stays (act.Grant x mac ∷ acts) all = ((all.0.0, stays x mac all.0.1), seen_later v w z stays acts all.1)
-seen_later v w z stays (act.Tell told ∷ acts) all = (tt, seen_later v w z stays acts all.1)
-seen_later v w z stays (act.Control port frame ∷ acts) all = (tt, seen_later v w z stays acts all.1)
-seen_later v w z stays (act.Make frame ∷ acts) all = (tt, seen_later v w z stays acts all.1)
-seen_later v w z stays (act.Redirect old new ∷ acts) all = (tt, seen_later v w z stays acts all.1)
-seen_later v w z stays (act.Pass port frame ∷ acts) all = (tt, seen_later v w z stays acts all.1)
-seen_later v w z stays (act.Take ∷ acts) all = (tt, seen_later v w z stays acts all.1)
-seen_later v w z stays (act.Drop cause ∷ acts) all = (tt, seen_later v w z stays acts all.1)
+seen_later v w z stays (a ∷ acts) all = (tt, seen_later v w z stays acts all.1)
 
 silent_grants : (v w : SwitchView) (acts : List Act) → AreSilent acts → AllByRecursion (IsNewGrant v w) acts
 silent_grants v w [] are = tt
 silent_grants v w (act.Grant x mac ∷ acts) are = absurd are.0
-silent_grants v w (act.Tell told ∷ acts) are = (tt, silent_grants v w acts are.1)
-silent_grants v w (act.Control port frame ∷ acts) are = (tt, silent_grants v w acts are.1)
-silent_grants v w (act.Make frame ∷ acts) are = (tt, silent_grants v w acts are.1)
-silent_grants v w (act.Redirect old new ∷ acts) are = (tt, silent_grants v w acts are.1)
-silent_grants v w (act.Pass port frame ∷ acts) are = (tt, silent_grants v w acts are.1)
-silent_grants v w (act.Take ∷ acts) are = (tt, silent_grants v w acts are.1)
-silent_grants v w (act.Drop cause ∷ acts) are = (tt, silent_grants v w acts are.1)
+silent_grants v w (a ∷ acts) are = (tt, silent_grants v w acts are.1)
 
 pub grows_from : (u v : SwitchView) (s : SwitchStep) → KeepsGrantees (λ x. granted u x) (λ x. granted v x) → Grows v s → Grows u s
 grows_from u v s stays g = record { once = g.once; stays = λ x mac is. g.stays x mac (stays x mac is); fresh = seen_from u v s.view stays s.acts g.fresh }

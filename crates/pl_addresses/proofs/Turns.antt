@@ -54,13 +54,7 @@ more_bounds plan x t (act.Grant y mac ∷ acts) = by (host_of plan mac) (λ o. m
         (t x ≤ times_after plan (granted_more t y o) acts x) × (times_after plan (granted_more t y o) acts x ≤ t x + ((if same_pmac y x then 1 else 0) + grant_acts x acts))
     by None rest = let two = rest None in let low = two.0 in let high = two.1 in (low, omega (arith, high))
     by (Some h) rest = let two = rest (Some h) in let low = two.0 in let high = two.1 in (omega (arith, low), omega (arith, high))
-more_bounds plan x t (act.Tell told ∷ acts) = more_bounds plan x t acts
-more_bounds plan x t (act.Control port frame ∷ acts) = more_bounds plan x t acts
-more_bounds plan x t (act.Make frame ∷ acts) = more_bounds plan x t acts
-more_bounds plan x t (act.Redirect old new ∷ acts) = more_bounds plan x t acts
-more_bounds plan x t (act.Pass port frame ∷ acts) = more_bounds plan x t acts
-more_bounds plan x t (act.Take ∷ acts) = more_bounds plan x t acts
-more_bounds plan x t (act.Drop cause ∷ acts) = more_bounds plan x t acts
+more_bounds plan x t (a ∷ acts) = more_bounds plan x t acts
 
 -- it was not granted before where a switch grants it now, and is granted then
 once_then : (switches : List SwitchView) (s : ℕ) (v after : SwitchView) (x : Pmac) (before now more : ℕ) → slice_get switches s ≡ Some v → AreApart (set switches s after) →

@@ -1,14 +1,13 @@
 -- What an edge switch does with a frame of a host that is served there: it learns what is new, and sends the frame in.
-use Rattle.std.proofs.Common.{◌≡◌, ℕ, zero, suc, ◌+◌, ◌-◌, ◌<◌, ◌≤◌, ◌==◌, ◌&&◌, ◌||◌, not, Bool, true, false, cond, if◌then◌else◌, List, [], ◌∷◌, ◌++◌, length, Option, Some, None, is_none, is_some, slice_get, refl, sym, ap, ◌∙◌, subst}
+use Rattle.std.proofs.Common.{◌≡◌, ℕ, zero, suc, ◌+◌, ◌-◌, ◌≤◌, ◌==◌, ◌&&◌, ◌||◌, not, Bool, true, false, cond, if◌then◌else◌, List, [], ◌∷◌, ◌++◌, length, Option, Some, None, is_none, is_some, slice_get, refl, sym, ap, ◌∙◌, subst}
 use Rattle.std.specs.List.{position_from}
 use Rattle.std.proofs.lemmas.Slice.Eq.{bytes_eq-Decides}
 use Rattle.std.proofs.lemmas.Bool.{and_from, and_parts, and_right, cond-false, cond-true, cond_both, or_from, or_parts}
-use Rattle.pl_frame.specs.declared.address.Ip4.{Ip4}
 use Rattle.pl_frame.specs.declared.address.Mac.{Mac}
-use Rattle.pl_frame.specs.Ethernet.{destination_of, source_of, with_destination}
+use Rattle.pl_frame.specs.Ethernet.{destination_of, source_of}
 use Rattle.pl_arp.specs.declared.packet.Arp.{Arp}
 use Rattle.pl_pmac.specs.declared.pmac.Pmac.{Pmac}
-use Rattle.pl_pmac.specs.Pmac.{mac_of, pmac_of}
+use Rattle.pl_pmac.specs.Pmac.{pmac_of}
 use Rattle.pl_layouts.specs.Control.{is_control}
 use Rattle.pl_layouts.specs.Equality.{same_mac}
 use Rattle.pl_layouts.specs.Frames.{HasSixBytes, arriving, is_arp, is_takeable, is_taken_packet, packet_in}
@@ -19,15 +18,12 @@ use Rattle.pl_journal.specs.declared.cause.Cause.TheVariants.{BadArp, NotPlaced,
 use Rattle.pl_logic.specs.declared.acts.Act.{Act}
 use Rattle.pl_logic.specs.declared.acts.Act.TheVariants.{Drop, Pass}
 use Rattle.pl_logic.specs.declared.switch_records.Grant.{Grant}
-use Rattle.pl_logic.specs.declared.trap.Trap.{Trap}
-use Rattle.pl_logic.specs.Accounting.{IsShaped}
 use Rattle.pl_logic.specs.PortRecords.{is_open_to_hosts, port_of}
 use Rattle.pl_logic.specs.SwitchInputs.SwitchInput.{Comes}
 use Rattle.pl_logic.specs.SwitchViews.{SwitchView}
 use Rattle.pl_steps.specs.Steps.{SwitchStep, does, ◌▹◌}
-use Rattle.pl_switch_rule.specs.declared.came.Came.{Came}
 use Rattle.pl_switch_rule.specs.declared.came.Came.TheVariants.{FromHost}
-use Rattle.pl_switch_rule.specs.Delivering.{addresses, arrives_home, begins, comes_home, delivers, delivers_or_redirects, delivers_to, destination, goes_on, last_trap, newer_address, tells_newer, tells_sender, trap_for}
+use Rattle.pl_switch_rule.specs.Delivering.{arrives_home, destination}
 use Rattle.pl_switch_rule.specs.Forwarding.{Choice, candidates_by, forwards, leaves_by}
 use Rattle.pl_switch_rule.specs.Granting.{grant_number, granted, grants_at, has_no_address, in_use, is_local, learns_source}
 use Rattle.pl_switch_rule.specs.GroupForwarding.{forwards_group}
@@ -35,62 +31,12 @@ use Rattle.pl_switch_rule.specs.Intake.{comes_from_host, hears_members, is_for_s
 use Rattle.pl_switch_rule.specs.Levels.{finds_host}
 use Rattle.pl_switch_rule.specs.SwitchRule.{comes_from_switch, control_comes, data_comes, switch_step}
 use Rattle.pl_switch_rule.proofs.DataFrames.{six_of_pmac}
-use Rattle.pl_switch_rule.proofs.GrantingParts.{quiet_learns_source}
-use Rattle.pl_switch_rule.proofs.LevelParts.{quiet_finds_host}
-use Rattle.pl_switch_rule.proofs.StepParts.{IsQuiet, quiet_then_quiet}
+use Rattle.pl_switch_rule.proofs.RowActs.{ChangeActs, GrantActs, changes_acts, learns_source_acts}
+use Rattle.pl_switch_rule.proofs.RowViews.{Stays, sends_in_stays, with_host}
+use Rattle.pl_switch_rule.proofs.StepParts.{all_append}
 use Rattle.pl_arrival.proofs.Words.{known_is}
-use Rattle.pl_arrival.proofs.Landing.{AreMild, silent_is_mild}
+use Rattle.pl_arrival.proofs.Landing.{AreMild, IsMild}
 use Rattle.pl_arrival.proofs.Passing.{arrives}
-
--- ---- what is sent in leaves the switch as it is
-abbrev Stays : SwitchView → SwitchStep → Type 0
-Stays v step = step.view ≡ v
-
-leaves_view : (v : SwitchView) (frame : List ℕ) (o : Option ℕ) → (leaves_by v frame o).view ≡ v
-leaves_view v frame None = refl
-leaves_view v frame (Some port) = refl
-
-delivers_view : (v : SwitchView) (address : Pmac) (frame : List ℕ) (o : Option Grant) → (delivers_to v address frame o).view ≡ v
-delivers_view v address frame None = refl
-delivers_view v address frame (Some grant) = refl
-
-forwards_view : (choose : Choice) (v : SwitchView) (came : Option Came) (frame : List ℕ) → (forwards choose v came frame).view ≡ v
-forwards_view choose v came frame = leaves_view v frame (choose (candidates_by v (pmac_of (destination_of frame)) came) frame)
-
-goes_on_view : (choose : Choice) (v : SwitchView) (frame : List ℕ) → (goes_on choose v frame).view ≡ v
-goes_on_view choose v frame =
-    cond_both (is_local v (destination frame)) (delivers v frame) (forwards choose v (Some FromHost) frame) (Stays v)
-    (λ own. delivers_view v (destination frame) frame (granted v (destination frame))) (λ other. forwards_view choose v (Some FromHost) frame)
-
-home_view : (choose : Choice) (v : SwitchView) (frame : List ℕ) (o : Option Trap) → (delivers_or_redirects choose v frame o).view ≡ v
-home_view choose v frame None = delivers_view v (destination frame) frame (granted v (destination frame))
-home_view choose v frame (Some trap) = goes_on_view choose v (with_destination frame (mac_of (last_trap (addresses v) v trap).new))
-
-begins_view : (choose : Choice) (v : SwitchView) (frame : List ℕ) → (begins choose v frame).view ≡ v
-begins_view choose v frame =
-    cond_both (is_local v (destination frame)) (comes_home choose v frame) (forwards choose v (Some FromHost) frame) (Stays v)
-    (λ own. home_view choose v frame (trap_for v (destination frame))) (λ other. forwards_view choose v (Some FromHost) frame)
-
-newer_view : (choose : Choice) (frame : List ℕ) (new : Pmac) (o : Option Ip4) (v : SwitchView) → (tells_newer choose frame new o v).view ≡ v
-newer_view choose frame new None v = refl
-newer_view choose frame new (Some ip) v = begins_view choose v (newer_address frame new ip)
-
-sender_view : (choose : Choice) (frame : List ℕ) (o : Option Trap) (v : SwitchView) → (tells_sender choose frame o v).view ≡ v
-sender_view choose frame None v = refl
-sender_view choose frame (Some trap) v =
-    let last = last_trap (addresses v) v trap in
-    cond_both (is_arp frame) (does v []) (tells_newer choose frame last.new last.ip v) (Stays v) (λ arp. refl) (λ other. newer_view choose frame last.new last.ip v)
-
-arrives_view : (choose : Choice) (v : SwitchView) (frame : List ℕ) → (arrives_home choose v frame).view ≡ v
-arrives_view choose v frame =
-    sender_view choose frame (trap_for v (destination frame)) (comes_home choose v frame).view ∙ home_view choose v frame (trap_for v (destination frame))
-
-sends_view : (choose : Choice) (frame : List ℕ) (v : SwitchView) → (sends_in choose frame v).view ≡ v
-sends_view choose frame v =
-    let other : SwitchStep = if is_local v (destination frame) then arrives_home choose v frame else forwards choose v (Some FromHost) frame in
-    cond_both (is_group (destination_of frame)) (forwards_group v (Some FromHost) frame) other (Stays v) (λ group. refl)
-    (λ one. cond_both (is_local v (destination frame)) (arrives_home choose v frame) (forwards choose v (Some FromHost) frame) (Stays v)
-    (λ own. arrives_view choose v frame) (λ away. forwards_view choose v (Some FromHost) frame))
 
 -- ---- a host that has an address in use at the port
 pub record HasInUse (v : SwitchView) (port : ℕ) (amac : Mac) : Type 0 where
@@ -174,7 +120,7 @@ module _ (choose : Choice) (port : ℕ) (frame : List ℕ) (readable : (is_arp f
       cond_both (has_no_address v port (source_of frame)) (does v (Drop Spent ∷ [])) (takes_in choose port frame v) (Stays v) (λ spent. refl)
       (λ has. ap (λ (s : SwitchStep). s.view) (taken_in v)
       ∙ cond_both (not (is_placed v.place)) (does v (Drop NotPlaced ∷ [])) (sends_in choose (with_pmac v port frame) v) (Stays v) (λ unplaced. refl)
-      (λ placed. sends_view choose (with_pmac v port frame) v))
+      (λ placed. sends_in_stays choose (with_pmac v port frame) v))
 
   sent_in : (v : SwitchView) → HasInUse v port (source_of frame) → takes_in_or_spent choose port frame v ≡ sends_in choose (with_pmac v port frame) v
   sent_in v is =
@@ -193,18 +139,21 @@ module _ (choose : Choice) (port : ℕ) (frame : List ℕ) (readable : (is_arp f
     pub acts : (switch_step choose v (Comes port frame)).acts
         ≡ mild ++ (sends_in choose (with_pmac (switch_step choose v (Comes port frame)).view port frame) (switch_step choose v (Comes port frame)).view).acts
 
-  pub enters : (v : SwitchView) → IsShaped v → port < v.k → 14 ≤ length frame → is_control frame ≡ false → is_open_to_hosts (port_of v port) ≡ true →
+  pub enters : (v : SwitchView) → is_control frame ≡ false → is_open_to_hosts (port_of v port) ≡ true →
       (is_known v.place.level 1 || is_known v.place.level 2) ≡ false → HasInUse (switch_step choose v (Comes port frame)).view port (source_of frame) → IsEntered v
-  enters v shaped within long data_frame accepts edge is = record {
+  enters v data_frame accepts edge is = record {
     mild = (hears v).acts;
-    all = silent_is_mild (hears v).acts quiet.silent;
+    all = all_append IsMild (finds_host v port).acts (learns_source (finds_host v port).view port frame).acts
+        (changes_acts IsMild mild_grants v (with_host v port) mild_change) (learns_source_acts IsMild mild_grants (finds_host v port).view port frame);
     acts = ap (λ (s : SwitchStep). s.acts) step ∙ ap (λ (s : SwitchStep). (hears v).acts ++ s.acts) (sent_in (hears v).view is_learnt)
         ∙ ap (λ w. (hears v).acts ++ (sends_in choose (with_pmac w port frame) w).acts) (sym view);
   }
     where
-      quiet : IsQuiet v (hears v)
-      quiet = quiet_then_quiet v (finds_host v port) (λ w. learns_source w port frame) (quiet_finds_host v port shaped)
-          (λ w same. quiet_learns_source w port frame same.shaped (subst (λ k. port < k) (sym same.k) within) long)
+      mild_grants : GrantActs IsMild
+      mild_grants = record { granted = λ address amac. tt; learnt = λ address amac ip. tt }
+
+      mild_change : ChangeActs (with_host v port).place IsMild
+      mild_change = record { placed = tt; linked = λ neighbour usable. tt; wanted = λ position. tt }
 
       step : switch_step choose v (Comes port frame) ≡ (hears v) ▹ takes_in_or_spent choose port frame
       step =

@@ -1,5 +1,5 @@
 -- A frame that a switch passes on by a port whose link is live waits there then, whatever else the switch told and granted before.
-use Rattle.std.proofs.Common.{◌≡◌, ℕ, ◌<◌, ◌&&◌, not, Bool, true, false, if◌then◌else◌, List, [], ◌∷◌, ◌++◌, length, set, refl, sym, ap, ◌∙◌, subst, true≢false}
+use Rattle.std.proofs.Common.{◌≡◌, ℕ, ◌<◌, ◌&&◌, not, Bool, false, if◌then◌else◌, List, [], ◌∷◌, ◌++◌, length, set, refl, sym, ap, ◌∙◌, subst}
 use Rattle.std.specs.List.{AllByRecursion}
 use Rattle.pl_wiring.specs.Index.{port_index}
 use Rattle.pl_wiring.specs.LiveLinks.{is_live_at}
@@ -7,8 +7,8 @@ use Rattle.pl_wiring.specs.Peers.{peer_of}
 use Rattle.pl_journal.specs.Places.{is_host_port}
 use Rattle.pl_logic.specs.declared.acts.Act.{Act}
 use Rattle.pl_logic.specs.declared.acts.Act.TheVariants as act
-use Rattle.pl_logic.specs.Accounting.{Speech, speech, speech_after}
-use Rattle.pl_logic.specs.Accounting.Speech.{Ended, Passed, Redirected, Silent, Waiting, Wrong}
+use Rattle.pl_logic.specs.Accounting.{speech}
+use Rattle.pl_logic.specs.Accounting.Speech.{Waiting}
 use Rattle.pl_logic.specs.SwitchInputs.{SwitchInput, SwitchRule}
 use Rattle.pl_logic.proofs.Among.{IsAmong}
 use Rattle.pl_queues.specs.Queues.{items_at, put_at}
@@ -31,90 +31,13 @@ IsMild a = ⊥
 abbrev pub AreMild : List Act → Type 0
 AreMild acts = AllByRecursion IsMild acts
 
--- once something was said of a frame, something was said
-has_spoken : Speech → Bool
-has_spoken Silent = false
-has_spoken Waiting = true
-has_spoken Redirected = true
-has_spoken Passed = true
-has_spoken Ended = true
-has_spoken Wrong = true
-
-spoken : (x : Speech) (a : Act) → has_spoken x ≡ true → has_spoken (speech_after x a) ≡ true
-unfolding has_spoken
-spoken Silent a h = absurd (true≢false (sym h))
-spoken Waiting (act.Control port frame) h = refl
-spoken Waiting (act.Tell told) h = refl
-spoken Waiting (act.Grant pmac amac) h = refl
-spoken Waiting (act.Make frame) h = refl
-spoken Waiting (act.Redirect old new) h = refl
-spoken Waiting (act.Pass port frame) h = refl
-spoken Waiting act.Take h = refl
-spoken Waiting (act.Drop cause) h = refl
-spoken Redirected (act.Control port frame) h = refl
-spoken Redirected (act.Tell told) h = refl
-spoken Redirected (act.Grant pmac amac) h = refl
-spoken Redirected (act.Make frame) h = refl
-spoken Redirected (act.Redirect old new) h = refl
-spoken Redirected (act.Pass port frame) h = refl
-spoken Redirected act.Take h = refl
-spoken Redirected (act.Drop cause) h = refl
-spoken Passed (act.Control port frame) h = refl
-spoken Passed (act.Tell told) h = refl
-spoken Passed (act.Grant pmac amac) h = refl
-spoken Passed (act.Make frame) h = refl
-spoken Passed (act.Redirect old new) h = refl
-spoken Passed (act.Pass port frame) h = refl
-spoken Passed act.Take h = refl
-spoken Passed (act.Drop cause) h = refl
-spoken Ended (act.Control port frame) h = refl
-spoken Ended (act.Tell told) h = refl
-spoken Ended (act.Grant pmac amac) h = refl
-spoken Ended (act.Make frame) h = refl
-spoken Ended (act.Redirect old new) h = refl
-spoken Ended (act.Pass port frame) h = refl
-spoken Ended act.Take h = refl
-spoken Ended (act.Drop cause) h = refl
-spoken Wrong (act.Control port frame) h = refl
-spoken Wrong (act.Tell told) h = refl
-spoken Wrong (act.Grant pmac amac) h = refl
-spoken Wrong (act.Make frame) h = refl
-spoken Wrong (act.Redirect old new) h = refl
-spoken Wrong (act.Pass port frame) h = refl
-spoken Wrong act.Take h = refl
-spoken Wrong (act.Drop cause) h = refl
-
-spoken_all : (x : Speech) (acts : List Act) → has_spoken x ≡ true → has_spoken (speech x acts) ≡ true
-spoken_all x [] h = h
-spoken_all x (a ∷ acts) h = spoken_all (speech_after x a) acts (spoken x a h)
-
-never : (x : Speech) (acts : List Act) → has_spoken x ≡ true → speech x acts ≡ Silent → ⊥
-unfolding has_spoken
-never x acts h silent = true≢false (sym (spoken_all x acts h) ∙ ap has_spoken silent)
-
-pub silent_is_mild : (acts : List Act) → speech Silent acts ≡ Silent → AreMild acts
-unfolding has_spoken
-silent_is_mild [] h = tt
-silent_is_mild (act.Control port frame ∷ acts) h = (tt, silent_is_mild acts h)
-silent_is_mild (act.Tell told ∷ acts) h = (tt, silent_is_mild acts h)
-silent_is_mild (act.Grant pmac amac ∷ acts) h = (tt, silent_is_mild acts h)
-silent_is_mild (act.Make frame ∷ acts) h = absurd (never Waiting acts refl h)
-silent_is_mild (act.Redirect old new ∷ acts) h = absurd (never Wrong acts refl h)
-silent_is_mild (act.Pass port frame ∷ acts) h = absurd (never Wrong acts refl h)
-silent_is_mild (act.Take ∷ acts) h = absurd (never Wrong acts refl h)
-silent_is_mild (act.Drop cause ∷ acts) h = absurd (never Wrong acts refl h)
-
 -- such acts leave it open what becomes of the frame
 mild_waits : (s : ℕ) (d : Doing) (acts : List Act) → AreMild acts → (acts_done s d acts).speech ≡ d.speech
 mild_waits s d [] all = refl
 mild_waits s d (act.Control port frame ∷ acts) all = mild_waits s (act_done s d (act.Control port frame)) acts all.1
 mild_waits s d (act.Tell told ∷ acts) all = mild_waits s (act_done s d (act.Tell told)) acts all.1
 mild_waits s d (act.Grant pmac amac ∷ acts) all = mild_waits s (act_done s d (act.Grant pmac amac)) acts all.1
-mild_waits s d (act.Make frame ∷ acts) all = absurd all.0
-mild_waits s d (act.Redirect old new ∷ acts) all = absurd all.0
-mild_waits s d (act.Pass port frame ∷ acts) all = absurd all.0
-mild_waits s d (act.Take ∷ acts) all = absurd all.0
-mild_waits s d (act.Drop cause ∷ acts) all = absurd all.0
+mild_waits s d (a ∷ acts) all = absurd all.0
 
 acts_append : (s : ℕ) (d : Doing) (xs ys : List Act) → acts_done s d (xs ++ ys) ≡ acts_done s (acts_done s d xs) ys
 acts_append s d [] ys = refl

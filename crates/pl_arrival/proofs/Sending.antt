@@ -20,7 +20,6 @@ use Rattle.pl_wiring.proofs.LabelOrder.{label_of-edge}
 use Rattle.pl_journal.specs.declared.entry.Entry.{Entry}
 use Rattle.pl_logic.specs.declared.acts.Act.{Act}
 use Rattle.pl_logic.specs.declared.acts.Act.TheVariants.{Pass}
-use Rattle.pl_logic.specs.Accounting.{IsShaped}
 use Rattle.pl_logic.specs.PortRecords.{is_open_to_hosts, port_of}
 use Rattle.pl_logic.specs.SwitchInputs.SwitchInput.{Comes}
 use Rattle.pl_logic.specs.SwitchViews.{SwitchView}
@@ -38,7 +37,6 @@ use Rattle.pl_world.specs.declared.spoken_frame.SpokenFrame.TheVariants.{Waiting
 use Rattle.pl_world.specs.Changes.{is_failed_at}
 use Rattle.pl_world.specs.WorldRule.{SwitchTurn}
 use Rattle.pl_world.specs.Worlds.{WorldView}
-use Rattle.pl_world.proofs.Counts.{all_found}
 use Rattle.pl_control_plane.proofs.Joined.{joined_there}
 use Rattle.pl_arrival.specs.Reach.{IsPlainTo, Reaches}
 use Rattle.pl_addresses.specs.Registered.{IsRegisteredBy}
@@ -115,9 +113,6 @@ module _ (old new : WorldView) (r : Ready old) (ahead : Ready new) (h g : ℕ) (
       sent_in =
           let at = at_edge new ahead h reached.from.0 from in
           let k : old.plan.k ≡ new.plan.k = ap (λ (p : Plan). p.k) (sym goes.plan) in
-          let size : v.k ≡ old.plan.k = all_found (λ (u : SwitchView). u.k ≡ old.plan.k) old.switches here v turn.found r.counted.formed.ports in
-          let shaped = all_found IsShaped old.switches here v turn.found r.counted.shaped in
-          let within : from.stand.port < v.k = subst (λ n. from.stand.port < n) (sym (size ∙ k)) at.port in
           let free : peer_of old.plan here from.stand.port ≡ HostPort = subst (λ (p : Plan). peer_of p here from.stand.port ≡ HostPort) goes.plan at.free in
           let unheard = r.calm.strangers here from.stand.port free in
           let view = view_is old r here v turn.found in
@@ -128,7 +123,7 @@ module _ (old new : WorldView) (r : Ready old) (ahead : Ready new) (h g : ℕ) (
           let edge = no_upper v.place.level (λ y e. (r.calm.own here).level y (ap (λ (u : SwitchView). u.place.level) view ∙ e) ∙ ap label_level (label_of-edge old.plan.k here low)) in
           let u = turn.ruled.steps.view in
           let used = subst (λ w. HasInUse w from.stand.port (source_of frame)) (sym after_is ∙ u) in_use in
-          let e = enters turn.ruled.choose from.stand.port frame plain.readable plain.not_taken v shaped within long data_frame accepts edge used in
+          let e = enters turn.ruled.choose from.stand.port frame plain.readable plain.not_taken v data_frame accepts edge used in
           record {
             mild = e.mild;
             all = e.all;

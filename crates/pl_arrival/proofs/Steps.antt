@@ -1,5 +1,5 @@
 -- Each step between two sure moments keeps a frame on its track.
-use Rattle.std.proofs.Common.{◌≡◌, ℕ, ◌+◌, ◌<◌, ◌==◌, ◌&&◌, nat_lt, Bool, true, false, if◌then◌else◌, List, [], ◌∷◌, fold, set, Option, Some, None, slice_get, refl, sym, ap, ◌∙◌, subst, inl, inr, ltb-true, true≢false}
+use Rattle.std.proofs.Common.{◌≡◌, ℕ, ◌+◌, ◌<◌, ◌==◌, ◌&&◌, nat_lt, Bool, true, false, if◌then◌else◌, List, [], ◌∷◌, set, Option, Some, None, slice_get, refl, sym, ap, ◌∙◌, subst, inl, inr, ltb-true, true≢false}
 use Rattle.std.proofs.lemmas.Bool.{and_parts, cases_eq}
 use Rattle.std.proofs.lemmas.List.{get_or-set_other}
 use Rattle.std.proofs.lemmas.Nat.{same_from_place}
@@ -8,6 +8,7 @@ use Rattle.pl_pmac.specs.declared.pmac.Pmac.{Pmac}
 use Rattle.pl_wiring.specs.declared.host.Host.{Host}
 use Rattle.pl_wiring.specs.declared.label.SwitchNo.{SwitchNo}
 use Rattle.pl_wiring.specs.declared.link.Link.{Link}
+use Rattle.pl_wiring.specs.declared.link.Peer.{Peer}
 use Rattle.pl_wiring.specs.declared.link.Peer.TheVariants.{HostPort, Switch}
 use Rattle.pl_wiring.specs.Index.{port_index}
 use Rattle.pl_wiring.specs.LiveLinks.{is_live, is_live_at}
@@ -18,13 +19,9 @@ use Rattle.pl_wiring.proofs.Live.{changes}
 use Rattle.pl_journal.specs.declared.entry.Entry.{Entry}
 use Rattle.pl_journal.specs.Places.{are_alike}
 use Rattle.pl_logic.specs.HostDuties.{HostsKeepFrames}
-use Rattle.pl_logic.specs.HostInputs.{HostAnswer, HostInput, HostRule}
+use Rattle.pl_logic.specs.HostInputs.{HostRule}
 use Rattle.pl_logic.specs.HostInputs.HostAnswer.{Nothing}
 use Rattle.pl_logic.specs.HostInputs.HostInput.{HasMoved}
-use Rattle.pl_logic.specs.declared.acts.HostAct.{HostAct}
-use Rattle.pl_logic.specs.declared.acts.HostAct.TheVariants.{Send}
-use Rattle.pl_logic.specs.declared.messages.ToManager.{ToManager}
-use Rattle.pl_logic.specs.declared.messages.ToSwitch.{ToSwitch}
 use Rattle.pl_logic.specs.ManagerViews.{ManagerView, newest}
 use Rattle.pl_logic.specs.PortRecords.{is_usable}
 use Rattle.pl_logic.specs.SwitchViews.{SwitchView}
@@ -38,14 +35,17 @@ use Rattle.pl_world.specs.declared.event.Event.{Event}
 use Rattle.pl_world.specs.declared.event.Event.TheVariants as event
 use Rattle.pl_world.specs.declared.event.QueueName.TheVariants as queue
 use Rattle.pl_world.specs.declared.item.Item.{Item}
-use Rattle.pl_world.specs.declared.item.Item.TheVariants.{Control, Data}
+use Rattle.pl_world.specs.declared.item.Item.TheVariants.{Data}
 use Rattle.pl_world.specs.declared.stand.Stand.{Stand}
 use Rattle.pl_world.specs.Changes.{host_at, out_of}
-use Rattle.pl_world.specs.LinksAndMoves.{host_moved, item_lost, joins, link_between}
-use Rattle.pl_world.specs.OtherActs.{heard_after_tick, host_act_done}
+use Rattle.pl_world.specs.LinksAndMoves.{host_moved, item_lost, joins, link_between, link_failed, link_repaired}
+use Rattle.pl_world.specs.OtherActs.{heard_after_tick, skip_noted}
 use Rattle.pl_world.specs.Refusals.{has_host, has_port, has_queue, has_switch, is_filled, is_for_hosts, refusal, refusal_of_event, refusal_of_link, refusal_of_move, refusal_of_place, refusal_of_queue}
-use Rattle.pl_world.specs.WorldRule.{DeliversFromHost, DeliversFromManager, DeliversOut, DeliversToManager, Fails, Goes as MovesOn, HostTurn, IsRepaired, Loses, WorldStep}
+use Rattle.pl_world.specs.WorldRule.{ComesIn, ComesOver, HostTurn, WorldStep}
 use Rattle.pl_world.specs.Worlds.{WorldView}
+use Rattle.pl_world.proofs.Beside.{by_host}
+use Rattle.pl_world.proofs.Happenings.{Happened, happened}
+use Rattle.pl_world.proofs.Happenings.Happened.{Asked, Departed, Failed, FromHost, Lost, Ordered, OutOfPort, OverLink, PlayedFrame, Repaired, Reported, Ticked}
 use Rattle.pl_world.proofs.Counts.{all_found}
 use Rattle.pl_world.proofs.StepBalances.{event_is_not_refused, found_contained}
 use Rattle.pl_control_plane.specs.ControlPlanes.{control_plane}
@@ -60,7 +60,7 @@ use Rattle.pl_arrival.specs.Ways.{Alike, fabric_of}
 use Rattle.pl_arrival.proofs.Alike.{alike_by_manager, alike_by_views, one_of_both}
 use Rattle.pl_arrival.proofs.Hosting.{somebody}
 use Rattle.pl_arrival.proofs.Ready.{Ready, at_edge, net, stays_at_edge}
-use Rattle.pl_arrival.proofs.Staying.{Goes, goes_host, goes_manager, goes_noted, goes_plays, goes_self, goes_switch, goes_then}
+use Rattle.pl_arrival.proofs.Staying.{Goes, goes_beside, goes_host, goes_lost, goes_manager, goes_skip, goes_switch, goes_then}
 use Rattle.pl_arrival.proofs.Track.{IsOnTrack, OnTrack, split_out, still_on}
 use Rattle.pl_arrival.proofs.Track.OnTrack.{Came, Leaves, Under, Waits}
 use Rattle.pl_arrival.proofs.Turns.{comes_in_goes, comes_over_goes, from_host, keep, out_of_port}
@@ -96,11 +96,12 @@ no_host w h s p = by (has_host w.plan h && is_for_hosts w.plan s p) (host_at w s
 -- ---- a link
 module _ (old new : WorldView) (r : Ready old) (ahead : Ready new) where
   -- a live link does not fail between two settled moments: both ends would still find it usable
-  fails_never : (steps a b : ℕ) (o : Option Link) → link_between old.plan a b ≡ o → refusal_of_link old false o ≡ None → Fails (record old { steps = steps }) o new → ⊥
-  fails_never steps a b None found none is = is
-  fails_never steps a b (Some link) found none is =
+  fails_never : (steps a b : ℕ) (link : Link) → link_between old.plan a b ≡ Some link → refusal_of_link old false (link_between old.plan a b) ≡ None →
+      new ≡ link_failed (record old { steps = steps }) link → ⊥
+  fails_never steps a b link found none is =
       let there = found_contained (joins a b) old.plan.links link found in
-      let live : is_live_at old.links link.lower.0 link.lower_port ≡ true = alike_live (is_live old.links link) none in
+      let live : is_live_at old.links link.lower.0 link.lower_port ≡ true =
+      alike_live (is_live old.links link) (subst (λ (o : Option Link). refusal_of_link old false o ≡ None) found none) in
       let joined = (peer_is_switch old.plan link.lower.0 link.lower_port link.upper link.upper_port r.calm.is).1 (there.0, link, there.1, there.2, inl (refl, refl, refl, refl)) in
       let plan : new.plan ≡ old.plan = ap (λ (w : WorldView). w.plan) is in
       let view : (control_plane new).view link.lower.0 ≡ (control_plane old).view link.lower.0 = ap (λ (w : WorldView). (control_plane w).view link.lower.0) is in
@@ -110,14 +111,6 @@ module _ (old new : WorldView) (r : Ready old) (ahead : Ready new) where
       let failed = (changes old.plan old.links link false r.calm.is.tree r.counted.formed.links there).at_link link.lower.0 link.lower_port (inl (refl, refl)) in
       let dead : is_live_at new.links link.lower.0 link.lower_port ≡ false = ap (λ (w : WorldView). is_live_at w.links link.lower.0 link.lower_port) is ∙ failed in
       true≢false (sym was ∙ ap (λ (v : SwitchView). is_usable v link.lower_port) (sym view) ∙ now ∙ dead)
-
--- ---- the manager, where a host acts
-host_acts_manager : (w : WorldView) (h : ℕ) (acts : List HostAct) → (fold (host_act_done h) w acts).manager ≡ w.manager
-host_acts_manager w h [] = refl
-host_acts_manager w h (Send frame ∷ acts) = host_acts_manager (host_act_done h w (Send frame)) h acts
-
-host_manager : (rule : HostRule) (w : WorldView) (h : ℕ) (input : HostInput) (answer : HostAnswer) (new : WorldView) → HostTurn rule w h input answer new → new.manager ≡ w.manager
-host_manager rule w h input answer new turn = ap (λ (x : WorldView). x.manager) turn.changed ∙ host_acts_manager (record w { hosts = set w.hosts h turn.after }) h turn.acts
 
 emptied : (queues : List (List Item)) (n i : ℕ) (y : Item) → (i ≡ n → ⊥) → IsAmong y (items_at queues i) → IsAmong y (items_at (set queues n []) i)
 emptied queues n i y other among = subst (IsAmong y) (sym (get_or-set_other queues n i [] [] other)) among
@@ -175,7 +168,7 @@ module _ (host : HostRule) (keeps : HostsKeepFrames host) (old new : WorldView) 
           | inl same ↦
               let before = subst (λ n. IsRegisteredBy old n reach.from.0) same reach.from.1 in
               let after = subst (λ n. IsRegisteredBy new n reached.from.0) same reached.from.1 in
-              let one = newest_same (host_manager host moved m HasMoved Nothing new turn) goes.plan before after in
+              let one = newest_same (ap (λ (w : WorldView). w.manager) (by_host host moved m HasMoved Nothing new turn)) goes.plan before after in
               absurd (not_moved reach.from.0 goes.stands before (subst (IsRegisteredBy new m) one after))
         ]
         by (Under a b u frame l among one dest headed) = elim (cases_eq (port_index old.plan.k a b) (port_index old.plan.k from.edge.0 from.port)) [
@@ -229,35 +222,16 @@ module _ (host : HostRule) (keeps : HostsKeepFrames host) (old new : WorldView) 
     to_stepped : (steps : ℕ) → Goes old (stepped steps)
     to_stepped steps = record { plan = refl; links = refl; stands = refl; many = refl; out = λ i y j. j; from_hosts = λ i y j. j; journal = λ e j. j }
 
-    out_of_host : (steps n : ℕ) (items : List Item) → items_at old.from_hosts n ≡ items → DeliversFromHost Loose (stepped steps) n items new → Both
-    out_of_host steps n [] head comes = absurd comes
-    out_of_host steps n (item ∷ items) head comes =
-        let goes = comes_in_goes (record old { steps = steps; from_hosts = set old.from_hosts n items }) n item (slice_get old.stands n) new comes in
-        let alike = alike_of goes.plan goes.links in
-        (alike, from_host host keeps old new r ahead h g x id reach reached steps alike on n (item ∷ items) head comes)
-
-    out_of_switch : (steps s p : ℕ) (items : List Item) → p < old.plan.k → out_of old s p ≡ items → DeliversOut Loose host (stepped steps) s p items new → Both
-    out_of_switch steps s p [] within head comes = absurd comes
-    out_of_switch steps s p (item ∷ items) within head comes =
+    -- a frame of the first queue is taken out, and comes to the other end
+    over : (steps s p : ℕ) (item : Item) (items : List Item) → p < old.plan.k → out_of old s p ≡ item ∷ items →
+        ComesOver Loose host (record old { steps = steps; out = set old.out (port_index old.plan.k s p) items }) s p item (peer_of old.plan s p) new → Both
+    over steps s p item items within head comes =
         let goes = comes_over_goes host (record old { steps = steps; out = set old.out (port_index old.plan.k s p) items }) s p item (peer_of old.plan s p) new comes in
         let alike = alike_of goes.plan goes.links in
         (alike, out_of_port host keeps old new r ahead h g x id reach reached steps alike on s p (item ∷ items) within head comes)
 
-    to_manager : (steps s : ℕ) (items : List ToManager) → DeliversToManager manager_rule (stepped steps) s items new → Both
-    to_manager steps s [] turn = absurd turn
-    to_manager steps s (told ∷ items) turn =
-        let mid : WorldView = record old { steps = steps; to_manager = set old.to_manager s items } in
-        quietly mid (record { plan = refl; links = refl; stands = refl; many = refl; out = λ i y j. j; from_hosts = λ i y j. j; journal = λ e j. j }) (goes_manager manager_rule mid s told new turn)
-
-    from_manager : (steps s : ℕ) (items : List ToSwitch) → DeliversFromManager Loose (stepped steps) s items new → Both
-    from_manager steps s [] turn = absurd turn
-    from_manager steps s (says ∷ items) turn =
-        let mid : WorldView = record old { steps = steps; from_manager = set old.from_manager s items } in
-        quietly mid (record { plan = refl; links = refl; stands = refl; many = refl; out = λ i y j. j; from_hosts = λ i y j. j; journal = λ e j. j }) (goes_switch Loose mid s _ _ new turn)
-
-    repairs : (steps : ℕ) (o : Option Link) → IsRepaired (stepped steps) o new → Both
-    repairs steps None is = absurd is
-    repairs steps (Some link) is =
+    repairs : (steps : ℕ) (link : Link) → new ≡ link_repaired (stepped steps) link → Both
+    repairs steps link is =
         let alike = alike_by_views (net old) (net new) r.calm ahead.calm (ap (λ (w : WorldView). w.plan) is) (λ s. ap (λ (w : WorldView). (control_plane w).view s) is) in (
           alike,
           still_on (fabric_of old) (fabric_of new) r.calm.is alike old.from_hosts old.out new.from_hosts new.out old.journal new.journal
@@ -265,48 +239,78 @@ module _ (host : HostRule) (keeps : HostsKeepFrames host) (old new : WorldView) 
               (λ e j. subst (λ (w : WorldView). IsAmong e w.journal) (sym is) (among_left e old.journal _ j)) h g end x id on,
         )
 
-    lost_goes : (w : WorldView) (item : Item) → Goes w (item_lost w item)
-    lost_goes w (Control frame) = goes_self w
-    lost_goes w (Data n frame) = goes_noted w (_ ∷ [])
-
-    loses : (steps s p : ℕ) (items : List Item) → out_of old s p ≡ items → ((frame : List ℕ) → slice_get (out_of old s p) 0 ≡ Some (Data id frame) → ⊥) → Loses (stepped steps) s p items new → Both
-    loses steps s p [] head not_lost is = absurd is
-    loses steps s p (item ∷ items) head not_lost is =
+    loses : (steps s p : ℕ) (item : Item) (items : List Item) → out_of old s p ≡ item ∷ items →
+        ((frame : List ℕ) → slice_get (out_of old s p) 0 ≡ Some (Data id frame) → ⊥) →
+        new ≡ item_lost (record old { steps = steps; out = set old.out (port_index old.plan.k s p) items }) item → Both
+    loses steps s p item items head not_lost is =
         let mid : WorldView = record old { steps = steps; out = set old.out (port_index old.plan.k s p) items } in
-        let goes : Goes mid new = subst (Goes mid) (sym is) (lost_goes mid item) in
+        let goes : Goes mid new = subst (Goes mid) (sym is) (goes_lost mid item) in
         elim (split_out (fabric_of old) old.from_hosts old.out old.journal (port_index old.plan.k s p) item items head h g end x id on) [
           | inl rest ↦ (alike_of goes.plan goes.links, keep host keeps old new r ahead h g x id reach reached mid goes (alike_of goes.plan goes.links) rest)
           | inr (inl taken) ↦ absurd (not_lost taken.frame (ap (λ xs. slice_get xs 0) head ∙ ap Some taken.is))
           | inr (inr taken) ↦ absurd (not_lost taken.frame (ap (λ xs. slice_get xs 0) head ∙ ap Some taken.is))
         ]
 
-    goes_away : (steps m s p : ℕ) (edge : SwitchNo) → edge.0 ≡ s → refusal_of_move old m s p ≡ None → (o : Option Stand) → slice_get old.stands m ≡ o →
-        MovesOn host (stepped steps) m (record { edge = edge; port = p }) o new → Both
-    goes_away steps m s p edge same none None found turn = absurd turn
-    goes_away steps m s p edge same none (Some from) found turn =
+    goes_away : (steps m s p : ℕ) (edge : SwitchNo) → edge.0 ≡ s → refusal_of_move old m s p ≡ None → (from : Stand) → slice_get old.stands m ≡ Some from →
+        HostTurn host (host_moved (stepped steps) m from (record { edge = edge; port = p })) m HasMoved Nothing new → Both
+    goes_away steps m s p edge same none from found turn =
         let goes = goes_host host (host_moved (stepped steps) m from (record { edge = edge; port = p })) m HasMoved Nothing new turn in
         (alike_of goes.plan goes.links, moves (alike_of goes.plan goes.links) steps m s p edge same from found none turn)
 
-    pub stays : (happens : Event) → refusal_of_event old happens ≡ None → (IsLostBy old happens id → ⊥) → WorldStep Loose manager_rule host old happens new → Both
-    stays (event.Deliver (queue.FromHost n)) none kept comes = out_of_host (old.steps + 1) n.0 (items_at old.from_hosts n.0) refl comes
-    stays (event.Deliver (queue.Port s p)) none kept comes =
-        let within = port_if old.plan s.0 p (there_if (has_queue old.plan (queue.Port s p)) (is_filled old (queue.Port s p)) none) in
-        out_of_switch (old.steps + 1) s.0 p (out_of old s.0 p) within refl comes
-    stays (event.Deliver (queue.ToManager s)) none kept comes = to_manager (old.steps + 1) s.0 (items_at old.to_manager s.0) comes
-    stays (event.Deliver (queue.FromManager s)) none kept comes = from_manager (old.steps + 1) s.0 (items_at old.from_manager s.0) comes
-    stays (event.Tick s) none kept turn =
-        let mid : WorldView = record old { steps = old.steps + 1; heard = heard_after_tick s.0 old.stands old.heard } in
-        quietly mid (record { plan = refl; links = refl; stands = refl; many = refl; out = λ i y j. j; from_hosts = λ i y j. j; journal = λ e j. j }) (goes_switch Loose mid s.0 _ _ new turn)
-    stays (event.Fail a b) none kept is = absurd (fails_never old new r ahead (old.steps + 1) a.0 b.0 (link_between old.plan a.0 b.0) refl none is)
-    stays (event.Repair a b) none kept is = repairs (old.steps + 1) (link_between old.plan a.0 b.0) is
-    stays (event.Lose s p) none kept is =
-        loses (old.steps + 1) s.0 p (out_of old s.0 p) refl (λ frame first. kept (record { frame = frame; first = first })) is
-    stays (event.Move n s p) none kept turn = goes_away (old.steps + 1) n.0 s.0 p s refl none (slice_get old.stands n.0) refl turn
-    stays (event.Start n) none kept turn = quietly (stepped (old.steps + 1)) (to_stepped (old.steps + 1)) (goes_host host (stepped (old.steps + 1)) n.0 _ _ new turn)
-    stays (event.Play n frame original raw) none kept plays = quietly (stepped (old.steps + 1)) (to_stepped (old.steps + 1)) (goes_plays host (stepped (old.steps + 1)) n.0 _ new plays)
-    stays (event.Retry n) none kept turn = quietly (stepped (old.steps + 1)) (to_stepped (old.steps + 1)) (goes_host host (stepped (old.steps + 1)) n.0 _ _ new turn)
-    stays (event.Join n group) none kept turn = quietly (stepped (old.steps + 1)) (to_stepped (old.steps + 1)) (goes_host host (stepped (old.steps + 1)) n.0 _ _ new turn)
-    stays (event.Leave n group) none kept turn = quietly (stepped (old.steps + 1)) (to_stepped (old.steps + 1)) (goes_host host (stepped (old.steps + 1)) n.0 _ _ new turn)
+    module _ (happens : Event) (none : refusal_of_event old happens ≡ None) (kept : IsLostBy old happens id → ⊥) where
+      abbrev next : ℕ
+      next = old.steps + 1
+
+      free : (e : Event) → happens ≡ e → refusal_of_event old e ≡ None
+      free e is = subst (λ (x : Event). refusal_of_event old x ≡ None) is none
+
+      within_port : (s : SwitchNo) (p : ℕ) → happens ≡ event.Deliver (queue.Port s p) → p < old.plan.k
+      within_port s p is =
+          port_if old.plan s.0 p (there_if (has_queue old.plan (queue.Port s p)) (is_filled old (queue.Port s p)) (free (event.Deliver (queue.Port s p)) is))
+
+      beside : (mid : WorldView) → mid.plan ≡ old.plan → mid.links ≡ old.links → mid.stands ≡ old.stands → mid.out ≡ old.out →
+          mid.from_hosts ≡ old.from_hosts → mid.journal ≡ old.journal →
+          Goes mid new → Both
+      beside mid plan links stands out from_hosts journal goes = quietly mid (goes_beside old mid plan links stands out from_hosts journal) goes
+
+      by_case : Happened Loose manager_rule host (stepped next) happens new → Both
+      by_case (FromHost n item items stand is head at comes) =
+          let mid : WorldView = record old { steps = next; from_hosts = set old.from_hosts n.0 items } in
+          let came : ComesIn Loose mid n.0 item (slice_get old.stands n.0) new = subst (λ (o : Option Stand). ComesIn Loose mid n.0 item o new)
+              (sym at) comes in
+          let goes = comes_in_goes mid n.0 item (slice_get old.stands n.0) new came in
+          let alike = alike_of goes.plan goes.links in
+          (alike, from_host host keeps old new r ahead h g x id reach reached next alike on n.0 (item ∷ items) head came)
+      by_case (OverLink s p item items t q is head joined comes) =
+          over next s.0 p item items (within_port s p is) head
+          (subst (λ (peer : Peer). ComesOver Loose host (record old { steps = next; out = set old.out
+              (port_index old.plan.k s.0 p) items }) s.0 p item peer new) (sym joined) comes)
+      by_case (OutOfPort s p item items is head joined comes) =
+          over next s.0 p item items (within_port s p is) head
+          (subst (λ (peer : Peer). ComesOver Loose host (record old { steps = next; out = set old.out
+              (port_index old.plan.k s.0 p) items }) s.0 p item peer new) (sym joined) comes)
+      by_case (Reported s told items is head turn) =
+          let mid : WorldView = record old { steps = next; to_manager = set old.to_manager s.0 items } in
+          beside mid refl refl refl refl refl refl (goes_manager manager_rule mid s.0 told new turn)
+      by_case (Ordered s says items is head turn) =
+          let mid : WorldView = record old { steps = next; from_manager = set old.from_manager s.0 items } in beside mid refl refl refl refl refl refl
+              (goes_switch Loose mid s.0 _ _ new turn)
+      by_case (Ticked s is turn) =
+          let mid : WorldView = record old { steps = next; heard = heard_after_tick s.0 old.stands old.heard } in
+          beside mid refl refl refl refl refl refl (goes_switch Loose mid s.0 _ _ new turn)
+      by_case (Failed a b link is found fails) = absurd (fails_never old new r ahead next a.0 b.0 link found (free (event.Fail a b) is) fails)
+      by_case (Repaired a b link is found repaired) = repairs next link repaired
+      by_case (Lost s p item items is head gone) =
+          loses next s.0 p item items head (λ frame first. kept
+              (subst (λ (e : Event). IsLostBy old e id) (sym is) (record { frame = frame; first = first }))) gone
+      by_case (Departed n s p from is at turn) = goes_away next n.0 s.0 p s refl (free (event.Move n s p) is) from at turn
+      by_case (PlayedFrame n input skip is turn) =
+          let mid = skip_noted (stepped next) n.0 skip in
+          quietly mid (goes_then old (stepped next) mid (to_stepped next) (goes_skip (stepped next) n.0 skip)) (goes_host host mid n.0 _ _ new turn)
+      by_case (Asked n input is turn) = beside (stepped next) refl refl refl refl refl refl (goes_host host (stepped next) n.0 _ _ new turn)
+
+      pub stays : WorldStep Loose manager_rule host old happens new → Both
+      stays step = by_case (happened Loose manager_rule host (stepped next) happens new step)
 
   -- each step
   pub step_keeps : (happens : Event) → refusal old happens ≡ None → (IsLostBy old happens id → ⊥) → WorldStep Loose manager_rule host old happens new →

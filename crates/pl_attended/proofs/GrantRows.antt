@@ -80,13 +80,7 @@ module _ (P : ℕ → Mac → Type 0) where
   none_granted : (acts : List Act) → AreSilent acts → AllByRecursion IsGrantFor acts
   none_granted [] are = tt
   none_granted (act.Grant x mac ∷ acts) are = absurd are.0
-  none_granted (act.Tell told ∷ acts) are = (tt, none_granted acts are.1)
-  none_granted (act.Control port frame ∷ acts) are = (tt, none_granted acts are.1)
-  none_granted (act.Make frame ∷ acts) are = (tt, none_granted acts are.1)
-  none_granted (act.Redirect old new ∷ acts) are = (tt, none_granted acts are.1)
-  none_granted (act.Pass port frame ∷ acts) are = (tt, none_granted acts are.1)
-  none_granted (act.Take ∷ acts) are = (tt, none_granted acts are.1)
-  none_granted (act.Drop cause ∷ acts) are = (tt, none_granted acts are.1)
+  none_granted (a ∷ acts) are = (tt, none_granted acts are.1)
 
   same_remembered : (v w : SwitchView) → w.remembered ≡ v.remembered → Remembers v → Remembers w
   same_remembered v w same r = λ port. subst (λ (rs : List (Option Source)). IsFine port (get_or rs port None)) (sym same) (r port)

@@ -30,7 +30,7 @@ use Rattle.pl_world.specs.Changes.{sent_by_host}
 use Rattle.pl_world.specs.OtherActs.{host_act_done}
 use Rattle.pl_world.specs.WorldRule.{HostTurn}
 use Rattle.pl_world.specs.Worlds.{WorldView}
-use Rattle.pl_control_plane.proofs.Stepping.{turn_same}
+use Rattle.pl_world.proofs.Beside.{by_host}
 use Rattle.pl_addresses.proofs.Words.{mac_is}
 use Rattle.pl_attended.specs.Probes.{asks_for, is_packet, is_probe}
 use Rattle.pl_attended.specs.Stays.{is_readable}
@@ -50,12 +50,12 @@ module _ (at : Spot) (rule : HostRule) (w : WorldView) (g : ℕ) (input : HostIn
   turn_is_told = sends.told
 
   pub host_follows : Follows at w new
-  host_follows = let same = turn_same rule w g input answer new turn in record {
-    switches = same.switches;
+  host_follows = let same = by_host rule w g input answer new turn in record {
+    switches = ap (λ (x : WorldView). x.switches) same;
     reached = λ is. sym sends.reached ∙ is;
     out = λ is.
-        ap (λ (p : Plan). list_any (is_probe at.me) (items_at new.out (port_index p.k at.edge at.port))) same.plan
-        ∙ ap (λ (out : List (List Item)). list_any (is_probe at.me) (items_at out (port_index w.plan.k at.edge at.port))) same.out ∙ is;
+        ap (λ (p : Plan). list_any (is_probe at.me) (items_at new.out (port_index p.k at.edge at.port))) (ap (λ (x : WorldView). x.plan) same)
+        ∙ ap (λ (out : List (List Item)). list_any (is_probe at.me) (items_at out (port_index w.plan.k at.edge at.port))) (ap (λ (x : WorldView). x.out) same) ∙ is;
     mine = λ is. sends.mine at.h is_packet is;
   }
 

@@ -1,8 +1,10 @@
 -- Each step keeps what is known of each host, and so does each run from the beginning.
-use Rattle.std.proofs.Common.{◌≡◌, ◌≢◌, ◌<◌, ◌+◌, ◌*◌, ℕ, zero, suc, not, nat_lt, Bool, true, false, List, [], ◌∷◌, replicate, length, Option, Some, None, slice_get, refl, sym, ap, subst, ◌∙◌}
+use Rattle.std.proofs.Common.{set, ◌≡◌, ◌<◌, ◌+◌, ◌*◌, ℕ, zero, suc, not, nat_lt, Bool, true, false, List, [], ◌∷◌, replicate, length, Option, Some, None, slice_get, refl, sym, ap, subst, ◌∙◌}
 use Rattle.std.specs.List.{AllByRecursion}
 use Rattle.std.proofs.lemmas.Bool.{and_parts, false≢true, ltb-true}
 use Rattle.std.proofs.lemmas.Option.{none-some}
+use Rattle.pl_wiring.specs.declared.link.Peer.TheVariants.{HostPort, Switch}
+use Rattle.pl_wiring.specs.declared.label.SwitchNo.{SwitchNo}
 use Rattle.pl_wiring.specs.Labels.{switch_count}
 use Rattle.pl_wiring.specs.Peers.{peer_of}
 use Rattle.pl_wiring.specs.Plan.{Plan}
@@ -20,18 +22,19 @@ use Rattle.pl_switch_rule.specs.SwitchRule.{Loose}
 use Rattle.pl_world.specs.declared.error.StepError.TheVariants.{NoSuch}
 use Rattle.pl_world.specs.declared.event.Event.{Event}
 use Rattle.pl_world.specs.declared.event.Event.TheVariants as event
-use Rattle.pl_world.specs.declared.event.QueueName.{QueueName}
 use Rattle.pl_world.specs.declared.event.QueueName.TheVariants as queue
 use Rattle.pl_world.specs.declared.item.Item.{Item}
 use Rattle.pl_world.specs.declared.limits.Limits.{Limits}
 use Rattle.pl_world.specs.declared.stand.Stand.{Stand}
 use Rattle.pl_world.specs.Booting.{CanBegin, booted}
-use Rattle.pl_world.specs.Changes.{host_at, noted, out_of}
-use Rattle.pl_world.specs.LinksAndMoves.{joins, link_between}
+use Rattle.pl_world.specs.Changes.{noted}
+use Rattle.pl_world.specs.LinksAndMoves.{joins}
 use Rattle.pl_world.specs.Refusals.{has_port, has_switch, is_filled, is_linked, refusal, refusal_of_event, refusal_of_queue}
 use Rattle.pl_world.specs.Runs.{IsMark, Moment, WorldRun}
-use Rattle.pl_world.specs.WorldRule.{Delivers, DeliversOut, Goes, Happens, Loses, WorldStep}
+use Rattle.pl_world.specs.WorldRule.{ComesIn, WorldStep}
 use Rattle.pl_world.specs.Worlds.{WorldView}
+use Rattle.pl_world.proofs.Happenings.{Happened, happened}
+use Rattle.pl_world.proofs.Happenings.Happened.{Asked, Departed, Failed, FromHost, Lost, Ordered, OutOfPort, OverLink, PlayedFrame, Repaired, Reported, Ticked}
 use Rattle.pl_world.proofs.StepBalances.{event_is_not_refused, same_refusal}
 use Rattle.pl_kept.specs.Kept.{Kept}
 use Rattle.pl_attended.specs.Attended.{StandApart}
@@ -75,42 +78,33 @@ module _ (rule : HostRule) (lawful : (view : HostView) (input : HostInput) (afte
       subst (λ (xs : List Stand). StandApart xs) (sym k.rest.1) apart,
     )
 
-    out_of_port : (s port : ℕ) (items : List Item) (new : WorldView) → out_of w s port ≡ items → port < w.plan.k → DeliversOut Loose rule w s port items new → Keeps h w new
-    out_of_port s port [] new head within comes = absurd comes
-    out_of_port s port (item ∷ rest) new head within comes = over_there h w f apart a s port item rest head within rule lawful (peer_of w.plan s port) refl new comes
+    there_port : (e : Event) (s : SwitchNo) (port : ℕ) → refusal_of_event w e ≡ None → e ≡ event.Deliver (queue.Port s port) → port < w.plan.k
+    there_port e s port none is =
+        port_within w.plan s.0 port (there_is (has_port w.plan s.0 port) (is_filled w (queue.Port s port))
+            (subst (λ (x : Event). refusal_of_event w x ≡ None) is none))
 
-    delivered : (name : QueueName) (new : WorldView) → refusal_of_event w (event.Deliver name) ≡ None → Delivers Loose manager_rule rule w name new → Keeps h w new
-    delivered (queue.FromHost g) new none comes = from_host h w f apart a g.0 (items_at w.from_hosts g.0) new refl comes
-    delivered (queue.Port s port) new none comes =
-        out_of_port s.0 port (out_of w s.0 port) new refl
-        (port_within w.plan s.0 port (there_is (has_port w.plan s.0 port) (is_filled w (queue.Port s port)) none)) comes
-    delivered (queue.ToManager s) new none comes = to_manager h w f apart a manager_rule s.0 (items_at w.to_manager s.0) new comes
-    delivered (queue.FromManager s) new none comes = from_manager h w f apart a s.0 (items_at w.from_manager s.0) new comes
-
-    loses : (s port : ℕ) (items : List Item) (filled : Bool) (new : WorldView) → out_of w s port ≡ items → refusal_of_queue (is_linked w.plan s port) filled ≡ None → Loses w s port items new → Keeps h w new
-    loses s port [] filled new head none is = absurd is
-    loses s port (item ∷ rest) filled new head none is =
-        let two = and_parts (has_port w.plan s port) (not (is_host_port (peer_of w.plan s port))) (there_is (is_linked w.plan s port) filled none) in
-        lost_on h w f apart a s port item rest head (port_within w.plan s port two.0) two.1 new is
-
-    goes : (g : ℕ) (to : Stand) (from : Option Stand) (new : WorldView) → slice_get w.stands g ≡ from → host_at w to.edge.0 to.port ≡ None → Goes rule w g to from new → After h new
-    goes g to None new was free turn = absurd turn
-    goes g to (Some from) new was free turn = goes_on h w f apart a rule g from to was free _ new turn
-
-    happens : (e : Event) (new : WorldView) → refusal_of_event w e ≡ None → Happens Loose manager_rule rule w e new → After h new
-    happens (event.Deliver name) new none is = after new (delivered name new none is)
-    happens (event.Tick s) new none is = after new (ticks_on h w f apart a s.0 new is)
-    happens (event.Fail x y) new none is = after new (fails_on h w f apart a (joins x.0 y.0) (link_between w.plan x.0 y.0) refl new is)
-    happens (event.Repair x y) new none is = after new (repaired_on h w f apart a (link_between w.plan x.0 y.0) new is)
-    happens (event.Lose s port) new none is = after new (loses s.0 port (out_of w s.0 port) _ new refl none is)
-    happens (event.Move g s port) new none is =
-        goes g.0 (record { edge = s; port = port }) (slice_get w.stands g.0) new refl
-        (place_is_free w g.0 s.0 port none) is
-    happens (event.Start g) new none is = after new (sends_on h w f apart a rule g.0 _ _ new is)
-    happens (event.Play g frame original raw) new none is = after new (plays_on h w f apart a rule g.0 _ new is)
-    happens (event.Retry g) new none is = after new (sends_on h w f apart a rule g.0 _ _ new is)
-    happens (event.Join g group) new none is = after new (sends_on h w f apart a rule g.0 _ _ new is)
-    happens (event.Leave g group) new none is = after new (sends_on h w f apart a rule g.0 _ _ new is)
+    by_case : (e : Event) (new : WorldView) → refusal_of_event w e ≡ None → Happened Loose manager_rule rule w e new → After h new
+    by_case e new none (FromHost g item items stand is head at comes) =
+        after new (from_host h w f apart a g.0 (item ∷ items) new head
+            (subst (λ (o : Option Stand). ComesIn Loose (record w { from_hosts = set w.from_hosts g.0 items }) g.0 item o new) (sym at) comes))
+    by_case e new none (OverLink s port item items t q is head joined comes) =
+        after new (over_there h w f apart a s.0 port item items head (there_port e s port none is) rule lawful (Switch t q) joined new comes)
+    by_case e new none (OutOfPort s port item items is head joined comes) =
+        after new (over_there h w f apart a s.0 port item items head (there_port e s port none is) rule lawful HostPort joined new comes)
+    by_case e new none (Reported s told items is head turn) = after new (to_manager h w f apart a manager_rule s.0 (told ∷ items) new turn)
+    by_case e new none (Ordered s says items is head turn) = after new (from_manager h w f apart a s.0 (says ∷ items) new turn)
+    by_case e new none (Ticked s is turn) = after new (ticks_on h w f apart a s.0 new turn)
+    by_case e new none (Failed x y link is found fails) = after new (fails_on h w f apart a (joins x.0 y.0) (Some link) found new fails)
+    by_case e new none (Repaired x y link is found repairs) = after new (repaired_on h w f apart a (Some link) new repairs)
+    by_case e new none (Lost s port item items is head loses) =
+        let free = subst (λ (x : Event). refusal_of_event w x ≡ None) is none in
+        let two = and_parts (has_port w.plan s.0 port) (not (is_host_port (peer_of w.plan s.0 port))) (there_is (is_linked w.plan s.0 port) _ free) in
+        after new (lost_on h w f apart a s.0 port item items head (port_within w.plan s.0 port two.0) two.1 new loses)
+    by_case e new none (Departed g s port from is at turn) =
+        goes_on h w f apart a rule g.0 from (record { edge = s; port = port }) at
+            (place_is_free w g.0 s.0 port (subst (λ (x : Event). refusal_of_event w x ≡ None) is none)) _ new turn
+    by_case e new none (PlayedFrame g input skip is turn) = after new (plays_on h w f apart a rule g.0 input new (record { skip = skip; turn = turn }))
+    by_case e new none (Asked g input is turn) = after new (sends_on h w f apart a rule g.0 input _ new turn)
 
   -- ---- a step
   pub step_attends : (old : WorldView) (e : Event) (new : WorldView) → Kept old → AttendsAll old → refusal old e ≡ None → WorldStep Loose manager_rule rule old e new → AttendsAll new
@@ -118,8 +112,8 @@ module _ (rule : HostRule) (lawful : (view : HostView) (input : HostInput) (afte
       let w : WorldView = record old { steps = old.steps + 1 } in
       let one : (h : ℕ) → After h new = (λ h.
       let a = all.each h in
-      happens h w (facts_of old kept) all.apart (record { told = record { numbers = a.told.numbers; past = a.told.past; soon = a.told.soon }; noticed = a.noticed }) e new
-      (same_refusal old e ∙ event_is_not_refused old e none) step) in
+      by_case h w (facts_of old kept) all.apart (record { told = record { numbers = a.told.numbers; past = a.told.past; soon = a.told.soon }; noticed = a.noticed }) e new
+      (same_refusal old e ∙ event_is_not_refused old e none) (happened Loose manager_rule rule w e new step)) in
       record { apart = (one 0).1; each = λ h. (one h).0 }
 
   -- ---- a mark

@@ -1,5 +1,5 @@
 -- The head of a queue out of a port is delivered: to a switch, or to the host that stands there, which answers a probe.
-use Rattle.std.proofs.Common.{◌≡◌, ◌≢◌, ◌⊎◌, ◌<◌, ◌+◌, ℕ, true, false, set, Contains, List, [], ◌∷◌, ◌++◌, length, length-set, Option, Some, None, slice_get, refl, sym, ap, subst, ◌∙◌, inl, inr, get_or-set_same, get_or-set_other}
+use Rattle.std.proofs.Common.{◌≡◌, ◌⊎◌, ◌<◌, ℕ, true, false, set, Contains, List, [], ◌∷◌, ◌++◌, length, length-set, Option, Some, None, slice_get, refl, sym, ap, subst, ◌∙◌, inl, inr, get_or-set_same, get_or-set_other}
 use Rattle.std.specs.List.{AllByRecursion, list_any}
 use Rattle.std.proofs.lemmas.Bool.{cases_Bool, cases_eq, false≢true}
 use Rattle.std.proofs.lemmas.List.Elements.{Contains-append_left, Contains-push}
@@ -40,7 +40,7 @@ use Rattle.pl_world.specs.OtherActs.{reception_noted}
 use Rattle.pl_world.specs.WorldRule.{ComesAtHost, ComesAtSwitch, ComesOut, ComesOver, HostTurn}
 use Rattle.pl_world.specs.Worlds.{WorldView}
 use Rattle.pl_addresses.proofs.Words.{any_rest}
-use Rattle.pl_control_plane.proofs.Stepping.{turn_same}
+use Rattle.pl_world.proofs.Beside.{by_host}
 use Rattle.pl_attended.specs.Attended.{StandApart}
 use Rattle.pl_attended.specs.Stays.{Stay, stay_of}
 use Rattle.pl_attended.specs.Probes.{is_packet, is_probe}
@@ -200,7 +200,8 @@ module _ (h : ℕ) (w : WorldView) (f : Facts w) (apart : StandApart w.stands) (
   module _ (rule : HostRule) (lawful : (view : HostView) (input : HostInput) (after : HostView) (acts : List HostAct) (answer : HostAnswer) → rule view input after acts answer → host_rule view input after acts answer) where
     same_places : (g : ℕ) (u : WorldView) (input : HostInput) (answer : HostAnswer) (new : WorldView) → HostTurn rule u g input answer new → u.plan ≡ w.plan → u.stands ≡ w.stands →
         (new.plan ≡ w.plan) × (new.stands ≡ w.stands)
-    same_places g u input answer new turn plan stands = let same = turn_same rule u g input answer new turn in (same.plan ∙ plan, same.stands ∙ stands)
+    same_places g u input answer new turn plan stands =
+        let same = by_host rule u g input answer new turn in (ap (λ (x : WorldView). x.plan) same ∙ plan, ap (λ (x : WorldView). x.stands) same ∙ stands)
 
     -- it answers
     probe_answered : (id : ℕ) (frame : List ℕ) → item ≡ Data id frame → (g : ℕ) (what : Reception) (answer : HostAnswer) (new : WorldView) → g ≡ h →

@@ -1,5 +1,5 @@
 -- A host moves, and hosts send and play.
-use Rattle.std.proofs.Common.{◌≡◌, ◌≢◌, ◌+◌, ◌==◌, ℕ, Bool, true, false, if◌then◌else◌, set, List, [], ◌∷◌, ◌++◌, Option, Some, None, slice_get, refl, sym, ap, subst, ◌∙◌, inl, inr, arith, eqb-true, eq-eqb, get_or-set_other}
+use Rattle.std.proofs.Common.{◌≡◌, ◌≢◌, ◌==◌, ℕ, Bool, true, false, if◌then◌else◌, set, List, [], ◌∷◌, ◌++◌, Option, Some, None, slice_get, refl, sym, ap, subst, ◌∙◌, inl, inr, arith, eqb-true, eq-eqb, get_or-set_other}
 use Rattle.std.specs.List.{AllByRecursion, list_any, position}
 use Rattle.std.proofs.lemmas.Bool.{cases_Bool, cases_eq, false≢true}
 use Rattle.std.proofs.lemmas.Nat.{same_from_place}
@@ -21,7 +21,7 @@ use Rattle.pl_world.specs.LinksAndMoves.{host_moved}
 use Rattle.pl_world.specs.OtherActs.{skip_noted}
 use Rattle.pl_world.specs.WorldRule.{HostPlays, HostTurn}
 use Rattle.pl_world.specs.Worlds.{WorldView}
-use Rattle.pl_control_plane.proofs.Stepping.{turn_same}
+use Rattle.pl_world.proofs.Beside.{by_host}
 use Rattle.pl_addresses.proofs.Words.{get-set_other}
 use Rattle.pl_attended.specs.Attended.{StandApart}
 use Rattle.pl_attended.specs.Stays.{Stay, first_stay, stay_of}
@@ -40,8 +40,8 @@ use Rattle.pl_attended.proofs.Turns.{NoticedIn, noticed_on}
 module _ (h : ℕ) (w : WorldView) (f : Facts w) (apart : StandApart w.stands) (a : Attends h w) (rule : HostRule) where
   -- ---- a host does what it is told
   pub sends_on : (g : ℕ) (input : HostInput) (answer : HostAnswer) (new : WorldView) → HostTurn rule w g input answer new → Keeps h w new
-  sends_on g input answer new turn = let same = turn_same rule w g input answer new turn in record {
-    rest = (same.plan, same.stands);
+  sends_on g input answer new turn = let same = by_host rule w g input answer new turn in record {
+    rest = (ap (λ (x : WorldView). x.plan) same, ap (λ (x : WorldView). x.stands) same);
     told = turn_is_told (any_spot h) rule w g input answer new turn a.told;
     noticed = λ host stand at_host at_stand.
         noticed_on (spot_of h host stand) w new (host_follows (spot_of h host stand) rule w g input answer new turn a.told) (a.noticed host stand at_host at_stand);
@@ -56,9 +56,9 @@ module _ (h : ℕ) (w : WorldView) (f : Facts w) (apart : StandApart w.stands) (
           let e = Skipped (host_no g) skip in
           let u : WorldView = noted w e in
           let t = told_noted h w e (λ x. refl) a.told in
-          let same = turn_same rule u g input answer new turn in
+          let same = by_host rule u g input answer new turn in
           record {
-            rest = (same.plan, same.stands);
+            rest = (ap (λ (x : WorldView). x.plan) same, ap (λ (x : WorldView). x.stands) same);
             told = turn_is_told (any_spot h) rule u g input answer new turn t;
             noticed = λ host stand at_host at_stand.
                 noticed_on (spot_of h host stand) u new (host_follows (spot_of h host stand) rule u g input answer new turn t)
@@ -126,12 +126,13 @@ module _ (h : ℕ) (w : WorldView) (f : Facts w) (apart : StandApart w.stands) (
 
     pub goes_on : (answer : HostAnswer) (new : WorldView) → HostTurn rule moved g HasMoved answer new → Attends h new × StandApart new.stands
     goes_on answer new turn =
-        let same = turn_same rule moved g HasMoved answer new turn in (
+        let same = by_host rule moved g HasMoved answer new turn in (
           record {
             told = turn_is_told (any_spot h) rule moved g HasMoved answer new turn told_moved;
             noticed = λ host stand at_host at_stand.
                 noticed_on (spot_of h host stand) moved new (host_follows (spot_of h host stand) rule moved g HasMoved answer new turn told_moved)
-                (noticed_moved host stand (ap (λ (p : Plan). slice_get p.hosts h) (sym same.plan) ∙ at_host) (ap (λ (xs : List Stand). slice_get xs h) (sym same.stands) ∙ at_stand));
+                (noticed_moved host stand (ap (λ (p : Plan). slice_get p.hosts h) (sym (ap (λ (x : WorldView). x.plan) same)) ∙ at_host)
+                    (ap (λ (xs : List Stand). slice_get xs h) (sym (ap (λ (x : WorldView). x.stands) same)) ∙ at_stand));
           },
-          subst (λ (xs : List Stand). StandApart xs) (sym same.stands) (moved_apart w.stands g to apart free),
+          subst (λ (xs : List Stand). StandApart xs) (sym (ap (λ (x : WorldView). x.stands) same)) (moved_apart w.stands g to apart free),
         )

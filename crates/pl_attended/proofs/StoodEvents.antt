@@ -1,22 +1,13 @@
 -- Each event grants addresses to hosts that stand there, or have stood there.
-use Rattle.std.proofs.Common.{◌≡◌, ◌≢◌, ◌<◌, ◌+◌, ◌==◌, ◌&&◌, ◌||◌, ℕ, Bool, true, false, set, Contains, List, [], ◌∷◌, ◌++◌, reverse, fold, length, Option, Some, None, slice_get, slice_set, refl, sym, ap, subst, ◌∙◌, inl, inr, eq-eqb}
-use Rattle.std.specs.List.{AllByRecursion, position}
+use Rattle.std.proofs.Common.{◌≡◌, ◌<◌, ◌==◌, ◌&&◌, ◌||◌, ℕ, Bool, true, set, Contains, List, [], ◌∷◌, ◌++◌, reverse, length, Option, Some, None, slice_get, slice_set, refl, sym, ap, subst, ◌∙◌, inl, inr, eq-eqb}
+use Rattle.std.specs.List.{AllByRecursion}
 use Rattle.std.proofs.lemmas.Bool.{and_from, cases_eq, false≢true}
 use Rattle.std.proofs.lemmas.List.Elements.{Contains-append_left, Contains-push}
 use Rattle.std.proofs.lemmas.Option.{same_Some, slice_get_within}
-use Rattle.pl_wiring.specs.declared.link.Link.{Link}
-use Rattle.pl_wiring.specs.declared.link.Peer.{Peer}
-use Rattle.pl_wiring.specs.declared.link.Peer.TheVariants.{HostPort, Switch}
+use Rattle.pl_wiring.specs.declared.link.Peer.TheVariants.{Switch}
 use Rattle.pl_wiring.specs.Index.{port_index}
 use Rattle.pl_wiring.specs.Peers.{peer_of}
 use Rattle.pl_wiring.specs.Plan.{IsPlan, Plan}
-use Rattle.pl_layouts.specs.Equality.{same_switch}
-use Rattle.pl_logic.specs.declared.acts.ManagerAct.{ManagerAct}
-use Rattle.pl_logic.specs.declared.acts.ManagerAct.TheVariants.{Number, Say}
-use Rattle.pl_logic.specs.declared.messages.ToManager.{ToManager}
-use Rattle.pl_logic.specs.declared.messages.ToSwitch.{ToSwitch}
-use Rattle.pl_logic.specs.declared.reception.Reception.{Reception}
-use Rattle.pl_logic.specs.declared.reception.Reception.TheVariants.{Kept, NotMember}
 use Rattle.pl_logic.specs.declared.switch_records.Source.{Source}
 use Rattle.pl_logic.specs.HostDuties.{is_own}
 use Rattle.pl_logic.specs.HostInputs.{HostAnswer, HostInput, HostRule}
@@ -25,9 +16,8 @@ use Rattle.pl_logic.specs.SwitchInputs.{SwitchInput}
 use Rattle.pl_logic.specs.SwitchInputs.SwitchInput.{Comes, Says, Tick}
 use Rattle.pl_logic.specs.SwitchViews.{SwitchView}
 use Rattle.pl_journal.specs.declared.cause.Cause.TheVariants as cause
-use Rattle.pl_journal.specs.declared.cause.Skip.{Skip}
 use Rattle.pl_journal.specs.declared.entry.Entry.{Entry}
-use Rattle.pl_journal.specs.declared.entry.Entry.TheVariants.{Arrived, Crossed, Dropped, LinkDown, LinkUp, Moved, Registered, Skipped}
+use Rattle.pl_journal.specs.declared.entry.Entry.TheVariants.{Crossed, Moved}
 use Rattle.pl_journal.specs.Places.{at_port, has_stood, same_spot}
 use Rattle.pl_queues.specs.Queues.{items_at}
 use Rattle.pl_switch_rule.specs.Forwarding.{Choice}
@@ -35,26 +25,27 @@ use Rattle.pl_switch_rule.specs.Granting.{remembered_at}
 use Rattle.pl_switch_rule.specs.SwitchRule.{Loose, switch_step}
 use Rattle.pl_switch_rule.proofs.Shapes.{all_or}
 use Rattle.pl_world.specs.declared.event.Event.{Event}
-use Rattle.pl_world.specs.declared.event.Event.TheVariants as event
-use Rattle.pl_world.specs.declared.event.QueueName.{QueueName}
-use Rattle.pl_world.specs.declared.event.QueueName.TheVariants as queue
 use Rattle.pl_world.specs.declared.item.Item.{Item}
 use Rattle.pl_world.specs.declared.item.Item.TheVariants.{Control, Data}
 use Rattle.pl_world.specs.declared.spoken_frame.SpokenFrame.{SpokenFrame}
 use Rattle.pl_world.specs.declared.stand.Stand.{Stand}
 use Rattle.pl_world.specs.Booting.{me_of}
-use Rattle.pl_world.specs.Changes.{ends_of, host_at, host_no, noted, out_of, receiver, said_to, switch_no}
+use Rattle.pl_world.specs.Changes.{ends_of, host_at, host_no, noted, out_of, switch_no}
 use Rattle.pl_wiring.specs.declared.label.SwitchNo.{SwitchNo}
 use Rattle.pl_world.specs.Flying.{IsDataItem, IsItem}
-use Rattle.pl_world.specs.LinksAndMoves.{host_moved, item_lost, link_between}
-use Rattle.pl_world.specs.OtherActs.{heard_after_tick, manager_act_done, reception_noted, skip_noted}
+use Rattle.pl_world.specs.LinksAndMoves.{host_moved}
+use Rattle.pl_world.specs.OtherActs.{heard_after_tick, skip_noted}
 use Rattle.pl_world.specs.Refusals.{refusal_of_event}
-use Rattle.pl_world.specs.WorldRule.{ComesAtHost, ComesAtSwitch, ComesIn, ComesOut, ComesOver, Delivers, DeliversFromHost, DeliversFromManager, DeliversOut, DeliversToManager, Fails, Goes, Happens, HostTurn, IsRepaired, Loses, SwitchTurn, heard_item}
+use Rattle.pl_world.specs.WorldRule.{ComesAtSwitch, Happens, HostTurn, SwitchTurn, heard_item}
 use Rattle.pl_world.specs.Worlds.{WorldView}
+use Rattle.pl_world.proofs.Beside.{by_host}
+use Rattle.pl_world.proofs.Happenings.{Happened, happened}
+use Rattle.pl_world.proofs.Happenings.Happened.{Asked, Departed, Failed, FromHost, Lost, Ordered, OutOfPort, OverLink, PlayedFrame, Repaired, Reported, Ticked}
+use Rattle.pl_world.proofs.Leaving.{Writes, failed_left, manager_acts_left, repaired_left}
+use Rattle.pl_world.proofs.Turning.{lost_left, out_left, skip_left}
 use Rattle.pl_addresses.specs.OwnFrames.{IsOwnItem}
 use Rattle.pl_addresses.proofs.Turns.{exists_at, filled_within}
 use Rattle.pl_addresses.proofs.Words.{get-set_other, get-set_same}
-use Rattle.pl_control_plane.proofs.Stepping.{turn_same}
 use Rattle.pl_attended.specs.Attended.{StandApart}
 use Rattle.pl_attended.specs.Stood.{AreStoodFor}
 use Rattle.pl_attended.proofs.Acts.{Rest}
@@ -145,33 +136,32 @@ switch_stood w is_plan st s input speech new turn fits =
 -- ---- a host
 host_stood : (rule : HostRule) (w : WorldView) → IsStood w → (g : ℕ) (input : HostInput) (answer : HostAnswer) (new : WorldView) → HostTurn rule w g input answer new → IsStood new
 host_stood rule w st g input answer new turn =
-    let same = turn_same rule w g input answer new turn in
+    let same = by_host rule w g input answer new turn in
     let first : WorldView = record w { hosts = set w.hosts g turn.after } in
     quiet_stood w new (record {
-      plan = same.plan;
-      stands = same.stands;
-      switches = same.switches;
+      plan = ap (λ (x : WorldView). x.plan) same;
+      stands = ap (λ (x : WorldView). x.stands) same;
+      switches = ap (λ (x : WorldView). x.switches) same;
       wrote = subst (λ (x : WorldView). Wrote w.plan w.journal x.journal) (sym turn.changed) (host_wrote w.plan g first turn.acts);
     }) st
 
 entry_stood : (w : WorldView) (e : Entry) → IsNoGrant e → IsStood w → IsStood (noted w e)
 entry_stood w e none st = stood_on w.plan w.stands w.switches w.journal (w.journal ++ e ∷ []) (wrote_quiet w.plan w.journal e none) st
 
-reception_stood : (w : WorldView) (g id : ℕ) (frame : List ℕ) (what : Reception) → IsStood w → IsStood (reception_noted w g id frame what)
-reception_stood w g id frame Kept st = entry_stood w (Arrived id (host_no g) frame) tt st
-reception_stood w g id frame NotMember st = entry_stood w (Dropped id cause.NoMember) tt st
+abbrev Keeps : WorldView → WorldView → Type 0
+Keeps a b = IsStood a → IsStood b
 
-skip_stood : (w : WorldView) (g : ℕ) (skip : Option Skip) → IsStood w → IsStood (skip_noted w g skip)
-skip_stood w g None st = st
-skip_stood w g (Some skip) st = entry_stood w (Skipped (host_no g) skip) tt st
+keeps_writes : Writes Keeps IsNoGrant
+keeps_writes = record { same = λ w st. st; on = λ a b c one next st. next (one st); entry = entry_stood; dropped = λ id cause. tt }
 
 module _ (w : WorldView) (f : Facts w) (st : IsStood w) where
   -- ---- a frame of a host
-  host_frame : (g : ℕ) (item : Item) (rest : List Item) (new : WorldView) → items_at w.from_hosts g ≡ item ∷ rest → (place : Option Stand) → slice_get w.stands g ≡ place →
-      ComesIn Loose (record w { from_hosts = slice_set w.from_hosts g rest }) g item place new → IsStood new
-  host_frame g item rest new head None at comes = absurd comes
-  host_frame g (Control frame) rest new head (Some gs) at turn = absurd (subst (λ (xs : List Item). AllByRecursion IsDataItem xs) head (all_or (AllByRecursion IsDataItem) w.from_hosts g [] f.host_items tt)).0
-  host_frame g (Data id frame) rest new head (Some gs) at turn =
+  host_frame : (g : ℕ) (item : Item) (rest : List Item) (new : WorldView) → items_at w.from_hosts g ≡ item ∷ rest → (gs : Stand) →
+      slice_get w.stands g ≡ Some gs →
+      ComesAtSwitch Loose (heard_item (record w { from_hosts = slice_set w.from_hosts g rest }) g item) gs.edge.0 gs.port item new → IsStood new
+  host_frame g (Control frame) rest new head gs at turn =
+      absurd (subst (λ (xs : List Item). AllByRecursion IsDataItem xs) head (all_or (AllByRecursion IsDataItem) w.from_hosts g [] f.host_items tt)).0
+  host_frame g (Data id frame) rest new head gs at turn =
       let mid : WorldView = noted (heard_item (record w { from_hosts = slice_set w.from_hosts g rest }) g (Data id frame)) (Crossed id (switch_no gs.edge.0)) in
       let there : IsStood mid = stood_on w.plan w.stands w.switches w.journal mid.journal (wrote_quiet w.plan w.journal (Crossed id (switch_no gs.edge.0)) tt) st in
       let within : g < length w.from_hosts = filled_within w.from_hosts g (Data id frame) rest head in
@@ -186,10 +176,6 @@ module _ (w : WorldView) (f : Facts w) (st : IsStood w) where
         mac_is = sym (own_is (me_of host.0) frame own).source;
         stood = there.stand g gs at;
       }))
-
-  from_host : (g : ℕ) (items : List Item) (new : WorldView) → items_at w.from_hosts g ≡ items → DeliversFromHost Loose w g items new → IsStood new
-  from_host g [] new is comes = absurd comes
-  from_host g (item ∷ rest) new is comes = host_frame g item rest new is (slice_get w.stands g) refl comes
 
   -- ---- out of a port
   module _ (rule : HostRule) where
@@ -207,82 +193,7 @@ module _ (w : WorldView) (f : Facts w) (st : IsStood w) where
         absurd (false≢true (sym (f.neighbours s port t q id frame v leads
         (subst (λ (xs : List Item). Contains xs (Data id frame)) (sym head) (subst (λ (j : Item). Contains (item ∷ rest) j) is (Contains-append_left (item ∷ []) rest item (Contains-push [] item)))) found) ∙ takes))))
 
-    at_host : (u : WorldView) → IsStood u → (id : ℕ) (frame : List ℕ) (to : Option ℕ) (new : WorldView) → ComesAtHost rule u id frame to new → IsStood new
-    at_host u su id frame None new same = subst (λ (x : WorldView). IsStood x) (sym same) (entry_stood u (Dropped id cause.HostGone) tt su)
-    at_host u su id frame (Some g) new is = host_stood rule (reception_noted u g id frame is.reception) (reception_stood u g id frame is.reception su) g _ _ new is.turn
-
-    comes_out : (u : WorldView) → IsStood u → (s port : ℕ) (item : Item) (new : WorldView) → ComesOut rule u s port item new → IsStood new
-    comes_out u su s port (Control frame) new same = subst (λ (x : WorldView). IsStood x) (sym same) su
-    comes_out u su s port (Data id frame) new comes = at_host u su id frame (receiver u s port frame) new comes
-
-    out_by : (s port : ℕ) (item : Item) (rest : List Item) → out_of w s port ≡ item ∷ rest → (peer : Peer) → peer_of w.plan s port ≡ peer → (new : WorldView) →
-        ComesOver Loose rule (record w { out = set w.out (port_index w.plan.k s port) rest }) s port item peer new → IsStood new
-    out_by s port item rest head (Switch t q) leads new comes = over_link s port item rest head t q leads item refl new comes
-    out_by s port item rest head HostPort leads new comes =
-        comes_out (record w { out = set w.out (port_index w.plan.k s port) rest }) (record { apart = st.apart; stand = st.stand; remembered = st.remembered; granted = st.granted }) s port item new comes
-
-    out_of_port : (s port : ℕ) (items : List Item) (new : WorldView) → out_of w s port ≡ items → DeliversOut Loose rule w s port items new → IsStood new
-    out_of_port s port [] new is comes = absurd comes
-    out_of_port s port (item ∷ rest) new is comes = out_by s port item rest is (peer_of w.plan s port) refl new comes
-
-    -- ---- the manager
-    one_said : (u : WorldView) (a : ManagerAct) → IsStood u → IsStood (manager_act_done u a)
-    one_said u (Say to says) su = by (position (same_switch to) u.plan.ids)
-      where
-        by : (o : Option ℕ) → IsStood (said_to u says o)
-        by None = su
-        by (Some s) = record { apart = su.apart; stand = su.stand; remembered = su.remembered; granted = su.granted }
-    one_said u (Number pmac n) su = entry_stood u (Registered pmac n) tt su
-
-    all_said : (u : WorldView) (acts : List ManagerAct) → IsStood u → IsStood (fold manager_act_done u acts)
-    all_said u [] su = su
-    all_said u (a ∷ acts) su = all_said (manager_act_done u a) acts (one_said u a su)
-
-    to_manager : (manager : ManagerRule) (s : ℕ) (items : List ToManager) (new : WorldView) → DeliversToManager manager w s items new → IsStood new
-    to_manager manager s [] new turn = absurd turn
-    to_manager manager s (told ∷ rest) new turn =
-        subst (λ (x : WorldView). IsStood x) (sym turn.changed)
-        (all_said (record w { to_manager = set w.to_manager s rest; manager = turn.after }) turn.acts (record { apart = st.apart; stand = st.stand; remembered = st.remembered; granted = st.granted }))
-
-    from_manager : (s : ℕ) (items : List ToSwitch) (new : WorldView) → DeliversFromManager Loose w s items new → IsStood new
-    from_manager s [] new turn = absurd turn
-    from_manager s (says ∷ rest) new turn =
-        switch_stood (record w { from_manager = set w.from_manager s rest }) f.plan (record { apart = st.apart; stand = st.stand; remembered = st.remembered; granted = st.granted }) s (Says says) _ new turn
-        (λ v found choose. fits_order (λ port mac. StoodThere w.plan (reverse w.journal) mac s port) choose v says)
-
-    delivers : (manager : ManagerRule) (name : QueueName) (new : WorldView) → Delivers Loose manager rule w name new → IsStood new
-    delivers manager (queue.FromHost g) new comes = from_host g.0 (items_at w.from_hosts g.0) new refl comes
-    delivers manager (queue.Port s port) new comes = out_of_port s.0 port (out_of w s.0 port) new refl comes
-    delivers manager (queue.ToManager s) new comes = to_manager manager s.0 (items_at w.to_manager s.0) new comes
-    delivers manager (queue.FromManager s) new comes = from_manager s.0 (items_at w.from_manager s.0) new comes
-
     -- ---- links and moves
-    fails : (link : Option Link) (new : WorldView) → Fails w link new → IsStood new
-    fails None new none = absurd none
-    fails (Some link) new same =
-        let lower = port_index w.plan.k link.lower.0 link.lower_port in
-        let first = set w.out lower [] in
-        let one = ends_of cause.LinkDown (items_at w.out lower) in
-        let two = ends_of cause.LinkDown (items_at first (port_index w.plan.k link.upper.0 link.upper_port)) in
-        let j1 : List Entry = w.journal ++ LinkDown link.lower link.upper ∷ [] in
-        subst (λ (x : WorldView). IsStood x) (sym same)
-        (stood_on w.plan w.stands w.switches w.journal ((j1 ++ one) ++ two)
-        (wrote_then w.plan w.journal j1 ((j1 ++ one) ++ two) (wrote_quiet w.plan w.journal (LinkDown link.lower link.upper) tt)
-        (wrote_then w.plan j1 (j1 ++ one) ((j1 ++ one) ++ two) (wrote_all w.plan j1 one (none_of_ends w.plan cause.LinkDown (items_at w.out lower)))
-        (wrote_all w.plan (j1 ++ one) two (none_of_ends w.plan cause.LinkDown (items_at first (port_index w.plan.k link.upper.0 link.upper_port)))))) st)
-
-    repaired : (link : Option Link) (new : WorldView) → IsRepaired w link new → IsStood new
-    repaired None new none = absurd none
-    repaired (Some link) new same = subst (λ (x : WorldView). IsStood x) (sym same) (entry_stood w (LinkUp link.lower link.upper) tt st)
-
-    loses : (s port : ℕ) (items : List Item) (new : WorldView) → Loses w s port items new → IsStood new
-    loses s port [] new is = absurd is
-    loses s port (item ∷ rest) new same = subst (λ (x : WorldView). IsStood x) (sym same) (by item)
-      where
-        by : (i : Item) → IsStood (item_lost (record w { out = set w.out (port_index w.plan.k s port) rest }) i)
-        by (Control frame) = record { apart = st.apart; stand = st.stand; remembered = st.remembered; granted = st.granted }
-        by (Data id frame) = entry_stood w (Dropped id cause.Lost) tt st
-
     moved : (g : ℕ) (from to : Stand) → slice_get w.stands g ≡ Some from → host_at w to.edge.0 to.port ≡ None → IsStood (host_moved w g from to)
     moved g from to was free =
         let e = Moved (host_no g) to.edge to.port in
@@ -313,21 +224,36 @@ module _ (w : WorldView) (f : Facts w) (st : IsStood w) where
         or_first : (a b : Bool) → a ≡ true → (a || b) ≡ true
         or_first a b is = ap (λ c. c || b) is
 
-    goes : (g : ℕ) (to : Stand) (from : Option Stand) (new : WorldView) → slice_get w.stands g ≡ from → host_at w to.edge.0 to.port ≡ None → Goes rule w g to from new → IsStood new
-    goes g to None new was free turn = absurd turn
-    goes g to (Some from) new was free turn = host_stood rule (host_moved w g from to) (moved g from to was free) g _ _ new turn
+    module _ (manager : ManagerRule) (e : Event) (new : WorldView) (none : refusal_of_event w e ≡ None) where
+      by_case : Happened Loose manager rule w e new → IsStood new
+      by_case (FromHost g item items stand is head at comes) = host_frame g.0 item items new head stand at comes
+      by_case (OverLink s port item items t q is head joined comes) = over_link s.0 port item items head t q joined item refl new comes
+      by_case (OutOfPort s port item items is head joined comes) =
+          out_left Keeps IsNoGrant keeps_writes rule (λ u g input answer x turn su. host_stood rule u su g input answer x turn) (λ id g frame. tt)
+          (record w { out = set w.out (port_index w.plan.k s.0 port) items }) s.0 port item new comes st
+      by_case (Reported s told items is head turn) =
+          manager_acts_left Keeps IsNoGrant keeps_writes (λ pmac n. tt) (λ u t says su. su) manager
+              (record w { to_manager = set w.to_manager s.0 items }) s.0 told new turn st
+      by_case (Ordered s says items is head turn) =
+          switch_stood (record w { from_manager = set w.from_manager s.0 items }) f.plan st s.0 (Says says) _ new turn
+          (λ v found choose. fits_order (λ port mac. StoodThere w.plan (reverse w.journal) mac s.0 port) choose v says)
+      by_case (Ticked s is turn) =
+          switch_stood (record w { heard = heard_after_tick s.0 w.stands w.heard }) f.plan st s.0 Tick _ new turn
+          (λ v found choose. fits_tick (λ port mac. StoodThere w.plan (reverse w.journal) mac s.0 port) choose v)
+      by_case (Failed a b link is found fails) =
+          subst (λ (x : WorldView). IsStood x) (sym fails) (failed_left Keeps IsNoGrant keeps_writes (λ u i su. su) w link tt (λ u links su. su) st)
+      by_case (Repaired a b link is found repairs) =
+          subst (λ (x : WorldView). IsStood x) (sym repairs) (repaired_left Keeps IsNoGrant keeps_writes w link tt (λ u links su. su) st)
+      by_case (Lost s port item items is head loses) =
+          subst (λ (x : WorldView). IsStood x) (sym loses) (lost_left Keeps IsNoGrant keeps_writes
+              (record w { out = set w.out (port_index w.plan.k s.0 port) items }) item st)
+      by_case (Departed g s port from is at turn) =
+          let to : Stand = record { edge = s; port = port } in
+          let free = place_is_free w g.0 s.0 port (subst (λ (x : Event). refusal_of_event w x ≡ None) is none) in
+          host_stood rule (host_moved w g.0 from to) (moved g.0 from to at free) g.0 _ _ new turn
+      by_case (PlayedFrame g input skip is turn) =
+          host_stood rule (skip_noted w g.0 skip) (skip_left Keeps IsNoGrant keeps_writes (λ n why. tt) w g.0 skip st) g.0 _ _ new turn
+      by_case (Asked g input is turn) = host_stood rule w st g.0 _ _ new turn
 
-    pub event_stood : (manager : ManagerRule) (e : Event) (new : WorldView) → refusal_of_event w e ≡ None → Happens Loose manager rule w e new → IsStood new
-    event_stood manager (event.Deliver name) new none is = delivers manager name new is
-    event_stood manager (event.Tick s) new none is =
-        switch_stood (record w { heard = heard_after_tick s.0 w.stands w.heard }) f.plan (record { apart = st.apart; stand = st.stand; remembered = st.remembered; granted = st.granted }) s.0 Tick _ new is
-        (λ v found choose. fits_tick (λ port mac. StoodThere w.plan (reverse w.journal) mac s.0 port) choose v)
-    event_stood manager (event.Fail a b) new none is = fails (link_between w.plan a.0 b.0) new is
-    event_stood manager (event.Repair a b) new none is = repaired (link_between w.plan a.0 b.0) new is
-    event_stood manager (event.Lose s port) new none is = loses s.0 port (out_of w s.0 port) new is
-    event_stood manager (event.Move g s port) new none is = goes g.0 (record { edge = s; port = port }) (slice_get w.stands g.0) new refl (place_is_free w g.0 s.0 port none) is
-    event_stood manager (event.Start g) new none is = host_stood rule w st g.0 _ _ new is
-    event_stood manager (event.Play g frame original raw) new none is = host_stood rule (skip_noted w g.0 is.skip) (skip_stood w g.0 is.skip st) g.0 _ _ new is.turn
-    event_stood manager (event.Retry g) new none is = host_stood rule w st g.0 _ _ new is
-    event_stood manager (event.Join g group) new none is = host_stood rule w st g.0 _ _ new is
-    event_stood manager (event.Leave g group) new none is = host_stood rule w st g.0 _ _ new is
+      pub event_stood : Happens Loose manager rule w e new → IsStood new
+      event_stood does = by_case (happened Loose manager rule w e new does)

@@ -1,11 +1,13 @@
 -- What a write at one queue does to what is said and carried.
-use Rattle.std.proofs.Common.{◌≡◌, ℕ, ◌+◌, ◌*◌, ◌<◌, ◌||◌, ◌⊎◌, Bool, true, false, List, [], ◌∷◌, ◌++◌, length, get_or, set, refl, sym, ap, ◌∙◌, append_assoc, inl, inr, get_or-set_same, get_or-set_other}
-use Rattle.std.specs.List.{flat_map, list_any}
+use Rattle.std.proofs.Common.{◌≡◌, ℕ, ◌*◌, ◌<◌, ◌||◌, ◌⊎◌, Bool, true, false, List, [], ◌∷◌, ◌++◌, length, get_or, set, refl, sym, ap, ◌∙◌, append_assoc, inl, inr, get_or-set_same, get_or-set_other, ◌+◌}
+use Rattle.std.specs.List.{flat_map, list_any, AllByRecursion}
 use Rattle.pl_wiring.specs.Index.{port_index}
 use Rattle.pl_wiring.proofs.Entered.{entry_at-in_range, entry_at-set_other, entry_at-set_same, port_index-below}
+use Rattle.pl_logic.specs.declared.acts.Act.{Act}
+use Rattle.pl_logic.specs.declared.acts.Act.TheVariants as act
 use Rattle.pl_queues.specs.Queues.{items_at, put_at}
 use Rattle.pl_world.specs.declared.item.Item.{Item}
-use Rattle.pl_control_plane.specs.ControlPlanes.{queue_out, said, said_by}
+use Rattle.pl_control_plane.specs.ControlPlanes.{queue_out, said, said_by, tells}
 
 module _ {A B : Type 0} where
   pub flat_map_append : (f : A → List B) (xs ys : List A) → flat_map f (xs ++ ys) ≡ flat_map f xs ++ flat_map f ys
@@ -27,6 +29,12 @@ said_append xs ys = flat_map_append said_by xs ys
 pub or_either : (x y : Bool) → (x || y) ≡ true → (x ≡ true) ⊎ (y ≡ true)
 or_either true y h = inl refl
 or_either false y h = inr h
+
+-- what is so of each act is so of each word that acts tell the manager
+pub told_all : (P : Act → Type 0) (acts : List Act) → AllByRecursion P acts → AllByRecursion (λ told. P (act.Tell told)) (tells acts)
+told_all P [] all = tt
+told_all P (act.Tell told ∷ acts) all = (all.0, told_all P acts all.1)
+told_all P (a ∷ acts) all = told_all P acts all.1
 
 -- a queue that items were put into, or taken from
 module _ (k count s p : ℕ) (out : List (List Item)) (there : s < count) (within : p < k) (many : length out ≡ count * k) where

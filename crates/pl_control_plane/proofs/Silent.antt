@@ -1,27 +1,26 @@
 -- Parts of a switch's step that discovery does not see: what it looks at stays, no control frame is sent, and frames leave by usable ports or to
 -- hosts.
-use Rattle.std.proofs.Common.{◌≡◌, ℕ, zero, suc, ◌+◌, ◌-◌, ◌==◌, ◌&&◌, ◌||◌, ◌⊎◌, not, Bool, true, false, if◌then◌else◌, List, [], ◌∷◌, ◌++◌, length, Option, Some, None, get_or, set, slice_set, refl, ◌∙◌, subst, inl, inr}
-use Rattle.std.specs.List.{AllByRecursion, flat_map}
+use Rattle.std.proofs.Common.{◌≡◌, ℕ, zero, suc, ◌+◌, ◌==◌, ◌||◌, ◌⊎◌, Bool, true, false, if◌then◌else◌, List, [], ◌∷◌, ◌++◌, length, Option, Some, None, get_or, set, slice_set, refl, ◌∙◌, subst, inl, inr, ◌-◌, get_or-set_other}
+use Rattle.std.specs.List.{AllByRecursion}
 use Rattle.std.proofs.lemmas.Bool.{cases_eq, eqb-true}
-use Rattle.std.proofs.Common.{get_or-set_other}
 use Rattle.pl_frame.specs.declared.address.Ip4.{Ip4}
 use Rattle.pl_frame.specs.declared.address.Mac.{Mac}
 use Rattle.pl_frame.specs.Ethernet.{source_of}
 use Rattle.pl_pmac.specs.declared.pmac.Pmac.{Pmac}
 use Rattle.pl_layouts.specs.declared.place.Place.{Place}
-use Rattle.pl_layouts.specs.Placement.{is_known, is_placed, same_place}
-use Rattle.pl_journal.specs.Places.{are_alike}
+use Rattle.pl_layouts.specs.Placement.{is_placed}
 use Rattle.pl_logic.specs.declared.acts.Act.{Act}
 use Rattle.pl_logic.specs.declared.acts.Act.TheVariants as act
 use Rattle.pl_logic.specs.declared.messages.ToManager.TheVariants.{Learned}
 use Rattle.pl_logic.specs.declared.switch_records.Grant.{Grant}
 use Rattle.pl_logic.specs.declared.switch_records.Source.{Source}
-use Rattle.pl_logic.specs.PortRecords.{id_at, is_usable, port_of, ports_of_switch}
+use Rattle.pl_logic.specs.PortRecords.{is_usable, port_of, ports_of_switch}
 use Rattle.pl_logic.specs.SwitchViews.{SwitchView}
 use Rattle.pl_steps.specs.Steps.{SwitchStep, does, rests, ◌▹◌}
 use Rattle.pl_switch_rule.specs.Granting.{address_at_port, forgets, grant_number, granted, grants_at, grants_next, grants_or_learns, grants_remembered, grants_source, in_use, is_port_spent, learns_ip, learns_source, new_grant, or_else, remembered_at, remembered_ip, remembers, sender_ip, with_grant, with_grants}
 use Rattle.pl_switch_rule.specs.Levels.{changes_to, has_become_placed, settles_in}
-use Rattle.pl_switch_rule.specs.Telling.{changes_told, link_to, link_told, place_told, pod_wanted}
+use Rattle.pl_switch_rule.specs.Telling.{changes_told}
+use Rattle.pl_switch_rule.proofs.RowActs.{told_acts}
 use Rattle.pl_control_plane.specs.ControlPlanes.{passes, sends}
 use Rattle.pl_control_plane.specs.Homes.{HasHomes}
 use Rattle.pl_world.proofs.Counts.{all_append}
@@ -73,34 +72,18 @@ pub still_mute : (acts : List Act) → AllByRecursion IsStill acts → AllByRecu
 still_mute [] all = tt
 still_mute (act.Control port frame ∷ acts) all = absurd all.0
 still_mute (act.Pass port frame ∷ acts) all = absurd all.0
-still_mute (act.Tell told ∷ acts) all = (tt, still_mute acts all.1)
-still_mute (act.Grant pmac amac ∷ acts) all = (tt, still_mute acts all.1)
-still_mute (act.Make frame ∷ acts) all = (tt, still_mute acts all.1)
-still_mute (act.Redirect old new ∷ acts) all = (tt, still_mute acts all.1)
-still_mute (act.Take ∷ acts) all = (tt, still_mute acts all.1)
-still_mute (act.Drop cause ∷ acts) all = (tt, still_mute acts all.1)
+still_mute (a ∷ acts) all = (tt, still_mute acts all.1)
 
 pub still_well : (v : SwitchView) (acts : List Act) → AllByRecursion IsStill acts → AllByRecursion (GoesWell v) acts
 still_well v [] all = tt
 still_well v (act.Control port frame ∷ acts) all = absurd all.0
 still_well v (act.Pass port frame ∷ acts) all = absurd all.0
-still_well v (act.Tell told ∷ acts) all = (tt, still_well v acts all.1)
-still_well v (act.Grant pmac amac ∷ acts) all = (tt, still_well v acts all.1)
-still_well v (act.Make frame ∷ acts) all = (tt, still_well v acts all.1)
-still_well v (act.Redirect old new ∷ acts) all = (tt, still_well v acts all.1)
-still_well v (act.Take ∷ acts) all = (tt, still_well v acts all.1)
-still_well v (act.Drop cause ∷ acts) all = (tt, still_well v acts all.1)
+still_well v (a ∷ acts) all = (tt, still_well v acts all.1)
 
 pub mute_sends_none : (port : ℕ) (acts : List Act) → AllByRecursion IsMute acts → sends port acts ≡ []
 mute_sends_none port [] all = refl
 mute_sends_none port (act.Control at frame ∷ acts) all = absurd all.0
-mute_sends_none port (act.Pass at frame ∷ acts) all = mute_sends_none port acts all.1
-mute_sends_none port (act.Tell told ∷ acts) all = mute_sends_none port acts all.1
-mute_sends_none port (act.Grant pmac amac ∷ acts) all = mute_sends_none port acts all.1
-mute_sends_none port (act.Make frame ∷ acts) all = mute_sends_none port acts all.1
-mute_sends_none port (act.Redirect old new ∷ acts) all = mute_sends_none port acts all.1
-mute_sends_none port (act.Take ∷ acts) all = mute_sends_none port acts all.1
-mute_sends_none port (act.Drop cause ∷ acts) all = mute_sends_none port acts all.1
+mute_sends_none port (a ∷ acts) all = mute_sends_none port acts all.1
 
 first_or_rest : (v : SwitchView) (port at : ℕ) (acts : List Act) (rest : Bool) → (rest ≡ true → (is_usable v port ≡ true) ⊎ ((port_of v port).host ≡ true)) →
     (is_usable v at ≡ true) ⊎ ((port_of v at).host ≡ true) → ((at == port) || rest) ≡ true → (is_usable v port ≡ true) ⊎ ((port_of v port).host ≡ true)
@@ -117,25 +100,13 @@ pub well_passes : (v : SwitchView) (port : ℕ) (acts : List Act) → AllByRecur
     (is_usable v port ≡ true) ⊎ ((port_of v port).host ≡ true)
 well_passes v port [] all h = absurd (cc)
 well_passes v port (act.Pass at frame ∷ acts) all h = first_or_rest v port at acts (passes port acts) (λ e. well_passes v port acts all.1 e) all.0 h
-well_passes v port (act.Control at frame ∷ acts) all h = well_passes v port acts all.1 h
-well_passes v port (act.Tell told ∷ acts) all h = well_passes v port acts all.1 h
-well_passes v port (act.Grant pmac amac ∷ acts) all h = well_passes v port acts all.1 h
-well_passes v port (act.Make frame ∷ acts) all h = well_passes v port acts all.1 h
-well_passes v port (act.Redirect old new ∷ acts) all h = well_passes v port acts all.1 h
-well_passes v port (act.Take ∷ acts) all h = well_passes v port acts all.1 h
-well_passes v port (act.Drop cause ∷ acts) all h = well_passes v port acts all.1 h
+well_passes v port (a ∷ acts) all h = well_passes v port acts all.1 h
 
 -- the same of a view that discovery sees the same
 pub well_seen : (v w : SwitchView) (acts : List Act) → IsSeen v w → AllByRecursion (GoesWell w) acts → AllByRecursion (GoesWell v) acts
 well_seen v w [] seen all = tt
 well_seen v w (act.Pass port frame ∷ acts) seen all = (rw (← seen.id, ← seen.ports) all.0, well_seen v w acts seen all.1)
-well_seen v w (act.Control at frame ∷ acts) seen all = (tt, well_seen v w acts seen all.1)
-well_seen v w (act.Tell told ∷ acts) seen all = (tt, well_seen v w acts seen all.1)
-well_seen v w (act.Grant pmac amac ∷ acts) seen all = (tt, well_seen v w acts seen all.1)
-well_seen v w (act.Make frame ∷ acts) seen all = (tt, well_seen v w acts seen all.1)
-well_seen v w (act.Redirect old new ∷ acts) seen all = (tt, well_seen v w acts seen all.1)
-well_seen v w (act.Take ∷ acts) seen all = (tt, well_seen v w acts seen all.1)
-well_seen v w (act.Drop cause ∷ acts) seen all = (tt, well_seen v w acts seen all.1)
+well_seen v w (a ∷ acts) seen all = (tt, well_seen v w acts seen all.1)
 
 -- a part of a step of a switch that knows hosts at host ports alone
 pub record IsSilent (v : SwitchView) (s : SwitchStep) : Type 0 where
@@ -271,25 +242,8 @@ settles_in_silent old v homes =
 
 -- Telling.
 
-pub still_if : (b : Bool) (xs ys : List Act) → AllByRecursion IsStill xs → AllByRecursion IsStill ys → AllByRecursion IsStill (if b then xs else ys)
-still_if true xs ys a b = a
-still_if false xs ys a b = b
-
-pub still_flat_map : {X : Type 0} (f : X → List Act) (xs : List X) → ((x : X) → AllByRecursion IsStill (f x)) → AllByRecursion IsStill (flat_map f xs)
-still_flat_map f [] each = tt
-still_flat_map f (x ∷ xs) each = all_append IsStill (f x) (flat_map f xs) (each x) (still_flat_map f xs each)
-
-link_to_still : (id : _) (usable : Bool) → AllByRecursion IsStill (link_to id usable)
-link_to_still None usable = tt
-link_to_still (Some id) usable = (tt, tt)
-
 pub changes_told_still : (old new : SwitchView) → AllByRecursion IsStill (changes_told old new)
-changes_told_still old new =
-    all_append IsStill (place_told old.place new.place ++ flat_map (link_told old new) (ports_of_switch new.k)) (pod_wanted old.place new.place)
-    (all_append IsStill (place_told old.place new.place) (flat_map (link_told old new) (ports_of_switch new.k)) (still_if (same_place old.place new.place) [] _ tt (tt, tt))
-    (still_flat_map (link_told old new) (ports_of_switch new.k)
-    (λ port. still_if (are_alike (is_usable old port) (is_usable new port)) [] (link_to (id_at new port) (is_usable new port)) tt (link_to_still (id_at new port) (is_usable new port)))))
-    (still_if (is_known new.place.level 0 && is_known new.place.position 0 && not (is_known old.place.position 0)) _ [] (tt, tt) tt)
+changes_told_still old new = told_acts IsStill old new (record { placed = tt; linked = λ neighbour usable. tt; wanted = λ position. tt })
 
 -- what changed is told, and an edge switch that has become placed grants addresses
 pub changes_to_silent : (old new : SwitchView) → HasHomes new → IsSilent new (changes_to old new)

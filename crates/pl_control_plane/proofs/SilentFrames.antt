@@ -1,43 +1,39 @@
 -- What a switch does with data frames is not seen by discovery.
-use Rattle.std.proofs.Common.{◌≡◌, ℕ, zero, suc, ◌-◌, ◌<◌, ◌==◌, ◌&&◌, ◌||◌, ◌⊎◌, not, Bool, true, false, if◌then◌else◌, cond, List, [], ◌∷◌, length, map, Option, Some, None, is_none, get_or, slice_get, refl, sym, ◌∙◌, subst, arith, inl, inr, filter}
+use Rattle.std.proofs.Common.{◌≡◌, ℕ, zero, suc, ◌-◌, ◌<◌, ◌==◌, ◌&&◌, ◌||◌, ◌⊎◌, not, Bool, true, false, if◌then◌else◌, cond, List, [], ◌∷◌, length, Option, Some, None, get_or, slice_get, refl, sym, ◌∙◌, subst, arith, inl, inr, filter}
 use Rattle.std.specs.List.{AllByRecursion, list_any}
 use Rattle.std.proofs.lemmas.Bool.{and_parts, eqb-true}
 use Rattle.std.proofs.lemmas.Option.{same_Some}
-use Rattle.pl_frame.specs.declared.address.Ip4.{Ip4}
-use Rattle.pl_frame.specs.Ethernet.{destination_of, source_of, with_destination}
 use Rattle.pl_pmac.specs.declared.pmac.Pmac.{Pmac}
-use Rattle.pl_pmac.specs.Pmac.{mac_of, pmac_of}
-use Rattle.pl_layouts.specs.Frames.{arriving, is_arp}
-use Rattle.pl_layouts.specs.Memberships.{flood, is_group}
-use Rattle.pl_layouts.specs.Placement.{is_known, is_placed}
-use Rattle.pl_journal.specs.declared.cause.Cause.{Cause}
-use Rattle.pl_journal.specs.declared.cause.Cause.TheVariants.{NoAddress, NoNextHop, NotPlaced}
+use Rattle.pl_layouts.specs.Frames.{packet_in}
+use Rattle.pl_layouts.specs.Memberships.{flood}
+use Rattle.pl_layouts.specs.Placement.{is_known}
+use Rattle.pl_logic.specs.declared.acts.Act.{Act}
 use Rattle.pl_logic.specs.declared.acts.Act.TheVariants as act
 use Rattle.pl_logic.specs.declared.switch_records.Grant.{Grant}
 use Rattle.pl_logic.specs.declared.switch_records.Member.{Member}
-use Rattle.pl_logic.specs.declared.trap.Trap.{Trap}
 use Rattle.pl_logic.specs.PortRecords.{id_at, is_usable, is_usable_to, place_at, port_of, ports_of_switch}
 use Rattle.pl_logic.specs.SwitchFacts.{is_avoided, part_of}
 use Rattle.pl_logic.specs.SwitchViews.{SwitchView}
-use Rattle.pl_steps.specs.Steps.{SwitchStep, does}
+use Rattle.pl_steps.specs.Steps.{SwitchStep, does, ◌▹◌}
 use Rattle.pl_switch_rule.specs.declared.came.Came.{Came}
 use Rattle.pl_switch_rule.specs.declared.came.Came.TheVariants.{FromAbove, FromBelow, FromHost}
 use Rattle.pl_switch_rule.specs.declared.came.Way.{Way}
 use Rattle.pl_switch_rule.specs.declared.came.Way.TheVariants.{Down, Nowhere, ToHosts, Up}
-use Rattle.pl_switch_rule.specs.Delivering.{addresses, arrives_home, begins, comes_home, delivers, delivers_or_redirects, delivers_to, destination, goes_on, if_newer, last_trap, makes, newer_address, redirects, redirects_on, tells_newer, tells_sender, trap_for}
-use Rattle.pl_switch_rule.specs.Forwarding.{Choice, candidates, candidates_by, came_by, forwards, is_candidate, leads_from_aggregation, leads_from_core, leads_from_edge, leads_to_position, leads_up, leaves_by}
+use Rattle.pl_switch_rule.specs.Delivering.{makes}
+use Rattle.pl_switch_rule.specs.Forwarding.{Choice, candidates, candidates_by, is_candidate, leads_from_aggregation, leads_from_core, leads_from_edge, leads_to_position, leads_up}
 use Rattle.pl_switch_rule.specs.Granting.{grant_number, granted, grants_at, is_local}
-use Rattle.pl_switch_rule.specs.GroupForwarding.{at_most_one, destination_group, forwards_group, group_ports, is_down, is_reached, is_source, is_up, no_way, passes_or_drops, way_of}
+use Rattle.pl_switch_rule.specs.GroupForwarding.{at_most_one, group_ports, is_down, is_reached, is_source, is_up}
 use Rattle.pl_switch_rule.specs.SwitchRule.{IsChoice, comes_from_switch}
+use Rattle.pl_switch_rule.specs.Intake.{packet_acts, sends_in, takes}
+use Rattle.pl_switch_rule.specs.Messages.{floods, probes}
+use Rattle.pl_switch_rule.proofs.RowActs.{AreWays, FrameActs, floods_acts, makes_acts, packet_taken_acts, probes_acts, sends_in_acts, switch_frame_acts}
+use Rattle.pl_switch_rule.proofs.RowViews.{begins_stays, probes_stay, sends_in_stays, switch_frame_stays}
 use Rattle.pl_control_plane.specs.Homes.{HasHomes}
-use Rattle.pl_control_plane.proofs.Silent.{GoesWell, IsMute, IsSilent, IsStill, seen_self, silent_if, silent_then, still_does}
+use Rattle.pl_control_plane.proofs.Silent.{GoesWell, IsMute, IsSeen, IsSilent, seen_self}
 
 -- a port by which a frame may leave
 abbrev IsWay : SwitchView → ℕ → Type 0
 IsWay v port = (is_usable v port ≡ true) ⊎ ((port_of v port).host ≡ true)
-
-pub pass_silent : (v : SwitchView) (port : ℕ) (frame : List ℕ) → HasHomes v → IsWay v port → IsSilent v (does v (act.Pass port frame ∷ []))
-pass_silent v port frame homes way = record { seen = seen_self v; homes = homes; mute = (tt, tt); well = (way, tt) }
 
 all_filter : {T : Type 0} (P : T → Type 0) (test : T → Bool) (xs : List T) → ((x : T) → test x ≡ true → P x) → AllByRecursion P (filter test xs)
 all_filter P test [] each = tt
@@ -110,15 +106,6 @@ chosen_usable choose v (p ∷ ports) frame n is all found =
     let same : some.0 ≡ n = same_Some some.0 n (sym some.1 ∙ found) in
     subst (λ port. is_usable v port ≡ true) (sym some.2.1.1 ∙ same) (at_usable v (p ∷ ports) some.2.0 some.0 all some.2.1.0)
 
-leaves_silent : (v : SwitchView) (frame : List ℕ) (o : Option ℕ) → HasHomes v → ((n : ℕ) → o ≡ Some n → is_usable v n ≡ true) → IsSilent v (leaves_by v frame o)
-leaves_silent v frame None homes usable = still_does v (act.Drop NoNextHop ∷ []) homes (tt, tt)
-leaves_silent v frame (Some port) homes usable = pass_silent v port frame homes (inl (usable port refl))
-
-pub forwards_silent : (choose : Choice) (v : SwitchView) (came : Option Came) (frame : List ℕ) → IsChoice choose → HasHomes v → IsSilent v (forwards choose v came frame)
-forwards_silent choose v came frame is homes =
-    let ports : List ℕ = candidates_by v (pmac_of (destination_of frame)) came in
-    leaves_silent v frame (choose ports frame) homes (λ n found. chosen_usable choose v ports frame n is (candidates_usable v (pmac_of (destination_of frame)) came) found)
-
 -- Groups.
 
 member_way : (v : SwitchView) (group port : ℕ) (members : List Member) → AllByRecursion (λ m. (port_of v m.port).host ≡ true) members →
@@ -152,25 +139,6 @@ group_ways v ToHosts group source homes =
     all_filter (IsWay v) _ (ports_of_switch v.k) (λ port h. inr (reached_way v group port homes (and_parts (is_reached v group port) (not (is_source v source port)) h).0))
 group_ways v Nowhere group source homes = tt
 
-passes_mute : (ports frame : List ℕ) → AllByRecursion IsMute (map (λ p. act.Pass p frame) ports)
-passes_mute [] frame = tt
-passes_mute (p ∷ ports) frame = (tt, passes_mute ports frame)
-
-passes_well : (v : SwitchView) (ports frame : List ℕ) → AllByRecursion (IsWay v) ports → AllByRecursion (GoesWell v) (map (λ p. act.Pass p frame) ports)
-passes_well v [] frame all = tt
-passes_well v (p ∷ ports) frame all = (all.0, passes_well v ports frame all.1)
-
-passes_silent : (v : SwitchView) (ports frame : List ℕ) (cause : Cause) → HasHomes v → AllByRecursion (IsWay v) ports → IsSilent v (does v (passes_or_drops ports frame cause))
-passes_silent v [] frame cause homes all = still_does v (act.Drop cause ∷ []) homes (tt, tt)
-passes_silent v (p ∷ ports) frame cause homes all =
-    record { seen = seen_self v; homes = homes; mute = passes_mute (p ∷ ports) frame; well = passes_well v (p ∷ ports) frame all }
-
-pub forwards_group_silent : (v : SwitchView) (came : Option Came) (frame : List ℕ) → HasHomes v → IsSilent v (forwards_group v came frame)
-forwards_group_silent v came frame homes =
-    let group : ℕ = destination_group frame in
-    passes_silent v (group_ports v (way_of v.place came) group (pmac_of (source_of frame))) frame (no_way v came group) homes
-    (group_ways v (way_of v.place came) group (pmac_of (source_of frame)) homes)
-
 -- Home.
 
 no_number : (grants : List Grant) (vmid : ℕ) → grants ≡ [] → grant_number grants vmid ≡ None
@@ -195,70 +163,53 @@ granted_host v address grant is homes = by (port_of v address.port).host refl
     by true e = refl
     by false e = absurd (let none = none_granted (is_local v address) (homes.grants address.port e) in cc)
 
-delivers_to_silent : (v : SwitchView) (address : Pmac) (frame : List ℕ) (grant : Option Grant) → granted v address ≡ grant → HasHomes v → IsSilent v (delivers_to v address frame grant)
-delivers_to_silent v address frame None is homes = still_does v (act.Drop NoAddress ∷ []) homes (tt, tt)
-delivers_to_silent v address frame (Some grant) is homes =
-    pass_silent v address.port (arriving frame None (Some grant.amac)) homes (inr (granted_host v address grant is homes))
+-- Rows that leave the view.
 
-delivers_silent : (v : SwitchView) (frame : List ℕ) → HasHomes v → IsSilent v (delivers v frame)
-delivers_silent v frame homes = delivers_to_silent v (destination frame) frame (granted v (destination frame)) refl homes
+ways : (choose : Choice) (v : SwitchView) → IsChoice choose → HasHomes v → AreWays choose v (IsWay v)
+ways choose v is homes = record {
+  chosen = λ to came frame port found. inl (chosen_usable choose v (candidates_by v to came) frame port is (candidates_usable v to came) found);
+  grouped = λ way group source. group_ways v way group source homes;
+  delivered = λ address grant found. inr (granted_host v address grant found homes);
+}
 
-redirects_still : (n : ℕ) (v : SwitchView) (trap : Trap) → AllByRecursion IsStill (redirects n v trap)
-unfolding redirects
-redirects_still zero v trap = tt
-redirects_still (suc n) v trap = by (if_newer trap (trap_for v trap.new)) (λ t. redirects_still n v t)
-  where
-    by : (next : Option Trap) → ((t : Trap) → AllByRecursion IsStill (redirects n v t)) → AllByRecursion IsStill (redirects_on (redirects n v) trap.new next)
-    by None rest = tt
-    by (Some t) rest = (tt, rest t)
+-- by ways alone frames are passed on, whatever is asked of acts
+abbrev pub PassesWell : SwitchView → SwitchStep → Type 1
+PassesWell v s = (P : Act → Type 0) → FrameActs (IsWay v) P → ((frame : List ℕ) → P (act.Make frame)) → AllByRecursion P s.acts
 
-goes_on_silent : (choose : Choice) (v : SwitchView) (frame : List ℕ) → IsChoice choose → HasHomes v → IsSilent v (goes_on choose v frame)
-goes_on_silent choose v frame is homes =
-    silent_if v (is_local v (destination frame)) (delivers v frame) (forwards choose v (Some FromHost) frame)
-    (λ e. delivers_silent v frame homes) (λ e. forwards_silent choose v (Some FromHost) frame is homes)
-
-home_silent : (choose : Choice) (v : SwitchView) (frame : List ℕ) (trap : Option Trap) → IsChoice choose → HasHomes v → IsSilent v (delivers_or_redirects choose v frame trap)
-home_silent choose v frame None is homes = delivers_silent v frame homes
-home_silent choose v frame (Some trap) is homes =
-    silent_then v (does v (act.Redirect (destination frame) trap.new ∷ redirects (addresses v) v trap))
-    (λ w. goes_on choose w (with_destination frame (mac_of (last_trap (addresses v) v trap).new)))
-    (still_does v (act.Redirect (destination frame) trap.new ∷ redirects (addresses v) v trap) homes (tt, redirects_still (addresses v) v trap))
-    (λ w seen at. goes_on_silent choose w (with_destination frame (mac_of (last_trap (addresses v) v trap).new)) is at)
-
-begins_silent : (choose : Choice) (v : SwitchView) (frame : List ℕ) → IsChoice choose → HasHomes v → IsSilent v (begins choose v frame)
-begins_silent choose v frame is homes =
-    silent_if v (is_local v (destination frame)) (comes_home choose v frame) (forwards choose v (Some FromHost) frame)
-    (λ e. home_silent choose v frame (trap_for v (destination frame)) is homes) (λ e. forwards_silent choose v (Some FromHost) frame is homes)
+pub row_silent : (v : SwitchView) (s : SwitchStep) → s.view ≡ v → HasHomes v → PassesWell v s → IsSilent v s
+row_silent v s stays homes passes = record {
+  seen = subst (IsSeen v) (sym stays) (seen_self v);
+  homes = subst HasHomes (sym stays) homes;
+  mute = passes IsMute (record { passed = λ port frame way. tt; redirected = λ old new. tt; dropped = λ cause. tt; taken = tt; asked = λ asker asker_ip ip. tt }) (λ frame. tt);
+  well = passes (GoesWell v) (record { passed = λ port frame way. way; redirected = λ old new. tt; dropped = λ cause. tt; taken = tt; asked = λ asker asker_ip ip. tt }) (λ frame. tt);
+}
 
 pub makes_silent : (choose : Choice) (frame : List ℕ) (v : SwitchView) → IsChoice choose → HasHomes v → IsSilent v (makes choose frame v)
 makes_silent choose frame v is homes =
-    silent_then v (does v (act.Make frame ∷ [])) (λ w. begins choose w frame) (still_does v (act.Make frame ∷ []) homes (tt, tt)) (λ w seen at. begins_silent choose w frame is at)
+    row_silent v (makes choose frame v) (begins_stays choose v frame) homes
+    (λ P may made. makes_acts P (IsWay v) may choose v (ways choose v is homes) frame (made frame))
 
-tells_newer_silent : (choose : Choice) (frame : List ℕ) (new : Pmac) (ip : Option Ip4) (v : SwitchView) → IsChoice choose → HasHomes v →
-    IsSilent v (tells_newer choose frame new ip v)
-tells_newer_silent choose frame new None v is homes = still_does v [] homes tt
-tells_newer_silent choose frame new (Some ip) v is homes = makes_silent choose (newer_address frame new ip) v is homes
+pub floods_frame_silent : (frame : List ℕ) (v : SwitchView) → HasHomes v → IsSilent v (floods v frame)
+floods_frame_silent frame v homes =
+    row_silent v (floods v frame) refl homes (λ P may made. floods_acts P (IsWay v) may v
+    (λ way group source. group_ways v way group source homes) frame (made frame))
 
-tells_sender_silent : (choose : Choice) (frame : List ℕ) (trap : Option Trap) (v : SwitchView) → IsChoice choose → HasHomes v → IsSilent v (tells_sender choose frame trap v)
-tells_sender_silent choose frame None v is homes = still_does v [] homes tt
-tells_sender_silent choose frame (Some trap) v is homes =
-    silent_if v (is_arp frame) (does v []) (tells_newer choose frame (last_trap (addresses v) v trap).new (last_trap (addresses v) v trap).ip v)
-    (λ e. still_does v [] homes tt)
-    (λ e. tells_newer_silent choose frame (last_trap (addresses v) v trap).new (last_trap (addresses v) v trap).ip v is homes)
+pub probes_silent : (old : Pmac) (grant : Grant) (v : SwitchView) → (port_of v old.port).host ≡ true → HasHomes v → IsSilent v (probes old grant v)
+probes_silent old grant v host homes =
+    row_silent v (probes old grant v) (probes_stay old grant v) homes (λ P may made. probes_acts P (IsWay v) may old grant v (inr host) (λ ip. made _))
 
-pub arrives_home_silent : (choose : Choice) (v : SwitchView) (frame : List ℕ) → IsChoice choose → HasHomes v → IsSilent v (arrives_home choose v frame)
-arrives_home_silent choose v frame is homes =
-    silent_then v (comes_home choose v frame) (tells_sender choose frame (trap_for v (destination frame)))
-    (home_silent choose v frame (trap_for v (destination frame)) is homes) (λ w seen at. tells_sender_silent choose frame (trap_for v (destination frame)) w is at)
+pub packet_silent : (v : SwitchView) (port : ℕ) (frame : List ℕ) → HasHomes v → IsSilent v (does v (packet_acts v port frame (packet_in frame)) ▹ takes)
+packet_silent v port frame homes =
+    row_silent v (does v (packet_acts v port frame (packet_in frame)) ▹ takes) refl homes (λ P may made. packet_taken_acts P (IsWay v) may v port frame)
+
+pub sends_in_silent : (choose : Choice) (frame : List ℕ) (v : SwitchView) → IsChoice choose → HasHomes v → IsSilent v (sends_in choose frame v)
+sends_in_silent choose frame v is homes =
+    row_silent v (sends_in choose frame v) (sends_in_stays choose frame v) homes
+    (λ P may made. sends_in_acts P (IsWay v) may choose v (ways choose v is homes) frame (λ trap met ip. made _))
 
 -- a frame of another switch
 pub comes_from_switch_silent : (choose : Choice) (v : SwitchView) (port : ℕ) (frame : List ℕ) → IsChoice choose → HasHomes v →
     IsSilent v (comes_from_switch choose v port frame)
 comes_from_switch_silent choose v port frame is homes =
-    let on : SwitchStep = if is_local v (destination frame) then arrives_home choose v frame else forwards choose v (came_by v port) frame in
-    let far : SwitchStep = if is_group (destination_of frame) then forwards_group v (came_by v port) frame else on in
-    silent_if v (not (is_placed v.place) || is_none (place_at v port).level) (does v (act.Drop NotPlaced ∷ [])) far
-    (λ e. still_does v (act.Drop NotPlaced ∷ []) homes (tt, tt))
-    (λ e. silent_if v (is_group (destination_of frame)) (forwards_group v (came_by v port) frame) on (λ e. forwards_group_silent v (came_by v port) frame homes)
-    (λ e. silent_if v (is_local v (destination frame)) (arrives_home choose v frame) (forwards choose v (came_by v port) frame)
-    (λ e. arrives_home_silent choose v frame is homes) (λ e. forwards_silent choose v (came_by v port) frame is homes)))
+    row_silent v (comes_from_switch choose v port frame) (switch_frame_stays choose v port frame) homes
+    (λ P may made. switch_frame_acts P (IsWay v) may choose v (ways choose v is homes) port frame (λ trap met ip. made _))

@@ -1,13 +1,12 @@
 -- Each event keeps it that at each port at most one frame of each root comes.
 use Rattle.std.proofs.Common.{◌≡◌, ℕ, zero, suc, ◌+◌, ◌<◌, ◌==◌, nat_lt, Bool, true, false, if◌then◌else◌, Contains, List, [], ◌∷◌, ◌++◌, length, Option, None, Some, is_none, get_or, reverse, set, slice_get, refl, sym, ap, ◌∙◌, subst, arith, inl, inr}
-use Rattle.std.specs.List.{AllByRecursion, fold}
+use Rattle.std.specs.List.{AllByRecursion}
 use Rattle.std.specs.Option.{option_map}
 use Rattle.std.proofs.Math.ListN.{length-set}
 use Rattle.std.proofs.lemmas.Bool.{and_parts, cases_eq, cond-false, cond-true, eq-eqb, eqb-true, ltb-true, ne_eqb, or_right}
 use Rattle.std.proofs.lemmas.List.Quantifiers.{position-Some}
 use Rattle.std.proofs.lemmas.Option.{slice_get-get_or, slice_get_within}
 use Rattle.pl_wiring.specs.declared.label.SwitchNo.{SwitchNo}
-use Rattle.pl_wiring.specs.declared.link.Link.{Link}
 use Rattle.pl_wiring.specs.declared.link.Peer.{Peer}
 use Rattle.pl_wiring.specs.declared.link.Peer.TheVariants.{HostPort, Switch}
 use Rattle.pl_wiring.specs.Index.{port_index}
@@ -16,18 +15,16 @@ use Rattle.pl_wiring.specs.Plan.{IsPlan}
 use Rattle.pl_layouts.specs.Control.{is_control}
 use Rattle.pl_journal.specs.declared.cause.Cause.{Cause}
 use Rattle.pl_journal.specs.declared.cause.Cause.TheVariants as cause
-use Rattle.pl_journal.specs.declared.cause.Skip.{Skip}
 use Rattle.pl_journal.specs.declared.entry.Entry.{Entry}
-use Rattle.pl_journal.specs.declared.entry.Entry.TheVariants.{Arrived, Crossed, Dropped, LinkDown, LinkUp, Moved, Registered, Skipped}
+use Rattle.pl_journal.specs.declared.entry.Entry.TheVariants.{Arrived, Crossed, Dropped, Moved}
 use Rattle.pl_journal.specs.Places.{Spot, at_port, spot_of}
-use Rattle.pl_logic.specs.declared.acts.ManagerAct.{ManagerAct}
-use Rattle.pl_logic.specs.declared.acts.ManagerAct.TheVariants.{Number, Say}
-use Rattle.pl_logic.specs.declared.messages.ToManager.{ToManager}
 use Rattle.pl_logic.specs.declared.messages.ToSwitch.{ToSwitch}
 use Rattle.pl_logic.specs.declared.reception.Reception.{Reception}
 use Rattle.pl_logic.specs.declared.reception.Reception.TheVariants.{Kept, NotMember}
 use Rattle.pl_logic.specs.Accounting.{AccountsForFrames, IsShaped}
-use Rattle.pl_logic.specs.HostInputs.{HostInput, HostRule}
+use Rattle.pl_logic.specs.HostInputs.{HostRule}
+use Rattle.pl_logic.specs.HostInputs.HostAnswer.{Nothing}
+use Rattle.pl_logic.specs.HostInputs.HostInput.{HasMoved}
 use Rattle.pl_logic.specs.ManagerDuties.{ManagerRule}
 use Rattle.pl_logic.specs.PortRecords.{is_open_to_hosts, port_of}
 use Rattle.pl_logic.specs.SwitchInputs.SwitchInput.{Comes, Says, Tick}
@@ -41,19 +38,22 @@ use Rattle.pl_switch_rule.proofs.ControlParts.{quiet_ticks}
 use Rattle.pl_switch_rule.proofs.ControlSteps.{quiet_control_comes}
 use Rattle.pl_world.specs.declared.event.Event.{Event}
 use Rattle.pl_world.specs.declared.event.Event.TheVariants as event
-use Rattle.pl_world.specs.declared.event.QueueName.{QueueName}
 use Rattle.pl_world.specs.declared.event.QueueName.TheVariants as queue
 use Rattle.pl_world.specs.declared.item.Item.{Item}
 use Rattle.pl_world.specs.declared.item.Item.TheVariants.{Control, Data}
 use Rattle.pl_world.specs.declared.spoken_frame.SpokenFrame.TheVariants.{Silent, Waiting}
 use Rattle.pl_world.specs.declared.stand.Stand.{Stand}
-use Rattle.pl_world.specs.Changes.{ends_of, host_at, host_no, if_for, noted, out_of, receiver, said_to, stands_at, switch_no}
+use Rattle.pl_world.specs.Changes.{ends_of, host_at, host_no, if_for, noted, out_of, receiver, stands_at, switch_no}
 use Rattle.pl_world.specs.Flying.{IsAtPort, IsCounted, IsDataItem, IsFrame, times_in}
-use Rattle.pl_world.specs.LinksAndMoves.{host_moved, item_lost, link_between}
-use Rattle.pl_world.specs.OtherActs.{heard_after_tick, manager_act_done, reception_noted, skip_noted}
+use Rattle.pl_world.specs.LinksAndMoves.{host_moved}
+use Rattle.pl_world.specs.OtherActs.{heard_after_tick, reception_noted, skip_noted}
 use Rattle.pl_world.specs.Refusals.{has_port, has_switch, refusal_of_event, refusal_of_queue}
-use Rattle.pl_world.specs.WorldRule.{ComesAtHost, ComesIn, ComesOver, Delivers, DeliversFromHost, DeliversFromManager, DeliversOut, DeliversToManager, Fails, Goes, Happens, HostPlays, HostReceives, IsRepaired, Loses, ManagerTurn, SwitchTurn, Ticks, heard_item}
+use Rattle.pl_world.specs.WorldRule.{ComesAtHost, ComesAtSwitch, ComesOut, Happens, HostReceives, HostTurn, SwitchTurn, Ticks, heard_item}
 use Rattle.pl_world.specs.Worlds.{WorldView}
+use Rattle.pl_world.proofs.Happenings.{Happened, happened}
+use Rattle.pl_world.proofs.Happenings.Happened.{Asked, Departed, Failed, FromHost, Lost, Ordered, OutOfPort, OverLink, PlayedFrame, Repaired, Reported, Ticked}
+use Rattle.pl_world.proofs.Leaving.{Writes, failed_left, manager_acts_left, repaired_left}
+use Rattle.pl_world.proofs.Turning.{lost_left, skip_left}
 use Rattle.pl_world.proofs.Balances.{head_is_item, sent_is_item, took_host_balance, took_out_balance}
 use Rattle.pl_world.proofs.Counts.{all_at, all_found, one, times_in-data}
 use Rattle.pl_world.proofs.StepBalances.{Sound, heard_rest, noted_owes, peer_is_port, sound}
@@ -270,77 +270,51 @@ module _ (accounts : AccountsForFrames Loose) (w : WorldView) (counted : IsCount
   comes_out_of rule s port id frame items within head peer (Some h) at is =
       receives_come rule s port id frame items h within head peer (stands_where w come s port h (gets_there w s port h frame at)) is
 
-  -- an item comes to the other end
-  comes_over : KnowTrees w → (rule : HostRule) (s port : ℕ) (item : Item) (items : List Item) (peer : Peer) → port < w.plan.k → out_of w s port ≡ item ∷ items →
-      peer_of w.plan s port ≡ peer → ComesOver Loose rule (taken_out w s port items) s port item peer new → ComesOnce new
-  comes_over trees rule s port (Control frame) items (Switch t q) within head peer turn = control_comes_over s port frame items t q within head peer turn
-  comes_over trees rule s port (Data id frame) items (Switch t q) within head peer turn = data_comes_over trees s port id frame items t q within head peer turn
-  comes_over trees rule s port (Control frame) items HostPort within head peer is = subst ComesOnce (sym is)
+  over_link : KnowTrees w → (s port : ℕ) (item : Item) (items : List Item) (t : SwitchNo) (q : ℕ) → port < w.plan.k → out_of w s port ≡ item ∷ items →
+      peer_of w.plan s port ≡ Switch t q → ComesAtSwitch Loose (taken_out w s port items) t.0 q item new → ComesOnce new
+  over_link trees s port (Control frame) items t q within head peer turn = control_comes_over s port frame items t q within head peer turn
+  over_link trees s port (Data id frame) items t q within head peer turn = data_comes_over trees s port id frame items t q within head peer turn
+
+  out_of_port : (rule : HostRule) (s port : ℕ) (item : Item) (items : List Item) → port < w.plan.k → out_of w s port ≡ item ∷ items →
+      peer_of w.plan s port ≡ HostPort → ComesOut rule (taken_out w s port items) s port item new → ComesOnce new
+  out_of_port rule s port (Control frame) items within head peer is = subst ComesOnce (sym is)
       (take_any w.plan (standing w.stands) (reverse w.journal) w.from_hosts w.out w.begun (port_index w.plan.k s port) (Control frame) items head come)
-  comes_over trees rule s port (Data id frame) items HostPort within head peer comes =
+  out_of_port rule s port (Data id frame) items within head peer comes =
       comes_out_of rule s port id frame items within head peer (receiver w s port frame) refl comes
 
-  delivers_out : KnowTrees w → (rule : HostRule) (s port : ℕ) (items : List Item) → port < w.plan.k → out_of w s port ≡ items →
-      DeliversOut Loose rule w s port items new → ComesOnce new
-  delivers_out trees rule s port [] within head comes = absurd comes
-  delivers_out trees rule s port (item ∷ items) within head comes = comes_over trees rule s port item items (peer_of w.plan s port) within head refl comes
+  from_host : KnowTrees w → (h : ℕ) (item : Item) (items : List Item) (stand : Stand) → items_at w.from_hosts h ≡ item ∷ items →
+      slice_get w.stands h ≡ Some stand →
+      ComesAtSwitch Loose (heard_item (record w { from_hosts = set w.from_hosts h items }) h item) stand.edge.0 stand.port item new → ComesOnce new
+  from_host trees h (Control frame) items stand head found comes =
+      let all : AllByRecursion IsDataItem (Control frame ∷ items) = subst (AllByRecursion IsDataItem) head
+      (all_at (AllByRecursion IsDataItem) w.from_hosts h [] tt so.balance.host_items) in
+      absurd all.0
+  from_host trees h (Data id frame) items stand head found comes = of_host_comes trees h id frame items stand head found comes
 
-  comes_in : KnowTrees w → (h : ℕ) (item : Item) (items : List Item) (o : Option Stand) → items_at w.from_hosts h ≡ item ∷ items → slice_get w.stands h ≡ o →
-      ComesIn Loose (record w { from_hosts = set w.from_hosts h items }) h item o new → ComesOnce new
-  comes_in trees h item items None head found comes = absurd comes
-  comes_in trees h (Control frame) items (Some stand) head found comes = absurd (control_waits h frame items head)
-    where
-      control_waits : (h : ℕ) (frame : List ℕ) (items : List Item) → items_at w.from_hosts h ≡ Control frame ∷ items → ⊥
-      control_waits h frame items head =
-          let all : AllByRecursion IsDataItem (Control frame ∷ items) = subst (AllByRecursion IsDataItem) head
-          (all_at (AllByRecursion IsDataItem) w.from_hosts h [] tt so.balance.host_items) in
-          all.0
-  comes_in trees h (Data id frame) items (Some stand) head found comes = of_host_comes trees h id frame items stand head found comes
+  -- ---- what says nothing of copies
+  abbrev Keeps : WorldView → WorldView → Type 0
+  Keeps a b = ComesOnce a → ComesOnce b
 
-  delivers_from_host : KnowTrees w → (h : ℕ) (items : List Item) → items_at w.from_hosts h ≡ items → DeliversFromHost Loose w h items new → ComesOnce new
-  delivers_from_host trees h [] head comes = absurd comes
-  delivers_from_host trees h (item ∷ items) head comes = comes_in trees h item items (slice_get w.stands h) head refl comes
+  keeps_writes : Writes Keeps IsQuiet
+  keeps_writes = record {
+    same = λ u c. c;
+    on = λ a b d one next c. next (one c);
+    entry = λ u e quiet c. noted_once u (λ r there. 0) e quiet c;
+    dropped = λ id why. tt;
+  }
 
-  -- an item is lost
-  loses_come : (s port : ℕ) (items : List Item) → out_of w s port ≡ items → Loses w s port items new → ComesOnce new
-  loses_come s port [] head is = absurd is
-  loses_come s port (item ∷ items) head is = subst ComesOnce (sym is) (lost item
-      (take_any w.plan (standing w.stands) (reverse w.journal) w.from_hosts w.out w.begun (port_index w.plan.k s port) item items head come))
-    where
-      lost : (item : Item) → ComesOnce (taken_out w s port items) → ComesOnce (item_lost (taken_out w s port items) item)
-      lost (Control frame) c = c
-      lost (Data id frame) c = noted_once (taken_out w s port items) (λ r there. 0) (Dropped id cause.Lost) tt c
+  empties_out : (u : WorldView) (i : ℕ) → Keeps u (record u { out = set u.out i [] })
+  empties_out u i c = empty_out u.plan (standing u.stands) (reverse u.journal) u.from_hosts u.out u.begun i (λ r there. 0) c
 
-  -- a link fails, or is repaired
   ends_quiet : (why : Cause) (items : List Item) → AllByRecursion IsQuiet (ends_of why items)
   ends_quiet why [] = tt
   ends_quiet why (Control frame ∷ items) = ends_quiet why items
   ends_quiet why (Data id frame ∷ items) = (tt, ends_quiet why items)
 
-  fails_come : (o : Option Link) → Fails w o new → ComesOnce new
-  fails_come None is = absurd is
-  fails_come (Some link) is =
-      let at : ℕ → Option Spot = standing w.stands in
-      let down : List Entry = w.journal ++ LinkDown link.lower link.upper ∷ [] in
-      let low : ℕ = port_index w.plan.k link.lower.0 link.lower_port in
-      let high : ℕ = port_index w.plan.k link.upper.0 link.upper_port in
-      let out1 : List (List Item) = set w.out low [] in
-      let c1 = noted_once w (λ r there. 0) (LinkDown link.lower link.upper) tt come in
-      let c2 = note_all w.plan at w.from_hosts out1 w.begun (λ r there. 0) (ends_of cause.LinkDown (get_or w.out low [])) down (ends_quiet cause.LinkDown (get_or w.out low []))
-      (empty_out w.plan at (reverse down) w.from_hosts w.out w.begun low (λ r there. 0) c1) in
-      let now : List Entry = down ++ ends_of cause.LinkDown (get_or w.out low []) in
-      subst ComesOnce (sym is)
-      (note_all w.plan at w.from_hosts (set out1 high []) w.begun (λ r there. 0) (ends_of cause.LinkDown (get_or out1 high [])) now (ends_quiet cause.LinkDown (get_or out1 high []))
-      (empty_out w.plan at (reverse now) w.from_hosts out1 w.begun high (λ r there. 0) c2))
-
-  repaired_come : (o : Option Link) → IsRepaired w o new → ComesOnce new
-  repaired_come None is = absurd is
-  repaired_come (Some link) is = subst ComesOnce (sym is) (noted_once w (λ r there. 0) (LinkUp link.lower link.upper) tt come)
-
   -- a host moves
-  moves_come : (rule : HostRule) (h : ℕ) (to : Stand) (o : Option Stand) → slice_get w.stands h ≡ o → Goes rule w h to o new → ComesOnce new
-  moves_come rule h to None found turn = absurd turn
-  moves_come rule h to (Some from) found turn =
+  moves_come : (rule : HostRule) (h : ℕ) (to from : Stand) → slice_get w.stands h ≡ Some from → HostTurn rule (host_moved w h from to) h HasMoved Nothing new →
+      ComesOnce new
+  moves_come rule h to from found turn =
       let later : ℕ → Option Spot = standing (set w.stands h to) in
       let moved : List Entry = w.journal ++ Moved (host_no h) to.edge to.port ∷ [] in
       let at : ℕ = port_index w.plan.k from.edge.0 from.port in
@@ -355,60 +329,34 @@ module _ (accounts : AccountsForFrames Loose) (w : WorldView) (counted : IsCount
       (note_all w.plan later (set w.from_hosts h []) (set w.out at []) w.begun (λ r there. 0) (ends_of cause.HostGone (get_or w.out at [])) now
       (ends_quiet cause.HostGone (get_or w.out at [])) (empty_out w.plan later (reverse now) (set w.from_hosts h []) w.out w.begun at (λ r there. 0) c2)) turn
 
-  -- a turn of the manager
-  manager_comes : (rule : ManagerRule) (s : ℕ) (told : ToManager) (items : List (List ToManager)) → ManagerTurn rule (record w { to_manager = items }) s told new → ComesOnce new
-  manager_comes rule s told items turn = subst ComesOnce (sym turn.changed) (all_done turn.acts (record w { to_manager = items; manager = turn.after }) come)
-    where
-      said : (x : WorldView) (says : ToSwitch) (o : Option ℕ) → ComesOnce x → ComesOnce (said_to x says o)
-      said x says None c = c
-      said x says (Some t) c = c
-
-      one_done : (x : WorldView) (a : ManagerAct) → ComesOnce x → ComesOnce (manager_act_done x a)
-      one_done x (Say to says) c = said x says _ c
-      one_done x (Number pmac n) c = noted_once x (λ r there. 0) (Registered pmac n) tt c
-
-      all_done : (acts : List ManagerAct) (x : WorldView) → ComesOnce x → ComesOnce (fold manager_act_done x acts)
-      all_done [] x c = c
-      all_done (a ∷ acts) x c = all_done acts (manager_act_done x a) (one_done x a c)
-
-  to_manager_comes : (rule : ManagerRule) (s : ℕ) (items : List ToManager) → DeliversToManager rule w s items new → ComesOnce new
-  to_manager_comes rule s [] comes = absurd comes
-  to_manager_comes rule s (told ∷ items) turn = manager_comes rule s told (set w.to_manager s items) turn
-
-  from_manager_comes : (s : ℕ) (items : List ToSwitch) → DeliversFromManager Loose w s items new → ComesOnce new
-  from_manager_comes s [] comes = absurd comes
-  from_manager_comes s (says ∷ items) turn = says_come s says items turn
-
   there_is : (there filled : Bool) → refusal_of_queue there filled ≡ None → there ≡ true
   there_is true filled none = refl
   there_is false filled none = absurd (cc)
 
-  delivers_come : KnowTrees w → (manager : ManagerRule) (rule : HostRule) (name : QueueName) → refusal_of_event w (event.Deliver name) ≡ None →
-      Delivers Loose manager rule w name new → ComesOnce new
-  delivers_come trees manager rule (queue.FromHost h) fine comes = delivers_from_host trees h.0 (items_at w.from_hosts h.0) refl comes
-  delivers_come trees manager rule (queue.Port s port) fine comes =
-      let there = and_parts (has_switch w.plan s.0) (nat_lt port w.plan.k) (there_is (has_port w.plan s.0 port) _ fine) in
-      delivers_out trees rule s.0 port (out_of w s.0 port) (ltb-true port w.plan.k there.1) refl comes
-  delivers_come trees manager rule (queue.ToManager s) fine comes = to_manager_comes manager s.0 (items_at w.to_manager s.0) comes
-  delivers_come trees manager rule (queue.FromManager s) fine comes = from_manager_comes s.0 (items_at w.from_manager s.0) comes
+  module _ (trees : KnowTrees w) (manager : ManagerRule) (rule : HostRule) (happens : Event) (fine : refusal_of_event w happens ≡ None) where
+    within_port : (s : SwitchNo) (port : ℕ) → happens ≡ event.Deliver (queue.Port s port) → port < w.plan.k
+    within_port s port is =
+        let free = subst (λ e. refusal_of_event w e ≡ None) is fine in
+        let there = and_parts (has_switch w.plan s.0) (nat_lt port w.plan.k) (there_is (has_port w.plan s.0 port) _ free) in ltb-true port w.plan.k there.1
 
-  plays_come : (rule : HostRule) (h : ℕ) (raw : HostInput) → HostPlays rule w h raw new → ComesOnce new
-  plays_come rule h raw plays = host_comes rule (skip_noted w h plays.skip) h raw _ new (skipped plays.skip) plays.turn
-    where
-      skipped : (o : Option Skip) → ComesOnce (skip_noted w h o)
-      skipped None = come
-      skipped (Some skip) = noted_once w (λ r there. 0) (Skipped (host_no h) skip) tt come
+    by_case : Happened Loose manager rule w happens new → ComesOnce new
+    by_case (FromHost h item items stand is head at comes) = from_host trees h.0 item items stand head at comes
+    by_case (OverLink s port item items t q is head joined comes) = over_link trees s.0 port item items t q (within_port s port is) head joined comes
+    by_case (OutOfPort s port item items is head joined comes) = out_of_port rule s.0 port item items (within_port s port is) head joined comes
+    by_case (Reported s told items is head turn) =
+        manager_acts_left Keeps IsQuiet keeps_writes (λ pmac n. tt) (λ u t says c. c) manager
+            (record w { to_manager = set w.to_manager s.0 items }) s.0 told new turn come
+    by_case (Ordered s says items is head turn) = says_come s.0 says items turn
+    by_case (Ticked s is turn) = ticks_come s.0 turn
+    by_case (Failed a b link is found fails) = subst ComesOnce (sym fails) (failed_left Keeps IsQuiet keeps_writes empties_out w link tt (λ u links c. c) come)
+    by_case (Repaired a b link is found repairs) = subst ComesOnce (sym repairs) (repaired_left Keeps IsQuiet keeps_writes w link tt (λ u links c. c) come)
+    by_case (Lost s port item items is head loses) =
+        subst ComesOnce (sym loses) (lost_left Keeps IsQuiet keeps_writes (taken_out w s.0 port items) item
+        (take_any w.plan (standing w.stands) (reverse w.journal) w.from_hosts w.out w.begun (port_index w.plan.k s.0 port) item items head come))
+    by_case (Departed h s port from is at turn) = moves_come rule h.0 (record { edge = s; port = port }) from at turn
+    by_case (PlayedFrame h input skip is turn) =
+        host_comes rule (skip_noted w h.0 skip) h.0 input _ new (skip_left Keeps IsQuiet keeps_writes (λ g why. tt) w h.0 skip come) turn
+    by_case (Asked h input is turn) = host_comes rule w h.0 _ _ new come turn
 
-  pub happens_once : KnowTrees w → (manager : ManagerRule) (rule : HostRule) (happens : Event) → refusal_of_event w happens ≡ None →
-      Happens Loose manager rule w happens new → ComesOnce new
-  happens_once trees manager rule (event.Deliver name) fine does = delivers_come trees manager rule name fine does
-  happens_once trees manager rule (event.Tick s) fine does = ticks_come s.0 does
-  happens_once trees manager rule (event.Fail a b) fine does = fails_come (link_between w.plan a.0 b.0) does
-  happens_once trees manager rule (event.Repair a b) fine does = repaired_come (link_between w.plan a.0 b.0) does
-  happens_once trees manager rule (event.Lose s port) fine does = loses_come s.0 port (out_of w s.0 port) refl does
-  happens_once trees manager rule (event.Move h s port) fine does = moves_come rule h.0 (record { edge = s; port = port }) (slice_get w.stands h.0) refl does
-  happens_once trees manager rule (event.Start h) fine does = host_comes rule w h.0 _ _ new come does
-  happens_once trees manager rule (event.Play h frame original raw) fine does = plays_come rule h.0 _ does
-  happens_once trees manager rule (event.Retry h) fine does = host_comes rule w h.0 _ _ new come does
-  happens_once trees manager rule (event.Join h group) fine does = host_comes rule w h.0 _ _ new come does
-  happens_once trees manager rule (event.Leave h group) fine does = host_comes rule w h.0 _ _ new come does
+    pub happens_once : Happens Loose manager rule w happens new → ComesOnce new
+    happens_once does = by_case (happened Loose manager rule w happens new does)

@@ -1,18 +1,19 @@
 -- All other acts pass each frame on at most once.
-use Rattle.std.proofs.Common.{◌≡◌, ℕ, zero, suc, ◌≤◌, ◌<◌, ◌&&◌, ◌||◌, not, Bool, true, false, if◌then◌else◌, List, [], ◌∷◌, ◌++◌, Option, None, Some, is_none, is_some, length, refl, sym, ap, ◌∙◌, subst, arith}
+use Rattle.std.proofs.Common.{◌≡◌, ℕ, ◌≤◌, ◌<◌, ◌||◌, Bool, true, false, if◌then◌else◌, List, [], ◌∷◌, ◌++◌, Option, None, Some, length, refl, sym, ap, ◌∙◌, subst, arith}
 use Rattle.std.specs.List.{AllByRecursion}
 use Rattle.std.proofs.lemmas.Bool.{cond_both, false≢true}
+use Rattle.std.proofs.lemmas.List.{append-nil}
 use Rattle.pl_frame.specs.declared.address.Ip4.{Ip4}
 use Rattle.pl_frame.specs.declared.address.Mac.{Mac}
-use Rattle.pl_frame.specs.Ethernet.{destination_of, source_of, with_destination}
+use Rattle.pl_frame.specs.Ethernet.{destination_of, with_destination}
 use Rattle.pl_pmac.specs.declared.pmac.Pmac.{Pmac}
 use Rattle.pl_pmac.specs.Pmac.{mac_of, pmac_of}
 use Rattle.pl_wiring.specs.Plan.{Plan}
 use Rattle.pl_layouts.specs.Frames.{is_arp, packet_in}
-use Rattle.pl_layouts.specs.Memberships.{is_group, membership_in}
-use Rattle.pl_layouts.specs.Placement.{is_known, is_placed}
+use Rattle.pl_layouts.specs.Memberships.{is_group}
+use Rattle.pl_layouts.specs.Placement.{is_known}
 use Rattle.pl_journal.specs.declared.cause.Cause.{Cause}
-use Rattle.pl_journal.specs.declared.cause.Cause.TheVariants.{BadArp, NotPlaced, Spent}
+use Rattle.pl_journal.specs.declared.cause.Cause.TheVariants.{NotPlaced}
 use Rattle.pl_journal.specs.Places.{Spot}
 use Rattle.pl_logic.specs.declared.acts.Act.{Act}
 use Rattle.pl_logic.specs.declared.acts.Act.TheVariants as act
@@ -26,17 +27,19 @@ use Rattle.pl_logic.specs.SwitchViews.{SwitchView}
 use Rattle.pl_steps.specs.Steps.{SwitchStep, does, rests, ◌▹◌}
 use Rattle.pl_switch_rule.specs.declared.came.Came.{Came}
 use Rattle.pl_switch_rule.specs.declared.came.Came.TheVariants.{FromHost}
-use Rattle.pl_switch_rule.specs.Delivering.{addresses, arrives_home, begins, comes_home, delivers, delivers_or_redirects, delivers_to, destination, goes_on, if_newer, last_trap, makes, newer_address, redirects, redirects_on, tells_newer, tells_sender, trap_for}
+use Rattle.pl_switch_rule.specs.Delivering.{addresses, arrives_home, begins, comes_home, delivers, delivers_or_redirects, delivers_to, destination, goes_on, last_trap, makes, newer_address, redirects, tells_newer, tells_sender, trap_for}
 use Rattle.pl_switch_rule.specs.Forwarding.{Choice, candidates_by, forwards, leaves_by}
-use Rattle.pl_switch_rule.specs.Granting.{granted, has_no_address, is_granted, is_local, learns_source}
+use Rattle.pl_switch_rule.specs.Granting.{granted, is_granted, is_local, learns_source}
 use Rattle.pl_switch_rule.specs.GroupForwarding.{at_most_one, destination_group, forwards_group, no_way, passes_or_drops}
-use Rattle.pl_switch_rule.specs.Intake.{comes_from_host, hears_members, is_for_switch, packet_acts, sends_in, takes, takes_in, takes_in_or_spent, with_pmac}
+use Rattle.pl_switch_rule.specs.Intake.{comes_from_host, hears_members, packet_acts, sends_in, takes_in_or_spent, with_pmac}
 use Rattle.pl_switch_rule.specs.Levels.{finds_host}
 use Rattle.pl_switch_rule.specs.Messages.{answer_frame, flood_frame, floods, forgets_members, hears_manager, invalidates, probes, probes_at, sets_trap}
 use Rattle.pl_switch_rule.proofs.GoingHome.{AreGrantedAt, granted_at}
 use Rattle.pl_switch_rule.proofs.GrantingParts.{quiet_learns_source}
 use Rattle.pl_switch_rule.proofs.LevelParts.{quiet_finds_host}
-use Rattle.pl_switch_rule.proofs.MessageParts.{quiet_forgets_members, quiet_hears_members, quiet_hears_pod, quiet_packet_acts, quiet_sets_trap}
+use Rattle.pl_switch_rule.proofs.MessageParts.{quiet_forgets_members, quiet_hears_pod, quiet_sets_trap}
+use Rattle.pl_switch_rule.proofs.RowActs.{arp_acts, groups_acts, redirects_acts}
+use Rattle.pl_switch_rule.proofs.RowViews.{taken_in}
 use Rattle.pl_switch_rule.proofs.StepParts.{IsQuiet, quiet_then_quiet}
 use Rattle.pl_copies.proofs.Acting.{MakesFew, used}
 use Rattle.pl_copies.proofs.Changing.{claim_at_most_one}
@@ -75,49 +78,26 @@ module _ (plan : Plan) (s : ℕ) (there : Spot) where
 
 pub single_few : (plan : Plan) (s : ℕ) (may : Bool) (acts : List Act) → AreSingle may acts → MakesFew plan s acts
 single_few plan s may [] single = tt
-single_few plan s may (act.Control port frame ∷ acts) single = single_few plan s may acts single
-single_few plan s may (act.Tell told ∷ acts) single = single_few plan s may acts single
-single_few plan s may (act.Grant pmac amac ∷ acts) single = single_few plan s may acts single
 single_few plan s may (act.Make frame ∷ acts) single = (λ there. single_used plan s there true acts single, single_few plan s true acts single)
-single_few plan s may (act.Redirect old new ∷ acts) single = single_few plan s may acts single
 single_few plan s may (act.Pass port frame ∷ acts) single = single_few plan s false acts single.1
-single_few plan s may (act.Take ∷ acts) single = single_few plan s may acts single
-single_few plan s may (act.Drop why ∷ acts) single = single_few plan s may acts single
+single_few plan s may (a ∷ acts) single = single_few plan s may acts single
 
 -- still acts, and what follows them
 pub still_single : (may : Bool) (acts rest : List Act) → AreStill acts → AreSingle may rest → AreSingle may (acts ++ rest)
 still_single may [] rest still single = single
-still_single may (act.Control port frame ∷ acts) rest still single = still_single may acts rest still.1 single
-still_single may (act.Tell told ∷ acts) rest still single = still_single may acts rest still.1 single
-still_single may (act.Grant pmac amac ∷ acts) rest still single = still_single may acts rest still.1 single
 still_single may (act.Make frame ∷ acts) rest still single = absurd still.0
-still_single may (act.Redirect old new ∷ acts) rest still single = still_single may acts rest still.1 single
 still_single may (act.Pass port frame ∷ acts) rest still single = absurd still.0
-still_single may (act.Take ∷ acts) rest still single = still_single may acts rest still.1 single
-still_single may (act.Drop why ∷ acts) rest still single = still_single may acts rest still.1 single
+still_single may (a ∷ acts) rest still single = still_single may acts rest still.1 single
 
 pub still_is_single : (may : Bool) (acts : List Act) → AreStill acts → AreSingle may acts
-still_is_single may [] still = tt
-still_is_single may (act.Control port frame ∷ acts) still = still_is_single may acts still.1
-still_is_single may (act.Tell told ∷ acts) still = still_is_single may acts still.1
-still_is_single may (act.Grant pmac amac ∷ acts) still = still_is_single may acts still.1
-still_is_single may (act.Make frame ∷ acts) still = absurd still.0
-still_is_single may (act.Redirect old new ∷ acts) still = still_is_single may acts still.1
-still_is_single may (act.Pass port frame ∷ acts) still = absurd still.0
-still_is_single may (act.Take ∷ acts) still = still_is_single may acts still.1
-still_is_single may (act.Drop why ∷ acts) still = still_is_single may acts still.1
+still_is_single may acts still = subst (AreSingle may) (append-nil acts) (still_single may acts [] still tt)
 
 -- and what begins with another frame
 pub single_then : (may : Bool) (acts rest : List Act) → AreSingle may acts → ((b : Bool) → AreSingle b rest) → AreSingle may (acts ++ rest)
 single_then may [] rest single more = more may
-single_then may (act.Control port frame ∷ acts) rest single more = single_then may acts rest single more
-single_then may (act.Tell told ∷ acts) rest single more = single_then may acts rest single more
-single_then may (act.Grant pmac amac ∷ acts) rest single more = single_then may acts rest single more
 single_then may (act.Make frame ∷ acts) rest single more = single_then true acts rest single more
-single_then may (act.Redirect old new ∷ acts) rest single more = single_then may acts rest single more
 single_then may (act.Pass port frame ∷ acts) rest single more = (single.0, single_then false acts rest single.1 more)
-single_then may (act.Take ∷ acts) rest single more = single_then may acts rest single more
-single_then may (act.Drop why ∷ acts) rest single more = single_then may acts rest single more
+single_then may (a ∷ acts) rest single more = single_then may acts rest single more
 
 -- a quiet part is still: once a frame is spoken of, acts speak of one to their end
 
@@ -127,46 +107,16 @@ is_silent _ = false
 
 speaks_on : (now : Speech) (a : Act) → is_silent now ≡ false → is_silent (speech_after now a) ≡ false
 speaks_on Silent a is = absurd (false≢true (sym is))
-speaks_on Waiting (act.Control port frame) is = refl
-speaks_on Waiting (act.Tell told) is = refl
-speaks_on Waiting (act.Grant pmac amac) is = refl
-speaks_on Waiting (act.Make frame) is = refl
-speaks_on Waiting (act.Redirect old new) is = refl
-speaks_on Waiting (act.Pass port frame) is = refl
 speaks_on Waiting act.Take is = refl
-speaks_on Waiting (act.Drop why) is = refl
-speaks_on Redirected (act.Control port frame) is = refl
-speaks_on Redirected (act.Tell told) is = refl
-speaks_on Redirected (act.Grant pmac amac) is = refl
-speaks_on Redirected (act.Make frame) is = refl
-speaks_on Redirected (act.Redirect old new) is = refl
-speaks_on Redirected (act.Pass port frame) is = refl
+speaks_on Waiting a is = refl
 speaks_on Redirected act.Take is = refl
-speaks_on Redirected (act.Drop why) is = refl
-speaks_on Passed (act.Control port frame) is = refl
-speaks_on Passed (act.Tell told) is = refl
-speaks_on Passed (act.Grant pmac amac) is = refl
-speaks_on Passed (act.Make frame) is = refl
-speaks_on Passed (act.Redirect old new) is = refl
-speaks_on Passed (act.Pass port frame) is = refl
+speaks_on Redirected a is = refl
 speaks_on Passed act.Take is = refl
-speaks_on Passed (act.Drop why) is = refl
-speaks_on Ended (act.Control port frame) is = refl
-speaks_on Ended (act.Tell told) is = refl
-speaks_on Ended (act.Grant pmac amac) is = refl
-speaks_on Ended (act.Make frame) is = refl
-speaks_on Ended (act.Redirect old new) is = refl
-speaks_on Ended (act.Pass port frame) is = refl
+speaks_on Passed a is = refl
 speaks_on Ended act.Take is = refl
-speaks_on Ended (act.Drop why) is = refl
-speaks_on Wrong (act.Control port frame) is = refl
-speaks_on Wrong (act.Tell told) is = refl
-speaks_on Wrong (act.Grant pmac amac) is = refl
-speaks_on Wrong (act.Make frame) is = refl
-speaks_on Wrong (act.Redirect old new) is = refl
-speaks_on Wrong (act.Pass port frame) is = refl
+speaks_on Ended a is = refl
 speaks_on Wrong act.Take is = refl
-speaks_on Wrong (act.Drop why) is = refl
+speaks_on Wrong a is = refl
 
 speaks_to_the_end : (now : Speech) (acts : List Act) → is_silent now ≡ false → is_silent (speech now acts) ≡ false
 speaks_to_the_end now [] is = is
@@ -178,10 +128,7 @@ silent_is_still (act.Control port frame ∷ acts) is = (tt, silent_is_still acts
 silent_is_still (act.Tell told ∷ acts) is = (tt, silent_is_still acts is)
 silent_is_still (act.Grant pmac amac ∷ acts) is = (tt, silent_is_still acts is)
 silent_is_still (act.Make frame ∷ acts) is = absurd (false≢true (sym (speaks_to_the_end Waiting acts refl) ∙ ap is_silent is))
-silent_is_still (act.Redirect old new ∷ acts) is = absurd (false≢true (sym (speaks_to_the_end Wrong acts refl) ∙ ap is_silent is))
-silent_is_still (act.Pass port frame ∷ acts) is = absurd (false≢true (sym (speaks_to_the_end Wrong acts refl) ∙ ap is_silent is))
-silent_is_still (act.Take ∷ acts) is = absurd (false≢true (sym (speaks_to_the_end Wrong acts refl) ∙ ap is_silent is))
-silent_is_still (act.Drop why ∷ acts) is = absurd (false≢true (sym (speaks_to_the_end Wrong acts refl) ∙ ap is_silent is))
+silent_is_still (a ∷ acts) is = absurd (false≢true (sym (speaks_to_the_end Wrong acts refl) ∙ ap is_silent is))
 
 pub quiet_still : (v : SwitchView) (step : SwitchStep) → IsQuiet v step → AreStill step.acts
 quiet_still v step quiet = silent_is_still step.acts quiet.silent
@@ -214,20 +161,12 @@ goes_on_single : (choose : Choice) (v : SwitchView) (frame : List ℕ) → IsSin
 goes_on_single choose v frame = cond_both (is_local v (destination frame)) (delivers v frame) (forwards choose v (Some FromHost) frame) IsSingle
     (λ own. delivers_single v (destination frame) frame (granted v (destination frame))) (λ other. forwards_single choose v (Some FromHost) frame)
 
-on_still : (further : Trap → List Act) (old : Pmac) (o : Option Trap) → ((trap : Trap) → AreStill (further trap)) → AreStill (redirects_on further old o)
-on_still further old None all = tt
-on_still further old (Some next) all = (tt, all next)
-
-redirects_still : (n : ℕ) (v : SwitchView) (trap : Trap) → AreStill (redirects n v trap)
-unfolding redirects
-redirects_still zero v trap = tt
-redirects_still (suc n) v trap = on_still (redirects n v) trap.new (if_newer trap (trap_for v trap.new)) (redirects_still n v)
-
 home_single : (choose : Choice) (v : SwitchView) (frame : List ℕ) (o : Option Trap) → IsSingle (delivers_or_redirects choose v frame o)
 home_single choose v frame None = delivers_single v (destination frame) frame (granted v (destination frame))
 home_single choose v frame (Some trap) =
     still_single true (act.Redirect (destination frame) trap.new ∷ redirects (addresses v) v trap)
-    (goes_on choose v (with_destination frame (mac_of (last_trap (addresses v) v trap).new))).acts (tt, redirects_still (addresses v) v trap)
+    (goes_on choose v (with_destination frame (mac_of (last_trap (addresses v) v trap).new))).acts
+    (tt, redirects_acts IsStill (λ old new. tt) (addresses v) v trap)
     (goes_on_single choose v (with_destination frame (mac_of (last_trap (addresses v) v trap).new)))
 
 begins_single : (choose : Choice) (v : SwitchView) (frame : List ℕ) → IsSingle (begins choose v frame)
@@ -257,15 +196,13 @@ sends_single choose frame v =
     (λ unicast. cond_both (is_local v (destination frame)) (arrives_home choose v frame) (forwards choose v (Some FromHost) frame) IsSingle
     (λ own. arrives_single choose v frame) (λ other. forwards_single choose v (Some FromHost) frame))
 
-takes_in_single : (choose : Choice) (port : ℕ) (frame : List ℕ) (v : SwitchView) → IsShaped v → IsSingle (takes_in choose port frame v)
-takes_in_single choose port frame v shaped =
-    cond_both (is_arp frame && is_none (packet_in frame)) (does v (act.Drop BadArp ∷ [])) _ IsSingle (λ bad. tt)
-    (λ fine. cond_both (is_for_switch v (destination_of frame) (packet_in frame)) (does v (packet_acts v port frame (packet_in frame)) ▹ takes) _ IsSingle
-    (λ packet. still_single true (packet_acts v port frame (packet_in frame)) (act.Take ∷ []) (quiet_still v _ (quiet_packet_acts v port frame (packet_in frame) shaped)) tt)
-    (λ no_packet. cond_both (is_some (membership_in frame)) (hears_members v port frame ▹ takes) _ IsSingle
-    (λ membership. still_single true (hears_members v port frame).acts (act.Take ∷ []) (quiet_still v _ (quiet_hears_members v port frame shaped)) tt)
-    (λ data_frame. cond_both (not (is_placed v.place)) (does v (act.Drop NotPlaced ∷ [])) (sends_in choose (with_pmac v port frame) v) IsSingle (λ unplaced. tt)
-    (λ placed. sends_single choose (with_pmac v port frame) v))))
+takes_in_single : (choose : Choice) (port : ℕ) (frame : List ℕ) (v : SwitchView) → IsSingle (takes_in_or_spent choose port frame v)
+takes_in_single choose port frame v =
+    taken_in choose port frame v IsSingle (λ cause. tt)
+    (still_single true (packet_acts v port frame (packet_in frame)) (act.Take ∷ [])
+    (arp_acts IsStill (λ asker asker_ip ip. tt) v port frame (packet_in frame)) tt)
+    (still_single true (hears_members v port frame).acts (act.Take ∷ []) (groups_acts IsStill v.members _ (λ group other. tt)) tt)
+    (sends_single choose (with_pmac v port frame) v)
 
 pub host_single : (choose : Choice) (v : SwitchView) (port : ℕ) (frame : List ℕ) → IsShaped v → port < v.k → 14 ≤ length frame →
     IsSingle (comes_from_host choose v port frame)
@@ -276,10 +213,8 @@ host_single choose v port frame shaped within long =
     let known : SwitchStep = finds_host v port ▹ learns in
     let quiet : IsQuiet v known = quiet_then_quiet v (finds_host v port) learns (quiet_finds_host v port shaped)
     (λ w same. quiet_learns_source w port frame same.shaped (subst (λ k. port < k) (sym same.k) within) long) in
-    let rest : IsSingle (takes_in_or_spent choose port frame known.view) =
-    cond_both (has_no_address known.view port (source_of frame)) (does known.view (act.Drop Spent ∷ [])) (takes_in choose port frame known.view) IsSingle (λ spent. tt)
-    (λ fine. takes_in_single choose port frame known.view quiet.same.shaped) in
-    still_single true known.acts (takes_in_or_spent choose port frame known.view).acts (quiet_still v known quiet) rest)
+    still_single true known.acts (takes_in_or_spent choose port frame known.view).acts (quiet_still v known quiet)
+    (takes_in_single choose port frame known.view))
 
 -- a message of the manager
 probes_single : (old : Pmac) (amac : Mac) (o : Option Ip4) (v : SwitchView) (b : Bool) → AreSingle b (probes_at old amac o v).acts

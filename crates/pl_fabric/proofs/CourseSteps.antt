@@ -12,7 +12,7 @@ use Rattle.pl_world.specs.Refusals.{refusal}
 use Rattle.pl_world.specs.WorldRule.{WorldStep}
 use Rattle.pl_world.specs.Worlds.{WorldView}
 use Rattle.pl_fabric.specs.Courses.{Course, EndsAs, Makes, Then, UnlessMemory}
-use Rattle.pl_fabric.proofs.SamePlan.{step_plan}
+use Rattle.pl_world.proofs.Beside.{step_plan}
 
 pub unless : (e : StepError) (P : Type 0) → P → UnlessMemory e P
 unless StepsSpent P holds = holds

@@ -1,4 +1,3 @@
-pub mod SamePlan
 pub mod CourseSteps
 pub mod Visiting
 pub mod Tests

@@ -48,7 +48,8 @@ use Rattle.pl_flights.proofs.ForwardActs.{crossed_at}
 use Rattle.pl_flights.proofs.Hands.{GoodActs, Hand, made_here}
 use Rattle.pl_flights.proofs.Hands.Hand.{Waits}
 use Rattle.pl_flights.proofs.HomeActs.{IsHere, leaves_then}
-use Rattle.pl_flights.proofs.OverLinks.{IsGoodAtHome, comes_told, home_view, taken, taken_out}
+use Rattle.pl_flights.proofs.OverLinks.{IsGoodAtHome, comes_told, taken, taken_out}
+use Rattle.pl_switch_rule.proofs.RowViews.{home_stays}
 use Rattle.pl_flights.proofs.Passing.{known}
 use Rattle.pl_flights.proofs.Redirects.{home_good}
 
@@ -113,7 +114,7 @@ module _ (plan : Plan) (place : ℕ → Place) (book : Book) (t : ℕ) (v : Swit
         GoodActs plan place book t (arrives_home choose v frame).acts (Waits f again)
     arrives_good f again here own =
         subst (λ (u : SwitchView). GoodActs plan place book t ((comes_home choose v frame).acts ++ (tells_sender choose frame (trap_for v (destination frame)) u).acts) (Waits f again))
-        (sym (home_view choose v frame (trap_for v (destination frame))))
+        (sym (home_stays choose v frame (trap_for v (destination frame))))
         (home_good plan place book t v is_plan places neighbours (tells_sender choose frame (trap_for v (destination frame)) v).acts
         (tells_good (trap_for v (destination frame))) knows choose is level placed frame long f again here own)
 

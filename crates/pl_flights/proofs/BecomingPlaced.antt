@@ -21,9 +21,9 @@ use Rattle.pl_switch_rule.specs.SwitchRule.{control_comes, hears_control}
 use Rattle.pl_switch_rule.specs.Telling.{changes_told}
 use Rattle.pl_world.specs.Worlds.{WorldView}
 use Rattle.pl_addresses.specs.EdgeAddresses.{is_settled}
-use Rattle.pl_addresses.specs.Registries.{Registry}
-use Rattle.pl_addresses.proofs.Placing.{IsPlacing, keeps_changes, message_placing, pod_placing, vote_placing}
+use Rattle.pl_addresses.proofs.Placing.{IsPlacing, message_placing, pod_placing, vote_placing}
 use Rattle.pl_flights.specs.Standing.{FirstAddresses, IsNext, KnowsHosts}
+use Rattle.pl_switch_rule.proofs.RowViews.{changes_learn}
 use Rattle.pl_flights.proofs.ComingIn.{same_address}
 use Rattle.pl_flights.proofs.ControlFrames.{settles_by}
 use Rattle.pl_flights.proofs.ForwardActs.{not_is_true}
@@ -36,12 +36,9 @@ all_ports : (P : ℕ → Type 0) (from many top : ℕ) → from + many ≡ top �
 all_ports P from zero top is each = tt
 all_ports P from (suc many) top is each = (each from (omega (arith, is)), all_ports P (from + 1) many top (omega (arith, is)) each)
 
-nothing_registered : Registry
-nothing_registered = record { at = λ x. None; newest_of = λ mac. None; ip_at = λ x. None; count = 0 }
-
 -- what is told and granted leaves the place
 changes_place : (old new : SwitchView) → (changes_to old new).view.place ≡ new.place
-changes_place old new = (keeps_changes (λ mac. None) nothing_registered None [] old new).place
+changes_place old new = ap (λ (w : SwitchView). w.place) (changes_learn old new)
 
 -- what becomes placed was not placed before
 pub was_unplaced : (old new : Place) → has_become_placed old new ≡ true → is_placed old ≡ false

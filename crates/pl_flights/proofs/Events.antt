@@ -10,7 +10,6 @@ use Rattle.pl_wiring.specs.Index.{port_index}
 use Rattle.pl_wiring.specs.LiveLinks.{is_live}
 use Rattle.pl_wiring.specs.Peers.{peer_of}
 use Rattle.pl_journal.specs.Places.{are_alike, is_host_port}
-use Rattle.pl_logic.specs.declared.messages.ToManager.{ToManager}
 use Rattle.pl_logic.specs.declared.messages.ToSwitch.{ToSwitch}
 use Rattle.pl_logic.specs.declared.messages.ToSwitch.TheVariants.{Answer, Avoid, Flood, Invalidate, Pod, Tree}
 use Rattle.pl_logic.specs.Accounting.{AccountsForFrames}
@@ -19,7 +18,6 @@ use Rattle.pl_logic.specs.HostInputs.{HostRule}
 use Rattle.pl_logic.specs.ManagerDuties.{ManagerRule}
 use Rattle.pl_logic.specs.SwitchInputs.{SwitchInput}
 use Rattle.pl_logic.specs.SwitchInputs.SwitchInput.{Comes, Says}
-use Rattle.pl_queues.specs.Queues.{items_at}
 use Rattle.pl_frame.specs.Ethernet.{payload_of}
 use Rattle.pl_layouts.specs.Control.{control_in, is_control}
 use Rattle.pl_logic.specs.SwitchViews.{SwitchView}
@@ -30,7 +28,6 @@ use Rattle.pl_switch_rule.specs.SwitchRule.{Loose, control_comes, data_comes, sw
 use Rattle.pl_world.specs.declared.error.StepError.TheVariants.{AlreadySo, NoSuch, Occupied}
 use Rattle.pl_world.specs.declared.event.Event.{Event}
 use Rattle.pl_world.specs.declared.event.Event.TheVariants as event
-use Rattle.pl_world.specs.declared.event.QueueName.{QueueName}
 use Rattle.pl_world.specs.declared.event.QueueName.TheVariants as queue
 use Rattle.pl_world.specs.declared.item.Item.{Item}
 use Rattle.pl_world.specs.declared.item.Item.TheVariants.{Control, Data}
@@ -38,10 +35,12 @@ use Rattle.pl_world.specs.declared.spoken_frame.SpokenFrame.TheVariants.{Silent}
 use Rattle.pl_world.specs.declared.stand.Stand.{Stand}
 use Rattle.pl_world.specs.Changes.{host_at, out_of, receiver}
 use Rattle.pl_world.specs.Flying.{IsCounted, IsFrame}
-use Rattle.pl_world.specs.LinksAndMoves.{joins, link_between, link_failed}
-use Rattle.pl_world.specs.Refusals.{refusal, has_host, has_port, has_switch, is_for_hosts, is_linked, refusal_of_event, refusal_of_link, refusal_of_move, refusal_of_place, refusal_of_queue}
-use Rattle.pl_world.specs.WorldRule.{ComesOver, Delivers, DeliversFromManager, DeliversOut, DeliversToManager, Fails, Goes, Happens, IsRepaired, Loses, SwitchTurn, WorldStep}
+use Rattle.pl_world.specs.LinksAndMoves.{joins, link_failed}
+use Rattle.pl_world.specs.Refusals.{refusal, has_host, has_port, has_switch, is_for_hosts, is_linked, refusal_of_event, refusal_of_link, refusal_of_place, refusal_of_queue}
+use Rattle.pl_world.specs.WorldRule.{ComesIn, ComesOver, DeliversFromHost, DeliversFromManager, Happens, SwitchTurn, WorldStep}
 use Rattle.pl_world.specs.Worlds.{WorldView}
+use Rattle.pl_world.proofs.Happenings.{Happened, happened}
+use Rattle.pl_world.proofs.Happenings.Happened.{Asked, Departed, Failed, FromHost, Lost, Ordered, OutOfPort, OverLink, PlayedFrame, Repaired, Reported, Ticked}
 use Rattle.pl_world.proofs.Balances.{head_is_item}
 use Rattle.pl_world.proofs.Counts.{all_found}
 use Rattle.pl_world.proofs.StepBalances.{counted as to_counted, event_is_not_refused, fails, found_contained, same_refusal, sound}
@@ -142,15 +141,6 @@ module _ (manager : ManagerRule) (host : HostRule) (accounts : AccountsForFrames
   over_told s port (Data id frame) items HostPort within head peer comes =
       comes_out_told w counted told s port id frame items within head peer host keeps sends (given.come_first s port id frame items within peer head) given.members (receiver w s port frame) refl new comes
 
-  out_told : (s port : ℕ) (items : List Item) → port < w.plan.k → out_of w s port ≡ items → DeliversOut Loose host w s port items new → IsTold new
-  out_told s port [] within head comes = absurd comes
-  out_told s port (item ∷ items) within head comes = over_told s port item items (peer_of w.plan s port) within head refl comes
-
-  to_manager_told : (s : ℕ) (items : List ToManager) → items_at w.to_manager s ≡ items → DeliversToManager manager w s items new → IsTold new
-  to_manager_told s [] head comes = absurd comes
-  to_manager_told s (says ∷ items) head turn = manager_told manager w s says items new counted told turn
-      (given.numbers s says items turn.id turn.after turn.acts head turn.found turn.ruled)
-
   from_manager_told : (t : ℕ) (items : List ToSwitch) → DeliversFromManager Loose w t items new → IsTold new
   from_manager_told t [] comes = absurd comes
   from_manager_told t (Pod pod ∷ items) turn = pod_told w t pod items new accounts counted told turn
@@ -168,55 +158,48 @@ module _ (manager : ManagerRule) (host : HostRule) (accounts : AccountsForFrames
   from_manager_told t (Flood asker asker_ip ip ∷ items) turn = says_told w t (Flood asker asker_ip ip) items new accounts counted told on tt turn
   from_manager_told t (Invalidate old to number ip ∷ items) turn = says_told w t (Invalidate old to number ip) items new accounts counted told on tt turn
 
-  -- the head of a queue is delivered
-  delivers_told : (name : QueueName) → refusal_of_event w (event.Deliver name) ≡ None → Delivers Loose manager host w name new → IsTold new
-  delivers_told (queue.FromHost h) fine comes = from_host_told w counted told on hosts accounts h.0 new given.more comes
-  delivers_told (queue.Port s port) fine comes =
-      let there = and_parts (has_switch w.plan s.0) (nat_lt port w.plan.k) (there_is (has_port w.plan s.0 port) _ fine) in
-      out_told s.0 port (out_of w s.0 port) (ltb-true port w.plan.k there.1) refl comes
-  delivers_told (queue.ToManager s) fine comes = to_manager_told s.0 (items_at w.to_manager s.0) refl comes
-  delivers_told (queue.FromManager s) fine comes = from_manager_told s.0 (items_at w.from_manager s.0) comes
+  module _ (happens : Event) (fine : refusal_of_event w happens ≡ None) where
+    free : (e : Event) → happens ≡ e → refusal_of_event w e ≡ None
+    free e is = subst (λ (x : Event). refusal_of_event w x ≡ None) is fine
 
-  -- an item is lost
-  loses_told : (s port : ℕ) (items : List Item) → port < w.plan.k → out_of w s port ≡ items → Loses w s port items new → IsTold new
-  loses_told s port [] within head is = absurd is
-  loses_told s port (item ∷ items) within head is = subst IsTold (sym is) (lost_told w s port item items counted told within head)
+    within_port : (s : SwitchNo) (port : ℕ) → happens ≡ event.Deliver (queue.Port s port) → port < w.plan.k
+    within_port s port is =
+        let there = and_parts (has_switch w.plan s.0) (nat_lt port w.plan.k)
+            (there_is (has_port w.plan s.0 port) _ (free (event.Deliver (queue.Port s port)) is)) in
+        ltb-true port w.plan.k there.1
 
-  -- a link fails, or is repaired
-  cut_told : (a b : ℕ) (o : Option Link) → link_between w.plan a b ≡ o → refusal_of_link w false o ≡ None → Fails w o new → IsTold new
-  cut_told a b None found fine is = absurd is
-  cut_told a b (Some link) found fine is = subst IsTold (sym is)
-      (fails_told w link counted told (found_contained (joins a b) w.plan.links link found) (live_before (is_live w.links link) fine)
-      (to_counted (link_failed w link) (fails w a b (Some link) (link_failed w link) found (sound w counted) refl)))
+    by_case : Happened Loose manager host w happens new → IsTold new
+    by_case (FromHost h item items stand is head at comes) =
+        from_host_told w counted told on hosts accounts h.0 new given.more
+        (subst (λ (xs : List Item). DeliversFromHost Loose w h.0 xs new) (sym head)
+        (subst (λ (o : Option Stand). ComesIn Loose (record w { from_hosts = set w.from_hosts h.0 items }) h.0 item o new) (sym at) comes))
+    by_case (OverLink s port item items t q is head joined comes) = over_told s.0 port item items (Switch t q) (within_port s port is) head joined comes
+    by_case (OutOfPort s port item items is head joined comes) = over_told s.0 port item items HostPort (within_port s port is) head joined comes
+    by_case (Reported s says items is head turn) =
+        manager_told manager w s.0 says items new counted told turn (given.numbers s.0 says items turn.id turn.after turn.acts head turn.found turn.ruled)
+    by_case (Ordered s says items is head turn) = from_manager_told s.0 (says ∷ items) turn
+    by_case (Ticked s is turn) = ticks_told w s.0 new accounts counted told turn given.more
+    by_case (Failed a b link is found failed) =
+        let live = live_before (is_live w.links link) (subst (λ (o : Option Link). refusal_of_link w false o ≡ None) found (free (event.Fail a b) is)) in
+        subst IsTold (sym failed)
+        (fails_told w link counted told (found_contained (joins a.0 b.0) w.plan.links link found) live
+        (to_counted (link_failed w link) (fails w a.0 b.0 (Some link) (link_failed w link) found (sound w counted) refl)))
+    by_case (Repaired a b link is found repaired) =
+        let dead = dead_before (is_live w.links link) (subst (λ (o : Option Link). refusal_of_link w true o ≡ None) found (free (event.Repair a b) is)) in
+        subst IsTold (sym repaired) (repaired_told w link counted told (found_contained (joins a.0 b.0) w.plan.links link found) dead)
+    by_case (Lost s port item items is head gone) =
+        let linked = and_parts (has_port w.plan s.0 port) (not (is_host_port (peer_of w.plan s.0 port)))
+            (there_is (is_linked w.plan s.0 port) _ (free (event.Lose s port) is)) in
+        let there = and_parts (has_switch w.plan s.0) (nat_lt port w.plan.k) linked.0 in
+        subst IsTold (sym gone) (lost_told w s.0 port item items counted told (ltb-true port w.plan.k there.1) head)
+    by_case (Departed h s port from is at turn) =
+        let may = move_fine (has_host w.plan h.0) (is_for_hosts w.plan s.0 port) h.0 (host_at w s.0 port) (free (event.Move h s port) is) in
+        goes_told w counted told h.0 (record { edge = s; port = port }) from at may.0 may.1 may.2 host sends new turn
+    by_case (PlayedFrame h input skip is turn) = plays_told host sends w h.0 input new (sound w counted) told (record { skip = skip; turn = turn })
+    by_case (Asked h input is turn) = host_told host sends w h.0 _ _ new (sound w counted) told turn
 
-  fixed_told : (a b : ℕ) (o : Option Link) → link_between w.plan a b ≡ o → refusal_of_link w true o ≡ None → IsRepaired w o new → IsTold new
-  fixed_told a b None found fine is = absurd is
-  fixed_told a b (Some link) found fine is = subst IsTold (sym is)
-      (repaired_told w link counted told (found_contained (joins a b) w.plan.links link found) (dead_before (is_live w.links link) fine))
-
-  -- a host moves
-  leaves_told : (h : ℕ) (to : Stand) (o : Option Stand) → slice_get w.stands h ≡ o → refusal_of_move w h to.edge.0 to.port ≡ None → Goes host w h to o new → IsTold new
-  leaves_told h to None found fine turn = absurd turn
-  leaves_told h to (Some from) found fine turn =
-      let may = move_fine (has_host w.plan h) (is_for_hosts w.plan to.edge.0 to.port) h (host_at w to.edge.0 to.port) fine in
-      goes_told w counted told h to from found may.0 may.1 may.2 host sends new turn
-
-  -- each event, over what is left
-  pub happens_told : (happens : Event) → refusal_of_event w happens ≡ None → Happens Loose manager host w happens new → IsTold new
-  happens_told (event.Deliver name) fine does = delivers_told name fine does
-  happens_told (event.Tick s) fine does = ticks_told w s.0 new accounts counted told does given.more
-  happens_told (event.Fail a b) fine does = cut_told a.0 b.0 (link_between w.plan a.0 b.0) refl fine does
-  happens_told (event.Repair a b) fine does = fixed_told a.0 b.0 (link_between w.plan a.0 b.0) refl fine does
-  happens_told (event.Lose s port) fine does =
-      let linked = and_parts (has_port w.plan s.0 port) (not (is_host_port (peer_of w.plan s.0 port))) (there_is (is_linked w.plan s.0 port) _ fine) in
-      let there = and_parts (has_switch w.plan s.0) (nat_lt port w.plan.k) linked.0 in
-      loses_told s.0 port (out_of w s.0 port) (ltb-true port w.plan.k there.1) refl does
-  happens_told (event.Move h s port) fine does = leaves_told h.0 (record { edge = s; port = port }) (slice_get w.stands h.0) refl fine does
-  happens_told (event.Start h) fine does = host_told host sends w h.0 _ _ new (sound w counted) told does
-  happens_told (event.Play h frame original raw) fine does = plays_told host sends w h.0 _ new (sound w counted) told does
-  happens_told (event.Retry h) fine does = host_told host sends w h.0 _ _ new (sound w counted) told does
-  happens_told (event.Join h group) fine does = host_told host sends w h.0 _ _ new (sound w counted) told does
-  happens_told (event.Leave h group) fine does = host_told host sends w h.0 _ _ new (sound w counted) told does
+    pub happens_told : Happens Loose manager host w happens new → IsTold new
+    happens_told does = by_case (happened Loose manager host w happens new does)
 
 -- the same, once the step is counted
 stepped_given : (manager : ManagerRule) (host : HostRule) (old new : WorldView) (n : ℕ) → IsGiven manager host old new → IsGiven manager host (record old { steps = n }) new

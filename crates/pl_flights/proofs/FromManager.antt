@@ -5,7 +5,6 @@ use Rattle.std.proofs.Math.ListN.{length-set}
 use Rattle.std.proofs.lemmas.Bool.{cases_eq, cond_both}
 use Rattle.std.proofs.lemmas.Option.{slice_get_within}
 use Rattle.pl_frame.specs.declared.address.Ip4.{Ip4}
-use Rattle.pl_frame.specs.declared.address.Mac.{Mac}
 use Rattle.pl_pmac.specs.declared.pmac.Pmac.{Pmac}
 use Rattle.pl_wiring.specs.declared.link.Peer.{Peer}
 use Rattle.pl_wiring.specs.declared.link.Peer.TheVariants.{HostPort, Switch}
@@ -13,7 +12,6 @@ use Rattle.pl_wiring.specs.Peers.{peer_of}
 use Rattle.pl_wiring.specs.Plan.{IsPlan, Plan}
 use Rattle.pl_layouts.specs.declared.place.Place.{Place}
 use Rattle.pl_journal.specs.Flights.{Flight}
-use Rattle.pl_journal.specs.Places.{are_alike}
 use Rattle.pl_logic.specs.declared.acts.Act.{Act}
 use Rattle.pl_logic.specs.declared.acts.Act.TheVariants as act
 use Rattle.pl_logic.specs.declared.messages.ToSwitch.{ToSwitch}
@@ -28,8 +26,8 @@ use Rattle.pl_steps.specs.Steps.{SwitchStep, rests}
 use Rattle.pl_switch_rule.specs.Delivering.{makes}
 use Rattle.pl_switch_rule.specs.Forwarding.{Choice}
 use Rattle.pl_switch_rule.specs.Granting.{granted, is_granted}
-use Rattle.pl_switch_rule.specs.Intake.{group_told, groups_of, groups_told, has_member_of, is_member}
-use Rattle.pl_switch_rule.specs.Messages.{answer_frame, flood_frame, floods, forgets_members, hears_manager, invalidates, probes, probes_at, sets_trap}
+use Rattle.pl_switch_rule.specs.Intake.{groups_told, is_member}
+use Rattle.pl_switch_rule.specs.Messages.{answer_frame, flood_frame, floods, forgets_members, hears_manager, invalidates, probes_at, sets_trap}
 use Rattle.pl_switch_rule.specs.SwitchRule.{IsChoice, Loose}
 use Rattle.pl_world.specs.declared.spoken_frame.SpokenFrame.TheVariants.{Silent}
 use Rattle.pl_world.specs.Flying.{IsCounted}
@@ -43,9 +41,10 @@ use Rattle.pl_flights.proofs.Growing.{between_grown, leaving_grown}
 use Rattle.pl_flights.proofs.Hands.{GoodActs, Hand, MayLeave, made_here, turned}
 use Rattle.pl_flights.proofs.Hands.Hand.{Empty, Spreads, Waits}
 use Rattle.pl_flights.proofs.Moving.{set_get, set_get_other}
-use Rattle.pl_flights.proofs.OverLinks.{begins_view}
+use Rattle.pl_switch_rule.proofs.RowActs.{groups_acts}
+use Rattle.pl_switch_rule.proofs.RowViews.{begins_stays, probes_stay}
 use Rattle.pl_flights.proofs.Saying.{answer_good, flood_good, probe_good}
-use Rattle.pl_flights.proofs.SilentSteps.{AreSilent, none_or_told, silent_flat_map, silent_good, silent_turn}
+use Rattle.pl_flights.proofs.SilentSteps.{AreSilent, IsSilent, silent_good, silent_turn}
 use Rattle.pl_flights.proofs.SwitchTurns.{turn_switches}
 
 -- good acts are good where more is known of places
@@ -98,11 +97,7 @@ GivesNoPod (Pod pod) = ⊥
 GivesNoPod says = Unit {0}
 
 pub silent_groups : (old new : List Member) → AreSilent (groups_told old new)
-silent_groups old new = silent_flat_map (group_told old new) (groups_of (old ++ new)) (λ group. none_or_told (are_alike (has_member_of old group) (has_member_of new group)) _)
-
-probe_place : (old : Pmac) (amac : Mac) (o : Option Ip4) (v : SwitchView) → (probes_at old amac o v).view.place ≡ v.place
-probe_place old amac None v = refl
-probe_place old amac (Some ip) v = refl
+silent_groups old new = groups_acts IsSilent old new (λ group other. tt)
 
 some_granted : (o : Option Grant) → is_some o ≡ true → (grant : Grant) × (o ≡ Some grant)
 some_granted None there = absurd (cc)
@@ -125,14 +120,13 @@ module _ (plan : Plan) (place : ℕ → Place) (book : Book) (t : ℕ) (v : Swit
       let w : SwitchView = (forgets_members old.port grant.amac u).view in
       let silent : AreSilent (forgets_members old.port grant.amac u).acts =
       silent_groups u.members (filter (λ (m : Member). not (is_member old.port grant.amac m)) u.members) in
-      let P : SwitchStep → Type 0 = λ step. GoodActs plan place book t ((forgets_members old.port grant.amac u).acts ++ step.acts) Empty × (step.view.place ≡ v.place) in
-      let both : P (probes old grant w) = cond_both grant.in_use (probes_at old grant.amac grant.ip w) (rests w) P
-      (λ used. (
-        silent_good plan place book t (forgets_members old.port grant.amac u).acts _ Empty silent (probed old grant found grant.ip w),
-        probe_place old grant.amac grant.ip w,
-      ))
-      (λ unused. (silent_good plan place book t (forgets_members old.port grant.amac u).acts [] Empty silent tt, refl)) in
-      record { good = both.0; stays = both.1 }
+      let P : SwitchStep → Type 0 = λ step. GoodActs plan place book t ((forgets_members old.port grant.amac u).acts ++ step.acts) Empty in
+      record {
+        good = cond_both grant.in_use (probes_at old grant.amac grant.ip w) (rests w) P
+            (λ used. silent_good plan place book t (forgets_members old.port grant.amac u).acts _ Empty silent (probed old grant found grant.ip w))
+            (λ unused. silent_good plan place book t (forgets_members old.port grant.amac u).acts [] Empty silent tt);
+        stays = ap (λ (x : SwitchView). x.place) (probes_stay old grant w);
+      }
 
   pub heard : (says : ToSwitch) → GivesNoPod says → IsHeard (hears_manager choose v says)
   heard (Pod pod) none = absurd none
@@ -143,7 +137,7 @@ module _ (plan : Plan) (place : ℕ → Place) (book : Book) (t : ℕ) (v : Swit
       let grant = some_granted (granted v asker) here in
       record {
         good = answer_good plan place book t v is_plan places neighbours knows choose is asker asker_ip ip pmac grant.0 grant.1;
-        stays = ap (λ (u : SwitchView). u.place) (begins_view choose v (answer_frame asker asker_ip ip pmac));
+        stays = ap (λ (u : SwitchView). u.place) (begins_stays choose v (answer_frame asker asker_ip ip pmac));
       })
       (λ other. record { good = tt; stays = refl })
   heard (Flood asker asker_ip ip) none = cond_both (is_granted v asker) (floods v (flood_frame asker asker_ip ip)) (rests v) IsHeard

@@ -1,10 +1,8 @@
 -- A data frame comes over a link.
-use Rattle.std.proofs.Common.{◌≡◌, ℕ, zero, suc, ◌+◌, ◌<◌, ◌==◌, ◌||◌, not, true, false, Contains, List, [], ◌∷◌, Option, None, Some, is_none, reverse, set, slice_get, refl, sym, ◌∙◌, ap, subst, arith}
+use Rattle.std.proofs.Common.{◌≡◌, ℕ, zero, suc, ◌+◌, ◌<◌, ◌==◌, true, false, Contains, List, [], ◌∷◌, Some, reverse, set, slice_get, refl, sym, ◌∙◌, ap, subst, arith}
 use Rattle.std.specs.List.{AllByRecursion}
-use Rattle.std.proofs.lemmas.Bool.{cond-false, cond-true, cond_both, eq-eqb}
-use Rattle.pl_frame.specs.Ethernet.{destination_of, with_destination}
-use Rattle.pl_pmac.specs.declared.pmac.Pmac.{Pmac}
-use Rattle.pl_pmac.specs.Pmac.{mac_of}
+use Rattle.std.proofs.lemmas.Bool.{cond-false, cond-true, eq-eqb}
+use Rattle.pl_frame.specs.Ethernet.{destination_of}
 use Rattle.pl_wiring.specs.declared.label.SwitchNo.{SwitchNo}
 use Rattle.pl_wiring.specs.declared.link.Peer.{Peer}
 use Rattle.pl_wiring.specs.declared.link.Peer.TheVariants.{Switch}
@@ -16,23 +14,17 @@ use Rattle.pl_wiring.proofs.Linked.{peer_says}
 use Rattle.pl_layouts.specs.declared.place.Place.{Place}
 use Rattle.pl_layouts.specs.Control.{is_control}
 use Rattle.pl_layouts.specs.Memberships.{is_group}
-use Rattle.pl_layouts.specs.Placement.{is_placed}
 use Rattle.pl_journal.specs.declared.entry.Entry.{Entry}
 use Rattle.pl_journal.specs.declared.entry.Entry.TheVariants.{Crossed}
 use Rattle.pl_journal.specs.Flights.{Flight, flight_of, is_empty, trail, was_live}
 use Rattle.pl_logic.specs.Accounting.{AccountsForFrames}
-use Rattle.pl_logic.specs.PortRecords.{is_open_to_hosts, place_at, port_of}
+use Rattle.pl_logic.specs.PortRecords.{is_open_to_hosts, port_of}
 use Rattle.pl_logic.specs.SwitchInputs.SwitchInput.{Comes}
 use Rattle.pl_logic.specs.SwitchViews.{SwitchView}
-use Rattle.pl_logic.specs.declared.switch_records.Grant.{Grant}
-use Rattle.pl_logic.specs.declared.trap.Trap.{Trap}
-use Rattle.pl_frame.specs.declared.address.Ip4.{Ip4}
-use Rattle.pl_layouts.specs.Frames.{is_arp}
 use Rattle.pl_steps.specs.Steps.{SwitchStep}
-use Rattle.pl_switch_rule.specs.Delivering.{addresses, arrives_home, begins, comes_home, delivers, delivers_or_redirects, delivers_to, destination, goes_on, last_trap, newer_address, tells_newer, tells_sender, trap_for}
-use Rattle.pl_switch_rule.specs.Forwarding.{Choice, came_by, leaves_by}
-use Rattle.pl_switch_rule.specs.Granting.{granted, is_local}
-use Rattle.pl_switch_rule.specs.GroupForwarding.{forwards_group}
+use Rattle.pl_switch_rule.specs.Delivering.{addresses, arrives_home, destination}
+use Rattle.pl_switch_rule.specs.Forwarding.{Choice}
+use Rattle.pl_switch_rule.specs.Granting.{is_local}
 use Rattle.pl_switch_rule.specs.Intake.{comes_from_host}
 use Rattle.pl_switch_rule.specs.SwitchRule.{IsChoice, Loose, comes_from_switch, control_comes, data_comes, switch_step}
 use Rattle.pl_world.specs.declared.item.Item.{Item}
@@ -59,51 +51,7 @@ use Rattle.pl_flights.proofs.Noting.{note, reverse_noted}
 use Rattle.pl_flights.proofs.Queues.{set_out}
 use Rattle.pl_flights.proofs.Rungs.{joined}
 use Rattle.pl_flights.proofs.SwitchTurns.{turn_switches, turn_told}
-
--- a switch that passes a frame on knows what it knew
-
-leaves_view : (v : SwitchView) (frame : List ℕ) (o : Option ℕ) → (leaves_by v frame o).view ≡ v
-leaves_view v frame None = refl
-leaves_view v frame (Some p) = refl
-
-delivers_view : (v : SwitchView) (address : Pmac) (frame : List ℕ) (o : Option Grant) → (delivers_to v address frame o).view ≡ v
-delivers_view v address frame None = refl
-delivers_view v address frame (Some grant) = refl
-
-abbrev Stays : SwitchView → SwitchStep → Type 0
-Stays v step = step.view ≡ v
-
-goes_on_view : (choose : Choice) (v : SwitchView) (frame : List ℕ) → (goes_on choose v frame).view ≡ v
-goes_on_view choose v frame = cond_both (is_local v (destination frame)) (delivers v frame) _ (Stays v)
-    (λ own. delivers_view v (destination frame) frame (granted v (destination frame))) (λ other. leaves_view v frame _)
-
-pub home_view : (choose : Choice) (v : SwitchView) (frame : List ℕ) (o : Option Trap) → (delivers_or_redirects choose v frame o).view ≡ v
-home_view choose v frame None = delivers_view v (destination frame) frame (granted v (destination frame))
-home_view choose v frame (Some trap) = goes_on_view choose v (with_destination frame (mac_of (last_trap (addresses v) v trap).new))
-
-pub begins_view : (choose : Choice) (v : SwitchView) (frame : List ℕ) → (begins choose v frame).view ≡ v
-begins_view choose v frame = cond_both (is_local v (destination frame)) (comes_home choose v frame) _ (Stays v)
-    (λ own. home_view choose v frame (trap_for v (destination frame))) (λ other. leaves_view v frame _)
-
-newer_view : (choose : Choice) (frame : List ℕ) (new : Pmac) (o : Option Ip4) (v : SwitchView) → (tells_newer choose frame new o v).view ≡ v
-newer_view choose frame new None v = refl
-newer_view choose frame new (Some ip) v = begins_view choose v (newer_address frame new ip)
-
-sender_view : (choose : Choice) (frame : List ℕ) (o : Option Trap) (v : SwitchView) → (tells_sender choose frame o v).view ≡ v
-sender_view choose frame None v = refl
-sender_view choose frame (Some trap) v = cond_both (is_arp frame) _ (tells_newer choose frame (last_trap (addresses v) v trap).new (last_trap (addresses v) v trap).ip v) (Stays v)
-    (λ arp. refl) (λ other. newer_view choose frame _ _ v)
-
-pub arrives_view : (choose : Choice) (v : SwitchView) (frame : List ℕ) → (arrives_home choose v frame).view ≡ v
-arrives_view choose v frame =
-    sender_view choose frame (trap_for v (destination frame)) (comes_home choose v frame).view ∙ home_view choose v frame (trap_for v (destination frame))
-
-from_switch_view : (choose : Choice) (v : SwitchView) (q : ℕ) (frame : List ℕ) → (comes_from_switch choose v q frame).view ≡ v
-from_switch_view choose v q frame =
-    cond_both (not (is_placed v.place) || is_none (place_at v q).level) _ _ (Stays v) (λ unplaced. refl)
-    (λ fine. cond_both (is_group (destination_of frame)) (forwards_group v (came_by v q) frame) _ (Stays v) (λ group. refl)
-    (λ unicast. cond_both (is_local v (destination frame)) (arrives_home choose v frame) _ (Stays v)
-    (λ own. arrives_view choose v frame) (λ away. leaves_view v frame _)))
+use Rattle.pl_switch_rule.proofs.RowViews.{switch_frame_stays}
 
 set_found : {T : Type 0} (xs : List T) (n : ℕ) (x : T) → slice_get xs n ≡ Some x → set xs n x ≡ xs
 set_found [] n x is = refl
@@ -201,7 +149,7 @@ module _ (w : WorldView) (counted : IsCounted w) (told : IsTold w) (on : StandsO
       let step : switch_step loose.choose v (Comes q frame) ≡ comes_from_switch loose.choose v q frame =
       cond-false (is_control frame) (control_comes v q frame) (data_comes loose.choose v q frame) took.is_frame.kind
       ∙ cond-false (is_open_to_hosts (port_of v q)) (comes_from_host loose.choose v q frame) (comes_from_switch loose.choose v q frame) closed in
-      let same_view : turn.after ≡ v = loose.steps.view ∙ ap (λ (x : SwitchStep). x.view) step ∙ from_switch_view loose.choose v q frame in
+      let same_view : turn.after ≡ v = loose.steps.view ∙ ap (λ (x : SwitchStep). x.view) step ∙ switch_frame_stays loose.choose v q frame in
       let same : w.switches ≡ new.switches = sym (turn_switches Loose accounts _ t.0 _ _ new turn
       ∙ ap (λ x. set w.switches t.0 x) same_view ∙ set_found w.switches t.0 v turn.found) in
       let good : GoodActs w.plan place (book_of past) t.0 (comes_from_switch loose.choose v q frame).acts (Waits (crossed_at t.0 f) false) =

@@ -1,23 +1,17 @@
 -- Steps of a switch that speak of no frame at first: a tick, a message of the manager.
-use Rattle.std.proofs.Common.{◌≡◌, ℕ, suc, Bool, true, false, if◌then◌else◌, List, [], ◌∷◌, ◌++◌, length, map, Option, None, Some, reverse, refl, sym, ap, subst}
-use Rattle.std.specs.List.{AllByRecursion, flat_map}
-use Rattle.pl_frame.specs.declared.address.SwitchId.{SwitchId}
+use Rattle.std.proofs.Common.{◌≡◌, ℕ, suc, List, [], ◌∷◌, ◌++◌, length, Option, reverse, refl, sym, ap, subst}
+use Rattle.std.specs.List.{AllByRecursion}
 use Rattle.pl_layouts.specs.declared.place.Place.{Place}
 use Rattle.pl_logic.specs.declared.acts.Act.{Act}
 use Rattle.pl_logic.specs.declared.acts.Act.TheVariants as act
-use Rattle.pl_logic.specs.declared.messages.ToManager.{ToManager}
 use Rattle.pl_logic.specs.Accounting.{AccountsForFrames, CanCome, first_speech}
 use Rattle.pl_logic.specs.Accounting.Speech.{Silent as SaidNone}
 use Rattle.pl_logic.specs.SwitchInputs.{SwitchInput, SwitchRule}
 use Rattle.pl_logic.specs.SwitchInputs.SwitchInput.{Tick}
 use Rattle.pl_logic.specs.SwitchViews.{SwitchView}
-use Rattle.pl_logic.specs.Announcements.{announcement}
-use Rattle.pl_logic.specs.PortRecords.{id_at, is_usable, ports_of_switch, ports_where}
-use Rattle.pl_layouts.specs.Placement.{same_place}
-use Rattle.pl_journal.specs.Places.{are_alike}
-use Rattle.pl_switch_rule.specs.Announcing.{announcements, announces_at, proposal, proposes_at, ticks, with_aged_ports}
+use Rattle.pl_switch_rule.specs.Announcing.{ticks}
 use Rattle.pl_switch_rule.specs.SwitchRule.{Loose}
-use Rattle.pl_switch_rule.specs.Telling.{changes_told, link_to, link_told, place_told, pod_wanted}
+use Rattle.pl_switch_rule.specs.Telling.{changes_told}
 use Rattle.pl_wiring.specs.Plan.{Plan}
 use Rattle.pl_world.specs.declared.spoken_frame.SpokenFrame.TheVariants.{Silent}
 use Rattle.pl_world.specs.declared.stand.Stand.{Stand}
@@ -32,6 +26,9 @@ use Rattle.pl_flights.proofs.Growing.{tells_grown}
 use Rattle.pl_flights.proofs.Hands.{GoodActs, Hand}
 use Rattle.pl_flights.proofs.Hands.Hand.{Empty}
 use Rattle.pl_flights.proofs.SwitchTurns.{turn_told}
+use Rattle.pl_layouts.specs.declared.place.Place.{Place}
+use Rattle.pl_switch_rule.proofs.RowActs.{ChangeActs, told_acts}
+use Rattle.pl_switch_rule.proofs.StepActs.{ticks_acts}
 
 -- an act that speaks of no frame, and grants nothing
 abbrev pub IsSilent : Act → Type 0
@@ -46,42 +43,11 @@ pub silent_append : (xs ys : List Act) → AreSilent xs → AreSilent ys → Are
 silent_append [] ys first next = next
 silent_append (x ∷ xs) ys first next = (first.0, silent_append xs ys first.1 next)
 
-pub silent_flat_map : {X : Type 0} (f : X → List Act) (xs : List X) → ((x : X) → AreSilent (f x)) → AreSilent (flat_map f xs)
-silent_flat_map f [] all = tt
-silent_flat_map f (x ∷ xs) all = silent_append (f x) (flat_map f xs) (all x) (silent_flat_map f xs all)
-
-silent_map : {X : Type 0} (f : X → Act) (xs : List X) → ((x : X) → IsSilent (f x)) → AreSilent (map f xs)
-silent_map f [] all = tt
-silent_map f (x ∷ xs) all = (all x, silent_map f xs all)
-
-silent_if : (b : Bool) (xs ys : List Act) → AreSilent xs → AreSilent ys → AreSilent (if b then xs else ys)
-silent_if true xs ys first next = first
-silent_if false xs ys first next = next
-
-pub none_or_told : (b : Bool) (told : ToManager) → AreSilent (if b then [] else act.Tell told ∷ [])
-none_or_told true told = tt
-none_or_told false told = (tt, tt)
-
-told_or_none : (b : Bool) (told : ToManager) → AreSilent (if b then act.Tell told ∷ [] else [])
-told_or_none true told = (tt, tt)
-told_or_none false told = tt
-
-silent_link : (o : Option SwitchId) (b : Bool) → AreSilent (link_to o b)
-silent_link None b = tt
-silent_link (Some id) b = (tt, tt)
+silent_change : (place : Place) → ChangeActs place IsSilent
+silent_change place = record { placed = tt; linked = λ neighbour usable. tt; wanted = λ position. tt }
 
 pub silent_changes : (old new : SwitchView) → AreSilent (changes_told old new)
-silent_changes old new = silent_append (place_told old.place new.place ++ flat_map (link_told old new) (ports_of_switch new.k)) (pod_wanted old.place new.place)
-    (silent_append (place_told old.place new.place) (flat_map (link_told old new) (ports_of_switch new.k))
-    (none_or_told (same_place old.place new.place) _)
-    (silent_flat_map (link_told old new) (ports_of_switch new.k)
-    (λ port. silent_if (are_alike (is_usable old port) (is_usable new port)) [] (link_to (id_at new port) (is_usable new port)) tt
-    (silent_link (id_at new port) (is_usable new port)))))
-    (told_or_none _ _)
-
-silent_announcements : (v : SwitchView) → AreSilent (announcements v)
-silent_announcements v = silent_append _ _ (silent_map (λ port. act.Control port (announcement v port)) (ports_where v (announces_at v)) (λ port. tt))
-    (silent_map (λ port. act.Control port (proposal v)) (ports_where v (proposes_at v)) (λ port. tt))
+silent_changes old new = told_acts IsSilent old new (silent_change new.place)
 
 -- silent acts are good, and what follows them
 pub silent_good : (plan : Plan) (place : ℕ → Place) (book : Book) (s : ℕ) (acts rest : List Act) (hand : Hand) → AreSilent acts →
@@ -123,8 +89,7 @@ ticks_told w s new accounts counted told turn more =
     let so = sound w counted in
     let heard : WorldView = record w { heard = heard_after_tick s w.stands w.heard } in
     let v : SwitchView = turn.before in
-    let silent : AreSilent (ticks v).acts =
-    silent_append (changes_told v (with_aged_ports v)) (announcements (with_aged_ports v)) (silent_changes v (with_aged_ports v)) (silent_announcements (with_aged_ports v)) in
+    let silent : AreSilent (ticks v).acts = ticks_acts IsSilent v (silent_change v.place) (λ port frame. tt) in
     let acts : turn.acts ≡ (ticks v).acts = turn.ruled.steps.done in
     silent_turn Loose accounts heard s Tick new refl (λ u size. tt)
     (record { balance = so.balance; rest = heard_rest w _ (ticked_heard s w.stands w.heard) so.rest }) told turn more

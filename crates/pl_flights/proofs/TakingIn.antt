@@ -26,18 +26,19 @@ use Rattle.pl_switch_rule.specs.declared.came.Came.TheVariants.{FromHost}
 use Rattle.pl_switch_rule.specs.Delivering.{destination}
 use Rattle.pl_switch_rule.specs.Forwarding.{Choice, forwards}
 use Rattle.pl_switch_rule.specs.Granting.{is_local}
-use Rattle.pl_switch_rule.specs.Intake.{changes_member, hears_members, is_for_switch, packet_acts, query, sends_in, source_pmac, takes_in, with_pmac}
+use Rattle.pl_switch_rule.specs.Intake.{changes_member, hears_members, is_for_switch, packet_acts, sends_in, takes_in, with_pmac}
 use Rattle.pl_switch_rule.specs.SwitchRule.{IsChoice}
 use Rattle.pl_flights.specs.OnTheWay.{Book, CameInPlaced, WillBeUnaltered}
 use Rattle.pl_flights.specs.Standing.{IsGranted, KnowsAddresses, KnowsNeighbours, KnowsPlaces}
 use Rattle.pl_flights.proofs.AtHome.{arrives_good}
+use Rattle.pl_switch_rule.proofs.RowActs.{arp_acts}
 use Rattle.pl_flights.proofs.FromManager.{silent_groups}
 use Rattle.pl_flights.proofs.Hands.{GoodActs, MayTake}
 use Rattle.pl_flights.proofs.Hands.Hand.{Waits}
 use Rattle.pl_flights.proofs.HomeActs.{IsHere, leaves_then}
 use Rattle.pl_flights.proofs.Rewriting.{arriving_twice}
 use Rattle.pl_flights.proofs.Saying.{spreads_good}
-use Rattle.pl_flights.proofs.SilentSteps.{AreSilent, silent_good}
+use Rattle.pl_flights.proofs.SilentSteps.{IsSilent, silent_good}
 
 -- A frame of a host in hand at switch t, which it crossed alone.
 pub record IsNew (t : ℕ) (f : Flight) (frame : List ℕ) : Type 0 where
@@ -48,7 +49,6 @@ pub record IsNew (t : ℕ) (f : Flight) (frame : List ℕ) : Type 0 where
   pub address : f.address ≡ mac_number (destination_of frame)
   pub long : 14 ≤ length frame
 
--- an ARP packet that cannot be read
 -- what a switch takes may be taken
 for_switch : (v : SwitchView) (dst : Mac) (o : Option Arp) → is_for_switch v dst o ≡ true → is_taken_packet dst o ≡ true
 for_switch v dst None is = absurd (false≢true is)
@@ -56,15 +56,6 @@ for_switch v dst (Some arp) is = elim (or_cases ((arp.op == 1) || is_group dst) 
   | inl first ↦ or_left ((arp.op == 1) || is_group dst) _ first
   | inr probe ↦ or_right ((arp.op == 1) || is_group dst) _ ((and_parts (is_local v (pmac_of dst)) ((pmac_of dst).vmid == 0) probe).1)
 ]
-
-silent_query : (o : Option Pmac) (arp : Arp) → AreSilent (query o arp)
-silent_query None arp = tt
-silent_query (Some asker) arp = (tt, tt)
-
-silent_packet : (v : SwitchView) (port : ℕ) (frame : List ℕ) (o : Option Arp) → AreSilent (packet_acts v port frame o)
-silent_packet v port frame None = tt
-silent_packet v port frame (Some arp) = cond_both (is_placed v.place && (arp.op == 1) && not (arp.spa.0 == arp.tpa.0)) (query (source_pmac v port frame) arp) []
-    AreSilent (λ asks. silent_query (source_pmac v port frame) arp) (λ other. tt)
 
 module _ (plan : Plan) (place : ℕ → Place) (book : Book) (t : ℕ) (v : SwitchView) (choose : Choice) (port : ℕ) (frame : List ℕ) (f : Flight) (new : IsNew t f frame) where
   abbrev Good : List Act → Type 0
@@ -79,7 +70,8 @@ module _ (plan : Plan) (place : ℕ → Place) (book : Book) (t : ℕ) (v : Swit
       cond_both (is_bad_arp frame) _ _ G
       (λ bad. ((ap length new.once, ap is_bad_arp new.beginning ∙ bad), tt))
       (λ fine. cond_both (is_for_switch v (destination_of frame) (packet_in frame)) _ _ G
-      (λ own. silent_good plan place book t (packet_acts v port frame (packet_in frame)) (act.Take ∷ []) (Waits f false) (silent_packet v port frame (packet_in frame))
+      (λ own. silent_good plan place book t (packet_acts v port frame (packet_in frame)) (act.Take ∷ []) (Waits f false)
+      (arp_acts IsSilent (λ asker asker_ip ip. tt) v port frame (packet_in frame))
       (takeable (or_left (is_taken_packet (destination_of frame) (packet_in frame)) _ (for_switch v (destination_of frame) (packet_in frame) own)), tt))
       (λ others. cond_both (is_some (membership_in frame)) _ _ G
       (λ says. silent_good plan place book t (hears_members v port frame).acts (act.Take ∷ []) (Waits f false)

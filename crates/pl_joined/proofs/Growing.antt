@@ -1,27 +1,20 @@
--- What a switch writes in a step sends no host's frame.
-use Rattle.std.proofs.Common.{◌≡◌, ℕ, ◌+◌, Bool, true, false, if◌then◌else◌, List, [], ◌∷◌, ◌++◌, Option, None, Some, reverse, set, refl, sym, ap, ◌∙◌, subst, append-nil}
+-- What switches and the manager do, and what comes before a turn, leaves hosts alone and sends no frame of theirs.
+use Rattle.std.proofs.Common.{◌≡◌, ℕ, List, [], ◌∷◌, ◌++◌, reverse, set, refl, sym, ap, ◌∙◌, subst, append-nil}
 use Rattle.std.specs.List.{AllByRecursion}
 use Rattle.std.proofs.lemmas.List.{append_assoc, reverse-append}
-use Rattle.pl_pmac.specs.declared.pmac.Pmac.{Pmac}
-use Rattle.pl_layouts.specs.declared.place.Place.{Place}
-use Rattle.pl_layouts.specs.Placement.{same_place}
-use Rattle.pl_journal.specs.declared.cause.Cause.{Cause}
-use Rattle.pl_journal.specs.declared.cause.Cause.TheVariants as cause
+use Rattle.pl_wiring.specs.declared.link.Link.{Link}
 use Rattle.pl_journal.specs.declared.entry.Entry.{Entry}
 use Rattle.pl_journal.specs.declared.entry.Entry.TheVariants.{Arrived, Copied, Crossed, Dropped, Granted, Line, LinkDown, LinkUp, Made, Moved, Placed, Redirected, Registered, Sent, Settled, Skipped, Taken, Unsettled}
 use Rattle.pl_journal.specs.Lossy.{has_joined}
-use Rattle.pl_logic.specs.declared.acts.Act.{Act}
-use Rattle.pl_logic.specs.declared.acts.Act.TheVariants as act
-use Rattle.pl_logic.specs.HostViews.{HostView}
+use Rattle.pl_logic.specs.declared.messages.ToManager.{ToManager}
+use Rattle.pl_logic.specs.ManagerDuties.{ManagerRule}
 use Rattle.pl_logic.specs.SwitchInputs.{SwitchInput, SwitchRule}
-use Rattle.pl_world.specs.declared.item.Item.{Item}
-use Rattle.pl_world.specs.declared.item.Item.TheVariants.{Control, Data}
 use Rattle.pl_world.specs.declared.spoken_frame.SpokenFrame.{SpokenFrame}
-use Rattle.pl_world.specs.declared.spoken_frame.SpokenFrame.TheVariants.{Over, Passed, Silent, Waiting}
-use Rattle.pl_world.specs.Changes.{ends_of, host_of, is_failed_at, switch_no}
-use Rattle.pl_world.specs.SwitchActs.{Doing, act_done, acts_done, begins, ended, granted, passed, redirected}
-use Rattle.pl_world.specs.WorldRule.{SwitchTurn}
+use Rattle.pl_world.specs.declared.stand.Stand.{Stand}
+use Rattle.pl_world.specs.LinksAndMoves.{host_moved, link_failed, link_repaired}
+use Rattle.pl_world.specs.WorldRule.{ManagerTurn, SwitchTurn}
 use Rattle.pl_world.specs.Worlds.{WorldView}
+use Rattle.pl_world.proofs.Leaving.{SwitchesWrite, Takes, Writes, empties_of, failed_left, manager_acts_left, moved_left, repaired_left, switch_acts_left}
 
 -- no host's frame
 abbrev pub IsUnsent : Entry → Type 0
@@ -84,110 +77,63 @@ joined_by_all (e ∷ more) journal h n unsent =
 pub joined_kept : (before after : List Entry) (h n : ℕ) → Grows before after → has_joined (reverse after) h n ≡ has_joined (reverse before) h n
 joined_kept before after h n grows = ap (λ j. has_joined (reverse j) h n) grows.is ∙ joined_by_all grows.more before h n grows.unsent
 
--- The acts of a switch.
-
-record Writes (before : List Entry) (hosts : List HostView) (d : Doing) : Type 0 where
-  grows : Grows before d.world.journal
-  late : AreUnsent d.late
-  same : d.world.hosts ≡ hosts
-
-writes_more : (before : List Entry) (hosts : List HostView) (d : Doing) (more : List Entry) (e : Doing) → AreUnsent more → e.world.journal ≡ d.world.journal ++ more → AreUnsent e.late →
-    e.world.hosts ≡ d.world.hosts → Writes before hosts d → Writes before hosts e
-writes_more before hosts d more e unsent is late same w = record {
-  grows = grows_twice before d.world.journal e.world.journal w.grows (record { more = more; unsent = unsent; is = is });
-  late = late;
-  same = same ∙ w.same;
-}
-
-again_unsent : (s id : ℕ) (b : Bool) → AreUnsent (if b then Crossed id (switch_no s) ∷ [] else [])
-again_unsent s id true = (tt, tt)
-again_unsent s id false = tt
-
-late_unsent : (failed : Bool) (late : List Entry) (id : ℕ) → AreUnsent late → AreUnsent (if failed then late ++ Dropped id cause.LinkDown ∷ [] else late)
-late_unsent true late id unsent = unsent_append late (Dropped id cause.LinkDown ∷ []) unsent (tt, tt)
-late_unsent false late id unsent = unsent
-
-module _ (before : List Entry) (hosts : List HostView) (s : ℕ) (w : WorldView) (late : List Entry) where
-  abbrev At : SpokenFrame → Doing
-  At speech = record { world = w; speech = speech; late = late }
-
-  granted_writes : (speech : SpokenFrame) (pmac : Pmac) (o : Option ℕ) → Writes before hosts (At speech) → Writes before hosts (record { world = granted w s pmac o; speech = speech; late = late })
-  granted_writes speech pmac None writes = writes
-  granted_writes speech pmac (Some h) writes = writes_more before hosts (At speech) (Granted pmac (record { 0 = h }) (switch_no s) pmac.port ∷ []) _ (tt, tt) refl writes.late refl writes
-
-  redirected_writes : (speech : SpokenFrame) (old new : Pmac) → Writes before hosts (At speech) → Writes before hosts (redirected (At speech) old new speech)
-  redirected_writes Silent old new writes = writes
-  redirected_writes (Waiting id b) old new writes = writes_more before hosts (At (Waiting id b)) (Redirected id old new ∷ []) _ (tt, tt) refl writes.late refl writes
-  redirected_writes (Passed id) old new writes = writes
-  redirected_writes Over old new writes = writes
-
-  passed_writes : (speech : SpokenFrame) (port : ℕ) (frame : List ℕ) → Writes before hosts (At speech) → Writes before hosts (passed s (At speech) port frame speech)
-  passed_writes Silent port frame writes = writes
-  passed_writes (Waiting id b) port frame writes =
-      writes_more before hosts (At (Waiting id b)) (if b then Crossed id (switch_no s) ∷ [] else []) _ (again_unsent s id b) refl (late_unsent (is_failed_at w s port) late id writes.late) refl writes
-  passed_writes (Passed id) port frame writes =
-      writes_more before hosts (At (Passed id)) (Copied id (w.begun + 1) ∷ []) _ (tt, tt) refl (late_unsent (is_failed_at w s port) late (w.begun + 1) writes.late) refl writes
-  passed_writes Over port frame writes = writes
-
-  ended_writes : (speech : SpokenFrame) (end : ℕ → Entry) → ((id : ℕ) → IsUnsent (end id)) → Writes before hosts (At speech) → Writes before hosts (ended s (At speech) end speech)
-  ended_writes Silent end unsent writes = writes
-  ended_writes (Waiting id b) end unsent writes =
-      writes_more before hosts (At (Waiting id b)) ((if b then Crossed id (switch_no s) ∷ [] else []) ++ end id ∷ []) _
-      (unsent_append (if b then Crossed id (switch_no s) ∷ [] else []) (end id ∷ []) (again_unsent s id b) (unsent id, tt))
-      (append_assoc w.journal (if b then Crossed id (switch_no s) ∷ [] else []) (end id ∷ [])) writes.late refl writes
-  ended_writes (Passed id) end unsent writes = writes
-  ended_writes Over end unsent writes = writes
-
-  act_writes : (speech : SpokenFrame) (a : Act) → Writes before hosts (At speech) → Writes before hosts (act_done s (At speech) a)
-  act_writes speech (act.Control port frame) writes = record { grows = writes.grows; late = writes.late; same = writes.same }
-  act_writes speech (act.Tell told) writes = record { grows = writes.grows; late = writes.late; same = writes.same }
-  act_writes speech (act.Grant pmac amac) writes = granted_writes speech pmac (host_of w.plan amac) writes
-  act_writes speech (act.Make frame) writes =
-      let made : Entry = Made (w.begun + 1) (switch_no s) frame in
-      let crossed : Entry = Crossed (w.begun + 1) (switch_no s) in
-      record {
-        grows = grows_twice before w.journal (((w.journal ++ late) ++ made ∷ []) ++ crossed ∷ []) writes.grows
-            (grows_twice w.journal ((w.journal ++ late) ++ made ∷ []) (((w.journal ++ late) ++ made ∷ []) ++ crossed ∷ [])
-            (grows_twice w.journal (w.journal ++ late) ((w.journal ++ late) ++ made ∷ []) (grows_by w.journal late writes.late) (grows_by (w.journal ++ late) (made ∷ []) (tt, tt)))
-            (grows_by ((w.journal ++ late) ++ made ∷ []) (crossed ∷ []) (tt, tt)));
-        late = tt;
-        same = writes.same;
-      }
-  act_writes speech (act.Redirect old new) writes = redirected_writes speech old new writes
-  act_writes speech (act.Pass port frame) writes = passed_writes speech port frame writes
-  act_writes speech act.Take writes = ended_writes speech (λ id. Taken id (switch_no s)) (λ id. tt) writes
-  act_writes speech (act.Drop why) writes = ended_writes speech (λ id. Dropped id why) (λ id. tt) writes
-
-acts_write : (before : List Entry) (hosts : List HostView) (s : ℕ) (d : Doing) (acts : List Act) → Writes before hosts d → Writes before hosts (acts_done s d acts)
-acts_write before hosts s d [] writes = writes
-acts_write before hosts s d (a ∷ acts) writes =
-    acts_write before hosts s (act_done s d a) acts (act_writes before hosts s d.world d.late d.speech a writes)
-
--- what a turn of a switch leaves: hosts as they were, and no further frame of theirs
+-- ---- what a world is made of
+-- hosts are as they were, and no further frame of theirs was written
 pub record Leaves (w new : WorldView) : Type 0 where
   pub grows : Grows w.journal new.journal
   pub hosts : new.hosts ≡ w.hosts
 
+pub leaves_then : (a b c : WorldView) → Leaves a b → Leaves b c → Leaves a c
+leaves_then a b c first next = record { grows = grows_twice a.journal b.journal c.journal first.grows next.grows; hosts = next.hosts ∙ first.hosts }
+
+beside : (w new : WorldView) → new.journal ≡ w.journal → new.hosts ≡ w.hosts → Leaves w new
+beside w new journal hosts = record { grows = subst (Grows w.journal) (sym journal) (grows_not w.journal); hosts = hosts }
+
+pub leaves_writes : Writes Leaves IsUnsent
+leaves_writes = record {
+  same = λ w. beside w w refl refl;
+  on = leaves_then;
+  entry = λ w e unsent. record { grows = grows_by w.journal (e ∷ []) (unsent, tt); hosts = refl };
+  dropped = λ id cause. tt;
+}
+
+leaves_acts : SwitchesWrite Leaves IsUnsent
+leaves_acts = record {
+  begun = λ w e unsent. record { grows = grows_by w.journal (e ∷ []) (unsent, tt); hosts = refl };
+  crossed = λ id s. tt;
+  copied = λ id copy. tt;
+  made = λ id s frame. tt;
+  granted = λ pmac h s port. tt;
+  redirected = λ id old new. tt;
+  taken = λ id s. tt;
+}
+
+pub leaves_takes : Takes Leaves
+leaves_takes = record {
+  from_hosts = λ w h items. beside w _ refl refl;
+  out = λ w i items. beside w _ refl refl;
+  to_manager = λ w s items. beside w _ refl refl;
+  from_manager = λ w s items. beside w _ refl refl;
+  heard = λ w heard. beside w _ refl refl;
+}
+
+-- ---- turns, moves and links
 pub turn_leaves : (rule : SwitchRule) (w : WorldView) (s : ℕ) (input : SwitchInput) (speech : SpokenFrame) (new : WorldView) → SwitchTurn rule w s input speech new → Leaves w new
 turn_leaves rule w s input speech new turn =
-    let start : Doing = begins (record w { switches = set w.switches s turn.after }) speech in
-    let done = acts_write w.journal w.hosts s start turn.acts (record { grows = grows_not w.journal; late = tt; same = refl }) in
-    let d : Doing = acts_done s start turn.acts in
-    let mark : List Entry = if same_place turn.before.place turn.after.place then [] else Placed (switch_no s) turn.after.place ∷ [] in
-    record {
-      grows = subst (λ (x : WorldView). Grows w.journal x.journal) (sym turn.changed)
-          (grows_twice w.journal (d.world.journal ++ d.late) ((d.world.journal ++ d.late) ++ mark)
-          (grows_twice w.journal d.world.journal (d.world.journal ++ d.late) done.grows (grows_by d.world.journal d.late done.late))
-          (grows_by (d.world.journal ++ d.late) mark (placed (same_place turn.before.place turn.after.place) s turn.after.place)));
-      hosts = ap (λ (x : WorldView). x.hosts) turn.changed ∙ done.same;
-    }
-  where
-    placed : (b : Bool) (s : ℕ) (new : Place) → AreUnsent (if b then [] else Placed (switch_no s) new ∷ [])
-    placed true s new = tt
-    placed false s new = (tt, tt)
+    leaves_then w (record w { switches = set w.switches s turn.after }) new (beside w _ refl refl)
+    (switch_acts_left Leaves IsUnsent leaves_writes leaves_acts (λ u i item. beside u _ refl refl)
+        (λ u t told. beside u _ refl refl) s rule w input speech new (λ place. tt) turn)
 
--- frames that end
-pub ends_unsent : (why : Cause) (items : List Item) → AreUnsent (ends_of why items)
-ends_unsent why [] = tt
-ends_unsent why (Control frame ∷ items) = ends_unsent why items
-ends_unsent why (Data id frame ∷ items) = (tt, ends_unsent why items)
+pub manager_leaves : (rule : ManagerRule) (w : WorldView) (s : ℕ) (told : ToManager) (new : WorldView) → ManagerTurn rule w s told new → Leaves w new
+manager_leaves rule w s told new turn =
+    leaves_then w (record w { manager = turn.after }) new (beside w _ refl refl)
+    (manager_acts_left Leaves IsUnsent leaves_writes (λ pmac n. tt) (λ u t says. beside u _ refl refl) rule w s told new turn)
+
+pub moved_leaves : (w : WorldView) (h : ℕ) (from to : Stand) → Leaves w (host_moved w h from to)
+moved_leaves w h from to = moved_left Leaves IsUnsent leaves_writes (empties_of Leaves leaves_takes) w h from to tt (λ u. beside u _ refl refl)
+
+pub failed_leaves : (w : WorldView) (link : Link) → Leaves w (link_failed w link)
+failed_leaves w link = failed_left Leaves IsUnsent leaves_writes (λ u i. leaves_takes.out u i []) w link tt (λ u links. beside u _ refl refl)
+
+pub repaired_leaves : (w : WorldView) (link : Link) → Leaves w (link_repaired w link)
+repaired_leaves w link = repaired_left Leaves IsUnsent leaves_writes w link tt (λ u links. beside u _ refl refl)

@@ -1,30 +1,22 @@
 -- Each event keeps the ledger.
-use Rattle.std.proofs.Common.{◌≡◌, ◌<◌, ◌+◌, ◌==◌, ◌&&◌, ℕ, true, false, set, Contains, List, [], ◌∷◌, fold, length, Option, Some, None, slice_get, refl, sym, ap, subst, ◌∙◌, inl, inr, get_or-set_same}
+use Rattle.std.proofs.Common.{◌≡◌, ◌<◌, ◌+◌, ◌==◌, ◌&&◌, ℕ, true, set, Contains, List, [], ◌∷◌, length, Some, None, slice_get, refl, sym, ap, subst, ◌∙◌, inl, inr, get_or-set_same}
 use Rattle.std.specs.List.{AllByRecursion}
 use Rattle.std.proofs.lemmas.Bool.{and_from, cases_eq, eq-eqb, false≢true, or_left, or_right}
 use Rattle.std.proofs.lemmas.List.Elements.{Contains-append_left, Contains-push}
 use Rattle.std.proofs.lemmas.Option.{same_Some, slice_get_within}
 use Rattle.pl_frame.specs.Ethernet.{source_of}
-use Rattle.pl_wiring.specs.declared.link.Link.{Link}
-use Rattle.pl_wiring.specs.declared.link.Peer.{Peer}
-use Rattle.pl_wiring.specs.declared.link.Peer.TheVariants.{HostPort, Switch}
+use Rattle.pl_wiring.specs.declared.label.SwitchNo.{SwitchNo}
+use Rattle.pl_wiring.specs.declared.link.Peer.TheVariants.{Switch}
 use Rattle.pl_wiring.specs.Index.{port_index}
 use Rattle.pl_wiring.specs.Peers.{peer_of}
 use Rattle.pl_wiring.specs.Plan.{Plan}
-use Rattle.pl_logic.specs.declared.messages.ToManager.{ToManager}
 use Rattle.pl_logic.specs.declared.messages.ToSwitch.{ToSwitch}
-use Rattle.pl_logic.specs.declared.acts.HostAct.{HostAct}
-use Rattle.pl_logic.specs.declared.acts.HostAct.TheVariants.{Send}
-use Rattle.pl_logic.specs.declared.reception.Reception.{Reception}
-use Rattle.pl_logic.specs.declared.reception.Reception.TheVariants.{Kept, NotMember}
 use Rattle.pl_logic.specs.HostInputs.{HostAnswer, HostInput, HostRule}
 use Rattle.pl_logic.specs.PortRecords.{is_open_to_hosts, port_of}
 use Rattle.pl_logic.specs.SwitchInputs.SwitchInput.{Comes, Says, Tick}
 use Rattle.pl_logic.specs.SwitchViews.{SwitchView}
-use Rattle.pl_journal.specs.declared.cause.Skip.{Skip}
 use Rattle.pl_journal.specs.declared.entry.Entry.{Entry}
-use Rattle.pl_journal.specs.declared.entry.Entry.TheVariants.{Arrived, Crossed, Dropped, LinkDown, LinkUp, Moved, Sent, Skipped}
-use Rattle.pl_journal.specs.declared.cause.Cause.{Cause}
+use Rattle.pl_journal.specs.declared.entry.Entry.TheVariants.{Crossed, Moved, Sent}
 use Rattle.pl_journal.specs.declared.cause.Cause.TheVariants as cause
 use Rattle.pl_journal.specs.Places.{Spot, at_port, has_stood, same_spot}
 use Rattle.pl_manager_rule.specs.ManagerRule.{manager_rule}
@@ -33,20 +25,21 @@ use Rattle.pl_switch_rule.specs.Granting.{sender_ip}
 use Rattle.pl_switch_rule.specs.SwitchRule.{Loose, switch_step}
 use Rattle.pl_switch_rule.proofs.Shapes.{all_or}
 use Rattle.pl_world.specs.declared.event.Event.{Event}
-use Rattle.pl_world.specs.declared.event.Event.TheVariants as event
-use Rattle.pl_world.specs.declared.event.QueueName.{QueueName}
-use Rattle.pl_world.specs.declared.event.QueueName.TheVariants as queue
 use Rattle.pl_world.specs.declared.item.Item.{Item}
 use Rattle.pl_world.specs.declared.item.Item.TheVariants.{Control, Data}
 use Rattle.pl_world.specs.declared.spoken_frame.SpokenFrame.TheVariants.{Silent}
 use Rattle.pl_world.specs.declared.stand.Stand.{Stand}
 use Rattle.pl_world.specs.Booting.{me_of}
-use Rattle.pl_world.specs.Changes.{emptied_from_host, emptied_out, ends_of, host_no, host_of, noted, out_of, receiver, switch_no}
+use Rattle.pl_world.specs.Changes.{emptied_from_host, ends_of, host_no, host_of, noted, out_of, switch_no}
 use Rattle.pl_world.specs.Flying.{IsDataItem, IsItem}
-use Rattle.pl_world.specs.LinksAndMoves.{host_moved, item_lost, link_between, with_link}
-use Rattle.pl_world.specs.OtherActs.{heard_after_tick, host_act_done, reception_noted, skip_noted}
-use Rattle.pl_world.specs.WorldRule.{ComesAtHost, ComesAtSwitch, ComesIn, ComesOut, ComesOver, Delivers, DeliversFromHost, DeliversFromManager, DeliversOut, DeliversToManager, Fails, Goes, Happens, HostPlays, HostTurn, IsRepaired, Loses, SwitchTurn, heard_item}
+use Rattle.pl_world.specs.LinksAndMoves.{host_moved}
+use Rattle.pl_world.specs.OtherActs.{heard_after_tick, skip_noted}
+use Rattle.pl_world.specs.WorldRule.{ComesAtSwitch, Happens, HostTurn, SwitchTurn, heard_item}
 use Rattle.pl_world.specs.Worlds.{WorldView}
+use Rattle.pl_world.proofs.Happenings.{Happened, happened}
+use Rattle.pl_world.proofs.Happenings.Happened.{Asked, Departed, Failed, FromHost, Lost, Ordered, OutOfPort, OverLink, PlayedFrame, Repaired, Reported, Ticked}
+use Rattle.pl_world.proofs.Leaving.{Writes, emptied_out_left, failed_left, host_acts_left, repaired_left}
+use Rattle.pl_world.proofs.Turning.{lost_left, out_left, skip_left}
 use Rattle.pl_control_plane.specs.HostsAtEdges.{HostsAtEdges, IsAtEdge}
 use Rattle.pl_addresses.specs.OwnAddresses.{IsOwn, own_ip}
 use Rattle.pl_addresses.specs.OwnFrames.{AreOwnHosts, IsOwnItem}
@@ -59,7 +52,7 @@ use Rattle.pl_addresses.proofs.Turns.{all_here, exists_at, filled_within}
 use Rattle.pl_addresses.proofs.Words.{get-set_other, get-set_same}
 use Rattle.pl_ledger.specs.Ledgers.{HasStoodThere}
 use Rattle.pl_ledger.proofs.Turning.{AreFormed, IsIn, StoodAt, host_is, manager_ledger, source_is, switch_ledger}
-use Rattle.pl_ledger.proofs.Writing.{Parts, one_quiet, one_written, parts_of, quiet_ends, quiet_parts, quiet_written, written}
+use Rattle.pl_ledger.proofs.Writing.{IsQuietEntry, Parts, one_quiet, one_written, parts_of, quiet_ends, quiet_parts, quiet_written, written}
 
 -- all items at a place
 all_at : {X : Type 0} (P : X → Type 0) (queues : List (List X)) (i : ℕ) → AllByRecursion (AllByRecursion P) queues → AllByRecursion P (items_at queues i)
@@ -69,24 +62,26 @@ all_at P queues i all = all_or (AllByRecursion P) queues i [] all tt
 abbrev with_stands : WorldView → ℕ → Stand → Parts
 with_stands u h to = record (parts_of u) { stands = set u.stands h to; entries = Moved (host_no h) to.edge to.port ∷ written u.journal }
 
-emptied_same : (u : WorldView) (s port : ℕ) (c : Cause) → parts_of (emptied_out u s port c) ≡ parts_of u
-emptied_same u s port c = quiet_parts u (ends_of c (items_at u.out (port_index u.plan.k s port))) (quiet_ends c (items_at u.out (port_index u.plan.k s port)))
+abbrev SameParts : WorldView → WorldView → Type 0
+SameParts a b = parts_of b ≡ parts_of a
 
-emptied_host_same : (u : WorldView) (h : ℕ) (c : Cause) → parts_of (emptied_from_host u h c) ≡ parts_of u
-emptied_host_same u h c = quiet_parts u (ends_of c (items_at u.from_hosts h)) (quiet_ends c (items_at u.from_hosts h))
+same_writes : Writes SameParts IsQuietEntry
+same_writes = record { same = λ w. refl; on = λ a b c one next. next ∙ one; entry = λ w e quiet. one_quiet w e quiet; dropped = λ id c past. refl }
 
 moved_parts : (u : WorldView) (h : ℕ) (from to : Stand) → parts_of (host_moved u h from to) ≡ with_stands u h to
 moved_parts u h from to =
     let noted_move : WorldView = noted (record u { stands = set u.stands h to; heard = set u.heard h None }) (Moved (host_no h) to.edge to.port) in
-    emptied_same (emptied_from_host noted_move h cause.HostGone) from.edge.0 from.port cause.HostGone
-    ∙ emptied_host_same noted_move h cause.HostGone
+    emptied_out_left SameParts IsQuietEntry same_writes (λ v i. refl) (emptied_from_host noted_move h cause.HostGone) from.edge.0 from.port cause.HostGone
+    ∙ quiet_parts noted_move (ends_of cause.HostGone (items_at noted_move.from_hosts h)) (quiet_ends cause.HostGone (items_at noted_move.from_hosts h))
     ∙ ap (λ es. let p : Parts = record (parts_of u) { stands = set u.stands h to; entries = es } in p) (one_written u.journal (Moved (host_no h) to.edge to.port))
 
-host_parts : (h : ℕ) (w : WorldView) (acts : List HostAct) → parts_of (fold (host_act_done h) w acts) ≡ parts_of w
-host_parts h w [] = refl
-host_parts h w (Send frame ∷ acts) =
-    host_parts h (host_act_done h w (Send frame)) acts
-    ∙ ap (λ es. let p : Parts = record (parts_of w) { entries = es } in p) (quiet_written w.journal (Sent (w.begun + 1) (host_no h) frame ∷ []) ((λ past. refl), tt))
+host_parts : (rule : HostRule) (w : WorldView) (h : ℕ) (input : HostInput) (answer : HostAnswer) (new : WorldView) → HostTurn rule w h input answer new →
+    parts_of new ≡ parts_of w
+host_parts rule w h input answer new turn =
+    host_acts_left SameParts IsQuietEntry same_writes h
+    (λ u frame. ap (λ es. let p : Parts = record (parts_of u) { entries = es } in p)
+        (quiet_written u.journal (Sent (u.begun + 1) (host_no h) frame ∷ []) ((λ past. refl), tt)))
+    rule w input answer new turn
 
 -- ---- a host that moves is written down
 stood_more : (plan : Plan) (entries : List Entry) (h : ℕ) (to : Stand) (g : ℕ) (there : Spot) → has_stood plan entries g there ≡ true →
@@ -140,12 +135,12 @@ module _ (w : WorldView) (f : Facts w) (at_edges : HostsAtEdges w) (addressed : 
       (both.0.within, subst (λ (p : Parts). HasStoodThere p.plan p.entries (source_of frame) (at_port s port)) (sym parts) both.1)) turn
 
   -- ---- from a host
-  comes_in : (h : ℕ) (item : Item) (items : List Item) (new : WorldView) → items_at w.from_hosts h ≡ item ∷ items → AreFormed new.switches →
-      (place : Option Stand) → slice_get w.stands h ≡ place → ComesIn Loose (record w { from_hosts = set w.from_hosts h items }) h item place new → IsIn (parts_of new)
-  comes_in h item items new head new_formed None is comes = absurd comes
-  comes_in h (Control frame) items new head new_formed (Some stand) is comes =
+  from_host : (h : ℕ) (item : Item) (items : List Item) (stand : Stand) (new : WorldView) → items_at w.from_hosts h ≡ item ∷ items → AreFormed new.switches →
+      slice_get w.stands h ≡ Some stand →
+      ComesAtSwitch Loose (heard_item (record w { from_hosts = set w.from_hosts h items }) h item) stand.edge.0 stand.port item new → IsIn (parts_of new)
+  from_host h (Control frame) items stand new head new_formed is comes =
       absurd (subst (λ (xs : List Item). AllByRecursion IsDataItem xs) head (all_at IsDataItem w.from_hosts h f.host_items)).0
-  comes_in h (Data id frame) items new head new_formed (Some stand) is comes =
+  from_host h (Data id frame) items stand new head new_formed is comes =
       let within : h < length w.from_hosts = filled_within w.from_hosts h (Data id frame) items head in
       let view = exists_at w.hosts h (subst (λ n. h < n) f.froms within) in
       let host = exists_at w.plan.hosts h (subst (λ n. h < n) (f.froms ∙ f.hosts) within) in
@@ -174,48 +169,25 @@ module _ (w : WorldView) (f : Facts w) (at_edges : HostsAtEdges w) (addressed : 
       bytes_of (Control bytes) = bytes
       bytes_of (Data n bytes) = bytes
 
-  from_host : (h : ℕ) (items : List Item) (new : WorldView) → items_at w.from_hosts h ≡ items → AreFormed new.switches → DeliversFromHost Loose w h items new → IsIn (parts_of new)
-  from_host h [] new is new_formed comes = absurd comes
-  from_host h (item ∷ items) new is new_formed comes = comes_in h item items new is new_formed (slice_get w.stands h) refl comes
-
   -- ---- out of a port
   module _ (rule : HostRule) where
-    a_host : (u : WorldView) (h : ℕ) (input : HostInput) (answer : HostAnswer) (new : WorldView) → IsIn (parts_of u) → HostTurn rule u h input answer new → IsIn (parts_of new)
-    a_host u h input answer new so turn = subst IsIn (sym (ap parts_of turn.changed ∙ host_parts h (record u { hosts = set u.hosts h turn.after }) turn.acts)) so
+    still : (u : WorldView) → parts_of u ≡ parts_of w → IsIn (parts_of u)
+    still u same = subst IsIn (sym same) l
 
-    received_same : (u : WorldView) (h id : ℕ) (frame : List ℕ) (what : Reception) → parts_of (reception_noted u h id frame what) ≡ parts_of u
-    received_same u h id frame Kept = one_quiet u (Arrived id (host_no h) frame) (λ past. refl)
-    received_same u h id frame NotMember = one_quiet u (Dropped id cause.NoMember) (λ past. refl)
-
-    at_host : (u : WorldView) (id : ℕ) (frame : List ℕ) (h : Option ℕ) (new : WorldView) → IsIn (parts_of u) → ComesAtHost rule u id frame h new → IsIn (parts_of new)
-    at_host u id frame None new so is = subst IsIn (sym (ap parts_of is ∙ one_quiet u (Dropped id cause.HostGone) (λ past. refl))) so
-    at_host u id frame (Some h) new so is =
-        a_host (reception_noted u h id frame is.reception) h _ _ new (subst IsIn (sym (received_same u h id frame is.reception)) so) is.turn
-
-    comes_out : (u : WorldView) (s port : ℕ) (item : Item) (new : WorldView) → IsIn (parts_of u) → ComesOut rule u s port item new → IsIn (parts_of new)
-    comes_out u s port (Control frame) new so is = subst IsIn (sym (ap parts_of is)) so
-    comes_out u s port (Data id frame) new so is = at_host u id frame (receiver u s port frame) new so is
-
-    comes_over : (s port : ℕ) (item : Item) (items : List Item) (new : WorldView) → out_of w s port ≡ item ∷ items → AreFormed new.switches →
-        (peer : Peer) → peer_of w.plan s port ≡ peer →
-        ComesOver Loose rule (record w { out = set w.out (port_index w.plan.k s port) items }) s port item peer new → IsIn (parts_of new)
-    comes_over s port item items new head new_formed (Switch t q) peer comes =
+    over_link : (s port q : ℕ) (item : Item) (items : List Item) (t : SwitchNo) (new : WorldView) → out_of w s port ≡ item ∷ items → AreFormed new.switches →
+        peer_of w.plan s port ≡ Switch t q → ComesAtSwitch Loose (record w { out = set w.out (port_index w.plan.k s port) items }) t.0 q item new → IsIn
+            (parts_of new)
+    over_link s port q item items t new head new_formed peer comes =
         let all = (subst (λ (xs : List Item). AllByRecursion IsItem xs) head (all_at IsItem w.out (port_index w.plan.k s port) f.port_items)).0 in
         comes_at (record w { out = set w.out (port_index w.plan.k s port) items }) t.0 q item new refl all new_formed addressed
         (λ id frame same v found host_port.
         absurd (false≢true (sym (know s port t q id frame v peer
         (subst (λ (xs : List Item). Contains xs (Data id frame)) (sym head) (subst (λ (i : Item). Contains (item ∷ items) i) same (Contains-append_left (item ∷ []) items item (Contains-push [] item)))) found) ∙ host_port))) comes
-    comes_over s port item items new head new_formed HostPort peer comes =
-        comes_out (record w { out = set w.out (port_index w.plan.k s port) items }) s port item new l comes
-
-    delivers_out : (s port : ℕ) (items : List Item) (new : WorldView) → out_of w s port ≡ items → AreFormed new.switches → DeliversOut Loose rule w s port items new → IsIn (parts_of new)
-    delivers_out s port [] new is new_formed comes = absurd comes
-    delivers_out s port (item ∷ items) new is new_formed comes = comes_over s port item items new is new_formed (peer_of w.plan s port) refl comes
 
     -- ---- between switches and the manager
-    from_manager : (s : ℕ) (items : List ToSwitch) (new : WorldView) → items_at w.from_manager s ≡ items → AreFormed new.switches → DeliversFromManager Loose w s items new → IsIn (parts_of new)
-    from_manager s [] new is new_formed turn = absurd turn
-    from_manager s (says ∷ items) new is new_formed turn =
+    from_manager : (s : ℕ) (says : ToSwitch) (items : List ToSwitch) (new : WorldView) → items_at w.from_manager s ≡ says ∷ items → AreFormed new.switches →
+        SwitchTurn Loose (record w { from_manager = set w.from_manager s items }) s (Says says) Silent new → IsIn (parts_of new)
+    from_manager s says items new is new_formed turn =
         let u : WorldView = record w { from_manager = set w.from_manager s items } in
         let within = filled_within w.from_manager s says items is in
         let now : items_at (set w.from_manager s items) s ≡ items = get_or-set_same w.from_manager s items [] within in
@@ -226,16 +198,6 @@ module _ (w : WorldView) (f : Facts w) (at_edges : HostsAtEdges w) (addressed : 
         (brings_order (λ mac. own_ip w.plan mac) (registry_of w.manager.learnt) (slice_get w.plan.ids s) choose items v says)))
         (λ v found. tt) turn
 
-    to_manager : (s : ℕ) (items : List ToManager) (new : WorldView) → items_at w.to_manager s ≡ items → DeliversToManager manager_rule w s items new → IsIn (parts_of new)
-    to_manager s [] new is comes = absurd comes
-    to_manager s (told ∷ items) new is turn = manager_ledger w s told items new addressed formed f.ids l is turn
-
-    delivers : (name : QueueName) (new : WorldView) → AreFormed new.switches → Delivers Loose manager_rule rule w name new → IsIn (parts_of new)
-    delivers (queue.FromHost h) new new_formed comes = from_host h.0 (items_at w.from_hosts h.0) new refl new_formed comes
-    delivers (queue.Port s port) new new_formed comes = delivers_out s.0 port (out_of w s.0 port) new refl new_formed comes
-    delivers (queue.ToManager s) new new_formed comes = to_manager s.0 (items_at w.to_manager s.0) new refl comes
-    delivers (queue.FromManager s) new new_formed comes = from_manager s.0 (items_at w.from_manager s.0) new refl new_formed comes
-
     -- ---- all else
     ticks_on : (s : ℕ) (new : WorldView) → AreFormed new.switches → SwitchTurn Loose (record w { heard = heard_after_tick s w.stands w.heard }) s Tick Silent new → IsIn (parts_of new)
     ticks_on s new new_formed turn =
@@ -243,50 +205,29 @@ module _ (w : WorldView) (f : Facts w) (at_edges : HostsAtEdges w) (addressed : 
         (λ v found choose. brings_tick (λ mac. own_ip w.plan mac) (registry_of w.manager.learnt) (slice_get w.plan.ids s) choose (items_at w.from_manager s) v)
         (λ v found. tt) turn
 
-    fails : (link : Option Link) (new : WorldView) → Fails w link new → IsIn (parts_of new)
-    fails None new is = absurd is
-    fails (Some link) new is =
-        let noted_down : WorldView = noted (record w { links = with_link w.links link false }) (LinkDown link.lower link.upper) in
-        let lower : WorldView = emptied_out noted_down link.lower.0 link.lower_port cause.LinkDown in
-        subst IsIn
-        (sym (ap parts_of is ∙ emptied_same lower link.upper.0 link.upper_port cause.LinkDown ∙ emptied_same noted_down link.lower.0 link.lower_port cause.LinkDown
-        ∙ one_quiet (record w { links = with_link w.links link false }) (LinkDown link.lower link.upper) (λ past. refl))) l
+    module _ (e : Event) (new : WorldView) (new_formed : AreFormed new.switches) where
+      by_case : Happened Loose manager_rule rule w e new → IsIn (parts_of new)
+      by_case (FromHost h item items stand is head at comes) = from_host h.0 item items stand new head new_formed at comes
+      by_case (OverLink s port item items t q is head joined comes) = over_link s.0 port q item items t new head new_formed joined comes
+      by_case (OutOfPort s port item items is head joined comes) =
+          still new (out_left SameParts IsQuietEntry same_writes rule (host_parts rule) (λ id h frame past. refl)
+              (record w { out = set w.out (port_index w.plan.k s.0 port) items }) s.0 port item new comes)
+      by_case (Reported s told items is head turn) = manager_ledger w s.0 told items new addressed formed f.ids l head turn
+      by_case (Ordered s says items is head turn) = from_manager s.0 says items new head new_formed turn
+      by_case (Ticked s is turn) = ticks_on s.0 new new_formed turn
+      by_case (Failed a b link is found fails) =
+          still new (ap parts_of fails ∙ failed_left SameParts IsQuietEntry same_writes (λ u i. refl) w link (λ past. refl) (λ u links. refl))
+      by_case (Repaired a b link is found repairs) =
+          still new (ap parts_of repairs ∙ repaired_left SameParts IsQuietEntry same_writes w link (λ past. refl) (λ u links. refl))
+      by_case (Lost s port item items is head loses) =
+          still new (ap parts_of loses ∙ lost_left SameParts IsQuietEntry same_writes (record w { out = set w.out (port_index w.plan.k s.0 port) items }) item)
+      by_case (Departed h s port from is at turn) =
+          let to : Stand = record { edge = s; port = port } in
+          subst IsIn (sym (host_parts rule (host_moved w h.0 from to) h.0 _ _ new turn ∙ moved_parts w h.0 from to))
+              (move_ledger w h.0 to (slice_get_within w.stands h.0 from at) l)
+      by_case (PlayedFrame h input skip is turn) =
+          still new (host_parts rule (skip_noted w h.0 skip) h.0 _ _ new turn ∙ skip_left SameParts IsQuietEntry same_writes (λ g why past. refl) w h.0 skip)
+      by_case (Asked h input is turn) = still new (host_parts rule w h.0 _ _ new turn)
 
-    is_repaired : (link : Option Link) (new : WorldView) → IsRepaired w link new → IsIn (parts_of new)
-    is_repaired None new is = absurd is
-    is_repaired (Some link) new is =
-        subst IsIn (sym (ap parts_of is ∙ one_quiet (record w { links = with_link w.links link true }) (LinkUp link.lower link.upper) (λ past. refl))) l
-
-    lost_same : (u : WorldView) (item : Item) → parts_of (item_lost u item) ≡ parts_of u
-    lost_same u (Control frame) = refl
-    lost_same u (Data id frame) = one_quiet u (Dropped id cause.Lost) (λ past. refl)
-
-    loses : (s port : ℕ) (items : List Item) (new : WorldView) → Loses w s port items new → IsIn (parts_of new)
-    loses s port [] new is = absurd is
-    loses s port (item ∷ items) new is =
-        subst IsIn (sym (ap parts_of is ∙ lost_same (record w { out = set w.out (port_index w.plan.k s port) items }) item)) l
-
-    goes : (h : ℕ) (to : Stand) (from : Option Stand) (new : WorldView) → slice_get w.stands h ≡ from → Goes rule w h to from new → IsIn (parts_of new)
-    goes h to None new is turn = absurd turn
-    goes h to (Some from) new is turn =
-        a_host (host_moved w h from to) h _ _ new (subst IsIn (sym (moved_parts w h from to)) (move_ledger w h to (slice_get_within w.stands h from is) l)) turn
-
-    skipped_same : (u : WorldView) (h : ℕ) (skip : Option Skip) → parts_of (skip_noted u h skip) ≡ parts_of u
-    skipped_same u h None = refl
-    skipped_same u h (Some skip) = one_quiet u (Skipped (host_no h) skip) (λ past. refl)
-
-    plays : (h : ℕ) (input : HostInput) (new : WorldView) → HostPlays rule w h input new → IsIn (parts_of new)
-    plays h input new is = a_host (skip_noted w h is.skip) h input _ new (subst IsIn (sym (skipped_same w h is.skip)) l) is.turn
-
-    pub happens_ledger : (e : Event) (new : WorldView) → AreFormed new.switches → Happens Loose manager_rule rule w e new → IsIn (parts_of new)
-    happens_ledger (event.Deliver name) new new_formed is = delivers name new new_formed is
-    happens_ledger (event.Tick s) new new_formed is = ticks_on s.0 new new_formed is
-    happens_ledger (event.Fail a b) new new_formed is = fails (link_between w.plan a.0 b.0) new is
-    happens_ledger (event.Repair a b) new new_formed is = is_repaired (link_between w.plan a.0 b.0) new is
-    happens_ledger (event.Lose s port) new new_formed is = loses s.0 port (out_of w s.0 port) new is
-    happens_ledger (event.Move h s port) new new_formed is = goes h.0 (record { edge = s; port = port }) (slice_get w.stands h.0) new refl is
-    happens_ledger (event.Start h) new new_formed is = a_host w h.0 _ _ new l is
-    happens_ledger (event.Play h frame original raw) new new_formed is = plays h.0 _ new is
-    happens_ledger (event.Retry h) new new_formed is = a_host w h.0 _ _ new l is
-    happens_ledger (event.Join h group) new new_formed is = a_host w h.0 _ _ new l is
-    happens_ledger (event.Leave h group) new new_formed is = a_host w h.0 _ _ new l is
+      pub happens_ledger : Happens Loose manager_rule rule w e new → IsIn (parts_of new)
+      happens_ledger does = by_case (happened Loose manager_rule rule w e new does)

@@ -34,7 +34,7 @@ use Rattle.pl_pods.proofs.Steps.{edge_label, level_zero}
 use Rattle.pl_placing.proofs.Seeing.{Seen, step_seen, turned_grown}
 use Rattle.pl_placing.proofs.Seeing.Seen.{Gone, Hears, Quiet, Ticks}
 use Rattle.pl_ledger_runs.specs.Askers.{AreAsking, IsWishOf, IsZeroId, ZerosAsk}
-use Rattle.pl_ledger_runs.proofs.Wishing.{IsWishWord, step_wishes, wish_words}
+use Rattle.pl_placing.proofs.Wishes.{IsWishWord, told_wishes}
 
 -- ---- what is known of places stays
 module _ (f g : ControlPlane) (is : IsPlan f.plan) (placed : ArePlaced f.plan f) (differ : PositionsDiffer f.plan f) (numbers : ArePodNumbers f) where
@@ -82,7 +82,7 @@ turned_asking plan askers m g s input later turns asking = record {
             let step = switch_step turns.ruled.choose (m.view s) input in
             let now : AllByRecursion (IsWishOf step.view.place) (tells step.acts) =
             all_weaker (IsWishWord step.view.place) (IsWishOf step.view.place) (same_wish step.view.place) (tells step.acts)
-            (wish_words step.view.place step.acts (step_wishes turns.ruled.choose (m.view s) input)) in
+            (told_wishes turns.ruled.choose (m.view s) input) in
             let after : step.view.place ≡ (g.view s).place = ap (λ (v : SwitchView). v.place) (sym (turns.acted.here ∙ turns.ruled.steps.view)) in
             let told : AllByRecursion (IsWishOf (g.view s).place) (tells turns.acts) =
             subst₂ (λ (p : Place) (acts : List Act). AllByRecursion (IsWishOf p) (tells acts)) after (sym turns.ruled.steps.done) now in

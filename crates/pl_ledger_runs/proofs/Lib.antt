@@ -1,4 +1,2 @@
-pub mod EachAct
-pub mod Wishing
 pub mod Asking
 pub mod Runs

@@ -2,11 +2,9 @@
 use Rattle.std.proofs.Common.{◌≡◌, ℕ, ◌+◌, ◌==◌, Bool, true, false, if◌then◌else◌, List, [], ◌∷◌, ◌++◌, map, Option, Some, None, set, slice_get, refl, sym, ◌∙◌, ap, subst}
 use Rattle.std.specs.List.{cons_option, filter, fold}
 use Rattle.std.proofs.lemmas.Bool.{eqb-true}
+use Rattle.std.proofs.lemmas.Option.{none-some}
 use Rattle.std.proofs.lemmas.List.{append-nil, append_assoc}
-use Rattle.pl_wiring.specs.declared.link.Peer.{Peer}
-use Rattle.pl_wiring.specs.declared.link.Peer.TheVariants.{HostPort, Switch}
 use Rattle.pl_wiring.specs.Index.{port_index}
-use Rattle.pl_wiring.specs.Peers.{peer_of}
 use Rattle.pl_journal.specs.declared.cause.Cause.TheVariants as cause
 use Rattle.pl_journal.specs.declared.cause.Skip.{Skip}
 use Rattle.pl_journal.specs.declared.entry.Entry.{Entry}
@@ -21,23 +19,21 @@ use Rattle.pl_logic.specs.HostInputs.HostInput.{HasMoved, Joins, Leaves, Plays, 
 use Rattle.pl_logic.specs.HostViews.{HostView}
 use Rattle.pl_logic.specs.ManagerDuties.{ManagerRule}
 use Rattle.pl_logic.specs.SwitchInputs.{SwitchRule}
-use Rattle.pl_queues.specs.Queues.{items_at}
 use Rattle.pl_world.specs.declared.event.Event.{Event}
 use Rattle.pl_world.specs.declared.event.Event.TheVariants as event
-use Rattle.pl_world.specs.declared.event.QueueName.{QueueName}
-use Rattle.pl_world.specs.declared.event.QueueName.TheVariants as queue
 use Rattle.pl_world.specs.declared.item.Item.{Item}
 use Rattle.pl_world.specs.declared.item.Item.TheVariants.{Control, Data}
-use Rattle.pl_world.specs.declared.spoken_frame.SpokenFrame.TheVariants.{Silent}
 use Rattle.pl_world.specs.declared.stand.Stand.{Stand}
-use Rattle.pl_world.specs.Changes.{host_no, noted, out_of, receiver}
-use Rattle.pl_world.specs.LinksAndMoves.{host_moved, link_between}
+use Rattle.pl_world.specs.Changes.{host_no, noted, receiver}
+use Rattle.pl_world.specs.LinksAndMoves.{host_moved}
 use Rattle.pl_world.specs.OtherActs.{heard_after_tick, host_act_done, reception_noted, skip_noted}
-use Rattle.pl_world.specs.WorldRule.{ComesAtHost, ComesOut, ComesOver, Delivers, DeliversOut, Goes, Happens, HostReceives, HostTurn, WorldStep, played_as}
+use Rattle.pl_world.specs.WorldRule.{ComesAtHost, ComesOut, Happens, HostReceives, HostTurn, WorldStep, heard_item, played_as}
 use Rattle.pl_world.specs.Worlds.{WorldView}
+use Rattle.pl_world.proofs.Happenings.{Happened, asked_by, happened}
+use Rattle.pl_world.proofs.Happenings.Happened.{Asked, Departed, Failed, FromHost, Lost, Ordered, OutOfPort, OverLink, PlayedFrame, Repaired, Reported, Ticked}
 use Rattle.pl_lines.specs.Asked.{Deed, deed_by, deeds_in, given, is_asked, seen}
 use Rattle.pl_lines.specs.Asked.Deed.{Gets, Gives, PassesOver}
-use Rattle.pl_lines.proofs.HostSteps.{Asks, Shows, at_switch, either, fails, found_once, from_host, from_manager, is_another, is_repaired, loses, more_shown, moved, none_shown, notes, set_other, set_same, shown_if, switch_shows, to_manager}
+use Rattle.pl_lines.proofs.HostSteps.{Asks, Shows, at_switch, either, failed, found_once, heard, is_another, lost, manager_shows, more_shown, moved, none_shown, notes, repaired, set_other, set_same, shown_if, switch_shows}
 
 -- what an event asks of a host
 abbrev pub asked_in : ℕ → Event → List HostInput
@@ -210,54 +206,66 @@ module _ (n : ℕ) where
     comes_out w s port (Control frame) new has is = unseen new (subst (λ (x : WorldView). Has (deeds_in n old.journal) x) (sym is) has)
     comes_out w s port (Data id frame) new has comes = at_host w id frame (receiver w s port frame) new has comes
 
-    comes_over : (switch : SwitchRule) (w : WorldView) (s port : ℕ) (item : Item) (peer : Peer) (new : WorldView) → Has (deeds_in n old.journal) w →
-        ComesOver switch rule w s port item peer new → So [] new
-    comes_over switch w s port item (Switch t q) new has comes =
-        unseen new (at_switch n old.plan (slice_get old.hosts n) (deeds_in n old.journal) switch w t.0 q item new has comes)
-    comes_over switch w s port item HostPort new has comes = comes_out w s port item new has comes
+    module _ (switch : SwitchRule) (manager : ManagerRule) (w : WorldView) (e : Event) (new : WorldView) (has : Has (deeds_in n old.journal) w) where
+      -- where this asks nothing of the host
+      quiet : (x : Event) → e ≡ x → asked_in n x ≡ [] → Has (deeds_in n old.journal) new → So (asked_in n e) new
+      quiet x is none more = subst (λ (asks : List HostInput). So asks new) (sym (ap (asked_in n) is ∙ none)) (unseen new more)
 
-    delivers_out : (switch : SwitchRule) (w : WorldView) (s port : ℕ) (items : List Item) (new : WorldView) → Has (deeds_in n old.journal) w →
-        DeliversOut switch rule w s port items new → So [] new
-    delivers_out switch w s port [] new has comes = absurd comes
-    delivers_out switch w s port (item ∷ items) new has comes =
-        comes_over switch (record w { out = set w.out (port_index w.plan.k s port) items }) s port item (peer_of w.plan s port) new
-        (record { same = has.same; there = has.there; shown = has.shown }) comes
-
-    goes : (w : WorldView) (h : ℕ) (to : Stand) (from : Option Stand) (new : WorldView) → Has (deeds_in n old.journal) w → Goes rule w h to from new →
-        So (if h == n then HasMoved ∷ [] else []) new
-    goes w h to None new has turn = absurd turn
-    goes w h to (Some from) new has turn =
-        told (host_moved w h from to) h HasMoved new (λ acts. refl) refl
-        (moved n old.plan (slice_get old.hosts n) (deeds_in n old.journal) w h from to has) turn
-
-    delivers : (switch : SwitchRule) (manager : ManagerRule) (w : WorldView) (name : QueueName) (new : WorldView) → Has (deeds_in n old.journal) w →
-        Delivers switch manager rule w name new → So [] new
-    delivers switch manager w (queue.FromHost h) new has comes =
-        unseen new (from_host n old.plan (slice_get old.hosts n) (deeds_in n old.journal) switch w h.0 (items_at w.from_hosts h.0) new has comes)
-    delivers switch manager w (queue.Port s port) new has comes = delivers_out switch w s.0 port (out_of w s.0 port) new has comes
-    delivers switch manager w (queue.ToManager s) new has turn =
-        unseen new (to_manager n old.plan (slice_get old.hosts n) (deeds_in n old.journal) manager w s.0 (items_at w.to_manager s.0) new has turn)
-    delivers switch manager w (queue.FromManager s) new has turn =
-        unseen new (from_manager n old.plan (slice_get old.hosts n) (deeds_in n old.journal) switch w s.0 (items_at w.from_manager s.0) new has turn)
+      -- what is no request to a host
+      by_case : asked_by e ≡ None → Happened switch manager rule w e new → So (asked_in n e) new
+      by_case none (FromHost h item items stand is head at comes) =
+          let mid : WorldView = record w { from_hosts = set w.from_hosts h.0 items } in
+          quiet _ is refl
+          (at_switch n old.plan (slice_get old.hosts n) (deeds_in n old.journal) switch (heard_item mid h.0 item) stand.edge.0 stand.port item new comes
+          (heard n old.plan (slice_get old.hosts n) (deeds_in n old.journal) mid h.0 item has))
+      by_case none (OverLink s port item items t q is head joined comes) =
+          quiet _ is refl
+          (at_switch n old.plan (slice_get old.hosts n) (deeds_in n old.journal) switch
+              (record w { out = set w.out (port_index w.plan.k s.0 port) items }) t.0 q item new comes has)
+      by_case none (OutOfPort s port item items is head joined comes) =
+          subst (λ (x : Event). So (asked_in n x) new) (sym is)
+              (comes_out (record w { out = set w.out (port_index w.plan.k s.0 port) items }) s.0 port item new has comes)
+      by_case none (Reported s told items is head turn) =
+          quiet _ is refl
+          (manager_shows n old.plan (slice_get old.hosts n) (deeds_in n old.journal) manager
+              (record w { to_manager = set w.to_manager s.0 items }) s.0 told new turn has)
+      by_case none (Ordered s says items is head turn) =
+          quiet _ is refl
+          (switch_shows n old.plan (slice_get old.hosts n) (deeds_in n old.journal) switch
+              (record w { from_manager = set w.from_manager s.0 items }) s.0 _ _ new turn has)
+      by_case none (Ticked s is turn) =
+          quiet _ is refl
+          (switch_shows n old.plan (slice_get old.hosts n) (deeds_in n old.journal) switch
+              (record w { heard = heard_after_tick s.0 w.stands w.heard }) s.0 _ _ new turn has)
+      by_case none (Failed a b link is found fails) =
+          quiet _ is refl
+          (subst (λ (x : WorldView). Has (deeds_in n old.journal) x) (sym fails)
+              (failed n old.plan (slice_get old.hosts n) (deeds_in n old.journal) w link has))
+      by_case none (Repaired a b link is found repairs) =
+          quiet _ is refl
+          (subst (λ (x : WorldView). Has (deeds_in n old.journal) x) (sym repairs)
+              (repaired n old.plan (slice_get old.hosts n) (deeds_in n old.journal) w link has))
+      by_case none (Lost s port item items is head loses) =
+          let mid : WorldView = record w { out = set w.out (port_index w.plan.k s.0 port) items } in
+          quiet _ is refl
+          (subst (λ (x : WorldView). Has (deeds_in n old.journal) x) (sym loses)
+              (lost n old.plan (slice_get old.hosts n) (deeds_in n old.journal) mid item has))
+      by_case none (Departed h s port from is at turn) =
+          let to : Stand = record { edge = s; port = port } in
+          subst (λ (x : Event). So (asked_in n x) new) (sym is)
+          (told (host_moved w h.0 from to) h.0 HasMoved new (λ acts. refl) refl
+              (moved n old.plan (slice_get old.hosts n) (deeds_in n old.journal) w h.0 from to has) turn)
+      by_case none (PlayedFrame h input skip is turn) = absurd (none-some (h.0, input) (sym none ∙ is))
+      by_case none (Asked h input is turn) = absurd (none-some (h.0, input) (sym none ∙ is))
 
     happens : (switch : SwitchRule) (manager : ManagerRule) (w : WorldView) (e : Event) (new : WorldView) → Has (deeds_in n old.journal) w →
         Happens switch manager rule w e new → So (asked_in n e) new
-    happens switch manager w (event.Deliver name) new has comes = delivers switch manager w name new has comes
-    happens switch manager w (event.Tick s) new has turn =
-        unseen new (switch_shows n old.plan (slice_get old.hosts n) (deeds_in n old.journal) switch
-        (record w { heard = heard_after_tick s.0 w.stands w.heard }) s.0 _ Silent new (record { same = has.same; there = has.there; shown = has.shown }) turn)
-    happens switch manager w (event.Fail a b) new has is =
-        unseen new (fails n old.plan (slice_get old.hosts n) (deeds_in n old.journal) w (link_between w.plan a.0 b.0) new has is)
-    happens switch manager w (event.Repair a b) new has is =
-        unseen new (is_repaired n old.plan (slice_get old.hosts n) (deeds_in n old.journal) w (link_between w.plan a.0 b.0) new has is)
-    happens switch manager w (event.Lose s port) new has gone =
-        unseen new (loses n old.plan (slice_get old.hosts n) (deeds_in n old.journal) w s.0 port (out_of w s.0 port) new has gone)
-    happens switch manager w (event.Move h s port) new has turn = goes w h.0 (record { edge = s; port = port }) (slice_get w.stands h.0) new has turn
     happens switch manager w (event.Start h) new has turn = told w h.0 Starts new (λ acts. refl) refl has turn
     happens switch manager w (event.Play h frame original raw) new has played = plays_by w h.0 frame original raw played.skip new has played.turn
     happens switch manager w (event.Retry h) new has turn = told w h.0 Retries new (λ acts. refl) refl has turn
     happens switch manager w (event.Join h group) new has turn = told w h.0 (Joins group) new (λ acts. refl) refl has turn
     happens switch manager w (event.Leave h group) new has turn = told w h.0 (Leaves group) new (λ acts. refl) refl has turn
+    happens switch manager w e new has does = by_case switch manager w e new has refl (happened switch manager rule w e new does)
 
   -- a step asks of the host what its event does
   pub step_asks : (switch : SwitchRule) (manager : ManagerRule) (rule : HostRule) (old : WorldView) (e : Event) (new : WorldView) →

@@ -354,18 +354,9 @@ module _ (old : WorldView) (counted : IsCounted old) (v : SwitchView) (size : v.
   unfolding IsGoodComing spoken_first
   good (event.Deliver (queue.FromHost h)) = good_in h.0 (items_at old.from_hosts h.0) (slice_get old.stands h.0) refl refl
   good (event.Deliver (queue.Port s port)) = good_over _ (out_of old s.0 port) (peer_of old.plan s.0 port) refl (peer_is_port old.plan s.0 port counted.formed.plan)
-  good (event.Deliver (queue.ToManager s)) = λ c same. absurd (cc)
   good (event.Deliver (queue.FromManager s)) = good_said s.0 (items_at old.from_manager s.0)
   good (event.Tick s) = λ c same. good_one (record { switch = s.0; input = Tick; frame = None }) c (record { can = tt; first = refl }) same
-  good (event.Fail a b) = λ c same. absurd (cc)
-  good (event.Repair a b) = λ c same. absurd (cc)
-  good (event.Lose s port) = λ c same. absurd (cc)
-  good (event.Move h s port) = λ c same. absurd (cc)
-  good (event.Start h) = λ c same. absurd (cc)
-  good (event.Play h frame original raw) = λ c same. absurd (cc)
-  good (event.Retry h) = λ c same. absurd (cc)
-  good (event.Join h group) = λ c same. absurd (cc)
-  good (event.Leave h group) = λ c same. absurd (cc)
+  good happens = λ c same. absurd (cc)
 
 -- ---- each step
 module _ (switch : SwitchRule) (manager : ManagerRule) (host : HostRule) (accounts : AccountsForFrames switch) (loose : IsWithin switch Loose) where

@@ -86,12 +86,7 @@ still_passes : (p : ℕ) (acts : List Act) → AllByRecursion IsStill acts → p
 still_passes p [] all = refl
 still_passes p (act.Control port frame ∷ acts) all = absurd all.0
 still_passes p (act.Pass port frame ∷ acts) all = absurd all.0
-still_passes p (act.Tell told ∷ acts) all = still_passes p acts all.1
-still_passes p (act.Grant pmac amac ∷ acts) all = still_passes p acts all.1
-still_passes p (act.Make frame ∷ acts) all = still_passes p acts all.1
-still_passes p (act.Redirect old new ∷ acts) all = still_passes p acts all.1
-still_passes p (act.Take ∷ acts) all = still_passes p acts all.1
-still_passes p (act.Drop cause ∷ acts) all = still_passes p acts all.1
+still_passes p (a ∷ acts) all = still_passes p acts all.1
 
 pub aged_at : (ports : List PortRecord) (p : ℕ) → get_or (map aged ports) p new_port ≡ aged (get_or ports p new_port)
 aged_at [] p = refl

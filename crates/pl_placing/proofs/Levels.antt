@@ -100,19 +100,7 @@ module _ (old : WorldView) (kept : Kept old) (new : WorldView) where
     entered_level : (happens : Event) → WorldStep Loose manager_rule host old happens new → (s : ℕ) → HostComesAt old happens s → ((control_plane new).view s).place.level ≡ Some 0
     entered_level (event.Deliver (queue.FromHost h)) step s at =
         subst (λ x. ((control_plane new).view x).place.level ≡ Some 0) at.2 (host_level h.0 (items_at old.from_hosts h.0) refl step at.0 at.1)
-    entered_level (event.Deliver (queue.Port t p)) step s at = absurd at
-    entered_level (event.Deliver (queue.ToManager t)) step s at = absurd at
-    entered_level (event.Deliver (queue.FromManager t)) step s at = absurd at
-    entered_level (event.Tick t) step s at = absurd at
-    entered_level (event.Fail a b) step s at = absurd at
-    entered_level (event.Repair a b) step s at = absurd at
-    entered_level (event.Lose t p) step s at = absurd at
-    entered_level (event.Move h t p) step s at = absurd at
-    entered_level (event.Start h) step s at = absurd at
-    entered_level (event.Play h frame original raw) step s at = absurd at
-    entered_level (event.Retry h) step s at = absurd at
-    entered_level (event.Join h group) step s at = absurd at
-    entered_level (event.Leave h group) step s at = absurd at
+    entered_level happens step s at = absurd at
 
     -- a step
     pub step_levels : (happens : Event) → HaveCrossed (reverse old.journal) old.out old.begun → HaveLevels old → ((s : ℕ) → IsTrueOf ((control_plane old).view s).place ((control_plane new).view s).place) →

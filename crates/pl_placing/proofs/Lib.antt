@@ -9,7 +9,6 @@ pub mod Noting
 pub mod Telling
 pub mod Notes
 pub mod Booted
-pub mod Counting
 pub mod Bounding
 pub mod Wishes
 pub mod Asking

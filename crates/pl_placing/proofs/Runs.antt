@@ -29,7 +29,7 @@ use Rattle.pl_placing.specs.Placing.{ArePlacing}
 use Rattle.pl_placing.specs.Trying.{AreTryingBy}
 use Rattle.pl_placing.proofs.Asking.{step_asked}
 use Rattle.pl_placing.proofs.Bounding.{seen_bounded}
-use Rattle.pl_placing.proofs.Counting.{one_more_step}
+use Rattle.pl_world.proofs.Beside.{one_more_step}
 use Rattle.pl_placing.proofs.Booted.{asked_at_first, bounded_at_first, crossed_at_first, first_at_first, noted_at_first, trying_at_first}
 use Rattle.pl_placing.proofs.Firsts.{step_first}
 use Rattle.pl_placing.proofs.Keeping.{seen_trying}

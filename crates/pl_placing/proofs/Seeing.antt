@@ -131,8 +131,7 @@ module _ (manager : ManagerRule) (f g : ControlPlane) (is : IsPlan f.plan) (old 
       data_seen m s port frame taken.left data_frame turns
       (carried_turn f.plan m s is placed (there_of m s taken.left.plan turns.there) turns.shaped (turns.size ∙ ap (λ (p : Plan). p.k) taken.left.plan)
       turns.ruled.choose t q port frame turns.ruled.is_choice joined (rw (taken.left.view s) ((old.links t q s port joined).evidence carries)))
-      (λ pod j here. ports_carried turns.ruled.choose (m.view s) port frame turns.ruled.is_choice
-      (placed.sound s (there_of m s taken.left.plan turns.there)).homes (placed.links t q s port joined).recorded.no_host
+      (λ pod j here. ports_carried turns.ruled.choose (m.view s) port frame (placed.links t q s port joined).recorded.no_host
       (rw (taken.left.view s) ((old.links t q s port joined).evidence carries)))
   step_seen (Entered s port frame edge within free data_frame turns) =
       data_seen f s port frame (left_self f) data_frame turns
@@ -146,7 +145,7 @@ module _ (manager : ManagerRule) (f g : ControlPlane) (is : IsPlan f.plan) (old 
       (turned f m g s (Says says) st taken.left turns refl
       (order_turn f.plan m s is placed (there_of m s taken.left.plan turns.there) turns.ruled.choose says turns.ruled.is_choice small.0))
       (mild_manager turns.ruled.choose (m.view s) says)
-      (λ pod j here. ports_manager turns.ruled.choose (m.view s) says turns.ruled.is_choice (placed.sound s (there_of m s taken.left.plan turns.there)).homes)
+      (λ pod j here. ports_manager turns.ruled.choose (m.view s) says)
   step_seen (Managed s id told m there named taken turns) =
       Gone (λ t. turns.view t ∙ taken.left.view t)
       (λ t port. let queue = taken.left.says t port in record { gone = queue.gone; split = queue.split ∙ ap (λ xs. queue.gone ++ xs) (sym (turns.says t port)) })

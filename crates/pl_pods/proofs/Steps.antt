@@ -16,18 +16,18 @@ use Rattle.pl_layouts.specs.declared.control.Vote.{Vote as Answer}
 use Rattle.pl_layouts.specs.declared.place.Place.{Place}
 use Rattle.pl_layouts.specs.Placement.{is_known}
 use Rattle.pl_layouts.specs.Votes.{counts, gives_way}
-use Rattle.pl_logic.specs.SwitchFacts.{hold_at, is_answered}
 use Rattle.pl_logic.specs.SwitchViews.{SwitchView}
 use Rattle.pl_steps.specs.Steps.{SwitchStep, rests}
 use Rattle.pl_switch_rule.specs.Levels.{after_message, changes_to, hears_message, learns_level, learns_pod, notes_edge, share_a_pod, with_message, with_pod}
 use Rattle.pl_switch_rule.specs.Messages.{hears_pod, takes_pod}
-use Rattle.pl_switch_rule.specs.Positions.{after_vote, answers_proposal, counted, fixes_position, frees_others, half, hears_proposal, holds_for, is_free_for, marks, notes_position, with_granted}
+use Rattle.pl_switch_rule.specs.Positions.{after_vote, counted, fixes_position, frees_others, half, hears_proposal, marks, notes_position, with_granted}
 use Rattle.pl_switch_rule.specs.SwitchRule.{hears_control}
 use Rattle.pl_control_plane.specs.ControlPlanes.{AreJoined, ControlPlane}
 use Rattle.pl_control_plane.proofs.Joined.{joined_labels}
 use Rattle.pl_places.specs.Known.{IsZeroOf, pod_of}
 use Rattle.pl_places.specs.Places.{ArePlaced}
 use Rattle.pl_votes.specs.Voting.{FixedAreApart}
+use Rattle.pl_switch_rule.proofs.RowViews.{proposal_holds}
 use Rattle.pl_votes.proofs.AggregationTurns.{same_stance}
 use Rattle.pl_votes.proofs.Aside.{IsAside, Stance, changes}
 use Rattle.pl_journal.specs.Flights.{label_level}
@@ -99,13 +99,7 @@ module _ (v : SwitchView) (own : (x : ℕ) → v.place.position ≡ Some x → v
       knows_same s.view.place (aside.stands (own 0 stays)) n position pod
 
 proposal_place : (v : SwitchView) (port : ℕ) (id : SwitchId) (p : Proposed) → (hears_proposal v port id p).view.place ≡ v.place
-proposal_place v port id p = by (is_answered v port p.position)
-  where
-    by : (b : Bool) → (if◌then◌else◌ {A = SwitchStep} b (answers_proposal (frees_others v id p.position) port id p) (rests v)).view.place ≡ v.place
-    by false = refl
-    by true =
-        let w = frees_others v id p.position in
-        cond_both (is_free_for id (hold_at w p.position)) (holds_for w id p.position) w (λ (u : SwitchView). u.place ≡ v.place) (λ h. refl) (λ h. refl)
+proposal_place v port id p = ap (λ (w : SwitchView). w.place) (proposal_holds v port id p)
 
 -- A message.
 

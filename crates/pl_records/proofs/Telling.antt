@@ -1,5 +1,5 @@
 -- What a switch tells the manager of its place and of its members, in the parts of a step.
-use Rattle.std.proofs.Common.{◌≡◌, ◌⊎◌, ℕ, ◌==◌, ◌&&◌, not, Bool, true, false, if◌then◌else◌, List, [], ◌∷◌, ◌++◌, map, fold, Option, Some, None, unwrap_or, Ordering, Less, Equal, Greater, nat_cmp, refl, sym, ap, ◌∙◌, subst, inl, inr, eqb-true, eq-eqb, true≢false}
+use Rattle.std.proofs.Common.{◌≡◌, ◌⊎◌, ℕ, ◌==◌, ◌&&◌, not, Bool, true, false, if◌then◌else◌, List, [], ◌∷◌, ◌++◌, fold, Option, Some, None, unwrap_or, Ordering, Less, Equal, Greater, nat_cmp, refl, sym, ap, ◌∙◌, subst, inl, inr, eqb-true, eq-eqb, true≢false}
 use Rattle.std.specs.List.{AllByRecursion, flat_map}
 use Rattle.std.specs.BTreeSet.{insert_key}
 use Rattle.std.specs.Ordering.{match_ordering}
@@ -10,7 +10,7 @@ use Rattle.pl_layouts.specs.declared.place.Place.{Place}
 use Rattle.pl_layouts.specs.Placement.{is_known, same_number, same_place}
 use Rattle.pl_journal.specs.Places.{are_alike}
 use Rattle.pl_logic.specs.declared.acts.Act.{Act}
-use Rattle.pl_logic.specs.declared.acts.Act.TheVariants.{Control, Drop, Grant, Make, Pass, Redirect, Take, Tell}
+use Rattle.pl_logic.specs.declared.acts.Act.TheVariants.{Tell}
 use Rattle.pl_logic.specs.declared.messages.ToManager.{ToManager}
 use Rattle.pl_logic.specs.declared.messages.ToManager.TheVariants.{Link, Members, PodWanted, Place as TellPlace}
 use Rattle.pl_logic.specs.declared.switch_records.Member.{Member}
@@ -22,7 +22,7 @@ use Rattle.pl_manager_rule.specs.Histories.{link_said, members_said, place_said}
 use Rattle.pl_switch_rule.specs.Intake.{group_told, groups_of, groups_told, has_member_of}
 use Rattle.pl_switch_rule.specs.Telling.{changes_told, link_to, link_told, place_told, pod_wanted}
 use Rattle.pl_control_plane.specs.ControlPlanes.{tells, told_by}
-use Rattle.pl_control_plane.proofs.PlaneQueues.{any_append, flat_map_append}
+use Rattle.pl_control_plane.proofs.PlaneQueues.{told_all, any_append, flat_map_append}
 use Rattle.pl_records.specs.Words.{IsNoReport, last_said}
 use Rattle.pl_records.proofs.Last.{last_append, last_silent, silent_link, silent_members, silent_place}
 
@@ -35,28 +35,8 @@ IsUnsaid act = Unit {0}
 abbrev pub AreUnsaid : List Act → Type 0
 AreUnsaid acts = AllByRecursion IsUnsaid acts
 
-pub unsaid_append : (xs ys : List Act) → AreUnsaid xs → AreUnsaid ys → AreUnsaid (xs ++ ys)
-unsaid_append [] ys a b = b
-unsaid_append (x ∷ xs) ys a b = (a.0, unsaid_append xs ys a.1 b)
-
-pub unsaid_map : {X : Type 0} (f : X → Act) (xs : List X) → ((x : X) → IsUnsaid (f x)) → AreUnsaid (map f xs)
-unsaid_map f [] each = tt
-unsaid_map f (x ∷ xs) each = (each x, unsaid_map f xs each)
-
-pub unsaid_if : (b : Bool) (xs ys : List Act) → AreUnsaid xs → AreUnsaid ys → AreUnsaid (if b then xs else ys)
-unsaid_if true xs ys a b = a
-unsaid_if false xs ys a b = b
-
 pub unsaid_words : (acts : List Act) → AreUnsaid acts → AllByRecursion IsNoReport (tells acts)
-unsaid_words [] all = tt
-unsaid_words (Control port frame ∷ acts) all = unsaid_words acts all.1
-unsaid_words (Pass port frame ∷ acts) all = unsaid_words acts all.1
-unsaid_words (Tell told ∷ acts) all = (all.0, unsaid_words acts all.1)
-unsaid_words (Grant pmac amac ∷ acts) all = unsaid_words acts all.1
-unsaid_words (Make frame ∷ acts) all = unsaid_words acts all.1
-unsaid_words (Redirect old new ∷ acts) all = unsaid_words acts all.1
-unsaid_words (Take ∷ acts) all = unsaid_words acts all.1
-unsaid_words (Drop cause ∷ acts) all = unsaid_words acts all.1
+unsaid_words = told_all IsUnsaid
 
 -- What acts say of one thing.
 
@@ -257,10 +237,6 @@ then_telling v s next a behind = let b = behind s.view in let rest = (next s.vie
   avoid = b.avoid ∙ a.avoid;
   parts = b.parts ∙ a.parts;
 }
-
-pub either_telling : (v : SwitchView) (b : Bool) (x y : SwitchStep) → IsTelling v x → IsTelling v y → IsTelling v (if b then x else y)
-either_telling v true x y a b = a
-either_telling v false x y a b = b
 
 pub step_telling : (v w : SwitchView) (acts : List Act) → w.place ≡ v.place → w.members ≡ v.members → w.avoid ≡ v.avoid → w.parts ≡ v.parts → AreUnsaid acts →
     IsTelling v (record { view = w; acts = acts })

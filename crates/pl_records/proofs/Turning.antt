@@ -12,27 +12,26 @@ use Rattle.pl_layouts.specs.declared.place.Place.{Place}
 use Rattle.pl_layouts.specs.Control.{control_in, is_control}
 use Rattle.pl_layouts.specs.Placement.{is_known}
 use Rattle.pl_layouts.specs.Votes.{counts, gives_way}
-use Rattle.pl_logic.specs.declared.acts.Act.TheVariants.{Control as ControlAct}
 use Rattle.pl_logic.specs.declared.messages.TreePart.{TreePart}
-use Rattle.pl_logic.specs.Announcements.{announcement}
-use Rattle.pl_logic.specs.PortRecords.{aged, heard_id, id_at, is_usable, new_port, place_at, port_of, ports_where}
-use Rattle.pl_logic.specs.SwitchFacts.{hold_at}
+use Rattle.pl_logic.specs.PortRecords.{aged, heard_id, id_at, is_usable, new_port, port_of}
 use Rattle.pl_logic.specs.SwitchInputs.{SwitchInput}
 use Rattle.pl_logic.specs.SwitchInputs.SwitchInput.{Comes, Says, Tick}
 use Rattle.pl_logic.specs.SwitchViews.{SwitchView}
 use Rattle.pl_manager_rule.specs.Histories.{link_said, members_said, place_said}
 use Rattle.pl_steps.specs.Steps.{SwitchStep, rests}
-use Rattle.pl_switch_rule.specs.Announcing.{announcements, announces_at, proposal, proposes_at, ticks, with_aged_ports}
+use Rattle.pl_switch_rule.specs.Announcing.{announcements, ticks, with_aged_ports}
 use Rattle.pl_switch_rule.specs.Forwarding.{Choice}
 use Rattle.pl_switch_rule.specs.Intake.{has_member_of}
 use Rattle.pl_switch_rule.specs.Levels.{after_message, changes_to, hears_message, learns_level, learns_pod, notes_edge, with_message}
-use Rattle.pl_switch_rule.specs.Positions.{after_vote, answers_proposal, counted, fixes_position, frees_others, half, hears_proposal, holds_for, is_free_for, marks, notes_position, with_granted}
+use Rattle.pl_switch_rule.specs.Positions.{after_vote, counted, fixes_position, frees_others, half, hears_proposal, marks, notes_position, with_granted}
 use Rattle.pl_switch_rule.specs.SwitchRule.{control_comes, data_comes, hears_control, switch_step}
 use Rattle.pl_switch_rule.specs.Telling.{changes_told}
 use Rattle.pl_control_plane.specs.ControlPlanes.{tells}
 use Rattle.pl_records.specs.Words.{avoid_said, last_said}
 use Rattle.pl_logic.specs.declared.neighbour.PortRecord.{PortRecord}
-use Rattle.pl_records.proofs.Telling.{AreUnsaid, IsStill, either_still, rests_still, said_more, step_still, told_no_members, told_place, unsaid_append, unsaid_map, unsaid_words}
+use Rattle.pl_switch_rule.proofs.RowActs.{announced_acts, proposal_acts}
+use Rattle.pl_switch_rule.proofs.RowViews.{proposal_holds}
+use Rattle.pl_records.proofs.Telling.{AreUnsaid, IsStill, IsUnsaid, rests_still, said_more, step_still, told_no_members, told_place, unsaid_words}
 use Rattle.pl_records.proofs.Linking.{IsOnlyAt, IsTold, either_told, still_told, told_link, told_no_other, unheard}
 use Rattle.pl_records.proofs.Last.{last_silent, silent_link, silent_members, silent_place}
 use Rattle.pl_records.proofs.Passing.{changes_right}
@@ -88,21 +87,13 @@ vote_told : (v : SwitchView) (port : ℕ) (vote : Answer) → IsTold v (changes_
 vote_told v port vote = let kept = voted v port vote in changes_right v (after_vote v port vote) kept.0.0 kept.0.1 kept.0.2 (λ p none.
     unheard v p (ap (λ ps. heard_id (get_or ps p new_port).heard) (sym kept.1.0) ∙ none))
 
-answered_still : (v : SwitchView) (port : ℕ) (id : SwitchId) (p : Proposed) (freed : SwitchView) → freed.place ≡ v.place → Kept v freed →
-    IsStill v (answers_proposal freed port id p)
-answered_still v port id p freed place kept =
-    let h = held (is_free_for id (hold_at freed p.position)) in step_still v _ _ h.0 h.1.0.0 h.1.0.1 h.1.0.2 h.1.1.1 h.1.1.2 h.1.1.0 (tt, tt)
-  where
-    held : (b : Bool) → ((if◌then◌else◌ {A = SwitchView} b (holds_for freed id p.position) freed).place ≡ v.place)
-        × Kept v (if◌then◌else◌ {A = SwitchView} b (holds_for freed id p.position) freed)
-    held true = (place, kept)
-    held false = (place, kept)
-
 proposal_still : (v : SwitchView) (port : ℕ) (id : SwitchId) (p : Proposed) → IsStill v (hears_proposal v port id p)
 proposal_still v port id p =
-    either_still v (is_known v.place.level 1 && is_known (place_at v port).level 0 && nat_lt p.position (half v.k))
-    (answers_proposal (frees_others v id p.position) port id p) (rests v)
-    (answered_still v port id p (frees_others v id p.position) refl ((refl, refl, refl), (refl, refl, refl))) (rests_still v)
+    let holds = proposal_holds v port id p in
+    step_still v (hears_proposal v port id p).view (hears_proposal v port id p).acts (ap (λ (w : SwitchView). w.place) holds)
+    (ap (λ (w : SwitchView). w.members) holds)
+    (ap (λ (w : SwitchView). w.avoid) holds) (ap (λ (w : SwitchView). w.parts) holds) (ap (λ (w : SwitchView). w.id) holds) (ap (λ (w : SwitchView). w.k) holds)
+    (ap (λ (w : SwitchView). w.ports) holds) (proposal_acts IsUnsaid (λ at told. tt) v port id p)
 
 control_told : (v : SwitchView) (port : ℕ) (read : Result Control ControlError) → IsTold v (hears_control v port read)
 control_told v port (Err e) = still_told v _ (rests_still v)
@@ -118,10 +109,7 @@ comes_told choose v port frame =
     (data_right choose v port frame)
 
 unsaid_announcements : (v : SwitchView) → AreUnsaid (announcements v)
-unsaid_announcements v =
-    unsaid_append (map (λ port. ControlAct port (announcement v port)) (ports_where v (announces_at v))) _
-    (unsaid_map (λ port. ControlAct port (announcement v port)) (ports_where v (announces_at v)) (λ port. tt))
-    (unsaid_map (λ port. ControlAct port (proposal v)) (ports_where v (proposes_at v)) (λ port. tt))
+unsaid_announcements = announced_acts IsUnsaid (λ port frame. tt)
 
 aged_at : (ports : List PortRecord) (p : ℕ) → heard_id (get_or (map aged ports) p new_port).heard ≡ heard_id (get_or ports p new_port).heard
 aged_at [] p = refl

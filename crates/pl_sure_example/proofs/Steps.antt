@@ -194,12 +194,7 @@ happened_is w (event.Tick s) new is = switch_turn_is _ s.0 Tick Silent new is
 happened_is w (event.Fail a b) new is = failed_is w (link_between w.plan a.0 b.0) new is
 happened_is w (event.Start h) new is = starts_is w h.0 new is
 happened_is w (event.Play h frame original raw) new is = plays_is w h.0 _ new is
-happened_is w (event.Repair a b) new is = absurd (none-some new is)
-happened_is w (event.Lose s port) new is = absurd (none-some new is)
-happened_is w (event.Move h s port) new is = absurd (none-some new is)
-happened_is w (event.Retry h) new is = absurd (none-some new is)
-happened_is w (event.Join h group) new is = absurd (none-some new is)
-happened_is w (event.Leave h group) new is = absurd (none-some new is)
+happened_is w e new is = absurd (none-some new is)
 
 pub made_is : (w : WorldView) (e : Event) (new : WorldView) → made w e ≡ Some new → Befalls Exact manager_rule host_rule w (Step e) new
 made_is w e new is = by (refusal w e) refl is

@@ -29,10 +29,15 @@ use Rattle.pl_switch_rule.specs.Granting.{grant_number, granted, grants_at, is_g
 use Rattle.pl_steps.specs.Steps.{SwitchStep, does}
 use Rattle.pl_switch_rule.specs.SwitchRule.{IsChoice}
 use Rattle.pl_switch_rule.proofs.Redirects.{new_destination, redirects_go_on}
-use Rattle.pl_switch_rule.proofs.FirstCauses.{AllMakeNone, MakesNone, drops_before, drops_made, either_first, either_make_none, go_on_make_none}
+use Rattle.pl_switch_rule.proofs.FirstCauses.{MakesNone, drops_before, drops_made, either_first}
 use Rattle.pl_switch_rule.proofs.FirstDrops.{first_behind}
 use Rattle.pl_switch_rule.proofs.GrantingParts.{source_has_six}
-use Rattle.pl_switch_rule.proofs.StepParts.{all_append}
+use Rattle.pl_switch_rule.proofs.RowActs.{FrameActs, IsAnyPort, any_way, begins_acts, home_acts}
+use Rattle.pl_switch_rule.proofs.RowViews.{home_stays}
+
+-- no row but that of a frame that the switch makes begins one
+pub makes_none : FrameActs IsAnyPort MakesNone
+makes_none = record { passed = λ port frame way. tt; redirected = λ old new. tt; dropped = λ cause. tt; taken = tt; asked = λ asker asker_ip ip. tt }
 
 -- Delivery, and leaving.
 
@@ -41,34 +46,15 @@ delivers_cause : (v : SwitchView) (address : Pmac) (sent : List ℕ) (o : Option
 delivers_cause v address sent None = refl
 delivers_cause v address sent (Some grant) = refl
 
-delivers_make_none : (v : SwitchView) (address : Pmac) (sent : List ℕ) (o : Option Grant) → AllMakeNone (delivers_to v address sent o).acts
-delivers_make_none v address sent None = (tt, tt)
-delivers_make_none v address sent (Some grant) = (tt, tt)
-
-delivers_stays : (v : SwitchView) (address : Pmac) (sent : List ℕ) (o : Option Grant) → (delivers_to v address sent o).view ≡ v
-delivers_stays v address sent None = refl
-delivers_stays v address sent (Some grant) = refl
-
 leaves_cause : (choose : Choice) (v : SwitchView) (sent ports : List ℕ) → IsChoice choose →
     first_drop (leaves_by v sent (choose ports sent)).acts ≡ if_nowhere ports NoNextHop
 leaves_cause choose v sent [] is_choice = ap (λ o. first_drop (leaves_by v sent o).acts) (is_choice.empty sent)
 leaves_cause choose v sent (port ∷ ports) is_choice =
     let some = is_choice.chosen port ports sent in ap (λ o. first_drop (leaves_by v sent o).acts) some.1
 
-leaves_make_none : (v : SwitchView) (sent : List ℕ) (o : Option ℕ) → AllMakeNone (leaves_by v sent o).acts
-leaves_make_none v sent None = (tt, tt)
-leaves_make_none v sent (Some port) = (tt, tt)
-
-leaves_stays : (v : SwitchView) (sent : List ℕ) (o : Option ℕ) → (leaves_by v sent o).view ≡ v
-leaves_stays v sent None = refl
-leaves_stays v sent (Some port) = refl
-
 pub forwards_cause : (choose : Choice) (v : SwitchView) (came : Option Came) (sent : List ℕ) → IsChoice choose →
     first_drop (forwards choose v came sent).acts ≡ if_nowhere (candidates_by v (destination sent) came) NoNextHop
 forwards_cause choose v came sent is_choice = leaves_cause choose v sent (candidates_by v (destination sent) came) is_choice
-
-pub forwards_make_none : (choose : Choice) (v : SwitchView) (came : Option Came) (sent : List ℕ) → AllMakeNone (forwards choose v came sent).acts
-forwards_make_none choose v came sent = leaves_make_none v sent (choose (candidates_by v (destination sent) came) sent)
 
 -- Behind the traps.
 
@@ -79,17 +65,6 @@ goes_on_cause choose v sent is_choice =
     (if is_granted v (destination sent) then None else Some NoAddress)
     (if_nowhere (candidates_by v (destination sent) (Some FromHost)) NoNextHop)
     (delivers_cause v (destination sent) sent (granted v (destination sent))) (forwards_cause choose v (Some FromHost) sent is_choice)
-
-goes_on_makes_none : (choose : Choice) (v : SwitchView) (sent : List ℕ) → AllMakeNone (goes_on choose v sent).acts
-goes_on_makes_none choose v sent =
-    either_make_none (is_local v (destination sent)) (delivers v sent) (forwards choose v (Some FromHost) sent)
-    (delivers_make_none v (destination sent) sent (granted v (destination sent))) (forwards_make_none choose v (Some FromHost) sent)
-
-goes_on_stays : (choose : Choice) (v : SwitchView) (sent : List ℕ) → (goes_on choose v sent).view ≡ v
-goes_on_stays choose v sent =
-    cond_both (is_local v (destination sent)) (delivers v sent) (forwards choose v (Some FromHost) sent) (λ s. s.view ≡ v)
-    (λ here. delivers_stays v (destination sent) sent (granted v (destination sent)))
-    (λ other. leaves_stays v sent (choose (candidates_by v (destination sent) (Some FromHost)) sent))
 
 home_cause : (choose : Choice) (v : SwitchView) (sent : List ℕ) (o : Option Trap) → IsChoice choose → is_local v (destination sent) ≡ true →
     first_drop (delivers_or_redirects choose v sent o).acts ≡ cause_at v (address_after v (destination sent) o)
@@ -104,20 +79,6 @@ home_cause choose v sent (Some trap) is_choice here =
     let before : List Act = Redirect (destination sent) trap.new ∷ redirects (addresses v) v trap in
     first_behind before (goes_on choose v turned).acts (tt, redirects_go_on (addresses v) v trap)
     ∙ goes_on_cause choose v turned is_choice ∙ ap (cause_at v) (new_destination sent last)
-
-home_makes_none : (choose : Choice) (v : SwitchView) (sent : List ℕ) (o : Option Trap) → AllMakeNone (delivers_or_redirects choose v sent o).acts
-home_makes_none choose v sent None = delivers_make_none v (destination sent) sent (granted v (destination sent))
-home_makes_none choose v sent (Some trap) =
-    let last : Pmac = (last_trap (addresses v) v trap).new in
-    let turned : List ℕ = with_destination sent (mac_of last) in
-    let followed : List Act = redirects (addresses v) v trap in
-    let before : List Act = Redirect (destination sent) trap.new ∷ followed in
-    all_append MakesNone before (goes_on choose v turned).acts
-    (tt, go_on_make_none followed (redirects_go_on (addresses v) v trap)) (goes_on_makes_none choose v turned)
-
-home_stays : (choose : Choice) (v : SwitchView) (sent : List ℕ) (o : Option Trap) → (delivers_or_redirects choose v sent o).view ≡ v
-home_stays choose v sent None = delivers_stays v (destination sent) sent (granted v (destination sent))
-home_stays choose v sent (Some trap) = goes_on_stays choose v (with_destination sent (mac_of (last_trap (addresses v) v trap).new))
 
 -- A frame that begins here.
 
@@ -142,11 +103,6 @@ begins_cause choose v sent is_choice =
     (λ here. home_cause choose v sent (trap_for v (destination sent)) is_choice here)
     (λ other. forwards_cause choose v (Some FromHost) sent is_choice ∙ cause_elsewhere v (destination sent) other)
 
-begins_makes_none : (choose : Choice) (v : SwitchView) (sent : List ℕ) → AllMakeNone (begins choose v sent).acts
-begins_makes_none choose v sent =
-    either_make_none (is_local v (destination sent)) (comes_home choose v sent) (forwards choose v (Some FromHost) sent)
-    (home_makes_none choose v sent (trap_for v (destination sent))) (forwards_make_none choose v (Some FromHost) sent)
-
 -- an ARP packet goes to its destination
 pub destination_of-arp_frame : (to : Mac) (a : Arp) → length to.0 ≡ 6 → destination_of (arp_frame to a) ≡ to
 unfolding arp_frame
@@ -160,7 +116,8 @@ pub makes_drops_for : (choose : Choice) (v : SwitchView) (to : Mac) (a : Arp) �
 makes_drops_for choose v to a is_choice six =
     let frame : List ℕ = arp_frame to a in
     subst (λ m. DropsFor (makes choose frame v).acts None (cause_from_here v (pmac_of m))) (destination_of-arp_frame to a six)
-    (drops_made frame (begins choose v frame).acts (cause_from_here v (destination frame)) (begins_makes_none choose v frame)
+    (drops_made frame (begins choose v frame).acts (cause_from_here v (destination frame))
+    (begins_acts MakesNone IsAnyPort makes_none choose v (any_way choose v) frame)
     (begins_cause choose v frame is_choice))
 
 -- The reply to the sender.
@@ -190,6 +147,6 @@ home_drops_for choose v sent is_choice long here =
     let home : SwitchStep = comes_home choose v sent in
     let reply : Option Cause = if is_told v (is_arp sent) trap then cause_from_here v (pmac_of (source_of sent)) else None in
     drops_before home.acts (tells_sender choose sent trap home.view).acts (cause_from_here v (destination sent)) reply
-    (home_makes_none choose v sent trap) (home_cause choose v sent trap is_choice here)
+    (home_acts MakesNone IsAnyPort makes_none choose v (any_way choose v) sent trap) (home_cause choose v sent trap is_choice here)
     (subst (λ w. DropsFor (tells_sender choose sent trap w).acts None reply) (sym (home_stays choose v sent trap))
     (sender_drops_for choose sent trap v is_choice long))

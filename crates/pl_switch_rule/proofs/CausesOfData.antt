@@ -1,5 +1,5 @@
 -- The first cause of a data frame that comes at a switch, and of the reply to its sender.
-use Rattle.std.proofs.Common.{◌≡◌, ℕ, ◌&&◌, ◌||◌, not, Bool, true, false, if◌then◌else◌, List, [], ◌∷◌, map, Option, Some, None, is_some, is_none, refl, sym, ap, ap₂, subst, subst₂, ◌∙◌}
+use Rattle.std.proofs.Common.{◌≡◌, ℕ, ◌&&◌, ◌||◌, not, Bool, true, false, if◌then◌else◌, List, [], ◌∷◌, Option, Some, None, is_some, is_none, refl, sym, ap, ap₂, subst, subst₂, ◌∙◌}
 use Rattle.pl_frame.specs.declared.address.Mac.{Mac}
 use Rattle.pl_frame.specs.Ethernet.{destination_of, source_of}
 use Rattle.pl_pmac.specs.declared.pmac.Pmac.{Pmac}
@@ -7,7 +7,7 @@ use Rattle.pl_pmac.specs.Pmac.{pmac_of}
 use Rattle.pl_logic.specs.Accounting.{IsComing, IsShaped, IsWhole}
 use Rattle.pl_logic.specs.PortRecords.{place_at}
 use Rattle.pl_logic.specs.SwitchViews.{SwitchView}
-use Rattle.pl_logic.specs.declared.acts.Act.TheVariants.{Drop, Pass}
+use Rattle.pl_logic.specs.declared.acts.Act.TheVariants.{Drop}
 use Rattle.pl_logic.specs.declared.trap.Trap.{Trap}
 use Rattle.pl_journal.specs.declared.cause.Cause.{Cause}
 use Rattle.pl_journal.specs.declared.cause.Cause.TheVariants.{BadArp, NoMember, NoNextHop, NotPlaced, Spent}
@@ -27,12 +27,13 @@ use Rattle.pl_switch_rule.specs.Intake.{hears_members, is_for_switch, packet_act
 use Rattle.pl_switch_rule.specs.Levels.{finds_host}
 use Rattle.pl_steps.specs.Steps.{SwitchStep, does, ◌▹◌}
 use Rattle.pl_switch_rule.specs.SwitchRule.{IsChoice, comes_from_switch, data_comes}
-use Rattle.pl_switch_rule.proofs.CausesHere.{forwards_cause, forwards_make_none, home_drops_for, no_trap_elsewhere}
+use Rattle.pl_switch_rule.proofs.CausesHere.{forwards_cause, home_drops_for, makes_none, no_trap_elsewhere}
 use Rattle.pl_switch_rule.proofs.SentFrames.{IsSentOn, goes_where, host_sent_on, number_to, passes_drop_none, switch_sent_on}
-use Rattle.pl_switch_rule.proofs.FirstCauses.{AllMakeNone, drops_behind, drops_nothing, drops_without}
+use Rattle.pl_switch_rule.proofs.FirstCauses.{AllMakeNone, MakesNone, drops_behind, drops_nothing, drops_without}
 use Rattle.pl_switch_rule.proofs.FirstDrops.{AllGoOn, GoesOn, quiet_go_on}
 use Rattle.pl_switch_rule.proofs.LearntSources.{Finds, finds_host_finds, finds_then, finds_then_served, hears_learns_source, hears_members_on}
 use Rattle.pl_switch_rule.proofs.MessageParts.{are_quiet_packet_acts}
+use Rattle.pl_switch_rule.proofs.RowActs.{IsAnyPort, all_any, any_way, forwards_acts, passes_acts}
 use Rattle.pl_switch_rule.proofs.StepParts.{all_append}
 
 -- A frame to a group.
@@ -41,13 +42,8 @@ pub passes_cause : (ports sent : List ℕ) (cause : Cause) → first_drop (passe
 passes_cause [] sent cause = refl
 passes_cause (port ∷ ports) sent cause = passes_drop_none ports sent
 
-copies_make_none : (ports sent : List ℕ) → AllMakeNone (map (λ p. Pass p sent) ports)
-copies_make_none [] sent = tt
-copies_make_none (port ∷ ports) sent = (tt, copies_make_none ports sent)
-
 pub passes_make_none : (ports sent : List ℕ) (cause : Cause) → AllMakeNone (passes_or_drops ports sent cause)
-passes_make_none [] sent cause = (tt, tt)
-passes_make_none (port ∷ ports) sent cause = copies_make_none (port ∷ ports) sent
+passes_make_none ports sent cause = passes_acts MakesNone IsAnyPort makes_none ports sent cause (all_any IsAnyPort ports (λ port. tt))
 
 group_cause : (v : SwitchView) (port : ℕ) (frame : List ℕ) (came : Option Came) (sent : List ℕ) → IsSentOn v port frame came sent →
     first_drop (forwards_group v came sent).acts
@@ -108,7 +104,7 @@ sends_drops_for choose v port frame came sent is_choice on =
         on.same_kind on.known_so (home_drops_for choose v sent is_choice on.long is)
     by false false is =
         subst (λ o. DropsFor other.acts away (if is_told v (is_arp frame) o then reply else None)) (sym (no_trap_elsewhere v (pmac_of to) is))
-        (drops_without other.acts away (forwards_make_none choose v came sent)
+        (drops_without other.acts away (forwards_acts MakesNone IsAnyPort makes_none choose v (any_way choose v) came sent)
         (forwards_cause choose v came sent is_choice ∙ ap (λ c. if_nowhere (candidates_by v (pmac_of to) c) NoNextHop) (sym on.came_so)))
 
 -- Before that.

@@ -1,92 +1,62 @@
 -- In each step frames are dropped for the first cause that holds.
-use Rattle.std.proofs.Common.{◌≡◌, ◌&&◌, not, nat_lt, ℕ, Bool, true, false, if◌then◌else◌, List, [], ◌∷◌, ◌++◌, map, Option, Some, None, Result, Ok, Err, refl, sym, ap, subst, ◌∙◌}
+use Rattle.std.proofs.Common.{◌≡◌, not, ℕ, Bool, true, false, if◌then◌else◌, List, [], Option, Some, None, refl, sym, ap, subst, ◌∙◌}
 use Rattle.std.specs.List.{filter}
 use Rattle.std.proofs.lemmas.Bool.{cond_both}
 use Rattle.pl_frame.specs.declared.address.Ip4.{Ip4}
 use Rattle.pl_frame.specs.declared.address.Mac.{Mac}
-use Rattle.pl_frame.specs.declared.address.SwitchId.{SwitchId}
-use Rattle.pl_frame.specs.Ethernet.{destination_of, payload_of}
+use Rattle.pl_frame.specs.Ethernet.{destination_of}
 use Rattle.pl_arp.specs.declared.packet.Arp.{Arp}
 use Rattle.pl_pmac.specs.declared.pmac.Pmac.{Pmac}
 use Rattle.pl_pmac.specs.Pmac.{mac_of, pmac_of}
 use Rattle.pl_logic.specs.Accounting.{CanCome, IsShaped}
-use Rattle.pl_logic.specs.Announcements.{announcement}
-use Rattle.pl_logic.specs.PortRecords.{place_at, port_of, ports_where}
 use Rattle.pl_logic.specs.SwitchInputs.{SwitchInput}
 use Rattle.pl_logic.specs.SwitchInputs.SwitchInput.{Comes, Says, Tick}
 use Rattle.pl_logic.specs.declared.switch_records.Grant.{Grant}
 use Rattle.pl_logic.specs.SwitchViews.{SwitchView}
-use Rattle.pl_logic.specs.declared.acts.Act.{Act}
-use Rattle.pl_logic.specs.declared.acts.Act.TheVariants.{Control as ControlAct}
 use Rattle.pl_logic.specs.declared.messages.ToSwitch.{ToSwitch}
 use Rattle.pl_logic.specs.declared.messages.ToSwitch.TheVariants.{Answer, Avoid, Flood, Invalidate, Pod, Tree}
 use Rattle.pl_logic.specs.declared.trap.Trap.{Trap}
 use Rattle.pl_journal.specs.declared.cause.Cause.{Cause}
 use Rattle.pl_journal.specs.declared.cause.Cause.TheVariants.{NoNextHop}
 use Rattle.pl_layouts.specs.ArpFrames.{broadcast, no_mac}
-use Rattle.pl_layouts.specs.Control.{control_in, is_control}
+use Rattle.pl_layouts.specs.declared.place.Place.{Place}
+use Rattle.pl_layouts.specs.Control.{is_control}
 use Rattle.pl_layouts.specs.Memberships.{flood}
-use Rattle.pl_layouts.specs.Placement.{is_known}
-use Rattle.pl_layouts.specs.declared.control.Control.{Control}
-use Rattle.pl_layouts.specs.declared.control.Control.TheVariants as control
-use Rattle.pl_layouts.specs.declared.control.ControlError.{ControlError}
-use Rattle.pl_layouts.specs.declared.control.Proposal.{Proposal}
 use Rattle.pl_switch_rule.specs.declared.came.Came.TheVariants.{FromHost}
-use Rattle.pl_switch_rule.specs.Announcing.{announces_at, proposal, proposes_at, ticks, with_aged_ports}
+use Rattle.pl_switch_rule.specs.Announcing.{ticks}
 use Rattle.pl_switch_rule.specs.CauseOf.{DropsFor, DropsForFirstCause, by_intake, cause_from_here, cause_of, cause_of_made, cause_of_message, cause_to, if_nowhere, if_sent_on, intake, reply_to}
 use Rattle.pl_switch_rule.specs.Delivering.{makes}
 use Rattle.pl_switch_rule.specs.DropCauses.{seen}
 use Rattle.pl_switch_rule.specs.Forwarding.{Choice}
 use Rattle.pl_switch_rule.specs.Granting.{granted, is_granted}
 use Rattle.pl_switch_rule.specs.GroupForwarding.{destination_group, forwards_group, group_ports_up, no_way}
-use Rattle.pl_switch_rule.specs.Intake.{group_told, groups_of, is_member}
-use Rattle.pl_switch_rule.specs.Levels.{after_message, changes_to, with_pod}
+use Rattle.pl_switch_rule.specs.Intake.{is_member}
+use Rattle.pl_switch_rule.specs.Levels.{changes_to, with_pod}
 use Rattle.pl_switch_rule.specs.Messages.{answer_frame, flood_frame, floods, forgets_members, hears_manager, hears_pod, invalidates, probes, probes_at, sets_trap, takes_pod}
-use Rattle.pl_switch_rule.specs.Positions.{after_vote, answers_proposal, frees_others, half, hears_proposal}
 use Rattle.pl_steps.specs.Steps.{SwitchStep, rests}
-use Rattle.pl_switch_rule.specs.SwitchRule.{Exact, IsChoice, Loose, control_comes, data_comes, hears_control, switch_step}
-use Rattle.pl_switch_rule.specs.Telling.{changes_told}
+use Rattle.pl_switch_rule.specs.SwitchRule.{Exact, IsChoice, Loose, control_comes, data_comes, switch_step}
 use Rattle.pl_switch_rule.proofs.AccountedSteps.{exact_is_loose}
 use Rattle.pl_switch_rule.proofs.CausesHere.{destination_of-arp_frame, makes_drops_for}
 use Rattle.pl_switch_rule.proofs.CausesOfData.{data_drops_for, passes_cause, passes_make_none}
 use Rattle.pl_switch_rule.proofs.DataFrames.{six_of_pmac}
 use Rattle.pl_switch_rule.proofs.SentFrames.{number_to}
 use Rattle.pl_switch_rule.proofs.FirstCauses.{drops_behind, drops_made, drops_nothing}
-use Rattle.pl_switch_rule.proofs.FirstDrops.{AllGoOn, GoesOn, go_on_flat_map, quiet_go_on}
-use Rattle.pl_switch_rule.proofs.LearntSources.{hears_changes_to, tells_group}
-use Rattle.pl_switch_rule.proofs.LevelParts.{quiet_changes_told}
-use Rattle.pl_switch_rule.proofs.StepParts.{all_append}
+use Rattle.pl_switch_rule.proofs.RowActs.{ChangeActs, groups_acts}
+use Rattle.pl_switch_rule.proofs.StepActs.{control_acts, ticks_acts}
+use Rattle.pl_switch_rule.proofs.FirstDrops.{AllGoOn, GoesOn}
+use Rattle.pl_switch_rule.proofs.LearntSources.{hears_changes_to}
 
 -- A control frame, and a tick.
 
-proposal_goes_on : (v : SwitchView) (port : ℕ) (edge : SwitchId) (p : Proposal) → AllGoOn (hears_proposal v port edge p).acts
-proposal_goes_on v port edge p =
-    cond_both (is_known v.place.level 1 && is_known (place_at v port).level 0 && nat_lt p.position (half v.k))
-    (answers_proposal (frees_others v edge p.position) port edge p) (rests v) (λ s. AllGoOn s.acts) (λ yes. (tt, tt)) (λ no_answer. tt)
-
-control_goes_on : (v : SwitchView) (port : ℕ) (read : Result Control ControlError) → AllGoOn (hears_control v port read).acts
-control_goes_on v port (Err e) = tt
-control_goes_on v port (Ok (control.Ldm id m)) = let heard = hears_changes_to v (after_message v port id m) in heard.on
-control_goes_on v port (Ok (control.Proposal id p)) = proposal_goes_on v port id p
-control_goes_on v port (Ok (control.Vote id vote)) = let heard = hears_changes_to v (after_vote v port vote) in heard.on
+change_goes_on : (place : Place) → ChangeActs place GoesOn
+change_goes_on place = record { placed = tt; linked = λ neighbour usable. tt; wanted = λ position. tt }
 
 control_comes_goes_on : (v : SwitchView) (port : ℕ) (frame : List ℕ) → AllGoOn (control_comes v port frame).acts
 control_comes_goes_on v port frame =
-    let read = control_in (payload_of frame) in
-    cond_both (port_of v port).host (rests v) (hears_control v port read) (λ s. AllGoOn s.acts) (λ host. tt) (λ other. control_goes_on v port read)
-
-controls_go_on : (frame : ℕ → List ℕ) (ports : List ℕ) → AllGoOn (map (λ port. ControlAct port (frame port)) ports)
-controls_go_on frame [] = tt
-controls_go_on frame (port ∷ ports) = (tt, controls_go_on frame ports)
+    control_acts GoesOn v port frame (change_goes_on _) (record { granted = λ address amac. tt; learnt = λ address amac ip. tt }) (λ at told. tt)
 
 tick_goes_on : (v : SwitchView) → AllGoOn (ticks v).acts
-tick_goes_on v =
-    let new : SwitchView = with_aged_ports v in
-    let told : List Act = map (λ port. ControlAct port (announcement new port)) (ports_where new (announces_at new)) in
-    let asked : List Act = map (λ port. ControlAct port (proposal new)) (ports_where new (proposes_at new)) in
-    all_append GoesOn (changes_told v new) (told ++ asked) (quiet_go_on v.k (changes_told v new) (quiet_changes_told v.k v new))
-    (all_append GoesOn told asked (controls_go_on (announcement new) (ports_where new (announces_at new)))
-    (controls_go_on (λ port. proposal new) (ports_where new (proposes_at new))))
+tick_goes_on v = ticks_acts GoesOn v (change_goes_on v.place) (λ port frame. tt)
 
 -- Messages of the manager.
 
@@ -133,7 +103,7 @@ probes_drop_for old grant v =
 members_go_on : (v : SwitchView) (port : ℕ) (amac : Mac) → AllGoOn (forgets_members port amac v).acts
 members_go_on v port amac =
     let members = filter (λ m. not (is_member port amac m)) v.members in
-    go_on_flat_map (group_told v.members members) (groups_of (v.members ++ members)) (tells_group v.members members)
+    groups_acts GoesOn v.members members (λ group other. tt)
 
 invalidate_drops_for : (v : SwitchView) (old : Pmac) (trap : Trap) (o : Option Grant) → DropsFor (invalidates v old trap o).acts None None
 invalidate_drops_for v old trap None = drops_nothing [] tt

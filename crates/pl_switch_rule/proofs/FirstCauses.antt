@@ -2,7 +2,7 @@
 use Rattle.std.proofs.Common.{◌≡◌, ℕ, Bool, true, false, if◌then◌else◌, List, [], ◌∷◌, ◌++◌, Option, None, refl, ap, ◌∙◌}
 use Rattle.std.specs.List.{AllByRecursion}
 use Rattle.pl_logic.specs.declared.acts.Act.{Act}
-use Rattle.pl_logic.specs.declared.acts.Act.TheVariants.{Control, Drop, Grant as GrantAct, Make, Pass, Redirect, Take, Tell}
+use Rattle.pl_logic.specs.declared.acts.Act.TheVariants.{Drop, Make}
 use Rattle.pl_journal.specs.declared.cause.Cause.{Cause}
 use Rattle.pl_switch_rule.specs.CauseOf.{DropsFor, behind_make}
 use Rattle.pl_switch_rule.specs.DropCauses.{first_drop}
@@ -18,47 +18,25 @@ AllMakeNone acts = AllByRecursion MakesNone acts
 
 behind_none : (acts : List Act) → AllMakeNone acts → behind_make acts ≡ []
 behind_none [] none = refl
-behind_none (Control port frame ∷ acts) none = behind_none acts none.1
-behind_none (Tell told ∷ acts) none = behind_none acts none.1
-behind_none (GrantAct pmac amac ∷ acts) none = behind_none acts none.1
-behind_none (Redirect old new ∷ acts) none = behind_none acts none.1
-behind_none (Pass port frame ∷ acts) none = behind_none acts none.1
-behind_none (Take ∷ acts) none = behind_none acts none.1
-behind_none (Drop cause ∷ acts) none = behind_none acts none.1
 behind_none (Make frame ∷ acts) none = absurd none.0
+behind_none (a ∷ acts) none = behind_none acts none.1
 
 behind_of : (xs ys : List Act) → AllMakeNone xs → behind_make (xs ++ ys) ≡ behind_make ys
 behind_of [] ys none = refl
-behind_of (Control port frame ∷ xs) ys none = behind_of xs ys none.1
-behind_of (Tell told ∷ xs) ys none = behind_of xs ys none.1
-behind_of (GrantAct pmac amac ∷ xs) ys none = behind_of xs ys none.1
-behind_of (Redirect old new ∷ xs) ys none = behind_of xs ys none.1
-behind_of (Pass port frame ∷ xs) ys none = behind_of xs ys none.1
-behind_of (Take ∷ xs) ys none = behind_of xs ys none.1
-behind_of (Drop cause ∷ xs) ys none = behind_of xs ys none.1
 behind_of (Make frame ∷ xs) ys none = absurd none.0
+behind_of (a ∷ xs) ys none = behind_of xs ys none.1
 
 pub go_on_make_none : (acts : List Act) → AllGoOn acts → AllMakeNone acts
 go_on_make_none [] on = tt
-go_on_make_none (Control port frame ∷ acts) on = (tt, go_on_make_none acts on.1)
-go_on_make_none (Tell told ∷ acts) on = (tt, go_on_make_none acts on.1)
-go_on_make_none (GrantAct pmac amac ∷ acts) on = (tt, go_on_make_none acts on.1)
-go_on_make_none (Redirect old new ∷ acts) on = (tt, go_on_make_none acts on.1)
-go_on_make_none (Pass port frame ∷ acts) on = (tt, go_on_make_none acts on.1)
-go_on_make_none (Take ∷ acts) on = (tt, go_on_make_none acts on.1)
 go_on_make_none (Drop cause ∷ acts) on = absurd on.0
 go_on_make_none (Make frame ∷ acts) on = absurd on.0
+go_on_make_none (a ∷ acts) on = (tt, go_on_make_none acts on.1)
 
 go_on_drop_none : (acts : List Act) → AllGoOn acts → first_drop acts ≡ None
 go_on_drop_none [] on = refl
-go_on_drop_none (Control port frame ∷ acts) on = go_on_drop_none acts on.1
-go_on_drop_none (Tell told ∷ acts) on = go_on_drop_none acts on.1
-go_on_drop_none (GrantAct pmac amac ∷ acts) on = go_on_drop_none acts on.1
-go_on_drop_none (Redirect old new ∷ acts) on = go_on_drop_none acts on.1
-go_on_drop_none (Pass port frame ∷ acts) on = go_on_drop_none acts on.1
-go_on_drop_none (Take ∷ acts) on = go_on_drop_none acts on.1
 go_on_drop_none (Drop cause ∷ acts) on = absurd on.0
 go_on_drop_none (Make frame ∷ acts) on = absurd on.0
+go_on_drop_none (a ∷ acts) on = go_on_drop_none acts on.1
 
 -- acts that make no frame
 pub drops_without : (acts : List Act) (cause : Option Cause) → AllMakeNone acts → first_drop acts ≡ cause → DropsFor acts cause None
@@ -88,7 +66,3 @@ pub either_first : (test : Bool) (a b : SwitchStep) (x y : Option Cause) → fir
     first_drop (if test then a else b).acts ≡ (if test then x else y)
 either_first true a b x y p q = p
 either_first false a b x y p q = q
-
-pub either_make_none : (test : Bool) (a b : SwitchStep) → AllMakeNone a.acts → AllMakeNone b.acts → AllMakeNone (if test then a else b).acts
-either_make_none true a b p q = p
-either_make_none false a b p q = q

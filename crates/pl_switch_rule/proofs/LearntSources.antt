@@ -16,20 +16,19 @@ use Rattle.pl_logic.specs.declared.neighbour.PortRecord.{PortRecord}
 use Rattle.pl_layouts.specs.declared.place.Place.{Place}
 use Rattle.pl_logic.specs.Accounting.{IsShaped}
 use Rattle.pl_switch_rule.specs.Granting.{address_at_port, forgets, grant_number, grants_at, grants_next, grants_or_learns, grants_remembered, grants_source, has_no_address, in_use, is_port_spent, learns_ip, learns_source, new_grant, remembered_at, remembers, sender_ip, with_grant, with_grants}
-use Rattle.pl_switch_rule.specs.Intake.{changes_member, group_told, groups_of, has_member_of, hears_members}
+use Rattle.pl_switch_rule.specs.Intake.{changes_member, hears_members}
 use Rattle.pl_layouts.specs.Equality.{is_ip, same_mac}
 use Rattle.pl_switch_rule.specs.Levels.{becomes_edge, changes_to, finds_host, has_become_placed, settles_in}
 use Rattle.pl_layouts.specs.Memberships.{changes_in}
-use Rattle.pl_journal.specs.Places.{are_alike}
 use Rattle.pl_logic.specs.PortRecords.{is_open_to_hosts, new_port, port_of, ports_of_switch, with_port}
 use Rattle.pl_layouts.specs.Placement.{is_placed}
 use Rattle.pl_steps.specs.Steps.{SwitchStep, rests, ◌▹◌}
 use Rattle.pl_logic.specs.declared.switch_records.Grant.{Grant}
-use Rattle.pl_logic.specs.declared.switch_records.Member.{Member}
 use Rattle.pl_logic.specs.declared.switch_records.Source.{Source}
 use Rattle.pl_logic.specs.SwitchViews.{SwitchView}
 use Rattle.pl_switch_rule.specs.Telling.{changes_told}
-use Rattle.pl_switch_rule.proofs.FirstDrops.{AllGoOn, GoesOn, go_on_flat_map, go_on_if, quiet_go_on}
+use Rattle.pl_switch_rule.proofs.RowActs.{groups_acts}
+use Rattle.pl_switch_rule.proofs.FirstDrops.{AllGoOn, GoesOn, quiet_go_on}
 use Rattle.pl_switch_rule.proofs.LevelParts.{quiet_changes_told, quiet_finds_host}
 use Rattle.pl_switch_rule.proofs.StepParts.{IsSame, all_append}
 
@@ -243,11 +242,7 @@ finds_then_served v port frame shaped within =
 
 -- Members.
 
-pub tells_group : (old new : List Member) (group : ℕ) → AllGoOn (group_told old new group)
-tells_group old new group =
-    go_on_if (are_alike (has_member_of old group) (has_member_of new group)) [] (Tell (Members group (has_member_of new group)) ∷ []) tt (tt, tt)
-
 pub hears_members_on : (v : SwitchView) (port : ℕ) (frame : List ℕ) → AllGoOn (hears_members v port frame).acts
 hears_members_on v port frame =
     let members = fold (changes_member port (source_of frame)) v.members (changes_in frame) in
-    go_on_flat_map (group_told v.members members) (groups_of (v.members ++ members)) (tells_group v.members members)
+    groups_acts GoesOn v.members members (λ group other. tt)

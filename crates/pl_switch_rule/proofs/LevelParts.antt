@@ -1,47 +1,28 @@
 -- What a switch tells the manager of its place, and how it learns it, is quiet.
-use Rattle.std.proofs.Common.{◌&&◌, not, ℕ, Bool, true, if◌then◌else◌, [], ◌∷◌, ◌++◌, Option, Some, None, is_none, arith}
-use Rattle.std.specs.List.{flat_map}
+use Rattle.std.proofs.Common.{◌&&◌, ℕ, true, if◌then◌else◌, Option, Some, is_none, arith}
 use Rattle.pl_frame.specs.declared.address.SwitchId.{SwitchId}
-use Rattle.pl_logic.specs.declared.acts.Act.TheVariants.{Tell}
-use Rattle.pl_logic.specs.declared.messages.ToManager.TheVariants.{Place as TellPlace, PodWanted}
 use Rattle.pl_layouts.specs.declared.control.Ldm.{Ldm}
 use Rattle.pl_layouts.specs.declared.place.Place.{Place}
 use Rattle.pl_switch_rule.specs.Granting.{grants_remembered}
 use Rattle.pl_logic.specs.Accounting.{IsShaped}
 use Rattle.pl_switch_rule.specs.Levels.{after_message, becomes_edge, changes_to, finds_host, has_become_placed, hears_message, learns_level, learns_pod, level_after, notes_edge, pod_after, pod_told_before, settles_in, with_level, with_message, with_pod}
-use Rattle.pl_journal.specs.Places.{are_alike}
 use Rattle.pl_switch_rule.specs.Positions.{notes_position}
-use Rattle.pl_logic.specs.PortRecords.{id_at, is_usable, port_of, ports_of_switch, with_port}
-use Rattle.pl_layouts.specs.Placement.{is_known, same_place}
+use Rattle.pl_logic.specs.PortRecords.{port_of, ports_of_switch, with_port}
+use Rattle.pl_layouts.specs.Placement.{is_known}
 use Rattle.pl_steps.specs.Steps.{does, rests}
 use Rattle.pl_logic.specs.SwitchViews.{SwitchView}
-use Rattle.pl_switch_rule.specs.Telling.{changes_told, link_to, link_told, place_told, pod_wanted}
-use Rattle.pl_switch_rule.proofs.StepParts.{IsQuiet, IsSame, all_append, quiet_then_quiet, same_then}
+use Rattle.pl_switch_rule.specs.Telling.{changes_told}
+use Rattle.pl_switch_rule.proofs.StepParts.{IsQuiet, IsSame, quiet_then_quiet, same_then}
 use Rattle.pl_switch_rule.proofs.Shapes.{all_range, same_self, same_with_port}
-use Rattle.pl_switch_rule.proofs.QuietActs.{AreQuiet, IsQuietAct, quiet_either, quiet_flat_map, quiet_if, quiet_self, quiet_step, same_either}
+use Rattle.pl_switch_rule.proofs.RowActs.{told_acts}
+use Rattle.pl_switch_rule.proofs.QuietActs.{AreQuiet, IsQuietAct, quiet_either, quiet_self, quiet_step, same_either}
 use Rattle.pl_switch_rule.proofs.GrantingParts.{quiet_grants_remembered}
 use Rattle.pl_switch_rule.proofs.PositionParts.{same_notes_position, same_with_place}
 
 -- Telling.
 
-tells_link : (k : ℕ) (neighbour : Option SwitchId) (usable : Bool) → AreQuiet k (link_to neighbour usable)
-tells_link k None usable = tt
-tells_link k (Some neighbour) usable = (tt, tt)
-
-tells_change : (k : ℕ) (old new : SwitchView) (port : ℕ) → AreQuiet k (link_told old new port)
-tells_change k old new port =
-    quiet_if k (are_alike (is_usable old port) (is_usable new port)) [] (link_to (id_at new port) (is_usable new port)) tt
-    (tells_link k (id_at new port) (is_usable new port))
-
 pub quiet_changes_told : (k : ℕ) (old new : SwitchView) → AreQuiet k (changes_told old new)
-quiet_changes_told k old new =
-    let wanted : Bool = is_known new.place.level 0 && is_known new.place.position 0 && not (is_known old.place.position 0) in
-    let place = place_told old.place new.place in
-    let links = flat_map (link_told old new) (ports_of_switch new.k) in
-    let place_quiet = quiet_if k (same_place old.place new.place) [] (Tell (TellPlace new.place) ∷ []) tt (tt, tt) in
-    let links_quiet = quiet_flat_map k (link_told old new) (ports_of_switch new.k) (tells_change k old new) in
-    let pod_quiet = quiet_if k wanted (Tell PodWanted ∷ []) [] (tt, tt) tt in
-    all_append (IsQuietAct k) (place ++ links) (pod_wanted old.place new.place) (all_append (IsQuietAct k) place links place_quiet links_quiet) pod_quiet
+quiet_changes_told k old new = told_acts (IsQuietAct k) old new (record { placed = tt; linked = λ neighbour usable. tt; wanted = λ position. tt })
 
 -- What has changed.
 

@@ -1,5 +1,8 @@
 pub mod StepParts
 pub mod Shapes
+pub mod RowViews
+pub mod RowActs
+pub mod StepActs
 pub mod QuietActs
 pub mod GrantingParts
 pub mod PositionParts

@@ -1,13 +1,13 @@
 -- Acts that speak of no frame's end: control frames, messages to the manager, grants.
 use Rattle.std.proofs.Common.{◌≡◌, ◌<◌, ℕ, Bool, true, false, List, [], ◌∷◌, map, if◌then◌else◌, refl}
-use Rattle.std.specs.List.{AllByRecursion, flat_map}
+use Rattle.std.specs.List.{AllByRecursion}
 use Rattle.pl_logic.specs.declared.acts.Act.{Act}
-use Rattle.pl_logic.specs.declared.acts.Act.TheVariants.{Control, Drop, Grant as GrantAct, Make, Pass, Redirect, Take, Tell}
+use Rattle.pl_logic.specs.declared.acts.Act.TheVariants.{Control, Grant as GrantAct, Tell}
 use Rattle.pl_logic.specs.Accounting.{IsFit, IsSent, IsShaped, speech}
 use Rattle.pl_logic.specs.Accounting.Speech.{Silent, Waiting}
 use Rattle.pl_steps.specs.Steps.{SwitchStep, rests}
 use Rattle.pl_logic.specs.SwitchViews.{SwitchView}
-use Rattle.pl_switch_rule.proofs.StepParts.{IsQuiet, IsSame, all_append}
+use Rattle.pl_switch_rule.proofs.StepParts.{IsQuiet, IsSame}
 use Rattle.pl_switch_rule.proofs.Shapes.{same_self}
 
 abbrev pub IsQuietAct : ℕ → Act → Type 0
@@ -24,33 +24,21 @@ silent_acts k [] quiet = refl
 silent_acts k (Control port frame ∷ acts) quiet = silent_acts k acts quiet.1
 silent_acts k (Tell told ∷ acts) quiet = silent_acts k acts quiet.1
 silent_acts k (GrantAct pmac amac ∷ acts) quiet = silent_acts k acts quiet.1
-silent_acts k (Drop cause ∷ acts) quiet = absurd quiet.0
-silent_acts k (Make frame ∷ acts) quiet = absurd quiet.0
-silent_acts k (Pass port frame ∷ acts) quiet = absurd quiet.0
-silent_acts k (Redirect old new ∷ acts) quiet = absurd quiet.0
-silent_acts k (Take ∷ acts) quiet = absurd quiet.0
+silent_acts k (a ∷ acts) quiet = absurd quiet.0
 
 waiting_acts : (k : ℕ) (acts : List Act) → AreQuiet k acts → speech Waiting acts ≡ Waiting
 waiting_acts k [] quiet = refl
 waiting_acts k (Control port frame ∷ acts) quiet = waiting_acts k acts quiet.1
 waiting_acts k (Tell told ∷ acts) quiet = waiting_acts k acts quiet.1
 waiting_acts k (GrantAct pmac amac ∷ acts) quiet = waiting_acts k acts quiet.1
-waiting_acts k (Drop cause ∷ acts) quiet = absurd quiet.0
-waiting_acts k (Make frame ∷ acts) quiet = absurd quiet.0
-waiting_acts k (Pass port frame ∷ acts) quiet = absurd quiet.0
-waiting_acts k (Redirect old new ∷ acts) quiet = absurd quiet.0
-waiting_acts k (Take ∷ acts) quiet = absurd quiet.0
+waiting_acts k (a ∷ acts) quiet = absurd quiet.0
 
 fit_acts : (k : ℕ) (acts : List Act) → AreQuiet k acts → AllByRecursion (IsFit k) acts
 fit_acts k [] quiet = tt
 fit_acts k (Control port frame ∷ acts) quiet = (quiet.0, fit_acts k acts quiet.1)
 fit_acts k (Tell told ∷ acts) quiet = (tt, fit_acts k acts quiet.1)
 fit_acts k (GrantAct pmac amac ∷ acts) quiet = (quiet.0, fit_acts k acts quiet.1)
-fit_acts k (Drop cause ∷ acts) quiet = absurd quiet.0
-fit_acts k (Make frame ∷ acts) quiet = absurd quiet.0
-fit_acts k (Pass port frame ∷ acts) quiet = absurd quiet.0
-fit_acts k (Redirect old new ∷ acts) quiet = absurd quiet.0
-fit_acts k (Take ∷ acts) quiet = absurd quiet.0
+fit_acts k (a ∷ acts) quiet = absurd quiet.0
 
 -- a step of such acts
 pub quiet_step : (v w : SwitchView) (acts : List Act) → IsSame v w → AreQuiet v.k acts → IsQuiet v (record { view = w; acts = acts })
@@ -67,19 +55,10 @@ quiet_rests v w same = quiet_step v w [] same tt
 pub quiet_self : (v : SwitchView) → IsShaped v → IsQuiet v (rests v)
 quiet_self v s = quiet_rests v v (same_self v s)
 
-pub quiet_flat_map : {X : Type 0} (k : ℕ) (f : X → List Act) (xs : List X) → ((x : X) → AreQuiet k (f x)) → AreQuiet k (flat_map f xs)
-quiet_flat_map k f [] each = tt
-quiet_flat_map k f (x ∷ xs) each = all_append (IsQuietAct k) (f x) (flat_map f xs) (each x) (quiet_flat_map k f xs each)
-
 pub quiet_map : {X : Type 0} (k : ℕ) (P : X → Type 0) (f : X → Act) (xs : List X) → AllByRecursion P xs → ((x : X) → P x → IsQuietAct k (f x)) →
     AreQuiet k (map f xs)
 quiet_map k P f [] all each = tt
 quiet_map k P f (x ∷ xs) all each = (each x all.0, quiet_map k P f xs all.1 each)
-
--- a branch
-pub quiet_if : (k : ℕ) (test : Bool) (xs ys : List Act) → AreQuiet k xs → AreQuiet k ys → AreQuiet k (if test then xs else ys)
-quiet_if k true xs ys a b = a
-quiet_if k false xs ys a b = b
 
 pub quiet_either : (v : SwitchView) (test : Bool) (s t : SwitchStep) → (test ≡ true → IsQuiet v s) → (test ≡ false → IsQuiet v t) →
     IsQuiet v (if test then s else t)

@@ -24,6 +24,7 @@ use Rattle.pl_votes.proofs.Aside.{stance}
 use Rattle.pl_votes.proofs.Holding.{after_proposal, another_proposes, another_tells, freed_is, grant_holds, held_after, own_proposes, own_tells}
 use Rattle.pl_votes.proofs.PairMoves.{answers, head_gone, hears, hears_another, speaks}
 use Rattle.pl_votes.proofs.Speeches.{SaysPlace, SaysProposal, TickSays, says_written}
+use Rattle.pl_switch_rule.proofs.RowViews.{proposal_holds}
 
 -- Sending.
 
@@ -238,10 +239,4 @@ proposal_ids v port id p is ids = by (is_answered v port p.position)
 
 -- a proposal changes no stance
 pub proposal_stance : (v : SwitchView) (port : ℕ) (id : SwitchId) (p : Proposed) → stance (hears_proposal v port id p).view ≡ stance v
-proposal_stance v port id p = by (is_answered v port p.position)
-  where
-    by : (b : Bool) → stance (if◌then◌else◌ {A = SwitchStep} b (answers_proposal (frees_others v id p.position) port id p) (rests v)).view ≡ stance v
-    by false = refl
-    by true =
-        let w = frees_others v id p.position in
-        cond_both (is_free_for id (hold_at w p.position)) (holds_for w id p.position) w (λ (u : SwitchView). stance u ≡ stance v) (λ h. refl) (λ h. refl)
+proposal_stance v port id p = ap stance (proposal_holds v port id p)

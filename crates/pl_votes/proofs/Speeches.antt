@@ -30,13 +30,7 @@ sends_append port (x ∷ xs) ys = ap (λ zs. sent_by port x ++ zs) (sends_append
 pub sends_none : (port : ℕ) (acts : List Act) → AreUnsaid acts → sends port acts ≡ []
 sends_none port [] unsaid = refl
 sends_none port (act.Control at frame ∷ acts) unsaid = absurd unsaid.0
-sends_none port (act.Tell told ∷ acts) unsaid = sends_none port acts unsaid.1
-sends_none port (act.Grant pmac amac ∷ acts) unsaid = sends_none port acts unsaid.1
-sends_none port (act.Make frame ∷ acts) unsaid = sends_none port acts unsaid.1
-sends_none port (act.Redirect old new ∷ acts) unsaid = sends_none port acts unsaid.1
-sends_none port (act.Pass at frame ∷ acts) unsaid = sends_none port acts unsaid.1
-sends_none port (act.Take ∷ acts) unsaid = sends_none port acts unsaid.1
-sends_none port (act.Drop cause ∷ acts) unsaid = sends_none port acts unsaid.1
+sends_none port (a ∷ acts) unsaid = sends_none port acts unsaid.1
 
 -- one control frame out of each port that passes a test
 module _ (F : ℕ → List ℕ) (test : ℕ → Bool) (port : ℕ) where

@@ -347,16 +347,7 @@ module _ (switch : SwitchRule) (manager : ManagerRule) (host : HostRule) where
       (c : Coming) → coming old happens ≡ Some c → Took switch old.switches c (turn_of switch manager host old happens new step)
   step_takes old (event.Deliver (queue.FromHost h)) new step = took_from_host old (old.steps + 1) h.0 (items_at old.from_hosts h.0) new step
   step_takes old (event.Deliver (queue.Port s port)) new step = took_out old (old.steps + 1) s.0 port (out_of old s.0 port) new step
-  step_takes old (event.Deliver (queue.ToManager s)) new step = λ c is. absurd (cc)
   step_takes old (event.Deliver (queue.FromManager s)) new step = took_from_manager old (old.steps + 1) s.0 (items_at old.from_manager s.0) new step
   step_takes old (event.Tick s) new step = λ c is.
       took_one old.switches (record { switch = s.0; input = Tick; frame = None }) c _ is (took_turn _ (record { switch = s.0; input = Tick; frame = None }) Silent new step)
-  step_takes old (event.Fail a b) new step = λ c is. absurd (cc)
-  step_takes old (event.Repair a b) new step = λ c is. absurd (cc)
-  step_takes old (event.Lose s port) new step = λ c is. absurd (cc)
-  step_takes old (event.Move h s port) new step = λ c is. absurd (cc)
-  step_takes old (event.Start h) new step = λ c is. absurd (cc)
-  step_takes old (event.Play h frame original raw) new step = λ c is. absurd (cc)
-  step_takes old (event.Retry h) new step = λ c is. absurd (cc)
-  step_takes old (event.Join h group) new step = λ c is. absurd (cc)
-  step_takes old (event.Leave h group) new step = λ c is. absurd (cc)
+  step_takes old happens new step = λ c is. absurd (cc)

@@ -12,3 +12,8 @@ pub mod SwitchDrops
 pub mod Drops
 pub mod Begun
 pub mod Looser
+pub mod Happenings
+pub mod Leaving
+pub mod Turning
+pub mod Beside
+pub mod AlongRuns

@@ -6,8 +6,7 @@ use Rattle.std.proofs.lemmas.Bool.{and_parts, leb-true, ltb-true}
 use Rattle.std.proofs.lemmas.Option.{slice_get_within}
 use Rattle.pl_wiring.specs.declared.label.SwitchNo.{SwitchNo}
 use Rattle.pl_wiring.specs.declared.link.Link.{Link}
-use Rattle.pl_wiring.specs.declared.link.Peer.{Peer}
-use Rattle.pl_wiring.specs.declared.link.Peer.TheVariants.{HostPort, Switch}
+use Rattle.pl_wiring.specs.declared.link.Peer.TheVariants.{Switch}
 use Rattle.pl_wiring.specs.FatTree.{IsTreeLink}
 use Rattle.pl_wiring.specs.Index.{port_index}
 use Rattle.pl_wiring.specs.Labels.{switch_count}
@@ -27,7 +26,6 @@ use Rattle.pl_journal.specs.declared.entry.Entry.{Entry}
 use Rattle.pl_journal.specs.declared.entry.Entry.TheVariants.{Arrived, Crossed, Dropped, LinkDown, LinkUp, Moved, Registered, Sent, Skipped}
 use Rattle.pl_world.specs.declared.event.Event.{Event}
 use Rattle.pl_world.specs.declared.event.Event.TheVariants as event
-use Rattle.pl_world.specs.declared.event.QueueName.{QueueName}
 use Rattle.pl_world.specs.declared.event.QueueName.TheVariants as queue
 use Rattle.pl_logic.specs.declared.messages.ToManager.{ToManager}
 use Rattle.pl_logic.specs.declared.messages.ToSwitch.{ToSwitch}
@@ -39,6 +37,8 @@ use Rattle.pl_layouts.specs.Control.{is_control}
 use Rattle.pl_journal.specs.Flights.{begun, ends}
 use Rattle.pl_logic.specs.HostDuties.{HoldsData, HostsSendData, are_data, is_data, sent_by}
 use Rattle.pl_logic.specs.HostInputs.{HostAnswer, HostInput, HostRule}
+use Rattle.pl_logic.specs.HostInputs.HostAnswer.{Nothing}
+use Rattle.pl_logic.specs.HostInputs.HostInput.{HasMoved}
 use Rattle.pl_logic.specs.HostViews.{HostView}
 use Rattle.pl_logic.specs.ManagerDuties.{ManagerRule}
 use Rattle.pl_journal.specs.Places.{is_host_port}
@@ -58,8 +58,10 @@ use Rattle.pl_queues.specs.Queues.{items_at}
 use Rattle.pl_world.specs.LinksAndMoves.{host_moved, item_lost, joins, link_between, with_link}
 use Rattle.pl_world.specs.OtherActs.{heard_after_tick, host_act_done, manager_act_done, reception_noted, skip_noted}
 use Rattle.pl_world.specs.Refusals.{has_host, has_port, has_switch, is_full, is_for_hosts, refusal, refusal_of_event, refusal_of_link, refusal_of_move}
-use Rattle.pl_world.specs.WorldRule.{ComesAtHost, ComesAtSwitch, ComesIn, ComesOut, ComesOver, Delivers, DeliversFromHost, DeliversFromManager, DeliversOut, DeliversToManager, Fails, Goes, Happens, HostTurn, HostPlays, HostReceives, IsRepaired, Loses, ManagerTurn, SwitchTurn, Ticks, WorldStep, heard_item}
+use Rattle.pl_world.specs.WorldRule.{ComesAtHost, ComesAtSwitch, ComesOut, Fails, HostTurn, HostPlays, HostReceives, ManagerTurn, SwitchTurn, WorldStep, heard_item}
 use Rattle.pl_world.specs.Worlds.{WorldView}
+use Rattle.pl_world.proofs.Happenings.{Happened, happened}
+use Rattle.pl_world.proofs.Happenings.Happened.{Asked, Departed, Failed, FromHost, Lost, Ordered, OutOfPort, OverLink, PlayedFrame, Repaired, Reported, Ticked}
 use Rattle.pl_world.proofs.Balances.{Owes, begun_balance, emptied_host_balance, emptied_out_balance, head_is_item, noted_balance, put_host_balance, sent_is_item, took_host_balance, took_out_balance}
 use Rattle.pl_world.proofs.Counts.{all_found, all_set, one, times_in-data}
 use Rattle.pl_world.proofs.SwitchActBalances.{HasRest, Steady, all_acts_steady, owed_by, said_by, says_rest, told_rest}
@@ -366,12 +368,18 @@ in_tree plan is link there =
 pub peer_is_port : (plan : Plan) (s p : ℕ) → IsPlan plan → IsPort plan.k (peer_of plan s p)
 peer_is_port plan s p is = peer_in_tree plan.k plan.links s p (in_tree plan is)
 
-module _ (switch : SwitchRule) (host : HostRule) (accounts : AccountsForFrames switch) (sends : HostsSendData host) where
-  comes_over : (w : WorldView) (s port : ℕ) (item : Item) (peer : Peer) (new : WorldView) → IsPort w.plan.k peer → IsItem item →
-      Owes w (λ id. times_in id (item ∷ [])) → HasRest w → ComesOver switch host w s port item peer new → Sound new
-  comes_over w s port item (Switch t q) new there is owes r comes = comes_at_switch switch accounts w t.0 q item new there.1 is owes r comes
-  comes_over w s port item HostPort new there is owes r comes = comes_out host sends w s port item new owes r comes
+ticked_heard : (t : ℕ) (stands : List Stand) (heard : List (Option ℕ)) → length (heard_after_tick t stands heard) ≡ length heard
+ticked_heard t [] heard = refl
+ticked_heard t (stand ∷ stands) [] = refl
+ticked_heard t (stand ∷ stands) (ticks ∷ heard) = ap suc (ticked_heard t stands heard)
 
+took_out : (w : WorldView) (t port : ℕ) (item : Item) (items : List Item) → out_of w t port ≡ item ∷ items → Sound w →
+    Owes (record w { out = set w.out (port_index w.plan.k t port) items }) (λ id. times_in id (item ∷ []))
+took_out w t port item items head s =
+    took_out_balance w.plan w.from_hosts w.out w.journal w.begun (λ id. 0) (λ id. times_in id (item ∷ [])) (port_index w.plan.k t port) item items head
+        (λ id. omega arith) s.balance
+
+module _ (switch : SwitchRule) (host : HostRule) (accounts : AccountsForFrames switch) (sends : HostsSendData host) where
   heard_sound : (w : WorldView) (h : ℕ) (item : Item) (f : ℕ → ℕ) → Owes w f → HasRest w → Owes (heard_item w h item) f × HasRest (heard_item w h item)
   heard_sound w h (Control frame) f owes r = (owes, r)
   heard_sound w h (Data id frame) f owes r = (owes, heard_rest w _ (length-set w.heard h _) r)
@@ -380,65 +388,21 @@ module _ (switch : SwitchRule) (host : HostRule) (accounts : AccountsForFrames s
   heard_plan w h (Control frame) = refl
   heard_plan w h (Data id frame) = refl
 
-  comes_in : (w : WorldView) (h : ℕ) (item : Item) (stand : Option Stand) (new : WorldView) → slice_get w.stands h ≡ stand → IsItem item →
-      Owes w (λ id. times_in id (item ∷ [])) → HasRest w → ComesIn switch w h item stand new → Sound new
-  comes_in w h item None new found is owes r comes = absurd comes
-  comes_in w h item (Some stand) new found is owes r comes =
-      let there : IsAtPort w.plan.k stand = all_found (IsAtPort w.plan.k) w.stands h stand found r.at_ports in
-      let heard = heard_sound w h item (λ id. times_in id (item ∷ [])) owes r in
-      comes_at_switch switch accounts (heard_item w h item) stand.edge.0 stand.port item new (rw (heard_plan w h item) there.port) is heard.0 heard.1 comes
+  from_host : (w : WorldView) (h : ℕ) (item : Item) (items : List Item) (stand : Stand) (new : WorldView) → items_at w.from_hosts h ≡ item ∷ items →
+      slice_get w.stands h ≡ Some stand → Sound w →
+      ComesAtSwitch switch (heard_item (record w { from_hosts = set w.from_hosts h items }) h item) stand.edge.0 stand.port item new → Sound new
+  from_host w h item items stand new head at s comes =
+      let taken : WorldView = record w { from_hosts = set w.from_hosts h items } in
+      let there : IsAtPort w.plan.k stand = all_found (IsAtPort w.plan.k) w.stands h stand at s.rest.at_ports in
+      let owes = took_host_balance w.plan w.from_hosts w.out w.journal w.begun (λ id. 0) (λ id. times_in id (item ∷ [])) h item items head
+          (λ id. omega arith) s.balance in
+      let heard = heard_sound taken h item (λ id. times_in id (item ∷ [])) owes s.rest in
+      comes_at_switch switch accounts (heard_item taken h item) stand.edge.0 stand.port item new (rw (heard_plan taken h item) there.port)
+      (sent_is_item w.from_hosts h item items head s.balance.host_items) heard.0 heard.1 comes
 
-  delivers_from_host : (w : WorldView) (h : ℕ) (items : List Item) (new : WorldView) → items_at w.from_hosts h ≡ items → Sound w →
-      DeliversFromHost switch w h items new → Sound new
-  delivers_from_host w h [] new is s comes = absurd comes
-  delivers_from_host w h (item ∷ items) new is s comes =
-      comes_in (record w { from_hosts = set w.from_hosts h items }) h item (slice_get w.stands h) new refl
-      (sent_is_item w.from_hosts h item items is s.balance.host_items)
-      (took_host_balance w.plan w.from_hosts w.out w.journal w.begun (λ id. 0) (λ id. times_in id (item ∷ [])) h item items is (λ id. omega arith) s.balance)
-      s.rest comes
-
-  delivers_out : (w : WorldView) (t port : ℕ) (items : List Item) (new : WorldView) → out_of w t port ≡ items → Sound w →
-      DeliversOut switch host w t port items new → Sound new
-  delivers_out w t port [] new is s comes = absurd comes
-  delivers_out w t port (item ∷ items) new is s comes =
-      comes_over (record w { out = set w.out (port_index w.plan.k t port) items }) t port item (peer_of w.plan t port) new
-      (peer_is_port w.plan t port s.rest.is_plan)
-      (head_is_item w.out (port_index w.plan.k t port) item items is s.balance.port_items)
-      (took_out_balance w.plan w.from_hosts w.out w.journal w.begun (λ id. 0) (λ id. times_in id (item ∷ [])) (port_index w.plan.k t port) item items is (λ id. omega arith) s.balance)
-      s.rest comes
-
-  delivers_to_manager : (manager : ManagerRule) (w : WorldView) (t : ℕ) (items : List ToManager) (new : WorldView) → Sound w →
-      DeliversToManager manager w t items new → Sound new
-  delivers_to_manager manager w t [] new s turn = absurd turn
-  delivers_to_manager manager w t (told ∷ items) new s turn =
-      manager_turn manager (record w { to_manager = set w.to_manager t items }) t told new
-      (record { balance = s.balance; rest = told_rest w.to_manager _ (length-set w.to_manager t _) s.rest }) turn
-
-  delivers_from_manager : (w : WorldView) (t : ℕ) (items : List ToSwitch) (new : WorldView) → Sound w → DeliversFromManager switch w t items new → Sound new
-  delivers_from_manager w t [] new s turn = absurd turn
-  delivers_from_manager w t (says ∷ items) new s turn =
-      switch_turn switch accounts (record w { from_manager = set w.from_manager t items }) t (Says says) Silent new refl (λ v size. tt)
-      s.balance (says_rest w.from_manager _ (length-set w.from_manager t _) s.rest) turn
-
-  delivers : (manager : ManagerRule) (w : WorldView) (name : QueueName) (new : WorldView) → Sound w → Delivers switch manager host w name new → Sound new
-  delivers manager w (queue.FromHost h) new s comes = delivers_from_host w h.0 (items_at w.from_hosts h.0) new refl s comes
-  delivers manager w (queue.Port t port) new s comes = delivers_out w t.0 port (out_of w t.0 port) new refl s comes
-  delivers manager w (queue.ToManager t) new s comes = delivers_to_manager manager w t.0 (items_at w.to_manager t.0) new s comes
-  delivers manager w (queue.FromManager t) new s comes = delivers_from_manager w t.0 (items_at w.from_manager t.0) new s comes
-
-  ticked_heard : (t : ℕ) (stands : List Stand) (heard : List (Option ℕ)) → length (heard_after_tick t stands heard) ≡ length heard
-  ticked_heard t [] heard = refl
-  ticked_heard t (stand ∷ stands) [] = refl
-  ticked_heard t (stand ∷ stands) (ticks ∷ heard) = ap suc (ticked_heard t stands heard)
-
-  ticks : (w : WorldView) (t : ℕ) (new : WorldView) → Sound w → Ticks switch w t new → Sound new
-  ticks w t new s turn =
-      switch_turn switch accounts (record w { heard = heard_after_tick t w.stands w.heard }) t Tick Silent new refl (λ v size. tt)
-      s.balance (heard_rest w _ (ticked_heard t w.stands w.heard) s.rest) turn
-
-  goes : (w : WorldView) (h : ℕ) (to : Stand) (from : Option Stand) (new : WorldView) → IsAtPort w.plan.k to → Sound w → Goes host w h to from new → Sound new
-  goes w h to None new there s turn = absurd turn
-  goes w h to (Some from) new there s turn =
+  goes : (w : WorldView) (h : ℕ) (to from : Stand) (new : WorldView) → IsAtPort w.plan.k to → Sound w →
+      HostTurn host (host_moved w h from to) h HasMoved Nothing new → Sound new
+  goes w h to from new there s turn =
       host_turn host sends (host_moved w h from to) h _ _ new (record {
         balance = emptied_out_balance w.plan (set w.from_hosts h []) w.out _ w.begun (λ id. 0) cause.HostGone (port_index w.plan.k from.edge.0 from.port)
             (emptied_host_balance w.plan w.from_hosts w.out _ w.begun (λ id. 0) cause.HostGone h
@@ -466,26 +430,12 @@ fails w a b (Some link) new found s is = subst Sound (sym is) (record {
   rest = link_set w link false (found_contained (joins a b) w.plan.links link found) s.rest;
 })
 
-is_repaired : (w : WorldView) (a b : ℕ) (link : Option Link) (new : WorldView) → link_between w.plan a b ≡ link → Sound w → IsRepaired w link new → Sound new
-is_repaired w a b None new found s is = absurd is
-is_repaired w a b (Some link) new found s is = subst Sound (sym is) (record {
-  balance = noted_owes w (λ id. 0) (λ id. 0) (LinkUp link.lower link.upper ∷ []) refl (λ id. refl) s.balance;
-  rest = link_set w link true (found_contained (joins a b) w.plan.links link found) s.rest;
-})
-
 lost : (w : WorldView) (item : Item) → Owes w (λ id. times_in id (item ∷ [])) → HasRest w → Sound (item_lost w item)
 lost w (Control frame) owes r = record { balance = owes; rest = r }
 lost w (Data id frame) owes r = record {
   balance = noted_owes w (λ i. times_in i (Data id frame ∷ [])) (λ i. 0) (Dropped id cause.Lost ∷ []) refl (λ i. omega arith) owes;
   rest = r;
 }
-
-loses : (w : WorldView) (t port : ℕ) (items : List Item) (new : WorldView) → out_of w t port ≡ items → Sound w → Loses w t port items new → Sound new
-loses w t port [] new is s gone = absurd gone
-loses w t port (item ∷ items) new is s gone = subst Sound (sym gone)
-    (lost (record w { out = set w.out (port_index w.plan.k t port) items }) item
-    (took_out_balance w.plan w.from_hosts w.out w.journal w.begun (λ id. 0) (λ id. times_in id (item ∷ [])) (port_index w.plan.k t port) item items is (λ id. omega arith) s.balance)
-    s.rest)
 
 -- what a step that is not refused may rely on
 passed_over : (b : Bool) (e : StepError) (rest : Option StepError) → (if b then Some e else rest) ≡ None → rest ≡ None
@@ -525,34 +475,45 @@ same_refusal w (event.Repair a b) = refusal_of_same_link (link_between w.plan a.
     refusal_of_same_link : (link : Option Link) → refusal_of_link (record w { steps = w.steps + 1 }) true link ≡ refusal_of_link w true link
     refusal_of_same_link None = refl
     refusal_of_same_link (Some link) = refl
-same_refusal w (event.Lose s port) = refl
-same_refusal w (event.Move h s port) = refl
-same_refusal w (event.Start h) = refl
-same_refusal w (event.Play h frame original raw) = refl
-same_refusal w (event.Retry h) = refl
-same_refusal w (event.Join h group) = refl
-same_refusal w (event.Leave h group) = refl
+same_refusal w happens = refl
 
 module _ (switch : SwitchRule) (manager : ManagerRule) (host : HostRule) (accounts : AccountsForFrames switch) (sends : HostsSendData host) where
-  happens_soundly : (w : WorldView) (happens : Event) (new : WorldView) → refusal_of_event w happens ≡ None → Sound w →
-      Happens switch manager host w happens new → Sound new
-  happens_soundly w (event.Deliver name) new none s happens = delivers switch host accounts sends manager w name new s happens
-  happens_soundly w (event.Tick t) new none s happens = ticks switch host accounts sends w t.0 new s happens
-  happens_soundly w (event.Fail a b) new none s happens = fails w a.0 b.0 (link_between w.plan a.0 b.0) new refl s happens
-  happens_soundly w (event.Repair a b) new none s happens = is_repaired w a.0 b.0 (link_between w.plan a.0 b.0) new refl s happens
-  happens_soundly w (event.Lose t port) new none s happens = loses w t.0 port (out_of w t.0 port) new refl s happens
-  happens_soundly w (event.Move h t port) new none s happens =
-      goes switch host accounts sends w h.0 (record { edge = t; port = port }) (slice_get w.stands h.0) new (moves_to_a_port w h.0 t.0 port t refl none) s happens
-  happens_soundly w (event.Start h) new none s happens = host_turn host sends w h.0 _ _ new s happens
-  happens_soundly w (event.Play h frame original raw) new none s happens = host_plays host sends w h.0 _ new s happens
-  happens_soundly w (event.Retry h) new none s happens = host_turn host sends w h.0 _ _ new s happens
-  happens_soundly w (event.Join h group) new none s happens = host_turn host sends w h.0 _ _ new s happens
-  happens_soundly w (event.Leave h group) new none s happens = host_turn host sends w h.0 _ _ new s happens
+  by_case : (w : WorldView) (happens : Event) (new : WorldView) → refusal_of_event w happens ≡ None → Sound w → Happened switch manager host w happens new →
+      Sound new
+  by_case w happens new none s (FromHost h item items stand is head at comes) = from_host switch host accounts sends w h.0 item items stand new head at s comes
+  by_case w happens new none s (OverLink t port item items u q is head joined comes) =
+      comes_at_switch switch accounts (record w { out = set w.out (port_index w.plan.k t.0 port) items }) u.0 q item new
+      (subst (IsPort w.plan.k) joined (peer_is_port w.plan t.0 port s.rest.is_plan)).1
+      (head_is_item w.out (port_index w.plan.k t.0 port) item items head s.balance.port_items) (took_out w t.0 port item items head s) s.rest comes
+  by_case w happens new none s (OutOfPort t port item items is head joined comes) =
+      comes_out host sends (record w { out = set w.out (port_index w.plan.k t.0 port) items }) t.0 port item new
+          (took_out w t.0 port item items head s) s.rest comes
+  by_case w happens new none s (Reported t told items is head turn) =
+      manager_turn manager (record w { to_manager = set w.to_manager t.0 items }) t.0 told new
+      (record { balance = s.balance; rest = told_rest w.to_manager _ (length-set w.to_manager t.0 _) s.rest }) turn
+  by_case w happens new none s (Ordered t says items is head turn) =
+      switch_turn switch accounts (record w { from_manager = set w.from_manager t.0 items }) t.0 (Says says) Silent new refl (λ v size. tt)
+      s.balance (says_rest w.from_manager _ (length-set w.from_manager t.0 _) s.rest) turn
+  by_case w happens new none s (Ticked t is turn) =
+      switch_turn switch accounts (record w { heard = heard_after_tick t.0 w.stands w.heard }) t.0 Tick Silent new refl (λ v size. tt)
+      s.balance (heard_rest w _ (ticked_heard t.0 w.stands w.heard) s.rest) turn
+  by_case w happens new none s (Failed a b link is found failed) = fails w a.0 b.0 (Some link) new found s failed
+  by_case w happens new none s (Repaired a b link is found repaired) = subst Sound (sym repaired) (record {
+    balance = noted_owes w (λ id. 0) (λ id. 0) (LinkUp link.lower link.upper ∷ []) refl (λ id. refl) s.balance;
+    rest = link_set w link true (found_contained (joins a.0 b.0) w.plan.links link found) s.rest;
+  })
+  by_case w happens new none s (Lost t port item items is head gone) =
+      subst Sound (sym gone) (lost (record w { out = set w.out (port_index w.plan.k t.0 port) items }) item (took_out w t.0 port item items head s) s.rest)
+  by_case w happens new none s (Departed h t port from is at turn) =
+      goes switch host accounts sends w h.0 (record { edge = t; port = port }) from new
+          (moves_to_a_port w h.0 t.0 port t refl (subst (λ e. refusal_of_event w e ≡ None) is none)) s turn
+  by_case w happens new none s (PlayedFrame h input skip is turn) = host_plays host sends w h.0 input new s (record { skip = skip; turn = turn })
+  by_case w happens new none s (Asked h input is turn) = host_turn host sends w h.0 input _ new s turn
 
   -- a step keeps the count
   pub step_is_counted : (old : WorldView) (happens : Event) (new : WorldView) → IsCounted old → refusal old happens ≡ None →
       WorldStep switch manager host old happens new → IsCounted new
   step_is_counted old happens new is none step =
       let s = sound old is in
-      counted new (happens_soundly (record old { steps = old.steps + 1 }) happens new (same_refusal old happens ∙ event_is_not_refused old happens none)
-      (record { balance = s.balance; rest = s.rest }) step)
+      counted new (by_case (record old { steps = old.steps + 1 }) happens new (same_refusal old happens ∙ event_is_not_refused old happens none)
+      (record { balance = s.balance; rest = s.rest }) (happened switch manager host (record old { steps = old.steps + 1 }) happens new step))

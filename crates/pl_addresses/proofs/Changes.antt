@@ -2,6 +2,7 @@
 use Rattle.std.proofs.Common.{◌≡◌, ◌≤◌, ℕ, true, false, List, [], ◌∷◌, ◌++◌, Option, Some, sym, ap, subst, ◌∙◌, inl, inr, le_refl}
 use Rattle.std.specs.List.{AllByRecursion, list_any}
 use Rattle.std.proofs.lemmas.Option.{same_Some}
+use Rattle.pl_lemmas.proofs.Lists.{all_append}
 use Rattle.pl_frame.specs.declared.address.Ip4.{Ip4}
 use Rattle.pl_frame.specs.declared.address.Mac.{Mac}
 use Rattle.pl_pmac.specs.declared.pmac.Pmac.{Pmac}
@@ -12,7 +13,6 @@ use Rattle.pl_logic.specs.declared.messages.ToSwitch.{ToSwitch}
 use Rattle.pl_logic.specs.declared.messages.ToSwitch.TheVariants as say
 use Rattle.pl_logic.specs.declared.switch_records.Grant.{Grant}
 use Rattle.pl_logic.specs.ManagerViews.{Registration}
-use Rattle.pl_switch_rule.proofs.StepParts.{all_append}
 use Rattle.pl_addresses.specs.Registries.{Leads, Registry}
 use Rattle.pl_addresses.specs.EdgeAddresses.{Edge, IsGoodEdge, IsGoodGrant, IsGoodOrder, IsGoodWord, KeepsGrantees, recalls, tells, tells_ip}
 use Rattle.pl_addresses.proofs.Words.{any_before, any_rest, is_or_other}

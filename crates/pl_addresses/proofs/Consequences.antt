@@ -4,6 +4,7 @@ use Rattle.std.specs.List.{AllByRecursion, list_any}
 use Rattle.std.specs.Option.{option_map}
 use Rattle.std.proofs.lemmas.Bool.{false≢true}
 use Rattle.std.proofs.lemmas.Option.{slice_get-get_or}
+use Rattle.pl_lemmas.proofs.Lists.{all_found}
 use Rattle.pl_frame.specs.declared.address.Mac.{Mac}
 use Rattle.pl_logic.specs.declared.messages.ToSwitch.TheVariants as say
 use Rattle.pl_pmac.specs.declared.pmac.Pmac.{Pmac}
@@ -16,14 +17,13 @@ use Rattle.pl_world.specs.declared.stand.Stand.{Stand}
 use Rattle.pl_world.specs.Booting.{me_of}
 use Rattle.pl_world.specs.Worlds.{WorldView}
 use Rattle.pl_switch_rule.specs.Granting.{granted, is_local}
+use Rattle.pl_switch_rule.proofs.Grants.{granted_parts}
 use Rattle.pl_addresses.specs.Addressed.{AreApart, IsAddressed, IsGrantedBySome}
 use Rattle.pl_addresses.specs.Registered.{IsRegisteredWithIp, IsServed}
 use Rattle.pl_addresses.specs.EdgeAddresses.{IsGoodGrant, IsGoodOrder, IsGoodRecall, is_live, recalls, tells, tells_ip}
 use Rattle.pl_addresses.specs.OwnAddresses.{own_ip}
 use Rattle.pl_addresses.specs.Registries.{Leads, Registry, number_of, registry_of}
 use Rattle.pl_addresses.specs.Standing.{IsStanding, LeadsHost}
-use Rattle.pl_addresses.proofs.Turns.{all_here}
-use Rattle.pl_addresses.proofs.Numbers.{granted_parts}
 
 live_at : (v : SwitchView) (x : Pmac) → is_live v x ≡ true → is_local v x ≡ true
 live_at v x live = by (granted v x) refl live
@@ -93,7 +93,7 @@ served_is_registered w a h host stand v is stands at up down served = by (regist
 
 -- each item of a list
 contained : {X : Type 0} (P : X → Type 0) (xs : List X) (x : X) → AllByRecursion P xs → Contains xs x → P x
-contained P xs x all there = all_here P xs there.0 x all (slice_get-get_or xs there.0 x there.1 ∙ ap Some there.2)
+contained P xs x all there = all_found P xs there.0 x all (slice_get-get_or xs there.0 x there.1 ∙ ap Some there.2)
 
 -- a trap that stands leads to a newer address
 pub standing_leads : (w : WorldView) → IsAddressed w → (s : ℕ) (v : SwitchView) (old new : Pmac) (number : ℕ) → slice_get w.switches s ≡ Some v →

@@ -8,18 +8,17 @@ use Rattle.pl_frame.specs.declared.address.Mac.{Mac}
 use Rattle.pl_frame.specs.declared.address.SwitchId.{SwitchId}
 use Rattle.pl_pmac.specs.declared.pmac.Pmac.{Pmac}
 use Rattle.pl_layouts.specs.Equality.{same_mac, same_pmac}
+use Rattle.pl_layouts.proofs.Sameness.{mac_is, pmac_is}
 use Rattle.pl_logic.specs.declared.messages.ToManager.{ToManager}
 use Rattle.pl_logic.specs.declared.messages.ToManager.TheVariants as tell
 use Rattle.pl_logic.specs.declared.messages.ToSwitch.{ToSwitch}
 use Rattle.pl_logic.specs.declared.switch_records.Grant.{Grant}
 use Rattle.pl_logic.specs.ManagerViews.{Registration}
-use Rattle.pl_manager_rule.proofs.Kept.{pmac_is}
 use Rattle.pl_addresses.specs.OwnAddresses.{IsOwn}
 use Rattle.pl_addresses.specs.Registries.{IsGoodRegistry, Registry}
 use Rattle.pl_addresses.specs.EdgeAddresses.{Edge, IsGoodEdge, IsGoodOrder, IsGoodWord, IsRegisteredHere, recalls, tells, tells_ip}
 use Rattle.pl_addresses.proofs.Changes.{KeepsRegistered, leads_kept}
 use Rattle.pl_addresses.proofs.Registering.{HearsAgain, HearsIp, HearsNew, new_or_old}
-use Rattle.pl_addresses.proofs.Words.{mac_is}
 
 -- what waits to the manager, once a word was taken: what is missing is known
 pub record IsTakenFrom (own : Mac → Option Ip4) (n : Registry) (e : Edge) (up : List ToManager) : Type 0 where

@@ -4,6 +4,7 @@ use Rattle.std.specs.List.{AllByRecursion}
 use Rattle.std.proofs.lemmas.Bool.{false≢true}
 use Rattle.std.proofs.lemmas.List.Elements.{Contains-append_left, Contains-push}
 use Rattle.std.proofs.lemmas.Option.{slice_get_within}
+use Rattle.pl_lemmas.proofs.Lists.{all_found}
 use Rattle.pl_wiring.specs.declared.label.SwitchNo.{SwitchNo}
 use Rattle.pl_wiring.specs.declared.link.Peer.TheVariants.{Switch}
 use Rattle.pl_wiring.specs.Index.{port_index}
@@ -23,9 +24,9 @@ use Rattle.pl_journal.specs.declared.cause.Cause.{Cause}
 use Rattle.pl_journal.specs.declared.cause.Cause.TheVariants as cause
 use Rattle.pl_manager_rule.specs.ManagerRule.{manager_rule}
 use Rattle.pl_queues.specs.Queues.{items_at}
+use Rattle.pl_queues.proofs.Items.{all_items_at}
 use Rattle.pl_switch_rule.specs.Granting.{sender_ip}
 use Rattle.pl_switch_rule.specs.SwitchRule.{Loose, switch_step}
-use Rattle.pl_switch_rule.proofs.Shapes.{all_or}
 use Rattle.pl_world.specs.declared.event.Event.{Event}
 use Rattle.pl_world.specs.declared.item.Item.{Item}
 use Rattle.pl_world.specs.declared.item.Item.TheVariants.{Control, Data}
@@ -50,7 +51,7 @@ use Rattle.pl_addresses.proofs.OwnHosts.{own_frame, shorter_own}
 use Rattle.pl_addresses.proofs.SwitchSteps.{Brings, IsOfHost, brings_frame, brings_order, brings_tick}
 use Rattle.pl_addresses.proofs.TurnQueues.{Parts, one_quiet, parts_of}
 use Rattle.pl_addresses.proofs.Entries.{IsQuietEntry, quiet_ends, quiet_times}
-use Rattle.pl_addresses.proofs.Turns.{InOrder, all_here, delivers_to_manager, exists_at, filled_within, host_turn, switch_turn}
+use Rattle.pl_addresses.proofs.Turns.{InOrder, delivers_to_manager, exists_at, filled_within, host_turn, switch_turn}
 
 -- what is known of the forms of a world
 pub record Facts (w : WorldView) : Type 0 where
@@ -80,10 +81,6 @@ facts_of w is = record {
   host_items = is.in_host_queues;
   port_items = is.in_port_queues;
 }
-
--- all items at a place
-all_at : {X : Type 0} (P : X → Type 0) (queues : List (List X)) (i : ℕ) → AllByRecursion (AllByRecursion P) queues → AllByRecursion P (items_at queues i)
-all_at P queues i all = all_or (AllByRecursion P) queues i [] all tt
 
 -- ---- what is written besides
 abbrev SameParts : WorldView → WorldView → Type 0
@@ -133,14 +130,14 @@ module _ (first : List SwitchView) where
         ComesAtSwitch Loose (heard_item (record w { from_hosts = set w.from_hosts h items }) h item) stand.edge.0 stand.port item new →
         InOrder first (parts_of new)
     from_host h (Control frame) items stand new head apart is comes =
-        absurd (subst (λ (xs : List Item). AllByRecursion IsDataItem xs) head (all_at IsDataItem w.from_hosts h f.host_items)).0
+        absurd (subst (λ (xs : List Item). AllByRecursion IsDataItem xs) head (all_items_at IsDataItem w.from_hosts h f.host_items)).0
     from_host h (Data id frame) items stand new head apart is comes =
         let within : h < length w.from_hosts = filled_within w.from_hosts h (Data id frame) items head in
         let view = exists_at w.hosts h (subst (λ n. h < n) f.froms within) in
         let host = exists_at w.plan.hosts h (subst (λ n. h < n) (f.froms ∙ f.hosts) within) in
         let those = o.own h host.0 view.0 host.1 view.1 in
         let mine = (subst (λ (xs : List Item). AllByRecursion (IsOwnItem (me_of host.0)) xs) head those.sends).0 in
-        let frames = (subst (λ (xs : List Item). AllByRecursion IsDataItem xs) head (all_at IsDataItem w.from_hosts h f.host_items)).0 in
+        let frames = (subst (λ (xs : List Item). AllByRecursion IsDataItem xs) head (all_items_at IsDataItem w.from_hosts h f.host_items)).0 in
         let popped : WorldView = record w { from_hosts = set w.from_hosts h items } in
         let order : InOrder first (parts_of popped) = record {
           addressed = o.addressed;
@@ -150,8 +147,8 @@ module _ (first : List SwitchView) where
         } in
         comes_at (heard_item popped h (Data id frame)) stand.edge.0 stand.port (Data id frame) new order f.ups apart frames
         (λ n bytes same v found host_port. record {
-          within = subst (λ n. stand.port < n) (sym (all_here (λ (v : SwitchView). v.k ≡ w.plan.k) w.switches stand.edge.0 v f.ports found))
-              (all_here (IsAtPort w.plan.k) w.stands h stand f.at_ports is).port;
+          within = subst (λ n. stand.port < n) (sym (all_found (λ (v : SwitchView). v.k ≡ w.plan.k) w.switches stand.edge.0 v f.ports found))
+              (all_found (IsAtPort w.plan.k) w.stands h stand f.at_ports is).port;
           own_ip = subst (λ (b : List ℕ). IsOwn (λ mac. own_ip w.plan mac) (source_of b) (sender_ip b)) (ap bytes_of same)
               (own_frame w.plan f.plan h host.0 host.1 frame mine);
         }) comes
@@ -184,7 +181,7 @@ module _ (first : List SwitchView) where
           peer_of w.plan s port ≡ Switch to q → ComesAtSwitch Loose (record w { out = set w.out (port_index w.plan.k s port) items }) to.0 q item new →
           InOrder first (parts_of new)
       over_link s port q item items to new head know apart peer comes =
-          let all = (subst (λ (xs : List Item). AllByRecursion IsItem xs) head (all_at IsItem w.out (port_index w.plan.k s port) f.port_items)).0 in
+          let all = (subst (λ (xs : List Item). AllByRecursion IsItem xs) head (all_items_at IsItem w.out (port_index w.plan.k s port) f.port_items)).0 in
           comes_at (record w { out = set w.out (port_index w.plan.k s port) items }) to.0 q item new
               (record { addressed = o.addressed; own = o.own; since = o.since; once = o.once }) f.ups apart all
           (λ id frame same v found host_port.

@@ -11,6 +11,7 @@ use Rattle.pl_pmac.specs.declared.pmac.Pmac.{Pmac}
 use Rattle.pl_layouts.specs.declared.place.Place.{Place}
 use Rattle.pl_layouts.specs.Equality.{is_ip, same_mac, same_pmac}
 use Rattle.pl_layouts.specs.Placement.{is_known, is_placed}
+use Rattle.pl_layouts.proofs.Sameness.{mac_is, pmac_itself}
 use Rattle.pl_logic.specs.declared.acts.Act.TheVariants as act
 use Rattle.pl_logic.specs.declared.messages.ToManager.{ToManager}
 use Rattle.pl_logic.specs.declared.messages.ToManager.TheVariants as tell
@@ -18,15 +19,15 @@ use Rattle.pl_logic.specs.declared.messages.ToSwitch.{ToSwitch}
 use Rattle.pl_logic.specs.declared.switch_records.Grant.{Grant}
 use Rattle.pl_logic.specs.declared.switch_records.Source.{Source}
 use Rattle.pl_logic.specs.SwitchViews.{SwitchView}
-use Rattle.pl_manager_rule.proofs.Kept.{pmac_itself}
 use Rattle.pl_steps.specs.Steps.{SwitchStep, rests, ◌▹◌}
 use Rattle.pl_switch_rule.specs.Granting.{address_at_port, forgets, grant_number, granted, grants_at, grants_next, grants_or_learns, grants_remembered, grants_source, in_use, is_local, is_port_spent, learns_ip, learns_source, new_grant, or_else, remembered_at, remembered_ip, remembers, sender_ip, with_grant, with_grants}
+use Rattle.pl_switch_rule.proofs.Grants.{granted_parts}
 use Rattle.pl_addresses.specs.OwnAddresses.{IsOwn}
 use Rattle.pl_addresses.specs.Registries.{Registry}
 use Rattle.pl_addresses.specs.EdgeAddresses.{IsGoodBook, edge_of, is_settled, tells, tells_ip}
-use Rattle.pl_addresses.proofs.Words.{any_before, any_behind, mac_is}
+use Rattle.pl_addresses.proofs.Words.{any_before, any_behind}
 use Rattle.pl_addresses.proofs.Changes.{changed, keeps_grantees}
-use Rattle.pl_addresses.proofs.Numbers.{IsInUse, granted_here, granted_parts, local_here, none_used, now_at, number_past, number_push_other, number_push_same, number_set_other, number_set_same, number_within, others_at, used_is}
+use Rattle.pl_addresses.proofs.Numbers.{IsInUse, granted_here, local_here, none_used, now_at, number_past, number_push_other, number_push_same, number_set_other, number_set_same, number_within, others_at, used_is}
 use Rattle.pl_addresses.proofs.Rows.{Good, Grows, Keeps, keeps_either, keeps_then, rests_keeps}
 
 -- ---- the lists of a switch

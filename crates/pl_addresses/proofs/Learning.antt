@@ -4,11 +4,13 @@ use Rattle.std.specs.List.{AllByRecursion, list_any, position}
 use Rattle.std.specs.Option.{option_or}
 use Rattle.std.proofs.lemmas.Bool.{cases_Bool, cases_eq}
 use Rattle.std.proofs.lemmas.Option.{none-some, same_Some, slice_get_within}
+use Rattle.pl_lemmas.proofs.Lists.{all_append}
 use Rattle.pl_frame.specs.declared.address.Ip4.{Ip4}
 use Rattle.pl_frame.specs.declared.address.Mac.{Mac}
 use Rattle.pl_frame.specs.declared.address.SwitchId.{SwitchId}
 use Rattle.pl_pmac.specs.declared.pmac.Pmac.{Pmac}
 use Rattle.pl_layouts.specs.Equality.{same_pmac, same_switch}
+use Rattle.pl_layouts.proofs.Sameness.{pmac_itself}
 use Rattle.pl_logic.specs.declared.acts.ManagerAct.{ManagerAct}
 use Rattle.pl_logic.specs.declared.acts.ManagerAct.TheVariants.{Number, Say}
 use Rattle.pl_logic.specs.declared.messages.ToManager.{ToManager}
@@ -22,10 +24,9 @@ use Rattle.pl_logic.specs.ManagerViews.{Learnt, ManagerView, Registration, Told,
 use Rattle.pl_logic.specs.SwitchViews.{SwitchView}
 use Rattle.pl_manager_rule.specs.Histories.{Word, known}
 use Rattle.pl_manager_rule.specs.ManagerRule.{answer_to, avoid_acts, changed, changed_of_group, invalidation, learning, manager_hears, part_in, tree_acts, tree_acts_of, view_after}
-use Rattle.pl_manager_rule.proofs.Kept.{pmac_itself}
 use Rattle.pl_queues.specs.Queues.{items_at}
 use Rattle.pl_switch_rule.specs.Granting.{granted, is_local}
-use Rattle.pl_switch_rule.proofs.StepParts.{all_append}
+use Rattle.pl_switch_rule.proofs.Grants.{granted_parts}
 use Rattle.pl_wiring.specs.Plan.{IsPlan, Plan}
 use Rattle.pl_addresses.specs.OwnAddresses.{IsOwn, own_ip}
 use Rattle.pl_addresses.specs.Registries.{IsGoodRegistry, Registry, registry_of}
@@ -33,7 +34,6 @@ use Rattle.pl_addresses.specs.EdgeAddresses.{Edge, IsGoodEdge, IsGoodOrder, IsGo
 use Rattle.pl_addresses.specs.Addressed.{AreAddressed, AreApart}
 use Rattle.pl_addresses.proofs.Changes.{KeepsRegistered, orders_kept}
 use Rattle.pl_addresses.proofs.EdgeHears.{IsTakenFrom, again_current, again_here, heard_good, new_current, nothing_taken, word_taken}
-use Rattle.pl_addresses.proofs.Numbers.{granted_parts}
 use Rattle.pl_addresses.proofs.Registering.{HearsAgain, HearsIp, HearsNew, again, again_good, again_grows, first, hears_ip, new_good, new_grows, new_or_old}
 use Rattle.pl_addresses.proofs.Saying.{Extra, IsSaid, all_said, place_is, place_only, said_at, said_extra, said_flat_map, said_map, said_stays}
 use Rattle.pl_addresses.proofs.Words.{any_before, any_behind, any_rest}

@@ -6,8 +6,8 @@ use Rattle.std.proofs.lemmas.Option.{none-some, same_Some}
 use Rattle.pl_frame.specs.declared.address.Mac.{Mac}
 use Rattle.pl_pmac.specs.declared.pmac.Pmac.{Pmac}
 use Rattle.pl_layouts.specs.Equality.{same_mac, same_pmac}
+use Rattle.pl_layouts.proofs.Sameness.{mac_itself}
 use Rattle.pl_logic.specs.ManagerViews.{LearntAddress, Registration, numbered}
-use Rattle.pl_addresses.proofs.Words.{mac_itself}
 
 abbrev at : List Registration → Pmac → Option Registration
 at rs x = find (λ r. same_pmac r.pmac x) rs

@@ -8,11 +8,13 @@ use Rattle.pl_pmac.specs.declared.pmac.Pmac.{Pmac}
 use Rattle.pl_layouts.specs.declared.place.Place.{Place}
 use Rattle.pl_layouts.specs.Equality.{same_mac, same_pmac}
 use Rattle.pl_layouts.specs.Placement.{is_known, is_placed}
+use Rattle.pl_layouts.proofs.Known.{known_is}
+use Rattle.pl_layouts.proofs.Sameness.{mac_is, mac_itself}
 use Rattle.pl_logic.specs.declared.switch_records.Grant.{Grant}
 use Rattle.pl_logic.specs.SwitchViews.{SwitchView}
 use Rattle.pl_switch_rule.specs.Granting.{address_at_port, grant_number, granted, grants_at, in_use, is_local, with_grants}
 use Rattle.pl_addresses.specs.EdgeAddresses.{is_settled}
-use Rattle.pl_addresses.proofs.Words.{get-set_other, get-set_same, mac_is, mac_itself, same_by}
+use Rattle.pl_addresses.proofs.Words.{get-set_other, get-set_same, same_by}
 
 -- ---- by number
 number_one_more : (gs : List Grant) (n : ℕ) → grant_number gs (suc n) ≡ slice_get gs n
@@ -128,9 +130,6 @@ none_used gs mac h (suc n) g is used same =
     false≢true (sym fails ∙ and_from g.in_use (same_mac g.amac mac) used (subst (λ (m : Mac). same_mac g.amac m ≡ true) same (mac_itself g.amac)))
 
 -- ---- places
-pub known_is : (o : Option ℕ) (n : ℕ) → is_known o n ≡ true → o ≡ Some n
-known_is None n h = absurd (false≢true h)
-known_is (Some m) n h = ap Some (eqb-true m n h)
 
 pub known_same : (o : Option ℕ) (m n : ℕ) → is_known o m ≡ true → is_known o n ≡ true → m ≡ n
 known_same o m n a b = same_Some m n (sym (known_is o m a) ∙ known_is o n b)
@@ -182,12 +181,6 @@ local_here v port vmid h =
     (known_own v.place.pod s.pod) (known_own v.place.position s.position))
 
 -- ---- by address
-cond_some : {X : Type 0} (b : Bool) (o : Option X) (x : X) → cond b o None ≡ Some x → (b ≡ true) × (o ≡ Some x)
-cond_some true o x h = (refl, h)
-cond_some false o x h = absurd (none-some x h)
-
-pub granted_parts : (v : SwitchView) (x : Pmac) (g : Grant) → granted v x ≡ Some g → (is_local v x ≡ true) × (grant_number (grants_at v x.port) x.vmid ≡ Some g)
-granted_parts v x g h = cond_some (is_local v x) (grant_number (grants_at v x.port) x.vmid) g h
 
 pub granted_here : (v : SwitchView) (x : Pmac) → is_local v x ≡ true → granted v x ≡ grant_number (grants_at v x.port) x.vmid
 granted_here v x h = ap (λ b. cond b (grant_number (grants_at v x.port) x.vmid) None) h

@@ -5,6 +5,7 @@ use Rattle.std.specs.Option.{option_map}
 use Rattle.std.proofs.lemmas.Bool.{and_parts, cases_eq, eqb-true}
 use Rattle.std.proofs.lemmas.Map.Keys.{any_passes_from_place}
 use Rattle.std.proofs.lemmas.Option.{none-some, same_Some, slice_get_within}
+use Rattle.pl_lemmas.proofs.Lists.{all_append}
 use Rattle.pl_arp.specs.declared.cache.Me.{Me}
 use Rattle.pl_arp.specs.declared.packet.Arp.{Arp}
 use Rattle.pl_arp.specs.Reception.{same_ip}
@@ -12,6 +13,7 @@ use Rattle.pl_frame.specs.declared.address.Ip4.{Ip4}
 use Rattle.pl_frame.specs.Ethernet.{source_of}
 use Rattle.pl_layouts.specs.Equality.{same_mac}
 use Rattle.pl_layouts.specs.Frames.{packet_in}
+use Rattle.pl_layouts.proofs.Sameness.{mac_is, mac_itself}
 use Rattle.pl_wiring.specs.declared.host.Host.{Host}
 use Rattle.pl_wiring.specs.Plan.{IsPlan, Plan}
 use Rattle.pl_logic.specs.declared.acts.HostAct.{HostAct}
@@ -21,14 +23,13 @@ use Rattle.pl_logic.specs.HostInputs.{HostAnswer, HostInput, HostRule}
 use Rattle.pl_logic.specs.HostViews.{HostView}
 use Rattle.pl_queues.specs.Queues.{items_at}
 use Rattle.pl_switch_rule.specs.Granting.{sender_ip}
-use Rattle.pl_switch_rule.proofs.StepParts.{all_append}
 use Rattle.pl_world.specs.declared.item.Item.{Item}
 use Rattle.pl_world.specs.Booting.{me_of}
 use Rattle.pl_addresses.specs.OwnAddresses.{IsOwn, own_ip}
 use Rattle.pl_addresses.specs.OwnFrames.{AreOwnHosts, IsOwnHost, IsOwnItem}
 use Rattle.pl_addresses.proofs.Registering.{found_if_any}
 use Rattle.pl_addresses.proofs.TurnQueues.{all_put, items_sent, put_here, put_there}
-use Rattle.pl_addresses.proofs.Words.{find_passes, find_place, get-set_other, get-set_same, mac_is, mac_itself, one_index}
+use Rattle.pl_addresses.proofs.Words.{find_passes, find_place, get-set_other, get-set_same, one_index}
 
 -- ---- what a frame of a host says of IPv4 addresses
 passes_somewhere : {X : Type 0} (p : X → Bool) (xs : List X) (i : ℕ) (x : X) → slice_get xs i ≡ Some x → p x ≡ true → (y : X) × (find p xs ≡ Some y)

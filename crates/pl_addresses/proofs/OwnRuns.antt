@@ -2,6 +2,7 @@
 use Rattle.std.proofs.Common.{◌≡◌, ◌<◌, ◌+◌, ℕ, set, List, [], ◌∷◌, length, Option, Some, None, refl, sym, ap, subst, ◌∙◌, length-set}
 use Rattle.std.specs.List.{AllByRecursion}
 use Rattle.std.proofs.lemmas.Option.{slice_get_within}
+use Rattle.pl_lemmas.proofs.Lists.{all_found}
 use Rattle.pl_wiring.specs.Index.{port_index}
 use Rattle.pl_wiring.specs.Plan.{Plan}
 use Rattle.pl_logic.specs.Accounting.{AccountsForFrames}
@@ -36,7 +37,7 @@ use Rattle.pl_addresses.specs.OwnFrames.{AreOwnHosts, HostsAreOwn}
 use Rattle.pl_addresses.proofs.OwnHosts.{host_step_own, shorter_own}
 use Rattle.pl_addresses.proofs.Runs.{boots_in_order}
 use Rattle.pl_addresses.proofs.TurnQueues.{Parts, host_parts}
-use Rattle.pl_addresses.proofs.Turns.{all_here, filled_within}
+use Rattle.pl_addresses.proofs.Turns.{filled_within}
 
 -- of hosts alone: what stays where their part stays
 pub record HostsPart : Type 0 where
@@ -64,7 +65,7 @@ module _ (switch : SwitchRule) (manager : ManagerRule) (rule : HostRule) (sends 
       subst (λ (p : HostsPart). OwnPart p)
       (sym (ap hosts_of turn.changed ∙ ap part (host_parts h (record w { hosts = set w.hosts h turn.after }) turn.acts)))
       (host_step_own rule sends owns w.plan w.hosts w.from_hosts h w.begun turn.before turn.after input turn.acts answer turn.found
-      (all_here HoldsData w.hosts h turn.before holding turn.found) within turn.ruled o)
+      (all_found HoldsData w.hosts h turn.before holding turn.found) within turn.ruled o)
 
   -- what leaves hosts and what they sent as they are, before a turn
   still : (w mid : WorldView) → hosts_of mid ≡ hosts_of w → HostsAreOwn w → HostsAreOwn mid

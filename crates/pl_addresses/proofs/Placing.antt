@@ -19,12 +19,13 @@ use Rattle.pl_layouts.specs.declared.place.Place.{Place}
 use Rattle.pl_layouts.specs.Placement.{is_known, is_placed}
 use Rattle.pl_layouts.specs.Votes.{counts, gives_way}
 use Rattle.pl_steps.specs.Steps.{SwitchStep, does, rests, ◌▹◌}
-use Rattle.pl_switch_rule.specs.Granting.{grant_number, granted, grants_at, grants_remembered, is_local}
+use Rattle.pl_switch_rule.specs.Granting.{granted, grants_at, grants_remembered, is_local}
 use Rattle.pl_switch_rule.specs.Levels.{after_message, becomes_edge, changes_to, has_become_placed, learns_level, learns_pod, level_after, notes_edge, pod_after, is_of_other_pod, pod_told_before, settles_in, share_a_pod, with_message, with_pod}
 use Rattle.pl_switch_rule.specs.Messages.{takes_pod}
 use Rattle.pl_switch_rule.specs.Positions.{after_vote, counted, fixes_position, frees_others, half, marks, moves_on, notes_position, with_granted}
 use Rattle.pl_switch_rule.specs.Telling.{changes_told}
 use Rattle.pl_switch_rule.proofs.Shapes.{all_range}
+use Rattle.pl_switch_rule.proofs.Grants.{none_granted}
 use Rattle.pl_addresses.specs.Registries.{Registry}
 use Rattle.pl_addresses.specs.EdgeAddresses.{KeepsGrantees, is_settled}
 use Rattle.pl_addresses.proofs.Asides.{changes_silent}
@@ -46,15 +47,6 @@ pub record IsPlacing (v w : SwitchView) : Type 0 where
 
 abbrev pub IsUnknown : Registry → SwitchView → Place → Type 0
 IsUnknown r v place = is_settled v.place ≡ false → (x : Pmac) → has_place place x ≡ true → r.at x ≡ None
-
--- nothing is granted in an empty list
-none_of_empty : (gs : List Grant) (n : ℕ) → gs ≡ [] → grant_number gs n ≡ None
-none_of_empty gs n is = ap (λ (l : List Grant). grant_number l n) is ∙ cond_both (n == 0) None None (λ o. ◌≡◌ {A = Option Grant} o None) (λ h. refl) (λ h. refl)
-
-none_granted : (v : SwitchView) (x : Pmac) → grants_at v x.port ≡ [] → granted v x ≡ None
-none_granted v x is =
-    cond_both (is_local v x) (grant_number (grants_at v x.port) x.vmid) None (λ o. ◌≡◌ {A = Option Grant} o None)
-    (λ h. none_of_empty (grants_at v x.port) x.vmid is) (λ h. refl)
 
 module _ (own : Mac → Option Ip4) (r : Registry) (id : Option SwitchId) (down : List ToSwitch) where
   new_place : (v w : SwitchView) (up : List ToManager) → IsPlacing v w → is_settled v.place ≡ false → ((x : Pmac) → is_local w x ≡ true → r.at x ≡ None) →

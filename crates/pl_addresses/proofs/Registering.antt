@@ -9,15 +9,15 @@ use Rattle.pl_frame.specs.declared.address.Mac.{Mac}
 use Rattle.pl_frame.specs.declared.address.SwitchId.{SwitchId}
 use Rattle.pl_pmac.specs.declared.pmac.Pmac.{Pmac}
 use Rattle.pl_layouts.specs.Equality.{same_mac, same_pmac}
+use Rattle.pl_layouts.proofs.Sameness.{mac_is, mac_itself, pmac_is, pmac_itself}
 use Rattle.pl_logic.specs.declared.messages.ToManager.TheVariants as tell
 use Rattle.pl_logic.specs.ManagerViews.{Learnt, Registration, ip_of, registry}
 use Rattle.pl_manager_rule.specs.Histories.{Word, known, registered_after}
 use Rattle.pl_manager_rule.proofs.History.{ips_said, registrations_are_told}
-use Rattle.pl_manager_rule.proofs.Kept.{pmac_is, pmac_itself}
 use Rattle.pl_addresses.specs.OwnAddresses.{IsOwn}
 use Rattle.pl_addresses.specs.Registries.{IsGoodRegistry, Registry, registry_of}
 use Rattle.pl_addresses.proofs.Changes.{KeepsRegistered}
-use Rattle.pl_addresses.proofs.Words.{is_or_other, mac_is, mac_itself}
+use Rattle.pl_addresses.proofs.Words.{is_or_other}
 
 -- ---- lists
 module _ {X : Type 0} (p : X → Bool) where

@@ -3,6 +3,7 @@ use Rattle.std.proofs.Common.{◌≡◌, ◌≤◌, ◌+◌, ℕ, arith, inl, in
 use Rattle.std.specs.List.{AllByRecursion}
 use Rattle.std.proofs.lemmas.Bool.{cases_Bool, cases_lt}
 use Rattle.std.proofs.lemmas.Option.{none-some}
+use Rattle.pl_lemmas.proofs.Lists.{all_append}
 use Rattle.pl_frame.specs.declared.address.Ip4.{Ip4}
 use Rattle.pl_frame.specs.declared.address.Mac.{Mac}
 use Rattle.pl_frame.specs.declared.address.SwitchId.{SwitchId}
@@ -17,10 +18,9 @@ use Rattle.pl_logic.specs.SwitchViews.{SwitchView}
 use Rattle.pl_layouts.specs.declared.place.Place.{Place}
 use Rattle.pl_pmac.specs.declared.pmac.Pmac.{Pmac}
 use Rattle.pl_layouts.specs.Equality.{same_pmac}
-use Rattle.pl_manager_rule.proofs.Kept.{pmac_is}
+use Rattle.pl_layouts.proofs.Sameness.{pmac_is}
 use Rattle.pl_steps.specs.Steps.{SwitchStep, does, rests, ◌▹◌}
 use Rattle.pl_switch_rule.specs.Granting.{granted}
-use Rattle.pl_switch_rule.proofs.StepParts.{all_append}
 use Rattle.pl_addresses.specs.Registries.{Registry}
 use Rattle.pl_addresses.specs.EdgeAddresses.{Edge, IsGoodBook, IsGoodEdge, IsGoodWord, IsGrantedTo, KeepsGrantees, edge_of, is_settled}
 use Rattle.pl_addresses.proofs.Changes.{tells_more}

@@ -1,8 +1,9 @@
 -- Addresses are in order at boot, and so in every run.
-use Rattle.std.proofs.Common.{◌≡◌, ◌<◌, ◌+◌, ◌^◌, ℕ, zero, suc, List, [], ◌∷◌, ◌++◌, length, map, replicate, get_or, Option, Some, None, slice_get, refl, sym, ap, subst, ◌∙◌, inl, inr, ◌≤◌, arith}
+use Rattle.std.proofs.Common.{◌≡◌, ◌<◌, ◌+◌, ◌^◌, ℕ, zero, suc, List, [], ◌∷◌, ◌++◌, length, replicate, get_or, Option, Some, None, slice_get, refl, sym, ap, subst, ◌∙◌, inl, inr, ◌≤◌, arith}
 use Rattle.std.specs.List.{AllByRecursion}
 use Rattle.std.proofs.lemmas.List.{length-replicate}
 use Rattle.std.proofs.lemmas.Option.{get_or_from_slice_get, none-some, same_Some, slice_get_within}
+use Rattle.pl_lemmas.proofs.Lists.{from_map, replicated_none}
 use Rattle.pl_frame.specs.declared.address.Ip4.{Ip4}
 use Rattle.pl_frame.specs.declared.address.Mac.{Mac}
 use Rattle.pl_frame.specs.declared.address.SwitchId.{SwitchId}
@@ -48,7 +49,7 @@ use Rattle.pl_addresses.specs.InOrder.{IsInOrder}
 use Rattle.pl_addresses.proofs.Turns.{InOrder}
 
 -- ---- a step, and a run
-mark_quiet : (e : Entry) → IsMark e → IsQuietEntry e
+pub mark_quiet : (e : Entry) → IsMark e → IsQuietEntry e
 mark_quiet (Granted pmac host switch port) is = absurd is
 mark_quiet e is = λ x. refl
 
@@ -85,16 +86,6 @@ nothing_at zero i = refl
 nothing_at (suc n) zero = refl
 nothing_at (suc n) (suc i) = nothing_at n i
 
-none_at : {X : Type 0} (n i : ℕ) → get_or {A = Option X} (replicate n None) i None ≡ None
-none_at zero i = refl
-none_at (suc n) zero = refl
-none_at (suc n) (suc i) = none_at n i
-
-from_map : {X Y : Type 0} (f : X → Y) (xs : List X) (i : ℕ) (y : Y) → slice_get (map f xs) i ≡ Some y → (x : X) × (slice_get xs i ≡ Some x) × (f x ≡ y)
-from_map f [] i y is = absurd (none-some y is)
-from_map f (x ∷ xs) zero y is = (x, refl, same_Some (f x) y is)
-from_map f (x ∷ xs) (suc i) y is = from_map f xs i y is
-
 module _ (plan : Plan) (limits : Limits) (is_plan : IsPlan plan) where
   abbrev own : Mac → Option Ip4
   own mac = own_ip plan mac
@@ -115,7 +106,7 @@ module _ (plan : Plan) (limits : Limits) (is_plan : IsPlan plan) where
   first_book id = record {
     many = length-replicate plan.k [];
     empty = λ unsettled port. nothing_at plan.k port;
-    sources = λ port source is. absurd (none-some source (sym (none_at plan.k port) ∙ is));
+    sources = λ port source is. absurd (none-some source (sym (replicated_none plan.k port) ∙ is));
   }
 
   small_ip : (h : ℕ) (host : Host) → slice_get plan.hosts h ≡ Some host → host.ip.0 < 2 ^ 32

@@ -5,6 +5,7 @@ use Rattle.std.proofs.lemmas.Bool.{cases_eq, cases_lt, false≢true}
 use Rattle.std.proofs.lemmas.Iterator.Adapters.{position_from-zero}
 use Rattle.std.proofs.lemmas.List.{get_or_past}
 use Rattle.std.proofs.lemmas.Option.{same_Some}
+use Rattle.pl_lemmas.proofs.Lists.{all_append}
 use Rattle.pl_frame.specs.declared.address.SwitchId.{SwitchId}
 use Rattle.pl_layouts.specs.Equality.{same_switch}
 use Rattle.pl_logic.specs.declared.acts.ManagerAct.{ManagerAct}
@@ -12,7 +13,6 @@ use Rattle.pl_logic.specs.declared.acts.ManagerAct.TheVariants.{Number, Say}
 use Rattle.pl_logic.specs.declared.messages.ToSwitch.{ToSwitch}
 use Rattle.pl_journal.specs.declared.entry.Entry.TheVariants.{Registered}
 use Rattle.pl_queues.specs.Queues.{items_at, put_at}
-use Rattle.pl_switch_rule.proofs.StepParts.{all_append}
 use Rattle.pl_wiring.specs.Plan.{Plan}
 use Rattle.pl_world.specs.Changes.{said_to}
 use Rattle.pl_world.specs.OtherActs.{manager_act_done}

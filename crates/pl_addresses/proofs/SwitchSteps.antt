@@ -23,7 +23,7 @@ use Rattle.pl_layouts.specs.declared.control.ControlError.{ControlError}
 use Rattle.pl_layouts.specs.declared.place.Place.{Place}
 use Rattle.pl_layouts.specs.Control.{control_in, is_control}
 use Rattle.pl_layouts.specs.Placement.{is_known}
-use Rattle.pl_manager_rule.proofs.Kept.{pmac_itself}
+use Rattle.pl_layouts.proofs.Sameness.{pmac_itself}
 use Rattle.pl_steps.specs.Steps.{SwitchStep, does, rests, ◌▹◌}
 use Rattle.pl_switch_rule.specs.Announcing.{ticks}
 use Rattle.pl_switch_rule.specs.Forwarding.{Choice}
@@ -34,13 +34,14 @@ use Rattle.pl_switch_rule.specs.Delivering.{makes}
 use Rattle.pl_switch_rule.specs.Messages.{answer_frame, flood_frame, floods, hears_manager, invalidates, takes_pod}
 use Rattle.pl_switch_rule.specs.Positions.{after_vote}
 use Rattle.pl_switch_rule.specs.SwitchRule.{comes_from_switch, control_comes, data_comes, hears_control, switch_step}
+use Rattle.pl_switch_rule.proofs.Grants.{granted_parts}
 use Rattle.pl_addresses.specs.OwnAddresses.{IsOwn}
 use Rattle.pl_addresses.specs.Registries.{Registry}
 use Rattle.pl_addresses.specs.EdgeAddresses.{IsGoodRecall, edge_of, is_settled, recalls}
 use Rattle.pl_addresses.proofs.Asides.{floods_aside, makes_aside, proposal_aside, switch_frame_aside, takes_in_aside, ticks_aside}
 use Rattle.pl_addresses.proofs.Changes.{takes_order}
 use Rattle.pl_addresses.proofs.Granting.{keeps_learns_source}
-use Rattle.pl_addresses.proofs.Numbers.{granted_parts, number_within}
+use Rattle.pl_addresses.proofs.Numbers.{number_within}
 use Rattle.pl_addresses.proofs.Placing.{IsUnknown, Steps, aside_steps, edge_placing, keeps_changes, keeps_steps, message_placing, pod_placing, steps_changes, steps_either, steps_then, vote_placing}
 use Rattle.pl_addresses.proofs.Rows.{Good, Grows, aside_does, aside_keeps, rests_keeps, told_by}
 use Rattle.pl_addresses.proofs.Trapping.{Invalidated, recall_good}

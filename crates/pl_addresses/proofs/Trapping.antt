@@ -17,13 +17,14 @@ use Rattle.pl_logic.specs.Traps.{newer_trap}
 use Rattle.pl_steps.specs.Steps.{SwitchStep, does, ◌▹◌}
 use Rattle.pl_switch_rule.specs.Granting.{granted, grants_at, with_grants}
 use Rattle.pl_switch_rule.specs.Messages.{forgets_members, invalidates, probes, sets_trap}
+use Rattle.pl_switch_rule.proofs.Grants.{granted_parts}
 use Rattle.pl_addresses.specs.OwnAddresses.{IsOwn}
 use Rattle.pl_addresses.specs.Registries.{Leads, Registry}
 use Rattle.pl_addresses.specs.EdgeAddresses.{IsGoodRecall, KeepsGrantees, edge_of, recalls}
 use Rattle.pl_addresses.proofs.Asides.{forgets_members_aside, probes_aside}
 use Rattle.pl_addresses.proofs.Changes.{changed, keeps_grantees}
 use Rattle.pl_addresses.proofs.Granting.{book_with_grants}
-use Rattle.pl_addresses.proofs.Numbers.{granted_parts, local_settled, now_at, number_set_other, number_set_same, number_within, others_at}
+use Rattle.pl_addresses.proofs.Numbers.{local_settled, now_at, number_set_other, number_set_same, number_within, others_at}
 use Rattle.pl_addresses.proofs.Rows.{Good, Grows, IsAside, aside_keeps, aside_then, grows_aside, grows_from, told_by}
 use Rattle.pl_addresses.proofs.Words.{any_rest, other_turned}
 

@@ -4,6 +4,7 @@ use Rattle.std.specs.List.{AllByRecursion}
 use Rattle.std.proofs.lemmas.Bool.{cases_eq, cases_lt}
 use Rattle.std.proofs.lemmas.List.{get_or_past}
 use Rattle.std.proofs.lemmas.Option.{none-some, same_Some, slice_get_within}
+use Rattle.pl_lemmas.proofs.Lists.{all_found}
 use Rattle.pl_pmac.specs.declared.pmac.Pmac.{Pmac}
 use Rattle.pl_layouts.specs.Equality.{same_pmac}
 use Rattle.pl_world.specs.Changes.{host_of}
@@ -25,6 +26,7 @@ use Rattle.pl_queues.specs.Queues.{items_at}
 use Rattle.pl_switch_rule.specs.Forwarding.{Choice}
 use Rattle.pl_switch_rule.specs.Granting.{granted}
 use Rattle.pl_switch_rule.specs.SwitchRule.{Loose, switch_step}
+use Rattle.pl_switch_rule.proofs.Grants.{granted_parts}
 use Rattle.pl_world.specs.declared.spoken_frame.SpokenFrame.{SpokenFrame}
 use Rattle.pl_world.specs.WorldRule.{DeliversToManager, HostTurn, ManagerTurn, SwitchTurn}
 use Rattle.pl_world.specs.Worlds.{WorldView}
@@ -36,7 +38,6 @@ use Rattle.pl_addresses.specs.GrantedOnce.{HasGranted, IsOnce, times_granted}
 use Rattle.pl_addresses.specs.Addressed.{AreAddressed, AreApart, StayGranted}
 use Rattle.pl_addresses.proofs.Learning.{heard_addressed}
 use Rattle.pl_addresses.proofs.OwnHosts.{host_step_own}
-use Rattle.pl_addresses.proofs.Numbers.{granted_parts}
 use Rattle.pl_addresses.proofs.Placing.{IsUnknown}
 use Rattle.pl_addresses.proofs.Rows.{Good, Grows, IsGrantedThen, grant_acts, some_grant, told_by}
 use Rattle.pl_addresses.proofs.Saying.{all_said, said_parts}
@@ -120,11 +121,6 @@ exists_at [] i h = absurd (omega (arith, h))
 exists_at (x ∷ xs) zero h = (x, refl)
 exists_at (x ∷ xs) (suc i) h = exists_at xs i (omega (arith, h))
 
-pub all_here : {X : Type 0} (P : X → Type 0) (xs : List X) (i : ℕ) (x : X) → AllByRecursion P xs → slice_get xs i ≡ Some x → P x
-all_here P [] i x all is = absurd (none-some x is)
-all_here P (y ∷ xs) zero x all is = subst P (same_Some y x is) all.0
-all_here P (y ∷ xs) (suc i) x all is = all_here P xs i x all.1 is
-
 pub filled_within : {X : Type 0} (queues : List (List X)) (i : ℕ) (x : X) (xs : List X) → items_at queues i ≡ x ∷ xs → i < length queues
 filled_within queues i x xs is = elim (cases_lt i (length queues)) [
   | inl less ↦ less
@@ -204,7 +200,7 @@ module _ (first : List SwitchView) where
       subst (λ (p : Parts). InOrder first p) (sym parts) (record {
         addressed = o.addressed;
         own = host_step_own rule sends owns w.plan w.hosts w.from_hosts h w.begun turn.before turn.after input turn.acts answer turn.found
-            (all_here HoldsData w.hosts h turn.before holding turn.found) within turn.ruled o.own;
+            (all_found HoldsData w.hosts h turn.before holding turn.found) within turn.ruled o.own;
         since = o.since;
         once = o.once;
       })

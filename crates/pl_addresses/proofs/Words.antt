@@ -4,18 +4,11 @@ use Rattle.std.specs.List.{find, list_any}
 use Rattle.std.proofs.lemmas.Bool.{cases_Bool, cases_eq, cases_lt, or_left, or_right, false≢true}
 use Rattle.std.proofs.lemmas.List.Folds.{list_any-append}
 use Rattle.std.proofs.lemmas.Option.{get_or_from_slice_get, none-some, same_Some, slice_get_within}
-use Rattle.std.proofs.lemmas.Slice.Eq.{bytes_eq-Decides}
-use Rattle.pl_frame.specs.declared.address.Mac.{Mac}
 use Rattle.pl_pmac.specs.declared.pmac.Pmac.{Pmac}
-use Rattle.pl_layouts.specs.Equality.{same_mac, same_pmac}
-use Rattle.pl_manager_rule.proofs.Kept.{pmac_is, pmac_itself}
+use Rattle.pl_layouts.specs.Equality.{same_pmac}
+use Rattle.pl_layouts.proofs.Sameness.{mac_is, mac_itself, pmac_is, pmac_itself}
 
 -- ---- addresses
-pub mac_is : (a b : Mac) → same_mac a b ≡ true → a ≡ b
-mac_is a b h = let same = (bytes_eq-Decides a.0 b.0).0 h in λ i. record { 0 = same i }
-
-pub mac_itself : (a : Mac) → same_mac a a ≡ true
-mac_itself a = (bytes_eq-Decides a.0 a.0).1 refl
 
 pub is_or_other : (x y : Pmac) → (x ≡ y) ⊎ (same_pmac x y ≡ false)
 is_or_other x y = elim (cases_Bool (same_pmac x y)) [ inl is ↦ inl (pmac_is x y is) | inr other ↦ inr other ]

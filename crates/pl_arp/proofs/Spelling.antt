@@ -1,11 +1,12 @@
 -- A packet and its bytes determine each other.
 use Rattle.std.proofs.Common.{◌≡◌, ℕ, ◌+◌, ◌≤◌, Bool, true, false, not, cond, nat_lt, List, ◌++◌, length, take, drop, Result, Ok, Err, refl, sym, ap, ◌∙◌, subst, arith, append_assoc, length-append}
 use Rattle.std.specs.Str.{bytes_eq}
-use Rattle.std.proofs.lemmas.Bool.{ltb-false, le-ltb}
+use Rattle.std.proofs.lemmas.Bool.{ltb-false, le-ltb, not-false}
 use Rattle.std.proofs.lemmas.Slice.Eq.{bytes_eq-Decides}
 use Rattle.std.proofs.lemmas.List.{take-append-drop, drop-drop, length-take-le, length-drop}
 use Rattle.byteorder.specs.Endian.{big_number, big_bytes}
 use Rattle.byteorder.specs.Numbers.{big_from-lt, big_number-reads_back}
+use Rattle.pl_lemmas.proofs.Lists.{next_part}
 use Rattle.pl_frame.proofs.Fields.{front_of, rest_of}
 use Rattle.pl_frame.proofs.Numbers.{IsBytes, bytes-drop, big_bytes-big_number_front}
 use Rattle.pl_arp.specs.declared.packet.Arp.{Arp}
@@ -69,12 +70,8 @@ got a = Ok a
 same_packet : (x y : Arp) → got x ≡ got y → x ≡ y
 same_packet x y h = cc
 
-not_false : (b : Bool) → not b ≡ false → b ≡ true
-not_false true h = refl
-not_false false h = absurd (cc)
-
 same_bytes : (xs ys : List ℕ) → not (bytes_eq xs ys) ≡ false → xs ≡ ys
-same_bytes xs ys h = (bytes_eq-Decides xs ys).0 (not_false (bytes_eq xs ys) h)
+same_bytes xs ys h = (bytes_eq-Decides xs ys).0 (not-false (bytes_eq xs ys) h)
 
 -- the fields are within their types
 fields_fit : (p : List ℕ) → 28 ≤ length p → IsBytes p → Fits (fields_at_front p)
@@ -86,10 +83,6 @@ fields_fit p long small = record {
   tpa = big_from-lt 0 4 (drop 24 p) (bytes-drop 24 p small);
 }
 
--- the next n bytes from a place on, and what follows them
-next : (n at : ℕ) (p : List ℕ) → drop at p ≡ take n (drop at p) ++ drop (at + n) p
-next n at p = sym (take-append-drop n (drop at p)) ∙ ap (λ r. take n (drop at p) ++ r) (drop-drop n at p)
-
 -- the payload is the packet's bytes and the rest
 payload_is : (p : List ℕ) → 28 ≤ length p → IsBytes p → take 6 p ≡ ethernet_ipv4 →
     p ≡ layout (fields_at_front p) ++ drop 28 p
@@ -97,11 +90,11 @@ payload_is p long small kind =
     let op = big_bytes-big_number_front 2 (drop 6 p) (omega (arith, length-drop 6 p)) (bytes-drop 6 p small) in
     let spa = big_bytes-big_number_front 4 (drop 14 p) (omega (arith, length-drop 14 p)) (bytes-drop 14 p small) in
     let tpa = big_bytes-big_number_front 4 (drop 24 p) (omega (arith, length-drop 24 p)) (bytes-drop 24 p small) in
-    let at_tpa = next 4 24 p ∙ ap (λ b. b ++ drop 28 p) (sym tpa) in
-    let at_tha = next 6 18 p ∙ ap (λ r. take 6 (drop 18 p) ++ r) at_tpa in
-    let at_spa = next 4 14 p ∙ ap (λ b. b ++ drop 18 p) (sym spa) ∙ ap (λ r. big_bytes 4 (big_number 4 (drop 14 p)) ++ r) at_tha in
-    let at_sha = next 6 8 p ∙ ap (λ r. take 6 (drop 8 p) ++ r) at_spa in
-    let at_op = next 2 6 p ∙ ap (λ b. b ++ drop 8 p) (sym op) ∙ ap (λ r. big_bytes 2 (big_number 2 (drop 6 p)) ++ r) at_sha in
+    let at_tpa = next_part 4 24 p ∙ ap (λ b. b ++ drop 28 p) (sym tpa) in
+    let at_tha = next_part 6 18 p ∙ ap (λ r. take 6 (drop 18 p) ++ r) at_tpa in
+    let at_spa = next_part 4 14 p ∙ ap (λ b. b ++ drop 18 p) (sym spa) ∙ ap (λ r. big_bytes 4 (big_number 4 (drop 14 p)) ++ r) at_tha in
+    let at_sha = next_part 6 8 p ∙ ap (λ r. take 6 (drop 8 p) ++ r) at_spa in
+    let at_op = next_part 2 6 p ∙ ap (λ b. b ++ drop 8 p) (sym op) ∙ ap (λ r. big_bytes 2 (big_number 2 (drop 6 p)) ++ r) at_sha in
     sym (take-append-drop 6 p) ∙ ap (λ k. k ++ drop 6 p) kind ∙ ap (λ r. ethernet_ipv4 ++ r) at_op
     ∙ sym (grouped (fields_at_front p) (drop 28 p))
 

@@ -1,5 +1,5 @@
 -- A sure frame that has ended has arrived.
-use Rattle.std.proofs.Common.{◌≡◌, ℕ, zero, suc, ◌+◌, ◌≤◌, ◌==◌, nat_le, ◌&&◌, Bool, true, false, if◌then◌else◌, List, [], ◌∷◌, ◌++◌, Contains, refl, sym, ap, ◌∙◌, subst, inl, inr, arith, eq-eqb}
+use Rattle.std.proofs.Common.{◌≡◌, ℕ, zero, suc, ◌+◌, ◌≤◌, ◌==◌, Bool, true, false, if◌then◌else◌, List, [], ◌∷◌, ◌++◌, Contains, refl, sym, ap, ◌∙◌, subst, inl, inr, arith, eq-eqb}
 use Rattle.std.proofs.lemmas.Bool.{cond-true}
 use Rattle.pl_pmac.specs.declared.pmac.Pmac.{Pmac}
 use Rattle.pl_wiring.specs.Plan.{Plan}
@@ -17,10 +17,11 @@ use Rattle.pl_world.specs.declared.item.Item.TheVariants.{Control, Data}
 use Rattle.pl_world.specs.declared.limits.Limits.{Limits}
 use Rattle.pl_world.specs.Booting.{CanBegin, booted}
 use Rattle.pl_world.specs.Changes.{host_no}
-use Rattle.pl_world.specs.Flying.{IsCounted, born, flying, times_in, times_in_all}
+use Rattle.pl_world.specs.Flying.{IsCounted, flying, times_in, times_in_all}
 use Rattle.pl_world.specs.Runs.{Befalls, IsMark, Moment, WorldRun}
 use Rattle.pl_world.specs.Runs.Moment.{Mark, Step}
 use Rattle.pl_world.specs.Worlds.{WorldView}
+use Rattle.pl_world.proofs.Births.{born_once}
 use Rattle.pl_arrival.specs.Losses.{IsLostAt}
 use Rattle.pl_arrival.specs.Reach.{Reaches}
 use Rattle.pl_arrival.specs.SureFrames.{IsSure, IsSureMoment, StaysSure}
@@ -52,13 +53,6 @@ waits_in_all : (id : ℕ) (frame : List ℕ) (queues : List (List Item)) (n : �
 waits_in_all id frame [] n among = absurd among
 waits_in_all id frame (queue ∷ queues) zero among = let here = waits_once id frame queue among in omega (arith, here)
 waits_in_all id frame (queue ∷ queues) (suc n) among = let rest = waits_in_all id frame queues n among in omega (arith, rest)
-
-born_once : (id many : ℕ) → born id many ≤ 1
-born_once id many = by (nat_le 1 id && nat_le id many)
-  where
-    by : (b : Bool) → (if b then 1 else 0) ≤ 1
-    by true = omega arith
-    by false = omega arith
 
 module _ (w : WorldView) (counted : IsCounted w) (id : ℕ) (over : 1 ≤ ends w.journal id) where
   not_flying : (1 ≤ flying id w) → ⊥

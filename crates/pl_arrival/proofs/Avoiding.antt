@@ -5,6 +5,7 @@ use Rattle.pl_frame.specs.declared.address.SwitchId.{SwitchId}
 use Rattle.pl_pmac.specs.declared.pmac.Pmac.{Pmac}
 use Rattle.pl_layouts.specs.declared.place.Place.{Place}
 use Rattle.pl_layouts.specs.Placement.{is_known}
+use Rattle.pl_layouts.proofs.Known.{known_is}
 use Rattle.pl_wiring.specs.declared.label.Label.{Label}
 use Rattle.pl_wiring.specs.declared.label.Label.TheVariants.{Aggregation, Core, Edge}
 use Rattle.pl_wiring.specs.Labels.{label_of, switch_count}
@@ -12,12 +13,13 @@ use Rattle.pl_logic.specs.AvoidLists.{avoid_list, is_above, is_level_above, is_s
 use Rattle.pl_logic.specs.ManagerViews.{is_told_usable, place_of}
 use Rattle.pl_logic.specs.SwitchFacts.{is_avoided}
 use Rattle.pl_logic.specs.SwitchViews.{SwitchView}
-use Rattle.pl_logic.proofs.Among.{Contains-of_among, IsAmong, among_of_Contains, any_among}
+use Rattle.pl_logic.proofs.Among.{Contains-of_among, IsAmong, among_of_Contains, any_among, member_passes}
 use Rattle.pl_manager_rule.proofs.Avoided.{avoided_is_listed, listed_is_avoided, same_is}
+use Rattle.pl_manager_rule.proofs.Kept.{near_usable}
 use Rattle.pl_switch_rule.specs.Granting.{is_local}
 use Rattle.pl_places.specs.Known.{pod_of}
 use Rattle.pl_arrival.specs.Ways.{AreLinked}
-use Rattle.pl_arrival.proofs.Words.{any_of, differ_not_same, known_is, near_of_usable, not_both}
+use Rattle.pl_arrival.proofs.Words.{differ_not_same, not_both}
 use Rattle.pl_arrival.proofs.Calm.{Calm, Net, fabric, here, there, told_alive}
 use Rattle.pl_journal.specs.Flights.{label_level}
 
@@ -33,7 +35,7 @@ entry_is x u pod position h =
 
 avoided_among : (v : SwitchView) (u : SwitchId) (pod position : ℕ) → is_avoided v (Some u) pod position ≡ true → IsAmong (u, pod, position) v.avoid
 avoided_among v u pod position h =
-    let at = any_of (λ a. (a.0.0 == u.0) && ((a.1 == pod) && (a.2 == position))) v.avoid h in
+    let at = member_passes (λ a. (a.0.0 == u.0) && ((a.1 == pod) && (a.2 == position))) v.avoid h in
     subst (λ x. IsAmong x v.avoid) (entry_is at.0 u pod position at.2) at.1
 
 among_avoided : (v : SwitchView) (u : SwitchId) (pod position : ℕ) → IsAmong (u, pod, position) v.avoid → is_avoided v (Some u) pod position ≡ true
@@ -127,7 +129,7 @@ module _ (n : Net) (calm : Calm n) (to : Pmac) (t : ℕ) (home : IsHome n to t) 
           let alive = told_alive n calm s u l in
           let usable = (and_parts (is_told_usable n.told (n.view s).id (n.view u).id) (is_told_usable n.told (n.view u).id (n.view s).id) alive).0 in
           let list = avoided_is_listed n.told (n.view s).id ((n.view u).id, to.pod, to.position) (record {
-            neighbour = Contains-of_among (n.view u).id _ (near_of_usable n.told (n.view s).id (n.view u).id usable);
+            neighbour = Contains-of_among (n.view u).id _ (near_usable n.told (n.view s).id (n.view u).id usable);
             above = is_up;
             edge = (n.view t).id;
             placed = placed;

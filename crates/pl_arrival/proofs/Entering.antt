@@ -3,6 +3,7 @@ use Rattle.std.proofs.Common.{◌≡◌, ℕ, zero, suc, ◌+◌, ◌-◌, ◌�
 use Rattle.std.specs.List.{position_from}
 use Rattle.std.proofs.lemmas.Slice.Eq.{bytes_eq-Decides}
 use Rattle.std.proofs.lemmas.Bool.{and_from, and_parts, and_right, cond-false, cond-true, cond_both, or_from, or_parts}
+use Rattle.pl_lemmas.proofs.Lists.{all_append}
 use Rattle.pl_frame.specs.declared.address.Mac.{Mac}
 use Rattle.pl_frame.specs.Ethernet.{destination_of, source_of}
 use Rattle.pl_arp.specs.declared.packet.Arp.{Arp}
@@ -10,10 +11,11 @@ use Rattle.pl_pmac.specs.declared.pmac.Pmac.{Pmac}
 use Rattle.pl_pmac.specs.Pmac.{pmac_of}
 use Rattle.pl_layouts.specs.Control.{is_control}
 use Rattle.pl_layouts.specs.Equality.{same_mac}
-use Rattle.pl_layouts.specs.Frames.{HasSixBytes, arriving, is_arp, is_takeable, is_taken_packet, packet_in}
+use Rattle.pl_layouts.specs.Frames.{arriving, is_arp, is_takeable, is_taken_packet, packet_in}
 use Rattle.pl_layouts.specs.Memberships.{is_group, membership_in}
 use Rattle.pl_layouts.specs.Placement.{is_known, is_placed}
 use Rattle.pl_layouts.proofs.Arrived.{destination_of-arriving, length-arriving}
+use Rattle.pl_layouts.proofs.Known.{known_is}
 use Rattle.pl_journal.specs.declared.cause.Cause.TheVariants.{BadArp, NotPlaced, Spent}
 use Rattle.pl_logic.specs.declared.acts.Act.{Act}
 use Rattle.pl_logic.specs.declared.acts.Act.TheVariants.{Drop, Pass}
@@ -25,16 +27,15 @@ use Rattle.pl_steps.specs.Steps.{SwitchStep, does, ◌▹◌}
 use Rattle.pl_switch_rule.specs.declared.came.Came.TheVariants.{FromHost}
 use Rattle.pl_switch_rule.specs.Delivering.{arrives_home, destination}
 use Rattle.pl_switch_rule.specs.Forwarding.{Choice, candidates_by, forwards, leaves_by}
-use Rattle.pl_switch_rule.specs.Granting.{grant_number, granted, grants_at, has_no_address, in_use, is_local, learns_source}
+use Rattle.pl_switch_rule.specs.Granting.{granted, grants_at, has_no_address, in_use, is_local, learns_source}
 use Rattle.pl_switch_rule.specs.GroupForwarding.{forwards_group}
 use Rattle.pl_switch_rule.specs.Intake.{comes_from_host, hears_members, is_for_switch, mac_of_pmac, packet_acts, sends_in, source_pmac, takes, takes_in, takes_in_or_spent, with_pmac}
 use Rattle.pl_switch_rule.specs.Levels.{finds_host}
 use Rattle.pl_switch_rule.specs.SwitchRule.{comes_from_switch, control_comes, data_comes, switch_step}
-use Rattle.pl_switch_rule.proofs.DataFrames.{six_of_pmac}
 use Rattle.pl_switch_rule.proofs.RowActs.{ChangeActs, GrantActs, changes_acts, learns_source_acts}
 use Rattle.pl_switch_rule.proofs.RowViews.{Stays, sends_in_stays, with_host}
-use Rattle.pl_switch_rule.proofs.StepParts.{all_append}
-use Rattle.pl_arrival.proofs.Words.{known_is}
+use Rattle.pl_switch_rule.proofs.Grants.{granted_parts, numbered_at}
+use Rattle.pl_switch_rule.proofs.SentFrames.{six_of_mac}
 use Rattle.pl_arrival.proofs.Landing.{AreMild, IsMild}
 use Rattle.pl_arrival.proofs.Passing.{arrives}
 
@@ -46,13 +47,6 @@ pub record HasInUse (v : SwitchView) (port : ℕ) (amac : Mac) : Type 0 where
   pub at_port : address.port ≡ port
   pub used : grant.in_use ≡ true
   pub to : grant.amac ≡ amac
-
-pub granted_parts : (v : SwitchView) (x : Pmac) (g : Grant) → granted v x ≡ Some g → (is_local v x ≡ true) × (grant_number (grants_at v x.port) x.vmid ≡ Some g)
-granted_parts v x g found = by (is_local v x) refl found
-  where
-    by : (b : Bool) → is_local v x ≡ b → (if b then grant_number (grants_at v x.port) x.vmid else None) ≡ Some g → (is_local v x ≡ true) × (grant_number (grants_at v x.port) x.vmid ≡ Some g)
-    by true e h = (e, h)
-    by false e h = absurd (let none : ◌≡◌ {A = Option Grant} None (Some g) = h in cc none)
 
 pub local_is_placed : (v : SwitchView) (x : Pmac) → is_local v x ≡ true → is_placed v.place ≡ true
 local_is_placed v x own =
@@ -74,17 +68,10 @@ found_in test i (suc n) (x ∷ gs) g found passes = by (found_in test (i + 1) n 
     by rest true = refl
     by rest false = rest
 
-numbered : (gs : List Grant) (vmid : ℕ) (g : Grant) → grant_number gs vmid ≡ Some g → slice_get gs (vmid - 1) ≡ Some g
-numbered gs vmid g = by (vmid == 0)
-  where
-    by : (b : Bool) → (if b then None else slice_get gs (vmid - 1)) ≡ Some g → slice_get gs (vmid - 1) ≡ Some g
-    by true h = absurd (let none : ◌≡◌ {A = Option Grant} None (Some g) = h in cc none)
-    by false h = h
-
 has_address : (v : SwitchView) (port : ℕ) (amac : Mac) → HasInUse v port amac → has_no_address v port amac ≡ false
 has_address v port amac is =
     let number = (granted_parts v is.address is.grant is.found).1 in
-    let there = numbered (grants_at v is.address.port) is.address.vmid is.grant number in
+    let there = numbered_at (grants_at v is.address.port) is.address.vmid is.grant number in
     let same = (bytes_eq-Decides is.grant.amac.0 amac.0).1 (ap (λ (m : Mac). m.0) is.to) in
     let some = found_in (λ g. g.in_use && same_mac g.amac amac) 1 (is.address.vmid - 1) (grants_at v is.address.port) is.grant there
     (and_from is.grant.in_use (same_mac is.grant.amac amac) is.used same) in
@@ -169,15 +156,12 @@ module _ (choose : Choice) (port : ℕ) (frame : List ℕ) (readable : (is_arp f
       is_learnt = subst (λ w. HasInUse w port (source_of frame)) view is
 
 -- ---- the frame with the host's pseudo address
-six_of : (o : Option Pmac) → HasSixBytes (mac_of_pmac o)
-six_of None = tt
-six_of (Some x) = six_of_pmac x
 
 pub destination_kept : (v : SwitchView) (port : ℕ) (frame : List ℕ) → 14 ≤ length frame → destination_of (with_pmac v port frame) ≡ destination_of frame
-destination_kept v port frame long = destination_of-arriving frame (mac_of_pmac (source_pmac v port frame)) None long (six_of (source_pmac v port frame)) tt
+destination_kept v port frame long = destination_of-arriving frame (mac_of_pmac (source_pmac v port frame)) None long (six_of_mac (source_pmac v port frame)) tt
 
 pub length_kept : (v : SwitchView) (port : ℕ) (frame : List ℕ) → 14 ≤ length frame → length (with_pmac v port frame) ≡ length frame
-length_kept v port frame long = length-arriving frame (mac_of_pmac (source_pmac v port frame)) None long (six_of (source_pmac v port frame)) tt
+length_kept v port frame long = length-arriving frame (mac_of_pmac (source_pmac v port frame)) None long (six_of_mac (source_pmac v port frame)) tt
 
 module _ (choose : Choice) (v : SwitchView) (frame : List ℕ) (unicast : is_group (destination_of frame) ≡ false) where
   abbrev where_to : SwitchStep

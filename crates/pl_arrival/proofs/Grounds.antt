@@ -1,11 +1,13 @@
 -- In a settled fabric links, views and the manager's records agree.
-use Rattle.std.proofs.Common.{◌≡◌, ℕ, zero, suc, ◌+◌, ◌<◌, true, List, [], ◌∷◌, length, get_or, Option, Some, slice_get, Contains, refl, sym, ap, ◌∙◌, subst, inl, inr, arith}
+use Rattle.std.proofs.Common.{◌≡◌, ℕ, zero, ◌+◌, ◌<◌, true, get_or, Option, Some, slice_get, sym, ap, ◌∙◌, subst, inl, inr, arith}
 use Rattle.std.specs.List.{AllByRecursion}
 use Rattle.std.proofs.lemmas.Bool.{cases_eq, cases_lt}
 use Rattle.std.proofs.lemmas.List.{get_or_default}
 use Rattle.std.proofs.lemmas.Option.{same_Some, slice_get-get_or}
+use Rattle.pl_lemmas.proofs.Lists.{all_at, all_contained}
 use Rattle.pl_frame.specs.declared.address.SwitchId.{SwitchId}
 use Rattle.pl_layouts.specs.Equality.{same_switch}
+use Rattle.pl_layouts.proofs.Sameness.{switch_itself}
 use Rattle.pl_wiring.specs.declared.label.Label.TheVariants.{Edge}
 use Rattle.pl_wiring.specs.declared.link.Peer.{Peer}
 use Rattle.pl_wiring.specs.Labels.{edge_count, label_of, switch_count}
@@ -14,14 +16,13 @@ use Rattle.pl_wiring.specs.Plan.{IsPlan}
 use Rattle.pl_wiring.proofs.Ends.{at_contained}
 use Rattle.pl_wiring.proofs.LabelOrder.{label_of-aggregation, label_of-core}
 use Rattle.pl_wiring.proofs.Linked.{peer_is_switch}
-use Rattle.pl_logic.specs.declared.messages.ToManager.{ToManager}
 use Rattle.pl_logic.specs.declared.messages.ToManager.TheVariants as tell
 use Rattle.pl_logic.specs.ManagerViews.{is_told_usable, place_of, speakers, tellers}
 use Rattle.pl_logic.specs.PortRecords.{heard_id, heard_place}
 use Rattle.pl_logic.specs.SwitchViews.{SwitchView}
 use Rattle.pl_logic.proofs.Among.{among_left, any_among}
+use Rattle.pl_manager_rule.proofs.Avoided.{teller_of_level}
 use Rattle.pl_queues.specs.Queues.{items_at}
-use Rattle.pl_world.specs.SettledQueues.{IsQuestion}
 use Rattle.pl_world.specs.Worlds.{WorldView}
 use Rattle.pl_fabric.specs.Settled.{IsSettled, IsSettledEnd, IsSettledTowards}
 use Rattle.pl_control_plane.specs.ControlPlanes.{AreJoined, control_plane, no_switch}
@@ -37,28 +38,10 @@ use Rattle.pl_kept.specs.Kept.{Kept}
 use Rattle.pl_kept.proofs.Grounding.{grounded}
 use Rattle.pl_records.specs.Words.{IsNoReport}
 use Rattle.pl_records.proofs.Strangers.{neighbours_at_rest}
+use Rattle.pl_records.proofs.Questions.{question_reports_nothing}
 use Rattle.pl_arrival.specs.Orderly.{IsOrderly}
 use Rattle.pl_arrival.proofs.Calm.{Calm}
 use Rattle.pl_arrival.proofs.Ready.{Ready, net}
-use Rattle.pl_arrival.proofs.Words.{same_itself, teller_of_level}
-
-all_contained : {X : Type 0} (P : X → Type 0) (xs : List X) → ((x : X) → Contains xs x → P x) → AllByRecursion P xs
-all_contained P [] each = tt
-all_contained P (x ∷ xs) each =
-    (each x (zero, omega arith, refl), all_contained P xs (λ y there. each y (suc there.0, omega (arith, there.1), there.2)))
-
-question_reports_nothing : (told : ToManager) → IsQuestion told → IsNoReport told
-question_reports_nothing (tell.Place place) is = absurd is
-question_reports_nothing (tell.Link neighbour usable) is = absurd is
-question_reports_nothing tell.PodWanted is = absurd is
-question_reports_nothing (tell.Learned pmac amac ip) is = absurd is
-question_reports_nothing (tell.Query asker asker_ip ip) is = tt
-question_reports_nothing (tell.Members group any) is = absurd is
-
-all_get : {X : Type 0} (P : X → Type 0) (xs : List X) (i : ℕ) (d : X) → i < length xs → AllByRecursion P xs → P (get_or xs i d)
-all_get P [] i d within all = absurd (omega (arith, within))
-all_get P (x ∷ xs) zero d within all = all.0
-all_get P (x ∷ xs) (suc i) d within all = all_get P xs i d (omega (arith, within)) all.1
 
 -- an edge switch by its label is there
 edge_there : (k z pod i : ℕ) → label_of k z ≡ Edge pod i → z < switch_count k
@@ -111,7 +94,7 @@ module _ (w : WorldView) (order : IsOrderly w) (is : IsSettled w) where
   known i x level =
       let teller = teller_of_level w.manager.told i x level in
       let speaks = among_left i (tellers w.manager.told) _ teller in
-      let at = order.heard i (any_among (λ t. same_switch t i) i (speakers w.manager) speaks (same_itself i)) in
+      let at = order.heard i (any_among (λ t. same_switch t i) i (speakers w.manager) speaks (switch_itself i)) in
       let many = plan_is.ids_many in
       (at.0, omega (arith, at.1, many), kept.voting.ids at.0 ∙ sym (get_or_default w.plan.ids at.0 i (record { 0 = 0 }) at.1) ∙ at.2)
 
@@ -148,7 +131,7 @@ module _ (w : WorldView) (order : IsOrderly w) (is : IsSettled w) where
     is = plan_is;
     both = both;
     size = λ s within. let many = kept.counted.formed.switches in
-        all_get (λ (v : SwitchView). v.k ≡ w.plan.k) w.switches s no_switch (omega (arith, within, many)) kept.counted.formed.ports;
+        all_at (λ (v : SwitchView). v.k ≡ w.plan.k) w.switches s no_switch (omega (arith, within, many)) kept.counted.formed.ports;
     usable = λ s p t q joined. (end_of s p t q joined).usable;
     place_there = λ s p t q joined live. ap heard_place ((end_of s p t q joined).current live);
     id_there = λ s p t q joined live. ap heard_id ((end_of s p t q joined).current live);

@@ -1,10 +1,11 @@
 -- Where hosts stand: each at a port of its own, so that a frame that comes out of the port comes to the host.
-use Rattle.std.proofs.Common.{◌≡◌, ℕ, zero, suc, ◌<◌, ◌==◌, ◌||◌, nat_lt, Bool, true, false, cond, List, [], ◌∷◌, length, map, get_or, set, Option, Some, None, slice_get, position, option_map, refl, sym, ap, ◌∙◌, subst, inl, inr, arith, eqb-true, eq-eqb, lt-ltb, ltb-false, true≢false}
+use Rattle.std.proofs.Common.{◌≡◌, ℕ, zero, suc, ◌<◌, ◌==◌, ◌||◌, nat_lt, Bool, true, false, cond, List, [], ◌∷◌, length, map, get_or, set, Option, Some, None, slice_get, position, option_map, refl, sym, ap, ◌∙◌, subst, inl, inr, arith, eqb-true, lt-ltb, ltb-false, true≢false}
 use Rattle.std.specs.List.{position_or_len}
-use Rattle.std.proofs.lemmas.Bool.{and_from, and_parts, cases_eq, cases_lt, cond-true, or_right}
+use Rattle.std.proofs.lemmas.Bool.{and_parts, cases_eq, cases_lt, cond-true, or_right}
 use Rattle.std.proofs.lemmas.List.Sums.{fails_before_first, position_or_len_is}
 use Rattle.std.proofs.lemmas.Option.{get_or_from_slice_get, same_Some, slice_get-get_or, slice_get-map, slice_get_within}
 use Rattle.std.proofs.lemmas.Slice.Eq.{bytes_eq-Decides}
+use Rattle.pl_lemmas.proofs.Lists.{set_there}
 use Rattle.pl_frame.specs.Ethernet.{destination_of}
 use Rattle.pl_layouts.specs.Memberships.{is_group}
 use Rattle.pl_wiring.specs.declared.host.Host.{Host}
@@ -14,8 +15,8 @@ use Rattle.pl_world.specs.declared.stand.Stand.{Stand}
 use Rattle.pl_world.specs.Booting.{first_stand}
 use Rattle.pl_world.specs.Changes.{if_for, is_address_of, receiver, stands_at}
 use Rattle.pl_world.specs.Worlds.{WorldView}
+use Rattle.pl_world.proofs.Stands.{stands_there}
 use Rattle.pl_arrival.specs.Orderly.{StandApart}
-use Rattle.pl_arrival.proofs.Views.{set_there}
 
 nobody : Stand
 nobody = record { edge = record { 0 = 0 }; port = 0 }
@@ -26,9 +27,6 @@ stand_is s p stand h =
     let edge = eqb-true stand.edge.0 s both.0 in
     let port = eqb-true stand.port p both.1 in
     λ i. record { edge = record { 0 = edge i }; port = port i }
-
-stands_there : (s p : ℕ) (stand : Stand) → stand.edge.0 ≡ s → stand.port ≡ p → stands_at s p stand ≡ true
-stands_there s p stand edge port = and_from (stand.edge.0 == s) (stand.port == p) (eq-eqb stand.edge.0 s edge) (eq-eqb stand.port p port)
 
 -- who stands at a port is found there
 pub found_at : (stands : List Stand) → StandApart stands → (g : ℕ) (stand : Stand) → slice_get stands g ≡ Some stand → (s p : ℕ) → stand.edge.0 ≡ s → stand.port ≡ p →

@@ -4,12 +4,14 @@ use Rattle.std.specs.List.{list_any}
 use Rattle.std.proofs.lemmas.Bool.{and_from, and_parts}
 use Rattle.pl_frame.specs.declared.address.SwitchId.{SwitchId}
 use Rattle.pl_layouts.specs.declared.place.Place.{Place}
+use Rattle.pl_layouts.proofs.Known.{is_known_of, known_is}
 use Rattle.pl_wiring.specs.Labels.{switch_count}
 use Rattle.pl_logic.specs.AvoidLists.{aggregation_leads_to, core_leads_to, leads_to}
 use Rattle.pl_logic.specs.ManagerViews.{alive_at_level, alive_neighbours, has_level, has_pod, is_alive, is_told_usable, neighbours, place_of}
-use Rattle.pl_logic.proofs.Among.{IsAmong, among_filter, among_filtered, any_among}
+use Rattle.pl_logic.proofs.Among.{IsAmong, among_filter, among_filtered, any_among, member_passes}
+use Rattle.pl_manager_rule.proofs.Kept.{near_usable}
 use Rattle.pl_arrival.specs.Ways.{AreLinked, IsLast, IsTop, LeadsDown}
-use Rattle.pl_arrival.proofs.Words.{any_of, is_of, known_is, known_other, near_of_usable, not_both, up_at_one, up_at_two}
+use Rattle.pl_arrival.proofs.Words.{known_other, not_both, up_at_one, up_at_two}
 use Rattle.pl_arrival.proofs.Calm.{Calm, Net, alive_leads, fabric, there, told_alive}
 
 module _ (n : Net) (calm : Calm n) where
@@ -17,10 +19,10 @@ module _ (n : Net) (calm : Calm n) where
   id s = (n.view s).id
 
   told_level : (s x : ℕ) → s < switch_count n.plan.k → (n.view s).place.level ≡ Some x → has_level n.told (id s) x ≡ true
-  told_level s x within e = is_of (place_of n.told (id s)).level x (ap (λ (p : Place). p.level) (calm.places s within) ∙ e)
+  told_level s x within e = is_known_of (place_of n.told (id s)).level x (ap (λ (p : Place). p.level) (calm.places s within) ∙ e)
 
   told_pod : (s x : ℕ) → s < switch_count n.plan.k → (n.view s).place.pod ≡ Some x → has_pod n.told (id s) x ≡ true
-  told_pod s x within e = is_of (place_of n.told (id s)).pod x (ap (λ (p : Place). p.pod) (calm.places s within) ∙ e)
+  told_pod s x within e = is_known_of (place_of n.told (id s)).pod x (ap (λ (p : Place). p.pod) (calm.places s within) ∙ e)
 
   told_no_pod : (s x y : ℕ) → s < switch_count n.plan.k → (n.view s).place.pod ≡ Some x → (x ≡ y → ⊥) → has_pod n.told (id s) y ≡ false
   told_no_pod s x y within e differ = known_other (place_of n.told (id s)).pod x y (ap (λ (p : Place). p.pod) (calm.places s within) ∙ e) differ
@@ -37,7 +39,7 @@ module _ (n : Net) (calm : Calm n) where
       let alive = told_alive n calm s t l in
       among_filtered (λ u. has_level n.told u x) (id t) (alive_neighbours n.told (id s))
       (among_filtered (is_alive n.told (id s)) (id t) (neighbours n.told (id s))
-      (near_of_usable n.told (id s) (id t) (and_parts (is_told_usable n.told (id s) (id t)) (is_told_usable n.told (id t) (id s)) alive).0) alive)
+      (near_usable n.told (id s) (id t) (and_parts (is_told_usable n.told (id s) (id t)) (is_told_usable n.told (id t) (id s)) alive).0) alive)
       (told_level t x (there n calm s t l) e)
 
   alive_among : (s x : ℕ) (u : SwitchId) → s < switch_count n.plan.k → IsAmong u (alive_at_level n.told (id s) x) →
@@ -67,7 +69,7 @@ module _ (n : Net) (calm : Calm n) where
 
     pub core_is_top : (c : ℕ) → c < switch_count n.plan.k → (n.view c).place.level ≡ Some 2 → core_leads_to n.told pod (id t) (id c) ≡ true → IsTop (fabric n) pod t c
     core_is_top c within level leads =
-        let a = any_of (λ u. has_pod n.told u pod && is_alive n.told u (id t)) (alive_at_level n.told (id c) 1) leads in
+        let a = member_passes (λ u. has_pod n.told u pod && is_alive n.told u (id t)) (alive_at_level n.told (id c) 1) leads in
         let at = alive_among c 1 a.0 within a.1 in
         let both = and_parts (has_pod n.told a.0 pod) (is_alive n.told a.0 (id t)) a.2 in
         record {
@@ -119,7 +121,7 @@ module _ (n : Net) (calm : Calm n) where
         by : (b : Bool) → has_pod n.told (id a) pod ≡ b → LeadsDown (fabric n) pod t a
         by true e = inl (last_of a within level e (sym (by_pod true a e) ∙ so))
         by false e =
-            let c = any_of (core_leads_to n.told pod (id t)) (alive_at_level n.told (id a) 2) (sym (by_pod false a e) ∙ so) in
+            let c = member_passes (core_leads_to n.told pod (id t)) (alive_at_level n.told (id a) 2) (sym (by_pod false a e) ∙ so) in
             let at = alive_among a 2 c.0 within c.1 in
             inr (record {
               level = level;

@@ -22,6 +22,7 @@ use Rattle.pl_world.proofs.AlongRuns.{run_along}
 use Rattle.pl_world.proofs.Beside.{OrMoved, or_moved}
 use Rattle.pl_world.proofs.Beside.OrMoved.{HasMoved, NotMoved}
 use Rattle.pl_world.proofs.StepBalances.{event_is_not_refused}
+use Rattle.pl_world.proofs.Refusing.{place_is_free}
 use Rattle.pl_control_plane.specs.ControlPlanes.{ControlPlane}
 use Rattle.pl_control_plane.specs.PlaneSteps.{PlaneStep}
 use Rattle.pl_control_plane.specs.PlaneSteps.PlaneStep.{Carried, Entered, Heard, Left, Managed, Ordered, Ticked}
@@ -29,7 +30,6 @@ use Rattle.pl_kept.proofs.Keeping.{run_keeps_all}
 use Rattle.pl_records.proofs.LinkRuns.{run_holds, run_neighbours}
 use Rattle.pl_arrival.specs.Orderly.{HearsWiring, IsOrderly, StandApart}
 use Rattle.pl_arrival.proofs.Hosting.{first_apart, moved_apart, somebody}
-use Rattle.pl_arrival.proofs.Steps.{no_host}
 
 -- ---- whom the manager heard
 hears_same : (f g : ControlPlane) → g.plan ≡ f.plan → g.manager ≡ f.manager → HearsWiring f.plan f.manager → HearsWiring g.plan g.manager
@@ -69,7 +69,7 @@ module _ (host : HostRule) (old : WorldView) (happens : Event) (new : WorldView)
   by_case none apart (NotMoved same) = subst StandApart (sym (ap (λ (w : WorldView). w.stands) same)) apart
   by_case none apart (HasMoved h s p from is at turns) =
       let to : Stand = record { edge = s; port = p } in
-      let free = no_host old h.0 s.0 p (subst (λ (x : Event). refusal_of_event old x ≡ None) is none) in
+      let free = place_is_free old h.0 s.0 p (subst (λ (x : Event). refusal_of_event old x ≡ None) is none) in
       subst StandApart (sym (ap (λ (w : WorldView). w.stands) turns))
           (moved_apart old.stands h.0 from to apart at (λ k there. somebody old.stands k to there s.0 p refl refl free))
 

@@ -1,6 +1,6 @@
 -- What a switch does with a frame that is under way: it passes it on by a port that leads on, or out to its host.
-use Rattle.std.proofs.Common.{◌≡◌, ℕ, zero, suc, ◌+◌, ◌<◌, ◌||◌, not, Bool, true, false, if◌then◌else◌, List, [], ◌∷◌, Some, None, is_none, refl, sym, ap, ◌∙◌, inl, inr, arith}
-use Rattle.std.specs.List.{filter, range_with_len}
+use Rattle.std.proofs.Common.{◌≡◌, ℕ, ◌||◌, not, Bool, true, false, if◌then◌else◌, List, [], ◌∷◌, Some, None, is_none, refl, sym, ap, ◌∙◌, arith}
+use Rattle.std.specs.List.{filter}
 use Rattle.std.proofs.lemmas.Bool.{cond-false, cond-true}
 use Rattle.pl_frame.specs.Ethernet.{destination_of}
 use Rattle.pl_pmac.specs.declared.pmac.Pmac.{Pmac}
@@ -13,7 +13,7 @@ use Rattle.pl_logic.specs.declared.switch_records.Grant.{Grant}
 use Rattle.pl_logic.specs.PortRecords.{is_open_to_hosts, place_at, port_of, ports_of_switch}
 use Rattle.pl_logic.specs.SwitchInputs.SwitchInput.{Comes}
 use Rattle.pl_logic.specs.SwitchViews.{SwitchView}
-use Rattle.pl_logic.proofs.Among.{IsAmong, among_filter, among_filtered, among_of_Contains}
+use Rattle.pl_logic.proofs.Among.{IsAmong, among_filter, among_filtered, among_of_Contains, among_range}
 use Rattle.pl_steps.specs.Steps.{SwitchStep, does, ◌▹◌}
 use Rattle.pl_switch_rule.specs.declared.came.Came.{Came}
 use Rattle.pl_switch_rule.specs.Delivering.{arrives_home, delivers_or_redirects, delivers_to, destination, grant_trap, tells_sender, trap_for}
@@ -23,11 +23,6 @@ use Rattle.pl_switch_rule.specs.GroupForwarding.{forwards_group}
 use Rattle.pl_switch_rule.specs.Intake.{comes_from_host}
 use Rattle.pl_switch_rule.specs.SwitchRule.{IsChoice, comes_from_switch, control_comes, data_comes, switch_step}
 use Rattle.pl_arrival.specs.Ways.{Fabric, GoesOn, LeadsBy}
-
-among_range : (p a n m : ℕ) → m ≡ a + p → p < n → IsAmong m (range_with_len a n)
-among_range p a zero m is less = absurd (omega (arith, less))
-among_range zero a (suc n) m is less = inl (omega (arith, is))
-among_range (suc p) a (suc n) m is less = inr (among_range p (a + 1) n m (omega (arith, is)) (omega (arith, less)))
 
 -- the port that is chosen leads on
 pub chosen : (f : Fabric) (v : SwitchView) (s : ℕ) (to : Pmac) (came : Came) (Kind : ℕ → Type 0) (choose : Choice) (frame : List ℕ) → IsChoice choose → GoesOn f v s to came Kind →

@@ -16,6 +16,7 @@ use Rattle.pl_wiring.proofs.Entered.{port_index-below}
 use Rattle.pl_journal.specs.Places.{is_host_port}
 use Rattle.pl_logic.specs.SwitchViews.{SwitchView}
 use Rattle.pl_switch_rule.specs.Granting.{is_local}
+use Rattle.pl_switch_rule.proofs.Grants.{granted_parts}
 use Rattle.pl_world.specs.Changes.{is_failed_at}
 use Rattle.pl_world.specs.Flying.{IsCounted}
 use Rattle.pl_world.specs.Worlds.{WorldView}
@@ -29,7 +30,6 @@ use Rattle.pl_addresses.specs.Registered.{IsRegisteredBy}
 use Rattle.pl_arrival.specs.Ways.{Alike, LeadsBy, fabric_of}
 use Rattle.pl_arrival.proofs.Avoiding.{IsHome, home_of}
 use Rattle.pl_arrival.proofs.Calm.{Calm, Net}
-use Rattle.pl_arrival.proofs.Entering.{granted_parts}
 
 abbrev pub net : WorldView → Net
 net w = record { plan = w.plan; links = w.links; view = (control_plane w).view; told = w.manager.told }

@@ -4,11 +4,12 @@ use Rattle.std.proofs.lemmas.Bool.{and_from, and_left, and_parts, and_right, not
 use Rattle.pl_pmac.specs.declared.pmac.Pmac.{Pmac}
 use Rattle.pl_layouts.specs.declared.place.Place.{Place}
 use Rattle.pl_layouts.specs.Placement.{is_known}
+use Rattle.pl_layouts.proofs.Known.{is_known_of, known_is}
 use Rattle.pl_wiring.specs.declared.label.Label.{Label}
 use Rattle.pl_wiring.specs.declared.label.Label.TheVariants.{Aggregation, Core, Edge}
 use Rattle.pl_wiring.specs.FatTree.{IsBelow}
-use Rattle.pl_wiring.specs.Labels.{label_of, number_of}
-use Rattle.pl_wiring.proofs.LabelOrder.{number_of-label_of}
+use Rattle.pl_wiring.specs.Labels.{label_of}
+use Rattle.pl_wiring.proofs.LabelOrder.{same_label}
 use Rattle.pl_logic.specs.AvoidLists.{is_level_above, is_sent_down, leads_to}
 use Rattle.pl_logic.specs.ManagerViews.{has_level, has_pod, place_of}
 use Rattle.pl_logic.specs.PortRecords.{id_at, is_usable, is_usable_to, place_at}
@@ -20,7 +21,7 @@ use Rattle.pl_control_plane.proofs.Joined.{joined_labels}
 use Rattle.pl_places.specs.Known.{pod_of}
 use Rattle.pl_places.proofs.Neighbours.{near_edge}
 use Rattle.pl_arrival.specs.Ways.{AreLinked, GoesOn, IsFirst, IsLast, IsTop, LeadsBy, LeadsDown}
-use Rattle.pl_arrival.proofs.Words.{at_aggregation, at_core, at_edge, is_of, known_is, known_other, level_differs}
+use Rattle.pl_arrival.proofs.Words.{at_aggregation, at_core, at_edge, known_other, level_differs}
 use Rattle.pl_arrival.proofs.Calm.{Calm, Net, back, fabric, here, id_of_port, place_of_port, port_here, port_usable, there, usable_leads}
 use Rattle.pl_arrival.proofs.Leading.{down_leads, leads_is_down, leads_is_top, top_leads}
 use Rattle.pl_arrival.proofs.Avoiding.{IsHome, edge_label, leads_unless, not_avoided, one_edge_pod}
@@ -42,15 +43,12 @@ in_group : (a c : Label) (pod j group m : ℕ) → a ≡ Aggregation pod j → c
 in_group a c pod j group m is_a is_c (inl below) = absurd (subst (λ x. IsBelow x (Aggregation pod j)) is_c (subst (λ x. IsBelow c x) is_a below))
 in_group a c pod j group m is_a is_c (inr below) = subst (λ x. IsBelow x (Core group m)) is_a (subst (λ x. IsBelow a x) is_c below)
 
-one_label : (k s t : ℕ) → label_of k s ≡ label_of k t → s ≡ t
-one_label k s t same = sym (number_of-label_of k s) ∙ ap (number_of k) same ∙ number_of-label_of k t
-
 module _ (n : Net) (calm : Calm n) where
   -- ---- ports
   port_to : (s u x : ℕ) (l : AreLinked (fabric n) s u) → (n.view u).place.level ≡ Some x → is_usable_to (n.view s) x l.port ≡ true
   port_to s u x l level =
       and_from (is_usable (n.view s) l.port) (is_known (place_at (n.view s) l.port).level x) (port_usable n calm s u l)
-      (is_of (place_at (n.view s) l.port).level x (ap (λ (p : Place). p.level) (place_of_port n calm s l.port u l.by) ∙ level))
+      (is_known_of (place_at (n.view s) l.port).level x (ap (λ (p : Place). p.level) (place_of_port n calm s l.port u l.by) ∙ level))
 
   to_switch : (s x p : ℕ) → is_usable_to (n.view s) x p ≡ true → (u : ℕ) × LeadsBy (fabric n) s p u × ((n.view u).place.level ≡ Some x)
   to_switch s x p h =
@@ -73,7 +71,7 @@ module _ (n : Net) (calm : Calm n) where
       let j = in_group (label_of k a) (label_of k c) other.0 other.1 core.0 core.1 other.2 core.2 (joined_labels n.plan c to_a.port a to_a.by.into calm.is to_a.by.joined) in
       let pods : Some one.0 ≡ Some other.0 = sym (ap pod_of one.2) ∙ calm.one_pod u a x pod_u pod_a ∙ ap pod_of other.2 in
       let pod : one.0 ≡ other.0 = cc pods in
-      one_label k u a (one.2 ∙ ap (λ p. Aggregation p one.1) pod ∙ ap (Aggregation other.0) (i ∙ sym j) ∙ sym other.2)
+      same_label k u a (one.2 ∙ ap (λ p. Aggregation p one.1) pod ∙ ap (Aggregation other.0) (i ∙ sym j) ∙ sym other.2)
 
   -- a switch that is linked to two edge switches of one position
   one_position : (a u t x : ℕ) → AreLinked (fabric n) a u → AreLinked (fabric n) a t → (n.view u).place.level ≡ Some 0 → (n.view t).place.level ≡ Some 0 →
@@ -169,7 +167,7 @@ module _ (n : Net) (calm : Calm n) where
     position_port a last =
         and_from (is_usable_to (n.view a) 0 last.linked.port) (is_known (place_at (n.view a) last.linked.port).position to.position)
         (port_to a t 0 last.linked home.level)
-        (is_of (place_at (n.view a) last.linked.port).position to.position
+        (is_known_of (place_at (n.view a) last.linked.port).position to.position
         (ap (λ (q : Place). q.position) (place_of_port n calm a last.linked.port t last.linked.by) ∙ home.position))
 
     pub last_goes_up_and_down : (a : ℕ) → IsLast (fabric n) to.pod t a → GoesOn (fabric n) (n.view a) a to FromBelow (λ u. u ≡ t)
@@ -183,7 +181,7 @@ module _ (n : Net) (calm : Calm n) where
         table : (p : ℕ) → is_candidate (n.view a) to FromBelow p ≡ leads_to_position (n.view a) to p
         table p = at_aggregation (n.view a).place.level (leads_from_edge (n.view a) to FromBelow p) (leads_from_aggregation (n.view a) to FromBelow p)
             (leads_from_core (n.view a) to FromBelow p) last.level
-            ∙ ap (λ b. cond b (leads_to_position (n.view a) to p) (leads_up (n.view a) 2 to p)) (is_of (n.view a).place.pod to.pod last.pod_is)
+            ∙ ap (λ b. cond b (leads_to_position (n.view a) to p) (leads_up (n.view a) 2 to p)) (is_known_of (n.view a).place.pod to.pod last.pod_is)
 
     pub last_goes_down : (a : ℕ) → IsLast (fabric n) to.pod t a → GoesOn (fabric n) (n.view a) a to FromAbove (λ u. u ≡ t)
     last_goes_down a last = record {
@@ -196,7 +194,7 @@ module _ (n : Net) (calm : Calm n) where
         table : (p : ℕ) → is_candidate (n.view a) to FromAbove p ≡ leads_to_position (n.view a) to p
         table p = at_aggregation (n.view a).place.level (leads_from_edge (n.view a) to FromAbove p) (leads_from_aggregation (n.view a) to FromAbove p)
             (leads_from_core (n.view a) to FromAbove p) last.level
-            ∙ ap (λ b. b && leads_to_position (n.view a) to p) (is_of (n.view a).place.pod to.pod last.pod_is)
+            ∙ ap (λ b. b && leads_to_position (n.view a) to p) (is_known_of (n.view a).place.pod to.pod last.pod_is)
 
     -- ---- an aggregation switch of another pod
     pub first_goes_on : (a : ℕ) → IsFirst (fabric n) to.pod t a → GoesOn (fabric n) (n.view a) a to FromBelow (IsTop (fabric n) to.pod t)
@@ -233,7 +231,7 @@ module _ (n : Net) (calm : Calm n) where
       within = within_k c top.last top.linked;
       there = table top.linked.port
           ∙ and_from (is_usable_to (n.view c) 1 top.linked.port) (is_known (place_at (n.view c) top.linked.port).pod to.pod) (port_to c top.last 1 top.linked top.is_last.level)
-          (is_of (place_at (n.view c) top.linked.port).pod to.pod
+          (is_known_of (place_at (n.view c) top.linked.port).pod to.pod
           (ap (λ (q : Place). q.pod) (place_of_port n calm c top.linked.port top.last top.linked.by) ∙ top.is_last.pod_is));
       each = λ p h.
           let both = and_parts (is_usable_to (n.view c) 1 p) (is_known (place_at (n.view c) p).pod to.pod) (sym (table p) ∙ h) in

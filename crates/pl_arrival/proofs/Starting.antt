@@ -3,8 +3,6 @@ use Rattle.std.proofs.Common.{◌≡◌, ℕ, ◌≤◌, ◌++◌, true, List, [
 use Rattle.std.proofs.lemmas.Option.{same_Some}
 use Rattle.pl_pmac.specs.declared.pmac.Pmac.{Pmac}
 use Rattle.pl_layouts.specs.declared.place.Place.{Place}
-use Rattle.pl_wiring.specs.declared.label.Label.{Label}
-use Rattle.pl_wiring.specs.declared.label.Label.TheVariants.{Aggregation, Core, Edge}
 use Rattle.pl_wiring.specs.declared.label.SwitchNo.{SwitchNo}
 use Rattle.pl_wiring.specs.declared.link.Link.{Link}
 use Rattle.pl_wiring.specs.FatTree.{IsBelow, IsTreeLink}
@@ -21,13 +19,7 @@ use Rattle.pl_arrival.proofs.Calm.{Calm, Net, back, fabric, place_of_port, there
 use Rattle.pl_arrival.proofs.Avoiding.{IsHome}
 use Rattle.pl_arrival.proofs.Rows.{one_below, pod_above}
 use Rattle.pl_journal.specs.Flights.{label_level}
-
-core_above : (a c : Label) → IsBelow a c → label_level a ≡ 1 → label_level c ≡ 2
-core_above (Aggregation p j) (Core g m) below e = refl
-core_above (Aggregation p j) (Edge q i) below e = absurd below
-core_above (Aggregation p j) (Aggregation q i) below e = absurd below
-core_above (Edge p i) c below e = absurd (cc e)
-core_above (Core g m) c below e = absurd (cc e)
+use Rattle.pl_journal.proofs.Levels.{core_above}
 
 -- a live link that leads up
 record Up (n : Net) (a b : ℕ) : Type 0 where

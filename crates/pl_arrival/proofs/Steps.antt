@@ -1,9 +1,10 @@
 -- Each step between two sure moments keeps a frame on its track.
-use Rattle.std.proofs.Common.{◌≡◌, ℕ, ◌+◌, ◌<◌, ◌==◌, ◌&&◌, nat_lt, Bool, true, false, if◌then◌else◌, List, [], ◌∷◌, set, Option, Some, None, slice_get, refl, sym, ap, ◌∙◌, subst, inl, inr, ltb-true, true≢false}
-use Rattle.std.proofs.lemmas.Bool.{and_parts, cases_eq}
+use Rattle.std.proofs.Common.{◌≡◌, ℕ, ◌+◌, ◌<◌, true, false, List, [], ◌∷◌, set, Option, Some, None, slice_get, refl, sym, ap, ◌∙◌, subst, inl, inr, true≢false}
+use Rattle.std.proofs.lemmas.Bool.{cases_eq}
 use Rattle.std.proofs.lemmas.List.{get_or-set_other}
 use Rattle.std.proofs.lemmas.Nat.{same_from_place}
 use Rattle.std.proofs.lemmas.Option.{same_Some}
+use Rattle.pl_lemmas.proofs.Lists.{set_there}
 use Rattle.pl_pmac.specs.declared.pmac.Pmac.{Pmac}
 use Rattle.pl_wiring.specs.declared.host.Host.{Host}
 use Rattle.pl_wiring.specs.declared.label.SwitchNo.{SwitchNo}
@@ -17,7 +18,6 @@ use Rattle.pl_wiring.specs.Plan.{Plan}
 use Rattle.pl_wiring.proofs.Linked.{peer_is_switch}
 use Rattle.pl_wiring.proofs.Live.{changes}
 use Rattle.pl_journal.specs.declared.entry.Entry.{Entry}
-use Rattle.pl_journal.specs.Places.{are_alike}
 use Rattle.pl_logic.specs.HostDuties.{HostsKeepFrames}
 use Rattle.pl_logic.specs.HostInputs.{HostRule}
 use Rattle.pl_logic.specs.HostInputs.HostAnswer.{Nothing}
@@ -30,17 +30,16 @@ use Rattle.pl_manager_rule.specs.ManagerRule.{manager_rule}
 use Rattle.pl_switch_rule.specs.SwitchRule.{Loose}
 use Rattle.pl_switch_rule.proofs.AccountedSteps.{loose_steps_are_accounted}
 use Rattle.pl_queues.specs.Queues.{items_at}
-use Rattle.pl_world.specs.declared.error.StepError.TheVariants.{AlreadySo, NoSuch, Occupied}
 use Rattle.pl_world.specs.declared.event.Event.{Event}
 use Rattle.pl_world.specs.declared.event.Event.TheVariants as event
 use Rattle.pl_world.specs.declared.event.QueueName.TheVariants as queue
 use Rattle.pl_world.specs.declared.item.Item.{Item}
 use Rattle.pl_world.specs.declared.item.Item.TheVariants.{Data}
 use Rattle.pl_world.specs.declared.stand.Stand.{Stand}
-use Rattle.pl_world.specs.Changes.{host_at, out_of}
+use Rattle.pl_world.specs.Changes.{out_of}
 use Rattle.pl_world.specs.LinksAndMoves.{host_moved, item_lost, joins, link_between, link_failed, link_repaired}
 use Rattle.pl_world.specs.OtherActs.{heard_after_tick, skip_noted}
-use Rattle.pl_world.specs.Refusals.{has_host, has_port, has_queue, has_switch, is_filled, is_for_hosts, refusal, refusal_of_event, refusal_of_link, refusal_of_move, refusal_of_place, refusal_of_queue}
+use Rattle.pl_world.specs.Refusals.{has_queue, is_filled, refusal, refusal_of_event, refusal_of_link, refusal_of_move}
 use Rattle.pl_world.specs.WorldRule.{ComesIn, ComesOver, HostTurn, WorldStep}
 use Rattle.pl_world.specs.Worlds.{WorldView}
 use Rattle.pl_world.proofs.Beside.{by_host}
@@ -48,6 +47,7 @@ use Rattle.pl_world.proofs.Happenings.{Happened, happened}
 use Rattle.pl_world.proofs.Happenings.Happened.{Asked, Departed, Failed, FromHost, Lost, Ordered, OutOfPort, OverLink, PlayedFrame, Repaired, Reported, Ticked}
 use Rattle.pl_world.proofs.Counts.{all_found}
 use Rattle.pl_world.proofs.StepBalances.{event_is_not_refused, found_contained}
+use Rattle.pl_world.proofs.Refusing.{live_before, place_is_free, port_within, there_is}
 use Rattle.pl_control_plane.specs.ControlPlanes.{control_plane}
 use Rattle.pl_control_plane.specs.HostsAtEdges.{IsAtEdge}
 use Rattle.pl_control_plane.specs.PlaneSteps.{PlaneStep}
@@ -64,34 +64,8 @@ use Rattle.pl_arrival.proofs.Staying.{Goes, goes_beside, goes_host, goes_lost, g
 use Rattle.pl_arrival.proofs.Track.{IsOnTrack, OnTrack, split_out, still_on}
 use Rattle.pl_arrival.proofs.Track.OnTrack.{Came, Leaves, Under, Waits}
 use Rattle.pl_arrival.proofs.Turns.{comes_in_goes, comes_over_goes, from_host, keep, out_of_port}
-use Rattle.pl_arrival.proofs.Views.{set_there}
 
 -- ---- what is not refused
-there_if : (there filled : Bool) → refusal_of_queue there filled ≡ None → there ≡ true
-there_if true filled e = refl
-there_if false filled e = absurd (cc e)
-
-port_if : (plan : Plan) (s p : ℕ) → has_port plan s p ≡ true → p < plan.k
-port_if plan s p e = ltb-true p plan.k (and_parts (has_switch plan s) (nat_lt p plan.k) e).1
-
-alike_live : (b : Bool) → (if are_alike b false then Some AlreadySo else None) ≡ None → b ≡ true
-alike_live true e = refl
-alike_live false e = absurd (cc e)
-
-pub no_host : (w : WorldView) (h s p : ℕ) → refusal_of_move w h s p ≡ None → host_at w s p ≡ None
-no_host w h s p = by (has_host w.plan h && is_for_hosts w.plan s p) (host_at w s p)
-  where
-    placed : (o : Option ℕ) → refusal_of_place h o ≡ None → o ≡ None
-    placed None e = refl
-    placed (Some k) e = absurd (either (k == h) e)
-      where
-        either : (b : Bool) → (if b then Some AlreadySo else Some Occupied) ≡ None → ⊥
-        either true e = cc e
-        either false e = cc e
-
-    by : (b : Bool) (o : Option ℕ) → (if b then refusal_of_place h o else Some NoSuch) ≡ None → o ≡ None
-    by true o e = placed o e
-    by false o e = absurd (cc e)
 
 -- ---- a link
 module _ (old new : WorldView) (r : Ready old) (ahead : Ready new) where
@@ -101,7 +75,7 @@ module _ (old new : WorldView) (r : Ready old) (ahead : Ready new) where
   fails_never steps a b link found none is =
       let there = found_contained (joins a b) old.plan.links link found in
       let live : is_live_at old.links link.lower.0 link.lower_port ≡ true =
-      alike_live (is_live old.links link) (subst (λ (o : Option Link). refusal_of_link old false o ≡ None) found none) in
+      live_before (is_live old.links link) (subst (λ (o : Option Link). refusal_of_link old false o ≡ None) found none) in
       let joined = (peer_is_switch old.plan link.lower.0 link.lower_port link.upper link.upper_port r.calm.is).1 (there.0, link, there.1, there.2, inl (refl, refl, refl, refl)) in
       let plan : new.plan ≡ old.plan = ap (λ (w : WorldView). w.plan) is in
       let view : (control_plane new).view link.lower.0 ≡ (control_plane old).view link.lower.0 = ap (λ (w : WorldView). (control_plane w).view link.lower.0) is in
@@ -141,7 +115,7 @@ module _ (host : HostRule) (keeps : HostsKeepFrames host) (old new : WorldView) 
         let ports = sym before.at_port ∙ after.at_port in
         somebody old.stands m from found s p
         (ap (λ (z : Stand). z.edge.0) was ∙ edges ∙ ap (λ (z : Stand). z.edge.0) (sym now) ∙ same_s)
-        (ap (λ (z : Stand). z.port) was ∙ ports ∙ ap (λ (z : Stand). z.port) (sym now)) (no_host old m s p none)
+        (ap (λ (z : Stand). z.port) was ∙ ports ∙ ap (λ (z : Stand). z.port) (sym now)) (place_is_free old m s p none)
 
     newest_same : new.manager ≡ old.manager → new.plan ≡ old.plan → (before : IsRegisteredBy old m reach.from.0) (after : IsRegisteredBy new m reached.from.0) → reached.from.0 ≡ reach.from.0
     newest_same manager plan before after =
@@ -266,7 +240,7 @@ module _ (host : HostRule) (keeps : HostsKeepFrames host) (old new : WorldView) 
 
       within_port : (s : SwitchNo) (p : ℕ) → happens ≡ event.Deliver (queue.Port s p) → p < old.plan.k
       within_port s p is =
-          port_if old.plan s.0 p (there_if (has_queue old.plan (queue.Port s p)) (is_filled old (queue.Port s p)) (free (event.Deliver (queue.Port s p)) is))
+          port_within old.plan s.0 p (there_is (has_queue old.plan (queue.Port s p)) (is_filled old (queue.Port s p)) (free (event.Deliver (queue.Port s p)) is))
 
       beside : (mid : WorldView) → mid.plan ≡ old.plan → mid.links ≡ old.links → mid.stands ≡ old.stands → mid.out ≡ old.out →
           mid.from_hosts ≡ old.from_hosts → mid.journal ≡ old.journal →

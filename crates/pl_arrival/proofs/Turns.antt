@@ -1,8 +1,8 @@
 -- At each delivery out of a queue a sure frame stays on its track.
-use Rattle.std.proofs.Common.{◌≡◌, ℕ, zero, suc, ◌<◌, not, false, List, [], ◌∷◌, length, set, Option, Some, None, slice_get, refl, sym, ap, ◌∙◌, subst, inl, inr, arith}
+use Rattle.std.proofs.Common.{◌≡◌, ℕ, zero, suc, ◌<◌, false, List, [], ◌∷◌, length, set, Option, Some, None, slice_get, refl, sym, ap, ◌∙◌, subst, inl, inr, arith}
 use Rattle.std.specs.List.{AllByRecursion}
 use Rattle.std.proofs.Math.ListN.{length-set}
-use Rattle.std.proofs.lemmas.Bool.{and_parts, cond-true}
+use Rattle.std.proofs.lemmas.Bool.{and_parts}
 use Rattle.std.proofs.lemmas.Nat.{same_from_place}
 use Rattle.std.proofs.lemmas.Option.{slice_get_within}
 use Rattle.std.proofs.lemmas.Slice.Eq.{bytes_eq-Decides}
@@ -11,7 +11,7 @@ use Rattle.pl_frame.specs.Ethernet.{destination_of, source_of}
 use Rattle.pl_pmac.specs.declared.pmac.Pmac.{Pmac}
 use Rattle.pl_layouts.specs.Equality.{same_mac}
 use Rattle.pl_layouts.specs.Frames.{packet_in}
-use Rattle.pl_layouts.specs.Memberships.{group_of, is_group}
+use Rattle.pl_layouts.specs.Memberships.{is_group}
 use Rattle.pl_wiring.specs.declared.host.Host.{Host}
 use Rattle.pl_wiring.specs.declared.link.Peer.{Peer}
 use Rattle.pl_wiring.specs.declared.link.Peer.TheVariants.{HostPort, Switch}
@@ -50,7 +50,7 @@ use Rattle.pl_arrival.proofs.Sending.{sends_out}
 use Rattle.pl_arrival.proofs.Staying.{Goes, goes_at_switch, goes_heard, goes_host, goes_noted, goes_receives, goes_self, goes_then}
 use Rattle.pl_arrival.proofs.Track.{IsOnTrack, IsTakenLeaving, IsTakenUnder, IsTakenWaiting, OnTrack, split_hosts, split_out, still_on}
 use Rattle.pl_arrival.proofs.Track.OnTrack.{Came}
-use Rattle.pl_journal.specs.Causes.{is_routed}
+use Rattle.pl_journal.proofs.Groups.{unicast_is_not_routed}
 
 -- ---- what stays
 pub comes_in_goes : (w : WorldView) (h : ℕ) (item : Item) (o : Option Stand) (new : WorldView) → ComesIn Loose w h item o new → Goes w new
@@ -71,8 +71,6 @@ comes_over_goes host w s p item (Switch t q) new comes = goes_at_switch Loose w 
 comes_over_goes host w s p item HostPort new comes = comes_out_goes host w s p item new comes
 
 -- ---- what is known of items
-not_routed : (mac : Mac) → is_group mac ≡ false → is_routed (group_of mac) ≡ false
-not_routed mac one = ap is_routed (cond-true (not (is_group mac)) None _ (ap not one))
 
 data_of : (item : Item) (id : ℕ) (frame : List ℕ) → item ≡ Data id frame → IsItem item → IsFrame false frame
 data_of item id frame is good = subst IsItem is good
@@ -165,7 +163,7 @@ module _ (host : HostRule) (keeps : HostsKeepFrames host) (old new : WorldView) 
         turn taken.headed
 
     received : (frame : List ℕ) (mid : WorldView) → is_group (destination_of frame) ≡ false → HostReceives host mid g id frame new → IsOnTrack new h g end x id
-    received frame mid one receives = by receives.reception (keeps receives.turn.before frame receives.turn.after receives.turn.acts receives.reception (not_routed (destination_of frame) one) receives.turn.ruled) receives.turn
+    received frame mid one receives = by receives.reception (keeps receives.turn.before frame receives.turn.after receives.turn.acts receives.reception (unicast_is_not_routed (destination_of frame) one) receives.turn.ruled) receives.turn
       where
         by : (reception : Reception) → reception ≡ Kept → HostTurn host (reception_noted mid g id frame reception) g (Receives frame) (Received reception) new → IsOnTrack new h g end x id
         by reception is turn =

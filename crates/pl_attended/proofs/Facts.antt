@@ -2,6 +2,7 @@
 use Rattle.std.proofs.Common.{◌≡◌, ◌<◌, ◌+◌, ◌*◌, ◌==◌, ◌||◌, ℕ, Bool, true, false, length, Option, Some, None, is_none, slice_get, refl, sym, ap, subst, ◌∙◌}
 use Rattle.std.specs.List.{AllByRecursion}
 use Rattle.std.proofs.lemmas.Option.{get_or_from_slice_get}
+use Rattle.pl_lemmas.proofs.Lists.{all_found}
 use Rattle.pl_wiring.specs.declared.label.Label.{Label}
 use Rattle.pl_wiring.specs.declared.link.Peer.TheVariants.{HostPort}
 use Rattle.pl_wiring.specs.Labels.{edge_count, label_of, switch_count}
@@ -24,7 +25,6 @@ use Rattle.pl_control_plane.specs.HostsAtEdges.{IsAtEdge}
 use Rattle.pl_places.specs.Known.{IsOwn}
 use Rattle.pl_addresses.specs.Addressed.{KnowNeighbours}
 use Rattle.pl_addresses.specs.OwnFrames.{HostsAreOwn}
-use Rattle.pl_addresses.proofs.Turns.{all_here}
 use Rattle.pl_kept.specs.Kept.{Kept}
 use Rattle.pl_kept.proofs.Grounding.{grounded}
 use Rattle.pl_attended.proofs.Rows.{IsReady}
@@ -75,12 +75,12 @@ facts_of w kept =
       many_from = formed.from_hosts ∙ sym formed.hosts;
       many_hosts = formed.hosts;
       many_stands = formed.stands;
-      at_edges = λ h stand is. all_here (IsAtEdge w.plan) w.stands h stand kept.hosts is;
+      at_edges = λ h stand is. all_found (IsAtEdge w.plan) w.stands h stand kept.hosts is;
       homes = λ s port v edge within free found.
           let here : (control_plane w).view s ≡ v = get_or_from_slice_get w.switches s v no_switch found in
           let own : IsOwn w.plan.k (label_of w.plan.k s) v.place = subst (λ (u : SwitchView). IsOwn w.plan.k (label_of w.plan.k s) u.place) here (kept.placed.own s) in
-          let shaped : IsShaped v = all_here IsShaped w.switches s v kept.counted.shaped found in
-          let size : v.k ≡ w.plan.k = all_here (λ (u : SwitchView). u.k ≡ w.plan.k) w.switches s v formed.ports found in
+          let shaped : IsShaped v = all_found IsShaped w.switches s v kept.counted.shaped found in
+          let size : v.k ≡ w.plan.k = all_found (λ (u : SwitchView). u.k ≡ w.plan.k) w.switches s v formed.ports found in
           let low : IsLow v.place = record { middle = not_level w.plan.k s 1 v.place edge own refl; top = not_level w.plan.k s 2 v.place edge own refl } in
           record {
             ready = record {

@@ -1,12 +1,9 @@
 -- The probe of an edge switch reads as one, and so does what a host answers.
-use Rattle.std.proofs.Common.{◌≡◌, ◌≤◌, ◌<◌, ◌+◌, ◌^◌, ◌==◌, ℕ, not, nat_lt, true, false, cond, List, [], ◌++◌, length, take, Option, Some, None, is_some, option_map, Ok, Err, refl, sym, ap, ◌∙◌, arith, append-nil, eq-eqb}
+use Rattle.std.proofs.Common.{◌≡◌, ◌≤◌, ◌<◌, ◌^◌, ◌==◌, ℕ, not, nat_lt, true, false, cond, List, [], length, take, Option, Some, None, is_some, option_map, Ok, Err, refl, sym, ap, ◌∙◌, arith, append-nil, eq-eqb}
 use Rattle.std.specs.Result.{result_ok}
 use Rattle.std.specs.Str.{bytes_eq}
 use Rattle.std.proofs.lemmas.Bool.{and_from}
-use Rattle.std.proofs.lemmas.List.{length-append}
 use Rattle.std.proofs.lemmas.Slice.Eq.{bytes_eq-Decides}
-use Rattle.byteorder.specs.Endian.{big_bytes}
-use Rattle.byteorder.specs.Numbers.{length-bytes_high_first}
 use Rattle.pl_frame.specs.declared.address.Mac.{Mac}
 use Rattle.pl_frame.specs.Ethernet.{Fields, destination_of}
 use Rattle.pl_frame.proofs.Fields.{fields_of-frame_of}
@@ -15,8 +12,10 @@ use Rattle.pl_arp.specs.declared.packet.Arp.{Arp}
 use Rattle.pl_arp.specs.declared.packet.ArpError.TheVariants.{Cut, OtherKind}
 use Rattle.pl_arp.specs.Packet.{Fits, arp_in, ethernet_ipv4, fields_at_front, layout}
 use Rattle.pl_arp.proofs.Spelling.{arp_in-layout}
+use Rattle.pl_arp.proofs.Lengths.{length-layout}
 use Rattle.pl_pmac.specs.declared.pmac.Pmac.{Pmac}
-use Rattle.pl_pmac.specs.Pmac.{mac_of, pmac_number}
+use Rattle.pl_pmac.specs.Pmac.{mac_of}
+use Rattle.pl_pmac.proofs.Inverse.{length-mac_of}
 use Rattle.pl_layouts.specs.ArpFrames.{arp_frame, no_mac}
 use Rattle.pl_layouts.specs.Equality.{same_mac}
 use Rattle.pl_layouts.specs.Frames.{arriving, packet_in, with_addresses}
@@ -31,30 +30,10 @@ use Rattle.pl_attended.specs.Probes.{asks_for, is_probe}
 abbrev packet_by : ℕ → List ℕ → Option Arp
 packet_by kind payload = cond (kind == 0x0806) (result_ok (arp_in payload)) None
 
-six_of : (x : Pmac) → length (mac_of x).0 ≡ 6
-six_of x = length-bytes_high_first 6 (pmac_number x)
-
 packet_of : (to : Mac) (arp : Arp) → length to.0 ≡ 6 → length arp.sha.0 ≡ 6 → packet_in (arp_frame to arp) ≡ result_ok (arp_in (layout arp))
 unfolding arp_frame
 packet_of to arp six sha =
     ap (λ (f : Fields). packet_by f.kind f.payload) (fields_of-frame_of (record { dst = to; src = arp.sha; kind = 0x0806; payload = layout arp }) six sha (omega arith))
-
-length-layout : (arp : Arp) → length arp.sha.0 ≡ 6 → length arp.tha.0 ≡ 6 → length (layout arp) ≡ 28
-length-layout arp sha tha =
-    let op : length (big_bytes 2 arp.op) ≡ 2 = length-bytes_high_first 2 arp.op in
-    let spa : length (big_bytes 4 arp.spa.0) ≡ 4 = length-bytes_high_first 4 arp.spa.0 in
-    let tpa : length (big_bytes 4 arp.tpa.0) ≡ 4 = length-bytes_high_first 4 arp.tpa.0 in
-    let at_tha : List ℕ = arp.tha.0 ++ big_bytes 4 arp.tpa.0 in
-    let at_spa : List ℕ = big_bytes 4 arp.spa.0 ++ at_tha in
-    let at_sha : List ℕ = arp.sha.0 ++ at_spa in
-    let head : length (layout arp) ≡ 6 + length (big_bytes 2 arp.op ++ at_sha) = length-append ethernet_ipv4 (big_bytes 2 arp.op ++ at_sha) in
-    omega (
-      arith,
-      length-append (big_bytes 2 arp.op) at_sha,
-      length-append arp.sha.0 at_spa,
-      length-append (big_bytes 4 arp.spa.0) at_tha,
-      length-append arp.tha.0 (big_bytes 4 arp.tpa.0),
-    )
 
 -- an ARP frame of addresses of six bytes can be read
 pub packet_is_readable : (to : Mac) (arp : Arp) → length to.0 ≡ 6 → length arp.sha.0 ≡ 6 → length arp.tha.0 ≡ 6 → is_readable (arp_frame to arp) ≡ true
@@ -69,10 +48,10 @@ pub probe_is_one : (old : Pmac) (me : Me) (id : ℕ) → length me.mac.0 ≡ 6 �
 probe_is_one old me id six small =
     let asked : Arp = record { op = 1; sha = mac_of (record old { vmid = 0 }); spa = record { 0 = 0 }; tha = no_mac; tpa = me.ip } in
     let frame : List ℕ = probe_frame old me.ip in
-    let sha = six_of (record old { vmid = 0 }) in
+    let sha = length-mac_of (record old { vmid = 0 }) in
     let fits : Fits asked = record { op = omega arith; sha = sha; spa = omega arith; tha = refl; tpa = small } in
     let read : packet_in frame ≡ Some asked =
-    packet_of (mac_of old) asked (six_of old) sha ∙ ap (λ p. result_ok (arp_in p)) (sym (append-nil (layout asked))) ∙ ap result_ok (arp_in-layout asked [] fits) in
+    packet_of (mac_of old) asked (length-mac_of old) sha ∙ ap (λ p. result_ok (arp_in p)) (sym (append-nil (layout asked))) ∙ ap result_ok (arp_in-layout asked [] fits) in
     let far = long_frame frame (ap is_some read) in
     let long : 14 ≤ length frame = omega (arith, far) in
     let to : destination_of (arriving frame None (Some me.mac)) ≡ me.mac = destination_of-arriving frame None (Some me.mac) long tt six in

@@ -14,6 +14,7 @@ use Rattle.pl_wiring.specs.Plan.{Plan}
 use Rattle.pl_layouts.specs.Equality.{same_mac}
 use Rattle.pl_layouts.specs.Frames.{packet_in}
 use Rattle.pl_layouts.specs.Memberships.{flood, group_of, is_group, is_ip_group}
+use Rattle.pl_layouts.proofs.Sameness.{mac_is}
 use Rattle.pl_logic.specs.declared.acts.HostAct.{HostAct}
 use Rattle.pl_logic.specs.declared.acts.HostAct.TheVariants.{Send}
 use Rattle.pl_logic.specs.HostInputs.{HostAnswer, HostInput, HostRule}
@@ -31,7 +32,6 @@ use Rattle.pl_world.specs.OtherActs.{host_act_done}
 use Rattle.pl_world.specs.WorldRule.{HostTurn}
 use Rattle.pl_world.specs.Worlds.{WorldView}
 use Rattle.pl_world.proofs.Beside.{by_host}
-use Rattle.pl_addresses.proofs.Words.{mac_is}
 use Rattle.pl_attended.specs.Probes.{asks_for, is_packet, is_probe}
 use Rattle.pl_attended.specs.Stays.{is_readable}
 use Rattle.pl_attended.proofs.Frames.{packet_is_readable}

@@ -1,8 +1,7 @@
 -- Each step keeps what is known of each host, and so does each run from the beginning.
-use Rattle.std.proofs.Common.{set, ◌≡◌, ◌<◌, ◌+◌, ◌*◌, ℕ, zero, suc, not, nat_lt, Bool, true, false, List, [], ◌∷◌, replicate, length, Option, Some, None, slice_get, refl, sym, ap, subst, ◌∙◌}
+use Rattle.std.proofs.Common.{set, ◌≡◌, ◌<◌, ◌+◌, ◌*◌, ℕ, zero, suc, not, List, [], ◌∷◌, replicate, length, Option, Some, None, slice_get, refl, sym, ap, subst, ◌∙◌}
 use Rattle.std.specs.List.{AllByRecursion}
-use Rattle.std.proofs.lemmas.Bool.{and_parts, false≢true, ltb-true}
-use Rattle.std.proofs.lemmas.Option.{none-some}
+use Rattle.std.proofs.lemmas.Bool.{and_parts, false≢true}
 use Rattle.pl_wiring.specs.declared.link.Peer.TheVariants.{HostPort, Switch}
 use Rattle.pl_wiring.specs.declared.label.SwitchNo.{SwitchNo}
 use Rattle.pl_wiring.specs.Labels.{switch_count}
@@ -19,7 +18,6 @@ use Rattle.pl_journal.specs.Places.{is_host_port}
 use Rattle.pl_manager_rule.specs.ManagerRule.{manager_rule}
 use Rattle.pl_queues.specs.Queues.{items_at}
 use Rattle.pl_switch_rule.specs.SwitchRule.{Loose}
-use Rattle.pl_world.specs.declared.error.StepError.TheVariants.{NoSuch}
 use Rattle.pl_world.specs.declared.event.Event.{Event}
 use Rattle.pl_world.specs.declared.event.Event.TheVariants as event
 use Rattle.pl_world.specs.declared.event.QueueName.TheVariants as queue
@@ -29,13 +27,14 @@ use Rattle.pl_world.specs.declared.stand.Stand.{Stand}
 use Rattle.pl_world.specs.Booting.{CanBegin, booted}
 use Rattle.pl_world.specs.Changes.{noted}
 use Rattle.pl_world.specs.LinksAndMoves.{joins}
-use Rattle.pl_world.specs.Refusals.{has_port, has_switch, is_filled, is_linked, refusal, refusal_of_event, refusal_of_queue}
+use Rattle.pl_world.specs.Refusals.{has_port, is_filled, is_linked, refusal, refusal_of_event}
 use Rattle.pl_world.specs.Runs.{IsMark, Moment, WorldRun}
 use Rattle.pl_world.specs.WorldRule.{ComesIn, WorldStep}
 use Rattle.pl_world.specs.Worlds.{WorldView}
 use Rattle.pl_world.proofs.Happenings.{Happened, happened}
 use Rattle.pl_world.proofs.Happenings.Happened.{Asked, Departed, Failed, FromHost, Lost, Ordered, OutOfPort, OverLink, PlayedFrame, Repaired, Reported, Ticked}
 use Rattle.pl_world.proofs.StepBalances.{event_is_not_refused, same_refusal}
+use Rattle.pl_world.proofs.Refusing.{place_is_free, port_within, there_is}
 use Rattle.pl_kept.specs.Kept.{Kept}
 use Rattle.pl_attended.specs.Attended.{StandApart}
 use Rattle.pl_attended.specs.Stays.{first_stay}
@@ -45,7 +44,7 @@ use Rattle.pl_attended.proofs.Events.{fails_on, from_manager, lost_on, repaired_
 use Rattle.pl_attended.proofs.Facts.{Facts, facts_of}
 use Rattle.pl_attended.proofs.Leaving.{over_there, reached_noted, told_noted}
 use Rattle.pl_attended.proofs.Moves.{goes_on, plays_on, sends_on}
-use Rattle.pl_attended.proofs.Places.{Attends, boots_apart, place_is_free, spot_of}
+use Rattle.pl_attended.proofs.Places.{Attends, boots_apart, spot_of}
 use Rattle.pl_attended.proofs.Runs.{kept_from_beginning}
 use Rattle.pl_attended.proofs.Sending.{Keeps, from_host}
 use Rattle.pl_attended.proofs.Turns.{noticed_on}
@@ -59,12 +58,6 @@ abbrev After : ℕ → WorldView → Type 0
 After h new = Attends h new × StandApart new.stands
 
 -- ---- what is not refused
-there_is : (there filled : Bool) → refusal_of_queue there filled ≡ None → there ≡ true
-there_is true filled none = refl
-there_is false filled none = absurd (none-some NoSuch (sym none))
-
-port_within : (plan : Plan) (s port : ℕ) → has_port plan s port ≡ true → port < plan.k
-port_within plan s port is = ltb-true port plan.k (and_parts (has_switch plan s) (nat_lt port plan.k) is).1
 
 module _ (rule : HostRule) (lawful : (view : HostView) (input : HostInput) (after : HostView) (acts : List HostAct) (answer : HostAnswer) → rule view input after acts answer → host_rule view input after acts answer) where
   module _ (h : ℕ) (w : WorldView) (f : Facts w) (apart : StandApart w.stands) (a : Attends h w) where

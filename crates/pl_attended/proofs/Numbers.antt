@@ -2,6 +2,7 @@
 use Rattle.std.proofs.Common.{◌≡◌, ◌≢◌, ◌≤◌, ◌<◌, ◌⊎◌, ◌+◌, ℕ, zero, suc, ◌==◌, ◌||◌, Bool, true, false, if◌then◌else◌, set, List, [], ◌∷◌, ◌++◌, refl, sym, ap, subst, ◌∙◌, inl, inr, arith, eqb-true}
 use Rattle.std.specs.List.{AllByRecursion, list_any}
 use Rattle.std.proofs.lemmas.Bool.{cases_Bool, false≢true}
+use Rattle.pl_lemmas.proofs.Lists.{all_push}
 use Rattle.pl_queues.specs.Queues.{items_at, put_at}
 use Rattle.pl_world.specs.declared.item.Item.{Item}
 use Rattle.pl_world.specs.declared.item.Item.TheVariants.{Control, Data}
@@ -68,10 +69,6 @@ pub all_map : {X : Type 0} (P Q : X → Type 0) (xs : List X) → ((x : X) → P
 all_map P Q [] f all = tt
 all_map P Q (x ∷ xs) f all = (f x all.0, all_map P Q xs f all.1)
 
-pub all_behind : {X : Type 0} (P : X → Type 0) (xs : List X) (x : X) → AllByRecursion P xs → P x → AllByRecursion P (xs ++ x ∷ [])
-all_behind P [] x all is = (is, tt)
-all_behind P (y ∷ xs) x all is = (all.0, all_behind P xs x all.1 is)
-
 -- what is found where something may have been put
 pub found_after : {T : Type 0} (P : List T → Type 0) (queues : List (List T)) (n m : ℕ) (items : List T) → P (items_at queues m) → (m ≡ n → P items) →
     P (items_at (set queues n items) m)
@@ -89,7 +86,7 @@ pub all_set : (P : Item → Type 0) (queues : List (List Item)) (n : ℕ) (items
 all_set P queues n items all here = λ i. found_after (AllByRecursion P) queues n i items (all i) (λ same. here)
 
 pub all_put : (P : Item → Type 0) (queues : List (List Item)) (n : ℕ) (item : Item) → AllQueues P queues → P item → AllQueues P (put_at queues n item)
-all_put P queues n item all is = all_set P queues n (items_at queues n ++ item ∷ []) all (all_behind P (items_at queues n) item (all n) is)
+all_put P queues n item all is = all_set P queues n (items_at queues n ++ item ∷ []) all (all_push P (items_at queues n) item (all n) is)
 
 -- what waits, waits still
 abbrev pub Grows : List (List Item) → List (List Item) → Type 0

@@ -1,7 +1,7 @@
 -- Where hosts stand: no two at one place; and what their own frames say.
-use Rattle.std.proofs.Common.{◌≡◌, ◌≢◌, ◌⊎◌, ◌<◌, ◌≤◌, ◌^◌, ◌==◌, ◌&&◌, ◌||◌, ℕ, zero, suc, not, Bool, true, false, if◌then◌else◌, set, List, [], ◌∷◌, length, map, get_or, Option, Some, None, is_some, option_map, slice_get, refl, sym, ap, subst, ◌∙◌, inl, inr, arith, eqb-true, eq-eqb}
+use Rattle.std.proofs.Common.{◌≡◌, ◌≢◌, ◌⊎◌, ◌<◌, ◌≤◌, ◌^◌, ◌==◌, ◌||◌, ℕ, zero, suc, not, Bool, true, false, if◌then◌else◌, set, List, [], ◌∷◌, length, map, get_or, Option, Some, None, is_some, option_map, slice_get, refl, sym, ap, subst, ◌∙◌, inl, inr, arith, eqb-true}
 use Rattle.std.specs.List.{position}
-use Rattle.std.proofs.lemmas.Bool.{and_from, and_parts, cases_eq, cases_lt, false≢true}
+use Rattle.std.proofs.lemmas.Bool.{and_parts, cases_eq, cases_lt, false≢true}
 use Rattle.std.proofs.lemmas.Iterator.Adapters.{position_from-zero}
 use Rattle.std.proofs.lemmas.Option.{get_or_from_slice_get, none-some, same_Some, slice_get_within}
 use Rattle.pl_arp.specs.declared.cache.Me.{Me}
@@ -18,18 +18,17 @@ use Rattle.pl_wiring.proofs.Entered.{port_index-below}
 use Rattle.pl_layouts.specs.Equality.{same_mac}
 use Rattle.pl_layouts.specs.Frames.{packet_in}
 use Rattle.pl_layouts.specs.Memberships.{is_group}
+use Rattle.pl_layouts.proofs.Sameness.{mac_is, mac_itself}
 use Rattle.pl_logic.specs.HostDuties.{is_of, is_own}
 use Rattle.pl_switch_rule.specs.Granting.{sender_ip}
 use Rattle.pl_journal.specs.Lossy.{mac_of_host}
 use Rattle.pl_world.specs.declared.stand.Stand.{Stand}
 use Rattle.pl_world.specs.Booting.{CanBegin, first_stand, me_of}
-use Rattle.pl_world.specs.Changes.{host_at, if_for, is_address_of, receiver, stands_at}
-use Rattle.pl_world.specs.declared.error.StepError.{StepError}
-use Rattle.pl_world.specs.declared.error.StepError.TheVariants.{AlreadySo, NoSuch, Occupied}
-use Rattle.pl_world.specs.Refusals.{has_host, is_for_hosts, refusal_of_move, refusal_of_place}
+use Rattle.pl_world.specs.Changes.{if_for, is_address_of, receiver, stands_at}
 use Rattle.pl_world.specs.Worlds.{WorldView}
+use Rattle.pl_world.proofs.Stands.{stands_there}
 use Rattle.pl_addresses.proofs.Numbers.{first_passes, none_passes}
-use Rattle.pl_addresses.proofs.Words.{get-set_other, mac_is, mac_itself}
+use Rattle.pl_addresses.proofs.Words.{get-set_other}
 use Rattle.pl_attended.specs.Attended.{StandApart}
 use Rattle.pl_attended.specs.Stays.{is_readable}
 use Rattle.pl_attended.proofs.Facts.{Facts}
@@ -105,9 +104,6 @@ stands_parts : (s port : ℕ) (stand : Stand) → stands_at s port stand ≡ tru
 stands_parts s port stand is =
     let two = and_parts (stand.edge.0 == s) (stand.port == port) is in (eqb-true stand.edge.0 s two.0, eqb-true stand.port port two.1)
 
-stands_there : (s port : ℕ) (stand : Stand) → stand.edge.0 ≡ s → stand.port ≡ port → stands_at s port stand ≡ true
-stands_there s port stand edge at = and_from (stand.edge.0 == s) (stand.port == port) (eq-eqb stand.edge.0 s edge) (eq-eqb stand.port port at)
-
 -- where nobody stands, this host does not
 pub nobody_there : (stands : List Stand) (s port : ℕ) → position (stands_at s port) stands ≡ None → (g : ℕ) (stand : Stand) → slice_get stands g ≡ Some stand →
     stand.edge.0 ≡ s → stand.port ≡ port → ⊥
@@ -143,22 +139,6 @@ it_receives w apart h host stand at_host at_stand frame to =
     goes = ap (λ (o : Option Host). is_address_of (option_map (λ x. x.mac) o) (destination_of frame)) at_host ∙ ap (λ m. same_mac host.mac m) to ∙ mac_itself host.mac
 
 -- ---- somebody moves
-may_go : (b : Bool) (o : Option StepError) → (if b then o else Some NoSuch) ≡ None → o ≡ None
-may_go true o none = none
-may_go false o none = absurd (none-some NoSuch (sym none))
-
-free_there : (h : ℕ) (there : Option ℕ) → refusal_of_place h there ≡ None → there ≡ None
-free_there h None none = refl
-free_there h (Some other) none = absurd (by (other == h) none)
-  where
-    by : (b : Bool) → (if b then Some AlreadySo else Some Occupied) ≡ None → ⊥
-    by true is = none-some AlreadySo (sym is)
-    by false is = none-some Occupied (sym is)
-
--- a host moves only to where nobody stands
-pub place_is_free : (w : WorldView) (g s port : ℕ) → refusal_of_move w g s port ≡ None → host_at w s port ≡ None
-place_is_free w g s port none =
-    free_there g (host_at w s port) (may_go (has_host w.plan g && is_for_hosts w.plan s port) (refusal_of_place g (host_at w s port)) none)
 
 pub moved_apart : (stands : List Stand) (g : ℕ) (to : Stand) → StandApart stands → position (stands_at to.edge.0 to.port) stands ≡ None → StandApart (set stands g to)
 moved_apart stands g to apart free = λ i j a b at_a at_b edge port. elim (cases_eq i g) [

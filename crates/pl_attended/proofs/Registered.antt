@@ -1,5 +1,5 @@
 -- At rest a host that reached its edge switch is registered there.
-use Rattle.std.proofs.Common.{◌≡◌, ◌<◌, ℕ, not, nat_lt, Bool, true, false, List, [], ◌∷◌, length, refl, sym, ap, ◌∙◌, inl, inr, arith}
+use Rattle.std.proofs.Common.{◌≡◌, ◌<◌, ℕ, not, nat_lt, Bool, true, false, List, [], length, refl, sym, ap, ◌∙◌, inl, inr, arith}
 use Rattle.std.specs.List.{list_any}
 use Rattle.std.proofs.lemmas.Bool.{and_from, false≢true}
 use Rattle.std.proofs.lemmas.Bool.Decides.{Decides-ltb}
@@ -10,7 +10,8 @@ use Rattle.pl_wiring.specs.Labels.{edge_count, switch_count}
 use Rattle.pl_wiring.specs.Plan.{Plan}
 use Rattle.pl_layouts.specs.Placement.{is_placed}
 use Rattle.pl_logic.specs.SwitchViews.{SwitchView}
-use Rattle.pl_queues.specs.Queues.{has_items, items_at}
+use Rattle.pl_queues.specs.Queues.{items_at}
+use Rattle.pl_queues.proofs.Items.{no_items}
 use Rattle.pl_switch_rule.specs.Granting.{address_at_port, grants_at, is_port_spent}
 use Rattle.pl_world.specs.declared.event.QueueName.TheVariants as queue
 use Rattle.pl_world.specs.declared.item.Item.{Item}
@@ -73,10 +74,6 @@ all_remembered w attended h host stand v at reached unsettled = elim (attended h
   | inl known ↦ known.unplaced unsettled
   | inr waits ↦ absurd (false≢true (sym unsettled ∙ waits.0))
 ]
-
-no_items : {T : Type 0} (xs : List T) → has_items xs ≡ false → xs ≡ []
-no_items [] h = refl
-no_items (x ∷ xs) h = absurd (false≢true (sym h))
 
 none_of : (p : Item → Bool) (xs : List Item) → xs ≡ [] → list_any p xs ≡ true → ⊥
 none_of p xs is any = false≢true (ap (λ (ys : List Item). list_any p ys) (sym is) ∙ any)

@@ -34,9 +34,10 @@ use Rattle.pl_switch_rule.specs.Delivering.{makes}
 use Rattle.pl_switch_rule.specs.Messages.{answer_frame, flood_frame, floods, forgets_members, hears_manager, invalidates, probe_frame, probes, probes_at, sets_trap, takes_pod}
 use Rattle.pl_switch_rule.specs.Positions.{after_vote}
 use Rattle.pl_switch_rule.specs.SwitchRule.{comes_from_switch, control_comes, data_comes, hears_control, switch_step}
+use Rattle.pl_switch_rule.proofs.Grants.{granted_parts}
 use Rattle.pl_addresses.specs.EdgeAddresses.{is_settled}
 use Rattle.pl_addresses.proofs.Asides.{floods_aside, forgets_members_aside, makes_aside, probes_aside, proposal_aside, switch_frame_aside, takes_in_aside, ticks_aside}
-use Rattle.pl_addresses.proofs.Numbers.{granted_parts, local_settled, number_set_other, number_within}
+use Rattle.pl_addresses.proofs.Numbers.{local_settled, number_set_other, number_within}
 use Rattle.pl_addresses.proofs.Placing.{IsPlacing, edge_placing, message_placing, pod_placing, vote_placing}
 use Rattle.pl_addresses.proofs.Rows.{IsAside, aside_then}
 use Rattle.pl_attended.proofs.Settling.{alike_changes, changes_know}

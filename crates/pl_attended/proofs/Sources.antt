@@ -18,8 +18,8 @@ use Rattle.pl_switch_rule.specs.Granting.{address_at_port, forgets, grant_number
 use Rattle.pl_addresses.specs.EdgeAddresses.{is_settled}
 use Rattle.pl_addresses.proofs.Numbers.{IsInUse, none_used, number_push_same, number_set_same, used_is}
 use Rattle.pl_addresses.proofs.Rows.{IsAside}
-use Rattle.pl_addresses.proofs.Words.{mac_itself}
 use Rattle.pl_layouts.specs.Equality.{is_ip}
+use Rattle.pl_layouts.proofs.Sameness.{mac_itself}
 
 -- ---- an edge switch is placed or not: its level is not another one
 pub record IsLow (place : Place) : Type 0 where

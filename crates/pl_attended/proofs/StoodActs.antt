@@ -1,14 +1,15 @@
 -- What is written grants addresses to hosts that stand there, or have stood there.
-use Rattle.std.proofs.Common.{◌≡◌, ◌+◌, ◌==◌, ◌&&◌, ◌||◌, ℕ, Bool, true, false, if◌then◌else◌, set, List, [], ◌∷◌, ◌++◌, reverse, fold, Option, Some, None, slice_get, refl, sym, ap, subst, ◌∙◌, arith, append_assoc, append-nil}
+use Rattle.std.proofs.Common.{◌≡◌, ◌+◌, ◌==◌, ◌&&◌, ℕ, Bool, true, false, if◌then◌else◌, set, List, [], ◌∷◌, ◌++◌, reverse, fold, Option, Some, None, slice_get, refl, sym, ap, subst, ◌∙◌, arith, append_assoc, append-nil}
 use Rattle.std.specs.List.{AllByRecursion, position}
 use Rattle.std.proofs.lemmas.Iterator.Adapters.{position_from-zero}
-use Rattle.std.proofs.lemmas.List.{reverse-append}
+use Rattle.std.proofs.lemmas.Bool.{or_right}
 use Rattle.pl_frame.specs.declared.address.Mac.{Mac}
 use Rattle.pl_pmac.specs.declared.pmac.Pmac.{Pmac}
 use Rattle.pl_wiring.specs.declared.host.Host.{Host}
 use Rattle.pl_wiring.specs.Plan.{IsPlan, Plan}
 use Rattle.pl_layouts.specs.Equality.{same_mac}
 use Rattle.pl_layouts.specs.Placement.{same_place}
+use Rattle.pl_layouts.proofs.Sameness.{mac_is}
 use Rattle.pl_logic.specs.declared.acts.Act.{Act}
 use Rattle.pl_logic.specs.declared.acts.Act.TheVariants as act
 use Rattle.pl_logic.specs.declared.acts.HostAct.{HostAct}
@@ -19,6 +20,7 @@ use Rattle.pl_journal.specs.declared.cause.Cause.TheVariants.{LinkDown}
 use Rattle.pl_journal.specs.declared.entry.Entry.{Entry}
 use Rattle.pl_journal.specs.declared.entry.Entry.TheVariants.{Copied, Crossed, Dropped, Granted, Made, Moved, Placed, Redirected, Sent, Taken}
 use Rattle.pl_journal.specs.Places.{Spot, at_port, has_stood, same_spot}
+use Rattle.pl_journal.proofs.Steps.{past_more}
 use Rattle.pl_world.specs.declared.item.Item.{Item}
 use Rattle.pl_world.specs.declared.item.Item.TheVariants.{Control, Data}
 use Rattle.pl_world.specs.declared.spoken_frame.SpokenFrame.{SpokenFrame}
@@ -28,7 +30,7 @@ use Rattle.pl_world.specs.OtherActs.{host_act_done}
 use Rattle.pl_world.specs.SwitchActs.{Doing, act_done, acts_done, begins, ended, granted, in_world, passed, redirected, switch_stepped}
 use Rattle.pl_world.specs.Worlds.{WorldView}
 use Rattle.pl_addresses.proofs.Numbers.{first_passes}
-use Rattle.pl_addresses.proofs.Words.{mac_is, one_index}
+use Rattle.pl_addresses.proofs.Words.{one_index}
 use Rattle.pl_attended.specs.Stood.{AreStoodFor}
 use Rattle.pl_attended.proofs.Acts.{Rest, rest_of}
 
@@ -39,13 +41,6 @@ IsNoGrant entry = Unit {0}
 
 abbrev pub AreNoGrants : List Entry → Type 0
 AreNoGrants entries = AllByRecursion IsNoGrant entries
-
-or_right : (a b : Bool) → b ≡ true → (a || b) ≡ true
-or_right true b is = refl
-or_right false b is = is
-
-pub past_more : (journal : List Entry) (e : Entry) → reverse (journal ++ e ∷ []) ≡ e ∷ reverse journal
-past_more journal e = reverse-append journal (e ∷ [])
 
 module _ (plan : Plan) where
   stood_on : (past : List Entry) (e : Entry) (h : ℕ) (spot : Spot) → has_stood plan past h spot ≡ true → has_stood plan (e ∷ past) h spot ≡ true

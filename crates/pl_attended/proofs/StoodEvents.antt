@@ -19,6 +19,7 @@ use Rattle.pl_journal.specs.declared.cause.Cause.TheVariants as cause
 use Rattle.pl_journal.specs.declared.entry.Entry.{Entry}
 use Rattle.pl_journal.specs.declared.entry.Entry.TheVariants.{Crossed, Moved}
 use Rattle.pl_journal.specs.Places.{at_port, has_stood, same_spot}
+use Rattle.pl_journal.proofs.Steps.{past_more}
 use Rattle.pl_queues.specs.Queues.{items_at}
 use Rattle.pl_switch_rule.specs.Forwarding.{Choice}
 use Rattle.pl_switch_rule.specs.Granting.{remembered_at}
@@ -43,6 +44,7 @@ use Rattle.pl_world.proofs.Happenings.{Happened, happened}
 use Rattle.pl_world.proofs.Happenings.Happened.{Asked, Departed, Failed, FromHost, Lost, Ordered, OutOfPort, OverLink, PlayedFrame, Repaired, Reported, Ticked}
 use Rattle.pl_world.proofs.Leaving.{Writes, failed_left, manager_acts_left, repaired_left}
 use Rattle.pl_world.proofs.Turning.{lost_left, out_left, skip_left}
+use Rattle.pl_world.proofs.Refusing.{place_is_free}
 use Rattle.pl_addresses.specs.OwnFrames.{IsOwnItem}
 use Rattle.pl_addresses.proofs.Turns.{exists_at, filled_within}
 use Rattle.pl_addresses.proofs.Words.{get-set_other, get-set_same}
@@ -53,8 +55,8 @@ use Rattle.pl_attended.proofs.Facts.{Facts}
 use Rattle.pl_logic.specs.declared.acts.Act.{Act}
 use Rattle.pl_logic.specs.declared.acts.Act.TheVariants as act
 use Rattle.pl_attended.proofs.GrantRows.{Fits, IsFine, IsGrantFor, Remembers, fits_frame, fits_order, fits_tick}
-use Rattle.pl_attended.proofs.Places.{moved_apart, own_is, place_is_free}
-use Rattle.pl_attended.proofs.StoodActs.{IsGrantThere, IsNoGrant, StepWrote, StoodThere, Wrote, host_wrote, none_of_ends, past_more, step_wrote, stood_later, wrote_all, wrote_quiet, wrote_then}
+use Rattle.pl_attended.proofs.Places.{moved_apart, own_is}
+use Rattle.pl_attended.proofs.StoodActs.{IsGrantThere, IsNoGrant, StepWrote, StoodThere, Wrote, host_wrote, none_of_ends, step_wrote, stood_later, wrote_all, wrote_quiet, wrote_then}
 
 -- Hosts have stood where they stand, and so have those that switches remember; and each address was granted to one that had.
 pub record Stood (plan : Plan) (stands : List Stand) (switches : List SwitchView) (journal : List Entry) : Type 0 where

@@ -2,6 +2,7 @@
 use Rattle.std.proofs.Common.{◌≡◌, ◌≤◌, ◌+◌, ◌==◌, ◌&&◌, ◌||◌, ℕ, Bool, true, false, if◌then◌else◌, List, [], ◌∷◌, ◌++◌, fold, refl, sym, ap, subst, ◌∙◌, inl, inr, arith, eqb-true}
 use Rattle.std.specs.List.{AllByRecursion}
 use Rattle.std.proofs.lemmas.Bool.{and_parts, or_left}
+use Rattle.pl_lemmas.proofs.Lists.{all_push}
 use Rattle.pl_logic.specs.SwitchViews.{SwitchView}
 use Rattle.pl_logic.specs.declared.acts.HostAct.{HostAct}
 use Rattle.pl_logic.specs.declared.acts.HostAct.TheVariants.{Send}
@@ -13,7 +14,7 @@ use Rattle.pl_world.specs.Changes.{host_no, sent_by_host}
 use Rattle.pl_world.specs.OtherActs.{host_act_done}
 use Rattle.pl_world.specs.Worlds.{WorldView}
 use Rattle.pl_attended.specs.Stays.{Stay, is_among, is_readable, stay_of}
-use Rattle.pl_attended.proofs.Numbers.{AllQueues, AreOld, Grows, IsNumber, IsPast, IsSoon, IsSoonNumber, all_behind, all_map, among_old, found_after, grows_then, new_number, older, put_grows, sent_too}
+use Rattle.pl_attended.proofs.Numbers.{AllQueues, AreOld, Grows, IsNumber, IsPast, IsSoon, IsSoonNumber, all_map, among_old, found_after, grows_then, new_number, older, put_grows, sent_too}
 use Rattle.pl_attended.proofs.Acts.{Rest, Stepped, stay_then}
 
 -- of one host: all frames that wait have begun, and those of its readable ARP frames that are past its edge switch were noticed
@@ -94,7 +95,7 @@ module _ (h : ℕ) where
     numbers = t.numbers;
     past = t.past;
     soon = λ n. found_after (λ (xs : List Item). AllByRecursion (IsSoon stay begun (n ≡ h)) xs) from_hosts g n (items_at from_hosts g ++ Data id frame ∷ []) (t.soon n)
-        (λ same. all_behind (IsSoon stay begun (n ≡ h)) (items_at from_hosts g) (Data id frame)
+        (λ same. all_push (IsSoon stay begun (n ≡ h)) (items_at from_hosts g) (Data id frame)
         (subst (λ (m : ℕ). AllByRecursion (IsSoon stay begun (n ≡ h)) (items_at from_hosts m)) same (t.soon n))
         (record { old = is.old; through = λ among. elim (is.through among) [ inl reached ↦ inl reached | inr own ↦ inr (same ∙ own.0, own.1) ] }));
   }

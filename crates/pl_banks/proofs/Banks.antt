@@ -2,10 +2,11 @@
 use Rattle.std.proofs.Common.{◌≡◌, ℕ, Option, None, Some, MatchOption, IfSome, ◌-◌, ◌<◌, ◌≤◌, Bool, true, false, List, [], ◌∷◌, ◌++◌, map, length, replicate, slice_get, slice_set, sym, refl, ap, ◌∙◌, zero, suc, arith}
 use Rattle.std.specs.List.{filter, range_with_len}
 use Rattle.std.proofs.lemmas.List.{map-set, length-map, set-get_or}
+use Rattle.std.proofs.lemmas.List.Elements.{filter_agree}
 use Rattle.pl_queues.specs.Queues.{filled_indices, has_items, items_at, next_filled, next_index}
 use Rattle.pl_banks.specs.Bits.{is_marked, next_marked}
 use Rattle.pl_banks.specs.Tallies.{marked_indices}
-use Rattle.pl_banks.proofs.Ranges.{filter_same, index_below}
+use Rattle.pl_banks.proofs.Ranges.{index_below}
 use Rattle.pl_banks.proofs.Indices.{find_same, next_index_is_least}
 
 module _ {T : Type 0} where
@@ -88,7 +89,7 @@ pub marked_are_filled : {T : Type 0} (marks : List Bool) (queues : List (List T)
 marked_are_filled marks queues marked =
     ap marked_indices marked
     ∙ ap (λ n. filter (is_marked (map has_items queues)) (range_with_len 0 n)) (length-map queues has_items)
-    ∙ filter_same (is_marked (map has_items queues)) (λ at. has_items (items_at queues at)) (is_marked-map queues) (range_with_len 0 (length queues))
+    ∙ filter_agree (is_marked (map has_items queues)) (λ at. has_items (items_at queues at)) (is_marked-map queues) (range_with_len 0 (length queues))
 
 -- each is an index of the bank
 pub filled_is_there : {T : Type 0} (queues : List (List T)) (i : ℕ) (answer : Option ℕ) → answer ≡ slice_get (filled_indices queues) i

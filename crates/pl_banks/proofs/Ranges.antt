@@ -29,12 +29,6 @@ range_split (suc m) n from =
     ap (range_with_len from) many
     ∙ ap (λ l. from ∷ l) (range_split m n (from + 1) ∙ ap (λ a. range_with_len (from + 1) m ++ range_with_len a n) start)
 
--- tests that agree keep the same
-pub filter_same : {A : Type 0} (f g : A → Bool) → ((x : A) → f x ≡ g x) → (xs : List A) → filter f xs ≡ filter g xs
-filter_same f g same [] = refl
-filter_same f g same (x ∷ xs) =
-    ap (λ b. cond b (x ∷ filter f xs) (filter f xs)) (same x) ∙ ap (λ l. cond (g x) (x ∷ l) l) (filter_same f g same xs)
-
 module _ (test : ℕ → Bool) where
   -- the indices that pass, of n indices
   abbrev pub those : ℕ → ℕ → List ℕ

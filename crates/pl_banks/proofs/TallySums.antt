@@ -7,9 +7,10 @@ use Rattle.std.proofs.lemmas.List.{append-nil, get_or_past, length-append}
 use Rattle.std.proofs.lemmas.List.Sums.{count_by-le-length, length-filter}
 use Rattle.std.proofs.lemmas.List.FromFn.{length-range_with_len, length-map-range_with_len, get_or-map-range_with_len}
 use Rattle.std.proofs.lemmas.Option.{slice_get_past}
+use Rattle.std.proofs.lemmas.List.Elements.{filter_agree}
 use Rattle.pl_banks.specs.Bits.{is_marked}
 use Rattle.pl_banks.specs.Tallies.{IsSummed, IsTally, is_counted, leaves_of, marked_indices, marks_in}
-use Rattle.pl_banks.proofs.Ranges.{filter_same, none_there, slice_get_left, slice_get_right, those, those_split}
+use Rattle.pl_banks.proofs.Ranges.{none_there, slice_get_left, slice_get_right, those, those_split}
 
 pub some_leaves : (levels : ℕ) → 0 < leaves_of levels
 some_leaves zero = omega arith
@@ -174,7 +175,7 @@ module _ (n levels width : ℕ) (tree : List ℕ) (is : IsTally n levels width t
   pub marked_are : marked_indices (marks_in width tree n) ≡ those (is_counted width tree) 0 width
   marked_are =
       ap (λ m. filter (is_marked (marks_in width tree n)) (range_with_len 0 m)) length-marks_in
-      ∙ filter_same (is_marked (marks_in width tree n)) (is_counted width tree) mark_is (range_with_len 0 n)
+      ∙ filter_agree (is_marked (marks_in width tree n)) (is_counted width tree) mark_is (range_with_len 0 n)
       ∙ sym whole
 
   root_counts : length (those (is_counted width tree) 0 width) ≡ slice_index tree 1

@@ -1,2 +1,3 @@
 pub mod WordBits
 pub mod RowBits
+pub mod Either

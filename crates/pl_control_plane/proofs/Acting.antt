@@ -2,7 +2,7 @@
 use Rattle.std.proofs.Common.{◌≡◌, ℕ, ◌+◌, ◌*◌, ◌<◌, ◌==◌, ◌⊎◌, Bool, true, false, if◌then◌else◌, List, [], ◌∷◌, ◌++◌, length, Option, Some, None, refl, sym, ap, ◌∙◌, subst, append_assoc, append-nil, inl, inr}
 use Rattle.std.specs.List.{AllByRecursion}
 use Rattle.std.proofs.Math.ListN.{length-set}
-use Rattle.std.proofs.lemmas.Bool.{cases_eq, eq-eqb, ne_eqb, or_left, or_right}
+use Rattle.std.proofs.lemmas.Bool.{cases_eq, eq-eqb, ne_eqb, or_cases, or_left, or_right}
 use Rattle.pl_layouts.specs.declared.control.Control.{Control}
 use Rattle.pl_wiring.specs.Index.{port_index}
 use Rattle.pl_wiring.specs.Labels.{switch_count}
@@ -20,7 +20,7 @@ use Rattle.pl_world.specs.Changes.{host_of, is_failed_at, sent_if_live}
 use Rattle.pl_world.specs.SwitchActs.{Doing, act_done, acts_done, granted}
 use Rattle.pl_world.specs.Worlds.{WorldView}
 use Rattle.pl_control_plane.specs.ControlPlanes.{has_data, is_data_item, is_pass, message_in, messages_of, passes, queue_out, said, said_by, sends, sent_by, tells, told_by, unless}
-use Rattle.pl_control_plane.proofs.PlaneQueues.{any_append, flat_map_append, or_either, put_at_elsewhere, put_at_here, put_here, said_append, set_elsewhere}
+use Rattle.pl_control_plane.proofs.PlaneQueues.{any_append, flat_map_append, put_at_elsewhere, put_at_here, put_here, said_append, set_elsewhere}
 
 abbrev pub says_out : WorldView → ℕ → ℕ → List Control
 says_out w s port = said (queue_out w.plan.k w.out s port)
@@ -188,7 +188,7 @@ module _ (w new : WorldView) (s : ℕ) (a : Act) (p : ℕ) (item : Item) (there 
           ∙ ap (λ x. says_out w s p ++ x) (said_unless (is_failed_at w s p) item ∙ ap (unless (is_failed_at w s p)) (sym (sent p ∙ rw (eq-eqb p p refl) refl)))
 
       carried : is_data_item item ≡ false → carries_out new s p ≡ true → carries_out w s p ≡ true
-      carried none h = elim (or_either (carries_out w s p) (has_data (unless (is_failed_at w s p) (item ∷ [])))
+      carried none h = elim (or_cases (carries_out w s p) (has_data (unless (is_failed_at w s p) (item ∷ [])))
           (sym (ap has_data at_port ∙ any_append is_data_item (queue_out w.plan.k w.out s p) (unless (is_failed_at w s p) (item ∷ []))) ∙ h)) [
             | inl before ↦ before
             | inr new_one ↦ absurd (let e = data_unless (is_failed_at w s p) item none in cc)

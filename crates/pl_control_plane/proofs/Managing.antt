@@ -1,9 +1,9 @@
 -- A turn of the manager in the world is one in the control plane.
-use Rattle.std.proofs.Common.{◌≡◌, ℕ, ◌<◌, Bool, if◌then◌else◌, List, [], ◌∷◌, ◌++◌, length, Option, Some, None, refl, sym, ap, ◌∙◌, subst, append_assoc, append-nil, ap₂, inl, inr, fold}
+use Rattle.std.proofs.Common.{◌≡◌, ℕ, ◌<◌, if◌then◌else◌, List, [], ◌∷◌, ◌++◌, length, Option, Some, None, refl, sym, ap, ◌∙◌, subst, append_assoc, append-nil, ap₂, inl, inr, fold}
 use Rattle.std.specs.List.{position}
 use Rattle.std.proofs.Math.ListN.{length-set}
 use Rattle.std.proofs.lemmas.Bool.{cases_eq, eq-eqb, ne_eqb}
-use Rattle.std.proofs.lemmas.List.Quantifiers.{position-Some}
+use Rattle.pl_lemmas.proofs.Lists.{found_within}
 use Rattle.pl_frame.specs.declared.address.SwitchId.{SwitchId}
 use Rattle.pl_layouts.specs.Equality.{same_switch}
 use Rattle.pl_logic.specs.declared.acts.ManagerAct.{ManagerAct}
@@ -30,11 +30,6 @@ pub record Says (w : WorldView) (acts : List ManagerAct) (new : WorldView) : Typ
   pub manager : new.manager ≡ w.manager
   pub many : length new.from_manager ≡ length w.from_manager
   pub orders : (s : ℕ) → items_at new.from_manager s ≡ items_at w.from_manager s ++ ordered w.plan s acts
-
--- a place that is found is below the length
-found_within : {T : Type 0} (test : T → Bool) (xs : List T) (n : ℕ) → position test xs ≡ Some n → n < length xs
-found_within test [] n is = absurd (cc)
-found_within test (x ∷ xs) n is = (position-Some test (x ∷ xs) n x is).0
 
 one_order : (w : WorldView) (says : ToSwitch) (to : Option ℕ) → ((t : ℕ) → to ≡ Some t → t < length w.from_manager) → (s : ℕ) →
     items_at (said_to w says to).from_manager s ≡ items_at w.from_manager s ++ (if is_to to s then says ∷ [] else [])

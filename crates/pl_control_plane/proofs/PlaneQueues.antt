@@ -1,13 +1,18 @@
 -- What a write at one queue does to what is said and carried.
-use Rattle.std.proofs.Common.{◌≡◌, ℕ, ◌*◌, ◌<◌, ◌||◌, ◌⊎◌, Bool, true, false, List, [], ◌∷◌, ◌++◌, length, get_or, set, refl, sym, ap, ◌∙◌, append_assoc, inl, inr, get_or-set_same, get_or-set_other, ◌+◌}
+use Rattle.std.proofs.Common.{◌≡◌, ℕ, ◌*◌, ◌<◌, ◌||◌, Bool, true, false, List, [], ◌∷◌, ◌++◌, length, get_or, set, refl, sym, ap, ◌∙◌, append_assoc, get_or-set_same, get_or-set_other, ◌+◌, map, suc, zero, if◌then◌else◌, nat_lt, replicate}
 use Rattle.std.specs.List.{flat_map, list_any, AllByRecursion}
+use Rattle.pl_lemmas.proofs.Lists.{replicated}
+use Rattle.pl_frame.specs.declared.address.SwitchId.{SwitchId}
+use Rattle.pl_layouts.specs.declared.control.Control.{Control}
 use Rattle.pl_wiring.specs.Index.{port_index}
 use Rattle.pl_wiring.proofs.Entered.{entry_at-in_range, entry_at-set_other, entry_at-set_same, port_index-below}
 use Rattle.pl_logic.specs.declared.acts.Act.{Act}
 use Rattle.pl_logic.specs.declared.acts.Act.TheVariants as act
+use Rattle.pl_logic.specs.SwitchViews.{SwitchView}
+use Rattle.pl_logic.specs.SwitchFacts.{switch_at_boot}
 use Rattle.pl_queues.specs.Queues.{items_at, put_at}
 use Rattle.pl_world.specs.declared.item.Item.{Item}
-use Rattle.pl_control_plane.specs.ControlPlanes.{queue_out, said, said_by, tells}
+use Rattle.pl_control_plane.specs.ControlPlanes.{no_switch, queue_out, said, said_by, tells, unless}
 
 module _ {A B : Type 0} where
   pub flat_map_append : (f : A → List B) (xs ys : List A) → flat_map f (xs ++ ys) ≡ flat_map f xs ++ flat_map f ys
@@ -25,10 +30,6 @@ module _ {A : Type 0} where
 
 pub said_append : (xs ys : List Item) → said (xs ++ ys) ≡ said xs ++ said ys
 said_append xs ys = flat_map_append said_by xs ys
-
-pub or_either : (x y : Bool) → (x || y) ≡ true → (x ≡ true) ⊎ (y ≡ true)
-or_either true y h = inl refl
-or_either false y h = inr h
 
 -- what is so of each act is so of each word that acts tell the manager
 pub told_all : (P : Act → Type 0) (acts : List Act) → AllByRecursion P acts → AllByRecursion (λ told. P (act.Tell told)) (tells acts)
@@ -59,3 +60,21 @@ module _ {T : Type 0} where
 
   pub put_at_elsewhere : (queues : List (List T)) (n : ℕ) (x : T) (m : ℕ) → (m ≡ n → ⊥) → items_at (put_at queues n x) m ≡ items_at queues m
   put_at_elsewhere queues n x m differ = get_or-set_other queues n m (get_or queues n [] ++ x ∷ []) [] differ
+
+pub unless_all : (P : Control → Type 0) (failed : Bool) (xs : List Control) → AllByRecursion P xs → AllByRecursion P (unless failed xs)
+unless_all P true xs all = tt
+unless_all P false xs all = all
+
+-- each switch is one at its beginning
+pub booted_view : (P : SwitchView → Type 0) → ((id : SwitchId) (k : ℕ) → P (switch_at_boot id k)) → (k : ℕ) (ids : List SwitchId) (s : ℕ) →
+    P (get_or (map (λ id. switch_at_boot id k) ids) s no_switch)
+booted_view P all k [] s = all (record { 0 = 0 }) 0
+booted_view P all k (id ∷ ids) zero = all id k
+booted_view P all k (id ∷ ids) (suc s) = booted_view P all k ids s
+
+pub nothing_said : (k n s port : ℕ) → said (queue_out k (replicate n []) s port) ≡ []
+nothing_said k n s port = by (nat_lt port k)
+  where
+    by : (b : Bool) → said (if b then get_or (replicate n []) (port_index k s port) [] else []) ≡ []
+    by true = ap said (replicated n (port_index k s port) [])
+    by false = refl

@@ -3,6 +3,7 @@
 use Rattle.std.proofs.Common.{◌≡◌, ℕ, zero, suc, ◌+◌, ◌==◌, ◌||◌, ◌⊎◌, Bool, true, false, if◌then◌else◌, List, [], ◌∷◌, ◌++◌, length, Option, Some, None, get_or, set, slice_set, refl, ◌∙◌, subst, inl, inr, ◌-◌, get_or-set_other}
 use Rattle.std.specs.List.{AllByRecursion}
 use Rattle.std.proofs.lemmas.Bool.{cases_eq, eqb-true}
+use Rattle.pl_lemmas.proofs.Lists.{all_append}
 use Rattle.pl_frame.specs.declared.address.Ip4.{Ip4}
 use Rattle.pl_frame.specs.declared.address.Mac.{Mac}
 use Rattle.pl_frame.specs.Ethernet.{source_of}
@@ -23,7 +24,6 @@ use Rattle.pl_switch_rule.specs.Telling.{changes_told}
 use Rattle.pl_switch_rule.proofs.RowActs.{told_acts}
 use Rattle.pl_control_plane.specs.ControlPlanes.{passes, sends}
 use Rattle.pl_control_plane.specs.Homes.{HasHomes}
-use Rattle.pl_world.proofs.Counts.{all_append}
 use Rattle.pl_layouts.specs.Equality.{is_ip}
 
 -- discovery sees the same

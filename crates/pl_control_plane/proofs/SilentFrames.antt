@@ -1,26 +1,24 @@
 -- What a switch does with data frames is not seen by discovery.
-use Rattle.std.proofs.Common.{◌≡◌, ℕ, zero, suc, ◌-◌, ◌<◌, ◌==◌, ◌&&◌, ◌||◌, ◌⊎◌, not, Bool, true, false, if◌then◌else◌, cond, List, [], ◌∷◌, length, Option, Some, None, get_or, slice_get, refl, sym, ◌∙◌, subst, arith, inl, inr, filter}
+use Rattle.std.proofs.Common.{◌≡◌, ℕ, zero, suc, ◌-◌, ◌<◌, ◌==◌, ◌&&◌, ◌||◌, ◌⊎◌, not, Bool, true, false, if◌then◌else◌, cond, List, [], ◌∷◌, length, Option, Some, None, get_or, refl, sym, ◌∙◌, subst, arith, inl, inr, filter}
 use Rattle.std.specs.List.{AllByRecursion, list_any}
 use Rattle.std.proofs.lemmas.Bool.{and_parts, eqb-true}
 use Rattle.std.proofs.lemmas.Option.{same_Some}
 use Rattle.pl_pmac.specs.declared.pmac.Pmac.{Pmac}
 use Rattle.pl_layouts.specs.Frames.{packet_in}
 use Rattle.pl_layouts.specs.Memberships.{flood}
-use Rattle.pl_layouts.specs.Placement.{is_known}
 use Rattle.pl_logic.specs.declared.acts.Act.{Act}
 use Rattle.pl_logic.specs.declared.acts.Act.TheVariants as act
 use Rattle.pl_logic.specs.declared.switch_records.Grant.{Grant}
 use Rattle.pl_logic.specs.declared.switch_records.Member.{Member}
-use Rattle.pl_logic.specs.PortRecords.{id_at, is_usable, is_usable_to, place_at, port_of, ports_of_switch}
-use Rattle.pl_logic.specs.SwitchFacts.{is_avoided, part_of}
+use Rattle.pl_logic.specs.PortRecords.{id_at, is_usable, port_of, ports_of_switch}
+use Rattle.pl_logic.specs.SwitchFacts.{part_of}
 use Rattle.pl_logic.specs.SwitchViews.{SwitchView}
 use Rattle.pl_steps.specs.Steps.{SwitchStep, does, ◌▹◌}
 use Rattle.pl_switch_rule.specs.declared.came.Came.{Came}
-use Rattle.pl_switch_rule.specs.declared.came.Came.TheVariants.{FromAbove, FromBelow, FromHost}
 use Rattle.pl_switch_rule.specs.declared.came.Way.{Way}
 use Rattle.pl_switch_rule.specs.declared.came.Way.TheVariants.{Down, Nowhere, ToHosts, Up}
 use Rattle.pl_switch_rule.specs.Delivering.{makes}
-use Rattle.pl_switch_rule.specs.Forwarding.{Choice, candidates, candidates_by, is_candidate, leads_from_aggregation, leads_from_core, leads_from_edge, leads_to_position, leads_up}
+use Rattle.pl_switch_rule.specs.Forwarding.{Choice, candidates, candidates_by, is_candidate}
 use Rattle.pl_switch_rule.specs.Granting.{grant_number, granted, grants_at, is_local}
 use Rattle.pl_switch_rule.specs.GroupForwarding.{at_most_one, group_ports, is_down, is_reached, is_source, is_up}
 use Rattle.pl_switch_rule.specs.SwitchRule.{IsChoice, comes_from_switch}
@@ -28,6 +26,8 @@ use Rattle.pl_switch_rule.specs.Intake.{packet_acts, sends_in, takes}
 use Rattle.pl_switch_rule.specs.Messages.{floods, probes}
 use Rattle.pl_switch_rule.proofs.RowActs.{AreWays, FrameActs, floods_acts, makes_acts, packet_taken_acts, probes_acts, sends_in_acts, switch_frame_acts}
 use Rattle.pl_switch_rule.proofs.RowViews.{begins_stays, probes_stay, sends_in_stays, switch_frame_stays}
+use Rattle.pl_switch_rule.proofs.Grants.{none_of_empty}
+use Rattle.pl_switch_rule.proofs.Candidates.{candidate_usable}
 use Rattle.pl_control_plane.specs.Homes.{HasHomes}
 use Rattle.pl_control_plane.proofs.Silent.{GoesWell, IsMute, IsSeen, IsSilent, seen_self}
 
@@ -35,62 +35,20 @@ use Rattle.pl_control_plane.proofs.Silent.{GoesWell, IsMute, IsSeen, IsSilent, s
 abbrev IsWay : SwitchView → ℕ → Type 0
 IsWay v port = (is_usable v port ≡ true) ⊎ ((port_of v port).host ≡ true)
 
-all_filter : {T : Type 0} (P : T → Type 0) (test : T → Bool) (xs : List T) → ((x : T) → test x ≡ true → P x) → AllByRecursion P (filter test xs)
-all_filter P test [] each = tt
-all_filter P test (x ∷ xs) each = by (test x) refl (all_filter P test xs each)
+passed_filter : {T : Type 0} (P : T → Type 0) (test : T → Bool) (xs : List T) → ((x : T) → test x ≡ true → P x) → AllByRecursion P (filter test xs)
+passed_filter P test [] each = tt
+passed_filter P test (x ∷ xs) each = by (test x) refl (passed_filter P test xs each)
   where
     by : (b : Bool) → test x ≡ b → AllByRecursion P (filter test xs) → AllByRecursion P (cond b (x ∷ filter test xs) (filter test xs))
     by true e rest = (each x e, rest)
     by false e rest = rest
 
-pub filter_keeps : {T : Type 0} (P : T → Type 0) (test : T → Bool) (xs : List T) → AllByRecursion P xs → AllByRecursion P (filter test xs)
-filter_keeps P test [] all = tt
-filter_keeps P test (x ∷ xs) all = by (test x) (filter_keeps P test xs all.1)
-  where
-    by : (b : Bool) → AllByRecursion P (filter test xs) → AllByRecursion P (cond b (x ∷ filter test xs) (filter test xs))
-    by true rest = (all.0, rest)
-    by false rest = rest
-
 -- Unicast.
-
-usable_of : (v : SwitchView) (level port : ℕ) (more : Bool) → (is_usable_to v level port && more) ≡ true → is_usable v port ≡ true
-usable_of v level port more h =
-    (and_parts (is_usable v port) (is_known (place_at v port).level level) (and_parts (is_usable_to v level port) more h).0).0
-
-from_edge : (v : SwitchView) (to : Pmac) (came : Came) (port : ℕ) → leads_from_edge v to came port ≡ true → is_usable v port ≡ true
-from_edge v to FromHost port h = usable_of v 1 port (not (is_avoided v (id_at v port) to.pod to.position)) (and_parts (not (is_local v to)) (leads_up v 1 to port) h).1
-from_edge v to FromBelow port h = absurd (cc)
-from_edge v to FromAbove port h = absurd (cc)
-
-from_aggregation : (v : SwitchView) (to : Pmac) (came : Came) (port : ℕ) → leads_from_aggregation v to came port ≡ true → is_usable v port ≡ true
-from_aggregation v to FromHost port h = absurd (cc)
-from_aggregation v to FromBelow port h = by (is_known v.place.pod to.pod) h
-  where
-    by : (b : Bool) → (if b then leads_to_position v to port else leads_up v 2 to port) ≡ true → is_usable v port ≡ true
-    by true h = usable_of v 0 port (is_known (place_at v port).position to.position) h
-    by false h = usable_of v 2 port (not (is_avoided v (id_at v port) to.pod to.position)) h
-from_aggregation v to FromAbove port h =
-    usable_of v 0 port (is_known (place_at v port).position to.position) (and_parts (is_known v.place.pod to.pod) (leads_to_position v to port) h).1
-
-from_core : (v : SwitchView) (to : Pmac) (came : Came) (port : ℕ) → leads_from_core v to came port ≡ true → is_usable v port ≡ true
-from_core v to FromHost port h = absurd (cc)
-from_core v to FromBelow port h = usable_of v 1 port (is_known (place_at v port).pod to.pod) h
-from_core v to FromAbove port h = absurd (cc)
-
-candidate_usable : (v : SwitchView) (to : Pmac) (came : Came) (port : ℕ) → is_candidate v to came port ≡ true → is_usable v port ≡ true
-candidate_usable v to came port h = by (is_known v.place.level 0) (is_known v.place.level 1) (is_known v.place.level 2) h
-  where
-    by : (a b c : Bool) → (if a then leads_from_edge v to came port else if b then leads_from_aggregation v to came port
-        else if c then leads_from_core v to came port else false) ≡ true → is_usable v port ≡ true
-    by true b c h = from_edge v to came port h
-    by false true c h = from_aggregation v to came port h
-    by false false true h = from_core v to came port h
-    by false false false h = absurd (cc)
 
 candidates_usable : (v : SwitchView) (to : Pmac) (came : Option Came) → AllByRecursion (λ port. is_usable v port ≡ true) (candidates_by v to came)
 unfolding candidates
 candidates_usable v to None = tt
-candidates_usable v to (Some came) = all_filter (λ port. is_usable v port ≡ true) (is_candidate v to came) (ports_of_switch v.k) (candidate_usable v to came)
+candidates_usable v to (Some came) = passed_filter (λ port. is_usable v port ≡ true) (is_candidate v to came) (ports_of_switch v.k) (candidate_usable v to came)
 
 at_usable : (v : SwitchView) (ports : List ℕ) (i d : ℕ) → AllByRecursion (λ port. is_usable v port ≡ true) ports → i < length ports →
     is_usable v (get_or ports i d) ≡ true
@@ -132,31 +90,20 @@ one_way v (p ∷ ports) all = (all.0, tt)
 
 group_ways : (v : SwitchView) (way : Way) (group : ℕ) (source : Pmac) → HasHomes v → AllByRecursion (IsWay v) (group_ports v way group source)
 group_ways v Up group source homes =
-    one_way v _ (all_filter (IsWay v) _ (ports_of_switch v.k) (λ port h. inl (and_parts (is_usable v port) (is_up (part_of v group) (id_at v port)) h).0))
+    one_way v _ (passed_filter (IsWay v) _ (ports_of_switch v.k) (λ port h. inl (and_parts (is_usable v port) (is_up (part_of v group) (id_at v port)) h).0))
 group_ways v Down group source homes =
-    all_filter (IsWay v) _ (ports_of_switch v.k) (λ port h. inl (and_parts (is_usable v port) (is_down (part_of v group) (id_at v port)) h).0)
+    passed_filter (IsWay v) _ (ports_of_switch v.k) (λ port h. inl (and_parts (is_usable v port) (is_down (part_of v group) (id_at v port)) h).0)
 group_ways v ToHosts group source homes =
-    all_filter (IsWay v) _ (ports_of_switch v.k) (λ port h. inr (reached_way v group port homes (and_parts (is_reached v group port) (not (is_source v source port)) h).0))
+    passed_filter (IsWay v) _ (ports_of_switch v.k) (λ port h. inr (reached_way v group port homes (and_parts (is_reached v group port) (not (is_source v source port)) h).0))
 group_ways v Nowhere group source homes = tt
 
 -- Home.
-
-no_number : (grants : List Grant) (vmid : ℕ) → grants ≡ [] → grant_number grants vmid ≡ None
-no_number [] vmid e = by (vmid == 0)
-  where
-    none : List Grant
-    none = []
-
-    by : (b : Bool) → (if b then None else slice_get none (vmid - 1)) ≡ None
-    by true = refl
-    by false = refl
-no_number (grant ∷ grants) vmid e = absurd (cc)
 
 pub granted_host : (v : SwitchView) (address : Pmac) (grant : Grant) → granted v address ≡ Some grant → HasHomes v → (port_of v address.port).host ≡ true
 granted_host v address grant is homes = by (port_of v address.port).host refl
   where
     none_granted : (b : Bool) → grants_at v address.port ≡ [] → (if b then grant_number (grants_at v address.port) address.vmid else None) ≡ None
-    none_granted true e = no_number (grants_at v address.port) address.vmid e
+    none_granted true e = none_of_empty (grants_at v address.port) address.vmid e
     none_granted false e = refl
 
     by : (b : Bool) → (port_of v address.port).host ≡ b → b ≡ true

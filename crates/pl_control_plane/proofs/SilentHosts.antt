@@ -3,6 +3,7 @@ use Rattle.std.proofs.Common.{◌≡◌, ℕ, ◌==◌, ◌&&◌, not, Bool, tru
 use Rattle.std.specs.List.{AllByRecursion}
 use Rattle.std.specs.BTreeSet.{insert_key}
 use Rattle.std.specs.Ordering.{match_ordering}
+use Rattle.pl_lemmas.proofs.Lists.{all_filter}
 use Rattle.pl_frame.specs.declared.address.Mac.{Mac}
 use Rattle.pl_frame.specs.Ethernet.{source_of}
 use Rattle.pl_pmac.specs.declared.pmac.Pmac.{Pmac}
@@ -24,7 +25,7 @@ use Rattle.pl_switch_rule.specs.SwitchRule.{IsChoice}
 use Rattle.pl_switch_rule.proofs.RowActs.{groups_acts}
 use Rattle.pl_switch_rule.proofs.RowViews.{taken_in}
 use Rattle.pl_control_plane.specs.Homes.{HasHomes}
-use Rattle.pl_control_plane.proofs.SilentFrames.{filter_keeps, floods_frame_silent, granted_host, makes_silent, packet_silent, probes_silent, sends_in_silent}
+use Rattle.pl_control_plane.proofs.SilentFrames.{floods_frame_silent, granted_host, makes_silent, packet_silent, probes_silent, sends_in_silent}
 use Rattle.pl_control_plane.proofs.Silent.{IsSilent, IsStill, grants_homes, silent_if, silent_then, still_does, still_step}
 
 -- Members.
@@ -56,7 +57,7 @@ changed v port amac members (change ∷ changes) host all =
     by : (b : Bool) → AllByRecursion (λ m. (port_of v m.port).host ≡ true)
         (if b then joins port amac (group_number change.group) members else leaves port amac (group_number change.group) members)
     by true = inserted v (record { group = group_number change.group; port = port; amac = amac }) members host all
-    by false = filter_keeps (λ m. (port_of v m.port).host ≡ true) (λ m. not ((m.group == group_number change.group) && is_member port amac m)) members all
+    by false = all_filter (λ m. (port_of v m.port).host ≡ true) (λ m. not ((m.group == group_number change.group) && is_member port amac m)) members all
 
 -- Intake.
 
@@ -90,5 +91,5 @@ invalidates_silent v old trap (Some grant) is homes =
     (still_step v (sets_trap v old grant trap) [] (record { id = refl; k = refl; place = refl; ports = refl; attempt = refl; proposed = refl; granted = refl; holds = refl })
     (grants_homes v old.port _ host homes) tt)
     (λ w seen at. members_step w (filter (λ m. not (is_member old.port grant.amac m)) w.members) at
-    (filter_keeps (λ m. (port_of w m.port).host ≡ true) (λ m. not (is_member old.port grant.amac m)) w.members at.members)))
+    (all_filter (λ m. (port_of w m.port).host ≡ true) (λ m. not (is_member old.port grant.amac m)) w.members at.members)))
     (λ w seen at. probes_silent old grant w (rw seen.ports host) at)

@@ -4,8 +4,7 @@ use Rattle.std.specs.List.{AllByRecursion}
 use Rattle.std.proofs.lemmas.Bool.{and_parts, ltb-true}
 use Rattle.pl_wiring.specs.declared.host.Host.{Host}
 use Rattle.pl_wiring.specs.declared.label.SwitchNo.{SwitchNo}
-use Rattle.pl_wiring.specs.declared.link.Peer.{Peer}
-use Rattle.pl_wiring.specs.declared.link.Peer.TheVariants.{HostPort, Switch}
+use Rattle.pl_wiring.specs.declared.link.Peer.TheVariants.{HostPort}
 use Rattle.pl_wiring.specs.FatTree.{IsAt}
 use Rattle.pl_wiring.specs.Labels.{edge_count, switch_count}
 use Rattle.pl_wiring.specs.Peers.{peer_of}
@@ -13,16 +12,13 @@ use Rattle.pl_wiring.specs.Plan.{IsPlan, Plan}
 use Rattle.pl_wiring.proofs.Linked.{peer_is_none, peer_says}
 use Rattle.pl_wiring.proofs.Ports.{IsPeer-host_port}
 use Rattle.pl_journal.specs.Places.{is_host_port}
+use Rattle.pl_journal.proofs.Levels.{host_port_is}
 use Rattle.pl_world.specs.declared.error.StepError.TheVariants.{NoSuch}
 use Rattle.pl_world.specs.Booting.{first_stand}
 use Rattle.pl_world.specs.Refusals.{has_host, has_port, has_switch, is_for_hosts, refusal_of_move, refusal_of_place}
 use Rattle.pl_world.specs.Changes.{host_at}
 use Rattle.pl_world.specs.Worlds.{WorldView}
 use Rattle.pl_control_plane.specs.HostsAtEdges.{IsAtEdge}
-
-is_free : (peer : Peer) → is_host_port peer ≡ true → peer ≡ HostPort
-is_free HostPort h = refl
-is_free (Switch t q) h = absurd (cc)
 
 -- a port that is there and has no link is one of an edge switch
 pub free_port : (plan : Plan) (s p : ℕ) → IsPlan plan → s < switch_count plan.k → p < plan.k → peer_of plan s p ≡ HostPort → s < edge_count plan.k
@@ -41,7 +37,7 @@ moves_to_edge w h s port edge same is none =
         let here = (and_parts (has_host w.plan h) (is_for_hosts w.plan s port) e).1 in
         let parts = and_parts (has_port w.plan s port) (is_host_port (peer_of w.plan s port)) here in
         let there = and_parts (has_switch w.plan s) (nat_lt port w.plan.k) parts.0 in
-        let free = is_free (peer_of w.plan s port) parts.1 in
+        let free = host_port_is (peer_of w.plan s port) parts.1 in
         let within = ltb-true port w.plan.k there.1 in
         record {
           edge = rw same (free_port w.plan s port is (ltb-true s (switch_count w.plan.k) there.0) within free);

@@ -1,8 +1,8 @@
 -- What each event of the world is to the control plane.
-use Rattle.std.proofs.Common.{◌≡◌, ℕ, suc, ◌+◌, ◌*◌, ◌<◌, not, Bool, true, false, nat_lt, if◌then◌else◌, List, [], ◌∷◌, length, Option, Some, None, set, slice_get, refl, sym, ap, ◌∙◌, subst, arith, append-nil, Contains}
-use Rattle.std.specs.List.{AllByRecursion, find}
+use Rattle.std.proofs.Common.{◌≡◌, ℕ, ◌+◌, ◌*◌, ◌<◌, not, false, List, [], ◌∷◌, length, Option, Some, None, set, slice_get, refl, sym, ap, ◌∙◌, subst, arith, append-nil}
+use Rattle.std.specs.List.{AllByRecursion}
 use Rattle.std.proofs.Math.ListN.{length-set}
-use Rattle.std.proofs.lemmas.Bool.{and_parts, ltb-true}
+use Rattle.std.proofs.lemmas.Bool.{and_parts}
 use Rattle.std.proofs.lemmas.Option.{slice_get_within}
 use Rattle.pl_wiring.specs.declared.label.SwitchNo.{SwitchNo}
 use Rattle.pl_wiring.specs.declared.link.Link.{Link}
@@ -33,7 +33,7 @@ use Rattle.pl_world.specs.Changes.{noted, out_of, switch_no}
 use Rattle.pl_world.specs.Flying.{IsCounted, IsDataItem, IsItem}
 use Rattle.pl_world.specs.LinksAndMoves.{host_moved, item_lost, joins, link_between, link_failed}
 use Rattle.pl_world.specs.OtherActs.{heard_after_tick, skip_noted}
-use Rattle.pl_world.specs.Refusals.{is_linked, has_port, has_queue, has_switch, is_filled, refusal, refusal_of_event, refusal_of_queue}
+use Rattle.pl_world.specs.Refusals.{is_linked, has_port, has_queue, is_filled, refusal, refusal_of_event}
 use Rattle.pl_world.specs.WorldRule.{ComesAtSwitch, WorldStep, heard_item}
 use Rattle.pl_world.specs.Worlds.{WorldView}
 use Rattle.pl_world.proofs.Balances.{head_is_item}
@@ -42,7 +42,8 @@ use Rattle.pl_world.proofs.Counts.{all_at, all_found}
 use Rattle.pl_world.proofs.Happenings.{Happened, happened}
 use Rattle.pl_world.proofs.Happenings.Happened.{Asked, Departed, Failed, FromHost, Lost, OutOfPort, OverLink, PlayedFrame, Repaired, Reported}
 use Rattle.pl_world.proofs.Happenings.Happened.{Ordered as WasOrdered, Ticked as HasTicked}
-use Rattle.pl_world.proofs.StepBalances.{event_is_not_refused, peer_is_port, same_refusal}
+use Rattle.pl_world.proofs.StepBalances.{event_is_not_refused, found_contained, peer_is_port, same_refusal}
+use Rattle.pl_world.proofs.Refusing.{port_exists, there_is}
 use Rattle.pl_control_plane.specs.ControlPlanes.{ControlPlane, control_plane}
 use Rattle.pl_control_plane.specs.HostsAtEdges.{HostsAtEdges, IsAtEdge}
 use Rattle.pl_control_plane.specs.PlaneSteps.{IsLeft, PlaneStep, SwitchTurns, WholeStep}
@@ -58,15 +59,6 @@ pub record IsReady (w : WorldView) : Type 0 where
   pub host_items : AllByRecursion (AllByRecursion IsDataItem) w.from_hosts
   pub port_items : AllByRecursion (AllByRecursion IsItem) w.out
   pub stands : AllByRecursion (IsAtEdge w.plan) w.stands
-
--- a link that is found is one of the wiring, so its ends are there
-found_contained : (p : Link → Bool) (links : List Link) (link : Link) → find p links ≡ Some link → Contains links link
-found_contained p [] link is = absurd (cc)
-found_contained p (l ∷ links) link is = by_first (p l) (found_contained p links link) is
-  where
-    by_first : (b : Bool) → (find p links ≡ Some link → Contains links link) → (if b then Some l else find p links) ≡ Some link → Contains (l ∷ links) link
-    by_first true later e = (0, omega arith, cc)
-    by_first false later e = let there = later e in (suc there.0, omega (arith, there.1), there.2)
 
 record EndsThere (k : ℕ) (link : Link) : Type 0 where
   lower : link.lower.0 < switch_count k
@@ -108,15 +100,6 @@ moved_left : (w : WorldView) (h : ℕ) (to from : Stand) → slice_get w.stands 
 moved_left w h to from found r =
     let there : IsAtEdge w.plan from = all_found (IsAtEdge w.plan) w.stands h from found r.stands in
     emptied w from.edge.0 from.port (let e = there.edge in omega arith) there.port r.solid.queues
-
--- a queue that is there, and has items
-not_there : (there filled : Bool) → refusal_of_queue there filled ≡ None → there ≡ true
-not_there true filled e = refl
-not_there false filled e = absurd (cc)
-
-port_there : (plan : Plan) (s p : ℕ) → has_port plan s p ≡ true → (s < switch_count plan.k) × (p < plan.k)
-port_there plan s p e = let both = and_parts (has_switch plan s) (nat_lt p plan.k) e in
-    (ltb-true s (switch_count plan.k) both.0, ltb-true p plan.k both.1)
 
 module _ (switch : SwitchRule) (manager : ManagerRule) (host : HostRule) (accounts : AccountsForFrames switch) where
   comes_from_host : (w mid : WorldView) (stand : Stand) (item : Item) (new : WorldView) → IsReady w → control_plane mid ≡ control_plane w →
@@ -195,11 +178,11 @@ module _ (switch : SwitchRule) (manager : ManagerRule) (host : HostRule) (accoun
       from_host w h.0 item items stand new r at all.0 comes
   by_case w happens new none r (OverLink s p item items t q is head joined comes) =
       let free = subst (λ e. refusal_of_event w e ≡ None) is none in
-      let at = port_there w.plan s.0 p (not_there (has_queue w.plan (queue.Port s p)) (is_filled w (queue.Port s p)) free) in
+      let at = port_exists w.plan s.0 p (there_is (has_queue w.plan (queue.Port s p)) (is_filled w (queue.Port s p)) free) in
       over_link w s.0 p q item items t new joined at.0 at.1 head r (head_is_item w.out (port_index w.plan.k s.0 p) item items head r.port_items) comes
   by_case w happens new none r (OutOfPort s p item items is head joined comes) =
       let free = subst (λ e. refusal_of_event w e ≡ None) is none in
-      let at = port_there w.plan s.0 p (not_there (has_queue w.plan (queue.Port s p)) (is_filled w (queue.Port s p)) free) in
+      let at = port_exists w.plan s.0 p (there_is (has_queue w.plan (queue.Port s p)) (is_filled w (queue.Port s p)) free) in
       let mid : WorldView = record w { out = set w.out (port_index w.plan.k s.0 p) items } in
       frames_left w mid (control_plane new) (cut_out w s.0 p at.0 at.1 r.solid.queues (item ∷ []) items head) refl refl
       (ap control_plane (out_by_hosts host mid s.0 p item new comes))
@@ -225,8 +208,8 @@ module _ (switch : SwitchRule) (manager : ManagerRule) (host : HostRule) (accoun
       frames_left w w (control_plane new) (nothing_left (control_plane w)) refl refl (ap control_plane repairs)
   by_case w happens new none r (Lost s p item items is head loses) =
       let free = subst (λ e. refusal_of_event w e ≡ None) is none in
-      let linked = not_there (is_linked w.plan s.0 p) (has_items (out_of w s.0 p)) free in
-      let at = port_there w.plan s.0 p (and_parts (has_port w.plan s.0 p) (not (is_host_port (peer_of w.plan s.0 p))) linked).0 in
+      let linked = there_is (is_linked w.plan s.0 p) (has_items (out_of w s.0 p)) free in
+      let at = port_exists w.plan s.0 p (and_parts (has_port w.plan s.0 p) (not (is_host_port (peer_of w.plan s.0 p))) linked).0 in
       let mid : WorldView = record w { out = set w.out (port_index w.plan.k s.0 p) items } in
       frames_left w mid (control_plane new) (cut_out w s.0 p at.0 at.1 r.solid.queues (item ∷ []) items head) refl refl
           (ap control_plane loses ∙ lost_same mid item)

@@ -2,7 +2,8 @@
 use Rattle.std.proofs.Common.{◌≡◌, ℕ, ◌+◌, ◌≤◌, ◌<◌, ◌==◌, Bool, true, false, if◌then◌else◌, List, [], ◌∷◌, ◌++◌, Option, None, Some, get_or, reverse, set, refl, sym, ap, subst, arith, append-nil}
 use Rattle.std.specs.List.{AllByRecursion, fold}
 use Rattle.std.proofs.lemmas.Bool.Decides.{nat_tests}
-use Rattle.std.proofs.lemmas.List.{append_assoc, reverse-append}
+use Rattle.std.proofs.lemmas.List.{append_assoc}
+use Rattle.pl_lemmas.proofs.Lists.{all_append}
 use Rattle.pl_frame.specs.declared.address.Mac.{Mac}
 use Rattle.pl_pmac.specs.declared.pmac.Pmac.{Pmac}
 use Rattle.pl_wiring.specs.Index.{port_index}
@@ -14,6 +15,7 @@ use Rattle.pl_journal.specs.declared.entry.Entry.{Entry}
 use Rattle.pl_journal.specs.declared.entry.Entry.TheVariants.{Copied, Crossed, Dropped, Granted, Made, Placed, Redirected, Taken}
 use Rattle.pl_journal.specs.Flights.{root}
 use Rattle.pl_journal.specs.Places.{Spot}
+use Rattle.pl_journal.proofs.Steps.{past_more}
 use Rattle.pl_logic.specs.declared.acts.Act.{Act}
 use Rattle.pl_logic.specs.declared.acts.Act.TheVariants as act
 use Rattle.pl_logic.specs.declared.messages.ToManager.{ToManager}
@@ -26,7 +28,7 @@ use Rattle.pl_world.specs.Changes.{host_no, host_of, is_failed_at, switch_no, to
 use Rattle.pl_world.specs.Flying.{born, times_in_all}
 use Rattle.pl_world.specs.SwitchActs.{Doing, act_done, acts_done, granted, place_noted, with_late}
 use Rattle.pl_world.specs.Worlds.{WorldView}
-use Rattle.pl_world.proofs.Counts.{all_append, born_more}
+use Rattle.pl_world.proofs.Counts.{born_more}
 use Rattle.pl_world.proofs.SwitchActBalances.{IsLegal, Steady, act_said, act_steady, amid, said_by, said_is_legal}
 use Rattle.pl_copies.specs.Copies.{ComeOnce, standing}
 use Rattle.pl_copies.proofs.Changing.{IsQuiet, begin_one, claim, copied_root, copy_one, note_quiet, of_root, put_control, put_out, root_kept, weaker}
@@ -59,9 +61,6 @@ pub record IsAmid (s : ℕ) (acts : List Act) (w : WorldView) (speech : SpokenFr
   pub late_quiet : AllByRecursion IsQuiet late
   pub few : MakesFew w.plan s acts
 
-pub reverse_one : (journal : List Entry) (e : Entry) → reverse (journal ++ e ∷ []) ≡ e ∷ reverse journal
-reverse_one journal e = reverse-append journal (e ∷ [])
-
 -- several entries, one after the other
 pub note_all : (plan : Plan) (at : ℕ → Option Spot) (from_hosts out : List (List Item)) (many : ℕ) (g : ℕ → Spot → ℕ) (entries journal : List Entry) → AllByRecursion IsQuiet entries →
     ComeOnce plan at (reverse journal) from_hosts out many g → ComeOnce plan at (reverse (journal ++ entries)) from_hosts out many g
@@ -70,7 +69,7 @@ note_all plan at from_hosts out many g [] journal quiet c =
 note_all plan at from_hosts out many g (e ∷ entries) journal quiet c =
     subst (λ j. ComeOnce plan at (reverse j) from_hosts out many g) (append_assoc journal (e ∷ []) entries)
     (note_all plan at from_hosts out many g entries (journal ++ e ∷ []) quiet.1
-    (subst (λ p. ComeOnce plan at p from_hosts out many g) (sym (reverse_one journal e)) (note_quiet plan at (reverse journal) from_hosts out many g e quiet.0 c)))
+    (subst (λ p. ComeOnce plan at p from_hosts out many g) (sym (past_more journal e)) (note_quiet plan at (reverse journal) from_hosts out many g e quiet.0 c)))
 
 of_root_sum : (past : List Entry) (id a b r : ℕ) → of_root past id (a + b) r ≡ of_root past id a r + of_root past id b r
 of_root_sum past id a b r = by_test (root past id == r)
@@ -132,7 +131,7 @@ module _ (s k : ℕ) (w : WorldView) (acts : List Act) where
   quiet_end false late id quiet = quiet
 
   one_entry : (P : List Entry → Type 0) (journal : List Entry) (e : Entry) → P (e ∷ reverse journal) → P (reverse (journal ++ e ∷ []))
-  one_entry P journal e is = subst P (sym (reverse_one journal e)) is
+  one_entry P journal e is = subst P (sym (past_more journal e)) is
 
   -- a frame that was redirected crosses the switch once more
   again : (P : List Entry → Type 0) (b : Bool) (id : ℕ) → (P (reverse w.journal) → P (Crossed id (switch_no s) ∷ reverse w.journal)) → P (reverse w.journal) →

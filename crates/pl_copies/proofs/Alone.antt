@@ -20,9 +20,10 @@ use Rattle.pl_world.specs.declared.item.Item.{Item}
 use Rattle.pl_world.specs.declared.item.Item.TheVariants.{Control, Data}
 use Rattle.pl_world.specs.Changes.{out_of}
 use Rattle.pl_world.specs.Worlds.{WorldView}
+use Rattle.pl_world.proofs.Births.{born_once}
 use Rattle.pl_copies.specs.Alone.{AreAlone, goes_up, is_above, rising}
 use Rattle.pl_copies.specs.Copies.{ComesOnce, comes_from_place, count_all, count_in, has_root, leads_to, may_come, may_come_by}
-use Rattle.pl_copies.proofs.Runs.{born_at_most_one, count_all-at}
+use Rattle.pl_copies.proofs.Runs.{count_all-at}
 use Rattle.pl_copies.proofs.Ways.{Rung, label_there, rung}
 use Rattle.pl_copies.proofs.Ways.Rung.{DownFromCore, DownToEdge, UpFromEdge, UpToCore}
 use Rattle.pl_journal.specs.Flights.{label_level}
@@ -105,7 +106,7 @@ alone w is come = record {
       and_from (has_root (reverse w.journal) r id frame) (may_come_by w.plan (n / w.plan.k) (n % w.plan.k) there frame) both.0
       (or_right (not (is_group (destination_of frame))) _ (up_comes w.plan.k (n / w.plan.k) (n % w.plan.k) (peer_of w.plan (n / w.plan.k) (n % w.plan.k)) there both.1))) w.out in
       let all = come.once r there in
-      let most = born_at_most_one r w.begun in
+      let most = born_once r w.begun in
       omega (arith, fewer, all, most);
   waiting = λ s port r within.
       let it = reaches w.plan is s port in
@@ -114,7 +115,7 @@ alone w is come = record {
       let few = fewer_in (has_root (reverse w.journal) r) (test n) (λ id frame passes. here r s port it.there it.may id frame within passes) (out_of w s port) in
       let among = count_all-at test w.out n in
       let all = come.once r it.there in
-      let most = born_at_most_one r w.begun in
+      let most = born_once r w.begun in
       omega (arith, few, among, all, most);
 }
   where

@@ -6,6 +6,7 @@ use Rattle.std.proofs.Math.ListN.{length-set}
 use Rattle.std.proofs.lemmas.Bool.{and_parts, cases_eq, cond-false, cond-true, eq-eqb, eqb-true, ltb-true, ne_eqb, or_right}
 use Rattle.std.proofs.lemmas.List.Quantifiers.{position-Some}
 use Rattle.std.proofs.lemmas.Option.{slice_get-get_or, slice_get_within}
+use Rattle.pl_lemmas.proofs.Lists.{set_get, set_get_other}
 use Rattle.pl_wiring.specs.declared.label.SwitchNo.{SwitchNo}
 use Rattle.pl_wiring.specs.declared.link.Peer.{Peer}
 use Rattle.pl_wiring.specs.declared.link.Peer.TheVariants.{HostPort, Switch}
@@ -18,6 +19,7 @@ use Rattle.pl_journal.specs.declared.cause.Cause.TheVariants as cause
 use Rattle.pl_journal.specs.declared.entry.Entry.{Entry}
 use Rattle.pl_journal.specs.declared.entry.Entry.TheVariants.{Arrived, Crossed, Dropped, Moved}
 use Rattle.pl_journal.specs.Places.{Spot, at_port, spot_of}
+use Rattle.pl_journal.proofs.Steps.{past_more}
 use Rattle.pl_logic.specs.declared.messages.ToSwitch.{ToSwitch}
 use Rattle.pl_logic.specs.declared.reception.Reception.{Reception}
 use Rattle.pl_logic.specs.declared.reception.Reception.TheVariants.{Kept, NotMember}
@@ -60,7 +62,7 @@ use Rattle.pl_world.proofs.StepBalances.{Sound, heard_rest, noted_owes, peer_is_
 use Rattle.pl_world.proofs.SwitchActBalances.{says_rest}
 use Rattle.pl_copies.specs.Copies.{ComeOnce, ComesOnce, standing}
 use Rattle.pl_copies.specs.Standing.{KnowTrees}
-use Rattle.pl_copies.proofs.Acting.{MakesFew, in_hand, note_all, of_root_less, reverse_one, used}
+use Rattle.pl_copies.proofs.Acting.{MakesFew, in_hand, note_all, of_root_less, used}
 use Rattle.pl_copies.proofs.Changing.{IsQuiet, arrive_one, claim, empty_host, empty_out, note_moved, note_quiet, of_root, take_any, take_host, take_out, weaker}
 use Rattle.pl_copies.proofs.SinglePasses.{AreSingle, hears_single, host_single, quiet_still, single_few, single_used, still_is_single}
 use Rattle.pl_copies.proofs.Turning.{host_comes, over_link_few, peer_back, switch_comes}
@@ -73,7 +75,7 @@ pub noted_once : (w : WorldView) (g : ℕ → Spot → ℕ) (e : Entry) → IsQu
     ComeOnce w.plan (standing w.stands) (reverse w.journal) w.from_hosts w.out w.begun g →
     ComeOnce w.plan (standing w.stands) (reverse (w.journal ++ e ∷ [])) w.from_hosts w.out w.begun g
 noted_once w g e quiet c =
-    subst (λ p. ComeOnce w.plan (standing w.stands) p w.from_hosts w.out w.begun g) (sym (reverse_one w.journal e))
+    subst (λ p. ComeOnce w.plan (standing w.stands) p w.from_hosts w.out w.begun g) (sym (past_more w.journal e))
     (note_quiet w.plan (standing w.stands) (reverse w.journal) w.from_hosts w.out w.begun g e quiet c)
 
 -- who gets a frame stands at the port out of which it comes, as the journal has it
@@ -97,18 +99,6 @@ stands_where w come s port h found =
     let parts = and_parts (stand.edge.0 == s) (stand.port == port) all.1 in
     come.standing h ∙ ap (option_map (λ (x : Stand). at_port x.edge.0 x.port)) (slice_get-get_or w.stands h none all.0)
     ∙ ap Some (ap (λ a. at_port a stand.port) (eqb-true stand.edge.0 s parts.0) ∙ ap (λ b. at_port s b) (eqb-true stand.port port parts.1))
-
-set_get : {T : Type 0} (xs : List T) (n : ℕ) (x : T) → n < length xs → slice_get (set xs n x) n ≡ Some x
-set_get [] n x within = absurd (omega arith)
-set_get (y ∷ xs) zero x within = refl
-set_get (y ∷ xs) (suc n) x within = set_get xs n x (omega arith)
-
-set_get_other : {T : Type 0} (xs : List T) (n m : ℕ) (x : T) → (n ≡ m → ⊥) → slice_get (set xs n x) m ≡ slice_get xs m
-set_get_other [] n m x other = refl
-set_get_other (y ∷ xs) zero zero x other = absurd (other refl)
-set_get_other (y ∷ xs) zero (suc m) x other = refl
-set_get_other (y ∷ xs) (suc n) zero x other = refl
-set_get_other (y ∷ xs) (suc n) (suc m) x other = set_get_other xs n m x (λ same. other (ap suc same))
 
 stands_then : (stands : List Stand) (h : ℕ) (to from : Stand) → slice_get stands h ≡ Some from →
     (x : ℕ) → standing (set stands h to) x ≡ (if h == x then Some (at_port to.edge.0 to.port) else standing stands x)
@@ -198,7 +188,7 @@ module _ (accounts : AccountsForFrames Loose) (w : WorldView) (counted : IsCount
       (λ r there. of_root_less (reverse w.journal) id (used w.plan t.0 there (comes_from_switch loose.choose v q frame).acts) (claim w.plan s port there frame) r (lets.0 there)) taken) in
       let c2 : ComeOnce w.plan (standing w.stands) (reverse (w.journal ++ Crossed id t ∷ [])) w.from_hosts w1.out w.begun
       (in_hand w.plan t.0 (reverse (w.journal ++ Crossed id t ∷ [])) turn.acts (Waiting id false)) =
-      subst (λ p. ComeOnce w.plan (standing w.stands) p w.from_hosts w1.out w.begun (in_hand w.plan t.0 p turn.acts (Waiting id false))) (sym (reverse_one w.journal (Crossed id t)))
+      subst (λ p. ComeOnce w.plan (standing w.stands) p w.from_hosts w1.out w.begun (in_hand w.plan t.0 p turn.acts (Waiting id false))) (sym (past_more w.journal (Crossed id t)))
       (note_quiet w.plan (standing w.stands) (reverse w.journal) w.from_hosts w1.out w.begun _ (Crossed id t) tt c1) in
       switch_comes Loose accounts (noted w1 (Crossed id t)) t.0 (Comes q frame) (Waiting id false) new (rw (is_frame.kind) refl)
       (λ u size. record { within = subst (λ n. q < n) (sym size) port_there.1; whole = is_frame.whole })
@@ -236,7 +226,7 @@ module _ (accounts : AccountsForFrames Loose) (w : WorldView) (counted : IsCount
       (λ r there. of_root_less (reverse w.journal) id (used w.plan s there turn.acts) 1 r (single_used w.plan s there true turn.acts single)) taken in
       let c2 : ComeOnce w.plan (standing w.stands) (reverse (w.journal ++ Crossed id (switch_no s) ∷ [])) w0.from_hosts w.out w.begun
       (in_hand w.plan s (reverse (w.journal ++ Crossed id (switch_no s) ∷ [])) turn.acts (Waiting id false)) =
-      subst (λ p. ComeOnce w.plan (standing w.stands) p w0.from_hosts w.out w.begun (in_hand w.plan s p turn.acts (Waiting id false))) (sym (reverse_one w.journal (Crossed id (switch_no s))))
+      subst (λ p. ComeOnce w.plan (standing w.stands) p w0.from_hosts w.out w.begun (in_hand w.plan s p turn.acts (Waiting id false))) (sym (past_more w.journal (Crossed id (switch_no s))))
       (note_quiet w.plan (standing w.stands) (reverse w.journal) w0.from_hosts w.out w.begun _ (Crossed id (switch_no s)) tt c1) in
       switch_comes Loose accounts (noted w1 (Crossed id (switch_no s))) s (Comes stand.port frame) (Waiting id false) new (rw (is_frame.kind) refl)
       (λ u size. record { within = subst (λ n. stand.port < n) (sym size) at.port; whole = is_frame.whole })
@@ -257,7 +247,7 @@ module _ (accounts : AccountsForFrames Loose) (w : WorldView) (counted : IsCount
       received : (reception : Reception) →
           ComeOnce w.plan (standing w.stands) (reverse w.journal) w.from_hosts out w.begun (λ r there. of_root (reverse w.journal) id (claim w.plan s port there frame) r) →
           ComesOnce (reception_noted (taken_out w s port items) h id frame reception)
-      received Kept c = subst (λ p. ComeOnce w.plan (standing w.stands) p w.from_hosts out w.begun (λ r there. 0)) (sym (reverse_one w.journal (Arrived id (host_no h) frame)))
+      received Kept c = subst (λ p. ComeOnce w.plan (standing w.stands) p w.from_hosts out w.begun (λ r there. 0)) (sym (past_more w.journal (Arrived id (host_no h) frame)))
           (arrive_one w.plan (standing w.stands) (reverse w.journal) w.from_hosts out w.begun s port id frame frame (host_no h) peer stands c)
       received NotMember c = noted_once (taken_out w s port items) (λ r there. 0) (Dropped id cause.NoMember) tt
           (weaker w.plan (standing w.stands) (reverse w.journal) w.from_hosts out w.begun _ (λ r there. 0) (λ r there. omega arith) c)
@@ -319,7 +309,7 @@ module _ (accounts : AccountsForFrames Loose) (w : WorldView) (counted : IsCount
       let moved : List Entry = w.journal ++ Moved (host_no h) to.edge to.port ∷ [] in
       let at : ℕ = port_index w.plan.k from.edge.0 from.port in
       let c1 : ComeOnce w.plan later (reverse moved) w.from_hosts w.out w.begun (λ r there. 0) =
-      subst (λ p. ComeOnce w.plan later p w.from_hosts w.out w.begun (λ r there. 0)) (sym (reverse_one w.journal (Moved (host_no h) to.edge to.port)))
+      subst (λ p. ComeOnce w.plan later p w.from_hosts w.out w.begun (λ r there. 0)) (sym (past_more w.journal (Moved (host_no h) to.edge to.port)))
       (note_moved w.plan (standing w.stands) later (reverse w.journal) w.from_hosts w.out w.begun (λ r there. 0) (host_no h) to.edge to.port
       (stands_then w.stands h to from found) come) in
       let c2 = note_all w.plan later (set w.from_hosts h []) w.out w.begun (λ r there. 0) (ends_of cause.HostGone (get_or w.from_hosts h [])) moved

@@ -27,13 +27,14 @@ use Rattle.pl_world.specs.declared.item.Item.TheVariants.{Data}
 use Rattle.pl_world.specs.declared.limits.Limits.{Limits}
 use Rattle.pl_world.specs.Booting.{booted, first_stand}
 use Rattle.pl_world.specs.Changes.{noted, out_of}
-use Rattle.pl_world.specs.Flying.{IsCounted, born}
+use Rattle.pl_world.specs.Flying.{IsCounted}
 use Rattle.pl_world.specs.Refusals.{refusal}
 use Rattle.pl_world.specs.Runs.{IsMark}
 use Rattle.pl_world.specs.WorldRule.{WorldStep}
 use Rattle.pl_world.specs.Worlds.{WorldView}
 use Rattle.pl_world.proofs.Counts.{born_none}
 use Rattle.pl_world.proofs.StepBalances.{counted as to_counted, event_is_not_refused, same_refusal, sound}
+use Rattle.pl_world.proofs.Births.{born_once}
 use Rattle.pl_copies.specs.Copies.{ComesOnce, came_to, comes_from_place, count_all, count_in, has_root, may_come, may_come_by, standing}
 use Rattle.pl_copies.specs.Standing.{KnowTrees}
 use Rattle.pl_copies.proofs.Changing.{claim, of_root, one_there}
@@ -95,15 +96,8 @@ mark_once w (Moved host edge port) is c = absurd is
 
 -- What is kept says this of the journal.
 
-pub born_at_most_one : (id many : ℕ) → born id many ≤ 1
-born_at_most_one id many = by_test _
-  where
-    by_test : (b : Bool) → (if b then 1 else 0) ≤ 1
-    by_test true = omega arith
-    by_test false = omega arith
-
 pub came_at_most_once : (w : WorldView) → ComesOnce w → (r : ℕ) (there : Spot) → came_to w.plan (reverse w.journal) r there ≤ 1
-came_at_most_once w come r there = (let all = come.once r there in let most = born_at_most_one r w.begun in omega arith)
+came_at_most_once w come r there = (let all = come.once r there in let most = born_once r w.begun in omega arith)
 
 -- of them, the frames of groups
 pub copies_at_most_came : (plan : Plan) (past : List Entry) (r : ℕ) (there : Spot) → copies_at plan past r there ≤ came_to plan past r there
@@ -183,5 +177,5 @@ first_there w come s port id frame items within peer head =
     let here : count_in (test n) (Data id frame ∷ []) ≡ of_root past id (claim w.plan s port there frame) r = one_there w.plan (standing w.stands) past r there s port id frame within in
     let own : of_root past id (claim w.plan s port there frame) r ≡ 1 = cond-true (r == r) (claim w.plan s port there frame) 0 (eq-eqb r r refl) ∙ claims_its_port w.plan s port frame peer in
     let all : count_in (test n) (get_or w.out n []) ≡ count_in (test n) (Data id frame ∷ items) = ap (count_in (test n)) head in
-    let most = born_at_most_one r w.begun in
+    let most = born_once r w.begun in
     none_came w.plan past r there (omega (arith, come.once r there, count_all-at test w.out n, count_in-cons (test n) (Data id frame) items, here, own, all, most))

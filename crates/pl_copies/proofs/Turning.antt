@@ -18,6 +18,7 @@ use Rattle.pl_journal.specs.declared.cause.Cause.TheVariants.{NotPlaced}
 use Rattle.pl_journal.specs.declared.entry.Entry.{Entry}
 use Rattle.pl_journal.specs.declared.entry.Entry.TheVariants.{Sent}
 use Rattle.pl_journal.specs.Places.{Spot}
+use Rattle.pl_journal.proofs.Steps.{past_more}
 use Rattle.pl_logic.specs.declared.acts.Act.{Act}
 use Rattle.pl_logic.specs.declared.acts.Act.TheVariants as act
 use Rattle.pl_logic.specs.declared.acts.HostAct.{HostAct}
@@ -45,7 +46,7 @@ use Rattle.pl_world.proofs.StepBalances.{switches_rest}
 use Rattle.pl_world.proofs.SwitchActBalances.{HasRest, Steady, owed_by, said_by}
 use Rattle.pl_copies.specs.Copies.{ComeOnce, ComesOnce, may_come, standing}
 use Rattle.pl_copies.specs.Standing.{KnowsTree}
-use Rattle.pl_copies.proofs.Acting.{MakesFew, in_hand, reverse_one, step_comes, used}
+use Rattle.pl_copies.proofs.Acting.{MakesFew, in_hand, step_comes, used}
 use Rattle.pl_copies.proofs.Changing.{begin_one, claim, note_quiet, put_host}
 use Rattle.pl_copies.proofs.SinglePasses.{AreSingle, arrives_single, forwards_single, single_few, single_used}
 use Rattle.pl_copies.proofs.Spreading.{group_few}
@@ -125,7 +126,7 @@ host_act_comes w h (Send frame) c =
     let c1 = begin_one w.plan at past w.from_hosts w.out w.begun (λ r there. 0) c in
     let c2 = note_quiet w.plan at past w.from_hosts w.out n _ sent tt c1 in
     let c3 = put_host w.plan at (sent ∷ past) w.from_hosts w.out n (λ r there. 0) h n frame c2 in
-    subst (λ p. ComeOnce w.plan at p (set w.from_hosts h (get_or w.from_hosts h [] ++ Data n frame ∷ [])) w.out n (λ r there. 0)) (sym (reverse_one w.journal sent)) c3
+    subst (λ p. ComeOnce w.plan at p (set w.from_hosts h (get_or w.from_hosts h [] ++ Data n frame ∷ [])) w.out n (λ r there. 0)) (sym (past_more w.journal sent)) c3
 
 host_acts_come : (w : WorldView) (h : ℕ) (acts : List HostAct) → ComesOnce w → ComesOnce (fold (host_act_done h) w acts)
 host_acts_come w h [] c = c

@@ -14,7 +14,7 @@ use Rattle.pl_wiring.specs.Labels.{IsLabel, label_of, number_of}
 use Rattle.pl_wiring.specs.Peers.{IsBetween, IsPeer, peer_of}
 use Rattle.pl_wiring.specs.Plan.{IsPlan, Plan}
 use Rattle.pl_wiring.proofs.Ends.{at_contained}
-use Rattle.pl_wiring.proofs.LabelOrder.{label_of-number_of, number_of-label_of}
+use Rattle.pl_wiring.proofs.LabelOrder.{label_of-number_of, same_label}
 use Rattle.pl_wiring.proofs.Linked.{peer_says, same_between}
 use Rattle.pl_journal.specs.Places.{Spot}
 use Rattle.pl_copies.specs.Copies.{is_edge_of, leads_to, may_come}
@@ -39,9 +39,6 @@ rungs k s t (Aggregation p j) (Core i m) at_s at_t below =
 rungs k s t (Core j m) (Edge q i) at_s at_t below = absurd below
 rungs k s t (Core j m) (Aggregation q i) at_s at_t below = absurd below
 rungs k s t (Core j m) (Core i n) at_s at_t below = absurd below
-
-same_label : (k s t : ℕ) → label_of k s ≡ label_of k t → s ≡ t
-same_label k s t same = sym (number_of-label_of k s) ∙ ap (number_of k) same ∙ number_of-label_of k t
 
 no_loop : (k s : ℕ) → Rung k s s → ⊥
 no_loop k s (UpFromEdge p i j at there) = (let e = sym at ∙ there in absurd (cc))

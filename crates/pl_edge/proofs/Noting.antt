@@ -9,9 +9,10 @@ use Rattle.std.specs.List.Sorted.{IsStrictlySortedBy}
 use Rattle.std.specs.Map.{keys_of, lookup}
 use Rattle.std.specs.Option.{is_some}
 use Rattle.std.specs.Ordering.{match_ordering, nat_cmp, ordering_then}
-use Rattle.std.proofs.lemmas.Bool.{cases_eq, eq-eqb, ne_eqb, true≢false}
+use Rattle.std.proofs.lemmas.Bool.{cases_eq, eq-eqb, ne_eqb, or_parts, true≢false}
 use Rattle.std.proofs.lemmas.Cmp.{nat_cmp_total}
 use Rattle.std.proofs.lemmas.List.Elements.{All-cons, All-head, All-nil, All-tail}
+use Rattle.pl_lemmas.proofs.Bools.{or_swap, or_twice}
 use Rattle.pl_frame.specs.declared.address.Mac.{Mac}
 use Rattle.pl_logic.specs.declared.switch_records.Member.{Member}
 use Rattle.pl_logic.proofs.Among.{rising_inserted}
@@ -79,10 +80,6 @@ had_more old (e ∷ es) g had is all =
     by rest Equal h = All-cons (Had old) (e.0, had) es (is ∙ ap (has_member_of old) (from_equal g e.0 h)) (All-tail (Had old) e es all)
     by rest Greater h = All-cons (Had old) e (insert_entry nat_cmp es g had) (All-head (Had old) e es all) rest
 
-neither : (a b : Bool) → (a || b) ≡ false → (a ≡ false) × (b ≡ false)
-neither true b e = absurd (true≢false e)
-neither false b e = (refl, e)
-
 -- nothing is noted yet, and nothing has changed
 pub noted_none : (members : List Member) → AreNoted members members []
 unfolding IsStrictlySortedBy
@@ -93,7 +90,7 @@ pub noted_then : (old now : List Member) (es : List (ℕ × Bool)) (g : ℕ) →
 noted_then old now es g noted = record {
   rising = by_rising (is_noted es g);
   had = by_had (is_noted es g) refl;
-  others = λ q h. noted.others q ((neither (g == q) (is_noted es q) (sym (noted_more now es g q) ∙ h)).1);
+  others = λ q h. noted.others q ((or_parts (g == q) (is_noted es q) (sym (noted_more now es g q) ∙ h)).1);
 }
   where
     by_rising : (b : Bool) → IsStrictlySortedBy nat_cmp (keys_of (cond b es (insert_entry nat_cmp es g (has_member_of now g))))
@@ -122,16 +119,6 @@ first_equal Less next e = e
 first_equal Equal next e = refl
 first_equal Greater next e = e
 
-or_same : (a b : Bool) → (a || b) ≡ (a || (a || b))
-or_same true b = refl
-or_same false b = refl
-
-or_swap : (a b c : Bool) → (a || (b || c)) ≡ (b || (a || c))
-or_swap true true c = refl
-or_swap true false c = refl
-or_swap false true c = refl
-or_swap false false c = refl
-
 any_joined : (m : Member) (q : ℕ) (ms : List Member) → has_member_of (insert_key member_cmp ms m) q ≡ ((m.group == q) || has_member_of ms q)
 any_joined m q [] = refl
 any_joined m q (x ∷ ms) = by (any_joined m q ms) (member_cmp m x) refl
@@ -140,7 +127,7 @@ any_joined m q (x ∷ ms) = by (any_joined m q ms) (member_cmp m x) refl
         has_member_of (match_ordering r (m ∷ x ∷ ms) (x ∷ ms) (x ∷ insert_key member_cmp ms m)) q ≡ ((m.group == q) || ((x.group == q) || has_member_of ms q))
     by rest Less e = refl
     by rest Equal e =
-        or_same (x.group == q) (has_member_of ms q)
+        or_twice (x.group == q) (has_member_of ms q)
         ∙ ap (λ k. (k == q) || ((x.group == q) || has_member_of ms q))
         (sym (from_equal m.group x.group (first_equal (nat_cmp m.group x.group) (ordering_then (nat_cmp m.port x.port) (nat_cmp (mac_number m.amac) (mac_number x.amac))) e)))
     by rest Greater e = ap (λ b. (x.group == q) || b) rest ∙ or_swap (x.group == q) (m.group == q) (has_member_of ms q)

@@ -6,10 +6,11 @@ use Rattle.std.specs.List.{All, AllByRecursion, filter, flat_map, list_any}
 use Rattle.std.specs.List.Sorted.{IsStrictlySortedBy}
 use Rattle.std.specs.Map.{keys_of}
 use Rattle.std.specs.Ordering.{nat_cmp}
-use Rattle.std.proofs.lemmas.Bool.{cases_eq, cases_lt, eq-eqb, ne_eqb, true≢false}
+use Rattle.std.proofs.lemmas.Bool.{cases_eq, cases_lt, eq-eqb, ne_eqb, or_parts}
 use Rattle.std.proofs.lemmas.Cmp.{nat_cmp_total}
 use Rattle.std.proofs.lemmas.List.Elements.{All-head, All-tail}
 use Rattle.std.proofs.lemmas.List.Folds.{list_any-append}
+use Rattle.pl_lemmas.proofs.Bools.{or_behind, or_true}
 use Rattle.pl_logic.specs.declared.acts.Act.{Act}
 use Rattle.pl_logic.specs.declared.switch_records.Member.{Member}
 use Rattle.pl_logic.proofs.Among.{rising_inserted}
@@ -100,12 +101,6 @@ groups_rise : (groups : List ℕ) (ms : List Member) → IsStrictlySortedBy nat_
 groups_rise groups [] rise = rise
 groups_rise groups (m ∷ ms) rise = groups_rise (insert_key nat_cmp groups m.group) ms (rising_inserted nat_cmp nat_cmp_total m.group groups rise)
 
-or_behind : (a b c : Bool) → ((a || b) || c) ≡ (b || (a || c))
-or_behind true true c = refl
-or_behind true false c = refl
-or_behind false true c = refl
-or_behind false false c = refl
-
 groups_are : (q : ℕ) (groups : List ℕ) (ms : List Member) → list_any (λ k. k == q) (fold noting groups ms) ≡ (list_any (λ k. k == q) groups || has_member_of ms q)
 groups_are q groups [] = sym (or_none (list_any (λ k. k == q) groups))
   where
@@ -122,14 +117,6 @@ unchanged : (had any : Bool) (group : ℕ) → any ≡ had → told_of had any g
 unchanged true any group e = ap (λ b. told_of true b group) e
 unchanged false any group e = ap (λ b. told_of false b group) e
 
-neither : (a b : Bool) → (a || b) ≡ false → (a ≡ false) × (b ≡ false)
-neither true b e = absurd (true≢false e)
-neither false b e = (refl, e)
-
-or_true : (b : Bool) → (b || true) ≡ true
-or_true true = refl
-or_true false = refl
-
 each_of : (P : ℕ → Type 0) (gs : List ℕ) → ((q : ℕ) → list_any (λ k. k == q) gs ≡ true → P q) → AllByRecursion P gs
 each_of P [] h = tt
 each_of P (g ∷ gs) h =
@@ -138,10 +125,10 @@ each_of P (g ∷ gs) h =
 -- what is left out makes no member
 pub fewer_left : (test : Member → Bool) (ms : List Member) (q : ℕ) → has_member_of ms q ≡ false → has_member_of (filter test ms) q ≡ false
 fewer_left test [] q e = refl
-fewer_left test (m ∷ ms) q e = by (test m) (fewer_left test ms q ((neither (m.group == q) (has_member_of ms q) e).1))
+fewer_left test (m ∷ ms) q e = by (test m) (fewer_left test ms q ((or_parts (m.group == q) (has_member_of ms q) e).1))
   where
     by : (b : Bool) → has_member_of (filter test ms) q ≡ false → has_member_of (cond b (m ∷ filter test ms) (filter test ms)) q ≡ false
-    by true rest = ap (λ b. b || has_member_of (filter test ms) q) ((neither (m.group == q) (has_member_of ms q) e).0) ∙ rest
+    by true rest = ap (λ b. b || has_member_of (filter test ms) q) ((or_parts (m.group == q) (has_member_of ms q) e).0) ∙ rest
     by false rest = rest
 
 module _ (old now : List Member) where
@@ -158,7 +145,7 @@ module _ (old now : List Member) where
   groups_cover : Covers told 0 (groups_of (old ++ now))
   groups_cover q from none =
       let apart : (has_member_of old q || has_member_of now q) ≡ false = sym (list_any-append (λ m. m.group == q) old now) ∙ sym (groups_are q [] (old ++ now)) ∙ none in
-      let both = neither (has_member_of old q) (has_member_of now q) apart in
+      let both = or_parts (has_member_of old q) (has_member_of now q) apart in
       unchanged (has_member_of old q) (has_member_of now q) q (both.1 ∙ sym both.0)
 
   -- what is told of the groups that were noted is what is told of all groups

@@ -1,15 +1,15 @@
 -- What follows for one step, and for runs.
-use Rattle.std.proofs.Common.{◌≡◌, ℕ, zero, suc, ◌+◌, ◌≤◌, ◌==◌, ◌&&◌, Bool, true, false, if◌then◌else◌, List, [], ◌∷◌, ◌++◌, length, map, reverse, drop, set, slice_get, Option, Some, None, refl, sym, ap, ◌∙◌, subst, arith, append-nil, append_assoc, eq-eqb, eqb-true, ne_eqb, true≢false, inl, inr, ◌⊎◌}
+use Rattle.std.proofs.Common.{◌≡◌, ℕ, zero, suc, ◌+◌, ◌≤◌, ◌==◌, Bool, true, false, if◌then◌else◌, List, [], ◌∷◌, ◌++◌, length, map, reverse, drop, set, slice_get, Option, Some, None, refl, sym, ap, ◌∙◌, subst, arith, append-nil, append_assoc, eq-eqb, ne_eqb, inl, inr, ◌⊎◌}
 use Rattle.std.specs.List.{cons_option, filter_map, range_with_len}
 use Rattle.std.proofs.Math.Seq.{drop-append_seam}
-use Rattle.std.proofs.lemmas.Bool.{and_parts}
 use Rattle.std.proofs.lemmas.Option.{same_Some}
 use Rattle.std.proofs.lemmas.List.{length-append, length-map, length-reverse, reverse-append, reverse-reverse}
 use Rattle.std.proofs.lemmas.List.Elements.{filter_map-append}
 use Rattle.pl_frame.specs.declared.address.SwitchId.{SwitchId}
 use Rattle.pl_pmac.specs.declared.pmac.Pmac.{Pmac}
 use Rattle.pl_layouts.specs.declared.place.Place.{Place}
-use Rattle.pl_layouts.specs.Placement.{nowhere, same_number, same_place}
+use Rattle.pl_layouts.specs.Placement.{nowhere, same_place}
+use Rattle.pl_layouts.proofs.Sameness.{place_is, place_itself}
 use Rattle.pl_wiring.specs.Plan.{Plan}
 use Rattle.pl_journal.specs.declared.entry.Entry.{Entry}
 use Rattle.pl_journal.specs.declared.entry.Entry.TheVariants.{Arrived, Copied, Crossed, Dropped, Granted, Line, LinkDown, LinkUp, Made, Moved, Placed, Redirected, Registered, Sent, Settled, Skipped, Taken, Unsettled}
@@ -36,16 +36,9 @@ use Rattle.pl_entry_laws.proofs.Writing.{Adds, IsOther}
 
 -- Places.
 
-same_itself : (o : Option ℕ) → same_number o o ≡ true
-same_itself None = refl
-same_itself (Some n) = eq-eqb n n refl
-
-own_place : (p : Place) → same_place p p ≡ true
-own_place p = rw (same_itself p.level, same_itself p.position, same_itself p.pod) refl
-
 none_new : (n : ℕ) (views : List SwitchView) → new_places n views views ≡ []
 none_new n [] = refl
-none_new n (v ∷ views) = ap (λ b. if b then new_places (n + 1) views views else (n, v.place) ∷ new_places (n + 1) views views) (own_place v.place) ∙ none_new (n + 1) views
+none_new n (v ∷ views) = ap (λ b. if b then new_places (n + 1) views views else (n, v.place) ∷ new_places (n + 1) views views) (place_itself v.place) ∙ none_new (n + 1) views
 
 one_new : (n s : ℕ) (views : List SwitchView) (before after : SwitchView) → slice_get views s ≡ Some before →
     new_places n views (set views s after) ≡ placed_then (n + s) before.place after.place
@@ -55,7 +48,7 @@ one_new n zero (v ∷ views) before after found =
     ap (λ rest. if same_place v.place after.place then rest else (n, after.place) ∷ rest) (none_new (n + 1) views)
     ∙ ap (λ (u : SwitchView). placed_then n u.place after.place) same ∙ ap (λ m. placed_then m before.place after.place) (omega arith)
 one_new n (suc s) (v ∷ views) before after found =
-    ap (λ b. if b then new_places (n + 1) views (set views s after) else (n, v.place) ∷ new_places (n + 1) views (set views s after)) (own_place v.place)
+    ap (λ b. if b then new_places (n + 1) views (set views s after) else (n, v.place) ∷ new_places (n + 1) views (set views s after)) (place_itself v.place)
     ∙ one_new (n + 1) s views before after found ∙ ap (λ m. placed_then m before.place after.place) (omega arith)
 
 entries_written : (old new : WorldView) (places : List (ℕ × Place)) (registered : List (Pmac × ℕ)) → (adds : Adds old.journal new.journal places registered) → written old new ≡ adds.entries
@@ -176,21 +169,6 @@ mark_is_other (Moved h t port) is = absurd is
 -- each switch knows the place that was written last of it
 abbrev AreWritten : WorldView → Type 0
 AreWritten w = (s : ℕ) (v : SwitchView) → slice_get w.switches s ≡ Some v → place_written (reverse w.journal) s ≡ v.place
-
-number_is : (a b : Option ℕ) → same_number a b ≡ true → a ≡ b
-number_is None None h = refl
-number_is None (Some y) h = absurd (true≢false (sym h))
-number_is (Some x) None h = absurd (true≢false (sym h))
-number_is (Some x) (Some y) h = ap Some (sym (eqb-true y x h))
-
-place_is : (a b : Place) → same_place a b ≡ true → a ≡ b
-place_is a b h =
-    let both = and_parts (same_number a.level b.level && same_number a.position b.position) (same_number a.pod b.pod) h in
-    let two = and_parts (same_number a.level b.level) (same_number a.position b.position) both.0 in
-    let level = number_is a.level b.level two.0 in
-    let position = number_is a.position b.position two.1 in
-    let pod = number_is a.pod b.pod both.1 in
-    λ i. record { level = level i; position = position i; pod = pod i }
 
 found_after : (views : List SwitchView) (s t : ℕ) (after v : SwitchView) → slice_get (set views s after) t ≡ Some v →
     ((s ≡ t) × (v ≡ after)) ⊎ ((s ≡ t → ⊥) × (slice_get views t ≡ Some v))

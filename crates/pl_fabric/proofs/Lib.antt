@@ -1,7 +1,6 @@
 pub mod CourseSteps
 pub mod Visiting
 pub mod Tests
-pub mod SettledParts
 pub mod Deciding
 pub mod CourseRuns
 pub mod QueueOrder

@@ -3,11 +3,9 @@ use Rattle.std.proofs.Common.{◌≡◌, ◌||◌, Bool, true, false, cond, List
 use Rattle.std.specs.Prelude.{is_some, unwrap_or}
 use Rattle.std.specs.List.{filter, flat_map, list_any}
 use Rattle.std.specs.Ordering.{is_eq, ordering_reverse}
-use Rattle.std.specs.Cmp.{Equal-is}
 use Rattle.std.specs.BTreeMap.{is_at}
 use Rattle.std.specs.BTreeSet.{insert_key}
 use Rattle.std.proofs.lemmas.Bool.{or_cases, or_left, or_right}
-use Rattle.std.proofs.lemmas.Cmp.{tied_itself}
 use Rattle.pl_frame.specs.declared.address.SwitchId.{SwitchId}
 use Rattle.pl_layouts.specs.declared.place.Place.{Place}
 use Rattle.pl_layouts.specs.Equality.{same_switch}
@@ -15,7 +13,7 @@ use Rattle.pl_logic.specs.AvoidLists.{avoid_list, avoided_at, avoided_cmp, is_ab
 use Rattle.pl_logic.specs.ManagerViews.{Told, id_cmp, in_order, neighbours, switches, tellers, value_at}
 use Rattle.pl_logic.proofs.Among.{IsAmong, among_in_order, among_map, among_mapped, among_ordered, among_right, any_among, id_total}
 use Rattle.pl_manager_rule.specs.ManagerRule.{with_link, with_place}
-use Rattle.pl_manager_rule.proofs.Avoided.{id_exact}
+use Rattle.pl_manager_rule.proofs.Avoided.{id_among, id_exact, id_is, id_itself}
 use Rattle.pl_reports.specs.Kept.{has_told}
 use Rattle.pl_reports.proofs.Telling.{key_of_near, switches_linked, switches_placed}
 use Rattle.pl_faults.specs.Kept.{AreListsOf, AreRenewed, IsRenewed, Lists, handed, handed_in, list_of, with_note}
@@ -23,11 +21,6 @@ use Rattle.pl_faults.specs.Making.{Avoided}
 use Rattle.pl_faults.proofs.Filling.{among_put_in}
 
 -- ---- who told something
-pub at_is : (s t : SwitchId) → is_at (id_cmp s) t ≡ true → s ≡ t
-at_is s t e = id_exact s t ((Equal-is (id_cmp s t)).0 e)
-
-pub is_itself : (s : SwitchId) → is_at (id_cmp s) s ≡ true
-is_itself s = ap is_eq (tied_itself id_total s)
 
 pub at_turned : (s t : SwitchId) → is_at (id_cmp s) t ≡ is_at (id_cmp t) s
 at_turned s t = ap is_eq (id_total.antisymm s t) ∙ same (id_cmp t s)
@@ -37,20 +30,13 @@ at_turned s t = ap is_eq (id_total.antisymm s t) ∙ same (id_cmp t s)
     same Equal = refl
     same Greater = refl
 
-pub told_among : (s : SwitchId) (xs : List SwitchId) → list_any (is_at (id_cmp s)) xs ≡ true → IsAmong s xs
-told_among s [] e = let no_way : false ≡ true = e in absurd (cc)
-told_among s (x ∷ xs) e = elim (or_cases (is_at (id_cmp s) x) (list_any (is_at (id_cmp s)) xs) e) [
-  | inl here ↦ inl (sym (at_is s x here))
-  | inr there ↦ inr (told_among s xs there)
-]
-
 pub among_told : (s : SwitchId) (xs : List SwitchId) → IsAmong s xs → list_any (is_at (id_cmp s)) xs ≡ true
-among_told s xs h = any_among (is_at (id_cmp s)) s xs h (is_itself s)
+among_told s xs h = any_among (is_at (id_cmp s)) s xs h (id_itself s)
 
 still : (told : Told) (s t : SwitchId) (after : List SwitchId) → after ≡ insert_key id_cmp (switches told) s → has_told told t ≡ true →
     list_any (is_at (id_cmp t)) after ≡ true
 still told s t after is h =
-    among_told t after (subst (IsAmong t) (sym is) (among_put_in id_cmp id_total id_exact t s (switches told) (inr (told_among t (switches told) h))))
+    among_told t after (subst (IsAmong t) (sym is) (among_put_in id_cmp id_total id_exact t s (switches told) (inr (id_among t (switches told) h))))
 
 pub still_placed : (told : Told) (s : SwitchId) (place : Place) (t : SwitchId) → has_told told t ≡ true → has_told (with_place told s place) t ≡ true
 still_placed told s place t h = still told s t (switches (with_place told s place)) (switches_placed told s place) h
@@ -103,7 +89,7 @@ module _ (told : Told) (lists before : Lists) where
     more_now : (t : SwitchId) (own : Bool) → is_at (id_cmp t) s ≡ own →
         value_at id_cmp l2 t ≡ cond (some t || own) (Some (avoid_list told t)) (value_at id_cmp lists t)
     more_now t true e =
-        let same : t ≡ s = at_is t s e in
+        let same : t ≡ s = id_is t s e in
         r.now t ∙ ap (λ b. cond b (Some list) (value_at id_cmp l1 t)) (at_turned s t ∙ e)
         ∙ ap Some (is ∙ ap (avoid_list told) (sym same))
         ∙ ap (λ b. cond b (Some (avoid_list told t)) (value_at id_cmp lists t)) (sym (or_right (some t) true refl))
@@ -118,7 +104,7 @@ module _ (told : Told) (lists before : Lists) where
     more_handed : (t : SwitchId) (own : Bool) (o : Option (List Avoided)) → is_at (id_cmp t) s ≡ own → value_at id_cmp b1 t ≡ o →
         unwrap_or (with_note o own (unwrap_or (value_at id_cmp l1 s) [])) (unwrap_or (cond own (Some list) (value_at id_cmp l1 t)) [])
         ≡ unwrap_or o (unwrap_or (value_at id_cmp l1 t) [])
-    more_handed t true None e k = ap (λ z. unwrap_or (value_at id_cmp l1 z) []) (sym (at_is t s e))
+    more_handed t true None e k = ap (λ z. unwrap_or (value_at id_cmp l1 z) []) (sym (id_is t s e))
     more_handed t true (Some noted) e k = refl
     more_handed t false None e k = refl
     more_handed t false (Some noted) e k = refl

@@ -14,13 +14,13 @@ use Rattle.pl_logic.specs.AvoidLists.{avoid_list}
 use Rattle.pl_logic.specs.ManagerViews.{Told, id_cmp, switches, value_at}
 use Rattle.pl_logic.proofs.Among.{IsAmong, among_filter, among_filtered, among_insert, id_total, rising_inserted}
 use Rattle.pl_manager_rule.specs.ManagerRule.{same_avoid_list}
-use Rattle.pl_manager_rule.proofs.Avoided.{id_exact, switches_rise}
+use Rattle.pl_manager_rule.proofs.Avoided.{id_among, id_exact, id_is, id_itself, switches_rise}
 use Rattle.pl_manager_rule.proofs.Sameness.{avoid_lists_alike}
 use Rattle.pl_reports.proofs.Ordering.{same_rising}
 use Rattle.pl_faults.specs.Kept.{AreListsOf, Lists, MatrixView, changed_lists, is_changed, with_differing}
 use Rattle.pl_faults.specs.Making.{Avoided}
 use Rattle.pl_faults.proofs.Filling.{among_put_in, none_rise}
-use Rattle.pl_faults.proofs.Anew.{at_is, avoid_of, is_itself, told_among}
+use Rattle.pl_faults.proofs.Anew.{avoid_of}
 
 abbrev Entry : Type 0
 Entry = SwitchId × List Avoided
@@ -36,7 +36,7 @@ unfolding IsStrictlySortedBy
 found_at e [] s h = absurd h
 found_at e (f ∷ es) s (inl is) =
     subst (λ (x : Entry). cond (is_at (id_cmp x.0) f.0) (Some f.1) (value_at id_cmp es x.0) ≡ Some x.1) is
-    (ap (λ b. cond b (Some f.1) (value_at id_cmp es f.0)) (is_itself f.0))
+    (ap (λ b. cond b (Some f.1) (value_at id_cmp es f.0)) (id_itself f.0))
 found_at e (f ∷ es) s (inr h) =
     let less : id_cmp f.0 e.0 ≡ Less = key_of_all (λ k. id_cmp f.0 k ≡ Less) e es s.0 h in
     let apart : is_at (id_cmp e.0) f.0 ≡ false = ap is_eq (id_total.antisymm e.0 f.0 ∙ ap ordering_reverse less) in
@@ -49,7 +49,7 @@ entry_at k v (f ∷ es) h = by (λ j. entry_at k v es j) (is_at (id_cmp k) f.0) 
   where
     by : (value_at id_cmp es k ≡ Some v → (e : Entry) × IsAmong e es × (e.0 ≡ k) × (e.1 ≡ v)) → (b : Bool) → is_at (id_cmp k) f.0 ≡ b →
         cond b (Some f.1) (value_at id_cmp es k) ≡ Some v → (e : Entry) × IsAmong e (f ∷ es) × (e.0 ≡ k) × (e.1 ≡ v)
-    by rest true e j = let same : f.1 ≡ v = cc in (f, inl refl, sym (at_is k f.0 e), same)
+    by rest true e j = let same : f.1 ≡ v = cc in (f, inl refl, sym (id_is k f.0 e), same)
     by rest false e j = let r = rest j in (r.0, inr r.1, r.2, r.3)
 
 module _ (lists : Lists) where
@@ -114,7 +114,7 @@ module _ (told : Told) (lists before : Lists) (h : AreListsOf told lists before)
       let at : value_at id_cmp before k ≡ Some e.1 = ap (value_at id_cmp before) (sym is) ∙ found_at e before rises among in
       let test : same_avoid_list e.1 (avoid_list told k) ≡ false =
       ap (same_avoid_list e.1) (sym (ap (λ z. unwrap_or (value_at id_cmp lists z) []) is ∙ now_at k)) ∙ other in
-      among_filtered (is_changed view) k (switches told) (told_among k (switches told) (h.heard k (ap is_some at)))
+      among_filtered (is_changed view) k (switches told) (id_among k (switches told) (h.heard k (ap is_some at)))
       (ap (λ (o : Option (List Avoided)). not (same_avoid_list (unwrap_or o (avoid_list told k)) (avoid_list told k))) at
       ∙ not_from_false (same_avoid_list e.1 (avoid_list told k)) test)
 

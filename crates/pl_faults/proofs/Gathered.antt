@@ -8,29 +8,24 @@ use Rattle.pl_frame.specs.declared.address.SwitchId.{SwitchId}
 use Rattle.pl_logic.specs.AvoidLists.{is_above}
 use Rattle.pl_logic.specs.ManagerViews.{Told, alive_neighbours, id_cmp}
 use Rattle.pl_logic.proofs.Among.{among_insert, id_total}
-use Rattle.pl_manager_rule.proofs.Avoided.{id_exact}
+use Rattle.pl_manager_rule.proofs.Avoided.{id_among, id_exact, id_is}
 use Rattle.pl_reports.specs.Kept.{has_told, near_of}
 use Rattle.pl_faults.specs.Listed.{Hearers, is_in, with_all, with_below, with_beside, with_told}
-use Rattle.pl_faults.proofs.Anew.{among_told, at_is, told_among}
+use Rattle.pl_faults.proofs.Anew.{among_told}
 use Rattle.pl_faults.proofs.Filling.{among_fold, among_put_in}
 
 pub in_more : (k t : SwitchId) (xs : List SwitchId) → is_in xs t ≡ true → is_in (insert_key id_cmp xs k) t ≡ true
-in_more k t xs h = among_told t (insert_key id_cmp xs k) (among_put_in id_cmp id_total id_exact t k xs (inr (told_among t xs h)))
+in_more k t xs h = among_told t (insert_key id_cmp xs k) (among_put_in id_cmp id_total id_exact t k xs (inr (id_among t xs h)))
 
 pub in_itself : (k : SwitchId) (xs : List SwitchId) → is_in (insert_key id_cmp xs k) k ≡ true
 in_itself k xs = among_told k (insert_key id_cmp xs k) (among_put_in id_cmp id_total id_exact k k xs (inl refl))
 
--- what is not in the longer list is not in the shorter one
-pub out_before : (a b : Bool) → (a ≡ true → b ≡ true) → b ≡ false → a ≡ false
-out_before true b f e = absurd (false≢true (sym e ∙ f refl))
-out_before false b f e = refl
-
 -- ---- all of another list
 pub in_all_before : (t : SwitchId) (list more : List SwitchId) → is_in list t ≡ true → is_in (with_all list more) t ≡ true
-in_all_before t list more h = among_told t (with_all list more) (among_fold id_cmp id_total id_exact t more list (inl (told_among t list h)))
+in_all_before t list more h = among_told t (with_all list more) (among_fold id_cmp id_total id_exact t more list (inl (id_among t list h)))
 
 pub in_all_new : (t : SwitchId) (list more : List SwitchId) → is_in more t ≡ true → is_in (with_all list more) t ≡ true
-in_all_new t list more h = among_told t (with_all list more) (among_fold id_cmp id_total id_exact t more list (inr (told_among t more h)))
+in_all_new t list more h = among_told t (with_all list more) (among_fold id_cmp id_total id_exact t more list (inr (id_among t more h)))
 
 -- ---- all beside some
 module _ (told : Told) (t : SwitchId) where
@@ -44,7 +39,7 @@ module _ (told : Told) (t : SwitchId) where
   in_beside x (y ∷ xs) list h near = elim (or_cases (is_at (id_cmp x) y) (is_in xs x) h) [
     | inl here ↦
         in_beside_before xs (with_beside told list y)
-        (in_all_new t list (alive_neighbours told y) (subst (λ z. is_in (alive_neighbours told z) t ≡ true) (at_is x y here) near))
+        (in_all_new t list (alive_neighbours told y) (subst (λ z. is_in (alive_neighbours told z) t ≡ true) (id_is x y here) near))
     | inr there ↦ in_beside x xs (with_beside told list y) there near
   ]
 
@@ -66,7 +61,7 @@ module _ (test : SwitchId → Bool) (t : SwitchId) where
   in_passing [] list h passes = absurd (false≢true h)
   in_passing (x ∷ ts) list h passes = elim (or_cases (is_at (id_cmp t) x) (is_in ts t) h) [
     | inl here ↦
-        let is : t ≡ x = at_is t x here in
+        let is : t ≡ x = id_is t x here in
         let put : with_passing list x ≡ insert_key id_cmp list x =
         ap (λ b. cond b (insert_key id_cmp list x) list) (subst (λ z. test z ≡ true) is passes) in
         in_passing_before ts (with_passing list x)
@@ -82,7 +77,7 @@ module _ (test : SwitchId → Bool) (t : SwitchId) where
       by : ((l : List SwitchId) → is_in (fold with_passing l ts) t ≡ true → (is_in l t ≡ true) ⊎ (test t ≡ true)) → (b : Bool) → test x ≡ b →
           is_in (fold with_passing (cond b (insert_key id_cmp list x) list) ts) t ≡ true → (is_in list t ≡ true) ⊎ (test t ≡ true)
       by rest true e j = elim (rest (insert_key id_cmp list x) j) [
-        | inl there ↦ elim (among_insert id_cmp x t list (told_among t (insert_key id_cmp list x) there)) [
+        | inl there ↦ elim (among_insert id_cmp x t list (id_among t (insert_key id_cmp list x) there)) [
           | inl is ↦ inr (subst (λ z. test z ≡ true) is e)
           | inr old ↦ inl (among_told t list old)
         ]
@@ -116,7 +111,7 @@ module _ (told : Told) (t : SwitchId) where
     in_below u [] list h heard above = absurd (false≢true h)
     in_below u (v ∷ us) list h heard above = elim (or_cases (is_at (id_cmp u) v) (is_in us u) h) [
       | inl here ↦
-          let is : u ≡ v = at_is u v here in
+          let is : u ≡ v = id_is u v here in
           in_below_before us (with_below told hearers list v)
           (in_passing (λ z. is_above told z v) t (near_of hearers v) list (subst (λ z. is_in (near_of hearers z) t ≡ true) is heard) (subst (λ z. is_above told t z ≡ true) is above))
       | inr there ↦ in_below u us (with_below told hearers list v) there heard above

@@ -5,6 +5,7 @@ use Rattle.std.specs.List.{cons_option, filter, filter_map, flat_map, list_any}
 use Rattle.std.proofs.lemmas.Bool.{eqb-true, false≢true}
 use Rattle.std.proofs.lemmas.List.{append-nil}
 use Rattle.std.specs.BTreeSet.{insert_key}
+use Rattle.std.proofs.lemmas.List.Sums.{fold-append}
 use Rattle.pl_frame.specs.declared.address.SwitchId.{SwitchId}
 use Rattle.pl_layouts.specs.declared.place.Place.{Place}
 use Rattle.pl_layouts.specs.Equality.{same_switch}
@@ -28,10 +29,6 @@ any_kept q f (x ∷ xs) = by (any_kept q f xs) (q x)
     by rest true = ap (λ r. f x || r) rest
     by rest false = rest
 
-fold_append : {X Y : Type 0} (f : Y → X → Y) (a : Y) (xs ys : List X) → fold f a (xs ++ ys) ≡ fold f (fold f a xs) ys
-fold_append f a [] ys = refl
-fold_append f a (x ∷ xs) ys = fold_append f (f a x) xs ys
-
 module _ (told : Told) (s : SwitchId) where
   neighbours_made : (us : List SwitchId) (list : List Avoided) →
       fold (with_neighbour told s) list us ≡ fold (insert_key avoided_cmp) list (flat_map (avoided_at told s) (filter (is_above told s) us))
@@ -45,7 +42,7 @@ module _ (told : Told) (s : SwitchId) where
           ≡ fold (insert_key avoided_cmp) list (flat_map (avoided_at told s) (cond b (u ∷ filter (is_above told s) us) (filter (is_above told s) us)))
       by rest true =
           rest (fold (insert_key avoided_cmp) list (avoided_at told s u))
-          ∙ sym (fold_append (insert_key avoided_cmp) list (avoided_at told s u) (flat_map (avoided_at told s) (filter (is_above told s) us)))
+          ∙ sym (fold-append (insert_key avoided_cmp) list (avoided_at told s u) (flat_map (avoided_at told s) (filter (is_above told s) us)))
       by rest false = rest list
 
   pub list_made : fold (with_neighbour told s) [] (neighbours told s) ≡ avoid_list told s

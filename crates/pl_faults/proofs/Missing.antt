@@ -8,17 +8,17 @@ use Rattle.std.proofs.lemmas.Bool.Decides.{Decides-and, Decides-eqb}
 use Rattle.std.proofs.lemmas.List.Folds.{list_any_more}
 use Rattle.std.proofs.lemmas.List.{append-nil, take_more}
 use Rattle.std.proofs.lemmas.List.Elements.{filter-append}
+use Rattle.pl_lemmas.proofs.Bools.{false_before}
 use Rattle.pl_frame.specs.declared.address.SwitchId.{SwitchId}
 use Rattle.pl_logic.specs.ManagerViews.{Told, id_cmp, place_of, switches}
 use Rattle.pl_logic.specs.AvoidLists.{leads_to}
+use Rattle.pl_manager_rule.proofs.Avoided.{id_is}
 use Rattle.pl_reports.specs.Kept.{has_told}
 use Rattle.pl_faults.specs.declared.edges.Edge.{Edge}
 use Rattle.pl_faults.specs.Missed.{AreMissed, AreTurned, Misses, is_upper, missed_at, missed_by, missed_in, with_unled}
 use Rattle.pl_faults.specs.declared.reach.Reach.{Reach}
 use Rattle.pl_faults.specs.Listed.{is_in}
 use Rattle.pl_faults.specs.Rows.{HasSameRows, IsReach, leads_at, value_of}
-use Rattle.pl_faults.proofs.Anew.{at_is}
-use Rattle.pl_faults.proofs.Gathered.{out_before}
 use Rattle.pl_faults.proofs.Reaching.{leads_by_rows, level_told}
 
 -- one that told nothing misses none
@@ -93,9 +93,9 @@ pub turned_more : (old new : Misses) (ss : List SwitchId) (i : ℕ) (d : SwitchI
     (is_in more (get_or ss i d) ≡ false → missed_in new (get_or ss i d) ≡ missed_in old (get_or ss i d)) → AreTurned old new (take (i + 1) ss) more
 turned_more old new ss i d within turned more h kept same t some out =
     elim (or_cases (is_in (take i ss) t) (is_at (id_cmp t) (get_or ss i d)) (sym (list_any_more (is_at (id_cmp t)) ss i d within) ∙ some)) [
-      | inl before ↦ h t before (out_before (is_in turned t) (is_in more t) (kept t) out)
+      | inl before ↦ h t before (false_before (is_in turned t) (is_in more t) (kept t) out)
       | inr own ↦
-          let is : t ≡ get_or ss i d = at_is t (get_or ss i d) own in
+          let is : t ≡ get_or ss i d = id_is t (get_or ss i d) own in
           ap (missed_in new) is ∙ same (ap (is_in more) (sym is) ∙ out) ∙ ap (missed_in old) (sym is)
     ]
 
@@ -108,7 +108,7 @@ turned_whole told after before edges old new turned was now stays h t out = by (
     by : (b : Bool) → has_told after t ≡ b → missed_in new t ≡ missed_in old t
     by true e = h t e out
     by false e =
-        now t ∙ untold_misses after edges t e ∙ sym (untold_misses told before t (out_before (has_told told t) (has_told after t) (stays t) e))
+        now t ∙ untold_misses after edges t e ∙ sym (untold_misses told before t (false_before (has_told told t) (has_told after t) (stays t) e))
         ∙ sym (was t)
 
 -- `==` at edge switches tells just those apart that differ

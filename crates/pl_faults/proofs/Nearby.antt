@@ -3,8 +3,10 @@ use Rattle.std.proofs.Common.{◌≡◌, ◌&&◌, ℕ, Bool, true, false, cond,
 use Rattle.std.specs.Prelude.{fold}
 use Rattle.std.specs.List.{list_any}
 use Rattle.std.specs.BTreeMap.{is_at}
-use Rattle.std.proofs.lemmas.Bool.{false≢true}
+use Rattle.std.proofs.lemmas.Bool.{false_from_ne_true, false≢true}
+use Rattle.pl_lemmas.proofs.Bools.{and_turned, false_before}
 use Rattle.pl_bits.specs.Rows.{either_row}
+use Rattle.pl_bits.proofs.Either.{either_of}
 use Rattle.pl_frame.specs.declared.address.SwitchId.{SwitchId}
 use Rattle.pl_layouts.specs.Placement.{is_known}
 use Rattle.pl_logic.specs.ManagerViews.{Told, alive_neighbours, has_level, id_cmp, is_alive, is_told_usable, neighbours, place_of}
@@ -16,33 +18,23 @@ use Rattle.pl_faults.specs.Kept.{IsWordWithin}
 use Rattle.pl_faults.specs.Listed.{is_in, with_all, with_beside}
 use Rattle.pl_faults.specs.Rows.{AreRows, AreRowsRenewed, IsReach, IsReachRenewed, Leads, Rows, leads_by, leads_down, row_at_level, row_in, row_of}
 use Rattle.pl_faults.proofs.Anew.{among_told}
-use Rattle.pl_faults.proofs.Gathered.{in_all_before, in_all_new, in_beside, in_beside_before, out_before}
-use Rattle.pl_faults.proofs.Reaching.{either_of, rows_near}
-
-both_turned : (a b : Bool) → (a && b) ≡ (b && a)
-both_turned true true = refl
-both_turned true false = refl
-both_turned false true = refl
-both_turned false false = refl
-
-pub not_in : (b : Bool) → (b ≡ true → ⊥) → b ≡ false
-not_in true f = absurd (f refl)
-not_in false f = refl
+use Rattle.pl_faults.proofs.Gathered.{in_all_before, in_all_new, in_beside, in_beside_before}
+use Rattle.pl_faults.proofs.Reaching.{rows_near}
 
 -- ---- beside
 pub beside_turned : (told : Told) (t x : SwitchId) → IsAmong x (alive_neighbours told t) → is_in (alive_neighbours told x) t ≡ true
 beside_turned told t x near =
-    any_alive told x t ∙ both_turned (is_told_usable told x t) (is_told_usable told t x)
+    any_alive told x t ∙ and_turned (is_told_usable told x t) (is_told_usable told t x)
     ∙ (among_filter (is_alive told t) x (neighbours told t) near).1
 
 -- one that is not beside a switch does not have it beside itself
 beside_out : (told : Told) (ends xs : List SwitchId) (t : SwitchId) → is_in (fold (with_beside told) ends xs) t ≡ false →
     (x : SwitchId) → IsAmong x (alive_neighbours told t) → is_in xs x ≡ false
 beside_out told ends xs t out x near =
-    not_in (is_in xs x) (λ there. false≢true (sym out ∙ in_beside told t x xs ends there (beside_turned told t x near)))
+    false_from_ne_true (is_in xs x) (λ there. false≢true (sym out ∙ in_beside told t x xs ends there (beside_turned told t x near)))
 
 ends_before : (told : Told) (ends xs : List SwitchId) (t : SwitchId) → is_in (fold (with_beside told) ends xs) t ≡ false → is_in ends t ≡ false
-ends_before told ends xs t out = out_before (is_in ends t) (is_in (fold (with_beside told) ends xs) t) (in_beside_before told t xs ends) out
+ends_before told ends xs t out = false_before (is_in ends t) (is_in (fold (with_beside told) ends xs) t) (in_beside_before told t xs ends) out
 
 -- ---- rows of switches whose neighbours have the rows that they had
 module _ (edges : List Edge) (level leveled : SwitchId → Bool) (f g : Leads) where
@@ -142,10 +134,10 @@ module _ (ends : List SwitchId) (told after : Told) (w : IsWordWithin ends alive
         same = λ t out.
             let all : is_in (with_all (with_all low cores) above) t ≡ false = ap (λ xs. is_in xs t) (sym turned_are) ∙ out in
             let two : is_in (with_all low cores) t ≡ false =
-            out_before (is_in (with_all low cores) t) (is_in (with_all (with_all low cores) above) t) (in_all_before t (with_all low cores) above) all in
+            false_before (is_in (with_all low cores) t) (is_in (with_all (with_all low cores) above) t) (in_all_before t (with_all low cores) above) all in
             record {
-              down = d.same t (out_before (is_in low t) (is_in (with_all low cores) t) (in_all_before t low cores) two);
-              core = cs.same t (out_before (is_in cores t) (is_in (with_all low cores) t) (in_all_new t low cores) two);
-              up = tops.same t (out_before (is_in above t) (is_in (with_all (with_all low cores) above) t) (in_all_new t (with_all low cores) above) all);
+              down = d.same t (false_before (is_in low t) (is_in (with_all low cores) t) (in_all_before t low cores) two);
+              core = cs.same t (false_before (is_in cores t) (is_in (with_all low cores) t) (in_all_new t low cores) two);
+              up = tops.same t (false_before (is_in above t) (is_in (with_all (with_all low cores) above) t) (in_all_new t (with_all low cores) above) all);
             };
       }

@@ -6,22 +6,23 @@ use Rattle.std.specs.BTreeMap.{is_at}
 use Rattle.std.specs.BTreeSet.{insert_key}
 use Rattle.std.proofs.lemmas.Bool.{false≢true}
 use Rattle.std.proofs.lemmas.List.Folds.{list_any_more}
-use Rattle.pl_bits.specs.Rows.{either_row}
+use Rattle.pl_lemmas.proofs.Bools.{false_before, or_false}
+use Rattle.pl_bits.proofs.Either.{either_of}
 use Rattle.pl_frame.specs.declared.address.SwitchId.{SwitchId}
 use Rattle.pl_layouts.specs.declared.place.Place.{Place}
 use Rattle.pl_layouts.specs.Placement.{is_known, nowhere}
 use Rattle.pl_logic.specs.AvoidLists.{core_leads_to, is_above, is_level_above, leads_to}
 use Rattle.pl_logic.specs.ManagerViews.{Told, alive_at_level, alive_neighbours, has_level, has_pod, id_cmp, is_alive, place_of, switches, tellers, value_at}
 use Rattle.pl_logic.proofs.Among.{among_in_order, among_left}
-use Rattle.pl_manager_rule.proofs.Avoided.{id_exact}
+use Rattle.pl_manager_rule.proofs.Avoided.{id_exact, id_is}
 use Rattle.pl_manager_rule.proofs.Tables.{found_key}
 use Rattle.pl_reports.specs.Kept.{has_told}
 use Rattle.pl_faults.specs.declared.edges.Edge.{Edge}
 use Rattle.pl_faults.specs.declared.reach.Reach.{Reach}
 use Rattle.pl_faults.specs.Listed.{is_in}
 use Rattle.pl_faults.specs.Rows.{AreRows, AreRowsRenewed, IsReach, Leads, Rows, leads_at, leads_by, leads_down, row_at_level, row_in, row_of, row_or_none, value_in, value_of, with_row}
-use Rattle.pl_faults.proofs.Anew.{among_told, at_is, at_turned}
-use Rattle.pl_faults.proofs.Gathered.{in_itself, out_before}
+use Rattle.pl_faults.proofs.Anew.{among_told, at_turned}
+use Rattle.pl_faults.proofs.Gathered.{in_itself}
 use Rattle.pl_faults.proofs.Made.{any_kept}
 
 -- ---- who has a level told it
@@ -52,17 +53,10 @@ below_told told s u e = by (place_of told s).level (place_of told u).level refl 
     by None None is k = absurd (false≢true k)
 
 -- ---- rows, entry by entry
-pub either_of : {X : Type 0} (f g : X → Bool) (xs : List X) → either_row (map f xs) (map g xs) ≡ map (λ x. f x || g x) xs
-either_of f g [] = refl
-either_of f g (x ∷ xs) = ap (λ bs. (f x || g x) ∷ bs) (either_of f g xs)
 
 same_row : {X : Type 0} (f g : X → Bool) (xs : List X) → ((x : X) → f x ≡ g x) → map f xs ≡ map g xs
 same_row f g [] e = refl
 same_row f g (x ∷ xs) e = λ i. e x i ∷ same_row f g xs e i
-
-or_false : (b : Bool) → b ≡ (b || false)
-or_false true = refl
-or_false false = refl
 
 entry_of_row : (f : Edge → Bool) (es : List Edge) (i : ℕ) (d : Edge) → i < length es → get_or (map f es) i false ≡ f (get_or es i d)
 entry_of_row f [] i d h = absurd (omega arith)
@@ -112,8 +106,8 @@ look_more {X} fresh look after first ss i d one within was is put t =
   where
     by : (some own : Bool) → is_at (id_cmp t) (get_or ss i d) ≡ own → look t ≡ cond some (fresh t) (first t) →
         cond own one (look t) ≡ cond (some || own) (fresh t) (first t)
-    by true true e k = is ∙ ap fresh (sym (at_is t (get_or ss i d) e))
-    by false true e k = is ∙ ap fresh (sym (at_is t (get_or ss i d) e))
+    by true true e k = is ∙ ap fresh (sym (id_is t (get_or ss i d) e))
+    by false true e k = is ∙ ap fresh (sym (id_is t (get_or ss i d) e))
     by true false e k = k
     by false false e k = k
 
@@ -135,7 +129,7 @@ put_apart s t changed rows after one out put =
     by : (b : Bool) → is_at (id_cmp s) t ≡ b → row_or_none (cond b (Some one) (value_at id_cmp rows t)) ≡ row_in rows t
     by false e = refl
     by true e =
-        absurd (false≢true (sym out ∙ subst (λ z. is_in (insert_key id_cmp changed s) z ≡ true) (at_is s t e) (in_itself s changed)))
+        absurd (false≢true (sym out ∙ subst (λ z. is_in (insert_key id_cmp changed s) z ≡ true) (id_is s t e) (in_itself s changed)))
 
 pub none_rows : (fresh : SwitchId → List Bool) (rows : Rows) → AreRowsRenewed fresh [] rows rows []
 none_rows fresh rows = record { now = λ t. refl; same = λ t out. refl }
@@ -148,7 +142,7 @@ pub rows_more : (fresh : SwitchId → List Bool) (ss : List SwitchId) (i : ℕ) 
     ((t : SwitchId) → is_in more t ≡ false → row_in after t ≡ row_in rows t) → AreRowsRenewed fresh (take (i + 1) ss) first after more
 rows_more fresh ss i d within first rows after changed more one h is put stays same = record {
   now = look_more fresh (row_in rows) (row_in after) (row_in first) ss i d one within h.now is put;
-  same = λ t out. same t out ∙ h.same t (out_before (is_in changed t) (is_in more t) (stays t) out);
+  same = λ t out. same t out ∙ h.same t (false_before (is_in changed t) (is_in more t) (stays t) out);
 }
 
 pub rows_done : (fresh : SwitchId → List Bool) (some ss : List SwitchId) (first rows : Rows) (changed : List SwitchId) → some ≡ ss →

@@ -3,12 +3,12 @@ use Rattle.std.proofs.Common.{◌≡◌, ℕ, Bool, true, false, cond, List, [],
 use Rattle.std.specs.Prelude.{fold, is_some}
 use Rattle.std.specs.List.{filter, flat_map}
 use Rattle.std.specs.BTreeMap.{is_at}
-use Rattle.std.proofs.lemmas.Bool.{false≢true, or_cases}
+use Rattle.std.proofs.lemmas.Bool.{false_from_ne_true, false≢true, or_cases}
 use Rattle.pl_frame.specs.declared.address.SwitchId.{SwitchId}
 use Rattle.pl_logic.specs.AvoidLists.{avoid_list, avoided_at, avoided_cmp, is_above, is_cut, is_level_above}
 use Rattle.pl_logic.specs.ManagerViews.{PlacedEdge, Told, edge_at, has_level, id_cmp, in_order, neighbours, place_of, placed_edges, value_at}
 use Rattle.pl_logic.proofs.Among.{IsAmong}
-use Rattle.pl_manager_rule.proofs.Avoided.{IsPlacedAs, among_placed, placed_among}
+use Rattle.pl_manager_rule.proofs.Avoided.{IsPlacedAs, among_placed, placed_among, id_is}
 use Rattle.pl_reports.specs.Kept.{has_told}
 use Rattle.pl_faults.specs.declared.edges.Edge.{Edge}
 use Rattle.pl_faults.specs.declared.leading.Leading.{Leading}
@@ -17,10 +17,9 @@ use Rattle.pl_faults.specs.Listed.{AreHeard, Hearers, is_in, with_below}
 use Rattle.pl_faults.specs.Making.{Avoided, placed_as}
 use Rattle.pl_faults.specs.Missed.{AreMissed, IsLeading, IsTurned, avoided_of, is_some_edge, is_upper, missed_at, missed_by}
 use Rattle.pl_faults.specs.Rows.{AreRows, Leads, Rows, leads_by, leads_down, row_at_level, row_of}
-use Rattle.pl_faults.proofs.Anew.{all_renewed, among_told, at_is, at_turned, none_renewed, one_more_renewed}
+use Rattle.pl_faults.proofs.Anew.{all_renewed, among_told, at_turned, none_renewed, one_more_renewed}
 use Rattle.pl_faults.proofs.Gathered.{below_from, in_below, in_below_before}
 use Rattle.pl_faults.proofs.Made.{avoided_kept}
-use Rattle.pl_faults.proofs.Nearby.{not_in}
 use Rattle.pl_faults.proofs.Reaching.{below_told}
 
 -- ---- a word of one switch
@@ -29,7 +28,7 @@ module _ (s : SwitchId) (told after : Told) (w : IsWordOf s told after) where
   stays_heard t h = by (is_at (id_cmp s) t) refl
     where
       by : (b : Bool) → is_at (id_cmp s) t ≡ b → has_told after t ≡ true
-      by true e = subst (λ z. has_told after z ≡ true) (at_is s t e) w.itself
+      by true e = subst (λ z. has_told after z ≡ true) (id_is s t e) w.itself
       by false e = w.others t e ∙ h
 
   -- ---- no edge switch is placed, nor was
@@ -47,7 +46,7 @@ module _ (s : SwitchId) (told after : Told) (w : IsWordOf s told after) where
           at : (x : PlacedEdge) → IsPlacedAs x.switch (place_of after x.switch) x → (b : Bool) → is_at (id_cmp s) x.switch ≡ b → ⊥
           at x is true own =
               let here : is_some (edge_at x.switch (place_of after x.switch)) ≡ true = ap (λ p. is_some (edge_at x.switch p)) is.place in
-              false≢true (sym unplaced ∙ subst (λ z. is_some (edge_at z (place_of after z)) ≡ true) (sym (at_is s x.switch own)) here)
+              false≢true (sym unplaced ∙ subst (λ z. is_some (edge_at z (place_of after z)) ≡ true) (sym (id_is s x.switch own)) here)
           at x is false other = subst (IsAmong x) none (placed_among told x (sym (w.place x.switch other) ∙ is.place))
 
 nothing_cut : (told : Told) (t : SwitchId) (us : List SwitchId) → placed_edges told ≡ [] → flat_map (avoided_at told t) us ≡ []
@@ -106,7 +105,7 @@ unplaced_kept s told after word known lists before l2 b2 kept empty unplaced ren
       current = λ t. r.now t ∙ by t (is_at (id_cmp t) s) refl;
       heard = λ t e. elim (or_cases (is_some (value_at id_cmp before t)) (is_at (id_cmp t) s) (r.noted t e)) [
         | inl was ↦ stays_heard s told after w t (kept.listed.heard t was)
-        | inr own ↦ subst (λ z. has_told after z ≡ true) (sym (at_is t s own)) w.itself
+        | inr own ↦ subst (λ z. has_told after z ≡ true) (sym (id_is t s own)) w.itself
       ];
     };
   };
@@ -141,7 +140,7 @@ unplaced_kept s told after word known lists before l2 b2 kept empty unplaced ren
     by : (t : SwitchId) (b : Bool) → is_at (id_cmp t) s ≡ b → cond b (Some (avoid_list after t)) (value_at id_cmp lists t) ≡ list_of after t
     by t true own =
         ap (λ b. cond b (Some (avoid_list after t)) None)
-        (sym (subst (λ z. has_told after z ≡ true) (sym (at_is t s own)) w.itself))
+        (sym (subst (λ z. has_told after z ≡ true) (sym (id_is t s own)) w.itself))
     by t false other =
         let apart : is_at (id_cmp s) t ≡ false = at_turned s t ∙ other in
         kept.listed.current t
@@ -192,12 +191,12 @@ module _ (s : SwitchId) (told after : Told) (w : IsWordOf s told after) (was kno
   untouched : (t : SwitchId) → is_in touched t ≡ false → list_of told t ≡ list_of after t
   untouched t out =
       let away : is_in first t ≡ false =
-      not_in (is_in first t) (λ at. false≢true (sym out ∙ in_below_before after t known.hearers.entries turned first at)) in
+      false_from_ne_true (is_in first t) (λ at. false≢true (sym out ∙ in_below_before after t known.hearers.entries turned first at)) in
       let other : is_at (id_cmp s) t ≡ false =
-      not_in (is_at (id_cmp s) t) (λ at. false≢true (sym away ∙ subst (λ z. is_in first z ≡ true) (at_is s t at) own)) in
+      false_from_ne_true (is_at (id_cmp s) t) (λ at. false≢true (sym away ∙ subst (λ z. is_in first z ≡ true) (id_is s t at) own)) in
       let far : (x : SwitchId) → IsAmong x (neighbours after t) → is_above after t x ≡ true → is_in turned x ≡ false =
       λ x near above.
-      not_in (is_in turned x)
+      false_from_ne_true (is_in turned x)
       (λ there. false≢true (sym out ∙ in_below after t known.hearers.entries x turned first there
       (led.leading.heard t x (among_told x (neighbours after t) near)) above)) in
       λ j. cond (sym (w.others t other) j) (Some (sym (same_list t away far) j)) None

@@ -1,26 +1,25 @@
 -- A link that is told of again and is as alive as before changes no list, nor does a place that is told again.
-use Rattle.std.proofs.Common.{◌≡◌, ◌&&◌, ℕ, Bool, true, false, cond, not, List, [], ◌∷◌, map, Option, Some, None, refl, sym, ap, ◌∙◌, subst, inl, inr}
+use Rattle.std.proofs.Common.{◌≡◌, ◌&&◌, ℕ, Bool, true, false, cond, not, List, [], map, Option, Some, None, refl, sym, ap, ◌∙◌, subst}
 use Rattle.std.specs.Prelude.{unwrap_or}
 use Rattle.std.specs.List.{filter, filter_map, flat_map, list_any}
-use Rattle.std.specs.List.Sorted.{IsStrictlySortedBy}
 use Rattle.std.specs.Ordering.{is_eq}
 use Rattle.std.specs.Cmp.{Equal-is}
 use Rattle.std.specs.BTreeMap.{is_at}
-use Rattle.std.specs.BTreeSet.{insert_key}
-use Rattle.std.proofs.lemmas.Bool.{not-true, or_cases}
+use Rattle.pl_lemmas.proofs.Bools.{and_turned}
 use Rattle.pl_frame.specs.declared.address.SwitchId.{SwitchId}
 use Rattle.pl_layouts.specs.declared.place.Place.{Place}
 use Rattle.pl_layouts.specs.Equality.{same_switch}
 use Rattle.pl_layouts.specs.Placement.{is_known, nowhere}
 use Rattle.pl_logic.specs.AvoidLists.{avoid_list, avoided_cmp, is_level_above}
 use Rattle.pl_logic.specs.ManagerViews.{PlacedEdge, Told, edge_at, id_cmp, in_order, is_alive, is_told_usable, link_cmp, neighbours, place_of, placed_edges, switches, tellers, value_at}
-use Rattle.pl_logic.proofs.Among.{IsAmong, among_in_order, among_insert, among_ordered, among_right, id_total, rising_inserted}
+use Rattle.pl_logic.proofs.Among.{IsAmong, among_in_order, among_ordered, among_right, id_total}
 use Rattle.pl_manager_rule.specs.ManagerRule.{with_link, with_place}
-use Rattle.pl_manager_rule.proofs.Avoided.{id_exact, neighbours_rise, same_is, switches_rise}
+use Rattle.pl_manager_rule.proofs.Avoided.{id_among, id_exact, id_is, id_itself, neighbours_rise, switches_rise}
 use Rattle.pl_manager_rule.proofs.History.{value_after}
+use Rattle.pl_manager_rule.proofs.Kept.{link_exact}
 use Rattle.pl_reports.specs.Kept.{has_told}
-use Rattle.pl_reports.proofs.Ordering.{same_rising}
-use Rattle.pl_reports.proofs.Telling.{key_of_near, link_exact, link_total, other_neighbours, own_neighbours, switches_linked, switches_placed}
+use Rattle.pl_reports.proofs.Telling.{key_of_near, link_total, other_neighbours, own_neighbours, switches_linked, switches_placed}
+use Rattle.pl_reports.proofs.Placing.{insert_nothing}
 use Rattle.pl_faults.specs.declared.edges.Edge.{Edge}
 use Rattle.pl_faults.specs.declared.leading.Leading.{Leading}
 use Rattle.pl_faults.specs.declared.reach.Reach.{Reach}
@@ -29,8 +28,7 @@ use Rattle.pl_faults.specs.Rows.{AreRows, IsReach, Leads, Rows, leads_by, leads_
 use Rattle.pl_faults.specs.Kept.{IsKept, Lists}
 use Rattle.pl_faults.specs.Making.{Avoided}
 use Rattle.pl_faults.specs.Missed.{AreMissed, Misses, is_upper}
-use Rattle.pl_faults.proofs.Anew.{at_is, is_itself, near_key_first, told_among}
-use Rattle.pl_faults.proofs.Filling.{among_put_in}
+use Rattle.pl_faults.proofs.Anew.{near_key_first}
 
 -- ---- a list by places, links that are alive, neighbours and placed edge switches
 module _ (place : SwitchId → Place) (alive : SwitchId → SwitchId → Bool) (near : SwitchId → List SwitchId) where
@@ -124,18 +122,6 @@ module _ (told after : Told) (places : (x : SwitchId) → place_of after x ≡ p
     };
   }
 
-pub insert_nothing : (xs : List SwitchId) (k : SwitchId) → IsStrictlySortedBy id_cmp xs → IsAmong k xs → insert_key id_cmp xs k ≡ xs
-insert_nothing xs k s among =
-    same_rising id_cmp id_total id_exact (insert_key id_cmp xs k) xs (rising_inserted id_cmp id_total k xs s) s
-    (λ x h. elim (among_insert id_cmp k x xs h) [ inl is ↦ subst (λ z. IsAmong z xs) is among | inr j ↦ j ])
-    (λ x h. among_put_in id_cmp id_total id_exact x k xs (inr h))
-
-both_turned : (a b : Bool) → (a && b) ≡ (b && a)
-both_turned true true = refl
-both_turned true false = refl
-both_turned false true = refl
-both_turned false false = refl
-
 module _ (told : Told) (s u : SwitchId) (usable : Bool) where
   abbrev after : Told
   after = with_link told s u usable
@@ -158,8 +144,8 @@ module _ (told : Told) (s u : SwitchId) (usable : Bool) where
       by : (a b : Bool) → is_eq (link_cmp (x, y) (s, u)) ≡ a → is_eq (link_cmp (y, x) (s, u)) ≡ b → is_alive after x y ≡ is_alive told x y
       by true b e f = same_at (x, y) e
       by false true e f =
-          both_turned (is_told_usable after x y) (is_told_usable after y x) ∙ same_at (y, x) f
-          ∙ both_turned (is_told_usable told y x) (is_told_usable told x y)
+          and_turned (is_told_usable after x y) (is_told_usable after y x) ∙ same_at (y, x) f
+          ∙ and_turned (is_told_usable told y x) (is_told_usable told x y)
       by false false e f = λ i. usable_after x y false e refl i && usable_after y x false f refl i
 
   module _ (known : IsAmong u (neighbours told s)) where
@@ -175,11 +161,11 @@ module _ (told : Told) (s u : SwitchId) (usable : Bool) where
       where
         by : (b : Bool) → is_at (id_cmp s) t ≡ b → neighbours after t ≡ neighbours told t
         by true e =
-            subst (λ z. neighbours after z ≡ neighbours told z) (at_is s t e)
+            subst (λ z. neighbours after z ≡ neighbours told z) (id_is s t e)
             (own_neighbours told s u usable ∙ insert_nothing (neighbours told s) u (neighbours_rise told s) known)
         by false e =
             other_neighbours told s u usable t
-            (λ is. let so : is_at (id_cmp s) t ≡ true = subst (λ z. is_at (id_cmp s) z ≡ true) is (is_itself s) in absurd (cc))
+            (λ is. let so : is_at (id_cmp s) t ≡ true = subst (λ z. is_at (id_cmp s) z ≡ true) is (id_itself s) in absurd (cc))
 
     pub known_kept : is_alive after s u ≡ is_alive told s u → (known : Leading) (lists before : Lists) →
         IsKept told known lists before → IsKept after known lists before
@@ -190,24 +176,12 @@ pub place_kept : (told : Told) (s : SwitchId) (place : Place) → has_told told 
     (known : Leading) (lists before : Lists) → IsKept told known lists before → IsKept (with_place told s place) known lists before
 place_kept told s place heard is =
     alike_kept told (with_place told s place) same (λ x y. refl) (λ x. refl)
-    (switches_placed told s place ∙ insert_nothing (switches told) s (switches_rise told) (told_among s (switches told) heard))
+    (switches_placed told s place ∙ insert_nothing (switches told) s (switches_rise told) (id_among s (switches told) heard))
   where
     same : (x : SwitchId) → place_of (with_place told s place) x ≡ place_of told x
     same x =
         ap (λ (o : Option Place). unwrap_or o nowhere) (value_after id_cmp id_total id_exact told.places s x place) ∙ by (is_at (id_cmp x) s) refl
       where
         by : (b : Bool) → is_at (id_cmp x) s ≡ b → unwrap_or (cond b (Some place) (value_at id_cmp told.places x)) nowhere ≡ place_of told x
-        by true e = is ∙ ap (place_of told) (sym (at_is x s e))
+        by true e = is ∙ ap (place_of told) (sym (id_is x s e))
         by false e = refl
-
--- by the tests of the code
-pub still_is : (now was : Bool) → cond was now (not now) ≡ true → now ≡ was
-still_is now true e = e
-still_is now false e = not-true now e
-
-pub known_among : (u : SwitchId) (xs : List SwitchId) → list_any (λ x. same_switch x u) xs ≡ true → IsAmong u xs
-known_among u [] h = let no_way : false ≡ true = h in absurd (cc)
-known_among u (x ∷ xs) h = elim (or_cases (same_switch x u) (list_any (λ z. same_switch z u) xs) h) [
-  | inl here ↦ inl (same_is x u here)
-  | inr there ↦ inr (known_among u xs there)
-]

@@ -3,25 +3,26 @@ use Rattle.std.proofs.Common.{◌≡◌, Bool, true, false, List, [], ◌∷◌,
 use Rattle.std.specs.Prelude.{fold}
 use Rattle.std.specs.BTreeMap.{is_at}
 use Rattle.std.specs.BTreeSet.{insert_key}
-use Rattle.std.proofs.lemmas.Bool.{false≢true, or_cases}
+use Rattle.std.proofs.lemmas.Bool.{false_from_ne_true, false≢true, or_cases}
 use Rattle.pl_frame.specs.declared.address.SwitchId.{SwitchId}
 use Rattle.pl_logic.specs.ManagerViews.{Told, alive_neighbours, id_cmp, neighbours}
+use Rattle.pl_manager_rule.proofs.Avoided.{id_among, id_is}
 use Rattle.pl_reports.specs.Kept.{has_told, near_of}
 use Rattle.pl_faults.specs.Kept.{IsLinkWord, IsPlaceWord, IsWordOf, IsWordWithin}
 use Rattle.pl_faults.specs.Listed.{AreHeard, Hearers, is_in, with_beside, with_told}
-use Rattle.pl_faults.proofs.Anew.{at_is, no_neighbours, told_among}
+use Rattle.pl_faults.proofs.Anew.{no_neighbours}
 use Rattle.pl_faults.proofs.Gathered.{in_all_before, in_all_new, in_itself, in_more, in_told, in_told_before, told_from}
-use Rattle.pl_faults.proofs.Nearby.{beside_turned, not_in}
+use Rattle.pl_faults.proofs.Nearby.{beside_turned}
 
 -- one that is not in a list is another than one that is
 pub apart : (list : List SwitchId) (s t : SwitchId) → is_in list s ≡ true → is_in list t ≡ false → is_at (id_cmp s) t ≡ false
 apart list s t own out =
-    not_in (is_at (id_cmp s) t) (λ at. false≢true (sym out ∙ subst (λ z. is_in list z ≡ true) (at_is s t at) own))
+    false_from_ne_true (is_at (id_cmp s) t) (λ at. false≢true (sym out ∙ subst (λ z. is_in list z ≡ true) (id_is s t at) own))
 
 -- the switch that told something is alone
 pub alone_told : (s : SwitchId) (told after : Told) → IsWordOf s told after → (t : SwitchId) → is_in (s ∷ []) t ≡ true → has_told after t ≡ true
 alone_told s told after w t h = elim (or_cases (is_at (id_cmp t) s) false h) [
-  | inl at ↦ subst (λ z. has_told after z ≡ true) (sym (at_is t s at)) w.itself
+  | inl at ↦ subst (λ z. has_told after z ≡ true) (sym (id_is t s at)) w.itself
   | inr none ↦ absurd (false≢true none)
 ]
 
@@ -55,11 +56,11 @@ module _ (s : SwitchId) (told after : Told) (w : IsPlaceWord s told after) where
     near = λ t out. w.beside t;
     beside = λ t x out near.
         w.word.place x
-        (not_in (is_at (id_cmp s) x)
+        (false_from_ne_true (is_at (id_cmp s) x)
         (λ at.
-        let here : is_in (alive_neighbours after t) s ≡ true = subst (λ z. is_in (alive_neighbours after t) z ≡ true) (sym (at_is s x at)) near in
+        let here : is_in (alive_neighbours after t) s ≡ true = subst (λ z. is_in (alive_neighbours after t) z ≡ true) (sym (id_is s x at)) near in
         false≢true (sym out ∙ in_all_new t (s ∷ []) (alive_neighbours after s)
-        (beside_turned after t s (told_among s (alive_neighbours after t) here)))));
+        (beside_turned after t s (id_among s (alive_neighbours after t) here)))));
   }
 
   module _ (hearers : Hearers) (heard : AreHeard after hearers) where
@@ -88,8 +89,8 @@ module _ (s : SwitchId) (told after : Told) (w : IsPlaceWord s told after) where
       near = λ t out. w.near t;
       beside = λ t x out near.
           w.word.place x
-          (not_in (is_at (id_cmp s) x)
+          (false_from_ne_true (is_at (id_cmp s) x)
           (λ at.
-          let here : is_in (neighbours after t) s ≡ true = subst (λ z. is_in (neighbours after t) z ≡ true) (sym (at_is s x at)) near in
+          let here : is_in (neighbours after t) s ≡ true = subst (λ z. is_in (neighbours after t) z ≡ true) (sym (id_is s x at)) near in
           false≢true (sym out ∙ in_told after t (near_of hearers s) (s ∷ []) (heard t s here) (near_told t s here))));
     }

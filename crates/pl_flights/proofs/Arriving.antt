@@ -4,12 +4,12 @@ use Rattle.std.specs.List.{position_or_len}
 use Rattle.std.specs.Option.{option_map}
 use Rattle.std.proofs.lemmas.Bool.{and_from, and_parts, both_ways, cases_Bool, cases_eq, cases_lt, cond-false, cond-true, eq-eqb, eqb-true, false≢true, lt-ltb, or_right}
 use Rattle.std.proofs.lemmas.List.Quantifiers.{position-Some}
-use Rattle.std.proofs.lemmas.Slice.Eq.{bytes_eq-Decides}
+use Rattle.std.proofs.lemmas.Option.{slice_get-get_or}
 use Rattle.pl_frame.specs.declared.address.Mac.{Mac}
 use Rattle.pl_frame.specs.Ethernet.{destination_of, source_of}
-use Rattle.pl_layouts.specs.Equality.{same_mac}
 use Rattle.pl_layouts.specs.Frames.{mac_number}
 use Rattle.pl_layouts.specs.Memberships.{group_of, is_group}
+use Rattle.pl_layouts.proofs.Sameness.{mac_is, mac_itself}
 use Rattle.pl_wiring.specs.declared.host.Host.{Host}
 use Rattle.pl_wiring.specs.declared.link.Peer.{Peer}
 use Rattle.pl_wiring.specs.declared.link.Peer.TheVariants.{HostPort}
@@ -23,6 +23,7 @@ use Rattle.pl_journal.specs.Flights.{address, first_of, flight_of, leg, root}
 use Rattle.pl_journal.specs.Lossy.{ArrivesByAddress, ArrivesByGroup, EndsAt, Needs, UnalteredFrom, is_member, is_root_there, is_same_place, mac_of_host}
 use Rattle.pl_journal.specs.Places.{Spot, at_port, holder, is_at, spot, spot_of}
 use Rattle.pl_journal.proofs.Hosts.{hosts_apart}
+use Rattle.pl_journal.proofs.Groups.{unicast_is_not_routed}
 use Rattle.pl_logic.specs.declared.reception.Reception.{Reception}
 use Rattle.pl_logic.specs.declared.reception.Reception.TheVariants.{Kept, NotMember}
 use Rattle.pl_logic.specs.HostDuties.{HostsKeepFrames, HostsSendData}
@@ -46,15 +47,6 @@ use Rattle.pl_flights.proofs.Keeping.{kept, same_book}
 use Rattle.pl_flights.proofs.Noting.{note, note_drop, reverse_noted}
 use Rattle.pl_flights.proofs.OverLinks.{taken, taken_out}
 
-abbrev mac : List ℕ → Mac
-mac bytes = record { 0 = bytes }
-
-pub same_mac_is : (a b : Mac) → same_mac a b ≡ true → a ≡ b
-same_mac_is a b is = ap mac ((bytes_eq-Decides a.0 b.0).0 is)
-
-pub same_mac_itself : (a : Mac) → same_mac a a ≡ true
-same_mac_itself a = (bytes_eq-Decides a.0 a.0).1 refl
-
 pub some_passes : {T : Type 0} (p : T → Bool) (xs : List T) (h : ℕ) (x : T) → slice_get xs h ≡ Some x → p x ≡ true → position_or_len p xs < length xs
 some_passes p [] h x is passes = absurd (cc)
 some_passes p (y ∷ xs) zero x is passes = let same : y ≡ x = cc in let here : p y ≡ true = ap p same ∙ passes in rw here (omega arith)
@@ -64,11 +56,6 @@ some_passes p (y ∷ xs) (suc h) x is passes =
       | inl here ↦ rw here (omega arith)
       | inr later ↦ rw later (omega arith)
     ]
-
-pub found_there : {T : Type 0} (xs : List T) (i : ℕ) (d : T) → i < length xs → slice_get xs i ≡ Some (get_or xs i d)
-found_there [] i d within = absurd (omega arith)
-found_there (x ∷ xs) zero d within = refl
-found_there (x ∷ xs) (suc i) d within = found_there xs i d (omega arith)
 
 no_stand : Stand
 no_stand = record { edge = record { 0 = 0 }; port = 0 }
@@ -83,7 +70,7 @@ pub stands_there : (w : WorldView) (past : List Entry) (s port h : ℕ) → Stan
     spot_of w.plan past h ≡ Some (at_port s port)
 stands_there w past s port h agree found =
     let all = position-Some (stands_at s port) w.stands h no_stand found in
-    sym (agree h) ∙ ap (option_map spot_of_stand) (found_there w.stands h no_stand all.0)
+    sym (agree h) ∙ ap (option_map spot_of_stand) (slice_get-get_or w.stands h no_stand all.0)
     ∙ ap Some (spot_there (get_or w.stands h no_stand) s port all.1)
 
 -- and where a host stands one is found
@@ -126,7 +113,7 @@ gets w s port h frame is = by_host (host_at w s port) refl is
 
 its_address : (o : Option Mac) (dst : Mac) → is_address_of o dst ≡ true → o ≡ Some dst
 its_address None dst is = absurd (false≢true is)
-its_address (Some m) dst is = ap Some (same_mac_is m dst is)
+its_address (Some m) dst is = ap Some (mac_is m dst is)
 
 -- two hosts have two addresses
 pub host_is : (plan : Plan) (g h : ℕ) (m : Mac) → IsPlan plan → mac_of_host plan g ≡ Some m → mac_of_host plan h ≡ Some m → g ≡ h
@@ -159,9 +146,6 @@ host_is plan g h m is at_g at_h = elim (cases_eq g h) [
 by_kind : (b : Bool) {P Q : Type 0} → (b ≡ true → P) → (b ≡ false → Q) → MatchBool b P Q
 by_kind true p q = p refl
 by_kind false p q = q refl
-
-unicast_is_not_routed : (m : Mac) → is_group m ≡ false → is_routed (group_of m) ≡ false
-unicast_is_not_routed m unicast = ap is_routed (cond-true (not (is_group m)) None _ (ap not unicast))
 
 module _ (w : WorldView) (counted : IsCounted w) (told : IsTold w) (s port id : ℕ) (frame : List ℕ) (items : List Item)
     (within : port < w.plan.k) (head : out_of w s port ≡ Data id frame ∷ items) (peer : peer_of w.plan s port ≡ HostPort) where
@@ -236,7 +220,7 @@ module _ (w : WorldView) (counted : IsCounted w) (told : IsTold w) (s port id : 
           let there = stands_there w past s port found.0 told.stands_agree found.1 in
           let same : found.0 ≡ h = hosts_apart w.plan past found.0 h (at_port s port) is_plan told.run there at in
           let mine : is_address_of (mac_of_host w.plan found.0) (destination_of frame) ≡ true =
-          ap (λ o. is_address_of o (destination_of frame)) (ap (mac_of_host w.plan) same ∙ address) ∙ same_mac_itself (destination_of frame) in
+          ap (λ o. is_address_of o (destination_of frame)) (ap (mac_of_host w.plan) same ∙ address) ∙ mac_itself (destination_of frame) in
           let gets_it : receiver w s port frame ≡ Some found.0 = ap (if_for w.plan frame) (found.1)
           ∙ cond-true (is_group (destination_of frame) || is_address_of (mac_of_host w.plan found.0) (destination_of frame)) (Some found.0) None
           (or_right (is_group (destination_of frame)) _ mine) in

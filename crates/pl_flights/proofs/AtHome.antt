@@ -19,6 +19,7 @@ use Rattle.pl_layouts.specs.Frames.{is_arp}
 use Rattle.pl_layouts.specs.Memberships.{is_group}
 use Rattle.pl_layouts.specs.Placement.{is_known, is_placed}
 use Rattle.pl_layouts.proofs.Arrived.{six_src}
+use Rattle.pl_layouts.proofs.Known.{known_is}
 use Rattle.pl_journal.specs.declared.entry.Entry.TheVariants.{Crossed}
 use Rattle.pl_journal.specs.Flights.{Flight, flight_of, was_live}
 use Rattle.pl_logic.specs.Accounting.{AccountsForFrames, IsMade}
@@ -50,7 +51,6 @@ use Rattle.pl_flights.proofs.Hands.Hand.{Waits}
 use Rattle.pl_flights.proofs.HomeActs.{IsHere, leaves_then}
 use Rattle.pl_flights.proofs.OverLinks.{IsGoodAtHome, comes_told, taken, taken_out}
 use Rattle.pl_switch_rule.proofs.RowViews.{home_stays}
-use Rattle.pl_flights.proofs.Passing.{known}
 use Rattle.pl_flights.proofs.Redirects.{home_good}
 
 -- an ARP packet is in an ARP frame
@@ -64,9 +64,9 @@ pub local_is_placed : (v : SwitchView) (to : Pmac) → is_local v to ≡ true �
 local_is_placed v to own =
     let first = and_parts (is_known v.place.level 0) (is_known v.place.pod to.pod && is_known v.place.position to.position) own in
     let second = and_parts (is_known v.place.pod to.pod) (is_known v.place.position to.position) first.1 in
-    let level = known v.place.level 0 first.0 in
-    let pod = known v.place.pod to.pod second.0 in
-    let position = known v.place.position to.position second.1 in
+    let level = known_is v.place.level 0 first.0 in
+    let pod = known_is v.place.pod to.pod second.0 in
+    let position = known_is v.place.position to.position second.1 in
     (level, rw (level, pod, position) refl)
 
 module _ (plan : Plan) (place : ℕ → Place) (book : Book) (t : ℕ) (v : SwitchView) (is_plan : IsPlan plan) (places : KnowsPlaces plan.k place)

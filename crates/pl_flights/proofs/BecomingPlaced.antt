@@ -1,7 +1,7 @@
 -- Where a switch becomes a placed edge switch, each address that it grants may be granted then.
 use Rattle.std.proofs.Common.{◌≡◌, ℕ, zero, suc, ◌+◌, ◌<◌, ◌&&◌, not, true, false, List, [], None, Some, Result, Ok, Err, get_or, reverse, slice_get, sym, ◌∙◌, ap, subst, arith}
 use Rattle.std.specs.List.{AllByRecursion, range_with_len}
-use Rattle.std.proofs.lemmas.Bool.{and_parts, and_right, cond-true, cond_both, false≢true}
+use Rattle.std.proofs.lemmas.Bool.{and_parts, and_right, cond-true, cond_both, false≢true, not-true}
 use Rattle.pl_frame.specs.Ethernet.{payload_of}
 use Rattle.pl_pmac.specs.declared.pmac.Pmac.{Pmac}
 use Rattle.pl_layouts.specs.Control.{control_in}
@@ -26,7 +26,6 @@ use Rattle.pl_flights.specs.Standing.{FirstAddresses, IsNext, KnowsHosts}
 use Rattle.pl_switch_rule.proofs.RowViews.{changes_learn}
 use Rattle.pl_flights.proofs.ComingIn.{same_address}
 use Rattle.pl_flights.proofs.ControlFrames.{settles_by}
-use Rattle.pl_flights.proofs.ForwardActs.{not_is_true}
 use Rattle.pl_flights.proofs.Remembering.{IsReady, range_apart, remembered_well, well_behind}
 use Rattle.pl_flights.proofs.Settling.{GrantsWell}
 use Rattle.pl_flights.proofs.SilentSteps.{silent_changes}
@@ -42,7 +41,7 @@ changes_place old new = ap (λ (w : SwitchView). w.place) (changes_learn old new
 
 -- what becomes placed was not placed before
 pub was_unplaced : (old new : Place) → has_become_placed old new ≡ true → is_placed old ≡ false
-was_unplaced old new settles = not_is_true (is_placed old) ((and_parts (is_known new.level 0 && is_placed new) (not (is_placed old)) settles).1)
+was_unplaced old new settles = not-true (is_placed old) ((and_parts (is_known new.level 0 && is_placed new) (not (is_placed old)) settles).1)
 
 pub unplaced_before : (v : SwitchView) (q : ℕ) (read : Result Control ControlError) → settles_by v q read ≡ true → is_placed v.place ≡ false
 unplaced_before v q (Err e) settles = absurd (false≢true settles)

@@ -13,12 +13,14 @@ use Rattle.pl_layouts.specs.Frames.{arriving}
 use Rattle.pl_layouts.specs.Memberships.{is_group}
 use Rattle.pl_layouts.specs.Placement.{is_known, is_placed}
 use Rattle.pl_layouts.proofs.Arrived.{six_src}
+use Rattle.pl_layouts.proofs.Known.{known_is}
 use Rattle.pl_journal.specs.declared.cause.Cause.TheVariants.{NotPlaced, Spent}
 use Rattle.pl_journal.specs.declared.entry.Entry.{Entry}
 use Rattle.pl_journal.specs.declared.entry.Entry.TheVariants.{Crossed, Granted}
 use Rattle.pl_journal.specs.Flights.{Flight}
 use Rattle.pl_journal.specs.Lossy.{IsGrantable, mac_of_host}
 use Rattle.pl_journal.specs.Places.{Spot, at_port, same_spot, spot_of}
+use Rattle.pl_journal.proofs.Hosts.{same_spot_itself}
 use Rattle.pl_logic.specs.declared.acts.Act.{Act}
 use Rattle.pl_logic.specs.declared.acts.Act.TheVariants as act
 use Rattle.pl_logic.specs.declared.messages.ToManager.TheVariants.{Learned}
@@ -40,10 +42,9 @@ use Rattle.pl_flights.proofs.FindingHosts.{LooksAlike, alike_then, host_alike, h
 use Rattle.pl_flights.proofs.GrantingAmid.{sourced}
 use Rattle.pl_flights.proofs.Hands.{GoodActs}
 use Rattle.pl_flights.proofs.Hands.Hand.{Waits}
-use Rattle.pl_flights.proofs.Hosts.{host_unicast, same_spot_itself, stood_there}
+use Rattle.pl_flights.proofs.Hosts.{host_unicast, stood_there}
 use Rattle.pl_flights.proofs.Learning.{AgreesWith, Learns, knows_agreed, knows_next, learns_of, next_granted, next_in_use}
 use Rattle.pl_addresses.proofs.Numbers.{granted_here, local_here, used_is}
-use Rattle.pl_flights.proofs.Passing.{known}
 use Rattle.pl_flights.proofs.SilentSteps.{AreSilent, silent_append, silent_changes, silent_good}
 use Rattle.pl_flights.proofs.TakingIn.{IsNew, sends_in_good, takes_in_good}
 
@@ -60,7 +61,7 @@ edge_level : (place : Place) → is_placed place ≡ true → (is_known place.le
 edge_level place placed no_other =
     let others = or_parts (is_known place.level 1) (is_known place.level 2) no_other in
     let edge = by (is_known place.level 2) (is_known place.level 1) others.1 others.0 placed in
-    known place.level 0 ((and_parts (is_known place.level 0) (is_some place.position) ((and_parts (is_known place.level 0 && is_some place.position) (is_some place.pod) edge).0)).0)
+    known_is place.level 0 ((and_parts (is_known place.level 0) (is_some place.position) ((and_parts (is_known place.level 0 && is_some place.position) (is_some place.pod) edge).0)).0)
   where
     by : (core aggregation : Bool) → core ≡ false → aggregation ≡ false →
         (core || (aggregation && is_some place.pod) || (is_known place.level 0 && is_some place.position && is_some place.pod)) ≡ true →

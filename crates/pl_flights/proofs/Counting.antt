@@ -1,5 +1,5 @@
 -- What the balance of a world says of one frame: one that is owed is in flight and in no queue.
-use Rattle.std.proofs.Common.{◌≡◌, ℕ, zero, suc, ◌+◌, ◌≤◌, ◌==◌, ◌&&◌, nat_le, Bool, true, false, if◌then◌else◌, List, [], ◌∷◌, ◌++◌, reverse, get_or, refl, sym, ◌∙◌, ap, arith, inl, inr}
+use Rattle.std.proofs.Common.{◌≡◌, ℕ, zero, suc, ◌+◌, ◌≤◌, ◌==◌, ◌&&◌, nat_le, true, false, List, [], ◌∷◌, ◌++◌, reverse, get_or, refl, sym, ◌∙◌, ap, arith, inl, inr}
 use Rattle.std.specs.List.{AllByRecursion}
 use Rattle.std.proofs.lemmas.Bool.{and_from, and_parts, cases_Bool, cond-false, cond-true, eq-eqb, eqb-false, leb-true, ne_eqb}
 use Rattle.std.proofs.lemmas.List.{reverse-append}
@@ -13,16 +13,14 @@ use Rattle.pl_world.specs.declared.item.Item.TheVariants.{Control, Data}
 use Rattle.pl_world.specs.Flying.{born, times_in, times_in_all}
 use Rattle.pl_world.specs.Worlds.{WorldView}
 use Rattle.pl_world.proofs.Balances.{Owes}
-use Rattle.pl_world.proofs.Counts.{begun-append, born_more, ends-append, ends-cons, one}
+use Rattle.pl_world.proofs.Counts.{begun-append, begun_cons, born_more, ends-append, ends-cons, one}
+use Rattle.pl_world.proofs.Births.{born_once}
 
 pub ends_reverse : (xs : List Entry) (id : ℕ) → ends (reverse xs) id ≡ ends xs id
 ends_reverse [] id = refl
 ends_reverse (x ∷ xs) id =
     let split : ends (reverse (x ∷ xs)) id ≡ ends (reverse xs ++ x ∷ []) id = ap (λ r. ends r id) (reverse-append (x ∷ []) xs) in
     omega (arith, split, ends-append (reverse xs) (x ∷ []) id, ends_reverse xs id, ends-cons x xs id)
-
-pub begun_cons : (e : Entry) (past : List Entry) → begun (e ∷ past) ≡ begun (e ∷ []) + begun past
-begun_cons e past = begun-append (e ∷ []) past
 
 pub begun_reverse : (xs : List Entry) → begun (reverse xs) ≡ begun xs
 begun_reverse [] = refl
@@ -46,13 +44,6 @@ counts w past f is b = record {
 
 pub begun_is : (w : WorldView) (past : List Entry) (f : ℕ → ℕ) → reverse w.journal ≡ past → Owes w f → begun past ≡ w.begun
 begun_is w past f is b = ap begun (sym is) ∙ begun_reverse w.journal ∙ b.begins
-
-pub born_once : (id many : ℕ) → born id many ≤ 1
-born_once id many = by_test (nat_le 1 id && nat_le id many)
-  where
-    by_test : (b : Bool) → (if b then 1 else 0) ≤ 1
-    by_test true = omega arith
-    by_test false = omega arith
 
 pub born_within : (id many : ℕ) → born id many ≡ 1 → (1 ≤ id) × (id ≤ many)
 born_within id many is = elim (cases_Bool (nat_le 1 id && nat_le id many)) [

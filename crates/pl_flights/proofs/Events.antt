@@ -2,6 +2,7 @@
 use Rattle.std.proofs.Common.{inl, inr, ◌≡◌, ℕ, ◌+◌, ◌<◌, ◌==◌, ◌&&◌, not, nat_lt, Bool, true, false, if◌then◌else◌, List, [], ◌∷◌, Option, None, Some, reverse, set, slice_get, refl, sym, ◌∙◌, ap, subst}
 use Rattle.std.proofs.lemmas.Bool.{and_parts, cases_Bool, cond-true, ltb-true}
 use Rattle.std.proofs.lemmas.Option.{slice_get_within}
+use Rattle.pl_lemmas.proofs.Lists.{set_get}
 use Rattle.pl_wiring.specs.declared.label.SwitchNo.{SwitchNo}
 use Rattle.pl_wiring.specs.declared.link.Link.{Link}
 use Rattle.pl_wiring.specs.declared.link.Peer.{Peer}
@@ -36,7 +37,7 @@ use Rattle.pl_world.specs.declared.stand.Stand.{Stand}
 use Rattle.pl_world.specs.Changes.{host_at, out_of, receiver}
 use Rattle.pl_world.specs.Flying.{IsCounted, IsFrame}
 use Rattle.pl_world.specs.LinksAndMoves.{joins, link_failed}
-use Rattle.pl_world.specs.Refusals.{refusal, has_host, has_port, has_switch, is_for_hosts, is_linked, refusal_of_event, refusal_of_link, refusal_of_place, refusal_of_queue}
+use Rattle.pl_world.specs.Refusals.{refusal, has_host, has_port, has_switch, is_for_hosts, is_linked, refusal_of_event, refusal_of_link, refusal_of_place}
 use Rattle.pl_world.specs.WorldRule.{ComesIn, ComesOver, DeliversFromHost, DeliversFromManager, Happens, SwitchTurn, WorldStep}
 use Rattle.pl_world.specs.Worlds.{WorldView}
 use Rattle.pl_world.proofs.Happenings.{Happened, happened}
@@ -44,6 +45,7 @@ use Rattle.pl_world.proofs.Happenings.Happened.{Asked, Departed, Failed, FromHos
 use Rattle.pl_world.proofs.Balances.{head_is_item}
 use Rattle.pl_world.proofs.Counts.{all_found}
 use Rattle.pl_world.proofs.StepBalances.{counted as to_counted, event_is_not_refused, fails, found_contained, same_refusal, sound}
+use Rattle.pl_world.proofs.Refusing.{live_before, there_is}
 use Rattle.pl_flights.specs.Given.{IsGiven}
 use Rattle.pl_flights.specs.OnTheWay.{IsTold}
 use Rattle.pl_flights.specs.Standing.{StandsOn, StandsOnHosts}
@@ -56,21 +58,13 @@ use Rattle.pl_flights.proofs.ControlFrames.{control_told, pod_told, settles_by}
 use Rattle.pl_flights.proofs.FromHosts.{from_host_told}
 use Rattle.pl_flights.proofs.FromManager.{says_told}
 use Rattle.pl_flights.proofs.HostTurns.{host_told, plays_told}
-use Rattle.pl_flights.proofs.Moving.{goes_told, set_get}
+use Rattle.pl_flights.proofs.Moving.{goes_told}
 use Rattle.pl_flights.proofs.NoneJustIn.{none_just_in}
 use Rattle.pl_flights.proofs.Numbering.{manager_told}
 use Rattle.pl_flights.proofs.OverLinks.{taken_out}
 use Rattle.pl_flights.proofs.Settling.{GrantsWell}
 use Rattle.pl_flights.proofs.SilentSteps.{ticks_told}
 use Rattle.pl_flights.proofs.SwitchTurns.{turn_switches}
-
-there_is : (there filled : Bool) → refusal_of_queue there filled ≡ None → there ≡ true
-there_is true filled none = refl
-there_is false filled none = absurd (cc)
-
-live_before : (b : Bool) → (if are_alike b false then Some AlreadySo else None) ≡ None → b ≡ true
-live_before true fine = refl
-live_before false fine = absurd (cc)
 
 dead_before : (b : Bool) → (if are_alike b true then Some AlreadySo else None) ≡ None → b ≡ false
 dead_before true fine = absurd (cc)

@@ -1,8 +1,9 @@
 -- A link fails, or is repaired.
 use Rattle.std.proofs.Common.{◌≡◌, ℕ, ◌+◌, ◌<◌, ◌==◌, ◌&&◌, not, Bool, true, false, if◌then◌else◌, Contains, List, [], ◌∷◌, ◌++◌, length, reverse, get_or, set, refl, sym, ◌∙◌, ap, subst, arith, inl, inr}
 use Rattle.std.specs.List.{AllByRecursion}
-use Rattle.std.proofs.lemmas.Bool.{and_from, and_parts, both_ways, cases_Bool, cases_eq, cases_lt, cond-false, cond-true, eq-eqb, eqb-true, not-false, or_cases, or_left, or_right}
+use Rattle.std.proofs.lemmas.Bool.{and_from, and_parts, both_ways, cases_Bool, cases_eq, cases_lt, cond-false, cond-true, eq-eqb, eqb-true, not-false, not-true, or_cases, or_left, or_right}
 use Rattle.std.proofs.lemmas.List.{append_assoc, get_or-set_other, get_or-set_same, get_or_past, set_past}
+use Rattle.pl_lemmas.proofs.Lists.{all_append}
 use Rattle.pl_layouts.specs.declared.place.Place.{Place}
 use Rattle.pl_wiring.specs.declared.label.SwitchNo.{SwitchNo}
 use Rattle.pl_wiring.specs.declared.link.Link.{Link}
@@ -33,14 +34,13 @@ use Rattle.pl_flights.specs.OnTheWay.{Flying, IsBetween, IsGoing, IsOut, IsTold,
 use Rattle.pl_flights.proofs.Counting.{Counts, counts, nobody, owed}
 use Rattle.pl_flights.proofs.Keeping.{between_kept, goes_on, kept, same_book}
 use Rattle.pl_flights.proofs.Noting.{ends_here, grown, note_drop, reverse_grown, reverse_noted}
-use Rattle.pl_flights.proofs.ForwardActs.{not_is_true}
 use Rattle.pl_flights.proofs.HandSteps.{begun_grown}
 use Rattle.pl_flights.proofs.Queues.{set_out}
 use Rattle.pl_flights.proofs.Rungs.{any_contained, failed_here}
 use Rattle.pl_world.specs.Flying.{IsCounted, born}
 use Rattle.pl_world.specs.LinksAndMoves.{link_failed, link_repaired, with_link}
 use Rattle.pl_world.specs.Worlds.{WorldView}
-use Rattle.pl_world.proofs.Counts.{all_append, begun-append, ends-cons, ends_of-begun}
+use Rattle.pl_world.proofs.Counts.{begun-append, ends-cons, ends_of-begun}
 use Rattle.pl_world.proofs.StepBalances.{sound}
 
 -- a cause that is shown is shown once another frame has ended
@@ -255,7 +255,7 @@ fails_told w link counted told there live after =
     let up_is = up plan link is_plan there in
     let down_is = down plan link is_plan there in
     let state : is_failed past link.lower.0 link.upper.0 ≡ false =
-    not_is_true (is_failed past link.lower.0 link.upper.0) (sym (told.links_agree link.lower.0 link.lower_port link.upper link.upper_port up_is) ∙ live) in
+    not-true (is_failed past link.lower.0 link.upper.0) (sym (told.links_agree link.lower.0 link.lower_port link.upper link.upper_port up_is) ∙ live) in
     let needs : Needs plan past down_now = record { ordered = rises plan link is_plan there; joined = is_linked plan link is_plan there; state = state } in
     let t1 : Tells plan place now (with_link w.links link false) w.stands w.from_hosts (set (set w.out l []) u []) = record {
       run = (told.run, needs);

@@ -2,7 +2,7 @@
 use Rattle.std.proofs.Common.{◌⊎◌, inl, inr, ◌≡◌, ℕ, ◌==◌, ◌&&◌, ◌||◌, not, Bool, true, false, if◌then◌else◌, List, [], ◌∷◌, map, Option, None, Some, is_none, refl, sym, ◌∙◌, ap, subst}
 use Rattle.std.specs.List.{AllByRecursion, IsAmong, filter}
 use Rattle.std.specs.Option.{unwrap_or}
-use Rattle.std.proofs.lemmas.Bool.{and_from, and_parts, both_ways, cases_Bool, cond-false, cond-true, cond_both, eq-eqb, eqb-true, false≢true, not-false, or_parts}
+use Rattle.std.proofs.lemmas.Bool.{and_from, and_parts, both_ways, cases_Bool, cond-false, cond-true, cond_both, eq-eqb, eqb-true, false≢true, not-false, not-true, or_parts}
 use Rattle.pl_frame.specs.Ethernet.{destination_of, source_of}
 use Rattle.pl_pmac.specs.declared.pmac.Pmac.{Pmac}
 use Rattle.pl_pmac.specs.Pmac.{Fits, mac_of, pmac_number, pmac_of}
@@ -14,7 +14,7 @@ use Rattle.pl_wiring.specs.Peers.{peer_of}
 use Rattle.pl_wiring.specs.Plan.{IsPlan, Plan}
 use Rattle.pl_layouts.specs.declared.place.Place.{Place}
 use Rattle.pl_layouts.specs.Memberships.{flood, group_of, is_group}
-use Rattle.pl_layouts.specs.Placement.{is_known, is_placed}
+use Rattle.pl_layouts.specs.Placement.{is_placed}
 use Rattle.pl_journal.specs.declared.cause.Cause.{Cause}
 use Rattle.pl_journal.specs.declared.cause.Cause.TheVariants as cause
 use Rattle.pl_journal.specs.Causes.{is_routed}
@@ -22,20 +22,19 @@ use Rattle.pl_journal.specs.Flights.{Flight}
 use Rattle.pl_journal.specs.Places.{Spot, at_port, is_at, is_host_port}
 use Rattle.pl_logic.specs.declared.acts.Act.{Act}
 use Rattle.pl_logic.specs.declared.acts.Act.TheVariants as act
-use Rattle.pl_logic.specs.PortRecords.{is_usable, is_usable_to, place_at, ports_of_switch}
-use Rattle.pl_logic.specs.SwitchFacts.{is_avoided}
+use Rattle.pl_logic.specs.PortRecords.{is_usable, place_at, ports_of_switch}
 use Rattle.pl_logic.specs.SwitchViews.{SwitchView}
 use Rattle.pl_logic.proofs.Among.{among_filter, among_of_Contains}
 use Rattle.pl_steps.specs.Steps.{SwitchStep}
 use Rattle.pl_switch_rule.specs.declared.came.Way.{Way}
 use Rattle.pl_switch_rule.specs.declared.came.Way.TheVariants.{Down, Nowhere, ToHosts, Up}
 use Rattle.pl_switch_rule.specs.declared.came.Came.{Came}
-use Rattle.pl_switch_rule.specs.declared.came.Came.TheVariants.{FromAbove, FromBelow, FromHost}
 use Rattle.pl_switch_rule.specs.Delivering.{arrives_home, destination}
-use Rattle.pl_switch_rule.specs.Forwarding.{Choice, candidates, candidates_by, came_by, is_candidate, leads_from_aggregation, leads_from_core, leads_from_edge, leads_to_position, leads_up, leaves_by}
+use Rattle.pl_switch_rule.specs.Forwarding.{Choice, candidates, candidates_by, came_by, is_candidate, leaves_by}
 use Rattle.pl_switch_rule.specs.Granting.{is_local}
 use Rattle.pl_switch_rule.specs.GroupForwarding.{at_most_one, destination_group, forwards_group, group_ports, is_reached, is_source, passes_or_drops, way_of}
 use Rattle.pl_switch_rule.specs.SwitchRule.{IsChoice, comes_from_switch}
+use Rattle.pl_switch_rule.proofs.Candidates.{candidate_usable}
 use Rattle.pl_copies.specs.Standing.{KnowsTree}
 use Rattle.pl_flights.specs.OnTheWay.{Book, IsBetween, IsForMany}
 use Rattle.pl_flights.specs.Standing.{KnowsAddresses, KnowsNeighbours, KnowsPlaces}
@@ -48,40 +47,6 @@ use Rattle.pl_flights.proofs.PmacNumbers.{number_of_mac}
 -- the frame once it has crossed switch t
 abbrev pub crossed_at : ℕ → Flight → Flight
 crossed_at t f = record f { leg = t ∷ f.leg; trail = t ∷ f.trail }
-
-usable_to : (v : SwitchView) (n p : ℕ) → is_usable_to v n p ≡ true → is_usable v p ≡ true
-usable_to v n p is = (and_parts (is_usable v p) (is_known (place_at v p).level n) is).0
-
-usable_up : (v : SwitchView) (n : ℕ) (to : Pmac) (p : ℕ) → leads_up v n to p ≡ true → is_usable v p ≡ true
-usable_up v n to p is = usable_to v n p ((and_parts (is_usable_to v n p) (not (is_avoided v _ to.pod to.position)) is).0)
-
-usable_position : (v : SwitchView) (to : Pmac) (p : ℕ) → leads_to_position v to p ≡ true → is_usable v p ≡ true
-usable_position v to p is = usable_to v 0 p ((and_parts (is_usable_to v 0 p) (is_known (place_at v p).position to.position) is).0)
-
-usable_from_edge : (v : SwitchView) (to : Pmac) (came : Came) (p : ℕ) → leads_from_edge v to came p ≡ true → is_usable v p ≡ true
-usable_from_edge v to FromHost p is = usable_up v 1 to p ((and_parts (not (is_local v to)) (leads_up v 1 to p) is).1)
-usable_from_edge v to FromBelow p is = absurd (false≢true is)
-usable_from_edge v to FromAbove p is = absurd (false≢true is)
-
-usable_from_aggregation : (v : SwitchView) (to : Pmac) (came : Came) (p : ℕ) → leads_from_aggregation v to came p ≡ true → is_usable v p ≡ true
-usable_from_aggregation v to FromHost p is = absurd (false≢true is)
-usable_from_aggregation v to FromBelow p is =
-    cond_both (is_known v.place.pod to.pod) (leads_to_position v to p) (leads_up v 2 to p) (λ b. b ≡ true → is_usable v p ≡ true)
-    (λ own. usable_position v to p) (λ other. usable_up v 2 to p) is
-usable_from_aggregation v to FromAbove p is = usable_position v to p ((and_parts (is_known v.place.pod to.pod) (leads_to_position v to p) is).1)
-
-usable_from_core : (v : SwitchView) (to : Pmac) (came : Came) (p : ℕ) → leads_from_core v to came p ≡ true → is_usable v p ≡ true
-usable_from_core v to FromHost p is = absurd (false≢true is)
-usable_from_core v to FromBelow p is = usable_to v 1 p ((and_parts (is_usable_to v 1 p) (is_known (place_at v p).pod to.pod) is).0)
-usable_from_core v to FromAbove p is = absurd (false≢true is)
-
--- a candidate is usable
-pub candidate_usable : (v : SwitchView) (to : Pmac) (came : Came) (p : ℕ) → is_candidate v to came p ≡ true → is_usable v p ≡ true
-candidate_usable v to came p is =
-    let P : Bool → Type 0 = λ b. b ≡ true → is_usable v p ≡ true in
-    cond_both (is_known v.place.level 0) (leads_from_edge v to came p) _ P (λ e. usable_from_edge v to came p)
-    (λ e. cond_both (is_known v.place.level 1) (leads_from_aggregation v to came p) _ P (λ f. usable_from_aggregation v to came p)
-    (λ f. cond_both (is_known v.place.level 2) (leads_from_core v to came p) false P (λ h. usable_from_core v to came p) (λ h n. absurd (false≢true n)))) is
 
 -- a group that is not the flood is a routed one
 pub routed_group : (n : Option ℕ) → (unwrap_or n flood == flood) ≡ false → is_routed n ≡ true
@@ -102,10 +67,6 @@ among_candidates v to came p there =
     (among_filter (is_candidate v to came) p (ports_of_switch v.k)
     (among_of_Contains p (filter (is_candidate v to came) (ports_of_switch v.k)) (there.0, there.1.0, sym there.1.1))).1
 
-pub not_is_true : (b : Bool) → not b ≡ true → b ≡ false
-not_is_true true is = absurd (false≢true is)
-not_is_true false is = refl
-
 -- a port to another switch, or not that of a source
 abbrev pub MayReach : SwitchView → Pmac → ℕ → Type 0
 MayReach v source p = (is_usable v p ≡ true) ⊎ (is_source v source p ≡ false)
@@ -116,7 +77,7 @@ group_ports_reach v Up group source = first_alone (MayReach v source) _ (all_fil
     (λ p is. inl ((and_parts (is_usable v p) _ is).0)) (ports_of_switch v.k))
 group_ports_reach v Down group source = all_filtered (MayReach v source) _ (λ p is. inl ((and_parts (is_usable v p) _ is).0)) (ports_of_switch v.k)
 group_ports_reach v ToHosts group source = all_filtered (MayReach v source) _
-    (λ p is. inr (not_is_true (is_source v source p) ((and_parts (is_reached v group p) (not (is_source v source p)) is).1))) (ports_of_switch v.k)
+    (λ p is. inr (not-true (is_source v source p) ((and_parts (is_reached v group p) (not (is_source v source p)) is).1))) (ports_of_switch v.k)
 group_ports_reach v Nowhere group source = tt
 
 -- a frame of a group does not go back to the port where its source was granted
@@ -192,7 +153,7 @@ module _ (plan : Plan) (place : ℕ → Place) (book : Book) (t : ℕ) (v : Swit
   nowhere_shown false part is group = tt
   nowhere_shown true false is group = tt
   nowhere_shown true true is group =
-      let other : (destination_group frame == flood) ≡ false = not_is_true (destination_group frame == flood) (sym is) in
+      let other : (destination_group frame == flood) ≡ false = not-true (destination_group frame == flood) (sym is) in
       ap (λ d. is_routed (group_of d)) (b.kept group) ∙ routed_group (group_of (destination_of frame)) other
 
   passes_group : (ports : List ℕ) (why : Cause) → AllByRecursion (MayReach v (pmac_of (source_of frame))) ports → AreWaysOn plan t (t ∷ f.leg) ports →

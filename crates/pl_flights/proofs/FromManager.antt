@@ -4,6 +4,7 @@ use Rattle.std.specs.List.{filter}
 use Rattle.std.proofs.Math.ListN.{length-set}
 use Rattle.std.proofs.lemmas.Bool.{cases_eq, cond_both}
 use Rattle.std.proofs.lemmas.Option.{slice_get_within}
+use Rattle.pl_lemmas.proofs.Lists.{set_get, set_get_other}
 use Rattle.pl_frame.specs.declared.address.Ip4.{Ip4}
 use Rattle.pl_pmac.specs.declared.pmac.Pmac.{Pmac}
 use Rattle.pl_wiring.specs.declared.link.Peer.{Peer}
@@ -40,7 +41,6 @@ use Rattle.pl_flights.specs.Standing.{IsMore, KnowsAddresses, KnowsNeighbours, K
 use Rattle.pl_flights.proofs.Growing.{between_grown, leaving_grown}
 use Rattle.pl_flights.proofs.Hands.{GoodActs, Hand, MayLeave, made_here, turned}
 use Rattle.pl_flights.proofs.Hands.Hand.{Empty, Spreads, Waits}
-use Rattle.pl_flights.proofs.Moving.{set_get, set_get_other}
 use Rattle.pl_switch_rule.proofs.RowActs.{groups_acts}
 use Rattle.pl_switch_rule.proofs.RowViews.{begins_stays, probes_stay}
 use Rattle.pl_flights.proofs.Saying.{answer_good, flood_good, probe_good}

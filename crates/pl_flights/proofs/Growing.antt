@@ -5,6 +5,7 @@ use Rattle.std.specs.List.{AllByRecursion}
 use Rattle.pl_pmac.specs.declared.pmac.Pmac.{Pmac}
 use Rattle.pl_layouts.specs.declared.place.Place.{Place}
 use Rattle.pl_layouts.specs.Placement.{is_known, is_placed}
+use Rattle.pl_layouts.proofs.Known.{known_is}
 use Rattle.pl_wiring.specs.declared.link.Peer.{Peer}
 use Rattle.pl_wiring.specs.declared.link.Peer.TheVariants.{HostPort, Switch}
 use Rattle.pl_wiring.specs.LiveLinks.{LivePorts}
@@ -19,7 +20,6 @@ use Rattle.pl_flights.specs.OnTheWay.{Book, IsBetween, IsGoing, IsLeaving, IsOut
 use Rattle.pl_flights.specs.Routes.{IsOfOtherPod, Route}
 use Rattle.pl_flights.specs.Routes.Route.{Climbs, Enters, Falls, Leaves, Turns}
 use Rattle.pl_flights.specs.Standing.{IsMore}
-use Rattle.pl_flights.proofs.Passing.{known}
 
 module _ (place later : ℕ → Place) (more : IsMore place later) where
   other_pod_grown : (s : ℕ) (to : Pmac) → IsOfOtherPod (place s) to → IsOfOtherPod (later s) to
@@ -30,7 +30,7 @@ module _ (place later : ℕ → Place) (more : IsMore place later) where
   some_number (Some n) there = (n, refl)
 
   level_grown : (s n : ℕ) → is_known (place s).level n ≡ true → is_known (later s).level n ≡ true
-  level_grown s n is = ap (λ o. is_known o n) (more.level s n (known (place s).level n is)) ∙ eq-eqb n n refl
+  level_grown s n is = ap (λ o. is_known o n) (more.level s n (known_is (place s).level n is)) ∙ eq-eqb n n refl
 
   pod_grown : (s : ℕ) → is_some (place s).pod ≡ true → is_some (later s).pod ≡ true
   pod_grown s is = let some = some_number (place s).pod is in ap is_some (more.pod s some.0 some.1)

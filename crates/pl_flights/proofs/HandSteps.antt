@@ -27,9 +27,9 @@ use Rattle.pl_world.specs.declared.spoken_frame.SpokenFrame.TheVariants.{Over, P
 use Rattle.pl_world.specs.Changes.{is_failed_at, switch_no}
 use Rattle.pl_world.specs.Worlds.{WorldView}
 use Rattle.pl_world.specs.Flying.{born}
-use Rattle.pl_world.proofs.Counts.{one}
+use Rattle.pl_world.proofs.Counts.{begun_cons, one}
 use Rattle.pl_flights.specs.OnTheWay.{Tells, book_of}
-use Rattle.pl_flights.proofs.Counting.{Counts, IsNowhere, IsOwed, begun_cons, next_nowhere, next_unborn, owed}
+use Rattle.pl_flights.proofs.Counting.{Counts, IsNowhere, IsOwed, next_nowhere, next_unborn, owed}
 use Rattle.pl_flights.proofs.Hands.{Hand, InHand, IsAmid, IsHeld, IsPutOff, IsSpentThere, MayEnd, MayLeave, MayTake, MayTurn, again_past, made_here, turned}
 use Rattle.pl_flights.proofs.Hands.Hand.{Empty, Spreads, Waits}
 use Rattle.pl_flights.proofs.Keeping.{kept, same_book}

@@ -2,6 +2,7 @@
 use Rattle.std.proofs.Common.{◌≡◌, ℕ, suc, ◌/◌, ◌%◌, ◌^◌, ◌≤◌, ◌<◌, ◌&&◌, not, Bool, true, false, List, [], ◌∷◌, ◌++◌, length, drop, Option, None, Some, is_some, refl, sym, ◌∙◌, ap, subst, arith}
 use Rattle.std.proofs.lemmas.Bool.{and_from, and_parts, both_ways, cond-true, cond_both, eq-eqb, false≢true}
 use Rattle.std.proofs.lemmas.Nat.{mod_below}
+use Rattle.pl_lemmas.proofs.Options.{some_number}
 use Rattle.pl_frame.specs.declared.address.Mac.{Mac}
 use Rattle.pl_frame.specs.Ethernet.{destination_of, source_of, with_destination}
 use Rattle.pl_frame.proofs.Fields.{front_of}
@@ -17,6 +18,7 @@ use Rattle.pl_layouts.specs.Frames.{arriving, is_arp, mac_number}
 use Rattle.pl_layouts.specs.Memberships.{is_group}
 use Rattle.pl_layouts.specs.Placement.{is_known, is_placed}
 use Rattle.pl_layouts.proofs.Arrived.{destination_of-arriving}
+use Rattle.pl_layouts.proofs.Known.{known_is}
 use Rattle.pl_journal.specs.Flights.{Flight, first_of, level_of}
 use Rattle.pl_journal.specs.Lossy.{UnalteredFrom}
 use Rattle.pl_journal.specs.Places.{is_host_port}
@@ -28,15 +30,15 @@ use Rattle.pl_switch_rule.specs.Delivering.{delivers, delivers_to, destination, 
 use Rattle.pl_switch_rule.specs.Forwarding.{Choice, candidates, candidates_by, forwards, is_candidate, leads_from_edge, leads_up, leaves_by}
 use Rattle.pl_switch_rule.specs.Granting.{granted, is_local}
 use Rattle.pl_switch_rule.specs.SwitchRule.{IsChoice}
+use Rattle.pl_switch_rule.proofs.Candidates.{candidate_usable}
 use Rattle.pl_flights.specs.OnTheWay.{Book, CameInPlaced, IsLeaving, WillBeUnaltered}
 use Rattle.pl_flights.specs.Routes.{IsElsewhere, Route}
 use Rattle.pl_flights.specs.Routes.Route.{Climbs}
 use Rattle.pl_flights.specs.Standing.{IsGranted, KnowsAddresses, KnowsNeighbours, KnowsPlaces}
-use Rattle.pl_flights.proofs.ForwardActs.{among_candidates, candidate_usable, chosen_among}
+use Rattle.pl_flights.proofs.ForwardActs.{among_candidates, chosen_among}
 use Rattle.pl_flights.proofs.Hands.{GoodActs, Hand, MayLeave}
 use Rattle.pl_flights.proofs.Hands.Hand.{Empty, Spreads, Waits}
 use Rattle.pl_flights.proofs.Legs.{level_at}
-use Rattle.pl_flights.proofs.Passing.{known, something}
 use Rattle.pl_flights.proofs.PmacNumbers.{number_in}
 use Rattle.pl_copies.proofs.Ways.{Rung, rung}
 use Rattle.pl_copies.proofs.Ways.Rung.{DownFromCore, DownToEdge, UpFromEdge, UpToCore}
@@ -77,7 +79,7 @@ module _ (plan : Plan) (place : ℕ → Place) (book : Book) (t : ℕ) (v : Swit
           let both = and_parts (is_known v.place.level 0) (is_known v.place.pod (n / 2 ^ 32) && is_known v.place.position (n / 2 ^ 24 % 256)) own in
           let pod = (and_parts (is_known v.place.pod (n / 2 ^ 32)) (is_known v.place.position (n / 2 ^ 24 % 256)) both.1).0 in
           record {
-            pod = few (n / 2 ^ 32) (known v.place.pod (n / 2 ^ 32) pod);
+            pod = few (n / 2 ^ 32) (known_is v.place.pod (n / 2 ^ 32) pod);
             position = mod_below (n / 2 ^ 24) 256 (omega arith);
             port = mod_below (n / 2 ^ 16) 256 (omega arith);
             vmid = mod_below n (2 ^ 16) (omega arith);
@@ -117,8 +119,8 @@ module _ (plan : Plan) (place : ℕ → Place) (book : Book) (t : ℕ) (v : Swit
   elsewhere : (to : Pmac) → v.place.level ≡ Some 0 → is_placed v.place ≡ true → is_local v to ≡ false → IsElsewhere (place t) to
   elsewhere to level placed away =
       let both = and_parts (is_some v.place.position) (is_some v.place.pod) (rw level at placed) in
-      let pod = something v.place.pod both.1 in
-      let position = something v.place.position both.0 in
+      let pod = some_number v.place.pod both.1 in
+      let position = some_number v.place.position both.0 in
       record {
         pod = pod.0;
         position = position.0;

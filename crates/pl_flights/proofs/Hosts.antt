@@ -1,19 +1,22 @@
 -- Hosts by their addresses, and where they stood.
 use Rattle.std.proofs.Common.{◌≡◌, ℕ, zero, suc, ◌%◌, ◌<◌, ◌==◌, ◌&&◌, nat_lt, Bool, true, false, inl, inr, All, List, [], ◌∷◌, length, Option, None, Some, get_or, option_map, slice_get, slice_index, refl, sym, ◌∙◌, ap, subst, arith}
 use Rattle.std.specs.List.{position_or_len}
-use Rattle.std.proofs.lemmas.Bool.{and_from, cases_Bool, cond-false, cond-true, eq-eqb, lt-ltb, ne_eqb, or_left, or_right}
+use Rattle.std.proofs.lemmas.Bool.{and_from, cases_Bool, cond-false, cond-true, lt-ltb, ne_eqb, or_left, or_right}
 use Rattle.std.proofs.lemmas.List.Quantifiers.{position-Some}
+use Rattle.std.proofs.lemmas.Option.{slice_get-get_or}
 use Rattle.pl_frame.specs.declared.address.Mac.{Mac}
 use Rattle.pl_wiring.specs.declared.host.Host.{Host}
 use Rattle.pl_wiring.specs.Plan.{IsHostMac, IsPlan, Plan}
 use Rattle.pl_layouts.specs.Equality.{same_mac}
 use Rattle.pl_layouts.specs.Memberships.{is_group}
+use Rattle.pl_layouts.proofs.Sameness.{mac_is, mac_itself}
 use Rattle.pl_journal.specs.declared.entry.Entry.{Entry}
 use Rattle.pl_journal.specs.declared.entry.Entry.TheVariants.{Moved}
 use Rattle.pl_journal.specs.Lossy.{mac_of_host}
 use Rattle.pl_journal.specs.Places.{Spot, at_port, has_stood, is_at, same_spot, spot_of}
+use Rattle.pl_journal.proofs.Hosts.{same_spot_itself}
 use Rattle.pl_world.specs.Changes.{host_of}
-use Rattle.pl_flights.proofs.Arriving.{found_there, host_is, same_mac_is, same_mac_itself, some_passes}
+use Rattle.pl_flights.proofs.Arriving.{host_is, some_passes}
 
 host_mac : (hosts : List Host) (n : ℕ) (m : Mac) → All (λ (h : Host). IsHostMac h.mac) hosts → option_map (λ (h : Host). h.mac) (slice_get hosts n) ≡ Some m → IsHostMac m
 host_mac [] n m all at = absurd (cc)
@@ -34,7 +37,7 @@ host_by_mac plan h m is at =
     let d : Host = any_host plan.hosts h at in
     let all = position-Some test plan.hosts g d found in
     let mac_there : mac_of_host plan g ≡ Some m =
-    ap (option_map (λ (x : Host). x.mac)) (found_there plan.hosts g d inside) ∙ ap Some (same_mac_is (get_or plan.hosts g d).mac m all.1) in
+    ap (option_map (λ (x : Host). x.mac)) (slice_get-get_or plan.hosts g d inside) ∙ ap Some (mac_is (get_or plan.hosts g d).mac m all.1) in
     found ∙ ap Some (host_is plan g h m is mac_there at)
   where
     there : (hosts : List Host) (n : ℕ) → option_map (λ (x : Host). x.mac) (slice_get hosts n) ≡ Some m →
@@ -45,14 +48,11 @@ host_by_mac plan h m is at =
         by None is e = absurd (cc)
         by (Some x) is e =
             let same : x.mac ≡ m = cc in
-            some_passes (λ (host : Host). same_mac host.mac m) hosts n x is (ap (λ a. same_mac a m) same ∙ same_mac_itself m)
+            some_passes (λ (host : Host). same_mac host.mac m) hosts n x is (ap (λ a. same_mac a m) same ∙ mac_itself m)
 
     any_host : (hosts : List Host) (n : ℕ) → option_map (λ (x : Host). x.mac) (slice_get hosts n) ≡ Some m → Host
     any_host [] n at = absurd (cc)
     any_host (x ∷ hosts) n at = x
-
-pub same_spot_itself : (a : Spot) → same_spot a a ≡ true
-same_spot_itself a = and_from (a.edge == a.edge) (a.port == a.port) (eq-eqb a.edge a.edge refl) (eq-eqb a.port a.port refl)
 
 -- a host has stood where it stands
 pub stood_there : (plan : Plan) (past : List Entry) (h : ℕ) (there : Spot) → spot_of plan past h ≡ Some there → has_stood plan past h there ≡ true

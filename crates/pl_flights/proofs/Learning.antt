@@ -6,14 +6,14 @@ use Rattle.std.proofs.lemmas.Option.{none-some, same_Some}
 use Rattle.pl_frame.specs.declared.address.Ip4.{Ip4}
 use Rattle.pl_frame.specs.declared.address.Mac.{Mac}
 use Rattle.pl_pmac.specs.declared.pmac.Pmac.{Pmac}
-use Rattle.pl_pmac.specs.Pmac.{Fits, pmac_number, pmac_of}
-use Rattle.byteorder.specs.Endian.{big_bytes}
-use Rattle.pl_pmac.proofs.Inverse.{pmac_of-mac_of}
+use Rattle.pl_pmac.specs.Pmac.{pmac_number}
+use Rattle.pl_pmac.proofs.Inverse.{same_pmac_number}
 use Rattle.pl_wiring.specs.declared.link.Peer.TheVariants.{HostPort}
 use Rattle.pl_wiring.specs.Peers.{peer_of}
 use Rattle.pl_wiring.specs.Plan.{Plan}
 use Rattle.pl_layouts.specs.Equality.{is_ip, same_mac, same_pmac}
 use Rattle.pl_layouts.specs.Memberships.{is_group}
+use Rattle.pl_layouts.proofs.Sameness.{mac_itself, pmac_itself}
 use Rattle.pl_journal.specs.declared.entry.Entry.{Entry}
 use Rattle.pl_journal.specs.declared.entry.Entry.TheVariants.{Granted}
 use Rattle.pl_journal.specs.Lossy.{mac_of_host}
@@ -33,8 +33,7 @@ use Rattle.pl_flights.proofs.Granting.{book_more}
 use Rattle.pl_flights.proofs.Keeping.{KeepsBook}
 use Rattle.pl_addresses.proofs.Numbers.{granted_here, local_here, now_at, number_push_other, number_push_same, number_set_other, number_set_same, number_within, others_at}
 use Rattle.pl_flights.proofs.SilentSteps.{AreSilent}
-use Rattle.pl_addresses.proofs.Words.{is_or_other, mac_itself}
-use Rattle.pl_manager_rule.proofs.Kept.{pmac_itself}
+use Rattle.pl_addresses.proofs.Words.{is_or_other}
 
 -- ---- the address in use
 module _ {X : Type 0} (p : X → Bool) where
@@ -176,9 +175,6 @@ learns_of v port vmid settled within (Some g) found (Some ip) = cond_both (is_ip
 
 -- ---- the next address
 -- two addresses that fit have two numbers
-pub numbers_apart : (y z : Pmac) → Fits y → Fits z → pmac_number y ≡ pmac_number z → y ≡ z
-numbers_apart y z fits_y fits_z same =
-    sym (pmac_of-mac_of y fits_y) ∙ ap (λ m. pmac_of (record { 0 = big_bytes 6 m })) same ∙ pmac_of-mac_of z fits_z
 
 module _ (plan : Plan) (past : List Entry) (t : ℕ) (v : SwitchView) (port h : ℕ) (mac : Mac) (ip : Option Ip4) (settled : is_settled v.place ≡ true)
     (within : port < length v.grants) (peer : peer_of plan t port ≡ HostPort) (of_host : mac_of_host plan h ≡ Some mac) (six : length mac.0 ≡ 6)
@@ -236,7 +232,7 @@ module _ (plan : Plan) (past : List Entry) (t : ℕ) (v : SwitchView) (port h : 
           | inl it ↦ absurd (none-some (new_grant mac ip) (sym is ∙ ap (λ z. granted (with_grants v port more) z) it ∙ now))
           | inr other ↦
               cond-false (n == pmac_number y) (Some h) (holder past (pmac_number y))
-              (ne_eqb n (pmac_number y) (λ same. false≢true (sym other ∙ ap (λ z. same_pmac y z) (sym (numbers_apart y next fits may.fits (sym same))) ∙ pmac_itself y)))
+              (ne_eqb n (pmac_number y) (λ same. false≢true (sym other ∙ ap (λ z. same_pmac y z) (sym (same_pmac_number y next fits may.fits (sym same))) ∙ pmac_itself y)))
               ∙ knows.not_granted y fits own (sym (others y other) ∙ is)
         ];
         trapped = λ y trap is. elim (is_or_other y next) [
@@ -256,7 +252,7 @@ module _ (plan : Plan) (past : List Entry) (t : ℕ) (v : SwitchView) (port h : 
         pods = knows.pods;
         back = λ y p fits is. elim (cases_Bool (n == pmac_number y)) [
           | inl same ↦
-              let it : y ≡ next = numbers_apart y next fits may.fits (sym (eqb-true n (pmac_number y) same)) in
+              let it : y ≡ next = same_pmac_number y next fits may.fits (sym (eqb-true n (pmac_number y) same)) in
               let at : at_port t port ≡ at_port t p =
               same_Some (at_port t port) (at_port t p) (sym (cond-true (n == pmac_number y) (Some (at_port t port)) (spot past (pmac_number y)) same) ∙ is) in
               (ap (λ z. is_local v z) it ∙ here, ap (λ (z : Pmac). z.port) it ∙ ap (λ (a : Spot). a.port) at)

@@ -1,11 +1,11 @@
 -- A route is a good leg, with the switch where it leads.
-use Rattle.std.proofs.Common.{◌≡◌, ℕ, ◌-◌, ◌==◌, true, false, List, ◌∷◌, Some, refl, sym, ap, ◌∙◌, subst}
+use Rattle.std.proofs.Common.{◌≡◌, ℕ, ◌==◌, true, false, List, ◌∷◌, Some, refl, sym, ap, ◌∙◌, subst}
 use Rattle.std.proofs.lemmas.Bool.{ne_eqb}
 use Rattle.pl_pmac.specs.declared.pmac.Pmac.{Pmac}
 use Rattle.pl_wiring.specs.declared.label.Label.{Label}
 use Rattle.pl_wiring.specs.declared.label.Label.TheVariants.{Aggregation, Core, Edge}
-use Rattle.pl_wiring.specs.Labels.{label_of, number_of}
-use Rattle.pl_wiring.proofs.LabelOrder.{number_of-label_of}
+use Rattle.pl_wiring.specs.Labels.{label_of}
+use Rattle.pl_wiring.proofs.LabelOrder.{same_label}
 use Rattle.pl_layouts.specs.declared.place.Place.{Place}
 use Rattle.pl_journal.specs.Flights.{is_good_leg, label_level, level_of}
 use Rattle.pl_flights.specs.Routes.{Route}
@@ -17,10 +17,6 @@ level_at k s label is = ap label_level is
 -- switches of two labels are two
 pub other_label : (k s t : ℕ) (a b : Label) → label_of k s ≡ a → label_of k t ≡ b → (a ≡ b → ⊥) → (s == t) ≡ false
 other_label k s t a b at_s at_t differ = ne_eqb s t (λ same. differ (sym at_s ∙ ap (label_of k) same ∙ at_t))
-
--- and of one label one
-pub same_label : (k s t : ℕ) → label_of k s ≡ label_of k t → s ≡ t
-same_label k s t same = sym (number_of-label_of k s) ∙ ap (number_of k) same ∙ number_of-label_of k t
 
 abbrev pub pod_number : Label → ℕ
 pod_number (Edge p i) = p

@@ -5,12 +5,13 @@ use Rattle.std.proofs.lemmas.Bool.{and_from, and_parts, cases_Bool, cases_eq, co
 use Rattle.std.proofs.lemmas.List.{append_assoc}
 use Rattle.std.proofs.Math.ListN.{length-set}
 use Rattle.std.proofs.lemmas.Option.{get_or_from_slice_get, same_Some, slice_get_within}
+use Rattle.pl_lemmas.proofs.Lists.{all_append, set_get, set_get_other}
 use Rattle.pl_frame.specs.Ethernet.{destination_of}
 use Rattle.pl_layouts.specs.declared.place.Place.{Place}
 use Rattle.pl_layouts.specs.Memberships.{is_group}
 use Rattle.pl_wiring.specs.declared.host.Host.{Host}
 use Rattle.pl_wiring.specs.declared.link.Peer.{Peer}
-use Rattle.pl_wiring.specs.declared.link.Peer.TheVariants.{HostPort, Switch}
+use Rattle.pl_wiring.specs.declared.link.Peer.TheVariants.{HostPort}
 use Rattle.pl_wiring.specs.FatTree.{IsAt}
 use Rattle.pl_wiring.specs.Index.{port_index}
 use Rattle.pl_wiring.specs.Labels.{edge_count, switch_count}
@@ -26,6 +27,7 @@ use Rattle.pl_journal.specs.Flights.{address, sender, trail}
 use Rattle.pl_journal.specs.Lossy.{RunTo}
 use Rattle.pl_journal.specs.Places.{Spot, at_port, holder, is_at, is_free, is_host_port, is_left_free, spot, spot_of}
 use Rattle.pl_journal.proofs.Hosts.{hosts_apart, spot_of_moved, spot_of_others}
+use Rattle.pl_journal.proofs.Levels.{host_port_is}
 use Rattle.pl_world.specs.declared.item.Item.{Item}
 use Rattle.pl_world.specs.declared.item.Item.TheVariants.{Control, Data}
 use Rattle.pl_world.specs.declared.stand.Stand.{Stand}
@@ -38,7 +40,7 @@ use Rattle.pl_world.specs.Refusals.{has_host, has_port, has_switch, is_for_hosts
 use Rattle.pl_world.specs.WorldRule.{Goes}
 use Rattle.pl_world.specs.Worlds.{WorldView}
 use Rattle.pl_world.proofs.Balances.{emptied_host_balance, emptied_out_balance}
-use Rattle.pl_world.proofs.Counts.{all_append, all_found, begun-append, ends_of-begun}
+use Rattle.pl_world.proofs.Counts.{all_found, begun-append, ends_of-begun}
 use Rattle.pl_world.proofs.StepBalances.{Sound, counted as to_counted, heard_rest, noted_owes, sound, stands_rest}
 use Rattle.pl_flights.specs.OnTheWay.{IsGoing, IsOut, IsTold, IsWaiting, StandsAgree, Tells, book_of, place_in, spot_of_stand}
 use Rattle.pl_flights.proofs.Arriving.{found_at}
@@ -48,18 +50,6 @@ use Rattle.pl_flights.proofs.HostTurns.{host_told}
 use Rattle.pl_flights.proofs.Keeping.{goes_on, kept, same_book}
 use Rattle.pl_flights.proofs.Noting.{reverse_noted}
 use Rattle.pl_flights.proofs.Queues.{set_host, set_out}
-
-pub set_get : {T : Type 0} (xs : List T) (n : ℕ) (x : T) → n < length xs → slice_get (set xs n x) n ≡ Some x
-set_get [] n x within = absurd (omega arith)
-set_get (y ∷ xs) zero x within = refl
-set_get (y ∷ xs) (suc n) x within = set_get xs n x (omega arith)
-
-pub set_get_other : {T : Type 0} (xs : List T) (n m : ℕ) (x : T) → (n ≡ m → ⊥) → slice_get (set xs n x) m ≡ slice_get xs m
-set_get_other [] n m x other = refl
-set_get_other (y ∷ xs) zero zero x other = absurd (other refl)
-set_get_other (y ∷ xs) zero (suc m) x other = refl
-set_get_other (y ∷ xs) (suc n) zero x other = refl
-set_get_other (y ∷ xs) (suc n) (suc m) x other = set_get_other xs n m x (λ e. other (ap suc e))
 
 is_there : {T : Type 0} (xs : List T) (n : ℕ) → n < length xs → IsSome (slice_get xs n)
 is_there [] n within = absurd (omega arith)
@@ -96,10 +86,6 @@ module _ (plan : Plan) (place : ℕ → Place) (past : List Entry) (h : ℕ) (to
             inr (inl (left_is (holder past (address past id)) (spot past (address past id)) one.host one.held one.there))
       ] in
       (shows, gone_shown items all.1)
-
-host_port_is : (peer : Peer) → is_host_port peer ≡ true → peer ≡ HostPort
-host_port_is (Switch t q) is = absurd (false≢true is)
-host_port_is HostPort is = refl
 
 -- a host stands at a port for hosts
 pub at_host_port : (plan : Plan) (past : List Entry) (h : ℕ) (there : Spot) → IsPlan plan → RunTo plan past → spot_of plan past h ≡ Some there →

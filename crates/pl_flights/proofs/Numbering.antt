@@ -17,17 +17,13 @@ use Rattle.pl_world.specs.Flying.{IsCounted}
 use Rattle.pl_world.specs.OtherActs.{manager_act_done}
 use Rattle.pl_world.specs.WorldRule.{ManagerTurn}
 use Rattle.pl_world.specs.Worlds.{WorldView}
-use Rattle.pl_world.proofs.StepBalances.{Sound, noted_owes, sound}
-use Rattle.pl_world.proofs.SwitchActBalances.{says_rest, told_rest}
+use Rattle.pl_world.proofs.StepBalances.{Sound, noted_owes, sound, said_sound}
+use Rattle.pl_world.proofs.SwitchActBalances.{told_rest}
 use Rattle.pl_flights.specs.Given.{NumbersWell}
 use Rattle.pl_flights.specs.OnTheWay.{IsTold, Tells, place_in}
 use Rattle.pl_flights.proofs.Counting.{counts, nobody}
 use Rattle.pl_flights.proofs.Keeping.{kept}
 use Rattle.pl_flights.proofs.Noting.{note, reverse_noted}
-
-said_sound : (w : WorldView) (says : ToSwitch) (to : Option ℕ) → Sound w → Sound (said_to w says to)
-said_sound w says None so = so
-said_sound w says (Some s) so = record { balance = so.balance; rest = says_rest w.from_manager _ (length-set w.from_manager s _) so.rest }
 
 said_told : (w : WorldView) (says : ToSwitch) (to : Option ℕ) → IsTold w → IsTold (said_to w says to)
 said_told w says None told = told

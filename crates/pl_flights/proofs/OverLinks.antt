@@ -7,10 +7,7 @@ use Rattle.pl_wiring.specs.declared.label.SwitchNo.{SwitchNo}
 use Rattle.pl_wiring.specs.declared.link.Peer.{Peer}
 use Rattle.pl_wiring.specs.declared.link.Peer.TheVariants.{Switch}
 use Rattle.pl_wiring.specs.Index.{port_index}
-use Rattle.pl_wiring.specs.Peers.{IsPeer, IsPort, peer_of}
-use Rattle.pl_wiring.specs.Plan.{IsPlan, Plan}
-use Rattle.pl_wiring.proofs.Ends.{IsPeer-is, IsPeer-turned}
-use Rattle.pl_wiring.proofs.Linked.{peer_says}
+use Rattle.pl_wiring.specs.Peers.{IsPort, peer_of}
 use Rattle.pl_layouts.specs.declared.place.Place.{Place}
 use Rattle.pl_layouts.specs.Control.{is_control}
 use Rattle.pl_layouts.specs.Memberships.{is_group}
@@ -30,7 +27,7 @@ use Rattle.pl_switch_rule.specs.SwitchRule.{IsChoice, Loose, comes_from_switch, 
 use Rattle.pl_world.specs.declared.item.Item.{Item}
 use Rattle.pl_world.specs.declared.item.Item.TheVariants.{Data}
 use Rattle.pl_world.specs.declared.spoken_frame.SpokenFrame.TheVariants.{Waiting}
-use Rattle.pl_world.specs.Changes.{noted, out_of, switch_no}
+use Rattle.pl_world.specs.Changes.{noted, out_of}
 use Rattle.pl_world.specs.Flying.{IsCounted, IsFrame, times_in}
 use Rattle.pl_world.specs.WorldRule.{SwitchTurn}
 use Rattle.pl_world.specs.Worlds.{WorldView}
@@ -39,6 +36,7 @@ use Rattle.pl_world.proofs.Counts.{one, times_in-data}
 use Rattle.pl_world.proofs.StepBalances.{noted_owes, peer_is_port, sound}
 use Rattle.pl_flights.specs.OnTheWay.{IsBetween, IsGoing, IsOut, IsTold, Tells, book_of, place_in}
 use Rattle.pl_copies.specs.Standing.{KnowTrees}
+use Rattle.pl_copies.proofs.Turning.{peer_back}
 use Rattle.pl_flights.specs.Standing.{StandsOn}
 use Rattle.pl_flights.proofs.Counting.{IsNowhere, IsOwed, counts, owed}
 use Rattle.pl_flights.proofs.Crossing.{crosses_well}
@@ -57,12 +55,6 @@ set_found : {T : Type 0} (xs : List T) (n : ℕ) (x : T) → slice_get xs n ≡ 
 set_found [] n x is = refl
 set_found (y ∷ xs) zero x is = let same : y ≡ x = cc in ap (λ z. z ∷ xs) (sym same)
 set_found (y ∷ xs) (suc n) x is = ap (λ zs. y ∷ zs) (set_found xs n x is)
-
--- the port at the other end leads back
-pub peer_back : (plan : Plan) (s port : ℕ) (t : SwitchNo) (q : ℕ) → IsPlan plan → peer_of plan s port ≡ Switch t q → peer_of plan t.0 q ≡ Switch (switch_no s) port
-peer_back plan s port t q is peer =
-    let says : IsPeer plan.links s port (Switch t q) = subst (λ p. IsPeer plan.links s port p) peer (peer_says plan.links s port) in
-    sym (IsPeer-is plan.k plan.links t.0 q (Switch (switch_no s) port) is.tree (IsPeer-turned plan.links (switch_no s) port t q says))
 
 abbrev pub taken_out : WorldView → ℕ → ℕ → List Item → WorldView
 taken_out w s port items = record w { out = set w.out (port_index w.plan.k s port) items }

@@ -1,6 +1,7 @@
 -- A frame on its route that is passed on by a candidate goes on by a route.
 use Rattle.std.proofs.Common.{◌≡◌, ℕ, ◌||◌, not, Bool, true, false, List, ◌∷◌, Option, None, Some, is_some, refl, sym, ap, ◌∙◌, subst, inl, inr}
-use Rattle.std.proofs.lemmas.Bool.{and_parts, both_ways, cases_Bool, cond-false, cond-true, eq-eqb, eqb-true, false≢true}
+use Rattle.std.proofs.lemmas.Bool.{and_parts, both_ways, cases_Bool, cond-false, cond-true, eq-eqb, false≢true}
+use Rattle.pl_lemmas.proofs.Options.{some_number}
 use Rattle.pl_pmac.specs.declared.pmac.Pmac.{Pmac}
 use Rattle.pl_wiring.specs.declared.label.Label.TheVariants.{Aggregation, Core, Edge}
 use Rattle.pl_wiring.specs.declared.label.SwitchNo.{SwitchNo}
@@ -8,8 +9,10 @@ use Rattle.pl_wiring.specs.declared.link.Peer.TheVariants.{Switch}
 use Rattle.pl_wiring.specs.Labels.{label_of}
 use Rattle.pl_wiring.specs.Peers.{peer_of}
 use Rattle.pl_wiring.specs.Plan.{IsPlan, Plan}
+use Rattle.pl_wiring.proofs.LabelOrder.{same_label}
 use Rattle.pl_layouts.specs.declared.place.Place.{Place}
 use Rattle.pl_layouts.specs.Placement.{is_known, is_placed}
+use Rattle.pl_layouts.proofs.Known.{known_is}
 use Rattle.pl_journal.specs.Flights.{level_of}
 use Rattle.pl_logic.specs.PortRecords.{is_usable, is_usable_to, place_at}
 use Rattle.pl_logic.specs.SwitchFacts.{is_avoided}
@@ -20,17 +23,9 @@ use Rattle.pl_switch_rule.specs.Forwarding.{came_between, came_by, is_candidate,
 use Rattle.pl_flights.specs.Routes.{IsOfOtherPod, Route}
 use Rattle.pl_flights.specs.Routes.Route.{Climbs, Enters, Falls, Leaves, Turns}
 use Rattle.pl_flights.specs.Standing.{KnowsNeighbours, KnowsPlaces}
-use Rattle.pl_flights.proofs.Legs.{level_at, same_label}
+use Rattle.pl_flights.proofs.Legs.{level_at}
 use Rattle.pl_copies.proofs.Ways.{Rung, rung}
 use Rattle.pl_copies.proofs.Ways.Rung.{DownFromCore, DownToEdge, UpFromEdge, UpToCore}
-
-pub known : (o : Option ℕ) (n : ℕ) → is_known o n ≡ true → o ≡ Some n
-known None n is = absurd (false≢true is)
-known (Some m) n is = ap Some (eqb-true m n is)
-
-pub something : (o : Option ℕ) → is_some o ≡ true → (n : ℕ) × (o ≡ Some n)
-something None there = absurd (false≢true there)
-something (Some n) there = (n, refl)
 
 or_none : (b : Bool) → (b || false) ≡ true → b ≡ true
 or_none true is = refl
@@ -53,7 +48,7 @@ module _ (plan : Plan) (place : ℕ → Place) (t : ℕ) (v : SwitchView) (is_pl
     (knows : KnowsNeighbours plan place t v) (to : Pmac) (p : ℕ) (u : SwitchNo) (r : ℕ) (peer : peer_of plan t p ≡ Switch u r) where
   -- the neighbour at the port has this level
   level_there : (n : ℕ) → is_usable_to v n p ≡ true → level_of plan.k u.0 ≡ n
-  level_there n is = places.level u.0 n (knows.level p u r n peer (known _ n ((and_parts (is_usable v p) (is_known (place_at v p).level n) is).1)))
+  level_there n is = places.level u.0 n (knows.level p u r n peer (known_is _ n ((and_parts (is_usable v p) (is_known (place_at v p).level n) is).1)))
 
   record IsAtEdge : Type 0 where
     level : level_of plan.k u.0 ≡ 0
@@ -62,7 +57,7 @@ module _ (plan : Plan) (place : ℕ → Place) (t : ℕ) (v : SwitchView) (is_pl
   at_edge : leads_to_position v to p ≡ true → IsAtEdge
   at_edge is =
       let parts = and_parts (is_usable_to v 0 p) (is_known (place_at v p).position to.position) is in
-      record { level = level_there 0 parts.0; position = knows.position p u r to.position peer (known _ to.position parts.1) }
+      record { level = level_there 0 parts.0; position = knows.position p u r to.position peer (known_is _ to.position parts.1) }
 
   record IsInPod : Type 0 where
     level : level_of plan.k u.0 ≡ 1
@@ -71,7 +66,7 @@ module _ (plan : Plan) (place : ℕ → Place) (t : ℕ) (v : SwitchView) (is_pl
   in_pod : leads_to_pod v to p ≡ true → IsInPod
   in_pod is =
       let parts = and_parts (is_usable_to v 1 p) (is_known (place_at v p).pod to.pod) is in
-      record { level = level_there 1 parts.0; pod = knows.pod p u r to.pod peer (known _ to.pod parts.1) }
+      record { level = level_there 1 parts.0; pod = knows.pod p u r to.pod peer (known_is _ to.pod parts.1) }
 
   up_there : (n : ℕ) → leads_up v n to p ≡ true → level_of plan.k u.0 ≡ n
   up_there n is = level_there n ((and_parts (is_usable_to v n p) (not (is_avoided v _ to.pod to.position)) is).0)
@@ -124,7 +119,7 @@ module _ (plan : Plan) (place : ℕ → Place) (t : ℕ) (v : SwitchView) (is_pl
   from_edge came level is = sym (cond-true (is_known v.place.level 0) (leads_from_edge v to came p) _ (ap (λ o. is_known o 0) level)) ∙ is
 
   pod_known : v.place.level ≡ Some 1 → is_placed v.place ≡ true → (x : ℕ) × (v.place.pod ≡ Some x)
-  pod_known level placed = something v.place.pod (or_none (is_some v.place.pod) (rw level at placed))
+  pod_known level placed = some_number v.place.pod (or_none (is_some v.place.pod) (rw level at placed))
 
   module _ (s q port : ℕ) (came : Came) (from : peer_of plan t q ≡ Switch (record { 0 = s }) port) (by : came_by v q ≡ Some came)
       (placed : is_placed v.place ≡ true) (leads : is_candidate v to came p ≡ true) where
@@ -161,7 +156,7 @@ module _ (plan : Plan) (place : ℕ → Place) (t : ℕ) (v : SwitchView) (is_pl
           | inl own ↦
               let down = at_edge (sym (cond-true (is_known v.place.pod to.pod) (leads_to_position v to p) (leads_up v 2 to p) own) ∙ row) in
               let u_is = edge_below a j at_t down.level in
-              let pod : (place t).pod ≡ Some to.pod = here to.pod (known v.place.pod to.pod own) in
+              let pod : (place t).pod ≡ Some to.pod = here to.pod (known_is v.place.pod to.pod own) in
               let another : s ≡ u.0 → ⊥ = λ same. elsewhere.another
               (places.one_pod s t a i j elsewhere.pod to.pod at_s at_t elsewhere.knows_pod pod)
               (let there : (place s).position ≡ Some to.position = subst (λ n. (place n).position ≡ Some to.position) (sym same) down.position in

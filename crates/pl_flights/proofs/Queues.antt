@@ -4,12 +4,12 @@ use Rattle.std.specs.List.{AllByRecursion}
 use Rattle.std.proofs.lemmas.Bool.{cases_eq, cases_lt}
 use Rattle.std.proofs.lemmas.List.{get_or-set_other, get_or-set_same, set_past}
 use Rattle.std.proofs.lemmas.Nat.{same_from_place}
+use Rattle.pl_lemmas.proofs.Lists.{all_append}
 use Rattle.pl_wiring.specs.Index.{port_index}
 use Rattle.pl_wiring.specs.Plan.{Plan}
 use Rattle.pl_layouts.specs.declared.place.Place.{Place}
 use Rattle.pl_journal.specs.declared.entry.Entry.{Entry}
 use Rattle.pl_world.specs.declared.item.Item.{Item}
-use Rattle.pl_world.proofs.Counts.{all_append}
 use Rattle.pl_flights.specs.OnTheWay.{Flying, IsOut, IsWaiting}
 
 -- another list at one place

@@ -7,6 +7,7 @@ use Rattle.pl_frame.specs.Ethernet.{Fields, destination_of, source_of, with_dest
 use Rattle.pl_frame.proofs.Fields.{fields_of-with_destination, rest_of}
 use Rattle.pl_pmac.specs.declared.pmac.Pmac.{Pmac}
 use Rattle.pl_pmac.specs.Pmac.{Fits, mac_of, pmac_number}
+use Rattle.pl_pmac.proofs.Inverse.{length-mac_of}
 use Rattle.pl_wiring.specs.Plan.{IsPlan, Plan}
 use Rattle.pl_layouts.specs.declared.place.Place.{Place}
 use Rattle.pl_layouts.specs.Frames.{arriving, is_arp, mac_number, packet_in}
@@ -79,9 +80,6 @@ grant_there : (o : Option Grant) (trap : Trap) → grant_trap o ≡ Some trap �
 grant_there None trap is = absurd (cc)
 grant_there (Some grant) trap is = (grant, refl)
 
-six_bytes : (x : Pmac) → length (mac_of x).0 ≡ 6
-six_bytes x = refl
-
 module _ (plan : Plan) (place : ℕ → Place) (book : Book) (t : ℕ) (v : SwitchView) (is_plan : IsPlan plan) (places : KnowsPlaces plan.k place)
     (neighbours : KnowsNeighbours plan place t v) (rest : List Act) (then_good : (hand : Hand) → GoodActs plan place book t rest hand)
     (knows : KnowsAddresses plan book t v) (choose : Choice) (is : IsChoice choose) (level : v.place.level ≡ Some 0) (placed : is_placed v.place ≡ true)
@@ -101,19 +99,19 @@ module _ (plan : Plan) (place : ℕ → Place) (book : Book) (t : ℕ) (v : Swit
   with_new : (trap : Trap) (f : Flight) → IsTurning f trap → IsHere place t f (with_destination frame (mac_of trap.new))
   with_new trap f u =
       let to : Mac = mac_of trap.new in
-      let is_to : destination_of (with_destination frame to) ≡ to = destination_is frame to (six_bytes trap.new) in
+      let is_to : destination_of (with_destination frame to) ≡ to = destination_is frame to (length-mac_of trap.new) in
       record {
         last = u.last;
         reached = ap first_of u.alone;
         began = u.began;
         unicast = ap is_group is_to ∙ u.unicast;
         address = u.address ∙ sym (number_of_mac trap.new u.fits) ∙ ap mac_number (sym is_to);
-        long = long_sent frame to to (six_bytes trap.new) (six_bytes trap.new) long;
+        long = long_sent frame to to (length-mac_of trap.new) (length-mac_of trap.new) long;
         home = u.home;
         sender = λ other.
-            let same = fields_of-with_destination frame to (omega arith) (six_bytes trap.new) in
+            let same = fields_of-with_destination frame to (omega arith) (length-mac_of trap.new) in
             ap (λ (x : Fields). is_group x.src) same ∙ u.sender (ap (λ (x : Fields). x.kind == 0x0806) (sym same) ∙ other);
-        unaltered = λ m six. subst (λ x. UnalteredFrom f.sender f.source f.beginning (Some m) x) (sym (same_arriving frame to m (six_bytes trap.new) six long)) (u.unaltered m six);
+        unaltered = λ m six. subst (λ x. UnalteredFrom f.sender f.source f.beginning (Some m) x) (sym (same_arriving frame to m (length-mac_of trap.new) six long)) (u.unaltered m six);
       }
 
   -- the trap that is met, and the flight then

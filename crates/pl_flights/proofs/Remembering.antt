@@ -4,6 +4,7 @@ use Rattle.std.specs.List.{AllByRecursion, range_with_len}
 use Rattle.std.proofs.lemmas.Bool.{and_from, cond-false, eq-eqb, ne_eqb}
 use Rattle.pl_pmac.specs.declared.pmac.Pmac.{Pmac}
 use Rattle.pl_pmac.specs.Pmac.{pmac_number}
+use Rattle.pl_pmac.proofs.Inverse.{same_pmac_number}
 use Rattle.pl_wiring.specs.Plan.{Plan}
 use Rattle.pl_journal.specs.declared.entry.Entry.{Entry}
 use Rattle.pl_journal.specs.declared.entry.Entry.TheVariants.{Granted}
@@ -17,7 +18,6 @@ use Rattle.pl_steps.specs.Steps.{SwitchStep, rests}
 use Rattle.pl_switch_rule.specs.Granting.{address_at_port, grants_at, grants_next, grants_or_learns, grants_remembered, grants_source, in_use, is_port_spent, new_grant, remembered_at}
 use Rattle.pl_world.specs.Changes.{host_no, host_of, switch_no}
 use Rattle.pl_flights.specs.Standing.{IsNext}
-use Rattle.pl_flights.proofs.Learning.{numbers_apart}
 use Rattle.pl_flights.proofs.Settling.{GrantsFor, GrantsWell}
 use Rattle.pl_flights.proofs.SilentSteps.{AreSilent}
 
@@ -71,7 +71,7 @@ module _ (plan : Plan) (t : ℕ) where
       let x : Pmac = address_at_port v p 1 in
       let y : Pmac = address_at_port v q 1 in
       let differ : (pmac_number x == pmac_number y) ≡ false =
-      ne_eqb (pmac_number x) (pmac_number y) (λ same. other (ap (λ (z : Pmac). z.port) (numbers_apart y x r.may.fits here.fits (sym same)))) in
+      ne_eqb (pmac_number x) (pmac_number y) (λ same. other (ap (λ (z : Pmac). z.port) (same_pmac_number y x r.may.fits here.fits (sym same)))) in
       let alike : are_alike (same_pod_and_position y x) (t == t) ≡ true =
       ap₂ are_alike (and_from (y.pod == x.pod) (y.position == x.position) (eq-eqb y.pod x.pod refl) (eq-eqb y.position x.position refl)) (eq-eqb t t refl) in
       record {

@@ -1,22 +1,19 @@
 -- A frame that went in under its sender's address leaves with its receiver's: it is as if both had been written at once.
-use Rattle.std.proofs.Common.{inl, inr, ◌≡◌, ℕ, ◌≤◌, true, false, List, ◌++◌, length, drop, Option, None, Some, is_some, refl, sym, ◌∙◌, ap, arith}
+use Rattle.std.proofs.Common.{inl, inr, ◌≡◌, ℕ, ◌≤◌, true, false, List, ◌++◌, length, drop, None, Some, is_some, sym, ◌∙◌, ap, arith}
 use Rattle.std.specs.Option.{option_map}
 use Rattle.std.proofs.lemmas.Bool.{cases_Bool}
+use Rattle.pl_lemmas.proofs.Options.{is_some-option_map}
 use Rattle.pl_frame.specs.declared.address.Mac.{Mac}
 use Rattle.pl_layouts.specs.Frames.{arriving, packet_in, with_addresses}
 use Rattle.pl_layouts.proofs.Arrivals.{arriving_by, arriving_parts, dst_in, head_in, lengths_in, long_frame, parts, spa_in, tha_in, unreadable_parts}
 use Rattle.pl_layouts.proofs.Arrived.{arriving_readable, arriving_unreadable, is_readable, packet_in-arriving, six_dst}
-
-still_some : {A B : Type 0} (f : A → B) (o : Option A) → is_some (option_map f o) ≡ is_some o
-still_some f None = refl
-still_some f (Some x) = refl
 
 pub arriving_twice : (frame : List ℕ) (a m : Mac) → 14 ≤ length frame → length a.0 ≡ 6 → length m.0 ≡ 6 →
     arriving (arriving frame (Some a) None) None (Some m) ≡ arriving frame (Some a) (Some m)
 arriving_twice frame a m long six_a six =
     let sent : List ℕ = arriving frame (Some a) None in
     let same : is_readable sent ≡ is_readable frame =
-    ap is_some (packet_in-arriving frame (Some a) None long six_a tt) ∙ still_some (with_addresses (Some a) None) (packet_in frame) in
+    ap is_some (packet_in-arriving frame (Some a) None long six_a tt) ∙ is_some-option_map (with_addresses (Some a) None) (packet_in frame) in
     elim (cases_Bool (is_readable frame)) [
       | inl readable ↦
           let enough = long_frame frame readable in

@@ -1,7 +1,7 @@
 -- The manager speaks to a switch.
 use Rattle.std.proofs.Common.{◌≡◌, ℕ, ◌≤◌, ◌==◌, ◌&&◌, not, Bool, true, false, if◌then◌else◌, List, [], ◌∷◌, ◌++◌, length, map, take, Option, None, Some, refl, sym, ◌∙◌, ap, subst}
 use Rattle.std.specs.List.{AllByRecursion}
-use Rattle.std.proofs.lemmas.Bool.{and_parts, both_ways, false≢true}
+use Rattle.std.proofs.lemmas.Bool.{and_parts, both_ways, false≢true, not-true}
 use Rattle.byteorder.specs.Endian.{big_bytes}
 use Rattle.pl_frame.specs.declared.address.Mac.{Mac}
 use Rattle.pl_frame.proofs.Fields.{front_of, rest_of}
@@ -42,7 +42,7 @@ use Rattle.pl_flights.specs.OnTheWay.{Book, CameInPlaced, IsForMany, IsLeaving}
 use Rattle.pl_flights.specs.Standing.{IsGranted, KnowsAddresses, KnowsNeighbours, KnowsPlaces}
 use Rattle.pl_flights.proofs.AtHome.{begins_good, is_arp-arp_frame, local_is_placed}
 use Rattle.pl_flights.specs.Routes.{levels}
-use Rattle.pl_flights.proofs.ForwardActs.{not_is_true, routed_group}
+use Rattle.pl_flights.proofs.ForwardActs.{routed_group}
 use Rattle.pl_flights.proofs.GroupLegs.{all_filtered, first_alone, first_ways}
 use Rattle.pl_flights.proofs.Hands.{GoodActs, MayEnd, MayLeave, made_here}
 use Rattle.pl_flights.proofs.Hands.Hand.{Empty, Spreads, Waits}
@@ -83,7 +83,7 @@ module _ (plan : Plan) (place : ℕ → Place) (book : Book) (t : ℕ) (v : Swit
   none_shown false part is = tt
   none_shown true false is = tt
   none_shown true true is =
-      let other : (destination_group frame == flood) ≡ false = not_is_true (destination_group frame == flood) (sym is) in
+      let other : (destination_group frame == flood) ≡ false = not-true (destination_group frame == flood) (sym is) in
       ap (λ d. is_routed (group_of d)) here.kept ∙ routed_group (group_of (destination_of frame)) other
 
   passes_all : (ports : List ℕ) (why : Cause) (again : Bool) → AllByRecursion (λ p. is_usable v p ≡ true) ports → MayEnd book f why →

@@ -1,5 +1,5 @@
 -- Steps of a switch that speak of no frame at first: a tick, a message of the manager.
-use Rattle.std.proofs.Common.{◌≡◌, ℕ, suc, List, [], ◌∷◌, ◌++◌, length, Option, reverse, refl, sym, ap, subst}
+use Rattle.std.proofs.Common.{◌≡◌, ℕ, List, [], ◌∷◌, ◌++◌, reverse, refl, sym, subst}
 use Rattle.std.specs.List.{AllByRecursion}
 use Rattle.pl_layouts.specs.declared.place.Place.{Place}
 use Rattle.pl_logic.specs.declared.acts.Act.{Act}
@@ -14,12 +14,12 @@ use Rattle.pl_switch_rule.specs.SwitchRule.{Loose}
 use Rattle.pl_switch_rule.specs.Telling.{changes_told}
 use Rattle.pl_wiring.specs.Plan.{Plan}
 use Rattle.pl_world.specs.declared.spoken_frame.SpokenFrame.TheVariants.{Silent}
-use Rattle.pl_world.specs.declared.stand.Stand.{Stand}
 use Rattle.pl_world.specs.Flying.{IsCounted}
 use Rattle.pl_world.specs.OtherActs.{heard_after_tick}
 use Rattle.pl_world.specs.WorldRule.{SwitchTurn, Ticks}
 use Rattle.pl_world.specs.Worlds.{WorldView}
 use Rattle.pl_world.proofs.StepBalances.{Sound, heard_rest, sound}
+use Rattle.pl_world.proofs.Stands.{ticked_heard}
 use Rattle.pl_flights.specs.OnTheWay.{Book, IsTold, book_of, place_in}
 use Rattle.pl_flights.specs.Standing.{IsMore}
 use Rattle.pl_flights.proofs.Growing.{tells_grown}
@@ -76,11 +76,6 @@ silent_turn rule accounts w s input new same can so told turn more good =
       holds = tt;
       puts_off = tt;
     }) good
-
-ticked_heard : (t : ℕ) (stands : List Stand) (heard : List (Option ℕ)) → length (heard_after_tick t stands heard) ≡ length heard
-ticked_heard t [] heard = refl
-ticked_heard t (stand ∷ stands) [] = refl
-ticked_heard t (stand ∷ stands) (ticks ∷ heard) = ap suc (ticked_heard t stands heard)
 
 -- a switch ticks
 pub ticks_told : (w : WorldView) (s : ℕ) (new : WorldView) → AccountsForFrames Loose → IsCounted w → IsTold w → Ticks Loose w s new →

@@ -1,63 +1,24 @@
 -- A turn of a switch whose acts are good keeps what is told.
-use Rattle.std.proofs.Common.{◌≡◌, ℕ, ◌+◌, ◌<◌, true, List, [], ◌∷◌, length, Option, None, Some, set, refl, sym, ◌∙◌, ap, arith}
+use Rattle.std.proofs.Common.{◌≡◌, ℕ, ◌+◌, ◌<◌, true, List, [], length, set, refl, sym, ◌∙◌, ap, arith}
 use Rattle.std.specs.List.{fold}
 use Rattle.std.proofs.lemmas.Option.{slice_get_within}
-use Rattle.pl_pmac.specs.declared.pmac.Pmac.{Pmac}
 use Rattle.pl_journal.specs.declared.entry.Entry.{Entry}
-use Rattle.pl_logic.specs.declared.acts.Act.{Act}
 use Rattle.pl_logic.specs.declared.acts.Act.TheVariants as act
 use Rattle.pl_logic.specs.Accounting.{AccountsForFrames, CanCome, IsShaped, first_speech, is_said, speech_after}
 use Rattle.pl_logic.specs.SwitchInputs.{SwitchInput, SwitchRule}
 use Rattle.pl_logic.specs.SwitchViews.{SwitchView}
 use Rattle.pl_world.specs.declared.spoken_frame.SpokenFrame.{SpokenFrame}
-use Rattle.pl_world.specs.declared.spoken_frame.SpokenFrame.TheVariants.{Over, Passed, Silent, Waiting}
-use Rattle.pl_world.specs.Changes.{host_of}
-use Rattle.pl_world.specs.SwitchActs.{Doing, act_done, acts_done, begins, ended, granted, passed, redirected}
+use Rattle.pl_world.specs.SwitchActs.{begins}
 use Rattle.pl_world.specs.WorldRule.{SwitchTurn}
 use Rattle.pl_world.specs.Worlds.{WorldView}
 use Rattle.pl_world.proofs.Balances.{Owes}
 use Rattle.pl_world.proofs.Counts.{all_found}
 use Rattle.pl_world.proofs.StepBalances.{switches_rest}
 use Rattle.pl_world.proofs.SwitchActBalances.{HasRest, Steady, owed_by, said_by}
+use Rattle.pl_world.proofs.KeptSwitches.{acts_switches}
 use Rattle.pl_flights.specs.OnTheWay.{IsTold, book_of, place_in}
 use Rattle.pl_flights.proofs.Acting.{step_told}
 use Rattle.pl_flights.proofs.Hands.{GoodActs, Hand, IsAmid}
-
-granted_switches : (w : WorldView) (s : ℕ) (pmac : Pmac) (h : Option ℕ) → (granted w s pmac h).switches ≡ w.switches
-granted_switches w s pmac None = refl
-granted_switches w s pmac (Some h) = refl
-
-redirected_switches : (d : Doing) (old new : Pmac) (speech : SpokenFrame) → (redirected d old new speech).world.switches ≡ d.world.switches
-redirected_switches d old new Silent = refl
-redirected_switches d old new (Waiting id again) = refl
-redirected_switches d old new (Passed id) = refl
-redirected_switches d old new Over = refl
-
-passed_switches : (s : ℕ) (d : Doing) (port : ℕ) (frame : List ℕ) (speech : SpokenFrame) → (passed s d port frame speech).world.switches ≡ d.world.switches
-passed_switches s d port frame Silent = refl
-passed_switches s d port frame (Waiting id again) = refl
-passed_switches s d port frame (Passed id) = refl
-passed_switches s d port frame Over = refl
-
-ended_switches : (s : ℕ) (d : Doing) (end : ℕ → Entry) (speech : SpokenFrame) → (ended s d end speech).world.switches ≡ d.world.switches
-ended_switches s d end Silent = refl
-ended_switches s d end (Waiting id again) = refl
-ended_switches s d end (Passed id) = refl
-ended_switches s d end Over = refl
-
-act_switches : (s : ℕ) (d : Doing) (a : Act) → (act_done s d a).world.switches ≡ d.world.switches
-act_switches s d (act.Control port frame) = refl
-act_switches s d (act.Tell told) = refl
-act_switches s d (act.Grant pmac amac) = granted_switches d.world s pmac (host_of d.world.plan amac)
-act_switches s d (act.Make frame) = refl
-act_switches s d (act.Redirect old new) = redirected_switches d old new d.speech
-act_switches s d (act.Pass port frame) = passed_switches s d port frame d.speech
-act_switches s d act.Take = ended_switches s d _ d.speech
-act_switches s d (act.Drop cause) = ended_switches s d _ d.speech
-
-acts_switches : (s : ℕ) (d : Doing) (acts : List Act) → (acts_done s d acts).world.switches ≡ d.world.switches
-acts_switches s d [] = refl
-acts_switches s d (a ∷ acts) = acts_switches s (act_done s d a) acts ∙ act_switches s d a
 
 module _ (rule : SwitchRule) (accounts : AccountsForFrames rule) (w : WorldView) (s : ℕ) (input : SwitchInput) (speech : SpokenFrame) (new : WorldView)
     (turn : SwitchTurn rule w s input speech new) where

@@ -1,53 +1,19 @@
 -- The ports that pass a test: one port further, and by two tests.
-use Rattle.std.proofs.Common.{◌≡◌, ℕ, zero, suc, ◌+◌, ◌-◌, ◌<◌, ◌≤◌, ◌==◌, Bool, true, false, cond, if◌then◌else◌, not, ◌&&◌, List, [], ◌∷◌, ◌++◌, refl, sym, ap, ◌∙◌, arith}
-use Rattle.std.specs.BTreeSet.{insert_key}
+use Rattle.std.proofs.Common.{◌≡◌, ℕ, zero, suc, ◌+◌, ◌-◌, ◌<◌, ◌≤◌, ◌==◌, Bool, true, false, cond, if◌then◌else◌, not, ◌&&◌, List, [], ◌∷◌, ◌++◌, refl, ap, ◌∙◌, arith}
 use Rattle.std.specs.List.{filter, list_any, range_with_len}
-use Rattle.std.specs.Ordering.{nat_cmp}
-use Rattle.std.proofs.lemmas.Bool.{ne_eqb, le-ltb}
-use Rattle.std.proofs.lemmas.List.{append-nil}
+use Rattle.std.proofs.lemmas.Bool.{ne_eqb}
 use Rattle.std.proofs.lemmas.List.Elements.{filter-append}
+use Rattle.pl_lemmas.proofs.Lists.{range_parts}
 use Rattle.pl_logic.specs.PortRecords.{ports_of_switch}
 use Rattle.pl_lists.specs.declared.port_set.PortSet.{PortSet}
 use Rattle.pl_lists.specs.Ports.{has_port, ports_of}
 use Rattle.pl_lists.proofs.PortBits.{has_port_is}
-use Rattle.pl_steps.proofs.Ports.{ports_more}
+use Rattle.pl_steps.proofs.Ports.{passed_next}
 use Rattle.pl_switch_rule.specs.GroupForwarding.{at_most_one}
-
--- the number behind a range goes behind those kept of it
-insert_last : (has : ℕ → Bool) (a n j : ℕ) → a + n ≡ j
-    → insert_key nat_cmp (filter has (range_with_len a n)) j ≡ filter has (range_with_len a n) ++ j ∷ []
-insert_last has a zero j h = refl
-insert_last has a (suc n) j h =
-    let rest = insert_last has (a + 1) n j (omega arith) in
-    elim (has a) as (λ b. insert_key nat_cmp (cond b (a ∷ filter has (range_with_len (a + 1) n)) (filter has (range_with_len (a + 1) n))) j
-    ≡ cond b (a ∷ filter has (range_with_len (a + 1) n)) (filter has (range_with_len (a + 1) n)) ++ j ∷ []) [
-      | true ↦ rw (le-ltb j a (omega arith), ne_eqb j a (omega arith)) (ap (λ l. a ∷ l) rest)
-      | false ↦ rest
-    ]
-
--- the ports that pass of one port more
-pub passed_next : (passes : ℕ → Bool) (n : ℕ)
-    → filter passes (ports_of_switch (n + 1)) ≡ filter passes (ports_of_switch n) ++ (if passes n then n ∷ [] else [])
-passed_next passes n = ap (filter passes) (ports_more n) ∙ filter-append passes (ports_of_switch n) (n ∷ [])
-
-pub passed_more : (passes : ℕ → Bool) (n : ℕ)
-    → (if passes n then insert_key nat_cmp (filter passes (ports_of_switch n)) n else filter passes (ports_of_switch n)) ≡ filter passes (ports_of_switch (n + 1))
-passed_more passes n =
-    elim (passes n) as (λ b. (if b then insert_key nat_cmp (filter passes (ports_of_switch n)) n else filter passes (ports_of_switch n))
-    ≡ filter passes (ports_of_switch n) ++ (if b then n ∷ [] else [])) [
-      | true ↦ insert_last passes 0 n n (omega arith)
-      | false ↦ sym (append-nil (filter passes (ports_of_switch n)))
-    ]
-    ∙ sym (passed_next passes n)
 
 -- where none passed before, and this one does not, none passed
 pub none_passed : (passes : ℕ → Bool) (n : ℕ) → filter passes (ports_of_switch n) ≡ [] → passes n ≡ false → filter passes (ports_of_switch (n + 1)) ≡ []
 none_passed passes n none fails = passed_next passes n ∙ ap (λ l. l ++ (if passes n then n ∷ [] else [])) none ∙ ap (λ b. if b then n ∷ [] else []) fails
-
-range_parts : (a n m k next : ℕ) → n + m ≡ k → a + n ≡ next → range_with_len a k ≡ range_with_len a n ++ range_with_len next m
-range_parts a zero m k next h e = let same : k ≡ m = omega arith in let here : a ≡ next = omega arith in rw (same, here) refl
-range_parts a (suc n) m zero next h e = absurd (omega arith)
-range_parts a (suc n) m (suc k) next h e = ap (λ l. a ∷ l) (range_parts (a + 1) n m k next (omega arith) (omega arith))
 
 -- where none passed before, and this one does, it is the first
 pub first_passed : (passes : ℕ → Bool) (n k : ℕ) → n < k → filter passes (ports_of_switch n) ≡ [] → passes n ≡ true

@@ -81,3 +81,17 @@ frame_of-fields_of bytes long small =
     ∙ ap (λ r. take 6 bytes ++ (take 6 after ++ r)) (sym (drop-drop 6 6 bytes))
     ∙ ap (λ r. take 6 bytes ++ r) (take-append-drop 6 after)
     ∙ take-append-drop 6 bytes
+
+-- a frame is as long as its parts
+pub length-frame_of : (f : Fields) → length f.dst.0 ≡ 6 → length f.src.0 ≡ 6 → length (frame_of f) ≡ 14 + length f.payload
+length-frame_of f dst src =
+    let kind : List ℕ = big_bytes 2 f.kind in
+    omega (
+      arith,
+      dst,
+      src,
+      length-append f.dst.0 (f.src.0 ++ (kind ++ f.payload)),
+      length-append f.src.0 (kind ++ f.payload),
+      length-append kind f.payload,
+      length-bytes_high_first 2 f.kind,
+    )

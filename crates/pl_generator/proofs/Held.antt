@@ -1,13 +1,12 @@
 -- What the shelf holds under each name.
-use Rattle.std.proofs.Common.{◌≡◌, ◌≢◌, ◌⊎◌, ℕ, true, false, cond, ◌+◌, ◌*◌, ◌<◌, ◌^◌, List, [], length, take, get_or, codes, Some, Option, option_and_then, refl, sym, ◌∙◌, ap, subst, inl, inr, not-suc-le-zero, arith}
-use Rattle.std.specs.Ordering.{nat_cmp, eq_by_cmp}
+use Rattle.std.proofs.Common.{◌≡◌, ◌≢◌, ◌⊎◌, ℕ, cond, ◌+◌, ◌*◌, ◌<◌, ◌^◌, List, [], length, take, get_or, codes, Some, Option, option_and_then, refl, sym, ◌∙◌, ap, subst, inl, inr, not-suc-le-zero, arith}
+use Rattle.std.specs.Ordering.{nat_cmp}
 use Rattle.std.specs.Cmp.Lexicographic.{slice_cmp, nat_list_cmp_total}
 use Rattle.std.specs.FinMap.{get, get-empty, get-insert}
 use Rattle.std.proofs.lemmas.List.{append_cancel_left, append_cancel_right, get_or-take, get_or_default, length-take-le}
-use Rattle.std.proofs.lemmas.Bool.{cases_eq, false_from_ne_true}
+use Rattle.std.proofs.lemmas.Bool.{cases_eq}
 use Rattle.std.proofs.lemmas.Fmt.{decimal_injective}
-use Rattle.std.proofs.lemmas.Map.Text.{is_eq-slice_cmp}
-use Rattle.std.proofs.lemmas.Slice.Eq.{bytes_eq-Decides}
+use Rattle.pl_lemmas.proofs.Lists.{other_bytes, same_bytes}
 use Rattle.pl_shelf.specs.Held.{Held, Changes, absent, holds}
 use Rattle.pl_shelf.specs.MemoryShelf.{MemoryState, Place, held_in, held_of, placed, empty_memory}
 use Rattle.pl_generator.specs.Generated.{AreGenerated, AreHeld, capture_name, script_name, topology_name}
@@ -18,12 +17,6 @@ use Rattle.pl_generator.specs.Captures.{AreCaptures, capture_of, capture_text}
 use Rattle.pl_generator.specs.Drawing.{frames_of, last_number}
 use Rattle.pl_generator.specs.declared.drawing.DrawnFrame.{DrawnFrame}
 
-at_name : (name : List ℕ) → eq_by_cmp (slice_cmp nat_cmp) name name ≡ true
-at_name name = is_eq-slice_cmp name name ∙ (bytes_eq-Decides name name).1 refl
-
-at_other : (q name : List ℕ) → q ≢ name → eq_by_cmp (slice_cmp nat_cmp) q name ≡ false
-at_other q name other = is_eq-slice_cmp q name ∙ false_from_ne_true _ (λ same. other ((bytes_eq-Decides q name).0 same))
-
 -- what is put on the shelf is held under its name, and nothing else changes
 pub placed_held : (shelf : MemoryState) (name bytes : List ℕ) (room : ℕ) →
     Changes (held_in shelf.places) (held_in (placed shelf name (record { content = Some bytes; room = room })).places) name (holds bytes)
@@ -31,9 +24,9 @@ placed_held shelf name bytes room =
     let place : Place = record { content = Some bytes; room = room } in
     let seen : Option Place → Held = λ o. held_of (option_and_then (λ p. p.content) o) in
     record {
-      named = ap seen (get-insert nat_list_cmp_total shelf.places name place name ∙ ap (λ b. cond b (Some place) (get shelf.places name)) (at_name name));
+      named = ap seen (get-insert nat_list_cmp_total shelf.places name place name ∙ ap (λ b. cond b (Some place) (get shelf.places name)) (same_bytes name));
       others = λ q other.
-          ap seen (get-insert nat_list_cmp_total shelf.places name place q ∙ ap (λ b. cond b (Some place) (get shelf.places q)) (at_other q name other));
+          ap seen (get-insert nat_list_cmp_total shelf.places name place q ∙ ap (λ b. cond b (Some place) (get shelf.places q)) (other_bytes q name other));
     }
 
 pub placed_as : (shelf new : MemoryState) (name bytes named held : List ℕ) → named ≡ name → held ≡ bytes →

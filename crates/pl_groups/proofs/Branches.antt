@@ -1,6 +1,6 @@
 -- The parts of a tree, by what each switch serves.
-use Rattle.std.proofs.Common.{◌≡◌, ℕ, ◌+◌, ◌++◌, take, drop, append_assoc, take-append-drop, zero, suc, ◌%◌, ◌==◌, ◌&&◌, ◌||◌, not, Bool, true, false, cond, List, [], ◌∷◌, length, map, Option, Some, None, refl, sym, ap, ◌∙◌, inl, inr}
-use Rattle.std.specs.Prelude.{slice_get, unwrap_or}
+use Rattle.std.proofs.Common.{◌≡◌, ℕ, ◌+◌, ◌++◌, take, drop, append_assoc, take-append-drop, ◌%◌, ◌==◌, ◌&&◌, ◌||◌, not, Bool, true, false, cond, List, [], ◌∷◌, length, map, Option, Some, None, refl, sym, ap, ◌∙◌}
+use Rattle.std.specs.Prelude.{unwrap_or}
 use Rattle.std.specs.List.{filter, find, list_any}
 use Rattle.std.specs.Option.{option_and_then, option_map, option_or}
 use Rattle.std.specs.Map.{keys_of}
@@ -10,13 +10,13 @@ use Rattle.pl_frame.specs.declared.address.SwitchId.{SwitchId}
 use Rattle.pl_layouts.specs.declared.place.Place.{Place}
 use Rattle.pl_layouts.specs.Equality.{same_switch}
 use Rattle.pl_layouts.specs.Placement.{is_known, nowhere}
+use Rattle.pl_layouts.proofs.Sameness.{switch_itself}
 use Rattle.pl_logic.specs.declared.messages.TreePart.{TreePart}
 use Rattle.pl_logic.specs.ManagerViews.{Members, Told, alive_at_level, edge_at, has_level, id_cmp, is_alive, neighbours, place_of, switches, tellers, value_at}
 use Rattle.pl_logic.specs.Trees.{aggregation_part, best_cores, core_for, core_of, core_part, cores, edge_part, largest, needed_edges, part_under, reach, serves, tree_part}
-use Rattle.pl_logic.proofs.Among.{IsAmong, among_filter, among_in_order, among_left, any_among}
+use Rattle.pl_logic.proofs.Among.{IsAmong, among_filter, among_in_order, among_left, any_among, got_among}
 use Rattle.pl_manager_rule.proofs.Avoided.{id_exact, same_is}
 use Rattle.pl_manager_rule.proofs.Registered.{switch_turned}
-use Rattle.pl_manager_rule.proofs.Speakers.{same_itself}
 use Rattle.pl_manager_rule.proofs.Tables.{found_key}
 use Rattle.pl_groups.specs.Serving.{AreServed, many_served, part_of_told}
 use Rattle.pl_groups.proofs.Reached.{is_joined}
@@ -134,11 +134,6 @@ parts_next told needed items core i x old new part more were says is s =
         ∙ ap (λ c. cond (list_any (same_switch s) (take i items) || c) (part_under told needed s core) None) (sym (switch_turned s x ∙ same))
 
 -- ---- switches that told nothing have no part
-got_among : {X : Type 0} (xs : List X) (n : ℕ) (x : X) → slice_get xs n ≡ Some x → IsAmong x xs
-got_among [] zero x h = let none : None ≡ Some x = h in absurd (cc)
-got_among [] (suc n) x h = let none : None ≡ Some x = h in absurd (cc)
-got_among (y ∷ xs) zero x h = inl (let same : Some y ≡ Some x = h in cc)
-got_among (y ∷ xs) (suc n) x h = inr (got_among xs n x h)
 
 core_is_switch : (told : Told) (group : ℕ) (needed : List SwitchId) (core : SwitchId) → core_for told group needed ≡ Some core → IsAmong core (switches told)
 core_is_switch told group [] core h = let none : None ≡ Some core = h in absurd (cc)
@@ -156,7 +151,7 @@ unplaced told s none = by (value_at id_cmp told.places s) refl
     by (Some place) e =
         let key = found_key id_cmp id_exact told.places s place e in
         let there = among_in_order id_cmp id_exact s (tellers told) (among_left s (keys_of told.places) (map (λ l. l.0.0) told.links) key) in
-        absurd (false≢true (sym none ∙ any_among (same_switch s) s (switches told) there (same_itself s)))
+        absurd (false≢true (sym none ∙ any_among (same_switch s) s (switches told) there (switch_itself s)))
 
 no_part : (told : Told) (needed : List SwitchId) (s core : SwitchId) → list_any (same_switch s) (switches told) ≡ false → IsAmong core (switches told) →
     part_under told needed s core ≡ None

@@ -1,5 +1,5 @@
 -- What each switch serves, edge switch by edge switch.
-use Rattle.std.proofs.Common.{◌≡◌, ℕ, ◌+◌, take, ◌&&◌, ◌||◌, Bool, true, false, cond, List, [], ◌∷◌, ◌++◌, map, slice_set, Option, Some, None, refl, sym, ap, ◌∙◌, subst, eq-eqb}
+use Rattle.std.proofs.Common.{◌≡◌, ℕ, ◌+◌, take, ◌&&◌, ◌||◌, Bool, true, false, cond, List, [], ◌∷◌, ◌++◌, map, slice_set, Some, None, refl, sym, ap, ◌∙◌, subst, eq-eqb}
 use Rattle.std.specs.Prelude.{unwrap_or}
 use Rattle.std.specs.List.{list_any}
 use Rattle.std.specs.Ordering.{is_eq}
@@ -9,15 +9,14 @@ use Rattle.std.proofs.lemmas.Bool.{and_parts, false≢true}
 use Rattle.std.proofs.lemmas.Cmp.{tied_itself}
 use Rattle.std.proofs.lemmas.List.{set-set}
 use Rattle.std.proofs.lemmas.List.Folds.{list_any-append}
+use Rattle.pl_lemmas.proofs.Bools.{or_false}
 use Rattle.pl_frame.specs.declared.address.SwitchId.{SwitchId}
 use Rattle.pl_layouts.specs.Equality.{same_switch}
-use Rattle.pl_logic.specs.ManagerViews.{Told, alive_neighbours, id_cmp, is_alive, is_told_usable, link_cmp, neighbours, value_at}
-use Rattle.pl_logic.proofs.Among.{IsAmong, among_filter, among_filtered, among_in_order, any_among, id_total}
+use Rattle.pl_logic.specs.ManagerViews.{Told, alive_neighbours, id_cmp, is_alive, is_told_usable, neighbours, value_at}
+use Rattle.pl_logic.proofs.Among.{IsAmong, among_filter, among_filtered, any_among, id_total, member_passes}
 use Rattle.pl_manager_rule.proofs.Avoided.{id_exact, same_is}
-use Rattle.pl_manager_rule.proofs.Tables.{found_key}
-use Rattle.pl_reports.proofs.Telling.{link_exact, near_of_key}
+use Rattle.pl_manager_rule.proofs.Kept.{near_usable}
 use Rattle.pl_groups.specs.Serving.{row_in}
-use Rattle.pl_groups.proofs.Reached.{one_passes}
 
 abbrev pub Served : Type 0
 Served = List (SwitchId × List Bool)
@@ -32,18 +31,8 @@ alive_back told a b = turn (is_told_usable told a b) (is_told_usable told b a)
     turn false true = refl
     turn false false = refl
 
-usable_is_told : (o : Option Bool) → unwrap_or o false ≡ true → o ≡ Some true
-usable_is_told None h = absurd (false≢true h)
-usable_is_told (Some true) h = refl
-usable_is_told (Some false) h = absurd (false≢true h)
-
-pub neighbour_told : (told : Told) (s u : SwitchId) → is_told_usable told s u ≡ true → IsAmong u (neighbours told s)
-neighbour_told told s u h =
-    among_in_order id_cmp id_exact u _
-    (near_of_key told.links s u (found_key link_cmp link_exact told.links (s, u) true (usable_is_told (value_at link_cmp told.links (s, u)) h)))
-
 pub alive_neighbour : (told : Told) (s u : SwitchId) → is_alive told s u ≡ true → IsAmong u (neighbours told s)
-alive_neighbour told s u h = neighbour_told told s u (and_parts (is_told_usable told s u) (is_told_usable told u s) h).0
+alive_neighbour told s u h = near_usable told s u (and_parts (is_told_usable told s u) (is_told_usable told u s) h).0
 
 -- so just the switches that serve an edge switch are its neighbours over such links
 pub served_by_neighbours : (told : Told) (edge a : SwitchId) → list_any (same_switch a) (alive_neighbours told edge) ≡ is_alive told a edge
@@ -52,7 +41,7 @@ served_by_neighbours told edge a = by (is_alive told a edge) refl
     none : is_alive told a edge ≡ false → (b : Bool) → list_any (same_switch a) (alive_neighbours told edge) ≡ b → b ≡ false
     none e false h = refl
     none e true h =
-        let one = one_passes (same_switch a) (alive_neighbours told edge) h in
+        let one = member_passes (same_switch a) (alive_neighbours told edge) h in
         let alive = among_filter (is_alive told edge) one.0 (neighbours told edge) one.1 in
         let is : a ≡ one.0 = same_is a one.0 one.2 in
         sym (subst (λ z. is_alive told edge z ≡ true) (sym is) alive.1) ∙ alive_back told edge a ∙ e
@@ -76,10 +65,6 @@ is_here x a = by (is_eq (id_cmp x a)) (same_switch a x) refl refl
         absurd (false≢true (sym same ∙ eq-eqb a.0 x.0 (ap (λ (z : SwitchId). z.0) (sym is))))
     by false true at same =
         absurd (false≢true (sym at ∙ subst (λ z. is_eq (id_cmp x z) ≡ true) (sym (same_is a x same)) (ap is_eq (tied_itself id_total x))))
-
-pub or_false : (b : Bool) → b ≡ (b || false)
-or_false true = refl
-or_false false = refl
 
 pub any_more : {X : Type 0} (p : X → Bool) (xs : List X) (x : X) → list_any p (xs ++ x ∷ []) ≡ (list_any p xs || p x)
 any_more p xs x = list_any-append p xs (x ∷ []) ∙ ap (λ b. list_any p xs || b) (sym (or_false (p x)))

@@ -1,26 +1,13 @@
 -- What a core switch reaches, by what its aggregation switches serve.
-use Rattle.std.proofs.Common.{◌≡◌, ◌↔◌, ℕ, length, eq-eqb, ◌+◌, ◌++◌, take, ◌==◌, ◌&&◌, Bool, true, false, cond, List, [], ◌∷◌, map, refl, sym, ap, ◌∙◌, subst, inl, inr}
+use Rattle.std.proofs.Common.{◌≡◌, ℕ, length, ◌+◌, ◌++◌, take, ◌==◌, ◌&&◌, Bool, true, false, cond, List, [], ◌∷◌, map, refl, sym, ap, ◌∙◌}
 use Rattle.std.specs.List.{filter, list_any}
-use Rattle.std.specs.Cmp.Lexicographic.{pointwise, pointwise_decides}
-use Rattle.std.proofs.lemmas.Bool.{false≢true, or_cases}
 use Rattle.std.proofs.lemmas.List.{map-append}
 use Rattle.pl_frame.specs.declared.address.SwitchId.{SwitchId}
-use Rattle.pl_layouts.specs.Equality.{same_switch}
 use Rattle.pl_logic.specs.ManagerViews.{Told, alive_neighbours, has_level, is_alive}
 use Rattle.pl_logic.specs.Trees.{best_cores, core_for, cores, largest, reach, turn}
-use Rattle.pl_logic.proofs.Among.{IsAmong}
-use Rattle.pl_manager_rule.proofs.Avoided.{same_is}
 use Rattle.pl_groups.specs.Reaching.{reach_at}
 use Rattle.pl_groups.specs.declared.cores.CoreReach.{CoreReach}
 use Rattle.pl_reports.proofs.Sorting.{filter_more}
-
--- some item passes
-pub one_passes : {X : Type 0} (test : X → Bool) (xs : List X) → list_any test xs ≡ true → (x : X) × IsAmong x xs × (test x ≡ true)
-one_passes test [] h = absurd (false≢true h)
-one_passes test (x ∷ xs) h = elim (or_cases (test x) (list_any test xs) h) [
-  | inl here ↦ (x, inl refl, here)
-  | inr there ↦ let rest = one_passes test xs there in (rest.0, inr rest.1, rest.2)
-]
 
 -- an aggregation switch over an alive link
 abbrev pub is_joined : Told → SwitchId → SwitchId → Bool
@@ -31,9 +18,6 @@ pub reach_alike : (told : Told) (needed : List SwitchId) (a b : SwitchId) → al
     reach told needed a ≡ reach told needed b
 reach_alike told needed a b same =
     ap (λ (xs : List SwitchId). length (filter (λ e. list_any (λ x. is_alive told x e) (filter (λ u. has_level told u 1) xs)) needed)) same
-
-pub ids_alike : (xs ys : List SwitchId) → (pointwise same_switch xs ys ≡ true) ↔ (xs ≡ ys)
-ids_alike = pointwise_decides (λ x y. (λ e. same_is x y e, λ e. subst (λ z. same_switch x z ≡ true) e (eq-eqb x.0 x.0 refl)))
 
 -- ---- one core switch after another
 pub ranked_next : (told : Told) (needed : List SwitchId) (items : List SwitchId) (i : ℕ) (x : SwitchId) (old new : List CoreReach) →

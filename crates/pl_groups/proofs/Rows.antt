@@ -4,13 +4,15 @@ use Rattle.std.specs.Prelude.{unwrap_or}
 use Rattle.std.specs.List.{filter, list_any}
 use Rattle.std.proofs.lemmas.List.{nil_from_length}
 use Rattle.std.proofs.lemmas.List.Sums.{sum_by-cons}
+use Rattle.pl_lemmas.proofs.Bools.{or_false}
 use Rattle.pl_bits.specs.Rows.{either_row, trues}
+use Rattle.pl_bits.proofs.Either.{either_of}
 use Rattle.pl_frame.specs.declared.address.SwitchId.{SwitchId}
 use Rattle.pl_logic.specs.ManagerViews.{Told, alive_neighbours, has_level, id_cmp, is_alive, value_at}
 use Rattle.pl_logic.specs.Trees.{core_reaches}
 use Rattle.pl_groups.specs.Serving.{AreServed, many_served}
 use Rattle.pl_groups.specs.Reaching.{reached_with, with_row}
-use Rattle.pl_groups.proofs.Edges.{Served, any_more, or_false}
+use Rattle.pl_groups.proofs.Edges.{Served, any_more}
 
 -- ---- a row counted
 pub count_is : {X : Type 0} (f : X → Bool) (xs : List X) → trues (map f xs) ≡ length (filter f xs)
@@ -37,9 +39,6 @@ pub none_passes : {X : Type 0} (f : X → Bool) (xs : List X) → map (λ x. fal
 none_passes f xs same = sym (nil_from_length (filter f xs) (sym (count_is f xs) ∙ ap trues (sym same) ∙ none_true xs))
 
 -- ---- rows of two switches
-either_of : {X : Type 0} (f g : X → Bool) (xs : List X) → either_row (map f xs) (map g xs) ≡ map (λ x. f x || g x) xs
-either_of f g [] = refl
-either_of f g (x ∷ xs) = ap (λ bs. (f x || g x) ∷ bs) (either_of f g xs)
 
 -- what is reached by some of the neighbours of a core switch
 abbrev pub reached_in : Told → List SwitchId → SwitchId → Bool

@@ -1,5 +1,5 @@
 -- A list of held frames once one more is held.
-use Rattle.std.proofs.Common.{◌≡◌, ℕ, ◌+◌, ◌==◌, true, false, cond, nat_lt, List, [], ◌∷◌, ◌++◌, length, Some, None, unwrap_or, option_map, is_none, Result, Ok, Err, OnOk, OnErr, Less, Equal, Greater, refl, sym, ap, ◌∙◌, arith, ltb-true, ne_eqb, length-append}
+use Rattle.std.proofs.Common.{◌≡◌, ℕ, ◌+◌, true, cond, List, [], ◌∷◌, ◌++◌, length, Some, None, unwrap_or, option_map, is_none, Result, Ok, Err, OnOk, OnErr, Less, Equal, Greater, refl, sym, ap, ◌∙◌, arith, length-append}
 use Rattle.std.specs.List.{fold, sum_by}
 use Rattle.std.specs.Map.{keys_of, lookup, set_value, values_of}
 use Rattle.std.specs.Ordering.{is_eq, match_ordering, nat_cmp}
@@ -13,6 +13,7 @@ use Rattle.pl_frame.specs.declared.address.Ip4.{Ip4}
 use Rattle.std.proofs.lemmas.Bool.{and_from, and_parts}
 use Rattle.pl_arp.specs.Reception.{Table, hardware_of, same_ip}
 use Rattle.pl_logic.specs.HostViews.{Held, held_for, ip_cmp, with_held}
+use Rattle.pl_logic.proofs.Addresses.{is_eq-nat_cmp}
 use Rattle.pl_host.specs.Waiting.{AreRising, are_unknown}
 
 pub ip_cmp_total : IsTotalOrder ip_cmp
@@ -21,17 +22,6 @@ ip_cmp_total = record {
   trans = λ a b c. nat_cmp_total.trans a.0 b.0 c.0;
   congr = λ a b c. nat_cmp_total.congr a.0 b.0 c.0;
 }
-
--- a test by the order is a test by the number
-is_eq-nat_cmp : (a b : ℕ) → is_eq (nat_cmp a b) ≡ (a == b)
-is_eq-nat_cmp a b =
-    elim (nat_lt a b) as (λ l. nat_lt a b ≡ l → is_eq (cond l Less (cond (a == b) Equal Greater)) ≡ (a == b)) [
-      | true ↦ λ h. let lt = ltb-true a b h in sym (ne_eqb a b (λ e. omega arith))
-      | false ↦ λ h. elim (a == b) as (λ s. is_eq (cond s Equal Greater) ≡ s) [ true ↦ refl | false ↦ refl ]
-    ] refl
-
-pub is_eq-ip_cmp : (a b : Ip4) → is_eq (ip_cmp a b) ≡ same_ip a b
-is_eq-ip_cmp a b = is_eq-nat_cmp a.0 b.0
 
 pub lookup-at : {X : Type 0} (ip : Ip4) (es : List (Ip4 × X)) → lookup (is_at (ip_cmp ip)) es ≡ lookup (same_ip ip) es
 lookup-at ip [] = refl

@@ -9,7 +9,7 @@ use Rattle.std.specs.Cmp.{eq_by_cmp_equiv}
 use Rattle.std.proofs.lemmas.Map.{NonePasses}
 use Rattle.std.proofs.lemmas.Map.Entries.{none_past_head}
 use Rattle.std.proofs.lemmas.Map.Keys.{IsDistinct-from_sorted, sorted_tail}
-use Rattle.pl_host.proofs.Holding.{ip_cmp_total, is_eq-ip_cmp}
+use Rattle.pl_host.proofs.Holding.{ip_cmp_total}
 use Rattle.pl_frame.specs.declared.address.Mac.{Mac}
 use Rattle.pl_frame.specs.declared.address.Ip4.{Ip4}
 use Rattle.pl_arp.specs.declared.packet.Arp.{Arp}
@@ -17,6 +17,7 @@ use Rattle.pl_arp.specs.declared.cache.Me.{Me}
 use Rattle.pl_arp.specs.Reception.{Table, hardware_of, is_target, same_ip, table_after, with_pair}
 use Rattle.pl_arp.proofs.Tables.{hardware_of-others, hardware_of-with_pair}
 use Rattle.pl_logic.specs.HostViews.{Held, held_for, ip_cmp}
+use Rattle.pl_logic.proofs.Addresses.{is_eq-ip_cmp}
 use Rattle.pl_host_rule.specs.HostRule.{released, released_by, still_held}
 use Rattle.pl_host.specs.Waiting.{AreRising, are_unknown}
 

@@ -1,9 +1,10 @@
 -- The steps of a host by their parts.
-use Rattle.std.proofs.Common.{◌≡◌, ℕ, ◌==◌, Bool, true, false, cond, nat_lt, List, [], ◌∷◌, ◌++◌, length, map, append_assoc, Option, Some, Result, Ok, Err, OnOk, refl, sym, ap, ◌∙◌}
+use Rattle.std.proofs.Common.{◌≡◌, ℕ, ◌==◌, false, nat_lt, List, [], ◌∷◌, ◌++◌, length, map, append_assoc, Option, Some, Result, Ok, Err, OnOk, refl, sym, ap, ◌∙◌}
 use Rattle.std.specs.List.{fold}
 use Rattle.std.specs.Map.{keys_of}
 use Rattle.std.proofs.lemmas.List.{map-append}
 use Rattle.std.proofs.lemmas.List.Sums.{fold-append}
+use Rattle.std.proofs.lemmas.Bool.{cond-false}
 use Rattle.pl_frame.specs.declared.address.Ip4.{Ip4}
 use Rattle.pl_frame.specs.Ethernet.{destination_of, kind_of}
 use Rattle.pl_arp.specs.declared.packet.Arp.{Arp}
@@ -44,24 +45,19 @@ group_of-six_bytes (a ∷ b ∷ c ∷ d ∷ []) = refl
 group_of-six_bytes (a ∷ b ∷ c ∷ d ∷ e ∷ []) = refl
 group_of-six_bytes (a ∷ b ∷ c ∷ d ∷ e ∷ f ∷ frame) = refl
 
--- a test that does not hold is passed
-past : {A : Type 0} (b : Bool) (x y : A) → b ≡ false → cond b x y ≡ y
-past true x y h = absurd (cc)
-past false x y h = refl
-
 -- what is left to speak against a frame to one host
 pub skip_of-last : (view : HostView) (frame : List ℕ) (original : ℕ) → nat_lt (length frame) original ≡ false → nat_lt (length frame) 14 ≡ false →
     nat_lt 65553 (length frame) ≡ false → is_foreign view.me false frame ≡ false → (kind_of frame == 0x88b5) ≡ false → (kind_of frame == 0x0806) ≡ false →
     is_group (destination_of frame) ≡ false → skip_of view false frame original ≡ unicast_skip view (other_host view (destination_of frame))
 unfolding skip_of
 skip_of-last view frame original whole long short own other no_arp single =
-    past _ _ _ whole ∙ past _ _ _ long ∙ past _ _ _ short ∙ past _ _ _ own ∙ past _ _ _ other ∙ past _ _ _ no_arp ∙ past _ _ _ single
+    cond-false _ _ _ whole ∙ cond-false _ _ _ long ∙ cond-false _ _ _ short ∙ cond-false _ _ _ own ∙ cond-false _ _ _ other ∙ cond-false _ _ _ no_arp ∙ cond-false _ _ _ single
 
 -- a frame to one host
 pub plays_single : (view : HostView) (frame : List ℕ) (host : Option Me) → is_group (destination_of frame) ≡ false →
     host ≡ other_host view (destination_of frame) → playing_frame view frame ≡ sending_to_host view frame host
 plays_single view frame host single found =
-    past (is_group (destination_of frame)) (sending view frame) (sending_to_host view frame (other_host view (destination_of frame))) single
+    cond-false (is_group (destination_of frame)) (sending view frame) (sending_to_host view frame (other_host view (destination_of frame))) single
     ∙ ap (λ (h : Option Me). sending_to_host view frame h) (sym found)
 
 -- a packet is heard, its answer is sent, and then what waited for it

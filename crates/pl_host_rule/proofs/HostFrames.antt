@@ -4,16 +4,15 @@ use Rattle.std.specs.Result.{result_ok}
 use Rattle.std.specs.Str.{bytes_eq}
 use Rattle.std.proofs.lemmas.Bool.{and_from, and_parts, not_from_false}
 use Rattle.std.proofs.lemmas.List.Folds.{list_all-append}
-use Rattle.byteorder.specs.Endian.{big_bytes}
-use Rattle.byteorder.specs.Numbers.{length-bytes_high_first}
 use Rattle.pl_frame.specs.declared.address.Mac.{Mac}
 use Rattle.pl_frame.specs.Ethernet.{Fields, frame_of, kind_of, payload_of, with_destination}
-use Rattle.pl_frame.proofs.Fields.{fields_of-frame_of, fields_of-with_destination}
+use Rattle.pl_frame.proofs.Fields.{fields_of-frame_of, fields_of-with_destination, length-frame_of}
 use Rattle.pl_arp.specs.declared.packet.Arp.{Arp}
 use Rattle.pl_arp.specs.declared.packet.ArpError.{ArpError}
 use Rattle.pl_arp.specs.declared.packet.ArpError.TheVariants.{Cut, OtherKind}
 use Rattle.pl_arp.specs.declared.cache.Me.{Me}
 use Rattle.pl_arp.specs.Packet.{ethernet_ipv4, fields_at_front, layout}
+use Rattle.pl_arp.proofs.Lengths.{length-layout}
 use Rattle.pl_layouts.specs.declared.membership.Change.{Change}
 use Rattle.pl_layouts.specs.Checksum.{checksum_of}
 use Rattle.pl_layouts.specs.Frames.{packet_in}
@@ -45,40 +44,12 @@ data_from_parts frame is =
     (and_from (nat_le 14 (length frame)) (nat_le (length frame) 65553) (le-leb 14 (length frame) is.long) (le-leb (length frame) 65553 is.short))
     is.other
 
--- a frame that is put together of its fields
-length-frame_of : (f : Fields) → length f.dst.0 ≡ 6 → length f.src.0 ≡ 6 → length (frame_of f) ≡ 14 + length f.payload
-length-frame_of f six six' =
-    let two : length (big_bytes 2 f.kind) ≡ 2 = length-bytes_high_first 2 f.kind in
-    omega (
-      arith,
-      length-append f.dst.0 (f.src.0 ++ (big_bytes 2 f.kind ++ f.payload)),
-      length-append f.src.0 (big_bytes 2 f.kind ++ f.payload),
-      length-append (big_bytes 2 f.kind) f.payload,
-    )
-
 pub data_frame_of : (f : Fields) → length f.dst.0 ≡ 6 → length f.src.0 ≡ 6 → f.kind < 2 ^ 16 → (f.kind == 0x88b5) ≡ false →
     length f.payload ≤ 65539 → is_data (frame_of f) ≡ true
 data_frame_of f six six' small other short =
     let long = length-frame_of f six six' in
     let kind : kind_of (frame_of f) ≡ f.kind = ap (λ (g : Fields). g.kind) (fields_of-frame_of f six six' small) in
     data_from (frame_of f) (omega arith) (omega arith) (ap (λ n. n == 0x88b5) kind ∙ other)
-
-length-layout : (arp : Arp) → length arp.sha.0 ≡ 6 → length arp.tha.0 ≡ 6 → length (layout arp) ≡ 28
-length-layout arp sha tha =
-    let op : length (big_bytes 2 arp.op) ≡ 2 = length-bytes_high_first 2 arp.op in
-    let spa : length (big_bytes 4 arp.spa.0) ≡ 4 = length-bytes_high_first 4 arp.spa.0 in
-    let tpa : length (big_bytes 4 arp.tpa.0) ≡ 4 = length-bytes_high_first 4 arp.tpa.0 in
-    let at_tha : List ℕ = arp.tha.0 ++ big_bytes 4 arp.tpa.0 in
-    let at_spa : List ℕ = big_bytes 4 arp.spa.0 ++ at_tha in
-    let at_sha : List ℕ = arp.sha.0 ++ at_spa in
-    let head : length (layout arp) ≡ 6 + length (big_bytes 2 arp.op ++ at_sha) = length-append ethernet_ipv4 (big_bytes 2 arp.op ++ at_sha) in
-    omega (
-      arith,
-      length-append (big_bytes 2 arp.op) at_sha,
-      length-append arp.sha.0 at_spa,
-      length-append (big_bytes 4 arp.spa.0) at_tha,
-      length-append arp.tha.0 (big_bytes 4 arp.tpa.0),
-    )
 
 -- an ARP frame of addresses of six bytes
 pub data_arp_frame : (dst : Mac) (arp : Arp) → length dst.0 ≡ 6 → length arp.sha.0 ≡ 6 → length arp.tha.0 ≡ 6 → is_data (arp_frame dst arp) ≡ true

@@ -8,6 +8,7 @@ use Rattle.std.proofs.lemmas.Map.Lookups.{exact_unsigned}
 use Rattle.std.proofs.lemmas.Map.Views.{any-filter_same}
 use Rattle.byteorder.specs.Endian.{big_number, big_bytes}
 use Rattle.byteorder.specs.Numbers.{big_from-bytes}
+use Rattle.pl_lemmas.proofs.Bools.{or_swap, or_twice}
 use Rattle.pl_frame.specs.declared.address.Mac.{Mac}
 use Rattle.pl_frame.specs.declared.address.Ip4.{Ip4}
 use Rattle.pl_frame.specs.Ethernet.{Fields, frame_of}
@@ -31,15 +32,6 @@ has_group-without m n joined =
     any-filter_same (λ (group : Ip4). group_number group == n) (λ (group : Ip4). not (group_number group == m)) (not (n == m))
     (λ group h. ap (λ x. not (x == m)) ((Decides-eqb (group_number group) n).0 h)) joined
 
-or_once : (a b : Bool) → (a || b) ≡ (a || (a || b))
-or_once true b = refl
-or_once false b = refl
-
-or_swap : (a b c : Bool) → (a || (b || c)) ≡ (b || (a || c))
-or_swap true true c = refl
-or_swap true false c = refl
-or_swap false b c = refl
-
 -- and with one more in that one too
 pub has_group-insert : (joined : List Ip4) (group : Ip4) (n : ℕ) → has_group (insert_key ip_cmp joined group) n ≡ ((group_number group == n) || has_group joined n)
 has_group-insert [] group n = refl
@@ -52,7 +44,7 @@ has_group-insert (first ∷ joined) group n =
       | Less ↦ λ h. refl
       | Equal ↦ λ h.
           let same : group.0 ≡ first.0 = exact_unsigned group.0 first.0 h in
-          or_once at_first (has_group joined n) ∙ ap (λ x. (x % 2 ^ 23 == n) || (at_first || has_group joined n)) (sym same)
+          or_twice at_first (has_group joined n) ∙ ap (λ x. (x % 2 ^ 23 == n) || (at_first || has_group joined n)) (sym same)
       | Greater ↦ λ h. ap (λ b. at_first || b) (has_group-insert joined group n) ∙ or_swap at_first (group_number group == n) (has_group joined n)
     ] refl
 

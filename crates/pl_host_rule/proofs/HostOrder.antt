@@ -6,7 +6,7 @@ use Rattle.std.specs.Map.{keys_of}
 use Rattle.std.specs.Ordering.{match_ordering}
 use Rattle.std.specs.BTreeMap.{insert_entry}
 use Rattle.std.specs.BTreeSet.{insert_key}
-use Rattle.std.proofs.lemmas.Bool.{and_from, and_parts, eqb-false, leb-false, not_from_false, or_from, or_parts}
+use Rattle.std.proofs.lemmas.Bool.{and_from, and_parts, eqb-false, leb-false, not-true, not_from_false, or_from, or_parts}
 use Rattle.std.proofs.lemmas.Bool.Decides.{Decides-eqb}
 use Rattle.pl_frame.specs.declared.address.Ip4.{Ip4}
 use Rattle.pl_frame.specs.Ethernet.{destination_of, kind_of, with_destination}
@@ -112,10 +112,6 @@ absent_filter p (group ∷ groups) n absent =
     elim (p group) as (λ b. has_group (cond b (group ∷ filter p groups) (filter p groups)) n ≡ false)
     [ true ↦ or_from (group_number group == n) (has_group (filter p groups) n) parts.0 rest | false ↦ rest ]
 
-not_true : (b : Bool) → not b ≡ true → b ≡ false
-not_true true h = absurd (cc)
-not_true false h = refl
-
 apart_filter : (p : Ip4 → Bool) (groups : List Ip4) → are_apart groups ≡ true → are_apart (filter p groups) ≡ true
 apart_filter p [] apart = refl
 apart_filter p (group ∷ groups) apart =
@@ -124,7 +120,7 @@ apart_filter p (group ∷ groups) apart =
     let rest = apart_filter p groups parts.1 in
     elim (p group) as (λ b. are_apart (cond b (group ∷ filter p groups) (filter p groups)) ≡ true) [
       | true ↦ and_from (not (has_group (filter p groups) n)) (are_apart (filter p groups))
-          (not_from_false (has_group (filter p groups) n) (absent_filter p groups n (not_true (has_group groups n) parts.0))) rest
+          (not_from_false (has_group (filter p groups) n) (absent_filter p groups n (not-true (has_group groups n) parts.0))) rest
       | false ↦ rest
     ]
 
@@ -143,7 +139,7 @@ apart_insert group (other ∷ groups) apart absent =
       | Greater ↦
           let gone : has_group rest n ≡ false =
           has_group-insert groups group n
-          ∙ or_from (group_number group == n) (has_group groups n) (turned_away n (group_number group) away.0) (not_true (has_group groups n) parts.0) in
+          ∙ or_from (group_number group == n) (has_group groups n) (turned_away n (group_number group) away.0) (not-true (has_group groups n) parts.0) in
           and_from (not (has_group rest n)) (are_apart rest) (not_from_false (has_group rest n) gone) (apart_insert group groups parts.1 away.1)
     ]
 

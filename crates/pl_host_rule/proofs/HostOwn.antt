@@ -35,6 +35,7 @@ use Rattle.pl_layouts.specs.Equality.{same_mac}
 use Rattle.pl_layouts.specs.Frames.{is_arp, packet_in}
 use Rattle.pl_layouts.specs.Memberships.{group_of, is_group}
 use Rattle.pl_layouts.specs.Reports.{group_mac, header_of, membership_frame, message_of_change, receiver_of}
+use Rattle.pl_layouts.proofs.Sameness.{mac_itself}
 use Rattle.pl_logic.specs.HostDuties.{HoldsData, HoldsOwn, SendsOwn, are_own, is_of, is_own}
 use Rattle.pl_logic.specs.HostInputs.{HostAnswer, HostInput}
 use Rattle.pl_logic.specs.HostViews.{Held, HostView, boot_host, has_group, held_for, ip_cmp, with_held}
@@ -44,9 +45,6 @@ use Rattle.pl_logic.specs.HostInputs.HostAnswer.{Nothing, Played, Received}
 use Rattle.pl_host_rule.proofs.HostFrames.{packet_in-addresses}
 use Rattle.pl_host_rule.proofs.HostSends.{knows_six, sent-Send, six_after, unskipped}
 use Rattle.pl_journal.specs.Causes.{is_routed}
-
-same_self : (mac : Mac) → same_mac mac mac ≡ true
-same_self mac = (bytes_eq-Decides mac.0 mac.0).1 refl
 
 -- a frame by its fields
 abbrev packet_by : ℕ → List ℕ → Option Arp
@@ -60,7 +58,7 @@ own_frame_of me f six six' small own = ap (own_by me) (fields_of-frame_of f six 
 
 own_parts : (me : Me) (f : Fields) → f.src ≡ me.mac → is_of me (packet_by f.kind f.payload) ≡ true → own_by me f ≡ true
 own_parts me f src of =
-    and_from (same_mac f.src me.mac) (is_of me (packet_by f.kind f.payload)) (ap (λ mac. same_mac mac me.mac) src ∙ same_self me.mac) of
+    and_from (same_mac f.src me.mac) (is_of me (packet_by f.kind f.payload)) (ap (λ mac. same_mac mac me.mac) src ∙ mac_itself me.mac) of
 
 -- a packet that is read, whatever speaks against it
 of_read : (me : Me) (short strange : Bool) (a b : ArpError) (arp : Arp) → is_of me (Some arp) ≡ true →

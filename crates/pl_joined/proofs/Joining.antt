@@ -1,9 +1,10 @@
 -- Each event keeps it that each host has joined what its own frames said.
-use Rattle.std.proofs.Common.{◌≡◌, ℕ, zero, suc, ◌+◌, ◌<◌, ◌==◌, if◌then◌else◌, List, [], ◌∷◌, ◌++◌, map, Some, length, reverse, set, slice_get, refl, sym, ap, ◌∙◌, subst, arith, inl, inr}
+use Rattle.std.proofs.Common.{◌≡◌, ℕ, ◌+◌, ◌==◌, if◌then◌else◌, List, [], ◌∷◌, ◌++◌, map, Some, reverse, set, slice_get, refl, sym, ap, ◌∙◌, subst, inl, inr}
 use Rattle.std.specs.List.{AllByRecursion, fold}
 use Rattle.std.proofs.lemmas.Bool.{cases_eq, cond-false, cond-true, eq-eqb, ne_eqb}
 use Rattle.std.proofs.lemmas.List.{reverse-append}
 use Rattle.std.proofs.lemmas.Option.{same_Some, slice_get_within}
+use Rattle.pl_lemmas.proofs.Lists.{set_get, set_get_other}
 use Rattle.pl_layouts.specs.Memberships.{changes_in}
 use Rattle.pl_journal.specs.declared.entry.Entry.{Entry}
 use Rattle.pl_journal.specs.declared.entry.Entry.TheVariants.{Sent}
@@ -58,18 +59,6 @@ others_sent h g n other (Send frame ∷ acts) w =
     others_sent h g n other acts (host_act_done h w (Send frame))
     ∙ one_sent w.journal (w.begun + 1) h g n frame
     ∙ cond-false (h == g) (joined_after (changes_in frame) n (has_joined (reverse w.journal) g n)) (has_joined (reverse w.journal) g n) (ne_eqb h g other)
-
-set_get : {T : Type 0} (xs : List T) (n : ℕ) (x : T) → n < length xs → slice_get (set xs n x) n ≡ Some x
-set_get [] n x within = absurd (omega arith)
-set_get (y ∷ xs) zero x within = refl
-set_get (y ∷ xs) (suc n) x within = set_get xs n x (omega arith)
-
-set_get_other : {T : Type 0} (xs : List T) (n m : ℕ) (x : T) → (n ≡ m → ⊥) → slice_get (set xs n x) m ≡ slice_get xs m
-set_get_other [] n m x other = refl
-set_get_other (y ∷ xs) zero zero x other = absurd (other refl)
-set_get_other (y ∷ xs) zero (suc m) x other = refl
-set_get_other (y ∷ xs) (suc n) zero x other = refl
-set_get_other (y ∷ xs) (suc n) (suc m) x other = set_get_other xs n m x (λ same. other (ap suc same))
 
 module _ (rule : HostRule) (joins : HostsJoinBySending rule) where
   pub host_joined : (w : WorldView) (h : ℕ) (input : HostInput) (answer : HostAnswer) (new : WorldView) → AllByRecursion HoldsData w.hosts → HaveJoined w →

@@ -2,6 +2,7 @@
 use Rattle.std.proofs.Common.{◌≡◌, ◌≢◌, ℕ, ◌≤◌, Bool, true, false, cond, ◌==◌, List, [], ◌∷◌, ◌++◌, Option, Some, None, is_some, IsSome, refl, sym, ap, ◌∙◌, inl, inr, arith}
 use Rattle.std.proofs.lemmas.Bool.{eqb-true, eq-eqb, ne_eqb, cases_Bool, cond-true, cond-false}
 use Rattle.std.proofs.lemmas.Option.{none-some, same_Some}
+use Rattle.pl_lemmas.proofs.Options.{none_of}
 use Rattle.pl_pmac.specs.declared.pmac.Pmac.{Pmac}
 use Rattle.pl_pmac.specs.Pmac.{pmac_number}
 use Rattle.pl_wiring.specs.declared.label.SwitchNo.{SwitchNo}
@@ -57,14 +58,10 @@ holder_stays plan (Granted y h e p ∷ newer) past x host run held =
     stays (pmac_number y) x (holder (newer ++ past)) host h.0 run.1.fresh (holder_stays plan newer past x host run.0 held)
 holder_stays plan (entry ∷ newer) past x host run held = holder_stays plan newer past x host run.0 held
 
-no_spot : {A : Type 0} (o : Option A) → is_some o ≡ false → o ≡ None
-no_spot None h = refl
-no_spot (Some x) h = absurd (cc)
-
 pub spot_stays : (plan : Plan) (newer past : List Entry) (x : ℕ) (there : Spot) → RunTo plan (newer ++ past) → spot past x ≡ Some there → spot (newer ++ past) x ≡ Some there
 spot_stays plan [] past x there run stands = stands
 spot_stays plan (Granted y h e p ∷ newer) past x there run stands =
-    let fresh = no_spot (spot (newer ++ past) (pmac_number y)) (held_at_a_spot (newer ++ past) (pmac_number y) ∙ ap is_some run.1.fresh) in
+    let fresh = none_of (spot (newer ++ past) (pmac_number y)) (held_at_a_spot (newer ++ past) (pmac_number y) ∙ ap is_some run.1.fresh) in
     stays (pmac_number y) x (spot (newer ++ past)) there (at_port e.0 p) fresh (spot_stays plan newer past x there run.0 stands)
 spot_stays plan (entry ∷ newer) past x there run stands = spot_stays plan newer past x there run.0 stands
 

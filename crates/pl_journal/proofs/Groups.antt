@@ -1,9 +1,10 @@
 -- Where frames of groups arrive.
-use Rattle.std.proofs.Common.{◌≡◌, ◌≢◌, ◌≤◌, ◌⊎◌, ℕ, ◌+◌, ◌%◌, Bool, true, false, ◌==◌, ◌&&◌, ◌||◌, List, [], ◌∷◌, ◌++◌, slice_index, Option, Some, None, is_some, Any, refl, sym, ap, ◌∙◌, subst, inl, inr, arith}
+use Rattle.std.proofs.Common.{◌≡◌, ◌≢◌, ◌≤◌, ◌⊎◌, ℕ, ◌+◌, ◌%◌, Bool, true, false, ◌==◌, ◌&&◌, ◌||◌, List, [], ◌∷◌, ◌++◌, slice_index, Option, Some, None, is_some, Any, refl, sym, ap, ◌∙◌, subst, inl, inr, arith, not}
 use Rattle.std.proofs.lemmas.Bool.{eqb-true, ne_eqb, or_cases, and_parts, and_from, cases_Bool, cond-true, cond-false, cond_both, both_ways, MatchBool-at_true}
 use Rattle.pl_frame.specs.Ethernet.{destination_of, source_of}
+use Rattle.pl_frame.specs.declared.address.Mac.{Mac}
 use Rattle.pl_layouts.specs.Frames.{mac_number}
-use Rattle.pl_layouts.specs.Memberships.{flood, group_of}
+use Rattle.pl_layouts.specs.Memberships.{flood, group_of, is_group}
 use Rattle.pl_wiring.specs.declared.host.Host.{Host}
 use Rattle.pl_wiring.specs.declared.host.HostNo.{HostNo}
 use Rattle.pl_wiring.specs.Plan.{IsHostMac, IsPlan, Plan}
@@ -11,7 +12,7 @@ use Rattle.pl_journal.specs.declared.entry.Entry.{Entry}
 use Rattle.pl_journal.specs.declared.entry.Entry.TheVariants.{Arrived, Moved}
 use Rattle.pl_journal.specs.Places.{Spot, at_port, is_at, spot, spot_of}
 use Rattle.pl_journal.specs.Flights.{beginning, root}
-use Rattle.pl_journal.specs.Causes.{goes_to_group}
+use Rattle.pl_journal.specs.Causes.{goes_to_group, is_routed}
 use Rattle.pl_journal.specs.Lossy.{ArrivesByAddress, ArrivesByGroup, Needs, RunTo, copies_at, copies_since_move, has_joined, is_member, is_same_place}
 use Rattle.pl_journal.proofs.Copies.{copies_once}
 use Rattle.pl_journal.proofs.Hosts.{same_spot_itself}
@@ -125,3 +126,6 @@ once_where_it_stands plan past r host run = elim (somewhere (spot_of plan past h
       let once = copies_once plan past r there.0 run in
       omega arith
 ]
+
+pub unicast_is_not_routed : (mac : Mac) → is_group mac ≡ false → is_routed (group_of mac) ≡ false
+unicast_is_not_routed mac one = ap is_routed (cond-true (not (is_group mac)) None _ (ap not one))

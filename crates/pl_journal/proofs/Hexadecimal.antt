@@ -6,11 +6,11 @@ use Rattle.std.proofs.lemmas.List.FromFn.{get_or-map-range_with_len}
 use Rattle.hex.specs.Hex.{encode_lower, encode_with, lower_digits}
 use Rattle.pl_frame.specs.Address.{hex_pair}
 
-encode_with-append : (t xs ys : List ℕ) → encode_with t (xs ++ ys) ≡ encode_with t xs ++ encode_with t ys
+pub encode_append : (t xs ys : List ℕ) → encode_with t (xs ++ ys) ≡ encode_with t xs ++ encode_with t ys
 unfolding encode_with
-encode_with-append t [] ys = refl
-encode_with-append t (x ∷ xs) ys =
-    ap (λ zs. slice_index t (x / 16) ∷ slice_index t (x % 16) ∷ zs) (encode_with-append t xs ys)
+encode_append t [] ys = refl
+encode_append t (x ∷ xs) ys =
+    ap (λ zs. slice_index t (x / 16) ∷ slice_index t (x % 16) ∷ zs) (encode_append t xs ys)
 
 last_byte : (b : ℕ) → encode_lower (b ∷ []) ≡ slice_index lower_digits (b / 16) ∷ slice_index lower_digits (b % 16) ∷ []
 unfolding encode_with
@@ -30,4 +30,4 @@ pair_at b small =
 pub one_byte_more : (xs : List ℕ) (i : ℕ) → i < length xs
     → encode_lower (take i xs) ++ encode_lower (get_or xs i 0 ∷ []) ≡ encode_lower (take (i + 1) xs)
 one_byte_more xs i within =
-    sym (ap encode_lower (take_more xs i 0 within) ∙ encode_with-append lower_digits (take i xs) (get_or xs i 0 ∷ []))
+    sym (ap encode_lower (take_more xs i 0 within) ∙ encode_append lower_digits (take i xs) (get_or xs i 0 ∷ []))

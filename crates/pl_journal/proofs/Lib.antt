@@ -10,3 +10,4 @@ pub mod Links
 pub mod Copies
 pub mod Groups
 pub mod LiveLegs
+pub mod Levels

@@ -1,9 +1,10 @@
 -- The frames of a run are numbered in the order in which they begin, and end at most once.
-use Rattle.std.proofs.Common.{◌≡◌, ◌⊎◌, ℕ, zero, suc, ◌+◌, ◌≤◌, true, false, cond, ◌==◌, ◌||◌, List, [], ◌∷◌, ◌++◌, reverse, filter_map, Some, None, refl, sym, ap, ◌∙◌, subst, inl, inr, arith, append-nil}
+use Rattle.std.proofs.Common.{◌≡◌, ◌⊎◌, ℕ, suc, ◌+◌, ◌≤◌, true, false, cond, ◌==◌, ◌||◌, List, [], ◌∷◌, ◌++◌, reverse, filter_map, Some, None, refl, sym, ap, ◌∙◌, subst, inl, inr, arith, append-nil}
 use Rattle.std.specs.List.{range_with_len}
 use Rattle.std.proofs.lemmas.Bool.{false≢true, eqb-true, eqb-false, eq-eqb, ne_eqb, or_cases, or_left, or_right, or_parts, and_parts, and_from, cases_Bool, cases_eq, cond_both, both_ways}
 use Rattle.std.proofs.lemmas.List.{reverse-append, reverse-reverse}
 use Rattle.std.proofs.lemmas.List.Elements.{filter_map-append}
+use Rattle.pl_lemmas.proofs.Lists.{range_more}
 use Rattle.pl_wiring.specs.Plan.{Plan}
 use Rattle.pl_journal.specs.declared.entry.Entry.{Entry}
 use Rattle.pl_journal.specs.declared.entry.Entry.TheVariants.{Sent, Made, Copied, Arrived, Taken, Dropped}
@@ -86,12 +87,6 @@ root_is_begun plan (Copied g c ∷ past) id run h =
     (λ other. root_is_begun plan past id run.0 (elim (or_cases (c == id) (is_begun past id) h) [ inl same ↦ absurd (both_ways (c == id) other same) | inr old ↦ old ])))
 root_is_begun plan (entry ∷ past) id run h = root_is_begun plan past id run.0 h
 
-numbers_more : (a n : ℕ) → range_with_len a (suc n) ≡ range_with_len a n ++ (a + n) ∷ []
-numbers_more a zero = ap (λ m. m ∷ []) (omega arith)
-numbers_more a (suc n) =
-    let next : a + 1 + n ≡ a + suc n = omega arith in
-    ap (λ r. a ∷ r) (numbers_more (a + 1) n ∙ ap (λ m. range_with_len (a + 1) n ++ m ∷ []) next)
-
 abbrev ids : List Entry → List ℕ
 ids journal = filter_map begun_by journal
 
@@ -104,7 +99,7 @@ ids_more past entry g is next before =
     let one : 1 + begun past ≡ g = omega arith in
     let long : begun past + 1 ≡ suc (begun past) = omega arith in
     split ∙ ap (λ r. ids (reverse past) ++ r) last ∙ ap (λ r. r ++ g ∷ []) before
-    ∙ ap (λ n. range_with_len 1 (begun past) ++ n ∷ []) (sym one) ∙ sym (numbers_more 1 (begun past)) ∙ ap (range_with_len 1) (sym long)
+    ∙ ap (λ n. range_with_len 1 (begun past) ++ n ∷ []) (sym one) ∙ sym (range_more 1 (begun past)) ∙ ap (range_with_len 1) (sym long)
 
 ids_same : (past : List Entry) (entry : Entry) → begun_by entry ≡ None → ids (reverse (entry ∷ past)) ≡ ids (reverse past)
 ids_same past entry is =

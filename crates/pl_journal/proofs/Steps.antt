@@ -11,20 +11,20 @@ IsRunTo plan past = RunTo plan past
 abbrev IsTrailTo : Plan → List Entry → Type 0
 IsTrailTo plan past = GoodTrailTo plan past
 
-reverse-end : (journal : List Entry) (entry : Entry) → reverse (journal ++ entry ∷ []) ≡ entry ∷ reverse journal
-reverse-end journal entry = reverse-append journal (entry ∷ [])
+pub past_more : (journal : List Entry) (entry : Entry) → reverse (journal ++ entry ∷ []) ≡ entry ∷ reverse journal
+past_more journal entry = reverse-append journal (entry ∷ [])
 
 pub run_goes_on : (plan : Plan) (journal : List Entry) (entry : Entry) → Run plan journal → Needs plan (reverse journal) entry → Run plan (journal ++ entry ∷ [])
-run_goes_on plan journal entry run needs = subst (IsRunTo plan) (sym (reverse-end journal entry)) (run, needs)
+run_goes_on plan journal entry run needs = subst (IsRunTo plan) (sym (past_more journal entry)) (run, needs)
 
 pub run_went_on : (plan : Plan) (journal : List Entry) (entry : Entry) → Run plan (journal ++ entry ∷ []) → Run plan journal × Needs plan (reverse journal) entry
-run_went_on plan journal entry run = subst (IsRunTo plan) (reverse-end journal entry) run
+run_went_on plan journal entry run = subst (IsRunTo plan) (past_more journal entry) run
 
 pub trail_goes_on : (plan : Plan) (journal : List Entry) (entry : Entry) → GoodTrail plan journal → CrossesWell plan (reverse journal) entry → GoodTrail plan (journal ++ entry ∷ [])
-trail_goes_on plan journal entry trail crosses = subst (IsTrailTo plan) (sym (reverse-end journal entry)) (trail, crosses)
+trail_goes_on plan journal entry trail crosses = subst (IsTrailTo plan) (sym (past_more journal entry)) (trail, crosses)
 
 pub trail_went_on : (plan : Plan) (journal : List Entry) (entry : Entry) → GoodTrail plan (journal ++ entry ∷ []) → GoodTrail plan journal × CrossesWell plan (reverse journal) entry
-trail_went_on plan journal entry trail = subst (IsTrailTo plan) (reverse-end journal entry) trail
+trail_went_on plan journal entry trail = subst (IsTrailTo plan) (past_more journal entry) trail
 
 -- without the newest entries
 pub run_before : (plan : Plan) (newer past : List Entry) → RunTo plan (newer ++ past) → RunTo plan past

@@ -1,6 +1,6 @@
 -- Where places are true, votes are in order and numbers are those that were given, placed edge switches stand apart, and no switch takes
 -- another switch for a host.
-use Rattle.std.proofs.Common.{◌≡◌, ℕ, ◌+◌, ◌<◌, ◌&&◌, Bool, true, false, List, [], Option, Some, None, is_none, is_some, refl, sym, ap, subst, arith, eqb-true, inl, inr}
+use Rattle.std.proofs.Common.{◌≡◌, ℕ, ◌+◌, ◌<◌, ◌&&◌, Bool, true, false, List, [], Some, refl, sym, ap, subst, arith, inl, inr}
 use Rattle.std.proofs.lemmas.Bool.{cases_eq, cases_lt}
 use Rattle.std.proofs.lemmas.Option.{get_or_from_slice_get}
 use Rattle.pl_pmac.specs.declared.pmac.Pmac.{Pmac}
@@ -9,13 +9,13 @@ use Rattle.pl_wiring.specs.declared.label.Label.TheVariants.{Aggregation, Core, 
 use Rattle.pl_wiring.specs.Labels.{edge_count, label_of, switch_count}
 use Rattle.pl_wiring.specs.Plan.{IsPlan}
 use Rattle.pl_layouts.specs.Placement.{is_known}
+use Rattle.pl_layouts.proofs.Known.{known_is}
 use Rattle.pl_wiring.proofs.Entered.{entry_at-in_range}
 use Rattle.pl_wiring.proofs.LabelOrder.{label_of-aggregation, label_of-core}
-use Rattle.pl_logic.specs.declared.neighbour.Neighbour.{Neighbour}
-use Rattle.pl_logic.specs.declared.neighbour.PortRecord.{PortRecord}
 use Rattle.pl_logic.specs.PortRecords.{is_open_to_hosts, port_of}
 use Rattle.pl_logic.specs.SwitchViews.{SwitchView}
 use Rattle.pl_logic.proofs.Among.{among_of_Contains, any_among}
+use Rattle.pl_logic.proofs.Ports.{closed_by}
 use Rattle.pl_switch_rule.specs.Granting.{is_local}
 use Rattle.pl_world.specs.declared.item.Item.{Item}
 use Rattle.pl_world.specs.declared.item.Item.TheVariants.{Data}
@@ -33,10 +33,6 @@ use Rattle.pl_pods.specs.Pods.{AreGiven, id_of}
 use Rattle.pl_pods.proofs.Numbers.{numbers_differ}
 use Rattle.pl_addresses.specs.Addressed.{IsGrounded}
 use Rattle.pl_journal.specs.Flights.{label_level}
-
-known_is : (o : Option ℕ) (n : ℕ) → is_known o n ≡ true → o ≡ Some n
-known_is None n is = absurd (cc is)
-known_is (Some m) n is = ap Some (eqb-true m n is)
 
 -- a switch of level 0 in a pod has the label of an edge switch of the pod
 edge_of : (label : Label) (pod : ℕ) → 0 ≡ label_level label → pod_of label ≡ Some pod → (i : ℕ) × (label ≡ Edge pod i)
@@ -94,14 +90,6 @@ module _ (f : ControlPlane) (is : IsPlan f.plan) (placed : ArePlaced f.plan f) (
       one_pod : (a b : Label) (pod i other j : ℕ) → a ≡ b → a ≡ Edge pod i → b ≡ Edge other j → pod ≡ other
       one_pod a b pod i other j same one another = cc (same, one, another)
 
--- where something was heard and no host is, no host is taken in
-shut : (r : PortRecord) → r.host ≡ false → is_some r.heard ≡ true → is_open_to_hosts r ≡ false
-shut r none heard = rw none (closed r.heard heard)
-  where
-    closed : (heard : Option Neighbour) → is_some heard ≡ true → is_none heard ≡ false
-    closed None is = absurd (cc is)
-    closed (Some n) is = refl
-
 pub grounded : (w : WorldView) → IsCounted w → ArePlaced w.plan (control_plane w) → AreVoting (control_plane w) → AreGiven (control_plane w) → IsGrounded w
 grounded w counted placed voting given =
     let is = counted.formed.plan in
@@ -119,5 +107,5 @@ grounded w counted placed voting given =
           let within = (joined_there f.plan s port t.0 q is joined).1 in
           let any : has_data (out_of w s port) ≡ true = any_among is_data_item (Data id frame) (out_of w s port) (among_of_Contains (Data id frame) (out_of w s port) waits) refl in
           let carried : f.carries s port ≡ true = subst (λ (items : List Item). has_data items ≡ true) (sym (entry_at-in_range [] w.plan.k w.out s port within)) any in
-          subst (λ (y : SwitchView). is_open_to_hosts (port_of y q) ≡ false) there (shut (port_of (f.view t.0) q) link.recorded.no_host (link.evidence carried));
+          subst (λ (y : SwitchView). is_open_to_hosts (port_of y q) ≡ false) there (closed_by (port_of (f.view t.0) q) link.recorded.no_host (link.evidence carried));
     }

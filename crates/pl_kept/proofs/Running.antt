@@ -3,7 +3,6 @@ use Rattle.std.proofs.Common.{◌≡◌, List, [], ◌∷◌, None, refl, sym, s
 use Rattle.std.proofs.lemmas.Option.{none-some}
 use Rattle.pl_wiring.specs.Plan.{Plan}
 use Rattle.pl_journal.specs.declared.entry.Entry.{Entry}
-use Rattle.pl_journal.specs.declared.entry.Entry.TheVariants.{Granted}
 use Rattle.pl_logic.specs.HostDuties.{HostsSendData, HostsSendOwn}
 use Rattle.pl_logic.specs.HostInputs.{HostRule}
 use Rattle.pl_logic.specs.ManagerDuties.{ManagerRule}
@@ -27,8 +26,7 @@ use Rattle.pl_control_plane.proofs.Standing.{hosts_at_first}
 use Rattle.pl_places.proofs.Beginning.{placed_at_first}
 use Rattle.pl_votes.proofs.Booted.{votes_at_first}
 use Rattle.pl_pods.proofs.Booted.{given_at_first}
-use Rattle.pl_addresses.proofs.Entries.{IsQuietEntry}
-use Rattle.pl_addresses.proofs.Runs.{boots_in_order}
+use Rattle.pl_addresses.proofs.Runs.{boots_in_order, mark_quiet}
 use Rattle.pl_addresses.proofs.TurnQueues.{Parts, one_quiet}
 use Rattle.pl_addresses.proofs.Turns.{InOrder}
 use Rattle.pl_addresses.specs.InOrder.{IsInOrder}
@@ -50,9 +48,6 @@ kept_at_first plan limits can =
     }
 
 -- ---- a mark grants nothing
-mark_quiet : (e : Entry) → IsMark e → IsQuietEntry e
-mark_quiet (Granted pmac host switch port) is = absurd is
-mark_quiet e is = λ x. refl
 
 mark_in_order : (w : WorldView) (e : Entry) → IsMark e → IsInOrder w → IsInOrder (noted w e)
 mark_in_order w e is o =

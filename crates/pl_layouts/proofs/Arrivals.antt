@@ -6,6 +6,7 @@ use Rattle.std.proofs.lemmas.Bool.{ltb-false}
 use Rattle.std.proofs.lemmas.List.{take-append-drop, drop-drop, length-take-le, length-drop, take-append-le, drop-append-le}
 use Rattle.byteorder.specs.Endian.{big_from, big_number}
 use Rattle.byteorder.specs.Numbers.{big_from-take}
+use Rattle.pl_lemmas.proofs.Lists.{next_part}
 use Rattle.pl_frame.specs.declared.address.Mac.{Mac}
 use Rattle.pl_frame.proofs.Fields.{front_of, rest_of}
 use Rattle.pl_arp.specs.declared.packet.Arp.{Arp}
@@ -100,10 +101,6 @@ unreadable_parts dst src rest from to six_dst six_src six_from six_to =
     ap (λ f. put to 0 (put from 6 (put_if false from 22 f))) (put_if_false to 32 frame) ∙ ap (λ f. put to 0 (put from 6 f)) (put_if_false from 22 frame)
     ∙ ap (put to 0) (put_at from 6 dst src rest six_dst six_src six_from) ∙ put_at to 0 [] dst (bytes_or from src ++ rest) refl six_dst six_to
 
--- the next n bytes from a place on, and what follows them
-next : (n at : ℕ) (p : List ℕ) → drop at p ≡ take n (drop at p) ++ drop (at + n) p
-next n at p = sym (take-append-drop n (drop at p)) ∙ ap (λ r. take n (drop at p) ++ r) (drop-drop n at p)
-
 -- a frame in its parts
 abbrev pub dst_in : List ℕ → List ℕ
 dst_in frame = take 6 frame
@@ -124,14 +121,14 @@ abbrev pub tha_in : List ℕ → List ℕ
 tha_in frame = take 6 (drop 32 frame)
 
 pub in_two : (frame : List ℕ) → frame ≡ dst_in frame ++ (src_in frame ++ drop 12 frame)
-in_two frame = sym (take-append-drop 6 frame) ∙ ap (λ r. take 6 frame ++ r) (next 6 6 frame)
+in_two frame = sym (take-append-drop 6 frame) ∙ ap (λ r. take 6 frame ++ r) (next_part 6 6 frame)
 
 pub in_parts : (frame : List ℕ) → frame ≡ parts (dst_in frame) (src_in frame) (head_in frame) (sha_in frame) (spa_in frame) (tha_in frame) (drop 38 frame)
 in_parts frame =
-    let at_tha = next 6 32 frame in
-    let at_spa = next 4 28 frame ∙ ap (λ r. spa_in frame ++ r) at_tha in
-    let at_sha = next 6 22 frame ∙ ap (λ r. sha_in frame ++ r) at_spa in
-    let at_head = next 10 12 frame ∙ ap (λ r. head_in frame ++ r) at_sha in
+    let at_tha = next_part 6 32 frame in
+    let at_spa = next_part 4 28 frame ∙ ap (λ r. spa_in frame ++ r) at_tha in
+    let at_sha = next_part 6 22 frame ∙ ap (λ r. sha_in frame ++ r) at_spa in
+    let at_head = next_part 10 12 frame ∙ ap (λ r. head_in frame ++ r) at_sha in
     in_two frame ∙ ap (λ r. dst_in frame ++ (src_in frame ++ r)) at_head
 
 piece : (n at : ℕ) (p : List ℕ) → at + n ≤ length p → length (take n (drop at p)) ≡ n

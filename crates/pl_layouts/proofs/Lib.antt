@@ -1,3 +1,5 @@
 pub mod Arrivals
 pub mod Arrived
 pub mod Kept
+pub mod Known
+pub mod Sameness

@@ -1,7 +1,8 @@
 -- At the beginning nothing is written down; and each step keeps the ledger.
-use Rattle.std.proofs.Common.{◌≡◌, ◌≤◌, ◌+◌, ℕ, zero, suc, true, List, [], ◌∷◌, length, map, replicate, get_or, Option, Some, None, option_map, slice_get, ◌==◌, refl, sym, ap, subst, ◌∙◌, arith}
+use Rattle.std.proofs.Common.{◌≡◌, ◌≤◌, ◌+◌, true, List, [], length, Option, Some, option_map, ◌==◌, refl, sym, ap, subst, ◌∙◌, arith}
 use Rattle.std.proofs.lemmas.Bool.{and_from, eq-eqb}
-use Rattle.std.proofs.lemmas.Option.{none-some, same_Some}
+use Rattle.std.proofs.lemmas.Option.{none-some}
+use Rattle.pl_lemmas.proofs.Lists.{from_map, replicated_empty, replicated_none}
 use Rattle.pl_wiring.specs.declared.host.Host.{Host}
 use Rattle.pl_wiring.specs.Plan.{Plan}
 use Rattle.pl_logic.specs.HostInputs.{HostRule}
@@ -27,21 +28,6 @@ use Rattle.pl_addresses.proofs.Events.{facts_of}
 use Rattle.pl_ledger.specs.Ledgers.{AreInBounds, IsLedger}
 use Rattle.pl_ledger.proofs.Events.{happens_ledger}
 
-nothing_at : {X : Type 0} (n i : ℕ) → get_or {A = List X} (replicate n []) i [] ≡ []
-nothing_at zero i = refl
-nothing_at (suc n) zero = refl
-nothing_at (suc n) (suc i) = nothing_at n i
-
-none_at : {X : Type 0} (n i : ℕ) → get_or {A = Option X} (replicate n None) i None ≡ None
-none_at zero i = refl
-none_at (suc n) zero = refl
-none_at (suc n) (suc i) = none_at n i
-
-from_map : {X Y : Type 0} (f : X → Y) (xs : List X) (i : ℕ) (y : Y) → slice_get (map f xs) i ≡ Some y → (x : X) × (slice_get xs i ≡ Some x) × (f x ≡ y)
-from_map f [] i y is = absurd (none-some y is)
-from_map f (x ∷ xs) zero y is = (x, refl, same_Some (f x) y is)
-from_map f (x ∷ xs) (suc i) y is = from_map f xs i y is
-
 pub boot_ledger : (plan : Plan) (limits : Limits) → IsLedger (booted plan limits)
 boot_ledger plan limits = record {
   grants = λ s v x g found is.
@@ -53,10 +39,10 @@ boot_ledger plan limits = record {
   backed = tt;
   few = λ s v port found.
       let it = from_map (λ id. switch_at_boot id plan.k) plan.ids s v found in
-      subst (λ (u : SwitchView). length (grants_at u port) ≤ 65535) it.2 (let none = ap (λ (gs : List Grant). length gs) (nothing_at {X = Grant} plan.k port) in omega (arith, none));
+      subst (λ (u : SwitchView). length (grants_at u port) ≤ 65535) it.2 (let none = ap (λ (gs : List Grant). length gs) (replicated_empty {X = Grant} plan.k port) in omega (arith, none));
   sources = λ s v port source found is.
       let it = from_map (λ id. switch_at_boot id plan.k) plan.ids s v found in
-      absurd (none-some source (sym (none_at {X = Source} plan.k port) ∙ subst (λ (u : SwitchView). remembered_at u port ≡ Some source) (sym it.2) is));
+      absurd (none-some source (sym (replicated_none {X = Source} plan.k port) ∙ subst (λ (u : SwitchView). remembered_at u port ≡ Some source) (sym it.2) is));
   standing = λ h stand is.
       let it = from_map first_stand plan.hosts h stand is in
       subst (λ (st : Stand). has_stood plan [] h (at_port st.edge.0 st.port) ≡ true) it.2

@@ -1,10 +1,10 @@
 -- What entries say of addresses.
-use Rattle.std.proofs.Common.{◌≡◌, ◌⊎◌, ◌≤◌, ◌+◌, ◌*◌, ◌==◌, ◌&&◌, ◌||◌, ◌^◌, ℕ, Bool, true, if◌then◌else◌, List, [], ◌∷◌, Option, Some, None, refl, sym, ap, subst, ◌∙◌, inl, inr, arith}
+use Rattle.std.proofs.Common.{◌≡◌, ◌⊎◌, ◌≤◌, ◌+◌, ◌==◌, ◌&&◌, ◌||◌, ℕ, Bool, true, if◌then◌else◌, List, [], ◌∷◌, Option, Some, None, refl, sym, ap, subst, ◌∙◌, inl, inr, arith}
 use Rattle.std.specs.List.{AllByRecursion}
 use Rattle.std.proofs.lemmas.Bool.{and_from, and_parts, cases_Bool, cond-false, cond-true, eq-eqb, eqb-true, or_left, or_right}
 use Rattle.std.proofs.lemmas.Option.{none-some, same_Some}
 use Rattle.pl_pmac.specs.declared.pmac.Pmac.{Pmac}
-use Rattle.pl_pmac.specs.Pmac.{Fits, pmac_number}
+use Rattle.pl_pmac.specs.Pmac.{pmac_number}
 use Rattle.pl_wiring.specs.declared.host.HostNo.{HostNo}
 use Rattle.pl_wiring.specs.declared.label.SwitchNo.{SwitchNo}
 use Rattle.pl_wiring.specs.Plan.{Plan}
@@ -16,22 +16,6 @@ use Rattle.pl_world.specs.Changes.{host_of}
 use Rattle.pl_ledger.specs.Ledgers.{IsBacked, IsGrantedThere, ledger}
 use Rattle.pl_ledger.proofs.Giving.{AreRising, ComesBefore, Giving, IsOneOf}
 use Rattle.pl_ledger.proofs.Writing.{all_written, entry_for}
-
--- two addresses with one number are one
-pub number_apart : (x y : Pmac) → Fits x → Fits y → pmac_number x ≡ pmac_number y → x ≡ y
-number_apart x y fits other same =
-    let e : x.pod * 2 ^ 32 + x.position * 2 ^ 24 + x.port * 2 ^ 16 + x.vmid ≡ y.pod * 2 ^ 32 + y.position * 2 ^ 24 + y.port * 2 ^ 16 + y.vmid = same in
-    let a = fits.position in
-    let b = fits.port in
-    let c = fits.vmid in
-    let d = other.position in
-    let f = other.port in
-    let g = other.vmid in
-    let pod : x.pod ≡ y.pod = omega (arith, e, a, b, c, d, f, g) in
-    let position : x.position ≡ y.position = omega (arith, e, pod, b, c, f, g) in
-    let port : x.port ≡ y.port = omega (arith, e, pod, position, c, g) in
-    let vmid : x.vmid ≡ y.vmid = omega (arith, e, pod, position, port) in
-    λ i. record { pod = pod i; position = position i; port = port i; vmid = vmid i }
 
 -- ---- the entries that are left out say nothing of addresses
 pub record Says : Type 0 where

@@ -4,6 +4,7 @@ use Rattle.std.specs.List.{AllByRecursion}
 use Rattle.std.proofs.lemmas.Bool.{and_from, cases_eq, eq-eqb, false≢true, or_left, or_right}
 use Rattle.std.proofs.lemmas.List.Elements.{Contains-append_left, Contains-push}
 use Rattle.std.proofs.lemmas.Option.{same_Some, slice_get_within}
+use Rattle.pl_lemmas.proofs.Lists.{all_found}
 use Rattle.pl_frame.specs.Ethernet.{source_of}
 use Rattle.pl_wiring.specs.declared.label.SwitchNo.{SwitchNo}
 use Rattle.pl_wiring.specs.declared.link.Peer.TheVariants.{Switch}
@@ -21,9 +22,9 @@ use Rattle.pl_journal.specs.declared.cause.Cause.TheVariants as cause
 use Rattle.pl_journal.specs.Places.{Spot, at_port, has_stood, same_spot}
 use Rattle.pl_manager_rule.specs.ManagerRule.{manager_rule}
 use Rattle.pl_queues.specs.Queues.{items_at}
+use Rattle.pl_queues.proofs.Items.{all_items_at}
 use Rattle.pl_switch_rule.specs.Granting.{sender_ip}
 use Rattle.pl_switch_rule.specs.SwitchRule.{Loose, switch_step}
-use Rattle.pl_switch_rule.proofs.Shapes.{all_or}
 use Rattle.pl_world.specs.declared.event.Event.{Event}
 use Rattle.pl_world.specs.declared.item.Item.{Item}
 use Rattle.pl_world.specs.declared.item.Item.TheVariants.{Control, Data}
@@ -48,15 +49,11 @@ use Rattle.pl_addresses.specs.Addressed.{AreAddressed, KnowNeighbours}
 use Rattle.pl_addresses.proofs.Events.{Facts}
 use Rattle.pl_addresses.proofs.OwnHosts.{own_frame}
 use Rattle.pl_addresses.proofs.SwitchSteps.{Brings, IsOfHost, brings_frame, brings_order, brings_tick}
-use Rattle.pl_addresses.proofs.Turns.{all_here, exists_at, filled_within}
+use Rattle.pl_addresses.proofs.Turns.{exists_at, filled_within}
 use Rattle.pl_addresses.proofs.Words.{get-set_other, get-set_same}
 use Rattle.pl_ledger.specs.Ledgers.{HasStoodThere}
 use Rattle.pl_ledger.proofs.Turning.{AreFormed, IsIn, StoodAt, host_is, manager_ledger, source_is, switch_ledger}
 use Rattle.pl_ledger.proofs.Writing.{IsQuietEntry, Parts, one_quiet, one_written, parts_of, quiet_ends, quiet_parts, quiet_written, written}
-
--- all items at a place
-all_at : {X : Type 0} (P : X → Type 0) (queues : List (List X)) (i : ℕ) → AllByRecursion (AllByRecursion P) queues → AllByRecursion P (items_at queues i)
-all_at P queues i all = all_or (AllByRecursion P) queues i [] all tt
 
 -- ---- what is written besides
 abbrev with_stands : WorldView → ℕ → Stand → Parts
@@ -139,22 +136,22 @@ module _ (w : WorldView) (f : Facts w) (at_edges : HostsAtEdges w) (addressed : 
       slice_get w.stands h ≡ Some stand →
       ComesAtSwitch Loose (heard_item (record w { from_hosts = set w.from_hosts h items }) h item) stand.edge.0 stand.port item new → IsIn (parts_of new)
   from_host h (Control frame) items stand new head new_formed is comes =
-      absurd (subst (λ (xs : List Item). AllByRecursion IsDataItem xs) head (all_at IsDataItem w.from_hosts h f.host_items)).0
+      absurd (subst (λ (xs : List Item). AllByRecursion IsDataItem xs) head (all_items_at IsDataItem w.from_hosts h f.host_items)).0
   from_host h (Data id frame) items stand new head new_formed is comes =
       let within : h < length w.from_hosts = filled_within w.from_hosts h (Data id frame) items head in
       let view = exists_at w.hosts h (subst (λ n. h < n) f.froms within) in
       let host = exists_at w.plan.hosts h (subst (λ n. h < n) (f.froms ∙ f.hosts) within) in
       let those = own h host.0 view.0 host.1 view.1 in
       let mine = (subst (λ (xs : List Item). AllByRecursion (IsOwnItem (me_of host.0)) xs) head those.sends).0 in
-      let frames = (subst (λ (xs : List Item). AllByRecursion IsDataItem xs) head (all_at IsDataItem w.from_hosts h f.host_items)).0 in
+      let frames = (subst (λ (xs : List Item). AllByRecursion IsDataItem xs) head (all_items_at IsDataItem w.from_hosts h f.host_items)).0 in
       let popped : WorldView = record w { from_hosts = set w.from_hosts h items } in
-      let edge : IsAtEdge w.plan stand = all_here (IsAtEdge w.plan) w.stands h stand at_edges is in
+      let edge : IsAtEdge w.plan stand = all_found (IsAtEdge w.plan) w.stands h stand at_edges is in
       let source : source_of frame ≡ host.0.mac = source_is host.0 frame mine in
       comes_at (heard_item popped h (Data id frame)) stand.edge.0 stand.port (Data id frame) new refl frames new_formed addressed
       (λ n bytes same v found host_port.
       let bytes_are : frame ≡ bytes = ap bytes_of same in (
         record {
-          within = subst (λ n. stand.port < n) (sym (all_here (λ (v : SwitchView). v.k ≡ w.plan.k) w.switches stand.edge.0 v f.ports found)) edge.port;
+          within = subst (λ n. stand.port < n) (sym (all_found (λ (v : SwitchView). v.k ≡ w.plan.k) w.switches stand.edge.0 v f.ports found)) edge.port;
           own_ip = subst (λ (b : List ℕ). IsOwn (λ mac. own_ip w.plan mac) (source_of b) (sender_ip b)) bytes_are (own_frame w.plan f.plan h host.0 host.1 frame mine);
         },
         subst (λ (b : List ℕ). StoodAt w stand.edge.0 stand.port (source_of b)) bytes_are (record {
@@ -178,7 +175,7 @@ module _ (w : WorldView) (f : Facts w) (at_edges : HostsAtEdges w) (addressed : 
         peer_of w.plan s port ≡ Switch t q → ComesAtSwitch Loose (record w { out = set w.out (port_index w.plan.k s port) items }) t.0 q item new → IsIn
             (parts_of new)
     over_link s port q item items t new head new_formed peer comes =
-        let all = (subst (λ (xs : List Item). AllByRecursion IsItem xs) head (all_at IsItem w.out (port_index w.plan.k s port) f.port_items)).0 in
+        let all = (subst (λ (xs : List Item). AllByRecursion IsItem xs) head (all_items_at IsItem w.out (port_index w.plan.k s port) f.port_items)).0 in
         comes_at (record w { out = set w.out (port_index w.plan.k s port) items }) t.0 q item new refl all new_formed addressed
         (λ id frame same v found host_port.
         absurd (false≢true (sym (know s port t q id frame v peer

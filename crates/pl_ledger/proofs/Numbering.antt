@@ -7,6 +7,7 @@ use Rattle.pl_frame.specs.declared.address.Mac.{Mac}
 use Rattle.pl_frame.specs.declared.address.SwitchId.{SwitchId}
 use Rattle.pl_pmac.specs.declared.pmac.Pmac.{Pmac}
 use Rattle.pl_pmac.specs.Pmac.{Fits, pmac_number}
+use Rattle.pl_pmac.proofs.Inverse.{same_pmac_number}
 use Rattle.pl_layouts.specs.Equality.{same_pmac}
 use Rattle.pl_logic.specs.declared.acts.ManagerAct.{ManagerAct}
 use Rattle.pl_logic.specs.declared.acts.ManagerAct.TheVariants.{Number, Say}
@@ -31,7 +32,6 @@ use Rattle.pl_addresses.specs.Registries.{number_of, registry_of}
 use Rattle.pl_addresses.proofs.Registering.{again, first}
 use Rattle.pl_addresses.proofs.Words.{is_or_other, same_by}
 use Rattle.pl_ledger.specs.Ledgers.{AreEntered}
-use Rattle.pl_ledger.proofs.Books.{number_apart}
 use Rattle.pl_ledger.proofs.Writing.{Parts, one_written, parts_of, written}
 
 -- an address is registered with a number
@@ -195,7 +195,7 @@ module _ (plan : Plan) (learnt after : Learnt) (switches : List SwitchView) (sta
           ∙ sym l.here ∙ ap (λ z. number_of (registry_of after) z) same
       | inr other ↦
           cond-false (pmac_number x == pmac_number y) (Some (length (registry learnt) + 1)) (number entries (pmac_number y))
-          (ne_eqb (pmac_number x) (pmac_number y) (λ same. false≢true (sym other ∙ same_by x y (number_apart x y fits_x fits same))))
+          (ne_eqb (pmac_number x) (pmac_number y) (λ same. false≢true (sym other ∙ same_by x y (same_pmac_number x y fits_x fits same))))
           ∙ before.numbers y fits ∙ sym (l.at y other)
     ];
     count = ap (λ n. n + 1) before.count ∙ sym l.count;

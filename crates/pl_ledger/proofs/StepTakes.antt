@@ -1,5 +1,5 @@
 -- What each row of a switch grants and remembers.
-use Rattle.std.proofs.Common.{◌≡◌, ◌<◌, ◌≤◌, ◌==◌, ◌||◌, ℕ, true, false, List, [], ◌∷◌, length, Option, Some, None, Result, Ok, Err, get_or, refl, sym, ap, subst, ◌∙◌, inl, inr}
+use Rattle.std.proofs.Common.{◌≡◌, ◌<◌, ◌≤◌, ◌||◌, ℕ, true, false, List, [], ◌∷◌, length, Option, Some, None, Result, Ok, Err, get_or, refl, sym, ap, subst, ◌∙◌, inl, inr}
 use Rattle.std.proofs.lemmas.Bool.{cases_Bool, cond_both, false≢true}
 use Rattle.std.proofs.lemmas.Option.{none-some}
 use Rattle.pl_frame.specs.declared.address.Mac.{Mac}
@@ -27,16 +27,17 @@ use Rattle.pl_steps.specs.Steps.{SwitchStep, does, rests, ◌▹◌}
 use Rattle.pl_switch_rule.specs.Announcing.{ticks}
 use Rattle.pl_switch_rule.specs.Delivering.{makes}
 use Rattle.pl_switch_rule.specs.Forwarding.{Choice}
-use Rattle.pl_switch_rule.specs.Granting.{grant_number, granted, grants_at, is_granted, is_local, learns_source}
+use Rattle.pl_switch_rule.specs.Granting.{granted, grants_at, is_granted, learns_source}
 use Rattle.pl_switch_rule.specs.Intake.{comes_from_host, takes_in_or_spent}
 use Rattle.pl_switch_rule.specs.Levels.{after_message, becomes_edge, changes_to, finds_host, with_pod}
 use Rattle.pl_switch_rule.specs.Messages.{answer_frame, flood_frame, floods, forgets_members, hears_manager, invalidates, probes, sets_trap, takes_pod}
 use Rattle.pl_switch_rule.specs.Positions.{after_vote}
 use Rattle.pl_switch_rule.specs.SwitchRule.{comes_from_switch, control_comes, data_comes, hears_control, switch_step}
+use Rattle.pl_switch_rule.proofs.Grants.{granted_parts, none_granted}
 use Rattle.pl_addresses.specs.EdgeAddresses.{IsGrantedTo, is_settled}
 use Rattle.pl_addresses.specs.Registries.{Registry}
 use Rattle.pl_addresses.proofs.Asides.{floods_aside, forgets_members_aside, makes_aside, probes_aside, proposal_aside, switch_frame_aside, takes_in_aside, ticks_aside}
-use Rattle.pl_addresses.proofs.Numbers.{granted_parts, local_settled}
+use Rattle.pl_addresses.proofs.Numbers.{local_settled}
 use Rattle.pl_addresses.proofs.Placing.{IsPlacing, edge_placing, keeps_changes, message_placing, pod_placing, vote_placing}
 use Rattle.pl_addresses.proofs.Rows.{aside_does, same_grantees}
 use Rattle.pl_addresses.proofs.SwitchSteps.{granted_within}
@@ -49,15 +50,6 @@ abbrev pub ComesWell : (ℕ → Mac → Type 0) → SwitchView → SwitchInput �
 ComesWell P v (Comes port frame) = is_control frame ≡ false → is_open_to_hosts (port_of v port) ≡ true → (port < v.k) × P port (source_of frame)
 ComesWell P v Tick = Unit {0}
 ComesWell P v (Says says) = Unit {0}
-
--- nothing is granted in an empty list
-none_of_empty : (gs : List Grant) (n : ℕ) → gs ≡ [] → grant_number gs n ≡ None
-none_of_empty gs n is = ap (λ (l : List Grant). grant_number l n) is ∙ cond_both (n == 0) None None (λ o. ◌≡◌ {A = Option Grant} o None) (λ h. refl) (λ h. refl)
-
-none_granted : (v : SwitchView) (x : Pmac) → grants_at v x.port ≡ [] → granted v x ≡ None
-none_granted v x is =
-    cond_both (is_local v x) (grant_number (grants_at v x.port) x.vmid) None (λ o. ◌≡◌ {A = Option Grant} o None)
-    (λ h. none_of_empty (grants_at v x.port) x.vmid is) (λ h. refl)
 
 -- what comes of a change of the place leaves it so
 no_registry : Registry

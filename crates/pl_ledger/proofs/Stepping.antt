@@ -3,9 +3,11 @@ use Rattle.std.proofs.Common.{◌≡◌, ◌≢◌, ◌⊎◌, ◌≤◌, ◌<�
 use Rattle.std.specs.List.{AllByRecursion}
 use Rattle.std.proofs.lemmas.Bool.{cases_eq}
 use Rattle.std.proofs.lemmas.Option.{none-some, same_Some, slice_get_within}
+use Rattle.pl_lemmas.proofs.Lists.{all_found}
 use Rattle.pl_frame.specs.declared.address.Mac.{Mac}
 use Rattle.pl_pmac.specs.declared.pmac.Pmac.{Pmac}
 use Rattle.pl_pmac.specs.Pmac.{Fits, pmac_number}
+use Rattle.pl_pmac.proofs.Inverse.{same_pmac_number}
 use Rattle.pl_logic.specs.declared.switch_records.Grant.{Grant}
 use Rattle.pl_logic.specs.Accounting.{IsShaped}
 use Rattle.pl_logic.specs.ManagerViews.{Learnt}
@@ -13,17 +15,17 @@ use Rattle.pl_logic.specs.SwitchViews.{SwitchView}
 use Rattle.pl_journal.specs.declared.entry.Entry.{Entry}
 use Rattle.pl_journal.specs.Places.{at_port}
 use Rattle.pl_switch_rule.specs.Granting.{granted, grants_at, is_local, remembered_at}
+use Rattle.pl_switch_rule.proofs.Grants.{granted_parts}
 use Rattle.pl_wiring.specs.Plan.{Plan}
 use Rattle.pl_world.specs.declared.stand.Stand.{Stand}
 use Rattle.pl_world.specs.Changes.{host_of}
 use Rattle.pl_addresses.specs.Addressed.{AreApart}
 use Rattle.pl_addresses.specs.EdgeAddresses.{IsGrantedTo, KeepsGrantees}
-use Rattle.pl_addresses.proofs.Numbers.{granted_parts, number_within}
-use Rattle.pl_addresses.proofs.Turns.{all_here}
+use Rattle.pl_addresses.proofs.Numbers.{number_within}
 use Rattle.pl_addresses.proofs.SwitchSteps.{granted_within}
 use Rattle.pl_addresses.proofs.Words.{get-set_other, get-set_same}
 use Rattle.pl_ledger.specs.Ledgers.{AreEntered, AreInBounds, HasStoodThere, IsBeforeLast, IsEntered, IsGrantedThere}
-use Rattle.pl_ledger.proofs.Books.{GivesGood, HasLast, IsFor, SaysAlike, alike, all_backed, backed_later, last_given, last_stays, now_at, number_apart, still_at}
+use Rattle.pl_ledger.proofs.Books.{GivesGood, HasLast, IsFor, SaysAlike, alike, all_backed, backed_later, last_given, last_stays, now_at, still_at}
 use Rattle.pl_ledger.proofs.Giving.{AreRising, Giving, IsNewlyGiven, IsOneOf, all_weaker, gives, of_all}
 use Rattle.pl_ledger.proofs.Takes.{AreFew, AreOf, IsFurther, IsOfHere}
 use Rattle.pl_ledger.proofs.Writing.{all_written}
@@ -42,7 +44,7 @@ pub fits_there : (switches : List SwitchView) → AllByRecursion IsShaped switch
     (s : ℕ) (v : SwitchView) (x : Pmac) (g : Grant) → slice_get switches s ≡ Some v → granted v x ≡ Some g → Fits x
 fits_there switches shaped bounds few s v x g found is =
     let parts = granted_parts v x g is in
-    let form : IsShaped v = all_here IsShaped switches s v shaped found in
+    let form : IsShaped v = all_found IsShaped switches s v shaped found in
     let low = bounds s v x found parts.0 in
     let port : x.port < v.k = granted_within v x g is form.grants in
     let many = form.high in
@@ -87,7 +89,7 @@ module _ (plan : Plan) (learnt : Learnt) (switches : List SwitchView) (stands : 
   unfolding within there
   one_of_number t u x g is found h new same =
       let fits = fits_now s w h.pmac new.1.grant there new.1.found in
-      let one : h.pmac ≡ x = number_apart h.pmac x fits (fits_now t u x g is found) same in (
+      let one : h.pmac ≡ x = same_pmac_number h.pmac x fits (fits_now t u x g is found) same in (
         one,
         apart t s u w x is there (granted_parts u x g found).0
             (subst (λ (y : Pmac). is_local w y ≡ true) one (granted_parts w h.pmac new.1.grant new.1.found).0),

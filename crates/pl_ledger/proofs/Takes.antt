@@ -3,6 +3,7 @@ use Rattle.std.proofs.Common.{◌≡◌, ◌≢◌, ◌⊎◌, ◌≤◌, ◌<�
 use Rattle.std.specs.List.{AllByRecursion}
 use Rattle.std.proofs.lemmas.Bool.{cases_eq, false≢true, ltb-true}
 use Rattle.std.proofs.lemmas.Option.{none-some, same_Some}
+use Rattle.pl_lemmas.proofs.Lists.{all_append}
 use Rattle.pl_frame.specs.declared.address.Ip4.{Ip4}
 use Rattle.pl_frame.specs.declared.address.Mac.{Mac}
 use Rattle.pl_pmac.specs.declared.pmac.Pmac.{Pmac}
@@ -12,7 +13,6 @@ use Rattle.pl_logic.specs.declared.switch_records.Source.{Source}
 use Rattle.pl_logic.specs.SwitchViews.{SwitchView}
 use Rattle.pl_steps.specs.Steps.{SwitchStep, rests, ◌▹◌}
 use Rattle.pl_switch_rule.specs.Granting.{address_at_port, granted, grants_at, grants_next, is_local, is_port_spent, new_grant, remembered_at, with_grant, with_grants}
-use Rattle.pl_switch_rule.proofs.StepParts.{all_append}
 use Rattle.pl_addresses.specs.EdgeAddresses.{IsGrantedTo, is_settled}
 use Rattle.pl_addresses.proofs.Numbers.{granted_here, local_here, now_at, number_push_other, number_push_same, number_set_other, number_set_same, number_within, others_at}
 use Rattle.pl_addresses.proofs.Rows.{IsAside, aside_does, same_grantees}

@@ -8,6 +8,7 @@ use Rattle.pl_frame.specs.declared.address.Mac.{Mac}
 use Rattle.pl_frame.specs.Ethernet.{source_of}
 use Rattle.pl_layouts.specs.Equality.{same_mac}
 use Rattle.pl_layouts.specs.Frames.{packet_in}
+use Rattle.pl_layouts.proofs.Sameness.{mac_is, mac_itself}
 use Rattle.pl_logic.specs.declared.acts.Act.{Act}
 use Rattle.pl_logic.specs.declared.acts.ManagerAct.{ManagerAct}
 use Rattle.pl_logic.specs.declared.messages.ToManager.{ToManager}
@@ -43,7 +44,7 @@ use Rattle.pl_addresses.proofs.Rows.{Good, Grows}
 use Rattle.pl_addresses.proofs.Stepped.{unknown_there}
 use Rattle.pl_addresses.proofs.SwitchSteps.{Brings}
 use Rattle.pl_addresses.proofs.Turns.{exists_at}
-use Rattle.pl_addresses.proofs.Words.{mac_is, mac_itself, one_index}
+use Rattle.pl_addresses.proofs.Words.{one_index}
 use Rattle.pl_ledger.specs.Ledgers.{AreEntered, AreInBounds, HasStoodThere}
 use Rattle.pl_ledger.proofs.Giving.{givings, newly_given}
 use Rattle.pl_ledger.proofs.Numbering.{LearnsBy, Numbering, all_numbered, learns, nothing_entered, numberings, one_entered, said_parts}

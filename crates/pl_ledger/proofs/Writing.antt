@@ -2,6 +2,7 @@
 use Rattle.std.proofs.Common.{◌≡◌, ◌+◌, ℕ, Bool, true, false, if◌then◌else◌, set, List, [], ◌∷◌, ◌++◌, reverse, Option, Some, None, refl, sym, ap, ◌∙◌, append_assoc, append-nil}
 use Rattle.std.proofs.lemmas.List.{reverse-append}
 use Rattle.std.specs.List.{AllByRecursion}
+use Rattle.pl_lemmas.proofs.Lists.{all_append}
 use Rattle.pl_pmac.specs.declared.pmac.Pmac.{Pmac}
 use Rattle.pl_logic.specs.declared.acts.Act.{Act}
 use Rattle.pl_logic.specs.declared.acts.Act.TheVariants as act
@@ -12,7 +13,6 @@ use Rattle.pl_journal.specs.declared.cause.Cause.TheVariants.{LinkDown}
 use Rattle.pl_journal.specs.declared.entry.Entry.{Entry}
 use Rattle.pl_journal.specs.declared.entry.Entry.TheVariants.{Copied, Crossed, Dropped, Granted, Made, Placed, Redirected, Taken}
 use Rattle.pl_layouts.specs.Placement.{same_place}
-use Rattle.pl_switch_rule.proofs.StepParts.{all_append}
 use Rattle.pl_wiring.specs.Plan.{Plan}
 use Rattle.pl_world.specs.declared.item.Item.{Item}
 use Rattle.pl_world.specs.declared.item.Item.TheVariants.{Control, Data}

@@ -1,9 +1,11 @@
 -- Those that ask stay edge switches with position 0; so no more numbers are given than there are pods.
-use Rattle.std.proofs.Common.{◌≡◌, ◌≢◌, ◌≤◌, ◌<◌, ◌+◌, ◌==◌, ◌||◌, ℕ, zero, suc, Bool, true, false, cond, List, [], ◌∷◌, ◌++◌, length, Some, option_map, find, slice_get, refl, sym, ap, subst, subst₂, ◌∙◌, inl, inr, arith, eqb-true, eq-eqb}
+use Rattle.std.proofs.Common.{◌≡◌, ◌≤◌, ◌<◌, ◌+◌, ◌==◌, ◌||◌, ℕ, zero, suc, Bool, true, false, cond, List, [], ◌∷◌, ◌++◌, length, Some, option_map, find, slice_get, refl, sym, ap, subst, subst₂, ◌∙◌, inl, inr, arith, eqb-true, eq-eqb}
 use Rattle.std.specs.List.{AllByRecursion, list_any, range_with_len}
-use Rattle.std.proofs.lemmas.Bool.{cases_Bool, cases_eq, cases_lt, false≢true}
+use Rattle.std.proofs.lemmas.Bool.{cases_Bool, cases_eq, cases_lt}
 use Rattle.std.proofs.lemmas.List.FromFn.{length-range_with_len}
 use Rattle.std.proofs.lemmas.Option.{get_or_from_slice_get}
+use Rattle.pl_lemmas.proofs.Lists.{all_append, all_weaker}
+use Rattle.pl_lemmas.proofs.Pigeonhole.{enough}
 use Rattle.pl_frame.specs.declared.address.SwitchId.{SwitchId}
 use Rattle.pl_layouts.specs.declared.place.Place.{Place}
 use Rattle.pl_layouts.specs.Equality.{same_switch}
@@ -20,13 +22,12 @@ use Rattle.pl_logic.specs.SwitchInputs.{SwitchInput}
 use Rattle.pl_logic.specs.SwitchViews.{SwitchView}
 use Rattle.pl_manager_rule.specs.ManagerRule.{manager_hears, manager_rule, view_after, with_asker}
 use Rattle.pl_switch_rule.specs.SwitchRule.{Loose, switch_step}
-use Rattle.pl_switch_rule.proofs.StepParts.{all_append}
 use Rattle.pl_control_plane.specs.ControlPlanes.{ControlPlane, tells}
 use Rattle.pl_control_plane.specs.PlaneSteps.{IsReportTaken, LeftOver, ManagerTurns, PlaneStep, SwitchTurns}
 use Rattle.pl_control_plane.specs.PlaneSteps.PlaneStep.{Carried, Entered, Heard, Left, Managed, Ordered, Ticked}
 use Rattle.pl_places.specs.Places.{ArePlaced, ArePodNumbers, PositionsDiffer}
 use Rattle.pl_places.specs.Told.{IsTrueOf}
-use Rattle.pl_places.proofs.Later.{all_left, all_weaker, true_of_itself}
+use Rattle.pl_places.proofs.Later.{all_left, true_of_itself}
 use Rattle.pl_votes.specs.Voting.{FixedAreApart}
 use Rattle.pl_pods.specs.Pods.{id_of}
 use Rattle.pl_pods.proofs.Numbers.{number_stays}
@@ -148,40 +149,6 @@ plane_asking f g later asking (Ordered s says mid taken turns) =
 plane_asking f g later asking (Managed s id told mid there named taken turns) = managed_asking f mid g s id told asking there named taken turns
 
 -- ---- no more numbers than pods
-abbrev drop_one : ℕ → List ℕ → List ℕ
-drop_one p [] = []
-drop_one p (x ∷ xs) = cond (x == p) xs (x ∷ drop_one p xs)
-
-one_less : (p : ℕ) (xs : List ℕ) → list_any (λ r. r == p) xs ≡ true → length xs ≡ suc (length (drop_one p xs))
-one_less p [] any = absurd (false≢true any)
-one_less p (x ∷ xs) any = by (x == p) any (one_less p xs)
-  where
-    by : (b : Bool) → (b || list_any (λ r. r == p) xs) ≡ true → (list_any (λ r. r == p) xs ≡ true → length xs ≡ suc (length (drop_one p xs))) →
-        suc (length xs) ≡ suc (length (cond b xs (x ∷ drop_one p xs)))
-    by true any rest = refl
-    by false any rest = ap suc (rest any)
-
-still_there : (p q : ℕ) (xs : List ℕ) → (p ≡ q → ⊥) → list_any (λ r. r == q) xs ≡ true → list_any (λ r. r == q) (drop_one p xs) ≡ true
-still_there p q [] differ any = any
-still_there p q (x ∷ xs) differ any = by (x == p) refl (x == q) refl any (still_there p q xs differ)
-  where
-    by : (b : Bool) → (x == p) ≡ b → (c : Bool) → (x == q) ≡ c → (c || list_any (λ r. r == q) xs) ≡ true →
-        (list_any (λ r. r == q) xs ≡ true → list_any (λ r. r == q) (drop_one p xs) ≡ true) → list_any (λ r. r == q) (cond b xs (x ∷ drop_one p xs)) ≡ true
-    by true same true also any rest = absurd (differ (sym (eqb-true x p same) ∙ eqb-true x q also))
-    by true same false other any rest = any
-    by false other true also any rest = ap (λ c. c || list_any (λ r. r == q) (drop_one p xs)) also
-    by false other false also any rest = ap (λ c. c || list_any (λ r. r == q) (drop_one p xs)) also ∙ rest any
-
-enough : (P : ℕ → ℕ → Type 0) → ((i j p : ℕ) → P i p → P j p → i ≡ j) → (n : ℕ) (xs : List ℕ) →
-    ((j : ℕ) → j < n → (p : ℕ) × P j p × (list_any (λ r. r == p) xs ≡ true)) → n ≤ length xs
-enough P apart zero xs each = omega arith
-enough P apart (suc n) xs each =
-    let last = each n (omega arith) in
-    let less = one_less last.0 xs last.2 in
-    let rest = enough P apart n (drop_one last.0 xs) (λ j below.
-    let at = each j (omega (arith, below)) in
-    (at.0, at.1, still_there last.0 at.0 xs (λ same. let one = apart n j at.0 (subst (P n) same last.1) at.1 in omega (arith, one, below)) at.2)) in
-    omega (arith, less, rest)
 
 in_range : (a n p : ℕ) → a ≤ p → p < a + n → list_any (λ r. r == p) (range_with_len a n) ≡ true
 in_range a zero p low high = absurd (omega (arith, low, high))

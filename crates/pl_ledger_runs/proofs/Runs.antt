@@ -1,10 +1,12 @@
 -- In every run pods and positions of placed edge switches are numbers of one byte, and the journal says of addresses what the switches granted
 -- and the manager registered.
-use Rattle.std.proofs.Common.{◌≡◌, ℕ, ◌≤◌, ◌&&◌, List, [], ◌∷◌, ◌++◌, length, get_or, replicate, zero, suc, Some, None, refl, sym, ap, subst, ◌∙◌, arith}
+use Rattle.std.proofs.Common.{◌≡◌, ℕ, ◌≤◌, ◌&&◌, List, [], ◌∷◌, ◌++◌, length, get_or, zero, Some, None, refl, sym, ap, subst, ◌∙◌, arith}
 use Rattle.std.specs.List.{AllByRecursion}
 use Rattle.std.proofs.lemmas.Bool.{and_parts}
 use Rattle.std.proofs.lemmas.Option.{get_or_from_slice_get}
+use Rattle.pl_lemmas.proofs.Lists.{replicated_empty}
 use Rattle.pl_layouts.specs.Placement.{is_known}
+use Rattle.pl_layouts.proofs.Known.{known_is}
 use Rattle.pl_wiring.specs.Labels.{switch_count}
 use Rattle.pl_wiring.specs.Plan.{Plan}
 use Rattle.pl_logic.specs.declared.messages.ToManager.{ToManager}
@@ -31,7 +33,6 @@ use Rattle.pl_control_plane.proofs.Stepping.{step_in_plane}
 use Rattle.pl_places.specs.Told.{IsTrueOf}
 use Rattle.pl_votes.proofs.Differing.{fixed_are_apart}
 use Rattle.pl_addresses.specs.Addressed.{IsGrounded}
-use Rattle.pl_addresses.proofs.Numbers.{known_is}
 use Rattle.pl_kept.specs.Kept.{Kept}
 use Rattle.pl_kept.proofs.Grounding.{grounded}
 use Rattle.pl_kept.proofs.Keeping.{run_keeps_all}
@@ -137,16 +138,11 @@ mark_written w entry is = absurd is
 pub entered_mark : (w : WorldView) (entry : Entry) → IsMark entry → Kept w → IsEnteredAll w → IsEnteredAll (noted w entry)
 entered_mark w entry is kept entered = record { asking = entered.asking; ledger = subst IsIn (sym (mark_written w entry is)) entered.ledger }
 
-nothing_at : {X : Type 0} (n i : ℕ) → get_or {A = List X} (replicate n []) i [] ≡ []
-nothing_at zero i = refl
-nothing_at (suc n) zero = refl
-nothing_at (suc n) (suc i) = nothing_at n i
-
 pub entered_first : (plan : Plan) (limits : Limits) → IsEnteredAll (booted plan limits)
 entered_first plan limits = record {
   asking = record {
     asked = tt;
-    waiting = λ s. subst (λ (ts : List ToManager). AllByRecursion (IsWishOf ((control_plane (booted plan limits)).view s).place) ts) (sym (nothing_at {X = ToManager} (switch_count plan.k) s)) tt;
+    waiting = λ s. subst (λ (ts : List ToManager). AllByRecursion (IsWishOf ((control_plane (booted plan limits)).view s).place) ts) (sym (replicated_empty {X = ToManager} (switch_count plan.k) s)) tt;
   };
   ledger = boot_ledger plan limits;
 }

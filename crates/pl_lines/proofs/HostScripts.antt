@@ -2,7 +2,7 @@
 use Rattle.std.proofs.Common.{◌≡◌, ◌≢◌, ℕ, zero, suc, ◌+◌, ◌-◌, ◌<◌, ◌≤◌, ◌==◌, Bool, true, false, if◌then◌else◌, List, [], ◌∷◌, ◌++◌, length, map, take, drop, MatchOption, Option, Some, None, option_map, set, slice_get, slice_index_or, inl, inr, refl, sym, ◌∙◌, ap, subst, arith}
 use Rattle.std.specs.List.{flat_map, range_with_len}
 use Rattle.std.proofs.Math.Numerals.{add-one}
-use Rattle.std.proofs.lemmas.Bool.{cases_lt, eqb-true}
+use Rattle.std.proofs.lemmas.Bool.{cases_lt, eqb-false, eqb-true}
 use Rattle.std.proofs.lemmas.Bool.Decides.{eqb_tells}
 use Rattle.std.proofs.lemmas.List.{append-nil, get_or-replicate, get_or-set_other, get_or-set_same, length-drop, length-replicate, length-set, take_all}
 use Rattle.std.proofs.lemmas.Option.{slice_get-map, slice_get_within}
@@ -51,7 +51,7 @@ use Rattle.pl_lines.specs.Lines.{Asks as AsksFor, AsksNext, Does, DoesLine, Does
 use Rattle.pl_lines.specs.Queues.{delivery, loss, port_towards, queue_between}
 use Rattle.pl_lines.specs.Scenes.{Doing, Follows, OfWorld, Often, Scene, asked_more, asked_of, begun, first_scene}
 use Rattle.pl_lines.proofs.Along.{Along, Holds, draws_along, rounds_along, sweeps_along, ticks_along, times_along}
-use Rattle.pl_lines.proofs.HostSteps.{Asks, asks_more, asks_nothing, is_another, notes}
+use Rattle.pl_lines.proofs.HostSteps.{Asks, asks_more, asks_nothing, notes}
 use Rattle.pl_lines.proofs.HostTurns.{asked_in, step_asks, unseen}
 
 -- what is left from a place on begins with what stands there
@@ -275,7 +275,7 @@ module _ (switch : SwitchRule) (manager : ManagerRule) (rule : HostRule) (n : �
     asks_another h raw left old new other at (Some r) done =
         let same : slice_index_or new.asked n 0 ≡ slice_index_or old.asked n 0 =
         ap (λ (xs : List ℕ). slice_index_or xs n 0) done.3
-        ∙ get_or-set_other old.asked h.0 n (asked_of old h.0 + 1) 0 (λ e. is_another h.0 n other (sym e)) in
+        ∙ get_or-set_other old.asked h.0 n (asked_of old h.0 + 1) 0 (λ e. eqb-false h.0 n other (sym e)) in
         let play : Asks rule n old.world (if h.0 == n then played_in raw r.frame r.original ∷ [] else []) new.world =
         by_end (Makes switch manager rule (event.Play h r.frame r.original raw)) (asked_in n (event.Play h r.frame r.original raw))
         (makes_ask (event.Play h r.frame r.original raw)) (asked_more old h.0) new done.0 done.1 done.2 in

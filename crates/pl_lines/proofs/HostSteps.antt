@@ -1,7 +1,6 @@
 -- What a step asks of a host, and what is seen of it.
-use Rattle.std.proofs.Common.{◌≡◌, ◌≢◌, ℕ, zero, suc, ◌==◌, Bool, true, false, if◌then◌else◌, List, [], ◌∷◌, ◌++◌, Option, Some, None, set, slice_get, inl, inr, refl, sym, ◌∙◌, ap, subst}
+use Rattle.std.proofs.Common.{◌≡◌, ℕ, Bool, true, false, if◌then◌else◌, List, [], ◌∷◌, ◌++◌, Option, Some, None, slice_get, refl, sym, ◌∙◌, ap, subst}
 use Rattle.std.specs.List.{cons_option, filter}
-use Rattle.std.proofs.lemmas.Bool.Decides.{eqb_tells}
 use Rattle.std.proofs.lemmas.List.{append-nil, append_assoc}
 use Rattle.std.proofs.lemmas.List.Elements.{filter-append, filter_map-append}
 use Rattle.pl_wiring.specs.declared.link.Link.{Link}
@@ -22,27 +21,6 @@ use Rattle.pl_world.specs.Worlds.{WorldView}
 use Rattle.pl_world.proofs.Leaving.{SwitchesWrite, Writes, failed_left, manager_acts_left, moved_left, repaired_left, switch_acts_left}
 use Rattle.pl_world.proofs.Turning.{at_switch_left, heard_left, lost_left}
 use Rattle.pl_lines.specs.Asked.{Deed, deed_by, deeds_in, is_asked, seen, Lives}
-
-pub set_same : {T : Type 0} (xs : List T) (n : ℕ) (x y : T) → slice_get xs n ≡ Some x → slice_get (set xs n y) n ≡ Some y
-set_same [] n x y found = absurd (cc)
-set_same (z ∷ xs) zero x y found = refl
-set_same (z ∷ xs) (suc n) x y found = set_same xs n x y found
-
-pub set_other : {T : Type 0} (xs : List T) (h n : ℕ) (y : T) → h ≢ n → slice_get (set xs h y) n ≡ slice_get xs n
-set_other [] h n y another = refl
-set_other (z ∷ xs) zero zero y another = absurd (another refl)
-set_other (z ∷ xs) zero (suc n) y another = refl
-set_other (z ∷ xs) (suc h) zero y another = refl
-set_other (z ∷ xs) (suc h) (suc n) y another = set_other xs h n y (λ e. another (ap suc e))
-
-pub is_another : (h n : ℕ) → (h == n) ≡ false → h ≢ n
-is_another h n test = elim (eqb_tells h n) [
-  | inl yes_ ↦ let e = yes_.0 in absurd (cc)
-  | inr other ↦ other.1
-]
-
-pub found_once : {T : Type 0} (xs : List T) (n : ℕ) (x y : T) → slice_get xs n ≡ Some x → slice_get xs n ≡ Some y → x ≡ y
-found_once xs n x y one other = cc
 
 pub either : {T : Type 0} (b : Bool) (x : T) → (if b then x else x) ≡ x
 either true x = refl

@@ -1,9 +1,10 @@
 -- What a host does that is told something, and what each step asks of a host.
 use Rattle.std.proofs.Common.{◌≡◌, ℕ, ◌+◌, ◌==◌, Bool, true, false, if◌then◌else◌, List, [], ◌∷◌, ◌++◌, map, Option, Some, None, set, slice_get, refl, sym, ◌∙◌, ap, subst}
 use Rattle.std.specs.List.{cons_option, filter, fold}
-use Rattle.std.proofs.lemmas.Bool.{eqb-true}
+use Rattle.std.proofs.lemmas.Bool.{eqb-false, eqb-true}
 use Rattle.std.proofs.lemmas.Option.{none-some}
 use Rattle.std.proofs.lemmas.List.{append-nil, append_assoc}
+use Rattle.pl_lemmas.proofs.Lists.{found_once, set_get_other, set_there}
 use Rattle.pl_wiring.specs.Index.{port_index}
 use Rattle.pl_journal.specs.declared.cause.Cause.TheVariants as cause
 use Rattle.pl_journal.specs.declared.cause.Skip.{Skip}
@@ -33,7 +34,7 @@ use Rattle.pl_world.proofs.Happenings.{Happened, asked_by, happened}
 use Rattle.pl_world.proofs.Happenings.Happened.{Asked, Departed, Failed, FromHost, Lost, Ordered, OutOfPort, OverLink, PlayedFrame, Repaired, Reported, Ticked}
 use Rattle.pl_lines.specs.Asked.{Deed, deed_by, deeds_in, given, is_asked, seen}
 use Rattle.pl_lines.specs.Asked.Deed.{Gets, Gives, PassesOver}
-use Rattle.pl_lines.proofs.HostSteps.{Asks, Shows, at_switch, either, failed, found_once, heard, is_another, lost, manager_shows, more_shown, moved, none_shown, notes, repaired, set_other, set_same, shown_if, switch_shows}
+use Rattle.pl_lines.proofs.HostSteps.{Asks, Shows, at_switch, either, failed, heard, lost, manager_shows, more_shown, moved, none_shown, notes, repaired, shown_if, switch_shows}
 
 -- what an event asks of a host
 abbrev pub asked_in : ℕ → Event → List HostInput
@@ -112,7 +113,7 @@ module _ (n : ℕ) where
                 lives = (turn.after, turn.acts, answer, [], subst (λ (v : HostView). rule v input turn.after turn.acts answer) is turn.ruled, (refl, refl), refl);
                 asked = refl;
                 now = ap (λ (hosts : List HostView). slice_get hosts n) (acts_hosts h (record w { hosts = set w.hosts h turn.after }) turn.acts)
-                    ∙ ap (λ (i : ℕ). slice_get (set w.hosts h turn.after) i) (sym same) ∙ set_same w.hosts h turn.before turn.after turn.found;
+                    ∙ ap (λ (i : ℕ). slice_get (set w.hosts h turn.after) i) (sym same) ∙ set_there w.hosts h turn.before turn.after turn.found;
                 shown = own_acts h (record w { hosts = set w.hosts h turn.after }) turn.acts own
                     ∙ ap (λ (ds : List Deed). ds ++ map given turn.acts) has.shown
                     ∙ append_assoc (deeds_in n old.journal) pre (map given turn.acts)
@@ -126,7 +127,7 @@ module _ (n : ℕ) where
         subst (λ (x : WorldView). So [] x) (sym turn.changed) (unseen (fold (host_act_done h) (record w { hosts = set w.hosts h turn.after }) turn.acts) (record {
           same = acts_plan h (record w { hosts = set w.hosts h turn.after }) turn.acts ∙ has.same;
           there = ap (λ (hosts : List HostView). slice_get hosts n) (acts_hosts h (record w { hosts = set w.hosts h turn.after }) turn.acts)
-              ∙ set_other w.hosts h n turn.after (is_another h n other) ∙ has.there;
+              ∙ set_get_other w.hosts h n turn.after (eqb-false h n other) ∙ has.there;
           shown = others_acts h (record w { hosts = set w.hosts h turn.after }) turn.acts other ∙ has.shown;
         }))
 

@@ -3,3 +3,4 @@ pub mod ScriptRuns
 pub mod HostSteps
 pub mod HostTurns
 pub mod HostScripts
+pub mod Stops

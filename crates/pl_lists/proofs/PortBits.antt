@@ -6,6 +6,7 @@ use Rattle.std.specs.Ordering.{nat_cmp}
 use Rattle.std.specs.BTreeSet.{insert_key}
 use Rattle.std.proofs.lemmas.Bool.{cases_order, eq-eqb, ne_eqb, lt-ltb, le-ltb}
 use Rattle.std.proofs.lemmas.Nat.Bits.{bit_at_set_same, bit_at_set_other, bit_at_clear_same, bit_at_clear_other}
+use Rattle.pl_lemmas.proofs.Bools.{and_false, and_true}
 use Rattle.pl_lists.specs.declared.port_set.PortSet.{PortSet}
 use Rattle.pl_lists.specs.Ports.{has_port, ports_of}
 
@@ -133,14 +134,6 @@ module _ (old new : ℕ → Bool) where
         | true ↦ ap (λ l. cond (not (a == port)) (a ∷ l) l) rest
         | false ↦ rest
       ])
-
-and_false : (b : Bool) → (b && false) ≡ false
-and_false true = refl
-and_false false = refl
-
-and_true : (b : Bool) → (b && true) ≡ b
-and_true true = refl
-and_true false = refl
 
 -- the bit of a port tells whether the port is in the set
 pub has_port_is : (set : PortSet) (port : ℕ) → port < 32 → list_any (λ p. p == port) (ports_of set) ≡ has_port set port

@@ -1,12 +1,12 @@
 -- What stands among the items of a list, through the words that make lists of lists.
-use Rattle.std.proofs.Common.{◌≡◌, ◌⊎◌, ℕ, zero, suc, ◌<◌, Bool, true, false, cond, List, [], ◌∷◌, ◌++◌, map, length, Option, Some, None, Ordering, Less, Equal, Greater, refl, sym, ap, ◌∙◌, subst, inl, inr, arith}
-use Rattle.std.specs.Prelude.{Contains, slice_index_or}
-use Rattle.std.specs.List.{AllByRecursion, cons_option, filter, filter_map, flat_map, list_all, list_any}
+use Rattle.std.proofs.Common.{◌≡◌, ◌⊎◌, ℕ, zero, suc, ◌<◌, Bool, true, false, cond, List, [], ◌∷◌, ◌++◌, map, length, Option, Some, None, Ordering, Less, Equal, Greater, refl, sym, ap, ◌∙◌, subst, inl, inr, arith, ◌+◌}
+use Rattle.std.specs.Prelude.{Contains, slice_get, slice_index_or}
+use Rattle.std.specs.List.{AllByRecursion, cons_option, filter, filter_map, flat_map, list_all, list_any, range_with_len}
 use Rattle.std.specs.List.Sorted.{IsStrictlySortedBy}
 use Rattle.std.specs.Ordering.{match_ordering, ordering_reverse}
 use Rattle.std.specs.Cmp.{IsTotalOrder}
 use Rattle.std.specs.BTreeSet.{insert_key}
-use Rattle.std.proofs.lemmas.Bool.{and_from, or_left, or_right}
+use Rattle.std.proofs.lemmas.Bool.{and_from, false≢true, or_cases, or_left, or_right}
 use Rattle.std.proofs.lemmas.Map.Lookups.{CmpEqualImpliesEq}
 use Rattle.pl_logic.specs.ManagerViews.{in_order, id_cmp}
 use Rattle.std.proofs.lemmas.Cmp.{nat_cmp_total, on_total}
@@ -194,3 +194,27 @@ module _ {K : Type 0} (R : K → K → Ordering) where
 
 pub id_total : IsTotalOrder id_cmp
 id_total = on_total (λ (s : SwitchId). s.0) nat_cmp_total
+
+-- some item passes
+pub member_passes : {X : Type 0} (test : X → Bool) (xs : List X) → list_any test xs ≡ true → (x : X) × IsAmong x xs × (test x ≡ true)
+member_passes test [] h = absurd (false≢true h)
+member_passes test (x ∷ xs) h = elim (or_cases (test x) (list_any test xs) h) [
+  | inl here ↦ (x, inl refl, here)
+  | inr there ↦ let rest = member_passes test xs there in (rest.0, inr rest.1, rest.2)
+]
+
+pub holds_of : {K : Type 0} (P : K → Type 0) (x : K) (xs : List K) → AllByRecursion P xs → IsAmong x xs → P x
+holds_of P x [] all h = absurd h
+holds_of P x (y ∷ xs) all (inl is) = subst P is all.0
+holds_of P x (y ∷ xs) all (inr h) = holds_of P x xs all.1 h
+
+pub among_range : (p a n m : ℕ) → m ≡ a + p → p < n → IsAmong m (range_with_len a n)
+among_range p a zero m is less = absurd (omega (arith, less))
+among_range zero a (suc n) m is less = inl (omega (arith, is))
+among_range (suc p) a (suc n) m is less = inr (among_range p (a + 1) n m (omega (arith, is)) (omega (arith, less)))
+
+pub got_among : {X : Type 0} (xs : List X) (n : ℕ) (x : X) → slice_get xs n ≡ Some x → IsAmong x xs
+got_among [] zero x h = let none : None ≡ Some x = h in absurd (cc)
+got_among [] (suc n) x h = let none : None ≡ Some x = h in absurd (cc)
+got_among (y ∷ xs) zero x h = inl (let same : Some y ≡ Some x = h in cc)
+got_among (y ∷ xs) (suc n) x h = inr (got_among xs n x h)

@@ -1,11 +1,13 @@
 -- A switch that has just started.
-use Rattle.std.proofs.Common.{ℕ, zero, suc, ◌/◌, [], replicate, None}
+use Rattle.std.proofs.Common.{ℕ, zero, suc, ◌/◌, [], replicate, None, ◌≡◌, Some}
 use Rattle.std.specs.List.{AllByRecursion}
 use Rattle.std.proofs.lemmas.List.{length-replicate}
+use Rattle.pl_lemmas.proofs.Lists.{replicated}
 use Rattle.pl_frame.specs.declared.address.SwitchId.{SwitchId}
 use Rattle.pl_logic.specs.Accounting.{HasMac, IsShaped, RemembersMac}
 use Rattle.pl_logic.specs.PortRecords.{new_port}
-use Rattle.pl_logic.specs.SwitchFacts.{CanBoot, switch_at_boot}
+use Rattle.pl_logic.specs.SwitchFacts.{CanBoot, hold_at, switch_at_boot}
+use Rattle.pl_logic.specs.declared.switch_records.Hold.{Hold}
 
 no_grants : (k : ℕ) → AllByRecursion (AllByRecursion HasMac) (replicate k [])
 no_grants zero = tt
@@ -29,3 +31,9 @@ booted_is_shaped id k can = record {
   granted = no_grants k;
   sources = no_sources k;
 }
+
+pub nothing_held : (id : SwitchId) (k q : ℕ) → hold_at (switch_at_boot id k) q ≡ None
+nothing_held id k q = replicated (k / 2) q None
+
+pub unheld : (id : SwitchId) (k q : ℕ) (hold : Hold) → hold_at (switch_at_boot id k) q ≡ Some hold → ⊥
+unheld id k q hold is = let none = nothing_held id k q in absurd (cc (none, is))

@@ -1,2 +1,4 @@
 pub mod Among
 pub mod Booted
+pub mod Ports
+pub mod Addresses

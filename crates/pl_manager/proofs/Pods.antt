@@ -13,10 +13,9 @@ use Rattle.pl_layouts.specs.Equality.{same_switch}
 use Rattle.pl_logic.specs.ManagerFacts.{CanHear, heard, switch_count}
 use Rattle.pl_logic.specs.ManagerViews.{ManagerView, PodGiven, id_cmp, pods_given, speakers, tellers}
 use Rattle.pl_logic.specs.SwitchFacts.{IsTreeSize}
-use Rattle.pl_logic.proofs.Among.{IsAmong, among_in_order, among_left, among_right, any_among}
+use Rattle.pl_logic.proofs.Among.{IsAmong, among_in_order, among_left, among_right, any_among, member_passes}
 use Rattle.pl_manager_rule.proofs.Avoided.{id_exact}
 use Rattle.pl_manager_rule.proofs.Registered.{askers_once}
-use Rattle.pl_groups.proofs.Reached.{one_passes}
 
 abbrev given : List SwitchId → List SwitchId
 given askers = map (λ g. g.switch) (pods_given askers)
@@ -43,7 +42,7 @@ switch_laws = record {
 -- and was heard
 given_heard : (view : ManagerView) (s : SwitchId) → list_any (same_switch s) (given view.askers) ≡ true → list_any (same_switch s) (heard view) ≡ true
 given_heard view s e =
-    let at = one_passes (same_switch s) (given view.askers) e in
+    let at = member_passes (same_switch s) (given view.askers) e in
     let members = map (λ m. m.0.0) view.members in let learners = map (λ a. a.switch) view.learnt.addresses in
     let spoke = among_right at.0 (tellers view.told) (members ++ (view.askers ++ learners))
     (among_right at.0 members (view.askers ++ learners) (among_left at.0 view.askers learners (given_asked view.askers at.0 at.1))) in

@@ -1,14 +1,12 @@
 -- A link that is as alive as before changes no tree, nor does a place that is told again.
-use Rattle.std.proofs.Common.{◌≡◌, ◌&&◌, ◌==◌, ℕ, not, Bool, true, false, cond, List, [], ◌∷◌, map, length, Option, Some, None, Ordering, Less, Equal, Greater, refl, sym, ap, ◌∙◌, subst, inl, inr}
+use Rattle.std.proofs.Common.{◌≡◌, ◌&&◌, ◌==◌, ℕ, not, Bool, true, false, cond, List, [], ◌∷◌, map, length, Option, Some, None, Ordering, Less, Equal, Greater, refl, sym, ap, ◌∙◌, subst}
 use Rattle.std.specs.Prelude.{unwrap_or}
 use Rattle.std.specs.List.{cons_option, filter, filter_map, find, list_any}
-use Rattle.std.specs.List.Sorted.{IsStrictlySortedBy}
 use Rattle.std.specs.Option.{option_and_then, option_map}
 use Rattle.std.specs.Ordering.{is_eq, match_ordering}
 use Rattle.std.specs.Cmp.{Equal-is}
 use Rattle.std.specs.BTreeMap.{is_at}
 use Rattle.std.specs.BTreeSet.{insert_key}
-use Rattle.std.proofs.lemmas.Bool.{not-true}
 use Rattle.pl_frame.specs.declared.address.SwitchId.{SwitchId}
 use Rattle.pl_layouts.specs.declared.place.Place.{Place}
 use Rattle.pl_layouts.specs.Equality.{same_switch}
@@ -17,15 +15,14 @@ use Rattle.pl_layouts.specs.Placement.{is_known, nowhere}
 use Rattle.pl_logic.specs.declared.messages.TreePart.{TreePart}
 use Rattle.pl_logic.specs.ManagerViews.{Members, PlacedEdge, Told, alive_neighbours, edge_at, has_level, id_cmp, is_alive, is_told_usable, link_cmp, neighbours, place_of, placed_edges, switches, tellers, value_at, with_members}
 use Rattle.pl_logic.specs.Trees.{core_for, core_of, cores, largest, needed_edges, tree_part, turn}
-use Rattle.pl_logic.proofs.Among.{IsAmong, among_in_order, among_insert, among_left, id_total, rising_inserted}
+use Rattle.pl_logic.proofs.Among.{among_in_order, among_left, id_total}
 use Rattle.pl_manager_rule.specs.ManagerRule.{with_link, with_place}
-use Rattle.pl_manager_rule.proofs.Avoided.{id_exact, neighbours_rise, switches_rise}
+use Rattle.pl_manager_rule.proofs.Avoided.{id_exact, id_is, id_itself, neighbours_rise, switches_rise}
 use Rattle.pl_manager_rule.proofs.History.{value_after}
 use Rattle.pl_manager_rule.proofs.Tables.{found_key}
-use Rattle.pl_reports.proofs.Ordering.{same_rising}
-use Rattle.pl_reports.proofs.Telling.{link_exact, link_total, other_neighbours, own_neighbours, switches_linked, switches_placed}
-use Rattle.pl_faults.proofs.Anew.{at_is, is_itself}
-use Rattle.pl_faults.proofs.Filling.{among_put_in}
+use Rattle.pl_manager_rule.proofs.Kept.{link_exact}
+use Rattle.pl_reports.proofs.Telling.{link_total, other_neighbours, own_neighbours, switches_linked, switches_placed}
+use Rattle.pl_reports.proofs.Placing.{insert_nothing}
 use Rattle.pl_groups.proofs.Edges.{alive_back, alive_neighbour}
 
 -- ---- a tree by places, links that are alive, neighbours over those, and core switches
@@ -73,11 +70,6 @@ tree_is told members group s =
     ap (option_and_then (under_by (place_of told) (is_alive told) (alive_neighbours told) needed s)) (core_is told group needed)
 
 -- ---- one more among them
-insert_nothing : (xs : List SwitchId) (k : SwitchId) → IsStrictlySortedBy id_cmp xs → IsAmong k xs → insert_key id_cmp xs k ≡ xs
-insert_nothing xs k s among =
-    same_rising id_cmp id_total id_exact (insert_key id_cmp xs k) xs (rising_inserted id_cmp id_total k xs s) s
-    (λ x h. elim (among_insert id_cmp k x xs h) [ inl is ↦ subst (λ z. IsAmong z xs) is among | inr j ↦ j ])
-    (λ x h. among_put_in id_cmp id_total id_exact x k xs (inr h))
 
 -- that does not pass
 filter_without : (p : SwitchId → Bool) (xs : List SwitchId) (k : SwitchId) → p k ≡ false → filter p (insert_key id_cmp xs k) ≡ filter p xs
@@ -160,11 +152,11 @@ module _ (told : Told) (s u : SwitchId) (usable : Bool) (h : is_alive (with_link
     where
       by : (b : Bool) → is_at (id_cmp s) t ≡ b → filter (is_alive told t) (neighbours after t) ≡ filter (is_alive told t) (neighbours told t)
       by true e =
-          subst (λ z. filter (is_alive told z) (neighbours after z) ≡ filter (is_alive told z) (neighbours told z)) (at_is s t e)
+          subst (λ z. filter (is_alive told z) (neighbours after z) ≡ filter (is_alive told z) (neighbours told z)) (id_is s t e)
           (ap (filter (is_alive told s)) (own_neighbours told s u usable) ∙ own_near (is_alive told s u) refl)
       by false e =
           ap (filter (is_alive told t)) (other_neighbours told s u usable t
-          (λ is. let so : is_at (id_cmp s) t ≡ true = subst (λ z. is_at (id_cmp s) z ≡ true) is (is_itself s) in absurd (cc)))
+          (λ is. let so : is_at (id_cmp s) t ≡ true = subst (λ z. is_at (id_cmp s) z ≡ true) is (id_itself s) in absurd (cc)))
 
   cores_after : cores after ≡ cores told
   cores_after = ap (filter (λ c. has_level told c 2)) (switches_linked told s u usable) ∙ cores_with told s
@@ -207,8 +199,3 @@ module _ (told : Told) (s : SwitchId) (place : Place) (h : place_of told s ≡ p
       tree_is placed members group t
       ∙ (λ i. tree_by (λ z. place_after z i) (is_alive told) (alive_neighbours told) (cores_placed i) (needed_placed members group i) group t)
       ∙ sym (tree_is told members group t)
-
--- by the test of the code
-pub still_is : (now was : Bool) → cond was now (not now) ≡ true → now ≡ was
-still_is now true e = e
-still_is now false e = not-true now e

@@ -1,7 +1,7 @@
 -- An avoid list is all that its switch avoids, in rising order.
-use Rattle.std.proofs.Common.{◌≡◌, ℕ, ◌==◌, ◌&&◌, not, Bool, true, false, cond, List, [], ◌∷◌, map, Option, Some, None, Ordering, Less, Equal, Greater, nat_cmp, refl, sym, ap, subst}
+use Rattle.std.proofs.Common.{◌≡◌, ℕ, ◌==◌, ◌&&◌, not, Bool, true, false, cond, List, [], ◌∷◌, map, Option, Some, None, Ordering, Less, Equal, Greater, nat_cmp, refl, sym, ap, subst, inl, inr}
 use Rattle.std.specs.Prelude.{Contains, unwrap_or}
-use Rattle.std.specs.List.{AllByRecursion, cons_option, filter, filter_map, flat_map}
+use Rattle.std.specs.List.{AllByRecursion, cons_option, filter, filter_map, flat_map, list_any}
 use Rattle.std.proofs.lemmas.List.Kept.{IsStrictlySortedBy-filter}
 use Rattle.pl_layouts.specs.Memberships.{flood}
 use Rattle.pl_layouts.specs.Placement.{nowhere}
@@ -9,11 +9,12 @@ use Rattle.pl_manager_rule.proofs.Tables.{found_key}
 use Rattle.pl_logic.specs.Trees.{needed_edges}
 use Rattle.pl_logic.specs.ManagerFacts.{groups}
 use Rattle.std.specs.List.Sorted.{IsStrictlySortedBy}
-use Rattle.std.specs.Ordering.{ordering_then}
-use Rattle.std.specs.Cmp.{IsTotalOrder}
-use Rattle.std.proofs.lemmas.Bool.{and_from, cond_both, and_parts, eqb-true, not-true, not_from_false}
-use Rattle.std.proofs.lemmas.Cmp.{nat_cmp_total, on_total, then_total}
+use Rattle.std.specs.Ordering.{is_eq, ordering_then}
+use Rattle.std.specs.Cmp.{Equal-is, IsTotalOrder}
+use Rattle.std.proofs.lemmas.Bool.{and_from, cond_both, and_parts, eqb-true, not-true, not_from_false, false≢true, or_cases}
+use Rattle.std.proofs.lemmas.Cmp.{nat_cmp_total, on_total, then_total, tied_itself}
 use Rattle.std.proofs.lemmas.Map.Lookups.{CmpEqualImpliesEq, exact_unsigned}
+use Rattle.std.specs.BTreeMap.{is_at}
 use Rattle.pl_frame.specs.declared.address.SwitchId.{SwitchId}
 use Rattle.pl_layouts.specs.declared.place.Place.{Place}
 use Rattle.pl_logic.specs.ManagerViews.{Members, PlacedEdge, Told, alive_at_level, alive_neighbours, edge_at, edge_with, has_level, id_cmp, is_alive, neighbours, place_of, placed_edges, switches, tellers, value_at, with_members}
@@ -46,8 +47,8 @@ avoided_exact x y e =
 
 -- ---- placed edge switches
 -- one that told a level told something
-heard_place : (told : Told) (s : SwitchId) (n : ℕ) → (place_of told s).level ≡ Some n → IsAmong s (tellers told)
-heard_place told s n e = by (value_at id_cmp told.places s) refl e
+pub teller_of_level : (told : Told) (s : SwitchId) (n : ℕ) → (place_of told s).level ≡ Some n → IsAmong s (tellers told)
+teller_of_level told s n e = by (value_at id_cmp told.places s) refl e
   where
     by : (o : Option Place) → value_at id_cmp told.places s ≡ o → (unwrap_or o nowhere).level ≡ Some n → IsAmong s (tellers told)
     by None found k = let none : None ≡ Some n = k in cc
@@ -93,7 +94,7 @@ pub placed_among : (told : Told) (e : PlacedEdge) →
     IsAmong e (placed_edges told)
 placed_among told e h =
     among_filter_mapped (λ s. edge_at s (place_of told s)) e e.switch (switches told)
-    (among_switches told e.switch (heard_place told e.switch 0 (ap (λ p. p.level) h)))
+    (among_switches told e.switch (teller_of_level told e.switch 0 (ap (λ p. p.level) h)))
     (ap (edge_at e.switch) h)
 
 -- ---- the list
@@ -194,3 +195,16 @@ module _ (told : Told) where
 
 pub groups_rise : (members : Members) → IsStrictlySortedBy nat_cmp (groups members)
 groups_rise members = rising_in_order nat_cmp nat_cmp_total (flood ∷ map (λ m. m.0.1) members)
+
+pub id_is : (s t : SwitchId) → is_at (id_cmp s) t ≡ true → s ≡ t
+id_is s t e = id_exact s t ((Equal-is (id_cmp s t)).0 e)
+
+pub id_itself : (s : SwitchId) → is_at (id_cmp s) s ≡ true
+id_itself s = ap is_eq (tied_itself id_total s)
+
+pub id_among : (s : SwitchId) (xs : List SwitchId) → list_any (is_at (id_cmp s)) xs ≡ true → IsAmong s xs
+id_among s [] e = absurd (false≢true e)
+id_among s (x ∷ xs) e = elim (or_cases (is_at (id_cmp s) x) (list_any (is_at (id_cmp s)) xs) e) [
+  | inl here ↦ inl (sym (id_is s x here))
+  | inr there ↦ inr (id_among s xs there)
+]

@@ -9,6 +9,7 @@ use Rattle.pl_frame.specs.declared.address.Mac.{Mac}
 use Rattle.pl_frame.specs.declared.address.SwitchId.{SwitchId}
 use Rattle.pl_pmac.specs.declared.pmac.Pmac.{Pmac}
 use Rattle.pl_layouts.specs.Equality.{same_mac, same_pmac, same_switch}
+use Rattle.pl_layouts.proofs.Sameness.{switch_itself}
 use Rattle.pl_logic.specs.declared.acts.ManagerAct.TheVariants.{Say, Number}
 use Rattle.pl_logic.specs.declared.messages.ToSwitch.{ToSwitch}
 use Rattle.pl_logic.specs.declared.messages.ToSwitch.TheVariants as say
@@ -20,7 +21,7 @@ use Rattle.pl_logic.specs.ManagerDuties.{AnswersDuly, IsGrown, numbered_by, with
 use Rattle.pl_logic.specs.AvoidLists.{avoid_list}
 use Rattle.pl_logic.proofs.Among.{IsAmong, all_among, among_filter, among_flat_map, among_map, among_right}
 use Rattle.pl_manager_rule.specs.ManagerRule.{acts_of, answer_to, avoid_acts, changed, changed_of_group, invalidation, learning, manager_hears, manager_rule, part_in, reply, same_avoid_list, same_part, told_again, tree_acts, tree_acts_of, view_after, with_learnt}
-use Rattle.pl_manager_rule.proofs.Speakers.{heard_after, listed_is_heard, now_or_before, registered_heard, same_itself}
+use Rattle.pl_manager_rule.proofs.Speakers.{heard_after, listed_is_heard, now_or_before, registered_heard}
 
 found_among : {X : Type 0} (test : X → Bool) (x : X) (xs : List X) → find test xs ≡ Some x → IsAmong x xs
 found_among test x [] h = let none : None ≡ Some x = h in cc
@@ -52,7 +53,7 @@ learning_heard view s after pmac amac =
 
 -- a message to the one that speaks
 speaker_heard : (view : ManagerView) (s : SwitchId) (says : ToSwitch) → list_all (is_for_heard view s) (Say s says ∷ []) ≡ true
-speaker_heard view s says = and_from (same_switch s s || is_heard view s) true (or_left (same_switch s s) (is_heard view s) (same_itself s)) refl
+speaker_heard view s says = and_from (same_switch s s || is_heard view s) true (or_left (same_switch s s) (is_heard view s) (switch_itself s)) refl
 
 reply_heard : (before after : ManagerView) (s : SwitchId) (says : ToManager) → list_all (is_for_heard before s) (reply before after s says) ≡ true
 reply_heard before after s tell.PodWanted = speaker_heard before s (say.Pod (unwrap_or (pod_given after.askers s) 0))

@@ -8,10 +8,12 @@ use Rattle.std.specs.Ordering.{is_eq, match_ordering}
 use Rattle.std.proofs.lemmas.Bool.{and_from, and_parts, cond_both, eq-eqb, eqb-true, false≢true, or_parts}
 use Rattle.std.proofs.lemmas.Cmp.{tied_itself}
 use Rattle.std.proofs.lemmas.Map.Lookups.{CmpEqualImpliesEq}
+use Rattle.pl_lemmas.proofs.Bools.{cond_and, false_before, same_truth}
 use Rattle.pl_frame.specs.declared.address.Ip4.{Ip4}
 use Rattle.pl_frame.specs.declared.address.SwitchId.{SwitchId}
 use Rattle.pl_pmac.specs.declared.pmac.Pmac.{Pmac}
 use Rattle.pl_layouts.specs.Equality.{same_pmac, same_switch}
+use Rattle.pl_layouts.proofs.Sameness.{pmac_is, switch_itself}
 use Rattle.pl_logic.specs.declared.messages.ToManager.{ToManager}
 use Rattle.pl_logic.specs.declared.messages.ToManager.TheVariants as tell
 use Rattle.pl_logic.specs.HostViews.{ip_cmp}
@@ -21,20 +23,15 @@ use Rattle.pl_manager_rule.specs.ManagerRule.{manager_hears, told_again, view_af
 use Rattle.pl_manager_rule.specs.Histories.{Word, ip_said, known, link_said, members_said, owner_said, place_said, pods_after, pods_asked, registered, registered_after, said_by, said_last}
 use Rattle.pl_manager_rule.proofs.Avoided.{id_exact, same_is}
 use Rattle.pl_manager_rule.proofs.HeardSwitches.{same_numbers}
-use Rattle.pl_manager_rule.proofs.Kept.{ip_exact, ip_total, learnt_is_registered, link_exact, link_total, members_exact, members_total, none_where, pmac_is}
-use Rattle.pl_manager_rule.proofs.Speakers.{same_itself}
+use Rattle.pl_manager_rule.proofs.Kept.{ip_exact, ip_total, learnt_is_registered, link_exact, link_total, members_exact, members_total}
 use Rattle.pl_manager_rule.proofs.ToldLast.{registered_is_learnt}
 
 -- ---- two tests that hold of the same
-both_hold : (a b : Bool) → (a ≡ true → b ≡ true) → (b ≡ true → a ≡ true) → a ≡ b
-both_hold true b f g = sym (f refl)
-both_hold false true f g = g refl
-both_hold false false f g = refl
 
 is_key : {K : Type 0} (R : K → K → Ordering) → IsTotalOrder R → CmpEqualImpliesEq R → (q k : K) (b : Bool) → (b ≡ true → q ≡ k) →
     (q ≡ k → b ≡ true) → is_eq (R q k) ≡ b
 is_key R o exact q k b f g =
-    both_hold (is_eq (R q k)) b (λ h. g (exact q k ((Equal-is (R q k)).0 h)))
+    same_truth (is_eq (R q k)) b (λ h. g (exact q k ((Equal-is (R q k)).0 h)))
     (λ h. ap (λ x. is_eq (R q x)) (sym (f h)) ∙ ap is_eq (tied_itself o q))
 
 -- ---- a table with one more word
@@ -87,11 +84,6 @@ silent : {X : Type 0} (b : Bool) (rest : Option X) → rest ≡ option_or (cond 
 silent true rest = refl
 silent false rest = refl
 
--- a word of another switch, or of another thing
-nested : {X : Type 0} (a b : Bool) (x : Option X) → cond (a && b) x None ≡ cond a (cond b x None) None
-nested true b x = refl
-nested false b x = refl
-
 -- ---- places, links and members
 module _ (k : ℕ) where
   pub places_said : (words : List Word) (s : SwitchId) → value_at id_cmp (known k words).told.places s ≡ said_last (said_by s place_said) words
@@ -103,7 +95,7 @@ module _ (k : ℕ) where
           ≡ option_or (cond (same_switch w.switch s) (place_said says) None) (value_at id_cmp (known k before).told.places s)
       by (tell.Place place) =
           word_after id_cmp id_total id_exact (known k before).told.places w.switch s place (same_switch w.switch s)
-          (λ h. sym (same_is w.switch s h)) (λ e. subst (λ t. same_switch t s ≡ true) e (same_itself s))
+          (λ h. sym (same_is w.switch s h)) (λ e. subst (λ t. same_switch t s ≡ true) e (switch_itself s))
       by (tell.Link u usable) = silent (same_switch w.switch s) (value_at id_cmp (known k before).told.places s)
       by tell.PodWanted = silent (same_switch w.switch s) (value_at id_cmp (known k before).told.places s)
       by (tell.Learned pmac amac ip) = silent (same_switch w.switch s) (value_at id_cmp (known k before).told.places s)
@@ -122,9 +114,9 @@ module _ (k : ℕ) where
           (λ h. let two = and_parts (same_switch w.switch s) (same_switch v u) h in
           λ i. (sym (same_is w.switch s two.0) i, sym (same_is v u two.1) i))
           (λ e. and_from (same_switch w.switch s) (same_switch v u)
-          (subst (λ t. same_switch t s ≡ true) (ap (λ (p : SwitchId × SwitchId). p.0) e) (same_itself s))
-          (subst (λ t. same_switch t u ≡ true) (ap (λ (p : SwitchId × SwitchId). p.1) e) (same_itself u)))
-          ∙ ap (λ x. option_or x (value_at link_cmp (known k before).told.links (s, u))) (nested (same_switch w.switch s) (same_switch v u) (Some usable))
+          (subst (λ t. same_switch t s ≡ true) (ap (λ (p : SwitchId × SwitchId). p.0) e) (switch_itself s))
+          (subst (λ t. same_switch t u ≡ true) (ap (λ (p : SwitchId × SwitchId). p.1) e) (switch_itself u)))
+          ∙ ap (λ x. option_or x (value_at link_cmp (known k before).told.links (s, u))) (cond_and (same_switch w.switch s) (same_switch v u) (Some usable))
       by (tell.Place place) = silent (same_switch w.switch s) (value_at link_cmp (known k before).told.links (s, u))
       by tell.PodWanted = silent (same_switch w.switch s) (value_at link_cmp (known k before).told.links (s, u))
       by (tell.Learned pmac amac ip) = silent (same_switch w.switch s) (value_at link_cmp (known k before).told.links (s, u))
@@ -144,9 +136,9 @@ module _ (k : ℕ) where
           (λ h. let two = and_parts (same_switch w.switch s) (g == group) h in
           λ i. (sym (same_is w.switch s two.0) i, sym (eqb-true g group two.1) i))
           (λ e. and_from (same_switch w.switch s) (g == group)
-          (subst (λ t. same_switch t s ≡ true) (ap (λ (p : SwitchId × ℕ). p.0) e) (same_itself s))
+          (subst (λ t. same_switch t s ≡ true) (ap (λ (p : SwitchId × ℕ). p.0) e) (switch_itself s))
           (eq-eqb g group (sym (ap (λ (p : SwitchId × ℕ). p.1) e))))
-          ∙ ap (λ x. option_or x (value_at members_cmp (known k before).members (s, group))) (nested (same_switch w.switch s) (g == group) (Some any))
+          ∙ ap (λ x. option_or x (value_at members_cmp (known k before).members (s, group))) (cond_and (same_switch w.switch s) (g == group) (Some any))
       by (tell.Place place) = silent (same_switch w.switch s) (value_at members_cmp (known k before).members (s, group))
       by (tell.Link u usable) = silent (same_switch w.switch s) (value_at members_cmp (known k before).members (s, group))
       by tell.PodWanted = silent (same_switch w.switch s) (value_at members_cmp (known k before).members (s, group))
@@ -230,7 +222,7 @@ ip_first addresses new x fresh = by (same_pmac new.pmac x) refl
     by true is =
         let pmacs = map (λ a. a.pmac) addresses in
         let none = none_there addresses new.pmac
-        (none_where (list_any (λ p. same_pmac p new.pmac) pmacs) (list_any (λ r. same_pmac r.pmac new.pmac) (numbered addresses))
+        (false_before (list_any (λ p. same_pmac p new.pmac) pmacs) (list_any (λ r. same_pmac r.pmac new.pmac) (numbered addresses))
         (learnt_is_registered addresses new.pmac) fresh) in
         only new.ip ∙ ap (option_or new.ip) (sym none ∙ ap (ip_in addresses) (pmac_is new.pmac x is))
     by false is = refl
@@ -260,7 +252,7 @@ ip_other new x apart (a ∷ addresses) = step (ip_other new x apart addresses) (
         ≡ option_and_then (λ (c : LearntAddress). c.ip) (cond b (Some a) (find (λ c. same_pmac c.pmac x) addresses))
     step rest true is =
         let differ : same_pmac a.pmac new.pmac ≡ false =
-        none_where (same_pmac a.pmac new.pmac) (same_pmac new.pmac x)
+        false_before (same_pmac a.pmac new.pmac) (same_pmac new.pmac x)
         (λ h. subst (λ p. same_pmac p x ≡ true) (pmac_is a.pmac new.pmac h) is) apart in
         ap (λ b. cond b (option_or new.ip a.ip) a.ip) differ
     step rest false is = rest

@@ -1,27 +1,30 @@
 -- What the fabric manager knows stays in order.
-use Rattle.std.proofs.Common.{◌≡◌, ◌⊎◌, ℕ, ◌+◌, ◌==◌, ◌&&◌, Bool, true, false, cond, List, [], ◌∷◌, length, map, Option, Some, None, nat_cmp, refl, sym, ap, ◌∙◌, subst, inl, inr}
-use Rattle.std.specs.List.{AllByRecursion, IsDistinct, list_any}
+use Rattle.std.proofs.Common.{◌≡◌, ◌⊎◌, ℕ, ◌+◌, Bool, true, false, cond, List, [], ◌∷◌, length, map, Option, Some, None, nat_cmp, refl, sym, ap, ◌∙◌, subst, inl, inr}
+use Rattle.std.specs.List.{AllByRecursion, filter, IsDistinct, list_any}
 use Rattle.std.specs.List.Sorted.{IsStrictlySortedBy}
 use Rattle.std.specs.Map.{keys_of}
 use Rattle.std.specs.Cmp.{IsTotalOrder}
-use Rattle.std.proofs.lemmas.Bool.{and_from, and_parts, cond_both, eq-eqb, eqb-true, false≢true, or_cases, or_left, or_parts, or_right}
+use Rattle.std.proofs.lemmas.Bool.{cond_both, false≢true, or_cases, or_left, or_parts, or_right}
 use Rattle.std.proofs.lemmas.Cmp.{nat_cmp_total, on_total, then_total}
 use Rattle.std.proofs.lemmas.Map.Lookups.{CmpEqualImpliesEq, exact_unsigned}
+use Rattle.pl_lemmas.proofs.Bools.{false_before}
+use Rattle.pl_lemmas.proofs.Options.{true_inside}
 use Rattle.pl_frame.specs.declared.address.Ip4.{Ip4}
 use Rattle.pl_frame.specs.declared.address.SwitchId.{SwitchId}
 use Rattle.pl_pmac.specs.declared.pmac.Pmac.{Pmac}
 use Rattle.pl_layouts.specs.Equality.{same_pmac, same_switch}
+use Rattle.pl_layouts.proofs.Sameness.{pmac_is, switch_itself}
 use Rattle.pl_logic.specs.declared.messages.ToManager.{ToManager}
 use Rattle.pl_logic.specs.declared.messages.ToManager.TheVariants as tell
 use Rattle.pl_logic.specs.HostViews.{ip_cmp}
-use Rattle.pl_logic.specs.ManagerViews.{LearntAddress, ManagerView, PodGiven, Registration, booted_manager, id_cmp, link_cmp, members_cmp, numbered, pods_given}
-use Rattle.pl_logic.proofs.Among.{id_total}
+use Rattle.pl_logic.specs.ManagerViews.{LearntAddress, ManagerView, PodGiven, Registration, booted_manager, id_cmp, link_cmp, members_cmp, numbered, pods_given, Told, is_told_usable, neighbours, value_at}
+use Rattle.pl_logic.proofs.Among.{among_filtered, among_in_order, among_map, among_mapped, id_total, IsAmong}
 use Rattle.pl_manager_rule.specs.ManagerRule.{manager_hears, told_again, view_after, with_address, with_asker, with_owner}
 use Rattle.pl_manager_rule.specs.Histories.{Word, known}
 use Rattle.pl_manager_rule.specs.Repeats.{IsInOrder}
 use Rattle.pl_manager_rule.proofs.Avoided.{both_equal, id_exact, same_is}
 use Rattle.pl_manager_rule.proofs.Registered.{pmac_turned, switch_turned}
-use Rattle.pl_manager_rule.proofs.Tables.{rising_put}
+use Rattle.pl_manager_rule.proofs.Tables.{found_key, rising_put}
 
 -- ---- the orders of the tables
 pub link_total : IsTotalOrder link_cmp
@@ -46,22 +49,6 @@ members_exact a b e =
 pub ip_exact : CmpEqualImpliesEq ip_cmp
 ip_exact a b e = ap (λ n. let ip : Ip4 = record { 0 = n } in ip) (exact_unsigned a.0 b.0 e)
 
-pub pmac_is : (a b : Pmac) → same_pmac a b ≡ true → a ≡ b
-pmac_is a b e =
-    let three = and_parts ((a.pod == b.pod) && (a.position == b.position) && (a.port == b.port)) (a.vmid == b.vmid) e in
-    let two = and_parts ((a.pod == b.pod) && (a.position == b.position)) (a.port == b.port) three.0 in
-    let one = and_parts (a.pod == b.pod) (a.position == b.position) two.0 in
-    let pod = eqb-true a.pod b.pod one.0 in let position = eqb-true a.position b.position one.1 in
-    let port = eqb-true a.port b.port two.1 in let vmid = eqb-true a.vmid b.vmid three.1 in
-    λ i. record { pod = pod i; position = position i; port = port i; vmid = vmid i }
-
-pub pmac_itself : (x : Pmac) → same_pmac x x ≡ true
-pmac_itself x =
-    and_from ((x.pod == x.pod) && (x.position == x.position) && (x.port == x.port)) (x.vmid == x.vmid)
-    (and_from ((x.pod == x.pod) && (x.position == x.position)) (x.port == x.port)
-    (and_from (x.pod == x.pod) (x.position == x.position) (eq-eqb x.pod x.pod refl) (eq-eqb x.position x.position refl))
-    (eq-eqb x.port x.port refl)) (eq-eqb x.vmid x.vmid refl)
-
 -- ---- askers
 -- each that asked is given a pod
 pub asked_is_given : (askers : List SwitchId) (t : SwitchId) → list_any (λ q. same_switch q t) askers ≡ true →
@@ -83,11 +70,6 @@ asked_is_given (s ∷ askers) t h =
     by rest false given (inl is) = or_left (same_switch s t) (list_any (λ g. same_switch g.switch t) (pods_given askers)) is
     by rest false given (inr k) = or_right (same_switch s t) (list_any (λ g. same_switch g.switch t) (pods_given askers)) (rest k)
 
--- a test that would hold elsewhere holds nowhere
-pub none_where : (a b : Bool) → (a ≡ true → b ≡ true) → b ≡ false → a ≡ false
-none_where true b f e = absurd (false≢true (sym e ∙ f refl))
-none_where false b f e = refl
-
 -- none of them is like this one
 none_alike : {K : Type 0} (eq : K → K → Bool) → ((a b : K) → eq a b ≡ eq b a) → (k : K) (ks : List K) →
     list_any (λ q. eq q k) ks ≡ false → AllByRecursion (λ q. eq k q ≡ false) ks
@@ -101,7 +83,7 @@ askers_kept askers s once =
     cond_both (list_any (λ g. same_switch g.switch s) (pods_given askers)) askers (s ∷ askers) (IsDistinct same_switch) (λ asked. once)
     (λ first. (
       none_alike same_switch switch_turned s askers
-          (none_where (list_any (λ q. same_switch q s) askers) (list_any (λ g. same_switch g.switch s) (pods_given askers)) (asked_is_given askers s) first),
+          (false_before (list_any (λ q. same_switch q s) askers) (list_any (λ g. same_switch g.switch s) (pods_given askers)) (asked_is_given askers s) first),
       once,
     ))
 
@@ -140,7 +122,7 @@ addresses_kept addresses new once =
     (λ again. subst (IsDistinct same_pmac) (sym (same_pmacs new addresses)) once)
     (λ first. (
       none_alike same_pmac pmac_turned new.pmac pmacs
-          (none_where (list_any (λ p. same_pmac p new.pmac) pmacs) (list_any (λ r. same_pmac r.pmac new.pmac) (numbered addresses))
+          (false_before (list_any (λ p. same_pmac p new.pmac) pmacs) (list_any (λ r. same_pmac r.pmac new.pmac) (numbered addresses))
           (learnt_is_registered addresses new.pmac) first),
       once,
     ))
@@ -205,3 +187,12 @@ stays_in_order view s says o = kept view s says o
 pub reached_in_order : (k : ℕ) (words : List Word) → IsInOrder (known k words)
 reached_in_order k [] = boots_in_order k
 reached_in_order k (w ∷ before) = stays_in_order (known k before) w.switch w.says (reached_in_order k before)
+
+-- a switch to which a usable link was told is among the neighbours that were told
+pub near_usable : (told : Told) (s u : SwitchId) → is_told_usable told s u ≡ true → IsAmong u (neighbours told s)
+near_usable told s u h =
+    let key = found_key link_cmp link_exact told.links (s, u) true (true_inside (value_at link_cmp told.links (s, u)) h) in
+    let at = among_map (λ (l : (SwitchId × SwitchId) × Bool). l.0) (s, u) told.links key in
+    let passes : same_switch at.0.0.0 s ≡ true = subst (λ (k : SwitchId × SwitchId). same_switch k.0 s ≡ true) (sym at.2) (switch_itself s) in
+    let among = among_mapped (λ (l : (SwitchId × SwitchId) × Bool). l.0.1) at.0 _ (among_filtered (λ (l : (SwitchId × SwitchId) × Bool). same_switch l.0.0 s) at.0 told.links at.1 passes) in
+    among_in_order id_cmp id_exact u _ (subst (λ x. IsAmong x (map (λ l. l.0.1) (filter (λ l. same_switch l.0.0 s) told.links))) (ap (λ (k : SwitchId × SwitchId). k.1) at.2) among)

@@ -8,6 +8,7 @@ use Rattle.pl_frame.specs.declared.address.Mac.{Mac}
 use Rattle.pl_frame.specs.declared.address.SwitchId.{SwitchId}
 use Rattle.pl_pmac.specs.declared.pmac.Pmac.{Pmac}
 use Rattle.pl_layouts.specs.Equality.{same_pmac, same_switch}
+use Rattle.pl_layouts.proofs.Sameness.{pmac_is, pmac_itself}
 use Rattle.pl_logic.specs.declared.acts.ManagerAct.TheVariants.{Number}
 use Rattle.pl_logic.specs.declared.messages.ToManager.{ToManager}
 use Rattle.pl_logic.specs.declared.messages.ToManager.TheVariants as tell
@@ -17,7 +18,7 @@ use Rattle.pl_logic.specs.ManagerViews.{Learnt, LearntAddress, ManagerView, Told
 use Rattle.pl_logic.specs.AvoidLists.{avoid_list}
 use Rattle.pl_manager_rule.specs.ManagerRule.{ManagerStep, acts_of, avoid_acts, invalidation, manager_hears, part_in, reply, same_avoid_list, same_part, told_again, tree_acts, tree_acts_of, view_after, with_address, with_learnt}
 use Rattle.pl_manager_rule.specs.Repeats.{HasToldLast, IsInOrder, IsKnownAddress, answers}
-use Rattle.pl_manager_rule.proofs.Kept.{ip_exact, ip_total, link_exact, link_total, members_exact, members_total, pmac_is, pmac_itself}
+use Rattle.pl_manager_rule.proofs.Kept.{ip_exact, ip_total, link_exact, link_total, members_exact, members_total}
 use Rattle.pl_manager_rule.proofs.Avoided.{id_exact}
 use Rattle.pl_manager_rule.proofs.Sameness.{avoid_lists_alike, parts_alike}
 use Rattle.pl_manager_rule.proofs.Tables.{put_again}

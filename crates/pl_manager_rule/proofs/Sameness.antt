@@ -1,5 +1,5 @@
 -- The fabric manager's tests of lists and parts tell just those apart that differ.
-use Rattle.std.proofs.Common.{◌≡◌, ℕ, ◌↔◌, true, List, Option, Some, None, refl, ap, subst, eq-eqb}
+use Rattle.std.proofs.Common.{◌≡◌, ℕ, ◌↔◌, true, List, Option, Some, None, refl, ap, subst}
 use Rattle.std.specs.Ordering.{eq_by_cmp, is_eq}
 use Rattle.std.specs.Cmp.{Equal-is}
 use Rattle.std.specs.Cmp.Lexicographic.{pointwise, pointwise_decides}
@@ -8,6 +8,7 @@ use Rattle.std.proofs.lemmas.Cmp.{tied_itself}
 use Rattle.pl_frame.specs.declared.address.SwitchId.{SwitchId}
 use Rattle.pl_logic.specs.declared.messages.TreePart.{TreePart}
 use Rattle.pl_layouts.specs.Equality.{same_switch}
+use Rattle.pl_layouts.proofs.Sameness.{switch_itself}
 use Rattle.pl_logic.specs.AvoidLists.{avoided_cmp}
 use Rattle.pl_manager_rule.specs.ManagerRule.{same_avoid_list, same_part, same_up}
 use Rattle.pl_manager_rule.proofs.Avoided.{avoided_exact, avoided_total, same_is}
@@ -16,11 +17,8 @@ pub avoid_lists_alike : (xs ys : List (SwitchId × ℕ × ℕ)) → (same_avoid_
 avoid_lists_alike = pointwise_decides (λ x y.
     (λ e. avoided_exact x y ((Equal-is (avoided_cmp x y)).0 e), λ e. subst (λ z. eq_by_cmp avoided_cmp x z ≡ true) e (ap is_eq (tied_itself avoided_total x))))
 
-same_itself : (s : SwitchId) → same_switch s s ≡ true
-same_itself s = eq-eqb s.0 s.0 refl
-
-ids_alike : (xs ys : List SwitchId) → (pointwise same_switch xs ys ≡ true) ↔ (xs ≡ ys)
-ids_alike = pointwise_decides (λ x y. (λ e. same_is x y e, λ e. subst (λ z. same_switch x z ≡ true) e (same_itself x)))
+pub ids_alike : (xs ys : List SwitchId) → (pointwise same_switch xs ys ≡ true) ↔ (xs ≡ ys)
+ids_alike = pointwise_decides (λ x y. (λ e. same_is x y e, λ e. subst (λ z. same_switch x z ≡ true) e (switch_itself x)))
 
 ups_same : (a b : Option SwitchId) → same_up a b ≡ true → a ≡ b
 ups_same None None e = refl
@@ -30,7 +28,7 @@ ups_same (Some a) None e = absurd (false≢true e)
 
 up_itself : (a : Option SwitchId) → same_up a a ≡ true
 up_itself None = refl
-up_itself (Some a) = same_itself a
+up_itself (Some a) = switch_itself a
 
 parts_same : (x y : Option TreePart) → same_part x y ≡ true → x ≡ y
 parts_same None None e = refl

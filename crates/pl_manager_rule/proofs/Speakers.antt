@@ -1,10 +1,11 @@
 -- With each message the fabric manager hears of no switch but the one that speaks.
-use Rattle.std.proofs.Common.{◌≡◌, ◌⊎◌, ◌||◌, Bool, true, false, cond, List, [], ◌∷◌, ◌++◌, map, Ordering, refl, ap, subst, inl, inr, eq-eqb, ◌∙◌, ◌+◌, length}
+use Rattle.std.proofs.Common.{◌≡◌, ◌⊎◌, ◌||◌, Bool, true, false, cond, List, [], ◌∷◌, ◌++◌, map, Ordering, refl, ap, subst, inl, inr, ◌∙◌, ◌+◌, length}
 use Rattle.std.specs.List.{list_any}
 use Rattle.std.specs.BTreeMap.{insert_entry}
 use Rattle.std.proofs.lemmas.Bool.{cond_both, or_cases, or_left, or_right}
 use Rattle.pl_frame.specs.declared.address.SwitchId.{SwitchId}
 use Rattle.pl_layouts.specs.Equality.{same_pmac, same_switch}
+use Rattle.pl_layouts.proofs.Sameness.{switch_itself}
 use Rattle.pl_logic.specs.declared.messages.ToManager.{ToManager}
 use Rattle.pl_logic.specs.declared.messages.ToManager.TheVariants as tell
 use Rattle.pl_logic.specs.ManagerViews.{LearntAddress, ManagerView, Registration, id_cmp, is_heard, link_cmp, members_cmp, numbered, pods_given, speakers, switches, tellers}
@@ -12,9 +13,6 @@ use Rattle.pl_logic.proofs.Among.{IsAmong, among_append, among_left, among_map, 
 use Rattle.pl_manager_rule.specs.ManagerRule.{told_again, view_after, with_address, with_asker}
 use Rattle.pl_manager_rule.proofs.Tables.{among_put}
 use Rattle.pl_manager_rule.proofs.Avoided.{same_is}
-
-pub same_itself : (s : SwitchId) → same_switch s s ≡ true
-same_itself s = eq-eqb s.0 s.0 refl
 
 -- ---- lists with one more switch at most
 abbrev IsWithOne : SwitchId → List SwitchId → List SwitchId → Type 0
@@ -99,10 +97,10 @@ module _ (view : ManagerView) (s : SwitchId) where
       (same_ones s links) (put_ones members_cmp view.members s group any) (same_ones s view.askers) (same_ones s learners)
 
   pub among_is_heard : (t : SwitchId) → IsAmong t (speakers view) → is_heard view t ≡ true
-  among_is_heard t h = any_among (λ c. same_switch c t) t (speakers view) h (same_itself t)
+  among_is_heard t h = any_among (λ c. same_switch c t) t (speakers view) h (switch_itself t)
 
   pub now_or_before : (t : SwitchId) → (s ≡ t) ⊎ IsAmong t (speakers view) → (same_switch s t || is_heard view t) ≡ true
-  now_or_before t (inl is) = or_left (same_switch s t) (is_heard view t) (subst (λ u. same_switch s u ≡ true) is (same_itself s))
+  now_or_before t (inl is) = or_left (same_switch s t) (is_heard view t) (subst (λ u. same_switch s u ≡ true) is (switch_itself s))
   now_or_before t (inr h) = or_right (same_switch s t) (is_heard view t) (among_is_heard t h)
 
   -- so each switch of the list is one to speak to
@@ -114,17 +112,17 @@ module _ (view : ManagerView) (s : SwitchId) where
       (among_left t (tellers after.told) (map (λ m. m.0.0) after.members ++ (after.askers ++ map (λ a. a.switch) after.learnt.addresses))
       (among_ordered id_cmp t (tellers after.told) h)))
 
-heard_is_among : (t : SwitchId) (xs : List SwitchId) → list_any (λ c. same_switch c t) xs ≡ true → IsAmong t xs
-heard_is_among t [] h = absurd (cc)
-heard_is_among t (x ∷ xs) h = elim (or_cases (same_switch x t) (list_any (λ c. same_switch c t) xs) h) [
+pub known_among : (t : SwitchId) (xs : List SwitchId) → list_any (λ c. same_switch c t) xs ≡ true → IsAmong t xs
+known_among t [] h = absurd (cc)
+known_among t (x ∷ xs) h = elim (or_cases (same_switch x t) (list_any (λ c. same_switch c t) xs) h) [
   | inl here ↦ inl (same_is x t here)
-  | inr there ↦ inr (heard_is_among t xs there)
+  | inr there ↦ inr (known_among t xs there)
 ]
 
 -- no switch is heard but the speaker
 pub heard_after : (view : ManagerView) (s t : SwitchId) (says : ToManager) → is_heard (view_after view s says) t ≡ true →
     (same_switch s t || is_heard view t) ≡ true
-heard_after view s t says h = now_or_before view s t (speakers_after view s says t (heard_is_among t (speakers (view_after view s says)) h))
+heard_after view s t says h = now_or_before view s t (speakers_after view s says t (known_among t (speakers (view_after view s says)) h))
 
 -- the switch of a registration told of that address
 pub registered_heard : (addresses : List LearntAddress) (r : Registration) → IsAmong r (numbered addresses) →

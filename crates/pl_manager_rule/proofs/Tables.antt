@@ -1,6 +1,5 @@
 -- Tables that rise by their keys: what they have at a key, and what one more word makes of them.
 use Rattle.std.proofs.Common.{◌≡◌, ◌⊎◌, Bool, true, false, cond, List, [], ◌∷◌, Some, None, Ordering, Less, Equal, Greater, refl, sym, ap, ◌∙◌, subst, inl, inr}
-use Rattle.std.specs.List.{AllByRecursion}
 use Rattle.std.specs.List.Sorted.{IsStrictlySortedBy}
 use Rattle.std.specs.Map.{keys_of}
 use Rattle.std.specs.BTreeMap.{insert_entry}
@@ -10,12 +9,7 @@ use Rattle.std.specs.Cmp.{Equal-is, IsTotalOrder}
 use Rattle.std.proofs.lemmas.Cmp.{tied_itself}
 use Rattle.std.proofs.lemmas.Map.Lookups.{CmpEqualImpliesEq}
 use Rattle.pl_logic.specs.ManagerViews.{value_at}
-use Rattle.pl_logic.proofs.Among.{IsAmong, among_insert, rising_inserted}
-
-holds_of : {K : Type 0} (P : K → Type 0) (x : K) (xs : List K) → AllByRecursion P xs → IsAmong x xs → P x
-holds_of P x [] all h = absurd h
-holds_of P x (y ∷ xs) all (inl is) = subst P is all.0
-holds_of P x (y ∷ xs) all (inr h) = holds_of P x xs all.1 h
+use Rattle.pl_logic.proofs.Among.{IsAmong, among_insert, rising_inserted, holds_of}
 
 not_both : {K : Type 0} (R : K → K → Ordering) → IsTotalOrder R → (a b : K) → R a b ≡ Less → R b a ≡ Less → ⊥
 not_both R o a b less more = let turned : R b a ≡ Greater = o.antisymm b a ∙ ap ordering_reverse less in absurd (cc)

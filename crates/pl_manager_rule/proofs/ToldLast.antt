@@ -8,6 +8,7 @@ use Rattle.pl_frame.specs.declared.address.Mac.{Mac}
 use Rattle.pl_frame.specs.declared.address.SwitchId.{SwitchId}
 use Rattle.pl_pmac.specs.declared.pmac.Pmac.{Pmac}
 use Rattle.pl_layouts.specs.Equality.{same_pmac}
+use Rattle.pl_layouts.proofs.Sameness.{pmac_itself}
 use Rattle.pl_logic.specs.declared.messages.ToManager.{ToManager}
 use Rattle.pl_logic.specs.declared.messages.ToManager.TheVariants as tell
 use Rattle.pl_logic.specs.HostViews.{ip_cmp}
@@ -16,7 +17,7 @@ use Rattle.pl_logic.proofs.Among.{id_total}
 use Rattle.pl_manager_rule.specs.ManagerRule.{manager_hears, told_again, view_after, with_address, with_learnt}
 use Rattle.pl_manager_rule.specs.Repeats.{HasToldLast, IsKnownAddress}
 use Rattle.pl_manager_rule.proofs.HeardSwitches.{same_numbers}
-use Rattle.pl_manager_rule.proofs.Kept.{ip_total, link_total, members_total, pmac_itself}
+use Rattle.pl_manager_rule.proofs.Kept.{ip_total, link_total, members_total}
 use Rattle.pl_manager_rule.proofs.Registered.{asker_has_pod}
 use Rattle.pl_manager_rule.proofs.Tables.{value_put}
 

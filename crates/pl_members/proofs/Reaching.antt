@@ -11,6 +11,7 @@ use Rattle.std.specs.Option.{is_some}
 use Rattle.std.specs.Ordering.{is_le, match_ordering, nat_cmp, ordering_then}
 use Rattle.std.proofs.lemmas.Bool.{cases_eq, cases_lt, eq-eqb, ne_eqb}
 use Rattle.std.proofs.lemmas.List.Elements.{All-cons, All-nil, All-weaker}
+use Rattle.pl_lemmas.proofs.Bools.{or_behind, or_swap, or_twice}
 use Rattle.pl_logic.specs.declared.switch_records.Member.{Member}
 use Rattle.pl_layouts.specs.Frames.{mac_number}
 use Rattle.pl_lists.specs.declared.port_set.PortSet.{PortSet}
@@ -71,16 +72,6 @@ reached_in_range group port xs all =
     ap (list_any (λ m. m.port == port)) (filter_alike (in_range group) (λ m. m.group == group) xs (All-weaker IsAtPort (λ m. in_range group m ≡ (m.group == group)) (λ m a. in_group group m a.port) xs all))
     ∙ any_kept (λ m. m.group == group) (λ m. m.port == port) xs
 
-or_twice : (a b : Bool) → (a || b) ≡ (a || (a || b))
-or_twice true b = refl
-or_twice false b = refl
-
-or_swap : (a b c : Bool) → (a || (b || c)) ≡ (b || (a || c))
-or_swap true true c = refl
-or_swap true false c = refl
-or_swap false true c = refl
-or_swap false false c = refl
-
 -- a port that is inserted is there from then on, beside those that were there
 pub any_inserted : (port q : ℕ) (ports : List ℕ) → list_any (λ p. p == q) (insert_key nat_cmp ports port) ≡ ((port == q) || list_any (λ p. p == q) ports)
 any_inserted port q [] = refl
@@ -89,12 +80,6 @@ any_inserted port q (p ∷ ports) = elim (nat_cmp port p) as (λ r. nat_cmp port
   | Equal ↦ λ e. or_twice (p == q) (list_any (λ p. p == q) ports) ∙ ap (λ k. (k == q) || ((p == q) || list_any (λ p. p == q) ports)) (sym (from_equal port p e))
   | Greater ↦ λ e. ap (λ b. (p == q) || b) (any_inserted port q ports) ∙ or_swap (p == q) (port == q) (list_any (λ p. p == q) ports)
 ] refl
-
-or_behind : (a b c : Bool) → ((a || b) || c) ≡ (b || (a || c))
-or_behind true true c = refl
-or_behind true false c = refl
-or_behind false true c = refl
-or_behind false false c = refl
 
 -- the loop over the members: the ports so far and those of the rest
 pub reached_more : (q : ℕ) (ports : List ℕ) (m : Member) (rest : List Member) →

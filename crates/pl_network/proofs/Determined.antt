@@ -1,5 +1,6 @@
 -- Rules that leave no choice determine each step of the world.
 use Rattle.std.proofs.Common.{◌≡◌, ℕ, ◌+◌, List, [], ◌∷◌, Option, Some, None, set, slice_get, refl, sym, ◌∙◌, ap, subst}
+use Rattle.pl_lemmas.proofs.Lists.{found_once}
 use Rattle.pl_frame.specs.declared.address.SwitchId.{SwitchId}
 use Rattle.pl_wiring.specs.declared.link.Link.{Link}
 use Rattle.pl_wiring.specs.declared.link.Peer.{Peer}
@@ -40,9 +41,6 @@ use Rattle.pl_world.specs.SwitchActs.{switch_stepped}
 use Rattle.pl_world.specs.WorldRule.{ComesAtHost, ComesAtSwitch, ComesIn, ComesOut, ComesOver, Delivers, DeliversFromHost, DeliversFromManager, DeliversOut, DeliversToManager, Fails, Goes, Happens, HostTurn, HostPlays, HostReceives, IsRepaired, Loses, ManagerTurn, SwitchTurn, WorldStep, heard_item}
 use Rattle.pl_world.specs.Worlds.{WorldView}
 use Rattle.pl_network.specs.NoChoice.{LeavesHostNoChoice, LeavesManagerNoChoice, LeavesSwitchNoChoice}
-
-found_once : {T : Type 0} (xs : List T) (n : ℕ) (x y : T) → slice_get xs n ≡ Some x → slice_get xs n ≡ Some y → x ≡ y
-found_once xs n x y one other = cc
 
 module _ (rule : SwitchRule) (one_way : LeavesSwitchNoChoice rule) where
   switch_turns : (w : WorldView) (s : ℕ) (input : SwitchInput) (speech : SpokenFrame) (a b : WorldView) →

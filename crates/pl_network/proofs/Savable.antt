@@ -1,10 +1,10 @@
 -- Each entry that a run writes can be saved.
 use Rattle.std.proofs.Common.{ap, ◌≡◌, ℕ, zero, suc, ◌+◌, ◌<◌, ◌≤◌, ◌&&◌, nat_lt, Bool, true, false, if◌then◌else◌, All, Contains, List, [], ◌∷◌, ◌++◌, length, Option, Some, None, set, refl, sym, ◌∙◌, subst, arith}
-use Rattle.std.specs.List.{AllByRecursion, find, position}
+use Rattle.std.specs.List.{AllByRecursion, find}
 use Rattle.std.proofs.lemmas.Bool.{and_parts, ltb-true}
 use Rattle.std.proofs.lemmas.List.Elements.{All-append, All-cons, All-nil, All-push}
-use Rattle.std.proofs.lemmas.List.Quantifiers.{position-Some}
 use Rattle.std.proofs.lemmas.Option.{slice_get_within}
+use Rattle.pl_lemmas.proofs.Lists.{found_within}
 use Rattle.pl_pmac.specs.declared.pmac.Pmac.{Pmac}
 use Rattle.pl_wiring.specs.declared.link.Link.{Link}
 use Rattle.pl_wiring.specs.FatTree.{IsTreeLink}
@@ -36,7 +36,6 @@ use Rattle.pl_logic.specs.ManagerDuties.{ManagerRule}
 use Rattle.pl_logic.specs.SwitchInputs.{SwitchInput, SwitchRule}
 use Rattle.pl_logic.specs.HostViews.{HostView}
 use Rattle.pl_logic.specs.SwitchViews.{SwitchView}
-use Rattle.pl_world.specs.declared.error.StepError.{StepError}
 use Rattle.pl_world.specs.declared.error.StepError.TheVariants.{NoSuch}
 use Rattle.pl_world.specs.declared.event.Event.{Event}
 use Rattle.pl_world.specs.declared.item.Item.{Item}
@@ -62,7 +61,7 @@ use Rattle.pl_world.proofs.Leaving.{Writes, failed_left, host_acts_left, manager
 use Rattle.pl_world.proofs.Turning.{lost_left}
 use Rattle.pl_world.proofs.Balances.{head_is_item}
 use Rattle.pl_world.proofs.Runs.{marked_counted}
-use Rattle.pl_world.proofs.StepBalances.{event_is_not_refused, same_refusal, step_is_counted}
+use Rattle.pl_world.proofs.StepBalances.{event_is_not_refused, same_refusal, step_is_counted, tested}
 
 -- a world of this wiring, and each entry of its journal can be saved
 pub record Keeps (plan of : Plan) (journal : List Entry) : Type 0 where
@@ -71,10 +70,6 @@ pub record Keeps (plan of : Plan) (journal : List Entry) : Type 0 where
 
 abbrev pub Saves : Plan → WorldView → Type 0
 Saves plan w = Keeps plan w.plan w.journal
-
-position_within : {T : Type 0} (p : T → Bool) (xs : List T) (n : ℕ) → position p xs ≡ Some n → n < length xs
-position_within p [] n is = absurd (cc)
-position_within p (x ∷ xs) n is = (position-Some p (x ∷ xs) n x is).0
 
 module _ (plan : Plan) where
   notes : (w : WorldView) (e : Entry) → IsSavable plan e → Saves plan w → Saves plan (noted w e)
@@ -160,7 +155,7 @@ module _ (plan : Plan) where
     act_saves d (act.Tell told) g = record { world = record { same = g.world.same; all = g.world.all }; late = g.late }
     act_saves d (act.Grant pmac amac) g = record {
       world = grants d.world pmac (host_of d.world.plan amac)
-          (λ n is. subst (λ (p : Plan). IsHost p n) g.world.same (position_within (λ host. same_mac host.mac amac) d.world.plan.hosts n is)) g.world;
+          (λ n is. subst (λ (p : Plan). IsHost p n) g.world.same (found_within (λ host. same_mac host.mac amac) d.world.plan.hosts n is)) g.world;
       late = g.late;
     }
     act_saves d (act.Make frame) g = makes d frame g
@@ -310,11 +305,6 @@ module _ (plan : Plan) where
   marks w (LinkDown x y) is saves = absurd is
   marks w (LinkUp x y) is saves = absurd is
   marks w (Moved host edge port) is saves = absurd is
-
--- a host moves to a switch that is there
-tested : (b : Bool) (x y : Option StepError) (e : StepError) → y ≡ Some e → (if b then x else y) ≡ None → b ≡ true
-tested true x y e other h = refl
-tested false x y e other h = absurd (cc)
 
 moves_to_a_switch : (w : WorldView) (h s port : ℕ) → refusal_of_move w h s port ≡ None → s < switch_count w.plan.k
 moves_to_a_switch w h s port none =

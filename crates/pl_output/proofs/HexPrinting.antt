@@ -1,15 +1,11 @@
 -- Printing bytes in hexadecimal, one chunk after the other.
-use Rattle.std.proofs.Common.{◌≡◌, ℕ, ◌/◌, ◌%◌, List, [], ◌∷◌, ◌++◌, length, take, drop, slice_index, refl, sym, ◌∙◌, ap, subst, append_assoc, arith}
+use Rattle.std.proofs.Common.{◌≡◌, ℕ, List, [], ◌∷◌, ◌++◌, length, take, drop, refl, sym, ◌∙◌, ap, subst, append_assoc, arith}
 use Rattle.std.proofs.lemmas.List.{append-nil, take-append-drop}
 use Rattle.hex.specs.Hex.{encode_lower, encode_with, lower_digits}
+use Rattle.pl_journal.proofs.Hexadecimal.{encode_append}
 use Rattle.pl_shelf.specs.Held.{Held}
 use Rattle.pl_output.specs.Printed.{IsPrinted, BreaksOff}
 use Rattle.pl_output.proofs.PrintedLaws.{printed_none, printed_then, broken_then, broken_first}
-
-encode_append : (t xs ys : List ℕ) → encode_with t (xs ++ ys) ≡ encode_with t xs ++ encode_with t ys
-unfolding encode_with
-encode_append t [] ys = refl
-encode_append t (x ∷ xs) ys = ap (λ zs. slice_index t (x / 16) ∷ slice_index t (x % 16) ∷ zs) (encode_append t xs ys)
 
 encode_none : encode_lower [] ≡ []
 unfolding encode_with

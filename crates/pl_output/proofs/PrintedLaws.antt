@@ -1,12 +1,13 @@
 -- Printing one text after the other.
 use Rattle.std.proofs.Common.{◌≡◌, ℕ, ◌+◌, ◌<◌, List, [], ◌∷◌, ◌++◌, length, take, drop, get_or, refl, sym, ◌∙◌, ap, subst, append_assoc, arith, length-append}
 use Rattle.std.specs.List.{flat_map}
-use Rattle.std.proofs.lemmas.List.{append-nil, take-append-le, take-append-drop, take_more}
+use Rattle.std.proofs.lemmas.List.{append-nil, take-append-drop, take_more}
 use Rattle.std.proofs.lemmas.List.Concat.{flat_map-append}
 use Rattle.std.proofs.Math.Seq.{take-append-add}
 use Rattle.pl_shelf.specs.Held.{Held, Changes, IsCutOff, with_end}
 use Rattle.pl_shelf.proofs.Changed.{Changes-appended, with_end-none}
 use Rattle.pl_output.specs.Printed.{IsPrinted, BreaksOff}
+use Rattle.pl_output.proofs.Appended.{cut_front}
 
 -- nothing was printed
 pub printed_none : (old : List ℕ → Held) (name piece : List ℕ) → IsPrinted old old name piece piece []
@@ -40,17 +41,6 @@ cut_after a b c name first text change cut = (
   },
 )
 
--- what is cut off is cut off also of a longer text
-cut_longer : (a c : List ℕ → Held) (name : List ℕ) (held : Held) (text more : List ℕ) → IsCutOff a c name held text →
-    IsCutOff a c name held (text ++ more)
-cut_longer a c name held text more cut =
-    let n = cut.0 in
-    let short : n < length text = cut.1 in (
-      n,
-      omega (arith, short, length-append text more),
-      subst (λ t. Changes a c name (with_end held t)) (sym (take-append-le n text more (omega (arith, short)))) cut.2,
-    )
-
 module _ (a b c : List ℕ → Held) (name p q : List ℕ) where
   -- what the piece held and two texts, once the first was printed
   both : (x y : List ℕ) (first : IsPrinted a b name p q x) → p ++ (x ++ y) ≡ first.sent ++ (q ++ y)
@@ -70,7 +60,7 @@ module _ (a b c : List ℕ → Held) (name p q : List ℕ) where
 
 -- the first text breaks off
 pub broken_first : (a c : List ℕ → Held) (name p x y : List ℕ) → BreaksOff a c name p x → BreaksOff a c name p (x ++ y)
-broken_first a c name p x y cut = subst (IsCutOff a c name (a name)) (append_assoc p x y) (cut_longer a c name (a name) (p ++ x) y cut)
+broken_first a c name p x y cut = subst (IsCutOff a c name (a name)) (append_assoc p x y) (cut_front a c name (a name) (p ++ x) y cut)
 
 -- the piece is sent with a front of the rest
 module _ (a b c : List ℕ → Held) (name p q rest text : List ℕ) (n : ℕ) (so_far : IsPrinted a b name p (q ++ rest) text) where
@@ -88,7 +78,7 @@ module _ (a b c : List ℕ → Held) (name p q rest text : List ℕ) (n : ℕ) (
   pub broken_rest : IsCutOff b c name (b name) (q ++ take n rest) → BreaksOff a c name p text
   broken_rest cut =
       subst (IsCutOff a c name (a name)) (sym parted)
-      (cut_behind a b c name so_far.sent _ so_far.changes (cut_longer b c name (b name) (q ++ take n rest) (drop n rest) cut))
+      (cut_behind a b c name so_far.sent _ so_far.changes (cut_front b c name (b name) (q ++ take n rest) (drop n rest) cut))
 
 -- the piece was empty at first, and the last of it is sent
 module _ (a b c : List ℕ → Held) (name q text : List ℕ) (printed : IsPrinted a b name [] q text) where

@@ -1,6 +1,6 @@
 -- Texts that were saved one after the other, under names that differ.
 use Rattle.std.proofs.Common.{◌≡◌, ◌≢◌, ◌∙◌, ◌⊎◌, inl, inr, ℕ, suc, ◌<◌, List, [], ◌∷◌, ◌++◌, length, take, slice_index_or, All, AllPairs, Result, Ok, Err, IfErr, OnErr, refl, sym, ap, subst, append_assoc, arith}
-use Rattle.std.proofs.lemmas.List.Elements.{All-cons, All-nil}
+use Rattle.std.proofs.lemmas.List.Elements.{All-cons, All-nil, All-tail}
 use Rattle.pl_shelf.specs.Held.{Held}
 use Rattle.pl_output.specs.InTurn.{BreaksInTurn, BreaksOne, SavedInTurn, SavesOne}
 use Rattle.pl_output.specs.Saved.{AreSaved, BreaksOff, IsBroken, IsWhole, OthersStay, Saving, once_saved}
@@ -39,17 +39,14 @@ first_apart s ss apart k d within = apart 0 (suc k) d (omega arith) (omega (arit
 rest_apart : (s : Saving) (ss : List Saving) → AllPairs AreApart (s ∷ ss) → AllPairs AreApart ss
 rest_apart s ss apart i j d less within = apart (suc i) (suc j) d (omega (arith, less)) (omega (arith, within))
 
-rest_all : {A : Type 0} (P : A → Type 0) (x : A) (xs : List A) → All P (x ∷ xs) → All P xs
-rest_all P x xs all k d within = all (suc k) d (omega (arith, within))
-
 -- a front of a list
 front_all : {A : Type 0} (P : A → Type 0) (xs ys : List A) → All P (xs ++ ys) → All P xs
 front_all P [] ys all = All-nil P
-front_all P (x ∷ xs) ys all = All-cons P x xs (all 0 x (omega arith)) (front_all P xs ys (rest_all P x (xs ++ ys) all))
+front_all P (x ∷ xs) ys all = All-cons P x xs (all 0 x (omega arith)) (front_all P xs ys (All-tail P x (xs ++ ys) all))
 
 last_one : {A : Type 0} (P : A → Type 0) (xs : List A) (y : A) → All P (xs ++ y ∷ []) → P y
 last_one P [] y all = all 0 y (omega arith)
-last_one P (x ∷ xs) y all = last_one P xs y (rest_all P x (xs ++ y ∷ []) all)
+last_one P (x ∷ xs) y all = last_one P xs y (All-tail P x (xs ++ y ∷ []) all)
 
 -- a later change of other names keeps what was saved
 kept_whole : (old mid new : List ℕ → Held) (s : Saving) (ss : List Saving) → SavesOne old mid s → All (AreApart s) ss → OthersStay mid new ss → IsWhole old new s
@@ -63,7 +60,7 @@ still_whole old mid new s ss change apart whole k d within =
 
 others_still : (old mid new : List ℕ → Held) (s : Saving) (ss : List Saving) → SavesOne old mid s → OthersStay mid new ss → OthersStay old new (s ∷ ss)
 others_still old mid new s ss change others q other =
-    others q (rest_all (λ t. q ≢ t.name) s ss other) ∙ change.others q (other 0 s (omega arith))
+    others q (All-tail (λ t. q ≢ t.name) s ss other) ∙ change.others q (other 0 s (omega arith))
 
 pub saved_all : (old new : List ℕ → Held) (savings : List Saving) → AllPairs AreApart savings → SavedInTurn old savings new → AreSaved old new savings
 saved_all old new [] apart is = record { whole = All-nil (IsWhole old new); others = λ q other. ap (λ f. f q) is }

@@ -1,5 +1,6 @@
 -- Places are true at the beginning: nothing is known and nothing waits.
 use Rattle.std.proofs.Common.{◌≡◌, ℕ, zero, suc, ◌*◌, ◌/◌, ◌<◌, Bool, true, false, nat_lt, if◌then◌else◌, List, [], ◌∷◌, length, map, replicate, Option, Some, None, get_or, refl, ap, ◌∙◌, arith}
+use Rattle.pl_lemmas.proofs.Lists.{replicated}
 use Rattle.pl_frame.specs.declared.address.SwitchId.{SwitchId}
 use Rattle.pl_layouts.specs.Placement.{nowhere}
 use Rattle.pl_ldp.specs.Writable.{IsId}
@@ -18,11 +19,6 @@ use Rattle.pl_control_plane.specs.ControlPlanes.{control_plane, has_data, no_swi
 use Rattle.pl_places.specs.Known.{IsFull, IsSound, told_at}
 use Rattle.pl_places.specs.Places.{ArePlaced}
 
-same_all : {T : Type 0} (n i : ℕ) (x : T) → get_or (replicate n x) i x ≡ x
-same_all zero i x = refl
-same_all (suc n) zero x = refl
-same_all (suc n) (suc i) x = same_all n i x
-
 -- a switch that knows its id and its ports alone
 record IsNew (v : SwitchView) : Type 0 where
   id : SwitchId
@@ -40,7 +36,7 @@ booted_at (id ∷ ids) k zero d less = refl
 booted_at (id ∷ ids) k (suc s) d less = booted_at ids k s d (omega arith)
 
 new_ports : (v : SwitchView) (p : ℕ) → IsNew v → port_of v p ≡ new_port
-new_ports v p new = ap (λ x. port_of x p) new.same ∙ same_all new.k p new_port
+new_ports v p new = ap (λ x. port_of x p) new.same ∙ replicated new.k p new_port
 
 no_items : (k many s p : ℕ) → queue_out k (replicate many []) s p ≡ []
 no_items k many s p = by (nat_lt p k)
@@ -49,13 +45,13 @@ no_items k many s p = by (nat_lt p k)
     none = []
 
     by : (b : Bool) → (if b then get_or (replicate many none) (port_index k s p) none else none) ≡ none
-    by true = same_all many (port_index k s p) none
+    by true = replicated many (port_index k s p) none
     by false = refl
 
 -- nothing was heard, so nothing is asked
 new_full : (k : ℕ) → IsFull nowhere (replicate k new_port)
 new_full k = record {
-  host = λ p h. absurd (let e = ap (λ (x : PortRecord). x.host) (same_all k p new_port) in cc);
+  host = λ p h. absurd (let e = ap (λ (x : PortRecord). x.host) (replicated k p new_port) in cc);
   one = λ p l n. unheard p 0 l;
   two = λ p q x y l m a b differ n. unheard p 1 l;
   up = λ p x own l a n. unheard p 0 l;
@@ -63,10 +59,10 @@ new_full k = record {
 }
   where
     unheard : (p x : ℕ) → (told_at (replicate k new_port) p).level ≡ Some x → ⊥
-    unheard p x l = let e = ap (λ (r : PortRecord). (heard_place r.heard).level) (same_all k p new_port) in cc
+    unheard p x l = let e = ap (λ (r : PortRecord). (heard_place r.heard).level) (replicated k p new_port) in cc
 
 no_hold : (n position : ℕ) (hold : Hold) → get_or (replicate n None) position None ≡ Some hold → ⊥
-no_hold n position hold h = let none : Option Hold = None in let e = same_all n position none in cc
+no_hold n position hold h = let none : Option Hold = None in let e = replicated n position none in cc
 
 new_sound : (id : SwitchId) (k : ℕ) → IsId id → 0 < k / 2 → IsSound (switch_at_boot id k)
 new_sound id k named some = record {
@@ -75,8 +71,8 @@ new_sound id k named some = record {
   able = record { begun = omega arith; within = omega arith; position = some };
   holders = λ position hold e. absurd (no_hold (k / 2) position hold e);
   homes = record {
-    grants = λ p none. same_all k p [];
-    remembered = λ p none. same_all k p None;
+    grants = λ p none. replicated k p [];
+    remembered = λ p none. replicated k p None;
     members = tt;
   };
 }

@@ -4,7 +4,9 @@ use Rattle.std.specs.List.{cons_option, filter_map}
 use Rattle.std.proofs.Common.{get_or-set_same}
 use Rattle.std.proofs.lemmas.Bool.{and_from, and_parts}
 use Rattle.std.proofs.lemmas.Option.{same_Some}
+use Rattle.pl_lemmas.proofs.Options.{is_none_is}
 use Rattle.pl_layouts.specs.Placement.{is_known}
+use Rattle.pl_layouts.proofs.Known.{is_known_of, known_is}
 use Rattle.pl_wiring.specs.declared.link.Peer.TheVariants.{HostPort}
 use Rattle.pl_wiring.specs.Labels.{label_of, switch_count}
 use Rattle.pl_wiring.specs.Peers.{peer_of}
@@ -39,10 +41,8 @@ use Rattle.pl_switch_rule.specs.SwitchRule.{IsChoice, comes_from_switch, data_co
 use Rattle.pl_control_plane.proofs.Silent.{IsSilent, learns_source_silent, silent_then}
 use Rattle.pl_control_plane.proofs.SilentFrames.{comes_from_switch_silent}
 use Rattle.pl_control_plane.proofs.SilentHosts.{takes_in_or_spent_silent}
-use Rattle.pl_places.proofs.Given.{is_known_of}
 use Rattle.pl_places.proofs.Hearing.{set_or_old}
 use Rattle.pl_places.proofs.Neighbours.{near_edge, neighbour_at, zero_of_pod}
-use Rattle.pl_places.proofs.Voting.{known_is, none_is}
 
 -- a pod that an aggregation switch told
 told_pod_is : (r : PortRecord) (x : ℕ) → told_pod r ≡ Some x → ((heard_place r.heard).level ≡ Some 1) × ((heard_place r.heard).pod ≡ Some x)
@@ -197,7 +197,7 @@ module _ (plan : Plan) (f : ControlPlane) (s : ℕ) (is : IsPlan plan) (old : Ar
             IsGoodView plan f s (record found { place = record { level = Some 0; position = (f.view s).place.position; pod = if b then pod_told_before found else (f.view s).place.pod } })
         by true e =
             let both = and_parts (is_none (f.view s).place.level) (is_none (f.view s).place.pod) e in
-            let none = none_is (f.view s).place.pod both.1 in
+            let none = is_none_is (f.view s).place.pod both.1 in
             edge_view (pod_told_before found) (λ x was. absurd (cc))
             (λ x told. (let first = first_told found.ports x told in
             let at = told_pod_is (get_or found.ports first.0 new_port) x first.1 in

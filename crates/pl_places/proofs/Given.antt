@@ -3,13 +3,14 @@ use Rattle.std.proofs.Common.{◌≡◌, ℕ, zero, suc, ◌⊎◌, ◌==◌, �
 use Rattle.std.specs.List.{list_any}
 use Rattle.std.proofs.lemmas.Bool.{and_from, and_parts, eq-eqb, ne_eqb, or_left, or_right}
 use Rattle.std.proofs.lemmas.Option.{same_Some}
+use Rattle.pl_lemmas.proofs.Options.{is_none_is, some_number}
 use Rattle.pl_layouts.specs.declared.place.Place.{Place}
 use Rattle.pl_layouts.specs.Placement.{is_known}
+use Rattle.pl_layouts.proofs.Known.{is_known_of, known_is}
 use Rattle.pl_logic.specs.declared.neighbour.PortRecord.{PortRecord}
 use Rattle.pl_logic.specs.PortRecords.{new_port}
 use Rattle.pl_logic.specs.SwitchViews.{SwitchView}
 use Rattle.pl_switch_rule.specs.Levels.{is_of_other_pod, level_after, other_pod, pod_after, share_a_pod}
-use Rattle.pl_places.proofs.Voting.{known_is, none_is}
 
 -- the levels that a message gives
 pub data GivesLevel (old told : Place) (ports : List PortRecord) : Option ℕ → Type 0 where
@@ -19,23 +20,16 @@ pub data GivesLevel (old told : Place) (ports : List PortRecord) : Option ℕ �
   Unknown : {level : Option ℕ} → old.level ≡ None → (told.level ≡ Some 0 → ⊥) → (told.level ≡ Some 1 → list_any (is_of_other_pod told.pod) ports ≡ true → ⊥) → level ≡ None →
       GivesLevel old told ports level
 
-some_is : (o : Option ℕ) → is_some o ≡ true → (n : ℕ) × (o ≡ Some n)
-some_is None h = absurd (cc)
-some_is (Some n) h = (n, refl)
-
 not_some : (o : Option ℕ) → is_some o ≡ false → o ≡ None
 not_some None h = refl
 not_some (Some n) h = absurd (cc)
-
-pub is_known_of : (o : Option ℕ) (n : ℕ) → o ≡ Some n → is_known o n ≡ true
-is_known_of o n e = rw e (eq-eqb n n refl)
 
 pub level_given : (w : SwitchView) (told : Place) → GivesLevel w.place told w.ports (level_after w told)
 level_given w told = by (is_some w.place.level) (is_known told.level 0) (is_known told.level 1 && list_any (is_of_other_pod told.pod) w.ports) refl refl refl
   where
     by : (a b c : Bool) → is_some w.place.level ≡ a → is_known told.level 0 ≡ b → (is_known told.level 1 && list_any (is_of_other_pod told.pod) w.ports) ≡ c →
         GivesLevel w.place told w.ports (if a then w.place.level else if b then Some 1 else if c then Some 2 else None)
-    by true b c ea eb ec = let some = some_is w.place.level ea in Stays some.0 some.1 some.1
+    by true b c ea eb ec = let some = some_number w.place.level ea in Stays some.0 some.1 some.1
     by false true c ea eb ec = FromEdge (not_some w.place.level ea) (known_is told.level 0 eb) refl
     by false false true ea eb ec =
         let both = and_parts (is_known told.level 1) (list_any (is_of_other_pod told.pod) w.ports) ec in
@@ -57,7 +51,7 @@ pod_given place told = by (is_none place.pod && share_a_pod place.level told.lev
     none_of (Some n) e = absurd (cc)
 
     by : (b : Bool) → (is_none place.pod && share_a_pod place.level told.level) ≡ b → GivesPod place told (if b then told.pod else place.pod)
-    by true e = let both = and_parts (is_none place.pod) (share_a_pod place.level told.level) e in ToldPod (none_is place.pod both.0) both.1 refl
+    by true e = let both = and_parts (is_none place.pod) (share_a_pod place.level told.level) e in ToldPod (is_none_is place.pod both.0) both.1 refl
     by false e = KeptPod refl (λ none share. absurd (let t = and_from (is_none place.pod) (share_a_pod place.level told.level) (none_of place.pod none) share in cc))
 
 -- two levels within a pod

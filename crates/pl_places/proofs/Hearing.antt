@@ -10,6 +10,7 @@ use Rattle.pl_layouts.specs.declared.control.ControlError.{ControlError}
 use Rattle.pl_layouts.specs.declared.control.Ldm.{Ldm}
 use Rattle.pl_layouts.specs.declared.place.Place.{Place}
 use Rattle.pl_layouts.specs.Placement.{is_known}
+use Rattle.pl_layouts.proofs.Known.{is_known_of, known_is}
 use Rattle.pl_ldp.specs.Writable.{IsId}
 use Rattle.pl_wiring.specs.declared.link.Peer.TheVariants.{HostPort}
 use Rattle.pl_wiring.specs.FatTree.{IsBelow}
@@ -30,11 +31,11 @@ use Rattle.pl_places.specs.Places.{ArePlaced, PositionsDiffer}
 use Rattle.pl_places.specs.Told.{IsGoodMessage, IsTold, IsTrueOf, has_heard}
 use Rattle.pl_places.proofs.Later.{IsGoodTurn}
 use Rattle.pl_places.proofs.Turns.{IsGoodView, homes_same, silent_turn, view_itself}
-use Rattle.pl_places.proofs.Given.{GivesLevel, GivesPod, found_other, has_other, is_known_of, level_given, other_from, other_is, other_some, pod_given, share_levels, shares_down, shares_up}
+use Rattle.pl_places.proofs.Given.{GivesLevel, GivesPod, found_other, has_other, level_given, other_from, other_is, other_some, pod_given, share_levels, shares_down, shares_up}
 use Rattle.pl_places.proofs.Given.GivesLevel.{FromEdge, FromPods, Stays, Unknown}
 use Rattle.pl_places.proofs.Given.GivesPod.{KeptPod, ToldPod}
 use Rattle.pl_places.proofs.Neighbours.{near_aggregation, near_edge, neighbour_at, one_number, one_peer, turned_below, zero_of_pod}
-use Rattle.pl_places.proofs.Voting.{holds_view, known_is, noted_edge, proposal_turn, vote_turn}
+use Rattle.pl_places.proofs.Voting.{holds_view, noted_edge, proposal_turn, vote_turn}
 use Rattle.pl_journal.specs.Flights.{label_level}
 
 pub set_or_old : {T : Type 0} (xs : List T) (n m : ℕ) (x d : T) → ((m ≡ n) × (get_or (set xs n x) m d ≡ x)) ⊎ (get_or (set xs n x) m d ≡ get_or xs m d)

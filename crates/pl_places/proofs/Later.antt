@@ -1,7 +1,8 @@
 -- What is true of a place stays true of a later one, and a turn that meets its obligations keeps places true.
-use Rattle.std.proofs.Common.{◌≡◌, ℕ, ◌⊎◌, Bool, true, false, List, [], ◌∷◌, ◌++◌, Option, Some, None, sym, ap, ◌∙◌, subst, inl, inr}
+use Rattle.std.proofs.Common.{◌≡◌, ℕ, ◌⊎◌, Bool, true, List, ◌++◌, Option, Some, None, sym, ap, ◌∙◌, subst, inl, inr}
 use Rattle.std.specs.List.{AllByRecursion}
 use Rattle.std.proofs.lemmas.Bool.{cases_eq}
+use Rattle.pl_lemmas.proofs.Lists.{all_append, all_behind, all_weaker}
 use Rattle.pl_frame.specs.declared.address.SwitchId.{SwitchId}
 use Rattle.pl_layouts.specs.declared.control.Control.{Control}
 use Rattle.pl_layouts.specs.declared.control.Control.TheVariants as control
@@ -15,10 +16,10 @@ use Rattle.pl_logic.specs.declared.acts.Act.{Act}
 use Rattle.pl_logic.specs.declared.neighbour.PortRecord.{PortRecord}
 use Rattle.pl_logic.specs.PortRecords.{port_of}
 use Rattle.pl_logic.specs.SwitchViews.{SwitchView}
-use Rattle.pl_world.proofs.Counts.{all_append}
 use Rattle.pl_control_plane.specs.ControlPlanes.{AreJoined, ControlPlane, passes, sends, unless}
 use Rattle.pl_control_plane.specs.PlaneSteps.{IsActed, IsLeft, LeftOver}
 use Rattle.pl_control_plane.proofs.Joined.{joined_differ}
+use Rattle.pl_control_plane.proofs.PlaneQueues.{unless_all}
 use Rattle.pl_places.specs.Known.{HasPod, IsOwn, IsSound, IsZeroOf, pod_of}
 use Rattle.pl_places.specs.Places.{ArePlaced}
 use Rattle.pl_places.specs.Told.{IsGoodLink, IsGoodMessage, IsGoodRecord, IsOf, IsTold, IsTrueOf, has_heard}
@@ -57,10 +58,6 @@ record_later id old new heard also r later more is = record {
   known = λ n e. told_later id old new heard also n.id n.place n.echo later more (is.known n e);
 }
 
-pub all_weaker : {T : Type 0} (P Q : T → Type 0) → ((x : T) → P x → Q x) → (xs : List T) → AllByRecursion P xs → AllByRecursion Q xs
-all_weaker P Q weaker [] all = tt
-all_weaker P Q weaker (x ∷ xs) all = (weaker x all.0, all_weaker P Q weaker xs all.1)
-
 -- the switch is the edge switch of position 0 of its pod
 pub record IsZero (plan : Plan) (s : ℕ) (v : SwitchView) : Type 0 where
   pub pod : ℕ
@@ -80,10 +77,6 @@ pub record IsGoodTurn (plan : Plan) (f : ControlPlane) (s : ℕ) (after : Switch
   pub sent : (t q p : ℕ) → AreJoined plan s p t q → AllByRecursion (IsGoodMessage after.id after.place (has_heard after p)) (sends p acts)
   pub passed : (t q p : ℕ) → AreJoined plan s p t q → passes p acts ≡ true → has_heard (f.view t) q ≡ true
   pub sound : IsSound after
-
-unless_all : (P : Control → Type 0) (failed : Bool) (xs : List Control) → AllByRecursion P xs → AllByRecursion P (unless failed xs)
-unless_all P true xs all = tt
-unless_all P false xs all = all
 
 -- the switch at the first end steps
 link_sent : (v after b : SwitchView) (p q : ℕ) (says more : List Control) (failed carries carried : Bool) → after.id ≡ v.id → IsTrueOf v.place after.place →
@@ -185,11 +178,6 @@ module _ (plan : Plan) (f g : ControlPlane) (s : ℕ) (after : SwitchView) (fail
       | inr differ ↦ rw (acted.others t differ) (old.sound t there)
     ];
   }
-
--- items that leave queues change nothing of places
-all_behind : {T : Type 0} (P : T → Type 0) (xs ys : List T) → AllByRecursion P (xs ++ ys) → AllByRecursion P ys
-all_behind P [] ys all = all
-all_behind P (x ∷ xs) ys all = all_behind P xs ys all.1
 
 pub all_left : {T : Type 0} (P : T → Type 0) (before after : List T) → LeftOver {T = T} before after → AllByRecursion P before → AllByRecursion P after
 all_left P before after left all = all_behind P left.gone after (subst (AllByRecursion P) left.split all)

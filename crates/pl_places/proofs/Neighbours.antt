@@ -17,6 +17,7 @@ use Rattle.pl_control_plane.proofs.Joined.{joined_turned}
 use Rattle.pl_places.specs.Known.{HasPod, IsZeroOf, pod_of, told_at}
 use Rattle.pl_places.specs.Places.{ArePlaced, PositionsDiffer}
 use Rattle.pl_journal.specs.Flights.{label_level}
+use Rattle.pl_journal.proofs.Levels.{core_above}
 
 -- an edge switch has aggregation switches of its pod above it
 edge_below : (a b : Label) → IsBelow a b → label_level a ≡ 0 → (label_level b ≡ 1) × (pod_of a ≡ pod_of b)
@@ -46,13 +47,6 @@ other_end (Core p i) (Edge q j) below e = absurd below
 other_end (Core p i) (Aggregation q j) below e = absurd below
 other_end (Core p i) (Core q j) below e = absurd below
 
-above_end : (a b : Label) → IsBelow a b → label_level a ≡ 1 → label_level b ≡ 2
-above_end (Aggregation p i) (Core q j) below e = refl
-above_end (Aggregation p i) (Edge q j) below e = absurd below
-above_end (Aggregation p i) (Aggregation q j) below e = absurd below
-above_end (Edge p i) b below e = absurd (omega (arith, e))
-above_end (Core p i) b below e = absurd (omega (arith, e))
-
 -- of two neighbours, in either order
 pub near_edge : (a b : Label) → IsBelow a b ⊎ IsBelow b a → label_level b ≡ 0 → (label_level a ≡ 1) × (pod_of a ≡ pod_of b)
 near_edge a b (inl below) e = absurd (no_edge_above a b below e)
@@ -60,7 +54,7 @@ near_edge a b (inr below) e = let x = edge_below b a below e in (x.0, sym x.1)
 
 pub near_aggregation : (a b : Label) → IsBelow a b ⊎ IsBelow b a → label_level b ≡ 1 → (label_level a ≡ 0) ⊎ (label_level a ≡ 2)
 near_aggregation a b (inl below) e = inl (other_end a b below e)
-near_aggregation a b (inr below) e = inr (above_end b a below e)
+near_aggregation a b (inr below) e = inr (core_above b a below e)
 
 pub turned_below : (a b : Label) → IsBelow a b ⊎ IsBelow b a → IsBelow b a ⊎ IsBelow a b
 turned_below a b (inl x) = inr x

@@ -2,9 +2,9 @@
 use Rattle.std.proofs.Common.{◌≡◌, ℕ, ◌<◌, ◌==◌, ◌&&◌, not, Bool, true, false, if◌then◌else◌, [], Some, None, is_none, refl, arith, inl, inr}
 use Rattle.std.proofs.lemmas.Bool.{and_parts}
 use Rattle.std.proofs.lemmas.Option.{same_Some}
+use Rattle.pl_lemmas.proofs.Options.{is_none_is}
 use Rattle.pl_layouts.specs.Placement.{is_known}
-use Rattle.pl_wiring.specs.declared.label.Label.{Label}
-use Rattle.pl_wiring.specs.declared.label.Label.TheVariants.{Aggregation, Core, Edge}
+use Rattle.pl_layouts.proofs.Known.{known_is}
 use Rattle.pl_wiring.specs.Labels.{label_of, switch_count}
 use Rattle.pl_wiring.specs.Plan.{IsPlan, Plan}
 use Rattle.pl_logic.specs.SwitchViews.{SwitchView}
@@ -25,13 +25,7 @@ use Rattle.pl_switch_rule.specs.SwitchRule.{IsChoice}
 use Rattle.pl_control_plane.proofs.Silent.{still_step}
 use Rattle.pl_control_plane.proofs.SilentHosts.{answers_silent, floods_silent, invalidates_silent}
 use Rattle.pl_places.specs.Places.{IsPodNumber}
-use Rattle.pl_places.proofs.Voting.{known_is, none_is}
-use Rattle.pl_journal.specs.Flights.{label_level}
-
-is_edge : (label : Label) → 0 ≡ label_level label → (pod : ℕ) × (i : ℕ) × (label ≡ Edge pod i)
-is_edge (Edge pod i) e = (pod, i, refl)
-is_edge (Aggregation pod j) e = absurd (omega (arith, e))
-is_edge (Core group m) e = absurd (omega (arith, e))
+use Rattle.pl_journal.proofs.Levels.{edge_of}
 
 module _ (plan : Plan) (f : ControlPlane) (s : ℕ) (is : IsPlan plan) (old : ArePlaced plan f) (there : s < switch_count plan.k) where
   pod_view : (n : ℕ) → (f.view s).place.level ≡ Some 0 → (f.view s).place.position ≡ Some 0 → (f.view s).place.pod ≡ None → n < 65535 →
@@ -39,7 +33,7 @@ module _ (plan : Plan) (f : ControlPlane) (s : ℕ) (is : IsPlan plan) (old : Ar
   pod_view n level position none small =
       let v : SwitchView = f.view s in
       let sound = old.sound s there in
-      let edge = is_edge (label_of plan.k s) ((old.own s).level 0 level) in
+      let edge = edge_of (label_of plan.k s) ((old.own s).level 0 level) in
       new_view plan f s is old (with_pod v (Some n)) refl
       (record { level = λ x e. e; position = λ x e. e; pod = λ x e. absurd (cc) })
       (record {
@@ -67,7 +61,7 @@ module _ (plan : Plan) (f : ControlPlane) (s : ℕ) (is : IsPlan plan) (old : Ar
           let third = and_parts (is_known v.place.level 0 && is_known v.place.position 0 && is_none v.place.pod) (not (n == 65535)) e in
           let second = and_parts (is_known v.place.level 0 && is_known v.place.position 0) (is_none v.place.pod) third.0 in
           let first = and_parts (is_known v.place.level 0) (is_known v.place.position 0) second.0 in
-          let good = pod_view n (known_is v.place.level 0 first.0) (known_is v.place.position 0 first.1) (none_is v.place.pod second.1) small in
+          let good = pod_view n (known_is v.place.level 0 first.0) (known_is v.place.position 0 first.1) (is_none_is v.place.pod second.1) small in
           silent_turn plan f s is old (with_pod v (Some n)) (changes_to v (with_pod v (Some n))) good (changes_to_silent v (with_pod v (Some n)) good.sound.homes)
       by false e = silent_turn plan f s is old (f.view s) (rests (f.view s)) (view_itself plan f s is old there) (still_does (f.view s) [] (old.sound s there).homes tt)
 

@@ -1,12 +1,12 @@
 -- A tick keeps places true.
-use Rattle.std.proofs.Common.{◌≡◌, ℕ, zero, suc, ◌<◌, ◌≤◌, ◌&&◌, Bool, true, false, if◌then◌else◌, List, [], ◌∷◌, ◌++◌, map, Option, Some, None, is_some, get_or, refl, sym, ◌∙◌, subst, arith, inl, inr}
+use Rattle.std.proofs.Common.{◌≡◌, ℕ, ◌<◌, ◌≤◌, true, false, List, [], ◌∷◌, ◌++◌, map, Option, Some, None, is_some, refl, sym, ◌∙◌, subst, arith, inl, inr}
 use Rattle.std.specs.List.{AllByRecursion}
 use Rattle.std.proofs.lemmas.Bool.{cases_eq, eq-eqb, ne_eqb}
+use Rattle.pl_lemmas.proofs.Lists.{all_append}
 use Rattle.pl_frame.specs.declared.address.SwitchId.{SwitchId}
 use Rattle.pl_layouts.specs.declared.control.Control.{Control}
 use Rattle.pl_layouts.specs.declared.control.Control.TheVariants as control
 use Rattle.pl_layouts.specs.declared.place.Place.{Place}
-use Rattle.pl_layouts.specs.Placement.{is_known}
 use Rattle.pl_ldp.specs.Writable.{IsId}
 use Rattle.pl_wiring.specs.declared.label.Label.{Label}
 use Rattle.pl_wiring.specs.declared.label.Label.TheVariants.{Aggregation, Core, Edge}
@@ -17,8 +17,9 @@ use Rattle.pl_logic.specs.declared.acts.Act.TheVariants as act
 use Rattle.pl_logic.specs.declared.neighbour.Neighbour.{Neighbour}
 use Rattle.pl_logic.specs.declared.neighbour.PortRecord.{PortRecord}
 use Rattle.pl_logic.specs.Announcements.{announcement, direction_of}
-use Rattle.pl_logic.specs.PortRecords.{aged, heard_id, id_at, new_port, place_at, port_of, ports_where}
+use Rattle.pl_logic.specs.PortRecords.{aged, heard_id, id_at, port_of, ports_where}
 use Rattle.pl_logic.specs.SwitchViews.{SwitchView}
+use Rattle.pl_logic.proofs.Ports.{aged_at, direction_low}
 use Rattle.pl_switch_rule.specs.Announcing.{announces_at, proposal, proposes_at, ticks, with_aged_ports}
 use Rattle.pl_switch_rule.specs.Telling.{changes_told}
 use Rattle.pl_control_plane.specs.ControlPlanes.{AreJoined, ControlPlane, is_pass, message_in, messages_of, passes, sends, sent_by}
@@ -27,7 +28,6 @@ use Rattle.pl_control_plane.proofs.Joined.{joined_there, joined_turned}
 use Rattle.pl_control_plane.proofs.PlaneQueues.{any_append, flat_map_append}
 use Rattle.pl_control_plane.proofs.Reading.{ldm_writable, proposal_writable, written_is_read}
 use Rattle.pl_control_plane.proofs.Silent.{IsStill, changes_told_still, mute_sends_none, still_mute}
-use Rattle.pl_world.proofs.Counts.{all_append}
 use Rattle.pl_places.specs.Known.{IsAble, IsOwn, IsSound}
 use Rattle.pl_places.specs.Places.{ArePlaced}
 use Rattle.pl_places.specs.Told.{IsGoodMessage, has_heard}
@@ -55,18 +55,6 @@ able_told k attempt proposed small able = record {
   position_fits = (let less = able.position in omega arith);
 }
 
-pub direction_low : (v : SwitchView) (port : ℕ) → direction_of v port < 3
-direction_low v port =
-    by (is_known v.place.level 0) (is_known v.place.level 2) (is_known v.place.level 1 && is_known (place_at v port).level 2)
-    (is_known v.place.level 1 && is_known (place_at v port).level 0)
-  where
-    by : (a b c d : Bool) → (if a then 1 else if b then 2 else if c then 1 else if d then 2 else 0) < 3
-    by true b c d = omega arith
-    by false true c d = omega arith
-    by false false true d = omega arith
-    by false false false true = omega arith
-    by false false false false = omega arith
-
 -- what goes out of one port, of the frames that are sent out of some ports
 pub sends_map : (P : Control → Type 0) (frame : ℕ → List ℕ) (p : ℕ) (ports : List ℕ) → AllByRecursion P (messages_of (message_in (frame p))) →
     AllByRecursion P (sends p (map (λ port. act.Control port (frame port)) ports))
@@ -87,11 +75,6 @@ still_passes p [] all = refl
 still_passes p (act.Control port frame ∷ acts) all = absurd all.0
 still_passes p (act.Pass port frame ∷ acts) all = absurd all.0
 still_passes p (a ∷ acts) all = still_passes p acts all.1
-
-pub aged_at : (ports : List PortRecord) (p : ℕ) → get_or (map aged ports) p new_port ≡ aged (get_or ports p new_port)
-aged_at [] p = refl
-aged_at (r ∷ ports) zero = refl
-aged_at (r ∷ ports) (suc p) = aged_at ports p
 
 pub aged_same : (ports : List PortRecord) → SamePorts ports (map aged ports)
 aged_same ports = record { heard = λ p. rw (aged_at ports p) refl; host = λ p. rw (aged_at ports p) refl }

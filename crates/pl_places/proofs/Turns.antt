@@ -1,6 +1,7 @@
 -- Turns of which discovery sees a new view alone, and that send no control frame.
 use Rattle.std.proofs.Common.{◌≡◌, ℕ, ◌<◌, ◌⊎◌, ◌&&◌, Bool, true, false, nat_lt, List, [], Option, Some, None, is_some, get_or, refl, sym, ap, ◌∙◌, inl, inr}
 use Rattle.std.proofs.lemmas.Bool.{and_parts}
+use Rattle.pl_lemmas.proofs.Lists.{all_weaker}
 use Rattle.pl_frame.specs.declared.address.SwitchId.{SwitchId}
 use Rattle.pl_layouts.specs.declared.place.Place.{Place}
 use Rattle.pl_wiring.specs.declared.link.Peer.TheVariants.{HostPort}
@@ -20,7 +21,7 @@ use Rattle.pl_control_plane.proofs.Silent.{IsSilent, mute_sends_none, well_passe
 use Rattle.pl_places.specs.Known.{HasPod, IsFull, IsOwn, IsSound, told_at}
 use Rattle.pl_places.specs.Places.{ArePlaced}
 use Rattle.pl_places.specs.Told.{IsGoodRecord, IsTrueOf, has_heard}
-use Rattle.pl_places.proofs.Later.{IsGoodTurn, IsZero, all_weaker, true_of_itself}
+use Rattle.pl_places.proofs.Later.{IsGoodTurn, IsZero, true_of_itself}
 
 -- what a new view of switch s owes, in the control plane before it
 pub record IsGoodView (plan : Plan) (f : ControlPlane) (s : ℕ) (new : SwitchView) : Type 0 where

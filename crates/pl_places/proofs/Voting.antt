@@ -1,8 +1,9 @@
 -- Proposals and votes keep places true.
 use Rattle.std.proofs.Common.{◌≡◌, ℕ, zero, suc, ◌+◌, ◌/◌, ◌%◌, ◌<◌, ◌⊎◌, ◌==◌, ◌&&◌, not, nat_lt, Bool, true, false, if◌then◌else◌, List, [], ◌∷◌, ◌++◌, Option, Some, None, is_some, is_none, get_or, set, refl, sym, ap, ◌∙◌, subst, arith, inl, inr, mod-lt}
 use Rattle.std.specs.List.{AllByRecursion}
-use Rattle.std.proofs.lemmas.Bool.{and_parts, eq-eqb, eqb-true, eqb-false}
+use Rattle.std.proofs.lemmas.Bool.{and_parts, eq-eqb, eqb-false}
 use Rattle.std.proofs.lemmas.Option.{same_Some}
+use Rattle.pl_lemmas.proofs.Options.{is_none_is}
 use Rattle.pl_frame.specs.declared.address.SwitchId.{SwitchId}
 use Rattle.pl_layouts.specs.declared.control.Control.{Control}
 use Rattle.pl_layouts.specs.declared.control.Control.TheVariants as control
@@ -12,6 +13,7 @@ use Rattle.pl_layouts.specs.declared.place.Place.{Place}
 use Rattle.pl_layouts.specs.Control.{control_frame}
 use Rattle.pl_layouts.specs.Placement.{is_known}
 use Rattle.pl_layouts.specs.Votes.{counts, gives_way}
+use Rattle.pl_layouts.proofs.Known.{known_is}
 use Rattle.pl_ldp.specs.Writable.{IsId, IsWritable}
 use Rattle.pl_wiring.specs.Labels.{switch_count}
 use Rattle.pl_wiring.specs.Plan.{IsPlan, Plan}
@@ -30,14 +32,6 @@ use Rattle.pl_places.specs.Places.{ArePlaced}
 use Rattle.pl_places.specs.Told.{IsGoodMessage, IsOf, has_heard}
 use Rattle.pl_places.proofs.Later.{IsGoodTurn}
 use Rattle.pl_places.proofs.Turns.{IsGoodView, homes_same, new_view, same_ports, same_view, silent_turn, view_itself}
-
-pub known_is : (o : Option ℕ) (n : ℕ) → is_known o n ≡ true → o ≡ Some n
-known_is None n h = absurd (cc)
-known_is (Some m) n h = ap (λ x. Some x) (eqb-true m n h)
-
-pub none_is : (o : Option ℕ) → is_none o ≡ true → o ≡ None
-none_is None h = refl
-none_is (Some m) h = absurd (cc)
 
 -- Holds.
 
@@ -280,7 +274,7 @@ module _ (plan : Plan) (f : ControlPlane) (s : ℕ) (is : IsPlan plan) (old : Ar
           let third = and_parts (is_known v.place.level 0 && is_none v.place.position && (vote.attempt == v.attempt)) (vote.position == v.proposed) e in
           let second = and_parts (is_known v.place.level 0 && is_none v.place.position) (vote.attempt == v.attempt) third.0 in
           let first = and_parts (is_known v.place.level 0) (is_none v.place.position) second.0 in
-          by_grant vote.granted (known_is v.place.level 0 first.0) (none_is v.place.position first.1)
+          by_grant vote.granted (known_is v.place.level 0 first.0) (is_none_is v.place.position first.1)
       by false e = view_itself plan f s is old there
 
   pub vote_turn : s < switch_count plan.k → (f.view s).k ≡ plan.k → (port : ℕ) (vote : Vote) →

@@ -1,6 +1,7 @@
 -- Where a proposal would bring no news, it was answered.
 use Rattle.std.proofs.Common.{◌≡◌, ℕ, ◌<◌, ◌==◌, ◌&&◌, ◌||◌, not, nat_lt, Bool, true, false, true≢false, if◌then◌else◌, Option, Some, None, refl, sym, ◌∙◌, ap, eq-eqb, ne_eqb, lt-ltb, arith}
 use Rattle.std.specs.Option.{option_map}
+use Rattle.std.proofs.lemmas.Bool.{not-false}
 use Rattle.pl_logic.specs.declared.switch_records.Hold.{Hold}
 use Rattle.pl_logic.specs.SwitchFacts.{has_granted, hold_at, holder_and_mark, holder_of, is_news}
 use Rattle.pl_logic.specs.SwitchViews.{SwitchView}
@@ -12,16 +13,12 @@ no_more true b c is last = absurd (true≢false (sym (ap not last) ∙ is))
 no_more false true c is last = absurd (true≢false (sym (ap not last) ∙ is))
 no_more false false c is last = (refl, refl)
 
-granted_is : (b : Bool) → not b ≡ false → b ≡ true
-granted_is true is = refl
-granted_is false is = absurd (true≢false is)
-
 pub answered : (v u : SwitchView) (p : ℕ) → v.attempt < 4294967295 → is_news v p v.attempt (holder_of u v.proposed) ≡ false → IsAnswered v p u
 answered v u p few = by (hold_at u v.proposed) refl
   where
     either : (hold : Hold) → hold_at u v.proposed ≡ Some hold → (b : Bool) → (hold.edge.0 == v.id.0) ≡ b →
         (if b then not (has_granted v p) else (hold.fixed || nat_lt hold.edge.0 v.id.0) && not (v.attempt == 4294967295)) ≡ false → IsAnswered v p u
-    either hold held true own none = Counted (granted_is (has_granted v p) none)
+    either hold held true own none = Counted (not-false (has_granted v p) none)
     either hold held false other none =
         let last = ne_eqb v.attempt 4294967295 (λ same. absurd (omega (arith, same, few))) in
         let both = no_more hold.fixed (nat_lt hold.edge.0 v.id.0) (v.attempt == 4294967295) none last in

@@ -1,7 +1,7 @@
 -- Each step keeps it that edge switches with position 0 and without a pod have asked for its number.
-use Rattle.std.proofs.Common.{◌≡◌, ◌⊎◌, ◌<◌, ◌+◌, ◌%◌, ℕ, ◌==◌, ◌&&◌, ◌||◌, not, Bool, true, false, true≢false, if◌then◌else◌, List, [], ◌∷◌, ◌++◌, Option, Some, None, is_none, unwrap_or, Result, Ok, Err, position, slice_get, refl, sym, ap, ◌∙◌, subst, arith, inl, inr, eq-eqb, ne_eqb, flat_map}
+use Rattle.std.proofs.Common.{◌≡◌, ◌⊎◌, ◌<◌, ◌+◌, ◌%◌, ℕ, ◌==◌, ◌&&◌, ◌||◌, not, Bool, true, false, if◌then◌else◌, List, [], ◌∷◌, ◌++◌, Option, Some, None, is_none, unwrap_or, Result, Ok, Err, position, slice_get, refl, sym, ap, ◌∙◌, subst, arith, inl, inr, eq-eqb, ne_eqb, flat_map}
 use Rattle.std.specs.List.{AllByRecursion, list_any}
-use Rattle.std.proofs.lemmas.Bool.{and_from, cases_eq}
+use Rattle.std.proofs.lemmas.Bool.{and_from, cases_eq, or_left, or_right}
 use Rattle.pl_frame.specs.declared.address.SwitchId.{SwitchId}
 use Rattle.pl_layouts.specs.declared.control.Control.{Control}
 use Rattle.pl_layouts.specs.declared.control.Control.TheVariants.{Ldm, Proposal, Vote}
@@ -46,24 +46,16 @@ use Rattle.pl_votes.proofs.Aside.{Stance, aside_data, changes, mild_manager}
 use Rattle.pl_placing.specs.Asking.{HaveAsked, is_number, is_wish}
 use Rattle.pl_placing.proofs.Voting.{counts_says}
 
-or_first : (a b : Bool) → a ≡ true → (a || b) ≡ true
-or_first true b is = refl
-or_first false b is = absurd (true≢false (sym is))
-
-or_second : (a b : Bool) → b ≡ true → (a || b) ≡ true
-or_second true b is = refl
-or_second false b is = is
-
 or_with : (a b c d : Bool) → (a ≡ true → c ≡ true) → (b ≡ true → d ≡ true) → (a || b) ≡ true → (c || d) ≡ true
-or_with true b c d first second is = or_first c d (first refl)
-or_with false b c d first second is = or_second c d (second is)
+or_with true b c d first second is = or_left c d (first refl)
+or_with false b c d first second is = or_right c d (second is)
 
 -- a wish stays in a queue that grows
 any_front : {X : Type 0} (p : X → Bool) (xs ys : List X) → list_any p xs ≡ true → list_any p (xs ++ ys) ≡ true
-any_front p xs ys is = any_append p xs ys ∙ or_first (list_any p xs) (list_any p ys) is
+any_front p xs ys is = any_append p xs ys ∙ or_left (list_any p xs) (list_any p ys) is
 
 any_behind : {X : Type 0} (p : X → Bool) (xs ys : List X) → list_any p ys ≡ true → list_any p (xs ++ ys) ≡ true
-any_behind p xs ys is = any_append p xs ys ∙ or_second (list_any p xs) (list_any p ys) is
+any_behind p xs ys is = any_append p xs ys ∙ or_right (list_any p xs) (list_any p ys) is
 
 -- A switch whose position becomes 0 asks for its pod.
 abbrev Asks : SwitchView → SwitchStep → Type 0
@@ -151,7 +143,7 @@ turned_asks v after reports told orders later asks has position none = elim (ask
   | inl was ↦
       or_with (list_any is_wish reports) (list_any is_number orders) (list_any is_wish (reports ++ told)) (list_any is_number orders)
       (any_front is_wish reports told) (λ is. is) (has was (unknown v.place.pod refl))
-  | inr wish ↦ or_first (list_any is_wish (reports ++ told)) (list_any is_number orders) (any_behind is_wish reports told wish)
+  | inr wish ↦ or_left (list_any is_wish (reports ++ told)) (list_any is_number orders) (any_behind is_wish reports told wish)
 ]
   where
     unknown : (o : Option ℕ) → v.place.pod ≡ o → v.place.pod ≡ None
@@ -259,7 +251,7 @@ module _ (f : ControlPlane) (is : IsPlan f.plan) where
         HasAsked (f.view s) left (f.orders s ++ ordered f.plan s (manager_hears before id told).acts)
     report_heard s id tell.PodWanted before left named first = λ at none.
         let said = ordered f.plan s (manager_hears before id tell.PodWanted).acts in
-        or_second (list_any is_wish left) (list_any is_number (f.orders s ++ said)) (any_behind is_number (f.orders s) said (wish_answered s id before named))
+        or_right (list_any is_wish left) (list_any is_number (f.orders s ++ said)) (any_behind is_number (f.orders s) said (wish_answered s id before named))
     report_heard s id (tell.Place place) before left named first = report_left s (tell.Place place) left _ refl first
     report_heard s id (tell.Link u usable) before left named first = report_left s (tell.Link u usable) left _ refl first
     report_heard s id (tell.Learned a b c) before left named first = report_left s (tell.Learned a b c) left _ refl first

@@ -1,6 +1,6 @@
 -- What follows for worlds at rest.
-use Rattle.std.proofs.Common.{◌≡◌, ℕ, ◌/◌, ◌<◌, List, [], ◌∷◌, zero, suc, length, get_or, Some, ap, arith}
-use Rattle.std.specs.List.{AllByRecursion}
+use Rattle.std.proofs.Common.{◌≡◌, ℕ, ◌/◌, Some, ap, arith}
+use Rattle.pl_lemmas.proofs.Lists.{all_at}
 use Rattle.pl_wiring.specs.declared.label.Label.TheVariants.{Edge}
 use Rattle.pl_wiring.specs.Labels.{IsLabel}
 use Rattle.pl_logic.specs.SwitchViews.{SwitchView}
@@ -12,11 +12,6 @@ use Rattle.pl_votes.proofs.Wired.{number_there}
 use Rattle.pl_placing.specs.Placing.{ArePlacing}
 use Rattle.pl_placing.specs.Resting.{FirstKnowsPod, HasFirst, HavePositions, IsRestingPod, KnowPod}
 use Rattle.pl_placing.proofs.Resting.{has_first, have_positions, know_pod}
-
-all_at : {X : Type 0} (P : X → Type 0) (xs : List X) (i : ℕ) (d : X) → i < length xs → AllByRecursion P xs → P (get_or xs i d)
-all_at P [] i d within all = absurd (omega (arith, within))
-all_at P (x ∷ xs) zero d within all = all.0
-all_at P (x ∷ xs) (suc i) d within all = all_at P xs i d (omega (arith, within)) all.1
 
 sizes : (w : WorldView) → Kept w → (pod i : ℕ) → IsLabel w.plan.k (Edge pod i) → ((control_plane w).view (edge_no w.plan.k pod i)).k / 2 ≡ w.plan.k / 2
 sizes w kept pod i edge =

@@ -1,48 +1,24 @@
 -- At the beginning no position was tried.
-use Rattle.std.proofs.Common.{◌≡◌, ℕ, zero, suc, ◌*◌, ◌/◌, ◌<◌, nat_lt, Bool, true, false, if◌then◌else◌, List, [], ◌∷◌, map, replicate, get_or, Some, None, refl, sym, ap, ◌∙◌, true≢false, subst, arith}
+use Rattle.std.proofs.Common.{◌≡◌, ℕ, zero, suc, ◌*◌, ◌<◌, [], map, replicate, get_or, Some, None, refl, sym, ap, ◌∙◌, true≢false, subst, arith}
 use Rattle.std.specs.List.{AllByRecursion, list_any}
+use Rattle.pl_lemmas.proofs.Lists.{replicated}
 use Rattle.pl_frame.specs.declared.address.SwitchId.{SwitchId}
-use Rattle.pl_wiring.specs.Index.{port_index}
 use Rattle.pl_wiring.specs.Labels.{switch_count}
 use Rattle.pl_wiring.specs.Plan.{Plan}
 use Rattle.pl_logic.specs.declared.switch_records.Hold.{Hold}
 use Rattle.pl_logic.specs.SwitchFacts.{hold_at, switch_at_boot}
-use Rattle.pl_logic.specs.SwitchViews.{SwitchView}
 use Rattle.pl_world.specs.declared.limits.Limits.{Limits}
 use Rattle.pl_world.specs.Booting.{booted}
-use Rattle.pl_control_plane.specs.ControlPlanes.{control_plane, no_switch, queue_out, said}
+use Rattle.pl_control_plane.specs.ControlPlanes.{control_plane, no_switch, said}
+use Rattle.pl_control_plane.proofs.PlaneQueues.{booted_view, nothing_said}
 use Rattle.pl_votes.specs.Voting.{aggregation_no, edge_no}
 use Rattle.pl_logic.specs.PortRecords.{heard_place, new_port, place_at}
+use Rattle.pl_logic.proofs.Booted.{unheld}
 use Rattle.pl_placing.specs.Asking.{HaveAsked, OnlyFirstAsk, is_wish}
 use Rattle.pl_placing.specs.Bounding.{IsBounded}
 use Rattle.pl_placing.specs.Noting.{AreNoted}
 use Rattle.pl_placing.specs.Receiving.{HaveCrossed, ItemHasCrossed}
 use Rattle.pl_placing.specs.Trying.{AreTrying, IsTrueVote, IsTrying}
-
-pub replicated : {X : Type 0} (n i : ℕ) (x : X) → get_or (replicate n x) i x ≡ x
-replicated zero i x = refl
-replicated (suc n) zero x = refl
-replicated (suc n) (suc i) x = replicated n i x
-
--- each switch is one at its beginning
-pub booted_view : (P : SwitchView → Type 0) → ((id : SwitchId) (k : ℕ) → P (switch_at_boot id k)) → (k : ℕ) (ids : List SwitchId) (s : ℕ) →
-    P (get_or (map (λ id. switch_at_boot id k) ids) s no_switch)
-booted_view P all k [] s = all (record { 0 = 0 }) 0
-booted_view P all k (id ∷ ids) zero = all id k
-booted_view P all k (id ∷ ids) (suc s) = booted_view P all k ids s
-
-pub nothing_said : (k n s port : ℕ) → said (queue_out k (replicate n []) s port) ≡ []
-nothing_said k n s port = by (nat_lt port k)
-  where
-    by : (b : Bool) → said (if b then get_or (replicate n []) (port_index k s port) [] else []) ≡ []
-    by true = ap said (replicated n (port_index k s port) [])
-    by false = refl
-
-nothing_held : (id : SwitchId) (k q : ℕ) → hold_at (switch_at_boot id k) q ≡ None
-nothing_held id k q = replicated (k / 2) q None
-
-pub unheld : (id : SwitchId) (k q : ℕ) (hold : Hold) → hold_at (switch_at_boot id k) q ≡ Some hold → ⊥
-unheld id k q hold is = let none = nothing_held id k q in absurd (cc (none, is))
 
 pub trying_at_first : (plan : Plan) (limits : Limits) → AreTrying (control_plane (booted plan limits))
 trying_at_first plan limits = record {

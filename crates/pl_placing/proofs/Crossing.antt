@@ -3,6 +3,7 @@ use Rattle.std.proofs.Common.{◌≡◌, ◌⊎◌, ◌≤◌, ◌+◌, ℕ, ◌
 use Rattle.std.specs.List.{AllByRecursion}
 use Rattle.std.proofs.lemmas.Bool.{and_parts, or_cases}
 use Rattle.std.proofs.lemmas.List.{reverse-append}
+use Rattle.pl_lemmas.proofs.Lists.{all_append}
 use Rattle.pl_pmac.specs.declared.pmac.Pmac.{Pmac}
 use Rattle.pl_wiring.specs.declared.host.HostNo.{HostNo}
 use Rattle.pl_wiring.specs.declared.label.SwitchNo.{SwitchNo}
@@ -25,7 +26,7 @@ use Rattle.pl_world.specs.declared.spoken_frame.SpokenFrame.TheVariants.{Over, P
 use Rattle.pl_world.specs.Changes.{all_noted, begun_by, host_no, host_of, is_failed_at, noted, switch_no}
 use Rattle.pl_world.specs.SwitchActs.{Doing, act_done, acts_done, begins, crossed_again, goes_out, granted, place_noted, switch_stepped, with_late}
 use Rattle.pl_world.specs.Worlds.{WorldView}
-use Rattle.pl_world.proofs.Counts.{all_append, all_at, all_set}
+use Rattle.pl_world.proofs.Counts.{all_at, all_set}
 use Rattle.pl_placing.specs.Receiving.{HasCrossed, HaveCrossed, ItemHasCrossed, comes_from_host, has_received}
 
 -- an entry that says nothing of senders and crossings

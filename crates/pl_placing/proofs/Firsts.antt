@@ -2,6 +2,7 @@
 use Rattle.std.proofs.Common.{◌≡◌, ℕ, ◌||◌, Bool, true, false, cond, ◌∷◌, ◌++◌, Some, slice_get, refl, sym, ap, ◌∙◌, subst, inl, inr}
 use Rattle.std.specs.List.{AllByRecursion, list_any}
 use Rattle.std.proofs.lemmas.Bool.{cases_eq, or_cases}
+use Rattle.pl_lemmas.proofs.Lists.{all_weaker}
 use Rattle.pl_frame.specs.declared.address.SwitchId.{SwitchId}
 use Rattle.pl_layouts.specs.Equality.{same_switch}
 use Rattle.pl_wiring.specs.Plan.{Plan}
@@ -18,7 +19,6 @@ use Rattle.pl_control_plane.specs.PlaneSteps.{IsReportTaken, LosesNoWord, Manage
 use Rattle.pl_control_plane.specs.PlaneSteps.PlaneStep.{Carried, Entered, Heard, Left, Managed, Ordered, Ticked}
 use Rattle.pl_control_plane.proofs.PlaneQueues.{any_append}
 use Rattle.pl_places.specs.Told.{IsTrueOf}
-use Rattle.pl_places.proofs.Later.{all_weaker}
 use Rattle.pl_placing.specs.Asking.{IsFirst, OnlyFirstAsk, is_wish}
 use Rattle.pl_placing.proofs.Wishes.{step_wish}
 

@@ -1,7 +1,8 @@
 -- What edge switches try stays in order where each switch keeps to what it owes.
-use Rattle.std.proofs.Common.{◌≡◌, ℕ, ◌<◌, ◌≤◌, ◌*◌, Bool, true, false, List, length, get_or, Option, Some, None, sym, ◌∙◌, ap, subst, inl, inr}
+use Rattle.std.proofs.Common.{◌≡◌, ℕ, ◌<◌, ◌≤◌, ◌*◌, Bool, List, length, get_or, Option, Some, None, sym, ◌∙◌, ap, subst, inl, inr}
 use Rattle.std.specs.List.{AllByRecursion}
 use Rattle.std.proofs.lemmas.Bool.{cases_eq}
+use Rattle.pl_lemmas.proofs.Lists.{all_append, all_weaker}
 use Rattle.pl_frame.specs.declared.address.SwitchId.{SwitchId}
 use Rattle.pl_layouts.specs.declared.control.Control.{Control}
 use Rattle.pl_layouts.specs.declared.control.Control.TheVariants.{Ldm, Proposal, Vote}
@@ -13,10 +14,10 @@ use Rattle.pl_logic.specs.SwitchFacts.{hold_at}
 use Rattle.pl_logic.specs.SwitchViews.{SwitchView}
 use Rattle.pl_steps.specs.Steps.{SwitchStep}
 use Rattle.pl_switch_rule.specs.Positions.{half}
-use Rattle.pl_world.proofs.Counts.{all_append}
 use Rattle.pl_control_plane.specs.ControlPlanes.{ControlPlane, sends, unless}
 use Rattle.pl_control_plane.specs.PlaneSteps.{LeftOver}
-use Rattle.pl_places.proofs.Later.{all_left, all_weaker, true_of_itself}
+use Rattle.pl_control_plane.proofs.PlaneQueues.{unless_all}
+use Rattle.pl_places.proofs.Later.{all_left, true_of_itself}
 use Rattle.pl_votes.specs.Voting.{aggregation_no, edge_no}
 use Rattle.pl_votes.proofs.Aside.{Stance, stance}
 use Rattle.pl_placing.specs.Trying.{AreTryingBy, HasReason, IsHolder, IsTrueVote, IsTrying, NamesHolder}
@@ -91,10 +92,6 @@ pub record Owes (plan : Plan) (view : ℕ → SwitchView) (s : ℕ) (st : Switch
   pub said : (pod j port : ℕ) → IsLabel plan.k (Aggregation pod j) → aggregation_no plan.k pod j ≡ s → AllByRecursion (IsTrueVote plan.k view pod) (sends port st.acts)
   pub trying : IsTrying st.view
   pub reasons : OwesReason plan view s st.view
-
-unless_all : (P : Control → Type 0) (failed : Bool) (xs : List Control) → AllByRecursion P xs → AllByRecursion P (unless failed xs)
-unless_all P true xs all = tt
-unless_all P false xs all = all
 
 pub turned_trying : (f m g : ControlPlane) (s : ℕ) (st : SwitchStep) → Turned f m g s st → AreTryingBy f.plan m.view m.says → Owes f.plan m.view s st →
     AreTryingBy f.plan g.view g.says

@@ -1,7 +1,8 @@
 -- Each step keeps what edge switches try in order.
-use Rattle.std.proofs.Common.{◌≡◌, ℕ, ◌<◌, ◌==◌, ◌&&◌, nat_lt, Bool, true, false, if◌then◌else◌, true≢false, eqb-true, get_or, List, [], ◌∷◌, ◌++◌, Option, Some, None, Result, Ok, Err, refl, sym, ◌∙◌, ap, subst, inl, inr}
+use Rattle.std.proofs.Common.{◌≡◌, ℕ, ◌<◌, ◌==◌, ◌&&◌, nat_lt, Bool, true, false, if◌then◌else◌, true≢false, get_or, List, [], Option, Some, None, Result, Ok, Err, refl, sym, ◌∙◌, ap, subst, inl, inr}
 use Rattle.std.specs.List.{AllByRecursion}
 use Rattle.std.proofs.lemmas.Bool.{and_parts, cases_eq, cond_both}
+use Rattle.pl_lemmas.proofs.Lists.{all_append, all_front, all_weaker}
 use Rattle.pl_frame.specs.declared.address.SwitchId.{SwitchId}
 use Rattle.pl_layouts.specs.declared.control.Control.{Control}
 use Rattle.pl_layouts.specs.declared.control.Control.TheVariants.{Ldm, Proposal, Vote}
@@ -10,6 +11,7 @@ use Rattle.pl_layouts.specs.declared.control.Ldm.{Ldm as Message}
 use Rattle.pl_layouts.specs.declared.control.Proposal.{Proposal as Proposed}
 use Rattle.pl_layouts.specs.declared.control.Vote.{Vote as Answer}
 use Rattle.pl_layouts.specs.Placement.{is_known}
+use Rattle.pl_layouts.proofs.Known.{known_is}
 use Rattle.pl_wiring.specs.declared.label.Label.TheVariants.{Aggregation, Edge}
 use Rattle.pl_wiring.specs.Labels.{IsLabel, switch_count}
 use Rattle.pl_wiring.specs.Plan.{IsPlan}
@@ -26,7 +28,7 @@ use Rattle.pl_control_plane.specs.ControlPlanes.{AreJoined, ControlPlane, messag
 use Rattle.pl_control_plane.proofs.Joined.{joined_turned}
 use Rattle.pl_places.specs.Places.{ArePlaced}
 use Rattle.pl_places.specs.Told.{IsGoodMessage, has_heard}
-use Rattle.pl_places.proofs.Later.{all_weaker, left_keeps, true_of_itself}
+use Rattle.pl_places.proofs.Later.{left_keeps, true_of_itself}
 use Rattle.pl_places.proofs.Neighbours.{neighbour_at, one_peer}
 use Rattle.pl_votes.specs.Voting.{CanTell, aggregation_no, edge_no}
 use Rattle.pl_votes.proofs.AggregationTurns.{learnt, same_stance, vote_elsewhere, vote_here, vote_said}
@@ -44,23 +46,11 @@ use Rattle.pl_placing.proofs.Seeing.Seen.{Gone, Hears, Quiet, Ticks}
 use Rattle.pl_placing.proofs.Voting.{Becomes, reason_of, vote_becomes, vote_trying}
 use Rattle.pl_placing.proofs.Voting.Becomes.{MovesOn, Stays}
 
-known_is : (o : Option ℕ) (n : ℕ) → is_known o n ≡ true → o ≡ Some n
-known_is None n h = absurd (cc h)
-known_is (Some m) n h = ap Some (eqb-true m n h)
-
-all_front : {X : Type 0} (P : X → Type 0) (xs ys : List X) → AllByRecursion P (xs ++ ys) → AllByRecursion P xs
-all_front P [] ys all = tt
-all_front P (x ∷ xs) ys all = (all.0, all_front P xs ys all.1)
-
-all_both : {X : Type 0} (P : X → Type 0) (xs ys : List X) → AllByRecursion P xs → AllByRecursion P ys → AllByRecursion P (xs ++ ys)
-all_both P [] ys a b = b
-all_both P (x ∷ xs) ys a b = (a.0, all_both P xs ys a.1 b)
-
 -- what a tick says is no vote
 true_tick : (k : ℕ) (view : ℕ → SwitchView) (pod : ℕ) (v : SwitchView) (said : List Control) → TickSays v said → AllByRecursion (IsTrueVote k view pod) said
 true_tick k view pod v said says =
     subst (AllByRecursion (IsTrueVote k view pod)) (sym says.split)
-    (all_both (IsTrueVote k view pod) says.first says.second (tells says.first says.tells) (asks says.second says.proposes))
+    (all_append (IsTrueVote k view pod) says.first says.second (tells says.first says.tells) (asks says.second says.proposes))
   where
     tells : (xs : List Control) → SaysPlace v xs → AllByRecursion (IsTrueVote k view pod) xs
     tells xs (inl none) = subst (AllByRecursion (IsTrueVote k view pod)) (sym none) tt

@@ -18,6 +18,7 @@ use Rattle.pl_logic.specs.SwitchFacts.{is_answered}
 use Rattle.pl_logic.specs.declared.switch_records.Hold.{Hold}
 use Rattle.pl_logic.specs.PortRecords.{heard_place, new_port}
 use Rattle.pl_logic.specs.SwitchViews.{SwitchView}
+use Rattle.pl_logic.proofs.Ports.{heard_aged}
 use Rattle.pl_steps.specs.Steps.{SwitchStep, rests}
 use Rattle.pl_switch_rule.specs.Announcing.{ticks}
 use Rattle.pl_switch_rule.specs.Levels.{after_message, changes_to}
@@ -37,15 +38,10 @@ use Rattle.pl_votes.proofs.Speeches.{sends_none, tick_says}
 use Rattle.pl_votes.proofs.Wired.{ids_differ, is_there, number_there, same_end}
 use Rattle.pl_placing.specs.Noting.{AreNotedBy, IsNoted}
 use Rattle.pl_placing.proofs.Noting.{left_noted, silent_tick, turned_noted}
-use Rattle.pl_placing.proofs.Ports.{heard_aged}
 use Rattle.pl_placing.proofs.Seeing.{Seen}
 use Rattle.pl_placing.proofs.Seeing.Seen.{Gone, Hears, Quiet, Ticks}
 use Rattle.pl_placing.proofs.Telling.{Fits, heard_here, heard_there, noted_other}
 use Rattle.pl_journal.specs.Flights.{label_level}
-
-all_front : {X : Type 0} (P : X → Type 0) (xs ys : List X) → AllByRecursion P (xs ++ ys) → AllByRecursion P xs
-all_front P [] ys all = tt
-all_front P (x ∷ xs) ys all = (all.0, all_front P xs ys all.1)
 
 -- what is heard sends no proposal
 silent_heard : (v : SwitchView) (port q : ℕ) (read : Result Control ControlError) → ((id : SwitchId) (p : Proposed) → read ≡ Ok (Proposal id p) → AllByRecursion IsNoProposal (messages_of (message_in (control_frame (Vote v.id (answer_to v id p)))))) →

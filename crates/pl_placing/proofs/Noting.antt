@@ -1,7 +1,8 @@
 -- Each step keeps what aggregation switches note of told positions.
-use Rattle.std.proofs.Common.{◌≡◌, ℕ, suc, ◌+◌, ◌<◌, ◌==◌, ◌&&◌, ◌||◌, not, nat_lt, Bool, true, false, true≢false, eq-eqb, if◌then◌else◌, cond, List, [], ◌∷◌, ◌++◌, length, Option, Some, None, is_none, refl, sym, ◌∙◌, ap, subst, subst₂, arith, inl, inr, get_or-set_same, get_or-set_other, ne_eqb, lt-ltb}
+use Rattle.std.proofs.Common.{◌≡◌, ℕ, ◌<◌, ◌==◌, ◌&&◌, ◌||◌, not, nat_lt, Bool, true, false, true≢false, eq-eqb, if◌then◌else◌, cond, List, length, Option, Some, None, is_none, refl, sym, ◌∙◌, ap, subst, subst₂, arith, inl, inr, get_or-set_same, get_or-set_other, ne_eqb, lt-ltb}
 use Rattle.std.specs.List.{AllByRecursion}
 use Rattle.std.proofs.lemmas.Bool.{and_parts, cases_eq}
+use Rattle.pl_lemmas.proofs.Lists.{all_append}
 use Rattle.pl_frame.specs.declared.address.SwitchId.{SwitchId}
 use Rattle.pl_layouts.specs.declared.control.Control.{Control}
 use Rattle.pl_layouts.specs.declared.control.Ldm.{Ldm as Message}
@@ -16,9 +17,11 @@ use Rattle.pl_logic.specs.PortRecords.{heard_place, place_at, port_of}
 use Rattle.pl_logic.specs.SwitchFacts.{hold_at}
 use Rattle.pl_logic.specs.SwitchViews.{SwitchView}
 use Rattle.pl_steps.specs.Steps.{SwitchStep}
-use Rattle.pl_switch_rule.specs.Positions.{freed_but, frees_others, half, is_held_for, marked_for, marks, notes_position}
+use Rattle.pl_switch_rule.specs.Positions.{frees_others, half, is_held_for, marked_for, marks, notes_position}
+use Rattle.pl_switch_rule.proofs.Lengths.{length_freed}
 use Rattle.pl_control_plane.specs.ControlPlanes.{AreJoined, ControlPlane, sends, unless}
 use Rattle.pl_control_plane.specs.PlaneSteps.{LeftOver}
+use Rattle.pl_control_plane.proofs.PlaneQueues.{unless_all}
 use Rattle.pl_places.specs.Places.{ArePlaced}
 use Rattle.pl_places.proofs.Later.{all_left}
 use Rattle.pl_votes.specs.Pairs.{IsNoProposal}
@@ -47,14 +50,6 @@ left_noted plan f g same left n pod i j p q edge aggregation joined =
     noted_same (f.view e) (g.view e) (f.view a) (g.view a) q (f.says e p) (g.says e p) (ap (λ (v : SwitchView). v.id) (same e))
     (λ y hold has. ap (λ (v : SwitchView). hold_at v y) (sym (same a)) ∙ has) (ap (λ (v : SwitchView). (place_at v q).position) (same a))
     (λ x is all. all_left IsNoProposal (f.says e p) (g.says e p) (left e p) all) (n pod i j p q edge aggregation joined)
-
-unless_all : (P : Control → Type 0) (failed : Bool) (xs : List Control) → AllByRecursion P xs → AllByRecursion P (unless failed xs)
-unless_all P true xs all = tt
-unless_all P false xs all = all
-
-all_both : {X : Type 0} (P : X → Type 0) (xs ys : List X) → AllByRecursion P xs → AllByRecursion P ys → AllByRecursion P (xs ++ ys)
-all_both P [] ys a b = b
-all_both P (x ∷ xs) ys a b = (a.0, all_both P xs ys a.1 b)
 
 -- what a switch owes: with a position it proposes none, and as an aggregation switch it notes what it is told
 pub record OwesNotes (plan : Plan) (m : ControlPlane) (s : ℕ) (st : SwitchStep) : Type 0 where
@@ -85,7 +80,7 @@ turned_noted f m g s st is placed turn n owes pod i j p q edge aggregation joine
           (λ x told all.
           subst (λ z. AllByRecursion IsNoProposal (g.says z p)) (sym here)
           (subst (AllByRecursion IsNoProposal) (sym (turn.acted.says p))
-          (all_both IsNoProposal (m.says s p) (unless (turn.failed p) (sends p st.acts)) (subst (λ z. AllByRecursion IsNoProposal (m.says z p)) here all)
+          (all_append IsNoProposal (m.says s p) (unless (turn.failed p) (sends p st.acts)) (subst (λ z. AllByRecursion IsNoProposal (m.says z p)) here all)
           (unless_all IsNoProposal (turn.failed p) (sends p st.acts)
           (owes.silent p x (subst (λ z. (m.view z).place.position ≡ Some x) here (told_own f.plan m e p a q x placed joined told)))))))
           (n pod i j p q edge aggregation joined)
@@ -103,7 +98,7 @@ turned_noted f m g s st is placed turn n owes pod i j p q edge aggregation joine
 pub silent_tick : (v : SwitchView) (x : ℕ) → v.place.position ≡ Some x → (said : List Control) → TickSays v said → AllByRecursion IsNoProposal said
 silent_tick v x fixed said says =
     subst (AllByRecursion IsNoProposal) (sym says.split)
-    (all_both IsNoProposal says.first says.second (tells says.first says.tells) (asks says.second says.proposes))
+    (all_append IsNoProposal says.first says.second (tells says.first says.tells) (asks says.second says.proposes))
   where
     tells : (xs : List Control) → SaysPlace v xs → AllByRecursion IsNoProposal xs
     tells xs (inl none) = subst (AllByRecursion IsNoProposal) (sym none) tt
@@ -124,10 +119,6 @@ told_level m x sound told =
     level : (o : Option ℕ) → is_known o 0 ≡ true → is_known o 0 ≡ true
     level None h = absurd (cc h)
     level (Some n) h = h
-
-length_freed : (position : ℕ) (edge : SwitchId) (n : ℕ) (holds : List (Option Hold)) → length (freed_but position edge n holds) ≡ length holds
-length_freed position edge n [] = refl
-length_freed position edge n (hold ∷ holds) = ap suc (length_freed position edge (n + 1) holds)
 
 -- what is held for an edge switch that told its position is marked
 pub told_marks : (v : SwitchView) (id : SwitchId) (p y : ℕ) (hold : Hold) → p < half v.k → length v.holds ≡ half v.k → hold_at (notes_position v id (Some p)) y ≡ Some hold →

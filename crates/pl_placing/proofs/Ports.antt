@@ -1,12 +1,11 @@
 -- Steps that leave the records of ports as they are.
-use Rattle.std.proofs.Common.{◌≡◌, ℕ, zero, suc, ◌+◌, ◌%◌, ◌==◌, ◌||◌, Bool, true, false, if◌then◌else◌, List, [], ◌∷◌, Option, Some, None, is_none, is_some, get_or, map, refl, ap}
+use Rattle.std.proofs.Common.{◌≡◌, ℕ, ◌+◌, ◌%◌, ◌==◌, ◌||◌, Bool, true, false, if◌then◌else◌, List, [], Option, Some, None, is_none, is_some, refl, ap}
 use Rattle.pl_layouts.specs.declared.control.Vote.{Vote as Answer}
 use Rattle.pl_layouts.specs.Votes.{counts, gives_way}
 use Rattle.pl_logic.specs.declared.messages.ToSwitch.{ToSwitch}
 use Rattle.pl_logic.specs.declared.messages.ToSwitch.TheVariants.{Answer as SayAnswer, Avoid, Flood, Invalidate, Pod, Tree}
 use Rattle.pl_logic.specs.declared.neighbour.Neighbour.{Neighbour}
-use Rattle.pl_logic.specs.declared.neighbour.PortRecord.{PortRecord}
-use Rattle.pl_logic.specs.PortRecords.{aged, is_open_to_hosts, new_port, port_of}
+use Rattle.pl_logic.specs.PortRecords.{is_open_to_hosts, port_of}
 use Rattle.pl_logic.specs.SwitchViews.{SwitchView}
 use Rattle.pl_steps.specs.Steps.{SwitchStep, rests}
 use Rattle.pl_switch_rule.specs.Forwarding.{Choice}
@@ -57,8 +56,3 @@ ports_vote v port vote = by (counts v.place v.attempt v.proposed vote) vote.gran
     by true false false d = refl
     by true false true true = refl
     by true false true false = refl
-
-pub heard_aged : (ports : List PortRecord) (n : ℕ) → (get_or (map aged ports) n new_port).heard ≡ (get_or ports n new_port).heard
-heard_aged [] n = refl
-heard_aged (r ∷ ports) zero = refl
-heard_aged (r ∷ ports) (suc n) = heard_aged ports n

@@ -1,7 +1,8 @@
 -- In a pod at rest each edge switch that knows its level has a position: the one with the largest id would have got one.
-use Rattle.std.proofs.Common.{◌≡◌, ℕ, zero, suc, ◌+◌, ◌^◌, ◌/◌, ◌<◌, ◌≤◌, ◌==◌, ◌||◌, Bool, true, false, true≢false, eqb-true, cond, List, [], ◌∷◌, length, Option, Some, None, refl, sym, ◌∙◌, ap, subst, arith, inl, inr, ◌⊎◌}
+use Rattle.std.proofs.Common.{◌≡◌, ℕ, zero, suc, ◌+◌, ◌^◌, ◌/◌, ◌<◌, ◌≤◌, ◌==◌, true, true≢false, Option, Some, None, refl, sym, ◌∙◌, ap, subst, arith, inl, inr, ◌⊎◌}
 use Rattle.std.specs.List.{list_any}
 use Rattle.std.proofs.lemmas.Bool.{cases_eq, cases_lt}
+use Rattle.pl_lemmas.proofs.Pigeonhole.{enough}
 use Rattle.pl_frame.specs.declared.address.SwitchId.{SwitchId}
 use Rattle.pl_layouts.specs.declared.place.Place.{Place}
 use Rattle.pl_wiring.specs.declared.label.Label.{Label}
@@ -25,43 +26,6 @@ use Rattle.pl_placing.specs.Trying.HasReason.{IsBehind, IsTaken}
 use Rattle.pl_journal.specs.Flights.{label_level}
 
 -- Each of n numbers has a port among these, and no two have one: so there are n of them.
-
-drop_one : ℕ → List ℕ → List ℕ
-drop_one p [] = []
-drop_one p (x ∷ xs) = cond (x == p) xs (x ∷ drop_one p xs)
-
-one_less : (p : ℕ) (xs : List ℕ) → list_any (λ r. r == p) xs ≡ true → suc (length (drop_one p xs)) ≡ length xs
-unfolding drop_one
-one_less p [] any = absurd (cc any)
-one_less p (x ∷ xs) any = by (x == p) any (one_less p xs)
-  where
-    by : (b : Bool) → (b || list_any (λ r. r == p) xs) ≡ true → (list_any (λ r. r == p) xs ≡ true → suc (length (drop_one p xs)) ≡ length xs) →
-        suc (length (cond b xs (x ∷ drop_one p xs))) ≡ suc (length xs)
-    by true any rest = refl
-    by false any rest = ap suc (rest any)
-
-still_there : (p q : ℕ) (xs : List ℕ) → (p ≡ q → ⊥) → list_any (λ r. r == q) xs ≡ true → list_any (λ r. r == q) (drop_one p xs) ≡ true
-unfolding drop_one
-still_there p q [] differ any = any
-still_there p q (x ∷ xs) differ any = by (x == p) refl (x == q) refl any (still_there p q xs differ)
-  where
-    by : (b : Bool) → (x == p) ≡ b → (c : Bool) → (x == q) ≡ c → (c || list_any (λ r. r == q) xs) ≡ true →
-        (list_any (λ r. r == q) xs ≡ true → list_any (λ r. r == q) (drop_one p xs) ≡ true) → list_any (λ r. r == q) (cond b xs (x ∷ drop_one p xs)) ≡ true
-    by true same true also any rest = absurd (differ (sym (eqb-true x p same) ∙ eqb-true x q also))
-    by true same false other any rest = any
-    by false other true also any rest = ap (λ c. c || list_any (λ r. r == q) (drop_one p xs)) also
-    by false other false also any rest = ap (λ c. c || list_any (λ r. r == q) (drop_one p xs)) also ∙ rest any
-
-enough : (P : ℕ → ℕ → Type 0) → ((i j p : ℕ) → P i p → P j p → i ≡ j) → (n : ℕ) (xs : List ℕ) →
-    ((j : ℕ) → j < n → (p : ℕ) × P j p × (list_any (λ r. r == p) xs ≡ true)) → n ≤ length xs
-enough P apart zero xs each = omega arith
-enough P apart (suc n) xs each =
-    let last = each n (omega arith) in
-    let less = one_less last.0 xs last.2 in
-    let rest = enough P apart n (drop_one last.0 xs) (λ j below.
-    let at = each j (omega (arith, below)) in
-    (at.0, at.1, still_there last.0 at.0 xs (λ same. let one = apart n j at.0 (subst (P n) same last.1) at.1 in omega (arith, one, below)) at.2)) in
-    omega (arith, less, rest)
 
 too_large : (a : ℕ) → a < 2 ^ 48 → 2 ^ 48 ≤ a + zero → ⊥
 too_large a below large = by (2 ^ 48) below large

@@ -19,6 +19,7 @@ use Rattle.pl_switch_rule.specs.SwitchRule.{Loose, control_comes, data_comes, he
 use Rattle.pl_control_plane.specs.ControlPlanes.{AreJoined, ControlPlane, message_in, messages_of}
 use Rattle.pl_control_plane.specs.PlaneSteps.{IsActed, IsLeft, IsTakenOut, LeftOver, PlaneStep, SwitchTurns}
 use Rattle.pl_control_plane.specs.PlaneSteps.PlaneStep.{Carried, Entered, Heard, Left, Managed, Ordered, Ticked}
+use Rattle.pl_control_plane.proofs.Taking.{nothing_left}
 use Rattle.pl_places.specs.Places.{ArePlaced, ArePodNumbers, IsPodNumber, PositionsDiffer}
 use Rattle.pl_places.specs.Told.{IsGoodMessage, IsTrueOf, has_heard}
 use Rattle.pl_places.proofs.Entering.{carried_turn, entered_turn}
@@ -50,17 +51,6 @@ pub data Seen (f g : ControlPlane) : Type 0 where
   Ticks : (s : ℕ) → Turned f f g s (ticks (f.view s)) → Seen f g
   Hears : (m : ControlPlane) (t q s port : ℕ) (read : Result Control ControlError) → AreJoined f.plan t q s port → IsTakenOut f t q (messages_of read) m →
       AllByRecursion (IsGoodMessage (m.view t).id (m.view t).place (has_heard (m.view t) q)) (messages_of read) → Turned f m g s (hears_control (m.view s) port read) → Seen f g
-
-left_self : (f : ControlPlane) → IsLeft f f
-left_self f = record {
-  plan = refl;
-  view = λ s. refl;
-  says = λ s port. record { gone = []; split = refl };
-  carries = λ s port is. is;
-  reports = λ s. record { gone = []; split = refl };
-  orders = λ s. record { gone = []; split = refl };
-  manager = refl;
-}
 
 turned : (f m g : ControlPlane) (s : ℕ) (input : SwitchInput) (st : SwitchStep) → IsLeft f m → (turns : SwitchTurns Loose m s input g) →
     switch_step turns.ruled.choose (m.view s) input ≡ st → IsGoodTurn f.plan m s st.view st.acts → Turned f m g s st
@@ -124,7 +114,7 @@ module _ (manager : ManagerRule) (f g : ControlPlane) (is : IsPlan f.plan) (old 
   pub step_seen : PlaneStep Loose manager f g → Seen f g
   step_seen (Left left) = Gone left.view left.says
   step_seen (Ticked s turns) =
-      Ticks s (turned f f g s Tick (ticks (f.view s)) (left_self f) turns refl (tick_turn f.plan f s is old turns.there turns.size))
+      Ticks s (turned f f g s Tick (ticks (f.view s)) (nothing_left f) turns refl (tick_turn f.plan f s is old turns.there turns.size))
   step_seen (Heard t q s port frame m joined control taken turns) = heard_seen t q s port frame m joined control taken turns
   step_seen (Carried t q s port frame m joined data_frame carries taken turns) =
       let placed = left_keeps f.plan f m taken.left old in
@@ -134,7 +124,7 @@ module _ (manager : ManagerRule) (f g : ControlPlane) (is : IsPlan f.plan) (old 
       (λ pod j here. ports_carried turns.ruled.choose (m.view s) port frame (placed.links t q s port joined).recorded.no_host
       (rw (taken.left.view s) ((old.links t q s port joined).evidence carries)))
   step_seen (Entered s port frame edge within free data_frame turns) =
-      data_seen f s port frame (left_self f) data_frame turns
+      data_seen f s port frame (nothing_left f) data_frame turns
       (entered_turn f.plan f s is old turns.there turns.shaped turns.size port edge within free turns.ruled.choose frame turns.ruled.is_choice)
       (λ pod j here. absurd (omega (arith, here, edge)))
   step_seen (Ordered s says m taken turns) =

@@ -2,22 +2,16 @@
 use Rattle.std.proofs.Common.{◌≡◌, ℕ, ◌+◌, ◌*◌, ◌%◌, ◌<◌, ◌≤◌, ◌==◌, ◌&&◌, ◌||◌, nat_cmp, nat_lt, Bool, true, false, true≢false, if◌then◌else◌, [], length, Option, Some, None, is_none, refl, sym, ◌∙◌, ap, subst, arith, inl, inr, ◌⊎◌, eqb-true, ltb-true, ltb-false}
 use Rattle.std.specs.BTreeSet.{insert_key}
 use Rattle.std.proofs.lemmas.Bool.{and_parts, cases_lt}
+use Rattle.pl_lemmas.proofs.Options.{is_none_is}
 use Rattle.pl_frame.specs.declared.address.SwitchId.{SwitchId}
 use Rattle.pl_layouts.specs.declared.control.Vote.{Vote as Answer}
 use Rattle.pl_layouts.specs.Placement.{is_known}
 use Rattle.pl_layouts.specs.Votes.{counts, gives_way, is_smaller}
+use Rattle.pl_layouts.proofs.Known.{known_is}
 use Rattle.pl_logic.specs.SwitchViews.{SwitchView}
 use Rattle.pl_switch_rule.specs.Positions.{after_vote, counted, fixes_position, half, is_majority, moves_on, with_granted}
 use Rattle.pl_placing.specs.Trying.{HasReason, IsHolder, IsTrying, NamesHolder}
 use Rattle.pl_placing.specs.Trying.HasReason.{IsBehind, IsTaken}
-
-known_is : (o : Option ℕ) (n : ℕ) → is_known o n ≡ true → o ≡ Some n
-known_is None n h = absurd (cc h)
-known_is (Some m) n h = ap Some (eqb-true m n h)
-
-none_is : (o : Option ℕ) → is_none o ≡ true → o ≡ None
-none_is None h = refl
-none_is (Some x) h = absurd (cc h)
 
 -- what a vote that counts says of the switch
 pub record IsCounted (v : SwitchView) (vote : Answer) : Type 0 where
@@ -33,7 +27,7 @@ counts_says v vote h =
     let c = and_parts (is_known v.place.level 0) (is_none v.place.position) b.0 in
     record {
       level = known_is v.place.level 0 c.0;
-      none = none_is v.place.position c.1;
+      none = is_none_is v.place.position c.1;
       attempt = eqb-true vote.attempt v.attempt b.1;
       position = eqb-true vote.position v.proposed a.1;
     }

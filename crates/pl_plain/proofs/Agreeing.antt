@@ -1,7 +1,7 @@
 -- What is known of an edge switch, and of what a call answers.
 use Rattle.std.proofs.Common.{◌≡◌, true, Option, Some, None, Result, Ok, Err, sym}
 use Rattle.std.proofs.lemmas.Bool.{and_from, both_ways, false_from_ne_true}
-use Rattle.std.specs.Prelude.{IfOk, OnErr}
+use Rattle.std.specs.Prelude.{OnErr}
 use Rattle.pl_layouts.specs.declared.place.Place.{Place}
 use Rattle.pl_layouts.specs.Placement.{is_known, is_placed}
 use Rattle.pl_migrate.specs.Books.{BookView}
@@ -13,11 +13,6 @@ pub may_be : (book : Option BookView) (place : Place) → HasBookAt book place �
 may_be None place h edge = false_from_ne_true (is_placed place) (λ placed.
     both_ways (is_placed_edge place) (sym h.booked) (and_from (is_known place.level 0) (is_placed place) edge placed))
 may_be (Some book) place h edge = tt
-
--- what holds of the value that a call answers, by what it says of it
-pub if_ok : {T E : Type 0} {P Q : T → Type 0} (result : Result T E) → ((x : T) → P x → Q x) → IfOk result P → IfOk result Q
-if_ok (Err e) f h = h
-if_ok (Ok x) f h = f x h
 
 -- what holds in any case holds without memory
 pub on_err : {T E : Type 0} {P : Type 0} (result : Result T E) → P → OnErr result P

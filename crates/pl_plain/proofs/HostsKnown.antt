@@ -11,6 +11,7 @@ use Rattle.pl_logic.specs.SwitchViews.{SwitchView}
 use Rattle.pl_frame.specs.declared.address.SwitchId.{SwitchId}
 use Rattle.pl_layouts.specs.declared.place.Place.{Place}
 use Rattle.pl_layouts.specs.Placement.{is_known}
+use Rattle.pl_layouts.proofs.Known.{known_is}
 use Rattle.pl_steps.specs.Taken.{IsTaken}
 use Rattle.pl_switch_rule.specs.Levels.{becomes_edge, changes_to, finds_host, pod_told_before}
 use Rattle.pl_position.specs.Candidacy.{Candidacy}
@@ -23,7 +24,6 @@ use Rattle.pl_plain.specs.Settling.{PlaceGrows}
 use Rattle.pl_plain.proofs.Growing.{grows_by_host}
 use Rattle.pl_plain.proofs.Nothing.{nothing_changes}
 use Rattle.pl_plain.proofs.Rows.{KeepsSelf}
-use Rattle.pl_plain.proofs.Settled.{known_level}
 
 same_put : (v : SwitchView) (port : ℕ) → (port_of v port).host ≡ true → with_host v port ≡ v
 same_put v port host =
@@ -88,7 +88,7 @@ pub known_by_parts : (v : SwitchView) (p : PortsView) (c : Candidacy) (h : List 
 known_by_parts v p c h edge avoid parts port out is known =
     let both = and_parts (is_known p.place.level 0) (port_of (ports_alone p) port).host known in
     subst (λ u. IsTaken (finds_host u port) u out out) is
-    (known_host (plain_view p c h edge avoid parts) port out (known_level p.place.level 0 both.0) both.1)
+    (known_host (plain_view p c h edge avoid parts) port out (known_is p.place.level 0 both.0) both.1)
 
 pub known_edge : (v : SwitchView) (p : PortsView) (c : Candidacy) (h : List (Option Hold)) (edge : EdgeView) (avoid : List (SwitchId × ℕ × ℕ)) (parts : List (ℕ × TreePart)) (port : ℕ) →
     plain_view p c h edge avoid parts ≡ v → (is_known p.place.level 0 && (port_of (ports_alone p) port).host) ≡ true → is_known v.place.level 0 ≡ true

@@ -1,6 +1,5 @@
 -- Where nothing changes nothing is told.
-use Rattle.std.proofs.Common.{◌≡◌, ℕ, ◌&&◌, not, Bool, true, false, if◌then◌else◌, Option, Some, None, List, [], ◌∷◌, ◌++◌, refl, sym, ap, ◌∙◌, subst}
-use Rattle.std.proofs.lemmas.Bool.{and_from, eq-eqb}
+use Rattle.std.proofs.Common.{◌≡◌, ℕ, ◌&&◌, not, Bool, true, false, if◌then◌else◌, List, [], ◌∷◌, ◌++◌, refl, sym, ap, ◌∙◌, subst}
 use Rattle.std.specs.List.{flat_map}
 use Rattle.pl_logic.specs.declared.acts.Act.{Act}
 use Rattle.pl_logic.specs.declared.acts.Act.TheVariants.{Tell}
@@ -8,24 +7,14 @@ use Rattle.pl_logic.specs.declared.messages.ToManager.TheVariants.{Place as Tell
 use Rattle.pl_logic.specs.PortRecords.{id_at, is_usable, ports_of_switch}
 use Rattle.pl_logic.specs.SwitchViews.{SwitchView}
 use Rattle.pl_journal.specs.Places.{are_alike}
-use Rattle.pl_layouts.specs.declared.place.Place.{Place}
-use Rattle.pl_layouts.specs.Placement.{is_known, is_placed, same_number, same_place}
+use Rattle.pl_layouts.specs.Placement.{is_known, is_placed}
+use Rattle.pl_layouts.proofs.Sameness.{place_itself}
 use Rattle.pl_steps.specs.Steps.{SwitchStep, does, rests}
 use Rattle.pl_steps.specs.Taken.{IsTaken}
 use Rattle.pl_steps.proofs.Parts.{taken_rests, taken_then}
 use Rattle.pl_switch_rule.specs.Granting.{grants_remembered}
 use Rattle.pl_switch_rule.specs.Levels.{changes_to, settles_in}
 use Rattle.pl_switch_rule.specs.Telling.{changes_told, link_to, link_told, place_told, pod_wanted}
-
-number_itself : (o : Option ℕ) → same_number o o ≡ true
-number_itself None = refl
-number_itself (Some n) = eq-eqb n n refl
-
-place_itself : (p : Place) → same_place p p ≡ true
-place_itself p =
-    and_from (same_number p.level p.level && same_number p.position p.position) (same_number p.pod p.pod)
-    (and_from (same_number p.level p.level) (same_number p.position p.position) (number_itself p.level) (number_itself p.position))
-    (number_itself p.pod)
 
 alike_itself : (b : Bool) → are_alike b b ≡ true
 alike_itself true = refl

@@ -1,6 +1,6 @@
 -- What an edge switch keeps agrees with its place, also once more of its place is known.
 use Rattle.std.proofs.Common.{◌≡◌, ℕ, ◌&&◌, not, true, false, if◌then◌else◌, Option, Some, None, List, ◌++◌, refl, sym, ap, ◌∙◌, subst}
-use Rattle.std.proofs.lemmas.Bool.{and_parts, and_from, both_ways, eqb-true, false_from_ne_true, not-true, true_from_ne_false, false≢true, true≢false}
+use Rattle.std.proofs.lemmas.Bool.{and_parts, and_from, both_ways, false_from_ne_true, not-true, true_from_ne_false, false≢true, true≢false}
 use Rattle.std.specs.Prelude.{is_some}
 use Rattle.pl_frame.specs.declared.address.SwitchId.{SwitchId}
 use Rattle.pl_logic.specs.declared.acts.Act.{Act}
@@ -10,6 +10,7 @@ use Rattle.pl_logic.specs.PortRecords.{ports_of_switch}
 use Rattle.pl_logic.specs.SwitchViews.{SwitchView}
 use Rattle.pl_layouts.specs.declared.place.Place.{Place}
 use Rattle.pl_layouts.specs.Placement.{is_known, is_placed, nowhere}
+use Rattle.pl_layouts.proofs.Known.{known_is}
 use Rattle.pl_steps.specs.Steps.{SwitchStep, does, rests}
 use Rattle.pl_steps.specs.Taken.{IsTaken}
 use Rattle.pl_steps.proofs.Parts.{taken_rests, taken_then}
@@ -25,10 +26,6 @@ use Rattle.pl_plain.specs.Settling.{StaysKnown, PlaceGrows}
 
 abbrev place_of : Option ℕ → Option ℕ → Option ℕ → Place
 place_of level position pod = record { level = level; position = position; pod = pod }
-
-pub known_level : (level : Option ℕ) (n : ℕ) → is_known level n ≡ true → level ≡ Some n
-known_level None n h = absurd (false≢true h)
-known_level (Some m) n h = ap (λ x. Some x) (eqb-true m n h)
 
 edge_placed : (b : BookView) → HasBookAt (Some b) (edge_at b.pod b.position)
 edge_placed b = record { booked = refl; at = refl }
@@ -75,7 +72,7 @@ book_stays (Some b) was new h grows hasnt = kept_book b was new h grows
 pub becomes_at : (was new : Place) (pod position : ℕ) → has_become_placed was new ≡ true → new.pod ≡ Some pod → new.position ≡ Some position → new ≡ edge_at pod position
 becomes_at was new pod position becomes is_pod is_position =
     let placed = and_parts (is_known new.level 0 && is_placed new) (not (is_placed was)) becomes in
-    let level : new.level ≡ Some 0 = known_level new.level 0 (and_parts (is_known new.level 0) (is_placed new) placed.0).0 in
+    let level : new.level ≡ Some 0 = known_is new.level 0 (and_parts (is_known new.level 0) (is_placed new) placed.0).0 in
     ap (λ l. place_of l new.position new.pod) level ∙ ap (λ q. place_of (Some 0) q new.pod) is_position ∙ ap (λ p. place_of (Some 0) (Some position) p) is_pod
 
 no_pod_at : (position : Option ℕ) → is_placed_edge (place_of (Some 0) position None) ≡ true → ⊥
@@ -86,14 +83,14 @@ no_pod_at (Some position) is = false≢true is
 pub no_pod : (was new : Place) → has_become_placed was new ≡ true → new.pod ≡ None → ⊥
 no_pod was new becomes none =
     let is : is_placed_edge new ≡ true = (and_parts (is_placed_edge new) (not (is_placed was)) becomes).0 in
-    let level : new.level ≡ Some 0 = known_level new.level 0 (and_parts (is_known new.level 0) (is_placed new) is).0 in
+    let level : new.level ≡ Some 0 = known_is new.level 0 (and_parts (is_known new.level 0) (is_placed new) is).0 in
     no_pod_at new.position
     (ap (λ p. is_placed_edge (place_of (Some 0) new.position p)) (sym none) ∙ ap (λ l. is_placed_edge (place_of l new.position new.pod)) (sym level) ∙ is)
 
 pub no_position : (was new : Place) → has_become_placed was new ≡ true → new.position ≡ None → ⊥
 no_position was new becomes none =
     let is : is_placed_edge new ≡ true = (and_parts (is_placed_edge new) (not (is_placed was)) becomes).0 in
-    let level : new.level ≡ Some 0 = known_level new.level 0 (and_parts (is_known new.level 0) (is_placed new) is).0 in
+    let level : new.level ≡ Some 0 = known_is new.level 0 (and_parts (is_known new.level 0) (is_placed new) is).0 in
     false≢true (ap (λ q. is_placed_edge (place_of (Some 0) q new.pod)) (sym none) ∙ ap (λ l. is_placed_edge (place_of l new.position new.pod)) (sym level) ∙ is)
 
 -- the book that a switch gets as it becomes placed is that of its place

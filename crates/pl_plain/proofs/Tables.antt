@@ -2,6 +2,7 @@
 use Rattle.std.proofs.Common.{◌≡◌, ℕ, ◌==◌, ◌&&◌, ◌||◌, Bool, true, false, if◌then◌else◌, List, Option, Some, None, Result, Ok, Err, IfOk, OnOk, refl, sym, ap, ◌∙◌, subst}
 use Rattle.std.specs.Option.{is_some}
 use Rattle.std.proofs.lemmas.Bool.{true≢false}
+use Rattle.pl_lemmas.proofs.Bools.{and_false}
 use Rattle.pl_frame.specs.declared.address.SwitchId.{SwitchId}
 use Rattle.pl_pmac.specs.declared.pmac.Pmac.{Pmac}
 use Rattle.pl_layouts.specs.declared.place.Place.{Place}
@@ -94,9 +95,6 @@ taken_by_table v p c h edge after avoid parts row out told (Ok done) is at at_af
     edge_taken v p c h edge after avoid parts row out told is at.at at_after.at (taken (plain_view p c h edge avoid parts) may)
 
 -- ---- what was granted
-and_no : (b : Bool) → (b && false) ≡ false
-and_no true = refl
-and_no false = refl
 
 no_case : (edge core aggregation x : Bool) → (edge && (core || (aggregation && true) || (edge && true && true))) ≡ false → (edge && x) ≡ false
 no_case false core aggregation x h = refl
@@ -108,8 +106,8 @@ no_case true false false x h = absurd (true≢false h)
 nowhere_local : (level position pod : Option ℕ) (p q : ℕ) →
     is_placed_edge (record { level = level; position = position; pod = pod }) ≡ false →
     (is_known level 0 && (is_known pod p && is_known position q)) ≡ false
-nowhere_local level position None p q h = and_no (is_known level 0)
-nowhere_local level None (Some pod) p q h = ap (λ b. is_known level 0 && b) (and_no (pod == p)) ∙ and_no (is_known level 0)
+nowhere_local level position None p q h = and_false (is_known level 0)
+nowhere_local level None (Some pod) p q h = ap (λ b. is_known level 0 && b) (and_false (pod == p)) ∙ and_false (is_known level 0)
 nowhere_local level (Some position) (Some pod) p q h =
     no_case (is_known level 0) (is_known level 2) (is_known level 1) ((pod == p) && (position == q)) h
 

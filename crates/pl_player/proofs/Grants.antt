@@ -1,48 +1,25 @@
 -- The newest address of a host, by what a journal grants and registers.
-use Rattle.std.proofs.Common.{◌≡◌, ◌↔◌, ℕ, ◌==◌, ◌&&◌, Bool, true, false, IsTrue, if◌then◌else◌, Contains, List, [], ◌∷◌, max, Some, None, filter_map, refl, sym, ap, ◌∙◌, subst, inl, inr, eqb-true, eq-eqb, arith}
+use Rattle.std.proofs.Common.{◌≡◌, ◌↔◌, ℕ, ◌==◌, ◌&&◌, Bool, true, false, IsTrue, if◌then◌else◌, Contains, List, max, Some, None, filter_map, refl, sym, ap, ◌∙◌, subst, eqb-true, eq-eqb, arith}
 use Rattle.std.specs.List.{list_any, reduce}
-use Rattle.std.proofs.lemmas.Bool.{and_from, and_parts, false≢true, or_cases}
+use Rattle.std.proofs.lemmas.Bool.{and_from, and_parts, false≢true}
 use Rattle.pl_pmac.specs.declared.pmac.Pmac.{Pmac}
 use Rattle.pl_layouts.specs.Equality.{same_pmac}
+use Rattle.pl_layouts.proofs.Sameness.{pmac_is, pmac_itself}
 use Rattle.pl_wiring.specs.declared.host.HostNo.{HostNo}
 use Rattle.pl_wiring.specs.declared.label.SwitchNo.{SwitchNo}
 use Rattle.pl_journal.specs.declared.entry.Entry.{Entry}
 use Rattle.pl_journal.specs.declared.entry.Entry.TheVariants.{Granted, Registered}
-use Rattle.pl_logic.proofs.Among.{Contains-of_among, IsAmong, among_filter_map, among_filter_mapped, among_of_Contains, any_among}
+use Rattle.pl_logic.proofs.Among.{Contains-of_among, IsAmong, among_filter_map, among_filter_mapped, among_of_Contains, any_among, member_passes}
 use Rattle.pl_lines.specs.Expecting.{IsGrantedTo, IsNewest}
 use Rattle.pl_player.specs.Newest.{granted_to, grants_of, is_one_of, is_registered_by, number_in}
 use Rattle.pl_player.proofs.Largest.{is_largest, none_largest}
-
-pmac_is : (a b : Pmac) → same_pmac a b ≡ true → a ≡ b
-pmac_is a b e =
-    let three = and_parts ((a.pod == b.pod) && (a.position == b.position) && (a.port == b.port)) (a.vmid == b.vmid) e in
-    let two = and_parts ((a.pod == b.pod) && (a.position == b.position)) (a.port == b.port) three.0 in
-    let one = and_parts (a.pod == b.pod) (a.position == b.position) two.0 in
-    let pod = eqb-true a.pod b.pod one.0 in let position = eqb-true a.position b.position one.1 in
-    let port = eqb-true a.port b.port two.1 in let vmid = eqb-true a.vmid b.vmid three.1 in
-    λ i. record { pod = pod i; position = position i; port = port i; vmid = vmid i }
-
-pmac_itself : (x : Pmac) → same_pmac x x ≡ true
-pmac_itself x =
-    and_from ((x.pod == x.pod) && (x.position == x.position) && (x.port == x.port)) (x.vmid == x.vmid)
-    (and_from ((x.pod == x.pod) && (x.position == x.position)) (x.port == x.port)
-    (and_from (x.pod == x.pod) (x.position == x.position) (eq-eqb x.pod x.pod refl) (eq-eqb x.position x.position refl))
-    (eq-eqb x.port x.port refl)) (eq-eqb x.vmid x.vmid refl)
-
--- some item passes
-one_passes : {X : Type 0} (test : X → Bool) (xs : List X) → list_any test xs ≡ true → (x : X) × IsAmong x xs × (test x ≡ true)
-one_passes test [] h = absurd (false≢true h)
-one_passes test (x ∷ xs) h = elim (or_cases (test x) (list_any test xs) h) [
-  | inl here ↦ (x, inl refl, here)
-  | inr there ↦ let rest = one_passes test xs there in (rest.0, inr rest.1, rest.2)
-]
 
 one_of_among : (pmacs : List Pmac) (pmac : Pmac) → IsAmong pmac pmacs → is_one_of pmacs pmac ≡ true
 one_of_among pmacs pmac among = any_among (λ one. same_pmac one pmac) pmac pmacs among (pmac_itself pmac)
 
 among_of_one : (pmacs : List Pmac) (pmac : Pmac) → is_one_of pmacs pmac ≡ true → IsAmong pmac pmacs
 among_of_one pmacs pmac is =
-    let one = one_passes (λ one. same_pmac one pmac) pmacs is in
+    let one = member_passes (λ one. same_pmac one pmac) pmacs is in
     subst (λ (p : Pmac). IsAmong p pmacs) (pmac_is one.0 pmac one.2) one.1
 
 -- an address is granted
@@ -115,7 +92,7 @@ module _ (journal : List Entry) (h : HostNo) where
 
   by_registered : (pmac : Pmac) (number : ℕ) → list_any (is_registered_by pmac number) journal ≡ true → Contains journal (Registered pmac number)
   by_registered pmac number is =
-      let one = one_passes (is_registered_by pmac number) journal is in
+      let one = member_passes (is_registered_by pmac number) journal is in
       Contains-of_among (Registered pmac number) journal
       (subst (λ (e : Entry). IsAmong e journal) (same pmac number one.0 one.2) one.1)
     where

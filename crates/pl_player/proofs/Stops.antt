@@ -7,7 +7,7 @@ use Rattle.pl_world.specs.Hearing.{IsWithinHearing}
 use Rattle.pl_world.specs.Worlds.{WorldView}
 use Rattle.pl_fabric.specs.Courses.{Course, UnlessMemory}
 use Rattle.pl_lines.specs.declared.stop.Stop.{Stop}
-use Rattle.pl_lines.specs.declared.stop.Stop.TheVariants.{ExpectFailed, Refused}
+use Rattle.pl_lines.specs.declared.stop.Stop.TheVariants.{Refused}
 use Rattle.pl_lines.specs.Scenes.{Before, Doing, Ends, OfWorld, Scene, UnlessWanting}
 
 -- a step was refused
@@ -28,10 +28,6 @@ unless_refused Occupied P Q on holds = on holds
 unless_refused AlreadySo P Q on holds = on holds
 unless_refused NothingThere P Q on holds = on holds
 unless_refused Memory P Q on holds = tt
-
-pub unless_weaker : (s : Stop) (P Q : Type 0) → (P → Q) → UnlessWanting s P → UnlessWanting s Q
-unless_weaker ExpectFailed P Q on holds = on holds
-unless_weaker (Refused e) P Q on holds = unless_refused e P Q on holds
 
 -- what is left to do from here, and the whole from the beginning
 pub record Leads (rest : Doing) (now : Scene) (whole : Doing) (old : Scene) : Type 0 where

@@ -32,17 +32,6 @@ use Rattle.pl_playing.specs.Outcomes.{Comes, HostsDoAsAsked, IsPlayed, IsStopped
 use Rattle.pl_playing.specs.Plays.{IsPlayedOver, IsPlayedTo, IsUnplayed, Played, summary_by}
 use Rattle.pl_playing.proofs.Remaining.{records_are}
 
--- a fact that holds after a stop, and what follows from it
-pub unless_map : (stop : Stop) (P Q : Type 0) → (P → Q) → UnlessWanting stop P → UnlessWanting stop Q
-unless_map ExpectFailed P Q f u = f u
-unless_map (Refused error.StepsSpent) P Q f u = f u
-unless_map (Refused error.JournalFull) P Q f u = f u
-unless_map (Refused error.NoSuch) P Q f u = f u
-unless_map (Refused error.Occupied) P Q f u = f u
-unless_map (Refused error.AlreadySo) P Q f u = f u
-unless_map (Refused error.NothingThere) P Q f u = f u
-unless_map (Refused error.Memory) P Q f u = tt
-
 -- a capture has one file
 as_many : (captures : List Capture) → length captures ≡ length (files_of captures)
 as_many [] = refl

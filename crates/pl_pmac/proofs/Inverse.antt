@@ -1,8 +1,8 @@
 -- Pseudo addresses and MAC addresses undo each other.
-use Rattle.std.proofs.Common.{◌≡◌, ℕ, ◌/◌, ◌%◌, ◌^◌, ◌<◌, List, [], length, sym, ap, ◌∙◌, arith}
+use Rattle.std.proofs.Common.{◌≡◌, ℕ, ◌/◌, ◌%◌, ◌^◌, ◌<◌, List, [], length, sym, ap, ◌∙◌, arith, ◌-◌}
 use Rattle.std.proofs.lemmas.List.{append-nil}
 use Rattle.byteorder.specs.Endian.{big_from, big_number, big_bytes}
-use Rattle.byteorder.specs.Numbers.{big_number-reads_back}
+use Rattle.byteorder.specs.Numbers.{big_number-reads_back, length-bytes_high_first}
 use Rattle.pl_frame.specs.declared.address.Mac.{Mac}
 use Rattle.pl_frame.proofs.Numbers.{IsBytes, big_bytes-big_number}
 use Rattle.pl_pmac.specs.declared.pmac.Pmac.{Pmac}
@@ -44,3 +44,10 @@ pmac_number-fields_of n = omega arith
 pub mac_of-pmac_of : (m : Mac) → length m.0 ≡ 6 → IsBytes m.0 → mac_of (pmac_of m) ≡ m
 mac_of-pmac_of m six small =
     ap (λ n. mac (big_bytes 6 n)) (pmac_number-fields_of (big_number 6 m.0)) ∙ ap mac (big_bytes-big_number 6 m.0 six small)
+
+pub length-mac_of : (a : Pmac) → length (mac_of a).0 ≡ 6
+length-mac_of a = length-bytes_high_first 6 (pmac_number a)
+
+pub same_pmac_number : (y z : Pmac) → Fits y → Fits z → pmac_number y ≡ pmac_number z → y ≡ z
+same_pmac_number y z fits_y fits_z same =
+    sym (pmac_of-mac_of y fits_y) ∙ ap (λ m. pmac_of (record { 0 = big_bytes 6 m })) same ∙ pmac_of-mac_of z fits_z

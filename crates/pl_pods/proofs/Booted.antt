@@ -1,6 +1,7 @@
 -- At the beginning no number was given and none is known; and what follows where numbers are those that were given.
-use Rattle.std.proofs.Common.{◌≡◌, ℕ, zero, suc, List, [], ◌∷◌, map, replicate, get_or, None, refl, sym, subst, arith}
+use Rattle.std.proofs.Common.{◌≡◌, ℕ, zero, suc, List, [], ◌∷◌, map, get_or, None, refl, sym, subst, arith}
 use Rattle.std.specs.List.{AllByRecursion}
+use Rattle.pl_lemmas.proofs.Lists.{replicated}
 use Rattle.pl_frame.specs.declared.address.SwitchId.{SwitchId}
 use Rattle.pl_wiring.specs.Labels.{switch_count}
 use Rattle.pl_wiring.specs.Plan.{IsPlan, Plan}
@@ -13,11 +14,6 @@ use Rattle.pl_control_plane.specs.ControlPlanes.{ControlPlane, control_plane, no
 use Rattle.pl_places.specs.Places.{ArePlaced, ArePodNumbers, IsPodNumber}
 use Rattle.pl_pods.specs.Pods.{AreGiven, IsGiven, KnownAreGiven, id_of}
 use Rattle.pl_pods.proofs.Numbers.{few_numbers, given_below}
-
-replicated : {X : Type 0} (n i : ℕ) (x : X) → get_or (replicate n x) i x ≡ x
-replicated zero i x = refl
-replicated (suc n) zero x = refl
-replicated (suc n) (suc i) x = replicated n i x
 
 unfixed : (k : ℕ) (ids : List SwitchId) (s : ℕ) → (get_or (map (λ id. switch_at_boot id k) ids) s no_switch).place.position ≡ None
 unfixed k [] s = refl

@@ -1,8 +1,9 @@
 -- Each step of the control plane keeps the numbers that were given.
-use Rattle.std.proofs.Common.{◌≡◌, ℕ, Bool, true, false, if◌then◌else◌, List, [], ◌∷◌, ◌++◌, Some, None, Result, Ok, Err, Contains, slice_get, refl, sym, ◌∙◌, ap, subst, subst₂, inl, inr}
+use Rattle.std.proofs.Common.{◌≡◌, ℕ, Bool, true, false, if◌then◌else◌, List, ◌∷◌, ◌++◌, Some, None, Result, Ok, Err, Contains, slice_get, refl, sym, ◌∙◌, ap, subst, subst₂, inl, inr}
 use Rattle.std.specs.List.{AllByRecursion}
 use Rattle.std.proofs.lemmas.Bool.{cases_eq}
 use Rattle.std.proofs.lemmas.Option.{get_or_from_slice_get, slice_get_within}
+use Rattle.pl_lemmas.proofs.Lists.{all_append, all_behind, all_weaker}
 use Rattle.pl_frame.specs.declared.address.SwitchId.{SwitchId}
 use Rattle.pl_frame.specs.Ethernet.{payload_of}
 use Rattle.pl_wiring.specs.declared.label.Label.TheVariants.{Edge}
@@ -36,18 +37,6 @@ use Rattle.pl_pods.specs.Pods.{AreGiven, AreGivenBy, IsGiven, id_of}
 use Rattle.pl_pods.proofs.Managing.{askers_then, due_acts, due_orders, given_then, order_then}
 use Rattle.pl_pods.proofs.Steps.{Knows, KnowsBy, TellsPod, edge_label, knows_aside, knows_heard, knows_pod, knows_same, level_zero, never_told}
 use Rattle.pl_pods.proofs.Steps.KnowsBy.{Became, Kept, WasTold}
-
-all_behind : {X : Type 0} (P : X → Type 0) (xs ys : List X) → AllByRecursion P (xs ++ ys) → AllByRecursion P ys
-all_behind P [] ys all = all
-all_behind P (x ∷ xs) ys all = all_behind P xs ys all.1
-
-all_both : {X : Type 0} (P : X → Type 0) (xs ys : List X) → AllByRecursion P xs → AllByRecursion P ys → AllByRecursion P (xs ++ ys)
-all_both P [] ys a b = b
-all_both P (x ∷ xs) ys a b = (a.0, all_both P xs ys a.1 b)
-
-all_weaker : {X : Type 0} (P Q : X → Type 0) → ((x : X) → P x → Q x) → (xs : List X) → AllByRecursion P xs → AllByRecursion Q xs
-all_weaker P Q f [] h = tt
-all_weaker P Q f (x ∷ xs) h = (f x h.0, all_weaker P Q f xs h.1)
 
 -- items leave queues
 left_given : (plan : Plan) (askers : List SwitchId) (f g : ControlPlane) → ((s : ℕ) → g.view s ≡ f.view s) → ((s : ℕ) → LeftOver (f.orders s) (g.orders s)) →
@@ -195,7 +184,7 @@ managed_given f m g s id told given named taken turns =
       said = λ t.
           let says = subst₂ (λ (p : Plan) acts. g.orders t ≡ m.orders t ++ ordered p t acts) same_plan turns.ruled.1 (turns.orders t) in
           subst (AllByRecursion (IsGiven after.askers (id_of f.plan t))) (sym says)
-          (all_both (IsGiven after.askers (id_of f.plan t)) (m.orders t) (ordered f.plan t (manager_hears m.manager id told).acts)
+          (all_append (IsGiven after.askers (id_of f.plan t)) (m.orders t) (ordered f.plan t (manager_hears m.manager id told).acts)
           (all_weaker (IsGiven m.manager.askers (id_of f.plan t)) (IsGiven after.askers (id_of f.plan t))
           (λ order is. order_then m.manager id (id_of f.plan t) told order is) (m.orders t) (before.said t))
           (due_orders f.plan after.askers t (manager_hears m.manager id told).acts (due_acts m.manager id told)));

@@ -1,9 +1,11 @@
 -- What the manager says of pods.
-use Rattle.std.proofs.Common.{◌≡◌, ℕ, ◌+◌, Bool, true, false, if◌then◌else◌, cond, List, [], ◌∷◌, ◌++◌, length, map, flat_map, Option, Some, None, unwrap_or, IsSome, position, refl, ap, subst, eqb-true}
+use Rattle.std.proofs.Common.{◌≡◌, ℕ, ◌+◌, Bool, true, false, if◌then◌else◌, cond, List, [], ◌∷◌, ◌++◌, length, map, flat_map, Option, Some, None, unwrap_or, IsSome, position, refl, subst, eqb-true}
 use Rattle.std.specs.List.{AllByRecursion, list_any}
 use Rattle.std.proofs.lemmas.List.Quantifiers.{position-Some}
+use Rattle.pl_lemmas.proofs.Lists.{all_append}
 use Rattle.pl_frame.specs.declared.address.Ip4.{Ip4}
 use Rattle.pl_frame.specs.declared.address.SwitchId.{SwitchId}
+use Rattle.pl_frame.proofs.Switches.{same_id}
 use Rattle.pl_pmac.specs.declared.pmac.Pmac.{Pmac}
 use Rattle.pl_wiring.specs.Plan.{Plan}
 use Rattle.pl_layouts.specs.Equality.{same_pmac, same_switch}
@@ -26,10 +28,6 @@ use Rattle.pl_pods.proofs.Numbers.{number_stays}
 abbrev pub IsDue : List SwitchId → ManagerAct → Type 0
 IsDue askers (Say to says) = IsGiven askers to says
 IsDue askers (Number pmac n) = Unit {0}
-
-all_append : {X : Type 0} (P : X → Type 0) (xs ys : List X) → AllByRecursion P xs → AllByRecursion P ys → AllByRecursion P (xs ++ ys)
-all_append P [] ys a b = b
-all_append P (x ∷ xs) ys a b = (a.0, all_append P xs ys a.1 b)
 
 all_mapped : {X Y : Type 0} (P : Y → Type 0) (f : X → Y) (xs : List X) → ((x : X) → P (f x)) → AllByRecursion P (map f xs)
 all_mapped P f [] each = tt
@@ -114,9 +112,6 @@ order_then before s t told (say.Invalidate a b c d) is = tt
 order_then before s t told (say.Tree group part) is = tt
 
 -- The switch to which an act speaks.
-
-same_id : (a b : SwitchId) → a.0 ≡ b.0 → a ≡ b
-same_id a b same = let made : ℕ → SwitchId = λ n. record { 0 = n } in ap made same
 
 to_is : (plan : Plan) (to : SwitchId) (t : ℕ) → is_to (position (same_switch to) plan.ids) t ≡ true → to ≡ id_of plan t
 to_is plan to t is = by (position (same_switch to) plan.ids) refl is

@@ -6,6 +6,7 @@ use Rattle.std.specs.Cmp.{IsEquivalence}
 use Rattle.std.proofs.lemmas.Cmp.{nat_eq_equiv}
 use Rattle.std.proofs.lemmas.Map.Made.{length-le_from_is_member}
 use Rattle.std.proofs.Math.Nat.{mul-le-mul}
+use Rattle.pl_lemmas.proofs.Lists.{all_weaker}
 use Rattle.pl_frame.specs.declared.address.SwitchId.{SwitchId}
 use Rattle.pl_wiring.specs.Labels.{switch_count}
 use Rattle.pl_wiring.specs.Plan.{IsPlan, Plan}
@@ -14,10 +15,6 @@ use Rattle.pl_logic.specs.ManagerViews.{PodGiven, pod_given, pods_given}
 use Rattle.pl_logic.proofs.Among.{among_of_Contains, any_among}
 use Rattle.pl_manager_rule.specs.ManagerRule.{with_asker}
 use Rattle.pl_manager_rule.proofs.Registered.{askers_once}
-
-all_weaker : {X : Type 0} (P Q : X → Type 0) → ((x : X) → P x → Q x) → (xs : List X) → AllByRecursion P xs → AllByRecursion Q xs
-all_weaker P Q f [] h = tt
-all_weaker P Q f (x ∷ xs) h = (f x h.0, all_weaker P Q f xs h.1)
 
 -- each number is below how many were given
 below : (askers : List SwitchId) → AllByRecursion (λ g. g.pod < length (pods_given askers)) (pods_given askers)

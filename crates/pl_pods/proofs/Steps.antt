@@ -1,6 +1,7 @@
 -- Each step of the control plane keeps the numbers that were given.
 use Rattle.std.proofs.Common.{◌≡◌, ℕ, ◌+◌, ◌==◌, ◌&&◌, ◌||◌, ◌%◌, not, nat_lt, eqb-true, Bool, true, false, true≢false, if◌then◌else◌, [], Option, Some, None, is_none, Result, Ok, Err, refl, sym, ◌∙◌, ap, subst, arith, inl, inr, ◌⊎◌}
 use Rattle.std.proofs.lemmas.Bool.{and_parts, cond_both}
+use Rattle.pl_lemmas.proofs.Options.{is_none_is}
 use Rattle.pl_frame.specs.declared.address.SwitchId.{SwitchId}
 use Rattle.pl_wiring.specs.declared.label.Label.{Label}
 use Rattle.pl_wiring.specs.declared.label.Label.TheVariants.{Aggregation, Core, Edge}
@@ -16,6 +17,7 @@ use Rattle.pl_layouts.specs.declared.control.Vote.{Vote as Answer}
 use Rattle.pl_layouts.specs.declared.place.Place.{Place}
 use Rattle.pl_layouts.specs.Placement.{is_known}
 use Rattle.pl_layouts.specs.Votes.{counts, gives_way}
+use Rattle.pl_layouts.proofs.Known.{known_is}
 use Rattle.pl_logic.specs.SwitchViews.{SwitchView}
 use Rattle.pl_steps.specs.Steps.{SwitchStep, rests}
 use Rattle.pl_switch_rule.specs.Levels.{after_message, changes_to, hears_message, learns_level, learns_pod, notes_edge, share_a_pod, with_message, with_pod}
@@ -31,14 +33,9 @@ use Rattle.pl_switch_rule.proofs.RowViews.{proposal_holds}
 use Rattle.pl_votes.proofs.AggregationTurns.{same_stance}
 use Rattle.pl_votes.proofs.Aside.{IsAside, Stance, changes}
 use Rattle.pl_journal.specs.Flights.{label_level}
+use Rattle.pl_journal.proofs.Levels.{edge_of}
 
 -- Labels.
-
--- a switch of level 0 has the label of an edge switch
-edge_of : (label : Label) → 0 ≡ label_level label → (pod : ℕ) × (i : ℕ) × (label ≡ Edge pod i)
-edge_of (Edge pod i) is = (pod, i, refl)
-edge_of (Aggregation pod j) is = absurd (omega (arith, is))
-edge_of (Core group m) is = absurd (omega (arith, is))
 
 -- an edge and an aggregation switch that are joined are of one pod
 one_pod : (s t : Label) (pod i : ℕ) → s ≡ Edge pod i → 1 ≡ label_level t → IsBelow s t ⊎ IsBelow t s → pod_of t ≡ Some pod
@@ -167,14 +164,6 @@ vote_leaves v port vote = by (counts v.place v.attempt v.proposed vote) vote.gra
     by true false true true = (refl, refl)
     by true false true false = (refl, refl)
 
-known_is : (o : Option ℕ) (n : ℕ) → is_known o n ≡ true → o ≡ Some n
-known_is None n h = absurd (cc h)
-known_is (Some m) n h = ap Some (eqb-true m n h)
-
-none_is : (o : Option ℕ) → is_none o ≡ true → o ≡ None
-none_is None h = refl
-none_is (Some x) h = absurd (cc h)
-
 vote_fixes : (v : SwitchView) (port : ℕ) (vote : Answer) → (after_vote v port vote).place.position ≡ Some 0 →
     (v.place.position ≡ Some 0) ⊎ ((v.place.level ≡ Some 0) × (v.place.position ≡ None))
 vote_fixes v port vote = by (counts v.place v.attempt v.proposed vote) refl
@@ -186,7 +175,7 @@ vote_fixes v port vote = by (counts v.place v.attempt v.proposed vote) refl
         let a = and_parts (is_known v.place.level 0 && is_none v.place.position && (vote.attempt == v.attempt)) (vote.position == v.proposed) is in
         let b = and_parts (is_known v.place.level 0 && is_none v.place.position) (vote.attempt == v.attempt) a.0 in
         let c = and_parts (is_known v.place.level 0) (is_none v.place.position) b.0 in
-        inr (known_is v.place.level 0 c.0, none_is v.place.position c.1)
+        inr (known_is v.place.level 0 c.0, is_none_is v.place.position c.1)
 
 knows_vote : (v : SwitchView) → ((x : ℕ) → v.place.position ≡ Some x → v.place.level ≡ Some 0) → (told : ℕ → Type 0) (port : ℕ) (vote : Answer) →
     Knows v.place (changes_to v (after_vote v port vote)).view.place told
@@ -217,7 +206,7 @@ knows_pod v own given = by (takes_pod v given) refl
         let c = and_parts (is_known v.place.level 0) (is_known v.place.position 0) b.0 in
         let stands = (changes v (with_pod v (Some given))).stands (known_is v.place.level 0 c.0) in
         let same : Some given ≡ Some n = ap (λ p. p.pod) (sym stands) ∙ pod in
-        WasTold (known_is v.place.position 0 c.1) (none_is v.place.pod b.1) (cc same)
+        WasTold (known_is v.place.position 0 c.1) (is_none_is v.place.pod b.1) (cc same)
 
 -- what is heard at a port
 pub knows_heard : (v : SwitchView) → ((x : ℕ) → v.place.position ≡ Some x → v.place.level ≡ Some 0) → (port : ℕ) (read : Result Control ControlError) (host : Bool) →

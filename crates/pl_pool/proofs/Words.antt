@@ -1,14 +1,11 @@
 -- What the words on pairs give where a key is absent, and where it stands between others.
-use Rattle.std.proofs.Common.{◌≡◌, ◌≢◌, ℕ, zero, suc, ◌<◌, Bool, true, false, not, ◌||◌, cond, List, [], ◌∷◌, ◌++◌, map, set, length, get_or, Option, None, Some, option_map, slice_index, filter, if◌then◌else◌, eq-eqb, ne_eqb, refl, ap, ap₂, ◌∙◌, arith}
+use Rattle.std.proofs.Common.{◌≡◌, ◌≢◌, ℕ, zero, suc, ◌<◌, true, false, not, ◌||◌, cond, List, [], ◌∷◌, ◌++◌, map, set, length, get_or, Option, None, Some, option_map, slice_index, filter, if◌then◌else◌, eq-eqb, ne_eqb, refl, ap, ap₂, ◌∙◌, arith}
 use Rattle.std.specs.List.{find}
 use Rattle.std.proofs.lemmas.Grind.{flat_map-append}
+use Rattle.std.proofs.lemmas.Bool.{or_parts}
 use Rattle.pl_pool.specs.declared.key.Key.{Key}
 use Rattle.pl_pool.specs.Pool.{is_under, has_key, item_at, without, first_key, key_after}
 use Rattle.pl_pool.specs.Chains.{IsAmong, entry, entries}
-
-or_false : (a b : Bool) → (a || b) ≡ false → (a ≡ false) × (b ≡ false)
-or_false true b e = absurd (cc)
-or_false false b e = (refl, e)
 
 module _ {T : Type 0} where
   -- no pair is under the key
@@ -22,7 +19,7 @@ module _ {T : Type 0} where
   pub misses : (pairs : List (Key × T)) (key : Key) → has_key pairs key ≡ false → Misses pairs key
   misses [] key h = record { has = refl; item = refl; rest = refl; none = refl; after = refl }
   misses (p ∷ ps) key h =
-      let both = or_false (is_under key p) (has_key ps key) h in
+      let both = or_parts (is_under key p) (has_key ps key) h in
       let m = misses ps key both.1 in
       record {
         has = h;
@@ -53,7 +50,7 @@ module _ {T : Type 0} where
         after = ap (λ b. if b then first_key behind else key_after behind key) is;
       }
   finds (p ∷ ps) pair behind key h here g =
-      let both = or_false (is_under key p) (has_key ps key) h in
+      let both = or_parts (is_under key p) (has_key ps key) h in
       let f = finds ps pair behind key both.1 here g in
       let zs = ps ++ pair ∷ behind in
       record {

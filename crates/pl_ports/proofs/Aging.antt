@@ -1,9 +1,9 @@
 -- The ports age.
 use Rattle.std.proofs.Common.{◌≡◌, map, sym, ap, ◌∙◌}
 use Rattle.pl_logic.specs.PortRecords.{aged, ports_where}
+use Rattle.pl_logic.proofs.Ports.{aged_at}
 use Rattle.pl_ports.specs.Changes.{ceased, ceases}
 use Rattle.pl_ports.specs.PortsViews.{PortsView, ports_alone}
-use Rattle.pl_ports.proofs.Tables.{aged_at}
 
 abbrev pub aged_ports : PortsView → PortsView
 aged_ports p = record p { ports = map aged p.ports }

@@ -1,18 +1,11 @@
 -- The set of the ports of a switch that pass a test, one port further.
-use Rattle.std.proofs.Common.{◌≡◌, ℕ, zero, suc, ◌+◌, ◌<◌, ◌≤◌, Bool, true, false, cond, List, [], ◌∷◌, ◌++◌, refl, sym, ap, ◌∙◌, arith}
+use Rattle.std.proofs.Common.{◌≡◌, ℕ, zero, suc, ◌+◌, ◌<◌, ◌≤◌, Bool, true, false, cond, List, [], ◌∷◌, ◌++◌, refl, ap, ◌∙◌, arith}
 use Rattle.std.specs.Prelude.{if◌then◌else◌}
 use Rattle.std.specs.List.{AllByRecursion, filter, range_with_len}
 use Rattle.std.specs.BTreeSet.{insert_key}
 use Rattle.std.specs.Ordering.{nat_cmp}
-use Rattle.std.proofs.lemmas.Bool.{le-ltb, ne_eqb}
-use Rattle.std.proofs.lemmas.List.{append-nil}
 use Rattle.pl_logic.specs.PortRecords.{ports_of_switch}
-use Rattle.pl_steps.proofs.Ports.{ports_more}
-
-insert_last : (x : ℕ) (ys : List ℕ) → AllByRecursion (λ y. y < x) ys → insert_key nat_cmp ys x ≡ ys ++ x ∷ []
-insert_last x [] h = refl
-insert_last x (y ∷ ys) h =
-    let below : y < x = h.0 in rw (le-ltb x y (omega arith), ne_eqb x y (omega arith)) (ap (λ l. y ∷ l) (insert_last x ys h.1))
+use Rattle.pl_steps.proofs.Ports.{passing_ports_more, ports_more}
 
 module _ (test : ℕ → Bool) where
   kept_below : (a n x : ℕ) → a + n ≤ x → AllByRecursion (λ y. y < x) (filter test (range_with_len a n))
@@ -31,18 +24,8 @@ module _ (test : ℕ → Bool) where
         | false ↦ filter_last ys x
       ]
 
--- the invariant of a loop that puts each port that passes into a set
-pub set_more : (test : ℕ → Bool) (n : ℕ) →
-    (if test n then insert_key nat_cmp (filter test (ports_of_switch n)) n else filter test (ports_of_switch n)) ≡ filter test (ports_of_switch (n + 1))
-set_more test n =
-    rw (ports_more n, filter_last test (ports_of_switch n) n)
-    (elim (test n) as (λ b. cond b (insert_key nat_cmp (filter test (ports_of_switch n)) n) (filter test (ports_of_switch n)) ≡ filter test (ports_of_switch n) ++ cond b (n ∷ []) []) [
-      | true ↦ insert_last n (filter test (ports_of_switch n)) (kept_below test 0 n n (omega arith))
-      | false ↦ sym (append-nil (filter test (ports_of_switch n)))
-    ])
-
 pub set_further : (test : ℕ → Bool) (n : ℕ) (passes : Bool) (set new : List ℕ) → new ≡ (if passes then insert_key nat_cmp set n else set) →
     passes ≡ test n → set ≡ filter test (ports_of_switch n) → new ≡ filter test (ports_of_switch (n + 1))
 set_further test n passes set new is here so_far =
     is ∙ ap (λ b. if b then insert_key nat_cmp set n else set) here
-    ∙ ap (λ s. if test n then insert_key nat_cmp s n else s) so_far ∙ set_more test n
+    ∙ ap (λ s. if test n then insert_key nat_cmp s n else s) so_far ∙ passing_ports_more test n

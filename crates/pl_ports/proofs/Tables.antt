@@ -2,9 +2,9 @@
 use Rattle.std.proofs.Common.{◌≡◌, ℕ, zero, suc, ◌<◌, List, [], ◌∷◌, length, map, take, replicate, get_or, set, refl, sym, subst, inl, inr}
 use Rattle.std.proofs.lemmas.Bool.{cases_eq}
 use Rattle.std.proofs.lemmas.List.{get_or-set_other, get_or-set_same}
-use Rattle.std.proofs.Math.ListN.{get_or-map}
 use Rattle.pl_logic.specs.declared.neighbour.PortRecord.{PortRecord}
 use Rattle.pl_logic.specs.PortRecords.{aged, new_port}
+use Rattle.pl_logic.proofs.Ports.{aged_at}
 use Rattle.pl_ports.specs.SoundPorts.{AreSound, IsSoundRecord}
 
 new_at : (n port : ℕ) → get_or (replicate n new_port) port new_port ≡ new_port
@@ -22,9 +22,6 @@ sound_put records port r within fits h other =
       | inl same ↦ subst (λ n. IsSoundRecord (get_or (set records port r) n new_port)) (sym same) (subst IsSoundRecord (sym (get_or-set_same records port r new_port within)) fits)
       | inr apart ↦ subst IsSoundRecord (sym (get_or-set_other records port other r new_port apart)) (h other)
     ]
-
-pub aged_at : (records : List PortRecord) (port : ℕ) → get_or (map aged records) port new_port ≡ aged (get_or records port new_port)
-aged_at records port = get_or-map aged records port new_port
 
 pub sound_aged : (records : List PortRecord) → AreSound records → AreSound (map aged records)
 sound_aged records h port = subst IsSoundRecord (sym (aged_at records port)) (h port)

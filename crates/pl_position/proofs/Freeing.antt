@@ -11,10 +11,6 @@ use Rattle.pl_position.specs.Holding.{hold_in}
 abbrev pub freed : ℕ → SwitchId → ℕ → Option Hold → Option Hold
 freed position edge at hold = if is_held_for edge hold && not (at == position) then None else hold
 
-pub length_freed : (position : ℕ) (edge : SwitchId) (n : ℕ) (holds : List (Option Hold)) → length (freed_but position edge n holds) ≡ length holds
-length_freed position edge n [] = refl
-length_freed position edge n (hold ∷ holds) = ap suc (length_freed position edge (n + 1) holds)
-
 freed_from : (position : ℕ) (edge : SwitchId) (n : ℕ) (holds : List (Option Hold)) (at : ℕ) →
     hold_in (freed_but position edge n holds) at ≡ freed position edge (n + at) (hold_in holds at)
 freed_from position edge n [] at = refl

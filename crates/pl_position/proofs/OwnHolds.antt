@@ -2,26 +2,22 @@
 use Rattle.std.proofs.Common.{◌≡◌, ◌≢◌, ℕ, ◌<◌, ◌==◌, ◌&&◌, not, Bool, true, false, if◌then◌else◌, List, length, set, Option, Some, None, IfSome, refl, sym, ap, ◌∙◌, subst, inl, inr, get_or-set_other, get_or-set_same}
 use Rattle.std.proofs.lemmas.Bool.{cases_eq, eq-eqb, ne_eqb, true≢false}
 use Rattle.std.proofs.lemmas.List.{length-set, set-get_or}
-use Rattle.std.proofs.lemmas.Option.{same_Some}
+use Rattle.std.proofs.lemmas.Option.{none-some, same_Some}
 use Rattle.pl_frame.specs.declared.address.SwitchId.{SwitchId}
+use Rattle.pl_frame.proofs.Switches.{same_id}
 use Rattle.pl_layouts.specs.declared.control.Proposal.{Proposal}
 use Rattle.pl_layouts.specs.declared.control.Vote.{Vote}
 use Rattle.pl_logic.specs.declared.switch_records.Hold.{Hold}
 use Rattle.pl_switch_rule.specs.Positions.{freed_but, is_free_for, is_held_for, kept_or_new, marked_for, vote_on}
+use Rattle.pl_switch_rule.proofs.Lengths.{length_freed}
 use Rattle.pl_position.specs.Holding.{AreHeldByIds, HoldsFor, IsAnswer, IsId, hold_in}
-use Rattle.pl_position.proofs.Freeing.{freed, freed_at, freed_itself, length_freed}
-
-pub same_id : (a b : SwitchId) → a.0 ≡ b.0 → a ≡ b
-same_id a b e = let made : ℕ → SwitchId = λ n. record { 0 = n } in ap made e
+use Rattle.pl_position.proofs.Freeing.{freed, freed_at, freed_itself}
 
 pub ids_apart : (a b : SwitchId) → a ≢ b → (a.0 == b.0) ≡ false
 ids_apart a b ne = ne_eqb a.0 b.0 (λ e. ne (same_id a b e))
 
 own_id : (edge : SwitchId) → (edge.0 == edge.0) ≡ true
 own_id edge = eq-eqb edge.0 edge.0 refl
-
-none_is_some : {X : Type 0} (x : X) → None ≡ Some x → ⊥
-none_is_some x e = cc
 
 -- what another edge switch holds is not freed
 freed_other : (position : ℕ) (edge : SwitchId) (at : ℕ) (hold : Hold) → hold.edge ≢ edge → freed position edge at (Some hold) ≡ Some hold
@@ -31,7 +27,7 @@ freed_other position edge at hold ne = rw (ids_apart hold.edge edge ne) refl
 freed_back : (position : ℕ) (edge : SwitchId) (at : ℕ) (hold : Option Hold) (left : Hold) → freed position edge at hold ≡ Some left → hold ≡ Some left
 freed_back position edge at hold left =
     elim (is_held_for edge hold && not (at == position)) as (λ b. (if b then None else hold) ≡ Some left → hold ≡ Some left) [
-      | true ↦ λ e. absurd (none_is_some left e)
+      | true ↦ λ e. absurd (none-some left e)
       | false ↦ λ e. e
     ]
 
@@ -50,7 +46,7 @@ pub record IsOwn (edge : SwitchId) (before after : Option Hold) : Type 0 where
 
 new_is_own : (edge : SwitchId) (fixed : Bool) → IsOwn edge None (Some (record { edge = edge; fixed = fixed }))
 new_is_own edge fixed = record {
-  kept = λ hold ne e. absurd (none_is_some hold e);
+  kept = λ hold ne e. absurd (none-some hold e);
   no_more = λ hold ne e. absurd (ne (sym (ap (λ h. h.edge) (same_Some _ hold e))));
 }
 

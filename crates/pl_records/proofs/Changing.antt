@@ -1,17 +1,18 @@
 -- The lists and the parts that the manager sends once it heard a word are those of its records then.
-use Rattle.std.proofs.Common.{◌≡◌, ◌⊎◌, ℕ, zero, suc, ◌==◌, ◌&&◌, not, Bool, true, false, cond, if◌then◌else◌, List, [], ◌∷◌, map, flat_map, filter, Option, Some, None, unwrap_or, slice_get, nat_cmp, refl, sym, ap, ◌∙◌, subst, inl, inr, eqb-true, eq-eqb, true≢false}
+use Rattle.std.proofs.Common.{◌≡◌, ◌⊎◌, ℕ, ◌==◌, ◌&&◌, not, Bool, true, false, cond, if◌then◌else◌, List, [], ◌∷◌, map, flat_map, filter, Option, Some, None, unwrap_or, nat_cmp, refl, sym, ap, ◌∙◌, subst, inl, inr, eqb-true, eq-eqb, true≢false}
 use Rattle.std.specs.List.{AllByRecursion, list_any}
 use Rattle.std.specs.Option.{option_and_then, option_map}
 use Rattle.std.specs.BTreeMap.{insert_entry}
 use Rattle.std.specs.Map.{keys_of}
 use Rattle.std.specs.declared.cmp.Ordering.{Ordering}
-use Rattle.std.proofs.lemmas.Bool.{and_parts, false_from_ne_true, or_cases}
+use Rattle.std.proofs.lemmas.Bool.{and_parts, false_from_ne_true}
 use Rattle.std.proofs.lemmas.Map.Lookups.{exact_unsigned}
 use Rattle.pl_frame.specs.declared.address.SwitchId.{SwitchId}
 use Rattle.pl_layouts.specs.declared.place.Place.{Place}
 use Rattle.pl_layouts.specs.Equality.{same_switch}
 use Rattle.pl_layouts.specs.Memberships.{flood}
 use Rattle.pl_layouts.specs.Placement.{is_known, nowhere}
+use Rattle.pl_layouts.proofs.Sameness.{switch_itself}
 use Rattle.pl_logic.specs.declared.acts.ManagerAct.{ManagerAct}
 use Rattle.pl_logic.specs.declared.acts.ManagerAct.TheVariants.{Say}
 use Rattle.pl_logic.specs.declared.messages.ToManager.{ToManager}
@@ -22,31 +23,24 @@ use Rattle.pl_logic.specs.AvoidLists.{avoid_list, avoided_at, avoided_cmp, is_ab
 use Rattle.pl_logic.specs.ManagerFacts.{groups}
 use Rattle.pl_logic.specs.ManagerViews.{ManagerView, Members, PlacedEdge, Told, edge_at, has_level, id_cmp, in_order, is_alive, link_cmp, members_cmp, place_of, placed_edges, switches, tellers, value_at, with_members}
 use Rattle.pl_logic.specs.Trees.{aggregation_part, best_cores, core_for, core_of, core_part, cores, edge_part, needed_edges, part_under, reach, largest, tree_part}
-use Rattle.pl_logic.proofs.Among.{IsAmong, among_append, among_filter, among_filtered, among_in_order, among_left, among_map, among_mapped, among_ordered, among_right, any_among}
+use Rattle.pl_logic.proofs.Among.{IsAmong, among_append, among_filter, among_filtered, among_in_order, among_left, among_map, among_mapped, among_ordered, among_right, any_among, got_among}
 use Rattle.pl_manager_rule.specs.ManagerRule.{avoid_acts, changed, changed_of_group, part_in, same_avoid_list, same_part, tree_acts, tree_acts_of, view_after}
 use Rattle.pl_manager_rule.proofs.Avoided.{among_switches, id_exact, same_is}
 use Rattle.pl_manager_rule.proofs.Sameness.{avoid_lists_alike, parts_alike}
-use Rattle.pl_manager_rule.proofs.Speakers.{same_itself}
 use Rattle.pl_manager_rule.proofs.Tables.{found_key, keys_inserted}
+use Rattle.pl_manager_rule.proofs.Speakers.{known_among}
 use Rattle.pl_records.specs.Words.{avoid_said, part_said}
 use Rattle.pl_records.proofs.Saying.{IsSilent, own_said, own_stays, then_more, then_said, then_silent}
 use Rattle.pl_records.proofs.Telling.{key_kept}
 
 -- Among the items of a list or not.
 
-any_is : (id : SwitchId) (xs : List SwitchId) → list_any (λ t. same_switch t id) xs ≡ true → IsAmong id xs
-any_is id [] h = absurd (true≢false (sym h))
-any_is id (x ∷ xs) h = elim (or_cases (same_switch x id) (list_any (λ t. same_switch t id) xs) h) [
-  | inl is ↦ inl (same_is x id is)
-  | inr later ↦ inr (any_is id xs later)
-]
-
 pub among_or_not : (id : SwitchId) (xs : List SwitchId) → IsAmong id xs ⊎ (IsAmong id xs → ⊥)
 among_or_not id xs = by (list_any (λ t. same_switch t id) xs) refl
   where
     by : (b : Bool) → list_any (λ t. same_switch t id) xs ≡ b → IsAmong id xs ⊎ (IsAmong id xs → ⊥)
-    by true e = inl (any_is id xs e)
-    by false e = inr (λ h. true≢false (sym (any_among (λ t. same_switch t id) id xs h (same_itself id)) ∙ e))
+    by true e = inl (known_among id xs e)
+    by false e = inr (λ h. true≢false (sym (any_among (λ t. same_switch t id) id xs h (switch_itself id)) ∙ e))
 
 number_or_not : (n : ℕ) (xs : List ℕ) → IsAmong n xs ⊎ (IsAmong n xs → ⊥)
 number_or_not n [] = inr (λ h. h)
@@ -63,11 +57,6 @@ filter_none : {T : Type 0} (test : T → Bool) (xs : List T) → ((x : T) → Is
 filter_none test [] each = refl
 filter_none test (x ∷ xs) each =
     ap (λ b. cond b (x ∷ filter test xs) (filter test xs)) (false_from_ne_true (test x) (each x (inl refl))) ∙ filter_none test xs (λ y h. each y (inr h))
-
-slice_among : {T : Type 0} (xs : List T) (i : ℕ) (x : T) → slice_get xs i ≡ Some x → IsAmong x xs
-slice_among [] i x e = absurd (cc)
-slice_among (y ∷ xs) zero x e = inl (cc)
-slice_among (y ∷ xs) (suc i) x e = inr (slice_among xs i x e)
 
 -- A switch of which nothing is known.
 
@@ -92,7 +81,7 @@ module _ (told : Told) (id : SwitchId) (unknown : IsAmong id (tellers told) → 
   chosen_is_known : (group : ℕ) (needed : List SwitchId) (core : SwitchId) → core_for told group needed ≡ Some core → IsAmong core (tellers told)
   chosen_is_known group [] core e = absurd (cc)
   chosen_is_known group (n ∷ needed) core e =
-      let best = slice_among (best_cores told (n ∷ needed)) _ core e in
+      let best = got_among (best_cores told (n ∷ needed)) _ core e in
       let one = among_filter (λ c. reach told (n ∷ needed) c == largest (map (reach told (n ∷ needed)) (cores told))) core (cores told) best in
       let two = among_filter (λ c. has_level told c 2) core (switches told) one.0 in
       among_ordered id_cmp core (tellers told) two.0

@@ -1,6 +1,7 @@
 -- The last that words say, through what a step does to queues.
 use Rattle.std.proofs.Common.{◌≡◌, ℕ, List, [], ◌∷◌, ◌++◌, Option, None, unwrap_or, refl, sym, ap, ◌∙◌}
 use Rattle.std.specs.List.{AllByRecursion}
+use Rattle.pl_lemmas.proofs.Lists.{all_weaker}
 use Rattle.pl_frame.specs.declared.address.SwitchId.{SwitchId}
 use Rattle.pl_logic.specs.declared.messages.ToManager.{ToManager}
 use Rattle.pl_logic.specs.declared.messages.ToManager.TheVariants as tell
@@ -20,10 +21,6 @@ module _ {W X : Type 0} (said : W → Option X) where
   last_silent before [] all = refl
   last_silent before (x ∷ xs) all =
       ap (λ (o : Option X). last_said said (unwrap_or o before) xs) all.0 ∙ last_silent before xs all.1
-
-all_said : {W : Type 0} (P Q : W → Type 0) → ((w : W) → P w → Q w) → (ws : List W) → AllByRecursion P ws → AllByRecursion Q ws
-all_said P Q each [] all = tt
-all_said P Q each (w ∷ ws) all = (each w all.0, all_said P Q each ws all.1)
 
 no_place : (w : ToManager) → IsNoReport w → place_said w ≡ None
 no_place (tell.Place place) is = absurd is
@@ -58,10 +55,10 @@ no_part group (say.Invalidate a b c d) is = refl
 no_part group (say.Tree g part) is = absurd is
 
 pub silent_place : (ws : List ToManager) → AllByRecursion IsNoReport ws → AllByRecursion (λ w. place_said w ≡ None) ws
-silent_place ws all = all_said IsNoReport (λ w. place_said w ≡ None) no_place ws all
+silent_place ws all = all_weaker IsNoReport (λ w. place_said w ≡ None) no_place ws all
 
 pub silent_members : (group : ℕ) (ws : List ToManager) → AllByRecursion IsNoReport ws → AllByRecursion (λ w. members_said group w ≡ None) ws
-silent_members group ws all = all_said IsNoReport (λ w. members_said group w ≡ None) (no_members group) ws all
+silent_members group ws all = all_weaker IsNoReport (λ w. members_said group w ≡ None) (no_members group) ws all
 
 no_link : (u : SwitchId) (w : ToManager) → IsNoReport w → link_said u w ≡ None
 no_link u (tell.Place place) is = refl
@@ -72,13 +69,13 @@ no_link u (tell.Query a b c) is = refl
 no_link u (tell.Members g any) is = refl
 
 pub silent_link : (u : SwitchId) (ws : List ToManager) → AllByRecursion IsNoReport ws → AllByRecursion (λ w. link_said u w ≡ None) ws
-silent_link u ws all = all_said IsNoReport (λ w. link_said u w ≡ None) (no_link u) ws all
+silent_link u ws all = all_weaker IsNoReport (λ w. link_said u w ≡ None) (no_link u) ws all
 
 pub silent_avoid : (ws : List ToSwitch) → AllByRecursion IsNoOrder ws → AllByRecursion (λ w. avoid_said w ≡ None) ws
-silent_avoid ws all = all_said IsNoOrder (λ w. avoid_said w ≡ None) no_avoid ws all
+silent_avoid ws all = all_weaker IsNoOrder (λ w. avoid_said w ≡ None) no_avoid ws all
 
 pub silent_part : (group : ℕ) (ws : List ToSwitch) → AllByRecursion IsNoOrder ws → AllByRecursion (λ w. part_said group w ≡ None) ws
-silent_part group ws all = all_said IsNoOrder (λ w. part_said group w ≡ None) (no_part group) ws all
+silent_part group ws all = all_weaker IsNoOrder (λ w. part_said group w ≡ None) (no_part group) ws all
 
 -- where nothing waits, what stands before is what was said last
 pub current_at_rest : (f : ControlPlane) → HaveReported f → HaveOrders f → IsAtRest f → AreCurrent f

@@ -13,3 +13,4 @@ pub mod Running
 pub mod Pairing
 pub mod Strangers
 pub mod LinkRuns
+pub mod Questions

@@ -1,11 +1,12 @@
 -- What a switch tells the manager of its links where its view changes.
-use Rattle.std.proofs.Common.{◌≡◌, ◌⊎◌, ℕ, zero, suc, ◌+◌, ◌<◌, ◌&&◌, not, Bool, true, false, if◌then◌else◌, List, [], ◌∷◌, ◌++◌, Option, Some, None, unwrap_or, get_or, nat_lt, refl, sym, ap, ◌∙◌, subst, inl, inr, arith, true≢false}
-use Rattle.std.specs.List.{flat_map, range_with_len}
+use Rattle.std.proofs.Common.{◌≡◌, ◌⊎◌, ℕ, ◌+◌, ◌<◌, ◌&&◌, not, Bool, true, false, if◌then◌else◌, List, [], ◌∷◌, ◌++◌, Option, Some, None, unwrap_or, get_or, nat_lt, refl, sym, ap, ◌∙◌, subst, inl, inr, arith, true≢false}
+use Rattle.std.specs.List.{flat_map}
 use Rattle.std.proofs.lemmas.Bool.{cases_eq, cond_both}
 use Rattle.std.proofs.lemmas.Option.{same_Some}
 use Rattle.pl_frame.specs.declared.address.SwitchId.{SwitchId}
 use Rattle.pl_layouts.specs.Equality.{same_switch}
 use Rattle.pl_layouts.specs.Placement.{is_known, same_place}
+use Rattle.pl_layouts.proofs.Sameness.{switch_itself}
 use Rattle.pl_journal.specs.Places.{are_alike}
 use Rattle.pl_logic.specs.declared.acts.Act.{Act}
 use Rattle.pl_logic.specs.declared.acts.Act.TheVariants.{Tell}
@@ -13,10 +14,9 @@ use Rattle.pl_logic.specs.declared.messages.ToManager.TheVariants.{PodWanted, Pl
 use Rattle.pl_logic.specs.declared.neighbour.Neighbour.{Neighbour}
 use Rattle.pl_logic.specs.PortRecords.{heard_echo, heard_id, id_at, is_id, is_usable, is_usable_record, new_port, port_of, ports_of_switch}
 use Rattle.pl_logic.specs.SwitchViews.{SwitchView}
-use Rattle.pl_logic.proofs.Among.{IsAmong}
+use Rattle.pl_logic.proofs.Among.{among_range, IsAmong}
 use Rattle.pl_manager_rule.specs.Histories.{link_said}
 use Rattle.pl_manager_rule.proofs.Avoided.{same_is}
-use Rattle.pl_manager_rule.proofs.Speakers.{same_itself}
 use Rattle.pl_switch_rule.specs.Telling.{changes_told, link_to, link_told, place_told, pod_wanted}
 use Rattle.pl_control_plane.specs.ControlPlanes.{tells}
 use Rattle.pl_records.specs.Words.{last_said}
@@ -38,11 +38,6 @@ unheard v p none = by (port_of v p).heard none (nat_lt (port_of v p).silent 3)
     by None e false = refl
     by (Some n) e b = absurd (cc)
 
-among_range : (p a n m : ℕ) → m ≡ a + p → p < n → IsAmong m (range_with_len a n)
-among_range p a zero m is less = absurd (omega (arith, less))
-among_range zero a (suc n) m is less = inl (omega (arith, is))
-among_range (suc p) a (suc n) m is less = inr (among_range p (a + 1) n m (omega (arith, is)) (omega (arith, less)))
-
 module _ (old new : SwitchView) (u : SwitchId) (p : ℕ) (at : IsOnlyAt new u p) (silent : id_at new p ≡ None → is_usable old p ≡ false) where
   abbrev now : Bool
   now = is_usable new p
@@ -57,7 +52,7 @@ module _ (old new : SwitchView) (u : SwitchId) (p : ℕ) (at : IsOnlyAt new u p)
     where
       by : (b : Bool) → same_switch y u ≡ b → (unwrap_or (if b then Some (is_usable new q) else None) x ≡ now) ⊎ ((unwrap_or (if b then Some (is_usable new q) else None) x ≡ x) × (Some y ≡ Some u → ⊥))
       by true is = inl (ap (is_usable new) (at.only q (e ∙ ap Some (same_is y u is))))
-      by false is = inr (refl, λ h. true≢false (sym (subst (λ z. same_switch z u ≡ true) (sym (same_Some y u h)) (same_itself u)) ∙ is))
+      by false is = inr (refl, λ h. true≢false (sym (subst (λ z. same_switch z u ≡ true) (sym (same_Some y u h)) (switch_itself u)) ∙ is))
 
   one : (q : ℕ) (x : Bool) → x ≡ now → after x (link_told old new q) ≡ now
   one q x is =

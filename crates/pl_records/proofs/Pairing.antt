@@ -2,6 +2,7 @@
 use Rattle.std.proofs.Common.{◌≡◌, ℕ, zero, suc, ◌<◌, false, List, [], ◌∷◌, ◌++◌, map, Some, slice_get, get_or, refl, sym, ap, ◌∙◌, subst, inl, inr, arith, Contains}
 use Rattle.std.proofs.lemmas.Bool.{cases_eq, cases_lt}
 use Rattle.std.proofs.lemmas.Option.{get_or_from_slice_get, same_Some, slice_get-get_or}
+use Rattle.pl_lemmas.proofs.Lists.{replicated}
 use Rattle.pl_frame.specs.declared.address.SwitchId.{SwitchId}
 use Rattle.pl_layouts.specs.Equality.{same_switch}
 use Rattle.pl_wiring.specs.declared.link.Link.{Link}
@@ -36,7 +37,6 @@ use Rattle.pl_records.proofs.Last.{last_append, last_silent, silent_link}
 use Rattle.pl_records.proofs.Linking.{IsOnlyAt, unheard}
 use Rattle.pl_records.proofs.Recording.{link_heard, one_switch}
 use Rattle.pl_records.proofs.Reporting.{IsSameTo, heard_last, queue_front}
-use Rattle.pl_records.proofs.Running.{replicated}
 use Rattle.pl_records.proofs.Turning.{tells_right}
 
 -- Two switches are joined by one link at most.

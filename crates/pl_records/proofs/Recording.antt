@@ -3,9 +3,11 @@ use Rattle.std.proofs.Common.{◌≡◌, ℕ, ◌==◌, ◌&&◌, Bool, true, fa
 use Rattle.std.specs.Option.{option_or}
 use Rattle.std.proofs.lemmas.Bool.{and_from, and_parts, cases_eq, cases_lt}
 use Rattle.std.proofs.lemmas.Option.{get_or_from_slice_get, slice_get_within}
+use Rattle.pl_lemmas.proofs.Bools.{cond_and}
 use Rattle.pl_frame.specs.declared.address.SwitchId.{SwitchId}
 use Rattle.pl_layouts.specs.Equality.{same_switch}
 use Rattle.pl_layouts.specs.Placement.{nowhere}
+use Rattle.pl_layouts.proofs.Sameness.{switch_itself}
 use Rattle.pl_wiring.specs.Plan.{IsPlan, Plan}
 use Rattle.pl_logic.specs.declared.messages.ToManager.{ToManager}
 use Rattle.pl_logic.specs.declared.messages.ToManager.TheVariants as tell
@@ -16,7 +18,6 @@ use Rattle.pl_manager_rule.specs.ManagerRule.{view_after}
 use Rattle.pl_manager_rule.proofs.Avoided.{id_exact, same_is}
 use Rattle.pl_manager_rule.proofs.History.{word_after}
 use Rattle.pl_manager_rule.proofs.Kept.{link_exact, link_total, members_exact, members_total}
-use Rattle.pl_manager_rule.proofs.Speakers.{same_itself}
 use Rattle.pl_records.specs.Records.{has_told_members}
 
 -- what a word says, if it is of the one that is asked for
@@ -31,16 +32,12 @@ said_or : {X : Type 0} (o rest : Option X) (x : X) → unwrap_or (option_or o re
 said_or None rest x = refl
 said_or (Some y) rest x = refl
 
-nested : {X : Type 0} (a b : Bool) (x : Option X) → cond (a && b) x None ≡ cond a (cond b x None) None
-nested true b x = refl
-nested false b x = refl
-
 module _ (view : ManagerView) (s t : SwitchId) where
   pub place_heard : (told : ToManager) →
       place_of (view_after view s told).told t ≡ unwrap_or (if_of (same_switch s t) (place_said told)) (place_of view.told t)
   place_heard (tell.Place place) =
       ap (λ o. unwrap_or o nowhere) (word_after id_cmp id_total id_exact view.told.places s t place (same_switch s t)
-      (λ h. sym (same_is s t h)) (λ e. subst (λ x. same_switch x t ≡ true) e (same_itself t)))
+      (λ h. sym (same_is s t h)) (λ e. subst (λ x. same_switch x t ≡ true) e (switch_itself t)))
       ∙ said_or (cond (same_switch s t) (Some place) None) (value_at id_cmp view.told.places t) nowhere
   place_heard (tell.Link u usable) = quiet (same_switch s t) (place_of view.told t)
   place_heard tell.PodWanted = quiet (same_switch s t) (place_of view.told t)
@@ -54,10 +51,10 @@ module _ (view : ManagerView) (s t : SwitchId) where
       ap (λ o. unwrap_or o false) (word_after members_cmp members_total members_exact view.members (s, g) (t, group) any (same_switch s t && (g == group))
       (λ h. let two = and_parts (same_switch s t) (g == group) h in λ i. (sym (same_is s t two.0) i, sym (eqb-true g group two.1) i))
       (λ e. and_from (same_switch s t) (g == group)
-      (subst (λ x. same_switch x t ≡ true) (ap (λ (p : SwitchId × ℕ). p.0) e) (same_itself t))
+      (subst (λ x. same_switch x t ≡ true) (ap (λ (p : SwitchId × ℕ). p.0) e) (switch_itself t))
       (eq-eqb g group (sym (ap (λ (p : SwitchId × ℕ). p.1) e)))))
       ∙ said_or (cond (same_switch s t && (g == group)) (Some any) None) (value_at members_cmp view.members (t, group)) false
-      ∙ ap (λ o. unwrap_or o (has_told_members view.members t group)) (nested (same_switch s t) (g == group) (Some any))
+      ∙ ap (λ o. unwrap_or o (has_told_members view.members t group)) (cond_and (same_switch s t) (g == group) (Some any))
   members_heard group (tell.Place place) = quiet (same_switch s t) (has_told_members view.members t group)
   members_heard group (tell.Link u usable) = quiet (same_switch s t) (has_told_members view.members t group)
   members_heard group tell.PodWanted = quiet (same_switch s t) (has_told_members view.members t group)
@@ -71,10 +68,10 @@ module _ (view : ManagerView) (s t u : SwitchId) where
       ap (λ o. unwrap_or o false) (word_after link_cmp link_total link_exact view.told.links (s, x) (t, u) usable (same_switch s t && same_switch x u)
       (λ h. let two = and_parts (same_switch s t) (same_switch x u) h in λ i. (sym (same_is s t two.0) i, sym (same_is x u two.1) i))
       (λ e. and_from (same_switch s t) (same_switch x u)
-      (subst (λ y. same_switch y t ≡ true) (ap (λ (p : SwitchId × SwitchId). p.0) e) (same_itself t))
-      (subst (λ y. same_switch y u ≡ true) (ap (λ (p : SwitchId × SwitchId). p.1) e) (same_itself u))))
+      (subst (λ y. same_switch y t ≡ true) (ap (λ (p : SwitchId × SwitchId). p.0) e) (switch_itself t))
+      (subst (λ y. same_switch y u ≡ true) (ap (λ (p : SwitchId × SwitchId). p.1) e) (switch_itself u))))
       ∙ said_or (cond (same_switch s t && same_switch x u) (Some usable) None) (value_at link_cmp view.told.links (t, u)) false
-      ∙ ap (λ o. unwrap_or o (is_told_usable view.told t u)) (nested (same_switch s t) (same_switch x u) (Some usable))
+      ∙ ap (λ o. unwrap_or o (is_told_usable view.told t u)) (cond_and (same_switch s t) (same_switch x u) (Some usable))
   link_heard (tell.Place place) = quiet (same_switch s t) (is_told_usable view.told t u)
   link_heard tell.PodWanted = quiet (same_switch s t) (is_told_usable view.told t u)
   link_heard (tell.Learned a b c) = quiet (same_switch s t) (is_told_usable view.told t u)

@@ -4,6 +4,7 @@ use Rattle.std.proofs.lemmas.Bool.{cases_eq}
 use Rattle.std.proofs.lemmas.Option.{same_Some}
 use Rattle.pl_frame.specs.declared.address.SwitchId.{SwitchId}
 use Rattle.pl_layouts.specs.Equality.{same_switch}
+use Rattle.pl_layouts.proofs.Sameness.{switch_itself}
 use Rattle.pl_wiring.specs.Plan.{IsPlan}
 use Rattle.pl_logic.specs.declared.messages.ToManager.{ToManager}
 use Rattle.pl_logic.specs.ManagerViews.{place_of}
@@ -11,7 +12,6 @@ use Rattle.pl_logic.specs.SwitchInputs.SwitchInput.{Comes, Says, Tick}
 use Rattle.pl_logic.specs.SwitchInputs.{SwitchInput}
 use Rattle.pl_manager_rule.specs.Histories.{members_said, place_said}
 use Rattle.pl_manager_rule.specs.ManagerRule.{manager_hears, manager_rule, view_after}
-use Rattle.pl_manager_rule.proofs.Speakers.{same_itself}
 use Rattle.pl_switch_rule.specs.Intake.{has_member_of}
 use Rattle.pl_switch_rule.specs.SwitchRule.{Loose, switch_step}
 use Rattle.pl_control_plane.specs.ControlPlanes.{ControlPlane, tells}
@@ -92,7 +92,7 @@ queue_front f m g s id told is named taken turns t id_t named_f = elim (cases_eq
   | inl here ↦
       let one : id ≡ id_t = same_Some id id_t (sym named ∙ ap (λ x. slice_get f.plan.ids x) (sym here) ∙ named_f) in
       inl (
-        subst (λ x. same_switch id x ≡ true) one (same_itself id),
+        subst (λ x. same_switch id x ≡ true) one (switch_itself id),
         ap f.reports here ∙ taken.first ∙ ap (λ x. told ∷ m.reports x) (sym here) ∙ ap (λ x. told ∷ x) (sym (turns.reports t)),
       )
   | inr other ↦ inr (

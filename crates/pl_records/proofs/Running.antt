@@ -1,7 +1,8 @@
 -- At the beginning nothing was told; and what each step keeps, each run keeps.
-use Rattle.std.proofs.Common.{◌≡◌, ℕ, ◌==◌, zero, suc, List, [], ◌∷◌, map, replicate, get_or, None, nat_cmp, refl, sym, ap, ◌∙◌, subst}
+use Rattle.std.proofs.Common.{◌≡◌, ℕ, ◌==◌, zero, suc, List, [], ◌∷◌, map, get_or, None, nat_cmp, refl, sym, ap, ◌∙◌, subst}
 use Rattle.std.specs.List.Sorted.{IsStrictlySortedBy}
 use Rattle.std.specs.Map.{keys_of, lookup}
+use Rattle.pl_lemmas.proofs.Lists.{replicated}
 use Rattle.pl_frame.specs.declared.address.SwitchId.{SwitchId}
 use Rattle.pl_layouts.specs.Placement.{nowhere}
 use Rattle.pl_wiring.specs.Labels.{switch_count}
@@ -47,11 +48,6 @@ new_switch : (ids : List SwitchId) (k s : ℕ) → IsNew (get_or (map (λ id. sw
 new_switch [] k s = record { place = refl; members = refl; avoid = refl; parts = refl }
 new_switch (id ∷ ids) k zero = record { place = refl; members = refl; avoid = refl; parts = refl }
 new_switch (id ∷ ids) k (suc s) = new_switch ids k s
-
-pub replicated : {X : Type 0} (n i : ℕ) (x : X) → get_or (replicate n x) i x ≡ x
-replicated zero i x = refl
-replicated (suc n) zero x = refl
-replicated (suc n) (suc i) x = replicated n i x
 
 pub reported_at_first : (plan : Plan) (limits : Limits) → HaveReported (control_plane (booted plan limits))
 reported_at_first plan limits s id named =

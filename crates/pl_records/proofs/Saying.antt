@@ -7,6 +7,7 @@ use Rattle.pl_frame.specs.declared.address.Ip4.{Ip4}
 use Rattle.pl_frame.specs.declared.address.SwitchId.{SwitchId}
 use Rattle.pl_pmac.specs.declared.pmac.Pmac.{Pmac}
 use Rattle.pl_layouts.specs.Equality.{same_pmac, same_switch}
+use Rattle.pl_layouts.proofs.Sameness.{switch_itself}
 use Rattle.pl_wiring.specs.Plan.{IsPlan, Plan}
 use Rattle.pl_logic.specs.declared.acts.ManagerAct.{ManagerAct}
 use Rattle.pl_logic.specs.declared.acts.ManagerAct.TheVariants.{Number, Say}
@@ -17,7 +18,6 @@ use Rattle.pl_logic.specs.ManagerViews.{Learnt, ManagerView, Registration, looku
 use Rattle.pl_logic.proofs.Among.{IsAmong}
 use Rattle.pl_manager_rule.specs.ManagerRule.{answer_to, invalidation, reply}
 use Rattle.pl_manager_rule.proofs.Avoided.{same_is}
-use Rattle.pl_manager_rule.proofs.Speakers.{same_itself}
 use Rattle.pl_addresses.proofs.Saying.{place_is}
 use Rattle.pl_control_plane.specs.PlaneSteps.{is_to, ordered}
 use Rattle.pl_control_plane.proofs.PlaneQueues.{flat_map_append}
@@ -103,7 +103,7 @@ module _ {X : Type 0} (said : ToSwitch → Option X) (id : SwitchId) where
     pub own_said : (ts : List SwitchId) (x : X) → IsAmong id ts → then_said x (words ts) ≡ own id
     own_said [] x h = absurd h
     own_said (t ∷ ts) x h = last_append said x (said_to id (Say t (word t))) (all_said_to id (words ts)) ∙ elim h [
-      | inl is ↦ own_stays ts _ (front t x (λ e. absurd (true≢false (sym (subst (λ y. same_switch y id ≡ true) (sym is) (same_itself id)) ∙ e))))
+      | inl is ↦ own_stays ts _ (front t x (λ e. absurd (true≢false (sym (subst (λ y. same_switch y id ≡ true) (sym is) (switch_itself id)) ∙ e))))
       | inr later ↦ own_said ts _ later
     ]
 

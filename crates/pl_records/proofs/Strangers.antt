@@ -1,7 +1,8 @@
 -- Each step of the control plane keeps it that links to neighbours alone are told usable.
-use Rattle.std.proofs.Common.{◌≡◌, ◌⊎◌, ℕ, zero, suc, ◌+◌, ◌<◌, ◌==◌, Bool, true, false, List, [], ◌∷◌, ◌++◌, Option, Some, None, slice_get, refl, sym, ap, ◌∙◌, subst, inl, inr, arith, eq-eqb, eqb-true, true≢false}
-use Rattle.std.specs.List.{AllByRecursion, list_any, range_with_len}
+use Rattle.std.proofs.Common.{◌≡◌, ◌⊎◌, ℕ, ◌+◌, ◌==◌, Bool, true, false, List, [], ◌∷◌, ◌++◌, Option, Some, None, slice_get, refl, sym, ap, ◌∙◌, subst, inl, inr, arith, eq-eqb, eqb-true, true≢false}
+use Rattle.std.specs.List.{AllByRecursion, list_any}
 use Rattle.std.proofs.lemmas.Bool.{cases_eq, or_cases}
+use Rattle.pl_lemmas.proofs.Lists.{replicated}
 use Rattle.pl_frame.specs.declared.address.SwitchId.{SwitchId}
 use Rattle.pl_layouts.specs.Equality.{same_switch}
 use Rattle.pl_wiring.specs.declared.link.Peer.{Peer}
@@ -15,7 +16,7 @@ use Rattle.pl_logic.specs.PortRecords.{id_at, is_id, ports_of_switch}
 use Rattle.pl_logic.specs.SwitchInputs.SwitchInput.{Comes, Says, Tick}
 use Rattle.pl_logic.specs.SwitchInputs.{SwitchInput}
 use Rattle.pl_logic.specs.SwitchViews.{SwitchView}
-use Rattle.pl_logic.proofs.Among.{IsAmong, any_among}
+use Rattle.pl_logic.proofs.Among.{any_among, among_range}
 use Rattle.pl_manager_rule.specs.Histories.{link_said}
 use Rattle.pl_manager_rule.specs.ManagerRule.{manager_hears, manager_rule, view_after}
 use Rattle.pl_switch_rule.specs.SwitchRule.{Loose, switch_step}
@@ -30,13 +31,7 @@ use Rattle.pl_records.specs.Words.{IsNoReport, last_said}
 use Rattle.pl_records.proofs.Last.{last_append, last_silent, silent_link}
 use Rattle.pl_records.proofs.Recording.{link_heard}
 use Rattle.pl_records.proofs.Reporting.{IsSameTo, heard_last, queue_front}
-use Rattle.pl_records.proofs.Running.{replicated}
 use Rattle.pl_records.proofs.Turning.{tells_right}
-
-among_range : (p a n m : ℕ) → m ≡ a + p → p < n → IsAmong m (range_with_len a n)
-among_range p a zero m is less = absurd (omega (arith, less))
-among_range zero a (suc n) m is less = inl (omega (arith, is))
-among_range (suc p) a (suc n) m is less = inr (among_range p (a + 1) n m (omega (arith, is)) (omega (arith, less)))
 
 any_of : (test : ℕ → Bool) (xs : List ℕ) → list_any test xs ≡ true → (x : ℕ) × (test x ≡ true)
 any_of test [] h = absurd (true≢false (sym h))

@@ -3,11 +3,12 @@ use Rattle.std.proofs.Common.{◌≡◌, ◌⊎◌, ℕ, ◌==◌, ◌&&◌, not
 use Rattle.std.specs.List.{AllByRecursion, flat_map}
 use Rattle.std.specs.BTreeSet.{insert_key}
 use Rattle.std.specs.Ordering.{match_ordering}
-use Rattle.std.proofs.lemmas.Bool.{and_parts, cond_both, or_cases, or_parts}
+use Rattle.std.proofs.lemmas.Bool.{cond_both, or_cases, or_parts}
 use Rattle.std.proofs.lemmas.Map.Lookups.{CmpEqualImpliesEq, exact_unsigned}
 use Rattle.pl_frame.specs.declared.address.SwitchId.{SwitchId}
 use Rattle.pl_layouts.specs.declared.place.Place.{Place}
-use Rattle.pl_layouts.specs.Placement.{is_known, same_number, same_place}
+use Rattle.pl_layouts.specs.Placement.{is_known, same_place}
+use Rattle.pl_layouts.proofs.Sameness.{place_is}
 use Rattle.pl_journal.specs.Places.{are_alike}
 use Rattle.pl_logic.specs.declared.acts.Act.{Act}
 use Rattle.pl_logic.specs.declared.acts.Act.TheVariants.{Tell}
@@ -73,21 +74,6 @@ module _ {X : Type 0} (said : ToManager → Option X) where
         let links = flat_map (link_told old new) (ports_of_switch new.k) in
         said_more before (place ++ links) (pod_wanted old.place new.place) ∙ wish_silent old.place new.place (last_said said before (tells (place ++ links)))
         ∙ said_more before place links ∙ links_silent old new (ports_of_switch new.k) (last_said said before (tells place))
-
-number_is : (a b : Option ℕ) → same_number a b ≡ true → a ≡ b
-number_is None None h = refl
-number_is None (Some y) h = absurd (true≢false (sym h))
-number_is (Some x) None h = absurd (true≢false (sym h))
-number_is (Some x) (Some y) h = ap Some (sym (eqb-true y x h))
-
-place_is : (a b : Place) → same_place a b ≡ true → a ≡ b
-place_is a b h =
-    let both = and_parts (same_number a.level b.level && same_number a.position b.position) (same_number a.pod b.pod) h in
-    let two = and_parts (same_number a.level b.level) (same_number a.position b.position) both.0 in
-    let level = number_is a.level b.level two.0 in
-    let position = number_is a.position b.position two.1 in
-    let pod = number_is a.pod b.pod both.1 in
-    λ i. record { level = level i; position = position i; pod = pod i }
 
 -- a change is told
 pub told_place : (old new : SwitchView) → last_said place_said old.place (tells (changes_told old new)) ≡ new.place

@@ -1,5 +1,5 @@
 -- Tables that rise by their keys are the same where they say the same of each key.
-use Rattle.std.proofs.Common.{◌≡◌, Bool, true, false, cond, List, [], ◌∷◌, Option, Some, None, Ordering, Less, Equal, Greater, refl, sym, ap, ◌∙◌, subst, inl, inr}
+use Rattle.std.proofs.Common.{◌≡◌, Bool, true, false, cond, List, [], ◌∷◌, Option, Some, None, Ordering, Less, Equal, Greater, refl, sym, ap, ◌∙◌}
 use Rattle.std.specs.List.{AllByRecursion}
 use Rattle.std.specs.List.Sorted.{IsStrictlySortedBy}
 use Rattle.std.specs.Map.{keys_of}
@@ -8,13 +8,8 @@ use Rattle.std.specs.Cmp.{Equal-is, IsTotalOrder}
 use Rattle.std.proofs.lemmas.Cmp.{tied_itself}
 use Rattle.std.proofs.lemmas.Map.Lookups.{CmpEqualImpliesEq}
 use Rattle.pl_logic.specs.ManagerViews.{value_at}
-use Rattle.pl_logic.proofs.Among.{IsAmong}
+use Rattle.pl_logic.proofs.Among.{holds_of}
 use Rattle.pl_manager_rule.proofs.Tables.{found_key}
-
-holds_of : {K : Type 0} (P : K → Type 0) (x : K) (xs : List K) → AllByRecursion P xs → IsAmong x xs → P x
-holds_of P x [] all h = absurd h
-holds_of P x (y ∷ xs) all (inl is) = subst P is all.0
-holds_of P x (y ∷ xs) all (inr h) = holds_of P x xs all.1 h
 
 not_below_oneself : {K : Type 0} (R : K → K → Ordering) → IsTotalOrder R → (k : K) → R k k ≡ Less → ⊥
 not_below_oneself R o k less = let tied : R k k ≡ Equal = tied_itself o k in absurd (cc)

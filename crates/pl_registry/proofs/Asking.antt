@@ -1,9 +1,10 @@
 -- The switches that asked for a pod, and the table of their pods.
-use Rattle.std.proofs.Common.{◌≡◌, ℕ, ◌+◌, ◌||◌, Bool, true, false, cond, List, [], ◌∷◌, ◌++◌, length, map, reverse, Option, Some, None, is_some, refl, sym, ap, ◌∙◌, arith, eq-eqb}
+use Rattle.std.proofs.Common.{◌≡◌, ℕ, ◌+◌, ◌||◌, Bool, true, false, cond, List, [], ◌∷◌, ◌++◌, length, map, reverse, Some, None, is_some, refl, sym, ap, ◌∙◌, arith, eq-eqb}
 use Rattle.std.specs.List.{find, list_any}
 use Rattle.std.specs.Option.{option_map}
 use Rattle.std.specs.Map.{keys_of, lookup}
 use Rattle.std.proofs.lemmas.List.{map-append, reverse-append}
+use Rattle.pl_lemmas.proofs.Options.{is_some-option_map}
 use Rattle.pl_frame.specs.declared.address.SwitchId.{SwitchId}
 use Rattle.pl_layouts.specs.Equality.{same_switch}
 use Rattle.pl_logic.specs.ManagerViews.{PodGiven, pod_given, pods_given}
@@ -19,10 +20,6 @@ any_found test (x ∷ xs) = by (any_found test xs) (test x)
     by rest true = refl
     by rest false = rest
 
-pub some_mapped : {X Y : Type 0} (f : X → Y) (o : Option X) → is_some (option_map f o) ≡ is_some o
-some_mapped f None = refl
-some_mapped f (Some x) = refl
-
 -- the last item of a list is the first one of the list from its end
 pub last_first : {X Y : Type 0} (f : X → Y) (xs : List X) (x : X) → reverse (map f (xs ++ x ∷ [])) ≡ f x ∷ reverse (map f xs)
 last_first f xs x = ap reverse (map-append f xs (x ∷ [])) ∙ reverse-append (map f xs) (f x ∷ [])
@@ -32,7 +29,7 @@ asked_where_given : (askers : List SwitchId) (pods : List (SwitchId × ℕ)) (s 
     list_any (λ g. same_switch g.switch s) (pods_given askers) ≡ is_some (lookup (same_switch s) pods)
 asked_where_given askers pods s given =
     any_found (λ g. same_switch g.switch s) (pods_given askers)
-    ∙ sym (some_mapped (λ g. g.pod) (find (λ g. same_switch g.switch s) (pods_given askers))) ∙ ap is_some (given.pod s)
+    ∙ sym (is_some-option_map (λ g. g.pod) (find (λ g. same_switch g.switch s) (pods_given askers))) ∙ ap is_some (given.pod s)
 
 -- one that asks again
 pub asks_again : (askers : List SwitchId) (pods : List (SwitchId × ℕ)) (s : SwitchId) (pod : ℕ) → AreGiven askers pods →

@@ -3,23 +3,23 @@ use Rattle.std.proofs.Common.{◌≡◌, ◌+◌, Bool, true, false, cond, List,
 use Rattle.std.specs.List.{AllByRecursion, IsDistinct, find, list_any}
 use Rattle.std.specs.Option.{option_map, option_or}
 use Rattle.std.specs.Map.{keys_of, lookup}
-use Rattle.std.proofs.lemmas.Bool.{false≢true}
 use Rattle.indexmap.specs.IndexMap.{insert_entry}
 use Rattle.indexmap.proofs.ReorderLemmas.{map-reverse}
+use Rattle.pl_lemmas.proofs.Options.{is_some-option_map, none_of}
 use Rattle.pl_frame.specs.declared.address.Mac.{Mac}
 use Rattle.pl_pmac.specs.declared.pmac.Pmac.{Pmac}
 use Rattle.pl_pmac.specs.contracts.pmac.PmacPartialEq.TheImpl.{eq-value}
 use Rattle.pl_layouts.specs.Equality.{same_mac, same_pmac}
+use Rattle.pl_layouts.proofs.Sameness.{pmac_is}
 use Rattle.pl_logic.specs.ManagerViews.{LearntAddress, Registration, numbered}
 use Rattle.pl_manager_rule.specs.ManagerRule.{told_again, with_address}
 use Rattle.pl_manager_rule.proofs.HeardSwitches.{same_numbers}
-use Rattle.pl_manager_rule.proofs.Kept.{pmac_is}
 use Rattle.pl_manager_rule.proofs.Registered.{pmac_turned}
 use Rattle.pl_registry.specs.declared.addresses.Known.{Known}
 use Rattle.pl_registry.specs.declared.addresses.Registered.{Registered}
 use Rattle.pl_registry.specs.Addresses.{AreFound, learnt_at, newest_first, registration_of}
 use Rattle.pl_registry.proofs.Keys.{keys_are}
-use Rattle.pl_registry.proofs.Asking.{any_found, last_first, some_mapped}
+use Rattle.pl_registry.proofs.Asking.{any_found, last_first}
 
 abbrev pub Table : Type 0
 Table = List (Pmac × Known)
@@ -48,12 +48,8 @@ pub registered_where_known : (addresses : List LearntAddress) (known : Table) (l
     list_any (λ r. same_pmac r.pmac x) (numbered addresses) ≡ is_some (lookup (same_pmac x) known)
 registered_where_known addresses known latest x found =
     any_found (λ r. same_pmac r.pmac x) (numbered addresses)
-    ∙ sym (some_mapped (λ r. r.amac) (find (λ r. same_pmac r.pmac x) (numbered addresses))) ∙ ap is_some (found.host x)
-    ∙ some_mapped (λ k. k.amac) (lookup (same_pmac x) known)
-
-none_of : {X : Type 0} (o : Option X) → is_some o ≡ false → o ≡ None
-none_of None e = refl
-none_of (Some x) e = absurd (false≢true (sym e))
+    ∙ sym (is_some-option_map (λ r. r.amac) (find (λ r. same_pmac r.pmac x) (numbered addresses))) ∙ ap is_some (found.host x)
+    ∙ is_some-option_map (λ k. k.amac) (lookup (same_pmac x) known)
 
 pub unknown_where_not_registered : (addresses : List LearntAddress) (known : Table) (latest : Latest) (x : Pmac) → AreFound addresses known latest →
     list_any (λ r. same_pmac r.pmac x) (numbered addresses) ≡ false → lookup (same_pmac x) known ≡ None

@@ -1,33 +1,21 @@
 -- What is told last of an IPv4 address, in the order of the addresses.
-use Rattle.std.proofs.Common.{◌≡◌, Bool, true, false, cond, List, [], ◌∷◌, Some, refl, sym, ap, ◌∙◌}
+use Rattle.std.proofs.Common.{◌≡◌, cond, List, [], ◌∷◌, Some, refl, sym, ◌∙◌}
 use Rattle.std.specs.List.Sorted.{IsStrictlySortedBy}
 use Rattle.std.specs.Map.{keys_of, lookup}
 use Rattle.std.specs.BTreeMap.{insert_entry}
-use Rattle.std.specs.Ordering.{is_eq, nat_cmp}
-use Rattle.std.specs.Cmp.{Equal-is}
-use Rattle.std.proofs.lemmas.Bool.{eq-eqb, eqb-true, false≢true}
-use Rattle.std.proofs.lemmas.Cmp.{nat_eq_equiv, tied_itself}
+use Rattle.std.specs.Ordering.{is_eq}
+use Rattle.std.proofs.lemmas.Cmp.{nat_eq_equiv}
 use Rattle.pl_frame.specs.declared.address.Ip4.{Ip4}
 use Rattle.pl_pmac.specs.declared.pmac.Pmac.{Pmac}
 use Rattle.pl_logic.specs.HostViews.{ip_cmp}
 use Rattle.pl_logic.specs.ManagerViews.{value_at}
+use Rattle.pl_logic.proofs.Addresses.{is_eq-ip_cmp}
 use Rattle.pl_manager_rule.proofs.History.{value_after}
 use Rattle.pl_manager_rule.proofs.Kept.{ip_exact, ip_total}
 use Rattle.pl_manager_rule.proofs.Tables.{rising_put}
 use Rattle.pl_registry.specs.Owners.{by_address}
 use Rattle.pl_registry.proofs.Alike.{same_tables}
 use Rattle.pl_arp.specs.Reception.{same_ip}
-
-is_same : (a b : Ip4) → is_eq (ip_cmp a b) ≡ same_ip a b
-is_same a b = by (same_ip a b) (is_eq (ip_cmp a b)) refl refl
-  where
-    by : (s r : Bool) → same_ip a b ≡ s → is_eq (ip_cmp a b) ≡ r → is_eq (ip_cmp a b) ≡ same_ip a b
-    by true true same eq = eq ∙ sym same
-    by false false same eq = eq ∙ sym same
-    by false true same eq =
-        absurd (false≢true (sym same ∙ eq-eqb a.0 b.0 (ap (λ (x : Ip4). x.0) (ip_exact a b ((Equal-is (ip_cmp a b)).0 eq)))))
-    by true false same eq =
-        absurd (false≢true (sym eq ∙ ap (λ n. is_eq (nat_cmp a.0 n)) (sym (eqb-true a.0 b.0 same)) ∙ ap is_eq (tied_itself ip_total a)))
 
 rises : (es : List (Ip4 × Pmac)) → IsStrictlySortedBy ip_cmp (keys_of (by_address es))
 unfolding IsStrictlySortedBy
@@ -39,7 +27,7 @@ pub told_in_order : (es : List (Ip4 × Pmac)) (ip : Ip4) → value_at ip_cmp (by
 told_in_order [] ip = refl
 told_in_order (e ∷ es) ip =
     value_after ip_cmp ip_total ip_exact (by_address es) e.0 ip e.1
-    ∙ λ i. cond (is_same ip e.0 i) (Some e.1) (told_in_order es ip i)
+    ∙ λ i. cond (is_eq-ip_cmp ip e.0 i) (Some e.1) (told_in_order es ip i)
 
 -- one more word
 pub told_more : (before after : List (Ip4 × Pmac)) (ip : Ip4) (pmac : Pmac) →
@@ -50,4 +38,4 @@ told_more before after ip pmac says =
     (rises after) (rising_put ip_cmp ip_total (by_address before) ip pmac (rises before))
     (λ q. told_in_order after q ∙ says q
     ∙ sym (value_after ip_cmp ip_total ip_exact (by_address before) ip q pmac
-    ∙ λ i. cond ((is_same q ip ∙ nat_eq_equiv.symm q.0 ip.0) i) (Some pmac) (told_in_order before q i)))
+    ∙ λ i. cond ((is_eq-ip_cmp q ip ∙ nat_eq_equiv.symm q.0 ip.0) i) (Some pmac) (told_in_order before q i)))

@@ -13,15 +13,15 @@ use Rattle.pl_frame.specs.declared.address.SwitchId.{SwitchId}
 use Rattle.pl_layouts.specs.declared.place.Place.{Place}
 use Rattle.pl_layouts.specs.Equality.{same_switch}
 use Rattle.pl_layouts.specs.Placement.{nowhere}
+use Rattle.pl_layouts.proofs.Sameness.{switch_itself}
 use Rattle.pl_logic.specs.ManagerViews.{PlacedEdge, Told, edge_at, edge_with, id_cmp, place_of, placed_edges, switches, tellers, value_at}
 use Rattle.pl_logic.proofs.Among.{IsAmong, among_filter, among_filtered, among_in_order, among_insert, among_left, id_total, rising_inserted}
 use Rattle.pl_manager_rule.specs.ManagerRule.{with_link, with_place}
-use Rattle.pl_manager_rule.proofs.Avoided.{id_exact, same_is, switches_rise}
+use Rattle.pl_manager_rule.proofs.Avoided.{id_exact, id_is, same_is, switches_rise}
 use Rattle.pl_manager_rule.proofs.History.{value_after}
-use Rattle.pl_manager_rule.proofs.Speakers.{same_itself}
 use Rattle.pl_manager_rule.proofs.Tables.{found_key, value_put}
 use Rattle.pl_reports.specs.Kept.{with_edge}
-use Rattle.pl_reports.proofs.Liveness.{is_here, not_here}
+use Rattle.pl_reports.proofs.Liveness.{not_here}
 use Rattle.pl_reports.proofs.Ordering.{same_rising}
 use Rattle.pl_reports.proofs.Sorting.{among_put_before, among_put_now, put_in}
 use Rattle.pl_reports.proofs.Telling.{switches_linked, switches_placed}
@@ -66,7 +66,7 @@ edge_told told s h = by (value_at id_cmp told.places s) refl h
         (among_left s (keys_of told.places) (map (λ l. l.0.0) told.links) (found_key id_cmp id_exact told.places s place e))
 
 -- ---- a word on a link
-insert_nothing : (xs : List SwitchId) (k : SwitchId) → IsStrictlySortedBy id_cmp xs → IsAmong k xs → insert_key id_cmp xs k ≡ xs
+pub insert_nothing : (xs : List SwitchId) (k : SwitchId) → IsStrictlySortedBy id_cmp xs → IsAmong k xs → insert_key id_cmp xs k ≡ xs
 insert_nothing xs k s among =
     same_rising id_cmp id_total id_exact (insert_key id_cmp xs k) xs (rising_inserted id_cmp id_total k xs s) s
     (λ x h. elim (among_insert id_cmp k x xs h) [ inl is ↦ subst (λ z. IsAmong z xs) is among | inr j ↦ j ])
@@ -98,7 +98,7 @@ is_or_not : (s k : SwitchId) → (s ≡ k) ⊎ (s ≡ k → ⊥)
 is_or_not s k = by (is_at (id_cmp s) k) refl
   where
     by : (b : Bool) → is_at (id_cmp s) k ≡ b → (s ≡ k) ⊎ (s ≡ k → ⊥)
-    by true e = inl (is_here s k e)
+    by true e = inl (id_is s k e)
     by false e = inr (not_here s k e)
 
 apart_is : (s k : SwitchId) → (s ≡ k → ⊥) → not (same_switch k s) ≡ true
@@ -109,7 +109,7 @@ apart_is s k apart = by (same_switch k s) refl
     by false e = refl
 
 is_apart : (s k : SwitchId) → not (same_switch k s) ≡ true → s ≡ k → ⊥
-is_apart s k other is = false≢true (ap not (sym (subst (λ z. same_switch z s ≡ true) is (same_itself s))) ∙ other)
+is_apart s k other is = false≢true (ap not (sym (subst (λ z. same_switch z s ≡ true) is (switch_itself s))) ∙ other)
 
 module _ (told : Told) (s : SwitchId) (place : Place) where
   abbrev after : Told
@@ -127,7 +127,7 @@ module _ (told : Told) (s : SwitchId) (place : Place) where
       (value_after id_cmp id_total id_exact told.places s t place ∙ by (is_eq (id_cmp t s)) refl)
     where
       by : (b : Bool) → is_eq (id_cmp t s) ≡ b → cond b (Some place) (value_at id_cmp told.places t) ≡ value_at id_cmp told.places t
-      by true e = absurd (apart (sym (is_here t s e)))
+      by true e = absurd (apart (sym (id_is t s e)))
       by false e = refl
 
   abbrev was : List SwitchId

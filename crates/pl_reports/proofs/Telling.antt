@@ -8,24 +8,22 @@ use Rattle.std.specs.Map.{keys_of}
 use Rattle.std.specs.BTreeMap.{insert_entry, is_at}
 use Rattle.std.specs.BTreeSet.{insert_key}
 use Rattle.std.proofs.lemmas.Cmp.{on_total, then_total, tied_itself}
-use Rattle.std.proofs.lemmas.Map.Lookups.{CmpEqualImpliesEq, exact_pairs}
+use Rattle.std.proofs.lemmas.Map.Lookups.{CmpEqualImpliesEq}
 use Rattle.pl_frame.specs.declared.address.SwitchId.{SwitchId}
 use Rattle.pl_layouts.specs.declared.place.Place.{Place}
 use Rattle.pl_layouts.specs.Equality.{same_switch}
+use Rattle.pl_layouts.proofs.Sameness.{switch_itself}
 use Rattle.pl_logic.specs.ManagerViews.{Told, id_cmp, link_cmp, neighbours, switches, tellers, value_at}
 use Rattle.pl_logic.proofs.Among.{IsAmong, among_append, among_filter, among_filtered, among_left, among_map, among_mapped, among_right, id_total}
 use Rattle.pl_manager_rule.specs.ManagerRule.{with_link, with_place}
 use Rattle.pl_manager_rule.proofs.Avoided.{id_exact, same_is}
-use Rattle.pl_manager_rule.proofs.Speakers.{same_itself}
 use Rattle.pl_manager_rule.proofs.Tables.{among_put, found_key, value_put}
+use Rattle.pl_manager_rule.proofs.Kept.{link_exact}
 use Rattle.pl_reports.specs.Kept.{near_of, with_neighbour}
 use Rattle.pl_reports.proofs.Ordering.{same_order}
 
 pub link_total : IsTotalOrder link_cmp
 link_total = then_total (on_total (λ (l : SwitchId × SwitchId). l.0) id_total) (on_total (λ (l : SwitchId × SwitchId). l.1) id_total)
-
-pub link_exact : CmpEqualImpliesEq link_cmp
-link_exact = exact_pairs id_cmp id_cmp id_exact id_exact
 
 -- ---- tables with one more key
 module _ {K X : Type 0} (R : K → K → Ordering) (o : IsTotalOrder R) (exact : CmpEqualImpliesEq R) where
@@ -76,7 +74,7 @@ pub near_of_key : (links : List ((SwitchId × SwitchId) × Bool)) (t u : SwitchI
 near_of_key links t u h =
     let at = among_map (λ (l : (SwitchId × SwitchId) × Bool). l.0) (t, u) links h in
     let first : at.0.0.0 ≡ t = ap (λ (k : SwitchId × SwitchId). k.0) at.2 in
-    let passes : same_switch at.0.0.0 t ≡ true = subst (λ z. same_switch z t ≡ true) (sym first) (same_itself t) in
+    let passes : same_switch at.0.0.0 t ≡ true = subst (λ z. same_switch z t ≡ true) (sym first) (switch_itself t) in
     subst (λ z. IsAmong z (near_in links t)) (ap (λ (k : SwitchId × SwitchId). k.1) at.2)
     (among_mapped (λ (l : (SwitchId × SwitchId) × Bool). l.0.1) at.0 (filter (λ l. same_switch l.0.0 t) links)
     (among_filtered (λ (l : (SwitchId × SwitchId) × Bool). same_switch l.0.0 t) at.0 links at.1 passes))

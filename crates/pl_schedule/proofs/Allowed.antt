@@ -1,5 +1,5 @@
 -- What an event that is not refused has: what it names is there, and what it takes from is not empty.
-use Rattle.std.proofs.Common.{◌≡◌, ℕ, ◌<◌, ◌==◌, ◌&&◌, not, nat_lt, length, Bool, true, false, Option, Some, None, if◌then◌else◌, ◌+◌, nat_le, slice_get, refl, sym, ◌∙◌, subst, arith}
+use Rattle.std.proofs.Common.{◌≡◌, ℕ, ◌<◌, ◌&&◌, not, nat_lt, length, Bool, true, false, Option, Some, None, if◌then◌else◌, ◌+◌, nat_le, slice_get, refl, sym, ◌∙◌, subst, arith}
 use Rattle.std.proofs.lemmas.Bool.{and_parts}
 use Rattle.std.proofs.lemmas.Bool.Decides.{nat_tests}
 use Rattle.pl_frame.specs.declared.address.SwitchId.{SwitchId}
@@ -14,7 +14,7 @@ use Rattle.pl_logic.specs.SwitchInputs.{SwitchRule}
 use Rattle.pl_wiring.specs.Peers.{peer_of}
 use Rattle.pl_wiring.specs.declared.label.SwitchNo.{SwitchNo}
 use Rattle.pl_world.specs.declared.error.StepError.{StepError}
-use Rattle.pl_world.specs.declared.error.StepError.TheVariants.{AlreadySo, JournalFull, NoSuch, Occupied, StepsSpent}
+use Rattle.pl_world.specs.declared.error.StepError.TheVariants.{JournalFull, NoSuch, StepsSpent}
 use Rattle.pl_world.specs.Changes.{host_at}
 use Rattle.pl_world.specs.Flying.{IsAtPort, IsCounted}
 use Rattle.pl_world.specs.Hearing.{IsWithinHearing}
@@ -23,6 +23,7 @@ use Rattle.pl_world.specs.WorldRule.{Happens, WorldStep}
 use Rattle.pl_world.specs.Worlds.{WorldView}
 use Rattle.pl_world.proofs.Hearing.{can_hear_each}
 use Rattle.pl_world.proofs.StepBalances.{event_is_not_refused, same_refusal}
+use Rattle.pl_world.proofs.Refusing.{port_exists}
 
 is_there : (b : Bool) → unless_there b ≡ None → b ≡ true
 is_there true e = refl
@@ -46,15 +47,12 @@ has_some there filled e = (queue_there there filled e).1
 pub queue_within : (n m : ℕ) (filled : Bool) → refusal_of_queue (nat_lt n m) filled ≡ None → n < m
 queue_within n m filled e = below n m (queue_there (nat_lt n m) filled e).0
 
-pub port_is : (plan : Plan) (s port : ℕ) → has_port plan s port ≡ true → (s < switch_count plan.k) × (port < plan.k)
-port_is plan s port e = let both = and_parts (nat_lt s (switch_count plan.k)) (nat_lt port plan.k) e in (below s (switch_count plan.k) both.0, below port plan.k both.1)
-
 pub queue_port : (plan : Plan) (s port : ℕ) (filled : Bool) → refusal_of_queue (has_port plan s port) filled ≡ None → (s < switch_count plan.k) × (port < plan.k)
-queue_port plan s port filled e = port_is plan s port (queue_there (has_port plan s port) filled e).0
+queue_port plan s port filled e = port_exists plan s port (queue_there (has_port plan s port) filled e).0
 
 pub linked_port : (plan : Plan) (s port : ℕ) (filled : Bool) → refusal_of_queue (is_linked plan s port) filled ≡ None → (s < switch_count plan.k) × (port < plan.k)
 linked_port plan s port filled e =
-    port_is plan s port (and_parts (has_port plan s port) (not (is_host_port (peer_of plan s port))) (queue_there (is_linked plan s port) filled e).0).0
+    port_exists plan s port (and_parts (has_port plan s port) (not (is_host_port (peer_of plan s port))) (queue_there (is_linked plan s port) filled e).0).0
 
 chosen : (b : Bool) (x : Option StepError) (e : StepError) → (if b then x else Some e) ≡ None → b ≡ true
 chosen true x e h = refl
@@ -65,30 +63,13 @@ moves_there w h s port e =
     and_parts (has_host w.plan h) (is_for_hosts w.plan s port)
     (chosen (has_host w.plan h && is_for_hosts w.plan s port) (refusal_of_place h (host_at w s port)) NoSuch e)
 
--- none but the host itself may stand there, and it may not either
-free_from : (h : ℕ) (there : Option ℕ) → refusal_of_place h there ≡ None → there ≡ None
-free_from h None e = refl
-free_from h (Some other) e = elim (other == h) as (λ b. (if b then Some AlreadySo else Some Occupied) ≡ None → Some other ≡ None) [
-  | true ↦ λ f. absurd (cc)
-  | false ↦ λ f. absurd (cc)
-] e
-
-chosen_is : (b : Bool) (x : Option StepError) (e : StepError) → (if b then x else Some e) ≡ None → x ≡ None
-chosen_is true x e h = h
-chosen_is false x e h = absurd (cc)
-
-pub port_free : (w : WorldView) (h s port : ℕ) → refusal_of_move w h s port ≡ None → host_at w s port ≡ None
-port_free w h s port e =
-    free_from h (host_at w s port)
-    (chosen_is (has_host w.plan h && is_for_hosts w.plan s port) (refusal_of_place h (host_at w s port)) NoSuch e)
-
 pub mover_there : (w : WorldView) (h s port : ℕ) → refusal_of_move w h s port ≡ None → h < length w.plan.hosts
 mover_there w h s port e = below h (length w.plan.hosts) (moves_there w h s port e).0
 
 pub port_there : (w : WorldView) (h : ℕ) (s : SwitchNo) (port : ℕ) → refusal_of_move w h s.0 port ≡ None →
     IsAtPort w.plan.k (record { edge = s; port = port })
 port_there w h s port e =
-    let is = port_is w.plan s.0 port (and_parts (has_port w.plan s.0 port) (is_host_port (peer_of w.plan s.0 port)) (moves_there w h s.0 port e).1).0 in
+    let is = port_exists w.plan s.0 port (and_parts (has_port w.plan s.0 port) (is_host_port (peer_of w.plan s.0 port)) (moves_there w h s.0 port e).1).0 in
     record { edge = is.0; port = is.1 }
 
 -- ---- a step that is not refused

@@ -3,12 +3,12 @@ use Rattle.std.proofs.Common.{◌≡◌, ℕ, ◌+◌, ◌-◌, ◌*◌, ◌<◌
 use Rattle.std.specs.List.{filter, flat_map, range_with_len}
 use Rattle.std.specs.Option.{option_map}
 use Rattle.std.proofs.lemmas.List.{length-append, length-map}
-use Rattle.std.proofs.lemmas.List.Elements.{filter-append}
+use Rattle.std.proofs.lemmas.List.Elements.{filter-append, filter_agree}
 use Rattle.std.proofs.lemmas.Nat.{div-add-mod'}
 use Rattle.std.proofs.lemmas.Option.{slice_get-map}
 use Rattle.pl_wiring.specs.Labels.{switch_count}
 use Rattle.pl_queues.specs.Queues.{filled_indices, has_items, items_at}
-use Rattle.pl_banks.proofs.Ranges.{filter_same, slice_get_left, slice_get_right}
+use Rattle.pl_banks.proofs.Ranges.{slice_get_left, slice_get_right}
 use Rattle.pl_world.specs.declared.event.QueueName.{QueueName}
 use Rattle.pl_world.specs.Flying.{IsFormed}
 use Rattle.pl_world.specs.QueueOrder.{filled_queues, host_queue, host_queues, order_queue, port_queue, queue_order, queues_out_of, report_queue, switch_numbers}
@@ -62,7 +62,7 @@ module _ (w : WorldView) where
       → length bank ≡ n → filter (is_filled w) (map name (range_with_len 0 n)) ≡ map name (filled_indices bank)
   bank_is name bank n same long =
       filter_map (is_filled w) name (range_with_len 0 n)
-      ∙ ap (map name) (filter_same (λ at. is_filled w (name at)) (λ at. has_items (items_at bank at)) same (range_with_len 0 n))
+      ∙ ap (map name) (filter_agree (λ at. is_filled w (name at)) (λ at. has_items (items_at bank at)) same (range_with_len 0 n))
       ∙ ap (λ m. map name (filter (λ at. has_items (items_at bank at)) (range_with_len 0 m))) (sym long)
 
   module _ (formed : IsFormed w) where

@@ -11,6 +11,7 @@ use Rattle.pl_world.specs.Changes.{stands_at}
 use Rattle.pl_world.specs.Flying.{IsAtPort, IsFormed}
 use Rattle.pl_world.specs.OtherActs.{heard_after_tick, one_more_tick}
 use Rattle.pl_world.specs.Worlds.{WorldView}
+use Rattle.pl_world.proofs.Stands.{ticked_heard}
 
 -- one of the first so many ports of the switch
 abbrev pub is_below : ℕ → ℕ → Stand → Bool
@@ -130,18 +131,13 @@ module _ (s port : ℕ) where
         ∙ heard_one stands first h.0 d (get_or stands h.0 d_stand) (omega arith) (slice_get-get_or stands h.0 d_stand within) parts.1
         (λ m y at e. let also = alone m y at e in let first_is = ap (option_map (λ (h : HostNo). h.0)) found in cc)
 
-pub ticked_many : (s : ℕ) (stands : List Stand) (heard : List (Option ℕ)) → length (heard_after_tick s stands heard) ≡ length heard
-ticked_many s [] heard = refl
-ticked_many s (stand ∷ stands) [] = refl
-ticked_many s (stand ∷ stands) (ticks ∷ heard) = ap suc (ticked_many s stands heard)
-
 pub formed_heard : (v : WorldView) (s : ℕ) (new : List (Option ℕ)) → new ≡ heard_after_tick s v.stands v.heard → IsFormed v → IsFormed (record v { heard = new })
 formed_heard v s new is f = record {
   plan = f.plan;
   links = f.links;
   stands = f.stands;
   at_ports = f.at_ports;
-  heard = ap length is ∙ ticked_many s v.stands v.heard ∙ f.heard;
+  heard = ap length is ∙ ticked_heard s v.stands v.heard ∙ f.heard;
   switches = f.switches;
   ports = f.ports;
   hosts = f.hosts;

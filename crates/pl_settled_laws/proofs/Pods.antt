@@ -1,7 +1,9 @@
 -- In a settled fabric a pod whose links are live is at rest.
-use Rattle.std.proofs.Common.{◌≡◌, ℕ, zero, suc, ◌<◌, ◌/◌, ◌&&◌, ◌||◌, Bool, true, false, true≢false, List, [], ◌∷◌, length, get_or, slice_get, Option, Some, None, refl, sym, ap, ◌∙◌, subst, arith, inl, inr, lt-ltb}
-use Rattle.std.specs.List.{AllByRecursion}
+use Rattle.std.proofs.Common.{◌≡◌, ℕ, ◌<◌, ◌/◌, ◌&&◌, ◌||◌, Bool, true, false, true≢false, get_or, slice_get, Option, Some, None, refl, sym, ap, ◌∙◌, subst, arith, inl, inr, lt-ltb}
 use Rattle.std.proofs.lemmas.Option.{slice_get-get_or}
+use Rattle.std.proofs.lemmas.Bool.{and_from}
+use Rattle.pl_lemmas.proofs.Bools.{second_false}
+use Rattle.pl_lemmas.proofs.Lists.{all_at}
 use Rattle.pl_layouts.specs.declared.place.Place.{Place}
 use Rattle.pl_layouts.specs.Placement.{is_known}
 use Rattle.pl_wiring.specs.declared.label.Label.TheVariants.{Aggregation, Edge}
@@ -28,21 +30,9 @@ use Rattle.pl_settled_laws.specs.Whole.{IsWholePod}
 use Rattle.pl_settled_laws.proofs.Proposals.{presents}
 use Rattle.pl_journal.specs.Flights.{label_level}
 
-all_at : {X : Type 0} (P : X → Type 0) (xs : List X) (i : ℕ) (d : X) → i < length xs → AllByRecursion P xs → P (get_or xs i d)
-all_at P [] i d within all = absurd (omega (arith, within))
-all_at P (x ∷ xs) zero d within all = all.0
-all_at P (x ∷ xs) (suc i) d within all = all_at P xs i d (omega (arith, within)) all.1
-
-second : (a b : Bool) → (a && b) ≡ false → a ≡ true → b ≡ false
-second true b none is = none
-second false b none is = absurd (true≢false (sym is))
-
 neither : (a b : Bool) → (a || b) ≡ false → b ≡ false
 neither true b none = absurd (true≢false none)
 neither false b none = none
-
-both : (a b : Bool) → a ≡ true → b ≡ true → (a && b) ≡ true
-both a b x y = ap (λ c. c && b) x ∙ y
 
 three : (a b c : Bool) → a ≡ true → b ≡ true → c ≡ true → (a && b && c) ≡ true
 three a b c x y z = rw (x, y, z) refl
@@ -51,12 +41,12 @@ three a b c x y z = rw (x, y, z) refl
 no_news : (v : SwitchView) (p : ℕ) (u : SwitchView) (q : ℕ) → would_change v p u q ≡ false → is_usable v p ≡ true → place_at v p ≡ u.place → place_at u q ≡ v.place →
     u.place.level ≡ Some 1 → v.proposed < u.k / 2 → v.place.level ≡ Some 0 → v.place.position ≡ None → is_news v p v.attempt (holder_of u v.proposed) ≡ false
 no_news v p u q unchanged usable down up above within level none =
-    let to = both (is_usable v p) (is_known (place_at v p).level 1) usable (ap (λ (x : Place). is_known x.level 1) down ∙ ap (λ (x : Option ℕ). is_known x 1) above) in
-    let changed = second (is_usable v p && is_known (place_at v p).level 1) (would_change_by v p u q (present_attempt v)) unchanged to in
+    let to = and_from (is_usable v p) (is_known (place_at v p).level 1) usable (ap (λ (x : Place). is_known x.level 1) down ∙ ap (λ (x : Option ℕ). is_known x 1) above) in
+    let changed = second_false (is_usable v p && is_known (place_at v p).level 1) (would_change_by v p u q (present_attempt v)) unchanged to in
     let at : would_change_by v p u q (Some (v.attempt, v.proposed)) ≡ false = subst (λ (o : Option (ℕ × ℕ)). would_change_by v p u q o ≡ false) (presents v level none) changed in
     let answers : is_answered u q v.proposed ≡ true =
     three _ _ _ (ap (λ (x : Option ℕ). is_known x 1) above) (ap (λ (x : Place). is_known x.level 0) up ∙ ap (λ (x : Option ℕ). is_known x 0) level) (lt-ltb v.proposed (u.k / 2) within) in
-    neither (holds_another u v.id v.proposed) (is_news v p v.attempt (holder_of u v.proposed)) (second (is_answered u q v.proposed) _ at answers)
+    neither (holds_another u v.id v.proposed) (is_news v p v.attempt (holder_of u v.proposed)) (second_false (is_answered u q v.proposed) _ at answers)
 
 module _ (w : WorldView) (kept : Kept w) (is : IsSettled w) where
   there : (s : ℕ) → s < switch_count w.plan.k → slice_get w.switches s ≡ Some ((control_plane w).view s)

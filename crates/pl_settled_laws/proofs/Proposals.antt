@@ -3,10 +3,12 @@ use Rattle.std.proofs.Common.{◌≡◌, ◌↔◌, ◌≤◌, ℕ, suc, ◌+◌
 use Rattle.std.specs.List.{AllByRecursion, list_any}
 use Rattle.std.specs.BTreeSet.{insert_key}
 use Rattle.std.specs.Ordering.{match_ordering}
-use Rattle.std.proofs.lemmas.Bool.{cases_Bool}
+use Rattle.std.proofs.lemmas.Bool.{cases_Bool, or_from, or_parts}
 use Rattle.std.proofs.lemmas.Cmp.{ranked}
 use Rattle.std.proofs.lemmas.List.{set-get_or}
 use Rattle.std.proofs.lemmas.Option.{none-some, same_Some, slice_get-get_or, slice_get_within}
+use Rattle.pl_lemmas.proofs.Bools.{and_turned}
+use Rattle.pl_lemmas.proofs.Lists.{all_found}
 use Rattle.pl_wiring.specs.declared.label.Label.{Label}
 use Rattle.pl_wiring.specs.declared.label.Label.TheVariants.{Aggregation, Core, Edge}
 use Rattle.pl_wiring.specs.Labels.{IsLabel, label_of, number_of, switch_count}
@@ -24,8 +26,8 @@ use Rattle.pl_logic.specs.SwitchFacts.{has_granted, hold_at, holder_and_mark, ho
 use Rattle.pl_logic.specs.SwitchViews.{SwitchView}
 use Rattle.pl_steps.specs.Steps.{SwitchStep, rests}
 use Rattle.pl_switch_rule.specs.Positions.{after_vote, answers_proposal, counted, fixes_position, freed_but, frees_others, half, hears_proposal, holds_for, is_free_for, is_held_for, is_majority, kept_or_new, moves_on, vote_on, with_granted}
+use Rattle.pl_switch_rule.proofs.Lengths.{length_freed}
 use Rattle.pl_fabric.specs.Settled.{holds_another, is_another, is_holder, would_change, would_change_by}
-use Rattle.pl_fabric.proofs.SettledParts.{all_found}
 use Rattle.pl_fabric.proofs.Tests.{any_below, none_below}
 use Rattle.pl_votes.specs.Counting.{AreRising}
 use Rattle.pl_votes.proofs.Granted.{has_new}
@@ -44,12 +46,6 @@ none_is_held edge h is = ap (is_held_for edge) is
 same_holder : (edge : SwitchId) (h : Option Hold) → is_holder edge (option_map holder_and_mark h) ≡ is_held_for edge h
 same_holder edge None = refl
 same_holder edge (Some hold) = refl
-
-turn_and : (a b : Bool) → (a && b) ≡ (b && a)
-turn_and true true = refl
-turn_and true false = refl
-turn_and false true = refl
-turn_and false false = refl
 
 -- ---- a grant that was counted is counted no more
 head_is_less : (port x : ℕ) (xs : List ℕ) → AllByRecursion (λ y. x < y) xs → port < x → list_any (λ r. r == port) xs ≡ false
@@ -75,9 +71,6 @@ inserted_again port (x ∷ xs) rising there = by (nat_cmp port x) refl (inserted
         (sym (ap (λ b. b || list_any (λ r. r == port) xs) (ne_eqb x port (λ same. absurd (omega (arith, same, less))))) ∙ there))
 
 -- ---- nothing else is freed
-length_freed : (position : ℕ) (edge : SwitchId) (n : ℕ) (holds : List (Option Hold)) → length (freed_but position edge n holds) ≡ length holds
-length_freed position edge n [] = refl
-length_freed position edge n (hold ∷ holds) = ap suc (length_freed position edge (n + 1) holds)
 
 frees_none : (position : ℕ) (edge : SwitchId) (n : ℕ) (holds : List (Option Hold)) →
     ((i : ℕ) → i < length holds → (is_held_for edge (get_or holds i None) && not (n + i == position)) ≡ false) → freed_but position edge n holds ≡ holds
@@ -91,7 +84,7 @@ frees_none position edge n (hold ∷ holds) none =
 
 module _ (u : SwitchView) (edge : SwitchId) (position : ℕ) where
   another_is : (i : ℕ) → is_another u edge position i ≡ (is_held_for edge (hold_at u i) && not (i == position))
-  another_is i = ap (λ b. not (i == position) && b) (same_holder edge (hold_at u i)) ∙ turn_and (not (i == position)) (is_held_for edge (hold_at u i))
+  another_is i = ap (λ b. not (i == position) && b) (same_holder edge (hold_at u i)) ∙ and_turned (not (i == position)) (is_held_for edge (hold_at u i))
 
   pub leaves_holds : length u.holds ≡ half u.k → holds_another u edge position ≡ false → frees_others u edge position ≡ u
   leaves_holds many none =
@@ -299,13 +292,6 @@ presented (Some n) (Some m) a x is = by (n == 0) is
 pub presents : (v : SwitchView) → v.place.level ≡ Some 0 → v.place.position ≡ None → present_attempt v ≡ Some (v.attempt, v.proposed)
 presents v level none = rw (level, none) refl
 
-neither : (a b : Bool) → (a || b) ≡ false → (a ≡ false) × (b ≡ false)
-neither true b is = absurd (true≢false is)
-neither false b is = (refl, is)
-
-both_false : (a b : Bool) → a ≡ false → b ≡ false → (a || b) ≡ false
-both_false a b x y = ap (λ c. c || b) x ∙ y
-
 below_half : (a b c : Bool) → (a && b && c) ≡ true → c ≡ true
 below_half true true c is = is
 below_half true false c is = absurd (true≢false (sym is))
@@ -338,7 +324,7 @@ module _ (v : SwitchView) (port : ℕ) (u : SwitchView) (q : ℕ) where
           proposer = λ answers. absurd (answers (ap (λ (step : SwitchStep). step.acts) (row_is false is)));
         }
         by true is =
-            let parts = neither (holds_another u v.id v.proposed) (is_news v port v.attempt (holder_of u v.proposed)) (changes true is) in
+            let parts = or_parts (holds_another u v.id v.proposed) (is_news v port v.attempt (holder_of u v.proposed)) (changes true is) in
             let within = ltb-true v.proposed (half u.k) (below_half (is_known u.place.level 1) (is_known (place_at u q).level 0) (nat_lt v.proposed (half u.k)) is) in
             let two = forth v port u q level none (rising level) (few none) many within (hold_at u v.proposed) refl parts.0 parts.1 in
             record {
@@ -361,7 +347,7 @@ module _ (v : SwitchView) (port : ℕ) (u : SwitchView) (q : ℕ) where
             let within = ltb-true v.proposed (half u.k) (below_half (is_known u.place.level 1) (is_known (place_at u q).level 0) (nat_lt v.proposed (half u.k)) is) in
             let two = back v port u q level none (rising level) (few none) many within (hold_at u v.proposed) refl
             (sym (ap (λ (step : SwitchStep). step.view) (row_is true is)) ∙ leave.holder) (leave.proposer (answers (row_is true is))) in
-            both_false (holds_another u v.id v.proposed) (is_news v port v.attempt (holder_of u v.proposed)) two.0 two.1
+            or_from (holds_another u v.id v.proposed) (is_news v port v.attempt (holder_of u v.proposed)) two.0 two.1
 
         present : is_usable_to v 1 port ≡ true → (o : Option (ℕ × ℕ)) → present_attempt v ≡ o → would_change_by v port u q o ≡ false
         present used None is = refl

@@ -1,31 +1,17 @@
 -- Where the queues are settled no report and no order waits.
-use Rattle.std.proofs.Common.{zero, suc, List, [], ◌∷◌, refl, arith, Contains}
-use Rattle.std.specs.List.{AllByRecursion}
-use Rattle.pl_logic.specs.declared.messages.ToManager.{ToManager}
+use Rattle.pl_lemmas.proofs.Lists.{all_contained}
 use Rattle.pl_logic.specs.declared.messages.ToManager.TheVariants as tell
 use Rattle.pl_logic.specs.declared.messages.ToSwitch.{ToSwitch}
 use Rattle.pl_logic.specs.declared.messages.ToSwitch.TheVariants as say
 use Rattle.pl_queues.specs.Queues.{items_at}
-use Rattle.pl_world.specs.SettledQueues.{HasSettledQueues, IsQuestion, IsReply}
+use Rattle.pl_world.specs.SettledQueues.{HasSettledQueues, IsReply}
 use Rattle.pl_world.specs.Worlds.{WorldView}
 use Rattle.pl_control_plane.specs.ControlPlanes.{control_plane}
 use Rattle.pl_records.specs.Records.{AreCurrent, HaveOrders, HaveReported, HaveToldLinks, IsAtRest, LinksAreCurrent}
 use Rattle.pl_records.specs.Words.{IsNoOrder, IsNoReport}
 use Rattle.pl_records.proofs.Last.{current_at_rest}
 use Rattle.pl_records.proofs.Pairing.{links_at_rest}
-
-all_contained : {X : Type 0} (P : X → Type 0) (xs : List X) → ((x : X) → Contains xs x → P x) → AllByRecursion P xs
-all_contained P [] each = tt
-all_contained P (x ∷ xs) each =
-    (each x (zero, omega arith, refl), all_contained P xs (λ y there. each y (suc there.0, omega (arith, there.1), there.2)))
-
-question_reports_nothing : (told : ToManager) → IsQuestion told → IsNoReport told
-question_reports_nothing (tell.Place place) is = absurd is
-question_reports_nothing (tell.Link neighbour usable) is = absurd is
-question_reports_nothing tell.PodWanted is = absurd is
-question_reports_nothing (tell.Learned pmac amac ip) is = absurd is
-question_reports_nothing (tell.Query asker asker_ip ip) is = tt
-question_reports_nothing (tell.Members group any) is = absurd is
+use Rattle.pl_records.proofs.Questions.{question_reports_nothing}
 
 reply_orders_nothing : (says : ToSwitch) → IsReply says → IsNoOrder says
 reply_orders_nothing (say.Pod pod) is = absurd is

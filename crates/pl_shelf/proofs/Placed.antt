@@ -1,21 +1,15 @@
 -- What the names of a memory shelf hold after a change at one of them.
 use Rattle.std.proofs.Common.{◌≡◌, ◌≢◌, ℕ, Bool, true, false, cond, List, [], ◌++◌, Option, Some, None, option_and_then, refl, sym, ◌∙◌, ap}
 use Rattle.std.specs.Option.{option_map}
-use Rattle.std.specs.Ordering.{nat_cmp, eq_by_cmp}
+use Rattle.std.specs.Ordering.{nat_cmp}
 use Rattle.std.specs.Cmp.Lexicographic.{slice_cmp, nat_list_cmp_total}
 use Rattle.std.specs.FinMap.{get, get-insert, same_map, slice_cmp-IsAntisymmetric, nat_cmp-IsAntisymmetric}
 use Rattle.std.proofs.lemmas.List.{append-nil}
-use Rattle.std.proofs.lemmas.Bool.{false_from_ne_true}
 use Rattle.std.proofs.lemmas.Map.Text.{is_eq-slice_cmp}
 use Rattle.std.proofs.lemmas.Slice.Eq.{bytes_eq-Decides}
+use Rattle.pl_lemmas.proofs.Lists.{other_bytes, same_bytes}
 use Rattle.pl_shelf.specs.Held.{Held, absent, holds, Changes, with_end, emptied}
 use Rattle.pl_shelf.specs.MemoryShelf.{Place, Places, capacity_in, held_of, held_in, room_in, room_at, room_behind, put_changed, with_change, emptied_place, longer_place}
-
-at_name : (name : List ℕ) → eq_by_cmp (slice_cmp nat_cmp) name name ≡ true
-at_name name = is_eq-slice_cmp name name ∙ (bytes_eq-Decides name name).1 refl
-
-at_other : (q name : List ℕ) → q ≢ name → eq_by_cmp (slice_cmp nat_cmp) q name ≡ false
-at_other q name other = is_eq-slice_cmp q name ∙ false_from_ne_true _ (λ same. other ((bytes_eq-Decides q name).0 same))
 
 -- a look-up of the name itself, and of any other
 get_changed : (places : Places) (name : List ℕ) (change : Place → Place) (o : Option Place) → get places name ≡ o →
@@ -23,14 +17,14 @@ get_changed : (places : Places) (name : List ℕ) (change : Place → Place) (o 
 get_changed places name change None is = is
 get_changed places name change (Some p) is =
     get-insert nat_list_cmp_total places name (change p) name
-    ∙ ap (λ b. cond b (Some (change p)) (get places name)) (at_name name)
+    ∙ ap (λ b. cond b (Some (change p)) (get places name)) (same_bytes name)
 
 get_unchanged : (places : Places) (name : List ℕ) (change : Place → Place) (o : Option Place) (q : List ℕ) → q ≢ name →
     get (put_changed places name change o) q ≡ get places q
 get_unchanged places name change None q other = refl
 get_unchanged places name change (Some p) q other =
     get-insert nat_list_cmp_total places name (change p) q
-    ∙ ap (λ b. cond b (Some (change p)) (get places q)) (at_other q name other)
+    ∙ ap (λ b. cond b (Some (change p)) (get places q)) (other_bytes q name other)
 
 -- a change of one place changes what that name holds, and nothing else
 pub changed_held : (places : Places) (name : List ℕ) (change : Place → Place) (to : Held) →

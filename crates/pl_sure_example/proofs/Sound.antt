@@ -1,7 +1,7 @@
 -- What is decided of a world is so.
 use Rattle.std.proofs.Common.{◌≡◌, ℕ, zero, suc, ◌+◌, ◌<◌, ◌==◌, ◌&&◌, ◌||◌, not, Bool, true, false, true≢false, List, [], ◌∷◌, length, Option, Some, None, is_none, slice_get, Contains, refl, sym, ap, ◌∙◌, subst, arith, eqb-true, inl, inr, get_or}
 use Rattle.std.specs.List.{list_any, range_with_len}
-use Rattle.std.proofs.lemmas.Bool.{cases_Bool}
+use Rattle.std.proofs.lemmas.Bool.{and_parts, cases_Bool, not-true}
 use Rattle.std.proofs.lemmas.Option.{none-some, same_Some, slice_get-get_or, slice_get_within}
 use Rattle.pl_frame.specs.declared.address.SwitchId.{SwitchId}
 use Rattle.pl_layouts.specs.declared.place.Place.{Place}
@@ -22,6 +22,7 @@ use Rattle.pl_logic.specs.Trees.{tree_part}
 use Rattle.pl_fabric.specs.Settled.{HasPart, IsSettled, IsSettledEnd, IsSettledSwitch, IsSettledTowards, announced_at, group_limit, would_change}
 use Rattle.pl_fabric.proofs.Tests.{any_below}
 use Rattle.pl_queues.specs.Queues.{has_items, items_at}
+use Rattle.pl_queues.proofs.Items.{no_items}
 use Rattle.pl_world.specs.declared.item.Item.{Item}
 use Rattle.pl_world.specs.declared.item.Item.TheVariants.{Control, Data}
 use Rattle.pl_world.specs.Changes.{out_of}
@@ -29,17 +30,9 @@ use Rattle.pl_world.specs.SettledQueues.{HasSettledQueues, IsQuestion, IsReply}
 use Rattle.pl_world.specs.Worlds.{WorldView}
 use Rattle.pl_sure_example.specs.Deciding.{are_settled, has_part, hears_of, is_control_item, is_current, is_settled_end, is_settled_switch, is_settled_to, is_settled_towards, is_settled_world, is_unsettled_port, same_bool, same_id, same_number, same_place}
 
-pub both : (a b : Bool) → (a && b) ≡ true → (a ≡ true) × (b ≡ true)
-both true b is = (refl, is)
-both false b is = absurd (true≢false (sym is))
-
-turned : (b : Bool) → not b ≡ true → b ≡ false
-turned false is = refl
-turned true is = absurd (true≢false (sym is))
-
 bools_are : (a b : Bool) → same_bool a b ≡ true → a ≡ b
 bools_are true b is = sym is
-bools_are false b is = sym (turned b is)
+bools_are false b is = sym (not-true b is)
 
 numbers_are : (a b : Option ℕ) → same_number a b ≡ true → a ≡ b
 numbers_are None None is = refl
@@ -49,8 +42,8 @@ numbers_are (Some m) (Some n) is = ap Some (eqb-true m n is)
 
 places_are : (a b : Place) → same_place a b ≡ true → a ≡ b
 places_are a b is =
-    let one = both (same_number a.level b.level) (same_number a.position b.position && same_number a.pod b.pod) is in
-    let two = both (same_number a.position b.position) (same_number a.pod b.pod) one.1 in
+    let one = and_parts (same_number a.level b.level) (same_number a.position b.position && same_number a.pod b.pod) is in
+    let two = and_parts (same_number a.position b.position) (same_number a.pod b.pod) one.1 in
     let level = numbers_are a.level b.level one.0 in
     let position = numbers_are a.position b.position two.0 in
     let pod = numbers_are a.pod b.pod two.1 in
@@ -68,8 +61,8 @@ ids_are (Some m) (Some n) is = ap Some (id_is m n is)
 heard_is : (o : Option Neighbour) (there : Neighbour) → hears_of o there ≡ true → o ≡ Some there
 heard_is None there is = absurd (true≢false (sym is))
 heard_is (Some heard) there is =
-    let one = both (heard.id.0 == there.id.0) (same_place heard.place there.place && same_id heard.echo there.echo) is in
-    let two = both (same_place heard.place there.place) (same_id heard.echo there.echo) one.1 in
+    let one = and_parts (heard.id.0 == there.id.0) (same_place heard.place there.place && same_id heard.echo there.echo) is in
+    let two = and_parts (same_place heard.place there.place) (same_id heard.echo there.echo) one.1 in
     let id = id_is heard.id there.id one.0 in
     let place = places_are heard.place there.place two.0 in
     let echo = ids_are heard.echo there.echo two.1 in
@@ -82,15 +75,15 @@ current_is false o there is live = absurd (true≢false (sym live))
 end_is : (manager : ManagerView) (live : Bool) (v : SwitchView) (port : ℕ) (u : SwitchView) (q : ℕ) → is_settled_end manager live v port u q ≡ true →
     IsSettledEnd manager live v port u q
 end_is manager live v port u q is =
-    let one = both (same_bool (is_usable v port) live) (is_current live (port_of v port).heard (announced_at u q)
+    let one = and_parts (same_bool (is_usable v port) live) (is_current live (port_of v port).heard (announced_at u q)
     && (same_bool (is_told_usable manager.told v.id u.id) live && not (would_change v port u q))) is in
-    let two = both (is_current live (port_of v port).heard (announced_at u q)) (same_bool (is_told_usable manager.told v.id u.id) live && not (would_change v port u q)) one.1 in
-    let three = both (same_bool (is_told_usable manager.told v.id u.id) live) (not (would_change v port u q)) two.1 in
+    let two = and_parts (is_current live (port_of v port).heard (announced_at u q)) (same_bool (is_told_usable manager.told v.id u.id) live && not (would_change v port u q)) one.1 in
+    let three = and_parts (same_bool (is_told_usable manager.told v.id u.id) live) (not (would_change v port u q)) two.1 in
     record {
       usable = bools_are (is_usable v port) live one.0;
       current = current_is live (port_of v port).heard (announced_at u q) two.0;
       told = bools_are (is_told_usable manager.told v.id u.id) live three.0;
-      no_news = turned (would_change v port u q) three.1;
+      no_news = not-true (would_change v port u q) three.1;
     }
 
 towards_is : (w : WorldView) (s : ℕ) (v : SwitchView) (port : ℕ) (peer : Peer) → is_settled_towards w s v port peer ≡ true → IsSettledTowards w s v port peer
@@ -114,10 +107,6 @@ none_there p (y ∷ ys) none (suc n) x is = none_there p ys (later (p y) (list_a
 pub at_index : {X : Type 0} (xs : List X) (x : X) → (there : Contains xs x) → slice_get xs there.0 ≡ Some x
 at_index xs x there = slice_get-get_or xs there.0 x there.1 ∙ ap Some there.2
 
-empty_is : {X : Type 0} (xs : List X) → has_items xs ≡ false → xs ≡ []
-empty_is [] is = refl
-empty_is (x ∷ xs) is = absurd (true≢false is)
-
 -- the queues of a bank
 queue_none : {X : Type 0} (p : X → Bool) (queues : List (List X)) → list_any (list_any p) queues ≡ false → (at : ℕ) → list_any p (items_at queues at) ≡ false
 queue_none p [] none at = refl
@@ -130,7 +119,7 @@ queue_none p (q ∷ queues) none (suc at) = queue_none p queues (later (list_any
 
 queue_empty : {X : Type 0} (queues : List (List X)) → list_any has_items queues ≡ false → (at : ℕ) → items_at queues at ≡ []
 queue_empty [] none at = refl
-queue_empty (q ∷ queues) none zero = empty_is q (none_there has_items (q ∷ queues) none zero q refl)
+queue_empty (q ∷ queues) none zero = no_items q (none_there has_items (q ∷ queues) none zero q refl)
 queue_empty (q ∷ queues) none (suc at) = queue_empty queues (later (has_items q) (list_any has_items queues) none) at
   where
     later : (a b : Bool) → (a || b) ≡ false → b ≡ false
@@ -148,20 +137,20 @@ switch_is w s v is =
     let list = not (has_items (avoid_list w.manager.told v.id)) in
     let of_groups = not (list_any (has_part w.manager v) (groups w.manager.members)) in
     let parts = not (has_items v.parts) in
-    let one = both ports (place && (avoid && (list && (of_groups && parts)))) is in
-    let two = both place (avoid && (list && (of_groups && parts))) one.1 in
-    let three = both avoid (list && (of_groups && parts)) two.1 in
-    let four = both list (of_groups && parts) three.1 in
-    let five = both of_groups parts four.1 in
+    let one = and_parts ports (place && (avoid && (list && (of_groups && parts)))) is in
+    let two = and_parts place (avoid && (list && (of_groups && parts))) one.1 in
+    let three = and_parts avoid (list && (of_groups && parts)) two.1 in
+    let four = and_parts list (of_groups && parts) three.1 in
+    let five = and_parts of_groups parts four.1 in
     record {
       links = λ port less. towards_is w s v port (peer_of w.plan s port) (elim (cases_Bool (is_unsettled_port w s v port)) [
-        | inl bad ↦ absurd (true≢false (sym (any_below (is_unsettled_port w s v) w.plan.k port less bad) ∙ turned _ one.0))
+        | inl bad ↦ absurd (true≢false (sym (any_below (is_unsettled_port w s v) w.plan.k port less bad) ∙ not-true _ one.0))
         | inr good ↦ settled (is_settled_towards w s v port (peer_of w.plan s port)) good
       ]);
       place = places_are (place_of w.manager.told v.id) v.place two.0;
-      avoids = empty_is v.avoid (turned _ three.0) ∙ sym (empty_is (avoid_list w.manager.told v.id) (turned _ four.0));
-      groups = λ n group low found. has_it group (none_there (has_part w.manager v) (groups w.manager.members) (turned _ five.0) n group found);
-      parts = λ n group low found. absurd (none_in n group (empty_is v.parts (turned _ five.1)) found);
+      avoids = no_items v.avoid (not-true _ three.0) ∙ sym (no_items (avoid_list w.manager.told v.id) (not-true _ four.0));
+      groups = λ n group low found. has_it group (none_there (has_part w.manager v) (groups w.manager.members) (not-true _ five.0) n group found);
+      parts = λ n group low found. absurd (none_in n group (no_items v.parts (not-true _ five.1)) found);
     }
   where
     settled : (b : Bool) → not b ≡ false → b ≡ true
@@ -183,11 +172,11 @@ switches_are : (w : WorldView) (from : ℕ) (switches : List SwitchView) → are
     IsSettledSwitch w (from + n) v
 switches_are w from [] is n v found = absurd (none-some v found)
 switches_are w from (u ∷ switches) is zero v found =
-    let here = both (is_settled_switch w from u) (are_settled w (from + 1) switches) is in
+    let here = and_parts (is_settled_switch w from u) (are_settled w (from + 1) switches) is in
     let same : from ≡ from + 0 = omega arith in
     subst (λ (s : ℕ). IsSettledSwitch w s v) same (subst (λ (x : SwitchView). IsSettledSwitch w from x) (same_Some u v found) (switch_is w from u here.0))
 switches_are w from (u ∷ switches) is (suc n) v found =
-    let here = both (is_settled_switch w from u) (are_settled w (from + 1) switches) is in
+    let here = and_parts (is_settled_switch w from u) (are_settled w (from + 1) switches) is in
     let same : from + 1 + n ≡ from + suc n = omega arith in
     subst (λ (s : ℕ). IsSettledSwitch w s v) same (switches_are w (from + 1) switches here.1 n v found)
 
@@ -197,18 +186,18 @@ settled_is w is =
     let hosts = not (list_any (list_any is_control_item) w.from_hosts) in
     let up = not (list_any has_items w.to_manager) in
     let down = not (list_any has_items w.from_manager) in
-    let one = both out (hosts && (up && (down && are_settled w 0 w.switches))) is in
-    let two = both hosts (up && (down && are_settled w 0 w.switches)) one.1 in
-    let three = both up (down && are_settled w 0 w.switches) two.1 in
-    let four = both down (are_settled w 0 w.switches) three.1 in
+    let one = and_parts out (hosts && (up && (down && are_settled w 0 w.switches))) is in
+    let two = and_parts hosts (up && (down && are_settled w 0 w.switches)) one.1 in
+    let three = and_parts up (down && are_settled w 0 w.switches) two.1 in
+    let four = and_parts down (are_settled w 0 w.switches) three.1 in
     record {
       queues = record {
         out_of_ports = λ s port v frame found less there.
-            absurd (true≢false (none_there is_control_item (out_of w s port) (queue_none is_control_item w.out (turned _ one.0) _) there.0 (Control frame) (at_index _ (Control frame) there)));
+            absurd (true≢false (none_there is_control_item (out_of w s port) (queue_none is_control_item w.out (not-true _ one.0) _) there.0 (Control frame) (at_index _ (Control frame) there)));
         from_hosts = λ h frame there.
-            true≢false (none_there is_control_item (items_at w.from_hosts h) (queue_none is_control_item w.from_hosts (turned _ two.0) h) there.0 (Control frame) (at_index _ (Control frame) there));
-        to_manager = λ s told there. absurd (nothing_in (items_at w.to_manager s) told (queue_empty w.to_manager (turned _ three.0) s) there);
-        from_manager = λ s says there. absurd (nothing_in (items_at w.from_manager s) says (queue_empty w.from_manager (turned _ four.0) s) there);
+            true≢false (none_there is_control_item (items_at w.from_hosts h) (queue_none is_control_item w.from_hosts (not-true _ two.0) h) there.0 (Control frame) (at_index _ (Control frame) there));
+        to_manager = λ s told there. absurd (nothing_in (items_at w.to_manager s) told (queue_empty w.to_manager (not-true _ three.0) s) there);
+        from_manager = λ s says there. absurd (nothing_in (items_at w.from_manager s) says (queue_empty w.from_manager (not-true _ four.0) s) there);
       };
       switches = λ s v found. let same : 0 + s ≡ s = omega arith in
           subst (λ (n : ℕ). IsSettledSwitch w n v) same (switches_are w 0 w.switches four.1 s v found);

@@ -1,9 +1,9 @@
 -- A frame that is sure, from its sending to its arrival.
-use Rattle.std.proofs.Common.{◌≡◌, ◌<◌, ℕ, Bool, true, false, true≢false, List, [], ◌∷◌, length, Option, Some, None, option_map, slice_get, Contains, refl, sym, ap, ◌∙◌, subst, arith, ◌-◌}
+use Rattle.std.proofs.Common.{◌≡◌, ◌<◌, ℕ, Bool, true, false, true≢false, List, [], ◌∷◌, length, Option, Some, option_map, slice_get, Contains, refl, sym, ap, ◌∙◌, subst, arith, ◌-◌}
 use Rattle.std.specs.List.{list_any}
-use Rattle.std.specs.Option.{option_and_then}
-use Rattle.std.proofs.lemmas.Option.{none-some, same_Some, slice_get-get_or, slice_get_within}
+use Rattle.std.proofs.lemmas.Option.{same_Some, slice_get-get_or, slice_get_within}
 use Rattle.hex.specs.Hex.{decode_pairs}
+use Rattle.pl_lemmas.proofs.Options.{and_then_some, option_map_some}
 use Rattle.pl_frame.specs.declared.address.Ip4.{Ip4}
 use Rattle.pl_frame.specs.declared.address.Mac.{Mac}
 use Rattle.pl_pmac.specs.declared.pmac.Pmac.{Pmac}
@@ -30,14 +30,6 @@ use Rattle.pl_sure_example.proofs.Courses.{AllLead}
 use Rattle.pl_sure_example.proofs.Sound.{at_index, none_there, settled_is}
 use Rattle.pl_sure_example.proofs.Steps.{made_is}
 
-mapped : {X Y : Type 0} (f : X → Y) (o : Option X) (y : Y) → option_map f o ≡ Some y → (x : X) × (o ≡ Some x) × (f x ≡ y)
-mapped f None y is = absurd (none-some y is)
-mapped f (Some x) y is = (x, refl, same_Some (f x) y is)
-
-bound : {X Y : Type 0} (f : X → Option Y) (o : Option X) (y : Y) → option_and_then f o ≡ Some y → (x : X) × (o ≡ Some x) × (f x ≡ Some y)
-bound f None y is = absurd (none-some y is)
-bound f (Some x) y is = (x, refl, is)
-
 contains_at : {X : Type 0} (xs : List X) (n : ℕ) (x : X) → slice_get xs n ≡ Some x → Contains xs x
 contains_at xs n x is =
     let within = slice_get_within xs n x is in (n, within, same_Some _ x (sym (slice_get-get_or xs n x within) ∙ is))
@@ -46,7 +38,7 @@ contains_at xs n x is =
 abbrev registered : (w : WorldView) (h ip n : ℕ) (mac : Mac) (x : Pmac) (host : Host) → slice_get two_hosts.hosts h ≡ Some host → host.mac ≡ mac →
     host.ip ≡ record { 0 = ip } → known_of h mac x w ≡ known_as h mac ip x n → IsRegisteredBy w h x
 registered w h ip n mac x host at own own_ip is =
-    let grant = bound (λ (v : SwitchView). granted v x) (slice_get w.switches 0) (granted_to mac ip) (ap (λ (k : Known). k.grant) is) in
+    let grant = and_then_some (λ (v : SwitchView). granted v x) (slice_get w.switches 0) (granted_to mac ip) (ap (λ (k : Known). k.grant) is) in
     record {
       host = host;
       is = ap (λ (k : Known). k.host) is ∙ at;
@@ -110,10 +102,10 @@ pub assembled : (rest : Option WorldView) → AllLead start rest → option_map 
     option_map snapshot (then_made (then_made rest plays) leaves) ≡ Some (sure_with true 0 (Some (Crossed 3 e00))) →
     option_map snapshot (then_made (then_made (then_made rest plays) leaves) comes) ≡ Some (sure_with true 1 (Some (Arrived 3 b a_to_b_arrived))) → IsWorked
 assembled rest all rest_is sent_is crossed_is arrived_is =
-    let r = mapped (λ (w : WorldView). list_any (is_sent 3) w.journal) rest false rest_is in
-    let s = mapped snapshot (then_made rest plays) (sure_with true 0 (Some (Sent 3 a a_to_b))) sent_is in
-    let c = mapped snapshot (then_made (then_made rest plays) leaves) (sure_with true 0 (Some (Crossed 3 e00))) crossed_is in
-    let d = mapped snapshot (then_made (then_made (then_made rest plays) leaves) comes) (sure_with true 1 (Some (Arrived 3 b a_to_b_arrived))) arrived_is in
+    let r = option_map_some (λ (w : WorldView). list_any (is_sent 3) w.journal) rest false rest_is in
+    let s = option_map_some snapshot (then_made rest plays) (sure_with true 0 (Some (Sent 3 a a_to_b))) sent_is in
+    let c = option_map_some snapshot (then_made (then_made rest plays) leaves) (sure_with true 0 (Some (Crossed 3 e00))) crossed_is in
+    let d = option_map_some snapshot (then_made (then_made (then_made rest plays) leaves) comes) (sure_with true 1 (Some (Arrived 3 b a_to_b_arrived))) arrived_is in
     let first : made r.0 plays ≡ Some s.0 = ap (λ o. then_made o plays) (sym r.1) ∙ s.1 in
     let second : made s.0 leaves ≡ Some c.0 = ap (λ o. then_made o leaves) (sym s.1) ∙ c.1 in
     let third : made c.0 comes ≡ Some d.0 = ap (λ o. then_made o comes) (sym c.1) ∙ d.1 in

@@ -1,5 +1,6 @@
 -- The first cause of a data frame that comes at a switch, and of the reply to its sender.
 use Rattle.std.proofs.Common.{◌≡◌, ℕ, ◌&&◌, ◌||◌, not, Bool, true, false, if◌then◌else◌, List, [], ◌∷◌, Option, Some, None, is_some, is_none, refl, sym, ap, ap₂, subst, subst₂, ◌∙◌}
+use Rattle.pl_lemmas.proofs.Lists.{all_append}
 use Rattle.pl_frame.specs.declared.address.Mac.{Mac}
 use Rattle.pl_frame.specs.Ethernet.{destination_of, source_of}
 use Rattle.pl_pmac.specs.declared.pmac.Pmac.{Pmac}
@@ -34,7 +35,6 @@ use Rattle.pl_switch_rule.proofs.FirstDrops.{AllGoOn, GoesOn, quiet_go_on}
 use Rattle.pl_switch_rule.proofs.LearntSources.{Finds, finds_host_finds, finds_then, finds_then_served, hears_learns_source, hears_members_on}
 use Rattle.pl_switch_rule.proofs.MessageParts.{are_quiet_packet_acts}
 use Rattle.pl_switch_rule.proofs.RowActs.{IsAnyPort, all_any, any_way, forwards_acts, passes_acts}
-use Rattle.pl_switch_rule.proofs.StepParts.{all_append}
 
 -- A frame to a group.
 

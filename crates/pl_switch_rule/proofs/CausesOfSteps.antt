@@ -8,6 +8,7 @@ use Rattle.pl_frame.specs.Ethernet.{destination_of}
 use Rattle.pl_arp.specs.declared.packet.Arp.{Arp}
 use Rattle.pl_pmac.specs.declared.pmac.Pmac.{Pmac}
 use Rattle.pl_pmac.specs.Pmac.{mac_of, pmac_of}
+use Rattle.pl_pmac.proofs.Inverse.{length-mac_of}
 use Rattle.pl_logic.specs.Accounting.{CanCome, IsShaped}
 use Rattle.pl_logic.specs.SwitchInputs.{SwitchInput}
 use Rattle.pl_logic.specs.SwitchInputs.SwitchInput.{Comes, Says, Tick}
@@ -38,7 +39,6 @@ use Rattle.pl_switch_rule.specs.SwitchRule.{Exact, IsChoice, Loose, control_come
 use Rattle.pl_switch_rule.proofs.AccountedSteps.{exact_is_loose}
 use Rattle.pl_switch_rule.proofs.CausesHere.{destination_of-arp_frame, makes_drops_for}
 use Rattle.pl_switch_rule.proofs.CausesOfData.{data_drops_for, passes_cause, passes_make_none}
-use Rattle.pl_switch_rule.proofs.DataFrames.{six_of_pmac}
 use Rattle.pl_switch_rule.proofs.SentFrames.{number_to}
 use Rattle.pl_switch_rule.proofs.FirstCauses.{drops_behind, drops_made, drops_nothing}
 use Rattle.pl_switch_rule.proofs.RowActs.{ChangeActs, groups_acts}
@@ -76,7 +76,7 @@ answer_drops_for : (choose : Choice) (v : SwitchView) (asker : Pmac) (asker_ip i
 answer_drops_for choose v asker asker_ip ip pmac is_choice =
     let arp : Arp = record { op = 2; sha = mac_of pmac; spa = ip; tha = mac_of asker; tpa = asker_ip } in
     either_or_rests v (is_granted v asker) (makes choose (answer_frame asker asker_ip ip pmac) v) (cause_from_here v (pmac_of (mac_of asker)))
-    (makes_drops_for choose v (mac_of asker) arp is_choice (six_of_pmac asker))
+    (makes_drops_for choose v (mac_of asker) arp is_choice (length-mac_of asker))
 
 flood_drops_for : (choose : Choice) (v : SwitchView) (asker : Pmac) (asker_ip ip : Ip4) →
     DropsFor (hears_manager choose v (Flood asker asker_ip ip)).acts None (cause_of_message v (Flood asker asker_ip ip))

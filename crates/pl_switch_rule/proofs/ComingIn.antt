@@ -1,13 +1,12 @@
 -- A data frame that comes at a switch ends in that step.
-use Rattle.std.proofs.Common.{ℕ, ◌<◌, ◌&&◌, ◌||◌, not, Bool, true, false, if◌then◌else◌, List, [], ◌∷◌, Option, Some, None, is_some, is_none, sym, subst}
+use Rattle.std.proofs.Common.{ℕ, ◌<◌, ◌&&◌, ◌||◌, not, Bool, true, false, if◌then◌else◌, List, [], ◌∷◌, Some, None, is_some, is_none, sym, subst}
 use Rattle.pl_frame.specs.Ethernet.{destination_of, source_of}
-use Rattle.pl_pmac.specs.declared.pmac.Pmac.{Pmac}
 use Rattle.pl_logic.specs.declared.acts.Act.TheVariants.{Drop}
 use Rattle.pl_switch_rule.specs.declared.came.Came.TheVariants.{FromHost}
 use Rattle.pl_journal.specs.declared.cause.Cause.TheVariants.{BadArp, NotPlaced, Spent}
 use Rattle.pl_switch_rule.specs.Delivering.{arrives_home, destination}
 use Rattle.pl_switch_rule.specs.Forwarding.{Choice, came_by, forwards}
-use Rattle.pl_layouts.specs.Frames.{HasSixBytes, is_arp, packet_in}
+use Rattle.pl_layouts.specs.Frames.{is_arp, packet_in}
 use Rattle.pl_switch_rule.specs.Granting.{has_no_address, is_local, learns_source}
 use Rattle.pl_switch_rule.specs.GroupForwarding.{forwards_group}
 use Rattle.pl_switch_rule.specs.Intake.{comes_from_host, hears_members, is_for_switch, mac_of_pmac, packet_acts, sends_in, source_pmac, takes, takes_in, takes_in_or_spent, with_pmac}
@@ -19,22 +18,19 @@ use Rattle.pl_layouts.specs.Placement.{is_known, is_placed}
 use Rattle.pl_steps.specs.Steps.{SwitchStep, does, ◌▹◌}
 use Rattle.pl_switch_rule.specs.SwitchRule.{IsChoice, comes_from_switch, data_comes}
 use Rattle.pl_logic.specs.SwitchViews.{SwitchView}
-use Rattle.pl_switch_rule.proofs.DataFrames.{arriving_made, six_of_pmac}
+use Rattle.pl_switch_rule.proofs.DataFrames.{arriving_made}
 use Rattle.pl_switch_rule.proofs.GoingHome.{arrives_home_ends}
 use Rattle.pl_switch_rule.proofs.GoingOut.{drop_ends, forwards_ends, forwards_group_ends, take_ends}
 use Rattle.pl_switch_rule.proofs.GrantingParts.{quiet_learns_source}
 use Rattle.pl_switch_rule.proofs.LevelParts.{quiet_finds_host}
 use Rattle.pl_switch_rule.proofs.MessageParts.{quiet_hears_members, quiet_packet_acts}
 use Rattle.pl_switch_rule.proofs.StepParts.{IsEnding, IsQuiet, quiet_then_ending, quiet_then_quiet}
+use Rattle.pl_switch_rule.proofs.SentFrames.{six_of_mac}
 
 -- one of two parts
 if_ends : (v : SwitchView) (test : Bool) (a b : SwitchStep) → IsEnding v a → IsEnding v b → IsEnding v (if test then a else b)
 if_ends v true a b first other = first
 if_ends v false a b first other = other
-
-six_of_mac : (o : Option Pmac) → HasSixBytes (mac_of_pmac o)
-six_of_mac None = tt
-six_of_mac (Some a) = six_of_pmac a
 
 with_pmac_made : (v : SwitchView) (port : ℕ) (frame : List ℕ) → IsMade frame → IsMade (with_pmac v port frame)
 with_pmac_made v port frame made =

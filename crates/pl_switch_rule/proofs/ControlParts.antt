@@ -4,9 +4,10 @@ use Rattle.std.specs.List.{AllByRecursion}
 use Rattle.std.proofs.lemmas.List.{length-map}
 use Rattle.byteorder.specs.Endian.{big_bytes}
 use Rattle.byteorder.specs.Numbers.{length-bytes_high_first}
+use Rattle.pl_lemmas.proofs.Lists.{all_append, all_filter}
 use Rattle.pl_frame.specs.declared.address.SwitchId.{SwitchId}
 use Rattle.pl_frame.specs.Ethernet.{Fields, frame_of}
-use Rattle.pl_frame.proofs.Fields.{fields_of-frame_of}
+use Rattle.pl_frame.proofs.Fields.{fields_of-frame_of, length-frame_of}
 use Rattle.pl_logic.specs.declared.acts.Act.TheVariants.{Control}
 use Rattle.pl_layouts.specs.declared.control.Control.TheVariants as control
 use Rattle.pl_layouts.specs.declared.control.Control as declared
@@ -24,27 +25,13 @@ use Rattle.pl_layouts.specs.Placement.{is_known}
 use Rattle.pl_steps.specs.Steps.{SwitchStep, rests}
 use Rattle.pl_logic.specs.SwitchViews.{SwitchView}
 use Rattle.pl_switch_rule.specs.Telling.{changes_told}
-use Rattle.pl_switch_rule.proofs.StepParts.{IsQuiet, IsSame, all_append, fit_at, same_then}
-use Rattle.pl_switch_rule.proofs.Shapes.{all_filter, all_range, same_self, same_with_ports}
+use Rattle.pl_switch_rule.proofs.StepParts.{IsQuiet, IsSame, fit_at, same_then}
+use Rattle.pl_switch_rule.proofs.Shapes.{all_range, same_self, same_with_ports}
 use Rattle.pl_switch_rule.proofs.QuietActs.{AreQuiet, IsQuietAct, quiet_either, quiet_map, quiet_self, quiet_step, same_either}
 use Rattle.pl_switch_rule.proofs.LevelParts.{quiet_changes_told}
 use Rattle.pl_switch_rule.proofs.PositionParts.{same_frees_others, same_holds_for}
 
 -- Frames.
-
--- a frame is as long as its parts
-pub length-frame_of : (f : Fields) → length f.dst.0 ≡ 6 → length f.src.0 ≡ 6 → length (frame_of f) ≡ 14 + length f.payload
-length-frame_of f dst src =
-    let kind : List ℕ = big_bytes 2 f.kind in
-    omega (
-      arith,
-      dst,
-      src,
-      length-append f.dst.0 (f.src.0 ++ (kind ++ f.payload)),
-      length-append f.src.0 (kind ++ f.payload),
-      length-append kind f.payload,
-      length-bytes_high_first 2 f.kind,
-    )
 
 length-ldm : (id : SwitchId) (m : Ldm) → length (ldm_bytes id m) ≡ 19
 length-ldm id m =

@@ -1,22 +1,21 @@
 -- Data frames: what rewriting and making leaves of the length and the type of a frame.
-use Rattle.std.proofs.Common.{◌≡◌, ℕ, ◌+◌, ◌*◌, ◌^◌, ◌<◌, ◌≤◌, ◌==◌, false, List, ◌++◌, length, drop, slice_index, Option, refl, sym, ap, ap₂, ◌∙◌, inl, arith, length-append, length-drop}
+use Rattle.std.proofs.Common.{◌≡◌, ℕ, ◌+◌, ◌*◌, ◌^◌, ◌<◌, ◌≤◌, ◌==◌, false, List, length, drop, slice_index, Option, refl, sym, ap, ap₂, ◌∙◌, inl, arith, length-append, length-drop}
 use Rattle.std.proofs.lemmas.List.{get_or-drop}
-use Rattle.byteorder.specs.Endian.{big_bytes}
-use Rattle.byteorder.specs.Numbers.{length-bytes_high_first}
 use Rattle.pl_frame.specs.declared.address.Ip4.{Ip4}
 use Rattle.pl_frame.specs.declared.address.Mac.{Mac}
 use Rattle.pl_frame.specs.Ethernet.{Fields, frame_of, kind_of, source_of, with_destination}
-use Rattle.pl_frame.proofs.Fields.{fields_of-frame_of, fields_of-with_destination}
+use Rattle.pl_frame.proofs.Fields.{fields_of-frame_of, fields_of-with_destination, length-frame_of}
 use Rattle.pl_arp.specs.declared.packet.Arp.{Arp}
-use Rattle.pl_arp.specs.Packet.{ethernet_ipv4, layout}
+use Rattle.pl_arp.specs.Packet.{layout}
+use Rattle.pl_arp.proofs.Lengths.{length-layout}
 use Rattle.pl_pmac.specs.declared.pmac.Pmac.{Pmac}
-use Rattle.pl_pmac.specs.Pmac.{mac_of, pmac_number}
+use Rattle.pl_pmac.specs.Pmac.{mac_of}
+use Rattle.pl_pmac.proofs.Inverse.{length-mac_of}
 use Rattle.pl_switch_rule.specs.Delivering.{newer_address}
 use Rattle.pl_layouts.specs.Frames.{HasSixBytes, arriving}
 use Rattle.pl_logic.specs.Accounting.{IsMade, IsWhole}
 use Rattle.pl_switch_rule.specs.Messages.{answer_frame, flood_frame, probe_frame}
 use Rattle.pl_layouts.proofs.Arrived.{length-arriving}
-use Rattle.pl_switch_rule.proofs.ControlParts.{length-frame_of}
 use Rattle.pl_switch_rule.proofs.GrantingParts.{source_has_six}
 use Rattle.pl_layouts.proofs.Kept.{others_are_kept}
 use Rattle.pl_layouts.specs.ArpFrames.{arp_frame, broadcast, no_mac}
@@ -56,27 +55,6 @@ with_destination_made frame to made six =
     (ap (λ f. f.kind) (fields_of-with_destination frame to (omega (arith, made.whole.low)) six))
     made
 
-pub six_of_pmac : (a : Pmac) → length (mac_of a).0 ≡ 6
-six_of_pmac a = length-bytes_high_first 6 (pmac_number a)
-
-length-layout : (a : Arp) → length a.sha.0 ≡ 6 → length a.tha.0 ≡ 6 → length (layout a) ≡ 28
-length-layout a sha tha = let op : List ℕ = big_bytes 2 a.op in
-    let spa : List ℕ = big_bytes 4 a.spa.0 in
-    let tpa : List ℕ = big_bytes 4 a.tpa.0 in
-    omega (
-      arith,
-      length-append ethernet_ipv4 (op ++ (a.sha.0 ++ (spa ++ (a.tha.0 ++ tpa)))),
-      length-append op (a.sha.0 ++ (spa ++ (a.tha.0 ++ tpa))),
-      length-append a.sha.0 (spa ++ (a.tha.0 ++ tpa)),
-      length-append spa (a.tha.0 ++ tpa),
-      length-append a.tha.0 tpa,
-      length-bytes_high_first 2 a.op,
-      length-bytes_high_first 4 a.spa.0,
-      length-bytes_high_first 4 a.tpa.0,
-      sha,
-      tha,
-    )
-
 -- a frame with a type other than that of control
 frame_made : (f : Fields) → length f.dst.0 ≡ 6 → length f.src.0 ≡ 6 → f.kind < 2 ^ 16 → (f.kind == 0x88b5) ≡ false → length f.payload ≡ 28 →
     IsMade (frame_of f)
@@ -95,18 +73,18 @@ arp_frame_made to a dst sha tha =
 pub newer_address_made : (frame : List ℕ) (new : Pmac) (ip : Ip4) → IsWhole frame → IsMade (newer_address frame new ip)
 newer_address_made frame new ip whole =
     arp_frame_made (source_of frame) (record { op = 2; sha = mac_of new; spa = ip; tha = source_of frame; tpa = ip })
-    (source_has_six frame whole.low) (six_of_pmac new) (source_has_six frame whole.low)
+    (source_has_six frame whole.low) (length-mac_of new) (source_has_six frame whole.low)
 
 pub answer_frame_made : (asker : Pmac) (asker_ip ip : Ip4) (pmac : Pmac) → IsMade (answer_frame asker asker_ip ip pmac)
 answer_frame_made asker asker_ip ip pmac =
     arp_frame_made (mac_of asker) (record { op = 2; sha = mac_of pmac; spa = ip; tha = mac_of asker; tpa = asker_ip })
-    (six_of_pmac asker) (six_of_pmac pmac) (six_of_pmac asker)
+    (length-mac_of asker) (length-mac_of pmac) (length-mac_of asker)
 
 pub flood_frame_made : (asker : Pmac) (asker_ip ip : Ip4) → IsMade (flood_frame asker asker_ip ip)
 flood_frame_made asker asker_ip ip =
-    arp_frame_made broadcast (record { op = 1; sha = mac_of asker; spa = asker_ip; tha = no_mac; tpa = ip }) refl (six_of_pmac asker) refl
+    arp_frame_made broadcast (record { op = 1; sha = mac_of asker; spa = asker_ip; tha = no_mac; tpa = ip }) refl (length-mac_of asker) refl
 
 pub probe_frame_made : (old : Pmac) (ip : Ip4) → IsMade (probe_frame old ip)
 probe_frame_made old ip =
     arp_frame_made (mac_of old) (record { op = 1; sha = mac_of (record old { vmid = 0 }); spa = record { 0 = 0 }; tha = no_mac; tpa = ip })
-    (six_of_pmac old) (six_of_pmac (record old { vmid = 0 })) refl
+    (length-mac_of old) (length-mac_of (record old { vmid = 0 })) refl

@@ -2,10 +2,12 @@
 use Rattle.std.proofs.Common.{◌≡◌, ℕ, ◌-◌, ◌<◌, ◌==◌, zero, suc, List, [], ◌∷◌, length, get_or, slice_get, Option, Some, None, refl, sym, ap, subst, ◌∙◌, inl, inr, arith}
 use Rattle.std.proofs.lemmas.Bool.{cond_both}
 use Rattle.std.specs.List.{AllByRecursion}
+use Rattle.pl_lemmas.proofs.Lists.{all_append}
 use Rattle.pl_frame.specs.declared.address.Ip4.{Ip4}
 use Rattle.pl_frame.specs.Ethernet.{destination_of, with_destination}
 use Rattle.pl_pmac.specs.declared.pmac.Pmac.{Pmac}
 use Rattle.pl_pmac.specs.Pmac.{mac_of, pmac_of}
+use Rattle.pl_pmac.proofs.Inverse.{length-mac_of}
 use Rattle.pl_logic.specs.declared.acts.Act.{Act}
 use Rattle.pl_logic.specs.declared.acts.Act.TheVariants.{Redirect}
 use Rattle.pl_switch_rule.specs.declared.came.Came.TheVariants.{FromHost}
@@ -21,10 +23,10 @@ use Rattle.pl_steps.specs.Steps.{SwitchStep, does, ◌▹◌}
 use Rattle.pl_switch_rule.specs.SwitchRule.{IsChoice}
 use Rattle.pl_logic.specs.declared.switch_records.Grant.{Grant}
 use Rattle.pl_logic.specs.SwitchViews.{SwitchView}
-use Rattle.pl_switch_rule.proofs.DataFrames.{arriving_made, newer_address_made, six_of_pmac, with_destination_made}
+use Rattle.pl_switch_rule.proofs.DataFrames.{arriving_made, newer_address_made, with_destination_made}
 use Rattle.pl_switch_rule.proofs.GoingOut.{drop_ends, forwards_ends, pass_ends}
 use Rattle.pl_switch_rule.proofs.Shapes.{same_self}
-use Rattle.pl_switch_rule.proofs.StepParts.{HasEnded, IsEnding, IsFurther, IsMaking, IsSame, all_append, ending_then_further, fit_at, make_then_ending, same_then, speech_append}
+use Rattle.pl_switch_rule.proofs.StepParts.{HasEnded, IsEnding, IsFurther, IsMaking, IsSame, ending_then_further, fit_at, make_then_ending, same_then, speech_append}
 
 -- What was granted.
 
@@ -147,7 +149,7 @@ is_trapped_ends choose v frame trap is_choice shaped made =
     redirecting_then_ending v (does v (Redirect (destination frame) trap.new ∷ redirects (addresses v) v trap))
     (λ w. goes_on choose w (with_destination frame to)) (redirected v frame trap shaped)
     (λ w same. goes_on_ends choose w (with_destination frame to) is_choice same.shaped
-    (with_destination_made frame to made (six_of_pmac (last_trap (addresses v) v trap).new)))
+    (with_destination_made frame to made (length-mac_of (last_trap (addresses v) v trap).new)))
 
 home_ends : (choose : Choice) (v : SwitchView) (frame : List ℕ) (o : Option Trap) → IsChoice choose → IsShaped v → IsMade frame →
     IsEnding v (delivers_or_redirects choose v frame o)

@@ -3,6 +3,7 @@ use Rattle.std.proofs.Common.{◌≡◌, ◌≤◌, ◌<◌, ◌+◌, ◌-◌, �
 use Rattle.std.specs.List.{AllByRecursion, slice_get}
 use Rattle.std.specs.Option.{IfSome}
 use Rattle.std.proofs.lemmas.List.{length-take-le, length-drop}
+use Rattle.pl_lemmas.proofs.Lists.{all_append}
 use Rattle.pl_frame.specs.declared.address.Ip4.{Ip4}
 use Rattle.pl_frame.specs.declared.address.Mac.{Mac}
 use Rattle.pl_frame.specs.Ethernet.{source_of}
@@ -16,7 +17,7 @@ use Rattle.pl_steps.specs.Steps.{SwitchStep, rests, ◌▹◌}
 use Rattle.pl_logic.specs.declared.switch_records.Grant.{Grant}
 use Rattle.pl_logic.specs.declared.switch_records.Source.{Source}
 use Rattle.pl_logic.specs.SwitchViews.{SwitchView}
-use Rattle.pl_switch_rule.proofs.StepParts.{IsQuiet, IsSame, all_append, quiet_then_quiet}
+use Rattle.pl_switch_rule.proofs.StepParts.{IsQuiet, IsSame, quiet_then_quiet}
 use Rattle.pl_switch_rule.proofs.Shapes.{all_get, all_set, grants_have_macs, same_with_grants, same_with_source, source_has_mac}
 use Rattle.pl_switch_rule.proofs.QuietActs.{quiet_either, quiet_rests, quiet_self, quiet_step}
 use Rattle.pl_layouts.specs.Equality.{is_ip}

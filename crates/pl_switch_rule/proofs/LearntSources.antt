@@ -1,11 +1,12 @@
 -- While a switch learns the source of a frame it drops nothing, and a host stays at its port. Then the source has an address there, or the port
 -- is spent.
-use Rattle.std.proofs.Common.{◌≡◌, ◌<◌, ℕ, zero, suc, ◌+◌, ◌-◌, ◌==◌, ◌&&◌, not, Bool, true, false, if◌then◌else◌, List, [], ◌∷◌, ◌++◌, length, Option, Some, None, is_some, fold, slice_index_or, slice_set, refl, sym, ap, subst, ◌∙◌}
+use Rattle.std.proofs.Common.{◌≡◌, ◌<◌, ℕ, zero, suc, ◌+◌, ◌-◌, ◌&&◌, not, Bool, true, false, if◌then◌else◌, List, [], ◌∷◌, ◌++◌, length, Option, Some, None, is_some, fold, slice_index_or, slice_set, refl, sym, ap, subst, ◌∙◌}
 use Rattle.std.specs.List.{position_from, slice_get}
 use Rattle.std.proofs.lemmas.Bool.{and_parts, cond_both, false≢true}
 use Rattle.std.proofs.lemmas.List.{get_or-set_same}
 use Rattle.std.proofs.lemmas.Option.{same_Some}
 use Rattle.std.proofs.lemmas.Slice.Eq.{bytes_eq-Decides}
+use Rattle.pl_lemmas.proofs.Lists.{all_append}
 use Rattle.pl_frame.specs.declared.address.Ip4.{Ip4}
 use Rattle.pl_frame.specs.declared.address.Mac.{Mac}
 use Rattle.pl_frame.specs.Ethernet.{source_of}
@@ -30,7 +31,8 @@ use Rattle.pl_switch_rule.specs.Telling.{changes_told}
 use Rattle.pl_switch_rule.proofs.RowActs.{groups_acts}
 use Rattle.pl_switch_rule.proofs.FirstDrops.{AllGoOn, GoesOn, quiet_go_on}
 use Rattle.pl_switch_rule.proofs.LevelParts.{quiet_changes_told, quiet_finds_host}
-use Rattle.pl_switch_rule.proofs.StepParts.{IsSame, all_append}
+use Rattle.pl_switch_rule.proofs.StepParts.{IsSame}
+use Rattle.pl_switch_rule.proofs.Grants.{numbered_at}
 
 -- a part of a step that drops and makes nothing, and leaves the ports as they are
 pub record Hears (v : SwitchView) (s : SwitchStep) : Type 0 where
@@ -113,14 +115,6 @@ replaced_found test n (z ∷ xs) zero x y at same =
     let as_old = same ∙ ap test (sym (same_Some z x at)) in ap (λ b. if b then Some n else position_from test (n + 1) xs) as_old
 replaced_found test n (z ∷ xs) (suc i) x y at same =
     ap (λ o. if test z then Some n else o) (replaced_found test (n + 1) xs i x y at same)
-
--- a grant by its number stands at its place
-numbered_at : (grants : List Grant) (vmid : ℕ) (grant : Grant) → grant_number grants vmid ≡ Some grant → slice_get grants (vmid - 1) ≡ Some grant
-numbered_at grants vmid grant = by (vmid == 0)
-  where
-    by : (test : Bool) → (if test then None else slice_get grants (vmid - 1)) ≡ Some grant → slice_get grants (vmid - 1) ≡ Some grant
-    by true is = absurd (cc)
-    by false is = is
 
 -- what was granted at a port is seen there
 grants_at-with : (v : SwitchView) (port : ℕ) (grants : List Grant) → port < length v.grants → grants_at (with_grants v port grants) port ≡ grants

@@ -5,6 +5,7 @@ pub mod RowActs
 pub mod StepActs
 pub mod QuietActs
 pub mod GrantingParts
+pub mod KeptViews
 pub mod PositionParts
 pub mod LevelParts
 pub mod ControlParts
@@ -25,3 +26,6 @@ pub mod FirstCauses
 pub mod CausesHere
 pub mod CausesOfData
 pub mod CausesOfSteps
+pub mod Lengths
+pub mod Grants
+pub mod Candidates

@@ -1,6 +1,7 @@
 -- What a message of the fabric manager leads to: nothing, or a frame that is made and ends.
 use Rattle.std.proofs.Common.{◌≡◌, ℕ, Bool, true, false, if◌then◌else◌, List, [], Option, Some, None, length, ◌<◌, refl, sym, ap, subst, ◌∙◌}
 use Rattle.std.specs.List.{AllByRecursion}
+use Rattle.pl_lemmas.proofs.Lists.{all_append}
 use Rattle.pl_frame.specs.declared.address.Ip4.{Ip4}
 use Rattle.pl_frame.specs.declared.address.Mac.{Mac}
 use Rattle.pl_pmac.specs.declared.pmac.Pmac.{Pmac}
@@ -28,7 +29,7 @@ use Rattle.pl_switch_rule.proofs.GoingHome.{AreGrantedAt, IsGrantedAt, granted_a
 use Rattle.pl_switch_rule.proofs.GoingOut.{forwards_group_ends, sent_by}
 use Rattle.pl_switch_rule.proofs.MessageParts.{quiet_forgets_members, quiet_sets_trap}
 use Rattle.pl_switch_rule.proofs.Shapes.{same_self}
-use Rattle.pl_switch_rule.proofs.StepParts.{IsMaking, IsQuiet, IsSame, all_append, fit_at, make_then_ending, quiet_then_quiet, same_then, speech_append}
+use Rattle.pl_switch_rule.proofs.StepParts.{IsMaking, IsQuiet, IsSame, fit_at, make_then_ending, quiet_then_quiet, same_then, speech_append}
 
 -- at its end no frame waits
 pub record IsSettled (v : SwitchView) (s : SwitchStep) : Type 0 where

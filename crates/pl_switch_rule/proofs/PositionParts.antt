@@ -1,5 +1,5 @@
 -- The votes on positions keep the shape of a switch.
-use Rattle.std.proofs.Common.{◌≡◌, ◌+◌, ◌%◌, ◌==◌, nat_lt, ℕ, suc, if◌then◌else◌, List, [], ◌∷◌, length, Option, Some, None, slice_set, refl, ap}
+use Rattle.std.proofs.Common.{◌+◌, ◌%◌, ◌==◌, nat_lt, ℕ, if◌then◌else◌, [], Option, Some, None, slice_set}
 use Rattle.std.specs.BTreeSet.{insert_key}
 use Rattle.std.specs.Ordering.{nat_cmp}
 use Rattle.std.proofs.lemmas.List.{length-set}
@@ -10,15 +10,11 @@ use Rattle.pl_logic.specs.Accounting.{IsShaped}
 use Rattle.pl_switch_rule.specs.Positions.{after_vote, counted, fixes_position, freed_but, frees_others, half, holds_for, is_majority, kept_or_new, marked_for, marks, moves_on, notes_position, with_granted}
 use Rattle.pl_logic.specs.SwitchFacts.{hold_at}
 use Rattle.pl_layouts.specs.Votes.{counts, gives_way}
-use Rattle.pl_logic.specs.declared.switch_records.Hold.{Hold}
 use Rattle.pl_logic.specs.SwitchViews.{SwitchView}
 use Rattle.pl_switch_rule.proofs.StepParts.{IsSame, same_then}
 use Rattle.pl_switch_rule.proofs.Shapes.{same_but, same_self, same_with_holds}
 use Rattle.pl_switch_rule.proofs.QuietActs.{same_either}
-
-length_freed : (position : ℕ) (edge : SwitchId) (n : ℕ) (holds : List (Option Hold)) → length (freed_but position edge n holds) ≡ length holds
-length_freed position edge n [] = refl
-length_freed position edge n (hold ∷ holds) = ap suc (length_freed position edge (n + 1) holds)
+use Rattle.pl_switch_rule.proofs.Lengths.{length_freed}
 
 pub same_frees_others : (v : SwitchView) (edge : SwitchId) (position : ℕ) → IsShaped v → IsSame v (frees_others v edge position)
 same_frees_others v edge position s = same_with_holds v (freed_but position edge 0 v.holds) s (length_freed position edge 0 v.holds)

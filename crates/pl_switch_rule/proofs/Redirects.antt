@@ -5,10 +5,10 @@ use Rattle.pl_frame.specs.Ethernet.{with_destination}
 use Rattle.pl_frame.proofs.Fields.{front_of}
 use Rattle.pl_pmac.specs.declared.pmac.Pmac.{Pmac}
 use Rattle.pl_pmac.specs.Pmac.{mac_of, pmac_of}
+use Rattle.pl_pmac.proofs.Inverse.{length-mac_of}
 use Rattle.pl_logic.specs.declared.trap.Trap.{Trap}
 use Rattle.pl_logic.specs.SwitchViews.{SwitchView}
 use Rattle.pl_switch_rule.specs.Delivering.{destination, redirects}
-use Rattle.pl_switch_rule.proofs.DataFrames.{six_of_pmac}
 use Rattle.pl_switch_rule.proofs.FirstDrops.{AllGoOn, GoesOn}
 use Rattle.pl_switch_rule.proofs.RowActs.{redirects_acts}
 
@@ -20,4 +20,4 @@ pub new_destination : (sent : List ℕ) (address : Pmac) → destination (with_d
 new_destination sent address =
     let bytes : List ℕ = (mac_of address).0 in
     let to : List ℕ → Mac = λ front. record { 0 = front } in
-    ap (λ front. pmac_of (to front)) (front_of 6 bytes (drop 6 sent) (six_of_pmac address))
+    ap (λ front. pmac_of (to front)) (front_of 6 bytes (drop 6 sent) (length-mac_of address))

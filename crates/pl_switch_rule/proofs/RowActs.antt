@@ -2,6 +2,7 @@
 use Rattle.std.proofs.Common.{◌≡◌, ℕ, zero, suc, ◌==◌, ◌&&◌, ◌||◌, not, nat_lt, Bool, true, false, if◌then◌else◌, List, [], ◌∷◌, ◌++◌, map, Option, Some, None, is_none, refl, sym, ap, subst, eqb-true}
 use Rattle.std.specs.List.{AllByRecursion, flat_map}
 use Rattle.std.proofs.lemmas.Bool.{and_parts, cond_both}
+use Rattle.pl_lemmas.proofs.Lists.{all_append}
 use Rattle.pl_frame.specs.declared.address.Ip4.{Ip4}
 use Rattle.pl_frame.specs.declared.address.Mac.{Mac}
 use Rattle.pl_frame.specs.declared.address.SwitchId.{SwitchId}
@@ -44,7 +45,6 @@ use Rattle.pl_switch_rule.specs.Positions.{answers_proposal, frees_others, half,
 use Rattle.pl_switch_rule.specs.SwitchRule.{comes_from_switch}
 use Rattle.pl_switch_rule.specs.Telling.{changes_told, link_to, link_told, place_told, pod_wanted}
 use Rattle.pl_switch_rule.proofs.RowViews.{home_stays, taken_in}
-use Rattle.pl_switch_rule.proofs.StepParts.{all_append}
 
 -- The kinds of acts.
 

@@ -4,6 +4,7 @@ use Rattle.pl_frame.specs.declared.address.Mac.{Mac}
 use Rattle.pl_frame.specs.Ethernet.{destination_of, source_of}
 use Rattle.pl_pmac.specs.declared.pmac.Pmac.{Pmac}
 use Rattle.pl_pmac.specs.Pmac.{pmac_of}
+use Rattle.pl_pmac.proofs.Inverse.{length-mac_of}
 use Rattle.pl_logic.specs.declared.acts.Act.TheVariants.{Pass}
 use Rattle.pl_logic.specs.Accounting.{IsWhole}
 use Rattle.pl_logic.specs.SwitchViews.{SwitchView}
@@ -19,7 +20,7 @@ use Rattle.pl_switch_rule.specs.Forwarding.{Choice, came_by, forwards}
 use Rattle.pl_switch_rule.specs.Granting.{is_local}
 use Rattle.pl_switch_rule.specs.GroupForwarding.{forwards_group}
 use Rattle.pl_switch_rule.specs.Intake.{mac_of_pmac, source_pmac, with_pmac}
-use Rattle.pl_switch_rule.proofs.DataFrames.{kind_of-arriving, six_of_pmac}
+use Rattle.pl_switch_rule.proofs.DataFrames.{kind_of-arriving}
 
 -- the frame that came at the port, as the switch sends it on
 pub record IsSentOn (v : SwitchView) (port : ℕ) (frame : List ℕ) (came : Option Came) (sent : List ℕ) : Type 0 where
@@ -46,9 +47,9 @@ goes_where choose v came sent =
 
 -- A frame of a host.
 
-six_of_mac : (o : Option Pmac) → HasSixBytes (mac_of_pmac o)
+pub six_of_mac : (o : Option Pmac) → HasSixBytes (mac_of_pmac o)
 six_of_mac None = tt
-six_of_mac (Some a) = six_of_pmac a
+six_of_mac (Some a) = length-mac_of a
 
 pub host_sent_on : (v : SwitchView) (port : ℕ) (frame : List ℕ) → IsWhole frame → is_of_host v port ≡ true →
     IsSentOn v port frame (Some FromHost) (with_pmac v port frame)

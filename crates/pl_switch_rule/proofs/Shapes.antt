@@ -1,8 +1,7 @@
 -- What keeps the shape of a switch.
-use Rattle.std.proofs.Common.{◌≡◌, ◌<◌, ◌≤◌, ◌+◌, ◌%◌, ◌/◌, ◌^◌, ℕ, zero, suc, Bool, List, [], ◌∷◌, length, Option, None, refl, sym, ap, subst, ◌∙◌, arith, slice_set, slice_index_or}
-use Rattle.std.specs.List.{AllByRecursion, range_with_len, filter, slice_get}
+use Rattle.std.proofs.Common.{◌≡◌, ◌<◌, ◌≤◌, ◌+◌, ◌%◌, ◌/◌, ◌^◌, ℕ, zero, suc, List, [], ◌∷◌, length, Option, None, refl, sym, ap, subst, ◌∙◌, arith, slice_set, slice_index_or}
+use Rattle.std.specs.List.{AllByRecursion, range_with_len, slice_get}
 use Rattle.std.proofs.lemmas.List.{length-set}
-use Rattle.std.proofs.lemmas.Bool.{cond_both}
 use Rattle.std.specs.Option.{IfSome}
 use Rattle.pl_logic.specs.declared.neighbour.PortRecord.{PortRecord}
 use Rattle.pl_layouts.specs.declared.place.Place.{Place}
@@ -32,11 +31,6 @@ pub all_get : {X : Type 0} (P : X → Type 0) (xs : List X) (i : ℕ) → AllByR
 all_get P [] i all = tt
 all_get P (y ∷ ys) zero all = all.0
 all_get P (y ∷ ys) (suc i) all = all_get P ys i all.1
-
-pub all_filter : {X : Type 0} (P : X → Type 0) (test : X → Bool) (xs : List X) → AllByRecursion P xs → AllByRecursion P (filter test xs)
-all_filter P test [] all = tt
-all_filter P test (x ∷ xs) all =
-    cond_both (test x) (x ∷ filter test xs) (filter test xs) (AllByRecursion P) (λ h. (all.0, all_filter P test xs all.1)) (λ h. all_filter P test xs all.1)
 
 -- numbers from a on lie below their end
 pub all_range : (k a n : ℕ) → a + n ≤ k → AllByRecursion (λ i. i < k) (range_with_len a n)

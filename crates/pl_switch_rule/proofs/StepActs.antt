@@ -2,6 +2,7 @@
 use Rattle.std.proofs.Common.{◌≡◌, ℕ, ◌==◌, ◌||◌, not, Bool, true, false, List, [], ◌∷◌, Option, Some, None, Result, Ok, Err, refl, sym, ap, subst}
 use Rattle.std.specs.List.{filter, list_any}
 use Rattle.std.proofs.lemmas.Bool.{cond_both, false≢true}
+use Rattle.pl_lemmas.proofs.Lists.{all_append}
 use Rattle.pl_frame.specs.Ethernet.{payload_of}
 use Rattle.pl_pmac.specs.declared.pmac.Pmac.{Pmac}
 use Rattle.pl_journal.specs.declared.cause.Cause.TheVariants.{NotPlaced}
@@ -36,7 +37,6 @@ use Rattle.pl_switch_rule.specs.SwitchRule.{comes_from_switch, control_comes, da
 use Rattle.pl_switch_rule.specs.Telling.{changes_told}
 use Rattle.pl_switch_rule.proofs.RowActs.{ChangeActs, Each, FrameActs, GrantActs, IsAnyPort, announced_acts, any_group, any_way, changes_acts, floods_acts, groups_acts, learns_source_acts, makes_acts, probes_acts, proposal_acts, switch_frame_acts, taken_in_acts, told_acts}
 use Rattle.pl_switch_rule.proofs.RowViews.{changes_learn, host_frame_learns, with_host}
-use Rattle.pl_switch_rule.proofs.StepParts.{all_append}
 
 -- of data frames, and of messages that are about hosts
 pub record HostActs (P : Act → Type 0) : Type 0 where

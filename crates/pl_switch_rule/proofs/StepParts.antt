@@ -2,6 +2,7 @@
 -- what comes behind it.
 use Rattle.std.proofs.Common.{◌≡◌, ℕ, List, [], ◌∷◌, ◌++◌, refl, sym, ap, subst, ◌∙◌, ◌⊎◌, inl, inr}
 use Rattle.std.specs.List.{AllByRecursion}
+use Rattle.pl_lemmas.proofs.Lists.{all_append}
 use Rattle.pl_logic.specs.declared.acts.Act.{Act}
 use Rattle.pl_logic.specs.declared.acts.Act.TheVariants.{Make}
 use Rattle.pl_logic.specs.Accounting.{IsFit, IsMade, IsShaped, Speech, speech, speech_after}
@@ -40,10 +41,6 @@ pub record IsFurther (v : SwitchView) (s : SwitchStep) : Type 0 where
 pub speech_append : (start : Speech) (xs ys : List Act) → speech start (xs ++ ys) ≡ speech (speech start xs) ys
 speech_append start [] ys = refl
 speech_append start (x ∷ xs) ys = speech_append (speech_after start x) xs ys
-
-pub all_append : {X : Type 0} (P : X → Type 0) (xs ys : List X) → AllByRecursion P xs → AllByRecursion P ys → AllByRecursion P (xs ++ ys)
-all_append P [] ys a b = b
-all_append P (x ∷ xs) ys a b = (a.0, all_append P xs ys a.1 b)
 
 pub same_then : (u v w : SwitchView) → IsSame u v → IsSame v w → IsSame u w
 same_then u v w a b = record { id = b.id ∙ a.id; k = b.k ∙ a.k; shaped = b.shaped }

@@ -4,6 +4,7 @@ use Rattle.std.specs.List.{list_any}
 use Rattle.std.proofs.lemmas.Bool.{and_parts, cases_lt, cases_order, eq-eqb, eqb-true, ne_eqb, lt-ltb, le-ltb}
 use Rattle.std.proofs.lemmas.List.{get_or_past}
 use Rattle.std.proofs.lemmas.List.Folds.{list_any_more}
+use Rattle.pl_lemmas.proofs.Bools.{and_false, and_true}
 use Rattle.pl_frame.specs.declared.address.SwitchId.{SwitchId}
 use Rattle.pl_tables.specs.declared.lead.Lead.{Lead}
 use Rattle.pl_tables.specs.declared.port_rows.PortRow.{PortRow}
@@ -30,14 +31,6 @@ not_in list entry (Some u) key b is = by (is_entry_of u key entry) refl
     by : (c : Bool) → is_entry_of u key entry ≡ c → (c && not (avoids_by list (Some u) key)) ≡ (c && not b)
     by true h = ap not (sym (same_entry list entry u key h) ∙ is)
     by false h = refl
-
-and_false : (b : Bool) → (b && false) ≡ false
-and_false true = refl
-and_false false = refl
-
-and_true : (b : Bool) → (b && true) ≡ b
-and_true true = refl
-and_true false = refl
 
 -- an entry that the other list has changes nothing
 pub entry_kept : (rows : List PortRow) (leads : List Lead) (other : List (SwitchId × ℕ × ℕ)) (entry : SwitchId × ℕ × ℕ) (is_in : Bool) → has_entry other entry ≡ true →

@@ -6,6 +6,7 @@ use Rattle.std.proofs.lemmas.Bool.{cases_order, cases_lt, eq-eqb, ne_eqb, lt-ltb
 use Rattle.std.proofs.lemmas.List.Elements.{filter-append}
 use Rattle.std.proofs.lemmas.List.{append-nil}
 use Rattle.std.proofs.lemmas.Nat.Bits.{bit_at_and, bit_at_not, bit_at-lt}
+use Rattle.pl_lemmas.proofs.Lists.{range_parts}
 use Rattle.pl_logic.specs.PortRecords.{ports_of_switch}
 use Rattle.pl_lists.specs.declared.port_set.PortSet.{PortSet}
 use Rattle.pl_lists.specs.Ports.{has_port, ports_of}
@@ -68,11 +69,6 @@ module _ (old new : ℕ → Bool) where
 none_kept : (has : ℕ → Bool) (a n : ℕ) → ((p : ℕ) → a ≤ p → p < a + n → has p ≡ false) → filter has (range_with_len a n) ≡ []
 none_kept has a zero h = refl
 none_kept has a (suc n) h = rw (h a (omega arith) (omega arith)) (none_kept has (a + 1) n (λ p low high. h p (omega arith) (omega arith)))
-
-range_parts : (a n m k next : ℕ) → n + m ≡ k → a + n ≡ next → range_with_len a k ≡ range_with_len a n ++ range_with_len next m
-range_parts a zero m k next h e = let same : k ≡ m = omega arith in let here : a ≡ next = omega arith in rw (same, here) refl
-range_parts a (suc n) m zero next h e = absurd (omega arith)
-range_parts a (suc n) m (suc k) next h e = ap (λ l. a ∷ l) (range_parts (a + 1) n m k next (omega arith) (omega arith))
 
 -- a set that is the ports that pass has a port where it passes
 pub each_port : (set : PortSet) (k : ℕ) (test : ℕ → Bool) → ports_of set ≡ filter test (ports_of_switch k) →

@@ -5,6 +5,7 @@ use Rattle.std.specs.List.{filter, list_any}
 use Rattle.std.specs.Ordering.{nat_cmp}
 use Rattle.std.proofs.lemmas.Bool.{cases_order, eq-eqb, ne_eqb, lt-ltb, le-ltb}
 use Rattle.std.proofs.lemmas.List.Folds.{list_any_more}
+use Rattle.pl_lemmas.proofs.Bools.{or_swap}
 use Rattle.pl_frame.specs.declared.address.SwitchId.{SwitchId}
 use Rattle.pl_tables.specs.declared.port_rows.PortRow.{PortRow}
 use Rattle.pl_tables.specs.Leads.{avoids_by, has, is_entry_of, SetsWhere}
@@ -14,11 +15,6 @@ or_self : (a b : Bool) → (a || (a || b)) ≡ (a || b)
 or_self true b = refl
 or_self false b = refl
 
-or_turned : (a b c : Bool) → (a || (b || c)) ≡ (b || (a || c))
-or_turned true true c = refl
-or_turned true false c = refl
-or_turned false b c = refl
-
 -- a port that is put in is there, and the others as before
 has_inserted : (l : List ℕ) (port q : ℕ) → has (insert_key nat_cmp l port) q ≡ ((port == q) || has l q)
 has_inserted [] port q = refl
@@ -27,7 +23,7 @@ has_inserted (x ∷ l) port q = elim (cases_order port x) [
   | inr (inl less) ↦ rw (lt-ltb port x less) refl
   | inr (inr more) ↦
       rw (le-ltb port x (omega arith), ne_eqb port x (omega arith))
-      (ap (λ b. (x == q) || b) (has_inserted l port q) ∙ or_turned (x == q) (port == q) (has l q))
+      (ap (λ b. (x == q) || b) (has_inserted l port q) ∙ or_swap (x == q) (port == q) (has l q))
 ]
 
 -- one that is taken out is not

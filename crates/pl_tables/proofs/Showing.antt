@@ -22,10 +22,6 @@ use Rattle.pl_tables.specs.Rows.{ports_at}
 use Rattle.pl_tables.specs.Tables.{is_down, is_up, is_up_avoided, AreTables}
 use Rattle.pl_tables.proofs.PortSets.{all_ports}
 
-and_none : (b : Bool) → (b && false) ≡ false
-and_none true = refl
-and_none false = refl
-
 some_if : {A : Type 0} (b : Bool) (x : A) → is_some (if b then Some x else None) ≡ b
 some_if true x = refl
 some_if false x = refl

@@ -7,9 +7,11 @@ use Rattle.std.proofs.lemmas.Option.{get_or_from_slice_get, none-some, same_Some
 use Rattle.pl_frame.specs.declared.address.Mac.{Mac}
 use Rattle.pl_pmac.specs.declared.pmac.Pmac.{Pmac}
 use Rattle.pl_pmac.specs.Pmac.{Fits, mac_of, pmac_number}
+use Rattle.pl_pmac.proofs.Inverse.{same_pmac_number}
 use Rattle.pl_layouts.specs.Equality.{same_mac}
 use Rattle.pl_layouts.specs.Memberships.{is_group}
 use Rattle.pl_layouts.specs.Placement.{is_known}
+use Rattle.pl_layouts.proofs.Sameness.{mac_is}
 use Rattle.pl_wiring.specs.declared.host.Host.{Host}
 use Rattle.pl_wiring.specs.Plan.{IsHostMac, IsPlan, Plan}
 use Rattle.pl_journal.specs.declared.entry.Entry.{Entry}
@@ -22,15 +24,15 @@ use Rattle.pl_logic.specs.ManagerViews.{Registration}
 use Rattle.pl_logic.specs.SwitchViews.{SwitchView}
 use Rattle.pl_switch_rule.specs.Delivering.{grant_trap, trap_for}
 use Rattle.pl_switch_rule.specs.Granting.{granted, is_local}
+use Rattle.pl_switch_rule.proofs.Grants.{granted_parts}
 use Rattle.pl_world.specs.Changes.{host_of}
 use Rattle.pl_world.specs.Worlds.{WorldView}
 use Rattle.pl_control_plane.specs.ControlPlanes.{control_plane, no_switch}
 use Rattle.pl_addresses.specs.Registries.{registry_of}
-use Rattle.pl_addresses.proofs.Numbers.{first_passes, granted_here, granted_parts, known_same}
-use Rattle.pl_addresses.proofs.Words.{mac_is}
+use Rattle.pl_addresses.proofs.Numbers.{first_passes, granted_here, known_same}
 use Rattle.pl_kept.specs.Kept.{Kept}
 use Rattle.pl_ledger.specs.Ledgers.{IsBacked, IsGrantedThere, ledger}
-use Rattle.pl_ledger.proofs.Books.{IsAlike, Says, held_somewhere, number_apart, of_edge, same_says, says}
+use Rattle.pl_ledger.proofs.Books.{IsAlike, Says, held_somewhere, of_edge, same_says, says}
 use Rattle.pl_ledger.proofs.Stepping.{fits_there}
 use Rattle.pl_ledger_runs.proofs.Runs.{IsEnteredAll, grounds, in_bounds}
 use Rattle.pl_flights.specs.OnTheWay.{book_of}
@@ -138,7 +140,7 @@ module _ (w : WorldView) (kept : Kept w) (entered : IsEnteredAll w) where
       by None is = refl
       by (Some h) is =
           let at = held_somewhere w.switches (ledger (reverse w.journal)) (pmac_number x) h entered.ledger.backed (sym (same_holder (pmac_number x)) ∙ is) in
-          let same : at.pmac ≡ x = number_apart at.pmac x (fits_at at.switch at.there.view at.pmac at.there.grant at.there.found at.there.is) fits at.same in
+          let same : at.pmac ≡ x = same_pmac_number at.pmac x (fits_at at.switch at.there.view at.pmac at.there.grant at.there.found at.there.is) fits at.same in
           let home : is_local at.there.view x ≡ true =
           subst (λ (y : Pmac). is_local at.there.view y ≡ true) same (granted_parts at.there.view at.pmac at.there.grant at.there.is).0 in
           let one : t ≡ at.switch = (grounds w kept).apart t at.switch v at.there.view x found at.there.found local home in
@@ -193,7 +195,7 @@ module _ (w : WorldView) (kept : Kept w) (entered : IsEnteredAll w) where
       (is_local v x ≡ true) × (x.port ≡ port)
   back_so t v found x port fits is =
       let at = granted_somewhere w.switches (ledger (reverse w.journal)) (pmac_number x) (at_port t port) entered.ledger.backed (sym (same_spots (pmac_number x)) ∙ is) in
-      let same : at.pmac ≡ x = number_apart at.pmac x (fits_at t at.there.view at.pmac at.there.grant at.there.found at.there.is) fits at.same in
+      let same : at.pmac ≡ x = same_pmac_number at.pmac x (fits_at t at.there.view at.pmac at.there.grant at.there.found at.there.is) fits at.same in
       let view : at.there.view ≡ v = same_Some at.there.view v (sym at.there.found ∙ found) in (
         subst (λ (u : SwitchView). is_local u x ≡ true) view
             (subst (λ (y : Pmac). is_local at.there.view y ≡ true) same (granted_parts at.there.view at.pmac at.there.grant at.there.is).0),

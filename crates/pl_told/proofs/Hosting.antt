@@ -4,10 +4,12 @@ use Rattle.std.proofs.lemmas.Bool.{and_parts, cases_Bool, cases_lt, eqb-true, fa
 use Rattle.std.proofs.lemmas.List.{get_or_past}
 use Rattle.std.proofs.lemmas.List.Elements.{All-contains, All-from_recursion}
 use Rattle.std.proofs.lemmas.Option.{get_or_from_slice_get, same_Some}
+use Rattle.pl_lemmas.proofs.Lists.{all_found}
 use Rattle.pl_frame.specs.declared.address.Mac.{Mac}
 use Rattle.pl_frame.specs.Ethernet.{source_of}
 use Rattle.pl_pmac.specs.declared.pmac.Pmac.{Pmac}
 use Rattle.pl_pmac.specs.Pmac.{Fits, pmac_number}
+use Rattle.pl_pmac.proofs.Inverse.{same_pmac_number}
 use Rattle.pl_layouts.specs.Placement.{is_known}
 use Rattle.pl_wiring.specs.declared.host.Host.{Host}
 use Rattle.pl_journal.specs.declared.entry.Entry.{Entry}
@@ -19,6 +21,7 @@ use Rattle.pl_logic.specs.Accounting.{IsShaped}
 use Rattle.pl_logic.specs.PortRecords.{port_of}
 use Rattle.pl_logic.specs.SwitchViews.{SwitchView}
 use Rattle.pl_switch_rule.specs.Granting.{address_at_port, grant_number, granted, grants_at, in_use, is_port_spent}
+use Rattle.pl_switch_rule.proofs.Grants.{granted_parts}
 use Rattle.pl_queues.specs.Queues.{items_at}
 use Rattle.pl_world.specs.declared.item.Item.{Item}
 use Rattle.pl_world.specs.declared.item.Item.TheVariants.{Data}
@@ -29,11 +32,11 @@ use Rattle.pl_control_plane.specs.ControlPlanes.{control_plane, no_switch}
 use Rattle.pl_control_plane.specs.HostsAtEdges.{IsAtEdge}
 use Rattle.pl_addresses.specs.EdgeAddresses.{is_settled}
 use Rattle.pl_addresses.specs.OwnFrames.{IsOwnItem}
-use Rattle.pl_addresses.proofs.Numbers.{granted_here, granted_parts, known_same, local_here, number_past, used_is}
-use Rattle.pl_addresses.proofs.Turns.{all_here, exists_at}
+use Rattle.pl_addresses.proofs.Numbers.{granted_here, known_same, local_here, number_past, used_is}
+use Rattle.pl_addresses.proofs.Turns.{exists_at}
 use Rattle.pl_kept.specs.Kept.{Kept}
 use Rattle.pl_ledger.specs.Ledgers.{IsBacked, ledger}
-use Rattle.pl_ledger.proofs.Books.{IsLast, Says, number_apart, same_says, says, spent_there}
+use Rattle.pl_ledger.proofs.Books.{IsLast, Says, same_says, says, spent_there}
 use Rattle.pl_ledger.proofs.Turning.{source_is}
 use Rattle.pl_ledger_runs.proofs.Runs.{IsEnteredAll, grounds}
 use Rattle.pl_flights.specs.Standing.{KnowsHosts, StandsOn, StandsOnHosts}
@@ -60,7 +63,7 @@ same_granted (entry ∷ past) h there = same_granted past h there
 
 module _ (w : WorldView) (kept : Kept w) (entered : IsEnteredAll w) where
   size_at : (t : ℕ) (v : SwitchView) → slice_get w.switches t ≡ Some v → IsShaped v
-  size_at t v found = all_here IsShaped w.switches t v kept.counted.shaped found
+  size_at t v found = all_found IsShaped w.switches t v kept.counted.shaped found
 
   -- the address that a host has in use at a port is the last that it was granted there
   used_so : (t : ℕ) (v : SwitchView) → slice_get w.switches t ≡ Some v → (port vmid h : ℕ) (amac : Mac) → is_settled v.place ≡ true → in_use (grants_at v port) amac ≡ Some vmid →
@@ -112,7 +115,7 @@ module _ (w : WorldView) (kept : Kept w) (entered : IsEnteredAll w) where
 
       last_entry : (x : Pmac) → Fits x → x.vmid ≡ 65535 → (entry : Entry) → IsBacked w.switches entry → IsLast (pmac_number x) entry
       last_entry x fits last (Granted y h e p) there = λ same.
-          ap (λ (z : Pmac). z.vmid) (number_apart y x (fits_at w kept entered e.0 there.view y there.grant there.found there.is) fits same) ∙ last
+          ap (λ (z : Pmac). z.vmid) (same_pmac_number y x (fits_at w kept entered e.0 there.view y there.grant there.found there.is) fits same) ∙ last
       last_entry x fits last entry there = tt
 
   view_at : (t : ℕ) (v : SwitchView) → slice_get w.switches t ≡ Some v → (control_plane w).view t ≡ v
@@ -142,7 +145,7 @@ module _ (w : WorldView) (kept : Kept w) (entered : IsEnteredAll w) where
         next = λ port free within settled room.
             let x : Pmac = address_at_port v port (length (grants_at v port) + 1) in
             let here = local_here v port (length (grants_at v port) + 1) settled in
-            let size : v.k ≡ w.plan.k = all_here (λ (u : SwitchView). u.k ≡ w.plan.k) w.switches t v kept.counted.formed.ports found in
+            let size : v.k ≡ w.plan.k = all_found (λ (u : SwitchView). u.k ≡ w.plan.k) w.switches t v kept.counted.formed.ports found in
             let less : length (grants_at v port) < 65535 = ltb-true (length (grants_at v port)) 65535 (not_false (nat_lt (length (grants_at v port)) 65535) room) in
             is_next w kept entered t v found x here (granted_here v x here ∙ number_past (grants_at v port)) (subst (λ n. port < n) (sym size) within) shaped.high (omega (arith, less));
       }
@@ -174,6 +177,6 @@ module _ (w : WorldView) (kept : Kept w) (entered : IsEnteredAll w) where
   pub stands_on_hosts : StandsOnHosts w
   stands_on_hosts = record {
     hosts = knows_hosts;
-    at_ports = λ h stand is. let edge : IsAtEdge w.plan stand = all_here (IsAtEdge w.plan) w.stands h stand kept.hosts is in (edge.free, edge.port);
+    at_ports = λ h stand is. let edge : IsAtEdge w.plan stand = all_found (IsAtEdge w.plan) w.stands h stand kept.hosts is in (edge.free, edge.port);
     own = own_item;
   }

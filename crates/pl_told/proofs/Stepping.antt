@@ -5,6 +5,7 @@ use Rattle.std.proofs.lemmas.Bool.{and_parts, cases_Bool, eqb-true, false≢true
 use Rattle.std.proofs.lemmas.Option.{same_Some, slice_get_within}
 use Rattle.pl_pmac.specs.declared.pmac.Pmac.{Pmac}
 use Rattle.pl_pmac.specs.Pmac.{Fits, pmac_number}
+use Rattle.pl_pmac.proofs.Inverse.{same_pmac_number}
 use Rattle.pl_layouts.specs.declared.place.Place.{Place}
 use Rattle.pl_layouts.specs.Placement.{is_known}
 use Rattle.pl_journal.specs.declared.entry.Entry.{Entry}
@@ -24,6 +25,7 @@ use Rattle.pl_manager_rule.specs.Histories.{known}
 use Rattle.pl_manager_rule.specs.ManagerRule.{manager_hears, manager_rule}
 use Rattle.pl_switch_rule.specs.Granting.{address_at_port, granted, is_local}
 use Rattle.pl_switch_rule.specs.SwitchRule.{Loose}
+use Rattle.pl_switch_rule.proofs.Grants.{granted_parts}
 use Rattle.pl_wiring.specs.Plan.{Plan}
 use Rattle.pl_world.specs.declared.event.Event.{Event}
 use Rattle.pl_world.specs.Refusals.{refusal}
@@ -32,12 +34,12 @@ use Rattle.pl_world.specs.Worlds.{WorldView}
 use Rattle.pl_addresses.specs.Addressed.{StayGranted}
 use Rattle.pl_addresses.specs.EdgeAddresses.{IsGoodWord, is_settled}
 use Rattle.pl_addresses.specs.OwnAddresses.{own_ip}
-use Rattle.pl_addresses.proofs.Numbers.{granted_parts, local_here, local_settled}
+use Rattle.pl_addresses.proofs.Numbers.{local_here, local_settled}
 use Rattle.pl_addresses.proofs.Runs.{step_in_order}
 use Rattle.pl_addresses.proofs.Turns.{exists_at}
 use Rattle.pl_kept.specs.Kept.{Kept}
 use Rattle.pl_ledger.specs.Ledgers.{IsBacked, IsGrantedThere, ledger}
-use Rattle.pl_ledger.proofs.Books.{IsAlike, Says, held_somewhere, number_apart, of_edge, same_says, says}
+use Rattle.pl_ledger.proofs.Books.{IsAlike, Says, held_somewhere, of_edge, same_says, says}
 use Rattle.pl_ledger.proofs.Numbering.{LearnsBy, LearnsOne, Numbering, learns, numberings}
 use Rattle.pl_ledger_runs.proofs.Runs.{IsEnteredAll, grounds, in_bounds, places_grow}
 use Rattle.pl_flights.specs.Given.{ManagerNumbersWell, NumbersWell}
@@ -89,7 +91,7 @@ module _ (old new : WorldView) (kept : Kept old) (kept_then : Kept new) (entered
         by (Some h) is =
             let at = held_somewhere old.switches (ledger (reverse old.journal)) (pmac_number x) h entered.ledger.backed
             (ap (λ (f : Says). f.hold (pmac_number x)) (same_says old.plan (reverse old.journal)) ∙ is) in
-            let same : at.pmac ≡ x = number_apart at.pmac x (fits_at old kept entered at.switch at.there.view at.pmac at.there.grant at.there.found at.there.is) fits at.same in
+            let same : at.pmac ≡ x = same_pmac_number at.pmac x (fits_at old kept entered at.switch at.there.view at.pmac at.there.grant at.there.found at.there.is) fits at.same in
             absurd (nowhere at.switch at.pmac at.port at.there (ap (λ (z : Pmac). z.pod) same) (ap (λ (z : Pmac). z.position) same))
 
     alike_none : AllByRecursion (IsAlike x t) (ledger (reverse old.journal))

@@ -21,6 +21,7 @@ use Rattle.pl_topology.specs.declared.key.Key.TheVariants as key
 use Rattle.pl_topology.specs.Document.{integer_at}
 use Rattle.std.proofs.lemmas.List.{append-nil}
 use Rattle.std.proofs.lemmas.List.Elements.{filter-append}
+use Rattle.pl_lemmas.proofs.Options.{option_or_none}
 use Rattle.pl_topology.specs.declared.entries.HostEntry.{HostEntry}
 use Rattle.pl_topology.specs.declared.entries.PortUse.{PortUse}
 use Rattle.pl_topology.specs.Checks.{port_is_free, is_at, is_port, addresses_are_new, has_mac, has_ip, canonical_entry, has_id, id_is_new, is_unnamed}
@@ -52,12 +53,8 @@ find_none p (x ∷ xs) none = none_here (p x) x (find p xs) (list_any p xs) none
 pub find_last : {A : Type 0} (p : A → Bool) (xs : List A) (x : A) → list_any p xs ≡ false → p x ≡ true → find p (xs ++ x ∷ []) ≡ Some x
 find_last p xs x none passes = find-append p xs (x ∷ []) ∙ rw (find_none p xs none, passes) refl
 
-or_none : {A : Type 0} (o : Option A) → option_or o None ≡ o
-or_none None = refl
-or_none (Some x) = refl
-
 pub find_skip : {A : Type 0} (p : A → Bool) (xs : List A) (x : A) → p x ≡ false → find p (xs ++ x ∷ []) ≡ find p xs
-find_skip p xs x fails = find-append p xs (x ∷ []) ∙ rw fails (or_none (find p xs))
+find_skip p xs x fails = find-append p xs (x ∷ []) ∙ rw fails (option_or_none (find p xs))
 
 -- a switch is named by one table
 pub switch_entry-fresh : (k : ℕ) (before : List SwitchEntry) (found : Members) (entry : SwitchEntry) → switch_entry k before found ≡ Ok entry → list_any (is_of entry.switch) before ≡ false
@@ -171,14 +168,6 @@ kept_among-kept given n none = kept_among-next given n ∙ rw none refl
 
 pub kept_among-named : (given : List SwitchEntry) (n : ℕ) → list_any (is_of (record { 0 = n })) given ≡ true → kept_among given (n + 1) ≡ kept_among given n
 kept_among-named given n some = kept_among-next given n ∙ rw some (append-nil (kept_among given n))
-
-pub or_left : (a b : Bool) → a ≡ true → (a || b) ≡ true
-or_left true b h = refl
-or_left false b h = cc
-
-pub or_right : (a b : Bool) → b ≡ true → (a || b) ≡ true
-or_right true b h = refl
-or_right false b h = h
 
 pub addresses_are_new-passes : (before : List HostEntry) (host : HostEntry) → list_any (has_mac host.mac.0) before ≡ false → list_any (has_ip host.ip.0) before ≡ false → addresses_are_new before host ≡ Ok tt
 unfolding addresses_are_new

@@ -1,7 +1,7 @@
 -- The ids that a file's tables leave: in range, and no two equal.
-use Rattle.std.proofs.Common.{◌≡◌, ◌≢◌, ℕ, zero, suc, ◌+◌, ◌*◌, ◌/◌, ◌^◌, ◌<◌, ◌≤◌, Bool, true, false, ◌||◌, List, [], ◌∷◌, length, get_or, map, Option, Some, None, is_some, All, AllPairs, subst, refl, sym, ap, ◌∙◌, arith, inl, inr, ◌⊎◌}
+use Rattle.std.proofs.Common.{◌≡◌, ◌≢◌, ℕ, zero, suc, ◌+◌, ◌*◌, ◌/◌, ◌^◌, ◌<◌, ◌≤◌, Bool, true, false, List, [], ◌∷◌, length, get_or, map, Option, Some, None, is_some, All, AllPairs, subst, refl, sym, ap, ◌∙◌, arith, inl, inr, ◌⊎◌}
 use Rattle.std.specs.List.{filter, find, list_any, range_with_len}
-use Rattle.std.proofs.lemmas.Bool.{cases_Bool, cases_lt, eqb-true, false≢true}
+use Rattle.std.proofs.lemmas.Bool.{cases_Bool, cases_lt, eqb-true, false≢true, or_right}
 use Rattle.std.proofs.lemmas.Bool.Decides.{Decides-eqb}
 use Rattle.std.proofs.lemmas.List.FromFn.{get_or-map-range_with_len, length-map-range_with_len}
 use Rattle.std.proofs.Math.Nat.{mul-le-mul_left, mul-le-mul_right}
@@ -20,10 +20,6 @@ pub record AgreeIds (k : ℕ) (given : List SwitchEntry) : Type 0 where
   pub free : All (λ e. list_any (has_id e.id) (kept_ids k given) ≡ false) given
   pub apart : AllPairs (λ e f. e.id.0 ≢ f.id.0) given
 
-or_true : (a b : Bool) → b ≡ true → (a || b) ≡ true
-or_true true b h = refl
-or_true false b h = h
-
 -- a test that a kept item passes
 any_filter : {A : Type 0} (p q : A → Bool) (xs : List A) (i : ℕ) (d : A) → i < length xs → q (get_or xs i d) ≡ true → p (get_or xs i d) ≡ true → list_any p (filter q xs) ≡ true
 any_filter p q [] i d within kept passes = absurd (omega arith)
@@ -31,7 +27,7 @@ any_filter p q (x ∷ xs) zero d within kept passes = rw (kept, passes) refl
 any_filter p q (x ∷ xs) (suc i) d within kept passes =
     let rest = any_filter p q xs i d (omega arith) kept passes in
     elim (cases_Bool (q x)) [
-      | inl here ↦ rw here (or_true (p x) _ rest)
+      | inl here ↦ rw here (or_right (p x) _ rest)
       | inr other ↦ rw other rest
     ]
 

@@ -1,8 +1,8 @@
 -- The links that a file's tables leave: in link order, their ports there and apart.
-use Rattle.std.proofs.Common.{◌≡◌, ◌≢◌, ℕ, ℤ, zero, suc, pos, negsuc, ◌/◌, ◌<◌, Bool, true, false, cond, ◌&&◌, ◌||◌, ◌==◌, eqb, List, [], ◌∷◌, ◌++◌, length, get_or, Option, Some, None, option_map, unwrap_or, All, AllPairs, is_some, subst, refl, sym, ap, ◌∙◌, arith, inl, inr, ◌⊎◌}
+use Rattle.std.proofs.Common.{◌≡◌, ◌≢◌, ℕ, ℤ, zero, suc, pos, negsuc, ◌/◌, ◌<◌, Bool, true, false, cond, ◌&&◌, ◌==◌, eqb, List, [], ◌∷◌, ◌++◌, length, get_or, Option, Some, None, option_map, unwrap_or, All, AllPairs, is_some, subst, refl, sym, ap, ◌∙◌, arith, inl, inr, ◌⊎◌}
 use Rattle.std.specs.List.{filter, find, flat_map, list_any}
 use Rattle.std.specs.Ordering.{int_eq}
-use Rattle.std.proofs.lemmas.Bool.{and_parts, false_from_ne_true, cases_Bool, cases_lt, eqb-true, false≢true, ltb-true}
+use Rattle.std.proofs.lemmas.Bool.{and_parts, false_from_ne_true, cases_Bool, cases_lt, eqb-true, false≢true, ltb-true, or_right, or_cases}
 use Rattle.std.proofs.lemmas.Bool.Decides.{Decides-eqb, Decides-int_eq}
 use Rattle.std.proofs.lemmas.List.{get_or-map, length-map}
 use Rattle.std.proofs.lemmas.List.Folds.{list_any-append}
@@ -69,16 +69,12 @@ found_at p (y ∷ xs) x found = elim (cases_Bool (p y)) [
       found_later p y xs x (found_at p xs x rest)
 ]
 
-or_true : (a b : Bool) → b ≡ true → (a || b) ≡ true
-or_true true b h = refl
-or_true false b h = h
-
 -- a test that an item of a group passes is passed by the groups
 pub any_group : {A B : Type 0} (p : B → Bool) (items : A → List B) (xs : List A) (i : ℕ) (d : A) → i < length xs → list_any p (items (get_or xs i d)) ≡ true → list_any p (flat_map items xs) ≡ true
 any_group p items [] i d within passes = absurd (omega arith)
 any_group p items (x ∷ xs) zero d within passes = list_any-append p (items x) (flat_map items xs) ∙ rw passes refl
 any_group p items (x ∷ xs) (suc i) d within passes =
-    list_any-append p (items x) (flat_map items xs) ∙ or_true (list_any p (items x)) _ (any_group p items xs i d (omega arith) passes)
+    list_any-append p (items x) (flat_map items xs) ∙ or_right (list_any p (items x)) _ (any_group p items xs i d (omega arith) passes)
 
 pub any_kept_group : {A B : Type 0} (p : B → Bool) (items : A → List B) (q : A → Bool) (xs : List A) (i : ℕ) (d : A) → i < length xs → q (get_or xs i d) ≡ true → list_any p (items (get_or xs i d)) ≡ true →
     list_any p (flat_map items (filter q xs)) ≡ true
@@ -87,7 +83,7 @@ any_kept_group p items q (x ∷ xs) zero d within kept passes = rw kept (list_an
 any_kept_group p items q (x ∷ xs) (suc i) d within kept passes =
     let rest = any_kept_group p items q xs i d (omega arith) kept passes in
     elim (cases_Bool (q x)) [
-      | inl here ↦ rw here (list_any-append p (items x) (flat_map items (filter q xs)) ∙ or_true (list_any p (items x)) _ rest)
+      | inl here ↦ rw here (list_any-append p (items x) (flat_map items (filter q xs)) ∙ or_right (list_any p (items x)) _ rest)
       | inr other ↦ rw other rest
     ]
 
@@ -101,7 +97,7 @@ eqb_same n = (Decides-eqb n n).1 refl
 pub canonical_at : (link : Link) (s p : ℕ) → IsAt link s p → list_any (is_at s (pos p)) (canonical_uses link) ≡ true
 canonical_at link s p (inl lower) = rw (lower.0, lower.1, eqb_same s, int_same (pos p)) refl
 canonical_at link s p (inr upper) =
-    or_true (is_at s (pos p) (record { switch = link.lower; port = pos link.lower_port; counts = true })) _ (rw (upper.0, upper.1, eqb_same s, int_same (pos p)) refl)
+    or_right (is_at s (pos p) (record { switch = link.lower; port = pos link.lower_port; counts = true })) _ (rw (upper.0, upper.1, eqb_same s, int_same (pos p)) refl)
 
 pub use_here : (taken : PortUse) (s p : ℕ) → taken.counts ≡ true → taken.switch.0 ≡ s → taken.port ≡ pos p → is_at s (pos p) taken ≡ true
 use_here taken s p counts switch port = rw (counts, switch, port, eqb_same s, int_same (pos p)) refl
@@ -114,7 +110,7 @@ first_use k entry s p joined switch port =
 second_use : (k : ℕ) (entry : LinkEntry) (s p : ℕ) → are_joined k entry.a entry.b ≡ true → entry.b.0 ≡ s → entry.port_b ≡ pos p → list_any (is_at s (pos p)) (link_uses k entry) ≡ true
 second_use k entry s p joined switch port =
     let here = use_here (record { switch = entry.b; port = entry.port_b; counts = are_joined k entry.a entry.b }) s p joined switch port in
-    or_true (is_at s (pos p) (record { switch = entry.a; port = entry.port_a; counts = are_joined k entry.a entry.b })) _ (rw here refl)
+    or_right (is_at s (pos p) (record { switch = entry.a; port = entry.port_a; counts = are_joined k entry.a entry.b })) _ (rw here refl)
 
 pub port_number-is : (k : ℕ) (z : ℤ) → is_port k z ≡ true → z ≡ pos (port_number z)
 port_number-is k (pos n) is = refl
@@ -128,12 +124,8 @@ port_number-below k (negsuc n) is = cc
 abbrev pub Oriented : Link → LinkEntry → Type 0
 Oriented link entry = ((entry.a.0 ≡ link.lower.0) × (entry.b.0 ≡ link.upper.0)) ⊎ ((entry.a.0 ≡ link.upper.0) × (entry.b.0 ≡ link.lower.0))
 
-or_split : (a b : Bool) → (a || b) ≡ true → (a ≡ true) ⊎ (b ≡ true)
-or_split true b h = inl refl
-or_split false b h = inr h
-
 pub oriented : (link : Link) (entry : LinkEntry) → is_between link.lower link.upper entry ≡ true → Oriented link entry
-oriented link entry between = elim (or_split (eqb entry.a.0 link.lower.0 && eqb entry.b.0 link.upper.0) (eqb entry.a.0 link.upper.0 && eqb entry.b.0 link.lower.0) between) [
+oriented link entry between = elim (or_cases (eqb entry.a.0 link.lower.0 && eqb entry.b.0 link.upper.0) (eqb entry.a.0 link.upper.0 && eqb entry.b.0 link.lower.0) between) [
   | inl straight ↦ let (a, b) = and_parts (eqb entry.a.0 link.lower.0) (eqb entry.b.0 link.upper.0) straight in inl (eqb-true _ _ a, eqb-true _ _ b)
   | inr turned ↦ let (a, b) = and_parts (eqb entry.a.0 link.upper.0) (eqb entry.b.0 link.lower.0) turned in inr (eqb-true _ _ a, eqb-true _ _ b)
 ]
@@ -332,7 +324,7 @@ placed_seen k n given arity agree within s p at =
           let has = use_of k n given found.0 positive within spoken s p (is_at_moved _ _ s p (link_of-given given (canonical_link k n) found.0 found.1) at) in
           let is = spoken.there found.0 in
           let used : list_any (is_at s (pos p)) (link_uses k (get_or given spoken.index found.0)) ≡ true = rw is (use_any k found.0 spoken.joined s p has) in
-          whole ∙ or_true (list_any (is_at s (pos p)) (kept_uses k given)) _ (any_group (is_at s (pos p)) (link_uses k) given spoken.index found.0 spoken.within used)
+          whole ∙ or_right (list_any (is_at s (pos p)) (kept_uses k given)) _ (any_group (is_at s (pos p)) (link_uses k) given spoken.index found.0 spoken.within used)
     ]
 
 at_ports-below : (k : ℕ) (link : Link) (entry : LinkEntry) → HasPorts k entry → ((at_ports link entry).lower_port < k) × ((at_ports link entry).upper_port < k)

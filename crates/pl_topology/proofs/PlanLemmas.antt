@@ -1,10 +1,10 @@
 -- What a topology file means is a wiring.
-use Rattle.std.proofs.Common.{◌≡◌, ◌≢◌, ℕ, ℤ, pos, negsuc, ◌%◌, ◌<◌, ◌≤◌, ◌^◌, Bool, true, false, not, ◌&&◌, ◌||◌, ltb, leb, eqb, cond, List, [], ◌∷◌, ◌++◌, get_or, Some, None, option_and_then, Result, Ok, IsTrue, All, AllPairs, subst, refl, sym, ap, ◌∙◌, arith}
+use Rattle.std.proofs.Common.{◌≡◌, ◌≢◌, ℕ, ℤ, pos, negsuc, ◌%◌, ◌<◌, ◌≤◌, ◌^◌, Bool, true, false, not, ◌&&◌, ◌||◌, ltb, leb, eqb, cond, List, [], ◌∷◌, ◌++◌, get_or, Some, None, option_and_then, Result, Ok, IsTrue, All, AllPairs, subst, sym, ap, ◌∙◌, arith}
 use Rattle.std.specs.Prelude.{codes}
 use Rattle.std.specs.Bool.{⊤}
 use Rattle.std.specs.List.{flat_map, list_any}
 use Rattle.std.specs.Str.{bytes_eq}
-use Rattle.std.proofs.lemmas.Bool.{and_parts, eqb-true, false≢true, ltb-true, leb-true}
+use Rattle.std.proofs.lemmas.Bool.{and_parts, eqb-true, false≢true, ltb-true, leb-true, or_parts, not-false}
 use Rattle.std.proofs.lemmas.Bool.Decides.{Decides-eqb}
 use Rattle.std.proofs.lemmas.Slice.Eq.{bytes_eq-Decides}
 use Rattle.toml.specs.Data.{Members, as_integer, get_member}
@@ -36,31 +36,33 @@ use Rattle.pl_wiring.proofs.LabelOrder.{number_of-below}
 use Rattle.pl_topology.proofs.PlacedHosts.{AgreeHosts, few_hosts, hosts_at_edges, hosts_at_free_ports, hosts_ips_apart, hosts_macs_apart, hosts_names_apart, hosts_places_apart, uses_of_links}
 use Rattle.pl_topology.proofs.PlacedIds.{AgreeIds, ids_of-apart, ids_of-in_range, ids_of-length}
 use Rattle.pl_topology.proofs.PlacedLinks.{Agree, links_of-IsFatTree, links_of-order}
-use Rattle.pl_topology.proofs.PortsApart.{groups_apart, groups_free, not_false}
-use Rattle.pl_topology.proofs.Readings.{All-cons, All-none, All-weaker, AllPairs-cons, AllPairs-none, all_beside-All, each-All, none_at, none_of_both}
+use Rattle.pl_topology.proofs.PortsApart.{groups_apart, groups_free}
+use Rattle.pl_topology.proofs.Readings.{All-weaker, AllPairs-none, all_beside-All, each-All, none_at, none_of_both}
 use Rattle.pl_topology.proofs.RefusalLemmas.{bind_ok, or_refused_ok, refused_if_ok}
-use Rattle.pl_wiring.proofs.Choices.{some_if, then_some}
 use Rattle.pl_wiring.proofs.HostAddresses.{ip_of_text-one, mac_of_text-one}
-use Rattle.std.proofs.lemmas.List.Elements.{All-map}
+use Rattle.std.proofs.lemmas.List.Elements.{All-cons, All-map, All-nil}
+use Rattle.std.proofs.lemmas.Option.{cond_some}
+use Rattle.std.proofs.lemmas.List.Kept.{AllPairs-cons}
+use Rattle.pl_lemmas.proofs.Options.{and_then_some}
 
 -- a switch that is named is one of the tree
 switch_named-below : (k : ℕ) (text : List ℕ) (switch : SwitchNo) → switch_named k text ≡ Some switch → switch.0 < switch_count k
 unfolding switch_named
 switch_named-below k text switch named =
-    let (label, read, found) = then_some (λ label. cond (is_label k label) (Some (record { 0 = number_of k label })) None) (label_of_text text) switch named in
-    let (is, same) = some_if (is_label k label) (record { 0 = number_of k label }) switch found in
+    let (label, read, found) = and_then_some (λ label. cond (is_label k label) (Some (record { 0 = number_of k label })) None) (label_of_text text) switch named in
+    let (is, same) = cond_some (is_label k label) (record { 0 = number_of k label }) switch found in
     let low = number_of-below k label ((is_label-Decides k label).0 is) in
     (rw (ap (λ (s : SwitchNo). s.0) same) at low)
 
 switch_at-below : (k : ℕ) (where_ : Key) (found : Members) (switch : SwitchNo) → switch_at k where_ found ≡ Some switch → switch.0 < switch_count k
 switch_at-below k where_ found switch is =
-    let (text, read, named) = then_some (switch_named k) (text_at where_ found) switch is in
+    let (text, read, named) = and_then_some (switch_named k) (text_at where_ found) switch is in
     switch_named-below k text switch named
 
 id_if-range : (z : ℤ) (id : SwitchId) → id_if z ≡ Some id → (1 ≤ id.0) × (id.0 < 2 ^ 48)
 id_if-range (pos n) id is =
     let made : SwitchId = record { 0 = n } in
-    let (range, same) = some_if (leb 1 n && ltb n 281474976710656) made id is in
+    let (range, same) = cond_some (leb 1 n && ltb n 281474976710656) made id is in
     let (low, high) = and_parts (leb 1 n) (ltb n 281474976710656) range in
     let number : n ≡ id.0 = ap (λ (s : SwitchId). s.0) same in
     let above = leb-true 1 n low in
@@ -78,7 +80,7 @@ switch_entry-is k before found entry given =
     let (switch, named, rest) = bind_ok (or_refused (switch_at k key.Label found) (error.BadValue key.Label)) _ entry given in
     let (u, fresh, rest2) = bind_ok (refused_if (list_any (is_of switch) before) (error.BadValue key.Label)) _ entry rest in
     let (id, is, made) = bind_ok (or_refused (option_and_then id_if (integer_at key.Id found)) (error.BadValue key.Id)) _ entry rest2 in
-    let (z, read, number) = then_some id_if (integer_at key.Id found) id (or_refused_ok _ _ id is) in
+    let (z, read, number) = and_then_some id_if (integer_at key.Id found) id (or_refused_ok _ _ id is) in
     let same : id ≡ entry.id = cc in
     let P : SwitchId → Type 0 = λ i. (1 ≤ i.0) × (i.0 < 2 ^ 48) in
     subst P same (id_if-range z id number)
@@ -118,13 +120,13 @@ host_entry-is k found entry given =
     let (port, is_port, rest5) = bind_ok (or_refused (integer_at key.Port found) (error.BadValue key.Port)) _ entry rest4 in
     let (capture, is_capture, made) = bind_ok (or_refused (capture_of (value_at key.Capture found)) (error.BadValue key.Capture)) _ entry rest5 in
     let same = made_host (record { name = name; mac = mac; ip = ip; edge = edge; port = port; capture = capture }) entry made in
-    let (mac_text, mac_there, mac_read) = then_some mac_of_text (text_at key.Mac found) mac (or_refused_ok _ _ mac is_mac) in
-    let (ip_text, ip_there, ip_read) = then_some ip_of_text (text_at key.Ip found) ip (or_refused_ok _ _ ip is_ip) in
-    let (name_text, name_there, name_read) = then_some name_if (text_at key.Name found) name (or_refused_ok _ _ name of_text) in
-    let (name_fit, name_is) = some_if (is_name name_text) name_text name name_read in
+    let (mac_text, mac_there, mac_read) = and_then_some mac_of_text (text_at key.Mac found) mac (or_refused_ok _ _ mac is_mac) in
+    let (ip_text, ip_there, ip_read) = and_then_some ip_of_text (text_at key.Ip found) ip (or_refused_ok _ _ ip is_ip) in
+    let (name_text, name_there, name_read) = and_then_some name_if (text_at key.Name found) name (or_refused_ok _ _ name of_text) in
+    let (name_fit, name_is) = cond_some (is_name name_text) name_text name name_read in
     let N : List ℕ → Type 0 = λ text. IsTrue (is_name text) in
-    let (switch, named, low) = then_some (edge_if k) (switch_at k key.Edge found) edge (or_refused_ok _ _ edge is_edge) in
-    let (below, is) = some_if (ltb switch.0 (edge_count k)) switch edge low in
+    let (switch, named, low) = and_then_some (edge_if k) (switch_at k key.Edge found) edge (or_refused_ok _ _ edge is_edge) in
+    let (below, is) = cond_some (ltb switch.0 (edge_count k)) switch edge low in
     let P : SwitchNo → Type 0 = λ s. s.0 < edge_count k in
     subst (IsHostEntry k) same (record {
       named = subst N name_is name_fit;
@@ -137,19 +139,19 @@ switches_are : (k : ℕ) (document : Members) (entries : List SwitchEntry) → s
 unfolding switch_entries
 switches_are k document entries given =
     let (tables, listed, read) = bind_ok (or_refused (tables_at key.Switch document) (error.BadValue key.Switch)) (λ tables. all_beside (switch_entry k) [] tables) entries given in
-    all_beside-All IsSwitchEntry (switch_entry k) (switch_entry-is k) [] tables entries (All-none IsSwitchEntry) read
+    all_beside-All IsSwitchEntry (switch_entry k) (switch_entry-is k) [] tables entries (All-nil IsSwitchEntry) read
 
 links_are : (k : ℕ) (document : Members) (entries : List LinkEntry) → link_entries k document ≡ Ok entries → All (HasEnds k) entries
 unfolding link_entries
 links_are k document entries given =
     let (tables, listed, read) = bind_ok (or_refused (tables_at key.Link document) (error.BadValue key.Link)) (λ tables. all_beside (link_entry k) [] tables) entries given in
-    all_beside-All (HasEnds k) (link_entry k) (link_entry-is k) [] tables entries (All-none (HasEnds k)) read
+    all_beside-All (HasEnds k) (link_entry k) (link_entry-is k) [] tables entries (All-nil (HasEnds k)) read
 
 hosts_are : (k : ℕ) (document : Members) (entries : List HostEntry) → host_entries k document ≡ Ok entries → All (IsHostEntry k) entries
 unfolding host_entries
 hosts_are k document entries given =
     let (tables, listed, read) = bind_ok (or_refused (tables_at key.Host document) (error.BadValue key.Host)) (λ tables. all_beside (λ _. host_entry k) [] tables) entries given in
-    all_beside-All (IsHostEntry k) (λ _. host_entry k) (λ before t y is. host_entry-is k t y is) [] tables entries (All-none (IsHostEntry k)) read
+    all_beside-All (IsHostEntry k) (λ _. host_entry k) (λ before t y is. host_entry-is k t y is) [] tables entries (All-nil (IsHostEntry k)) read
 
 -- what the entries of a file are
 pub record Are (k : ℕ) (e : Entries) : Type 0 where
@@ -183,7 +185,7 @@ id_differs before entry passed = refused_if_ok (list_any (has_id entry.id) befor
 -- what each passes beside the front, and beside those before it
 pub front_pass : {A : Type 0} (check : List A → A → Result ⊤ TopologyError) (p : A → A → Bool) (step : (before : List A) (x : A) → check before x ≡ Ok tt → list_any (p x) before ≡ false)
     (front xs : List A) → each_beside check front xs ≡ Ok tt → All (λ x. list_any (p x) front ≡ false) xs
-front_pass check p step front [] passed = All-none (λ x. list_any (p x) front ≡ false)
+front_pass check p step front [] passed = All-nil (λ x. list_any (p x) front ≡ false)
 front_pass check p step front (x ∷ xs) passed =
     let (u, first, rest) = bind_ok (check front x) (λ _. each_beside check (front ++ x ∷ []) xs) tt passed in
     let after = front_pass check p step (front ++ x ∷ []) xs rest in
@@ -216,14 +218,10 @@ name_differs : (before : List HostEntry) (host : HostEntry) → name_is_new befo
 unfolding name_is_new
 name_differs before host passed = refused_if_ok (list_any (is_called host.name) before) (error.DoubleHost host.name) tt passed
 
-neither : (a b : Bool) → (a || b) ≡ false → (a ≡ false) × (b ≡ false)
-neither true b none = cc
-neither false b none = (refl, none)
-
 addresses_differ_by : (before : List HostEntry) (host : HostEntry) → addresses_are_new before host ≡ Ok tt → (list_any (has_mac host.mac.0) before ≡ false) × (list_any (has_ip host.ip.0) before ≡ false)
 unfolding addresses_are_new
 addresses_differ_by before host passed =
-    neither (list_any (has_mac host.mac.0) before) (list_any (has_ip host.ip.0) before)
+    or_parts (list_any (has_mac host.mac.0) before) (list_any (has_ip host.ip.0) before)
     (refused_if_ok (list_any (has_mac host.mac.0) before || list_any (has_ip host.ip.0) before) (error.DoubleAddress host.name) tt passed)
 
 texts_differ : (xs ys : List ℕ) → bytes_eq xs ys ≡ false → xs ≢ ys
@@ -259,7 +257,7 @@ agree_hosts k links hosts are names addresses ports =
 
 joined_by : (k : ℕ) (entry : LinkEntry) → joins_the_tree k entry ≡ Ok tt → are_joined k entry.a entry.b ≡ true
 unfolding joins_the_tree
-joined_by k entry passed = not_false (are_joined k entry.a entry.b) (refused_if_ok (not (are_joined k entry.a entry.b)) (error.NotFatTree (label_of k entry.a.0) (label_of k entry.b.0)) tt passed)
+joined_by k entry passed = not-false (are_joined k entry.a entry.b) (refused_if_ok (not (are_joined k entry.a entry.b)) (error.NotFatTree (label_of k entry.a.0) (label_of k entry.b.0)) tt passed)
 
 pub agree_links : (k : ℕ) (links : List LinkEntry) (hosts : List HostEntry) → ports_differ k links hosts ≡ Ok tt → each (joins_the_tree k) links ≡ Ok tt → Agree k links
 agree_links k links hosts ports joined =
@@ -313,7 +311,7 @@ plan_of_entries-IsPlan k e arity agree = record {
 
 arity_if-IsArity : (z : ℤ) (k : ℕ) → arity_if z ≡ Some k → IsArity k
 arity_if-IsArity (pos n) k is =
-    let (test, same) = some_if (leb 4 n && leb n 24 && eqb (n % 2) 0) n k is in
+    let (test, same) = cond_some (leb 4 n && leb n 24 && eqb (n % 2) 0) n k is in
     let (range, even) = and_parts (leb 4 n && leb n 24) (eqb (n % 2) 0) test in
     let (low, high) = and_parts (leb 4 n) (leb n 24) range in
     let whole : IsArity n = record { even = eqb-true (n % 2) 0 even; least = leb-true 4 n low; most = leb-true n 24 high } in
@@ -322,5 +320,5 @@ arity_if-IsArity (negsuc n) k is = cc
 
 pub arity_of-IsArity : (document : Members) (k : ℕ) → arity_of document ≡ Some k → IsArity k
 arity_of-IsArity document k is =
-    let (z, read, found) = then_some arity_if (option_and_then as_integer (get_member (codes "k") document)) k is in
+    let (z, read, found) = and_then_some arity_if (option_and_then as_integer (get_member (codes "k") document)) k is in
     arity_if-IsArity z k found

@@ -1,6 +1,10 @@
 -- Ports that passed their check are there and apart.
-use Rattle.std.proofs.Common.{◌≡◌, ℕ, Bool, true, false, not, ◌&&◌, List, [], ◌∷◌, ◌++◌, get_or, Ok, All, AllPairs, refl, sym, ◌∙◌}
+use Rattle.std.proofs.Common.{◌≡◌, ℕ, true, false, not, ◌&&◌, List, [], ◌∷◌, ◌++◌, get_or, Ok, All, AllPairs, sym, ◌∙◌}
 use Rattle.std.specs.List.{flat_map, list_any}
+use Rattle.std.proofs.lemmas.Bool.{not-false}
+use Rattle.std.proofs.lemmas.List.Elements.{All-cons, All-nil}
+use Rattle.std.proofs.lemmas.List.Kept.{AllPairs-cons}
+use Rattle.pl_lemmas.proofs.Bools.{second_false}
 use Rattle.pl_topology.specs.declared.error.TopologyError.{TopologyError}
 use Rattle.pl_topology.specs.declared.error.TopologyError.TheVariants as error
 use Rattle.pl_topology.specs.declared.entries.PortUse.{PortUse}
@@ -8,20 +12,12 @@ use Rattle.pl_topology.specs.Checks.{is_at, is_port, port_is_free}
 use Rattle.pl_wiring.specs.Labels.{label_of}
 use Rattle.pl_topology.specs.Refusal.{each_beside, refused_if}
 use Rattle.pl_topology.proofs.RefusalLemmas.{bind_ok, each_beside-append, refused_if_ok}
-use Rattle.pl_topology.proofs.Readings.{All-cons, All-groups, All-none, All-weaker, AllPairs-cons, AllPairs-none, none_of_both}
+use Rattle.pl_topology.proofs.Readings.{All-groups, All-weaker, AllPairs-none, none_of_both}
 
 -- the port is there, and nothing of these has it
 pub record IsFree (k : ℕ) (before : List PortUse) (taken : PortUse) : Type 0 where
   pub there : is_port k taken.port ≡ true
   pub free : taken.counts ≡ true → list_any (is_at taken.switch.0 taken.port) before ≡ false
-
-pub not_false : (b : Bool) → not b ≡ false → b ≡ true
-not_false true h = refl
-not_false false h = cc
-
-and_free : (a b : Bool) → (a && b) ≡ false → a ≡ true → b ≡ false
-and_free true b none here = none
-and_free false b none here = cc
 
 IsFree-passed : (k : ℕ) (before : List PortUse) (taken : PortUse) → port_is_free k before taken ≡ Ok tt → IsFree k before taken
 unfolding port_is_free
@@ -29,8 +25,8 @@ IsFree-passed k before taken passed =
     let e : TopologyError = error.BadPort (label_of k taken.switch.0) taken.port in
     let (u, there, rest) = bind_ok (refused_if (not (is_port k taken.port)) e) (λ _. refused_if (taken.counts && list_any (is_at taken.switch.0 taken.port) before) e) tt passed in
     record {
-      there = not_false (is_port k taken.port) (refused_if_ok (not (is_port k taken.port)) e u there);
-      free = and_free taken.counts (list_any (is_at taken.switch.0 taken.port) before) (refused_if_ok (taken.counts && list_any (is_at taken.switch.0 taken.port) before) e tt rest);
+      there = not-false (is_port k taken.port) (refused_if_ok (not (is_port k taken.port)) e u there);
+      free = second_false taken.counts (list_any (is_at taken.switch.0 taken.port) before) (refused_if_ok (taken.counts && list_any (is_at taken.switch.0 taken.port) before) e tt rest);
     }
 
 IsFree-front : (k : ℕ) (before more : List PortUse) (taken : PortUse) → IsFree k (before ++ more) taken → IsFree k before taken
@@ -47,7 +43,7 @@ IsFree-back k before more taken free = record {
 
 -- all that passed are free of what was before
 pub all_free : (k : ℕ) (before uses : List PortUse) → each_beside (port_is_free k) before uses ≡ Ok tt → All (IsFree k before) uses
-all_free k before [] passed = All-none (IsFree k before)
+all_free k before [] passed = All-nil (IsFree k before)
 all_free k before (taken ∷ uses) passed =
     let (u, first, rest) = bind_ok (port_is_free k before taken) (λ _. each_beside (port_is_free k) (before ++ taken ∷ []) uses) tt passed in
     All-cons (IsFree k before) taken uses (IsFree-passed k before taken first)

@@ -1,10 +1,10 @@
 -- What holds of all that was read, and of all that was checked.
-use Rattle.std.proofs.Common.{◌≡◌, ℕ, zero, suc, ◌<◌, Bool, true, false, ◌||◌, List, [], ◌∷◌, ◌++◌, length, get_or, map, Result, Ok, All, AllPairs, refl, sym, ◌∙◌, arith}
+use Rattle.std.proofs.Common.{◌≡◌, ℕ, ◌<◌, Bool, false, List, [], ◌∷◌, ◌++◌, length, get_or, map, Result, Ok, All, AllPairs, sym, ◌∙◌, arith}
 use Rattle.std.specs.Bool.{⊤}
 use Rattle.std.specs.List.{flat_map, list_any}
-use Rattle.std.proofs.lemmas.Bool.{false≢true, false_from_ne_true}
+use Rattle.std.proofs.lemmas.Bool.{false≢true, false_from_ne_true, or_parts}
 use Rattle.std.proofs.lemmas.List.{get_or-map, length-map}
-use Rattle.std.proofs.lemmas.List.Elements.{All-push}
+use Rattle.std.proofs.lemmas.List.Elements.{All-cons, All-head, All-nil, All-push, All-tail}
 use Rattle.std.proofs.lemmas.List.Folds.{list_any-append, list_any_at}
 use Rattle.std.proofs.lemmas.List.Quantifiers.{all_pairs_push}
 use Rattle.toml.specs.Data.{Members}
@@ -16,30 +16,12 @@ use Rattle.pl_topology.proofs.RefusalLemmas.{bind_ok}
 pub none_at : {A : Type 0} (p : A → Bool) (xs : List A) → list_any p xs ≡ false → (i : ℕ) (d : A) → i < length xs → p (get_or xs i d) ≡ false
 none_at p xs none i d within = false_from_ne_true (p (get_or xs i d)) (λ passes. false≢true (sym none ∙ list_any_at p xs i d within passes))
 
-or_parts : (a b : Bool) → (a || b) ≡ false → (a ≡ false) × (b ≡ false)
-or_parts true b none = cc
-or_parts false b none = (refl, none)
-
 -- what none of two lists passes
 pub none_of_both : {A : Type 0} (p : A → Bool) (xs ys : List A) → list_any p (xs ++ ys) ≡ false → (list_any p xs ≡ false) × (list_any p ys ≡ false)
 none_of_both p xs ys none = or_parts (list_any p xs) (list_any p ys) (sym (list_any-append p xs ys) ∙ none)
 
-pub All-none : {A : Type 0} (P : A → Type 0) → All P []
-All-none P i d within = absurd (omega arith)
-
 pub AllPairs-none : {A : Type 0} (R : A → A → Type 0) → AllPairs R []
 AllPairs-none R i j d less within = absurd (omega arith)
-
--- what holds of the first and of the rest
-pub All-cons : {A : Type 0} (P : A → Type 0) (x : A) (xs : List A) → P x → All P xs → All P (x ∷ xs)
-All-cons P x xs first rest zero d within = first
-All-cons P x xs first rest (suc i) d within = rest i d (omega arith)
-
-pub AllPairs-cons : {A : Type 0} (R : A → A → Type 0) (x : A) (xs : List A) → All (R x) xs → AllPairs R xs → AllPairs R (x ∷ xs)
-AllPairs-cons R x xs first rest zero zero d less within = absurd (omega arith)
-AllPairs-cons R x xs first rest zero (suc j) d less within = first j d (omega arith)
-AllPairs-cons R x xs first rest (suc i) zero d less within = absurd (omega arith)
-AllPairs-cons R x xs first rest (suc i) (suc j) d less within = rest i j d (omega arith) (omega arith)
 
 -- pairs of images
 pub AllPairs-map : {A B : Type 0} (R : B → B → Type 0) (f : A → B) (d : A) (xs : List A) → AllPairs (λ x y. R (f x) (f y)) xs → AllPairs R (map f xs)
@@ -70,29 +52,23 @@ all_beside-AllPairs R read step before (t ∷ tables) ys all given =
 
 -- each item that passed has what its check says
 pub each-All : {A : Type 0} (P : A → Type 0) (check : A → Result ⊤ TopologyError) (step : (x : A) → check x ≡ Ok tt → P x) (xs : List A) → each check xs ≡ Ok tt → All P xs
-each-All P check step [] passed = All-none P
+each-All P check step [] passed = All-nil P
 each-All P check step (x ∷ xs) passed =
     let (u, first, rest) = bind_ok (check x) (λ _. each check xs) tt passed in
     All-cons P x xs (step x first) (each-All P check step xs rest)
-
-pub All-tail : {A : Type 0} (P : A → Type 0) (x : A) (xs : List A) → All P (x ∷ xs) → All P xs
-All-tail P x xs all i d within = all (suc i) d (omega arith)
-
-pub All-head : {A : Type 0} (P : A → Type 0) (x : A) (xs : List A) → All P (x ∷ xs) → P x
-All-head P x xs all = all 0 x (omega arith)
 
 pub All-weaker : {A : Type 0} (P Q : A → Type 0) (xs : List A) → ((x : A) → P x → Q x) → All P xs → All Q xs
 All-weaker P Q xs weaker all i d within = weaker (get_or xs i d) (all i d within)
 
 pub All-split : {A : Type 0} (P : A → Type 0) (xs ys : List A) → All P (xs ++ ys) → All P xs × All P ys
-All-split P [] ys all = (All-none P, all)
+All-split P [] ys all = (All-nil P, all)
 All-split P (x ∷ xs) ys all =
     let parts = All-split P xs ys (All-tail P x (xs ++ ys) all) in
     (All-cons P x xs (All-head P x (xs ++ ys) all) parts.0, parts.1)
 
 -- what holds of all in all groups holds of each in each group
 pub All-groups : {A B : Type 0} (P : B → Type 0) (items : A → List B) (xs : List A) → All P (flat_map items xs) → All (λ x. All P (items x)) xs
-All-groups P items [] all = All-none (λ x. All P (items x))
+All-groups P items [] all = All-nil (λ x. All P (items x))
 All-groups P items (x ∷ xs) all =
     let parts = All-split P (items x) (flat_map items xs) all in
     All-cons (λ x. All P (items x)) x xs parts.0 (All-groups P items xs parts.1)

@@ -1,5 +1,5 @@
 -- Each step of the control plane keeps it that what is told and ordered is so.
-use Rattle.std.proofs.Common.{◌≡◌, ℕ, ◌+◌, ◌<◌, ◌==◌, ◌||◌, Bool, true, false, cond, if◌then◌else◌, List, [], ◌∷◌, ◌++◌, map, Option, None, Some, get_or, length, slice_get, is_none, is_some, unwrap_or, refl, sym, ap, ◌∙◌, subst, inl, inr, true≢false}
+use Rattle.std.proofs.Common.{◌≡◌, ℕ, ◌+◌, ◌<◌, ◌==◌, Bool, true, false, cond, if◌then◌else◌, List, [], ◌∷◌, ◌++◌, map, Option, None, Some, get_or, length, slice_get, unwrap_or, refl, sym, ap, ◌∙◌, subst, inl, inr, true≢false}
 use Rattle.std.specs.List.{AllByRecursion, flat_map, position}
 use Rattle.std.specs.Ordering.{match_ordering, nat_cmp}
 use Rattle.std.specs.declared.cmp.Ordering.{Ordering}
@@ -10,6 +10,7 @@ use Rattle.std.proofs.lemmas.Bool.{cases_Bool, cases_eq, cond-false, cond-true, 
 use Rattle.std.proofs.lemmas.List.Quantifiers.{position-Some}
 use Rattle.std.proofs.lemmas.Option.{slice_get-get_or}
 use Rattle.std.proofs.lemmas.Map.Lookups.{CmpEqualImpliesEq, exact_unsigned}
+use Rattle.pl_lemmas.proofs.Lists.{all_append, all_behind, all_weaker}
 use Rattle.pl_frame.specs.declared.address.SwitchId.{SwitchId}
 use Rattle.pl_frame.specs.declared.address.Ip4.{Ip4}
 use Rattle.pl_frame.specs.declared.address.Mac.{Mac}
@@ -20,6 +21,7 @@ use Rattle.pl_wiring.proofs.LabelOrder.{label_of-edge}
 use Rattle.pl_layouts.specs.declared.place.Place.{Place}
 use Rattle.pl_layouts.specs.Control.{is_control}
 use Rattle.pl_layouts.specs.Equality.{same_switch}
+use Rattle.pl_layouts.proofs.Sameness.{switch_itself}
 use Rattle.pl_logic.specs.declared.acts.ManagerAct.{ManagerAct}
 use Rattle.pl_logic.specs.declared.acts.ManagerAct.TheVariants.{Number, Say}
 use Rattle.pl_logic.specs.declared.messages.ToManager.{ToManager}
@@ -27,8 +29,6 @@ use Rattle.pl_logic.specs.declared.messages.ToManager.TheVariants as tell
 use Rattle.pl_logic.specs.declared.messages.ToSwitch.{ToSwitch}
 use Rattle.pl_logic.specs.declared.messages.ToSwitch.TheVariants as say
 use Rattle.pl_logic.specs.declared.messages.TreePart.{TreePart}
-use Rattle.pl_logic.specs.declared.neighbour.Neighbour.{Neighbour}
-use Rattle.pl_logic.specs.declared.neighbour.PortRecord.{PortRecord}
 use Rattle.pl_logic.specs.declared.switch_records.Member.{Member}
 use Rattle.pl_logic.specs.AvoidLists.{avoid_list}
 use Rattle.pl_logic.specs.ManagerFacts.{groups}
@@ -37,12 +37,12 @@ use Rattle.pl_logic.specs.PortRecords.{id_at, is_open_to_hosts, port_of}
 use Rattle.pl_logic.specs.SwitchInputs.{SwitchInput}
 use Rattle.pl_logic.specs.SwitchInputs.SwitchInput.{Comes, Says, Tick}
 use Rattle.pl_logic.specs.SwitchViews.{SwitchView}
+use Rattle.pl_logic.proofs.Ports.{closed_by}
 use Rattle.pl_steps.specs.Steps.{SwitchStep}
 use Rattle.pl_manager_rule.specs.Histories.{link_said}
 use Rattle.pl_manager_rule.specs.ManagerRule.{acts_of, answer_to, avoid_acts, changed, changed_of_group, invalidation, learning, manager_hears, manager_rule, part_in, reply, tree_acts, tree_acts_of, view_after}
 use Rattle.pl_manager_rule.proofs.Avoided.{id_exact, same_is}
 use Rattle.pl_manager_rule.proofs.Kept.{link_exact, members_exact}
-use Rattle.pl_manager_rule.proofs.Speakers.{same_itself}
 use Rattle.pl_switch_rule.specs.Intake.{comes_from_host, has_member_of}
 use Rattle.pl_switch_rule.specs.Forwarding.{Choice}
 use Rattle.pl_switch_rule.specs.Messages.{hears_manager}
@@ -63,14 +63,6 @@ use Rattle.pl_trees.proofs.Telling.{AreTrue, IsSaid, control_true, hears_true, o
 use Rattle.pl_journal.specs.Flights.{label_level, level_of}
 
 -- Lists.
-
-all_append : {T : Type 0} (P : T → Type 0) (xs ys : List T) → AllByRecursion P xs → AllByRecursion P ys → AllByRecursion P (xs ++ ys)
-all_append P [] ys a b = b
-all_append P (x ∷ xs) ys a b = (a.0, all_append P xs ys a.1 b)
-
-all_behind : {T : Type 0} (P : T → Type 0) (xs ys : List T) → AllByRecursion P (xs ++ ys) → AllByRecursion P ys
-all_behind P [] ys all = all
-all_behind P (x ∷ xs) ys all = all_behind P xs ys all.1
 
 all_left : {T : Type 0} (P : T → Type 0) (before after : List T) → LeftOver before after → AllByRecursion P before → AllByRecursion P after
 all_left P before after left all = all_behind P left.gone after (subst (AllByRecursion P) left.split all)
@@ -94,10 +86,6 @@ all_removed P test (e ∷ es) all = by_test (test e.0) (all_removed P test es al
     by_test true rest = all.1
     by_test false rest = (all.0, rest)
 
-all_later : {T : Type 0} (P Q : T → Type 0) → ((x : T) → P x → Q x) → (xs : List T) → AllByRecursion P xs → AllByRecursion Q xs
-all_later P Q later [] all = tt
-all_later P Q later (x ∷ xs) all = (later x all.0, all_later P Q later xs all.1)
-
 -- what was told stays so where more is known of places
 report_later : (plan : Plan) (s : ℕ) (old new : Place) → IsTrueOf old new → (told : ToManager) → IsTrueReport plan s old told → IsTrueReport plan s new told
 report_later plan s old new later (tell.Place place) so = true_later place old new so later
@@ -109,16 +97,16 @@ report_later plan s old new later (tell.Members group any) so = so
 
 reports_later : (plan : Plan) (s : ℕ) (old new : Place) → IsTrueOf old new → (words : List ToManager) → AllByRecursion (IsTrueReport plan s old) words →
     AllByRecursion (IsTrueReport plan s new) words
-reports_later plan s old new later words all = all_later (IsTrueReport plan s old) (IsTrueReport plan s new) (report_later plan s old new later) words all
+reports_later plan s old new later words all = all_weaker (IsTrueReport plan s old) (IsTrueReport plan s new) (report_later plan s old new later) words all
 
 places_later : (plan : Plan) (old new : ℕ → SwitchView) → ((t : ℕ) → IsTrueOf (old t).place (new t).place) → (entries : List (SwitchId × Place)) →
     AllByRecursion (IsTruePlace plan old) entries → AllByRecursion (IsTruePlace plan new) entries
-places_later plan old new later entries all = all_later (IsTruePlace plan old) (IsTruePlace plan new)
+places_later plan old new later entries all = all_weaker (IsTruePlace plan old) (IsTruePlace plan new)
     (λ entry so t named. true_later entry.1 (old t).place (new t).place (so t named) (later t)) entries all
 
 levels_of : (plan : Plan) (view : ℕ → SwitchView) → ((t : ℕ) → IsLevel (level_of plan.k t) (view t).place) → (entries : List (SwitchId × Place)) →
     AllByRecursion (IsTruePlace plan view) entries → AllByRecursion (HasLevel plan) entries
-levels_of plan view level entries all = all_later (IsTruePlace plan view) (HasLevel plan) (λ entry so t named x is. level t x ((so t named).level x is)) entries all
+levels_of plan view level entries all = all_weaker (IsTruePlace plan view) (HasLevel plan) (λ entry so t named x is. level t x ((so t named).level x is)) entries all
 
 -- Links are told to neighbours alone.
 
@@ -144,7 +132,7 @@ module _ (plan : Plan) (s : ℕ) where
   near_words (tell.Link x usable ∷ words) quiet = (
     elim (cases_Bool (is_neighbour plan s x)) [
       | inl near ↦ near
-      | inr stranger ↦ absurd (not_said x usable x words (same_itself x) stranger quiet)
+      | inr stranger ↦ absurd (not_said x usable x words (switch_itself x) stranger quiet)
     ],
     near_words words (λ u stranger before. elim (cases_Bool (same_switch x u)) [
       | inl here ↦ absurd (not_said u usable x words here stranger quiet)
@@ -389,13 +377,6 @@ module _ (plan : Plan) (f : ControlPlane) (placed : ArePlaced plan f) where
       by_members : (members : List Member) → AllByRecursion (λ m. (port_of (f.view s) m.port).host ≡ true) members → has_member_of members group ≡ true → level_of plan.k s ≡ 0
       by_members [] all any = absurd (false≢true any)
       by_members (m ∷ members) all any = sym (level_is s 0 ((placed.sound s there).full.host m.port all.0))
-
-closed_by : (r : PortRecord) → r.host ≡ false → is_some r.heard ≡ true → is_open_to_hosts r ≡ false
-closed_by r no_host heard = ap (λ b. b || is_none r.heard) no_host ∙ by_option r.heard heard
-  where
-    by_option : (o : Option Neighbour) → is_some o ≡ true → is_none o ≡ false
-    by_option None is = absurd (false≢true is)
-    by_option (Some n) is = refl
 
 -- A step of the control plane.
 

@@ -3,6 +3,7 @@ use Rattle.std.proofs.Common.{◌≡◌, ℕ, zero, suc, ◌==◌, ◌<◌, true
 use Rattle.std.specs.List.{AllByRecursion}
 use Rattle.std.proofs.lemmas.Bool.{false≢true}
 use Rattle.std.proofs.lemmas.Option.{get_or_from_slice_get, slice_get_within}
+use Rattle.pl_lemmas.proofs.Lists.{replicated}
 use Rattle.pl_frame.specs.declared.address.SwitchId.{SwitchId}
 use Rattle.pl_wiring.specs.declared.label.SwitchNo.{SwitchNo}
 use Rattle.pl_wiring.specs.declared.link.Peer.{Peer}
@@ -40,7 +41,6 @@ use Rattle.pl_kept.proofs.Grounding.{grounded}
 use Rattle.pl_kept.proofs.Keeping.{run_keeps_all}
 use Rattle.pl_records.specs.Records.{is_neighbour}
 use Rattle.pl_records.proofs.LinkRuns.{names_neighbours}
-use Rattle.pl_records.proofs.Running.{replicated}
 use Rattle.pl_records.proofs.Strangers.{neighbour_is}
 use Rattle.pl_copies.specs.Copies.{ComesOnce}
 use Rattle.pl_copies.specs.Standing.{KnowTrees, KnowsTree}

@@ -1,50 +1,26 @@
 -- At the beginning the votes are in order: nothing is held, granted or said.
-use Rattle.std.proofs.Common.{◌≡◌, ℕ, zero, suc, ◌*◌, ◌/◌, ◌==◌, nat_lt, Bool, true, false, true≢false, if◌then◌else◌, List, [], ◌∷◌, map, replicate, get_or, Some, None, refl, sym, ◌∙◌, ap, subst}
+use Rattle.std.proofs.Common.{◌≡◌, ℕ, zero, suc, ◌*◌, ◌==◌, true≢false, List, [], ◌∷◌, map, replicate, get_or, Some, None, refl, sym, ◌∙◌, ap, subst}
 use Rattle.std.specs.List.{AllByRecursion, list_any}
 use Rattle.pl_frame.specs.declared.address.SwitchId.{SwitchId}
-use Rattle.pl_wiring.specs.Index.{port_index}
 use Rattle.pl_wiring.specs.Labels.{switch_count}
 use Rattle.pl_wiring.specs.Plan.{Plan}
 use Rattle.pl_logic.specs.declared.switch_records.Hold.{Hold}
 use Rattle.pl_logic.specs.SwitchFacts.{hold_at, switch_at_boot}
 use Rattle.pl_logic.specs.SwitchViews.{SwitchView}
+use Rattle.pl_logic.proofs.Booted.{unheld}
 use Rattle.pl_world.specs.declared.limits.Limits.{Limits}
 use Rattle.pl_world.specs.Booting.{booted}
 use Rattle.pl_control_plane.specs.ControlPlanes.{control_plane, no_switch, queue_out, said}
+use Rattle.pl_control_plane.proofs.PlaneQueues.{booted_view, nothing_said}
 use Rattle.pl_votes.specs.Counting.{AreRising, LeadsUp}
 use Rattle.pl_votes.specs.Pairs.{IsGoodPair, voter_of}
 use Rattle.pl_votes.specs.Voting.{AreVoting, aggregation_no, edge_no}
 use Rattle.pl_votes.proofs.Hearing.{AreOf}
 
-replicated : {X : Type 0} (n i : ℕ) (x : X) → get_or (replicate n x) i x ≡ x
-replicated zero i x = refl
-replicated (suc n) zero x = refl
-replicated (suc n) (suc i) x = replicated n i x
-
--- each switch is one at its beginning
-booted_view : (P : SwitchView → Type 0) → ((id : SwitchId) (k : ℕ) → P (switch_at_boot id k)) → (k : ℕ) (ids : List SwitchId) (s : ℕ) →
-    P (get_or (map (λ id. switch_at_boot id k) ids) s no_switch)
-booted_view P all k [] s = all (record { 0 = 0 }) 0
-booted_view P all k (id ∷ ids) zero = all id k
-booted_view P all k (id ∷ ids) (suc s) = booted_view P all k ids s
-
 booted_id : (k : ℕ) (ids : List SwitchId) (s : ℕ) → (get_or (map (λ id. switch_at_boot id k) ids) s no_switch).id ≡ get_or ids s (record { 0 = 0 })
 booted_id k [] s = refl
 booted_id k (id ∷ ids) zero = refl
 booted_id k (id ∷ ids) (suc s) = booted_id k ids s
-
-nothing_said : (k n s port : ℕ) → said (queue_out k (replicate n []) s port) ≡ []
-nothing_said k n s port = by (nat_lt port k)
-  where
-    by : (b : Bool) → said (if b then get_or (replicate n []) (port_index k s port) [] else []) ≡ []
-    by true = ap said (replicated n (port_index k s port) [])
-    by false = refl
-
-nothing_held : (id : SwitchId) (k q : ℕ) → hold_at (switch_at_boot id k) q ≡ None
-nothing_held id k q = replicated (k / 2) q None
-
-unheld : (id : SwitchId) (k q : ℕ) (hold : Hold) → hold_at (switch_at_boot id k) q ≡ Some hold → ⊥
-unheld id k q hold is = let none = nothing_held id k q in absurd (cc (none, is))
 
 pair_at_first : (v w : SwitchView) (p : ℕ) → v.place.position ≡ None → v.granted ≡ [] → ((q : ℕ) (hold : Hold) → hold_at w q ≡ Some hold → ⊥) →
     IsGoodPair (voter_of v p) (hold_at w) [] []

@@ -3,6 +3,8 @@ use Rattle.std.proofs.Common.{◌≡◌, ℕ, ◌+◌, ◌*◌, ◌%◌, ◌<◌
 use Rattle.std.specs.List.{AllByRecursion, list_any}
 use Rattle.std.specs.BTreeSet.{insert_key}
 use Rattle.std.proofs.lemmas.Bool.{and_parts}
+use Rattle.pl_lemmas.proofs.Options.{is_none_is}
+use Rattle.pl_lemmas.proofs.Lists.{all_push}
 use Rattle.pl_frame.specs.declared.address.SwitchId.{SwitchId}
 use Rattle.pl_wiring.specs.Plan.{Plan}
 use Rattle.pl_layouts.specs.declared.control.Control.{Control}
@@ -18,7 +20,7 @@ use Rattle.pl_votes.specs.Counting.{AreRising, IsCounting, LeadsUp}
 use Rattle.pl_votes.specs.Pairs.{IsGoodPair, IsRising, IsNoProposal, IsNotBefore, Voter, voter_of}
 use Rattle.pl_votes.proofs.Aside.{Stance, stance}
 use Rattle.pl_votes.proofs.Granted.{all_with, has_new, has_old, rising_with}
-use Rattle.pl_votes.proofs.PairMoves.{all_push, announces, answer_gone, counts_here, fixes, moves_on as pair_moves_on, proposes, pushed}
+use Rattle.pl_votes.proofs.PairMoves.{announces, answer_gone, counts_here, fixes, moves_on as pair_moves_on, proposes, pushed}
 use Rattle.pl_votes.proofs.Speeches.{SaysPlace, SaysProposal, TickSays}
 
 -- Sending.
@@ -81,10 +83,6 @@ same_counting plan pod s v w same counting = let ports = ap (λ (x : Stance). x.
 }
 
 -- Counting votes.
-
-is_none_is : (o : Option ℕ) → is_none o ≡ true → o ≡ None
-is_none_is None h = refl
-is_none_is (Some x) h = absurd (cc)
 
 -- what a vote that counts says of the switch
 counts_says : (v : SwitchView) (vote : Answer) → counts v.place v.attempt v.proposed vote ≡ true → (v.place.position ≡ None) × (vote.attempt ≡ v.attempt)

@@ -4,14 +4,11 @@ use Rattle.std.specs.List.{AllByRecursion, list_any}
 use Rattle.std.specs.BTreeSet.{insert_key}
 use Rattle.std.specs.Ordering.{match_ordering}
 use Rattle.std.proofs.lemmas.Cmp.{ranked}
+use Rattle.std.proofs.lemmas.Bool.{or_right}
 use Rattle.pl_votes.specs.Counting.{AreRising}
 
 itself : (p : ℕ) (b : Bool) → ((p == p) || b) ≡ true
 itself p b = ap (λ t. t || b) (eq-eqb p p refl)
-
-later : (t b : Bool) → b ≡ true → (t || b) ≡ true
-later true b is = refl
-later false b is = is
 
 pub has_new : (port : ℕ) (xs : List ℕ) → list_any (λ r. r == port) (insert_key nat_cmp xs port) ≡ true
 has_new port [] = itself port false
@@ -23,7 +20,7 @@ has_new port (x ∷ xs) = by (nat_cmp port x) refl (has_new port xs)
     by Equal is rest =
         let same = ranked port x Equal is in
         ap (λ t. t || list_any (λ r. r == port) xs) (eq-eqb x port (sym same))
-    by Greater is rest = later (x == port) (list_any (λ r. r == port) (insert_key nat_cmp xs port)) rest
+    by Greater is rest = or_right (x == port) (list_any (λ r. r == port) (insert_key nat_cmp xs port)) rest
 
 pub has_old : (port p : ℕ) → (port ≡ p → ⊥) → (xs : List ℕ) → list_any (λ r. r == p) (insert_key nat_cmp xs port) ≡ list_any (λ r. r == p) xs
 has_old port p differ [] = ap (λ t. t || false) (ne_eqb port p differ)

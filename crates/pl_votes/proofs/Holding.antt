@@ -9,6 +9,7 @@ use Rattle.pl_logic.specs.declared.switch_records.Hold.{Hold}
 use Rattle.pl_logic.specs.SwitchFacts.{hold_at}
 use Rattle.pl_logic.specs.SwitchViews.{SwitchView}
 use Rattle.pl_switch_rule.specs.Positions.{frees_others, freed_but, half, holds_for, is_free_for, is_held_for, kept_or_new, marked_for, marks, notes_position, vote_on}
+use Rattle.pl_switch_rule.proofs.Lengths.{length_freed}
 use Rattle.pl_votes.specs.Pairs.{Voter}
 use Rattle.pl_votes.proofs.PairMoves.{IsKept, IsKeptAt, IsKeptHold, IsMarked}
 
@@ -32,10 +33,6 @@ freed_is v edge position q =
     let same : 0 + q ≡ q = omega arith in
     freed_at position edge 0 v.holds q
     ∙ ap (λ x. cond (is_held_for edge (hold_at v q) && not (x == position)) None (hold_at v q)) same
-
-length_freed : (position : ℕ) (edge : SwitchId) (n : ℕ) (holds : List (Option Hold)) → length (freed_but position edge n holds) ≡ length holds
-length_freed position edge n [] = refl
-length_freed position edge n (hold ∷ holds) = ap suc (length_freed position edge (n + 1) holds)
 
 -- a relation of what is held before and after, where one position is written
 written : (R : ℕ → Option Hold → Option Hold → Type 0) (holds : List (Option Hold)) (p : ℕ) (x : Option Hold) →

@@ -5,6 +5,7 @@ use Rattle.std.specs.Prelude.{Contains}
 use Rattle.std.proofs.lemmas.Cmp.{nat_eq_equiv}
 use Rattle.std.proofs.lemmas.Map.Made.{length-le_from_is_member}
 use Rattle.std.proofs.lemmas.Bool.{cases_eq}
+use Rattle.pl_lemmas.proofs.Lists.{all_weaker}
 use Rattle.pl_frame.specs.declared.address.SwitchId.{SwitchId}
 use Rattle.pl_wiring.specs.declared.label.Label.TheVariants.{Aggregation}
 use Rattle.pl_wiring.specs.declared.label.SwitchNo.{SwitchNo}
@@ -21,7 +22,6 @@ use Rattle.pl_logic.specs.SwitchFacts.{has_granted, hold_at}
 use Rattle.pl_logic.specs.SwitchViews.{SwitchView}
 use Rattle.pl_switch_rule.specs.Positions.{half, is_held_for}
 use Rattle.pl_votes.specs.Counting.{AreRising, IsCounting, IsHeldByMost, LeadsUp, holders}
-use Rattle.pl_votes.proofs.PairMoves.{all_weaker}
 
 -- Two ports that lead to one switch are one.
 

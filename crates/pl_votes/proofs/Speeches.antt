@@ -1,7 +1,8 @@
 -- What a switch says out of a port in a step.
-use Rattle.std.proofs.Common.{◌≡◌, ℕ, zero, suc, ◌+◌, ◌<◌, ◌==◌, ◌&&◌, not, Bool, true, false, if◌then◌else◌, cond, List, [], ◌∷◌, ◌++◌, map, filter, get_or, Option, Some, None, is_none, refl, sym, ◌∙◌, ap, subst, arith, inl, inr, ◌⊎◌, append_assoc, append-nil, eqb-true, ne_eqb}
+use Rattle.std.proofs.Common.{◌≡◌, ℕ, zero, suc, ◌+◌, ◌<◌, ◌==◌, ◌&&◌, not, Bool, true, false, if◌then◌else◌, cond, List, [], ◌∷◌, ◌++◌, map, filter, Some, None, is_none, refl, sym, ◌∙◌, ap, subst, arith, inl, inr, ◌⊎◌, append_assoc, append-nil, eqb-true, ne_eqb}
 use Rattle.std.specs.List.{range_with_len}
 use Rattle.std.proofs.lemmas.Bool.{and_parts}
+use Rattle.pl_lemmas.proofs.Options.{is_none_is}
 use Rattle.pl_frame.specs.declared.address.SwitchId.{SwitchId}
 use Rattle.pl_layouts.specs.declared.control.Control.{Control}
 use Rattle.pl_layouts.specs.declared.control.Control.TheVariants.{Ldm, Proposal}
@@ -11,11 +12,11 @@ use Rattle.pl_layouts.specs.Placement.{is_known}
 use Rattle.pl_ldp.specs.Writable.{IsId, IsWritable}
 use Rattle.pl_logic.specs.declared.acts.Act.{Act}
 use Rattle.pl_logic.specs.declared.acts.Act.TheVariants as act
-use Rattle.pl_logic.specs.declared.neighbour.PortRecord.{PortRecord}
 use Rattle.pl_logic.specs.Announcements.{announcement, direction_of}
-use Rattle.pl_logic.specs.PortRecords.{aged, heard_id, id_at, is_usable_to, new_port, place_at, ports_where}
+use Rattle.pl_logic.specs.PortRecords.{heard_id, id_at, is_usable_to, ports_where}
 use Rattle.pl_logic.specs.SwitchFacts.{has_granted}
 use Rattle.pl_logic.specs.SwitchViews.{SwitchView}
+use Rattle.pl_logic.proofs.Ports.{direction_low, heard_aged}
 use Rattle.pl_switch_rule.specs.Announcing.{announcements, announces_at, proposal, proposes_at, ticks, with_aged_ports}
 use Rattle.pl_switch_rule.specs.Telling.{changes_told}
 use Rattle.pl_control_plane.specs.ControlPlanes.{message_in, messages_of, sends, sent_by}
@@ -86,21 +87,6 @@ says_written c w = ap messages_of (written_is_read c w)
 
 -- Ticks.
 
-heard_aged : (ports : List PortRecord) (n : ℕ) → (get_or (map aged ports) n new_port).heard ≡ (get_or ports n new_port).heard
-heard_aged [] n = refl
-heard_aged (r ∷ ports) zero = refl
-heard_aged (r ∷ ports) (suc n) = heard_aged ports n
-
-low_direction : (v : SwitchView) (port : ℕ) → direction_of v port < 3
-low_direction v port = by (is_known v.place.level 0) (is_known v.place.level 2) (is_known v.place.level 1 && is_known (place_at v port).level 2) (is_known v.place.level 1 && is_known (place_at v port).level 0)
-  where
-    by : (a b c d : Bool) → (if a then 1 else if b then 2 else if c then 1 else if d then 2 else 0) < 3
-    by true b c d = omega arith
-    by false true c d = omega arith
-    by false false true d = omega arith
-    by false false false true = omega arith
-    by false false false false = omega arith
-
 abbrev pub SaysPlace : SwitchView → List Control → Type 0
 SaysPlace v said = (said ≡ []) ⊎ ((m : Message) × (m.place ≡ v.place) × (said ≡ Ldm v.id m ∷ []))
 
@@ -116,10 +102,6 @@ pub record TickSays (v : SwitchView) (said : List Control) : Type 0 where
   pub tells : SaysPlace v first
   pub proposes : SaysProposal v second
 
-is_none_is : (o : Option ℕ) → is_none o ≡ true → o ≡ None
-is_none_is None h = refl
-is_none_is (Some x) h = absurd (cc)
-
 module _ (v : SwitchView) (port : ℕ) (is : IsId v.id) (can : CanBeTold v.place) (able : CanPropose v.attempt v.proposed) (echo : (id : SwitchId) → id_at v port ≡ Some id → IsId id) where
   abbrev w : SwitchView
   w = with_aged_ports v
@@ -130,7 +112,7 @@ module _ (v : SwitchView) (port : ℕ) (is : IsId v.id) (can : CanBeTold v.place
   tick_tells : messages_of (message_in (announcement w port)) ≡ Ldm v.id told ∷ []
   unfolding told
   tick_tells = says_written (Ldm v.id (record { place = v.place; direction = direction_of w port; echo = id_at w port }))
-      (ldm_writable v.id v.place (direction_of w port) (id_at w port) is can (low_direction w port)
+      (ldm_writable v.id v.place (direction_of w port) (id_at w port) is can (direction_low w port)
       (λ id same. echo id (sym (ap heard_id (heard_aged v.ports port)) ∙ same)))
 
   tick_proposes : messages_of (message_in (proposal w)) ≡ Proposal v.id (record { attempt = v.attempt; position = v.proposed }) ∷ []

@@ -1,7 +1,8 @@
 -- Each step of the control plane keeps the votes in order.
-use Rattle.std.proofs.Common.{◌≡◌, ℕ, ◌<◌, Bool, true, false, if◌then◌else◌, List, [], ◌∷◌, ◌++◌, Option, refl, sym, ◌∙◌, ap, subst, subst₂, inl, inr}
+use Rattle.std.proofs.Common.{◌≡◌, ℕ, ◌<◌, Bool, true, false, if◌then◌else◌, List, [], ◌++◌, Option, refl, sym, ◌∙◌, ap, subst, subst₂, inl, inr}
 use Rattle.std.specs.List.{AllByRecursion}
 use Rattle.std.proofs.lemmas.Bool.{cases_eq}
+use Rattle.pl_lemmas.proofs.Lists.{all_append, all_behind, all_front}
 use Rattle.pl_frame.specs.declared.address.SwitchId.{SwitchId}
 use Rattle.pl_frame.specs.Ethernet.{payload_of}
 use Rattle.pl_layouts.specs.declared.control.Control.{Control}
@@ -38,18 +39,6 @@ moved : (e E : Voter) (h H : ℕ → Option Hold) (u U d D : List Control) → E
 moved e E h H u U d D same_e same_h same_u same_d g =
     subst (λ x. IsGoodPair x H U D) (sym same_e)
     (subst (λ x. IsGoodPair e x U D) (sym same_h) (subst (λ x. IsGoodPair e h x D) (sym same_u) (subst (λ x. IsGoodPair e h u x) (sym same_d) g)))
-
-all_behind : {X : Type 0} (P : X → Type 0) (xs ys : List X) → AllByRecursion P (xs ++ ys) → AllByRecursion P ys
-all_behind P [] ys all = all
-all_behind P (x ∷ xs) ys all = all_behind P xs ys all.1
-
-all_front : {X : Type 0} (P : X → Type 0) (xs ys : List X) → AllByRecursion P (xs ++ ys) → AllByRecursion P xs
-all_front P [] ys all = tt
-all_front P (x ∷ xs) ys all = (all.0, all_front P xs ys all.1)
-
-all_both : {X : Type 0} (P : X → Type 0) (xs ys : List X) → AllByRecursion P xs → AllByRecursion P ys → AllByRecursion P (xs ++ ys)
-all_both P [] ys a b = b
-all_both P (x ∷ xs) ys a b = (a.0, all_both P xs ys a.1 b)
 
 all_unless : {X : Type 0} (P : X → Type 0) (failed : Bool) (xs : List X) → AllByRecursion P xs → AllByRecursion P (unless failed xs)
 all_unless P true xs all = tt
@@ -97,7 +86,7 @@ module _ (plan : Plan) (is : IsPlan plan) where
     named = λ x port. subst (λ id. AreOf id (g.says x port)) (sym (id_stays x)) (elim (cases_eq x s) [
       | inl here ↦ subst (λ y. AreOf (m.view y).id (g.says y port)) (sym here)
           (subst (AreOf (m.view s).id) (sym (acted.says port))
-          (all_both (λ c. sender_of c ≡ (m.view s).id) (m.says s port) (unless (failed port) (sends port acts)) (v.named s port)
+          (all_append (λ c. sender_of c ≡ (m.view s).id) (m.says s port) (unless (failed port) (sends port acts)) (v.named s port)
           (all_unless (λ c. sender_of c ≡ (m.view s).id) (failed port) (sends port acts) (done.named port))))
       | inr other ↦ subst (AreOf (m.view x).id) (sym (acted.other_says x port other)) (v.named x port)
     ]);

@@ -9,8 +9,9 @@ use Rattle.std.specs.Net.Text.{dotted_text}
 use Rattle.std.proofs.lemmas.Bool.{lt-ltb, ltb-true}
 use Rattle.std.proofs.lemmas.Fmt.{decimal_nonempty}
 use Rattle.std.proofs.lemmas.List.{length-append}
+use Rattle.std.proofs.lemmas.Option.{cond_some}
+use Rattle.pl_lemmas.proofs.Options.{and_then_some, option_map_some}
 use Rattle.pl_wiring.specs.Texts.{byte_of_text, ip_number, is_point, number_of_text}
-use Rattle.pl_wiring.proofs.Choices.{mapped_some, some_if, then_some}
 use Rattle.pl_wiring.proofs.LabelTexts.{before_point, behind_point, number_of-is, parted_at_point}
 use Rattle.pl_wiring.proofs.TextLemmas.{ip_number-read, number_of-decimal}
 
@@ -20,8 +21,8 @@ byte_of-decimal n text small is =
 
 byte_of-is : (text : List ℕ) (n : ℕ) → byte_of_text text ≡ Some n → (text ≡ decimal n) × (n < 256)
 byte_of-is text n is =
-    let (m, read, below) = then_some (λ n. cond (ltb n 256) (Some n) None) (number_of_text text) n is in
-    let (small, same) = some_if (ltb m 256) m n below in
+    let (m, read, below) = and_then_some (λ n. cond (ltb n 256) (Some n) None) (number_of_text text) n is in
+    let (small, same) = cond_some (ltb m 256) m n below in
     let written = number_of-is text m read in
     (written.0 ∙ ap decimal same, (rw same at (ltb-true m 256 small)))
 
@@ -57,10 +58,10 @@ pub ip_number-is : (text : List ℕ) (n : ℕ) → ip_number text ≡ Some n →
 ip_number-is text n is =
     let rest = after_first is_point text in
     let behind = after_first is_point (after_first is_point text) in
-    let (a, read_a, r1) = then_some _ (byte_of_text (before_first is_point text)) n is in
-    let (b, read_b, r2) = then_some _ (byte_of_text (before_first is_point rest)) n r1 in
-    let (c, read_c, r3) = then_some _ (byte_of_text (before_first is_point behind)) n r2 in
-    let (d, read_d, made) = mapped_some _ (byte_of_text (after_first is_point behind)) n r3 in
+    let (a, read_a, r1) = and_then_some _ (byte_of_text (before_first is_point text)) n is in
+    let (b, read_b, r2) = and_then_some _ (byte_of_text (before_first is_point rest)) n r1 in
+    let (c, read_c, r3) = and_then_some _ (byte_of_text (before_first is_point behind)) n r2 in
+    let (d, read_d, made) = option_map_some _ (byte_of_text (after_first is_point behind)) n r3 in
     let is_a = byte_of-is _ a read_a in
     let is_b = byte_of-is _ b read_b in
     let is_c = byte_of-is _ c read_c in

@@ -1,5 +1,5 @@
 -- Label order: the number of a label and the label of a number are inverse.
-use Rattle.std.proofs.Common.{◌≡◌, ℕ, ◌+◌, ◌-◌, ◌*◌, ◌/◌, ◌%◌, ◌<◌, ◌≤◌, refl, ◌∙◌, arith, inl, inr}
+use Rattle.std.proofs.Common.{◌≡◌, ℕ, ◌+◌, ◌-◌, ◌*◌, ◌/◌, ◌%◌, ◌<◌, ◌≤◌, refl, ◌∙◌, arith, inl, inr, ap, sym}
 use Rattle.std.proofs.lemmas.Bool.{cases_lt}
 use Rattle.std.proofs.lemmas.Bool.Decides.{nat_tests}
 use Rattle.std.proofs.lemmas.Nat.{div-mul-add, mod-mul-add, mul-add-lt, div-add-mod', div_below, mod_below, same_from_place}
@@ -88,3 +88,7 @@ above-same_uplink k x y (Aggregation p i) (Aggregation q j) ha hb la lb lx ly e 
     let numbers : i * (k / 2) + x ≡ j * (k / 2) + y = omega arith in (same_from_place i x j y (k / 2) lx ly numbers).1
 above-same_uplink k x y (Core g m) b ha hb la lb lx ly e = absurd (omega arith)
 above-same_uplink k x y a (Core g m) ha hb la lb lx ly e = absurd (omega arith)
+
+-- and of one label one
+pub same_label : (k s t : ℕ) → label_of k s ≡ label_of k t → s ≡ t
+same_label k s t same = sym (number_of-label_of k s) ∙ ap (number_of k) same ∙ number_of-label_of k t

@@ -11,6 +11,8 @@ use Rattle.std.proofs.lemmas.List.{get_or_append_left, length-append, length-dro
 use Rattle.std.proofs.lemmas.List.Sums.{passes_at_first, position_or_len_is, split_at_first}
 use Rattle.std.proofs.lemmas.Slice.Eq.{bytes_eq-Decides}
 use Rattle.std.proofs.lemmas.Str.Parse.{digit_at}
+use Rattle.std.proofs.lemmas.Option.{cond_some}
+use Rattle.pl_lemmas.proofs.Options.{and_then_some}
 use Rattle.pl_wiring.specs.declared.label.Label.{Label}
 use Rattle.pl_wiring.specs.declared.label.Label.TheVariants.{Edge, Aggregation, Core}
 use Rattle.pl_wiring.specs.declared.label.SwitchNo.{SwitchNo}
@@ -19,14 +21,13 @@ use Rattle.pl_wiring.specs.Labels.{IsArity, IsLabel, label_of, label_text, numbe
 use Rattle.pl_wiring.specs.Texts.{IsWritable, is_point, label_from, label_of_text, number_of_text, numbers_of_text}
 use Rattle.pl_wiring.proofs.EntryLemmas.{is_label-Decides}
 use Rattle.pl_wiring.proofs.LabelOrder.{label_of-number_of, number_of-below}
-use Rattle.pl_wiring.proofs.Choices.{some_if, then_some}
 use Rattle.pl_wiring.proofs.TextLemmas.{number_of-decimal}
 
 pub number_of-is : (text : List ℕ) (n : ℕ) → number_of_text text ≡ Some n → (text ≡ decimal n) × (n < 2 ^ 16)
 unfolding number_of_text
 number_of-is text n is =
     let v = digits_value 10 text in
-    let (test, same) = some_if (ltb v 65536 && bytes_eq (decimal v) text) v n is in
+    let (test, same) = cond_some (ltb v 65536 && bytes_eq (decimal v) text) v n is in
     let (small, written) = and_parts (ltb v 65536) (bytes_eq (decimal v) text) test in
     (sym ((bytes_eq-Decides (decimal v) text).0 written) ∙ ap decimal same, (rw same at (ltb-true v 65536 small)))
 
@@ -43,7 +44,7 @@ pair_parts o (Some second) first a b is given =
 -- the two numbers of a text
 parts_of : (text : List ℕ) (a b : ℕ) → numbers_of_text text ≡ Some (a, b) → (number_of_text (before_first is_point text) ≡ Some a) × (number_of_text (after_first is_point text) ≡ Some b)
 parts_of text a b is =
-    let (first, read_a, rest) = then_some (λ first. option_map (λ second. (first, second)) (number_of_text (after_first is_point text))) (number_of_text (before_first is_point text)) (a, b) is in
+    let (first, read_a, rest) = and_then_some (λ first. option_map (λ second. (first, second)) (number_of_text (after_first is_point text))) (number_of_text (before_first is_point text)) (a, b) is in
     pair_parts (number_of_text (before_first is_point text)) (number_of_text (after_first is_point text)) first a b read_a rest
 
 -- digits have no point
@@ -140,7 +141,7 @@ first_and_rest (b ∷ text) some = refl
 
 pub label_of-is : (text : List ℕ) (label : Label) → label_of_text text ≡ Some label → text ≡ label_text label
 label_of-is text label is =
-    let (numbers, read, made) = then_some (label_from (slice_index text 0)) (numbers_of_text (drop 1 text)) label is in
+    let (numbers, read, made) = and_then_some (label_from (slice_index text 0)) (numbers_of_text (drop 1 text)) label is in
     let (written, small_a, small_b) = numbers_of-is (drop 1 text) numbers.0 numbers.1 read in
     let long = length-append (decimal numbers.0) (46 ∷ decimal numbers.1) in
     let rest : 0 < length (drop 1 text) = rw written (omega arith) in
@@ -168,9 +169,9 @@ writable k (Core group m) arity is = let most = arity.most in (omega (arith, is.
 named_is : (k : ℕ) (text : List ℕ) (switch : SwitchNo) → IsArity k → switch_named k text ≡ Some switch → (switch.0 < switch_count k) × (text ≡ label_text (label_of k switch.0))
 unfolding switch_named
 named_is k text switch arity named =
-    let (label, read, found) = then_some (λ label. cond (is_label k label) (Some (record { 0 = number_of k label })) None) (label_of_text text) switch named in
+    let (label, read, found) = and_then_some (λ label. cond (is_label k label) (Some (record { 0 = number_of k label })) None) (label_of_text text) switch named in
     let made : SwitchNo = record { 0 = number_of k label } in
-    let (is, same) = some_if (is_label k label) made switch found in
+    let (is, same) = cond_some (is_label k label) made switch found in
     let in_range = (is_label-Decides k label).0 is in
     let number : number_of k label ≡ switch.0 = ap (λ (s : SwitchNo). s.0) same in
     let low = number_of-below k label in_range in

@@ -1,8 +1,9 @@
 -- The flags of live links: at first one at each end of each link, then with one link changed.
-use Rattle.std.proofs.Common.{◌≡◌, ◌≢◌, ℕ, zero, suc, ◌*◌, ◌<◌, ◌↔◌, List, [], ◌∷◌, length, Bool, true, false, Option, Some, None, get_or, map, refl, sym, ◌∙◌, ap, subst, arith, inl, inr, is_some, IsTrue, All, Any, Contains, Result, Ok, Err, IfOk}
+use Rattle.std.proofs.Common.{◌≡◌, ◌≢◌, ℕ, zero, suc, ◌*◌, ◌<◌, ◌↔◌, List, [], ◌∷◌, length, Bool, true, false, Option, None, get_or, map, refl, sym, ◌∙◌, ap, subst, arith, inl, inr, is_some, IsTrue, All, Any, Contains}
 use Rattle.std.proofs.Math.ListN.{length-set, length-map}
 use Rattle.std.proofs.lemmas.Bool.{cases_lt, cases_eq}
 use Rattle.std.proofs.lemmas.List.{get_or_default}
+use Rattle.pl_lemmas.proofs.Options.{some_number}
 use Rattle.pl_wiring.specs.declared.link.Link.{Link}
 use Rattle.pl_wiring.specs.Labels.{switch_count}
 use Rattle.pl_wiring.specs.FatTree.{IsAt, IsTreeLink, IsFatTree}
@@ -16,10 +17,6 @@ use Rattle.pl_wiring.proofs.Ends.{at_contained}
 use Rattle.pl_wiring.proofs.Linked.{one_between}
 use Rattle.pl_wiring.proofs.Entered.{entry_at-in_range, entry_at-out_of_range, tree_ends, cases_IsAt, port_index-below, with_link, wrote_link, kept_link}
 
-pub if_ok : {T E : Type 0} {P Q : T → Type 0} (r : Result T E) → ((x : T) → P x → Q x) → IfOk r P → IfOk r Q
-if_ok (Ok x) f h = f x h
-if_ok (Err e) f h = h
-
 get_or_mapped : {X Y : Type 0} (f : X → Y) (xs : List X) (i : ℕ) (d : X) → get_or (map f xs) i (f d) ≡ f (get_or xs i d)
 get_or_mapped f [] i d = refl
 get_or_mapped f (x ∷ xs) zero d = refl
@@ -31,10 +28,6 @@ entry_at-present k table s p = elim (cases_lt p k) [
       ∙ ap is_some (sym (entry_at-in_range None k table s p less))
   | inr more ↦ entry_at-out_of_range false k (map is_some table) s p more ∙ ap is_some (sym (entry_at-out_of_range None k table s p more))
 ]
-
-something : (o : Option ℕ) → is_some o ≡ true → (n : ℕ) × (o ≡ Some n)
-something None there = absurd (cc)
-something (Some n) there = (n, refl)
 
 abbrev flags_of : ℕ → List (Option ℕ) → LivePorts
 flags_of k table = record { k = k; flags = map is_some table }
@@ -61,7 +54,7 @@ made_for_links plan table index room = record {
   room = length-map table is_some ∙ room;
   agree = λ n d within. upper_present plan.k table plan.links index n d within ∙ sym (lower_present plan.k table plan.links index n d within);
   linked = λ s p live.
-      let there = something (look_at plan.k table (s, p)) (sym (entry_at-present plan.k table s p) ∙ live) in
+      let there = some_number (look_at plan.k table (s, p)) (sym (entry_at-present plan.k table s p) ∙ live) in
       let found = index.says (s, p) there.0 there.1 in
       (there.0, get_or plan.links there.0 no_link, found.0, get_or_default plan.links there.0 _ _ found.0, found.1 no_link);
 }

@@ -4,6 +4,7 @@ use Rattle.std.specs.List.{AllByRecursion}
 use Rattle.std.proofs.Math.ListN.{length-set}
 use Rattle.std.proofs.lemmas.Bool.{cases_lt}
 use Rattle.std.proofs.lemmas.List.{set_past, get_or_past}
+use Rattle.pl_lemmas.proofs.Lists.{all_append}
 use Rattle.pl_wiring.specs.Labels.{switch_count}
 use Rattle.pl_wiring.specs.Plan.{Plan}
 use Rattle.pl_journal.specs.declared.cause.Cause.{Cause}
@@ -14,7 +15,7 @@ use Rattle.pl_world.specs.declared.item.Item.TheVariants.{Control, Data}
 use Rattle.pl_world.specs.Changes.{ends_of}
 use Rattle.pl_world.specs.Flying.{IsDataItem, IsItem, born, times_in, times_in_all}
 use Rattle.pl_world.specs.Worlds.{WorldView}
-use Rattle.pl_world.proofs.Counts.{all_append, all_at, all_set, begun-append, born_more, ends-append, ends_of-begun, ends_of-ends, one, times_in-append, times_in-cons, times_in_all-set, within_queue}
+use Rattle.pl_world.proofs.Counts.{all_at, all_set, begun-append, born_more, ends-append, ends_of-begun, ends_of-ends, one, times_in-append, times_in-cons, times_in_all-set, within_queue}
 
 pub record Balanced (plan : Plan) (from_hosts out : List (List Item)) (journal : List Entry) (many : ℕ) (owed : ℕ → ℕ) : Type 0 where
   pub hosts : length from_hosts ≡ length plan.hosts

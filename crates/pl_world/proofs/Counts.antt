@@ -43,12 +43,12 @@ pub ends-append : (xs ys : List Entry) (id : ℕ) → ends (xs ++ ys) id ≡ end
 ends-append [] ys id = omega arith
 ends-append (x ∷ xs) ys id = omega (arith, ends-cons x (xs ++ ys) id, ends-cons x xs id, ends-append xs ys id)
 
-begun-cons : (e : Entry) (past : List Entry) → begun (e ∷ past) ≡ begun (e ∷ []) + begun past
-begun-cons e past = one_more (is_some (begun_by e)) (begun past)
+pub begun_cons : (e : Entry) (past : List Entry) → begun (e ∷ past) ≡ begun (e ∷ []) + begun past
+begun_cons e past = one_more (is_some (begun_by e)) (begun past)
 
 pub begun-append : (xs ys : List Entry) → begun (xs ++ ys) ≡ begun xs + begun ys
 begun-append [] ys = omega arith
-begun-append (x ∷ xs) ys = omega (arith, begun-cons x (xs ++ ys), begun-cons x xs, begun-append xs ys)
+begun-append (x ∷ xs) ys = omega (arith, begun_cons x (xs ++ ys), begun_cons x xs, begun-append xs ys)
 
 pub ends_of-ends : (cause : Cause) (items : List Item) (id : ℕ) → ends (ends_of cause items) id ≡ times_in id items
 ends_of-ends cause [] id = refl
@@ -81,10 +81,6 @@ pub all_set : {T : Type 0} (P : T → Type 0) (xs : List T) (n : ℕ) (x : T) �
 all_set P [] n x here all = all
 all_set P (y ∷ xs) zero x here all = (here, all.1)
 all_set P (y ∷ xs) (suc n) x here all = (all.0, all_set P xs n x here all.1)
-
-pub all_append : {T : Type 0} (P : T → Type 0) (xs ys : List T) → AllByRecursion P xs → AllByRecursion P ys → AllByRecursion P (xs ++ ys)
-all_append P [] ys all more = more
-all_append P (x ∷ xs) ys all more = (all.0, all_append P xs ys all.1 more)
 
 -- a queue that has a first item is there
 pub within_queue : {T : Type 0} (queues : List (List T)) (n : ℕ) (x : T) (xs : List T) → get_or queues n [] ≡ x ∷ xs → n < length queues

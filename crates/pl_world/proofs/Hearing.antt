@@ -1,25 +1,22 @@
 -- The manager can hear each switch of the wiring at each moment of a run.
-use Rattle.std.proofs.Common.{◌≡◌, ℕ, zero, suc, ◌+◌, ◌*◌, ◌/◌, ◌<◌, ◌≤◌, true, List, [], ◌∷◌, length, Contains, IsTrue, Less, Greater, Some, slice_get, refl, sym, ◌∙◌, ap, subst, arith, inl, inr, mul_assoc, mul_comm}
-use Rattle.std.specs.List.{AllByRecursion, list_any}
+use Rattle.std.proofs.Common.{◌≡◌, ℕ, zero, suc, ◌+◌, ◌*◌, ◌/◌, ◌<◌, ◌≤◌, List, [], ◌∷◌, length, Contains, IsTrue, Less, Greater, Some, slice_get, refl, sym, ◌∙◌, ap, subst, arith, inl, inr, mul_assoc, mul_comm}
+use Rattle.std.specs.List.{list_any}
 use Rattle.std.specs.List.Sorted.{IsStrictlySortedBy}
 use Rattle.std.specs.Ordering.{ordering_reverse}
-use Rattle.std.proofs.lemmas.Bool.{eq-eqb, eqb-true, or_cases}
+use Rattle.std.proofs.lemmas.Bool.{eqb-true, or_cases}
 use Rattle.pl_frame.specs.declared.address.SwitchId.{SwitchId}
 use Rattle.pl_wiring.specs.Labels.{IsArity, switch_count}
 use Rattle.pl_wiring.specs.Plan.{IsPlan, Plan}
 use Rattle.pl_layouts.specs.Equality.{same_switch}
+use Rattle.pl_layouts.proofs.Sameness.{switch_itself}
 use Rattle.pl_logic.specs.ManagerFacts.{CanHear, heard}
 use Rattle.pl_logic.specs.ManagerFacts as facts
 use Rattle.pl_logic.specs.ManagerDuties.{IsGrown}
 use Rattle.pl_logic.specs.ManagerViews.{ManagerView, id_cmp, in_order, is_heard, speakers}
-use Rattle.pl_logic.proofs.Among.{IsAmong, among_of_Contains, among_ordered, any_among, rising_in_order, id_total}
+use Rattle.pl_logic.proofs.Among.{IsAmong, among_of_Contains, among_ordered, any_among, rising_in_order, id_total, holds_of}
 use Rattle.pl_world.specs.Hearing.{HeardWithin}
 
 -- ---- a rising list of some ids is no longer than they are many
-holds_of : {X : Type 0} (P : X → Type 0) (x : X) (xs : List X) → AllByRecursion P xs → IsAmong x xs → P x
-holds_of P x [] all h = absurd h
-holds_of P x (y ∷ xs) all (inl is) = subst P is all.0
-holds_of P x (y ∷ xs) all (inr h) = holds_of P x xs all.1 h
 
 -- the others, without one of them
 without : (x : SwitchId) (ys : List SwitchId) → IsAmong x ys → List SwitchId
@@ -78,11 +75,8 @@ found_among [] n id found = absurd (cc)
 found_among (i ∷ ids) zero id found = inl cc
 found_among (i ∷ ids) (suc n) id found = inr (found_among ids n id found)
 
-same_itself : (s : SwitchId) → same_switch s s ≡ true
-same_itself s = eq-eqb s.0 s.0 refl
-
 among_is_heard : (q : SwitchId) (xs : List SwitchId) → IsAmong q xs → IsTrue (list_any (λ t. same_switch t q) xs)
-among_is_heard q xs h = any_among (λ t. same_switch t q) q xs h (same_itself q)
+among_is_heard q xs h = any_among (λ t. same_switch t q) q xs h (switch_itself q)
 
 pub can_hear_each : (plan : Plan) (view : ManagerView) (steps : ℕ) → IsPlan plan → HeardWithin plan view steps → steps < 4294967295 →
     (s : ℕ) (id : SwitchId) → slice_get plan.ids s ≡ Some id → CanHear view id

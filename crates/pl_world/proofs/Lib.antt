@@ -17,3 +17,7 @@ pub mod Leaving
 pub mod Turning
 pub mod Beside
 pub mod AlongRuns
+pub mod Refusing
+pub mod Births
+pub mod Stands
+pub mod KeptSwitches

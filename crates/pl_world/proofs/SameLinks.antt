@@ -1,17 +1,13 @@
 -- What is live of each link of a wiring is all that its link states say.
-use Rattle.std.proofs.Common.{◌≡◌, ℕ, ◌+◌, ◌*◌, ◌/◌, ◌%◌, ◌<◌, Bool, true, false, List, length, get_or, refl, sym, ◌∙◌, ap, subst, arith}
+use Rattle.std.proofs.Common.{◌≡◌, ℕ, ◌+◌, ◌*◌, ◌/◌, ◌%◌, ◌<◌, Bool, true, false, List, length, get_or, sym, ◌∙◌, ap, subst, arith}
 use Rattle.std.proofs.lemmas.List.{get_or_default, same_lists}
 use Rattle.std.proofs.lemmas.Nat.{div-add-mod', mod_below}
+use Rattle.pl_lemmas.proofs.Bools.{same_truth}
 use Rattle.pl_wiring.specs.declared.link.Link.{Link}
 use Rattle.pl_wiring.specs.LiveLinks.{IsFor, LivePorts, is_live, is_live_at}
 use Rattle.pl_wiring.specs.Plan.{IsPlan, Plan}
 use Rattle.pl_wiring.proofs.Entered.{entry_at-in_range}
 use Rattle.pl_wiring.proofs.Live.{live_says}
-
-both_ways : (b c : Bool) → (b ≡ true → c ≡ true) → (c ≡ true → b ≡ true) → b ≡ c
-both_ways true c f g = sym (f refl)
-both_ways false true f g = g refl
-both_ways false false f g = refl
 
 module _ (plan : Plan) where
   SameOn : LivePorts → LivePorts → Type 0
@@ -30,7 +26,7 @@ module _ (plan : Plan) where
   same_states x y is forx fory same =
       let k : ℕ = plan.k in
       let pos : 0 < k = let least = is.arity.least in omega arith in
-      let at : (s p : ℕ) → is_live_at x s p ≡ is_live_at y s p = (λ s p. both_ways (is_live_at x s p) (is_live_at y s p)
+      let at : (s p : ℕ) → is_live_at x s p ≡ is_live_at y s p = (λ s p. same_truth (is_live_at x s p) (is_live_at y s p)
       (live_over x y forx fory same s p) (live_over y x fory forx (λ n d within. sym (same n d within)) s p)) in
       let read : (z : LivePorts) → IsFor plan z → (n : ℕ) → is_live_at z (n / k) (n % k) ≡ get_or z.flags n false = (λ z forz n.
       entry_at-in_range false z.k z.flags (n / k) (n % k) (rw forz.same_k (mod_below n k pos))

@@ -2,7 +2,7 @@
 use Rattle.std.proofs.Common.{◌≡◌, ℕ, zero, suc, ◌+◌, ◌<◌, ◌≤◌, ◌&&◌, ◌↔◌, not, Bool, true, false, List, [], ◌∷◌, length, Option, None, Some, Contains, bytes_eq, cond, count_by, get_or, slice_get, sum_by, refl, sym, ◌∙◌, ap, subst, inl, inr, arith}
 use Rattle.std.specs.Bool.{Decides}
 use Rattle.std.specs.List.{AllByRecursion, range_with_len}
-use Rattle.std.proofs.lemmas.Bool.{cases_eq}
+use Rattle.std.proofs.lemmas.Bool.{cases_eq, not-false}
 use Rattle.std.proofs.lemmas.List.Sums.{sum_by-cons}
 use Rattle.std.proofs.lemmas.Option.{slice_get_within}
 use Rattle.std.proofs.lemmas.Slice.Eq.{bytes_eq-Decides}
@@ -97,15 +97,11 @@ pub is_announced-decides : (host : Bool) (xs ys : List ℕ) → Decides (not hos
 is_announced-decides true xs ys = (λ e. absurd (cc), λ h. absurd (cc))
 is_announced-decides false xs ys = (λ e. (refl, (bytes_eq-Decides xs ys).0 e), λ h. (bytes_eq-Decides xs ys).1 h.1)
 
-denied : (b : Bool) → not b ≡ false → b ≡ true
-denied true h = refl
-denied false h = absurd (cc)
-
 module _ (v : SwitchView) (port : ℕ) where
   timely_is : (frame : List ℕ) → is_stale v port (Control frame) ≡ false → IsAnnounced v port frame
   unfolding is_stale
   timely_is frame h =
-      let both = (is_announced-decides (port_of v port).host frame (announcement v port)).0 (denied (is_announced v port frame) h) in
+      let both = (is_announced-decides (port_of v port).host frame (announcement v port)).0 (not-false (is_announced v port frame) h) in
       record { told = both.0; is = both.1 }
 
   timely_counts : (frame : List ℕ) → IsAnnounced v port frame → is_stale v port (Control frame) ≡ false

@@ -1,8 +1,8 @@
 -- Each step keeps the balance of the world.
-use Rattle.std.proofs.Common.{◌≡◌, ℕ, zero, suc, ◌+◌, ◌<◌, ◌==◌, ◌&&◌, not, nat_le, nat_lt, Bool, true, false, if◌then◌else◌, List, [], ◌∷◌, ◌++◌, length, map, Option, Some, None, IsTrue, Contains, set, slice_get, refl, sym, ◌∙◌, ap, subst, arith}
+use Rattle.std.proofs.Common.{◌≡◌, ℕ, zero, suc, ◌+◌, ◌<◌, ◌==◌, ◌&&◌, not, nat_le, nat_lt, Bool, true, false, if◌then◌else◌, List, [], ◌∷◌, ◌++◌, length, map, Option, Some, None, IsTrue, Contains, set, slice_get, refl, sym, ◌∙◌, subst, arith}
 use Rattle.std.specs.List.{find, fold}
 use Rattle.std.proofs.Math.ListN.{length-set}
-use Rattle.std.proofs.lemmas.Bool.{and_parts, leb-true, ltb-true}
+use Rattle.std.proofs.lemmas.Bool.{and_parts, leb-true, ltb-true, not-true}
 use Rattle.std.proofs.lemmas.Option.{slice_get_within}
 use Rattle.pl_wiring.specs.declared.label.SwitchNo.{SwitchNo}
 use Rattle.pl_wiring.specs.declared.link.Link.{Link}
@@ -65,6 +65,7 @@ use Rattle.pl_world.proofs.Happenings.Happened.{Asked, Departed, Failed, FromHos
 use Rattle.pl_world.proofs.Balances.{Owes, begun_balance, emptied_host_balance, emptied_out_balance, head_is_item, noted_balance, put_host_balance, sent_is_item, took_host_balance, took_out_balance}
 use Rattle.pl_world.proofs.Counts.{all_found, all_set, one, times_in-data}
 use Rattle.pl_world.proofs.SwitchActBalances.{HasRest, Steady, all_acts_steady, owed_by, said_by, says_rest, told_rest}
+use Rattle.pl_world.proofs.Stands.{ticked_heard}
 
 pub record Sound (w : WorldView) : Type 0 where
   pub balance : Owes w (λ id. 0)
@@ -227,17 +228,13 @@ switch_turn rule accounts w s input speech new same can owes r turn =
     let done = all_acts_steady s k w1 speech turn.before.place turn.after.place turn.acts kept.fit said start in
     subst Sound (sym turn.changed) (record { balance = done.balance; rest = done.rest })
 
-pub is_false : (b : Bool) → not b ≡ true → b ≡ false
-is_false true h = absurd (cc)
-is_false false h = refl
-
 -- a data frame of a host
 pub data_is_frame : (frame : List ℕ) → IsTrue (is_data frame) → IsFrame false frame
 data_is_frame frame is =
     let outer = and_parts (nat_le 14 (length frame) && nat_le (length frame) 65553) (not (is_control frame)) is in
     let inner = and_parts (nat_le 14 (length frame)) (nat_le (length frame) 65553) outer.0 in
     record {
-      kind = is_false (is_control frame) outer.1;
+      kind = not-true (is_control frame) outer.1;
       whole = record { low = leb-true 14 (length frame) inner.0; high = leb-true (length frame) 65553 inner.1 };
     }
 
@@ -291,7 +288,7 @@ host_receives rule sends w h id frame new owes r receives =
     noted_reception NotMember = record { balance = noted_owes w (one id) (λ i. 0) (Dropped id cause.NoMember ∷ []) refl (λ i. omega arith) owes; rest = r }
 
 -- the manager steps
-said_sound : (w : WorldView) (says : ToSwitch) (to : Option ℕ) → Sound w → Sound (said_to w says to)
+pub said_sound : (w : WorldView) (says : ToSwitch) (to : Option ℕ) → Sound w → Sound (said_to w says to)
 said_sound w says None s = s
 said_sound w says (Some t) s = record { balance = s.balance; rest = says_rest w.from_manager _ (length-set w.from_manager t _) s.rest }
 
@@ -368,11 +365,6 @@ in_tree plan is link there =
 pub peer_is_port : (plan : Plan) (s p : ℕ) → IsPlan plan → IsPort plan.k (peer_of plan s p)
 peer_is_port plan s p is = peer_in_tree plan.k plan.links s p (in_tree plan is)
 
-ticked_heard : (t : ℕ) (stands : List Stand) (heard : List (Option ℕ)) → length (heard_after_tick t stands heard) ≡ length heard
-ticked_heard t [] heard = refl
-ticked_heard t (stand ∷ stands) [] = refl
-ticked_heard t (stand ∷ stands) (ticks ∷ heard) = ap suc (ticked_heard t stands heard)
-
 took_out : (w : WorldView) (t port : ℕ) (item : Item) (items : List Item) → out_of w t port ≡ item ∷ items → Sound w →
     Owes (record w { out = set w.out (port_index w.plan.k t port) items }) (λ id. times_in id (item ∷ []))
 took_out w t port item items head s =
@@ -447,7 +439,7 @@ event_is_not_refused w happens h =
     passed_over (is_full w) JournalFull (refusal_of_event w happens)
     (passed_over (nat_le w.limits.steps w.steps) StepsSpent (if is_full w then Some JournalFull else refusal_of_event w happens) h)
 
-tested : (b : Bool) (x y : Option StepError) (e : StepError) → y ≡ Some e → (if b then x else y) ≡ None → b ≡ true
+pub tested : (b : Bool) (x y : Option StepError) (e : StepError) → y ≡ Some e → (if b then x else y) ≡ None → b ≡ true
 tested true x y e other h = refl
 tested false x y e other h = absurd (cc)
 

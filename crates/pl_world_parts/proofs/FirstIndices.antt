@@ -7,10 +7,7 @@ use Rattle.std.proofs.lemmas.Bool.Decides.{nat_tests}
 use Rattle.std.proofs.lemmas.Grind.{common_steps}
 use Rattle.std.proofs.lemmas.Iterator.Adapters.{position_from-zero}
 use Rattle.std.proofs.lemmas.List.{take_more}
-use Rattle.std.proofs.lemmas.Option.{get_or_from_slice_get, slice_get_within}
-
-some_is : {T : Type 0} (x y : T) → Some x ≡ Some y → x ≡ y
-some_is x y e = cc
+use Rattle.std.proofs.lemmas.Option.{get_or_from_slice_get, same_Some, slice_get_within}
 
 module _ {T : Type 0} (p : T → Bool) where
   from_append : (i : ℕ) (xs : List T) (x : T) → position_from p i (xs ++ x ∷ []) ≡ option_or (position_from p i xs) (cond (p x) (Some (i + length xs)) None)
@@ -27,7 +24,7 @@ module _ {T : Type 0} (p : T → Bool) where
   from_none i (y ∷ xs) none zero x at =
       elim (p y) as (λ b. p y ≡ b → cond b (Some i) (position_from p (i + 1) xs) ≡ None → p x ≡ false) [
         | true ↦ λ h e. absurd (cc)
-        | false ↦ λ h e. ap p (sym (some_is y x at)) ∙ h
+        | false ↦ λ h e. ap p (sym (same_Some y x at)) ∙ h
       ] refl none
   from_none i (y ∷ xs) none (suc n) x at =
       elim (p y) as (λ b. cond b (Some i) (position_from p (i + 1) xs) ≡ None → p x ≡ false) [

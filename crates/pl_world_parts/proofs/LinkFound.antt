@@ -1,15 +1,14 @@
 -- The one link that joins two switches is the first that is found.
 use Rattle.std.proofs.Common.{◌≡◌, ℕ, zero, suc, ◌<◌, ◌==◌, ◌&&◌, ◌⊎◌, Bool, true, false, List, [], ◌∷◌, length, All, Contains, Some, None, get_or, refl, sym, ◌∙◌, ap, arith, inl, inr}
 use Rattle.std.specs.List.{find}
-use Rattle.std.proofs.lemmas.Bool.{cases_eq, cases_lt}
 use Rattle.std.proofs.lemmas.Bool.Decides.{nat_tests}
 use Rattle.pl_wiring.specs.declared.link.Link.{Link}
 use Rattle.pl_wiring.specs.FatTree.{IsFatTree}
 use Rattle.pl_wiring.specs.LiveLinks.{IsFor, LivePorts, is_live}
 use Rattle.pl_wiring.specs.Peers.{IsBetween}
 use Rattle.pl_wiring.specs.Plan.{IsPlan, Plan}
-use Rattle.pl_wiring.proofs.Ends.{link_rises, same_switch}
 use Rattle.pl_wiring.proofs.Live.{changed, made_for_changed, others}
+use Rattle.pl_wiring.proofs.Linked.{one_between}
 use Rattle.pl_world.specs.LinksAndMoves.{joins, with_link}
 use Rattle.pl_world.proofs.SameLinks.{same_states}
 
@@ -23,25 +22,6 @@ joins_is a b l h = by_test ((l.lower.0 == a) && (l.upper.0 == b)) refl
 is_joins : (a b : ℕ) (l : Link) → IsBetween l a b → joins a b l ≡ true
 is_joins a b l (inl e) = let e0 = e.0 in let e1 = e.1 in grind (arith, nat_tests)
 is_joins a b l (inr e) = let e0 = e.0 in let e1 = e.1 in grind (arith, nat_tests)
-
--- no two links join the same switches
-one_between : (k : ℕ) (links : List Link) (m n : ℕ) (d : Link) (a b : ℕ) → IsFatTree k links → m < length links → n < length links →
-    IsBetween (get_or links m d) a b → IsBetween (get_or links n d) a b → m ≡ n
-one_between k links m n d a b tree hm hn bm bn =
-    let rm = link_rises k (get_or links m d) (tree.no_other m d hm) in
-    let rn = link_rises k (get_or links n d) (tree.no_other n d hn) in
-    let ends : ((get_or links m d).lower.0 ≡ (get_or links n d).lower.0) × ((get_or links m d).upper.0 ≡ (get_or links n d).upper.0) =
-    elim bm [
-      | inl em ↦ elim bn [ inl en ↦ (em.0 ∙ sym en.0, em.1 ∙ sym en.1) | inr en ↦ absurd (omega (arith, em.0, em.1, en.0, en.1)) ]
-      | inr em ↦ elim bn [ inl en ↦ absurd (omega (arith, em.0, em.1, en.0, en.1)) | inr en ↦ (em.0 ∙ sym en.0, em.1 ∙ sym en.1) ]
-    ] in
-    elim (cases_lt m n) [
-      | inl less ↦ absurd (tree.once m n d less hn (same_switch _ _ ends.0, same_switch _ _ ends.1))
-      | inr more ↦ elim (cases_eq m n) [
-        | inl same ↦ same
-        | inr differ ↦ absurd (tree.once n m d (omega arith) hm (same_switch _ _ (sym ends.0), same_switch _ _ (sym ends.1)))
-      ]
-    ]
 
 -- where the link at an index passes, and no other does, it is found
 found_only : (p : Link → Bool) (links : List Link) (m : ℕ) (link : Link) → m < length links → get_or links m link ≡ link → p link ≡ true →

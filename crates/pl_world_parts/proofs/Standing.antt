@@ -1,12 +1,15 @@
 -- Hosts come to ports and leave them, each port for one host.
-use Rattle.std.proofs.Common.{◌≡◌, ◌≢◌, ℕ, zero, suc, ◌+◌, ◌<◌, ◌==◌, ◌⊎◌, inl, inr, get_or, Bool, true, false, cond, List, [], ◌∷◌, ◌++◌, length, map, set, take, Option, Some, None, slice_get, refl, sym, ◌∙◌, ap, subst, arith}
+use Rattle.std.proofs.Common.{◌≡◌, ℕ, zero, suc, ◌+◌, ◌<◌, ◌==◌, ◌⊎◌, inl, inr, get_or, Bool, true, false, cond, List, [], ◌∷◌, ◌++◌, length, map, set, take, Option, Some, None, slice_get, refl, sym, ◌∙◌, ap, subst, arith}
 use Rattle.std.specs.List.{AllPairs, position}
 use Rattle.std.specs.Map.{lookup}
 use Rattle.std.specs.Option.{IfSome, option_map, option_or}
-use Rattle.std.proofs.lemmas.Bool.{and_parts}
+use Rattle.std.proofs.lemmas.Bool.{and_parts, eqb-false}
 use Rattle.std.proofs.lemmas.Bool.Decides.{nat_tests}
 use Rattle.std.proofs.lemmas.Grind.{common_steps}
 use Rattle.std.proofs.lemmas.List.Quantifiers.{position-Some}
+use Rattle.std.proofs.lemmas.Option.{same_Some}
+use Rattle.pl_lemmas.proofs.Options.{option_or_none}
+use Rattle.pl_lemmas.proofs.Lists.{set_get_other}
 use Rattle.pl_wiring.specs.declared.host.Host.{Host}
 use Rattle.pl_wiring.specs.declared.host.HostNo.{HostNo}
 use Rattle.pl_wiring.specs.declared.label.SwitchNo.{SwitchNo}
@@ -49,36 +52,19 @@ not_both : {A : Type 0} (b : Bool) → b ≡ true → b ≡ false → A
 not_both true t f = absurd (cc)
 not_both false t f = absurd (cc)
 
-some_is : {T : Type 0} (x y : T) → Some x ≡ Some y → x ≡ y
-some_is x y e = cc
-
 get_set : {T : Type 0} (xs : List T) (n : ℕ) (y x : T) → n < length xs → slice_get (set xs n y) n ≡ Some x → y ≡ x
 get_set [] n y x within at = absurd (omega arith)
-get_set (z ∷ xs) zero y x within at = some_is y x at
+get_set (z ∷ xs) zero y x within at = same_Some y x at
 get_set (z ∷ xs) (suc n) y x within at = get_set xs n y x (omega arith) at
 
-get_other : {T : Type 0} (xs : List T) (n m : ℕ) (y : T) → n ≢ m → slice_get (set xs n y) m ≡ slice_get xs m
-get_other [] n m y apart = refl
-get_other (z ∷ xs) zero zero y apart = absurd (apart refl)
-get_other (z ∷ xs) zero (suc m) y apart = refl
-get_other (z ∷ xs) (suc n) zero y apart = refl
-get_other (z ∷ xs) (suc n) (suc m) y apart = get_other xs n m y (λ e. apart (ap suc e))
-
 get_last : {T : Type 0} (xs : List T) (n : ℕ) (y x : T) → slice_get (xs ++ y ∷ []) n ≡ Some x → (slice_get xs n ≡ Some x) ⊎ ((n ≡ length xs) × (y ≡ x))
-get_last [] zero y x at = inr (refl, some_is y x at)
+get_last [] zero y x at = inr (refl, same_Some y x at)
 get_last [] (suc n) y x at = absurd (cc)
 get_last (z ∷ xs) zero y x at = inl at
 get_last (z ∷ xs) (suc n) y x at = elim (get_last xs n y x at) as (λ _. (slice_get xs n ≡ Some x) ⊎ ((suc n ≡ suc (length xs)) × (y ≡ x))) [
   | inl h ↦ inl h
   | inr h ↦ inr (ap suc h.0, h.1)
 ]
-
-or_none : {T : Type 0} (o : Option T) → option_or o None ≡ o
-or_none None = refl
-or_none (Some x) = refl
-
-apart_numbers : (n m : ℕ) → (n == m) ≡ false → n ≢ m
-apart_numbers n m e = λ is. not_both (n == m) (ap (λ x. n == x) (sym is) ∙ at_number n) e
 
 -- at first no host stands anywhere
 pub nobody : TellsWhoStands [] []
@@ -103,7 +89,7 @@ module _ (stands : List Stand) (before after : List (Stand × HostNo)) (stand : 
       tells.found at
       ∙ sym (position_append (at_port at) stands stand
       ∙ ap (λ b. option_or (position (at_port at) stands) (cond b (Some (length stands)) None)) e
-      ∙ or_none (position (at_port at) stands))
+      ∙ option_or_none (position (at_port at) stands))
 
   alone_more : (n : ℕ) (x : Stand) → (slice_get stands n ≡ Some x) ⊎ ((n ≡ length stands) × (stand ≡ x)) → position (at_port x) (stands ++ stand ∷ []) ≡ Some n
   alone_more n x (inl at) =
@@ -127,7 +113,7 @@ module _ (stands : List Stand) (before mid after : List (Stand × HostNo)) (h : 
 
   one_index : (n m : ℕ) (x y : Stand) → slice_get stands n ≡ Some x → slice_get stands m ≡ Some y → x ≡ y → n ≡ m
   one_index n m x y at there same =
-      some_is n m (sym (tells.alone n x at) ∙ ap (λ s. position (at_port s) stands) same ∙ tells.alone m y there)
+      same_Some n m (sym (tells.alone n x at) ∙ ap (λ s. position (at_port s) stands) same ∙ tells.alone m y there)
 
   leaves : (n : ℕ) (x : Stand) (b : Bool) → (h.0 == n) ≡ b → slice_get (set stands h.0 to) n ≡ Some x → at_port from x ≡ false
   leaves n x true e at =
@@ -135,8 +121,8 @@ module _ (stands : List Stand) (before mid after : List (Stand × HostNo)) (h : 
       let is : to ≡ x = get_set stands h.0 to x within (ap (slice_get (set stands h.0 to)) same ∙ at) in
       false_from from x (at_port from x) (at_port-is from x) (λ f. not_there h.0 from stood (f ∙ sym is))
   leaves n x false e at =
-      let apart = apart_numbers h.0 n e in
-      let there = sym (get_other stands h.0 n to apart) ∙ at in
+      let apart = eqb-false h.0 n e in
+      let there = sym (set_get_other stands h.0 n to apart) ∙ at in
       false_from from x (at_port from x) (at_port-is from x) (λ f. apart (one_index h.0 n from x stood there f))
 
   came_there : position (at_port to) (set stands h.0 to) ≡ Some h.0
@@ -148,7 +134,7 @@ module _ (stands : List Stand) (before mid after : List (Stand × HostNo)) (h : 
   found_came at false e f =
       tells.found at
       ∙ sym (position_same (at_port at) stands h.0 to
-      (λ x there. subst (λ y. at_port at y ≡ false) (some_is from x (sym stood ∙ there)) f) e)
+      (λ x there. subst (λ y. at_port at y ≡ false) (same_Some from x (sym stood ∙ there)) f) e)
 
   found_moved : (at : Stand) (b : Bool) → at_port at from ≡ b →
       option_map (λ (n : HostNo). n.0) (cond b None (lookup (same_stand at) mid)) ≡ position (at_port at) (set stands h.0 to)
@@ -164,8 +150,8 @@ module _ (stands : List Stand) (before mid after : List (Stand × HostNo)) (h : 
       let is : to ≡ x = get_set stands h.0 to x within (ap (slice_get (set stands h.0 to)) same ∙ at) in
       subst (λ y. position (at_port y) (set stands h.0 to) ≡ Some n) is (came_there ∙ ap (λ m. Some m) same)
   alone_moved n x false e at =
-      let apart = apart_numbers h.0 n e in
-      let there = sym (get_other stands h.0 n to apart) ∙ at in
+      let apart = eqb-false h.0 n e in
+      let there = sym (set_get_other stands h.0 n to apart) ∙ at in
       position_same (at_port x) stands h.0 to
       (λ y here. false_from x y (at_port x y) (at_port-is x y) (λ f. apart (one_index h.0 n y x here there (sym f))))
       (false_from x to (at_port x to) (at_port-is x to) (not_there n x there))
@@ -183,7 +169,7 @@ stood_before : (hosts : List Host) (n m : ℕ) (x : Stand) (d : Host) → slice_
 stood_before [] zero m x d at = absurd (cc)
 stood_before [] (suc n) m x d at = absurd (cc)
 stood_before (host ∷ hosts) zero m x d at = absurd (cc)
-stood_before (host ∷ hosts) (suc n) zero x d at = (omega arith, sym (some_is (first_stand host) x at))
+stood_before (host ∷ hosts) (suc n) zero x d at = (omega arith, sym (same_Some (first_stand host) x at))
 stood_before (host ∷ hosts) (suc n) (suc m) x d at = let before = stood_before hosts n m x d at in let less = before.0 in (omega arith, before.1)
 
 pub first_free : (hosts : List Host) (n : ℕ) (d : Host) (stand : Stand) → n < length hosts → AllPairs (λ g h. StandsAt g h.edge.0 h.port → ⊥) hosts →

@@ -1,6 +1,6 @@
 use Rattle.std.proofs.Common.{◌≡◌, subst, arith}
+use Rattle.pl_lemmas.proofs.Lists.{all_found}
 use Rattle.pl_wiring.specs.Peers.{IsPort}
-use Rattle.pl_fabric.proofs.SettledParts.{all_found}
 use Rattle.pl_fabric.proofs.switches.is_settled_towards.Goals as goal
 
 pub is_settled_end-requires-clause-here : goal.is_settled_end-requires-clause-here

@@ -1,9 +1,10 @@
 use Rattle.std.proofs.Common.{◌≡◌, ◌∙◌, cond, false, sym, ap}
+use Rattle.pl_lemmas.proofs.Bools.{false_before}
 use Rattle.pl_frame.specs.declared.address.SwitchId.{SwitchId}
 use Rattle.pl_faults.specs.Listed.{is_in, with_all}
 use Rattle.pl_faults.specs.Missed.{missed_at, missed_in}
 use Rattle.pl_faults.specs.Rows.{IsReachRenewed}
-use Rattle.pl_faults.proofs.Gathered.{in_all_before, in_all_new, out_before}
+use Rattle.pl_faults.proofs.Gathered.{in_all_before, in_all_new}
 use Rattle.pl_faults.proofs.Missing.{misses_near, missed_still}
 use Rattle.pl_faults.proofs.leading.renew_beside.Goals as goal
 
@@ -21,7 +22,7 @@ returns c told word places was missed_before =
     record {
       reach = r.reach;
       missed_are = misses_near told after edges old new was r.reach missed fresh turned
-          (λ t out. places t (out_before (is_in moved t) (is_in (with_all some moved) t) (in_all_new t some moved) (more t out)))
-          (λ t out. r.same t (out_before (is_in some t) (is_in (with_all some moved) t) (in_all_before t some moved) (more t out))) missed_before put;
+          (λ t out. places t (false_before (is_in moved t) (is_in (with_all some moved) t) (in_all_new t some moved) (more t out)))
+          (λ t out. r.same t (false_before (is_in some t) (is_in (with_all some moved) t) (in_all_before t some moved) (more t out))) missed_before put;
       same = λ t out. missed_still turned (missed_in fresh t) (missed_in missed t) (missed_at after edges t) t out (put t);
     }

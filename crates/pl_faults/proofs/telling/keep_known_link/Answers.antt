@@ -1,7 +1,9 @@
 use Rattle.std.proofs.Common.{◌∙◌, ap, subst, sym}
+use Rattle.pl_lemmas.proofs.Bools.{still_is}
 use Rattle.pl_logic.specs.ManagerViews.{Told, is_alive, neighbours}
+use Rattle.pl_manager_rule.proofs.Speakers.{known_among}
 use Rattle.pl_faults.specs.Kept.{IsKept, IsLinkWord}
-use Rattle.pl_faults.proofs.Unchanged.{known_among, known_kept, still_is}
+use Rattle.pl_faults.proofs.Unchanged.{known_kept}
 use Rattle.pl_faults.proofs.Words.{word_of_link}
 use Rattle.pl_faults.proofs.telling.keep_known_link.Goals as goal
 

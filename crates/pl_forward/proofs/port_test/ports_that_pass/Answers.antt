@@ -1,5 +1,5 @@
-use Rattle.pl_forward.proofs.Passing.{passed_more}
+use Rattle.pl_steps.proofs.Ports.{passing_ports_more}
 use Rattle.pl_forward.proofs.port_test.ports_that_pass.Goals as goal
 
 pub loop-port-preserved : goal.loop-port-preserved
-loop-port-preserved g c = let e = passed_more (g.T.PortTest.passes c.args.test.now) c.loop-port.port in cc
+loop-port-preserved g c = let e = passing_ports_more (g.T.PortTest.passes c.args.test.now) c.loop-port.port in cc

@@ -1,4 +1,5 @@
 use Rattle.std.proofs.Common.{◌≡◌, ◌∙◌, ◌++◌, ap, subst, sym}
+use Rattle.pl_lemmas.proofs.Bools.{still_is}
 use Rattle.pl_frame.specs.declared.address.SwitchId.{SwitchId}
 use Rattle.pl_logic.specs.AvoidLists.{avoid_list}
 use Rattle.pl_faults.specs.Kept.{handed}
@@ -7,7 +8,7 @@ use Rattle.pl_manager_rule.specs.ManagerRule.{avoid_acts, with_link}
 use Rattle.pl_manager.specs.Routing.{AreOf, routed, trees_told_anew}
 use Rattle.pl_manager.specs.Telling.{AreRenewed, listed_groups}
 use Rattle.pl_manager.proofs.Changes.{changes_kept, changes_said, trees_silent, trees_still}
-use Rattle.pl_manager.proofs.SameTrees.{still_is, tree_stays}
+use Rattle.pl_manager.proofs.SameTrees.{tree_stays}
 use Rattle.pl_groups.specs.Kept.{members_in}
 use Rattle.pl_manager.proofs.renewing.tell_link.Goals as goal
 

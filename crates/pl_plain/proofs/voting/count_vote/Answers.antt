@@ -1,10 +1,10 @@
 use Rattle.std.proofs.Common.{◌≡◌, Some, is_none, ap, sym, ◌∙◌}
 use Rattle.pl_logic.specs.SwitchViews.{SwitchView}
 use Rattle.pl_layouts.specs.Placement.{is_known}
+use Rattle.pl_layouts.proofs.Known.{known_is}
 use Rattle.pl_ports.specs.PortsViews.{ports_alone, put_ports}
 use Rattle.pl_ports.specs.Changes.{with_position}
 use Rattle.pl_position.specs.Candidacy.{with_candidacy}
-use Rattle.pl_plain.proofs.Settled.{known_level}
 use Rattle.pl_plain.proofs.Votes.{fixed_now, position_grows, position_stays, uncounted}
 use Rattle.pl_plain.proofs.voting.count_vote.Goals as goal
 
@@ -25,7 +25,7 @@ returns-then-not-on_vote-clause-position c =
     ∙ c.requires.position
 
 pub fix_position-requires-clause-level : goal.fix_position-requires-clause-level
-fix_position-requires-clause-level c = known_level c.args.ports.now.place.level 0 (ap (λ p. is_known p.level 0) (sym c.place.ensures.place) ∙ sym c.is_edge.ensures ∙ c.if-not-is_edge.false)
+fix_position-requires-clause-level c = known_is c.args.ports.now.place.level 0 (ap (λ p. is_known p.level 0) (sym c.place.ensures.place) ∙ sym c.is_edge.ensures ∙ c.if-not-is_edge.false)
 
 abbrev view : (c : goal.After-fix_position) → put_ports c.fix_position.new.self (ports_alone c.args.ports.now) ≡ with_position (ports_alone c.args.ports.now) (Some c.in-Some.position)
 view c = c.fix_position.ensures (ports_alone c.args.ports.now)

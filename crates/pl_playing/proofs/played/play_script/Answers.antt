@@ -3,9 +3,10 @@ use Rattle.std.proofs.lemmas.Result.{err_from_is_err_and}
 use Rattle.pl_inputs.specs.Loaded.{inputs_of}
 use Rattle.pl_inputs.specs.Records.{records_of}
 use Rattle.pl_lines.specs.Lines.{DoesLines}
+use Rattle.pl_lines.proofs.Stops.{unless_weaker}
 use Rattle.pl_playing.specs.Outcomes.{PlaysTo}
 use Rattle.pl_playing.specs.Plays.{IsPlayedOver, IsUnplayed, played_over}
-use Rattle.pl_playing.proofs.Playing.{plays_over, unless_map, unplayed}
+use Rattle.pl_playing.proofs.Playing.{plays_over, unplayed}
 use Rattle.pl_playing.proofs.played.play_script.Goals as goal
 
 pub begin-requires : goal.begin-requires
@@ -41,7 +42,7 @@ returns-clause-err g c =
     let line : ℕ = c.in-Err.stopped.line in
     let stop = c.in-Err.stopped.stop in
     unplayed g.S.SwitchLogic.rule g.M.ManagerLogic.rule g.H.HostLogic.rule i line stop c.play.new.self c.status_of.result c.status_of.ensures
-    (unless_map stop (DoesLines g.S.SwitchLogic.rule g.M.ManagerLogic.rule g.H.HostLogic.rule (records_of c.deref.result.now) c.lines.result.now c.in_ok-fabric.fabric (Some (line, stop)) c.play.new.self)
+    (unless_weaker stop (DoesLines g.S.SwitchLogic.rule g.M.ManagerLogic.rule g.H.HostLogic.rule (records_of c.deref.result.now) c.lines.result.now c.in_ok-fabric.fabric (Some (line, stop)) c.play.new.self)
     (PlaysTo g.S.SwitchLogic.rule g.M.ManagerLogic.rule g.H.HostLogic.rule i (Some (line, stop)) c.play.new.self)
     (λ does. plays_over g.S.SwitchLogic.rule g.M.ManagerLogic.rule g.H.HostLogic.rule c.args.inputs.wiring c.args.inputs.captures.items c.deref.result.now c.args.inputs.script c.lines.result.now c.in_ok-fabric.fabric c.play.new.self (Some (line, stop))
     c.deref.ensures.value c.lines.ensures c.in_ok-fabric.ensures.scene does)

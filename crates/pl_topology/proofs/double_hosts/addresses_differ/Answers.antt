@@ -1,8 +1,9 @@
 use Rattle.std.proofs.Common.{◌≡◌, ◌<◌, ◌||◌, true, false, [], length, take, Err, sym, ap, ◌∙◌, arith}
 use Rattle.std.specs.List.{list_any}
+use Rattle.std.proofs.lemmas.Bool.{or_left, or_right}
 use Rattle.pl_topology.specs.declared.error.TopologyError.TheVariants.{DoubleAddress}
 use Rattle.pl_topology.specs.Checks.{addresses_are_new, has_mac, has_ip}
-use Rattle.pl_topology.proofs.FoundLemmas.{addresses_are_new-passes, addresses_are_new-refuses, not_there, was_there, or_left, or_right, sees_last}
+use Rattle.pl_topology.proofs.FoundLemmas.{addresses_are_new-passes, addresses_are_new-refuses, not_there, was_there, sees_last}
 use Rattle.pl_topology.proofs.RefusalLemmas.{each_beside-next, each_beside-refused, front_more}
 use Rattle.pl_topology.proofs.double_hosts.addresses_differ.Goals as goal
 use Rattle.pl_topology.proofs.double_hosts.addresses_differ.Goals.{then-not-mac_is_new-via-then-not-mac_is_new, then-not-mac_is_new-via-else-not-mac_is_new+then-not-ip_is_new}

@@ -1,11 +1,12 @@
 use Rattle.std.proofs.Common.{ap, ◌∙◌}
+use Rattle.pl_lemmas.proofs.Options.{if_ok}
 use Rattle.pl_edge.proofs.Delivered.{on_ok}
 use Rattle.pl_frame.specs.Ethernet.{source_of}
 use Rattle.pl_logic.specs.SwitchViews.{SwitchView}
 use Rattle.pl_layouts.specs.Placement.{is_known}
 use Rattle.pl_switch_rule.specs.Granting.{has_no_address, learns_source}
 use Rattle.pl_plain.specs.PlainViews.{plain_view, HasBookAt}
-use Rattle.pl_plain.proofs.Agreeing.{if_ok, may_be}
+use Rattle.pl_plain.proofs.Agreeing.{may_be}
 use Rattle.pl_plain.proofs.EdgeRows.{edge_taken, keeps_place}
 use Rattle.pl_plain.proofs.Settled.{edge_becomes}
 use Rattle.pl_plain.proofs.plain_state.PlainState.learn.Goals as goal

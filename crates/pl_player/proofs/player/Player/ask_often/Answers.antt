@@ -3,7 +3,8 @@ use Rattle.std.proofs.Common.{◌≡◌, ℕ, suc, ◌+◌, ◌-◌, None, refl,
 use Rattle.pl_inputs.specs.Records.{records_of}
 use Rattle.pl_lines.specs.Lines.{AsksNext}
 use Rattle.pl_lines.specs.Scenes.{Often}
-use Rattle.pl_player.proofs.Stops.{leads_all, led_on, led_stops, unless_weaker}
+use Rattle.pl_lines.proofs.Stops.{unless_weaker}
+use Rattle.pl_player.proofs.Stops.{leads_all, led_on, led_stops}
 use Rattle.pl_player.proofs.player.Player.ask_often.Goals as goal
 
 pub loop-init : goal.loop-init

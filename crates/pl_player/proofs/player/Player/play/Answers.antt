@@ -2,8 +2,8 @@ use Rattle.std.proofs.lemmas.List.{drop_all, drop_more}
 use Rattle.std.proofs.Common.{◌+◌, [], drop, arith}
 use Rattle.pl_inputs.specs.Records.{records_of}
 use Rattle.pl_lines.specs.Lines.{DoesLines}
+use Rattle.pl_lines.proofs.Stops.{unless_weaker}
 use Rattle.pl_player.proofs.Played.{from_here, line_at, played_all, played_on, played_up_to}
-use Rattle.pl_player.proofs.Stops.{unless_weaker}
 use Rattle.pl_player.proofs.player.Player.play.Goals as goal
 
 pub play_line-requires-clause-counted : goal.play_line-requires-clause-counted

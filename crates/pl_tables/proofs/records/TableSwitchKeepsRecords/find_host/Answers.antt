@@ -2,12 +2,12 @@ use Rattle.std.proofs.Common.{sym, ◌∙◌}
 use Rattle.std.proofs.lemmas.Bool.{and_parts}
 use Rattle.pl_logic.specs.PortRecords.{port_of}
 use Rattle.pl_layouts.specs.Placement.{is_known}
+use Rattle.pl_layouts.proofs.Known.{known_is}
 use Rattle.pl_plain.proofs.HostsKnown.{known_host}
-use Rattle.pl_plain.proofs.Settled.{known_level}
 use Rattle.pl_tables.proofs.records.TableSwitchKeepsRecords.find_host.Goals as goal
 
 pub returns-then-knows_host-clause-taken : goal.returns-then-knows_host-clause-taken
 returns-then-knows_host-clause-taken c =
     let v = c.args.self.now in
     let both = and_parts (is_known v.place.level 0) (port_of v c.args.port).host (sym c.knows_host.ensures ∙ c.if-knows_host.true) in
-    known_host v c.args.port c.args.out.now (known_level v.place.level 0 both.0) both.1
+    known_host v c.args.port c.args.out.now (known_is v.place.level 0 both.0) both.1

@@ -1,13 +1,10 @@
 "use strict";
-// Draws the fabric of a picture: pods, links, switches and hosts as they are once so many entries have happened. What is known or
-// failed is told by shape and words as well as by colour: a switch that does not know its level is dashed, a placed one has a
-// thick outline, a failed link is dashed with a cross; a load is told by width and number as well.
+// Draws the boxes of a picture: switches, hosts and folded pods as they are once so many entries have happened. What is known is told
+// by shape and words as well as by colour: a switch that does not know its level is dashed, a placed one has a thick outline; a load
+// is told by number as well.
 globalThis.Drawing = (() => {
     // Boxes that are narrower than this have neither outlines nor texts.
     const BARE = 10;
-    // Of more links than this each is drawn fainter, on a canvas that is wide enough for so many.
-    const MANY = 80;
-    const faded = (p, count) => Math.max(0.1, Math.min(1, Math.min(MANY, p.width / 6) / count));
 
     // What a switch knows of its place, in texts that fall in length. An unknown part is - as in a journal.
     const placeTexts = ({ level, position, pod }) => {
@@ -18,140 +15,43 @@ globalThis.Drawing = (() => {
         return [`pod ${part(pod)} \u00b7 pos ${part(position)}`, `${part(pod)}.${part(position)}`];
     };
 
-    const pods = p => {
-        const { c } = p.pen;
-        const { layout, colour } = p;
-        layout.pods.forEach((pod, n) => {
-            const at = p.shown(pod);
-            c.beginPath();
-            c.roundRect(at.x, at.y, at.width, at.height, 6);
-            c.fillStyle = colour.pod;
-            c.fill();
-            if (layout.folds && pod.isOpen) p.pen.outline(colour.link, 1);
-            const mark = !layout.folds ? "" : pod.isOpen ? "\u25be " : "\u25b8 ";
-            const texts = [`${mark}pod ${n}${layout.folds ? "" : " of the wiring"}`, `pod ${n}`, `${n}`];
-            const y = at.y + at.height - Math.max(7, Math.min(10, 12 * p.scale));
-            p.pen.write(texts, at.x + at.width / 2, y, at.width - 4, Math.max(8, Math.min(11, 16 * p.scale)), colour.muted);
-        });
-    };
-
-    // the level of a load from 0 to 5, by its logarithm in that of the largest
-    const levelOf = (count, most) => (count === 0 ? 0 : Math.min(5, 1 + Math.floor(4.999 * Math.log(count) / Math.log(Math.max(2, most)))));
-    const largest = counts => counts.reduce((most, count) => Math.max(most, count), 0);
-
-    // A number that changes where what is shown of the loads does: the levels of links and switches, and where boxes are so large
-    // that they have texts the numbers of frames too.
-    const loadKey = p => {
-        const { carried, crossings } = p.state;
-        const [mostCarried, mostCrossings] = [largest(carried), largest(crossings)];
+    // What the boxes look like: what each switch knows of its place and, where loads are shown, its level and, in boxes that have texts, its
+    // number of frames; and where the hosts stand with which address.
+    const lookOf = p => {
+        const { state, isLoads } = p;
+        p.mostCrossings = isLoads ? Ground.largest(state.crossings) : 0;
         const hasTexts = p.layout.folded.length > 0 || p.layout.box[0] * p.scale >= BARE;
-        let key = 1;
-        for (const count of carried) key = Math.imul(key ^ levelOf(count, mostCarried), 16777619);
-        for (const count of crossings) key = Math.imul(key ^ (hasTexts ? count : levelOf(count, mostCrossings)), 16777619);
-        return key;
+        const loads = Float64Array.from(isLoads ? state.crossings : [], count => (hasTexts ? 8 * count : 0) + Ground.levelOf(count, p.mostCrossings));
+        return { loads, places: state.places.slice(), spots: state.spots.slice(), newest: state.newest.slice() };
     };
 
-    // the least count of each level above 0
-    const bounds = most => [1, 2, 3, 4, 5].map(level => Math.ceil(Math.max(2, most) ** ((level - 1) / 4.999) - 1e-9));
+    // They look the same while this does.
+    const keyOf = ({ state: { counts }, isLoads }) => {
+        const { placed, granted, freed, moved, crossed } = Journal.KIND;
+        return [counts[placed], counts[granted], counts[freed], counts[moved], isLoads ? counts[crossed] : 0].join(" ");
+    };
 
-    // What is drawn of the links of a layout, made once of it: `of` has the line of each link, and `ends` the four ends of each
-    // line, in units of the drawing. A line is one link, or all links between a folded pod and a group of core switches, or in it.
-    const linesOf = (fabric, layout) => {
-        const { switches, pods: places, groups: middles } = layout;
-        const h = fabric.k / 2;
-        const lines = { of: new Int32Array(fabric.links.length), ends: [], isOne: [] };
-        const bundles = new Map();
-        const add = (a, b, isOne) => {
-            lines.ends.push(a.x, a.y - a.height / 2, b.x, b.y + b.height / 2);
-            return lines.isOne.push(isOne) - 1;
-        };
-        fabric.links.forEach((link, n) => {
-            const { pod } = fabric.switches[link.a];
-            const [a, b] = [switches[link.a], switches[link.b]];
-            if (places[pod].isOpen) {
-                lines.of[n] = add(a, b, true);
-                return;
-            }
-            const isInPod = b.pod !== undefined;
-            const key = isInPod ? -1 - pod : pod * h + (link.a % h);
-            if (!bundles.has(key)) bundles.set(key, add(a, isInPod ? b : { x: middles[link.a % h].x, y: middles[link.a % h].y, height: 0 }, false));
-            lines.of[n] = bundles.get(key);
+    // the places on the canvas where two looks differ: the boxes of what changed
+    const changes = (p, before, now) => {
+        const boxes = new Set();
+        now.places.forEach((place, number) => {
+            if (place !== before.places[number] || now.loads[number] !== before.loads[number]) boxes.add(p.layout.switches[number]);
         });
-        return lines;
-    };
-
-    // the lines in sight, each with its ends on the canvas, the largest load of its links, and how many of them are failed
-    const segmentsOf = p => {
-        const { state, x, y, scale } = p;
-        if (p.lines === null) p.lines = linesOf(p.fabric, p.layout);
-        const { of, ends, isOne } = p.lines;
-        const [load, failed] = [new Int32Array(isOne.length), new Int32Array(isOne.length)];
-        for (let n = 0; n < of.length; n++) {
-            failed[of[n]] += state.failed[n];
-            if (state.carried[n] > load[of[n]]) load[of[n]] = state.carried[n];
-        }
-        const segments = [];
-        for (let n = 0; n < isOne.length; n++) {
-            const at = 4 * n;
-            const line = [(ends[at] - x) * scale, (ends[at + 1] - y) * scale, (ends[at + 2] - x) * scale, (ends[at + 3] - y) * scale];
-            if (p.isCrossing(line)) segments.push({ ends: line, load: load[n], failed: failed[n], isOne: isOne[n] });
-        }
-        return segments;
-    };
-
-    const links = p => {
-        const { colour, pen, scale } = p;
-        const segments = segmentsOf(p);
-        const width = Math.max(0.4, Math.min(1.4, scale * 1.1));
-        const isStory = p.scene && p.scene.subject !== null;
-        const alpha = faded(p, segments.length) * (isStory ? 0.55 : 1);
-        const live = segments.filter(({ failed, isOne }) => failed === 0 || !isOne);
-        if (p.isLoads) loaded(p, live, width);
-        else pen.faint(alpha, () => pen.lines(live.map(({ ends }) => ends), colour.link, width, []));
-        const broken = segments.filter(({ failed }) => failed > 0);
-        pen.lines(broken.map(({ ends }) => ends), colour.failed, 1.6, [5, 4]);
-        for (const { ends: [x, y, toX, toY], failed, isOne } of broken) {
-            const [middleX, middleY] = [(x + toX) / 2, (y + toY) / 2];
-            pen.cross(middleX, middleY, 4, colour.failed);
-            if (!isOne && failed > 1) pen.write([`${failed}`], middleX + 10, middleY, 30, 10, colour.failed, true);
-        }
-        hostLinks(p);
-    };
-
-    // links by the frames that came over them: the more, the wider and the farther from the paper's colour
-    const loaded = (p, segments, width) => {
-        const most = largest(p.state.carried);
-        const levels = segments.map(({ load }) => levelOf(load, most));
-        const wider = Math.max(0.12, Math.min(1, 80 / segments.length)) * Math.max(0.5, Math.min(1, p.scale)); // for each level
-        for (let level = 0; level <= 5; level++) {
-            const drawn = segments.filter((_, n) => levels[n] === level).map(({ ends }) => ends);
-            if (level === 0) p.pen.faint(Math.min(0.6, faded(p, segments.length)), () => p.pen.lines(drawn, p.colour.link, width, []));
-            else p.pen.lines(drawn, p.colour[`load${level}`], 0.5 + level * wider, []);
-        }
-    };
-
-    const hostLinks = p => {
-        const { layout, fabric } = p;
-        const short = [];
-        for (const spot of p.state.spots) {
-            const box = layout.cells.get(spot);
-            if (box.pod !== undefined) continue;
-            const cell = p.shown(box);
-            const edge = p.shown(layout.switches[Math.floor(spot / fabric.k)]);
-            short.push([cell.x, cell.y, cell.x, Math.min(cell.y, edge.y + edge.height / 2)]);
-        }
-        for (const { edge, hosts } of layout.folded) {
-            const [above, below] = [p.shown(edge), p.shown(hosts)];
-            short.push([below.x, above.y + above.height / 2, below.x, below.y]);
-        }
-        p.pen.lines(short.filter(segment => p.isCrossing(segment)), p.colour.link, 1, []);
+        now.spots.forEach((spot, host) => {
+            if (spot === before.spots[host] && now.newest[host] === before.newest[host]) return;
+            boxes.add(p.layout.cells.get(spot)).add(p.layout.cells.get(before.spots[host]));
+        });
+        return [...boxes].map(box => {
+            const { x, y, width, height } = p.shown(box);
+            return { x: x - width / 2 - 3, y: y - height / 2 - 3, width: width + 6, height: height + 6 };
+        });
     };
 
     const fillOf = (p, level) => (level === null ? p.colour.paper : [p.colour.edge, p.colour.aggregation, p.colour.core][level]);
 
     // the colour of a box by a load, and of the texts in it
     const loadColours = (p, count) => {
-        const level = levelOf(count, p.mostCrossings);
+        const level = Ground.levelOf(count, p.mostCrossings);
         return level === 0 ? [p.colour.paper, p.colour.ink] : [p.colour[`load${level}`], level > 2 ? p.colour.loadink : p.colour.ink];
     };
 
@@ -233,7 +133,7 @@ globalThis.Drawing = (() => {
         const places = numbers.map(number => At.place(state, number));
         const placed = places.filter(At.isPlaced).length;
         const known = places.find(place => place.level !== null);
-        const most = largest(numbers.map(number => state.crossings[number]));
+        const most = Ground.largest(numbers.map(number => state.crossings[number]));
         const total = numbers.reduce((sum, number) => sum + state.crossings[number], 0);
         const [fill, ink] = p.isLoads ? loadColours(p, most) : [fillOf(p, known ? known.level : null), colour.ink];
         pen.box(at, fill, colour.ink, placed === numbers.length ? 1.7 : 0.9, known ? [] : [3, 3]);
@@ -272,10 +172,7 @@ globalThis.Drawing = (() => {
         });
     };
 
-    const fabric = p => {
-        p.mostCrossings = p.isLoads ? largest(p.state.crossings) : 0;
-        pods(p);
-        links(p);
+    const draw = p => {
         const taken = new Set(p.state.spots);
         for (const [spot, box] of p.layout.cells) if (box.pod === undefined && !taken.has(spot)) port(p, spot, box);
         folded(p);
@@ -293,5 +190,5 @@ globalThis.Drawing = (() => {
         pen.write([p.nameOf(place)], at.x, at.y + 0.5, at.width - 4, 11, colour.ink, true);
     };
 
-    return { fabric, oneSwitch, oneHost, named, placeTexts, bounds, largest, loadKey };
+    return { draw, lookOf, keyOf, changes, oneSwitch, oneHost, named, placeTexts };
 })();

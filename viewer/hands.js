@@ -53,8 +53,8 @@
         $("loads").setAttribute("aria-pressed", String(isLoads));
         $("scale").hidden = !isLoads;
         if (!isLoads) return;
-        const most = Drawing.largest(page.state.carried);
-        const bounds = Drawing.bounds(most);
+        const most = Ground.largest(page.state.carried);
+        const bounds = Ground.bounds(most);
         $("scale").replaceChildren("over a link:", ...bounds.flatMap((least, n) => {
             const top = n < 4 ? bounds[n + 1] - 1 : most;
             if (top < least) return [];

@@ -371,6 +371,13 @@ globalThis.Page = (() => {
     const nameOf = run => `k ${run.fabric.k}, ${Words.plural(run.fabric.switches.length, "switch", "switches")}, `
         + `${Words.plural(run.fabric.hosts.length, "host")}, ${Words.plural(run.count, "entry", "entries")}`;
 
+    // draws the picture alone, as it is once so many entries have happened
+    const drawnAt = entry => {
+        const state = At.at(page.states, entry);
+        picture.set(state, Scene.of(page.run, state, null));
+        picture.draw();
+    };
+
     const show = (opened, name) => {
         if (page.playing) stop();
         Object.assign(page, opened, { state: At.at(opened.states, 0), subject: null, story: null, known: null });
@@ -383,6 +390,7 @@ globalThis.Page = (() => {
         $("opened").textContent = `${name ? `${name}: ` : ""}${nameOf(page.run)}`;
         $("tab-script").hidden = !page.script;
         $("filter").value = "";
+        drawnAt(page.run.count); // so that its texts are measured before a step is waited for
         picture.set(page.state, Scene.of(page.run, page.state, null));
         choose("journal");
         if (!toMoment()) go(0);

@@ -3,6 +3,7 @@
 globalThis.Pen = (() => {
     const FONT = "system-ui, 'DejaVu Sans', sans-serif";
     const SMALLEST = 6; // no text is written smaller
+    const STEPS = 4; // sizes of a font in a point
     const [MEASURED, MOST] = [100, 20000]; // the size at which texts are measured, and how many widths are kept
     const widths = new Map();
 
@@ -11,8 +12,9 @@ globalThis.Pen = (() => {
             this.c = context;
         }
 
+        // In steps, so that there are few fonts: a browser takes long for each that is new.
         font(size, isBold) {
-            this.c.font = `${isBold ? "bold " : ""}${size}px ${FONT}`;
+            this.c.font = `${isBold ? "bold " : ""}${Math.floor(size * STEPS) / STEPS}px ${FONT}`;
         }
 
         // how wide a text is, which grows as its size does
@@ -77,6 +79,12 @@ globalThis.Pen = (() => {
             c.fillStyle = fill;
             c.fill();
             this.outline(ink, 1.8);
+        }
+
+        // fills most of a box
+        spot(at, ink) {
+            this.c.fillStyle = ink;
+            this.c.fillRect(at.x - at.width * 0.35, at.y - at.height * 0.35, at.width * 0.7, at.height * 0.7);
         }
 
         // Each line is a path of its own: hundreds that cross each other in one path take a browser twice as long.

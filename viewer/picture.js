@@ -1,20 +1,18 @@
 "use strict";
 // A picture of a scene on a canvas: what part of the drawing is in sight, and where things are there. The fabric itself is kept
-// as a picture of its own, made anew only where it or the view changed, so that a step draws its frames alone.
+// as a picture of its own, in Layers, so that a step draws its frames alone.
 globalThis.Picture = (() => {
     const NAMES = ["paper", "ink", "muted", "link", "pod", "edge", "aggregation", "core", "host", "now", "nowink", "failed",
         "load1", "load2", "load3", "load4", "load5", "loadink"];
-    const { KIND } = Journal;
+    const WIDE = 3; // no line is wider on either side
 
     class Picture {
         constructor(canvas) {
             this.canvas = canvas;
             this.screen = canvas.getContext("2d", { alpha: false });
-            this.kept = document.createElement("canvas");
-            this.keptContext = this.kept.getContext("2d", { alpha: false });
-            this.key = ""; // what the kept picture was made of
+            this.layers = Layers.make();
             this.pen = Pen.of(this.screen);
-            Object.assign(this, { width: 0, height: 0, scale: 1, x: 0, y: 0, progress: 1, isLoads: false, open: new Set(), touched: null });
+            Object.assign(this, { width: 0, height: 0, scale: 1, x: 0, y: 0, progress: 1, isLoads: false, open: new Set(), touched: null, place: null });
             Object.assign(this, { run: null, fabric: null, layout: null, state: null, scene: null, names: new Map(), lines: null });
         }
 
@@ -29,7 +27,7 @@ globalThis.Picture = (() => {
         themed() {
             const style = getComputedStyle(document.documentElement);
             this.colour = Object.fromEntries(NAMES.map(name => [name, style.getPropertyValue(`--${name}`).trim()]));
-            this.key = "";
+            this.layers.forget();
         }
 
         show(run) {
@@ -43,9 +41,9 @@ globalThis.Picture = (() => {
         // lays the fabric out in the shape that the canvas has now
         lay() {
             this.measure();
-            this.lines = null; // Drawing makes them of the layout
+            this.lines = null; // Ground makes them of the layout
             this.layout = Layout.of(this.fabric, { width: this.width, height: this.height }, this.open);
-            this.key = "";
+            this.layers.forget();
         }
 
         // the whole fabric
@@ -117,9 +115,26 @@ globalThis.Picture = (() => {
             return { x: (box.x - x) * scale, y: (box.y - y) * scale, width: box.width * scale, height: box.height * scale };
         }
 
-        isSeen(at) {
-            const { x, y, width, height } = at;
-            return x + width > 0 && y + height > 0 && x - width < this.width && y - height < this.height;
+        // what is drawn on: a place of the canvas, or all of it
+        get sight() {
+            return this.place || { x: 0, y: 0, width: this.width, height: this.height };
+        }
+
+        // draws by `act` at a place of the canvas alone
+        within(place, context, act) {
+            context.save();
+            context.beginPath();
+            context.rect(place.x, place.y, place.width, place.height);
+            context.clip();
+            this.place = place;
+            act();
+            this.place = null;
+            context.restore();
+        }
+
+        isSeen({ x, y, width, height }) {
+            const { sight } = this;
+            return x + width > sight.x && y + height > sight.y && x - width < sight.x + sight.width && y - height < sight.y + sight.height;
         }
 
         // A host is at the port that is named with it, else where it stands now.
@@ -153,32 +168,15 @@ globalThis.Picture = (() => {
             return [from.x, from.y - from.height / 2, to.x, to.y + to.height / 2];
         }
 
-        isCrossing([x, y, toX, toY]) {
-            return Math.max(x, toX) > 0 && Math.min(x, toX) < this.width && Math.max(y, toY) > 0 && Math.min(y, toY) < this.height;
-        }
-
-        // The fabric looks the same while none of these entries happens, no load gets another colour or number, and the view stays.
-        keyOf(width, height, ratio) {
-            const { counts } = this.state;
-            const kinds = [KIND.placed, KIND.granted, KIND.freed, KIND.moved, KIND.linkdown, KIND.linkup];
-            const happened = kinds.map(kind => counts[kind]);
-            const loads = this.isLoads ? Drawing.loadKey(this) : 0;
-            return [width, height, ratio, this.scale, this.x, this.y, loads, this.scene.subject !== null, ...happened].join(" ");
-        }
-
-        drawKept(width, height, ratio) {
-            const key = this.keyOf(width, height, ratio);
-            if (key !== this.key) {
-                this.key = key;
-                this.kept.width = this.canvas.width;
-                this.kept.height = this.canvas.height;
-                this.pen = Pen.of(this.keptContext);
-                this.prepare(this.keptContext, width, height, ratio);
-                Drawing.fabric(this);
-                this.pen = Pen.of(this.screen);
-            }
-            this.screen.setTransform(1, 0, 0, 1, 0, 0);
-            this.screen.drawImage(this.kept, 0, 0);
+        // whether a line may cross what is drawn on, as a line in a box that meets it does
+        isCrossing(line) {
+            const { sight } = this;
+            const [x, toX, left, right] = [line[0], line[2], sight.x - WIDE, sight.x + sight.width + WIDE];
+            if ((x <= left && toX <= left) || (x >= right && toX >= right)) return false;
+            const [y, toY, top, bottom] = [line[1], line[3], sight.y - WIDE, sight.y + sight.height + WIDE];
+            if ((y <= top && toY <= top) || (y >= bottom && toY >= bottom)) return false;
+            const side = (atX, atY) => Math.sign((toX - x) * (atY - y) - (toY - y) * (atX - x));
+            return Math.abs(side(left, top) + side(right, top) + side(left, bottom) + side(right, bottom)) < 4;
         }
 
         prepare(context, width, height, ratio) {
@@ -196,7 +194,9 @@ globalThis.Picture = (() => {
             if (canvas.height !== Math.round(height * ratio)) canvas.height = Math.round(height * ratio);
             this.prepare(screen, width, height, ratio);
             if (!this.scene || width === 0 || height === 0) return;
-            this.drawKept(width, height, ratio);
+            const fabric = this.layers.bring(this, { width, height, ratio });
+            screen.setTransform(1, 0, 0, 1, 0, 0);
+            screen.drawImage(fabric, 0, 0);
             screen.setTransform(ratio, 0, 0, ratio, 0, 0);
             Traces.draw(this);
         }
@@ -206,7 +206,9 @@ globalThis.Picture = (() => {
             const { pen } = this;
             this.pen = Pen.of(context);
             this.prepare(context, this.width, height, ratio);
-            Drawing.fabric(this);
+            Ground.draw(this, Ground.lookOf(this));
+            Drawing.lookOf(this);
+            Drawing.draw(this);
             Traces.draw(this);
             this.pen = pen;
         }

@@ -7,12 +7,14 @@ globalThis.Rows = (() => {
 
     class Rows {
         constructor(box, fill, choose, role) {
-            Object.assign(this, { box, fill, choose, role, count: 0, marked: -1, isNow: true });
+            Object.assign(this, { box, fill, choose, role, count: 0, marked: -1, isNow: true, top: -1 }); // `top`: where it was drawn last
             this.inner = document.createElement("div");
             this.inner.className = "rows";
             if (role === "row") this.inner.setAttribute("role", "presentation");
             box.append(this.inner);
-            box.addEventListener("scroll", () => this.draw());
+            box.addEventListener("scroll", () => {
+                if (box.scrollTop !== this.top) this.draw();
+            });
             box.addEventListener("keydown", event => this.key(event));
             this.inner.addEventListener("click", event => {
                 const row = event.target.closest(".row");
@@ -49,6 +51,7 @@ globalThis.Rows = (() => {
             const { box, inner } = this;
             inner.style.height = `${Math.min(this.longest, LONGEST)}px`;
             const { scrollTop, clientHeight } = box;
+            this.top = scrollTop;
             const from = scrollTop * this.ratio;
             const rows = [];
             const last = Math.min(this.count, Math.ceil((from + clientHeight) / HEIGHT) + 1);

@@ -3,6 +3,8 @@
 globalThis.Traces = (() => {
     // Whether a text beside a box would cover much of it, or of the next one: then a dot stands for a frame.
     const isWideFor = (text, at) => 7 * text.length + 10 > 0.6 * at.width;
+    // In a narrower box a frame fills it: dots would lie on each other, and thousands of them take long.
+    const NARROW = 6;
 
     const place = (p, where, isMarked) => {
         if (where.link !== undefined) return;
@@ -45,6 +47,7 @@ globalThis.Traces = (() => {
             const text = ids.length > 1 ? `\u00d7${ids.length}` : `${ids[0]}`;
             if (!isWideFor(text, at)) frameLabel(p, text, right - 5, top - 5, false);
             else if (ids.length > 1) frameLabel(p, text, right - 6, top - 6, false, 9);
+            else if (at.width < NARROW) p.pen.spot(at, p.colour.ink);
             else p.pen.dot(right - 2, top, Math.max(3, Math.min(4, at.height / 6)), p.colour.paper, p.colour.ink);
         }
     };

@@ -1,21 +1,27 @@
 "use strict";
-// How long the page takes with a large fabric, on a machine that does nothing else: it opens a run of k = 24 with 3,456 hosts and 150,001
-// entries, steps back over its last entries, and steps where the picture of the fabric is drawn anew.
+// How long the page takes with a large fabric: it opens a run of k = 24 with 3,456 hosts and 150,001 entries, and steps in it, near and
+// far, and where the picture of the fabric is drawn anew. Each step is measured by the clock until it is painted, and by the
+// processor time of the page's own thread, which is little more where other programs run beside it.
 //
-//     node viewer/tests/measure.js PROGRAM     PROGRAM is a Chromium
+//     node viewer/tests/measure.js PROGRAM [STEPS [PASSES [KINDS]]]
+//
+// PROGRAM is a Chromium; so many steps of each kind, 1,000 where it is not said. Of more passes over the same steps than one the least
+// of each step is taken, which is what it costs itself, whatever came between. KINDS are the first so many kinds.
 const fs = require("fs");
+const os = require("os");
 const path = require("path");
 const wide = require("./wide.js");
 const { PAGE, work, isOpen } = require("./pages.js");
 const { begin } = require("./browser.js");
 
-const [K, ENTRIES, TIMES, STEPS] = [24, 150001, 5, 200];
+const [K, ENTRIES, TIMES] = [24, 150001, 5];
+const [LATE, SLOW] = [2000, 30]; // milliseconds of an opening and of a step
 
 const median = numbers => [...numbers].sort((a, b) => a - b)[Math.floor(numbers.length / 2)];
-const said = (what, limit, numbers) => {
+const said = (limit, numbers) => {
     const round = number => Math.round(number * 10) / 10;
     const slow = numbers.filter(number => number > limit).length;
-    console.log(`${what}: median ${round(median(numbers))} ms, most ${round(Math.max(...numbers))} ms, ${slow} of ${numbers.length} above ${limit} ms`);
+    return `median ${round(median(numbers))} ms, most ${round(Math.max(...numbers))} ms, ${slow} of ${numbers.length} above ${limit} ms`;
 };
 
 const files = () => {
@@ -27,34 +33,76 @@ const files = () => {
     });
 };
 
-const openings = async (browser, run) => {
-    const taken = [];
-    for (let n = 0; n < TIMES; n++) {
-        await browser.open(PAGE);
-        const begun = Date.now();
-        await browser.choose(run);
-        await browser.until(isOpen(ENTRIES), 60);
-        taken.push(Date.now() - begun);
-    }
-    return taken;
+const opened = async (browser, run) => {
+    await browser.open(PAGE);
+    const begun = Date.now();
+    await browser.choose(run);
+    await browser.until(isOpen(ENTRIES), 60);
+    return Date.now() - begun;
 };
 
-// each step with the pictures that it asks for
-const steps = (browser, from, by) => browser.value(`(async () => { const taken = []; for (let n = 0; n < ${STEPS}; n++) {
-    const begun = performance.now(); Page.step(${from} - n * ${by});
-    await new Promise(done => requestAnimationFrame(() => setTimeout(done))); taken.push(performance.now() - begun); } return taken; })()`);
+// the milliseconds that the page's thread has worked so far
+const worked = async browser => {
+    const { metrics } = await browser.call("Performance.getMetrics");
+    return 1000 * metrics.find(({ name }) => name === "ThreadTime").value;
+};
 
-const worked = (browser, from, by) => browser.value(`(() => { const taken = []; for (let n = 0; n < ${STEPS}; n++) {
-    const begun = performance.now(); Page.step(${from} - n * ${by}); taken.push(performance.now() - begun); } return taken; })()`);
+// Steps of a kind: `before` is done first, and `to` says in the page to which entry step n goes.
+const steps = async (browser, count, before, to) => {
+    const [clock, processor] = [[], []];
+    await browser.value(`(() => { ${before}; Page.draw(false); Page.toMeasure = ${to}; Page.step(Page.toMeasure(${count - 1})); })()`);
+    for (let n = 0; n < count; n++) {
+        const begun = await worked(browser);
+        clock.push(await browser.value(`(async () => { const begun = performance.now(); Page.step(Page.toMeasure(${n}));
+            await new Promise(done => requestAnimationFrame(() => setTimeout(done))); return performance.now() - begun; })()`));
+        processor.push(await worked(browser) - begun);
+    }
+    return { clock, processor };
+};
+
+// to and back over the entries with these words, the last ones first
+const around = (...words) => `(() => { const { run } = Page.page; const found = []; for (let n = run.count - 1; n >= 0; n--)
+    if (${JSON.stringify(words)}.some(word => run.kind[n] === Journal.KIND[word])) found.push(n);
+    return n => found[Math.floor(n / 2) % found.length] + (n % 2 === 0 ? 1 : 0); })()`;
+const BACK = `n => ${ENTRIES} - n`;
+const FAR = `n => (n * 48611 + 70001) % ${ENTRIES}`; // so many entries away that each comes by itself
+const LOADS = `document.getElementById("loads").click()`;
+const OPEN = "Page.picture.openPods(Page.picture.layout.pods.keys())";
+
+const KINDS = [
+    ["a step back", "", BACK],
+    ["a step far away", "", FAR],
+    ["a step at which a switch is placed or an address granted", "Page.step(4500)", around("granted", "placed")],
+    ["a step at which a link fails or comes back", "Page.step(4500)", around("linkdown", "linkup")],
+    ["a step back with the loads", LOADS, BACK],
+    ["a step far away with the loads", LOADS, FAR],
+    ["a step back with all pods open", OPEN, BACK],
+    ["a step far away with all pods open", OPEN, FAR],
+    ["a step at which a switch is placed or an address granted, with all pods open", `${OPEN}; Page.step(4500)`, around("granted", "placed")],
+    ["a step at which a link fails or comes back, with all pods open", OPEN, around("linkdown", "linkup")],
+    ["a step back with all pods open and the loads", `${LOADS}; ${OPEN}`, BACK],
+];
+
+const leastOf = passes => passes[0].map((_, n) => Math.min(...passes.map(pass => pass[n])));
 
 const main = async () => {
     const browser = await begin(process.argv[2], 1920, 1080);
     try {
         const run = files();
-        said("opening", 2000, await openings(browser, run));
-        said("a step", 30, await worked(browser, ENTRIES, 1));
-        said("a step far away", 30, await worked(browser, ENTRIES, 601));
-        said("a step until it is painted", 30, await steps(browser, ENTRIES, 1));
+        const [count, passes, kinds] = [Number(process.argv[3] || 1000), Number(process.argv[4] || 1), Number(process.argv[5] || KINDS.length)];
+        console.log(`before: ${os.loadavg()[0]} programs at work on ${os.cpus().length} processors`);
+        await browser.call("Performance.enable");
+        const openings = [];
+        for (let n = 0; n < TIMES; n++) openings.push(await opened(browser, run));
+        console.log(`opening: ${said(LATE, openings)}`);
+        for (const [name, before, to] of KINDS.slice(0, kinds)) {
+            await opened(browser, run);
+            const taken = [await steps(browser, count, before, to)];
+            while (taken.length < passes) taken.push(await steps(browser, count, "", to));
+            const of = what => said(SLOW, leastOf(taken.map(pass => pass[what])));
+            console.log(`${name}:\n    by the clock: ${of("clock")}\n    of processor: ${of("processor")}`);
+        }
+        console.log(`behind: ${os.loadavg()[0]} programs at work`);
     } finally {
         await browser.close();
         fs.rmSync(work, { recursive: true, force: true });

@@ -195,6 +195,21 @@ const loads_and_the_chart = async (browser, width) => {
     assert(label.startsWith(`Frames so far: sent ${counts[Journal.KIND.sent]}, arrived ${counts[Journal.KIND.arrived]}, NoNextHop ${causes[1]}`), label);
 };
 
+// Where a step draws a few places of the fabric anew, the picture is that of a fabric that is drawn whole, but for the edges of lines.
+const a_place_is_drawn_anew_as_all_is = async browser => {
+    const run = await opened(browser, "tests/fabric/random-04");
+    const changing = run.journal.split("\n").flatMap((line, n) => (/^(linkdown|linkup|moved|granted) /.test(line) ? [n + 1] : []));
+    for (const key of ["0", "l"]) {
+        await browser.press(key);
+        const differ = await browser.value(`(() => { const { layers } = Page.picture; const differ = [];
+            const points = () => { const { canvas, context } = layers.boxes; return context.getImageData(0, 0, canvas.width, canvas.height).data; };
+            for (const n of ${JSON.stringify(changing.slice(-8))}) { Page.step(n - 1); Page.step(n); const kept = points(); layers.forget(); Page.draw(false);
+                const whole = points(); let most = 0; for (let at = 0; at < kept.length; at++) most = Math.max(most, Math.abs(whole[at] - kept[at]));
+                if (most > 128) differ.push(n); } return differ; })()`);
+        assert.deepEqual(differ, [], `behind ${key}`);
+    }
+};
+
 const rowsOfTable = browser => browser.value("[...document.querySelectorAll('#table .row')].map(row => [...row.children].map(cell => cell.textContent.trim()))");
 
 const what_the_fabric_knows = async (browser, width) => {
@@ -319,6 +334,7 @@ const aging_restarts_and_bridges_are_told = async browser => {
 
 module.exports = {
     the_page_fits_its_screen, fingers_name_and_zoom, nothing_covers_switches_or_names, what_is_found_is_not_taken_for_now,
-    a_large_fabric_is_read, keys_reach_everything, the_rule_stands_below_the_sentence, loads_and_the_chart, what_the_fabric_knows, a_second_run_goes_beside,
+    a_large_fabric_is_read, keys_reach_everything, the_rule_stands_below_the_sentence, loads_and_the_chart,
+    a_place_is_drawn_anew_as_all_is, what_the_fabric_knows, a_second_run_goes_beside,
     the_welcome_page_shows_an_example, a_moment_is_kept, packed_pages_open_at_a_moment, aging_restarts_and_bridges_are_told,
 };

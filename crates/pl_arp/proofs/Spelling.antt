@@ -6,13 +6,12 @@ use Rattle.std.proofs.lemmas.Slice.Eq.{bytes_eq-Decides}
 use Rattle.std.proofs.lemmas.List.{take-append-drop, drop-drop, length-take-le, length-drop}
 use Rattle.byteorder.specs.Endian.{big_number, big_bytes}
 use Rattle.byteorder.specs.Numbers.{big_from-lt, big_number-reads_back}
-use Rattle.pl_lemmas.proofs.Lists.{next_part}
-use Rattle.pl_frame.proofs.Fields.{front_of, rest_of}
-use Rattle.pl_frame.proofs.Numbers.{IsBytes, bytes-drop, big_bytes-big_number_front}
+use Rattle.pl_lemmas.proofs.Exports.{next_part}
+use Rattle.pl_frame.proofs.Exports.{big_bytes-big_number_front, bytes-drop, front_of, IsBytes, rest_of}
 use Rattle.pl_arp.specs.declared.packet.Arp.{Arp}
 use Rattle.pl_arp.specs.declared.packet.ArpError.{ArpError}
 use Rattle.pl_arp.specs.declared.packet.ArpError.TheVariants.{Cut, OtherKind}
-use Rattle.pl_arp.specs.Packet.{Fits, arp_in, ethernet_ipv4, fields_at_front, layout}
+use Rattle.pl_arp.specs.Packet.{ArpFits, arp_in, ethernet_ipv4, fields_at_front, layout}
 
 abbrev packet : ℕ → List ℕ → ℕ → List ℕ → ℕ → Arp
 packet op sha spa tha tpa =
@@ -25,7 +24,7 @@ arp_in-whole payload long kind =
     rw (whole, kind) refl
 
 -- the packet's parts, and what follows them
-parts_are_read : (a : Arp) (rest : List ℕ) → Fits a →
+parts_are_read : (a : Arp) (rest : List ℕ) → ArpFits a →
     fields_at_front (ethernet_ipv4 ++ (big_bytes 2 a.op ++ (a.sha.0 ++ (big_bytes 4 a.spa.0 ++ (a.tha.0 ++ (big_bytes 4 a.tpa.0 ++ rest)))))) ≡ a
 parts_are_read a rest fits =
     let after_tha : List ℕ = big_bytes 4 a.tpa.0 ++ rest in
@@ -51,7 +50,7 @@ grouped : (a : Arp) (rest : List ℕ) →
 grouped a rest = simp append_assoc
 
 -- what is spelled is read
-pub arp_in-layout : (a : Arp) (rest : List ℕ) → Fits a → arp_in (layout a ++ rest) ≡ Ok a
+pub arp_in-layout : (a : Arp) (rest : List ℕ) → ArpFits a → arp_in (layout a ++ rest) ≡ Ok a
 arp_in-layout a rest fits =
     let spelled : List ℕ = ethernet_ipv4 ++ (big_bytes 2 a.op ++ (a.sha.0 ++ (big_bytes 4 a.spa.0 ++ (a.tha.0 ++ (big_bytes 4 a.tpa.0 ++ rest))))) in
     let sender = length-append a.sha.0 (big_bytes 4 a.spa.0 ++ (a.tha.0 ++ (big_bytes 4 a.tpa.0 ++ rest))) in
@@ -74,7 +73,7 @@ same_bytes : (xs ys : List ℕ) → not (bytes_eq xs ys) ≡ false → xs ≡ ys
 same_bytes xs ys h = (bytes_eq-Decides xs ys).0 (not-false (bytes_eq xs ys) h)
 
 -- the fields are within their types
-fields_fit : (p : List ℕ) → 28 ≤ length p → IsBytes p → Fits (fields_at_front p)
+fields_fit : (p : List ℕ) → 28 ≤ length p → IsBytes p → ArpFits (fields_at_front p)
 fields_fit p long small = record {
   op = big_from-lt 0 2 (drop 6 p) (bytes-drop 6 p small);
   sha = length-take-le 6 (drop 8 p) (omega (arith, length-drop 8 p));
@@ -99,7 +98,7 @@ payload_is p long small kind =
     ∙ sym (grouped (fields_at_front p) (drop 28 p))
 
 -- what is read is spelled so
-pub layout-arp_in : (payload : List ℕ) (a : Arp) → IsBytes payload → arp_in payload ≡ Ok a → Fits a × (payload ≡ layout a ++ drop 28 payload)
+pub layout-arp_in : (payload : List ℕ) (a : Arp) → IsBytes payload → arp_in payload ≡ Ok a → ArpFits a × (payload ≡ layout a ++ drop 28 payload)
 layout-arp_in payload a small h =
     let found : Result Arp ArpError = Ok (fields_at_front payload) in
     let other : Bool = not (bytes_eq (take 6 payload) ethernet_ipv4) in
@@ -108,5 +107,5 @@ layout-arp_in payload a small h =
     let long = ltb-false (length payload) 28 whole.0 in
     let kind = same_bytes (take 6 payload) ethernet_ipv4 known.0 in
     let same = same_packet (fields_at_front payload) a known.1 in
-    let P : Arp → Type 0 = λ b. Fits b × (payload ≡ layout b ++ drop 28 payload) in
+    let P : Arp → Type 0 = λ b. ArpFits b × (payload ≡ layout b ++ drop 28 payload) in
     subst P same (fields_fit payload long small, payload_is payload long small kind)

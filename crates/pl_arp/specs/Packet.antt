@@ -33,7 +33,7 @@ arp_in payload =
     else Ok (fields_at_front payload)
 
 -- each field is within its type
-pub record Fits (a : Arp) : Type 0 where
+pub record ArpFits (a : Arp) : Type 0 where
   pub op : a.op < 2 ^ 16
   pub sha : length a.sha.0 ≡ 6
   pub spa : a.spa.0 < 2 ^ 32

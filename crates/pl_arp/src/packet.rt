@@ -1,6 +1,6 @@
 ghost use Rattle.std.specs.Prelude.{◌≡◌, ◌≢◌, ◌<◌, ◌≤◌, ◌↔◌, ◌++◌, ℕ, List, length, take, drop, slice_index, IfOk, Ok, Err};
 ghost use Rattle.pl_arp.specs.declared.packet.Arp.{Arp};
-ghost use Rattle.pl_arp.specs.Packet.{Fits, arp_in, ethernet_ipv4, layout};
+ghost use Rattle.pl_arp.specs.Packet.{ArpFits, arp_in, ethernet_ipv4, layout};
 
 use byteorder::{BigEndian, ByteOrder};
 use pl_frame::{Ip4, Mac};
@@ -83,9 +83,9 @@ pub fn write(arp: &Arp) -> [u8; 28]
 /// A packet and its bytes determine each other: what is spelled is read, whatever follows it, and
 /// what is read is spelled so.
 pub fn spelling_is_exact()
-    ensures read { (arp : Arp) (padding : List ℕ) → Fits arp → arp_in (layout arp ++ padding) ≡ Ok arp }
+    ensures read { (arp : Arp) (padding : List ℕ) → ArpFits arp → arp_in (layout arp ++ padding) ≡ Ok arp }
     ensures spelled { (payload : List ℕ) (arp : Arp) → ((i : ℕ) → slice_index payload i < 256) →
-        arp_in payload ≡ Ok arp → Fits arp × (payload ≡ layout arp ++ drop 28 payload) }
+        arp_in payload ≡ Ok arp → ArpFits arp × (payload ≡ layout arp ++ drop 28 payload) }
 {}
 
 #[cfg(test)]

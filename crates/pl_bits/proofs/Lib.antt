@@ -1,3 +1,4 @@
 pub mod WordBits
 pub mod RowBits
 pub mod Either
+pub mod Exports

@@ -11,7 +11,7 @@ use Rattle.std.proofs.Math.Nat.{min-le_left, min-le_right, mod-eq_of_lt, mod-lt,
 use Rattle.std.proofs.lemmas.Nat.{mod-pow-add, ones_cat, pow_pos}
 use Rattle.std.proofs.lemmas.Nat.Bits.{bit_at-lt, bit_at_or}
 use Rattle.std.proofs.lemmas.Slice.Zip.{get_or-zip, length-zip}
-use Rattle.pl_bits.specs.Bits.{HasRoom, bits_of, has_bit, is_set}
+use Rattle.pl_bits.specs.Bits.{HasWords, bits_of, has_bit, is_set}
 use Rattle.pl_bits.specs.Rows.{either_row, trues}
 use Rattle.pl_bits.proofs.WordBits.{bit_set, bit_cleared, set_here, set_elsewhere, cleared_here, cleared_elsewhere, no_bit_of_zeros, has_bit_at}
 
@@ -81,7 +81,7 @@ either_bit (suc (suc a)) b p q = absurd (omega arith)
 is_set-or : (a b k : ℕ) → is_set (bit_or a b) k ≡ (is_set a k || is_set b k)
 is_set-or a b k = ap (λ c. c == 1) (bit_at_or a b k) ∙ either_bit (bit_at a k) (bit_at b k) (bit_at-lt a k) (bit_at-lt b k)
 
-pub bits_added : (old more new : List ℕ) (n m l : ℕ) → HasRoom n old → l ≡ min n m
+pub bits_added : (old more new : List ℕ) (n m l : ℕ) → HasWords n old → l ≡ min n m
     → ((i : ℕ) → i < length old → slice_index new i ≡ bit_or (slice_index old i) (slice_index more i))
     → bits_of new l ≡ either_row (bits_of old n) (bits_of more m)
 bits_added old more new n m l room least h =

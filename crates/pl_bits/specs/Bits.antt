@@ -23,8 +23,8 @@ unfoldable pub bits_of : List ℕ → ℕ → List Bool
 bits_of words n = map (has_bit words) (range_with_len 0 n)
 
 -- there is a word for each of n bits
-abbrev pub HasRoom : ℕ → List ℕ → Type 0
-HasRoom n words = n ≤ 64 * length words
+abbrev pub HasWords : ℕ → List ℕ → Type 0
+HasWords n words = n ≤ 64 * length words
 
 -- bits 1 and 2 of a word
 pub word_of_two_bits : bits_of (6 ∷ []) 4 ≡ false ∷ true ∷ true ∷ false ∷ []

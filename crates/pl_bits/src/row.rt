@@ -15,13 +15,13 @@ pub struct Row {
 
 impl Model for Row {
     ghost use Rattle.std.specs.Prelude.{Bool, List};
-    ghost use Rattle.pl_bits.specs.Bits.{HasRoom, bits_of};
+    ghost use Rattle.pl_bits.specs.Bits.{HasWords, bits_of};
 
     ghost Value = { List Bool };
 
     ghost view = { λ row. bits_of row.words.items row.len };
 
-    ghost invariant = { λ row. HasRoom row.len row.words.items };
+    ghost invariant = { λ row. HasWords row.len row.words.items };
 }
 
 impl Row {

@@ -1,5 +1,5 @@
 ghost use Rattle.std.specs.Prelude.{◌≡◌, ℕ, ◌*◌, ◌/◌, ◌%◌, ◌^◌, ◌<◌, ◌≤◌, IsTrue, bit_or, length, slice_index, slice_set};
-ghost use Rattle.pl_bits.specs.Bits.{bits_of, has_bit, with_bit, without_bit, HasRoom};
+ghost use Rattle.pl_bits.specs.Bits.{bits_of, has_bit, with_bit, without_bit, HasWords};
 ghost use Rattle.pl_bits.specs.Rows.{trues};
 
 /// Whether a bit of a row of words is set.
@@ -45,7 +45,7 @@ pub(crate) fn are_same(a: &[u64], b: &[u64]) -> bool
 
 /// How many of the first bits are set.
 pub(crate) fn count_bits(words: &[u64], len: usize) -> usize
-    requires { HasRoom len words.now }
+    requires { HasWords len words.now }
     ensures { result ≡ trues (bits_of words.now len) }
 {
     let whole = len / 64;

@@ -4,7 +4,7 @@ use Rattle.std.proofs.lemmas.Bool.{cases_lt}
 use Rattle.pl_capture.specs.Header.{header_of}
 use Rattle.pl_capture.specs.Record.{behind, IsRecord}
 use Rattle.pl_capture.specs.Capture.{AreRecords, reading_of}
-use Rattle.pl_capture.specs.Records.{record_by, record_at, HasReadBy, HasRead, IsCursorIn}
+use Rattle.pl_capture.specs.Records.{record_by, record_at, HasReadBy, HasReadRecords, IsCursorIn}
 use Rattle.pl_capture.proofs.Reading.{gives, fails, header_of-short, reading_of-short, reading_of-tail, reading_of-long}
 use Rattle.pl_capture.proofs.Standing.{got, nothing, refused, IsRecord-got, IsTail-nothing, IsTooLong-refused}
 use Rattle.pl_capture.specs.declared.endianness.Endianness.{Endianness}
@@ -56,10 +56,10 @@ HasReadBy-push file records (Some order) at c read is = record {
 }
 
 -- a record that is read comes to the end of those read before
-pub HasRead-push : (file : List ℕ) (records : List Captured) (cursor : Records) (c : Captured) →
-    record_at file cursor ≡ got c → HasRead file records cursor →
-    HasRead file (records ++ c ∷ []) (record cursor { at = behind c })
-HasRead-push file records cursor c is read =
+pub HasReadRecords-push : (file : List ℕ) (records : List Captured) (cursor : Records) (c : Captured) →
+    record_at file cursor ≡ got c → HasReadRecords file records cursor →
+    HasReadRecords file (records ++ c ∷ []) (record cursor { at = behind c })
+HasReadRecords-push file records cursor c is read =
     HasReadBy-push file records cursor.endianness cursor.at c read is
 
 record_by-room : (file : List ℕ) (order : Option Endianness) (at : ℕ) (c : Captured) →
@@ -86,10 +86,10 @@ HasReadBy-ended file records (Some order) at is read =
     reading_of-tail file order records at read (IsTail-nothing file order at is)
 
 -- where no record follows, those read before are all of the file's
-pub HasRead-ended : (file : List ℕ) (records : List Captured) (cursor : Records) →
-    record_at file cursor ≡ nothing → HasRead file records cursor →
+pub HasReadRecords-ended : (file : List ℕ) (records : List Captured) (cursor : Records) →
+    record_at file cursor ≡ nothing → HasReadRecords file records cursor →
     reading_of file ≡ gives records (length file - cursor.at)
-HasRead-ended file records cursor is read =
+HasReadRecords-ended file records cursor is read =
     HasReadBy-ended file records cursor.endianness cursor.at is read
 
 HasReadBy-refused : (file : List ℕ) (records : List Captured) (order : Option Endianness) (at : ℕ)
@@ -101,8 +101,8 @@ HasReadBy-refused file records (Some order) at e is read =
     reading_of-long file order records at read long.0 ∙ ap fails (sym long.1)
 
 -- where a record is refused, the file is
-pub HasRead-refused : (file : List ℕ) (records : List Captured) (cursor : Records)
-    (e : CaptureError) → record_at file cursor ≡ refused e → HasRead file records cursor →
+pub HasReadRecords-refused : (file : List ℕ) (records : List Captured) (cursor : Records)
+    (e : CaptureError) → record_at file cursor ≡ refused e → HasReadRecords file records cursor →
     reading_of file ≡ fails e
-HasRead-refused file records cursor e is read =
+HasReadRecords-refused file records cursor e is read =
     HasReadBy-refused file records cursor.endianness cursor.at e is read

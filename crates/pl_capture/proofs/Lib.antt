@@ -3,3 +3,4 @@ pub mod Cursors
 pub mod Reading
 pub mod Spelled
 pub mod Standing
+pub mod Exports

@@ -5,17 +5,17 @@ use Rattle.std.proofs.lemmas.List.Elements.{All-from_recursion}
 use Rattle.std.specs.List.{AllByRecursion}
 use Rattle.pl_capture.specs.Header.{header_of, header_in, order_of, is_version, is_ethernet}
 use Rattle.pl_capture.specs.Record.{captured, behind, IsTail, IsTooLong, record_in}
-use Rattle.pl_capture.specs.Capture.{AreRecords, Begins, IsCapture, IsRefused, Reading, with_first, read_on, reading_from, reading_in, reading_of}
+use Rattle.pl_capture.specs.Capture.{AreRecords, BeginsWithRecords, IsCapture, IsCaptureRefused, CaptureReading, with_first, read_on, reading_from, reading_in, reading_of}
 use Rattle.pl_capture.specs.declared.endianness.Endianness.{Endianness}
 use Rattle.pl_capture.specs.declared.records.Captured.{Captured}
 use Rattle.pl_capture.specs.declared.error.CaptureError.{CaptureError}
 use Rattle.pl_capture.specs.declared.error.CaptureError.TheVariants.{BadVersion, BadLink, BadRecord}
 use Rattle.pl_capture.proofs.Standing.{Found, got, nothing, refused, record_in-IsTail, record_in-IsTooLong, record_in-IsRecord, cases_at}
 
-abbrev pub gives : List Captured → ℕ → Reading
+abbrev pub gives : List Captured → ℕ → CaptureReading
 gives records tail = Ok (records, tail)
 
-abbrev pub fails : CaptureError → Reading
+abbrev pub fails : CaptureError → CaptureReading
 fails e = Err e
 
 -- one step of the reading, by what stands there
@@ -120,14 +120,14 @@ short_from_none file is =
 
 -- a file of one reading that begins so
 pub reading_of-tail : (file : List ℕ) (order : Endianness) (records : List Captured) (end : ℕ) →
-    Begins file order records end → IsTail file order end →
+    BeginsWithRecords file order records end → IsTail file order end →
     reading_of file ≡ gives records (length file - end)
 reading_of-tail file order records end begins tail =
     reading_of-header file (Ok (Some order)) begins.header
     ∙ walk_to_tail (length file) file order 24 records end (omega arith) begins.follow tail
 
 pub reading_of-long : (file : List ℕ) (order : Endianness) (records : List Captured) (at : ℕ) →
-    Begins file order records at → IsTooLong file order at → reading_of file ≡ fails (BadRecord at)
+    BeginsWithRecords file order records at → IsTooLong file order at → reading_of file ≡ fails (BadRecord at)
 reading_of-long file order records at begins long =
     reading_of-header file (Ok (Some order)) begins.header
     ∙ walk_to_long (length file) file order 24 records at (omega arith) begins.follow long
@@ -143,11 +143,11 @@ reading_of-short file is = reading_of-header file (Ok None) is
 -- a file is a capture, or refused
 abbrev IsEither : List ℕ → Type 0
 IsEither file =
-    ((records : List Captured) × (tail : ℕ) × IsCapture file records tail) ⊎ ((e : CaptureError) × IsRefused file e)
+    ((records : List Captured) × (tail : ℕ) × IsCapture file records tail) ⊎ ((e : CaptureError) × IsCaptureRefused file e)
 
 either_ended : (file : List ℕ) (order : Endianness) → header_of file ≡ Ok (Some order) →
     Ends file order 24 → IsEither file
-unfolding IsCapture IsRefused
+unfolding IsCapture IsCaptureRefused
 either_ended file order header (records, to, are, inl tail) =
     inl (records, length file - to, inr (order, to, record { header = header; follow = are }, tail, refl))
 either_ended file order header (records, to, are, inr long) =
@@ -155,7 +155,7 @@ either_ended file order header (records, to, are, inr long) =
 
 either_in : (file : List ℕ) (header : Result (Option Endianness) CaptureError) →
     header_of file ≡ header → IsEither file
-unfolding IsCapture IsRefused
+unfolding IsCapture IsCaptureRefused
 either_in file (Err e) is = inr (e, inl is)
 either_in file (Ok None) is = inl ([], length file, inl (short_from_none file is, refl, refl))
 either_in file (Ok (Some order)) is =
@@ -171,14 +171,14 @@ IsCapture-reading file records tail (inl (short, none, all)) =
 IsCapture-reading file records tail (inr (order, end, begins, rest, is)) =
     reading_of-tail file order records end begins rest ∙ ap (gives records) (sym is)
 
-pub IsRefused-reading : (file : List ℕ) (e : CaptureError) → IsRefused file e →
+pub IsCaptureRefused-reading : (file : List ℕ) (e : CaptureError) → IsCaptureRefused file e →
     reading_of file ≡ fails e
-unfolding IsRefused
-IsRefused-reading file e (inl header) = reading_of-refused file e header
-IsRefused-reading file e (inr (order, records, at, begins, long, is)) =
+unfolding IsCaptureRefused
+IsCaptureRefused-reading file e (inl header) = reading_of-refused file e header
+IsCaptureRefused-reading file e (inr (order, records, at, begins, long, is)) =
     reading_of-long file order records at begins long ∙ ap fails (sym is)
 
-abbrev read : List Captured × ℕ → Reading
+abbrev read : List Captured × ℕ → CaptureReading
 read both = Ok both
 
 read_same : (p q : List Captured × ℕ) → read p ≡ read q → p ≡ q
@@ -203,14 +203,14 @@ capture_from file records tail is (inl (rs, t, capture)) =
     let P : List Captured → Type 0 = λ qs. IsCapture file qs t in
     subst (λ (u : ℕ). IsCapture file records u) same.1 (subst P same.0 capture)
 capture_from file records tail is (inr (e, other)) =
-    gives_not_fails records tail e (sym is ∙ IsRefused-reading file e other)
+    gives_not_fails records tail e (sym is ∙ IsCaptureRefused-reading file e other)
 
 refused_from : (file : List ℕ) (e : CaptureError) → reading_of file ≡ fails e → IsEither file →
-    IsRefused file e
+    IsCaptureRefused file e
 refused_from file e is (inl (rs, t, capture)) =
     gives_not_fails rs t e (sym (IsCapture-reading file rs t capture) ∙ is)
 refused_from file e is (inr (f, other)) =
-    subst (IsRefused file) (fails_same f e (sym (IsRefused-reading file f other) ∙ is)) other
+    subst (IsCaptureRefused file) (fails_same f e (sym (IsCaptureRefused-reading file f other) ∙ is)) other
 
 pub one_reading-capture : (file : List ℕ) (records : List Captured) (tail : ℕ) →
     IsCapture file records tail ↔ (reading_of file ≡ gives records tail)
@@ -218,9 +218,9 @@ one_reading-capture file records tail =
     (IsCapture-reading file records tail, λ is. capture_from file records tail is (either_in file (header_of file) refl))
 
 pub one_reading-refused : (file : List ℕ) (e : CaptureError) →
-    IsRefused file e ↔ (reading_of file ≡ fails e)
+    IsCaptureRefused file e ↔ (reading_of file ≡ fails e)
 one_reading-refused file e =
-    (IsRefused-reading file e, λ is. refused_from file e is (either_in file (header_of file) refl))
+    (IsCaptureRefused-reading file e, λ is. refused_from file e is (either_in file (header_of file) refl))
 
 -- The records of a reading lie within the file.
 

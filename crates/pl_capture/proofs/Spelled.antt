@@ -9,8 +9,8 @@ use Rattle.byteorder.specs.Numbers.{little_number-reads_back, big_number-reads_b
 use Rattle.pl_capture.specs.Field.{number, field}
 use Rattle.pl_capture.specs.Header.{header_of}
 use Rattle.pl_capture.specs.Record.{captured, IsRecord, IsTail, IsTooLong}
-use Rattle.pl_capture.specs.Capture.{AreRecords, Begins, IsCapture, IsRefused, reading_of}
-use Rattle.pl_capture.specs.Spelling.{number_bytes, Heading, IsHeading, heading_bytes, Packet, IsPacket, packet_bytes, file_bytes, end_of, records_of, frame_of, saved_bytes}
+use Rattle.pl_capture.specs.Capture.{AreRecords, BeginsWithRecords, IsCapture, IsCaptureRefused, reading_of}
+use Rattle.pl_capture.specs.Spelling.{number_bytes, Heading, IsHeading, heading_bytes, Packet, IsWritablePacket, packet_bytes, file_bytes, end_of, records_of, frame_of, saved_bytes}
 use Rattle.pl_capture.specs.declared.endianness.Endianness.{Endianness}
 use Rattle.pl_capture.specs.declared.endianness.Endianness.TheVariants.{Little, Big}
 use Rattle.pl_capture.specs.declared.records.Captured.{Captured}
@@ -97,7 +97,7 @@ abbrev record_as : ℕ → ℕ → ℕ → Captured
 record_as at len original = record { at = at; start = at + 16; len = len; original = original }
 
 packet-IsRecord : (file : List ℕ) (order : Endianness) (front : List ℕ) (at : ℕ) (p : Packet)
-    (rest : List ℕ) → IsPacket p → file ≡ front ++ (packet_bytes order p ++ rest) →
+    (rest : List ℕ) → IsWritablePacket p → file ≡ front ++ (packet_bytes order p ++ rest) →
     length front ≡ at → IsRecord file order at (record_as at (length p.frame) p.original)
 packet-IsRecord file order front at p rest fits is here =
     let bytes = packet_bytes order p ++ rest in
@@ -119,7 +119,7 @@ packet-IsRecord file order front at p rest fits is here =
 
 -- packets that stand one behind the other are records that follow one another
 packets-AreRecords : (file : List ℕ) (order : Endianness) (front : List ℕ) (at : ℕ)
-    (packets : List Packet) (rest : List ℕ) → AllByRecursion IsPacket packets →
+    (packets : List Packet) (rest : List ℕ) → AllByRecursion IsWritablePacket packets →
     file ≡ front ++ (flat_map (packet_bytes order) packets ++ rest) → length front ≡ at →
     AreRecords file order at (records_of at packets)
     (at + length (flat_map (packet_bytes order) packets))
@@ -165,13 +165,13 @@ IsTooLong-behind file order front rest at is here long =
     let len = captured-len file order front rest at is here in
     (omega (arith, long.0, ap length is, length-append front rest), omega (arith, len, long.1))
 
-file-Begins : (h : Heading) (packets : List Packet) (rest : List ℕ) → IsHeading h →
-    All IsPacket packets →
-    Begins (file_bytes h packets rest) h.order (records_of 24 packets) (end_of h packets)
-file-Begins h packets rest kind fit = record {
+file-BeginsWithRecords : (h : Heading) (packets : List Packet) (rest : List ℕ) → IsHeading h →
+    All IsWritablePacket packets →
+    BeginsWithRecords (file_bytes h packets rest) h.order (records_of 24 packets) (end_of h packets)
+file-BeginsWithRecords h packets rest kind fit = record {
   header = header_of-heading h (flat_map (packet_bytes h.order) packets ++ rest) kind;
   follow = packets-AreRecords (file_bytes h packets rest) h.order (heading_bytes h) 24 packets rest
-      (recursion_from_All IsPacket packets fit) refl (heading-length h);
+      (recursion_from_All IsWritablePacket packets fit) refl (heading-length h);
 }
 
 -- the offset behind the packets
@@ -192,7 +192,7 @@ file-split h packets rest =
 
 -- packets, and less than a whole record, are a capture of these packets
 pub file-IsCapture : (h : Heading) (packets : List Packet) (rest : List ℕ) → IsHeading h →
-    All IsPacket packets → IsTail rest h.order 0 →
+    All IsWritablePacket packets → IsTail rest h.order 0 →
     IsCapture (file_bytes h packets rest) (records_of 24 packets) (length rest)
 unfolding IsCapture
 file-IsCapture h packets rest kind fit tail =
@@ -203,24 +203,24 @@ file-IsCapture h packets rest kind fit tail =
     inr (
       h.order,
       end_of h packets,
-      file-Begins h packets rest kind fit,
+      file-BeginsWithRecords h packets rest kind fit,
       IsTail-behind file h.order front rest (end_of h packets) split here tail,
       omega (arith, here, ap length split, length-append front rest),
     )
 
 -- packets, and a head with too large a captured length, are refused there
-pub file-IsRefused : (h : Heading) (packets : List Packet) (rest : List ℕ) → IsHeading h →
-    All IsPacket packets → IsTooLong rest h.order 0 →
-    IsRefused (file_bytes h packets rest) (BadRecord (end_of h packets))
-unfolding IsRefused
-file-IsRefused h packets rest kind fit long =
+pub file-IsCaptureRefused : (h : Heading) (packets : List Packet) (rest : List ℕ) → IsHeading h →
+    All IsWritablePacket packets → IsTooLong rest h.order 0 →
+    IsCaptureRefused (file_bytes h packets rest) (BadRecord (end_of h packets))
+unfolding IsCaptureRefused
+file-IsCaptureRefused h packets rest kind fit long =
     let file = file_bytes h packets rest in
     let front = heading_bytes h ++ flat_map (packet_bytes h.order) packets in
     inr (
       h.order,
       records_of 24 packets,
       end_of h packets,
-      file-Begins h packets rest kind fit,
+      file-BeginsWithRecords h packets rest kind fit,
       IsTooLong-behind file h.order front rest (end_of h packets) (file-split h packets rest)
           (front-length h packets) long,
       refl,
@@ -267,7 +267,7 @@ saved-file packets =
     ap (λ (bytes : List ℕ). heading_bytes saved_heading ++ bytes)
     (append-nil (flat_map (packet_bytes Little) packets))
 
-pub saved-reading : (packets : List Packet) → All IsPacket packets →
+pub saved-reading : (packets : List Packet) → All IsWritablePacket packets →
     reading_of (saved_bytes packets) ≡ gives (records_of 24 packets) 0
 saved-reading packets fit =
     ap reading_of (sym (saved-file packets))

@@ -2,7 +2,7 @@
 use Rattle.std.specs.Prelude.{◌≡◌, ℕ, ◌-◌, List, [], length, Option, Some, None, Result, Ok, Err}
 use Rattle.pl_capture.specs.Header.{header_of}
 use Rattle.pl_capture.specs.Record.{behind, record_in}
-use Rattle.pl_capture.specs.Capture.{Begins}
+use Rattle.pl_capture.specs.Capture.{BeginsWithRecords}
 use Rattle.pl_capture.specs.declared.endianness.Endianness.{Endianness}
 use Rattle.pl_capture.specs.declared.records.Captured.{Captured}
 use Rattle.pl_capture.specs.declared.records.Records.{Records}
@@ -37,12 +37,12 @@ tail_of file cursor = length file - cursor.at
 
 abbrev pub HasReadBy : List ℕ → List Captured → Option Endianness → ℕ → Type 0
 HasReadBy file records None at = (header_of file ≡ Ok None) × (records ≡ []) × (at ≡ 0)
-HasReadBy file records (Some order) at = Begins file order records at
+HasReadBy file records (Some order) at = BeginsWithRecords file order records at
 
 -- the cursor stands behind these records, the first of the file
-abbrev pub HasRead : List ℕ → List Captured → Records → Type 0
-HasRead file records cursor = HasReadBy file records cursor.endianness cursor.at
+abbrev pub HasReadRecords : List ℕ → List Captured → Records → Type 0
+HasReadRecords file records cursor = HasReadBy file records cursor.endianness cursor.at
 
 -- the cursor is one of this file
 abbrev pub IsCursorIn : List ℕ → Records → Type 0
-IsCursorIn file cursor = (records : List Captured) × HasRead file records cursor
+IsCursorIn file cursor = (records : List Captured) × HasReadRecords file records cursor

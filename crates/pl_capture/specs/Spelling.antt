@@ -38,7 +38,7 @@ pub record Packet : Type 0 where
   pub frame : List ℕ
 
 -- a record can hold it
-pub record IsPacket (p : Packet) : Type 0 where
+pub record IsWritablePacket (p : Packet) : Type 0 where
   pub limit : length p.frame ≤ 262144
   pub original : p.original < 2 ^ 32
 

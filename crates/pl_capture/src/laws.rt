@@ -4,8 +4,8 @@ ghost use Rattle.pl_capture.specs.declared.error.CaptureError.{CaptureError};
 ghost use Rattle.pl_capture.specs.declared.error.CaptureError.TheVariants.{BadRecord};
 ghost use Rattle.pl_capture.specs.declared.endianness.Endianness.{Endianness};
 ghost use Rattle.pl_capture.specs.Record.{IsRecord, IsTail, IsTooLong, record_in};
-ghost use Rattle.pl_capture.specs.Capture.{IsCapture, IsRefused, reading_of};
-ghost use Rattle.pl_capture.specs.Spelling.{Heading, IsHeading, Packet, IsPacket, file_bytes, end_of, records_of, frame_of, saved_bytes};
+ghost use Rattle.pl_capture.specs.Capture.{IsCapture, IsCaptureRefused, reading_of};
+ghost use Rattle.pl_capture.specs.Spelling.{Heading, IsHeading, Packet, IsWritablePacket, file_bytes, end_of, records_of, frame_of, saved_bytes};
 
 /// The law that exactly one of three stands at an offset of a file, and that reading there tells
 /// which: a whole record, less than a whole record, or a head with too large a captured length.
@@ -25,7 +25,7 @@ pub fn one_reading()
     ensures capture { (file : List ℕ) (records : List Captured) (tail : ℕ) →
         IsCapture file records tail ↔ (reading_of file ≡ Ok (records, tail)) }
     ensures refused { (file : List ℕ) (e : CaptureError) →
-        IsRefused file e ↔ (reading_of file ≡ Err e) }
+        IsCaptureRefused file e ↔ (reading_of file ≡ Err e) }
 {}
 
 /// The law that the records of a capture lie within its file.
@@ -43,18 +43,18 @@ pub fn records_are_within()
 /// [`write_record_head`]: crate::write_record_head
 pub fn written_is_read()
     ensures whole { (h : Heading) (packets : List Packet) (rest : List ℕ) →
-        IsHeading h → All IsPacket packets → IsTail rest h.order 0 →
+        IsHeading h → All IsWritablePacket packets → IsTail rest h.order 0 →
         IsCapture (file_bytes h packets rest) (records_of 24 packets) (length rest) }
     ensures refused { (h : Heading) (packets : List Packet) (rest : List ℕ) →
-        IsHeading h → All IsPacket packets → IsTooLong rest h.order 0 →
-        IsRefused (file_bytes h packets rest) (BadRecord (end_of h packets)) }
+        IsHeading h → All IsWritablePacket packets → IsTooLong rest h.order 0 →
+        IsCaptureRefused (file_bytes h packets rest) (BadRecord (end_of h packets)) }
 
     // The records hold the frames.
     ensures frames { (h : Heading) (packets : List Packet) (rest : List ℕ) →
         map (frame_of (file_bytes h packets rest)) (records_of 24 packets)
         ≡ map (λ p. p.frame) packets }
 
-    ensures saved { (packets : List Packet) → All IsPacket packets →
+    ensures saved { (packets : List Packet) → All IsWritablePacket packets →
         reading_of (saved_bytes packets) ≡ Ok (records_of 24 packets, 0) }
     ensures saved_frames { (packets : List Packet) →
         map (frame_of (saved_bytes packets)) (records_of 24 packets) ≡ map (λ p. p.frame) packets }

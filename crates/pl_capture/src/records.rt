@@ -2,7 +2,7 @@ ghost use Rattle.std.specs.Prelude.{◌≡◌, ◌+◌, ◌<◌, ◌≤◌, List
 ghost use Rattle.pl_capture.specs.declared.records.Captured.{Captured};
 ghost use Rattle.pl_capture.specs.Record.{behind};
 ghost use Rattle.pl_capture.specs.Capture.{reading_of};
-ghost use Rattle.pl_capture.specs.Records.{begin_of, record_at, cursor_after, tail_of, HasRead, IsCursorIn};
+ghost use Rattle.pl_capture.specs.Records.{begin_of, record_at, cursor_after, tail_of, HasReadRecords, IsCursorIn};
 
 use crate::endianness::Endianness;
 use crate::error::CaptureError;
@@ -43,7 +43,7 @@ impl Records {
         ensures exact { result ≡ begin_of file.now }
 
         // No record was read yet, or the file has no reading.
-        ensures ok { IfOk result (λ cursor. HasRead file.now [] cursor) }
+        ensures ok { IfOk result (λ cursor. HasReadRecords file.now [] cursor) }
         ensures err { IfErr result (λ e. reading_of file.now ≡ Err e) }
     {
         let cursor = match read_header(file)? {
@@ -69,15 +69,15 @@ impl Records {
         ensures same_file { IsCursorIn file.now self.new }
 
         // The records that were read so far, and this one, are the first of the file.
-        ensures found { (records : List Captured) → HasRead file.now records self.old →
+        ensures found { (records : List Captured) → HasReadRecords file.now records self.old →
             IfOk result (λ found.
-            IfSome found (λ c. HasRead file.now (records ++ c ∷ []) self.new)) }
+            IfSome found (λ c. HasReadRecords file.now (records ++ c ∷ []) self.new)) }
 
         // At the end they are all of it, and the bytes behind the last one are its tail.
-        ensures ended { (records : List Captured) → HasRead file.now records self.old →
+        ensures ended { (records : List Captured) → HasReadRecords file.now records self.old →
             IfOk result (λ found.
             IfNone found (reading_of file.now ≡ Ok (records, tail_of file.now self.new))) }
-        ensures refused { (records : List Captured) → HasRead file.now records self.old →
+        ensures refused { (records : List Captured) → HasReadRecords file.now records self.old →
             IfErr result (λ e. reading_of file.now ≡ Err e) }
 
         // A walk ends: each record leaves fewer bytes.

@@ -1,13 +1,13 @@
 -- Frames that come home, or are made.
 use Rattle.std.proofs.Common.{◌≡◌, ◌≤◌, ℕ, List, Option, Some, None, IfSome, length, sym, subst, arith}
-use Rattle.pl_logic.specs.declared.acts.Act.{Act}
-use Rattle.pl_logic.specs.SwitchViews.{SwitchView}
-use Rattle.pl_delivery.proofs.Rest.{sender_told}
+use Rattle.pl_node.specs.declared.acts.Act.{Act}
+use Rattle.pl_node.specs.SwitchViews.{SwitchView}
+use Rattle.pl_delivery.proofs.Exports.{sender_told}
 use Rattle.pl_delivery.specs.declared.sent.Sent.{Sent}
 use Rattle.pl_delivery.specs.declared.sent.Sent.TheVariants.{Here, Upward}
 use Rattle.pl_delivery.specs.Sending.{left_to_do, makes_any, HasLength}
 use Rattle.pl_edge.specs.EdgeViews.{EdgeView, edge_in}
-use Rattle.pl_steps.proofs.Parts.{rest_done}
+use Rattle.pl_steps.proofs.Exports.{rest_done}
 use Rattle.pl_steps.specs.Steps.{SwitchStep}
 use Rattle.pl_steps.specs.Taken.{IsTaken, IsTakenUpTo}
 use Rattle.pl_switch_rule.specs.Delivering.{arrives_home, comes_home, destination, tells_sender, trap_for}

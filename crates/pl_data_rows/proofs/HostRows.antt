@@ -2,12 +2,12 @@
 use Rattle.std.proofs.Common.{◌≡◌, ℕ, not, Bool, true, false, if◌then◌else◌, List, [], ◌∷◌, ◌++◌, sym, ap, ◌∙◌, subst, append_assoc}
 use Rattle.pl_frame.specs.Ethernet.{source_of}
 use Rattle.pl_journal.specs.declared.cause.Cause.TheVariants.{NotPlaced, Spent}
-use Rattle.pl_logic.specs.declared.acts.Act.{Act}
-use Rattle.pl_logic.specs.declared.acts.Act.TheVariants.{Drop}
-use Rattle.pl_logic.specs.SwitchViews.{SwitchView}
+use Rattle.pl_node.specs.declared.acts.Act.{Act}
+use Rattle.pl_node.specs.declared.acts.Act.TheVariants.{Drop}
+use Rattle.pl_node.specs.SwitchViews.{SwitchView}
 use Rattle.pl_edge.specs.Begun.{left_to_do}
 use Rattle.pl_edge.specs.declared.edge_act.EdgeAct.{EdgeAct}
-use Rattle.pl_steps.proofs.Parts.{rest_done, taken_then}
+use Rattle.pl_steps.proofs.Exports.{rest_done, taken_then}
 use Rattle.pl_steps.specs.Steps.{SwitchStep, does, ◌▹◌}
 use Rattle.pl_steps.specs.Taken.{IsTaken, IsTakenUpTo}
 use Rattle.pl_switch_rule.specs.DropCauses.{has_no_hosts}

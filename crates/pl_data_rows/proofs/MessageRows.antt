@@ -1,9 +1,9 @@
 -- A frame that the switch makes goes to all hosts.
 use Rattle.std.proofs.Common.{◌≡◌, ℕ, List, [], ◌∷◌, ◌++◌, Some, refl, ap, ◌∙◌, subst}
-use Rattle.pl_logic.specs.declared.acts.Act.{Act}
-use Rattle.pl_logic.specs.declared.acts.Act.TheVariants.{Make}
-use Rattle.pl_logic.specs.SwitchViews.{SwitchView}
-use Rattle.pl_steps.proofs.Parts.{taken_then}
+use Rattle.pl_node.specs.declared.acts.Act.{Act}
+use Rattle.pl_node.specs.declared.acts.Act.TheVariants.{Make}
+use Rattle.pl_node.specs.SwitchViews.{SwitchView}
+use Rattle.pl_steps.proofs.Exports.{taken_then}
 use Rattle.pl_steps.specs.Steps.{does}
 use Rattle.pl_steps.specs.Taken.{IsTaken}
 use Rattle.pl_switch_rule.specs.declared.came.Came.TheVariants.{FromHost}

@@ -10,7 +10,7 @@ use crate::KeepsRecords;
 use pl_edge::Sent;
 use pl_forward::forward;
 use pl_frame::Frame;
-use pl_logic::{Memory, Outbox};
+use pl_node::{Memory, Outbox};
 use pl_switch_rule::Came;
 
 /// A frame for the pod and the position of this edge switch goes out to its host, or along the traps that

@@ -1,5 +1,5 @@
 ghost use Rattle.std.specs.Prelude.{◌≡◌, ◌<◌, ◌≤◌, true, length, OnOk};
-ghost use Rattle.pl_logic.specs.PortRecords.{is_open_to_hosts, port_of};
+ghost use Rattle.pl_node.specs.PortRecords.{is_open_to_hosts, port_of};
 ghost use Rattle.pl_edge.specs.Begun.{left_to_do};
 ghost use Rattle.pl_layouts.specs.Placement.{is_known};
 ghost use Rattle.pl_steps.specs.Taken.{IsTaken};
@@ -13,7 +13,7 @@ use crate::home::arrives_home;
 use pl_edge::EdgeAct;
 use pl_forward::{forward, forward_to_group};
 use pl_frame::Frame;
-use pl_logic::{Act, Cause, Memory, Outbox, SwitchFacts};
+use pl_node::{Act, Cause, Memory, Outbox, SwitchFacts};
 use pl_switch_rule::Came;
 
 /// A frame of a host comes: a host is found at its port, its source is learnt, and then it is taken in. An

@@ -1,6 +1,6 @@
 ghost use Rattle.std.specs.Prelude.{◌≡◌, ◌<◌, ◌≤◌, not, true, length, IfOk, OnOk};
 ghost use Rattle.pl_frame.specs.Ethernet.{source_of};
-ghost use Rattle.pl_logic.specs.Accounting.{IsComing};
+ghost use Rattle.pl_node.specs.Accounting.{IsComing};
 ghost use Rattle.pl_edge.specs.Begun.{left_to_do};
 ghost use Rattle.pl_edge.specs.EdgeViews.{edge_in, MayBeAt};
 ghost use Rattle.pl_layouts.specs.Placement.{is_known};
@@ -16,7 +16,7 @@ ghost use Rattle.pl_switch_rule.specs.SwitchRule.{control_comes};
 use pl_edge::{EdgeAct, EdgeTable};
 use pl_forward::{GroupFacts, UnicastFacts};
 use pl_frame::Frame;
-use pl_logic::{AvoidList, Memory, Outbox, Trap, TreePart};
+use pl_node::{AvoidList, Memory, Outbox, Trap, TreePart};
 use pl_pmac::Pmac;
 use std::alloc::Global;
 
@@ -29,7 +29,7 @@ pub trait KeepsRecords: GroupFacts + UnicastFacts {
     /// What it keeps of the hosts at its ports, as an edge switch.
     fn edge(&self) -> &EdgeTable
         ensures part { edge_in result.now (Self.view self.now) ≡ Self.view self.now }
-        ensures may { is_known (Self.view self.now).place.level 0 ≡ true → MayBeAt result.now.book (Self.view self.now).place };
+        ensures may { is_known (Self.view self.now).place.level 0 ≡ true → MayBeAt result.now.address_table (Self.view self.now).place };
 
     /// Whether an address was granted here, be it in use or not.
     fn is_granted(&self, address: Pmac) -> bool

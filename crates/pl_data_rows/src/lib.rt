@@ -2,7 +2,7 @@
 //! each, and the dispatch by what comes.
 //!
 //! They are said of any switch that keeps all that its rule speaks of (`KeepsRecords`), so that a switch
-//! that keeps more than a plain one (pl_tables) has the same rows. How it does what no row here does (a
+//! that keeps more than the reference switch (pl_tables) has the same rows. How it does what no row here does (a
 //! control frame, a host that is found, an address that is learnt) and by which ports a unicast frame may
 //! leave it answers itself. A data frame for one host is copied once and moved on.
 #![tactic(auto)]

@@ -1,5 +1,5 @@
 ghost use Rattle.std.specs.Prelude.{◌≡◌, ◌≤◌, length, OnOk};
-ghost use Rattle.pl_logic.specs.declared.messages.ToSwitch.TheVariants.{Answer, Flood};
+ghost use Rattle.pl_node.specs.declared.messages.ToSwitch.TheVariants.{Answer, Flood};
 ghost use Rattle.pl_steps.specs.Taken.{IsTaken};
 ghost use Rattle.pl_switch_rule.specs.Granting.{granted};
 ghost use Rattle.pl_switch_rule.specs.Messages.{floods, hears_manager, invalidates};
@@ -9,7 +9,7 @@ use crate::KeepsRecords;
 use crate::home::makes;
 use pl_forward::forward_to_group;
 use pl_frame::{Frame, Ip4};
-use pl_logic::{Act, Memory, Outbox, ToSwitch, Trap};
+use pl_node::{Act, Memory, Outbox, ToSwitch, Trap};
 use pl_pmac::Pmac;
 use pl_switch_rule::Came;
 

@@ -1,5 +1,5 @@
 ghost use Rattle.std.specs.Prelude.{◌≡◌, ◌<◌, ◌≤◌, ◌||◌, not, length, is_none, OnOk};
-ghost use Rattle.pl_logic.specs.PortRecords.{place_at};
+ghost use Rattle.pl_node.specs.PortRecords.{place_at};
 ghost use Rattle.pl_layouts.specs.Placement.{is_placed};
 ghost use Rattle.pl_steps.specs.Taken.{IsTaken};
 ghost use Rattle.pl_data_rows.specs.Rows.{passes_on};
@@ -10,7 +10,7 @@ use crate::home::arrives_home;
 use crate::reading::{destination, is_for_group};
 use pl_forward::{came_by, forward, forward_to_group, is_local};
 use pl_frame::Frame;
-use pl_logic::{Act, Cause, Memory, Outbox, SwitchFacts};
+use pl_node::{Act, Cause, Memory, Outbox, SwitchFacts};
 
 /// A frame of a neighbour is passed on by a switch that is placed and knows the neighbour's level.
 pub(crate) fn comes_from_switch<S: KeepsRecords>(

@@ -1,6 +1,6 @@
 ghost use Rattle.std.specs.Prelude.{◌≡◌, ◌<◌, ◌≤◌, length, OnOk};
-ghost use Rattle.pl_logic.specs.Accounting.{IsComing};
-ghost use Rattle.pl_logic.specs.SwitchInputs.SwitchInput.{Comes};
+ghost use Rattle.pl_node.specs.Accounting.{IsComing};
+ghost use Rattle.pl_node.specs.SwitchInputs.SwitchInput.{Comes};
 ghost use Rattle.pl_steps.specs.Taken.{IsTaken};
 ghost use Rattle.pl_switch_rule.specs.SwitchRule.{by_flow, data_comes, switch_step};
 
@@ -8,7 +8,7 @@ use crate::KeepsRecords;
 use crate::host_frames::comes_from_host;
 use crate::neighbour_frames::comes_from_switch;
 use pl_layouts::frames::is_control;
-use pl_logic::{Memory, Outbox, SwitchFacts};
+use pl_node::{Memory, Outbox, SwitchFacts};
 
 /// A frame comes at a port: a control frame, or one of a host or of a neighbour.
 pub fn comes<S: KeepsRecords>(

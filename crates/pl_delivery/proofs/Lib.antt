@@ -1,2 +1,3 @@
 mod Newer
 pub mod Rest
+pub mod Exports

@@ -1,12 +1,12 @@
 -- The reply to the sender of a frame that meets a trap.
 use Rattle.std.proofs.Common.{◌≡◌, ℕ, true, false, if◌then◌else◌, List, [], Option, Some, None, option_map, refl, sym, ap, ◌∙◌}
-use Rattle.pl_logic.specs.declared.trap.Trap.{Trap}
-use Rattle.pl_logic.specs.SwitchViews.{SwitchView}
+use Rattle.pl_node.specs.declared.trap.Trap.{Trap}
+use Rattle.pl_node.specs.SwitchViews.{SwitchView}
 use Rattle.pl_delivery.specs.Replies.{last_from, reply_to}
 use Rattle.pl_delivery.specs.Sending.{makes_any}
 use Rattle.pl_frame.specs.declared.address.Ip4.{Ip4}
 use Rattle.pl_layouts.specs.Frames.{is_arp}
-use Rattle.pl_migrate.specs.Books.{BookView, book_in, trap_in}
+use Rattle.pl_migrate.specs.AddressTables.{AddressTableView, address_table_in, trap_in}
 use Rattle.pl_pmac.specs.declared.pmac.Pmac.{Pmac}
 use Rattle.pl_steps.specs.Steps.{does}
 use Rattle.pl_switch_rule.specs.Delivering.{addresses, destination, last_trap, newer_address, tells_newer, tells_sender, trap_for}
@@ -33,16 +33,16 @@ pub none_for_arp : (frame : List ℕ) (last : Option Trap) → is_arp frame ≡ 
 none_for_arp frame None arp = refl
 none_for_arp frame (Some last) arp = sym (ap (λ b. if b then None else option_map (newer_address frame last.new) last.ip) arp)
 
-pub some_for : (book : BookView) (frame : List ℕ) (trap last : Trap) (reply : Option (List ℕ)) (v : SwitchView) →
-    is_arp frame ≡ false → Some trap ≡ trap_in book (destination frame) → last ≡ last_trap (addresses (book_in book v)) (book_in book v) trap →
+pub some_for : (address_table : AddressTableView) (frame : List ℕ) (trap last : Trap) (reply : Option (List ℕ)) (v : SwitchView) →
+    is_arp frame ≡ false → Some trap ≡ trap_in address_table (destination frame) → last ≡ last_trap (addresses (address_table_in address_table v)) (address_table_in address_table v) trap →
     reply ≡ option_map (newer_address frame last.new) last.ip →
-    reply ≡ reply_to frame (last_from (book_in book v) (trap_for (book_in book v) (destination frame)))
-some_for book frame trap last reply v plain is is_last replied = let w : SwitchView = book_in book v in
+    reply ≡ reply_to frame (last_from (address_table_in address_table v) (trap_for (address_table_in address_table v) (destination frame)))
+some_for address_table frame trap last reply v plain is is_last replied = let w : SwitchView = address_table_in address_table v in
     replied
     ∙ sym (ap (λ b. if b then None else option_map (newer_address frame last.new) last.ip) plain)
     ∙ ap (λ (l : Trap). reply_to frame (Some l)) is_last
     ∙ ap (λ t. reply_to frame (last_from w t)) is
 
-pub none_for : (book : BookView) (frame : List ℕ) (v : SwitchView) → None ≡ trap_in book (destination frame) →
-    None ≡ reply_to frame (last_from (book_in book v) (trap_for (book_in book v) (destination frame)))
-none_for book frame v is = ap (λ t. reply_to frame (last_from (book_in book v) t)) is
+pub none_for : (address_table : AddressTableView) (frame : List ℕ) (v : SwitchView) → None ≡ trap_in address_table (destination frame) →
+    None ≡ reply_to frame (last_from (address_table_in address_table v) (trap_for (address_table_in address_table v) (destination frame)))
+none_for address_table frame v is = ap (λ t. reply_to frame (last_from (address_table_in address_table v) t)) is

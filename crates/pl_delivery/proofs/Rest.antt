@@ -1,16 +1,16 @@
 -- A step that is taken up to a rest.
 use Rattle.std.proofs.Common.{◌≡◌, ℕ, true, false, if◌then◌else◌, List, [], ◌∷◌, ◌++◌, Option, Some, None, refl, sym, ap, subst, ◌∙◌}
-use Rattle.pl_logic.specs.declared.acts.Act.{Act}
-use Rattle.pl_logic.specs.declared.acts.Act.TheVariants.{Make, Redirect}
-use Rattle.pl_logic.specs.declared.switch_records.Grant.{Grant}
-use Rattle.pl_logic.specs.declared.trap.Trap.{Trap}
-use Rattle.pl_logic.specs.SwitchViews.{SwitchView}
+use Rattle.pl_node.specs.declared.acts.Act.{Act}
+use Rattle.pl_node.specs.declared.acts.Act.TheVariants.{Make, Redirect}
+use Rattle.pl_node.specs.declared.switch_records.Grant.{Grant}
+use Rattle.pl_node.specs.declared.trap.Trap.{Trap}
+use Rattle.pl_node.specs.SwitchViews.{SwitchView}
 use Rattle.pl_delivery.specs.Sending.{makes_any}
 use Rattle.pl_frame.specs.Ethernet.{with_destination}
-use Rattle.pl_migrate.specs.Books.{BookView, book_in, is_here, trap_in}
+use Rattle.pl_migrate.specs.AddressTables.{AddressTableView, address_table_in, is_here, trap_in}
 use Rattle.pl_pmac.specs.declared.pmac.Pmac.{Pmac}
 use Rattle.pl_pmac.specs.Pmac.{mac_of}
-use Rattle.pl_steps.proofs.Parts.{all_left, nothing_left, taken_rests, taken_then, then_up_to}
+use Rattle.pl_steps.proofs.Exports.{all_left, nothing_left, taken_rests, taken_then, then_up_to}
 use Rattle.pl_steps.specs.Steps.{SwitchStep, does, rests, ◌▹◌}
 use Rattle.pl_steps.specs.Taken.{IsTaken, IsTakenUpTo}
 use Rattle.pl_switch_rule.specs.declared.came.Came.TheVariants.{FromHost}
@@ -20,25 +20,25 @@ use Rattle.pl_switch_rule.specs.Messages.{forgets_members, invalidates, probes, 
 
 -- Where a frame goes on.
 
-pub goes_on_here : (book : BookView) (choose : Choice) (v : SwitchView) (frame : List ℕ) (o p : List Act) → is_here book (destination frame) ≡ true →
-    IsTaken (delivers (book_in book v) frame) (book_in book v) o p → IsTakenUpTo (rests (book_in book v)) (goes_on choose (book_in book v) frame) o p
-goes_on_here book choose v frame o p here taken = let w : SwitchView = book_in book v in
+pub goes_on_here : (address_table : AddressTableView) (choose : Choice) (v : SwitchView) (frame : List ℕ) (o p : List Act) → is_here address_table (destination frame) ≡ true →
+    IsTaken (delivers (address_table_in address_table v) frame) (address_table_in address_table v) o p → IsTakenUpTo (rests (address_table_in address_table v)) (goes_on choose (address_table_in address_table v) frame) o p
+goes_on_here address_table choose v frame o p here taken = let w : SwitchView = address_table_in address_table v in
     subst (λ b. IsTakenUpTo (rests w) (if b then delivers w frame else forwards choose w (Some FromHost) frame) o p) (sym here)
     (nothing_left (delivers w frame) w o p taken)
 
-pub goes_on_upward : (book : BookView) (choose : Choice) (v : SwitchView) (frame : List ℕ) (o : List Act) → is_here book (destination frame) ≡ false →
-    IsTakenUpTo (forwards choose (book_in book v) (Some FromHost) frame) (goes_on choose (book_in book v) frame) o o
-goes_on_upward book choose v frame o away = let w : SwitchView = book_in book v in
+pub goes_on_upward : (address_table : AddressTableView) (choose : Choice) (v : SwitchView) (frame : List ℕ) (o : List Act) → is_here address_table (destination frame) ≡ false →
+    IsTakenUpTo (forwards choose (address_table_in address_table v) (Some FromHost) frame) (goes_on choose (address_table_in address_table v) frame) o o
+goes_on_upward address_table choose v frame o away = let w : SwitchView = address_table_in address_table v in
     subst (λ b. IsTakenUpTo (forwards choose w (Some FromHost) frame) (if b then delivers w frame else forwards choose w (Some FromHost) frame) o o) (sym away)
     (all_left (forwards choose w (Some FromHost) frame) o)
 
 -- A frame that meets a trap.
 
-pub trapped : (book : BookView) (choose : Choice) (v : SwitchView) (frame next : List ℕ) (trap last : Trap) (old : Pmac) (rest : SwitchStep) (o p q : List Act) →
-    old ≡ destination frame → last ≡ last_trap (addresses (book_in book v)) (book_in book v) trap → next ≡ with_destination frame (mac_of last.new) →
-    IsTaken (does (book_in book v) (Redirect old trap.new ∷ redirects (addresses (book_in book v)) (book_in book v) trap)) (book_in book v) o p →
-    IsTakenUpTo rest (goes_on choose (book_in book v) next) p q → IsTakenUpTo rest (is_trapped choose (book_in book v) frame trap) o q
-trapped book choose v frame next trap last old rest o p q at is_last is_next taken further = let w : SwitchView = book_in book v in
+pub trapped : (address_table : AddressTableView) (choose : Choice) (v : SwitchView) (frame next : List ℕ) (trap last : Trap) (old : Pmac) (rest : SwitchStep) (o p q : List Act) →
+    old ≡ destination frame → last ≡ last_trap (addresses (address_table_in address_table v)) (address_table_in address_table v) trap → next ≡ with_destination frame (mac_of last.new) →
+    IsTaken (does (address_table_in address_table v) (Redirect old trap.new ∷ redirects (addresses (address_table_in address_table v)) (address_table_in address_table v) trap)) (address_table_in address_table v) o p →
+    IsTakenUpTo rest (goes_on choose (address_table_in address_table v) next) p q → IsTakenUpTo rest (is_trapped choose (address_table_in address_table v) frame trap) o q
+trapped address_table choose v frame next trap last old rest o p q at is_last is_next taken further = let w : SwitchView = address_table_in address_table v in
     then_up_to (does w (Redirect (destination frame) trap.new ∷ redirects (addresses w) w trap)) rest
     (λ u. goes_on choose u (with_destination frame (mac_of (last_trap (addresses w) w trap).new))) w o p q
     (subst (λ a. IsTaken (does w (Redirect a trap.new ∷ redirects (addresses w) w trap)) w o p) at taken)
@@ -46,31 +46,31 @@ trapped book choose v frame next trap last old rest o p q at is_last is_next tak
 
 -- A frame comes home.
 
-pub home_trapped : (book : BookView) (choose : Choice) (v : SwitchView) (frame : List ℕ) (trap : Trap) (rest : SwitchStep) (o p : List Act) →
-    Some trap ≡ trap_in book (destination frame) → IsTakenUpTo rest (is_trapped choose (book_in book v) frame trap) o p →
-    IsTakenUpTo rest (comes_home choose (book_in book v) frame) o p
-home_trapped book choose v frame trap rest o p is taken =
-    subst (λ t. IsTakenUpTo rest (delivers_or_redirects choose (book_in book v) frame t) o p) is taken
+pub home_trapped : (address_table : AddressTableView) (choose : Choice) (v : SwitchView) (frame : List ℕ) (trap : Trap) (rest : SwitchStep) (o p : List Act) →
+    Some trap ≡ trap_in address_table (destination frame) → IsTakenUpTo rest (is_trapped choose (address_table_in address_table v) frame trap) o p →
+    IsTakenUpTo rest (comes_home choose (address_table_in address_table v) frame) o p
+home_trapped address_table choose v frame trap rest o p is taken =
+    subst (λ t. IsTakenUpTo rest (delivers_or_redirects choose (address_table_in address_table v) frame t) o p) is taken
 
-pub home_delivered : (book : BookView) (choose : Choice) (v : SwitchView) (frame : List ℕ) (o p : List Act) →
-    None ≡ trap_in book (destination frame) → IsTaken (delivers (book_in book v) frame) (book_in book v) o p →
-    IsTakenUpTo (rests (book_in book v)) (comes_home choose (book_in book v) frame) o p
-home_delivered book choose v frame o p is taken = let w : SwitchView = book_in book v in
+pub home_delivered : (address_table : AddressTableView) (choose : Choice) (v : SwitchView) (frame : List ℕ) (o p : List Act) →
+    None ≡ trap_in address_table (destination frame) → IsTaken (delivers (address_table_in address_table v) frame) (address_table_in address_table v) o p →
+    IsTakenUpTo (rests (address_table_in address_table v)) (comes_home choose (address_table_in address_table v) frame) o p
+home_delivered address_table choose v frame o p is taken = let w : SwitchView = address_table_in address_table v in
     subst (λ t. IsTakenUpTo (rests w) (delivers_or_redirects choose w frame t) o p) is (nothing_left (delivers w frame) w o p taken)
 
 -- A frame begins.
 
-pub begins_here : (book : BookView) (choose : Choice) (v : SwitchView) (frame : List ℕ) (rest : SwitchStep) (o p q : List Act) →
-    is_here book (destination frame) ≡ true → p ≡ o ++ Make frame ∷ [] → IsTakenUpTo rest (comes_home choose (book_in book v) frame) p q →
-    IsTakenUpTo rest (makes choose frame (book_in book v)) o q
-begins_here book choose v frame rest o p q here made taken = let w : SwitchView = book_in book v in
+pub begins_here : (address_table : AddressTableView) (choose : Choice) (v : SwitchView) (frame : List ℕ) (rest : SwitchStep) (o p q : List Act) →
+    is_here address_table (destination frame) ≡ true → p ≡ o ++ Make frame ∷ [] → IsTakenUpTo rest (comes_home choose (address_table_in address_table v) frame) p q →
+    IsTakenUpTo rest (makes choose frame (address_table_in address_table v)) o q
+begins_here address_table choose v frame rest o p q here made taken = let w : SwitchView = address_table_in address_table v in
     then_up_to (does w (Make frame ∷ [])) rest (λ u. begins choose u frame) w o p q (record { view = refl; acts = made })
     (subst (λ b. IsTakenUpTo rest (if b then comes_home choose w frame else forwards choose w (Some FromHost) frame) p q) (sym here) taken)
 
-pub begins_upward : (book : BookView) (choose : Choice) (v : SwitchView) (frame : List ℕ) (o p : List Act) →
-    is_here book (destination frame) ≡ false → p ≡ o ++ Make frame ∷ [] →
-    IsTakenUpTo (forwards choose (book_in book v) (Some FromHost) frame) (makes choose frame (book_in book v)) o p
-begins_upward book choose v frame o p away made = let w : SwitchView = book_in book v in
+pub begins_upward : (address_table : AddressTableView) (choose : Choice) (v : SwitchView) (frame : List ℕ) (o p : List Act) →
+    is_here address_table (destination frame) ≡ false → p ≡ o ++ Make frame ∷ [] →
+    IsTakenUpTo (forwards choose (address_table_in address_table v) (Some FromHost) frame) (makes choose frame (address_table_in address_table v)) o p
+begins_upward address_table choose v frame o p away made = let w : SwitchView = address_table_in address_table v in
     let rest : SwitchStep = forwards choose w (Some FromHost) frame in
     then_up_to (does w (Make frame ∷ [])) rest (λ u. begins choose u frame) w o p p (record { view = refl; acts = made })
     (subst (λ b. IsTakenUpTo rest (if b then comes_home choose w frame else rest) p p) (sym away) (all_left rest p))

@@ -1,7 +1,7 @@
 -- The reply to the sender of a frame that meets a trap.
 use Rattle.std.specs.Prelude.{ℕ, if◌then◌else◌, List, Option, Some, None, option_map}
-use Rattle.pl_logic.specs.declared.trap.Trap.{Trap}
-use Rattle.pl_logic.specs.SwitchViews.{SwitchView}
+use Rattle.pl_node.specs.declared.trap.Trap.{Trap}
+use Rattle.pl_node.specs.SwitchViews.{SwitchView}
 use Rattle.pl_layouts.specs.Frames.{is_arp}
 use Rattle.pl_switch_rule.specs.Delivering.{addresses, last_trap, newer_address}
 

@@ -1,25 +1,25 @@
 ghost use Rattle.std.specs.Prelude.{◌≡◌, ◌≤◌, ◌∷◌, ◌++◌, [], length, None, OnOk, Some};
-ghost use Rattle.pl_logic.specs.declared.acts.Act.{Act};
+ghost use Rattle.pl_node.specs.declared.acts.Act.{Act};
 ghost use Rattle.pl_layouts.specs.Frames.{arriving};
-ghost use Rattle.pl_migrate.specs.Books.{book_in};
+ghost use Rattle.pl_migrate.specs.AddressTables.{address_table_in};
 ghost use Rattle.pl_steps.specs.Taken.{IsTakenByPart};
 ghost use Rattle.pl_switch_rule.specs.Delivering.{delivers, destination};
 
 use pl_frame::{Frame, Mac};
 use pl_layouts::frames::arrive;
-use pl_logic::{Act, Cause, Memory, Outbox};
-use pl_migrate::AddressBook;
+use pl_migrate::AddressTable;
+use pl_node::{Act, Cause, Memory, Outbox};
 use pl_pmac::Pmac;
 
 /// A frame for an address of this edge switch leaves by the port of the host that has it, under that
 /// host's actual address, in an ARP packet too. One for an address that was never granted is dropped.
 /// Takes memory for the outbox alone.
-pub fn deliver(book: &AddressBook, frame: Frame, out: &mut Outbox) -> Result<(), Memory>
+pub fn deliver(address_table: &AddressTable, frame: Frame, out: &mut Outbox) -> Result<(), Memory>
     requires { 14 ≤ length frame }
-    ensures { OnOk result (IsTakenByPart book_in (λ v. delivers v frame) book.now book.now out.old out.new) }
+    ensures { OnOk result (IsTakenByPart address_table_in (λ v. delivers v frame) address_table.now address_table.now out.old out.new) }
 {
     let to = destination(frame.bytes());
-    match book.granted(to) {
+    match address_table.granted(to) {
         Some(grant) => pass_to_host(to.port, grant.amac, frame, out),
         None => out.push(Act::Drop(Cause::NoAddress)),
     }

@@ -1,7 +1,7 @@
 ghost use Rattle.std.specs.Prelude.{◌≡◌, ◌∷◌, ◌++◌, [], IfOk, None, Ok, OnOk, Some};
-ghost use Rattle.pl_logic.specs.declared.acts.Act.{Act};
-ghost use Rattle.pl_logic.specs.SwitchViews.{SwitchView};
-ghost use Rattle.pl_migrate.specs.Books.{book_in, granted_in, traps};
+ghost use Rattle.pl_node.specs.declared.acts.Act.{Act};
+ghost use Rattle.pl_node.specs.SwitchViews.{SwitchView};
+ghost use Rattle.pl_migrate.specs.AddressTables.{address_table_in, granted_in, traps};
 ghost use Rattle.pl_migrate.specs.Keeping.{KeepsGrants};
 ghost use Rattle.pl_steps.specs.Taken.{IsTaken};
 ghost use Rattle.pl_switch_rule.specs.Messages.{probe_frame, probes, probes_at};
@@ -10,21 +10,25 @@ use crate::delivery::address_to_host;
 use pl_arp::{Arp, REQUEST};
 use pl_frame::{Frame, Ip4, Mac};
 use pl_layouts::frames::{ARP_FRAME, arp_frame};
-use pl_logic::{Act, Memory, Outbox};
-use pl_migrate::{AddressBook, Grant, Trap};
+use pl_migrate::{AddressTable, Grant, Trap};
+use pl_node::{Act, Memory, Outbox};
 use pl_pmac::{Pmac, pack};
 use std::alloc::Global;
 
 /// A host has a newer address than this one: a trap is set. The answer is what was granted under the old
 /// address, as it stood before; none where it was never granted here. Of that grant the memberships are
 /// to be forgotten, and then it is probed.
-pub fn invalidate(book: &mut AddressBook, old: Pmac, to: Trap) -> Result<Option<Grant>, Memory>
-    ensures answer { IfOk result (λ grant. grant ≡ granted_in book.old old) }
-    ensures step { OnOk result ((v : SwitchView) → book_in book.new v ≡ traps (book_in book.old v) old to (granted_in book.old old)) }
-    ensures kept { KeepsGrants book.old book.new }
+pub fn invalidate(
+    address_table: &mut AddressTable,
+    old: Pmac,
+    to: Trap,
+) -> Result<Option<Grant>, Memory>
+    ensures answer { IfOk result (λ grant. grant ≡ granted_in address_table.old old) }
+    ensures step { OnOk result ((v : SwitchView) → address_table_in address_table.new v ≡ traps (address_table_in address_table.old v) old to (granted_in address_table.old old)) }
+    ensures kept { KeepsGrants address_table.old address_table.new }
 {
-    let grant = book.granted(old);
-    book.trap(old, to)?;
+    let grant = address_table.granted(old);
+    address_table.trap(old, to)?;
     Ok(grant)
 }
 

@@ -1,8 +1,8 @@
 ghost use Rattle.std.specs.Prelude.{◌≡◌, ℕ, List, Option, Some};
-ghost use Rattle.pl_logic.specs.declared.acts.Act.{Act};
-ghost use Rattle.pl_logic.specs.declared.switch_records.Grant.{Grant};
-ghost use Rattle.pl_logic.specs.declared.trap.Trap.{Trap};
-ghost use Rattle.pl_logic.specs.SwitchViews.{SwitchView};
+ghost use Rattle.pl_node.specs.declared.acts.Act.{Act};
+ghost use Rattle.pl_node.specs.declared.switch_records.Grant.{Grant};
+ghost use Rattle.pl_node.specs.declared.trap.Trap.{Trap};
+ghost use Rattle.pl_node.specs.SwitchViews.{SwitchView};
 ghost use Rattle.pl_delivery.specs.Sending.{makes_any};
 ghost use Rattle.pl_pmac.specs.declared.pmac.Pmac.{Pmac};
 ghost use Rattle.pl_steps.specs.Taken.{IsTaken};

@@ -1,9 +1,9 @@
 //! What an edge switch does with a frame for its own pod and position, and the ARP frames that it makes
 //! (PortLand, SIGCOMM 2009, section 3.3).
 //!
-//! The calls speak of the address book of the switch and of a frame that they own: it is rewritten in
+//! The calls speak of the address table of the switch and of a frame that they own: it is rewritten in
 //! place, and copied only behind a `Make`. Each is a row of the switch's rule for every switch that has
-//! this book. By which port a frame leaves for another edge switch is left to the crates above: such a
+//! this address table. By which port a frame leaves for another edge switch is left to the crates above: such a
 //! frame is given back as `Sent::Upward`.
 #![tactic(auto)]
 

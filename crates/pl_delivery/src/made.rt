@@ -1,8 +1,8 @@
 ghost use Rattle.std.specs.Prelude.{◌≡◌, ◌≤◌, length, option_map, IfOk, IfSome};
-ghost use Rattle.pl_logic.specs.SwitchViews.{SwitchView};
+ghost use Rattle.pl_node.specs.SwitchViews.{SwitchView};
 ghost use Rattle.pl_delivery.specs.Replies.{last_from, reply_to};
 ghost use Rattle.pl_delivery.specs.Sending.{makes_any};
-ghost use Rattle.pl_migrate.specs.Books.{book_in, trap_in};
+ghost use Rattle.pl_migrate.specs.AddressTables.{address_table_in, trap_in};
 ghost use Rattle.pl_switch_rule.specs.Delivering.{destination, newer_address, tells_sender, trap_for};
 ghost use Rattle.pl_switch_rule.specs.Forwarding.{Choice};
 ghost use Rattle.pl_switch_rule.specs.Messages.{answer_frame, flood_frame};
@@ -11,25 +11,29 @@ use crate::delivery::destination;
 use pl_arp::{Arp, REPLY, REQUEST};
 use pl_frame::{Frame, Ip4, Mac};
 use pl_layouts::frames::{arp_frame, is_arp};
-use pl_logic::Memory;
-use pl_migrate::{AddressBook, Trap};
+use pl_migrate::{AddressTable, Trap};
+use pl_node::Memory;
 use pl_pmac::{Pmac, pack};
 use std::alloc::Global;
 
 /// The reply that tells the sender of a frame the newer address of the host, that of the last trap: to be
 /// made behind what `egress` does with the frame. None where no trap stands for the frame's address, where
 /// the IPv4 address of the host is not known, or where the frame is an ARP frame.
-pub fn reply(book: &AddressBook, alloc: Global, frame: &[u8]) -> Result<Option<Frame>, Memory>
+pub fn reply(
+    address_table: &AddressTable,
+    alloc: Global,
+    frame: &[u8],
+) -> Result<Option<Frame>, Memory>
     requires { 14 ≤ length frame.now }
-    ensures reply { IfOk result (λ reply. (v : SwitchView) → reply ≡ reply_to frame.now (last_from (book_in book.now v) (trap_in book.now (destination frame.now)))) }
-    ensures tells { IfOk result (λ reply. (choose : Choice) (v : SwitchView) → makes_any choose reply (book_in book.now v) ≡ tells_sender choose frame.now (trap_for (book_in book.now v) (destination frame.now)) (book_in book.now v)) }
+    ensures reply { IfOk result (λ reply. (v : SwitchView) → reply ≡ reply_to frame.now (last_from (address_table_in address_table.now v) (trap_in address_table.now (destination frame.now)))) }
+    ensures tells { IfOk result (λ reply. (choose : Choice) (v : SwitchView) → makes_any choose reply (address_table_in address_table.now v) ≡ tells_sender choose frame.now (trap_for (address_table_in address_table.now v) (destination frame.now)) (address_table_in address_table.now v)) }
     ensures length { IfOk result (λ reply. IfSome reply (λ frame. length frame ≡ 42)) }
 {
     if is_arp(frame) {
         return Ok(None);
     }
-    match book.follow(destination(frame)) {
-        Some(trap) => newer_address(alloc, frame, book.last_trap(trap)),
+    match address_table.follow(destination(frame)) {
+        Some(trap) => newer_address(alloc, frame, address_table.last_trap(trap)),
         None => Ok(None),
     }
 }

@@ -1,15 +1,15 @@
--- What is done by the book of addresses with frames for this edge switch is done by the edge switch.
+-- What is done by the address table with frames for this edge switch is done by the edge switch.
 use Rattle.std.proofs.Common.{◌≡◌, ℕ, List, Option, Some, Result, Ok, Err, IfOk, OnOk, sym, ap, ◌∙◌, subst}
-use Rattle.pl_logic.specs.declared.acts.Act.{Act}
-use Rattle.pl_logic.specs.declared.switch_records.Grant.{Grant}
-use Rattle.pl_logic.specs.declared.switch_records.Member.{Member}
-use Rattle.pl_logic.specs.declared.switch_records.Source.{Source}
-use Rattle.pl_logic.specs.declared.trap.Trap.{Trap}
-use Rattle.pl_logic.specs.SwitchViews.{SwitchView}
-use Rattle.pl_delivery.proofs.Rest.{invalidated}
+use Rattle.pl_node.specs.declared.acts.Act.{Act}
+use Rattle.pl_node.specs.declared.switch_records.Grant.{Grant}
+use Rattle.pl_node.specs.declared.switch_records.Member.{Member}
+use Rattle.pl_node.specs.declared.switch_records.Source.{Source}
+use Rattle.pl_node.specs.declared.trap.Trap.{Trap}
+use Rattle.pl_node.specs.SwitchViews.{SwitchView}
+use Rattle.pl_delivery.proofs.Exports.{invalidated}
 use Rattle.pl_delivery.specs.declared.sent.Sent.{Sent}
 use Rattle.pl_delivery.specs.Sending.{IsSentBy, left_to_do, makes_any}
-use Rattle.pl_migrate.specs.Books.{BookView, book_in, traps}
+use Rattle.pl_migrate.specs.AddressTables.{AddressTableView, address_table_in, traps}
 use Rattle.pl_pmac.specs.declared.pmac.Pmac.{Pmac}
 use Rattle.pl_steps.specs.Steps.{SwitchStep}
 use Rattle.pl_steps.specs.Taken.{IsTaken, IsTakenUpTo}
@@ -20,23 +20,23 @@ use Rattle.pl_switch_rule.specs.Messages.{forgets_members, invalidates, probes}
 use Rattle.pl_edge.specs.EdgeViews.{EdgeView, edge_in, MayBeAt}
 use Rattle.pl_edge.proofs.Placing.{edge_of}
 
-module _ (edge : EdgeView) (k : ℕ) (book : BookView) (remembered : List (Option Source)) (members : List Member)
-    (is : edge_of k (Some book) remembered members ≡ edge) where
+module _ (edge : EdgeView) (k : ℕ) (address_table : AddressTableView) (remembered : List (Option Source)) (members : List Member)
+    (is : edge_of k (Some address_table) remembered members ≡ edge) where
   abbrev with_rest : SwitchView → SwitchView
   with_rest v = record v { remembered = remembered; members = members }
 
   pub sent_by : {E : Type 0} (row : Choice → SwitchView → SwitchStep) (out told : List Act) (result : Result Sent E) →
-      IfOk result (IsSentBy row book out told) →
-      IfOk result (λ sent. (choose : Choice) (v : SwitchView) → MayBeAt edge.book v.place →
+      IfOk result (IsSentBy row address_table out told) →
+      IfOk result (λ sent. (choose : Choice) (v : SwitchView) → MayBeAt edge.address_table v.place →
       IsTakenUpTo (left_to_do choose sent (edge_in edge v)) (row choose (edge_in edge v)) out told)
   sent_by row out told (Err e) h = h
   sent_by row out told (Ok sent) h = λ choose v may.
       subst (λ (e : EdgeView). IsTakenUpTo (left_to_do choose sent (edge_in e v)) (row choose (edge_in e v)) out told) is (h choose (with_rest v))
 
   pub replied : {E : Type 0} (frame : List ℕ) (result : Result (Option (List ℕ)) E) →
-      IfOk result (λ reply. (choose : Choice) (v : SwitchView) → makes_any choose reply (book_in book v)
-      ≡ tells_sender choose frame (trap_for (book_in book v) (destination frame)) (book_in book v)) →
-      IfOk result (λ reply. (choose : Choice) (v : SwitchView) → MayBeAt edge.book v.place → makes_any choose reply (edge_in edge v)
+      IfOk result (λ reply. (choose : Choice) (v : SwitchView) → makes_any choose reply (address_table_in address_table v)
+      ≡ tells_sender choose frame (trap_for (address_table_in address_table v) (destination frame)) (address_table_in address_table v)) →
+      IfOk result (λ reply. (choose : Choice) (v : SwitchView) → MayBeAt edge.address_table v.place → makes_any choose reply (edge_in edge v)
       ≡ tells_sender choose frame (trap_for (edge_in edge v) (destination frame)) (edge_in edge v))
   replied frame (Err e) h = h
   replied frame (Ok reply) h = λ choose v may.

@@ -4,3 +4,4 @@ pub mod Taking
 pub mod TellsAll
 pub mod Listing
 pub mod Delivered
+pub mod Exports

@@ -12,17 +12,16 @@ use Rattle.std.specs.Ordering.{match_ordering, nat_cmp, ordering_then}
 use Rattle.std.proofs.lemmas.Bool.{cases_eq, eq-eqb, ne_eqb, or_parts, true≢false}
 use Rattle.std.proofs.lemmas.Cmp.{nat_cmp_total}
 use Rattle.std.proofs.lemmas.List.Elements.{All-cons, All-head, All-nil, All-tail}
-use Rattle.pl_lemmas.proofs.Bools.{or_swap, or_twice}
+use Rattle.pl_lemmas.proofs.Exports.{or_swap, or_twice}
 use Rattle.pl_frame.specs.declared.address.Mac.{Mac}
-use Rattle.pl_logic.specs.declared.switch_records.Member.{Member}
-use Rattle.pl_logic.proofs.Among.{rising_inserted}
+use Rattle.pl_node.specs.declared.switch_records.Member.{Member}
+use Rattle.pl_node.proofs.Exports.{rising_inserted}
 use Rattle.pl_layouts.specs.declared.membership.Change.{Change}
 use Rattle.pl_layouts.specs.Frames.{mac_number}
 use Rattle.pl_layouts.specs.Memberships.{group_number}
 use Rattle.pl_switch_rule.specs.Intake.{changes_member, has_member_of, is_member, joins, leaves, member_cmp}
-use Rattle.pl_members.proofs.Comparing.{equal_numbers, from_equal}
-use Rattle.pl_members.proofs.Reaching.{any_inserted}
-use Rattle.pl_edge.specs.Told.{is_noted, notes, AreNoted}
+use Rattle.pl_members.proofs.Exports.{any_inserted, equal_numbers, from_equal}
+use Rattle.pl_edge.specs.Told.{is_noted, notes, AreChangesNoted}
 
 pub found_noted : (key : ℕ) (es : List (ℕ × Bool)) → is_some (lookup (is_at (nat_cmp key)) es) ≡ is_noted es key
 found_noted key [] = refl
@@ -81,12 +80,12 @@ had_more old (e ∷ es) g had is all =
     by rest Greater h = All-cons (Had old) e (insert_entry nat_cmp es g had) (All-head (Had old) e es all) rest
 
 -- nothing is noted yet, and nothing has changed
-pub noted_none : (members : List Member) → AreNoted members members []
+pub noted_none : (members : List Member) → AreChangesNoted members members []
 unfolding IsStrictlySortedBy
 noted_none members = record { rising = tt; had = All-nil (Had members); others = λ group h. refl }
 
 -- one more group is noted before it changes
-pub noted_then : (old now : List Member) (es : List (ℕ × Bool)) (g : ℕ) → AreNoted old now es → AreNoted old now (notes now es g)
+pub noted_then : (old now : List Member) (es : List (ℕ × Bool)) (g : ℕ) → AreChangesNoted old now es → AreChangesNoted old now (notes now es g)
 noted_then old now es g noted = record {
   rising = by_rising (is_noted es g);
   had = by_had (is_noted es g) refl;
@@ -103,8 +102,8 @@ noted_then old now es g noted = record {
     by_had false e = had_more old es g (has_member_of now g) (noted.others g e) noted.had
 
 -- a group that was noted changes, and no other
-pub noted_changed : (old now after : List Member) (es : List (ℕ × Bool)) (g : ℕ) → AreNoted old now es → is_noted es g ≡ true →
-    ((q : ℕ) → (g == q) ≡ false → has_member_of after q ≡ has_member_of now q) → AreNoted old after es
+pub noted_changed : (old now after : List Member) (es : List (ℕ × Bool)) (g : ℕ) → AreChangesNoted old now es → is_noted es g ≡ true →
+    ((q : ℕ) → (g == q) ≡ false → has_member_of after q ≡ has_member_of now q) → AreChangesNoted old after es
 noted_changed old now after es g noted there same = record {
   rising = noted.rising;
   had = noted.had;
@@ -163,9 +162,9 @@ change_apart port amac members change q apart = by change.join
     by false = any_left (group_number change.group) q (is_member port amac) members apart
 
 -- a group is noted, and then a host joins or leaves it
-pub noted_step : (old now after : List Member) (es more : List (ℕ × Bool)) (port : ℕ) (amac : Mac) (change : Change) (g : ℕ) → AreNoted old now es →
-    g ≡ group_number change.group → more ≡ notes now es g → after ≡ changes_member port amac now change → AreNoted old after more
+pub noted_step : (old now after : List Member) (es more : List (ℕ × Bool)) (port : ℕ) (amac : Mac) (change : Change) (g : ℕ) → AreChangesNoted old now es →
+    g ≡ group_number change.group → more ≡ notes now es g → after ≡ changes_member port amac now change → AreChangesNoted old after more
 noted_step old now after es more port amac change g noted is noting changed =
-    subst (AreNoted old after) (sym noting)
+    subst (AreChangesNoted old after) (sym noting)
     (noted_changed old now after (notes now es g) g (noted_then old now es g noted) (noted_more now es g g ∙ ap (λ b. b || is_noted es g) (eq-eqb g g refl))
     (λ q apart. ap (λ ms. has_member_of ms q) changed ∙ change_apart port amac now change q (ap (λ k. k == q) (sym is) ∙ apart)))

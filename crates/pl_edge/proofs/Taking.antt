@@ -8,9 +8,9 @@ use Rattle.pl_frame.specs.Ethernet.{destination_of, kind_of, payload_of, source_
 use Rattle.pl_arp.specs.Packet.{arp_in}
 use Rattle.pl_arp.specs.declared.packet.Arp.{Arp}
 use Rattle.pl_journal.specs.declared.cause.Cause.TheVariants.{BadArp, NotPlaced}
-use Rattle.pl_logic.specs.declared.acts.Act.{Act}
-use Rattle.pl_logic.specs.declared.acts.Act.TheVariants.{Drop, Take}
-use Rattle.pl_logic.specs.SwitchViews.{SwitchView}
+use Rattle.pl_node.specs.declared.acts.Act.{Act}
+use Rattle.pl_node.specs.declared.acts.Act.TheVariants.{Drop, Take}
+use Rattle.pl_node.specs.SwitchViews.{SwitchView}
 use Rattle.pl_layouts.specs.Frames.{arriving, is_arp, packet_in}
 use Rattle.pl_layouts.specs.Memberships.{header_length, is_membership, membership_in}
 use Rattle.pl_layouts.specs.Placement.{is_placed}
@@ -19,23 +19,23 @@ use Rattle.pl_steps.specs.Taken.{IsTaken, IsTakenUpTo}
 use Rattle.pl_switch_rule.specs.Forwarding.{Choice}
 use Rattle.pl_switch_rule.specs.Granting.{grants_at, in_use}
 use Rattle.pl_switch_rule.specs.Intake.{hears_members, is_for_switch, mac_of_pmac, packet_acts, pmac_at, sends_in, source_pmac, takes, takes_in, with_pmac}
-use Rattle.pl_migrate.specs.Books.{BookView, address_in_use, book_in, numbered}
+use Rattle.pl_migrate.specs.AddressTables.{AddressTableView, address_in_use, address_table_in, numbered}
 use Rattle.pl_edge.specs.declared.edge_act.EdgeAct.{EdgeAct}
 use Rattle.pl_edge.specs.declared.edge_act.EdgeAct.TheVariants.{Taken, Drop as Dropped}
 use Rattle.pl_edge.specs.Begun.{left_to_do}
 use Rattle.pl_edge.specs.EdgeViews.{EdgeView, edge_in, grants_by, place_by, MayBeAt}
 
--- the address that a source has in use is the one of the book
-numbered_is : (book : BookView) (k : ℕ) (v : SwitchView) (port : ℕ) (vmid : Option ℕ) →
-    pmac_at (record v { place = place_by (Some book) v.place; grants = grants_by (Some book) k }) port vmid ≡ numbered book port vmid
-numbered_is book k v port None = refl
-numbered_is book k v port (Some vmid) = refl
+-- the address that a source has in use is the one of the address table
+numbered_is : (address_table : AddressTableView) (k : ℕ) (v : SwitchView) (port : ℕ) (vmid : Option ℕ) →
+    pmac_at (record v { place = place_by (Some address_table) v.place; grants = grants_by (Some address_table) k }) port vmid ≡ numbered address_table port vmid
+numbered_is address_table k v port None = refl
+numbered_is address_table k v port (Some vmid) = refl
 
-pub source_is : (edge : EdgeView) (v : SwitchView) (port : ℕ) (frame : List ℕ) (book : BookView) → edge.book ≡ Some book →
-    source_pmac (edge_in edge v) port frame ≡ address_in_use book port (source_of frame)
-source_is edge v port frame book is =
-    ap (λ (o : Option BookView). source_pmac (record v { place = place_by o v.place; grants = grants_by o edge.k }) port frame) is
-    ∙ numbered_is book edge.k v port (in_use (grants_at (record v { grants = grants_by (Some book) edge.k }) port) (source_of frame))
+pub source_is : (edge : EdgeView) (v : SwitchView) (port : ℕ) (frame : List ℕ) (address_table : AddressTableView) → edge.address_table ≡ Some address_table →
+    source_pmac (edge_in edge v) port frame ≡ address_in_use address_table port (source_of frame)
+source_is edge v port frame address_table is =
+    ap (λ (o : Option AddressTableView). source_pmac (record v { place = place_by o v.place; grants = grants_by o edge.k }) port frame) is
+    ∙ numbered_is address_table edge.k v port (in_use (grants_at (record v { grants = grants_by (Some address_table) edge.k }) port) (source_of frame))
 
 -- a membership message is no ARP frame
 abbrev message_by : Bool → List ℕ → Option (List ℕ)
@@ -133,26 +133,26 @@ module _ (choose : Choice) (port : ℕ) (frame : List ℕ) (v : SwitchView) wher
       begun_as (takes_in choose port frame v) (left_to_do choose act new v) out
       (other good apart none ∙ ap (λ b. by_ways false false false b) is ∙ ap (λ f. sends_in choose f v) (sym same) ∙ sym sent)
 
-pub begun_unplaced : (choose : Choice) (port : ℕ) (frame : List ℕ) (edge : EdgeView) (v : SwitchView) (out : List Act) → edge.book ≡ None → MayBeAt edge.book v.place →
+pub begun_unplaced : (choose : Choice) (port : ℕ) (frame : List ℕ) (edge : EdgeView) (v : SwitchView) (out : List Act) → edge.address_table ≡ None → MayBeAt edge.address_table v.place →
     (is_arp frame && is_none (packet_in frame)) ≡ false → is_for_switch (edge_in edge v) (destination_of frame) (packet_in frame) ≡ false →
     membership_in frame ≡ None → IsTakenUpTo (left_to_do choose (Dropped NotPlaced) frame (edge_in edge v)) (takes_in choose port frame (edge_in edge v)) out out
 begun_unplaced choose port frame edge v out none may good apart other =
     begun_nowhere choose port frame (edge_in edge v) out good apart other
-    (ap (λ (o : Option BookView). is_placed (place_by o v.place)) none ∙ subst (λ (book : Option BookView). MayBeAt book v.place) none may)
+    (ap (λ (o : Option AddressTableView). is_placed (place_by o v.place)) none ∙ subst (λ (address_table : Option AddressTableView). MayBeAt address_table v.place) none may)
 
 -- a frame that is rewritten goes where it is meant to go
-pub begun_rewritten : (choose : Choice) (port : ℕ) (frame new : List ℕ) (act : EdgeAct) (edge : EdgeView) (book : BookView) (v : SwitchView) (out : List Act) →
-    edge.book ≡ Some book → (is_arp frame && is_none (packet_in frame)) ≡ false →
+pub begun_rewritten : (choose : Choice) (port : ℕ) (frame new : List ℕ) (act : EdgeAct) (edge : EdgeView) (address_table : AddressTableView) (v : SwitchView) (out : List Act) →
+    edge.address_table ≡ Some address_table → (is_arp frame && is_none (packet_in frame)) ≡ false →
     is_for_switch (edge_in edge v) (destination_of frame) (packet_in frame) ≡ false → membership_in frame ≡ None →
-    new ≡ arriving frame (mac_of_pmac (address_in_use book port (source_of frame))) None →
-    ((w : SwitchView) → left_to_do choose act new (book_in book w) ≡ sends_in choose new (book_in book w)) →
+    new ≡ arriving frame (mac_of_pmac (address_in_use address_table port (source_of frame))) None →
+    ((w : SwitchView) → left_to_do choose act new (address_table_in address_table w) ≡ sends_in choose new (address_table_in address_table w)) →
     IsTakenUpTo (left_to_do choose act new (edge_in edge v)) (takes_in choose port frame (edge_in edge v)) out out
-begun_rewritten choose port frame new act edge book v out is good apart other rewritten sent =
+begun_rewritten choose port frame new act edge address_table v out is good apart other rewritten sent =
     let w : SwitchView = record v { remembered = edge.remembered; members = edge.members } in
     begun_sent choose port frame (edge_in edge v) act new out good apart other
-    (ap (λ (o : Option BookView). is_placed (place_by o v.place)) is)
-    (rewritten ∙ ap (λ pmac. arriving frame (mac_of_pmac pmac) None) (sym (source_is edge v port frame book is)))
-    (subst (λ (o : Option BookView). left_to_do choose act new (record w { place = place_by o v.place; grants = grants_by o edge.k })
+    (ap (λ (o : Option AddressTableView). is_placed (place_by o v.place)) is)
+    (rewritten ∙ ap (λ pmac. arriving frame (mac_of_pmac pmac) None) (sym (source_is edge v port frame address_table is)))
+    (subst (λ (o : Option AddressTableView). left_to_do choose act new (record w { place = place_by o v.place; grants = grants_by o edge.k })
     ≡ sends_in choose new (record w { place = place_by o v.place; grants = grants_by o edge.k })) (sym is) (sent w))
 
 -- ---- what was read of a frame

@@ -10,14 +10,13 @@ use Rattle.std.proofs.lemmas.Bool.{cases_eq, cases_lt, eq-eqb, ne_eqb, or_parts}
 use Rattle.std.proofs.lemmas.Cmp.{nat_cmp_total}
 use Rattle.std.proofs.lemmas.List.Elements.{All-head, All-tail}
 use Rattle.std.proofs.lemmas.List.Folds.{list_any-append}
-use Rattle.pl_lemmas.proofs.Bools.{or_behind, or_true}
-use Rattle.pl_logic.specs.declared.acts.Act.{Act}
-use Rattle.pl_logic.specs.declared.switch_records.Member.{Member}
-use Rattle.pl_logic.proofs.Among.{rising_inserted}
+use Rattle.pl_lemmas.proofs.Exports.{or_behind, or_true}
+use Rattle.pl_node.specs.declared.acts.Act.{Act}
+use Rattle.pl_node.specs.declared.switch_records.Member.{Member}
+use Rattle.pl_node.proofs.Exports.{rising_inserted}
 use Rattle.pl_switch_rule.specs.Intake.{group_told, groups_of, groups_told, has_member_of}
-use Rattle.pl_members.proofs.Comparing.{from_less}
-use Rattle.pl_members.proofs.Reaching.{any_inserted}
-use Rattle.pl_edge.specs.Told.{told_if_none, told_of, told_since, AreNoted}
+use Rattle.pl_members.proofs.Exports.{any_inserted, from_less}
+use Rattle.pl_edge.specs.Told.{told_if_none, told_of, told_since, AreChangesNoted}
 
 -- numbers that rise, from a number on
 abbrev RiseFrom : ℕ → List ℕ → Type 0
@@ -149,7 +148,7 @@ module _ (old now : List Member) where
       unchanged (has_member_of old q) (has_member_of now q) q (both.1 ∙ sym both.0)
 
   -- what is told of the groups that were noted is what is told of all groups
-  pub tells_all : (es : List (ℕ × Bool)) → AreNoted old now es → flat_map (told_since now) es ≡ groups_told old now
+  pub tells_all : (es : List (ℕ × Bool)) → AreChangesNoted old now es → flat_map (told_since now) es ≡ groups_told old now
   unfolding IsStrictlySortedBy
   tells_all es noted =
       each_told es noted.had

@@ -3,9 +3,9 @@ use Rattle.std.specs.Prelude.{◌≡◌, ℕ, ◌==◌, ◌&&◌, not, if◌then
 use Rattle.pl_frame.specs.Ethernet.{destination_of}
 use Rattle.pl_arp.specs.declared.packet.Arp.{Arp}
 use Rattle.pl_pmac.specs.declared.pmac.Pmac.{Pmac}
-use Rattle.pl_logic.specs.declared.acts.Act.{Act}
-use Rattle.pl_logic.specs.declared.acts.Act.TheVariants.{Drop}
-use Rattle.pl_logic.specs.SwitchViews.{SwitchView}
+use Rattle.pl_node.specs.declared.acts.Act.{Act}
+use Rattle.pl_node.specs.declared.acts.Act.TheVariants.{Drop}
+use Rattle.pl_node.specs.SwitchViews.{SwitchView}
 use Rattle.pl_layouts.specs.Memberships.{group_of}
 use Rattle.pl_steps.specs.Steps.{SwitchStep, does}
 use Rattle.pl_switch_rule.specs.declared.came.Came.TheVariants.{FromHost}

@@ -5,19 +5,19 @@ use Rattle.pl_frame.specs.declared.address.Mac.{Mac}
 use Rattle.pl_pmac.specs.declared.pmac.Pmac.{Pmac}
 use Rattle.pl_layouts.specs.declared.place.Place.{Place}
 use Rattle.pl_layouts.specs.Placement.{is_placed}
-use Rattle.pl_logic.specs.declared.switch_records.Grant.{Grant}
-use Rattle.pl_logic.specs.declared.switch_records.Member.{Member}
-use Rattle.pl_logic.specs.declared.switch_records.Source.{Source}
-use Rattle.pl_logic.specs.SwitchViews.{SwitchView}
+use Rattle.pl_node.specs.declared.switch_records.Grant.{Grant}
+use Rattle.pl_node.specs.declared.switch_records.Member.{Member}
+use Rattle.pl_node.specs.declared.switch_records.Source.{Source}
+use Rattle.pl_node.specs.SwitchViews.{SwitchView}
 use Rattle.pl_switch_rule.specs.Granting.{or_else, remembered_ip}
 use Rattle.pl_migrate.specs.declared.grantee.Grantee.{Grantee}
-use Rattle.pl_migrate.specs.Books.{BookView, edge_at, empty_book, grantee_in}
+use Rattle.pl_migrate.specs.AddressTables.{AddressTableView, edge_at, empty_address_table, grantee_in}
 use Rattle.pl_migrate.specs.Keeping.{KeepsGrants, KeepsTraps}
 
 pub record EdgeView : Type 0 where
   pub k : ℕ
   -- none while the switch is not placed
-  pub book : Option BookView
+  pub address_table : Option AddressTableView
   -- one for each port
   pub remembered : List (Option Source)
   -- rising by group, port and address
@@ -25,58 +25,58 @@ pub record EdgeView : Type 0 where
 
 -- an edge switch of k ports that has heard nothing
 abbrev pub new_edge : ℕ → EdgeView
-new_edge k = record { k = k; book = None; remembered = replicate k None; members = [] }
+new_edge k = record { k = k; address_table = None; remembered = replicate k None; members = [] }
 
-abbrev pub place_by : Option BookView → Place → Place
+abbrev pub place_by : Option AddressTableView → Place → Place
 place_by None place = place
-place_by (Some book) place = edge_at book.pod book.position
+place_by (Some address_table) place = edge_at address_table.pod address_table.position
 
-abbrev pub grants_by : Option BookView → ℕ → List (List Grant)
+abbrev pub grants_by : Option AddressTableView → ℕ → List (List Grant)
 grants_by None k = replicate k []
-grants_by (Some book) k = book.grants
+grants_by (Some address_table) k = address_table.grants
 
 -- a switch with this part; as long as it is not placed, it has granted nothing
 abbrev pub edge_in : EdgeView → SwitchView → SwitchView
 edge_in edge v = record v {
-  place = place_by edge.book v.place;
-  grants = grants_by edge.book edge.k;
+  place = place_by edge.address_table v.place;
+  grants = grants_by edge.address_table edge.k;
   remembered = edge.remembered;
   members = edge.members;
 }
 
--- a switch without a book of addresses is not placed
-abbrev pub MayBeAt : Option BookView → Place → Type 0
+-- a switch without an address table is not placed
+abbrev pub MayBeAt : Option AddressTableView → Place → Type 0
 MayBeAt None place = is_placed place ≡ false
-MayBeAt (Some book) place = Unit {0}
+MayBeAt (Some address_table) place = Unit {0}
 
 -- it becomes placed, and has granted nothing yet
 abbrev pub placed_at : ℕ → ℕ → EdgeView → EdgeView
-placed_at pod position edge = record edge { book = Some (empty_book edge.k pod position) }
+placed_at pod position edge = record edge { address_table = Some (empty_address_table edge.k pod position) }
 
 -- to which host, and at which port, an address was granted
-abbrev pub grantee_by : Option BookView → Pmac → Option Grantee
+abbrev pub grantee_by : Option AddressTableView → Pmac → Option Grantee
 grantee_by None address = None
-grantee_by (Some book) address = grantee_in book address
+grantee_by (Some address_table) address = grantee_in address_table address
 
--- a book has the grants of each port
-abbrev pub HasPorts : Option BookView → ℕ → Type 0
-HasPorts None k = Unit {0}
-HasPorts (Some book) k = length book.grants ≡ k
+-- an address table has the grants of each port
+abbrev pub HasGrantsOfPorts : Option AddressTableView → ℕ → Type 0
+HasGrantsOfPorts None k = Unit {0}
+HasGrantsOfPorts (Some address_table) k = length address_table.grants ≡ k
 
-pub record IsOfPorts (k : ℕ) (book : Option BookView) (remembered : List (Option Source)) : Type 0 where
+pub record IsOfPorts (k : ℕ) (address_table : Option AddressTableView) (remembered : List (Option Source)) : Type 0 where
   pub few : k ≤ 24
   pub sources : length remembered ≡ k
-  pub grants : HasPorts book k
+  pub grants : HasGrantsOfPorts address_table k
 
 -- what was granted stays granted, and each trap stands
-abbrev pub KeepsBook : Option BookView → Option BookView → Type 0
-KeepsBook None None = Unit {0}
-KeepsBook (Some old) (Some new) = KeepsGrants old new × KeepsTraps old new
-KeepsBook _ _ = ⊥
+abbrev pub KeepsAddressTable : Option AddressTableView → Option AddressTableView → Type 0
+KeepsAddressTable None None = Unit {0}
+KeepsAddressTable (Some old) (Some new) = KeepsGrants old new × KeepsTraps old new
+KeepsAddressTable _ _ = ⊥
 
 pub record KeepsEdge (old new : EdgeView) : Type 0 where
   pub k : new.k ≡ old.k
-  pub book : KeepsBook old.book new.book
+  pub address_table : KeepsAddressTable old.address_table new.address_table
 
 -- a port's last source is remembered, with the IPv4 address that it gave since it became that
 abbrev pub with_source : List (Option Source) → ℕ → Mac → Option Ip4 → List (Option Source)

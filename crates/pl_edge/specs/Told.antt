@@ -5,10 +5,10 @@ use Rattle.std.specs.List.{All, list_any}
 use Rattle.std.specs.List.Sorted.{IsStrictlySortedBy}
 use Rattle.std.specs.Map.{keys_of}
 use Rattle.std.specs.Ordering.{nat_cmp}
-use Rattle.pl_logic.specs.declared.acts.Act.{Act}
-use Rattle.pl_logic.specs.declared.acts.Act.TheVariants.{Tell}
-use Rattle.pl_logic.specs.declared.messages.ToManager.TheVariants.{Members}
-use Rattle.pl_logic.specs.declared.switch_records.Member.{Member}
+use Rattle.pl_node.specs.declared.acts.Act.{Act}
+use Rattle.pl_node.specs.declared.acts.Act.TheVariants.{Tell}
+use Rattle.pl_node.specs.declared.messages.ToManager.TheVariants.{Members}
+use Rattle.pl_node.specs.declared.switch_records.Member.{Member}
 use Rattle.pl_journal.specs.Places.{are_alike}
 use Rattle.pl_switch_rule.specs.Intake.{has_member_of}
 
@@ -32,7 +32,7 @@ abbrev pub told_if_none : List Member → ℕ → List Act
 told_if_none members group = told_of true (has_member_of members group) group
 
 -- Each group that may have changed since is noted.
-pub record AreNoted (old now : List Member) (groups : List (ℕ × Bool)) : Type 0 where
+pub record AreChangesNoted (old now : List Member) (groups : List (ℕ × Bool)) : Type 0 where
   pub rising : IsStrictlySortedBy nat_cmp (keys_of groups)
   pub had : All (λ (noted : ℕ × Bool). noted.1 ≡ has_member_of old noted.0) groups
   pub others : (group : ℕ) → is_noted groups group ≡ false → has_member_of now group ≡ has_member_of old group

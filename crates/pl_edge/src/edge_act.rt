@@ -1,4 +1,4 @@
-use pl_logic::Cause;
+use pl_node::Cause;
 use pl_pmac::Pmac;
 
 /// What is left to do with a frame of a host.

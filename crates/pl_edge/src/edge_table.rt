@@ -1,28 +1,28 @@
 ghost use Rattle.std.specs.Prelude.{◌≡◌, ◌<◌, ◌≤◌, ◌++◌, ℕ, [], None, not, is_some, length, IfOk, OnErr, OnOk};
 ghost use Rattle.pl_frame.specs.Ethernet.{source_of};
-ghost use Rattle.pl_logic.specs.PortRecords.{ports_of_switch};
-ghost use Rattle.pl_logic.specs.SwitchViews.{SwitchView};
+ghost use Rattle.pl_node.specs.PortRecords.{ports_of_switch};
+ghost use Rattle.pl_node.specs.SwitchViews.{SwitchView};
 ghost use Rattle.pl_steps.specs.Taken.{IsTaken};
 ghost use Rattle.pl_switch_rule.specs.Granting.{grants_remembered, has_no_address, learns_source, remembered_ip};
-ghost use Rattle.pl_migrate.specs.Books.{edge_at};
-ghost use Rattle.pl_edge.specs.EdgeViews.{edge_in, grantee_by, new_edge, with_source, placed_at, KeepsBook, KeepsEdge, MayBeAt};
+ghost use Rattle.pl_migrate.specs.AddressTables.{edge_at};
+ghost use Rattle.pl_edge.specs.EdgeViews.{edge_in, grantee_by, new_edge, with_source, placed_at, KeepsAddressTable, KeepsEdge, MayBeAt};
 
 use crate::reading::{sender_ip, source_of};
 use pl_frame::{Frame, Ip4, Mac};
-use pl_logic::{Memory, Outbox, Source};
 use pl_members::Members;
-use pl_migrate::{AddressBook, Grantee};
+use pl_migrate::{AddressTable, Grantee};
+use pl_node::{Memory, Outbox, Source};
 use pl_pmac::Pmac;
 use std::alloc::Global;
 use std::marker::Model;
 
-/// What an edge switch keeps of the hosts at its ports. Contracts see its k, the book of addresses once it
+/// What an edge switch keeps of the hosts at its ports. Contracts see its k, the address table once it
 /// is placed, what it remembers of each port, and the memberships.
 #[derive(Drop)]
 pub struct EdgeTable {
     pub(crate) alloc: Global,
     pub(crate) k: u8,
-    pub(crate) book: Option<AddressBook>,
+    pub(crate) address_table: Option<AddressTable>,
     pub(crate) remembered: Vec<Option<Source>>,
     pub(crate) members: Members,
 }
@@ -32,9 +32,9 @@ impl Model for EdgeTable {
 
     ghost Value = { EdgeView };
 
-    ghost view = { λ table. record { k = table.k; book = table.book; remembered = table.remembered.items; members = table.members } };
+    ghost view = { λ table. record { k = table.k; address_table = table.address_table; remembered = table.remembered.items; members = table.members } };
 
-    ghost invariant = { λ table. IsOfPorts table.k table.book table.remembered.items };
+    ghost invariant = { λ table. IsOfPorts table.k table.address_table table.remembered.items };
 }
 
 impl EdgeTable {
@@ -46,7 +46,7 @@ impl EdgeTable {
         Ok(EdgeTable {
             alloc,
             k,
-            book: None,
+            address_table: None,
             remembered: vec![in alloc; None; usize::from(k)]?,
             members: Members::new(alloc),
         })
@@ -61,40 +61,40 @@ impl EdgeTable {
 
     /// Whether the switch is placed.
     pub fn is_placed(&self) -> bool
-        ensures { result ≡ is_some self.now.book }
+        ensures { result ≡ is_some self.now.address_table }
     {
-        self.book.is_some()
+        self.address_table.is_some()
     }
 
-    /// The switch has lost its place, and its book of addresses with it.
+    /// The switch has lost its place, and its address table with it.
     pub fn unplaced(&mut self)
-        ensures { self.new ≡ record self.old { book = None } }
+        ensures { self.new ≡ record self.old { address_table = None } }
     {
-        self.book = None;
+        self.address_table = None;
     }
 
     /// To whom an address was granted, be it in use or not; none also before the switch is placed.
     pub fn find(&self, pmac: Pmac) -> Option<Grantee>
-        ensures { result ≡ grantee_by self.now.book pmac }
+        ensures { result ≡ grantee_by self.now.address_table pmac }
     {
-        match &self.book {
-            Some(book) => book.find(pmac),
+        match &self.address_table {
+            Some(address_table) => address_table.find(pmac),
             None => None,
         }
     }
 
     /// The switch became placed: each source that it remembers is granted an address, by rising port.
     pub fn placed(&mut self, pod: u16, position: u8, out: &mut Outbox) -> Result<(), Memory>
-        requires { self.old.book ≡ None }
+        requires { self.old.address_table ≡ None }
         ensures taken { OnOk result ((v : SwitchView) → IsTaken (grants_remembered (ports_of_switch self.old.k) (record (edge_in self.old v) { place = edge_at pod position })) (edge_in self.new v) out.old out.new) }
         ensures k { self.new.k ≡ self.old.k }
-        ensures without { OnErr result (self.new.book ≡ None) }
-        ensures book { OnOk result (KeepsBook (placed_at pod position self.old).book self.new.book) }
+        ensures without { OnErr result (self.new.address_table ≡ None) }
+        ensures address_table { OnOk result (KeepsAddressTable (placed_at pod position self.old).address_table self.new.address_table) }
         ensures members { self.new.members ≡ self.old.members }
     {
-        let mut book = AddressBook::new(self.alloc, self.k, pod, position)?;
-        book.learn_all_remembered(self.k, self.remembered.as_mut_slice(), out)?;
-        self.book = Some(book);
+        let mut address_table = AddressTable::new(self.alloc, self.k, pod, position)?;
+        address_table.learn_all_remembered(self.k, self.remembered.as_mut_slice(), out)?;
+        self.address_table = Some(address_table);
         Ok(())
     }
 
@@ -104,14 +104,14 @@ impl EdgeTable {
     pub fn learn(&mut self, port: u8, frame: &Frame, out: &mut Outbox) -> Result<bool, Memory>
         requires port { port < self.old.k }
         requires long { 14 ≤ length frame.now }
-        ensures taken { OnOk result ((v : SwitchView) → MayBeAt self.old.book v.place → IsTaken (learns_source (edge_in self.old v) port frame.now) (edge_in self.new v) out.old out.new) }
-        ensures known { IfOk result (λ known. (v : SwitchView) → MayBeAt self.old.book v.place → not known ≡ has_no_address (edge_in self.new v) port (source_of frame.now)) }
+        ensures taken { OnOk result ((v : SwitchView) → MayBeAt self.old.address_table v.place → IsTaken (learns_source (edge_in self.old v) port frame.now) (edge_in self.new v) out.old out.new) }
+        ensures known { IfOk result (λ known. (v : SwitchView) → MayBeAt self.old.address_table v.place → not known ≡ has_no_address (edge_in self.new v) port (source_of frame.now)) }
         ensures kept { KeepsEdge self.old self.new }
     {
         let amac = source_of(frame.bytes());
         let ip = sender_ip(frame.bytes());
-        match &mut self.book {
-            Some(book) => Ok(book.learn(port, amac, ip, out)?.is_some()),
+        match &mut self.address_table {
+            Some(address_table) => Ok(address_table.learn(port, amac, ip, out)?.is_some()),
             None => {
                 remember(&mut self.remembered, port, amac, ip);
                 Ok(true)

@@ -2,8 +2,8 @@ ghost use Rattle.std.specs.Prelude.{◌≡◌, ◌++◌, [], OnOk};
 ghost use Rattle.std.specs.List.{flat_map};
 ghost use Rattle.pl_edge.specs.Told.{notes, told_of, told_since};
 
-use pl_logic::{Act, Memory, Outbox, ToManager};
 use pl_members::Members;
+use pl_node::{Act, Memory, Outbox, ToManager};
 use std::alloc::Global;
 use std::collections::BTreeMap;
 use std::marker::Model;

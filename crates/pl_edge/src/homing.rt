@@ -1,5 +1,5 @@
 ghost use Rattle.std.specs.Prelude.{◌≡◌, ◌≤◌, length, IfOk, IfSome, OnOk};
-ghost use Rattle.pl_logic.specs.SwitchViews.{SwitchView};
+ghost use Rattle.pl_node.specs.SwitchViews.{SwitchView};
 ghost use Rattle.pl_delivery.specs.Sending.{HasLength, left_to_do, makes_any};
 ghost use Rattle.pl_layouts.specs.declared.place.Place.{Place};
 ghost use Rattle.pl_steps.specs.Taken.{IsTaken, IsTakenUpTo};
@@ -7,13 +7,13 @@ ghost use Rattle.pl_switch_rule.specs.Delivering.{comes_home, destination, makes
 ghost use Rattle.pl_switch_rule.specs.Forwarding.{Choice};
 ghost use Rattle.pl_switch_rule.specs.Granting.{granted};
 ghost use Rattle.pl_switch_rule.specs.Messages.{invalidates};
-ghost use Rattle.pl_migrate.specs.Books.{traps};
+ghost use Rattle.pl_migrate.specs.AddressTables.{traps};
 ghost use Rattle.pl_edge.specs.EdgeViews.{edge_in, place_by, MayBeAt};
 
 use crate::EdgeTable;
 use pl_delivery::{Sent, begin, egress, invalidate, probe, reply};
 use pl_frame::Frame;
-use pl_logic::{Act, Cause, Grant, Memory, Outbox, Trap};
+use pl_node::{Act, Cause, Grant, Memory, Outbox, Trap};
 use pl_pmac::Pmac;
 
 impl EdgeTable {
@@ -21,11 +21,11 @@ impl EdgeTable {
     /// that stand for it: here, or upward. A switch that is not placed has granted no address.
     pub fn egress(&self, frame: Frame, out: &mut Outbox) -> Result<Sent, Memory>
         requires { 14 ≤ length frame }
-        ensures taken { IfOk result (λ sent. (choose : Choice) (v : SwitchView) → MayBeAt self.now.book v.place → IsTakenUpTo (left_to_do choose sent (edge_in self.now v)) (comes_home choose (edge_in self.now v) frame) out.old out.new) }
+        ensures taken { IfOk result (λ sent. (choose : Choice) (v : SwitchView) → MayBeAt self.now.address_table v.place → IsTakenUpTo (left_to_do choose sent (edge_in self.now v)) (comes_home choose (edge_in self.now v) frame) out.old out.new) }
         ensures length { IfOk result (HasLength (length frame)) }
     {
-        match &self.book {
-            Some(book) => egress(book, frame, out),
+        match &self.address_table {
+            Some(address_table) => egress(address_table, frame, out),
             None => {
                 out.push(Act::Drop(Cause::NoAddress))?;
                 Ok(Sent::Here)
@@ -37,11 +37,11 @@ impl EdgeTable {
     /// or upward.
     pub fn begin(&self, frame: Frame, out: &mut Outbox) -> Result<Sent, Memory>
         requires { 14 ≤ length frame }
-        ensures taken { IfOk result (λ sent. (choose : Choice) (v : SwitchView) → MayBeAt self.now.book v.place → IsTakenUpTo (left_to_do choose sent (edge_in self.now v)) (makes choose frame (edge_in self.now v)) out.old out.new) }
+        ensures taken { IfOk result (λ sent. (choose : Choice) (v : SwitchView) → MayBeAt self.now.address_table v.place → IsTakenUpTo (left_to_do choose sent (edge_in self.now v)) (makes choose frame (edge_in self.now v)) out.old out.new) }
         ensures length { IfOk result (HasLength (length frame)) }
     {
-        match &self.book {
-            Some(book) => begin(book, self.alloc, frame, out),
+        match &self.address_table {
+            Some(address_table) => begin(address_table, self.alloc, frame, out),
             None => {
                 out.push(Act::Make(Frame::copy(self.alloc, frame.bytes())?))?;
                 Ok(Sent::Upward(frame))
@@ -53,11 +53,11 @@ impl EdgeTable {
     /// trap and is no ARP frame: to be made behind what `egress` does with the frame.
     pub fn reply(&self, frame: &[u8]) -> Result<Option<Frame>, Memory>
         requires { 14 ≤ length frame.now }
-        ensures tells { IfOk result (λ reply. (choose : Choice) (v : SwitchView) → MayBeAt self.now.book v.place → makes_any choose reply (edge_in self.now v) ≡ tells_sender choose frame.now (trap_for (edge_in self.now v) (destination frame.now)) (edge_in self.now v)) }
+        ensures tells { IfOk result (λ reply. (choose : Choice) (v : SwitchView) → MayBeAt self.now.address_table v.place → makes_any choose reply (edge_in self.now v) ≡ tells_sender choose frame.now (trap_for (edge_in self.now v) (destination frame.now)) (edge_in self.now v)) }
         ensures length { IfOk result (λ reply. IfSome reply (λ frame. length frame ≡ 42)) }
     {
-        match &self.book {
-            Some(book) => reply(book, self.alloc, frame),
+        match &self.address_table {
+            Some(address_table) => reply(address_table, self.alloc, frame),
             None => Ok(None),
         }
     }
@@ -66,8 +66,8 @@ impl EdgeTable {
     /// the old one is forgotten, and where the old one was in use it is probed. An address that was never
     /// granted here changes nothing.
     pub fn invalidate(&mut self, old: Pmac, to: Trap, out: &mut Outbox) -> Result<(), Memory>
-        ensures taken { OnOk result ((v : SwitchView) → MayBeAt self.old.book v.place → IsTaken (invalidates (edge_in self.old v) old to (granted (edge_in self.old v) old)) (edge_in self.new v) out.old out.new) }
-        ensures place { (place : Place) → place_by self.new.book place ≡ place_by self.old.book place }
+        ensures taken { OnOk result ((v : SwitchView) → MayBeAt self.old.address_table v.place → IsTaken (invalidates (edge_in self.old v) old to (granted (edge_in self.old v) old)) (edge_in self.new v) out.old out.new) }
+        ensures place { (place : Place) → place_by self.new.address_table place ≡ place_by self.old.address_table place }
         ensures k { self.new.k ≡ self.old.k }
     {
         match self.set_trap(old, to)? {
@@ -81,13 +81,13 @@ impl EdgeTable {
 
     // A trap is set for an address. The answer is what was granted under it.
     fn set_trap(&mut self, old: Pmac, to: Trap) -> Result<Option<Grant>, Memory>
-        ensures granted { IfOk result (λ grant. (v : SwitchView) → MayBeAt self.old.book v.place → grant ≡ granted (edge_in self.old v) old) }
+        ensures granted { IfOk result (λ grant. (v : SwitchView) → MayBeAt self.old.address_table v.place → grant ≡ granted (edge_in self.old v) old) }
         ensures set { IfOk result (λ grant. (v : SwitchView) → edge_in self.new v ≡ traps (edge_in self.old v) old to grant) }
-        ensures place { (place : Place) → place_by self.new.book place ≡ place_by self.old.book place }
+        ensures place { (place : Place) → place_by self.new.address_table place ≡ place_by self.old.address_table place }
         ensures k { self.new.k ≡ self.old.k }
     {
-        match &mut self.book {
-            Some(book) => invalidate(book, old, to),
+        match &mut self.address_table {
+            Some(address_table) => invalidate(address_table, old, to),
             None => Ok(None),
         }
     }

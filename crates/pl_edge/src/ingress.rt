@@ -1,13 +1,13 @@
 ghost use Rattle.std.specs.Prelude.{◌≡◌, ◌<◌, ◌≤◌, ◌++◌, ◌==◌, ◌&&◌, if◌then◌else◌, None, OnOk, IfOk, is_none, length};
 ghost use Rattle.pl_frame.specs.Ethernet.{source_of};
-ghost use Rattle.pl_logic.specs.SwitchViews.{SwitchView};
+ghost use Rattle.pl_node.specs.SwitchViews.{SwitchView};
 ghost use Rattle.pl_layouts.specs.Frames.{arriving, is_arp};
 ghost use Rattle.pl_layouts.specs.Memberships.{membership_in};
 ghost use Rattle.pl_steps.specs.Taken.{IsTakenUpTo};
 ghost use Rattle.pl_switch_rule.specs.Forwarding.{Choice};
 ghost use Rattle.pl_switch_rule.specs.Granting.{is_local};
 ghost use Rattle.pl_switch_rule.specs.Intake.{is_for_switch, mac_of_pmac, packet_acts, sends_in, takes_in};
-ghost use Rattle.pl_migrate.specs.Books.{address_in_use, book_in, is_here};
+ghost use Rattle.pl_migrate.specs.AddressTables.{address_in_use, address_table_in, is_here};
 ghost use Rattle.pl_edge.specs.declared.edge_act.EdgeAct.TheVariants.{ToHost, Upward};
 ghost use Rattle.pl_edge.specs.Begun.{left_to_do, question, IsMeant};
 ghost use Rattle.pl_edge.specs.EdgeViews.{edge_in, KeepsEdge, MayBeAt};
@@ -18,9 +18,9 @@ use crate::{EdgeAct, EdgeTable};
 use pl_arp::{Arp, REQUEST};
 use pl_frame::{Frame, Mac};
 use pl_layouts::frames::{arrive, is_arp, packet_in};
-use pl_logic::{Act, Cause, Memory, Outbox, ToManager};
-use pl_migrate::AddressBook;
+use pl_migrate::AddressTable;
 use pl_multicast::group_of;
+use pl_node::{Act, Cause, Memory, Outbox, ToManager};
 use pl_pmac::{Pmac, pack, unpack};
 
 impl EdgeTable {
@@ -37,7 +37,7 @@ impl EdgeTable {
         requires port { port < self.old.k }
         requires long { 14 ≤ length frame.old }
         requires short { length frame.old ≤ 65553 }
-        ensures begun { IfOk result (λ act. (choose : Choice) (v : SwitchView) → MayBeAt self.old.book v.place → IsTakenUpTo (left_to_do choose act frame.new (edge_in self.new v)) (takes_in choose port frame.old (edge_in self.old v)) out.old out.new) }
+        ensures begun { IfOk result (λ act. (choose : Choice) (v : SwitchView) → MayBeAt self.old.address_table v.place → IsTakenUpTo (left_to_do choose act frame.new (edge_in self.new v)) (takes_in choose port frame.old (edge_in self.old v)) out.old out.new) }
         ensures meant { IfOk result (λ act. IsMeant act frame.new) }
         ensures same { length frame.new ≡ length frame.old }
         ensures kept { KeepsEdge self.old self.new }
@@ -54,7 +54,7 @@ impl EdgeTable {
         requires port { port < self.now.k }
         requires long { 14 ≤ length frame.old }
         requires other { membership_in frame.old ≡ None }
-        ensures begun { IfOk result (λ act. (choose : Choice) (v : SwitchView) → MayBeAt self.now.book v.place → IsTakenUpTo (left_to_do choose act frame.new (edge_in self.now v)) (takes_in choose port frame.old (edge_in self.now v)) out.old out.new) }
+        ensures begun { IfOk result (λ act. (choose : Choice) (v : SwitchView) → MayBeAt self.now.address_table v.place → IsTakenUpTo (left_to_do choose act frame.new (edge_in self.now v)) (takes_in choose port frame.old (edge_in self.now v)) out.old out.new) }
         ensures meant { IfOk result (λ act. IsMeant act frame.new) }
         ensures same { length frame.new ≡ length frame.old }
     {
@@ -66,17 +66,17 @@ impl EdgeTable {
             self.ask_for(port, frame.bytes(), packet, out)?;
             return Ok(EdgeAct::Taken);
         }
-        let Some(book) = &self.book else {
+        let Some(address_table) = &self.address_table else {
             return Ok(EdgeAct::Drop(Cause::NotPlaced));
         };
-        rewrite_source(book, port, frame);
-        Ok(direction(book, frame.bytes()))
+        rewrite_source(address_table, port, frame);
+        Ok(direction(address_table, frame.bytes()))
     }
 
     // Whether a packet is for the switch itself: a request, or another packet to a group or to the sender
     // of a probe of this switch.
     fn is_for_switch(&self, dst: Mac, packet: Option<Arp>) -> bool
-        ensures { (v : SwitchView) → MayBeAt self.now.book v.place → result ≡ is_for_switch (edge_in self.now v) dst packet }
+        ensures { (v : SwitchView) → MayBeAt self.now.address_table v.place → result ≡ is_for_switch (edge_in self.now v) dst packet }
     {
         match packet {
             Some(arp) => arp.op == REQUEST || is_group(dst) || self.has_probed_from(unpack(dst)),
@@ -86,10 +86,10 @@ impl EdgeTable {
 
     // Whether an address is one from which this switch sends its probes.
     fn has_probed_from(&self, pmac: Pmac) -> bool
-        ensures { (v : SwitchView) → MayBeAt self.now.book v.place → result ≡ (is_local (edge_in self.now v) pmac && (pmac.vmid == 0)) }
+        ensures { (v : SwitchView) → MayBeAt self.now.address_table v.place → result ≡ (is_local (edge_in self.now v) pmac && (pmac.vmid == 0)) }
     {
-        match &self.book {
-            Some(book) => book.is_local(pmac) && pmac.vmid == 0,
+        match &self.address_table {
+            Some(address_table) => address_table.is_local(pmac) && pmac.vmid == 0,
             None => false,
         }
     }
@@ -104,13 +104,13 @@ impl EdgeTable {
     ) -> Result<(), Memory>
         requires port { port < self.now.k }
         requires long { 14 ≤ length frame.now }
-        ensures { OnOk result ((v : SwitchView) → MayBeAt self.now.book v.place → out.new ≡ out.old ++ packet_acts (edge_in self.now v) port frame.now packet) }
+        ensures { OnOk result ((v : SwitchView) → MayBeAt self.now.address_table v.place → out.new ≡ out.old ++ packet_acts (edge_in self.now v) port frame.now packet) }
     {
         let Some(arp) = packet else {
             return Ok(());
         };
-        match &self.book {
-            Some(book) => ask(book.in_use(port, source_of(frame)), arp, out),
+        match &self.address_table {
+            Some(address_table) => ask(address_table.in_use(port, source_of(frame)), arp, out),
             None => Ok(()),
         }
     }
@@ -142,13 +142,13 @@ fn is_bad_arp(frame: &[u8], packet: Option<Arp>) -> bool
 }
 
 // The source, in an ARP packet too, becomes the pseudo address that the host has in use at a port.
-fn rewrite_source(book: &AddressBook, port: u8, frame: &mut Frame)
-    requires port { port < length book.now.grants }
+fn rewrite_source(address_table: &AddressTable, port: u8, frame: &mut Frame)
+    requires port { port < length address_table.now.grants }
     requires long { 14 ≤ length frame.old }
-    ensures frame { frame.new ≡ arriving frame.old (mac_of_pmac (address_in_use book.now port (source_of frame.old))) None }
+    ensures frame { frame.new ≡ arriving frame.old (mac_of_pmac (address_in_use address_table.now port (source_of frame.old))) None }
     ensures same { length frame.new ≡ length frame.old }
 {
-    let pmac = book.in_use(port, source_of(frame.bytes()));
+    let pmac = address_table.in_use(port, source_of(frame.bytes()));
     arrive(frame.bytes_mut(), mac_of_pmac(pmac), None);
 }
 
@@ -161,24 +161,24 @@ fn mac_of_pmac(pmac: Option<Pmac>) -> Option<Mac>
     }
 }
 
-// Where a frame goes from an edge switch with this book.
-fn direction(book: &AddressBook, frame: &[u8]) -> EdgeAct
+// Where a frame goes from an edge switch with this address table.
+fn direction(address_table: &AddressTable, frame: &[u8]) -> EdgeAct
     requires { 14 ≤ length frame.now }
-    ensures sent { (choose : Choice) (v : SwitchView) → left_to_do choose result frame.now (book_in book.now v) ≡ sends_in choose frame.now (book_in book.now v) }
+    ensures sent { (choose : Choice) (v : SwitchView) → left_to_do choose result frame.now (address_table_in address_table.now v) ≡ sends_in choose frame.now (address_table_in address_table.now v) }
     ensures meant { IsMeant result frame.now }
 {
     let dst = destination_of(frame);
     match group_of(dst) {
         Some(group) => EdgeAct::Group(group),
-        None => direction_to_host(book, unpack(dst)),
+        None => direction_to_host(address_table, unpack(dst)),
     }
 }
 
 // Where a frame for one host goes.
-fn direction_to_host(book: &AddressBook, pmac: Pmac) -> EdgeAct
-    ensures { result ≡ (if is_here book.now pmac then ToHost pmac else Upward pmac) }
+fn direction_to_host(address_table: &AddressTable, pmac: Pmac) -> EdgeAct
+    ensures { result ≡ (if is_here address_table.now pmac then ToHost pmac else Upward pmac) }
 {
-    if book.is_local(pmac) {
+    if address_table.is_local(pmac) {
         EdgeAct::ToHost(pmac)
     } else {
         EdgeAct::Upward(pmac)

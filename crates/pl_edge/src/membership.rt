@@ -8,14 +8,14 @@ ghost use Rattle.pl_steps.specs.Taken.{IsTakenByPart};
 ghost use Rattle.pl_switch_rule.specs.Intake.{changes_member, groups_of, hears_members};
 ghost use Rattle.pl_switch_rule.specs.Messages.{forgets_members};
 ghost use Rattle.pl_edge.specs.EdgeViews.{edge_in, KeepsEdge};
-ghost use Rattle.pl_edge.specs.Told.{told_if_none, AreNoted};
+ghost use Rattle.pl_edge.specs.Told.{told_if_none, AreChangesNoted};
 
 use crate::EdgeTable;
 use crate::groups_before::{GroupsBefore, tell_change};
 use pl_frame::{Frame, FrameView, Ip4, Mac};
-use pl_logic::{Change, Memory, Outbox, PortSet};
 use pl_members::Members;
 use pl_multicast::read_igmp;
+use pl_node::{Change, Memory, Outbox, PortSet};
 use std::alloc::Global;
 
 impl EdgeTable {
@@ -76,7 +76,7 @@ fn change_all(
     requires short { length frame.now ≤ 65553 }
     requires none { before.old ≡ [] }
     ensures changed { OnOk result (members.new ≡ fold (changes_member port (source_of frame.now)) members.old (changes_in frame.now)) }
-    ensures noted { OnOk result (AreNoted members.old members.new before.new) }
+    ensures noted { OnOk result (AreChangesNoted members.old members.new before.new) }
 {
     let view = view_of(frame);
     let Some(changes) = read_igmp(&view) else {

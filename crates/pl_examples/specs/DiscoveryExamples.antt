@@ -2,10 +2,10 @@
 use Rattle.std.specs.Prelude.{◌≡◌, ℕ, true, false, List, [], ◌∷◌, ◌++◌, codes, take, Option, Some, None, refl}
 use Rattle.hex.specs.Hex.{decode_pairs}
 use Rattle.pl_frame.specs.declared.address.SwitchId.{SwitchId}
-use Rattle.pl_logic.specs.declared.acts.Act.TheVariants.{Control, Drop, Tell}
+use Rattle.pl_node.specs.declared.acts.Act.TheVariants.{Control, Drop, Tell}
 use Rattle.pl_journal.specs.declared.cause.Cause.TheVariants.{NotPlaced}
 use Rattle.pl_layouts.specs.declared.control.Control.TheVariants as control
-use Rattle.pl_logic.specs.declared.messages.ToManager.TheVariants.{Link, Place as TellPlace}
+use Rattle.pl_node.specs.declared.messages.ToManager.TheVariants.{Link, Place as TellPlace}
 use Rattle.pl_layouts.specs.declared.place.Place.{Place}
 use Rattle.pl_layouts.specs.Control.{control_bytes, control_frame, control_in}
 use Rattle.pl_examples.specs.EdgeExamples.{acts_of, view_after}
@@ -13,10 +13,10 @@ use Rattle.pl_examples.specs.ExampleFrames.{a_starts, bytes_of}
 use Rattle.pl_switch_rule.specs.Granting.{grants_remembered}
 use Rattle.pl_layouts.specs.Placement.{nowhere}
 use Rattle.pl_examples.specs.SwitchExamples.{aggregation_of, core, edge_at}
-use Rattle.pl_logic.specs.SwitchFacts.{switch_at_boot}
+use Rattle.pl_node.specs.SwitchFacts.{switch_at_boot}
 use Rattle.pl_switch_rule.specs.SwitchRule.{by_flow, switch_step}
-use Rattle.pl_logic.specs.SwitchInputs.SwitchInput.{Tick}
-use Rattle.pl_logic.specs.SwitchViews.{SwitchView}
+use Rattle.pl_node.specs.SwitchInputs.SwitchInput.{Tick}
+use Rattle.pl_node.specs.SwitchViews.{SwitchView}
 use Rattle.pl_examples.specs.VoteExamples.{held, level, switch}
 
 -- the switch of these examples

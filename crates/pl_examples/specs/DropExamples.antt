@@ -3,9 +3,9 @@ use Rattle.std.specs.Prelude.{◌≡◌, [], ◌∷◌, Some, None, refl}
 use Rattle.hex.specs.Hex.{decode_pairs}
 use Rattle.pl_frame.specs.Ethernet.{with_destination}
 use Rattle.pl_pmac.specs.Pmac.{mac_of}
-use Rattle.pl_logic.specs.SwitchInputs.SwitchInput.{Comes, Says}
-use Rattle.pl_logic.specs.SwitchViews.{SwitchView}
-use Rattle.pl_logic.specs.declared.messages.ToSwitch.TheVariants.{Flood}
+use Rattle.pl_node.specs.SwitchInputs.SwitchInput.{Comes, Says}
+use Rattle.pl_node.specs.SwitchViews.{SwitchView}
+use Rattle.pl_node.specs.declared.messages.ToSwitch.TheVariants.{Flood}
 use Rattle.pl_journal.specs.declared.cause.Cause.TheVariants.{NoAddress, NoMember, NoNextHop, NotPlaced}
 use Rattle.pl_examples.specs.EdgeExamples.{a_to_d, a_to_d_above, flooded, ip_of, moved_twice, to_group, with_hosts}
 use Rattle.pl_examples.specs.ExampleFrames.{a_starts, a_to_b, pmac_a, pmac_b}

@@ -7,13 +7,13 @@ use Rattle.pl_frame.specs.declared.address.SwitchId.{SwitchId}
 use Rattle.pl_frame.specs.Ethernet.{with_destination}
 use Rattle.pl_pmac.specs.declared.pmac.Pmac.{Pmac}
 use Rattle.pl_pmac.specs.Pmac.{mac_of}
-use Rattle.pl_logic.specs.declared.acts.Act.{Act}
-use Rattle.pl_logic.specs.declared.acts.Act.TheVariants.{Drop, Grant as GrantAct, Make, Pass, Redirect, Take, Tell}
+use Rattle.pl_node.specs.declared.acts.Act.{Act}
+use Rattle.pl_node.specs.declared.acts.Act.TheVariants.{Drop, Grant as GrantAct, Make, Pass, Redirect, Take, Tell}
 use Rattle.pl_journal.specs.declared.cause.Cause.TheVariants.{NoAddress, NoMember, NoNextHop, NotPlaced}
-use Rattle.pl_logic.specs.declared.messages.ToManager.TheVariants.{Learned, Members, Place as TellPlace, Query}
-use Rattle.pl_logic.specs.declared.messages.ToSwitch.TheVariants.{Answer, Flood, Invalidate, Pod}
-use Rattle.pl_logic.specs.declared.messages.TreePart.{TreePart}
-use Rattle.pl_logic.specs.declared.trap.Trap.{Trap}
+use Rattle.pl_node.specs.declared.messages.ToManager.TheVariants.{Learned, Members, Place as TellPlace, Query}
+use Rattle.pl_node.specs.declared.messages.ToSwitch.TheVariants.{Answer, Flood, Invalidate, Pod}
+use Rattle.pl_node.specs.declared.messages.TreePart.{TreePart}
+use Rattle.pl_node.specs.declared.trap.Trap.{Trap}
 use Rattle.pl_layouts.specs.ArpFrames.{arp_frame}
 use Rattle.pl_switch_rule.specs.Delivering.{last_trap, redirects}
 use Rattle.pl_examples.specs.ExampleFrames.{a_joins, a_starts, a_to_b, a_to_b_arrived, bytes_of, mac_a, mac_b, pmac_a, pmac_b}
@@ -23,11 +23,11 @@ use Rattle.pl_switch_rule.specs.Granting.{grants_remembered}
 use Rattle.pl_layouts.specs.Memberships.{records_changes}
 use Rattle.pl_examples.specs.SwitchExamples.{a00, address, aggregation_of, c00, e00, edge_at}
 use Rattle.pl_switch_rule.specs.HostsAlone.{host_port}
-use Rattle.pl_logic.specs.SwitchFacts.{switch_at_boot}
+use Rattle.pl_node.specs.SwitchFacts.{switch_at_boot}
 use Rattle.pl_switch_rule.specs.SwitchRule.{by_flow, switch_step}
-use Rattle.pl_logic.specs.SwitchInputs.SwitchInput.{Comes, Says}
-use Rattle.pl_logic.specs.declared.switch_records.Grant.{Grant}
-use Rattle.pl_logic.specs.SwitchViews.{SwitchView}
+use Rattle.pl_node.specs.SwitchInputs.SwitchInput.{Comes, Says}
+use Rattle.pl_node.specs.declared.switch_records.Grant.{Grant}
+use Rattle.pl_node.specs.SwitchViews.{SwitchView}
 use Rattle.pl_examples.specs.VoteExamples.{level, port_to, switch}
 
 abbrev pub acts_of : SwitchView → ℕ → List ℕ → List Act

@@ -87,7 +87,7 @@ no_frame_goes_on_that_crossed_nothing run = false≢true run.1.1.turns
 its_link_failed : Run two_pods at_old_place → Run two_pods (at_old_place ++ Redirected 4 pmac_d pmac_moved ∷ LinkDown e10 (switch 11) ∷ Dropped 4 Failed ∷ [])
 unfolding decode_pairs
 its_link_failed run =
-    run ▸ (refl, record { present = refl; same_host = refl; newer = lit< tt; turns = refl }) ▸ record { ordered = lit< tt; joined = refl; state = refl } ▸ (refl, refl)
+    run ▸ (refl, record { present = refl; same_host = refl; newer = lit< tt; turns = refl }) ▸ record { ordered = lit< tt; adjacent = refl; state = refl } ▸ (refl, refl)
 
 -- the link of e0.0 failed behind it
 another_link_failed : ¬ Run two_pods (at_old_place ++ LinkDown e00 a00 ∷ Dropped 4 Failed ∷ [])
@@ -101,8 +101,8 @@ no_link_fails_twice run = false≢true (sym run.1.state)
 a_link_fails_again : Run two_pods d_moved → Run two_pods (d_moved ++ LinkDown e00 a00 ∷ LinkUp e00 a00 ∷ LinkDown e00 a00 ∷ [])
 unfolding decode_pairs
 a_link_fails_again run =
-    run ▸ record { ordered = lit< tt; joined = refl; state = refl } ▸ record { ordered = lit< tt; joined = refl; state = refl }
-    ▸ record { ordered = lit< tt; joined = refl; state = refl }
+    run ▸ record { ordered = lit< tt; adjacent = refl; state = refl } ▸ record { ordered = lit< tt; adjacent = refl; state = refl }
+    ▸ record { ordered = lit< tt; adjacent = refl; state = refl }
 
 -- the end that is earlier in label order stands first
 no_end_stands_before_an_earlier_one : ¬ Run two_pods (then d_moved (LinkDown a00 e00))
@@ -177,7 +177,7 @@ the_first_frame_arrives : Run two_hosts (b_started ++ Sent 2 a a_to_b ∷ Crosse
 unfolding decode_pairs
 the_first_frame_arrives =
     b_started_is_a_run ▸ refl ▸ refl ▸ record { fresh = refl; port = refl; stood = refl; edge = refl }
-    ▸ (refl, record { held = refl; stands = refl; reached = (refl, refl); unaltered = refl })
+    ▸ (refl, record { held = refl; stands_there = refl; reached = (refl, refl); unaltered = refl })
 
 no_later_grant_counts : ¬ Run two_hosts (b_started ++ Sent 2 a a_to_b ∷ Crossed 2 e00 ∷ Line 2 ∷ Granted pmac_a a e00 0 ∷ Arrived 2 b a_to_b_arrived ∷ [])
 unfolding decode_pairs
@@ -223,4 +223,4 @@ probe_arrived = bytes_of (codes "02000000000b00000001000008060001080006040001000
 
 a_probe_arrives : Run two_hosts both_started → Run two_hosts (both_started ++ Made 3 e00 probe ∷ Crossed 3 e00 ∷ Arrived 3 b probe_arrived ∷ [])
 unfolding decode_pairs
-a_probe_arrives run = run ▸ refl ▸ refl ▸ (refl, record { held = refl; stands = refl; reached = (refl, refl); unaltered = refl })
+a_probe_arrives run = run ▸ refl ▸ refl ▸ (refl, record { held = refl; stands_there = refl; reached = (refl, refl); unaltered = refl })

@@ -72,7 +72,7 @@ first_path_is_a_run =
     ▸ refl ▸ record { fresh = refl; port = refl; stood = refl; edge = refl } ▸ (refl, record { of_host = refl; alone = refl; takeable = refl })
     ▸ tt
     ▸ tt ▸ refl
-    ▸ tt ▸ refl ▸ (refl, record { held = refl; stands = refl; reached = (refl, refl); unaltered = refl })
+    ▸ tt ▸ refl ▸ (refl, record { held = refl; stands_there = refl; reached = (refl, refl); unaltered = refl })
     ▸ tt
 
 first_path_has_a_good_trail : GoodTrail two_hosts first_path
@@ -136,4 +136,4 @@ a_live_link_is_not_repaired run = false≢true run.1.state
 
 a_link_that_is_not_there_does_not_fail : ¬ Run two_hosts (then both_started (LinkDown e00 (switch 16)))
 unfolding decode_pairs
-a_link_that_is_not_there_does_not_fail run = false≢true run.1.joined
+a_link_that_is_not_there_does_not_fail run = false≢true run.1.adjacent

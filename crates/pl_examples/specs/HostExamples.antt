@@ -6,15 +6,15 @@ use Rattle.pl_pmac.specs.Pmac.{mac_of}
 use Rattle.pl_arp.specs.declared.cache.Me.{Me}
 use Rattle.pl_journal.specs.declared.cause.Skip.{Skip}
 use Rattle.pl_journal.specs.declared.cause.Skip.TheVariants.{CutRecord, Short, Long, ForeignSource, ControlType, RecordedArp, NoOwner, HoldFull}
-use Rattle.pl_logic.specs.declared.reception.Reception.TheVariants.{Kept, NotMember}
+use Rattle.pl_node.specs.declared.reception.Reception.TheVariants.{Kept, NotMember}
 use Rattle.pl_layouts.specs.Checksum.{ones_plus}
 use Rattle.pl_examples.specs.ExampleFrames.{a_joins, a_starts, bytes_of, mac_a, mac_b, pmac_b}
 use Rattle.pl_layouts.specs.Reports.{header_of, message_of_change}
-use Rattle.pl_logic.specs.HostViews.{HostView, boot_host, groups_after}
+use Rattle.pl_node.specs.HostViews.{HostView, boot_host, groups_after}
 use Rattle.pl_host_rule.specs.HostRule.{host_step, skip_of, step_to}
-use Rattle.pl_logic.specs.HostInputs.HostInput.{Starts, Retries, HasMoved, Plays, PlaysRaw, Joins, Leaves, Receives}
-use Rattle.pl_logic.specs.HostInputs.HostAnswer.{Nothing, Played, Received}
-use Rattle.pl_logic.specs.HostInputs.{HostInput}
+use Rattle.pl_node.specs.HostInputs.HostInput.{Starts, Retries, HasMoved, Plays, PlaysRaw, Joins, Leaves, Receives}
+use Rattle.pl_node.specs.HostInputs.HostAnswer.{Nothing, Played, Received}
+use Rattle.pl_node.specs.HostInputs.{HostInput}
 use Rattle.pl_layouts.specs.ArpFrames.{arp_frame}
 
 abbrev pub ip_a : Ip4

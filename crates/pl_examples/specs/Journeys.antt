@@ -101,7 +101,7 @@ a_moved_host_is_a_run =
     ▸ tt ▸ refl ▸ refl ▸ refl ▸ refl ▸ refl ▸ refl
     ▸ (refl, record { present = refl; same_host = refl; newer = lit< tt; turns = refl })
     ▸ refl ▸ refl ▸ refl ▸ refl ▸ refl
-    ▸ (refl, record { held = refl; stands = refl; reached = (refl, refl); unaltered = refl })
+    ▸ (refl, record { held = refl; stands_there = refl; reached = (refl, refl); unaltered = refl })
 
 a_moved_host_has_a_good_trail : GoodTrail two_pods a_moved_host
 unfolding decode_pairs
@@ -126,7 +126,7 @@ no_frame_goes_on_before_it_is_there run = false≢true run.1.1.turns
 -- d stands there no more
 it_does_not_arrive_at_the_old_place : ¬ Run two_pods (then at_old_place (Arrived 4 d a_to_d_arrived))
 unfolding decode_pairs
-it_does_not_arrive_at_the_old_place run = false≢true (ap (λ there. is_at there (at_port 2 0)) run.1.1.stands)
+it_does_not_arrive_at_the_old_place run = false≢true (ap (λ there. is_at there (at_port 2 0)) run.1.1.stands_there)
 
 it_is_dropped_there : Run two_pods at_old_place → Run two_pods (then at_old_place (Dropped 4 HostGone))
 unfolding decode_pairs

@@ -1,11 +1,11 @@
 -- What is pending in a small world.
 use Rattle.std.specs.Prelude.{◌≡◌, ℕ, List, [], ◌∷◌, refl, slice_set}
-use Rattle.pl_logic.specs.declared.messages.ToManager.TheVariants.{PodWanted, Query}
-use Rattle.pl_logic.specs.declared.messages.ToSwitch.TheVariants.{Flood, Pod}
-use Rattle.pl_logic.specs.Announcements.{announcement}
+use Rattle.pl_node.specs.declared.messages.ToManager.TheVariants.{PodWanted, Query}
+use Rattle.pl_node.specs.declared.messages.ToSwitch.TheVariants.{Flood, Pod}
+use Rattle.pl_node.specs.Announcements.{announcement}
 use Rattle.pl_layouts.specs.Control.{control_bytes, control_frame}
 use Rattle.pl_examples.specs.ExampleFrames.{pmac_a}
-use Rattle.pl_logic.specs.SwitchFacts.{switch_at_boot}
+use Rattle.pl_node.specs.SwitchFacts.{switch_at_boot}
 use Rattle.pl_world.specs.declared.item.Item.TheVariants.{Control, Data}
 use Rattle.pl_world.specs.Pending.{is_stale, pending}
 use Rattle.pl_examples.specs.WorldExamples.{start, with_queue}

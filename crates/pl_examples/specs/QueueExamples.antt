@@ -1,7 +1,7 @@
 -- The order of queues by example.
 use Rattle.std.specs.Prelude.{◌≡◌, [], ◌∷◌, Some, None, refl, slice_set}
 use Rattle.pl_world.specs.declared.event.QueueName.TheVariants as queue
-use Rattle.pl_logic.specs.declared.messages.ToSwitch.TheVariants.{Pod}
+use Rattle.pl_node.specs.declared.messages.ToSwitch.TheVariants.{Pod}
 use Rattle.pl_examples.specs.FirstPath.{two_hosts}
 use Rattle.pl_world.specs.declared.item.Item.TheVariants.{Data}
 use Rattle.pl_world.specs.Changes.{host_no, switch_no}

@@ -1,8 +1,8 @@
 -- What steps drop: by their turns, and by what they wrote.
 use Rattle.std.specs.Prelude.{◌≡◌, false, [], ◌∷◌, Some, None, refl}
-use Rattle.pl_logic.specs.declared.acts.Act.TheVariants as act
-use Rattle.pl_logic.specs.SwitchInputs.{SwitchRule}
-use Rattle.pl_logic.specs.SwitchInputs.SwitchInput.{Comes}
+use Rattle.pl_node.specs.declared.acts.Act.TheVariants as act
+use Rattle.pl_node.specs.SwitchInputs.{SwitchRule}
+use Rattle.pl_node.specs.SwitchInputs.SwitchInput.{Comes}
 use Rattle.pl_layouts.specs.ArpFrames.{arp_frame}
 use Rattle.pl_journal.specs.declared.cause.Cause.TheVariants.{LinkDown, NoNextHop, NotPlaced}
 use Rattle.pl_journal.specs.declared.entry.Entry.TheVariants.{Crossed, Dropped, Sent}
@@ -15,7 +15,7 @@ use Rattle.pl_world.specs.LinksAndMoves.{with_link}
 use Rattle.pl_world.specs.WorldRule.{WorldStep}
 use Rattle.pl_world.specs.Worlds.{WorldView}
 use Rattle.pl_examples.specs.FirstPath.{a, e00}
-use Rattle.pl_examples.specs.WorldExamples.{Keeps, PassesOn, Rests, a00, a_has_sent, a_starts, crowded_link, e00_has_passed_it_on, emptied_link, start, the_link}
+use Rattle.pl_examples.specs.WorldExamples.{Keeps, PassesOn, ManagerRests, a00, a_has_sent, a_starts, crowded_link, e00_has_passed_it_on, emptied_link, start, the_link}
 
 -- a switch that drops whatever comes
 abbrev DropsAll : SwitchRule
@@ -30,14 +30,14 @@ e00_has_dropped_it = record start {
   steps = 1;
 }
 
-it_drops_the_frame : WorldStep DropsAll Rests Keeps a_has_sent (Deliver (queue.FromHost a)) e00_has_dropped_it
+it_drops_the_frame : WorldStep DropsAll ManagerRests Keeps a_has_sent (Deliver (queue.FromHost a)) e00_has_dropped_it
 unfolding arp_frame
 it_drops_the_frame = record { before = _; after = _; acts = act.Drop NotPlaced ∷ []; found = refl; ruled = (refl, refl); changed = refl }
 
 the_frame_of_a_comes_at_e00 : coming a_has_sent (Deliver (queue.FromHost a)) ≡ Some (record { switch = 0; input = Comes 0 a_starts; frame = Some 1 })
 the_frame_of_a_comes_at_e00 = refl
 
-its_turn_is_that_switchs : turn_of DropsAll Rests Keeps a_has_sent (Deliver (queue.FromHost a)) e00_has_dropped_it it_drops_the_frame ≡ OfSwitch (act.Drop NotPlaced ∷ [])
+its_turn_is_that_switchs : turn_of DropsAll ManagerRests Keeps a_has_sent (Deliver (queue.FromHost a)) e00_has_dropped_it it_drops_the_frame ≡ OfSwitch (act.Drop NotPlaced ∷ [])
 unfolding arp_frame it_drops_the_frame
 its_turn_is_that_switchs = refl
 
@@ -57,10 +57,10 @@ unfolding arp_frame
 nothing_is_written = refl
 
 -- a link fails, with frames on both its ways
-abbrev the_link_fails : WorldStep PassesOn Rests Keeps crowded_link (Fail a00 e00) emptied_link
+abbrev the_link_fails : WorldStep PassesOn ManagerRests Keeps crowded_link (Fail a00 e00) emptied_link
 the_link_fails = refl
 
-both_ways_are_lost : dropped crowded_link (Fail a00 e00) (turn_of PassesOn Rests Keeps crowded_link (Fail a00 e00) emptied_link the_link_fails)
+both_ways_are_lost : dropped crowded_link (Fail a00 e00) (turn_of PassesOn ManagerRests Keeps crowded_link (Fail a00 e00) emptied_link the_link_fails)
     ≡ (4, LinkDown) ∷ (2, LinkDown) ∷ (3, LinkDown) ∷ []
 both_ways_are_lost = refl
 

@@ -5,9 +5,9 @@ use Rattle.pl_pmac.specs.declared.pmac.Pmac.{Pmac}
 use Rattle.pl_switch_rule.specs.declared.came.Came.TheVariants.{FromAbove, FromBelow, FromHost}
 use Rattle.pl_layouts.specs.declared.place.Place.{Place}
 use Rattle.pl_switch_rule.specs.Forwarding.{candidates}
-use Rattle.pl_logic.specs.PortRecords.{new_port}
-use Rattle.pl_logic.specs.SwitchFacts.{switch_at_boot}
-use Rattle.pl_logic.specs.SwitchViews.{SwitchView}
+use Rattle.pl_node.specs.PortRecords.{new_port}
+use Rattle.pl_node.specs.SwitchFacts.{switch_at_boot}
+use Rattle.pl_node.specs.SwitchViews.{SwitchView}
 use Rattle.pl_examples.specs.VoteExamples.{port_to, switch}
 
 abbrev pub edge_at : ℕ → ℕ → Place

@@ -2,22 +2,22 @@
 -- one the next. Each has four ports.
 use Rattle.std.specs.Prelude.{◌≡◌, ℕ, Bool, true, false, List, [], ◌∷◌, drop, Option, Some, None, refl}
 use Rattle.pl_frame.specs.declared.address.SwitchId.{SwitchId}
-use Rattle.pl_logic.specs.declared.acts.Act.{Act}
-use Rattle.pl_logic.specs.declared.acts.Act.TheVariants.{Control, Tell}
+use Rattle.pl_node.specs.declared.acts.Act.{Act}
+use Rattle.pl_node.specs.declared.acts.Act.TheVariants.{Control, Tell}
 use Rattle.pl_layouts.specs.declared.control.Control.TheVariants as control
 use Rattle.pl_layouts.specs.declared.control.Proposal.{Proposal}
 use Rattle.pl_layouts.specs.declared.control.Vote.{Vote}
-use Rattle.pl_logic.specs.declared.messages.ToManager.TheVariants.{Place as TellPlace, PodWanted}
-use Rattle.pl_logic.specs.declared.neighbour.PortRecord.{PortRecord}
+use Rattle.pl_node.specs.declared.messages.ToManager.TheVariants.{Place as TellPlace, PodWanted}
+use Rattle.pl_node.specs.declared.neighbour.PortRecord.{PortRecord}
 use Rattle.pl_layouts.specs.declared.place.Place.{Place}
 use Rattle.pl_switch_rule.specs.Announcing.{ticks}
 use Rattle.pl_layouts.specs.Control.{control_frame}
 use Rattle.pl_switch_rule.specs.Levels.{changes_to}
-use Rattle.pl_logic.specs.PortRecords.{new_port}
+use Rattle.pl_node.specs.PortRecords.{new_port}
 use Rattle.pl_switch_rule.specs.Positions.{after_vote, hears_proposal, notes_position}
-use Rattle.pl_logic.specs.SwitchFacts.{switch_at_boot}
-use Rattle.pl_logic.specs.declared.switch_records.Hold.{Hold}
-use Rattle.pl_logic.specs.SwitchViews.{SwitchView}
+use Rattle.pl_node.specs.SwitchFacts.{switch_at_boot}
+use Rattle.pl_node.specs.declared.switch_records.Hold.{Hold}
+use Rattle.pl_node.specs.SwitchViews.{SwitchView}
 
 abbrev pub switch : ℕ → SwitchId
 switch n = record { 0 = n }

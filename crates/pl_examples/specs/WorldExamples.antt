@@ -2,24 +2,24 @@
 use Rattle.std.specs.Prelude.{◌≡◌, ℕ, false, List, [], ◌∷◌, Some, None, refl, slice_set}
 use Rattle.pl_wiring.specs.declared.label.SwitchNo.{SwitchNo}
 use Rattle.pl_wiring.specs.declared.link.Link.{Link}
-use Rattle.pl_logic.specs.declared.acts.Act.{Act}
-use Rattle.pl_logic.specs.declared.acts.Act.TheVariants as act
-use Rattle.pl_logic.specs.declared.acts.HostAct.TheVariants.{Send}
+use Rattle.pl_node.specs.declared.acts.Act.{Act}
+use Rattle.pl_node.specs.declared.acts.Act.TheVariants as act
+use Rattle.pl_node.specs.declared.acts.HostAct.TheVariants.{Send}
 use Rattle.pl_journal.specs.declared.cause.Cause.TheVariants as cause
 use Rattle.pl_journal.specs.declared.entry.Entry.{Entry}
 use Rattle.pl_journal.specs.declared.entry.Entry.TheVariants.{Arrived, Copied, Crossed, Dropped, LinkDown, Made, Moved, Redirected, Sent, Taken}
 use Rattle.pl_world.specs.declared.event.Event.TheVariants.{Deliver, Fail, Lose, Move, Repair}
 use Rattle.pl_world.specs.declared.event.QueueName.TheVariants as queue
-use Rattle.pl_logic.specs.declared.reception.Reception.TheVariants.{Kept}
+use Rattle.pl_node.specs.declared.reception.Reception.TheVariants.{Kept}
 use Rattle.pl_layouts.specs.ArpFrames.{arp_frame}
 use Rattle.pl_examples.specs.ExampleFrames.{mac_a, pmac_a, pmac_b}
 use Rattle.pl_examples.specs.FirstPath.{a, b, e00, switch, two_hosts}
 use Rattle.pl_host_rule.specs.HostRule.{start_frame}
-use Rattle.pl_logic.specs.HostInputs.{HostRule}
-use Rattle.pl_logic.specs.HostInputs.HostAnswer.{Nothing, Received}
-use Rattle.pl_logic.specs.ManagerDuties.{ManagerRule}
-use Rattle.pl_logic.specs.SwitchInputs.{SwitchRule}
-use Rattle.pl_logic.specs.SwitchInputs.SwitchInput.{Comes}
+use Rattle.pl_node.specs.HostInputs.{HostRule}
+use Rattle.pl_node.specs.HostInputs.HostAnswer.{Nothing, Received}
+use Rattle.pl_node.specs.ManagerDuties.{ManagerRule}
+use Rattle.pl_node.specs.SwitchInputs.{SwitchRule}
+use Rattle.pl_node.specs.SwitchInputs.SwitchInput.{Comes}
 use Rattle.pl_world.specs.declared.error.StepError.TheVariants.{AlreadySo, NoSuch, NothingThere, Occupied, StepsSpent}
 use Rattle.pl_world.specs.declared.item.Item.{Item}
 use Rattle.pl_world.specs.declared.item.Item.TheVariants.{Control, Data}
@@ -40,8 +40,8 @@ abbrev pub PassesOn : SwitchRule
 PassesOn before (Comes port frame) after acts = (after ≡ before) × (acts ≡ act.Pass 1 frame ∷ [])
 PassesOn before input after acts = ⊥
 
-abbrev pub Rests : ManagerRule
-Rests before s told after acts = (after ≡ before) × (acts ≡ [])
+abbrev pub ManagerRests : ManagerRule
+ManagerRests before s told after acts = (after ≡ before) × (acts ≡ [])
 
 abbrev pub Keeps : HostRule
 Keeps before input after acts answer = (after ≡ before) × (acts ≡ []) × (answer ≡ Received Kept)
@@ -87,12 +87,12 @@ b_has_it = record start {
   steps = 2;
 }
 
-a_frame_crosses_the_switch_of_its_host : WorldStep PassesOn Rests Keeps a_has_sent (Deliver (queue.FromHost a)) e00_has_passed_it_on
+a_frame_crosses_the_switch_of_its_host : WorldStep PassesOn ManagerRests Keeps a_has_sent (Deliver (queue.FromHost a)) e00_has_passed_it_on
 unfolding arp_frame
 a_frame_crosses_the_switch_of_its_host =
     record { before = _; after = _; acts = act.Pass 1 a_starts ∷ []; found = refl; ruled = (refl, refl); changed = refl }
 
-it_arrives_at_the_host_at_the_other_port : WorldStep PassesOn Rests Keeps e00_has_passed_it_on (Deliver (queue.Port e00 1)) b_has_it
+it_arrives_at_the_host_at_the_other_port : WorldStep PassesOn ManagerRests Keeps e00_has_passed_it_on (Deliver (queue.Port e00 1)) b_has_it
 unfolding arp_frame
 it_arrives_at_the_host_at_the_other_port =
     record { reception = Kept; turn = record { before = _; after = _; acts = []; found = refl; ruled = (refl, refl, refl); changed = refl } }
@@ -112,7 +112,7 @@ emptied_link = record start {
   steps = 1;
 }
 
-a_failed_link_ends_its_frames_those_on_their_way_up_first : WorldStep PassesOn Rests Keeps crowded_link (Fail a00 e00) emptied_link
+a_failed_link_ends_its_frames_those_on_their_way_up_first : WorldStep PassesOn ManagerRests Keeps crowded_link (Fail a00 e00) emptied_link
 a_failed_link_ends_its_frames_those_on_their_way_up_first = refl
 
 -- Frames wait in the queue of host a and in the queue to it.
@@ -122,14 +122,14 @@ crowded_host = record (with_queue start 0 (Control [] ∷ Data 1 [] ∷ [])) { f
 -- it moves to port 0 of e0.1
 abbrev pub a_has_moved : WorldView
 a_has_moved = record start {
-  stands = record { edge = e01; port = 0 } ∷ record { edge = e00; port = 1 } ∷ [];
+  attachments = record { edge = e01; port = 0 } ∷ record { edge = e00; port = 1 } ∷ [];
   from_hosts = (Data 3 a_starts ∷ []) ∷ [] ∷ [];
   journal = Moved a e01 0 ∷ Dropped 2 cause.HostGone ∷ Dropped 1 cause.HostGone ∷ Sent 3 a a_starts ∷ [];
   begun = 3;
   steps = 1;
 }
 
-a_host_that_moves_leaves_its_frames_behind : WorldStep PassesOn Rests StartsAgain crowded_host (Move a e01 0) a_has_moved
+a_host_that_moves_leaves_its_frames_behind : WorldStep PassesOn ManagerRests StartsAgain crowded_host (Move a e01 0) a_has_moved
 a_host_that_moves_leaves_its_frames_behind =
     record { before = _; after = _; acts = Send a_starts ∷ []; found = refl; ruled = (refl, refl, refl); changed = refl }
 

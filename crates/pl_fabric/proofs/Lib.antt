@@ -1,6 +1,7 @@
-pub mod CourseSteps
+pub mod ExecutionSteps
 pub mod Visiting
 pub mod Tests
 pub mod Deciding
-pub mod CourseRuns
+pub mod ExecutionRuns
 pub mod QueueOrder
+pub mod Exports

@@ -5,7 +5,7 @@ use Rattle.std.proofs.lemmas.List.FromFn.{get_or-map-range_with_len, length-map-
 use Rattle.std.proofs.lemmas.Option.{slice_get-get_or}
 use Rattle.pl_wiring.specs.Plan.{IsPlan, Plan}
 use Rattle.pl_world.specs.QueueOrder.{queue_at, queue_count, queue_order}
-use Rattle.pl_schedule.proofs.QueueLists.{length_of_order, member_of_order}
+use Rattle.pl_schedule.proofs.Exports.{length_of_order, member_of_order}
 use Rattle.pl_fabric.specs.Rounds.{queues_from}
 
 pub all_in_order : (plan : Plan) → IsPlan plan → queues_from plan 0 ≡ queue_order plan

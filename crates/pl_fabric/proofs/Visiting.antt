@@ -2,12 +2,12 @@
 use Rattle.std.proofs.Common.{◌≡◌, ℕ, zero, suc, ◌+◌, ◌-◌, ◌<◌, ◌≤◌, Bool, true, false, cond, List, [], ◌∷◌, length, map, replicate, Option, Some, None, MatchOption, unwrap_or, refl, sym, subst, arith}
 use Rattle.std.specs.List.{range_with_len}
 use Rattle.pl_wiring.specs.Plan.{Plan}
-use Rattle.pl_logic.specs.HostInputs.{HostRule}
-use Rattle.pl_logic.specs.ManagerDuties.{ManagerRule}
-use Rattle.pl_logic.specs.SwitchInputs.{SwitchRule}
-use Rattle.pl_banks.specs.Bits.{IsLeast}
+use Rattle.pl_node.specs.HostInputs.{HostRule}
+use Rattle.pl_node.specs.ManagerDuties.{ManagerRule}
+use Rattle.pl_node.specs.SwitchInputs.{SwitchRule}
+use Rattle.pl_queue_array.specs.Bits.{IsLeast}
 use Rattle.pl_queues.specs.Queues.{has_items, items_at}
-use Rattle.pl_banks.proofs.Indices.{next_index_is_least}
+use Rattle.pl_queue_array.proofs.Exports.{next_index_is_least}
 use Rattle.pl_world.specs.declared.error.StepError.{StepError}
 use Rattle.pl_world.specs.declared.event.Event.TheVariants.{Deliver}
 use Rattle.pl_world.specs.declared.event.QueueName.{QueueName}
@@ -16,7 +16,7 @@ use Rattle.pl_world.specs.Changes.{out_of}
 use Rattle.pl_world.specs.QueueOrder.{has_items_at, next_queue, queue_at, queue_count}
 use Rattle.pl_world.specs.Refusals.{has_host, has_port, has_switch, is_filled}
 use Rattle.pl_world.specs.Worlds.{WorldView}
-use Rattle.pl_fabric.specs.Courses.{MakesAll, Then}
+use Rattle.pl_fabric.specs.Executions.{MakesAll, Then}
 use Rattle.pl_fabric.specs.Rounds.{Visits, VisitsAll, queues_from, waiting}
 
 none_waits : {T : Type 0} (there : Bool) (xs : List T) → has_items xs ≡ false → unwrap_or (cond there (Some (length xs)) None) 0 ≡ 0

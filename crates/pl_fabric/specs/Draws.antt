@@ -3,16 +3,16 @@ use Rattle.std.specs.Prelude.{ℕ, zero, suc, ◌+◌, ◌-◌, ◌%◌, length,
 use Rattle.pl_wiring.specs.Labels.{switch_count}
 use Rattle.pl_draws.specs.Draws.{upper_half}
 pub use Rattle.pl_draws.specs.Draws.{next_number}
-use Rattle.pl_logic.specs.HostInputs.{HostRule}
-use Rattle.pl_logic.specs.ManagerDuties.{ManagerRule}
-use Rattle.pl_logic.specs.SwitchInputs.{SwitchRule}
+use Rattle.pl_node.specs.HostInputs.{HostRule}
+use Rattle.pl_node.specs.ManagerDuties.{ManagerRule}
+use Rattle.pl_node.specs.SwitchInputs.{SwitchRule}
 use Rattle.pl_world.specs.declared.event.Event.{Event}
 use Rattle.pl_world.specs.declared.event.Event.TheVariants.{Deliver, Tick}
 use Rattle.pl_world.specs.declared.event.QueueName.{QueueName}
 use Rattle.pl_world.specs.Changes.{switch_no}
 use Rattle.pl_world.specs.QueueOrder.{filled_queues}
 use Rattle.pl_world.specs.Worlds.{WorldView}
-use Rattle.pl_fabric.specs.Courses.{Course, Makes, Stays, Then}
+use Rattle.pl_fabric.specs.Executions.{Execution, Makes, Stays, Then}
 
 -- a queue with items, or the tick of a switch
 abbrev pub delivery_or_tick : Option QueueName → ℕ → Event
@@ -28,7 +28,7 @@ abbrev pub drawn : WorldView → ℕ → Event
 drawn w x = event_number w (upper_half x % (length (filled_queues w) + switch_count w.plan.k))
 
 -- so many steps, each drawn by the next number
-abbrev pub Draws : SwitchRule → ManagerRule → HostRule → ℕ → ℕ → Course
+abbrev pub Draws : SwitchRule → ManagerRule → HostRule → ℕ → ℕ → Execution
 Draws switch manager host zero x = Stays
 Draws switch manager host (suc n) x = λ old.
     Then (Makes switch manager host (drawn old (next_number x))) (Draws switch manager host n (next_number x)) old

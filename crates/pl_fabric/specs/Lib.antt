@@ -1,4 +1,4 @@
-pub mod Courses
+pub mod Executions
 pub mod Rounds
 pub mod Settled
 pub mod Settlings

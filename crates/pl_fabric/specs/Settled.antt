@@ -7,14 +7,14 @@ use Rattle.pl_wiring.specs.declared.link.Peer.TheVariants.{HostPort, Switch}
 use Rattle.pl_wiring.specs.LiveLinks.{is_live_at}
 use Rattle.pl_wiring.specs.Peers.{peer_of}
 use Rattle.pl_layouts.specs.Placement.{is_known}
-use Rattle.pl_logic.specs.declared.neighbour.Neighbour.{Neighbour}
-use Rattle.pl_logic.specs.AvoidLists.{avoid_list}
-use Rattle.pl_logic.specs.ManagerFacts.{group_at}
-use Rattle.pl_logic.specs.ManagerViews.{ManagerView, is_told_usable, place_of}
-use Rattle.pl_logic.specs.PortRecords.{id_at, is_usable, is_usable_to, place_at, port_of}
-use Rattle.pl_logic.specs.SwitchFacts.{group_of_part, holder_of, is_answered, is_news, part_of, present_attempt, switch_at_boot}
-use Rattle.pl_logic.specs.SwitchViews.{SwitchView}
-use Rattle.pl_logic.specs.Trees.{tree_part}
+use Rattle.pl_node.specs.declared.neighbour.Neighbour.{Neighbour}
+use Rattle.pl_node.specs.AvoidLists.{avoid_list}
+use Rattle.pl_node.specs.ManagerFacts.{group_at}
+use Rattle.pl_node.specs.ManagerViews.{ManagerView, is_told_usable, place_of}
+use Rattle.pl_node.specs.PortRecords.{id_at, is_usable, is_usable_to, place_at, port_of}
+use Rattle.pl_node.specs.SwitchFacts.{group_of_part, holder_of, is_answered, is_news, part_of, present_attempt, switch_at_boot}
+use Rattle.pl_node.specs.SwitchViews.{SwitchView}
+use Rattle.pl_node.specs.Trees.{tree_part}
 use Rattle.pl_world.specs.SettledQueues.{HasSettledQueues}
 use Rattle.pl_world.specs.Worlds.{WorldView}
 

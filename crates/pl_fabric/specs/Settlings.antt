@@ -1,14 +1,14 @@
 -- Rounds until a fabric is settled.
 use Rattle.std.specs.Prelude.{◌≡◌, ◌<◌, ◌≤◌, ℕ, zero, suc, None}
-use Rattle.pl_logic.specs.HostInputs.{HostRule}
-use Rattle.pl_logic.specs.ManagerDuties.{ManagerRule}
-use Rattle.pl_logic.specs.SwitchInputs.{SwitchRule}
+use Rattle.pl_node.specs.HostInputs.{HostRule}
+use Rattle.pl_node.specs.ManagerDuties.{ManagerRule}
+use Rattle.pl_node.specs.SwitchInputs.{SwitchRule}
 use Rattle.pl_world.specs.Pending.{pending}
 use Rattle.pl_world.specs.QueueOrder.{next_queue}
 use Rattle.pl_world.specs.Worlds.{WorldView}
 use Rattle.pl_fabric.specs.declared.settling.Settling.{Settling}
 use Rattle.pl_fabric.specs.declared.settling.Settling.TheVariants.{NotSettled, Settled}
-use Rattle.pl_fabric.specs.Courses.{Course, Stays, Then}
+use Rattle.pl_fabric.specs.Executions.{Execution, Stays, Then}
 use Rattle.pl_fabric.specs.Rounds.{GoesRound}
 use Rattle.pl_fabric.specs.Settled.{IsSettled}
 
@@ -18,13 +18,13 @@ pub record IsAtRest (w : WorldView) : Type 0 where
   pub empty : next_queue w 0 ≡ None
 
 -- what is answered of a fabric at the end, after so many rounds
-abbrev pub IsAnswer : WorldView → ℕ → Settling → Type 0
-IsAnswer w used (Settled rounds) = IsSettled w × (rounds ≡ used)
-IsAnswer w used (NotSettled waiting) = (IsSettled w → ⊥) × (waiting ≡ pending w)
+abbrev pub IsSettlingAnswer : WorldView → ℕ → Settling → Type 0
+IsSettlingAnswer w used (Settled rounds) = IsSettled w × (rounds ≡ used)
+IsSettlingAnswer w used (NotSettled waiting) = (IsSettled w → ⊥) × (waiting ≡ pending w)
 
 module _ (switch : SwitchRule) (manager : ManagerRule) (host : HostRule) where
   -- so many rounds, before each of which the fabric is not at rest
-  abbrev pub GoesRounds : ℕ → Course
+  abbrev pub GoesRounds : ℕ → Execution
   GoesRounds zero = Stays
   GoesRounds (suc n) = λ old end new. (IsAtRest old → ⊥) × Then (GoesRound switch manager host) (GoesRounds n) old end new
 
@@ -34,4 +34,4 @@ module _ (switch : SwitchRule) (manager : ManagerRule) (host : HostRule) where
     pub rounds : GoesRounds used old None new
     pub within : used ≤ asked
     pub least : used < asked → IsAtRest new
-    pub answered : IsAnswer new used answer
+    pub answered : IsSettlingAnswer new used answer

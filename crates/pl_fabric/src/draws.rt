@@ -1,12 +1,11 @@
 ghost use Rattle.std.specs.Prelude.{◌≡◌};
-ghost use Rattle.pl_world.specs.Flying.{IsCounted};
-ghost use Rattle.pl_world.specs.Hearing.{IsWithinHearing};
-ghost use Rattle.pl_fabric.specs.Courses.{EndsAs};
+ghost use Rattle.pl_world.specs.Ready.{CanStep};
+ghost use Rattle.pl_fabric.specs.Executions.{EndsAs};
 ghost use Rattle.pl_fabric.specs.Draws.{Draws, drawn};
 
 use crate::making::make;
 use pl_draws::{next_number, upper_half};
-use pl_logic::{HostLogic, ManagerLogic, SwitchLogic};
+use pl_node::{HostLogic, ManagerLogic, SwitchLogic};
 use pl_schedule::World;
 use pl_wiring::SwitchNo;
 use pl_world::{Event, StepError};
@@ -32,11 +31,9 @@ pub fn random<S: SwitchLogic, M: ManagerLogic, H: HostLogic>(
     number: u64,
     steps: u32,
 ) -> Result<(), StepError>
-    requires counted { IsCounted world.old }
-    requires hearing { IsWithinHearing world.old }
+    requires orderly { CanStep world.old }
     ensures drawn { EndsAs result (λ end. Draws S.rule M.rule H.rule steps number world.old end world.new) }
-    ensures counted { EndsAs result (λ _. IsCounted world.new) }
-    ensures hearing { EndsAs result (λ _. IsWithinHearing world.new) }
+    ensures orderly { EndsAs result (λ _. CanStep world.new) }
     ensures plan { EndsAs result (λ _. world.new.plan ≡ world.old.plan) }
 {
     let mut x = number;

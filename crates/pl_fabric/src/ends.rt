@@ -1,10 +1,10 @@
 ghost use Rattle.std.specs.Prelude.{◌≡◌, ◌↔◌, ◌<◌, IsTrue, Some, true};
-ghost use Rattle.pl_logic.specs.PortRecords.{id_at, is_usable, port_of};
+ghost use Rattle.pl_node.specs.PortRecords.{id_at, is_usable, port_of};
 ghost use Rattle.pl_fabric.specs.Settled.{IsSettledEnd, announced_at};
 
 use crate::votes::would_change;
 use pl_frame::SwitchId;
-use pl_logic::{ManagerLogic, Neighbour, SwitchFacts};
+use pl_node::{ManagerLogic, Neighbour, SwitchFacts};
 
 fn id_at<F: SwitchFacts>(facts: &F, port: u8) -> Option<SwitchId>
     requires { port < (F.view facts.now).k }

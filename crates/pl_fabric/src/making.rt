@@ -1,11 +1,10 @@
 ghost use Rattle.std.specs.Prelude.{◌≡◌, replicate};
 ghost use Rattle.pl_world.specs.declared.event.Event.TheVariants.{Deliver};
-ghost use Rattle.pl_world.specs.Flying.{IsCounted};
-ghost use Rattle.pl_world.specs.Hearing.{IsWithinHearing};
-ghost use Rattle.pl_fabric.specs.Courses.{EndsAs, Makes, MakesAll};
+ghost use Rattle.pl_world.specs.Ready.{CanStep};
+ghost use Rattle.pl_fabric.specs.Executions.{EndsAs, Makes, MakesAll};
 ghost use Rattle.pl_fabric.specs.Rounds.{TicksAll, Visits};
 
-use pl_logic::{HostLogic, ManagerLogic, SwitchLogic};
+use pl_node::{HostLogic, ManagerLogic, SwitchLogic};
 use pl_schedule::World;
 use pl_wiring::SwitchNo;
 use pl_world::{Event, QueueName, StepError};
@@ -15,11 +14,9 @@ pub fn make<S: SwitchLogic, M: ManagerLogic, H: HostLogic>(
     world: &mut World<S, M, H>,
     event: &Event,
 ) -> Result<(), StepError>
-    requires counted { IsCounted world.old }
-    requires hearing { IsWithinHearing world.old }
+    requires orderly { CanStep world.old }
     ensures made { EndsAs result (λ end. Makes S.rule M.rule H.rule event.now world.old end world.new) }
-    ensures counted { EndsAs result (λ _. IsCounted world.new) }
-    ensures hearing { EndsAs result (λ _. IsWithinHearing world.new) }
+    ensures orderly { EndsAs result (λ _. CanStep world.new) }
     ensures plan { EndsAs result (λ _. world.new.plan ≡ world.old.plan) }
 {
     world.step(event)
@@ -31,11 +28,9 @@ fn deliver<S: SwitchLogic, M: ManagerLogic, H: HostLogic>(
     name: QueueName,
     many: usize,
 ) -> Result<(), StepError>
-    requires counted { IsCounted world.old }
-    requires hearing { IsWithinHearing world.old }
+    requires orderly { CanStep world.old }
     ensures made { EndsAs result (λ end. MakesAll S.rule M.rule H.rule (replicate many (Deliver name)) world.old end world.new) }
-    ensures counted { EndsAs result (λ _. IsCounted world.new) }
-    ensures hearing { EndsAs result (λ _. IsWithinHearing world.new) }
+    ensures orderly { EndsAs result (λ _. CanStep world.new) }
     ensures plan { EndsAs result (λ _. world.new.plan ≡ world.old.plan) }
 {
     for _ in 0..many {
@@ -49,11 +44,9 @@ pub(crate) fn visit<S: SwitchLogic, M: ManagerLogic, H: HostLogic>(
     world: &mut World<S, M, H>,
     name: QueueName,
 ) -> Result<(), StepError>
-    requires counted { IsCounted world.old }
-    requires hearing { IsWithinHearing world.old }
+    requires orderly { CanStep world.old }
     ensures made { EndsAs result (λ end. Visits S.rule M.rule H.rule name world.old end world.new) }
-    ensures counted { EndsAs result (λ _. IsCounted world.new) }
-    ensures hearing { EndsAs result (λ _. IsWithinHearing world.new) }
+    ensures orderly { EndsAs result (λ _. CanStep world.new) }
     ensures plan { EndsAs result (λ _. world.new.plan ≡ world.old.plan) }
 {
     let many = world.queue_len(name).unwrap_or(0);
@@ -65,11 +58,9 @@ pub(crate) fn visit<S: SwitchLogic, M: ManagerLogic, H: HostLogic>(
 pub fn tick_all<S: SwitchLogic, M: ManagerLogic, H: HostLogic>(
     world: &mut World<S, M, H>,
 ) -> Result<(), StepError>
-    requires counted { IsCounted world.old }
-    requires hearing { IsWithinHearing world.old }
+    requires orderly { CanStep world.old }
     ensures made { EndsAs result (λ end. TicksAll S.rule M.rule H.rule world.old end world.new) }
-    ensures counted { EndsAs result (λ _. IsCounted world.new) }
-    ensures hearing { EndsAs result (λ _. IsWithinHearing world.new) }
+    ensures orderly { EndsAs result (λ _. CanStep world.new) }
     ensures plan { EndsAs result (λ _. world.new.plan ≡ world.old.plan) }
 {
     let many = world.wiring().switch_count();

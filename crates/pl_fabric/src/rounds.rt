@@ -1,11 +1,10 @@
 ghost use Rattle.std.specs.Prelude.{◌≡◌};
-ghost use Rattle.pl_world.specs.Flying.{IsCounted};
-ghost use Rattle.pl_world.specs.Hearing.{IsWithinHearing};
-ghost use Rattle.pl_fabric.specs.Courses.{EndsAs, Times};
+ghost use Rattle.pl_world.specs.Ready.{CanStep};
+ghost use Rattle.pl_fabric.specs.Executions.{EndsAs, Times};
 ghost use Rattle.pl_fabric.specs.Rounds.{GoesRound, Sweeps};
 
 use crate::making::{tick_all, visit};
-use pl_logic::{HostLogic, ManagerLogic, SwitchLogic};
+use pl_node::{HostLogic, ManagerLogic, SwitchLogic};
 use pl_schedule::World;
 use pl_world::StepError;
 
@@ -15,11 +14,9 @@ use pl_world::StepError;
 pub fn sweep<S: SwitchLogic, M: ManagerLogic, H: HostLogic>(
     world: &mut World<S, M, H>,
 ) -> Result<(), StepError>
-    requires counted { IsCounted world.old }
-    requires hearing { IsWithinHearing world.old }
+    requires orderly { CanStep world.old }
     ensures swept { EndsAs result (λ end. Sweeps S.rule M.rule H.rule world.old end world.new) }
-    ensures counted { EndsAs result (λ _. IsCounted world.new) }
-    ensures hearing { EndsAs result (λ _. IsWithinHearing world.new) }
+    ensures orderly { EndsAs result (λ _. CanStep world.new) }
     ensures plan { EndsAs result (λ _. world.new.plan ≡ world.old.plan) }
 {
     let mut from = 0;
@@ -38,11 +35,9 @@ pub fn sweep_often<S: SwitchLogic, M: ManagerLogic, H: HostLogic>(
     world: &mut World<S, M, H>,
     times: u32,
 ) -> Result<(), StepError>
-    requires counted { IsCounted world.old }
-    requires hearing { IsWithinHearing world.old }
+    requires orderly { CanStep world.old }
     ensures swept { EndsAs result (λ end. Times times (Sweeps S.rule M.rule H.rule) world.old end world.new) }
-    ensures counted { EndsAs result (λ _. IsCounted world.new) }
-    ensures hearing { EndsAs result (λ _. IsWithinHearing world.new) }
+    ensures orderly { EndsAs result (λ _. CanStep world.new) }
     ensures plan { EndsAs result (λ _. world.new.plan ≡ world.old.plan) }
 {
     for _ in 0..times {
@@ -56,11 +51,9 @@ pub fn sweep_often<S: SwitchLogic, M: ManagerLogic, H: HostLogic>(
 pub fn round<S: SwitchLogic, M: ManagerLogic, H: HostLogic>(
     world: &mut World<S, M, H>,
 ) -> Result<(), StepError>
-    requires counted { IsCounted world.old }
-    requires hearing { IsWithinHearing world.old }
+    requires orderly { CanStep world.old }
     ensures went { EndsAs result (λ end. GoesRound S.rule M.rule H.rule world.old end world.new) }
-    ensures counted { EndsAs result (λ _. IsCounted world.new) }
-    ensures hearing { EndsAs result (λ _. IsWithinHearing world.new) }
+    ensures orderly { EndsAs result (λ _. CanStep world.new) }
     ensures plan { EndsAs result (λ _. world.new.plan ≡ world.old.plan) }
 {
     tick_all(world)?;

@@ -8,7 +8,7 @@ ghost use Rattle.pl_fabric.specs.Draws.{Draws};
 ghost use Rattle.pl_fabric.specs.Rounds.{Sweeps, queues_from};
 ghost use Rattle.pl_fabric.specs.Settlings.{GoesRounds};
 
-use pl_logic::{HostLogic, ManagerLogic, SwitchLogic};
+use pl_node::{HostLogic, ManagerLogic, SwitchLogic};
 
 /// What a sweep does is a run: steps one after the other, none of which is refused. So what holds of each
 /// run holds of it.

@@ -1,12 +1,12 @@
 ghost use Rattle.std.specs.Prelude.{◌≡◌, ◌↔◌, IfErr, IfOk, IsTrue, None, Some};
 ghost use Rattle.pl_world.specs.Flying.{IsCounted};
-ghost use Rattle.pl_world.specs.Hearing.{IsWithinHearing};
-ghost use Rattle.pl_fabric.specs.Courses.{EndsAs, UnlessMemory};
-ghost use Rattle.pl_fabric.specs.Settlings.{GoesRounds, IsAnswer, IsAtRest, Settles};
+ghost use Rattle.pl_world.specs.Ready.{CanStep};
+ghost use Rattle.pl_fabric.specs.Executions.{EndsAs, UnlessMemory};
+ghost use Rattle.pl_fabric.specs.Settlings.{GoesRounds, IsSettlingAnswer, IsAtRest, Settles};
 
 use crate::fabric::settled;
 use crate::rounds::round;
-use pl_logic::{HostLogic, ManagerLogic, SwitchLogic};
+use pl_node::{HostLogic, ManagerLogic, SwitchLogic};
 use pl_schedule::World;
 use pl_world::StepError;
 
@@ -36,7 +36,7 @@ fn answer<S: SwitchLogic, M: ManagerLogic, H: HostLogic>(
     used: u32,
 ) -> Settling
     requires { IsCounted world.now }
-    ensures { IsAnswer world.now used result }
+    ensures { IsSettlingAnswer world.now used result }
 {
     if settled(world) {
         Settling::Settled(used)
@@ -52,12 +52,10 @@ pub fn settle<S: SwitchLogic, M: ManagerLogic, H: HostLogic>(
     world: &mut World<S, M, H>,
     rounds: u32,
 ) -> Result<Settling, StepError>
-    requires counted { IsCounted world.old }
-    requires hearing { IsWithinHearing world.old }
+    requires orderly { CanStep world.old }
     ensures settles { IfOk result (λ answer. Settles S.rule M.rule H.rule rounds world.old answer world.new) }
     ensures refused { IfErr result (λ reason. UnlessMemory reason (GoesRounds S.rule M.rule H.rule rounds world.old (Some reason) world.new)) }
-    ensures counted { EndsAs result (λ _. IsCounted world.new) }
-    ensures hearing { EndsAs result (λ _. IsWithinHearing world.new) }
+    ensures orderly { EndsAs result (λ _. CanStep world.new) }
     ensures plan { EndsAs result (λ _. world.new.plan ≡ world.old.plan) }
 {
     for used in 0..rounds {

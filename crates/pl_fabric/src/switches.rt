@@ -1,16 +1,16 @@
 ghost use Rattle.std.specs.Prelude.{◌≡◌, ◌↔◌, ◌<◌, ℕ, IsTrue, Some, slice_get};
 ghost use Rattle.pl_wiring.specs.Labels.{switch_count};
 ghost use Rattle.pl_wiring.specs.Peers.{IsPort, peer_of};
-ghost use Rattle.pl_logic.specs.AvoidLists.{avoid_list};
-ghost use Rattle.pl_logic.specs.ManagerFacts.{group_at};
-ghost use Rattle.pl_logic.specs.ManagerViews.{place_of};
-ghost use Rattle.pl_logic.specs.SwitchFacts.{group_of_part};
-ghost use Rattle.pl_logic.specs.SwitchViews.{SwitchView};
+ghost use Rattle.pl_node.specs.AvoidLists.{avoid_list};
+ghost use Rattle.pl_node.specs.ManagerFacts.{group_at};
+ghost use Rattle.pl_node.specs.ManagerViews.{place_of};
+ghost use Rattle.pl_node.specs.SwitchFacts.{group_of_part};
+ghost use Rattle.pl_node.specs.SwitchViews.{SwitchView};
 ghost use Rattle.pl_world.specs.Flying.{IsCounted};
 ghost use Rattle.pl_fabric.specs.Settled.{HasPart, IsSettledSwitch, IsSettledTowards, group_limit};
 
 use crate::ends::is_settled_end;
-use pl_logic::{AvoidList, HostLogic, ManagerLogic, SwitchFacts, SwitchLogic};
+use pl_node::{AvoidList, HostLogic, ManagerLogic, SwitchFacts, SwitchLogic};
 use pl_schedule::World;
 use pl_wiring::{Peer, SwitchNo};
 

@@ -1,12 +1,12 @@
 ghost use Rattle.std.specs.Prelude.{◌≡◌, ◌<◌, ◌/◌};
-ghost use Rattle.pl_logic.specs.PortRecords.{is_usable_to, place_at};
+ghost use Rattle.pl_node.specs.PortRecords.{is_usable_to, place_at};
 ghost use Rattle.pl_layouts.specs.Placement.{is_known};
-ghost use Rattle.pl_logic.specs.SwitchFacts.{holder_of, is_answered, is_news};
+ghost use Rattle.pl_node.specs.SwitchFacts.{holder_of, is_answered, is_news};
 ghost use Rattle.pl_fabric.specs.Settled.{holds_another, is_another, is_holder, would_change, would_change_by};
 
 use pl_frame::SwitchId;
 use pl_layouts::Place;
-use pl_logic::SwitchFacts;
+use pl_node::SwitchFacts;
 
 // What the neighbour at a port is known to be.
 fn place_at<F: SwitchFacts>(facts: &F, port: u8) -> Place

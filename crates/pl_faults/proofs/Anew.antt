@@ -9,14 +9,14 @@ use Rattle.std.proofs.lemmas.Bool.{or_cases, or_left, or_right}
 use Rattle.pl_frame.specs.declared.address.SwitchId.{SwitchId}
 use Rattle.pl_layouts.specs.declared.place.Place.{Place}
 use Rattle.pl_layouts.specs.Equality.{same_switch}
-use Rattle.pl_logic.specs.AvoidLists.{avoid_list, avoided_at, avoided_cmp, is_above}
-use Rattle.pl_logic.specs.ManagerViews.{Told, id_cmp, in_order, neighbours, switches, tellers, value_at}
-use Rattle.pl_logic.proofs.Among.{IsAmong, among_in_order, among_map, among_mapped, among_ordered, among_right, any_among, id_total}
+use Rattle.pl_node.specs.AvoidLists.{avoid_list, avoided_at, avoided_cmp, is_above}
+use Rattle.pl_node.specs.ManagerViews.{Told, id_cmp, in_order, neighbours, switches, tellers, value_at}
+use Rattle.pl_node.proofs.Exports.{among_in_order, among_map, among_mapped, among_ordered, among_right, any_among, id_total, IsAmong}
 use Rattle.pl_manager_rule.specs.ManagerRule.{with_link, with_place}
-use Rattle.pl_manager_rule.proofs.Avoided.{id_among, id_exact, id_is, id_itself}
+use Rattle.pl_manager_rule.proofs.Exports.{id_among, id_exact, id_is, id_itself}
 use Rattle.pl_reports.specs.Kept.{has_told}
-use Rattle.pl_reports.proofs.Telling.{key_of_near, switches_linked, switches_placed}
-use Rattle.pl_faults.specs.Kept.{AreListsOf, AreRenewed, IsRenewed, Lists, handed, handed_in, list_of, with_note}
+use Rattle.pl_reports.proofs.Exports.{key_of_near, switches_linked, switches_placed}
+use Rattle.pl_faults.specs.Kept.{AreListsOf, AreListsRenewed, IsRenewed, ListsBySwitch, handed, handed_in, list_of, with_note}
 use Rattle.pl_faults.specs.Making.{Avoided}
 use Rattle.pl_faults.proofs.Filling.{among_put_in}
 
@@ -73,18 +73,18 @@ avoid_of told s = by (has_told told s) refl
     by true e = refl
     by false e = sym (avoids_nothing told s e)
 
-pub handed_of : (told : Told) (lists before : Lists) → AreListsOf told lists before → (s : SwitchId) →
+pub handed_of : (told : Told) (lists before : ListsBySwitch) → AreListsOf told lists before → (s : SwitchId) →
     handed_in lists before s ≡ handed (record { told = told; before = before }) s
 handed_of told lists before h s =
     ap (λ (list : List Avoided). unwrap_or (value_at id_cmp before s) list) (ap (λ (o : Option (List Avoided)). unwrap_or o []) (h.current s) ∙ avoid_of told s)
 
 -- ---- one more list
-module _ (told : Told) (lists before : Lists) where
-  pub none_renewed : AreRenewed told (λ t. false) lists before lists before
+module _ (told : Told) (lists before : ListsBySwitch) where
+  pub none_renewed : AreListsRenewed told (λ t. false) lists before lists before
   none_renewed = record { now = λ t. refl; handed_stays = λ t. refl; noted = λ t h. or_left (is_some (value_at id_cmp before t)) false h }
 
-  module _ (some more : SwitchId → Bool) (s : SwitchId) (list : List Avoided) (l1 b1 l2 b2 : Lists) (is : list ≡ avoid_list told s)
-      (grows : (t : SwitchId) → more t ≡ (some t || is_at (id_cmp t) s)) (h : AreRenewed told some lists before l1 b1) (r : IsRenewed s list l1 b1 l2 b2) where
+  module _ (some more : SwitchId → Bool) (s : SwitchId) (list : List Avoided) (l1 b1 l2 b2 : ListsBySwitch) (is : list ≡ avoid_list told s)
+      (grows : (t : SwitchId) → more t ≡ (some t || is_at (id_cmp t) s)) (h : AreListsRenewed told some lists before l1 b1) (r : IsRenewed s list l1 b1 l2 b2) where
     -- the switch itself, or another one
     more_now : (t : SwitchId) (own : Bool) → is_at (id_cmp t) s ≡ own →
         value_at id_cmp l2 t ≡ cond (some t || own) (Some (avoid_list told t)) (value_at id_cmp lists t)
@@ -125,7 +125,7 @@ module _ (told : Told) (lists before : Lists) where
     more_noted t true None f e = or_right (is_some (value_at id_cmp before t)) (some t || true) (or_right (some t) true refl)
     more_noted t false None f e = let no_way : false ≡ true = e in absurd (cc)
 
-    pub one_more_renewed : AreRenewed told more lists before l2 b2
+    pub one_more_renewed : AreListsRenewed told more lists before l2 b2
     one_more_renewed = record {
       now = λ t. more_now t (is_at (id_cmp t) s) refl ∙ ap (λ b. cond b (Some (avoid_list told t)) (value_at id_cmp lists t)) (sym (grows t));
       handed_stays = λ t. two_equal t ∙ more_handed t (is_at (id_cmp t) s) (value_at id_cmp b1 t) refl refl ∙ h.handed_stays t;
@@ -136,8 +136,8 @@ module _ (told : Told) (lists before : Lists) where
     }
 
   -- by the same test in other words
-  pub renewed_of : (some more : SwitchId → Bool) (l b : Lists) → ((t : SwitchId) → some t ≡ more t) →
-      AreRenewed told some lists before l b → AreRenewed told more lists before l b
+  pub renewed_of : (some more : SwitchId → Bool) (l b : ListsBySwitch) → ((t : SwitchId) → some t ≡ more t) →
+      AreListsRenewed told some lists before l b → AreListsRenewed told more lists before l b
   renewed_of some more l b same h = record {
     now = λ t. h.now t ∙ ap (λ x. cond x (Some (avoid_list told t)) (value_at id_cmp lists t)) (same t);
     handed_stays = h.handed_stays;
@@ -145,9 +145,9 @@ module _ (told : Told) (lists before : Lists) where
   }
 
 -- ---- all lists
-pub all_renewed : (told after : Told) (lists before l2 b2 : Lists) (some : SwitchId → Bool) → AreListsOf told lists before →
+pub all_renewed : (told after : Told) (lists before l2 b2 : ListsBySwitch) (some : SwitchId → Bool) → AreListsOf told lists before →
     ((t : SwitchId) → has_told told t ≡ true → has_told after t ≡ true) → ((t : SwitchId) → some t ≡ true → has_told after t ≡ true) →
-    ((t : SwitchId) → some t ≡ false → list_of told t ≡ list_of after t) → AreRenewed after some lists before l2 b2 → AreListsOf after l2 b2
+    ((t : SwitchId) → some t ≡ false → list_of told t ≡ list_of after t) → AreListsRenewed after some lists before l2 b2 → AreListsOf after l2 b2
 all_renewed told after lists before l2 b2 some h stays told_now same r = record {
   current = λ t. r.now t ∙ by t (some t) refl;
   heard = λ t e. elim (or_cases (is_some (value_at id_cmp before t)) (some t) (r.noted t e)) [ inl was ↦ stays t (h.heard t was) | inr now ↦ told_now t now ];

@@ -10,14 +10,13 @@ use Rattle.std.specs.BTreeSet.{insert_key}
 use Rattle.std.proofs.lemmas.Bool.{not-true, not_from_false}
 use Rattle.std.proofs.lemmas.List.Kept.{IsStrictlySortedBy-filter}
 use Rattle.pl_frame.specs.declared.address.SwitchId.{SwitchId}
-use Rattle.pl_logic.specs.AvoidLists.{avoid_list}
-use Rattle.pl_logic.specs.ManagerViews.{Told, id_cmp, switches, value_at}
-use Rattle.pl_logic.proofs.Among.{IsAmong, among_filter, among_filtered, among_insert, id_total, rising_inserted}
+use Rattle.pl_node.specs.AvoidLists.{avoid_list}
+use Rattle.pl_node.specs.ManagerViews.{Told, id_cmp, switches, value_at}
+use Rattle.pl_node.proofs.Exports.{among_filter, among_filtered, among_insert, id_total, IsAmong, rising_inserted}
 use Rattle.pl_manager_rule.specs.ManagerRule.{same_avoid_list}
-use Rattle.pl_manager_rule.proofs.Avoided.{id_among, id_exact, id_is, id_itself, switches_rise}
-use Rattle.pl_manager_rule.proofs.Sameness.{avoid_lists_alike}
-use Rattle.pl_reports.proofs.Ordering.{same_rising}
-use Rattle.pl_faults.specs.Kept.{AreListsOf, Lists, MatrixView, changed_lists, is_changed, with_differing}
+use Rattle.pl_manager_rule.proofs.Exports.{avoid_lists_alike, id_among, id_exact, id_is, id_itself, switches_rise}
+use Rattle.pl_reports.proofs.Exports.{same_rising}
+use Rattle.pl_faults.specs.Kept.{AreListsOf, ListsBySwitch, MatrixView, changed_lists, is_changed, with_differing}
 use Rattle.pl_faults.specs.Making.{Avoided}
 use Rattle.pl_faults.proofs.Filling.{among_put_in, none_rise}
 use Rattle.pl_faults.proofs.Anew.{avoid_of}
@@ -25,13 +24,13 @@ use Rattle.pl_faults.proofs.Anew.{avoid_of}
 abbrev Entry : Type 0
 Entry = SwitchId × List Avoided
 
-key_of_all : (P : SwitchId → Type 0) (e : Entry) (es : Lists) → AllByRecursion P (keys_of es) → IsAmong e es → P e.0
+key_of_all : (P : SwitchId → Type 0) (e : Entry) (es : ListsBySwitch) → AllByRecursion P (keys_of es) → IsAmong e es → P e.0
 key_of_all P e [] all h = absurd h
 key_of_all P e (f ∷ es) all (inl is) = subst (λ (x : Entry). P x.0) is all.0
 key_of_all P e (f ∷ es) all (inr h) = key_of_all P e es all.1 h
 
 -- an entry of a table that rises is what the table has at its key
-found_at : (e : Entry) (es : Lists) → IsStrictlySortedBy id_cmp (keys_of es) → IsAmong e es → value_at id_cmp es e.0 ≡ Some e.1
+found_at : (e : Entry) (es : ListsBySwitch) → IsStrictlySortedBy id_cmp (keys_of es) → IsAmong e es → value_at id_cmp es e.0 ≡ Some e.1
 unfolding IsStrictlySortedBy
 found_at e [] s h = absurd h
 found_at e (f ∷ es) s (inl is) =
@@ -43,7 +42,7 @@ found_at e (f ∷ es) s (inr h) =
     ap (λ b. cond b (Some f.1) (value_at id_cmp es e.0)) apart ∙ found_at e es s.1 h
 
 -- and what it has at a key is an entry
-entry_at : (k : SwitchId) (v : List Avoided) (es : Lists) → value_at id_cmp es k ≡ Some v → (e : Entry) × IsAmong e es × (e.0 ≡ k) × (e.1 ≡ v)
+entry_at : (k : SwitchId) (v : List Avoided) (es : ListsBySwitch) → value_at id_cmp es k ≡ Some v → (e : Entry) × IsAmong e es × (e.0 ≡ k) × (e.1 ≡ v)
 entry_at k v [] h = let none : None ≡ Some v = h in absurd (cc)
 entry_at k v (f ∷ es) h = by (λ j. entry_at k v es j) (is_at (id_cmp k) f.0) refl h
   where
@@ -52,11 +51,11 @@ entry_at k v (f ∷ es) h = by (λ j. entry_at k v es j) (is_at (id_cmp k) f.0) 
     by rest true e j = let same : f.1 ≡ v = cc in (f, inl refl, sym (id_is k f.0 e), same)
     by rest false e j = let r = rest j in (r.0, inr r.1, r.2, r.3)
 
-module _ (lists : Lists) where
+module _ (lists : ListsBySwitch) where
   abbrev is_same_now : Entry → Bool
   is_same_now e = same_avoid_list e.1 (unwrap_or (value_at id_cmp lists e.0) [])
 
-  found_rise : (es : Lists) (acc : List SwitchId) → IsStrictlySortedBy id_cmp acc → IsStrictlySortedBy id_cmp (fold (with_differing lists) acc es)
+  found_rise : (es : ListsBySwitch) (acc : List SwitchId) → IsStrictlySortedBy id_cmp acc → IsStrictlySortedBy id_cmp (fold (with_differing lists) acc es)
   found_rise [] acc s = s
   found_rise (e ∷ es) acc s = by (λ a r. found_rise es a r) (is_same_now e)
     where
@@ -65,13 +64,13 @@ module _ (lists : Lists) where
       by rest true = rest acc s
       by rest false = rest (insert_key id_cmp acc e.0) (rising_inserted id_cmp id_total e.0 acc s)
 
-  abbrev Differs : SwitchId → Lists → Type 0
+  abbrev Differs : SwitchId → ListsBySwitch → Type 0
   Differs k es = (e : Entry) × IsAmong e es × (e.0 ≡ k) × (is_same_now e ≡ false)
 
-  later : (k : SwitchId) (e : Entry) (es : Lists) → Differs k es → Differs k (e ∷ es)
+  later : (k : SwitchId) (e : Entry) (es : ListsBySwitch) → Differs k es → Differs k (e ∷ es)
   later k e es d = (d.0, inr d.1, d.2, d.3)
 
-  found_from : (k : SwitchId) (es : Lists) (acc : List SwitchId) → IsAmong k (fold (with_differing lists) acc es) → IsAmong k acc ⊎ Differs k es
+  found_from : (k : SwitchId) (es : ListsBySwitch) (acc : List SwitchId) → IsAmong k (fold (with_differing lists) acc es) → IsAmong k acc ⊎ Differs k es
   found_from k [] acc h = inl h
   found_from k (e ∷ es) acc h = by (λ a j. found_from k es a j) (is_same_now e) refl h
     where
@@ -83,7 +82,7 @@ module _ (lists : Lists) where
         | inr d ↦ inr (later k e es d)
       ]
 
-  to_found : (k : SwitchId) (es : Lists) (acc : List SwitchId) → IsAmong k acc ⊎ Differs k es → IsAmong k (fold (with_differing lists) acc es)
+  to_found : (k : SwitchId) (es : ListsBySwitch) (acc : List SwitchId) → IsAmong k acc ⊎ Differs k es → IsAmong k (fold (with_differing lists) acc es)
   to_found k [] acc (inl h) = h
   to_found k [] acc (inr d) = absurd d.1
   to_found k (e ∷ es) acc h = by (λ a j. to_found k es a j) (is_same_now e) refl h
@@ -102,7 +101,7 @@ module _ (lists : Lists) where
       by rest b f (inl j) = rest (cond b acc (insert_key id_cmp acc e.0)) (inl (keep b j))
       by rest b f (inr d) = rest (cond b acc (insert_key id_cmp acc e.0)) (step b f d)
 
-module _ (told : Told) (lists before : Lists) (h : AreListsOf told lists before) (rises : IsStrictlySortedBy id_cmp (keys_of before)) where
+module _ (told : Told) (lists before : ListsBySwitch) (h : AreListsOf told lists before) (rises : IsStrictlySortedBy id_cmp (keys_of before)) where
   abbrev view : MatrixView
   view = record { told = told; before = before }
 

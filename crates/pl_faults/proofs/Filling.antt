@@ -6,9 +6,9 @@ use Rattle.std.specs.Ordering.{match_ordering}
 use Rattle.std.specs.Cmp.{IsTotalOrder}
 use Rattle.std.specs.BTreeSet.{insert_key}
 use Rattle.std.proofs.lemmas.Map.Lookups.{CmpEqualImpliesEq}
-use Rattle.pl_logic.specs.ManagerViews.{in_order}
-use Rattle.pl_logic.proofs.Among.{IsAmong, among_in_order, among_insert, among_ordered, rising_in_order, rising_inserted}
-use Rattle.pl_reports.proofs.Ordering.{same_rising}
+use Rattle.pl_node.specs.ManagerViews.{in_order}
+use Rattle.pl_node.proofs.Exports.{among_in_order, among_insert, among_ordered, IsAmong, rising_in_order, rising_inserted}
+use Rattle.pl_reports.proofs.Exports.{same_rising}
 
 module _ {K : Type 0} (R : K → K → Ordering) (o : IsTotalOrder R) (exact : CmpEqualImpliesEq R) where
   pub among_put_in : (k x : K) (xs : List K) → (x ≡ k) ⊎ IsAmong k xs → IsAmong k (insert_key R xs x)

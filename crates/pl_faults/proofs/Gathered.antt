@@ -5,10 +5,10 @@ use Rattle.std.specs.BTreeMap.{is_at}
 use Rattle.std.specs.BTreeSet.{insert_key}
 use Rattle.std.proofs.lemmas.Bool.{false≢true, or_cases}
 use Rattle.pl_frame.specs.declared.address.SwitchId.{SwitchId}
-use Rattle.pl_logic.specs.AvoidLists.{is_above}
-use Rattle.pl_logic.specs.ManagerViews.{Told, alive_neighbours, id_cmp}
-use Rattle.pl_logic.proofs.Among.{among_insert, id_total}
-use Rattle.pl_manager_rule.proofs.Avoided.{id_among, id_exact, id_is}
+use Rattle.pl_node.specs.AvoidLists.{is_above}
+use Rattle.pl_node.specs.ManagerViews.{Told, alive_neighbours, id_cmp}
+use Rattle.pl_node.proofs.Exports.{among_insert, id_total}
+use Rattle.pl_manager_rule.proofs.Exports.{id_among, id_exact, id_is}
 use Rattle.pl_reports.specs.Kept.{has_told, near_of}
 use Rattle.pl_faults.specs.Listed.{Hearers, is_in, with_all, with_below, with_beside, with_told}
 use Rattle.pl_faults.proofs.Anew.{among_told}

@@ -11,3 +11,4 @@ pub mod Within
 pub mod Missing
 pub mod Touched
 pub mod Filled
+pub mod Exports

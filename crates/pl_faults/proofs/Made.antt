@@ -9,10 +9,10 @@ use Rattle.std.proofs.lemmas.List.Sums.{fold-append}
 use Rattle.pl_frame.specs.declared.address.SwitchId.{SwitchId}
 use Rattle.pl_layouts.specs.declared.place.Place.{Place}
 use Rattle.pl_layouts.specs.Equality.{same_switch}
-use Rattle.pl_logic.specs.ManagerViews.{PlacedEdge, Told, edge_at, neighbours, place_of, placed_edges, switches}
-use Rattle.pl_logic.specs.AvoidLists.{avoid_list, avoided_at, avoided_cmp, is_above, is_cut, is_level_above, is_sent_down, leads_to}
-use Rattle.pl_manager_rule.proofs.Avoided.{avoided_exact, avoided_total}
-use Rattle.pl_reports.proofs.Placing.{placed_in}
+use Rattle.pl_node.specs.ManagerViews.{PlacedEdge, Told, edge_at, neighbours, place_of, placed_edges, switches}
+use Rattle.pl_node.specs.AvoidLists.{avoid_list, avoided_at, avoided_cmp, is_above, is_cut, is_level_above, is_sent_down, leads_to}
+use Rattle.pl_manager_rule.proofs.Exports.{avoided_exact, avoided_total}
+use Rattle.pl_reports.proofs.Exports.{placed_in}
 use Rattle.pl_faults.specs.declared.edges.Edge.{Edge}
 use Rattle.pl_faults.specs.declared.leading.Leading.{Leading}
 use Rattle.pl_faults.specs.Making.{Avoided, placed_as, with_neighbour, with_placed}

@@ -8,11 +8,11 @@ use Rattle.std.proofs.lemmas.Bool.Decides.{Decides-and, Decides-eqb}
 use Rattle.std.proofs.lemmas.List.Folds.{list_any_more}
 use Rattle.std.proofs.lemmas.List.{append-nil, take_more}
 use Rattle.std.proofs.lemmas.List.Elements.{filter-append}
-use Rattle.pl_lemmas.proofs.Bools.{false_before}
+use Rattle.pl_lemmas.proofs.Exports.{false_before}
 use Rattle.pl_frame.specs.declared.address.SwitchId.{SwitchId}
-use Rattle.pl_logic.specs.ManagerViews.{Told, id_cmp, place_of, switches}
-use Rattle.pl_logic.specs.AvoidLists.{leads_to}
-use Rattle.pl_manager_rule.proofs.Avoided.{id_is}
+use Rattle.pl_node.specs.ManagerViews.{Told, id_cmp, place_of, switches}
+use Rattle.pl_node.specs.AvoidLists.{leads_to}
+use Rattle.pl_manager_rule.proofs.Exports.{id_is}
 use Rattle.pl_reports.specs.Kept.{has_told}
 use Rattle.pl_faults.specs.declared.edges.Edge.{Edge}
 use Rattle.pl_faults.specs.Missed.{AreMissed, AreTurned, Misses, is_upper, missed_at, missed_by, missed_in, with_unled}

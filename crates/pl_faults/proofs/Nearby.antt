@@ -4,19 +4,19 @@ use Rattle.std.specs.Prelude.{fold}
 use Rattle.std.specs.List.{list_any}
 use Rattle.std.specs.BTreeMap.{is_at}
 use Rattle.std.proofs.lemmas.Bool.{false_from_ne_true, false≢true}
-use Rattle.pl_lemmas.proofs.Bools.{and_turned, false_before}
+use Rattle.pl_lemmas.proofs.Exports.{and_turned, false_before}
 use Rattle.pl_bits.specs.Rows.{either_row}
-use Rattle.pl_bits.proofs.Either.{either_of}
+use Rattle.pl_bits.proofs.Exports.{either_of}
 use Rattle.pl_frame.specs.declared.address.SwitchId.{SwitchId}
 use Rattle.pl_layouts.specs.Placement.{is_known}
-use Rattle.pl_logic.specs.ManagerViews.{Told, alive_neighbours, has_level, id_cmp, is_alive, is_told_usable, neighbours, place_of}
-use Rattle.pl_logic.proofs.Among.{IsAmong, among_filter}
-use Rattle.pl_reports.proofs.Liveness.{any_alive}
+use Rattle.pl_node.specs.ManagerViews.{Told, alive_neighbours, has_level, id_cmp, is_alive, is_told_usable, neighbours, place_of}
+use Rattle.pl_node.proofs.Exports.{among_filter, IsAmong}
+use Rattle.pl_reports.proofs.Exports.{any_alive}
 use Rattle.pl_faults.specs.declared.edges.Edge.{Edge}
 use Rattle.pl_faults.specs.declared.reach.Reach.{Reach}
 use Rattle.pl_faults.specs.Kept.{IsWordWithin}
 use Rattle.pl_faults.specs.Listed.{is_in, with_all, with_beside}
-use Rattle.pl_faults.specs.Rows.{AreRows, AreRowsRenewed, IsReach, IsReachRenewed, Leads, Rows, leads_by, leads_down, row_at_level, row_in, row_of}
+use Rattle.pl_faults.specs.Rows.{AreLevelRows, AreRowsRenewed, IsReach, IsReachRenewed, RowOfSwitch, Rows, leads_by, leads_down, row_at_level, row_in, row_of}
 use Rattle.pl_faults.proofs.Anew.{among_told}
 use Rattle.pl_faults.proofs.Gathered.{in_all_before, in_all_new, in_beside, in_beside_before}
 use Rattle.pl_faults.proofs.Reaching.{rows_near}
@@ -37,7 +37,7 @@ ends_before : (told : Told) (ends xs : List SwitchId) (t : SwitchId) → is_in (
 ends_before told ends xs t out = false_before (is_in ends t) (is_in (fold (with_beside told) ends xs) t) (in_beside_before told t xs ends) out
 
 -- ---- rows of switches whose neighbours have the rows that they had
-module _ (edges : List Edge) (level leveled : SwitchId → Bool) (f g : Leads) where
+module _ (edges : List Edge) (level leveled : SwitchId → Bool) (f g : RowOfSwitch) where
   one_alike : (x : SwitchId) (b : Bool) → (b ≡ true → row_of f edges x ≡ row_of g edges x) → map (λ e. b && f e x) edges ≡ map (λ e. b && g e x) edges
   one_alike x true h = h refl
   one_alike x false h = refl
@@ -69,7 +69,7 @@ module _ (ends : List SwitchId) (told after : Told) (w : IsWordWithin ends alive
   level_same : (x : SwitchId) (level : ℕ) → place_of after x ≡ place_of told x → has_level told x level ≡ has_level after x level
   level_same x level at = ap (λ p. is_known p.level level) (sym at)
 
-  module _ (level : ℕ) (f g : Leads) (changed : List SwitchId)
+  module _ (level : ℕ) (f g : RowOfSwitch) (changed : List SwitchId)
       (same : (x : SwitchId) → is_in changed x ≡ false → row_at_level told level f edges x ≡ row_at_level after level g edges x) where
     row_same : (x : SwitchId) → place_of after x ≡ place_of told x → has_level after x level ≡ true → is_in changed x ≡ false →
         row_of f edges x ≡ row_of g edges x
@@ -88,7 +88,7 @@ module _ (ends : List SwitchId) (told after : Told) (w : IsWordWithin ends alive
         (λ x near. level_same x level (at x near)) (λ x near leveled. row_same x (at x near) leveled (out x near)))
 
   -- what was the same in the table was the same
-  table_same : (level : ℕ) (f g : Leads) (old new : Rows) (changed : List SwitchId) → AreRows told level edges f old → AreRows after level edges g new →
+  table_same : (level : ℕ) (f g : RowOfSwitch) (old new : Rows) (changed : List SwitchId) → AreLevelRows told level edges f old → AreLevelRows after level edges g new →
       ((t : SwitchId) → is_in changed t ≡ false → row_in new t ≡ row_in old t) →
       (x : SwitchId) → is_in changed x ≡ false → row_at_level told level f edges x ≡ row_at_level after level g edges x
   table_same level f g old new changed was is same x out = sym (was.all x) ∙ sym (same x out) ∙ is.all x
@@ -96,25 +96,25 @@ module _ (ends : List SwitchId) (told after : Told) (w : IsWordWithin ends alive
   abbrev down_row : SwitchId → List Bool
   down_row = row_at_level after 1 (leads_down after) edges
 
-  abbrev row_by : ℕ → ℕ → Leads → SwitchId → List Bool
+  abbrev row_by : ℕ → ℕ → RowOfSwitch → SwitchId → List Bool
   row_by own level f = row_at_level after own (leads_by after level f) edges
 
   pub reach_renewed : (old new : Reach) (low cores asked above asked_above turned : List SwitchId) → IsReach told edges old →
       AreRowsRenewed down_row ends old.down.entries new.down.entries low →
       asked ≡ fold (with_beside after) ends low →
-      ((f : Leads) → AreRows after 1 edges f new.down.entries → AreRowsRenewed (row_by 2 1 f) asked old.core.entries new.core.entries cores) →
+      ((f : RowOfSwitch) → AreLevelRows after 1 edges f new.down.entries → AreRowsRenewed (row_by 2 1 f) asked old.core.entries new.core.entries cores) →
       asked_above ≡ fold (with_beside after) ends cores →
-      ((f : Leads) → AreRows after 2 edges f new.core.entries → AreRowsRenewed (row_by 1 2 f) asked_above old.up.entries new.up.entries above) →
+      ((f : RowOfSwitch) → AreLevelRows after 2 edges f new.core.entries → AreRowsRenewed (row_by 1 2 f) asked_above old.up.entries new.up.entries above) →
       turned ≡ with_all (with_all low cores) above → IsReachRenewed after edges old new turned
   reach_renewed old new low cores asked above asked_above turned reach d asked_is c above_is a turned_are =
-      let down_leads : Leads = leads_down after in
-      let core_leads : Leads = leads_by after 1 down_leads in
-      let was_core : Leads = leads_by told 1 (leads_down told) in
-      let down : AreRows after 1 edges down_leads new.down.entries =
+      let down_leads : RowOfSwitch = leads_down after in
+      let core_leads : RowOfSwitch = leads_by after 1 down_leads in
+      let was_core : RowOfSwitch = leads_by told 1 (leads_down told) in
+      let down : AreLevelRows after 1 edges down_leads new.down.entries =
       rows_near told after 1 edges (leads_down told) down_leads ends old.down.entries new.down.entries low reach.by_link d
       down_same in
       let cs : AreRowsRenewed (row_by 2 1 down_leads) asked old.core.entries new.core.entries cores = c down_leads down in
-      let core : AreRows after 2 edges core_leads new.core.entries =
+      let core : AreLevelRows after 2 edges core_leads new.core.entries =
       rows_near told after 2 edges was_core core_leads asked old.core.entries new.core.entries cores reach.by_core cs
       (λ t out.
       let away : is_in (fold (with_beside after) ends low) t ≡ false = ap (λ xs. is_in xs t) (sym asked_is) ∙ out in
@@ -122,7 +122,7 @@ module _ (ends : List SwitchId) (told after : Told) (w : IsWordWithin ends alive
       (table_same 1 (leads_down told) down_leads old.down.entries new.down.entries low reach.by_link down d.same) 2 t
       (ends_before after ends low t away) (beside_out after ends low t away)) in
       let tops : AreRowsRenewed (row_by 1 2 core_leads) asked_above old.up.entries new.up.entries above = a core_leads core in
-      let up : AreRows after 1 edges (leads_by after 2 core_leads) new.up.entries =
+      let up : AreLevelRows after 1 edges (leads_by after 2 core_leads) new.up.entries =
       rows_near told after 1 edges (leads_by told 2 was_core) (leads_by after 2 core_leads) asked_above old.up.entries new.up.entries above reach.by_two tops
       (λ t out.
       let away : is_in (fold (with_beside after) ends cores) t ≡ false = ap (λ xs. is_in xs t) (sym above_is) ∙ out in

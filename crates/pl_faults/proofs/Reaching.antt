@@ -6,21 +6,20 @@ use Rattle.std.specs.BTreeMap.{is_at}
 use Rattle.std.specs.BTreeSet.{insert_key}
 use Rattle.std.proofs.lemmas.Bool.{false≢true}
 use Rattle.std.proofs.lemmas.List.Folds.{list_any_more}
-use Rattle.pl_lemmas.proofs.Bools.{false_before, or_false}
-use Rattle.pl_bits.proofs.Either.{either_of}
+use Rattle.pl_lemmas.proofs.Exports.{false_before, or_false}
+use Rattle.pl_bits.proofs.Exports.{either_of}
 use Rattle.pl_frame.specs.declared.address.SwitchId.{SwitchId}
 use Rattle.pl_layouts.specs.declared.place.Place.{Place}
 use Rattle.pl_layouts.specs.Placement.{is_known, nowhere}
-use Rattle.pl_logic.specs.AvoidLists.{core_leads_to, is_above, is_level_above, leads_to}
-use Rattle.pl_logic.specs.ManagerViews.{Told, alive_at_level, alive_neighbours, has_level, has_pod, id_cmp, is_alive, place_of, switches, tellers, value_at}
-use Rattle.pl_logic.proofs.Among.{among_in_order, among_left}
-use Rattle.pl_manager_rule.proofs.Avoided.{id_exact, id_is}
-use Rattle.pl_manager_rule.proofs.Tables.{found_key}
+use Rattle.pl_node.specs.AvoidLists.{core_leads_to, is_above, is_level_above, leads_to}
+use Rattle.pl_node.specs.ManagerViews.{Told, alive_at_level, alive_neighbours, has_level, has_pod, id_cmp, is_alive, place_of, switches, tellers, value_at}
+use Rattle.pl_node.proofs.Exports.{among_in_order, among_left}
+use Rattle.pl_manager_rule.proofs.Exports.{found_key, id_exact, id_is}
 use Rattle.pl_reports.specs.Kept.{has_told}
 use Rattle.pl_faults.specs.declared.edges.Edge.{Edge}
 use Rattle.pl_faults.specs.declared.reach.Reach.{Reach}
 use Rattle.pl_faults.specs.Listed.{is_in}
-use Rattle.pl_faults.specs.Rows.{AreRows, AreRowsRenewed, IsReach, Leads, Rows, leads_at, leads_by, leads_down, row_at_level, row_in, row_of, row_or_none, value_in, value_of, with_row}
+use Rattle.pl_faults.specs.Rows.{AreLevelRows, AreRowsRenewed, IsReach, RowOfSwitch, Rows, leads_at, leads_by, leads_down, row_at_level, row_in, row_of, row_or_none, value_in, value_of, with_row}
 use Rattle.pl_faults.proofs.Anew.{among_told, at_turned}
 use Rattle.pl_faults.proofs.Gathered.{in_itself}
 use Rattle.pl_faults.proofs.Made.{any_kept}
@@ -63,7 +62,7 @@ entry_of_row f [] i d h = absurd (omega arith)
 entry_of_row f (e ∷ es) zero d h = refl
 entry_of_row f (e ∷ es) (suc i) d h = entry_of_row f es i d (omega arith)
 
-module _ (told : Told) (level : ℕ) (edges : List Edge) (f : Leads) (rows : Rows) (all : AreRows told level edges f rows) where
+module _ (told : Told) (level : ℕ) (edges : List Edge) (f : RowOfSwitch) (rows : Rows) (all : AreLevelRows told level edges f rows) where
   -- the row of one of the level
   pub row_there : (u : SwitchId) → has_level told u level ≡ true → row_in rows u ≡ row_of f edges u
   row_there u h = all.all u ∙ ap (λ b. cond b (row_of f edges u) []) h
@@ -150,8 +149,8 @@ pub rows_done : (fresh : SwitchId → List Bool) (some ss : List SwitchId) (firs
 rows_done fresh some ss first rows changed is h = subst (λ xs. AreRowsRenewed fresh xs first rows changed) is h
 
 -- all rows are made anew
-pub rows_whole : (told : Told) (level : ℕ) (edges : List Edge) (f : Leads) (all : List SwitchId) (first rows : Rows) (changed : List SwitchId) →
-    all ≡ switches told → first ≡ [] → AreRowsRenewed (row_at_level told level f edges) all first rows changed → AreRows told level edges f rows
+pub rows_whole : (told : Told) (level : ℕ) (edges : List Edge) (f : RowOfSwitch) (all : List SwitchId) (first rows : Rows) (changed : List SwitchId) →
+    all ≡ switches told → first ≡ [] → AreRowsRenewed (row_at_level told level f edges) all first rows changed → AreLevelRows told level edges f rows
 rows_whole told level edges f all first rows changed is none h = record {
   all = λ t.
       h.now t ∙ (λ i. cond (is_in (is i) t) (row_at_level told level f edges t) (row_in (none i) t))
@@ -165,9 +164,9 @@ rows_whole told level edges f all first rows changed is none h = record {
     by t false true e k = absurd (false≢true (sym e ∙ has_level_told told t level k))
 
 -- those are made anew that may have changed
-pub rows_near : (told after : Told) (level : ℕ) (edges : List Edge) (f g : Leads) (asked : List SwitchId) (first rows : Rows) (changed : List SwitchId) →
-    AreRows told level edges f first → AreRowsRenewed (row_at_level after level g edges) asked first rows changed →
-    ((t : SwitchId) → is_in asked t ≡ false → row_at_level told level f edges t ≡ row_at_level after level g edges t) → AreRows after level edges g rows
+pub rows_near : (told after : Told) (level : ℕ) (edges : List Edge) (f g : RowOfSwitch) (asked : List SwitchId) (first rows : Rows) (changed : List SwitchId) →
+    AreLevelRows told level edges f first → AreRowsRenewed (row_at_level after level g edges) asked first rows changed →
+    ((t : SwitchId) → is_in asked t ≡ false → row_at_level told level f edges t ≡ row_at_level after level g edges t) → AreLevelRows after level edges g rows
 rows_near told after level edges f g asked first rows changed h r same = record { all = λ t. r.now t ∙ by t (is_in asked t) refl }
   where
     by : (t : SwitchId) (b : Bool) → is_in asked t ≡ b → cond b (row_at_level after level g edges t) (row_in first t) ≡ row_at_level after level g edges t

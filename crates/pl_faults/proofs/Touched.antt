@@ -5,18 +5,18 @@ use Rattle.std.specs.List.{filter, flat_map}
 use Rattle.std.specs.BTreeMap.{is_at}
 use Rattle.std.proofs.lemmas.Bool.{false_from_ne_true, false≢true, or_cases}
 use Rattle.pl_frame.specs.declared.address.SwitchId.{SwitchId}
-use Rattle.pl_logic.specs.AvoidLists.{avoid_list, avoided_at, avoided_cmp, is_above, is_cut, is_level_above}
-use Rattle.pl_logic.specs.ManagerViews.{PlacedEdge, Told, edge_at, has_level, id_cmp, in_order, neighbours, place_of, placed_edges, value_at}
-use Rattle.pl_logic.proofs.Among.{IsAmong}
-use Rattle.pl_manager_rule.proofs.Avoided.{IsPlacedAs, among_placed, placed_among, id_is}
+use Rattle.pl_node.specs.AvoidLists.{avoid_list, avoided_at, avoided_cmp, is_above, is_cut, is_level_above}
+use Rattle.pl_node.specs.ManagerViews.{PlacedEdge, Told, edge_at, has_level, id_cmp, in_order, neighbours, place_of, placed_edges, value_at}
+use Rattle.pl_node.proofs.Exports.{IsAmong}
+use Rattle.pl_manager_rule.proofs.Exports.{among_placed, id_is, IsPlacedAs, placed_among}
 use Rattle.pl_reports.specs.Kept.{has_told}
 use Rattle.pl_faults.specs.declared.edges.Edge.{Edge}
 use Rattle.pl_faults.specs.declared.leading.Leading.{Leading}
-use Rattle.pl_faults.specs.Kept.{AreRenewed, IsKept, IsKeptUp, IsPlaceWord, IsRenewed, IsWordOf, IsWordWithin, Lists, list_of}
+use Rattle.pl_faults.specs.Kept.{AreListsRenewed, AreListsAsTold, IsKeptUp, IsPlaceWord, IsRenewed, IsWordOf, IsWordWithin, ListsBySwitch, list_of}
 use Rattle.pl_faults.specs.Listed.{AreHeard, Hearers, is_in, with_below}
 use Rattle.pl_faults.specs.Making.{Avoided, placed_as}
 use Rattle.pl_faults.specs.Missed.{AreMissed, IsLeading, IsTurned, avoided_of, is_some_edge, is_upper, missed_at, missed_by}
-use Rattle.pl_faults.specs.Rows.{AreRows, Leads, Rows, leads_by, leads_down, row_at_level, row_of}
+use Rattle.pl_faults.specs.Rows.{AreLevelRows, RowOfSwitch, Rows, leads_by, leads_down, row_at_level, row_of}
 use Rattle.pl_faults.proofs.Anew.{all_renewed, among_told, at_turned, none_renewed, one_more_renewed}
 use Rattle.pl_faults.proofs.Gathered.{below_from, in_below, in_below_before}
 use Rattle.pl_faults.proofs.Made.{avoided_kept}
@@ -66,15 +66,15 @@ nothing_missed told u = by (is_upper (place_of told u).level)
     by true = refl
     by false = refl
 
-no_row : (told : Told) (level : ℕ) (f : Leads) (u : SwitchId) → row_at_level told level f [] u ≡ []
+no_row : (told : Told) (level : ℕ) (f : RowOfSwitch) (u : SwitchId) → row_at_level told level f [] u ≡ []
 no_row told level f u = by (has_level told u level)
   where
     by : (b : Bool) → cond b (row_of f [] u) [] ≡ []
     by true = refl
     by false = refl
 
-no_rows : (told after : Told) (level : ℕ) (f g : Leads) (edges : List Edge) (rows : Rows) → edges ≡ [] → AreRows told level edges f rows →
-    AreRows after level edges g rows
+no_rows : (told after : Told) (level : ℕ) (f g : RowOfSwitch) (edges : List Edge) (rows : Rows) → edges ≡ [] → AreLevelRows told level edges f rows →
+    AreLevelRows after level edges g rows
 no_rows told after level f g edges rows none h = record {
   all = λ u.
       h.all u ∙ ap (λ es. row_at_level told level f es u) none ∙ no_row told level f u ∙ sym (no_row after level g u)
@@ -84,8 +84,8 @@ no_rows told after level f g edges rows none h = record {
 pub still_all_heard : (told after : Told) {s : SwitchId} (w : IsPlaceWord s told after) (hearers : Hearers) → AreHeard told hearers → AreHeard after hearers
 still_all_heard told after w hearers h t u near = h t u (ap (λ us. is_in us u) (sym (w.near t)) ∙ near)
 
-pub unplaced_kept : (s : SwitchId) (told after : Told) (word : IsPlaceWord s told after) (known : Leading) (lists before l2 b2 : Lists) →
-    IsKept told known lists before → is_some_edge known.edges.items ≡ false → is_some (edge_at s (place_of after s)) ≡ false →
+pub unplaced_kept : (s : SwitchId) (told after : Told) (word : IsPlaceWord s told after) (known : Leading) (lists before l2 b2 : ListsBySwitch) →
+    AreListsAsTold told known lists before → is_some_edge known.edges.items ≡ false → is_some (edge_at s (place_of after s)) ≡ false →
     IsRenewed s [] lists before l2 b2 → IsKeptUp after lists before known l2 b2
 unplaced_kept s told after word known lists before l2 b2 kept empty unplaced renewed = record {
   kept = record {
@@ -132,7 +132,7 @@ unplaced_kept s told after word known lists before l2 b2 kept empty unplaced ren
     none : placed_edges after ≡ []
     none = none_placed s told after w none_told unplaced
 
-    r : AreRenewed after (λ t. is_at (id_cmp t) s) lists before l2 b2
+    r : AreListsRenewed after (λ t. is_at (id_cmp t) s) lists before l2 b2
     r =
         one_more_renewed after lists before (λ t. false) (λ t. is_at (id_cmp t) s) s [] lists before l2 b2
         (sym (nothing_avoided after s none)) (λ t. refl) (none_renewed after lists before) renewed
@@ -207,10 +207,10 @@ module _ (s : SwitchId) (told after : Told) (w : IsWordOf s told after) (was kno
     | inr low ↦ below_told after t low.0 low.1
   ]
 
-  pub near_kept : (lists before l2 b2 : Lists) (asked : List SwitchId) → IsKept told was lists before → asked ≡ touched →
-      AreRenewed after (is_in asked) lists before l2 b2 → IsKeptUp after lists before known l2 b2
+  pub near_kept : (lists before l2 b2 : ListsBySwitch) (asked : List SwitchId) → AreListsAsTold told was lists before → asked ≡ touched →
+      AreListsRenewed after (is_in asked) lists before l2 b2 → IsKeptUp after lists before known l2 b2
   near_kept lists before l2 b2 asked kept is r =
-      let on : AreRenewed after (is_in touched) lists before l2 b2 = subst (λ xs. AreRenewed after (is_in xs) lists before l2 b2) is r in
+      let on : AreListsRenewed after (is_in touched) lists before l2 b2 = subst (λ xs. AreListsRenewed after (is_in xs) lists before l2 b2) is r in
       record {
         kept = record {
           leading = led.leading;

@@ -5,27 +5,24 @@ use Rattle.std.specs.List.{filter, filter_map, flat_map, list_any}
 use Rattle.std.specs.Ordering.{is_eq}
 use Rattle.std.specs.Cmp.{Equal-is}
 use Rattle.std.specs.BTreeMap.{is_at}
-use Rattle.pl_lemmas.proofs.Bools.{and_turned}
+use Rattle.pl_lemmas.proofs.Exports.{and_turned}
 use Rattle.pl_frame.specs.declared.address.SwitchId.{SwitchId}
 use Rattle.pl_layouts.specs.declared.place.Place.{Place}
 use Rattle.pl_layouts.specs.Equality.{same_switch}
 use Rattle.pl_layouts.specs.Placement.{is_known, nowhere}
-use Rattle.pl_logic.specs.AvoidLists.{avoid_list, avoided_cmp, is_level_above}
-use Rattle.pl_logic.specs.ManagerViews.{PlacedEdge, Told, edge_at, id_cmp, in_order, is_alive, is_told_usable, link_cmp, neighbours, place_of, placed_edges, switches, tellers, value_at}
-use Rattle.pl_logic.proofs.Among.{IsAmong, among_in_order, among_ordered, among_right, id_total}
+use Rattle.pl_node.specs.AvoidLists.{avoid_list, avoided_cmp, is_level_above}
+use Rattle.pl_node.specs.ManagerViews.{PlacedEdge, Told, edge_at, id_cmp, in_order, is_alive, is_told_usable, link_cmp, neighbours, place_of, placed_edges, switches, tellers, value_at}
+use Rattle.pl_node.proofs.Exports.{among_in_order, among_ordered, among_right, id_total, IsAmong}
 use Rattle.pl_manager_rule.specs.ManagerRule.{with_link, with_place}
-use Rattle.pl_manager_rule.proofs.Avoided.{id_among, id_exact, id_is, id_itself, neighbours_rise, switches_rise}
-use Rattle.pl_manager_rule.proofs.History.{value_after}
-use Rattle.pl_manager_rule.proofs.Kept.{link_exact}
+use Rattle.pl_manager_rule.proofs.Exports.{id_among, id_exact, id_is, id_itself, link_exact, neighbours_rise, switches_rise, value_after}
 use Rattle.pl_reports.specs.Kept.{has_told}
-use Rattle.pl_reports.proofs.Telling.{key_of_near, link_total, other_neighbours, own_neighbours, switches_linked, switches_placed}
-use Rattle.pl_reports.proofs.Placing.{insert_nothing}
+use Rattle.pl_reports.proofs.Exports.{insert_nothing, key_of_near, link_total, other_neighbours, own_neighbours, switches_linked, switches_placed}
 use Rattle.pl_faults.specs.declared.edges.Edge.{Edge}
 use Rattle.pl_faults.specs.declared.leading.Leading.{Leading}
 use Rattle.pl_faults.specs.declared.reach.Reach.{Reach}
 use Rattle.pl_faults.specs.Listed.{is_in}
-use Rattle.pl_faults.specs.Rows.{AreRows, IsReach, Leads, Rows, leads_by, leads_down, row_of}
-use Rattle.pl_faults.specs.Kept.{IsKept, Lists}
+use Rattle.pl_faults.specs.Rows.{AreLevelRows, IsReach, RowOfSwitch, Rows, leads_by, leads_down, row_of}
+use Rattle.pl_faults.specs.Kept.{AreListsAsTold, ListsBySwitch}
 use Rattle.pl_faults.specs.Making.{Avoided}
 use Rattle.pl_faults.specs.Missed.{AreMissed, Misses, is_upper}
 use Rattle.pl_faults.proofs.Anew.{near_key_first}
@@ -79,16 +76,16 @@ module _ (told after : Told) (places : (x : SwitchId) → place_of after x ≡ p
       ∙ (λ i. cond (is_upper (sym (places x) i).level)
       (filter (λ (e : Edge). not (on (λ z. sym (places z) i) (λ y z. sym (alive y z) i) (λ z. sym (near z) i) e.pod e.switch x)) edges) [])
 
-  rows_same : (level : ℕ) (f g : Leads) (edges : List Edge) (rows : Rows) →
-      ((u : SwitchId) → row_of f edges u ≡ row_of g edges u) → AreRows told level edges f rows → AreRows after level edges g rows
+  rows_same : (level : ℕ) (f g : RowOfSwitch) (edges : List Edge) (rows : Rows) →
+      ((u : SwitchId) → row_of f edges u ≡ row_of g edges u) → AreLevelRows told level edges f rows → AreLevelRows after level edges g rows
   rows_same level f g edges rows same h = record {
     all = λ u. h.all u ∙ (λ i. cond (is_known (sym (places u) i).level level) (same u i) []);
   }
 
-  abbrev down_in : (SwitchId → Place) → (SwitchId → SwitchId → Bool) → Leads
+  abbrev down_in : (SwitchId → Place) → (SwitchId → SwitchId → Bool) → RowOfSwitch
   down_in place living e u = is_known (place u).pod e.pod && living u e.switch
 
-  abbrev by_in : (SwitchId → Place) → (SwitchId → SwitchId → Bool) → (SwitchId → List SwitchId) → ℕ → Leads → Leads
+  abbrev by_in : (SwitchId → Place) → (SwitchId → SwitchId → Bool) → (SwitchId → List SwitchId) → ℕ → RowOfSwitch → RowOfSwitch
   by_in place living around level f e u = list_any (λ x. is_known (place x).level level && f e x) (filter (living u) (around u))
 
   reach_same : (edges : List Edge) (known : Reach) → IsReach told edges known → IsReach after edges known
@@ -108,7 +105,7 @@ module _ (told after : Told) (places : (x : SwitchId) → place_of after x ≡ p
             (down_in (λ z. sym (places z) i) (λ y z. sym (alive y z) i)))) edges u) h.by_two;
       }
 
-  alike_kept : (known : Leading) (lists before : Lists) → IsKept told known lists before → IsKept after known lists before
+  alike_kept : (known : Leading) (lists before : ListsBySwitch) → AreListsAsTold told known lists before → AreListsAsTold after known lists before
   alike_kept known lists before kept = record {
     leading = record {
       placed = kept.leading.placed ∙ sym edges_same;
@@ -167,13 +164,13 @@ module _ (told : Told) (s u : SwitchId) (usable : Bool) where
             other_neighbours told s u usable t
             (λ is. let so : is_at (id_cmp s) t ≡ true = subst (λ z. is_at (id_cmp s) z ≡ true) is (id_itself s) in absurd (cc))
 
-    pub known_kept : is_alive after s u ≡ is_alive told s u → (known : Leading) (lists before : Lists) →
-        IsKept told known lists before → IsKept after known lists before
+    pub known_kept : is_alive after s u ≡ is_alive told s u → (known : Leading) (lists before : ListsBySwitch) →
+        AreListsAsTold told known lists before → AreListsAsTold after known lists before
     known_kept h = alike_kept told after (λ x. refl) (alive_after h) near_same switches_same
 
 -- a place that is told again
 pub place_kept : (told : Told) (s : SwitchId) (place : Place) → has_told told s ≡ true → place ≡ place_of told s →
-    (known : Leading) (lists before : Lists) → IsKept told known lists before → IsKept (with_place told s place) known lists before
+    (known : Leading) (lists before : ListsBySwitch) → AreListsAsTold told known lists before → AreListsAsTold (with_place told s place) known lists before
 place_kept told s place heard is =
     alike_kept told (with_place told s place) same (λ x y. refl) (λ x. refl)
     (switches_placed told s place ∙ insert_nothing (switches told) s (switches_rise told) (id_among s (switches told) heard))

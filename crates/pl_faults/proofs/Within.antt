@@ -5,8 +5,8 @@ use Rattle.std.specs.BTreeMap.{is_at}
 use Rattle.std.specs.BTreeSet.{insert_key}
 use Rattle.std.proofs.lemmas.Bool.{false_from_ne_true, false≢true, or_cases}
 use Rattle.pl_frame.specs.declared.address.SwitchId.{SwitchId}
-use Rattle.pl_logic.specs.ManagerViews.{Told, alive_neighbours, id_cmp, neighbours}
-use Rattle.pl_manager_rule.proofs.Avoided.{id_among, id_is}
+use Rattle.pl_node.specs.ManagerViews.{Told, alive_neighbours, id_cmp, neighbours}
+use Rattle.pl_manager_rule.proofs.Exports.{id_among, id_is}
 use Rattle.pl_reports.specs.Kept.{has_told, near_of}
 use Rattle.pl_faults.specs.Kept.{IsLinkWord, IsPlaceWord, IsWordOf, IsWordWithin}
 use Rattle.pl_faults.specs.Listed.{AreHeard, Hearers, is_in, with_beside, with_told}

@@ -11,17 +11,13 @@ use Rattle.pl_frame.specs.declared.address.SwitchId.{SwitchId}
 use Rattle.pl_layouts.specs.declared.place.Place.{Place}
 use Rattle.pl_layouts.specs.Equality.{same_switch}
 use Rattle.pl_layouts.specs.Placement.{nowhere}
-use Rattle.pl_layouts.proofs.Sameness.{switch_itself}
-use Rattle.pl_logic.specs.ManagerViews.{PlacedEdge, Told, alive_neighbours, edge_at, edge_with, id_cmp, link_cmp, neighbours, place_of, placed_edges, switches, value_at}
-use Rattle.pl_logic.proofs.Among.{IsAmong, among_filter, among_filtered, among_insert, among_map, any_among, id_total}
+use Rattle.pl_layouts.proofs.Exports.{switch_itself}
+use Rattle.pl_node.specs.ManagerViews.{PlacedEdge, Told, alive_neighbours, edge_at, edge_with, id_cmp, link_cmp, neighbours, place_of, placed_edges, switches, value_at}
+use Rattle.pl_node.proofs.Exports.{among_filter, among_filtered, among_insert, among_map, any_among, id_total, IsAmong}
 use Rattle.pl_manager_rule.specs.ManagerRule.{with_link, with_place}
-use Rattle.pl_manager_rule.proofs.Avoided.{id_among, id_exact, id_is, id_itself}
-use Rattle.pl_manager_rule.proofs.History.{value_after}
-use Rattle.pl_manager_rule.proofs.Tables.{value_put}
-use Rattle.pl_manager_rule.proofs.Kept.{link_exact}
+use Rattle.pl_manager_rule.proofs.Exports.{id_among, id_exact, id_is, id_itself, link_exact, value_after, value_put}
 use Rattle.pl_reports.specs.Kept.{has_told, near_of, with_edge, with_neighbour}
-use Rattle.pl_reports.proofs.Placing.{edges_linked, edges_placed, is_edge, placed_in, without_none}
-use Rattle.pl_reports.proofs.Telling.{IsPair, other_neighbours, own_neighbours, switches_linked, switches_placed}
+use Rattle.pl_reports.proofs.Exports.{edges_linked, edges_placed, is_edge, IsPair, other_neighbours, own_neighbours, placed_in, switches_linked, switches_placed, without_none}
 use Rattle.pl_faults.specs.declared.edges.Edge.{Edge}
 use Rattle.pl_faults.specs.Kept.{IsLinkWord, IsPlaceWord}
 use Rattle.pl_faults.specs.Listed.{AreHeard, Hearers, is_in}

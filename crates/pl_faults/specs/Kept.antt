@@ -4,8 +4,8 @@ use Rattle.std.specs.List.{filter}
 use Rattle.std.specs.BTreeMap.{is_at}
 use Rattle.std.specs.BTreeSet.{insert_key}
 use Rattle.pl_frame.specs.declared.address.SwitchId.{SwitchId}
-use Rattle.pl_logic.specs.ManagerViews.{Told, alive_neighbours, edge_at, id_cmp, neighbours, place_of, placed_edges, switches, value_at}
-use Rattle.pl_logic.specs.AvoidLists.{avoid_list}
+use Rattle.pl_node.specs.ManagerViews.{Told, alive_neighbours, edge_at, id_cmp, neighbours, place_of, placed_edges, switches, value_at}
+use Rattle.pl_node.specs.AvoidLists.{avoid_list}
 use Rattle.pl_manager_rule.specs.ManagerRule.{same_avoid_list}
 use Rattle.pl_reports.specs.Kept.{has_told, nothing_told}
 use Rattle.pl_faults.specs.declared.leading.Leading.{Leading}
@@ -14,13 +14,13 @@ use Rattle.pl_faults.specs.Making.{Avoided}
 use Rattle.pl_faults.specs.Missed.{IsLeading}
 
 -- lists of switches, by rising id
-abbrev pub Lists : Type 0
-Lists = List (SwitchId × List Avoided)
+abbrev pub ListsBySwitch : Type 0
+ListsBySwitch = List (SwitchId × List Avoided)
 
 -- what was told, and the lists that were made anew since they were handed out, each as it was then
 pub record MatrixView : Type 0 where
   pub told : Told
-  pub before : Lists
+  pub before : ListsBySwitch
 
 -- nothing was told or handed out
 abbrev pub empty_matrix : MatrixView
@@ -43,11 +43,11 @@ abbrev pub changed_lists : MatrixView → List SwitchId
 changed_lists view = filter (is_changed view) (switches view.told)
 
 -- the list that was handed out, by two tables
-abbrev pub handed_in : Lists → Lists → SwitchId → List Avoided
+abbrev pub handed_in : ListsBySwitch → ListsBySwitch → SwitchId → List Avoided
 handed_in lists before s = unwrap_or (value_at id_cmp before s) (unwrap_or (value_at id_cmp lists s) [])
 
 -- one more switch whose list may be another than was noted
-abbrev pub with_differing : Lists → List SwitchId → SwitchId × List Avoided → List SwitchId
+abbrev pub with_differing : ListsBySwitch → List SwitchId → SwitchId × List Avoided → List SwitchId
 with_differing lists changed noted =
     if same_avoid_list noted.1 (unwrap_or (value_at id_cmp lists noted.0) []) then changed else insert_key id_cmp changed noted.0
 
@@ -57,17 +57,17 @@ with_note (Some noted) own old = Some noted
 with_note None own old = if own then Some old else None
 
 -- each list is that of what was told, and was made anew only for a switch that told something
-pub record AreListsOf (told : Told) (lists before : Lists) : Type 0 where
+pub record AreListsOf (told : Told) (lists before : ListsBySwitch) : Type 0 where
   pub current : (s : SwitchId) → value_at id_cmp lists s ≡ list_of told s
   pub heard : (s : SwitchId) → is_some (value_at id_cmp before s) ≡ true → has_told told s ≡ true
 
 -- the list of one switch is made anew; the one before is noted, unless one was noted since it was handed out
-pub record IsRenewed (s : SwitchId) (list : List Avoided) (lists before lists_after before_after : Lists) : Type 0 where
+pub record IsRenewed (s : SwitchId) (list : List Avoided) (lists before lists_after before_after : ListsBySwitch) : Type 0 where
   pub now : (t : SwitchId) → value_at id_cmp lists_after t ≡ (if is_at (id_cmp s) t then Some list else value_at id_cmp lists t)
   pub noted : (t : SwitchId) → value_at id_cmp before_after t ≡ with_note (value_at id_cmp before t) (is_at (id_cmp s) t) (unwrap_or (value_at id_cmp lists s) [])
 
 -- the lists of some switches are made anew, and for each it is still known what was handed out
-pub record AreRenewed (told : Told) (some : SwitchId → Bool) (lists before lists_after before_after : Lists) : Type 0 where
+pub record AreListsRenewed (told : Told) (some : SwitchId → Bool) (lists before lists_after before_after : ListsBySwitch) : Type 0 where
   pub now : (t : SwitchId) → value_at id_cmp lists_after t ≡ (if some t then Some (avoid_list told t) else value_at id_cmp lists t)
   pub handed_stays : (t : SwitchId) → handed_in lists_after before_after t ≡ handed_in lists before t
   pub noted : (t : SwitchId) → is_some (value_at id_cmp before_after t) ≡ true → (is_some (value_at id_cmp before t) || some t) ≡ true
@@ -101,11 +101,11 @@ pub record IsWordWithin (some : List SwitchId) (near_in : Told → SwitchId → 
   pub beside : (t x : SwitchId) → is_in some t ≡ false → is_in (near_in after t) x ≡ true → place_of after x ≡ place_of told x
 
 -- what is missed, the lists, and the lists that were handed out, by what was told
-pub record IsKept (told : Told) (known : Leading) (lists before : Lists) : Type 0 where
+pub record AreListsAsTold (told : Told) (known : Leading) (lists before : ListsBySwitch) : Type 0 where
   pub leading : IsLeading told known
   pub listed : AreListsOf told lists before
 
 -- the same after a word, where what was handed out stays
-pub record IsKeptUp (told : Told) (lists before : Lists) (known : Leading) (lists_after before_after : Lists) : Type 0 where
-  pub kept : IsKept told known lists_after before_after
+pub record IsKeptUp (told : Told) (lists before : ListsBySwitch) (known : Leading) (lists_after before_after : ListsBySwitch) : Type 0 where
+  pub kept : AreListsAsTold told known lists_after before_after
   pub handed : (s : SwitchId) → handed_in lists_after before_after s ≡ handed_in lists before s

@@ -4,8 +4,8 @@ use Rattle.std.specs.List.{list_any}
 use Rattle.std.specs.BTreeMap.{is_at}
 use Rattle.std.specs.BTreeSet.{insert_key}
 use Rattle.pl_frame.specs.declared.address.SwitchId.{SwitchId}
-use Rattle.pl_logic.specs.ManagerViews.{Told, alive_neighbours, id_cmp, neighbours}
-use Rattle.pl_logic.specs.AvoidLists.{is_above}
+use Rattle.pl_node.specs.ManagerViews.{Told, alive_neighbours, id_cmp, neighbours}
+use Rattle.pl_node.specs.AvoidLists.{is_above}
 use Rattle.pl_reports.specs.Kept.{has_told, near_of}
 
 -- whether a switch is in a list of them

@@ -2,8 +2,8 @@
 use Rattle.std.specs.Prelude.{ℕ, List, [], ◌∷◌, ◌++◌, if◌then◌else◌, Option, Some, None, fold}
 use Rattle.std.specs.BTreeSet.{insert_key}
 use Rattle.pl_frame.specs.declared.address.SwitchId.{SwitchId}
-use Rattle.pl_logic.specs.ManagerViews.{PlacedEdge, Told}
-use Rattle.pl_logic.specs.AvoidLists.{avoided_at, avoided_cmp, is_above}
+use Rattle.pl_node.specs.ManagerViews.{PlacedEdge, Told}
+use Rattle.pl_node.specs.AvoidLists.{avoided_at, avoided_cmp, is_above}
 use Rattle.pl_faults.specs.declared.edges.Edge.{Edge}
 
 -- id, pod and position

@@ -6,8 +6,8 @@ use Rattle.pl_frame.specs.declared.address.SwitchId.{SwitchId}
 use Rattle.pl_layouts.specs.declared.place.Place.{Place}
 use Rattle.pl_layouts.specs.Equality.{same_switch}
 use Rattle.pl_layouts.specs.Placement.{is_known}
-use Rattle.pl_logic.specs.ManagerViews.{Told, id_cmp, place_of, placed_edges, value_at}
-use Rattle.pl_logic.specs.AvoidLists.{avoided_cmp}
+use Rattle.pl_node.specs.ManagerViews.{Told, id_cmp, place_of, placed_edges, value_at}
+use Rattle.pl_node.specs.AvoidLists.{avoided_cmp}
 use Rattle.pl_faults.specs.declared.edges.Edge.{Edge}
 use Rattle.pl_faults.specs.declared.leading.Leading.{Leading}
 use Rattle.pl_faults.specs.declared.reach.Reach.{Reach}

@@ -5,29 +5,29 @@ use Rattle.pl_bits.specs.Rows.{either_row}
 use Rattle.pl_frame.specs.declared.address.SwitchId.{SwitchId}
 use Rattle.pl_layouts.specs.declared.place.Place.{Place}
 use Rattle.pl_layouts.specs.Placement.{is_known}
-use Rattle.pl_logic.specs.ManagerViews.{Told, alive_neighbours, has_level, has_pod, id_cmp, is_alive, value_at}
-use Rattle.pl_logic.specs.AvoidLists.{leads_to}
+use Rattle.pl_node.specs.ManagerViews.{Told, alive_neighbours, has_level, has_pod, id_cmp, is_alive, value_at}
+use Rattle.pl_node.specs.AvoidLists.{leads_to}
 use Rattle.pl_faults.specs.declared.edges.Edge.{Edge}
 use Rattle.pl_faults.specs.declared.reach.Reach.{Reach}
 use Rattle.pl_faults.specs.Listed.{is_in}
 
 -- what a row says of one switch
-abbrev pub Leads : Type 0
-Leads = Edge → SwitchId → Bool
+abbrev pub RowOfSwitch : Type 0
+RowOfSwitch = Edge → SwitchId → Bool
 
 -- down, by the link to an edge switch of the own pod
-abbrev pub leads_down : Told → Leads
+abbrev pub leads_down : Told → RowOfSwitch
 leads_down told e u = has_pod told u e.pod && is_alive told u e.switch
 
 -- by some neighbour of a level, over a link that is alive, as f says of the neighbour
-abbrev pub leads_by : Told → ℕ → Leads → Leads
+abbrev pub leads_by : Told → ℕ → RowOfSwitch → RowOfSwitch
 leads_by told level f e u = list_any (λ x. has_level told x level && f e x) (alive_neighbours told u)
 
 -- by some neighbour or not at all
-abbrev pub leads_on : Told → Leads
+abbrev pub leads_on : Told → RowOfSwitch
 leads_on told e u = leads_to told e.pod e.switch u
 
-abbrev pub row_of : Leads → List Edge → SwitchId → List Bool
+abbrev pub row_of : RowOfSwitch → List Edge → SwitchId → List Bool
 row_of f edges u = map (λ e. f e u) edges
 
 -- tables of rows
@@ -42,18 +42,18 @@ abbrev pub row_in : Rows → SwitchId → List Bool
 row_in rows u = row_or_none (value_at id_cmp rows u)
 
 -- a row that only the switches of one level have
-abbrev pub row_at_level : Told → ℕ → Leads → List Edge → SwitchId → List Bool
+abbrev pub row_at_level : Told → ℕ → RowOfSwitch → List Edge → SwitchId → List Bool
 row_at_level told level f edges u = if has_level told u level then row_of f edges u else []
 
 -- the rows of all switches, filled at one level
-pub record AreRows (told : Told) (level : ℕ) (edges : List Edge) (f : Leads) (rows : Rows) : Type 0 where
+pub record AreLevelRows (told : Told) (level : ℕ) (edges : List Edge) (f : RowOfSwitch) (rows : Rows) : Type 0 where
   pub all : (u : SwitchId) → row_in rows u ≡ row_at_level told level f edges u
 
 -- the three kinds of rows
 pub record IsReach (told : Told) (edges : List Edge) (reach : Reach) : Type 0 where
-  pub by_link : AreRows told 1 edges (leads_down told) reach.down.entries
-  pub by_core : AreRows told 2 edges (leads_by told 1 (leads_down told)) reach.core.entries
-  pub by_two : AreRows told 1 edges (leads_by told 2 (leads_by told 1 (leads_down told))) reach.up.entries
+  pub by_link : AreLevelRows told 1 edges (leads_down told) reach.down.entries
+  pub by_core : AreLevelRows told 2 edges (leads_by told 1 (leads_down told)) reach.core.entries
+  pub by_two : AreLevelRows told 1 edges (leads_by told 2 (leads_by told 1 (leads_down told))) reach.up.entries
 
 -- a row, with that of a neighbour if it is to be added
 abbrev pub with_row : Bool → List Bool → List Bool → List Bool

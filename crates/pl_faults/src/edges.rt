@@ -1,10 +1,10 @@
 ghost use Rattle.std.specs.Prelude.{◌≡◌, IfOk, OnOk, map};
 ghost use Rattle.std.specs.Option.{option_map};
-ghost use Rattle.pl_logic.specs.ManagerViews.{edge_at, placed_edges};
+ghost use Rattle.pl_node.specs.ManagerViews.{edge_at, placed_edges};
 ghost use Rattle.pl_faults.specs.Making.{placed_as, with_placed};
 
 use pl_frame::SwitchId;
-use pl_logic::{Memory, Place};
+use pl_node::{Memory, Place};
 use pl_reports::Reports;
 use std::alloc::Global;
 

@@ -2,7 +2,7 @@ ghost use Rattle.std.specs.Prelude.{◌≡◌, ◌&&◌, ◌||◌, IfOk, OnOk, [
 ghost use Rattle.std.specs.List.{list_any};
 ghost use Rattle.pl_layouts.specs.Equality.{same_switch};
 ghost use Rattle.pl_frame.specs.declared.address.SwitchId.{SwitchId};
-ghost use Rattle.pl_logic.specs.ManagerViews.{Told, alive_neighbours, edge_at, place_of, placed_edges};
+ghost use Rattle.pl_node.specs.ManagerViews.{Told, alive_neighbours, edge_at, place_of, placed_edges};
 ghost use Rattle.pl_faults.specs.Kept.{IsLinkWord, IsPlaceWord, IsWordWithin};
 ghost use Rattle.pl_faults.specs.Listed.{is_in};
 ghost use Rattle.pl_faults.specs.Missed.{AreMissed, AreMissedAnew, IsLeading, IsTurned, is_some_edge};
@@ -13,7 +13,7 @@ use crate::listed::{Hearers, around, ends_of, hear, put_all};
 use crate::missed::{Misses, renew_misses, turned_among};
 use crate::reach::{Reach, no_reach, reach_of, renew_reach};
 use pl_frame::SwitchId;
-use pl_logic::{Memory, SwitchList};
+use pl_node::{Memory, SwitchList};
 use pl_reports::Reports;
 use std::alloc::Global;
 use std::collections::BTreeMap;

@@ -2,7 +2,7 @@
 #![tactic(auto)]
 
 pub use matrix::Matrix;
-pub use pl_logic::{AvoidList, Memory, SwitchList};
+pub use pl_node::{AvoidList, Memory, SwitchList};
 pub use pl_reports::Reports;
 
 mod edges;

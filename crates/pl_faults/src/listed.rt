@@ -1,7 +1,7 @@
 ghost use Rattle.std.specs.Prelude.{◌≡◌, ◌∷◌, [], IfOk, OnOk, fold, if◌then◌else◌};
 ghost use Rattle.pl_reports.specs.Kept.{near_of};
-ghost use Rattle.pl_logic.specs.AvoidLists.{is_level_above};
-ghost use Rattle.pl_logic.specs.ManagerViews.{id_cmp, place_of};
+ghost use Rattle.pl_node.specs.AvoidLists.{is_level_above};
+ghost use Rattle.pl_node.specs.ManagerViews.{id_cmp, place_of};
 ghost use Rattle.std.specs.BTreeSet.{insert_key};
 ghost use Rattle.pl_reports.specs.Kept.{with_neighbour};
 ghost use Rattle.pl_faults.specs.Listed.{with_all, with_below, with_beside, with_lower, with_told};
@@ -9,7 +9,7 @@ ghost use Rattle.pl_frame.specs.declared.address.SwitchId.{SwitchId};
 
 use crate::making::is_level_above;
 use pl_frame::SwitchId;
-use pl_logic::{Memory, SwitchList};
+use pl_node::{Memory, SwitchList};
 use pl_reports::Reports;
 use std::alloc::Global;
 use std::collections::BTreeMap;

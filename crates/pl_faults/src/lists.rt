@@ -4,12 +4,12 @@ ghost use Rattle.std.specs.Option.{option_copied};
 ghost use Rattle.std.specs.List.Sorted.{IsStrictlySortedBy};
 ghost use Rattle.std.specs.Map.{keys_of};
 ghost use Rattle.pl_frame.specs.declared.address.SwitchId.{SwitchId};
-ghost use Rattle.pl_logic.specs.ManagerViews.{id_cmp, value_at};
+ghost use Rattle.pl_node.specs.ManagerViews.{id_cmp, value_at};
 ghost use Rattle.pl_manager_rule.specs.ManagerRule.{same_avoid_list};
 ghost use Rattle.pl_faults.specs.Kept.{IsRenewed, with_differing, with_note};
 
 use pl_frame::SwitchId;
-use pl_logic::{AvoidList, Memory, SwitchList};
+use pl_node::{AvoidList, Memory, SwitchList};
 use std::alloc::Global;
 use std::collections::BTreeMap;
 

@@ -1,6 +1,6 @@
 ghost use Rattle.std.specs.Prelude.{◌≡◌, [], IfOk, IsTrue, OnOk, fold, true};
 ghost use Rattle.std.specs.BTreeSet.{insert_key};
-ghost use Rattle.pl_logic.specs.AvoidLists.{avoid_list, avoided_at, avoided_cmp, is_above, is_level_above};
+ghost use Rattle.pl_node.specs.AvoidLists.{avoid_list, avoided_at, avoided_cmp, is_above, is_level_above};
 ghost use Rattle.pl_faults.specs.Making.{with_neighbour};
 ghost use Rattle.pl_faults.specs.Missed.{IsLeading, is_avoided, missed_in, sends_down, with_missed};
 
@@ -9,7 +9,7 @@ use crate::leading::Leading;
 use crate::missed::missed_in;
 use crate::reach::{has_level, has_pod};
 use pl_frame::SwitchId;
-use pl_logic::{AvoidList, Memory, Place};
+use pl_node::{AvoidList, Memory, Place};
 use pl_reports::Reports;
 use std::alloc::Global;
 

@@ -1,7 +1,7 @@
 ghost use Rattle.std.specs.Prelude.{◌≡◌, [], IfOk, OnErr, OnOk};
 ghost use Rattle.std.specs.Option.{option_copied};
 ghost use Rattle.pl_frame.specs.declared.address.SwitchId.{SwitchId};
-ghost use Rattle.pl_logic.specs.AvoidLists.{avoid_list};
+ghost use Rattle.pl_node.specs.AvoidLists.{avoid_list};
 ghost use Rattle.pl_manager_rule.specs.ManagerRule.{with_link, with_place};
 ghost use Rattle.pl_faults.specs.Kept.{changed_lists, empty_matrix, handed, list_of};
 
@@ -9,7 +9,7 @@ use crate::leading::{Leading, no_leading};
 use crate::lists::{Lists, copy_in, differing, list_in};
 use crate::telling::{keep_link, keep_place};
 use pl_frame::SwitchId;
-use pl_logic::{AvoidList, Memory, Place, SwitchList};
+use pl_node::{AvoidList, Memory, Place, SwitchList};
 use pl_reports::Reports;
 use std::alloc::Global;
 use std::collections::BTreeMap;
@@ -27,13 +27,13 @@ pub struct Matrix {
 }
 
 impl Model for Matrix {
-    ghost use Rattle.pl_faults.specs.Kept.{IsKept, MatrixView};
+    ghost use Rattle.pl_faults.specs.Kept.{AreListsAsTold, MatrixView};
 
     ghost Value = { MatrixView };
 
     ghost view = { λ m. record { told = m.reports; before = m.before.entries } };
 
-    ghost invariant = { λ m. IsKept m.reports m.leading m.lists.entries m.before.entries };
+    ghost invariant = { λ m. AreListsAsTold m.reports m.leading m.lists.entries m.before.entries };
 }
 
 impl Matrix {

@@ -1,7 +1,7 @@
 ghost use Rattle.std.specs.Prelude.{◌≡◌, [], IfOk, IsTrue, OnOk, false, true, if◌then◌else◌};
 ghost use Rattle.pl_faults.specs.Listed.{is_in};
 ghost use Rattle.pl_frame.specs.declared.address.SwitchId.{SwitchId};
-ghost use Rattle.pl_logic.specs.ManagerViews.{id_cmp, place_of};
+ghost use Rattle.pl_node.specs.ManagerViews.{id_cmp, place_of};
 ghost use Rattle.std.specs.BTreeMap.{is_at};
 ghost use Rattle.pl_faults.specs.Missed.{AreTurned, is_upper, missed_at, missed_by, missed_in, with_unled};
 ghost use Rattle.pl_faults.specs.Rows.{IsReach};
@@ -9,7 +9,7 @@ ghost use Rattle.pl_faults.specs.Rows.{IsReach};
 use crate::edges::Edge;
 use crate::reach::{Reach, leads_at};
 use pl_frame::SwitchId;
-use pl_logic::{Memory, Place, SwitchList};
+use pl_node::{Memory, Place, SwitchList};
 use pl_reports::Reports;
 use std::alloc::Global;
 use std::collections::BTreeMap;

@@ -2,18 +2,18 @@ ghost use Rattle.std.specs.Prelude.{◌≡◌, [], IfOk, IsTrue, OnOk, false, if
 ghost use Rattle.std.specs.BTreeMap.{is_at};
 ghost use Rattle.std.specs.Option.{option_copied};
 ghost use Rattle.pl_frame.specs.declared.address.SwitchId.{SwitchId};
-ghost use Rattle.pl_logic.specs.ManagerViews.{Told, alive_neighbours, has_level, id_cmp, value_at};
+ghost use Rattle.pl_node.specs.ManagerViews.{Told, alive_neighbours, has_level, id_cmp, value_at};
 ghost use Rattle.pl_layouts.specs.Placement.{is_known};
 ghost use Rattle.pl_faults.specs.Kept.{IsWordWithin};
 ghost use Rattle.pl_faults.specs.Listed.{is_in};
-ghost use Rattle.pl_faults.specs.Rows.{AreRows, AreRowsRenewed, IsReach, IsReachRenewed, Leads, leads_at, leads_by, leads_down, row_at_level, row_in, row_of, row_or_none, value_of, with_row};
+ghost use Rattle.pl_faults.specs.Rows.{AreLevelRows, AreRowsRenewed, IsReach, IsReachRenewed, RowOfSwitch, leads_at, leads_by, leads_down, row_at_level, row_in, row_of, row_or_none, value_of, with_row};
 
 use crate::edges::Edge;
 use crate::listed::{beside, put_all};
 use crate::row::{linked_down, none_reached};
 use pl_bits::Row;
 use pl_frame::SwitchId;
-use pl_logic::{Memory, Place, SwitchList};
+use pl_node::{Memory, Place, SwitchList};
 use pl_reports::Reports;
 use std::alloc::Global;
 use std::collections::BTreeMap;
@@ -140,7 +140,7 @@ fn renew_by(
     level: u8,
     asked: &[SwitchId],
 ) -> Result<SwitchList, Memory>
-    ensures { IfOk result (λ changed. (f : Leads) → AreRows reports.now level edges.now f by.now.entries →
+    ensures { IfOk result (λ changed. (f : RowOfSwitch) → AreLevelRows reports.now level edges.now f by.now.entries →
         AreRowsRenewed (row_at_level reports.now own (leads_by reports.now level f) edges.now) asked.now rows.old.entries rows.new.entries changed) }
 {
     let mut changed = SwitchList::new(alloc);
@@ -160,7 +160,7 @@ fn row_at_level(
     level: u8,
     switch: SwitchId,
 ) -> Result<Row, Memory>
-    ensures { IfOk result (λ row. (f : Leads) → AreRows reports.now level edges.now f by.now.entries →
+    ensures { IfOk result (λ row. (f : RowOfSwitch) → AreLevelRows reports.now level edges.now f by.now.entries →
         row ≡ row_at_level reports.now own (leads_by reports.now level f) edges.now switch) }
 {
     if !has_level(reports.place_of(switch), own) {
@@ -178,7 +178,7 @@ fn row_by(
     level: u8,
     switch: SwitchId,
 ) -> Result<Row, Memory>
-    ensures { IfOk result (λ row. (f : Leads) → AreRows reports.now level edges.now f by.now.entries →
+    ensures { IfOk result (λ row. (f : RowOfSwitch) → AreLevelRows reports.now level edges.now f by.now.entries →
         row ≡ row_of (leads_by reports.now level f) edges.now switch) }
 {
     let mut row = none_reached(alloc, edges)?;

@@ -1,7 +1,7 @@
 ghost use Rattle.std.specs.Prelude.{OnOk};
-ghost use Rattle.pl_logic.specs.ManagerViews.{Told};
+ghost use Rattle.pl_node.specs.ManagerViews.{Told};
 ghost use Rattle.pl_frame.specs.declared.address.SwitchId.{SwitchId};
-ghost use Rattle.pl_faults.specs.Kept.{AreRenewed, IsKept, IsKeptUp, IsLinkWord, IsPlaceWord};
+ghost use Rattle.pl_faults.specs.Kept.{AreListsRenewed, AreListsAsTold, IsKeptUp, IsLinkWord, IsPlaceWord};
 ghost use Rattle.pl_faults.specs.Listed.{is_in};
 ghost use Rattle.pl_faults.specs.Missed.{IsLeading};
 
@@ -10,7 +10,7 @@ use crate::listed::{put_all_below, with_hearers};
 use crate::lists::{Lists, renew};
 use crate::making::avoid_list_of;
 use pl_frame::SwitchId;
-use pl_logic::{AvoidList, Memory, SwitchList};
+use pl_node::{AvoidList, Memory, SwitchList};
 use pl_reports::Reports;
 use std::alloc::Global;
 
@@ -25,7 +25,7 @@ pub(crate) fn renew_near(
     neighbour: SwitchId,
 ) -> Result<(), Memory>
     ensures { OnOk result ((told : Told) → IsLinkWord switch neighbour told reports.now →
-        IsKept told leading.old lists.old.entries before.old.entries →
+        AreListsAsTold told leading.old lists.old.entries before.old.entries →
         IsKeptUp reports.now lists.old.entries before.old.entries leading.new lists.new.entries before.new.entries) }
 {
     let turned = link_leading(leading, alloc, reports, switch, neighbour)?;
@@ -46,7 +46,7 @@ pub(crate) fn renew_placed(
     switch: SwitchId,
 ) -> Result<(), Memory>
     ensures { OnOk result ((told : Told) → IsPlaceWord switch told reports.now →
-        IsKept told leading.old lists.old.entries before.old.entries →
+        AreListsAsTold told leading.old lists.old.entries before.old.entries →
         IsKeptUp reports.now lists.old.entries before.old.entries leading.new lists.new.entries before.new.entries) }
 {
     if is_none_placed(reports, leading.edges.as_slice(), switch) {
@@ -67,7 +67,7 @@ fn renew_moved(
     switch: SwitchId,
 ) -> Result<(), Memory>
     ensures { OnOk result ((told : Told) → IsPlaceWord switch told reports.now →
-        IsKept told leading.old lists.old.entries before.old.entries →
+        AreListsAsTold told leading.old lists.old.entries before.old.entries →
         IsKeptUp reports.now lists.old.entries before.old.entries leading.new lists.new.entries before.new.entries) }
 {
     let turned = place_leading(leading, alloc, reports, switch)?;
@@ -87,7 +87,7 @@ fn renew_lists(
     asked: &[SwitchId],
 ) -> Result<(), Memory>
     ensures { OnOk result (IsLeading reports.now leading.now →
-        AreRenewed reports.now (is_in asked.now) lists.old.entries before.old.entries lists.new.entries before.new.entries) }
+        AreListsRenewed reports.now (is_in asked.now) lists.old.entries before.old.entries lists.new.entries before.new.entries) }
 {
     for switch in asked {
         let list = avoid_list_of(alloc, reports, leading, *switch)?;

@@ -1,5 +1,5 @@
 ghost use Rattle.std.specs.Prelude.{◌≡◌, ◌&&◌, ◌<◌, IfOk, false, if◌then◌else◌, length, map, slice_set, true};
-ghost use Rattle.pl_logic.specs.ManagerViews.{is_alive};
+ghost use Rattle.pl_node.specs.ManagerViews.{is_alive};
 ghost use Rattle.pl_layouts.specs.Placement.{is_known};
 ghost use Rattle.pl_faults.specs.Rows.{leads_down, row_of};
 
@@ -7,7 +7,7 @@ use crate::edges::Edge;
 use crate::reach::has_pod;
 use pl_bits::Row;
 use pl_frame::SwitchId;
-use pl_logic::{Memory, Place};
+use pl_node::{Memory, Place};
 use pl_reports::Reports;
 use std::alloc::Global;
 

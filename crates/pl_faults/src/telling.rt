@@ -1,17 +1,17 @@
 ghost use Rattle.std.specs.Prelude.{◌≡◌, IsTrue, OnOk, if◌then◌else◌, not, true};
 ghost use Rattle.std.specs.List.{list_any};
 ghost use Rattle.pl_layouts.specs.Equality.{same_switch};
-ghost use Rattle.pl_logic.specs.ManagerViews.{neighbours, place_of};
+ghost use Rattle.pl_node.specs.ManagerViews.{neighbours, place_of};
 ghost use Rattle.pl_frame.specs.declared.address.SwitchId.{SwitchId};
 ghost use Rattle.pl_manager_rule.specs.ManagerRule.{with_link, with_place};
 ghost use Rattle.pl_reports.specs.Kept.{has_told};
-ghost use Rattle.pl_faults.specs.Kept.{IsKept, handed_in};
+ghost use Rattle.pl_faults.specs.Kept.{AreListsAsTold, handed_in};
 
 use crate::leading::Leading;
 use crate::lists::Lists;
 use crate::renewing::{renew_near, renew_placed};
 use pl_frame::SwitchId;
-use pl_logic::{Memory, Place};
+use pl_node::{Memory, Place};
 use pl_reports::Reports;
 use std::alloc::Global;
 
@@ -25,9 +25,9 @@ pub(crate) fn keep_place(
     switch: SwitchId,
     place: Place,
 ) -> Result<(), Memory>
-    requires { IsKept reports.old leading.old lists.old.entries before.old.entries }
+    requires { AreListsAsTold reports.old leading.old lists.old.entries before.old.entries }
     ensures told { OnOk result (reports.new ≡ with_place reports.old switch place) }
-    ensures kept { OnOk result (IsKept reports.new leading.new lists.new.entries before.new.entries) }
+    ensures kept { OnOk result (AreListsAsTold reports.new leading.new lists.new.entries before.new.entries) }
     ensures handed { OnOk result ((s : SwitchId) → handed_in lists.new.entries before.new.entries s ≡ handed_in lists.old.entries before.old.entries s) }
 {
     let known = is_told_place(reports, switch, place);
@@ -63,9 +63,9 @@ pub(crate) fn keep_link(
     neighbour: SwitchId,
     usable: bool,
 ) -> Result<(), Memory>
-    requires { IsKept reports.old leading.old lists.old.entries before.old.entries }
+    requires { AreListsAsTold reports.old leading.old lists.old.entries before.old.entries }
     ensures told { OnOk result (reports.new ≡ with_link reports.old switch neighbour usable) }
-    ensures kept { OnOk result (IsKept reports.new leading.new lists.new.entries before.new.entries) }
+    ensures kept { OnOk result (AreListsAsTold reports.new leading.new lists.new.entries before.new.entries) }
     ensures handed { OnOk result ((s : SwitchId) → handed_in lists.new.entries before.new.entries s ≡ handed_in lists.old.entries before.old.entries s) }
 {
     if knows(reports, switch, neighbour) {
@@ -103,9 +103,9 @@ fn keep_new_link(
     neighbour: SwitchId,
     usable: bool,
 ) -> Result<(), Memory>
-    requires { IsKept reports.old leading.old lists.old.entries before.old.entries }
+    requires { AreListsAsTold reports.old leading.old lists.old.entries before.old.entries }
     ensures told { OnOk result (reports.new ≡ with_link reports.old switch neighbour usable) }
-    ensures kept { OnOk result (IsKept reports.new leading.new lists.new.entries before.new.entries) }
+    ensures kept { OnOk result (AreListsAsTold reports.new leading.new lists.new.entries before.new.entries) }
     ensures handed { OnOk result ((s : SwitchId) → handed_in lists.new.entries before.new.entries s ≡ handed_in lists.old.entries before.old.entries s) }
 {
     reports.report(switch, neighbour, usable)?;
@@ -124,10 +124,10 @@ fn keep_known_link(
     neighbour: SwitchId,
     usable: bool,
 ) -> Result<(), Memory>
-    requires kept { IsKept reports.old leading.old lists.old.entries before.old.entries }
+    requires kept { AreListsAsTold reports.old leading.old lists.old.entries before.old.entries }
     requires known { list_any (λ x. same_switch x neighbour) (neighbours reports.old switch) ≡ true }
     ensures told { OnOk result (reports.new ≡ with_link reports.old switch neighbour usable) }
-    ensures kept { OnOk result (IsKept reports.new leading.new lists.new.entries before.new.entries) }
+    ensures kept { OnOk result (AreListsAsTold reports.new leading.new lists.new.entries before.new.entries) }
     ensures handed { OnOk result ((s : SwitchId) → handed_in lists.new.entries before.new.entries s ≡ handed_in lists.old.entries before.old.entries s) }
 {
     let was = reports.is_alive(switch, neighbour);

@@ -1,9 +1,9 @@
 -- The ports by which a frame to a group leaves, where no part of the tree is known, and behind its source.
 use Rattle.std.proofs.Common.{◌≡◌, ℕ, ◌==◌, true, not, ◌&&◌, [], None, sym, ap, ◌∙◌}
 use Rattle.std.specs.List.{filter}
-use Rattle.pl_logic.specs.PortRecords.{id_at, is_usable, ports_of_switch, ports_where}
-use Rattle.pl_logic.specs.SwitchFacts.{part_of}
-use Rattle.pl_logic.specs.SwitchViews.{SwitchView}
+use Rattle.pl_node.specs.PortRecords.{id_at, is_usable, ports_of_switch, ports_where}
+use Rattle.pl_node.specs.SwitchFacts.{part_of}
+use Rattle.pl_node.specs.SwitchViews.{SwitchView}
 use Rattle.pl_pmac.specs.declared.pmac.Pmac.{Pmac}
 use Rattle.pl_switch_rule.specs.Granting.{is_local}
 use Rattle.pl_switch_rule.specs.GroupForwarding.{at_most_one, group_ports_down, group_ports_up, host_ports, is_down, is_reached, is_up}

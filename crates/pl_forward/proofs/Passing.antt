@@ -3,12 +3,12 @@ use Rattle.std.proofs.Common.{◌≡◌, ℕ, zero, suc, ◌+◌, ◌-◌, ◌<�
 use Rattle.std.specs.List.{filter, list_any, range_with_len}
 use Rattle.std.proofs.lemmas.Bool.{ne_eqb}
 use Rattle.std.proofs.lemmas.List.Elements.{filter-append}
-use Rattle.pl_lemmas.proofs.Lists.{range_parts}
-use Rattle.pl_logic.specs.PortRecords.{ports_of_switch}
+use Rattle.pl_lemmas.proofs.Exports.{range_parts}
+use Rattle.pl_node.specs.PortRecords.{ports_of_switch}
 use Rattle.pl_lists.specs.declared.port_set.PortSet.{PortSet}
 use Rattle.pl_lists.specs.Ports.{has_port, ports_of}
-use Rattle.pl_lists.proofs.PortBits.{has_port_is}
-use Rattle.pl_steps.proofs.Ports.{passed_next}
+use Rattle.pl_lists.proofs.Exports.{has_port_is}
+use Rattle.pl_steps.proofs.Exports.{passed_next}
 use Rattle.pl_switch_rule.specs.GroupForwarding.{at_most_one}
 
 -- where none passed before, and this one does not, none passed

@@ -1,5 +1,5 @@
 ghost use Rattle.std.specs.Prelude.{◌≡◌, ◌≤◌, ◌++◌, length, map, OnOk};
-ghost use Rattle.pl_logic.specs.declared.acts.Act.{Act};
+ghost use Rattle.pl_node.specs.declared.acts.Act.{Act};
 ghost use Rattle.pl_lists.specs.Ports.{ports_of};
 ghost use Rattle.pl_steps.specs.Taken.{IsTaken};
 ghost use Rattle.pl_switch_rule.specs.GroupForwarding.{destination_group, forwards_group};
@@ -7,8 +7,8 @@ ghost use Rattle.pl_switch_rule.specs.GroupForwarding.{destination_group, forwar
 use crate::{GroupFacts, cause_of_no_way, group_ports};
 use pl_frame::{Frame, Mac};
 use pl_lists::PortSet;
-use pl_logic::{Act, Memory, Outbox};
 use pl_multicast::{FLOOD, group_of};
+use pl_node::{Act, Memory, Outbox};
 use pl_steps::{TellsAtPort, one_act_where, tell_at_each_port};
 use pl_switch_rule::Came;
 use std::alloc::Global;
@@ -63,7 +63,7 @@ struct Copies<'a> {
 }
 
 impl TellsAtPort for Copies<'_> {
-    ghost use Rattle.pl_logic.specs.declared.acts.Act.TheVariants.{Pass};
+    ghost use Rattle.pl_node.specs.declared.acts.Act.TheVariants.{Pass};
     ghost use Rattle.std.specs.Prelude.{◌==◌};
     ghost use Rattle.std.specs.List.{list_any};
     ghost use Rattle.pl_lists.specs.Ports.{ports_of};

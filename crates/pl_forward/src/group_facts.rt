@@ -1,10 +1,10 @@
 ghost use Rattle.std.specs.Prelude.{◌≡◌, ◌==◌, ◌&&◌};
 ghost use Rattle.std.specs.List.{list_any};
-ghost use Rattle.pl_logic.specs.PortRecords.{ports_where};
+ghost use Rattle.pl_node.specs.PortRecords.{ports_where};
 ghost use Rattle.pl_lists.specs.Ports.{ports_of};
 
 use pl_lists::PortSet;
-use pl_logic::SwitchFacts;
+use pl_node::SwitchFacts;
 
 /// A switch that can be asked, besides, where the members of a group are.
 pub trait GroupFacts: SwitchFacts {

@@ -1,6 +1,6 @@
 ghost use Rattle.std.specs.Prelude.{◌≡◌, ◌==◌, not};
 ghost use Rattle.std.specs.List.{filter};
-ghost use Rattle.pl_logic.specs.PortRecords.{ports_where};
+ghost use Rattle.pl_node.specs.PortRecords.{ports_where};
 ghost use Rattle.pl_lists.specs.Ports.{ports_of};
 ghost use Rattle.pl_switch_rule.specs.Granting.{is_local};
 ghost use Rattle.pl_switch_rule.specs.GroupForwarding.{host_ports, is_reached};
@@ -8,8 +8,8 @@ ghost use Rattle.pl_switch_rule.specs.GroupForwarding.{host_ports, is_reached};
 use crate::GroupFacts;
 use crate::port_test::{PortTest, ports_that_pass};
 use pl_lists::PortSet;
-use pl_logic::SwitchFacts;
 use pl_multicast::FLOOD;
+use pl_node::SwitchFacts;
 use pl_pmac::Pmac;
 
 /// Whether an address has the pod and the position of this edge switch.
@@ -65,7 +65,7 @@ struct HasHost<'a, F: SwitchFacts> {
 }
 
 impl<F: SwitchFacts> PortTest for HasHost<'_, F> {
-    ghost use Rattle.pl_logic.specs.PortRecords.{port_of};
+    ghost use Rattle.pl_node.specs.PortRecords.{port_of};
 
     ghost ports = { λ has. (F.view has.facts.now).k };
 

@@ -1,6 +1,6 @@
 ghost use Rattle.std.specs.Prelude.{◌≡◌, ◌==◌};
 ghost use Rattle.std.specs.List.{list_any};
-ghost use Rattle.pl_logic.specs.PortRecords.{id_at};
+ghost use Rattle.pl_node.specs.PortRecords.{id_at};
 ghost use Rattle.pl_lists.specs.Ports.{ports_of};
 ghost use Rattle.pl_switch_rule.specs.GroupForwarding.{group_ports, group_ports_down, group_ports_up, is_on_its_way_down, no_way, way_of};
 
@@ -8,8 +8,8 @@ use crate::port_test::{PortTest, first_that_passes, ports_that_pass};
 use crate::{GroupFacts, host_ports};
 use pl_frame::SwitchId;
 use pl_lists::PortSet;
-use pl_logic::{Cause, SwitchFacts, TreePart};
 use pl_multicast::FLOOD;
+use pl_node::{Cause, SwitchFacts, TreePart};
 use pl_pmac::Pmac;
 use pl_switch_rule::{Came, Way};
 
@@ -83,7 +83,7 @@ struct LeadsUp<'a, F: SwitchFacts> {
 
 impl<F: SwitchFacts> PortTest for LeadsUp<'_, F> {
     ghost use Rattle.std.specs.Prelude.{◌&&◌, Some};
-    ghost use Rattle.pl_logic.specs.PortRecords.{id_at, is_usable};
+    ghost use Rattle.pl_node.specs.PortRecords.{id_at, is_usable};
     ghost use Rattle.pl_switch_rule.specs.GroupForwarding.{is_up};
 
     ghost ports = { λ leads. (F.view leads.facts.now).k };
@@ -110,7 +110,7 @@ struct LeadsDown<'a, F: SwitchFacts> {
 
 impl<F: SwitchFacts> PortTest for LeadsDown<'_, F> {
     ghost use Rattle.std.specs.Prelude.{◌&&◌, Some};
-    ghost use Rattle.pl_logic.specs.PortRecords.{id_at, is_usable};
+    ghost use Rattle.pl_node.specs.PortRecords.{id_at, is_usable};
     ghost use Rattle.pl_switch_rule.specs.GroupForwarding.{is_down};
 
     ghost ports = { λ leads. (F.view leads.facts.now).k };

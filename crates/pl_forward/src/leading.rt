@@ -4,7 +4,7 @@ ghost use Rattle.pl_switch_rule.specs.Forwarding.{candidates};
 
 use crate::port_test::{PortTest, ports_that_pass};
 use pl_lists::PortSet;
-use pl_logic::SwitchFacts;
+use pl_node::SwitchFacts;
 use pl_pmac::Pmac;
 use pl_switch_rule::{Came, is_candidate};
 

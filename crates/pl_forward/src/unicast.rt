@@ -1,5 +1,5 @@
 ghost use Rattle.std.specs.Prelude.{◌≡◌, ◌<◌, ◌≤◌, length, OnOk};
-ghost use Rattle.pl_logic.specs.PortRecords.{place_at};
+ghost use Rattle.pl_node.specs.PortRecords.{place_at};
 ghost use Rattle.pl_frame.specs.Ethernet.{destination_of};
 ghost use Rattle.pl_pmac.specs.Pmac.{pmac_of};
 ghost use Rattle.pl_steps.specs.Taken.{IsTaken};
@@ -9,7 +9,7 @@ ghost use Rattle.pl_switch_rule.specs.SwitchRule.{by_flow};
 use crate::{UnicastFacts, choose_by_flow};
 use pl_frame::{Frame, Mac};
 use pl_layouts::Place;
-use pl_logic::{Act, Cause, Memory, Outbox, SwitchFacts};
+use pl_node::{Act, Cause, Memory, Outbox, SwitchFacts};
 use pl_switch_rule::Came;
 
 /// Whether a frame of the neighbour at a port comes from below or from above; none where the neighbour is

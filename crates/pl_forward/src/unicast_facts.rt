@@ -3,7 +3,7 @@ ghost use Rattle.pl_lists.specs.Ports.{ports_of};
 ghost use Rattle.pl_switch_rule.specs.Forwarding.{candidates};
 
 use pl_lists::PortSet;
-use pl_logic::SwitchFacts;
+use pl_node::SwitchFacts;
 use pl_pmac::Pmac;
 use pl_switch_rule::Came;
 

@@ -8,10 +8,10 @@ use Rattle.std.proofs.lemmas.List.Elements.{filter-append}
 use Rattle.pl_capture.specs.declared.endianness.Endianness.TheVariants.{Little}
 use Rattle.pl_capture.specs.Spelling.{packet_bytes, saved_header}
 use Rattle.pl_generator.specs.declared.drawing.DrawnFrame.{DrawnFrame}
-use Rattle.pl_generator.specs.Captures.{AreCaptures, capture_of, is_from, packet_of, with_packet}
+use Rattle.pl_generator.specs.Captures.{AreDrawnCaptures, capture_of, is_from, packet_of, with_packet}
 
 -- each host has an empty capture at first
-pub none_yet : (hosts : ℕ) → AreCaptures hosts [] (replicate hosts saved_header)
+pub none_yet : (hosts : ℕ) → AreDrawnCaptures hosts [] (replicate hosts saved_header)
 none_yet hosts = record {
   count = length-replicate hosts saved_header;
   each = λ host within. get_or-replicate hosts host saved_header [] within ∙ sym (append-nil saved_header);
@@ -48,7 +48,7 @@ elsewhere : (host : ℕ) (frames : List DrawnFrame) (frame : DrawnFrame) → is_
     capture_of host (frames ++ frame ∷ []) ≡ capture_of host frames
 elsewhere host frames frame is = with_next host frames frame false is ∙ append-nil (capture_of host frames)
 
-module _ (hosts : ℕ) (frames : List DrawnFrame) (frame : DrawnFrame) (captures : List (List ℕ)) (so_far : AreCaptures hosts frames captures) where
+module _ (hosts : ℕ) (frames : List DrawnFrame) (frame : DrawnFrame) (captures : List (List ℕ)) (so_far : AreDrawnCaptures hosts frames captures) where
   each_more : (host : ℕ) → host < hosts → (b : Bool) → is_from host frame ≡ b →
       get_or (with_packet captures frame) host [] ≡ capture_of host (frames ++ frame ∷ [])
   each_more host within true is =
@@ -64,15 +64,15 @@ module _ (hosts : ℕ) (frames : List DrawnFrame) (frame : DrawnFrame) (captures
       ∙ so_far.each host within
       ∙ sym (elsewhere host frames frame is)
 
-  one_more : AreCaptures hosts (frames ++ frame ∷ []) (with_packet captures frame)
+  one_more : AreDrawnCaptures hosts (frames ++ frame ∷ []) (with_packet captures frame)
   one_more = record {
     count = length-set captures frame.source (get_or captures frame.source [] ++ record_of frame) ∙ so_far.count;
     each = λ host within. each_more host within (is_from host frame) refl;
   }
 
 pub captures_more : (hosts : ℕ) (frames : List DrawnFrame) (i : ℕ) (d : DrawnFrame) (captures : List (List ℕ)) → i < length frames →
-    AreCaptures hosts (take i frames) captures → AreCaptures hosts (take (i + 1) frames) (with_packet captures (get_or frames i d))
+    AreDrawnCaptures hosts (take i frames) captures → AreDrawnCaptures hosts (take (i + 1) frames) (with_packet captures (get_or frames i d))
 captures_more hosts frames i d captures within so_far =
-    subst (λ fs. AreCaptures hosts fs (with_packet captures (get_or frames i d)))
+    subst (λ fs. AreDrawnCaptures hosts fs (with_packet captures (get_or frames i d)))
     (sym (take_more frames i d within))
     (one_more hosts (take i frames) (get_or frames i d) captures so_far)

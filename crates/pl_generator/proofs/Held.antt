@@ -6,14 +6,14 @@ use Rattle.std.specs.FinMap.{get, get-empty, get-insert}
 use Rattle.std.proofs.lemmas.List.{append_cancel_left, append_cancel_right, get_or-take, get_or_default, length-take-le}
 use Rattle.std.proofs.lemmas.Bool.{cases_eq}
 use Rattle.std.proofs.lemmas.Fmt.{decimal_injective}
-use Rattle.pl_lemmas.proofs.Lists.{other_bytes, same_bytes}
+use Rattle.pl_lemmas.proofs.Exports.{other_bytes, same_bytes}
 use Rattle.pl_shelf.specs.Held.{Held, Changes, absent, holds}
 use Rattle.pl_shelf.specs.MemoryShelf.{MemoryState, Place, held_in, held_of, placed, empty_memory}
 use Rattle.pl_generator.specs.Generated.{AreGenerated, AreHeld, capture_name, script_name, topology_name}
 use Rattle.pl_generator.specs.Hosts.{host_count}
 use Rattle.pl_generator.specs.TopologyText.{topology_text}
 use Rattle.pl_generator.specs.ScriptText.{script_lines, script_text}
-use Rattle.pl_generator.specs.Captures.{AreCaptures, capture_of, capture_text}
+use Rattle.pl_generator.specs.Captures.{AreDrawnCaptures, capture_of, capture_text}
 use Rattle.pl_generator.specs.Drawing.{frames_of, last_number}
 use Rattle.pl_generator.specs.declared.drawing.DrawnFrame.{DrawnFrame}
 
@@ -117,7 +117,7 @@ topology_and_script same =
 module _ (k number frames : ℕ) (start first second last : List ℕ → Held) (captures : List (List ℕ)) (drawn : List DrawnFrame)
     (none : (name : List ℕ) → start name ≡ absent) (topology : Changes start first topology_name (holds (topology_text k)))
     (script : Changes first second script_name (holds (script_text k number frames))) (held : AreHeld second last captures)
-    (are_drawn : drawn ≡ frames_of (host_count k) number frames) (are_captures : AreCaptures (host_count k) drawn captures) where
+    (are_drawn : drawn ≡ frames_of (host_count k) number frames) (are_captures : AreDrawnCaptures (host_count k) drawn captures) where
   capture_held : (host : ℕ) → host < host_count k → last (capture_name host) ≡ holds (capture_text k number frames host)
   unfolding capture_text
   capture_held host within =

@@ -25,7 +25,7 @@ abbrev pub capture_of : ℕ → List DrawnFrame → List ℕ
 capture_of host frames = saved_bytes (map packet_of (filter (is_from host) frames))
 
 -- a capture for each of so many hosts, in order
-pub record AreCaptures (hosts : ℕ) (frames : List DrawnFrame) (captures : List (List ℕ)) : Type 0 where
+pub record AreDrawnCaptures (hosts : ℕ) (frames : List DrawnFrame) (captures : List (List ℕ)) : Type 0 where
   pub count : length captures ≡ hosts
   pub each : (host : ℕ) → host < hosts → slice_index_or captures host [] ≡ capture_of host frames
 

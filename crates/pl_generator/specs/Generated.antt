@@ -36,7 +36,7 @@ pub record AreGenerated (held : List ℕ → Held) (k number frames : ℕ) : Typ
   pub others : (name : List ℕ) → IsOther (host_count k) name → held name ≡ absent
 
 -- nothing was called yet, and no call is to fail
-pub record IsUntouched (shelf : MemoryState) : Type 0 where
+pub record IsNewShelf (shelf : MemoryState) : Type 0 where
   pub failing : shelf.failing ≡ []
   pub calls : shelf.calls ≡ 0
   pub read_faults : shelf.read_faults ≡ 0

@@ -1,7 +1,7 @@
 ghost use Rattle.std.specs.Prelude.{◌≡◌, ◌++◌, IfOk, OnOk, replicate};
 ghost use Rattle.pl_capture.specs.declared.endianness.Endianness.TheVariants.{Little};
 ghost use Rattle.pl_capture.specs.Spelling.{packet_bytes, saved_header};
-ghost use Rattle.pl_generator.specs.Captures.{AreCaptures, frame_bytes, packet_of, with_packet};
+ghost use Rattle.pl_generator.specs.Captures.{AreDrawnCaptures, frame_bytes, packet_of, with_packet};
 
 use crate::drawing::DrawnFrame;
 use crate::hosts::mac_of;
@@ -62,7 +62,7 @@ pub(crate) fn record_frames(
     hosts: u16,
     frames: &[DrawnFrame],
 ) -> Result<Vec<Capture>, Memory>
-    ensures { IfOk result (λ captures. AreCaptures hosts frames.now captures.items) }
+    ensures { IfOk result (λ captures. AreDrawnCaptures hosts frames.now captures.items) }
 {
     let mut captures = empty_captures(alloc, hosts)?;
     for frame in frames {

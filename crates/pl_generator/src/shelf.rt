@@ -2,7 +2,7 @@ ghost use Rattle.std.specs.Prelude.{◌≡◌, ◌≤◌, IfOk, OnOk};
 ghost use Rattle.pl_shelf.specs.Held.{Changes, holds};
 ghost use Rattle.pl_shelf.specs.MemoryShelf.{held_in};
 ghost use Rattle.pl_wiring.specs.Labels.{IsArity};
-ghost use Rattle.pl_generator.specs.Generated.{AreGenerated, AreHeld, IsUntouched, capture_name};
+ghost use Rattle.pl_generator.specs.Generated.{AreGenerated, AreHeld, IsNewShelf, capture_name};
 
 use crate::captures::{Capture, record_frames};
 use crate::drawing::draw_frames;
@@ -24,7 +24,7 @@ pub fn generate(alloc: Global, k: u8, number: u64, frames: u32) -> Result<Memory
     requires some { 1 ≤ frames }
     requires most { frames ≤ 100000 }
     ensures generated { IfOk result (λ shelf. AreGenerated (held_in shelf.places) k number frames) }
-    ensures untouched { IfOk result IsUntouched }
+    ensures untouched { IfOk result IsNewShelf }
 {
     let hosts = host_count(k);
     let drawing = draw_frames(alloc, hosts, number, frames)?;
@@ -41,7 +41,7 @@ pub fn generate(alloc: Global, k: u8, number: u64, frames: u32) -> Result<Memory
 // The shelf then holds the captures, each under the name of its host.
 fn hold_captures(alloc: Global, shelf: &mut MemoryShelf, captures: &[Capture]) -> Result<(), Memory>
     ensures held { OnOk result (AreHeld (held_in shelf.old.places) (held_in shelf.new.places) captures.now) }
-    ensures untouched { OnOk result (IsUntouched shelf.old → IsUntouched shelf.new) }
+    ensures untouched { OnOk result (IsNewShelf shelf.old → IsNewShelf shelf.new) }
 {
     for (host, capture) in captures.iter().enumerate() {
         hold_capture(alloc, shelf, host, capture)?;
@@ -58,7 +58,7 @@ fn hold_capture(
 ) -> Result<(), Memory>
     ensures held { OnOk result (Changes (held_in shelf.old.places) (held_in shelf.new.places)
         (capture_name host) (holds capture.now)) }
-    ensures untouched { OnOk result (IsUntouched shelf.old → IsUntouched shelf.new) }
+    ensures untouched { OnOk result (IsNewShelf shelf.old → IsNewShelf shelf.new) }
 {
     let name = format!(in alloc; "captures/h{host}.pcap")?;
     shelf.hold(&name, capture.bytes())

@@ -4,9 +4,9 @@ use Rattle.std.specs.List.{filter}
 use Rattle.std.proofs.Math.Dec.{eqb-suc-zero}
 use Rattle.std.proofs.lemmas.Bool.{false≢true}
 use Rattle.pl_frame.specs.declared.address.SwitchId.{SwitchId}
-use Rattle.pl_logic.specs.declared.messages.TreePart.{TreePart}
-use Rattle.pl_logic.specs.ManagerViews.{Members, Told}
-use Rattle.pl_logic.specs.Trees.{core_for, core_of, needed_edges, tree_part}
+use Rattle.pl_node.specs.declared.messages.TreePart.{TreePart}
+use Rattle.pl_node.specs.ManagerViews.{Members, Told}
+use Rattle.pl_node.specs.Trees.{core_for, core_of, needed_edges, tree_part}
 use Rattle.pl_manager_rule.specs.ManagerRule.{same_part}
 use Rattle.pl_groups.proofs.Branches.{no_core_no_part}
 

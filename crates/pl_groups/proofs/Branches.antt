@@ -10,16 +10,14 @@ use Rattle.pl_frame.specs.declared.address.SwitchId.{SwitchId}
 use Rattle.pl_layouts.specs.declared.place.Place.{Place}
 use Rattle.pl_layouts.specs.Equality.{same_switch}
 use Rattle.pl_layouts.specs.Placement.{is_known, nowhere}
-use Rattle.pl_layouts.proofs.Sameness.{switch_itself}
-use Rattle.pl_logic.specs.declared.messages.TreePart.{TreePart}
-use Rattle.pl_logic.specs.ManagerViews.{Members, Told, alive_at_level, edge_at, has_level, id_cmp, is_alive, neighbours, place_of, switches, tellers, value_at}
-use Rattle.pl_logic.specs.Trees.{aggregation_part, best_cores, core_for, core_of, core_part, cores, edge_part, largest, needed_edges, part_under, reach, serves, tree_part}
-use Rattle.pl_logic.proofs.Among.{IsAmong, among_filter, among_in_order, among_left, any_among, got_among}
-use Rattle.pl_manager_rule.proofs.Avoided.{id_exact, same_is}
-use Rattle.pl_manager_rule.proofs.Registered.{switch_turned}
-use Rattle.pl_manager_rule.proofs.Tables.{found_key}
+use Rattle.pl_layouts.proofs.Exports.{switch_itself}
+use Rattle.pl_node.specs.declared.messages.TreePart.{TreePart}
+use Rattle.pl_node.specs.ManagerViews.{Members, Told, alive_at_level, edge_at, has_level, id_cmp, is_alive, neighbours, place_of, switches, tellers, value_at}
+use Rattle.pl_node.specs.Trees.{aggregation_part, best_cores, core_for, core_of, core_part, cores, edge_part, largest, needed_edges, part_under, reach, serves, tree_part}
+use Rattle.pl_node.proofs.Exports.{among_filter, among_in_order, among_left, any_among, got_among, IsAmong}
+use Rattle.pl_manager_rule.proofs.Exports.{found_key, id_exact, same_is, switch_turned}
 use Rattle.pl_groups.specs.Serving.{AreServed, many_served, part_of_told}
-use Rattle.pl_groups.proofs.Reached.{is_joined}
+use Rattle.pl_groups.proofs.Reached.{is_adjacent}
 use Rattle.pl_groups.proofs.Edges.{Served, any_more}
 use Rattle.pl_groups.proofs.Rows.{many_is}
 
@@ -54,24 +52,24 @@ any_kept p (x ∷ xs) = by (any_kept p xs) (p x)
     by rest false = rest
 
 -- ---- the parts
-pub joined_at_level : (told : Told) (s : SwitchId) → alive_at_level told s 1 ≡ filter (is_joined told s) (neighbours told s)
-joined_at_level told s = filter_twice (is_alive told s) (λ u. has_level told u 1) (neighbours told s)
+pub adjacent_at_level : (told : Told) (s : SwitchId) → alive_at_level told s 1 ≡ filter (is_adjacent told s) (neighbours told s)
+adjacent_at_level told s = filter_twice (is_alive told s) (λ u. has_level told u 1) (neighbours told s)
 
 pub core_down : (told : Told) (needed : List SwitchId) (served : Served) (core : SwitchId) → AreServed told needed served →
-    filter (λ a. is_joined told core a && not (many_served (value_at id_cmp served a) == 0)) (neighbours told core)
+    filter (λ a. is_adjacent told core a && not (many_served (value_at id_cmp served a) == 0)) (neighbours told core)
     ≡ filter (serves told needed) (alive_at_level told core 1)
 core_down told needed served core all =
-    (λ i. filter (λ a. is_joined told core a && serving a i) (neighbours told core))
-    ∙ sym (filter_twice (is_joined told core) (serves told needed) (neighbours told core))
-    ∙ ap (filter (serves told needed)) (sym (joined_at_level told core))
+    (λ i. filter (λ a. is_adjacent told core a && serving a i) (neighbours told core))
+    ∙ sym (filter_twice (is_adjacent told core) (serves told needed) (neighbours told core))
+    ∙ ap (filter (serves told needed)) (sym (adjacent_at_level told core))
   where
     serving : (a : SwitchId) → not (many_served (value_at id_cmp served a) == 0) ≡ serves told needed a
     serving a = ap (λ n. not (n == 0)) (many_is told needed served a all) ∙ sym (any_kept (is_alive told a) needed)
 
 pub up_found : (told : Told) (s : SwitchId) (test : SwitchId → Bool) →
-    find (λ a. is_joined told s a && test a) (neighbours told s) ≡ find test (alive_at_level told s 1)
+    find (λ a. is_adjacent told s a && test a) (neighbours told s) ≡ find test (alive_at_level told s 1)
 up_found told s test =
-    sym (find_filtered (is_joined told s) test (neighbours told s)) ∙ ap (find test) (sym (joined_at_level told s))
+    sym (find_filtered (is_adjacent told s) test (neighbours told s)) ∙ ap (find test) (sym (adjacent_at_level told s))
 
 -- ---- a loop that looks for the first
 found_here : {X : Type 0} (p : X → Bool) (xs : List X) (x : X) (ys : List X) → find p xs ≡ None → p x ≡ true → find p (xs ++ x ∷ ys) ≡ Some x
@@ -204,14 +202,14 @@ part_is told members group needed core part s is found made =
     ∙ parts_are told members group s core (core_is told members group needed core is found)
 
 -- ---- whether a neighbour above an edge switch leads up, tested in another order
-pub up_near : (joined in_pod linked : Bool) → (linked && in_pod) ≡ true → joined ≡ (joined && (in_pod && linked))
+pub up_near : (adjacent in_pod linked : Bool) → (linked && in_pod) ≡ true → adjacent ≡ (adjacent && (in_pod && linked))
 up_near false in_pod linked h = refl
 up_near true true true h = refl
 up_near true true false h = absurd (false≢true h)
 up_near true false true h = absurd (false≢true h)
 up_near true false false h = absurd (false≢true h)
 
-pub up_far : (joined in_pod linked : Bool) → (linked && in_pod) ≡ false → false ≡ (joined && (in_pod && linked))
+pub up_far : (adjacent in_pod linked : Bool) → (linked && in_pod) ≡ false → false ≡ (adjacent && (in_pod && linked))
 up_far false in_pod linked h = refl
 up_far true true true h = absurd (false≢true (sym h))
 up_far true true false h = refl

@@ -9,13 +9,12 @@ use Rattle.std.proofs.lemmas.Bool.{and_parts, false≢true}
 use Rattle.std.proofs.lemmas.Cmp.{tied_itself}
 use Rattle.std.proofs.lemmas.List.{set-set}
 use Rattle.std.proofs.lemmas.List.Folds.{list_any-append}
-use Rattle.pl_lemmas.proofs.Bools.{or_false}
+use Rattle.pl_lemmas.proofs.Exports.{or_false}
 use Rattle.pl_frame.specs.declared.address.SwitchId.{SwitchId}
 use Rattle.pl_layouts.specs.Equality.{same_switch}
-use Rattle.pl_logic.specs.ManagerViews.{Told, alive_neighbours, id_cmp, is_alive, is_told_usable, neighbours, value_at}
-use Rattle.pl_logic.proofs.Among.{IsAmong, among_filter, among_filtered, any_among, id_total, member_passes}
-use Rattle.pl_manager_rule.proofs.Avoided.{id_exact, same_is}
-use Rattle.pl_manager_rule.proofs.Kept.{near_usable}
+use Rattle.pl_node.specs.ManagerViews.{Told, alive_neighbours, id_cmp, is_alive, is_told_usable, neighbours, value_at}
+use Rattle.pl_node.proofs.Exports.{among_filter, among_filtered, any_among, id_total, IsAmong, member_passes}
+use Rattle.pl_manager_rule.proofs.Exports.{id_exact, near_usable, same_is}
 use Rattle.pl_groups.specs.Serving.{row_in}
 
 abbrev pub Served : Type 0

@@ -7,11 +7,11 @@ use Rattle.std.proofs.lemmas.Cmp.{nat_cmp_total}
 use Rattle.std.proofs.lemmas.List.Kept.{IsStrictlySortedBy-filter}
 use Rattle.std.proofs.lemmas.Map.Lookups.{exact_unsigned}
 use Rattle.pl_layouts.specs.Memberships.{flood}
-use Rattle.pl_logic.specs.ManagerFacts.{groups}
-use Rattle.pl_logic.specs.ManagerViews.{Members}
-use Rattle.pl_logic.proofs.Among.{among_filter, among_filtered, among_in_order}
-use Rattle.pl_manager_rule.proofs.Avoided.{groups_rise}
-use Rattle.pl_reports.proofs.Ordering.{same_rising}
+use Rattle.pl_node.specs.ManagerFacts.{groups}
+use Rattle.pl_node.specs.ManagerViews.{Members}
+use Rattle.pl_node.proofs.Exports.{among_filter, among_filtered, among_in_order}
+use Rattle.pl_manager_rule.proofs.Exports.{groups_rise}
+use Rattle.pl_reports.proofs.Exports.{same_rising}
 
 pub only_floods : (members : Members) → filter (λ g. g == flood) (groups members) ≡ groups []
 unfolding IsStrictlySortedBy

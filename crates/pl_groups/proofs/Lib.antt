@@ -6,3 +6,4 @@ pub mod Branches
 pub mod Bare
 pub mod Rostered
 pub mod Forgotten
+pub mod Exports

@@ -3,15 +3,15 @@ use Rattle.std.proofs.Common.{◌≡◌, ℕ, length, ◌+◌, ◌++◌, take, �
 use Rattle.std.specs.List.{filter, list_any}
 use Rattle.std.proofs.lemmas.List.{map-append}
 use Rattle.pl_frame.specs.declared.address.SwitchId.{SwitchId}
-use Rattle.pl_logic.specs.ManagerViews.{Told, alive_neighbours, has_level, is_alive}
-use Rattle.pl_logic.specs.Trees.{best_cores, core_for, cores, largest, reach, turn}
+use Rattle.pl_node.specs.ManagerViews.{Told, alive_neighbours, has_level, is_alive}
+use Rattle.pl_node.specs.Trees.{best_cores, core_for, cores, largest, reach, turn}
 use Rattle.pl_groups.specs.Reaching.{reach_at}
 use Rattle.pl_groups.specs.declared.cores.CoreReach.{CoreReach}
-use Rattle.pl_reports.proofs.Sorting.{filter_more}
+use Rattle.pl_reports.proofs.Exports.{filter_more}
 
 -- an aggregation switch over an alive link
-abbrev pub is_joined : Told → SwitchId → SwitchId → Bool
-is_joined told s a = is_alive told s a && has_level told a 1
+abbrev pub is_adjacent : Told → SwitchId → SwitchId → Bool
+is_adjacent told s a = is_alive told s a && has_level told a 1
 
 -- core switches with the same links reach the same
 pub reach_alike : (told : Told) (needed : List SwitchId) (a b : SwitchId) → alive_neighbours told a ≡ alive_neighbours told b →

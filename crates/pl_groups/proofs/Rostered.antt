@@ -8,15 +8,12 @@ use Rattle.std.proofs.lemmas.Cmp.{nat_cmp_total}
 use Rattle.std.proofs.lemmas.Map.Lookups.{exact_unsigned}
 use Rattle.pl_frame.specs.declared.address.SwitchId.{SwitchId}
 use Rattle.pl_layouts.specs.Memberships.{flood}
-use Rattle.pl_logic.specs.ManagerFacts.{groups}
-use Rattle.pl_logic.specs.ManagerViews.{Members, members_cmp, with_members}
-use Rattle.pl_logic.proofs.Among.{IsAmong, among_map, among_mapped}
-use Rattle.pl_manager_rule.proofs.Kept.{members_exact, members_total}
-use Rattle.pl_manager_rule.proofs.Tables.{among_put}
-use Rattle.pl_reports.proofs.Ordering.{same_order}
-use Rattle.pl_reports.proofs.Telling.{among_put_any}
+use Rattle.pl_node.specs.ManagerFacts.{groups}
+use Rattle.pl_node.specs.ManagerViews.{Members, members_cmp, with_members}
+use Rattle.pl_node.proofs.Exports.{among_map, among_mapped, IsAmong}
+use Rattle.pl_manager_rule.proofs.Exports.{among_put, members_exact, members_total}
+use Rattle.pl_reports.proofs.Exports.{all_in_order, among_put_any, put_all, put_in, same_order}
 use Rattle.pl_groups.specs.Rostering.{with_member}
-use Rattle.pl_reports.proofs.Sorting.{all_in_order, put_all, put_in}
 
 -- ---- the edge switches with members
 fold_members : (group : ℕ) (acc : List SwitchId) (ms : Members) →

@@ -4,12 +4,12 @@ use Rattle.std.specs.Prelude.{unwrap_or}
 use Rattle.std.specs.List.{filter, list_any}
 use Rattle.std.proofs.lemmas.List.{nil_from_length}
 use Rattle.std.proofs.lemmas.List.Sums.{sum_by-cons}
-use Rattle.pl_lemmas.proofs.Bools.{or_false}
+use Rattle.pl_lemmas.proofs.Exports.{or_false}
 use Rattle.pl_bits.specs.Rows.{either_row, trues}
-use Rattle.pl_bits.proofs.Either.{either_of}
+use Rattle.pl_bits.proofs.Exports.{either_of}
 use Rattle.pl_frame.specs.declared.address.SwitchId.{SwitchId}
-use Rattle.pl_logic.specs.ManagerViews.{Told, alive_neighbours, has_level, id_cmp, is_alive, value_at}
-use Rattle.pl_logic.specs.Trees.{core_reaches}
+use Rattle.pl_node.specs.ManagerViews.{Told, alive_neighbours, has_level, id_cmp, is_alive, value_at}
+use Rattle.pl_node.specs.Trees.{core_reaches}
 use Rattle.pl_groups.specs.Serving.{AreServed, many_served}
 use Rattle.pl_groups.specs.Reaching.{reached_with, with_row}
 use Rattle.pl_groups.proofs.Edges.{Served, any_more}

@@ -3,8 +3,8 @@ use Rattle.std.specs.Prelude.{ℕ, Option, None, Some}
 use Rattle.std.specs.Option.{option_and_then}
 use Rattle.std.specs.Ordering.{nat_cmp}
 use Rattle.pl_frame.specs.declared.address.SwitchId.{SwitchId}
-use Rattle.pl_logic.specs.declared.messages.TreePart.{TreePart}
-use Rattle.pl_logic.specs.ManagerViews.{Members, id_cmp, value_at}
+use Rattle.pl_node.specs.declared.messages.TreePart.{TreePart}
+use Rattle.pl_node.specs.ManagerViews.{Members, id_cmp, value_at}
 use Rattle.pl_groups.specs.declared.groups.Groups.{Groups}
 use Rattle.pl_groups.specs.declared.tree.Tree.{Tree}
 

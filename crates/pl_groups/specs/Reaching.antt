@@ -2,8 +2,8 @@
 use Rattle.std.specs.Prelude.{◌≡◌, Bool, if◌then◌else◌, List, Option, None, Some, ⊤}
 use Rattle.pl_bits.specs.Rows.{either_row}
 use Rattle.pl_frame.specs.declared.address.SwitchId.{SwitchId}
-use Rattle.pl_logic.specs.ManagerViews.{Told, has_level, id_cmp, value_at}
-use Rattle.pl_logic.specs.Trees.{reach}
+use Rattle.pl_node.specs.ManagerViews.{Told, has_level, id_cmp, value_at}
+use Rattle.pl_node.specs.Trees.{reach}
 use Rattle.pl_groups.specs.declared.cores.CoreReach.{CoreReach}
 
 -- a row, with that of a switch that has one

@@ -2,7 +2,7 @@
 use Rattle.std.specs.Prelude.{ℕ, ◌==◌, ◌&&◌, Bool, List, if◌then◌else◌}
 use Rattle.std.specs.BTreeSet.{insert_key}
 use Rattle.pl_frame.specs.declared.address.SwitchId.{SwitchId}
-use Rattle.pl_logic.specs.ManagerViews.{id_cmp}
+use Rattle.pl_node.specs.ManagerViews.{id_cmp}
 
 -- one more word on members: is the edge switch one of those?
 abbrev pub with_member : ℕ → List SwitchId → (SwitchId × ℕ) × Bool → List SwitchId

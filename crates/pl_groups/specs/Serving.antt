@@ -4,9 +4,9 @@ use Rattle.std.specs.List.{list_any}
 use Rattle.pl_bits.specs.Rows.{trues}
 use Rattle.pl_frame.specs.declared.address.SwitchId.{SwitchId}
 use Rattle.pl_layouts.specs.Equality.{same_switch}
-use Rattle.pl_logic.specs.declared.messages.TreePart.{TreePart}
-use Rattle.pl_logic.specs.ManagerViews.{Told, id_cmp, is_alive, switches, value_at}
-use Rattle.pl_logic.specs.Trees.{part_under}
+use Rattle.pl_node.specs.declared.messages.TreePart.{TreePart}
+use Rattle.pl_node.specs.ManagerViews.{Told, id_cmp, is_alive, switches, value_at}
+use Rattle.pl_node.specs.Trees.{part_under}
 
 -- the row of a switch in a table; a switch without one serves none
 abbrev pub row_in : List (SwitchId × List Bool) → List SwitchId → SwitchId → List Bool

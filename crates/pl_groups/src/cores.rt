@@ -1,8 +1,8 @@
 ghost use Rattle.std.specs.Prelude.{◌≡◌, ◌==◌, [], ◌∷◌, ◌++◌, if◌then◌else◌, IfOk, IsTrue, OnOk, filter, map};
 ghost use Rattle.std.specs.Option.{option_copied};
 ghost use Rattle.pl_frame.specs.declared.address.SwitchId.{SwitchId};
-ghost use Rattle.pl_logic.specs.ManagerViews.{alive_neighbours, has_level};
-ghost use Rattle.pl_logic.specs.Trees.{best_cores, core_for, core_reaches, cores, largest, reach, turn};
+ghost use Rattle.pl_node.specs.ManagerViews.{alive_neighbours, has_level};
+ghost use Rattle.pl_node.specs.Trees.{best_cores, core_for, core_reaches, cores, largest, reach, turn};
 ghost use Rattle.pl_groups.specs.Reaching.{IsReachOf, reach_at, reached_with, with_row};
 ghost use Rattle.pl_groups.specs.Serving.{AreServed};
 
@@ -10,7 +10,7 @@ use crate::needs::Served;
 use crate::place_tests::has_level;
 use pl_bits::Row;
 use pl_frame::SwitchId;
-use pl_logic::Memory;
+use pl_node::Memory;
 use pl_reports::Reports;
 use std::alloc::Global;
 

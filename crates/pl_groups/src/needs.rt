@@ -4,12 +4,12 @@ ghost use Rattle.std.specs.BTreeSet.{insert_key};
 ghost use Rattle.std.specs.List.{filter};
 ghost use Rattle.std.specs.List.Sorted.{IsStrictlySortedBy};
 ghost use Rattle.pl_frame.specs.declared.address.SwitchId.{SwitchId};
-ghost use Rattle.pl_logic.specs.ManagerViews.{id_cmp, is_alive, value_at};
+ghost use Rattle.pl_node.specs.ManagerViews.{id_cmp, is_alive, value_at};
 ghost use Rattle.pl_groups.specs.Serving.{AreServed, many_served, row_in};
 
 use pl_bits::Row;
 use pl_frame::SwitchId;
-use pl_logic::{Memory, SwitchList};
+use pl_node::{Memory, SwitchList};
 use pl_reports::Reports;
 use std::alloc::Global;
 use std::collections::BTreeMap;

@@ -4,15 +4,15 @@ ghost use Rattle.std.specs.List.Sorted.{IsStrictlySortedBy};
 ghost use Rattle.std.specs.Option.{option_copied};
 ghost use Rattle.pl_frame.specs.declared.address.SwitchId.{SwitchId};
 ghost use Rattle.pl_layouts.specs.Equality.{same_switch};
-ghost use Rattle.pl_logic.specs.ManagerViews.{alive_at_level, edge_at, has_level, has_pod, id_cmp, is_alive, place_of, value_at};
-ghost use Rattle.pl_logic.specs.Trees.{aggregation_part, core_part, edge_part, part_under};
+ghost use Rattle.pl_node.specs.ManagerViews.{alive_at_level, edge_at, has_level, has_pod, id_cmp, is_alive, place_of, value_at};
+ghost use Rattle.pl_node.specs.Trees.{aggregation_part, core_part, edge_part, part_under};
 ghost use Rattle.pl_manager_rule.specs.ManagerRule.{same_part, same_up};
 ghost use Rattle.pl_groups.specs.Serving.{AreServed, many_served};
 
 use crate::needs::{Served, add_if, edges_of, many_served};
-use crate::place_tests::{has_level, has_pod, is_joined};
+use crate::place_tests::{has_level, has_pod, is_adjacent};
 use pl_frame::SwitchId;
-use pl_logic::{Memory, SwitchList, TreePart};
+use pl_node::{Memory, SwitchList, TreePart};
 use pl_reports::Reports;
 use std::alloc::Global;
 
@@ -62,7 +62,7 @@ fn is_below(reports: &Reports, served: &Served, core: SwitchId, neighbour: Switc
     ensures { result ≡ ((is_alive reports.now core neighbour && has_level reports.now neighbour 1)
         && not (many_served (value_at id_cmp served.now.entries neighbour) == 0)) }
 {
-    is_joined(reports, core, neighbour) && many_served(served, neighbour) != 0
+    is_adjacent(reports, core, neighbour) && many_served(served, neighbour) != 0
 }
 
 // An aggregation switch sends up to the core switch, and down to the edge switches that it serves.
@@ -122,7 +122,7 @@ fn leads_up(
         && (has_pod reports.now neighbour pod && is_alive reports.now neighbour core)) }
 {
     if is_near(reports, core, neighbour, pod) {
-        is_joined(reports, switch, neighbour)
+        is_adjacent(reports, switch, neighbour)
     } else {
         false
     }

@@ -1,5 +1,5 @@
 ghost use Rattle.std.specs.Prelude.{◌≡◌, ◌&&◌};
-ghost use Rattle.pl_logic.specs.ManagerViews.{has_level, has_pod, is_alive};
+ghost use Rattle.pl_node.specs.ManagerViews.{has_level, has_pod, is_alive};
 
 use pl_frame::SwitchId;
 use pl_reports::Reports;
@@ -19,7 +19,7 @@ pub(crate) fn has_pod(reports: &Reports, switch: SwitchId, pod: u16) -> bool
 }
 
 /// Whether a neighbour of a switch is an aggregation switch over an alive link.
-pub(crate) fn is_joined(reports: &Reports, switch: SwitchId, neighbour: SwitchId) -> bool
+pub(crate) fn is_adjacent(reports: &Reports, switch: SwitchId, neighbour: SwitchId) -> bool
     ensures { result ≡ (is_alive reports.now switch neighbour && has_level reports.now neighbour 1) }
 {
     reports.is_alive(switch, neighbour) && has_level(reports, neighbour, 1)

@@ -4,12 +4,12 @@ ghost use Rattle.std.specs.BTreeSet.{insert_key};
 ghost use Rattle.std.specs.List.Sorted.{IsStrictlySortedBy};
 ghost use Rattle.std.specs.Ordering.{nat_cmp};
 ghost use Rattle.std.specs.Vec.{vec_capacity, vec_len};
-ghost use Rattle.pl_logic.specs.ManagerFacts.{groups};
-ghost use Rattle.pl_logic.specs.ManagerViews.{members_cmp, with_members};
+ghost use Rattle.pl_node.specs.ManagerFacts.{groups};
+ghost use Rattle.pl_node.specs.ManagerViews.{members_cmp, with_members};
 
 use pl_frame::SwitchId;
-use pl_logic::{Memory, SwitchList};
 use pl_multicast::FLOOD;
+use pl_node::{Memory, SwitchList};
 use std::alloc::Global;
 use std::collections::BTreeMap;
 use std::marker::Model;
@@ -23,8 +23,8 @@ pub(crate) struct Roster {
 
 impl Model for Roster {
     ghost use Rattle.std.specs.Prelude.{◌≡◌};
-    ghost use Rattle.pl_logic.specs.ManagerFacts.{groups};
-    ghost use Rattle.pl_logic.specs.ManagerViews.{Members};
+    ghost use Rattle.pl_node.specs.ManagerFacts.{groups};
+    ghost use Rattle.pl_node.specs.ManagerViews.{Members};
 
     ghost Value = { Members };
 

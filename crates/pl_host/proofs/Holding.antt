@@ -12,9 +12,9 @@ use Rattle.std.proofs.lemmas.Map.Keys.{sorted_tail}
 use Rattle.pl_frame.specs.declared.address.Ip4.{Ip4}
 use Rattle.std.proofs.lemmas.Bool.{and_from, and_parts}
 use Rattle.pl_arp.specs.Reception.{Table, hardware_of, same_ip}
-use Rattle.pl_logic.specs.HostViews.{Held, held_for, ip_cmp, with_held}
-use Rattle.pl_logic.proofs.Addresses.{is_eq-nat_cmp}
-use Rattle.pl_host.specs.Waiting.{AreRising, are_unknown}
+use Rattle.pl_node.specs.HostViews.{HeldFrames, held_for, ip_cmp, with_held}
+use Rattle.pl_node.proofs.Exports.{is_eq-nat_cmp}
+use Rattle.pl_host.specs.Waiting.{AreAddressesRising, are_unknown}
 
 pub ip_cmp_total : IsTotalOrder ip_cmp
 ip_cmp_total = record {
@@ -30,7 +30,7 @@ lookup-at ip (e ∷ es) =
     ∙ ap (λ o. cond (same_ip ip e.0) (Some e.1) o) (lookup-at ip es)
 
 -- the value of an address that is there is replaced
-insert_found : {X : Type 0} (es : List (Ip4 × X)) (ip : Ip4) (old new : X) → AreRising (keys_of es) → lookup (is_at (ip_cmp ip)) es ≡ Some old →
+insert_found : {X : Type 0} (es : List (Ip4 × X)) (ip : Ip4) (old new : X) → AreAddressesRising (keys_of es) → lookup (is_at (ip_cmp ip)) es ≡ Some old →
     insert_entry ip_cmp es ip new ≡ set_value (is_at (ip_cmp ip)) es new
 insert_found [] ip old new rising found = absurd (cc)
 insert_found {X} (e ∷ es) ip old new rising found =
@@ -45,11 +45,11 @@ insert_found {X} (e ∷ es) ip old new rising found =
       | Greater ↦ λ h f. ap (λ r. e ∷ r) (insert_found es ip old new (sorted_tail ip_cmp e.0 (keys_of es) rising) f)
     ] refl found
 
-pub held_for-found : (held : Held) (ip : Ip4) (frames : List (List ℕ)) → Some frames ≡ lookup (is_at (ip_cmp ip)) held → held_for held ip ≡ frames
+pub held_for-found : (held : HeldFrames) (ip : Ip4) (frames : List (List ℕ)) → Some frames ≡ lookup (is_at (ip_cmp ip)) held → held_for held ip ≡ frames
 held_for-found held ip frames found = ap (λ o. unwrap_or o []) (sym (found ∙ lookup-at ip held))
 
 -- a frame behind those of its address
-pub held_behind : (held : Held) (ip : Ip4) (frames : List (List ℕ)) (frame : List ℕ) → AreRising (keys_of held) →
+pub held_behind : (held : HeldFrames) (ip : Ip4) (frames : List (List ℕ)) (frame : List ℕ) → AreAddressesRising (keys_of held) →
     Some frames ≡ lookup (is_at (ip_cmp ip)) held →
     set_value (is_at (ip_cmp ip)) held (frames ++ frame ∷ []) ≡ with_held held ip frame
 held_behind held ip frames frame rising found =
@@ -57,14 +57,14 @@ held_behind held ip frames frame rising found =
     ∙ insert_found held ip frames (frames ++ frame ∷ []) rising (sym found))
 
 -- one frame more in all
-pub count_behind : (held : Held) (ip : Ip4) (frames : List (List ℕ)) (frame : List ℕ) → Some frames ≡ lookup (is_at (ip_cmp ip)) held →
+pub count_behind : (held : HeldFrames) (ip : Ip4) (frames : List (List ℕ)) (frame : List ℕ) → Some frames ≡ lookup (is_at (ip_cmp ip)) held →
     sum_by length (values_of (set_value (is_at (ip_cmp ip)) held (frames ++ frame ∷ []))) ≡ sum_by length (values_of held) + 1
 count_behind held ip frames frame found =
     let changed = sum_by-set_value length (is_at (ip_cmp ip)) held frames (frames ++ frame ∷ []) (sym found) in
     let longer = length-append frames (frame ∷ []) in
     omega (arith, changed, longer)
 
-pub count_first : (held : Held) (ip : Ip4) (frame : List ℕ) → AreRising (keys_of held) → None ≡ lookup (is_at (ip_cmp ip)) held →
+pub count_first : (held : HeldFrames) (ip : Ip4) (frame : List ℕ) → AreAddressesRising (keys_of held) → None ≡ lookup (is_at (ip_cmp ip)) held →
     sum_by length (values_of (insert_entry ip_cmp held ip (frame ∷ []))) ≡ sum_by length (values_of held) + 1
 count_first held ip frame rising none =
     let changed = sum_by-insert_entry length ip_cmp_total held ip (frame ∷ []) rising in
@@ -72,15 +72,15 @@ count_first held ip frame rising none =
     omega (arith, changed, nothing)
 
 -- the number of frames, by the entries
-fold-entries : (n : ℕ) (held : Held) → fold (λ a entry. a + length entry.1) n held ≡ fold (λ a frames. a + length frames) n (values_of held)
+fold-entries : (n : ℕ) (held : HeldFrames) → fold (λ a entry. a + length entry.1) n held ≡ fold (λ a frames. a + length frames) n (values_of held)
 fold-entries n [] = refl
 fold-entries n (e ∷ held) = fold-entries (n + length e.1) held
 
-pub count-entries : (held : Held) → sum_by (λ entry. length entry.1) held ≡ sum_by length (values_of held)
+pub count-entries : (held : HeldFrames) → sum_by (λ entry. length entry.1) held ≡ sum_by length (values_of held)
 count-entries held = fold-entries 0 held
 
 -- one more frame for an address that is not known
-unknown-insert : (cache : Table) (held : Held) (ip : Ip4) (frames : List (List ℕ)) → is_none (hardware_of cache ip) ≡ true → are_unknown cache held ≡ true →
+unknown-insert : (cache : Table) (held : HeldFrames) (ip : Ip4) (frames : List (List ℕ)) → is_none (hardware_of cache ip) ≡ true → are_unknown cache held ≡ true →
     are_unknown cache (insert_entry ip_cmp held ip frames) ≡ true
 unknown-insert cache [] ip frames none all = and_from (is_none (hardware_of cache ip)) true none refl
 unknown-insert cache (e ∷ held) ip frames none all =
@@ -93,7 +93,7 @@ unknown-insert cache (e ∷ held) ip frames none all =
           (unknown-insert cache held ip frames none parts.1)
     ]
 
-pub unknown-with_held : (cache : Table) (held : Held) (ip : Ip4) (frame : List ℕ) → hardware_of cache ip ≡ None → are_unknown cache held ≡ true →
+pub unknown-with_held : (cache : Table) (held : HeldFrames) (ip : Ip4) (frame : List ℕ) → hardware_of cache ip ≡ None → are_unknown cache held ≡ true →
     are_unknown cache (with_held held ip frame) ≡ true
 unknown-with_held cache held ip frame none all = unknown-insert cache held ip (held_for held ip ++ frame ∷ []) (ap is_none none) all
 

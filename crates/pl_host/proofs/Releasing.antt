@@ -15,11 +15,11 @@ use Rattle.pl_frame.specs.declared.address.Ip4.{Ip4}
 use Rattle.pl_arp.specs.declared.packet.Arp.{Arp}
 use Rattle.pl_arp.specs.declared.cache.Me.{Me}
 use Rattle.pl_arp.specs.Reception.{Table, hardware_of, is_target, same_ip, table_after, with_pair}
-use Rattle.pl_arp.proofs.Tables.{hardware_of-others, hardware_of-with_pair}
-use Rattle.pl_logic.specs.HostViews.{Held, held_for, ip_cmp}
-use Rattle.pl_logic.proofs.Addresses.{is_eq-ip_cmp}
+use Rattle.pl_arp.proofs.Exports.{hardware_of-others, hardware_of-with_pair}
+use Rattle.pl_node.specs.HostViews.{HeldFrames, held_for, ip_cmp}
+use Rattle.pl_node.proofs.Exports.{is_eq-ip_cmp}
 use Rattle.pl_host_rule.specs.HostRule.{released, released_by, still_held}
-use Rattle.pl_host.specs.Waiting.{AreRising, are_unknown}
+use Rattle.pl_host.specs.Waiting.{AreAddressesRising, are_unknown}
 
 -- a packet of one address says nothing of another
 others_after : (table : Table) (me : Me) (arp : Arp) (other : Ip4) → same_ip arp.spa other ≡ false →
@@ -56,19 +56,19 @@ none_true None h = refl
 none_true (Some mac) h = absurd (cc)
 
 -- what waits where nothing is known of it
-pub still_held-unknown : (cache : Table) (held : Held) → are_unknown cache held ≡ true → still_held cache held ≡ held
+pub still_held-unknown : (cache : Table) (held : HeldFrames) → are_unknown cache held ≡ true → still_held cache held ≡ held
 still_held-unknown cache [] all = refl
 still_held-unknown cache (e ∷ held) all =
     let parts = and_parts (is_none (hardware_of cache e.0)) (are_unknown cache held) all in
     ap (λ b. cond b (e ∷ still_held cache held) (still_held cache held)) parts.0 ∙ ap (λ r. e ∷ r) (still_held-unknown cache held parts.1)
 
-pub released_by-unknown : (cache : Table) (held : Held) → are_unknown cache held ≡ true → released_by cache held ≡ []
+pub released_by-unknown : (cache : Table) (held : HeldFrames) → are_unknown cache held ≡ true → released_by cache held ≡ []
 released_by-unknown cache [] all = refl
 released_by-unknown cache (e ∷ held) all =
     let parts = and_parts (is_none (hardware_of cache e.0)) (are_unknown cache held) all in
     ap (λ o. released e.1 o ++ released_by cache held) (none_true (hardware_of cache e.0) parts.0) ∙ released_by-unknown cache held parts.1
 
-pub unknown-still_held : (cache : Table) (held : Held) → are_unknown cache (still_held cache held) ≡ true
+pub unknown-still_held : (cache : Table) (held : HeldFrames) → are_unknown cache (still_held cache held) ≡ true
 unknown-still_held cache [] = refl
 unknown-still_held cache (e ∷ held) =
     let rest = unknown-still_held cache held in
@@ -77,7 +77,7 @@ unknown-still_held cache (e ∷ held) =
     [ true ↦ λ h. and_from (is_none (hardware_of cache e.0)) (are_unknown cache (still_held cache held)) h rest | false ↦ λ h. rest ] refl
 
 -- what is known of one address leaves the others unknown
-unknown_past : (before after : Table) (ip : Ip4) (held : Held) → ((other : Ip4) → same_ip ip other ≡ false → hardware_of after other ≡ hardware_of before other) →
+unknown_past : (before after : Table) (ip : Ip4) (held : HeldFrames) → ((other : Ip4) → same_ip ip other ≡ false → hardware_of after other ≡ hardware_of before other) →
     NonePasses (is_at (ip_cmp ip)) held → are_unknown before held ≡ true → are_unknown after held ≡ true
 unknown_past before after ip [] others away all = refl
 unknown_past before after ip (e ∷ held) others away all =
@@ -87,7 +87,7 @@ unknown_past before after ip (e ∷ held) others away all =
     (unknown_past before after ip held others away.1 parts.1)
 
 -- so it is where nothing is known of that one either
-unknown_yet : (before after : Table) (ip : Ip4) (held : Held) → ((other : Ip4) → same_ip ip other ≡ false → hardware_of after other ≡ hardware_of before other) →
+unknown_yet : (before after : Table) (ip : Ip4) (held : HeldFrames) → ((other : Ip4) → same_ip ip other ≡ false → hardware_of after other ≡ hardware_of before other) →
     hardware_of after ip ≡ None → are_unknown before held ≡ true → are_unknown after held ≡ true
 unknown_yet before after ip [] others none all = refl
 unknown_yet before after ip (e ∷ held) others none all =
@@ -99,13 +99,13 @@ unknown_yet before after ip (e ∷ held) others none all =
     ] refl in
     and_from (is_none (hardware_of after e.0)) (are_unknown after held) here (unknown_yet before after ip held others none parts.1)
 
-none_behind : (ip : Ip4) (e : Ip4 × List (List ℕ)) (held : Held) → AreRising (keys_of (e ∷ held)) → same_ip ip e.0 ≡ true → NonePasses (is_at (ip_cmp ip)) held
+none_behind : (ip : Ip4) (e : Ip4 × List (List ℕ)) (held : HeldFrames) → AreAddressesRising (keys_of (e ∷ held)) → same_ip ip e.0 ≡ true → NonePasses (is_at (ip_cmp ip)) held
 none_behind ip e held rising same =
     none_past_head (eq_by_cmp_equiv ip_cmp_total) ip e held (IsDistinct-from_sorted ip_cmp (keys_of (e ∷ held)) rising) (is_eq-ip_cmp ip e.0 ∙ same)
 
-still_held_after : (before after : Table) (ip : Ip4) (mac : Mac) (held : Held) →
+still_held_after : (before after : Table) (ip : Ip4) (mac : Mac) (held : HeldFrames) →
     ((other : Ip4) → same_ip ip other ≡ false → hardware_of after other ≡ hardware_of before other) →
-    hardware_of after ip ≡ Some mac → AreRising (keys_of held) → are_unknown before held ≡ true → still_held after held ≡ remove_entry (same_ip ip) held
+    hardware_of after ip ≡ Some mac → AreAddressesRising (keys_of held) → are_unknown before held ≡ true → still_held after held ≡ remove_entry (same_ip ip) held
 still_held_after before after ip mac [] others known rising all = refl
 still_held_after before after ip mac (e ∷ held) others known rising all =
     let parts = and_parts (is_none (hardware_of before e.0)) (are_unknown before held) all in
@@ -120,9 +120,9 @@ still_held_after before after ip mac (e ∷ held) others known rising all =
           ∙ ap (λ r. e ∷ r) (still_held_after before after ip mac held others known (sorted_tail ip_cmp e.0 (keys_of held) rising) parts.1)
     ] refl
 
-released_after : (before after : Table) (ip : Ip4) (mac : Mac) (held : Held) →
+released_after : (before after : Table) (ip : Ip4) (mac : Mac) (held : HeldFrames) →
     ((other : Ip4) → same_ip ip other ≡ false → hardware_of after other ≡ hardware_of before other) →
-    hardware_of after ip ≡ Some mac → AreRising (keys_of held) → are_unknown before held ≡ true → released_by after held ≡ released (held_for held ip) (Some mac)
+    hardware_of after ip ≡ Some mac → AreAddressesRising (keys_of held) → are_unknown before held ≡ true → released_by after held ≡ released (held_for held ip) (Some mac)
 released_after before after ip mac [] others known rising all = refl
 released_after before after ip mac (e ∷ held) others known rising all =
     let parts = and_parts (is_none (hardware_of before e.0)) (are_unknown before held) all in
@@ -139,8 +139,8 @@ released_after before after ip mac (e ∷ held) others known rising all =
     ] refl
 
 -- once a packet was heard of a sender that is known then
-pub still_held-heard : (table after : Table) (me : Me) (arp : Arp) (held : Held) → after ≡ table_after table me arp →
-    is_some (hardware_of after arp.spa) ≡ true → AreRising (keys_of held) → are_unknown table held ≡ true → still_held after held ≡ remove_entry (same_ip arp.spa) held
+pub still_held-heard : (table after : Table) (me : Me) (arp : Arp) (held : HeldFrames) → after ≡ table_after table me arp →
+    is_some (hardware_of after arp.spa) ≡ true → AreAddressesRising (keys_of held) → are_unknown table held ≡ true → still_held after held ≡ remove_entry (same_ip arp.spa) held
 still_held-heard table after me arp held heard known rising all =
     subst (λ (t : Table). is_some (hardware_of t arp.spa) ≡ true → still_held t held ≡ remove_entry (same_ip arp.spa) held) (sym heard)
     (λ there.
@@ -150,8 +150,8 @@ still_held-heard table after me arp held heard known rising all =
       | Some mac ↦ λ h k. still_held_after table (table_after table me arp) arp.spa mac held (others_after table me arp) h rising all
     ] refl there) known
 
-pub released_by-heard : (table after : Table) (me : Me) (arp : Arp) (held : Held) → after ≡ table_after table me arp →
-    is_some (hardware_of after arp.spa) ≡ true → AreRising (keys_of held) → are_unknown table held ≡ true →
+pub released_by-heard : (table after : Table) (me : Me) (arp : Arp) (held : HeldFrames) → after ≡ table_after table me arp →
+    is_some (hardware_of after arp.spa) ≡ true → AreAddressesRising (keys_of held) → are_unknown table held ≡ true →
     released_by after held ≡ released (held_for held arp.spa) (Some arp.sha)
 released_by-heard table after me arp held heard known rising all =
     subst (λ (t : Table). is_some (hardware_of t arp.spa) ≡ true → released_by t held ≡ released (held_for held arp.spa) (Some arp.sha)) (sym heard)
@@ -164,7 +164,7 @@ released_by-heard table after me arp held heard known rising all =
     ] refl there) known
 
 -- and of one that is not
-pub unknown-unheard : (table after : Table) (me : Me) (arp : Arp) (held : Held) → after ≡ table_after table me arp →
+pub unknown-unheard : (table after : Table) (me : Me) (arp : Arp) (held : HeldFrames) → after ≡ table_after table me arp →
     is_some (hardware_of after arp.spa) ≡ false → are_unknown table held ≡ true → are_unknown after held ≡ true
 unknown-unheard table after me arp held heard unheard all =
     subst (λ (t : Table). is_some (hardware_of t arp.spa) ≡ false → are_unknown t held ≡ true) (sym heard)

@@ -10,12 +10,12 @@ use Rattle.pl_frame.specs.Ethernet.{destination_of, kind_of}
 use Rattle.pl_arp.specs.declared.packet.Arp.{Arp}
 use Rattle.pl_arp.specs.declared.cache.Me.{Me}
 use Rattle.pl_arp.specs.Reception.{Table, answer_to, table_after}
-use Rattle.pl_logic.specs.declared.acts.HostAct.{HostAct}
-use Rattle.pl_logic.specs.declared.acts.HostAct.TheVariants.{Send}
-use Rattle.pl_logic.specs.declared.reception.Reception.TheVariants.{Kept}
+use Rattle.pl_node.specs.declared.acts.HostAct.{HostAct}
+use Rattle.pl_node.specs.declared.acts.HostAct.TheVariants.{Send}
+use Rattle.pl_node.specs.declared.reception.Reception.TheVariants.{Kept}
 use Rattle.pl_layouts.specs.Memberships.{group_of, is_group}
-use Rattle.pl_logic.specs.HostViews.{Held, HostView, groups_after}
-use Rattle.pl_logic.specs.HostInputs.HostAnswer.{Received}
+use Rattle.pl_node.specs.HostViews.{HeldFrames, HostView, groups_after}
+use Rattle.pl_node.specs.HostInputs.HostAnswer.{Received}
 use Rattle.pl_host_rule.specs.HostRule.{HostStep, hearing, is_foreign, other_host, playing_frame, released_by, report_frame, request_frame, sending, sending_to_host, skip_of, still_held, unicast_skip}
 use Rattle.pl_host.specs.Carried.{replies, six_bytes}
 use Rattle.pl_host.specs.Host.{Takes}
@@ -26,7 +26,7 @@ on_both (Ok x) f p q = f p q
 on_both (Err e) f p q = tt
 
 -- a request for each address
-pub asks : (me : Me) (held : Held) → map (λ ip. Send (request_frame me ip)) (keys_of held) ≡ map Send (map (λ entry. request_frame me entry.0) held)
+pub asks : (me : Me) (held : HeldFrames) → map (λ ip. Send (request_frame me ip)) (keys_of held) ≡ map Send (map (λ entry. request_frame me entry.0) held)
 asks me [] = refl
 asks me (e ∷ held) = ap (λ r. Send (request_frame me e.0) ∷ r) (asks me held)
 
@@ -61,13 +61,13 @@ plays_single view frame host single found =
     ∙ ap (λ (h : Option Me). sending_to_host view frame h) (sym found)
 
 -- a packet is heard, its answer is sent, and then what waited for it
-pub hears : (view : HostView) (arp : Arp) (cache : Table) (first joined : List Ip4) (held : Held) (answer : Option Arp) (frames : List (List ℕ))
+pub hears : (view : HostView) (arp : Arp) (cache : Table) (first joined : List Ip4) (held : HeldFrames) (answer : Option Arp) (frames : List (List ℕ))
     (out sent after : List HostAct) → cache ≡ table_after view.cache view.me arp → answer ≡ answer_to view.me arp → frames ≡ released_by cache view.held →
     held ≡ still_held cache view.held → first ≡ fold groups_after view.joined (replies answer) → joined ≡ fold groups_after first frames →
     sent ≡ out ++ map Send (replies answer) → after ≡ sent ++ map Send frames →
     Takes (hearing view (Some arp)) (record { me = view.me; table = view.table; cache = cache; joined = joined; held = held }) (Received Kept) out after
 hears view arp cache first joined held answer frames out sent after learnt owed freed waits replied released sends then =
-    let step : Table → Option Arp → List (List ℕ) → Held → List Ip4 → HostStep =
+    let step : Table → Option Arp → List (List ℕ) → HeldFrames → List Ip4 → HostStep =
     λ c a fs h j. record {
       view = record { me = view.me; table = view.table; cache = c; joined = j; held = h };
       acts = map Send (replies a ++ fs);

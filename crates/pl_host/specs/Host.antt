@@ -1,10 +1,10 @@
 -- A host as its rule sees it.
 use Rattle.std.specs.Prelude.{◌≡◌, List}
-use Rattle.pl_logic.specs.declared.acts.HostAct.{HostAct}
-use Rattle.pl_logic.specs.Gains.{Gains}
-use Rattle.pl_logic.specs.HostViews.{HostView}
+use Rattle.pl_node.specs.declared.acts.HostAct.{HostAct}
+use Rattle.pl_node.specs.Gains.{Gains}
+use Rattle.pl_node.specs.HostViews.{HostView}
 use Rattle.pl_host_rule.specs.HostRule.{HostStep}
-use Rattle.pl_logic.specs.HostInputs.{HostAnswer}
+use Rattle.pl_node.specs.HostInputs.{HostAnswer}
 use Rattle.pl_host.specs.declared.host.Host.{Host}
 
 -- what a host keeps

@@ -6,10 +6,10 @@ use Rattle.pl_arp.specs.declared.cache.Me.{Me}
 use Rattle.pl_layouts.specs.Equality.{same_mac}
 
 -- answers by hardware addresses
-abbrev pub Entries : Type 0
-Entries = List (Mac × Option Me)
+abbrev pub AnswersByMac : Type 0
+AnswersByMac = List (Mac × Option Me)
 
 -- each answer is the first host with the address, or that there is none
-abbrev pub AreAnswers : List Me → Entries → Type 0
+abbrev pub AreAnswers : List Me → AnswersByMac → Type 0
 AreAnswers hosts entries =
     (mac : Mac) (answer : Option Me) → lookup (same_mac mac) entries ≡ Some answer → answer ≡ find (λ host. same_mac host.mac mac) hosts

@@ -1,6 +1,6 @@
 ghost use Rattle.std.specs.Prelude.{◌≡◌, IfOk, length};
 ghost use Rattle.pl_frame.specs.Ethernet.{fields, fields_of, with_destination};
-ghost use Rattle.pl_logic.specs.Accounting.{IsWhole};
+ghost use Rattle.pl_node.specs.Accounting.{IsWholeFrame};
 
 use pl_frame::{Frame, FrameView, Mac, Memory};
 use std::alloc::Global;
@@ -14,18 +14,18 @@ pub(crate) struct Carried {
 
 impl Model for Carried {
     ghost use Rattle.std.specs.Prelude.{ℕ, List};
-    ghost use Rattle.pl_logic.specs.Accounting.{IsWhole};
+    ghost use Rattle.pl_node.specs.Accounting.{IsWholeFrame};
 
     ghost Value = { List ℕ };
 
     ghost view = { λ carried. carried.frame };
 
-    ghost invariant = { λ carried. IsWhole carried.frame };
+    ghost invariant = { λ carried. IsWholeFrame carried.frame };
 }
 
 impl Carried {
     pub(crate) fn copy(alloc: Global, bytes: &[u8]) -> Result<Carried, Memory>
-        requires { IsWhole bytes.now }
+        requires { IsWholeFrame bytes.now }
         ensures { IfOk result (λ carried. carried ≡ bytes.now) }
     {
         Ok(Carried {

@@ -1,7 +1,7 @@
 ghost use Rattle.std.specs.Prelude.{◌≡◌, [], ◌++◌, OnOk, map};
-ghost use Rattle.pl_logic.specs.declared.acts.HostAct.TheVariants.{Send};
+ghost use Rattle.pl_node.specs.declared.acts.HostAct.TheVariants.{Send};
 ghost use Rattle.pl_host_rule.specs.HostRule.{report_frame};
-ghost use Rattle.pl_logic.specs.HostViews.{groups_after, groups_after_change, has_group, without_group};
+ghost use Rattle.pl_node.specs.HostViews.{groups_after, groups_after_change, has_group, without_group};
 ghost use Rattle.pl_layouts.specs.Memberships.{group_number};
 
 use crate::carried::Carried;
@@ -10,8 +10,8 @@ use crate::sending::put;
 use pl_arp::Me;
 use pl_frame::{Ip4, Memory};
 use pl_layouts::Change;
-use pl_logic::HostOutbox;
 use pl_multicast::read_igmp;
+use pl_node::HostOutbox;
 use std::alloc::Global;
 use std::collections::BTreeSet;
 use std::marker::Model;

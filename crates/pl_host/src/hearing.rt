@@ -1,7 +1,7 @@
 ghost use Rattle.std.specs.Prelude.{◌≡◌, IfOk, OnOk, Some};
-ghost use Rattle.pl_logic.specs.declared.reception.Reception.TheVariants.{Kept};
+ghost use Rattle.pl_node.specs.declared.reception.Reception.TheVariants.{Kept};
 ghost use Rattle.pl_host_rule.specs.HostRule.{hearing, is_not_joined, receiving};
-ghost use Rattle.pl_logic.specs.HostInputs.HostAnswer.{Received};
+ghost use Rattle.pl_node.specs.HostInputs.HostAnswer.{Received};
 ghost use Rattle.pl_host.specs.Host.{Takes, host_view};
 
 use crate::host::Host;
@@ -10,8 +10,8 @@ use crate::sending::{answer, release};
 use pl_arp::Arp;
 use pl_frame::Memory;
 use pl_layouts::frames::packet_in;
-use pl_logic::{HostOutbox, Reception};
 use pl_multicast::FLOOD;
+use pl_node::{HostOutbox, Reception};
 
 impl Host {
     /// What a host makes of a frame that arrives.

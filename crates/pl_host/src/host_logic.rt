@@ -1,7 +1,5 @@
 ghost use Rattle.pl_host_rule.specs.HostRule.{host_rule};
-ghost use Rattle.pl_host_rule.proofs.HostOwn.{keeps_frames, sends_own};
-ghost use Rattle.pl_host_rule.proofs.HostSends.{joins_by_sending, owes_sends};
-ghost use Rattle.pl_host_rule.proofs.Lawful.{host_rule_is_lawful};
+ghost use Rattle.pl_host_rule.proofs.Exports.{host_rule_is_lawful, joins_by_sending, keeps_frames, owes_sends, sends_own};
 ghost use Rattle.pl_host.specs.Host.{host_view};
 
 use crate::carried::Carried;
@@ -16,7 +14,7 @@ use pl_frame::{Ip4, Memory};
 use pl_host_rule::LawfulHost;
 use pl_journal::Skip;
 use pl_layouts::Change;
-use pl_logic::{HostLogic, HostOutbox, HostTable, Reception};
+use pl_node::{HostLogic, HostOutbox, HostTable, Reception};
 use std::alloc::Global;
 
 impl LawfulHost for Host {

@@ -1,6 +1,6 @@
 //! The host that plays recorded frames as a real machine would.
 //!
-//! `Host` is a `HostLogic` whose rule is that of `pl_logic` (`specs/HostRule.antt` there), to the letter:
+//! `Host` is a `HostLogic` whose rule is that of `pl_node` (`specs/HostRule.antt` there), to the letter:
 //! from what it knows and what it is told or hears, its next state, the frames that it sends and its
 //! answer follow. It sends a recorded frame to the address that its ARP cache has for the host that the
 //! frame was recorded for, and until it has one it holds the frame and asks. Only want of memory is left

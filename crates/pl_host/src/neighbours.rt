@@ -1,6 +1,6 @@
 ghost use Rattle.std.specs.Prelude.{◌≡◌, [], IfOk, IsTrue, None, OnOk, Some};
 ghost use Rattle.pl_arp.specs.Reception.{answer_to, hardware_of, table_after};
-ghost use Rattle.pl_logic.specs.HostViews.{with_held};
+ghost use Rattle.pl_node.specs.HostViews.{with_held};
 ghost use Rattle.pl_host_rule.specs.HostRule.{released, released_by, still_held};
 ghost use Rattle.pl_host.specs.Waiting.{are_unknown};
 

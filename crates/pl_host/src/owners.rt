@@ -5,7 +5,7 @@ ghost use Rattle.pl_layouts.specs.Equality.{same_mac};
 use indexmap::IndexMap;
 use pl_arp::Me;
 use pl_frame::{Mac, Memory};
-use pl_logic::HostTable;
+use pl_node::HostTable;
 use std::alloc::Global;
 use std::marker::Model;
 

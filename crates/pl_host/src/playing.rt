@@ -1,8 +1,8 @@
 ghost use Rattle.std.specs.Prelude.{◌≡◌, IfOk, None, OnOk};
 ghost use Rattle.pl_arp.specs.Reception.{hardware_of};
 ghost use Rattle.pl_host_rule.specs.HostRule.{holding, playing_frame, sending, sending_to, skip_of, unicast_skip};
-ghost use Rattle.pl_logic.specs.HostInputs.HostAnswer.{Played};
-ghost use Rattle.pl_logic.specs.Accounting.{IsWhole};
+ghost use Rattle.pl_node.specs.HostInputs.HostAnswer.{Played};
+ghost use Rattle.pl_node.specs.Accounting.{IsWholeFrame};
 ghost use Rattle.pl_host.specs.Host.{Takes, host_view};
 
 use crate::carried::Carried;
@@ -14,7 +14,7 @@ use pl_arp::Me;
 use pl_frame::{Ip4, LONGEST, Mac, Memory, SHORTEST};
 use pl_journal::Skip;
 use pl_layouts::frames::{is_arp, is_control};
-use pl_logic::HostOutbox;
+use pl_node::HostOutbox;
 
 // So many frames wait for an address at most.
 const HOLD_LIMIT: usize = 64;
@@ -24,7 +24,7 @@ impl Host {
     #[tactic(auto, unfolding(pl_host_rule::specs::HostRule::skip_of))]
     pub(crate) fn skip_of(&mut self, raw: bool, frame: &[u8], original: u32) -> Option<Skip>
         ensures skip { result ≡ skip_of (host_view self.old) raw frame.now original }
-        ensures carried { result ≡ None → IsWhole frame.now }
+        ensures carried { result ≡ None → IsWholeFrame frame.now }
         ensures stays { host_view self.new ≡ host_view self.old }
     {
         if frame.len() < original as usize {
@@ -84,7 +84,7 @@ impl Host {
         frame: &[u8],
         out: &mut HostOutbox,
     ) -> Result<Option<Skip>, Memory>
-        requires { IsWhole frame.now }
+        requires { IsWholeFrame frame.now }
         ensures step { IfOk result (λ skip. Takes (playing_frame (host_view self.old) frame.now) (host_view self.new) (Played skip) out.old out.new) }
         ensures me { self.new.me ≡ self.old.me }
         ensures hosts { self.new.hosts ≡ self.old.hosts }

@@ -1,7 +1,7 @@
 ghost use Rattle.std.specs.Prelude.{◌≡◌, ◌≤◌, length, slice_index};
 ghost use Rattle.pl_frame.specs.Ethernet.{destination_of};
 ghost use Rattle.pl_layouts.specs.Memberships.{group_of, is_group};
-ghost use Rattle.pl_logic.specs.HostDuties.{is_of};
+ghost use Rattle.pl_node.specs.HostDuties.{is_of};
 ghost use Rattle.pl_host_rule.specs.HostRule.{is_foreign};
 ghost use Rattle.pl_host.specs.Carried.{six_bytes};
 

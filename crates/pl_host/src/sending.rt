@@ -1,6 +1,6 @@
 ghost use Rattle.std.specs.Prelude.{◌≡◌, [], ◌∷◌, ◌++◌, OnOk, Some, fold, map};
-ghost use Rattle.pl_logic.specs.declared.acts.HostAct.TheVariants.{Send};
-ghost use Rattle.pl_logic.specs.HostViews.{groups_after};
+ghost use Rattle.pl_node.specs.declared.acts.HostAct.TheVariants.{Send};
+ghost use Rattle.pl_node.specs.HostViews.{groups_after};
 ghost use Rattle.pl_host_rule.specs.HostRule.{released};
 ghost use Rattle.pl_host.specs.Carried.{replies};
 
@@ -10,7 +10,7 @@ use crate::groups::Groups;
 use pl_arp::Arp;
 use pl_frame::{Mac, Memory};
 use pl_lists::Queue;
-use pl_logic::{HostAct, HostOutbox};
+use pl_node::{HostAct, HostOutbox};
 use std::alloc::Global;
 
 /// A frame is sent, whatever it says.

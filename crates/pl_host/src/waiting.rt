@@ -1,10 +1,10 @@
 ghost use Rattle.std.specs.Prelude.{◌≡◌, ◌+◌, [], ◌++◌, OnErr, OnOk, length, map, sum_by};
 ghost use Rattle.std.specs.Map.{keys_of, values_of, remove_entry};
 ghost use Rattle.pl_arp.specs.Reception.{same_ip};
-ghost use Rattle.pl_logic.specs.declared.acts.HostAct.TheVariants.{Send};
-ghost use Rattle.pl_logic.specs.HostViews.{held_for, with_held};
+ghost use Rattle.pl_node.specs.declared.acts.HostAct.TheVariants.{Send};
+ghost use Rattle.pl_node.specs.HostViews.{held_for, with_held};
 ghost use Rattle.pl_host_rule.specs.HostRule.{request_frame};
-ghost use Rattle.pl_host.specs.Waiting.{AreRising};
+ghost use Rattle.pl_host.specs.Waiting.{AreAddressesRising};
 
 use crate::carried::Carried;
 use crate::frames::request;
@@ -12,7 +12,7 @@ use crate::sending::put;
 use pl_arp::Me;
 use pl_frame::{Ip4, Memory};
 use pl_lists::Queue;
-use pl_logic::HostOutbox;
+use pl_node::HostOutbox;
 use std::alloc::{AllocError, Global};
 use std::collections::BTreeMap;
 use std::marker::Model;
@@ -29,10 +29,10 @@ pub(crate) struct Waiting {
 }
 
 impl Model for Waiting {
-    ghost use Rattle.pl_logic.specs.HostViews.{Held};
+    ghost use Rattle.pl_node.specs.HostViews.{HeldFrames};
     ghost use Rattle.pl_host.specs.Waiting.{IsTallied};
 
-    ghost Value = { Held };
+    ghost Value = { HeldFrames };
 
     ghost view = { λ waiting. waiting.by_address.entries };
 
@@ -93,7 +93,7 @@ impl Waiting {
     pub(crate) fn take(&mut self, alloc: Global, ip: Ip4) -> Queue<Carried>
         ensures frames { result ≡ held_for self.old ip }
         ensures rest { self.new ≡ remove_entry (same_ip ip) self.old }
-        ensures rising { AreRising (keys_of self.old) }
+        ensures rising { AreAddressesRising (keys_of self.old) }
     {
         match self.by_address.remove(&ip) {
             Some(frames) => {
@@ -109,7 +109,7 @@ impl Waiting {
 fn put_behind(by_address: &mut Frames, alloc: Global, ip: Ip4, frame: Carried) -> Result<(), Memory>
     ensures held { OnOk result (by_address.new.entries ≡ with_held by_address.old.entries ip frame) }
     ensures count { OnOk result (sum_by length (values_of by_address.new.entries) ≡ sum_by length (values_of by_address.old.entries) + 1) }
-    ensures rising { AreRising (keys_of by_address.new.entries) }
+    ensures rising { AreAddressesRising (keys_of by_address.new.entries) }
     ensures err { OnErr result (by_address.new.entries ≡ by_address.old.entries) }
 {
     match by_address.get_mut(&ip) {

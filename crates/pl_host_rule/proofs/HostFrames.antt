@@ -6,18 +6,18 @@ use Rattle.std.proofs.lemmas.Bool.{and_from, and_parts, not_from_false}
 use Rattle.std.proofs.lemmas.List.Folds.{list_all-append}
 use Rattle.pl_frame.specs.declared.address.Mac.{Mac}
 use Rattle.pl_frame.specs.Ethernet.{Fields, frame_of, kind_of, payload_of, with_destination}
-use Rattle.pl_frame.proofs.Fields.{fields_of-frame_of, fields_of-with_destination, length-frame_of}
+use Rattle.pl_frame.proofs.Exports.{fields_of-frame_of, fields_of-with_destination, length-frame_of}
 use Rattle.pl_arp.specs.declared.packet.Arp.{Arp}
 use Rattle.pl_arp.specs.declared.packet.ArpError.{ArpError}
 use Rattle.pl_arp.specs.declared.packet.ArpError.TheVariants.{Cut, OtherKind}
 use Rattle.pl_arp.specs.declared.cache.Me.{Me}
 use Rattle.pl_arp.specs.Packet.{ethernet_ipv4, fields_at_front, layout}
-use Rattle.pl_arp.proofs.Lengths.{length-layout}
+use Rattle.pl_arp.proofs.Exports.{length-layout}
 use Rattle.pl_layouts.specs.declared.membership.Change.{Change}
 use Rattle.pl_layouts.specs.Checksum.{checksum_of}
 use Rattle.pl_layouts.specs.Frames.{packet_in}
 use Rattle.pl_layouts.specs.Reports.{group_mac, header_of, header_with, membership_frame, message_of_change, message_with, receiver_of}
-use Rattle.pl_logic.specs.HostDuties.{are_data, is_data}
+use Rattle.pl_node.specs.HostDuties.{are_data, is_data}
 use Rattle.pl_layouts.specs.ArpFrames.{arp_frame}
 
 -- the three things that are asked of a frame

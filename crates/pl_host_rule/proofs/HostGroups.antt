@@ -8,11 +8,11 @@ use Rattle.std.proofs.lemmas.Map.Lookups.{exact_unsigned}
 use Rattle.std.proofs.lemmas.Map.Views.{any-filter_same}
 use Rattle.byteorder.specs.Endian.{big_number, big_bytes}
 use Rattle.byteorder.specs.Numbers.{big_from-bytes}
-use Rattle.pl_lemmas.proofs.Bools.{or_swap, or_twice}
+use Rattle.pl_lemmas.proofs.Exports.{or_swap, or_twice}
 use Rattle.pl_frame.specs.declared.address.Mac.{Mac}
 use Rattle.pl_frame.specs.declared.address.Ip4.{Ip4}
 use Rattle.pl_frame.specs.Ethernet.{Fields, frame_of}
-use Rattle.pl_frame.proofs.Fields.{fields_of-frame_of}
+use Rattle.pl_frame.proofs.Exports.{fields_of-frame_of}
 use Rattle.pl_arp.specs.declared.packet.Arp.{Arp}
 use Rattle.pl_arp.specs.declared.cache.Me.{Me}
 use Rattle.pl_arp.specs.Packet.{layout}
@@ -21,9 +21,9 @@ use Rattle.pl_layouts.specs.Checksum.{checksum_of}
 use Rattle.pl_layouts.specs.Memberships.{change_if_routed, changes_in, changes_of, group_number, header_length, is_membership, is_routed_group, message_changes}
 use Rattle.pl_layouts.specs.Reports.{group_mac, header_of, header_with, message_of_change, message_with}
 use Rattle.pl_journal.specs.Lossy.{joined_after}
-use Rattle.pl_logic.specs.HostViews.{groups_after, groups_after_change, has_group, ip_cmp, without_group}
+use Rattle.pl_node.specs.HostViews.{groups_after, groups_after_change, has_group, ip_cmp, without_group}
 use Rattle.pl_host_rule.specs.HostRule.{report_frame}
-use Rattle.pl_logic.specs.HostDuties.{joined_by}
+use Rattle.pl_node.specs.HostDuties.{joined_by}
 use Rattle.pl_layouts.specs.ArpFrames.{arp_frame}
 
 -- without one group a host is in each other as before

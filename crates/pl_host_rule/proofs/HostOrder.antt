@@ -13,18 +13,18 @@ use Rattle.pl_frame.specs.Ethernet.{destination_of, kind_of, with_destination}
 use Rattle.pl_arp.specs.declared.packet.Arp.{Arp}
 use Rattle.pl_arp.specs.declared.cache.Me.{Me}
 use Rattle.pl_arp.specs.Reception.{Table, answer_to, hardware_of, table_after}
-use Rattle.pl_logic.specs.declared.acts.HostAct.{HostAct}
+use Rattle.pl_node.specs.declared.acts.HostAct.{HostAct}
 use Rattle.pl_journal.specs.declared.cause.Skip.{Skip}
 use Rattle.pl_journal.specs.declared.cause.Skip.TheVariants as skips
 use Rattle.pl_layouts.specs.declared.membership.Change.{Change}
-use Rattle.pl_logic.specs.declared.reception.Reception.TheVariants as reception
+use Rattle.pl_node.specs.declared.reception.Reception.TheVariants as reception
 use Rattle.pl_layouts.specs.Frames.{is_arp, packet_in}
 use Rattle.pl_layouts.specs.Memberships.{changes_in, group_number, group_of, is_group}
-use Rattle.pl_logic.specs.HostViews.{Held, HostView, IsOrderly, are_apart, are_rising, boot_host, groups_after, groups_after_change, has_group, held_for, hold_limit, ip_cmp, is_waiting, with_held, without_group}
+use Rattle.pl_node.specs.HostViews.{HeldFrames, HostView, IsOrderlyHost, are_apart, are_rising, boot_host, groups_after, groups_after_change, has_group, held_for, hold_limit, ip_cmp, is_waiting, with_held, without_group}
 use Rattle.pl_host_rule.specs.HostRule.{HostStep, leave_frame, report_frame, having_sent, hearing, host_rule, host_step, is_foreign, is_full, is_not_joined, other_host, playing_frame, receiving, released_by, reply_frame, sending, sending_on, sending_to, sending_to_host, skip_of, step_to, still_held, unicast_skip, unless_skipped}
-use Rattle.pl_logic.specs.HostInputs.HostInput.{HasMoved, Joins, Leaves, PlaysRaw, Plays, Receives, Retries, Starts}
-use Rattle.pl_logic.specs.HostInputs.HostAnswer.{Received}
-use Rattle.pl_logic.specs.HostInputs.{HostAnswer, HostInput}
+use Rattle.pl_node.specs.HostInputs.HostInput.{HasMoved, Joins, Leaves, PlaysRaw, Plays, Receives, Retries, Starts}
+use Rattle.pl_node.specs.HostInputs.HostAnswer.{Received}
+use Rattle.pl_node.specs.HostInputs.{HostAnswer, HostInput}
 use Rattle.pl_host_rule.proofs.HostGroups.{has_group-insert, has_group-without, turned_away}
 use Rattle.pl_host_rule.proofs.HostSends.{unskipped}
 
@@ -177,16 +177,16 @@ unfolding groups_after
 orderly_sent [] joined are = are
 orderly_sent (frame ∷ frames) joined are = orderly_sent frames (groups_after joined frame) (orderly_changes (changes_in frame) joined are)
 
-groups_of : (view : HostView) → IsOrderly view → AreOrderly view.joined
+groups_of : (view : HostView) → IsOrderlyHost view → AreOrderly view.joined
 groups_of view is = record { rising = is.joined; apart = is.apart }
 
-orderly_having_sent : (view : HostView) (frames : List (List ℕ)) → IsOrderly view → IsOrderly (having_sent view frames)
+orderly_having_sent : (view : HostView) (frames : List (List ℕ)) → IsOrderlyHost view → IsOrderlyHost (having_sent view frames)
 orderly_having_sent view frames is =
     let are = orderly_sent frames view.joined (groups_of view is) in
     record { joined = are.rising; apart = are.apart; held = is.held; waiting = is.waiting }
 
 -- the held frames
-abbrev are_waiting : Table → Held → Bool
+abbrev are_waiting : Table → HeldFrames → Bool
 are_waiting cache held = list_all (is_waiting cache) held
 
 abbrev is_some_few : List (List ℕ) → Bool
@@ -195,23 +195,23 @@ is_some_few frames = nat_le 1 (length frames) && nat_le (length frames) hold_lim
 abbrev is_unknown : Table → Ip4 → Bool
 is_unknown cache ip = is_none (hardware_of cache ip)
 
-keys_of-insert_entry : (held : Held) (ip : Ip4) (frames : List (List ℕ)) → keys_of (insert_entry ip_cmp held ip frames) ≡ insert_key ip_cmp (keys_of held) ip
+keys_of-insert_entry : (held : HeldFrames) (ip : Ip4) (frames : List (List ℕ)) → keys_of (insert_entry ip_cmp held ip frames) ≡ insert_key ip_cmp (keys_of held) ip
 keys_of-insert_entry [] ip frames = refl
 keys_of-insert_entry (entry ∷ held) ip frames =
-    let rest : Held = insert_entry ip_cmp held ip frames in
+    let rest : HeldFrames = insert_entry ip_cmp held ip frames in
     let keys : List Ip4 = keys_of held in
     elim (ip_cmp ip entry.0)
     as (λ o. keys_of (match_ordering o ((ip, frames) ∷ entry ∷ held) ((entry.0, frames) ∷ held) (entry ∷ rest))
     ≡ match_ordering o (ip ∷ entry.0 ∷ keys) (entry.0 ∷ keys) (entry.0 ∷ insert_key ip_cmp keys ip))
     [ Less ↦ refl | Equal ↦ refl | Greater ↦ ap (λ ips. entry.0 ∷ ips) (keys_of-insert_entry held ip frames) ]
 
-waiting_insert : (cache : Table) (held : Held) (ip : Ip4) (frames : List (List ℕ)) → is_some_few frames ≡ true → is_unknown cache ip ≡ true →
+waiting_insert : (cache : Table) (held : HeldFrames) (ip : Ip4) (frames : List (List ℕ)) → is_some_few frames ≡ true → is_unknown cache ip ≡ true →
     are_waiting cache held ≡ true → are_waiting cache (insert_entry ip_cmp held ip frames) ≡ true
 waiting_insert cache [] ip frames few unknown are = and_from (is_waiting cache (ip, frames)) true (and_from (is_some_few frames) (is_unknown cache ip) few unknown) refl
 waiting_insert cache (entry ∷ held) ip frames few unknown are =
     let parts = and_parts (is_waiting cache entry) (are_waiting cache held) are in
     let first = and_parts (is_some_few entry.1) (is_unknown cache entry.0) parts.0 in
-    let rest : Held = insert_entry ip_cmp held ip frames in
+    let rest : HeldFrames = insert_entry ip_cmp held ip frames in
     elim (ip_cmp ip entry.0)
     as (λ o. are_waiting cache (match_ordering o ((ip, frames) ∷ entry ∷ held) ((entry.0, frames) ∷ held) (entry ∷ rest)) ≡ true) [
       | Less ↦ and_from (is_waiting cache (ip, frames)) (are_waiting cache (entry ∷ held))
@@ -229,8 +229,8 @@ few_more frames frame fewer =
     and_from (nat_le 1 (length (frames ++ frame ∷ []))) (nat_le (length (frames ++ frame ∷ [])) hold_limit)
     (le-leb 1 (length (frames ++ frame ∷ [])) (omega arith)) (le-leb (length (frames ++ frame ∷ [])) 64 (omega arith))
 
-orderly_with_held : (view : HostView) (ip : Ip4) (frame : List ℕ) → IsOrderly view → is_unknown view.cache ip ≡ true →
-    nat_le hold_limit (length (held_for view.held ip)) ≡ false → IsOrderly (record view { held = with_held view.held ip frame })
+orderly_with_held : (view : HostView) (ip : Ip4) (frame : List ℕ) → IsOrderlyHost view → is_unknown view.cache ip ≡ true →
+    nat_le hold_limit (length (held_for view.held ip)) ≡ false → IsOrderlyHost (record view { held = with_held view.held ip frame })
 orderly_with_held view ip frame is unknown fewer =
     let frames : List (List ℕ) = held_for view.held ip ++ frame ∷ [] in
     record {
@@ -241,7 +241,7 @@ orderly_with_held view ip frame is unknown fewer =
     }
 
 -- those that are still held once the cache knows more
-above_still : (cache : Table) (low : Ip4) (held : Held) → are_above low (keys_of held) ≡ true → are_above low (keys_of (still_held cache held)) ≡ true
+above_still : (cache : Table) (low : Ip4) (held : HeldFrames) → are_above low (keys_of held) ≡ true → are_above low (keys_of (still_held cache held)) ≡ true
 above_still cache low [] above = refl
 above_still cache low (entry ∷ held) above =
     let parts = and_parts (nat_lt low.0 entry.0.0) (are_above low (keys_of held)) above in
@@ -249,7 +249,7 @@ above_still cache low (entry ∷ held) above =
     elim (is_unknown cache entry.0) as (λ b. are_above low (keys_of (cond b (entry ∷ still_held cache held) (still_held cache held))) ≡ true)
     [ true ↦ and_from (nat_lt low.0 entry.0.0) (are_above low (keys_of (still_held cache held))) parts.0 rest | false ↦ rest ]
 
-rising_still : (cache : Table) (held : Held) → are_rising (keys_of held) ≡ true → are_rising (keys_of (still_held cache held)) ≡ true
+rising_still : (cache : Table) (held : HeldFrames) → are_rising (keys_of held) ≡ true → are_rising (keys_of (still_held cache held)) ≡ true
 rising_still cache [] rising = refl
 rising_still cache (entry ∷ held) rising =
     let parts = and_parts (are_above entry.0 (keys_of held)) (are_rising (keys_of held)) rising in
@@ -258,7 +258,7 @@ rising_still cache (entry ∷ held) rising =
     elim (is_unknown cache entry.0) as (λ b. are_rising (keys_of (cond b (entry ∷ still_held cache held) (still_held cache held))) ≡ true)
     [ true ↦ and_from (are_above entry.0 keys) (are_rising keys) (above_still cache entry.0 held parts.0) rest | false ↦ rest ]
 
-waiting_still : (old cache : Table) (held : Held) → are_waiting old held ≡ true → are_waiting cache (still_held cache held) ≡ true
+waiting_still : (old cache : Table) (held : HeldFrames) → are_waiting old held ≡ true → are_waiting cache (still_held cache held) ≡ true
 waiting_still old cache [] are = refl
 waiting_still old cache (entry ∷ held) are =
     let parts = and_parts (is_waiting old entry) (are_waiting old held) are in
@@ -271,32 +271,32 @@ waiting_still old cache (entry ∷ held) are =
     ] refl
 
 -- the steps, by their parts
-orderly_sending : (view : HostView) (frame : List ℕ) → IsOrderly view → IsOrderly (sending view frame).view
+orderly_sending : (view : HostView) (frame : List ℕ) → IsOrderlyHost view → IsOrderlyHost (sending view frame).view
 orderly_sending view frame is = orderly_having_sent view (frame ∷ []) is
 
-orderly_sending_to : (view : HostView) (ip : Ip4) (frame : List ℕ) → IsOrderly view → nat_le hold_limit (length (held_for view.held ip)) ≡ false →
-    IsOrderly (sending_to view ip frame (hardware_of view.cache ip)).view
+orderly_sending_to : (view : HostView) (ip : Ip4) (frame : List ℕ) → IsOrderlyHost view → nat_le hold_limit (length (held_for view.held ip)) ≡ false →
+    IsOrderlyHost (sending_to view ip frame (hardware_of view.cache ip)).view
 orderly_sending_to view ip frame is fewer =
-    elim (hardware_of view.cache ip) as (λ o. hardware_of view.cache ip ≡ o → IsOrderly (sending_to view ip frame o).view) [
+    elim (hardware_of view.cache ip) as (λ o. hardware_of view.cache ip ≡ o → IsOrderlyHost (sending_to view ip frame o).view) [
       | None ↦ λ h. orderly_with_held view ip frame is (ap is_none h) fewer
       | Some mac ↦ λ h. orderly_sending view (with_destination frame mac) is
     ] refl
 
-orderly_sending_to_host : (view : HostView) (frame : List ℕ) (host : Option Me) → IsOrderly view → is_full view.held host ≡ false →
-    IsOrderly (sending_to_host view frame host).view
+orderly_sending_to_host : (view : HostView) (frame : List ℕ) (host : Option Me) → IsOrderlyHost view → is_full view.held host ≡ false →
+    IsOrderlyHost (sending_to_host view frame host).view
 orderly_sending_to_host view frame None is fewer = is
 orderly_sending_to_host view frame (Some host) is fewer = orderly_sending_to view host.ip frame is fewer
 
-orderly_playing_frame : (view : HostView) (frame : List ℕ) → IsOrderly view →
-    (is_group (destination_of frame) ≡ false → is_full view.held (other_host view (destination_of frame)) ≡ false) → IsOrderly (playing_frame view frame).view
+orderly_playing_frame : (view : HostView) (frame : List ℕ) → IsOrderlyHost view →
+    (is_group (destination_of frame) ≡ false → is_full view.held (other_host view (destination_of frame)) ≡ false) → IsOrderlyHost (playing_frame view frame).view
 orderly_playing_frame view frame is fewer =
     let host : Option Me = other_host view (destination_of frame) in
     elim (is_group (destination_of frame))
-    as (λ b. is_group (destination_of frame) ≡ b → IsOrderly (cond b (sending view frame) (sending_to_host view frame host)).view)
+    as (λ b. is_group (destination_of frame) ≡ b → IsOrderlyHost (cond b (sending view frame) (sending_to_host view frame host)).view)
     [ true ↦ λ h. orderly_sending view frame is | false ↦ λ h. orderly_sending_to_host view frame host is (fewer h) ] refl
 
-orderly_unless : (view : HostView) (skip : Option Skip) (step : HostStep) → IsOrderly view → (skip ≡ None → IsOrderly step.view) →
-    IsOrderly (unless_skipped view skip step).view
+orderly_unless : (view : HostView) (skip : Option Skip) (step : HostStep) → IsOrderlyHost view → (skip ≡ None → IsOrderlyHost step.view) →
+    IsOrderlyHost (unless_skipped view skip step).view
 orderly_unless view None step is orderly = orderly refl
 orderly_unless view (Some skip) step is orderly = is
 
@@ -315,8 +315,8 @@ fewer_if_unskipped view frame original h one =
     let owned = unskipped (is_none host) skips.NoOwner _ to_one in
     (unskipped (is_full view.held host) skips.HoldFull None owned.1).0
 
-orderly_sending_on : (before view : HostView) (answer : Option Arp) → IsOrderly before → view.joined ≡ before.joined → view.held ≡ before.held →
-    IsOrderly (sending_on view answer).view
+orderly_sending_on : (before view : HostView) (answer : Option Arp) → IsOrderlyHost before → view.joined ≡ before.joined → view.held ≡ before.held →
+    IsOrderlyHost (sending_on view answer).view
 orderly_sending_on before view answer is joined held =
     let frames : List (List ℕ) = option_to_list (option_map reply_frame answer) ++ released_by view.cache view.held in
     let waiting : are_waiting before.cache view.held ≡ true = ap (λ h. are_waiting before.cache h) held ∙ is.waiting in
@@ -328,18 +328,18 @@ orderly_sending_on before view answer is joined held =
       waiting = waiting_still before.cache view.cache view.held waiting;
     })
 
-orderly_hearing : (view : HostView) (packet : Option Arp) → IsOrderly view → IsOrderly (hearing view packet).view
+orderly_hearing : (view : HostView) (packet : Option Arp) → IsOrderlyHost view → IsOrderlyHost (hearing view packet).view
 orderly_hearing view None is = is
 orderly_hearing view (Some arp) is =
     orderly_sending_on view (record view { cache = table_after view.cache view.me arp }) (answer_to view.me arp) is refl refl
 
-orderly_receiving : (view : HostView) (frame : List ℕ) → IsOrderly view → IsOrderly (receiving view frame).view
+orderly_receiving : (view : HostView) (frame : List ℕ) → IsOrderlyHost view → IsOrderlyHost (receiving view frame).view
 orderly_receiving view frame is =
     elim (is_not_joined view (group_of (destination_of frame)))
-    as (λ b. IsOrderly (cond b (step_to view [] (Received reception.NotMember)) (hearing view (packet_in frame))).view)
+    as (λ b. IsOrderlyHost (cond b (step_to view [] (Received reception.NotMember)) (hearing view (packet_in frame))).view)
     [ true ↦ is | false ↦ orderly_hearing view (packet_in frame) is ]
 
-orderly_step : (view : HostView) (input : HostInput) → IsOrderly view → IsOrderly (host_step view input).view
+orderly_step : (view : HostView) (input : HostInput) → IsOrderlyHost view → IsOrderlyHost (host_step view input).view
 orderly_step view Starts is = is
 orderly_step view Retries is = is
 orderly_step view HasMoved is = is
@@ -352,9 +352,9 @@ orderly_step view (Joins group) is = orderly_having_sent view (report_frame view
 orderly_step view (Leaves group) is = orderly_having_sent view (leave_frame view.me group ∷ []) is
 orderly_step view (Receives frame) is = orderly_receiving view frame is
 
-pub boot_is_orderly : (me : Me) (table : List Me) → IsOrderly (boot_host me table)
+pub boot_is_orderly : (me : Me) (table : List Me) → IsOrderlyHost (boot_host me table)
 boot_is_orderly me table = record { joined = refl; apart = refl; held = refl; waiting = refl }
 
-pub stays_orderly : (view : HostView) (input : HostInput) (after : HostView) (acts : List HostAct) (answer : HostAnswer) → IsOrderly view →
-    host_rule view input after acts answer → IsOrderly after
-stays_orderly view input after acts answer is rule = subst (λ (s : HostStep). IsOrderly s.view) rule (orderly_step view input is)
+pub stays_orderly : (view : HostView) (input : HostInput) (after : HostView) (acts : List HostAct) (answer : HostAnswer) → IsOrderlyHost view →
+    host_rule view input after acts answer → IsOrderlyHost after
+stays_orderly view input after acts answer is rule = subst (λ (s : HostStep). IsOrderlyHost s.view) rule (orderly_step view input is)

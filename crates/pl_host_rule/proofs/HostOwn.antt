@@ -17,31 +17,31 @@ use Rattle.byteorder.specs.Numbers.{big_number-reads_back}
 use Rattle.pl_frame.specs.declared.address.Mac.{Mac}
 use Rattle.pl_frame.specs.declared.address.Ip4.{Ip4}
 use Rattle.pl_frame.specs.Ethernet.{Fields, destination_of, frame_of, kind_of, payload_of, source_of, with_destination}
-use Rattle.pl_frame.proofs.Fields.{fields_of-frame_of, front_of, rest_of}
+use Rattle.pl_frame.proofs.Exports.{fields_of-frame_of, front_of, rest_of}
 use Rattle.pl_arp.specs.declared.packet.Arp.{Arp}
 use Rattle.pl_arp.specs.declared.packet.ArpError.{ArpError}
 use Rattle.pl_arp.specs.declared.packet.ArpError.TheVariants.{Cut, OtherKind}
 use Rattle.pl_arp.specs.declared.cache.Me.{Me}
 use Rattle.pl_arp.specs.Packet.{arp_in, ethernet_ipv4, fields_at_front, layout}
 use Rattle.pl_arp.specs.Reception.{Table, answer_to, hardware_of, is_target, same_ip, table_after}
-use Rattle.pl_logic.specs.declared.acts.HostAct.{HostAct}
+use Rattle.pl_node.specs.declared.acts.HostAct.{HostAct}
 use Rattle.pl_journal.specs.declared.cause.Skip.{Skip}
 use Rattle.pl_journal.specs.declared.cause.Skip.TheVariants as skips
-use Rattle.pl_logic.specs.declared.reception.Reception.{Reception}
-use Rattle.pl_logic.specs.declared.reception.Reception.TheVariants as reception
+use Rattle.pl_node.specs.declared.reception.Reception.{Reception}
+use Rattle.pl_node.specs.declared.reception.Reception.TheVariants as reception
 use Rattle.pl_layouts.specs.declared.membership.Change.{Change}
 use Rattle.pl_layouts.specs.ArpFrames.{arp_frame, broadcast, no_mac}
 use Rattle.pl_layouts.specs.Equality.{same_mac}
 use Rattle.pl_layouts.specs.Frames.{is_arp, packet_in}
 use Rattle.pl_layouts.specs.Memberships.{group_of, is_group}
 use Rattle.pl_layouts.specs.Reports.{group_mac, header_of, membership_frame, message_of_change, receiver_of}
-use Rattle.pl_layouts.proofs.Sameness.{mac_itself}
-use Rattle.pl_logic.specs.HostDuties.{HoldsData, HoldsOwn, SendsOwn, are_own, is_of, is_own}
-use Rattle.pl_logic.specs.HostInputs.{HostAnswer, HostInput}
-use Rattle.pl_logic.specs.HostViews.{Held, HostView, boot_host, has_group, held_for, ip_cmp, with_held}
+use Rattle.pl_layouts.proofs.Exports.{mac_itself}
+use Rattle.pl_node.specs.HostDuties.{HoldsData, HoldsOwn, SendsOwn, are_own, is_of, is_own}
+use Rattle.pl_node.specs.HostInputs.{HostAnswer, HostInput}
+use Rattle.pl_node.specs.HostViews.{HeldFrames, HostView, boot_host, has_group, held_for, ip_cmp, with_held}
 use Rattle.pl_host_rule.specs.HostRule.{HostStep, first_request, having_sent, hearing, holding, host_rule, host_step, is_foreign, is_not_joined, other_host, playing, playing_frame, playing_raw, receiving, released, released_by, reply_frame, report_frame, request_frame, sending, sending_to, sending_to_host, skip_of, skipping, start_frame, step_to, still_held, unless_skipped}
-use Rattle.pl_logic.specs.HostInputs.HostInput.{HasMoved, Joins, Leaves, PlaysRaw, Plays, Receives, Retries, Starts}
-use Rattle.pl_logic.specs.HostInputs.HostAnswer.{Nothing, Played, Received}
+use Rattle.pl_node.specs.HostInputs.HostInput.{HasMoved, Joins, Leaves, PlaysRaw, Plays, Receives, Retries, Starts}
+use Rattle.pl_node.specs.HostInputs.HostAnswer.{Nothing, Played, Received}
 use Rattle.pl_host_rule.proofs.HostFrames.{packet_in-addresses}
 use Rattle.pl_host_rule.proofs.HostSends.{knows_six, sent-Send, six_after, unskipped}
 use Rattle.pl_journal.specs.Causes.{is_routed}
@@ -135,7 +135,7 @@ record HasAddresses (me : Me) : Type 0 where
 own_request : (me : Me) (ip : Ip4) → HasAddresses me → is_own me (request_frame me ip) ≡ true
 own_request me ip has = own_arp_frame me broadcast 1 no_mac ip refl has.mac has.ip
 
-own_requests : (me : Me) (held : Held) → HasAddresses me → are_own me (map (λ entry. request_frame me entry.0) held) ≡ true
+own_requests : (me : Me) (held : HeldFrames) → HasAddresses me → are_own me (map (λ entry. request_frame me entry.0) held) ≡ true
 own_requests me [] has = refl
 own_requests me (entry ∷ held) has =
     and_from (is_own me (request_frame me entry.0)) (are_own me (map (λ entry. request_frame me entry.0) held))
@@ -154,22 +154,22 @@ own_reply me arp has sha =
     [ true ↦ own_one me (reply_frame reply) (own_arp_frame me arp.sha 2 arp.sha arp.spa sha has.mac has.ip) | false ↦ refl ]
 
 -- the held frames
-abbrev held_own : Me → Held → Bool
+abbrev held_own : Me → HeldFrames → Bool
 held_own me held = list_all (λ entry. are_own me entry.1) held
 
-own_held_for : (me : Me) (held : Held) (ip : Ip4) → held_own me held ≡ true → are_own me (held_for held ip) ≡ true
+own_held_for : (me : Me) (held : HeldFrames) (ip : Ip4) → held_own me held ≡ true → are_own me (held_for held ip) ≡ true
 own_held_for me [] ip own = refl
 own_held_for me (entry ∷ held) ip own =
     let parts = and_parts (are_own me entry.1) (held_own me held) own in
     elim (same_ip ip entry.0) as (λ b. are_own me (unwrap_or (cond b (Some entry.1) (lookup (same_ip ip) held)) []) ≡ true)
     [ true ↦ parts.0 | false ↦ own_held_for me held ip parts.1 ]
 
-own_inserted : (me : Me) (held : Held) (ip : Ip4) (frames : List (List ℕ)) → are_own me frames ≡ true → held_own me held ≡ true →
+own_inserted : (me : Me) (held : HeldFrames) (ip : Ip4) (frames : List (List ℕ)) → are_own me frames ≡ true → held_own me held ≡ true →
     held_own me (insert_entry ip_cmp held ip frames) ≡ true
 own_inserted me [] ip frames own all = and_from (are_own me frames) true own refl
 own_inserted me (entry ∷ held) ip frames own all =
     let parts = and_parts (are_own me entry.1) (held_own me held) all in
-    let rest : Held = insert_entry ip_cmp held ip frames in
+    let rest : HeldFrames = insert_entry ip_cmp held ip frames in
     elim (ip_cmp ip entry.0)
     as (λ o. held_own me (match_ordering o ((ip, frames) ∷ entry ∷ held) ((entry.0, frames) ∷ held) (entry ∷ rest)) ≡ true) [
       | Less ↦ and_from (are_own me frames) (held_own me (entry ∷ held)) own all
@@ -177,13 +177,13 @@ own_inserted me (entry ∷ held) ip frames own all =
       | Greater ↦ and_from (are_own me entry.1) (held_own me rest) parts.0 (own_inserted me held ip frames own parts.1)
     ]
 
-own_with_held : (me : Me) (held : Held) (ip : Ip4) (frame : List ℕ) → is_own me frame ≡ true → held_own me held ≡ true →
+own_with_held : (me : Me) (held : HeldFrames) (ip : Ip4) (frame : List ℕ) → is_own me frame ≡ true → held_own me held ≡ true →
     held_own me (with_held held ip frame) ≡ true
 own_with_held me held ip frame own all =
     own_inserted me held ip (held_for held ip ++ frame ∷ [])
     (own_append me (held_for held ip) (frame ∷ []) (own_held_for me held ip all) (own_one me frame own)) all
 
-own_still_held : (me : Me) (cache : Table) (held : Held) → held_own me held ≡ true → held_own me (still_held cache held) ≡ true
+own_still_held : (me : Me) (cache : Table) (held : HeldFrames) → held_own me held ≡ true → held_own me (still_held cache held) ≡ true
 own_still_held me cache [] own = refl
 own_still_held me cache (entry ∷ held) own =
     let parts = and_parts (are_own me entry.1) (held_own me held) own in
@@ -201,7 +201,7 @@ own_released me frames cache ip six own =
     elim (hardware_of cache ip) as (λ o. hardware_of cache ip ≡ o → are_own me (released frames o) ≡ true)
     [ None ↦ λ h. refl | Some mac ↦ λ h. own_with_destinations me frames mac (knows_six cache ip mac six h) own ] refl
 
-own_released_by : (me : Me) (cache : Table) (held : Held) → HasSix cache → held_own me held ≡ true → are_own me (released_by cache held) ≡ true
+own_released_by : (me : Me) (cache : Table) (held : HeldFrames) → HasSix cache → held_own me held ≡ true → are_own me (released_by cache held) ≡ true
 own_released_by me cache [] six own = refl
 own_released_by me cache (entry ∷ held) six own =
     let parts = and_parts (are_own me entry.1) (held_own me held) own in

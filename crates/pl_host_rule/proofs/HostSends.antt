@@ -13,21 +13,21 @@ use Rattle.pl_frame.specs.Ethernet.{destination_of, kind_of, with_destination}
 use Rattle.pl_arp.specs.declared.packet.Arp.{Arp}
 use Rattle.pl_arp.specs.declared.cache.Me.{Me}
 use Rattle.pl_arp.specs.Reception.{Table, answer_to, hardware_of, is_target, same_ip, table_after, with_pair}
-use Rattle.pl_logic.specs.declared.acts.HostAct.{HostAct}
-use Rattle.pl_logic.specs.declared.acts.HostAct.TheVariants.{Send}
+use Rattle.pl_node.specs.declared.acts.HostAct.{HostAct}
+use Rattle.pl_node.specs.declared.acts.HostAct.TheVariants.{Send}
 use Rattle.pl_journal.specs.declared.cause.Skip.{Skip}
 use Rattle.pl_journal.specs.declared.cause.Skip.TheVariants as skips
-use Rattle.pl_logic.specs.declared.reception.Reception.TheVariants as reception
+use Rattle.pl_node.specs.declared.reception.Reception.TheVariants as reception
 use Rattle.pl_layouts.specs.Frames.{packet_in}
 use Rattle.pl_layouts.specs.Memberships.{changes_in, group_of, is_group}
 use Rattle.pl_journal.specs.Lossy.{joined_after}
-use Rattle.pl_logic.specs.HostViews.{has_group, Held, HostView, boot_host, held_for, ip_cmp, with_held}
+use Rattle.pl_node.specs.HostViews.{has_group, HeldFrames, HostView, boot_host, held_for, ip_cmp, with_held}
 use Rattle.pl_layouts.specs.Reports.{membership_frame}
 use Rattle.pl_host_rule.specs.HostRule.{HostStep, first_request, having_sent, hearing, holding, host_rule, host_step, is_foreign, is_not_joined, other_host, playing, playing_frame, playing_raw, receiving, released, released_by, reply_frame, report_frame, request_frame, sending, sending_on, sending_to, sending_to_host, skip_of, skipping, start_frame, step_to, still_held, unless_skipped}
-use Rattle.pl_logic.specs.HostInputs.HostInput.{HasMoved, Joins, Leaves, PlaysRaw, Plays, Receives, Retries, Starts}
-use Rattle.pl_logic.specs.HostInputs.HostAnswer.{Nothing, Played, Received}
-use Rattle.pl_logic.specs.HostDuties.{JoinsBySending, joined_by, HoldsData, SendsData, are_data, is_data, sent_by}
-use Rattle.pl_logic.specs.HostInputs.{HostAnswer, HostInput}
+use Rattle.pl_node.specs.HostInputs.HostInput.{HasMoved, Joins, Leaves, PlaysRaw, Plays, Receives, Retries, Starts}
+use Rattle.pl_node.specs.HostInputs.HostAnswer.{Nothing, Played, Received}
+use Rattle.pl_node.specs.HostDuties.{JoinsBySending, joined_by, HoldsData, SendsData, are_data, is_data, sent_by}
+use Rattle.pl_node.specs.HostInputs.{HostAnswer, HostInput}
 use Rattle.pl_host_rule.proofs.HostGroups.{arp_frame_is_silent, has_group-sent, reports_change_nothing}
 use Rattle.pl_host_rule.proofs.HostFrames.{data_append, data_arp_frame, data_from, data_membership_frame, data_one, data_with_destination, data_with_destinations, packet_in-addresses}
 use Rattle.pl_layouts.specs.ArpFrames.{broadcast, no_mac}
@@ -64,7 +64,7 @@ request_is_data : (view : HostView) (ip : Ip4) → HoldsData view → is_data (r
 request_is_data view ip holds =
     data_arp_frame broadcast (record { op = 1; sha = view.me.mac; spa = view.me.ip; tha = no_mac; tpa = ip }) refl holds.me refl
 
-requests_are_data : (view : HostView) (held : Held) → HoldsData view → are_data (map (λ entry. request_frame view.me entry.0) held) ≡ true
+requests_are_data : (view : HostView) (held : HeldFrames) → HoldsData view → are_data (map (λ entry. request_frame view.me entry.0) held) ≡ true
 requests_are_data view [] holds = refl
 requests_are_data view (entry ∷ held) holds =
     and_from (is_data (request_frame view.me entry.0)) (are_data (map (λ entry. request_frame view.me entry.0) held))
@@ -76,7 +76,7 @@ request_is_silent view ip n b holds =
     ap (λ changes. joined_after changes n b)
     (arp_frame_is_silent broadcast (record { op = 1; sha = view.me.mac; spa = view.me.ip; tha = no_mac; tpa = ip }) refl holds.me)
 
-requests_are_silent : (view : HostView) (held : Held) (n : ℕ) (b : Bool) → HoldsData view →
+requests_are_silent : (view : HostView) (held : HeldFrames) (n : ℕ) (b : Bool) → HoldsData view →
     joined_by (map (λ entry. request_frame view.me entry.0) held) n b ≡ b
 requests_are_silent view [] n b holds = refl
 requests_are_silent view (entry ∷ held) n b holds =
@@ -131,22 +131,22 @@ six_after cache me arp long six =
 abbrev entry_is_data : Ip4 × List (List ℕ) → Bool
 entry_is_data entry = are_data entry.1
 
-abbrev held_are_data : Held → Bool
+abbrev held_are_data : HeldFrames → Bool
 held_are_data held = list_all entry_is_data held
 
-data_held_for : (held : Held) (ip : Ip4) → held_are_data held ≡ true → are_data (held_for held ip) ≡ true
+data_held_for : (held : HeldFrames) (ip : Ip4) → held_are_data held ≡ true → are_data (held_for held ip) ≡ true
 data_held_for [] ip are = refl
 data_held_for (entry ∷ held) ip are =
     let parts = and_parts (are_data entry.1) (held_are_data held) are in
     elim (same_ip ip entry.0) as (λ b. are_data (unwrap_or (cond b (Some entry.1) (lookup (same_ip ip) held)) []) ≡ true)
     [ true ↦ parts.0 | false ↦ data_held_for held ip parts.1 ]
 
-data_inserted : (held : Held) (ip : Ip4) (frames : List (List ℕ)) → are_data frames ≡ true → held_are_data held ≡ true →
+data_inserted : (held : HeldFrames) (ip : Ip4) (frames : List (List ℕ)) → are_data frames ≡ true → held_are_data held ≡ true →
     held_are_data (insert_entry ip_cmp held ip frames) ≡ true
 data_inserted [] ip frames are all = and_from (are_data frames) true are refl
 data_inserted (entry ∷ held) ip frames are all =
     let parts = and_parts (are_data entry.1) (held_are_data held) all in
-    let rest : Held = insert_entry ip_cmp held ip frames in
+    let rest : HeldFrames = insert_entry ip_cmp held ip frames in
     elim (ip_cmp ip entry.0)
     as (λ o. held_are_data (match_ordering o ((ip, frames) ∷ entry ∷ held) ((entry.0, frames) ∷ held) (entry ∷ rest)) ≡ true) [
       | Less ↦ and_from (are_data frames) (held_are_data (entry ∷ held)) are all
@@ -154,12 +154,12 @@ data_inserted (entry ∷ held) ip frames are all =
       | Greater ↦ and_from (are_data entry.1) (held_are_data rest) parts.0 (data_inserted held ip frames are parts.1)
     ]
 
-data_with_held : (held : Held) (ip : Ip4) (frame : List ℕ) → is_data frame ≡ true → held_are_data held ≡ true → held_are_data (with_held held ip frame) ≡ true
+data_with_held : (held : HeldFrames) (ip : Ip4) (frame : List ℕ) → is_data frame ≡ true → held_are_data held ≡ true → held_are_data (with_held held ip frame) ≡ true
 data_with_held held ip frame is are =
     data_inserted held ip (held_for held ip ++ frame ∷ [])
     (data_append (held_for held ip) (frame ∷ []) (data_held_for held ip are) (data_one frame is)) are
 
-data_still_held : (cache : Table) (held : Held) → held_are_data held ≡ true → held_are_data (still_held cache held) ≡ true
+data_still_held : (cache : Table) (held : HeldFrames) → held_are_data held ≡ true → held_are_data (still_held cache held) ≡ true
 data_still_held cache [] are = refl
 data_still_held cache (entry ∷ held) are =
     let parts = and_parts (are_data entry.1) (held_are_data held) are in
@@ -173,7 +173,7 @@ data_released frames cache ip six are =
     elim (hardware_of cache ip) as (λ o. hardware_of cache ip ≡ o → are_data (released frames o) ≡ true)
     [ None ↦ λ h. refl | Some mac ↦ λ h. data_with_destinations frames mac (knows_six cache ip mac six h) are ] refl
 
-data_released_by : (cache : Table) (held : Held) → are_six cache ≡ true → held_are_data held ≡ true → are_data (released_by cache held) ≡ true
+data_released_by : (cache : Table) (held : HeldFrames) → are_six cache ≡ true → held_are_data held ≡ true → are_data (released_by cache held) ≡ true
 data_released_by cache [] six are = refl
 data_released_by cache (entry ∷ held) six are =
     let parts = and_parts (are_data entry.1) (held_are_data held) are in

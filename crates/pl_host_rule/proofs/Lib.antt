@@ -4,3 +4,4 @@ pub mod HostGroups
 pub mod HostOrder
 pub mod HostOwn
 pub mod Lawful
+pub mod Exports

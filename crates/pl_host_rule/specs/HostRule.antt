@@ -6,22 +6,22 @@ use Rattle.pl_frame.specs.Ethernet.{destination_of, source_of, with_destination}
 use Rattle.pl_arp.specs.declared.packet.Arp.{Arp}
 use Rattle.pl_arp.specs.declared.cache.Me.{Me}
 use Rattle.pl_arp.specs.Reception.{Table, answer_to, hardware_of, table_after}
-use Rattle.pl_logic.specs.declared.acts.HostAct.{HostAct}
-use Rattle.pl_logic.specs.declared.acts.HostAct.TheVariants.{Send}
+use Rattle.pl_node.specs.declared.acts.HostAct.{HostAct}
+use Rattle.pl_node.specs.declared.acts.HostAct.TheVariants.{Send}
 use Rattle.pl_journal.specs.declared.cause.Skip.{Skip}
 use Rattle.pl_journal.specs.declared.cause.Skip.TheVariants.{CutRecord, Short, Long, ForeignSource, ControlType, RecordedArp, NoOwner, HoldFull}
-use Rattle.pl_logic.specs.declared.reception.Reception.TheVariants.{Kept, NotMember}
+use Rattle.pl_node.specs.declared.reception.Reception.TheVariants.{Kept, NotMember}
 use Rattle.pl_layouts.specs.Control.{is_control}
 use Rattle.pl_layouts.specs.Frames.{is_arp, packet_in}
 use Rattle.pl_layouts.specs.Memberships.{flood, group_of, is_group}
 use Rattle.pl_layouts.specs.Reports.{membership_frame}
-use Rattle.pl_logic.specs.HostViews.{Held, HostView, groups_after, has_group, held_for, hold_limit, with_held}
+use Rattle.pl_node.specs.HostViews.{HeldFrames, HostView, groups_after, has_group, held_for, hold_limit, with_held}
 use Rattle.pl_layouts.specs.ArpFrames.{arp_frame, broadcast, no_mac}
 use Rattle.pl_layouts.specs.Equality.{same_mac}
-use Rattle.pl_logic.specs.HostDuties.{is_of}
-use Rattle.pl_logic.specs.HostInputs.{HostInput, HostAnswer, HostRule}
-use Rattle.pl_logic.specs.HostInputs.HostInput.{Starts, Retries, HasMoved, Plays, PlaysRaw, Joins, Leaves, Receives}
-use Rattle.pl_logic.specs.HostInputs.HostAnswer.{Nothing, Played, Received}
+use Rattle.pl_node.specs.HostDuties.{is_of}
+use Rattle.pl_node.specs.HostInputs.{HostInput, HostAnswer, HostRule}
+use Rattle.pl_node.specs.HostInputs.HostInput.{Starts, Retries, HasMoved, Plays, PlaysRaw, Joins, Leaves, Receives}
+use Rattle.pl_node.specs.HostInputs.HostAnswer.{Nothing, Played, Received}
 
 -- the host after a step, what it did, and its answer
 pub record HostStep : Type 0 where
@@ -86,7 +86,7 @@ abbrev pub other_host : HostView → Mac → Option Me
 other_host view mac = find (λ host. same_mac host.mac mac && not (same_mac mac view.me.mac)) view.table
 
 -- whether no further frame can be held for a host
-abbrev pub is_full : Held → Option Me → Bool
+abbrev pub is_full : HeldFrames → Option Me → Bool
 is_full held None = false
 is_full held (Some host) = nat_le hold_limit (length (held_for held host.ip))
 
@@ -161,11 +161,11 @@ released frames None = []
 released frames (Some mac) = map (λ frame. with_destination frame mac) frames
 
 -- all that are released, by rising address
-abbrev pub released_by : Table → Held → List (List ℕ)
+abbrev pub released_by : Table → HeldFrames → List (List ℕ)
 released_by cache held = flat_map (λ entry. released entry.1 (hardware_of cache entry.0)) held
 
 -- and those that go on to wait
-abbrev pub still_held : Table → Held → Held
+abbrev pub still_held : Table → HeldFrames → HeldFrames
 still_held cache held = filter (λ entry. is_none (hardware_of cache entry.0)) held
 
 -- a host that has learnt sends its reply, if it owes one, and then the frames that waited for what it learnt

@@ -1,10 +1,10 @@
 ghost use Rattle.std.specs.Prelude.{◌≡◌, ◌<◌, ◌^◌, List, length};
 ghost use Rattle.pl_arp.specs.declared.cache.Me.{Me};
-ghost use Rattle.pl_logic.specs.declared.acts.HostAct.{HostAct};
-ghost use Rattle.pl_logic.specs.HostViews.{HostView, IsOrderly, boot_host};
+ghost use Rattle.pl_node.specs.declared.acts.HostAct.{HostAct};
+ghost use Rattle.pl_node.specs.HostViews.{HostView, IsOrderlyHost, boot_host};
 ghost use Rattle.pl_host_rule.specs.HostRule.{host_rule};
-ghost use Rattle.pl_logic.specs.HostDuties.{HoldsData, HoldsOwn, HostsJoinBySending, HostsKeepFrames, HostsSendData, HostsSendOwn};
-ghost use Rattle.pl_logic.specs.HostInputs.{HostAnswer, HostInput};
+ghost use Rattle.pl_node.specs.HostDuties.{HoldsData, HoldsOwn, HostsJoinBySending, HostsKeepFrames, HostsSendData, HostsSendOwn};
+ghost use Rattle.pl_node.specs.HostInputs.{HostAnswer, HostInput};
 
 /// A host holds and sends only frames of 14 to 65,553 bytes that are no control frames, from its boot
 /// on and whatever it is told or hears, and it keeps its addresses and its table.
@@ -35,8 +35,8 @@ pub fn a_host_has_joined_what_its_frames_say()
 /// From its boot on a host keeps its groups and the addresses with held frames rising, no two groups
 /// with one number, and for an address at most 64 frames, none once its cache knows the address.
 pub fn a_host_is_orderly()
-    ensures boots { (me : Me) (table : List Me) → IsOrderly (boot_host me table) }
+    ensures boots { (me : Me) (table : List Me) → IsOrderlyHost (boot_host me table) }
     ensures stays { (view : HostView) (input : HostInput) (after : HostView) (acts : List HostAct)
-        (answer : HostAnswer) → IsOrderly view → host_rule view input after acts answer →
-        IsOrderly after }
+        (answer : HostAnswer) → IsOrderlyHost view → host_rule view input after acts answer →
+        IsOrderlyHost after }
 {}

@@ -3,7 +3,7 @@ use Rattle.std.proofs.Common.{◌≡◌, ℕ, suc, ◌+◌, ◌-◌, ◌≤◌, 
 use Rattle.std.proofs.lemmas.List.{take_more}
 use Rattle.std.proofs.lemmas.List.Sums.{sum_by-append}
 use Rattle.std.proofs.lemmas.Option.{get_or_from_slice_get, slice_get_within}
-use Rattle.pl_shelf.specs.Held.{Held, IsLonger, IsWhole, Same}
+use Rattle.pl_shelf.specs.Held.{Held, IsLonger, HoldsExactly, Same}
 use Rattle.pl_wiring.specs.declared.host.Host.{Host}
 use Rattle.pl_wiring.specs.Plan.{Plan}
 use Rattle.pl_script.specs.declared.script.ScriptLine.{ScriptLine}
@@ -13,13 +13,13 @@ use Rattle.pl_inputs.specs.declared.status.Status.{Status}
 use Rattle.pl_inputs.specs.declared.status.Status.TheVariants as status
 use Rattle.pl_inputs.specs.Gathered.{IsRefusedFile, IsUngathered, IsUntaken}
 use Rattle.pl_inputs.specs.Folders.{in_folder}
-use Rattle.pl_inputs.specs.Inputs.{AreCaptures, HasLines, HasPlan, IsCapture, IsCaptureAt, IsLoaded, all_bytes, captures_limit, text_limit}
+use Rattle.pl_inputs.specs.Inputs.{AreCaptures, HasLines, HasPlan, IsCaptureFile, IsCaptureAt, IsLoaded, all_bytes, captures_limit, text_limit}
 use Rattle.pl_inputs.specs.Loads.{IsUnplanned, IsUnscripted}
 use Rattle.pl_inputs.specs.Unread.{AreTextsRead, ComesTo, IsNextCapture, IsRefusedCapture, IsTooMuch, IsUnread}
 use Rattle.pl_inputs.specs.Words.{Asked}
 
-same_whole : {old new : List ℕ → Held} → Same old new → (name file : List ℕ) → IsWhole (new name) file → IsWhole (old name) file
-same_whole same name file whole = subst (λ h. IsWhole h file) (same name) whole
+same_whole : {old new : List ℕ → Held} → Same old new → (name file : List ℕ) → HoldsExactly (new name) file → HoldsExactly (old name) file
+same_whole same name file whole = subst (λ h. HoldsExactly h file) (same name) whole
 
 same_longer : {old new : List ℕ → Held} → Same old new → (name : List ℕ) (limit : ℕ) → IsLonger (new name) limit → IsLonger (old name) limit
 same_longer same name limit longer = subst (λ h. IsLonger h limit) (same name) longer
@@ -119,7 +119,7 @@ ungathered old mid new first same asked plan lines has written _ u = absurd u
 
 -- one host more
 one_capture_more : (held : List ℕ → Held) (folder : List ℕ) (hosts : List Host) (files : List (List ℕ)) (h : Host) (file : List ℕ) →
-    AreCaptures held folder hosts files → IsCaptureAt held folder h.capture file → IsCapture file → AreCaptures held folder (hosts ++ h ∷ []) (files ++ file ∷ [])
+    AreCaptures held folder hosts files → IsCaptureAt held folder h.capture file → IsCaptureFile file → AreCaptures held folder (hosts ++ h ∷ []) (files ++ file ∷ [])
 one_capture_more held folder [] [] h file are is read = (is, read, tt)
 one_capture_more held folder [] (f ∷ files) h file are is read = absurd are
 one_capture_more held folder (g ∷ hosts) [] h file are is read = absurd are
@@ -196,7 +196,7 @@ untaken old new folder hosts n files left host g stands e u = untaken_by old new
 
 -- the next host's capture is read
 pub gathers_on : (old mid new : List ℕ → Held) (folder : List ℕ) (hosts : List Host) (n : ℕ) (files : List (List ℕ)) (left : ℕ) (host : Host) (file : List ℕ) →
-    Gathers old mid folder hosts n files left → Same mid new → slice_get hosts n ≡ Some host → IsCaptureAt mid folder host.capture file → IsCapture file →
+    Gathers old mid folder hosts n files left → Same mid new → slice_get hosts n ≡ Some host → IsCaptureAt mid folder host.capture file → IsCaptureFile file →
     length file ≤ left → Gathers old new folder hosts (n + 1) (files ++ file ∷ []) (left - length file)
 gathers_on old mid new folder hosts n files left host file g same stands is read within = record {
   read = subst (λ hs. AreCaptures old folder hs (files ++ file ∷ [])) (sym (front_of hosts n host stands))

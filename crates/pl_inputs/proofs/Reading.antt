@@ -18,11 +18,11 @@ use Rattle.pl_inputs.specs.Reader.{HasRead, tail_of}
 use Rattle.pl_inputs.specs.Readings.{by_records, by_sections, reading_of}
 use Rattle.pl_inputs.specs.Walks.{IsRefusedWalk, of_sections}
 
-pub read_by_records : (file : List ℕ) (r : libpcap.Reading) → is_pcapng file ≡ false → libpcap.reading_of file ≡ r → reading_of file ≡ by_records r
+pub read_by_records : (file : List ℕ) (r : libpcap.CaptureReading) → is_pcapng file ≡ false → libpcap.reading_of file ≡ r → reading_of file ≡ by_records r
 unfolding reading_of
 read_by_records file r kind is = rw (kind, is) refl
 
-pub read_by_sections : (file : List ℕ) (r : pcapng.Reading) → is_pcapng file ≡ true → pcapng.reading_of file ≡ r → reading_of file ≡ by_sections r
+pub read_by_sections : (file : List ℕ) (r : pcapng.SectionsReading) → is_pcapng file ≡ true → pcapng.reading_of file ≡ r → reading_of file ≡ by_sections r
 unfolding reading_of
 read_by_sections file r kind is = rw (kind, is) refl
 
@@ -47,11 +47,11 @@ refused_by_sections file (BadRecord at) kind (inl is) = absurd cc
 
 -- a reader of each kind
 pub libpcap_in : (file : List ℕ) (reader : Reader) (cursor : Records) → reader ≡ Libpcap cursor → (cs : List Captured) → HasRead file cs reader →
-    (is_pcapng file ≡ false) × records.HasRead file cs cursor
+    (is_pcapng file ≡ false) × records.HasReadRecords file cs cursor
 libpcap_in file reader cursor is cs has = subst (λ r. HasRead file cs r) is has
 
 pub pcapng_in : (file : List ℕ) (reader : Reader) (cursor : Sections) → reader ≡ Pcapng cursor → (cs : List Captured) → HasRead file cs reader →
-    (is_pcapng file ≡ true) × cursors.HasRead file cs cursor
+    (is_pcapng file ≡ true) × cursors.HasReadBlocks file cs cursor
 pcapng_in file reader cursor is cs has = subst (λ r. HasRead file cs r) is has
 
 pub ended_by_records : (file : List ℕ) (cs : List Captured) (found : Option Captured) (cursor : Records) → is_pcapng file ≡ false →
@@ -65,7 +65,7 @@ ended_by_sections file cs None cursor kind is = read_by_sections file (Ok (cs, c
 ended_by_sections file cs (Some c) cursor kind is = is
 
 pub found_by_sections : (file : List ℕ) (cs : List Captured) (found : Option Captured) (cursor : Sections) → is_pcapng file ≡ true →
-    IfSome found (λ c. cursors.HasRead file (cs ++ c ∷ []) cursor) → IfSome found (λ c. HasRead file (cs ++ c ∷ []) (Pcapng cursor))
+    IfSome found (λ c. cursors.HasReadBlocks file (cs ++ c ∷ []) cursor) → IfSome found (λ c. HasRead file (cs ++ c ∷ []) (Pcapng cursor))
 found_by_sections file cs None cursor kind is = is
 found_by_sections file cs (Some c) cursor kind is = (kind, is)
 

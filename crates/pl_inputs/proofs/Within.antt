@@ -2,20 +2,20 @@
 use Rattle.std.proofs.Common.{◌≡◌, ℕ, ◌+◌, ◌≤◌, true, false, if◌then◌else◌, List, length, All, Ok, Err}
 use Rattle.pl_capture.specs.declared.records.Captured.{Captured}
 use Rattle.pl_capture.specs.Capture as libpcap
-use Rattle.pl_capture.proofs.Reading as records
+use Rattle.pl_capture.proofs.Exports.Reading as records
 use Rattle.pl_pcapng.specs.Layout.{is_pcapng}
 use Rattle.pl_pcapng.specs.Sections as pcapng
-use Rattle.pl_pcapng.proofs.Walks as sections
-use Rattle.pl_inputs.specs.Readings.{Reading, by_records, by_sections, reading_of}
+use Rattle.pl_pcapng.proofs.Exports.Walks as sections
+use Rattle.pl_inputs.specs.Readings.{FileReading, by_records, by_sections, reading_of}
 
-abbrev read : List Captured → ℕ → Reading
+abbrev read : List Captured → ℕ → FileReading
 read records tail = Ok (records, tail)
 
-of_records : (r : libpcap.Reading) (cs : List Captured) (tail : ℕ) → by_records r ≡ read cs tail → r ≡ Ok (cs, tail)
+of_records : (r : libpcap.CaptureReading) (cs : List Captured) (tail : ℕ) → by_records r ≡ read cs tail → r ≡ Ok (cs, tail)
 of_records (Ok x) cs tail is = cc
 of_records (Err e) cs tail is = absurd cc
 
-of_sections : (r : pcapng.Reading) (cs : List Captured) (tail : ℕ) → by_sections r ≡ read cs tail → r ≡ Ok (cs, tail)
+of_sections : (r : pcapng.SectionsReading) (cs : List Captured) (tail : ℕ) → by_sections r ≡ read cs tail → r ≡ Ok (cs, tail)
 of_sections (Ok x) cs tail is = cc
 of_sections (Err e) cs tail is = absurd cc
 

@@ -1,7 +1,7 @@
 -- What a run reads: a topology, a script, and the captures of the hosts.
 use Rattle.std.specs.Prelude.{◌≡◌, ℕ, ◌≤◌, List, [], ◌∷◌, length, Option, None, Some, Ok}
 use Rattle.std.specs.List.{sum_by}
-use Rattle.pl_shelf.specs.Held.{Held, IsWhole}
+use Rattle.pl_shelf.specs.Held.{Held, HoldsExactly}
 use Rattle.pl_capture.specs.declared.records.Captured.{Captured}
 use Rattle.pl_wiring.specs.declared.host.Host.{Host}
 use Rattle.pl_topology.specs.Meaning.{topology_of}
@@ -21,23 +21,23 @@ captures_limit = 67108864
 
 -- A name was read whole, and is within its limit.
 pub record IsLoaded (held : List ℕ → Held) (name : List ℕ) (limit : ℕ) (file : List ℕ) : Type 0 where
-  pub whole : IsWhole (held name) file
+  pub whole : HoldsExactly (held name) file
   pub within : length file ≤ limit
 
 -- the capture of a host; none where it names none
 abbrev pub IsCaptureAt : (List ℕ → Held) → List ℕ → Option (List ℕ) → List ℕ → Type 0
 IsCaptureAt held folder None file = file ≡ []
-IsCaptureAt held folder (Some name) file = IsWhole (held (in_folder folder name)) file
+IsCaptureAt held folder (Some name) file = HoldsExactly (held (in_folder folder name)) file
 
 -- a file that is a capture, by the grammar of its kind
-abbrev pub IsCapture : List ℕ → Type 0
-IsCapture file = (read : List Captured × ℕ) × (reading_of file ≡ Ok read)
+abbrev pub IsCaptureFile : List ℕ → Type 0
+IsCaptureFile file = (read : List Captured × ℕ) × (reading_of file ≡ Ok read)
 
 -- for each of the hosts a capture
 abbrev pub AreCaptures : (List ℕ → Held) → List ℕ → List Host → List (List ℕ) → Type 0
 AreCaptures held folder [] [] = Unit {0}
 AreCaptures held folder (h ∷ hosts) (file ∷ files) =
-    IsCaptureAt held folder h.capture file × IsCapture file × AreCaptures held folder hosts files
+    IsCaptureAt held folder h.capture file × IsCaptureFile file × AreCaptures held folder hosts files
 AreCaptures held folder _ _ = ⊥
 
 abbrev pub all_bytes : List (List ℕ) → ℕ

@@ -25,11 +25,11 @@ abbrev pub given : Item → Given
 given item = (item.name.now, item.value.now)
 
 -- what may be made
-pub record IsWithin (g : Generation) : Type 0 where
+pub record MayBeMade (g : Generation) : Type 0 where
   pub arity : IsArity g.k
   pub some_frames : 1 ≤ g.frames
   pub few_frames : g.frames ≤ 100000
 
 abbrev pub IsWithinLimits : Told → Type 0
-IsWithinLimits (told.Generate generation) = IsWithin generation
+IsWithinLimits (told.Generate generation) = MayBeMade generation
 IsWithinLimits _ = Unit {0}

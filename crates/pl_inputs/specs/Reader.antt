@@ -9,8 +9,8 @@ use Rattle.pl_inputs.specs.declared.loading.reader.Reader.TheVariants.{Libpcap, 
 
 -- the reader is one of the file's kind, and stands behind these records, the first of the file
 abbrev pub HasRead : List ℕ → List Captured → Reader → Type 0
-HasRead file records (Libpcap cursor) = (is_pcapng file ≡ false) × libpcap.HasRead file records cursor
-HasRead file records (Pcapng cursor) = (is_pcapng file ≡ true) × pcapng.HasRead file records cursor
+HasRead file records (Libpcap cursor) = (is_pcapng file ≡ false) × libpcap.HasReadRecords file records cursor
+HasRead file records (Pcapng cursor) = (is_pcapng file ≡ true) × pcapng.HasReadBlocks file records cursor
 
 -- the bytes behind it
 abbrev pub tail_of : List ℕ → Reader → ℕ

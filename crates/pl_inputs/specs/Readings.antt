@@ -9,16 +9,16 @@ use Rattle.pl_inputs.specs.declared.fault.CaptureFault.{CaptureFault}
 use Rattle.pl_inputs.specs.declared.fault.CaptureFault.TheVariants.{OfRecords, OfSections}
 
 -- the records of a file and the length of its tail, or the first refusal
-abbrev pub Reading : Type 0
-Reading = Result (List Captured × ℕ) CaptureFault
+abbrev pub FileReading : Type 0
+FileReading = Result (List Captured × ℕ) CaptureFault
 
-abbrev pub by_records : libpcap.Reading → Reading
+abbrev pub by_records : libpcap.CaptureReading → FileReading
 by_records (Ok read) = Ok read
 by_records (Err e) = Err (OfRecords e)
 
-abbrev pub by_sections : pcapng.Reading → Reading
+abbrev pub by_sections : pcapng.SectionsReading → FileReading
 by_sections (Ok read) = Ok read
 by_sections (Err e) = Err (OfSections e)
 
-unfoldable pub reading_of : List ℕ → Reading
+unfoldable pub reading_of : List ℕ → FileReading
 reading_of file = if is_pcapng file then by_sections (pcapng.reading_of file) else by_records (libpcap.reading_of file)

@@ -4,7 +4,7 @@ use Rattle.pl_capture.specs.declared.records.Captured.{Captured}
 use Rattle.pl_capture.specs.Spelling.{frame_of}
 use Rattle.pl_inputs.specs.declared.capture.Capture.{Capture}
 use Rattle.pl_inputs.specs.declared.records.RecordedFrame.{RecordedFrame}
-use Rattle.pl_inputs.specs.Readings.{Reading, reading_of}
+use Rattle.pl_inputs.specs.Readings.{FileReading, reading_of}
 
 -- a record of a capture: the bytes that it has of a frame, and how many the frame had
 pub record Recorded : Type 0 where
@@ -15,11 +15,11 @@ abbrev pub recorded_in : List ℕ → Captured → Recorded
 recorded_in file c = record { frame = frame_of file c; original = c.original }
 
 -- what a file has by its reading: its records, and how many bytes stand behind them
-abbrev pub records_by : List ℕ → Reading → List Recorded
+abbrev pub records_by : List ℕ → FileReading → List Recorded
 records_by file (Ok read) = map (recorded_in file) read.0
 records_by file (Err e) = []
 
-abbrev pub tail_by : Reading → ℕ
+abbrev pub tail_by : FileReading → ℕ
 tail_by (Ok read) = read.1
 tail_by (Err e) = 0
 

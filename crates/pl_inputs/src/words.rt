@@ -3,7 +3,7 @@ ghost use Rattle.std.specs.Prelude.{◌≡◌, ◌≤◌, List, option_map, IfSo
 ghost use Rattle.std.specs.Option.{option_and_then};
 ghost use Rattle.pl_inputs.specs.Words.{arity_in, check_by, check_items, generate_by, generate_items, generation_of, number_in, run_by, run_items, task_of, values_by};
 ghost use Rattle.pl_wiring.specs.Labels.{IsArity};
-ghost use Rattle.pl_inputs.specs.Met.{IsWithin, IsWithinLimits, task, texts};
+ghost use Rattle.pl_inputs.specs.Met.{MayBeMade, IsWithinLimits, task, texts};
 
 use items::Items;
 use pl_script::number;
@@ -114,7 +114,7 @@ impl Generation {
     #[tactic(auto, unfolding(crate::specs::Words::generation_of))]
     fn of(k: &str, number: &str, frames: &str) -> Option<Generation>
         ensures exact { result ≡ generation_of k.now number.now frames.now }
-        ensures within { IfSome result IsWithin }
+        ensures within { IfSome result MayBeMade }
     {
         let k = arity_in(k)?;
         let number = number_in(number, 0, u64::MAX)?;

@@ -2,7 +2,7 @@
 use Rattle.std.proofs.Common.{◌≡◌, ◌≢◌, ℕ, ◌≤◌, Bool, true, false, cond, ◌==◌, List, [], ◌∷◌, ◌++◌, Option, Some, None, is_some, IsSome, refl, sym, ap, ◌∙◌, inl, inr, arith}
 use Rattle.std.proofs.lemmas.Bool.{eqb-true, eq-eqb, ne_eqb, cases_Bool, cond-true, cond-false}
 use Rattle.std.proofs.lemmas.Option.{none-some, same_Some}
-use Rattle.pl_lemmas.proofs.Options.{none_of}
+use Rattle.pl_lemmas.proofs.Exports.{none_of}
 use Rattle.pl_pmac.specs.declared.pmac.Pmac.{Pmac}
 use Rattle.pl_pmac.specs.Pmac.{pmac_number}
 use Rattle.pl_wiring.specs.declared.label.SwitchNo.{SwitchNo}
@@ -10,16 +10,16 @@ use Rattle.pl_wiring.specs.declared.host.HostNo.{HostNo}
 use Rattle.pl_wiring.specs.Plan.{Plan}
 use Rattle.pl_journal.specs.declared.entry.Entry.{Entry}
 use Rattle.pl_journal.specs.declared.entry.Entry.TheVariants.{Granted, Registered}
-use Rattle.pl_journal.specs.Places.{Spot, at_port, holder, number, registered, spot}
+use Rattle.pl_journal.specs.Places.{EdgePort, at_port, holder, number, registered, edge_port}
 use Rattle.pl_journal.specs.Lossy.{RunTo}
 
 pub holder_of_granted : (past : List Entry) (x : Pmac) (host : HostNo) (edge : SwitchNo) (port : ℕ) →
     holder (Granted x host edge port ∷ past) (pmac_number x) ≡ Some host.0
 holder_of_granted past x host edge port = let x' : ℕ = pmac_number x in rw (eq-eqb x' x' refl) refl
 
-pub spot_of_granted : (past : List Entry) (x : Pmac) (host : HostNo) (edge : SwitchNo) (port : ℕ) →
-    spot (Granted x host edge port ∷ past) (pmac_number x) ≡ Some (at_port edge.0 port)
-spot_of_granted past x host edge port = let x' : ℕ = pmac_number x in rw (eq-eqb x' x' refl) refl
+pub edge_port_of_granted : (past : List Entry) (x : Pmac) (host : HostNo) (edge : SwitchNo) (port : ℕ) →
+    edge_port (Granted x host edge port ∷ past) (pmac_number x) ≡ Some (at_port edge.0 port)
+edge_port_of_granted past x host edge port = let x' : ℕ = pmac_number x in rw (eq-eqb x' x' refl) refl
 
 pub number_of_registered : (past : List Entry) (x : Pmac) (n : ℕ) → number (Registered x n ∷ past) (pmac_number x) ≡ Some n
 number_of_registered past x n = let x' : ℕ = pmac_number x in rw (eq-eqb x' x' refl) refl
@@ -28,9 +28,9 @@ pub other_holder : (past : List Entry) (x : Pmac) (host : HostNo) (edge : Switch
     holder (Granted x host edge port ∷ past) y ≡ holder past y
 other_holder past x host edge port y apart = cond-false (pmac_number x == y) (Some host.0) (holder past y) (ne_eqb (pmac_number x) y apart)
 
-pub other_spot : (past : List Entry) (x : Pmac) (host : HostNo) (edge : SwitchNo) (port y : ℕ) → pmac_number x ≢ y →
-    spot (Granted x host edge port ∷ past) y ≡ spot past y
-other_spot past x host edge port y apart = cond-false (pmac_number x == y) (Some (at_port edge.0 port)) (spot past y) (ne_eqb (pmac_number x) y apart)
+pub other_edge_port : (past : List Entry) (x : Pmac) (host : HostNo) (edge : SwitchNo) (port y : ℕ) → pmac_number x ≢ y →
+    edge_port (Granted x host edge port ∷ past) y ≡ edge_port past y
+other_edge_port past x host edge port y apart = cond-false (pmac_number x == y) (Some (at_port edge.0 port)) (edge_port past y) (ne_eqb (pmac_number x) y apart)
 
 pub other_number : (past : List Entry) (x : Pmac) (n y : ℕ) → pmac_number x ≢ y → number (Registered x n ∷ past) y ≡ number past y
 other_number past x n y apart = cond-false (pmac_number x == y) (Some n) (number past y) (ne_eqb (pmac_number x) y apart)
@@ -40,10 +40,10 @@ both_some true x y o p same = refl
 both_some false x y o p same = same
 
 -- an address with a holder has a port, and one with a port has a holder
-pub held_at_a_spot : (past : List Entry) (y : ℕ) → is_some (spot past y) ≡ is_some (holder past y)
-held_at_a_spot [] y = refl
-held_at_a_spot (Granted x host edge port ∷ past) y = both_some (pmac_number x == y) (at_port edge.0 port) host.0 (spot past y) (holder past y) (held_at_a_spot past y)
-held_at_a_spot (entry ∷ past) y = held_at_a_spot past y
+pub held_at_a_edge_port : (past : List Entry) (y : ℕ) → is_some (edge_port past y) ≡ is_some (holder past y)
+held_at_a_edge_port [] y = refl
+held_at_a_edge_port (Granted x host edge port ∷ past) y = both_some (pmac_number x == y) (at_port edge.0 port) host.0 (edge_port past y) (holder past y) (held_at_a_edge_port past y)
+held_at_a_edge_port (entry ∷ past) y = held_at_a_edge_port past y
 
 -- a value that stays where a fresh one is set
 stays : {A : Type 0} (x y : ℕ) (f : ℕ → Option A) (old new : A) → f x ≡ None → f y ≡ Some old → cond (x == y) (Some new) (f y) ≡ Some old
@@ -58,12 +58,12 @@ holder_stays plan (Granted y h e p ∷ newer) past x host run held =
     stays (pmac_number y) x (holder (newer ++ past)) host h.0 run.1.fresh (holder_stays plan newer past x host run.0 held)
 holder_stays plan (entry ∷ newer) past x host run held = holder_stays plan newer past x host run.0 held
 
-pub spot_stays : (plan : Plan) (newer past : List Entry) (x : ℕ) (there : Spot) → RunTo plan (newer ++ past) → spot past x ≡ Some there → spot (newer ++ past) x ≡ Some there
-spot_stays plan [] past x there run stands = stands
-spot_stays plan (Granted y h e p ∷ newer) past x there run stands =
-    let fresh = none_of (spot (newer ++ past) (pmac_number y)) (held_at_a_spot (newer ++ past) (pmac_number y) ∙ ap is_some run.1.fresh) in
-    stays (pmac_number y) x (spot (newer ++ past)) there (at_port e.0 p) fresh (spot_stays plan newer past x there run.0 stands)
-spot_stays plan (entry ∷ newer) past x there run stands = spot_stays plan newer past x there run.0 stands
+pub edge_port_stays : (plan : Plan) (newer past : List Entry) (x : ℕ) (there : EdgePort) → RunTo plan (newer ++ past) → edge_port past x ≡ Some there → edge_port (newer ++ past) x ≡ Some there
+edge_port_stays plan [] past x there run stands = stands
+edge_port_stays plan (Granted y h e p ∷ newer) past x there run stands =
+    let fresh = none_of (edge_port (newer ++ past) (pmac_number y)) (held_at_a_edge_port (newer ++ past) (pmac_number y) ∙ ap is_some run.1.fresh) in
+    stays (pmac_number y) x (edge_port (newer ++ past)) there (at_port e.0 p) fresh (edge_port_stays plan newer past x there run.0 stands)
+edge_port_stays plan (entry ∷ newer) past x there run stands = edge_port_stays plan newer past x there run.0 stands
 
 pub number_stays : (plan : Plan) (newer past : List Entry) (x n : ℕ) → RunTo plan (newer ++ past) → number past x ≡ Some n → number (newer ++ past) x ≡ Some n
 number_stays plan [] past x n run has = has

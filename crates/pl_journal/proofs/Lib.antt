@@ -11,3 +11,4 @@ pub mod Copies
 pub mod Groups
 pub mod LiveLegs
 pub mod Levels
+pub mod Exports

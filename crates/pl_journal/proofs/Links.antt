@@ -7,7 +7,7 @@ use Rattle.pl_wiring.specs.declared.link.Link.{Link}
 use Rattle.pl_wiring.specs.Plan.{Plan}
 use Rattle.pl_journal.specs.declared.entry.Entry.{Entry}
 use Rattle.pl_journal.specs.declared.entry.Entry.TheVariants.{Copied, Crossed, LinkDown, LinkUp}
-use Rattle.pl_journal.specs.Places.{is_failed, is_joined, same_ends}
+use Rattle.pl_journal.specs.Places.{is_failed, is_adjacent, same_ends}
 use Rattle.pl_journal.specs.Flights.{before_copy, was_live}
 use Rattle.pl_journal.specs.Lossy.{RunTo}
 
@@ -40,25 +40,25 @@ any_either_way [] a b = refl
 any_either_way (l ∷ links) a b = ap₂ (λ s t. s || t) (same_ends-swap l.lower.0 l.upper.0 a b) (any_either_way links a b)
 
 -- the link between these ends, in either order
-joined_ends : (plan : Plan) (x y a b : ℕ) → same_ends x y a b ≡ true → is_joined plan x y ≡ true → is_joined plan a b ≡ true
-joined_ends plan x y a b same joined = elim (or_cases ((x == a) && (y == b)) ((x == b) && (y == a)) same) [
-  | inl straight ↦ let parts = and_parts (x == a) (y == b) straight in sym (ap₂ (is_joined plan) (eqb-true x a parts.0) (eqb-true y b parts.1)) ∙ joined
+adjacent_ends : (plan : Plan) (x y a b : ℕ) → same_ends x y a b ≡ true → is_adjacent plan x y ≡ true → is_adjacent plan a b ≡ true
+adjacent_ends plan x y a b same adjacent = elim (or_cases ((x == a) && (y == b)) ((x == b) && (y == a)) same) [
+  | inl straight ↦ let parts = and_parts (x == a) (y == b) straight in sym (ap₂ (is_adjacent plan) (eqb-true x a parts.0) (eqb-true y b parts.1)) ∙ adjacent
   | inr crossed ↦
       let parts = and_parts (x == b) (y == a) crossed in
-      any_either_way plan.links a b ∙ sym (ap₂ (is_joined plan) (eqb-true x b parts.0) (eqb-true y a parts.1)) ∙ joined
+      any_either_way plan.links a b ∙ sym (ap₂ (is_adjacent plan) (eqb-true x b parts.0) (eqb-true y a parts.1)) ∙ adjacent
 ]
 
-pub failed_is_joined : (plan : Plan) (past : List Entry) (a b : ℕ) → RunTo plan past → is_failed past a b ≡ true → is_joined plan a b ≡ true
-failed_is_joined plan [] a b run failed = absurd (false≢true failed)
-failed_is_joined plan (LinkDown x y ∷ past) a b run failed = elim (cases_Bool (same_ends x.0 y.0 a b)) [
-  | inl same ↦ joined_ends plan x.0 y.0 a b same run.1.joined
-  | inr other ↦ failed_is_joined plan past a b run.0 (sym (cond-false (same_ends x.0 y.0 a b) true (is_failed past a b) other) ∙ failed)
+pub failed_is_adjacent : (plan : Plan) (past : List Entry) (a b : ℕ) → RunTo plan past → is_failed past a b ≡ true → is_adjacent plan a b ≡ true
+failed_is_adjacent plan [] a b run failed = absurd (false≢true failed)
+failed_is_adjacent plan (LinkDown x y ∷ past) a b run failed = elim (cases_Bool (same_ends x.0 y.0 a b)) [
+  | inl same ↦ adjacent_ends plan x.0 y.0 a b same run.1.adjacent
+  | inr other ↦ failed_is_adjacent plan past a b run.0 (sym (cond-false (same_ends x.0 y.0 a b) true (is_failed past a b) other) ∙ failed)
 ]
-failed_is_joined plan (LinkUp x y ∷ past) a b run failed = elim (cases_Bool (same_ends x.0 y.0 a b)) [
+failed_is_adjacent plan (LinkUp x y ∷ past) a b run failed = elim (cases_Bool (same_ends x.0 y.0 a b)) [
   | inl same ↦ absurd (false≢true (sym (cond-true (same_ends x.0 y.0 a b) false (is_failed past a b) same) ∙ failed))
-  | inr other ↦ failed_is_joined plan past a b run.0 (sym (cond-false (same_ends x.0 y.0 a b) false (is_failed past a b) other) ∙ failed)
+  | inr other ↦ failed_is_adjacent plan past a b run.0 (sym (cond-false (same_ends x.0 y.0 a b) false (is_failed past a b) other) ∙ failed)
 ]
-failed_is_joined plan (entry ∷ past) a b run failed = failed_is_joined plan past a b run.0 failed
+failed_is_adjacent plan (entry ∷ past) a b run failed = failed_is_adjacent plan past a b run.0 failed
 
 pub live_is_not_failed : (past : List Entry) (id a b : ℕ) → was_live past id a b ≡ true → is_failed past a b ≡ false
 live_is_not_failed [] id a b live = refl

@@ -5,7 +5,7 @@ use Rattle.pl_wiring.specs.declared.label.SwitchNo.{SwitchNo}
 use Rattle.pl_wiring.specs.Plan.{Plan}
 use Rattle.pl_journal.specs.declared.entry.Entry.{Entry}
 use Rattle.pl_journal.specs.declared.entry.Entry.TheVariants.{Sent, Made, Copied, Crossed, LinkDown}
-use Rattle.pl_journal.specs.Places.{is_failed, is_joined, same_ends}
+use Rattle.pl_journal.specs.Places.{is_failed, is_adjacent, same_ends}
 use Rattle.pl_journal.specs.Flights.{before_copy, is_empty, is_good_leg, is_led_to, leg, trail, was_live}
 use Rattle.pl_journal.specs.Causes.{goes_to_group, has_crossed}
 use Rattle.pl_journal.specs.Lossy.{CrossesWell, GoodTrailTo, RunTo, goes_well}
@@ -64,7 +64,7 @@ past_run plan (e ∷ newer) entry past run = past_run plan newer entry past run.
 
 -- where a frame to one host crossed one more switch, it was led there
 led : (plan : Plan) (newer past : List Entry) (id last : ℕ) (next : SwitchNo) (earlier : List ℕ) → GoodTrailTo plan (newer ++ Crossed id next ∷ past) →
-    goes_to_group past id ≡ false → leg past id ≡ last ∷ earlier → (is_joined plan last next.0 ≡ true) × (was_live past id last next.0 ≡ true)
+    goes_to_group past id ≡ false → leg past id ≡ last ∷ earlier → (is_adjacent plan last next.0 ≡ true) × (was_live past id last next.0 ≡ true)
 led plan newer past id last next earlier good one is =
     let well : goes_well plan past id (leg past id) next.0 ≡ true = elim (or_cases (goes_to_group past id) (goes_well plan past id (leg past id) next.0) (crossed_well plan newer (Crossed id next) past good)) [
       | inl group ↦ absurd (both_ways (goes_to_group past id) one group)
@@ -72,11 +72,11 @@ led plan newer past id last next earlier good one is =
     ] in
     let here : goes_well plan past id (last ∷ earlier) next.0 ≡ true = subst (λ switches. goes_well plan past id switches next.0 ≡ true) is well in
     let parts = and_parts (is_good_leg plan.k (next.0 ∷ last ∷ earlier)) (is_led_to plan past id (last ∷ earlier) next.0) here in
-    and_parts (is_joined plan last next.0) (was_live past id last next.0) parts.1
+    and_parts (is_adjacent plan last next.0) (was_live past id last next.0) parts.1
 
-pub leg_joined : (plan : Plan) (newer past : List Entry) (id last : ℕ) (next : SwitchNo) (earlier : List ℕ) → GoodTrailTo plan (newer ++ Crossed id next ∷ past) →
-    goes_to_group past id ≡ false → leg past id ≡ last ∷ earlier → is_joined plan last next.0 ≡ true
-leg_joined plan newer past id last next earlier good one is = (led plan newer past id last next earlier good one is).0
+pub leg_adjacent : (plan : Plan) (newer past : List Entry) (id last : ℕ) (next : SwitchNo) (earlier : List ℕ) → GoodTrailTo plan (newer ++ Crossed id next ∷ past) →
+    goes_to_group past id ≡ false → leg past id ≡ last ∷ earlier → is_adjacent plan last next.0 ≡ true
+leg_adjacent plan newer past id last next earlier good one is = (led plan newer past id last next earlier good one is).0
 
 pub leg_live : (plan : Plan) (newer since past : List Entry) (id last : ℕ) (next : SwitchNo) (earlier : List ℕ) →
     RunTo plan (newer ++ Crossed id next ∷ (since ++ past)) → GoodTrailTo plan (newer ++ Crossed id next ∷ (since ++ past)) →

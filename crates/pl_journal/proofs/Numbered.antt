@@ -4,7 +4,7 @@ use Rattle.std.specs.List.{range_with_len}
 use Rattle.std.proofs.lemmas.Bool.{false≢true, eqb-true, eqb-false, eq-eqb, ne_eqb, or_cases, or_left, or_right, or_parts, and_parts, and_from, cases_Bool, cases_eq, cond_both, both_ways}
 use Rattle.std.proofs.lemmas.List.{reverse-append, reverse-reverse}
 use Rattle.std.proofs.lemmas.List.Elements.{filter_map-append}
-use Rattle.pl_lemmas.proofs.Lists.{range_more}
+use Rattle.pl_lemmas.proofs.Exports.{range_more}
 use Rattle.pl_wiring.specs.Plan.{Plan}
 use Rattle.pl_journal.specs.declared.entry.Entry.{Entry}
 use Rattle.pl_journal.specs.declared.entry.Entry.TheVariants.{Sent, Made, Copied, Arrived, Taken, Dropped}

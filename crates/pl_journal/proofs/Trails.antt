@@ -4,8 +4,8 @@ use Rattle.std.proofs.lemmas.Bool.{eqb-true, or_cases, and_parts, and_from, case
 use Rattle.pl_wiring.specs.Plan.{Plan}
 use Rattle.pl_journal.specs.declared.entry.Entry.{Entry}
 use Rattle.pl_journal.specs.declared.entry.Entry.TheVariants.{Sent, Made, Copied, Crossed, Redirected}
-use Rattle.pl_journal.specs.Places.{is_joined}
-use Rattle.pl_journal.specs.Flights.{are_joined, before_copy, is_good_leg, is_led_to, leg, was_live}
+use Rattle.pl_journal.specs.Places.{is_adjacent}
+use Rattle.pl_journal.specs.Flights.{are_adjacent, before_copy, is_good_leg, is_led_to, leg, was_live}
 use Rattle.pl_journal.specs.Causes.{goes_to_group}
 use Rattle.pl_journal.specs.Lossy.{GoodTrailTo, RunTo, goes_well}
 use Rattle.pl_journal.proofs.Numbered.{next_is_new}
@@ -13,20 +13,20 @@ use Rattle.pl_journal.proofs.Unbegun.{flight_before}
 
 -- a good leg, whose neighbours are linked
 abbrev pub is_good : Plan → List ℕ → Bool
-is_good plan switches = is_good_leg plan.k switches && are_joined plan switches
+is_good plan switches = is_good_leg plan.k switches && are_adjacent plan switches
 
-joined_more : (plan : Plan) (past : List Entry) (id s : ℕ) (switches : List ℕ) → is_led_to plan past id switches s ≡ true → are_joined plan switches ≡ true →
-    are_joined plan (s ∷ switches) ≡ true
-joined_more plan past id s [] led before = refl
-joined_more plan past id s (t ∷ switches) led before =
-    and_from (is_joined plan t s) (are_joined plan (t ∷ switches)) (and_parts (is_joined plan t s) (was_live past id t s) led).0 before
+adjacent_more : (plan : Plan) (past : List Entry) (id s : ℕ) (switches : List ℕ) → is_led_to plan past id switches s ≡ true → are_adjacent plan switches ≡ true →
+    are_adjacent plan (s ∷ switches) ≡ true
+adjacent_more plan past id s [] led before = refl
+adjacent_more plan past id s (t ∷ switches) led before =
+    and_from (is_adjacent plan t s) (are_adjacent plan (t ∷ switches)) (and_parts (is_adjacent plan t s) (was_live past id t s) led).0 before
 
 good_more : (plan : Plan) (past : List Entry) (id s : ℕ) (switches : List ℕ) → goes_well plan past id switches s ≡ true → is_good plan switches ≡ true →
     is_good plan (s ∷ switches) ≡ true
 good_more plan past id s switches well before =
     let parts = and_parts (is_good_leg plan.k (s ∷ switches)) (is_led_to plan past id switches s) well in
-    let old = and_parts (is_good_leg plan.k switches) (are_joined plan switches) before in
-    and_from (is_good_leg plan.k (s ∷ switches)) (are_joined plan (s ∷ switches)) parts.0 (joined_more plan past id s switches parts.1 old.1)
+    let old = and_parts (is_good_leg plan.k switches) (are_adjacent plan switches) before in
+    and_from (is_good_leg plan.k (s ∷ switches)) (are_adjacent plan (s ∷ switches)) parts.0 (adjacent_more plan past id s switches parts.1 old.1)
 
 -- a frame that begins now has an empty leg
 good_at_first : (plan : Plan) (past : List Entry) (id : ℕ) → leg past id ≡ [] → is_good plan (leg past id) ≡ true

@@ -7,7 +7,7 @@ use Rattle.pl_journal.specs.declared.cause.Cause.{Cause}
 use Rattle.pl_journal.specs.declared.cause.Cause.TheVariants.{NotPlaced, NoNextHop, NoAddress, HostGone, LinkDown, Lost, Spent, BadArp, NoMember}
 use Rattle.pl_layouts.specs.Memberships.{is_group, group_of, flood}
 use Rattle.pl_layouts.specs.Frames.{is_arp, packet_in}
-use Rattle.pl_journal.specs.Places.{Spot, is_at, holder, spot, spot_of, is_spent, has_failed_link}
+use Rattle.pl_journal.specs.Places.{EdgePort, is_at, holder, edge_port, edge_port_of, is_spent, has_failed_link}
 use Rattle.pl_journal.specs.Flights.{address, beginning, came_in, first_of, is_empty, sender, has_moved_since, trail}
 
 abbrev pub has_crossed : List Entry → ℕ → Bool
@@ -21,8 +21,8 @@ is_routed None = false
 is_routed (Some n) = not (n == flood)
 
 -- the host that holds the address does not stand at the port where it was granted
-abbrev pub has_left : Plan → List Entry → Option ℕ → Option Spot → Bool
-has_left plan past (Some host) (Some there) = not (is_at (spot_of plan past host) there)
+abbrev pub has_left : Plan → List Entry → Option ℕ → Option EdgePort → Bool
+has_left plan past (Some host) (Some there) = not (is_at (edge_port_of plan past host) there)
 has_left plan past _ _ = false
 
 -- a frame that crossed nothing, of a host that moved since
@@ -34,7 +34,7 @@ abbrev pub touches_failed_link : Plan → List Entry → Option ℕ → Bool
 touches_failed_link plan past None = false
 touches_failed_link plan past (Some s) = has_failed_link plan past s
 
-abbrev pub came_in_at_spent_port : List Entry → Option Spot → Bool
+abbrev pub came_in_at_spent_port : List Entry → Option EdgePort → Bool
 came_in_at_spent_port past None = false
 came_in_at_spent_port past (Some there) = is_spent past there
 
@@ -51,7 +51,7 @@ CauseShows plan past id Lost = IsTrue (has_crossed past id)
 CauseShows plan past id NoAddress = holder past (address past id) ≡ None
 -- a frame of a group needs no more; another one's host has left, or its sender has, with the frame still in its queue
 CauseShows plan past id HostGone =
-    IsTrue (goes_to_group past id) ⊎ (IsTrue (has_left plan past (holder past (address past id)) (spot past (address past id)))
+    IsTrue (goes_to_group past id) ⊎ (IsTrue (has_left plan past (holder past (address past id)) (edge_port past (address past id)))
     ⊎ IsTrue (is_left_behind past id (sender past id)))
 -- a link of the switch that it crossed last is failed
 CauseShows plan past id LinkDown = IsTrue (touches_failed_link plan past (first_of (trail past id)))

@@ -13,7 +13,7 @@ use Rattle.pl_wiring.specs.Plan.{Plan}
 use Rattle.pl_journal.specs.declared.entry.Entry.{Entry}
 use Rattle.pl_journal.specs.declared.entry.Entry.TheVariants.{Sent, Made, Crossed, Redirected, Copied, Arrived, Taken, Dropped, Granted, LinkDown, Moved}
 use Rattle.pl_layouts.specs.Frames.{mac_number}
-use Rattle.pl_journal.specs.Places.{Spot, is_at, same_ends, spot_of, granted_at, is_joined, is_failed}
+use Rattle.pl_journal.specs.Places.{EdgePort, is_at, same_ends, edge_port_of, granted_at, is_adjacent, is_failed}
 
 -- the frame that an entry begins, if it begins one
 abbrev pub begun_by : Entry → Option ℕ
@@ -123,7 +123,7 @@ has_moved_since (Moved h e p ∷ past) id host = (h.0 == host) || has_moved_sinc
 has_moved_since (entry ∷ past) id host = has_moved_since past id host
 
 -- the port, if it is one of this switch
-abbrev pub if_of_switch : ℕ → Spot → Option Spot
+abbrev pub if_of_switch : ℕ → EdgePort → Option EdgePort
 if_of_switch s there = if there.edge == s then Some there else None
 
 -- whether the newest entry is the frame's first crossing
@@ -132,16 +132,16 @@ has_just_come_in (Crossed g s ∷ past) id = (g == id) && is_empty (trail past i
 has_just_come_in _ id = false
 
 -- Where a host's frame came in: the port of the switch that it crossed first where its sender stood then.
-abbrev pub came_in : Plan → List Entry → ℕ → Option Spot
+abbrev pub came_in : Plan → List Entry → ℕ → Option EdgePort
 came_in plan [] id = None
 came_in plan (Crossed g s ∷ past) id =
     if has_just_come_in (Crossed g s ∷ past) id then
-    option_and_then (if_of_switch s.0) (option_and_then (spot_of plan past) (sender past id))
+    option_and_then (if_of_switch s.0) (option_and_then (edge_port_of plan past) (sender past id))
     else came_in plan past id
 came_in plan (Copied g c ∷ past) id = came_in plan past (before_copy g c id)
 came_in plan (entry ∷ past) id = came_in plan past id
 
-abbrev pub address_at : List Entry → Option ℕ → Option Spot → Option Pmac
+abbrev pub address_at : List Entry → Option ℕ → Option EdgePort → Option Pmac
 address_at past (Some host) (Some there) = granted_at past host there
 address_at past _ _ = None
 
@@ -159,9 +159,9 @@ sender_address plan (Copied g c ∷ past) id = sender_address plan past (before_
 sender_address plan (entry ∷ past) id = sender_address plan past id
 
 -- whether a frame of the same root arrived at this port before
-abbrev pub root_arrived_at : Plan → List Entry → ℕ → Spot → Bool
+abbrev pub root_arrived_at : Plan → List Entry → ℕ → EdgePort → Bool
 root_arrived_at plan [] r there = false
-root_arrived_at plan (Arrived g h f ∷ past) r there = ((root past g == r) && is_at (spot_of plan past h.0) there) || root_arrived_at plan past r there
+root_arrived_at plan (Arrived g h f ∷ past) r there = ((root past g == r) && is_at (edge_port_of plan past h.0) there) || root_arrived_at plan past r there
 root_arrived_at plan (entry ∷ past) r there = root_arrived_at plan past r there
 
 -- whether the link between the two was live from the frame's last crossing on
@@ -205,13 +205,13 @@ is_good_leg k switches = nat_le (length switches) 5 && are_different switches &&
 -- the switch is linked to the one that the frame crossed before it, by a link that was live all the while
 abbrev pub is_led_to : Plan → List Entry → ℕ → List ℕ → ℕ → Bool
 is_led_to plan past id [] s = true
-is_led_to plan past id (t ∷ switches) s = is_joined plan t s && was_live past id t s
+is_led_to plan past id (t ∷ switches) s = is_adjacent plan t s && was_live past id t s
 
 -- neighbours are linked in the wiring
-abbrev pub are_joined : Plan → List ℕ → Bool
-are_joined plan [] = true
-are_joined plan (s ∷ []) = true
-are_joined plan (s ∷ t ∷ switches) = is_joined plan t s && are_joined plan (t ∷ switches)
+abbrev pub are_adjacent : Plan → List ℕ → Bool
+are_adjacent plan [] = true
+are_adjacent plan (s ∷ []) = true
+are_adjacent plan (s ∷ t ∷ switches) = is_adjacent plan t s && are_adjacent plan (t ∷ switches)
 
 -- all that a journal says of a frame but whether it ended
 pub record Flight : Type 0 where
@@ -222,7 +222,7 @@ pub record Flight : Type 0 where
   pub redirected : Bool
   pub leg : List ℕ
   pub trail : List ℕ
-  pub came_in : Option Spot
+  pub came_in : Option EdgePort
   pub source : Option Pmac
 
 abbrev pub flight_of : Plan → List Entry → ℕ → Flight

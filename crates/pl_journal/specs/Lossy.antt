@@ -14,7 +14,7 @@ use Rattle.pl_journal.specs.declared.entry.Entry.{Entry}
 use Rattle.pl_journal.specs.declared.entry.Entry.TheVariants.{Line, Sent, Skipped, Made, Crossed, Redirected, Copied, Arrived, Taken, Dropped, Granted, Registered, Placed, LinkDown, LinkUp, Moved, Settled, Unsettled}
 use Rattle.pl_layouts.specs.Memberships.{group_of, group_number, changes_in, flood}
 use Rattle.pl_layouts.specs.Frames.{mac_number, arriving, is_takeable}
-use Rattle.pl_journal.specs.Places.{Spot, at_port, is_at, holder, spot, spot_of, has_stood, is_free, is_of_edge, number, registered, is_joined, is_failed}
+use Rattle.pl_journal.specs.Places.{EdgePort, at_port, is_at, holder, edge_port, edge_port_of, has_stood, is_free, is_of_edge, number, registered, is_adjacent, is_failed}
 use Rattle.pl_journal.specs.Flights.{address, beginning, begun, first_of, is_flying, is_good_leg, is_led_to, is_redirected, leg, root, root_arrived_at, sender, sender_address}
 use Rattle.pl_journal.specs.Causes.{CauseShows, goes_to_group}
 
@@ -51,14 +51,14 @@ abbrev pub mac_of_host : Plan → ℕ → Option Mac
 mac_of_host plan host = option_map (λ h. h.mac) (slice_get plan.hosts host)
 
 -- the leg ends at this edge switch
-abbrev pub EndsAt : List ℕ → Option Spot → Type 0
+abbrev pub EndsAt : List ℕ → Option EdgePort → Type 0
 EndsAt switches there = IsSome there × (first_of switches ≡ option_map (λ s. s.edge) there)
 
-abbrev pub is_same_place : Option Spot → Option Spot → Bool
+abbrev pub is_same_place : Option EdgePort → Option EdgePort → Bool
 is_same_place a None = false
 is_same_place a (Some there) = is_at a there
 
-abbrev pub is_root_there : Plan → List Entry → ℕ → Option Spot → Bool
+abbrev pub is_root_there : Plan → List Entry → ℕ → Option EdgePort → Bool
 is_root_there plan past r None = false
 is_root_there plan past r (Some there) = root_arrived_at plan past r there
 
@@ -68,7 +68,7 @@ IsNewer (Some m) (Some n) = m < n
 IsNewer _ _ = ⊥
 
 -- by the frame's leg, whether it was redirected before, and the port of its present address
-abbrev pub is_turning : List ℕ → Bool → Option Spot → Bool
+abbrev pub is_turning : List ℕ → Bool → Option EdgePort → Bool
 is_turning [] redirected there = redirected
 is_turning (s ∷ switches) redirected None = false
 is_turning (s ∷ switches) redirected (Some there) = s == there.edge
@@ -80,25 +80,25 @@ goes_well plan past id switches s = is_good_leg plan.k (s ∷ switches) && is_le
 -- a frame to one host: the host holds the frame's present address, stands where it was granted, and the frame has come to that edge switch
 pub record ArrivesByAddress (plan : Plan) (past : List Entry) (id host : ℕ) (frame : List ℕ) : Type 0 where
   pub held : holder past (address past id) ≡ Some host
-  pub stands : spot_of plan past host ≡ spot past (address past id)
-  pub reached : EndsAt (leg past id) (spot_of plan past host)
+  pub stands_there : edge_port_of plan past host ≡ edge_port past (address past id)
+  pub reached : EndsAt (leg past id) (edge_port_of plan past host)
   pub unaltered : Unaltered plan past id (mac_of_host plan host) frame
 
 -- a frame of a group: once at each port, never at the port of its source, and at members alone
 pub record ArrivesByGroup (plan : Plan) (past : List Entry) (id host : ℕ) (frame : List ℕ) : Type 0 where
-  pub reached : EndsAt (leg past id) (spot_of plan past host)
+  pub reached : EndsAt (leg past id) (edge_port_of plan past host)
   pub unaltered : Unaltered plan past id None frame
-  pub first : IsFalse (is_root_there plan past (root past id) (spot_of plan past host))
-  pub not_back : IsFalse (is_same_place (spot past (mac_number (source_of frame))) (spot_of plan past host))
+  pub first : IsFalse (is_root_there plan past (root past id) (edge_port_of plan past host))
+  pub not_back : IsFalse (is_same_place (edge_port past (mac_number (source_of frame))) (edge_port_of plan past host))
   pub member : IsTrue (is_member past host (group_of (destination_of frame)))
 
 -- the frame goes on from its present address to a newer one of the same host; its leg has come to the edge switch of the old one, or is
 -- empty since it was redirected there just before
-pub record GoesOn (past : List Entry) (id : ℕ) (old new : Pmac) : Type 0 where
+pub record GoesToNewer (past : List Entry) (id : ℕ) (old new : Pmac) : Type 0 where
   pub present : address past id ≡ pmac_number old
   pub same_host : holder past (pmac_number new) ≡ holder past (pmac_number old)
   pub newer : IsNewer (number past (pmac_number old)) (number past (pmac_number new))
-  pub turns : IsTrue (is_turning (leg past id) (is_redirected past id) (spot past (pmac_number old)))
+  pub turns : IsTrue (is_turning (leg past id) (is_redirected past id) (edge_port past (pmac_number old)))
 
 -- an edge switch may take a host's frame that has crossed it alone
 pub record IsTakenBy (past : List Entry) (id switch : ℕ) : Type 0 where
@@ -107,7 +107,7 @@ pub record IsTakenBy (past : List Entry) (id switch : ℕ) : Type 0 where
   pub takeable : IsTrue (is_takeable (beginning past id))
 
 -- an address is granted once, to a host that stands or has stood at its port; pod and position are those of one edge switch
-pub record IsGrantable (plan : Plan) (past : List Entry) (x : Pmac) (host : ℕ) (there : Spot) : Type 0 where
+pub record IsGrantable (plan : Plan) (past : List Entry) (x : Pmac) (host : ℕ) (there : EdgePort) : Type 0 where
   pub fresh : holder past (pmac_number x) ≡ None
   pub port : x.port ≡ there.port
   pub stood : IsTrue (has_stood plan past host there)
@@ -116,7 +116,7 @@ pub record IsGrantable (plan : Plan) (past : List Entry) (x : Pmac) (host : ℕ)
 -- a link of the wiring, its first end the earlier one in label order, that is live or is failed
 pub record IsLink (plan : Plan) (past : List Entry) (a b : ℕ) (failed : Bool) : Type 0 where
   pub ordered : a < b
-  pub joined : IsTrue (is_joined plan a b)
+  pub adjacent : IsTrue (is_adjacent plan a b)
   pub state : is_failed past a b ≡ failed
 
 -- what the entries that are past must be like for an entry to follow them
@@ -124,7 +124,7 @@ abbrev pub Needs : Plan → List Entry → Entry → Type 0
 Needs plan past (Sent id h f) = id ≡ begun past + 1
 Needs plan past (Made id s f) = id ≡ begun past + 1
 Needs plan past (Crossed id s) = IsTrue (is_flying past id)
-Needs plan past (Redirected id old new) = IsTrue (is_flying past id) × GoesOn past id old new
+Needs plan past (Redirected id old new) = IsTrue (is_flying past id) × GoesToNewer past id old new
 Needs plan past (Copied id new) = IsTrue (is_flying past id) × IsTrue (goes_to_group past id) × (new ≡ begun past + 1)
 Needs plan past (Arrived id h f) =
     IsTrue (is_flying past id) × MatchBool (goes_to_group past id) (ArrivesByGroup plan past id h.0 f) (ArrivesByAddress plan past id h.0 f)
@@ -163,10 +163,10 @@ abbrev pub GoodTrail : Plan → List Entry → Type 0
 GoodTrail plan journal = GoodTrailTo plan (reverse journal)
 
 -- how many frames of a group with this root arrived at this port
-abbrev pub copies_at : Plan → List Entry → ℕ → Spot → ℕ
+abbrev pub copies_at : Plan → List Entry → ℕ → EdgePort → ℕ
 copies_at plan [] r there = 0
 copies_at plan (Arrived id h f ∷ past) r there =
-    if goes_to_group past id && ((root past id == r) && is_at (spot_of plan past h.0) there) then copies_at plan past r there + 1
+    if goes_to_group past id && ((root past id == r) && is_at (edge_port_of plan past h.0) there) then copies_at plan past r there + 1
     else copies_at plan past r there
 copies_at plan (entry ∷ past) r there = copies_at plan past r there
 

@@ -14,49 +14,49 @@ use Rattle.pl_journal.specs.declared.entry.Entry.{Entry}
 use Rattle.pl_journal.specs.declared.entry.Entry.TheVariants.{Granted, Registered, LinkDown, LinkUp, Moved}
 
 -- a port of an edge switch
-pub record Spot : Type 0 where
+pub record EdgePort : Type 0 where
   pub edge : ℕ
   pub port : ℕ
 
-abbrev pub at_port : ℕ → ℕ → Spot
+abbrev pub at_port : ℕ → ℕ → EdgePort
 at_port edge port = record { edge = edge; port = port }
 
-abbrev pub same_spot : Spot → Spot → Bool
-same_spot a b = (a.edge == b.edge) && (a.port == b.port)
+abbrev pub same_edge_port : EdgePort → EdgePort → Bool
+same_edge_port a b = (a.edge == b.edge) && (a.port == b.port)
 
-abbrev pub is_at : Option Spot → Spot → Bool
+abbrev pub is_at : Option EdgePort → EdgePort → Bool
 is_at None b = false
-is_at (Some a) b = same_spot a b
+is_at (Some a) b = same_edge_port a b
 
-abbrev pub first_spot : Plan → ℕ → Option Spot
-first_spot plan host = option_map (λ h. at_port h.edge.0 h.port) (slice_get plan.hosts host)
+abbrev pub first_edge_port : Plan → ℕ → Option EdgePort
+first_edge_port plan host = option_map (λ h. at_port h.edge.0 h.port) (slice_get plan.hosts host)
 
 -- where a host stands: where it moved last, else where the wiring has it
-abbrev pub spot_of : Plan → List Entry → ℕ → Option Spot
-spot_of plan [] host = first_spot plan host
-spot_of plan (Moved h e p ∷ past) host = if h.0 == host then Some (at_port e.0 p) else spot_of plan past host
-spot_of plan (entry ∷ past) host = spot_of plan past host
+abbrev pub edge_port_of : Plan → List Entry → ℕ → Option EdgePort
+edge_port_of plan [] host = first_edge_port plan host
+edge_port_of plan (Moved h e p ∷ past) host = if h.0 == host then Some (at_port e.0 p) else edge_port_of plan past host
+edge_port_of plan (entry ∷ past) host = edge_port_of plan past host
 
 -- whether it stands or has stood there
-abbrev pub has_stood : Plan → List Entry → ℕ → Spot → Bool
-has_stood plan [] host spot = is_at (first_spot plan host) spot
-has_stood plan (Moved h e p ∷ past) host spot = (h.0 == host && same_spot (at_port e.0 p) spot) || has_stood plan past host spot
-has_stood plan (entry ∷ past) host spot = has_stood plan past host spot
+abbrev pub has_stood : Plan → List Entry → ℕ → EdgePort → Bool
+has_stood plan [] host edge_port = is_at (first_edge_port plan host) edge_port
+has_stood plan (Moved h e p ∷ past) host edge_port = (h.0 == host && same_edge_port (at_port e.0 p) edge_port) || has_stood plan past host edge_port
+has_stood plan (entry ∷ past) host edge_port = has_stood plan past host edge_port
 
 -- none of the first so many hosts stands there
-abbrev pub is_left_free : Plan → List Entry → Spot → ℕ → Bool
-is_left_free plan past spot zero = true
-is_left_free plan past spot (suc n) = not (is_at (spot_of plan past n) spot) && is_left_free plan past spot n
+abbrev pub is_left_free : Plan → List Entry → EdgePort → ℕ → Bool
+is_left_free plan past edge_port zero = true
+is_left_free plan past edge_port (suc n) = not (is_at (edge_port_of plan past n) edge_port) && is_left_free plan past edge_port n
 
 abbrev pub is_host_port : Peer → Bool
 is_host_port (Switch t q) = false
 is_host_port HostPort = true
 
 -- a port for hosts, at which no host stands
-abbrev pub is_free : Plan → List Entry → Spot → Bool
-is_free plan past spot =
-    nat_lt spot.edge (edge_count plan.k) && nat_lt spot.port plan.k && is_host_port (peer_of plan spot.edge spot.port)
-    && is_left_free plan past spot (length plan.hosts)
+abbrev pub is_free : Plan → List Entry → EdgePort → Bool
+is_free plan past edge_port =
+    nat_lt edge_port.edge (edge_count plan.k) && nat_lt edge_port.port plan.k && is_host_port (peer_of plan edge_port.edge edge_port.port)
+    && is_left_free plan past edge_port (length plan.hosts)
 
 -- the host that an address was granted to last, and the port where it was granted
 abbrev pub holder : List Entry → ℕ → Option ℕ
@@ -64,22 +64,22 @@ holder [] x = None
 holder (Granted y h e p ∷ past) x = if pmac_number y == x then Some h.0 else holder past x
 holder (entry ∷ past) x = holder past x
 
-abbrev pub spot : List Entry → ℕ → Option Spot
-spot [] x = None
-spot (Granted y h e p ∷ past) x = if pmac_number y == x then Some (at_port e.0 p) else spot past x
-spot (entry ∷ past) x = spot past x
+abbrev pub edge_port : List Entry → ℕ → Option EdgePort
+edge_port [] x = None
+edge_port (Granted y h e p ∷ past) x = if pmac_number y == x then Some (at_port e.0 p) else edge_port past x
+edge_port (entry ∷ past) x = edge_port past x
 
 -- the address that a host was granted last at a port
-abbrev pub granted_at : List Entry → ℕ → Spot → Option Pmac
+abbrev pub granted_at : List Entry → ℕ → EdgePort → Option Pmac
 granted_at [] host there = None
 granted_at (Granted y h e p ∷ past) host there =
-    if (h.0 == host) && same_spot (at_port e.0 p) there then Some y else granted_at past host there
+    if (h.0 == host) && same_edge_port (at_port e.0 p) there then Some y else granted_at past host there
 granted_at (entry ∷ past) host there = granted_at past host there
 
 -- whether a port of the edge switch has given the largest vmid
-abbrev pub is_spent : List Entry → Spot → Bool
+abbrev pub is_spent : List Entry → EdgePort → Bool
 is_spent [] there = false
-is_spent (Granted y h e p ∷ past) there = ((y.vmid == 65535) && same_spot (at_port e.0 p) there) || is_spent past there
+is_spent (Granted y h e p ∷ past) there = ((y.vmid == 65535) && same_edge_port (at_port e.0 p) there) || is_spent past there
 is_spent (entry ∷ past) there = is_spent past there
 
 abbrev pub same_pod_and_position : Pmac → Pmac → Bool
@@ -109,8 +109,8 @@ abbrev pub same_ends : ℕ → ℕ → ℕ → ℕ → Bool
 same_ends x y a b = ((x == a) && (y == b)) || ((x == b) && (y == a))
 
 -- whether the wiring has a link between the two
-abbrev pub is_joined : Plan → ℕ → ℕ → Bool
-is_joined plan a b = list_any (λ l. same_ends l.lower.0 l.upper.0 a b) plan.links
+abbrev pub is_adjacent : Plan → ℕ → ℕ → Bool
+is_adjacent plan a b = list_any (λ l. same_ends l.lower.0 l.upper.0 a b) plan.links
 
 -- whether the last that is said of the link between the two is that it failed
 abbrev pub is_failed : List Entry → ℕ → ℕ → Bool

@@ -6,22 +6,22 @@ ghost use Rattle.pl_wiring.specs.declared.host.HostNo.{HostNo};
 ghost use Rattle.pl_wiring.specs.Plan.{Plan};
 ghost use Rattle.pl_journal.specs.declared.entry.Entry.{Entry};
 ghost use Rattle.pl_journal.specs.declared.entry.Entry.TheVariants.{Granted, Registered};
-ghost use Rattle.pl_journal.specs.Places.{Spot, at_port, holder, number, registered, spot};
+ghost use Rattle.pl_journal.specs.Places.{EdgePort, at_port, holder, number, registered, edge_port};
 ghost use Rattle.pl_journal.specs.Lossy.{RunTo};
 
 /// A grant gives an address its holder and its port, and leaves those of each other address.
 pub fn a_grant_gives_an_address()
     ensures holder { (past : List Entry) (x : Pmac) (host : HostNo) (edge : SwitchNo) (port : ℕ) →
         holder (Granted x host edge port ∷ past) (pmac_number x) ≡ Some host.0 }
-    ensures spot { (past : List Entry) (x : Pmac) (host : HostNo) (edge : SwitchNo) (port : ℕ) →
-        spot (Granted x host edge port ∷ past) (pmac_number x) ≡ Some (at_port edge.0 port) }
+    ensures edge_port { (past : List Entry) (x : Pmac) (host : HostNo) (edge : SwitchNo) (port : ℕ) →
+        edge_port (Granted x host edge port ∷ past) (pmac_number x) ≡ Some (at_port edge.0 port) }
     ensures other_holder { (past : List Entry) (x : Pmac) (host : HostNo) (edge : SwitchNo)
         (port y : ℕ) → pmac_number x ≢ y →
         holder (Granted x host edge port ∷ past) y ≡ holder past y }
-    ensures other_spot { (past : List Entry) (x : Pmac) (host : HostNo) (edge : SwitchNo)
+    ensures other_edge_port { (past : List Entry) (x : Pmac) (host : HostNo) (edge : SwitchNo)
         (port y : ℕ) → pmac_number x ≢ y →
-        spot (Granted x host edge port ∷ past) y ≡ spot past y }
-    ensures both { (past : List Entry) (y : ℕ) → is_some (spot past y) ≡ is_some (holder past y) }
+        edge_port (Granted x host edge port ∷ past) y ≡ edge_port past y }
+    ensures both { (past : List Entry) (y : ℕ) → is_some (edge_port past y) ≡ is_some (holder past y) }
 {}
 
 /// A registration gives an address its number, and leaves that of each other address.
@@ -37,9 +37,9 @@ pub fn an_address_stays_with_its_host()
     ensures holder { (plan : Plan) (newer past : List Entry) (x host : ℕ) →
         RunTo plan (newer ++ past) → holder past x ≡ Some host →
         holder (newer ++ past) x ≡ Some host }
-    ensures spot { (plan : Plan) (newer past : List Entry) (x : ℕ) (there : Spot) →
-        RunTo plan (newer ++ past) → spot past x ≡ Some there →
-        spot (newer ++ past) x ≡ Some there }
+    ensures edge_port { (plan : Plan) (newer past : List Entry) (x : ℕ) (there : EdgePort) →
+        RunTo plan (newer ++ past) → edge_port past x ≡ Some there →
+        edge_port (newer ++ past) x ≡ Some there }
     ensures number { (plan : Plan) (newer past : List Entry) (x n : ℕ) →
         RunTo plan (newer ++ past) → number past x ≡ Some n →
         number (newer ++ past) x ≡ Some n }

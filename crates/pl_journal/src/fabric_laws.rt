@@ -5,7 +5,7 @@ ghost use Rattle.pl_wiring.specs.declared.host.HostNo.{HostNo};
 ghost use Rattle.pl_wiring.specs.Plan.{IsPlan, Plan};
 ghost use Rattle.pl_journal.specs.declared.entry.Entry.{Entry};
 ghost use Rattle.pl_journal.specs.declared.entry.Entry.TheVariants.{LinkDown, LinkUp, Moved};
-ghost use Rattle.pl_journal.specs.Places.{Spot, at_port, is_failed, is_joined, spot_of};
+ghost use Rattle.pl_journal.specs.Places.{EdgePort, at_port, is_failed, is_adjacent, edge_port_of};
 ghost use Rattle.pl_journal.specs.Flights.{was_live};
 ghost use Rattle.pl_journal.specs.Lossy.{RunTo};
 
@@ -14,14 +14,14 @@ ghost use Rattle.pl_journal.specs.Lossy.{RunTo};
 pub fn a_host_stands_where_it_moved_last()
     ensures moved { (plan : Plan) (past : List Entry) (host : HostNo) (edge : SwitchNo)
         (port : ℕ) →
-        spot_of plan (Moved host edge port ∷ past) host.0 ≡ Some (at_port edge.0 port) }
+        edge_port_of plan (Moved host edge port ∷ past) host.0 ≡ Some (at_port edge.0 port) }
     ensures others { (plan : Plan) (past : List Entry) (host : HostNo) (edge : SwitchNo)
         (port other : ℕ) → host.0 ≢ other →
-        spot_of plan (Moved host edge port ∷ past) other ≡ spot_of plan past other }
-    ensures known { (plan : Plan) (past : List Entry) (host : ℕ) (there : Spot) → RunTo plan past →
-        spot_of plan past host ≡ Some there → host < length plan.hosts }
-    ensures apart { (plan : Plan) (past : List Entry) (g h : ℕ) (there : Spot) → IsPlan plan →
-        RunTo plan past → spot_of plan past g ≡ Some there → spot_of plan past h ≡ Some there →
+        edge_port_of plan (Moved host edge port ∷ past) other ≡ edge_port_of plan past other }
+    ensures known { (plan : Plan) (past : List Entry) (host : ℕ) (there : EdgePort) → RunTo plan past →
+        edge_port_of plan past host ≡ Some there → host < length plan.hosts }
+    ensures apart { (plan : Plan) (past : List Entry) (g h : ℕ) (there : EdgePort) → IsPlan plan →
+        RunTo plan past → edge_port_of plan past g ≡ Some there → edge_port_of plan past h ≡ Some there →
         g ≡ h }
 {}
 
@@ -33,8 +33,8 @@ pub fn a_link_is_failed_until_it_is_repaired()
     ensures repaired { (past : List Entry) (x y : SwitchNo) →
         IsFalse (is_failed (LinkUp x y ∷ past) x.0 y.0) }
     ensures either_way { (past : List Entry) (a b : ℕ) → is_failed past a b ≡ is_failed past b a }
-    ensures joined { (plan : Plan) (past : List Entry) (a b : ℕ) → RunTo plan past →
-        IsTrue (is_failed past a b) → IsTrue (is_joined plan a b) }
+    ensures adjacent { (plan : Plan) (past : List Entry) (a b : ℕ) → RunTo plan past →
+        IsTrue (is_failed past a b) → IsTrue (is_adjacent plan a b) }
     ensures live_now { (past : List Entry) (id a b : ℕ) →
         IsTrue (was_live past id a b) → IsFalse (is_failed past a b) }
 {}

@@ -8,8 +8,8 @@ ghost use Rattle.pl_wiring.specs.Plan.{Plan};
 ghost use Rattle.pl_journal.specs.declared.entry.Entry.{Entry};
 ghost use Rattle.pl_journal.specs.declared.entry.Entry.TheVariants.{Sent, Made, Copied, Crossed};
 ghost use Rattle.pl_layouts.specs.Frames.{mac_number};
-ghost use Rattle.pl_journal.specs.Places.{Spot, is_failed, is_joined};
-ghost use Rattle.pl_journal.specs.Flights.{are_joined, begun, begun_by, ends, first_flight, flight_of, is_begun, is_flying, is_good_leg, leg, no_flight, root, was_live};
+ghost use Rattle.pl_journal.specs.Places.{EdgePort, is_failed, is_adjacent};
+ghost use Rattle.pl_journal.specs.Flights.{are_adjacent, begun, begun_by, ends, first_flight, flight_of, is_begun, is_flying, is_good_leg, leg, no_flight, root, was_live};
 ghost use Rattle.pl_journal.specs.Causes.{goes_to_group, has_crossed};
 ghost use Rattle.pl_journal.specs.Lossy.{GoodTrailTo, Run, RunTo, copies_at};
 
@@ -35,7 +35,7 @@ pub fn a_frame_ends_at_most_once()
 /// In a run at most one frame of a group arrives at each port: the frame itself, or one of its
 /// copies.
 pub fn a_group_frame_arrives_at_a_port_at_most_once()
-    ensures { (plan : Plan) (past : List Entry) (r : ℕ) (there : Spot) → RunTo plan past →
+    ensures { (plan : Plan) (past : List Entry) (r : ℕ) (there : EdgePort) → RunTo plan past →
         copies_at plan past r there ≤ 1 }
 {}
 
@@ -66,19 +66,19 @@ pub fn legs_are_good()
     ensures good { (plan : Plan) (past : List Entry) (id : ℕ) → RunTo plan past →
         GoodTrailTo plan past → IsFalse (goes_to_group past id) →
         IsTrue (is_good_leg plan.k (leg past id)) }
-    ensures joined { (plan : Plan) (past : List Entry) (id : ℕ) → RunTo plan past →
+    ensures adjacent { (plan : Plan) (past : List Entry) (id : ℕ) → RunTo plan past →
         GoodTrailTo plan past → IsFalse (goes_to_group past id) →
-        IsTrue (are_joined plan (leg past id)) }
+        IsTrue (are_adjacent plan (leg past id)) }
 {}
 
 /// In a run with good trails a frame to one host comes from the last switch of its leg to the next
 /// one by a link of the wiring, and that link was live at each moment since the frame crossed the
 /// last switch.
 pub fn the_links_of_a_leg_were_live()
-    ensures joined { (plan : Plan) (newer past : List Entry) (id last : ℕ) (next : SwitchNo)
+    ensures adjacent { (plan : Plan) (newer past : List Entry) (id last : ℕ) (next : SwitchNo)
         (earlier : List ℕ) →
         GoodTrailTo plan (newer ++ Crossed id next ∷ past) → IsFalse (goes_to_group past id) →
-        leg past id ≡ last ∷ earlier → IsTrue (is_joined plan last next.0) }
+        leg past id ≡ last ∷ earlier → IsTrue (is_adjacent plan last next.0) }
     ensures live { (plan : Plan) (newer since past : List Entry) (id last : ℕ) (next : SwitchNo)
         (earlier : List ℕ) →
         RunTo plan (newer ++ Crossed id next ∷ (since ++ past)) →

@@ -7,7 +7,7 @@ ghost use Rattle.pl_wiring.specs.declared.host.HostNo.{HostNo};
 ghost use Rattle.pl_wiring.specs.Plan.{IsPlan, Plan};
 ghost use Rattle.pl_journal.specs.declared.entry.Entry.{Entry};
 ghost use Rattle.pl_journal.specs.declared.entry.Entry.TheVariants.{Arrived};
-ghost use Rattle.pl_journal.specs.Places.{spot, spot_of};
+ghost use Rattle.pl_journal.specs.Places.{edge_port, edge_port_of};
 ghost use Rattle.pl_journal.specs.Flights.{beginning};
 ghost use Rattle.pl_journal.specs.Causes.{goes_to_group};
 ghost use Rattle.pl_journal.specs.Lossy.{RunTo, copies_since_move, has_joined, is_same_place};
@@ -24,7 +24,7 @@ pub fn a_frame_to_a_host_goes_to_no_group()
 pub fn a_group_frame_never_arrives_at_the_port_of_its_source()
     ensures { (plan : Plan) (newer past : List Entry) (id : ℕ) (host : HostNo) (frame : List ℕ) →
         RunTo plan (newer ++ Arrived id host frame ∷ past) → IsTrue (goes_to_group past id) →
-        IsFalse (is_same_place (spot past (mac_number (source_of frame))) (spot_of plan past host.0)) }
+        IsFalse (is_same_place (edge_port past (mac_number (source_of frame))) (edge_port_of plan past host.0)) }
 {}
 
 /// In a run a frame of a routed group arrives only at hosts that have joined the group.

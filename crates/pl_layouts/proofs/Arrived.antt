@@ -7,7 +7,7 @@ use Rattle.std.proofs.lemmas.List.{length-drop, length-take-le, take-append-le, 
 use Rattle.byteorder.specs.Endian.{big_number}
 use Rattle.pl_frame.specs.declared.address.Mac.{Mac}
 use Rattle.pl_frame.specs.Ethernet.{destination_of, source_of}
-use Rattle.pl_frame.proofs.Fields.{front_of, rest_of}
+use Rattle.pl_frame.proofs.Exports.{front_of, rest_of}
 use Rattle.pl_arp.specs.declared.packet.Arp.{Arp}
 use Rattle.pl_arp.specs.declared.packet.ArpError.{ArpError}
 use Rattle.pl_arp.specs.declared.packet.ArpError.TheVariants.{Cut, OtherKind}

@@ -3,9 +3,9 @@ use Rattle.std.proofs.Common.{◌≡◌, ◌⊎◌, ℕ, ◌+◌, ◌-◌, ◌<�
 use Rattle.std.proofs.lemmas.Bool.{cases_Bool}
 use Rattle.std.proofs.lemmas.List.{drop-drop, get_or-take, get_or-drop}
 use Rattle.pl_frame.specs.declared.address.Mac.{Mac}
-use Rattle.pl_frame.proofs.Fields.{front_of, rest_of}
+use Rattle.pl_frame.proofs.Exports.{front_of, rest_of}
 use Rattle.pl_arp.specs.declared.packet.Arp.{Arp}
-use Rattle.pl_layouts.specs.Frames.{HasSixBytes, IsKept, arriving, packet_in, with_addresses}
+use Rattle.pl_layouts.specs.Frames.{HasSixBytes, IsUnalteredByte, arriving, packet_in, with_addresses}
 use Rattle.pl_layouts.proofs.Arrivals.{HasLengths, arriving_by, arriving_parts, bytes_or, dst_in, head_in, length-bytes_or, lengths_in, long_frame, parts, sha_in, spa_in, src_in, tha_in, unreadable_parts}
 use Rattle.pl_layouts.proofs.Arrived.{arriving_readable, arriving_unreadable, behind_twelve, is_readable, packet_in-arriving, six_dst, six_src}
 
@@ -80,7 +80,7 @@ kept_readable frame from to i readable six_from six_to past no_sha no_tha =
     ]
 
 pub others_are_kept : (frame : List ℕ) (from to : Option Mac) (i : ℕ) → 14 ≤ length frame → HasSixBytes from → HasSixBytes to →
-    IsKept frame i → slice_index (arriving frame from to) i ≡ slice_index frame i
+    IsUnalteredByte frame i → slice_index (arriving frame from to) i ≡ slice_index frame i
 others_are_kept frame from to i long six_from six_to kept = elim (cases_Bool (is_readable frame)) [
   | inl readable ↦ let outside = kept.outside readable in kept_readable frame from to i readable six_from six_to kept.behind outside.0 outside.1
   | inr unreadable ↦ kept_unreadable frame from to i long unreadable six_from six_to kept.behind

@@ -3,3 +3,4 @@ pub mod Arrived
 pub mod Kept
 pub mod Known
 pub mod Sameness
+pub mod Exports

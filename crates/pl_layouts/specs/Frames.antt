@@ -70,6 +70,6 @@ abbrev pub with_addresses : Option Mac → Option Mac → Arp → Arp
 with_addresses src dst arp = record arp { sha = unwrap_or src arp.sha; tha = unwrap_or dst arp.tha }
 
 -- A byte that a fabric leaves as it is: behind both addresses, and outside of the hardware addresses of a packet that can be read.
-pub record IsKept (frame : List ℕ) (i : ℕ) : Type 0 where
+pub record IsUnalteredByte (frame : List ℕ) (i : ℕ) : Type 0 where
   pub behind : 12 ≤ i
   pub outside : IsSome (packet_in frame) → ((i < sha_at) ⊎ (sha_at + 6 ≤ i)) × ((i < tha_at) ⊎ (tha_at + 6 ≤ i))

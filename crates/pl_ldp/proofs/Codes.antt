@@ -4,7 +4,7 @@ use Rattle.std.proofs.lemmas.Bool.{eqb-true, eqb-false, eq-eqb, ne_eqb, cases_Bo
 use Rattle.std.proofs.lemmas.Bool.Decides.{nat_tests}
 use Rattle.pl_frame.specs.declared.address.SwitchId.{SwitchId}
 use Rattle.pl_layouts.specs.Control.{known_unless, id_code, id_of_code, bit, is_bit}
-use Rattle.pl_ldp.specs.Writable.{IsId}
+use Rattle.pl_ldp.specs.Writable.{IsWritableId}
 use Rattle.pl_layouts.specs.Placement.{is_known}
 
 -- what is known keeps clear of the code of what is not
@@ -25,7 +25,7 @@ unwrap_or-fits unknown None clear = omega arith
 unwrap_or-fits unknown (Some n) clear = omega arith
 
 -- no switch has the id 0
-pub id_of_code-id_code : (id : Option SwitchId) → IfSome id IsId → id_of_code (id_code id) ≡ id
+pub id_of_code-id_code : (id : Option SwitchId) → IfSome id IsWritableId → id_of_code (id_code id) ≡ id
 id_of_code-id_code None fits = refl
 id_of_code-id_code (Some id) fits = let other : (id.0 == 0) ≡ false = ne_eqb id.0 0 (λ e. omega arith) in rw other refl
 
@@ -33,11 +33,11 @@ pub id_code-id_of_code : (code : ℕ) → id_code (id_of_code code) ≡ code
 id_code-id_of_code code =
     elim (cases_Bool (code == 0)) [ inl e ↦ rw e (sym (eqb-true code 0 e)) | inr e ↦ rw e refl ]
 
-pub id_of_code-fits : (code : ℕ) → code < 2 ^ 48 → IfSome (id_of_code code) IsId
+pub id_of_code-fits : (code : ℕ) → code < 2 ^ 48 → IfSome (id_of_code code) IsWritableId
 id_of_code-fits code small =
     elim (cases_Bool (code == 0)) [ inl e ↦ rw e tt | inr e ↦ rw e (omega (arith, eqb-false code 0 e), small) ]
 
-pub id_code-fits : (id : Option SwitchId) → IfSome id IsId → id_code id < 2 ^ 48
+pub id_code-fits : (id : Option SwitchId) → IfSome id IsWritableId → id_code id < 2 ^ 48
 id_code-fits None fits = omega arith
 id_code-fits (Some id) fits = fits.1
 

@@ -2,3 +2,4 @@ pub mod Codes
 pub mod Refusals
 pub mod Written
 pub mod Spelled
+pub mod Exports

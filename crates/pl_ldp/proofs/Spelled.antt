@@ -4,7 +4,7 @@ use Rattle.std.proofs.lemmas.Bool.{ltb-false, eqb-true, not-false, and_parts}
 use Rattle.std.proofs.lemmas.List.{take-append-drop, drop-drop, drop_more, length-drop}
 use Rattle.byteorder.specs.Endian.{big_number, big_bytes}
 use Rattle.byteorder.specs.Numbers.{big_from-lt}
-use Rattle.pl_frame.proofs.Numbers.{IsBytes, bytes-drop, big_bytes-big_number_front}
+use Rattle.pl_frame.proofs.Exports.{big_bytes-big_number_front, bytes-drop, IsBytes}
 use Rattle.pl_layouts.specs.declared.control.Ldm.{Ldm}
 use Rattle.pl_layouts.specs.declared.control.Proposal.{Proposal}
 use Rattle.pl_layouts.specs.declared.control.Vote.{Vote}
@@ -13,7 +13,7 @@ use Rattle.pl_layouts.specs.declared.control.Control.TheVariants as control
 use Rattle.pl_layouts.specs.declared.control.ControlError.{ControlError}
 use Rattle.pl_layouts.specs.declared.control.ControlError.TheVariants.{Cut, BadVersion, BadKind, BadField}
 use Rattle.pl_layouts.specs.Control.{id_code, pod_code, bit, is_bit, sender_at, ldm_at, proposal_at, vote_at, is_sound, is_sound_ldm, is_sound_vote, sound_or_refused, ldm_bytes, proposal_bytes, vote_bytes, control_bytes, control_in}
-use Rattle.pl_ldp.specs.Writable.{IsId, FitsLdm, FitsProposal, FitsVote, IsWritable}
+use Rattle.pl_ldp.specs.Writable.{IsWritableId, FitsLdm, FitsProposal, FitsVote, IsWritableControl}
 use Rattle.pl_ldp.proofs.Codes.{unwrap_or-known_unless, known_unless-fits, id_code-id_of_code, id_of_code-fits, bit-of, above_zero}
 
 abbrev pub Read : Type 0
@@ -97,11 +97,11 @@ vote_is p long small version kind granted fixed =
     let attempt = number 4 8 p (omega arith) small ∙ ap (λ (r : List ℕ). big_bytes 4 m.attempt ++ r) position in
     start p 3 (omega arith) small version kind ∙ ap (λ (r : List ℕ). 1 ∷ 3 ∷ (big_bytes 6 (sender_at p).0 ++ r)) attempt
 
-id_fits : (p : List ℕ) → IsBytes p → not ((sender_at p).0 == 0) ≡ true → IsId (sender_at p)
+id_fits : (p : List ℕ) → IsBytes p → not ((sender_at p).0 == 0) ≡ true → IsWritableId (sender_at p)
 id_fits p small some = (above_zero (sender_at p).0 some, big_from-lt 0 6 (drop 2 p) (bytes-drop 2 p small))
 
 Spelled : List ℕ → Control → Type 0
-Spelled p c = IsWritable c × (p ≡ control_bytes c ++ drop (length (control_bytes c)) p)
+Spelled p c = IsWritableControl c × (p ≡ control_bytes c ++ drop (length (control_bytes c)) p)
 
 ldm_read : (p : List ℕ) (c : Control) → IsBytes p → slice_index p 0 ≡ 1 → slice_index p 1 ≡ 1 →
     cond (nat_lt (length p) 19) (Err Cut) (sound_or_refused true (control.Ldm (sender_at p) (ldm_at p))) ≡ Ok c → Spelled p c
@@ -154,7 +154,7 @@ vote_read p c small version kind h =
     subst (Spelled p) passed.1 (record { sound = sound.1; fits = (id_fits p small some.0, fits) }, vote_is p long small version kind bit.0 bit.1)
 
 pub control_bytes-control_in : (p : List ℕ) (c : Control) → IsBytes p → control_in p ≡ Ok c →
-    IsWritable c × (p ≡ control_bytes c ++ drop (length (control_bytes c)) p)
+    IsWritableControl c × (p ≡ control_bytes c ++ drop (length (control_bytes c)) p)
 unfolding Spelled control_in
 control_bytes-control_in p c small h =
     let kind : ℕ = slice_index p 1 in
@@ -175,6 +175,6 @@ control_bytes-control_in p c small h =
     ]
 
 -- what is read can be written again
-pub IsWritable-control_in : (p : List ℕ) (r : Read) → IsBytes p → r ≡ control_in p → IfOk r IsWritable
-IsWritable-control_in p (Ok c) small h = (control_bytes-control_in p c small (sym h)).0
-IsWritable-control_in p (Err e) small h = tt
+pub IsWritableControl-control_in : (p : List ℕ) (r : Read) → IsBytes p → r ≡ control_in p → IfOk r IsWritableControl
+IsWritableControl-control_in p (Ok c) small h = (control_bytes-control_in p c small (sym h)).0
+IsWritableControl-control_in p (Err e) small h = tt

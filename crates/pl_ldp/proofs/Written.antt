@@ -10,7 +10,7 @@ use Rattle.pl_layouts.specs.declared.control.Vote.{Vote}
 use Rattle.pl_layouts.specs.declared.control.Control.{Control}
 use Rattle.pl_layouts.specs.declared.control.Control.TheVariants as control
 use Rattle.pl_layouts.specs.Control.{known_unless, id_code, id_of_code, pod_code, bit, is_bit, sender_at, ldm_at, proposal_at, vote_at, is_sound, is_sound_ldm, sound_or_refused, ldm_bytes, proposal_bytes, vote_bytes, control_bytes, control_in}
-use Rattle.pl_ldp.specs.Writable.{IsId, FitsLdm, FitsProposal, FitsVote, IsWritable}
+use Rattle.pl_ldp.specs.Writable.{IsWritableId, FitsLdm, FitsProposal, FitsVote, IsWritableControl}
 use Rattle.pl_ldp.proofs.Codes.{known_unless-unwrap_or, unwrap_or-fits, id_of_code-id_code, id_code-fits, of-bit, is_bit-bit, is_known_level, level-fits}
 use Rattle.pl_layouts.specs.Placement.{is_known}
 
@@ -68,7 +68,7 @@ same_vote : (i j : SwitchId) (k l m : ℕ) (g h : Bool) (e f : Option SwitchId) 
     made_vote i k m g e o ≡ made_vote j l m h f p
 same_vote i j k l m g h e f o p a b c d q = cc
 
-ldm_is_read : (id : SwitchId) (m : Ldm) (rest : List ℕ) → IsId id → FitsLdm m → IfSome m.place.level (λ n. n < 255) →
+ldm_is_read : (id : SwitchId) (m : Ldm) (rest : List ℕ) → IsWritableId id → FitsLdm m → IfSome m.place.level (λ n. n < 255) →
     made_ldm (sender_at (ldm_bytes id m ++ rest)) (ldm_at (ldm_bytes id m ++ rest)).place.level (ldm_at (ldm_bytes id m ++ rest)).place.position
     (ldm_at (ldm_bytes id m ++ rest)).place.pod m.direction (ldm_at (ldm_bytes id m ++ rest)).echo
     ≡ control.Ldm id m
@@ -93,14 +93,14 @@ sound_level m sound =
     let front = and_parts (levels && direction && position) pod sound in
     (and_parts levels direction (and_parts (levels && direction) position front.0).0).0
 
-ldm_again : (id : SwitchId) (m : Ldm) (rest : List ℕ) → IsId id → FitsLdm m → is_sound (control.Ldm id m) ≡ true →
+ldm_again : (id : SwitchId) (m : Ldm) (rest : List ℕ) → IsWritableId id → FitsLdm m → is_sound (control.Ldm id m) ≡ true →
     control_in (ldm_bytes id m ++ rest) ≡ Ok (control.Ldm id m)
 ldm_again id m rest some fits sound =
     let p : List ℕ = ldm_bytes id m ++ rest in
     let level = level-fits m.place.level (sound_level m (and_parts (not (id.0 == 0)) (is_sound_ldm m) sound).1) in
     control_in-ldm p (omega arith) refl refl ∙ ap (sound_or_refused true) (ldm_is_read id m rest some fits level) ∙ passed true (control.Ldm id m) refl sound
 
-proposal_again : (id : SwitchId) (m : Proposal) (rest : List ℕ) → IsId id → FitsProposal m → is_sound (control.Proposal id m) ≡ true →
+proposal_again : (id : SwitchId) (m : Proposal) (rest : List ℕ) → IsWritableId id → FitsProposal m → is_sound (control.Proposal id m) ≡ true →
     control_in (proposal_bytes id m ++ rest) ≡ Ok (control.Proposal id m)
 proposal_again id m rest some fits sound =
     let p : List ℕ = proposal_bytes id m ++ rest in
@@ -111,7 +111,7 @@ proposal_again id m rest some fits sound =
     ∙ ap (sound_or_refused true) (same_proposal _ id _ m.attempt m.position (ap switch_id sender) attempt)
     ∙ passed true (control.Proposal id m) refl sound
 
-vote_again : (id : SwitchId) (m : Vote) (rest : List ℕ) → IsId id → FitsVote m → is_sound (control.Vote id m) ≡ true →
+vote_again : (id : SwitchId) (m : Vote) (rest : List ℕ) → IsWritableId id → FitsVote m → is_sound (control.Vote id m) ≡ true →
     control_in (vote_bytes id m ++ rest) ≡ Ok (control.Vote id m)
 vote_again id m rest some fits sound =
     let p : List ℕ = vote_bytes id m ++ rest in
@@ -127,7 +127,7 @@ vote_again id m rest some fits sound =
     ∙ passed bits (control.Vote id m) (and_from (is_bit (bit m.granted)) (is_bit (bit m.fixed)) (is_bit-bit m.granted) (is_bit-bit m.fixed)) sound
 
 -- whatever follows it
-pub control_in-control_bytes : (c : Control) (rest : List ℕ) → IsWritable c → control_in (control_bytes c ++ rest) ≡ Ok c
+pub control_in-control_bytes : (c : Control) (rest : List ℕ) → IsWritableControl c → control_in (control_bytes c ++ rest) ≡ Ok c
 unfolding control_bytes
 control_in-control_bytes (control.Ldm id m) rest w = ldm_again id m rest w.fits.0 w.fits.1 w.sound
 control_in-control_bytes (control.Proposal id m) rest w = proposal_again id m rest w.fits.0 w.fits.1 w.sound

@@ -19,8 +19,8 @@ IsOtherKind payload =
     × (slice_index payload 1 ≢ 1) × (slice_index payload 1 ≢ 2) × (slice_index payload 1 ≢ 3)
 
 -- a whole message of a kind
-abbrev pub IsWhole : ℕ → ℕ → List ℕ → Type 0
-IsWhole kind size payload = (slice_index payload 0 ≡ 1) × (slice_index payload 1 ≡ kind) × (size ≤ length payload)
+abbrev pub IsWholeMessage : ℕ → ℕ → List ℕ → Type 0
+IsWholeMessage kind size payload = (slice_index payload 0 ≡ 1) × (slice_index payload 1 ≡ kind) × (size ≤ length payload)
 
 -- the sender is 0, the level or the direction is not one, a position is known at another level than 0,
 -- or a pod is known at level 2 or without a level
@@ -53,5 +53,5 @@ IsBadVote payload =
 
 abbrev pub HasBadField : List ℕ → Type 0
 HasBadField payload =
-    (IsWhole 1 19 payload × IsBadLdm payload)
-    ⊎ ((IsWhole 2 13 payload × IsBadProposal payload) ⊎ (IsWhole 3 21 payload × IsBadVote payload))
+    (IsWholeMessage 1 19 payload × IsBadLdm payload)
+    ⊎ ((IsWholeMessage 2 13 payload × IsBadProposal payload) ⊎ (IsWholeMessage 3 21 payload × IsBadVote payload))

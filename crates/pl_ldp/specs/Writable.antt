@@ -9,14 +9,14 @@ use Rattle.pl_layouts.specs.declared.control.Control.TheVariants as control
 use Rattle.pl_layouts.specs.Control.{is_sound}
 
 -- an id stands in six bytes and is not 0
-abbrev pub IsId : SwitchId → Type 0
-IsId id = (0 < id.0) × (id.0 < 2 ^ 48)
+abbrev pub IsWritableId : SwitchId → Type 0
+IsWritableId id = (0 < id.0) × (id.0 < 2 ^ 48)
 
 -- each field stands in its bytes, and a known one has not the code of an unknown one
 pub record FitsLdm (m : Ldm) : Type 0 where
   pub position : IfSome m.place.position (λ p. p < 255)
   pub pod : IfSome m.place.pod (λ p. p < 65535)
-  pub echo : IfSome m.echo IsId
+  pub echo : IfSome m.echo IsWritableId
 
 pub record FitsProposal (p : Proposal) : Type 0 where
   pub attempt : p.attempt < 2 ^ 32
@@ -25,14 +25,14 @@ pub record FitsProposal (p : Proposal) : Type 0 where
 pub record FitsVote (v : Vote) : Type 0 where
   pub attempt : v.attempt < 2 ^ 32
   pub position : v.position < 256
-  pub holder : IfSome v.holder IsId
+  pub holder : IfSome v.holder IsWritableId
 
-abbrev pub Fits : Control → Type 0
-Fits (control.Ldm id m) = IsId id × FitsLdm m
-Fits (control.Proposal id p) = IsId id × FitsProposal p
-Fits (control.Vote id v) = IsId id × FitsVote v
+abbrev pub ControlFits : Control → Type 0
+ControlFits (control.Ldm id m) = IsWritableId id × FitsLdm m
+ControlFits (control.Proposal id p) = IsWritableId id × FitsProposal p
+ControlFits (control.Vote id v) = IsWritableId id × FitsVote v
 
 -- a value that reading can give: no field contradicts another, and each fits
-pub record IsWritable (c : Control) : Type 0 where
+pub record IsWritableControl (c : Control) : Type 0 where
   pub sound : IsTrue (is_sound c)
-  pub fits : Fits c
+  pub fits : ControlFits c

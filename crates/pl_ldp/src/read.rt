@@ -1,6 +1,6 @@
 ghost use Rattle.std.specs.Prelude.{◌≡◌, ◌≤◌, ◌↔◌, ◌&&◌, Bool, true, length, nat_lt, slice_index, if◌then◌else◌, IfOk, Ok, Err};
 ghost use Rattle.pl_layouts.specs.Control.{known_unless, id_of_code, sender_at, ldm_at, proposal_at, vote_at, is_sound, is_sound_ldm, is_sound_vote, is_bit, sound_or_refused, control_in};
-ghost use Rattle.pl_ldp.specs.Writable.{IsWritable};
+ghost use Rattle.pl_ldp.specs.Writable.{IsWritableControl};
 ghost use Rattle.pl_ldp.specs.Refusals.{IsCut, IsOtherVersion, IsOtherKind, HasBadField};
 
 use crate::{
@@ -16,7 +16,7 @@ use pl_layouts::{Control, ControlError, Ldm, Place, Proposal, Vote};
 #[tactic(auto, unfolding(pl_layouts::specs::Control::control_in))]
 pub fn read_control(payload: &[u8]) -> Result<Control, ControlError>
     ensures exact { result ≡ control_in payload.now }
-    ensures writable { IfOk result IsWritable }
+    ensures writable { IfOk result IsWritableControl }
     ensures cut { (result ≡ Err ControlError.Cut) ↔ IsCut payload.now }
     ensures bad_version { (result ≡ Err ControlError.BadVersion) ↔ IsOtherVersion payload.now }
     ensures bad_kind { (result ≡ Err ControlError.BadKind) ↔ IsOtherKind payload.now }

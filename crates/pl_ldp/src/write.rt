@@ -1,7 +1,7 @@
 ghost use Rattle.std.specs.Prelude.{◌≡◌, ◌≤◌, ◌<◌, ◌^◌, ◌∷◌, ◌++◌, length, take, drop};
 ghost use Rattle.byteorder.specs.Endian.{big_bytes};
 ghost use Rattle.pl_layouts.specs.Control.{level_code, pod_code, id_code, ldm_bytes, proposal_bytes, vote_bytes, control_bytes, sender_of, control_frame};
-ghost use Rattle.pl_ldp.specs.Writable.{IsWritable, FitsLdm, FitsVote, IsId};
+ghost use Rattle.pl_ldp.specs.Writable.{IsWritableControl, FitsLdm, FitsVote, IsWritableId};
 
 use crate::{
     KIND_LDM, KIND_PROPOSAL, KIND_VOTE, LDM_LENGTH, PROPOSAL_LENGTH, VERSION, VOTE_LENGTH,
@@ -26,7 +26,7 @@ const GROUP: [u8; 6] = [0x03, 0x50, 0x4c, 0, 0, 1];
 /// its bits set, and an id that is not there is 0.
 #[tactic(auto, unfolding(pl_layouts::specs::Control::control_frame))]
 pub fn write_control(control: &Control, to: &mut [u8; 35]) -> usize
-    requires { IsWritable control.now }
+    requires { IsWritableControl control.now }
     ensures length { result ≡ length (control_frame control.now) }
     ensures within { (SHORTEST ≤ result) × (result ≤ 35) }
     ensures frame { take result to.new ≡ control_frame control.now }
@@ -48,7 +48,7 @@ fn sender_of(control: &Control) -> SwitchId
 // Destination, source and type.
 fn write_head(id: SwitchId, to: &mut [u8])
     requires room { length to.old ≡ 14 }
-    requires id { IsId id }
+    requires id { IsWritableId id }
     ensures { to.new ≡ 3 ∷ 0x50 ∷ 0x4c ∷ 0 ∷ 0 ∷ 1 ∷ (big_bytes 6 id.0 ++ big_bytes 2 0x88b5) }
 {
     let (dst, rest) = to.split_at_mut(6);
@@ -61,7 +61,7 @@ fn write_head(id: SwitchId, to: &mut [u8])
 #[tactic(auto, unfolding(pl_layouts::specs::Control::control_bytes))]
 fn write_payload(control: &Control, to: &mut [u8]) -> usize
     requires room { 21 ≤ length to.old }
-    requires writable { IsWritable control.now }
+    requires writable { IsWritableControl control.now }
     ensures length { result ≡ length (control_bytes control.now) }
     ensures within { result ≤ 21 }
     ensures bytes { to.new ≡ control_bytes control.now ++ drop result to.old }
@@ -75,7 +75,7 @@ fn write_payload(control: &Control, to: &mut [u8]) -> usize
 
 fn write_ldm(id: SwitchId, ldm: &Ldm, to: &mut [u8]) -> usize
     requires room { 19 ≤ length to.old }
-    requires id { IsId id }
+    requires id { IsWritableId id }
     requires fits { FitsLdm ldm.now }
     ensures length { result ≡ 19 }
     ensures bytes { to.new ≡ ldm_bytes id ldm.now ++ drop 19 to.old }
@@ -94,7 +94,7 @@ fn write_ldm(id: SwitchId, ldm: &Ldm, to: &mut [u8]) -> usize
 
 fn write_proposal(id: SwitchId, proposal: &Proposal, to: &mut [u8]) -> usize
     requires room { 13 ≤ length to.old }
-    requires id { IsId id }
+    requires id { IsWritableId id }
     ensures length { result ≡ 13 }
     ensures bytes { to.new ≡ proposal_bytes id proposal.now ++ drop 13 to.old }
 {
@@ -108,7 +108,7 @@ fn write_proposal(id: SwitchId, proposal: &Proposal, to: &mut [u8]) -> usize
 
 fn write_vote(id: SwitchId, vote: &Vote, to: &mut [u8]) -> usize
     requires room { 21 ≤ length to.old }
-    requires id { IsId id }
+    requires id { IsWritableId id }
     requires fits { FitsVote vote.now }
     ensures length { result ≡ 21 }
     ensures bytes { to.new ≡ vote_bytes id vote.now ++ drop 21 to.old }
@@ -128,7 +128,7 @@ fn write_vote(id: SwitchId, vote: &Vote, to: &mut [u8]) -> usize
 // Version, kind and the sender's id.
 fn write_start(kind: u8, id: SwitchId, to: &mut [u8])
     requires room { length to.old ≡ 8 }
-    requires id { IsId id }
+    requires id { IsWritableId id }
     ensures { to.new ≡ 1 ∷ kind ∷ big_bytes 6 id.0 }
 {
     let (version, sender) = to.split_at_mut(2);

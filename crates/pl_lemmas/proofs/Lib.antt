@@ -2,3 +2,4 @@ pub mod Pigeonhole
 pub mod Bools
 pub mod Options
 pub mod Lists
+pub mod Exports

@@ -6,7 +6,7 @@ use Rattle.std.specs.Ordering.{nat_cmp}
 use Rattle.std.specs.BTreeSet.{insert_key}
 use Rattle.std.proofs.lemmas.Bool.{cases_order, eq-eqb, ne_eqb, lt-ltb, le-ltb}
 use Rattle.std.proofs.lemmas.Nat.Bits.{bit_at_set_same, bit_at_set_other, bit_at_clear_same, bit_at_clear_other}
-use Rattle.pl_lemmas.proofs.Bools.{and_false, and_true}
+use Rattle.pl_lemmas.proofs.Exports.{and_false, and_true}
 use Rattle.pl_lists.specs.declared.port_set.PortSet.{PortSet}
 use Rattle.pl_lists.specs.Ports.{has_port, ports_of}
 

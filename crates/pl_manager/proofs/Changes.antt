@@ -6,27 +6,24 @@ use Rattle.std.proofs.lemmas.Cmp.{nat_cmp_total}
 use Rattle.std.proofs.lemmas.Map.Lookups.{exact_unsigned}
 use Rattle.pl_frame.specs.declared.address.SwitchId.{SwitchId}
 use Rattle.pl_layouts.specs.Memberships.{flood}
-use Rattle.pl_logic.specs.declared.acts.ManagerAct.{ManagerAct}
-use Rattle.pl_logic.specs.declared.acts.ManagerAct.TheVariants.{Say}
-use Rattle.pl_logic.specs.declared.messages.ToSwitch.TheVariants as say
-use Rattle.pl_logic.specs.AvoidLists.{avoid_list}
-use Rattle.pl_logic.specs.ManagerFacts.{groups}
-use Rattle.pl_logic.specs.ManagerViews.{Told, members_cmp, switches}
-use Rattle.pl_logic.specs.Trees.{core_for, core_of, needed_edges, tree_part}
-use Rattle.pl_logic.proofs.Among.{IsAmong}
+use Rattle.pl_node.specs.declared.acts.ManagerAct.{ManagerAct}
+use Rattle.pl_node.specs.declared.acts.ManagerAct.TheVariants.{Say}
+use Rattle.pl_node.specs.declared.messages.ToSwitch.TheVariants as say
+use Rattle.pl_node.specs.AvoidLists.{avoid_list}
+use Rattle.pl_node.specs.ManagerFacts.{groups}
+use Rattle.pl_node.specs.ManagerViews.{Told, members_cmp, switches}
+use Rattle.pl_node.specs.Trees.{core_for, core_of, needed_edges, tree_part}
+use Rattle.pl_node.proofs.Exports.{IsAmong}
 use Rattle.pl_manager_rule.specs.ManagerRule.{avoid_acts, same_avoid_list, same_part}
-use Rattle.pl_manager_rule.proofs.Avoided.{groups_rise}
-use Rattle.pl_manager_rule.proofs.Repeated.{none_differ}
-use Rattle.pl_manager_rule.proofs.Sameness.{parts_alike}
+use Rattle.pl_manager_rule.proofs.Exports.{groups_rise, none_differ, parts_alike}
 use Rattle.pl_reports.specs.Kept.{nothing_told}
 use Rattle.pl_faults.specs.Kept.{MatrixView, changed_lists, empty_matrix, handed}
-use Rattle.pl_groups.proofs.Branches.{no_core_no_part}
-use Rattle.pl_faults.proofs.Filling.{among_put_in}
+use Rattle.pl_groups.proofs.Exports.{groups_more, no_core_no_part}
+use Rattle.pl_faults.proofs.Exports.{among_put_in}
 use Rattle.pl_groups.specs.Kept.{members_in, part_kept}
 use Rattle.pl_groups.specs.declared.groups.Groups.{Groups}
-use Rattle.pl_groups.proofs.Rostered.{groups_more}
 use Rattle.pl_manager.specs.Routing.{AreOf, routed, tree_told_anew, trees_told_anew}
-use Rattle.pl_manager.specs.Telling.{AreRenewed, lists_told, listed_groups, tree_told}
+use Rattle.pl_manager.specs.Telling.{AreTreesRenewed, lists_told, listed_groups, tree_told}
 use Rattle.pl_manager.proofs.OneGroup.{only_one}
 use Rattle.pl_manager.proofs.OtherGroups.{no_tree, same_tree}
 
@@ -51,7 +48,7 @@ trees_changed told after kept same =
     (filter (λ s. not (same_part (same g s i) (tree_part after (members_in kept) g s))) (switches after))) (groups (members_in kept))
 
 module _ (told : Told) (m1 m2 : MatrixView) (g1 g2 : Groups) (o1 o2 o3 : List ManagerAct) (was : AreOf told m1 g1) (still : m2.told ≡ m1.told)
-    (handed_now : (s : SwitchId) → handed m2 s ≡ avoid_list m1.told s) (said : o2 ≡ o1 ++ avoid_acts told m1.told) (renewed : AreRenewed m2.told (listed_groups g1) g1 g2 o2 o3) where
+    (handed_now : (s : SwitchId) → handed m2 s ≡ avoid_list m1.told s) (said : o2 ≡ o1 ++ avoid_acts told m1.told) (renewed : AreTreesRenewed m2.told (listed_groups g1) g1 g2 o2 o3) where
   part_now : (g : ℕ) (s : SwitchId) (b : Bool) → list_any (λ h. h == g) (listed_groups g1) ≡ b → part_kept g2 g s ≡ tree_part m2.told (members_in g1) g s
   part_now g s true e = renewed.renewed g s e
   part_now g s false e =
@@ -100,7 +97,7 @@ module _ (told after : Told) (kept : Groups)
 -- ---- a word on the members of a group
 module _ (told : Told) (m : MatrixView) (edge : SwitchId) (group : ℕ) (any : Bool) (g0 g1 g2 : Groups) (o1 o2 : List ManagerAct) (was : AreOf told m g0)
     (set : members_in g1 ≡ insert_entry members_cmp (members_in g0) (edge, group) any)
-    (stay : (g : ℕ) (s : SwitchId) → part_kept g1 g s ≡ part_kept g0 g s) (renewed : AreRenewed told (group ∷ []) g1 g2 o1 o2) where
+    (stay : (g : ℕ) (s : SwitchId) → part_kept g1 g s ≡ part_kept g0 g s) (renewed : AreTreesRenewed told (group ∷ []) g1 g2 o1 o2) where
   pub members_now : members_in g2 ≡ insert_entry members_cmp (members_in g0) (edge, group) any
   members_now = renewed.members ∙ set
 

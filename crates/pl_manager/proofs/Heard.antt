@@ -7,15 +7,15 @@ use Rattle.pl_frame.specs.declared.address.Mac.{Mac}
 use Rattle.pl_frame.specs.declared.address.SwitchId.{SwitchId}
 use Rattle.pl_pmac.specs.declared.pmac.Pmac.{Pmac}
 use Rattle.pl_layouts.specs.declared.place.Place.{Place}
-use Rattle.pl_logic.specs.declared.acts.ManagerAct.{ManagerAct}
-use Rattle.pl_logic.specs.declared.acts.ManagerAct.TheVariants.{Say}
-use Rattle.pl_logic.specs.declared.messages.ToManager.{ToManager}
-use Rattle.pl_logic.specs.declared.messages.ToManager.TheVariants as tell
-use Rattle.pl_logic.specs.declared.messages.ToSwitch.TheVariants as say
-use Rattle.pl_logic.specs.Gains.{Gains}
-use Rattle.pl_logic.specs.ManagerViews.{Learnt, ManagerView, lookup, members_cmp, pod_given}
+use Rattle.pl_node.specs.declared.acts.ManagerAct.{ManagerAct}
+use Rattle.pl_node.specs.declared.acts.ManagerAct.TheVariants.{Say}
+use Rattle.pl_node.specs.declared.messages.ToManager.{ToManager}
+use Rattle.pl_node.specs.declared.messages.ToManager.TheVariants as tell
+use Rattle.pl_node.specs.declared.messages.ToSwitch.TheVariants as say
+use Rattle.pl_node.specs.Gains.{Gains}
+use Rattle.pl_node.specs.ManagerViews.{Learnt, ManagerView, lookup, members_cmp, pod_given}
 use Rattle.pl_manager_rule.specs.ManagerRule.{answer_to, avoid_acts, learning, manager_hears, manager_rule, tree_acts, with_asker, with_learnt, with_link, with_place}
-use Rattle.pl_manager_rule.proofs.Repeated.{no_avoid_acts, no_tree_acts}
+use Rattle.pl_manager_rule.proofs.Exports.{no_avoid_acts, no_tree_acts}
 use Rattle.pl_manager.specs.Routing.{RoutingView, trees_told_anew}
 
 -- where nothing changed of the tree, nothing is told of it

@@ -2,11 +2,11 @@
 use Rattle.std.proofs.Common.{◌≡◌, List, [], Option, Some, None, sym, ap, ◌∙◌}
 use Rattle.std.specs.Prelude.{unwrap_or}
 use Rattle.pl_frame.specs.declared.address.SwitchId.{SwitchId}
-use Rattle.pl_logic.specs.AvoidLists.{avoid_list}
-use Rattle.pl_logic.specs.ManagerViews.{Told}
+use Rattle.pl_node.specs.AvoidLists.{avoid_list}
+use Rattle.pl_node.specs.ManagerViews.{Told}
 use Rattle.pl_faults.specs.Kept.{list_of}
 use Rattle.pl_faults.specs.Making.{Avoided}
-use Rattle.pl_faults.proofs.Anew.{avoid_of}
+use Rattle.pl_faults.proofs.Exports.{avoid_of}
 
 pub list_found : (told : Told) (s : SwitchId) (list : List Avoided) → Some list ≡ list_of told s → list ≡ avoid_list told s
 list_found told s list e = ap (λ (o : Option (List Avoided)). unwrap_or o []) e ∙ avoid_of told s

@@ -8,12 +8,12 @@ use Rattle.std.proofs.lemmas.Bool.{eqb-true, false≢true}
 use Rattle.std.proofs.lemmas.Map.Lookups.{exact_unsigned}
 use Rattle.pl_frame.specs.declared.address.SwitchId.{SwitchId}
 use Rattle.pl_layouts.specs.Memberships.{flood}
-use Rattle.pl_logic.specs.ManagerFacts.{groups}
-use Rattle.pl_logic.specs.ManagerViews.{Members, Told, id_cmp, in_order, members_cmp, placed_edges, with_members}
-use Rattle.pl_logic.specs.Trees.{core_for, core_of, needed_edges, part_under, tree_part}
-use Rattle.pl_logic.proofs.Among.{IsAmong, among_in_order, among_mapped}
-use Rattle.pl_manager_rule.proofs.Kept.{members_exact}
-use Rattle.pl_groups.proofs.Branches.{no_core_no_part}
+use Rattle.pl_node.specs.ManagerFacts.{groups}
+use Rattle.pl_node.specs.ManagerViews.{Members, Told, id_cmp, in_order, members_cmp, placed_edges, with_members}
+use Rattle.pl_node.specs.Trees.{core_for, core_of, needed_edges, part_under, tree_part}
+use Rattle.pl_node.proofs.Exports.{among_in_order, among_mapped, IsAmong}
+use Rattle.pl_manager_rule.proofs.Exports.{members_exact}
+use Rattle.pl_groups.proofs.Exports.{no_core_no_part}
 use Rattle.pl_manager.proofs.OneGroup.{listed_itself}
 
 abbrev Member : Type 0

@@ -10,12 +10,11 @@ use Rattle.std.proofs.lemmas.Map.Made.{length-le_from_is_member}
 use Rattle.std.proofs.Math.Nat.{div-le_self, mul-le-mul_left, mul-le-mul_right}
 use Rattle.pl_frame.specs.declared.address.SwitchId.{SwitchId}
 use Rattle.pl_layouts.specs.Equality.{same_switch}
-use Rattle.pl_logic.specs.ManagerFacts.{CanHear, heard, switch_count}
-use Rattle.pl_logic.specs.ManagerViews.{ManagerView, PodGiven, id_cmp, pods_given, speakers, tellers}
-use Rattle.pl_logic.specs.SwitchFacts.{IsTreeSize}
-use Rattle.pl_logic.proofs.Among.{IsAmong, among_in_order, among_left, among_right, any_among, member_passes}
-use Rattle.pl_manager_rule.proofs.Avoided.{id_exact}
-use Rattle.pl_manager_rule.proofs.Registered.{askers_once}
+use Rattle.pl_node.specs.ManagerFacts.{CanHear, heard, switch_count}
+use Rattle.pl_node.specs.ManagerViews.{ManagerView, PodGiven, id_cmp, pods_given, speakers, tellers}
+use Rattle.pl_node.specs.SwitchFacts.{IsTreeSize}
+use Rattle.pl_node.proofs.Exports.{among_in_order, among_left, among_right, any_among, IsAmong, member_passes}
+use Rattle.pl_manager_rule.proofs.Exports.{askers_once, id_exact}
 
 abbrev given : List SwitchId → List SwitchId
 given askers = map (λ g. g.switch) (pods_given askers)

@@ -6,20 +6,20 @@ use Rattle.std.proofs.lemmas.Bool.{eqb-true, false≢true, or_left, or_parts}
 use Rattle.std.proofs.lemmas.Grind.{flat_map-append}
 use Rattle.std.proofs.lemmas.Option.{slice_get-get_or}
 use Rattle.pl_frame.specs.declared.address.SwitchId.{SwitchId}
-use Rattle.pl_logic.specs.declared.acts.ManagerAct.{ManagerAct}
-use Rattle.pl_logic.specs.declared.acts.ManagerAct.TheVariants.{Say}
-use Rattle.pl_logic.specs.declared.messages.ToSwitch.TheVariants as say
-use Rattle.pl_logic.specs.ManagerViews.{Members, Told, switches}
-use Rattle.pl_logic.specs.Trees.{tree_part}
+use Rattle.pl_node.specs.declared.acts.ManagerAct.{ManagerAct}
+use Rattle.pl_node.specs.declared.acts.ManagerAct.TheVariants.{Say}
+use Rattle.pl_node.specs.declared.messages.ToSwitch.TheVariants as say
+use Rattle.pl_node.specs.ManagerViews.{Members, Told, switches}
+use Rattle.pl_node.specs.Trees.{tree_part}
 use Rattle.pl_manager_rule.specs.ManagerRule.{same_part}
 use Rattle.pl_groups.specs.Kept.{members_in, part_kept}
 use Rattle.pl_groups.specs.declared.groups.Groups.{Groups}
-use Rattle.pl_groups.proofs.Edges.{any_more}
-use Rattle.pl_manager.specs.Telling.{AreRenewed, listed_groups, parts_told, tree_told}
+use Rattle.pl_groups.proofs.Exports.{any_more}
+use Rattle.pl_manager.specs.Telling.{AreTreesRenewed, listed_groups, parts_told, tree_told}
 use Rattle.pl_manager.proofs.OneGroup.{first_taken, one_more_taken}
 
 -- no tree was made anew yet
-pub none_renewed : (told : Told) (a : Groups) (out : List ManagerAct) → AreRenewed told [] a a out out
+pub none_renewed : (told : Told) (a : Groups) (out : List ManagerAct) → AreTreesRenewed told [] a a out out
 none_renewed told a out = record {
   acts = sym (append-nil out);
   renewed = λ g s e. absurd (false≢true e);
@@ -32,7 +32,7 @@ pub one_renewed : (told : Told) (g : ℕ) (a b : Groups) (out out_after : List M
     changed ≡ filter (λ s. not (same_part (part_kept a g s) (tree_part told (members_in a) g s))) (switches told) →
     ((s : SwitchId) → part_kept b g s ≡ tree_part told (members_in a) g s) →
     ((q : ℕ) (s : SwitchId) → q ≢ g → part_kept b q s ≡ part_kept a q s) → members_in b ≡ members_in a →
-    out_after ≡ out ++ parts_told b g changed → AreRenewed told (g ∷ []) a b out out_after
+    out_after ≡ out ++ parts_told b g changed → AreTreesRenewed told (g ∷ []) a b out out_after
 one_renewed told g a b out out_after changed is parts others members acts = record {
   acts = acts ∙ ap (λ zs. out ++ zs) ((λ i. map (λ s. Say s (say.Tree g (parts s i))) (is i)) ∙ sym (append-nil (tree_told told a g)));
   renewed = λ q s e. subst (λ h. part_kept b h s ≡ tree_part told (members_in a) h s) (eqb-true g q (only (g == q) e)) (parts s);
@@ -46,7 +46,7 @@ one_renewed told g a b out out_after changed is parts others members acts = reco
 
 -- and then that of another one
 module _ (told : Told) (some : List ℕ) (g : ℕ) (a b c : Groups) (o1 o2 o3 : List ManagerAct) (first : list_any (λ h. h == g) some ≡ false)
-    (h : AreRenewed told some a b o1 o2) (k : AreRenewed told (g ∷ []) b c o2 o3) where
+    (h : AreTreesRenewed told some a b o1 o2) (k : AreTreesRenewed told (g ∷ []) b c o2 o3) where
   abbrev renewed_by : Groups → Members → List ManagerAct
   renewed_by z members =
       map (λ s. Say s (say.Tree g (tree_part told members g s)))
@@ -75,7 +75,7 @@ module _ (told : Told) (some : List ℕ) (g : ℕ) (a b c : Groups) (o1 o2 o3 : 
       before true f = refl
       before false f = f
 
-  pub renewed_next : AreRenewed told (some ++ g ∷ []) a c o1 o3
+  pub renewed_next : AreTreesRenewed told (some ++ g ∷ []) a c o1 o3
   renewed_next = record {
     acts = more_acts;
     renewed = λ q s e. more_renewed q s (g == q) refl (sym (any_more (λ z. z == q) some g) ∙ e);
@@ -87,26 +87,26 @@ module _ (told : Told) (some : List ℕ) (g : ℕ) (a b c : Groups) (o1 o2 o3 : 
 
 -- so it goes on through the list of the groups
 pub renewed_at : (told : Told) (gs : List ℕ) (n g : ℕ) (a b c : Groups) (o1 o2 o3 : List ManagerAct) → IsStrictlySortedBy nat_cmp gs →
-    slice_get gs n ≡ Some g → AreRenewed told (take n gs) a b o1 o2 → AreRenewed told (g ∷ []) b c o2 o3 → AreRenewed told (take (n + 1) gs) a c o1 o3
+    slice_get gs n ≡ Some g → AreTreesRenewed told (take n gs) a b o1 o2 → AreTreesRenewed told (g ∷ []) b c o2 o3 → AreTreesRenewed told (take (n + 1) gs) a c o1 o3
 renewed_at told gs n g a b c o1 o2 o3 rises at h k =
-    subst (λ some. AreRenewed told some a c o1 o3) (sym (one_more_taken gs n g at))
+    subst (λ some. AreTreesRenewed told some a c o1 o3) (sym (one_more_taken gs n g at))
     (renewed_next told (take n gs) g a b c o1 o2 o3 (first_taken gs n g rises at) h k)
 
 -- a list of groups by their number
 pub group_listed : (told : Told) (gs : List ℕ) (n : ℕ) (a b c : Groups) (o1 o2 o3 : List ManagerAct) → IsStrictlySortedBy nat_cmp gs → n < length gs →
-    listed_groups b ≡ gs → ((g : ℕ) → slice_get (listed_groups b) n ≡ Some g → AreRenewed told (g ∷ []) b c o2 o3) →
-    AreRenewed told (take n gs) a b o1 o2 → AreRenewed told (take (n + 1) gs) a c o1 o3
+    listed_groups b ≡ gs → ((g : ℕ) → slice_get (listed_groups b) n ≡ Some g → AreTreesRenewed told (g ∷ []) b c o2 o3) →
+    AreTreesRenewed told (take n gs) a b o1 o2 → AreTreesRenewed told (take (n + 1) gs) a c o1 o3
 group_listed told gs n a b c o1 o2 o3 rises below same more h =
     let at = slice_get-get_or gs n 0 below in
     renewed_at told gs n (get_or gs n 0) a b c o1 o2 o3 rises at h (more (get_or gs n 0) (ap (λ xs. slice_get xs n) same ∙ at))
 
 -- only the group at a place is made anew there
 pub group_at_place : (told : Told) (b c : Groups) (n : ℕ) (group : ℕ) (o2 o3 : List ManagerAct) → Some group ≡ slice_get (listed_groups b) n →
-    AreRenewed told (group ∷ []) b c o2 o3 → (g : ℕ) → slice_get (listed_groups b) n ≡ Some g → AreRenewed told (g ∷ []) b c o2 o3
+    AreTreesRenewed told (group ∷ []) b c o2 o3 → (g : ℕ) → slice_get (listed_groups b) n ≡ Some g → AreTreesRenewed told (g ∷ []) b c o2 o3
 group_at_place told b c n group o2 o3 at h g also =
     let both : Some group ≡ Some g = at ∙ also in
     let same : group ≡ g = cc in
-    subst (λ k. AreRenewed told (k ∷ []) b c o2 o3) same h
+    subst (λ k. AreTreesRenewed told (k ∷ []) b c o2 o3) same h
 
 pub no_group_there : {X : Type 0} (b : Groups) (n : ℕ) → None ≡ slice_get (listed_groups b) n → (g : ℕ) → slice_get (listed_groups b) n ≡ Some g → X
 no_group_there b n at g also = let both : None ≡ Some g = at ∙ also in absurd (cc)

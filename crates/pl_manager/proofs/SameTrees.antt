@@ -12,18 +12,14 @@ use Rattle.pl_layouts.specs.declared.place.Place.{Place}
 use Rattle.pl_layouts.specs.Equality.{same_switch}
 use Rattle.pl_layouts.specs.Memberships.{flood}
 use Rattle.pl_layouts.specs.Placement.{is_known, nowhere}
-use Rattle.pl_logic.specs.declared.messages.TreePart.{TreePart}
-use Rattle.pl_logic.specs.ManagerViews.{Members, PlacedEdge, Told, alive_neighbours, edge_at, has_level, id_cmp, is_alive, is_told_usable, link_cmp, neighbours, place_of, placed_edges, switches, tellers, value_at, with_members}
-use Rattle.pl_logic.specs.Trees.{core_for, core_of, cores, largest, needed_edges, tree_part, turn}
-use Rattle.pl_logic.proofs.Among.{among_in_order, among_left, id_total}
+use Rattle.pl_node.specs.declared.messages.TreePart.{TreePart}
+use Rattle.pl_node.specs.ManagerViews.{Members, PlacedEdge, Told, alive_neighbours, edge_at, has_level, id_cmp, is_alive, is_told_usable, link_cmp, neighbours, place_of, placed_edges, switches, tellers, value_at, with_members}
+use Rattle.pl_node.specs.Trees.{core_for, core_of, cores, largest, needed_edges, tree_part, turn}
+use Rattle.pl_node.proofs.Exports.{among_in_order, among_left, id_total}
 use Rattle.pl_manager_rule.specs.ManagerRule.{with_link, with_place}
-use Rattle.pl_manager_rule.proofs.Avoided.{id_exact, id_is, id_itself, neighbours_rise, switches_rise}
-use Rattle.pl_manager_rule.proofs.History.{value_after}
-use Rattle.pl_manager_rule.proofs.Tables.{found_key}
-use Rattle.pl_manager_rule.proofs.Kept.{link_exact}
-use Rattle.pl_reports.proofs.Telling.{link_total, other_neighbours, own_neighbours, switches_linked, switches_placed}
-use Rattle.pl_reports.proofs.Placing.{insert_nothing}
-use Rattle.pl_groups.proofs.Edges.{alive_back, alive_neighbour}
+use Rattle.pl_manager_rule.proofs.Exports.{found_key, id_exact, id_is, id_itself, link_exact, neighbours_rise, switches_rise, value_after}
+use Rattle.pl_reports.proofs.Exports.{insert_nothing, link_total, other_neighbours, own_neighbours, switches_linked, switches_placed}
+use Rattle.pl_groups.proofs.Exports.{alive_back, alive_neighbour}
 
 -- ---- a tree by places, links that are alive, neighbours over those, and core switches
 module _ (place : SwitchId → Place) (alive : SwitchId → SwitchId → Bool) (near : SwitchId → List SwitchId) where

@@ -1,5 +1,5 @@
 -- The fabric manager as its rule sees it.
-use Rattle.pl_logic.specs.ManagerViews.{ManagerView}
+use Rattle.pl_node.specs.ManagerViews.{ManagerView}
 use Rattle.pl_manager_rule.specs.Lawful.{IsManagerRule}
 use Rattle.pl_manager_rule.specs.ManagerRule.{manager_rule}
 use Rattle.pl_manager.specs.declared.manager.Manager.{Manager}

@@ -2,13 +2,13 @@
 use Rattle.std.specs.Prelude.{◌≡◌, ℕ, ◌==◌, ◌++◌, true, false, not, List, map}
 use Rattle.std.specs.List.{filter, flat_map, list_any}
 use Rattle.pl_frame.specs.declared.address.SwitchId.{SwitchId}
-use Rattle.pl_logic.specs.declared.acts.ManagerAct.{ManagerAct}
-use Rattle.pl_logic.specs.declared.acts.ManagerAct.TheVariants.{Say}
-use Rattle.pl_logic.specs.declared.messages.ToSwitch.TheVariants as say
-use Rattle.pl_logic.specs.AvoidLists.{avoid_list}
-use Rattle.pl_logic.specs.ManagerFacts.{groups}
-use Rattle.pl_logic.specs.ManagerViews.{Told, switches}
-use Rattle.pl_logic.specs.Trees.{tree_part}
+use Rattle.pl_node.specs.declared.acts.ManagerAct.{ManagerAct}
+use Rattle.pl_node.specs.declared.acts.ManagerAct.TheVariants.{Say}
+use Rattle.pl_node.specs.declared.messages.ToSwitch.TheVariants as say
+use Rattle.pl_node.specs.AvoidLists.{avoid_list}
+use Rattle.pl_node.specs.ManagerFacts.{groups}
+use Rattle.pl_node.specs.ManagerViews.{Told, switches}
+use Rattle.pl_node.specs.Trees.{tree_part}
 use Rattle.pl_manager_rule.specs.ManagerRule.{same_part}
 use Rattle.pl_groups.specs.Kept.{members_in, part_kept}
 use Rattle.pl_groups.specs.declared.groups.Groups.{Groups}
@@ -32,7 +32,7 @@ tree_told told groups group =
     (filter (λ s. not (same_part (part_kept groups group s) (tree_part told (members_in groups) group s))) (switches told))
 
 -- The trees of some groups were made anew, one after the other, and what changed was told.
-pub record AreRenewed (told : Told) (some : List ℕ) (before after : Groups) (out out_after : List ManagerAct) : Type 0 where
+pub record AreTreesRenewed (told : Told) (some : List ℕ) (before after : Groups) (out out_after : List ManagerAct) : Type 0 where
   pub acts : out_after ≡ out ++ flat_map (tree_told told before) some
   pub renewed : (g : ℕ) (s : SwitchId) → list_any (λ h. h == g) some ≡ true → part_kept after g s ≡ tree_part told (members_in before) g s
   pub others : (g : ℕ) (s : SwitchId) → list_any (λ h. h == g) some ≡ false → part_kept after g s ≡ part_kept before g s

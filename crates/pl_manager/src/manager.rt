@@ -1,4 +1,4 @@
-ghost use Rattle.pl_logic.specs.SwitchFacts.{IsTreeSize};
+ghost use Rattle.pl_node.specs.SwitchFacts.{IsTreeSize};
 
 use crate::routing::Routing;
 use pl_registry::{Askers, Registry};

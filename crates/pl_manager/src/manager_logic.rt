@@ -1,13 +1,13 @@
 ghost use Rattle.pl_manager_rule.specs.ManagerRule.{manager_rule};
-ghost use Rattle.pl_manager_rule.proofs.HeardSwitches.{manager_answers};
+ghost use Rattle.pl_manager_rule.proofs.Exports.{manager_answers};
 ghost use Rattle.pl_manager.specs.Manager.{is_its_rule, manager_view};
 
 use crate::manager::Manager;
 use crate::routing::Routing;
 use crate::saying::{answer, give_pod, learn};
 use pl_frame::{Ip4, Mac, SwitchId};
-use pl_logic::{AvoidList, ManagerLogic, ManagerOutbox, Memory, Place, ToManager, TreePart};
 use pl_manager_rule::LawfulManager;
+use pl_node::{AvoidList, ManagerLogic, ManagerOutbox, Memory, Place, ToManager, TreePart};
 use pl_pmac::Pmac;
 use pl_registry::{Askers, Registry};
 use std::alloc::Global;

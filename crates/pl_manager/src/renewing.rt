@@ -1,19 +1,19 @@
 ghost use Rattle.std.specs.Prelude.{◌≡◌, ◌↔◌, ◌++◌, ◌∷◌, [], ℕ, OnOk, Some, if◌then◌else◌, not, slice_get, IsTrue};
 ghost use Rattle.std.specs.BTreeMap.{insert_entry};
 ghost use Rattle.pl_frame.specs.declared.address.SwitchId.{SwitchId};
-ghost use Rattle.pl_logic.specs.AvoidLists.{avoid_list};
-ghost use Rattle.pl_logic.specs.ManagerViews.{Told, members_cmp};
+ghost use Rattle.pl_node.specs.AvoidLists.{avoid_list};
+ghost use Rattle.pl_node.specs.ManagerViews.{Told, members_cmp};
 ghost use Rattle.pl_groups.specs.Kept.{members_in};
 ghost use Rattle.pl_manager_rule.specs.ManagerRule.{avoid_acts, with_link, with_place};
 ghost use Rattle.pl_faults.specs.Kept.{handed};
 ghost use Rattle.pl_manager.specs.Routing.{AreOf, routed, trees_told_anew};
-ghost use Rattle.pl_manager.specs.Telling.{AreRenewed, listed_groups};
+ghost use Rattle.pl_manager.specs.Telling.{AreTreesRenewed, listed_groups};
 
 use crate::telling::{renew, tell_lists};
 use pl_faults::Matrix;
 use pl_frame::SwitchId;
 use pl_groups::Groups;
-use pl_logic::{ManagerOutbox, Memory, Place};
+use pl_node::{ManagerOutbox, Memory, Place};
 use pl_reports::Reports;
 use std::alloc::Global;
 
@@ -127,7 +127,7 @@ pub(crate) fn forget(alloc: Global, matrix: &mut Matrix, groups: &mut Groups)
 
 // The trees of all groups are made anew, by rising group.
 fn renew_all(groups: &mut Groups, reports: &Reports, out: &mut ManagerOutbox) -> Result<(), Memory>
-    ensures { OnOk result (AreRenewed reports.now (listed_groups groups.old) groups.old groups.new out.old out.new) }
+    ensures { OnOk result (AreTreesRenewed reports.now (listed_groups groups.old) groups.old groups.new out.old out.new) }
 {
     for n in 0..groups.len() {
         renew_nth(groups, reports, n, out)?;
@@ -143,7 +143,7 @@ fn renew_nth(
     out: &mut ManagerOutbox,
 ) -> Result<(), Memory>
     ensures { OnOk result ((g : ℕ) → slice_get (listed_groups groups.old) n ≡ Some g →
-        AreRenewed reports.now (g ∷ []) groups.old groups.new out.old out.new) }
+        AreTreesRenewed reports.now (g ∷ []) groups.old groups.new out.old out.new) }
 {
     match groups.group(n) {
         Some(group) => {

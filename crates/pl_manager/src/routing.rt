@@ -1,10 +1,10 @@
 ghost use Rattle.std.specs.Prelude.{◌≡◌, ◌++◌, ◌↔◌, IfOk, IsTrue, OnOk, slice_get};
 ghost use Rattle.std.specs.BTreeMap.{insert_entry};
 ghost use Rattle.std.specs.Option.{option_copied};
-ghost use Rattle.pl_logic.specs.AvoidLists.{avoid_list};
-ghost use Rattle.pl_logic.specs.ManagerFacts.{groups};
-ghost use Rattle.pl_logic.specs.ManagerViews.{members_cmp};
-ghost use Rattle.pl_logic.specs.Trees.{tree_part};
+ghost use Rattle.pl_node.specs.AvoidLists.{avoid_list};
+ghost use Rattle.pl_node.specs.ManagerFacts.{groups};
+ghost use Rattle.pl_node.specs.ManagerViews.{members_cmp};
+ghost use Rattle.pl_node.specs.Trees.{tree_part};
 ghost use Rattle.pl_manager_rule.specs.ManagerRule.{avoid_acts, with_link, with_place};
 ghost use Rattle.pl_manager.specs.Routing.{nothing_routed, trees_told_anew};
 
@@ -12,7 +12,7 @@ use crate::renewing::{forget, tell_link, tell_members, tell_place};
 use pl_faults::Matrix;
 use pl_frame::SwitchId;
 use pl_groups::Groups;
-use pl_logic::{AvoidList, ManagerOutbox, Memory, Place, TreePart};
+use pl_node::{AvoidList, ManagerOutbox, Memory, Place, TreePart};
 use pl_reports::Reports;
 use std::alloc::Global;
 use std::marker::Model;

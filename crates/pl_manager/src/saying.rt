@@ -1,13 +1,13 @@
 ghost use Rattle.std.specs.Prelude.{◌≡◌, ◌++◌, ◌∷◌, ◌<◌, [], OnOk, Some, length, unwrap_or};
-ghost use Rattle.pl_logic.specs.declared.acts.ManagerAct.TheVariants.{Say};
-ghost use Rattle.pl_logic.specs.declared.messages.ToSwitch.TheVariants.{Pod};
-ghost use Rattle.pl_logic.specs.ManagerViews.{lookup, pod_given, pods_given};
+ghost use Rattle.pl_node.specs.declared.acts.ManagerAct.TheVariants.{Say};
+ghost use Rattle.pl_node.specs.declared.messages.ToSwitch.TheVariants.{Pod};
+ghost use Rattle.pl_node.specs.ManagerViews.{lookup, pod_given, pods_given};
 ghost use Rattle.pl_manager_rule.specs.ManagerRule.{answer_to, learning, with_asker, with_learnt};
 ghost use Rattle.pl_registry.specs.Learning.{acts_of_learning};
 
 use crate::telling::say;
 use pl_frame::{Ip4, Mac, SwitchId};
-use pl_logic::{ManagerAct, ManagerOutbox, Memory, ToSwitch};
+use pl_node::{ManagerAct, ManagerOutbox, Memory, ToSwitch};
 use pl_pmac::Pmac;
 use pl_registry::{Askers, Learning, Registry};
 

@@ -1,11 +1,11 @@
 ghost use Rattle.std.specs.Prelude.{◌≡◌, ◌++◌, ◌∷◌, [], OnOk};
-ghost use Rattle.pl_logic.specs.declared.acts.ManagerAct.TheVariants.{Say};
-ghost use Rattle.pl_manager.specs.Telling.{AreRenewed, lists_told, parts_told};
+ghost use Rattle.pl_node.specs.declared.acts.ManagerAct.TheVariants.{Say};
+ghost use Rattle.pl_manager.specs.Telling.{AreTreesRenewed, lists_told, parts_told};
 
 use pl_faults::Matrix;
 use pl_frame::SwitchId;
 use pl_groups::Groups;
-use pl_logic::{ManagerAct, ManagerOutbox, Memory, SwitchList, ToSwitch};
+use pl_node::{ManagerAct, ManagerOutbox, Memory, SwitchList, ToSwitch};
 use pl_reports::Reports;
 
 /// A switch is told.
@@ -37,7 +37,7 @@ pub(crate) fn renew(
     group: u32,
     out: &mut ManagerOutbox,
 ) -> Result<(), Memory>
-    ensures { OnOk result (AreRenewed reports.now (group ∷ []) groups.old groups.new out.old out.new) }
+    ensures { OnOk result (AreTreesRenewed reports.now (group ∷ []) groups.old groups.new out.old out.new) }
 {
     let changed = groups.renew(reports, group)?;
     tell_parts(groups, group, &changed, out)?;

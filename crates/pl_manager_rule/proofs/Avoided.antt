@@ -6,8 +6,8 @@ use Rattle.std.proofs.lemmas.List.Kept.{IsStrictlySortedBy-filter}
 use Rattle.pl_layouts.specs.Memberships.{flood}
 use Rattle.pl_layouts.specs.Placement.{nowhere}
 use Rattle.pl_manager_rule.proofs.Tables.{found_key}
-use Rattle.pl_logic.specs.Trees.{needed_edges}
-use Rattle.pl_logic.specs.ManagerFacts.{groups}
+use Rattle.pl_node.specs.Trees.{needed_edges}
+use Rattle.pl_node.specs.ManagerFacts.{groups}
 use Rattle.std.specs.List.Sorted.{IsStrictlySortedBy}
 use Rattle.std.specs.Ordering.{is_eq, ordering_then}
 use Rattle.std.specs.Cmp.{Equal-is, IsTotalOrder}
@@ -17,9 +17,9 @@ use Rattle.std.proofs.lemmas.Map.Lookups.{CmpEqualImpliesEq, exact_unsigned}
 use Rattle.std.specs.BTreeMap.{is_at}
 use Rattle.pl_frame.specs.declared.address.SwitchId.{SwitchId}
 use Rattle.pl_layouts.specs.declared.place.Place.{Place}
-use Rattle.pl_logic.specs.ManagerViews.{Members, PlacedEdge, Told, alive_at_level, alive_neighbours, edge_at, edge_with, has_level, id_cmp, is_alive, neighbours, place_of, placed_edges, switches, tellers, value_at, with_members}
-use Rattle.pl_logic.specs.AvoidLists.{Avoids, avoid_list, avoided_at, avoided_cmp, is_above, is_cut, is_sent_down, leads_to}
-use Rattle.pl_logic.proofs.Among.{Contains-of_among, IsAmong, among_filter, among_left, among_filter_map, among_filter_mapped, among_filtered, among_flat_map, among_flat_mapped, among_in_order, among_map, among_mapped, among_of_Contains, among_ordered, rising_in_order, id_total}
+use Rattle.pl_node.specs.ManagerViews.{Members, PlacedEdge, Told, alive_at_level, alive_neighbours, edge_at, edge_with, has_level, id_cmp, is_alive, neighbours, place_of, placed_edges, switches, tellers, value_at, with_members}
+use Rattle.pl_node.specs.AvoidLists.{Avoids, avoid_list, avoided_at, avoided_cmp, is_above, is_cut, is_sent_down, leads_to}
+use Rattle.pl_node.proofs.Exports.{among_filter, among_filter_map, among_filter_mapped, among_filtered, among_flat_map, among_flat_mapped, among_in_order, among_left, among_map, among_mapped, among_of_Contains, among_ordered, Contains-of_among, id_total, IsAmong, rising_in_order}
 use Rattle.pl_layouts.specs.Equality.{same_switch}
 
 -- ---- the orders

@@ -9,17 +9,17 @@ use Rattle.pl_frame.specs.declared.address.Mac.{Mac}
 use Rattle.pl_frame.specs.declared.address.SwitchId.{SwitchId}
 use Rattle.pl_pmac.specs.declared.pmac.Pmac.{Pmac}
 use Rattle.pl_layouts.specs.Equality.{same_mac, same_pmac, same_switch}
-use Rattle.pl_layouts.proofs.Sameness.{switch_itself}
-use Rattle.pl_logic.specs.declared.acts.ManagerAct.TheVariants.{Say, Number}
-use Rattle.pl_logic.specs.declared.messages.ToSwitch.{ToSwitch}
-use Rattle.pl_logic.specs.declared.messages.ToSwitch.TheVariants as say
-use Rattle.pl_logic.specs.declared.messages.ToManager.{ToManager}
-use Rattle.pl_logic.specs.declared.messages.ToManager.TheVariants as tell
-use Rattle.pl_logic.specs.ManagerViews.{Learnt, LearntAddress, ManagerView, Registration, is_heard, lookup, newest, numbered, pod_given, registry, switches, tellers}
-use Rattle.pl_logic.specs.ManagerFacts.{groups}
-use Rattle.pl_logic.specs.ManagerDuties.{AnswersDuly, IsGrown, numbered_by, with_number, is_for_heard}
-use Rattle.pl_logic.specs.AvoidLists.{avoid_list}
-use Rattle.pl_logic.proofs.Among.{IsAmong, all_among, among_filter, among_flat_map, among_map, among_right}
+use Rattle.pl_layouts.proofs.Exports.{switch_itself}
+use Rattle.pl_node.specs.declared.acts.ManagerAct.TheVariants.{Say, Number}
+use Rattle.pl_node.specs.declared.messages.ToSwitch.{ToSwitch}
+use Rattle.pl_node.specs.declared.messages.ToSwitch.TheVariants as say
+use Rattle.pl_node.specs.declared.messages.ToManager.{ToManager}
+use Rattle.pl_node.specs.declared.messages.ToManager.TheVariants as tell
+use Rattle.pl_node.specs.ManagerViews.{Learnt, LearntAddress, ManagerView, Registration, is_heard, lookup, newest, numbered, pod_given, registry, switches, tellers}
+use Rattle.pl_node.specs.ManagerFacts.{groups}
+use Rattle.pl_node.specs.ManagerDuties.{AnswersDuly, IsGrown, numbered_by, with_number, is_for_heard}
+use Rattle.pl_node.specs.AvoidLists.{avoid_list}
+use Rattle.pl_node.proofs.Exports.{all_among, among_filter, among_flat_map, among_map, among_right, IsAmong}
 use Rattle.pl_manager_rule.specs.ManagerRule.{acts_of, answer_to, avoid_acts, changed, changed_of_group, invalidation, learning, manager_hears, manager_rule, part_in, reply, same_avoid_list, same_part, told_again, tree_acts, tree_acts_of, view_after, with_learnt}
 use Rattle.pl_manager_rule.proofs.Speakers.{heard_after, listed_is_heard, now_or_before, registered_heard}
 

@@ -8,17 +8,17 @@ use Rattle.std.specs.Ordering.{is_eq, match_ordering}
 use Rattle.std.proofs.lemmas.Bool.{and_from, and_parts, cond_both, eq-eqb, eqb-true, false≢true, or_parts}
 use Rattle.std.proofs.lemmas.Cmp.{tied_itself}
 use Rattle.std.proofs.lemmas.Map.Lookups.{CmpEqualImpliesEq}
-use Rattle.pl_lemmas.proofs.Bools.{cond_and, false_before, same_truth}
+use Rattle.pl_lemmas.proofs.Exports.{cond_and, false_before, same_truth}
 use Rattle.pl_frame.specs.declared.address.Ip4.{Ip4}
 use Rattle.pl_frame.specs.declared.address.SwitchId.{SwitchId}
 use Rattle.pl_pmac.specs.declared.pmac.Pmac.{Pmac}
 use Rattle.pl_layouts.specs.Equality.{same_pmac, same_switch}
-use Rattle.pl_layouts.proofs.Sameness.{pmac_is, switch_itself}
-use Rattle.pl_logic.specs.declared.messages.ToManager.{ToManager}
-use Rattle.pl_logic.specs.declared.messages.ToManager.TheVariants as tell
-use Rattle.pl_logic.specs.HostViews.{ip_cmp}
-use Rattle.pl_logic.specs.ManagerViews.{LearntAddress, PodGiven, Registration, id_cmp, ip_of, link_cmp, members_cmp, numbered, pods_given, registry, told_with, value_at}
-use Rattle.pl_logic.proofs.Among.{id_total}
+use Rattle.pl_layouts.proofs.Exports.{pmac_is, switch_itself}
+use Rattle.pl_node.specs.declared.messages.ToManager.{ToManager}
+use Rattle.pl_node.specs.declared.messages.ToManager.TheVariants as tell
+use Rattle.pl_node.specs.HostViews.{ip_cmp}
+use Rattle.pl_node.specs.ManagerViews.{LearntAddress, PodGiven, Registration, id_cmp, ip_of, link_cmp, members_cmp, numbered, pods_given, registry, told_with, value_at}
+use Rattle.pl_node.proofs.Exports.{id_total}
 use Rattle.pl_manager_rule.specs.ManagerRule.{manager_hears, told_again, view_after, with_address, with_asker}
 use Rattle.pl_manager_rule.specs.Histories.{Word, ip_said, known, link_said, members_said, owner_said, place_said, pods_after, pods_asked, registered, registered_after, said_by, said_last}
 use Rattle.pl_manager_rule.proofs.Avoided.{id_exact, same_is}

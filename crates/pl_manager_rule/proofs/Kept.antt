@@ -7,21 +7,20 @@ use Rattle.std.specs.Cmp.{IsTotalOrder}
 use Rattle.std.proofs.lemmas.Bool.{cond_both, false≢true, or_cases, or_left, or_parts, or_right}
 use Rattle.std.proofs.lemmas.Cmp.{nat_cmp_total, on_total, then_total}
 use Rattle.std.proofs.lemmas.Map.Lookups.{CmpEqualImpliesEq, exact_unsigned}
-use Rattle.pl_lemmas.proofs.Bools.{false_before}
-use Rattle.pl_lemmas.proofs.Options.{true_inside}
+use Rattle.pl_lemmas.proofs.Exports.{false_before, true_inside}
 use Rattle.pl_frame.specs.declared.address.Ip4.{Ip4}
 use Rattle.pl_frame.specs.declared.address.SwitchId.{SwitchId}
 use Rattle.pl_pmac.specs.declared.pmac.Pmac.{Pmac}
 use Rattle.pl_layouts.specs.Equality.{same_pmac, same_switch}
-use Rattle.pl_layouts.proofs.Sameness.{pmac_is, switch_itself}
-use Rattle.pl_logic.specs.declared.messages.ToManager.{ToManager}
-use Rattle.pl_logic.specs.declared.messages.ToManager.TheVariants as tell
-use Rattle.pl_logic.specs.HostViews.{ip_cmp}
-use Rattle.pl_logic.specs.ManagerViews.{LearntAddress, ManagerView, PodGiven, Registration, booted_manager, id_cmp, link_cmp, members_cmp, numbered, pods_given, Told, is_told_usable, neighbours, value_at}
-use Rattle.pl_logic.proofs.Among.{among_filtered, among_in_order, among_map, among_mapped, id_total, IsAmong}
+use Rattle.pl_layouts.proofs.Exports.{pmac_is, switch_itself}
+use Rattle.pl_node.specs.declared.messages.ToManager.{ToManager}
+use Rattle.pl_node.specs.declared.messages.ToManager.TheVariants as tell
+use Rattle.pl_node.specs.HostViews.{ip_cmp}
+use Rattle.pl_node.specs.ManagerViews.{LearntAddress, ManagerView, PodGiven, Registration, booted_manager, id_cmp, link_cmp, members_cmp, numbered, pods_given, Told, is_told_usable, neighbours, value_at}
+use Rattle.pl_node.proofs.Exports.{among_filtered, among_in_order, among_map, among_mapped, id_total, IsAmong}
 use Rattle.pl_manager_rule.specs.ManagerRule.{manager_hears, told_again, view_after, with_address, with_asker, with_owner}
 use Rattle.pl_manager_rule.specs.Histories.{Word, known}
-use Rattle.pl_manager_rule.specs.Repeats.{IsInOrder}
+use Rattle.pl_manager_rule.specs.Repeats.{TablesAreInOrder}
 use Rattle.pl_manager_rule.proofs.Avoided.{both_equal, id_exact, same_is}
 use Rattle.pl_manager_rule.proofs.Registered.{pmac_turned, switch_turned}
 use Rattle.pl_manager_rule.proofs.Tables.{found_key, rising_put}
@@ -133,11 +132,11 @@ owners_kept owners None pmac rising = rising
 owners_kept owners (Some ip) pmac rising = rising_put ip_cmp ip_total owners ip pmac rising
 
 -- ---- the view
-pub boots_in_order : (k : ℕ) → IsInOrder (booted_manager k)
+pub boots_in_order : (k : ℕ) → TablesAreInOrder (booted_manager k)
 unfolding IsDistinct IsStrictlySortedBy
 boots_in_order k = record { places = tt; links = tt; members = tt; askers = tt; addresses = tt; owners = tt }
 
-kept : (view : ManagerView) (s : SwitchId) (says : ToManager) → IsInOrder view → IsInOrder (view_after view s says)
+kept : (view : ManagerView) (s : SwitchId) (says : ToManager) → TablesAreInOrder view → TablesAreInOrder (view_after view s says)
 kept view s (tell.Place place) o = record {
   places = rising_put id_cmp id_total view.told.places s place o.places;
   links = o.links;
@@ -180,11 +179,11 @@ kept view s (tell.Members group any) o = record {
   owners = o.owners;
 }
 
-pub stays_in_order : (view : ManagerView) (s : SwitchId) (says : ToManager) → IsInOrder view → IsInOrder (manager_hears view s says).view
+pub stays_in_order : (view : ManagerView) (s : SwitchId) (says : ToManager) → TablesAreInOrder view → TablesAreInOrder (manager_hears view s says).view
 unfolding manager_hears
 stays_in_order view s says o = kept view s says o
 
-pub reached_in_order : (k : ℕ) (words : List Word) → IsInOrder (known k words)
+pub reached_in_order : (k : ℕ) (words : List Word) → TablesAreInOrder (known k words)
 reached_in_order k [] = boots_in_order k
 reached_in_order k (w ∷ before) = stays_in_order (known k before) w.switch w.says (reached_in_order k before)
 

@@ -9,3 +9,4 @@ pub mod Kept
 pub mod Repeated
 pub mod ToldLast
 pub mod History
+pub mod Exports

@@ -5,9 +5,9 @@ use Rattle.std.specs.Option.{option_and_then, option_map}
 use Rattle.std.proofs.lemmas.Bool.{cond_both}
 use Rattle.std.proofs.lemmas.List.Kept.{IsStrictlySortedBy-filter}
 use Rattle.pl_frame.specs.declared.address.SwitchId.{SwitchId}
-use Rattle.pl_logic.specs.declared.messages.TreePart.{TreePart}
-use Rattle.pl_logic.specs.ManagerViews.{Members, PlacedEdge, Told, alive_at_level, edge_at, has_level, id_cmp, is_alive, place_of}
-use Rattle.pl_logic.specs.Trees.{aggregation_part, core_of, core_part, edge_part, needed_edges, part_under, serves, tree_part}
+use Rattle.pl_node.specs.declared.messages.TreePart.{TreePart}
+use Rattle.pl_node.specs.ManagerViews.{Members, PlacedEdge, Told, alive_at_level, edge_at, has_level, id_cmp, is_alive, place_of}
+use Rattle.pl_node.specs.Trees.{aggregation_part, core_of, core_part, edge_part, needed_edges, part_under, serves, tree_part}
 use Rattle.pl_manager_rule.proofs.Avoided.{alive_rise, needed_rise}
 use Rattle.pl_layouts.specs.Equality.{same_switch}
 

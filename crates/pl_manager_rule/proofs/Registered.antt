@@ -5,11 +5,11 @@ use Rattle.std.specs.Option.{option_map}
 use Rattle.std.proofs.lemmas.Bool.{false≢true, or_parts}
 use Rattle.std.proofs.lemmas.Cmp.{nat_eq_equiv}
 use Rattle.std.proofs.lemmas.List.{length-map, reverse-append}
-use Rattle.pl_lemmas.proofs.Lists.{range_more}
+use Rattle.pl_lemmas.proofs.Exports.{range_more}
 use Rattle.pl_frame.specs.declared.address.SwitchId.{SwitchId}
 use Rattle.pl_pmac.specs.declared.pmac.Pmac.{Pmac}
 use Rattle.pl_layouts.specs.Equality.{same_pmac, same_switch}
-use Rattle.pl_logic.specs.ManagerViews.{LearntAddress, PodGiven, Registration, numbered, pod_given, pods_given}
+use Rattle.pl_node.specs.ManagerViews.{LearntAddress, PodGiven, Registration, numbered, pod_given, pods_given}
 use Rattle.pl_manager_rule.specs.ManagerRule.{with_asker}
 
 -- one more number, the next one

@@ -8,21 +8,21 @@ use Rattle.pl_frame.specs.declared.address.Mac.{Mac}
 use Rattle.pl_frame.specs.declared.address.SwitchId.{SwitchId}
 use Rattle.pl_pmac.specs.declared.pmac.Pmac.{Pmac}
 use Rattle.pl_layouts.specs.Equality.{same_pmac, same_switch}
-use Rattle.pl_layouts.proofs.Sameness.{pmac_is, pmac_itself}
-use Rattle.pl_logic.specs.declared.acts.ManagerAct.TheVariants.{Number}
-use Rattle.pl_logic.specs.declared.messages.ToManager.{ToManager}
-use Rattle.pl_logic.specs.declared.messages.ToManager.TheVariants as tell
-use Rattle.pl_logic.specs.HostViews.{ip_cmp}
-use Rattle.pl_logic.specs.ManagerFacts.{groups}
-use Rattle.pl_logic.specs.ManagerViews.{Learnt, LearntAddress, ManagerView, Told, id_cmp, link_cmp, members_cmp, newest, numbered, pods_given, registration, registry, switches}
-use Rattle.pl_logic.specs.AvoidLists.{avoid_list}
+use Rattle.pl_layouts.proofs.Exports.{pmac_is, pmac_itself}
+use Rattle.pl_node.specs.declared.acts.ManagerAct.TheVariants.{Number}
+use Rattle.pl_node.specs.declared.messages.ToManager.{ToManager}
+use Rattle.pl_node.specs.declared.messages.ToManager.TheVariants as tell
+use Rattle.pl_node.specs.HostViews.{ip_cmp}
+use Rattle.pl_node.specs.ManagerFacts.{groups}
+use Rattle.pl_node.specs.ManagerViews.{Learnt, LearntAddress, ManagerView, Told, id_cmp, link_cmp, members_cmp, newest, numbered, pods_given, registration, registry, switches}
+use Rattle.pl_node.specs.AvoidLists.{avoid_list}
 use Rattle.pl_manager_rule.specs.ManagerRule.{ManagerStep, acts_of, avoid_acts, invalidation, manager_hears, part_in, reply, same_avoid_list, same_part, told_again, tree_acts, tree_acts_of, view_after, with_address, with_learnt}
-use Rattle.pl_manager_rule.specs.Repeats.{HasToldLast, IsInOrder, IsKnownAddress, answers}
+use Rattle.pl_manager_rule.specs.Repeats.{HasToldLast, TablesAreInOrder, IsKnownAddress, answers}
 use Rattle.pl_manager_rule.proofs.Kept.{ip_exact, ip_total, link_exact, link_total, members_exact, members_total}
 use Rattle.pl_manager_rule.proofs.Avoided.{id_exact}
 use Rattle.pl_manager_rule.proofs.Sameness.{avoid_lists_alike, parts_alike}
 use Rattle.pl_manager_rule.proofs.Tables.{put_again}
-use Rattle.pl_logic.proofs.Among.{id_total}
+use Rattle.pl_node.proofs.Exports.{id_total}
 
 -- ---- what is the same brings no act about
 pub none_differ : {X : Type 0} (same : X → Bool) → ((x : X) → same x ≡ true) → (xs : List X) → filter (λ x. not (same x)) xs ≡ []
@@ -108,7 +108,7 @@ all_silent : (new : LearntAddress) → new.ip ≡ None → (addresses : List Lea
 all_silent new silent [] = tt
 all_silent new silent (a ∷ addresses) = (λ same. ap (λ o. option_or o a.ip) silent, all_silent new silent addresses)
 
-addresses_same : (view : ManagerView) (new : LearntAddress) → IsInOrder view → IsSome (registration view.learnt new.pmac) →
+addresses_same : (view : ManagerView) (new : LearntAddress) → TablesAreInOrder view → IsSome (registration view.learnt new.pmac) →
     AllByRecursion (λ a. same_pmac a.pmac new.pmac ≡ true → option_or new.ip a.ip ≡ a.ip) view.learnt.addresses →
     with_address view.learnt.addresses new ≡ view.learnt.addresses
 addresses_same view new order there own =
@@ -116,7 +116,7 @@ addresses_same view new order there own =
     ap (λ b. cond b (map (told_again new) addresses) (new ∷ addresses)) (found_any_item (λ r. same_pmac r.pmac new.pmac) (numbered addresses) there)
     ∙ all_same new addresses own
 
-learnt_same : (view : ManagerView) (s : SwitchId) (pmac : Pmac) (amac : Mac) (ip : Option Ip4) → IsInOrder view →
+learnt_same : (view : ManagerView) (s : SwitchId) (pmac : Pmac) (amac : Mac) (ip : Option Ip4) → TablesAreInOrder view →
     IsSome (registration view.learnt pmac) → IsKnownAddress view.learnt pmac ip →
     with_learnt view.learnt (record { switch = s; pmac = pmac; amac = amac; ip = ip }) ≡ view.learnt
 learnt_same view s pmac amac None order there known =
@@ -130,7 +130,7 @@ learnt_same view s pmac amac (Some ip) order there known =
     λ i. record { addresses = those i; owners = owners i }
 
 -- ---- the whole step
-pub view_same : (view : ManagerView) (s : SwitchId) (says : ToManager) → IsInOrder view → HasToldLast view s says → view_after view s says ≡ view
+pub view_same : (view : ManagerView) (s : SwitchId) (says : ToManager) → TablesAreInOrder view → HasToldLast view s says → view_after view s says ≡ view
 view_same view s (tell.Place place) order last =
     let same = put_again id_cmp id_total id_exact view.told.places s place order.places last in
     ap (λ table. record view { told = record view.told { places = table } }) same
@@ -160,7 +160,7 @@ acts_same view s says last =
     (λ i. only_answers view s says last i ++ no_avoid_acts view.told i ++ no_tree_acts view i)
     ∙ append-nil (answers view s says ++ []) ∙ append-nil (answers view s says)
 
-pub nothing_changes : (view : ManagerView) (s : SwitchId) (says : ToManager) → IsInOrder view → HasToldLast view s says →
+pub nothing_changes : (view : ManagerView) (s : SwitchId) (says : ToManager) → TablesAreInOrder view → HasToldLast view s says →
     manager_hears view s says ≡ record { view = view; acts = answers view s says }
 unfolding manager_hears
 nothing_changes view s says order last =

@@ -6,10 +6,10 @@ use Rattle.std.specs.Cmp.Lexicographic.{pointwise, pointwise_decides}
 use Rattle.std.proofs.lemmas.Bool.{and_from, and_parts, false≢true}
 use Rattle.std.proofs.lemmas.Cmp.{tied_itself}
 use Rattle.pl_frame.specs.declared.address.SwitchId.{SwitchId}
-use Rattle.pl_logic.specs.declared.messages.TreePart.{TreePart}
+use Rattle.pl_node.specs.declared.messages.TreePart.{TreePart}
 use Rattle.pl_layouts.specs.Equality.{same_switch}
-use Rattle.pl_layouts.proofs.Sameness.{switch_itself}
-use Rattle.pl_logic.specs.AvoidLists.{avoided_cmp}
+use Rattle.pl_layouts.proofs.Exports.{switch_itself}
+use Rattle.pl_node.specs.AvoidLists.{avoided_cmp}
 use Rattle.pl_manager_rule.specs.ManagerRule.{same_avoid_list, same_part, same_up}
 use Rattle.pl_manager_rule.proofs.Avoided.{avoided_exact, avoided_total, same_is}
 

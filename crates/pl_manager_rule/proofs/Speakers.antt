@@ -5,11 +5,11 @@ use Rattle.std.specs.BTreeMap.{insert_entry}
 use Rattle.std.proofs.lemmas.Bool.{cond_both, or_cases, or_left, or_right}
 use Rattle.pl_frame.specs.declared.address.SwitchId.{SwitchId}
 use Rattle.pl_layouts.specs.Equality.{same_pmac, same_switch}
-use Rattle.pl_layouts.proofs.Sameness.{switch_itself}
-use Rattle.pl_logic.specs.declared.messages.ToManager.{ToManager}
-use Rattle.pl_logic.specs.declared.messages.ToManager.TheVariants as tell
-use Rattle.pl_logic.specs.ManagerViews.{LearntAddress, ManagerView, Registration, id_cmp, is_heard, link_cmp, members_cmp, numbered, pods_given, speakers, switches, tellers}
-use Rattle.pl_logic.proofs.Among.{IsAmong, among_append, among_left, among_map, among_mapped, among_ordered, among_right, any_among}
+use Rattle.pl_layouts.proofs.Exports.{switch_itself}
+use Rattle.pl_node.specs.declared.messages.ToManager.{ToManager}
+use Rattle.pl_node.specs.declared.messages.ToManager.TheVariants as tell
+use Rattle.pl_node.specs.ManagerViews.{LearntAddress, ManagerView, Registration, id_cmp, is_heard, link_cmp, members_cmp, numbered, pods_given, speakers, switches, tellers}
+use Rattle.pl_node.proofs.Exports.{among_append, among_left, among_map, among_mapped, among_ordered, among_right, any_among, IsAmong}
 use Rattle.pl_manager_rule.specs.ManagerRule.{told_again, view_after, with_address, with_asker}
 use Rattle.pl_manager_rule.proofs.Tables.{among_put}
 use Rattle.pl_manager_rule.proofs.Avoided.{same_is}

@@ -8,8 +8,8 @@ use Rattle.std.specs.Ordering.{is_eq, match_ordering, ordering_reverse}
 use Rattle.std.specs.Cmp.{Equal-is, IsTotalOrder}
 use Rattle.std.proofs.lemmas.Cmp.{tied_itself}
 use Rattle.std.proofs.lemmas.Map.Lookups.{CmpEqualImpliesEq}
-use Rattle.pl_logic.specs.ManagerViews.{value_at}
-use Rattle.pl_logic.proofs.Among.{IsAmong, among_insert, rising_inserted, holds_of}
+use Rattle.pl_node.specs.ManagerViews.{value_at}
+use Rattle.pl_node.proofs.Exports.{among_insert, holds_of, IsAmong, rising_inserted}
 
 not_both : {K : Type 0} (R : K → K → Ordering) → IsTotalOrder R → (a b : K) → R a b ≡ Less → R b a ≡ Less → ⊥
 not_both R o a b less more = let turned : R b a ≡ Greater = o.antisymm b a ∙ ap ordering_reverse less in absurd (cc)

@@ -8,12 +8,12 @@ use Rattle.pl_frame.specs.declared.address.Mac.{Mac}
 use Rattle.pl_frame.specs.declared.address.SwitchId.{SwitchId}
 use Rattle.pl_pmac.specs.declared.pmac.Pmac.{Pmac}
 use Rattle.pl_layouts.specs.Equality.{same_pmac}
-use Rattle.pl_layouts.proofs.Sameness.{pmac_itself}
-use Rattle.pl_logic.specs.declared.messages.ToManager.{ToManager}
-use Rattle.pl_logic.specs.declared.messages.ToManager.TheVariants as tell
-use Rattle.pl_logic.specs.HostViews.{ip_cmp}
-use Rattle.pl_logic.specs.ManagerViews.{Learnt, LearntAddress, ManagerView, Registration, id_cmp, link_cmp, members_cmp, numbered}
-use Rattle.pl_logic.proofs.Among.{id_total}
+use Rattle.pl_layouts.proofs.Exports.{pmac_itself}
+use Rattle.pl_node.specs.declared.messages.ToManager.{ToManager}
+use Rattle.pl_node.specs.declared.messages.ToManager.TheVariants as tell
+use Rattle.pl_node.specs.HostViews.{ip_cmp}
+use Rattle.pl_node.specs.ManagerViews.{Learnt, LearntAddress, ManagerView, Registration, id_cmp, link_cmp, members_cmp, numbered}
+use Rattle.pl_node.proofs.Exports.{id_total}
 use Rattle.pl_manager_rule.specs.ManagerRule.{manager_hears, told_again, view_after, with_address, with_learnt}
 use Rattle.pl_manager_rule.specs.Repeats.{HasToldLast, IsKnownAddress}
 use Rattle.pl_manager_rule.proofs.HeardSwitches.{same_numbers}

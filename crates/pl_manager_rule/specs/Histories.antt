@@ -7,9 +7,9 @@ use Rattle.pl_frame.specs.declared.address.SwitchId.{SwitchId}
 use Rattle.pl_pmac.specs.declared.pmac.Pmac.{Pmac}
 use Rattle.pl_layouts.specs.declared.place.Place.{Place}
 use Rattle.pl_layouts.specs.Equality.{is_ip, same_pmac, same_switch}
-use Rattle.pl_logic.specs.declared.messages.ToManager.{ToManager}
-use Rattle.pl_logic.specs.declared.messages.ToManager.TheVariants as tell
-use Rattle.pl_logic.specs.ManagerViews.{ManagerView, PodGiven, Registration, booted_manager}
+use Rattle.pl_node.specs.declared.messages.ToManager.{ToManager}
+use Rattle.pl_node.specs.declared.messages.ToManager.TheVariants as tell
+use Rattle.pl_node.specs.ManagerViews.{ManagerView, PodGiven, Registration, booted_manager}
 use Rattle.pl_manager_rule.specs.ManagerRule.{manager_hears}
 
 -- a switch told this

@@ -1,10 +1,10 @@
 -- A rule that is just the one of the fabric manager.
 use Rattle.std.specs.Prelude.{◌↔◌, List}
 use Rattle.pl_frame.specs.declared.address.SwitchId.{SwitchId}
-use Rattle.pl_logic.specs.declared.acts.ManagerAct.{ManagerAct}
-use Rattle.pl_logic.specs.declared.messages.ToManager.{ToManager}
-use Rattle.pl_logic.specs.ManagerDuties.{ManagerRule}
-use Rattle.pl_logic.specs.ManagerViews.{ManagerView}
+use Rattle.pl_node.specs.declared.acts.ManagerAct.{ManagerAct}
+use Rattle.pl_node.specs.declared.messages.ToManager.{ToManager}
+use Rattle.pl_node.specs.ManagerDuties.{ManagerRule}
+use Rattle.pl_node.specs.ManagerViews.{ManagerView}
 use Rattle.pl_manager_rule.specs.ManagerRule.{manager_rule}
 
 -- it allows each step of the manager, and no other

@@ -11,19 +11,19 @@ use Rattle.pl_frame.specs.declared.address.SwitchId.{SwitchId}
 use Rattle.pl_pmac.specs.declared.pmac.Pmac.{Pmac}
 use Rattle.pl_layouts.specs.declared.place.Place.{Place}
 use Rattle.pl_layouts.specs.Equality.{same_pmac, same_switch}
-use Rattle.pl_logic.specs.declared.acts.ManagerAct.{ManagerAct}
-use Rattle.pl_logic.specs.declared.acts.ManagerAct.TheVariants.{Say, Number}
-use Rattle.pl_logic.specs.declared.messages.ToManager.{ToManager}
-use Rattle.pl_logic.specs.declared.messages.ToManager.TheVariants as tell
-use Rattle.pl_logic.specs.declared.messages.ToSwitch.{ToSwitch}
-use Rattle.pl_logic.specs.declared.messages.ToSwitch.TheVariants as say
-use Rattle.pl_logic.specs.declared.messages.TreePart.{TreePart}
-use Rattle.pl_logic.specs.HostViews.{ip_cmp}
-use Rattle.pl_logic.specs.ManagerViews.{Told, Learnt, LearntAddress, ManagerView, Registration, id_cmp, ip_of, link_cmp, lookup, members_cmp, newest, numbered, pod_given, pods_given, registry, switches}
-use Rattle.pl_logic.specs.AvoidLists.{avoid_list, avoided_cmp}
-use Rattle.pl_logic.specs.Trees.{tree_part}
-use Rattle.pl_logic.specs.ManagerDuties.{ManagerRule}
-use Rattle.pl_logic.specs.ManagerFacts.{groups}
+use Rattle.pl_node.specs.declared.acts.ManagerAct.{ManagerAct}
+use Rattle.pl_node.specs.declared.acts.ManagerAct.TheVariants.{Say, Number}
+use Rattle.pl_node.specs.declared.messages.ToManager.{ToManager}
+use Rattle.pl_node.specs.declared.messages.ToManager.TheVariants as tell
+use Rattle.pl_node.specs.declared.messages.ToSwitch.{ToSwitch}
+use Rattle.pl_node.specs.declared.messages.ToSwitch.TheVariants as say
+use Rattle.pl_node.specs.declared.messages.TreePart.{TreePart}
+use Rattle.pl_node.specs.HostViews.{ip_cmp}
+use Rattle.pl_node.specs.ManagerViews.{Told, Learnt, LearntAddress, ManagerView, Registration, id_cmp, ip_of, link_cmp, lookup, members_cmp, newest, numbered, pod_given, pods_given, registry, switches}
+use Rattle.pl_node.specs.AvoidLists.{avoid_list, avoided_cmp}
+use Rattle.pl_node.specs.Trees.{tree_part}
+use Rattle.pl_node.specs.ManagerDuties.{ManagerRule}
+use Rattle.pl_node.specs.ManagerFacts.{groups}
 
 -- the places and links that are known once a switch told its place, or whether a link of it is usable
 abbrev pub with_place : Told → SwitchId → Place → Told

@@ -7,17 +7,17 @@ use Rattle.pl_frame.specs.declared.address.Ip4.{Ip4}
 use Rattle.pl_frame.specs.declared.address.SwitchId.{SwitchId}
 use Rattle.pl_pmac.specs.declared.pmac.Pmac.{Pmac}
 use Rattle.pl_layouts.specs.Equality.{same_pmac, same_switch}
-use Rattle.pl_logic.specs.declared.acts.ManagerAct.{ManagerAct}
-use Rattle.pl_logic.specs.declared.acts.ManagerAct.TheVariants.{Say}
-use Rattle.pl_logic.specs.declared.messages.ToManager.{ToManager}
-use Rattle.pl_logic.specs.declared.messages.ToManager.TheVariants as tell
-use Rattle.pl_logic.specs.declared.messages.ToSwitch.TheVariants as say
-use Rattle.pl_logic.specs.HostViews.{ip_cmp}
-use Rattle.pl_logic.specs.ManagerViews.{Learnt, ManagerView, id_cmp, ip_of, link_cmp, lookup, members_cmp, pod_given, registration, told_with, value_at}
+use Rattle.pl_node.specs.declared.acts.ManagerAct.{ManagerAct}
+use Rattle.pl_node.specs.declared.acts.ManagerAct.TheVariants.{Say}
+use Rattle.pl_node.specs.declared.messages.ToManager.{ToManager}
+use Rattle.pl_node.specs.declared.messages.ToManager.TheVariants as tell
+use Rattle.pl_node.specs.declared.messages.ToSwitch.TheVariants as say
+use Rattle.pl_node.specs.HostViews.{ip_cmp}
+use Rattle.pl_node.specs.ManagerViews.{Learnt, ManagerView, id_cmp, ip_of, link_cmp, lookup, members_cmp, pod_given, registration, told_with, value_at}
 use Rattle.pl_manager_rule.specs.ManagerRule.{answer_to}
 
 -- Each table rises by its keys, and each asker and each address is there once: so two views that say the same are the same.
-pub record IsInOrder (view : ManagerView) : Type 0 where
+pub record TablesAreInOrder (view : ManagerView) : Type 0 where
   pub places : IsStrictlySortedBy id_cmp (keys_of view.told.places)
   pub links : IsStrictlySortedBy link_cmp (keys_of view.told.links)
   pub members : IsStrictlySortedBy members_cmp (keys_of view.members)

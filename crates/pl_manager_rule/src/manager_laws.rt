@@ -3,19 +3,19 @@ ghost use Rattle.std.specs.List.{IsDistinct, range_with_len};
 ghost use Rattle.std.specs.List.Sorted.{IsStrictlySortedBy};
 ghost use Rattle.std.specs.Ordering.{nat_cmp};
 ghost use Rattle.pl_frame.specs.declared.address.SwitchId.{SwitchId};
-ghost use Rattle.pl_logic.specs.declared.messages.TreePart.{TreePart};
+ghost use Rattle.pl_node.specs.declared.messages.TreePart.{TreePart};
 ghost use Rattle.pl_layouts.specs.Equality.{same_pmac, same_switch};
-ghost use Rattle.pl_logic.specs.ManagerViews.{Learnt, ManagerView, Members, Told, alive_at_level, booted_manager, id_cmp, ip_of, link_cmp, members_cmp, neighbours, pod_given, pods_given, registry, switches, told_with, value_at};
-ghost use Rattle.pl_logic.specs.AvoidLists.{Avoids, avoid_list, avoided_cmp};
-ghost use Rattle.pl_logic.specs.Trees.{needed_edges, tree_part};
+ghost use Rattle.pl_node.specs.ManagerViews.{Learnt, ManagerView, Members, Told, alive_at_level, booted_manager, id_cmp, ip_of, link_cmp, members_cmp, neighbours, pod_given, pods_given, registry, switches, told_with, value_at};
+ghost use Rattle.pl_node.specs.AvoidLists.{Avoids, avoid_list, avoided_cmp};
+ghost use Rattle.pl_node.specs.Trees.{needed_edges, tree_part};
 ghost use Rattle.pl_manager_rule.specs.ManagerRule.{manager_hears, manager_rule, same_avoid_list, same_part, with_asker};
 ghost use Rattle.pl_frame.specs.declared.address.Ip4.{Ip4};
 ghost use Rattle.pl_pmac.specs.declared.pmac.Pmac.{Pmac};
 ghost use Rattle.pl_manager_rule.specs.Histories.{Word, ip_said, known, link_said, members_said, owner_said, place_said, pods_asked, registered, said_by, said_last};
-ghost use Rattle.pl_manager_rule.specs.Repeats.{HasToldLast, IsInOrder, answers};
-ghost use Rattle.pl_logic.specs.declared.messages.ToManager.{ToManager};
-ghost use Rattle.pl_logic.specs.ManagerFacts.{groups};
-ghost use Rattle.pl_logic.specs.ManagerDuties.{AnswersDuly};
+ghost use Rattle.pl_manager_rule.specs.Repeats.{HasToldLast, TablesAreInOrder, answers};
+ghost use Rattle.pl_node.specs.declared.messages.ToManager.{ToManager};
+ghost use Rattle.pl_node.specs.ManagerFacts.{groups};
+ghost use Rattle.pl_node.specs.ManagerDuties.{AnswersDuly};
 
 /// The avoid list of a switch has all that the switch avoids and nothing else, in rising order and
 /// nothing twice.
@@ -72,16 +72,16 @@ pub fn the_manager_answers_duly()
 
 /// What the manager knows is in order from the beginning, and stays so with all that it hears.
 pub fn what_is_known_stays_in_order()
-    ensures boots { (k : ℕ) → IsInOrder (booted_manager k) }
+    ensures boots { (k : ℕ) → TablesAreInOrder (booted_manager k) }
     ensures stays { (view : ManagerView) (s : SwitchId) (says : ToManager) →
-        IsInOrder view → IsInOrder (manager_hears view s says).view }
-    ensures reached { (k : ℕ) (words : List Word) → IsInOrder (known k words) }
+        TablesAreInOrder view → TablesAreInOrder (manager_hears view s says).view }
+    ensures reached { (k : ℕ) (words : List Word) → TablesAreInOrder (known k words) }
 {}
 
 /// A word that a switch told last already changes nothing that is known and brings no act about: only a
 /// wish for a pod and a question are answered again. And each word is told last once it was heard.
 pub fn a_repeated_word_changes_nothing()
-    ensures nothing { (view : ManagerView) (s : SwitchId) (says : ToManager) → IsInOrder view → HasToldLast view s says →
+    ensures nothing { (view : ManagerView) (s : SwitchId) (says : ToManager) → TablesAreInOrder view → HasToldLast view s says →
         manager_hears view s says ≡ record { view = view; acts = answers view s says } }
     ensures last { (view : ManagerView) (s : SwitchId) (says : ToManager) → HasToldLast (manager_hears view s says).view s says }
 {}

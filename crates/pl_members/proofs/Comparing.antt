@@ -6,7 +6,7 @@ use Rattle.std.specs.Cmp.{nat_cmp_is}
 use Rattle.std.specs.declared.cmp.Ordering.{Ordering}
 use Rattle.std.specs.declared.cmp.Ordering.TheVariants.{Less, Equal, Greater}
 use Rattle.std.specs.Ordering.{is_eq, is_le, nat_cmp, ordering_then}
-use Rattle.pl_logic.specs.declared.switch_records.Member.{Member}
+use Rattle.pl_node.specs.declared.switch_records.Member.{Member}
 use Rattle.pl_layouts.specs.Frames.{mac_number}
 use Rattle.pl_switch_rule.specs.Intake.{member_cmp}
 

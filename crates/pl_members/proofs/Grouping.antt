@@ -8,7 +8,7 @@ use Rattle.std.specs.List.Sorted.{IsStrictlySortedBy}
 use Rattle.std.specs.Ordering.{nat_cmp, match_ordering}
 use Rattle.std.proofs.lemmas.Bool.{cases_eq, eq-eqb, ne_eqb, true≢false}
 use Rattle.std.proofs.lemmas.List.{append-nil}
-use Rattle.pl_logic.specs.declared.switch_records.Member.{Member}
+use Rattle.pl_node.specs.declared.switch_records.Member.{Member}
 use Rattle.pl_layouts.specs.Placement.{is_known}
 use Rattle.pl_switch_rule.specs.Intake.{groups_of, member_cmp}
 use Rattle.pl_members.proofs.Comparing.{groups_rise, is_equal, is_greater}

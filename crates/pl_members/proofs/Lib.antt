@@ -2,3 +2,4 @@ pub mod Comparing
 pub mod Removing
 pub mod Reaching
 pub mod Grouping
+pub mod Exports

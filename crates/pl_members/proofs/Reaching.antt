@@ -11,14 +11,14 @@ use Rattle.std.specs.Option.{is_some}
 use Rattle.std.specs.Ordering.{is_le, match_ordering, nat_cmp, ordering_then}
 use Rattle.std.proofs.lemmas.Bool.{cases_eq, cases_lt, eq-eqb, ne_eqb}
 use Rattle.std.proofs.lemmas.List.Elements.{All-cons, All-nil, All-weaker}
-use Rattle.pl_lemmas.proofs.Bools.{or_behind, or_swap, or_twice}
-use Rattle.pl_logic.specs.declared.switch_records.Member.{Member}
+use Rattle.pl_lemmas.proofs.Exports.{or_behind, or_swap, or_twice}
+use Rattle.pl_node.specs.declared.switch_records.Member.{Member}
 use Rattle.pl_layouts.specs.Frames.{mac_number}
 use Rattle.pl_lists.specs.declared.port_set.PortSet.{PortSet}
 use Rattle.pl_lists.specs.Ports.{has_port, ports_of}
-use Rattle.pl_lists.proofs.PortBits.{has_port_is}
+use Rattle.pl_lists.proofs.Exports.{has_port_is}
 use Rattle.pl_switch_rule.specs.Intake.{has_member_of, member_cmp}
-use Rattle.pl_members.specs.Reached.{IsAtPort, start_of, has_member_at, end_of, ports_with_member}
+use Rattle.pl_members.specs.Reached.{MemberIsAtPort, start_of, has_member_at, end_of, ports_with_member}
 use Rattle.pl_members.proofs.Comparing.{from_equal, is_equal, is_greater, is_less}
 use Rattle.pl_members.proofs.Removing.{filter_alike}
 
@@ -66,10 +66,10 @@ any_kept p test (x ∷ xs) = elim (p x) as (λ b. list_any test (cond b (x ∷ f
   | false ↦ any_kept p test xs
 ]
 
-pub reached_in_range : (group port : ℕ) (xs : List Member) → All IsAtPort xs →
+pub reached_in_range : (group port : ℕ) (xs : List Member) → All MemberIsAtPort xs →
     list_any (λ m. m.port == port) (filter (in_range group) xs) ≡ has_member_at xs group port
 reached_in_range group port xs all =
-    ap (list_any (λ m. m.port == port)) (filter_alike (in_range group) (λ m. m.group == group) xs (All-weaker IsAtPort (λ m. in_range group m ≡ (m.group == group)) (λ m a. in_group group m a.port) xs all))
+    ap (list_any (λ m. m.port == port)) (filter_alike (in_range group) (λ m. m.group == group) xs (All-weaker MemberIsAtPort (λ m. in_range group m ≡ (m.group == group)) (λ m a. in_group group m a.port) xs all))
     ∙ any_kept (λ m. m.group == group) (λ m. m.port == port) xs
 
 -- a port that is inserted is there from then on, beside those that were there
@@ -121,8 +121,8 @@ took shows items rest (Some m) h = ap is_some_member (sym h)
 
 -- the first member between the bounds of a group is there where the group has members
 pub first_in_range : {A : Type 0} (shows : A → Member) (group : ℕ) (items rest xs : List Member) (first : Option A) → TakesFirst shows items first rest →
-    items ≡ filter (in_range group) xs → All IsAtPort xs → is_some first ≡ has_member_of xs group
+    items ≡ filter (in_range group) xs → All MemberIsAtPort xs → is_some first ≡ has_member_of xs group
 first_in_range shows group items rest xs first takes is all =
     took shows items rest first takes
-    ∙ ap is_some_member (is ∙ filter_alike (in_range group) (λ m. m.group == group) xs (All-weaker IsAtPort (λ m. in_range group m ≡ (m.group == group)) (λ m a. in_group group m a.port) xs all))
+    ∙ ap is_some_member (is ∙ filter_alike (in_range group) (λ m. m.group == group) xs (All-weaker MemberIsAtPort (λ m. in_range group m ≡ (m.group == group)) (λ m a. in_group group m a.port) xs all))
     ∙ some_kept (λ m. m.group == group) xs

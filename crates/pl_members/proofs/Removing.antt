@@ -11,13 +11,13 @@ use Rattle.std.proofs.lemmas.List.Elements.{All-head, All-tail}
 use Rattle.std.proofs.lemmas.Slice.Eq.{bytes_eq-Decides}
 use Rattle.byteorder.specs.Endian.{big_bytes}
 use Rattle.pl_frame.specs.declared.address.Mac.{Mac}
-use Rattle.pl_frame.proofs.Numbers.{big_bytes-big_number}
-use Rattle.pl_logic.specs.declared.switch_records.Member.{Member}
+use Rattle.pl_frame.proofs.Exports.{big_bytes-big_number}
+use Rattle.pl_node.specs.declared.switch_records.Member.{Member}
 use Rattle.pl_layouts.specs.Equality.{same_mac}
 use Rattle.pl_layouts.specs.Frames.{mac_number}
 use Rattle.pl_switch_rule.specs.Intake.{is_member, leaves, member_cmp}
 use Rattle.pl_members.specs.Ranking.{member_cmp_total}
-use Rattle.pl_members.specs.Reached.{IsAtPort, IsMac}
+use Rattle.pl_members.specs.Reached.{MemberIsAtPort, IsMac}
 use Rattle.pl_members.proofs.Comparing.{equal_both, equal_is, equal_numbers}
 
 -- two tests that agree at each element keep the same ones
@@ -72,11 +72,11 @@ same_member x m is_x is_m =
     ∙ ap (λ b. b && is_eq (nat_cmp (mac_number x.amac) (mac_number m.amac))) (equal_numbers x.port m.port)
     ∙ ap (λ b. (m.port == x.port) && b) (same_address x.amac m.amac is_x is_m))
 
-others_alike : (x : Member) (xs : List Member) → IsMac x.amac → All IsAtPort xs →
+others_alike : (x : Member) (xs : List Member) → IsMac x.amac → All MemberIsAtPort xs →
     All (λ m. not (is_it x m) ≡ not ((m.group == x.group) && is_member x.port x.amac m)) xs
 others_alike x xs is_x all n d h = ap not (same_member x _ is_x (all n d h).amac)
 
-pub removed_leaves : (x : Member) (xs : List Member) → IsMac x.amac → All IsAtPort xs → IsStrictlySortedBy member_cmp xs →
+pub removed_leaves : (x : Member) (xs : List Member) → IsMac x.amac → All MemberIsAtPort xs → IsStrictlySortedBy member_cmp xs →
     remove_key (is_it x) xs ≡ leaves x.port x.amac x.group xs
 removed_leaves x xs is_x all rise =
     taken_out x xs rise

@@ -3,8 +3,8 @@ use Rattle.std.specs.Prelude.{◌≡◌, ◌<◌, ℕ, ◌==◌, ◌&&◌, Bool,
 use Rattle.std.specs.List.{All, filter, list_any}
 use Rattle.std.specs.List.Sorted.{IsStrictlySortedBy}
 use Rattle.pl_frame.specs.declared.address.Mac.{Mac}
-use Rattle.pl_logic.specs.declared.switch_records.Member.{Member}
-use Rattle.pl_logic.specs.PortRecords.{ports_of_switch}
+use Rattle.pl_node.specs.declared.switch_records.Member.{Member}
+use Rattle.pl_node.specs.PortRecords.{ports_of_switch}
 use Rattle.pl_switch_rule.specs.Intake.{groups_of, joins, member_cmp}
 
 -- a member of the group is at this port
@@ -28,14 +28,14 @@ pub record IsMac (mac : Mac) : Type 0 where
   pub bytes : (i : ℕ) → slice_index mac.0 i < 256
 
 -- a host at a port of a switch
-pub record IsAtPort (m : Member) : Type 0 where
+pub record MemberIsAtPort (m : Member) : Type 0 where
   pub port : m.port < 24
   pub amac : IsMac m.amac
 
 -- the memberships of a switch rise, and are at its ports
-pub record AreMembers (members : List Member) : Type 0 where
+pub record AreMembersAtPorts (members : List Member) : Type 0 where
   pub rising : IsStrictlySortedBy member_cmp members
-  pub at_ports : All IsAtPort members
+  pub at_ports : All MemberIsAtPort members
 
 -- one host in group 66,051 and one in group 300: the groups are 300, 66,051 and no more
 abbrev two_groups : List Member

@@ -6,7 +6,7 @@
 #![tactic(auto)]
 
 pub use members::Members;
-pub use pl_logic::{Memory, PortSet};
+pub use pl_node::{Memory, PortSet};
 
 mod members;
 mod ranked;

@@ -1,13 +1,13 @@
 ghost use Rattle.std.specs.Prelude.{◌≡◌, ◌<◌, ◌==◌, ◌&&◌, ℕ, [], not, OnOk, OnErr, slice_get};
 ghost use Rattle.std.specs.List.{filter, list_any};
-ghost use Rattle.pl_logic.specs.declared.switch_records.Member.{Member};
+ghost use Rattle.pl_node.specs.declared.switch_records.Member.{Member};
 ghost use Rattle.pl_lists.specs.Ports.{ports_of};
 ghost use Rattle.pl_members.specs.Reached.{end_of, has_member_at, ports_with_member, start_of};
 ghost use Rattle.pl_switch_rule.specs.Intake.{groups_of, has_member_of, is_member, joins, leaves};
 
 use crate::ranked::Ranked;
 use pl_frame::Mac;
-use pl_logic::{Member, Memory, PortSet};
+use pl_node::{Member, Memory, PortSet};
 use std::alloc::Global;
 use std::collections::BTreeSet;
 use std::marker::Model;
@@ -21,14 +21,14 @@ pub struct Members {
 
 impl Model for Members {
     ghost use Rattle.std.specs.Prelude.{List};
-    ghost use Rattle.pl_logic.specs.declared.switch_records.Member.{Member};
-    ghost use Rattle.pl_members.specs.Reached.{AreMembers};
+    ghost use Rattle.pl_node.specs.declared.switch_records.Member.{Member};
+    ghost use Rattle.pl_members.specs.Reached.{AreMembersAtPorts};
 
     ghost Value = { List Member };
 
     ghost view = { λ members. members.members.keys };
 
-    ghost invariant = { λ members. AreMembers members.members.keys };
+    ghost invariant = { λ members. AreMembersAtPorts members.members.keys };
 }
 
 impl Members {

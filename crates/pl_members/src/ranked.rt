@@ -8,7 +8,7 @@ ghost use Rattle.pl_switch_rule.specs.Intake.{is_member, member_cmp};
 
 use byteorder::{BigEndian, ByteOrder};
 use pl_frame::Mac;
-use pl_logic::Member;
+use pl_node::Member;
 use std::cmp::Ordering;
 use std::marker::Model;
 
@@ -22,7 +22,7 @@ pub(crate) struct Ranked {
 
 impl Model for Ranked {
     ghost use Rattle.std.specs.Prelude.{◌≡◌};
-    ghost use Rattle.pl_logic.specs.declared.switch_records.Member.{Member};
+    ghost use Rattle.pl_node.specs.declared.switch_records.Member.{Member};
     ghost use Rattle.pl_layouts.specs.Frames.{mac_number};
 
     ghost Value = { Member };

@@ -1,9 +1,9 @@
--- How many addresses the first ports of a book granted.
+-- How many addresses the first ports of an address table granted.
 use Rattle.std.proofs.Common.{◌≡◌, ◌<◌, ◌≤◌, ℕ, ◌+◌, ◌*◌, List, length, take, get_or, refl, sym, ap, ◌∙◌, arith}
 use Rattle.std.specs.List.{sum_by}
 use Rattle.std.proofs.lemmas.List.{take_more, take_all}
 use Rattle.std.proofs.lemmas.List.Sums.{sum_by_push}
-use Rattle.pl_logic.specs.declared.switch_records.Grant.{Grant}
+use Rattle.pl_node.specs.declared.switch_records.Grant.{Grant}
 
 pub record AreCounted (ports : List (List Grant)) (n count : ℕ) : Type 0 where
   pub total : count ≡ sum_by length (take n ports)

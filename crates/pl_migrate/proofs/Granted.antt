@@ -1,4 +1,4 @@
--- A book where the next address of a port was granted, or another thing is known of one.
+-- An address table where the next address of a port was granted, or another thing is known of one.
 use Rattle.std.proofs.Common.{◌≡◌, ◌≢◌, ◌<◌, ℕ, ◌+◌, ◌-◌, ◌&&◌, false, List, [], ◌∷◌, ◌++◌, length, Option, Some, None, refl, inl, inr, sym, ap, subst, ◌∙◌, arith}
 use Rattle.std.specs.List.{list_any}
 use Rattle.std.specs.Prelude.{slice_set}
@@ -9,12 +9,12 @@ use Rattle.pl_frame.specs.declared.address.Ip4.{Ip4}
 use Rattle.pl_frame.specs.declared.address.Mac.{Mac}
 use Rattle.pl_pmac.specs.declared.pmac.Pmac.{Pmac}
 use Rattle.pl_layouts.specs.Equality.{same_mac}
-use Rattle.pl_logic.specs.declared.switch_records.Grant.{Grant}
-use Rattle.pl_logic.specs.declared.trap.Trap.{Trap}
-use Rattle.pl_logic.specs.Traps.{newer_trap}
+use Rattle.pl_node.specs.declared.switch_records.Grant.{Grant}
+use Rattle.pl_node.specs.declared.trap.Trap.{Trap}
+use Rattle.pl_node.specs.Traps.{newer_trap}
 use Rattle.pl_switch_rule.specs.Delivering.{grant_trap}
 use Rattle.pl_switch_rule.specs.Granting.{grant_number, in_use, new_grant}
-use Rattle.pl_migrate.specs.Books.{BookView, address_in, address_in_use, granted_in, grantee_at, grants_of, is_here, is_in_use, is_used, next_address, numbered, trap_in, with_granted, with_next, with_port}
+use Rattle.pl_migrate.specs.AddressTables.{AddressTableView, address_in, address_in_use, granted_in, grantee_at, grants_of, is_here, is_in_use, is_used, next_address, numbered, trap_in, with_granted, with_next, with_port}
 use Rattle.pl_migrate.specs.declared.grantee.Grantee.{Grantee}
 use Rattle.pl_migrate.specs.Keeping.{IsGrantedOnce, KeepsGrants, KeepsTraps}
 use Rattle.pl_migrate.specs.PortGrants.{ArePortGrants, TakesPlaceOf, is_used_by}
@@ -32,56 +32,56 @@ some_grantee : (address : Pmac) (o p : Option Grant) (grantee : Grantee) → ((g
 some_grantee address None p grantee keeps found = absurd (let e = found in cc)
 some_grantee address (Some grant) p grantee keeps found = ap (grantee_at address) (keeps grant refl) ∙ found
 
-pub keeps_next : (book : BookView) (port : ℕ) (amac : Mac) (ip : Option Ip4) → port < length book.grants → KeepsGrants book (with_next book port amac ip)
-keeps_next book port amac ip within = record {
+pub keeps_next : (address_table : AddressTableView) (port : ℕ) (amac : Mac) (ip : Option Ip4) → port < length address_table.grants → KeepsGrants address_table (with_next address_table port amac ip)
+keeps_next address_table port amac ip within = record {
   pod = refl;
   position = refl;
-  ports = length-set book.grants port (grants_of book port ++ new_grant amac ip ∷ []);
+  ports = length-set address_table.grants port (grants_of address_table port ++ new_grant amac ip ∷ []);
   grantees = λ address grantee. port_changed address
       (λ o p. grantee_at address o ≡ Some grantee → grantee_at address p ≡ Some grantee)
-      book port (grants_of book port ++ new_grant amac ip ∷ []) within (λ o found. found)
-      (λ here at. some_grantee address (grant_number (grants_of book port) address.vmid) (grant_number (grants_of book port ++ new_grant amac ip ∷ []) address.vmid) grantee
-      (λ grant. number_push (grants_of book port) (new_grant amac ip) address.vmid grant));
+      address_table port (grants_of address_table port ++ new_grant amac ip ∷ []) within (λ o found. found)
+      (λ here at. some_grantee address (grant_number (grants_of address_table port) address.vmid) (grant_number (grants_of address_table port ++ new_grant amac ip ∷ []) address.vmid) grantee
+      (λ grant. number_push (grants_of address_table port) (new_grant amac ip) address.vmid grant));
 }
 
-pub traps_next : (book : BookView) (port : ℕ) (amac : Mac) (ip : Option Ip4) → port < length book.grants → KeepsTraps book (with_next book port amac ip)
-traps_next book port amac ip within = λ address. port_changed address (λ o p. grant_trap p ≡ grant_trap o)
-    book port (grants_of book port ++ new_grant amac ip ∷ []) within (λ o. refl)
-    (λ here at. number_trap_push (grants_of book port) (new_grant amac ip) address.vmid refl)
+pub traps_next : (address_table : AddressTableView) (port : ℕ) (amac : Mac) (ip : Option Ip4) → port < length address_table.grants → KeepsTraps address_table (with_next address_table port amac ip)
+traps_next address_table port amac ip within = λ address. port_changed address (λ o p. grant_trap p ≡ grant_trap o)
+    address_table port (grants_of address_table port ++ new_grant amac ip ∷ []) within (λ o. refl)
+    (λ here at. number_trap_push (grants_of address_table port) (new_grant amac ip) address.vmid refl)
 
 -- it was never granted before
-pub next_is_fresh : (book : BookView) (port : ℕ) → granted_in book (next_address book port) ≡ None
-next_is_fresh book port =
-    granted_itself book port (length (grants_of book port) + 1) ∙ number_past (grants_of book port) (length (grants_of book port) + 1) (omega arith)
+pub next_is_fresh : (address_table : AddressTableView) (port : ℕ) → granted_in address_table (next_address address_table port) ≡ None
+next_is_fresh address_table port =
+    granted_itself address_table port (length (grants_of address_table port) + 1) ∙ number_past (grants_of address_table port) (length (grants_of address_table port) + 1) (omega arith)
 
-numbered_none : (book : BookView) (port : ℕ) (o : Option ℕ) → numbered book port o ≡ None → o ≡ None
-numbered_none book port None none = refl
-numbered_none book port (Some vmid) none = absurd (let e = none in cc)
+numbered_none : (address_table : AddressTableView) (port : ℕ) (o : Option ℕ) → numbered address_table port o ≡ None → o ≡ None
+numbered_none address_table port None none = refl
+numbered_none address_table port (Some vmid) none = absurd (let e = none in cc)
 
-pub unused_at_port : (book : BookView) (port : ℕ) (amac : Mac) → address_in_use book port amac ≡ None → in_use (grants_of book port) amac ≡ None
-unused_at_port book port amac none = numbered_none book port (in_use (grants_of book port) amac) none
+pub unused_at_port : (address_table : AddressTableView) (port : ℕ) (amac : Mac) → address_in_use address_table port amac ≡ None → in_use (grants_of address_table port) amac ≡ None
+unused_at_port address_table port amac none = numbered_none address_table port (in_use (grants_of address_table port) amac) none
 
 -- and is in use
-pub next_in_use : (book : BookView) (port : ℕ) (amac : Mac) (ip : Option Ip4) → port < length book.grants → address_in_use book port amac ≡ None →
-    address_in_use (with_next book port amac ip) port amac ≡ Some (next_address book port)
-next_in_use book port amac ip within none =
-    let unused = unused_at_port book port amac none in
-    let found = position_push (is_used_by amac) 1 (grants_of book port) (new_grant amac ip) unused ((bytes_eq-Decides amac.0 amac.0).1 refl) in
-    ap (λ (gs : List Grant). numbered book port (in_use gs amac)) (grants_of_same book port (grants_of book port ++ new_grant amac ip ∷ []) within)
-    ∙ ap (numbered book port) found
-    ∙ ap (λ n. Some (address_in book port n)) (omega arith)
+pub next_in_use : (address_table : AddressTableView) (port : ℕ) (amac : Mac) (ip : Option Ip4) → port < length address_table.grants → address_in_use address_table port amac ≡ None →
+    address_in_use (with_next address_table port amac ip) port amac ≡ Some (next_address address_table port)
+next_in_use address_table port amac ip within none =
+    let unused = unused_at_port address_table port amac none in
+    let found = position_push (is_used_by amac) 1 (grants_of address_table port) (new_grant amac ip) unused ((bytes_eq-Decides amac.0 amac.0).1 refl) in
+    ap (λ (gs : List Grant). numbered address_table port (in_use gs amac)) (grants_of_same address_table port (grants_of address_table port ++ new_grant amac ip ∷ []) within)
+    ∙ ap (numbered address_table port) found
+    ∙ ap (λ n. Some (address_in address_table port n)) (omega arith)
 
 -- what a grant of the next address gives
-pub record IsNextGranted (old new : BookView) (port : ℕ) (amac : Mac) (address : Pmac) : Type 0 where
+pub record IsNextGranted (old new : AddressTableView) (port : ℕ) (amac : Mac) (address : Pmac) : Type 0 where
   pub used : address_in_use new port amac ≡ Some address
   pub once : IsGrantedOnce old port amac address
   pub kept : KeepsGrants old new
   pub traps : KeepsTraps old new
 
-pub next_granted : (old new : BookView) (port : ℕ) (amac : Mac) (ip : Option Ip4) (address : Pmac) → port < length old.grants →
+pub next_granted : (old new : AddressTableView) (port : ℕ) (amac : Mac) (ip : Option Ip4) (address : Pmac) → port < length old.grants →
     address_in_use old port amac ≡ None → new ≡ with_next old port amac ip → address ≡ next_address old port → IsNextGranted old new port amac address
 next_granted old new port amac ip address within none is next =
-    subst (λ book. IsNextGranted old book port amac address) (sym is)
+    subst (λ address_table. IsNextGranted old address_table port amac address) (sym is)
     (subst (λ a. IsNextGranted old (with_next old port amac ip) port amac a) (sym next) (record {
       used = next_in_use old port amac ip within none;
       once = inr (none, next_is_fresh old port);
@@ -118,93 +118,93 @@ one_each_replace grants vmid new fits are = replaced grants vmid new (grant_numb
 
 -- Another thing is known of an address.
 
-pub keeps_changed : (book : BookView) (address : Pmac) (old new : Grant) → granted_in book address ≡ Some old → new.amac ≡ old.amac →
-    KeepsGrants book (with_granted book address new)
-keeps_changed book address old new found amac =
-    let is = is_granted_here book address old found in
-    let first = (is_numbered (grants_of book address.port) address.vmid old is.number).first in
+pub keeps_changed : (address_table : AddressTableView) (address : Pmac) (old new : Grant) → granted_in address_table address ≡ Some old → new.amac ≡ old.amac →
+    KeepsGrants address_table (with_granted address_table address new)
+keeps_changed address_table address old new found amac =
+    let is = is_granted_here address_table address old found in
+    let first = (is_numbered (grants_of address_table address.port) address.vmid old is.number).first in
     record {
       pod = refl;
       position = refl;
-      ports = length-set book.grants address.port (slice_set (grants_of book address.port) (address.vmid - 1) new);
+      ports = length-set address_table.grants address.port (slice_set (grants_of address_table address.port) (address.vmid - 1) new);
       grantees = λ other grantee. port_changed other
           (λ o p. grantee_at other o ≡ Some grantee → grantee_at other p ≡ Some grantee)
-          book address.port (slice_set (grants_of book address.port) (address.vmid - 1) new) is.within (λ o found. found)
+          address_table address.port (slice_set (grants_of address_table address.port) (address.vmid - 1) new) is.within (λ o found. found)
           (λ here at. elim (cases_eq other.vmid address.vmid) [
             | inl same ↦ λ was.
-                let stood : grant_number (grants_of book address.port) other.vmid ≡ Some old = ap (grant_number (grants_of book address.port)) same ∙ is.number in
-                let stands : grant_number (slice_set (grants_of book address.port) (address.vmid - 1) new) other.vmid ≡ Some new =
-                ap (grant_number (slice_set (grants_of book address.port) (address.vmid - 1) new)) same
-                ∙ number_set_same (grants_of book address.port) address.vmid old new is.number in
+                let stood : grant_number (grants_of address_table address.port) other.vmid ≡ Some old = ap (grant_number (grants_of address_table address.port)) same ∙ is.number in
+                let stands : grant_number (slice_set (grants_of address_table address.port) (address.vmid - 1) new) other.vmid ≡ Some new =
+                ap (grant_number (slice_set (grants_of address_table address.port) (address.vmid - 1) new)) same
+                ∙ number_set_same (grants_of address_table address.port) address.vmid old new is.number in
                 ap (grantee_at other) stands ∙ ap (λ m. Some (granted_to m other.port)) amac ∙ sym (ap (grantee_at other) stood) ∙ was
-            | inr apart ↦ λ was. ap (grantee_at other) (number_set_other (grants_of book address.port) address.vmid other.vmid new first apart) ∙ was
+            | inr apart ↦ λ was. ap (grantee_at other) (number_set_other (grants_of address_table address.port) address.vmid other.vmid new first apart) ∙ was
           ]);
     }
 
-pub traps_changed : (book : BookView) (address : Pmac) (old new : Grant) → granted_in book address ≡ Some old → new.trap ≡ old.trap →
-    KeepsTraps book (with_granted book address new)
-traps_changed book address old new found trap =
-    let is = is_granted_here book address old found in
-    let first = (is_numbered (grants_of book address.port) address.vmid old is.number).first in
+pub traps_changed : (address_table : AddressTableView) (address : Pmac) (old new : Grant) → granted_in address_table address ≡ Some old → new.trap ≡ old.trap →
+    KeepsTraps address_table (with_granted address_table address new)
+traps_changed address_table address old new found trap =
+    let is = is_granted_here address_table address old found in
+    let first = (is_numbered (grants_of address_table address.port) address.vmid old is.number).first in
     λ other. port_changed other (λ o p. grant_trap p ≡ grant_trap o)
-    book address.port (slice_set (grants_of book address.port) (address.vmid - 1) new) is.within (λ o. refl)
+    address_table address.port (slice_set (grants_of address_table address.port) (address.vmid - 1) new) is.within (λ o. refl)
     (λ here at. elim (cases_eq other.vmid address.vmid) [
       | inl same ↦
-          ap (λ n. grant_trap (grant_number (slice_set (grants_of book address.port) (address.vmid - 1) new) n)) same
-          ∙ ap grant_trap (number_set_same (grants_of book address.port) address.vmid old new is.number) ∙ trap
-          ∙ sym (ap (λ n. grant_trap (grant_number (grants_of book address.port) n)) same ∙ ap grant_trap is.number)
-      | inr apart ↦ ap grant_trap (number_set_other (grants_of book address.port) address.vmid other.vmid new first apart)
+          ap (λ n. grant_trap (grant_number (slice_set (grants_of address_table address.port) (address.vmid - 1) new) n)) same
+          ∙ ap grant_trap (number_set_same (grants_of address_table address.port) address.vmid old new is.number) ∙ trap
+          ∙ sym (ap (λ n. grant_trap (grant_number (grants_of address_table address.port) n)) same ∙ ap grant_trap is.number)
+      | inr apart ↦ ap grant_trap (number_set_other (grants_of address_table address.port) address.vmid other.vmid new first apart)
     ])
 
-pub granted_changed : (book : BookView) (address : Pmac) (old new : Grant) → granted_in book address ≡ Some old →
-    granted_in (with_granted book address new) address ≡ Some new
-granted_changed book address old new found =
-    let is = is_granted_here book address old found in
-    cond-true (is_here book address) (grant_number (grants_of (with_granted book address new) address.port) address.vmid) None is.here
+pub granted_changed : (address_table : AddressTableView) (address : Pmac) (old new : Grant) → granted_in address_table address ≡ Some old →
+    granted_in (with_granted address_table address new) address ≡ Some new
+granted_changed address_table address old new found =
+    let is = is_granted_here address_table address old found in
+    cond-true (is_here address_table address) (grant_number (grants_of (with_granted address_table address new) address.port) address.vmid) None is.here
     ∙ ap (λ (gs : List Grant). grant_number gs address.vmid)
-    (grants_of_same book address.port (slice_set (grants_of book address.port) (address.vmid - 1) new) is.within)
-    ∙ number_set_same (grants_of book address.port) address.vmid old new is.number
+    (grants_of_same address_table address.port (slice_set (grants_of address_table address.port) (address.vmid - 1) new) is.within)
+    ∙ number_set_same (grants_of address_table address.port) address.vmid old new is.number
 
-pub others_unchanged : (book : BookView) (address : Pmac) (old new : Grant) → granted_in book address ≡ Some old → (other : Pmac) → other ≢ address →
-    granted_in (with_granted book address new) other ≡ granted_in book other
-others_unchanged book address old new found other apart =
-    let is = is_granted_here book address old found in
-    let first = (is_numbered (grants_of book address.port) address.vmid old is.number).first in
+pub others_unchanged : (address_table : AddressTableView) (address : Pmac) (old new : Grant) → granted_in address_table address ≡ Some old → (other : Pmac) → other ≢ address →
+    granted_in (with_granted address_table address new) other ≡ granted_in address_table other
+others_unchanged address_table address old new found other apart =
+    let is = is_granted_here address_table address old found in
+    let first = (is_numbered (grants_of address_table address.port) address.vmid old is.number).first in
     port_changed other (λ o p. p ≡ o)
-    book address.port (slice_set (grants_of book address.port) (address.vmid - 1) new) is.within (λ o. refl)
-    (λ here at. number_set_other (grants_of book address.port) address.vmid other.vmid new first
-    (λ same. apart (here_is_same book other address here is.here at same)))
+    address_table address.port (slice_set (grants_of address_table address.port) (address.vmid - 1) new) is.within (λ o. refl)
+    (λ here at. number_set_other (grants_of address_table address.port) address.vmid other.vmid new first
+    (λ same. apart (here_is_same address_table other address here is.here at same)))
 
 -- who has which address in use stays
-pub used_changed : (book : BookView) (address : Pmac) (old new : Grant) → granted_in book address ≡ Some old → new.amac ≡ old.amac →
-    new.in_use ≡ old.in_use → (port : ℕ) (amac : Mac) → address_in_use (with_granted book address new) port amac ≡ address_in_use book port amac
-used_changed book address old new found mac used port amac =
-    let is = is_granted_here book address old found in
-    let numbered_as = is_numbered (grants_of book address.port) address.vmid old is.number in
-    let set : List Grant = slice_set (grants_of book address.port) (address.vmid - 1) new in
+pub used_changed : (address_table : AddressTableView) (address : Pmac) (old new : Grant) → granted_in address_table address ≡ Some old → new.amac ≡ old.amac →
+    new.in_use ≡ old.in_use → (port : ℕ) (amac : Mac) → address_in_use (with_granted address_table address new) port amac ≡ address_in_use address_table port amac
+used_changed address_table address old new found mac used port amac =
+    let is = is_granted_here address_table address old found in
+    let numbered_as = is_numbered (grants_of address_table address.port) address.vmid old is.number in
+    let set : List Grant = slice_set (grants_of address_table address.port) (address.vmid - 1) new in
     elim (cases_eq port address.port) [
-      | inl at ↦ ap (numbered book port)
-          (ap (λ n. in_use (grants_of (with_port book address.port set) n) amac) at
-          ∙ ap (λ (gs : List Grant). in_use gs amac) (grants_of_same book address.port set is.within)
-          ∙ position_set (is_used_by amac) 1 (grants_of book address.port) (address.vmid - 1) old new numbered_as.at
+      | inl at ↦ ap (numbered address_table port)
+          (ap (λ n. in_use (grants_of (with_port address_table address.port set) n) amac) at
+          ∙ ap (λ (gs : List Grant). in_use gs amac) (grants_of_same address_table address.port set is.within)
+          ∙ position_set (is_used_by amac) 1 (grants_of address_table address.port) (address.vmid - 1) old new numbered_as.at
           (ap (λ u. u && same_mac new.amac amac) used ∙ ap (λ m. old.in_use && same_mac m amac) mac)
-          ∙ sym (ap (λ n. in_use (grants_of book n) amac) at))
-      | inr apart ↦ ap (λ (gs : List Grant). numbered book port (in_use gs amac)) (grants_of_other book address.port port set apart)
+          ∙ sym (ap (λ n. in_use (grants_of address_table n) amac) at))
+      | inr apart ↦ ap (λ (gs : List Grant). numbered address_table port (in_use gs amac)) (grants_of_other address_table address.port port set apart)
     ]
 
 -- what a trap that is set for an address gives
-pub record HasTrapSet (old new : BookView) (address : Pmac) (to : Trap) : Type 0 where
+pub record HasTrapSet (old new : AddressTableView) (address : Pmac) (to : Trap) : Type 0 where
   pub newest : trap_in new address ≡ Some (newer_trap to (trap_in old address))
   pub unused : is_in_use new address ≡ false
   pub others : (other : Pmac) → other ≢ address → granted_in new other ≡ granted_in old other
   pub kept : KeepsGrants old new
 
-pub trap_is_set : (old new : BookView) (address : Pmac) (to : Trap) (grant : Grant) (trap : Trap) → granted_in old address ≡ Some grant →
+pub trap_is_set : (old new : AddressTableView) (address : Pmac) (to : Trap) (grant : Grant) (trap : Trap) → granted_in old address ≡ Some grant →
     trap ≡ newer_trap to grant.trap → new ≡ with_granted old address (record grant { in_use = false; trap = Some trap }) → HasTrapSet old new address to
 trap_is_set old new address to grant trap found newer is =
     let unused : Grant = record grant { in_use = false; trap = Some trap } in
     let changed = granted_changed old address grant unused found in
-    subst (λ book. HasTrapSet old book address to) (sym is) (record {
+    subst (λ address_table. HasTrapSet old address_table address to) (sym is) (record {
       newest = ap grant_trap changed ∙ ap (λ (t : Trap). Some t) (newer ∙ sym (ap (λ o. newer_trap to (grant_trap o)) found));
       unused = ap is_used changed;
       others = others_unchanged old address grant unused found;

@@ -1,4 +1,4 @@
--- Laws of books: whose an address in use is, and which of the traps that were set stands.
+-- Laws of address tables: whose an address in use is, and which of the traps that were set stands.
 use Rattle.std.proofs.Common.{◌≡◌, ◌≤◌, ◌⊎◌, ℕ, suc, ◌+◌, ◌-◌, Bool, true, false, cond, nat_lt, List, [], ◌∷◌, get_or, Option, Some, None, refl, sym, ap, subst, ◌∙◌, inl, inr, arith}
 use Rattle.std.specs.List.{All, Contains, fold, position_from, slice_get}
 use Rattle.std.specs.Option.{MatchOption}
@@ -8,12 +8,12 @@ use Rattle.std.proofs.lemmas.Option.{get_or_from_slice_get, same_Some, slice_get
 use Rattle.std.proofs.lemmas.Slice.Eq.{bytes_eq-Decides}
 use Rattle.pl_frame.specs.declared.address.Mac.{Mac}
 use Rattle.pl_pmac.specs.declared.pmac.Pmac.{Pmac}
-use Rattle.pl_logic.specs.declared.switch_records.Grant.{Grant}
-use Rattle.pl_logic.specs.declared.trap.Trap.{Trap}
-use Rattle.pl_logic.specs.Traps.{newer_trap}
+use Rattle.pl_node.specs.declared.switch_records.Grant.{Grant}
+use Rattle.pl_node.specs.declared.trap.Trap.{Trap}
+use Rattle.pl_node.specs.Traps.{newer_trap}
 use Rattle.pl_layouts.specs.Equality.{same_mac}
 use Rattle.pl_switch_rule.specs.Granting.{grant_number, in_use}
-use Rattle.pl_migrate.specs.Books.{BookView, address_in, address_in_use, granted_in, grantee_at, grants_of, is_used, numbered}
+use Rattle.pl_migrate.specs.AddressTables.{AddressTableView, address_in, address_in_use, granted_in, grantee_at, grants_of, is_used, numbered}
 use Rattle.pl_migrate.specs.declared.grantee.Grantee.{Grantee}
 use Rattle.pl_migrate.specs.Keeping.{IsHostsOwn, sets_trap_on, trap_standing, StandsOf}
 use Rattle.pl_migrate.specs.PortGrants.{AtMostOne, is_used_by}
@@ -54,16 +54,16 @@ found_item test k n (x ∷ xs) found = elim (cases_Bool (test x)) [
 abbrev granted_to : Mac → ℕ → Grantee
 granted_to amac port = record { amac = amac; port = port }
 
-in_use_is_own : (book : BookView) (port : ℕ) (amac : Mac) (o : Option ℕ) (address : Pmac) → in_use (grants_of book port) amac ≡ o →
-    numbered book port o ≡ Some address → IsHostsOwn book port amac address
-in_use_is_own book port amac None address used found = absurd (let e = found in cc)
-in_use_is_own book port amac (Some vmid) address used found =
-    let is = found_item (is_used_by amac) 1 vmid (grants_of book port) used in
+in_use_is_own : (address_table : AddressTableView) (port : ℕ) (amac : Mac) (o : Option ℕ) (address : Pmac) → in_use (grants_of address_table port) amac ≡ o →
+    numbered address_table port o ≡ Some address → IsHostsOwn address_table port amac address
+in_use_is_own address_table port amac None address used found = absurd (let e = found in cc)
+in_use_is_own address_table port amac (Some vmid) address used found =
+    let is = found_item (is_used_by amac) 1 vmid (grants_of address_table port) used in
     let from = is.from in
     let parts = and_parts is.item.in_use (same_mac is.item.amac amac) is.passes in
-    let at : granted_in book address ≡ Some is.item =
-    sym (ap (granted_in book) (same_Some _ _ found)) ∙ granted_itself book port vmid
-    ∙ ap (λ b. cond b None (slice_get (grants_of book port) (vmid - 1))) (ne_eqb vmid 0 (λ e. omega arith)) ∙ is.at in
+    let at : granted_in address_table address ≡ Some is.item =
+    sym (ap (granted_in address_table) (same_Some _ _ found)) ∙ granted_itself address_table port vmid
+    ∙ ap (λ b. cond b None (slice_get (grants_of address_table port) (vmid - 1))) (ne_eqb vmid 0 (λ e. omega arith)) ∙ is.at in
     let mac : is.item.amac.0 ≡ amac.0 = (bytes_eq-Decides is.item.amac.0 amac.0).0 parts.1 in
     record {
       grantee = ap (grantee_at address) at ∙ ap (λ n. Some (granted_to is.item.amac n)) (sym (ap (λ (a : Pmac). a.port) (same_Some _ _ found)))
@@ -71,20 +71,20 @@ in_use_is_own book port amac (Some vmid) address used found =
       used = ap is_used at ∙ parts.0;
     }
 
-pub used_is_own : (book : BookView) (port : ℕ) (amac : Mac) (address : Pmac) → address_in_use book port amac ≡ Some address → IsHostsOwn book port amac address
-used_is_own book port amac address found = in_use_is_own book port amac (in_use (grants_of book port) amac) address refl found
+pub used_is_own : (address_table : AddressTableView) (port : ℕ) (amac : Mac) (address : Pmac) → address_in_use address_table port amac ≡ Some address → IsHostsOwn address_table port amac address
+used_is_own address_table port amac address found = in_use_is_own address_table port amac (in_use (grants_of address_table port) amac) address refl found
 
 -- the grant under an address that is a host's own
-record IsOwnGrant (book : BookView) (port : ℕ) (amac : Mac) (address : Pmac) : Type 0 where
+record IsOwnGrant (address_table : AddressTableView) (port : ℕ) (amac : Mac) (address : Pmac) : Type 0 where
   pub grant : Grant
-  pub at : granted_in book address ≡ Some grant
+  pub at : granted_in address_table address ≡ Some grant
   pub port_is : address.port ≡ port
   pub passes : is_used_by amac grant ≡ true
 
-own_grant : (book : BookView) (port : ℕ) (amac : Mac) (address : Pmac) (o : Option Grant) → granted_in book address ≡ o →
-    grantee_at address o ≡ Some (granted_to amac port) → is_used o ≡ true → IsOwnGrant book port amac address
-own_grant book port amac address None at grantee used = absurd (let e = grantee in cc)
-own_grant book port amac address (Some grant) at grantee used =
+own_grant : (address_table : AddressTableView) (port : ℕ) (amac : Mac) (address : Pmac) (o : Option Grant) → granted_in address_table address ≡ o →
+    grantee_at address o ≡ Some (granted_to amac port) → is_used o ≡ true → IsOwnGrant address_table port amac address
+own_grant address_table port amac address None at grantee used = absurd (let e = grantee in cc)
+own_grant address_table port amac address (Some grant) at grantee used =
     let same : granted_to grant.amac address.port ≡ granted_to amac port = same_Some _ _ grantee in
     record {
       grant = grant;
@@ -94,28 +94,28 @@ own_grant book port amac address (Some grant) at grantee used =
     }
 
 -- and no other is in use at that port
-own_is_used : (book : BookView) (port : ℕ) (amac : Mac) (address : Pmac) → AtMostOne (is_used_by amac) (grants_of book port) →
-    IsHostsOwn book port amac address → address_in_use book port amac ≡ Some address
-own_is_used book port amac address one own =
-    let is = own_grant book port amac address (granted_in book address) refl own.grantee own.used in
-    let here = is_granted_here book address is.grant is.at in
-    let number : grant_number (grants_of book port) address.vmid ≡ Some is.grant =
-    ap (λ n. grant_number (grants_of book n) address.vmid) (sym is.port_is) ∙ here.number in
-    let numbered_as = is_numbered (grants_of book port) address.vmid is.grant number in
+own_is_used : (address_table : AddressTableView) (port : ℕ) (amac : Mac) (address : Pmac) → AtMostOne (is_used_by amac) (grants_of address_table port) →
+    IsHostsOwn address_table port amac address → address_in_use address_table port amac ≡ Some address
+own_is_used address_table port amac address one own =
+    let is = own_grant address_table port amac address (granted_in address_table address) refl own.grantee own.used in
+    let here = is_granted_here address_table address is.grant is.at in
+    let number : grant_number (grants_of address_table port) address.vmid ≡ Some is.grant =
+    ap (λ n. grant_number (grants_of address_table n) address.vmid) (sym is.port_is) ∙ here.number in
+    let numbered_as = is_numbered (grants_of address_table port) address.vmid is.grant number in
     let first = numbered_as.first in
-    let within = slice_get_within (grants_of book port) (address.vmid - 1) is.grant numbered_as.at in
-    let passes : is_used_by amac (get_or (grants_of book port) (address.vmid - 1) is.grant) ≡ true =
-    ap (is_used_by amac) (get_or_from_slice_get (grants_of book port) (address.vmid - 1) is.grant is.grant numbered_as.at) ∙ is.passes in
-    let found = found_at (is_used_by amac) 1 (grants_of book port) (address.vmid - 1) is.grant one within passes in
+    let within = slice_get_within (grants_of address_table port) (address.vmid - 1) is.grant numbered_as.at in
+    let passes : is_used_by amac (get_or (grants_of address_table port) (address.vmid - 1) is.grant) ≡ true =
+    ap (is_used_by amac) (get_or_from_slice_get (grants_of address_table port) (address.vmid - 1) is.grant is.grant numbered_as.at) ∙ is.passes in
+    let found = found_at (is_used_by amac) 1 (grants_of address_table port) (address.vmid - 1) is.grant one within passes in
     let counted : 1 + (address.vmid - 1) ≡ address.vmid = omega arith in
-    ap (numbered book port) (found ∙ ap (λ (n : ℕ). Some n) counted)
-    ∙ ap (λ (a : Pmac). Some a) (here_is_same book (address_in book port address.vmid) address (is_here_itself book port address.vmid) here.here (sym is.port_is) refl)
+    ap (numbered address_table port) (found ∙ ap (λ (n : ℕ). Some n) counted)
+    ∙ ap (λ (a : Pmac). Some a) (here_is_same address_table (address_in address_table port address.vmid) address (is_here_itself address_table port address.vmid) here.here (sym is.port_is) refl)
 
-pub found_only : (book : BookView) (port : ℕ) (amac : Mac) (grants : List Grant) (o : Option ℕ) → grants ≡ grants_of book port →
-    AtMostOne (is_used_by amac) grants → o ≡ in_use grants amac → (address : Pmac) → IsHostsOwn book port amac address → numbered book port o ≡ Some address
-found_only book port amac grants o read one found address own =
-    ap (numbered book port) (found ∙ ap (λ (gs : List Grant). in_use gs amac) read)
-    ∙ own_is_used book port amac address (subst (AtMostOne (is_used_by amac)) read one) own
+pub found_only : (address_table : AddressTableView) (port : ℕ) (amac : Mac) (grants : List Grant) (o : Option ℕ) → grants ≡ grants_of address_table port →
+    AtMostOne (is_used_by amac) grants → o ≡ in_use grants amac → (address : Pmac) → IsHostsOwn address_table port amac address → numbered address_table port o ≡ Some address
+found_only address_table port amac grants o read one found address own =
+    ap (numbered address_table port) (found ∙ ap (λ (gs : List Grant). in_use gs amac) read)
+    ∙ own_is_used address_table port amac address (subst (AtMostOne (is_used_by amac)) read one) own
 
 -- Traps that were set one after another.
 

@@ -3,13 +3,13 @@ use Rattle.std.proofs.Common.{◌≡◌, ◌<◌, ℕ, zero, suc, ◌-◌, List,
 use Rattle.std.specs.List.{sum_by}
 use Rattle.std.proofs.lemmas.List.{append-nil}
 use Rattle.pl_pmac.specs.declared.pmac.Pmac.{Pmac}
-use Rattle.pl_logic.specs.declared.acts.Act.{Act}
-use Rattle.pl_logic.specs.declared.acts.Act.TheVariants.{Redirect}
-use Rattle.pl_logic.specs.declared.trap.Trap.{Trap}
-use Rattle.pl_logic.specs.SwitchViews.{SwitchView}
+use Rattle.pl_node.specs.declared.acts.Act.{Act}
+use Rattle.pl_node.specs.declared.acts.Act.TheVariants.{Redirect}
+use Rattle.pl_node.specs.declared.trap.Trap.{Trap}
+use Rattle.pl_node.specs.SwitchViews.{SwitchView}
 use Rattle.pl_steps.specs.Steps.{does}
 use Rattle.pl_steps.specs.Taken.{IsTaken}
-use Rattle.pl_migrate.specs.Books.{BookView, book_in, trap_in}
+use Rattle.pl_migrate.specs.AddressTables.{AddressTableView, address_table_in, trap_in}
 use Rattle.pl_switch_rule.specs.Delivering.{addresses, if_newer, last_on, last_trap, redirects, redirects_on, trap_for}
 
 -- one trap further, or no further
@@ -53,52 +53,52 @@ last_none v trap = refl
 pub told_further : (out rest : List Act) (act : Act) (acts : List Act) → acts ≡ act ∷ rest → (out ++ act ∷ []) ++ rest ≡ out ++ acts
 told_further out rest act acts is = append_assoc out (act ∷ []) rest ∙ ap (λ xs. out ++ xs) (sym is)
 
--- A walk along the traps of a book: what is left of it, and what it began with.
-pub record IsLed (book : BookView) (left : ℕ) (trap : Trap) (out : List Act) (most : ℕ) (start : Trap) (before : List Act) : Type 0 where
-  pub acts : (v : SwitchView) → out ++ redirects left (book_in book v) trap ≡ before ++ redirects most (book_in book v) start
-  pub last : (v : SwitchView) → last_trap left (book_in book v) trap ≡ last_trap most (book_in book v) start
+-- A walk along the traps of an address table: what is left of it, and what it began with.
+pub record IsLed (address_table : AddressTableView) (left : ℕ) (trap : Trap) (out : List Act) (most : ℕ) (start : Trap) (before : List Act) : Type 0 where
+  pub acts : (v : SwitchView) → out ++ redirects left (address_table_in address_table v) trap ≡ before ++ redirects most (address_table_in address_table v) start
+  pub last : (v : SwitchView) → last_trap left (address_table_in address_table v) trap ≡ last_trap most (address_table_in address_table v) start
 
 -- and its end
-pub record HasLed (book : BookView) (trap : Trap) (out : List Act) (most : ℕ) (start : Trap) (before : List Act) : Type 0 where
-  pub acts : (v : SwitchView) → out ≡ before ++ redirects most (book_in book v) start
-  pub last : (v : SwitchView) → trap ≡ last_trap most (book_in book v) start
+pub record HasLed (address_table : AddressTableView) (trap : Trap) (out : List Act) (most : ℕ) (start : Trap) (before : List Act) : Type 0 where
+  pub acts : (v : SwitchView) → out ≡ before ++ redirects most (address_table_in address_table v) start
+  pub last : (v : SwitchView) → trap ≡ last_trap most (address_table_in address_table v) start
 
-pub led_further : (book : BookView) (left : ℕ) (trap next : Trap) (out after : List Act) (most : ℕ) (start : Trap) (before : List Act) → 0 < left →
-    Some next ≡ if_newer trap (trap_in book trap.new) → after ≡ out ++ Redirect trap.new next.new ∷ [] →
-    IsLed book left trap out most start before → IsLed book (left - 1) next after most start before
-led_further book left trap next out after most start before some is told led = record {
-  acts = λ v. ap (λ xs. xs ++ redirects (left - 1) (book_in book v) next) told
-      ∙ told_further out (redirects (left - 1) (book_in book v) next) (Redirect trap.new next.new) (redirects left (book_in book v) trap)
-      (redirects_further left (book_in book v) trap next some is)
+pub led_further : (address_table : AddressTableView) (left : ℕ) (trap next : Trap) (out after : List Act) (most : ℕ) (start : Trap) (before : List Act) → 0 < left →
+    Some next ≡ if_newer trap (trap_in address_table trap.new) → after ≡ out ++ Redirect trap.new next.new ∷ [] →
+    IsLed address_table left trap out most start before → IsLed address_table (left - 1) next after most start before
+led_further address_table left trap next out after most start before some is told led = record {
+  acts = λ v. ap (λ xs. xs ++ redirects (left - 1) (address_table_in address_table v) next) told
+      ∙ told_further out (redirects (left - 1) (address_table_in address_table v) next) (Redirect trap.new next.new) (redirects left (address_table_in address_table v) trap)
+      (redirects_further left (address_table_in address_table v) trap next some is)
       ∙ led.acts v;
-  last = λ v. sym (last_further left (book_in book v) trap next some is) ∙ led.last v;
+  last = λ v. sym (last_further left (address_table_in address_table v) trap next some is) ∙ led.last v;
 }
 
-pub led_to_the_end : (book : BookView) (left : ℕ) (trap : Trap) (out : List Act) (most : ℕ) (start : Trap) (before : List Act) →
-    None ≡ if_newer trap (trap_in book trap.new) → IsLed book left trap out most start before → HasLed book trap out most start before
-led_to_the_end book left trap out most start before is led = record {
-  acts = λ v. sym (append-nil out) ∙ sym (ap (λ xs. out ++ xs) (redirects_end left (book_in book v) trap is)) ∙ led.acts v;
-  last = λ v. sym (last_end left (book_in book v) trap is) ∙ led.last v;
+pub led_to_the_end : (address_table : AddressTableView) (left : ℕ) (trap : Trap) (out : List Act) (most : ℕ) (start : Trap) (before : List Act) →
+    None ≡ if_newer trap (trap_in address_table trap.new) → IsLed address_table left trap out most start before → HasLed address_table trap out most start before
+led_to_the_end address_table left trap out most start before is led = record {
+  acts = λ v. sym (append-nil out) ∙ sym (ap (λ xs. out ++ xs) (redirects_end left (address_table_in address_table v) trap is)) ∙ led.acts v;
+  last = λ v. sym (last_end left (address_table_in address_table v) trap is) ∙ led.last v;
 }
 
-pub led_so_far : (book : BookView) (left : ℕ) (trap : Trap) (out : List Act) (most : ℕ) (start : Trap) (before : List Act) →
-    left ≡ 0 → IsLed book left trap out most start before → HasLed book trap out most start before
-led_so_far book left trap out most start before none led = record {
-  acts = λ v. sym (append-nil out) ∙ sym (ap (λ xs. out ++ xs) (ap (λ n. redirects n (book_in book v) trap) none ∙ redirects_none (book_in book v) trap)) ∙ led.acts v;
-  last = λ v. sym (ap (λ n. last_trap n (book_in book v) trap) none ∙ last_none (book_in book v) trap) ∙ led.last v;
+pub led_so_far : (address_table : AddressTableView) (left : ℕ) (trap : Trap) (out : List Act) (most : ℕ) (start : Trap) (before : List Act) →
+    left ≡ 0 → IsLed address_table left trap out most start before → HasLed address_table trap out most start before
+led_so_far address_table left trap out most start before none led = record {
+  acts = λ v. sym (append-nil out) ∙ sym (ap (λ xs. out ++ xs) (ap (λ n. redirects n (address_table_in address_table v) trap) none ∙ redirects_none (address_table_in address_table v) trap)) ∙ led.acts v;
+  last = λ v. sym (ap (λ n. last_trap n (address_table_in address_table v) trap) none ∙ last_none (address_table_in address_table v) trap) ∙ led.last v;
 }
 
 -- what the walk has told, with the redirection that it began with
-pub led_taken : (book : BookView) (old : Pmac) (trap : Trap) (out : List Act) (most : ℕ) (start : Trap) (before first : List Act) →
-    before ≡ first ++ Redirect old start.new ∷ [] → most ≡ sum_by length book.grants → HasLed book trap out most start before → (v : SwitchView) →
-    IsTaken (does (book_in book v) (Redirect old start.new ∷ redirects (addresses (book_in book v)) (book_in book v) start)) (book_in book v) first out
-led_taken book old trap out most start before first began all led v = let w : SwitchView = book_in book v in record {
+pub led_taken : (address_table : AddressTableView) (old : Pmac) (trap : Trap) (out : List Act) (most : ℕ) (start : Trap) (before first : List Act) →
+    before ≡ first ++ Redirect old start.new ∷ [] → most ≡ sum_by length address_table.grants → HasLed address_table trap out most start before → (v : SwitchView) →
+    IsTaken (does (address_table_in address_table v) (Redirect old start.new ∷ redirects (addresses (address_table_in address_table v)) (address_table_in address_table v) start)) (address_table_in address_table v) first out
+led_taken address_table old trap out most start before first began all led v = let w : SwitchView = address_table_in address_table v in record {
   view = refl;
   acts = led.acts v ∙ ap (λ xs. xs ++ redirects most w start) began
       ∙ append_assoc first (Redirect old start.new ∷ []) (redirects most w start)
       ∙ ap (λ n. first ++ Redirect old start.new ∷ redirects n w start) all;
 }
 
-pub led_last : (book : BookView) (trap : Trap) (out : List Act) (most : ℕ) (start : Trap) (before : List Act) → most ≡ sum_by length book.grants →
-    HasLed book trap out most start before → (v : SwitchView) → trap ≡ last_trap (addresses (book_in book v)) (book_in book v) start
-led_last book trap out most start before all led v = led.last v ∙ ap (λ n. last_trap n (book_in book v) start) all
+pub led_last : (address_table : AddressTableView) (trap : Trap) (out : List Act) (most : ℕ) (start : Trap) (before : List Act) → most ≡ sum_by length address_table.grants →
+    HasLed address_table trap out most start before → (v : SwitchView) → trap ≡ last_trap (addresses (address_table_in address_table v)) (address_table_in address_table v) start
+led_last address_table trap out most start before all led v = led.last v ∙ ap (λ n. last_trap n (address_table_in address_table v) start) all

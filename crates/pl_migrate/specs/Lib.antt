@@ -1,3 +1,3 @@
 pub mod PortGrants
-pub mod Books
+pub mod AddressTables
 pub mod Keeping

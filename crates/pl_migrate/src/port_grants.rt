@@ -3,7 +3,7 @@ ghost use Rattle.pl_switch_rule.specs.Granting.{grant_number, in_use, new_grant}
 ghost use Rattle.pl_migrate.specs.PortGrants.{is_used_by, ArePortGrants, AtMostOne, TakesPlaceOf};
 
 use pl_frame::{Ip4, Mac};
-use pl_logic::{Grant, Memory};
+use pl_node::{Grant, Memory};
 use std::alloc::Global;
 use std::marker::Model;
 
@@ -16,7 +16,7 @@ pub(crate) struct PortGrants {
 
 impl Model for PortGrants {
     ghost use Rattle.std.specs.Prelude.{List};
-    ghost use Rattle.pl_logic.specs.declared.switch_records.Grant.{Grant};
+    ghost use Rattle.pl_node.specs.declared.switch_records.Grant.{Grant};
     ghost use Rattle.pl_migrate.specs.PortGrants.{ArePortGrants};
 
     ghost Value = { List Grant };

@@ -4,7 +4,7 @@ use Rattle.std.proofs.lemmas.Bool.Decides.{Decides-eqb}
 use Rattle.byteorder.specs.Endian.{big_number, big_bytes}
 use Rattle.byteorder.specs.Numbers.{big_number-reads_back}
 use Rattle.pl_frame.specs.Ethernet.{Fields}
-use Rattle.pl_frame.proofs.Fields.{fields_of-frame_of}
+use Rattle.pl_frame.proofs.Exports.{fields_of-frame_of}
 use Rattle.pl_arp.specs.declared.cache.Me.{Me}
 use Rattle.pl_layouts.specs.declared.membership.Change.{Change}
 use Rattle.pl_layouts.specs.Memberships.{change_if_routed, changes_in, changes_of, is_routed_group, message_changes}

@@ -9,8 +9,7 @@ use Rattle.pl_journal.specs.declared.entry.Entry.{Entry}
 use Rattle.pl_output.specs.declared.saving.receipt.Receipt.{Receipt}
 use Rattle.pl_output.specs.Mail.{packet_at, packets_at}
 use Rattle.pl_shelf.specs.Held.{Held, Changes, IsCutOff, with_end}
-use Rattle.pl_shelf.proofs.Changed.{Changes-appended}
-use Rattle.pl_shelf.proofs.Written.{Written}
+use Rattle.pl_shelf.proofs.Exports.{Changes-appended, Written}
 
 -- a text that was cut off is so as the first part of a longer one
 pub cut_front : (old new : List ℕ → Held) (name : List ℕ) (first : Held) (x y : List ℕ) → IsCutOff old new name first x →

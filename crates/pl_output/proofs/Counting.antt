@@ -13,19 +13,19 @@ use Rattle.pl_output.specs.declared.summary.Rest.{Rest}
 use Rattle.pl_output.specs.declared.summary.tally.Tally.{Tally}
 use Rattle.pl_output.specs.declared.summary.totals.Totals.{Totals}
 use Rattle.pl_output.specs.Summary.{totals_of, count_of, sender_of, receiver_of, skipper_of, ending_of, is_line, is_sent, is_made, is_copied, is_arrived, is_taken, is_dropped, index_of, counts_of, host_line, host_lines}
-use Rattle.pl_output.specs.Tallied.{IsCounted, IsTally, plus, with_one}
+use Rattle.pl_output.specs.Tallied.{AreCountsOf, IsTallyOf, plus, with_one}
 
-pub counted_none : (many : ℕ) (number : Entry → Option ℕ) → IsCounted (replicate many 0) many number []
+pub counted_none : (many : ℕ) (number : Entry → Option ℕ) → AreCountsOf (replicate many 0) many number []
 counted_none many number = record { long = length-replicate many 0; exact = λ n within. get_or-replicate many n 0 0 within }
 
-module _ (counts : List ℕ) (many : ℕ) (number : Entry → Option ℕ) (past : List Entry) (e : Entry) (so_far : IsCounted counts many number past) where
+module _ (counts : List ℕ) (many : ℕ) (number : Entry → Option ℕ) (past : List Entry) (e : Entry) (so_far : AreCountsOf counts many number past) where
   pushed : (n : ℕ) (o : Option ℕ) → number e ≡ o →
       count_of number n (past ++ e ∷ []) ≡ count_of number n past + cond (option_map_or (λ m. m == n) o false) 1 0
   pushed n o is =
       sum_by_push (λ x. cond (option_map_or (λ m. m == n) (number x) false) 1 0) past e
       ∙ ap (λ p. count_of number n past + cond (option_map_or (λ m. m == n) p false) 1 0) is
 
-  counted_one : (o : Option ℕ) → number e ≡ o → IsCounted (with_one counts o) many number (past ++ e ∷ [])
+  counted_one : (o : Option ℕ) → number e ≡ o → AreCountsOf (with_one counts o) many number (past ++ e ∷ [])
   counted_one None is = record {
     long = so_far.long;
     exact = λ n within. so_far.exact n within ∙ sym (pushed n None is ∙ add-zero _);
@@ -48,7 +48,7 @@ module _ (counts : List ℕ) (many : ℕ) (number : Entry → Option ℕ) (past 
         ];
   }
 
-  pub counted_more : IsCounted (with_one counts (number e)) many number (past ++ e ∷ [])
+  pub counted_more : AreCountsOf (with_one counts (number e)) many number (past ++ e ∷ [])
   counted_more = counted_one (number e) refl
 
 abbrev made : ℕ → ℕ → ℕ → ℕ → ℕ → ℕ → ℕ → Totals
@@ -69,19 +69,19 @@ totals_push past e =
     ∙ ap (λ x. made (m is_line) (m is_sent) (m is_made) (m is_copied) (m is_arrived) x (n is_dropped)) (count_push is_taken past e)
     ∙ ap (λ x. made (m is_line) (m is_sent) (m is_made) (m is_copied) (m is_arrived) (m is_taken) x) (count_push is_dropped past e)
 
-pub tally_more : (old new : Tally) (hosts : ℕ) (past : List Entry) (e : Entry) → IsTally old hosts past →
+pub tally_more : (old new : Tally) (hosts : ℕ) (past : List Entry) (e : Entry) → IsTallyOf old hosts past →
     new.totals ≡ plus old.totals (totals_of (e ∷ [])) →
     new.ended.items ≡ with_one old.ended.items (ending_of e) →
     new.sent.items ≡ with_one old.sent.items (sender_of e) →
     new.arrived.items ≡ with_one old.arrived.items (receiver_of e) →
     new.skipped.items ≡ with_one old.skipped.items (skipper_of e) →
-    IsTally new hosts (past ++ e ∷ [])
+    IsTallyOf new hosts (past ++ e ∷ [])
 tally_more old new hosts past e so_far totals ended sent arrived skipped = record {
   totals = totals ∙ ap (λ t. plus t (totals_of (e ∷ []))) so_far.totals ∙ sym (totals_push past e);
-  ended = subst (λ c. IsCounted c 9 ending_of (past ++ e ∷ [])) (sym ended) (counted_more old.ended.items 9 ending_of past e so_far.ended);
-  sent = subst (λ c. IsCounted c hosts sender_of (past ++ e ∷ [])) (sym sent) (counted_more old.sent.items hosts sender_of past e so_far.sent);
-  arrived = subst (λ c. IsCounted c hosts receiver_of (past ++ e ∷ [])) (sym arrived) (counted_more old.arrived.items hosts receiver_of past e so_far.arrived);
-  skipped = subst (λ c. IsCounted c hosts skipper_of (past ++ e ∷ [])) (sym skipped) (counted_more old.skipped.items hosts skipper_of past e so_far.skipped);
+  ended = subst (λ c. AreCountsOf c 9 ending_of (past ++ e ∷ [])) (sym ended) (counted_more old.ended.items 9 ending_of past e so_far.ended);
+  sent = subst (λ c. AreCountsOf c hosts sender_of (past ++ e ∷ [])) (sym sent) (counted_more old.sent.items hosts sender_of past e so_far.sent);
+  arrived = subst (λ c. AreCountsOf c hosts receiver_of (past ++ e ∷ [])) (sym arrived) (counted_more old.arrived.items hosts receiver_of past e so_far.arrived);
+  skipped = subst (λ c. AreCountsOf c hosts skipper_of (past ++ e ∷ [])) (sym skipped) (counted_more old.skipped.items hosts skipper_of past e so_far.skipped);
 }
 
 pub index_within : (cause : Cause) → index_of cause < 9

@@ -2,7 +2,7 @@
 use Rattle.std.proofs.Common.{◌≡◌, ℕ, List, [], ◌∷◌, ◌++◌, length, take, drop, refl, sym, ◌∙◌, ap, subst, append_assoc, arith}
 use Rattle.std.proofs.lemmas.List.{append-nil, take-append-drop}
 use Rattle.hex.specs.Hex.{encode_lower, encode_with, lower_digits}
-use Rattle.pl_journal.proofs.Hexadecimal.{encode_append}
+use Rattle.pl_journal.proofs.Exports.{encode_append}
 use Rattle.pl_shelf.specs.Held.{Held}
 use Rattle.pl_output.specs.Printed.{IsPrinted, BreaksOff}
 use Rattle.pl_output.proofs.PrintedLaws.{printed_none, printed_then, broken_then, broken_first}

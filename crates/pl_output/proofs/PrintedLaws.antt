@@ -5,7 +5,7 @@ use Rattle.std.proofs.lemmas.List.{append-nil, take-append-drop, take_more}
 use Rattle.std.proofs.lemmas.List.Concat.{flat_map-append}
 use Rattle.std.proofs.Math.Seq.{take-append-add}
 use Rattle.pl_shelf.specs.Held.{Held, Changes, IsCutOff, with_end}
-use Rattle.pl_shelf.proofs.Changed.{Changes-appended, with_end-none}
+use Rattle.pl_shelf.proofs.Exports.{Changes-appended, with_end-none}
 use Rattle.pl_output.specs.Printed.{IsPrinted, BreaksOff}
 use Rattle.pl_output.proofs.Appended.{cut_front}
 

@@ -3,7 +3,7 @@ use Rattle.std.proofs.Common.{◌≡◌, ◌≢◌, ◌∙◌, ◌⊎◌, inl, i
 use Rattle.std.proofs.lemmas.List.Elements.{All-cons, All-nil, All-tail}
 use Rattle.pl_shelf.specs.Held.{Held}
 use Rattle.pl_output.specs.InTurn.{BreaksInTurn, BreaksOne, SavedInTurn, SavesOne}
-use Rattle.pl_output.specs.Saved.{AreSaved, BreaksOff, IsBroken, IsWhole, OthersStay, Saving, once_saved}
+use Rattle.pl_output.specs.Saved.{AreSaved, BreaksOff, IsBroken, IsSavedWhole, OthersStay, Saving, once_saved}
 
 abbrev pub AreApart : Saving → Saving → Type 0
 AreApart s t = s.name ≢ t.name
@@ -49,11 +49,11 @@ last_one P [] y all = all 0 y (omega arith)
 last_one P (x ∷ xs) y all = last_one P xs y (All-tail P x (xs ++ y ∷ []) all)
 
 -- a later change of other names keeps what was saved
-kept_whole : (old mid new : List ℕ → Held) (s : Saving) (ss : List Saving) → SavesOne old mid s → All (AreApart s) ss → OthersStay mid new ss → IsWhole old new s
+kept_whole : (old mid new : List ℕ → Held) (s : Saving) (ss : List Saving) → SavesOne old mid s → All (AreApart s) ss → OthersStay mid new ss → IsSavedWhole old new s
 kept_whole old mid new s ss change apart others = others s.name apart ∙ change.named
 
 -- an earlier change of another name keeps what will be saved
-still_whole : (old mid new : List ℕ → Held) (s : Saving) (ss : List Saving) → SavesOne old mid s → All (AreApart s) ss → All (IsWhole mid new) ss → All (IsWhole old new) ss
+still_whole : (old mid new : List ℕ → Held) (s : Saving) (ss : List Saving) → SavesOne old mid s → All (AreApart s) ss → All (IsSavedWhole mid new) ss → All (IsSavedWhole old new) ss
 still_whole old mid new s ss change apart whole k d within =
     let t = slice_index_or ss k d in
     whole k d within ∙ ap (λ h. once_saved t.name h t.text) (change.others t.name (λ same. apart k d within (sym same)))
@@ -63,13 +63,13 @@ others_still old mid new s ss change others q other =
     others q (All-tail (λ t. q ≢ t.name) s ss other) ∙ change.others q (other 0 s (omega arith))
 
 pub saved_all : (old new : List ℕ → Held) (savings : List Saving) → AllPairs AreApart savings → SavedInTurn old savings new → AreSaved old new savings
-saved_all old new [] apart is = record { whole = All-nil (IsWhole old new); others = λ q other. ap (λ f. f q) is }
+saved_all old new [] apart is = record { whole = All-nil (IsSavedWhole old new); others = λ q other. ap (λ f. f q) is }
 saved_all old new (s ∷ ss) apart is =
     let mid = is.0 in
     let first = first_apart s ss apart in
     let rest = saved_all mid new ss (rest_apart s ss apart) is.2 in
     record {
-      whole = All-cons (IsWhole old new) s ss (kept_whole old mid new s ss is.1 first rest.others) (still_whole old mid new s ss is.1 first rest.whole);
+      whole = All-cons (IsSavedWhole old new) s ss (kept_whole old mid new s ss is.1 first rest.others) (still_whole old mid new s ss is.1 first rest.whole);
       others = others_still old mid new s ss is.1 rest.others;
     }
 
@@ -89,7 +89,7 @@ breaks_off old new (s ∷ ss) name apart breaks = elim breaks [
     behind = ss;
     order = refl;
     named = here.0;
-    whole = All-nil (IsWhole old new);
+    whole = All-nil (IsSavedWhole old new);
     cut = broken_here old new s here.1;
     others = others_here old new s here.1;
   }
@@ -107,7 +107,7 @@ breaks_off old new (s ∷ ss) name apart breaks = elim breaks [
         behind = rest.behind;
         order = ap (λ l. s ∷ l) rest.order;
         named = rest.named;
-        whole = All-cons (IsWhole old new) s rest.before (kept_whole old mid new s begun later.1 apart_begun rest.others)
+        whole = All-cons (IsSavedWhole old new) s rest.before (kept_whole old mid new s begun later.1 apart_begun rest.others)
             (still_whole old mid new s rest.before later.1 apart_before rest.whole);
         cut = subst (λ h. (new rest.broken.name ≡ h)
             ⊎ ((n : ℕ) × (n < length rest.broken.text) × (new rest.broken.name ≡ once_saved rest.broken.name h (take n rest.broken.text))))

@@ -11,8 +11,8 @@ pub record Saving : Type 0 where
 abbrev pub once_saved : List ℕ → Held → List ℕ → Held
 once_saved name held text = with_end (created name held) text
 
-abbrev pub IsWhole : (List ℕ → Held) → (List ℕ → Held) → Saving → Type 0
-IsWhole old new s = new s.name ≡ once_saved s.name (old s.name) s.text
+abbrev pub IsSavedWhole : (List ℕ → Held) → (List ℕ → Held) → Saving → Type 0
+IsSavedWhole old new s = new s.name ≡ once_saved s.name (old s.name) s.text
 
 -- the name is as it was, or a proper front of its text was saved
 abbrev pub IsBroken : (List ℕ → Held) → (List ℕ → Held) → Saving → Type 0
@@ -26,7 +26,7 @@ OthersStay old new savings = (q : List ℕ) → All (λ s. q ≢ s.name) savings
 
 -- each text was saved whole
 pub record AreSaved (old new : List ℕ → Held) (savings : List Saving) : Type 0 where
-  pub whole : All (IsWhole old new) savings
+  pub whole : All (IsSavedWhole old new) savings
   pub others : OthersStay old new savings
 
 -- the texts before this name's are whole, its own is broken off, and those behind it were not begun
@@ -36,6 +36,6 @@ pub record BreaksOff (old new : List ℕ → Held) (savings : List Saving) (name
   pub behind : List Saving
   pub order : savings ≡ before ++ broken ∷ behind
   pub named : broken.name ≡ name
-  pub whole : All (IsWhole old new) before
+  pub whole : All (IsSavedWhole old new) before
   pub cut : IsBroken old new broken
   pub others : OthersStay old new (before ++ broken ∷ [])

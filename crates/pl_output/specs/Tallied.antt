@@ -23,14 +23,14 @@ with_one counts None = counts
 with_one counts (Some n) = slice_set counts n (slice_index counts n + 1)
 
 -- a table of so many counts has at each index how many entries have its number
-pub record IsCounted (counts : List ℕ) (many : ℕ) (number : Entry → Option ℕ) (journal : List Entry) : Type 0 where
+pub record AreCountsOf (counts : List ℕ) (many : ℕ) (number : Entry → Option ℕ) (journal : List Entry) : Type 0 where
   pub long : length counts ≡ many
   pub exact : (n : ℕ) → n < many → slice_index counts n ≡ count_of number n journal
 
 -- what a tally of so many hosts has counted
-pub record IsTally (tally : Tally) (hosts : ℕ) (journal : List Entry) : Type 0 where
+pub record IsTallyOf (tally : Tally) (hosts : ℕ) (journal : List Entry) : Type 0 where
   pub totals : tally.totals ≡ totals_of journal
-  pub ended : IsCounted tally.ended.items 9 ending_of journal
-  pub sent : IsCounted tally.sent.items hosts sender_of journal
-  pub arrived : IsCounted tally.arrived.items hosts receiver_of journal
-  pub skipped : IsCounted tally.skipped.items hosts skipper_of journal
+  pub ended : AreCountsOf tally.ended.items 9 ending_of journal
+  pub sent : AreCountsOf tally.sent.items hosts sender_of journal
+  pub arrived : AreCountsOf tally.arrived.items hosts receiver_of journal
+  pub skipped : AreCountsOf tally.skipped.items hosts skipper_of journal

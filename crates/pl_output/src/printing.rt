@@ -1,6 +1,6 @@
 ghost use Rattle.std.specs.Prelude.{◌≡◌, ◌⊎◌, ◌++◌, All, OnOk, OnErr, codes};
 ghost use Rattle.pl_shelf.specs.Held.{Same, Changes, IsCutOff, created, with_end};
-ghost use Rattle.pl_shelf.specs.Capacity.{Fits, IsFull};
+ghost use Rattle.pl_shelf.specs.Capacity.{FitsBehind, IsFull};
 ghost use Rattle.pl_shelf.specs.Faults.{Counts};
 ghost use Rattle.pl_journal.specs.Text.{IsNamed, journal_text, parted, texts};
 ghost use Rattle.pl_output.specs.Printed.{BreaksOff, IsPrinted};
@@ -34,7 +34,7 @@ pub fn save_journal<S: Shelf>(
     ensures faults { Counts result (S.write_faults shelf.old) (S.write_faults shelf.new)
         (S.read_faults shelf.old) (S.read_faults shelf.new) }
     ensures capacity { S.capacity shelf.new ≡ S.capacity shelf.old }
-    ensures unfit { OnErr result (Fits (S.capacity shelf.old name.now)
+    ensures unfit { OnErr result (FitsBehind (S.capacity shelf.old name.now)
         (created name.now (S.held shelf.old name.now)) (journal_text wiring.now journal.now) → ⊥) }
 {
     shelf.create(name)?;

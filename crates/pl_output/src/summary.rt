@@ -2,7 +2,7 @@ ghost use Rattle.std.specs.Prelude.{◌≡◌, ◌++◌, ℕ, List, length, stri
 ghost use Rattle.std.specs.List.{flat_map};
 ghost use Rattle.pl_journal.specs.declared.entry.Entry.{Entry};
 ghost use Rattle.pl_output.specs.Summary.{all_causes, cause_line, count_of, ending_of, fabric_line, frames_line, host_line, host_lines, index_of, steps_line, summary_text};
-ghost use Rattle.pl_output.specs.Tallied.{IsTally};
+ghost use Rattle.pl_output.specs.Tallied.{IsTallyOf};
 
 use crate::summary::lines::{CauseLine, FabricLine, HostLine, StepsLine, settled_line};
 use crate::summary::tally::Tally;
@@ -87,7 +87,7 @@ fn first_lines(
 
 // A line for each cause for which frames ended.
 fn add_cause_lines(alloc: Global, text: &mut String, tally: &Tally) -> Result<(), Memory>
-    ensures { OnOk result ((hosts : ℕ) (journal : List Entry) → IsTally tally.now hosts journal →
+    ensures { OnOk result ((hosts : ℕ) (journal : List Entry) → IsTallyOf tally.now hosts journal →
         string_bytes text.new ≡ string_bytes text.old
         ++ flat_map (λ cause. cause_line cause (count_of ending_of (index_of cause) journal)) all_causes) }
 {
@@ -117,7 +117,7 @@ fn add_host_lines(
     rests: &[Rest],
 ) -> Result<(), Memory>
     requires { length rests.now ≡ length hosts.now }
-    ensures { OnOk result ((journal : List Entry) → IsTally tally.now (length hosts.now) journal →
+    ensures { OnOk result ((journal : List Entry) → IsTallyOf tally.now (length hosts.now) journal →
         string_bytes text.new ≡ string_bytes text.old ++ host_lines journal 0 hosts.now rests.now) }
 {
     for (n, host) in hosts.iter().enumerate() {

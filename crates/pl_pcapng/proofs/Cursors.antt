@@ -8,8 +8,8 @@ use Rattle.pl_pcapng.specs.declared.error.BlockError.TheVariants.{Memory}
 use Rattle.pl_pcapng.specs.Position.{Position, first, behind, record_of}
 use Rattle.pl_pcapng.specs.Standing.{Found, Stands}
 use Rattle.pl_pcapng.specs.Reading.{block_in}
-use Rattle.pl_pcapng.specs.Sections.{AreBlocks, records_in, Begins, reading_of}
-use Rattle.pl_pcapng.specs.Cursor.{Sought, found_or, seek, sought_from, sought, Goes, IsNext, IsSought}
+use Rattle.pl_pcapng.specs.Sections.{AreBlocks, records_in, BeginsWithBlocks, reading_of}
+use Rattle.pl_pcapng.specs.Cursor.{Sought, found_or, seek, sought_from, sought, PassesBlocks, IsNextRecord, IsSought}
 use Rattle.pl_pcapng.proofs.Tables.{block_in-row, row_from}
 use Rattle.pl_pcapng.proofs.Walks.{whole, none, fault, gives, fails, block_room, moved-at, at_end, reading_of-tail, reading_of-fault}
 
@@ -25,7 +25,7 @@ blocks-reach file from (b ∷ bs) to within are =
 
 -- a position behind some blocks stands within its file
 pub begins_within : (file : List ℕ) (records : List Captured) (p : Position) →
-    Begins file records p → p.at ≤ length file
+    BeginsWithBlocks file records p → p.at ≤ length file
 begins_within file records p begins =
     blocks-reach file first begins.blocks p (omega arith) begins.follow
 
@@ -39,8 +39,8 @@ blocks-push file from (d ∷ ds) to b are there =
     (are.0, blocks-push file (behind from d) ds to b are.1 there)
 
 begins-push : (file : List ℕ) (records : List Captured) (p : Position) (b : Block) →
-    Begins file records p → Stands file p (whole b) →
-    Begins file (records ++ option_to_list (record_of b.content)) (behind p b)
+    BeginsWithBlocks file records p → Stands file p (whole b) →
+    BeginsWithBlocks file (records ++ option_to_list (record_of b.content)) (behind p b)
 begins-push file records p b begins there = record {
   blocks = begins.blocks ++ b ∷ [];
   follow = blocks-push file first begins.blocks p b begins.follow there;
@@ -135,24 +135,24 @@ sought-whole file p b o there is =
 
 -- Going on.
 
-pub goes_nowhere : (file : List ℕ) (p : Position) → Goes file p p
+pub goes_nowhere : (file : List ℕ) (p : Position) → PassesBlocks file p p
 goes_nowhere file p =
     record { read = λ records begins. begins; same = refl; further = omega arith }
 
 -- over one more block without a record
-pub goes_on : (file : List ℕ) (old p new : Position) (b : Block) → Goes file old p →
-    block_in file p ≡ whole b → record_of b.content ≡ None → new ≡ behind p b → Goes file old new
+pub goes_on : (file : List ℕ) (old p new : Position) (b : Block) → PassesBlocks file old p →
+    block_in file p ≡ whole b → record_of b.content ≡ None → new ≡ behind p b → PassesBlocks file old new
 goes_on file old p new b goes is without at =
     let there = row_from file p (whole b) is in
     let moves : (behind p b).at ≡ b.end = moved-at p b.content b.end in
     let least = (block_room file p b there).least in
     let further : old.at ≤ (behind p b).at = omega (arith, goes.further) in
-    let all : (records : List Captured) → Begins file records old →
-    Begins file records (behind p b) = λ records begins.
-    subst (λ (rs : List Captured). Begins file rs (behind p b))
+    let all : (records : List Captured) → BeginsWithBlocks file records old →
+    BeginsWithBlocks file records (behind p b) = λ records begins.
+    subst (λ (rs : List Captured). BeginsWithBlocks file rs (behind p b))
     (ap (λ (o : Option Captured). records ++ option_to_list o) without ∙ append-nil records)
     (begins-push file records p b (goes.read records begins) there) in
-    subst (Goes file old) (sym at)
+    subst (PassesBlocks file old) (sym at)
     (record { read = all; same = sym (sought-whole file p b None there without) ∙ goes.same; further = further })
 
 -- the bytes behind are fewer
@@ -165,14 +165,14 @@ goes_closer file p new b is at =
     omega (arith, end, room.least, room.within)
 
 -- to one that stays
-pub goes_same : (file : List ℕ) (old p new : Position) → Goes file old p → new ≡ p →
-    Goes file old new
-goes_same file old p new goes is = subst (Goes file old) (sym is) goes
+pub goes_same : (file : List ℕ) (old p new : Position) → PassesBlocks file old p → new ≡ p →
+    PassesBlocks file old new
+goes_same file old p new goes is = subst (PassesBlocks file old) (sym is) goes
 
 -- What a call found.
 
 module _ (file : List ℕ) (old new : Position) where
-  pub next_sought : (result : Result (Option Captured) BlockError) → IsNext file old result new →
+  pub next_sought : (result : Result (Option Captured) BlockError) → IsNextRecord file old result new →
       IsSought file old result new
   next_sought (Ok (Some c)) (mid, b, goes, there, is, at) =
       inr (sym goes.same ∙ sought-whole file mid b (Some c) there is ∙ ap (found_at c) (sym at))
@@ -180,40 +180,40 @@ module _ (file : List ℕ) (old new : Position) where
   next_sought (Err e) (goes, inl is) = inl (ap (λ (f : BlockError). Err f) is)
   next_sought (Err e) (goes, inr there) = inr (sym goes.same ∙ sought-fault file new e there)
 
-  found_push : (c : Captured) (mid : Position) (b : Block) → Goes file old mid →
+  found_push : (c : Captured) (mid : Position) (b : Block) → PassesBlocks file old mid →
       Stands file mid (whole b) → record_of b.content ≡ Some c → new ≡ behind mid b →
-      (records : List Captured) → Begins file records old → Begins file (records ++ c ∷ []) new
+      (records : List Captured) → BeginsWithBlocks file records old → BeginsWithBlocks file (records ++ c ∷ []) new
   found_push c mid b goes there is at records begins =
-      let P : List Captured → Type 0 = λ rs. Begins file rs new in
+      let P : List Captured → Type 0 = λ rs. BeginsWithBlocks file rs new in
       subst P (ap (λ (o : Option Captured). records ++ option_to_list o) is)
-      (subst (λ (p : Position). Begins file (records ++ option_to_list (record_of b.content)) p) (sym at)
+      (subst (λ (p : Position). BeginsWithBlocks file (records ++ option_to_list (record_of b.content)) p) (sym at)
       (begins-push file records mid b (goes.read records begins) there))
 
-  pub next_same : (result : Result (Option Captured) BlockError) → IsNext file old result new →
-      (records : List Captured) → Begins file records old → (more : List Captured) × Begins file more new
+  pub next_same : (result : Result (Option Captured) BlockError) → IsNextRecord file old result new →
+      (records : List Captured) → BeginsWithBlocks file records old → (more : List Captured) × BeginsWithBlocks file more new
   next_same (Ok (Some c)) (mid, b, goes, there, is, at) records begins =
       (records ++ c ∷ [], found_push c mid b goes there is at records begins)
   next_same (Ok None) (goes, there) records begins = (records, goes.read records begins)
   next_same (Err e) (goes, why) records begins = (records, goes.read records begins)
 
-  pub next_found : (result : Result (Option Captured) BlockError) → IsNext file old result new →
-      (records : List Captured) → Begins file records old →
-      IfOk result (λ found. IfSome found (λ c. Begins file (records ++ c ∷ []) new))
+  pub next_found : (result : Result (Option Captured) BlockError) → IsNextRecord file old result new →
+      (records : List Captured) → BeginsWithBlocks file records old →
+      IfOk result (λ found. IfSome found (λ c. BeginsWithBlocks file (records ++ c ∷ []) new))
   next_found (Ok (Some c)) (mid, b, goes, there, is, at) records begins =
       found_push c mid b goes there is at records begins
   next_found (Ok None) next records begins = tt
   next_found (Err e) next records begins = tt
 
-  pub next_ended : (result : Result (Option Captured) BlockError) → IsNext file old result new →
-      (records : List Captured) → Begins file records old →
+  pub next_ended : (result : Result (Option Captured) BlockError) → IsNextRecord file old result new →
+      (records : List Captured) → BeginsWithBlocks file records old →
       IfOk result (λ found. IfNone found (reading_of file ≡ gives records (length file - new.at)))
   next_ended (Ok (Some c)) next records begins = tt
   next_ended (Ok None) (goes, there) records begins =
       reading_of-tail file records new (goes.read records begins) there
   next_ended (Err e) next records begins = tt
 
-  pub next_refused : (result : Result (Option Captured) BlockError) → IsNext file old result new →
-      (records : List Captured) → Begins file records old →
+  pub next_refused : (result : Result (Option Captured) BlockError) → IsNextRecord file old result new →
+      (records : List Captured) → BeginsWithBlocks file records old →
       IfErr result (λ e. (e ≡ Memory) ⊎ (reading_of file ≡ fails e))
   next_refused (Ok (Some c)) next records begins = tt
   next_refused (Ok None) next records begins = tt
@@ -221,19 +221,19 @@ module _ (file : List ℕ) (old new : Position) where
   next_refused (Err e) (goes, inr there) records begins =
       inr (reading_of-fault file records new e (goes.read records begins) there)
 
-  pub next_again_ended : (result : Result (Option Captured) BlockError) → IsNext file old result new →
+  pub next_again_ended : (result : Result (Option Captured) BlockError) → IsNextRecord file old result new →
       IfOk result (λ found. IfNone found (sought file new ≡ sought file old))
   next_again_ended (Ok (Some c)) next = tt
   next_again_ended (Ok None) (goes, there) = goes.same
   next_again_ended (Err e) next = tt
 
   pub next_again_refused : (result : Result (Option Captured) BlockError) →
-      IsNext file old result new → IfErr result (λ e. sought file new ≡ sought file old)
+      IsNextRecord file old result new → IfErr result (λ e. sought file new ≡ sought file old)
   next_again_refused (Ok (Some c)) next = tt
   next_again_refused (Ok None) next = tt
   next_again_refused (Err e) (goes, why) = goes.same
 
-  pub next_nearer : (result : Result (Option Captured) BlockError) → IsNext file old result new →
+  pub next_nearer : (result : Result (Option Captured) BlockError) → IsNextRecord file old result new →
       IfOk result (λ found. IfSome found (λ c. length file - new.at < length file - old.at))
   next_nearer (Ok (Some c)) (mid, b, goes, there, is, at) =
       let closer_still = goes_closer file mid new b (block_in-row file mid (whole b) there) at in

@@ -2,3 +2,4 @@ pub mod Tables
 pub mod Walks
 pub mod Cursors
 pub mod Examples
+pub mod Exports

@@ -15,11 +15,11 @@ use Rattle.pl_pcapng.specs.declared.kind.BlockKind.TheVariants.{SectionHeader, I
 use Rattle.pl_pcapng.specs.Kind.{IsLength, is_length, least_length}
 use Rattle.pl_pcapng.specs.Layout.{head_len, kind_at, total_at, end_at, trailer_at, major_at, enhanced_packet, simple_packet, least_end}
 use Rattle.pl_pcapng.specs.Position.{Position, order_of}
-use Rattle.pl_pcapng.specs.Standing.{Said, Found, ended, IsPacket, Says, IsHead, IsSized, Stands}
-use Rattle.pl_pcapng.specs.Standing.IsPacket.{OfNone, TooLong, TooWide, OfEthernet, OfAnother}
+use Rattle.pl_pcapng.specs.Standing.{Said, Found, ended, IsInterfacePacket, Says, IsHead, IsSized, Stands}
+use Rattle.pl_pcapng.specs.Standing.IsInterfacePacket.{OfNone, TooLong, TooWide, OfEthernet, OfAnother}
 use Rattle.pl_pcapng.specs.Standing.Says.{OtherVersion, Section, Interfaces, Enhanced, Simple, Unknown}
 use Rattle.pl_pcapng.specs.Standing.Stands.{NoHead, OtherMagic, OtherLength, Cut, OtherTrailer, Whole}
-use Rattle.pl_pcapng.specs.Reading.{packet_of, packet_by, packet_in, content_in, told_by, head_in, block_of, block_by, block_in}
+use Rattle.pl_pcapng.specs.Reading.{packet_of, packet_by, packet_in, content_in, given_by, head_in, block_of, block_by, block_in}
 
 -- Packets.
 
@@ -53,7 +53,7 @@ module _ (interfaces : List Interface) (n : ℕ) (captured : Interface → Captu
       packet_in interfaces n captured at end ≡ packet_by o captured at end
   packet_in-some o is = ap (λ (found : Option Interface). packet_by found captured at end) is
 
-  packet_in-row : (said : Said) → IsPacket interfaces n captured at end said →
+  packet_in-row : (said : Said) → IsInterfacePacket interfaces n captured at end said →
       packet_in interfaces n captured at end ≡ said
   packet_in-row said (OfNone none) = packet_in-some None none
   packet_in-row said (TooLong i is long) =
@@ -66,7 +66,7 @@ module _ (interfaces : List Interface) (n : ℕ) (captured : Interface → Captu
       packet_in-some (Some i) is ∙ packet_of-another i (captured i) at end limit fits link
 
   abbrev Row : Said → Type 0
-  Row said = IsPacket interfaces n captured at end said
+  Row said = IsInterfacePacket interfaces n captured at end said
 
   row_by : (o : Option Interface) → slice_get interfaces n ≡ o → Row (packet_by o captured at end)
   row_by None is = OfNone is
@@ -148,12 +148,12 @@ head_in-short file p short = rw (lt-ltb (length file) (p.at + head_len file p.at
 
 head_in-told : (file : List ℕ) (p : Position) (o : Option Endianness) →
     p.at + head_len file p.at ≤ length file → order_of file p ≡ o →
-    head_in file p ≡ told_by p.at o
+    head_in file p ≡ given_by p.at o
 unfolding head_in
 head_in-told file p o room is =
-    ap (λ (b : Bool). cond b no_head (told_by p.at (order_of file p)))
+    ap (λ (b : Bool). cond b no_head (given_by p.at (order_of file p)))
     (le-ltb (length file) (p.at + head_len file p.at) room)
-    ∙ ap (told_by p.at) is
+    ∙ ap (given_by p.at) is
 
 block_in-head : (file : List ℕ) (p : Position) (h : Head) → head_in file p ≡ h →
     block_in file p ≡ block_by file p h

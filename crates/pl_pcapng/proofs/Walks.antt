@@ -14,18 +14,18 @@ use Rattle.pl_pcapng.specs.declared.kind.BlockKind.TheVariants.{SectionHeader, I
 use Rattle.pl_pcapng.specs.Kind.{least_length, IsLength}
 use Rattle.pl_pcapng.specs.Layout.{begins_section, head_len, kind_at, total_at, end_at, padded}
 use Rattle.pl_pcapng.specs.Position.{Position, first, moved, behind, record_of}
-use Rattle.pl_pcapng.specs.Standing.{Said, Found, ended, IsPacket, Says, Stands}
-use Rattle.pl_pcapng.specs.Standing.IsPacket.{OfNone, TooLong, TooWide, OfEthernet, OfAnother}
+use Rattle.pl_pcapng.specs.Standing.{Said, Found, ended, IsInterfacePacket, Says, Stands}
+use Rattle.pl_pcapng.specs.Standing.IsInterfacePacket.{OfNone, TooLong, TooWide, OfEthernet, OfAnother}
 use Rattle.pl_pcapng.specs.Standing.Says.{OtherVersion, Section, Interfaces, Enhanced, Simple, Unknown}
 use Rattle.pl_pcapng.specs.Standing.Stands.{NoHead, OtherMagic, OtherLength, Cut, OtherTrailer, Whole}
 use Rattle.pl_pcapng.specs.Reading.{block_in}
-use Rattle.pl_pcapng.specs.Sections.{AreBlocks, records_in, Begins, IsSections, IsRefused, Reading, with_first, read_on, reading_from, reading_of}
+use Rattle.pl_pcapng.specs.Sections.{AreBlocks, records_in, BeginsWithBlocks, IsSections, AreSectionsRefused, SectionsReading, with_first, read_on, reading_from, reading_of}
 use Rattle.pl_pcapng.proofs.Tables.{block_in-row, block_row}
 
-abbrev pub gives : List Captured → ℕ → Reading
+abbrev pub gives : List Captured → ℕ → SectionsReading
 gives records tail = Ok (records, tail)
 
-abbrev pub fails : BlockError → Reading
+abbrev pub fails : BlockError → SectionsReading
 fails e = Err e
 
 abbrev pub read_as : Option Block → Found
@@ -55,7 +55,7 @@ padded_least : (len : ℕ) → len ≤ padded len
 padded_least len = omega arith
 
 packet_within : (interfaces : List Interface) (n : ℕ) (captured : Interface → Captured) (at end : ℕ)
-    (said : Said) → IsPacket interfaces n captured at end said → IsWithinSaid end said
+    (said : Said) → IsInterfacePacket interfaces n captured at end said → IsWithinSaid end said
 packet_within interfaces n captured at end said (OfNone none) = tt
 packet_within interfaces n captured at end said (TooLong i is long) = tt
 packet_within interfaces n captured at end said (TooWide i is limit wide) = tt
@@ -226,7 +226,7 @@ walks_end (suc n) file from room =
 -- Files.
 
 pub reading_of-tail : (file : List ℕ) (records : List Captured) (end : Position) →
-    Begins file records end → Stands file end none →
+    BeginsWithBlocks file records end → Stands file end none →
     reading_of file ≡ gives records (length file - end.at)
 unfolding reading_of
 reading_of-tail file records end begins tail =
@@ -234,23 +234,23 @@ reading_of-tail file records end begins tail =
     ∙ ap (λ (rs : List Captured). gives rs (length file - end.at)) (sym begins.held)
 
 pub reading_of-fault : (file : List ℕ) (records : List Captured) (at : Position) (e : BlockError) →
-    Begins file records at → Stands file at (fault e) → reading_of file ≡ fails e
+    BeginsWithBlocks file records at → Stands file at (fault e) → reading_of file ≡ fails e
 unfolding reading_of
 reading_of-fault file records at e begins wrong =
     walk_to_fault (length file) file first begins.blocks at e (omega arith) begins.follow wrong
 
 abbrev IsEither : List ℕ → Type 0
 IsEither file =
-    ((records : List Captured) × (tail : ℕ) × IsSections file records tail) ⊎ ((e : BlockError) × IsRefused file e)
+    ((records : List Captured) × (tail : ℕ) × IsSections file records tail) ⊎ ((e : BlockError) × AreSectionsRefused file e)
 
 either_of : (file : List ℕ) → Ends file first → IsEither file
-unfolding IsSections IsRefused
+unfolding IsSections AreSectionsRefused
 either_of file (blocks, to, are, inl tail) =
-    let begins : Begins file (records_in blocks) to =
+    let begins : BeginsWithBlocks file (records_in blocks) to =
     record { blocks = blocks; follow = are; held = refl } in
     inl (records_in blocks, length file - to.at, (to, begins, tail, refl))
 either_of file (blocks, to, are, inr wrong) =
-    let begins : Begins file (records_in blocks) to =
+    let begins : BeginsWithBlocks file (records_in blocks) to =
     record { blocks = blocks; follow = are; held = refl } in
     inr (wrong.0, (records_in blocks, to, begins, wrong.1))
 
@@ -263,12 +263,12 @@ unfolding IsSections
 sections_reading file records tail (end, begins, rest, is) =
     reading_of-tail file records end begins rest ∙ ap (gives records) (sym is)
 
-refused_reading : (file : List ℕ) (e : BlockError) → IsRefused file e → reading_of file ≡ fails e
-unfolding IsRefused
+refused_reading : (file : List ℕ) (e : BlockError) → AreSectionsRefused file e → reading_of file ≡ fails e
+unfolding AreSectionsRefused
 refused_reading file e (records, at, begins, wrong) =
     reading_of-fault file records at e begins wrong
 
-abbrev read : List Captured × ℕ → Reading
+abbrev read : List Captured × ℕ → SectionsReading
 read both = Ok both
 
 read_same : (p q : List Captured × ℕ) → read p ≡ read q → p ≡ q
@@ -296,11 +296,11 @@ sections_from file records tail is (inr (e, other)) =
     gives_not_fails records tail e (sym is ∙ refused_reading file e other)
 
 refused_from : (file : List ℕ) (e : BlockError) → reading_of file ≡ fails e → IsEither file →
-    IsRefused file e
+    AreSectionsRefused file e
 refused_from file e is (inl (rs, t, sections)) =
     gives_not_fails rs t e (sym (sections_reading file rs t sections) ∙ is)
 refused_from file e is (inr (f, other)) =
-    subst (IsRefused file) (fails_same f e (sym (refused_reading file f other) ∙ is)) other
+    subst (AreSectionsRefused file) (fails_same f e (sym (refused_reading file f other) ∙ is)) other
 
 pub one_reading-sections : (file : List ℕ) (records : List Captured) (tail : ℕ) →
     IsSections file records tail ↔ (reading_of file ≡ gives records tail)
@@ -308,7 +308,7 @@ one_reading-sections file records tail =
     (sections_reading file records tail, λ is. sections_from file records tail is (either file))
 
 pub one_reading-refused : (file : List ℕ) (e : BlockError) →
-    IsRefused file e ↔ (reading_of file ≡ fails e)
+    AreSectionsRefused file e ↔ (reading_of file ≡ fails e)
 one_reading-refused file e = (refused_reading file e, λ is. refused_from file e is (either file))
 
 -- The records of a reading lie within the file.

@@ -8,7 +8,7 @@ use Rattle.pl_pcapng.specs.declared.sections.Sections.{Sections as Cursor}
 use Rattle.pl_pcapng.specs.Position.{Position, behind, record_of}
 use Rattle.pl_pcapng.specs.Standing.{Found, Stands}
 use Rattle.pl_pcapng.specs.Reading.{block_in}
-use Rattle.pl_pcapng.specs.Sections.{Begins}
+use Rattle.pl_pcapng.specs.Sections.{BeginsWithBlocks}
 
 abbrev pub position_of : Cursor → Position
 position_of cursor =
@@ -47,22 +47,22 @@ abbrev pub tail_of : List ℕ → Cursor → ℕ
 tail_of file cursor = length file - cursor.at
 
 -- the cursor stands behind blocks with these records, the first of the file
-abbrev pub HasRead : List ℕ → List Captured → Cursor → Type 0
-HasRead file records cursor = Begins file records (position_of cursor)
+abbrev pub HasReadBlocks : List ℕ → List Captured → Cursor → Type 0
+HasReadBlocks file records cursor = BeginsWithBlocks file records (position_of cursor)
 
 -- the cursor is one of this file
-abbrev pub IsCursorIn : List ℕ → Cursor → Type 0
-IsCursorIn file cursor = (records : List Captured) × HasRead file records cursor
+abbrev pub IsBlockCursorIn : List ℕ → Cursor → Type 0
+IsBlockCursorIn file cursor = (records : List Captured) × HasReadBlocks file records cursor
 
 -- From one position to another stand whole blocks without a record, so that nothing is lost by going there.
-pub record Goes (file : List ℕ) (old new : Position) : Type 0 where
-  pub read : (records : List Captured) → Begins file records old → Begins file records new
+pub record PassesBlocks (file : List ℕ) (old new : Position) : Type 0 where
+  pub read : (records : List Captured) → BeginsWithBlocks file records old → BeginsWithBlocks file records new
   pub same : sought file new ≡ sought file old
   pub further : old.at ≤ new.at
 
 -- What a call found and where that leaves the cursor: behind the next block with a record, or where no whole block stands.
-abbrev pub IsNext : List ℕ → Position → Result (Option Captured) BlockError → Position → Type 0
-IsNext file old (Ok (Some c)) new =
-    (mid : Position) × (b : Block) × Goes file old mid × Stands file mid (Ok (Some b)) × (record_of b.content ≡ Some c) × (new ≡ behind mid b)
-IsNext file old (Ok None) new = Goes file old new × Stands file new (Ok None)
-IsNext file old (Err e) new = Goes file old new × ((e ≡ Memory) ⊎ Stands file new (Err e))
+abbrev pub IsNextRecord : List ℕ → Position → Result (Option Captured) BlockError → Position → Type 0
+IsNextRecord file old (Ok (Some c)) new =
+    (mid : Position) × (b : Block) × PassesBlocks file old mid × Stands file mid (Ok (Some b)) × (record_of b.content ≡ Some c) × (new ≡ behind mid b)
+IsNextRecord file old (Ok None) new = PassesBlocks file old new × Stands file new (Ok None)
+IsNextRecord file old (Err e) new = PassesBlocks file old new × ((e ≡ Memory) ⊎ Stands file new (Err e))

@@ -40,13 +40,13 @@ content_in file p order SimplePacket =
 content_in file p order Other = Ok PassedOver
 
 -- the byte order of a head, none where there is no room for one
-abbrev pub told_by : ℕ → Option Endianness → Result (Option Endianness) BlockError
-told_by at None = Err (BadMagic at)
-told_by at (Some order) = Ok (Some order)
+abbrev pub given_by : ℕ → Option Endianness → Result (Option Endianness) BlockError
+given_by at None = Err (BadMagic at)
+given_by at (Some order) = Ok (Some order)
 
 unfoldable pub head_in : List ℕ → Position → Result (Option Endianness) BlockError
 head_in file p =
-    if nat_lt (length file) (p.at + head_len file p.at) then Ok None else told_by p.at (order_of file p)
+    if nat_lt (length file) (p.at + head_len file p.at) then Ok None else given_by p.at (order_of file p)
 
 unfoldable pub block_of : List ℕ → Position → Endianness → Found
 block_of file p order =

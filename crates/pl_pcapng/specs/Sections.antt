@@ -19,7 +19,7 @@ abbrev pub records_in : List Block → List Captured
 records_in blocks = flat_map (λ b. option_to_list (record_of b.content)) blocks
 
 -- the file begins with blocks that have these records, up to a position
-pub record Begins (file : List ℕ) (records : List Captured) (to : Position) : Type 0 where
+pub record BeginsWithBlocks (file : List ℕ) (records : List Captured) (to : Position) : Type 0 where
   pub blocks : List Block
   pub follow : AreBlocks file first blocks to
   pub held : records ≡ records_in blocks
@@ -27,31 +27,31 @@ pub record Begins (file : List ℕ) (records : List Captured) (to : Position) : 
 -- The file is a list of whole blocks with these records, and less than a whole block behind them: so many bytes of tail.
 unfoldable pub IsSections : List ℕ → List Captured → ℕ → Type 0
 IsSections file records tail =
-    (end : Position) × Begins file records end × Stands file end (Ok None) × (tail ≡ length file - end.at)
+    (end : Position) × BeginsWithBlocks file records end × Stands file end (Ok None) × (tail ≡ length file - end.at)
 
 -- Behind some whole blocks the file has one that is refused.
-unfoldable pub IsRefused : List ℕ → BlockError → Type 0
-IsRefused file e = (records : List Captured) × (at : Position) × Begins file records at × Stands file at (Err e)
+unfoldable pub AreSectionsRefused : List ℕ → BlockError → Type 0
+AreSectionsRefused file e = (records : List Captured) × (at : Position) × BeginsWithBlocks file records at × Stands file at (Err e)
 
 -- The same as a function: the records and the length of the tail, or the first refusal.
-abbrev pub Reading : Type 0
-Reading = Result (List Captured × ℕ) BlockError
+abbrev pub SectionsReading : Type 0
+SectionsReading = Result (List Captured × ℕ) BlockError
 
-abbrev pub with_first : Option Captured → Reading → Reading
+abbrev pub with_first : Option Captured → SectionsReading → SectionsReading
 with_first (Some c) (Ok read) = Ok (c ∷ read.0, read.1)
 with_first None (Ok read) = Ok read
 with_first found (Err e) = Err e
 
-abbrev pub read_on : Found → (Block → Reading) → ℕ → Reading
+abbrev pub read_on : Found → (Block → SectionsReading) → ℕ → SectionsReading
 read_on (Ok (Some b)) more tail = with_first (record_of b.content) (more b)
 read_on (Ok None) more tail = Ok ([], tail)
 read_on (Err e) more tail = Err e
 
 -- at most n blocks from a position on, where a file has fewer blocks than bytes
-unfoldable pub reading_from : ℕ → List ℕ → Position → Reading
+unfoldable pub reading_from : ℕ → List ℕ → Position → SectionsReading
 reading_from zero file p = Ok ([], length file - p.at)
 reading_from (suc n) file p =
     read_on (block_in file p) (λ b. reading_from n file (behind p b)) (length file - p.at)
 
-unfoldable pub reading_of : List ℕ → Reading
+unfoldable pub reading_of : List ℕ → SectionsReading
 reading_of file = reading_from (length file) file first

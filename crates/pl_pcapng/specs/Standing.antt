@@ -30,15 +30,15 @@ ended end (Err e) = Err e
 -- A packet of interface n, in a block that begins at an offset and ends at another; `captured` is its record as the interface has it. It is
 -- refused where the section has no such interface, where the captured length is above the limit, and where the padded bytes do not fit into
 -- the block, in this order; else it is a record where the interface is an Ethernet, and passed over where it is not.
-pub data IsPacket (interfaces : List Interface) (n : ℕ) (captured : Interface → Captured) (at end : ℕ) : Said → Type 0 where
-  OfNone : slice_get interfaces n ≡ None → IsPacket interfaces n captured at end (Err (BadInterface at))
-  TooLong : (i : Interface) → slice_get interfaces n ≡ Some i → 262144 < (captured i).len → IsPacket interfaces n captured at end (Err (BadRecord at))
+pub data IsInterfacePacket (interfaces : List Interface) (n : ℕ) (captured : Interface → Captured) (at end : ℕ) : Said → Type 0 where
+  OfNone : slice_get interfaces n ≡ None → IsInterfacePacket interfaces n captured at end (Err (BadInterface at))
+  TooLong : (i : Interface) → slice_get interfaces n ≡ Some i → 262144 < (captured i).len → IsInterfacePacket interfaces n captured at end (Err (BadRecord at))
   TooWide : (i : Interface) → slice_get interfaces n ≡ Some i → (captured i).len ≤ 262144 → end < least_end (captured i) →
-      IsPacket interfaces n captured at end (Err (BadBlock at))
+      IsInterfacePacket interfaces n captured at end (Err (BadBlock at))
   OfEthernet : (i : Interface) → slice_get interfaces n ≡ Some i → (captured i).len ≤ 262144 → least_end (captured i) ≤ end → i.link ≡ 1 →
-      IsPacket interfaces n captured at end (Ok (HasRecord (captured i)))
+      IsInterfacePacket interfaces n captured at end (Ok (HasRecord (captured i)))
   OfAnother : (i : Interface) → slice_get interfaces n ≡ Some i → (captured i).len ≤ 262144 → least_end (captured i) ≤ end → (i.link ≡ 1 → ⊥) →
-      IsPacket interfaces n captured at end (Ok PassedOver)
+      IsInterfacePacket interfaces n captured at end (Ok PassedOver)
 
 -- What a whole block of some kind says. A section of another version than 1 is refused; blocks of unknown types are passed over.
 pub data Says (file : List ℕ) (p : Position) (order : Endianness) : BlockKind → Said → Type 0 where
@@ -46,9 +46,9 @@ pub data Says (file : List ℕ) (p : Position) (order : Endianness) : BlockKind 
   Section : major_at file order p.at ≡ 1 → Says file p order SectionHeader (Ok (BeginsSection order))
   Interfaces : Says file p order InterfaceDescription (Ok (AddsInterface (interface_at file order p.at)))
   Enhanced : (said : Said) →
-      IsPacket p.interfaces (field file order (p.at + 8) 4) (λ i. enhanced_packet file order p.at) p.at (end_at file order p.at) said →
+      IsInterfacePacket p.interfaces (field file order (p.at + 8) 4) (λ i. enhanced_packet file order p.at) p.at (end_at file order p.at) said →
       Says file p order EnhancedPacket said
-  Simple : (said : Said) → IsPacket p.interfaces 0 (simple_packet file order p.at) p.at (end_at file order p.at) said →
+  Simple : (said : Said) → IsInterfacePacket p.interfaces 0 (simple_packet file order p.at) p.at (end_at file order p.at) said →
       Says file p order SimplePacket said
   Unknown : Says file p order Other (Ok PassedOver)
 
@@ -63,7 +63,7 @@ pub record IsSized (file : List ℕ) (p : Position) (order : Endianness) : Type 
   pub sized : IsLength (kind_at file order p.at) (total_at file order p.at)
 
 -- and all of it is there
-pub record IsWhole (file : List ℕ) (p : Position) (order : Endianness) : Type 0 where
+pub record IsWholeBlock (file : List ℕ) (p : Position) (order : Endianness) : Type 0 where
   pub sized : IsSized file p order
   pub whole : end_at file order p.at ≤ length file
 
@@ -74,7 +74,7 @@ pub data Stands (file : List ℕ) (p : Position) : Found → Type 0 where
   OtherLength : (order : Endianness) → IsHead file p order → (IsLength (kind_at file order p.at) (total_at file order p.at) → ⊥) →
       Stands file p (Err (BadBlock p.at))
   Cut : (order : Endianness) → IsSized file p order → length file < end_at file order p.at → Stands file p (Ok None)
-  OtherTrailer : (order : Endianness) → IsWhole file p order → (trailer_at file order p.at ≡ total_at file order p.at → ⊥) →
+  OtherTrailer : (order : Endianness) → IsWholeBlock file p order → (trailer_at file order p.at ≡ total_at file order p.at → ⊥) →
       Stands file p (Err (BadTrailer p.at))
-  Whole : (order : Endianness) (said : Said) → IsWhole file p order → trailer_at file order p.at ≡ total_at file order p.at →
+  Whole : (order : Endianness) (said : Said) → IsWholeBlock file p order → trailer_at file order p.at ≡ total_at file order p.at →
       Says file p order (kind_at file order p.at) said → Stands file p (ended (end_at file order p.at) said)

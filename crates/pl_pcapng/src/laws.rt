@@ -4,7 +4,7 @@ ghost use Rattle.pl_pcapng.specs.declared.error.BlockError.{BlockError};
 ghost use Rattle.pl_pcapng.specs.Position.{Position};
 ghost use Rattle.pl_pcapng.specs.Standing.{Found, Stands};
 ghost use Rattle.pl_pcapng.specs.Reading.{block_in};
-ghost use Rattle.pl_pcapng.specs.Sections.{IsSections, IsRefused, reading_of};
+ghost use Rattle.pl_pcapng.specs.Sections.{IsSections, AreSectionsRefused, reading_of};
 
 /// The law that exactly one row of the table holds at a position of a file, and that reading there
 /// tells which: a whole block with what it says, less than a whole block, or the first of the
@@ -20,7 +20,7 @@ pub fn one_reading()
     ensures sections { (file : List ℕ) (records : List Captured) (tail : ℕ) →
         IsSections file records tail ↔ (reading_of file ≡ Ok (records, tail)) }
     ensures refused { (file : List ℕ) (e : BlockError) →
-        IsRefused file e ↔ (reading_of file ≡ Err e) }
+        AreSectionsRefused file e ↔ (reading_of file ≡ Err e) }
 {}
 
 /// The law that the records of a file lie within it.

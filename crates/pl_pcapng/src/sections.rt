@@ -1,7 +1,7 @@
 ghost use Rattle.std.specs.Prelude.{◌≡◌, ℕ, ◌+◌, ◌<◌, ◌≤◌, ◌⊎◌, List, [], ◌∷◌, ◌++◌, length, slice_get, IsTrue, IfOk, IfErr, IfSome, IfNone, OnOk, Ok, Err};
 ghost use Rattle.pl_capture.specs.declared.records.Captured.{Captured};
 ghost use Rattle.pl_pcapng.specs.declared.error.BlockError.TheVariants.{Memory as memory};
-ghost use Rattle.pl_pcapng.specs.Cursor.{position_of, sought, tail_of, HasRead, IsCursorIn, IsNext, IsSought};
+ghost use Rattle.pl_pcapng.specs.Cursor.{position_of, sought, tail_of, HasReadBlocks, IsBlockCursorIn, IsNextRecord, IsSought};
 ghost use Rattle.pl_pcapng.specs.Kind.{least_length};
 ghost use Rattle.pl_pcapng.specs.Layout.{end_at, is_pcapng};
 ghost use Rattle.pl_pcapng.specs.Position.{behind, record_of};
@@ -40,7 +40,7 @@ impl Sections {
     /// The cursor before the first block.
     pub fn begin(alloc: Global, file: &[u8]) -> Result<Sections, Memory>
         requires { IsTrue (is_pcapng file.now) }
-        ensures { IfOk result (λ cursor. HasRead file.now [] cursor) }
+        ensures { IfOk result (λ cursor. HasReadBlocks file.now [] cursor) }
     {
         prove!(is_pcapng(file));
         Ok(Sections {
@@ -55,20 +55,20 @@ impl Sections {
     /// refused before one; the cursor then stands behind the last whole block, so the next call
     /// answers the same again. After want of memory the next call goes on where this one ended.
     pub fn next(&mut self, file: &[u8]) -> Result<Option<Captured>, BlockError>
-        requires { IsCursorIn file.now self.old }
+        requires { IsBlockCursorIn file.now self.old }
         ensures exact { IsSought file.now (position_of self.old) result (position_of self.new) }
-        ensures same_file { IsCursorIn file.now self.new }
+        ensures same_file { IsBlockCursorIn file.now self.new }
 
         // The records that were read so far, and this one, are the first of the file.
-        ensures found { (records : List Captured) → HasRead file.now records self.old →
+        ensures found { (records : List Captured) → HasReadBlocks file.now records self.old →
             IfOk result (λ found.
-            IfSome found (λ c. HasRead file.now (records ++ c ∷ []) self.new)) }
+            IfSome found (λ c. HasReadBlocks file.now (records ++ c ∷ []) self.new)) }
 
         // At the end they are all of it, and the bytes behind the last whole block are its tail.
-        ensures ended { (records : List Captured) → HasRead file.now records self.old →
+        ensures ended { (records : List Captured) → HasReadBlocks file.now records self.old →
             IfOk result (λ found.
             IfNone found (reading_of file.now ≡ Ok (records, tail_of file.now self.new))) }
-        ensures refused { (records : List Captured) → HasRead file.now records self.old →
+        ensures refused { (records : List Captured) → HasReadBlocks file.now records self.old →
             IfErr result (λ e. (e ≡ memory) ⊎ (reading_of file.now ≡ Err e)) }
 
         // Where no record is given the next call seeks what this one sought.
@@ -86,15 +86,15 @@ impl Sections {
 
     /// The number of bytes behind the last whole block that was passed.
     pub fn tail(&self, file: &[u8]) -> u64
-        requires { IsCursorIn file.now self.now }
+        requires { IsBlockCursorIn file.now self.now }
         ensures { result ≡ tail_of file.now self.now }
     {
         self.room(file) as u64
     }
 
     fn advance(&mut self, file: &[u8]) -> Result<Option<Captured>, BlockError>
-        requires { IsCursorIn file.now self.old }
-        ensures { IsNext file.now (position_of self.old) result (position_of self.new) }
+        requires { IsBlockCursorIn file.now self.old }
+        ensures { IsNextRecord file.now (position_of self.old) result (position_of self.new) }
     {
         while let Some(block) = self.block(file)? {
             if let Some(captured) = self.pass(block)? {

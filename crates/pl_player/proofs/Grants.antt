@@ -4,13 +4,13 @@ use Rattle.std.specs.List.{list_any, reduce}
 use Rattle.std.proofs.lemmas.Bool.{and_from, and_parts, false≢true}
 use Rattle.pl_pmac.specs.declared.pmac.Pmac.{Pmac}
 use Rattle.pl_layouts.specs.Equality.{same_pmac}
-use Rattle.pl_layouts.proofs.Sameness.{pmac_is, pmac_itself}
+use Rattle.pl_layouts.proofs.Exports.{pmac_is, pmac_itself}
 use Rattle.pl_wiring.specs.declared.host.HostNo.{HostNo}
 use Rattle.pl_wiring.specs.declared.label.SwitchNo.{SwitchNo}
 use Rattle.pl_journal.specs.declared.entry.Entry.{Entry}
 use Rattle.pl_journal.specs.declared.entry.Entry.TheVariants.{Granted, Registered}
-use Rattle.pl_logic.proofs.Among.{Contains-of_among, IsAmong, among_filter_map, among_filter_mapped, among_of_Contains, any_among, member_passes}
-use Rattle.pl_lines.specs.Expecting.{IsGrantedTo, IsNewest}
+use Rattle.pl_node.proofs.Exports.{among_filter_map, among_filter_mapped, among_of_Contains, any_among, Contains-of_among, IsAmong, member_passes}
+use Rattle.pl_script_rule.specs.Expecting.{WasGrantedTo, IsNewest}
 use Rattle.pl_player.specs.Newest.{granted_to, grants_of, is_one_of, is_registered_by, number_in}
 use Rattle.pl_player.proofs.Largest.{is_largest, none_largest}
 
@@ -44,14 +44,14 @@ grant_is h pmac edge port = by (h.0 == h.0) (eq-eqb h.0 h.0 refl)
     by : (b : Bool) → b ≡ true → (if b then Some pmac else None) ≡ Some pmac
     by b is = rw is refl
 
-granted_of_one : (journal : List Entry) (h : HostNo) (pmac : Pmac) → is_one_of (grants_of journal h) pmac ≡ true → IsGrantedTo journal h pmac
+granted_of_one : (journal : List Entry) (h : HostNo) (pmac : Pmac) → is_one_of (grants_of journal h) pmac ≡ true → WasGrantedTo journal h pmac
 unfolding IsGrant
 granted_of_one journal h pmac is =
     let one = among_filter_map (granted_to h) pmac journal (among_of_one (grants_of journal h) pmac is) in
     let grant = is_grant h pmac one.0 one.2 in
     (grant.0, grant.1, Contains-of_among (Granted pmac h grant.0 grant.1) journal (subst (λ (e : Entry). IsAmong e journal) grant.2 one.1))
 
-one_of_granted : (journal : List Entry) (h : HostNo) (pmac : Pmac) → IsGrantedTo journal h pmac → is_one_of (grants_of journal h) pmac ≡ true
+one_of_granted : (journal : List Entry) (h : HostNo) (pmac : Pmac) → WasGrantedTo journal h pmac → is_one_of (grants_of journal h) pmac ≡ true
 one_of_granted journal h pmac granted =
     one_of_among (grants_of journal h) pmac
     (among_filter_mapped (granted_to h) pmac (Granted pmac h granted.0 granted.1) journal
@@ -78,7 +78,7 @@ numbers journal h = filter_map (number_in (grants_of journal h)) journal
 
 module _ (journal : List Entry) (h : HostNo) where
   -- the number of a registered and granted address is among the numbers
-  among_numbers : (pmac : Pmac) (number : ℕ) → Contains journal (Registered pmac number) → IsGrantedTo journal h pmac → IsAmong number (numbers journal h)
+  among_numbers : (pmac : Pmac) (number : ℕ) → Contains journal (Registered pmac number) → WasGrantedTo journal h pmac → IsAmong number (numbers journal h)
   unfolding numbers
   among_numbers pmac number registered granted =
       among_filter_mapped (number_in (grants_of journal h)) number (Registered pmac number) journal

@@ -2,7 +2,7 @@
 use Rattle.std.proofs.Common.{◌≡◌, ◌≤◌, ◌⊎◌, ℕ, max, List, [], ◌∷◌, Some, None, fold, refl, sym, ◌∙◌, subst, inl, inr, ⊎_elim, arith}
 use Rattle.std.specs.List.{reduce}
 use Rattle.std.proofs.lemmas.Bool.{cases_lt}
-use Rattle.pl_logic.proofs.Among.{IsAmong}
+use Rattle.pl_node.proofs.Exports.{IsAmong}
 
 -- what is among a list is at most the largest, and the largest is the first or among the others
 record IsTop (first : ℕ) (xs : List ℕ) (top : ℕ) : Type 0 where

@@ -1,15 +1,15 @@
 -- Lines that are played one after the other.
 use Rattle.std.proofs.Common.{◌≡◌, ℕ, List, [], ◌∷◌, Option, Some, None, get_or, refl, subst}
-use Rattle.pl_logic.specs.HostInputs.{HostRule}
-use Rattle.pl_logic.specs.ManagerDuties.{ManagerRule}
-use Rattle.pl_logic.specs.SwitchInputs.{SwitchRule}
+use Rattle.pl_node.specs.HostInputs.{HostRule}
+use Rattle.pl_node.specs.ManagerDuties.{ManagerRule}
+use Rattle.pl_node.specs.SwitchInputs.{SwitchRule}
 use Rattle.pl_script.specs.declared.command.Command.TheVariants.{Start}
 use Rattle.pl_script.specs.declared.command.Who.TheVariants.{One}
 use Rattle.pl_script.specs.declared.script.ScriptLine.{ScriptLine}
 use Rattle.pl_inputs.specs.Records.{Recorded}
-use Rattle.pl_lines.specs.declared.stop.Stop.{Stop}
-use Rattle.pl_lines.specs.Lines.{DoesLine, DoesLines}
-use Rattle.pl_lines.specs.Scenes.{Scene}
+use Rattle.pl_script_rule.specs.declared.stop.Stop.{Stop}
+use Rattle.pl_script_rule.specs.Lines.{DoesLine, DoesLines}
+use Rattle.pl_script_rule.specs.Scenes.{Scene}
 
 -- what is done to a scene, and where and why it was stopped, if it was
 abbrev pub Playing : Type 1

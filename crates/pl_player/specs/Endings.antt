@@ -1,7 +1,7 @@
 -- How a call ended that plays lines.
 use Rattle.std.specs.Prelude.{ℕ, Option, None, Some, Result, MatchResult}
-use Rattle.pl_lines.specs.declared.stop.Stop.{Stop}
-use Rattle.pl_lines.specs.Scenes.{UnlessWanting}
+use Rattle.pl_script_rule.specs.declared.stop.Stop.{Stop}
+use Rattle.pl_script_rule.specs.Scenes.{UnlessWanting}
 use Rattle.pl_player.specs.declared.player.Stopped.{Stopped}
 
 abbrev pub EndsLines : {T : Type 0} → Result T Stopped → (Option (ℕ × Stop) → Type 0) → Type 0

@@ -1,7 +1,7 @@
 ghost use Rattle.std.specs.Prelude.{◌≡◌, ◌↔◌, ◌&&◌, IfOk, IsTrue, filter_map, find, max, option_map, reverse};
 ghost use Rattle.std.specs.List.{list_any, reduce};
 ghost use Rattle.pl_layouts.specs.Equality.{same_pmac};
-ghost use Rattle.pl_lines.specs.Expecting.{IsNewest, arrivals, ended_settled, endings, is_arrival_at, is_end_for, is_outcome, is_settled};
+ghost use Rattle.pl_script_rule.specs.Expecting.{IsNewest, arrivals, ended_settled, endings, is_arrival_at, is_end_for, is_outcome, is_settled};
 ghost use Rattle.pl_player.specs.Newest.{granted_to, grants_of, is_one_of, is_registered_by, number_in};
 
 use pl_frame::Memory;

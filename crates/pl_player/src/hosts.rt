@@ -1,12 +1,11 @@
 ghost use Rattle.std.specs.Prelude.{◌≡◌, map};
 ghost use Rattle.pl_world.specs.declared.event.Event.TheVariants as event;
-ghost use Rattle.pl_world.specs.Flying.{IsCounted};
-ghost use Rattle.pl_world.specs.Hearing.{IsWithinHearing};
-ghost use Rattle.pl_fabric.specs.Courses.{EndsAs, MakesAll};
-ghost use Rattle.pl_lines.specs.Lines.{hosts_meant};
+ghost use Rattle.pl_world.specs.Ready.{CanStep};
+ghost use Rattle.pl_fabric.specs.Executions.{EndsAs, MakesAll};
+ghost use Rattle.pl_script_rule.specs.Lines.{hosts_meant};
 
 use pl_fabric::make;
-use pl_logic::{HostLogic, ManagerLogic, SwitchLogic};
+use pl_node::{HostLogic, ManagerLogic, SwitchLogic};
 use pl_schedule::World;
 use pl_script::Who;
 use pl_wiring::HostNo;
@@ -16,11 +15,9 @@ use pl_world::{Event, StepError};
 pub(crate) fn start_all<S: SwitchLogic, M: ManagerLogic, H: HostLogic>(
     world: &mut World<S, M, H>,
 ) -> Result<(), StepError>
-    requires counted { IsCounted world.old }
-    requires hearing { IsWithinHearing world.old }
+    requires orderly { CanStep world.old }
     ensures made { EndsAs result (λ end. MakesAll S.rule M.rule H.rule (map event.Start (hosts_meant world.old.plan Who.All)) world.old end world.new) }
-    ensures counted { EndsAs result (λ _. IsCounted world.new) }
-    ensures hearing { EndsAs result (λ _. IsWithinHearing world.new) }
+    ensures orderly { EndsAs result (λ _. CanStep world.new) }
 {
     let many = world.wiring().host_count();
     for h in 0..many {
@@ -33,11 +30,9 @@ pub(crate) fn start_all<S: SwitchLogic, M: ManagerLogic, H: HostLogic>(
 pub(crate) fn retry_all<S: SwitchLogic, M: ManagerLogic, H: HostLogic>(
     world: &mut World<S, M, H>,
 ) -> Result<(), StepError>
-    requires counted { IsCounted world.old }
-    requires hearing { IsWithinHearing world.old }
+    requires orderly { CanStep world.old }
     ensures made { EndsAs result (λ end. MakesAll S.rule M.rule H.rule (map event.Retry (hosts_meant world.old.plan Who.All)) world.old end world.new) }
-    ensures counted { EndsAs result (λ _. IsCounted world.new) }
-    ensures hearing { EndsAs result (λ _. IsWithinHearing world.new) }
+    ensures orderly { EndsAs result (λ _. CanStep world.new) }
 {
     let many = world.wiring().host_count();
     for h in 0..many {

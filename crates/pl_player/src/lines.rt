@@ -1,10 +1,9 @@
 ghost use Rattle.std.specs.Prelude.{◌≡◌, IsTrue, MatchResult, OnOk, false, true};
 ghost use Rattle.pl_inputs.specs.Records.{records_of};
-ghost use Rattle.pl_world.specs.Flying.{IsCounted};
-ghost use Rattle.pl_world.specs.Hearing.{IsWithinHearing};
-ghost use Rattle.pl_lines.specs.Expecting.{IsNewest, arrivals, ended_settled, endings};
-ghost use Rattle.pl_lines.specs.Lines.{Does, DoesLine, DoesLines, Expects};
-ghost use Rattle.pl_lines.specs.Scenes.{Ends, begun};
+ghost use Rattle.pl_world.specs.Ready.{CanStep};
+ghost use Rattle.pl_script_rule.specs.Expecting.{IsNewest, arrivals, ended_settled, endings};
+ghost use Rattle.pl_script_rule.specs.Lines.{Does, DoesLine, DoesLines, Expects};
+ghost use Rattle.pl_script_rule.specs.Scenes.{Ends, begun};
 ghost use Rattle.pl_player.specs.Endings.{EndsLines};
 
 use crate::expecting::{arrivals, ended_settled, endings, is_newest};
@@ -12,10 +11,10 @@ use crate::player::{Player, Stopped};
 use pl_frame::Memory;
 use pl_inputs::Capture;
 use pl_journal::{Cause, Entry};
-use pl_lines::Stop;
-use pl_logic::{HostLogic, ManagerLogic, SwitchLogic};
+use pl_node::{HostLogic, ManagerLogic, SwitchLogic};
 use pl_pmac::Pmac;
 use pl_script::{Command, ScriptLine};
+use pl_script_rule::Stop;
 use pl_wiring::HostNo;
 use pl_world::Event;
 
@@ -58,11 +57,9 @@ impl<S: SwitchLogic, M: ManagerLogic, H: HostLogic> Player<S, M, H> {
 
     // What a command asks for.
     fn act(&mut self, captures: &[Capture], command: Command) -> Result<(), Stop>
-        requires counted { IsCounted self.old.world }
-        requires hearing { IsWithinHearing self.old.world }
+        requires orderly { CanStep self.old.world }
         ensures does { Ends result (λ end. Does S.rule M.rule H.rule (records_of captures.now) command self.old end self.new) }
-        ensures counted { Ends result (λ _. IsCounted self.new.world) }
-        ensures hearing { Ends result (λ _. IsWithinHearing self.new.world) }
+        ensures orderly { Ends result (λ _. CanStep self.new.world) }
     {
         match command {
             Command::Start(who) => self.start(who),
@@ -91,19 +88,16 @@ impl<S: SwitchLogic, M: ManagerLogic, H: HostLogic> Player<S, M, H> {
     // The journal says that a line begins.
     fn begin_line(&mut self, number: u32) -> Result<(), Memory>
         ensures begun { OnOk result (self.new ≡ begun self.old number) }
-        ensures counted { OnOk result (IsCounted self.old.world → IsCounted self.new.world) }
-        ensures hearing { OnOk result (IsWithinHearing self.old.world → IsWithinHearing self.new.world) }
+        ensures orderly { OnOk result (CanStep self.old.world → CanStep self.new.world) }
     {
         self.world.mark(Entry::Line(number))
     }
 
     // A line begins, and its command is done.
     fn play_line(&mut self, captures: &[Capture], line: &ScriptLine) -> Result<(), Stop>
-        requires counted { IsCounted self.old.world }
-        requires hearing { IsWithinHearing self.old.world }
+        requires orderly { CanStep self.old.world }
         ensures does { Ends result (λ end. DoesLine S.rule M.rule H.rule (records_of captures.now) line.now self.old end self.new) }
-        ensures counted { Ends result (λ _. IsCounted self.new.world) }
-        ensures hearing { Ends result (λ _. IsWithinHearing self.new.world) }
+        ensures orderly { Ends result (λ _. CanStep self.new.world) }
     {
         self.begin_line(line.number)?;
         self.act(captures, line.command)
@@ -112,11 +106,9 @@ impl<S: SwitchLogic, M: ManagerLogic, H: HostLogic> Player<S, M, H> {
     /// Plays lines over the hosts' captures, which stand in the order of the hosts, up to the first line
     /// that is stopped. After want of memory the player is not used again.
     pub fn play(&mut self, captures: &[Capture], lines: &[ScriptLine]) -> Result<(), Stopped>
-        requires counted { IsCounted self.old.world }
-        requires hearing { IsWithinHearing self.old.world }
+        requires orderly { CanStep self.old.world }
         ensures does { EndsLines result (λ end. DoesLines S.rule M.rule H.rule (records_of captures.now) lines.now self.old end self.new) }
-        ensures counted { EndsLines result (λ _. IsCounted self.new.world) }
-        ensures hearing { EndsLines result (λ _. IsWithinHearing self.new.world) }
+        ensures orderly { EndsLines result (λ _. CanStep self.new.world) }
     {
         for line in lines {
             if let Err(stop) = self.play_line(captures, line) {

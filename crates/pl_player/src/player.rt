@@ -1,19 +1,18 @@
 ghost use Rattle.std.specs.Prelude.{◌≡◌, ◌≤◌, IfOk, slice_get};
-ghost use Rattle.pl_lines.specs.Scenes.{first_scene};
-ghost use Rattle.pl_world.specs.Flying.{IsCounted};
-ghost use Rattle.pl_world.specs.Hearing.{IsWithinHearing};
+ghost use Rattle.pl_script_rule.specs.Scenes.{first_scene};
+ghost use Rattle.pl_world.specs.Ready.{CanStep};
 
 use pl_frame::Memory;
 use pl_journal::Entry;
-use pl_lines::Stop;
-use pl_logic::{HostLogic, ManagerLogic, SwitchLogic};
+use pl_node::{HostLogic, ManagerLogic, SwitchLogic};
 use pl_schedule::World;
+use pl_script_rule::Stop;
 use pl_wiring::{HostNo, Wiring};
-use pl_world::{Limits, Stand};
+use pl_world::{AttachmentPoint, Limits};
 use std::alloc::Global;
 use std::marker::Model;
 
-/// A fabric on which a script is played. Contracts see it as a `Scene` (`specs/Scenes.antt` of pl_lines).
+/// A fabric on which a script is played. Contracts see it as a `Scene` (`specs/Scenes.antt` of pl_script_rule).
 #[derive(Drop)]
 pub struct Player<S: SwitchLogic, M: ManagerLogic, H: HostLogic> {
     pub(crate) alloc: Global,
@@ -23,7 +22,7 @@ pub struct Player<S: SwitchLogic, M: ManagerLogic, H: HostLogic> {
 }
 
 impl<S: SwitchLogic, M: ManagerLogic, H: HostLogic> Model for Player<S, M, H> {
-    ghost use Rattle.pl_lines.specs.Scenes.{Scene};
+    ghost use Rattle.pl_script_rule.specs.Scenes.{Scene};
 
     ghost Value = { Scene };
 
@@ -42,8 +41,7 @@ impl<S: SwitchLogic, M: ManagerLogic, H: HostLogic> Player<S, M, H> {
     pub fn begin(alloc: Global, wiring: Wiring, limits: Limits) -> Result<Player<S, M, H>, Memory>
         requires { limits.steps ≤ 4000000000 }
         ensures scene { IfOk result (λ p. p ≡ first_scene wiring limits) }
-        ensures counted { IfOk result (λ p. IsCounted p.world) }
-        ensures hearing { IfOk result (λ p. IsWithinHearing p.world) }
+        ensures orderly { IfOk result (λ p. CanStep p.world) }
     {
         let asked = vec![in alloc; 0; wiring.hosts().len()]?;
         let world = World::boot(alloc, wiring, limits)?;
@@ -76,8 +74,8 @@ impl<S: SwitchLogic, M: ManagerLogic, H: HostLogic> Player<S, M, H> {
         self.world.wiring()
     }
 
-    pub(crate) fn place_of_host(&self, h: HostNo) -> Option<Stand>
-        ensures { result ≡ slice_get self.now.world.stands h.0 }
+    pub(crate) fn place_of_host(&self, h: HostNo) -> Option<AttachmentPoint>
+        ensures { result ≡ slice_get self.now.world.attachments h.0 }
     {
         self.world.place_of_host(h)
     }

@@ -1,8 +1,8 @@
 ghost use Rattle.std.specs.Prelude.{◌≡◌};
-ghost use Rattle.pl_lines.specs.Queues.{between_switches, from_host, port_of, port_towards, queue_between, to_host};
+ghost use Rattle.pl_script_rule.specs.Queues.{between_switches, from_host, port_of, port_towards, queue_between, to_host};
 
 use crate::player::Player;
-use pl_logic::{HostLogic, ManagerLogic, SwitchLogic};
+use pl_node::{HostLogic, ManagerLogic, SwitchLogic};
 use pl_script::End;
 use pl_wiring::{HostNo, Link, SwitchNo};
 use pl_world::QueueName;
@@ -55,8 +55,8 @@ impl<S: SwitchLogic, M: ManagerLogic, H: HostLogic> Player<S, M, H> {
     fn from_host(&self, h: HostNo, s: SwitchNo) -> Option<QueueName>
         ensures { result ≡ from_host self.now.world h s }
     {
-        let stand = self.place_of_host(h)?;
-        if stand.edge.0 == s.0 {
+        let attachment = self.place_of_host(h)?;
+        if attachment.edge.0 == s.0 {
             Some(QueueName::FromHost(h))
         } else {
             None
@@ -67,9 +67,9 @@ impl<S: SwitchLogic, M: ManagerLogic, H: HostLogic> Player<S, M, H> {
     fn to_host(&self, s: SwitchNo, h: HostNo) -> Option<QueueName>
         ensures { result ≡ to_host self.now.world s h }
     {
-        let stand = self.place_of_host(h)?;
-        if stand.edge.0 == s.0 {
-            Some(QueueName::Port(s, stand.port))
+        let attachment = self.place_of_host(h)?;
+        if attachment.edge.0 == s.0 {
+            Some(QueueName::Port(s, attachment.port))
         } else {
             None
         }

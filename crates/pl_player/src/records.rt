@@ -1,18 +1,17 @@
 ghost use Rattle.std.specs.Prelude.{◌≡◌, IfOk, OnOk};
 ghost use Rattle.pl_inputs.specs.Records.{records_of};
 ghost use Rattle.pl_world.specs.declared.event.Event.TheVariants as event;
-ghost use Rattle.pl_world.specs.Flying.{IsCounted};
-ghost use Rattle.pl_world.specs.Hearing.{IsWithinHearing};
-ghost use Rattle.pl_fabric.specs.Courses.{Makes};
-ghost use Rattle.pl_lines.specs.Lines.{Asks, AsksNext, left_of};
-ghost use Rattle.pl_lines.specs.Scenes.{Ends, OfWorld, Often, asked_more, asked_of};
+ghost use Rattle.pl_world.specs.Ready.{CanStep};
+ghost use Rattle.pl_fabric.specs.Executions.{Makes};
+ghost use Rattle.pl_script_rule.specs.Lines.{Asks, AsksNext, left_of};
+ghost use Rattle.pl_script_rule.specs.Scenes.{Ends, OfWorld, Often, asked_more, asked_of};
 
 use crate::player::Player;
 use pl_frame::{Frame, Memory};
 use pl_inputs::{Capture, one_more, record_at, record_count};
-use pl_lines::Stop;
-use pl_logic::{HostLogic, ManagerLogic, SwitchLogic};
+use pl_node::{HostLogic, ManagerLogic, SwitchLogic};
 use pl_script::Count;
+use pl_script_rule::Stop;
 use pl_wiring::HostNo;
 use pl_world::{Event, StepError};
 
@@ -50,11 +49,9 @@ impl<S: SwitchLogic, M: ManagerLogic, H: HostLogic> Player<S, M, H> {
 
     // A host is asked for one more record, which is this, and plays it.
     fn play_next(&mut self, h: HostNo, frame: &[u8], original: u32, raw: bool) -> Result<(), Stop>
-        requires counted { IsCounted self.old.world }
-        requires hearing { IsWithinHearing self.old.world }
+        requires orderly { CanStep self.old.world }
         ensures does { Ends result (λ end. OfWorld (Makes S.rule M.rule H.rule (event.Play h frame.now original raw)) (asked_more self.old h.0) end self.new) }
-        ensures counted { Ends result (λ _. IsCounted self.new.world) }
-        ensures hearing { Ends result (λ _. IsWithinHearing self.new.world) }
+        ensures orderly { Ends result (λ _. CanStep self.new.world) }
     {
         let play = self.play_of(h, frame, original, raw)?;
         self.ask_more(h)?;
@@ -63,11 +60,9 @@ impl<S: SwitchLogic, M: ManagerLogic, H: HostLogic> Player<S, M, H> {
 
     // A host is asked for its next record.
     fn ask_next(&mut self, captures: &[Capture], h: HostNo, raw: bool) -> Result<(), Stop>
-        requires counted { IsCounted self.old.world }
-        requires hearing { IsWithinHearing self.old.world }
+        requires orderly { CanStep self.old.world }
         ensures does { Ends result (λ end. AsksNext S.rule M.rule H.rule (records_of captures.now) h raw self.old end self.new) }
-        ensures counted { Ends result (λ _. IsCounted self.new.world) }
-        ensures hearing { Ends result (λ _. IsWithinHearing self.new.world) }
+        ensures orderly { Ends result (λ _. CanStep self.new.world) }
     {
         match record_at(captures, h, self.asked_of(h)) {
             None => Err(Stop::Refused(StepError::NothingThere)),
@@ -83,11 +78,9 @@ impl<S: SwitchLogic, M: ManagerLogic, H: HostLogic> Player<S, M, H> {
         raw: bool,
         times: u64,
     ) -> Result<(), Stop>
-        requires counted { IsCounted self.old.world }
-        requires hearing { IsWithinHearing self.old.world }
+        requires orderly { CanStep self.old.world }
         ensures does { Ends result (λ end. Often times (AsksNext S.rule M.rule H.rule (records_of captures.now) h raw) self.old end self.new) }
-        ensures counted { Ends result (λ _. IsCounted self.new.world) }
-        ensures hearing { Ends result (λ _. IsWithinHearing self.new.world) }
+        ensures orderly { Ends result (λ _. CanStep self.new.world) }
     {
         for _ in 0..times {
             self.ask_next(captures, h, raw)?;
@@ -110,11 +103,9 @@ impl<S: SwitchLogic, M: ManagerLogic, H: HostLogic> Player<S, M, H> {
         raw: bool,
         count: Count,
     ) -> Result<(), Stop>
-        requires counted { IsCounted self.old.world }
-        requires hearing { IsWithinHearing self.old.world }
+        requires orderly { CanStep self.old.world }
         ensures does { Ends result (λ end. Asks S.rule M.rule H.rule (records_of captures.now) h raw count self.old end self.new) }
-        ensures counted { Ends result (λ _. IsCounted self.new.world) }
-        ensures hearing { Ends result (λ _. IsWithinHearing self.new.world) }
+        ensures orderly { Ends result (λ _. CanStep self.new.world) }
     {
         let times = match count {
             Count::N(times) => u64::from(times),

@@ -1,21 +1,20 @@
 ghost use Rattle.std.specs.Prelude.{◌≡◌, [], ◌∷◌, map, None};
 ghost use Rattle.pl_world.specs.declared.event.Event.TheVariants as event;
-ghost use Rattle.pl_world.specs.Flying.{IsCounted};
-ghost use Rattle.pl_world.specs.Hearing.{IsWithinHearing};
-ghost use Rattle.pl_fabric.specs.Courses.{Times};
+ghost use Rattle.pl_world.specs.Ready.{CanStep};
+ghost use Rattle.pl_fabric.specs.Executions.{Times};
 ghost use Rattle.pl_fabric.specs.Draws.{Draws};
 ghost use Rattle.pl_fabric.specs.Rounds.{Sweeps, TicksAll};
-ghost use Rattle.pl_lines.specs.Lines.{Happen, SettlesAsAsked, hosts_meant, outcome};
-ghost use Rattle.pl_lines.specs.Queues.{delivery, loss, port_towards, queue_between};
-ghost use Rattle.pl_lines.specs.Scenes.{Ends, OfWorld};
+ghost use Rattle.pl_script_rule.specs.Lines.{Happen, SettlesAsAsked, hosts_meant, outcome};
+ghost use Rattle.pl_script_rule.specs.Queues.{delivery, loss, port_towards, queue_between};
+ghost use Rattle.pl_script_rule.specs.Scenes.{Ends, OfWorld};
 
 use crate::hosts::{retry_all, start_all};
 use crate::player::Player;
 use pl_fabric::{Settling, make, random, settle, sweep_often, tick_all};
 use pl_journal::Entry;
-use pl_lines::Stop;
-use pl_logic::{HostLogic, ManagerLogic, SwitchLogic};
+use pl_node::{HostLogic, ManagerLogic, SwitchLogic};
 use pl_script::{End, Who};
+use pl_script_rule::Stop;
 use pl_wiring::SwitchNo;
 use pl_world::{Event, QueueName};
 
@@ -51,11 +50,9 @@ fn delivery(name: Option<QueueName>) -> Event
 impl<S: SwitchLogic, M: ManagerLogic, H: HostLogic> Player<S, M, H> {
     /// One event.
     pub(crate) fn happen(&mut self, event: &Event) -> Result<(), Stop>
-        requires counted { IsCounted self.old.world }
-        requires hearing { IsWithinHearing self.old.world }
+        requires orderly { CanStep self.old.world }
         ensures does { Ends result (λ end. Happen S.rule M.rule H.rule (event.now ∷ []) self.old end self.new) }
-        ensures counted { Ends result (λ _. IsCounted self.new.world) }
-        ensures hearing { Ends result (λ _. IsWithinHearing self.new.world) }
+        ensures orderly { Ends result (λ _. CanStep self.new.world) }
         ensures plan { Ends result (λ _. self.new.world.plan ≡ self.old.world.plan) }
     {
         make(&mut self.world, event)?;
@@ -64,11 +61,9 @@ impl<S: SwitchLogic, M: ManagerLogic, H: HostLogic> Player<S, M, H> {
 
     /// One host starts, or each in the order of the wiring.
     pub(crate) fn start(&mut self, who: Who) -> Result<(), Stop>
-        requires counted { IsCounted self.old.world }
-        requires hearing { IsWithinHearing self.old.world }
+        requires orderly { CanStep self.old.world }
         ensures does { Ends result (λ end. Happen S.rule M.rule H.rule (map event.Start (hosts_meant self.old.world.plan who)) self.old end self.new) }
-        ensures counted { Ends result (λ _. IsCounted self.new.world) }
-        ensures hearing { Ends result (λ _. IsWithinHearing self.new.world) }
+        ensures orderly { Ends result (λ _. CanStep self.new.world) }
     {
         match who {
             Who::One(h) => self.happen(&Event::Start(h)),
@@ -77,11 +72,9 @@ impl<S: SwitchLogic, M: ManagerLogic, H: HostLogic> Player<S, M, H> {
     }
 
     fn start_all(&mut self) -> Result<(), Stop>
-        requires counted { IsCounted self.old.world }
-        requires hearing { IsWithinHearing self.old.world }
+        requires orderly { CanStep self.old.world }
         ensures does { Ends result (λ end. Happen S.rule M.rule H.rule (map event.Start (hosts_meant self.old.world.plan Who.All)) self.old end self.new) }
-        ensures counted { Ends result (λ _. IsCounted self.new.world) }
-        ensures hearing { Ends result (λ _. IsWithinHearing self.new.world) }
+        ensures orderly { Ends result (λ _. CanStep self.new.world) }
     {
         start_all(&mut self.world)?;
         Ok(())
@@ -89,11 +82,9 @@ impl<S: SwitchLogic, M: ManagerLogic, H: HostLogic> Player<S, M, H> {
 
     /// One host asks again for the addresses that it waits for, or each does.
     pub(crate) fn retry(&mut self, who: Who) -> Result<(), Stop>
-        requires counted { IsCounted self.old.world }
-        requires hearing { IsWithinHearing self.old.world }
+        requires orderly { CanStep self.old.world }
         ensures does { Ends result (λ end. Happen S.rule M.rule H.rule (map event.Retry (hosts_meant self.old.world.plan who)) self.old end self.new) }
-        ensures counted { Ends result (λ _. IsCounted self.new.world) }
-        ensures hearing { Ends result (λ _. IsWithinHearing self.new.world) }
+        ensures orderly { Ends result (λ _. CanStep self.new.world) }
     {
         match who {
             Who::One(h) => self.happen(&Event::Retry(h)),
@@ -102,11 +93,9 @@ impl<S: SwitchLogic, M: ManagerLogic, H: HostLogic> Player<S, M, H> {
     }
 
     fn retry_all(&mut self) -> Result<(), Stop>
-        requires counted { IsCounted self.old.world }
-        requires hearing { IsWithinHearing self.old.world }
+        requires orderly { CanStep self.old.world }
         ensures does { Ends result (λ end. Happen S.rule M.rule H.rule (map event.Retry (hosts_meant self.old.world.plan Who.All)) self.old end self.new) }
-        ensures counted { Ends result (λ _. IsCounted self.new.world) }
-        ensures hearing { Ends result (λ _. IsWithinHearing self.new.world) }
+        ensures orderly { Ends result (λ _. CanStep self.new.world) }
     {
         retry_all(&mut self.world)?;
         Ok(())
@@ -114,11 +103,9 @@ impl<S: SwitchLogic, M: ManagerLogic, H: HostLogic> Player<S, M, H> {
 
     /// The head of the queue from one switch to another is lost.
     pub(crate) fn lose(&mut self, a: SwitchNo, b: SwitchNo) -> Result<(), Stop>
-        requires counted { IsCounted self.old.world }
-        requires hearing { IsWithinHearing self.old.world }
+        requires orderly { CanStep self.old.world }
         ensures does { Ends result (λ end. Happen S.rule M.rule H.rule (loss a (port_towards self.old.world.plan a.0 b.0) ∷ []) self.old end self.new) }
-        ensures counted { Ends result (λ _. IsCounted self.new.world) }
-        ensures hearing { Ends result (λ _. IsWithinHearing self.new.world) }
+        ensures orderly { Ends result (λ _. CanStep self.new.world) }
     {
         let event = loss(a, self.port_towards(a, b));
         self.happen(&event)
@@ -126,11 +113,9 @@ impl<S: SwitchLogic, M: ManagerLogic, H: HostLogic> Player<S, M, H> {
 
     /// The head of the queue from one end to another is delivered.
     pub(crate) fn deliver(&mut self, from: End, to: End) -> Result<(), Stop>
-        requires counted { IsCounted self.old.world }
-        requires hearing { IsWithinHearing self.old.world }
+        requires orderly { CanStep self.old.world }
         ensures does { Ends result (λ end. Happen S.rule M.rule H.rule (delivery (queue_between self.old.world from to) ∷ []) self.old end self.new) }
-        ensures counted { Ends result (λ _. IsCounted self.new.world) }
-        ensures hearing { Ends result (λ _. IsWithinHearing self.new.world) }
+        ensures orderly { Ends result (λ _. CanStep self.new.world) }
     {
         let event = delivery(self.queue_between(from, to));
         self.happen(&event)
@@ -138,22 +123,18 @@ impl<S: SwitchLogic, M: ManagerLogic, H: HostLogic> Player<S, M, H> {
 
     /// Each switch has a tick, in label order.
     pub(crate) fn tick_all(&mut self) -> Result<(), Stop>
-        requires counted { IsCounted self.old.world }
-        requires hearing { IsWithinHearing self.old.world }
+        requires orderly { CanStep self.old.world }
         ensures does { Ends result (λ end. OfWorld (TicksAll S.rule M.rule H.rule) self.old end self.new) }
-        ensures counted { Ends result (λ _. IsCounted self.new.world) }
-        ensures hearing { Ends result (λ _. IsWithinHearing self.new.world) }
+        ensures orderly { Ends result (λ _. CanStep self.new.world) }
     {
         tick_all(&mut self.world)?;
         Ok(())
     }
 
     pub(crate) fn sweep(&mut self, times: u32) -> Result<(), Stop>
-        requires counted { IsCounted self.old.world }
-        requires hearing { IsWithinHearing self.old.world }
+        requires orderly { CanStep self.old.world }
         ensures does { Ends result (λ end. OfWorld (Times times (Sweeps S.rule M.rule H.rule)) self.old end self.new) }
-        ensures counted { Ends result (λ _. IsCounted self.new.world) }
-        ensures hearing { Ends result (λ _. IsWithinHearing self.new.world) }
+        ensures orderly { Ends result (λ _. CanStep self.new.world) }
     {
         sweep_often(&mut self.world, times)?;
         Ok(())
@@ -161,11 +142,9 @@ impl<S: SwitchLogic, M: ManagerLogic, H: HostLogic> Player<S, M, H> {
 
     /// Steps that are drawn by numbers.
     pub(crate) fn random(&mut self, number: u64, steps: u32) -> Result<(), Stop>
-        requires counted { IsCounted self.old.world }
-        requires hearing { IsWithinHearing self.old.world }
+        requires orderly { CanStep self.old.world }
         ensures does { Ends result (λ end. OfWorld (Draws S.rule M.rule H.rule steps number) self.old end self.new) }
-        ensures counted { Ends result (λ _. IsCounted self.new.world) }
-        ensures hearing { Ends result (λ _. IsWithinHearing self.new.world) }
+        ensures orderly { Ends result (λ _. CanStep self.new.world) }
     {
         random(&mut self.world, number, steps)?;
         Ok(())
@@ -173,11 +152,9 @@ impl<S: SwitchLogic, M: ManagerLogic, H: HostLogic> Player<S, M, H> {
 
     /// Rounds until the fabric is settled, at most so many; the journal says how that ended.
     pub(crate) fn settle(&mut self, rounds: u32) -> Result<(), Stop>
-        requires counted { IsCounted self.old.world }
-        requires hearing { IsWithinHearing self.old.world }
+        requires orderly { CanStep self.old.world }
         ensures does { Ends result (λ end. SettlesAsAsked S.rule M.rule H.rule rounds self.old end self.new) }
-        ensures counted { Ends result (λ _. IsCounted self.new.world) }
-        ensures hearing { Ends result (λ _. IsWithinHearing self.new.world) }
+        ensures orderly { Ends result (λ _. CanStep self.new.world) }
     {
         let answer = settle(&mut self.world, rounds)?;
         self.world.mark(outcome(answer))?;

@@ -2,3 +2,4 @@ pub mod Remaining
 pub mod Stopped
 pub mod Playing
 pub mod Preparing
+pub mod Exports

@@ -13,22 +13,22 @@ use Rattle.pl_script.specs.declared.script.ScriptLine.{ScriptLine}
 use Rattle.pl_world.specs.Booting.{booted}
 use Rattle.pl_world.specs.Runs.{Moment as Stretch, WorldRun}
 use Rattle.pl_world.specs.Worlds.{WorldView}
-use Rattle.pl_logic.specs.HostInputs.{HostRule}
-use Rattle.pl_logic.specs.ManagerDuties.{ManagerRule}
-use Rattle.pl_logic.specs.SwitchInputs.{SwitchRule}
+use Rattle.pl_node.specs.HostInputs.{HostRule}
+use Rattle.pl_node.specs.ManagerDuties.{ManagerRule}
+use Rattle.pl_node.specs.SwitchInputs.{SwitchRule}
 use Rattle.pl_fabric.specs.Settled.{IsSettled}
-use Rattle.pl_theorem.specs.OneSwitch.{IsOneSwitch}
-use Rattle.pl_lines.specs.declared.stop.Stop.{Stop}
-use Rattle.pl_lines.specs.declared.stop.Stop.TheVariants.{ExpectFailed, Refused}
+use Rattle.pl_law_theorem.specs.OneSwitch.{IsOneSwitch}
+use Rattle.pl_script_rule.specs.declared.stop.Stop.{Stop}
+use Rattle.pl_script_rule.specs.declared.stop.Stop.TheVariants.{ExpectFailed, Refused}
 use Rattle.pl_inputs.specs.declared.status.Status.{Status}
-use Rattle.pl_lines.specs.Lines.{DoesLines, Plays}
-use Rattle.pl_lines.specs.Scenes.{Scene, UnlessWanting, first_scene}
+use Rattle.pl_script_rule.specs.Lines.{DoesLines, Plays}
+use Rattle.pl_script_rule.specs.Scenes.{Scene, UnlessWanting, first_scene}
 use Rattle.pl_output.specs.Receipts.{saved_texts}
 use Rattle.pl_output.specs.Saved.{AreSaved, BreaksOff, Saving}
 use Rattle.pl_output.specs.Summary.{summary_text}
 use Rattle.pl_inputs.specs.declared.status.Status.TheVariants as status
 use Rattle.pl_world.specs.declared.error.StepError.TheVariants as error
-use Rattle.pl_playing.specs.Outcomes.{Comes, HostsDoAsAsked, IsPlayed, IsStopped, Moment, PlaysTo, outcome, printed_of, records_of, rests_from, run_limits, summary_of, texts_of}
+use Rattle.pl_playing.specs.Outcomes.{Comes, HostsDoAsAsked, IsPlayed, IsStopped, ShelfMoment, PlaysTo, outcome, printed_of, records_of, rests_from, run_limits, summary_of, texts_of}
 use Rattle.pl_playing.specs.Plays.{IsPlayedOver, IsPlayedTo, IsUnplayed, Played, summary_by}
 use Rattle.pl_playing.proofs.Remaining.{records_are}
 
@@ -96,21 +96,21 @@ module _ (switch : SwitchRule) (manager : ManagerRule) (host : HostRule) where
         IsOneSwitch switch manager host new
 
   pub played_to : (i : Inputs) (p : Played) → AreLaws i.plan → HostsDoAsAsked switch manager host i p.fabric → length i.captures ≡ length i.plan.hosts → IsPlayedOver switch manager host i p → IsPlayedTo switch manager host i p
-  played_to i p laws deeds many over =
+  played_to i p laws behaviour many over =
       let run = laws.run None (records_of i) i.lines p.fabric over.played in
       let same : p.fabric.world.plan ≡ i.plan = laws.wiring run.0 p.fabric.world run.1 in
       record {
         over = over;
         plan = same;
         savable = subst (λ plan. All (IsSavable plan) p.fabric.world.journal) (sym same) (laws.savable run.0 p.fabric.world run.1);
-        deeds = deeds;
+        behaviour = behaviour;
         one_switch = laws.one_switch run.0 p.fabric.world run.1;
         many = as_many p.captures ∙ ap (λ fs. length fs) over.captures ∙ many ∙ ap (λ (plan : Plan). length plan.hosts) (sym same);
       }
 
   -- what is saved of it
   abbrev pub is_played : (i : Inputs) (p : Played) → IsPlayedTo switch manager host i p → (settled : Bool) → IsTrue settled ↔ IsSettled p.fabric.world → IsPlayed switch manager host i
-  is_played i p to settled is = record { scene = p.fabric; played = to.over.played; wiring = to.plan; deeds = to.deeds; one_switch = to.one_switch; settled = settled; is_settled = is }
+  is_played i p to settled is = record { scene = p.fabric; played = to.over.played; wiring = to.plan; behaviour = to.behaviour; one_switch = to.one_switch; settled = settled; is_settled = is }
 
   summary_as : (i : Inputs) (p : Played) → IsPlayedTo switch manager host i p → (settled : Bool) → summary_by p settled ≡ summary_of i p.fabric settled
   summary_as i p to settled =
@@ -127,7 +127,7 @@ module _ (switch : SwitchRule) (manager : ManagerRule) (host : HostRule) where
   printed_is i p to settled text is = is ∙ summary_as i p to settled
 
   -- what comes of it, once all was saved or a write failed
-  pub saves_run : (old new : Moment) (i : Inputs) (p : Played) (to : IsPlayedTo switch manager host i p) (settled : Bool) → IsTrue settled ↔ IsSettled p.fabric.world →
+  pub saves_run : (old new : ShelfMoment) (i : Inputs) (p : Played) (to : IsPlayedTo switch manager host i p) (settled : Bool) → IsTrue settled ↔ IsSettled p.fabric.world →
       (out text : List ℕ) → text ≡ summary_by p settled → AreSaved old.held new.held (saved_texts out p.fabric.world.plan p.fabric.world.journal text) →
       new.read_faults ≡ old.read_faults → new.write_faults ≡ old.write_faults → Comes switch manager host old new i (texts_of switch manager host out i) status.Done
   unfolding saved_texts
@@ -140,7 +140,7 @@ module _ (switch : SwitchRule) (manager : ManagerRule) (host : HostRule) where
     },
   )
 
-  pub breaks_run : (old new : Moment) (i : Inputs) (p : Played) (to : IsPlayedTo switch manager host i p) (settled : Bool) → IsTrue settled ↔ IsSettled p.fabric.world →
+  pub breaks_run : (old new : ShelfMoment) (i : Inputs) (p : Played) (to : IsPlayedTo switch manager host i p) (settled : Bool) → IsTrue settled ↔ IsSettled p.fabric.world →
       (out text name : List ℕ) → text ≡ summary_by p settled → BreaksOff old.held new.held (saved_texts out p.fabric.world.plan p.fabric.world.journal text) name →
       new.read_faults ≡ old.read_faults → old.write_faults ≤ new.write_faults → Rose old.write_faults new.write_faults →
       Comes switch manager host old new i (texts_of switch manager host out i) (status.WriteFault name)
@@ -159,7 +159,7 @@ module _ (switch : SwitchRule) (manager : ManagerRule) (host : HostRule) where
       one output text ≡ one standard_output (summary_of i p.fabric settled)
   one_is i p to settled output text is told = ap (λ n. one n text) is ∙ ap (λ t. one standard_output t) (told ∙ summary_as i p to settled)
 
-  pub prints_run : (old new : Moment) (i : Inputs) (p : Played) (to : IsPlayedTo switch manager host i p) (settled : Bool) → IsTrue settled ↔ IsSettled p.fabric.world →
+  pub prints_run : (old new : ShelfMoment) (i : Inputs) (p : Played) (to : IsPlayedTo switch manager host i p) (settled : Bool) → IsTrue settled ↔ IsSettled p.fabric.world →
       (output text : List ℕ) → output ≡ standard_output → text ≡ summary_by p settled → AreSaved old.held new.held (one output text) →
       new.read_faults ≡ old.read_faults → new.write_faults ≡ old.write_faults → Comes switch manager host old new i (printed_of switch manager host i) status.Done
   prints_run old new i p to settled is output text named told saved reads writes = (
@@ -171,7 +171,7 @@ module _ (switch : SwitchRule) (manager : ManagerRule) (host : HostRule) where
     },
   )
 
-  pub print_breaks : (old new : Moment) (i : Inputs) (p : Played) (to : IsPlayedTo switch manager host i p) (settled : Bool) → IsTrue settled ↔ IsSettled p.fabric.world →
+  pub print_breaks : (old new : ShelfMoment) (i : Inputs) (p : Played) (to : IsPlayedTo switch manager host i p) (settled : Bool) → IsTrue settled ↔ IsSettled p.fabric.world →
       (output text name : List ℕ) → output ≡ standard_output → text ≡ summary_by p settled → BreaksOff old.held new.held (one output text) name →
       new.read_faults ≡ old.read_faults → old.write_faults ≤ new.write_faults → Rose old.write_faults new.write_faults →
       Comes switch manager host old new i (printed_of switch manager host i) (status.WriteFault name)

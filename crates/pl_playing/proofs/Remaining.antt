@@ -5,8 +5,8 @@ use Rattle.pl_wiring.specs.declared.host.HostNo.{HostNo}
 use Rattle.pl_inputs.specs.declared.capture.Capture.{Capture}
 use Rattle.pl_inputs.specs.Loaded.{files_of}
 use Rattle.pl_inputs.specs.Records.{records_by, records_in, records_in_file, records_of, tail_by, tail_of_file}
-use Rattle.pl_lines.specs.Lines.{left_of}
-use Rattle.pl_lines.specs.Scenes.{Scene, asked_of}
+use Rattle.pl_script_rule.specs.Lines.{left_of}
+use Rattle.pl_script_rule.specs.Scenes.{Scene, asked_of}
 use Rattle.pl_output.specs.declared.summary.Rest.{Rest}
 use Rattle.pl_playing.specs.Outcomes.{held_at, rests_from}
 

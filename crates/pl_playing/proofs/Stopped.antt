@@ -2,15 +2,15 @@
 use Rattle.std.proofs.Common.{◌≡◌, ℕ, Bool, true, false, List, Some, refl, ap, ◌∙◌}
 use Rattle.pl_inputs.specs.declared.status.Status.{Status}
 use Rattle.pl_inputs.specs.Inputs.{Inputs}
-use Rattle.pl_logic.specs.HostInputs.{HostRule}
-use Rattle.pl_logic.specs.ManagerDuties.{ManagerRule}
-use Rattle.pl_logic.specs.SwitchInputs.{SwitchRule}
+use Rattle.pl_node.specs.HostInputs.{HostRule}
+use Rattle.pl_node.specs.ManagerDuties.{ManagerRule}
+use Rattle.pl_node.specs.SwitchInputs.{SwitchRule}
 use Rattle.pl_output.specs.Saved.{Saving}
-use Rattle.pl_lines.specs.declared.stop.Stop.{Stop}
-use Rattle.pl_lines.specs.declared.stop.Stop.TheVariants.{ExpectFailed, Refused}
+use Rattle.pl_script_rule.specs.declared.stop.Stop.{Stop}
+use Rattle.pl_script_rule.specs.declared.stop.Stop.TheVariants.{ExpectFailed, Refused}
 use Rattle.pl_inputs.specs.declared.status.Status.TheVariants as status
 use Rattle.pl_world.specs.declared.error.StepError.TheVariants as error
-use Rattle.pl_playing.specs.Outcomes.{Comes, IsPlayed, IsStopped, IsUntouched, Moment, outcome}
+use Rattle.pl_playing.specs.Outcomes.{Comes, IsPlayed, IsStopped, IsUntouched, ShelfMoment, outcome}
 use Rattle.pl_playing.specs.Plays.{IsUnplayed}
 
 -- the answers that a stopped script has
@@ -40,7 +40,7 @@ module _ (switch : SwitchRule) (manager : ManagerRule) (host : HostRule) where
   no_stop i e other s = not_both (is_of_stop e) other (ap is_of_stop s.answered ∙ outcome_is s.stopped)
 
   -- a script that was not played to its end
-  pub unplayed_comes : (old new : Moment) → IsUntouched old new → (i : Inputs) (texts : IsPlayed switch manager host i → List Saving) (e : Status) → IsUnplayed switch manager host i e → Comes switch manager host old new i texts e
+  pub unplayed_comes : (old new : ShelfMoment) → IsUntouched old new → (i : Inputs) (texts : IsPlayed switch manager host i → List Saving) (e : Status) → IsUnplayed switch manager host i e → Comes switch manager host old new i texts e
   unplayed_comes old new stays i texts status.Done u = absurd (no_stop i status.Done refl u)
   unplayed_comes old new stays i texts (status.WriteFault name) u = absurd (no_stop i (status.WriteFault name) refl u)
   unplayed_comes old new stays i texts status.OutOfMemory u = stays

@@ -7,19 +7,19 @@ use Rattle.pl_wiring.specs.declared.host.Host.{Host}
 use Rattle.pl_inputs.specs.declared.status.Status.{Status}
 use Rattle.pl_inputs.specs.Inputs.{Inputs}
 use Rattle.pl_inputs.specs.Records.{Recorded, records_in_file, tail_of_file}
-use Rattle.pl_logic.specs.HostViews.{held_count}
-use Rattle.pl_logic.specs.HostInputs.{HostRule}
-use Rattle.pl_logic.specs.ManagerDuties.{ManagerRule}
-use Rattle.pl_logic.specs.SwitchInputs.{SwitchRule}
+use Rattle.pl_node.specs.HostViews.{held_count}
+use Rattle.pl_node.specs.HostInputs.{HostRule}
+use Rattle.pl_node.specs.ManagerDuties.{ManagerRule}
+use Rattle.pl_node.specs.SwitchInputs.{SwitchRule}
 use Rattle.pl_world.specs.declared.error.StepError.{StepError}
 use Rattle.pl_world.specs.declared.limits.Limits.{Limits}
 use Rattle.pl_fabric.specs.Settled.{IsSettled}
-use Rattle.pl_theorem.specs.OneSwitch.{IsOneSwitch}
-use Rattle.pl_lines.specs.declared.stop.Stop.{Stop}
-use Rattle.pl_lines.specs.declared.stop.Stop.TheVariants.{ExpectFailed, Refused}
-use Rattle.pl_lines.specs.Asked.{DoesAsAsked}
-use Rattle.pl_lines.specs.Lines.{Plays}
-use Rattle.pl_lines.specs.Scenes.{Scene, asked_of}
+use Rattle.pl_law_theorem.specs.OneSwitch.{IsOneSwitch}
+use Rattle.pl_script_rule.specs.declared.stop.Stop.{Stop}
+use Rattle.pl_script_rule.specs.declared.stop.Stop.TheVariants.{ExpectFailed, Refused}
+use Rattle.pl_script_rule.specs.Asked.{DoesAsAsked}
+use Rattle.pl_script_rule.specs.Lines.{Plays}
+use Rattle.pl_script_rule.specs.Scenes.{Scene, asked_of}
 use Rattle.pl_output.specs.declared.summary.Rest.{Rest}
 use Rattle.pl_output.specs.Receipts.{saved_texts}
 use Rattle.pl_output.specs.Saved.{AreSaved, BreaksOff, Saving}
@@ -50,34 +50,34 @@ abbrev pub summary_of : Inputs → Scene → Bool → List ℕ
 summary_of i scene settled = summary_text i.plan scene.world.journal scene.world.steps (rests_from 0 i.captures scene) settled
 
 -- a shelf at a moment: what it holds by name, and how many of its calls failed
-pub record Moment : Type 0 where
+pub record ShelfMoment : Type 0 where
   pub held : List ℕ → Held
   pub read_faults : ℕ
   pub write_faults : ℕ
 
-abbrev pub moment : (List ℕ → Held) → ℕ → ℕ → Moment
+abbrev pub moment : (List ℕ → Held) → ℕ → ℕ → ShelfMoment
 moment held reads writes = record { held = held; read_faults = reads; write_faults = writes }
 
 -- each name holds what it held, and no call failed
-pub record IsUntouched (old new : Moment) : Type 0 where
+pub record IsUntouched (old new : ShelfMoment) : Type 0 where
   pub same : Same old.held new.held
   pub reads : new.read_faults ≡ old.read_faults
   pub writes : new.write_faults ≡ old.write_faults
 
-pub record ReadFails (old new : Moment) : Type 0 where
+pub record ReadFails (old new : ShelfMoment) : Type 0 where
   pub same : Same old.held new.held
   pub grows : old.read_faults ≤ new.read_faults
   pub rose : Rose old.read_faults new.read_faults
   pub writes : new.write_faults ≡ old.write_faults
 
 -- these texts were saved, and no call failed
-pub record Saves (old new : Moment) (savings : List Saving) : Type 0 where
+pub record Saves (old new : ShelfMoment) (savings : List Saving) : Type 0 where
   pub saved : AreSaved old.held new.held savings
   pub reads : new.read_faults ≡ old.read_faults
   pub writes : new.write_faults ≡ old.write_faults
 
 -- a write of them failed, under this name
-pub record SavingFails (old new : Moment) (savings : List Saving) (name : List ℕ) : Type 0 where
+pub record SavingFails (old new : ShelfMoment) (savings : List Saving) (name : List ℕ) : Type 0 where
   pub saved : BreaksOff old.held new.held savings name
   pub reads : new.read_faults ≡ old.read_faults
   pub grows : old.write_faults ≤ new.write_faults
@@ -116,7 +116,7 @@ module _ (switch : SwitchRule) (manager : ManagerRule) (host : HostRule) where
     pub scene : Scene
     pub played : PlaysTo i None scene
     pub wiring : scene.world.plan ≡ i.plan
-    pub deeds : HostsDoAsAsked i scene
+    pub behaviour : HostsDoAsAsked i scene
     pub one_switch : IsOneSwitch switch manager host scene.world
     pub settled : Bool
     pub is_settled : IsTrue settled ↔ IsSettled scene.world
@@ -138,7 +138,7 @@ module _ (switch : SwitchRule) (manager : ManagerRule) (host : HostRule) where
 
   -- What comes of inputs that were read, of which these texts are saved once they were played. Want of memory has no cause that could be
   -- told, and it leaves all as it was, as each stop does.
-  abbrev pub Comes : Moment → Moment → (i : Inputs) → (IsPlayed i → List Saving) → Status → Type 0
+  abbrev pub Comes : ShelfMoment → ShelfMoment → (i : Inputs) → (IsPlayed i → List Saving) → Status → Type 0
   Comes old new i texts status.Done = (is : IsPlayed i) × Saves old new (texts is)
   Comes old new i texts (status.WriteFault name) = (is : IsPlayed i) × SavingFails old new (texts is) name
   Comes old new i texts status.OutOfMemory = IsUntouched old new

@@ -5,11 +5,11 @@ use Rattle.pl_inputs.specs.Inputs.{Inputs}
 use Rattle.pl_inputs.specs.Loaded.{files_of}
 use Rattle.pl_journal.specs.Savable.{IsSavable}
 use Rattle.pl_world.specs.Flying.{IsCounted}
-use Rattle.pl_logic.specs.HostInputs.{HostRule}
-use Rattle.pl_logic.specs.ManagerDuties.{ManagerRule}
-use Rattle.pl_logic.specs.SwitchInputs.{SwitchRule}
-use Rattle.pl_lines.specs.Scenes.{Scene}
-use Rattle.pl_theorem.specs.OneSwitch.{IsOneSwitch}
+use Rattle.pl_node.specs.HostInputs.{HostRule}
+use Rattle.pl_node.specs.ManagerDuties.{ManagerRule}
+use Rattle.pl_node.specs.SwitchInputs.{SwitchRule}
+use Rattle.pl_script_rule.specs.Scenes.{Scene}
+use Rattle.pl_law_theorem.specs.OneSwitch.{IsOneSwitch}
 use Rattle.pl_output.specs.Summary.{summary_text}
 use Rattle.pl_inputs.specs.declared.status.Status.TheVariants as status
 use Rattle.pl_inputs.specs.declared.capture.Capture.{Capture}
@@ -50,6 +50,6 @@ module _ (switch : SwitchRule) (manager : ManagerRule) (host : HostRule) where
     pub over : IsPlayedOver i p
     pub plan : p.fabric.world.plan ≡ i.plan
     pub savable : All (IsSavable p.fabric.world.plan) p.fabric.world.journal
-    pub deeds : HostsDoAsAsked switch manager host i p.fabric
+    pub behaviour : HostsDoAsAsked switch manager host i p.fabric
     pub one_switch : IsOneSwitch switch manager host p.fabric.world
     pub many : length p.captures ≡ length p.fabric.world.plan.hosts

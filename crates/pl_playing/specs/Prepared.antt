@@ -3,9 +3,9 @@ use Rattle.std.specs.Prelude.{ℕ, List, Option}
 use Rattle.pl_shelf.specs.Held.{Held}
 use Rattle.pl_inputs.specs.declared.status.Status.{Status}
 use Rattle.pl_inputs.specs.Inputs.{Inputs}
-use Rattle.pl_logic.specs.HostInputs.{HostRule}
-use Rattle.pl_logic.specs.ManagerDuties.{ManagerRule}
-use Rattle.pl_logic.specs.SwitchInputs.{SwitchRule}
+use Rattle.pl_node.specs.HostInputs.{HostRule}
+use Rattle.pl_node.specs.ManagerDuties.{ManagerRule}
+use Rattle.pl_node.specs.SwitchInputs.{SwitchRule}
 use Rattle.pl_output.specs.Room.{HaveRoom}
 use Rattle.pl_output.specs.Saved.{Saving}
 use Rattle.pl_inputs.specs.declared.status.Status.TheVariants as status

@@ -1,22 +1,22 @@
 ghost use Rattle.std.specs.Prelude.{◌≡◌, ◌<◌, ◌-◌, ◌^◌, IfErr, IfOk, Some, length, slice_index_or, [], string_bytes};
 ghost use Rattle.pl_inputs.specs.Loaded.{files_of, inputs_of};
 ghost use Rattle.pl_inputs.specs.Records.{records_of};
-ghost use Rattle.pl_lines.specs.Lines.{left_of};
-ghost use Rattle.pl_lines.specs.declared.stop.Stop.TheVariants as stop;
+ghost use Rattle.pl_script_rule.specs.Lines.{left_of};
+ghost use Rattle.pl_script_rule.specs.declared.stop.Stop.TheVariants as stop;
 ghost use Rattle.pl_playing.specs.Outcomes.{held_at, outcome, rests_from};
 ghost use Rattle.pl_playing.specs.Plays.{IsPlayedOver, IsPlayedTo, IsUnplayed, played_over, summary_by};
 
 use pl_frame::Memory;
 use pl_host_rule::LawfulHost;
 use pl_inputs::{Capture, Inputs, Status, StepReason};
-use pl_lines::{Stop, a_script_is_a_run, hosts_do_what_is_asked};
-use pl_logic::HostLogic;
+use pl_law_runs::{each_run_keeps_the_wiring, every_entry_can_be_saved};
+use pl_law_theorem::lawful_logic_is_one_switch;
 use pl_manager_rule::LawfulManager;
-use pl_network::{each_run_keeps_the_wiring, every_entry_can_be_saved};
+use pl_node::HostLogic;
 use pl_output::summary::{Rest, summary};
 use pl_player::{Player, Stopped};
+use pl_script_rule::{Stop, a_script_is_a_run, hosts_do_what_is_asked};
 use pl_switch_rule::LooseSwitch;
-use pl_theorem::lawful_logic_is_one_switch;
 use pl_wiring::HostNo;
 use pl_world::{Limits, StepError};
 use std::alloc::Global;

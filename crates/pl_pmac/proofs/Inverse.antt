@@ -4,9 +4,9 @@ use Rattle.std.proofs.lemmas.List.{append-nil}
 use Rattle.byteorder.specs.Endian.{big_from, big_number, big_bytes}
 use Rattle.byteorder.specs.Numbers.{big_number-reads_back, length-bytes_high_first}
 use Rattle.pl_frame.specs.declared.address.Mac.{Mac}
-use Rattle.pl_frame.proofs.Numbers.{IsBytes, big_bytes-big_number}
+use Rattle.pl_frame.proofs.Exports.{big_bytes-big_number, IsBytes}
 use Rattle.pl_pmac.specs.declared.pmac.Pmac.{Pmac}
-use Rattle.pl_pmac.specs.Pmac.{Fits, pmac_number, mac_of, pmac_of}
+use Rattle.pl_pmac.specs.Pmac.{PmacFits, pmac_number, mac_of, pmac_of}
 
 abbrev mac : List ℕ → Mac
 mac bytes = record { 0 = bytes }
@@ -18,7 +18,7 @@ made pod position port vmid = record { pod = pod; position = position; port = po
 abbrev fields_of : ℕ → Pmac
 fields_of n = record { pod = n / 2 ^ 32; position = n / 2 ^ 24 % 256; port = n / 2 ^ 16 % 256; vmid = n % 2 ^ 16 }
 
-fields_of-pmac_number : (a : Pmac) → Fits a → fields_of (pmac_number a) ≡ a
+fields_of-pmac_number : (a : Pmac) → PmacFits a → fields_of (pmac_number a) ≡ a
 fields_of-pmac_number a fits =
     let n : ℕ = pmac_number a in
     let pod : n / 2 ^ 32 ≡ a.pod = omega (arith, fits.position, fits.port, fits.vmid) in
@@ -30,7 +30,7 @@ fields_of-pmac_number a fits =
     ∙ ap (λ p. made a.pod a.position p (n % 2 ^ 16)) port
     ∙ ap (λ v. made a.pod a.position a.port v) vmid
 
-pub pmac_of-mac_of : (a : Pmac) → Fits a → pmac_of (mac_of a) ≡ a
+pub pmac_of-mac_of : (a : Pmac) → PmacFits a → pmac_of (mac_of a) ≡ a
 pmac_of-mac_of a fits =
     let value : ℕ = pmac_number a in
     let small : value < 256 ^ 6 = omega (arith, fits.pod, fits.position, fits.port, fits.vmid) in
@@ -48,6 +48,6 @@ mac_of-pmac_of m six small =
 pub length-mac_of : (a : Pmac) → length (mac_of a).0 ≡ 6
 length-mac_of a = length-bytes_high_first 6 (pmac_number a)
 
-pub same_pmac_number : (y z : Pmac) → Fits y → Fits z → pmac_number y ≡ pmac_number z → y ≡ z
+pub same_pmac_number : (y z : Pmac) → PmacFits y → PmacFits z → pmac_number y ≡ pmac_number z → y ≡ z
 same_pmac_number y z fits_y fits_z same =
     sym (pmac_of-mac_of y fits_y) ∙ ap (λ m. pmac_of (record { 0 = big_bytes 6 m })) same ∙ pmac_of-mac_of z fits_z

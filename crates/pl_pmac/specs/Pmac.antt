@@ -5,7 +5,7 @@ use Rattle.pl_frame.specs.declared.address.Mac.{Mac}
 use Rattle.pl_pmac.specs.declared.pmac.Pmac.{Pmac}
 
 -- each field is within its type
-pub record Fits (a : Pmac) : Type 0 where
+pub record PmacFits (a : Pmac) : Type 0 where
   pub pod : a.pod < 2 ^ 16
   pub position : a.position < 2 ^ 8
   pub port : a.port < 2 ^ 8

@@ -2,7 +2,7 @@ ghost use Rattle.std.specs.Prelude.{◌≡◌, ◌<◌, ◌^◌, ℕ, Some, leng
 ghost use Rattle.pl_frame.specs.declared.address.Mac.{Mac};
 ghost use Rattle.pl_frame.specs.Address.{mac_text};
 ghost use Rattle.pl_pmac.specs.declared.pmac.Pmac.{Pmac};
-ghost use Rattle.pl_pmac.specs.Pmac.{Fits, mac_of, pmac_of};
+ghost use Rattle.pl_pmac.specs.Pmac.{PmacFits, mac_of, pmac_of};
 
 use byteorder::{BigEndian, ByteOrder};
 use pl_frame::Mac;
@@ -56,7 +56,7 @@ pub fn unpack(mac: Mac) -> Pmac
 
 /// `pack` and `unpack` undo each other: on every pseudo address, and on every MAC address.
 pub fn pack_and_unpack_are_inverse()
-    ensures unpacked { (pmac : Pmac) → Fits pmac → pmac_of (mac_of pmac) ≡ pmac }
+    ensures unpacked { (pmac : Pmac) → PmacFits pmac → pmac_of (mac_of pmac) ≡ pmac }
     ensures packed { (mac : Mac) → length mac.0 ≡ 6 → ((i : ℕ) → slice_index mac.0 i < 256) →
         mac_of (pmac_of mac) ≡ mac }
 {}

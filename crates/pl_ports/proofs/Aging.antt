@@ -1,7 +1,7 @@
 -- The ports age.
 use Rattle.std.proofs.Common.{◌≡◌, map, sym, ap, ◌∙◌}
-use Rattle.pl_logic.specs.PortRecords.{aged, ports_where}
-use Rattle.pl_logic.proofs.Ports.{aged_at}
+use Rattle.pl_node.specs.PortRecords.{aged, ports_where}
+use Rattle.pl_node.proofs.Exports.{aged_at}
 use Rattle.pl_ports.specs.Changes.{ceased, ceases}
 use Rattle.pl_ports.specs.PortsViews.{PortsView, ports_alone}
 

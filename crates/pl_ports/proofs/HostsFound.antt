@@ -3,9 +3,9 @@ use Rattle.std.proofs.Common.{◌≡◌, ℕ, ◌<◌, true, length, sym, ap, �
 use Rattle.std.specs.Prelude.{◌&&◌, not, if◌then◌else◌, slice_index_or, slice_set}
 use Rattle.std.proofs.Math.Bool.{and-true}
 use Rattle.std.proofs.lemmas.List.{get_or-set_same}
-use Rattle.pl_logic.specs.declared.neighbour.PortRecord.{PortRecord}
-use Rattle.pl_logic.specs.PortRecords.{new_port, port_of}
-use Rattle.pl_logic.specs.SwitchViews.{SwitchView}
+use Rattle.pl_node.specs.declared.neighbour.PortRecord.{PortRecord}
+use Rattle.pl_node.specs.PortRecords.{new_port, port_of}
+use Rattle.pl_node.specs.SwitchViews.{SwitchView}
 use Rattle.pl_switch_rule.specs.Levels.{becomes_edge}
 use Rattle.pl_ports.specs.Changes.{becomes_host_port, takes_host, with_host}
 use Rattle.pl_ports.specs.PortsViews.{PortsView, ports_alone, put_ports}

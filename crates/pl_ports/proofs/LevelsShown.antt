@@ -9,9 +9,9 @@ use Rattle.std.proofs.lemmas.List.Folds.{list_any_at}
 use Rattle.pl_frame.specs.declared.address.SwitchId.{SwitchId}
 use Rattle.pl_layouts.specs.declared.control.Ldm.{Ldm}
 use Rattle.pl_layouts.specs.Placement.{is_known}
-use Rattle.pl_logic.specs.declared.neighbour.PortRecord.{PortRecord}
-use Rattle.pl_logic.specs.PortRecords.{aged, heard_place, new_port}
-use Rattle.pl_logic.specs.SwitchViews.{SwitchView}
+use Rattle.pl_node.specs.declared.neighbour.PortRecord.{PortRecord}
+use Rattle.pl_node.specs.PortRecords.{aged, heard_place, new_port}
+use Rattle.pl_node.specs.SwitchViews.{SwitchView}
 use Rattle.pl_journal.specs.Flights.{first_of}
 use Rattle.pl_switch_rule.specs.Levels.{is_of_other_pod, learns_level, other_pod, told_pod, with_message}
 use Rattle.pl_ports.specs.Changes.{with_host}
@@ -193,15 +193,15 @@ none_told [] i inside h = absurd (omega arith)
 none_told (r ∷ rs) zero inside h = (first_none (told_pod r) (filter_map told_pod rs) h).0
 none_told (r ∷ rs) (suc i) inside h = none_told rs i (omega arith) (first_none (told_pod r) (filter_map told_pod rs) h).1
 
-abbrev IsTold : List PortRecord → ℕ → Type 0
-IsTold rs p = (i : ℕ) × (i < length rs) × (told_pod (get_or rs i new_port) ≡ Some p)
+abbrev LevelIsTold : List PortRecord → ℕ → Type 0
+LevelIsTold rs p = (i : ℕ) × (i < length rs) × (told_pod (get_or rs i new_port) ≡ Some p)
 
-told_in_front : (r : PortRecord) (rs : List PortRecord) (p : ℕ) → (first_told rs ≡ Some p → IsTold rs p) → (o : Option ℕ) → told_pod r ≡ o →
-    first_of (cons_option o (filter_map told_pod rs)) ≡ Some p → IsTold (r ∷ rs) p
+told_in_front : (r : PortRecord) (rs : List PortRecord) (p : ℕ) → (first_told rs ≡ Some p → LevelIsTold rs p) → (o : Option ℕ) → told_pod r ≡ o →
+    first_of (cons_option o (filter_map told_pod rs)) ≡ Some p → LevelIsTold (r ∷ rs) p
 told_in_front r rs p later None is rest = let found = later rest in (suc found.0, omega (arith, found.1), found.2)
 told_in_front r rs p later (Some q) is here = (0, omega arith, is ∙ here)
 
-some_told : (rs : List PortRecord) (p : ℕ) → first_told rs ≡ Some p → IsTold rs p
+some_told : (rs : List PortRecord) (p : ℕ) → first_told rs ≡ Some p → LevelIsTold rs p
 some_told [] p h = absurd cc
 some_told (r ∷ rs) p h = told_in_front r rs p (some_told rs p) (told_pod r) refl h
 

@@ -5,3 +5,4 @@ pub mod LinksTold
 pub mod PodsTold
 pub mod PortSets
 pub mod Tables
+pub mod Exports

@@ -4,8 +4,8 @@ use Rattle.std.specs.Prelude.{if◌then◌else◌}
 use Rattle.std.specs.List.{AllByRecursion, filter, range_with_len}
 use Rattle.std.specs.BTreeSet.{insert_key}
 use Rattle.std.specs.Ordering.{nat_cmp}
-use Rattle.pl_logic.specs.PortRecords.{ports_of_switch}
-use Rattle.pl_steps.proofs.Ports.{passing_ports_more, ports_more}
+use Rattle.pl_node.specs.PortRecords.{ports_of_switch}
+use Rattle.pl_steps.proofs.Exports.{passing_ports_more, ports_more}
 
 module _ (test : ℕ → Bool) where
   kept_below : (a n x : ℕ) → a + n ≤ x → AllByRecursion (λ y. y < x) (filter test (range_with_len a n))

@@ -2,9 +2,9 @@
 use Rattle.std.proofs.Common.{◌≡◌, ℕ, zero, suc, ◌<◌, List, [], ◌∷◌, length, map, take, replicate, get_or, set, refl, sym, subst, inl, inr}
 use Rattle.std.proofs.lemmas.Bool.{cases_eq}
 use Rattle.std.proofs.lemmas.List.{get_or-set_other, get_or-set_same}
-use Rattle.pl_logic.specs.declared.neighbour.PortRecord.{PortRecord}
-use Rattle.pl_logic.specs.PortRecords.{aged, new_port}
-use Rattle.pl_logic.proofs.Ports.{aged_at}
+use Rattle.pl_node.specs.declared.neighbour.PortRecord.{PortRecord}
+use Rattle.pl_node.specs.PortRecords.{aged, new_port}
+use Rattle.pl_node.proofs.Exports.{aged_at}
 use Rattle.pl_ports.specs.SoundPorts.{AreSound, IsSoundRecord}
 
 new_at : (n port : ℕ) → get_or (replicate n new_port) port new_port ≡ new_port

@@ -2,8 +2,8 @@
 use Rattle.std.specs.Prelude.{ℕ, ◌&&◌, ◌||◌, not, Bool, true, List, Option}
 use Rattle.pl_journal.specs.Places.{are_alike}
 use Rattle.pl_layouts.specs.Placement.{is_known}
-use Rattle.pl_logic.specs.PortRecords.{aged, is_open_to_hosts, is_usable, is_usable_record, port_of, ports_where, with_port}
-use Rattle.pl_logic.specs.SwitchViews.{SwitchView}
+use Rattle.pl_node.specs.PortRecords.{aged, is_open_to_hosts, is_usable, is_usable_record, port_of, ports_where, with_port}
+use Rattle.pl_node.specs.SwitchViews.{SwitchView}
 
 -- a port became usable, or ceased to be
 abbrev pub usability_changes : SwitchView → SwitchView → ℕ → Bool

@@ -1,8 +1,8 @@
 -- What the records of a switch's ports show of its level.
 use Rattle.std.specs.Prelude.{ℕ, ◌&&◌, Bool, if◌then◌else◌, List, Option, Some, None}
 use Rattle.std.specs.List.{list_any}
-use Rattle.pl_logic.specs.declared.neighbour.PortRecord.{PortRecord}
-use Rattle.pl_logic.specs.PortRecords.{heard_place}
+use Rattle.pl_node.specs.declared.neighbour.PortRecord.{PortRecord}
+use Rattle.pl_node.specs.PortRecords.{heard_place}
 use Rattle.pl_layouts.specs.Placement.{is_known}
 use Rattle.pl_switch_rule.specs.Levels.{is_of_other_pod}
 

@@ -2,9 +2,9 @@
 use Rattle.std.specs.Prelude.{ℕ, List}
 use Rattle.pl_frame.specs.declared.address.SwitchId.{SwitchId}
 use Rattle.pl_layouts.specs.declared.place.Place.{Place}
-use Rattle.pl_logic.specs.declared.neighbour.PortRecord.{PortRecord}
-use Rattle.pl_logic.specs.SwitchFacts.{switch_at_boot}
-use Rattle.pl_logic.specs.SwitchViews.{SwitchView}
+use Rattle.pl_node.specs.declared.neighbour.PortRecord.{PortRecord}
+use Rattle.pl_node.specs.SwitchFacts.{switch_at_boot}
+use Rattle.pl_node.specs.SwitchViews.{SwitchView}
 
 pub record PortsView : Type 0 where
   pub id : SwitchId

@@ -2,11 +2,11 @@
 use Rattle.std.specs.Prelude.{◌≡◌, ℕ, ◌<◌, ◌⊎◌, IfSome, List, Some, slice_index_or}
 use Rattle.pl_frame.specs.declared.address.SwitchId.{SwitchId}
 use Rattle.pl_layouts.specs.declared.place.Place.{Place}
-use Rattle.pl_ldp.specs.Writable.{IsId}
-use Rattle.pl_logic.specs.declared.neighbour.Neighbour.{Neighbour}
-use Rattle.pl_logic.specs.declared.neighbour.PortRecord.{PortRecord}
-use Rattle.pl_logic.specs.PortRecords.{new_port}
-use Rattle.pl_logic.specs.SwitchFacts.{IsTreeSize}
+use Rattle.pl_ldp.specs.Writable.{IsWritableId}
+use Rattle.pl_node.specs.declared.neighbour.Neighbour.{Neighbour}
+use Rattle.pl_node.specs.declared.neighbour.PortRecord.{PortRecord}
+use Rattle.pl_node.specs.PortRecords.{new_port}
+use Rattle.pl_node.specs.SwitchFacts.{IsTreeSize}
 
 -- the greatest number of two bytes stands for a pod that is not known
 abbrev pub IsPod : ℕ → Type 0
@@ -20,7 +20,7 @@ pub record IsSoundPlace (place : Place) : Type 0 where
 
 -- the neighbour can be named, and its pod be told
 abbrev pub IsSoundNeighbour : Neighbour → Type 0
-IsSoundNeighbour n = IsId n.id × IfSome n.place.pod IsPod
+IsSoundNeighbour n = IsWritableId n.id × IfSome n.place.pod IsPod
 
 abbrev pub IsSoundRecord : PortRecord → Type 0
 IsSoundRecord r = IfSome r.heard IsSoundNeighbour
@@ -29,7 +29,7 @@ abbrev pub AreSound : List PortRecord → Type 0
 AreSound records = (port : ℕ) → IsSoundRecord (slice_index_or records port new_port)
 
 pub record ArePorts (id : SwitchId) (k : ℕ) (place : Place) (records : List PortRecord) : Type 0 where
-  pub named : IsId id
+  pub named : IsWritableId id
   pub size : IsTreeSize k
   pub placed : IsSoundPlace place
   pub heard : AreSound records

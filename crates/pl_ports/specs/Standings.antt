@@ -3,9 +3,9 @@ use Rattle.std.specs.Prelude.{◌≡◌, ℕ, ◌==◌, if◌then◌else◌, Lis
 use Rattle.std.specs.List.{list_any}
 use Rattle.pl_lists.specs.declared.port_set.PortSet.{PortSet}
 use Rattle.pl_lists.specs.Ports.{ports_of}
-use Rattle.pl_logic.specs.declared.acts.Act.{Act}
-use Rattle.pl_logic.specs.PortRecords.{id_at, is_usable, ports_where}
-use Rattle.pl_logic.specs.SwitchViews.{SwitchView}
+use Rattle.pl_node.specs.declared.acts.Act.{Act}
+use Rattle.pl_node.specs.PortRecords.{id_at, is_usable, ports_where}
+use Rattle.pl_node.specs.SwitchViews.{SwitchView}
 use Rattle.pl_journal.specs.Places.{are_alike}
 use Rattle.pl_switch_rule.specs.Telling.{link_to}
 use Rattle.pl_ports.specs.declared.standing.Standing.{Standing}

@@ -1,5 +1,5 @@
 ghost use Rattle.std.specs.Prelude.{◌≡◌, ◌<◌};
-ghost use Rattle.pl_logic.specs.PortRecords.{place_at};
+ghost use Rattle.pl_node.specs.PortRecords.{place_at};
 ghost use Rattle.pl_switch_rule.specs.Forwarding.{came_by};
 ghost use Rattle.pl_switch_rule.specs.Granting.{address_at_port, is_local};
 ghost use Rattle.pl_switch_rule.specs.Levels.{has_become_placed};

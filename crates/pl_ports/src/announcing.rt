@@ -1,11 +1,11 @@
 ghost use Rattle.std.specs.Prelude.{◌≡◌, ◌<◌, ◌≤◌, ◌↔◌, ◌++◌, map, IfOk, IsTrue, OnOk};
-ghost use Rattle.pl_logic.specs.declared.acts.Act.{Act};
-ghost use Rattle.pl_logic.specs.Announcements.{announcement, direction_of};
-ghost use Rattle.pl_logic.specs.PortRecords.{heard_id, heard_place, ports_where};
-ghost use Rattle.pl_logic.specs.SwitchFacts.{IsAnnounced};
-ghost use Rattle.pl_logic.specs.SwitchViews.{SwitchView};
+ghost use Rattle.pl_node.specs.declared.acts.Act.{Act};
+ghost use Rattle.pl_node.specs.Announcements.{announcement, direction_of};
+ghost use Rattle.pl_node.specs.PortRecords.{heard_id, heard_place, ports_where};
+ghost use Rattle.pl_node.specs.SwitchFacts.{IsAnnounced};
+ghost use Rattle.pl_node.specs.SwitchViews.{SwitchView};
 ghost use Rattle.pl_layouts.specs.Control.{control_frame};
-ghost use Rattle.pl_ldp.specs.Writable.{IsWritable};
+ghost use Rattle.pl_ldp.specs.Writable.{IsWritableControl};
 ghost use Rattle.pl_switch_rule.specs.Announcing.{announces_at};
 ghost use Rattle.pl_ports.specs.PortsViews.{ports_alone, put_ports};
 
@@ -13,7 +13,7 @@ use crate::Ports;
 use pl_frame::{Frame, SwitchId};
 use pl_layouts::{Control, Ldm};
 use pl_ldp::write_control;
-use pl_logic::{Memory, Outbox, PortRecord};
+use pl_node::{Memory, Outbox, PortRecord};
 use pl_steps::{SendsAtPort, send_at_each_port};
 use std::alloc::Global;
 
@@ -29,7 +29,7 @@ impl Ports {
     pub fn announced(&self, port: u8) -> Control
         requires { port < self.now.k }
         ensures frame { control_frame result ≡ announcement (ports_alone self.now) port }
-        ensures writable { IsWritable result }
+        ensures writable { IsWritableControl result }
     {
         let ldm = Ldm {
             place: self.place(),
@@ -91,7 +91,7 @@ struct Announcing<'a> {
 }
 
 impl SendsAtPort for Announcing<'_> {
-    ghost use Rattle.pl_logic.specs.Announcements.{announcement};
+    ghost use Rattle.pl_node.specs.Announcements.{announcement};
     ghost use Rattle.pl_switch_rule.specs.Announcing.{announces_at};
     ghost use Rattle.pl_ports.specs.PortsViews.{ports_alone};
 

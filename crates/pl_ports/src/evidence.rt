@@ -1,12 +1,12 @@
 ghost use Rattle.std.specs.Prelude.{◌≡◌};
 ghost use Rattle.std.specs.List.{filter_map, list_any};
-ghost use Rattle.pl_logic.specs.PortRecords.{heard_place};
+ghost use Rattle.pl_node.specs.PortRecords.{heard_place};
 ghost use Rattle.pl_journal.specs.Flights.{first_of};
 ghost use Rattle.pl_switch_rule.specs.Levels.{is_of_other_pod, told_pod};
 ghost use Rattle.pl_ports.specs.Evidence.{are_of_two_pods, is_of_level, level_shown};
 
 use crate::Ports;
-use pl_logic::PortRecord;
+use pl_node::PortRecord;
 
 impl Ports {
     /// The level that the records show: 0 where a host is at a port, 1 where an edge switch was heard, 2

@@ -1,6 +1,6 @@
 ghost use Rattle.std.specs.Prelude.{◌≡◌, ◌<◌, if◌then◌else◌};
-ghost use Rattle.pl_logic.specs.SwitchViews.{SwitchView};
-ghost use Rattle.pl_ldp.specs.Writable.{IsWritable};
+ghost use Rattle.pl_node.specs.SwitchViews.{SwitchView};
+ghost use Rattle.pl_ldp.specs.Writable.{IsWritableControl};
 ghost use Rattle.pl_lists.specs.Ports.{ports_of};
 ghost use Rattle.pl_switch_rule.specs.Announcing.{with_aged_ports};
 ghost use Rattle.pl_switch_rule.specs.Levels.{becomes_edge, with_message};
@@ -11,14 +11,14 @@ use crate::Ports;
 use pl_frame::SwitchId;
 use pl_layouts::{Control, Ldm};
 use pl_lists::PortSet;
-use pl_logic::{Neighbour, PortRecord};
+use pl_node::{Neighbour, PortRecord};
 
 impl Ports {
     /// A location discovery message comes at a port, and the port's record is replaced. The answer is
     /// whether the port became usable or ceased to be. Level and pod stay until `learn`.
     pub fn heard(&mut self, port: u8, from: SwitchId, ldm: &Ldm) -> bool
         requires port { port < self.old.k }
-        requires message { IsWritable (Control.Ldm from ldm.now) }
+        requires message { IsWritableControl (Control.Ldm from ldm.now) }
         ensures told { result ≡ usability_changes (ports_alone self.old) (ports_alone self.new) port }
         ensures view { (v : SwitchView) → put_ports self.new v ≡ with_message (put_ports self.old v) port from ldm.now }
     {

@@ -1,5 +1,5 @@
 ghost use Rattle.std.specs.Prelude.{◌≡◌, ◌<◌, ◌&&◌, if◌then◌else◌, is_none, IfSome, Some};
-ghost use Rattle.pl_logic.specs.SwitchViews.{SwitchView};
+ghost use Rattle.pl_node.specs.SwitchViews.{SwitchView};
 ghost use Rattle.pl_switch_rule.specs.Levels.{becomes_edge, learns_level, learns_pod, level_after, pod_after, pod_told_before, with_pod};
 ghost use Rattle.pl_switch_rule.specs.Messages.{takes_pod};
 ghost use Rattle.pl_ports.specs.Changes.{with_position};

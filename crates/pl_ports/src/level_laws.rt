@@ -1,8 +1,8 @@
 ghost use Rattle.std.specs.Prelude.{◌≡◌, ◌<◌, ℕ, length, None, Some};
 ghost use Rattle.pl_frame.specs.declared.address.SwitchId.{SwitchId};
 ghost use Rattle.pl_layouts.specs.declared.control.Ldm.{Ldm};
-ghost use Rattle.pl_logic.specs.SwitchFacts.{switch_at_boot};
-ghost use Rattle.pl_logic.specs.SwitchViews.{SwitchView};
+ghost use Rattle.pl_node.specs.SwitchFacts.{switch_at_boot};
+ghost use Rattle.pl_node.specs.SwitchViews.{SwitchView};
 ghost use Rattle.pl_switch_rule.specs.Announcing.{with_aged_ports};
 ghost use Rattle.pl_switch_rule.specs.Levels.{becomes_edge, learns_level, with_message};
 ghost use Rattle.pl_ports.specs.Changes.{with_host};

@@ -1,14 +1,14 @@
 ghost use Rattle.std.specs.Prelude.{◌≡◌, ◌<◌, length, map, replicate, slice_set};
-ghost use Rattle.pl_logic.specs.PortRecords.{aged, is_usable, is_usable_to, new_port, port_of};
-ghost use Rattle.pl_logic.specs.SwitchFacts.{CanBoot, IsTreeSize};
+ghost use Rattle.pl_node.specs.PortRecords.{aged, is_usable, is_usable_to, new_port, port_of};
+ghost use Rattle.pl_node.specs.SwitchFacts.{CanBoot, IsTreeSize};
 ghost use Rattle.pl_layouts.specs.Placement.{nowhere};
-ghost use Rattle.pl_ldp.specs.Writable.{IsId};
+ghost use Rattle.pl_ldp.specs.Writable.{IsWritableId};
 ghost use Rattle.pl_ports.specs.PortsViews.{ports_alone};
 ghost use Rattle.pl_ports.specs.SoundPorts.{AreSound, IsSoundPlace, IsSoundRecord};
 
 use pl_frame::SwitchId;
 use pl_layouts::Place;
-use pl_logic::PortRecord;
+use pl_node::PortRecord;
 use std::marker::Model;
 
 // The most ports that a switch has.
@@ -65,7 +65,7 @@ impl Ports {
 
     pub fn id(&self) -> SwitchId
         ensures id { result ≡ self.now.id }
-        ensures named { IsId self.now.id }
+        ensures named { IsWritableId self.now.id }
     {
         self.id
     }

@@ -1,8 +1,8 @@
 ghost use Rattle.std.specs.Prelude.{◌≡◌, ◌<◌, ◌++◌, if◌then◌else◌, OnOk};
 ghost use Rattle.std.specs.BTreeSet.{insert_key};
 ghost use Rattle.std.specs.Ordering.{nat_cmp};
-ghost use Rattle.pl_logic.specs.PortRecords.{is_usable, ports_where};
-ghost use Rattle.pl_logic.specs.SwitchViews.{SwitchView};
+ghost use Rattle.pl_node.specs.PortRecords.{is_usable, ports_where};
+ghost use Rattle.pl_node.specs.SwitchViews.{SwitchView};
 ghost use Rattle.pl_layouts.specs.Placement.{same_number, same_place};
 ghost use Rattle.pl_lists.specs.Ports.{ports_of};
 ghost use Rattle.pl_switch_rule.specs.Telling.{changes_told, place_told, pod_wanted};
@@ -13,7 +13,7 @@ ghost use Rattle.pl_ports.specs.Standings.{IsStandingOf};
 use crate::{Ports, Standing};
 use pl_layouts::Place;
 use pl_lists::PortSet;
-use pl_logic::{Act, Memory, Outbox, ToManager};
+use pl_node::{Act, Memory, Outbox, ToManager};
 use pl_steps::{TellsAtPort, tell_at_each_port};
 
 impl Ports {

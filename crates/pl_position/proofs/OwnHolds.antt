@@ -4,13 +4,13 @@ use Rattle.std.proofs.lemmas.Bool.{cases_eq, eq-eqb, ne_eqb, true≢false}
 use Rattle.std.proofs.lemmas.List.{length-set, set-get_or}
 use Rattle.std.proofs.lemmas.Option.{none-some, same_Some}
 use Rattle.pl_frame.specs.declared.address.SwitchId.{SwitchId}
-use Rattle.pl_frame.proofs.Switches.{same_id}
+use Rattle.pl_frame.proofs.Exports.{same_id}
 use Rattle.pl_layouts.specs.declared.control.Proposal.{Proposal}
 use Rattle.pl_layouts.specs.declared.control.Vote.{Vote}
-use Rattle.pl_logic.specs.declared.switch_records.Hold.{Hold}
+use Rattle.pl_node.specs.declared.switch_records.Hold.{Hold}
 use Rattle.pl_switch_rule.specs.Positions.{freed_but, is_free_for, is_held_for, kept_or_new, marked_for, vote_on}
-use Rattle.pl_switch_rule.proofs.Lengths.{length_freed}
-use Rattle.pl_position.specs.Holding.{AreHeldByIds, HoldsFor, IsAnswer, IsId, hold_in}
+use Rattle.pl_switch_rule.proofs.Exports.{length_freed}
+use Rattle.pl_position.specs.Holding.{AreHeldByIds, HoldsFor, AnswersProposal, IsSwitchId, hold_in}
 use Rattle.pl_position.proofs.Freeing.{freed, freed_at, freed_itself}
 
 pub ids_apart : (a b : SwitchId) → a ≢ b → (a.0 == b.0) ≡ false
@@ -98,16 +98,16 @@ pub hold_stays : (edge : SwitchId) (position : ℕ) (before : List (Option Hold)
 hold_stays edge position before = freed_at position edge before position ∙ freed_itself position edge position (hold_in before position) refl
 
 -- all ids that are held stay ids
-pub held_by_ids : (edge : SwitchId) (position : ℕ) (before after : List (Option Hold)) → HoldsFor edge position before after → IsId edge →
+pub held_by_ids : (edge : SwitchId) (position : ℕ) (before after : List (Option Hold)) → HoldsFor edge position before after → IsSwitchId edge →
     AreHeldByIds before → AreHeldByIds after
 held_by_ids edge position old new h id ids at hold e = elim (cases_eq hold.edge.0 edge.0) [
-  | inl same ↦ subst IsId (sym (same_id hold.edge edge same)) id
+  | inl same ↦ subst IsSwitchId (sym (same_id hold.edge edge same)) id
   | inr other ↦ ids at hold (h.no_more at hold (λ same. other (ap (λ a. a.0) same)) e)
 ]
 
 -- The vote on a hold, and what is held then.
 pub answers : (edge : SwitchId) (p : Proposal) (hold : Option Hold) (holds : List (Option Hold)) → hold_in holds p.position ≡ kept_or_new edge hold →
-    IsAnswer edge p holds (vote_on edge p hold)
+    AnswersProposal edge p holds (vote_on edge p hold)
 answers edge p None holds is = record {
   attempt = refl;
   position = refl;
@@ -130,11 +130,11 @@ answers edge p (Some held) holds is = elim (cases_eq held.edge.0 edge.0) [
 ]
 
 -- a refusal names an id
-pub names_an_id : (edge : SwitchId) (p : Proposal) (hold : Option Hold) → ((held : Hold) → hold ≡ Some held → IsId held.edge) →
-    IfSome (vote_on edge p hold).holder IsId
+pub names_an_id : (edge : SwitchId) (p : Proposal) (hold : Option Hold) → ((held : Hold) → hold ≡ Some held → IsSwitchId held.edge) →
+    IfSome (vote_on edge p hold).holder IsSwitchId
 names_an_id edge p None ids = tt
 names_an_id edge p (Some held) ids =
-    elim (held.edge.0 == edge.0) as (λ b. IfSome (if◌then◌else◌ {A = Vote} b (record { attempt = p.attempt; position = p.position; granted = true; holder = None; fixed = false }) (record { attempt = p.attempt; position = p.position; granted = false; holder = Some held.edge; fixed = held.fixed })).holder IsId) [
+    elim (held.edge.0 == edge.0) as (λ b. IfSome (if◌then◌else◌ {A = Vote} b (record { attempt = p.attempt; position = p.position; granted = true; holder = None; fixed = false }) (record { attempt = p.attempt; position = p.position; granted = false; holder = Some held.edge; fixed = held.fixed })).holder IsSwitchId) [
       | true ↦ tt
       | false ↦ ids held refl
     ]

@@ -2,8 +2,8 @@
 use Rattle.std.specs.Prelude.{◌≡◌, ◌<◌, ◌≤◌, ℕ, ◌/◌, if◌then◌else◌, List, [], Option, Some, None, is_none, IfSome, refl}
 use Rattle.pl_frame.specs.declared.address.SwitchId.{SwitchId}
 use Rattle.pl_layouts.specs.declared.control.Proposal.{Proposal}
-use Rattle.pl_logic.specs.SwitchFacts.{IsTreeSize, switch_at_boot}
-use Rattle.pl_logic.specs.SwitchViews.{SwitchView}
+use Rattle.pl_node.specs.SwitchFacts.{IsTreeSize, switch_at_boot}
+use Rattle.pl_node.specs.SwitchViews.{SwitchView}
 
 -- of a switch of k ports: the position once it is fixed, the present attempt, the position that it proposes, and the ports that granted it
 pub record Candidacy : Type 0 where

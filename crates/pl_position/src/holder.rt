@@ -1,16 +1,16 @@
 ghost use Rattle.std.specs.Prelude.{◌≡◌, ◌<◌, ◌≤◌, ℕ, ◌/◌, [], ◌∷◌, length, replicate, IfSome, None};
-ghost use Rattle.pl_logic.specs.declared.acts.Act.TheVariants.{Control};
-ghost use Rattle.pl_logic.specs.SwitchFacts.{holder_of, IsTreeSize};
-ghost use Rattle.pl_logic.specs.SwitchViews.{SwitchView};
+ghost use Rattle.pl_node.specs.declared.acts.Act.TheVariants.{Control};
+ghost use Rattle.pl_node.specs.SwitchFacts.{holder_of, IsTreeSize};
+ghost use Rattle.pl_node.specs.SwitchViews.{SwitchView};
 ghost use Rattle.pl_layouts.specs.declared.control.Control.TheVariants as control;
 ghost use Rattle.pl_layouts.specs.Control.{control_frame};
-ghost use Rattle.pl_position.specs.Holding.{with_holds, AreHeldByIds, HoldsFor, IsAnswer, IsId, IsMarked, NamesHolder};
+ghost use Rattle.pl_position.specs.Holding.{with_holds, AreHeldByIds, HoldsFor, AnswersProposal, IsSwitchId, IsMarked, NamesHolderDuly};
 ghost use Rattle.pl_steps.specs.Steps.{does};
 ghost use Rattle.pl_switch_rule.specs.Positions.{answers_proposal, frees_others, half, notes_position};
 
 use crate::holds::{mark_in, vote_in};
 use pl_frame::SwitchId;
-use pl_logic::{Hold, Proposal, Vote};
+use pl_node::{Hold, Proposal, Vote};
 use std::marker::Model;
 
 // The positions of a pod of the largest fat tree.
@@ -27,7 +27,7 @@ pub struct Holder {
 
 impl Model for Holder {
     ghost use Rattle.std.specs.Prelude.{◌≤◌, List, Option, take};
-    ghost use Rattle.pl_logic.specs.declared.switch_records.Hold.{Hold};
+    ghost use Rattle.pl_node.specs.declared.switch_records.Hold.{Hold};
 
     ghost Value = { List (Option Hold) };
 
@@ -62,9 +62,9 @@ impl Holder {
             answers_proposal (frees_others (with_holds self.old v) edge proposal.position) port edge proposal
             ≡ does (with_holds self.new v) (Control port (control_frame (control.Vote v.id result)) ∷ []) }
         ensures holds { HoldsFor edge proposal.position self.old self.new }
-        ensures answer { IsAnswer edge proposal self.new result }
-        ensures ids { IsId edge → AreHeldByIds self.old → AreHeldByIds self.new × IfSome result.holder IsId }
-        ensures names { NamesHolder result }
+        ensures answer { AnswersProposal edge proposal self.new result }
+        ensures ids { IsSwitchId edge → AreHeldByIds self.old → AreHeldByIds self.new × IfSome result.holder IsSwitchId }
+        ensures names { NamesHolderDuly result }
     {
         vote_in(&mut self.holds[..self.positions], edge, proposal)
     }
@@ -77,7 +77,7 @@ impl Holder {
             with_holds self.new v ≡ notes_position (with_holds self.old v) edge (Some position) }
         ensures holds { HoldsFor edge position self.old self.new }
         ensures marked { IsMarked edge position self.old self.new }
-        ensures ids { IsId edge → AreHeldByIds self.old → AreHeldByIds self.new }
+        ensures ids { IsSwitchId edge → AreHeldByIds self.old → AreHeldByIds self.new }
     {
         mark_in(&mut self.holds[..self.positions], edge, position)
     }

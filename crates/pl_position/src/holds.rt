@@ -1,15 +1,15 @@
 //! What is held at each position, as a slice.
 ghost use Rattle.std.specs.Prelude.{◌≡◌, ◌<◌, ℕ, [], ◌∷◌, length, IfSome};
-ghost use Rattle.pl_logic.specs.declared.acts.Act.TheVariants.{Control};
-ghost use Rattle.pl_logic.specs.SwitchViews.{SwitchView};
+ghost use Rattle.pl_node.specs.declared.acts.Act.TheVariants.{Control};
+ghost use Rattle.pl_node.specs.SwitchViews.{SwitchView};
 ghost use Rattle.pl_layouts.specs.declared.control.Control.TheVariants as control;
 ghost use Rattle.pl_layouts.specs.Control.{control_frame};
-ghost use Rattle.pl_position.specs.Holding.{with_holds, AreHeldByIds, HoldsFor, IsAnswer, IsId, IsMarked, NamesHolder};
+ghost use Rattle.pl_position.specs.Holding.{with_holds, AreHeldByIds, HoldsFor, AnswersProposal, IsSwitchId, IsMarked, NamesHolderDuly};
 ghost use Rattle.pl_steps.specs.Steps.{does};
 ghost use Rattle.pl_switch_rule.specs.Positions.{answers_proposal, freed_but, frees_others, is_free_for, is_held_for, kept_or_new, marked_for, marks, vote_on};
 
 use pl_frame::SwitchId;
-use pl_logic::{Hold, Proposal, Vote};
+use pl_node::{Hold, Proposal, Vote};
 
 /// The answer to a proposal.
 pub(crate) fn vote_in(holds: &mut [Option<Hold>], edge: SwitchId, proposal: Proposal) -> Vote
@@ -18,9 +18,9 @@ pub(crate) fn vote_in(holds: &mut [Option<Hold>], edge: SwitchId, proposal: Prop
         answers_proposal (frees_others (with_holds holds.old v) edge proposal.position) port edge proposal
         ≡ does (with_holds holds.new v) (Control port (control_frame (control.Vote v.id result)) ∷ []) }
     ensures holds { HoldsFor edge proposal.position holds.old holds.new }
-    ensures answer { IsAnswer edge proposal holds.new result }
-    ensures ids { IsId edge → AreHeldByIds holds.old → AreHeldByIds holds.new × IfSome result.holder IsId }
-    ensures names { NamesHolder result }
+    ensures answer { AnswersProposal edge proposal holds.new result }
+    ensures ids { IsSwitchId edge → AreHeldByIds holds.old → AreHeldByIds holds.new × IfSome result.holder IsSwitchId }
+    ensures names { NamesHolderDuly result }
 {
     let position = usize::from(proposal.position);
     free_others(holds, edge, position);
@@ -37,7 +37,7 @@ pub(crate) fn mark_in(holds: &mut [Option<Hold>], edge: SwitchId, position: u8)
     ensures step { (v : SwitchView) → with_holds holds.new v ≡ marks (frees_others (with_holds holds.old v) edge position) edge position }
     ensures holds { HoldsFor edge position holds.old holds.new }
     ensures marked { IsMarked edge position holds.old holds.new }
-    ensures ids { IsId edge → AreHeldByIds holds.old → AreHeldByIds holds.new }
+    ensures ids { IsSwitchId edge → AreHeldByIds holds.old → AreHeldByIds holds.new }
 {
     let position = usize::from(position);
     free_others(holds, edge, position);
@@ -93,7 +93,7 @@ fn marked_for(edge: SwitchId, hold: Option<Hold>) -> Option<Hold>
 // A grant, or a refusal that names the other holder and whether its position is fixed.
 fn vote_on(edge: SwitchId, proposal: Proposal, hold: Option<Hold>) -> Vote
     ensures vote { result ≡ vote_on edge proposal hold }
-    ensures names { NamesHolder result }
+    ensures names { NamesHolderDuly result }
 {
     match hold {
         Some(hold) if hold.edge != edge => Vote {

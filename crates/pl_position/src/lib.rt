@@ -6,7 +6,7 @@
 #![tactic(auto)]
 
 pub use holder::Holder;
-pub use pl_logic::{Proposal, Vote};
+pub use pl_node::{Proposal, Vote};
 pub use proposer::Proposer;
 
 mod holder;

@@ -1,13 +1,13 @@
 ghost use Rattle.std.specs.Prelude.{◌≡◌, ◌<◌, ◌≤◌, ◌*◌, ◌/◌, ◌^◌, ◌&&◌, ◌==◌, true, nat_lt, is_none, is_some, length, IfSome};
-ghost use Rattle.pl_logic.specs.SwitchFacts.{has_granted, present_attempt, IsTreeSize};
-ghost use Rattle.pl_logic.specs.SwitchViews.{SwitchView};
+ghost use Rattle.pl_node.specs.SwitchFacts.{has_granted, present_attempt, IsTreeSize};
+ghost use Rattle.pl_node.specs.SwitchViews.{SwitchView};
 ghost use Rattle.pl_layouts.specs.Placement.{is_known};
 ghost use Rattle.pl_position.specs.Candidacy.{first_candidacy, proposal_of, with_candidacy};
 ghost use Rattle.pl_position.specs.Voting.{CountsPresentVotes, GivesWayDuly, IsFixedByMajority, IsSameOrNext};
 ghost use Rattle.pl_switch_rule.specs.Positions.{after_vote, fixes_position, moves_on, with_granted};
 
 use pl_frame::SwitchId;
-use pl_logic::{PortSet, Proposal, Vote};
+use pl_node::{PortSet, Proposal, Vote};
 use std::marker::Model;
 
 /// What an edge switch keeps of its attempts to get a position in its pod. Contracts see the part of what

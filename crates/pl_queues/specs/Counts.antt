@@ -1,4 +1,4 @@
--- How many items of a bank of queues count, by a test of an item.
+-- How many items of a queue array count, by a test of an item.
 use Rattle.std.specs.Prelude.{◌≡◌, ◌≤◌, ℕ, ◌==◌, ◌^◌, Bool, List, [], ◌∷◌, count_by, sum_by, refl}
 
 -- how many items of all queues pass

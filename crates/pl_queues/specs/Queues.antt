@@ -1,4 +1,4 @@
--- What a bank of queues is: the queue at an index, and the next queue that has items.
+-- What a queue array is: the queue at an index, and the next queue that has items.
 use Rattle.std.specs.Prelude.{◌≡◌, ℕ, ◌-◌, Bool, true, false, List, [], ◌∷◌, ◌++◌, length, Option, None, Some, slice_get, slice_index_or, slice_set, refl}
 use Rattle.std.specs.List.{filter, find, range_with_len}
 

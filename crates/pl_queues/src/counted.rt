@@ -1,6 +1,6 @@
 ghost use Rattle.std.specs.Prelude.{◌≡◌};
 
-/// What counts among the items of a bank of queues.
+/// What counts among the items of a queue array.
 pub trait Counted {
     ghost use Rattle.std.specs.Prelude.{Bool};
 

@@ -7,9 +7,9 @@ use Rattle.std.specs.Ordering.{is_eq, ordering_reverse}
 use Rattle.std.specs.Cmp.{Equal-is, IsTotalOrder}
 use Rattle.std.proofs.lemmas.Cmp.{tied_itself}
 use Rattle.std.proofs.lemmas.Map.Lookups.{CmpEqualImpliesEq}
-use Rattle.pl_logic.specs.ManagerViews.{value_at}
-use Rattle.pl_logic.proofs.Among.{holds_of}
-use Rattle.pl_manager_rule.proofs.Tables.{found_key}
+use Rattle.pl_node.specs.ManagerViews.{value_at}
+use Rattle.pl_node.proofs.Exports.{holds_of}
+use Rattle.pl_manager_rule.proofs.Exports.{found_key}
 
 not_below_oneself : {K : Type 0} (R : K → K → Ordering) → IsTotalOrder R → (k : K) → R k k ≡ Less → ⊥
 not_below_oneself R o k less = let tied : R k k ≡ Equal = tied_itself o k in absurd (cc)

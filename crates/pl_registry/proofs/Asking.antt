@@ -4,12 +4,12 @@ use Rattle.std.specs.List.{find, list_any}
 use Rattle.std.specs.Option.{option_map}
 use Rattle.std.specs.Map.{keys_of, lookup}
 use Rattle.std.proofs.lemmas.List.{map-append, reverse-append}
-use Rattle.pl_lemmas.proofs.Options.{is_some-option_map}
+use Rattle.pl_lemmas.proofs.Exports.{is_some-option_map}
 use Rattle.pl_frame.specs.declared.address.SwitchId.{SwitchId}
 use Rattle.pl_layouts.specs.Equality.{same_switch}
-use Rattle.pl_logic.specs.ManagerViews.{PodGiven, pod_given, pods_given}
+use Rattle.pl_node.specs.ManagerViews.{PodGiven, pod_given, pods_given}
 use Rattle.pl_manager_rule.specs.ManagerRule.{with_asker}
-use Rattle.pl_registry.specs.Askers.{AreGiven}
+use Rattle.pl_registry.specs.Askers.{FindPods}
 
 -- one that is found is among them, and the other way round
 pub any_found : {X : Type 0} (test : X → Bool) (xs : List X) → list_any test xs ≡ is_some (find test xs)
@@ -25,20 +25,20 @@ pub last_first : {X Y : Type 0} (f : X → Y) (xs : List X) (x : X) → reverse 
 last_first f xs x = ap reverse (map-append f xs (x ∷ [])) ∙ reverse-append (map f xs) (f x ∷ [])
 
 -- a switch has a pod where the table has one for it
-asked_where_given : (askers : List SwitchId) (pods : List (SwitchId × ℕ)) (s : SwitchId) → AreGiven askers pods →
+asked_where_given : (askers : List SwitchId) (pods : List (SwitchId × ℕ)) (s : SwitchId) → FindPods askers pods →
     list_any (λ g. same_switch g.switch s) (pods_given askers) ≡ is_some (lookup (same_switch s) pods)
 asked_where_given askers pods s given =
     any_found (λ g. same_switch g.switch s) (pods_given askers)
     ∙ sym (is_some-option_map (λ g. g.pod) (find (λ g. same_switch g.switch s) (pods_given askers))) ∙ ap is_some (given.pod s)
 
 -- one that asks again
-pub asks_again : (askers : List SwitchId) (pods : List (SwitchId × ℕ)) (s : SwitchId) (pod : ℕ) → AreGiven askers pods →
+pub asks_again : (askers : List SwitchId) (pods : List (SwitchId × ℕ)) (s : SwitchId) (pod : ℕ) → FindPods askers pods →
     lookup (same_switch s) pods ≡ Some pod → with_asker askers s ≡ askers
 asks_again askers pods s pod given found =
     ap (λ b. cond b askers (s ∷ askers)) (asked_where_given askers pods s given ∙ ap is_some found)
 
 -- one that asks for the first time
-module _ (askers : List SwitchId) (before after : List (SwitchId × ℕ)) (s : SwitchId) (given : AreGiven askers before)
+module _ (askers : List SwitchId) (before after : List (SwitchId × ℕ)) (s : SwitchId) (given : FindPods askers before)
     (none : lookup (same_switch s) before ≡ None) where
   not_asked : list_any (λ g. same_switch g.switch s) (pods_given askers) ≡ false
   not_asked = asked_where_given askers before s given ∙ ap is_some none
@@ -53,7 +53,7 @@ module _ (askers : List SwitchId) (before after : List (SwitchId × ℕ)) (s : S
   one_given = ap (λ b. cond b (pods_given askers) (record { switch = s; pod = length (pods_given askers) } ∷ pods_given askers)) not_asked
 
   pub is_given : ((t : SwitchId) → lookup (same_switch t) after ≡ cond (same_switch s t) (Some (length before)) (lookup (same_switch t) before)) →
-      length after ≡ length before + 1 → AreGiven (s ∷ askers) after
+      length after ≡ length before + 1 → FindPods (s ∷ askers) after
   is_given says longer = record {
     pod = λ t.
         ap (λ gs. option_map (λ (g : PodGiven). g.pod) (find (λ g. same_switch g.switch t) gs)) one_given

@@ -5,19 +5,18 @@ use Rattle.std.specs.Option.{option_map, option_or}
 use Rattle.std.specs.Map.{keys_of, lookup}
 use Rattle.indexmap.specs.IndexMap.{insert_entry}
 use Rattle.indexmap.proofs.ReorderLemmas.{map-reverse}
-use Rattle.pl_lemmas.proofs.Options.{is_some-option_map, none_of}
+use Rattle.pl_lemmas.proofs.Exports.{is_some-option_map, none_of}
 use Rattle.pl_frame.specs.declared.address.Mac.{Mac}
 use Rattle.pl_pmac.specs.declared.pmac.Pmac.{Pmac}
 use Rattle.pl_pmac.specs.contracts.pmac.PmacPartialEq.TheImpl.{eq-value}
 use Rattle.pl_layouts.specs.Equality.{same_mac, same_pmac}
-use Rattle.pl_layouts.proofs.Sameness.{pmac_is}
-use Rattle.pl_logic.specs.ManagerViews.{LearntAddress, Registration, numbered}
+use Rattle.pl_layouts.proofs.Exports.{pmac_is}
+use Rattle.pl_node.specs.ManagerViews.{LearntAddress, Registration, numbered}
 use Rattle.pl_manager_rule.specs.ManagerRule.{told_again, with_address}
-use Rattle.pl_manager_rule.proofs.HeardSwitches.{same_numbers}
-use Rattle.pl_manager_rule.proofs.Registered.{pmac_turned}
+use Rattle.pl_manager_rule.proofs.Exports.{pmac_turned, same_numbers}
 use Rattle.pl_registry.specs.declared.addresses.Known.{Known}
 use Rattle.pl_registry.specs.declared.addresses.Registered.{Registered}
-use Rattle.pl_registry.specs.Addresses.{AreFound, learnt_at, newest_first, registration_of}
+use Rattle.pl_registry.specs.Addresses.{FindAddresses, learnt_at, newest_first, registration_of}
 use Rattle.pl_registry.proofs.Keys.{keys_are}
 use Rattle.pl_registry.proofs.Asking.{any_found, last_first}
 
@@ -44,14 +43,14 @@ updated known after x told says =
     subst (λ (same : Pmac → Pmac → Bool). (y : Pmac) → lookup (same y) after ≡ cond (same x y) (Some told) (lookup (same y) known)) keys_are says
 
 -- an address is registered where something is known of it
-pub registered_where_known : (addresses : List LearntAddress) (known : Table) (latest : Latest) (x : Pmac) → AreFound addresses known latest →
+pub registered_where_known : (addresses : List LearntAddress) (known : Table) (latest : Latest) (x : Pmac) → FindAddresses addresses known latest →
     list_any (λ r. same_pmac r.pmac x) (numbered addresses) ≡ is_some (lookup (same_pmac x) known)
 registered_where_known addresses known latest x found =
     any_found (λ r. same_pmac r.pmac x) (numbered addresses)
     ∙ sym (is_some-option_map (λ r. r.amac) (find (λ r. same_pmac r.pmac x) (numbered addresses))) ∙ ap is_some (found.host x)
     ∙ is_some-option_map (λ k. k.amac) (lookup (same_pmac x) known)
 
-pub unknown_where_not_registered : (addresses : List LearntAddress) (known : Table) (latest : Latest) (x : Pmac) → AreFound addresses known latest →
+pub unknown_where_not_registered : (addresses : List LearntAddress) (known : Table) (latest : Latest) (x : Pmac) → FindAddresses addresses known latest →
     list_any (λ r. same_pmac r.pmac x) (numbered addresses) ≡ false → lookup (same_pmac x) known ≡ None
 unknown_where_not_registered addresses known latest x found none =
     none_of (lookup (same_pmac x) known) (sym (registered_where_known addresses known latest x found) ∙ none)
@@ -72,7 +71,7 @@ newest_added before after x told none entries =
     ap newest_first (entries ∙ put_last x told before none) ∙ last_first learnt_entry before (x, told)
 
 module _ (addresses : List LearntAddress) (known known_after : Table) (latest latest_after : Latest) (x : Pmac) (told : Known) (r : Registered)
-    (found : AreFound addresses known latest) (none : list_any (λ r. same_pmac r.pmac x) (numbered addresses) ≡ false)
+    (found : FindAddresses addresses known latest) (none : list_any (λ r. same_pmac r.pmac x) (numbered addresses) ≡ false)
     (is : registration_of r ≡ record { pmac = x; amac = told.amac; number = length known + 1; switch = told.switch }) where
   abbrev first : Registration
   first = record { pmac = x; amac = told.amac; number = length (numbered addresses) + 1; switch = told.switch }
@@ -86,7 +85,7 @@ module _ (addresses : List LearntAddress) (known known_after : Table) (latest la
   pub found_more : ((y : Pmac) → lookup (same_pmac y) known_after ≡ cond (same_pmac x y) (Some told) (lookup (same_pmac y) known)) →
       length known_after ≡ length known + 1 →
       ((mac : Mac) → lookup (same_mac mac) latest_after ≡ cond (same_mac told.amac mac) (Some r) (lookup (same_mac mac) latest)) →
-      AreFound (learnt_at x told ∷ addresses) known_after latest_after
+      FindAddresses (learnt_at x told ∷ addresses) known_after latest_after
   found_more knows longer names = record {
     address = λ y. at y (same_pmac x y) refl ∙ ap (option_map (learnt_at y)) (sym (knows y));
     host = λ y. ap (λ rs. option_map (λ (q : Registration). q.amac) (find (λ q. same_pmac q.pmac y) rs)) one_registered
@@ -157,7 +156,7 @@ found_again new y (a ∷ addresses) = by (found_again new y addresses) (same_pma
     by rest false = rest
 
 module _ (known known_after : Table) (latest : Latest) (x : Pmac) (told k : Known)
-    (found : AreFound (newest_first known) known latest) (once : IsDistinct same_pmac (keys_of known))
+    (found : FindAddresses (newest_first known) known latest) (once : IsDistinct same_pmac (keys_of known))
     (there : lookup (same_pmac x) known ≡ Some k) (entries : known_after ≡ insert_entry same_pmac known x (told_ip told k)) where
   abbrev new : LearntAddress
   new = learnt_at x told
@@ -177,7 +176,7 @@ module _ (known known_after : Table) (latest : Latest) (x : Pmac) (told k : Know
   same_registrations = ap numbered learnt_again ∙ same_numbers new (newest_first known)
 
   pub found_still : ((y : Pmac) → lookup (same_pmac y) known_after ≡ cond (same_pmac x y) (Some (told_ip told k)) (lookup (same_pmac y) known)) →
-      length known_after ≡ length known → AreFound (newest_first known_after) known_after latest
+      length known_after ≡ length known → FindAddresses (newest_first known_after) known_after latest
   found_still knows long = record {
     address = λ y. ap (find (λ a. same_pmac a.pmac y)) learnt_again ∙ found_again new y (newest_first known)
         ∙ ap (option_map (told_again new)) (found.address y)

@@ -7,12 +7,10 @@ use Rattle.std.specs.Ordering.{is_eq}
 use Rattle.std.proofs.lemmas.Cmp.{nat_eq_equiv}
 use Rattle.pl_frame.specs.declared.address.Ip4.{Ip4}
 use Rattle.pl_pmac.specs.declared.pmac.Pmac.{Pmac}
-use Rattle.pl_logic.specs.HostViews.{ip_cmp}
-use Rattle.pl_logic.specs.ManagerViews.{value_at}
-use Rattle.pl_logic.proofs.Addresses.{is_eq-ip_cmp}
-use Rattle.pl_manager_rule.proofs.History.{value_after}
-use Rattle.pl_manager_rule.proofs.Kept.{ip_exact, ip_total}
-use Rattle.pl_manager_rule.proofs.Tables.{rising_put}
+use Rattle.pl_node.specs.HostViews.{ip_cmp}
+use Rattle.pl_node.specs.ManagerViews.{value_at}
+use Rattle.pl_node.proofs.Exports.{is_eq-ip_cmp}
+use Rattle.pl_manager_rule.proofs.Exports.{ip_exact, ip_total, rising_put, value_after}
 use Rattle.pl_registry.specs.Owners.{by_address}
 use Rattle.pl_registry.proofs.Alike.{same_tables}
 use Rattle.pl_arp.specs.Reception.{same_ip}

@@ -5,7 +5,7 @@ use Rattle.std.specs.Option.{option_map}
 use Rattle.pl_frame.specs.declared.address.Mac.{Mac}
 use Rattle.pl_pmac.specs.declared.pmac.Pmac.{Pmac}
 use Rattle.pl_layouts.specs.Equality.{same_mac, same_pmac}
-use Rattle.pl_logic.specs.ManagerViews.{LearntAddress, Registration, numbered}
+use Rattle.pl_node.specs.ManagerViews.{LearntAddress, Registration, numbered}
 use Rattle.pl_registry.specs.declared.addresses.Known.{Known}
 use Rattle.pl_registry.specs.declared.addresses.Registered.{Registered}
 
@@ -21,7 +21,7 @@ abbrev pub registration_of : Registered → Registration
 registration_of r = record { pmac = r.pmac; amac = r.amac; number = r.number; switch = r.switch }
 
 -- The tables find what is known of each address, its host, and the newest address of each host; and as many are known as are numbered.
-pub record AreFound (addresses : List LearntAddress) (known : List (Pmac × Known)) (latest : List (Mac × Registered)) : Type 0 where
+pub record FindAddresses (addresses : List LearntAddress) (known : List (Pmac × Known)) (latest : List (Mac × Registered)) : Type 0 where
   pub address : (x : Pmac) → find (λ a. same_pmac a.pmac x) addresses ≡ option_map (learnt_at x) (lookup (same_pmac x) known)
   pub host : (x : Pmac) → option_map (λ r. r.amac) (find (λ r. same_pmac r.pmac x) (numbered addresses))
       ≡ option_map (λ k. k.amac) (lookup (same_pmac x) known)

@@ -3,7 +3,7 @@ use Rattle.std.specs.Prelude.{List, [], ◌∷◌}
 use Rattle.std.specs.BTreeMap.{insert_entry}
 use Rattle.pl_frame.specs.declared.address.Ip4.{Ip4}
 use Rattle.pl_pmac.specs.declared.pmac.Pmac.{Pmac}
-use Rattle.pl_logic.specs.HostViews.{ip_cmp}
+use Rattle.pl_node.specs.HostViews.{ip_cmp}
 
 -- entries in any order, by rising IPv4 address
 abbrev pub by_address : List (Ip4 × Pmac) → List (Ip4 × Pmac)

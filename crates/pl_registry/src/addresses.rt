@@ -2,13 +2,13 @@ ghost use Rattle.std.specs.Prelude.{◌≡◌, ◌+◌, [], IfOk, OnErr, OnOk, f
 ghost use Rattle.std.specs.List.{list_any};
 ghost use Rattle.std.specs.Option.{option_and_then};
 ghost use Rattle.pl_layouts.specs.Equality.{same_mac, same_pmac};
-ghost use Rattle.pl_logic.specs.ManagerViews.{numbered};
+ghost use Rattle.pl_node.specs.ManagerViews.{numbered};
 ghost use Rattle.pl_manager_rule.specs.ManagerRule.{with_address};
 ghost use Rattle.pl_registry.specs.Addresses.{learnt_at, registration_of};
 
 use indexmap::IndexMap;
 use pl_frame::{Ip4, Mac, SwitchId};
-use pl_logic::Memory;
+use pl_node::Memory;
 use pl_pmac::Pmac;
 use std::alloc::Global;
 use std::marker::Model;
@@ -41,14 +41,14 @@ pub(crate) struct Addresses {
 
 impl Model for Addresses {
     ghost use Rattle.std.specs.Prelude.{List};
-    ghost use Rattle.pl_logic.specs.ManagerViews.{LearntAddress};
-    ghost use Rattle.pl_registry.specs.Addresses.{AreFound, newest_first};
+    ghost use Rattle.pl_node.specs.ManagerViews.{LearntAddress};
+    ghost use Rattle.pl_registry.specs.Addresses.{FindAddresses, newest_first};
 
     ghost Value = { List LearntAddress };
 
     ghost view = { λ addresses. newest_first addresses.known.entries };
 
-    ghost invariant = { λ addresses. AreFound (newest_first addresses.known.entries) addresses.known.entries addresses.newest.entries };
+    ghost invariant = { λ addresses. FindAddresses (newest_first addresses.known.entries) addresses.known.entries addresses.newest.entries };
 }
 
 impl Addresses {

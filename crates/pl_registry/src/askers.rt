@@ -1,10 +1,10 @@
 ghost use Rattle.std.specs.Prelude.{◌≡◌, ◌<◌, [], IfOk, OnErr, OnOk, length, unwrap_or};
-ghost use Rattle.pl_logic.specs.ManagerViews.{pod_given, pods_given};
+ghost use Rattle.pl_node.specs.ManagerViews.{pod_given, pods_given};
 ghost use Rattle.pl_manager_rule.specs.ManagerRule.{with_asker};
 
 use indexmap::IndexMap;
 use pl_frame::SwitchId;
-use pl_logic::Memory;
+use pl_node::Memory;
 use std::alloc::Global;
 use std::marker::Model;
 
@@ -18,13 +18,13 @@ impl Model for Askers {
     ghost use Rattle.std.specs.Prelude.{List, reverse};
     ghost use Rattle.std.specs.Map.{keys_of};
     ghost use Rattle.pl_frame.specs.declared.address.SwitchId.{SwitchId};
-    ghost use Rattle.pl_registry.specs.Askers.{AreGiven};
+    ghost use Rattle.pl_registry.specs.Askers.{FindPods};
 
     ghost Value = { List SwitchId };
 
     ghost view = { λ askers. reverse (keys_of askers.pods.entries) };
 
-    ghost invariant = { λ askers. AreGiven (reverse (keys_of askers.pods.entries)) askers.pods.entries };
+    ghost invariant = { λ askers. FindPods (reverse (keys_of askers.pods.entries)) askers.pods.entries };
 }
 
 impl Askers {

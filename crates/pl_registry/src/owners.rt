@@ -1,11 +1,11 @@
 ghost use Rattle.std.specs.Prelude.{◌≡◌, [], OnErr, OnOk};
 ghost use Rattle.std.specs.BTreeMap.{insert_entry};
-ghost use Rattle.pl_logic.specs.HostViews.{ip_cmp};
-ghost use Rattle.pl_logic.specs.ManagerViews.{value_at};
+ghost use Rattle.pl_node.specs.HostViews.{ip_cmp};
+ghost use Rattle.pl_node.specs.ManagerViews.{value_at};
 
 use indexmap::IndexMap;
 use pl_frame::Ip4;
-use pl_logic::Memory;
+use pl_node::Memory;
 use pl_pmac::Pmac;
 use std::alloc::Global;
 use std::marker::Model;

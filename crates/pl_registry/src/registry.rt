@@ -1,6 +1,6 @@
 ghost use Rattle.std.specs.Prelude.{◌≡◌, ℕ, [], IfOk, OnOk, option_map};
-ghost use Rattle.pl_logic.specs.ManagerFacts.{newest_and_number};
-ghost use Rattle.pl_logic.specs.ManagerViews.{lookup};
+ghost use Rattle.pl_node.specs.ManagerFacts.{newest_and_number};
+ghost use Rattle.pl_node.specs.ManagerViews.{lookup};
 ghost use Rattle.pl_manager_rule.specs.ManagerRule.{invalidation, learning, with_learnt, with_owner};
 ghost use Rattle.pl_registry.specs.Addresses.{registration_of};
 ghost use Rattle.pl_registry.specs.Learning.{acts_of_learning, acts_of_replaced};
@@ -8,7 +8,7 @@ ghost use Rattle.pl_registry.specs.Learning.{acts_of_learning, acts_of_replaced}
 use crate::addresses::{Addresses, Known, Registered};
 use crate::owners::Owners;
 use pl_frame::{Ip4, Mac, SwitchId};
-use pl_logic::Memory;
+use pl_node::Memory;
 use pl_pmac::Pmac;
 use std::alloc::Global;
 use std::marker::Model;
@@ -39,7 +39,7 @@ pub struct Replaced {
 }
 
 impl Model for Registry {
-    ghost use Rattle.pl_logic.specs.ManagerViews.{Learnt};
+    ghost use Rattle.pl_node.specs.ManagerViews.{Learnt};
 
     ghost Value = { Learnt };
 

@@ -3,4 +3,5 @@ pub mod Telling
 pub mod Sorting
 pub mod Liveness
 pub mod Placing
-pub mod Keeping
+pub mod KeepingReports
+pub mod Exports

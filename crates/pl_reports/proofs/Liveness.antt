@@ -7,12 +7,10 @@ use Rattle.std.specs.Cmp.{Equal-is}
 use Rattle.std.specs.BTreeMap.{insert_entry, is_at}
 use Rattle.std.proofs.lemmas.Bool.{and_parts, false≢true}
 use Rattle.pl_frame.specs.declared.address.SwitchId.{SwitchId}
-use Rattle.pl_logic.specs.ManagerViews.{Told, alive_neighbours, id_cmp, is_alive, is_told_usable, link_cmp, neighbours, value_at}
-use Rattle.pl_logic.proofs.Among.{among_filter, among_filtered, any_among}
+use Rattle.pl_node.specs.ManagerViews.{Told, alive_neighbours, id_cmp, is_alive, is_told_usable, link_cmp, neighbours, value_at}
+use Rattle.pl_node.proofs.Exports.{among_filter, among_filtered, any_among}
 use Rattle.pl_manager_rule.specs.ManagerRule.{with_link}
-use Rattle.pl_manager_rule.proofs.Avoided.{id_among, id_is, id_itself}
-use Rattle.pl_manager_rule.proofs.History.{value_after}
-use Rattle.pl_manager_rule.proofs.Kept.{link_exact, near_usable}
+use Rattle.pl_manager_rule.proofs.Exports.{id_among, id_is, id_itself, link_exact, near_usable, value_after}
 use Rattle.pl_reports.specs.Kept.{is_living, living_by, near_of, usable_in, with_ends}
 use Rattle.pl_reports.proofs.Telling.{IsPair, link_total, other_neighbours}
 

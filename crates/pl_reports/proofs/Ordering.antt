@@ -6,8 +6,8 @@ use Rattle.std.specs.Ordering.{ordering_reverse}
 use Rattle.std.specs.Cmp.{IsTotalOrder}
 use Rattle.std.proofs.lemmas.Cmp.{tied_itself}
 use Rattle.std.proofs.lemmas.Map.Lookups.{CmpEqualImpliesEq}
-use Rattle.pl_logic.specs.ManagerViews.{in_order}
-use Rattle.pl_logic.proofs.Among.{IsAmong, among_in_order, among_ordered, rising_in_order}
+use Rattle.pl_node.specs.ManagerViews.{in_order}
+use Rattle.pl_node.proofs.Exports.{among_in_order, among_ordered, IsAmong, rising_in_order}
 
 module _ {K : Type 0} where
   abbrev IsWithin : List K → List K → Type 0

@@ -13,13 +13,11 @@ use Rattle.pl_frame.specs.declared.address.SwitchId.{SwitchId}
 use Rattle.pl_layouts.specs.declared.place.Place.{Place}
 use Rattle.pl_layouts.specs.Equality.{same_switch}
 use Rattle.pl_layouts.specs.Placement.{nowhere}
-use Rattle.pl_layouts.proofs.Sameness.{switch_itself}
-use Rattle.pl_logic.specs.ManagerViews.{PlacedEdge, Told, edge_at, edge_with, id_cmp, place_of, placed_edges, switches, tellers, value_at}
-use Rattle.pl_logic.proofs.Among.{IsAmong, among_filter, among_filtered, among_in_order, among_insert, among_left, id_total, rising_inserted}
+use Rattle.pl_layouts.proofs.Exports.{switch_itself}
+use Rattle.pl_node.specs.ManagerViews.{PlacedEdge, Told, edge_at, edge_with, id_cmp, place_of, placed_edges, switches, tellers, value_at}
+use Rattle.pl_node.proofs.Exports.{among_filter, among_filtered, among_in_order, among_insert, among_left, id_total, IsAmong, rising_inserted}
 use Rattle.pl_manager_rule.specs.ManagerRule.{with_link, with_place}
-use Rattle.pl_manager_rule.proofs.Avoided.{id_exact, id_is, same_is, switches_rise}
-use Rattle.pl_manager_rule.proofs.History.{value_after}
-use Rattle.pl_manager_rule.proofs.Tables.{found_key, value_put}
+use Rattle.pl_manager_rule.proofs.Exports.{found_key, id_exact, id_is, same_is, switches_rise, value_after, value_put}
 use Rattle.pl_reports.specs.Kept.{with_edge}
 use Rattle.pl_reports.proofs.Liveness.{not_here}
 use Rattle.pl_reports.proofs.Ordering.{same_rising}

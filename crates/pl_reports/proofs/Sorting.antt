@@ -6,9 +6,9 @@ use Rattle.std.specs.Ordering.{match_ordering}
 use Rattle.std.specs.BTreeSet.{insert_key}
 use Rattle.std.proofs.lemmas.List.Kept.{IsStrictlySortedBy-filter}
 use Rattle.pl_frame.specs.declared.address.SwitchId.{SwitchId}
-use Rattle.pl_logic.specs.ManagerViews.{id_cmp, in_order}
-use Rattle.pl_logic.proofs.Among.{IsAmong, among_in_order, among_insert, among_ordered, id_total, rising_in_order, rising_inserted}
-use Rattle.pl_manager_rule.proofs.Avoided.{id_exact}
+use Rattle.pl_node.specs.ManagerViews.{id_cmp, in_order}
+use Rattle.pl_node.proofs.Exports.{among_in_order, among_insert, among_ordered, id_total, IsAmong, rising_in_order, rising_inserted}
+use Rattle.pl_manager_rule.proofs.Exports.{id_exact}
 use Rattle.pl_reports.proofs.Ordering.{same_rising}
 
 abbrev pub put_in : List SwitchId → SwitchId → List SwitchId

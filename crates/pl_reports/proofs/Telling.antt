@@ -12,13 +12,11 @@ use Rattle.std.proofs.lemmas.Map.Lookups.{CmpEqualImpliesEq}
 use Rattle.pl_frame.specs.declared.address.SwitchId.{SwitchId}
 use Rattle.pl_layouts.specs.declared.place.Place.{Place}
 use Rattle.pl_layouts.specs.Equality.{same_switch}
-use Rattle.pl_layouts.proofs.Sameness.{switch_itself}
-use Rattle.pl_logic.specs.ManagerViews.{Told, id_cmp, link_cmp, neighbours, switches, tellers, value_at}
-use Rattle.pl_logic.proofs.Among.{IsAmong, among_append, among_filter, among_filtered, among_left, among_map, among_mapped, among_right, id_total}
+use Rattle.pl_layouts.proofs.Exports.{switch_itself}
+use Rattle.pl_node.specs.ManagerViews.{Told, id_cmp, link_cmp, neighbours, switches, tellers, value_at}
+use Rattle.pl_node.proofs.Exports.{among_append, among_filter, among_filtered, among_left, among_map, among_mapped, among_right, id_total, IsAmong}
 use Rattle.pl_manager_rule.specs.ManagerRule.{with_link, with_place}
-use Rattle.pl_manager_rule.proofs.Avoided.{id_exact, same_is}
-use Rattle.pl_manager_rule.proofs.Tables.{among_put, found_key, value_put}
-use Rattle.pl_manager_rule.proofs.Kept.{link_exact}
+use Rattle.pl_manager_rule.proofs.Exports.{among_put, found_key, id_exact, link_exact, same_is, value_put}
 use Rattle.pl_reports.specs.Kept.{near_of, with_neighbour}
 use Rattle.pl_reports.proofs.Ordering.{same_order}
 

@@ -5,7 +5,7 @@ use Rattle.std.specs.BTreeMap.{is_at}
 use Rattle.std.specs.BTreeSet.{insert_key}
 use Rattle.pl_frame.specs.declared.address.SwitchId.{SwitchId}
 use Rattle.pl_layouts.specs.Equality.{same_switch}
-use Rattle.pl_logic.specs.ManagerViews.{Told, alive_neighbours, id_cmp, link_cmp, neighbours, placed_edges, switches, value_at}
+use Rattle.pl_node.specs.ManagerViews.{Told, alive_neighbours, id_cmp, link_cmp, neighbours, placed_edges, switches, value_at}
 
 -- no switch told anything
 abbrev pub nothing_told : Told

@@ -4,12 +4,12 @@ ghost use Rattle.std.specs.List.{filter};
 ghost use Rattle.std.specs.List.Sorted.{IsStrictlySortedBy};
 ghost use Rattle.pl_frame.specs.declared.address.SwitchId.{SwitchId};
 ghost use Rattle.pl_layouts.specs.Equality.{same_switch};
-ghost use Rattle.pl_logic.specs.ManagerViews.{edge_at, id_cmp};
+ghost use Rattle.pl_node.specs.ManagerViews.{edge_at, id_cmp};
 ghost use Rattle.pl_reports.specs.Kept.{with_edge};
 
 use crate::living::add_if;
 use pl_frame::SwitchId;
-use pl_logic::{Memory, Place, SwitchList};
+use pl_node::{Memory, Place, SwitchList};
 use std::alloc::Global;
 
 /// Puts a switch that told its place among the placed edge switches, or takes it out.

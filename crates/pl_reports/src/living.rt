@@ -3,12 +3,12 @@ ghost use Rattle.std.specs.BTreeMap.{is_at};
 ghost use Rattle.std.specs.BTreeSet.{insert_key};
 ghost use Rattle.std.specs.List.{list_any};
 ghost use Rattle.pl_frame.specs.declared.address.SwitchId.{SwitchId};
-ghost use Rattle.pl_logic.specs.ManagerViews.{id_cmp};
+ghost use Rattle.pl_node.specs.ManagerViews.{id_cmp};
 ghost use Rattle.pl_reports.specs.Kept.{is_living, living_by, near_of, usable_in};
 
 use crate::neighbours::{Neighbours, neighbours_in};
 use pl_frame::SwitchId;
-use pl_logic::{Memory, SwitchList};
+use pl_node::{Memory, SwitchList};
 use std::alloc::Global;
 use std::collections::BTreeMap;
 

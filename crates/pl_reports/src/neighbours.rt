@@ -1,11 +1,11 @@
 ghost use Rattle.std.specs.Prelude.{◌≡◌, OnOk, slice_get};
 ghost use Rattle.std.specs.List.Sorted.{IsStrictlySortedBy};
-ghost use Rattle.pl_logic.specs.ManagerViews.{id_cmp};
+ghost use Rattle.pl_node.specs.ManagerViews.{id_cmp};
 ghost use Rattle.pl_frame.specs.declared.address.SwitchId.{SwitchId};
 ghost use Rattle.pl_reports.specs.Kept.{near_of, with_neighbour};
 
 use pl_frame::SwitchId;
-use pl_logic::{Memory, SwitchList};
+use pl_node::{Memory, SwitchList};
 use std::alloc::Global;
 use std::collections::BTreeMap;
 

@@ -2,7 +2,7 @@ ghost use Rattle.std.specs.Prelude.{◌≡◌, OnErr, OnOk, is_some, map, slice_
 ghost use Rattle.std.specs.BTreeMap.{insert_entry};
 ghost use Rattle.std.specs.List.Sorted.{IsStrictlySortedBy};
 ghost use Rattle.std.specs.BTreeSet.{insert_key};
-ghost use Rattle.pl_logic.specs.ManagerViews.{alive_neighbours, edge_at, id_cmp, is_alive, is_told_usable, link_cmp, neighbours, place_of, placed_edges, switches};
+ghost use Rattle.pl_node.specs.ManagerViews.{alive_neighbours, edge_at, id_cmp, is_alive, is_told_usable, link_cmp, neighbours, place_of, placed_edges, switches};
 ghost use Rattle.pl_manager_rule.specs.ManagerRule.{with_link, with_place};
 ghost use Rattle.pl_reports.specs.Kept.{has_told, living_by, near_of, nothing_told, with_edge, with_ends, with_neighbour};
 ghost use Rattle.pl_frame.specs.declared.address.SwitchId.{SwitchId};
@@ -11,7 +11,7 @@ use crate::edges::keep_edge;
 use crate::living::{Links, is_among, is_usable, renew_living};
 use crate::neighbours::{Neighbours, add_neighbour, neighbours_in};
 use pl_frame::SwitchId;
-use pl_logic::{Memory, Place, SwitchList};
+use pl_node::{Memory, Place, SwitchList};
 use std::alloc::Global;
 use std::collections::BTreeMap;
 use std::marker::Model;
@@ -38,7 +38,7 @@ pub struct Reports {
 }
 
 impl Model for Reports {
-    ghost use Rattle.pl_logic.specs.ManagerViews.{Told};
+    ghost use Rattle.pl_node.specs.ManagerViews.{Told};
     ghost use Rattle.pl_reports.specs.Kept.{IsKeptFor};
 
     ghost Value = { Told };

@@ -11,12 +11,12 @@ use Rattle.pl_inputs.specs.declared.status.Status.{Status}
 use Rattle.pl_inputs.specs.Inputs.{AreRead, Inputs, text_limit}
 use Rattle.pl_inputs.specs.Unread.{IsLongName, IsRefusedCapture, IsTooMuch}
 use Rattle.pl_inputs.specs.Words.{Asked}
-use Rattle.pl_lines.specs.declared.stop.Stop.{Stop}
-use Rattle.pl_lines.specs.Scenes.{Scene}
+use Rattle.pl_script_rule.specs.declared.stop.Stop.{Stop}
+use Rattle.pl_script_rule.specs.Scenes.{Scene}
 use Rattle.pl_inputs.specs.declared.status.Status.TheVariants as status
-use Rattle.pl_playing.specs.Outcomes.{Moment, outcome}
+use Rattle.pl_playing.specs.Outcomes.{ShelfMoment, outcome}
 use Rattle.pl_run.specs.Answers.{Answers}
-use Rattle.pl_run.specs.Complete.{AnswersByPlaying, AnswersInputs, AreCapturesTold, AreTold, IsCaptureTold}
+use Rattle.pl_run.specs.Complete.{AnswersByPlaying, AnswersInputs, AreCapturesShown, AreShown, IsCaptureShown}
 use Rattle.pl_run.proofs.Complete.{one_input, one_plan}
 use Rattle.pl_run.proofs.CompleteCaptures.{long_stop, none_stops, refused_stop}
 use Rattle.pl_run.proofs.Stages.{no_bad_script, no_bad_topology, no_long_script, no_long_topology, no_read_fault, no_write_fault}
@@ -29,26 +29,26 @@ IsPlayedAs i e = (end : Option (ℕ × Stop)) × (scene : Scene) × PlaysTo i en
 stopped_as : (i j : Inputs) (e : Status) → j ≡ i → IsStopped j e → IsPlayedAs i e
 stopped_as i j e same s = (Some s.stopped, s.scene, subst (λ x. PlaysTo x (Some s.stopped) s.scene) same s.played, s.answered)
 
-played_as : (held : List ℕ → Held) (asked : Asked) (i j : Inputs) (e : Status) → AreTold held asked i.plan.hosts → AreRead held asked i → AreRead held asked j →
+played_as : (held : List ℕ → Held) (asked : Asked) (i j : Inputs) (e : Status) → AreShown held asked i.plan.hosts → AreRead held asked i → AreRead held asked j →
     IsStopped j e → IsPlayedAs i e
 played_as held asked i j e told is was s = stopped_as i j e (sym (one_input held asked i j told is was)) s
 
-told_front : (held : List ℕ → Held) (folder : List ℕ) (hosts : List Host) (n : ℕ) → AreCapturesTold held folder hosts → AreCapturesTold held folder (take n hosts)
-told_front held folder hosts n told = All-take (λ h. IsCaptureTold held folder h.capture) n hosts told
+shown_front : (held : List ℕ → Held) (folder : List ℕ) (hosts : List Host) (n : ℕ) → AreCapturesShown held folder hosts → AreCapturesShown held folder (take n hosts)
+shown_front held folder hosts n told = All-take (λ h. IsCaptureShown held folder h.capture) n hosts told
 
-no_much : (held : List ℕ → Held) (asked : Asked) (i : Inputs) → AreTold held asked i.plan.hosts → AreRead held asked i → (name : List ℕ) → IsTooMuch held asked.captures i.plan.hosts name → ⊥
+no_much : (held : List ℕ → Held) (asked : Asked) (i : Inputs) → AreShown held asked i.plan.hosts → AreRead held asked i → (name : List ℕ) → IsTooMuch held asked.captures i.plan.hosts name → ⊥
 no_much held asked i told is name m =
-    none_stops held asked.captures i.plan.hosts m.n m.host m.comes (told_front held asked.captures i.plan.hosts (suc m.n) told.captures) i.captures is.captures is.limit
+    none_stops held asked.captures i.plan.hosts m.n m.host m.comes (shown_front held asked.captures i.plan.hosts (suc m.n) told.captures) i.captures is.captures is.limit
     (long_stop held asked.captures i.plan.hosts name m)
 
-no_bad_capture : (held : List ℕ → Held) (asked : Asked) (i : Inputs) → AreTold held asked i.plan.hosts → AreRead held asked i → (n : ℕ) (e : CaptureFault) →
+no_bad_capture : (held : List ℕ → Held) (asked : Asked) (i : Inputs) → AreShown held asked i.plan.hosts → AreRead held asked i → (n : ℕ) (e : CaptureFault) →
     IsRefusedCapture held asked.captures i.plan.hosts n e → ⊥
 no_bad_capture held asked i told is n e r =
-    none_stops held asked.captures i.plan.hosts n r.host r.comes (told_front held asked.captures i.plan.hosts (suc n) told.captures) i.captures is.captures is.limit
+    none_stops held asked.captures i.plan.hosts n r.host r.comes (shown_front held asked.captures i.plan.hosts (suc n) told.captures) i.captures is.captures is.limit
     (refused_stop held asked.captures i.plan.hosts n e r)
 
 -- nothing that was accepted is too long
-no_long_name : (held : List ℕ → Held) (asked : Asked) (i : Inputs) → AreTold held asked i.plan.hosts → AreRead held asked i → (name : List ℕ) → IsLongName held asked name → ⊥
+no_long_name : (held : List ℕ → Held) (asked : Asked) (i : Inputs) → AreShown held asked i.plan.hosts → AreRead held asked i → (name : List ℕ) → IsLongName held asked name → ⊥
 no_long_name held asked i told is name (inl l) =
     no_long_topology held asked.topology i.plan told.topology is.topology (subst (λ n. IsLonger (held n) text_limit) l.0 l.1)
 no_long_name held asked i told is name (inr (inl l)) =
@@ -57,7 +57,7 @@ no_long_name held asked i told is name (inr (inr l)) =
     let same : l.0 ≡ i.plan = one_plan held asked.topology told.topology l.0 i.plan l.1.topology is.topology in
     no_much held asked i told is name (subst (λ (p : Plan). IsTooMuch held asked.captures p.hosts name) same l.2)
 
-pub answers_by_playing : (old new : Moment) (asked : Asked) (e : Status) → Answers old new asked e → AnswersByPlaying old new asked e
+pub answers_by_playing : (old new : ShelfMoment) (asked : Asked) (e : Status) → Answers old new asked e → AnswersByPlaying old new asked e
 answers_by_playing old new asked status.Done a i is told none =
     let same : a.0 ≡ i = sym (one_input old.held asked i a.0 told is a.1) in
     inl (None, a.2.0.scene, subst (λ x. PlaysTo x None a.2.0.scene) same a.2.0.played, refl)
@@ -89,7 +89,7 @@ answers_by_playing old new asked status.Usage a i is told none = absurd a.0
 abbrev pub OneEnd : Type 0
 OneEnd = (i : Inputs) (end other : Option (ℕ × Stop)) (scene another : Scene) → PlaysTo i end scene → PlaysTo i other another → end ≡ other
 
-pub answers_inputs : OneEnd → (old new : Moment) (asked : Asked) (e : Status) → Answers old new asked e → AnswersInputs old new asked e
+pub answers_inputs : OneEnd → (old new : ShelfMoment) (asked : Asked) (e : Status) → Answers old new asked e → AnswersInputs old new asked e
 answers_inputs one old new asked e a i end scene is told none plays = elim (answers_by_playing old new asked e a i is told none) [
   | inl p ↦ inl (p.3 ∙ ap outcome (one i p.0 end p.1 scene p.2 plays))
   | inr memory ↦ inr memory

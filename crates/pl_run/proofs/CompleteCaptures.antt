@@ -9,21 +9,21 @@ use Rattle.pl_shelf.specs.Held.{Held, IsLonger}
 use Rattle.pl_wiring.specs.declared.host.Host.{Host}
 use Rattle.pl_inputs.specs.declared.fault.CaptureFault.{CaptureFault}
 use Rattle.pl_inputs.specs.Folders.{in_folder}
-use Rattle.pl_inputs.specs.Inputs.{AreCaptures, IsCapture, IsCaptureAt, all_bytes, captures_limit}
+use Rattle.pl_inputs.specs.Inputs.{AreCaptures, IsCaptureFile, IsCaptureAt, all_bytes, captures_limit}
 use Rattle.pl_inputs.specs.Readings.{reading_of}
 use Rattle.pl_inputs.specs.Unread.{ComesTo, IsRefusedCapture, IsTooMuch}
-use Rattle.pl_run.specs.Complete.{AreCapturesTold, IsCaptureTold}
+use Rattle.pl_run.specs.Complete.{AreCapturesShown, IsCaptureShown}
 use Rattle.pl_run.proofs.Complete.{not_longer, ok_err, one_capture, one_err, one_list}
 
 -- the capture of a host is accepted behind these files, and together they are within this
 record IsAccepted (held : List ℕ → Held) (folder : List ℕ) (host : Host) (files : List (List ℕ)) (total : ℕ) : Type 0 where
   file : List ℕ
   is : IsCaptureAt held folder host.capture file
-  read : IsCapture file
+  read : IsCaptureFile file
   within : all_bytes files + length file ≤ total
 
 accepted : (held : List ℕ → Held) (folder : List ℕ) (hosts : List Host) (n : ℕ) (host : Host) (files before : List (List ℕ)) →
-    AreCapturesTold held folder (take n hosts) → AreCaptures held folder hosts files → AreCaptures held folder (take n hosts) before →
+    AreCapturesShown held folder (take n hosts) → AreCaptures held folder hosts files → AreCaptures held folder (take n hosts) before →
     slice_get hosts n ≡ Some host → IsAccepted held folder host before (all_bytes files)
 accepted held folder [] n host files before told are front stands = absurd (none-some host stands)
 accepted held folder (h ∷ hosts) n host [] before told are front stands = absurd are
@@ -36,8 +36,8 @@ accepted held folder (h ∷ hosts) zero host (f ∷ files) [] told are front sta
 accepted held folder (h ∷ hosts) zero host (f ∷ files) (g ∷ before) told are front stands = absurd front
 accepted held folder (h ∷ hosts) (suc n) host (f ∷ files) [] told are front stands = absurd front
 accepted held folder (h ∷ hosts) (suc n) host (f ∷ files) (g ∷ before) told are front stands =
-    let first = All-head (λ h. IsCaptureTold held folder h.capture) h (take n hosts) told in
-    let rest = All-tail (λ h. IsCaptureTold held folder h.capture) h (take n hosts) told in
+    let first = All-head (λ h. IsCaptureShown held folder h.capture) h (take n hosts) told in
+    let rest = All-tail (λ h. IsCaptureShown held folder h.capture) h (take n hosts) told in
     let then = accepted held folder hosts n host files before rest are.2 front.2 stands in
     let same : length f ≡ length g = ap (λ x. length x) (one_capture held folder h.capture first f g are.0 front.0) in
     let more = sum_by-cons length f files in
@@ -57,26 +57,26 @@ abbrev pub IsStop : (List ℕ → Held) → List ℕ → Host → List (List ℕ
 IsStop held folder host files = IsRefusedAt held folder host ⊎ IsLongAt held folder host files
 
 no_stop : (held : List ℕ → Held) (folder : List ℕ) (host : Host) (files : List (List ℕ)) (total : ℕ) → total ≤ captures_limit →
-    IsCaptureTold held folder host.capture → IsAccepted held folder host files total → IsStop held folder host files → ⊥
+    IsCaptureShown held folder host.capture → IsAccepted held folder host files total → IsStop held folder host files → ⊥
 no_stop held folder host files total limit told a (inl r) =
     let same : r.0 ≡ a.file = one_capture held folder host.capture told r.0 a.file r.2 a.is in
     ok_err (reading_of r.0) a.read.0 r.1 (ap reading_of same ∙ a.read.1) r.3
 no_stop held folder host files total limit told a (inr l) =
     let within = a.within in
-    not_longer held (in_folder folder l.0) (subst (λ c. IsCaptureTold held folder c) l.1 told) a.file (captures_limit - all_bytes files)
+    not_longer held (in_folder folder l.0) (subst (λ c. IsCaptureShown held folder c) l.1 told) a.file (captures_limit - all_bytes files)
     (subst (λ c. IsCaptureAt held folder c a.file) l.1 a.is) (omega arith) l.2
 
-told_at : (held : List ℕ → Held) (folder : List ℕ) (hosts : List Host) (n : ℕ) (host : Host) → AreCapturesTold held folder (take (suc n) hosts) →
-    slice_get hosts n ≡ Some host → IsCaptureTold held folder host.capture
-told_at held folder [] n host told stands = absurd (none-some host stands)
-told_at held folder (h ∷ hosts) zero host told stands =
-    subst (λ (x : Host). IsCaptureTold held folder x.capture) (same_Some h host stands) (All-head (λ h. IsCaptureTold held folder h.capture) h [] told)
-told_at held folder (h ∷ hosts) (suc n) host told stands =
-    told_at held folder hosts n host (All-tail (λ h. IsCaptureTold held folder h.capture) h (take (suc n) hosts) told) stands
+shown_at : (held : List ℕ → Held) (folder : List ℕ) (hosts : List Host) (n : ℕ) (host : Host) → AreCapturesShown held folder (take (suc n) hosts) →
+    slice_get hosts n ≡ Some host → IsCaptureShown held folder host.capture
+shown_at held folder [] n host told stands = absurd (none-some host stands)
+shown_at held folder (h ∷ hosts) zero host told stands =
+    subst (λ (x : Host). IsCaptureShown held folder x.capture) (same_Some h host stands) (All-head (λ h. IsCaptureShown held folder h.capture) h [] told)
+shown_at held folder (h ∷ hosts) (suc n) host told stands =
+    shown_at held folder hosts n host (All-tail (λ h. IsCaptureShown held folder h.capture) h (take (suc n) hosts) told) stands
 
-told_before : (held : List ℕ → Held) (folder : List ℕ) (hosts : List Host) (n m : ℕ) → n ≤ m → AreCapturesTold held folder (take m hosts) → AreCapturesTold held folder (take n hosts)
-told_before held folder hosts n m le told =
-    subst (λ hs. AreCapturesTold held folder hs) (take-take n m hosts le) (All-take (λ h. IsCaptureTold held folder h.capture) n (take m hosts) told)
+shown_before : (held : List ℕ → Held) (folder : List ℕ) (hosts : List Host) (n m : ℕ) → n ≤ m → AreCapturesShown held folder (take m hosts) → AreCapturesShown held folder (take n hosts)
+shown_before held folder hosts n m le told =
+    subst (λ hs. AreCapturesShown held folder hs) (take-take n m hosts le) (All-take (λ h. IsCaptureShown held folder h.capture) n (take m hosts) told)
 
 in_front : (hosts : List Host) (n m : ℕ) (host : Host) → n < m → slice_get hosts n ≡ Some host → slice_get (take m hosts) n ≡ Some host
 in_front [] n m host lt stands = absurd (none-some host stands)
@@ -86,36 +86,36 @@ in_front (h ∷ hosts) (suc n) (suc m) host lt stands = in_front hosts n m host 
 
 -- where all captures are accepted, none stops
 pub none_stops : (held : List ℕ → Held) (folder : List ℕ) (hosts : List Host) (n : ℕ) (host : Host) (c : ComesTo held folder hosts n host) →
-    AreCapturesTold held folder (take (suc n) hosts) → (files : List (List ℕ)) → AreCaptures held folder hosts files → all_bytes files ≤ captures_limit →
+    AreCapturesShown held folder (take (suc n) hosts) → (files : List (List ℕ)) → AreCaptures held folder hosts files → all_bytes files ≤ captures_limit →
     IsStop held folder host c.files → ⊥
 none_stops held folder hosts n host c told files are limit stop =
-    no_stop held folder host c.files (all_bytes files) limit (told_at held folder hosts n host told c.stands)
-    (accepted held folder hosts n host files c.files (told_before held folder hosts n (suc n) (omega arith) told) are c.earlier c.stands) stop
+    no_stop held folder host c.files (all_bytes files) limit (shown_at held folder hosts n host told c.stands)
+    (accepted held folder hosts n host files c.files (shown_before held folder hosts n (suc n) (omega arith) told) are c.earlier c.stands) stop
 
 -- nor does one before the first that does
 none_before : (held : List ℕ → Held) (folder : List ℕ) (hosts : List Host) (n m : ℕ) (host other : Host) (c : ComesTo held folder hosts n host) →
-    ComesTo held folder hosts m other → AreCapturesTold held folder (take (suc n) hosts) → n < m → IsStop held folder host c.files → ⊥
+    ComesTo held folder hosts m other → AreCapturesShown held folder (take (suc n) hosts) → n < m → IsStop held folder host c.files → ⊥
 none_before held folder hosts n m host other c d told lt stop =
     let front : take n hosts ≡ take n (take m hosts) = sym (take-take n m hosts (omega arith)) in
-    no_stop held folder host c.files (all_bytes d.files) d.limit (told_at held folder hosts n host told c.stands)
+    no_stop held folder host c.files (all_bytes d.files) d.limit (shown_at held folder hosts n host told c.stands)
     (accepted held folder (take m hosts) n host d.files c.files
-    (subst (λ hs. AreCapturesTold held folder hs) front (told_before held folder hosts n (suc n) (omega arith) told)) d.earlier
+    (subst (λ hs. AreCapturesShown held folder hs) front (shown_before held folder hosts n (suc n) (omega arith) told)) d.earlier
     (subst (λ hs. AreCaptures held folder hs c.files) front c.earlier) (in_front hosts n m host lt c.stands)) stop
 
 pub one_stop : (held : List ℕ → Held) (folder : List ℕ) (hosts : List Host) (n m : ℕ) (host other : Host) (c : ComesTo held folder hosts n host)
-    (d : ComesTo held folder hosts m other) → AreCapturesTold held folder (take (suc n) hosts) → IsStop held folder host c.files → IsStop held folder other d.files → n ≡ m
+    (d : ComesTo held folder hosts m other) → AreCapturesShown held folder (take (suc n) hosts) → IsStop held folder host c.files → IsStop held folder other d.files → n ≡ m
 one_stop held folder hosts n m host other c d told stop stopped = elim (cases_lt n m) [
   | inl lt ↦ absurd (none_before held folder hosts n m host other c d told lt stop)
   | inr ge ↦ elim (cases_lt m n) [
-    | inl lt ↦ absurd (none_before held folder hosts m n other host d c (told_before held folder hosts (suc m) (suc n) (omega arith) told) lt stopped)
+    | inl lt ↦ absurd (none_before held folder hosts m n other host d c (shown_before held folder hosts (suc m) (suc n) (omega arith) told) lt stopped)
     | inr le ↦ omega arith
   ]
 ]
 
 one_front : (held : List ℕ → Held) (folder : List ℕ) (hosts : List Host) (n m : ℕ) (host other : Host) (c : ComesTo held folder hosts n host)
-    (d : ComesTo held folder hosts m other) → AreCapturesTold held folder (take (suc n) hosts) → n ≡ m → c.files ≡ d.files
+    (d : ComesTo held folder hosts m other) → AreCapturesShown held folder (take (suc n) hosts) → n ≡ m → c.files ≡ d.files
 one_front held folder hosts n m host other c d told at =
-    one_list held folder (take n hosts) (told_before held folder hosts n (suc n) (omega arith) told) c.files d.files c.earlier
+    one_list held folder (take n hosts) (shown_before held folder hosts n (suc n) (omega arith) told) c.files d.files c.earlier
     (subst (λ k. AreCaptures held folder (take k hosts) d.files) (sym at) d.earlier)
 
 one_host : (hosts : List Host) (n m : ℕ) (host other : Host) → slice_get hosts n ≡ Some host → slice_get hosts m ≡ Some other → n ≡ m → host ≡ other
@@ -133,22 +133,22 @@ refused_stop held folder hosts n e r = inl (r.file, e, r.is, r.refused)
 
 -- one capture is not both refused and too long
 pub refused_not_long : (held : List ℕ → Held) (folder : List ℕ) (hosts : List Host) (n : ℕ) (e : CaptureFault) (name : List ℕ) → IsRefusedCapture held folder hosts n e →
-    (m : IsTooMuch held folder hosts name) → AreCapturesTold held folder (take (suc n) hosts) → n ≡ m.n → ⊥
+    (m : IsTooMuch held folder hosts name) → AreCapturesShown held folder (take (suc n) hosts) → n ≡ m.n → ⊥
 refused_not_long held folder hosts n e name r m told at =
     let host : r.host ≡ m.host = one_host hosts n m.n r.host m.host r.comes.stands m.comes.stands at in
     let names : r.host.capture ≡ Some m.file = ap (λ (h : Host). h.capture) host ∙ m.names in
     let front : m.comes.files ≡ r.comes.files = sym (one_front held folder hosts n m.n r.host m.host r.comes m.comes told at) in
-    not_longer held (in_folder folder m.file) (subst (λ c. IsCaptureTold held folder c) names (told_at held folder hosts n r.host told r.comes.stands)) r.file
+    not_longer held (in_folder folder m.file) (subst (λ c. IsCaptureShown held folder c) names (shown_at held folder hosts n r.host told r.comes.stands)) r.file
     (captures_limit - all_bytes r.comes.files) (subst (λ c. IsCaptureAt held folder c r.file) names r.is) r.limit
     (subst (λ fs. IsLonger (held (in_folder folder m.file)) (captures_limit - all_bytes fs)) front
     (subst (λ q. IsLonger (held q) (captures_limit - all_bytes m.comes.files)) m.is m.longer))
 
 -- it is refused for one reason
 pub one_reason : (held : List ℕ → Held) (folder : List ℕ) (hosts : List Host) (n m : ℕ) (e f : CaptureFault) → IsRefusedCapture held folder hosts n e →
-    IsRefusedCapture held folder hosts m f → AreCapturesTold held folder (take (suc n) hosts) → n ≡ m → e ≡ f
+    IsRefusedCapture held folder hosts m f → AreCapturesShown held folder (take (suc n) hosts) → n ≡ m → e ≡ f
 one_reason held folder hosts n m e f r s told at =
     let host : r.host ≡ s.host = one_host hosts n m r.host s.host r.comes.stands s.comes.stands at in
-    let same : r.file ≡ s.file = one_capture held folder r.host.capture (told_at held folder hosts n r.host told r.comes.stands) r.file s.file r.is
+    let same : r.file ≡ s.file = one_capture held folder r.host.capture (shown_at held folder hosts n r.host told r.comes.stands) r.file s.file r.is
     (subst (λ (h : Host). IsCaptureAt held folder h.capture s.file) (sym host) s.is) in
     one_err (reading_of r.file) e f r.refused (ap reading_of same ∙ s.refused)
 

@@ -10,28 +10,28 @@ use Rattle.pl_inputs.specs.Inputs.{AreRead, HasPlan, Inputs}
 use Rattle.pl_inputs.specs.Loads.{IsUnplanned, Reads}
 use Rattle.pl_inputs.specs.Unread.{IsUnread}
 use Rattle.pl_inputs.specs.Words.{Asked}
-use Rattle.pl_output.specs.Saved.{AreSaved, BreaksOff, IsBroken, IsWhole, OthersStay, Saving, once_saved}
+use Rattle.pl_output.specs.Saved.{AreSaved, BreaksOff, IsBroken, IsSavedWhole, OthersStay, Saving, once_saved}
 use Rattle.pl_generator.specs.Generated.{AreGenerated}
 use Rattle.pl_inputs.specs.declared.status.Status.TheVariants as status
-use Rattle.pl_playing.specs.Outcomes.{IsUntouched, Moment, Saves, SavingFails}
+use Rattle.pl_playing.specs.Outcomes.{IsUntouched, ShelfMoment, Saves, SavingFails}
 use Rattle.pl_host_rule.specs.HostRule.{host_rule}
 use Rattle.pl_manager_rule.specs.ManagerRule.{manager_rule}
 use Rattle.pl_switch_rule.specs.SwitchRule.{Exact}
-use Rattle.pl_playing.proofs.Stopped.{no_stop}
+use Rattle.pl_playing.proofs.Exports.{no_stop}
 use Rattle.pl_run.specs.Answers.{Answers}
 use Rattle.pl_run.specs.Checks.{AnswersCheck, EndsCheck, line_of}
 use Rattle.pl_run.specs.Generated.{AnswersGenerated, IsUngenerated, ReadsGenerated, generated_files, without_read_fault}
 use Rattle.pl_run.specs.Fabric.{Comes, IsPlayed, printed_of, texts_of}
 
 -- a shelf that holds the same, and of which no call failed
-pub record IsSameMoment (old new : Moment) : Type 0 where
+pub record IsSameMoment (old new : ShelfMoment) : Type 0 where
   pub same : Same old.held new.held
   pub reads : new.read_faults ≡ old.read_faults
   pub writes : new.write_faults ≡ old.write_faults
 
-whole_since : (old mid new : List ℕ → Held) → Same old mid → (savings : List Saving) → All (IsWhole mid new) savings → All (IsWhole old new) savings
+whole_since : (old mid new : List ℕ → Held) → Same old mid → (savings : List Saving) → All (IsSavedWhole mid new) savings → All (IsSavedWhole old new) savings
 whole_since old mid new same savings are =
-    All-weaker (IsWhole mid new) (IsWhole old new) (λ s is. is ∙ ap (λ h. once_saved s.name h s.text) (same s.name)) savings are
+    All-weaker (IsSavedWhole mid new) (IsSavedWhole old new) (λ s is. is ∙ ap (λ h. once_saved s.name h s.text) (same s.name)) savings are
 
 others_since : (old mid new : List ℕ → Held) → Same old mid → (savings : List Saving) → OthersStay mid new savings → OthersStay old new savings
 others_since old mid new same savings stay q apart = stay q apart ∙ same q
@@ -56,18 +56,18 @@ off_since old mid new same savings name off = record {
   others = others_since old mid new same (off.before ++ off.broken ∷ []) off.others;
 }
 
-untouched_since : (old mid new : Moment) → IsSameMoment old mid → IsUntouched mid new → IsUntouched old new
+untouched_since : (old mid new : ShelfMoment) → IsSameMoment old mid → IsUntouched mid new → IsUntouched old new
 untouched_since old mid new is then =
     record { same = λ q. then.same q ∙ is.same q; reads = then.reads ∙ is.reads; writes = then.writes ∙ is.writes }
 
-saves_since : (old mid new : Moment) → IsSameMoment old mid → (savings : List Saving) → Saves mid new savings → Saves old new savings
+saves_since : (old mid new : ShelfMoment) → IsSameMoment old mid → (savings : List Saving) → Saves mid new savings → Saves old new savings
 saves_since old mid new is savings s = record {
   saved = saved_since old.held mid.held new.held is.same savings s.saved;
   reads = s.reads ∙ is.reads;
   writes = s.writes ∙ is.writes;
 }
 
-fails_since : (old mid new : Moment) → IsSameMoment old mid → (savings : List Saving) (name : List ℕ) → SavingFails mid new savings name → SavingFails old new savings name
+fails_since : (old mid new : ShelfMoment) → IsSameMoment old mid → (savings : List Saving) (name : List ℕ) → SavingFails mid new savings name → SavingFails old new savings name
 fails_since old mid new is savings name s = record {
   saved = off_since old.held mid.held new.held is.same savings name s.saved;
   reads = s.reads ∙ is.reads;
@@ -75,7 +75,7 @@ fails_since old mid new is savings name s = record {
   rose = subst (λ n. Rose n new.write_faults) is.writes s.rose;
 }
 
-pub comes_since : (old mid new : Moment) → IsSameMoment old mid → (i : Inputs) (texts : IsPlayed i → List Saving) (e : Status) → Comes mid new i texts e → Comes old new i texts e
+pub comes_since : (old mid new : ShelfMoment) → IsSameMoment old mid → (i : Inputs) (texts : IsPlayed i → List Saving) (e : Status) → Comes mid new i texts e → Comes old new i texts e
 comes_since old mid new is i texts status.Done c = (c.0, saves_since old mid new is (texts c.0) c.1)
 comes_since old mid new is i texts (status.WriteFault name) c = (c.0, fails_since old mid new is (texts c.0) name c.1)
 comes_since old mid new is i texts status.OutOfMemory c = untouched_since old mid new is c
@@ -92,7 +92,7 @@ comes_since old mid new is i texts (status.StepsSpent line) c = (c.0, untouched_
 comes_since old mid new is i texts (status.JournalFull line) c = (c.0, untouched_since old mid new is c.1)
 
 -- a run whose inputs were read
-pub run_answers : (old new : Moment) (asked : Asked) (i : Inputs) → AreRead old.held asked i → (e : Status) → Comes old new i (texts_of asked.out i) e → Answers old new asked e
+pub run_answers : (old new : ShelfMoment) (asked : Asked) (i : Inputs) → AreRead old.held asked i → (e : Status) → Comes old new i (texts_of asked.out i) e → Answers old new asked e
 run_answers old new asked i read status.Done c = (i, read, c)
 run_answers old new asked i read (status.WriteFault name) c = (i, read, c)
 run_answers old new asked i read (status.ExpectFailed line) c = (i, read, c)
@@ -109,7 +109,7 @@ run_answers old new asked i read (status.BadCapture host e at) c = absurd (no_st
 run_answers old new asked i read (status.BadSection host e) c = absurd (no_stop Exact manager_rule host_rule i (status.BadSection host e) refl c.0)
 
 -- a run whose inputs were not read
-pub unread_answers : (old new : Moment) (asked : Asked) → Same old.held new.held → new.write_faults ≡ old.write_faults → (e : Status) →
+pub unread_answers : (old new : ShelfMoment) (asked : Asked) → Same old.held new.held → new.write_faults ≡ old.write_faults → (e : Status) →
     IsUnread old.held asked e → Reads {T = Inputs} (Err e) old.read_faults new.read_faults → Answers old new asked e
 unread_answers old new asked same writes (status.ReadFault name) u reads =
     (u, record { same = same; grows = reads.0; rose = reads.1; writes = writes })
@@ -128,7 +128,7 @@ unread_answers old new asked same writes (status.StepsSpent line) u reads = absu
 unread_answers old new asked same writes (status.JournalFull line) u reads = absurd u
 
 -- a topology that was read
-pub check_answers : (old mid new : Moment) (topology : List ℕ) (plan : Plan) → HasPlan old.held topology plan → IsSameMoment old mid → (e : Status) →
+pub check_answers : (old mid new : ShelfMoment) (topology : List ℕ) (plan : Plan) → HasPlan old.held topology plan → IsSameMoment old mid → (e : Status) →
     EndsCheck mid new plan e → AnswersCheck old new topology e
 check_answers old mid new topology plan has is status.Done c = (plan, has, saves_since old mid new is (line_of plan) c)
 check_answers old mid new topology plan has is (status.WriteFault name) c = (plan, has, fails_since old mid new is (line_of plan) name c)
@@ -146,7 +146,7 @@ check_answers old mid new topology plan has is (status.StepsSpent line) c = absu
 check_answers old mid new topology plan has is (status.JournalFull line) c = absurd c
 
 -- and one that was not
-pub unplanned_answers : (old new : Moment) (topology : List ℕ) → Same old.held new.held → new.write_faults ≡ old.write_faults → (e : Status) →
+pub unplanned_answers : (old new : ShelfMoment) (topology : List ℕ) → Same old.held new.held → new.write_faults ≡ old.write_faults → (e : Status) →
     IsUnplanned old.held topology e → Reads {T = Plan} (Err e) old.read_faults new.read_faults → AnswersCheck old new topology e
 unplanned_answers old new topology same writes (status.ReadFault name) u reads =
     (u, record { same = same; grows = reads.0; rose = reads.1; writes = writes })
@@ -165,7 +165,7 @@ unplanned_answers old new topology same writes (status.StepsSpent line) u reads 
 unplanned_answers old new topology same writes (status.JournalFull line) u reads = absurd u
 
 -- generated files that were read
-pub generated_answers : (old new : Moment) (g : Generation) (i : Inputs) → ReadsGenerated g i → (e : Status) → Comes old new i (printed_of i) e →
+pub generated_answers : (old new : ShelfMoment) (g : Generation) (i : Inputs) → ReadsGenerated g i → (e : Status) → Comes old new i (printed_of i) e →
     AnswersGenerated old new g.k g.number g.frames e
 generated_answers old new g i read status.Done c = (read.0, read.1, (i, read.2, c))
 generated_answers old new g i read (status.WriteFault name) c = (read.0, read.1, (i, read.2, c))
@@ -183,7 +183,7 @@ generated_answers old new g i read (status.BadCapture host e at) c = absurd (no_
 generated_answers old new g i read (status.BadSection host e) c = absurd (no_stop Exact manager_rule host_rule i (status.BadSection host e) refl c.0)
 
 -- and those that were not
-pub ungenerated_answers : (old new : Moment) → IsUntouched old new → (g : Generation) (e : Status) → IsUngenerated g e → AnswersGenerated old new g.k g.number g.frames e
+pub ungenerated_answers : (old new : ShelfMoment) → IsUntouched old new → (g : Generation) (e : Status) → IsUngenerated g e → AnswersGenerated old new g.k g.number g.frames e
 ungenerated_answers old new stays g status.OutOfMemory u = stays
 ungenerated_answers old new stays g (status.ReadFault name) u = absurd u
 ungenerated_answers old new stays g (status.TooLong name) u = (u.0, u.1, (u.2, stays))

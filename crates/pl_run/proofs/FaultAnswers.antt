@@ -6,7 +6,7 @@ use Rattle.pl_inputs.specs.Inputs.{Inputs}
 use Rattle.pl_inputs.specs.Words.{Asked, Check, Generate, Run, Task}
 use Rattle.pl_output.specs.Saved.{Saving}
 use Rattle.pl_inputs.specs.declared.status.Status.TheVariants as status
-use Rattle.pl_playing.specs.Outcomes.{IsUntouched, Moment, ReadFails, Saves, SavingFails}
+use Rattle.pl_playing.specs.Outcomes.{IsUntouched, ShelfMoment, ReadFails, Saves, SavingFails}
 use Rattle.pl_run.specs.Answers.{Answers, IsRun}
 use Rattle.pl_run.specs.Checks.{AnswersCheck, line_of}
 use Rattle.pl_run.specs.Faults.{TellsFaults}
@@ -18,31 +18,31 @@ use Rattle.pl_run.specs.Fabric.{Comes, IsPlayed, printed_of, texts_of}
 no_rise : (old new : ℕ) → new ≡ old → old < new → ⊥
 no_rise old new same more = omega (arith, same, more)
 
-pub untouched_tells : (old new : Moment) (e : Status) → IsUntouched old new → TellsFaults old new e
+pub untouched_tells : (old new : ShelfMoment) (e : Status) → IsUntouched old new → TellsFaults old new e
 untouched_tells old new e is = record {
   reads = λ more. absurd (no_rise old.read_faults new.read_faults is.reads more);
   writes = λ more. absurd (no_rise old.write_faults new.write_faults is.writes more);
 }
 
-saves_tells : (old new : Moment) (savings : List Saving) (e : Status) → Saves old new savings → TellsFaults old new e
+saves_tells : (old new : ShelfMoment) (savings : List Saving) (e : Status) → Saves old new savings → TellsFaults old new e
 saves_tells old new savings e is = record {
   reads = λ more. absurd (no_rise old.read_faults new.read_faults is.reads more);
   writes = λ more. absurd (no_rise old.write_faults new.write_faults is.writes more);
 }
 
-read_tells : (old new : Moment) (name : List ℕ) → ReadFails old new → TellsFaults old new (status.ReadFault name)
+read_tells : (old new : ShelfMoment) (name : List ℕ) → ReadFails old new → TellsFaults old new (status.ReadFault name)
 read_tells old new name is = record {
   reads = λ more. (name, refl);
   writes = λ more. absurd (no_rise old.write_faults new.write_faults is.writes more);
 }
 
-write_tells : (old new : Moment) (savings : List Saving) (name : List ℕ) → SavingFails old new savings name → TellsFaults old new (status.WriteFault name)
+write_tells : (old new : ShelfMoment) (savings : List Saving) (name : List ℕ) → SavingFails old new savings name → TellsFaults old new (status.WriteFault name)
 write_tells old new savings name is = record {
   reads = λ more. absurd (no_rise old.read_faults new.read_faults is.reads more);
   writes = λ more. (name, refl);
 }
 
-comes_tells : (old new : Moment) (i : Inputs) (texts : IsPlayed i → List Saving) (e : Status) → Comes old new i texts e → TellsFaults old new e
+comes_tells : (old new : ShelfMoment) (i : Inputs) (texts : IsPlayed i → List Saving) (e : Status) → Comes old new i texts e → TellsFaults old new e
 comes_tells old new i texts status.Done c = saves_tells old new (texts c.0) status.Done c.1
 comes_tells old new i texts (status.WriteFault name) c = write_tells old new (texts c.0) name c.1
 comes_tells old new i texts status.OutOfMemory c = untouched_tells old new status.OutOfMemory c
@@ -58,10 +58,10 @@ comes_tells old new i texts (status.Refused line reason) c = untouched_tells old
 comes_tells old new i texts (status.StepsSpent line) c = untouched_tells old new (status.StepsSpent line) c.1
 comes_tells old new i texts (status.JournalFull line) c = untouched_tells old new (status.JournalFull line) c.1
 
-run_tells : (old new : Moment) (asked : Asked) (e : Status) → IsRun old new asked e → TellsFaults old new e
+run_tells : (old new : ShelfMoment) (asked : Asked) (e : Status) → IsRun old new asked e → TellsFaults old new e
 run_tells old new asked e a = comes_tells old new a.0 (texts_of asked.out a.0) e a.2
 
-answers_tells : (old new : Moment) (asked : Asked) (e : Status) → Answers old new asked e → TellsFaults old new e
+answers_tells : (old new : ShelfMoment) (asked : Asked) (e : Status) → Answers old new asked e → TellsFaults old new e
 answers_tells old new asked status.Done a = run_tells old new asked status.Done a
 answers_tells old new asked (status.WriteFault name) a = run_tells old new asked (status.WriteFault name) a
 answers_tells old new asked (status.ExpectFailed line) a = run_tells old new asked (status.ExpectFailed line) a
@@ -77,7 +77,7 @@ answers_tells old new asked (status.BadScript line reason) a = untouched_tells o
 answers_tells old new asked (status.BadCapture host e at) a = untouched_tells old new (status.BadCapture host e at) a.1
 answers_tells old new asked (status.BadSection host e) a = untouched_tells old new (status.BadSection host e) a.1
 
-check_tells : (old new : Moment) (topology : List ℕ) (e : Status) → AnswersCheck old new topology e → TellsFaults old new e
+check_tells : (old new : ShelfMoment) (topology : List ℕ) (e : Status) → AnswersCheck old new topology e → TellsFaults old new e
 check_tells old new topology status.Done a = saves_tells old new (line_of a.0) status.Done a.2
 check_tells old new topology (status.WriteFault name) a = write_tells old new (line_of a.0) name a.2
 check_tells old new topology (status.ReadFault name) a = read_tells old new name a.1
@@ -94,10 +94,10 @@ check_tells old new topology (status.StepsSpent line) a = untouched_tells old ne
 check_tells old new topology (status.JournalFull line) a = untouched_tells old new (status.JournalFull line) a.1
 
 -- a run over generated files
-made_tells : (old new : Moment) (held : List ℕ → Held) (e : Status) → IsGeneratedRun old new held e → TellsFaults old new e
+made_tells : (old new : ShelfMoment) (held : List ℕ → Held) (e : Status) → IsGeneratedRun old new held e → TellsFaults old new e
 made_tells old new held e a = comes_tells old new a.0 (printed_of a.0) e a.2
 
-over_tells : (old new : Moment) (held : List ℕ → Held) (e : Status) → AnswersOver old new held e → TellsFaults old new e
+over_tells : (old new : ShelfMoment) (held : List ℕ → Held) (e : Status) → AnswersOver old new held e → TellsFaults old new e
 over_tells old new held status.Done a = made_tells old new held status.Done a
 over_tells old new held (status.WriteFault name) a = made_tells old new held (status.WriteFault name) a
 over_tells old new held (status.ExpectFailed line) a = made_tells old new held (status.ExpectFailed line) a
@@ -113,7 +113,7 @@ over_tells old new held (status.BadScript line reason) a = untouched_tells old n
 over_tells old new held (status.BadCapture host e at) a = untouched_tells old new (status.BadCapture host e at) a.1
 over_tells old new held (status.BadSection host e) a = untouched_tells old new (status.BadSection host e) a.1
 
-generated_tells : (old new : Moment) (k number frames : ℕ) (e : Status) → AnswersGenerated old new k number frames e → TellsFaults old new e
+generated_tells : (old new : ShelfMoment) (k number frames : ℕ) (e : Status) → AnswersGenerated old new k number frames e → TellsFaults old new e
 generated_tells old new k number frames status.OutOfMemory a = untouched_tells old new status.OutOfMemory a
 generated_tells old new k number frames status.Done a = over_tells old new a.0 status.Done a.2
 generated_tells old new k number frames (status.WriteFault name) a = over_tells old new a.0 (status.WriteFault name) a.2
@@ -129,7 +129,7 @@ generated_tells old new k number frames (status.BadScript line reason) a = over_
 generated_tells old new k number frames (status.BadCapture host e at) a = over_tells old new a.0 (status.BadCapture host e at) a.2
 generated_tells old new k number frames (status.BadSection host e) a = over_tells old new a.0 (status.BadSection host e) a.2
 
-pub task_tells : (old new : Moment) (task : Task) (e : Status) → AnswersTask old new task e → TellsFaults old new e
+pub task_tells : (old new : ShelfMoment) (task : Task) (e : Status) → AnswersTask old new task e → TellsFaults old new e
 task_tells old new (Run asked) e a = answers_tells old new asked e a
 task_tells old new (Check topology) e a = check_tells old new topology e a
 task_tells old new (Generate g) e a = generated_tells old new g.k g.number g.frames e a

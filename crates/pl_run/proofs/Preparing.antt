@@ -1,7 +1,7 @@
 -- Over a shelf that is prepared no call fails.
 use Rattle.std.proofs.Common.{◌≡◌, ℕ, List, Option, sym, subst}
 use Rattle.std.proofs.lemmas.List.Elements.{All-weaker}
-use Rattle.pl_shelf.specs.Capacity.{Fits, IsReadable}
+use Rattle.pl_shelf.specs.Capacity.{FitsBehind, IsReadable}
 use Rattle.pl_shelf.specs.Held.{Held, Same, created}
 use Rattle.pl_inputs.specs.declared.status.Status.{Status}
 use Rattle.pl_inputs.specs.declared.words.Generation.{Generation}
@@ -27,8 +27,8 @@ readable_since before after old new name kept same is =
 has_room_since : (before after : List ℕ → Option ℕ) (old new : List ℕ → Held) (s : Saving) → after ≡ before → Same old new →
     HasRoom before old s → HasRoom after new s
 has_room_since before after old new s kept same is =
-    subst (λ h. Fits (after s.name) (created s.name h) s.text) (sym (same s.name))
-    (subst (λ k. Fits (k s.name) (created s.name (old s.name)) s.text) (sym kept) is)
+    subst (λ h. FitsBehind (after s.name) (created s.name h) s.text) (sym (same s.name))
+    (subst (λ k. FitsBehind (k s.name) (created s.name (old s.name)) s.text) (sym kept) is)
 
 pub have_room_since : (before after : List ℕ → Option ℕ) (old new : List ℕ → Held) (savings : List Saving) → after ≡ before → Same old new →
     HaveRoom before old savings → HaveRoom after new savings

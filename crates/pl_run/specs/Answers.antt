@@ -4,14 +4,14 @@ use Rattle.pl_inputs.specs.Inputs.{AreRead, Inputs}
 use Rattle.pl_inputs.specs.Unread.{IsUnread}
 use Rattle.pl_inputs.specs.Words.{Asked}
 use Rattle.pl_inputs.specs.declared.status.Status.TheVariants as status
-use Rattle.pl_playing.specs.Outcomes.{Moment, IsUntouched, ReadFails}
+use Rattle.pl_playing.specs.Outcomes.{ShelfMoment, IsUntouched, ReadFails}
 use Rattle.pl_run.specs.Fabric.{Comes, texts_of}
 
 -- What each answer says of a run whose inputs are read from the shelf: they were read and something came of them; or they were not.
-abbrev pub IsRun : Moment → Moment → Asked → Status → Type 0
+abbrev pub IsRun : ShelfMoment → ShelfMoment → Asked → Status → Type 0
 IsRun old new asked e = (i : Inputs) × AreRead old.held asked i × Comes old new i (texts_of asked.out i) e
 
-abbrev pub Answers : Moment → Moment → Asked → Status → Type 0
+abbrev pub Answers : ShelfMoment → ShelfMoment → Asked → Status → Type 0
 Answers old new asked status.Done = IsRun old new asked status.Done
 Answers old new asked (status.WriteFault name) = IsRun old new asked (status.WriteFault name)
 Answers old new asked (status.ExpectFailed line) = IsRun old new asked (status.ExpectFailed line)

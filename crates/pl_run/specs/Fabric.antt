@@ -6,10 +6,10 @@ use Rattle.pl_inputs.specs.Inputs.{Inputs}
 use Rattle.pl_host_rule.specs.HostRule.{host_rule}
 use Rattle.pl_manager_rule.specs.ManagerRule.{manager_rule}
 use Rattle.pl_switch_rule.specs.SwitchRule.{Exact}
-use Rattle.pl_lines.specs.declared.stop.Stop.{Stop}
-use Rattle.pl_lines.specs.Scenes.{Scene}
+use Rattle.pl_script_rule.specs.declared.stop.Stop.{Stop}
+use Rattle.pl_script_rule.specs.Scenes.{Scene}
 use Rattle.pl_output.specs.Saved.{Saving}
-use Rattle.pl_playing.specs.Outcomes.{Moment}
+use Rattle.pl_playing.specs.Outcomes.{ShelfMoment}
 use Rattle.pl_playing.specs.Outcomes as playing
 use Rattle.pl_playing.specs.Prepared as prepared
 
@@ -33,7 +33,7 @@ abbrev pub printed_of : (i : Inputs) → IsPlayed i → List Saving
 printed_of = playing.printed_of Exact manager_rule host_rule
 
 -- what comes of inputs that were read
-abbrev pub Comes : Moment → Moment → (i : Inputs) → (IsPlayed i → List Saving) → Status → Type 0
+abbrev pub Comes : ShelfMoment → ShelfMoment → (i : Inputs) → (IsPlayed i → List Saving) → Status → Type 0
 Comes = playing.Comes Exact manager_rule host_rule
 
 -- there is room for what is saved of them

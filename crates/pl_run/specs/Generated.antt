@@ -8,7 +8,7 @@ use Rattle.pl_inputs.specs.Words.{Asked}
 use Rattle.pl_inputs.specs.declared.words.Generation.{Generation}
 use Rattle.pl_generator.specs.Generated.{AreGenerated}
 use Rattle.pl_inputs.specs.declared.status.Status.TheVariants as status
-use Rattle.pl_playing.specs.Outcomes.{IsUntouched, Moment}
+use Rattle.pl_playing.specs.Outcomes.{IsUntouched, ShelfMoment}
 use Rattle.pl_run.specs.Fabric.{Comes, printed_of}
 
 -- the names of the generated files; nothing is saved
@@ -16,11 +16,11 @@ abbrev pub generated_files : Asked
 generated_files = record { topology = codes "topology.toml"; script = codes "script"; captures = codes "captures"; out = [] }
 
 -- the generated files were read, and something came of them, of which the summary alone is printed
-abbrev pub IsGeneratedRun : Moment → Moment → (List ℕ → Held) → Status → Type 0
+abbrev pub IsGeneratedRun : ShelfMoment → ShelfMoment → (List ℕ → Held) → Status → Type 0
 IsGeneratedRun old new held e = (i : Inputs) × AreRead held generated_files i × Comes old new i (printed_of i) e
 
 -- A run over generated files is answered as a run over files is, but no read of them fails.
-abbrev pub AnswersOver : Moment → Moment → (List ℕ → Held) → Status → Type 0
+abbrev pub AnswersOver : ShelfMoment → ShelfMoment → (List ℕ → Held) → Status → Type 0
 AnswersOver old new held status.Done = IsGeneratedRun old new held status.Done
 AnswersOver old new held (status.WriteFault name) = IsGeneratedRun old new held (status.WriteFault name)
 AnswersOver old new held (status.ExpectFailed line) = IsGeneratedRun old new held (status.ExpectFailed line)
@@ -31,7 +31,7 @@ AnswersOver old new held (status.ReadFault name) = ⊥
 AnswersOver old new held e = IsUnread held generated_files e × IsUntouched old new
 
 -- What is answered for a fabric of this k, and this number and so many frames.
-abbrev pub AnswersGenerated : Moment → Moment → ℕ → ℕ → ℕ → Status → Type 0
+abbrev pub AnswersGenerated : ShelfMoment → ShelfMoment → ℕ → ℕ → ℕ → Status → Type 0
 AnswersGenerated old new k number frames status.OutOfMemory = IsUntouched old new
 AnswersGenerated old new k number frames e =
     (held : List ℕ → Held) × AreGenerated held k number frames × AnswersOver old new held e

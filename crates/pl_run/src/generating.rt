@@ -1,6 +1,6 @@
 ghost use Rattle.std.specs.Prelude.{◌≡◌, IfErr, IfOk};
 ghost use Rattle.pl_inputs.specs.Loaded.{inputs_of};
-ghost use Rattle.pl_inputs.specs.Met.{IsWithin, asked};
+ghost use Rattle.pl_inputs.specs.Met.{MayBeMade, asked};
 ghost use Rattle.pl_playing.specs.Outcomes.{moment};
 ghost use Rattle.pl_playing.specs.Plays.{answer_of};
 ghost use Rattle.pl_playing.specs.Prepared.{NamesNoFault};
@@ -34,7 +34,7 @@ pub(crate) fn generate_and_run<S: Shelf>(
     generation: Generation,
     shelf: &mut S,
 ) -> Result<(), Status>
-    requires { IsWithin generation }
+    requires { MayBeMade generation }
     ensures answers { AnswersGenerated
         (moment (S.held shelf.old) (S.read_faults shelf.old) (S.write_faults shelf.old))
         (moment (S.held shelf.new) (S.read_faults shelf.new) (S.write_faults shelf.new))
@@ -47,7 +47,7 @@ pub(crate) fn generate_and_run<S: Shelf>(
 
 // What is read of the generated files.
 fn generated_inputs(alloc: Global, generation: Generation) -> Result<Inputs, Status>
-    requires { IsWithin generation }
+    requires { MayBeMade generation }
     ensures ok { IfOk result (λ i. ReadsGenerated generation (inputs_of i)) }
     ensures err { IfErr result (λ e. IsUngenerated generation e) }
 {

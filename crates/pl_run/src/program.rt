@@ -17,7 +17,7 @@ use crate::check::check;
 use crate::generating::generate_and_run;
 use crate::running::run;
 use pl_inputs::{Status, Task, task_of};
-use pl_script_laws::one_script_one_end;
+use pl_law_executions::one_script_one_end;
 use pl_shelf::Shelf;
 use std::alloc::Global;
 

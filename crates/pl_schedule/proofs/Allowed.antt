@@ -6,24 +6,22 @@ use Rattle.pl_frame.specs.declared.address.SwitchId.{SwitchId}
 use Rattle.pl_wiring.specs.Labels.{switch_count}
 use Rattle.pl_wiring.specs.Plan.{Plan}
 use Rattle.pl_world.specs.declared.event.Event.{Event}
-use Rattle.pl_logic.specs.HostInputs.{HostRule}
-use Rattle.pl_logic.specs.ManagerFacts.{CanHear}
-use Rattle.pl_logic.specs.ManagerDuties.{ManagerRule}
+use Rattle.pl_node.specs.HostInputs.{HostRule}
+use Rattle.pl_node.specs.ManagerFacts.{CanHear}
+use Rattle.pl_node.specs.ManagerDuties.{ManagerRule}
 use Rattle.pl_journal.specs.Places.{is_host_port}
-use Rattle.pl_logic.specs.SwitchInputs.{SwitchRule}
+use Rattle.pl_node.specs.SwitchInputs.{SwitchRule}
 use Rattle.pl_wiring.specs.Peers.{peer_of}
 use Rattle.pl_wiring.specs.declared.label.SwitchNo.{SwitchNo}
 use Rattle.pl_world.specs.declared.error.StepError.{StepError}
 use Rattle.pl_world.specs.declared.error.StepError.TheVariants.{JournalFull, NoSuch, StepsSpent}
 use Rattle.pl_world.specs.Changes.{host_at}
-use Rattle.pl_world.specs.Flying.{IsAtPort, IsCounted}
+use Rattle.pl_world.specs.Flying.{IsTreePort, IsCounted}
 use Rattle.pl_world.specs.Hearing.{IsWithinHearing}
 use Rattle.pl_world.specs.Refusals.{has_host, has_port, is_for_hosts, is_full, is_linked, refusal, refusal_of_event, refusal_of_move, refusal_of_place, refusal_of_queue, unless_there}
 use Rattle.pl_world.specs.WorldRule.{Happens, WorldStep}
 use Rattle.pl_world.specs.Worlds.{WorldView}
-use Rattle.pl_world.proofs.Hearing.{can_hear_each}
-use Rattle.pl_world.proofs.StepBalances.{event_is_not_refused, same_refusal}
-use Rattle.pl_world.proofs.Refusing.{port_exists}
+use Rattle.pl_world.proofs.Exports.{can_hear_each, event_is_not_refused, port_exists, same_refusal}
 
 is_there : (b : Bool) → unless_there b ≡ None → b ≡ true
 is_there true e = refl
@@ -67,7 +65,7 @@ pub mover_there : (w : WorldView) (h s port : ℕ) → refusal_of_move w h s por
 mover_there w h s port e = below h (length w.plan.hosts) (moves_there w h s port e).0
 
 pub port_there : (w : WorldView) (h : ℕ) (s : SwitchNo) (port : ℕ) → refusal_of_move w h s.0 port ≡ None →
-    IsAtPort w.plan.k (record { edge = s; port = port })
+    IsTreePort w.plan.k (record { edge = s; port = port })
 port_there w h s port e =
     let is = port_exists w.plan s.0 port (and_parts (has_port w.plan s.0 port) (is_host_port (peer_of w.plan s.0 port)) (moves_there w h s.0 port e).1).0 in
     record { edge = is.0; port = is.1 }
@@ -86,7 +84,7 @@ module _ (old mid : WorldView) (counted_up : mid ≡ record old { steps = old.st
     formed = record {
       plan = is.formed.plan;
       links = is.formed.links;
-      stands = is.formed.stands;
+      attachments = is.formed.attachments;
       at_ports = is.formed.at_ports;
       heard = is.formed.heard;
       switches = is.formed.switches;

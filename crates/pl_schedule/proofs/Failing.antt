@@ -5,7 +5,7 @@ use Rattle.pl_wiring.specs.FatTree.{IsTreeLink}
 use Rattle.pl_wiring.specs.Labels.{switch_count}
 use Rattle.pl_wiring.specs.LiveLinks.{IsFor, LivePorts}
 use Rattle.pl_wiring.specs.Plan.{IsPlan, Plan}
-use Rattle.pl_wiring.proofs.Entered.{tree_ends}
+use Rattle.pl_wiring.proofs.Exports.{tree_ends}
 use Rattle.pl_world.specs.Flying.{IsFormed}
 use Rattle.pl_world.specs.Worlds.{WorldView}
 
@@ -29,7 +29,7 @@ pub formed_links : (v : WorldView) (new : LivePorts) → IsFor v.plan new → Is
 formed_links v new is_for f = record {
   plan = f.plan;
   links = is_for;
-  stands = f.stands;
+  attachments = f.attachments;
   at_ports = f.at_ports;
   heard = f.heard;
   switches = f.switches;

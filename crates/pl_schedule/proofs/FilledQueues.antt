@@ -1,4 +1,4 @@
--- The queues with items are those of the four banks, one bank behind the other.
+-- The queues with items are those of the four queue arrays, one queue array behind the other.
 use Rattle.std.proofs.Common.{◌≡◌, ℕ, ◌+◌, ◌-◌, ◌*◌, ◌<◌, ◌≤◌, Bool, true, false, cond, List, [], ◌∷◌, ◌++◌, length, map, slice_get, refl, sym, ap, ◌∙◌, arith}
 use Rattle.std.specs.List.{filter, flat_map, range_with_len}
 use Rattle.std.specs.Option.{option_map}
@@ -8,7 +8,7 @@ use Rattle.std.proofs.lemmas.Nat.{div-add-mod'}
 use Rattle.std.proofs.lemmas.Option.{slice_get-map}
 use Rattle.pl_wiring.specs.Labels.{switch_count}
 use Rattle.pl_queues.specs.Queues.{filled_indices, has_items, items_at}
-use Rattle.pl_banks.proofs.Ranges.{slice_get_left, slice_get_right}
+use Rattle.pl_queue_array.proofs.Exports.{slice_get_left, slice_get_right}
 use Rattle.pl_world.specs.declared.event.QueueName.{QueueName}
 use Rattle.pl_world.specs.Flying.{IsFormed}
 use Rattle.pl_world.specs.QueueOrder.{filled_queues, host_queue, host_queues, order_queue, port_queue, queue_order, queues_out_of, report_queue, switch_numbers}
@@ -25,7 +25,7 @@ filter_map p f [] = refl
 filter_map p f (x ∷ xs) =
     ap (λ l. cond (p (f x)) (f x ∷ l) l) (filter_map p f xs) ∙ map_chosen f (p (f x)) x (filter (λ y. p (f y)) xs)
 
--- names of the indices of a bank, and others behind them
+-- names of the indices of a queue array, and others behind them
 module _ {A : Type 0} (f : ℕ → A) (indices : List ℕ) (rest : List A) where
   in_front : (i : ℕ) → i < length indices → option_map f (slice_get indices i) ≡ slice_get (map f indices ++ rest) i
   in_front i within = sym (slice_get-map f indices i) ∙ sym (slice_get_left (map f indices) rest i (omega (arith, within, length-map indices f)))
@@ -57,28 +57,28 @@ module _ (w : WorldView) where
   abbrev behind_hosts : List QueueName
   behind_hosts = map (port_queue w.plan.k) ports ++ of_manager
 
-  -- the indices of a bank of n queues, whose names pass where their queues have items
-  bank_is : {T : Type 0} (name : ℕ → QueueName) (bank : List (List T)) (n : ℕ) → ((at : ℕ) → is_filled w (name at) ≡ has_items (items_at bank at))
-      → length bank ≡ n → filter (is_filled w) (map name (range_with_len 0 n)) ≡ map name (filled_indices bank)
-  bank_is name bank n same long =
+  -- the indices of a queue array of n queues, whose names pass where their queues have items
+  queue_array_is : {T : Type 0} (name : ℕ → QueueName) (queue_array : List (List T)) (n : ℕ) → ((at : ℕ) → is_filled w (name at) ≡ has_items (items_at queue_array at))
+      → length queue_array ≡ n → filter (is_filled w) (map name (range_with_len 0 n)) ≡ map name (filled_indices queue_array)
+  queue_array_is name queue_array n same long =
       filter_map (is_filled w) name (range_with_len 0 n)
-      ∙ ap (map name) (filter_agree (λ at. is_filled w (name at)) (λ at. has_items (items_at bank at)) same (range_with_len 0 n))
-      ∙ ap (λ m. map name (filter (λ at. has_items (items_at bank at)) (range_with_len 0 m))) (sym long)
+      ∙ ap (map name) (filter_agree (λ at. is_filled w (name at)) (λ at. has_items (items_at queue_array at)) same (range_with_len 0 n))
+      ∙ ap (λ m. map name (filter (λ at. has_items (items_at queue_array at)) (range_with_len 0 m))) (sym long)
 
   module _ (formed : IsFormed w) where
     hosts_are : filter (is_filled w) (host_queues w.plan) ≡ map host_queue hosts
-    hosts_are = bank_is host_queue w.from_hosts (length w.plan.hosts) (λ at. refl) formed.from_hosts
+    hosts_are = queue_array_is host_queue w.from_hosts (length w.plan.hosts) (λ at. refl) formed.from_hosts
 
     ports_are : filter (is_filled w) (flat_map (queues_out_of w.plan.k) (switch_numbers w.plan)) ≡ map (port_queue w.plan.k) ports
     ports_are =
         ap (filter (is_filled w)) (ports_in_a_row w.plan (omega (arith, formed.plan.arity.least)))
-        ∙ bank_is (port_queue w.plan.k) w.out (switch_count w.plan.k * w.plan.k) (λ at. ap (λ index. has_items (items_at w.out index)) (div-add-mod' at w.plan.k)) formed.out
+        ∙ queue_array_is (port_queue w.plan.k) w.out (switch_count w.plan.k * w.plan.k) (λ at. ap (λ index. has_items (items_at w.out index)) (div-add-mod' at w.plan.k)) formed.out
 
     reports_are : filter (is_filled w) (map report_queue (switch_numbers w.plan)) ≡ map report_queue reports
-    reports_are = bank_is report_queue w.to_manager (switch_count w.plan.k) (λ at. refl) formed.to_manager
+    reports_are = queue_array_is report_queue w.to_manager (switch_count w.plan.k) (λ at. refl) formed.to_manager
 
     orders_are : filter (is_filled w) (map order_queue (switch_numbers w.plan)) ≡ map order_queue orders
-    orders_are = bank_is order_queue w.from_manager (switch_count w.plan.k) (λ at. refl) formed.from_manager
+    orders_are = queue_array_is order_queue w.from_manager (switch_count w.plan.k) (λ at. refl) formed.from_manager
 
     abbrev port_names : List QueueName
     port_names = flat_map (queues_out_of w.plan.k) (switch_numbers w.plan)

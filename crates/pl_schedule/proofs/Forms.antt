@@ -2,11 +2,11 @@
 use Rattle.std.proofs.Common.{◌≡◌, ℕ, ◌<◌, List, [], ◌∷◌, Some, length, slice_get, ap, sym, ◌∙◌, subst, arith}
 use Rattle.std.specs.List.{AllByRecursion}
 use Rattle.pl_wiring.specs.Labels.{switch_count}
-use Rattle.pl_logic.specs.SwitchViews.{SwitchView}
+use Rattle.pl_node.specs.SwitchViews.{SwitchView}
 use Rattle.pl_world.specs.Flying.{IsFormed}
 use Rattle.pl_world.specs.Pending.{HasQueues, SwitchesView}
 use Rattle.pl_world.specs.Worlds.{WorldView}
-use Rattle.pl_world.proofs.Counts.{all_found}
+use Rattle.pl_world.proofs.Exports.{all_found}
 
 pub port_there : (v w : WorldView) (s port : ℕ) → v ≡ w → IsFormed v → port < w.plan.k → (u : SwitchView) → slice_get v.switches s ≡ Some u → port < u.k
 port_there v w s port same formed within u found =

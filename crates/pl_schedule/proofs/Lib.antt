@@ -8,3 +8,4 @@ pub mod Queued
 pub mod NextQueues
 pub mod QueueLists
 pub mod FilledQueues
+pub mod Exports

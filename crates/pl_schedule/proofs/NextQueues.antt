@@ -1,4 +1,4 @@
--- The next queue with items, found bank by bank.
+-- The next queue with items, found queue array by queue array.
 use Rattle.std.proofs.Common.{◌≡◌, ℕ, ◌+◌, ◌-◌, ◌*◌, ◌/◌, ◌%◌, ◌<◌, ◌≤◌, Bool, true, false, ◌&&◌, ltb, List, length, Option, Some, None, IfSome, MatchOption, refl, sym, ap, subst, ◌∙◌, inl, inr, zero-add, arith}
 use Rattle.std.specs.Option.{option_map}
 use Rattle.std.proofs.lemmas.Bool.{cases_lt, lt-ltb, le-ltb}
@@ -6,9 +6,9 @@ use Rattle.std.proofs.lemmas.Nat.{div-add-mod', div_below, mod_below}
 use Rattle.pl_wiring.specs.Labels.{switch_count}
 use Rattle.pl_wiring.specs.Plan.{Plan}
 use Rattle.pl_world.specs.declared.event.QueueName.TheVariants as queue
-use Rattle.pl_banks.specs.Bits.{IsLeast}
+use Rattle.pl_queue_array.specs.Bits.{IsLeast}
 use Rattle.pl_queues.specs.Queues.{has_items, items_at, next_filled, next_index}
-use Rattle.pl_banks.proofs.Indices.{next_index_is_least}
+use Rattle.pl_queue_array.proofs.Exports.{next_index_is_least}
 use Rattle.pl_world.specs.Changes.{host_no, switch_no}
 use Rattle.pl_world.specs.Flying.{IsFormed}
 use Rattle.pl_world.specs.QueueOrder.{first_from_manager, first_out, first_to_manager, has_items_at, next_in, next_queue, port_queue, queue_at, queue_count}
@@ -65,23 +65,23 @@ module _ (test : ℕ → Bool) (from : ℕ) where
   first_is_next high answer first =
       same_first high answer (next_index test high from) first (next_index_is_least test high from (next_index test high from) refl)
 
-  -- a bank whose queues have the numbers from `first` on
-  pub first_in_bank : {T : Type 0} (first : ℕ) (bank : List (List T)) (answer : Option ℕ)
-      → ((index : ℕ) → index < length bank → test (first + index) ≡ has_items (items_at bank index))
-      → answer ≡ next_in first bank from → IsFirst first (first + length bank) answer
-  first_in_bank first bank answer same is =
-      subst (IsFirst first (first + length bank)) (sym is)
-      (found (next_filled bank (from - first)) (next_index_is_least (λ at. has_items (items_at bank at)) (length bank) (from - first) (next_filled bank (from - first)) refl))
+  -- a queue array whose queues have the numbers from `first` on
+  pub first_in_queue_array : {T : Type 0} (first : ℕ) (queue_array : List (List T)) (answer : Option ℕ)
+      → ((index : ℕ) → index < length queue_array → test (first + index) ≡ has_items (items_at queue_array index))
+      → answer ≡ next_in first queue_array from → IsFirst first (first + length queue_array) answer
+  first_in_queue_array first queue_array answer same is =
+      subst (IsFirst first (first + length queue_array)) (sym is)
+      (found (next_filled queue_array (from - first)) (next_index_is_least (λ at. has_items (items_at queue_array at)) (length queue_array) (from - first) (next_filled queue_array (from - first)) refl))
     where
-      at_index : (k : ℕ) → first ≤ k → k < first + length bank → test k ≡ has_items (items_at bank (k - first))
+      at_index : (k : ℕ) → first ≤ k → k < first + length queue_array → test k ≡ has_items (items_at queue_array (k - first))
       at_index k above below =
           let back : k ≡ first + (k - first) = omega arith in
           ap test back ∙ same (k - first) (omega arith)
 
       found : (o : Option ℕ)
-          → MatchOption o ((k : ℕ) → from - first ≤ k → k < length bank → has_items (items_at bank k) ≡ false)
-          (λ at. IsLeast (λ at. has_items (items_at bank at)) (from - first) at × (at < length bank))
-          → IsFirst first (first + length bank) (option_map (λ index. first + index) o)
+          → MatchOption o ((k : ℕ) → from - first ≤ k → k < length queue_array → has_items (items_at queue_array k) ≡ false)
+          (λ at. IsLeast (λ at. has_items (items_at queue_array at)) (from - first) at × (at < length queue_array))
+          → IsFirst first (first + length queue_array) (option_map (λ index. first + index) o)
       found None h = λ k late above below. at_index k above below ∙ h (k - first) (omega arith) (omega arith)
       found (Some index) h =
           let reached = h.0.reached in (
@@ -122,7 +122,7 @@ module _ (plan : Plan) where
         back,
       ) refl
 
--- each bank of a world has the queues of its numbers
+-- each queue array of a world has the queues of its numbers
 module _ (w : WorldView) (formed : IsFormed w) where
   items_from_host : (index : ℕ) → index < length w.from_hosts → has_items_at w (0 + index) ≡ has_items (items_at w.from_hosts index)
   items_from_host index h =
@@ -146,27 +146,27 @@ module _ (w : WorldView) (formed : IsFormed w) where
     first_of_hosts : (answer : Option ℕ) → answer ≡ next_in 0 w.from_hosts from → IsFirst (has_items_at w) from 0 (first_out w.plan) answer
     first_of_hosts answer is =
         subst (λ high. IsFirst (has_items_at w) from 0 high answer) (omega (arith, formed.from_hosts))
-        (first_in_bank (has_items_at w) from 0 w.from_hosts answer items_from_host is)
+        (first_in_queue_array (has_items_at w) from 0 w.from_hosts answer items_from_host is)
 
     first_of_ports : (answer : Option ℕ) → answer ≡ next_in (first_out w.plan) w.out from
         → IsFirst (has_items_at w) from (first_out w.plan) (first_to_manager w.plan) answer
     first_of_ports answer is =
         subst (λ many. IsFirst (has_items_at w) from (first_out w.plan) (first_out w.plan + many) answer) formed.out
-        (first_in_bank (has_items_at w) from (first_out w.plan) w.out answer items_out is)
+        (first_in_queue_array (has_items_at w) from (first_out w.plan) w.out answer items_out is)
 
     first_of_reports : (answer : Option ℕ) → answer ≡ next_in (first_to_manager w.plan) w.to_manager from
         → IsFirst (has_items_at w) from (first_to_manager w.plan) (first_from_manager w.plan) answer
     first_of_reports answer is =
         subst (λ many. IsFirst (has_items_at w) from (first_to_manager w.plan) (first_to_manager w.plan + many) answer) formed.to_manager
-        (first_in_bank (has_items_at w) from (first_to_manager w.plan) w.to_manager answer items_to_manager is)
+        (first_in_queue_array (has_items_at w) from (first_to_manager w.plan) w.to_manager answer items_to_manager is)
 
     first_of_orders : (answer : Option ℕ) → answer ≡ next_in (first_from_manager w.plan) w.from_manager from
         → IsFirst (has_items_at w) from (first_from_manager w.plan) (queue_count w.plan) answer
     first_of_orders answer is =
         subst (λ many. IsFirst (has_items_at w) from (first_from_manager w.plan) (first_from_manager w.plan + many) answer) formed.from_manager
-        (first_in_bank (has_items_at w) from (first_from_manager w.plan) w.from_manager answer items_from_manager is)
+        (first_in_queue_array (has_items_at w) from (first_from_manager w.plan) w.from_manager answer items_from_manager is)
 
-    -- the answer of a bank is that of all, where the banks before it have none
+    -- the answer of a queue array is that of all, where the queue arrays before it have none
     at_host : (n : ℕ) → Some n ≡ next_in 0 w.from_hosts from → IsFirst (has_items_at w) from 0 (queue_count w.plan) (Some n)
     at_host n hosts = first_before (has_items_at w) from 0 (first_out w.plan) (queue_count w.plan) n (omega arith) (first_of_hosts (Some n) hosts)
 

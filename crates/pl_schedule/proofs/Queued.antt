@@ -2,7 +2,7 @@
 use Rattle.std.proofs.Common.{◌≡◌, ℕ, List, Result, Ok, Err, OnErr, OnOk, length, slice_set, ap, ◌∙◌, subst, sym}
 use Rattle.std.specs.List.{AllByRecursion}
 use Rattle.std.proofs.lemmas.List.{length-set}
-use Rattle.pl_logic.specs.SwitchViews.{SwitchView}
+use Rattle.pl_node.specs.SwitchViews.{SwitchView}
 use Rattle.pl_queues.specs.Queues.{put_at}
 use Rattle.pl_world.specs.declared.item.Item.{Item}
 use Rattle.pl_world.specs.Flying.{IsFormed}
@@ -14,7 +14,7 @@ formed_same : (v : WorldView) (switches : List SwitchView) (out : List (List Ite
 formed_same v switches out same many f = record {
   plan = f.plan;
   links = f.links;
-  stands = f.stands;
+  attachments = f.attachments;
   at_ports = f.at_ports;
   heard = f.heard;
   switches = ap length same ∙ f.switches;

@@ -3,7 +3,7 @@
 //! Contracts see it as a `WorldView` of pl_world, and each of its calls is one equation of it.
 #![tactic(auto)]
 
-pub use pl_world::{Event, Item, Limits, QueueName, Stand, StepError};
+pub use pl_world::{AttachmentPoint, Event, Item, Limits, QueueName, StepError};
 pub use world::World;
 
 mod world;

@@ -3,15 +3,17 @@ ghost use Rattle.pl_wiring.specs.Labels.{switch_count};
 ghost use Rattle.pl_world.specs.Changes.{all_noted, begun_by, host_of, is_failed_at, noted, said_to_switch, sent_if_live, told_manager};
 ghost use Rattle.pl_world.specs.SwitchActs.{granted};
 
-use pl_banks::{CountedQueues, Queues};
 use pl_frame::{Mac, Memory, SwitchId};
 use pl_journal::{Entry, Journal};
 use pl_lists::Queue;
-use pl_logic::{HostLogic, ManagerLogic, SwitchLogic, ToManager, ToSwitch};
+use pl_node::{HostLogic, ManagerLogic, SwitchLogic, ToManager, ToSwitch};
 use pl_pmac::Pmac;
+use pl_queue_array::{CountedQueues, Queues};
 use pl_wiring::{LinkStates, Peer, SwitchNo, Wiring};
 use pl_world::{Item, Limits};
-use pl_world_parts::{Atlas, Book, Stands, Switches, WaitingToManager, WaitingToSwitch};
+use pl_world_parts::{
+    Attachments, Switches, WaitingToManager, WaitingToSwitch, WiringIndex, WorldJournal,
+};
 use std::alloc::{AllocError, Global};
 use std::marker::Model;
 
@@ -20,9 +22,9 @@ use std::marker::Model;
 #[derive(Drop)]
 pub struct World<S: SwitchLogic, M: ManagerLogic, H: HostLogic> {
     alloc: Global,
-    atlas: Atlas,
+    wiring_index: WiringIndex,
     links: LinkStates,
-    stands: Stands,
+    attachments: Attachments,
     heard: Vec<Option<u32>>,
     switches: Switches<S>,
     manager: M,
@@ -30,7 +32,7 @@ pub struct World<S: SwitchLogic, M: ManagerLogic, H: HostLogic> {
     from_hosts: Queues<Item>,
     to_manager: CountedQueues<WaitingToManager>,
     from_manager: CountedQueues<WaitingToSwitch>,
-    book: Book,
+    world_journal: WorldJournal,
     begun: u64,
     steps: u64,
     limits: Limits,
@@ -44,9 +46,9 @@ impl<S: SwitchLogic, M: ManagerLogic, H: HostLogic> Model for World<S, M, H> {
     ghost Value = { WorldView };
 
     ghost view = { λ w. record {
-      plan = w.atlas;
+      plan = w.wiring_index;
       links = w.links;
-      stands = w.stands;
+      attachments = w.attachments;
       heard = w.heard.items;
       switches = w.switches.switches;
       manager = M.view w.manager;
@@ -55,7 +57,7 @@ impl<S: SwitchLogic, M: ManagerLogic, H: HostLogic> Model for World<S, M, H> {
       out = w.switches.out;
       to_manager = w.to_manager;
       from_manager = w.from_manager;
-      journal = w.book;
+      journal = w.world_journal;
       begun = w.begun;
       steps = w.steps;
       limits = w.limits;
@@ -68,7 +70,7 @@ impl<S: SwitchLogic, M: ManagerLogic, H: HostLogic> World<S, M, H> {
     pub fn journal(&self) -> &Journal
         ensures { result.now ≡ self.now.journal }
     {
-        self.book.journal()
+        self.world_journal.journal()
     }
 
     pub fn steps(&self) -> u64
@@ -80,7 +82,7 @@ impl<S: SwitchLogic, M: ManagerLogic, H: HostLogic> World<S, M, H> {
     pub fn wiring(&self) -> &Wiring
         ensures { result.now ≡ self.now.plan }
     {
-        self.atlas.wiring()
+        self.wiring_index.wiring()
     }
 
     pub fn links(&self) -> &LinkStates
@@ -93,7 +95,7 @@ impl<S: SwitchLogic, M: ManagerLogic, H: HostLogic> World<S, M, H> {
         ensures ok { OnOk result (self.new ≡ noted self.old entry) }
         ensures err { OnErr result (self.new ≡ self.old) }
     {
-        self.book.write(entry)
+        self.world_journal.write(entry)
     }
 
     // Whether the port has a link, and that is failed.
@@ -102,7 +104,7 @@ impl<S: SwitchLogic, M: ManagerLogic, H: HostLogic> World<S, M, H> {
         requires port { port < self.now.plan.k }
         ensures { result ≡ is_failed_at self.now s.0 port }
     {
-        match self.atlas.wiring().peer(s, port) {
+        match self.wiring_index.wiring().peer(s, port) {
             Peer::HostPort => false,
             Peer::Switch(..) => !self.links.live(s, port),
         }
@@ -130,7 +132,7 @@ impl<S: SwitchLogic, M: ManagerLogic, H: HostLogic> World<S, M, H> {
     fn say(&mut self, to: SwitchId, says: ToSwitch) -> Result<(), Memory>
         ensures { OnOk result (self.new ≡ said_to_switch self.old to says) }
     {
-        match self.atlas.switch_with(to) {
+        match self.wiring_index.switch_with(to) {
             None => Ok(()),
             Some(s) => self
                 .from_manager
@@ -142,7 +144,7 @@ impl<S: SwitchLogic, M: ManagerLogic, H: HostLogic> World<S, M, H> {
     fn grant(&mut self, s: SwitchNo, pmac: Pmac, amac: Mac) -> Result<(), Memory>
         ensures { OnOk result (self.new ≡ granted self.old s.0 pmac (host_of self.old.plan amac)) }
     {
-        match self.atlas.host_with(amac) {
+        match self.wiring_index.host_with(amac) {
             None => Ok(()),
             Some(h) => self.note(Entry::Granted(pmac, h, s, pmac.port)),
         }
@@ -160,7 +162,7 @@ impl<S: SwitchLogic, M: ManagerLogic, H: HostLogic> World<S, M, H> {
         requires { number ≡ self.old.begun + 1 }
         ensures { OnOk result (self.new ≡ begun_by self.old entry) }
     {
-        self.book.write(entry)?;
+        self.world_journal.write(entry)?;
         self.begun = number;
         Ok(())
     }

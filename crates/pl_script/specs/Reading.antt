@@ -14,10 +14,10 @@ or_refused (Some x) e = Ok x
 or_refused None e = Err e
 
 -- What a function returned is what the reading gives, unless memory ran out.
-abbrev pub Fails : {A : Type 0} → ScriptError → Result A ScriptError → Type 0
-Fails Memory reading = ⊤
-Fails e reading = reading ≡ Err e
+abbrev pub LineFails : {A : Type 0} → ScriptError → Result A ScriptError → Type 0
+LineFails Memory reading = ⊤
+LineFails e reading = reading ≡ Err e
 
-abbrev pub Gives : {A : Type 0} → Result A ScriptError → Result A ScriptError → Type 0
-Gives (Ok x) reading = reading ≡ Ok x
-Gives (Err e) reading = Fails e reading
+abbrev pub LineGives : {A : Type 0} → Result A ScriptError → Result A ScriptError → Type 0
+LineGives (Ok x) reading = reading ≡ Ok x
+LineGives (Err e) reading = LineFails e reading

@@ -1,6 +1,6 @@
 ghost use Rattle.std.specs.Prelude.{◌≡◌, ◌≢◌, ◌<◌, ◌≤◌, [], ◌∷◌, IfOk, IfSome, IfNone, length, position};
 ghost use Rattle.std.specs.Str.Lines.{strip_carriage_return};
-ghost use Rattle.pl_script.specs.Reading.{Gives};
+ghost use Rattle.pl_script.specs.Reading.{LineGives};
 ghost use Rattle.pl_script.specs.Texts.{lines_of, is_newline};
 ghost use Rattle.pl_script.specs.Meaning.{command_in_text, command_in, line_at, line_found, script_of};
 
@@ -23,7 +23,7 @@ const MOST_LINES: u32 = 1_000_000;
 /// in the order of [`ScriptReason`]. More than 1,000,000 lines are refused at line 1,000,001, where
 /// none before it is.
 pub fn read(alloc: Global, file: &[u8], wiring: &Wiring) -> Result<Script, ScriptError>
-    ensures exact { Gives result (script_of wiring.now file.now) }
+    ensures exact { LineGives result (script_of wiring.now file.now) }
 {
     let mut script = Script::new(alloc);
     let mut number = 0;

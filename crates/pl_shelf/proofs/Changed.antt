@@ -4,18 +4,18 @@ use Rattle.std.specs.Str.{bytes_eq}
 use Rattle.std.proofs.lemmas.Bool.{false≢true, false_from_ne_true}
 use Rattle.std.proofs.lemmas.List.{append-nil}
 use Rattle.std.proofs.lemmas.Slice.Eq.{bytes_eq-Decides}
-use Rattle.pl_shelf.specs.Held.{Held, untold, absent, holds, Same, Changes, with_end, created, emptied, standard_output}
+use Rattle.pl_shelf.specs.Held.{Held, unknown, absent, holds, Same, Changes, with_end, created, emptied, standard_output}
 
 -- two ends, one after the other
 pub with_end-with_end : (held : Held) (a b : List ℕ) → with_end (with_end held a) b ≡ with_end held (a ++ b)
-with_end-with_end untold a b = refl
+with_end-with_end unknown a b = refl
 with_end-with_end absent [] b = refl
 with_end-with_end absent (x ∷ a) b = refl
 with_end-with_end (holds bs) a b = ap (λ c. holds c) (append_assoc bs a b)
 
 -- no bytes at the end change nothing
 pub with_end-none : (held : Held) → with_end held [] ≡ held
-with_end-none untold = refl
+with_end-none unknown = refl
 with_end-none absent = refl
 with_end-none (holds bs) = ap (λ c. holds c) (append-nil bs)
 
@@ -77,19 +77,19 @@ Changes-commute a b c d e m n x y apart first second third fourth = λ q.
           ]
     ]
 
-emptied-told : (held : Held) → held ≢ untold → emptied held ≡ holds []
-emptied-told untold told = absurd (told refl)
+emptied-told : (held : Held) → held ≢ unknown → emptied held ≡ holds []
+emptied-told unknown told = absurd (told refl)
 emptied-told absent told = refl
 emptied-told (holds bs) told = refl
 
 -- what was created is empty, where the shelf tells it and it is not standard output
-pub created-told : (name : List ℕ) (held : Held) → name ≢ standard_output → held ≢ untold → created name held ≡ holds []
+pub created-told : (name : List ℕ) (held : Held) → name ≢ standard_output → held ≢ unknown → created name held ≡ holds []
 created-told name held file told =
     ap (λ b. if b then held else emptied held) (false_from_ne_true _ (λ same. file ((bytes_eq-Decides name standard_output).0 same)))
     ∙ emptied-told held told
 
 -- what was saved is all that a file holds then, where the shelf tells it
-pub saved-told : (name : List ℕ) (held : Held) (bytes : List ℕ) → name ≢ standard_output → held ≢ untold →
+pub saved-told : (name : List ℕ) (held : Held) (bytes : List ℕ) → name ≢ standard_output → held ≢ unknown →
     with_end (created name held) bytes ≡ holds bytes
 saved-told name held bytes file told = ap (λ h. with_end h bytes) (created-told name held file told)
 

@@ -1,6 +1,6 @@
 -- Worked examples of the definitions.
 use Rattle.std.proofs.Common.{◌≡◌, [], ◌∷◌, Some, None, refl, codes, ◌-◌, ◌^◌, lit≤}
-use Rattle.pl_shelf.specs.Capacity.{Fits, IsFull}
+use Rattle.pl_shelf.specs.Capacity.{FitsBehind, IsFull}
 use Rattle.pl_shelf.specs.Held.{absent, holds, IsRead, created, with_end}
 use Rattle.pl_shelf.specs.MemoryShelf.{allowed, one_more, room_at, unless_failing}
 
@@ -36,13 +36,13 @@ last_count : one_more (2 ^ 64 - 1) ≡ 2 ^ 64 - 1
 last_count = refl
 
 -- a name with a capacity of three bytes
-new_text_fits : Fits (Some 3) (created (codes "a") absent) (codes "abc")
+new_text_fits : FitsBehind (Some 3) (created (codes "a") absent) (codes "abc")
 new_text_fits = lit≤ tt
 
-text_in_the_place_of_another_fits : Fits (Some 3) (created (codes "a") (holds (codes "old"))) (codes "abc")
+text_in_the_place_of_another_fits : FitsBehind (Some 3) (created (codes "a") (holds (codes "old"))) (codes "abc")
 text_in_the_place_of_another_fits = lit≤ tt
 
-output_fits_behind_what_was_shown : Fits (Some 3) (created (codes "-") (holds (codes "ab"))) (codes "c")
+output_fits_behind_what_was_shown : FitsBehind (Some 3) (created (codes "-") (holds (codes "ab"))) (codes "c")
 output_fits_behind_what_was_shown = lit≤ tt
 
 full : IsFull (Some 3) (holds (codes "abc"))

@@ -2,7 +2,7 @@
 use Rattle.std.proofs.Common.{◌≡◌, ℕ, ◌+◌, ◌<◌, ◌≤◌, List, [], ◌++◌, length, take, refl, sym, ◌∙◌, ap, subst, arith, length-append}
 use Rattle.std.proofs.lemmas.List.{length-take-le, take_all, take-take, take-append-le}
 use Rattle.std.proofs.Math.Seq.{take-add, take-append-add}
-use Rattle.pl_shelf.specs.Held.{Held, untold, absent, holds, IsRead, IsWhole, IsLonger}
+use Rattle.pl_shelf.specs.Held.{Held, unknown, absent, holds, IsRead, HoldsExactly, IsLonger}
 
 -- these bytes are a front of what is held; of what is absent there is none but the empty one
 pub record IsFrontOf (bs found : List ℕ) : Type 0 where
@@ -10,18 +10,18 @@ pub record IsFrontOf (bs found : List ℕ) : Type 0 where
   pub within : length found ≤ length bs
 
 abbrev pub IsFront : Held → List ℕ → Type 0
-IsFront untold found = Unit {0}
+IsFront unknown found = Unit {0}
 IsFront absent found = found ≡ []
 IsFront (holds bs) found = IsFrontOf bs found
 
 pub front_none : (held : Held) → IsFront held []
-front_none untold = tt
+front_none unknown = tt
 front_none absent = refl
 front_none (holds bs) = record { bytes = refl; within = omega arith }
 
 pub front_more : (held : Held) (found buf : List ℕ) (n : ℕ) → n ≤ length buf → IsFront held found →
     IsRead held (length found) n buf → IsFront held (found ++ take n buf)
-front_more untold found buf n fits front read = tt
+front_more unknown found buf n fits front read = tt
 front_more absent found buf n fits front read = absurd read
 front_more (holds bs) found buf n fits front read =
     let long : length (take n buf) ≡ n = length-take-le n buf fits in
@@ -58,13 +58,13 @@ front_read held f n l before old buf post rest within fits room front kept read 
     (front_more held (take f old) buf n fits (subst (IsFront held) (sym kept) front) (subst (λ m. IsRead held m n buf) long read))
 
 pub front_whole : (held : Held) (found buf : List ℕ) → 0 < length buf → IsFront held found →
-    IsRead held (length found) 0 buf → IsWhole held found
-front_whole untold found buf room front read = tt
+    IsRead held (length found) 0 buf → HoldsExactly held found
+front_whole unknown found buf room front read = tt
 front_whole absent found buf room front read = absurd read
 front_whole (holds bs) found buf room front read = front.bytes ∙ take_all (length found) bs (read.end refl room)
 
 pub front_longer : (held : Held) (found : List ℕ) (limit : ℕ) → limit < length found → IsFront held found →
     IsLonger held limit
-front_longer untold found limit more front = tt
+front_longer unknown found limit more front = tt
 front_longer absent found limit more front = omega (arith, ap length front)
 front_longer (holds bs) found limit more front = let within = front.within in omega arith

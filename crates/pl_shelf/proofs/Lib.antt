@@ -4,3 +4,4 @@ pub mod Fronts
 pub mod Naming
 pub mod Placed
 pub mod Examples
+pub mod Exports

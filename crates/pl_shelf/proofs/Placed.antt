@@ -7,7 +7,7 @@ use Rattle.std.specs.FinMap.{get, get-insert, same_map, slice_cmp-IsAntisymmetri
 use Rattle.std.proofs.lemmas.List.{append-nil}
 use Rattle.std.proofs.lemmas.Map.Text.{is_eq-slice_cmp}
 use Rattle.std.proofs.lemmas.Slice.Eq.{bytes_eq-Decides}
-use Rattle.pl_lemmas.proofs.Lists.{other_bytes, same_bytes}
+use Rattle.pl_lemmas.proofs.Exports.{other_bytes, same_bytes}
 use Rattle.pl_shelf.specs.Held.{Held, absent, holds, Changes, with_end, emptied}
 use Rattle.pl_shelf.specs.MemoryShelf.{Place, Places, capacity_in, held_of, held_in, room_in, room_at, room_behind, put_changed, with_change, emptied_place, longer_place}
 

@@ -8,9 +8,9 @@ IsReadable (Some capacity) (holds bytes) = Unit {0}
 IsReadable _ _ = ⊥
 
 -- that these bytes can be added behind what it holds
-abbrev pub Fits : Option ℕ → Held → List ℕ → Type 0
-Fits (Some capacity) (holds first) bytes = length first + length bytes ≤ capacity
-Fits _ _ bytes = ⊥
+abbrev pub FitsBehind : Option ℕ → Held → List ℕ → Type 0
+FitsBehind (Some capacity) (holds first) bytes = length first + length bytes ≤ capacity
+FitsBehind _ _ bytes = ⊥
 
 -- the name holds as much as was promised, if anything was
 abbrev pub IsFull : Option ℕ → Held → Type 0

@@ -4,7 +4,7 @@ use Rattle.std.specs.Str.{bytes_eq}
 
 -- what a shelf tells of one name: nothing, that it is absent, or the bytes that it holds
 pub data Held : Type 0 where
-  untold : Held
+  unknown : Held
   absent : Held
   holds : List ℕ → Held
 
@@ -23,14 +23,14 @@ pub record Changes (old new : List ℕ → Held) (name : List ℕ) (to : Held) :
 
 -- with these bytes at its end; what is absent stays so unless there are some
 abbrev pub with_end : Held → List ℕ → Held
-with_end untold more = untold
+with_end unknown more = unknown
 with_end absent [] = absent
 with_end absent (b ∷ more) = holds (b ∷ more)
 with_end (holds bs) more = holds (bs ++ more)
 
 -- there, with nothing in it
 abbrev pub emptied : Held → Held
-emptied untold = untold
+emptied unknown = unknown
 emptied absent = holds []
 emptied (holds bs) = holds []
 
@@ -46,19 +46,19 @@ pub record IsPart (bs : List ℕ) (at n : ℕ) (buf : List ℕ) : Type 0 where
 
 -- the same of any name: what is absent cannot be read
 abbrev pub IsRead : Held → ℕ → ℕ → List ℕ → Type 0
-IsRead untold at n buf = Unit {0}
+IsRead unknown at n buf = Unit {0}
 IsRead absent at n buf = ⊥
 IsRead (holds bs) at n buf = IsPart bs at n buf
 
 -- these bytes are all that is held
-abbrev pub IsWhole : Held → List ℕ → Type 0
-IsWhole untold found = Unit {0}
-IsWhole absent found = ⊥
-IsWhole (holds bs) found = found ≡ bs
+abbrev pub HoldsExactly : Held → List ℕ → Type 0
+HoldsExactly unknown found = Unit {0}
+HoldsExactly absent found = ⊥
+HoldsExactly (holds bs) found = found ≡ bs
 
 -- more bytes are held than the limit
 abbrev pub IsLonger : Held → ℕ → Type 0
-IsLonger untold limit = Unit {0}
+IsLonger unknown limit = Unit {0}
 IsLonger absent limit = ⊥
 IsLonger (holds bs) limit = limit < length bs
 

@@ -1,6 +1,6 @@
 // Files and standard output: the trusted edge.
 ghost use Rattle.std.specs.Prelude.{◌≡◌, None};
-ghost use Rattle.pl_shelf.specs.Held.{untold};
+ghost use Rattle.pl_shelf.specs.Held.{unknown};
 
 use crate::files::Handles;
 use crate::{ReadFailed, Shelf, WriteFailed};
@@ -35,7 +35,7 @@ impl<R: Files + Print + Drop> DiskShelf<R> {
 }
 
 impl<R: Files + Print + Drop> Shelf for DiskShelf<R> {
-    ghost held = { λ _ _. untold };
+    ghost held = { λ _ _. unknown };
 
     ghost read_faults = { λ s. s.read_faults };
 

@@ -1,5 +1,5 @@
 ghost use Rattle.std.specs.Prelude.{◌≡◌, ◌+◌, ◌≤◌, ◌<◌, length, vec_len, take, IfOk, OnOk, Err};
-ghost use Rattle.pl_shelf.specs.Held.{Same, IsWhole, IsLonger};
+ghost use Rattle.pl_shelf.specs.Held.{Same, HoldsExactly, IsLonger};
 ghost use Rattle.pl_shelf.specs.Capacity.{IsReadable};
 ghost use Rattle.pl_shelf.specs.Faults.{ReadCount};
 
@@ -54,7 +54,7 @@ pub fn load<S: Shelf>(
     name: &str,
     limit: u64,
 ) -> Result<Bytes, LoadError>
-    ensures whole { IfOk result (λ found. IsWhole (S.held shelf.old name.now) found) }
+    ensures whole { IfOk result (λ found. HoldsExactly (S.held shelf.old name.now) found) }
     ensures limit { IfOk result (λ found. length found ≤ limit) }
     ensures too_long { result ≡ Err LoadError.TooLong → IsLonger (S.held shelf.old name.now) limit }
     ensures same { Same (S.held shelf.old) (S.held shelf.new) }

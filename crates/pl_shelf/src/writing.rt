@@ -1,6 +1,6 @@
 ghost use Rattle.std.specs.Prelude.{◌≡◌, ◌⊎◌, OnOk, OnErr};
 ghost use Rattle.pl_shelf.specs.Held.{Same, Changes, IsCutOff, created, with_end};
-ghost use Rattle.pl_shelf.specs.Capacity.{Fits, IsFull};
+ghost use Rattle.pl_shelf.specs.Capacity.{FitsBehind, IsFull};
 ghost use Rattle.pl_shelf.specs.Faults.{Counts};
 
 use crate::{SaveError, Shelf};
@@ -36,7 +36,7 @@ pub fn save<S: Shelf>(shelf: &mut S, name: &str, bytes: &[u8]) -> Result<(), Sav
     ensures faults { Counts result (S.write_faults shelf.old) (S.write_faults shelf.new)
         (S.read_faults shelf.old) (S.read_faults shelf.new) }
     ensures capacity { S.capacity shelf.new ≡ S.capacity shelf.old }
-    ensures unfit { OnErr result (Fits (S.capacity shelf.old name.now)
+    ensures unfit { OnErr result (FitsBehind (S.capacity shelf.old name.now)
         (created name.now (S.held shelf.old name.now)) bytes.now → ⊥) }
 {
     shelf.create(name)?;

@@ -6,9 +6,9 @@ use Rattle.std.specs.BTreeSet.{insert_key}
 use Rattle.std.specs.Ordering.{nat_cmp}
 use Rattle.std.proofs.lemmas.Bool.{le-ltb, ne_eqb}
 use Rattle.std.proofs.lemmas.List.Elements.{filter-append}
-use Rattle.pl_lemmas.proofs.Lists.{range_more}
-use Rattle.pl_logic.specs.declared.acts.Act.{Act}
-use Rattle.pl_logic.specs.PortRecords.{ports_of_switch}
+use Rattle.pl_lemmas.proofs.Exports.{range_more}
+use Rattle.pl_node.specs.declared.acts.Act.{Act}
+use Rattle.pl_node.specs.PortRecords.{ports_of_switch}
 use Rattle.pl_steps.specs.PortsTold.{at_each_port, done_where}
 
 pub ports_more : (n : ℕ) → ports_of_switch (n + 1) ≡ ports_of_switch n ++ n ∷ []

@@ -1,8 +1,8 @@
 -- What is done at each port of a switch in turn.
 use Rattle.std.specs.Prelude.{ℕ, Bool, if◌then◌else◌, List, [], ◌∷◌}
 use Rattle.std.specs.List.{flat_map}
-use Rattle.pl_logic.specs.declared.acts.Act.{Act}
-use Rattle.pl_logic.specs.PortRecords.{ports_of_switch}
+use Rattle.pl_node.specs.declared.acts.Act.{Act}
+use Rattle.pl_node.specs.PortRecords.{ports_of_switch}
 
 -- what is done at one port, for each of the k ports, rising
 abbrev pub at_each_port : (ℕ → List Act) → ℕ → List Act

@@ -1,7 +1,7 @@
 -- A step of a switch: what it knows afterwards, and what it did.
 use Rattle.std.specs.Prelude.{List, [], ◌++◌}
-use Rattle.pl_logic.specs.declared.acts.Act.{Act}
-use Rattle.pl_logic.specs.SwitchViews.{SwitchView}
+use Rattle.pl_node.specs.declared.acts.Act.{Act}
+use Rattle.pl_node.specs.SwitchViews.{SwitchView}
 
 pub record SwitchStep : Type 0 where
   pub view : SwitchView

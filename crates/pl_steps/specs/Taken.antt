@@ -1,7 +1,7 @@
 -- A part of a step is taken: what the switch knows follows from what it knew, and what is done stands behind what was in the outbox.
 use Rattle.std.specs.Prelude.{◌≡◌, List, ◌++◌}
-use Rattle.pl_logic.specs.declared.acts.Act.{Act}
-use Rattle.pl_logic.specs.SwitchViews.{SwitchView}
+use Rattle.pl_node.specs.declared.acts.Act.{Act}
+use Rattle.pl_node.specs.SwitchViews.{SwitchView}
 use Rattle.pl_steps.specs.Steps.{SwitchStep}
 
 pub record IsTaken (step : SwitchStep) (after : SwitchView) (out_before out_after : List Act) : Type 0 where

@@ -1,11 +1,11 @@
 ghost use Rattle.std.specs.Prelude.{◌≡◌, ◌<◌, ◌≤◌, ℕ, Bool, if◌then◌else◌, ◌++◌, map, IfOk, OnOk, Some, None};
 ghost use Rattle.std.specs.List.{filter};
-ghost use Rattle.pl_logic.specs.declared.acts.Act.{Act};
-ghost use Rattle.pl_logic.specs.PortRecords.{ports_of_switch};
+ghost use Rattle.pl_node.specs.declared.acts.Act.{Act};
+ghost use Rattle.pl_node.specs.PortRecords.{ports_of_switch};
 
 use crate::{TellsAtPort, one_act_where, tell_at_each_port};
 use pl_frame::Frame;
-use pl_logic::{Act, Memory, Outbox};
+use pl_node::{Act, Memory, Outbox};
 
 /// What sends a control frame out of some ports of a switch.
 pub trait SendsAtPort {
@@ -31,7 +31,7 @@ struct Sending<'a, S: SendsAtPort> {
 }
 
 impl<S: SendsAtPort> TellsAtPort for Sending<'_, S> {
-    ghost use Rattle.pl_logic.specs.declared.acts.Act.TheVariants.{Control};
+    ghost use Rattle.pl_node.specs.declared.acts.Act.TheVariants.{Control};
     ghost use Rattle.pl_steps.specs.PortsTold.{done_where};
 
     ghost ports = { λ sending. S.ports sending.sender.now };

@@ -1,7 +1,7 @@
 ghost use Rattle.std.specs.Prelude.{◌≡◌, List, ◌++◌};
-ghost use Rattle.pl_logic.specs.declared.acts.Act.{Act};
-ghost use Rattle.pl_logic.specs.Gains.{Gains};
-ghost use Rattle.pl_logic.specs.SwitchViews.{SwitchView};
+ghost use Rattle.pl_node.specs.declared.acts.Act.{Act};
+ghost use Rattle.pl_node.specs.Gains.{Gains};
+ghost use Rattle.pl_node.specs.SwitchViews.{SwitchView};
 ghost use Rattle.pl_steps.specs.Steps.{SwitchStep, does, rests, ◌▹◌};
 ghost use Rattle.pl_steps.specs.Taken.{IsOfPart, IsTaken, IsTakenByPart, IsTakenUpTo};
 

@@ -1,15 +1,15 @@
 ghost use Rattle.std.specs.Prelude.{◌≡◌, ◌<◌, ◌≤◌, ℕ, Bool, ◌++◌, map, OnOk};
 ghost use Rattle.std.specs.List.{filter};
-ghost use Rattle.pl_logic.specs.declared.acts.Act.{Act};
-ghost use Rattle.pl_logic.specs.PortRecords.{ports_of_switch};
+ghost use Rattle.pl_node.specs.declared.acts.Act.{Act};
+ghost use Rattle.pl_node.specs.PortRecords.{ports_of_switch};
 ghost use Rattle.pl_steps.specs.PortsTold.{at_each_port, done_where};
 
-use pl_logic::{Memory, Outbox};
+use pl_node::{Memory, Outbox};
 
 /// What tells at one port of a switch, whatever was told at the others.
 pub trait TellsAtPort {
     ghost use Rattle.std.specs.Prelude.{ℕ, List};
-    ghost use Rattle.pl_logic.specs.declared.acts.Act.{Act};
+    ghost use Rattle.pl_node.specs.declared.acts.Act.{Act};
 
     /// The number of ports at which it can be asked.
     ghost ports: { Self → ℕ };

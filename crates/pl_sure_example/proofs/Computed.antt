@@ -5,10 +5,10 @@ use Rattle.hex.specs.Hex.{decode_pairs}
 use Rattle.pl_layouts.specs.ArpFrames.{arp_frame}
 use Rattle.pl_layouts.specs.Control.{control_bytes, control_frame, control_in}
 use Rattle.pl_journal.specs.declared.entry.Entry.TheVariants.{Arrived, Crossed, Sent}
-use Rattle.pl_logic.specs.AvoidLists.{avoid_list}
-use Rattle.pl_logic.specs.Trees.{core_of, tree_part}
+use Rattle.pl_node.specs.AvoidLists.{avoid_list}
+use Rattle.pl_node.specs.Trees.{core_of, tree_part}
 use Rattle.pl_host_rule.specs.HostRule.{skip_of}
-use Rattle.pl_logic.specs.HostViews.{groups_after}
+use Rattle.pl_node.specs.HostViews.{groups_after}
 use Rattle.pl_manager_rule.specs.ManagerRule.{manager_hears}
 use Rattle.pl_switch_rule.specs.Granting.{grants_remembered}
 use Rattle.pl_world.specs.declared.event.Event.{Event}
@@ -19,7 +19,7 @@ use Rattle.pl_examples.specs.FirstPath.{a, b, e00}
 use Rattle.pl_sure_example.specs.Scene.{arrived, at_rest, begun, crossed, cut, is_sent, round, sent, snapshot, start, sure_with, ticks}
 use Rattle.pl_sure_example.specs.Executing.{all_made}
 use Rattle.pl_sure_example.specs.Worked.{IsWorked}
-use Rattle.pl_sure_example.proofs.Courses.{AllLead, lead_all, lead_start, lead_swept}
+use Rattle.pl_sure_example.proofs.Executions.{AllLead, lead_all, lead_start, lead_swept}
 use Rattle.pl_sure_example.proofs.Sure.{assembled}
 
 rest_is : option_map (λ w. list_any (is_sent 3) w.journal) at_rest ≡ Some false

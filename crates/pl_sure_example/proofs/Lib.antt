@@ -1,5 +1,5 @@
 pub mod Steps
-pub mod Courses
+pub mod Executions
 pub mod Sound
 pub mod Sure
 pub mod Computed

@@ -9,20 +9,20 @@ use Rattle.pl_wiring.specs.declared.link.Peer.{Peer}
 use Rattle.pl_wiring.specs.declared.link.Peer.TheVariants.{HostPort, Switch}
 use Rattle.pl_wiring.specs.LiveLinks.{is_live_at}
 use Rattle.pl_wiring.specs.Peers.{peer_of}
-use Rattle.pl_logic.specs.declared.messages.ToManager.{ToManager}
-use Rattle.pl_logic.specs.declared.messages.ToSwitch.{ToSwitch}
-use Rattle.pl_logic.specs.declared.neighbour.Neighbour.{Neighbour}
-use Rattle.pl_logic.specs.AvoidLists.{avoid_list}
-use Rattle.pl_logic.specs.ManagerFacts.{group_at, groups}
-use Rattle.pl_logic.specs.ManagerViews.{ManagerView, is_told_usable, place_of}
-use Rattle.pl_logic.specs.PortRecords.{is_usable, port_of}
-use Rattle.pl_logic.specs.SwitchFacts.{IsAnnounced, group_of_part, part_of}
-use Rattle.pl_logic.specs.SwitchViews.{SwitchView}
-use Rattle.pl_logic.specs.Trees.{tree_part}
+use Rattle.pl_node.specs.declared.messages.ToManager.{ToManager}
+use Rattle.pl_node.specs.declared.messages.ToSwitch.{ToSwitch}
+use Rattle.pl_node.specs.declared.neighbour.Neighbour.{Neighbour}
+use Rattle.pl_node.specs.AvoidLists.{avoid_list}
+use Rattle.pl_node.specs.ManagerFacts.{group_at, groups}
+use Rattle.pl_node.specs.ManagerViews.{ManagerView, is_told_usable, place_of}
+use Rattle.pl_node.specs.PortRecords.{is_usable, port_of}
+use Rattle.pl_node.specs.SwitchFacts.{IsAnnounced, group_of_part, part_of}
+use Rattle.pl_node.specs.SwitchViews.{SwitchView}
+use Rattle.pl_node.specs.Trees.{tree_part}
 use Rattle.pl_fabric.specs.Settled.{HasPart, IsSettled, IsSettledEnd, IsSettledSwitch, IsSettledTowards, announced_at, group_limit, would_change}
-use Rattle.pl_fabric.proofs.Tests.{any_below}
+use Rattle.pl_fabric.proofs.Exports.{any_below}
 use Rattle.pl_queues.specs.Queues.{has_items, items_at}
-use Rattle.pl_queues.proofs.Items.{no_items}
+use Rattle.pl_queues.proofs.Exports.{no_items}
 use Rattle.pl_world.specs.declared.item.Item.{Item}
 use Rattle.pl_world.specs.declared.item.Item.TheVariants.{Control, Data}
 use Rattle.pl_world.specs.Changes.{out_of}
@@ -107,7 +107,7 @@ none_there p (y ∷ ys) none (suc n) x is = none_there p ys (later (p y) (list_a
 pub at_index : {X : Type 0} (xs : List X) (x : X) → (there : Contains xs x) → slice_get xs there.0 ≡ Some x
 at_index xs x there = slice_get-get_or xs there.0 x there.1 ∙ ap Some there.2
 
--- the queues of a bank
+-- the queues of a queue array
 queue_none : {X : Type 0} (p : X → Bool) (queues : List (List X)) → list_any (list_any p) queues ≡ false → (at : ℕ) → list_any p (items_at queues at) ≡ false
 queue_none p [] none at = refl
 queue_none p (q ∷ queues) none zero = none_there (list_any p) (q ∷ queues) none zero q refl

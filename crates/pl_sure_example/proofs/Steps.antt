@@ -7,18 +7,18 @@ use Rattle.pl_wiring.specs.declared.link.Peer.{Peer}
 use Rattle.pl_wiring.specs.declared.link.Peer.TheVariants.{HostPort, Switch}
 use Rattle.pl_wiring.specs.Index.{port_index}
 use Rattle.pl_wiring.specs.Peers.{peer_of}
-use Rattle.pl_logic.specs.declared.messages.ToManager.{ToManager}
-use Rattle.pl_logic.specs.declared.messages.ToSwitch.{ToSwitch}
-use Rattle.pl_logic.specs.declared.reception.Reception.{Reception}
-use Rattle.pl_logic.specs.declared.reception.Reception.TheVariants.{Kept, NotMember}
+use Rattle.pl_node.specs.declared.messages.ToManager.{ToManager}
+use Rattle.pl_node.specs.declared.messages.ToSwitch.{ToSwitch}
+use Rattle.pl_node.specs.declared.reception.Reception.{Reception}
+use Rattle.pl_node.specs.declared.reception.Reception.TheVariants.{Kept, NotMember}
 use Rattle.pl_journal.specs.declared.cause.Skip.{Skip}
-use Rattle.pl_logic.specs.HostInputs.{HostAnswer, HostInput}
-use Rattle.pl_logic.specs.HostInputs.HostAnswer.{Nothing, Played, Received}
-use Rattle.pl_logic.specs.HostInputs.HostInput.{Receives, Starts}
-use Rattle.pl_logic.specs.HostViews.{HostView}
-use Rattle.pl_logic.specs.SwitchInputs.{SwitchInput}
-use Rattle.pl_logic.specs.SwitchInputs.SwitchInput.{Comes, Says, Tick}
-use Rattle.pl_logic.specs.SwitchViews.{SwitchView}
+use Rattle.pl_node.specs.HostInputs.{HostAnswer, HostInput}
+use Rattle.pl_node.specs.HostInputs.HostAnswer.{Nothing, Played, Received}
+use Rattle.pl_node.specs.HostInputs.HostInput.{Receives, Starts}
+use Rattle.pl_node.specs.HostViews.{HostView}
+use Rattle.pl_node.specs.SwitchInputs.{SwitchInput}
+use Rattle.pl_node.specs.SwitchInputs.SwitchInput.{Comes, Says, Tick}
+use Rattle.pl_node.specs.SwitchViews.{SwitchView}
 use Rattle.pl_switch_rule.specs.SwitchRule.{Exact, by_flow, switch_step}
 use Rattle.pl_manager_rule.specs.ManagerRule.{manager_hears, manager_rule}
 use Rattle.pl_host_rule.specs.HostRule.{HostStep, host_rule, host_step}
@@ -31,14 +31,14 @@ use Rattle.pl_world.specs.declared.item.Item.{Item}
 use Rattle.pl_world.specs.declared.item.Item.TheVariants.{Control, Data}
 use Rattle.pl_world.specs.declared.spoken_frame.SpokenFrame.{SpokenFrame}
 use Rattle.pl_world.specs.declared.spoken_frame.SpokenFrame.TheVariants.{Silent, Waiting}
-use Rattle.pl_world.specs.declared.stand.Stand.{Stand}
+use Rattle.pl_world.specs.declared.attachment.AttachmentPoint.{AttachmentPoint}
 use Rattle.pl_world.specs.Changes.{out_of, receiver}
 use Rattle.pl_world.specs.LinksAndMoves.{link_between}
 use Rattle.pl_world.specs.OtherActs.{reception_noted, skip_noted}
 use Rattle.pl_world.specs.Refusals.{refusal}
 use Rattle.pl_world.specs.Runs.{Befalls}
 use Rattle.pl_world.specs.Runs.Moment.{Step}
-use Rattle.pl_world.specs.WorldRule.{ComesAtHost, ComesAtSwitch, ComesIn, ComesOut, ComesOver, Delivers, DeliversFromHost, DeliversFromManager, DeliversOut, DeliversToManager, Fails, Happens, HostPlays, HostReceives, HostTurn, ManagerTurn, SwitchTurn}
+use Rattle.pl_world.specs.WorldRule.{ComesAtHost, ComesAtSwitch, ComesIn, ComesOut, ComesOver, Delivers, DeliversFromHost, DeliversFromManager, DeliversOut, DeliversToManager, LinkFails, Happens, HostPlays, HostReceives, HostTurn, ManagerTurn, SwitchTurn}
 use Rattle.pl_world.specs.Worlds.{WorldView}
 use Rattle.pl_queues.specs.Queues.{items_at}
 use Rattle.pl_sure_example.specs.Executing.{comes_at_host, comes_at_switch, comes_in, comes_out, comes_over, delivered, failed, from_host, from_manager, happened, host_turns, made, made_if, manager_turn, out_by, played, played_by, plays, received, received_as, receives, switch_turn, switch_turns, to_manager}
@@ -144,13 +144,13 @@ over_is : (w : WorldView) (s port : ℕ) (item : Item) (peer : Peer) (new : Worl
 over_is w s port item (Switch t q) new is = at_switch_is w t.0 q item new is
 over_is w s port item HostPort new is = out_is w s port item new is
 
-in_is : (w : WorldView) (h : ℕ) (item : Item) (stand : Option Stand) (new : WorldView) → comes_in w h item stand ≡ Some new → ComesIn Exact w h item stand new
+in_is : (w : WorldView) (h : ℕ) (item : Item) (attachment : Option AttachmentPoint) (new : WorldView) → comes_in w h item attachment ≡ Some new → ComesIn Exact w h item attachment new
 in_is w h item None new is = none-some new is
-in_is w h item (Some stand) new is = at_switch_is _ stand.edge.0 stand.port item new is
+in_is w h item (Some attachment) new is = at_switch_is _ attachment.edge.0 attachment.port item new is
 
 from_host_is : (w : WorldView) (h : ℕ) (items : List Item) (new : WorldView) → from_host w h items ≡ Some new → DeliversFromHost Exact w h items new
 from_host_is w h [] new is = none-some new is
-from_host_is w h (item ∷ items) new is = in_is _ h item (slice_get w.stands h) new is
+from_host_is w h (item ∷ items) new is = in_is _ h item (slice_get w.attachments h) new is
 
 by_port_is : (w : WorldView) (s port : ℕ) (items : List Item) (new : WorldView) → out_by w s port items ≡ Some new → DeliversOut Exact host_rule w s port items new
 by_port_is w s port [] new is = none-some new is
@@ -184,7 +184,7 @@ delivered_is w (queue.Port s port) new is = by_port_is w s.0 port (out_of w s.0 
 delivered_is w (queue.ToManager s) new is = to_manager_is w s.0 (items_at w.to_manager s.0) new is
 delivered_is w (queue.FromManager s) new is = from_manager_is w s.0 (items_at w.from_manager s.0) new is
 
-failed_is : (w : WorldView) (link : Option Link) (new : WorldView) → failed w link ≡ Some new → Fails w link new
+failed_is : (w : WorldView) (link : Option Link) (new : WorldView) → failed w link ≡ Some new → LinkFails w link new
 failed_is w None new is = none-some new is
 failed_is w (Some link) new is = sym (same_Some _ new is)
 

@@ -3,7 +3,7 @@ use Rattle.std.proofs.Common.{◌≡◌, ◌<◌, ℕ, Bool, true, false, true�
 use Rattle.std.specs.List.{list_any}
 use Rattle.std.proofs.lemmas.Option.{same_Some, slice_get-get_or, slice_get_within}
 use Rattle.hex.specs.Hex.{decode_pairs}
-use Rattle.pl_lemmas.proofs.Options.{and_then_some, option_map_some}
+use Rattle.pl_lemmas.proofs.Exports.{and_then_some, option_map_some}
 use Rattle.pl_frame.specs.declared.address.Ip4.{Ip4}
 use Rattle.pl_frame.specs.declared.address.Mac.{Mac}
 use Rattle.pl_pmac.specs.declared.pmac.Pmac.{Pmac}
@@ -12,21 +12,21 @@ use Rattle.pl_wiring.specs.Labels.{edge_count}
 use Rattle.pl_wiring.specs.Paths.{IsLivePath}
 use Rattle.pl_journal.specs.declared.entry.Entry.{Entry}
 use Rattle.pl_journal.specs.declared.entry.Entry.TheVariants.{Arrived, Crossed, Sent}
-use Rattle.pl_logic.specs.ManagerViews.{newest}
-use Rattle.pl_logic.specs.SwitchViews.{SwitchView}
+use Rattle.pl_node.specs.ManagerViews.{newest}
+use Rattle.pl_node.specs.SwitchViews.{SwitchView}
 use Rattle.pl_switch_rule.specs.Granting.{granted}
 use Rattle.pl_world.specs.Runs.Moment.{Step}
 use Rattle.pl_world.specs.Worlds.{WorldView}
-use Rattle.pl_addresses.specs.Registered.{IsRegisteredBy}
-use Rattle.pl_arrival.specs.Reach.{IsPlainTo}
-use Rattle.pl_arrival.specs.SureFrames.{IsSureMoment}
+use Rattle.pl_law_addresses.specs.Registered.{IsRegisteredBy}
+use Rattle.pl_law_arrival.specs.Reach.{IsUnicastTo}
+use Rattle.pl_law_arrival.specs.SureFrames.{IsSureMoment}
 use Rattle.pl_examples.specs.ExampleFrames.{a_to_b, a_to_b_arrived, mac_a, mac_b, pmac_a, pmac_b}
 use Rattle.pl_examples.specs.FirstPath.{a, b, e00, two_hosts}
 use Rattle.pl_sure_example.specs.Deciding.{is_settled_world}
 use Rattle.pl_sure_example.specs.Executing.{made, then_made}
 use Rattle.pl_sure_example.specs.Scene.{Known, Snapshot, comes, granted_to, is_sent, known_as, known_of, leaves, plays, registered_as, snapshot, start, sure_with}
 use Rattle.pl_sure_example.specs.Worked.{IsWorked}
-use Rattle.pl_sure_example.proofs.Courses.{AllLead}
+use Rattle.pl_sure_example.proofs.Executions.{AllLead}
 use Rattle.pl_sure_example.proofs.Sound.{at_index, none_there, settled_is}
 use Rattle.pl_sure_example.proofs.Steps.{made_is}
 
@@ -42,8 +42,8 @@ registered w h ip n mac x host at own own_ip is =
     record {
       host = host;
       is = ap (λ (k : Known). k.host) is ∙ at;
-      stand = record { edge = e00; port = x.port };
-      stands = ap (λ (k : Known). k.stand) is;
+      attachment = record { edge = e00; port = x.port };
+      attachments = ap (λ (k : Known). k.attachment) is;
       newest_one = registered_as mac ip x n;
       is_newest = ap (λ m. newest w.manager.learnt m) own ∙ ap (λ (k : Known). k.newest_one) is;
       address = refl;
@@ -89,11 +89,11 @@ sure_moment w was_sent ended last is = record {
     from = (pmac_a, registered w 0 0x0a000001 1 mac_a pmac_a _ refl refl refl (ap (λ (s : Snapshot). s.known_a) is));
     to = registered w 1 0x0a000002 2 mac_b pmac_b _ refl refl refl (ap (λ (s : Snapshot). s.known_b) is);
     path = e00 ∷ [];
-    joined = alone w (ap (λ (s : Snapshot). s.k) is);
+    adjacent = alone w (ap (λ (s : Snapshot). s.k) is);
   };
 }
 
-plain : IsPlainTo a_to_b pmac_b
+plain : IsUnicastTo a_to_b pmac_b
 unfolding decode_pairs
 plain = record { unicast = refl; to = refl; not_taken = refl; readable = refl }
 

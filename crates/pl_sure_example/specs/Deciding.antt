@@ -7,14 +7,14 @@ use Rattle.pl_wiring.specs.declared.link.Peer.{Peer}
 use Rattle.pl_wiring.specs.declared.link.Peer.TheVariants.{HostPort, Switch}
 use Rattle.pl_wiring.specs.LiveLinks.{is_live_at}
 use Rattle.pl_wiring.specs.Peers.{peer_of}
-use Rattle.pl_logic.specs.declared.neighbour.Neighbour.{Neighbour}
-use Rattle.pl_logic.specs.AvoidLists.{avoid_list}
-use Rattle.pl_logic.specs.ManagerFacts.{groups}
-use Rattle.pl_logic.specs.ManagerViews.{ManagerView, is_told_usable, place_of}
-use Rattle.pl_logic.specs.PortRecords.{is_usable, port_of}
-use Rattle.pl_logic.specs.SwitchFacts.{part_of}
-use Rattle.pl_logic.specs.SwitchViews.{SwitchView}
-use Rattle.pl_logic.specs.Trees.{tree_part}
+use Rattle.pl_node.specs.declared.neighbour.Neighbour.{Neighbour}
+use Rattle.pl_node.specs.AvoidLists.{avoid_list}
+use Rattle.pl_node.specs.ManagerFacts.{groups}
+use Rattle.pl_node.specs.ManagerViews.{ManagerView, is_told_usable, place_of}
+use Rattle.pl_node.specs.PortRecords.{is_usable, port_of}
+use Rattle.pl_node.specs.SwitchFacts.{part_of}
+use Rattle.pl_node.specs.SwitchViews.{SwitchView}
+use Rattle.pl_node.specs.Trees.{tree_part}
 use Rattle.pl_fabric.specs.Settled.{announced_at, would_change}
 use Rattle.pl_queues.specs.Queues.{has_items}
 use Rattle.pl_world.specs.declared.item.Item.{Item}

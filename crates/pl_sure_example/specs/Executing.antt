@@ -6,15 +6,15 @@ use Rattle.pl_wiring.specs.declared.link.Peer.{Peer}
 use Rattle.pl_wiring.specs.declared.link.Peer.TheVariants.{HostPort, Switch}
 use Rattle.pl_wiring.specs.Index.{port_index}
 use Rattle.pl_wiring.specs.Peers.{peer_of}
-use Rattle.pl_logic.specs.declared.messages.ToManager.{ToManager}
-use Rattle.pl_logic.specs.declared.messages.ToSwitch.{ToSwitch}
-use Rattle.pl_logic.specs.HostInputs.{HostAnswer, HostInput}
-use Rattle.pl_logic.specs.HostInputs.HostAnswer.{Nothing, Played, Received}
-use Rattle.pl_logic.specs.HostInputs.HostInput.{Receives, Starts}
-use Rattle.pl_logic.specs.HostViews.{HostView}
-use Rattle.pl_logic.specs.SwitchInputs.{SwitchInput}
-use Rattle.pl_logic.specs.SwitchInputs.SwitchInput.{Comes, Says, Tick}
-use Rattle.pl_logic.specs.SwitchViews.{SwitchView}
+use Rattle.pl_node.specs.declared.messages.ToManager.{ToManager}
+use Rattle.pl_node.specs.declared.messages.ToSwitch.{ToSwitch}
+use Rattle.pl_node.specs.HostInputs.{HostAnswer, HostInput}
+use Rattle.pl_node.specs.HostInputs.HostAnswer.{Nothing, Played, Received}
+use Rattle.pl_node.specs.HostInputs.HostInput.{Receives, Starts}
+use Rattle.pl_node.specs.HostViews.{HostView}
+use Rattle.pl_node.specs.SwitchInputs.{SwitchInput}
+use Rattle.pl_node.specs.SwitchInputs.SwitchInput.{Comes, Says, Tick}
+use Rattle.pl_node.specs.SwitchViews.{SwitchView}
 use Rattle.pl_steps.specs.Steps.{SwitchStep}
 use Rattle.pl_switch_rule.specs.SwitchRule.{by_flow, switch_step}
 use Rattle.pl_manager_rule.specs.ManagerRule.{ManagerStep, manager_hears}
@@ -29,7 +29,7 @@ use Rattle.pl_world.specs.declared.item.Item.{Item}
 use Rattle.pl_world.specs.declared.item.Item.TheVariants.{Control, Data}
 use Rattle.pl_world.specs.declared.spoken_frame.SpokenFrame.{SpokenFrame}
 use Rattle.pl_world.specs.declared.spoken_frame.SpokenFrame.TheVariants.{Silent, Waiting}
-use Rattle.pl_world.specs.declared.stand.Stand.{Stand}
+use Rattle.pl_world.specs.declared.attachment.AttachmentPoint.{AttachmentPoint}
 use Rattle.pl_world.specs.Changes.{noted, out_of, receiver, switch_no}
 use Rattle.pl_world.specs.LinksAndMoves.{link_between, link_failed}
 use Rattle.pl_world.specs.OtherActs.{heard_after_tick, host_stepped, manager_stepped, reception_noted, skip_noted}
@@ -86,13 +86,13 @@ abbrev pub comes_over : WorldView → ℕ → ℕ → Item → Peer → Option W
 comes_over w s port item (Switch t q) = comes_at_switch w t.0 q item
 comes_over w s port item HostPort = comes_out w s port item
 
-abbrev pub comes_in : WorldView → ℕ → Item → Option Stand → Option WorldView
+abbrev pub comes_in : WorldView → ℕ → Item → Option AttachmentPoint → Option WorldView
 comes_in w h item None = None
-comes_in w h item (Some stand) = comes_at_switch (heard_item w h item) stand.edge.0 stand.port item
+comes_in w h item (Some attachment) = comes_at_switch (heard_item w h item) attachment.edge.0 attachment.port item
 
 abbrev pub from_host : WorldView → ℕ → List Item → Option WorldView
 from_host w h [] = None
-from_host w h (item ∷ items) = comes_in (record w { from_hosts = slice_set w.from_hosts h items }) h item (slice_get w.stands h)
+from_host w h (item ∷ items) = comes_in (record w { from_hosts = slice_set w.from_hosts h items }) h item (slice_get w.attachments h)
 
 abbrev pub out_by : WorldView → ℕ → ℕ → List Item → Option WorldView
 out_by w s port [] = None
@@ -138,7 +138,7 @@ plays w h input (Some before) = played w h (host_step before input)
 
 abbrev pub happened : WorldView → Event → Option WorldView
 happened w (event.Deliver name) = delivered w name
-happened w (event.Tick s) = switch_turn (record w { heard = heard_after_tick s.0 w.stands w.heard }) s.0 Tick Silent
+happened w (event.Tick s) = switch_turn (record w { heard = heard_after_tick s.0 w.attachments w.heard }) s.0 Tick Silent
 happened w (event.Fail a b) = failed w (link_between w.plan a.0 b.0)
 happened w (event.Start h) = host_turns w h.0 Starts (slice_get w.hosts h.0)
 happened w (event.Play h frame original raw) = plays w h.0 (played_as raw frame original) (slice_get w.hosts h.0)

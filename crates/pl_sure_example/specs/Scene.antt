@@ -10,14 +10,14 @@ use Rattle.pl_wiring.specs.declared.link.Link.{Link}
 use Rattle.pl_journal.specs.declared.entry.Entry.{Entry}
 use Rattle.pl_journal.specs.declared.entry.Entry.TheVariants.{Sent}
 use Rattle.pl_journal.specs.Flights.{ends}
-use Rattle.pl_logic.specs.declared.switch_records.Grant.{Grant}
-use Rattle.pl_logic.specs.ManagerViews.{Registration, ip_of, newest, registration}
+use Rattle.pl_node.specs.declared.switch_records.Grant.{Grant}
+use Rattle.pl_node.specs.ManagerViews.{Registration, ip_of, newest, registration}
 use Rattle.pl_switch_rule.specs.Granting.{granted}
 use Rattle.pl_world.specs.declared.event.Event.{Event}
 use Rattle.pl_world.specs.declared.event.Event.TheVariants as event
 use Rattle.pl_world.specs.declared.event.QueueName.TheVariants as queue
 use Rattle.pl_world.specs.declared.limits.Limits.{Limits}
-use Rattle.pl_world.specs.declared.stand.Stand.{Stand}
+use Rattle.pl_world.specs.declared.attachment.AttachmentPoint.{AttachmentPoint}
 use Rattle.pl_world.specs.Booting.{booted}
 use Rattle.pl_world.specs.Worlds.{WorldView}
 use Rattle.pl_examples.specs.ExampleFrames.{a_to_b, a_to_b_arrived, mac_a, mac_b, pmac_a, pmac_b}
@@ -71,7 +71,7 @@ arrived = then_made crossed comes
 -- what is registered of a host
 pub record Known : Type 0 where
   pub host : Option Host
-  pub stand : Option Stand
+  pub attachment : Option AttachmentPoint
   pub newest_one : Option Registration
   pub grant : Option Grant
   pub told : Option Registration
@@ -80,7 +80,7 @@ pub record Known : Type 0 where
 abbrev pub known_of : ℕ → Mac → Pmac → WorldView → Known
 known_of h mac x w = record {
   host = slice_get w.plan.hosts h;
-  stand = slice_get w.stands h;
+  attachment = slice_get w.attachments h;
   newest_one = newest w.manager.learnt mac;
   grant = option_and_then (λ v. granted v x) (slice_get w.switches 0);
   told = registration w.manager.learnt x;
@@ -97,7 +97,7 @@ granted_to mac ip = record { amac = mac; ip = Some (record { 0 = ip }); in_use =
 abbrev pub known_as : ℕ → Mac → ℕ → Pmac → ℕ → Known
 known_as h mac ip x n = record {
   host = slice_get two_hosts.hosts h;
-  stand = Some (record { edge = e00; port = x.port });
+  attachment = Some (record { edge = e00; port = x.port });
   newest_one = Some (registered_as mac ip x n);
   grant = Some (granted_to mac ip);
   told = Some (registered_as mac ip x n);

@@ -7,7 +7,7 @@ use Rattle.pl_manager_rule.specs.ManagerRule.{manager_rule}
 use Rattle.pl_switch_rule.specs.SwitchRule.{Exact}
 use Rattle.pl_world.specs.Runs.{Moment, WorldRun}
 use Rattle.pl_world.specs.Worlds.{WorldView}
-use Rattle.pl_arrival.specs.SureFrames.{IsSure}
+use Rattle.pl_law_arrival.specs.SureFrames.{IsSure}
 use Rattle.pl_examples.specs.ExampleFrames.{a_to_b_arrived}
 use Rattle.pl_examples.specs.FirstPath.{b}
 use Rattle.pl_sure_example.specs.Scene.{start}

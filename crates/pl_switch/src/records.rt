@@ -1,12 +1,12 @@
-use crate::PlainSwitch;
+use crate::ReferenceSwitch;
 use pl_data_rows::KeepsRecords;
 use pl_edge::{EdgeAct, EdgeTable};
 use pl_frame::Frame;
-use pl_logic::{AvoidList, Memory, Outbox, Trap, TreePart};
+use pl_node::{AvoidList, Memory, Outbox, Trap, TreePart};
 use pl_pmac::Pmac;
 use std::alloc::Global;
 
-impl KeepsRecords for PlainSwitch {
+impl KeepsRecords for ReferenceSwitch {
     fn alloc(&self) -> Global {
         self.state.alloc()
     }

@@ -1,30 +1,30 @@
-ghost use Rattle.pl_switch_rule.proofs.AccountedSteps.{exact_is_loose, exact_steps_are_accounted};
+ghost use Rattle.pl_switch_rule.proofs.Exports.{exact_is_loose, exact_steps_are_accounted};
 ghost use Rattle.pl_switch_rule.specs.SwitchRule.{Exact};
 
-use crate::PlainSwitch;
+use crate::ReferenceSwitch;
 use pl_data_rows::{comes, hear_manager};
 use pl_frame::SwitchId;
-use pl_logic::{Memory, Outbox, SwitchLogic, ToSwitch};
-use pl_plain::PlainState;
+use pl_node::{Memory, Outbox, SwitchLogic, ToSwitch};
 use pl_switch_rule::{LawfulSwitch, LooseSwitch};
+use pl_switch_state::SwitchState;
 use std::alloc::Global;
 
-impl LawfulSwitch for PlainSwitch {
+impl LawfulSwitch for ReferenceSwitch {
     ghost lawful = { (λ old input new acts step. step, λ old input new acts step. step) };
 }
 
-impl LooseSwitch for PlainSwitch {
+impl LooseSwitch for ReferenceSwitch {
     ghost obeys = { exact_is_loose };
 }
 
-impl SwitchLogic for PlainSwitch {
+impl SwitchLogic for ReferenceSwitch {
     ghost rule = { Exact };
 
     ghost accounts = { exact_steps_are_accounted };
 
-    fn boot(alloc: Global, id: SwitchId, k: u8) -> Result<PlainSwitch, Memory> {
-        Ok(PlainSwitch {
-            state: PlainState::boot(alloc, id, k)?,
+    fn boot(alloc: Global, id: SwitchId, k: u8) -> Result<ReferenceSwitch, Memory> {
+        Ok(ReferenceSwitch {
+            state: SwitchState::boot(alloc, id, k)?,
         })
     }
 

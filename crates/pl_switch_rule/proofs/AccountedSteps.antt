@@ -4,7 +4,7 @@ use Rattle.std.proofs.lemmas.List.{get_or_default}
 use Rattle.std.proofs.lemmas.Option.{slice_get-get_or}
 use Rattle.pl_layouts.specs.Flow.{flow_hash}
 use Rattle.pl_switch_rule.specs.Forwarding.{Choice}
-use Rattle.pl_logic.specs.Accounting.{AccountsForFrames, IsWithin}
+use Rattle.pl_node.specs.Accounting.{AccountsForFrames, AllowsNoMore}
 use Rattle.pl_switch_rule.specs.SwitchRule.{Exact, IsChoice, Loose, by_flow}
 use Rattle.pl_switch_rule.proofs.AllSteps.{HandlesFrames, exact_is_accounted, loose_is_accounted}
 use Rattle.pl_switch_rule.proofs.ComingIn.{data_comes_ends}
@@ -30,7 +30,7 @@ by_flow_chooses = record {
       (n, slice_get-get_or all i 0 within, (i, (within, get_or_default all i 0 n within)));
 }
 
-pub exact_is_loose : IsWithin Exact Loose
+pub exact_is_loose : AllowsNoMore Exact Loose
 exact_is_loose = λ old input new acts steps. record { choose = by_flow; is_choice = by_flow_chooses; steps = steps }
 
 pub loose_steps_are_accounted : AccountsForFrames Loose

@@ -3,14 +3,14 @@ use Rattle.std.proofs.Common.{◌≡◌, ℕ, false, List, Option, sym, subst₂
 use Rattle.std.proofs.lemmas.Bool.{cases_Bool}
 use Rattle.pl_frame.specs.declared.address.Ip4.{Ip4}
 use Rattle.pl_pmac.specs.declared.pmac.Pmac.{Pmac}
-use Rattle.pl_logic.specs.declared.messages.ToSwitch.{ToSwitch}
-use Rattle.pl_logic.specs.declared.messages.ToSwitch.TheVariants.{Answer, Avoid, Flood, Invalidate, Pod, Tree}
+use Rattle.pl_node.specs.declared.messages.ToSwitch.{ToSwitch}
+use Rattle.pl_node.specs.declared.messages.ToSwitch.TheVariants.{Answer, Avoid, Flood, Invalidate, Pod, Tree}
 use Rattle.pl_switch_rule.specs.Forwarding.{Choice}
-use Rattle.pl_logic.specs.Accounting.{AccountsForFrames, CanCome, IsComing, IsAccounted, IsShaped}
+use Rattle.pl_node.specs.Accounting.{AccountsForFrames, CanCome, IsComing, IsAccounted, IsShaped}
 use Rattle.pl_switch_rule.specs.SwitchRule.{Exact, IsChoice, Loose, StepsBy, by_flow, data_comes, switch_step}
-use Rattle.pl_logic.specs.SwitchInputs.{SwitchInput}
-use Rattle.pl_logic.specs.SwitchInputs.SwitchInput.{Comes, Says, Tick}
-use Rattle.pl_logic.specs.SwitchViews.{SwitchView}
+use Rattle.pl_node.specs.SwitchInputs.{SwitchInput}
+use Rattle.pl_node.specs.SwitchInputs.SwitchInput.{Comes, Says, Tick}
+use Rattle.pl_node.specs.SwitchViews.{SwitchView}
 use Rattle.pl_switch_rule.proofs.StepParts.{IsEnding}
 use Rattle.pl_switch_rule.proofs.ControlSteps.{accounted_avoid, accounted_control, accounted_data, accounted_pod, accounted_tick, accounted_tree}
 use Rattle.pl_layouts.specs.Control.{is_control}

@@ -3,9 +3,9 @@ use Rattle.std.proofs.Common.{Bool, false, not, true, ℕ, ◌≡◌}
 use Rattle.std.proofs.lemmas.Bool.{and_parts, cond_both, false≢true}
 use Rattle.pl_pmac.specs.declared.pmac.Pmac.{Pmac}
 use Rattle.pl_layouts.specs.Placement.{is_known}
-use Rattle.pl_logic.specs.SwitchViews.{SwitchView}
-use Rattle.pl_logic.specs.PortRecords.{is_usable, is_usable_to, place_at}
-use Rattle.pl_logic.specs.SwitchFacts.{is_avoided}
+use Rattle.pl_node.specs.SwitchViews.{SwitchView}
+use Rattle.pl_node.specs.PortRecords.{is_usable, is_usable_to, place_at}
+use Rattle.pl_node.specs.SwitchFacts.{is_avoided}
 use Rattle.pl_switch_rule.specs.Forwarding.{is_candidate, leads_from_aggregation, leads_from_core, leads_from_edge, leads_to_position, leads_up}
 use Rattle.pl_switch_rule.specs.declared.came.Came.{Came}
 use Rattle.pl_switch_rule.specs.declared.came.Came.TheVariants.{FromAbove, FromBelow, FromHost}

@@ -1,15 +1,15 @@
 -- The first cause of a data frame that comes at a switch, and of the reply to its sender.
 use Rattle.std.proofs.Common.{◌≡◌, ℕ, ◌&&◌, ◌||◌, not, Bool, true, false, if◌then◌else◌, List, [], ◌∷◌, Option, Some, None, is_some, is_none, refl, sym, ap, ap₂, subst, subst₂, ◌∙◌}
-use Rattle.pl_lemmas.proofs.Lists.{all_append}
+use Rattle.pl_lemmas.proofs.Exports.{all_append}
 use Rattle.pl_frame.specs.declared.address.Mac.{Mac}
 use Rattle.pl_frame.specs.Ethernet.{destination_of, source_of}
 use Rattle.pl_pmac.specs.declared.pmac.Pmac.{Pmac}
 use Rattle.pl_pmac.specs.Pmac.{pmac_of}
-use Rattle.pl_logic.specs.Accounting.{IsComing, IsShaped, IsWhole}
-use Rattle.pl_logic.specs.PortRecords.{place_at}
-use Rattle.pl_logic.specs.SwitchViews.{SwitchView}
-use Rattle.pl_logic.specs.declared.acts.Act.TheVariants.{Drop}
-use Rattle.pl_logic.specs.declared.trap.Trap.{Trap}
+use Rattle.pl_node.specs.Accounting.{IsComing, IsShaped, IsWholeFrame}
+use Rattle.pl_node.specs.PortRecords.{place_at}
+use Rattle.pl_node.specs.SwitchViews.{SwitchView}
+use Rattle.pl_node.specs.declared.acts.Act.TheVariants.{Drop}
+use Rattle.pl_node.specs.declared.trap.Trap.{Trap}
 use Rattle.pl_journal.specs.declared.cause.Cause.{Cause}
 use Rattle.pl_journal.specs.declared.cause.Cause.TheVariants.{BadArp, NoMember, NoNextHop, NotPlaced, Spent}
 use Rattle.pl_layouts.specs.Frames.{is_arp, packet_in}
@@ -127,7 +127,7 @@ both_tests : (a b : Bool) → (a ≡ true → b ≡ true) → (a && b) ≡ a
 both_tests true b follows = follows refl
 both_tests false b follows = refl
 
-host_meets : (choose : Choice) (port : ℕ) (frame : List ℕ) (v : SwitchView) → IsChoice choose → IsWhole frame → is_of_host v port ≡ true →
+host_meets : (choose : Choice) (port : ℕ) (frame : List ℕ) (v : SwitchView) → IsChoice choose → IsWholeFrame frame → is_of_host v port ≡ true →
     (has_no_address v port (source_of frame) ≡ true → is_port_spent v port ≡ true) →
     Meets (takes_in_or_spent choose port frame v) (intake_of_host v port frame) (cause_to v port frame (destination_of frame))
     (reply_to v port frame (destination_of frame))
@@ -159,7 +159,7 @@ host_meets choose port frame v is_choice whole host served =
     (either_meets unplaced (does v (Drop NotPlaced ∷ [])) sent (Refused NotPlaced) SentOn on reply (refused_meets v NotPlaced on reply)
     (sends_drops_for choose v port frame (Some FromHost) (with_pmac v port frame) is_choice (host_sent_on v port frame whole host)))))))
 
-switch_meets : (choose : Choice) (v : SwitchView) (port : ℕ) (frame : List ℕ) → IsChoice choose → IsWhole frame → is_of_host v port ≡ false →
+switch_meets : (choose : Choice) (v : SwitchView) (port : ℕ) (frame : List ℕ) → IsChoice choose → IsWholeFrame frame → is_of_host v port ≡ false →
     Meets (comes_from_switch choose v port frame) (intake_of_switch v port) (cause_to v port frame (destination_of frame))
     (reply_to v port frame (destination_of frame))
 switch_meets choose v port frame is_choice whole switch =

@@ -8,15 +8,15 @@ use Rattle.pl_frame.specs.Ethernet.{destination_of}
 use Rattle.pl_arp.specs.declared.packet.Arp.{Arp}
 use Rattle.pl_pmac.specs.declared.pmac.Pmac.{Pmac}
 use Rattle.pl_pmac.specs.Pmac.{mac_of, pmac_of}
-use Rattle.pl_pmac.proofs.Inverse.{length-mac_of}
-use Rattle.pl_logic.specs.Accounting.{CanCome, IsShaped}
-use Rattle.pl_logic.specs.SwitchInputs.{SwitchInput}
-use Rattle.pl_logic.specs.SwitchInputs.SwitchInput.{Comes, Says, Tick}
-use Rattle.pl_logic.specs.declared.switch_records.Grant.{Grant}
-use Rattle.pl_logic.specs.SwitchViews.{SwitchView}
-use Rattle.pl_logic.specs.declared.messages.ToSwitch.{ToSwitch}
-use Rattle.pl_logic.specs.declared.messages.ToSwitch.TheVariants.{Answer, Avoid, Flood, Invalidate, Pod, Tree}
-use Rattle.pl_logic.specs.declared.trap.Trap.{Trap}
+use Rattle.pl_pmac.proofs.Exports.{length-mac_of}
+use Rattle.pl_node.specs.Accounting.{CanCome, IsShaped}
+use Rattle.pl_node.specs.SwitchInputs.{SwitchInput}
+use Rattle.pl_node.specs.SwitchInputs.SwitchInput.{Comes, Says, Tick}
+use Rattle.pl_node.specs.declared.switch_records.Grant.{Grant}
+use Rattle.pl_node.specs.SwitchViews.{SwitchView}
+use Rattle.pl_node.specs.declared.messages.ToSwitch.{ToSwitch}
+use Rattle.pl_node.specs.declared.messages.ToSwitch.TheVariants.{Answer, Avoid, Flood, Invalidate, Pod, Tree}
+use Rattle.pl_node.specs.declared.trap.Trap.{Trap}
 use Rattle.pl_journal.specs.declared.cause.Cause.{Cause}
 use Rattle.pl_journal.specs.declared.cause.Cause.TheVariants.{NoNextHop}
 use Rattle.pl_layouts.specs.ArpFrames.{broadcast, no_mac}

@@ -1,7 +1,7 @@
 -- A data frame that comes at a switch ends in that step.
 use Rattle.std.proofs.Common.{ℕ, ◌<◌, ◌&&◌, ◌||◌, not, Bool, true, false, if◌then◌else◌, List, [], ◌∷◌, Some, None, is_some, is_none, sym, subst}
 use Rattle.pl_frame.specs.Ethernet.{destination_of, source_of}
-use Rattle.pl_logic.specs.declared.acts.Act.TheVariants.{Drop}
+use Rattle.pl_node.specs.declared.acts.Act.TheVariants.{Drop}
 use Rattle.pl_switch_rule.specs.declared.came.Came.TheVariants.{FromHost}
 use Rattle.pl_journal.specs.declared.cause.Cause.TheVariants.{BadArp, NotPlaced, Spent}
 use Rattle.pl_switch_rule.specs.Delivering.{arrives_home, destination}
@@ -10,14 +10,14 @@ use Rattle.pl_layouts.specs.Frames.{is_arp, packet_in}
 use Rattle.pl_switch_rule.specs.Granting.{has_no_address, is_local, learns_source}
 use Rattle.pl_switch_rule.specs.GroupForwarding.{forwards_group}
 use Rattle.pl_switch_rule.specs.Intake.{comes_from_host, hears_members, is_for_switch, mac_of_pmac, packet_acts, sends_in, source_pmac, takes, takes_in, takes_in_or_spent, with_pmac}
-use Rattle.pl_logic.specs.Accounting.{IsMade, IsShaped}
+use Rattle.pl_node.specs.Accounting.{IsMade, IsShaped}
 use Rattle.pl_switch_rule.specs.Levels.{finds_host}
 use Rattle.pl_layouts.specs.Memberships.{is_group, membership_in}
-use Rattle.pl_logic.specs.PortRecords.{is_open_to_hosts, place_at, port_of}
+use Rattle.pl_node.specs.PortRecords.{is_open_to_hosts, place_at, port_of}
 use Rattle.pl_layouts.specs.Placement.{is_known, is_placed}
 use Rattle.pl_steps.specs.Steps.{SwitchStep, does, ◌▹◌}
 use Rattle.pl_switch_rule.specs.SwitchRule.{IsChoice, comes_from_switch, data_comes}
-use Rattle.pl_logic.specs.SwitchViews.{SwitchView}
+use Rattle.pl_node.specs.SwitchViews.{SwitchView}
 use Rattle.pl_switch_rule.proofs.DataFrames.{arriving_made}
 use Rattle.pl_switch_rule.proofs.GoingHome.{arrives_home_ends}
 use Rattle.pl_switch_rule.proofs.GoingOut.{drop_ends, forwards_ends, forwards_group_ends, take_ends}

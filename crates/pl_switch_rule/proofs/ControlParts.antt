@@ -4,26 +4,26 @@ use Rattle.std.specs.List.{AllByRecursion}
 use Rattle.std.proofs.lemmas.List.{length-map}
 use Rattle.byteorder.specs.Endian.{big_bytes}
 use Rattle.byteorder.specs.Numbers.{length-bytes_high_first}
-use Rattle.pl_lemmas.proofs.Lists.{all_append, all_filter}
+use Rattle.pl_lemmas.proofs.Exports.{all_append, all_filter}
 use Rattle.pl_frame.specs.declared.address.SwitchId.{SwitchId}
 use Rattle.pl_frame.specs.Ethernet.{Fields, frame_of}
-use Rattle.pl_frame.proofs.Fields.{fields_of-frame_of, length-frame_of}
-use Rattle.pl_logic.specs.declared.acts.Act.TheVariants.{Control}
+use Rattle.pl_frame.proofs.Exports.{fields_of-frame_of, length-frame_of}
+use Rattle.pl_node.specs.declared.acts.Act.TheVariants.{Control}
 use Rattle.pl_layouts.specs.declared.control.Control.TheVariants as control
 use Rattle.pl_layouts.specs.declared.control.Control as declared
 use Rattle.pl_layouts.specs.declared.control.Ldm.{Ldm}
 use Rattle.pl_layouts.specs.declared.control.Proposal.{Proposal}
 use Rattle.pl_layouts.specs.declared.control.Vote.{Vote}
 use Rattle.pl_switch_rule.specs.Announcing.{announcements, announces_at, proposal, proposes_at, ticks, with_aged_ports}
-use Rattle.pl_logic.specs.PortRecords.{aged, id_at, place_at, ports_of_switch, ports_where}
-use Rattle.pl_logic.specs.Announcements.{announcement, direction_of}
+use Rattle.pl_node.specs.PortRecords.{aged, id_at, place_at, ports_of_switch, ports_where}
+use Rattle.pl_node.specs.Announcements.{announcement, direction_of}
 use Rattle.pl_layouts.specs.Control.{bit, control_bytes, control_frame, control_group, id_code, ldm_bytes, level_code, pod_code, position_code, proposal_bytes, sender_of, vote_bytes}
-use Rattle.pl_logic.specs.Accounting.{IsSent, IsShaped}
+use Rattle.pl_node.specs.Accounting.{IsSentDuly, IsShaped}
 use Rattle.pl_switch_rule.specs.Positions.{answers_proposal, frees_others, half, hears_proposal, holds_for, is_free_for, vote_on}
-use Rattle.pl_logic.specs.SwitchFacts.{hold_at}
+use Rattle.pl_node.specs.SwitchFacts.{hold_at}
 use Rattle.pl_layouts.specs.Placement.{is_known}
 use Rattle.pl_steps.specs.Steps.{SwitchStep, rests}
-use Rattle.pl_logic.specs.SwitchViews.{SwitchView}
+use Rattle.pl_node.specs.SwitchViews.{SwitchView}
 use Rattle.pl_switch_rule.specs.Telling.{changes_told}
 use Rattle.pl_switch_rule.proofs.StepParts.{IsQuiet, IsSame, fit_at, same_then}
 use Rattle.pl_switch_rule.proofs.Shapes.{all_range, same_self, same_with_ports}
@@ -76,7 +76,7 @@ short_payload (control.Ldm id m) = let e = length-ldm id m in omega (arith, e)
 short_payload (control.Proposal id p) = let e = length-proposal id p in omega (arith, e)
 short_payload (control.Vote id v) = let e = length-vote id v in omega (arith, e)
 
-pub control_is_sent : (k port : ℕ) (c : declared.Control) → port < k → IsSent k port true (control_frame c)
+pub control_is_sent : (k port : ℕ) (c : declared.Control) → port < k → IsSentDuly k port true (control_frame c)
 unfolding control_frame
 control_is_sent k port c within =
     let f : Fields = record {

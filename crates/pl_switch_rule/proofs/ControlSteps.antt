@@ -5,21 +5,21 @@ use Rattle.pl_frame.specs.Ethernet.{payload_of}
 use Rattle.pl_layouts.specs.declared.control.Control.{Control}
 use Rattle.pl_layouts.specs.declared.control.Control.TheVariants as control
 use Rattle.pl_layouts.specs.declared.control.ControlError.{ControlError}
-use Rattle.pl_logic.specs.declared.messages.ToSwitch.TheVariants.{Avoid, Pod, Tree}
-use Rattle.pl_logic.specs.declared.messages.TreePart.{TreePart}
+use Rattle.pl_node.specs.declared.messages.ToSwitch.TheVariants.{Avoid, Pod, Tree}
+use Rattle.pl_node.specs.declared.messages.TreePart.{TreePart}
 use Rattle.pl_switch_rule.specs.Announcing.{ticks}
 use Rattle.pl_layouts.specs.Control.{control_in, is_control}
 use Rattle.pl_switch_rule.specs.Forwarding.{Choice}
-use Rattle.pl_logic.specs.Accounting.{IsComing, IsAccounted, IsShaped, Speech, first_speech, is_said, speech}
-use Rattle.pl_logic.specs.Accounting.Speech.{Silent, Waiting}
+use Rattle.pl_node.specs.Accounting.{IsComing, IsAccounted, IsShaped, FrameState, first_frame_state, is_said, frame_state}
+use Rattle.pl_node.specs.Accounting.FrameState.{Silent, Waiting}
 use Rattle.pl_switch_rule.specs.Messages.{hears_pod, with_part}
-use Rattle.pl_logic.specs.PortRecords.{port_of}
+use Rattle.pl_node.specs.PortRecords.{port_of}
 use Rattle.pl_switch_rule.specs.Positions.{after_vote}
 use Rattle.pl_steps.specs.Steps.{SwitchStep, rests}
 use Rattle.pl_switch_rule.specs.SwitchRule.{control_comes, data_comes, hears_control, switch_step}
-use Rattle.pl_logic.specs.SwitchInputs.{SwitchInput}
-use Rattle.pl_logic.specs.SwitchInputs.SwitchInput.{Comes, Says, Tick}
-use Rattle.pl_logic.specs.SwitchViews.{SwitchView}
+use Rattle.pl_node.specs.SwitchInputs.{SwitchInput}
+use Rattle.pl_node.specs.SwitchInputs.SwitchInput.{Comes, Says, Tick}
+use Rattle.pl_node.specs.SwitchViews.{SwitchView}
 use Rattle.pl_switch_rule.proofs.StepParts.{HasEnded, IsEnding, IsMaking, IsQuiet}
 use Rattle.pl_switch_rule.proofs.QuietActs.{quiet_either, quiet_self}
 use Rattle.pl_switch_rule.proofs.LevelParts.{quiet_changes_to, quiet_hears_message}
@@ -29,31 +29,31 @@ use Rattle.pl_switch_rule.proofs.MessageParts.{quiet_hears_pod, quiet_with_avoid
 
 -- From parts to laws.
 
-pub quiet_is_accounted : (v : SwitchView) (input : SwitchInput) (s : SwitchStep) → first_speech input ≡ Silent → IsQuiet v s → IsAccounted v input s.view s.acts
+pub quiet_is_accounted : (v : SwitchView) (input : SwitchInput) (s : SwitchStep) → first_frame_state input ≡ Silent → IsQuiet v s → IsAccounted v input s.view s.acts
 quiet_is_accounted v input s silent q = record {
-  said = ap (λ start. is_said (speech start s.acts)) silent ∙ ap is_said q.silent;
+  said = ap (λ start. is_said (frame_state start s.acts)) silent ∙ ap is_said q.silent;
   fit = q.fit;
   id = q.same.id;
   k = q.same.k;
   shaped = q.same.shaped;
 }
 
-pub ended_is_said : (now : Speech) → HasEnded now → is_said now ≡ true
+pub ended_is_said : (now : FrameState) → HasEnded now → is_said now ≡ true
 ended_is_said now (inl passed) = ap is_said passed
 ended_is_said now (inr ended) = ap is_said ended
 
-pub ending_is_accounted : (v : SwitchView) (input : SwitchInput) (s : SwitchStep) → first_speech input ≡ Waiting → IsEnding v s → IsAccounted v input s.view s.acts
+pub ending_is_accounted : (v : SwitchView) (input : SwitchInput) (s : SwitchStep) → first_frame_state input ≡ Waiting → IsEnding v s → IsAccounted v input s.view s.acts
 ending_is_accounted v input s waiting e = record {
-  said = ap (λ start. is_said (speech start s.acts)) waiting ∙ ended_is_said (speech Waiting s.acts) e.ends;
+  said = ap (λ start. is_said (frame_state start s.acts)) waiting ∙ ended_is_said (frame_state Waiting s.acts) e.ends;
   fit = e.fit;
   id = e.same.id;
   k = e.same.k;
   shaped = e.same.shaped;
 }
 
-pub making_is_accounted : (v : SwitchView) (input : SwitchInput) (s : SwitchStep) → first_speech input ≡ Silent → IsMaking v s → IsAccounted v input s.view s.acts
+pub making_is_accounted : (v : SwitchView) (input : SwitchInput) (s : SwitchStep) → first_frame_state input ≡ Silent → IsMaking v s → IsAccounted v input s.view s.acts
 making_is_accounted v input s silent m = record {
-  said = ap (λ start. is_said (speech start s.acts)) silent ∙ ended_is_said (speech Silent s.acts) m.silent;
+  said = ap (λ start. is_said (frame_state start s.acts)) silent ∙ ended_is_said (frame_state Silent s.acts) m.silent;
   fit = m.further.fit;
   id = m.further.same.id;
   k = m.further.same.k;
@@ -76,7 +76,7 @@ quiet_control_comes v port frame s within =
 pub accounted_control : (choose : Choice) (v : SwitchView) (port : ℕ) (frame : List ℕ) → IsShaped v → IsComing v.k port frame → is_control frame ≡ true →
     IsAccounted v (Comes port frame) (switch_step choose v (Comes port frame)).view (switch_step choose v (Comes port frame)).acts
 accounted_control choose v port frame s coming is =
-    let silent : first_speech (Comes port frame) ≡ Silent = ap (λ b. if◌then◌else◌ {A = Speech} b Silent Waiting) is in
+    let silent : first_frame_state (Comes port frame) ≡ Silent = ap (λ b. if◌then◌else◌ {A = FrameState} b Silent Waiting) is in
     let step : switch_step choose v (Comes port frame) ≡ control_comes v port frame =
     ap (λ b. if◌then◌else◌ {A = SwitchStep} b (control_comes v port frame) (data_comes choose v port frame)) is in
     subst (λ t. IsAccounted v (Comes port frame) t.view t.acts) (sym step)
@@ -86,7 +86,7 @@ accounted_control choose v port frame s coming is =
 pub accounted_data : (choose : Choice) (v : SwitchView) (port : ℕ) (frame : List ℕ) → is_control frame ≡ false → IsEnding v (data_comes choose v port frame) →
     IsAccounted v (Comes port frame) (switch_step choose v (Comes port frame)).view (switch_step choose v (Comes port frame)).acts
 accounted_data choose v port frame is ending =
-    let waiting : first_speech (Comes port frame) ≡ Waiting = ap (λ b. if◌then◌else◌ {A = Speech} b Silent Waiting) is in
+    let waiting : first_frame_state (Comes port frame) ≡ Waiting = ap (λ b. if◌then◌else◌ {A = FrameState} b Silent Waiting) is in
     let step : switch_step choose v (Comes port frame) ≡ data_comes choose v port frame =
     ap (λ b. if◌then◌else◌ {A = SwitchStep} b (control_comes v port frame) (data_comes choose v port frame)) is in
     subst (λ t. IsAccounted v (Comes port frame) t.view t.acts) (sym step)

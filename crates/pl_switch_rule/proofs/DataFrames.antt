@@ -4,20 +4,19 @@ use Rattle.std.proofs.lemmas.List.{get_or-drop}
 use Rattle.pl_frame.specs.declared.address.Ip4.{Ip4}
 use Rattle.pl_frame.specs.declared.address.Mac.{Mac}
 use Rattle.pl_frame.specs.Ethernet.{Fields, frame_of, kind_of, source_of, with_destination}
-use Rattle.pl_frame.proofs.Fields.{fields_of-frame_of, fields_of-with_destination, length-frame_of}
+use Rattle.pl_frame.proofs.Exports.{fields_of-frame_of, fields_of-with_destination, length-frame_of}
 use Rattle.pl_arp.specs.declared.packet.Arp.{Arp}
 use Rattle.pl_arp.specs.Packet.{layout}
-use Rattle.pl_arp.proofs.Lengths.{length-layout}
+use Rattle.pl_arp.proofs.Exports.{length-layout}
 use Rattle.pl_pmac.specs.declared.pmac.Pmac.{Pmac}
 use Rattle.pl_pmac.specs.Pmac.{mac_of}
-use Rattle.pl_pmac.proofs.Inverse.{length-mac_of}
+use Rattle.pl_pmac.proofs.Exports.{length-mac_of}
 use Rattle.pl_switch_rule.specs.Delivering.{newer_address}
 use Rattle.pl_layouts.specs.Frames.{HasSixBytes, arriving}
-use Rattle.pl_logic.specs.Accounting.{IsMade, IsWhole}
+use Rattle.pl_node.specs.Accounting.{IsMade, IsWholeFrame}
 use Rattle.pl_switch_rule.specs.Messages.{answer_frame, flood_frame, probe_frame}
-use Rattle.pl_layouts.proofs.Arrived.{length-arriving}
+use Rattle.pl_layouts.proofs.Exports.{length-arriving, others_are_kept}
 use Rattle.pl_switch_rule.proofs.GrantingParts.{source_has_six}
-use Rattle.pl_layouts.proofs.Kept.{others_are_kept}
 use Rattle.pl_layouts.specs.ArpFrames.{arp_frame, broadcast, no_mac}
 
 -- the type stands in the bytes 12 and 13
@@ -70,7 +69,7 @@ unfolding arp_frame
 arp_frame_made to a dst sha tha =
     frame_made (record { dst = to; src = a.sha; kind = 0x0806; payload = layout a }) dst sha (omega arith) refl (length-layout a sha tha)
 
-pub newer_address_made : (frame : List ℕ) (new : Pmac) (ip : Ip4) → IsWhole frame → IsMade (newer_address frame new ip)
+pub newer_address_made : (frame : List ℕ) (new : Pmac) (ip : Ip4) → IsWholeFrame frame → IsMade (newer_address frame new ip)
 newer_address_made frame new ip whole =
     arp_frame_made (source_of frame) (record { op = 2; sha = mac_of new; spa = ip; tha = source_of frame; tpa = ip })
     (source_has_six frame whole.low) (length-mac_of new) (source_has_six frame whole.low)

@@ -1,8 +1,8 @@
 -- The first cause of a frame, part by part: what drops and makes nothing, what makes nothing, and a frame that is made.
 use Rattle.std.proofs.Common.{◌≡◌, ℕ, Bool, true, false, if◌then◌else◌, List, [], ◌∷◌, ◌++◌, Option, None, refl, ap, ◌∙◌}
 use Rattle.std.specs.List.{AllByRecursion}
-use Rattle.pl_logic.specs.declared.acts.Act.{Act}
-use Rattle.pl_logic.specs.declared.acts.Act.TheVariants.{Drop, Make}
+use Rattle.pl_node.specs.declared.acts.Act.{Act}
+use Rattle.pl_node.specs.declared.acts.Act.TheVariants.{Drop, Make}
 use Rattle.pl_journal.specs.declared.cause.Cause.{Cause}
 use Rattle.pl_switch_rule.specs.CauseOf.{DropsFor, behind_make}
 use Rattle.pl_switch_rule.specs.DropCauses.{first_drop}

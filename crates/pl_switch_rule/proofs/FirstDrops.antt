@@ -1,8 +1,8 @@
 -- The first drop among acts, and the parts of a step that drop nothing.
 use Rattle.std.proofs.Common.{◌≡◌, ℕ, List, [], ◌∷◌, ◌++◌, None, refl}
 use Rattle.std.specs.List.{AllByRecursion}
-use Rattle.pl_logic.specs.declared.acts.Act.{Act}
-use Rattle.pl_logic.specs.declared.acts.Act.TheVariants.{Control, Drop, Grant as GrantAct, Make, Tell}
+use Rattle.pl_node.specs.declared.acts.Act.{Act}
+use Rattle.pl_node.specs.declared.acts.Act.TheVariants.{Control, Drop, Grant as GrantAct, Make, Tell}
 use Rattle.pl_switch_rule.specs.DropCauses.{first_drop}
 use Rattle.pl_switch_rule.proofs.QuietActs.{AreQuiet}
 

@@ -2,31 +2,31 @@
 use Rattle.std.proofs.Common.{◌≡◌, ℕ, ◌-◌, ◌<◌, ◌==◌, zero, suc, List, [], ◌∷◌, length, get_or, slice_get, Option, Some, None, refl, sym, ap, subst, ◌∙◌, inl, inr, arith}
 use Rattle.std.proofs.lemmas.Bool.{cond_both}
 use Rattle.std.specs.List.{AllByRecursion}
-use Rattle.pl_lemmas.proofs.Lists.{all_append}
+use Rattle.pl_lemmas.proofs.Exports.{all_append}
 use Rattle.pl_frame.specs.declared.address.Ip4.{Ip4}
 use Rattle.pl_frame.specs.Ethernet.{destination_of, with_destination}
 use Rattle.pl_pmac.specs.declared.pmac.Pmac.{Pmac}
 use Rattle.pl_pmac.specs.Pmac.{mac_of, pmac_of}
-use Rattle.pl_pmac.proofs.Inverse.{length-mac_of}
-use Rattle.pl_logic.specs.declared.acts.Act.{Act}
-use Rattle.pl_logic.specs.declared.acts.Act.TheVariants.{Redirect}
+use Rattle.pl_pmac.proofs.Exports.{length-mac_of}
+use Rattle.pl_node.specs.declared.acts.Act.{Act}
+use Rattle.pl_node.specs.declared.acts.Act.TheVariants.{Redirect}
 use Rattle.pl_switch_rule.specs.declared.came.Came.TheVariants.{FromHost}
 use Rattle.pl_journal.specs.declared.cause.Cause.TheVariants.{NoAddress}
-use Rattle.pl_logic.specs.declared.trap.Trap.{Trap}
+use Rattle.pl_node.specs.declared.trap.Trap.{Trap}
 use Rattle.pl_switch_rule.specs.Delivering.{addresses, arrives_home, begins, comes_home, delivers, delivers_or_redirects, delivers_to, destination, goes_on, if_newer, is_trapped, last_trap, makes, newer_address, redirects, redirects_on, tells_newer, tells_sender, trap_for}
 use Rattle.pl_switch_rule.specs.Forwarding.{Choice, candidates_by, forwards, leaves_by}
 use Rattle.pl_layouts.specs.Frames.{arriving, is_arp}
 use Rattle.pl_switch_rule.specs.Granting.{grant_number, granted, grants_at, is_local}
-use Rattle.pl_logic.specs.Accounting.{HasMac, IsFit, IsMade, IsShaped, IsWhole, speech}
-use Rattle.pl_logic.specs.Accounting.Speech.{Redirected, Waiting}
+use Rattle.pl_node.specs.Accounting.{HasMac, IsFit, IsMade, IsShaped, IsWholeFrame, frame_state}
+use Rattle.pl_node.specs.Accounting.FrameState.{Redirected, Waiting}
 use Rattle.pl_steps.specs.Steps.{SwitchStep, does, ◌▹◌}
 use Rattle.pl_switch_rule.specs.SwitchRule.{IsChoice}
-use Rattle.pl_logic.specs.declared.switch_records.Grant.{Grant}
-use Rattle.pl_logic.specs.SwitchViews.{SwitchView}
+use Rattle.pl_node.specs.declared.switch_records.Grant.{Grant}
+use Rattle.pl_node.specs.SwitchViews.{SwitchView}
 use Rattle.pl_switch_rule.proofs.DataFrames.{arriving_made, newer_address_made, with_destination_made}
 use Rattle.pl_switch_rule.proofs.GoingOut.{drop_ends, forwards_ends, pass_ends}
 use Rattle.pl_switch_rule.proofs.Shapes.{same_self}
-use Rattle.pl_switch_rule.proofs.StepParts.{HasEnded, IsEnding, IsFurther, IsMaking, IsSame, ending_then_further, fit_at, make_then_ending, same_then, speech_append}
+use Rattle.pl_switch_rule.proofs.StepParts.{HasEnded, IsEnding, IsFurther, IsMaking, IsSame, ending_then_further, fit_at, make_then_ending, same_then, frame_state_append}
 
 -- What was granted.
 
@@ -81,27 +81,27 @@ delivers_ends v frame shaped made =
 
 -- a part after which the frame waits, and was redirected
 pub record IsRedirecting (v : SwitchView) (s : SwitchStep) : Type 0 where
-  pub redirected : speech Waiting s.acts ≡ Redirected
+  pub redirected : frame_state Waiting s.acts ≡ Redirected
   pub fit : AllByRecursion (IsFit v.k) s.acts
   pub same : IsSame v s.view
 
 -- a part that ends such a frame
 pub record IsEndingOn (v : SwitchView) (s : SwitchStep) : Type 0 where
-  pub ends : HasEnded (speech Redirected s.acts)
+  pub ends : HasEnded (frame_state Redirected s.acts)
   pub fit : AllByRecursion (IsFit v.k) s.acts
   pub same : IsSame v s.view
 
 pub redirecting_then_ending : (v : SwitchView) (s : SwitchStep) (next : SwitchView → SwitchStep) → IsRedirecting v s →
     ((w : SwitchView) → IsSame v w → IsEndingOn w (next w)) → IsEnding v (s ▹ next)
 redirecting_then_ending v s next a follows = let b = follows s.view a.same in record {
-  ends = subst HasEnded (sym (speech_append Waiting s.acts (next s.view).acts ∙ ap (λ x. speech x (next s.view).acts) a.redirected)) b.ends;
+  ends = subst HasEnded (sym (frame_state_append Waiting s.acts (next s.view).acts ∙ ap (λ x. frame_state x (next s.view).acts) a.redirected)) b.ends;
   fit = all_append (IsFit v.k) s.acts (next s.view).acts a.fit (fit_at v s.view (next s.view).acts a.same b.fit);
   same = same_then v s.view (next s.view).view a.same b.same;
 }
 
 -- acts that all redirect
 pub record AreRedirects (k : ℕ) (acts : List Act) : Type 0 where
-  pub redirected : speech Redirected acts ≡ Redirected
+  pub redirected : frame_state Redirected acts ≡ Redirected
   pub fit : AllByRecursion (IsFit k) acts
 
 redirects_more : (k : ℕ) (old new : Pmac) (acts : List Act) → AreRedirects k acts → AreRedirects k (Redirect old new ∷ acts)
@@ -178,14 +178,14 @@ pub nothing_further : (v : SwitchView) → IsShaped v → IsFurther v (does v []
 nothing_further v shaped = record { passed = inl refl; ended = inr refl; fit = tt; same = same_self v shaped }
 
 newer_further : (choose : Choice) (frame : List ℕ) (new : Pmac) (o : Option Ip4) (v : SwitchView) → IsChoice choose → IsShaped v →
-    IsWhole frame →
+    IsWholeFrame frame →
     IsFurther v (tells_newer choose frame new o v)
 newer_further choose frame new None v is_choice shaped whole = nothing_further v shaped
 newer_further choose frame new (Some ip) v is_choice shaped whole =
     (makes_making choose (newer_address frame new ip) v is_choice shaped (newer_address_made frame new ip whole)).further
 
 pub tells_sender_further : (choose : Choice) (frame : List ℕ) (o : Option Trap) (v : SwitchView) → IsChoice choose → IsShaped v →
-    IsWhole frame →
+    IsWholeFrame frame →
     IsFurther v (tells_sender choose frame o v)
 tells_sender_further choose frame None v is_choice shaped whole = nothing_further v shaped
 tells_sender_further choose frame (Some trap) v is_choice shaped whole =

@@ -5,8 +5,8 @@ use Rattle.std.specs.List.{AllByRecursion, IsAmong}
 use Rattle.pl_frame.specs.Ethernet.{destination_of, source_of}
 use Rattle.pl_pmac.specs.declared.pmac.Pmac.{Pmac}
 use Rattle.pl_pmac.specs.Pmac.{pmac_of}
-use Rattle.pl_logic.specs.declared.acts.Act.{Act}
-use Rattle.pl_logic.specs.declared.acts.Act.TheVariants.{Drop, Pass}
+use Rattle.pl_node.specs.declared.acts.Act.{Act}
+use Rattle.pl_node.specs.declared.acts.Act.TheVariants.{Drop, Pass}
 use Rattle.pl_switch_rule.specs.declared.came.Came.{Came}
 use Rattle.pl_switch_rule.specs.declared.came.Way.{Way}
 use Rattle.pl_switch_rule.specs.declared.came.Way.TheVariants.{Down, Nowhere, ToHosts, Up}
@@ -15,11 +15,11 @@ use Rattle.pl_journal.specs.declared.cause.Cause.TheVariants.{NoNextHop}
 use Rattle.pl_switch_rule.specs.Forwarding.{Choice, candidates, candidates_by, forwards, is_candidate, leaves_by}
 use Rattle.pl_switch_rule.specs.GroupForwarding.{at_most_one, forwards_group, destination_group, group_ports, no_way, passes_or_drops, way_of}
 use Rattle.pl_switch_rule.specs.Intake.{takes}
-use Rattle.pl_logic.specs.Accounting.{IsFit, IsMade, IsSent, IsShaped, speech}
-use Rattle.pl_logic.specs.Accounting.Speech.{Passed}
+use Rattle.pl_node.specs.Accounting.{IsFit, IsMade, IsSentDuly, IsShaped, frame_state}
+use Rattle.pl_node.specs.Accounting.FrameState.{Passed}
 use Rattle.pl_steps.specs.Steps.{does}
 use Rattle.pl_switch_rule.specs.SwitchRule.{IsChoice}
-use Rattle.pl_logic.specs.SwitchViews.{SwitchView}
+use Rattle.pl_node.specs.SwitchViews.{SwitchView}
 use Rattle.pl_switch_rule.proofs.ControlParts.{ports_within}
 use Rattle.pl_switch_rule.proofs.Shapes.{same_self}
 use Rattle.pl_switch_rule.proofs.StepParts.{IsEnding}
@@ -30,7 +30,7 @@ drop_ends v cause shaped = record { ends = inr refl; fit = (tt, tt); same = same
 pub take_ends : (v : SwitchView) → IsShaped v → IsEnding v (takes v)
 take_ends v shaped = record { ends = inr refl; fit = (tt, tt); same = same_self v shaped }
 
-pub sent_by : (k port : ℕ) (frame : List ℕ) → port < k → IsMade frame → IsSent k port false frame
+pub sent_by : (k port : ℕ) (frame : List ℕ) → port < k → IsMade frame → IsSentDuly k port false frame
 sent_by k port frame within made = record { within = within; kind = made.kind; whole = made.whole }
 
 pub pass_ends : (v : SwitchView) (port : ℕ) (frame : List ℕ) → IsShaped v → port < v.k → IsMade frame →
@@ -96,7 +96,7 @@ group_below v Nowhere group source = tt
 abbrev passes : List ℕ → List ℕ → List Act
 passes ports frame = map (λ p. Pass p frame) ports
 
-passes_on : (ports frame : List ℕ) → speech Passed (passes ports frame) ≡ Passed
+passes_on : (ports frame : List ℕ) → frame_state Passed (passes ports frame) ≡ Passed
 passes_on [] frame = refl
 passes_on (p ∷ ports) frame = passes_on ports frame
 

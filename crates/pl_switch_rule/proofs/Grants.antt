@@ -3,8 +3,8 @@ use Rattle.std.proofs.Common.{[], ap, Bool, false, if◌then◌else◌, List, No
 use Rattle.std.proofs.lemmas.Bool.{cond_both}
 use Rattle.std.specs.List.{slice_get}
 use Rattle.pl_pmac.specs.declared.pmac.Pmac.{Pmac}
-use Rattle.pl_logic.specs.declared.switch_records.Grant.{Grant}
-use Rattle.pl_logic.specs.SwitchViews.{SwitchView}
+use Rattle.pl_node.specs.declared.switch_records.Grant.{Grant}
+use Rattle.pl_node.specs.SwitchViews.{SwitchView}
 use Rattle.pl_switch_rule.specs.Granting.{grant_number, granted, grants_at, is_local}
 
 -- nothing is granted in an empty list

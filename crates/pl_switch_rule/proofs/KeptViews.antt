@@ -6,9 +6,9 @@ use Rattle.pl_frame.specs.Ethernet.{with_destination}
 use Rattle.pl_pmac.specs.declared.pmac.Pmac.{Pmac}
 use Rattle.pl_pmac.specs.Pmac.{mac_of}
 use Rattle.pl_layouts.specs.Frames.{is_arp}
-use Rattle.pl_logic.specs.declared.switch_records.Grant.{Grant}
-use Rattle.pl_logic.specs.declared.trap.Trap.{Trap}
-use Rattle.pl_logic.specs.SwitchViews.{SwitchView}
+use Rattle.pl_node.specs.declared.switch_records.Grant.{Grant}
+use Rattle.pl_node.specs.declared.trap.Trap.{Trap}
+use Rattle.pl_node.specs.SwitchViews.{SwitchView}
 use Rattle.pl_steps.specs.Steps.{SwitchStep, does}
 use Rattle.pl_switch_rule.specs.declared.came.Came.TheVariants.{FromHost}
 use Rattle.pl_switch_rule.specs.Delivering.{addresses, arrives_home, begins, comes_home, delivers, delivers_or_redirects, delivers_to, destination, goes_on, last_trap, newer_address, tells_newer, tells_sender, trap_for}

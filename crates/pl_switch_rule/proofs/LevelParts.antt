@@ -4,13 +4,13 @@ use Rattle.pl_frame.specs.declared.address.SwitchId.{SwitchId}
 use Rattle.pl_layouts.specs.declared.control.Ldm.{Ldm}
 use Rattle.pl_layouts.specs.declared.place.Place.{Place}
 use Rattle.pl_switch_rule.specs.Granting.{grants_remembered}
-use Rattle.pl_logic.specs.Accounting.{IsShaped}
+use Rattle.pl_node.specs.Accounting.{IsShaped}
 use Rattle.pl_switch_rule.specs.Levels.{after_message, becomes_edge, changes_to, finds_host, has_become_placed, hears_message, learns_level, learns_pod, level_after, notes_edge, pod_after, pod_told_before, settles_in, with_level, with_message, with_pod}
 use Rattle.pl_switch_rule.specs.Positions.{notes_position}
-use Rattle.pl_logic.specs.PortRecords.{port_of, ports_of_switch, with_port}
+use Rattle.pl_node.specs.PortRecords.{port_of, ports_of_switch, with_port}
 use Rattle.pl_layouts.specs.Placement.{is_known}
 use Rattle.pl_steps.specs.Steps.{does, rests}
-use Rattle.pl_logic.specs.SwitchViews.{SwitchView}
+use Rattle.pl_node.specs.SwitchViews.{SwitchView}
 use Rattle.pl_switch_rule.specs.Telling.{changes_told}
 use Rattle.pl_switch_rule.proofs.StepParts.{IsQuiet, IsSame, quiet_then_quiet, same_then}
 use Rattle.pl_switch_rule.proofs.Shapes.{all_range, same_self, same_with_port}

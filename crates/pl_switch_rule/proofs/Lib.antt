@@ -29,3 +29,4 @@ pub mod CausesOfSteps
 pub mod Lengths
 pub mod Grants
 pub mod Candidates
+pub mod Exports

@@ -1,27 +1,27 @@
 -- What a message of the fabric manager leads to: nothing, or a frame that is made and ends.
 use Rattle.std.proofs.Common.{◌≡◌, ℕ, Bool, true, false, if◌then◌else◌, List, [], Option, Some, None, length, ◌<◌, refl, sym, ap, subst, ◌∙◌}
 use Rattle.std.specs.List.{AllByRecursion}
-use Rattle.pl_lemmas.proofs.Lists.{all_append}
+use Rattle.pl_lemmas.proofs.Exports.{all_append}
 use Rattle.pl_frame.specs.declared.address.Ip4.{Ip4}
 use Rattle.pl_frame.specs.declared.address.Mac.{Mac}
 use Rattle.pl_pmac.specs.declared.pmac.Pmac.{Pmac}
 use Rattle.pl_switch_rule.specs.declared.came.Came.TheVariants.{FromHost}
-use Rattle.pl_logic.specs.declared.messages.ToSwitch.{ToSwitch}
-use Rattle.pl_logic.specs.declared.messages.ToSwitch.TheVariants.{Answer, Flood, Invalidate}
-use Rattle.pl_logic.specs.declared.trap.Trap.{Trap}
+use Rattle.pl_node.specs.declared.messages.ToSwitch.{ToSwitch}
+use Rattle.pl_node.specs.declared.messages.ToSwitch.TheVariants.{Answer, Flood, Invalidate}
+use Rattle.pl_node.specs.declared.trap.Trap.{Trap}
 use Rattle.pl_switch_rule.specs.Delivering.{makes}
 use Rattle.pl_switch_rule.specs.Forwarding.{Choice}
 use Rattle.pl_layouts.specs.Frames.{arriving}
 use Rattle.pl_switch_rule.specs.Granting.{granted, is_granted}
 use Rattle.pl_switch_rule.specs.GroupForwarding.{forwards_group}
-use Rattle.pl_logic.specs.Accounting.{IsFit, IsAccounted, IsMade, IsShaped, is_said, speech}
-use Rattle.pl_logic.specs.Accounting.Speech.{Silent}
+use Rattle.pl_node.specs.Accounting.{IsFit, IsAccounted, IsMade, IsShaped, is_said, frame_state}
+use Rattle.pl_node.specs.Accounting.FrameState.{Silent}
 use Rattle.pl_switch_rule.specs.Messages.{answer_frame, flood_frame, floods, forgets_members, hears_manager, invalidates, probe_frame, probes, probes_at, sets_trap}
 use Rattle.pl_steps.specs.Steps.{SwitchStep, does, rests, ◌▹◌}
 use Rattle.pl_switch_rule.specs.SwitchRule.{IsChoice}
-use Rattle.pl_logic.specs.SwitchInputs.SwitchInput.{Says}
-use Rattle.pl_logic.specs.declared.switch_records.Grant.{Grant}
-use Rattle.pl_logic.specs.SwitchViews.{SwitchView}
+use Rattle.pl_node.specs.SwitchInputs.SwitchInput.{Says}
+use Rattle.pl_node.specs.declared.switch_records.Grant.{Grant}
+use Rattle.pl_node.specs.SwitchViews.{SwitchView}
 use Rattle.pl_switch_rule.proofs.AllSteps.{IsAccountedStep}
 use Rattle.pl_switch_rule.proofs.ControlSteps.{ended_is_said}
 use Rattle.pl_switch_rule.proofs.DataFrames.{answer_frame_made, arriving_made, flood_frame_made, probe_frame_made}
@@ -29,11 +29,11 @@ use Rattle.pl_switch_rule.proofs.GoingHome.{AreGrantedAt, IsGrantedAt, granted_a
 use Rattle.pl_switch_rule.proofs.GoingOut.{forwards_group_ends, sent_by}
 use Rattle.pl_switch_rule.proofs.MessageParts.{quiet_forgets_members, quiet_sets_trap}
 use Rattle.pl_switch_rule.proofs.Shapes.{same_self}
-use Rattle.pl_switch_rule.proofs.StepParts.{IsMaking, IsQuiet, IsSame, fit_at, make_then_ending, quiet_then_quiet, same_then, speech_append}
+use Rattle.pl_switch_rule.proofs.StepParts.{IsMaking, IsQuiet, IsSame, fit_at, make_then_ending, quiet_then_quiet, same_then, frame_state_append}
 
 -- at its end no frame waits
 pub record IsSettled (v : SwitchView) (s : SwitchStep) : Type 0 where
-  pub said : is_said (speech Silent s.acts) ≡ true
+  pub said : is_said (frame_state Silent s.acts) ≡ true
   pub fit : AllByRecursion (IsFit v.k) s.acts
   pub same : IsSame v s.view
 
@@ -42,12 +42,12 @@ rests_settled v shaped = record { said = refl; fit = tt; same = same_self v shap
 
 making_settled : (v : SwitchView) (s : SwitchStep) → IsMaking v s → IsSettled v s
 making_settled v s making =
-    record { said = ended_is_said (speech Silent s.acts) making.silent; fit = making.further.fit; same = making.further.same }
+    record { said = ended_is_said (frame_state Silent s.acts) making.silent; fit = making.further.fit; same = making.further.same }
 
 quiet_then_settled : (v : SwitchView) (s : SwitchStep) (next : SwitchView → SwitchStep) → IsQuiet v s →
     ((w : SwitchView) → IsSame v w → IsSettled w (next w)) → IsSettled v (s ▹ next)
 quiet_then_settled v s next a follows = let b = follows s.view a.same in record {
-  said = ap is_said (speech_append Silent s.acts (next s.view).acts ∙ ap (λ x. speech x (next s.view).acts) a.silent) ∙ b.said;
+  said = ap is_said (frame_state_append Silent s.acts (next s.view).acts ∙ ap (λ x. frame_state x (next s.view).acts) a.silent) ∙ b.said;
   fit = all_append (IsFit v.k) s.acts (next s.view).acts a.fit (fit_at v s.view (next s.view).acts a.same b.fit);
   same = same_then v s.view (next s.view).view a.same b.same;
 }

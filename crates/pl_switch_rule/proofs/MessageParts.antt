@@ -6,19 +6,19 @@ use Rattle.pl_frame.specs.declared.address.SwitchId.{SwitchId}
 use Rattle.pl_frame.specs.Ethernet.{source_of}
 use Rattle.pl_arp.specs.declared.packet.Arp.{Arp}
 use Rattle.pl_pmac.specs.declared.pmac.Pmac.{Pmac}
-use Rattle.pl_logic.specs.declared.messages.ToManager.TheVariants.{Members}
-use Rattle.pl_logic.specs.declared.messages.TreePart.{TreePart}
-use Rattle.pl_logic.specs.declared.trap.Trap.{Trap}
+use Rattle.pl_node.specs.declared.messages.ToManager.TheVariants.{Members}
+use Rattle.pl_node.specs.declared.messages.TreePart.{TreePart}
+use Rattle.pl_node.specs.declared.trap.Trap.{Trap}
 use Rattle.pl_switch_rule.specs.Intake.{changes_member, groups_told, hears_members, is_member, members_become, packet_acts, with_members}
-use Rattle.pl_logic.specs.Accounting.{HasMac, IsShaped}
+use Rattle.pl_node.specs.Accounting.{HasMac, IsShaped}
 use Rattle.pl_switch_rule.specs.Levels.{changes_to, with_pod}
 use Rattle.pl_layouts.specs.Memberships.{changes_in}
 use Rattle.pl_switch_rule.specs.Messages.{forgets_members, hears_pod, sets_trap, takes_pod, with_part}
-use Rattle.pl_logic.specs.Traps.{newer_trap}
+use Rattle.pl_node.specs.Traps.{newer_trap}
 use Rattle.pl_steps.specs.Steps.{does, rests}
-use Rattle.pl_logic.specs.declared.switch_records.Grant.{Grant}
-use Rattle.pl_logic.specs.declared.switch_records.Member.{Member}
-use Rattle.pl_logic.specs.SwitchViews.{SwitchView}
+use Rattle.pl_node.specs.declared.switch_records.Grant.{Grant}
+use Rattle.pl_node.specs.declared.switch_records.Member.{Member}
+use Rattle.pl_node.specs.SwitchViews.{SwitchView}
 use Rattle.pl_switch_rule.proofs.StepParts.{IsQuiet, IsSame}
 use Rattle.pl_switch_rule.proofs.Shapes.{same_but, same_self, same_shape}
 use Rattle.pl_switch_rule.proofs.RowActs.{arp_acts, groups_acts}

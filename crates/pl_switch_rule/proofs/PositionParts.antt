@@ -6,11 +6,11 @@ use Rattle.std.proofs.lemmas.List.{length-set}
 use Rattle.pl_frame.specs.declared.address.SwitchId.{SwitchId}
 use Rattle.pl_layouts.specs.declared.control.Vote.{Vote}
 use Rattle.pl_layouts.specs.declared.place.Place.{Place}
-use Rattle.pl_logic.specs.Accounting.{IsShaped}
+use Rattle.pl_node.specs.Accounting.{IsShaped}
 use Rattle.pl_switch_rule.specs.Positions.{after_vote, counted, fixes_position, freed_but, frees_others, half, holds_for, is_majority, kept_or_new, marked_for, marks, moves_on, notes_position, with_granted}
-use Rattle.pl_logic.specs.SwitchFacts.{hold_at}
+use Rattle.pl_node.specs.SwitchFacts.{hold_at}
 use Rattle.pl_layouts.specs.Votes.{counts, gives_way}
-use Rattle.pl_logic.specs.SwitchViews.{SwitchView}
+use Rattle.pl_node.specs.SwitchViews.{SwitchView}
 use Rattle.pl_switch_rule.proofs.StepParts.{IsSame, same_then}
 use Rattle.pl_switch_rule.proofs.Shapes.{same_but, same_self, same_with_holds}
 use Rattle.pl_switch_rule.proofs.QuietActs.{same_either}

@@ -1,17 +1,17 @@
 -- Acts that speak of no frame's end: control frames, messages to the manager, grants.
 use Rattle.std.proofs.Common.{◌≡◌, ◌<◌, ℕ, Bool, true, false, List, [], ◌∷◌, map, if◌then◌else◌, refl}
 use Rattle.std.specs.List.{AllByRecursion}
-use Rattle.pl_logic.specs.declared.acts.Act.{Act}
-use Rattle.pl_logic.specs.declared.acts.Act.TheVariants.{Control, Grant as GrantAct, Tell}
-use Rattle.pl_logic.specs.Accounting.{IsFit, IsSent, IsShaped, speech}
-use Rattle.pl_logic.specs.Accounting.Speech.{Silent, Waiting}
+use Rattle.pl_node.specs.declared.acts.Act.{Act}
+use Rattle.pl_node.specs.declared.acts.Act.TheVariants.{Control, Grant as GrantAct, Tell}
+use Rattle.pl_node.specs.Accounting.{IsFit, IsSentDuly, IsShaped, frame_state}
+use Rattle.pl_node.specs.Accounting.FrameState.{Silent, Waiting}
 use Rattle.pl_steps.specs.Steps.{SwitchStep, rests}
-use Rattle.pl_logic.specs.SwitchViews.{SwitchView}
+use Rattle.pl_node.specs.SwitchViews.{SwitchView}
 use Rattle.pl_switch_rule.proofs.StepParts.{IsQuiet, IsSame}
 use Rattle.pl_switch_rule.proofs.Shapes.{same_self}
 
 abbrev pub IsQuietAct : ℕ → Act → Type 0
-IsQuietAct k (Control port frame) = IsSent k port true frame
+IsQuietAct k (Control port frame) = IsSentDuly k port true frame
 IsQuietAct k (Tell told) = Unit {0}
 IsQuietAct k (GrantAct pmac amac) = pmac.port < k
 IsQuietAct k act = ⊥
@@ -19,14 +19,14 @@ IsQuietAct k act = ⊥
 abbrev pub AreQuiet : ℕ → List Act → Type 0
 AreQuiet k acts = AllByRecursion (IsQuietAct k) acts
 
-silent_acts : (k : ℕ) (acts : List Act) → AreQuiet k acts → speech Silent acts ≡ Silent
+silent_acts : (k : ℕ) (acts : List Act) → AreQuiet k acts → frame_state Silent acts ≡ Silent
 silent_acts k [] quiet = refl
 silent_acts k (Control port frame ∷ acts) quiet = silent_acts k acts quiet.1
 silent_acts k (Tell told ∷ acts) quiet = silent_acts k acts quiet.1
 silent_acts k (GrantAct pmac amac ∷ acts) quiet = silent_acts k acts quiet.1
 silent_acts k (a ∷ acts) quiet = absurd quiet.0
 
-waiting_acts : (k : ℕ) (acts : List Act) → AreQuiet k acts → speech Waiting acts ≡ Waiting
+waiting_acts : (k : ℕ) (acts : List Act) → AreQuiet k acts → frame_state Waiting acts ≡ Waiting
 waiting_acts k [] quiet = refl
 waiting_acts k (Control port frame ∷ acts) quiet = waiting_acts k acts quiet.1
 waiting_acts k (Tell told ∷ acts) quiet = waiting_acts k acts quiet.1

@@ -2,12 +2,12 @@
 use Rattle.std.proofs.Common.{◌≡◌, ℕ, List, drop, ap}
 use Rattle.pl_frame.specs.declared.address.Mac.{Mac}
 use Rattle.pl_frame.specs.Ethernet.{with_destination}
-use Rattle.pl_frame.proofs.Fields.{front_of}
+use Rattle.pl_frame.proofs.Exports.{front_of}
 use Rattle.pl_pmac.specs.declared.pmac.Pmac.{Pmac}
 use Rattle.pl_pmac.specs.Pmac.{mac_of, pmac_of}
-use Rattle.pl_pmac.proofs.Inverse.{length-mac_of}
-use Rattle.pl_logic.specs.declared.trap.Trap.{Trap}
-use Rattle.pl_logic.specs.SwitchViews.{SwitchView}
+use Rattle.pl_pmac.proofs.Exports.{length-mac_of}
+use Rattle.pl_node.specs.declared.trap.Trap.{Trap}
+use Rattle.pl_node.specs.SwitchViews.{SwitchView}
 use Rattle.pl_switch_rule.specs.Delivering.{destination, redirects}
 use Rattle.pl_switch_rule.proofs.FirstDrops.{AllGoOn, GoesOn}
 use Rattle.pl_switch_rule.proofs.RowActs.{redirects_acts}

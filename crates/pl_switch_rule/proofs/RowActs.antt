@@ -2,7 +2,7 @@
 use Rattle.std.proofs.Common.{◌≡◌, ℕ, zero, suc, ◌==◌, ◌&&◌, ◌||◌, not, nat_lt, Bool, true, false, if◌then◌else◌, List, [], ◌∷◌, ◌++◌, map, Option, Some, None, is_none, refl, sym, ap, subst, eqb-true}
 use Rattle.std.specs.List.{AllByRecursion, flat_map}
 use Rattle.std.proofs.lemmas.Bool.{and_parts, cond_both}
-use Rattle.pl_lemmas.proofs.Lists.{all_append}
+use Rattle.pl_lemmas.proofs.Exports.{all_append}
 use Rattle.pl_frame.specs.declared.address.Ip4.{Ip4}
 use Rattle.pl_frame.specs.declared.address.Mac.{Mac}
 use Rattle.pl_frame.specs.declared.address.SwitchId.{SwitchId}
@@ -19,16 +19,16 @@ use Rattle.pl_layouts.specs.Equality.{is_ip}
 use Rattle.pl_layouts.specs.Frames.{arriving, is_arp, packet_in}
 use Rattle.pl_layouts.specs.Memberships.{is_group}
 use Rattle.pl_layouts.specs.Placement.{is_known, is_placed, same_place}
-use Rattle.pl_logic.specs.declared.acts.Act.{Act}
-use Rattle.pl_logic.specs.declared.acts.Act.TheVariants as act
-use Rattle.pl_logic.specs.declared.messages.ToManager.TheVariants as tell
-use Rattle.pl_logic.specs.declared.switch_records.Grant.{Grant}
-use Rattle.pl_logic.specs.declared.switch_records.Member.{Member}
-use Rattle.pl_logic.specs.declared.switch_records.Source.{Source}
-use Rattle.pl_logic.specs.declared.trap.Trap.{Trap}
-use Rattle.pl_logic.specs.Announcements.{announcement}
-use Rattle.pl_logic.specs.PortRecords.{id_at, is_usable, place_at, ports_of_switch, ports_where}
-use Rattle.pl_logic.specs.SwitchViews.{SwitchView}
+use Rattle.pl_node.specs.declared.acts.Act.{Act}
+use Rattle.pl_node.specs.declared.acts.Act.TheVariants as act
+use Rattle.pl_node.specs.declared.messages.ToManager.TheVariants as tell
+use Rattle.pl_node.specs.declared.switch_records.Grant.{Grant}
+use Rattle.pl_node.specs.declared.switch_records.Member.{Member}
+use Rattle.pl_node.specs.declared.switch_records.Source.{Source}
+use Rattle.pl_node.specs.declared.trap.Trap.{Trap}
+use Rattle.pl_node.specs.Announcements.{announcement}
+use Rattle.pl_node.specs.PortRecords.{id_at, is_usable, place_at, ports_of_switch, ports_where}
+use Rattle.pl_node.specs.SwitchViews.{SwitchView}
 use Rattle.pl_steps.specs.Steps.{SwitchStep, does, rests, ◌▹◌}
 use Rattle.pl_switch_rule.specs.Announcing.{announcements, announces_at, proposal, proposes_at}
 use Rattle.pl_switch_rule.specs.declared.came.Came.{Came}

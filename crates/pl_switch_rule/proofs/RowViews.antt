@@ -15,15 +15,15 @@ use Rattle.pl_layouts.specs.Equality.{is_ip}
 use Rattle.pl_layouts.specs.Frames.{is_arp, packet_in}
 use Rattle.pl_layouts.specs.Memberships.{is_group, membership_in}
 use Rattle.pl_layouts.specs.Placement.{is_known, is_placed}
-use Rattle.pl_logic.specs.declared.acts.Act.TheVariants.{Drop, Tell}
-use Rattle.pl_logic.specs.declared.messages.ToManager.TheVariants.{Learned}
-use Rattle.pl_logic.specs.declared.switch_records.Grant.{Grant}
-use Rattle.pl_logic.specs.declared.switch_records.Member.{Member}
-use Rattle.pl_logic.specs.declared.switch_records.Source.{Source}
-use Rattle.pl_logic.specs.declared.trap.Trap.{Trap}
-use Rattle.pl_logic.specs.PortRecords.{place_at, port_of, ports_of_switch, with_port}
-use Rattle.pl_logic.specs.SwitchFacts.{hold_at}
-use Rattle.pl_logic.specs.SwitchViews.{SwitchView}
+use Rattle.pl_node.specs.declared.acts.Act.TheVariants.{Drop, Tell}
+use Rattle.pl_node.specs.declared.messages.ToManager.TheVariants.{Learned}
+use Rattle.pl_node.specs.declared.switch_records.Grant.{Grant}
+use Rattle.pl_node.specs.declared.switch_records.Member.{Member}
+use Rattle.pl_node.specs.declared.switch_records.Source.{Source}
+use Rattle.pl_node.specs.declared.trap.Trap.{Trap}
+use Rattle.pl_node.specs.PortRecords.{place_at, port_of, ports_of_switch, with_port}
+use Rattle.pl_node.specs.SwitchFacts.{hold_at}
+use Rattle.pl_node.specs.SwitchViews.{SwitchView}
 use Rattle.pl_steps.specs.Steps.{SwitchStep, does, rests, ◌▹◌}
 use Rattle.pl_switch_rule.specs.declared.came.Came.{Came}
 use Rattle.pl_switch_rule.specs.declared.came.Came.TheVariants.{FromHost}

@@ -4,13 +4,13 @@ use Rattle.pl_frame.specs.declared.address.Mac.{Mac}
 use Rattle.pl_frame.specs.Ethernet.{destination_of, source_of}
 use Rattle.pl_pmac.specs.declared.pmac.Pmac.{Pmac}
 use Rattle.pl_pmac.specs.Pmac.{pmac_of}
-use Rattle.pl_pmac.proofs.Inverse.{length-mac_of}
-use Rattle.pl_logic.specs.declared.acts.Act.TheVariants.{Pass}
-use Rattle.pl_logic.specs.Accounting.{IsWhole}
-use Rattle.pl_logic.specs.SwitchViews.{SwitchView}
+use Rattle.pl_pmac.proofs.Exports.{length-mac_of}
+use Rattle.pl_node.specs.declared.acts.Act.TheVariants.{Pass}
+use Rattle.pl_node.specs.Accounting.{IsWholeFrame}
+use Rattle.pl_node.specs.SwitchViews.{SwitchView}
 use Rattle.pl_layouts.specs.Frames.{HasSixBytes, is_arp}
 use Rattle.pl_layouts.specs.Memberships.{flood, group_of, is_group}
-use Rattle.pl_layouts.proofs.Arrived.{destination_of-arriving, length-arriving, source_of-arriving}
+use Rattle.pl_layouts.proofs.Exports.{destination_of-arriving, length-arriving, source_of-arriving}
 use Rattle.pl_steps.specs.Steps.{SwitchStep}
 use Rattle.pl_switch_rule.specs.declared.came.Came.{Came}
 use Rattle.pl_switch_rule.specs.declared.came.Came.TheVariants.{FromHost}
@@ -51,7 +51,7 @@ pub six_of_mac : (o : Option Pmac) → HasSixBytes (mac_of_pmac o)
 six_of_mac None = tt
 six_of_mac (Some a) = length-mac_of a
 
-pub host_sent_on : (v : SwitchView) (port : ℕ) (frame : List ℕ) → IsWhole frame → is_of_host v port ≡ true →
+pub host_sent_on : (v : SwitchView) (port : ℕ) (frame : List ℕ) → IsWholeFrame frame → is_of_host v port ≡ true →
     IsSentOn v port frame (Some FromHost) (with_pmac v port frame)
 host_sent_on v port frame whole host =
     let from : Option Mac = mac_of_pmac (source_pmac v port frame) in
@@ -67,7 +67,7 @@ host_sent_on v port frame whole host =
 
 -- A frame of another switch.
 
-pub switch_sent_on : (v : SwitchView) (port : ℕ) (frame : List ℕ) → IsWhole frame → is_of_host v port ≡ false →
+pub switch_sent_on : (v : SwitchView) (port : ℕ) (frame : List ℕ) → IsWholeFrame frame → is_of_host v port ≡ false →
     IsSentOn v port frame (came_by v port) frame
 switch_sent_on v port frame whole switch = record {
   came_so = ap (λ b. if◌then◌else◌ {A = Option Came} b (Some FromHost) (came_by v port)) switch;

@@ -1,16 +1,16 @@
 -- What a switch tells its neighbours at a tick.
 use Rattle.std.specs.Prelude.{ℕ, ◌&&◌, not, Bool, List, ◌++◌, is_none, map}
-use Rattle.pl_logic.specs.declared.acts.Act.{Act}
-use Rattle.pl_logic.specs.declared.acts.Act.TheVariants.{Control}
+use Rattle.pl_node.specs.declared.acts.Act.{Act}
+use Rattle.pl_node.specs.declared.acts.Act.TheVariants.{Control}
 use Rattle.pl_layouts.specs.declared.control.Control.TheVariants as control
 use Rattle.pl_layouts.specs.Control.{control_frame}
-use Rattle.pl_logic.specs.PortRecords.{is_usable_to, port_of, ports_where, aged}
+use Rattle.pl_node.specs.PortRecords.{is_usable_to, port_of, ports_where, aged}
 use Rattle.pl_layouts.specs.Placement.{is_known}
 use Rattle.pl_steps.specs.Steps.{SwitchStep}
-use Rattle.pl_logic.specs.SwitchFacts.{has_granted}
-use Rattle.pl_logic.specs.SwitchViews.{SwitchView}
+use Rattle.pl_node.specs.SwitchFacts.{has_granted}
+use Rattle.pl_node.specs.SwitchViews.{SwitchView}
 use Rattle.pl_switch_rule.specs.Telling.{changes_told}
-use Rattle.pl_logic.specs.Announcements.{announcement}
+use Rattle.pl_node.specs.Announcements.{announcement}
 
 abbrev pub announces_at : SwitchView → ℕ → Bool
 announces_at v port = not (port_of v port).host

@@ -5,16 +5,16 @@ use Rattle.pl_frame.specs.declared.address.Mac.{Mac}
 use Rattle.pl_frame.specs.Ethernet.{destination_of, source_of}
 use Rattle.pl_pmac.specs.declared.pmac.Pmac.{Pmac}
 use Rattle.pl_pmac.specs.Pmac.{mac_of, pmac_of}
-use Rattle.pl_logic.specs.Accounting.{CanCome, IsShaped}
-use Rattle.pl_logic.specs.PortRecords.{place_at}
-use Rattle.pl_logic.specs.SwitchInputs.{SwitchInput, SwitchRule}
-use Rattle.pl_logic.specs.SwitchInputs.SwitchInput.{Comes, Says, Tick}
-use Rattle.pl_logic.specs.SwitchViews.{SwitchView}
-use Rattle.pl_logic.specs.declared.acts.Act.{Act}
-use Rattle.pl_logic.specs.declared.acts.Act.TheVariants.{Make}
-use Rattle.pl_logic.specs.declared.messages.ToSwitch.{ToSwitch}
-use Rattle.pl_logic.specs.declared.messages.ToSwitch.TheVariants.{Answer, Flood}
-use Rattle.pl_logic.specs.declared.trap.Trap.{Trap}
+use Rattle.pl_node.specs.Accounting.{CanCome, IsShaped}
+use Rattle.pl_node.specs.PortRecords.{place_at}
+use Rattle.pl_node.specs.SwitchInputs.{SwitchInput, SwitchRule}
+use Rattle.pl_node.specs.SwitchInputs.SwitchInput.{Comes, Says, Tick}
+use Rattle.pl_node.specs.SwitchViews.{SwitchView}
+use Rattle.pl_node.specs.declared.acts.Act.{Act}
+use Rattle.pl_node.specs.declared.acts.Act.TheVariants.{Make}
+use Rattle.pl_node.specs.declared.messages.ToSwitch.{ToSwitch}
+use Rattle.pl_node.specs.declared.messages.ToSwitch.TheVariants.{Answer, Flood}
+use Rattle.pl_node.specs.declared.trap.Trap.{Trap}
 use Rattle.pl_journal.specs.declared.cause.Cause.{Cause}
 use Rattle.pl_journal.specs.declared.cause.Cause.TheVariants.{BadArp, NoAddress, NoMember, NoNextHop, NotPlaced, Spent}
 use Rattle.pl_layouts.specs.Control.{is_control}

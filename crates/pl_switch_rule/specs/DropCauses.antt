@@ -3,24 +3,24 @@ use Rattle.std.specs.Prelude.{ℕ, ◌==◌, ◌&&◌, ◌||◌, not, Bool, if�
 use Rattle.pl_frame.specs.Ethernet.{source_of}
 use Rattle.pl_pmac.specs.declared.pmac.Pmac.{Pmac}
 use Rattle.pl_pmac.specs.Pmac.{mac_of, pmac_of}
-use Rattle.pl_logic.specs.declared.acts.Act.{Act}
-use Rattle.pl_logic.specs.declared.acts.Act.TheVariants.{Drop, Make}
+use Rattle.pl_node.specs.declared.acts.Act.{Act}
+use Rattle.pl_node.specs.declared.acts.Act.TheVariants.{Drop, Make}
 use Rattle.pl_switch_rule.specs.declared.came.Came.{Came}
 use Rattle.pl_switch_rule.specs.declared.came.Came.TheVariants.{FromHost}
 use Rattle.pl_journal.specs.declared.cause.Cause.{Cause}
-use Rattle.pl_logic.specs.declared.trap.Trap.{Trap}
+use Rattle.pl_node.specs.declared.trap.Trap.{Trap}
 use Rattle.pl_switch_rule.specs.Delivering.{addresses, last_trap}
 use Rattle.pl_switch_rule.specs.Forwarding.{came_by}
 use Rattle.pl_switch_rule.specs.Granting.{learns_source}
 use Rattle.pl_switch_rule.specs.GroupForwarding.{destination_group, group_ports, is_on_its_way_down, way_of}
-use Rattle.pl_logic.specs.SwitchFacts.{part_of}
+use Rattle.pl_node.specs.SwitchFacts.{part_of}
 use Rattle.pl_switch_rule.specs.Intake.{mac_of_pmac, source_pmac}
 use Rattle.pl_switch_rule.specs.Levels.{finds_host}
 use Rattle.pl_layouts.specs.Memberships.{flood}
-use Rattle.pl_logic.specs.PortRecords.{is_open_to_hosts, port_of}
+use Rattle.pl_node.specs.PortRecords.{is_open_to_hosts, port_of}
 use Rattle.pl_layouts.specs.Placement.{is_known}
 use Rattle.pl_steps.specs.Steps.{◌▹◌}
-use Rattle.pl_logic.specs.SwitchViews.{SwitchView}
+use Rattle.pl_node.specs.SwitchViews.{SwitchView}
 
 -- the cause of the frame that came, if it is dropped; what is made afterwards has causes of its own
 abbrev pub first_drop : List Act → Option Cause

@@ -4,16 +4,16 @@ use Rattle.std.specs.Prelude.{ℕ, ◌&&◌, not, nat_lt, Bool, false, if◌then
 use Rattle.pl_frame.specs.Ethernet.{destination_of}
 use Rattle.pl_pmac.specs.declared.pmac.Pmac.{Pmac}
 use Rattle.pl_pmac.specs.Pmac.{pmac_of}
-use Rattle.pl_logic.specs.declared.acts.Act.TheVariants.{Drop, Pass}
+use Rattle.pl_node.specs.declared.acts.Act.TheVariants.{Drop, Pass}
 use Rattle.pl_switch_rule.specs.declared.came.Came.{Came}
 use Rattle.pl_switch_rule.specs.declared.came.Came.TheVariants.{FromAbove, FromBelow, FromHost}
 use Rattle.pl_journal.specs.declared.cause.Cause.TheVariants.{NoNextHop}
 use Rattle.pl_switch_rule.specs.Granting.{is_local}
-use Rattle.pl_logic.specs.PortRecords.{id_at, is_usable_to, place_at, ports_where}
+use Rattle.pl_node.specs.PortRecords.{id_at, is_usable_to, place_at, ports_where}
 use Rattle.pl_layouts.specs.Placement.{is_known}
 use Rattle.pl_steps.specs.Steps.{SwitchStep, does}
-use Rattle.pl_logic.specs.SwitchViews.{SwitchView}
-use Rattle.pl_logic.specs.SwitchFacts.{is_avoided}
+use Rattle.pl_node.specs.SwitchViews.{SwitchView}
+use Rattle.pl_node.specs.SwitchFacts.{is_avoided}
 
 -- How a port is chosen among candidates for a frame.
 abbrev pub Choice : Type 0

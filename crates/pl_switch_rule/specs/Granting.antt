@@ -5,14 +5,14 @@ use Rattle.pl_frame.specs.declared.address.Ip4.{Ip4}
 use Rattle.pl_frame.specs.declared.address.Mac.{Mac}
 use Rattle.pl_frame.specs.Ethernet.{source_of}
 use Rattle.pl_pmac.specs.declared.pmac.Pmac.{Pmac}
-use Rattle.pl_logic.specs.declared.acts.Act.TheVariants.{Grant as GrantAct, Tell}
-use Rattle.pl_logic.specs.declared.messages.ToManager.TheVariants.{Learned}
+use Rattle.pl_node.specs.declared.acts.Act.TheVariants.{Grant as GrantAct, Tell}
+use Rattle.pl_node.specs.declared.messages.ToManager.TheVariants.{Learned}
 use Rattle.pl_layouts.specs.Frames.{packet_in}
 use Rattle.pl_layouts.specs.Placement.{is_known, is_placed}
 use Rattle.pl_steps.specs.Steps.{SwitchStep, rests, ◌▹◌}
-use Rattle.pl_logic.specs.declared.switch_records.Grant.{Grant}
-use Rattle.pl_logic.specs.declared.switch_records.Source.{Source}
-use Rattle.pl_logic.specs.SwitchViews.{SwitchView}
+use Rattle.pl_node.specs.declared.switch_records.Grant.{Grant}
+use Rattle.pl_node.specs.declared.switch_records.Source.{Source}
+use Rattle.pl_node.specs.SwitchViews.{SwitchView}
 use Rattle.pl_layouts.specs.Equality.{is_ip, same_mac}
 
 -- the address number vmid of a port; vmids begin at 1

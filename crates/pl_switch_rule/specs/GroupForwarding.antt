@@ -6,23 +6,23 @@ use Rattle.pl_frame.specs.declared.address.SwitchId.{SwitchId}
 use Rattle.pl_frame.specs.Ethernet.{destination_of, source_of}
 use Rattle.pl_pmac.specs.declared.pmac.Pmac.{Pmac}
 use Rattle.pl_pmac.specs.Pmac.{pmac_of}
-use Rattle.pl_logic.specs.declared.acts.Act.{Act}
-use Rattle.pl_logic.specs.declared.acts.Act.TheVariants.{Drop, Pass}
+use Rattle.pl_node.specs.declared.acts.Act.{Act}
+use Rattle.pl_node.specs.declared.acts.Act.TheVariants.{Drop, Pass}
 use Rattle.pl_switch_rule.specs.declared.came.Came.{Came}
 use Rattle.pl_switch_rule.specs.declared.came.Came.TheVariants.{FromAbove, FromBelow, FromHost}
 use Rattle.pl_journal.specs.declared.cause.Cause.{Cause}
 use Rattle.pl_journal.specs.declared.cause.Cause.TheVariants.{NoMember, NoNextHop}
-use Rattle.pl_logic.specs.declared.messages.TreePart.{TreePart}
+use Rattle.pl_node.specs.declared.messages.TreePart.{TreePart}
 use Rattle.pl_layouts.specs.declared.place.Place.{Place}
 use Rattle.pl_switch_rule.specs.declared.came.Way.{Way}
 use Rattle.pl_switch_rule.specs.declared.came.Way.TheVariants.{Down, Nowhere, ToHosts, Up}
 use Rattle.pl_switch_rule.specs.Granting.{is_local}
 use Rattle.pl_layouts.specs.Memberships.{flood, group_of}
-use Rattle.pl_logic.specs.PortRecords.{id_at, is_usable, port_of, ports_where}
+use Rattle.pl_node.specs.PortRecords.{id_at, is_usable, port_of, ports_where}
 use Rattle.pl_layouts.specs.Placement.{is_known}
 use Rattle.pl_steps.specs.Steps.{SwitchStep, does}
-use Rattle.pl_logic.specs.SwitchViews.{SwitchView}
-use Rattle.pl_logic.specs.SwitchFacts.{part_of}
+use Rattle.pl_node.specs.SwitchViews.{SwitchView}
+use Rattle.pl_node.specs.SwitchFacts.{part_of}
 
 abbrev pub is_up : Option TreePart → Option SwitchId → Bool
 is_up None id = false

@@ -9,12 +9,12 @@ use Rattle.pl_frame.specs.Ethernet.{destination_of, source_of}
 use Rattle.pl_arp.specs.declared.packet.Arp.{Arp}
 use Rattle.pl_pmac.specs.declared.pmac.Pmac.{Pmac}
 use Rattle.pl_pmac.specs.Pmac.{mac_of, pmac_of}
-use Rattle.pl_logic.specs.declared.acts.Act.{Act}
-use Rattle.pl_logic.specs.declared.acts.Act.TheVariants.{Drop, Take, Tell}
+use Rattle.pl_node.specs.declared.acts.Act.{Act}
+use Rattle.pl_node.specs.declared.acts.Act.TheVariants.{Drop, Take, Tell}
 use Rattle.pl_switch_rule.specs.declared.came.Came.TheVariants.{FromHost}
 use Rattle.pl_journal.specs.declared.cause.Cause.TheVariants.{BadArp, NotPlaced, Spent}
 use Rattle.pl_layouts.specs.declared.membership.Change.{Change}
-use Rattle.pl_logic.specs.declared.messages.ToManager.TheVariants.{Members, Query}
+use Rattle.pl_node.specs.declared.messages.ToManager.TheVariants.{Members, Query}
 use Rattle.pl_switch_rule.specs.Delivering.{arrives_home, destination}
 use Rattle.pl_switch_rule.specs.Forwarding.{Choice, forwards}
 use Rattle.pl_layouts.specs.Frames.{arriving, mac_number, packet_in}
@@ -25,8 +25,8 @@ use Rattle.pl_layouts.specs.Memberships.{changes_in, group_number, is_group, mem
 use Rattle.pl_journal.specs.Places.{are_alike}
 use Rattle.pl_layouts.specs.Placement.{is_known, is_placed}
 use Rattle.pl_steps.specs.Steps.{SwitchStep, does, ◌▹◌}
-use Rattle.pl_logic.specs.declared.switch_records.Member.{Member}
-use Rattle.pl_logic.specs.SwitchViews.{SwitchView}
+use Rattle.pl_node.specs.declared.switch_records.Member.{Member}
+use Rattle.pl_node.specs.SwitchViews.{SwitchView}
 use Rattle.pl_layouts.specs.Equality.{same_mac}
 use Rattle.pl_journal.specs.Causes.{is_bad_arp}
 

@@ -2,8 +2,8 @@
 use Rattle.std.specs.Prelude.{◌≡◌, ℕ, ◌%◌, ◌||◌, not, if◌then◌else◌, List, [], ◌∷◌, length, Some, None, is_none, Result, Ok, Err, slice_get}
 use Rattle.std.specs.List.{IsAmong}
 use Rattle.pl_frame.specs.Ethernet.{destination_of, payload_of}
-use Rattle.pl_logic.specs.declared.acts.Act.{Act}
-use Rattle.pl_logic.specs.declared.acts.Act.TheVariants.{Drop}
+use Rattle.pl_node.specs.declared.acts.Act.{Act}
+use Rattle.pl_node.specs.declared.acts.Act.TheVariants.{Drop}
 use Rattle.pl_journal.specs.declared.cause.Cause.TheVariants.{NotPlaced}
 use Rattle.pl_layouts.specs.declared.control.Control.{Control}
 use Rattle.pl_layouts.specs.declared.control.Control.TheVariants as control
@@ -19,13 +19,13 @@ use Rattle.pl_switch_rule.specs.Intake.{comes_from_host}
 use Rattle.pl_switch_rule.specs.Levels.{changes_to, hears_message}
 use Rattle.pl_layouts.specs.Memberships.{is_group}
 use Rattle.pl_switch_rule.specs.Messages.{hears_manager}
-use Rattle.pl_logic.specs.PortRecords.{is_open_to_hosts, place_at, port_of}
+use Rattle.pl_node.specs.PortRecords.{is_open_to_hosts, place_at, port_of}
 use Rattle.pl_layouts.specs.Placement.{is_placed}
 use Rattle.pl_switch_rule.specs.Positions.{after_vote, hears_proposal}
 use Rattle.pl_steps.specs.Steps.{SwitchStep, does, rests}
-use Rattle.pl_logic.specs.SwitchViews.{SwitchView}
-use Rattle.pl_logic.specs.SwitchInputs.{SwitchInput, SwitchRule}
-use Rattle.pl_logic.specs.SwitchInputs.SwitchInput.{Comes, Tick, Says}
+use Rattle.pl_node.specs.SwitchViews.{SwitchView}
+use Rattle.pl_node.specs.SwitchInputs.{SwitchInput, SwitchRule}
+use Rattle.pl_node.specs.SwitchInputs.SwitchInput.{Comes, Tick, Says}
 
 abbrev pub hears_control : SwitchView → ℕ → Result Control ControlError → SwitchStep
 hears_control v port (Err e) = rests v

@@ -2,14 +2,14 @@
 use Rattle.std.specs.Prelude.{ℕ, ◌&&◌, not, Bool, if◌then◌else◌, List, [], ◌∷◌, ◌++◌, Option, Some, None}
 use Rattle.std.specs.List.{flat_map}
 use Rattle.pl_frame.specs.declared.address.SwitchId.{SwitchId}
-use Rattle.pl_logic.specs.declared.acts.Act.{Act}
-use Rattle.pl_logic.specs.declared.acts.Act.TheVariants.{Tell}
-use Rattle.pl_logic.specs.declared.messages.ToManager.TheVariants.{Place as TellPlace, Link, PodWanted}
+use Rattle.pl_node.specs.declared.acts.Act.{Act}
+use Rattle.pl_node.specs.declared.acts.Act.TheVariants.{Tell}
+use Rattle.pl_node.specs.declared.messages.ToManager.TheVariants.{Place as TellPlace, Link, PodWanted}
 use Rattle.pl_layouts.specs.declared.place.Place.{Place}
 use Rattle.pl_journal.specs.Places.{are_alike}
-use Rattle.pl_logic.specs.PortRecords.{id_at, is_usable, ports_of_switch}
+use Rattle.pl_node.specs.PortRecords.{id_at, is_usable, ports_of_switch}
 use Rattle.pl_layouts.specs.Placement.{is_known, same_place}
-use Rattle.pl_logic.specs.SwitchViews.{SwitchView}
+use Rattle.pl_node.specs.SwitchViews.{SwitchView}
 
 abbrev pub place_told : Place → Place → List Act
 place_told old new = if same_place old new then [] else Tell (TellPlace new) ∷ []

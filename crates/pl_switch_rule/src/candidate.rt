@@ -2,7 +2,7 @@ ghost use Rattle.std.specs.Prelude.{◌≡◌, ◌<◌};
 ghost use Rattle.pl_switch_rule.specs.Forwarding.{is_candidate, leads_from_aggregation, leads_from_core, leads_from_edge, leads_to_pod, leads_to_position, leads_up};
 
 use crate::Came;
-use pl_logic::SwitchFacts;
+use pl_node::SwitchFacts;
 use pl_pmac::Pmac;
 
 /// Whether a frame for this pod and position may leave by a port of a switch.

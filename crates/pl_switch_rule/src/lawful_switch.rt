@@ -1,7 +1,7 @@
-ghost use Rattle.pl_logic.specs.Accounting.{AreOneRule, IsWithin};
+ghost use Rattle.pl_node.specs.Accounting.{AreOneRule, AllowsNoMore};
 ghost use Rattle.pl_switch_rule.specs.SwitchRule.{Exact, Loose};
 
-use pl_logic::SwitchLogic;
+use pl_node::SwitchLogic;
 
 /// A switch that does all by the rule, and takes of the candidate ports the one that the flow names.
 pub trait LawfulSwitch: SwitchLogic {
@@ -10,5 +10,5 @@ pub trait LawfulSwitch: SwitchLogic {
 
 /// Such a switch does no more than one that chooses among the candidate ports as it likes.
 pub fn a_lawful_switch_is_loose<S: LawfulSwitch>()
-    ensures { IsWithin S.rule Loose }
+    ensures { AllowsNoMore S.rule Loose }
 {}

@@ -1,7 +1,7 @@
 ghost use Rattle.std.specs.Prelude.{ℕ};
 ghost use Rattle.pl_frame.specs.declared.address.SwitchId.{SwitchId};
-ghost use Rattle.pl_logic.specs.Accounting.{AccountsForFrames, IsShaped, IsWithin};
-ghost use Rattle.pl_logic.specs.SwitchFacts.{CanBoot, switch_at_boot};
+ghost use Rattle.pl_node.specs.Accounting.{AccountsForFrames, IsShaped, AllowsNoMore};
+ghost use Rattle.pl_node.specs.SwitchFacts.{CanBoot, switch_at_boot};
 ghost use Rattle.pl_switch_rule.specs.SwitchRule.{Exact, Loose};
 
 /// A switch that knows its id and its ports alone has the shape that its steps ask for and keep.
@@ -19,5 +19,5 @@ pub fn each_step_accounts_for_its_frames()
 
 /// A switch that chooses by the flow does no more than one that may choose any of the candidates.
 pub fn exact_steps_are_loose()
-    ensures { IsWithin Exact Loose }
+    ensures { AllowsNoMore Exact Loose }
 {}

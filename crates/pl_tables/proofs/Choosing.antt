@@ -8,10 +8,10 @@ use Rattle.pl_layouts.specs.declared.place.Place.{Place}
 use Rattle.pl_layouts.specs.Placement.{is_known}
 use Rattle.pl_lists.specs.declared.port_set.PortSet.{PortSet}
 use Rattle.pl_lists.specs.Ports.{has_port, ports_of}
-use Rattle.pl_logic.specs.AvoidLists.{is_level_above}
-use Rattle.pl_logic.specs.PortRecords.{id_at, is_usable, place_at, ports_of_switch, ports_where}
-use Rattle.pl_logic.specs.SwitchFacts.{is_avoided}
-use Rattle.pl_logic.specs.SwitchViews.{SwitchView}
+use Rattle.pl_node.specs.AvoidLists.{is_level_above}
+use Rattle.pl_node.specs.PortRecords.{id_at, is_usable, place_at, ports_of_switch, ports_where}
+use Rattle.pl_node.specs.SwitchFacts.{is_avoided}
+use Rattle.pl_node.specs.SwitchViews.{SwitchView}
 use Rattle.pl_switch_rule.specs.declared.came.Came.{Came}
 use Rattle.pl_switch_rule.specs.declared.came.Came.TheVariants.{FromAbove, FromBelow, FromHost}
 use Rattle.pl_switch_rule.specs.Forwarding.{candidates, is_candidate, leads_from_aggregation, leads_from_core, leads_from_edge, leads_to_pod, leads_to_position, leads_up}

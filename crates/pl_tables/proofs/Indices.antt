@@ -10,10 +10,10 @@ use Rattle.std.proofs.lemmas.Bool.Decides.{nat_tests}
 use Rattle.std.proofs.lemmas.Grind.{common_steps}
 use Rattle.pl_lists.specs.Ports.{ports_of}
 use Rattle.pl_tables.specs.declared.port_rows.PortRow.{PortRow}
-use Rattle.pl_tables.specs.Rows.{no_row, ports_at, row_at, AreRows, IsAt, IsGapFor, PutsAt}
+use Rattle.pl_tables.specs.Rows.{no_row, ports_at, row_at, ArePortRows, RowIsAt, IsGapFor, PutsAt}
 use Rattle.pl_tables.proofs.Rows.{NoKeyBefore, ports_absent, ports_inserted, ports_present, ports_removed, ports_set}
 
-module _ (l : List PortRow) (are : AreRows l) (k : ℕ) where
+module _ (l : List PortRow) (are : ArePortRows l) (k : ℕ) where
   -- the comparisons with k rise along the rows, as a binary search asks
   comparisons_rise : IsNonDecreasingBy (λ (row : PortRow). ordering_index (nat_cmp row.key k)) l
   comparisons_rise = IsNonDecreasingBy-from_default (λ (row : PortRow). ordering_index (nat_cmp row.key k)) l no_row (λ i j le within.
@@ -21,7 +21,7 @@ module _ (l : List PortRow) (are : AreRows l) (k : ℕ) where
       grind (arith, nat_tests))
 
   -- a binary search by key ends at the key, or at the gap for it
-  pub searched : (r : Result ℕ ℕ) → IsSearchInRange r (length l) → IsBinarySearchResult (λ (row : PortRow). nat_cmp row.key k) l r → record { found : IfOk r (IsAt l k); absent : IfErr r (IsGapFor l k) }
+  pub searched : (r : Result ℕ ℕ) → IsSearchInRange r (length l) → IsBinarySearchResult (λ (row : PortRow). nat_cmp row.key k) l r → record { found : IfOk r (RowIsAt l k); absent : IfErr r (IsGapFor l k) }
   searched (Ok at) within equal = record { found = record { within = within; has_key = ranked _ k _ (sym (equal no_row)) }; absent = tt }
   searched (Err at) within parted = record {
     found = tt;
@@ -32,7 +32,7 @@ module _ (l : List PortRow) (are : AreRows l) (k : ℕ) where
     };
   }
 
-module _ (l : List PortRow) (are : AreRows l) (k at : ℕ) (is_at : IsAt l k at) where
+module _ (l : List PortRow) (are : ArePortRows l) (k at : ℕ) (is_at : RowIsAt l k at) where
   no_key_before_at : NoKeyBefore l k at
   no_key_before_at j lt same = omega (arith, are.rising j at lt is_at.within, is_at.has_key)
 
@@ -47,7 +47,7 @@ module _ (l : List PortRow) (are : AreRows l) (k at : ℕ) (is_at : IsAt l k at)
   pub puts_over : (r : PortRow) → r.key ≡ k → PutsAt l (set l at r) k (ports_of r.ports)
   puts_over r is = ports_set l r k at is is_at no_key_before_at
 
-  pub rows_over : (r : PortRow) → r.key ≡ k → ports_of r.ports ≢ [] → AreRows (set l at r)
+  pub rows_over : (r : PortRow) → r.key ≡ k → ports_of r.ports ≢ [] → ArePortRows (set l at r)
   rows_over r is has = record {
     rising = λ i j lt within. grind (arith, common_steps, are.rising i j, are.rising i at, are.rising at j, is_at.within, is_at.has_key, is);
     filled = λ i within. grind (arith, common_steps, are.filled i, has);
@@ -63,7 +63,7 @@ module _ (l : List PortRow) (are : AreRows l) (k at : ℕ) (is_at : IsAt l k at)
   row_above : (i : ℕ) → at ≤ i → row_at (remove l at) i ≡ row_at l (i + 1)
   row_above i above = get_or-remove_above l at no_row i above is_at.within
 
-  pub rows_without : AreRows (remove l at)
+  pub rows_without : ArePortRows (remove l at)
   rows_without = record {
     rising = λ i j lt within.
         let shorter = length-remove l at is_at.within in
@@ -92,7 +92,7 @@ module _ (l : List PortRow) (k at : ℕ) (gap : IsGapFor l k at) where
   pub puts_in : (r : PortRow) → r.key ≡ k → PutsAt l (insert l at r) k (ports_of r.ports)
   puts_in r is = ports_inserted l r k at is (λ j lt same. omega (arith, gap.smaller_before j lt))
 
-  pub rows_with : (r : PortRow) → r.key ≡ k → ports_of r.ports ≢ [] → AreRows l → AreRows (insert l at r)
+  pub rows_with : (r : PortRow) → r.key ≡ k → ports_of r.ports ≢ [] → ArePortRows l → ArePortRows (insert l at r)
   rows_with r is has are =
       let new = insert l at r in
       let longer = length-insert l at r gap.within in

@@ -5,12 +5,12 @@ use Rattle.std.proofs.lemmas.List.{get_or-set_same, get_or-set_other, length-set
 use Rattle.pl_frame.specs.declared.address.SwitchId.{SwitchId}
 use Rattle.pl_layouts.specs.Placement.{is_known}
 use Rattle.pl_lists.specs.Ports.{ports_of}
-use Rattle.pl_logic.specs.PortRecords.{port_of}
-use Rattle.pl_logic.specs.SwitchViews.{SwitchView}
+use Rattle.pl_node.specs.PortRecords.{port_of}
+use Rattle.pl_node.specs.SwitchViews.{SwitchView}
 use Rattle.pl_tables.specs.declared.lead.Lead.{Lead}
 use Rattle.pl_tables.specs.declared.port_rows.PortRow.{PortRow}
 use Rattle.pl_tables.specs.declared.prefix_tables.PrefixTables.{PrefixTables}
-use Rattle.pl_tables.specs.Leads.{avoids_by, has, lead_at, lead_of, no_lead, AreOfLeads, ChangesRows, Follows, Moves, MovesLead, SetsWhere}
+use Rattle.pl_tables.specs.Leads.{avoids_by, has, lead_at, lead_of, no_lead, AreOfLeads, ChangesRows, TablesFollow, Moves, MovesLead, SetsWhere}
 use Rattle.pl_tables.specs.Rows.{ports_at}
 
 pub rows_changed : (old mid new : List PortRow) (port : ℕ) (was now : ℕ → Bool) → SetsWhere old mid port false was → SetsWhere mid new port true now → ChangesRows old new port was now
@@ -104,7 +104,7 @@ followed_more v old new before after n below few are is tables = record {
     kept : (port : ℕ) → n ≢ port → lead_at new port ≡ lead_at old port
     kept port other = ap (λ l. lead_at l port) is ∙ get_or-set_other old n port _ no_lead (λ e. other (sym e))
 
-pub all_followed : (v : SwitchView) (leads : List Lead) (tables : PrefixTables) (n : ℕ) → n ≡ v.k → v.k ≤ 24 → AreFollowed v leads tables n → Follows v leads tables
+pub all_followed : (v : SwitchView) (leads : List Lead) (tables : PrefixTables) (n : ℕ) → n ≡ v.k → v.k ≤ 24 → AreFollowed v leads tables n → TablesFollow v leads tables
 all_followed v leads tables n all few are = record {
   few = few;
   many = are.many;

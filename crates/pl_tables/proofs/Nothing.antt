@@ -5,13 +5,13 @@ use Rattle.pl_frame.specs.declared.address.SwitchId.{SwitchId}
 use Rattle.pl_layouts.specs.declared.place.Place.{Place}
 use Rattle.pl_layouts.specs.Placement.{is_known, nowhere}
 use Rattle.pl_lists.specs.Ports.{ports_of}
-use Rattle.pl_logic.specs.declared.neighbour.PortRecord.{PortRecord}
-use Rattle.pl_logic.specs.PortRecords.{port_of}
-use Rattle.pl_logic.specs.SwitchViews.{SwitchView}
+use Rattle.pl_node.specs.declared.neighbour.PortRecord.{PortRecord}
+use Rattle.pl_node.specs.PortRecords.{port_of}
+use Rattle.pl_node.specs.SwitchViews.{SwitchView}
 use Rattle.pl_tables.specs.declared.lead.Lead.{Lead}
 use Rattle.pl_tables.specs.declared.port_rows.PortRow.{PortRow}
 use Rattle.pl_tables.specs.declared.prefix_tables.PrefixTables.{PrefixTables}
-use Rattle.pl_tables.specs.Leads.{avoids_by, has, lead_at, lead_of, no_lead, Follows}
+use Rattle.pl_tables.specs.Leads.{avoids_by, has, lead_at, lead_of, no_lead, TablesFollow}
 use Rattle.pl_tables.specs.Rows.{ports_at}
 use Rattle.pl_tables.proofs.Showing.{no_lead_yet}
 
@@ -21,7 +21,7 @@ none_at (suc n) zero = refl
 none_at (suc n) (suc port) = none_at n port
 
 pub nothing_follows : (v : SwitchView) (leads : List Lead) (tables : PrefixTables) → leads ≡ replicate 24 no_lead → v.place ≡ nowhere → v.k ≤ 24 →
-    ports_of tables.up ≡ [] → tables.avoided ≡ [] → tables.down ≡ [] → Follows v leads tables
+    ports_of tables.up ≡ [] → tables.avoided ≡ [] → tables.down ≡ [] → TablesFollow v leads tables
 nothing_follows v leads tables is at few up avoided down =
     let none : (port : ℕ) → lead_at leads port ≡ no_lead = λ port. ap (λ ls. lead_at ls port) is ∙ none_at 24 port in
     record {
@@ -40,18 +40,18 @@ nothing_follows v leads tables is at few up avoided down =
 
 -- a switch that knows the same of its ports and its level
 pub same_follows : (v w : SwitchView) (leads : List Lead) (tables : PrefixTables) → w.id ≡ v.id → w.k ≡ v.k → w.place ≡ v.place → w.ports ≡ v.ports → w.avoid ≡ v.avoid →
-    Follows v leads tables → Follows w leads tables
+    TablesFollow v leads tables → TablesFollow w leads tables
 same_follows v w leads tables id k place ports avoid follows =
-    subst (λ (a : List (SwitchId × ℕ × ℕ)). Follows (record { id = w.id; k = w.k; place = w.place; ports = w.ports; attempt = w.attempt; proposed = w.proposed; granted = w.granted; holds = w.holds; grants = w.grants; remembered = w.remembered; members = w.members; avoid = a; parts = w.parts }) leads tables) (sym avoid)
-    (subst (λ (rs : List PortRecord). Follows (record w { id = w.id; k = w.k; place = w.place; ports = rs; avoid = v.avoid }) leads tables) (sym ports)
-    (subst (λ (p : Place). Follows (record w { id = w.id; k = w.k; place = p; ports = v.ports; avoid = v.avoid }) leads tables) (sym place)
-    (subst (λ n. Follows (record w { id = w.id; k = n; place = v.place; ports = v.ports; avoid = v.avoid }) leads tables) (sym k)
-    (subst (λ (i : SwitchId). Follows (record w { id = i; k = v.k; place = v.place; ports = v.ports; avoid = v.avoid }) leads tables) (sym id)
+    subst (λ (a : List (SwitchId × ℕ × ℕ)). TablesFollow (record { id = w.id; k = w.k; place = w.place; ports = w.ports; attempt = w.attempt; proposed = w.proposed; granted = w.granted; holds = w.holds; grants = w.grants; remembered = w.remembered; members = w.members; avoid = a; parts = w.parts }) leads tables) (sym avoid)
+    (subst (λ (rs : List PortRecord). TablesFollow (record w { id = w.id; k = w.k; place = w.place; ports = rs; avoid = v.avoid }) leads tables) (sym ports)
+    (subst (λ (p : Place). TablesFollow (record w { id = w.id; k = w.k; place = p; ports = v.ports; avoid = v.avoid }) leads tables) (sym place)
+    (subst (λ n. TablesFollow (record w { id = w.id; k = n; place = v.place; ports = v.ports; avoid = v.avoid }) leads tables) (sym k)
+    (subst (λ (i : SwitchId). TablesFollow (record w { id = i; k = v.k; place = v.place; ports = v.ports; avoid = v.avoid }) leads tables) (sym id)
     (record { few = follows.few; many = follows.many; shown = record { there = follows.shown.there; past = follows.shown.past }; tabled = follows.tabled })))))
 
 -- another avoid list, and the rows that are of it
-pub list_follows : (v : SwitchView) (avoid : List (SwitchId × ℕ × ℕ)) (leads : List Lead) (old new : PrefixTables) → Follows v leads old → new.up ≡ old.up → new.down ≡ old.down →
-    ((key port : ℕ) → port < 32 → has (ports_at new.avoided key) port ≡ avoids_by avoid (lead_at leads port).up key) → Follows (record v { avoid = avoid }) leads new
+pub list_follows : (v : SwitchView) (avoid : List (SwitchId × ℕ × ℕ)) (leads : List Lead) (old new : PrefixTables) → TablesFollow v leads old → new.up ≡ old.up → new.down ≡ old.down →
+    ((key port : ℕ) → port < 32 → has (ports_at new.avoided key) port ≡ avoids_by avoid (lead_at leads port).up key) → TablesFollow (record v { avoid = avoid }) leads new
 list_follows v avoid leads old new follows up down rows = record {
   few = follows.few;
   many = follows.many;

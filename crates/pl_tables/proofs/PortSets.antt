@@ -6,11 +6,11 @@ use Rattle.std.proofs.lemmas.Bool.{cases_order, cases_lt, eq-eqb, ne_eqb, lt-ltb
 use Rattle.std.proofs.lemmas.List.Elements.{filter-append}
 use Rattle.std.proofs.lemmas.List.{append-nil}
 use Rattle.std.proofs.lemmas.Nat.Bits.{bit_at_and, bit_at_not, bit_at-lt}
-use Rattle.pl_lemmas.proofs.Lists.{range_parts}
-use Rattle.pl_logic.specs.PortRecords.{ports_of_switch}
+use Rattle.pl_lemmas.proofs.Exports.{range_parts}
+use Rattle.pl_node.specs.PortRecords.{ports_of_switch}
 use Rattle.pl_lists.specs.declared.port_set.PortSet.{PortSet}
 use Rattle.pl_lists.specs.Ports.{has_port, ports_of}
-use Rattle.pl_lists.proofs.PortBits.{has_port_is}
+use Rattle.pl_lists.proofs.Exports.{has_port_is}
 
 module _ (has : ℕ → Bool) where
   abbrev kept : ℕ → ℕ → List ℕ

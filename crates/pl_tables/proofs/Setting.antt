@@ -5,7 +5,7 @@ use Rattle.std.specs.List.{filter, list_any}
 use Rattle.std.specs.Ordering.{nat_cmp}
 use Rattle.std.proofs.lemmas.Bool.{cases_order, eq-eqb, ne_eqb, lt-ltb, le-ltb}
 use Rattle.std.proofs.lemmas.List.Folds.{list_any_more}
-use Rattle.pl_lemmas.proofs.Bools.{or_swap}
+use Rattle.pl_lemmas.proofs.Exports.{or_swap}
 use Rattle.pl_frame.specs.declared.address.SwitchId.{SwitchId}
 use Rattle.pl_tables.specs.declared.port_rows.PortRow.{PortRow}
 use Rattle.pl_tables.specs.Leads.{avoids_by, has, is_entry_of, SetsWhere}

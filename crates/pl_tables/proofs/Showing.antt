@@ -7,17 +7,17 @@ use Rattle.pl_layouts.specs.declared.place.Place.{Place}
 use Rattle.pl_layouts.specs.Placement.{is_known}
 use Rattle.pl_lists.specs.declared.port_set.PortSet.{PortSet}
 use Rattle.pl_lists.specs.Ports.{ports_of}
-use Rattle.pl_lists.proofs.PortBits.{has_port_is}
-use Rattle.pl_logic.specs.AvoidLists.{is_level_above}
-use Rattle.pl_logic.specs.declared.neighbour.Neighbour.{Neighbour}
-use Rattle.pl_logic.specs.declared.neighbour.PortRecord.{PortRecord}
-use Rattle.pl_logic.specs.PortRecords.{heard_id, heard_place, is_usable_record, port_of, ports_of_switch}
-use Rattle.pl_logic.specs.SwitchFacts.{is_avoided}
-use Rattle.pl_logic.specs.SwitchViews.{SwitchView}
+use Rattle.pl_lists.proofs.Exports.{has_port_is}
+use Rattle.pl_node.specs.AvoidLists.{is_level_above}
+use Rattle.pl_node.specs.declared.neighbour.Neighbour.{Neighbour}
+use Rattle.pl_node.specs.declared.neighbour.PortRecord.{PortRecord}
+use Rattle.pl_node.specs.PortRecords.{heard_id, heard_place, is_usable_record, port_of, ports_of_switch}
+use Rattle.pl_node.specs.SwitchFacts.{is_avoided}
+use Rattle.pl_node.specs.SwitchViews.{SwitchView}
 use Rattle.pl_tables.specs.declared.lead.Lead.{Lead}
 use Rattle.pl_tables.specs.declared.port_rows.PortRow.{PortRow}
 use Rattle.pl_tables.specs.declared.prefix_tables.PrefixTables.{PrefixTables}
-use Rattle.pl_tables.specs.Leads.{avoids_by, has, key_below, lead_at, lead_of, lead_to, no_lead, AreLeads, Follows}
+use Rattle.pl_tables.specs.Leads.{avoids_by, has, key_below, lead_at, lead_of, lead_to, no_lead, AreLeads, TablesFollow}
 use Rattle.pl_tables.specs.Rows.{ports_at}
 use Rattle.pl_tables.specs.Tables.{is_down, is_up, is_up_avoided, AreTables}
 use Rattle.pl_tables.proofs.PortSets.{all_ports}
@@ -129,7 +129,7 @@ module _ (v : SwitchView) (leads : List Lead) (shown : AreLeads v leads) where
       let as_set = row_set rows key in
       as_set.1 ∙ set_shown as_set.0 f test few none is (λ port low. ap (λ l. has l port) (sym as_set.1) ∙ has_is port low)
 
-pub tables_shown : (v : SwitchView) (leads : List Lead) (tables : PrefixTables) → Follows v leads tables → AreTables v tables
+pub tables_shown : (v : SwitchView) (leads : List Lead) (tables : PrefixTables) → TablesFollow v leads tables → AreTables v tables
 tables_shown v leads tables follows = record {
   up = set_shown v leads follows.shown tables.up (λ (l : Lead). is_some l.up) (is_up v) follows.few refl (λ port. up_of v.place.level v.id (port_of v port)) follows.tabled.up;
   avoided = λ key. row_shown v leads follows.shown tables.avoided key (λ (l : Lead). avoids_by v.avoid l.up key) (is_up_avoided v key) follows.few refl

@@ -5,11 +5,11 @@ use Rattle.pl_frame.specs.declared.address.SwitchId.{SwitchId}
 use Rattle.pl_lists.specs.Ports.{ports_of}
 use Rattle.pl_layouts.specs.declared.place.Place.{Place}
 use Rattle.pl_layouts.specs.Placement.{is_known}
-use Rattle.pl_logic.specs.AvoidLists.{is_level_above}
-use Rattle.pl_logic.specs.declared.neighbour.Neighbour.{Neighbour}
-use Rattle.pl_logic.specs.declared.neighbour.PortRecord.{PortRecord}
-use Rattle.pl_logic.specs.PortRecords.{is_usable_record, port_of}
-use Rattle.pl_logic.specs.SwitchViews.{SwitchView}
+use Rattle.pl_node.specs.AvoidLists.{is_level_above}
+use Rattle.pl_node.specs.declared.neighbour.Neighbour.{Neighbour}
+use Rattle.pl_node.specs.declared.neighbour.PortRecord.{PortRecord}
+use Rattle.pl_node.specs.PortRecords.{is_usable_record, port_of}
+use Rattle.pl_node.specs.SwitchViews.{SwitchView}
 use Rattle.pl_tables.specs.declared.lead.Lead.{Lead}
 use Rattle.pl_tables.specs.declared.port_rows.PortRow.{PortRow}
 use Rattle.pl_tables.specs.declared.prefix_tables.PrefixTables.{PrefixTables}
@@ -97,7 +97,7 @@ Moves old new avoid port was now =
     (leads : List Lead) → port < length leads → lead_at leads port ≡ was → AreOfLeads leads avoid old → AreOfLeads (slice_set leads port now) avoid new
 
 -- what a switch keeps besides its records follows from these
-pub record Follows (v : SwitchView) (leads : List Lead) (tables : PrefixTables) : Type 0 where
+pub record TablesFollow (v : SwitchView) (leads : List Lead) (tables : PrefixTables) : Type 0 where
   pub few : v.k ≤ 24
   pub many : length leads ≡ 24
   pub shown : AreLeads v leads

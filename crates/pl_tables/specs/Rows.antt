@@ -15,12 +15,12 @@ abbrev pub row_at : List PortRow → ℕ → PortRow
 row_at rows i = slice_index_or rows i no_row
 
 -- The keys rise, and each has a port.
-pub record AreRows (rows : List PortRow) : Type 0 where
+pub record ArePortRows (rows : List PortRow) : Type 0 where
   pub rising : (i j : ℕ) → i < j → j < length rows → (row_at rows i).key < (row_at rows j).key
   pub filled : (i : ℕ) → i < length rows → ports_of (row_at rows i).ports ≢ []
 
 -- the row at index i has the key
-pub record IsAt (rows : List PortRow) (key i : ℕ) : Type 0 where
+pub record RowIsAt (rows : List PortRow) (key i : ℕ) : Type 0 where
   pub within : i < length rows
   pub has_key : (row_at rows i).key ≡ key
 

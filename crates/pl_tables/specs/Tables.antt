@@ -2,10 +2,10 @@
 use Rattle.std.specs.Prelude.{◌≡◌, ℕ, ◌/◌, ◌%◌, ◌&&◌, Bool, false, if◌then◌else◌}
 use Rattle.pl_lists.specs.Ports.{ports_of}
 use Rattle.pl_layouts.specs.Placement.{is_known}
-use Rattle.pl_logic.specs.AvoidLists.{is_level_above}
-use Rattle.pl_logic.specs.PortRecords.{id_at, is_usable, is_usable_to, place_at, ports_where}
-use Rattle.pl_logic.specs.SwitchFacts.{is_avoided}
-use Rattle.pl_logic.specs.SwitchViews.{SwitchView}
+use Rattle.pl_node.specs.AvoidLists.{is_level_above}
+use Rattle.pl_node.specs.PortRecords.{id_at, is_usable, is_usable_to, place_at, ports_where}
+use Rattle.pl_node.specs.SwitchFacts.{is_avoided}
+use Rattle.pl_node.specs.SwitchViews.{SwitchView}
 use Rattle.pl_tables.specs.declared.prefix_tables.PrefixTables.{PrefixTables}
 use Rattle.pl_tables.specs.Rows.{ports_at}
 

@@ -6,7 +6,7 @@ ghost use Rattle.pl_tables.specs.Leads.{avoids_by, has, is_entry_of, SetsWhere};
 use crate::PortRows;
 use pl_frame::SwitchId;
 use pl_lists::{Memory, PortSet};
-use pl_logic::AvoidList;
+use pl_node::AvoidList;
 
 /// Sets or clears a port under the keys of all entries of an avoid list for a neighbour, if there is one.
 pub(crate) fn set_avoided(

@@ -1,14 +1,14 @@
 ghost use Rattle.std.specs.Prelude.{◌≡◌, ℕ, ◌<◌, ◌≤◌, true, OnOk, length, slice_set};
-ghost use Rattle.pl_logic.specs.PortRecords.{port_of};
+ghost use Rattle.pl_node.specs.PortRecords.{port_of};
 ghost use Rattle.pl_layouts.specs.Placement.{is_known};
-ghost use Rattle.pl_tables.specs.Leads.{avoids_by, lead_at, lead_of, no_lead, AreOfLeads, ChangesRows, Follows, Moves, MovesLead};
+ghost use Rattle.pl_tables.specs.Leads.{avoids_by, lead_at, lead_of, no_lead, AreOfLeads, ChangesRows, TablesFollow, Moves, MovesLead};
 
 use crate::filling::{set_avoided, set_down, with_port};
 use crate::lead::{Lead, lead_of};
 use crate::{PortRows, PrefixTables};
 use pl_frame::SwitchId;
 use pl_lists::Memory;
-use pl_logic::{AvoidList, SwitchFacts};
+use pl_node::{AvoidList, SwitchFacts};
 
 /// What is known of each port leads to its part of the tables: those of the ports that lead elsewhere than
 /// before are changed, and no others.
@@ -20,7 +20,7 @@ pub(crate) fn follow<F: SwitchFacts>(
     requires many { length leads.old ≡ 24 }
     requires tabled { AreOfLeads leads.old (F.view facts.now).avoid tables.old }
     requires past { (port : ℕ) → (F.view facts.now).k ≤ port → lead_at leads.old port ≡ no_lead }
-    ensures { OnOk result (Follows (F.view facts.now) leads.new tables.new) }
+    ensures { OnOk result (TablesFollow (F.view facts.now) leads.new tables.new) }
 {
     for port in 0..facts.k() {
         follow_port(facts, port, leads, tables)?;

@@ -1,5 +1,5 @@
 ghost use Rattle.std.specs.Prelude.{◌≡◌, ◌<◌, ◌&&◌, true, OnOk};
-ghost use Rattle.pl_logic.specs.PortRecords.{port_of};
+ghost use Rattle.pl_node.specs.PortRecords.{port_of};
 ghost use Rattle.pl_layouts.specs.Placement.{is_known};
 ghost use Rattle.pl_ports.specs.Changes.{takes_host};
 ghost use Rattle.pl_steps.specs.Taken.{IsTaken};
@@ -7,7 +7,7 @@ ghost use Rattle.pl_switch_rule.specs.Levels.{finds_host};
 
 use crate::TableSwitch;
 use crate::keeping::keep_up;
-use pl_logic::{Memory, Outbox, SwitchFacts};
+use pl_node::{Memory, Outbox, SwitchFacts};
 
 impl TableSwitch {
     // Whether this is an edge switch that knows of a host at a port.

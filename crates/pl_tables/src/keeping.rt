@@ -1,18 +1,18 @@
 ghost use Rattle.std.specs.Prelude.{◌≡◌, ℕ, ◌≤◌, IsOk, OnOk, length};
-ghost use Rattle.pl_tables.specs.Leads.{lead_at, no_lead, AreOfLeads, Follows};
+ghost use Rattle.pl_tables.specs.Leads.{lead_at, no_lead, AreOfLeads, TablesFollow};
 
 use crate::PrefixTables;
 use crate::following::follow;
 use crate::lead::{Lead, no_leads};
 use crate::lists::change_list;
-use pl_logic::{AvoidList, Memory, SwitchFacts};
-use pl_plain::PlainState;
+use pl_node::{AvoidList, Memory, SwitchFacts};
+use pl_switch_state::SwitchState;
 
 /// The tables follow what a call has changed at the ports. After want of memory, in the call or here, the
 /// switch has lost its place, and the tables are empty.
 pub(crate) fn keep_up(
     done: Result<(), Memory>,
-    state: &mut PlainState,
+    state: &mut SwitchState,
     leads: &mut [Lead; 24],
     tables: &mut PrefixTables,
 ) -> Result<(), Memory>
@@ -22,7 +22,7 @@ pub(crate) fn keep_up(
     requires past { (port : ℕ) → state.old.k ≤ port → lead_at leads.old port ≡ no_lead }
     ensures done { OnOk result (IsOk done) }
     ensures same { OnOk result (state.new ≡ state.old) }
-    ensures follows { Follows state.new leads.new tables.new }
+    ensures follows { TablesFollow state.new leads.new tables.new }
     ensures id { state.new.id ≡ state.old.id }
     ensures k { state.new.k ≡ state.old.k }
 {
@@ -38,7 +38,7 @@ pub(crate) fn keep_up(
 // The tables follow a call that had memory.
 fn follow_if(
     done: Result<(), Memory>,
-    state: &PlainState,
+    state: &SwitchState,
     leads: &mut [Lead; 24],
     tables: &mut PrefixTables,
 ) -> Result<(), Memory>
@@ -46,7 +46,7 @@ fn follow_if(
     requires tabled { AreOfLeads leads.old state.now.avoid tables.old }
     requires past { (port : ℕ) → state.now.k ≤ port → lead_at leads.old port ≡ no_lead }
     ensures done { OnOk result (IsOk done) }
-    ensures follows { OnOk result (Follows state.now leads.new tables.new) }
+    ensures follows { OnOk result (TablesFollow state.now leads.new tables.new) }
 {
     match done {
         Ok(()) => follow(state, leads, tables),
@@ -55,9 +55,9 @@ fn follow_if(
 }
 
 // A switch without a place has no tables.
-fn forget(state: &mut PlainState, leads: &mut [Lead; 24], tables: &mut PrefixTables)
+fn forget(state: &mut SwitchState, leads: &mut [Lead; 24], tables: &mut PrefixTables)
     requires { state.old.k ≤ 24 }
-    ensures follows { Follows state.new leads.new tables.new }
+    ensures follows { TablesFollow state.new leads.new tables.new }
     ensures id { state.new.id ≡ state.old.id }
     ensures k { state.new.k ≡ state.old.k }
 {
@@ -69,14 +69,14 @@ fn forget(state: &mut PlainState, leads: &mut [Lead; 24], tables: &mut PrefixTab
 /// The avoid list is replaced, and the rows of the ports up follow it. After want of memory the switch has
 /// lost its place, and the tables are empty.
 pub(crate) fn take_list(
-    state: &mut PlainState,
+    state: &mut SwitchState,
     leads: &mut [Lead; 24],
     tables: &mut PrefixTables,
     list: &AvoidList,
 ) -> Result<(), Memory>
-    requires { Follows state.old leads.old tables.old }
+    requires { TablesFollow state.old leads.old tables.old }
     ensures avoid { OnOk result (state.new ≡ record state.old { avoid = list.now }) }
-    ensures follows { Follows state.new leads.new tables.new }
+    ensures follows { TablesFollow state.new leads.new tables.new }
     ensures id { state.new.id ≡ state.old.id }
     ensures k { state.new.k ≡ state.old.k }
 {
@@ -91,14 +91,14 @@ pub(crate) fn take_list(
 
 // The rows follow, and then the list is replaced.
 fn change_both(
-    state: &mut PlainState,
+    state: &mut SwitchState,
     leads: &[Lead; 24],
     tables: &mut PrefixTables,
     list: &AvoidList,
 ) -> Result<(), Memory>
-    requires { Follows state.old leads.now tables.old }
+    requires { TablesFollow state.old leads.now tables.old }
     ensures avoid { OnOk result (state.new ≡ record state.old { avoid = list.now }) }
-    ensures follows { OnOk result (Follows state.new leads.now tables.new) }
+    ensures follows { OnOk result (TablesFollow state.new leads.now tables.new) }
     ensures id { state.new.id ≡ state.old.id }
     ensures k { state.new.k ≡ state.old.k }
 {

@@ -3,7 +3,7 @@ ghost use Rattle.pl_tables.specs.Leads.{above, key_below, lead_of, no_lead};
 
 use pl_frame::SwitchId;
 use pl_layouts::Place;
-use pl_logic::{Neighbour, PortRecord};
+use pl_node::{Neighbour, PortRecord};
 
 /// What the neighbour at a usable port is to a switch: one above, by its id, or one below, by the key of
 /// its row.

@@ -7,7 +7,7 @@ use crate::filling::set_entry;
 use crate::lead::Lead;
 use pl_frame::SwitchId;
 use pl_lists::Memory;
-use pl_logic::AvoidList;
+use pl_node::AvoidList;
 
 /// The rows of the ports up follow a new avoid list: what it no longer has is cleared, what it has anew is
 /// set, and no other row is touched.

@@ -1,7 +1,7 @@
 ghost use Rattle.std.specs.Prelude.{◌≡◌, ◌≢◌, ◌↔◌, [], IfErr, IfOk, IsTrue, OnErr, OnOk, length, slice_get};
 ghost use Rattle.std.specs.Option.{option_copied};
 ghost use Rattle.pl_lists.specs.Ports.{ports_of};
-ghost use Rattle.pl_tables.specs.Rows.{ports_at, AreRows, IsAt, IsGapFor, PutsAt};
+ghost use Rattle.pl_tables.specs.Rows.{ports_at, ArePortRows, RowIsAt, IsGapFor, PutsAt};
 
 use pl_lists::{Memory, PortSet};
 use std::alloc::Global;
@@ -23,13 +23,13 @@ pub struct PortRows {
 impl Model for PortRows {
     ghost use Rattle.std.specs.Prelude.{List};
     ghost use Rattle.pl_tables.specs.declared.port_rows.PortRow.{PortRow};
-    ghost use Rattle.pl_tables.specs.Rows.{AreRows};
+    ghost use Rattle.pl_tables.specs.Rows.{ArePortRows};
 
     ghost Value = { List PortRow };
 
     ghost view = { λ rows. rows.rows.items };
 
-    ghost invariant = { λ rows. AreRows rows.rows.items };
+    ghost invariant = { λ rows. ArePortRows rows.rows.items };
 }
 
 impl PortRows {
@@ -63,7 +63,7 @@ impl PortRows {
     /// All rows, by rising key.
     pub fn as_slice(&self) -> &[PortRow]
         ensures rows { result.now ≡ self.now }
-        ensures rising { AreRows self.now }
+        ensures rising { ArePortRows self.now }
     {
         self.rows.as_slice()
     }
@@ -116,7 +116,7 @@ impl PortRows {
 
     // Where the key's row is, or where it would go.
     fn search(&self, key: u32) -> Result<usize, usize>
-        ensures found { IfOk result (IsAt self.now key) }
+        ensures found { IfOk result (RowIsAt self.now key) }
         ensures absent { IfErr result (IsGapFor self.now key) }
     {
         self.rows.binary_search_by_key(&key, |&row| row.key)

@@ -1,5 +1,5 @@
 ghost use Rattle.std.specs.Prelude.{◌≡◌, ℕ, ◌<◌, ◌≤◌, ◌&&◌, not, []};
-ghost use Rattle.pl_logic.specs.SwitchViews.{SwitchView};
+ghost use Rattle.pl_node.specs.SwitchViews.{SwitchView};
 ghost use Rattle.pl_lists.specs.Ports.{has_port, ports_of};
 ghost use Rattle.pl_switch_rule.specs.Forwarding.{candidates};
 ghost use Rattle.pl_tables.specs.Tables.{AreTables};

@@ -3,7 +3,7 @@ use crate::keeping::{keep_up, take_list};
 use pl_data_rows::KeepsRecords;
 use pl_edge::{EdgeAct, EdgeTable};
 use pl_frame::Frame;
-use pl_logic::{AvoidList, Memory, Outbox, Trap, TreePart};
+use pl_node::{AvoidList, Memory, Outbox, Trap, TreePart};
 use pl_pmac::Pmac;
 use std::alloc::Global;
 

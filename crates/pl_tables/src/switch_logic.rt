@@ -1,4 +1,4 @@
-ghost use Rattle.pl_switch_rule.proofs.AccountedSteps.{exact_is_loose, exact_steps_are_accounted};
+ghost use Rattle.pl_switch_rule.proofs.Exports.{exact_is_loose, exact_steps_are_accounted};
 ghost use Rattle.pl_switch_rule.specs.SwitchRule.{Exact};
 
 use crate::keeping::keep_up;
@@ -6,9 +6,9 @@ use crate::lead::no_leads;
 use crate::{PrefixTables, TableSwitch};
 use pl_data_rows::{comes, hear_manager};
 use pl_frame::SwitchId;
-use pl_logic::{Memory, Outbox, SwitchLogic, ToSwitch};
-use pl_plain::PlainState;
+use pl_node::{Memory, Outbox, SwitchLogic, ToSwitch};
 use pl_switch_rule::{LawfulSwitch, LooseSwitch};
+use pl_switch_state::SwitchState;
 use std::alloc::Global;
 
 impl LawfulSwitch for TableSwitch {
@@ -26,7 +26,7 @@ impl SwitchLogic for TableSwitch {
 
     fn boot(alloc: Global, id: SwitchId, k: u8) -> Result<TableSwitch, Memory> {
         Ok(TableSwitch {
-            state: PlainState::boot(alloc, id, k)?,
+            state: SwitchState::boot(alloc, id, k)?,
             leads: no_leads(),
             tables: PrefixTables::empty(alloc),
         })

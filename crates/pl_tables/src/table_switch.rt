@@ -6,30 +6,30 @@ use pl_forward::{GroupFacts, UnicastFacts};
 use pl_frame::SwitchId;
 use pl_layouts::Place;
 use pl_lists::PortSet;
-use pl_logic::{AvoidList, PortRecord, SwitchFacts, TreePart};
-use pl_plain::PlainState;
+use pl_node::{AvoidList, PortRecord, SwitchFacts, TreePart};
 use pl_pmac::Pmac;
 use pl_switch_rule::Came;
+use pl_switch_state::SwitchState;
 use std::marker::Model;
 
 /// A switch that does all by the rule, and keeps prefix tables by which it forwards. Contracts see all
 /// that it knows; what it keeps besides follows from that.
 #[derive(Drop)]
 pub struct TableSwitch {
-    pub(crate) state: PlainState,
+    pub(crate) state: SwitchState,
     pub(crate) leads: [Lead; 24],
     pub(crate) tables: PrefixTables,
 }
 
 impl Model for TableSwitch {
-    ghost use Rattle.pl_logic.specs.SwitchViews.{SwitchView};
-    ghost use Rattle.pl_tables.specs.Leads.{Follows};
+    ghost use Rattle.pl_node.specs.SwitchViews.{SwitchView};
+    ghost use Rattle.pl_tables.specs.Leads.{TablesFollow};
 
     ghost Value = { SwitchView };
 
     ghost view = { λ switch. switch.state };
 
-    ghost invariant = { λ switch. Follows switch.state switch.leads switch.tables };
+    ghost invariant = { λ switch. TablesFollow switch.state switch.leads switch.tables };
 }
 
 impl TableSwitch {

@@ -5,8 +5,7 @@ use Rattle.pl_wiring.specs.declared.label.Label.{Label}
 use Rattle.pl_wiring.specs.declared.label.Label.TheVariants.{Edge, Aggregation, Core}
 use Rattle.pl_wiring.specs.Labels.{IsArity, IsLabel, edge_count, number_of, label_of}
 use Rattle.pl_wiring.specs.FatTree.{IsAt, above, canonical_link, link_count, lower_at, number_below, upper_at}
-use Rattle.pl_wiring.proofs.LabelOrder.{half_at_least, label_of-IsLabel, number_of-label_of, twice_half}
-use Rattle.pl_wiring.proofs.LinkOrder.{lower_at-below, upper_at-same_uplink}
+use Rattle.pl_wiring.proofs.Exports.{half_at_least, label_of-IsLabel, lower_at-below, number_of-label_of, twice_half, upper_at-same_uplink}
 
 -- a switch has a smaller number than one above it
 above-higher : (k x : ℕ) (label : Label) → IsLabel k label → number_of k label < edge_count k + edge_count k → number_of k label < number_of k (above label x)

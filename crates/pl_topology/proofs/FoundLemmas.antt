@@ -21,14 +21,14 @@ use Rattle.pl_topology.specs.declared.key.Key.TheVariants as key
 use Rattle.pl_topology.specs.Document.{integer_at}
 use Rattle.std.proofs.lemmas.List.{append-nil}
 use Rattle.std.proofs.lemmas.List.Elements.{filter-append}
-use Rattle.pl_lemmas.proofs.Options.{option_or_none}
+use Rattle.pl_lemmas.proofs.Exports.{option_or_none}
 use Rattle.pl_topology.specs.declared.entries.HostEntry.{HostEntry}
 use Rattle.pl_topology.specs.declared.entries.PortUse.{PortUse}
 use Rattle.pl_topology.specs.Checks.{port_is_free, is_at, is_port, addresses_are_new, has_mac, has_ip, canonical_entry, has_id, id_is_new, is_unnamed}
 use Rattle.pl_wiring.specs.Labels.{label_of}
 use Rattle.pl_topology.proofs.Steps.{push_next}
 use Rattle.pl_topology.specs.Entries.{is_of, id_if, is_again, is_between, switch_at, switch_entry, link_entry}
-use Rattle.pl_topology.specs.Found.{FindsIds, FindsLinks, SeesPorts, ends_of, same_pair}
+use Rattle.pl_topology.specs.Found.{FindsIds, FindsLinkEntries, SeesPorts, ends_of, same_pair}
 use Rattle.pl_topology.specs.Refusal.{or_refused, refused_if}
 use Rattle.pl_topology.proofs.RefusalLemmas.{bind_ok, or_refused_ok, refused_if_ok}
 
@@ -115,9 +115,9 @@ list_any-same p q [] same = refl
 list_any-same p q (x ∷ xs) same = rw (same x, list_any-same p q xs same) refl
 
 -- a map that finds the entries of links, and then one more
-pub FindsLinks-push : (old new : ByEnds) (entries : List LinkEntry) (entry : LinkEntry) (ends : ℕ × ℕ) → ends ≡ ends_of entry.a entry.b → FindsLinks old entries → list_any (is_between entry.a entry.b) entries ≡ false →
-    Updates same_pair old new ends (Some entry) → FindsLinks new (entries ++ entry ∷ [])
-FindsLinks-push old new entries entry ends is finds fresh updates a b = elim (cases_Bool (is_between a b entry)) [
+pub FindsLinkEntries-push : (old new : ByEnds) (entries : List LinkEntry) (entry : LinkEntry) (ends : ℕ × ℕ) → ends ≡ ends_of entry.a entry.b → FindsLinkEntries old entries → list_any (is_between entry.a entry.b) entries ≡ false →
+    Updates same_pair old new ends (Some entry) → FindsLinkEntries new (entries ++ entry ∷ [])
+FindsLinkEntries-push old new entries entry ends is finds fresh updates a b = elim (cases_Bool (is_between a b entry)) [
   | inl here ↦
       let none : list_any (is_between a b) entries ≡ false = list_any-same (is_between a b) (is_between entry.a entry.b) entries (λ f. same_link entry f a b here) ∙ fresh in
       updates.0 (ends_of a b) ∙ (rw (is, same_ends entry a b, here, find_last (is_between a b) entries entry none here) refl)

@@ -16,7 +16,7 @@ use Rattle.pl_topology.specs.Checks.{host_uses, is_at, is_port, kept_uses, link_
 use Rattle.pl_wiring.specs.FatTree.{IsAt, link_count}
 use Rattle.pl_wiring.specs.Labels.{IsArity, edge_count}
 use Rattle.pl_topology.specs.Meaning.{host_of, links_of, port_number}
-use Rattle.pl_wiring.specs.Plan.{IsHostIp, IsHostMac, StandsAt}
+use Rattle.pl_wiring.specs.Plan.{IsHostIp, IsHostMac, IsAttachedAt}
 use Rattle.pl_wiring.specs.Texts.{is_name}
 use Rattle.pl_topology.proofs.PlacedLinks.{Agree, is_at_moved, links_of-at, links_of-length, placed_seen, port_number-below, port_number-is, use_here}
 use Rattle.pl_topology.proofs.PortsApart.{IsFree}
@@ -84,8 +84,8 @@ ports_apart k given hosts agree i j d less within same =
 no_host : HostEntry
 no_host = record { name = []; mac = record { 0 = [] }; ip = record { 0 = 0 }; edge = record { 0 = 0 }; port = pos 0; capture = None }
 
-pub hosts_places_apart : (k : ℕ) (given : List LinkEntry) (hosts : List HostEntry) → AgreeHosts k given hosts → AllPairs (λ g h. StandsAt g h.edge.0 h.port → ⊥) (map host_of hosts)
-hosts_places_apart k given hosts agree = AllPairs-map (λ g h. StandsAt g h.edge.0 h.port → ⊥) host_of no_host hosts (ports_apart k given hosts agree)
+pub hosts_places_apart : (k : ℕ) (given : List LinkEntry) (hosts : List HostEntry) → AgreeHosts k given hosts → AllPairs (λ g h. IsAttachedAt g h.edge.0 h.port → ⊥) (map host_of hosts)
+hosts_places_apart k given hosts agree = AllPairs-map (λ g h. IsAttachedAt g h.edge.0 h.port → ⊥) host_of no_host hosts (ports_apart k given hosts agree)
 
 pub hosts_names_apart : (k : ℕ) (given : List LinkEntry) (hosts : List HostEntry) → AgreeHosts k given hosts → AllPairs (λ g h. g.name ≢ h.name) (map host_of hosts)
 hosts_names_apart k given hosts agree = AllPairs-map (λ g h. g.name ≢ h.name) host_of no_host hosts agree.names

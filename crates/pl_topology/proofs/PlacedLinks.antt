@@ -10,16 +10,15 @@ use Rattle.std.proofs.lemmas.List.FromFn.{get_or-map-range_with_len, length-map-
 use Rattle.pl_topology.specs.declared.entries.LinkEntry.{LinkEntry}
 use Rattle.pl_topology.specs.declared.entries.PortUse.{PortUse}
 use Rattle.pl_wiring.specs.declared.link.Link.{Link}
-use Rattle.pl_topology.specs.Checks.{are_joined, canonical_uses, is_at, is_port, is_unspoken, kept_uses, link_uses}
+use Rattle.pl_topology.specs.Checks.{are_adjacent, canonical_uses, is_at, is_port, is_unspoken, kept_uses, link_uses}
 use Rattle.pl_topology.specs.Entries.{is_between}
 use Rattle.pl_wiring.specs.FatTree.{IsAt, IsFatTree, IsInLinkOrder, canonical_link, canonical_links, link_count, lower_at, upper_at}
-use Rattle.pl_topology.specs.FileEntries.{HasPorts}
+use Rattle.pl_topology.specs.FileEntries.{NamesPorts}
 use Rattle.pl_wiring.specs.Labels.{IsArity}
 use Rattle.pl_topology.specs.Meaning.{at_ports, link_of, links_of, port_number}
 use Rattle.pl_topology.proofs.CanonicalPorts.{canonical_apart, canonical_ports, lower-upper}
 use Rattle.pl_topology.proofs.FoundLemmas.{is_some_found}
-use Rattle.pl_wiring.proofs.LabelOrder.{half_at_least}
-use Rattle.pl_wiring.proofs.LinkOrder.{IsFatTree-in_order, same_link}
+use Rattle.pl_wiring.proofs.Exports.{half_at_least, IsFatTree-in_order, same_link}
 use Rattle.pl_topology.proofs.PortsApart.{IsFree}
 
 -- the entry's link joins the same switches
@@ -102,15 +101,15 @@ canonical_at link s p (inr upper) =
 pub use_here : (taken : PortUse) (s p : ℕ) → taken.counts ≡ true → taken.switch.0 ≡ s → taken.port ≡ pos p → is_at s (pos p) taken ≡ true
 use_here taken s p counts switch port = rw (counts, switch, port, eqb_same s, int_same (pos p)) refl
 
-first_use : (k : ℕ) (entry : LinkEntry) (s p : ℕ) → are_joined k entry.a entry.b ≡ true → entry.a.0 ≡ s → entry.port_a ≡ pos p → list_any (is_at s (pos p)) (link_uses k entry) ≡ true
-first_use k entry s p joined switch port =
-    let here = use_here (record { switch = entry.a; port = entry.port_a; counts = are_joined k entry.a entry.b }) s p joined switch port in
+first_use : (k : ℕ) (entry : LinkEntry) (s p : ℕ) → are_adjacent k entry.a entry.b ≡ true → entry.a.0 ≡ s → entry.port_a ≡ pos p → list_any (is_at s (pos p)) (link_uses k entry) ≡ true
+first_use k entry s p adjacent switch port =
+    let here = use_here (record { switch = entry.a; port = entry.port_a; counts = are_adjacent k entry.a entry.b }) s p adjacent switch port in
     rw here refl
 
-second_use : (k : ℕ) (entry : LinkEntry) (s p : ℕ) → are_joined k entry.a entry.b ≡ true → entry.b.0 ≡ s → entry.port_b ≡ pos p → list_any (is_at s (pos p)) (link_uses k entry) ≡ true
-second_use k entry s p joined switch port =
-    let here = use_here (record { switch = entry.b; port = entry.port_b; counts = are_joined k entry.a entry.b }) s p joined switch port in
-    or_right (is_at s (pos p) (record { switch = entry.a; port = entry.port_a; counts = are_joined k entry.a entry.b })) _ (rw here refl)
+second_use : (k : ℕ) (entry : LinkEntry) (s p : ℕ) → are_adjacent k entry.a entry.b ≡ true → entry.b.0 ≡ s → entry.port_b ≡ pos p → list_any (is_at s (pos p)) (link_uses k entry) ≡ true
+second_use k entry s p adjacent switch port =
+    let here = use_here (record { switch = entry.b; port = entry.port_b; counts = are_adjacent k entry.a entry.b }) s p adjacent switch port in
+    or_right (is_at s (pos p) (record { switch = entry.a; port = entry.port_a; counts = are_adjacent k entry.a entry.b })) _ (rw here refl)
 
 pub port_number-is : (k : ℕ) (z : ℤ) → is_port k z ≡ true → z ≡ pos (port_number z)
 port_number-is k (pos n) is = refl
@@ -143,7 +142,7 @@ HasUse entry s p = ((entry.a.0 ≡ s) × (entry.port_a ≡ pos p)) ⊎ ((entry.b
 pub is_at_moved : (l m : Link) (s p : ℕ) → l ≡ m → IsAt l s p → IsAt m s p
 is_at_moved l m s p same at = let P : Link → Type 0 = λ x. IsAt x s p in subst P same at
 
-placed_use : (k : ℕ) (link : Link) (entry : LinkEntry) → Oriented link entry → link.lower.0 ≢ link.upper.0 → HasPorts k entry → (s p : ℕ) → IsAt (at_ports link entry) s p → HasUse entry s p
+placed_use : (k : ℕ) (link : Link) (entry : LinkEntry) → Oriented link entry → link.lower.0 ≢ link.upper.0 → NamesPorts k entry → (s p : ℕ) → IsAt (at_ports link entry) s p → HasUse entry s p
 placed_use k link entry (inl straight) apart fit s p at =
     let here : eqb entry.a.0 link.lower.0 ≡ true = rw straight.0 (eqb_same link.lower.0) in
     let number_a = port_number-is k entry.port_a fit.0 in
@@ -161,23 +160,23 @@ placed_use k link entry (inr turned) apart fit s p at =
       | inr upper ↦ inl (turned.0 ∙ upper.0, number_a ∙ ap (λ n. pos n) upper.1)
     ]
 
-use_any : (k : ℕ) (entry : LinkEntry) → are_joined k entry.a entry.b ≡ true → (s p : ℕ) → HasUse entry s p → list_any (is_at s (pos p)) (link_uses k entry) ≡ true
-use_any k entry joined s p (inl a) = first_use k entry s p joined a.0 a.1
-use_any k entry joined s p (inr b) = second_use k entry s p joined b.0 b.1
+use_any : (k : ℕ) (entry : LinkEntry) → are_adjacent k entry.a entry.b ≡ true → (s p : ℕ) → HasUse entry s p → list_any (is_at s (pos p)) (link_uses k entry) ≡ true
+use_any k entry adjacent s p (inl a) = first_use k entry s p adjacent a.0 a.1
+use_any k entry adjacent s p (inr b) = second_use k entry s p adjacent b.0 b.1
 
-use_free : (k : ℕ) (before : List PortUse) (entry : LinkEntry) → are_joined k entry.a entry.b ≡ true → All (IsFree k before) (link_uses k entry) → (s p : ℕ) → HasUse entry s p →
+use_free : (k : ℕ) (before : List PortUse) (entry : LinkEntry) → are_adjacent k entry.a entry.b ≡ true → All (IsFree k before) (link_uses k entry) → (s p : ℕ) → HasUse entry s p →
     list_any (is_at s (pos p)) before ≡ false
-use_free k before entry joined free s p (inl a) =
-    let here = (free 0 (record { switch = entry.a; port = entry.port_a; counts = true }) (omega arith)).free joined in
+use_free k before entry adjacent free s p (inl a) =
+    let here = (free 0 (record { switch = entry.a; port = entry.port_a; counts = true }) (omega arith)).free adjacent in
     (rw (a.0, a.1) at here)
-use_free k before entry joined free s p (inr b) =
-    let here = (free 1 (record { switch = entry.a; port = entry.port_a; counts = true }) (omega arith)).free joined in
+use_free k before entry adjacent free s p (inr b) =
+    let here = (free 1 (record { switch = entry.a; port = entry.port_a; counts = true }) (omega arith)).free adjacent in
     (rw (b.0, b.1) at here)
 
 -- what the checks of the `link` tables tell
 pub record Agree (k : ℕ) (given : List LinkEntry) : Type 0 where
-  pub fit : All (HasPorts k) given
-  pub joined : All (λ e. are_joined k e.a e.b ≡ true) given
+  pub fit : All (NamesPorts k) given
+  pub adjacent : All (λ e. are_adjacent k e.a e.b ≡ true) given
   pub free : All (λ e. All (IsFree k (kept_uses k given)) (link_uses k e)) given
   pub apart : AllPairs (λ e f. All (IsFree k (link_uses k e)) (link_uses k f)) given
 
@@ -206,8 +205,8 @@ pub record Speaks (k : ℕ) (given : List LinkEntry) (link : Link) (entry : Link
   pub within : index < length given
   pub there : (d : LinkEntry) → get_or given index d ≡ entry
   pub ends : Oriented link entry
-  pub fit : HasPorts k entry
-  pub joined : are_joined k entry.a entry.b ≡ true
+  pub fit : NamesPorts k entry
+  pub adjacent : are_adjacent k entry.a entry.b ≡ true
   pub free : All (IsFree k (kept_uses k given)) (link_uses k entry)
 
 speaks : (k : ℕ) (given : List LinkEntry) (link : Link) (entry : LinkEntry) → Agree k given → entry_of given link ≡ Some entry → Speaks k given link entry
@@ -220,7 +219,7 @@ speaks k given link entry agree found =
       there = at.2;
       ends = oriented link entry at.3;
       fit = (rw is at (agree.fit at.0 entry at.1));
-      joined = (rw is at (agree.joined at.0 entry at.1));
+      adjacent = (rw is at (agree.adjacent at.0 entry at.1));
       free = let P : LinkEntry → Type 0 = λ e. All (IsFree k (kept_uses k given)) (link_uses k e) in subst P is (agree.free at.0 entry at.1);
     }
 
@@ -255,7 +254,7 @@ entries_apart k given link other e f agree first second less s p at_e at_f =
     let P : LinkEntry → Type 0 = λ x. All (IsFree k (link_uses k x)) (link_uses k (get_or given second.index e)) in
     let Q : LinkEntry → Type 0 = λ y. All (IsFree k (link_uses k e)) (link_uses k y) in
     let free = subst Q (second.there e) (subst P (first.there e) pair) in
-    false≢true (sym (use_free k (link_uses k e) f second.joined free s p at_f) ∙ use_any k e first.joined s p at_e)
+    false≢true (sym (use_free k (link_uses k e) f second.adjacent free s p at_f) ∙ use_any k e first.adjacent s p at_e)
 
 both_given : (k m n : ℕ) (given : List LinkEntry) (e f : LinkEntry) → 0 < k / 2 → Agree k given → m < link_count k → n < link_count k → m ≢ n →
     Speaks k given (canonical_link k m) e → Speaks k given (canonical_link k n) f → (s p : ℕ) → HasUse e s p → HasUse f s p → ⊥
@@ -292,7 +291,7 @@ placed_apart k m n given arity agree lm ln differ s p at_m at_n =
             | inr given_n ↦
                 let spoken = speaks k given (canonical_link k n) given_n.0 agree given_n.1 in
                 let has = use_of k n given given_n.0 positive ln spoken s p (is_at_moved _ _ s p (link_of-given given (canonical_link k n) given_n.0 given_n.1) at_n) in
-                false≢true (sym (use_free k (kept_uses k given) given_n.0 spoken.joined spoken.free s p has) ∙ kept_any k m given lm kept_m s p here_m)
+                false≢true (sym (use_free k (kept_uses k given) given_n.0 spoken.adjacent spoken.free s p has) ∙ kept_any k m given lm kept_m s p here_m)
           ]
       | inr given_m ↦
           let spoken_m = speaks k given (canonical_link k m) given_m.0 agree given_m.1 in
@@ -300,7 +299,7 @@ placed_apart k m n given arity agree lm ln differ s p at_m at_n =
           elim (data_of given (canonical_link k n)) [
             | inl kept_n ↦
                 let here_n = is_at_moved _ _ s p (link_of-kept given (canonical_link k n) kept_n) at_n in
-                false≢true (sym (use_free k (kept_uses k given) given_m.0 spoken_m.joined spoken_m.free s p has_m) ∙ kept_any k n given ln kept_n s p here_n)
+                false≢true (sym (use_free k (kept_uses k given) given_m.0 spoken_m.adjacent spoken_m.free s p has_m) ∙ kept_any k n given ln kept_n s p here_n)
             | inr given_n ↦
                 let spoken = speaks k given (canonical_link k n) given_n.0 agree given_n.1 in
                 let has = use_of k n given given_n.0 positive ln spoken s p (is_at_moved _ _ s p (link_of-given given (canonical_link k n) given_n.0 given_n.1) at_n) in
@@ -323,11 +322,11 @@ placed_seen k n given arity agree within s p at =
           let spoken = speaks k given (canonical_link k n) found.0 agree found.1 in
           let has = use_of k n given found.0 positive within spoken s p (is_at_moved _ _ s p (link_of-given given (canonical_link k n) found.0 found.1) at) in
           let is = spoken.there found.0 in
-          let used : list_any (is_at s (pos p)) (link_uses k (get_or given spoken.index found.0)) ≡ true = rw is (use_any k found.0 spoken.joined s p has) in
+          let used : list_any (is_at s (pos p)) (link_uses k (get_or given spoken.index found.0)) ≡ true = rw is (use_any k found.0 spoken.adjacent s p has) in
           whole ∙ or_right (list_any (is_at s (pos p)) (kept_uses k given)) _ (any_group (is_at s (pos p)) (link_uses k) given spoken.index found.0 spoken.within used)
     ]
 
-at_ports-below : (k : ℕ) (link : Link) (entry : LinkEntry) → HasPorts k entry → ((at_ports link entry).lower_port < k) × ((at_ports link entry).upper_port < k)
+at_ports-below : (k : ℕ) (link : Link) (entry : LinkEntry) → NamesPorts k entry → ((at_ports link entry).lower_port < k) × ((at_ports link entry).upper_port < k)
 at_ports-below k link entry fit =
     let a = port_number-below k entry.port_a fit.0 in
     let b = port_number-below k entry.port_b fit.1 in

@@ -21,9 +21,9 @@ use Rattle.pl_wiring.specs.declared.label.SwitchNo.{SwitchNo}
 use Rattle.pl_topology.specs.declared.entries.SwitchEntry.{SwitchEntry}
 use Rattle.pl_topology.specs.declared.entries.LinkEntry.{LinkEntry}
 use Rattle.pl_topology.specs.declared.entries.HostEntry.{HostEntry}
-use Rattle.pl_topology.specs.Checks.{addresses_are_new, addresses_differ, are_joined, has_id, has_ip, has_mac, host_uses, id_is_new, ids_differ, is_called, joins_the_tree, kept_ids, kept_uses, link_uses, name_is_new, names_differ, port_is_free, ports_differ}
+use Rattle.pl_topology.specs.Checks.{addresses_are_new, addresses_differ, are_adjacent, has_id, has_ip, has_mac, host_uses, id_is_new, ids_differ, is_called, joins_the_tree, kept_ids, kept_uses, link_uses, name_is_new, names_differ, port_is_free, ports_differ}
 use Rattle.pl_topology.specs.Document.{arity_if, arity_of, integer_at, tables_at, text_at, value_at}
-use Rattle.pl_topology.specs.Entries.{HasEdge, HasEnds, capture_of, edge_if, host_entry, id_if, is_again, is_of, link_entry, name_if, switch_at, switch_entry}
+use Rattle.pl_topology.specs.Entries.{HasEdge, NamesSwitches, capture_of, edge_if, host_entry, id_if, is_again, is_of, link_entry, name_if, switch_at, switch_entry}
 use Rattle.pl_wiring.specs.SwitchNames.{is_label, switch_named}
 use Rattle.pl_topology.specs.FileEntries.{Entries, entries_of, host_entries, link_entries, switch_entries}
 use Rattle.pl_wiring.specs.Labels.{IsArity, edge_count, label_of, number_of, switch_count}
@@ -31,19 +31,17 @@ use Rattle.pl_topology.specs.Meaning.{host_of, plan_of_entries}
 use Rattle.pl_wiring.specs.Plan.{IsHostIp, IsHostMac, IsPlan}
 use Rattle.pl_topology.specs.Refusal.{all_beside, each, each_beside, or_refused, refused_if}
 use Rattle.pl_wiring.specs.Texts.{ip_of_text, is_name, label_of_text, mac_of_text}
-use Rattle.pl_wiring.proofs.EntryLemmas.{is_label-Decides}
-use Rattle.pl_wiring.proofs.LabelOrder.{number_of-below}
+use Rattle.pl_wiring.proofs.Exports.{ip_of_text-one, is_label-Decides, mac_of_text-one, number_of-below}
 use Rattle.pl_topology.proofs.PlacedHosts.{AgreeHosts, few_hosts, hosts_at_edges, hosts_at_free_ports, hosts_ips_apart, hosts_macs_apart, hosts_names_apart, hosts_places_apart, uses_of_links}
 use Rattle.pl_topology.proofs.PlacedIds.{AgreeIds, ids_of-apart, ids_of-in_range, ids_of-length}
 use Rattle.pl_topology.proofs.PlacedLinks.{Agree, links_of-IsFatTree, links_of-order}
 use Rattle.pl_topology.proofs.PortsApart.{groups_apart, groups_free}
 use Rattle.pl_topology.proofs.Readings.{All-weaker, AllPairs-none, all_beside-All, each-All, none_at, none_of_both}
 use Rattle.pl_topology.proofs.RefusalLemmas.{bind_ok, or_refused_ok, refused_if_ok}
-use Rattle.pl_wiring.proofs.HostAddresses.{ip_of_text-one, mac_of_text-one}
 use Rattle.std.proofs.lemmas.List.Elements.{All-cons, All-map, All-nil}
 use Rattle.std.proofs.lemmas.Option.{cond_some}
 use Rattle.std.proofs.lemmas.List.Kept.{AllPairs-cons}
-use Rattle.pl_lemmas.proofs.Options.{and_then_some}
+use Rattle.pl_lemmas.proofs.Exports.{and_then_some}
 
 -- a switch that is named is one of the tree
 switch_named-below : (k : ℕ) (text : List ℕ) (switch : SwitchNo) → switch_named k text ≡ Some switch → switch.0 < switch_count k
@@ -85,7 +83,7 @@ switch_entry-is k before found entry given =
     let P : SwitchId → Type 0 = λ i. (1 ≤ i.0) × (i.0 < 2 ^ 48) in
     subst P same (id_if-range z id number)
 
-link_entry-is : (k : ℕ) (before : List LinkEntry) (found : Members) (entry : LinkEntry) → link_entry k before found ≡ Ok entry → HasEnds k entry
+link_entry-is : (k : ℕ) (before : List LinkEntry) (found : Members) (entry : LinkEntry) → link_entry k before found ≡ Ok entry → NamesSwitches k entry
 unfolding link_entry
 link_entry-is k before found entry given =
     let (a, named, rest) = bind_ok (or_refused (switch_at k key.A found) (error.BadValue key.A)) _ entry given in
@@ -141,11 +139,11 @@ switches_are k document entries given =
     let (tables, listed, read) = bind_ok (or_refused (tables_at key.Switch document) (error.BadValue key.Switch)) (λ tables. all_beside (switch_entry k) [] tables) entries given in
     all_beside-All IsSwitchEntry (switch_entry k) (switch_entry-is k) [] tables entries (All-nil IsSwitchEntry) read
 
-links_are : (k : ℕ) (document : Members) (entries : List LinkEntry) → link_entries k document ≡ Ok entries → All (HasEnds k) entries
+links_are : (k : ℕ) (document : Members) (entries : List LinkEntry) → link_entries k document ≡ Ok entries → All (NamesSwitches k) entries
 unfolding link_entries
 links_are k document entries given =
     let (tables, listed, read) = bind_ok (or_refused (tables_at key.Link document) (error.BadValue key.Link)) (λ tables. all_beside (link_entry k) [] tables) entries given in
-    all_beside-All (HasEnds k) (link_entry k) (link_entry-is k) [] tables entries (All-nil (HasEnds k)) read
+    all_beside-All (NamesSwitches k) (link_entry k) (link_entry-is k) [] tables entries (All-nil (NamesSwitches k)) read
 
 hosts_are : (k : ℕ) (document : Members) (entries : List HostEntry) → host_entries k document ≡ Ok entries → All (IsHostEntry k) entries
 unfolding host_entries
@@ -156,7 +154,7 @@ hosts_are k document entries given =
 -- what the entries of a file are
 pub record Are (k : ℕ) (e : Entries) : Type 0 where
   pub switches : All IsSwitchEntry e.switches
-  pub links : All (HasEnds k) e.links
+  pub links : All (NamesSwitches k) e.links
   pub hosts : All (IsHostEntry k) e.hosts
 
 pub entries_are : (k : ℕ) (document : Members) (e : Entries) → entries_of k document ≡ Ok e → Are k e
@@ -170,7 +168,7 @@ entries_are k document e given =
     let h : hosts ≡ e.hosts = cc in
     record {
       switches = subst (λ (xs : List SwitchEntry). All IsSwitchEntry xs) s (switches_are k document switches first);
-      links = subst (λ (xs : List LinkEntry). All (HasEnds k) xs) l (links_are k document links second);
+      links = subst (λ (xs : List LinkEntry). All (NamesSwitches k) xs) l (links_are k document links second);
       hosts = subst (λ (xs : List HostEntry). All (IsHostEntry k) xs) h (hosts_are k document hosts third);
     }
 
@@ -255,20 +253,20 @@ agree_hosts k links hosts are names addresses ports =
       apart = groups_apart k host_uses (uses_of_links k links) hosts passed;
     }
 
-joined_by : (k : ℕ) (entry : LinkEntry) → joins_the_tree k entry ≡ Ok tt → are_joined k entry.a entry.b ≡ true
+adjacent_by : (k : ℕ) (entry : LinkEntry) → joins_the_tree k entry ≡ Ok tt → are_adjacent k entry.a entry.b ≡ true
 unfolding joins_the_tree
-joined_by k entry passed = not-false (are_joined k entry.a entry.b) (refused_if_ok (not (are_joined k entry.a entry.b)) (error.NotFatTree (label_of k entry.a.0) (label_of k entry.b.0)) tt passed)
+adjacent_by k entry passed = not-false (are_adjacent k entry.a entry.b) (refused_if_ok (not (are_adjacent k entry.a entry.b)) (error.NotFatTree (label_of k entry.a.0) (label_of k entry.b.0)) tt passed)
 
 pub agree_links : (k : ℕ) (links : List LinkEntry) (hosts : List HostEntry) → ports_differ k links hosts ≡ Ok tt → each (joins_the_tree k) links ≡ Ok tt → Agree k links
-agree_links k links hosts ports joined =
+agree_links k links hosts ports adjacent =
     let passed = (ports_agree k links hosts ports).0 in
     let free = groups_free k (link_uses k) (kept_uses k links) links passed in
     record {
       fit = λ i d within.
           let e = get_or links i d in
-          let u : PortUse = record { switch = e.a; port = e.port_a; counts = are_joined k e.a e.b } in
+          let u : PortUse = record { switch = e.a; port = e.port_a; counts = are_adjacent k e.a e.b } in
           ((free i d within 0 u (omega arith)).there, (free i d within 1 u (omega arith)).there);
-      joined = each-All (λ e. are_joined k e.a e.b ≡ true) (joins_the_tree k) (joined_by k) links joined;
+      adjacent = each-All (λ e. are_adjacent k e.a e.b ≡ true) (joins_the_tree k) (adjacent_by k) links adjacent;
       free = free;
       apart = groups_apart k (link_uses k) (kept_uses k links) links passed;
     }
@@ -281,11 +279,11 @@ pub record Agrees (k : ℕ) (e : Entries) : Type 0 where
 
 pub agrees : (k : ℕ) (document : Members) (e : Entries) → entries_of k document ≡ Ok e → ids_differ k e.switches ≡ Ok tt → names_differ e.hosts ≡ Ok tt → addresses_differ e.hosts ≡ Ok tt →
     ports_differ k e.links e.hosts ≡ Ok tt → each (joins_the_tree k) e.links ≡ Ok tt → Agrees k e
-agrees k document e read ids names addresses ports joined =
+agrees k document e read ids names addresses ports adjacent =
     let are = entries_are k document e read in
     record {
       ids = agree_ids k e.switches are.switches ids;
-      links = agree_links k e.links e.hosts ports joined;
+      links = agree_links k e.links e.hosts ports adjacent;
       hosts = agree_hosts k e.links e.hosts are.hosts names addresses ports;
     }
 

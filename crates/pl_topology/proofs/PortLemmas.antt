@@ -15,9 +15,9 @@ use Rattle.pl_topology.specs.declared.entries.PortUse.{PortUse}
 use Rattle.pl_topology.specs.Checks.{canonical_uses, is_at, is_port, is_unspoken, port_is_free}
 use Rattle.pl_topology.specs.Found.{SeesPorts, same_pair}
 use Rattle.pl_wiring.specs.Labels.{label_of}
-use Rattle.pl_topology.specs.Refusal.{Fails}
+use Rattle.pl_topology.specs.Refusal.{ReadingFails}
 use Rattle.pl_topology.proofs.FoundLemmas.{Used, is_some_found, SeesPorts-push, SeesPorts-skip, port_is_free-out_of_range, port_is_free-uncounted, port_is_free-used, port_is_free-free}
-use Rattle.pl_topology.proofs.RefusalLemmas.{Fails-refused}
+use Rattle.pl_topology.proofs.RefusalLemmas.{ReadingFails-refused}
 
 -- what stands past the end of a list
 abbrev pub no_use : PortUse
@@ -42,14 +42,14 @@ is_uncounted taken n number counts =
 
 -- a port that the switch does not have
 pub taken_out : (k : ℕ) (before : List PortUse) (taken : PortUse) (e : TopologyError) → e ≡ BadPort (label_of k taken.switch.0) taken.port → is_port k taken.port ≡ false →
-    Fails e (port_is_free k before taken)
-taken_out k before taken e is out = Fails-refused e (port_is_free k before taken) (port_is_free-out_of_range k before taken out ∙ ap (λ x. Err x) (sym is))
+    ReadingFails e (port_is_free k before taken)
+taken_out k before taken e is out = ReadingFails-refused e (port_is_free k before taken) (port_is_free-out_of_range k before taken out ∙ ap (λ x. Err x) (sym is))
 
 -- a port that something before has
 pub taken_used : (k : ℕ) (before : List PortUse) (taken : PortUse) (n : ℕ) (e : TopologyError) → taken.port ≡ pos n → taken.counts ≡ true → e ≡ BadPort (label_of k taken.switch.0) taken.port →
-    list_any (is_at taken.switch.0 (pos n)) before ≡ true → Fails e (port_is_free k before taken)
+    list_any (is_at taken.switch.0 (pos n)) before ≡ true → ReadingFails e (port_is_free k before taken)
 taken_used k before taken n e number counts is there =
-    Fails-refused e (port_is_free k before taken) (ap (port_is_free k before) (is_counted taken n number counts) ∙ port_is_free-used k before taken.switch n there
+    ReadingFails-refused e (port_is_free k before taken) (ap (port_is_free k before) (is_counted taken n number counts) ∙ port_is_free-used k before taken.switch n there
     ∙ ap (λ x. Err x) (sym (is ∙ ap (BadPort (label_of k taken.switch.0)) number)))
 
 pub taken_free : (k : ℕ) (before : List PortUse) (taken : PortUse) (n : ℕ) → taken.port ≡ pos n → taken.counts ≡ true → n < k →

@@ -10,7 +10,7 @@ use Rattle.toml.specs.declared.value.Value.{Value}
 use Rattle.pl_topology.specs.declared.error.TopologyError.{TopologyError}
 use Rattle.pl_topology.specs.declared.error.TopologyError.TheVariants.{NotToml, BadK, Missing, BadValue, DoubleId, DoubleHost, DoubleAddress, BadPort, NotFatTree, Memory}
 use Rattle.pl_topology.specs.Document.{lent_tables}
-use Rattle.pl_topology.specs.Refusal.{◌>>=◌, or_refused, refused_if, all_beside, each_beside, Fails, Gives}
+use Rattle.pl_topology.specs.Refusal.{◌>>=◌, or_refused, refused_if, all_beside, each_beside, ReadingFails, ReadingGives}
 
 -- what gave a value was given one by each step
 pub bind_ok : {A B : Type 0} (r : Result A TopologyError) (f : A → Result B TopologyError) (y : B) → (r >>= f) ≡ Ok y → (x : A) × (r ≡ Ok x) × (f x ≡ Ok y)
@@ -26,20 +26,20 @@ refused_if_ok true e u given = cc
 refused_if_ok false e u given = refl
 
 -- a reading that is refused so
-pub Fails-refused : {B : Type 0} (e : TopologyError) (reading : Result B TopologyError) → reading ≡ Err e → Fails e reading
-Fails-refused NotToml reading refused = refused
-Fails-refused BadK reading refused = refused
-Fails-refused (Missing key) reading refused = refused
-Fails-refused (BadValue key) reading refused = refused
-Fails-refused (DoubleId id) reading refused = refused
-Fails-refused (DoubleHost name) reading refused = refused
-Fails-refused (DoubleAddress name) reading refused = refused
-Fails-refused (BadPort label port) reading refused = refused
-Fails-refused (NotFatTree a b) reading refused = refused
-Fails-refused Memory reading refused = tt
+pub ReadingFails-refused : {B : Type 0} (e : TopologyError) (reading : Result B TopologyError) → reading ≡ Err e → ReadingFails e reading
+ReadingFails-refused NotToml reading refused = refused
+ReadingFails-refused BadK reading refused = refused
+ReadingFails-refused (Missing key) reading refused = refused
+ReadingFails-refused (BadValue key) reading refused = refused
+ReadingFails-refused (DoubleId id) reading refused = refused
+ReadingFails-refused (DoubleHost name) reading refused = refused
+ReadingFails-refused (DoubleAddress name) reading refused = refused
+ReadingFails-refused (BadPort label port) reading refused = refused
+ReadingFails-refused (NotFatTree a b) reading refused = refused
+ReadingFails-refused Memory reading refused = tt
 
-pub Gives-refused : {A B : Type 0} (view : A → B) (r : Result A TopologyError) (e : TopologyError) (reading : Result B TopologyError) → r ≡ Err e → reading ≡ Err e → Gives view r reading
-Gives-refused view r e reading is refused = rw is (Fails-refused e reading refused)
+pub ReadingGives-refused : {A B : Type 0} (view : A → B) (r : Result A TopologyError) (e : TopologyError) (reading : Result B TopologyError) → r ≡ Err e → reading ≡ Err e → ReadingGives view r reading
+ReadingGives-refused view r e reading is refused = rw is (ReadingFails-refused e reading refused)
 
 abbrev pub Lent : Type 0
 Lent = Bor (BTreeMap (String Global) Value)
@@ -80,28 +80,28 @@ front_more front xs i d x within is =
     let same : get_or xs i d ≡ x = sym is in
     rw (take_more xs i d within, same, append_assoc) refl
 
-pub Fails-bind : {A B : Type 0} (e : TopologyError) (reading : Result A TopologyError) (f : A → Result B TopologyError) → Fails e reading → Fails e (reading >>= f)
-Fails-bind NotToml reading f refused = rw refused refl
-Fails-bind BadK reading f refused = rw refused refl
-Fails-bind (Missing key) reading f refused = rw refused refl
-Fails-bind (BadValue key) reading f refused = rw refused refl
-Fails-bind (DoubleId id) reading f refused = rw refused refl
-Fails-bind (DoubleHost name) reading f refused = rw refused refl
-Fails-bind (DoubleAddress name) reading f refused = rw refused refl
-Fails-bind (BadPort label port) reading f refused = rw refused refl
-Fails-bind (NotFatTree a b) reading f refused = rw refused refl
-Fails-bind Memory reading f refused = tt
+pub ReadingFails-bind : {A B : Type 0} (e : TopologyError) (reading : Result A TopologyError) (f : A → Result B TopologyError) → ReadingFails e reading → ReadingFails e (reading >>= f)
+ReadingFails-bind NotToml reading f refused = rw refused refl
+ReadingFails-bind BadK reading f refused = rw refused refl
+ReadingFails-bind (Missing key) reading f refused = rw refused refl
+ReadingFails-bind (BadValue key) reading f refused = rw refused refl
+ReadingFails-bind (DoubleId id) reading f refused = rw refused refl
+ReadingFails-bind (DoubleHost name) reading f refused = rw refused refl
+ReadingFails-bind (DoubleAddress name) reading f refused = rw refused refl
+ReadingFails-bind (BadPort label port) reading f refused = rw refused refl
+ReadingFails-bind (NotFatTree a b) reading f refused = rw refused refl
+ReadingFails-bind Memory reading f refused = tt
 
 -- the exit of a `?` on a call that fails as the first of two readings does
-pub Gives-exit : {A B C D : Type 0} (view : A → B) (r : Result A TopologyError) (inner : C → D) (s : Result C TopologyError) (e d : TopologyError) (reading : Result D TopologyError) (f : D → Result B TopologyError) →
-    r ≡ Err e → e ≡ d → s ≡ Err d → Gives inner s reading → Gives view r (reading >>= f)
-Gives-exit view r inner s e d reading f is same was given =
-    let fails : Fails d reading = (rw was at given) in
-    rw (is, same) (Fails-bind d reading f fails)
+pub ReadingGives-exit : {A B C D : Type 0} (view : A → B) (r : Result A TopologyError) (inner : C → D) (s : Result C TopologyError) (e d : TopologyError) (reading : Result D TopologyError) (f : D → Result B TopologyError) →
+    r ≡ Err e → e ≡ d → s ≡ Err d → ReadingGives inner s reading → ReadingGives view r (reading >>= f)
+ReadingGives-exit view r inner s e d reading f is same was given =
+    let fails : ReadingFails d reading = (rw was at given) in
+    rw (is, same) (ReadingFails-bind d reading f fails)
 
 -- what a call that returned gave
-pub Gives-ok : {A B : Type 0} (view : A → B) (r : Result A TopologyError) (x : A) (reading : Result B TopologyError) → r ≡ Ok x → Gives view r reading → reading ≡ Ok (view x)
-Gives-ok view r x reading is given = (rw is at given)
+pub ReadingGives-ok : {A B : Type 0} (view : A → B) (r : Result A TopologyError) (x : A) (reading : Result B TopologyError) → r ≡ Ok x → ReadingGives view r reading → reading ≡ Ok (view x)
+ReadingGives-ok view r x reading is given = (rw is at given)
 
 bind_bind : {A B C : Type 0} (r : Result A TopologyError) (f : A → Result B TopologyError) (g : B → Result C TopologyError) → ((r >>= f) >>= g) ≡ (r >>= λ x. f x >>= g)
 bind_bind (Ok x) f g = refl

@@ -67,12 +67,12 @@ is_below (Aggregation pod j) (Core group m) = j == group
 is_below _ _ = false
 
 -- the tree joins these two switches
-abbrev pub are_joined : ℕ → SwitchNo → SwitchNo → Bool
-are_joined k a b = is_below (label_of k a.0) (label_of k b.0) || is_below (label_of k b.0) (label_of k a.0)
+abbrev pub are_adjacent : ℕ → SwitchNo → SwitchNo → Bool
+are_adjacent k a b = is_below (label_of k a.0) (label_of k b.0) || is_below (label_of k b.0) (label_of k a.0)
 
 abbrev pub link_uses : ℕ → LinkEntry → List PortUse
 link_uses k entry =
-    let counts = are_joined k entry.a entry.b in
+    let counts = are_adjacent k entry.a entry.b in
     record { switch = entry.a; port = entry.port_a; counts = counts } ∷ record { switch = entry.b; port = entry.port_b; counts = counts } ∷ []
 
 abbrev pub host_uses : HostEntry → List PortUse
@@ -109,4 +109,4 @@ ports_differ k links hosts = do
   each_beside (port_is_free k) (kept_uses k links ++ flat_map (link_uses k) links) (flat_map host_uses hosts)
 
 unfoldable pub joins_the_tree : ℕ → LinkEntry → Result ⊤ TopologyError
-joins_the_tree k entry = refused_if (not (are_joined k entry.a entry.b)) (error.NotFatTree (label_of k entry.a.0) (label_of k entry.b.0))
+joins_the_tree k entry = refused_if (not (are_adjacent k entry.a entry.b)) (error.NotFatTree (label_of k entry.a.0) (label_of k entry.b.0))

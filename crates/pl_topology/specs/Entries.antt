@@ -82,8 +82,8 @@ host_entry k members = do
   Ok (record { name = name; mac = mac; ip = ip; edge = edge; port = port; capture = capture })
 
 -- the entry speaks of switches of the tree
-abbrev pub HasEnds : ℕ → LinkEntry → Type 0
-HasEnds k entry = (entry.a.0 < switch_count k) × (entry.b.0 < switch_count k)
+abbrev pub NamesSwitches : ℕ → LinkEntry → Type 0
+NamesSwitches k entry = (entry.a.0 < switch_count k) × (entry.b.0 < switch_count k)
 
 abbrev pub HasEdge : ℕ → HostEntry → Type 0
 HasEdge k host = host.edge.0 < switch_count k

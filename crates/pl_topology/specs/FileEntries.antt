@@ -14,7 +14,7 @@ use Rattle.pl_topology.specs.declared.file_entries.FileEntries.{FileEntries}
 use Rattle.pl_topology.specs.Checks.{is_port}
 use Rattle.pl_topology.specs.Document.{tables_at}
 use Rattle.pl_topology.specs.Entries.{switch_entry, link_entry, host_entry}
-use Rattle.pl_topology.specs.Found.{FindsIds, FindsLinks, ends_of, same_pair}
+use Rattle.pl_topology.specs.Found.{FindsIds, FindsLinkEntries, ends_of, same_pair}
 use Rattle.pl_wiring.specs.declared.label.SwitchNo.{SwitchNo}
 use Rattle.pl_topology.specs.Refusal.{◌>>=◌, all_beside, or_refused}
 
@@ -50,17 +50,17 @@ entries_of k document = do
   Ok (record { switches = switches; links = links; hosts = hosts })
 
 -- the maps beside the entries have what the entries have
-pub record AreFound (e : FileEntries) : Type 0 where
+pub record FindEntries (e : FileEntries) : Type 0 where
   pub ids : FindsIds e.switches.ids e.switches.entries.items
-  pub links : FindsLinks e.links.by_ends e.links.entries.items
+  pub links : FindsLinkEntries e.links.by_ends e.links.entries.items
 
 -- the ports are ports of the switches
-abbrev pub HasPorts : ℕ → LinkEntry → Type 0
-HasPorts k entry = (is_port k entry.port_a ≡ true) × (is_port k entry.port_b ≡ true)
+abbrev pub NamesPorts : ℕ → LinkEntry → Type 0
+NamesPorts k entry = (is_port k entry.port_a ≡ true) × (is_port k entry.port_b ≡ true)
 
 abbrev pub HasPort : ℕ → HostEntry → Type 0
 HasPort k host = is_port k host.port ≡ true
 
 -- what a map has for a link has ports of the switches
 abbrev pub PortsFit : ℕ → HashMap (ℕ × ℕ) LinkEntry (BuildHasherDefault FoldHasher) → Type 0
-PortsFit k by_ends = (a b : SwitchNo) → IfSome (get same_pair by_ends (ends_of a b)) (HasPorts k)
+PortsFit k by_ends = (a b : SwitchNo) → IfSome (get same_pair by_ends (ends_of a b)) (NamesPorts k)

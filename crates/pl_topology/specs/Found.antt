@@ -28,8 +28,8 @@ abbrev pub ends_of : SwitchNo → SwitchNo → ℕ × ℕ
 ends_of a b = if nat_le a.0 b.0 then (a.0, b.0) else (b.0, a.0)
 
 -- the map has the entry of the link between two switches
-abbrev pub FindsLinks : HashMap (ℕ × ℕ) LinkEntry (BuildHasherDefault FoldHasher) → List LinkEntry → Type 0
-FindsLinks links entries = (a b : SwitchNo) → get same_pair links (ends_of a b) ≡ find (is_between a b) entries
+abbrev pub FindsLinkEntries : HashMap (ℕ × ℕ) LinkEntry (BuildHasherDefault FoldHasher) → List LinkEntry → Type 0
+FindsLinkEntries links entries = (a b : SwitchNo) → get same_pair links (ends_of a b) ≡ find (is_between a b) entries
 
 -- the set has the ids of these entries
 abbrev pub SeesIds : HashSet ℕ (BuildHasherDefault FoldHasher) → List SwitchEntry → Type 0

@@ -33,10 +33,10 @@ all_beside read before [] = Ok before
 all_beside read before (x ∷ xs) = read before x >>= λ y. all_beside read (before ++ y ∷ []) xs
 
 -- What a function returned, seen by view, is what the reading gives, unless memory ran out.
-abbrev pub Fails : {B : Type 0} → TopologyError → Result B TopologyError → Type 0
-Fails Memory reading = ⊤
-Fails e reading = reading ≡ Err e
+abbrev pub ReadingFails : {B : Type 0} → TopologyError → Result B TopologyError → Type 0
+ReadingFails Memory reading = ⊤
+ReadingFails e reading = reading ≡ Err e
 
-abbrev pub Gives : {A B : Type 0} → (A → B) → Result A TopologyError → Result B TopologyError → Type 0
-Gives view (Ok x) reading = reading ≡ Ok (view x)
-Gives view (Err e) reading = Fails e reading
+abbrev pub ReadingGives : {A B : Type 0} → (A → B) → Result A TopologyError → Result B TopologyError → Type 0
+ReadingGives view (Ok x) reading = reading ≡ Ok (view x)
+ReadingGives view (Err e) reading = ReadingFails e reading

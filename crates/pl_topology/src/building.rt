@@ -1,7 +1,7 @@
 ghost use Rattle.std.specs.Prelude.{◌≡◌, ◌<◌, List, IfOk, map, All};
 ghost use Rattle.pl_topology.specs.Checks.{is_port};
-ghost use Rattle.pl_topology.specs.FileEntries.{AreFound, HasPort, HasPorts, PortsFit, entries_view};
-ghost use Rattle.pl_topology.specs.Found.{FindsIds, FindsLinks};
+ghost use Rattle.pl_topology.specs.FileEntries.{FindEntries, HasPort, NamesPorts, PortsFit, entries_view};
+ghost use Rattle.pl_topology.specs.Found.{FindsIds, FindsLinkEntries};
 ghost use Rattle.pl_wiring.specs.Labels.{IsArity};
 ghost use Rattle.pl_topology.specs.Meaning.{at_ports, host_of, port_number, id_of, ids_of, link_of, links_of, plan_of_entries};
 ghost use Rattle.pl_wiring.specs.Plan.{IsPlan};
@@ -21,8 +21,8 @@ use std::collections::HashMap;
 /// The wiring that the entries of a file make.
 pub(crate) fn wiring(alloc: Global, k: u8, entries: FileEntries) -> Result<Wiring, Memory>
     requires plan { IsPlan (plan_of_entries k (entries_view entries)) }
-    requires found { AreFound entries }
-    requires links { All (HasPorts k) entries.links.entries.items }
+    requires found { FindEntries entries }
+    requires links { All (NamesPorts k) entries.links.entries.items }
     requires hosts { All (HasPort k) entries.hosts.items }
     ensures { IfOk result (λ w. w ≡ plan_of_entries k (entries_view entries)) }
 {
@@ -57,7 +57,7 @@ fn switch_id(given: &HashMap<u32, SwitchId>, number: u32) -> SwitchId
 fn tree_links(alloc: Global, k: u8, by_ends: &EntryByEnds) -> Result<Vec<Link>, Memory>
     requires arity { IsArity k }
     requires ports { PortsFit k by_ends.now }
-    ensures { (given : List LinkEntry) → FindsLinks by_ends.now given → IfOk result (λ links. links.items ≡ links_of k given) }
+    ensures { (given : List LinkEntry) → FindsLinkEntries by_ends.now given → IfOk result (λ links. links.items ≡ links_of k given) }
 {
     let canonical = canonical_links(alloc, k)?;
     let mut links = Vec::with_capacity(alloc, canonical.len())?;
@@ -69,7 +69,7 @@ fn tree_links(alloc: Global, k: u8, by_ends: &EntryByEnds) -> Result<Vec<Link>, 
 
 fn tree_link(k: u8, by_ends: &EntryByEnds, link: &Link) -> Link
     requires { PortsFit k by_ends.now }
-    ensures { (given : List LinkEntry) → FindsLinks by_ends.now given → result ≡ link_of given link.now }
+    ensures { (given : List LinkEntry) → FindsLinkEntries by_ends.now given → result ≡ link_of given link.now }
 {
     match entry_between(by_ends, link.lower, link.upper) {
         Some(entry) => at_ports(k, link, &entry),
@@ -79,7 +79,7 @@ fn tree_link(k: u8, by_ends: &EntryByEnds, link: &Link) -> Link
 
 // The link at the ports of an entry for the same two switches.
 fn at_ports(k: u8, link: &Link, entry: &LinkEntry) -> Link
-    requires { HasPorts k entry.now }
+    requires { NamesPorts k entry.now }
     ensures { result ≡ at_ports link.now entry.now }
 {
     let (port_a, port_b) = entry_ports(k, entry);
@@ -97,7 +97,7 @@ fn at_ports(k: u8, link: &Link, entry: &LinkEntry) -> Link
 }
 
 fn entry_ports(k: u8, entry: &LinkEntry) -> (u8, u8)
-    requires { HasPorts k entry.now }
+    requires { NamesPorts k entry.now }
     ensures { result ≡ (port_number entry.now.port_a, port_number entry.now.port_b) }
 {
     let _ = k;

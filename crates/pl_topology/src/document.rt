@@ -2,7 +2,7 @@ ghost use Rattle.std.specs.Prelude.{◌≡◌, option_map, IfOk, codes};
 ghost use Rattle.std.specs.Option.{option_copied};
 ghost use Rattle.toml.specs.Data.{get_member};
 ghost use Rattle.toml.specs.View.{view, table_view, items_view};
-ghost use Rattle.pl_topology.specs.Refusal.{Gives, or_refused};
+ghost use Rattle.pl_topology.specs.Refusal.{ReadingGives, or_refused};
 ghost use Rattle.pl_topology.specs.Document.{document_of, value_at, has, text_at, integer_at, tables_in, tables_at, arity_of, lent_tables};
 
 use crate::{Key, Memory, TopologyError};
@@ -11,7 +11,7 @@ use toml::{Table, Value};
 
 /// The TOML document that the bytes are.
 pub(crate) fn document(alloc: Global, file: &[u8]) -> Result<Table, TopologyError>
-    ensures { Gives table_view result (or_refused (document_of file.now) TopologyError.NotToml) }
+    ensures { ReadingGives table_view result (or_refused (document_of file.now) TopologyError.NotToml) }
 {
     match toml::table_from_slice(alloc, file) {
         Ok(table) => Ok(table),

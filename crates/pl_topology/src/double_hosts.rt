@@ -1,6 +1,6 @@
 ghost use Rattle.std.specs.Prelude.{◌≡◌};
 ghost use Rattle.pl_topology.specs.Checks.{addresses_differ, names_differ};
-ghost use Rattle.pl_topology.specs.Refusal.{Gives};
+ghost use Rattle.pl_topology.specs.Refusal.{ReadingGives};
 
 use crate::TopologyError;
 use crate::entries::HostEntry;
@@ -11,7 +11,7 @@ use std::collections::HashSet;
 /// The first host that has the name of an earlier one.
 #[tactic(auto, unfolding(crate::specs::Checks::name_is_new))]
 pub(crate) fn names_differ(alloc: Global, hosts: &[HostEntry]) -> Result<(), TopologyError>
-    ensures { Gives (λ u. u) result (names_differ hosts.now) }
+    ensures { ReadingGives (λ u. u) result (names_differ hosts.now) }
 {
     let mut seen = HashSet::new(alloc);
     for host in hosts {
@@ -25,7 +25,7 @@ pub(crate) fn names_differ(alloc: Global, hosts: &[HostEntry]) -> Result<(), Top
 /// The first host that has an address of an earlier one.
 #[tactic(auto, unfolding(crate::specs::Checks::addresses_are_new))]
 pub(crate) fn addresses_differ(alloc: Global, hosts: &[HostEntry]) -> Result<(), TopologyError>
-    ensures { Gives (λ u. u) result (addresses_differ hosts.now) }
+    ensures { ReadingGives (λ u. u) result (addresses_differ hosts.now) }
 {
     let mut macs = HashSet::new(alloc);
     let mut ips = HashSet::new(alloc);

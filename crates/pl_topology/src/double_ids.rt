@@ -2,7 +2,7 @@ ghost use Rattle.std.specs.Prelude.{◌≡◌, List, IfOk};
 ghost use Rattle.pl_topology.specs.Checks.{ids_differ, kept_ids};
 ghost use Rattle.pl_topology.specs.Found.{FindsIds, SeesIds};
 ghost use Rattle.pl_wiring.specs.Labels.{IsArity};
-ghost use Rattle.pl_topology.specs.Refusal.{Gives};
+ghost use Rattle.pl_topology.specs.Refusal.{ReadingGives};
 ghost use Rattle.pl_topology.specs.declared.entries.SwitchEntry.{SwitchEntry};
 
 use crate::entries::SwitchEntry;
@@ -22,7 +22,7 @@ pub(crate) fn ids_differ(
 ) -> Result<(), TopologyError>
     requires arity { IsArity k }
     requires found { FindsIds ids.now entries.now }
-    ensures { Gives (λ u. u) result (ids_differ k entries.now) }
+    ensures { ReadingGives (λ u. u) result (ids_differ k entries.now) }
 {
     let mut seen = kept_ids(alloc, k, ids)?;
     for entry in entries {

@@ -3,7 +3,7 @@ ghost use Rattle.toml.specs.View.{table_view};
 ghost use Rattle.pl_topology.specs.Document.{lent_tables};
 ghost use Rattle.pl_topology.specs.Entries.{host_entry};
 ghost use Rattle.pl_wiring.specs.Labels.{IsArity};
-ghost use Rattle.pl_topology.specs.Refusal.{Gives, all_beside};
+ghost use Rattle.pl_topology.specs.Refusal.{ReadingGives, all_beside};
 
 use crate::document::integer_at;
 use crate::entries::HostEntry;
@@ -20,7 +20,7 @@ pub(crate) fn read_hosts(
     tables: &[&Table],
 ) -> Result<Vec<HostEntry>, TopologyError>
     requires { IsArity k }
-    ensures { Gives (λ hosts. hosts.items) result (all_beside (λ _. host_entry k) [] (lent_tables tables.now)) }
+    ensures { ReadingGives (λ hosts. hosts.items) result (all_beside (λ _. host_entry k) [] (lent_tables tables.now)) }
 {
     let mut hosts = Vec::new(alloc);
     for table in tables {
@@ -33,7 +33,7 @@ pub(crate) fn read_hosts(
 #[tactic(auto, unfolding(crate::specs::Entries::host_entry))]
 fn read_host(alloc: Global, k: u8, table: &Table) -> Result<HostEntry, TopologyError>
     requires { IsArity k }
-    ensures { Gives (λ host. host) result (host_entry k (table_view table.now)) }
+    ensures { ReadingGives (λ host. host) result (host_entry k (table_view table.now)) }
 {
     let Some(name) = name_value(table, Key::Name) else {
         return Err(TopologyError::BadValue(Key::Name));

@@ -7,6 +7,7 @@ pub use pl_frame::Memory;
 pub use pl_wiring::{Host, HostNo, Label, Link, LinkStates, Name, Path, Peer, SwitchNo, Wiring};
 pub use reading::read;
 
+mod adjacent;
 mod building;
 mod canonical;
 mod complete;
@@ -17,7 +18,6 @@ mod entries;
 mod error;
 mod file_entries;
 mod host_tables;
-mod joined;
 mod key;
 mod link_tables;
 mod reading;

@@ -5,8 +5,8 @@ ghost use Rattle.toml.specs.View.{table_view};
 ghost use Rattle.pl_topology.specs.Document.{lent_tables};
 ghost use Rattle.pl_topology.specs.Entries.{is_again, is_between, link_entry};
 ghost use Rattle.pl_wiring.specs.Labels.{IsArity};
-ghost use Rattle.pl_topology.specs.Refusal.{Gives, all_beside};
-ghost use Rattle.pl_topology.specs.Found.{FindsLinks, ends_of, same_pair};
+ghost use Rattle.pl_topology.specs.Refusal.{ReadingGives, all_beside};
+ghost use Rattle.pl_topology.specs.Found.{FindsLinkEntries, ends_of, same_pair};
 ghost use Rattle.pl_topology.specs.declared.entries.LinkEntry.{LinkEntry};
 
 use crate::document::integer_at;
@@ -35,8 +35,8 @@ pub(crate) fn read_links(
     tables: &[&Table],
 ) -> Result<LinkTables, TopologyError>
     requires { IsArity k }
-    ensures exact { Gives (λ l. l.entries.items) result (all_beside (link_entry k) [] (lent_tables tables.now)) }
-    ensures found { IfOk result (λ l. FindsLinks l.by_ends l.entries.items) }
+    ensures exact { ReadingGives (λ l. l.entries.items) result (all_beside (link_entry k) [] (lent_tables tables.now)) }
+    ensures found { IfOk result (λ l. FindsLinkEntries l.by_ends l.entries.items) }
 {
     let mut entries = Vec::new(alloc);
     let mut by_ends = HashMap::new(alloc);
@@ -51,7 +51,7 @@ pub(crate) fn read_links(
 #[tactic(auto, unfolding(crate::specs::Entries::link_entry))]
 fn read_link(k: u8, table: &Table, by_ends: &EntryByEnds) -> Result<LinkEntry, TopologyError>
     requires { IsArity k }
-    ensures { (before : List LinkEntry) → FindsLinks by_ends.now before → result ≡ link_entry k before (table_view table.now) }
+    ensures { (before : List LinkEntry) → FindsLinkEntries by_ends.now before → result ≡ link_entry k before (table_view table.now) }
 {
     let Some(a) = switch_value(k, table, Key::A) else {
         return Err(TopologyError::BadValue(Key::A));
@@ -79,7 +79,7 @@ fn read_link(k: u8, table: &Table, by_ends: &EntryByEnds) -> Result<LinkEntry, T
 
 // Whether a table before spoke of the same two switches.
 fn is_again(by_ends: &EntryByEnds, a: SwitchNo, b: Option<SwitchNo>) -> bool
-    ensures { (before : List LinkEntry) → FindsLinks by_ends.now before → result ≡ is_again a b before }
+    ensures { (before : List LinkEntry) → FindsLinkEntries by_ends.now before → result ≡ is_again a b before }
 {
     match b {
         Some(b) => entry_between(by_ends, a, b).is_some(),
@@ -90,7 +90,7 @@ fn is_again(by_ends: &EntryByEnds, a: SwitchNo, b: Option<SwitchNo>) -> bool
 /// What a table says of the link between two switches.
 pub(crate) fn entry_between(by_ends: &EntryByEnds, a: SwitchNo, b: SwitchNo) -> Option<LinkEntry>
     ensures has { result ≡ get same_pair by_ends.now (ends_of a b) }
-    ensures found { (entries : List LinkEntry) → FindsLinks by_ends.now entries → result ≡ find (is_between a b) entries }
+    ensures found { (entries : List LinkEntry) → FindsLinkEntries by_ends.now entries → result ≡ find (is_between a b) entries }
 {
     by_ends.get(&ends(a, b)).copied()
 }

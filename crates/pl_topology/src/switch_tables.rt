@@ -4,7 +4,7 @@ ghost use Rattle.toml.specs.View.{table_view};
 ghost use Rattle.pl_topology.specs.Document.{lent_tables};
 ghost use Rattle.pl_topology.specs.Entries.{switch_entry};
 ghost use Rattle.pl_wiring.specs.Labels.{IsArity};
-ghost use Rattle.pl_topology.specs.Refusal.{Gives, all_beside};
+ghost use Rattle.pl_topology.specs.Refusal.{ReadingGives, all_beside};
 ghost use Rattle.pl_topology.specs.Found.{FindsIds};
 ghost use Rattle.pl_topology.specs.declared.entries.SwitchEntry.{SwitchEntry};
 
@@ -30,7 +30,7 @@ pub(crate) fn read_switches(
     tables: &[&Table],
 ) -> Result<SwitchTables, TopologyError>
     requires { IsArity k }
-    ensures exact { Gives (λ s. s.entries.items) result (all_beside (switch_entry k) [] (lent_tables tables.now)) }
+    ensures exact { ReadingGives (λ s. s.entries.items) result (all_beside (switch_entry k) [] (lent_tables tables.now)) }
     ensures found { IfOk result (λ s. FindsIds s.ids s.entries.items) }
 {
     let mut entries = Vec::new(alloc);

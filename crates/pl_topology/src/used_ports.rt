@@ -1,18 +1,18 @@
 ghost use Rattle.std.specs.Prelude.{◌≡◌, ◌<◌, [], ◌∷◌, ◌++◌, List, map, pos, true, false, IfOk, IfSome, IfNone, OnOk, All};
 ghost use Rattle.std.specs.List.{filter, flat_map};
 ghost use Rattle.pl_topology.specs.declared.entries.PortUse.{PortUse};
-ghost use Rattle.pl_topology.specs.Checks.{are_joined, canonical_uses, host_uses, is_port, is_unspoken, kept_uses, link_uses, port_is_free, ports_differ};
-ghost use Rattle.pl_topology.specs.FileEntries.{AreFound};
-ghost use Rattle.pl_topology.specs.Entries.{HasEdge, HasEnds};
-ghost use Rattle.pl_topology.specs.Found.{FindsLinks, SeesPorts};
+ghost use Rattle.pl_topology.specs.Checks.{are_adjacent, canonical_uses, host_uses, is_port, is_unspoken, kept_uses, link_uses, port_is_free, ports_differ};
+ghost use Rattle.pl_topology.specs.FileEntries.{FindEntries};
+ghost use Rattle.pl_topology.specs.Entries.{HasEdge, NamesSwitches};
+ghost use Rattle.pl_topology.specs.Found.{FindsLinkEntries, SeesPorts};
 ghost use Rattle.pl_wiring.specs.Labels.{IsArity, label_of, switch_count};
-ghost use Rattle.pl_topology.specs.Refusal.{Gives, each_beside};
+ghost use Rattle.pl_topology.specs.Refusal.{ReadingGives, each_beside};
 ghost use Rattle.pl_topology.specs.declared.entries.LinkEntry.{LinkEntry};
 
+use crate::adjacent::are_adjacent;
 use crate::canonical::canonical_links;
 use crate::entries::{HostEntry, LinkEntry, PortUse};
 use crate::file_entries::FileEntries;
-use crate::joined::are_joined;
 use crate::link_tables::{EntryByEnds, entry_between};
 use crate::{Memory, TopologyError};
 use pl_wiring::{Link, label_at};
@@ -25,7 +25,7 @@ pub(crate) type UsedPorts = HashSet<(u32, u8)>;
 // The ports of the canonical links of which no table speaks.
 fn kept_ports(alloc: Global, k: u8, by_ends: &EntryByEnds) -> Result<UsedPorts, Memory>
     requires { IsArity k }
-    ensures { (given : List LinkEntry) → FindsLinks by_ends.now given → IfOk result (λ used. SeesPorts used (kept_uses k given)) }
+    ensures { (given : List LinkEntry) → FindsLinkEntries by_ends.now given → IfOk result (λ used. SeesPorts used (kept_uses k given)) }
 {
     let links = canonical_links(alloc, k)?;
     let mut used = HashSet::new(alloc);
@@ -36,7 +36,7 @@ fn kept_ports(alloc: Global, k: u8, by_ends: &EntryByEnds) -> Result<UsedPorts, 
 }
 
 fn keep_ports(used: &mut UsedPorts, by_ends: &EntryByEnds, link: &Link) -> Result<(), Memory>
-    ensures { (given : List LinkEntry) (before : List PortUse) → FindsLinks by_ends.now given → SeesPorts used.old before →
+    ensures { (given : List LinkEntry) (before : List PortUse) → FindsLinkEntries by_ends.now given → SeesPorts used.old before →
         OnOk result (SeesPorts used.new (before ++ flat_map canonical_uses (filter (is_unspoken given) (link.now ∷ [])))) }
 {
     match entry_between(by_ends, link.lower, link.upper) {
@@ -72,7 +72,7 @@ fn bad_port(k: u8, taken: &PortUse) -> TopologyError
 fn take_port(k: u8, used: &mut UsedPorts, taken: &PortUse) -> Result<(), TopologyError>
     requires arity { IsArity k }
     requires in_range { taken.now.switch.0 < switch_count k }
-    ensures exact { (before : List PortUse) → SeesPorts used.old before → Gives (λ u. u) result (port_is_free k before taken.now) }
+    ensures exact { (before : List PortUse) → SeesPorts used.old before → ReadingGives (λ u. u) result (port_is_free k before taken.now) }
     ensures sees { (before : List PortUse) → SeesPorts used.old before → OnOk result (SeesPorts used.new (before ++ taken.now ∷ [])) }
 {
     let Some(number) = number(k, taken) else {
@@ -90,7 +90,7 @@ fn take_port(k: u8, used: &mut UsedPorts, taken: &PortUse) -> Result<(), Topolog
 fn take_ports(k: u8, used: &mut UsedPorts, uses: &[PortUse]) -> Result<(), TopologyError>
     requires arity { IsArity k }
     requires in_range { All (λ taken. taken.switch.0 < switch_count k) uses.now }
-    ensures exact { (before : List PortUse) → SeesPorts used.old before → Gives (λ u. u) result (each_beside (port_is_free k) before uses.now) }
+    ensures exact { (before : List PortUse) → SeesPorts used.old before → ReadingGives (λ u. u) result (each_beside (port_is_free k) before uses.now) }
     ensures sees { (before : List PortUse) → SeesPorts used.old before → OnOk result (SeesPorts used.new (before ++ uses.now)) }
 {
     for taken in uses {
@@ -101,10 +101,10 @@ fn take_ports(k: u8, used: &mut UsedPorts, uses: &[PortUse]) -> Result<(), Topol
 
 fn link_uses(k: u8, entry: &LinkEntry) -> [PortUse; 2]
     requires arity { IsArity k }
-    requires in_range { HasEnds k entry.now }
+    requires in_range { NamesSwitches k entry.now }
     ensures { result ≡ link_uses k entry.now }
 {
-    let counts = are_joined(k, entry.a, entry.b);
+    let counts = are_adjacent(k, entry.a, entry.b);
     [
         PortUse {
             switch: entry.a,
@@ -132,9 +132,9 @@ fn host_uses(host: &HostEntry) -> [PortUse; 1]
 // The first port of a `link` table that is not there or that another link is at.
 fn link_ports(k: u8, used: &mut UsedPorts, entries: &[LinkEntry]) -> Result<(), TopologyError>
     requires arity { IsArity k }
-    requires in_range { All (HasEnds k) entries.now }
+    requires in_range { All (NamesSwitches k) entries.now }
     ensures exact { (before : List PortUse) → SeesPorts used.old before →
-        Gives (λ u. u) result (each_beside (port_is_free k) before (flat_map (link_uses k) entries.now)) }
+        ReadingGives (λ u. u) result (each_beside (port_is_free k) before (flat_map (link_uses k) entries.now)) }
     ensures sees { (before : List PortUse) → SeesPorts used.old before → OnOk result (SeesPorts used.new (before ++ flat_map (link_uses k) entries.now)) }
 {
     for entry in entries {
@@ -147,7 +147,7 @@ fn link_ports(k: u8, used: &mut UsedPorts, entries: &[LinkEntry]) -> Result<(), 
 fn host_ports(k: u8, used: &mut UsedPorts, hosts: &[HostEntry]) -> Result<(), TopologyError>
     requires arity { IsArity k }
     requires in_range { All (HasEdge k) hosts.now }
-    ensures { (before : List PortUse) → SeesPorts used.old before → Gives (λ u. u) result (each_beside (port_is_free k) before (flat_map host_uses hosts.now)) }
+    ensures { (before : List PortUse) → SeesPorts used.old before → ReadingGives (λ u. u) result (each_beside (port_is_free k) before (flat_map host_uses hosts.now)) }
 {
     for host in hosts {
         take_ports(k, used, &host_uses(host))?;
@@ -159,10 +159,10 @@ fn host_ports(k: u8, used: &mut UsedPorts, hosts: &[HostEntry]) -> Result<(), To
 #[tactic(auto, unfolding(crate::specs::Checks::ports_differ))]
 pub(crate) fn ports_differ(alloc: Global, k: u8, entries: &FileEntries) -> Result<(), TopologyError>
     requires arity { IsArity k }
-    requires found { AreFound entries.now }
-    requires links_in_range { All (HasEnds k) entries.now.links.entries.items }
+    requires found { FindEntries entries.now }
+    requires links_in_range { All (NamesSwitches k) entries.now.links.entries.items }
     requires hosts_in_range { All (HasEdge k) entries.now.hosts.items }
-    ensures { Gives (λ u. u) result (ports_differ k entries.now.links.entries.items entries.now.hosts.items) }
+    ensures { ReadingGives (λ u. u) result (ports_differ k entries.now.links.entries.items entries.now.hosts.items) }
 {
     let mut used = kept_ports(alloc, k, &entries.links.by_ends)?;
     link_ports(k, &mut used, &entries.links.entries)?;

@@ -10,7 +10,7 @@ use Rattle.std.proofs.lemmas.Bool.{lt-ltb, ltb-true}
 use Rattle.std.proofs.lemmas.Fmt.{decimal_nonempty}
 use Rattle.std.proofs.lemmas.List.{length-append}
 use Rattle.std.proofs.lemmas.Option.{cond_some}
-use Rattle.pl_lemmas.proofs.Options.{and_then_some, option_map_some}
+use Rattle.pl_lemmas.proofs.Exports.{and_then_some, option_map_some}
 use Rattle.pl_wiring.specs.Texts.{byte_of_text, ip_number, is_point, number_of_text}
 use Rattle.pl_wiring.proofs.LabelTexts.{before_point, behind_point, number_of-is, parted_at_point}
 use Rattle.pl_wiring.proofs.TextLemmas.{ip_number-read, number_of-decimal}

@@ -11,7 +11,7 @@ use Rattle.pl_wiring.specs.declared.link.Peer.{Peer}
 use Rattle.pl_wiring.specs.declared.link.Peer.TheVariants.{Switch, HostPort}
 use Rattle.pl_wiring.specs.Labels.{IsLabel, edge_count, number_of, label_of}
 use Rattle.pl_wiring.specs.FatTree.{IsAt, IsBelow, IsTreeLink, IsFatTree, IsInLinkOrder, above, link_count, lower_at, upper_at}
-use Rattle.pl_wiring.specs.Peers.{HasEnds, IsPeer, peer_among, IsPort, IsBetween}
+use Rattle.pl_wiring.specs.Peers.{HasEnds, IsPeer, peer_among, IsPort, LinksSwitches}
 use Rattle.pl_wiring.proofs.LabelOrder.{number_of-label_of, number_of-below}
 use Rattle.pl_wiring.proofs.LinkOrder.{lower_at-below}
 
@@ -159,13 +159,13 @@ none_joins k links lower upper pos order not_there n d within joins =
 
 -- nor in the other direction, since a link leads up
 pub none_between : (k : ℕ) (links : List Link) (a b : SwitchNo) → IsFatTree k links → a.0 ≤ b.0 →
-    All (λ (link : Link). (link.lower ≡ a) × (link.upper ≡ b) → ⊥) links → All (λ (link : Link). IsBetween link a.0 b.0 → ⊥) links
+    All (λ (link : Link). (link.lower ≡ a) × (link.upper ≡ b) → ⊥) links → All (λ (link : Link). LinksSwitches link a.0 b.0 → ⊥) links
 none_between k links a b tree order none n d within between = elim between [
   | inl e ↦ none n d within (same_switch (get_or links n d).lower a e.0, same_switch (get_or links n d).upper b e.1)
   | inr e ↦ (let rises = link_rises k (get_or links n d) (tree.no_other n d within) in absurd (omega (arith, e.0, e.1)))
 ]
 
-pub turned_none : (links : List Link) (a b : ℕ) → All (λ (link : Link). IsBetween link a b → ⊥) links → All (λ (link : Link). IsBetween link b a → ⊥) links
+pub turned_none : (links : List Link) (a b : ℕ) → All (λ (link : Link). LinksSwitches link a b → ⊥) links → All (λ (link : Link). LinksSwitches link b a → ⊥) links
 turned_none links a b none n d within between = none n d within (elim between [ inl e ↦ inr e | inr e ↦ inl e ])
 
 pub IsPeer-symmetric : (k : ℕ) (links : List Link) (switch : SwitchNo) (p : ℕ) (peer : Peer) → IsFatTree k links → IsPeer links switch.0 p peer →

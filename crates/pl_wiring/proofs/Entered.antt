@@ -8,7 +8,7 @@ use Rattle.std.proofs.lemmas.Nat.{mul-add-lt, same_from_place}
 use Rattle.pl_wiring.specs.declared.link.Link.{Link}
 use Rattle.pl_wiring.specs.declared.host.Host.{Host}
 use Rattle.pl_wiring.specs.Labels.{switch_count}
-use Rattle.pl_wiring.specs.Plan.{StandsAt}
+use Rattle.pl_wiring.specs.Plan.{IsAttachedAt}
 use Rattle.pl_wiring.specs.FatTree.{IsAt, IsTreeLink, IsFatTree}
 use Rattle.pl_wiring.specs.Index.{IsIndex, port_index, entry_at, look_at}
 use Rattle.pl_wiring.proofs.LabelOrder.{number_of-below}
@@ -141,16 +141,16 @@ enter_link k m links table d tree within long index =
     (λ n key less there here. tree.ports_apart n m d less within key.0 key.1 there here)
 
 pub enter_host : (k m : ℕ) (hosts : List Host) (table : List (Option ℕ)) (d : Host) →
-    All (λ h. (h.edge.0 < switch_count k) × (h.port < k)) hosts → AllPairs (λ g h. StandsAt g h.edge.0 h.port → ⊥) hosts → m < length hosts →
-    length table ≡ switch_count k * k → IsIndex (look_at k table) (λ (h : Host) (key : ℕ × ℕ). StandsAt h key.0 key.1) hosts m →
+    All (λ h. (h.edge.0 < switch_count k) × (h.port < k)) hosts → AllPairs (λ g h. IsAttachedAt g h.edge.0 h.port → ⊥) hosts → m < length hosts →
+    length table ≡ switch_count k * k → IsIndex (look_at k table) (λ (h : Host) (key : ℕ × ℕ). IsAttachedAt h key.0 key.1) hosts m →
     IsIndex (look_at k (set table (port_index k (get_or hosts m d).edge.0 (get_or hosts m d).port) (Some m)))
-    (λ (h : Host) (key : ℕ × ℕ). StandsAt h key.0 key.1) hosts (m + 1)
+    (λ (h : Host) (key : ℕ × ℕ). IsAttachedAt h key.0 key.1) hosts (m + 1)
 enter_host k m hosts table d in_range apart within long index =
     let here = in_range m d within in
     let low : port_index k (get_or hosts m d).edge.0 (get_or hosts m d).port < length table =
     rw long (port_index-below k (get_or hosts m d).edge.0 (get_or hosts m d).port (switch_count k) here.0 here.1) in
     IsIndex-more (look_at k table) (look_at k (set table (port_index k (get_or hosts m d).edge.0 (get_or hosts m d).port) (Some m)))
-    (λ (h : Host) (key : ℕ × ℕ). StandsAt h key.0 key.1) hosts m d within index
+    (λ (h : Host) (key : ℕ × ℕ). IsAttachedAt h key.0 key.1) hosts m d within index
     (λ key. same_port (get_or hosts m d).edge.0 (get_or hosts m d).port key.0 key.1)
     (λ key at. rw (← at.0, ← at.1) (entry_at-set_same None k table (get_or hosts m d).edge.0 (get_or hosts m d).port (Some m) here.1 low))
     (λ key away. entry_at-set_other None k table (get_or hosts m d).edge.0 (get_or hosts m d).port (Some m) key.0 key.1 here.1 away)

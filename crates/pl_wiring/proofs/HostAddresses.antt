@@ -4,7 +4,7 @@ use Rattle.std.specs.Str.{bytes_eq}
 use Rattle.std.proofs.lemmas.Bool.{and_parts, false≢true, ltb-true, eq-eqb, or_parts}
 use Rattle.std.proofs.lemmas.Slice.Eq.{bytes_eq-Decides}
 use Rattle.std.proofs.lemmas.Option.{cond_some}
-use Rattle.pl_lemmas.proofs.Options.{and_then_some, option_map_some}
+use Rattle.pl_lemmas.proofs.Exports.{and_then_some, option_map_some}
 use Rattle.pl_frame.specs.declared.address.Mac.{Mac}
 use Rattle.pl_frame.specs.declared.address.Ip4.{Ip4}
 use Rattle.pl_wiring.specs.Plan.{IsHostMac, IsHostIp}

@@ -12,13 +12,13 @@ use Rattle.std.proofs.lemmas.List.Sums.{passes_at_first, position_or_len_is, spl
 use Rattle.std.proofs.lemmas.Slice.Eq.{bytes_eq-Decides}
 use Rattle.std.proofs.lemmas.Str.Parse.{digit_at}
 use Rattle.std.proofs.lemmas.Option.{cond_some}
-use Rattle.pl_lemmas.proofs.Options.{and_then_some}
+use Rattle.pl_lemmas.proofs.Exports.{and_then_some}
 use Rattle.pl_wiring.specs.declared.label.Label.{Label}
 use Rattle.pl_wiring.specs.declared.label.Label.TheVariants.{Edge, Aggregation, Core}
 use Rattle.pl_wiring.specs.declared.label.SwitchNo.{SwitchNo}
 use Rattle.pl_wiring.specs.SwitchNames.{is_label, switch_named}
 use Rattle.pl_wiring.specs.Labels.{IsArity, IsLabel, label_of, label_text, number_of, switch_count}
-use Rattle.pl_wiring.specs.Texts.{IsWritable, is_point, label_from, label_of_text, number_of_text, numbers_of_text}
+use Rattle.pl_wiring.specs.Texts.{IsWritableLabel, is_point, label_from, label_of_text, number_of_text, numbers_of_text}
 use Rattle.pl_wiring.proofs.EntryLemmas.{is_label-Decides}
 use Rattle.pl_wiring.proofs.LabelOrder.{label_of-number_of, number_of-below}
 use Rattle.pl_wiring.proofs.TextLemmas.{number_of-decimal}
@@ -103,7 +103,7 @@ numbers_of-is text a b is =
 text_of : (letter a b : ℕ) (text : List ℕ) → text ≡ letter ∷ with_point a b → a < 2 ^ 16 → b < 2 ^ 16 → label_of_text text ≡ label_from letter (a, b)
 text_of letter a b text is small_a small_b = rw (is, numbers_of-written a b small_a small_b) refl
 
-pub label_of-label_text : (label : Label) → IsWritable label → label_of_text (label_text label) ≡ Some label
+pub label_of-label_text : (label : Label) → IsWritableLabel label → label_of_text (label_text label) ≡ Some label
 label_of-label_text (Edge pod i) is = text_of 101 pod i (label_text (Edge pod i)) (simp append_assoc) is.0 (omega (arith, is.1)) ∙ rw (lt-ltb i 256 is.1) refl
 label_of-label_text (Aggregation pod j) is = text_of 97 pod j (label_text (Aggregation pod j)) (simp append_assoc) is.0 (omega (arith, is.1)) ∙ rw (lt-ltb j 256 is.1) refl
 label_of-label_text (Core group m) is =
@@ -156,12 +156,12 @@ pub found_law : (text : List ℕ) (r : Option Label) → r ≡ label_of_text tex
 found_law text None is = tt
 found_law text (Some label) is = label_of-is text label (sym is)
 
-pub none_law : (text : List ℕ) (r : Option Label) → r ≡ label_of_text text → IfNone r ((label : Label) → IsWritable label → text ≢ label_text label)
+pub none_law : (text : List ℕ) (r : Option Label) → r ≡ label_of_text text → IfNone r ((label : Label) → IsWritableLabel label → text ≢ label_text label)
 none_law text None is = λ label writable same. let read = is ∙ ap label_of_text same ∙ label_of-label_text label writable in cc
 none_law text (Some label) is = tt
 
 -- a label of a tree has small numbers
-writable : (k : ℕ) (label : Label) → IsArity k → IsLabel k label → IsWritable label
+writable : (k : ℕ) (label : Label) → IsArity k → IsLabel k label → IsWritableLabel label
 writable k (Edge pod i) arity is = let most = arity.most in (omega (arith, is.0), omega (arith, is.1))
 writable k (Aggregation pod j) arity is = let most = arity.most in (omega (arith, is.0), omega (arith, is.1))
 writable k (Core group m) arity is = let most = arity.most in (omega (arith, is.0), omega (arith, is.1))

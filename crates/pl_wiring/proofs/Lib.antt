@@ -13,3 +13,4 @@ pub mod LabelTexts
 pub mod HostAddresses
 pub mod Linked
 pub mod DottedNumbers
+pub mod Exports

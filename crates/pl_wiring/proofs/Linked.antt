@@ -8,7 +8,7 @@ use Rattle.pl_wiring.specs.declared.link.Link.{Link}
 use Rattle.pl_wiring.specs.declared.link.Peer.{Peer}
 use Rattle.pl_wiring.specs.declared.link.Peer.TheVariants.{Switch, HostPort}
 use Rattle.pl_wiring.specs.FatTree.{IsAt, IsFatTree}
-use Rattle.pl_wiring.specs.Peers.{HasEnds, IsBetween, IsPeer, peer_among, peer_of}
+use Rattle.pl_wiring.specs.Peers.{HasEnds, LinksSwitches, IsPeer, peer_among, peer_of}
 use Rattle.pl_wiring.specs.Plan.{IsPlan, Plan}
 use Rattle.pl_wiring.proofs.Ends.{IsPeer-is, contained_at, link_rises, same_switch}
 
@@ -60,7 +60,7 @@ peer_is_none plan s p is = (
 
 -- two links between the same switches have one uplink
 pub one_between : (k : ℕ) (links : List Link) (m n : ℕ) (d : Link) (a b : ℕ) → IsFatTree k links → m < length links → n < length links →
-    IsBetween (get_or links m d) a b → IsBetween (get_or links n d) a b → m ≡ n
+    LinksSwitches (get_or links m d) a b → LinksSwitches (get_or links n d) a b → m ≡ n
 one_between k links m n d a b tree hm hn bm bn =
     let rm = link_rises k (get_or links m d) (tree.no_other m d hm) in
     let rn = link_rises k (get_or links n d) (tree.no_other n d hn) in
@@ -78,10 +78,10 @@ one_between k links m n d a b tree hm hn bm bn =
     ]
 
 -- so they are one
-pub same_between : (plan : Plan) (l m : Link) (a b : ℕ) → IsPlan plan → Contains plan.links l → Contains plan.links m → IsBetween l a b → IsBetween m a b → l ≡ m
+pub same_between : (plan : Plan) (l m : Link) (a b : ℕ) → IsPlan plan → Contains plan.links l → Contains plan.links m → LinksSwitches l a b → LinksSwitches m a b → l ≡ m
 same_between plan l m a b is there also_there bl bm =
     let at_l : get_or plan.links there.0 l ≡ l = there.2 in
     let at_m : get_or plan.links also_there.0 l ≡ m = get_or_default plan.links also_there.0 l m also_there.1 ∙ also_there.2 in
     let same = one_between plan.k plan.links there.0 also_there.0 l a b is.tree there.1 also_there.1
-    (subst (λ (x : Link). IsBetween x a b) (sym at_l) bl) (subst (λ (x : Link). IsBetween x a b) (sym at_m) bm) in
+    (subst (λ (x : Link). LinksSwitches x a b) (sym at_l) bl) (subst (λ (x : Link). LinksSwitches x a b) (sym at_m) bm) in
     sym at_l ∙ ap (λ n. get_or plan.links n l) same ∙ at_m

@@ -3,13 +3,13 @@ use Rattle.std.proofs.Common.{◌≡◌, ◌≢◌, ℕ, zero, suc, ◌*◌, ◌
 use Rattle.std.proofs.Math.ListN.{length-set, length-map}
 use Rattle.std.proofs.lemmas.Bool.{cases_lt, cases_eq}
 use Rattle.std.proofs.lemmas.List.{get_or_default}
-use Rattle.pl_lemmas.proofs.Options.{some_number}
+use Rattle.pl_lemmas.proofs.Exports.{some_number}
 use Rattle.pl_wiring.specs.declared.link.Link.{Link}
 use Rattle.pl_wiring.specs.Labels.{switch_count}
 use Rattle.pl_wiring.specs.FatTree.{IsAt, IsTreeLink, IsFatTree}
 use Rattle.pl_wiring.specs.Index.{port_index, entry_at, look_at}
 use Rattle.pl_wiring.specs.Tables.{FindsLinks}
-use Rattle.pl_wiring.specs.Peers.{IsBetween}
+use Rattle.pl_wiring.specs.Peers.{LinksSwitches}
 use Rattle.pl_wiring.specs.Plan.{Plan}
 use Rattle.pl_wiring.specs.LiveLinks.{LivePorts, is_live_at, is_live, IsFor}
 use Rattle.pl_wiring.proofs.LinkOrder.{no_link}
@@ -119,7 +119,7 @@ apart_from k links m n d tree hm hn differ s p at_n at_m = elim (cases_lt m n) [
 ]
 
 pub changed : (plan : Plan) (states : LivePorts) (link : Link) (live : Bool) (a b : ℕ) → IsFatTree plan.k plan.links → IsFor plan states →
-    Contains plan.links link → IsBetween link a b → All (λ l. IsBetween l a b → is_live (with_live states link live) l ≡ live) plan.links
+    Contains plan.links link → LinksSwitches link a b → All (λ l. LinksSwitches l a b → is_live (with_live states link live) l ≡ live) plan.links
 changed plan states link live a b tree for there between n d within now =
     let m = there.0 in
     let is : get_or plan.links m d ≡ link = get_or_default plan.links m d link there.1 ∙ there.2 in
@@ -129,12 +129,12 @@ changed plan states link live a b tree for there between n d within now =
     rw one (change.at_link link.lower.0 link.lower_port (inl (refl, refl)))
 
 pub others : (plan : Plan) (states : LivePorts) (link : Link) (live : Bool) (a b : ℕ) → IsFatTree plan.k plan.links → IsFor plan states →
-    Contains plan.links link → IsBetween link a b →
-    All (λ l. (IsBetween l a b → ⊥) → is_live (with_live states link live) l ≡ is_live states l) plan.links
+    Contains plan.links link → LinksSwitches link a b →
+    All (λ l. (LinksSwitches l a b → ⊥) → is_live (with_live states link live) l ≡ is_live states l) plan.links
 others plan states link live a b tree for there between n d within away =
     let m = there.0 in
     let is : get_or plan.links m d ≡ link = get_or_default plan.links m d link there.1 ∙ there.2 in
-    let differ : m ≢ n = (λ same. away (subst (λ i. IsBetween (get_or plan.links i d) a b) same (rw is between))) in
+    let differ : m ≢ n = (λ same. away (subst (λ i. LinksSwitches (get_or plan.links i d) a b) same (rw is between))) in
     let change = changes plan states link live tree for there in
     change.elsewhere (get_or plan.links n d).lower.0 (get_or plan.links n d).lower_port
     (λ at. apart_from plan.k plan.links m n d tree there.1 within differ (get_or plan.links n d).lower.0 (get_or plan.links n d).lower_port (inl (refl, refl)) (rw is at))

@@ -36,8 +36,8 @@ IsPort k (Switch t q) = (t.0 < switch_count k) × (q < k)
 IsPort k HostPort = Unit {0}
 
 -- the link joins these two switches, in either order
-abbrev pub IsBetween : Link → ℕ → ℕ → Type 0
-IsBetween link a b = ((link.lower.0 ≡ a) × (link.upper.0 ≡ b)) ⊎ ((link.lower.0 ≡ b) × (link.upper.0 ≡ a))
+abbrev pub LinksSwitches : Link → ℕ → ℕ → Type 0
+LinksSwitches link a b = ((link.lower.0 ≡ a) × (link.upper.0 ≡ b)) ⊎ ((link.lower.0 ≡ b) × (link.upper.0 ≡ a))
 
 -- the link leads up from the first switch to the second
 abbrev pub LeadsFrom : Link → SwitchNo → SwitchNo → Type 0

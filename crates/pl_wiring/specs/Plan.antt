@@ -18,8 +18,8 @@ pub record Plan : Type 0 where
   pub hosts : List Host
 
 -- the host stands at this port of this switch
-abbrev pub StandsAt : Host → ℕ → ℕ → Type 0
-StandsAt host switch port = (host.edge.0 ≡ switch) × (host.port ≡ port)
+abbrev pub IsAttachedAt : Host → ℕ → ℕ → Type 0
+IsAttachedAt host switch port = (host.edge.0 ≡ switch) × (host.port ≡ port)
 
 -- the MAC address of one host: six bytes, which name no group and are not all zero
 pub record IsHostMac (mac : Mac) : Type 0 where
@@ -43,7 +43,7 @@ pub record IsPlan (plan : Plan) : Type 0 where
   -- each host stands at a port of an edge switch that neither a link nor another host has
   pub at_edges : All (λ h. (h.edge.0 < edge_count plan.k) × (h.port < plan.k)) plan.hosts
   pub at_free_ports : All (λ h. All (λ l. IsAt l h.edge.0 h.port → ⊥) plan.links) plan.hosts
-  pub ports_apart : AllPairs (λ g h. StandsAt g h.edge.0 h.port → ⊥) plan.hosts
+  pub ports_apart : AllPairs (λ g h. IsAttachedAt g h.edge.0 h.port → ⊥) plan.hosts
   -- each host has addresses of one host
   pub host_macs : All (λ h. IsHostMac h.mac) plan.hosts
   pub host_ips : All (λ h. IsHostIp h.ip) plan.hosts

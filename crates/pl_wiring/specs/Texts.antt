@@ -103,7 +103,7 @@ abbrev pub is_capture : List ℕ → Bool
 is_capture text = nat_le 1 (length text) && nat_le (length text) 64 && list_all is_capture_byte text && not (is_point (slice_index text 0))
 
 -- a label whose numbers fit their types, as those of every tree do
-abbrev pub IsWritable : Label → Type 0
-IsWritable (Edge pod i) = (pod < 2 ^ 16) × (i < 2 ^ 8)
-IsWritable (Aggregation pod j) = (pod < 2 ^ 16) × (j < 2 ^ 8)
-IsWritable (Core group m) = (group < 2 ^ 8) × (m < 2 ^ 8)
+abbrev pub IsWritableLabel : Label → Type 0
+IsWritableLabel (Edge pod i) = (pod < 2 ^ 16) × (i < 2 ^ 8)
+IsWritableLabel (Aggregation pod j) = (pod < 2 ^ 16) × (j < 2 ^ 8)
+IsWritableLabel (Core group m) = (group < 2 ^ 8) × (m < 2 ^ 8)

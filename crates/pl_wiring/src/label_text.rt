@@ -1,7 +1,7 @@
 ghost use Rattle.std.specs.Prelude.{◌≡◌, ◌≢◌, ◌∷◌, ◌<◌, IfSome, IfNone, slice_index};
 ghost use Rattle.pl_wiring.specs.SwitchNames.{switch_named};
 ghost use Rattle.pl_wiring.specs.Labels.{IsArity, IsLabel, label_of, label_text, switch_count};
-ghost use Rattle.pl_wiring.specs.Texts.{IsWritable, label_of_text};
+ghost use Rattle.pl_wiring.specs.Texts.{IsWritableLabel, label_of_text};
 ghost use Rattle.pl_wiring.specs.declared.label.Label.{Label};
 
 use crate::order::{is_label, switch_at};
@@ -13,7 +13,7 @@ impl Label {
     pub fn read(text: &str) -> Option<Label>
         ensures exact { result ≡ label_of_text text.now }
         ensures found { IfSome result (λ label. text.now ≡ label_text label) }
-        ensures none { IfNone result ((label : Label) → IsWritable label → text.now ≢ label_text label) }
+        ensures none { IfNone result ((label : Label) → IsWritableLabel label → text.now ≢ label_text label) }
     {
         read_label(text)
     }

@@ -3,7 +3,7 @@ ghost use Rattle.pl_wiring.specs.declared.label.SwitchNo.{SwitchNo};
 ghost use Rattle.pl_wiring.specs.declared.link.Link.{Link};
 ghost use Rattle.pl_wiring.specs.declared.link.Peer.TheVariants.{HostPort, Switch};
 ghost use Rattle.pl_wiring.specs.FatTree.{IsAt};
-ghost use Rattle.pl_wiring.specs.Peers.{HasEnds, IsBetween, peer_of};
+ghost use Rattle.pl_wiring.specs.Peers.{HasEnds, LinksSwitches, peer_of};
 ghost use Rattle.pl_wiring.specs.Plan.{IsPlan, Plan};
 
 /// A port leads to a port of another switch exactly where a link of the wiring has these two as its
@@ -18,5 +18,5 @@ pub fn a_port_leads_to_the_other_end_of_its_link()
 /// Two links of a wiring that join the same two switches are one.
 pub fn two_switches_have_one_link()
     ensures { (plan : Plan) (l m : Link) (a b : ℕ) → IsPlan plan →
-        Contains plan.links l → Contains plan.links m → IsBetween l a b → IsBetween m a b → l ≡ m }
+        Contains plan.links l → Contains plan.links m → LinksSwitches l a b → LinksSwitches m a b → l ≡ m }
 {}

@@ -1,7 +1,7 @@
 ghost use Rattle.std.specs.Prelude.{◌≡◌, ◌↔◌, IsTrue, IfOk, All, Any, slice_index_or, false};
 ghost use Rattle.pl_wiring.specs.FatTree.{IsAt};
 ghost use Rattle.pl_wiring.specs.Plan.{Plan};
-ghost use Rattle.pl_wiring.specs.Peers.{IsBetween};
+ghost use Rattle.pl_wiring.specs.Peers.{LinksSwitches};
 ghost use Rattle.pl_wiring.specs.LiveLinks.{IsFor, IsLive, is_live_at, is_live};
 
 use crate::tables::index_in_table;
@@ -40,11 +40,11 @@ impl LinkStates {
     /// Makes the link of two switches live or failed, at both its ends, and no other link.
     pub fn set(&mut self, wiring: &Wiring, a: SwitchNo, b: SwitchNo, live: bool)
         requires made_for { IsFor wiring.now self.old }
-        requires linked { Any (λ l. IsBetween l a.0 b.0) wiring.now.links }
+        requires linked { Any (λ l. LinksSwitches l a.0 b.0) wiring.now.links }
         ensures made_for { IsFor wiring.now self.new }
         ensures changed { All (λ l.
-            IsBetween l a.0 b.0 → is_live self.new l ≡ live) wiring.now.links }
-        ensures others { All (λ l. ¬ IsBetween l a.0 b.0 →
+            LinksSwitches l a.0 b.0 → is_live self.new l ≡ live) wiring.now.links }
+        ensures others { All (λ l. ¬ LinksSwitches l a.0 b.0 →
             is_live self.new l ≡ is_live self.old l) wiring.now.links }
     {
         let link = wiring.link(a, b).unwrap();

@@ -1,7 +1,7 @@
 ghost use Rattle.std.specs.Prelude.{◌≡◌, ◌≢◌, ℕ, ◌*◌, ◌^◌, ◌<◌, IfOk, All, AllPairs, is_some, length, map, vec_len};
 ghost use Rattle.pl_wiring.specs.Labels.{IsArity, switch_count};
 ghost use Rattle.pl_wiring.specs.FatTree.{IsFatTree};
-ghost use Rattle.pl_wiring.specs.Plan.{StandsAt};
+ghost use Rattle.pl_wiring.specs.Plan.{IsAttachedAt};
 ghost use Rattle.pl_wiring.specs.Index.{look_at, port_index};
 ghost use Rattle.pl_wiring.specs.Tables.{FindsLinks, FindsHosts, FindsNames};
 
@@ -62,7 +62,7 @@ pub(crate) fn link_table(alloc: Global, k: u8, links: &[Link]) -> Result<PortTab
 pub(crate) fn host_table(alloc: Global, k: u8, hosts: &[Host]) -> Result<PortTable, Memory>
     requires arity { IsArity k }
     requires in_range { All (λ h. (h.edge.0 < switch_count k) × (h.port < k)) hosts.now }
-    requires apart { AllPairs (λ g h. ¬ StandsAt g h.edge.0 h.port) hosts.now }
+    requires apart { AllPairs (λ g h. ¬ IsAttachedAt g h.edge.0 h.port) hosts.now }
     requires few { length hosts.now < 2 ^ 32 }
     ensures long { IfOk result (λ table. vec_len table ≡ switch_count k * k) }
     ensures index { IfOk result (λ table. FindsHosts k table.items hosts.now) }

@@ -1,7 +1,7 @@
 ghost use Rattle.std.specs.Prelude.{◌≡◌, ◌≢◌, ℕ, ◌+◌, ◌*◌, ◌/◌, ◌%◌, ◌<◌, ◌↔◌, IsTrue, Some, IfOk, IfSome, IfNone, All, Contains, HoldsAt, length, slice_get};
 ghost use Rattle.pl_wiring.specs.Labels.{IsLabel, edge_count, switch_count, number_of, label_of};
-ghost use Rattle.pl_wiring.specs.Plan.{IsPlan, StandsAt, HasHost};
-ghost use Rattle.pl_wiring.specs.Peers.{IsPeer, peer_of, IsPort, IsBetween, LeadsFrom};
+ghost use Rattle.pl_wiring.specs.Plan.{IsPlan, IsAttachedAt, HasHost};
+ghost use Rattle.pl_wiring.specs.Peers.{IsPeer, peer_of, IsPort, LinksSwitches, LeadsFrom};
 ghost use Rattle.pl_wiring.specs.LiveLinks.{IsFor, IsLive};
 ghost use Rattle.pl_wiring.specs.declared.label.SwitchNo.{SwitchNo};
 
@@ -174,8 +174,8 @@ impl Wiring {
         requires switch { switch.0 < switch_count self.now.k }
         requires port { port < self.now.k }
         ensures found { IfSome result (λ host.
-            HasHost self.now host.0 (λ h. StandsAt h switch.0 port)) }
-        ensures none { IfNone result (All (λ h. ¬ StandsAt h switch.0 port) self.now.hosts) }
+            HasHost self.now host.0 (λ h. IsAttachedAt h switch.0 port)) }
+        ensures none { IfNone result (All (λ h. ¬ IsAttachedAt h switch.0 port) self.now.hosts) }
     {
         match look_at(&self.host_at, self.k, switch, port) {
             None => None,
@@ -186,8 +186,8 @@ impl Wiring {
     /// The link that joins two switches, in either order.
     pub fn link(&self, a: SwitchNo, b: SwitchNo) -> Option<Link>
         ensures found { IfSome result (λ link.
-            Contains self.now.links link × IsBetween link a.0 b.0) }
-        ensures none { IfNone result (All (λ link. ¬ IsBetween link a.0 b.0) self.now.links) }
+            Contains self.now.links link × LinksSwitches link a.0 b.0) }
+        ensures none { IfNone result (All (λ link. ¬ LinksSwitches link a.0 b.0) self.now.links) }
         ensures plan { IsPlan self.now }
     {
         if a.0 < b.0 {

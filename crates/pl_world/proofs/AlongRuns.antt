@@ -1,9 +1,9 @@
 -- What holds over each step and each mark, over nothing and over one thing behind another, holds over each run.
 use Rattle.std.proofs.Common.{◌≡◌, List, [], ◌∷◌, None, sym, subst}
 use Rattle.pl_journal.specs.declared.entry.Entry.{Entry}
-use Rattle.pl_logic.specs.HostInputs.{HostRule}
-use Rattle.pl_logic.specs.ManagerDuties.{ManagerRule}
-use Rattle.pl_logic.specs.SwitchInputs.{SwitchRule}
+use Rattle.pl_node.specs.HostInputs.{HostRule}
+use Rattle.pl_node.specs.ManagerDuties.{ManagerRule}
+use Rattle.pl_node.specs.SwitchInputs.{SwitchRule}
 use Rattle.pl_world.specs.declared.event.Event.{Event}
 use Rattle.pl_world.specs.Changes.{noted}
 use Rattle.pl_world.specs.Refusals.{refusal}

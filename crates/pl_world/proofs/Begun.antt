@@ -7,16 +7,16 @@ use Rattle.pl_wiring.specs.Labels.{IsArity, switch_count}
 use Rattle.pl_wiring.specs.LiveLinks.{IsFor, IsLive, LivePorts}
 use Rattle.pl_wiring.specs.Plan.{IsPlan, Plan}
 use Rattle.pl_journal.specs.declared.entry.Entry.{Entry}
-use Rattle.pl_logic.specs.declared.messages.ToManager.{ToManager}
-use Rattle.pl_logic.specs.declared.messages.ToSwitch.{ToSwitch}
-use Rattle.pl_logic.specs.HostViews.{HostView, boot_host}
-use Rattle.pl_logic.specs.ManagerViews.{ManagerView, booted_manager}
-use Rattle.pl_logic.specs.SwitchFacts.{CanBoot, IsTreeSize, switch_at_boot}
-use Rattle.pl_logic.specs.SwitchViews.{SwitchView}
-use Rattle.pl_world.specs.Booting.{CanBegin, all_live, booted, first_stand, me_of}
+use Rattle.pl_node.specs.declared.messages.ToManager.{ToManager}
+use Rattle.pl_node.specs.declared.messages.ToSwitch.{ToSwitch}
+use Rattle.pl_node.specs.HostViews.{HostView, boot_host}
+use Rattle.pl_node.specs.ManagerViews.{ManagerView, booted_manager}
+use Rattle.pl_node.specs.SwitchFacts.{CanBoot, IsTreeSize, switch_at_boot}
+use Rattle.pl_node.specs.SwitchViews.{SwitchView}
+use Rattle.pl_world.specs.Booting.{CanBegin, all_live, booted, first_attachment, me_of}
 use Rattle.pl_world.specs.declared.item.Item.{Item}
 use Rattle.pl_world.specs.declared.limits.Limits.{Limits}
-use Rattle.pl_world.specs.declared.stand.Stand.{Stand}
+use Rattle.pl_world.specs.declared.attachment.AttachmentPoint.{AttachmentPoint}
 use Rattle.pl_world.specs.Flying.{IsCounted, IsFormed}
 use Rattle.pl_world.specs.Hearing.{IsWithinHearing}
 use Rattle.pl_world.specs.Worlds.{WorldView}
@@ -71,14 +71,14 @@ begun_is_within plan limits few = record {
   few_steps = few;
 }
 
-module _ (plan : Plan) (limits : Limits) (atlas : Plan) (links : LivePorts) (stands : List Stand) (heard : List (Option ℕ)) (switches : List SwitchView)
+module _ (plan : Plan) (limits : Limits) (wiring_index : Plan) (links : LivePorts) (attachments : List AttachmentPoint) (heard : List (Option ℕ)) (switches : List SwitchView)
     (manager : ManagerView) (hosts : List HostView) (from_hosts out : List (List Item)) (to_manager : List (List ToManager))
     (from_manager : List (List ToSwitch)) (journal : List Entry) where
   -- each part is as at the beginning
   pub record IsAtFirst : Type 0 where
-    pub first_plan : atlas ≡ plan
+    pub first_plan : wiring_index ≡ plan
     pub first_links : links ≡ all_live plan
-    pub first_stands : stands ≡ map first_stand plan.hosts
+    pub first_attachments : attachments ≡ map first_attachment plan.hosts
     pub first_heard : heard ≡ replicate (length plan.hosts) None
     pub first_switches : switches ≡ map (λ id. switch_at_boot id plan.k) plan.ids
     pub first_manager : manager ≡ booted_manager plan.k
@@ -91,9 +91,9 @@ module _ (plan : Plan) (limits : Limits) (atlas : Plan) (links : LivePorts) (sta
 
   abbrev pub made_of_parts : WorldView
   made_of_parts = record {
-    plan = atlas;
+    plan = wiring_index;
     links = links;
-    stands = stands;
+    attachments = attachments;
     heard = heard;
     switches = switches;
     manager = manager;
@@ -109,7 +109,7 @@ module _ (plan : Plan) (limits : Limits) (atlas : Plan) (links : LivePorts) (sta
   }
 
   pub parts_make : IsAtFirst → made_of_parts ≡ booted plan limits
-  parts_make p = rw (p.first_plan, p.first_links, p.first_stands, p.first_heard, p.first_switches, p.first_manager, p.first_hosts, p.first_from_hosts, p.first_out, p.first_to_manager, p.first_from_manager, p.first_journal) refl
+  parts_make p = rw (p.first_plan, p.first_links, p.first_attachments, p.first_heard, p.first_switches, p.first_manager, p.first_hosts, p.first_from_hosts, p.first_out, p.first_to_manager, p.first_from_manager, p.first_journal) refl
 
   pub parts_formed : CanBegin plan → IsAtFirst → IsFormed made_of_parts
   parts_formed can p = subst IsFormed (sym (parts_make p)) (booted_is_counted plan limits can).formed

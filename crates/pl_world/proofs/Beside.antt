@@ -3,22 +3,22 @@ use Rattle.std.proofs.Common.{◌≡◌, ℕ, ◌+◌, Some, set, slice_get, ref
 use Rattle.pl_wiring.specs.declared.host.HostNo.{HostNo}
 use Rattle.pl_wiring.specs.declared.label.SwitchNo.{SwitchNo}
 use Rattle.pl_journal.specs.declared.entry.Entry.{Entry}
-use Rattle.pl_logic.specs.HostInputs.{HostAnswer, HostInput, HostRule}
-use Rattle.pl_logic.specs.ManagerDuties.{ManagerRule}
-use Rattle.pl_logic.specs.SwitchInputs.{SwitchInput, SwitchRule}
-use Rattle.pl_logic.specs.declared.messages.ToManager.{ToManager}
+use Rattle.pl_node.specs.HostInputs.{HostAnswer, HostInput, HostRule}
+use Rattle.pl_node.specs.ManagerDuties.{ManagerRule}
+use Rattle.pl_node.specs.SwitchInputs.{SwitchInput, SwitchRule}
+use Rattle.pl_node.specs.declared.messages.ToManager.{ToManager}
 use Rattle.pl_world.specs.declared.event.Event.{Event}
 use Rattle.pl_world.specs.declared.event.Event.TheVariants as event
 use Rattle.pl_world.specs.declared.item.Item.{Item}
 use Rattle.pl_world.specs.declared.spoken_frame.SpokenFrame.{SpokenFrame}
-use Rattle.pl_world.specs.declared.stand.Stand.{Stand}
+use Rattle.pl_world.specs.declared.attachment.AttachmentPoint.{AttachmentPoint}
 use Rattle.pl_world.specs.Changes.{begun_by}
 use Rattle.pl_world.specs.LinksAndMoves.{host_moved}
 use Rattle.pl_world.specs.WorldRule.{ComesOut, Happens, HostTurn, ManagerTurn, SwitchTurn, WorldStep}
 use Rattle.pl_world.specs.Worlds.{WorldView}
 use Rattle.pl_world.proofs.Leaving.{SwitchesWrite, Takes, Writes, host_acts_left, manager_acts_left, switch_acts_left}
 use Rattle.pl_world.proofs.Turning.{Left, Turned, Turns, event_left_but, out_left, turned}
-use Rattle.pl_world.proofs.Turning.Left.{Fails, Moves, Repairs, Stays}
+use Rattle.pl_world.proofs.Turning.Left.{LinkFails, Moves, Repairs, Stays}
 
 -- any entry may be written
 abbrev pub Any : Entry → Type 0
@@ -72,7 +72,7 @@ pub by_switch_acts : (rule : SwitchRule) (w : WorldView) (s : ℕ) (input : Swit
     ByActs (record w { switches = set w.switches s turn.after }) new
 by_switch_acts rule w s input speech new turn =
     switch_acts_left ByActs Any acts_write (any_of_switches ByActs (λ u e. refl)) (λ u i item. refl) (λ u t told. refl) s rule w input speech new
-        (λ place. tt) turn
+    (λ place. tt) turn
 
 pub by_host_acts : (rule : HostRule) (w : WorldView) (h : ℕ) (input : HostInput) (answer : HostAnswer) (new : WorldView) →
     (turn : HostTurn rule w h input answer new) →
@@ -122,7 +122,7 @@ pub by_switch : (rule : SwitchRule) (w : WorldView) (s : ℕ) (input : SwitchInp
 by_switch rule w s input speech new turn =
     switches_write.on w (record w { switches = set w.switches s turn.after }) new refl
     (switch_acts_left BySwitches Any switches_write (any_of_switches BySwitches (λ u e. refl)) (λ u i item. refl)
-        (λ u t told. refl) s rule w input speech new (λ place. tt) turn)
+    (λ u t told. refl) s rule w input speech new (λ place. tt) turn)
 
 -- ---- a turn of the manager
 abbrev pub ByManager : WorldView → WorldView → Type 0
@@ -144,12 +144,12 @@ by_manager rule w s told new turn =
 -- ---- whole events
 -- all but the wiring, its links, where hosts stand, the limits and how many steps were made
 abbrev pub ByTurns : WorldView → WorldView → Type 0
-ByTurns a b = b ≡ record b { plan = a.plan; links = a.links; stands = a.stands; limits = a.limits; steps = a.steps }
+ByTurns a b = b ≡ record b { plan = a.plan; links = a.links; attachments = a.attachments; limits = a.limits; steps = a.steps }
 
 turns_write : Writes ByTurns Any
 turns_write = record {
   same = λ w. refl;
-  on = λ a b c one next. next ∙ ap (λ (x : WorldView). record c { plan = x.plan; links = x.links; stands = x.stands; limits = x.limits; steps = x.steps }) one;
+  on = λ a b c one next. next ∙ ap (λ (x : WorldView). record c { plan = x.plan; links = x.links; attachments = x.attachments; limits = x.limits; steps = x.steps }) one;
   entry = λ w e may. refl;
   dropped = λ id cause. tt;
 }
@@ -178,8 +178,8 @@ ByEvents a b = b ≡ record b { plan = a.plan; limits = a.limits; steps = a.step
 
 -- and but where hosts stand, or a host moved
 pub data OrMoved (w : WorldView) (e : Event) (new : WorldView) : Type 0 where
-  NotMoved : new ≡ record new { plan = w.plan; stands = w.stands; limits = w.limits; steps = w.steps } → OrMoved w e new
-  HasMoved : (h : HostNo) (s : SwitchNo) (port : ℕ) (from : Stand) → e ≡ event.Move h s port → slice_get w.stands h.0 ≡ Some from →
+  NotMoved : new ≡ record new { plan = w.plan; attachments = w.attachments; limits = w.limits; steps = w.steps } → OrMoved w e new
+  HasMoved : (h : HostNo) (s : SwitchNo) (port : ℕ) (from : AttachmentPoint) → e ≡ event.Move h s port → slice_get w.attachments h.0 ≡ Some from →
       ByTurns (host_moved w h.0 from (record { edge = s; port = port })) new → OrMoved w e new
 
 module _ (switch : SwitchRule) (manager : ManagerRule) (host : HostRule) (w : WorldView) (e : Event) (new : WorldView)
@@ -195,19 +195,19 @@ module _ (switch : SwitchRule) (manager : ManagerRule) (host : HostRule) (w : Wo
   of_plan : Left ByTurns w e new → ByEvents w new
   of_plan (Stays r) = ap (λ (x : WorldView). record new { plan = x.plan; limits = x.limits; steps = x.steps }) r
   of_plan (Moves h s port from is at r) = ap (λ (x : WorldView). record new { plan = x.plan; limits = x.limits; steps = x.steps }) r
-  of_plan (Fails a b link is found fails) = ap (λ (x : WorldView). record new { plan = x.plan; limits = x.limits; steps = x.steps }) fails
+  of_plan (LinkFails a b link is found fails) = ap (λ (x : WorldView). record new { plan = x.plan; limits = x.limits; steps = x.steps }) fails
   of_plan (Repairs a b link is found repairs) = ap (λ (x : WorldView). record new { plan = x.plan; limits = x.limits; steps = x.steps }) repairs
 
   pub by_event : ByEvents w new
   by_event = of_plan by_event_but
 
   of_stands : Left ByTurns w e new → OrMoved w e new
-  of_stands (Stays r) = NotMoved (ap (λ (x : WorldView). record new { plan = x.plan; stands = x.stands; limits = x.limits; steps = x.steps }) r)
+  of_stands (Stays r) = NotMoved (ap (λ (x : WorldView). record new { plan = x.plan; attachments = x.attachments; limits = x.limits; steps = x.steps }) r)
   of_stands (Moves h s port from is at r) = HasMoved h s port from is at r
-  of_stands (Fails a b link is found fails) =
-      NotMoved (ap (λ (x : WorldView). record new { plan = x.plan; stands = x.stands; limits = x.limits; steps = x.steps }) fails)
+  of_stands (LinkFails a b link is found fails) =
+      NotMoved (ap (λ (x : WorldView). record new { plan = x.plan; attachments = x.attachments; limits = x.limits; steps = x.steps }) fails)
   of_stands (Repairs a b link is found repairs) =
-      NotMoved (ap (λ (x : WorldView). record new { plan = x.plan; stands = x.stands; limits = x.limits; steps = x.steps }) repairs)
+      NotMoved (ap (λ (x : WorldView). record new { plan = x.plan; attachments = x.attachments; limits = x.limits; steps = x.steps }) repairs)
 
   pub or_moved : OrMoved w e new
   or_moved = of_stands by_event_but

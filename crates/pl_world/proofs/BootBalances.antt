@@ -18,18 +18,17 @@ use Rattle.pl_wiring.specs.Labels.{edge_count, switch_count}
 use Rattle.pl_wiring.specs.LiveLinks.{IsFor, is_live_at}
 use Rattle.pl_wiring.specs.Peers.{peer_among, peer_of}
 use Rattle.pl_wiring.specs.Plan.{IsPlan, Plan}
-use Rattle.pl_wiring.proofs.Ends.{IsPeer-is, contained_at}
-use Rattle.pl_wiring.proofs.Entered.{entry_at-in_range, entry_at-out_of_range, port_index-below, tree_ends}
-use Rattle.pl_logic.specs.Accounting.{IsShaped}
-use Rattle.pl_logic.specs.HostDuties.{HoldsData}
-use Rattle.pl_logic.specs.HostViews.{boot_host}
+use Rattle.pl_wiring.proofs.Exports.{contained_at, entry_at-in_range, entry_at-out_of_range, IsPeer-is, port_index-below, tree_ends}
+use Rattle.pl_node.specs.Accounting.{IsShaped}
+use Rattle.pl_node.specs.HostDuties.{HoldsData}
+use Rattle.pl_node.specs.HostViews.{boot_host}
 use Rattle.pl_journal.specs.Places.{is_host_port}
-use Rattle.pl_logic.specs.SwitchFacts.{CanBoot, switch_at_boot}
-use Rattle.pl_logic.specs.SwitchViews.{SwitchView}
-use Rattle.pl_logic.proofs.Booted.{booted_is_shaped}
+use Rattle.pl_node.specs.SwitchFacts.{CanBoot, switch_at_boot}
+use Rattle.pl_node.specs.SwitchViews.{SwitchView}
+use Rattle.pl_node.proofs.Exports.{booted_is_shaped}
 use Rattle.pl_world.specs.declared.limits.Limits.{Limits}
-use Rattle.pl_world.specs.Booting.{CanBegin, all_live, booted, first_stand, host_table, me_of}
-use Rattle.pl_world.specs.Flying.{IsAtPort, IsCounted, IsDataItem, IsItem, times_in_all}
+use Rattle.pl_world.specs.Booting.{CanBegin, all_live, booted, first_attachment, host_table, me_of}
+use Rattle.pl_world.specs.Flying.{IsTreePort, IsCounted, IsDataItem, IsItem, times_in_all}
 use Rattle.pl_world.proofs.Counts.{born_none}
 
 -- what holds of each, of a list and of what is made of it
@@ -133,8 +132,8 @@ booted_is_counted plan limits can = let is = can.is_plan in record {
   formed = record {
     plan = is;
     links = all_live_is_for plan is;
-    stands = length-map plan.hosts first_stand;
-    at_ports = all_mapped (λ (h : Host). (h.edge.0 < edge_count plan.k) × (h.port < plan.k)) (IsAtPort plan.k) first_stand
+    attachments = length-map plan.hosts first_attachment;
+    at_ports = all_mapped (λ (h : Host). (h.edge.0 < edge_count plan.k) × (h.port < plan.k)) (IsTreePort plan.k) first_attachment
         (λ h at. record { edge = edges_are_switches plan.k h.edge.0 at.0; port = at.1 }) plan.hosts is.at_edges;
     heard = length-replicate (length plan.hosts) None;
     switches = length-map plan.ids (λ id. switch_at_boot id plan.k) ∙ is.ids_many;

@@ -14,21 +14,21 @@ use Rattle.pl_wiring.specs.FatTree.{IsTreeLink}
 use Rattle.pl_wiring.specs.Index.{port_index}
 use Rattle.pl_wiring.specs.Peers.{peer_of}
 use Rattle.pl_wiring.specs.Plan.{IsPlan, Plan}
-use Rattle.pl_wiring.proofs.Ends.{at_contained, link_rises}
-use Rattle.pl_logic.specs.declared.acts.Act.{Act}
-use Rattle.pl_logic.specs.declared.acts.HostAct.{HostAct}
-use Rattle.pl_logic.specs.declared.acts.HostAct.TheVariants.{Send}
-use Rattle.pl_logic.specs.declared.acts.ManagerAct.{ManagerAct}
-use Rattle.pl_logic.specs.declared.acts.ManagerAct.TheVariants.{Number, Say}
-use Rattle.pl_logic.specs.declared.messages.ToManager.{ToManager}
-use Rattle.pl_logic.specs.declared.messages.ToSwitch.{ToSwitch}
-use Rattle.pl_logic.specs.declared.reception.Reception.{Reception}
-use Rattle.pl_logic.specs.declared.reception.Reception.TheVariants.{Kept, NotMember}
-use Rattle.pl_logic.specs.HostInputs.{HostAnswer, HostInput, HostRule}
-use Rattle.pl_logic.specs.ManagerDuties.{ManagerRule}
-use Rattle.pl_logic.specs.SwitchInputs.{SwitchRule}
-use Rattle.pl_logic.specs.SwitchInputs.SwitchInput.{Says, Tick}
-use Rattle.pl_logic.specs.SwitchViews.{SwitchView}
+use Rattle.pl_wiring.proofs.Exports.{at_contained, link_rises}
+use Rattle.pl_node.specs.declared.acts.Act.{Act}
+use Rattle.pl_node.specs.declared.acts.HostAct.{HostAct}
+use Rattle.pl_node.specs.declared.acts.HostAct.TheVariants.{Send}
+use Rattle.pl_node.specs.declared.acts.ManagerAct.{ManagerAct}
+use Rattle.pl_node.specs.declared.acts.ManagerAct.TheVariants.{Number, Say}
+use Rattle.pl_node.specs.declared.messages.ToManager.{ToManager}
+use Rattle.pl_node.specs.declared.messages.ToSwitch.{ToSwitch}
+use Rattle.pl_node.specs.declared.reception.Reception.{Reception}
+use Rattle.pl_node.specs.declared.reception.Reception.TheVariants.{Kept, NotMember}
+use Rattle.pl_node.specs.HostInputs.{HostAnswer, HostInput, HostRule}
+use Rattle.pl_node.specs.ManagerDuties.{ManagerRule}
+use Rattle.pl_node.specs.SwitchInputs.{SwitchRule}
+use Rattle.pl_node.specs.SwitchInputs.SwitchInput.{Says, Tick}
+use Rattle.pl_node.specs.SwitchViews.{SwitchView}
 use Rattle.pl_journal.specs.declared.cause.Cause.{Cause}
 use Rattle.pl_journal.specs.declared.cause.Cause.TheVariants.{HostGone, LinkDown, Lost, NoMember}
 use Rattle.pl_journal.specs.declared.cause.Skip.{Skip}
@@ -42,13 +42,13 @@ use Rattle.pl_world.specs.declared.item.Item.{Item}
 use Rattle.pl_world.specs.declared.item.Item.TheVariants.{Control, Data}
 use Rattle.pl_world.specs.declared.spoken_frame.SpokenFrame.{SpokenFrame}
 use Rattle.pl_world.specs.declared.spoken_frame.SpokenFrame.TheVariants.{Silent}
-use Rattle.pl_world.specs.declared.stand.Stand.{Stand}
+use Rattle.pl_world.specs.declared.attachment.AttachmentPoint.{AttachmentPoint}
 use Rattle.pl_world.specs.Changes.{ends_of, host_no, out_of, receiver, said_to}
 use Rattle.pl_world.specs.Drops.{Coming, Turn, at_port, coming, coming_at, coming_from_manager, coming_in, coming_over, dropped, dropped_at, dropped_from, drops_in, made, made_at, made_in, number_in, on_link, turn_at_host, turn_at_switch, turn_from_host, turn_from_manager, turn_in, turn_of, turn_out, turn_over, written}
 use Rattle.pl_world.specs.Drops.Turn.{OfHost, OfSwitch, Other}
 use Rattle.pl_world.specs.LinksAndMoves.{joins, link_between}
 use Rattle.pl_world.specs.OtherActs.{host_act_done, manager_act_done, reception_noted, skip_noted}
-use Rattle.pl_world.specs.WorldRule.{ComesAtHost, ComesAtSwitch, ComesIn, ComesOver, DeliversFromHost, DeliversFromManager, DeliversOut, DeliversToManager, Fails, Goes, HostTurn, HostPlays, IsRepaired, Loses, SwitchTurn, WorldStep, heard_item}
+use Rattle.pl_world.specs.WorldRule.{ComesAtHost, ComesAtSwitch, ComesIn, ComesOver, DeliversFromHost, DeliversFromManager, DeliversOut, DeliversToManager, LinkFails, HostMoves, HostTurn, HostPlays, LinkIsRepaired, Loses, SwitchTurn, WorldStep, heard_item}
 use Rattle.pl_world.specs.Worlds.{WorldView}
 use Rattle.pl_world.proofs.StepBalances.{found_contained}
 use Rattle.pl_world.proofs.SwitchDrops.{Adds, adds_drop, adds_is, adds_listed, adds_nothing, adds_quiet, adds_then, none_came, one_came}
@@ -123,7 +123,7 @@ module _ (w : WorldView) (n : ℕ) where
   adds_lost s port (Control frame ∷ items) new gone = subst (λ (x : WorldView). Adds w.journal x.journal [] []) (sym gone) (adds_nothing w.journal)
   adds_lost s port (Data id frame ∷ items) new gone = subst (λ (x : WorldView). Adds w.journal x.journal ((id, Lost) ∷ []) []) (sym gone) (adds_drop w.journal id Lost)
 
-  adds_failed : (a b : ℕ) (link : Option Link) (new : WorldView) → IsPlan w.plan → link_between w.plan a b ≡ link → Fails (record w { steps = n }) link new →
+  adds_failed : (a b : ℕ) (link : Option Link) (new : WorldView) → IsPlan w.plan → link_between w.plan a b ≡ link → LinkFails (record w { steps = n }) link new →
       Adds w.journal new.journal (dropped_from (on_link w link) LinkDown) []
   adds_failed a b None new plan found is = absurd is
   adds_failed a b (Some link) new plan found is =
@@ -137,7 +137,7 @@ module _ (w : WorldView) (n : ℕ) where
       (adds_then (adds_quiet w.journal (WentDown link.lower link.upper) refl refl)
       (adds_then (adds_ends (w.journal ++ WentDown link.lower link.upper ∷ []) LinkDown up) (adds_ends _ LinkDown (items_at (set w.out one []) other)))))
 
-  adds_gone : (host : HostRule) (h : ℕ) (to : Stand) (from : Option Stand) (new : WorldView) → Goes host (record w { steps = n }) h to from new →
+  adds_gone : (host : HostRule) (h : ℕ) (to : AttachmentPoint) (from : Option AttachmentPoint) (new : WorldView) → HostMoves host (record w { steps = n }) h to from new →
       Adds w.journal new.journal (dropped_from (items_at w.from_hosts h ++ at_port w from) HostGone) []
   adds_gone host h to None new goes = absurd goes
   adds_gone host h to (Some from) new goes =
@@ -147,7 +147,7 @@ module _ (w : WorldView) (n : ℕ) where
       (adds_then (adds_ends (w.journal ++ Moved (host_no h) to.edge to.port ∷ []) HostGone (items_at w.from_hosts h))
       (adds_ends _ HostGone (out_of w from.edge.0 from.port)))))
 
-  repaired : (link : Option Link) (new : WorldView) → IsRepaired (record w { steps = n }) link new → Adds w.journal new.journal [] []
+  repaired : (link : Option Link) (new : WorldView) → LinkIsRepaired (record w { steps = n }) link new → Adds w.journal new.journal [] []
   repaired None new is = absurd is
   repaired (Some link) new is = subst (λ (x : WorldView). Adds w.journal x.journal [] []) (sym is) (adds_quiet w.journal (LinkUp link.lower link.upper) refl refl)
 
@@ -183,18 +183,18 @@ module _ (switch : SwitchRule) (manager : ManagerRule) (host : HostRule) where
   at_switch w s port (Control frame) new turn = none_came switch w s _ new turn
   at_switch w s port (Data id frame) new turn = one_came switch w s _ id new turn
 
-  comes_in : (w : WorldView) (h : ℕ) (item : Item) (items : List Item) (stand : Option Stand) (new : WorldView) (turn : ComesIn switch w h item stand new) →
-      AddsBySwitch w new (coming_in (item ∷ items) stand) (turn_in switch manager host w h item stand new turn)
+  comes_in : (w : WorldView) (h : ℕ) (item : Item) (items : List Item) (attachment : Option AttachmentPoint) (new : WorldView) (turn : ComesIn switch w h item attachment new) →
+      AddsBySwitch w new (coming_in (item ∷ items) attachment) (turn_in switch manager host w h item attachment new turn)
   comes_in w h item items None new turn = absurd turn
-  comes_in w h (Control frame) items (Some stand) new turn = at_switch w stand.edge.0 stand.port (Control frame) new turn
-  comes_in w h (Data id frame) items (Some stand) new turn = at_switch (heard_item w h (Data id frame)) stand.edge.0 stand.port (Data id frame) new turn
+  comes_in w h (Control frame) items (Some attachment) new turn = at_switch w attachment.edge.0 attachment.port (Control frame) new turn
+  comes_in w h (Data id frame) items (Some attachment) new turn = at_switch (heard_item w h (Data id frame)) attachment.edge.0 attachment.port (Data id frame) new turn
 
   module _ (old : WorldView) (n : ℕ) where
     from_host : (h : ℕ) (items : List Item) (new : WorldView) (turn : DeliversFromHost switch (record old { steps = n }) h items new) →
-        AddsBySwitch old new (coming_in items (slice_get old.stands h)) (turn_from_host switch manager host (record old { steps = n }) h items new turn)
+        AddsBySwitch old new (coming_in items (slice_get old.attachments h)) (turn_from_host switch manager host (record old { steps = n }) h items new turn)
     from_host h [] new turn = absurd turn
     from_host h (item ∷ items) new turn =
-        comes_in (record old { steps = n; from_hosts = set old.from_hosts h items }) h item items (slice_get old.stands h) new turn
+        comes_in (record old { steps = n; from_hosts = set old.from_hosts h items }) h item items (slice_get old.attachments h) new turn
 
     from_manager : (s : ℕ) (items : List ToSwitch) (new : WorldView) (turn : DeliversFromManager switch (record old { steps = n }) s items new) →
         AddsBySwitch old new (coming_from_manager s items) (turn_from_manager switch manager host (record old { steps = n }) s items new turn)
@@ -270,7 +270,7 @@ module _ (switch : SwitchRule) (manager : ManagerRule) (host : HostRule) where
   adds old (event.Fail a b) new step plan = adds_failed old (old.steps + 1) a.0 b.0 (link_between old.plan a.0 b.0) new plan refl step
   adds old (event.Repair a b) new step plan = repaired old (old.steps + 1) (link_between old.plan a.0 b.0) new step
   adds old (event.Lose s port) new step plan = adds_lost old (old.steps + 1) s.0 port (out_of old s.0 port) new step
-  adds old (event.Move h s port) new step plan = adds_gone old (old.steps + 1) host h.0 _ (slice_get old.stands h.0) new step
+  adds old (event.Move h s port) new step plan = adds_gone old (old.steps + 1) host h.0 _ (slice_get old.attachments h.0) new step
   adds old (event.Start h) new step plan = adds_turn host _ h.0 _ _ new step
   adds old (event.Play h frame original raw) new step plan = adds_played host _ h.0 _ new step
   adds old (event.Retry h) new step plan = adds_turn host _ h.0 _ _ new step
@@ -311,18 +311,18 @@ module _ (switch : SwitchRule) (manager : ManagerRule) (host : HostRule) where
   took_at w s port (Control frame) new turn c is = took_one w.switches _ c _ is (took_turn w (coming_at s port (Control frame)) _ new turn)
   took_at w s port (Data id frame) new turn c is = took_one w.switches _ c _ is (took_turn _ (coming_at s port (Data id frame)) _ new turn)
 
-  took_in : (w : WorldView) (h : ℕ) (item : Item) (items : List Item) (stand : Option Stand) (new : WorldView) (turn : ComesIn switch w h item stand new) →
-      TookIt w (coming_in (item ∷ items) stand) (turn_in switch manager host w h item stand new turn)
+  took_in : (w : WorldView) (h : ℕ) (item : Item) (items : List Item) (attachment : Option AttachmentPoint) (new : WorldView) (turn : ComesIn switch w h item attachment new) →
+      TookIt w (coming_in (item ∷ items) attachment) (turn_in switch manager host w h item attachment new turn)
   took_in w h item items None new turn = absurd turn
-  took_in w h (Control frame) items (Some stand) new turn = took_at w stand.edge.0 stand.port (Control frame) new turn
-  took_in w h (Data id frame) items (Some stand) new turn = took_at (heard_item w h (Data id frame)) stand.edge.0 stand.port (Data id frame) new turn
+  took_in w h (Control frame) items (Some attachment) new turn = took_at w attachment.edge.0 attachment.port (Control frame) new turn
+  took_in w h (Data id frame) items (Some attachment) new turn = took_at (heard_item w h (Data id frame)) attachment.edge.0 attachment.port (Data id frame) new turn
 
   module _ (old : WorldView) (n : ℕ) where
     took_from_host : (h : ℕ) (items : List Item) (new : WorldView) (turn : DeliversFromHost switch (record old { steps = n }) h items new) →
-        TookIt old (coming_in items (slice_get old.stands h)) (turn_from_host switch manager host (record old { steps = n }) h items new turn)
+        TookIt old (coming_in items (slice_get old.attachments h)) (turn_from_host switch manager host (record old { steps = n }) h items new turn)
     took_from_host h [] new turn = absurd turn
     took_from_host h (item ∷ items) new turn =
-        took_in (record old { steps = n; from_hosts = set old.from_hosts h items }) h item items (slice_get old.stands h) new turn
+        took_in (record old { steps = n; from_hosts = set old.from_hosts h items }) h item items (slice_get old.attachments h) new turn
 
     took_from_manager : (s : ℕ) (items : List ToSwitch) (new : WorldView) (turn : DeliversFromManager switch (record old { steps = n }) s items new) →
         TookIt old (coming_from_manager s items) (turn_from_manager switch manager host (record old { steps = n }) s items new turn)

@@ -8,25 +8,25 @@ use Rattle.pl_wiring.specs.declared.link.Peer.TheVariants.{HostPort, Switch}
 use Rattle.pl_wiring.specs.Index.{port_index}
 use Rattle.pl_wiring.specs.Peers.{peer_of}
 use Rattle.pl_journal.specs.declared.cause.Skip.{Skip}
-use Rattle.pl_logic.specs.declared.messages.ToManager.{ToManager}
-use Rattle.pl_logic.specs.declared.messages.ToSwitch.{ToSwitch}
-use Rattle.pl_logic.specs.HostInputs.{HostInput, HostRule}
-use Rattle.pl_logic.specs.HostInputs.HostAnswer.{Nothing, Played}
-use Rattle.pl_logic.specs.HostInputs.HostInput.{HasMoved, Joins, Leaves, Retries, Starts}
-use Rattle.pl_logic.specs.ManagerDuties.{ManagerRule}
-use Rattle.pl_logic.specs.SwitchInputs.{SwitchRule}
-use Rattle.pl_logic.specs.SwitchInputs.SwitchInput.{Says, Tick}
+use Rattle.pl_node.specs.declared.messages.ToManager.{ToManager}
+use Rattle.pl_node.specs.declared.messages.ToSwitch.{ToSwitch}
+use Rattle.pl_node.specs.HostInputs.{HostInput, HostRule}
+use Rattle.pl_node.specs.HostInputs.HostAnswer.{Nothing, Played}
+use Rattle.pl_node.specs.HostInputs.HostInput.{HasMoved, Joins, Leaves, Retries, Starts}
+use Rattle.pl_node.specs.ManagerDuties.{ManagerRule}
+use Rattle.pl_node.specs.SwitchInputs.{SwitchRule}
+use Rattle.pl_node.specs.SwitchInputs.SwitchInput.{Says, Tick}
 use Rattle.pl_queues.specs.Queues.{items_at}
 use Rattle.pl_world.specs.declared.event.Event.{Event}
 use Rattle.pl_world.specs.declared.event.Event.TheVariants as event
 use Rattle.pl_world.specs.declared.event.QueueName.TheVariants as queue
 use Rattle.pl_world.specs.declared.item.Item.{Item}
 use Rattle.pl_world.specs.declared.spoken_frame.SpokenFrame.TheVariants.{Silent}
-use Rattle.pl_world.specs.declared.stand.Stand.{Stand}
+use Rattle.pl_world.specs.declared.attachment.AttachmentPoint.{AttachmentPoint}
 use Rattle.pl_world.specs.Changes.{out_of}
 use Rattle.pl_world.specs.LinksAndMoves.{host_moved, item_lost, link_between, link_failed, link_repaired}
 use Rattle.pl_world.specs.OtherActs.{heard_after_tick, skip_noted}
-use Rattle.pl_world.specs.WorldRule.{ComesAtSwitch, ComesIn, ComesOut, ComesOver, DeliversFromHost, DeliversFromManager, DeliversOut, DeliversToManager, Fails, Goes, Happens, HostTurn, IsRepaired, Loses, ManagerTurn, SwitchTurn, heard_item, played_as}
+use Rattle.pl_world.specs.WorldRule.{ComesAtSwitch, ComesIn, ComesOut, ComesOver, DeliversFromHost, DeliversFromManager, DeliversOut, DeliversToManager, LinkFails, HostMoves, Happens, HostTurn, LinkIsRepaired, Loses, ManagerTurn, SwitchTurn, heard_item, played_as}
 use Rattle.pl_world.specs.Worlds.{WorldView}
 
 -- whom an event asks, and for what, where it asks a host for no more than a turn
@@ -40,9 +40,9 @@ asked_by e = None
 
 pub data Happened (switch : SwitchRule) (manager : ManagerRule) (host : HostRule) (w : WorldView) (e : Event) (new : WorldView) : Type 0 where
   -- an item of a host comes where the host stands
-  FromHost : (h : HostNo) (item : Item) (items : List Item) (stand : Stand) → e ≡ event.Deliver (queue.FromHost h) → items_at w.from_hosts h.0 ≡ item ∷ items →
-      slice_get w.stands h.0 ≡ Some stand →
-      ComesAtSwitch switch (heard_item (record w { from_hosts = set w.from_hosts h.0 items }) h.0 item) stand.edge.0 stand.port item new →
+  FromHost : (h : HostNo) (item : Item) (items : List Item) (attachment : AttachmentPoint) → e ≡ event.Deliver (queue.FromHost h) → items_at w.from_hosts h.0 ≡ item ∷ items →
+      slice_get w.attachments h.0 ≡ Some attachment →
+      ComesAtSwitch switch (heard_item (record w { from_hosts = set w.from_hosts h.0 items }) h.0 item) attachment.edge.0 attachment.port item new →
       Happened switch manager host w e new
   -- an item comes over a link, or out of a host port
   OverLink : (s : SwitchNo) (port : ℕ) (item : Item) (items : List Item) (t : SwitchNo) (q : ℕ) → e ≡ event.Deliver (queue.Port s port) →
@@ -56,7 +56,7 @@ pub data Happened (switch : SwitchRule) (manager : ManagerRule) (host : HostRule
       ManagerTurn manager (record w { to_manager = set w.to_manager s.0 items }) s.0 told new → Happened switch manager host w e new
   Ordered : (s : SwitchNo) (says : ToSwitch) (items : List ToSwitch) → e ≡ event.Deliver (queue.FromManager s) → items_at w.from_manager s.0 ≡ says ∷ items →
       SwitchTurn switch (record w { from_manager = set w.from_manager s.0 items }) s.0 (Says says) Silent new → Happened switch manager host w e new
-  Ticked : (s : SwitchNo) → e ≡ event.Tick s → SwitchTurn switch (record w { heard = heard_after_tick s.0 w.stands w.heard }) s.0 Tick Silent new →
+  Ticked : (s : SwitchNo) → e ≡ event.Tick s → SwitchTurn switch (record w { heard = heard_after_tick s.0 w.attachments w.heard }) s.0 Tick Silent new →
       Happened switch manager host w e new
   Failed : (a b : SwitchNo) (link : Link) → e ≡ event.Fail a b → link_between w.plan a.0 b.0 ≡ Some link → new ≡ link_failed w link →
       Happened switch manager host w e new
@@ -64,7 +64,7 @@ pub data Happened (switch : SwitchRule) (manager : ManagerRule) (host : HostRule
       Happened switch manager host w e new
   Lost : (s : SwitchNo) (port : ℕ) (item : Item) (items : List Item) → e ≡ event.Lose s port → out_of w s.0 port ≡ item ∷ items →
       new ≡ item_lost (record w { out = set w.out (port_index w.plan.k s.0 port) items }) item → Happened switch manager host w e new
-  Departed : (h : HostNo) (s : SwitchNo) (port : ℕ) (from : Stand) → e ≡ event.Move h s port → slice_get w.stands h.0 ≡ Some from →
+  Departed : (h : HostNo) (s : SwitchNo) (port : ℕ) (from : AttachmentPoint) → e ≡ event.Move h s port → slice_get w.attachments h.0 ≡ Some from →
       HostTurn host (host_moved w h.0 from (record { edge = s; port = port })) h.0 HasMoved Nothing new → Happened switch manager host w e new
   -- a host plays a frame, or does what else it was asked for
   PlayedFrame : (h : HostNo) (input : HostInput) (skip : Option Skip) → asked_by e ≡ Some (h.0, input) →
@@ -75,16 +75,16 @@ module _ (switch : SwitchRule) (manager : ManagerRule) (host : HostRule) (w : Wo
   abbrev This : Type 0
   This = Happened switch manager host w e new
 
-  came_in : (h : HostNo) (item : Item) (items : List Item) (place : Option Stand) → e ≡ event.Deliver (queue.FromHost h) →
+  came_in : (h : HostNo) (item : Item) (items : List Item) (place : Option AttachmentPoint) → e ≡ event.Deliver (queue.FromHost h) →
       items_at w.from_hosts h.0 ≡ item ∷ items →
-      slice_get w.stands h.0 ≡ place → ComesIn switch (record w { from_hosts = set w.from_hosts h.0 items }) h.0 item place new → This
+      slice_get w.attachments h.0 ≡ place → ComesIn switch (record w { from_hosts = set w.from_hosts h.0 items }) h.0 item place new → This
   came_in h item items None is head at comes = absurd comes
-  came_in h item items (Some stand) is head at comes = FromHost h item items stand is head at comes
+  came_in h item items (Some attachment) is head at comes = FromHost h item items attachment is head at comes
 
   from_host : (h : HostNo) (queued : List Item) → e ≡ event.Deliver (queue.FromHost h) → items_at w.from_hosts h.0 ≡ queued →
       DeliversFromHost switch w h.0 queued new → This
   from_host h [] is head comes = absurd comes
-  from_host h (item ∷ items) is head comes = came_in h item items (slice_get w.stands h.0) is head refl comes
+  from_host h (item ∷ items) is head comes = came_in h item items (slice_get w.attachments h.0) is head refl comes
 
   came_over : (s : SwitchNo) (port : ℕ) (item : Item) (items : List Item) (peer : Peer) → e ≡ event.Deliver (queue.Port s port) →
       out_of w s.0 port ≡ item ∷ items →
@@ -107,11 +107,11 @@ module _ (switch : SwitchRule) (manager : ManagerRule) (host : HostRule) (w : Wo
   from_manager s [] is head turn = absurd turn
   from_manager s (says ∷ items) is head turn = Ordered s says items is head turn
 
-  failed : (a b : SwitchNo) (link : Option Link) → e ≡ event.Fail a b → link_between w.plan a.0 b.0 ≡ link → Fails w link new → This
+  failed : (a b : SwitchNo) (link : Option Link) → e ≡ event.Fail a b → link_between w.plan a.0 b.0 ≡ link → LinkFails w link new → This
   failed a b None is found fails = absurd fails
   failed a b (Some link) is found fails = Failed a b link is found fails
 
-  repaired : (a b : SwitchNo) (link : Option Link) → e ≡ event.Repair a b → link_between w.plan a.0 b.0 ≡ link → IsRepaired w link new → This
+  repaired : (a b : SwitchNo) (link : Option Link) → e ≡ event.Repair a b → link_between w.plan a.0 b.0 ≡ link → LinkIsRepaired w link new → This
   repaired a b None is found repairs = absurd repairs
   repaired a b (Some link) is found repairs = Repaired a b link is found repairs
 
@@ -119,8 +119,8 @@ module _ (switch : SwitchRule) (manager : ManagerRule) (host : HostRule) (w : Wo
   lost s port [] is head loses = absurd loses
   lost s port (item ∷ items) is head loses = Lost s port item items is head loses
 
-  moved : (h : HostNo) (s : SwitchNo) (port : ℕ) (from : Option Stand) → e ≡ event.Move h s port → slice_get w.stands h.0 ≡ from →
-      Goes host w h.0 (record { edge = s; port = port }) from new → This
+  moved : (h : HostNo) (s : SwitchNo) (port : ℕ) (from : Option AttachmentPoint) → e ≡ event.Move h s port → slice_get w.attachments h.0 ≡ from →
+      HostMoves host w h.0 (record { edge = s; port = port }) from new → This
   moved h s port None is at goes = absurd goes
   moved h s port (Some from) is at goes = Departed h s port from is at goes
 
@@ -137,7 +137,7 @@ happened switch manager host w (event.Tick s) new does = Ticked s refl does
 happened switch manager host w (event.Fail a b) new does = failed switch manager host w _ new a b (link_between w.plan a.0 b.0) refl refl does
 happened switch manager host w (event.Repair a b) new does = repaired switch manager host w _ new a b (link_between w.plan a.0 b.0) refl refl does
 happened switch manager host w (event.Lose s port) new does = lost switch manager host w _ new s port (out_of w s.0 port) refl refl does
-happened switch manager host w (event.Move h s port) new does = moved switch manager host w _ new h s port (slice_get w.stands h.0) refl refl does
+happened switch manager host w (event.Move h s port) new does = moved switch manager host w _ new h s port (slice_get w.attachments h.0) refl refl does
 happened switch manager host w (event.Start h) new does = Asked h Starts refl does
 happened switch manager host w (event.Play h frame original raw) new does = PlayedFrame h (played_as raw frame original) does.skip refl does.turn
 happened switch manager host w (event.Retry h) new does = Asked h Retries refl does

@@ -8,12 +8,12 @@ use Rattle.pl_frame.specs.declared.address.SwitchId.{SwitchId}
 use Rattle.pl_wiring.specs.Labels.{IsArity, switch_count}
 use Rattle.pl_wiring.specs.Plan.{IsPlan, Plan}
 use Rattle.pl_layouts.specs.Equality.{same_switch}
-use Rattle.pl_layouts.proofs.Sameness.{switch_itself}
-use Rattle.pl_logic.specs.ManagerFacts.{CanHear, heard}
-use Rattle.pl_logic.specs.ManagerFacts as facts
-use Rattle.pl_logic.specs.ManagerDuties.{IsGrown}
-use Rattle.pl_logic.specs.ManagerViews.{ManagerView, id_cmp, in_order, is_heard, speakers}
-use Rattle.pl_logic.proofs.Among.{IsAmong, among_of_Contains, among_ordered, any_among, rising_in_order, id_total, holds_of}
+use Rattle.pl_layouts.proofs.Exports.{switch_itself}
+use Rattle.pl_node.specs.ManagerFacts.{CanHear, heard}
+use Rattle.pl_node.specs.ManagerFacts as facts
+use Rattle.pl_node.specs.ManagerDuties.{IsGrown}
+use Rattle.pl_node.specs.ManagerViews.{ManagerView, id_cmp, in_order, is_heard, speakers}
+use Rattle.pl_node.proofs.Exports.{among_of_Contains, among_ordered, any_among, holds_of, id_total, IsAmong, rising_in_order}
 use Rattle.pl_world.specs.Hearing.{HeardWithin}
 
 -- ---- a rising list of some ids is no longer than they are many

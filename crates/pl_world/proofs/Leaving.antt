@@ -15,27 +15,27 @@ use Rattle.pl_journal.specs.declared.cause.Cause.{Cause}
 use Rattle.pl_journal.specs.declared.cause.Cause.TheVariants as cause
 use Rattle.pl_journal.specs.declared.entry.Entry.{Entry}
 use Rattle.pl_journal.specs.declared.entry.Entry.TheVariants.{Copied, Crossed, Dropped, Granted, LinkDown, LinkUp, Made, Moved, Placed, Redirected, Registered, Taken}
-use Rattle.pl_logic.specs.declared.acts.Act.{Act}
-use Rattle.pl_logic.specs.declared.acts.Act.TheVariants as act
-use Rattle.pl_logic.specs.declared.acts.HostAct.{HostAct}
-use Rattle.pl_logic.specs.declared.acts.HostAct.TheVariants.{Send}
-use Rattle.pl_logic.specs.declared.acts.ManagerAct.{ManagerAct}
-use Rattle.pl_logic.specs.declared.acts.ManagerAct.TheVariants.{Number, Say}
-use Rattle.pl_logic.specs.declared.messages.ToManager.{ToManager}
-use Rattle.pl_logic.specs.declared.messages.ToSwitch.{ToSwitch}
-use Rattle.pl_logic.specs.HostInputs.{HostAnswer, HostInput, HostRule}
-use Rattle.pl_logic.specs.ManagerDuties.{ManagerRule}
-use Rattle.pl_logic.specs.SwitchInputs.{SwitchInput, SwitchRule}
+use Rattle.pl_node.specs.declared.acts.Act.{Act}
+use Rattle.pl_node.specs.declared.acts.Act.TheVariants as act
+use Rattle.pl_node.specs.declared.acts.HostAct.{HostAct}
+use Rattle.pl_node.specs.declared.acts.HostAct.TheVariants.{Send}
+use Rattle.pl_node.specs.declared.acts.ManagerAct.{ManagerAct}
+use Rattle.pl_node.specs.declared.acts.ManagerAct.TheVariants.{Number, Say}
+use Rattle.pl_node.specs.declared.messages.ToManager.{ToManager}
+use Rattle.pl_node.specs.declared.messages.ToSwitch.{ToSwitch}
+use Rattle.pl_node.specs.HostInputs.{HostAnswer, HostInput, HostRule}
+use Rattle.pl_node.specs.ManagerDuties.{ManagerRule}
+use Rattle.pl_node.specs.SwitchInputs.{SwitchInput, SwitchRule}
 use Rattle.pl_queues.specs.Queues.{items_at, put_at}
 use Rattle.pl_world.specs.declared.item.Item.{Item}
 use Rattle.pl_world.specs.declared.item.Item.TheVariants.{Control, Data}
 use Rattle.pl_world.specs.declared.spoken_frame.SpokenFrame.{SpokenFrame}
 use Rattle.pl_world.specs.declared.spoken_frame.SpokenFrame.TheVariants.{Over, Passed, Silent, Waiting}
-use Rattle.pl_world.specs.declared.stand.Stand.{Stand}
+use Rattle.pl_world.specs.declared.attachment.AttachmentPoint.{AttachmentPoint}
 use Rattle.pl_world.specs.Changes.{all_noted, begun_by, emptied_from_host, emptied_out, ends_of, host_no, host_of, is_failed_at, noted, said_to, sent_by_host, switch_no}
 use Rattle.pl_world.specs.LinksAndMoves.{host_moved, link_failed, link_repaired, with_link}
 use Rattle.pl_world.specs.OtherActs.{host_act_done, manager_act_done}
-use Rattle.pl_world.specs.SwitchActs.{Doing, act_done, acts_done, begins, crossed_again, goes_out, granted, made, place_noted, with_late}
+use Rattle.pl_world.specs.SwitchActs.{DuringActs, act_done, acts_done, begins, crossed_again, goes_out, granted, made, place_noted, with_late}
 use Rattle.pl_world.specs.WorldRule.{HostTurn, ManagerTurn, SwitchTurn}
 use Rattle.pl_world.specs.Worlds.{WorldView}
 
@@ -95,7 +95,7 @@ module _ (R : WorldView → WorldView → Type 0) (May : Entry → Type 0) (writ
 
   -- ---- the acts of a switch
   -- a world amid the acts, behind another, and what is to be written of it yet
-  pub record Amid (w : WorldView) (d : Doing) : Type 0 where
+  pub record Amid (w : WorldView) (d : DuringActs) : Type 0 where
     pub left : R w d.world
     pub late : AllByRecursion May d.late
 
@@ -119,13 +119,13 @@ module _ (R : WorldView → WorldView → Type 0) (May : Entry → Type 0) (writ
     grant_left w pmac None = writes.same w
     grant_left w pmac (Some h) = writes.entry w (Granted pmac (host_no h) (switch_no s) pmac.port) (say.granted pmac (host_no h) (switch_no s) pmac.port)
 
-    goes_out_left : (d : Doing) (id port : ℕ) (frame : List ℕ) → AllByRecursion May d.late → Amid d.world (goes_out s d id port frame)
+    goes_out_left : (d : DuringActs) (id port : ℕ) (frame : List ℕ) → AllByRecursion May d.late → Amid d.world (goes_out s d id port frame)
     goes_out_left d id port frame all = record {
       left = put_left d.world port (Data id frame) (is_failed_at d.world s port);
       late = late_may d.late id (is_failed_at d.world s port) all;
     }
 
-    behind : (a b : WorldView) (d : Doing) → R a b → Amid b d → Amid a d
+    behind : (a b : WorldView) (d : DuringActs) → R a b → Amid b d → Amid a d
     behind a b d r amid = record { left = writes.on a b d.world r amid.left; late = amid.late }
 
     passed_left : (w : WorldView) (late : List Entry) (port : ℕ) (frame : List ℕ) (speech : SpokenFrame) → AllByRecursion May late →
@@ -176,12 +176,12 @@ module _ (R : WorldView → WorldView → Type 0) (May : Entry → Type 0) (writ
         record {
           left = writes.on w first (noted first (Crossed (w.begun + 1) (switch_no s)))
               (writes.on w written first (entries_left w late all)
-                  (say.begun written (Made (w.begun + 1) (switch_no s) frame) (say.made (w.begun + 1) (switch_no s) frame)))
+              (say.begun written (Made (w.begun + 1) (switch_no s) frame) (say.made (w.begun + 1) (switch_no s) frame)))
               (writes.entry first (Crossed (w.begun + 1) (switch_no s)) (say.crossed (w.begun + 1) (switch_no s)));
           late = tt;
         }
 
-    act_left : (d : Doing) (a : Act) → AllByRecursion May d.late → Amid d.world (act_done s d a)
+    act_left : (d : DuringActs) (a : Act) → AllByRecursion May d.late → Amid d.world (act_done s d a)
     act_left d (act.Control port frame) all = record { left = put_left d.world port (Control frame) (is_failed_at d.world s port); late = all }
     act_left d (act.Tell told) all = record { left = reports d.world s told; late = all }
     act_left d (act.Grant pmac amac) all = record { left = grant_left d.world pmac (host_of d.world.plan amac); late = all }
@@ -191,11 +191,11 @@ module _ (R : WorldView → WorldView → Type 0) (May : Entry → Type 0) (writ
     act_left d act.Take all = taken_left d.world d.late d.speech all
     act_left d (act.Drop cause) all = dropped_left d.world d.late cause d.speech all
 
-    pub acts_left : (d : Doing) (acts : List Act) → AllByRecursion May d.late → Amid d.world (acts_done s d acts)
+    pub acts_left : (d : DuringActs) (acts : List Act) → AllByRecursion May d.late → Amid d.world (acts_done s d acts)
     acts_left d [] all = record { left = writes.same d.world; late = all }
     acts_left d (a ∷ acts) all =
         let first = act_left d a all in behind d.world (act_done s d a).world (acts_done s (act_done s d a) acts) first.left
-            (acts_left (act_done s d a) acts first.late)
+        (acts_left (act_done s d a) acts first.late)
 
     place_left : (w : WorldView) (old now : Place) → ((place : Place) → May (Placed (switch_no s) place)) → R w (place_noted s old now w)
     place_left w old now placed = by (same_place old now)
@@ -215,7 +215,7 @@ module _ (R : WorldView → WorldView → Type 0) (May : Entry → Type 0) (writ
         then_is start (place_noted s turn.before.place turn.after.place (with_late done)) new turn.changed
         (writes.on start (with_late done) (place_noted s turn.before.place turn.after.place (with_late done))
         (writes.on start done.world (with_late done) amid.left (entries_left done.world done.late amid.late))
-            (place_left (with_late done) turn.before.place turn.after.place placed))
+        (place_left (with_late done) turn.before.place turn.after.place placed))
 
   -- ---- the acts of a host
   module _ (h : ℕ) (sends : (w : WorldView) (frame : List ℕ) → R w (sent_by_host w h frame)) where
@@ -223,7 +223,7 @@ module _ (R : WorldView → WorldView → Type 0) (May : Entry → Type 0) (writ
     host_sends_left w [] = writes.same w
     host_sends_left w (Send frame ∷ acts) =
         writes.on w (sent_by_host w h frame) (fold (host_act_done h) (sent_by_host w h frame) acts) (sends w frame)
-            (host_sends_left (sent_by_host w h frame) acts)
+        (host_sends_left (sent_by_host w h frame) acts)
 
     pub host_acts_left : (rule : HostRule) (w : WorldView) (input : HostInput) (answer : HostAnswer) (new : WorldView) →
         (turn : HostTurn rule w h input answer new) → R (record w { hosts = set w.hosts h turn.after }) new
@@ -246,7 +246,7 @@ module _ (R : WorldView → WorldView → Type 0) (May : Entry → Type 0) (writ
     manager_does_left w [] = writes.same w
     manager_does_left w (a ∷ acts) =
         writes.on w (manager_act_done w a) (fold manager_act_done (manager_act_done w a) acts) (manager_act_left w a)
-            (manager_does_left (manager_act_done w a) acts)
+        (manager_does_left (manager_act_done w a) acts)
 
     pub manager_acts_left : (rule : ManagerRule) (w : WorldView) (s : ℕ) (told : ToManager) (new : WorldView) → (turn : ManagerTurn rule w s told new) →
         R (record w { manager = turn.after }) new
@@ -261,7 +261,7 @@ module _ (R : WorldView → WorldView → Type 0) (May : Entry → Type 0) (writ
         let gone = ends_of cause (items_at w.out (port_index w.plan.k s port)) in
         let mid : WorldView = record w { out = set w.out (port_index w.plan.k s port) [] } in
         writes.on w mid (emptied_out w s port cause) (out w (port_index w.plan.k s port))
-            (entries_left mid gone (ends_may cause (items_at w.out (port_index w.plan.k s port))))
+        (entries_left mid gone (ends_may cause (items_at w.out (port_index w.plan.k s port))))
 
     pub failed_left : (w : WorldView) (link : Link) → May (LinkDown link.lower link.upper) →
         ((u : WorldView) (links : LivePorts) → R u (record u { links = links })) → R w (link_failed w link)
@@ -279,17 +279,17 @@ module _ (R : WorldView → WorldView → Type 0) (May : Entry → Type 0) (writ
     emptied_from_host_left w h cause =
         let mid : WorldView = record w { from_hosts = set w.from_hosts h [] } in
         writes.on w mid (emptied_from_host w h cause) (empties.from_hosts w h)
-            (entries_left mid (ends_of cause (items_at w.from_hosts h)) (ends_may cause (items_at w.from_hosts h)))
+        (entries_left mid (ends_of cause (items_at w.from_hosts h)) (ends_may cause (items_at w.from_hosts h)))
 
-    pub moved_left : (w : WorldView) (h : ℕ) (from to : Stand) → May (Moved (host_no h) to.edge to.port) →
-        ((u : WorldView) → R u (record u { stands = set u.stands h to; heard = set u.heard h None })) → R w (host_moved w h from to)
-    moved_left w h from to may stands =
-        let stood : WorldView = record w { stands = set w.stands h to; heard = set w.heard h None } in
+    pub moved_left : (w : WorldView) (h : ℕ) (from to : AttachmentPoint) → May (Moved (host_no h) to.edge to.port) →
+        ((u : WorldView) → R u (record u { attachments = set u.attachments h to; heard = set u.heard h None })) → R w (host_moved w h from to)
+    moved_left w h from to may attachments =
+        let stood : WorldView = record w { attachments = set w.attachments h to; heard = set w.heard h None } in
         let said = noted stood (Moved (host_no h) to.edge to.port) in
         let gone = emptied_from_host said h cause.HostGone in
         writes.on w gone (host_moved w h from to)
-        (writes.on w said gone (writes.on w stood said (stands w) (writes.entry stood (Moved (host_no h) to.edge to.port) may))
-            (emptied_from_host_left said h cause.HostGone))
+        (writes.on w said gone (writes.on w stood said (attachments w) (writes.entry stood (Moved (host_no h) to.edge to.port) may))
+        (emptied_from_host_left said h cause.HostGone))
         (emptied_out_left empties.out gone from.edge.0 from.port cause.HostGone)
 
   pub repaired_left : (w : WorldView) (link : Link) → May (LinkUp link.lower link.upper) →

@@ -21,3 +21,4 @@ pub mod Refusing
 pub mod Births
 pub mod Stands
 pub mod KeptSwitches
+pub mod Exports

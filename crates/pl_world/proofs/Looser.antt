@@ -9,18 +9,18 @@ use Rattle.pl_world.specs.declared.event.Event.{Event}
 use Rattle.pl_world.specs.declared.event.Event.TheVariants as event
 use Rattle.pl_world.specs.declared.event.QueueName.{QueueName}
 use Rattle.pl_world.specs.declared.event.QueueName.TheVariants as queue
-use Rattle.pl_logic.specs.declared.acts.ManagerAct.{ManagerAct}
-use Rattle.pl_logic.specs.declared.messages.ToManager.{ToManager}
-use Rattle.pl_logic.specs.declared.messages.ToSwitch.{ToSwitch}
-use Rattle.pl_logic.specs.Accounting.{IsWithin}
-use Rattle.pl_logic.specs.HostInputs.{HostRule}
-use Rattle.pl_logic.specs.ManagerDuties.{ManagerRule}
-use Rattle.pl_logic.specs.ManagerViews.{ManagerView}
-use Rattle.pl_logic.specs.SwitchInputs.{SwitchInput, SwitchRule}
+use Rattle.pl_node.specs.declared.acts.ManagerAct.{ManagerAct}
+use Rattle.pl_node.specs.declared.messages.ToManager.{ToManager}
+use Rattle.pl_node.specs.declared.messages.ToSwitch.{ToSwitch}
+use Rattle.pl_node.specs.Accounting.{AllowsNoMore}
+use Rattle.pl_node.specs.HostInputs.{HostRule}
+use Rattle.pl_node.specs.ManagerDuties.{ManagerRule}
+use Rattle.pl_node.specs.ManagerViews.{ManagerView}
+use Rattle.pl_node.specs.SwitchInputs.{SwitchInput, SwitchRule}
 use Rattle.pl_world.specs.declared.item.Item.{Item}
 use Rattle.pl_world.specs.declared.item.Item.TheVariants.{Control, Data}
 use Rattle.pl_world.specs.declared.spoken_frame.SpokenFrame.{SpokenFrame}
-use Rattle.pl_world.specs.declared.stand.Stand.{Stand}
+use Rattle.pl_world.specs.declared.attachment.AttachmentPoint.{AttachmentPoint}
 use Rattle.pl_world.specs.Changes.{out_of}
 use Rattle.pl_queues.specs.Queues.{items_at}
 use Rattle.pl_world.specs.Runs.{Moment, WorldRun}
@@ -32,9 +32,9 @@ use Rattle.pl_world.specs.Worlds.{WorldView}
 abbrev pub IsManagerWithin : ManagerRule → ManagerRule → Type 0
 IsManagerWithin one other =
     (before : ManagerView) (s : SwitchId) (says : ToManager) (after : ManagerView)
-        (acts : List ManagerAct) → one before s says after acts → other before s says after acts
+    (acts : List ManagerAct) → one before s says after acts → other before s says after acts
 
-module _ (one other : SwitchRule) (first second : ManagerRule) (host : HostRule) (within : IsWithin one other) (allowed : IsManagerWithin first second) where
+module _ (one other : SwitchRule) (first second : ManagerRule) (host : HostRule) (within : AllowsNoMore one other) (allowed : IsManagerWithin first second) where
   turns : (w : WorldView) (s : ℕ) (input : SwitchInput) (speech : SpokenFrame) (new : WorldView) →
       SwitchTurn one w s input speech new → SwitchTurn other w s input speech new
   turns w s input speech new m = record {
@@ -55,13 +55,13 @@ module _ (one other : SwitchRule) (first second : ManagerRule) (host : HostRule)
   over w s port item (Switch t q) new m = at_switch w t.0 q item new m
   over w s port item HostPort new m = m
 
-  come_in : (w : WorldView) (h : ℕ) (item : Item) (stand : Option Stand) (new : WorldView) → ComesIn one w h item stand new → ComesIn other w h item stand new
+  come_in : (w : WorldView) (h : ℕ) (item : Item) (attachment : Option AttachmentPoint) (new : WorldView) → ComesIn one w h item attachment new → ComesIn other w h item attachment new
   come_in w h item None new m = absurd m
-  come_in w h item (Some stand) new m = at_switch (heard_item w h item) stand.edge.0 stand.port item new m
+  come_in w h item (Some attachment) new m = at_switch (heard_item w h item) attachment.edge.0 attachment.port item new m
 
   from_host : (w : WorldView) (h : ℕ) (items : List Item) (new : WorldView) → DeliversFromHost one w h items new → DeliversFromHost other w h items new
   from_host w h [] new m = absurd m
-  from_host w h (item ∷ items) new m = come_in (record w { from_hosts = set w.from_hosts h items }) h item (slice_get w.stands h) new m
+  from_host w h (item ∷ items) new m = come_in (record w { from_hosts = set w.from_hosts h items }) h item (slice_get w.attachments h) new m
 
   delivers_out : (w : WorldView) (s port : ℕ) (items : List Item) (new : WorldView) → DeliversOut one host w s port items new →
       DeliversOut other host w s port items new
@@ -104,7 +104,7 @@ module _ (one other : SwitchRule) (first second : ManagerRule) (host : HostRule)
       (run.0, (run.1.0, happens (record old { steps = old.steps + 1 }) e run.0 run.1.1), run_allowed run.0 moments new run.2)
   run_allowed old (Mark entry ∷ moments) new run = (run.0, run.1, run_allowed run.0 moments new run.2)
 
-pub run_looser : (one other : SwitchRule) (manager : ManagerRule) (host : HostRule) → IsWithin one other →
+pub run_looser : (one other : SwitchRule) (manager : ManagerRule) (host : HostRule) → AllowsNoMore one other →
     (old : WorldView) (moments : List Moment) (new : WorldView) →
     WorldRun one manager host old moments new → WorldRun other manager host old moments new
 run_looser one other manager host within old moments new run =

@@ -3,11 +3,11 @@ use Rattle.std.proofs.Common.{◌≡◌, ℕ, ◌+◌, List, [], ◌∷◌, refl
 use Rattle.pl_journal.specs.declared.entry.Entry.{Entry}
 use Rattle.pl_journal.specs.declared.entry.Entry.TheVariants.{Arrived, Copied, Crossed, Dropped, Granted, Line, LinkDown, LinkUp, Made, Moved, Placed, Redirected, Registered, Sent, Settled, Skipped, Taken, Unsettled}
 use Rattle.pl_journal.specs.Flights.{begun, ends}
-use Rattle.pl_logic.specs.Accounting.{AccountsForFrames}
-use Rattle.pl_logic.specs.HostDuties.{HostsSendData}
-use Rattle.pl_logic.specs.HostInputs.{HostRule}
-use Rattle.pl_logic.specs.ManagerDuties.{AnswersDuly, ManagerRule}
-use Rattle.pl_logic.specs.SwitchInputs.{SwitchRule}
+use Rattle.pl_node.specs.Accounting.{AccountsForFrames}
+use Rattle.pl_node.specs.HostDuties.{HostsSendData}
+use Rattle.pl_node.specs.HostInputs.{HostRule}
+use Rattle.pl_node.specs.ManagerDuties.{AnswersDuly, ManagerRule}
+use Rattle.pl_node.specs.SwitchInputs.{SwitchRule}
 use Rattle.pl_world.specs.Changes.{noted}
 use Rattle.pl_world.specs.Flying.{IsCounted}
 use Rattle.pl_world.specs.Hearing.{IsWithinHearing}

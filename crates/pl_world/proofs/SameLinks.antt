@@ -2,12 +2,11 @@
 use Rattle.std.proofs.Common.{◌≡◌, ℕ, ◌+◌, ◌*◌, ◌/◌, ◌%◌, ◌<◌, Bool, true, false, List, length, get_or, sym, ◌∙◌, ap, subst, arith}
 use Rattle.std.proofs.lemmas.List.{get_or_default, same_lists}
 use Rattle.std.proofs.lemmas.Nat.{div-add-mod', mod_below}
-use Rattle.pl_lemmas.proofs.Bools.{same_truth}
+use Rattle.pl_lemmas.proofs.Exports.{same_truth}
 use Rattle.pl_wiring.specs.declared.link.Link.{Link}
 use Rattle.pl_wiring.specs.LiveLinks.{IsFor, LivePorts, is_live, is_live_at}
 use Rattle.pl_wiring.specs.Plan.{IsPlan, Plan}
-use Rattle.pl_wiring.proofs.Entered.{entry_at-in_range}
-use Rattle.pl_wiring.proofs.Live.{live_says}
+use Rattle.pl_wiring.proofs.Exports.{entry_at-in_range, live_says}
 
 module _ (plan : Plan) where
   SameOn : LivePorts → LivePorts → Type 0

@@ -13,13 +13,11 @@ use Rattle.pl_wiring.specs.Labels.{switch_count}
 use Rattle.pl_wiring.specs.LiveLinks.{IsFor, LivePorts}
 use Rattle.pl_wiring.specs.Peers.{IsPort, peer_among, peer_of}
 use Rattle.pl_wiring.specs.Plan.{IsPlan, Plan}
-use Rattle.pl_wiring.proofs.Ends.{at_contained}
-use Rattle.pl_wiring.proofs.Entered.{tree_ends}
-use Rattle.pl_wiring.proofs.Live.{made_for_changed}
-use Rattle.pl_logic.specs.declared.acts.HostAct.{HostAct}
-use Rattle.pl_logic.specs.declared.acts.HostAct.TheVariants.{Send}
-use Rattle.pl_logic.specs.declared.acts.ManagerAct.{ManagerAct}
-use Rattle.pl_logic.specs.declared.acts.ManagerAct.TheVariants.{Number, Say}
+use Rattle.pl_wiring.proofs.Exports.{at_contained, made_for_changed, tree_ends}
+use Rattle.pl_node.specs.declared.acts.HostAct.{HostAct}
+use Rattle.pl_node.specs.declared.acts.HostAct.TheVariants.{Send}
+use Rattle.pl_node.specs.declared.acts.ManagerAct.{ManagerAct}
+use Rattle.pl_node.specs.declared.acts.ManagerAct.TheVariants.{Number, Say}
 use Rattle.pl_journal.specs.declared.cause.Cause.TheVariants as cause
 use Rattle.pl_journal.specs.declared.cause.Skip.{Skip}
 use Rattle.pl_journal.specs.declared.entry.Entry.{Entry}
@@ -27,38 +25,38 @@ use Rattle.pl_journal.specs.declared.entry.Entry.TheVariants.{Arrived, Crossed, 
 use Rattle.pl_world.specs.declared.event.Event.{Event}
 use Rattle.pl_world.specs.declared.event.Event.TheVariants as event
 use Rattle.pl_world.specs.declared.event.QueueName.TheVariants as queue
-use Rattle.pl_logic.specs.declared.messages.ToManager.{ToManager}
-use Rattle.pl_logic.specs.declared.messages.ToSwitch.{ToSwitch}
-use Rattle.pl_logic.specs.declared.reception.Reception.{Reception}
-use Rattle.pl_logic.specs.declared.reception.Reception.TheVariants.{Kept, NotMember}
-use Rattle.pl_logic.specs.Accounting.{AccountsForFrames, CanCome, IsShaped, first_speech, is_said, speech_after, speech_of_frame}
-use Rattle.pl_logic.specs.Accounting.Speech.{Silent as SaidNone, Waiting as SaidWaiting}
+use Rattle.pl_node.specs.declared.messages.ToManager.{ToManager}
+use Rattle.pl_node.specs.declared.messages.ToSwitch.{ToSwitch}
+use Rattle.pl_node.specs.declared.reception.Reception.{Reception}
+use Rattle.pl_node.specs.declared.reception.Reception.TheVariants.{Kept, NotMember}
+use Rattle.pl_node.specs.Accounting.{AccountsForFrames, CanCome, IsShaped, first_frame_state, is_said, frame_state_after, state_of_frame}
+use Rattle.pl_node.specs.Accounting.FrameState.{Silent as SaidNone, Waiting as SaidWaiting}
 use Rattle.pl_layouts.specs.Control.{is_control}
 use Rattle.pl_journal.specs.Flights.{begun, ends}
-use Rattle.pl_logic.specs.HostDuties.{HoldsData, HostsSendData, are_data, is_data, sent_by}
-use Rattle.pl_logic.specs.HostInputs.{HostAnswer, HostInput, HostRule}
-use Rattle.pl_logic.specs.HostInputs.HostAnswer.{Nothing}
-use Rattle.pl_logic.specs.HostInputs.HostInput.{HasMoved}
-use Rattle.pl_logic.specs.HostViews.{HostView}
-use Rattle.pl_logic.specs.ManagerDuties.{ManagerRule}
+use Rattle.pl_node.specs.HostDuties.{HoldsData, HostsSendData, are_data, is_data, sent_by}
+use Rattle.pl_node.specs.HostInputs.{HostAnswer, HostInput, HostRule}
+use Rattle.pl_node.specs.HostInputs.HostAnswer.{Nothing}
+use Rattle.pl_node.specs.HostInputs.HostInput.{HasMoved}
+use Rattle.pl_node.specs.HostViews.{HostView}
+use Rattle.pl_node.specs.ManagerDuties.{ManagerRule}
 use Rattle.pl_journal.specs.Places.{is_host_port}
-use Rattle.pl_logic.specs.SwitchInputs.{SwitchInput, SwitchRule}
-use Rattle.pl_logic.specs.SwitchInputs.SwitchInput.{Comes, Says, Tick}
-use Rattle.pl_logic.specs.SwitchViews.{SwitchView}
+use Rattle.pl_node.specs.SwitchInputs.{SwitchInput, SwitchRule}
+use Rattle.pl_node.specs.SwitchInputs.SwitchInput.{Comes, Says, Tick}
+use Rattle.pl_node.specs.SwitchViews.{SwitchView}
 use Rattle.pl_world.specs.declared.error.StepError.{StepError}
 use Rattle.pl_world.specs.declared.error.StepError.TheVariants.{JournalFull, NoSuch, StepsSpent}
 use Rattle.pl_world.specs.declared.item.Item.{Item}
 use Rattle.pl_world.specs.declared.item.Item.TheVariants.{Control, Data}
 use Rattle.pl_world.specs.declared.spoken_frame.SpokenFrame.{SpokenFrame}
 use Rattle.pl_world.specs.declared.spoken_frame.SpokenFrame.TheVariants.{Silent, Waiting}
-use Rattle.pl_world.specs.declared.stand.Stand.{Stand}
+use Rattle.pl_world.specs.declared.attachment.AttachmentPoint.{AttachmentPoint}
 use Rattle.pl_world.specs.Changes.{all_noted, host_no, noted, out_of, receiver, said_to, switch_no}
-use Rattle.pl_world.specs.Flying.{IsAtPort, IsCounted, IsFrame, IsItem, times_in}
+use Rattle.pl_world.specs.Flying.{IsTreePort, IsCounted, IsFrame, IsItem, times_in}
 use Rattle.pl_queues.specs.Queues.{items_at}
 use Rattle.pl_world.specs.LinksAndMoves.{host_moved, item_lost, joins, link_between, with_link}
 use Rattle.pl_world.specs.OtherActs.{heard_after_tick, host_act_done, manager_act_done, reception_noted, skip_noted}
 use Rattle.pl_world.specs.Refusals.{has_host, has_port, has_switch, is_full, is_for_hosts, refusal, refusal_of_event, refusal_of_link, refusal_of_move}
-use Rattle.pl_world.specs.WorldRule.{ComesAtHost, ComesAtSwitch, ComesOut, Fails, HostTurn, HostPlays, HostReceives, ManagerTurn, SwitchTurn, WorldStep, heard_item}
+use Rattle.pl_world.specs.WorldRule.{ComesAtHost, ComesAtSwitch, ComesOut, LinkFails, HostTurn, HostPlays, HostReceives, ManagerTurn, SwitchTurn, WorldStep, heard_item}
 use Rattle.pl_world.specs.Worlds.{WorldView}
 use Rattle.pl_world.proofs.Happenings.{Happened, happened}
 use Rattle.pl_world.proofs.Happenings.Happened.{Asked, Departed, Failed, FromHost, Lost, Ordered, OutOfPort, OverLink, PlayedFrame, Repaired, Reported, Ticked}
@@ -84,7 +82,7 @@ sound w c = let f = c.formed in record {
   rest = record {
     is_plan = f.plan;
     made_for = f.links;
-    stands_many = f.stands;
+    attachments_many = f.attachments;
     at_ports = f.at_ports;
     heard_many = f.heard;
     switches_many = f.switches;
@@ -102,7 +100,7 @@ counted w s = record {
   formed = record {
     plan = s.rest.is_plan;
     links = s.rest.made_for;
-    stands = s.rest.stands_many;
+    attachments = s.rest.attachments_many;
     at_ports = s.rest.at_ports;
     heard = s.rest.heard_many;
     switches = s.rest.switches_many;
@@ -126,7 +124,7 @@ pub switches_rest : (w : WorldView) (s : ℕ) (v : SwitchView) → v.k ≡ w.pla
 switches_rest w s v size is r = record {
   is_plan = r.is_plan;
   made_for = r.made_for;
-  stands_many = r.stands_many;
+  attachments_many = r.attachments_many;
   at_ports = r.at_ports;
   heard_many = r.heard_many;
   switches_many = length-set w.switches s v ∙ r.switches_many;
@@ -142,7 +140,7 @@ pub hosts_rest : (w : WorldView) (h : ℕ) (v : HostView) → HoldsData v → Ha
 hosts_rest w h v is r = record {
   is_plan = r.is_plan;
   made_for = r.made_for;
-  stands_many = r.stands_many;
+  attachments_many = r.attachments_many;
   at_ports = r.at_ports;
   heard_many = r.heard_many;
   switches_many = r.switches_many;
@@ -158,7 +156,7 @@ pub heard_rest : (w : WorldView) (heard : List (Option ℕ)) → length heard �
 heard_rest w heard same r = record {
   is_plan = r.is_plan;
   made_for = r.made_for;
-  stands_many = r.stands_many;
+  attachments_many = r.attachments_many;
   at_ports = r.at_ports;
   heard_many = same ∙ r.heard_many;
   switches_many = r.switches_many;
@@ -170,12 +168,12 @@ heard_rest w heard same r = record {
   holding = r.holding;
 }
 
-pub stands_rest : (w : WorldView) (h : ℕ) (stand : Stand) → IsAtPort w.plan.k stand → HasRest w → HasRest (record w { stands = set w.stands h stand })
-stands_rest w h stand is r = record {
+pub attachments_rest : (w : WorldView) (h : ℕ) (attachment : AttachmentPoint) → IsTreePort w.plan.k attachment → HasRest w → HasRest (record w { attachments = set w.attachments h attachment })
+attachments_rest w h attachment is r = record {
   is_plan = r.is_plan;
   made_for = r.made_for;
-  stands_many = length-set w.stands h stand ∙ r.stands_many;
-  at_ports = all_set (IsAtPort w.plan.k) w.stands h stand is r.at_ports;
+  attachments_many = length-set w.attachments h attachment ∙ r.attachments_many;
+  at_ports = all_set (IsTreePort w.plan.k) w.attachments h attachment is r.at_ports;
   heard_many = r.heard_many;
   switches_many = r.switches_many;
   ports = r.ports;
@@ -190,7 +188,7 @@ links_rest : (w : WorldView) (links : LivePorts) → IsFor w.plan links → HasR
 links_rest w links is r = record {
   is_plan = r.is_plan;
   made_for = is;
-  stands_many = r.stands_many;
+  attachments_many = r.attachments_many;
   at_ports = r.at_ports;
   heard_many = r.heard_many;
   switches_many = r.switches_many;
@@ -208,7 +206,7 @@ noted_owes w f g entries begins ends b = noted_balance w.plan w.from_hosts w.out
 
 -- a switch steps
 switch_turn : (rule : SwitchRule) → AccountsForFrames rule → (w : WorldView) (s : ℕ) (input : SwitchInput) (speech : SpokenFrame) (new : WorldView) →
-    said_by speech ≡ first_speech input → ((v : SwitchView) → v.k ≡ w.plan.k → CanCome v input) →
+    said_by speech ≡ first_frame_state input → ((v : SwitchView) → v.k ≡ w.plan.k → CanCome v input) →
     Owes w (λ id. owed_by speech id + 0) → HasRest w → SwitchTurn rule w s input speech new → Sound new
 switch_turn rule accounts w s input speech new same can owes r turn =
     let size : turn.before.k ≡ w.plan.k = all_found (λ (u : SwitchView). u.k ≡ w.plan.k) w.switches s turn.before turn.found r.ports in
@@ -224,7 +222,7 @@ switch_turn rule accounts w s input speech new same can owes r turn =
       balance = owes;
       rest = switches_rest w s turn.after (kept.k ∙ size) kept.shaped r;
     } in
-    let said : is_said (fold speech_after (said_by speech) turn.acts) ≡ true = rw same kept.said in
+    let said : is_said (fold frame_state_after (said_by speech) turn.acts) ≡ true = rw same kept.said in
     let done = all_acts_steady s k w1 speech turn.before.place turn.after.place turn.acts kept.fit said start in
     subst Sound (sym turn.changed) (record { balance = done.balance; rest = done.rest })
 
@@ -308,10 +306,10 @@ manager_turn rule w s told new is turn =
     subst Sound (sym turn.changed) (manager_acts (record w { manager = turn.after }) turn.acts (record { balance = is.balance; rest = is.rest }))
 
 -- an item comes at a switch
-comes_control : (frame : List ℕ) → is_control frame ≡ true → SaidNone ≡ speech_of_frame frame
+comes_control : (frame : List ℕ) → is_control frame ≡ true → SaidNone ≡ state_of_frame frame
 comes_control frame kind = rw kind refl
 
-comes_data : (frame : List ℕ) → is_control frame ≡ false → SaidWaiting ≡ speech_of_frame frame
+comes_data : (frame : List ℕ) → is_control frame ≡ false → SaidWaiting ≡ state_of_frame frame
 comes_data frame kind = rw kind refl
 
 comes_at_switch : (rule : SwitchRule) → AccountsForFrames rule → (w : WorldView) (s port : ℕ) (item : Item) (new : WorldView) → port < w.plan.k → IsItem item →
@@ -369,7 +367,7 @@ took_out : (w : WorldView) (t port : ℕ) (item : Item) (items : List Item) → 
     Owes (record w { out = set w.out (port_index w.plan.k t port) items }) (λ id. times_in id (item ∷ []))
 took_out w t port item items head s =
     took_out_balance w.plan w.from_hosts w.out w.journal w.begun (λ id. 0) (λ id. times_in id (item ∷ [])) (port_index w.plan.k t port) item items head
-        (λ id. omega arith) s.balance
+    (λ id. omega arith) s.balance
 
 module _ (switch : SwitchRule) (host : HostRule) (accounts : AccountsForFrames switch) (sends : HostsSendData host) where
   heard_sound : (w : WorldView) (h : ℕ) (item : Item) (f : ℕ → ℕ) → Owes w f → HasRest w → Owes (heard_item w h item) f × HasRest (heard_item w h item)
@@ -380,26 +378,26 @@ module _ (switch : SwitchRule) (host : HostRule) (accounts : AccountsForFrames s
   heard_plan w h (Control frame) = refl
   heard_plan w h (Data id frame) = refl
 
-  from_host : (w : WorldView) (h : ℕ) (item : Item) (items : List Item) (stand : Stand) (new : WorldView) → items_at w.from_hosts h ≡ item ∷ items →
-      slice_get w.stands h ≡ Some stand → Sound w →
-      ComesAtSwitch switch (heard_item (record w { from_hosts = set w.from_hosts h items }) h item) stand.edge.0 stand.port item new → Sound new
-  from_host w h item items stand new head at s comes =
+  from_host : (w : WorldView) (h : ℕ) (item : Item) (items : List Item) (attachment : AttachmentPoint) (new : WorldView) → items_at w.from_hosts h ≡ item ∷ items →
+      slice_get w.attachments h ≡ Some attachment → Sound w →
+      ComesAtSwitch switch (heard_item (record w { from_hosts = set w.from_hosts h items }) h item) attachment.edge.0 attachment.port item new → Sound new
+  from_host w h item items attachment new head at s comes =
       let taken : WorldView = record w { from_hosts = set w.from_hosts h items } in
-      let there : IsAtPort w.plan.k stand = all_found (IsAtPort w.plan.k) w.stands h stand at s.rest.at_ports in
+      let there : IsTreePort w.plan.k attachment = all_found (IsTreePort w.plan.k) w.attachments h attachment at s.rest.at_ports in
       let owes = took_host_balance w.plan w.from_hosts w.out w.journal w.begun (λ id. 0) (λ id. times_in id (item ∷ [])) h item items head
-          (λ id. omega arith) s.balance in
+      (λ id. omega arith) s.balance in
       let heard = heard_sound taken h item (λ id. times_in id (item ∷ [])) owes s.rest in
-      comes_at_switch switch accounts (heard_item taken h item) stand.edge.0 stand.port item new (rw (heard_plan taken h item) there.port)
+      comes_at_switch switch accounts (heard_item taken h item) attachment.edge.0 attachment.port item new (rw (heard_plan taken h item) there.port)
       (sent_is_item w.from_hosts h item items head s.balance.host_items) heard.0 heard.1 comes
 
-  goes : (w : WorldView) (h : ℕ) (to from : Stand) (new : WorldView) → IsAtPort w.plan.k to → Sound w →
+  goes : (w : WorldView) (h : ℕ) (to from : AttachmentPoint) (new : WorldView) → IsTreePort w.plan.k to → Sound w →
       HostTurn host (host_moved w h from to) h HasMoved Nothing new → Sound new
   goes w h to from new there s turn =
       host_turn host sends (host_moved w h from to) h _ _ new (record {
         balance = emptied_out_balance w.plan (set w.from_hosts h []) w.out _ w.begun (λ id. 0) cause.HostGone (port_index w.plan.k from.edge.0 from.port)
             (emptied_host_balance w.plan w.from_hosts w.out _ w.begun (λ id. 0) cause.HostGone h
             (noted_owes w (λ id. 0) (λ id. 0) (Moved (host_no h) to.edge to.port ∷ []) refl (λ id. refl) s.balance));
-        rest = heard_rest (record w { stands = set w.stands h to }) _ (length-set w.heard h _) (stands_rest w h to there s.rest);
+        rest = heard_rest (record w { attachments = set w.attachments h to }) _ (length-set w.heard h _) (attachments_rest w h to there s.rest);
       }) turn
 
 pub found_contained : (p : Link → Bool) (links : List Link) (link : Link) → find p links ≡ Some link → Contains links link
@@ -413,7 +411,7 @@ found_contained p (l ∷ links) link is = by_first (p l) (found_contained p link
 pub link_set : (w : WorldView) (link : Link) (live : Bool) → Contains w.plan.links link → HasRest w → HasRest (record w { links = with_link w.links link live })
 link_set w link live there r = links_rest w (with_link w.links link live) (made_for_changed w.plan w.links link live r.is_plan.tree r.made_for there) r
 
-pub fails : (w : WorldView) (a b : ℕ) (link : Option Link) (new : WorldView) → link_between w.plan a b ≡ link → Sound w → Fails w link new → Sound new
+pub fails : (w : WorldView) (a b : ℕ) (link : Option Link) (new : WorldView) → link_between w.plan a b ≡ link → Sound w → LinkFails w link new → Sound new
 fails w a b None new found s is = absurd is
 fails w a b (Some link) new found s is = subst Sound (sym is) (record {
   balance = emptied_out_balance w.plan w.from_hosts _ _ w.begun (λ id. 0) cause.LinkDown (port_index w.plan.k link.upper.0 link.upper_port)
@@ -443,7 +441,7 @@ pub tested : (b : Bool) (x y : Option StepError) (e : StepError) → y ≡ Some 
 tested true x y e other h = refl
 tested false x y e other h = absurd (cc)
 
-moves_to_a_port : (w : WorldView) (h s port : ℕ) (edge : SwitchNo) → edge.0 ≡ s → refusal_of_move w h s port ≡ None → IsAtPort w.plan.k (record { edge = edge; port = port })
+moves_to_a_port : (w : WorldView) (h s port : ℕ) (edge : SwitchNo) → edge.0 ≡ s → refusal_of_move w h s port ≡ None → IsTreePort w.plan.k (record { edge = edge; port = port })
 moves_to_a_port w h s port edge is none =
     let both = and_parts (has_host w.plan h) (is_for_hosts w.plan s port) (tested (has_host w.plan h && is_for_hosts w.plan s port) _ _ NoSuch refl none) in
     let there = and_parts (has_port w.plan s port) (is_host_port (peer_of w.plan s port)) both.1 in
@@ -472,14 +470,14 @@ same_refusal w happens = refl
 module _ (switch : SwitchRule) (manager : ManagerRule) (host : HostRule) (accounts : AccountsForFrames switch) (sends : HostsSendData host) where
   by_case : (w : WorldView) (happens : Event) (new : WorldView) → refusal_of_event w happens ≡ None → Sound w → Happened switch manager host w happens new →
       Sound new
-  by_case w happens new none s (FromHost h item items stand is head at comes) = from_host switch host accounts sends w h.0 item items stand new head at s comes
+  by_case w happens new none s (FromHost h item items attachment is head at comes) = from_host switch host accounts sends w h.0 item items attachment new head at s comes
   by_case w happens new none s (OverLink t port item items u q is head joined comes) =
       comes_at_switch switch accounts (record w { out = set w.out (port_index w.plan.k t.0 port) items }) u.0 q item new
       (subst (IsPort w.plan.k) joined (peer_is_port w.plan t.0 port s.rest.is_plan)).1
       (head_is_item w.out (port_index w.plan.k t.0 port) item items head s.balance.port_items) (took_out w t.0 port item items head s) s.rest comes
   by_case w happens new none s (OutOfPort t port item items is head joined comes) =
       comes_out host sends (record w { out = set w.out (port_index w.plan.k t.0 port) items }) t.0 port item new
-          (took_out w t.0 port item items head s) s.rest comes
+      (took_out w t.0 port item items head s) s.rest comes
   by_case w happens new none s (Reported t told items is head turn) =
       manager_turn manager (record w { to_manager = set w.to_manager t.0 items }) t.0 told new
       (record { balance = s.balance; rest = told_rest w.to_manager _ (length-set w.to_manager t.0 _) s.rest }) turn
@@ -487,8 +485,8 @@ module _ (switch : SwitchRule) (manager : ManagerRule) (host : HostRule) (accoun
       switch_turn switch accounts (record w { from_manager = set w.from_manager t.0 items }) t.0 (Says says) Silent new refl (λ v size. tt)
       s.balance (says_rest w.from_manager _ (length-set w.from_manager t.0 _) s.rest) turn
   by_case w happens new none s (Ticked t is turn) =
-      switch_turn switch accounts (record w { heard = heard_after_tick t.0 w.stands w.heard }) t.0 Tick Silent new refl (λ v size. tt)
-      s.balance (heard_rest w _ (ticked_heard t.0 w.stands w.heard) s.rest) turn
+      switch_turn switch accounts (record w { heard = heard_after_tick t.0 w.attachments w.heard }) t.0 Tick Silent new refl (λ v size. tt)
+      s.balance (heard_rest w _ (ticked_heard t.0 w.attachments w.heard) s.rest) turn
   by_case w happens new none s (Failed a b link is found failed) = fails w a.0 b.0 (Some link) new found s failed
   by_case w happens new none s (Repaired a b link is found repaired) = subst Sound (sym repaired) (record {
     balance = noted_owes w (λ id. 0) (λ id. 0) (LinkUp link.lower link.upper ∷ []) refl (λ id. refl) s.balance;
@@ -498,7 +496,7 @@ module _ (switch : SwitchRule) (manager : ManagerRule) (host : HostRule) (accoun
       subst Sound (sym gone) (lost (record w { out = set w.out (port_index w.plan.k t.0 port) items }) item (took_out w t.0 port item items head s) s.rest)
   by_case w happens new none s (Departed h t port from is at turn) =
       goes switch host accounts sends w h.0 (record { edge = t; port = port }) from new
-          (moves_to_a_port w h.0 t.0 port t refl (subst (λ e. refusal_of_event w e ≡ None) is none)) s turn
+      (moves_to_a_port w h.0 t.0 port t refl (subst (λ e. refusal_of_event w e ≡ None) is none)) s turn
   by_case w happens new none s (PlayedFrame h input skip is turn) = host_plays host sends w h.0 input new s (record { skip = skip; turn = turn })
   by_case w happens new none s (Asked h input is turn) = host_turn host sends w h.0 input _ new s turn
 

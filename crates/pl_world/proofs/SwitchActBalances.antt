@@ -7,40 +7,40 @@ use Rattle.pl_wiring.specs.Index.{port_index}
 use Rattle.pl_wiring.specs.Labels.{switch_count}
 use Rattle.pl_wiring.specs.LiveLinks.{IsFor, LivePorts}
 use Rattle.pl_wiring.specs.Plan.{IsPlan, Plan}
-use Rattle.pl_wiring.proofs.Entered.{port_index-below}
-use Rattle.pl_logic.specs.declared.acts.Act.{Act}
-use Rattle.pl_logic.specs.declared.acts.Act.TheVariants as act
+use Rattle.pl_wiring.proofs.Exports.{port_index-below}
+use Rattle.pl_node.specs.declared.acts.Act.{Act}
+use Rattle.pl_node.specs.declared.acts.Act.TheVariants as act
 use Rattle.pl_journal.specs.declared.cause.Cause.TheVariants as cause
 use Rattle.pl_journal.specs.declared.entry.Entry.{Entry}
 use Rattle.pl_journal.specs.declared.entry.Entry.TheVariants.{Copied, Crossed, Dropped, Granted, Made, Placed, Redirected, Taken}
-use Rattle.pl_logic.specs.declared.messages.ToManager.{ToManager}
-use Rattle.pl_logic.specs.declared.messages.ToSwitch.{ToSwitch}
+use Rattle.pl_node.specs.declared.messages.ToManager.{ToManager}
+use Rattle.pl_node.specs.declared.messages.ToSwitch.{ToSwitch}
 use Rattle.pl_layouts.specs.declared.place.Place.{Place}
-use Rattle.pl_logic.specs.Accounting.{IsFit, IsSent, IsShaped, Speech as Said, is_said, speech_after}
-use Rattle.pl_logic.specs.Accounting.Speech.{Ended as SaidEnded, Passed as SaidPassed, Redirected as SaidRedirected, Silent as SaidNone, Waiting as SaidWaiting, Wrong}
+use Rattle.pl_node.specs.Accounting.{IsFit, IsSentDuly, IsShaped, FrameState as Said, is_said, frame_state_after}
+use Rattle.pl_node.specs.Accounting.FrameState.{Ended as SaidEnded, Passed as SaidPassed, Redirected as SaidRedirected, Silent as SaidNone, Waiting as SaidWaiting, Wrong}
 use Rattle.pl_journal.specs.Flights.{begun, ends}
-use Rattle.pl_logic.specs.HostDuties.{HoldsData}
-use Rattle.pl_logic.specs.HostViews.{HostView}
-use Rattle.pl_logic.specs.SwitchViews.{SwitchView}
+use Rattle.pl_node.specs.HostDuties.{HoldsData}
+use Rattle.pl_node.specs.HostViews.{HostView}
+use Rattle.pl_node.specs.SwitchViews.{SwitchView}
 use Rattle.pl_layouts.specs.Placement.{same_place}
 use Rattle.pl_world.specs.declared.item.Item.TheVariants.{Control, Data}
 use Rattle.pl_world.specs.declared.spoken_frame.SpokenFrame.{SpokenFrame as Speech}
 use Rattle.pl_world.specs.declared.spoken_frame.SpokenFrame.TheVariants.{Over, Passed, Silent, Waiting}
-use Rattle.pl_world.specs.declared.stand.Stand.{Stand}
+use Rattle.pl_world.specs.declared.attachment.AttachmentPoint.{AttachmentPoint}
 use Rattle.pl_world.specs.Changes.{all_noted, begun_by, host_no, host_of, is_failed_at, noted, sent_if_live, switch_no, told_manager}
-use Rattle.pl_world.specs.Flying.{IsAtPort, IsFrame}
-use Rattle.pl_world.specs.SwitchActs.{Doing, act_done, acts_done, crossed_again, goes_out, granted, made, passed, place_noted, with_late}
+use Rattle.pl_world.specs.Flying.{IsTreePort, IsFrame}
+use Rattle.pl_world.specs.SwitchActs.{DuringActs, act_done, acts_done, crossed_again, goes_out, granted, made, passed, place_noted, with_late}
 use Rattle.pl_world.specs.Worlds.{WorldView}
 use Rattle.pl_world.proofs.Balances.{Balanced, Owes, begun_balance, noted_balance, put_out_balance, same_balance}
 use Rattle.pl_world.proofs.Counts.{begun-append, ends-append, one}
 
 -- what the queues and the journal do not change
-pub record Rest (plan : Plan) (links : LivePorts) (stands : List Stand) (heard : List (Option ℕ)) (switches : List SwitchView) (hosts : List HostView)
+pub record Rest (plan : Plan) (links : LivePorts) (attachments : List AttachmentPoint) (heard : List (Option ℕ)) (switches : List SwitchView) (hosts : List HostView)
     (to_manager : List (List ToManager)) (from_manager : List (List ToSwitch)) : Type 0 where
   pub is_plan : IsPlan plan
   pub made_for : IsFor plan links
-  pub stands_many : length stands ≡ length plan.hosts
-  pub at_ports : AllByRecursion (IsAtPort plan.k) stands
+  pub attachments_many : length attachments ≡ length plan.hosts
+  pub at_ports : AllByRecursion (IsTreePort plan.k) attachments
   pub heard_many : length heard ≡ length plan.hosts
   pub switches_many : length switches ≡ switch_count plan.k
   pub ports : AllByRecursion (λ v. v.k ≡ plan.k) switches
@@ -51,16 +51,16 @@ pub record Rest (plan : Plan) (links : LivePorts) (stands : List Stand) (heard :
   pub holding : AllByRecursion HoldsData hosts
 
 abbrev pub HasRest : WorldView → Type 0
-HasRest w = Rest w.plan w.links w.stands w.heard w.switches w.hosts w.to_manager w.from_manager
+HasRest w = Rest w.plan w.links w.attachments w.heard w.switches w.hosts w.to_manager w.from_manager
 
 -- another queue to the manager
-pub told_rest : {plan : Plan} {links : LivePorts} {stands : List Stand} {heard : List (Option ℕ)} {switches : List SwitchView} {hosts : List HostView}
+pub told_rest : {plan : Plan} {links : LivePorts} {attachments : List AttachmentPoint} {heard : List (Option ℕ)} {switches : List SwitchView} {hosts : List HostView}
     {from_manager : List (List ToSwitch)} (to_manager new : List (List ToManager)) → length new ≡ length to_manager →
-    Rest plan links stands heard switches hosts to_manager from_manager → Rest plan links stands heard switches hosts new from_manager
+    Rest plan links attachments heard switches hosts to_manager from_manager → Rest plan links attachments heard switches hosts new from_manager
 told_rest to_manager new same r = record {
   is_plan = r.is_plan;
   made_for = r.made_for;
-  stands_many = r.stands_many;
+  attachments_many = r.attachments_many;
   at_ports = r.at_ports;
   heard_many = r.heard_many;
   switches_many = r.switches_many;
@@ -73,13 +73,13 @@ told_rest to_manager new same r = record {
 }
 
 -- and another queue from it
-pub says_rest : {plan : Plan} {links : LivePorts} {stands : List Stand} {heard : List (Option ℕ)} {switches : List SwitchView} {hosts : List HostView}
+pub says_rest : {plan : Plan} {links : LivePorts} {attachments : List AttachmentPoint} {heard : List (Option ℕ)} {switches : List SwitchView} {hosts : List HostView}
     {to_manager : List (List ToManager)} (from_manager new : List (List ToSwitch)) → length new ≡ length from_manager →
-    Rest plan links stands heard switches hosts to_manager from_manager → Rest plan links stands heard switches hosts to_manager new
+    Rest plan links attachments heard switches hosts to_manager from_manager → Rest plan links attachments heard switches hosts to_manager new
 says_rest from_manager new same r = record {
   is_plan = r.is_plan;
   made_for = r.made_for;
-  stands_many = r.stands_many;
+  attachments_many = r.attachments_many;
   at_ports = r.at_ports;
   heard_many = r.heard_many;
   switches_many = r.switches_many;
@@ -105,7 +105,7 @@ said_by (Waiting number true) = SaidRedirected
 said_by (Passed number) = SaidPassed
 said_by Over = SaidEnded
 
-abbrev pub amid : WorldView → Speech → List Entry → Doing
+abbrev pub amid : WorldView → Speech → List Entry → DuringActs
 amid w speech late = record { world = w; speech = speech; late = late }
 
 -- amid the acts of switch s: the frame spoken of, and those whose ends were put off, are owed
@@ -116,7 +116,7 @@ pub record Steady (s k : ℕ) (w : WorldView) (speech : Speech) (late : List Ent
   pub balance : Owes w (λ id. owed_by speech id + ends late id)
   pub rest : HasRest w
 
-abbrev pub IsSteady : ℕ → ℕ → Doing → Type 0
+abbrev pub IsSteady : ℕ → ℕ → DuringActs → Type 0
 IsSteady s k d = Steady s k d.world d.speech d.late
 
 module _ (s k : ℕ) (w : WorldView) where
@@ -145,7 +145,7 @@ module _ (s k : ℕ) (w : WorldView) where
   late_begins_none true late id none = omega (arith, begun-append late (Dropped id cause.LinkDown ∷ []), none)
   late_begins_none false late id none = none
 
-  control_steady : (speech : Speech) (late : List Entry) (port : ℕ) (frame : List ℕ) → IsSent k port true frame → Steady s k w speech late →
+  control_steady : (speech : Speech) (late : List Entry) (port : ℕ) (frame : List ℕ) → IsSentDuly k port true frame → Steady s k w speech late →
       Steady s k (sent_if_live w s port (Control frame)) speech late
   control_steady speech late port frame fit st = record {
     size = st.size;
@@ -192,7 +192,7 @@ module _ (s k : ℕ) (w : WorldView) where
   again_steady speech late id again st = note_steady speech late _ (again_begins_none again id) (again_ends_none again id) st
 
   -- a frame goes out that is owed
-  out_steady : (late : List Entry) (id port : ℕ) (frame : List ℕ) (again : Bool) → IsSent k port false frame → Steady s k w (Waiting id again) late →
+  out_steady : (late : List Entry) (id port : ℕ) (frame : List ℕ) (again : Bool) → IsSentDuly k port false frame → Steady s k w (Waiting id again) late →
       IsSteady s k (goes_out s (amid w (Waiting id again) late) id port frame)
   out_steady late id port frame again fit st = record {
     size = st.size;
@@ -253,7 +253,7 @@ module _ (s k : ℕ) (w : WorldView) where
       record { size = st2.size; switch = st2.switch; none = st2.none; balance = st2.balance; rest = st2.rest }
 
   -- a copy begins, and goes out
-  copy_steady : (late : List Entry) (id port : ℕ) (frame : List ℕ) → IsSent k port false frame → Steady s k w (Passed id) late →
+  copy_steady : (late : List Entry) (id port : ℕ) (frame : List ℕ) → IsSentDuly k port false frame → Steady s k w (Passed id) late →
       IsSteady s k (passed s (amid w (Passed id) late) port frame (Passed id))
   copy_steady late id port frame fit st =
       let entry : Entry = Copied id (w.begun + 1) in
@@ -266,7 +266,7 @@ abbrev pub IsLegal : Said → Type 0
 IsLegal Wrong = ⊥
 IsLegal _ = Unit {0}
 
-wrong_stays : (a : Act) → speech_after Wrong a ≡ Wrong
+wrong_stays : (a : Act) → frame_state_after Wrong a ≡ Wrong
 wrong_stays (act.Control port frame) = refl
 wrong_stays (act.Tell told) = refl
 wrong_stays (act.Grant pmac amac) = refl
@@ -276,11 +276,11 @@ wrong_stays (act.Pass port frame) = refl
 wrong_stays act.Take = refl
 wrong_stays (act.Drop cause) = refl
 
-wrong_is_not_said : (acts : List Act) → is_said (fold speech_after Wrong acts) ≡ false
+wrong_is_not_said : (acts : List Act) → is_said (fold frame_state_after Wrong acts) ≡ false
 wrong_is_not_said [] = refl
 wrong_is_not_said (a ∷ acts) = rw (wrong_stays a) (wrong_is_not_said acts)
 
-pub said_is_legal : (said : Said) (acts : List Act) → is_said (fold speech_after said acts) ≡ true → IsLegal said
+pub said_is_legal : (said : Said) (acts : List Act) → is_said (fold frame_state_after said acts) ≡ true → IsLegal said
 said_is_legal SaidNone acts h = tt
 said_is_legal SaidWaiting acts h = tt
 said_is_legal SaidRedirected acts h = tt
@@ -289,7 +289,7 @@ said_is_legal SaidEnded acts h = tt
 said_is_legal Wrong acts h = let never = wrong_is_not_said acts in absurd (cc)
 
 -- one act
-pub act_steady : (s k : ℕ) (w : WorldView) (speech : Speech) (late : List Entry) (a : Act) → IsFit k a → IsLegal (speech_after (said_by speech) a) →
+pub act_steady : (s k : ℕ) (w : WorldView) (speech : Speech) (late : List Entry) (a : Act) → IsFit k a → IsLegal (frame_state_after (said_by speech) a) →
     Steady s k w speech late → IsSteady s k (act_done s (amid w speech late) a)
 act_steady s k w Silent late (act.Control port frame) fit legal st = control_steady s k w Silent late port frame fit st
 act_steady s k w Silent late (act.Tell told) fit legal st = tell_steady s k w Silent late told st
@@ -331,8 +331,8 @@ act_steady s k w Over late act.Take fit legal st = absurd legal
 act_steady s k w Over late (act.Drop cause) fit legal st = absurd legal
 
 -- and what is said by then
-pub act_said : (s : ℕ) (w : WorldView) (speech : Speech) (late : List Entry) (a : Act) → IsLegal (speech_after (said_by speech) a) →
-    said_by (act_done s (amid w speech late) a).speech ≡ speech_after (said_by speech) a
+pub act_said : (s : ℕ) (w : WorldView) (speech : Speech) (late : List Entry) (a : Act) → IsLegal (frame_state_after (said_by speech) a) →
+    said_by (act_done s (amid w speech late) a).speech ≡ frame_state_after (said_by speech) a
 act_said s w Silent late (act.Control port frame) legal = refl
 act_said s w Silent late (act.Tell told) legal = refl
 act_said s w Silent late (act.Grant pmac amac) legal = refl
@@ -376,13 +376,13 @@ act_said s w Over late (act.Drop cause) legal = absurd legal
 
 -- all acts
 acts_steady : (s k : ℕ) (w : WorldView) (speech : Speech) (late : List Entry) (acts : List Act) → AllByRecursion (IsFit k) acts →
-    is_said (fold speech_after (said_by speech) acts) ≡ true → Steady s k w speech late →
+    is_said (fold frame_state_after (said_by speech) acts) ≡ true → Steady s k w speech late →
     IsSteady s k (acts_done s (amid w speech late) acts) × (is_said (said_by (acts_done s (amid w speech late) acts).speech) ≡ true)
 acts_steady s k w speech late [] fits said st = (st, said)
 acts_steady s k w speech late (a ∷ acts) fits said st =
-    let legal : IsLegal (speech_after (said_by speech) a) = said_is_legal (speech_after (said_by speech) a) acts said in
-    let next : Doing = act_done s (amid w speech late) a in
-    let same : said_by next.speech ≡ speech_after (said_by speech) a = act_said s w speech late a legal in
+    let legal : IsLegal (frame_state_after (said_by speech) a) = said_is_legal (frame_state_after (said_by speech) a) acts said in
+    let next : DuringActs = act_done s (amid w speech late) a in
+    let same : said_by next.speech ≡ frame_state_after (said_by speech) a = act_said s w speech late a legal in
     acts_steady s k next.world next.speech next.late acts fits.1 (rw same said) (act_steady s k w speech late a fits.0 legal st)
 
 pub owes_nothing : (speech : Speech) → is_said (said_by speech) ≡ true → (id : ℕ) → owed_by speech id ≡ 0
@@ -402,10 +402,10 @@ place_ends_none false s new id = refl
 
 -- a whole step of a switch leaves nothing owed
 pub all_acts_steady : (s k : ℕ) (w : WorldView) (speech : Speech) (old new : Place) (acts : List Act) → AllByRecursion (IsFit k) acts →
-    is_said (fold speech_after (said_by speech) acts) ≡ true → Steady s k w speech [] →
+    is_said (fold frame_state_after (said_by speech) acts) ≡ true → Steady s k w speech [] →
     Steady s k (place_noted s old new (with_late (acts_done s (amid w speech []) acts))) Silent []
 all_acts_steady s k w speech old new acts fits said st =
-    let done : Doing = acts_done s (amid w speech []) acts in
+    let done : DuringActs = acts_done s (amid w speech []) acts in
     let all = acts_steady s k w speech [] acts fits said st in
     note_steady s k (with_late done) Silent [] (if same_place old new then [] else Placed (switch_no s) new ∷ [])
     (place_begins_none (same_place old new) s new) (place_ends_none (same_place old new) s new)

@@ -11,19 +11,19 @@ use Rattle.pl_journal.specs.declared.cause.Cause.TheVariants as cause
 use Rattle.pl_journal.specs.declared.cause.Skip.{Skip}
 use Rattle.pl_journal.specs.declared.entry.Entry.{Entry}
 use Rattle.pl_journal.specs.declared.entry.Entry.TheVariants.{Arrived, Crossed, Dropped, LinkDown, LinkUp, Moved, Placed, Registered, Skipped}
-use Rattle.pl_logic.specs.declared.messages.ToManager.{ToManager}
-use Rattle.pl_logic.specs.declared.messages.ToSwitch.{ToSwitch}
-use Rattle.pl_logic.specs.declared.reception.Reception.{Reception}
-use Rattle.pl_logic.specs.declared.reception.Reception.TheVariants.{Kept, NotMember}
-use Rattle.pl_logic.specs.HostInputs.{HostAnswer, HostInput, HostRule}
-use Rattle.pl_logic.specs.HostInputs.HostAnswer.{Nothing, Played, Received}
-use Rattle.pl_logic.specs.HostInputs.HostInput.{HasMoved, Receives}
-use Rattle.pl_logic.specs.HostViews.{HostView}
-use Rattle.pl_logic.specs.ManagerDuties.{ManagerRule}
-use Rattle.pl_logic.specs.ManagerViews.{ManagerView}
-use Rattle.pl_logic.specs.SwitchInputs.{SwitchInput, SwitchRule}
-use Rattle.pl_logic.specs.SwitchInputs.SwitchInput.{Comes, Says, Tick}
-use Rattle.pl_logic.specs.SwitchViews.{SwitchView}
+use Rattle.pl_node.specs.declared.messages.ToManager.{ToManager}
+use Rattle.pl_node.specs.declared.messages.ToSwitch.{ToSwitch}
+use Rattle.pl_node.specs.declared.reception.Reception.{Reception}
+use Rattle.pl_node.specs.declared.reception.Reception.TheVariants.{Kept, NotMember}
+use Rattle.pl_node.specs.HostInputs.{HostAnswer, HostInput, HostRule}
+use Rattle.pl_node.specs.HostInputs.HostAnswer.{Nothing, Played, Received}
+use Rattle.pl_node.specs.HostInputs.HostInput.{HasMoved, Receives}
+use Rattle.pl_node.specs.HostViews.{HostView}
+use Rattle.pl_node.specs.ManagerDuties.{ManagerRule}
+use Rattle.pl_node.specs.ManagerViews.{ManagerView}
+use Rattle.pl_node.specs.SwitchInputs.{SwitchInput, SwitchRule}
+use Rattle.pl_node.specs.SwitchInputs.SwitchInput.{Comes, Says, Tick}
+use Rattle.pl_node.specs.SwitchViews.{SwitchView}
 use Rattle.pl_queues.specs.Queues.{put_at}
 use Rattle.pl_world.specs.declared.event.Event.{Event}
 use Rattle.pl_world.specs.declared.event.Event.TheVariants as event
@@ -31,7 +31,7 @@ use Rattle.pl_world.specs.declared.item.Item.{Item}
 use Rattle.pl_world.specs.declared.item.Item.TheVariants.{Control, Data}
 use Rattle.pl_world.specs.declared.spoken_frame.SpokenFrame.{SpokenFrame}
 use Rattle.pl_world.specs.declared.spoken_frame.SpokenFrame.TheVariants.{Silent, Waiting}
-use Rattle.pl_world.specs.declared.stand.Stand.{Stand}
+use Rattle.pl_world.specs.declared.attachment.AttachmentPoint.{AttachmentPoint}
 use Rattle.pl_world.specs.Changes.{host_no, noted, receiver, sent_by_host, switch_no}
 use Rattle.pl_world.specs.LinksAndMoves.{host_moved, item_lost, link_between, link_failed, link_repaired}
 use Rattle.pl_world.specs.OtherActs.{heard_after_tick, reception_noted, skip_noted}
@@ -50,7 +50,7 @@ pub data Turned (R : WorldView → WorldView → Type 0) (switch : SwitchRule) (
   OfHost : (mid : WorldView) (h : ℕ) (input : HostInput) (answer : HostAnswer) → R w mid → HostTurn host mid h input answer new →
       Turned R switch manager host w e new
   OfManager : (mid : WorldView) (s : ℕ) (told : ToManager) → R w mid → ManagerTurn manager mid s told new → Turned R switch manager host w e new
-  OfMoved : (h : HostNo) (s : SwitchNo) (port : ℕ) (from : Stand) → e ≡ event.Move h s port → slice_get w.stands h.0 ≡ Some from →
+  OfMoved : (h : HostNo) (s : SwitchNo) (port : ℕ) (from : AttachmentPoint) → e ≡ event.Move h s port → slice_get w.attachments h.0 ≡ Some from →
       HostTurn host (host_moved w h.0 from (record { edge = s; port = port })) h.0 HasMoved Nothing new → Turned R switch manager host w e new
   OfFailed : (a b : SwitchNo) (link : Link) → e ≡ event.Fail a b → link_between w.plan a.0 b.0 ≡ Some link → new ≡ link_failed w link →
       Turned R switch manager host w e new
@@ -60,9 +60,9 @@ pub data Turned (R : WorldView → WorldView → Type 0) (switch : SwitchRule) (
 -- R holds, or behind a move, or it was a link
 pub data Left (R : WorldView → WorldView → Type 0) (w : WorldView) (e : Event) (new : WorldView) : Type 0 where
   Stays : R w new → Left R w e new
-  Moves : (h : HostNo) (s : SwitchNo) (port : ℕ) (from : Stand) → e ≡ event.Move h s port → slice_get w.stands h.0 ≡ Some from →
+  Moves : (h : HostNo) (s : SwitchNo) (port : ℕ) (from : AttachmentPoint) → e ≡ event.Move h s port → slice_get w.attachments h.0 ≡ Some from →
       R (host_moved w h.0 from (record { edge = s; port = port })) new → Left R w e new
-  Fails : (a b : SwitchNo) (link : Link) → e ≡ event.Fail a b → link_between w.plan a.0 b.0 ≡ Some link → new ≡ link_failed w link → Left R w e new
+  LinkFails : (a b : SwitchNo) (link : Link) → e ≡ event.Fail a b → link_between w.plan a.0 b.0 ≡ Some link → new ≡ link_failed w link → Left R w e new
   Repairs : (a b : SwitchNo) (link : Link) → e ≡ event.Repair a b → link_between w.plan a.0 b.0 ≡ Some link → new ≡ link_repaired w link → Left R w e new
 
 -- what turns put and write, and the views that they set
@@ -83,7 +83,7 @@ pub record MovesAndLinks (R : WorldView → WorldView → Type 0) (May : Entry �
   pub moved : (h : HostNo) (s : SwitchNo) (port : ℕ) → May (Moved h s port)
   pub down : (lower upper : SwitchNo) → May (LinkDown lower upper)
   pub up : (lower upper : SwitchNo) → May (LinkUp lower upper)
-  pub stands : (w : WorldView) (h : ℕ) (to : Stand) → R w (record w { stands = set w.stands h to; heard = set w.heard h None })
+  pub attachments : (w : WorldView) (h : ℕ) (to : AttachmentPoint) → R w (record w { attachments = set w.attachments h to; heard = set w.heard h None })
   pub links : (w : WorldView) (links : LivePorts) → R w (record w { links = links })
 
 module _ (R : WorldView → WorldView → Type 0) (May : Entry → Type 0) (writes : Writes R May) where
@@ -141,14 +141,14 @@ module _ (R : WorldView → WorldView → Type 0) (May : Entry → Type 0) (writ
         HostPlays rule w h input new → R w new
     plays_left skipped w h input new plays =
         writes.on w (skip_noted w h plays.skip) new (skip_left skipped w h plays.skip)
-            (turns (skip_noted w h plays.skip) h input (Played plays.skip) new plays.turn)
+        (turns (skip_noted w h plays.skip) h input (Played plays.skip) new plays.turn)
 
     module _ (arrived : (id : ℕ) (h : HostNo) (frame : List ℕ) → May (Arrived id h frame)) where
       pub receives_left : (w : WorldView) (h id : ℕ) (frame : List ℕ) (new : WorldView) → HostReceives rule w h id frame new → R w new
       receives_left w h id frame new receives =
           let got = reception_noted w h id frame receives.reception in
           writes.on w got new (reception_left arrived w h id frame receives.reception)
-              (turns got h (Receives frame) (Received receives.reception) new receives.turn)
+          (turns got h (Receives frame) (Received receives.reception) new receives.turn)
 
       pub at_host_left : (w : WorldView) (id : ℕ) (frame : List ℕ) (to : Option ℕ) (new : WorldView) → ComesAtHost rule w id frame to new → R w new
       at_host_left w id frame None new is =
@@ -175,26 +175,26 @@ module _ (R : WorldView → WorldView → Type 0) (May : Entry → Type 0) (writ
       at_switch mid s port (Data id frame) r turn =
           let said = noted mid (Crossed id (switch_no s)) in
           OfSwitch said s (Comes port frame) (Waiting id false)
-              (writes.on w mid said r (writes.entry mid (Crossed id (switch_no s)) (crossed id (switch_no s)))) turn
+          (writes.on w mid said r (writes.entry mid (Crossed id (switch_no s)) (crossed id (switch_no s)))) turn
 
       at_host : (mid : WorldView) (id : ℕ) (frame : List ℕ) (to : Option ℕ) → R w mid → ComesAtHost host mid id frame to new → This
       at_host mid id frame None r is =
           still (noted mid (Dropped id cause.HostGone)) (writes.on w mid _ r
-              (writes.entry mid (Dropped id cause.HostGone) (writes.dropped id cause.HostGone))) is
+          (writes.entry mid (Dropped id cause.HostGone) (writes.dropped id cause.HostGone))) is
       at_host mid id frame (Some h) r receives =
           let got = reception_noted mid h id frame receives.reception in
           OfHost got h (Receives frame) (Received receives.reception)
-              (writes.on w mid got r (reception_left arrived mid h id frame receives.reception)) receives.turn
+          (writes.on w mid got r (reception_left arrived mid h id frame receives.reception)) receives.turn
 
       out_of_port : (mid : WorldView) (s port : ℕ) (item : Item) → R w mid → ComesOut host mid s port item new → This
       out_of_port mid s port (Control frame) r is = still mid r is
       out_of_port mid s port (Data id frame) r comes = at_host mid id frame (receiver mid s port frame) r comes
 
       by_case : Happened switch manager host w e new → This
-      by_case (FromHost h item items stand is head at comes) =
+      by_case (FromHost h item items attachment is head at comes) =
           let mid : WorldView = record w { from_hosts = set w.from_hosts h.0 items } in
-          at_switch (heard_item mid h.0 item) stand.edge.0 stand.port item
-              (writes.on w mid (heard_item mid h.0 item) (takes.from_hosts w h.0 items) (heard_left takes.heard mid h.0 item)) comes
+          at_switch (heard_item mid h.0 item) attachment.edge.0 attachment.port item
+          (writes.on w mid (heard_item mid h.0 item) (takes.from_hosts w h.0 items) (heard_left takes.heard mid h.0 item)) comes
       by_case (OverLink s port item items t q is head joined comes) =
           at_switch (record w { out = set w.out (port_index w.plan.k s.0 port) items }) t.0 q item (takes.out w (port_index w.plan.k s.0 port) items) comes
       by_case (OutOfPort s port item items is head joined comes) =
@@ -204,7 +204,7 @@ module _ (R : WorldView → WorldView → Type 0) (May : Entry → Type 0) (writ
       by_case (Ordered s says items is head turn) =
           OfSwitch (record w { from_manager = set w.from_manager s.0 items }) s.0 (Says says) Silent (takes.from_manager w s.0 items) turn
       by_case (Ticked s is turn) =
-          OfSwitch (record w { heard = heard_after_tick s.0 w.stands w.heard }) s.0 Tick Silent (takes.heard w (heard_after_tick s.0 w.stands w.heard)) turn
+          OfSwitch (record w { heard = heard_after_tick s.0 w.attachments w.heard }) s.0 Tick Silent (takes.heard w (heard_after_tick s.0 w.attachments w.heard)) turn
       by_case (Failed a b link is found fails) = OfFailed a b link is found fails
       by_case (Repaired a b link is found repairs) = OfRepaired a b link is found repairs
       by_case (Lost s port item items is head loses) =
@@ -226,7 +226,7 @@ module _ (R : WorldView → WorldView → Type 0) (May : Entry → Type 0) (writ
         left_of (OfManager mid s told r turn) = Stays (writes.on w mid new r (manager_left turns manager mid s told new turn))
         left_of (OfMoved h s port from is at turn) =
             Moves h s port from is at (host_left turns host (host_moved w h.0 from (record { edge = s; port = port })) h.0 HasMoved Nothing new turn)
-        left_of (OfFailed a b link is found fails) = Fails a b link is found fails
+        left_of (OfFailed a b link is found fails) = LinkFails a b link is found fails
         left_of (OfRepaired a b link is found repairs) = Repairs a b link is found repairs
 
         -- but for moves and links
@@ -237,12 +237,12 @@ module _ (R : WorldView → WorldView → Type 0) (May : Entry → Type 0) (writ
           all_left : Left R w e new → R w new
           all_left (Stays r) = r
           all_left (Moves h s port from is at r) =
-              let to : Stand = record { edge = s; port = port } in
+              let to : AttachmentPoint = record { edge = s; port = port } in
               writes.on w (host_moved w h.0 from to) new
-              (moved_left R May writes (empties_of R takes) w h.0 from to (rest.moved (host_no h.0) s port) (λ u. rest.stands u h.0 to)) r
-          all_left (Fails a b link is found fails) =
+              (moved_left R May writes (empties_of R takes) w h.0 from to (rest.moved (host_no h.0) s port) (λ u. rest.attachments u h.0 to)) r
+          all_left (LinkFails a b link is found fails) =
               subst (λ (x : WorldView). R w x) (sym fails) (failed_left R May writes (λ u i. takes.out u i []) w link
-                  (rest.down link.lower link.upper) rest.links)
+              (rest.down link.lower link.upper) rest.links)
           all_left (Repairs a b link is found repairs) =
               subst (λ (x : WorldView). R w x) (sym repairs) (repaired_left R May writes w link (rest.up link.lower link.upper) rest.links)
 

@@ -7,12 +7,12 @@ use Rattle.pl_wiring.specs.Labels.{switch_count}
 use Rattle.pl_wiring.specs.LiveLinks.{LivePorts}
 use Rattle.pl_wiring.specs.Peers.{peer_of}
 use Rattle.pl_wiring.specs.Plan.{IsPlan, Plan}
-use Rattle.pl_logic.specs.HostViews.{boot_host}
-use Rattle.pl_logic.specs.ManagerViews.{booted_manager}
+use Rattle.pl_node.specs.HostViews.{boot_host}
+use Rattle.pl_node.specs.ManagerViews.{booted_manager}
 use Rattle.pl_journal.specs.Places.{is_host_port}
-use Rattle.pl_logic.specs.SwitchFacts.{switch_at_boot}
+use Rattle.pl_node.specs.SwitchFacts.{switch_at_boot}
 use Rattle.pl_world.specs.declared.limits.Limits.{Limits}
-use Rattle.pl_world.specs.declared.stand.Stand.{Stand}
+use Rattle.pl_world.specs.declared.attachment.AttachmentPoint.{AttachmentPoint}
 use Rattle.pl_world.specs.Worlds.{WorldView}
 
 abbrev pub me_of : Host → Me
@@ -22,8 +22,8 @@ me_of host = record { mac = host.mac; ip = host.ip }
 abbrev pub host_table : Plan → List Me
 host_table plan = map me_of plan.hosts
 
-abbrev pub first_stand : Host → Stand
-first_stand host = record { edge = host.edge; port = host.port }
+abbrev pub first_attachment : Host → AttachmentPoint
+first_attachment host = record { edge = host.edge; port = host.port }
 
 -- every link is live
 abbrev pub all_live : Plan → LivePorts
@@ -37,7 +37,7 @@ abbrev pub booted : Plan → Limits → WorldView
 booted plan limits = record {
   plan = plan;
   links = all_live plan;
-  stands = map first_stand plan.hosts;
+  attachments = map first_attachment plan.hosts;
   heard = replicate (length plan.hosts) None;
   switches = map (λ id. switch_at_boot id plan.k) plan.ids;
   manager = booted_manager plan.k;

@@ -13,15 +13,15 @@ use Rattle.pl_wiring.specs.Plan.{Plan}
 use Rattle.pl_journal.specs.declared.cause.Cause.{Cause}
 use Rattle.pl_journal.specs.declared.entry.Entry.{Entry}
 use Rattle.pl_journal.specs.declared.entry.Entry.TheVariants.{Dropped, Sent}
-use Rattle.pl_logic.specs.declared.messages.ToManager.{ToManager}
-use Rattle.pl_logic.specs.declared.messages.ToSwitch.{ToSwitch}
+use Rattle.pl_node.specs.declared.messages.ToManager.{ToManager}
+use Rattle.pl_node.specs.declared.messages.ToSwitch.{ToSwitch}
 use Rattle.pl_layouts.specs.Equality.{same_mac, same_switch}
 use Rattle.pl_journal.specs.Lossy.{mac_of_host}
 use Rattle.pl_layouts.specs.Memberships.{is_group}
 use Rattle.pl_journal.specs.Places.{is_host_port}
 use Rattle.pl_world.specs.declared.item.Item.{Item}
 use Rattle.pl_world.specs.declared.item.Item.TheVariants.{Control, Data}
-use Rattle.pl_world.specs.declared.stand.Stand.{Stand}
+use Rattle.pl_world.specs.declared.attachment.AttachmentPoint.{AttachmentPoint}
 use Rattle.pl_queues.specs.Queues.{items_at, put_at}
 use Rattle.pl_world.specs.Worlds.{WorldView}
 
@@ -82,12 +82,12 @@ sent_by_host w h frame = record w {
 abbrev pub host_of : Plan → Mac → Option ℕ
 host_of plan mac = position (λ host. same_mac host.mac mac) plan.hosts
 
-abbrev pub stands_at : ℕ → ℕ → Stand → Bool
-stands_at s port stand = (stand.edge.0 == s) && (stand.port == port)
+abbrev pub stands_at : ℕ → ℕ → AttachmentPoint → Bool
+stands_at s port attachment = (attachment.edge.0 == s) && (attachment.port == port)
 
 -- the host that stands at a port
 abbrev pub host_at : WorldView → ℕ → ℕ → Option ℕ
-host_at w s port = position (stands_at s port) w.stands
+host_at w s port = position (stands_at s port) w.attachments
 
 abbrev pub is_address_of : Option Mac → Mac → Bool
 is_address_of None dst = false

@@ -4,15 +4,15 @@ use Rattle.pl_wiring.specs.declared.link.Link.{Link}
 use Rattle.pl_wiring.specs.declared.link.Peer.{Peer}
 use Rattle.pl_wiring.specs.declared.link.Peer.TheVariants.{HostPort, Switch}
 use Rattle.pl_wiring.specs.Peers.{peer_of}
-use Rattle.pl_logic.specs.declared.acts.Act.{Act}
-use Rattle.pl_logic.specs.declared.acts.Act.TheVariants as act
-use Rattle.pl_logic.specs.declared.messages.ToSwitch.{ToSwitch}
-use Rattle.pl_logic.specs.declared.reception.Reception.{Reception}
-use Rattle.pl_logic.specs.declared.reception.Reception.TheVariants.{NotMember}
-use Rattle.pl_logic.specs.HostInputs.{HostRule}
-use Rattle.pl_logic.specs.ManagerDuties.{ManagerRule}
-use Rattle.pl_logic.specs.SwitchInputs.{SwitchInput, SwitchRule}
-use Rattle.pl_logic.specs.SwitchInputs.SwitchInput.{Comes, Says, Tick}
+use Rattle.pl_node.specs.declared.acts.Act.{Act}
+use Rattle.pl_node.specs.declared.acts.Act.TheVariants as act
+use Rattle.pl_node.specs.declared.messages.ToSwitch.{ToSwitch}
+use Rattle.pl_node.specs.declared.reception.Reception.{Reception}
+use Rattle.pl_node.specs.declared.reception.Reception.TheVariants.{NotMember}
+use Rattle.pl_node.specs.HostInputs.{HostRule}
+use Rattle.pl_node.specs.ManagerDuties.{ManagerRule}
+use Rattle.pl_node.specs.SwitchInputs.{SwitchInput, SwitchRule}
+use Rattle.pl_node.specs.SwitchInputs.SwitchInput.{Comes, Says, Tick}
 use Rattle.pl_journal.specs.declared.cause.Cause.{Cause}
 use Rattle.pl_journal.specs.declared.cause.Cause.TheVariants.{HostGone, LinkDown, Lost, NoMember}
 use Rattle.pl_journal.specs.declared.entry.Entry.{Entry}
@@ -23,7 +23,7 @@ use Rattle.pl_world.specs.declared.event.Event.TheVariants as event
 use Rattle.pl_world.specs.declared.event.QueueName.TheVariants as queue
 use Rattle.pl_world.specs.declared.item.Item.{Item}
 use Rattle.pl_world.specs.declared.item.Item.TheVariants.{Control, Data}
-use Rattle.pl_world.specs.declared.stand.Stand.{Stand}
+use Rattle.pl_world.specs.declared.attachment.AttachmentPoint.{AttachmentPoint}
 use Rattle.pl_world.specs.Changes.{is_failed_at, out_of, receiver}
 use Rattle.pl_world.specs.LinksAndMoves.{link_between}
 use Rattle.pl_world.specs.WorldRule.{ComesAtHost, ComesAtSwitch, ComesIn, ComesOver, DeliversFromHost, DeliversFromManager, DeliversOut, WorldStep, heard_item}
@@ -132,9 +132,9 @@ abbrev pub coming_at : ℕ → ℕ → Item → Coming
 coming_at s port (Control frame) = record { switch = s; input = Comes port frame; frame = None }
 coming_at s port (Data id frame) = record { switch = s; input = Comes port frame; frame = Some id }
 
-abbrev pub coming_in : List Item → Option Stand → Option Coming
-coming_in (item ∷ items) (Some stand) = Some (coming_at stand.edge.0 stand.port item)
-coming_in items stand = None
+abbrev pub coming_in : List Item → Option AttachmentPoint → Option Coming
+coming_in (item ∷ items) (Some attachment) = Some (coming_at attachment.edge.0 attachment.port item)
+coming_in items attachment = None
 
 abbrev pub coming_over : List Item → Peer → Option Coming
 coming_over (item ∷ items) (Switch t q) = Some (coming_at t.0 q item)
@@ -147,7 +147,7 @@ coming_from_manager s (says ∷ items) = Some (record { switch = s; input = Says
 -- the switch whose turn it is in an event, and what comes at it
 abbrev pub coming : WorldView → Event → Option Coming
 coming w (event.Tick s) = Some (record { switch = s.0; input = Tick; frame = None })
-coming w (event.Deliver (queue.FromHost h)) = coming_in (items_at w.from_hosts h.0) (slice_get w.stands h.0)
+coming w (event.Deliver (queue.FromHost h)) = coming_in (items_at w.from_hosts h.0) (slice_get w.attachments h.0)
 coming w (event.Deliver (queue.FromManager s)) = coming_from_manager s.0 (items_at w.from_manager s.0)
 coming w (event.Deliver (queue.Port s port)) = coming_over (out_of w s.0 port) (peer_of w.plan s.0 port)
 coming w happens = None
@@ -163,13 +163,13 @@ module _ (switch : SwitchRule) (manager : ManagerRule) (host : HostRule) where
   turn_at_switch w s port (Control frame) new turn = OfSwitch turn.acts
   turn_at_switch w s port (Data id frame) new turn = OfSwitch turn.acts
 
-  abbrev pub turn_in : (w : WorldView) (h : ℕ) (item : Item) (stand : Option Stand) (new : WorldView) → ComesIn switch w h item stand new → Turn
+  abbrev pub turn_in : (w : WorldView) (h : ℕ) (item : Item) (attachment : Option AttachmentPoint) (new : WorldView) → ComesIn switch w h item attachment new → Turn
   turn_in w h item None new turn = Other
-  turn_in w h item (Some stand) new turn = turn_at_switch (heard_item w h item) stand.edge.0 stand.port item new turn
+  turn_in w h item (Some attachment) new turn = turn_at_switch (heard_item w h item) attachment.edge.0 attachment.port item new turn
 
   abbrev pub turn_from_host : (w : WorldView) (h : ℕ) (items : List Item) (new : WorldView) → DeliversFromHost switch w h items new → Turn
   turn_from_host w h [] new turn = Other
-  turn_from_host w h (item ∷ items) new turn = turn_in _ h item (slice_get w.stands h) new turn
+  turn_from_host w h (item ∷ items) new turn = turn_in _ h item (slice_get w.attachments h) new turn
 
   abbrev pub turn_from_manager : (w : WorldView) (s : ℕ) (items : List ToSwitch) (new : WorldView) → DeliversFromManager switch w s items new → Turn
   turn_from_manager w s [] new turn = Other
@@ -216,12 +216,12 @@ on_link w None = []
 on_link w (Some link) = out_of w link.lower.0 link.lower_port ++ out_of w link.upper.0 link.upper_port
 
 -- what waits of a host and for it, at the port where it stands
-abbrev pub at_port : WorldView → Option Stand → List Item
+abbrev pub at_port : WorldView → Option AttachmentPoint → List Item
 at_port w None = []
-at_port w (Some stand) = out_of w stand.edge.0 stand.port
+at_port w (Some attachment) = out_of w attachment.edge.0 attachment.port
 
 abbrev pub of_host : WorldView → ℕ → List Item
-of_host w h = items_at w.from_hosts h ++ at_port w (slice_get w.stands h)
+of_host w h = items_at w.from_hosts h ++ at_port w (slice_get w.attachments h)
 
 abbrev pub dropped_at : WorldView → Option Coming → List Act → List (ℕ × Cause)
 dropped_at w None acts = []

@@ -4,13 +4,13 @@ use Rattle.std.specs.List.{AllByRecursion}
 use Rattle.pl_wiring.specs.Labels.{switch_count}
 use Rattle.pl_wiring.specs.LiveLinks.{IsFor}
 use Rattle.pl_wiring.specs.Plan.{IsPlan}
-use Rattle.pl_logic.specs.Accounting.{IsShaped, IsWhole}
+use Rattle.pl_node.specs.Accounting.{IsShaped, IsWholeFrame}
 use Rattle.pl_layouts.specs.Control.{is_control}
 use Rattle.pl_journal.specs.Flights.{begun, ends}
-use Rattle.pl_logic.specs.HostDuties.{HoldsData}
+use Rattle.pl_node.specs.HostDuties.{HoldsData}
 use Rattle.pl_world.specs.declared.item.Item.{Item}
 use Rattle.pl_world.specs.declared.item.Item.TheVariants.{Control, Data}
-use Rattle.pl_world.specs.declared.stand.Stand.{Stand}
+use Rattle.pl_world.specs.declared.attachment.AttachmentPoint.{AttachmentPoint}
 use Rattle.pl_world.specs.Worlds.{WorldView}
 
 -- how often a data frame stands in a queue
@@ -34,7 +34,7 @@ born id many = if nat_le 1 id && nat_le id many then 1 else 0
 -- a control frame, or a data frame, of 14 to 65,553 bytes
 pub record IsFrame (control : Bool) (frame : List ℕ) : Type 0 where
   pub kind : is_control frame ≡ control
-  pub whole : IsWhole frame
+  pub whole : IsWholeFrame frame
 
 abbrev pub IsItem : Item → Type 0
 IsItem (Control frame) = IsFrame true frame
@@ -46,16 +46,16 @@ IsDataItem (Control frame) = ⊥
 IsDataItem (Data id frame) = IsFrame false frame
 
 -- a port that a fat tree of switches with k ports has
-pub record IsAtPort (k : ℕ) (stand : Stand) : Type 0 where
-  pub edge : stand.edge.0 < switch_count k
-  pub port : stand.port < k
+pub record IsTreePort (k : ℕ) (attachment : AttachmentPoint) : Type 0 where
+  pub edge : attachment.edge.0 < switch_count k
+  pub port : attachment.port < k
 
 -- There is one of each for each host, switch and port of the wiring.
 pub record IsFormed (w : WorldView) : Type 0 where
   pub plan : IsPlan w.plan
   pub links : IsFor w.plan w.links
-  pub stands : length w.stands ≡ length w.plan.hosts
-  pub at_ports : AllByRecursion (IsAtPort w.plan.k) w.stands
+  pub attachments : length w.attachments ≡ length w.plan.hosts
+  pub at_ports : AllByRecursion (IsTreePort w.plan.k) w.attachments
   pub heard : length w.heard ≡ length w.plan.hosts
   pub switches : length w.switches ≡ switch_count w.plan.k
   pub ports : AllByRecursion (λ v. v.k ≡ w.plan.k) w.switches

@@ -2,7 +2,7 @@
 use Rattle.std.specs.Prelude.{◌≡◌, ◌≤◌, ℕ, Contains, IsTrue, length}
 use Rattle.pl_frame.specs.declared.address.SwitchId.{SwitchId}
 use Rattle.pl_wiring.specs.Plan.{Plan}
-use Rattle.pl_logic.specs.ManagerViews.{ManagerView, is_heard, registry}
+use Rattle.pl_node.specs.ManagerViews.{ManagerView, is_heard, registry}
 use Rattle.pl_world.specs.Worlds.{WorldView}
 
 -- the manager of this wiring heard no switches but those of the wiring, and learnt no more addresses than steps were made

@@ -13,3 +13,4 @@ pub mod Pending
 pub mod SettledQueues
 pub mod Drops
 pub mod QueueOrder
+pub mod Ready

@@ -8,7 +8,7 @@ use Rattle.pl_journal.specs.declared.cause.Cause.TheVariants as cause
 use Rattle.pl_journal.specs.declared.entry.Entry.TheVariants.{Dropped, LinkDown, LinkUp, Moved}
 use Rattle.pl_world.specs.declared.item.Item.{Item}
 use Rattle.pl_world.specs.declared.item.Item.TheVariants.{Control, Data}
-use Rattle.pl_world.specs.declared.stand.Stand.{Stand}
+use Rattle.pl_world.specs.declared.attachment.AttachmentPoint.{AttachmentPoint}
 use Rattle.pl_world.specs.Changes.{emptied_from_host, emptied_out, host_no, noted}
 use Rattle.pl_world.specs.Worlds.{WorldView}
 
@@ -46,10 +46,10 @@ item_lost w (Control frame) = w
 item_lost w (Data id frame) = noted w (Dropped id cause.Lost)
 
 -- A host leaves its port for another one. The frames in its queue and in the queue to it end; it was not heard yet where it comes to.
-abbrev pub host_moved : WorldView → ℕ → Stand → Stand → WorldView
+abbrev pub host_moved : WorldView → ℕ → AttachmentPoint → AttachmentPoint → WorldView
 host_moved w h from to =
     emptied_out
     (emptied_from_host
-    (noted (record w { stands = slice_set w.stands h to; heard = slice_set w.heard h None }) (Moved (host_no h) to.edge to.port))
+    (noted (record w { attachments = slice_set w.attachments h to; heard = slice_set w.heard h None }) (Moved (host_no h) to.edge to.port))
     h cause.HostGone)
     from.edge.0 from.port cause.HostGone

@@ -1,18 +1,18 @@
 -- What the acts of a host and of the manager bring about.
 use Rattle.std.specs.Prelude.{ℕ, ◌+◌, ◌==◌, nat_le, if◌then◌else◌, List, ◌∷◌, fold, is_some, Option, Some, None, slice_set}
-use Rattle.pl_logic.specs.declared.acts.HostAct.{HostAct}
-use Rattle.pl_logic.specs.declared.acts.HostAct.TheVariants.{Send}
-use Rattle.pl_logic.specs.declared.acts.ManagerAct.{ManagerAct}
-use Rattle.pl_logic.specs.declared.acts.ManagerAct.TheVariants.{Number, Say}
+use Rattle.pl_node.specs.declared.acts.HostAct.{HostAct}
+use Rattle.pl_node.specs.declared.acts.HostAct.TheVariants.{Send}
+use Rattle.pl_node.specs.declared.acts.ManagerAct.{ManagerAct}
+use Rattle.pl_node.specs.declared.acts.ManagerAct.TheVariants.{Number, Say}
 use Rattle.pl_journal.specs.declared.cause.Cause.TheVariants.{NoMember}
 use Rattle.pl_journal.specs.declared.cause.Skip.{Skip}
 use Rattle.pl_journal.specs.declared.entry.Entry.TheVariants.{Arrived, Dropped, Registered, Skipped}
-use Rattle.pl_logic.specs.declared.reception.Reception.{Reception}
-use Rattle.pl_logic.specs.declared.reception.Reception.TheVariants.{Kept, NotMember}
+use Rattle.pl_node.specs.declared.reception.Reception.{Reception}
+use Rattle.pl_node.specs.declared.reception.Reception.TheVariants.{Kept, NotMember}
 use Rattle.pl_layouts.specs.Frames.{packet_in}
-use Rattle.pl_logic.specs.HostViews.{HostView}
-use Rattle.pl_logic.specs.ManagerViews.{ManagerView}
-use Rattle.pl_world.specs.declared.stand.Stand.{Stand}
+use Rattle.pl_node.specs.HostViews.{HostView}
+use Rattle.pl_node.specs.ManagerViews.{ManagerView}
+use Rattle.pl_world.specs.declared.attachment.AttachmentPoint.{AttachmentPoint}
 use Rattle.pl_world.specs.Changes.{host_no, noted, said_to_switch, sent_by_host}
 use Rattle.pl_world.specs.Worlds.{WorldView}
 
@@ -55,7 +55,7 @@ one_more_tick None = None
 one_more_tick (Some ticks) = if nat_le silent_ticks (ticks + 1) then None else Some (ticks + 1)
 
 -- the ticks of a switch count for the hosts that stand there
-abbrev pub heard_after_tick : ℕ → List Stand → List (Option ℕ) → List (Option ℕ)
-heard_after_tick s (stand ∷ stands) (ticks ∷ heard) =
-    (if stand.edge.0 == s then one_more_tick ticks else ticks) ∷ heard_after_tick s stands heard
+abbrev pub heard_after_tick : ℕ → List AttachmentPoint → List (Option ℕ) → List (Option ℕ)
+heard_after_tick s (attachment ∷ attachments) (ticks ∷ heard) =
+    (if attachment.edge.0 == s then one_more_tick ticks else ticks) ∷ heard_after_tick s attachments heard
 heard_after_tick s _ heard = heard

@@ -72,9 +72,9 @@ has_items_at w n = is_filled w (queue_at w.plan n)
 abbrev pub next_queue : WorldView → ℕ → Option ℕ
 next_queue w from = next_index (has_items_at w) (queue_count w.plan) from
 
--- the same, of a bank whose first queue has number `first`
+-- the same, of a queue array whose first queue has number `first`
 abbrev pub next_in : {T : Type 0} → ℕ → List (List T) → ℕ → Option ℕ
-next_in first bank from = option_map (λ place. first + place) (next_filled bank (from - first))
+next_in first queue_array from = option_map (λ place. first + place) (next_filled queue_array (from - first))
 
 -- the queues with items, in queue order
 abbrev pub filled_queues : WorldView → List QueueName

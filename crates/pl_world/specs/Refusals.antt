@@ -27,11 +27,11 @@ frame_bytes (Arrived id host frame) = length frame
 frame_bytes entry = 0
 
 -- a journal has as many entries, or its frames as many bytes, as they may
-abbrev pub is_book_full : Limits → List Entry → Bool
-is_book_full limits journal = nat_le limits.entries (length journal) || nat_le limits.bytes (sum_by frame_bytes journal)
+abbrev pub is_journal_full : Limits → List Entry → Bool
+is_journal_full limits journal = nat_le limits.entries (length journal) || nat_le limits.bytes (sum_by frame_bytes journal)
 
 abbrev pub is_full : WorldView → Bool
-is_full w = is_book_full w.limits w.journal
+is_full w = is_journal_full w.limits w.journal
 
 abbrev pub has_host : Plan → ℕ → Bool
 has_host plan h = nat_lt h (length plan.hosts)

@@ -2,10 +2,13 @@
 use Rattle.std.specs.Prelude.{◌≡◌, List, [], ◌∷◌, None}
 use Rattle.pl_journal.specs.declared.entry.Entry.{Entry}
 use Rattle.pl_journal.specs.declared.entry.Entry.TheVariants.{Line, Settled, Unsettled}
-use Rattle.pl_logic.specs.HostInputs.{HostRule}
-use Rattle.pl_logic.specs.ManagerDuties.{ManagerRule}
-use Rattle.pl_logic.specs.SwitchInputs.{SwitchRule}
+use Rattle.pl_wiring.specs.Plan.{Plan}
+use Rattle.pl_node.specs.HostInputs.{HostRule}
+use Rattle.pl_node.specs.ManagerDuties.{ManagerRule}
+use Rattle.pl_node.specs.SwitchInputs.{SwitchRule}
 use Rattle.pl_world.specs.declared.event.Event.{Event}
+use Rattle.pl_world.specs.declared.limits.Limits.{Limits}
+use Rattle.pl_world.specs.Booting.{CanBegin, booted}
 use Rattle.pl_world.specs.Changes.{noted}
 use Rattle.pl_world.specs.Refusals.{refusal}
 use Rattle.pl_world.specs.WorldRule.{WorldStep}
@@ -33,3 +36,8 @@ abbrev pub WorldRun : SwitchRule → ManagerRule → HostRule → WorldView → 
 WorldRun switch manager host old [] new = new ≡ old
 WorldRun switch manager host old (moment ∷ moments) new =
     (next : WorldView) × Befalls switch manager host old moment next × WorldRun switch manager host next moments new
+
+-- So it is at each moment of every run from the beginning of a fabric.
+abbrev pub InEveryRun : SwitchRule → ManagerRule → HostRule → (WorldView → Type 0) → Type 0
+InEveryRun switch manager host Holds = (plan : Plan) (limits : Limits) (moments : List Moment) (new : WorldView) → CanBegin plan →
+    WorldRun switch manager host (booted plan limits) moments new → Holds new

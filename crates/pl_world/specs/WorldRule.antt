@@ -6,9 +6,9 @@ use Rattle.pl_wiring.specs.declared.link.Peer.{Peer}
 use Rattle.pl_wiring.specs.declared.link.Peer.TheVariants.{HostPort, Switch}
 use Rattle.pl_wiring.specs.Index.{port_index}
 use Rattle.pl_wiring.specs.Peers.{peer_of}
-use Rattle.pl_logic.specs.declared.acts.Act.{Act}
-use Rattle.pl_logic.specs.declared.acts.HostAct.{HostAct}
-use Rattle.pl_logic.specs.declared.acts.ManagerAct.{ManagerAct}
+use Rattle.pl_node.specs.declared.acts.Act.{Act}
+use Rattle.pl_node.specs.declared.acts.HostAct.{HostAct}
+use Rattle.pl_node.specs.declared.acts.ManagerAct.{ManagerAct}
 use Rattle.pl_journal.specs.declared.cause.Cause.TheVariants.{HostGone}
 use Rattle.pl_journal.specs.declared.cause.Skip.{Skip}
 use Rattle.pl_journal.specs.declared.entry.Entry.TheVariants.{Crossed, Dropped}
@@ -16,23 +16,23 @@ use Rattle.pl_world.specs.declared.event.Event.{Event}
 use Rattle.pl_world.specs.declared.event.Event.TheVariants as event
 use Rattle.pl_world.specs.declared.event.QueueName.{QueueName}
 use Rattle.pl_world.specs.declared.event.QueueName.TheVariants as queue
-use Rattle.pl_logic.specs.declared.messages.ToManager.{ToManager}
-use Rattle.pl_logic.specs.declared.messages.ToSwitch.{ToSwitch}
-use Rattle.pl_logic.specs.declared.reception.Reception.{Reception}
-use Rattle.pl_logic.specs.HostInputs.{HostAnswer, HostInput, HostRule}
-use Rattle.pl_logic.specs.HostInputs.HostAnswer.{Nothing, Played, Received}
-use Rattle.pl_logic.specs.HostInputs.HostInput.{HasMoved, Joins, Leaves, Plays, PlaysRaw, Receives, Retries, Starts}
-use Rattle.pl_logic.specs.HostViews.{HostView}
-use Rattle.pl_logic.specs.ManagerDuties.{ManagerRule}
-use Rattle.pl_logic.specs.ManagerViews.{ManagerView}
-use Rattle.pl_logic.specs.SwitchInputs.{SwitchInput, SwitchRule}
-use Rattle.pl_logic.specs.SwitchInputs.SwitchInput.{Comes, Says, Tick}
-use Rattle.pl_logic.specs.SwitchViews.{SwitchView}
+use Rattle.pl_node.specs.declared.messages.ToManager.{ToManager}
+use Rattle.pl_node.specs.declared.messages.ToSwitch.{ToSwitch}
+use Rattle.pl_node.specs.declared.reception.Reception.{Reception}
+use Rattle.pl_node.specs.HostInputs.{HostAnswer, HostInput, HostRule}
+use Rattle.pl_node.specs.HostInputs.HostAnswer.{Nothing, Played, Received}
+use Rattle.pl_node.specs.HostInputs.HostInput.{HasMoved, Joins, Leaves, Plays, PlaysRaw, Receives, Retries, Starts}
+use Rattle.pl_node.specs.HostViews.{HostView}
+use Rattle.pl_node.specs.ManagerDuties.{ManagerRule}
+use Rattle.pl_node.specs.ManagerViews.{ManagerView}
+use Rattle.pl_node.specs.SwitchInputs.{SwitchInput, SwitchRule}
+use Rattle.pl_node.specs.SwitchInputs.SwitchInput.{Comes, Says, Tick}
+use Rattle.pl_node.specs.SwitchViews.{SwitchView}
 use Rattle.pl_world.specs.declared.item.Item.{Item}
 use Rattle.pl_world.specs.declared.item.Item.TheVariants.{Control, Data}
 use Rattle.pl_world.specs.declared.spoken_frame.SpokenFrame.{SpokenFrame}
 use Rattle.pl_world.specs.declared.spoken_frame.SpokenFrame.TheVariants.{Silent, Waiting}
-use Rattle.pl_world.specs.declared.stand.Stand.{Stand}
+use Rattle.pl_world.specs.declared.attachment.AttachmentPoint.{AttachmentPoint}
 use Rattle.pl_world.specs.Changes.{noted, out_of, receiver, switch_no}
 use Rattle.pl_world.specs.LinksAndMoves.{host_moved, item_lost, link_between, link_failed, link_repaired}
 use Rattle.pl_world.specs.OtherActs.{heard_after_tick, heard_with, host_stepped, manager_stepped, reception_noted, skip_noted}
@@ -103,15 +103,15 @@ heard_item w h (Control frame) = w
 heard_item w h (Data id frame) = record w { heard = slice_set w.heard h (heard_with frame (slice_index_or w.heard h None)) }
 
 -- an item of a host comes at the port where the host stands by now
-abbrev pub ComesIn : SwitchRule → WorldView → ℕ → Item → Option Stand → WorldView → Type 0
+abbrev pub ComesIn : SwitchRule → WorldView → ℕ → Item → Option AttachmentPoint → WorldView → Type 0
 ComesIn rule w h item None new = ⊥
-ComesIn rule w h item (Some stand) new = ComesAtSwitch rule (heard_item w h item) stand.edge.0 stand.port item new
+ComesIn rule w h item (Some attachment) new = ComesAtSwitch rule (heard_item w h item) attachment.edge.0 attachment.port item new
 
 -- the head of a queue is delivered
 abbrev pub DeliversFromHost : SwitchRule → WorldView → ℕ → List Item → WorldView → Type 0
 DeliversFromHost rule w h [] new = ⊥
 DeliversFromHost rule w h (item ∷ items) new =
-    ComesIn rule (record w { from_hosts = slice_set w.from_hosts h items }) h item (slice_get w.stands h) new
+    ComesIn rule (record w { from_hosts = slice_set w.from_hosts h items }) h item (slice_get w.attachments h) new
 
 abbrev pub DeliversOut : SwitchRule → HostRule → WorldView → ℕ → ℕ → List Item → WorldView → Type 0
 DeliversOut switch host w s port [] new = ⊥
@@ -135,15 +135,15 @@ Delivers switch manager host w (queue.FromManager s) new = DeliversFromManager s
 
 -- a switch ticks; so each host that stands there is not heard for one tick more
 abbrev pub Ticks : SwitchRule → WorldView → ℕ → WorldView → Type 0
-Ticks rule w s new = SwitchTurn rule (record w { heard = heard_after_tick s w.stands w.heard }) s Tick Silent new
+Ticks rule w s new = SwitchTurn rule (record w { heard = heard_after_tick s w.attachments w.heard }) s Tick Silent new
 
-abbrev pub Fails : WorldView → Option Link → WorldView → Type 0
-Fails w None new = ⊥
-Fails w (Some link) new = new ≡ link_failed w link
+abbrev pub LinkFails : WorldView → Option Link → WorldView → Type 0
+LinkFails w None new = ⊥
+LinkFails w (Some link) new = new ≡ link_failed w link
 
-abbrev pub IsRepaired : WorldView → Option Link → WorldView → Type 0
-IsRepaired w None new = ⊥
-IsRepaired w (Some link) new = new ≡ link_repaired w link
+abbrev pub LinkIsRepaired : WorldView → Option Link → WorldView → Type 0
+LinkIsRepaired w None new = ⊥
+LinkIsRepaired w (Some link) new = new ≡ link_repaired w link
 
 -- the head of the queue out of a port is lost
 abbrev pub Loses : WorldView → ℕ → ℕ → List Item → WorldView → Type 0
@@ -151,9 +151,9 @@ Loses w s port [] new = ⊥
 Loses w s port (item ∷ items) new = new ≡ item_lost (record w { out = slice_set w.out (port_index w.plan.k s port) items }) item
 
 -- a host moves from where it stands, and does there what it does after a move
-abbrev pub Goes : HostRule → WorldView → ℕ → Stand → Option Stand → WorldView → Type 0
-Goes rule w h to None new = ⊥
-Goes rule w h to (Some from) new = HostTurn rule (host_moved w h from to) h HasMoved Nothing new
+abbrev pub HostMoves : HostRule → WorldView → ℕ → AttachmentPoint → Option AttachmentPoint → WorldView → Type 0
+HostMoves rule w h to None new = ⊥
+HostMoves rule w h to (Some from) new = HostTurn rule (host_moved w h from to) h HasMoved Nothing new
 
 abbrev pub played_as : Bool → List ℕ → ℕ → HostInput
 played_as raw frame original = if raw then PlaysRaw frame original else Plays frame original
@@ -162,11 +162,11 @@ played_as raw frame original = if raw then PlaysRaw frame original else Plays fr
 abbrev pub Happens : SwitchRule → ManagerRule → HostRule → WorldView → Event → WorldView → Type 0
 Happens switch manager host w (event.Deliver name) new = Delivers switch manager host w name new
 Happens switch manager host w (event.Tick s) new = Ticks switch w s.0 new
-Happens switch manager host w (event.Fail a b) new = Fails w (link_between w.plan a.0 b.0) new
-Happens switch manager host w (event.Repair a b) new = IsRepaired w (link_between w.plan a.0 b.0) new
+Happens switch manager host w (event.Fail a b) new = LinkFails w (link_between w.plan a.0 b.0) new
+Happens switch manager host w (event.Repair a b) new = LinkIsRepaired w (link_between w.plan a.0 b.0) new
 Happens switch manager host w (event.Lose s port) new = Loses w s.0 port (out_of w s.0 port) new
 Happens switch manager host w (event.Move h s port) new =
-    Goes host w h.0 (record { edge = s; port = port }) (slice_get w.stands h.0) new
+    HostMoves host w h.0 (record { edge = s; port = port }) (slice_get w.attachments h.0) new
 Happens switch manager host w (event.Start h) new = HostTurn host w h.0 Starts Nothing new
 Happens switch manager host w (event.Play h frame original raw) new = HostPlays host w h.0 (played_as raw frame original) new
 Happens switch manager host w (event.Retry h) new = HostTurn host w h.0 Retries Nothing new

@@ -3,21 +3,21 @@ use Rattle.std.specs.Prelude.{ℕ, List, Option}
 use Rattle.pl_wiring.specs.Plan.{Plan}
 use Rattle.pl_wiring.specs.LiveLinks.{LivePorts}
 use Rattle.pl_journal.specs.declared.entry.Entry.{Entry}
-use Rattle.pl_logic.specs.declared.messages.ToManager.{ToManager}
-use Rattle.pl_logic.specs.declared.messages.ToSwitch.{ToSwitch}
-use Rattle.pl_logic.specs.SwitchViews.{SwitchView}
-use Rattle.pl_logic.specs.ManagerViews.{ManagerView}
-use Rattle.pl_logic.specs.HostViews.{HostView}
+use Rattle.pl_node.specs.declared.messages.ToManager.{ToManager}
+use Rattle.pl_node.specs.declared.messages.ToSwitch.{ToSwitch}
+use Rattle.pl_node.specs.SwitchViews.{SwitchView}
+use Rattle.pl_node.specs.ManagerViews.{ManagerView}
+use Rattle.pl_node.specs.HostViews.{HostView}
 use Rattle.pl_world.specs.declared.item.Item.{Item}
 use Rattle.pl_world.specs.declared.limits.Limits.{Limits}
-use Rattle.pl_world.specs.declared.stand.Stand.{Stand}
+use Rattle.pl_world.specs.declared.attachment.AttachmentPoint.{AttachmentPoint}
 
 pub record WorldView : Type 0 where
   -- the wiring, and which of its links are live
   pub plan : Plan
   pub links : LivePorts
   -- for each host, in the order of the wiring: where it stands, and for how many ticks of that switch no frame of it came there
-  pub stands : List Stand
+  pub attachments : List AttachmentPoint
   pub heard : List (Option ℕ)
   -- what they know; switches in label order, hosts in the order of the wiring
   pub switches : List SwitchView

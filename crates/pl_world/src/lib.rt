@@ -6,13 +6,13 @@
 //! hosts have; so what holds of each event holds in each order of events. The laws here hold of any rules.
 #![tactic(auto)]
 
-pub use aside::Aside;
+pub use attachment::AttachmentPoint;
 pub use error::StepError;
 pub use event::{Event, QueueName};
 pub use item::Item;
 pub use limits::Limits;
+pub use progress::ActsProgress;
 pub use spoken_frame::SpokenFrame;
-pub use stand::Stand;
 pub use world_laws::{
     a_new_world_has_its_frames_in_order, a_step_drops_what_its_turn_says,
     each_run_keeps_its_frames_in_order, each_run_stays_within_hearing,
@@ -20,12 +20,12 @@ pub use world_laws::{
     nothing_is_pending_exactly_where_the_queues_are_settled,
 };
 
-mod aside;
+mod attachment;
 mod counting;
 mod error;
 mod event;
 mod item;
 mod limits;
+mod progress;
 mod spoken_frame;
-mod stand;
 mod world_laws;

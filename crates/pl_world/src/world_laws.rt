@@ -10,12 +10,12 @@ ghost use Rattle.pl_world.specs.Flying.{IsCounted};
 ghost use Rattle.pl_world.specs.Hearing.{IsWithinHearing};
 ghost use Rattle.pl_world.specs.Pending.{pending};
 ghost use Rattle.pl_world.specs.Refusals.{refusal};
-ghost use Rattle.pl_world.specs.Runs.{Moment, WorldRun};
+ghost use Rattle.pl_world.specs.Runs.{InEveryRun, Moment, WorldRun};
 ghost use Rattle.pl_world.specs.SettledQueues.{HasSettledQueues};
 ghost use Rattle.pl_world.specs.WorldRule.{WorldStep};
 ghost use Rattle.pl_world.specs.Worlds.{WorldView};
 
-use pl_logic::{HostLogic, ManagerLogic, SwitchLogic};
+use pl_node::{HostLogic, ManagerLogic, SwitchLogic};
 
 /// A world at its beginning has no frames, and one of each for each host, switch and port.
 pub fn a_new_world_has_its_frames_in_order()
@@ -33,8 +33,7 @@ pub fn each_step_keeps_its_frames_in_order<S: SwitchLogic, M: ManagerLogic, H: H
 /// So it is at each moment of each run from the beginning, whatever a script writes of itself between the
 /// steps.
 pub fn each_run_keeps_its_frames_in_order<S: SwitchLogic, M: ManagerLogic, H: HostLogic>()
-    ensures { (plan : Plan) (limits : Limits) (moments : List Moment) (new : WorldView) → CanBegin plan →
-        WorldRun S.rule M.rule H.rule (booted plan limits) moments new → IsCounted new }
+    ensures { InEveryRun S.rule M.rule H.rule IsCounted }
 {}
 
 /// At each moment of each run the manager has heard the switches of the wiring alone, and has learnt no
@@ -53,9 +52,7 @@ pub fn nothing_is_pending_exactly_where_the_queues_are_settled()
 
 /// At each moment of each run a host's queue holds data frames alone.
 pub fn hosts_have_no_control_frames_in_their_queues<S: SwitchLogic, M: ManagerLogic, H: HostLogic>()
-    ensures { (plan : Plan) (limits : Limits) (moments : List Moment) (new : WorldView) → CanBegin plan →
-        WorldRun S.rule M.rule H.rule (booted plan limits) moments new →
-        (h : ℕ) (frame : List ℕ) → Contains (items_at new.from_hosts h) (Control frame) → ⊥ }
+    ensures { InEveryRun S.rule M.rule H.rule (λ new. (h : ℕ) (frame : List ℕ) → Contains (items_at new.from_hosts h) (Control frame) → ⊥) }
 {}
 
 /// The frames that a step drops, each with its cause, are just those that its own turn says (`dropped`): what a

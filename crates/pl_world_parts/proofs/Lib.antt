@@ -8,3 +8,4 @@ pub mod Stale
 pub mod Switching
 mod SameSaid
 mod StaleCounts
+pub mod Exports

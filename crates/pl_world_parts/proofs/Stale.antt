@@ -7,16 +7,16 @@ use Rattle.std.proofs.lemmas.List.Sums.{sum_by-le-sum_by, sum_by-take-le, sum_by
 use Rattle.std.proofs.lemmas.List.Folds.{sum_by-replicate}
 use Rattle.std.proofs.lemmas.Nat.{same_from_place}
 use Rattle.pl_wiring.specs.Index.{port_index}
-use Rattle.pl_logic.specs.Announcements.{announcement}
-use Rattle.pl_logic.specs.PortRecords.{port_of}
-use Rattle.pl_logic.specs.SwitchFacts.{IsAnnounced}
-use Rattle.pl_logic.specs.SwitchViews.{SwitchView}
+use Rattle.pl_node.specs.Announcements.{announcement}
+use Rattle.pl_node.specs.PortRecords.{port_of}
+use Rattle.pl_node.specs.SwitchFacts.{IsAnnounced}
+use Rattle.pl_node.specs.SwitchViews.{SwitchView}
 use Rattle.pl_queues.specs.Counts.{counted_in}
 use Rattle.pl_queues.specs.Queues.{items_at}
 use Rattle.pl_world.specs.declared.item.Item.{Item}
 use Rattle.pl_world.specs.declared.item.Item.TheVariants.{Control, Data}
 use Rattle.pl_world.specs.Pending.{is_announced, is_control_item, is_stale, stale, stale_at, stale_at_ports, stale_in}
-use Rattle.pl_world.proofs.SettledQueues.{is_announced-decides}
+use Rattle.pl_world.proofs.Exports.{is_announced-decides}
 use Rattle.pl_world_parts.proofs.Sums.{one_le_sum, sum_from, sum_last, sums_changed, sums_same}
 
 announced_is : (b : Bool) (v : SwitchView) (port : ℕ) (frame : List ℕ) → (IsTrue b ↔ IsAnnounced v port frame) → b ≡ is_announced v port frame

@@ -10,14 +10,14 @@ use Rattle.pl_wiring.specs.Index.{port_index}
 use Rattle.pl_layouts.specs.declared.control.Control.TheVariants as control
 use Rattle.pl_layouts.specs.Control.{control_frame}
 use Rattle.pl_layouts.specs.Placement.{nowhere}
-use Rattle.pl_logic.specs.PortRecords.{ports_of_switch}
-use Rattle.pl_logic.specs.SwitchViews.{SwitchView}
+use Rattle.pl_node.specs.PortRecords.{ports_of_switch}
+use Rattle.pl_node.specs.SwitchViews.{SwitchView}
 use Rattle.pl_queues.specs.Counts.{counted_in}
 use Rattle.pl_queues.specs.Queues.{items_at, put_at}
 use Rattle.pl_world.specs.declared.item.Item.{Item}
 use Rattle.pl_world.specs.declared.item.Item.TheVariants.{Control, Data}
 use Rattle.pl_world.specs.Pending.{HasQueues, KeepsStale, is_control_item, is_stale, stale, stale_at, stale_at_ports, stale_in}
-use Rattle.pl_world.proofs.SettledQueues.{none_in}
+use Rattle.pl_world.proofs.Exports.{none_in}
 use Rattle.pl_world_parts.specs.declared.said.Said.{Said}
 use Rattle.pl_world_parts.specs.OneStep.{IsOneChanged, sizes}
 use Rattle.pl_world_parts.specs.QueueIndices.{IsQueueIndex}
@@ -78,10 +78,10 @@ module _ (k : ℕ) (switches : List SwitchView) (out : List (List Item)) (counts
       new ≡ slice_set out at queue → after ≡ slice_set counts at n → KeepsEach (all_switches k switches new) after
   each_set each s port at n queue new after within index there is queues numbers =
       let many : length after ≡ length counts = ap length numbers ∙ length-set counts at n in
-      let banks : length new ≡ length out = ap length queues ∙ length-set out at queue in
+      let queue_arrays : length new ≡ length out = ap length queues ∙ length-set out at queue in
       let low : at < length counts = omega (arith, there, each.many) in
       record {
-        many = omega (arith, many, banks, each.many);
+        many = omega (arith, many, queue_arrays, each.many);
         are = λ t q inside.
             let here : slice_index_or after (port_index k t q) 0 ≡ slice_index_or (slice_set counts at n) (port_index k t q) 0 = ap (λ ns. slice_index_or ns (port_index k t q) 0) numbers in
             let there : stale_in (slice_get switches t) q (items_at (slice_set out at queue) (port_index k t q)) ≡ stale_in (slice_get switches t) q (items_at new (port_index k t q)) =
@@ -258,15 +258,15 @@ module _ (k s : ℕ) (v : SwitchView) (out : List (List Item)) (old : List ℕ) 
         get_or_read_under counts at (length out) count 0 read (omega (arith, index, inside, within)) (sym so_far.many)
         ∙ ap (λ i. slice_index_or counts i 0) index ∙ so_far.left port (omega arith) inside
 
-    pub known_here : (said : List Said) (d : Said) (bank : List (List Item)) (queue : List Item) → port < length said → IsKnownAt k s out old said port → bank ≡ out →
-        queue ≡ items_at bank at → count ≡ count_by (is_stale_under (slice_index_or said port d)) queue
-    known_here said d bank queue room known same is =
+    pub known_here : (said : List Said) (d : Said) (queue_array : List (List Item)) (queue : List Item) → port < length said → IsKnownAt k s out old said port → queue_array ≡ out →
+        queue ≡ items_at queue_array at → count ≡ count_by (is_stale_under (slice_index_or said port d)) queue
+    known_here said d queue_array queue room known same is =
         count_read
         ∙ some_at (λ was. slice_index_or old (port_index k s port) 0 ≡ count_by (is_stale_under was) (items_at out (port_index k s port)))
         (slice_get said port) (get_or said port d) (slice_get-get_or said port d room) known
         ∙ sym (ap (count_by (is_stale_under (get_or said port d))) (is ∙ ap (λ o. items_at o at) same ∙ ap (items_at out) index))
 
-    module _ (bank : List (List Item)) (queue : List Item) (now : ℕ) (same : bank ≡ out) (is : queue ≡ items_at bank at) (again : now ≡ count_by (is_stale v port) queue) where
+    module _ (queue_array : List (List Item)) (queue : List Item) (now : ℕ) (same : queue_array ≡ out) (is : queue ≡ items_at queue_array at) (again : now ≡ count_by (is_stale v port) queue) where
       now_is : now ≡ port_part k out (Some v) s port
       now_is = again ∙ ap (count_by (is_stale v port)) (is ∙ ap (λ o. items_at o at) same ∙ ap (items_at out) index)
 

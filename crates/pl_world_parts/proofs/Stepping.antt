@@ -3,20 +3,20 @@ use Rattle.std.proofs.Common.{◌≡◌, ℕ, List, [], ◌∷◌, ◌++◌, len
 use Rattle.std.specs.List.{AllByRecursion, fold}
 use Rattle.std.proofs.Math.ListN.{length-map}
 use Rattle.pl_frame.specs.declared.address.SwitchId.{SwitchId}
-use Rattle.pl_logic.specs.declared.acts.Act.{Act}
-use Rattle.pl_logic.specs.declared.acts.HostAct.{HostAct}
-use Rattle.pl_logic.specs.declared.acts.ManagerAct.{ManagerAct}
-use Rattle.pl_logic.specs.declared.messages.ToManager.{ToManager}
+use Rattle.pl_node.specs.declared.acts.Act.{Act}
+use Rattle.pl_node.specs.declared.acts.HostAct.{HostAct}
+use Rattle.pl_node.specs.declared.acts.ManagerAct.{ManagerAct}
+use Rattle.pl_node.specs.declared.messages.ToManager.{ToManager}
 use Rattle.pl_layouts.specs.declared.place.Place.{Place}
-use Rattle.pl_logic.specs.Accounting.{AccountsForFrames, CanCome, IsFit, IsShaped}
-use Rattle.pl_logic.specs.Gains.{Gains}
-use Rattle.pl_logic.specs.HostInputs.{HostAnswer, HostInput, HostRule}
-use Rattle.pl_logic.specs.HostViews.{HostView}
-use Rattle.pl_logic.specs.ManagerFacts.{CanHear}
-use Rattle.pl_logic.specs.ManagerDuties.{ManagerRule}
-use Rattle.pl_logic.specs.ManagerViews.{ManagerView}
-use Rattle.pl_logic.specs.SwitchInputs.{SwitchInput, SwitchRule}
-use Rattle.pl_logic.specs.SwitchViews.{SwitchView}
+use Rattle.pl_node.specs.Accounting.{AccountsForFrames, CanCome, IsFit, IsShaped}
+use Rattle.pl_node.specs.Gains.{Gains}
+use Rattle.pl_node.specs.HostInputs.{HostAnswer, HostInput, HostRule}
+use Rattle.pl_node.specs.HostViews.{HostView}
+use Rattle.pl_node.specs.ManagerFacts.{CanHear}
+use Rattle.pl_node.specs.ManagerDuties.{ManagerRule}
+use Rattle.pl_node.specs.ManagerViews.{ManagerView}
+use Rattle.pl_node.specs.SwitchInputs.{SwitchInput, SwitchRule}
+use Rattle.pl_node.specs.SwitchViews.{SwitchView}
 use Rattle.pl_world.specs.declared.item.Item.{Item}
 use Rattle.pl_world.specs.declared.spoken_frame.SpokenFrame.{SpokenFrame}
 use Rattle.pl_world.specs.Flying.{IsFormed}
@@ -25,7 +25,7 @@ use Rattle.pl_world.specs.OtherActs.{host_act_done, manager_act_done}
 use Rattle.pl_world.specs.SwitchActs.{acts_done, begins, place_noted, with_late}
 use Rattle.pl_world.specs.WorldRule.{HostTurn, ManagerTurn, SwitchTurn}
 use Rattle.pl_world.specs.Worlds.{WorldView}
-use Rattle.pl_world.proofs.Counts.{all_found}
+use Rattle.pl_world.proofs.Exports.{all_found}
 
 -- a list of numbers that are all the same
 pub sizes_same : (k : ℕ) (old new : List SwitchView) → sizes new ≡ sizes old → AllByRecursion (λ v. v.k ≡ k) old → AllByRecursion (λ v. v.k ≡ k) new
@@ -41,7 +41,7 @@ pub formed_switches : (v : WorldView) (new : List SwitchView) → sizes new ≡ 
 formed_switches v new same f = record {
   plan = f.plan;
   links = f.links;
-  stands = f.stands;
+  attachments = f.attachments;
   at_ports = f.at_ports;
   heard = f.heard;
   switches = sizes_many v.switches new same ∙ f.switches;
@@ -62,7 +62,7 @@ pub formed_hosts : (v : WorldView) (new : List HostView) → length new ≡ leng
 formed_hosts v new same f = record {
   plan = f.plan;
   links = f.links;
-  stands = f.stands;
+  attachments = f.attachments;
   at_ports = f.at_ports;
   heard = f.heard;
   switches = f.switches;

@@ -6,9 +6,9 @@ use Rattle.std.proofs.lemmas.List.{length-replicate, length-set}
 use Rattle.std.proofs.lemmas.List.Sums.{sum_by-cons, sum_by_push}
 use Rattle.pl_frame.specs.declared.address.SwitchId.{SwitchId}
 use Rattle.pl_wiring.specs.Index.{port_index}
-use Rattle.pl_wiring.proofs.Entered.{port_index-below}
-use Rattle.pl_logic.specs.SwitchFacts.{switch_at_boot}
-use Rattle.pl_logic.specs.SwitchViews.{SwitchView}
+use Rattle.pl_wiring.proofs.Exports.{port_index-below}
+use Rattle.pl_node.specs.SwitchFacts.{switch_at_boot}
+use Rattle.pl_node.specs.SwitchViews.{SwitchView}
 use Rattle.pl_queues.specs.Counts.{counted_in}
 use Rattle.pl_queues.specs.Queues.{items_at, put_at}
 use Rattle.pl_world.specs.declared.item.Item.{Item}
@@ -17,7 +17,7 @@ use Rattle.pl_world_parts.specs.OneStep.{IsOneChanged, sizes}
 use Rattle.pl_world_parts.specs.QueueIndices.{IsQueueIndex}
 use Rattle.pl_world.specs.Pending.{HasQueues, KeepsStale, SwitchesView, is_control_item, is_order, is_report, is_stale, pending, stale, stale_at, stale_in}
 use Rattle.pl_world.specs.Worlds.{WorldView}
-use Rattle.pl_world.proofs.Counts.{all_found}
+use Rattle.pl_world.proofs.Exports.{all_found}
 use Rattle.pl_world_parts.proofs.OneChanged.{found-map}
 use Rattle.pl_world_parts.proofs.Stale.{none_stale, queue_changes, queue_le, stale_by_wiring, stale_fits, switch_changes, switch_le}
 use Rattle.pl_world_parts.proofs.Stepping.{sizes_many, sizes_same}

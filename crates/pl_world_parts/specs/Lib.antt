@@ -1,5 +1,5 @@
 pub mod OneStep
-pub mod Atlas
-pub mod Stands
+pub mod WiringIndex
+pub mod Attachments
 pub mod StaleCounts
 pub mod QueueIndices

@@ -1,19 +1,19 @@
 -- One of the switches, or of the hosts, takes a step by its rule.
 use Rattle.std.specs.Prelude.{◌≡◌, ℕ, List, map, Some, slice_get, slice_set}
-use Rattle.pl_logic.specs.declared.acts.Act.{Act}
-use Rattle.pl_logic.specs.declared.acts.HostAct.{HostAct}
+use Rattle.pl_node.specs.declared.acts.Act.{Act}
+use Rattle.pl_node.specs.declared.acts.HostAct.{HostAct}
 use Rattle.pl_layouts.specs.declared.place.Place.{Place}
-use Rattle.pl_logic.specs.HostInputs.{HostAnswer, HostInput, HostRule}
-use Rattle.pl_logic.specs.HostViews.{HostView}
-use Rattle.pl_logic.specs.SwitchInputs.{SwitchInput, SwitchRule}
-use Rattle.pl_logic.specs.SwitchInputs.SwitchInput.{Comes, Says, Tick}
-use Rattle.pl_logic.specs.HostInputs.HostInput.{HasMoved, Joins, Leaves, Retries, Starts}
-use Rattle.pl_logic.specs.SwitchViews.{SwitchView}
+use Rattle.pl_node.specs.HostInputs.{HostAnswer, HostInput, HostRule}
+use Rattle.pl_node.specs.HostViews.{HostView}
+use Rattle.pl_node.specs.SwitchInputs.{SwitchInput, SwitchRule}
+use Rattle.pl_node.specs.SwitchInputs.SwitchInput.{Comes, Says, Tick}
+use Rattle.pl_node.specs.HostInputs.HostInput.{HasMoved, Joins, Leaves, Retries, Starts}
+use Rattle.pl_node.specs.SwitchViews.{SwitchView}
 use Rattle.pl_world_parts.specs.declared.incoming.Incoming.{Incoming}
 use Rattle.pl_world_parts.specs.declared.incoming.Incoming.TheVariants as incoming
 use Rattle.pl_world_parts.specs.declared.incoming.Incoming.TheVariants.{Frame, Message}
-use Rattle.pl_world_parts.specs.declared.urge.Urge.{Urge}
-use Rattle.pl_world_parts.specs.declared.urge.Urge.TheVariants.{Join, Leave, Moved, Retry, Start}
+use Rattle.pl_world_parts.specs.declared.host_call.HostCall.{HostCall}
+use Rattle.pl_world_parts.specs.declared.host_call.HostCall.TheVariants.{Join, Leave, Moved, Retry, Start}
 
 -- with its place before and after
 pub record SwitchSteps (rule : SwitchRule) (old : List SwitchView) (s : ℕ) (input : SwitchInput) (new : List SwitchView) (was is : Place)
@@ -43,7 +43,7 @@ abbrev pub sizes : List SwitchView → List ℕ
 sizes = map (λ v. v.k)
 
 -- what a host hears of it
-abbrev pub input_of : Urge → HostInput
+abbrev pub input_of : HostCall → HostInput
 input_of Start = Starts
 input_of Retry = Retries
 input_of Moved = HasMoved

@@ -4,9 +4,9 @@ use Rattle.pl_wiring.specs.Index.{port_index}
 use Rattle.pl_layouts.specs.declared.control.Control.TheVariants as control
 use Rattle.pl_layouts.specs.Control.{control_frame}
 use Rattle.pl_layouts.specs.Placement.{is_known}
-use Rattle.pl_logic.specs.Announcements.{direction_of}
-use Rattle.pl_logic.specs.PortRecords.{id_at, port_of}
-use Rattle.pl_logic.specs.SwitchViews.{SwitchView}
+use Rattle.pl_node.specs.Announcements.{direction_of}
+use Rattle.pl_node.specs.PortRecords.{id_at, port_of}
+use Rattle.pl_node.specs.SwitchViews.{SwitchView}
 use Rattle.pl_queues.specs.Queues.{items_at}
 use Rattle.pl_world.specs.declared.item.Item.{Item}
 use Rattle.pl_world.specs.declared.item.Item.TheVariants.{Control, Data}

@@ -1,7 +1,7 @@
 ghost use Rattle.std.specs.Prelude.{◌≡◌};
 ghost use Rattle.pl_world.specs.Pending.{is_order, is_report};
 
-use pl_logic::{ToManager, ToSwitch};
+use pl_node::{ToManager, ToSwitch};
 use pl_queues::Counted;
 use std::marker::Model;
 
@@ -10,7 +10,7 @@ use std::marker::Model;
 pub struct WaitingToManager(ToManager);
 
 impl Model for WaitingToManager {
-    ghost use Rattle.pl_logic.specs.declared.messages.ToManager.{ToManager};
+    ghost use Rattle.pl_node.specs.declared.messages.ToManager.{ToManager};
 
     ghost Value = { ToManager };
 
@@ -47,7 +47,7 @@ impl Counted for WaitingToManager {
 pub struct WaitingToSwitch(ToSwitch);
 
 impl Model for WaitingToSwitch {
-    ghost use Rattle.pl_logic.specs.declared.messages.ToSwitch.{ToSwitch};
+    ghost use Rattle.pl_node.specs.declared.messages.ToSwitch.{ToSwitch};
 
     ghost Value = { ToSwitch };
 

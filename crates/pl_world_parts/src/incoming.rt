@@ -1,4 +1,4 @@
-use pl_logic::ToSwitch;
+use pl_node::ToSwitch;
 
 /// What comes at a switch: a frame at a port, a tick, or a message of the manager.
 #[derive(Clone, Copy)]

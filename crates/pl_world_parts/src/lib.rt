@@ -2,23 +2,23 @@
 //! of their ports, and the book that the journal is written in.
 #![tactic(auto)]
 
-pub use atlas::Atlas;
-pub use book::Book;
+pub use attachments::Attachments;
 pub use counting::{WaitingToManager, WaitingToSwitch};
+pub use host_call::HostCall;
 pub use incoming::Incoming;
 pub use links::{link_of, set_live};
-pub use one_step::{arrive_at, play_at, urge_at};
-pub use stands::Stands;
+pub use one_step::{arrive_at, host_call_at, play_at};
 pub use switches::Switches;
-pub use urge::Urge;
+pub use wiring_index::WiringIndex;
+pub use world_journal::WorldJournal;
 
-mod atlas;
-mod book;
+mod attachments;
 mod counting;
+mod host_call;
 mod incoming;
 mod links;
 mod one_step;
 mod said;
-mod stands;
 mod switches;
-mod urge;
+mod wiring_index;
+mod world_journal;

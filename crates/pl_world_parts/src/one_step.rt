@@ -1,18 +1,18 @@
 ghost use Rattle.std.specs.Prelude.{◌≡◌, ◌<◌, length, map, slice_get, vec_len, IfOk, OnOk, Some};
-ghost use Rattle.pl_logic.specs.Accounting.{CanCome};
-ghost use Rattle.pl_logic.specs.Gains.{Gains};
-ghost use Rattle.pl_logic.specs.HostInputs.HostAnswer.{Nothing, Played, Received};
-ghost use Rattle.pl_logic.specs.HostInputs.HostInput.{Receives};
-ghost use Rattle.pl_logic.specs.SwitchViews.{SwitchView};
+ghost use Rattle.pl_node.specs.Accounting.{CanCome};
+ghost use Rattle.pl_node.specs.Gains.{Gains};
+ghost use Rattle.pl_node.specs.HostInputs.HostAnswer.{Nothing, Played, Received};
+ghost use Rattle.pl_node.specs.HostInputs.HostInput.{Receives};
+ghost use Rattle.pl_node.specs.SwitchViews.{SwitchView};
 ghost use Rattle.pl_world_parts.specs.OneStep.{HostSteps, IsOneChanged, SwitchSteps, input_from, input_of, sizes};
 ghost use Rattle.pl_world.specs.WorldRule.{played_as};
 
+use crate::host_call::HostCall;
 use crate::incoming::Incoming;
-use crate::urge::Urge;
 use pl_frame::Memory;
 use pl_journal::Skip;
 use pl_layouts::Place;
-use pl_logic::{HostLogic, HostOutbox, Outbox, Reception, SwitchLogic};
+use pl_node::{HostLogic, HostOutbox, Outbox, Reception, SwitchLogic};
 
 fn hear<S: SwitchLogic>(switch: &mut S, incoming: Incoming, out: &mut Outbox) -> Result<(), Memory>
     requires { CanCome (S.view switch.old) (input_from incoming) }
@@ -45,15 +45,19 @@ pub fn hear_at<S: SwitchLogic>(
     Ok((old, switches[s].place()))
 }
 
-fn urge<H: HostLogic>(host: &mut H, urge: Urge, out: &mut HostOutbox) -> Result<(), Memory>
-    ensures { OnOk result (Gains out.old out.new (λ acts. H.rule (H.view host.old) (input_of urge) (H.view host.new) acts Nothing)) }
+fn host_call<H: HostLogic>(
+    host: &mut H,
+    host_call: HostCall,
+    out: &mut HostOutbox,
+) -> Result<(), Memory>
+    ensures { OnOk result (Gains out.old out.new (λ acts. H.rule (H.view host.old) (input_of host_call) (H.view host.new) acts Nothing)) }
 {
-    match urge {
-        Urge::Start => host.start(out),
-        Urge::Retry => host.retry(out),
-        Urge::Moved => host.moved(out),
-        Urge::Join(group) => host.join(group, out),
-        Urge::Leave(group) => host.leave(group, out),
+    match host_call {
+        HostCall::Start => host.start(out),
+        HostCall::Retry => host.retry(out),
+        HostCall::Moved => host.moved(out),
+        HostCall::Join(group) => host.join(group, out),
+        HostCall::Leave(group) => host.leave(group, out),
     }
 }
 
@@ -75,10 +79,10 @@ fn play<H: HostLogic>(
 }
 
 /// One of some hosts does something of itself.
-pub fn urge_at<H: HostLogic>(
+pub fn host_call_at<H: HostLogic>(
     hosts: &mut Vec<H>,
     h: usize,
-    to: Urge,
+    to: HostCall,
     out: &mut HostOutbox,
 ) -> Result<(), Memory>
     requires { h < vec_len hosts.old }
@@ -86,7 +90,7 @@ pub fn urge_at<H: HostLogic>(
         (HostSteps H.rule (map H.view hosts.old.items) h (input_of to) Nothing (map H.view hosts.new.items))) }
     ensures many { vec_len hosts.new ≡ vec_len hosts.old }
 {
-    urge(&mut hosts[h], to, out)?;
+    host_call(&mut hosts[h], to, out)?;
     Ok(())
 }
 

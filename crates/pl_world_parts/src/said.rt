@@ -1,10 +1,10 @@
 ghost use Rattle.std.specs.Prelude.{◌≡◌, ◌<◌, ℕ, slice_get, IsTrue, Some};
-ghost use Rattle.pl_logic.specs.PortRecords.{heard_id, heard_place};
+ghost use Rattle.pl_node.specs.PortRecords.{heard_id, heard_place};
 ghost use Rattle.pl_world_parts.specs.StaleCounts.{direction_by, said_at};
 
 use pl_frame::SwitchId;
 use pl_layouts::{Ldm, Place};
-use pl_logic::{PortRecord, SwitchFacts};
+use pl_node::{PortRecord, SwitchFacts};
 
 /// What a switch announces out of a port, and whether a host is there, so that it announces nothing.
 #[derive(Clone, Copy, Debug, PartialEq, Eq)]

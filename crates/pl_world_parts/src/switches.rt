@@ -1,10 +1,10 @@
 ghost use Rattle.std.specs.Prelude.{◌≡◌, ◌<◌, ◌≤◌, ◌*◌, ◌∷◌, ◌++◌, ℕ, [], cond, count_by, length, map, option_to_list, replicate, slice_get, slice_index_or, slice_set, sum_by, vec_len, IfOk, IfSome, MatchOption, OnErr, OnOk, Some};
 ghost use Rattle.std.specs.List.{AllByRecursion};
 ghost use Rattle.pl_wiring.specs.Index.{port_index};
-ghost use Rattle.pl_logic.specs.Accounting.{CanCome};
-ghost use Rattle.pl_logic.specs.Gains.{Gains};
-ghost use Rattle.pl_logic.specs.PortRecords.{ports_of_switch};
-ghost use Rattle.pl_logic.specs.SwitchViews.{SwitchView};
+ghost use Rattle.pl_node.specs.Accounting.{CanCome};
+ghost use Rattle.pl_node.specs.Gains.{Gains};
+ghost use Rattle.pl_node.specs.PortRecords.{ports_of_switch};
+ghost use Rattle.pl_node.specs.SwitchViews.{SwitchView};
 ghost use Rattle.pl_queues.specs.Counts.{most};
 ghost use Rattle.pl_queues.specs.Queues.{items_at, put_at};
 ghost use Rattle.pl_world_parts.specs.OneStep.{SwitchSteps, input_from, sizes};
@@ -15,10 +15,10 @@ ghost use Rattle.pl_world.specs.Pending.{HasQueues, is_stale, stale, stale_at_po
 use crate::incoming::Incoming;
 use crate::one_step::hear_at;
 use crate::said::{Said, all_said, says_still};
-use pl_banks::{CountedQueues, Iter, Queues, one_if};
 use pl_frame::Memory;
 use pl_layouts::Place;
-use pl_logic::{Outbox, SwitchFacts, SwitchLogic};
+use pl_node::{Outbox, SwitchFacts, SwitchLogic};
+use pl_queue_array::{CountedQueues, Iter, Queues, one_if};
 use pl_world::Item;
 use std::alloc::Global;
 use std::marker::Model;

@@ -2,7 +2,7 @@ ghost use Rattle.std.specs.Prelude.{◌≡◌, ◌^◌, ◌<◌, ◌≤◌, ◌�
 ghost use Rattle.std.specs.List.{flat_map};
 ghost use Rattle.pl_capture.specs.declared.endianness.Endianness.TheVariants.{Little};
 ghost use Rattle.pl_capture.specs.Spelling.{packet_bytes, saved_bytes, saved_packet};
-ghost use Rattle.pl_shelf.specs.Capacity.{Fits, IsFull};
+ghost use Rattle.pl_shelf.specs.Capacity.{FitsBehind, IsFull};
 ghost use Rattle.pl_shelf.specs.Faults.{Counts};
 ghost use Rattle.pl_shelf.specs.Held.{Changes, IsCutOff, Same, created, with_end};
 ghost use Rattle.pl_output.specs.InTurn.{BreaksInTurn, BreaksOne, SavedInTurn, SavesOne};
@@ -81,7 +81,7 @@ pub(crate) fn save_capture<S: Shelf>(
     ensures faults { Counts result (S.write_faults shelf.old) (S.write_faults shelf.new)
         (S.read_faults shelf.old) (S.read_faults shelf.new) }
     ensures capacity { S.capacity shelf.new ≡ S.capacity shelf.old }
-    ensures unfit { OnErr result (Fits (S.capacity shelf.old name.now)
+    ensures unfit { OnErr result (FitsBehind (S.capacity shelf.old name.now)
         (created name.now (S.held shelf.old name.now)) (saved_bytes (packets_at journal.now receipts.now)) → ⊥) }
 {
     save(shelf, name, &write_header())?;

@@ -1,7 +1,7 @@
 ghost use Rattle.std.specs.Prelude.{◌≡◌, ◌<◌, ℕ, List, [], ◌∷◌, ◌++◌, slice_index, IfOk, OnOk};
 ghost use Rattle.pl_journal.specs.declared.entry.Entry.{Entry};
 ghost use Rattle.pl_output.specs.Summary.{count_of, counts_of, ending_of, index_of, receiver_of, sender_of, skipper_of};
-ghost use Rattle.pl_output.specs.Tallied.{IsTally, with_one};
+ghost use Rattle.pl_output.specs.Tallied.{IsTallyOf, with_one};
 
 use crate::summary::host_counts::HostCounts;
 use crate::summary::totals::Totals;
@@ -27,7 +27,7 @@ pub(crate) struct Tally {
 impl Tally {
     /// The tally of all entries.
     pub fn of(alloc: Global, hosts: usize, entries: &[Entry]) -> Result<Tally, Memory>
-        ensures { IfOk result (λ tally. IsTally tally hosts entries.now) }
+        ensures { IfOk result (λ tally. IsTallyOf tally hosts entries.now) }
     {
         let mut tally = Tally::none(alloc, hosts)?;
         for entry in entries {
@@ -38,14 +38,14 @@ impl Tally {
 
     /// How many frames ended for a cause.
     pub fn ended_for(&self, cause: Cause) -> u64
-        ensures { (hosts : ℕ) (journal : List Entry) → IsTally self.now hosts journal →
+        ensures { (hosts : ℕ) (journal : List Entry) → IsTallyOf self.now hosts journal →
             result ≡ count_of ending_of (index_of cause) journal }
     {
         count_in(self.ended.as_slice(), index_of(cause))
     }
 
     pub fn of_host(&self, n: usize) -> HostCounts
-        ensures { (hosts : ℕ) (journal : List Entry) → IsTally self.now hosts journal → n < hosts →
+        ensures { (hosts : ℕ) (journal : List Entry) → IsTallyOf self.now hosts journal → n < hosts →
             result ≡ counts_of n journal }
     {
         HostCounts {
@@ -56,7 +56,7 @@ impl Tally {
     }
 
     fn none(alloc: Global, hosts: usize) -> Result<Tally, Memory>
-        ensures { IfOk result (λ tally. IsTally tally hosts []) }
+        ensures { IfOk result (λ tally. IsTallyOf tally hosts []) }
     {
         Ok(Tally {
             totals: Totals::none(),
@@ -68,8 +68,8 @@ impl Tally {
     }
 
     fn count(&mut self, entry: &Entry) -> Result<(), Memory>
-        ensures { OnOk result ((hosts : ℕ) (past : List Entry) → IsTally self.old hosts past →
-            IsTally self.new hosts (past ++ entry.now ∷ [])) }
+        ensures { OnOk result ((hosts : ℕ) (past : List Entry) → IsTallyOf self.old hosts past →
+            IsTallyOf self.new hosts (past ++ entry.now ∷ [])) }
     {
         self.totals.count(entry)?;
         count_at(&mut self.ended, ending(entry))?;

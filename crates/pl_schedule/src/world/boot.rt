@@ -1,22 +1,23 @@
 ghost use Rattle.std.specs.Prelude.{◌≡◌, ◌<◌, ◌≤◌, ◌*◌, [], All, length, map, replicate, slice_get, None, Some, IfOk};
 ghost use Rattle.pl_wiring.specs.Labels.{switch_count};
-ghost use Rattle.pl_logic.specs.HostViews.{boot_host};
-ghost use Rattle.pl_logic.specs.ManagerViews.{booted_manager};
-ghost use Rattle.pl_logic.specs.SwitchFacts.{switch_at_boot};
-ghost use Rattle.pl_world.specs.Booting.{CanBegin, all_live, booted, first_stand, me_of};
-ghost use Rattle.pl_world.specs.Flying.{IsCounted};
-ghost use Rattle.pl_world.specs.Hearing.{IsWithinHearing};
+ghost use Rattle.pl_node.specs.HostViews.{boot_host};
+ghost use Rattle.pl_node.specs.ManagerViews.{booted_manager};
+ghost use Rattle.pl_node.specs.SwitchFacts.{switch_at_boot};
+ghost use Rattle.pl_world.specs.Booting.{CanBegin, all_live, booted, first_attachment, me_of};
+ghost use Rattle.pl_world.specs.Ready.{CanStep};
 ghost use Rattle.pl_world.specs.Pending.{first_switches};
 
 use crate::world::World;
 use pl_arp::Me;
-use pl_banks::{CountedQueues, Queues};
 use pl_frame::Memory;
 use pl_lists::Items;
-use pl_logic::{HostLogic, HostTable, ManagerLogic, SwitchLogic};
+use pl_node::{HostLogic, HostTable, ManagerLogic, SwitchLogic};
+use pl_queue_array::{CountedQueues, Queues};
 use pl_wiring::{Host, LinkStates, SwitchNo, Wiring};
 use pl_world::{Item, Limits};
-use pl_world_parts::{Atlas, Book, Stands, Switches, WaitingToManager, WaitingToSwitch};
+use pl_world_parts::{
+    Attachments, Switches, WaitingToManager, WaitingToSwitch, WiringIndex, WorldJournal,
+};
 use std::alloc::Global;
 
 impl<S: SwitchLogic, M: ManagerLogic, H: HostLogic> World<S, M, H> {
@@ -25,19 +26,18 @@ impl<S: SwitchLogic, M: ManagerLogic, H: HostLogic> World<S, M, H> {
     pub fn boot(alloc: Global, wiring: Wiring, limits: Limits) -> Result<World<S, M, H>, Memory>
         requires { limits.steps ≤ 4000000000 }
         ensures booted { IfOk result (λ w. w ≡ booted wiring limits) }
-        ensures counted { IfOk result (λ w. IsCounted w) }
-        ensures hearing { IfOk result (λ w. IsWithinHearing w) }
+        ensures orderly { IfOk result (λ w. CanStep w) }
     {
         see_addresses(&wiring);
         let standing = Standing::first(alloc, &wiring)?;
         let devices = Devices::boot(alloc, &wiring)?;
         let queues = EmptyQueues::new(alloc, &wiring)?;
-        let atlas = Atlas::of_wiring(alloc, wiring)?;
+        let wiring_index = WiringIndex::of_wiring(alloc, wiring)?;
         Ok(World {
             alloc,
-            atlas,
+            wiring_index,
             links: standing.links,
-            stands: standing.stands,
+            attachments: standing.attachments,
             heard: standing.heard,
             switches: devices.switches,
             manager: devices.manager,
@@ -45,7 +45,7 @@ impl<S: SwitchLogic, M: ManagerLogic, H: HostLogic> World<S, M, H> {
             from_hosts: queues.from_hosts,
             to_manager: queues.to_manager,
             from_manager: queues.from_manager,
-            book: Book::new(alloc),
+            world_journal: WorldJournal::new(alloc),
             begun: 0,
             steps: 0,
             limits,
@@ -57,22 +57,22 @@ impl<S: SwitchLogic, M: ManagerLogic, H: HostLogic> World<S, M, H> {
 #[derive(Drop)]
 struct Standing {
     links: LinkStates,
-    stands: Stands,
+    attachments: Attachments,
     heard: Vec<Option<u32>>,
 }
 
 impl Standing {
     fn first(alloc: Global, wiring: &Wiring) -> Result<Standing, Memory>
         ensures links { IfOk result (λ all. all.links ≡ all_live wiring.now) }
-        ensures stands { IfOk result (λ all. all.stands ≡ map first_stand wiring.now.hosts) }
+        ensures attachments { IfOk result (λ all. all.attachments ≡ map first_attachment wiring.now.hosts) }
         ensures heard { IfOk result (λ all. all.heard.items ≡ replicate (length wiring.now.hosts) None) }
     {
         let links = live_links(alloc, wiring)?;
-        let stands = Stands::first(alloc, wiring.hosts())?;
+        let attachments = Attachments::first(alloc, wiring.hosts())?;
         let heard = silent_hosts(alloc, wiring)?;
         Ok(Standing {
             links,
-            stands,
+            attachments,
             heard,
         })
     }

@@ -3,15 +3,15 @@ ghost use Rattle.std.specs.List.{AllByRecursion};
 ghost use Rattle.pl_frame.specs.Ethernet.{destination_of};
 ghost use Rattle.pl_wiring.specs.Labels.{switch_count};
 ghost use Rattle.pl_wiring.specs.Peers.{IsPort};
-ghost use Rattle.pl_logic.specs.Accounting.{IsShaped};
+ghost use Rattle.pl_node.specs.Accounting.{IsShaped};
 ghost use Rattle.pl_layouts.specs.Frames.{packet_in};
 ghost use Rattle.pl_journal.specs.Lossy.{mac_of_host};
 ghost use Rattle.pl_layouts.specs.Memberships.{is_group};
 ghost use Rattle.pl_world.specs.Changes.{is_address_of, out_of, receiver};
-ghost use Rattle.pl_world.specs.Flying.{IsAtPort, IsItem};
+ghost use Rattle.pl_world.specs.Flying.{IsTreePort, IsItem};
 ghost use Rattle.pl_queues.specs.Queues.{items_at};
 ghost use Rattle.pl_world.specs.OtherActs.{heard_with};
-ghost use Rattle.pl_schedule.specs.Heads.{IsTakenFromHost, IsTakenFromManager, IsTakenOut, IsTakenToManager};
+ghost use Rattle.pl_schedule.specs.Heads.{IsTakenFromHost, IsTakenFromManager, ItemIsTaken, IsTakenToManager};
 ghost use Rattle.pl_world.specs.WorldRule.{ComesAtHost, ComesAtSwitch, ComesIn, ComesOut, ComesOver, heard_item};
 
 use crate::world::World;
@@ -19,9 +19,9 @@ use byteorder::{BigEndian, ByteOrder};
 use pl_arp::read;
 use pl_frame::{Frame, Mac, Memory, SHORTEST, TYPE_ARP};
 use pl_journal::{Cause, Entry};
-use pl_logic::{HostLogic, ManagerLogic, SwitchLogic, ToManager, ToSwitch};
+use pl_node::{HostLogic, ManagerLogic, SwitchLogic, ToManager, ToSwitch};
 use pl_wiring::{HostNo, Peer, SwitchNo};
-use pl_world::{Item, SpokenFrame, Stand};
+use pl_world::{AttachmentPoint, Item, SpokenFrame};
 use pl_world_parts::Incoming;
 
 impl<S: SwitchLogic, M: ManagerLogic, H: HostLogic> World<S, M, H> {
@@ -76,8 +76,8 @@ impl<S: SwitchLogic, M: ManagerLogic, H: HostLogic> World<S, M, H> {
         ensures is { option_map (λ h. h.0) result ≡ receiver self.now s.0 port frame.now }
         ensures within { IfSome result (λ h. h.0 < length self.now.plan.hosts) }
     {
-        let _ = &self.stands;
-        match self.stands.host_at(s, port) {
+        let _ = &self.attachments;
+        match self.attachments.host_at(s, port) {
             None => None,
             Some(h) => { if self.is_for(h, frame) { Some(h) } else { None } }
         }
@@ -90,7 +90,7 @@ impl<S: SwitchLogic, M: ManagerLogic, H: HostLogic> World<S, M, H> {
         ensures { result ≡ (is_group (destination_of frame.now) || is_address_of (mac_of_host self.now.plan h.0) (destination_of frame.now)) }
     {
         let to = Mac::read_at(frame, 0);
-        to.is_group() || self.atlas.wiring().host(h).mac.0 == to.0
+        to.is_group() || self.wiring_index.wiring().host(h).mac.0 == to.0
     }
 
     // An item that left a port comes at the other end of its link.
@@ -117,20 +117,20 @@ impl<S: SwitchLogic, M: ManagerLogic, H: HostLogic> World<S, M, H> {
         requires host { h.0 < length self.old.plan.hosts }
         requires item { IsItem item }
         requires shaped { AllByRecursion IsShaped self.old.switches }
-        ensures { OnOk result (ComesIn S.rule self.old h.0 item (slice_get self.old.stands h.0) self.new) }
+        ensures { OnOk result (ComesIn S.rule self.old h.0 item (slice_get self.old.attachments h.0) self.new) }
     {
-        let stand = self.stand_of(h);
+        let attachment = self.attachment_of(h);
         self.hear(h, &item);
-        self.come_at_switch(stand.edge, stand.port, item)?;
+        self.come_at_switch(attachment.edge, attachment.port, item)?;
         Ok(())
     }
 
-    pub(crate) fn stand_of(&self, h: HostNo) -> Stand
+    pub(crate) fn attachment_of(&self, h: HostNo) -> AttachmentPoint
         requires { h.0 < length self.now.plan.hosts }
-        ensures is { slice_get self.now.stands h.0 ≡ Some result }
-        ensures at_port { IsAtPort self.now.plan.k result }
+        ensures is { slice_get self.now.attachments h.0 ≡ Some result }
+        ensures at_port { IsTreePort self.now.plan.k result }
     {
-        self.stands.stand_of(h)
+        self.attachments.attachment_of(h)
     }
 
     // A host is heard with a data frame of it.
@@ -161,7 +161,7 @@ impl<S: SwitchLogic, M: ManagerLogic, H: HostLogic> World<S, M, H> {
     pub(crate) fn take_out(&mut self, s: SwitchNo, port: u8) -> Option<Item>
         requires switch { s.0 < switch_count self.old.plan.k }
         requires port { port < self.old.plan.k }
-        ensures { MatchOption result (out_of self.old s.0 port ≡ []) (IsTakenOut self.old s.0 port self.new) }
+        ensures { MatchOption result (out_of self.old s.0 port ≡ []) (ItemIsTaken self.old s.0 port self.new) }
     {
         self.switches.take(s.0 as usize, port)
     }

@@ -5,7 +5,7 @@ ghost use Rattle.pl_world.specs.LinksAndMoves.{link_failed, link_repaired, with_
 use crate::world::World;
 use pl_frame::Memory;
 use pl_journal::{Cause, Entry};
-use pl_logic::{HostLogic, ManagerLogic, SwitchLogic};
+use pl_node::{HostLogic, ManagerLogic, SwitchLogic};
 use pl_wiring::Link;
 use pl_world_parts::set_live;
 
@@ -38,6 +38,6 @@ impl<S: SwitchLogic, M: ManagerLogic, H: HostLogic> World<S, M, H> {
         ensures upper { link.upper.0 < switch_count self.old.plan.k }
         ensures upper_port { link.upper_port < self.old.plan.k }
     {
-        set_live(&mut self.links, self.atlas.wiring(), link, live);
+        set_live(&mut self.links, self.wiring_index.wiring(), link, live);
     }
 }

@@ -3,22 +3,22 @@ ghost use Rattle.std.specs.List.{AllByRecursion};
 ghost use Rattle.pl_frame.specs.declared.address.SwitchId.{SwitchId};
 ghost use Rattle.pl_wiring.specs.Labels.{switch_count};
 ghost use Rattle.pl_wiring.specs.Peers.{IsPort, peer_of};
-ghost use Rattle.pl_logic.specs.Accounting.{IsShaped};
-ghost use Rattle.pl_logic.specs.ManagerFacts.{CanHear};
+ghost use Rattle.pl_node.specs.Accounting.{IsShaped};
+ghost use Rattle.pl_node.specs.ManagerFacts.{CanHear};
 ghost use Rattle.pl_world.specs.Changes.{all_noted, emptied_from_host, emptied_out, ends_of, host_at, out_of};
-ghost use Rattle.pl_world.specs.Flying.{IsAtPort, IsDataItem, IsItem};
+ghost use Rattle.pl_world.specs.Flying.{IsTreePort, IsDataItem, IsItem};
 ghost use Rattle.pl_queues.specs.Queues.{has_items, items_at};
 ghost use Rattle.pl_world.specs.LinksAndMoves.{host_moved, item_lost};
 ghost use Rattle.pl_world.specs.OtherActs.{heard_after_tick, one_more_tick};
-ghost use Rattle.pl_world.specs.WorldRule.{DeliversFromHost, DeliversFromManager, DeliversOut, DeliversToManager, Goes, Loses, Ticks};
+ghost use Rattle.pl_world.specs.WorldRule.{DeliversFromHost, DeliversFromManager, DeliversOut, DeliversToManager, HostMoves, Loses, Ticks};
 
 use crate::world::World;
 use pl_frame::Memory;
 use pl_journal::{Cause, Entry};
-use pl_logic::{HostLogic, ManagerLogic, SwitchLogic};
+use pl_node::{HostLogic, ManagerLogic, SwitchLogic};
 use pl_wiring::{HostNo, Peer, SwitchNo};
-use pl_world::{Item, SpokenFrame, Stand};
-use pl_world_parts::{Incoming, Stands, Urge};
+use pl_world::{AttachmentPoint, Item, SpokenFrame};
+use pl_world_parts::{Attachments, HostCall, Incoming};
 
 impl<S: SwitchLogic, M: ManagerLogic, H: HostLogic> World<S, M, H> {
     pub(crate) fn deliver_from_host(&mut self, h: HostNo) -> Result<(), Memory>
@@ -43,7 +43,7 @@ impl<S: SwitchLogic, M: ManagerLogic, H: HostLogic> World<S, M, H> {
         ensures is { result ≡ peer_of self.now.plan s.0 port }
         ensures in_range { IsPort self.now.plan.k result }
     {
-        self.atlas.wiring().peer(s, port)
+        self.wiring_index.wiring().peer(s, port)
     }
 
     pub(crate) fn deliver_out(&mut self, s: SwitchNo, port: u8) -> Result<(), Memory>
@@ -106,10 +106,10 @@ impl<S: SwitchLogic, M: ManagerLogic, H: HostLogic> World<S, M, H> {
 
     // The tick counts for the hosts that stand at the switch.
     fn count_tick(&mut self, s: SwitchNo)
-        ensures { self.new ≡ record self.old { heard = heard_after_tick s.0 self.old.stands self.old.heard } }
+        ensures { self.new ≡ record self.old { heard = heard_after_tick s.0 self.old.attachments self.old.heard } }
     {
-        let k = self.atlas.wiring().k();
-        count_ticks(&mut self.heard, &self.stands, s, k);
+        let k = self.wiring_index.wiring().k();
+        count_ticks(&mut self.heard, &self.attachments, s, k);
     }
 
     pub(crate) fn lose(&mut self, s: SwitchNo, port: u8) -> Result<(), Memory>
@@ -136,40 +136,40 @@ impl<S: SwitchLogic, M: ManagerLogic, H: HostLogic> World<S, M, H> {
         }
     }
 
-    pub(crate) fn move_host(&mut self, h: HostNo, to: Stand) -> Result<(), Memory>
+    pub(crate) fn move_host(&mut self, h: HostNo, to: AttachmentPoint) -> Result<(), Memory>
         requires host { h.0 < length self.old.plan.hosts }
-        requires to { IsAtPort self.old.plan.k to }
+        requires to { IsTreePort self.old.plan.k to }
         requires free { host_at self.old to.edge.0 to.port ≡ None }
-        ensures { OnOk result (Goes H.rule self.old h.0 to (slice_get self.old.stands h.0) self.new) }
+        ensures { OnOk result (HostMoves H.rule self.old h.0 to (slice_get self.old.attachments h.0) self.new) }
     {
-        let from = self.stand_of(h);
+        let from = self.attachment_of(h);
         self.go(h, from, to)?;
-        self.host_does(h, Urge::Moved)?;
+        self.host_does(h, HostCall::Moved)?;
         Ok(())
     }
 
     // A host leaves its port for another one.
-    fn go(&mut self, h: HostNo, from: Stand, to: Stand) -> Result<(), Memory>
+    fn go(&mut self, h: HostNo, from: AttachmentPoint, to: AttachmentPoint) -> Result<(), Memory>
         requires host { h.0 < length self.old.plan.hosts }
-        requires from { IsAtPort self.old.plan.k from }
-        requires to { IsAtPort self.old.plan.k to }
+        requires from { IsTreePort self.old.plan.k from }
+        requires to { IsTreePort self.old.plan.k to }
         requires free { host_at self.old to.edge.0 to.port ≡ None }
         ensures gone { OnOk result (self.new ≡ host_moved self.old h.0 from to) }
         ensures plan { OnOk result (self.new.plan ≡ self.old.plan) }
     {
-        self.stand(h, to)?;
+        self.attachment(h, to)?;
         self.note(Entry::Moved(h, to.edge, to.port))?;
         self.empty_from_host(h, Cause::HostGone)?;
         self.empty_out(from.edge, from.port, Cause::HostGone)
     }
 
-    fn stand(&mut self, h: HostNo, to: Stand) -> Result<(), Memory>
+    fn attachment(&mut self, h: HostNo, to: AttachmentPoint) -> Result<(), Memory>
         requires host { h.0 < length self.old.plan.hosts }
-        requires to { IsAtPort self.old.plan.k to }
+        requires to { IsTreePort self.old.plan.k to }
         requires free { host_at self.old to.edge.0 to.port ≡ None }
-        ensures { OnOk result (self.new ≡ record self.old { stands = slice_set self.old.stands h.0 to; heard = slice_set self.old.heard h.0 None }) }
+        ensures { OnOk result (self.new ≡ record self.old { attachments = slice_set self.old.attachments h.0 to; heard = slice_set self.old.heard h.0 None }) }
     {
-        self.stands.move_to(h, to)?;
+        self.attachments.move_to(h, to)?;
         self.heard[h.0 as usize] = None;
         Ok(())
     }
@@ -214,13 +214,13 @@ impl<S: SwitchLogic, M: ManagerLogic, H: HostLogic> World<S, M, H> {
 }
 
 // A tick counts for the hosts that stand at the ports of the switch.
-fn count_ticks(heard: &mut Vec<Option<u32>>, stands: &Stands, s: SwitchNo, k: u8)
-    requires many { length stands.now ≡ length heard.old.items }
-    requires at_ports { AllByRecursion (IsAtPort k) stands.now }
-    ensures { heard.new.items ≡ heard_after_tick s.0 stands.now heard.old.items }
+fn count_ticks(heard: &mut Vec<Option<u32>>, attachments: &Attachments, s: SwitchNo, k: u8)
+    requires many { length attachments.now ≡ length heard.old.items }
+    requires at_ports { AllByRecursion (IsTreePort k) attachments.now }
+    ensures { heard.new.items ≡ heard_after_tick s.0 attachments.now heard.old.items }
 {
     for port in 0..k {
-        if let Some(h) = stands.host_at(s, port) {
+        if let Some(h) = attachments.host_at(s, port) {
             let ticks = one_more_tick(heard[h.0 as usize]);
             heard[h.0 as usize] = ticks;
         }

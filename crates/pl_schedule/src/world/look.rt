@@ -1,8 +1,7 @@
 ghost use Rattle.std.specs.Prelude.{◌≡◌, ◌<◌, length, slice_get, Some, OnErr, OnOk, true};
 ghost use Rattle.pl_wiring.specs.Labels.{switch_count};
 ghost use Rattle.pl_world.specs.Changes.{noted, out_of};
-ghost use Rattle.pl_world.specs.Flying.{IsCounted};
-ghost use Rattle.pl_world.specs.Hearing.{IsWithinHearing};
+ghost use Rattle.pl_world.specs.Ready.{CanStep};
 ghost use Rattle.pl_schedule.specs.Looks.{queue_len};
 ghost use Rattle.pl_world.specs.Pending.{pending};
 ghost use Rattle.pl_world.specs.Refusals.{has_port};
@@ -11,9 +10,9 @@ ghost use Rattle.pl_world.specs.Runs.{IsMark};
 use crate::world::World;
 use pl_frame::Memory;
 use pl_journal::Entry;
-use pl_logic::{HostLogic, ManagerLogic, SwitchLogic};
+use pl_node::{HostLogic, ManagerLogic, SwitchLogic};
 use pl_wiring::{HostNo, SwitchNo};
-use pl_world::{QueueName, Stand};
+use pl_world::{AttachmentPoint, QueueName};
 
 impl<S: SwitchLogic, M: ManagerLogic, H: HostLogic> World<S, M, H> {
     /// How many items wait in a queue; none exactly where the wiring has no such queue.
@@ -105,11 +104,11 @@ impl<S: SwitchLogic, M: ManagerLogic, H: HostLogic> World<S, M, H> {
     }
 
     /// Where a host stands; none exactly where the wiring has no such host.
-    pub fn place_of_host(&self, h: HostNo) -> Option<Stand>
-        ensures { result ≡ slice_get self.now.stands h.0 }
+    pub fn place_of_host(&self, h: HostNo) -> Option<AttachmentPoint>
+        ensures { result ≡ slice_get self.now.attachments h.0 }
     {
         if self.has_host(h) {
-            Some(self.stands.stand_of(h))
+            Some(self.attachments.attachment_of(h))
         } else {
             None
         }
@@ -129,8 +128,7 @@ impl<S: SwitchLogic, M: ManagerLogic, H: HostLogic> World<S, M, H> {
         requires { IsMark entry }
         ensures marked { OnOk result (self.new ≡ noted self.old entry) }
         ensures err { OnErr result (self.new ≡ self.old) }
-        ensures counted { OnOk result (IsCounted self.old → IsCounted self.new) }
-        ensures hearing { OnOk result (IsWithinHearing self.old → IsWithinHearing self.new) }
+        ensures orderly { OnOk result (CanStep self.old → CanStep self.new) }
     {
         self.note(entry)?;
         Ok(())

@@ -7,8 +7,8 @@ ghost use Rattle.pl_world.specs.QueueOrder.{filled_queues, first_from_manager, f
 ghost use Rattle.pl_world.specs.Refusals.{has_queue, is_filled, refusal_of_queue};
 
 use crate::world::World;
-use pl_banks::Queues;
-use pl_logic::{HostLogic, ManagerLogic, SwitchLogic};
+use pl_node::{HostLogic, ManagerLogic, SwitchLogic};
+use pl_queue_array::Queues;
 use pl_wiring::{HostNo, SwitchNo, Wiring};
 use pl_world::QueueName;
 
@@ -18,7 +18,7 @@ impl<S: SwitchLogic, M: ManagerLogic, H: HostLogic> World<S, M, H> {
         ensures count { result ≡ queue_count self.now.plan }
         ensures order { result ≡ length (queue_order self.now.plan) }
     {
-        Borders::of(self.atlas.wiring()).end
+        Borders::of(self.wiring_index.wiring()).end
     }
 
     /// A queue by its number in queue order: the hosts' queues in the order of the wiring, the queues out
@@ -28,7 +28,7 @@ impl<S: SwitchLogic, M: ManagerLogic, H: HostLogic> World<S, M, H> {
         ensures name { result ≡ queue_at self.now.plan n }
         ensures order { slice_get (queue_order self.now.plan) n ≡ Some result }
     {
-        name_at(self.atlas.wiring(), n)
+        name_at(self.wiring_index.wiring(), n)
     }
 
     /// The number of the first queue with items, of those from number `from` on; none where there is none.
@@ -95,7 +95,7 @@ impl<S: SwitchLogic, M: ManagerLogic, H: HostLogic> World<S, M, H> {
         ensures { result ≡ option_map (port_queue self.now.plan.k) (slice_get (filled_indices self.now.out) i) }
     {
         let at = self.switches.out().filled_index(i)?;
-        Some(port_queue(self.atlas.wiring().k(), at))
+        Some(port_queue(self.wiring_index.wiring().k(), at))
     }
 
     fn filled_to_manager(&self, i: usize) -> Option<QueueName>
@@ -123,21 +123,21 @@ impl<S: SwitchLogic, M: ManagerLogic, H: HostLogic> World<S, M, H> {
     fn next_out(&self, from: usize) -> Option<usize>
         ensures { result ≡ next_in (first_out self.now.plan) self.now.out from }
     {
-        let borders = Borders::of(self.atlas.wiring());
+        let borders = Borders::of(self.wiring_index.wiring());
         next_in(self.switches.out(), borders.out, from)
     }
 
     fn next_to_manager(&self, from: usize) -> Option<usize>
         ensures { result ≡ next_in (first_to_manager self.now.plan) self.now.to_manager from }
     {
-        let borders = Borders::of(self.atlas.wiring());
+        let borders = Borders::of(self.wiring_index.wiring());
         next_in(self.to_manager.queues(), borders.to_manager, from)
     }
 
     fn next_from_manager(&self, from: usize) -> Option<usize>
         ensures { result ≡ next_in (first_from_manager self.now.plan) self.now.from_manager from }
     {
-        let borders = Borders::of(self.atlas.wiring());
+        let borders = Borders::of(self.wiring_index.wiring());
         next_in(self.from_manager.queues(), borders.from_manager, from)
     }
 }
@@ -200,11 +200,11 @@ fn port_queue(k: u8, at: usize) -> QueueName
     QueueName::Port(SwitchNo((at / k) as u32), (at % k) as u8)
 }
 
-// The number of the next queue with items, of a bank whose first queue has number `first`.
-fn next_in<T>(bank: &Queues<T>, first: usize, from: usize) -> Option<usize>
-    requires { first + length bank.now < 2 ^ 64 }
-    ensures { result ≡ next_in first bank.now from }
+// The number of the next queue with items, of a queue array whose first queue has number `first`.
+fn next_in<T>(queue_array: &Queues<T>, first: usize, from: usize) -> Option<usize>
+    requires { first + length queue_array.now < 2 ^ 64 }
+    ensures { result ≡ next_in first queue_array.now from }
 {
-    let at = bank.next_filled(from.saturating_sub(first))?;
+    let at = queue_array.next_filled(from.saturating_sub(first))?;
     Some(first + at)
 }

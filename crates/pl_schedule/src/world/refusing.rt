@@ -9,7 +9,7 @@ ghost use Rattle.pl_world.specs.LinksAndMoves.{link_between};
 ghost use Rattle.pl_world.specs.Refusals.{has_host, has_port, has_queue, has_switch, is_filled, is_for_hosts, is_linked, refusal, refusal_of_event, refusal_of_link, refusal_of_move, refusal_of_place, refusal_of_queue, unless_there};
 
 use crate::world::World;
-use pl_logic::{HostLogic, ManagerLogic, SwitchLogic};
+use pl_node::{HostLogic, ManagerLogic, SwitchLogic};
 use pl_wiring::{HostNo, Link, Peer, SwitchNo};
 use pl_world::{Event, QueueName, StepError};
 use pl_world_parts::link_of;
@@ -21,7 +21,7 @@ impl<S: SwitchLogic, M: ManagerLogic, H: HostLogic> World<S, M, H> {
     {
         if self.steps >= self.limits.steps {
             Some(StepError::StepsSpent)
-        } else if self.book.is_full(&self.limits) {
+        } else if self.world_journal.is_full(&self.limits) {
             Some(StepError::JournalFull)
         } else {
             self.refusal_of_event(event)
@@ -49,19 +49,19 @@ impl<S: SwitchLogic, M: ManagerLogic, H: HostLogic> World<S, M, H> {
     pub(crate) fn has_host(&self, h: HostNo) -> bool
         ensures { result ≡ has_host self.now.plan h.0 }
     {
-        h.0 < self.atlas.wiring().host_count()
+        h.0 < self.wiring_index.wiring().host_count()
     }
 
     pub(crate) fn has_switch(&self, s: SwitchNo) -> bool
         ensures { result ≡ has_switch self.now.plan s.0 }
     {
-        s.0 < self.atlas.wiring().switch_count()
+        s.0 < self.wiring_index.wiring().switch_count()
     }
 
     pub(crate) fn has_port(&self, s: SwitchNo, port: u8) -> bool
         ensures { result ≡ has_port self.now.plan s.0 port }
     {
-        self.has_switch(s) && port < self.atlas.wiring().k()
+        self.has_switch(s) && port < self.wiring_index.wiring().k()
     }
 
     // Whether the wiring has this port, and a host may stand there.
@@ -69,7 +69,7 @@ impl<S: SwitchLogic, M: ManagerLogic, H: HostLogic> World<S, M, H> {
         ensures { result ≡ is_for_hosts self.now.plan s.0 port }
     {
         if self.has_port(s, port) {
-            is_host_port(&self.atlas.wiring().peer(s, port))
+            is_host_port(&self.wiring_index.wiring().peer(s, port))
         } else {
             false
         }
@@ -80,7 +80,7 @@ impl<S: SwitchLogic, M: ManagerLogic, H: HostLogic> World<S, M, H> {
         ensures { result ≡ is_linked self.now.plan s.0 port }
     {
         if self.has_port(s, port) {
-            !is_host_port(&self.atlas.wiring().peer(s, port))
+            !is_host_port(&self.wiring_index.wiring().peer(s, port))
         } else {
             false
         }
@@ -106,7 +106,7 @@ impl<S: SwitchLogic, M: ManagerLogic, H: HostLogic> World<S, M, H> {
     fn refusal_between(&self, a: SwitchNo, b: SwitchNo, live: bool) -> Option<StepError>
         ensures { result ≡ refusal_of_link self.now live (link_between self.now.plan a.0 b.0) }
     {
-        match link_of(self.atlas.wiring(), a, b) {
+        match link_of(self.wiring_index.wiring(), a, b) {
             None => Some(StepError::NoSuch),
             Some(link) => self.refusal_of_link(&link, live),
         }
@@ -126,8 +126,8 @@ impl<S: SwitchLogic, M: ManagerLogic, H: HostLogic> World<S, M, H> {
         ensures { result ≡ refusal_of_move self.now h.0 s.0 port }
     {
         if self.has_host(h) && self.is_for_hosts(s, port) {
-            let _ = &self.stands;
-            refusal_of_place(h, self.stands.host_at(s, port))
+            let _ = &self.attachments;
+            refusal_of_place(h, self.attachments.host_at(s, port))
         } else {
             Some(StepError::NoSuch)
         }

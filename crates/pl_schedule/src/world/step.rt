@@ -1,19 +1,19 @@
 ghost use Rattle.std.specs.Prelude.{◌≡◌, ◌+◌, ℕ, true, false, nat_le, slice_get, IfErr, None, OnOk, Some};
 ghost use Rattle.pl_frame.specs.declared.address.SwitchId.{SwitchId};
-ghost use Rattle.pl_logic.specs.ManagerFacts.{CanHear};
+ghost use Rattle.pl_node.specs.ManagerFacts.{CanHear};
 ghost use Rattle.pl_world.specs.declared.error.StepError.{StepError};
 ghost use Rattle.pl_world.specs.Flying.{IsCounted};
-ghost use Rattle.pl_world.specs.Hearing.{IsWithinHearing};
+ghost use Rattle.pl_world.specs.Ready.{CanStep};
 ghost use Rattle.pl_world.specs.LinksAndMoves.{link_between};
 ghost use Rattle.pl_world.specs.Refusals.{has_queue, is_filled, refusal, refusal_of_event, refusal_of_link, refusal_of_queue};
-ghost use Rattle.pl_world.specs.WorldRule.{Delivers, Fails, Happens, IsRepaired, WorldStep};
+ghost use Rattle.pl_world.specs.WorldRule.{Delivers, LinkFails, Happens, LinkIsRepaired, WorldStep};
 
 use crate::world::World;
 use pl_frame::Memory;
-use pl_logic::{HostLogic, ManagerLogic, SwitchLogic};
+use pl_node::{HostLogic, ManagerLogic, SwitchLogic};
 use pl_wiring::SwitchNo;
-use pl_world::{Event, QueueName, Stand, StepError};
-use pl_world_parts::{Urge, link_of};
+use pl_world::{AttachmentPoint, Event, QueueName, StepError};
+use pl_world_parts::{HostCall, link_of};
 
 impl<S: SwitchLogic, M: ManagerLogic, H: HostLogic> World<S, M, H> {
     fn deliver(&mut self, name: &QueueName) -> Result<(), Memory>
@@ -32,9 +32,9 @@ impl<S: SwitchLogic, M: ManagerLogic, H: HostLogic> World<S, M, H> {
 
     fn fail_between(&mut self, a: SwitchNo, b: SwitchNo) -> Result<(), Memory>
         requires { refusal_of_link self.old false (link_between self.old.plan a.0 b.0) ≡ None }
-        ensures { OnOk result (Fails self.old (link_between self.old.plan a.0 b.0) self.new) }
+        ensures { OnOk result (LinkFails self.old (link_between self.old.plan a.0 b.0) self.new) }
     {
-        match link_of(self.atlas.wiring(), a, b) {
+        match link_of(self.wiring_index.wiring(), a, b) {
             None => Ok(()),
             Some(link) => self.fail(link),
         }
@@ -42,9 +42,9 @@ impl<S: SwitchLogic, M: ManagerLogic, H: HostLogic> World<S, M, H> {
 
     fn repair_between(&mut self, a: SwitchNo, b: SwitchNo) -> Result<(), Memory>
         requires { refusal_of_link self.old true (link_between self.old.plan a.0 b.0) ≡ None }
-        ensures { OnOk result (IsRepaired self.old (link_between self.old.plan a.0 b.0) self.new) }
+        ensures { OnOk result (LinkIsRepaired self.old (link_between self.old.plan a.0 b.0) self.new) }
     {
-        match link_of(self.atlas.wiring(), a, b) {
+        match link_of(self.wiring_index.wiring(), a, b) {
             None => Ok(()),
             Some(link) => self.repair(link),
         }
@@ -63,22 +63,22 @@ impl<S: SwitchLogic, M: ManagerLogic, H: HostLogic> World<S, M, H> {
             Event::Repair(a, b) => self.repair_between(*a, *b),
             Event::Lose(s, port) => self.lose(*s, *port),
             Event::Move(h, s, port) => {
-                let to = Stand {
+                let to = AttachmentPoint {
                     edge: *s,
                     port: *port,
                 };
                 self.move_host(*h, to)
             }
-            Event::Start(h) => self.host_does(*h, Urge::Start),
+            Event::Start(h) => self.host_does(*h, HostCall::Start),
             Event::Play {
                 host,
                 frame,
                 original,
                 raw,
             } => self.host_plays(*host, frame.bytes(), *original, *raw),
-            Event::Retry(h) => self.host_does(*h, Urge::Retry),
-            Event::Join(h, group) => self.host_does(*h, Urge::Join(*group)),
-            Event::Leave(h, group) => self.host_does(*h, Urge::Leave(*group)),
+            Event::Retry(h) => self.host_does(*h, HostCall::Retry),
+            Event::Join(h, group) => self.host_does(*h, HostCall::Join(*group)),
+            Event::Leave(h, group) => self.host_does(*h, HostCall::Leave(*group)),
         }
     }
 
@@ -92,8 +92,7 @@ impl<S: SwitchLogic, M: ManagerLogic, H: HostLogic> World<S, M, H> {
 
     // A step that is not refused.
     fn make_step(&mut self, event: &Event) -> Result<(), Memory>
-        requires counted { IsCounted self.old }
-        requires hearing { IsWithinHearing self.old }
+        requires orderly { CanStep self.old }
         requires allowed { refusal self.old event.now ≡ None }
         ensures { OnOk result (WorldStep S.rule M.rule H.rule self.old event.now self.new) }
     {
@@ -104,13 +103,11 @@ impl<S: SwitchLogic, M: ManagerLogic, H: HostLogic> World<S, M, H> {
     /// Makes one step, which is an event. A step that is refused changes nothing. After want of memory
     /// the world is not used again.
     pub fn step(&mut self, event: &Event) -> Result<(), StepError>
-        requires counted { IsCounted self.old }
-        requires hearing { IsWithinHearing self.old }
+        requires orderly { CanStep self.old }
         ensures step { OnOk result ((refusal self.old event.now ≡ None) × WorldStep S.rule M.rule H.rule self.old event.now self.new) }
         ensures refused { (e : StepError) → refusal self.old event.now ≡ Some e → (result ≡ Err e) × (self.new ≡ self.old) }
         ensures memory { refusal self.old event.now ≡ None → IfErr result (λ e. e ≡ StepError.Memory) }
-        ensures counted { OnOk result (IsCounted self.new) }
-        ensures hearing { OnOk result (IsWithinHearing self.new) }
+        ensures orderly { OnOk result (CanStep self.new) }
     {
         match self.refusal(event) {
             Some(refusal) => Err(refusal),

@@ -1,11 +1,11 @@
 ghost use Rattle.std.specs.Prelude.{◌≡◌, ◌<◌, length, slice_get, Some, OnOk};
 ghost use Rattle.pl_frame.specs.declared.address.SwitchId.{SwitchId};
-ghost use Rattle.pl_logic.specs.ManagerFacts.{CanHear};
+ghost use Rattle.pl_node.specs.ManagerFacts.{CanHear};
 ghost use Rattle.std.specs.List.{AllByRecursion, fold};
 ghost use Rattle.pl_wiring.specs.Labels.{switch_count};
-ghost use Rattle.pl_logic.specs.Accounting.{CanCome, IsShaped};
-ghost use Rattle.pl_logic.specs.HostInputs.HostAnswer.{Nothing};
-ghost use Rattle.pl_logic.specs.SwitchViews.{SwitchView};
+ghost use Rattle.pl_node.specs.Accounting.{CanCome, IsShaped};
+ghost use Rattle.pl_node.specs.HostInputs.HostAnswer.{Nothing};
+ghost use Rattle.pl_node.specs.SwitchViews.{SwitchView};
 ghost use Rattle.pl_world.specs.Changes.{sent_by_host};
 ghost use Rattle.pl_world_parts.specs.OneStep.{input_from, input_of};
 ghost use Rattle.pl_world.specs.OtherActs.{host_act_done, manager_act_done, reception_noted, skip_noted};
@@ -15,13 +15,13 @@ use crate::world::World;
 use pl_frame::{Frame, Memory};
 use pl_journal::{Cause, Entry, Skip};
 use pl_lists::Queue;
-use pl_logic::{
+use pl_node::{
     HostAct, HostLogic, HostOutbox, ManagerAct, ManagerLogic, ManagerOutbox, Reception,
     SwitchLogic, ToManager,
 };
 use pl_wiring::{HostNo, SwitchNo};
-use pl_world::{Aside, Item, SpokenFrame};
-use pl_world_parts::{Incoming, Urge, arrive_at, play_at, urge_at};
+use pl_world::{ActsProgress, Item, SpokenFrame};
+use pl_world_parts::{HostCall, Incoming, arrive_at, host_call_at, play_at};
 
 impl<S: SwitchLogic, M: ManagerLogic, H: HostLogic> World<S, M, H> {
     // Something comes at a switch. The switch's acts speak first of the frame that is said here.
@@ -37,12 +37,12 @@ impl<S: SwitchLogic, M: ManagerLogic, H: HostLogic> World<S, M, H> {
         ensures { OnOk result (SwitchTurn S.rule self.old s.0 (input_from incoming.entry) first self.new) }
     {
         let mut acts = Queue::new(self.alloc);
-        let mut aside = Aside {
+        let mut progress = ActsProgress {
             speech: first,
             late: Queue::new(self.alloc),
         };
         let (old, new) = self.switches.hear(s.0 as usize, incoming, &mut acts)?;
-        self.finish(s, old, new, &mut acts, &mut aside)
+        self.finish(s, old, new, &mut acts, &mut progress)
     }
 
     // A host sends a frame: it gets a number, and waits in the host's queue.
@@ -69,12 +69,12 @@ impl<S: SwitchLogic, M: ManagerLogic, H: HostLogic> World<S, M, H> {
         Ok(())
     }
 
-    pub(crate) fn host_does(&mut self, h: HostNo, urge: Urge) -> Result<(), Memory>
+    pub(crate) fn host_does(&mut self, h: HostNo, host_call: HostCall) -> Result<(), Memory>
         requires { h.0 < length self.old.plan.hosts }
-        ensures { OnOk result (HostTurn H.rule self.old h.0 (input_of urge) Nothing self.new) }
+        ensures { OnOk result (HostTurn H.rule self.old h.0 (input_of host_call) Nothing self.new) }
     {
         let mut acts = Queue::new(self.alloc);
-        urge_at(&mut self.hosts, h.0 as usize, urge, &mut acts)?;
+        host_call_at(&mut self.hosts, h.0 as usize, host_call, &mut acts)?;
         self.send_all(h, &mut acts)
     }
 
@@ -149,7 +149,7 @@ impl<S: SwitchLogic, M: ManagerLogic, H: HostLogic> World<S, M, H> {
         ensures { OnOk result (ManagerTurn M.rule self.old s.0 told.now self.new) }
     {
         let mut acts = Queue::new(self.alloc);
-        let id = self.atlas.wiring().id(s);
+        let id = self.wiring_index.wiring().id(s);
         self.manager.hears(id, told, &mut acts)?;
         self.manager_does(&mut acts)?;
         Ok(())

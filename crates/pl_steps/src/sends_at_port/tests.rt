@@ -1,11 +1,11 @@
 ghost use Rattle.std.specs.Prelude.{◌≡◌, not, List, [], ◌∷◌, ◌++◌, map, OnOk};
-ghost use Rattle.pl_logic.specs.PortRecords.{port_of, ports_where};
-ghost use Rattle.pl_logic.specs.SwitchViews.{SwitchView};
+ghost use Rattle.pl_node.specs.PortRecords.{port_of, ports_where};
+ghost use Rattle.pl_node.specs.SwitchViews.{SwitchView};
 ghost use Rattle.pl_steps.specs.Steps.{does, ◌▹◌};
 ghost use Rattle.pl_steps.specs.Taken.{IsTaken};
 
 use super::*;
-use pl_logic::{SwitchFacts, ToManager};
+use pl_node::{SwitchFacts, ToManager};
 use std::alloc::Global;
 use std::test::Fail;
 
@@ -19,7 +19,7 @@ struct SendsToSwitches<'a, F: SwitchFacts> {
 
 impl<F: SwitchFacts> SendsAtPort for SendsToSwitches<'_, F> {
     ghost use Rattle.std.specs.Prelude.{not};
-    ghost use Rattle.pl_logic.specs.PortRecords.{port_of};
+    ghost use Rattle.pl_node.specs.PortRecords.{port_of};
 
     ghost ports = { λ sender. (F.view sender.facts.now).k };
 

@@ -5,7 +5,7 @@ use super::*;
 use pl_frame::SwitchId;
 use pl_layouts::Place;
 use pl_lists::Rising;
-use pl_logic::{AvoidList, PortRecord, TreePart};
+use pl_node::{AvoidList, PortRecord, TreePart};
 use std::test::Fail;
 
 // Switch 5, of four ports, with a host at each.

@@ -1,5 +1,5 @@
 use Rattle.std.proofs.Common.{OnOk, subst, sym}
-use Rattle.pl_logic.specs.declared.messages.ToSwitch.{ToSwitch}
+use Rattle.pl_node.specs.declared.messages.ToSwitch.{ToSwitch}
 use Rattle.pl_steps.specs.Taken.{IsTaken}
 use Rattle.pl_switch_rule.specs.Messages.{hears_manager}
 use Rattle.pl_switch_rule.specs.SwitchRule.{by_flow}

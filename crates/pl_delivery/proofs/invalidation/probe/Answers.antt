@@ -1,5 +1,5 @@
 use Rattle.std.proofs.Common.{OnOk, if◌then◌else◌, sym, subst}
-use Rattle.pl_logic.specs.SwitchViews.{SwitchView}
+use Rattle.pl_node.specs.SwitchViews.{SwitchView}
 use Rattle.pl_delivery.proofs.invalidation.probe.Goals as goal
 use Rattle.pl_steps.specs.Steps.{rests}
 use Rattle.pl_steps.specs.Taken.{IsTaken}

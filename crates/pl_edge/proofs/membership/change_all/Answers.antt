@@ -3,7 +3,7 @@ use Rattle.std.specs.List.{fold}
 use Rattle.pl_frame.specs.Ethernet.{Fields, source_of}
 use Rattle.pl_multicast.specs.Changes.{changes_left}
 use Rattle.pl_switch_rule.specs.Intake.{changes_member}
-use Rattle.pl_edge.specs.Told.{AreNoted}
+use Rattle.pl_edge.specs.Told.{AreChangesNoted}
 use Rattle.pl_edge.proofs.Noting.{noted_none, noted_step}
 use Rattle.pl_edge.proofs.membership.change_all.Goals as goal
 
@@ -12,12 +12,12 @@ returns-in_default-clause-changed c =
     ap (λ changes. fold (changes_member c.args.port (source_of c.args.frame.now)) c.args.members.now changes) (sym (c.in_default.ensures.changes c.args.frame.now c.view_of-view.ensures))
 
 pub returns-in_default-clause-noted : goal.returns-in_default-clause-noted
-returns-in_default-clause-noted c = subst (AreNoted c.args.members.now c.args.members.now) (sym c.requires.none) (noted_none c.args.members.now)
+returns-in_default-clause-noted c = subst (AreChangesNoted c.args.members.now c.args.members.now) (sym c.requires.none) (noted_none c.args.members.now)
 
 pub loop-change-init : goal.loop-change-init
 loop-change-init c = record {
   changed = refl;
-  noted = subst (AreNoted c.args.members.now c.args.members.now) (sym c.requires.none) (noted_none c.args.members.now);
+  noted = subst (AreChangesNoted c.args.members.now c.args.members.now) (sym c.requires.none) (noted_none c.args.members.now);
 }
 
 pub loop-change-preserved : goal.loop-change-preserved

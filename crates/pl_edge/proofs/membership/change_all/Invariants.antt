@@ -3,7 +3,7 @@ use Rattle.std.specs.List.{fold}
 use Rattle.pl_frame.specs.Ethernet.{source_of}
 use Rattle.pl_multicast.specs.Changes.{changes_left}
 use Rattle.pl_switch_rule.specs.Intake.{changes_member}
-use Rattle.pl_edge.specs.Told.{AreNoted}
+use Rattle.pl_edge.specs.Told.{AreChangesNoted}
 use Rattle.pl_edge.proofs.membership.change_all.Given as goal
 
 -- the changes so far, and those that are left
@@ -11,5 +11,5 @@ abbrev pub invariant-loop-change : goal.invariant-loop-change
 invariant-loop-change l = record {
   changed : fold (changes_member l.port (source_of l.frame)) l.members (changes_left l.change-iterator)
       ≡ fold (changes_member l.port (source_of l.frame)) l.initial.members (changes_left l.initial.change-iterator);
-  noted : AreNoted l.initial.members l.members l.before;
+  noted : AreChangesNoted l.initial.members l.members l.before;
 }

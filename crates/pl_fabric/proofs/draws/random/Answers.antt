@@ -1,13 +1,13 @@
 use Rattle.std.proofs.lemmas.Result.{err_from_is_err_and}
 use Rattle.std.proofs.Common.{◌≡◌, ℕ, suc, ◌+◌, ◌-◌, None, Some, refl, sym, ◌∙◌, ap, subst, arith}
-use Rattle.pl_fabric.specs.Courses.{Makes}
+use Rattle.pl_fabric.specs.Executions.{Makes}
 use Rattle.pl_fabric.specs.Draws.{Draws, drawn, next_number}
-use Rattle.pl_fabric.proofs.CourseSteps.{Leads, leads_all, led_on, led_stops, unless_weaker}
+use Rattle.pl_fabric.proofs.ExecutionSteps.{Leads, leads_all, led_on, led_stops, unless_weaker}
 use Rattle.pl_fabric.proofs.draws.random.Goals as goal
 
 pub loop-init : goal.loop-init
 loop-init g c = (
-  record { counted = c.requires.counted; hearing = c.requires.hearing; plan = refl },
+  record { orderly = c.requires.orderly; plan = refl },
   λ left all. leads_all (λ n. Draws g.S.SwitchLogic.rule g.M.ManagerLogic.rule g.H.HostLogic.rule n c.args.number) c.args.steps left c.args.world.now all,
 )
 
@@ -16,8 +16,7 @@ loop-preserved g c =
     let x : c.next_number-x.result ≡ next_number c.loop.x = c.next_number-x.ensures in
     let event : c.drawn-event.result ≡ drawn c.loop.world (next_number c.loop.x) = c.drawn-event.ensures ∙ ap (drawn c.loop.world) x in (
       record {
-        counted = c.in_ok-make.ensures.counted;
-        hearing = c.in_ok-make.ensures.hearing;
+        orderly = c.in_ok-make.ensures.orderly;
         plan = c.in_ok-make.ensures.plan ∙ c.loop.invariant.0.plan;
       },
       λ left all. subst (λ y. Leads (Draws g.S.SwitchLogic.rule g.M.ManagerLogic.rule g.H.HostLogic.rule left y) c.make.new.world
@@ -46,15 +45,13 @@ returns-in_err-make g c =
           (record { on = (c.loop.invariant.1 (suc left) all).on })
           (subst (λ e. Makes g.S.SwitchLogic.rule g.M.ManagerLogic.rule g.H.HostLogic.rule e c.loop.world (Some c.in_err-make.field-0.0) c.make.new.world) event stopped))
           c.in_err-make.ensures.made;
-      counted = c.in_err-make.ensures.counted;
-      hearing = c.in_err-make.ensures.hearing;
+      orderly = c.in_err-make.ensures.orderly;
       plan = unless_weaker c.in_err-make.field-0.0 _ _ (λ same. same ∙ c.loop.invariant.0.plan) c.in_err-make.ensures.plan;
     })
 
 pub returns : goal.returns
 returns g c = record {
   drawn = (c.loop.invariant.1 0 (omega arith)).on None c.loop.world (refl, refl);
-  counted = c.loop.invariant.0.counted;
-  hearing = c.loop.invariant.0.hearing;
+  orderly = c.loop.invariant.0.orderly;
   plan = c.loop.invariant.0.plan;
 }

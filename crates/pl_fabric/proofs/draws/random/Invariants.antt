@@ -1,6 +1,6 @@
 use Rattle.std.proofs.Common.{◌≡◌, ℕ, ◌+◌}
 use Rattle.pl_fabric.specs.Draws.{Draws}
-use Rattle.pl_fabric.proofs.CourseSteps.{Keeps, Leads}
+use Rattle.pl_fabric.proofs.ExecutionSteps.{Keeps, Leads}
 use Rattle.pl_fabric.proofs.draws.random.Given as goal
 
 abbrev pub invariant-loop : goal.invariant-loop

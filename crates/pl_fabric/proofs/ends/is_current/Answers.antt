@@ -1,6 +1,6 @@
 use Rattle.std.proofs.Common.{◌≡◌, sym, ◌∙◌, ap, subst}
 use Rattle.std.specs.Bool.{Decides}
-use Rattle.pl_logic.specs.PortRecords.{port_of}
+use Rattle.pl_node.specs.PortRecords.{port_of}
 use Rattle.pl_fabric.specs.Settled.{announced_at}
 use Rattle.pl_fabric.proofs.Deciding.{decides_heard, neighbour_decides}
 use Rattle.pl_fabric.proofs.ends.is_current.Goals as goal

@@ -1,8 +1,8 @@
 use Rattle.std.proofs.Common.{◌≡◌, ◌<◌, length, Some, get_or, slice_get, refl, ap, arith, below_more}
 use Rattle.std.proofs.lemmas.Option.{slice_get-get_or, slice_get_within}
 use Rattle.pl_wiring.specs.Labels.{switch_count}
-use Rattle.pl_logic.specs.SwitchFacts.{switch_at_boot}
-use Rattle.pl_logic.specs.SwitchViews.{SwitchView}
+use Rattle.pl_node.specs.SwitchFacts.{switch_at_boot}
+use Rattle.pl_node.specs.SwitchViews.{SwitchView}
 use Rattle.pl_fabric.specs.Settled.{IsSettledSwitch}
 use Rattle.pl_fabric.proofs.fabric.are_settled_switches.Goals as goal
 

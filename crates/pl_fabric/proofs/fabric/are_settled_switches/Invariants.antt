@@ -1,5 +1,5 @@
 use Rattle.std.proofs.Common.{◌≡◌, ℕ, ◌<◌, Some, slice_get}
-use Rattle.pl_logic.specs.SwitchViews.{SwitchView}
+use Rattle.pl_node.specs.SwitchViews.{SwitchView}
 use Rattle.pl_fabric.specs.Settled.{IsSettledSwitch}
 use Rattle.pl_fabric.proofs.fabric.are_settled_switches.Given as goal
 

@@ -1,6 +1,6 @@
 use Rattle.std.proofs.Common.{◌≡◌, sym, ◌∙◌}
 use Rattle.pl_world.specs.Pending.{pending}
-use Rattle.pl_world.proofs.SettledQueues.{none_is_pending}
+use Rattle.pl_world.proofs.Exports.{none_is_pending}
 use Rattle.pl_fabric.proofs.fabric.settled.Goals as goal
 
 pub returns-then-pending-eq0 : goal.returns-then-pending-eq0

@@ -1,13 +1,13 @@
 use Rattle.std.proofs.lemmas.Result.{err_from_is_err_and}
 use Rattle.std.proofs.Common.{◌≡◌, ℕ, suc, ◌+◌, ◌-◌, None, replicate, refl, ◌∙◌, arith}
 use Rattle.pl_world.specs.declared.event.Event.TheVariants.{Deliver}
-use Rattle.pl_fabric.specs.Courses.{Makes, MakesAll}
-use Rattle.pl_fabric.proofs.CourseSteps.{leads_all, led_on, led_stops, unless_weaker}
+use Rattle.pl_fabric.specs.Executions.{Makes, MakesAll}
+use Rattle.pl_fabric.proofs.ExecutionSteps.{leads_all, led_on, led_stops, unless_weaker}
 use Rattle.pl_fabric.proofs.making.deliver.Goals as goal
 
 pub loop-init : goal.loop-init
 loop-init g c = (
-  record { counted = c.requires.counted; hearing = c.requires.hearing; plan = refl },
+  record { orderly = c.requires.orderly; plan = refl },
   λ left all. leads_all (λ n. MakesAll g.S.SwitchLogic.rule g.M.ManagerLogic.rule g.H.HostLogic.rule (replicate n (Deliver c.args.name)))
       c.args.many left c.args.world.now all,
 )
@@ -15,8 +15,7 @@ loop-init g c = (
 pub loop-preserved : goal.loop-preserved
 loop-preserved g c = (
   record {
-    counted = c.in_ok-make.ensures.counted;
-    hearing = c.in_ok-make.ensures.hearing;
+    orderly = c.in_ok-make.ensures.orderly;
     plan = c.in_ok-make.ensures.plan ∙ c.loop.invariant.0.plan;
   },
   λ left all. led_on (Makes g.S.SwitchLogic.rule g.M.ManagerLogic.rule g.H.HostLogic.rule (Deliver c.args.name))
@@ -37,15 +36,13 @@ returns-in_err-make g c =
           (MakesAll g.S.SwitchLogic.rule g.M.ManagerLogic.rule g.H.HostLogic.rule (replicate c.args.many (Deliver c.args.name)))
           c.loop.world c.make.new.world c.args.world.now c.in_err-make.field-0.0 (c.loop.invariant.1 (suc left) all))
           c.in_err-make.ensures.made;
-      counted = c.in_err-make.ensures.counted;
-      hearing = c.in_err-make.ensures.hearing;
+      orderly = c.in_err-make.ensures.orderly;
       plan = unless_weaker c.in_err-make.field-0.0 _ _ (λ same. same ∙ c.loop.invariant.0.plan) c.in_err-make.ensures.plan;
     })
 
 pub returns : goal.returns
 returns g c = record {
   made = (c.loop.invariant.1 0 (omega arith)).on None c.loop.world (refl, refl);
-  counted = c.loop.invariant.0.counted;
-  hearing = c.loop.invariant.0.hearing;
+  orderly = c.loop.invariant.0.orderly;
   plan = c.loop.invariant.0.plan;
 }

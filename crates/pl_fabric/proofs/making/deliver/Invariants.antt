@@ -1,7 +1,7 @@
 use Rattle.std.proofs.Common.{◌≡◌, ℕ, ◌+◌, replicate}
 use Rattle.pl_world.specs.declared.event.Event.TheVariants.{Deliver}
-use Rattle.pl_fabric.specs.Courses.{MakesAll}
-use Rattle.pl_fabric.proofs.CourseSteps.{Keeps, Leads}
+use Rattle.pl_fabric.specs.Executions.{MakesAll}
+use Rattle.pl_fabric.proofs.ExecutionSteps.{Keeps, Leads}
 use Rattle.pl_fabric.proofs.making.deliver.Given as goal
 
 abbrev pub invariant-loop : goal.invariant-loop

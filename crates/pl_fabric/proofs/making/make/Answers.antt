@@ -1,6 +1,5 @@
-use Rattle.pl_world.specs.Flying.{IsCounted}
-use Rattle.pl_world.specs.Hearing.{IsWithinHearing}
-use Rattle.pl_fabric.proofs.CourseSteps.{step_keeps, step_keeps_plan, step_makes}
+use Rattle.pl_world.specs.Ready.{CanStep}
+use Rattle.pl_fabric.proofs.ExecutionSteps.{step_keeps, step_keeps_plan, step_makes}
 use Rattle.pl_fabric.proofs.making.make.Goals as goal
 
 pub returns : goal.returns
@@ -8,12 +7,9 @@ returns g c = record {
   made =
       step_makes g.S.SwitchLogic.rule g.M.ManagerLogic.rule g.H.HostLogic.rule c.args.world.now c.step.new.self c.args.event.now c.step.result
       c.step.ensures.step c.step.ensures.refused c.step.ensures.memory;
-  counted =
-      step_keeps g.S.SwitchLogic.rule g.M.ManagerLogic.rule g.H.HostLogic.rule c.args.world.now c.step.new.self c.args.event.now IsCounted c.requires.counted
-      c.step.result c.step.ensures.counted c.step.ensures.refused c.step.ensures.memory;
-  hearing =
-      step_keeps g.S.SwitchLogic.rule g.M.ManagerLogic.rule g.H.HostLogic.rule c.args.world.now c.step.new.self c.args.event.now IsWithinHearing c.requires.hearing
-      c.step.result c.step.ensures.hearing c.step.ensures.refused c.step.ensures.memory;
+  orderly =
+      step_keeps g.S.SwitchLogic.rule g.M.ManagerLogic.rule g.H.HostLogic.rule c.args.world.now c.step.new.self c.args.event.now CanStep c.requires.orderly
+      c.step.result c.step.ensures.orderly c.step.ensures.refused c.step.ensures.memory;
   plan =
       step_keeps_plan g.S.SwitchLogic.rule g.M.ManagerLogic.rule g.H.HostLogic.rule c.args.world.now c.step.new.self c.args.event.now c.step.result
       c.step.ensures.step c.step.ensures.refused c.step.ensures.memory;

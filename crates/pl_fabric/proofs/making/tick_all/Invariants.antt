@@ -2,9 +2,9 @@ use Rattle.std.proofs.Common.{◌≡◌, ℕ, ◌+◌, map}
 use Rattle.std.specs.List.{range_with_len}
 use Rattle.pl_world.specs.declared.event.Event.TheVariants.{Tick}
 use Rattle.pl_world.specs.Changes.{switch_no}
-use Rattle.pl_fabric.specs.Courses.{MakesAll}
+use Rattle.pl_fabric.specs.Executions.{MakesAll}
 use Rattle.pl_fabric.specs.Rounds.{TicksAll}
-use Rattle.pl_fabric.proofs.CourseSteps.{Keeps, Leads}
+use Rattle.pl_fabric.proofs.ExecutionSteps.{Keeps, Leads}
 use Rattle.pl_fabric.proofs.making.tick_all.Given as goal
 
 abbrev pub invariant-loop-s : goal.invariant-loop-s

@@ -1,8 +1,8 @@
 use Rattle.std.proofs.lemmas.Result.{err_from_is_err_and}
 use Rattle.std.proofs.Common.{◌≡◌, ◌∙◌}
-use Rattle.pl_fabric.specs.Courses.{Times}
+use Rattle.pl_fabric.specs.Executions.{Times}
 use Rattle.pl_fabric.specs.Rounds.{Sweeps, TicksAll}
-use Rattle.pl_fabric.proofs.CourseSteps.{ends_weaker, then_on, then_stops, unless_weaker}
+use Rattle.pl_fabric.proofs.ExecutionSteps.{ends_weaker, then_on, then_stops, unless_weaker}
 use Rattle.pl_fabric.proofs.rounds.round.Goals as goal
 
 pub returns-in_err-tick_all : goal.returns-in_err-tick_all
@@ -13,8 +13,7 @@ returns-in_err-tick_all g c =
           (then_stops (TicksAll g.S.SwitchLogic.rule g.M.ManagerLogic.rule g.H.HostLogic.rule)
           (Times 4 (Sweeps g.S.SwitchLogic.rule g.M.ManagerLogic.rule g.H.HostLogic.rule)) c.args.world.now c.tick_all.new.world c.in_err-tick_all.field-0.0)
           c.in_err-tick_all.ensures.made;
-      counted = c.in_err-tick_all.ensures.counted;
-      hearing = c.in_err-tick_all.ensures.hearing;
+      orderly = c.in_err-tick_all.ensures.orderly;
       plan = c.in_err-tick_all.ensures.plan;
     })
 
@@ -25,8 +24,7 @@ returns g c = record {
       (Times 4 (Sweeps g.S.SwitchLogic.rule g.M.ManagerLogic.rule g.H.HostLogic.rule)) c.args.world.now c.tick_all.new.world end c.sweep_often.new.world
       c.in_ok-tick_all.ensures.made)
       c.sweep_often.result c.sweep_often.ensures.swept;
-  counted = c.sweep_often.ensures.counted;
-  hearing = c.sweep_often.ensures.hearing;
+  orderly = c.sweep_often.ensures.orderly;
   plan = ends_weaker (λ end. c.sweep_often.new.world.plan ≡ c.tick_all.new.world.plan) (λ end. c.sweep_often.new.world.plan ≡ c.args.world.now.plan)
       (λ end same. same ∙ c.in_ok-tick_all.ensures.plan) c.sweep_often.result c.sweep_often.ensures.plan;
 }

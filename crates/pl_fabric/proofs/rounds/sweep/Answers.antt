@@ -2,13 +2,13 @@ use Rattle.std.proofs.lemmas.Result.{err_from_is_err_and}
 use Rattle.std.proofs.Common.{◌≡◌, ℕ, ◌+◌, None, Some, refl, ◌∙◌, ap, subst}
 use Rattle.pl_world.specs.QueueOrder.{queue_at}
 use Rattle.pl_fabric.specs.Rounds.{Visits, VisitsAll, queues_from}
-use Rattle.pl_fabric.proofs.CourseSteps.{then_on, then_stops, unless_weaker}
+use Rattle.pl_fabric.proofs.ExecutionSteps.{then_on, then_stops, unless_weaker}
 use Rattle.pl_fabric.proofs.Visiting.{next_is_first, next_visited, none_visited}
 use Rattle.pl_fabric.proofs.rounds.sweep.Goals as goal
 
 pub loop-n-init : goal.loop-n-init
 loop-n-init g c =
-    (record { counted = c.requires.counted; hearing = c.requires.hearing; plan = refl }, record { on = λ end new rest. rest })
+    (record { orderly = c.requires.orderly; plan = refl }, record { on = λ end new rest. rest })
 
 pub loop-n-preserved : goal.loop-n-preserved
 loop-n-preserved g c =
@@ -20,8 +20,7 @@ loop-n-preserved g c =
     let visited = subst (λ name. Visits g.S.SwitchLogic.rule g.M.ManagerLogic.rule g.H.HostLogic.rule name w None c.visit.new.world)
     (c.queue_at-name.ensures.name ∙ ap (λ p. queue_at p n) same) c.in_ok-visit.ensures.made in (
       record {
-        counted = c.in_ok-visit.ensures.counted;
-        hearing = c.in_ok-visit.ensures.hearing;
+        orderly = c.in_ok-visit.ensures.orderly;
         plan = c.in_ok-visit.ensures.plan ∙ same;
       },
       record {
@@ -49,8 +48,7 @@ returns-in_err-visit g c =
           (VisitsAll g.S.SwitchLogic.rule g.M.ManagerLogic.rule g.H.HostLogic.rule (queues_from plan (n + 1))) w c.visit.new.world c.in_err-visit.field-0.0
           (subst (λ name. Visits g.S.SwitchLogic.rule g.M.ManagerLogic.rule g.H.HostLogic.rule name w (Some c.in_err-visit.field-0.0) c.visit.new.world) is stopped))))
           c.in_err-visit.ensures.made;
-      counted = c.in_err-visit.ensures.counted;
-      hearing = c.in_err-visit.ensures.hearing;
+      orderly = c.in_err-visit.ensures.orderly;
       plan = unless_weaker c.in_err-visit.field-0.0 _ _ (λ still. still ∙ same) c.in_err-visit.ensures.plan;
     })
 
@@ -61,7 +59,6 @@ returns g c =
       swept = c.loop-n.invariant.1.on None w
           (none_visited g.S.SwitchLogic.rule g.M.ManagerLogic.rule g.H.HostLogic.rule w c.args.world.now.plan c.loop-n.from c.loop-n.invariant.0.plan
           (next_is_first w c.loop-n.from None c.in_default.ensures.next));
-      counted = c.loop-n.invariant.0.counted;
-      hearing = c.loop-n.invariant.0.hearing;
+      orderly = c.loop-n.invariant.0.orderly;
       plan = c.loop-n.invariant.0.plan;
     }

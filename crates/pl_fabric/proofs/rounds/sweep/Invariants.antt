@@ -1,7 +1,7 @@
 use Rattle.std.proofs.Common.{◌-◌}
 use Rattle.pl_world.specs.QueueOrder.{queue_count}
 use Rattle.pl_fabric.specs.Rounds.{Sweeps, VisitsAll, queues_from}
-use Rattle.pl_fabric.proofs.CourseSteps.{Keeps, Leads}
+use Rattle.pl_fabric.proofs.ExecutionSteps.{Keeps, Leads}
 use Rattle.pl_fabric.proofs.rounds.sweep.Given as goal
 
 abbrev pub invariant-loop-n : goal.invariant-loop-n

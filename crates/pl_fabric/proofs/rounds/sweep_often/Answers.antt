@@ -1,21 +1,20 @@
 use Rattle.std.proofs.lemmas.Result.{err_from_is_err_and}
 use Rattle.std.proofs.Common.{◌≡◌, ℕ, suc, ◌+◌, ◌-◌, None, refl, ◌∙◌, arith}
-use Rattle.pl_fabric.specs.Courses.{Times}
+use Rattle.pl_fabric.specs.Executions.{Times}
 use Rattle.pl_fabric.specs.Rounds.{Sweeps}
-use Rattle.pl_fabric.proofs.CourseSteps.{leads_all, led_on, led_stops, unless_weaker}
+use Rattle.pl_fabric.proofs.ExecutionSteps.{leads_all, led_on, led_stops, unless_weaker}
 use Rattle.pl_fabric.proofs.rounds.sweep_often.Goals as goal
 
 pub loop-init : goal.loop-init
 loop-init g c = (
-  record { counted = c.requires.counted; hearing = c.requires.hearing; plan = refl },
+  record { orderly = c.requires.orderly; plan = refl },
   λ left all. leads_all (λ n. Times n (Sweeps g.S.SwitchLogic.rule g.M.ManagerLogic.rule g.H.HostLogic.rule)) c.args.times left c.args.world.now all,
 )
 
 pub loop-preserved : goal.loop-preserved
 loop-preserved g c = (
   record {
-    counted = c.in_ok-sweep.ensures.counted;
-    hearing = c.in_ok-sweep.ensures.hearing;
+    orderly = c.in_ok-sweep.ensures.orderly;
     plan = c.in_ok-sweep.ensures.plan ∙ c.loop.invariant.0.plan;
   },
   λ left all. led_on (Sweeps g.S.SwitchLogic.rule g.M.ManagerLogic.rule g.H.HostLogic.rule)
@@ -36,15 +35,13 @@ returns-in_err-sweep g c =
           (Times c.args.times (Sweeps g.S.SwitchLogic.rule g.M.ManagerLogic.rule g.H.HostLogic.rule))
           c.loop.world c.sweep.new.world c.args.world.now c.in_err-sweep.field-0.0 (c.loop.invariant.1 (suc left) all))
           c.in_err-sweep.ensures.swept;
-      counted = c.in_err-sweep.ensures.counted;
-      hearing = c.in_err-sweep.ensures.hearing;
+      orderly = c.in_err-sweep.ensures.orderly;
       plan = unless_weaker c.in_err-sweep.field-0.0 _ _ (λ same. same ∙ c.loop.invariant.0.plan) c.in_err-sweep.ensures.plan;
     })
 
 pub returns : goal.returns
 returns g c = record {
   swept = (c.loop.invariant.1 0 (omega arith)).on None c.loop.world (refl, refl);
-  counted = c.loop.invariant.0.counted;
-  hearing = c.loop.invariant.0.hearing;
+  orderly = c.loop.invariant.0.orderly;
   plan = c.loop.invariant.0.plan;
 }

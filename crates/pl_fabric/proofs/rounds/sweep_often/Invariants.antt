@@ -1,7 +1,7 @@
 use Rattle.std.proofs.Common.{◌≡◌, ℕ, ◌+◌}
-use Rattle.pl_fabric.specs.Courses.{Times}
+use Rattle.pl_fabric.specs.Executions.{Times}
 use Rattle.pl_fabric.specs.Rounds.{Sweeps}
-use Rattle.pl_fabric.proofs.CourseSteps.{Keeps, Leads}
+use Rattle.pl_fabric.proofs.ExecutionSteps.{Keeps, Leads}
 use Rattle.pl_fabric.proofs.rounds.sweep_often.Given as goal
 
 abbrev pub invariant-loop : goal.invariant-loop

@@ -1,4 +1,4 @@
-use Rattle.pl_fabric.proofs.CourseRuns.{sweep_is_run}
+use Rattle.pl_fabric.proofs.ExecutionRuns.{sweep_is_run}
 use Rattle.pl_fabric.proofs.run_laws.a_sweep_is_a_run.Goals as goal
 
 pub returns : goal.returns

@@ -1,4 +1,4 @@
-use Rattle.pl_fabric.proofs.CourseRuns.{draws_are_run}
+use Rattle.pl_fabric.proofs.ExecutionRuns.{draws_are_run}
 use Rattle.pl_fabric.proofs.run_laws.drawn_steps_are_a_run.Goals as goal
 
 pub returns : goal.returns

@@ -2,12 +2,12 @@ use Rattle.std.proofs.lemmas.Result.{err_from_is_err_and}
 use Rattle.std.proofs.Common.{◌≡◌, ℕ, suc, ◌+◌, ◌-◌, None, Some, refl, ◌∙◌, arith}
 use Rattle.pl_fabric.specs.Rounds.{GoesRound}
 use Rattle.pl_fabric.specs.Settlings.{GoesRounds, IsAtRest}
-use Rattle.pl_fabric.proofs.CourseSteps.{leads_all, then_on, then_stops, unless_weaker}
+use Rattle.pl_fabric.proofs.ExecutionSteps.{leads_all, then_on, then_stops, unless_weaker}
 use Rattle.pl_fabric.proofs.settling.settle.Goals as goal
 
 pub loop-used-init : goal.loop-used-init
 loop-used-init g c = (
-  record { counted = c.requires.counted; hearing = c.requires.hearing; plan = refl },
+  record { orderly = c.requires.orderly; plan = refl },
   λ n all is. leads_all (GoesRounds g.S.SwitchLogic.rule g.M.ManagerLogic.rule g.H.HostLogic.rule) all n c.args.world.now is,
 )
 
@@ -15,8 +15,7 @@ pub loop-used-preserved : goal.loop-used-preserved
 loop-used-preserved g c =
     let unrest : IsAtRest c.loop-used.world → ⊥ = (λ rest. let is = c.is_at_rest.ensures.1 rest in let not = c.if-is_at_rest.false in absurd (cc)) in (
       record {
-        counted = c.in_ok-round.ensures.counted;
-        hearing = c.in_ok-round.ensures.hearing;
+        orderly = c.in_ok-round.ensures.orderly;
         plan = c.in_ok-round.ensures.plan ∙ c.loop-used.invariant.0.plan;
       },
       λ n all is. record {
@@ -44,8 +43,7 @@ returns-in_err-round g c =
                 (GoesRounds g.S.SwitchLogic.rule g.M.ManagerLogic.rule g.H.HostLogic.rule left) c.loop-used.world c.round.new.world c.in_err-round.field-0.0 stopped,
           ))
           c.in_err-round.ensures.went;
-      counted = c.in_err-round.ensures.counted;
-      hearing = c.in_err-round.ensures.hearing;
+      orderly = c.in_err-round.ensures.orderly;
       plan = unless_weaker c.in_err-round.field-0.0 _ _ (λ same. same ∙ c.loop-used.invariant.0.plan) c.in_err-round.ensures.plan;
     })
 
@@ -61,8 +59,7 @@ returns-then-is_at_rest g c =
         answered = (rest.settled, refl);
       };
       refused = tt;
-      counted = c.loop-used.invariant.0.counted;
-      hearing = c.loop-used.invariant.0.hearing;
+      orderly = c.loop-used.invariant.0.orderly;
       plan = c.loop-used.invariant.0.plan;
     }
 
@@ -76,7 +73,6 @@ returns g c = record {
     answered = c.answer.ensures;
   };
   refused = tt;
-  counted = c.loop-used.invariant.0.counted;
-  hearing = c.loop-used.invariant.0.hearing;
+  orderly = c.loop-used.invariant.0.orderly;
   plan = c.loop-used.invariant.0.plan;
 }

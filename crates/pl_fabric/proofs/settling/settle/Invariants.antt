@@ -1,6 +1,6 @@
 use Rattle.std.proofs.Common.{◌≡◌, ℕ, ◌+◌}
 use Rattle.pl_fabric.specs.Settlings.{GoesRounds}
-use Rattle.pl_fabric.proofs.CourseSteps.{Keeps, Leads}
+use Rattle.pl_fabric.proofs.ExecutionSteps.{Keeps, Leads}
 use Rattle.pl_fabric.proofs.settling.settle.Given as goal
 
 abbrev pub invariant-loop-used : goal.invariant-loop-used

@@ -1,6 +1,6 @@
 use Rattle.std.proofs.Common.{◌≡◌, ℕ, ◌<◌, Some, slice_get}
 use Rattle.pl_wiring.specs.Peers.{peer_of}
-use Rattle.pl_logic.specs.SwitchViews.{SwitchView}
+use Rattle.pl_node.specs.SwitchViews.{SwitchView}
 use Rattle.pl_fabric.specs.Settled.{IsSettledTowards}
 use Rattle.pl_fabric.proofs.switches.are_settled_ports.Given as goal
 

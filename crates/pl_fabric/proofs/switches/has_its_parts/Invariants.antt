@@ -1,5 +1,5 @@
 use Rattle.std.proofs.Common.{◌≡◌, ℕ, ◌<◌, Some}
-use Rattle.pl_logic.specs.SwitchFacts.{group_of_part}
+use Rattle.pl_node.specs.SwitchFacts.{group_of_part}
 use Rattle.pl_fabric.specs.Settled.{HasPart}
 use Rattle.pl_fabric.proofs.switches.has_its_parts.Given as goal
 

@@ -1,5 +1,5 @@
 use Rattle.std.proofs.Common.{◌≡◌, ℕ, ◌<◌, Some}
-use Rattle.pl_logic.specs.ManagerFacts.{group_at}
+use Rattle.pl_node.specs.ManagerFacts.{group_at}
 use Rattle.pl_fabric.specs.Settled.{HasPart}
 use Rattle.pl_fabric.proofs.switches.has_parts_of_groups.Given as goal
 

@@ -1,5 +1,5 @@
 use Rattle.std.proofs.Common.{◌≡◌, subst, arith}
-use Rattle.pl_lemmas.proofs.Lists.{all_found}
+use Rattle.pl_lemmas.proofs.Exports.{all_found}
 use Rattle.pl_wiring.specs.Peers.{IsPort}
 use Rattle.pl_fabric.proofs.switches.is_settled_towards.Goals as goal
 

@@ -1,7 +1,7 @@
 use Rattle.std.proofs.Common.{◌∙◌, [], ap}
 use Rattle.std.specs.Prelude.{fold}
 use Rattle.std.proofs.lemmas.List.{take_all}
-use Rattle.pl_logic.specs.ManagerViews.{edge_at, place_of}
+use Rattle.pl_node.specs.ManagerViews.{edge_at, place_of}
 use Rattle.pl_faults.specs.Making.{with_placed}
 use Rattle.pl_faults.proofs.Made.{edges_placed}
 use Rattle.pl_faults.proofs.edges.placed_edges.Goals as goal

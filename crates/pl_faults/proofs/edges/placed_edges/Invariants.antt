@@ -1,6 +1,6 @@
 use Rattle.std.proofs.Common.{◌≡◌, [], map, take}
 use Rattle.std.specs.Prelude.{fold}
-use Rattle.pl_logic.specs.ManagerViews.{edge_at, place_of}
+use Rattle.pl_node.specs.ManagerViews.{edge_at, place_of}
 use Rattle.pl_faults.specs.Making.{placed_as, with_placed}
 use Rattle.pl_faults.proofs.edges.placed_edges.Given as goal
 

@@ -1,5 +1,5 @@
 use Rattle.std.proofs.Common.{◌∙◌, sym, subst}
-use Rattle.pl_logic.specs.ManagerViews.{alive_neighbours}
+use Rattle.pl_node.specs.ManagerViews.{alive_neighbours}
 use Rattle.pl_faults.specs.Kept.{IsWordWithin}
 use Rattle.pl_faults.specs.Missed.{AreMissed, AreMissedAnew}
 use Rattle.pl_faults.specs.Rows.{IsReach}

@@ -3,7 +3,7 @@ use Rattle.std.specs.Prelude.{is_some}
 use Rattle.std.specs.List.{list_any}
 use Rattle.std.proofs.lemmas.Bool.{or_parts}
 use Rattle.pl_layouts.specs.Equality.{same_switch}
-use Rattle.pl_logic.specs.ManagerViews.{edge_at, place_of}
+use Rattle.pl_node.specs.ManagerViews.{edge_at, place_of}
 use Rattle.pl_faults.specs.declared.edges.Edge.{Edge}
 use Rattle.pl_faults.proofs.Words.{was_unplaced}
 use Rattle.pl_faults.proofs.leading.place_leading.Goals as goal

@@ -1,5 +1,5 @@
 use Rattle.std.proofs.Common.{◌≡◌, ◌∙◌, cond, false, sym, ap}
-use Rattle.pl_lemmas.proofs.Bools.{false_before}
+use Rattle.pl_lemmas.proofs.Exports.{false_before}
 use Rattle.pl_frame.specs.declared.address.SwitchId.{SwitchId}
 use Rattle.pl_faults.specs.Listed.{is_in, with_all}
 use Rattle.pl_faults.specs.Missed.{missed_at, missed_in}

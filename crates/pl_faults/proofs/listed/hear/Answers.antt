@@ -1,8 +1,8 @@
 use Rattle.std.proofs.Common.{◌∙◌, sym, ap, Some, cond}
 use Rattle.std.specs.BTreeMap.{is_at}
 use Rattle.std.specs.BTreeSet.{insert_key}
-use Rattle.pl_logic.specs.ManagerViews.{id_cmp, value_at}
-use Rattle.pl_reports.proofs.Telling.{near_started}
+use Rattle.pl_node.specs.ManagerViews.{id_cmp, value_at}
+use Rattle.pl_reports.proofs.Exports.{near_started}
 use Rattle.pl_faults.proofs.listed.hear.Goals as goal
 
 pub returns-in_ok-insert-in-None-2 : goal.returns-in_ok-insert-in-None-2

@@ -2,8 +2,8 @@ use Rattle.std.proofs.Common.{◌∙◌, ap, cond, get_or, sym}
 use Rattle.std.specs.BTreeSet.{insert_key}
 use Rattle.std.proofs.lemmas.List.Sums.{fold_more}
 use Rattle.pl_frame.specs.declared.address.SwitchId.{SwitchId}
-use Rattle.pl_logic.specs.AvoidLists.{is_level_above}
-use Rattle.pl_logic.specs.ManagerViews.{id_cmp, place_of}
+use Rattle.pl_node.specs.AvoidLists.{is_level_above}
+use Rattle.pl_node.specs.ManagerViews.{id_cmp, place_of}
 use Rattle.pl_faults.specs.Listed.{with_lower}
 use Rattle.pl_faults.proofs.listed.put_below.Goals as goal
 

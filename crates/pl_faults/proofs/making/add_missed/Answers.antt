@@ -2,7 +2,7 @@ use Rattle.std.proofs.Common.{◌∙◌, sym, ap}
 use Rattle.std.specs.Prelude.{fold}
 use Rattle.std.specs.BTreeSet.{insert_key}
 use Rattle.std.proofs.lemmas.List.{take_all}
-use Rattle.pl_logic.specs.AvoidLists.{avoided_cmp}
+use Rattle.pl_node.specs.AvoidLists.{avoided_cmp}
 use Rattle.pl_faults.specs.Missed.{avoided_of, missed_in, with_missed}
 use Rattle.pl_faults.proofs.Made.{avoided_kept, missed_put}
 use Rattle.pl_faults.proofs.making.add_missed.Goals as goal

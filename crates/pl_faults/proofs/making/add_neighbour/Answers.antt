@@ -1,7 +1,7 @@
 use Rattle.std.proofs.Common.{◌∙◌, cond, sym, ap}
 use Rattle.std.specs.Prelude.{fold}
 use Rattle.std.specs.BTreeSet.{insert_key}
-use Rattle.pl_logic.specs.AvoidLists.{avoided_at, avoided_cmp}
+use Rattle.pl_node.specs.AvoidLists.{avoided_at, avoided_cmp}
 use Rattle.pl_faults.specs.Making.{with_neighbour}
 use Rattle.pl_faults.proofs.Made.{none_missed}
 use Rattle.pl_faults.proofs.making.add_neighbour.Goals as goal

@@ -1,6 +1,6 @@
 use Rattle.std.proofs.Common.{◌≡◌, ◌∙◌, ◌<◌, sym, ap, length, get_or, arith}
 use Rattle.std.proofs.lemmas.List.{take_all}
-use Rattle.pl_logic.specs.AvoidLists.{leads_to}
+use Rattle.pl_node.specs.AvoidLists.{leads_to}
 use Rattle.pl_faults.specs.declared.edges.Edge.{Edge}
 use Rattle.pl_faults.specs.Missed.{missed_by, with_unled}
 use Rattle.pl_faults.specs.Rows.{leads_at, row_or_none, value_of}

@@ -1,7 +1,7 @@
 use Rattle.std.proofs.Common.{◌∙◌, ap, cond, sym}
 use Rattle.std.specs.BTreeMap.{is_at}
 use Rattle.std.specs.Prelude.{[]}
-use Rattle.pl_logic.specs.ManagerViews.{id_cmp, value_at}
+use Rattle.pl_node.specs.ManagerViews.{id_cmp, value_at}
 use Rattle.pl_faults.specs.Missed.{missed_in}
 use Rattle.pl_faults.proofs.Reaching.{look_put, look_taken}
 use Rattle.pl_faults.proofs.missed.put_missed.Goals as goal

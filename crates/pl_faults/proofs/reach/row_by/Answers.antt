@@ -2,7 +2,7 @@ use Rattle.std.proofs.Common.{◌∙◌, ◌&&◌, ap, map}
 use Rattle.std.specs.List.{list_any}
 use Rattle.std.proofs.lemmas.List.{take_all}
 use Rattle.pl_frame.specs.declared.address.SwitchId.{SwitchId}
-use Rattle.pl_logic.specs.ManagerViews.{has_level}
+use Rattle.pl_node.specs.ManagerViews.{has_level}
 use Rattle.pl_faults.proofs.Reaching.{row_more}
 use Rattle.pl_faults.proofs.reach.row_by.Goals as goal
 

@@ -3,7 +3,7 @@ use Rattle.std.specs.BTreeMap.{is_at}
 use Rattle.std.proofs.lemmas.List.{take_all}
 use Rattle.std.proofs.lemmas.List.Folds.{list_any_more}
 use Rattle.pl_frame.specs.declared.address.SwitchId.{SwitchId}
-use Rattle.pl_logic.specs.ManagerViews.{id_cmp}
+use Rattle.pl_node.specs.ManagerViews.{id_cmp}
 use Rattle.pl_faults.specs.Listed.{is_in}
 use Rattle.pl_faults.proofs.Anew.{none_renewed, one_more_renewed, renewed_of}
 use Rattle.pl_faults.proofs.renewing.renew_lists.Goals as goal

@@ -1,7 +1,7 @@
 use Rattle.std.proofs.Common.{◌≡◌, ◌∙◌, ◌∷◌, [], ap}
 use Rattle.std.specs.Prelude.{fold}
 use Rattle.std.specs.BTreeSet.{insert_key}
-use Rattle.pl_logic.specs.ManagerViews.{id_cmp}
+use Rattle.pl_node.specs.ManagerViews.{id_cmp}
 use Rattle.pl_faults.specs.Listed.{with_below}
 use Rattle.pl_faults.proofs.Touched.{near_kept}
 use Rattle.pl_faults.proofs.Within.{alone, alone_told, link_lists}

@@ -1,7 +1,7 @@
 use Rattle.std.proofs.Common.{◌∙◌, not, sym, ap, subst}
 use Rattle.std.specs.Prelude.{is_some}
 use Rattle.std.proofs.lemmas.Bool.{and_parts, not-true}
-use Rattle.pl_logic.specs.ManagerViews.{edge_at, place_of}
+use Rattle.pl_node.specs.ManagerViews.{edge_at, place_of}
 use Rattle.pl_faults.specs.Kept.{IsRenewed}
 use Rattle.pl_faults.specs.Missed.{is_some_edge}
 use Rattle.pl_faults.proofs.Touched.{unplaced_kept}

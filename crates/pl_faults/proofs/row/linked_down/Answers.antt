@@ -1,6 +1,6 @@
 use Rattle.std.proofs.Common.{◌∙◌, ◌<◌, ◌&&◌, ap, arith, get_or, length}
 use Rattle.pl_layouts.specs.Placement.{is_known}
-use Rattle.pl_logic.specs.ManagerViews.{is_alive}
+use Rattle.pl_node.specs.ManagerViews.{is_alive}
 use Rattle.pl_faults.specs.declared.edges.Edge.{Edge}
 use Rattle.pl_faults.specs.Rows.{leads_down}
 use Rattle.pl_faults.proofs.Filled.{filled_all, filled_more}

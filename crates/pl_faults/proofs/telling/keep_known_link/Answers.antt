@@ -1,8 +1,8 @@
 use Rattle.std.proofs.Common.{◌∙◌, ap, subst, sym}
-use Rattle.pl_lemmas.proofs.Bools.{still_is}
-use Rattle.pl_logic.specs.ManagerViews.{Told, is_alive, neighbours}
-use Rattle.pl_manager_rule.proofs.Speakers.{known_among}
-use Rattle.pl_faults.specs.Kept.{IsKept, IsLinkWord}
+use Rattle.pl_lemmas.proofs.Exports.{still_is}
+use Rattle.pl_node.specs.ManagerViews.{Told, is_alive, neighbours}
+use Rattle.pl_manager_rule.proofs.Exports.{known_among}
+use Rattle.pl_faults.specs.Kept.{AreListsAsTold, IsLinkWord}
 use Rattle.pl_faults.proofs.Unchanged.{known_kept}
 use Rattle.pl_faults.proofs.Words.{word_of_link}
 use Rattle.pl_faults.proofs.telling.keep_known_link.Goals as goal
@@ -22,7 +22,7 @@ returns-clause-handed c s =
 pub returns-then-is_still-clause-kept : goal.returns-then-is_still-clause-kept
 returns-then-is_still-clause-kept c =
     let told = c.args.reports.now in let s = c.args.switch in let u = c.args.neighbour in
-    subst (λ (t : Told). IsKept t c.args.leading.now c.args.lists.now.entries c.args.before.now.entries) (sym c.in_ok-report.ensures.ok)
+    subst (λ (t : Told). AreListsAsTold t c.args.leading.now c.args.lists.now.entries c.args.before.now.entries) (sym c.in_ok-report.ensures.ok)
     (known_kept told s u c.args.usable (known_among u (neighbours told s) c.requires.known)
     (ap (λ (t : Told). is_alive t s u) (sym c.in_ok-report.ensures.ok) ∙ sym c.is_alive-now.ensures
     ∙ still_is c.is_alive-now.result c.is_alive-was.result (sym c.is_still.ensures ∙ c.if-is_still.true) ∙ c.is_alive-was.ensures)

@@ -1,6 +1,6 @@
 use Rattle.std.proofs.Common.{subst, sym}
-use Rattle.pl_logic.specs.ManagerViews.{Told}
-use Rattle.pl_faults.specs.Kept.{IsKept, IsPlaceWord}
+use Rattle.pl_node.specs.ManagerViews.{Told}
+use Rattle.pl_faults.specs.Kept.{AreListsAsTold, IsPlaceWord}
 use Rattle.pl_faults.proofs.Unchanged.{place_kept}
 use Rattle.pl_faults.proofs.Words.{word_of_place}
 use Rattle.pl_faults.proofs.telling.keep_place.Goals as goal
@@ -20,5 +20,5 @@ returns-clause-handed c s =
 pub returns-then-known-clause-kept : goal.returns-then-known-clause-kept
 returns-then-known-clause-kept c =
     let told = c.is_told_place-known.ensures c.if-known.true in
-    subst (λ (t : Told). IsKept t c.args.leading.now c.args.lists.now.entries c.args.before.now.entries) (sym c.in_ok-set_place.ensures.ok)
+    subst (λ (t : Told). AreListsAsTold t c.args.leading.now c.args.lists.now.entries c.args.before.now.entries) (sym c.in_ok-set_place.ensures.ok)
     (place_kept c.args.reports.now c.args.switch c.args.place told.0 told.1 c.args.leading.now c.args.lists.now.entries c.args.before.now.entries c.requires)

@@ -1,7 +1,7 @@
 use Rattle.std.proofs.Common.{◌≡◌, ◌==◌, ◌++◌, map, subst, ap, ◌∙◌}
 use Rattle.std.specs.List.{list_any}
 use Rattle.std.specs.Prelude.{OnOk}
-use Rattle.pl_logic.specs.declared.acts.Act.TheVariants.{Pass}
+use Rattle.pl_node.specs.declared.acts.Act.TheVariants.{Pass}
 use Rattle.pl_lists.specs.Ports.{ports_of}
 use Rattle.pl_forward.proofs.Passing.{contained_ports}
 use Rattle.pl_forward.proofs.group_acts.pass_by_each.Goals as goal

@@ -1,6 +1,6 @@
 use Rattle.std.proofs.Common.{◌≡◌, []}
 use Rattle.std.specs.List.{filter}
-use Rattle.pl_logic.specs.PortRecords.{ports_of_switch}
+use Rattle.pl_node.specs.PortRecords.{ports_of_switch}
 use Rattle.pl_forward.proofs.port_test.first_that_passes.Given as goal
 
 abbrev pub invariant-loop-port : goal.invariant-loop-port

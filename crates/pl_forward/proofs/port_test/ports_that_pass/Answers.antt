@@ -1,4 +1,4 @@
-use Rattle.pl_steps.proofs.Ports.{passing_ports_more}
+use Rattle.pl_steps.proofs.Exports.{passing_ports_more}
 use Rattle.pl_forward.proofs.port_test.ports_that_pass.Goals as goal
 
 pub loop-port-preserved : goal.loop-port-preserved

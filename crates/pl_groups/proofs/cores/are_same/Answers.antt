@@ -1,5 +1,5 @@
 use Rattle.std.proofs.Common.{◌∙◌, sym}
-use Rattle.pl_manager_rule.proofs.Sameness.{ids_alike}
+use Rattle.pl_manager_rule.proofs.Exports.{ids_alike}
 use Rattle.pl_groups.proofs.cores.are_same.Goals as goal
 
 pub returns : goal.returns

@@ -1,7 +1,7 @@
 use Rattle.std.proofs.Common.{◌≡◌, ◌∙◌, ◌==◌, List, true, false, ap, filter, length, map, sym}
 use Rattle.std.proofs.lemmas.Bool.{false≢true}
 use Rattle.pl_frame.specs.declared.address.SwitchId.{SwitchId}
-use Rattle.pl_logic.specs.Trees.{largest, turn}
+use Rattle.pl_node.specs.Trees.{largest, turn}
 use Rattle.pl_groups.specs.declared.cores.CoreReach.{CoreReach}
 use Rattle.pl_groups.proofs.Reached.{best_is, turn_is}
 use Rattle.pl_groups.proofs.cores.core_for.Goals as goal

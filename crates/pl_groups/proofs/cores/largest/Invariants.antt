@@ -1,5 +1,5 @@
 use Rattle.std.proofs.Common.{◌≡◌, map, take}
-use Rattle.pl_logic.specs.Trees.{largest}
+use Rattle.pl_node.specs.Trees.{largest}
 use Rattle.pl_groups.specs.declared.cores.CoreReach.{CoreReach}
 use Rattle.pl_groups.proofs.cores.largest.Given as goal
 

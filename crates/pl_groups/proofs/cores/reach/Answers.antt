@@ -1,6 +1,6 @@
 use Rattle.std.proofs.Common.{◌∙◌, ap}
 use Rattle.pl_bits.specs.Rows.{trues}
-use Rattle.pl_logic.specs.Trees.{core_reaches}
+use Rattle.pl_node.specs.Trees.{core_reaches}
 use Rattle.pl_groups.proofs.Rows.{count_is}
 use Rattle.pl_groups.proofs.cores.reach.Goals as goal
 

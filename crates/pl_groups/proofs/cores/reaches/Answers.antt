@@ -1,7 +1,7 @@
 use Rattle.std.proofs.Common.{◌∙◌, arith, ap, filter, map, take_all}
 use Rattle.std.proofs.lemmas.Grind.{common_steps}
 use Rattle.pl_frame.specs.declared.address.SwitchId.{SwitchId}
-use Rattle.pl_logic.specs.ManagerViews.{has_level}
+use Rattle.pl_node.specs.ManagerViews.{has_level}
 use Rattle.pl_groups.specs.Reaching.{reach_at}
 use Rattle.pl_groups.proofs.Reached.{ranked_next}
 use Rattle.pl_groups.proofs.cores.reaches.Goals as goal

@@ -1,6 +1,6 @@
 use Rattle.std.proofs.Common.{◌≡◌, filter, map, take}
 use Rattle.pl_frame.specs.declared.address.SwitchId.{SwitchId}
-use Rattle.pl_logic.specs.ManagerViews.{has_level}
+use Rattle.pl_node.specs.ManagerViews.{has_level}
 use Rattle.pl_groups.specs.Reaching.{IsReachOf, reach_at}
 use Rattle.pl_groups.proofs.cores.reaches.Given as goal
 

@@ -3,11 +3,11 @@ use Rattle.std.proofs.lemmas.Grind.{common_steps}
 use Rattle.std.specs.Option.{option_copied}
 use Rattle.std.specs.List.Sorted.{IsStrictlySortedBy}
 use Rattle.pl_frame.specs.declared.address.SwitchId.{SwitchId}
-use Rattle.pl_logic.specs.ManagerViews.{id_cmp, switches}
+use Rattle.pl_node.specs.ManagerViews.{id_cmp, switches}
 use Rattle.pl_manager_rule.specs.ManagerRule.{same_part}
-use Rattle.pl_manager_rule.proofs.Avoided.{switches_rise}
+use Rattle.pl_manager_rule.proofs.Exports.{switches_rise}
 use Rattle.pl_groups.specs.Kept.{part_in_tree}
-use Rattle.pl_reports.proofs.Sorting.{passing_done, passing_next}
+use Rattle.pl_reports.proofs.Exports.{passing_done, passing_next}
 use Rattle.pl_groups.proofs.Bare.{none_differs}
 use Rattle.pl_groups.proofs.groups.changed.Goals as goal
 

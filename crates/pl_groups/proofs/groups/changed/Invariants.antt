@@ -3,7 +3,7 @@ use Rattle.std.specs.Option.{option_copied}
 use Rattle.pl_frame.specs.declared.address.SwitchId.{SwitchId}
 use Rattle.pl_manager_rule.specs.ManagerRule.{same_part}
 use Rattle.pl_groups.specs.Kept.{part_in_tree}
-use Rattle.pl_reports.proofs.Sorting.{put_all}
+use Rattle.pl_reports.proofs.Exports.{put_all}
 use Rattle.pl_groups.proofs.groups.changed.Given as goal
 
 abbrev pub invariant-loop-switch : goal.invariant-loop-switch

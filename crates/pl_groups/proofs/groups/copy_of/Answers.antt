@@ -1,7 +1,7 @@
 use Rattle.std.proofs.Common.{◌≡◌, ◌∙◌, List, ap}
 use Rattle.pl_frame.specs.declared.address.SwitchId.{SwitchId}
-use Rattle.pl_logic.specs.declared.messages.TreePart.{TreePart}
-use Rattle.pl_reports.proofs.Sorting.{all_rising, put_all}
+use Rattle.pl_node.specs.declared.messages.TreePart.{TreePart}
+use Rattle.pl_reports.proofs.Exports.{all_rising, put_all}
 use Rattle.pl_groups.proofs.groups.copy_of.Goals as goal
 
 pub returns : goal.returns

@@ -1,6 +1,6 @@
 use Rattle.std.proofs.Common.{◌≡◌, fold, take}
 use Rattle.std.specs.BTreeSet.{insert_key}
-use Rattle.pl_logic.specs.ManagerViews.{id_cmp}
+use Rattle.pl_node.specs.ManagerViews.{id_cmp}
 use Rattle.pl_groups.proofs.needs.add_all.Given as goal
 
 abbrev pub invariant-loop-switch : goal.invariant-loop-switch

@@ -1,5 +1,5 @@
 use Rattle.std.proofs.Common.{arith}
-use Rattle.pl_reports.proofs.Sorting.{passing_done}
+use Rattle.pl_reports.proofs.Exports.{passing_done}
 use Rattle.pl_groups.proofs.needs.edges_in.Goals as goal
 
 pub returns : goal.returns

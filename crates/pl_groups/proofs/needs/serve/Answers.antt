@@ -1,7 +1,7 @@
 use Rattle.std.proofs.Common.{◌∙◌, Some, ap, cond, false, length, refl, slice_set, sym, true}
 use Rattle.std.proofs.lemmas.Simd.{splat_is_map}
 use Rattle.std.specs.BTreeMap.{is_at}
-use Rattle.pl_logic.specs.ManagerViews.{id_cmp, value_at}
+use Rattle.pl_node.specs.ManagerViews.{id_cmp, value_at}
 use Rattle.pl_groups.proofs.Edges.{row_started}
 use Rattle.pl_groups.proofs.needs.serve.Goals as goal
 

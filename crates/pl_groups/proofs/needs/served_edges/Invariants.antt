@@ -1,6 +1,6 @@
 use Rattle.std.proofs.Common.{◌≡◌}
 use Rattle.pl_frame.specs.declared.address.SwitchId.{SwitchId}
-use Rattle.pl_logic.specs.ManagerViews.{is_alive}
+use Rattle.pl_node.specs.ManagerViews.{is_alive}
 use Rattle.pl_groups.specs.Serving.{row_in}
 use Rattle.pl_groups.proofs.Filled.{filled_to}
 use Rattle.pl_groups.proofs.needs.served_edges.Given as goal

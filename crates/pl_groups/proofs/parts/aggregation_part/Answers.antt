@@ -1,7 +1,7 @@
 use Rattle.std.proofs.Common.{List, Some, ap}
 use Rattle.pl_frame.specs.declared.address.SwitchId.{SwitchId}
-use Rattle.pl_logic.specs.declared.messages.TreePart.{TreePart}
-use Rattle.pl_logic.specs.ManagerViews.{is_alive}
+use Rattle.pl_node.specs.declared.messages.TreePart.{TreePart}
+use Rattle.pl_node.specs.ManagerViews.{is_alive}
 use Rattle.pl_groups.proofs.parts.aggregation_part.Goals as goal
 
 pub returns : goal.returns

@@ -1,7 +1,7 @@
 use Rattle.std.proofs.Common.{◌∙◌, ◌≤◌, ◌<◌, length, subst, sym, Ok, Err, List, ℕ, nat_cmp}
 use Rattle.std.proofs.lemmas.Cmp.{nat_cmp_total}
 use Rattle.std.specs.List.Sorted.{IsBinarySearchResult}
-use Rattle.pl_lists.proofs.Insertion.{found_inserts_nothing, missed_inserts}
+use Rattle.pl_lists.proofs.Exports.{found_inserts_nothing, missed_inserts}
 use Rattle.pl_groups.proofs.roster.insert_group.Goals as goal
 
 pub returns-in-Ok-clause-ok : goal.returns-in-Ok-clause-ok

@@ -3,7 +3,7 @@ use Rattle.std.proofs.lemmas.Grind.{common_steps}
 use Rattle.std.specs.List.{list_any}
 use Rattle.pl_frame.specs.declared.address.SwitchId.{SwitchId}
 use Rattle.pl_layouts.specs.Equality.{same_switch}
-use Rattle.pl_logic.specs.Trees.{part_under}
+use Rattle.pl_node.specs.Trees.{part_under}
 use Rattle.pl_groups.proofs.Branches.{parts_next}
 use Rattle.pl_groups.proofs.tree.parts_under.Goals as goal
 

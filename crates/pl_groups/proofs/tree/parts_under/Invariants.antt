@@ -2,8 +2,8 @@ use Rattle.std.proofs.Common.{◌≡◌, None, cond, take}
 use Rattle.std.specs.List.{list_any}
 use Rattle.pl_frame.specs.declared.address.SwitchId.{SwitchId}
 use Rattle.pl_layouts.specs.Equality.{same_switch}
-use Rattle.pl_logic.specs.ManagerViews.{id_cmp, value_at}
-use Rattle.pl_logic.specs.Trees.{part_under}
+use Rattle.pl_node.specs.ManagerViews.{id_cmp, value_at}
+use Rattle.pl_node.specs.Trees.{part_under}
 use Rattle.pl_groups.proofs.tree.parts_under.Given as goal
 
 abbrev pub invariant-loop-switch : goal.invariant-loop-switch

@@ -1,7 +1,7 @@
 use Rattle.std.proofs.Common.{◌≡◌, ◌++◌, Some, length, map}
 use Rattle.std.specs.List.{fold}
-use Rattle.pl_logic.specs.declared.acts.HostAct.TheVariants.{Send}
-use Rattle.pl_logic.specs.HostViews.{groups_after}
+use Rattle.pl_node.specs.declared.acts.HostAct.TheVariants.{Send}
+use Rattle.pl_node.specs.HostViews.{groups_after}
 use Rattle.pl_host_rule.specs.HostRule.{released}
 use Rattle.pl_host.proofs.sending.release.Given as goal
 

@@ -1,12 +1,12 @@
 use Rattle.std.proofs.lemmas.Bool.{and_parts}
-use Rattle.pl_journal.specs.Flights.{are_joined, is_good_leg, leg}
+use Rattle.pl_journal.specs.Flights.{are_adjacent, is_good_leg, leg}
 use Rattle.pl_journal.proofs.Trails.{good_leg}
 use Rattle.pl_journal.proofs.frame_laws.legs_are_good.Goals as goal
 
 pub returns-clause-good : goal.returns-clause-good
 returns-clause-good c = λ plan past id run trail one.
-    (and_parts (is_good_leg plan.k (leg past id)) (are_joined plan (leg past id)) (good_leg plan past id run trail one)).0
+    (and_parts (is_good_leg plan.k (leg past id)) (are_adjacent plan (leg past id)) (good_leg plan past id run trail one)).0
 
-pub returns-clause-joined : goal.returns-clause-joined
-returns-clause-joined c = λ plan past id run trail one.
-    (and_parts (is_good_leg plan.k (leg past id)) (are_joined plan (leg past id)) (good_leg plan past id run trail one)).1
+pub returns-clause-adjacent : goal.returns-clause-adjacent
+returns-clause-adjacent c = λ plan past id run trail one.
+    (and_parts (is_good_leg plan.k (leg past id)) (are_adjacent plan (leg past id)) (good_leg plan past id run trail one)).1

@@ -1,5 +1,5 @@
-use Rattle.pl_journal.proofs.LiveLegs.{leg_joined, leg_live}
+use Rattle.pl_journal.proofs.LiveLegs.{leg_adjacent, leg_live}
 use Rattle.pl_journal.proofs.frame_laws.the_links_of_a_leg_were_live.Goals as goal
 
 pub returns : goal.returns
-returns c = record { joined = leg_joined; live = leg_live }
+returns c = record { adjacent = leg_adjacent; live = leg_live }

@@ -3,7 +3,7 @@ use Rattle.std.proofs.Common.{◌≡◌, ℕ, ◌+◌, List, ◌∷◌, ◌++◌
 use Rattle.std.proofs.lemmas.List.{drop-drop}
 use Rattle.byteorder.specs.Endian.{big_bytes}
 use Rattle.pl_frame.specs.declared.address.SwitchId.{SwitchId}
-use Rattle.pl_frame.proofs.Fields.{front_of, rest_of}
+use Rattle.pl_frame.proofs.Exports.{front_of, rest_of}
 use Rattle.pl_layouts.specs.declared.control.Control.{Control}
 use Rattle.pl_layouts.specs.Control.{control_bytes, control_frame, sender_of}
 use Rattle.pl_ldp.proofs.write.write_control.Goals as goal

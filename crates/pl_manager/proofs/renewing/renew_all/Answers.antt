@@ -1,8 +1,8 @@
 use Rattle.std.proofs.Common.{ap, arith, subst, take_all}
-use Rattle.pl_logic.specs.ManagerFacts.{groups}
-use Rattle.pl_manager_rule.proofs.Avoided.{groups_rise}
+use Rattle.pl_node.specs.ManagerFacts.{groups}
+use Rattle.pl_manager_rule.proofs.Exports.{groups_rise}
 use Rattle.pl_groups.specs.Kept.{members_in}
-use Rattle.pl_manager.specs.Telling.{AreRenewed, listed_groups}
+use Rattle.pl_manager.specs.Telling.{AreTreesRenewed, listed_groups}
 use Rattle.pl_manager.proofs.Renewals.{group_listed, none_renewed}
 use Rattle.pl_manager.proofs.renewing.renew_all.Goals as goal
 
@@ -17,6 +17,6 @@ loop-n-preserved c =
 
 pub returns : goal.returns
 returns c =
-    subst (λ some. AreRenewed c.args.reports.now some c.args.groups.now c.loop-n.groups c.args.out.now c.loop-n.out)
+    subst (λ some. AreTreesRenewed c.args.reports.now some c.args.groups.now c.loop-n.groups c.args.out.now c.loop-n.out)
     (take_all c.loop-n.n (listed_groups c.args.groups.now) (omega (arith, c.len-n-end.ensures, c.loop-n-test.false)))
     c.loop-n.invariant

@@ -1,12 +1,12 @@
 use Rattle.std.proofs.Common.{◌≡◌, ◌∙◌, ◌++◌, ap, subst, sym}
 use Rattle.pl_frame.specs.declared.address.SwitchId.{SwitchId}
-use Rattle.pl_logic.specs.AvoidLists.{avoid_list}
+use Rattle.pl_node.specs.AvoidLists.{avoid_list}
 use Rattle.pl_faults.specs.Kept.{handed}
 use Rattle.pl_groups.specs.Kept.{members_in}
-use Rattle.pl_logic.specs.ManagerViews.{Told, place_of}
+use Rattle.pl_node.specs.ManagerViews.{Told, place_of}
 use Rattle.pl_manager_rule.specs.ManagerRule.{avoid_acts, with_place}
 use Rattle.pl_manager.specs.Routing.{AreOf, routed, trees_told_anew}
-use Rattle.pl_manager.specs.Telling.{AreRenewed, listed_groups}
+use Rattle.pl_manager.specs.Telling.{AreTreesRenewed, listed_groups}
 use Rattle.pl_manager.proofs.Changes.{changes_kept, changes_said, trees_silent, trees_still}
 use Rattle.pl_manager.proofs.SameTrees.{tree_as_placed}
 use Rattle.pl_manager.proofs.renewing.tell_place.Goals as goal
@@ -24,7 +24,7 @@ returns-clause-current c =
     record { lists = λ s. c.in_ok-set_place.ensures.handed s ∙ c.requires.lists s; parts = c.requires.parts } in
     changes_kept told c.set_place.new.self c.tell_new_lists.new.matrix c.args.groups.now c.renew_all.new.groups
     c.args.out.now c.tell_new_lists.new.out c.renew_all.new.out was lists.told lists.handed (lists.acts told was.lists)
-    (subst (λ (t : Told). AreRenewed t (listed_groups c.args.groups.now) c.args.groups.now c.renew_all.new.groups c.tell_new_lists.new.out c.renew_all.new.out)
+    (subst (λ (t : Told). AreTreesRenewed t (listed_groups c.args.groups.now) c.args.groups.now c.renew_all.new.groups c.tell_new_lists.new.out c.renew_all.new.out)
     c.reports-2.ensures c.in_ok-renew_all.ensures)
 
 pub returns-clause-acts : goal.returns-clause-acts
@@ -34,7 +34,7 @@ returns-clause-acts c =
     record { lists = λ s. c.in_ok-set_place.ensures.handed s ∙ c.requires.lists s; parts = c.requires.parts } in
     changes_said told c.set_place.new.self c.tell_new_lists.new.matrix before c.renew_all.new.groups
     c.args.out.now c.tell_new_lists.new.out c.renew_all.new.out was lists.told lists.handed (lists.acts told was.lists)
-    (subst (λ (t : Told). AreRenewed t (listed_groups before) before c.renew_all.new.groups c.tell_new_lists.new.out c.renew_all.new.out)
+    (subst (λ (t : Told). AreTreesRenewed t (listed_groups before) before c.renew_all.new.groups c.tell_new_lists.new.out c.renew_all.new.out)
     c.reports-2.ensures c.in_ok-renew_all.ensures)
     ∙ (λ i. c.args.out.now ++ (avoid_acts told (sym lists.told i)
     ++ trees_told_anew (routed told before) (record { told = sym lists.told i; members = sym c.in_ok-renew_all.ensures.members i })))

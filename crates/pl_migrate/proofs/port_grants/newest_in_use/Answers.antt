@@ -1,6 +1,6 @@
 use Rattle.std.proofs.Common.{◌≡◌, ◌<◌, ◌-◌, ℕ, true, false, [], length, drop, get_or, Some, None, sym, ap, subst, ◌∙◌, arith}
 use Rattle.std.specs.List.{list_any}
-use Rattle.pl_logic.specs.declared.switch_records.Grant.{Grant}
+use Rattle.pl_node.specs.declared.switch_records.Grant.{Grant}
 use Rattle.pl_migrate.specs.PortGrants.{is_used_by}
 use Rattle.pl_migrate.proofs.OneEach.{found_at, found_nowhere}
 use Rattle.pl_migrate.proofs.port_grants.newest_in_use.Goals as goal

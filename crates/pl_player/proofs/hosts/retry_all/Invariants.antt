@@ -3,9 +3,9 @@ use Rattle.std.specs.List.{range_with_len}
 use Rattle.pl_world.specs.declared.event.Event.TheVariants as event
 use Rattle.pl_world.specs.Changes.{host_no}
 use Rattle.pl_script.specs.declared.command.Who.TheVariants as who
-use Rattle.pl_fabric.specs.Courses.{MakesAll}
-use Rattle.pl_fabric.proofs.CourseSteps.{Keeps, Leads}
-use Rattle.pl_lines.specs.Lines.{hosts_meant}
+use Rattle.pl_fabric.specs.Executions.{MakesAll}
+use Rattle.pl_fabric.proofs.Exports.{Keeps, Leads}
+use Rattle.pl_script_rule.specs.Lines.{hosts_meant}
 use Rattle.pl_player.proofs.hosts.retry_all.Given as goal
 
 abbrev pub invariant-loop-h : goal.invariant-loop-h

@@ -5,33 +5,29 @@ use Rattle.pl_wiring.specs.Plan.{Plan}
 use Rattle.pl_world.specs.declared.event.Event.TheVariants as event
 use Rattle.pl_world.specs.Changes.{host_no}
 use Rattle.pl_script.specs.declared.command.Who.TheVariants as who
-use Rattle.pl_fabric.specs.Courses.{Makes, MakesAll}
-use Rattle.pl_fabric.proofs.CourseSteps.{leads_all, led_on, led_stops, unless_weaker}
-use Rattle.pl_lines.specs.Lines.{hosts_meant}
+use Rattle.pl_fabric.specs.Executions.{Makes, MakesAll}
+use Rattle.pl_fabric.proofs.Exports.{leads_all, led_on, led_stops, unless_weaker}
+use Rattle.pl_script_rule.specs.Lines.{hosts_meant}
 use Rattle.pl_player.proofs.hosts.start_all.Goals as goal
 
 pub loop-h-init : goal.loop-h-init
 loop-h-init g c =
     let many : c.host_count-many.result ≡ length c.args.world.now.plan.hosts =
     c.host_count-many.ensures ∙ ap (λ (plan : Plan). length plan.hosts) c.wiring.ensures in (
-      record { counted = c.requires.counted; hearing = c.requires.hearing; plan = refl },
+      record { orderly = c.requires.orderly; plan = refl },
       λ left all. record {
         on = (leads_all (λ n. MakesAll g.S.SwitchLogic.rule g.M.ManagerLogic.rule g.H.HostLogic.rule (map event.Start (map host_no (range_with_len 0 n))))
             (length c.args.world.now.plan.hosts) left c.args.world.now (all ∙ many)).on;
       },
     )
 
-pub make-requires-clause-counted : goal.make-requires-clause-counted
-make-requires-clause-counted g c = c.loop-h.invariant.0.counted
-
-pub make-requires-clause-hearing : goal.make-requires-clause-hearing
-make-requires-clause-hearing g c = c.loop-h.invariant.0.hearing
+pub make-requires : goal.make-requires
+make-requires g c = record { orderly = c.loop-h.invariant.0.orderly }
 
 pub loop-h-preserved : goal.loop-h-preserved
 loop-h-preserved g c = (
   record {
-    counted = c.in_ok-make.ensures.counted;
-    hearing = c.in_ok-make.ensures.hearing;
+    orderly = c.in_ok-make.ensures.orderly;
     plan = c.in_ok-make.ensures.plan ∙ c.loop-h.invariant.0.plan;
   },
   λ left all. led_on (Makes g.S.SwitchLogic.rule g.M.ManagerLogic.rule g.H.HostLogic.rule (event.Start (host_no c.loop-h.h)))
@@ -52,13 +48,11 @@ returns-in_err-make g c =
           (MakesAll g.S.SwitchLogic.rule g.M.ManagerLogic.rule g.H.HostLogic.rule (map event.Start (hosts_meant c.args.world.now.plan who.All)))
           c.loop-h.world c.make.new.world c.args.world.now c.in_err-make.field-0.0 (c.loop-h.invariant.1 (suc left) all))
           c.in_err-make.ensures.made;
-      counted = c.in_err-make.ensures.counted;
-      hearing = c.in_err-make.ensures.hearing;
+      orderly = c.in_err-make.ensures.orderly;
     })
 
 pub returns : goal.returns
 returns g c = record {
   made = (c.loop-h.invariant.1 0 (omega arith)).on None c.loop-h.world (refl, refl);
-  counted = c.loop-h.invariant.0.counted;
-  hearing = c.loop-h.invariant.0.hearing;
+  orderly = c.loop-h.invariant.0.orderly;
 }

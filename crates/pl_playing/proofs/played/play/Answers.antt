@@ -1,6 +1,6 @@
 use Rattle.std.proofs.lemmas.Result.{IfOk-weaker}
 use Rattle.pl_inputs.specs.Loaded.{inputs_of}
-use Rattle.pl_theorem.proofs.Beginning.{can_begin}
+use Rattle.pl_law_theorem.proofs.Exports.{can_begin}
 use Rattle.pl_playing.specs.Outcomes.{records_of, run_limits}
 use Rattle.pl_playing.specs.Plays.{IsPlayedOver, IsPlayedTo, played_over}
 use Rattle.pl_playing.proofs.Playing.{AreLaws, files_many, played_to}

@@ -2,8 +2,8 @@ use Rattle.std.proofs.Common.{ℕ, IfOk, IfErr, Some, None, refl, sym, subst, ar
 use Rattle.std.proofs.lemmas.Result.{err_from_is_err_and}
 use Rattle.pl_inputs.specs.Loaded.{inputs_of}
 use Rattle.pl_inputs.specs.Records.{records_of}
-use Rattle.pl_lines.specs.Lines.{DoesLines}
-use Rattle.pl_lines.proofs.Stops.{unless_weaker}
+use Rattle.pl_script_rule.specs.Lines.{DoesLines}
+use Rattle.pl_script_rule.proofs.Exports.{unless_weaker}
 use Rattle.pl_playing.specs.Outcomes.{PlaysTo}
 use Rattle.pl_playing.specs.Plays.{IsPlayedOver, IsUnplayed, played_over}
 use Rattle.pl_playing.proofs.Playing.{plays_over, unplayed}
@@ -12,11 +12,8 @@ use Rattle.pl_playing.proofs.played.play_script.Goals as goal
 pub begin-requires : goal.begin-requires
 begin-requires g c = omega arith
 
-pub play-requires-clause-counted : goal.play-requires-clause-counted
-play-requires-clause-counted g c = c.in_ok-fabric.ensures.counted
-
-pub play-requires-clause-hearing : goal.play-requires-clause-hearing
-play-requires-clause-hearing g c = c.in_ok-fabric.ensures.hearing
+pub play-requires : goal.play-requires
+play-requires g c = record { orderly = c.in_ok-fabric.ensures.orderly }
 
 pub returns-in_err-fabric-clause-ok : goal.returns-in_err-fabric-clause-ok
 returns-in_err-fabric-clause-ok g c =
@@ -33,7 +30,7 @@ returns-in-Ok-clause-ok g c = record {
   played = plays_over g.S.SwitchLogic.rule g.M.ManagerLogic.rule g.H.HostLogic.rule c.args.inputs.wiring c.args.inputs.captures.items c.deref.result.now c.args.inputs.script c.lines.result.now c.in_ok-fabric.fabric c.play.new.self None
       c.deref.ensures.value c.lines.ensures c.in_ok-fabric.ensures.scene c.in-Ok.ensures.does;
   captures = refl;
-  counted = c.in-Ok.ensures.counted;
+  counted = c.in-Ok.ensures.orderly.counted;
 }
 
 pub returns-clause-err : goal.returns-clause-err

@@ -1,7 +1,7 @@
 use Rattle.std.proofs.Common.{◌↔◌, ◌∙◌, IsTrue, arith, subst}
 use Rattle.pl_fabric.specs.Settled.{IsSettled}
 use Rattle.pl_output.specs.Saved.{Saving}
-use Rattle.pl_playing.specs.Outcomes.{Moment}
+use Rattle.pl_playing.specs.Outcomes.{ShelfMoment}
 use Rattle.pl_playing.specs.Plays.{played_over}
 use Rattle.pl_playing.proofs.Playing.{print_breaks, prints_run}
 use Rattle.pl_playing.proofs.Preparing.{room_for_print}
@@ -10,8 +10,8 @@ use Rattle.pl_playing.proofs.printing.print_played.Goals as goal
 pub returns-in-Ok-clause-comes : goal.returns-in-Ok-clause-comes
 returns-in-Ok-clause-comes g c i to =
     let D = g.D.Shelf in
-    let old : Moment = record { held = D.held c.args.shelf.now; read_faults = D.read_faults c.args.shelf.now; write_faults = D.write_faults c.args.shelf.now } in
-    let new : Moment = record {
+    let old : ShelfMoment = record { held = D.held c.args.shelf.now; read_faults = D.read_faults c.args.shelf.now; write_faults = D.write_faults c.args.shelf.now } in
+    let new : ShelfMoment = record {
       held = D.held c.print.new.shelf;
       read_faults = D.read_faults c.print.new.shelf;
       write_faults = D.write_faults c.print.new.shelf;
@@ -23,8 +23,8 @@ returns-in-Ok-clause-comes g c i to =
 pub returns-clause-comes : goal.returns-clause-comes
 returns-clause-comes g c i to =
     let D = g.D.Shelf in
-    let old : Moment = record { held = D.held c.args.shelf.now; read_faults = D.read_faults c.args.shelf.now; write_faults = D.write_faults c.args.shelf.now } in
-    let new : Moment = record {
+    let old : ShelfMoment = record { held = D.held c.args.shelf.now; read_faults = D.read_faults c.args.shelf.now; write_faults = D.write_faults c.args.shelf.now } in
+    let new : ShelfMoment = record {
       held = D.held c.print.new.shelf;
       read_faults = D.read_faults c.print.new.shelf;
       write_faults = D.write_faults c.print.new.shelf;

@@ -1,7 +1,7 @@
 use Rattle.std.proofs.Common.{◌<◌, ◌∙◌, ap, arith, get_or, length, set}
 use Rattle.std.proofs.lemmas.List.{get_or_default}
 use Rattle.std.proofs.lemmas.List.Edits.{map_over_more}
-use Rattle.pl_logic.specs.PortRecords.{aged, new_port}
+use Rattle.pl_node.specs.PortRecords.{aged, new_port}
 use Rattle.pl_ports.proofs.ports.age_all.Goals as goal
 
 pub loop-i-preserved : goal.loop-i-preserved

@@ -1,6 +1,6 @@
 use Rattle.std.proofs.Common.{◌≡◌, ap, sym, ◌∙◌, subst, set, IfSome}
 use Rattle.pl_switch_rule.specs.Positions.{freed_but, kept_or_new, vote_on}
-use Rattle.pl_position.specs.Holding.{HoldsFor, IsId, hold_in}
+use Rattle.pl_position.specs.Holding.{HoldsFor, IsSwitchId, hold_in}
 use Rattle.pl_position.proofs.OwnHolds.{held_by_ids, hold_stays, holds_for_edge, holds_when_freed, kept_is_own, names_an_id}
 use Rattle.pl_position.proofs.holds.vote_in.Goals as goal
 use Rattle.pl_position.proofs.holds.vote_in.Goals.{then-is_free_for, else-is_free_for}
@@ -34,8 +34,8 @@ returns-clause-holds c =
 
 pub returns-clause-ids : goal.returns-clause-ids
 returns-clause-ids c = λ id ids.
-    let told : IfSome (vote_on c.args.edge c.args.proposal (hold_in c.args.holds.now c.args.proposal.position)).holder IsId =
+    let told : IfSome (vote_on c.args.edge c.args.proposal (hold_in c.args.holds.now c.args.proposal.position)).holder IsSwitchId =
     names_an_id c.args.edge c.args.proposal (hold_in c.args.holds.now c.args.proposal.position) (ids c.args.proposal.position) in (
       held_by_ids c.args.edge c.args.proposal.position c.args.holds.now _ (returns-clause-holds c) id ids,
-      subst (λ vote. IfSome vote.holder IsId) (sym (c.vote_on.ensures.vote ∙ ap (vote_on c.args.edge c.args.proposal) (read c))) told,
+      subst (λ vote. IfSome vote.holder IsSwitchId) (sym (c.vote_on.ensures.vote ∙ ap (vote_on c.args.edge c.args.proposal) (read c))) told,
     )

@@ -1,7 +1,7 @@
 use Rattle.std.proofs.Common.{◌∙◌, sym, ap, Some, cond}
 use Rattle.std.specs.BTreeMap.{is_at}
 use Rattle.std.specs.BTreeSet.{insert_key}
-use Rattle.pl_logic.specs.ManagerViews.{id_cmp, value_at}
+use Rattle.pl_node.specs.ManagerViews.{id_cmp, value_at}
 use Rattle.pl_reports.proofs.Telling.{near_started}
 use Rattle.pl_reports.proofs.neighbours.add_neighbour.Goals as goal
 

@@ -1,6 +1,6 @@
 use Rattle.std.proofs.Common.{sym, subst}
 use Rattle.std.proofs.lemmas.Result.{err_from_is_err_and}
-use Rattle.pl_playing.specs.Outcomes.{Moment}
+use Rattle.pl_playing.specs.Outcomes.{ShelfMoment}
 use Rattle.pl_playing.specs.Plays.{answer_of}
 use Rattle.pl_playing.specs.Prepared.{NamesNoFault}
 use Rattle.pl_run.specs.Checks.{line_of}
@@ -11,13 +11,13 @@ use Rattle.pl_run.proofs.check.check.Goals as goal
 pub returns-clause-answers : goal.returns-clause-answers
 returns-clause-answers g c =
     let S = g.S.Shelf in
-    let old : Moment = record { held = S.held c.args.shelf.now; read_faults = S.read_faults c.args.shelf.now; write_faults = S.write_faults c.args.shelf.now } in
-    let mid : Moment = record {
+    let old : ShelfMoment = record { held = S.held c.args.shelf.now; read_faults = S.read_faults c.args.shelf.now; write_faults = S.write_faults c.args.shelf.now } in
+    let mid : ShelfMoment = record {
       held = S.held c.load_wiring.new.shelf;
       read_faults = S.read_faults c.load_wiring.new.shelf;
       write_faults = S.write_faults c.load_wiring.new.shelf;
     } in
-    let new : Moment = record {
+    let new : ShelfMoment = record {
       held = S.held c.print_wiring.new.shelf;
       read_faults = S.read_faults c.print_wiring.new.shelf;
       write_faults = S.write_faults c.print_wiring.new.shelf;

@@ -1,5 +1,5 @@
 use Rattle.std.proofs.Common.{rules}
-use Rattle.pl_playing.specs.Outcomes.{Moment, records_of, run_limits}
+use Rattle.pl_playing.specs.Outcomes.{ShelfMoment, records_of, run_limits}
 use Rattle.pl_playing.specs.Plays.{answer_of}
 use Rattle.pl_run.specs.Answers.{Answers}
 use Rattle.pl_run.proofs.CompleteAnswers.{OneEnd}
@@ -10,8 +10,8 @@ use Rattle.pl_run.proofs.program.portland.Goals as goal
 pub returns-clause-complete : goal.returns-clause-complete
 returns-clause-complete g c asked is =
     let S = g.S.Shelf in
-    let old : Moment = record { held = S.held c.args.shelf.now; read_faults = S.read_faults c.args.shelf.now; write_faults = S.write_faults c.args.shelf.now } in
-    let new : Moment = record {
+    let old : ShelfMoment = record { held = S.held c.args.shelf.now; read_faults = S.read_faults c.args.shelf.now; write_faults = S.write_faults c.args.shelf.now } in
+    let new : ShelfMoment = record {
       held = S.held c.perform.new.shelf;
       read_faults = S.read_faults c.perform.new.shelf;
       write_faults = S.write_faults c.perform.new.shelf;
@@ -24,8 +24,8 @@ returns-clause-complete g c asked is =
 pub returns-clause-faults : goal.returns-clause-faults
 returns-clause-faults g c =
     let S = g.S.Shelf in
-    let old : Moment = record { held = S.held c.args.shelf.now; read_faults = S.read_faults c.args.shelf.now; write_faults = S.write_faults c.args.shelf.now } in
-    let new : Moment = record {
+    let old : ShelfMoment = record { held = S.held c.args.shelf.now; read_faults = S.read_faults c.args.shelf.now; write_faults = S.write_faults c.args.shelf.now } in
+    let new : ShelfMoment = record {
       held = S.held c.perform.new.shelf;
       read_faults = S.read_faults c.perform.new.shelf;
       write_faults = S.write_faults c.perform.new.shelf;

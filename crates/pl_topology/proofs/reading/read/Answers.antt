@@ -3,7 +3,7 @@ use Rattle.std.specs.List.{All}
 use Rattle.toml.specs.View.{table_view}
 use Rattle.pl_topology.specs.declared.entries.LinkEntry.{LinkEntry}
 use Rattle.pl_topology.specs.Checks.{addresses_differ, ids_differ, joins_the_tree, names_differ, ports_differ}
-use Rattle.pl_topology.specs.Entries.{HasEnds}
+use Rattle.pl_topology.specs.Entries.{NamesSwitches}
 use Rattle.pl_topology.specs.FileEntries.{entries_view}
 use Rattle.pl_topology.specs.Refusal.{each}
 use Rattle.pl_topology.proofs.PlacedHosts.{hosts_fit}
@@ -22,7 +22,7 @@ ports_differ-requires-clause-hosts_in_range c =
 pub join_the_tree-requires-clause-in_range : goal.join_the_tree-requires-clause-in_range
 join_the_tree-requires-clause-in_range c =
     let in_range = (entries_are c.in-Some.k (table_view c.in_ok-document.document) (entries_view c.in_ok-entries.entries) c.in_ok-entries.ensures.exact).links in
-    let P : List LinkEntry → Type 0 = λ xs. All (HasEnds c.in-Some.k) xs in
+    let P : List LinkEntry → Type 0 = λ xs. All (NamesSwitches c.in-Some.k) xs in
     subst P (sym c.deref-4.ensures.value) in_range
 
 -- what has passed where the wiring is made
@@ -33,8 +33,8 @@ all_agree c =
     let names : names_differ e.hosts ≡ Ok tt = (rw c.deref-2.ensures.value at c.in_ok-names_differ.ensures) in
     let addresses : addresses_differ e.hosts ≡ Ok tt = (rw c.deref-3.ensures.value at c.in_ok-addresses_differ.ensures) in
     let ports : ports_differ c.in-Some.k e.links e.hosts ≡ Ok tt = c.in_ok-ports_differ.ensures in
-    let joined : each (joins_the_tree c.in-Some.k) e.links ≡ Ok tt = (rw c.deref-4.ensures.value at (sym c.join_the_tree.ensures ∙ c.in_ok-join_the_tree.was)) in
-    agrees c.in-Some.k (table_view c.in_ok-document.document) e c.in_ok-entries.ensures.exact ids names addresses ports joined
+    let adjacent : each (joins_the_tree c.in-Some.k) e.links ≡ Ok tt = (rw c.deref-4.ensures.value at (sym c.join_the_tree.ensures ∙ c.in_ok-join_the_tree.was)) in
+    agrees c.in-Some.k (table_view c.in_ok-document.document) e c.in_ok-entries.ensures.exact ids names addresses ports adjacent
 
 pub wiring-requires-clause-plan : goal.wiring-requires-clause-plan
 wiring-requires-clause-plan c =

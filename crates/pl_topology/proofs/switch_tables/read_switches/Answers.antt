@@ -1,7 +1,7 @@
 use Rattle.std.proofs.Common.{◌<◌, length, Err, sym, ap, ◌∙◌, arith}
 use Rattle.std.proofs.lemmas.Result.{err_from_is_err_and}
 use Rattle.pl_topology.proofs.FoundLemmas.{FindsIds-push, switch_entry-fresh}
-use Rattle.pl_topology.proofs.RefusalLemmas.{Gives-refused, all_beside-next, all_beside-refused}
+use Rattle.pl_topology.proofs.RefusalLemmas.{ReadingGives-refused, all_beside-next, all_beside-refused}
 use Rattle.pl_topology.specs.Entries.{switch_entry}
 use Rattle.pl_topology.proofs.switch_tables.read_switches.Goals as goal
 
@@ -10,7 +10,7 @@ returns-in_err-entry-clause-exact c =
     let p = err_from_is_err_and c.from_residual.result c.from_residual.ensures.1 in
     let read = sym (c.read_switch.ensures c.loop-table.entries.items c.loop-table.invariant.found) ∙ c.in_err-entry.was in
     let within : c.loop-table.table-index < length c.args.tables.now = omega arith in
-    Gives-refused (λ s. s.entries.items) c.from_residual.result p.0 _ p.1 (sym c.loop-table.invariant.read
+    ReadingGives-refused (λ s. s.entries.items) c.from_residual.result p.0 _ p.1 (sym c.loop-table.invariant.read
     ∙ all_beside-refused (switch_entry c.args.k) c.loop-table.entries.items c.args.tables.now c.loop-table.table-index c.table-item.result p.0 within c.table-item.is
     (read ∙ ap (λ e. Err e) (sym p.2)))
 

@@ -3,7 +3,7 @@ use Rattle.std.proofs.lemmas.Result.{err_from_is_err_and}
 use Rattle.std.specs.List.{flat_map}
 use Rattle.pl_topology.specs.Checks.{host_uses, port_is_free}
 use Rattle.pl_topology.specs.Refusal.{each_beside}
-use Rattle.pl_topology.proofs.RefusalLemmas.{Gives-exit, each_beside-turn, flat_more, turn_ok}
+use Rattle.pl_topology.proofs.RefusalLemmas.{ReadingGives-exit, each_beside-turn, flat_more, turn_ok}
 use Rattle.pl_topology.proofs.used_ports.host_ports.Goals as goal
 
 pub returns-in_err-take_ports : goal.returns-in_err-take_ports
@@ -17,7 +17,7 @@ returns-in_err-take_ports c = λ before sees.
     let turn = each_beside-turn (port_is_free c.args.k) host_uses front hosts i c.host-item.result c.host-item.result within c.host-item.is in
     let given = (rw c.host_uses.ensures at (c.take_ports.ensures.exact front (inv.seen before sees))) in
     rw (← inv.rest before sees, turn)
-    (Gives-exit (λ u. u) c.from_residual.result (λ u. u) c.take_ports.result p.0 c.in_err-take_ports.field-0.0 _ _ p.1 p.2 c.in_err-take_ports.was given)
+    (ReadingGives-exit (λ u. u) c.from_residual.result (λ u. u) c.take_ports.result p.0 c.in_err-take_ports.field-0.0 _ _ p.1 p.2 c.in_err-take_ports.was given)
 
 pub loop-host-preserved : goal.loop-host-preserved
 loop-host-preserved c =

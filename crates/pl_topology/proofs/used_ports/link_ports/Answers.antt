@@ -4,7 +4,7 @@ use Rattle.std.specs.List.{flat_map}
 use Rattle.pl_topology.specs.Checks.{link_uses, port_is_free}
 use Rattle.pl_topology.specs.Refusal.{each_beside}
 use Rattle.pl_topology.proofs.PortLemmas.{no_link}
-use Rattle.pl_topology.proofs.RefusalLemmas.{Gives-exit, each_beside-turn, flat_more, turn_ok}
+use Rattle.pl_topology.proofs.RefusalLemmas.{ReadingGives-exit, each_beside-turn, flat_more, turn_ok}
 use Rattle.pl_topology.proofs.used_ports.link_ports.Goals as goal
 
 pub returns-in_err-take_ports-clause-exact : goal.returns-in_err-take_ports-clause-exact
@@ -18,7 +18,7 @@ returns-in_err-take_ports-clause-exact c = λ before sees.
     let turn = each_beside-turn (port_is_free c.args.k) (link_uses c.args.k) front entries i no_link (get_or entries i no_link) within refl in
     let given = (rw c.link_uses.ensures at (c.take_ports.ensures.exact front (inv.seen before sees))) in
     rw (← inv.rest before sees, turn)
-    (Gives-exit (λ u. u) c.from_residual.result (λ u. u) c.take_ports.result p.0 c.in_err-take_ports.field-0.0 _ _ p.1 p.2 c.in_err-take_ports.was given)
+    (ReadingGives-exit (λ u. u) c.from_residual.result (λ u. u) c.take_ports.result p.0 c.in_err-take_ports.field-0.0 _ _ p.1 p.2 c.in_err-take_ports.was given)
 
 pub loop-entry-preserved : goal.loop-entry-preserved
 loop-entry-preserved c =

@@ -2,7 +2,7 @@ use Rattle.std.proofs.Common.{◌<◌, ◌++◌, length, take, get_or, refl, ◌
 use Rattle.std.proofs.lemmas.Result.{err_from_is_err_and}
 use Rattle.pl_topology.specs.Checks.{port_is_free}
 use Rattle.pl_topology.proofs.PortLemmas.{no_use}
-use Rattle.pl_topology.proofs.RefusalLemmas.{Gives-exit, each_beside-first, each_beside-next, front_more}
+use Rattle.pl_topology.proofs.RefusalLemmas.{ReadingGives-exit, each_beside-first, each_beside-next, front_more}
 use Rattle.pl_topology.proofs.used_ports.take_ports.Goals as goal
 
 pub returns-in_err-take_port-clause-exact : goal.returns-in_err-take_port-clause-exact
@@ -14,7 +14,7 @@ returns-in_err-take_port-clause-exact c = λ before sees.
     let inv = c.loop-taken.invariant in
     let first = each_beside-first (port_is_free c.args.k) (before ++ take i uses) uses i _ _ within refl in
     rw (← inv.rest before sees, first)
-    (Gives-exit (λ u. u) c.from_residual.result (λ u. u) c.take_port.result p.0 c.in_err-take_port.field-0.0 _ _ p.1 p.2 c.in_err-take_port.was
+    (ReadingGives-exit (λ u. u) c.from_residual.result (λ u. u) c.take_port.result p.0 c.in_err-take_port.field-0.0 _ _ p.1 p.2 c.in_err-take_port.was
     (c.take_port.ensures.exact (before ++ take i uses) (inv.seen before sees)))
 
 pub loop-taken-preserved : goal.loop-taken-preserved

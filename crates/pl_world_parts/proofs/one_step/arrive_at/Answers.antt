@@ -1,6 +1,6 @@
 use Rattle.std.proofs.Common.{arith}
-use Rattle.pl_logic.specs.HostInputs.HostAnswer.{Received}
-use Rattle.pl_logic.specs.HostInputs.HostInput.{Receives}
+use Rattle.pl_node.specs.HostInputs.HostAnswer.{Received}
+use Rattle.pl_node.specs.HostInputs.HostInput.{Receives}
 use Rattle.pl_world_parts.proofs.OneChanged.{host_steps}
 use Rattle.pl_world_parts.proofs.one_step.arrive_at.Goals as goal
 

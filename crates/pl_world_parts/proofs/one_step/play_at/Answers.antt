@@ -1,5 +1,5 @@
 use Rattle.std.proofs.Common.{arith}
-use Rattle.pl_logic.specs.HostInputs.HostAnswer.{Played}
+use Rattle.pl_node.specs.HostInputs.HostAnswer.{Played}
 use Rattle.pl_world.specs.WorldRule.{played_as}
 use Rattle.pl_world_parts.proofs.OneChanged.{host_steps}
 use Rattle.pl_world_parts.proofs.one_step.play_at.Goals as goal

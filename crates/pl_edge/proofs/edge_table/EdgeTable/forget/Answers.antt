@@ -9,12 +9,12 @@ use Rattle.pl_edge.proofs.edge_table.EdgeTable.forget.Goals as goal
 pub returns-in_err-tell_emptied-clause-kept : goal.returns-in_err-tell_emptied-clause-kept
 returns-in_err-tell_emptied-clause-kept c =
     let inside = c.self.inside in
-    kept c.args.self.now inside.k inside.book inside.remembered.items inside.remembered.items inside.members c.forget.new.self c.self.view_is
+    kept c.args.self.now inside.k inside.address_table inside.remembered.items inside.remembered.items inside.members c.forget.new.self c.self.view_is
 
 pub returns-clause-kept : goal.returns-clause-kept
 returns-clause-kept c =
     let inside = c.self.inside in
-    kept c.args.self.now inside.k inside.book inside.remembered.items inside.remembered.items inside.members c.forget.new.self c.self.view_is
+    kept c.args.self.now inside.k inside.address_table inside.remembered.items inside.remembered.items inside.members c.forget.new.self c.self.view_is
 
 pub returns-clause-taken : goal.returns-clause-taken
 returns-clause-taken c = λ v.
@@ -22,7 +22,7 @@ returns-clause-taken c = λ v.
     let old = inside.members in
     let new = c.forget.new.self in
     let out = c.args.out.now in
-    became c.args.self.now inside.k inside.book inside.remembered.items old new (filter (λ m. not (is_member c.args.port c.args.amac m))) out c.tell_emptied.new.out
+    became c.args.self.now inside.k inside.address_table inside.remembered.items old new (filter (λ m. not (is_member c.args.port c.args.amac m))) out c.tell_emptied.new.out
     c.self.view_is c.forget.ensures
     (c.in_ok-tell_emptied.ensures
     ∙ ap (λ groups. out ++ flat_map (told_if_none new) groups) (c.as_slice.ensures.value ∙ c.in_ok-groups.ensures)

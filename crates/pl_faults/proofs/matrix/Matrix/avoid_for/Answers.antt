@@ -1,6 +1,6 @@
 use Rattle.std.proofs.Common.{◌∙◌, [], ap, List, Option}
 use Rattle.std.specs.Prelude.{unwrap_or}
-use Rattle.pl_logic.specs.AvoidLists.{avoid_list}
+use Rattle.pl_node.specs.AvoidLists.{avoid_list}
 use Rattle.pl_faults.specs.Kept.{MatrixView}
 use Rattle.pl_faults.specs.Making.{Avoided}
 use Rattle.pl_faults.proofs.Anew.{avoid_of}

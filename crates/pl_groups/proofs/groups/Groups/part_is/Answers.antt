@@ -1,7 +1,7 @@
 use Rattle.std.proofs.Common.{◌≡◌, ◌∙◌, ◌↔◌, Bool, IsTrue, ap, subst, sym}
 use Rattle.std.specs.Option.{option_copied}
 use Rattle.pl_manager_rule.specs.ManagerRule.{same_part}
-use Rattle.pl_manager_rule.proofs.Sameness.{parts_alike}
+use Rattle.pl_manager_rule.proofs.Exports.{parts_alike}
 use Rattle.pl_groups.specs.Kept.{part_kept}
 use Rattle.pl_groups.proofs.groups.Groups.part_is.Goals as goal
 

@@ -2,10 +2,10 @@ use Rattle.std.proofs.Common.{◌∙◌, Some, Option, ap, filter, nat_cmp, not,
 use Rattle.std.proofs.lemmas.Cmp.{nat_cmp_total}
 use Rattle.std.specs.Option.{option_and_then}
 use Rattle.pl_frame.specs.declared.address.SwitchId.{SwitchId}
-use Rattle.pl_logic.specs.ManagerViews.{switches, value_at}
-use Rattle.pl_logic.specs.Trees.{tree_part}
+use Rattle.pl_node.specs.ManagerViews.{switches, value_at}
+use Rattle.pl_node.specs.Trees.{tree_part}
 use Rattle.pl_manager_rule.specs.ManagerRule.{same_part}
-use Rattle.pl_manager_rule.proofs.Tables.{value_put}
+use Rattle.pl_manager_rule.proofs.Exports.{value_put}
 use Rattle.pl_groups.specs.Kept.{members_in, part_in_tree, part_kept}
 use Rattle.pl_groups.specs.declared.tree.Tree.{Tree}
 use Rattle.pl_groups.proofs.Bare.{no_core, no_parts, none_differs}

@@ -1,8 +1,8 @@
 use Rattle.std.proofs.Common.{rules, ◌∙◌, ◌==◌, ap, filter, sym}
 use Rattle.std.proofs.lemmas.Fn.{filter_same}
 use Rattle.pl_layouts.specs.Memberships.{flood}
-use Rattle.pl_logic.specs.ManagerFacts.{groups as groups_told}
-use Rattle.pl_logic.specs.ManagerViews.{Members}
+use Rattle.pl_node.specs.ManagerFacts.{groups as groups_told}
+use Rattle.pl_node.specs.ManagerViews.{Members}
 use Rattle.pl_groups.proofs.Forgotten.{only_floods}
 use Rattle.pl_groups.proofs.roster.Roster.forget.Goals as goal
 

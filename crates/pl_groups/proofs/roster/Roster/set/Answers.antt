@@ -1,9 +1,9 @@
 use Rattle.std.proofs.Common.{◌∙◌, List, ℕ, ap, nat_cmp, subst, sym}
 use Rattle.std.specs.BTreeSet.{insert_key}
 use Rattle.std.specs.List.Sorted.{IsStrictlySortedBy}
-use Rattle.pl_logic.specs.ManagerFacts.{groups}
-use Rattle.pl_logic.specs.ManagerViews.{Members}
-use Rattle.pl_manager_rule.proofs.Avoided.{groups_rise}
+use Rattle.pl_node.specs.ManagerFacts.{groups}
+use Rattle.pl_node.specs.ManagerViews.{Members}
+use Rattle.pl_manager_rule.proofs.Exports.{groups_rise}
 use Rattle.pl_groups.proofs.Rostered.{groups_more}
 use Rattle.pl_groups.proofs.roster.Roster.set.Goals as goal
 

@@ -1,5 +1,5 @@
 use Rattle.std.proofs.Common.{◌∙◌, ap, sym, fold}
-use Rattle.pl_logic.specs.ManagerViews.{Members}
+use Rattle.pl_node.specs.ManagerViews.{Members}
 use Rattle.pl_groups.specs.Rostering.{with_member}
 use Rattle.pl_groups.proofs.Rostered.{members_are}
 use Rattle.pl_groups.proofs.roster.Roster.with_members.Goals as goal

@@ -1,6 +1,6 @@
 use Rattle.std.proofs.Common.{◌≡◌}
 use Rattle.std.specs.List.{fold}
-use Rattle.pl_logic.specs.HostViews.{groups_after_change}
+use Rattle.pl_node.specs.HostViews.{groups_after_change}
 use Rattle.pl_multicast.specs.Changes.{changes_left}
 use Rattle.pl_host.proofs.groups.Groups.note.Given as goal
 

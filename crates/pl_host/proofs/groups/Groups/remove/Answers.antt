@@ -1,6 +1,6 @@
 use Rattle.std.proofs.Common.{rules, ◌∙◌, ap, ◌==◌, not}
 use Rattle.std.proofs.lemmas.Fn.{filter_same}
-use Rattle.pl_logic.specs.HostViews.{without_group}
+use Rattle.pl_node.specs.HostViews.{without_group}
 use Rattle.pl_layouts.specs.Memberships.{group_number}
 use Rattle.pl_host.proofs.groups.Groups.remove.Goals as goal
 

@@ -1,6 +1,6 @@
 use Rattle.std.proofs.Common.{◌∙◌, ◌++◌, map, sym, ap}
 use Rattle.std.proofs.lemmas.List.{append-nil}
-use Rattle.pl_logic.specs.declared.acts.HostAct.TheVariants.{Send}
+use Rattle.pl_node.specs.declared.acts.HostAct.TheVariants.{Send}
 use Rattle.pl_host_rule.specs.HostRule.{report_frame}
 use Rattle.pl_host.proofs.Stepping.{reports}
 use Rattle.pl_host.proofs.groups.Groups.report.Goals as goal

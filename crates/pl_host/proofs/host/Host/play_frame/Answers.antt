@@ -3,7 +3,7 @@ use Rattle.std.proofs.lemmas.List.{append-nil}
 use Rattle.pl_frame.specs.declared.address.Mac.{Mac}
 use Rattle.pl_frame.specs.Ethernet.{destination_of}
 use Rattle.pl_layouts.specs.Memberships.{is_group}
-use Rattle.pl_logic.specs.HostViews.{HostView}
+use Rattle.pl_node.specs.HostViews.{HostView}
 use Rattle.pl_arp.specs.declared.cache.Me.{Me}
 use Rattle.pl_journal.specs.declared.cause.Skip.TheVariants.{NoOwner}
 use Rattle.pl_host_rule.specs.HostRule.{other_host, skipping}

@@ -3,7 +3,7 @@ use Rattle.pl_frame.specs.declared.address.Mac.{Mac}
 use Rattle.pl_frame.specs.Ethernet.{destination_of}
 use Rattle.pl_arp.specs.declared.cache.Me.{Me}
 use Rattle.pl_layouts.specs.Memberships.{is_group}
-use Rattle.pl_logic.specs.HostViews.{HostView}
+use Rattle.pl_node.specs.HostViews.{HostView}
 use Rattle.pl_host_rule.specs.HostRule.{is_foreign, other_host, skip_of, unicast_skip}
 use Rattle.pl_host.specs.Host.{host_view}
 use Rattle.pl_host.proofs.Stepping.{skip_of-last}

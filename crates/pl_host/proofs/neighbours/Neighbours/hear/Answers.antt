@@ -1,6 +1,6 @@
 use Rattle.std.proofs.Common.{◌∙◌, List, ℕ, map, sym, ap, not, is_some}
 use Rattle.pl_frame.specs.Ethernet.{with_destination}
-use Rattle.pl_logic.specs.HostViews.{Held}
+use Rattle.pl_node.specs.HostViews.{HeldFrames}
 use Rattle.pl_host.specs.Waiting.{are_unknown}
 use Rattle.pl_host.proofs.Releasing.{released_by-heard, released_by-unknown, still_held-heard, still_held-unknown, unknown-still_held, unknown-unheard}
 use Rattle.pl_host.proofs.neighbours.Neighbours.hear.Goals as goal
@@ -33,7 +33,7 @@ invariant_of-self-2 c = record {
       let still =
       still_held-heard c.args.self.now.cache c.receive.new.self c.args.me c.args.arp.now c.args.self.now.waiting c.in_ok-answer.ensures.table
       (ap is_some (sym c.get.ensures) ∙ c.is_none.ensures ∙ ap not c.if-is_none.false) c.take-frames.ensures.rising c.args.self.now.unknown in
-      ap (λ (held : Held). are_unknown c.receive.new.self held) (c.take-frames.ensures.rest ∙ sym still)
+      ap (λ (held : HeldFrames). are_unknown c.receive.new.self held) (c.take-frames.ensures.rest ∙ sym still)
       ∙ unknown-still_held c.receive.new.self c.args.self.now.waiting;
 }
 

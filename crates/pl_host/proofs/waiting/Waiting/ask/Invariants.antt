@@ -1,5 +1,5 @@
 use Rattle.std.proofs.Common.{◌≡◌, ◌++◌, map}
-use Rattle.pl_logic.specs.declared.acts.HostAct.TheVariants.{Send}
+use Rattle.pl_node.specs.declared.acts.HostAct.TheVariants.{Send}
 use Rattle.pl_host_rule.specs.HostRule.{request_frame}
 use Rattle.pl_host.proofs.waiting.Waiting.ask.Given as goal
 

@@ -3,7 +3,7 @@ use Rattle.std.specs.List.{sum_by}
 use Rattle.std.specs.Map.{values_of}
 use Rattle.std.specs.BTreeMap.{is_at}
 use Rattle.std.proofs.lemmas.Map.Entries.{sum_by-remove_entry}
-use Rattle.pl_logic.specs.HostViews.{Held, ip_cmp}
+use Rattle.pl_node.specs.HostViews.{HeldFrames, ip_cmp}
 use Rattle.pl_host.proofs.waiting.Waiting.take.Goals as goal
 
 pub overflow_sub-self : goal.overflow_sub-self
@@ -19,7 +19,7 @@ invariant_of-self c = record {
       let total = sum_by-remove_entry length (is_at (ip_cmp c.args.ip)) c.self.inside.by_address.entries in
       let found = ap (λ o. unwrap_or (option_map length o) 0) c.in-Some.ensures.value in
       let kept = c.self.invariant.count in
-      let left = ap (λ (es : Held). sum_by length (values_of es)) c.in-Some.ensures.entries in
+      let left = ap (λ (es : HeldFrames). sum_by length (values_of es)) c.in-Some.ensures.entries in
       omega (arith, total, found, kept, left, c.len.ensures);
   rising = c.in-Some.ensures.ordered;
 }

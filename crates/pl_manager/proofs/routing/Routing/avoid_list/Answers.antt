@@ -1,5 +1,5 @@
 use Rattle.std.proofs.Common.{◌∙◌, ap, sym}
-use Rattle.pl_logic.specs.AvoidLists.{avoid_list}
+use Rattle.pl_node.specs.AvoidLists.{avoid_list}
 use Rattle.pl_manager.specs.Routing.{RoutingView}
 use Rattle.pl_manager.proofs.Lent.{list_found, list_missing}
 use Rattle.pl_manager.proofs.routing.Routing.avoid_list.Goals as goal

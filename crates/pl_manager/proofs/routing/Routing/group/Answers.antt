@@ -1,6 +1,6 @@
 use Rattle.std.proofs.Common.{◌∙◌, ap}
 use Rattle.std.specs.List.{slice_get}
-use Rattle.pl_logic.specs.ManagerFacts.{groups}
+use Rattle.pl_node.specs.ManagerFacts.{groups}
 use Rattle.pl_manager.specs.Routing.{RoutingView}
 use Rattle.pl_manager.proofs.routing.Routing.group.Goals as goal
 

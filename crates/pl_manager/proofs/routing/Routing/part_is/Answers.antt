@@ -1,7 +1,7 @@
 use Rattle.std.proofs.Common.{◌≡◌, ◌∙◌, ◌↔◌, ap, subst, IsTrue, Option}
 use Rattle.std.specs.Option.{option_copied}
-use Rattle.pl_logic.specs.declared.messages.TreePart.{TreePart}
-use Rattle.pl_logic.specs.Trees.{tree_part}
+use Rattle.pl_node.specs.declared.messages.TreePart.{TreePart}
+use Rattle.pl_node.specs.Trees.{tree_part}
 use Rattle.pl_manager.specs.Routing.{RoutingView}
 use Rattle.pl_manager.proofs.routing.Routing.part_is.Goals as goal
 

@@ -1,6 +1,6 @@
 use Rattle.std.proofs.Common.{◌∙◌, ◌++◌, ap}
 use Rattle.std.specs.BTreeMap.{insert_entry}
-use Rattle.pl_logic.specs.ManagerViews.{members_cmp}
+use Rattle.pl_node.specs.ManagerViews.{members_cmp}
 use Rattle.pl_groups.specs.Kept.{members_in}
 use Rattle.pl_manager.specs.Routing.{RoutingView, trees_told_anew}
 use Rattle.pl_manager.proofs.routing.Routing.set_members.Goals as goal

@@ -2,13 +2,13 @@ use Rattle.std.proofs.Common.{subst, sym}
 use Rattle.std.specs.List.{All}
 use Rattle.std.proofs.lemmas.Map.Views.{All-insert_key}
 use Rattle.pl_switch_rule.specs.Intake.{member_cmp}
-use Rattle.pl_members.specs.Reached.{IsAtPort}
+use Rattle.pl_members.specs.Reached.{MemberIsAtPort}
 use Rattle.pl_members.proofs.members.Members.join.Goals as goal
 
 pub invariant_of-self-2 : goal.invariant_of-self-2
 invariant_of-self-2 c = record {
   rising = c.insert.ensures.ordered;
-  at_ports = subst (All IsAtPort) (sym c.in_ok-insert.ensures.keys)
-      (All-insert_key member_cmp c.new.result IsAtPort c.self.inside.members.keys c.self.invariant.at_ports
-      (subst IsAtPort (sym c.new.ensures.member) (record { port = c.requires; amac = c.new.ensures.amac })));
+  at_ports = subst (All MemberIsAtPort) (sym c.in_ok-insert.ensures.keys)
+      (All-insert_key member_cmp c.new.result MemberIsAtPort c.self.inside.members.keys c.self.invariant.at_ports
+      (subst MemberIsAtPort (sym c.new.ensures.member) (record { port = c.requires; amac = c.new.ensures.amac })));
 }

@@ -3,17 +3,17 @@ use Rattle.std.specs.List.{All}
 use Rattle.std.specs.Ordering.{is_eq}
 use Rattle.std.proofs.lemmas.Map.Views.{All-remove_key}
 use Rattle.std.specs.Set.{remove_key}
-use Rattle.pl_logic.specs.declared.switch_records.Member.{Member}
+use Rattle.pl_node.specs.declared.switch_records.Member.{Member}
 use Rattle.pl_switch_rule.specs.Intake.{leaves, member_cmp}
-use Rattle.pl_members.specs.Reached.{IsAtPort}
+use Rattle.pl_members.specs.Reached.{MemberIsAtPort}
 use Rattle.pl_members.proofs.Removing.{removed_leaves}
 use Rattle.pl_members.proofs.members.Members.leave.Goals as goal
 
 pub invariant_of-self : goal.invariant_of-self
 invariant_of-self c = record {
   rising = c.remove.ensures.ordered;
-  at_ports = subst (All IsAtPort) (sym c.remove.ensures.keys)
-      (All-remove_key (λ m. is_eq (member_cmp c.new.result m)) IsAtPort c.self.inside.members.keys c.self.invariant.at_ports);
+  at_ports = subst (All MemberIsAtPort) (sym c.remove.ensures.keys)
+      (All-remove_key (λ m. is_eq (member_cmp c.new.result m)) MemberIsAtPort c.self.inside.members.keys c.self.invariant.at_ports);
 }
 
 pub returns : goal.returns

@@ -7,19 +7,19 @@ use Rattle.std.specs.declared.ops.Bound.TheVariants.{Included, Excluded}
 use Rattle.std.specs.List.{All, filter, list_any}
 use Rattle.pl_lists.specs.Ports.{ports_of}
 use Rattle.pl_switch_rule.specs.Intake.{member_cmp}
-use Rattle.pl_members.specs.Reached.{IsAtPort, has_member_at, start_of}
+use Rattle.pl_members.specs.Reached.{MemberIsAtPort, has_member_at, start_of}
 use Rattle.pl_members.proofs.Reaching.{ports_are, reached_in_range, reached_more}
 use Rattle.pl_members.proofs.members.Members.ports_for.Goals as goal
 
 pub insert-requires : goal.insert-requires
 insert-requires c =
-    let m : IsAtPort c.in-Some.member.now =
-    All-head IsAtPort c.in-Some.member.now c.next.new.self (subst (All IsAtPort) c.in-Some.ensures.steps c.loop-member.invariant.at_ports) in
+    let m : MemberIsAtPort c.in-Some.member.now =
+    All-head MemberIsAtPort c.in-Some.member.now c.next.new.self (subst (All MemberIsAtPort) c.in-Some.ensures.steps c.loop-member.invariant.at_ports) in
     omega (arith, c.port.ensures, m.port)
 
 pub loop-member-preserved : goal.loop-member-preserved
 loop-member-preserved c = record {
-  at_ports = All-rest IsAtPort c.in-Some.member.now c.next.new.self c.loop-member.member-iterator c.in-Some.ensures.steps c.loop-member.invariant.at_ports;
+  at_ports = All-rest MemberIsAtPort c.in-Some.member.now c.next.new.self c.loop-member.member-iterator c.in-Some.ensures.steps c.loop-member.invariant.at_ports;
   ports = λ q.
       ap (λ ports. list_any (λ p. p == q) ports || list_any (λ m. m.port == q) c.next.new.self)
       (c.insert.ensures ∙ ap (insert_key nat_cmp (ports_of c.loop-member.ports)) c.port.ensures)

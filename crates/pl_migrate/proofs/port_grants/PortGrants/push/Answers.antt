@@ -1,5 +1,5 @@
 use Rattle.std.proofs.Common.{◌≡◌, ◌<◌, List, length, None, sym, subst}
-use Rattle.pl_logic.specs.declared.switch_records.Grant.{Grant}
+use Rattle.pl_node.specs.declared.switch_records.Grant.{Grant}
 use Rattle.pl_switch_rule.specs.Granting.{in_use}
 use Rattle.pl_migrate.specs.PortGrants.{ArePortGrants}
 use Rattle.pl_migrate.proofs.Granted.{one_each_push}

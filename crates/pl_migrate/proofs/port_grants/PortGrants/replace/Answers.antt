@@ -1,5 +1,5 @@
 use Rattle.std.proofs.Common.{◌-◌, List, slice_set, sym, subst}
-use Rattle.pl_logic.specs.declared.switch_records.Grant.{Grant}
+use Rattle.pl_node.specs.declared.switch_records.Grant.{Grant}
 use Rattle.pl_switch_rule.specs.Granting.{grant_number}
 use Rattle.pl_migrate.specs.PortGrants.{ArePortGrants, TakesPlaceOf}
 use Rattle.pl_migrate.proofs.Granted.{one_each_replace}

@@ -1,6 +1,6 @@
 use Rattle.std.proofs.Common.{rules, ◌≡◌, ◌∙◌, ◌∷◌, [], sym, arith}
 use Rattle.hex.specs.Hex.{encode_lower}
-use Rattle.pl_journal.proofs.Hexadecimal.{pair_at}
+use Rattle.pl_journal.proofs.Exports.{pair_at}
 use Rattle.pl_output.proofs.printing.hexadecimal.digits.Goals as goal
 
 pub returns : goal.returns

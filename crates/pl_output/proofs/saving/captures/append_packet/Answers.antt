@@ -1,7 +1,7 @@
 use Rattle.std.proofs.lemmas.Result.{err_from_is_err_and, on_err_weaker, on_ok_weaker}
 use Rattle.pl_capture.specs.Spelling.{saved_head}
 use Rattle.std.proofs.Common.{length}
-use Rattle.pl_shelf.proofs.Changed.{Changes-appended}
+use Rattle.pl_shelf.proofs.Exports.{Changes-appended}
 use Rattle.pl_output.proofs.Appended.{cut_behind, cut_front}
 use Rattle.pl_output.proofs.saving.captures.append_packet.Goals as goal
 

@@ -2,7 +2,7 @@ use Rattle.std.proofs.Common.{◌≡◌, drop}
 use Rattle.std.specs.List.{flat_map}
 use Rattle.pl_capture.specs.declared.endianness.Endianness.TheVariants.{Little}
 use Rattle.pl_capture.specs.Spelling.{packet_bytes}
-use Rattle.pl_shelf.proofs.Written.{Written}
+use Rattle.pl_shelf.proofs.Exports.{Written}
 use Rattle.pl_output.specs.Mail.{packets_at}
 use Rattle.pl_output.proofs.saving.captures.append_packets.Given as goal
 

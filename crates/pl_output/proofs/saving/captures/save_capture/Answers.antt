@@ -4,7 +4,7 @@ use Rattle.std.proofs.lemmas.Result.{err_from_is_err_and, on_err_weaker, on_ok_w
 use Rattle.pl_capture.specs.declared.endianness.Endianness.TheVariants.{Little}
 use Rattle.pl_capture.specs.Spelling.{packet_bytes, saved_header}
 use Rattle.pl_shelf.specs.Held.{created}
-use Rattle.pl_shelf.proofs.Changed.{Changes-appended}
+use Rattle.pl_shelf.proofs.Exports.{Changes-appended}
 use Rattle.pl_output.specs.Mail.{packets_at}
 use Rattle.pl_output.proofs.Appended.{cut_behind, cut_front}
 use Rattle.pl_output.proofs.Fitting.{cut_unfit, fits_front}

@@ -1,27 +1,24 @@
 use Rattle.std.proofs.lemmas.Result.{err_from_is_err_and}
 use Rattle.std.proofs.Common.{◌≡◌, ℕ, suc, ◌+◌, ◌-◌, None, refl, arith}
 use Rattle.pl_inputs.specs.Records.{records_of}
-use Rattle.pl_lines.specs.Lines.{AsksNext}
-use Rattle.pl_lines.specs.Scenes.{Often}
-use Rattle.pl_lines.proofs.Stops.{unless_weaker}
+use Rattle.pl_script_rule.specs.Lines.{AsksNext}
+use Rattle.pl_script_rule.specs.Scenes.{Often}
+use Rattle.pl_script_rule.proofs.Exports.{unless_weaker}
 use Rattle.pl_player.proofs.Stops.{leads_all, led_on, led_stops}
 use Rattle.pl_player.proofs.player.Player.ask_often.Goals as goal
 
 pub loop-init : goal.loop-init
 loop-init g c = (
-  record { counted = c.requires.counted; hearing = c.requires.hearing },
+  record { orderly = c.requires.orderly },
   λ left all. leads_all (λ n. Often n (AsksNext g.S.SwitchLogic.rule g.M.ManagerLogic.rule g.H.HostLogic.rule (records_of c.args.captures.now) c.args.h c.args.raw)) c.args.times left c.args.self.now all,
 )
 
-pub ask_next-requires-clause-counted : goal.ask_next-requires-clause-counted
-ask_next-requires-clause-counted g c = c.loop.invariant.0.counted
-
-pub ask_next-requires-clause-hearing : goal.ask_next-requires-clause-hearing
-ask_next-requires-clause-hearing g c = c.loop.invariant.0.hearing
+pub ask_next-requires : goal.ask_next-requires
+ask_next-requires g c = record { orderly = c.loop.invariant.0.orderly }
 
 pub loop-preserved : goal.loop-preserved
 loop-preserved g c = (
-  record { counted = c.in_ok-ask_next.ensures.counted; hearing = c.in_ok-ask_next.ensures.hearing },
+  record { orderly = c.in_ok-ask_next.ensures.orderly },
   λ left all. led_on (AsksNext g.S.SwitchLogic.rule g.M.ManagerLogic.rule g.H.HostLogic.rule (records_of c.args.captures.now) c.args.h c.args.raw)
       (Often left (AsksNext g.S.SwitchLogic.rule g.M.ManagerLogic.rule g.H.HostLogic.rule (records_of c.args.captures.now) c.args.h c.args.raw))
       (Often c.args.times (AsksNext g.S.SwitchLogic.rule g.M.ManagerLogic.rule g.H.HostLogic.rule (records_of c.args.captures.now) c.args.h c.args.raw))
@@ -40,13 +37,11 @@ returns-in_err-ask_next g c =
           (Often c.args.times (AsksNext g.S.SwitchLogic.rule g.M.ManagerLogic.rule g.H.HostLogic.rule (records_of c.args.captures.now) c.args.h c.args.raw))
           c.loop.self c.ask_next.new.self c.args.self.now c.in_err-ask_next.field-0.0 (c.loop.invariant.1 (suc left) all))
           c.in_err-ask_next.ensures.does;
-      counted = c.in_err-ask_next.ensures.counted;
-      hearing = c.in_err-ask_next.ensures.hearing;
+      orderly = c.in_err-ask_next.ensures.orderly;
     })
 
 pub returns : goal.returns
 returns g c = record {
   does = (c.loop.invariant.1 0 (omega arith)).on None c.loop.self (refl, refl);
-  counted = c.loop.invariant.0.counted;
-  hearing = c.loop.invariant.0.hearing;
+  orderly = c.loop.invariant.0.orderly;
 }

@@ -1,7 +1,7 @@
 use Rattle.std.proofs.Common.{◌≡◌, ℕ, ◌+◌}
 use Rattle.pl_inputs.specs.Records.{records_of}
-use Rattle.pl_lines.specs.Lines.{AsksNext}
-use Rattle.pl_lines.specs.Scenes.{Often}
+use Rattle.pl_script_rule.specs.Lines.{AsksNext}
+use Rattle.pl_script_rule.specs.Scenes.{Often}
 use Rattle.pl_player.proofs.Stops.{Keeps, Leads}
 use Rattle.pl_player.proofs.player.Player.ask_often.Given as goal
 

@@ -1,8 +1,8 @@
 use Rattle.std.proofs.lemmas.Result.{err_from_is_err_and}
 use Rattle.std.proofs.Common.{[], ◌∷◌, None, refl}
 use Rattle.pl_world.specs.Worlds.{WorldView}
-use Rattle.pl_fabric.specs.Courses.{Makes, MakesAll, Stays}
-use Rattle.pl_fabric.proofs.CourseSteps.{then_on, then_stops, unless_weaker}
+use Rattle.pl_fabric.specs.Executions.{Makes, MakesAll, Stays}
+use Rattle.pl_fabric.proofs.Exports.{then_on, then_stops, unless_weaker}
 use Rattle.pl_player.proofs.Stops.{world_ends, world_stops}
 use Rattle.pl_player.proofs.player.Player.happen.Goals as goal
 

@@ -1,8 +1,8 @@
 use Rattle.std.proofs.Common.{[], ◌∷◌, ap, ◌∙◌, subst}
 use Rattle.pl_world.specs.declared.event.Event.{Event}
-use Rattle.pl_lines.specs.Lines.{Happen}
-use Rattle.pl_lines.specs.Queues.{loss}
-use Rattle.pl_lines.specs.Scenes.{Ends}
+use Rattle.pl_script_rule.specs.Lines.{Happen}
+use Rattle.pl_script_rule.specs.Queues.{loss}
+use Rattle.pl_script_rule.specs.Scenes.{Ends}
 use Rattle.pl_player.proofs.player.Player.lose.Goals as goal
 
 pub returns-clause-does : goal.returns-clause-does

@@ -1,6 +1,6 @@
 use Rattle.std.proofs.Common.{drop}
 use Rattle.pl_inputs.specs.Records.{records_of}
-use Rattle.pl_lines.specs.Lines.{DoesLines}
+use Rattle.pl_script_rule.specs.Lines.{DoesLines}
 use Rattle.pl_player.proofs.Played.{PlaysOn}
 use Rattle.pl_player.proofs.Stops.{Keeps}
 use Rattle.pl_player.proofs.player.Player.play.Given as goal

@@ -1,6 +1,6 @@
 use Rattle.std.proofs.Common.{ap, ◌∙◌, map, take, subst, sym}
 use Rattle.std.proofs.lemmas.List.{take-map}
-use Rattle.pl_logic.specs.PortRecords.{aged}
+use Rattle.pl_node.specs.PortRecords.{aged}
 use Rattle.pl_ports.specs.PortsViews.{PortsView}
 use Rattle.pl_ports.specs.SoundPorts.{AreSound}
 use Rattle.pl_ports.proofs.Tables.{sound_aged}

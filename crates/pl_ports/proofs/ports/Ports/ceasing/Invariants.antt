@@ -1,6 +1,6 @@
 use Rattle.std.proofs.Common.{◌≡◌}
 use Rattle.std.specs.List.{filter}
-use Rattle.pl_logic.specs.PortRecords.{ports_of_switch}
+use Rattle.pl_node.specs.PortRecords.{ports_of_switch}
 use Rattle.pl_lists.specs.Ports.{ports_of}
 use Rattle.pl_ports.specs.Changes.{ceases}
 use Rattle.pl_ports.specs.PortsViews.{ports_alone}

@@ -1,6 +1,6 @@
 use Rattle.std.proofs.Common.{ap}
 use Rattle.std.proofs.lemmas.List.{take-replicate}
-use Rattle.pl_logic.specs.PortRecords.{new_port}
+use Rattle.pl_node.specs.PortRecords.{new_port}
 use Rattle.pl_layouts.specs.Placement.{nowhere}
 use Rattle.pl_ports.specs.PortsViews.{PortsView}
 use Rattle.pl_ports.proofs.ports.Ports.new.Goals as goal

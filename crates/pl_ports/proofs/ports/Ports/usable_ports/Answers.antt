@@ -1,4 +1,4 @@
-use Rattle.pl_logic.specs.PortRecords.{is_usable}
+use Rattle.pl_node.specs.PortRecords.{is_usable}
 use Rattle.pl_ports.specs.PortsViews.{ports_alone}
 use Rattle.pl_ports.proofs.PortSets.{set_further}
 use Rattle.pl_ports.proofs.ports.Ports.usable_ports.Goals as goal

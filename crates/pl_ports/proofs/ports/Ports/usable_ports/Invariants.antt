@@ -1,6 +1,6 @@
 use Rattle.std.proofs.Common.{◌≡◌}
 use Rattle.std.specs.List.{filter}
-use Rattle.pl_logic.specs.PortRecords.{is_usable, ports_of_switch}
+use Rattle.pl_node.specs.PortRecords.{is_usable, ports_of_switch}
 use Rattle.pl_lists.specs.Ports.{ports_of}
 use Rattle.pl_ports.specs.PortsViews.{ports_alone}
 use Rattle.pl_ports.proofs.ports.Ports.usable_ports.Given as goal

@@ -1,6 +1,6 @@
 use Rattle.std.proofs.Common.{◌≡◌, ◌∙◌, ◌++◌, if◌then◌else◌, take, drop, sym, ap, subst}
 use Rattle.std.proofs.lemmas.Bool.{lt-ltb}
-use Rattle.pl_logic.specs.SwitchViews.{SwitchView}
+use Rattle.pl_node.specs.SwitchViews.{SwitchView}
 use Rattle.pl_switch_rule.specs.Positions.{frees_others, half, marks}
 use Rattle.pl_position.specs.Holding.{AreHeldByIds, with_holds}
 use Rattle.pl_position.proofs.Fronts.{front_kept}

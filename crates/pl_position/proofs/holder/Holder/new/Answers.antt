@@ -1,6 +1,6 @@
 use Rattle.std.proofs.Common.{◌≤◌, ◌/◌, List, replicate, take, Option, None, ap, ◌∙◌, arith}
 use Rattle.std.proofs.lemmas.List.{take-replicate}
-use Rattle.pl_logic.specs.declared.switch_records.Hold.{Hold}
+use Rattle.pl_node.specs.declared.switch_records.Hold.{Hold}
 use Rattle.pl_position.proofs.holder.Holder.new.Goals as goal
 
 pub returns : goal.returns

@@ -1,5 +1,5 @@
 use Rattle.std.proofs.Common.{◌≡◌, ◌∙◌, ◌++◌, [], ◌∷◌, take, drop, sym, ap, subst}
-use Rattle.pl_logic.specs.declared.acts.Act.TheVariants.{Control}
+use Rattle.pl_node.specs.declared.acts.Act.TheVariants.{Control}
 use Rattle.pl_layouts.specs.declared.control.Control.TheVariants as control
 use Rattle.pl_layouts.specs.Control.{control_frame}
 use Rattle.pl_steps.specs.Steps.{does}

@@ -3,10 +3,10 @@ use Rattle.std.specs.List.{list_any}
 use Rattle.std.specs.Map.{lookup}
 use Rattle.indexmap.specs.IndexMap.{insert_entry}
 use Rattle.pl_layouts.specs.Equality.{same_mac, same_pmac}
-use Rattle.pl_logic.specs.ManagerViews.{LearntAddress, Registration, numbered}
+use Rattle.pl_node.specs.ManagerViews.{LearntAddress, Registration, numbered}
 use Rattle.pl_registry.specs.declared.addresses.Known.{Known}
 use Rattle.pl_registry.specs.declared.addresses.Registered.{Registered}
-use Rattle.pl_registry.specs.Addresses.{AreFound, learnt_at, newest_first}
+use Rattle.pl_registry.specs.Addresses.{FindAddresses, learnt_at, newest_first}
 use Rattle.pl_registry.proofs.Finding.{Latest, Table, found_more, looked_up, newest_added, put_in, updated, unknown_where_not_registered}
 use Rattle.pl_registry.proofs.addresses.Addresses.add.Goals as goal
 
@@ -23,7 +23,7 @@ invariant_of-self-2 c =
     let first = ap (λ (v : List LearntAddress). list_any (λ (r : Registration). same_pmac r.pmac x) (numbered v)) c.self.view_is ∙ c.requires in
     let none = unknown_where_not_registered (newest_first known) known latest x c.self.invariant first in
     let many : c.len.result ≡ length known = c.len.ensures.len ∙ ap length same in
-    subst (λ (v : List LearntAddress). AreFound v after c.insert.new.self.entries)
+    subst (λ (v : List LearntAddress). FindAddresses v after c.insert.new.self.entries)
     (sym (newest_added known after x told none (c.in_ok-insert-2.ensures.entries ∙ put_in x told c.reserve.new.self.entries ∙ ap (λ (es : Table). insert_entry same_pmac es x told) same)))
     (found_more (newest_first known) known after latest c.insert.new.self.entries x told new c.self.invariant first
     (ap (λ n. let r : Registration = record { pmac = x; amac = told.amac; number = n + 1; switch = told.switch } in r) many)

@@ -2,7 +2,7 @@ use Rattle.std.proofs.Common.{◌∙◌, ap, sym, List}
 use Rattle.std.specs.List.{find}
 use Rattle.std.specs.Option.{option_map}
 use Rattle.pl_layouts.specs.Equality.{same_pmac}
-use Rattle.pl_logic.specs.ManagerViews.{LearntAddress, Registration, numbered}
+use Rattle.pl_node.specs.ManagerViews.{LearntAddress, Registration, numbered}
 use Rattle.pl_registry.specs.declared.addresses.Known.{Known}
 use Rattle.pl_registry.specs.Addresses.{learnt_at}
 use Rattle.pl_registry.proofs.Finding.{looked_up}

@@ -6,7 +6,7 @@ use Rattle.indexmap.proofs.CallerLemmas.{keys-insert_entry-present}
 use Rattle.pl_pmac.specs.declared.pmac.Pmac.{Pmac}
 use Rattle.pl_pmac.specs.contracts.pmac.PmacPartialEq.TheImpl.{eq-value}
 use Rattle.pl_layouts.specs.Equality.{same_pmac}
-use Rattle.pl_logic.specs.ManagerViews.{LearntAddress, Registration, numbered}
+use Rattle.pl_node.specs.ManagerViews.{LearntAddress, Registration, numbered}
 use Rattle.pl_manager_rule.specs.ManagerRule.{told_again, with_address}
 use Rattle.pl_registry.specs.declared.addresses.Known.{Known}
 use Rattle.pl_registry.specs.Addresses.{learnt_at, newest_first}

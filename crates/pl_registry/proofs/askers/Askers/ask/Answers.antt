@@ -3,9 +3,9 @@ use Rattle.std.specs.Map.{keys_of, lookup}
 use Rattle.indexmap.proofs.CallerLemmas.{insert_entry-new}
 use Rattle.pl_frame.specs.declared.address.SwitchId.{SwitchId}
 use Rattle.pl_layouts.specs.Equality.{same_switch}
-use Rattle.pl_logic.specs.ManagerViews.{pod_given}
+use Rattle.pl_node.specs.ManagerViews.{pod_given}
 use Rattle.pl_manager_rule.specs.ManagerRule.{with_asker}
-use Rattle.pl_registry.specs.Askers.{AreGiven}
+use Rattle.pl_registry.specs.Askers.{FindPods}
 use Rattle.pl_registry.proofs.Asking.{asks_again, asks_first, first_pod, is_given, newest_asker}
 use Rattle.pl_registry.proofs.askers.Askers.ask.Goals as goal
 
@@ -46,7 +46,7 @@ invariant_of-self-in-None c =
     let pods : Pods = c.self.inside.pods.entries in
     let after : Pods = c.insert.new.self.entries in
     let h = has_given c in
-    subst (λ (v : List SwitchId). AreGiven v after) (sym h.newest)
+    subst (λ (v : List SwitchId). FindPods v after) (sym h.newest)
     (is_given (reverse (keys_of pods)) pods after c.args.switch c.self.invariant h.none h.says h.longer)
 
 pub returns-in_ok-insert-in-None-clause-asked : goal.returns-in_ok-insert-in-None-clause-asked

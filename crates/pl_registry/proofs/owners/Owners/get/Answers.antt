@@ -1,6 +1,6 @@
 use Rattle.std.proofs.Common.{◌∙◌, sym, ap}
-use Rattle.pl_logic.specs.HostViews.{ip_cmp}
-use Rattle.pl_logic.specs.ManagerViews.{value_at}
+use Rattle.pl_node.specs.HostViews.{ip_cmp}
+use Rattle.pl_node.specs.ManagerViews.{value_at}
 use Rattle.pl_registry.proofs.Telling.{told_in_order}
 use Rattle.pl_registry.proofs.owners.Owners.get.Goals as goal
 

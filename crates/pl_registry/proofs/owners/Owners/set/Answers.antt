@@ -1,6 +1,6 @@
 use Rattle.std.proofs.Common.{◌∙◌, ap}
 use Rattle.std.specs.BTreeMap.{insert_entry}
-use Rattle.pl_logic.specs.HostViews.{ip_cmp}
+use Rattle.pl_node.specs.HostViews.{ip_cmp}
 use Rattle.pl_registry.proofs.Telling.{told_more}
 use Rattle.pl_registry.proofs.owners.Owners.set.Goals as goal
 

@@ -1,9 +1,9 @@
 use Rattle.std.proofs.Common.{◌≡◌, ◌∙◌, ◌∷◌, [], ap, sym, List, Option, Some}
 use Rattle.std.specs.Option.{option_map, option_or}
-use Rattle.pl_logic.specs.declared.acts.ManagerAct.{ManagerAct}
-use Rattle.pl_logic.specs.declared.acts.ManagerAct.TheVariants.{Say}
-use Rattle.pl_logic.specs.declared.messages.ToSwitch.TheVariants as say
-use Rattle.pl_logic.specs.ManagerViews.{Learnt}
+use Rattle.pl_node.specs.declared.acts.ManagerAct.{ManagerAct}
+use Rattle.pl_node.specs.declared.acts.ManagerAct.TheVariants.{Say}
+use Rattle.pl_node.specs.declared.messages.ToSwitch.TheVariants as say
+use Rattle.pl_node.specs.ManagerViews.{Learnt}
 use Rattle.pl_manager_rule.specs.ManagerRule.{invalidation}
 use Rattle.pl_registry.specs.declared.addresses.Registered.{Registered}
 use Rattle.pl_registry.specs.Addresses.{registration_of}

@@ -1,7 +1,7 @@
 use Rattle.std.proofs.Common.{◌∙◌, ap}
 use Rattle.std.specs.List.{list_any}
 use Rattle.std.specs.BTreeMap.{is_at}
-use Rattle.pl_logic.specs.ManagerViews.{Told, id_cmp, is_alive}
+use Rattle.pl_node.specs.ManagerViews.{Told, id_cmp, is_alive}
 use Rattle.pl_reports.proofs.Liveness.{any_alive}
 use Rattle.pl_reports.proofs.reports.Reports.is_alive.Goals as goal
 

@@ -1,4 +1,4 @@
-use Rattle.pl_reports.proofs.Keeping.{kept_linked}
+use Rattle.pl_reports.proofs.KeepingReports.{kept_linked}
 use Rattle.pl_reports.proofs.reports.Reports.report.Goals as goal
 
 pub invariant_of-self : goal.invariant_of-self

@@ -1,4 +1,4 @@
-use Rattle.pl_reports.proofs.Keeping.{kept_placed}
+use Rattle.pl_reports.proofs.KeepingReports.{kept_placed}
 use Rattle.pl_reports.proofs.reports.Reports.set_place.Goals as goal
 
 pub invariant_of-self : goal.invariant_of-self

@@ -20,7 +20,7 @@ returns-then-behind_hosts-ports g c =
     let hosts : c.filled_count-hosts.result ≡ length (filled_indices w.from_hosts) =
     c.filled_count-hosts.ensures.count ∙ ap (λ v. length (filled_indices v.from_hosts)) c.self.view_is in
     let ports : c.filled_count-ports.result ≡ length (filled_indices w.out) =
-    c.filled_count-ports.ensures.count ∙ ap (λ bank. length (filled_indices bank)) c.out.ensures ∙ ap (λ v. length (filled_indices v.out)) c.self.view_is in
+    c.filled_count-ports.ensures.count ∙ ap (λ queue_array. length (filled_indices queue_array)) c.out.ensures ∙ ap (λ v. length (filled_indices v.out)) c.self.view_is in
     c.filled_out.ensures
     ∙ at_port w formed c.args.i c.filled_count-hosts.result c.filled_count-ports.result (length (filled_indices w.to_manager)) hosts ports refl
     c.if-i-hosts.false c.if-behind_hosts-ports.true
@@ -32,9 +32,9 @@ returns-then-behind_ports-reports g c =
     let hosts : c.filled_count-hosts.result ≡ length (filled_indices w.from_hosts) =
     c.filled_count-hosts.ensures.count ∙ ap (λ v. length (filled_indices v.from_hosts)) c.self.view_is in
     let ports : c.filled_count-ports.result ≡ length (filled_indices w.out) =
-    c.filled_count-ports.ensures.count ∙ ap (λ bank. length (filled_indices bank)) c.out.ensures ∙ ap (λ v. length (filled_indices v.out)) c.self.view_is in
+    c.filled_count-ports.ensures.count ∙ ap (λ queue_array. length (filled_indices queue_array)) c.out.ensures ∙ ap (λ v. length (filled_indices v.out)) c.self.view_is in
     let reports : c.filled_count-reports.result ≡ length (filled_indices w.to_manager) =
-    c.filled_count-reports.ensures.count ∙ ap (λ bank. length (filled_indices bank)) c.queues.ensures
+    c.filled_count-reports.ensures.count ∙ ap (λ queue_array. length (filled_indices queue_array)) c.queues.ensures
     ∙ ap (λ v. length (filled_indices v.to_manager)) c.self.view_is in
     c.filled_to_manager.ensures
     ∙ at_report w formed c.args.i c.filled_count-hosts.result c.filled_count-ports.result c.filled_count-reports.result hosts ports reports
@@ -47,9 +47,9 @@ returns g c =
     let hosts : c.filled_count-hosts.result ≡ length (filled_indices w.from_hosts) =
     c.filled_count-hosts.ensures.count ∙ ap (λ v. length (filled_indices v.from_hosts)) c.self.view_is in
     let ports : c.filled_count-ports.result ≡ length (filled_indices w.out) =
-    c.filled_count-ports.ensures.count ∙ ap (λ bank. length (filled_indices bank)) c.out.ensures ∙ ap (λ v. length (filled_indices v.out)) c.self.view_is in
+    c.filled_count-ports.ensures.count ∙ ap (λ queue_array. length (filled_indices queue_array)) c.out.ensures ∙ ap (λ v. length (filled_indices v.out)) c.self.view_is in
     let reports : c.filled_count-reports.result ≡ length (filled_indices w.to_manager) =
-    c.filled_count-reports.ensures.count ∙ ap (λ bank. length (filled_indices bank)) c.queues.ensures
+    c.filled_count-reports.ensures.count ∙ ap (λ queue_array. length (filled_indices queue_array)) c.queues.ensures
     ∙ ap (λ v. length (filled_indices v.to_manager)) c.self.view_is in
     c.filled_from_manager.ensures
     ∙ at_order w formed c.args.i c.filled_count-hosts.result c.filled_count-ports.result c.filled_count-reports.result hosts ports reports

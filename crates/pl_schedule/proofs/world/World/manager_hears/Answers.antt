@@ -1,5 +1,5 @@
 use Rattle.std.proofs.Common.{◌∙◌, ap, slice_get, sym}
-use Rattle.pl_world_parts.proofs.Stepping.{can_hear, manager_moved}
+use Rattle.pl_world_parts.proofs.Exports.{can_hear, manager_moved}
 use Rattle.pl_schedule.proofs.world.World.manager_hears.Goals as goal
 
 pub hears-requires : goal.hears-requires

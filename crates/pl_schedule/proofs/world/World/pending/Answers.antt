@@ -1,5 +1,5 @@
 use Rattle.std.proofs.Common.{refl}
-use Rattle.pl_world_parts.proofs.Switching.{pending_seen}
+use Rattle.pl_world_parts.proofs.Exports.{pending_seen}
 use Rattle.pl_schedule.proofs.world.World.pending.Goals as goal
 
 pub returns : goal.returns

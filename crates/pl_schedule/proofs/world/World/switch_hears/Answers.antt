@@ -1,5 +1,5 @@
 use Rattle.pl_world_parts.specs.OneStep.{input_from}
-use Rattle.pl_world_parts.proofs.Stepping.{acts_fit, coming_at, can_come, formed_stepped}
+use Rattle.pl_world_parts.proofs.Exports.{acts_fit, can_come, coming_at, formed_stepped}
 use Rattle.pl_schedule.proofs.world.World.switch_hears.Goals as goal
 
 -- each switch has as many ports as the wiring says

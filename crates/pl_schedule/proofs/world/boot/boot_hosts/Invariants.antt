@@ -1,5 +1,5 @@
 use Rattle.std.proofs.Common.{◌≡◌, map, take}
-use Rattle.pl_logic.specs.HostViews.{boot_host}
+use Rattle.pl_node.specs.HostViews.{boot_host}
 use Rattle.pl_world.specs.Booting.{me_of}
 use Rattle.pl_schedule.proofs.world.boot.boot_hosts.Given as goal
 

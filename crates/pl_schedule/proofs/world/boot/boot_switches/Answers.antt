@@ -1,6 +1,6 @@
 use Rattle.std.proofs.Common.{map, ◌∙◌, ap}
-use Rattle.pl_logic.specs.SwitchFacts.{switch_at_boot}
-use Rattle.pl_world.proofs.Begun.{booted_more}
+use Rattle.pl_node.specs.SwitchFacts.{switch_at_boot}
+use Rattle.pl_world.proofs.Exports.{booted_more}
 use Rattle.pl_schedule.proofs.world.boot.boot_switches.Goals as goal
 
 pub loop-n-preserved : goal.loop-n-preserved

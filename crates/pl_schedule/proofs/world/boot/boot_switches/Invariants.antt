@@ -1,5 +1,5 @@
 use Rattle.std.proofs.Common.{◌≡◌, map, take}
-use Rattle.pl_logic.specs.SwitchFacts.{switch_at_boot}
+use Rattle.pl_node.specs.SwitchFacts.{switch_at_boot}
 use Rattle.pl_schedule.proofs.world.boot.boot_switches.Given as goal
 
 abbrev pub invariant-loop-n : goal.invariant-loop-n

@@ -1,5 +1,5 @@
 use Rattle.std.proofs.Common.{map}
-use Rattle.pl_world_parts.proofs.Switching.{first_ports}
+use Rattle.pl_world_parts.proofs.Exports.{first_ports}
 use Rattle.pl_schedule.proofs.world.boot.boot_with_queues.Goals as goal
 
 pub new-requires-2-clause-ports : goal.new-requires-2-clause-ports

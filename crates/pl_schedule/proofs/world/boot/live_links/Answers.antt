@@ -1,4 +1,4 @@
-use Rattle.pl_world.proofs.Begun.{all_are_live}
+use Rattle.pl_world.proofs.Exports.{all_are_live}
 use Rattle.pl_schedule.proofs.world.boot.live_links.Goals as goal
 
 pub returns : goal.returns

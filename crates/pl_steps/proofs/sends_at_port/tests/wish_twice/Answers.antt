@@ -1,6 +1,6 @@
 use Rattle.std.proofs.Common.{[], ◌∷◌}
-use Rattle.pl_logic.specs.declared.acts.Act.TheVariants.{Tell}
-use Rattle.pl_logic.specs.declared.messages.ToManager.TheVariants.{PodWanted}
+use Rattle.pl_node.specs.declared.acts.Act.TheVariants.{Tell}
+use Rattle.pl_node.specs.declared.messages.ToManager.TheVariants.{PodWanted}
 use Rattle.pl_steps.specs.Steps.{does}
 use Rattle.pl_steps.proofs.Parts.{taken_then}
 use Rattle.pl_steps.proofs.sends_at_port.tests.wish_twice.Goals as goal

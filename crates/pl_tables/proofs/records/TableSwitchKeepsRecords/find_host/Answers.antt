@@ -1,9 +1,9 @@
 use Rattle.std.proofs.Common.{sym, ◌∙◌}
 use Rattle.std.proofs.lemmas.Bool.{and_parts}
-use Rattle.pl_logic.specs.PortRecords.{port_of}
+use Rattle.pl_node.specs.PortRecords.{port_of}
 use Rattle.pl_layouts.specs.Placement.{is_known}
-use Rattle.pl_layouts.proofs.Known.{known_is}
-use Rattle.pl_plain.proofs.HostsKnown.{known_host}
+use Rattle.pl_layouts.proofs.Exports.{known_is}
+use Rattle.pl_switch_state.proofs.Exports.{known_host}
 use Rattle.pl_tables.proofs.records.TableSwitchKeepsRecords.find_host.Goals as goal
 
 pub returns-then-knows_host-clause-taken : goal.returns-then-knows_host-clause-taken

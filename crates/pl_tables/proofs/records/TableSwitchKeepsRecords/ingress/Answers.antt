@@ -1,5 +1,5 @@
 use Rattle.std.proofs.Common.{IfOk, subst}
-use Rattle.pl_logic.specs.SwitchViews.{SwitchView}
+use Rattle.pl_node.specs.SwitchViews.{SwitchView}
 use Rattle.pl_edge.specs.Begun.{left_to_do}
 use Rattle.pl_steps.specs.Taken.{IsTakenUpTo}
 use Rattle.pl_switch_rule.specs.Forwarding.{Choice}

@@ -1,5 +1,5 @@
 use Rattle.std.proofs.Common.{◌≤◌, sym, ap, subst}
-use Rattle.pl_logic.specs.SwitchViews.{SwitchView}
+use Rattle.pl_node.specs.SwitchViews.{SwitchView}
 use Rattle.pl_tables.proofs.Nothing.{nothing_follows}
 use Rattle.pl_tables.proofs.switch_logic.TableSwitchSwitchLogic.boot.Goals as goal
 

@@ -1,5 +1,5 @@
 use Rattle.std.proofs.Common.{subst}
-use Rattle.pl_logic.specs.SwitchViews.{SwitchView}
+use Rattle.pl_node.specs.SwitchViews.{SwitchView}
 use Rattle.pl_tables.specs.Tables.{AreTables}
 use Rattle.pl_tables.proofs.Showing.{tables_shown}
 use Rattle.pl_tables.proofs.table_switch.TableSwitch.tables.Goals as goal

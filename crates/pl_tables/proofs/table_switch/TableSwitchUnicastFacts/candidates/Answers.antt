@@ -1,6 +1,6 @@
 use Rattle.std.proofs.Common.{◌≡◌, sym, subst}
 use Rattle.pl_lists.specs.Ports.{ports_of}
-use Rattle.pl_logic.specs.SwitchViews.{SwitchView}
+use Rattle.pl_node.specs.SwitchViews.{SwitchView}
 use Rattle.pl_switch_rule.specs.Forwarding.{candidates}
 use Rattle.pl_tables.proofs.Showing.{tables_shown}
 use Rattle.pl_tables.proofs.table_switch.TableSwitchUnicastFacts.candidates.Goals as goal

@@ -1,6 +1,6 @@
 use Rattle.std.proofs.Common.{arith, rules, Option, None, Some, IfNone, IsSome}
 use Rattle.pl_wiring.specs.LiveLinks.{LivePorts, IsFor}
-use Rattle.pl_wiring.specs.Peers.{IsBetween}
+use Rattle.pl_wiring.specs.Peers.{LinksSwitches}
 use Rattle.pl_wiring.proofs.Ends.{at_contained}
 use Rattle.pl_wiring.proofs.Live.{made_for_changed, changed, others, flags_within}
 use Rattle.pl_wiring.proofs.links.LinkStates.set.Goals as goal
@@ -13,7 +13,7 @@ pub unwrap-link-requires : goal.unwrap-link-requires
 unwrap-link-requires c =
     let joined = c.requires.linked in
     some_unless c.link.result c.link.ensures.none
-    (λ none. at_contained (λ l. IsBetween l c.args.a.0 c.args.b.0 → ⊥) c.args.wiring.now.links joined.1 none (joined.0, joined.2, joined.3) joined.4)
+    (λ none. at_contained (λ l. LinksSwitches l c.args.a.0 c.args.b.0 → ⊥) c.args.wiring.now.links joined.1 none (joined.0, joined.2, joined.3) joined.4)
 
 pub index_mut-requires : goal.index_mut-requires
 index_mut-requires c =

@@ -1,5 +1,5 @@
 use Rattle.std.proofs.Common.{◌≡◌, ◌∙◌, ap, map, is_some}
-use Rattle.pl_lemmas.proofs.Options.{if_ok}
+use Rattle.pl_lemmas.proofs.Exports.{if_ok}
 use Rattle.pl_wiring.specs.Wired.{plan_of}
 use Rattle.pl_wiring.proofs.Live.{made_for_links, all_live}
 use Rattle.pl_wiring.proofs.wiring.Wiring.linked_ports.Goals as goal

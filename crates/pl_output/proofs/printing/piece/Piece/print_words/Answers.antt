@@ -1,7 +1,7 @@
 use Rattle.std.proofs.Common.{◌∙◌, ap, arith, length, subst}
 use Rattle.std.proofs.lemmas.Result.{err_from_is_err_and}
 use Rattle.pl_journal.specs.Text.{text_after_blank}
-use Rattle.pl_journal.proofs.Printed.{flat_map-field_texts, all_printed}
+use Rattle.pl_journal.proofs.Exports.{all_printed, flat_map-field_texts}
 use Rattle.pl_output.specs.Printed.{IsPrinted}
 use Rattle.pl_output.proofs.PrintedLaws.{printed_more, broken_more}
 use Rattle.pl_output.proofs.printing.piece.Piece.print_words.Goals as goal

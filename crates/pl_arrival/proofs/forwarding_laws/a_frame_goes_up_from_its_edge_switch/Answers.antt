@@ -1,5 +1,0 @@
-use Rattle.pl_arrival.proofs.GoingOn.{from_edge}
-use Rattle.pl_arrival.proofs.forwarding_laws.a_frame_goes_up_from_its_edge_switch.Goals as goal
-
-pub returns : goal.returns
-returns c = from_edge

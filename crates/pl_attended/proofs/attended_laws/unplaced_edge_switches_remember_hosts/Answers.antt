@@ -1,5 +1,0 @@
-use Rattle.pl_attended.proofs.Registered.{run_remembers}
-use Rattle.pl_attended.proofs.attended_laws.unplaced_edge_switches_remember_hosts.Goals as goal
-
-pub returns : goal.returns
-returns g c = run_remembers g.H.HostLogic.rule g.met.H.LawfulHost.lawful g.met.H.HostLogic.sends g.met.H.HostLogic.owns

@@ -1,5 +1,0 @@
-use Rattle.pl_attended_courses.proofs.Empty.{all_empty}
-use Rattle.pl_attended_courses.proofs.settling_laws.a_fabric_at_rest_has_empty_queues.Goals as goal
-
-pub returns : goal.returns
-returns c = λ w rest name there. all_empty w rest.empty name there

@@ -1,9 +1,0 @@
-use Rattle.std.proofs.Common.{length, ap, ◌∙◌, arith}
-use Rattle.pl_banks.specs.Tallies.{marked_indices}
-use Rattle.pl_banks.proofs.TallySums.{few_marked}
-use Rattle.pl_banks.proofs.bit_set.BitSet.count.Goals as goal
-
-pub returns-clause-within : goal.returns-clause-within
-returns-clause-within c =
-    let same = c.count.ensures ∙ ap (λ marks. length (marked_indices marks)) (c.self.invariant ∙ c.self.view_is) in
-    omega (arith, same, few_marked c.args.self.now)

@@ -1,6 +1,0 @@
-use Rattle.std.proofs.Common.{rules}
-use Rattle.pl_banks.proofs.NextBits.{lowest_is_least}
-use Rattle.pl_banks.proofs.words.lowest_bit.Goals as goal
-
-pub returns-clause-least : goal.returns-clause-least
-returns-clause-least c = lowest_is_least c.args.word c.requires (search rules)

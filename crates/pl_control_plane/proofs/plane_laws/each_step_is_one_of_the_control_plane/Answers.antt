@@ -1,7 +1,0 @@
-use Rattle.pl_switch_rule.specs.SwitchRule.{Loose}
-use Rattle.pl_switch_rule.proofs.AccountedSteps.{loose_steps_are_accounted}
-use Rattle.pl_control_plane.proofs.Stepping.{step_in_plane}
-use Rattle.pl_control_plane.proofs.plane_laws.each_step_is_one_of_the_control_plane.Goals as goal
-
-pub returns : goal.returns
-returns g c = step_in_plane Loose g.M.ManagerLogic.rule g.H.HostLogic.rule loose_steps_are_accounted

@@ -1,7 +1,0 @@
-use Rattle.pl_switch_rule.specs.SwitchRule.{Loose}
-use Rattle.pl_switch_rule.proofs.AccountedSteps.{loose_steps_are_accounted}
-use Rattle.pl_control_plane.proofs.KeptInRuns.{step_keeps_hosts}
-use Rattle.pl_control_plane.proofs.plane_laws.each_step_keeps_hosts_at_edges.Goals as goal
-
-pub returns : goal.returns
-returns g c = step_keeps_hosts Loose g.M.ManagerLogic.rule g.H.HostLogic.rule loose_steps_are_accounted g.met.H.HostLogic.sends

@@ -1,5 +1,0 @@
-use Rattle.pl_copies.proofs.Runs.{once_at_first}
-use Rattle.pl_copies.proofs.copy_laws.no_copy_is_on_its_way_at_first.Goals as goal
-
-pub returns : goal.returns
-returns c = once_at_first

@@ -1,5 +1,0 @@
-use Rattle.pl_course_laws.proofs.Courses.{sweeps_one_way}
-use Rattle.pl_course_laws.proofs.course_laws.a_sweep_goes_one_way.Goals as goal
-
-pub returns : goal.returns
-returns g c = sweeps_one_way g.S.SwitchLogic.rule g.M.ManagerLogic.rule g.H.HostLogic.rule

@@ -1,6 +1,0 @@
-use Rattle.pl_entry_laws.proofs.Laws.{registrations_written}
-use Rattle.pl_entry_laws.proofs.entry_laws.registrations_are_written_where_they_are_made.Goals as goal
-
-pub returns : goal.returns
-returns g c = λ old event new step.
-    registrations_written g.S.SwitchLogic.rule g.M.ManagerLogic.rule g.H.HostLogic.rule old event new step g.met.M.ManagerLogic.answers

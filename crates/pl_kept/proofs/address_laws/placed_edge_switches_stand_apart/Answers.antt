@@ -1,5 +1,0 @@
-use Rattle.pl_kept.proofs.Grounding.{grounded}
-use Rattle.pl_kept.proofs.address_laws.placed_edge_switches_stand_apart.Goals as goal
-
-pub returns : goal.returns
-returns c = λ w kept. grounded w kept.counted kept.placed kept.voting kept.given

@@ -1,5 +1,0 @@
-use Rattle.pl_kept.proofs.Keeping.{runs_are_grounded}
-use Rattle.pl_kept.proofs.address_laws.placed_edge_switches_stand_apart_in_every_run.Goals as goal
-
-pub returns : goal.returns
-returns g c = runs_are_grounded g.H.HostLogic.rule g.met.H.HostLogic.sends

@@ -1,7 +1,0 @@
-use Rattle.pl_addresses.proofs.Runs.{since_then}
-use Rattle.pl_kept.proofs.Keeping.{runs_are_grounded}
-use Rattle.pl_kept.proofs.address_laws.what_was_granted_stays_granted_in_every_run.Goals as goal
-
-pub returns : goal.returns
-returns g c = λ plan limits moments more old new can run rest.
-    since_then g.H.HostLogic.rule g.met.H.HostLogic.sends g.met.H.HostLogic.owns plan limits can (runs_are_grounded g.H.HostLogic.rule g.met.H.HostLogic.sends plan limits can) moments more old new run rest

@@ -1,7 +1,0 @@
-use Rattle.pl_kept_courses.proofs.Courses.{draws_keep}
-use Rattle.pl_kept.proofs.Running.{lawful_run_keeps}
-use Rattle.pl_kept_courses.proofs.course_laws.drawn_steps_keep_all_of_it.Goals as goal
-
-pub returns : goal.returns
-returns g c = draws_keep g.S.SwitchLogic.rule g.M.ManagerLogic.rule g.H.HostLogic.rule
-    (lawful_run_keeps g.H.HostLogic.rule g.met.H.HostLogic.sends g.met.H.HostLogic.owns g.S.SwitchLogic.rule g.M.ManagerLogic.rule g.met.S.LooseSwitch.obeys g.met.M.LawfulManager.lawful)

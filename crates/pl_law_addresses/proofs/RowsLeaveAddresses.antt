@@ -1,0 +1,247 @@
+-- Parts of a step of a switch that keep its addresses in order, and how they go together.
+use Rattle.std.proofs.Common.{◌≡◌, ◌≤◌, ◌+◌, ℕ, arith, inl, inr, Bool, true, false, if◌then◌else◌, get_or, List, [], ◌∷◌, ◌++◌, length, Option, Some, None, refl, sym, ap, subst, ◌∙◌, append_assoc}
+use Rattle.std.specs.List.{AllByRecursion}
+use Rattle.std.proofs.lemmas.Bool.{cases_Bool, cases_lt}
+use Rattle.std.proofs.lemmas.Option.{none-some}
+use Rattle.pl_lemmas.proofs.Exports.{all_append}
+use Rattle.pl_frame.specs.declared.address.Ip4.{Ip4}
+use Rattle.pl_frame.specs.declared.address.Mac.{Mac}
+use Rattle.pl_frame.specs.declared.address.SwitchId.{SwitchId}
+use Rattle.pl_node.specs.declared.acts.Act.{Act}
+use Rattle.pl_node.specs.declared.acts.Act.TheVariants as act
+use Rattle.pl_node.specs.declared.messages.ToManager.{ToManager}
+use Rattle.pl_node.specs.declared.messages.ToManager.TheVariants as tell
+use Rattle.pl_node.specs.declared.messages.ToSwitch.{ToSwitch}
+use Rattle.pl_node.specs.declared.switch_records.Grant.{Grant}
+use Rattle.pl_node.specs.declared.switch_records.Source.{Source}
+use Rattle.pl_node.specs.SwitchViews.{SwitchView}
+use Rattle.pl_layouts.specs.declared.place.Place.{Place}
+use Rattle.pl_pmac.specs.declared.pmac.Pmac.{Pmac}
+use Rattle.pl_layouts.specs.Equality.{same_pmac}
+use Rattle.pl_layouts.proofs.Exports.{pmac_is}
+use Rattle.pl_steps.specs.Steps.{SwitchStep, does, rests, ◌▹◌}
+use Rattle.pl_switch_rule.specs.Granting.{granted}
+use Rattle.pl_law_addresses.specs.Registries.{Registry}
+use Rattle.pl_law_addresses.specs.EdgeAddresses.{Edge, IsGoodAddressTable, IsGoodEdge, IsGoodWord, IsGrantedTo, KeepsGrantees, edge_of, is_settled}
+use Rattle.pl_law_addresses.proofs.Changes.{tells_more}
+
+-- what acts tell the manager
+abbrev pub told_by : List Act → List ToManager
+told_by [] = []
+told_by (act.Tell told ∷ acts) = told ∷ told_by acts
+told_by (act ∷ acts) = told_by acts
+
+pub told_append : (xs ys : List Act) → told_by (xs ++ ys) ≡ told_by xs ++ told_by ys
+told_append [] ys = refl
+told_append (act.Tell told ∷ xs) ys = ap (λ ts. told ∷ ts) (told_append xs ys)
+told_append (a ∷ xs) ys = told_append xs ys
+
+-- an act that tells the manager of no address
+abbrev pub IsSilentWord : ToManager → Type 0
+IsSilentWord (tell.Learned pmac amac ip) = ⊥
+IsSilentWord told = Unit {0}
+
+abbrev pub IsSilent : Act → Type 0
+IsSilent (act.Tell told) = IsSilentWord told
+IsSilent (act.Grant pmac amac) = ⊥
+IsSilent act = Unit {0}
+
+abbrev pub AreSilent : List Act → Type 0
+AreSilent acts = AllByRecursion IsSilent acts
+
+silent_word : (own : Mac → Option Ip4) (f : Pmac → Option Grant) (told : ToManager) → IsSilentWord told → IsGoodWord own f told
+silent_word own f (tell.Learned pmac amac ip) is = absurd is
+silent_word own f (tell.Place place) is = tt
+silent_word own f (tell.Link u usable) is = tt
+silent_word own f tell.PodWanted is = tt
+silent_word own f (tell.Query asker asker_ip ip) is = tt
+silent_word own f (tell.Members group any) is = tt
+
+silent_words : (own : Mac → Option Ip4) (f : Pmac → Option Grant) (acts : List Act) → AreSilent acts → AllByRecursion (IsGoodWord own f) (told_by acts)
+silent_words own f [] are = tt
+silent_words own f (act.Tell told ∷ acts) are = (silent_word own f told are.0, silent_words own f acts are.1)
+silent_words own f (act.Grant pmac amac ∷ acts) are = absurd are.0
+silent_words own f (a ∷ acts) are = silent_words own f acts are.1
+
+-- ---- a part that leaves addresses alone
+pub record LeavesAddresses (v : SwitchView) (s : SwitchStep) : Type 0 where
+  pub place : s.view.place ≡ v.place
+  pub k : s.view.k ≡ v.k
+  pub grants : s.view.grants ≡ v.grants
+  pub remembered : s.view.remembered ≡ v.remembered
+  pub silent : AreSilent s.acts
+
+pub aside_does : (v : SwitchView) (acts : List Act) → AreSilent acts → LeavesAddresses v (does v acts)
+aside_does v acts are = record { place = refl; k = refl; grants = refl; remembered = refl; silent = are }
+
+pub aside_then : (v : SwitchView) (s : SwitchStep) (next : SwitchView → SwitchStep) → LeavesAddresses v s → ((w : SwitchView) → LeavesAddresses w (next w)) → LeavesAddresses v (s ▹ next)
+aside_then v s next a each = let b = each s.view in record {
+  place = b.place ∙ a.place;
+  k = b.k ∙ a.k;
+  grants = b.grants ∙ a.grants;
+  remembered = b.remembered ∙ a.remembered;
+  silent = all_append IsSilent s.acts (next s.view).acts a.silent b.silent;
+}
+
+-- ---- what was granted stays granted, and what is granted was not
+-- an address that is granted now was granted to nobody before, and is granted to this host then
+abbrev pub IsNewGrant : SwitchView → SwitchView → Act → Type 0
+IsNewGrant v w (act.Grant x mac) = (granted v x ≡ None) × IsGrantedTo (λ y. granted w y) x mac
+IsNewGrant v w act = Unit {0}
+
+-- how often acts grant an address
+abbrev pub grant_acts : Pmac → List Act → ℕ
+grant_acts x [] = 0
+grant_acts x (act.Grant y mac ∷ acts) = (if same_pmac y x then 1 else 0) + grant_acts x acts
+grant_acts x (act ∷ acts) = grant_acts x acts
+
+grant_acts_append : (x : Pmac) (a b : List Act) → grant_acts x (a ++ b) ≡ grant_acts x a + grant_acts x b
+grant_acts_append x [] b = omega arith
+grant_acts_append x (act.Grant y mac ∷ a) b = let rest = grant_acts_append x a b in omega (arith, rest)
+grant_acts_append x (act ∷ a) b = grant_acts_append x a b
+
+pub record Grows (v : SwitchView) (s : SwitchStep) : Type 0 where
+  pub once : (x : Pmac) → grant_acts x s.acts ≤ 1
+  pub stays : KeepsGrantees (λ x. granted v x) (λ x. granted s.view x)
+  pub fresh : AllByRecursion (IsNewGrant v s.view) s.acts
+
+-- where one of the acts grants an address, it was granted to nobody before, and is granted then
+pub record IsGrantedThen (v w : SwitchView) (x : Pmac) : Type 0 where
+  pub none : granted v x ≡ None
+  pub mac : Mac
+  pub granted_to : IsGrantedTo (λ y. granted w y) x mac
+
+pub some_grant : (v w : SwitchView) (x : Pmac) (acts : List Act) → AllByRecursion (IsNewGrant v w) acts → 1 ≤ grant_acts x acts → IsGrantedThen v w x
+some_grant v w x [] all some = absurd (omega (arith, some))
+some_grant v w x (act.Grant y mac ∷ acts) all some = elim (cases_Bool (same_pmac y x)) [
+  | inl same ↦
+      let is = pmac_is y x same in
+      record { none = ap (λ z. granted v z) (sym is) ∙ all.0.0; mac = mac; granted_to = subst (λ (z : Pmac). IsGrantedTo (λ u. granted w u) z mac) is all.0.1 }
+  | inr other ↦
+      some_grant v w x acts all.1
+      (let sum : (if same_pmac y x then 1 else 0) + grant_acts x acts ≡ 0 + grant_acts x acts = ap (λ b. (if b then 1 else 0) + grant_acts x acts) other in omega (arith, some, sum))
+]
+some_grant v w x (a ∷ acts) all some = some_grant v w x acts all.1 some
+
+silent_counts : (x : Pmac) (acts : List Act) → AreSilent acts → grant_acts x acts ≡ 0
+silent_counts x [] are = refl
+silent_counts x (act.Grant y mac ∷ acts) are = absurd are.0
+silent_counts x (a ∷ acts) are = silent_counts x acts are.1
+
+never_before : (v w : SwitchView) → KeepsGrantees (λ x. granted v x) (λ x. granted w x) → (x : Pmac) → granted w x ≡ None → granted v x ≡ None
+never_before v w stays x none = by (granted v x) refl
+  where
+    by : (o : Option Grant) → granted v x ≡ o → granted v x ≡ None
+    by None is = is
+    by (Some g) is = let still = stays x g.amac (record { grant = g; found = is; to = refl }) in absurd (none-some still.grant (sym none ∙ still.found))
+
+-- seen from an earlier view, and up to a later one
+seen_from : (u v w : SwitchView) → KeepsGrantees (λ x. granted u x) (λ x. granted v x) → (acts : List Act) → AllByRecursion (IsNewGrant v w) acts → AllByRecursion (IsNewGrant u w) acts
+seen_from u v w stays [] all = tt
+seen_from u v w stays (act.Grant x mac ∷ acts) all = ((never_before u v stays x all.0.0, all.0.1), seen_from u v w stays acts all.1)
+seen_from u v w stays (a ∷ acts) all = (tt, seen_from u v w stays acts all.1)
+
+seen_later : (v w z : SwitchView) → KeepsGrantees (λ x. granted w x) (λ x. granted z x) → (acts : List Act) → AllByRecursion (IsNewGrant v w) acts → AllByRecursion (IsNewGrant v z) acts
+seen_later v w z stays [] all = tt
+seen_later v w z stays (act.Grant x mac ∷ acts) all = ((all.0.0, stays x mac all.0.1), seen_later v w z stays acts all.1)
+seen_later v w z stays (a ∷ acts) all = (tt, seen_later v w z stays acts all.1)
+
+silent_grants : (v w : SwitchView) (acts : List Act) → AreSilent acts → AllByRecursion (IsNewGrant v w) acts
+silent_grants v w [] are = tt
+silent_grants v w (act.Grant x mac ∷ acts) are = absurd are.0
+silent_grants v w (a ∷ acts) are = (tt, silent_grants v w acts are.1)
+
+pub grows_from : (u v : SwitchView) (s : SwitchStep) → KeepsGrantees (λ x. granted u x) (λ x. granted v x) → Grows v s → Grows u s
+grows_from u v s stays g = record { once = g.once; stays = λ x mac is. g.stays x mac (stays x mac is); fresh = seen_from u v s.view stays s.acts g.fresh }
+
+pub grows_then : (v : SwitchView) (s : SwitchStep) (next : SwitchView → SwitchStep) → Grows v s → Grows s.view (next s.view) → Grows v (s ▹ next)
+grows_then v s next a b = record {
+  once = λ x.
+      let sum = grant_acts_append x s.acts (next s.view).acts in
+      let first = a.once x in
+      let second = b.once x in
+      elim (cases_lt 0 (grant_acts x s.acts)) [
+        | inr none ↦ omega (arith, sum, none, second)
+        | inl some ↦ elim (cases_lt 0 (grant_acts x (next s.view).acts)) [
+          | inr none ↦ omega (arith, sum, none, first)
+          | inl more ↦
+              let one = some_grant v s.view x s.acts a.fresh (omega (arith, some)) in
+              let two = some_grant s.view (next s.view).view x (next s.view).acts b.fresh (omega (arith, more)) in
+              absurd (none-some one.granted_to.grant (sym two.none ∙ one.granted_to.found))
+        ]
+      ];
+  stays = λ x mac is. b.stays x mac (a.stays x mac is);
+  fresh = all_append (IsNewGrant v (next s.view).view) s.acts (next s.view).acts (seen_later v s.view (next s.view).view b.stays s.acts a.fresh)
+      (seen_from v s.view (next s.view).view a.stays (next s.view).acts b.fresh);
+}
+
+pub same_grantees : (v w : SwitchView) → w.place ≡ v.place → w.grants ≡ v.grants → KeepsGrantees (λ x. granted v x) (λ x. granted w x)
+same_grantees v w place grants = λ x mac is. record {
+  grant = is.grant;
+  found = (λ i. granted (record v { place = place i; grants = grants i }) x) ∙ is.found;
+  to = is.to;
+}
+
+pub grows_aside : (v : SwitchView) (s : SwitchStep) → LeavesAddresses v s → Grows v s
+grows_aside v s a = record { once = λ x. (let none = silent_counts x s.acts a.silent in omega (arith, none)); stays = same_grantees v s.view a.place a.grants; fresh = silent_grants v s.view s.acts a.silent }
+
+-- ---- an edge switch in order, while so much waits to the manager and from it
+module _ (own : Mac → Option Ip4) (r : Registry) (id : Option SwitchId) (down : List ToSwitch) where
+  pub record Good (v : SwitchView) (up : List ToManager) : Type 0 where
+    pub edge : IsGoodEdge own r (edge_of id v up down)
+    pub address_table : IsGoodAddressTable own v
+
+  -- a part of a step keeps it in order, its place and how many ports it has
+  pub record Keeps (v : SwitchView) (s : SwitchStep) : Type 0 where
+    pub good : (up : List ToManager) → Good v up → Good s.view (up ++ told_by s.acts)
+    pub grows : (up : List ToManager) → Good v up → Grows v s
+    pub place : s.view.place ≡ v.place
+    pub k : s.view.k ≡ v.k
+
+  good_up : (v : SwitchView) (a b : List ToManager) → a ≡ b → Good v a → Good v b
+  good_up v a b is good = subst (λ (t : List ToManager). Good v t) is good
+
+  pub keeps_then : (v : SwitchView) (s : SwitchStep) (next : SwitchView → SwitchStep) → Keeps v s → Keeps s.view (next s.view) → Keeps v (s ▹ next)
+  keeps_then v s next a b = record {
+    good = λ up good. good_up (next s.view).view ((up ++ told_by s.acts) ++ told_by (next s.view).acts) (up ++ told_by (s.acts ++ (next s.view).acts))
+        (append_assoc up (told_by s.acts) (told_by (next s.view).acts) ∙ ap (λ ts. up ++ ts) (sym (told_append s.acts (next s.view).acts)))
+        (b.good (up ++ told_by s.acts) (a.good up good));
+    grows = λ up good. grows_then v s next (a.grows up good) (b.grows (up ++ told_by s.acts) (a.good up good));
+    place = b.place ∙ a.place;
+    k = b.k ∙ a.k;
+  }
+
+  pub keeps_either : (v : SwitchView) (test : Bool) (s t : SwitchStep) → (test ≡ true → Keeps v s) → (test ≡ false → Keeps v t) →
+      Keeps v (if test then s else t)
+  keeps_either v true s t a b = a refl
+  keeps_either v false s t a b = b refl
+
+  same_edge : (v w : SwitchView) (up : List ToManager) → w.place ≡ v.place → w.grants ≡ v.grants → edge_of id v up down ≡ edge_of id w up down
+  same_edge v w up place grants = λ i. edge_of id (record v { place = sym place i; grants = sym grants i }) up down
+
+  same_address_table : (v w : SwitchView) → w.place ≡ v.place → w.k ≡ v.k → w.grants ≡ v.grants → w.remembered ≡ v.remembered → IsGoodAddressTable own v → IsGoodAddressTable own w
+  same_address_table v w place k grants remembered b = record {
+    many = ap (λ (gs : List (List Grant)). length gs) grants ∙ b.many ∙ sym k;
+    empty = λ unsettled port. ap (λ (gs : List (List Grant)). get_or gs port []) grants ∙ b.empty (ap (λ (p : Place). is_settled p) (sym place) ∙ unsettled) port;
+    sources = λ port source is. b.sources port source (ap (λ (ss : List (Option Source)). get_or ss port None) (sym remembered) ∙ is);
+  }
+
+  pub same_good : (v w : SwitchView) (up : List ToManager) → w.place ≡ v.place → w.k ≡ v.k → w.grants ≡ v.grants → w.remembered ≡ v.remembered → Good v up → Good w up
+  same_good v w up place k grants remembered good = record {
+    edge = subst (λ (e : Edge). IsGoodEdge own r e) (same_edge v w up place grants) good.edge;
+    address_table = same_address_table v w place k grants remembered good.address_table;
+  }
+
+  pub aside_keeps : (v : SwitchView) (s : SwitchStep) → LeavesAddresses v s → Keeps v s
+  aside_keeps v s a = record {
+    good = λ up good. let same = same_good v s.view up a.place a.k a.grants a.remembered good in record {
+      edge = tells_more own r (edge_of id s.view up down) (told_by s.acts) (silent_words own (edge_of id s.view up down).granted s.acts a.silent) same.edge;
+      address_table = same.address_table;
+    };
+    grows = λ up good. grows_aside v s a;
+    place = a.place;
+    k = a.k;
+  }
+
+  pub rests_keeps : (v : SwitchView) → Keeps v (rests v)
+  rests_keeps v = aside_keeps v (rests v) (aside_does v [] tt)

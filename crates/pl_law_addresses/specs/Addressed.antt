@@ -1,0 +1,91 @@
+-- The addresses of a whole fabric, and what is needed of other parts of it.
+use Rattle.std.specs.Prelude.{◌≡◌, ℕ, true, false, Contains, List, Some, slice_get}
+use Rattle.pl_frame.specs.declared.address.Mac.{Mac}
+use Rattle.pl_pmac.specs.declared.pmac.Pmac.{Pmac}
+use Rattle.pl_wiring.specs.declared.label.SwitchNo.{SwitchNo}
+use Rattle.pl_wiring.specs.declared.link.Peer.TheVariants.{Switch}
+use Rattle.pl_wiring.specs.Peers.{peer_of}
+use Rattle.pl_wiring.specs.Plan.{Plan}
+use Rattle.pl_node.specs.declared.messages.ToManager.{ToManager}
+use Rattle.pl_node.specs.declared.messages.ToSwitch.{ToSwitch}
+use Rattle.pl_node.specs.HostInputs.{HostRule}
+use Rattle.pl_node.specs.ManagerViews.{ManagerView, Registration, registration}
+use Rattle.pl_node.specs.PortRecords.{is_open_to_hosts, port_of}
+use Rattle.pl_node.specs.SwitchViews.{SwitchView}
+use Rattle.pl_manager_rule.specs.Histories.{Word, known}
+use Rattle.pl_manager_rule.specs.ManagerRule.{manager_rule}
+use Rattle.pl_queues.specs.Queues.{items_at}
+use Rattle.pl_switch_rule.specs.Granting.{granted, is_local}
+use Rattle.pl_switch_rule.specs.SwitchRule.{Loose}
+use Rattle.pl_world.specs.declared.item.Item.TheVariants.{Data}
+use Rattle.pl_world.specs.declared.limits.Limits.{Limits}
+use Rattle.pl_world.specs.Booting.{booted}
+use Rattle.pl_world.specs.Changes.{out_of}
+use Rattle.pl_world.specs.Runs.{Moment, WorldRun}
+use Rattle.pl_world.specs.Worlds.{WorldView}
+use Rattle.pl_law_addresses.specs.OwnAddresses.{own_ip}
+use Rattle.pl_law_addresses.specs.Registries.{IsGoodRegistry, registry_of}
+use Rattle.pl_law_addresses.specs.EdgeAddresses.{IsGrantedTo, IsGoodAddressTable, IsGoodEdge, KeepsGrantees, edge_of, is_settled}
+
+-- some switch of the world has the place of this address
+pub record HasHome (switches : List SwitchView) (x : Pmac) : Type 0 where
+  pub switch : ℕ
+  pub view : SwitchView
+  pub found : slice_get switches switch ≡ Some view
+  pub at : is_local view x ≡ true
+
+-- all that the manager knows it was told
+pub record WasTold (k : ℕ) (manager : ManagerView) : Type 0 where
+  pub words : List Word
+  pub knows : manager ≡ known k words
+
+-- The registry is in order, so is each switch with what waits between it and the manager, and a registered address is of the place of some edge
+-- switch.
+pub record AreAddressed (plan : Plan) (manager : ManagerView) (switches : List SwitchView) (up : List (List ToManager)) (down : List (List ToSwitch)) : Type 0 where
+  pub told : WasTold plan.k manager
+  pub registry : IsGoodRegistry (λ mac. own_ip plan mac) (registry_of manager.learnt)
+  pub edges : (s : ℕ) (v : SwitchView) → slice_get switches s ≡ Some v →
+      IsGoodEdge (λ mac. own_ip plan mac) (registry_of manager.learnt) (edge_of (slice_get plan.ids s) v (items_at up s) (items_at down s))
+  pub address_tables : (s : ℕ) (v : SwitchView) → slice_get switches s ≡ Some v → IsGoodAddressTable (λ mac. own_ip plan mac) v
+  pub homed : (x : Pmac) (reg : Registration) → registration manager.learnt x ≡ Some reg → HasHome switches x
+
+abbrev pub IsAddressed : WorldView → Type 0
+IsAddressed w = AreAddressed w.plan w.manager w.switches w.to_manager w.from_manager
+
+-- some switch has granted it to this host
+pub record IsGrantedBySome (switches : List SwitchView) (x : Pmac) (mac : Mac) : Type 0 where
+  pub switch : ℕ
+  pub view : SwitchView
+  pub found : slice_get switches switch ≡ Some view
+  pub granted_to : IsGrantedTo (λ y. granted view y) x mac
+
+-- of two worlds, one later: what was granted by a switch to a host is still granted to it, and a placed edge switch has its place still
+pub record IsStill (switches : List SwitchView) (s : ℕ) (v : SwitchView) : Type 0 where
+  pub view : SwitchView
+  pub found : slice_get switches s ≡ Some view
+  pub keeps : KeepsGrantees (λ x. granted v x) (λ x. granted view x)
+  pub place : is_settled v.place ≡ true → view.place ≡ v.place
+
+abbrev pub StayGranted : List SwitchView → List SwitchView → Type 0
+StayGranted before after = (s : ℕ) (v : SwitchView) → slice_get before s ≡ Some v → IsStill after s v
+
+-- What other parts of the network have to give.
+
+-- no two placed edge switches have one pod and one position
+abbrev pub AreApart : List SwitchView → Type 0
+AreApart switches = (s t : ℕ) (v u : SwitchView) (x : Pmac) → slice_get switches s ≡ Some v → slice_get switches t ≡ Some u →
+    is_local v x ≡ true → is_local u x ≡ true → s ≡ t
+
+-- where a data frame comes over a link, the switch has heard its neighbour there: it takes nobody's frame for a host's
+abbrev pub KnowNeighbours : WorldView → Type 0
+KnowNeighbours w = (s port : ℕ) (t : SwitchNo) (q id : ℕ) (frame : List ℕ) (v : SwitchView) → peer_of w.plan s port ≡ Switch t q →
+    Contains (out_of w s port) (Data id frame) → slice_get w.switches t.0 ≡ Some v → is_open_to_hosts (port_of v q) ≡ false
+
+-- both at once: votes and pods give the first, evidence gives the second
+pub record IsGrounded (w : WorldView) : Type 0 where
+  pub apart : AreApart w.switches
+  pub neighbours : KnowNeighbours w
+
+-- and so in every run from the beginning
+abbrev pub AreGrounded : HostRule → Plan → Limits → Type 0
+AreGrounded host plan limits = (moments : List Moment) (w : WorldView) → WorldRun Loose manager_rule host (booted plan limits) moments w → IsGrounded w

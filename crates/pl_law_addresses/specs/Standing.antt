@@ -1,0 +1,37 @@
+-- Traps that stand, and addresses that are registered.
+use Rattle.std.specs.Prelude.{◌≡◌, ◌⊎◌, ℕ, Contains, List, Option, Some}
+use Rattle.pl_frame.specs.declared.address.Ip4.{Ip4}
+use Rattle.pl_frame.specs.declared.address.Mac.{Mac}
+use Rattle.pl_pmac.specs.declared.pmac.Pmac.{Pmac}
+use Rattle.pl_node.specs.declared.messages.ToSwitch.{ToSwitch}
+use Rattle.pl_node.specs.declared.messages.ToSwitch.TheVariants.{Invalidate}
+use Rattle.pl_node.specs.declared.switch_records.Grant.{Grant}
+use Rattle.pl_node.specs.declared.trap.Trap.{Trap}
+use Rattle.pl_node.specs.SwitchViews.{SwitchView}
+use Rattle.pl_switch_rule.specs.Granting.{granted}
+use Rattle.pl_law_addresses.specs.EdgeAddresses.{IsGrantedTo}
+use Rattle.pl_law_addresses.specs.Registries.{LeadsToNewer, Registry}
+
+-- an edge switch has set a trap from one address to another, with this number
+pub record HasTrap (v : SwitchView) (old new : Pmac) (number : ℕ) : Type 0 where
+  pub grant : Grant
+  pub trap : Trap
+  pub found : granted v old ≡ Some grant
+  pub set : grant.trap ≡ Some trap
+  pub leads_to : trap.new ≡ new
+  pub carries : trap.number ≡ number
+
+-- or is going to: the message that says so waits
+pub record IsOrdered (down : List ToSwitch) (old new : Pmac) (number : ℕ) : Type 0 where
+  pub ip : Option Ip4
+  pub waits : Contains down (Invalidate old new number ip)
+
+-- a trap stands from the moment at which the manager sends it
+abbrev pub IsStanding : SwitchView → List ToSwitch → Pmac → Pmac → ℕ → Type 0
+IsStanding v down old new number = HasTrap v old new number ⊎ IsOrdered down old new number
+
+-- both addresses of it are of one host, and the newer one has a larger number
+pub record LeadsHost (r : Registry) (v : SwitchView) (old new : Pmac) (number : ℕ) : Type 0 where
+  pub mac : Mac
+  pub granted_to : IsGrantedTo (λ x. granted v x) old mac
+  pub leads : LeadsToNewer r old new number mac

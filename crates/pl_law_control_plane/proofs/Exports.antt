@@ -1,0 +1,13 @@
+-- What other crates may name of these proofs.
+pub use Rattle.pl_law_control_plane.proofs.Adjacent.{adjacent_differ, adjacent_labels, adjacent_there, adjacent_turned}
+pub use Rattle.pl_law_control_plane.proofs.KeptInRuns.{kept_in_run, step_keeps_hosts}
+pub use Rattle.pl_law_control_plane.proofs.PlaneQueues.{any_append, booted_view, flat_map_append, nothing_said, told_all, unless_all}
+pub use Rattle.pl_law_control_plane.proofs.Reading.{grant_writable, ldm_writable, proposal_writable, refusal_writable, written_is_read}
+pub use Rattle.pl_law_control_plane.proofs.Silent.{changes_to_silent, changes_told_still, IsSilent, IsStill, learns_source_silent, mute_sends_none, silent_then, still_does, still_mute, still_step, well_passes}
+pub use Rattle.pl_law_control_plane.proofs.SilentFrames.{comes_from_switch_silent}
+pub use Rattle.pl_law_control_plane.proofs.SilentHosts.{answers_silent, floods_silent, invalidates_silent, takes_in_or_spent_silent}
+pub use Rattle.pl_law_control_plane.proofs.Standing.{hosts_at_first}
+pub use Rattle.pl_law_control_plane.proofs.Staying.{plan_stays}
+pub use Rattle.pl_law_control_plane.proofs.StepsOfPlane.{step_in_plane, whole_step}
+pub use Rattle.pl_law_control_plane.proofs.Taking.{nothing_left}
+pub use Rattle.pl_law_control_plane.proofs.Turning.{solid, switch_turns}

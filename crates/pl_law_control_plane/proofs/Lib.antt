@@ -1,0 +1,16 @@
+pub mod Reading
+pub mod PlaneQueues
+pub mod Acting
+pub mod Turning
+pub mod Taking
+pub mod Managing
+pub mod Standing
+pub mod StepsOfPlane
+pub mod Adjacent
+pub mod Silent
+pub mod SilentFrames
+pub mod SilentHosts
+pub mod Staying
+pub mod KeptInRuns
+pub mod Naming
+pub mod Exports

@@ -1,0 +1,15 @@
+pub mod Queued
+pub mod Changing
+pub mod Acting
+pub mod Ways
+pub mod Spreading
+pub mod SinglePasses
+pub mod Turning
+pub mod Happening
+pub mod CopiesInRuns
+pub mod Alone
+pub mod Parts
+pub mod TellingTrue
+pub mod KeepingTrees
+pub mod TreesInRuns
+pub mod Exports

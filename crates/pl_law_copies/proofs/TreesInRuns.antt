@@ -1,0 +1,166 @@
+-- In every run parts of trees lead down, and so at each port at most one frame of each root comes.
+use Rattle.std.proofs.Common.{◌≡◌, ℕ, zero, suc, ◌==◌, ◌<◌, true, List, [], ◌∷◌, ◌++◌, map, Option, None, Some, get_or, slice_get, refl, sym, ap, ◌∙◌, subst, arith}
+use Rattle.std.specs.List.{AllByRecursion}
+use Rattle.std.proofs.lemmas.Bool.{false≢true}
+use Rattle.std.proofs.lemmas.Option.{get_or_from_slice_get, slice_get_within}
+use Rattle.pl_lemmas.proofs.Exports.{replicated}
+use Rattle.pl_frame.specs.declared.address.SwitchId.{SwitchId}
+use Rattle.pl_wiring.specs.declared.label.SwitchNo.{SwitchNo}
+use Rattle.pl_wiring.specs.declared.link.Peer.{Peer}
+use Rattle.pl_wiring.specs.declared.link.Peer.TheVariants.{HostPort, Switch}
+use Rattle.pl_wiring.specs.Labels.{switch_count}
+use Rattle.pl_wiring.specs.Peers.{peer_of}
+use Rattle.pl_wiring.specs.Plan.{IsPlan, Plan}
+use Rattle.pl_node.specs.declared.messages.TreePart.{TreePart}
+use Rattle.pl_node.specs.declared.neighbour.Neighbour.{Neighbour}
+use Rattle.pl_node.specs.HostDuties.{HostsSendData, HostsSendOwn}
+use Rattle.pl_node.specs.HostInputs.{HostRule}
+use Rattle.pl_node.specs.PortRecords.{heard_place, id_at, place_at, port_of}
+use Rattle.pl_node.specs.SwitchFacts.{part_of, switch_at_boot}
+use Rattle.pl_node.specs.SwitchViews.{SwitchView}
+use Rattle.pl_manager_rule.specs.ManagerRule.{manager_rule}
+use Rattle.pl_switch_rule.specs.SwitchRule.{Loose}
+use Rattle.pl_switch_rule.proofs.Exports.{loose_steps_are_accounted}
+use Rattle.pl_world.specs.declared.limits.Limits.{Limits}
+use Rattle.pl_world.specs.Booting.{CanBegin, booted}
+use Rattle.pl_world.specs.Runs.{Befalls, Moment, WorldRun}
+use Rattle.pl_world.specs.Runs.Moment.{Mark, Step}
+use Rattle.pl_world.specs.Worlds.{WorldView}
+use Rattle.pl_world.proofs.Exports.{all_found}
+use Rattle.pl_law_control_plane.specs.ControlPlanes.{AreAdjacent, ControlPlane, control_plane, no_switch}
+use Rattle.pl_law_control_plane.specs.HostsAtEdges.{IsAtEdge}
+use Rattle.pl_law_control_plane.proofs.Exports.{adjacent_turned, plan_stays, step_in_plane}
+use Rattle.pl_law_votes.proofs.Exports.{fixed_are_apart}
+use Rattle.pl_law_pods.proofs.Exports.{numbers_fit}
+use Rattle.pl_law_placing.proofs.Exports.{seen_later, step_seen}
+use Rattle.pl_law_invariant.specs.ControlInvariant.{ControlInvariant}
+use Rattle.pl_law_invariant.proofs.Exports.{grounded, run_keeps_all}
+use Rattle.pl_law_records.specs.Records.{is_neighbour}
+use Rattle.pl_law_records.proofs.Exports.{names_neighbours, neighbour_is}
+use Rattle.pl_law_copies.specs.Copies.{ComesOnce}
+use Rattle.pl_law_copies.specs.Standing.{KnowTrees, KnowsTree}
+use Rattle.pl_law_copies.proofs.CopiesInRuns.{mark_once, once_at_first, step_once}
+use Rattle.pl_law_copies.specs.Trees.{AreTrees, IsTrueOrder, IsTruePart, IsTrueReport, PartLeadsOn}
+use Rattle.pl_law_copies.proofs.KeepingTrees.{level_is, plane_trees}
+use Rattle.pl_law_copies.proofs.Parts.{found_true}
+use Rattle.pl_journal.specs.Flights.{level_of}
+
+-- where places are true and parts lead down, switches know the tree around them
+module _ (w : WorldView) (kept : ControlInvariant w) (trees : AreTrees w.plan (control_plane w)) where
+  f : ControlPlane
+  f = control_plane w
+
+  is : IsPlan w.plan
+  is = kept.counted.formed.plan
+
+  adjacent_back : (t q : ℕ) (u : SwitchNo) (r : ℕ) → peer_of w.plan t q ≡ Switch u r → AreAdjacent w.plan u.0 r t q
+  adjacent_back t q u r peer = adjacent_turned w.plan t q u.0 r is peer
+
+  near_level : (t q : ℕ) (u : SwitchNo) (r n : ℕ) → peer_of w.plan t q ≡ Switch u r → (place_at ((control_plane w).view t) q).level ≡ Some n → n ≡ level_of w.plan.k u.0
+  near_level t q u r n peer level = by_heard (port_of ((control_plane w).view t) q).heard refl level
+    where
+      by_heard : (o : Option Neighbour) → (port_of ((control_plane w).view t) q).heard ≡ o → (heard_place o).level ≡ Some n → n ≡ level_of w.plan.k u.0
+      by_heard None e known = absurd (cc)
+      by_heard (Some x) e known =
+          level_is w.plan (control_plane w) kept.placed u.0 n (((kept.placed.links u.0 r t q (adjacent_back t q u r peer)).recorded.known x e).so.level n known)
+
+  host_port : (t q : ℕ) → (port_of ((control_plane w).view t) q).host ≡ true → peer_of w.plan t q ≡ HostPort
+  host_port t q host = by_peer (peer_of w.plan t q) refl
+    where
+      by_peer : (p : Peer) → peer_of w.plan t q ≡ p → peer_of w.plan t q ≡ HostPort
+      by_peer HostPort e = e
+      by_peer (Switch u r) e = absurd (false≢true (sym (kept.placed.links u.0 r t q (adjacent_back t q u r e)).recorded.no_host ∙ host))
+
+  -- the part of a switch, and the switch that is named at a port of it
+  held_part : (t group : ℕ) (part : TreePart) → part_of ((control_plane w).view t) group ≡ Some part → PartLeadsOn w.plan (level_of w.plan.k t) part
+  held_part t group part has =
+      (found_true (λ part. IsTruePart w.plan (level_of w.plan.k t) (Some part.1)) (λ g. g == group) ((control_plane w).view t).parts (trees.held t) part has).2
+
+  named_there : (t q : ℕ) (u : SwitchNo) (r : ℕ) (id : SwitchId) → peer_of w.plan t q ≡ Switch u r → id_at ((control_plane w).view t) q ≡ Some id →
+      slice_get w.plan.ids u.0 ≡ Some id
+  named_there t q u r id peer known =
+      let named = names_neighbours w kept t q id known in
+      let same : Switch u r ≡ Switch (record { 0 = named.0 }) named.1 = sym peer ∙ named.2 in
+      let there : u.0 ≡ named.0 = ap number_at same in
+      ap (slice_get w.plan.ids) there ∙ named.3
+    where
+      number_at : Peer → ℕ
+      number_at (Switch x y) = x.0
+      number_at HostPort = 0
+
+  pub know_trees : KnowTrees w
+  know_trees = record {
+    free = λ h attachment found. (all_found (IsAtEdge w.plan) w.attachments h attachment found kept.hosts).free;
+    each = λ t v found.
+        let here : (control_plane w).view t ≡ v = get_or_from_slice_get w.switches t v no_switch found in
+        let within = slice_get_within w.switches t v found in
+        let there : t < switch_count w.plan.k = (let many = kept.counted.formed.switches in omega arith) in
+        subst (λ (x : SwitchView). KnowsTree w.plan t x) here (record {
+          level = level_is w.plan (control_plane w) kept.placed t;
+          near = near_level t;
+          strangers = kept.placed.strangers t;
+          hosts = host_port t;
+          members = (kept.placed.sound t there).homes.members;
+          up = λ group part q u r id has peer known. (held_part t group part has).up u.0 id (named_there t q u r id peer known);
+          down = λ group part q u r id has peer known. (held_part t group part has).down u.0 id (named_there t q u r id peer known);
+        });
+    closed = (grounded w kept.counted kept.placed kept.voting kept.given).neighbours;
+  }
+
+-- At the beginning nothing was told.
+
+new_parts : (ids : List SwitchId) (k s : ℕ) → (get_or (map (λ id. switch_at_boot id k) ids) s no_switch).parts ≡ []
+new_parts [] k s = refl
+new_parts (id ∷ ids) k zero = refl
+new_parts (id ∷ ids) k (suc s) = new_parts ids k s
+
+trees_at_first : (plan : Plan) (limits : Limits) → AreTrees plan (control_plane (booted plan limits))
+trees_at_first plan limits = record {
+  reports = λ s. subst (AllByRecursion (IsTrueReport plan s ((control_plane (booted plan limits)).view s).place)) (sym (replicated (switch_count plan.k) s [])) tt;
+  places = tt;
+  links = tt;
+  members = tt;
+  orders = λ s. subst (AllByRecursion (IsTrueOrder plan (level_of plan.k s))) (sym (replicated (switch_count plan.k) s [])) tt;
+  held = λ s. subst (AllByRecursion (λ part. IsTruePart plan (level_of plan.k s) (Some part.1))) (sym (new_parts plan.ids plan.k s)) tt;
+}
+
+-- both at once
+pub record HoldsOnce (w : WorldView) : Type 0 where
+  pub trees : AreTrees w.plan (control_plane w)
+  pub come : ComesOnce w
+
+module _ (host : HostRule) (sends : HostsSendData host) (owns : HostsSendOwn host) where
+  run_more : (old mid new : WorldView) (moments : List Moment) (moment : Moment) → WorldRun Loose manager_rule host old moments mid →
+      Befalls Loose manager_rule host mid moment new → WorldRun Loose manager_rule host old (moments ++ moment ∷ []) new
+  run_more old mid new [] moment run more = (new, subst (λ (w : WorldView). Befalls Loose manager_rule host w moment new) run more, refl)
+  run_more old mid new (first ∷ moments) moment run more = (run.0, run.1, run_more run.0 mid new moments moment run.2 more)
+
+  -- from any moment of a run from the beginning on
+  once_from : (plan : Plan) (limits : Limits) → CanBegin plan → (before : List Moment) (old : WorldView) → WorldRun Loose manager_rule host (booted plan limits) before old →
+      HoldsOnce old → (moments : List Moment) (new : WorldView) → WorldRun Loose manager_rule host old moments new → HoldsOnce new
+  once_from plan limits can before old run holds [] new same = subst HoldsOnce (sym same) holds
+  once_from plan limits can before old run holds (Step event ∷ moments) new rest =
+      let longer = run_more (booted plan limits) old rest.0 before (Step event) run rest.1 in
+      let kept = run_keeps_all host sends owns plan limits before old can run in
+      let after = run_keeps_all host sends owns plan limits (before ++ Step event ∷ []) rest.0 can longer in
+      let taken = step_in_plane Loose manager_rule host loose_steps_are_accounted old event rest.0 kept.counted kept.hosts rest.1.0 rest.1.1 in
+      let same = plan_stays Loose manager_rule (control_plane old) (control_plane rest.0) taken in
+      let grown = seen_later (control_plane old) (control_plane rest.0) (step_seen manager_rule (control_plane old) (control_plane rest.0) kept.counted.formed.plan kept.placed
+      (fixed_are_apart old.plan (control_plane old).view (control_plane old).says kept.counted.formed.plan kept.voting) (numbers_fit (control_plane old) kept.counted.formed.plan kept.given) taken) in
+      let near : (s p : ℕ) (u : SwitchId) → id_at ((control_plane rest.0).view s) p ≡ Some u → is_neighbour old.plan s u ≡ true = λ s p u at.
+      let names = names_neighbours rest.0 after s p u at in
+      subst (λ (x : Plan). is_neighbour x s u ≡ true) same (neighbour_is rest.0.plan s p names.0 names.1 u after.counted.formed.plan names.2 names.3) in
+      let trees = plane_trees old.plan kept.counted.formed.plan (control_plane old) (control_plane rest.0) refl kept.placed grown near holds.trees taken in
+      once_from plan limits can (before ++ Step event ∷ []) rest.0 longer (record {
+        trees = subst (λ (p : Plan). AreTrees p (control_plane rest.0)) (sym same) trees;
+        come = step_once manager_rule host old event rest.0 kept.counted (know_trees old kept holds.trees) rest.1.0 rest.1.1 holds.come;
+      }) moments new rest.2
+  once_from plan limits can before old run holds (Mark entry ∷ moments) new rest =
+      let longer = run_more (booted plan limits) old rest.0 before (Mark entry) run rest.1 in
+      once_from plan limits can (before ++ Mark entry ∷ []) rest.0 longer
+      (subst HoldsOnce (sym rest.1.1) (record { trees = holds.trees; come = mark_once old entry rest.1.0 holds.come })) moments new rest.2
+
+  pub run_once : (plan : Plan) (limits : Limits) (moments : List Moment) (new : WorldView) → CanBegin plan →
+      WorldRun Loose manager_rule host (booted plan limits) moments new → HoldsOnce new
+  run_once plan limits moments new can run =
+      once_from plan limits can [] (booted plan limits) refl (record { trees = trees_at_first plan limits; come = once_at_first plan limits }) moments new run

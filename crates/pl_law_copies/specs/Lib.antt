@@ -1,0 +1,4 @@
+pub mod Copies
+pub mod Standing
+pub mod Alone
+pub mod Trees

@@ -1,0 +1,7 @@
+pub mod TellingPlaces
+pub mod Grounding
+pub mod KeepingControl
+pub mod LawfulRuns
+pub mod ControlInRuns
+pub mod Executions
+pub mod Exports

@@ -1,0 +1,7 @@
+use Rattle.pl_law_invariant.proofs.Executions.{draws_keep}
+use Rattle.pl_law_invariant.proofs.ControlInRuns.{lawful_run_keeps}
+use Rattle.pl_law_invariant.proofs.execution_laws.drawn_steps_keep_all_of_it.Goals as goal
+
+pub returns : goal.returns
+returns g c = draws_keep g.S.SwitchLogic.rule g.M.ManagerLogic.rule g.H.HostLogic.rule
+    (lawful_run_keeps g.H.HostLogic.rule g.met.H.HostLogic.sends g.met.H.HostLogic.owns g.S.SwitchLogic.rule g.M.ManagerLogic.rule g.met.S.LooseSwitch.obeys g.met.M.LawfulManager.lawful)

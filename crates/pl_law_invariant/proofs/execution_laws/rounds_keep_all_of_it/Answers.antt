@@ -1,0 +1,11 @@
+use Rattle.pl_law_invariant.proofs.Executions.{round_keeps, rounds_keep}
+use Rattle.pl_law_invariant.proofs.ControlInRuns.{lawful_run_keeps}
+use Rattle.pl_law_invariant.proofs.execution_laws.rounds_keep_all_of_it.Goals as goal
+
+pub returns-clause-one : goal.returns-clause-one
+returns-clause-one g c = round_keeps g.S.SwitchLogic.rule g.M.ManagerLogic.rule g.H.HostLogic.rule
+    (lawful_run_keeps g.H.HostLogic.rule g.met.H.HostLogic.sends g.met.H.HostLogic.owns g.S.SwitchLogic.rule g.M.ManagerLogic.rule g.met.S.LooseSwitch.obeys g.met.M.LawfulManager.lawful)
+
+pub returns-clause-many : goal.returns-clause-many
+returns-clause-many g c = rounds_keep g.S.SwitchLogic.rule g.M.ManagerLogic.rule g.H.HostLogic.rule
+    (lawful_run_keeps g.H.HostLogic.rule g.met.H.HostLogic.sends g.met.H.HostLogic.owns g.S.SwitchLogic.rule g.M.ManagerLogic.rule g.met.S.LooseSwitch.obeys g.met.M.LawfulManager.lawful)

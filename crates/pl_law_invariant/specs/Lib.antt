@@ -1,0 +1,2 @@
+pub mod ControlInvariant
+pub mod KeepsAll

@@ -1,0 +1,107 @@
+-- The addresses that acts grant, in order.
+use Rattle.std.proofs.Common.{◌≡◌, ◌⊎◌, ◌<◌, ◌+◌, ℕ, if◌then◌else◌, List, [], ◌∷◌, ◌++◌, None, refl, ap, subst, inl, inr}
+use Rattle.std.specs.List.{AllByRecursion}
+use Rattle.pl_frame.specs.declared.address.Mac.{Mac}
+use Rattle.pl_pmac.specs.declared.pmac.Pmac.{Pmac}
+use Rattle.pl_layouts.specs.Equality.{same_pmac}
+use Rattle.pl_node.specs.declared.acts.Act.{Act}
+use Rattle.pl_node.specs.declared.acts.Act.TheVariants as act
+use Rattle.pl_node.specs.SwitchViews.{SwitchView}
+use Rattle.pl_switch_rule.specs.Granting.{granted}
+use Rattle.pl_law_addresses.specs.EdgeAddresses.{IsGrantedTo}
+use Rattle.pl_law_addresses.proofs.Exports.{AreSilent, grant_acts, IsNewGrant}
+
+-- an address is granted to a host
+pub record Giving : Type 0 where
+  pub pmac : Pmac
+  pub mac : Mac
+
+abbrev pub gives : Pmac → Mac → Giving
+gives x mac = record { pmac = x; mac = mac }
+
+abbrev pub givings : List Act → List Giving
+givings [] = []
+givings (act.Grant x mac ∷ acts) = gives x mac ∷ givings acts
+givings (a ∷ acts) = givings acts
+
+-- it is one of them
+abbrev pub IsOneOf : List Giving → Giving → Type 0
+IsOneOf [] g = ⊥
+IsOneOf (h ∷ gs) g = (h ≡ g) ⊎ IsOneOf gs g
+
+pub first_part : (xs ys : List Giving) (g : Giving) → IsOneOf xs g → IsOneOf (xs ++ ys) g
+first_part [] ys g is = absurd is
+first_part (x ∷ xs) ys g is = elim is [ inl here ↦ inl here | inr later ↦ inr (first_part xs ys g later) ]
+
+pub second_part : (xs ys : List Giving) (g : Giving) → IsOneOf ys g → IsOneOf (xs ++ ys) g
+second_part [] ys g is = is
+second_part (x ∷ xs) ys g is = inr (second_part xs ys g is)
+
+pub of_all : (P : Giving → Type 0) (gs : List Giving) (g : Giving) → AllByRecursion P gs → IsOneOf gs g → P g
+of_all P [] g all is = absurd is
+of_all P (h ∷ gs) g all is = elim is [ inl here ↦ subst P here all.0 | inr later ↦ of_all P gs g all.1 later ]
+
+pub all_weaker : (P Q : Giving → Type 0) → ((g : Giving) → P g → Q g) → (gs : List Giving) → AllByRecursion P gs → AllByRecursion Q gs
+all_weaker P Q f [] all = tt
+all_weaker P Q f (g ∷ gs) all = (f g all.0, all_weaker P Q f gs all.1)
+
+pub givings_append : (xs ys : List Act) → givings (xs ++ ys) ≡ givings xs ++ givings ys
+givings_append [] ys = refl
+givings_append (act.Grant x mac ∷ xs) ys = ap (λ gs. gives x mac ∷ gs) (givings_append xs ys)
+givings_append (act.Tell told ∷ xs) ys = givings_append xs ys
+givings_append (act.Control port frame ∷ xs) ys = givings_append xs ys
+givings_append (act.Make frame ∷ xs) ys = givings_append xs ys
+givings_append (act.Redirect old new ∷ xs) ys = givings_append xs ys
+givings_append (act.Pass port frame ∷ xs) ys = givings_append xs ys
+givings_append (act.Take ∷ xs) ys = givings_append xs ys
+givings_append (act.Drop cause ∷ xs) ys = givings_append xs ys
+
+pub none_given : (acts : List Act) → AreSilent acts → givings acts ≡ []
+none_given [] are = refl
+none_given (act.Grant x mac ∷ acts) are = absurd are.0
+none_given (act.Tell told ∷ acts) are = none_given acts are.1
+none_given (act.Control port frame ∷ acts) are = none_given acts are.1
+none_given (act.Make frame ∷ acts) are = none_given acts are.1
+none_given (act.Redirect old new ∷ acts) are = none_given acts are.1
+none_given (act.Pass port frame ∷ acts) are = none_given acts are.1
+none_given (act.Take ∷ acts) are = none_given acts are.1
+none_given (act.Drop cause ∷ acts) are = none_given acts are.1
+
+-- how often an address is granted
+abbrev pub times_given : Pmac → List Giving → ℕ
+times_given x [] = 0
+times_given x (g ∷ gs) = (if same_pmac g.pmac x then 1 else 0) + times_given x gs
+
+pub same_times : (x : Pmac) (acts : List Act) → times_given x (givings acts) ≡ grant_acts x acts
+same_times x [] = refl
+same_times x (act.Grant y mac ∷ acts) = ap (λ n. (if same_pmac y x then 1 else 0) + n) (same_times x acts)
+same_times x (act.Tell told ∷ acts) = same_times x acts
+same_times x (act.Control port frame ∷ acts) = same_times x acts
+same_times x (act.Make frame ∷ acts) = same_times x acts
+same_times x (act.Redirect old new ∷ acts) = same_times x acts
+same_times x (act.Pass port frame ∷ acts) = same_times x acts
+same_times x (act.Take ∷ acts) = same_times x acts
+same_times x (act.Drop cause ∷ acts) = same_times x acts
+
+-- each was granted to nobody before, and is granted then
+abbrev pub IsNewlyGiven : SwitchView → SwitchView → Giving → Type 0
+IsNewlyGiven v w g = (granted v g.pmac ≡ None) × IsGrantedTo (λ y. granted w y) g.pmac g.mac
+
+pub newly_given : (v w : SwitchView) (acts : List Act) → AllByRecursion (IsNewGrant v w) acts → AllByRecursion (IsNewlyGiven v w) (givings acts)
+newly_given v w [] all = tt
+newly_given v w (act.Grant x mac ∷ acts) all = (all.0, newly_given v w acts all.1)
+newly_given v w (act.Tell told ∷ acts) all = newly_given v w acts all.1
+newly_given v w (act.Control port frame ∷ acts) all = newly_given v w acts all.1
+newly_given v w (act.Make frame ∷ acts) all = newly_given v w acts all.1
+newly_given v w (act.Redirect old new ∷ acts) all = newly_given v w acts all.1
+newly_given v w (act.Pass port frame ∷ acts) all = newly_given v w acts all.1
+newly_given v w (act.Take ∷ acts) all = newly_given v w acts all.1
+newly_given v w (act.Drop cause ∷ acts) all = newly_given v w acts all.1
+
+-- of two at one port the later one has the larger vmid
+abbrev pub ComesBefore : Giving → Giving → Type 0
+ComesBefore g h = h.pmac.port ≡ g.pmac.port → g.pmac.vmid < h.pmac.vmid
+
+abbrev pub AreRising : List Giving → Type 0
+AreRising [] = Unit {0}
+AreRising (g ∷ gs) = AllByRecursion (ComesBefore g) gs × AreRising gs

@@ -1,0 +1,14 @@
+pub mod Giving
+pub mod Takes
+pub mod Sourcing
+pub mod StepTakes
+pub mod GrantsWritten
+pub mod AddressTables
+pub mod StepsKeepLedger
+pub mod Numbering
+pub mod Turning
+pub mod EventsKeepLedger
+pub mod Beginning
+pub mod Asking
+pub mod LedgerInRuns
+pub mod Exports

@@ -1,0 +1,158 @@
+-- What each row of a switch grants and remembers.
+use Rattle.std.proofs.Common.{◌≡◌, ◌<◌, ◌≤◌, ◌||◌, ℕ, true, false, List, [], ◌∷◌, length, Option, Some, None, Result, Ok, Err, get_or, refl, sym, ap, subst, ◌∙◌, inl, inr}
+use Rattle.std.proofs.lemmas.Bool.{cases_Bool, cond_both, false≢true}
+use Rattle.std.proofs.lemmas.Option.{none-some}
+use Rattle.pl_frame.specs.declared.address.Mac.{Mac}
+use Rattle.pl_frame.specs.Ethernet.{payload_of, source_of}
+use Rattle.pl_pmac.specs.declared.pmac.Pmac.{Pmac}
+use Rattle.pl_layouts.specs.declared.control.Control.{Control}
+use Rattle.pl_layouts.specs.declared.control.Control.TheVariants as control
+use Rattle.pl_layouts.specs.declared.control.ControlError.{ControlError}
+use Rattle.pl_layouts.specs.declared.place.Place.{Place}
+use Rattle.pl_layouts.specs.Control.{control_in, is_control}
+use Rattle.pl_layouts.specs.Placement.{is_known}
+use Rattle.pl_node.specs.declared.acts.Act.TheVariants as act
+use Rattle.pl_node.specs.declared.messages.ToSwitch.{ToSwitch}
+use Rattle.pl_node.specs.declared.messages.ToSwitch.TheVariants as say
+use Rattle.pl_node.specs.declared.switch_records.Grant.{Grant}
+use Rattle.pl_node.specs.declared.switch_records.Source.{Source}
+use Rattle.pl_node.specs.declared.trap.Trap.{Trap}
+use Rattle.pl_node.specs.PortRecords.{is_open_to_hosts, port_of, with_port}
+use Rattle.pl_node.specs.SwitchInputs.{SwitchInput}
+use Rattle.pl_node.specs.SwitchInputs.SwitchInput.{Comes, Says, Tick}
+use Rattle.pl_node.specs.SwitchViews.{SwitchView}
+use Rattle.pl_node.specs.Traps.{newer_trap}
+use Rattle.pl_journal.specs.declared.cause.Cause.TheVariants as cause
+use Rattle.pl_steps.specs.Steps.{SwitchStep, does, rests, ◌▹◌}
+use Rattle.pl_switch_rule.specs.Announcing.{ticks}
+use Rattle.pl_switch_rule.specs.Delivering.{makes}
+use Rattle.pl_switch_rule.specs.Forwarding.{Choice}
+use Rattle.pl_switch_rule.specs.Granting.{granted, grants_at, is_granted, learns_source}
+use Rattle.pl_switch_rule.specs.Intake.{comes_from_host, takes_in_or_spent}
+use Rattle.pl_switch_rule.specs.Levels.{after_message, becomes_edge, changes_to, finds_host, with_pod}
+use Rattle.pl_switch_rule.specs.Messages.{answer_frame, flood_frame, floods, forgets_members, hears_manager, invalidates, probes, sets_trap, takes_pod}
+use Rattle.pl_switch_rule.specs.Positions.{after_vote}
+use Rattle.pl_switch_rule.specs.SwitchRule.{comes_from_switch, control_comes, data_comes, hears_control, switch_step}
+use Rattle.pl_switch_rule.proofs.Exports.{granted_parts, none_granted}
+use Rattle.pl_law_addresses.specs.EdgeAddresses.{IsGrantedTo, is_settled}
+use Rattle.pl_law_addresses.specs.Registries.{Registry}
+use Rattle.pl_law_addresses.proofs.Exports.{aside_does, edge_placing, floods_aside, forgets_members_aside, granted_within, IsPlacing, keeps_changes, local_settled, makes_aside, message_placing, pod_placing, probes_aside, proposal_aside, same_grantees, switch_frame_aside, takes_in_aside, ticks_aside, vote_placing}
+use Rattle.pl_law_ledger.proofs.Giving.{all_weaker, givings}
+use Rattle.pl_law_ledger.proofs.Sourcing.{changes_takes, learns_takes}
+use Rattle.pl_law_ledger.proofs.Takes.{AreOf, IsFurther, IsListed, Takes, aside_takes, changed_takes, rests_takes, takes_either, takes_then}
+
+-- What is needed of what comes: a frame of a host comes at a port where its host has stood.
+abbrev pub ComesWell : (ℕ → Mac → Type 0) → SwitchView → SwitchInput → Type 0
+ComesWell P v (Comes port frame) = is_control frame ≡ false → is_open_to_hosts (port_of v port) ≡ true → (port < v.k) × P port (source_of frame)
+ComesWell P v Tick = Unit {0}
+ComesWell P v (Says says) = Unit {0}
+
+-- what comes of a change of the place leaves it so
+no_registry : Registry
+no_registry = record { at = λ x. None; newest_of = λ mac. None; ip_at = λ x. None; count = 0 }
+
+settling_place : (v w : SwitchView) → (changes_to v w).view.place ≡ w.place
+settling_place v w = (keeps_changes (λ mac. None) no_registry None [] v w).place
+
+module _ (P : ℕ → Mac → Type 0) where
+  -- a change of the place before a part
+  placing_takes : (v w : SwitchView) (s : SwitchStep) → IsPlacing v w → IsListed v → Takes P w s → Takes P v s
+  placing_takes v w s p listed b = record {
+    given = λ l are. b.given listed_then (λ port source is. are port source (ap (λ (ss : List (Option Source)). get_or ss port None) (sym p.remembered) ∙ is));
+    covers = λ l x g is. elim (b.covers listed_then x g is) [ inl before ↦ inl (before_that x g.amac before) | inr now ↦ inr now ];
+    listed = λ l. b.listed listed_then;
+    few = λ l few. b.few listed_then (λ port. subst (λ (gs : List (List Grant)). length (get_or gs port []) ≤ 65535) (sym p.grants) (few port));
+    sources = λ are. b.sources (λ port source is. are port source (ap (λ (ss : List (Option Source)). get_or ss port None) (sym p.remembered) ∙ is));
+    longer = λ l port. subst (λ (gs : List (List Grant)). length (get_or gs port []) ≤ length (grants_at s.view port)) p.grants (b.longer listed_then port);
+    further = λ l. all_weaker (IsFurther w s.view) (IsFurther v s.view)
+        (λ g is. (subst (λ (gs : List (List Grant)). length (get_or gs g.pmac.port []) < g.pmac.vmid) p.grants is.0, is.1)) (givings s.acts) (b.further listed_then);
+    rising = λ l. b.rising listed_then;
+    settled = λ is. b.settled (ap (λ (q : Place). is_settled q) (p.place is) ∙ is);
+    k = b.k ∙ p.k;
+  }
+    where
+      listed_then : IsListed w
+      listed_then = record {
+        many = ap (λ (gs : List (List Grant)). length gs) p.grants ∙ listed.many ∙ sym p.k;
+        empty = λ unsettled port. elim (cases_Bool (is_settled v.place)) [
+          | inl settled ↦ absurd (false≢true (sym unsettled ∙ ap (λ (q : Place). is_settled q) (p.place settled) ∙ settled))
+          | inr never ↦ ap (λ (gs : List (List Grant)). get_or gs port []) p.grants ∙ listed.empty never port
+        ];
+      }
+
+      before_that : (x : Pmac) (mac : Mac) → IsGrantedTo (λ y. granted w y) x mac → IsGrantedTo (λ y. granted v y) x mac
+      before_that x mac is = elim (cases_Bool (is_settled v.place)) [
+        | inl settled ↦ same_grantees w v (sym (p.place settled)) (sym p.grants) x mac is
+        | inr never ↦
+            absurd (none-some is.grant (sym (none_granted w x (ap (λ (gs : List (List Grant)). get_or gs x.port []) p.grants ∙ listed.empty never x.port)) ∙ is.found))
+      ]
+
+  changing_takes : (v w : SwitchView) → IsPlacing v w → IsListed v → AreOf P v → Takes P v (changes_to v w)
+  changing_takes v w p listed are =
+      placing_takes v w (changes_to v w) p listed
+      (changes_takes P v w (λ port source is. are port source (ap (λ (ss : List (Option Source)). get_or ss port None) (sym p.remembered) ∙ is)))
+
+  module _ (choose : Choice) (v : SwitchView) (listed : IsListed v) (are : AreOf P v) where
+    host_frame : (port : ℕ) (frame : List ℕ) → port < v.k → P port (source_of frame) → Takes P v (comes_from_host choose v port frame)
+    host_frame port frame within of_it =
+        let w : SwitchView = becomes_edge (with_port v port (record (port_of v port) { host = true })) in
+        let learnt = (finds_host v port ▹ (λ u. learns_source u port frame)) in
+        let found = changing_takes v w (edge_placing v port) listed are in
+        let after : SwitchView = (finds_host v port).view in
+        takes_either P v (is_known v.place.level 1 || is_known v.place.level 2) (does v (act.Drop cause.NotPlaced ∷ [])) (learnt ▹ takes_in_or_spent choose port frame)
+        (λ h. aside_takes P v (does v (act.Drop cause.NotPlaced ∷ [])) (aside_does v (act.Drop cause.NotPlaced ∷ []) (tt, tt)))
+        (λ h. takes_then P v learnt (takes_in_or_spent choose port frame)
+        (takes_then P v (finds_host v port) (λ u. learns_source u port frame) found
+        (learns_takes P after port frame (ap (λ (p : Place). p.level) (settling_place v w)) (subst (λ n. port < n) (sym found.k) within) of_it))
+        (aside_takes P learnt.view (takes_in_or_spent choose port frame learnt.view) (takes_in_aside choose port frame learnt.view)))
+
+    control_row : (port : ℕ) (m : Result Control ControlError) → Takes P v (hears_control v port m)
+    control_row port (Err e) = rests_takes P v
+    control_row port (Ok (control.Ldm from m)) = changing_takes v (after_message v port from m) (message_placing v port from m) listed are
+    control_row port (Ok (control.Proposal from p)) = aside_takes P v (hears_control v port (Ok (control.Proposal from p))) (proposal_aside v port from p)
+    control_row port (Ok (control.Vote from vote)) = changing_takes v (after_vote v port vote) (vote_placing v port vote) listed are
+
+    comes_row : (port : ℕ) (frame : List ℕ) → (is_control frame ≡ false → is_open_to_hosts (port_of v port) ≡ true → (port < v.k) × P port (source_of frame)) →
+        Takes P v (switch_step choose v (Comes port frame))
+    comes_row port frame well =
+        takes_either P v (is_control frame) (control_comes v port frame) (data_comes choose v port frame)
+        (λ control. takes_either P v (port_of v port).host (rests v) (hears_control v port (control_in (payload_of frame)))
+        (λ h. rests_takes P v) (λ h. control_row port (control_in (payload_of frame))))
+        (λ other. takes_either P v (is_open_to_hosts (port_of v port)) (comes_from_host choose v port frame) (comes_from_switch choose v port frame)
+        (λ host. host_frame port frame (well other host).0 (well other host).1)
+        (λ h. aside_takes P v (comes_from_switch choose v port frame) (switch_frame_aside choose v port frame)))
+
+    recalled : (old : Pmac) (trap : Trap) (o : Option Grant) → granted v old ≡ o → Takes P v (invalidates v old trap o)
+    recalled old trap None is = rests_takes P v
+    recalled old trap (Some g) is =
+        let here = (granted_parts v old g is).0 in
+        let w : SwitchView = sets_trap v old g trap in
+        takes_then P v (does w [] ▹ forgets_members old.port g.amac) (probes old g)
+        (takes_then P v (does w []) (forgets_members old.port g.amac)
+        (changed_takes P v old g (record g { in_use = false; trap = Some (newer_trap trap g.trap) }) (does w []) here (local_settled v old here)
+        (granted_within v old g is listed.many) is refl refl refl)
+        (aside_takes P w (forgets_members old.port g.amac w) (forgets_members_aside old.port g.amac w)))
+        (aside_takes P (does w [] ▹ forgets_members old.port g.amac).view (probes old g (does w [] ▹ forgets_members old.port g.amac).view)
+        (probes_aside old g (does w [] ▹ forgets_members old.port g.amac).view))
+
+    says_row : (says : ToSwitch) → Takes P v (hears_manager choose v says)
+    says_row (say.Pod pod) =
+        cond_both (takes_pod v pod) (changes_to v (with_pod v (Some pod))) (rests v) (Takes P v)
+        (λ takes. changing_takes v (with_pod v (Some pod)) (pod_placing v pod takes) listed are)
+        (λ h. rests_takes P v)
+    says_row (say.Avoid list) = aside_takes P v (hears_manager choose v (say.Avoid list)) (record { place = refl; k = refl; grants = refl; remembered = refl; silent = tt })
+    says_row (say.Tree group part) = aside_takes P v (hears_manager choose v (say.Tree group part)) (record { place = refl; k = refl; grants = refl; remembered = refl; silent = tt })
+    says_row (say.Answer asker asker_ip ip pmac) =
+        takes_either P v (is_granted v asker) (makes choose (answer_frame asker asker_ip ip pmac) v) (rests v)
+        (λ h. aside_takes P v (makes choose (answer_frame asker asker_ip ip pmac) v) (makes_aside choose (answer_frame asker asker_ip ip pmac) v))
+        (λ h. rests_takes P v)
+    says_row (say.Flood asker asker_ip ip) =
+        takes_either P v (is_granted v asker) (floods v (flood_frame asker asker_ip ip)) (rests v)
+        (λ h. aside_takes P v (floods v (flood_frame asker asker_ip ip)) (floods_aside v (flood_frame asker asker_ip ip)))
+        (λ h. rests_takes P v)
+    says_row (say.Invalidate old new number ip) = recalled old (record { new = new; number = number; ip = ip }) (granted v old) refl
+
+    pub step_takes : (input : SwitchInput) → ComesWell P v input → Takes P v (switch_step choose v input)
+    step_takes (Comes port frame) well = comes_row port frame well
+    step_takes Tick well = aside_takes P v (ticks v) (ticks_aside v)
+    step_takes (Says says) well = says_row says

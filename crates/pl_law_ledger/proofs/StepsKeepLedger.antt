@@ -1,0 +1,233 @@
+-- A step of a switch keeps the ledger.
+use Rattle.std.proofs.Common.{◌≡◌, ◌≢◌, ◌⊎◌, ◌≤◌, ◌<◌, ℕ, true, set, List, [], ◌∷◌, length, Some, slice_get, refl, sym, ap, subst, ◌∙◌, inl, inr, arith}
+use Rattle.std.specs.List.{AllByRecursion}
+use Rattle.std.proofs.lemmas.Bool.{cases_eq}
+use Rattle.std.proofs.lemmas.Option.{none-some, same_Some, slice_get_within}
+use Rattle.pl_lemmas.proofs.Exports.{all_found}
+use Rattle.pl_frame.specs.declared.address.Mac.{Mac}
+use Rattle.pl_pmac.specs.declared.pmac.Pmac.{Pmac}
+use Rattle.pl_pmac.specs.Pmac.{PmacFits, pmac_number}
+use Rattle.pl_pmac.proofs.Exports.{same_pmac_number}
+use Rattle.pl_node.specs.declared.switch_records.Grant.{Grant}
+use Rattle.pl_node.specs.Accounting.{IsShaped}
+use Rattle.pl_node.specs.ManagerViews.{Learnt}
+use Rattle.pl_node.specs.SwitchViews.{SwitchView}
+use Rattle.pl_journal.specs.declared.entry.Entry.{Entry}
+use Rattle.pl_journal.specs.Places.{at_port}
+use Rattle.pl_switch_rule.specs.Granting.{granted, grants_at, is_local, remembered_at}
+use Rattle.pl_switch_rule.proofs.Exports.{granted_parts}
+use Rattle.pl_wiring.specs.Plan.{Plan}
+use Rattle.pl_world.specs.declared.attachment.AttachmentPoint.{AttachmentPoint}
+use Rattle.pl_world.specs.Changes.{host_of}
+use Rattle.pl_law_addresses.specs.Addressed.{AreApart}
+use Rattle.pl_law_addresses.specs.EdgeAddresses.{IsGrantedTo, KeepsGrantees}
+use Rattle.pl_law_addresses.proofs.Exports.{get-set_other, get-set_same, granted_within, number_within}
+use Rattle.pl_law_ledger.specs.Ledgers.{AreEntered, AreInBounds, HasStoodThere, IsBeforeLast, IsEntered, IsGrantedThere}
+use Rattle.pl_law_ledger.proofs.AddressTables.{GivesGood, HasLast, IsFor, SaysAlike, alike, all_backed, backed_later, last_given, last_stays, now_at, still_at}
+use Rattle.pl_law_ledger.proofs.Giving.{AreRising, Giving, IsNewlyGiven, IsOneOf, all_weaker, gives, of_all}
+use Rattle.pl_law_ledger.proofs.Takes.{AreFew, AreOf, IsFurther, IsOfHere}
+use Rattle.pl_law_ledger.proofs.GrantsWritten.{all_written}
+
+-- what a switch has at each place, it has also where another list of switches has it there
+pub at_same : (switches : List SwitchView) (s : ℕ) (w : SwitchView) (t : ℕ) (u : SwitchView) → s < length switches → slice_get (set switches s w) t ≡ Some u →
+    ((t ≡ s) × (w ≡ u)) ⊎ ((t ≢ s) × (slice_get switches t ≡ Some u))
+at_same switches s w t u within is = elim (cases_eq t s) [
+  | inl same ↦ inl (same, same_Some w u (sym (get-set_same switches s w within) ∙ ap (slice_get (set switches s w)) (sym same) ∙ is))
+  | inr other ↦ inr (other, sym (get-set_other switches s t w other) ∙ is)
+]
+
+-- each address that is granted fits
+pub fits_there : (switches : List SwitchView) → AllByRecursion IsShaped switches → AreInBounds switches →
+    ((s : ℕ) (v : SwitchView) (port : ℕ) → slice_get switches s ≡ Some v → length (grants_at v port) ≤ 65535) →
+    (s : ℕ) (v : SwitchView) (x : Pmac) (g : Grant) → slice_get switches s ≡ Some v → granted v x ≡ Some g → PmacFits x
+fits_there switches shaped bounds few s v x g found is =
+    let parts = granted_parts v x g is in
+    let form : IsShaped v = all_found IsShaped switches s v shaped found in
+    let low = bounds s v x found parts.0 in
+    let port : x.port < v.k = granted_within v x g is form.grants in
+    let many = form.high in
+    let last = (number_within (grants_at v x.port) x.vmid g parts.1).1 in
+    let most = few s v x.port found in
+    let pod = low.pod in
+    let position = low.position in
+    record { pod = omega (arith, pod); position = omega (arith, position); port = omega (arith, port, many); vmid = omega (arith, last, most) }
+
+-- the port at which it has stood is written down still
+pub stood_later : (plan : Plan) (s : ℕ) (entries later : List Entry) (mac : Mac) (t port : ℕ) → SaysAlike plan s entries later → HasStoodThere plan entries mac (at_port t port) →
+    HasStoodThere plan later mac (at_port t port)
+stood_later plan s entries later mac t port same is =
+    record { host = is.host; of_mac = is.of_mac; stood = same.stood is.host (at_port t port) ∙ is.stood; for_hosts = is.for_hosts }
+
+module _ (plan : Plan) (learnt : Learnt) (switches : List SwitchView) (attachments : List AttachmentPoint) (entries : List Entry) (before : AreEntered plan learnt switches attachments entries)
+    (s : ℕ) (v w : SwitchView) (gs : List Giving) (found : slice_get switches s ≡ Some v)
+    (shaped : AllByRecursion IsShaped (set switches s w)) (bounds : AreInBounds (set switches s w)) (apart : AreApart (set switches s w))
+    (stays : KeepsGrantees (λ x. granted v x) (λ x. granted w x)) (fresh : AllByRecursion (IsNewlyGiven v w) gs)
+    (of_hosts : AllByRecursion (IsOfHere (λ port mac. HasStoodThere plan entries mac (at_port s port))) gs)
+    (covers : (x : Pmac) (g : Grant) → granted w x ≡ Some g → IsGrantedTo (λ y. granted v y) x g.amac ⊎ IsOneOf gs (gives x g.amac))
+    (further : AllByRecursion (IsFurther v w) gs) (rising : AreRising gs) (few : AreFew w) (sources : AreOf (λ port mac. HasStoodThere plan entries mac (at_port s port)) w) where
+  within : s < length switches
+  within = slice_get_within switches s v found
+
+  there : slice_get (set switches s w) s ≡ Some w
+  there = get-set_same switches s w within
+
+  pub few_now : (t : ℕ) (u : SwitchView) (port : ℕ) → slice_get (set switches s w) t ≡ Some u → length (grants_at u port) ≤ 65535
+  unfolding within
+  few_now t u port is = elim (at_same switches s w t u within is) [
+    | inl here ↦ subst (λ (q : SwitchView). length (grants_at q port) ≤ 65535) here.1 (few port)
+    | inr other ↦ before.few t u port other.1
+  ]
+
+  pub fits_now : (t : ℕ) (u : SwitchView) (x : Pmac) (g : Grant) → slice_get (set switches s w) t ≡ Some u → granted u x ≡ Some g → PmacFits x
+  fits_now t u x g is found = fits_there (set switches s w) shaped bounds few_now t u x g is found
+
+  -- a new address of a number that a granted address has is that one, and the switch is this one
+  one_of_number : (t : ℕ) (u : SwitchView) (x : Pmac) (g : Grant) → slice_get (set switches s w) t ≡ Some u → granted u x ≡ Some g → (h : Giving) → IsNewlyGiven v w h →
+      pmac_number h.pmac ≡ pmac_number x → (h.pmac ≡ x) × (t ≡ s)
+  unfolding within there
+  one_of_number t u x g is found h new same =
+      let fits = fits_now s w h.pmac new.1.grant there new.1.found in
+      let one : h.pmac ≡ x = same_pmac_number h.pmac x fits (fits_now t u x g is found) same in (
+        one,
+        apart t s u w x is there (granted_parts u x g found).0
+            (subst (λ (y : Pmac). is_local w y ≡ true) one (granted_parts w h.pmac new.1.grant new.1.found).0),
+      )
+
+  -- an address that was granted is written down as it was, where no new one has its number
+  entered_old : (t : ℕ) (x : Pmac) (g q : Grant) → q.amac ≡ g.amac → AllByRecursion (λ h. pmac_number h.pmac ≡ pmac_number x → ⊥) gs → IsEntered plan entries t x q →
+      IsEntered plan (all_written plan s entries gs) t x g
+  entered_old t x g q mac none e =
+      let at = still_at plan s gs entries (pmac_number x) e.host (at_port t x.port)
+      (all_weaker (λ h. pmac_number h.pmac ≡ pmac_number x → ⊥) (IsFor plan s (pmac_number x) e.host (at_port t x.port)) (λ h no. inl no) gs none)
+      (record { held = e.held; there = e.there }) in
+      record { host = e.host; of_mac = ap (host_of plan) (sym mac) ∙ e.of_mac; held = at.held; there = at.there; for_hosts = e.for_hosts }
+
+  grants_now : (t : ℕ) (u : SwitchView) (x : Pmac) (g : Grant) → slice_get (set switches s w) t ≡ Some u → granted u x ≡ Some g → IsEntered plan (all_written plan s entries gs) t x g
+  unfolding within there
+  grants_now t u x g is found_there = elim (at_same switches s w t u within is) [
+    | inr other ↦
+        entered_old t x g g refl
+        (all_weaker (IsNewlyGiven v w) (λ h. pmac_number h.pmac ≡ pmac_number x → ⊥) (λ h new same. other.0 (one_of_number t u x g is found_there h new same).1) gs fresh)
+        (before.grants t u x g other.1 found_there)
+    | inl here ↦
+        let mine : granted w x ≡ Some g = ap (λ (q : SwitchView). granted q x) here.1 ∙ found_there in
+        subst (λ (n : ℕ). IsEntered plan (all_written plan s entries gs) n x g) (sym here.0) (elim (covers x g mine) [
+          | inl old ↦
+              entered_old s x g old.grant old.to
+              (all_weaker (IsNewlyGiven v w) (λ h. pmac_number h.pmac ≡ pmac_number x → ⊥)
+              (λ h new same. none-some old.grant (sym new.0 ∙ ap (λ (y : Pmac). granted v y) (one_of_number s w x g there mine h new same).0 ∙ old.found)) gs fresh)
+              (before.grants s v x old.grant found old.found)
+          | inr one ↦
+              let host = of_all (IsOfHere (λ port mac. HasStoodThere plan entries mac (at_port s port))) gs (gives x g.amac) of_hosts one in
+              let all : AllByRecursion (IsFor plan s (pmac_number x) host.host (at_port s x.port)) gs =
+              all_weaker (IsNewlyGiven v w) (IsFor plan s (pmac_number x) host.host (at_port s x.port)) (λ h new. this_or_other x g mine host.host host.of_mac h new) gs fresh in
+              let at = now_at plan s gs entries (gives x g.amac) host.host one host.of_mac all in
+              record { host = host.host; of_mac = host.of_mac; held = at.held; there = at.there; for_hosts = host.for_hosts }
+        ])
+  ]
+    where
+      this_or_other : (x : Pmac) (g : Grant) → granted w x ≡ Some g → (n : ℕ) → host_of plan g.amac ≡ Some n → (h : Giving) → IsNewlyGiven v w h → IsFor plan s (pmac_number x) n (at_port s x.port) h
+      this_or_other x g mine n of h new = elim (cases_eq (pmac_number h.pmac) (pmac_number x)) [
+        | inr other ↦ inl other
+        | inl same ↦
+            let it : h.pmac ≡ x = (one_of_number s w x g there mine h new same).0 in
+            let grant : new.1.grant ≡ g = same_Some new.1.grant g (sym new.1.found ∙ ap (λ (y : Pmac). granted w y) it ∙ mine) in
+            inr (ap (host_of plan) (sym new.1.to ∙ ap (λ (q : Grant). q.amac) grant) ∙ of, ap (λ (y : Pmac). at_port s y.port) it)
+      ]
+
+  -- ---- the last address of a host at a port
+  -- one that is granted at the port to the host, not before x
+  IsNotBefore : ℕ → ℕ → ℕ → Pmac → Type 0
+  IsNotBefore h p vmid y = (g : Grant) × (granted w y ≡ Some g) × (host_of plan g.amac ≡ Some h) × (y.port ≡ p) × (vmid ≤ y.vmid)
+
+  last_now : (x : Pmac) (g : Grant) (h : ℕ) → granted w x ≡ Some g → host_of plan g.amac ≡ Some h → IsBeforeLast plan (all_written plan s entries gs) s w h x
+  unfolding within there IsNotBefore
+  last_now x g h is of = found_last (elim (covers x g is) [
+    | inr one ↦
+        last_given plan s gs entries (IsNotBefore h x.port x.vmid) (gives x g.amac) h one rising of (g, is, of, refl, omega arith)
+        (all_weaker (IsNewlyGiven v w) (λ f. host_of plan f.mac ≡ Some h → f.pmac.port ≡ x.port → x.vmid ≤ f.pmac.vmid → IsNotBefore h x.port x.vmid f.pmac)
+        (λ f new mine port more. (new.1.grant, new.1.found, ap (host_of plan) new.1.to ∙ mine, port, more)) gs fresh)
+    | inl old ↦
+        let last = before.newest s v x old.grant h found old.found (ap (host_of plan) old.to ∙ of) in
+        let still = stays last.last last.grant.amac (record { grant = last.grant; found = last.found; to = refl }) in
+        let low = (number_within (grants_at v x.port) x.vmid old.grant (granted_parts v x old.grant old.found).1).1 in
+        last_stays plan s gs entries (IsNotBefore h x.port x.vmid) s h x.port
+        (new_behind gs fresh further low)
+        (record { last = last.last; is_last = last.is_last; good = (still.grant, still.found, ap (host_of plan) still.to ∙ last.of_mac, last.same_port, last.not_before) })
+  ])
+    where
+      found_last : HasLast plan s (all_written plan s entries gs) (IsNotBefore h x.port x.vmid) s h x.port → IsBeforeLast plan (all_written plan s entries gs) s w h x
+      found_last l = record { last = l.last; grant = l.good.0; is_last = l.is_last; found = l.good.1; of_mac = l.good.2; same_port = l.good.3; not_before = l.good.4 }
+
+      new_behind : (fs : List Giving) → AllByRecursion (IsNewlyGiven v w) fs → AllByRecursion (IsFurther v w) fs → x.vmid ≤ length (grants_at v x.port) →
+          AllByRecursion (GivesGood plan s (IsNotBefore h x.port x.vmid) s h x.port) fs
+      new_behind [] new more low = tt
+      new_behind (f ∷ fs) new more low = (
+        λ mine at. (
+          new.0.1.grant,
+          new.0.1.found,
+          ap (host_of plan) new.0.1.to ∙ mine,
+          at.1,
+          (let high = subst (λ (n : ℕ). length (grants_at v n) < f.pmac.vmid) at.1 more.0.0 in omega (arith, low, high)),
+        ),
+        new_behind fs new.1 more.1 low,
+      )
+
+  newest_now : (t : ℕ) (u : SwitchView) (x : Pmac) (g : Grant) (h : ℕ) → slice_get (set switches s w) t ≡ Some u → granted u x ≡ Some g → host_of plan g.amac ≡ Some h →
+      IsBeforeLast plan (all_written plan s entries gs) t u h x
+  unfolding within there IsNotBefore
+  newest_now t u x g h is found_there of = elim (at_same switches s w t u within is) [
+    | inl here ↦
+        subst (λ (n : ℕ). IsBeforeLast plan (all_written plan s entries gs) n u h x) (sym here.0)
+        (subst (λ (q : SwitchView). IsBeforeLast plan (all_written plan s entries gs) s q h x) here.1
+        (last_now x g h (ap (λ (q : SwitchView). granted q x) here.1 ∙ found_there) of))
+    | inr other ↦
+        let last = before.newest t u x g h other.1 found_there of in
+        let l = last_stays plan s gs entries (λ y. y ≡ last.last) t h x.port
+        (all_weaker (IsNewlyGiven v w) (GivesGood plan s (λ y. y ≡ last.last) t h x.port) (λ f new mine at. absurd (other.0 (sym at.0))) gs fresh)
+        (record { last = last.last; is_last = last.is_last; good = refl }) in
+        record {
+          last = last.last;
+          grant = last.grant;
+          is_last = l.is_last ∙ ap Some l.good;
+          found = last.found;
+          of_mac = last.of_mac;
+          same_port = last.same_port;
+          not_before = last.not_before;
+        }
+  ]
+
+  -- what was granted there is still
+  backed_now : (x : Pmac) (t port : ℕ) → IsGrantedThere switches x t port → IsGrantedThere (set switches s w) x t port
+  unfolding there
+  backed_now x t port is = elim (cases_eq t s) [
+    | inr other ↦ record { view = is.view; grant = is.grant; found = get-set_other switches s t w other ∙ is.found; is = is.is; port_is = is.port_is }
+    | inl same ↦
+        let view : is.view ≡ v = same_Some is.view v (sym is.found ∙ ap (slice_get switches) same ∙ found) in
+        let still = stays x is.grant.amac (record { grant = is.grant; found = ap (λ (q : SwitchView). granted q x) (sym view) ∙ is.is; to = refl }) in
+        record { view = w; grant = still.grant; found = ap (slice_get (set switches s w)) same ∙ there; is = still.found; port_is = is.port_is }
+  ]
+
+  pub step_entered : AreEntered plan learnt (set switches s w) attachments (all_written plan s entries gs)
+  unfolding within there
+  step_entered =
+      let same = alike plan s gs entries in
+      record {
+        grants = grants_now;
+        newest = newest_now;
+        backed = all_backed plan s (set switches s w) gs entries
+            (all_weaker (IsNewlyGiven v w) (λ g. IsGrantedThere (set switches s w) g.pmac s g.pmac.port)
+            (λ g new. record { view = w; grant = new.1.grant; found = there; is = new.1.found; port_is = refl }) gs fresh)
+            (backed_later switches (set switches s w) backed_now entries before.backed);
+        few = few_now;
+        sources = λ t u port source is has. elim (at_same switches s w t u within is) [
+          | inr other ↦ stood_later plan s entries (all_written plan s entries gs) source.amac t port same (before.sources t u port source other.1 has)
+          | inl here ↦
+              subst (λ (n : ℕ). HasStoodThere plan (all_written plan s entries gs) source.amac (at_port n port)) (sym here.0)
+              (stood_later plan s entries (all_written plan s entries gs) source.amac s port same
+              (sources port source (ap (λ (q : SwitchView). remembered_at q port) here.1 ∙ has)))
+        ];
+        standing = λ h attachment is. same.stood h (at_port attachment.edge.0 attachment.port) ∙ before.standing h attachment is;
+        numbers = λ x fits. same.numbers (pmac_number x) ∙ before.numbers x fits;
+        count = same.count ∙ before.count;
+      }

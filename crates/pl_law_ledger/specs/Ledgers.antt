@@ -1,0 +1,95 @@
+-- What the journal says of addresses is what the switches granted and the fabric manager registered.
+use Rattle.std.specs.Prelude.{◌≡◌, ◌≤◌, ◌<◌, ℕ, ◌^◌, true, List, [], ◌∷◌, length, reverse, Some, slice_get}
+use Rattle.std.specs.List.{AllByRecursion}
+use Rattle.pl_frame.specs.declared.address.Mac.{Mac}
+use Rattle.pl_pmac.specs.declared.pmac.Pmac.{Pmac}
+use Rattle.pl_pmac.specs.Pmac.{PmacFits, pmac_number}
+use Rattle.pl_wiring.specs.declared.link.Peer.TheVariants.{HostPort}
+use Rattle.pl_wiring.specs.Peers.{peer_of}
+use Rattle.pl_wiring.specs.Plan.{Plan}
+use Rattle.pl_journal.specs.declared.entry.Entry.{Entry}
+use Rattle.pl_journal.specs.declared.entry.Entry.TheVariants.{Granted, Moved, Registered}
+use Rattle.pl_journal.specs.Places.{EdgePort, at_port, granted_at, has_stood, holder, number, registered, edge_port}
+use Rattle.pl_node.specs.declared.switch_records.Grant.{Grant}
+use Rattle.pl_node.specs.declared.switch_records.Source.{Source}
+use Rattle.pl_node.specs.ManagerViews.{Learnt, registry}
+use Rattle.pl_node.specs.SwitchViews.{SwitchView}
+use Rattle.pl_switch_rule.specs.Granting.{granted, grants_at, is_local, remembered_at}
+use Rattle.pl_world.specs.declared.attachment.AttachmentPoint.{AttachmentPoint}
+use Rattle.pl_world.specs.Changes.{host_of}
+use Rattle.pl_world.specs.Worlds.{WorldView}
+use Rattle.pl_law_addresses.specs.Registries.{number_of, registry_of}
+
+-- the entries that grant or register an address, or move a host; the newest stands first
+abbrev pub ledger : List Entry → List Entry
+ledger [] = []
+ledger (Granted x h e p ∷ past) = Granted x h e p ∷ ledger past
+ledger (Registered x n ∷ past) = Registered x n ∷ ledger past
+ledger (Moved h e p ∷ past) = Moved h e p ∷ ledger past
+ledger (entry ∷ past) = ledger past
+
+-- the host of an actual address stands or has stood at a port for hosts
+pub record HasStoodThere (plan : Plan) (entries : List Entry) (mac : Mac) (there : EdgePort) : Type 0 where
+  pub host : ℕ
+  pub of_mac : host_of plan mac ≡ Some host
+  pub stood : has_stood plan entries host there ≡ true
+  pub for_hosts : peer_of plan there.edge there.port ≡ HostPort
+
+-- an address that switch s granted is written down: to whom, and where
+pub record IsEntered (plan : Plan) (entries : List Entry) (s : ℕ) (x : Pmac) (g : Grant) : Type 0 where
+  pub host : ℕ
+  pub of_mac : host_of plan g.amac ≡ Some host
+  pub held : holder entries (pmac_number x) ≡ Some host
+  pub there : edge_port entries (pmac_number x) ≡ Some (at_port s x.port)
+  pub for_hosts : peer_of plan s x.port ≡ HostPort
+
+-- of the addresses that switch s granted to a host at the port of this one, the last that is written down was not granted before it
+pub record IsBeforeLast (plan : Plan) (entries : List Entry) (s : ℕ) (v : SwitchView) (h : ℕ) (x : Pmac) : Type 0 where
+  pub last : Pmac
+  pub grant : Grant
+  pub is_last : granted_at entries h (at_port s x.port) ≡ Some last
+  pub found : granted v last ≡ Some grant
+  pub of_mac : host_of plan grant.amac ≡ Some h
+  pub same_port : last.port ≡ x.port
+  pub not_before : x.vmid ≤ last.vmid
+
+-- an address that is written down as granted at a port is granted there
+pub record IsGrantedThere (switches : List SwitchView) (x : Pmac) (s port : ℕ) : Type 0 where
+  pub view : SwitchView
+  pub grant : Grant
+  pub found : slice_get switches s ≡ Some view
+  pub is : granted view x ≡ Some grant
+  pub port_is : port ≡ x.port
+
+abbrev pub IsBacked : List SwitchView → Entry → Type 0
+IsBacked switches (Granted x h e p) = IsGrantedThere switches x e.0 p
+IsBacked switches entry = Unit {0}
+
+pub record AreEntered (plan : Plan) (learnt : Learnt) (switches : List SwitchView) (attachments : List AttachmentPoint) (entries : List Entry) : Type 0 where
+  -- each address that a switch granted is written down, and each one that is written down is granted
+  pub grants : (s : ℕ) (v : SwitchView) (x : Pmac) (g : Grant) → slice_get switches s ≡ Some v → granted v x ≡ Some g → IsEntered plan entries s x g
+  pub backed : AllByRecursion (IsBacked switches) entries
+  pub newest : (s : ℕ) (v : SwitchView) (x : Pmac) (g : Grant) (h : ℕ) → slice_get switches s ≡ Some v → granted v x ≡ Some g → host_of plan g.amac ≡ Some h →
+      IsBeforeLast plan entries s v h x
+  -- no port has more than 65,535 addresses
+  pub few : (s : ℕ) (v : SwitchView) (port : ℕ) → slice_get switches s ≡ Some v → length (grants_at v port) ≤ 65535
+  -- each source that a switch remembers at a port is a host's that has stood there
+  pub sources : (s : ℕ) (v : SwitchView) (port : ℕ) (source : Source) → slice_get switches s ≡ Some v → remembered_at v port ≡ Some source →
+      HasStoodThere plan entries source.amac (at_port s port)
+  -- where a host stands is written down
+  pub standing : (h : ℕ) (attachment : AttachmentPoint) → slice_get attachments h ≡ Some attachment → has_stood plan entries h (at_port attachment.edge.0 attachment.port) ≡ true
+  -- each number that is written down was registered
+  pub numbers : (x : Pmac) → PmacFits x → number entries (pmac_number x) ≡ number_of (registry_of learnt) x
+  pub count : registered entries ≡ length (registry learnt)
+
+-- So it is in a world.
+abbrev pub IsLedger : WorldView → Type 0
+IsLedger w = AreEntered w.plan w.manager.learnt w.switches w.attachments (ledger (reverse w.journal))
+
+-- What is needed of other parts: pods and positions of placed edge switches are numbers of one byte.
+pub record IsOfOneByteEach (x : Pmac) : Type 0 where
+  pub pod : x.pod < 2 ^ 8
+  pub position : x.position < 2 ^ 8
+
+abbrev pub AreInBounds : List SwitchView → Type 0
+AreInBounds switches = (s : ℕ) (v : SwitchView) (x : Pmac) → slice_get switches s ≡ Some v → is_local v x ≡ true → IsOfOneByteEach x

@@ -1,0 +1,29 @@
+ghost use Rattle.pl_wiring.specs.Plan.{Plan};
+ghost use Rattle.pl_manager_rule.specs.ManagerRule.{manager_rule};
+ghost use Rattle.pl_switch_rule.specs.SwitchRule.{Loose};
+ghost use Rattle.pl_world.specs.declared.event.Event.{Event};
+ghost use Rattle.pl_world.specs.declared.limits.Limits.{Limits};
+ghost use Rattle.pl_world.specs.Booting.{booted};
+ghost use Rattle.pl_world.specs.Flying.{IsCounted};
+ghost use Rattle.pl_world.specs.WorldRule.{WorldStep};
+ghost use Rattle.pl_world.specs.Worlds.{WorldView};
+ghost use Rattle.pl_law_control_plane.specs.HostsAtEdges.{HostsAtEdges};
+ghost use Rattle.pl_law_addresses.specs.Addressed.{AreApart, IsGrounded};
+ghost use Rattle.pl_law_addresses.specs.InOrder.{AddressesAreInOrder};
+ghost use Rattle.pl_law_ledger.specs.Ledgers.{AreInBounds, IsLedger};
+
+use pl_node::HostLogic;
+
+/// At the beginning no address is granted or registered, and the journal says so.
+pub fn the_ledger_begins_empty()
+    ensures { (plan : Plan) (limits : Limits) → IsLedger (booted plan limits) }
+{}
+
+/// Each step keeps it that the journal says of addresses what the switches granted and the fabric manager
+/// registered, whichever candidates the switches choose, where hosts stand at edge switches, addresses are in
+/// order, placed edge switches stand apart, and their pods and positions are numbers of one byte.
+pub fn each_step_keeps_the_ledger<H: HostLogic>()
+    ensures { (old : WorldView) (event : Event) (new : WorldView) → IsCounted old → IsCounted new → HostsAtEdges old → AddressesAreInOrder old → IsGrounded old →
+        AreApart new.switches → AreInBounds old.switches → AreInBounds new.switches → WorldStep Loose manager_rule H.rule old event new →
+        IsLedger old → IsLedger new }
+{}

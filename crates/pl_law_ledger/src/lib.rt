@@ -1,0 +1,17 @@
+//! What the journal says of addresses is what the switches granted and the fabric manager registered: so it
+//! is at the beginning, and each step keeps it, over the definitions of the world and of the rules alone.
+//!
+//! In every run the journal says of addresses what the switches granted and the fabric manager registered,
+//! and no more numbers of pods are given than there are pods.
+#![tactic(auto)]
+
+pub use ledger_laws::{each_step_keeps_the_ledger, the_ledger_begins_empty};
+pub use run_laws::{
+    no_more_numbers_are_given_than_there_are_pods,
+    only_edge_switches_with_position_0_ask_in_every_run,
+    pods_and_positions_are_of_one_byte_in_every_run,
+    the_journal_says_what_was_granted_in_every_run, what_is_known_of_places_is_known_later,
+};
+
+mod ledger_laws;
+mod run_laws;

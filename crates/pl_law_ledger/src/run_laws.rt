@@ -1,0 +1,44 @@
+ghost use Rattle.std.specs.Prelude.{◌≡◌, ◌≤◌, ℕ, None, length};
+ghost use Rattle.pl_node.specs.ManagerViews.{pods_given};
+ghost use Rattle.pl_manager_rule.specs.ManagerRule.{manager_rule};
+ghost use Rattle.pl_switch_rule.specs.SwitchRule.{Loose};
+ghost use Rattle.pl_world.specs.declared.event.Event.{Event};
+ghost use Rattle.pl_world.specs.Refusals.{refusal};
+ghost use Rattle.pl_world.specs.Runs.{InEveryRun};
+ghost use Rattle.pl_world.specs.WorldRule.{WorldStep};
+ghost use Rattle.pl_world.specs.Worlds.{WorldView};
+ghost use Rattle.pl_law_control_plane.specs.ControlPlanes.{control_plane};
+ghost use Rattle.pl_law_places.specs.Told.{IsTrueOf};
+ghost use Rattle.pl_law_invariant.specs.ControlInvariant.{ControlInvariant};
+ghost use Rattle.pl_law_ledger.specs.Ledgers.{AreInBounds, IsLedger};
+ghost use Rattle.pl_law_ledger.specs.Askers.{ZerosAsk};
+
+use pl_node::HostLogic;
+
+/// In every run the journal says of addresses what the switches granted and the fabric manager registered:
+/// to whom and where each address was granted, its number, where hosts stand and have stood.
+pub fn the_journal_says_what_was_granted_in_every_run<H: HostLogic>()
+    ensures { InEveryRun Loose manager_rule H.rule IsLedger }
+{}
+
+/// In every run only edge switches with position 0 ask for the number of a pod.
+pub fn only_edge_switches_with_position_0_ask_in_every_run<H: HostLogic>()
+    ensures { InEveryRun Loose manager_rule H.rule (λ new. ZerosAsk (control_plane new)) }
+{}
+
+/// So no more numbers are given than there are pods.
+pub fn no_more_numbers_are_given_than_there_are_pods<H: HostLogic>()
+    ensures { InEveryRun Loose manager_rule H.rule (λ new. length (pods_given new.manager.askers) ≤ new.plan.k) }
+{}
+
+/// And the pods and positions of placed edge switches are numbers of one byte.
+pub fn pods_and_positions_are_of_one_byte_in_every_run<H: HostLogic>()
+    ensures { InEveryRun Loose manager_rule H.rule (λ new. AreInBounds new.switches) }
+{}
+
+/// What a switch knows of its place it knows after each step.
+pub fn what_is_known_of_places_is_known_later<H: HostLogic>()
+    ensures { (old : WorldView) (event : Event) (new : WorldView) → ControlInvariant old → refusal old event ≡ None →
+        WorldStep Loose manager_rule H.rule old event new →
+        (s : ℕ) → IsTrueOf ((control_plane old).view s).place ((control_plane new).view s).place }
+{}

@@ -1,0 +1,4 @@
+pub mod Growing
+pub mod Joining
+pub mod MembersInRuns
+pub mod Exports

@@ -1,0 +1,13 @@
+pub mod Later
+pub mod Turns
+pub mod Ticking
+pub mod Voting
+pub mod Neighbours
+pub mod Given
+pub mod Hearing
+pub mod Entering
+pub mod Obeying
+pub mod KeepingPlaces
+pub mod Beginning
+pub mod StepsKeepPlaces
+pub mod Exports

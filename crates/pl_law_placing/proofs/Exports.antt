@@ -1,0 +1,8 @@
+-- What other crates may name of these proofs.
+pub use Rattle.pl_law_placing.proofs.Answering.{answered}
+pub use Rattle.pl_law_placing.proofs.AtRest.{world_first, world_pods, world_positions}
+pub use Rattle.pl_law_placing.proofs.Levels.{seen_later}
+pub use Rattle.pl_law_placing.proofs.PlacingInRuns.{run_places}
+pub use Rattle.pl_law_placing.proofs.Seeing.{Seen, step_seen, turned_grown}
+pub use Rattle.pl_law_placing.proofs.Seeing.Seen.{Gone, Hears, Quiet, Ticks}
+pub use Rattle.pl_law_placing.proofs.Wishes.{IsWishWord, told_wishes}

@@ -1,0 +1,5 @@
+use Rattle.pl_law_pods.proofs.Numbers.{numbers_differ}
+use Rattle.pl_law_pods.proofs.pod_laws.no_two_switches_have_one_number.Goals as goal
+
+pub returns : goal.returns
+returns c = numbers_differ

@@ -1,0 +1,5 @@
+use Rattle.pl_law_pods.proofs.Booted.{numbers_fit}
+use Rattle.pl_law_pods.proofs.pod_laws.the_numbers_that_are_said_can_be_told.Goals as goal
+
+pub returns : goal.returns
+returns c = numbers_fit

@@ -1,0 +1,39 @@
+-- What entries say of places and of registrations.
+use Rattle.std.specs.Prelude.{ℕ, ◌+◌, ◌==◌, if◌then◌else◌, List, [], ◌∷◌, Option, Some, None}
+use Rattle.std.specs.List.{filter_map}
+use Rattle.pl_pmac.specs.declared.pmac.Pmac.{Pmac}
+use Rattle.pl_layouts.specs.declared.place.Place.{Place}
+use Rattle.pl_layouts.specs.Placement.{nowhere, same_place}
+use Rattle.pl_journal.specs.declared.entry.Entry.{Entry}
+use Rattle.pl_journal.specs.declared.entry.Entry.TheVariants.{Placed, Registered}
+use Rattle.pl_node.specs.SwitchViews.{SwitchView}
+
+-- a switch and the place that it came to know
+abbrev pub placing_in : Entry → Option (ℕ × Place)
+placing_in (Placed s place) = Some (s.0, place)
+placing_in entry = None
+
+-- an address and its number
+abbrev pub registration_in : Entry → Option (Pmac × ℕ)
+registration_in (Registered pmac n) = Some (pmac, n)
+registration_in entry = None
+
+-- those of all entries, in their order
+abbrev pub placings : List Entry → List (ℕ × Place)
+placings entries = filter_map placing_in entries
+
+abbrev pub registrations : List Entry → List (Pmac × ℕ)
+registrations entries = filter_map registration_in entries
+
+-- the switches that know another place than before, in label order from number n on, and what they know then
+abbrev pub new_places : ℕ → List SwitchView → List SwitchView → List (ℕ × Place)
+new_places n [] after = []
+new_places n (v ∷ before) [] = []
+new_places n (v ∷ before) (w ∷ after) =
+    if same_place v.place w.place then new_places (n + 1) before after else (n, w.place) ∷ new_places (n + 1) before after
+
+-- The place of a switch as it was written last. The entries that are past have the newest first.
+abbrev pub place_written : List Entry → ℕ → Place
+place_written [] s = nowhere
+place_written (Placed t place ∷ past) s = if t.0 == s then place else place_written past s
+place_written (entry ∷ past) s = place_written past s

@@ -1,0 +1,60 @@
+ghost use Rattle.std.specs.Prelude.{◌≡◌, ◌++◌, ℕ, List, Some, map, length, reverse, slice_get};
+ghost use Rattle.std.specs.List.{range_with_len};
+ghost use Rattle.pl_wiring.specs.Plan.{Plan};
+ghost use Rattle.pl_node.specs.ManagerDuties.{with_number};
+ghost use Rattle.pl_node.specs.ManagerViews.{registry};
+ghost use Rattle.pl_node.specs.SwitchViews.{SwitchView};
+ghost use Rattle.pl_world.specs.declared.event.Event.{Event};
+ghost use Rattle.pl_world.specs.declared.limits.Limits.{Limits};
+ghost use Rattle.pl_world.specs.Booting.{booted};
+ghost use Rattle.pl_world.specs.Drops.{written};
+ghost use Rattle.pl_world.specs.Runs.{Moment, WorldRun};
+ghost use Rattle.pl_world.specs.WorldRule.{WorldStep};
+ghost use Rattle.pl_world.specs.Worlds.{WorldView};
+ghost use Rattle.pl_law_records.specs.Entries.{new_places, place_written, placings, registrations};
+
+use pl_node::{HostLogic, ManagerLogic, SwitchLogic};
+
+/// The entries that a step writes of places are those of the switches that know another place then than
+/// before, with what they know then: one for each, and no other.
+pub fn places_are_written_where_they_change<S: SwitchLogic, M: ManagerLogic, H: HostLogic>()
+    ensures { (old : WorldView) (event : Event) (new : WorldView) → WorldStep S.rule M.rule H.rule old event new →
+        placings (written old new) ≡ new_places 0 old.switches new.switches }
+{}
+
+/// Those that it writes of registrations are what the manager registers in it, with its numbers.
+pub fn registrations_are_written_where_they_are_made<
+    S: SwitchLogic,
+    M: ManagerLogic,
+    H: HostLogic,
+>()
+    ensures { (old : WorldView) (event : Event) (new : WorldView) → WorldStep S.rule M.rule H.rule old event new →
+        map with_number (registry new.manager.learnt) ≡ registrations (written old new) ++ map with_number (registry old.manager.learnt) }
+{}
+
+/// So at each moment of each run from the beginning the place that a switch knows is what was written last
+/// of it, or it knows nothing and nothing was written.
+pub fn places_are_what_was_written_last_in_every_run<
+    S: SwitchLogic,
+    M: ManagerLogic,
+    H: HostLogic,
+>()
+    ensures { (plan : Plan) (limits : Limits) (moments : List Moment) (new : WorldView) →
+        WorldRun S.rule M.rule H.rule (booted plan limits) moments new →
+        (s : ℕ) (v : SwitchView) → slice_get new.switches s ≡ Some v → place_written (reverse new.journal) s ≡ v.place }
+{}
+
+/// And the registrations of the journal are those of the manager, the oldest first; their numbers are 1, 2,
+/// 3 and so on.
+pub fn addresses_are_registered_in_order_in_every_run<
+    S: SwitchLogic,
+    M: ManagerLogic,
+    H: HostLogic,
+>()
+    ensures same { (plan : Plan) (limits : Limits) (moments : List Moment) (new : WorldView) →
+        WorldRun S.rule M.rule H.rule (booted plan limits) moments new →
+        reverse (registrations new.journal) ≡ map with_number (registry new.manager.learnt) }
+    ensures numbers { (plan : Plan) (limits : Limits) (moments : List Moment) (new : WorldView) →
+        WorldRun S.rule M.rule H.rule (booted plan limits) moments new →
+        map (λ r. r.1) (registrations new.journal) ≡ range_with_len 1 (length (registrations new.journal)) }
+{}

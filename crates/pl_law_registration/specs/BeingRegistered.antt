@@ -1,0 +1,53 @@
+-- Whether the edge switch where a host stands knows it, or is going to.
+use Rattle.std.specs.Prelude.{◌≡◌, ◌⊎◌, ℕ, true, false, List, Option, Some, slice_get}
+use Rattle.std.specs.List.{list_any}
+use Rattle.pl_arp.specs.declared.cache.Me.{Me}
+use Rattle.pl_wiring.specs.declared.host.Host.{Host}
+use Rattle.pl_node.specs.SwitchViews.{SwitchView}
+use Rattle.pl_queues.specs.Queues.{items_at}
+use Rattle.pl_switch_rule.specs.Granting.{is_port_spent, remembered_at}
+use Rattle.pl_world.specs.declared.event.QueueName.{QueueName}
+use Rattle.pl_world.specs.declared.attachment.AttachmentPoint.{AttachmentPoint}
+use Rattle.pl_world.specs.Booting.{me_of}
+use Rattle.pl_world.specs.Changes.{out_of}
+use Rattle.pl_world.specs.Refusals.{has_queue, is_filled}
+use Rattle.pl_world.specs.Worlds.{WorldView}
+use Rattle.pl_law_addresses.specs.Registered.{IsServed}
+use Rattle.pl_law_addresses.specs.EdgeAddresses.{is_settled}
+use Rattle.pl_law_registration.specs.Probes.{is_packet, is_probe}
+use Rattle.pl_law_registration.specs.Stays.{has_reached}
+
+-- An edge switch that is not placed yet remembers the host at this port. A placed one has an address of this port in use for it, unless all the
+-- vmids of the port were given.
+pub record IsKnownAt (v : SwitchView) (port : ℕ) (me : Me) : Type 0 where
+  pub unplaced : is_settled v.place ≡ false → remembered_at v port ≡ Some (record { amac = me.mac; ip = Some me.ip })
+  pub placed : is_settled v.place ≡ true → is_port_spent v port ≡ false → IsServed v port me
+
+-- a host of the wiring stands at a port of this switch
+pub record HostIsAttached (w : WorldView) (h : ℕ) (host : Host) (attachment : AttachmentPoint) (v : SwitchView) : Type 0 where
+  pub is_host : slice_get w.plan.hosts h ≡ Some host
+  pub attachments : slice_get w.attachments h ≡ Some attachment
+  pub switch : slice_get w.switches attachment.edge.0 ≡ Some v
+
+-- it is known there, or that switch is placed, and a probe of it waits at its port, or an ARP frame that can be read in its own queue
+abbrev pub IsBeingRegistered : WorldView → ℕ → Host → AttachmentPoint → SwitchView → Type 0
+IsBeingRegistered w h host attachment v =
+    IsKnownAt v attachment.port (me_of host)
+    ⊎ ((is_settled v.place ≡ true) × ((list_any (is_probe (me_of host)) (out_of w attachment.edge.0 attachment.port) ≡ true) ⊎ (list_any is_packet (items_at w.from_hosts h) ≡ true)))
+
+-- each host of which such a frame reached the edge switch where it stands
+abbrev pub AreBeingRegistered : WorldView → Type 0
+AreBeingRegistered w = (h : ℕ) (host : Host) (attachment : AttachmentPoint) (v : SwitchView) → HostIsAttached w h host attachment v → has_reached w.journal h ≡ true → IsBeingRegistered w h host attachment v
+
+-- An edge switch that is not placed remembers each of these hosts, with its IPv4 address.
+abbrev pub AreRemembered : WorldView → Type 0
+AreRemembered w = (h : ℕ) (host : Host) (attachment : AttachmentPoint) (v : SwitchView) → HostIsAttached w h host attachment v → has_reached w.journal h ≡ true → is_settled v.place ≡ false →
+    remembered_at v attachment.port ≡ Some (record { amac = host.mac; ip = Some host.ip })
+
+-- no two hosts stand at one place
+abbrev pub AreAttachedApart : List AttachmentPoint → Type 0
+AreAttachedApart attachments = (g h : ℕ) (a b : AttachmentPoint) → slice_get attachments g ≡ Some a → slice_get attachments h ≡ Some b → a.edge.0 ≡ b.edge.0 → a.port ≡ b.port → g ≡ h
+
+-- every queue is empty
+abbrev pub NothingWaits : WorldView → Type 0
+NothingWaits w = (name : QueueName) → has_queue w.plan name ≡ true → is_filled w name ≡ false

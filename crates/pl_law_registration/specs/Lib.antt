@@ -1,0 +1,5 @@
+pub mod Stays
+pub mod Probes
+pub mod BeingRegistered
+pub mod Registering
+pub mod Stood

@@ -1,0 +1,36 @@
+ghost use Rattle.std.specs.Prelude.{◌≡◌, ℕ, false, true};
+ghost use Rattle.pl_wiring.specs.declared.host.Host.{Host};
+ghost use Rattle.pl_layouts.specs.Placement.{is_placed};
+ghost use Rattle.pl_node.specs.SwitchViews.{SwitchView};
+ghost use Rattle.pl_manager_rule.specs.ManagerRule.{manager_rule};
+ghost use Rattle.pl_switch_rule.specs.Granting.{is_port_spent};
+ghost use Rattle.pl_switch_rule.specs.SwitchRule.{Loose};
+ghost use Rattle.pl_world.specs.declared.attachment.AttachmentPoint.{AttachmentPoint};
+ghost use Rattle.pl_world.specs.Booting.{me_of};
+ghost use Rattle.pl_world.specs.Runs.{InEveryRun};
+ghost use Rattle.pl_world.specs.Worlds.{WorldView};
+ghost use Rattle.pl_law_invariant.specs.ControlInvariant.{ControlInvariant};
+ghost use Rattle.pl_law_registration.specs.BeingRegistered.{AreBeingRegistered, NothingWaits, HostIsAttached};
+ghost use Rattle.pl_law_registration.specs.Registering.{AreRegistered};
+ghost use Rattle.pl_law_registration.specs.Stays.{has_reached};
+
+use pl_host_rule::LawfulHost;
+use pl_manager_rule::LawfulManager;
+use pl_switch_rule::LooseSwitch;
+
+/// Where every queue is empty, a host is registered whose edge switch is placed, of which an ARP frame that can be
+/// read reached that switch since it came there, and at whose port not all addresses were given: its newest
+/// address is in use at that port, and the fabric manager was told its IPv4 address with it.
+pub fn a_host_is_registered_at_rest()
+    ensures { (w : WorldView) → ControlInvariant w → AreBeingRegistered w → NothingWaits w → AreRegistered w }
+{}
+
+/// So it is at each moment of every run at which every queue is empty, whichever candidates switches choose.
+pub fn a_host_is_registered_at_rest_in_every_run<H: LawfulHost>()
+    ensures { InEveryRun Loose manager_rule H.rule (λ new. NothingWaits new → AreRegistered new) }
+{}
+
+/// And in every run of lawful logic.
+pub fn lawful_logic_registers_hosts_at_rest<S: LooseSwitch, M: LawfulManager, H: LawfulHost>()
+    ensures { InEveryRun S.rule M.rule H.rule (λ new. NothingWaits new → AreRegistered new) }
+{}

@@ -1,0 +1,5 @@
+pub mod Savable
+pub mod Determined
+pub mod ExactRules
+pub mod NamedDrops
+pub mod Exports

@@ -1,0 +1,5 @@
+pub mod Records
+pub mod Pods
+pub mod Placed
+pub mod Proposals
+pub mod SettledRuns

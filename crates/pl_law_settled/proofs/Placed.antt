@@ -1,0 +1,83 @@
+-- In a settled fabric the edge switch with position 0 knows its pod, so the others of a pod whose links are live do; and where frames of hosts were
+-- received they know all of their places.
+use Rattle.std.proofs.Common.{◌≡◌, ℕ, zero, suc, ◌<◌, ◌||◌, Bool, false, true≢false, List, [], ◌∷◌, Option, Some, None, Contains, refl, sym, ap, ◌∙◌, arith}
+use Rattle.std.specs.List.{list_any}
+use Rattle.pl_layouts.specs.declared.place.Place.{Place}
+use Rattle.pl_node.specs.declared.messages.ToManager.{ToManager}
+use Rattle.pl_node.specs.declared.messages.ToManager.TheVariants as tell
+use Rattle.pl_node.specs.declared.messages.ToSwitch.{ToSwitch}
+use Rattle.pl_node.specs.declared.messages.ToSwitch.TheVariants as say
+use Rattle.pl_queues.specs.Queues.{items_at}
+use Rattle.pl_world.specs.SettledQueues.{HasSettledQueues, IsQuestion, IsReply}
+use Rattle.pl_world.specs.Worlds.{WorldView}
+use Rattle.pl_fabric.specs.Settled.{IsSettled}
+use Rattle.pl_law_control_plane.specs.ControlPlanes.{control_plane}
+use Rattle.pl_law_votes.specs.Voting.{edge_no}
+use Rattle.pl_law_invariant.specs.ControlInvariant.{ControlInvariant}
+use Rattle.pl_law_placing.specs.Asking.{is_number, is_wish}
+use Rattle.pl_law_placing.specs.Placing.{ArePlacing}
+use Rattle.pl_law_placing.specs.Resting.{FirstKnowsPod, KnowPod}
+use Rattle.pl_law_placing.proofs.Exports.{world_pods}
+use Rattle.pl_law_settled.specs.AtPlace.{ReceiversArePlaced}
+use Rattle.pl_law_settled.specs.Whole.{IsWholePod}
+use Rattle.pl_law_settled.proofs.Pods.{resting_pod, settled_positions}
+
+none_of : {X : Type 0} (p : X → Bool) (P : X → Type 0) → ((x : X) → P x → p x ≡ false) → (xs : List X) → ((x : X) → Contains xs x → P x) → list_any p xs ≡ false
+none_of p P not_one [] each = refl
+none_of p P not_one (x ∷ xs) each =
+    ap (λ b. b || list_any p xs) (not_one x (each x (zero, omega arith, refl)))
+    ∙ none_of p P not_one xs (λ y there. each y (suc there.0, omega (arith, there.1), there.2))
+
+no_wish : (told : ToManager) → IsQuestion told → is_wish told ≡ false
+no_wish (tell.Place place) is = refl
+no_wish (tell.Link neighbour usable) is = refl
+no_wish tell.PodWanted is = absurd is
+no_wish (tell.Learned pmac amac ip) is = refl
+no_wish (tell.Query asker asker_ip ip) is = refl
+no_wish (tell.Members group any) is = refl
+
+no_number : (says : ToSwitch) → IsReply says → is_number says ≡ false
+no_number (say.Pod n) is = absurd is
+no_number (say.Answer asker asker_ip ip pmac) is = refl
+no_number (say.Flood asker asker_ip ip) is = refl
+no_number (say.Avoid list) is = refl
+no_number (say.Invalidate old new number ip) is = refl
+no_number (say.Tree group part) is = refl
+
+module _ (w : WorldView) (placing : ArePlacing w) where
+  pub pod_of_first : HasSettledQueues w → (s : ℕ) → ((control_plane w).view s).place.position ≡ Some 0 → (n : ℕ) × (((control_plane w).view s).place.pod ≡ Some n)
+  pod_of_first queues s position = by ((control_plane w).view s).place.pod refl
+    where
+      wishes : list_any is_wish (items_at w.to_manager s) ≡ false
+      wishes = none_of is_wish IsQuestion no_wish (items_at w.to_manager s) (queues.to_manager s)
+
+      numbers : list_any is_number (items_at w.from_manager s) ≡ false
+      numbers = none_of is_number IsReply no_number (items_at w.from_manager s) (queues.from_manager s)
+
+      by : (o : Option ℕ) → ((control_plane w).view s).place.pod ≡ o → (n : ℕ) × (((control_plane w).view s).place.pod ≡ Some n)
+      by None none = absurd (true≢false (sym (placing.asked s position none) ∙ ap (λ b. b || list_any is_number (items_at w.from_manager s)) wishes ∙ numbers))
+      by (Some n) is = (n, is)
+
+  pub settled_first_pod : HasSettledQueues w → (pod : ℕ) → FirstKnowsPod (control_plane w) pod
+  settled_first_pod queues pod i edge position = pod_of_first queues (edge_no w.plan.k pod i) position
+
+  module _ (kept : ControlInvariant w) (settled : IsSettled w) (few : w.steps < 4294967295) (pod : ℕ) (whole : IsWholePod w pod) where
+    pub settled_pods : KnowPod (control_plane w) pod
+    settled_pods = world_pods w kept placing pod (resting_pod w kept settled placing few pod whole) (settled_first_pod settled.queues pod)
+
+    pub receivers_placed : ReceiversArePlaced w pod
+    receivers_placed i edge received =
+        let s = edge_no w.plan.k pod i in
+        let v = (control_plane w).view s in
+        let level = placing.levels s received in
+        let position = settled_positions w kept settled placing few pod whole i edge level in
+        let number = settled_pods i edge level in
+        record {
+          position = position.0;
+          pod = number.0;
+          known = whole_place v.place position.0 number.0 level position.1 number.1;
+        }
+      where
+        whole_place : (place : Place) (x n : ℕ) → place.level ≡ Some 0 → place.position ≡ Some x → place.pod ≡ Some n →
+            place ≡ record { level = Some 0; position = Some x; pod = Some n }
+        whole_place place x n level position number = λ t. record { level = level t; position = position t; pod = number t }

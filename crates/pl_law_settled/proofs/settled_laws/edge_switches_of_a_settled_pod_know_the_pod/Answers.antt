@@ -1,0 +1,8 @@
+use Rattle.pl_law_settled.proofs.Placed.{settled_first_pod, settled_pods}
+use Rattle.pl_law_settled.proofs.settled_laws.edge_switches_of_a_settled_pod_know_the_pod.Goals as goal
+
+pub returns-clause-first : goal.returns-clause-first
+returns-clause-first c = settled_first_pod
+
+pub returns-clause-all : goal.returns-clause-all
+returns-clause-all c = λ w kept placing settled few pod whole. settled_pods w placing kept settled few pod whole

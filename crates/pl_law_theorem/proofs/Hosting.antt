@@ -1,0 +1,179 @@
+-- What switches know of the hosts at their ports is what the journal says; and so all is given that each step needs but for groups.
+use Rattle.std.proofs.Common.{◌≡◌, ◌≤◌, ◌<◌, ◌+◌, ◌-◌, ◌==◌, ◌&&◌, not, nat_lt, ℕ, if◌then◌else◌, cond, Bool, true, false, Contains, List, [], ◌∷◌, length, reverse, Option, Some, None, is_none, option_map, slice_get, refl, sym, ap, subst, ◌∙◌, inl, inr, arith}
+use Rattle.std.proofs.lemmas.Bool.{and_parts, cases_Bool, cases_lt, eqb-true, false≢true, lt-ltb, ltb-true, or_right}
+use Rattle.std.proofs.lemmas.List.{get_or_past}
+use Rattle.std.proofs.lemmas.List.Elements.{All-contains, All-from_recursion}
+use Rattle.std.proofs.lemmas.Option.{get_or_from_slice_get, same_Some}
+use Rattle.pl_lemmas.proofs.Exports.{all_found}
+use Rattle.pl_frame.specs.declared.address.Mac.{Mac}
+use Rattle.pl_frame.specs.Ethernet.{source_of}
+use Rattle.pl_pmac.specs.declared.pmac.Pmac.{Pmac}
+use Rattle.pl_pmac.specs.Pmac.{PmacFits, pmac_number}
+use Rattle.pl_pmac.proofs.Exports.{same_pmac_number}
+use Rattle.pl_layouts.specs.Placement.{is_known}
+use Rattle.pl_wiring.specs.declared.host.Host.{Host}
+use Rattle.pl_journal.specs.declared.entry.Entry.{Entry}
+use Rattle.pl_journal.specs.declared.entry.Entry.TheVariants.{Granted}
+use Rattle.pl_journal.specs.Lossy.{mac_of_host}
+use Rattle.pl_journal.specs.Places.{EdgePort, at_port, granted_at, has_stood, is_spent, same_edge_port}
+use Rattle.pl_node.specs.declared.switch_records.Grant.{Grant}
+use Rattle.pl_node.specs.Accounting.{IsShaped}
+use Rattle.pl_node.specs.PortRecords.{port_of}
+use Rattle.pl_node.specs.SwitchViews.{SwitchView}
+use Rattle.pl_switch_rule.specs.Granting.{address_at_port, grant_number, granted, grants_at, in_use, is_port_spent}
+use Rattle.pl_switch_rule.proofs.Exports.{granted_parts}
+use Rattle.pl_queues.specs.Queues.{items_at}
+use Rattle.pl_world.specs.declared.item.Item.{Item}
+use Rattle.pl_world.specs.declared.item.Item.TheVariants.{Data}
+use Rattle.pl_world.specs.Booting.{me_of}
+use Rattle.pl_world.specs.Changes.{host_of}
+use Rattle.pl_world.specs.Worlds.{WorldView}
+use Rattle.pl_law_control_plane.specs.ControlPlanes.{control_plane, no_switch}
+use Rattle.pl_law_control_plane.specs.HostsAtEdges.{IsAtEdge}
+use Rattle.pl_law_addresses.specs.EdgeAddresses.{is_settled}
+use Rattle.pl_law_addresses.specs.OwnFrames.{IsOwnItem}
+use Rattle.pl_law_addresses.proofs.Exports.{exists_at, granted_here, known_same, local_here, number_past, used_is}
+use Rattle.pl_law_invariant.specs.ControlInvariant.{ControlInvariant}
+use Rattle.pl_law_ledger.specs.Ledgers.{IsBacked, ledger}
+use Rattle.pl_law_ledger.proofs.Exports.{grounds, IsEnteredAll, IsLast, same_says, Says, says, source_is, spent_there}
+use Rattle.pl_law_flights.specs.Standing.{KnowsHosts, StandsOn, StandsOnHosts}
+use Rattle.pl_law_flights.proofs.Exports.{host_by_mac}
+use Rattle.pl_law_theorem.proofs.Addressing.{each_entry, fits_at, host_at, is_next, knows_addresses}
+use Rattle.pl_law_theorem.proofs.Knowing.{knows_neighbours, knows_places}
+
+-- a place in a list of grants
+number_there : (gs : List Grant) (n : ℕ) → n < length gs → (g : Grant) × (grant_number gs (n + 1) ≡ Some g)
+number_there gs n less =
+    let at = exists_at gs n less in
+    let other : (n + 1 == 0) ≡ false = not_zero (n + 1) (omega arith) in
+    let back : n + 1 - 1 ≡ n = omega arith in
+    (at.0, ap (λ b. cond b None (slice_get gs (n + 1 - 1))) other ∙ ap (λ m. slice_get gs m) back ∙ at.1)
+  where
+    not_zero : (m : ℕ) → 0 < m → (m == 0) ≡ false
+    not_zero m h = elim (cases_Bool (m == 0)) [ inl is ↦ (let z = eqb-true m 0 is in absurd (omega (arith, h, z))) | inr other ↦ other ]
+
+-- the address that a host was granted last at a port, by its ledger alone
+same_granted : (past : List Entry) (h : ℕ) (there : EdgePort) → granted_at past h there ≡ granted_at (ledger past) h there
+same_granted [] h there = refl
+same_granted (Granted y g e p ∷ past) h there = ap (λ (o : Option Pmac). if (g.0 == h) && same_edge_port (at_port e.0 p) there then Some y else o) (same_granted past h there)
+same_granted (entry ∷ past) h there = same_granted past h there
+
+module _ (w : WorldView) (kept : ControlInvariant w) (entered : IsEnteredAll w) where
+  size_at : (t : ℕ) (v : SwitchView) → slice_get w.switches t ≡ Some v → IsShaped v
+  size_at t v found = all_found IsShaped w.switches t v kept.counted.shaped found
+
+  -- the address that a host has in use at a port is the last that it was granted there
+  used_so : (t : ℕ) (v : SwitchView) → slice_get w.switches t ≡ Some v → (port vmid h : ℕ) (amac : Mac) → is_settled v.place ≡ true → in_use (grants_at v port) amac ≡ Some vmid →
+      mac_of_host w.plan h ≡ Some amac → granted_at (reverse w.journal) h (at_port t port) ≡ Some (address_at_port v port vmid)
+  used_so t v found port vmid h amac settled uses of =
+      let u = used_is (grants_at v port) amac vmid uses in
+      let x : Pmac = address_at_port v port vmid in
+      let here = local_here v port vmid settled in
+      let is : granted v x ≡ Some u.grant = granted_here v x here ∙ u.found in
+      let host : host_of w.plan u.grant.amac ≡ Some h = ap (host_of w.plan) u.mac_is ∙ host_by_mac w.plan h amac kept.counted.formed.plan of in
+      let b = entered.ledger.newest t v x u.grant h found is host in
+      let macs : u.grant.amac ≡ b.grant.amac = same_mac_of u.grant.amac b.grant.amac h host b.of_mac in
+      let most = (kept.addresses.addressed.edges t v found).last x b.last u.grant b.grant is b.found u.used macs (sym b.same_port) in
+      let least = b.not_before in
+      let vmids : b.last.vmid ≡ x.vmid = omega (arith, most, least) in
+      let there = (granted_parts v b.last b.grant b.found).0 in
+      let mine = and_parts (is_known v.place.level 0) (is_known v.place.pod x.pod && is_known v.place.position x.position) here in
+      let my = and_parts (is_known v.place.pod x.pod) (is_known v.place.position x.position) mine.1 in
+      let yours = and_parts (is_known v.place.level 0) (is_known v.place.pod b.last.pod && is_known v.place.position b.last.position) there in
+      let your = and_parts (is_known v.place.pod b.last.pod) (is_known v.place.position b.last.position) yours.1 in
+      let pods : b.last.pod ≡ x.pod = known_same v.place.pod b.last.pod x.pod your.0 my.0 in
+      let positions : b.last.position ≡ x.position = known_same v.place.position b.last.position x.position your.1 my.1 in
+      let same : b.last ≡ x = same_pmacs b.last x pods positions b.same_port vmids in
+      same_granted (reverse w.journal) h (at_port t port) ∙ b.is_last ∙ ap Some same
+    where
+      same_pmacs : (a b : Pmac) → a.pod ≡ b.pod → a.position ≡ b.position → a.port ≡ b.port → a.vmid ≡ b.vmid → a ≡ b
+      same_pmacs a b pod position port vmid = λ i. record { pod = pod i; position = position i; port = port i; vmid = vmid i }
+
+      same_mac_of : (a b : Mac) (n : ℕ) → host_of w.plan a ≡ Some n → host_of w.plan b ≡ Some n → a ≡ b
+      same_mac_of a b n at also = same_Some a b (sym (host_at w.plan a n at) ∙ host_at w.plan b n also)
+
+  -- a port that has given the largest vmid
+  spent_so : (t : ℕ) (v : SwitchView) → slice_get w.switches t ≡ Some v → (port : ℕ) → is_settled v.place ≡ true → is_port_spent v port ≡ true →
+      is_spent (reverse w.journal) (at_port t port) ≡ true
+  spent_so t v found port settled spent =
+      let few = entered.ledger.few t v port found in
+      let many : 65535 ≤ length (grants_at v port) = all_given (length (grants_at v port)) spent in
+      let at = number_there (grants_at v port) 65534 (omega (arith, many)) in
+      let x : Pmac = address_at_port v port 65535 in
+      let here = local_here v port 65535 settled in
+      let is : granted v x ≡ Some at.0 = granted_here v x here ∙ at.1 in
+      let e = entered.ledger.grants t v x at.0 found is in
+      ap (λ (f : Says). f.spent (at_port t port)) (sym (same_says w.plan (reverse w.journal)))
+      ∙ spent_there (ledger (reverse w.journal)) (pmac_number x) (at_port t port)
+      (each_entry (IsBacked w.switches) (IsLast (pmac_number x)) (last_entry x (fits_at w kept entered t v x at.0 found is) refl) (ledger (reverse w.journal)) entered.ledger.backed) e.there
+    where
+      all_given : (n : ℕ) → not (nat_lt n 65535) ≡ true → 65535 ≤ n
+      all_given n h = elim (cases_lt n 65535) [ inl less ↦ absurd (false≢true (sym (ap not (lt-ltb n 65535 less)) ∙ h)) | inr more ↦ more ]
+
+      last_entry : (x : Pmac) → PmacFits x → x.vmid ≡ 65535 → (entry : Entry) → IsBacked w.switches entry → IsLast (pmac_number x) entry
+      last_entry x fits last (Granted y h e p) there = λ same.
+          ap (λ (z : Pmac). z.vmid) (same_pmac_number y x (fits_at w kept entered e.0 there.view y there.grant there.found there.is) fits same) ∙ last
+      last_entry x fits last entry there = tt
+
+  view_at : (t : ℕ) (v : SwitchView) → slice_get w.switches t ≡ Some v → (control_plane w).view t ≡ v
+  view_at t v found = get_or_from_slice_get w.switches t v no_switch found
+
+  knows_hosts : (t : ℕ) (v : SwitchView) → slice_get w.switches t ≡ Some v → KnowsHosts w.plan (reverse w.journal) t v
+  unfolding view_at
+  knows_hosts t v found =
+      let address_table = kept.addresses.addressed.address_tables t v found in
+      let shaped = size_at t v found in
+      record {
+        unheard = λ port free.
+            let none : (port_of v port).heard ≡ None = ap (λ (u : SwitchView). (port_of u port).heard) (sym (view_at t v found)) ∙ kept.placed.strangers t port free in
+            or_right (port_of v port).host (is_none (port_of v port).heard) (ap is_none none);
+        positions = λ n is.
+            let own = (kept.placed.own t).position n (ap (λ (u : SwitchView). u.place.position) (view_at t v found) ∙ is) in
+            ap (λ (u : SwitchView). u.place.level) (sym (view_at t v found)) ∙ own.0;
+        tables = address_table.many;
+        used = used_so t v found;
+        spent = spent_so t v found;
+        empty = address_table.empty;
+        stood = λ port h source is of.
+            let e = entered.ledger.sources t v port source found is in
+            let same : e.host ≡ h = same_Some e.host h (sym e.of_mac ∙ of) in
+            ap (λ (f : Says). f.stood h (at_port t port)) (sym (same_says w.plan (reverse w.journal)))
+            ∙ subst (λ (n : ℕ). has_stood w.plan (ledger (reverse w.journal)) n (at_port t port) ≡ true) same e.stood;
+        next = λ port free within settled room.
+            let x : Pmac = address_at_port v port (length (grants_at v port) + 1) in
+            let here = local_here v port (length (grants_at v port) + 1) settled in
+            let size : v.k ≡ w.plan.k = all_found (λ (u : SwitchView). u.k ≡ w.plan.k) w.switches t v kept.counted.formed.ports found in
+            let less : length (grants_at v port) < 65535 = ltb-true (length (grants_at v port)) 65535 (not_false (nat_lt (length (grants_at v port)) 65535) room) in
+            is_next w kept entered t v found x here (granted_here v x here ∙ number_past (grants_at v port)) (subst (λ n. port < n) (sym size) within) shaped.high (omega (arith, less));
+      }
+    where
+      not_false : (b : Bool) → not b ≡ false → b ≡ true
+      not_false true is = refl
+      not_false false is = absurd (false≢true (sym is))
+
+  pub stands_on : StandsOn w
+  stands_on = record {
+    places = knows_places w kept;
+    neighbours = knows_neighbours w kept;
+    addresses = knows_addresses w kept entered;
+    evidence = (grounds w kept).neighbours;
+  }
+
+  own_item : (h id : ℕ) (frame : List ℕ) → Contains (items_at w.from_hosts h) (Data id frame) → mac_of_host w.plan h ≡ Some (source_of frame)
+  own_item h id frame there = elim (cases_lt h (length w.from_hosts)) [
+    | inr past ↦ (let none = (subst (λ (xs : List Item). Contains xs (Data id frame)) (get_or_past w.from_hosts h [] past) there).1 in absurd (omega (arith, none)))
+    | inl within ↦
+        let formed = kept.counted.formed in
+        let host = exists_at w.plan.hosts h (subst (λ n. h < n) formed.from_hosts within) in
+        let view = exists_at w.hosts h (subst (λ n. h < n) (formed.from_hosts ∙ sym formed.hosts) within) in
+        let all = (kept.addresses.own h host.0 view.0 host.1 view.1).sends in
+        let mine = All-contains (IsOwnItem (me_of host.0)) (items_at w.from_hosts h) (Data id frame) (All-from_recursion (IsOwnItem (me_of host.0)) (items_at w.from_hosts h) all) there in
+        ap (option_map (λ (x : Host). x.mac)) host.1 ∙ ap Some (sym (source_is host.0 frame mine))
+  ]
+
+  pub stands_on_hosts : StandsOnHosts w
+  stands_on_hosts = record {
+    hosts = knows_hosts;
+    at_ports = λ h attachment is. let edge : IsAtEdge w.plan attachment = all_found (IsAtEdge w.plan) w.attachments h attachment kept.hosts is in (edge.free, edge.port);
+    own = own_item;
+  }

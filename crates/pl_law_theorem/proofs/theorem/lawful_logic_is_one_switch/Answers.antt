@@ -1,0 +1,20 @@
+use Rattle.std.proofs.Common.{◌≡◌, [], refl, subst}
+use Rattle.pl_wiring.specs.Plan.{Plan}
+use Rattle.pl_world.specs.Booting.{booted}
+use Rattle.pl_world.specs.Runs.{WorldRun}
+use Rattle.pl_law_theorem.proofs.theorem.lawful_logic_is_one_switch.Goals as goal
+
+pub returns : goal.returns
+returns g c = λ plan limits moments new can run.
+    let same = c.each_run_keeps_the_wiring.ensures plan limits moments new can run in
+    let now = c.lawful_logic_keeps_the_invariant.ensures plan limits moments new can run in
+    record {
+      run = now.run;
+      trails = now.trails;
+      told = now.told;
+      invariant = now;
+      moments = λ limit before after old began went.
+          let from : Plan → Type 0 = λ p. WorldRun g.S.SwitchLogic.rule g.M.ManagerLogic.rule g.H.HostLogic.rule (booted p limit) before old in
+          c.lawful_logic_keeps_the_invariant.ensures plan limit before old can (subst from same began);
+      sure = c.sure_frames_arrive.ensures plan limits moments new can run;
+    }

@@ -1,0 +1,52 @@
+-- What a fabric of switches, a manager and hosts is at each moment of each of its runs: one lossy switch.
+use Rattle.std.specs.Prelude.{◌≡◌, ℕ, ◌≤◌, Contains, List}
+use Rattle.pl_wiring.specs.declared.label.SwitchNo.{SwitchNo}
+use Rattle.pl_journal.specs.declared.cause.Cause.{Cause}
+use Rattle.pl_journal.specs.declared.entry.Entry.TheVariants.{Arrived, Dropped, Taken}
+use Rattle.pl_journal.specs.Flights.{ends}
+use Rattle.pl_journal.specs.Lossy.{GoodTrail, Run}
+use Rattle.pl_node.specs.HostInputs.{HostRule}
+use Rattle.pl_node.specs.ManagerDuties.{ManagerRule}
+use Rattle.pl_node.specs.SwitchInputs.{SwitchRule}
+use Rattle.pl_world.specs.declared.limits.Limits.{Limits}
+use Rattle.pl_world.specs.Booting.{booted}
+use Rattle.pl_world.specs.Changes.{host_no}
+use Rattle.pl_world.specs.Runs.{Moment, WorldRun}
+use Rattle.pl_world.specs.Worlds.{WorldView}
+use Rattle.pl_law_flights.specs.OnTheWay.{IsJournaled}
+use Rattle.pl_law_arrival.specs.SureFrames.{IsSure}
+use Rattle.pl_law_theorem.specs.Invariant.{NetworkInvariant}
+
+-- The frame arrived at this host, and that is its one end: nothing dropped it, no edge switch took it, and no other host got it.
+pub record HasArrived (w : WorldView) (id g : ℕ) : Type 0 where
+  pub frame : List ℕ
+  pub arrived : Contains w.journal (Arrived id (host_no g) frame)
+  pub not_dropped : (cause : Cause) → Contains w.journal (Dropped id cause) → ⊥
+  pub not_taken : (switch : SwitchNo) → Contains w.journal (Taken id switch) → ⊥
+  pub nowhere_else : (other : ℕ) (copy : List ℕ) → (other ≡ g → ⊥) → Contains w.journal (Arrived id (host_no other) copy) → ⊥
+
+-- So it is of each frame that was sure from the moment of a run that sent it to one at which it had ended, where the run went on to this world.
+abbrev pub SureFramesArrive : SwitchRule → ManagerRule → HostRule → WorldView → Type 0
+SureFramesArrive switch manager host w =
+    (limits : Limits) (before moments after : List Moment) (old ended : WorldView) (id h g : ℕ) → WorldRun switch manager host (booted w.plan limits) before old
+    → IsSure switch manager host old moments ended id h g → 1 ≤ ends ended.journal id → WorldRun switch manager host ended after w → HasArrived w id g
+
+-- At each moment of a run that leads to this world, its beginning and its end among them, the invariant of the network holds.
+abbrev pub HoldsAtEachMoment : SwitchRule → ManagerRule → HostRule → WorldView → Type 0
+HoldsAtEachMoment switch manager host w =
+    (limits : Limits) (before after : List Moment) (old : WorldView) → WorldRun switch manager host (booted w.plan limits) before old
+    → WorldRun switch manager host old after w → NetworkInvariant old
+
+-- A world to which a run of the fabric has led from its beginning.
+pub record IsOneSwitch (switch : SwitchRule) (manager : ManagerRule) (host : HostRule) (w : WorldView) : Type 0 where
+  -- the journal is a run of one lossy switch: a frame arrives once, unaltered, where its address leads, or ends by its named cause
+  pub run : Run w.plan w.journal
+  -- a frame to one host crosses at most five switches for each address, none twice, up and then down, over links that were live
+  pub trails : GoodTrail w.plan w.journal
+  -- each frame that has not ended waits where the journal says
+  pub told : IsJournaled w
+  -- what nodes know and what waits between them is in order, now and at each moment before
+  pub invariant : NetworkInvariant w
+  pub moments : HoldsAtEachMoment switch manager host w
+  -- while the fabric stays settled, a frame between registered hosts that a live path joins arrives, if it ends
+  pub sure : SureFramesArrive switch manager host w

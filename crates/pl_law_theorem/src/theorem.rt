@@ -1,0 +1,28 @@
+ghost use Rattle.pl_world.specs.Runs.{InEveryRun};
+ghost use Rattle.pl_law_theorem.specs.OneSwitch.{IsOneSwitch, SureFramesArrive};
+
+use crate::invariant::lawful_logic_keeps_the_invariant;
+use pl_host_rule::LawfulHost;
+use pl_law_arrival::{a_sure_frame_has_no_other_end, a_sure_frame_that_ends_has_arrived};
+use pl_law_runs::each_run_keeps_the_wiring;
+use pl_manager_rule::LawfulManager;
+use pl_switch_rule::LooseSwitch;
+
+/// In each run of lawful logic each frame that was sure until it ended has arrived, and has no other end.
+pub fn sure_frames_arrive<S: LooseSwitch, M: LawfulManager, H: LawfulHost>()
+    ensures { InEveryRun S.rule M.rule H.rule (SureFramesArrive S.rule M.rule H.rule) }
+{
+    a_sure_frame_that_ends_has_arrived::<S, M, H>();
+    a_sure_frame_has_no_other_end::<S, M, H>();
+    each_run_keeps_the_wiring::<S, M, H>();
+}
+
+/// Whatever the wiring, the events and the ports that switches choose among their candidates: at each moment of
+/// each run from the beginning a fabric of lawful logic is one lossy switch.
+pub fn lawful_logic_is_one_switch<S: LooseSwitch, M: LawfulManager, H: LawfulHost>()
+    ensures { InEveryRun S.rule M.rule H.rule (IsOneSwitch S.rule M.rule H.rule) }
+{
+    lawful_logic_keeps_the_invariant::<S, M, H>();
+    sure_frames_arrive::<S, M, H>();
+    each_run_keeps_the_wiring::<S, M, H>();
+}

@@ -1,0 +1,14 @@
+pub mod PairMoves
+pub mod Holding
+pub mod Majority
+pub mod Aside
+pub mod Granted
+pub mod Messages
+pub mod EdgeTurns
+pub mod AggregationTurns
+pub mod Hearing
+pub mod Wired
+pub mod StepsKeepVotes
+pub mod Booted
+pub mod Differing
+pub mod Exports

@@ -1,5 +1,0 @@
-use Rattle.pl_ledger.proofs.Beginning.{boot_ledger}
-use Rattle.pl_ledger.proofs.ledger_laws.the_ledger_begins_empty.Goals as goal
-
-pub returns : goal.returns
-returns c = λ plan limits. boot_ledger plan limits

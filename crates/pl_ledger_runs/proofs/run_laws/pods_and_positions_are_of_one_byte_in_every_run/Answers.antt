@@ -1,8 +1,0 @@
-use Rattle.pl_kept.proofs.Keeping.{run_keeps_all}
-use Rattle.pl_ledger_runs.proofs.Runs.{entered_in_run, in_bounds}
-use Rattle.pl_ledger_runs.proofs.run_laws.pods_and_positions_are_of_one_byte_in_every_run.Goals as goal
-
-pub returns : goal.returns
-returns g c = λ plan limits moments new can run.
-    in_bounds new (run_keeps_all g.H.HostLogic.rule g.met.H.HostLogic.sends g.met.H.HostLogic.owns plan limits moments new can run)
-    (entered_in_run g.H.HostLogic.rule g.met.H.HostLogic.sends g.met.H.HostLogic.owns plan limits can moments new run).asking

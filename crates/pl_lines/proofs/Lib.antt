@@ -1,6 +1,0 @@
-pub mod Along
-pub mod ScriptRuns
-pub mod HostSteps
-pub mod HostTurns
-pub mod HostScripts
-pub mod Stops

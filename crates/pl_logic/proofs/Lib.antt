@@ -1,4 +1,0 @@
-pub mod Among
-pub mod Booted
-pub mod Ports
-pub mod Addresses

@@ -1,5 +1,0 @@
-use Rattle.pl_migrate.proofs.Laws.{used_is_own}
-use Rattle.pl_migrate.proofs.book_laws.an_address_in_use_is_its_hosts.Goals as goal
-
-pub returns : goal.returns
-returns c = used_is_own

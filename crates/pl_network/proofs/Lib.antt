@@ -1,4 +1,0 @@
-pub mod Savable
-pub mod Determined
-pub mod ExactRules
-pub mod NamedDrops

@@ -1,6 +1,0 @@
-use Rattle.pl_switch_rule.specs.SwitchRule.{Loose}
-use Rattle.pl_world.proofs.Looser.{run_looser}
-use Rattle.pl_network.proofs.loose_runs.each_run_is_a_loose_run.Goals as goal
-
-pub returns : goal.returns
-returns g c = run_looser g.S.SwitchLogic.rule Loose g.M.ManagerLogic.rule g.H.HostLogic.rule g.met.S.LooseSwitch.obeys

@@ -1,0 +1,5 @@
+pub mod Among
+pub mod Booted
+pub mod Ports
+pub mod Addresses
+pub mod Exports

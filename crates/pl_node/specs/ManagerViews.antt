@@ -1,0 +1,213 @@
+-- What the fabric manager knows: what each switch told last of each thing, who asked for the number of a pod, and the addresses that it
+-- learnt. A later word takes the place of an earlier one on the same thing, and all answers are functions of what is known then.
+use Rattle.std.specs.Prelude.{ℕ, ◌+◌, ◌==◌, ◌&&◌, Bool, false, if◌then◌else◌, List, [], ◌∷◌, ◌++◌, length, map, Option, Some, None, unwrap_or}
+use Rattle.std.specs.List.{filter, filter_map, find, list_any}
+use Rattle.std.specs.Map as table
+use Rattle.std.specs.Option.{option_and_then, option_map}
+use Rattle.std.specs.declared.cmp.Ordering.{Ordering}
+use Rattle.std.specs.Ordering.{nat_cmp, ordering_then}
+use Rattle.std.specs.BTreeMap.{is_at}
+use Rattle.std.specs.BTreeSet.{insert_key}
+use Rattle.pl_frame.specs.declared.address.Mac.{Mac}
+use Rattle.pl_frame.specs.declared.address.Ip4.{Ip4}
+use Rattle.pl_frame.specs.declared.address.SwitchId.{SwitchId}
+use Rattle.pl_pmac.specs.declared.pmac.Pmac.{Pmac}
+use Rattle.pl_layouts.specs.declared.place.Place.{Place}
+use Rattle.pl_layouts.specs.Equality.{same_mac, same_pmac, same_switch}
+use Rattle.pl_layouts.specs.Placement.{is_known, nowhere}
+use Rattle.pl_node.specs.HostViews.{ip_cmp}
+
+-- the places and the links of the tree, as the switches told them last; both tables rise by their keys
+pub record Told : Type 0 where
+  -- the place of a switch
+  pub places : List (SwitchId × Place)
+  -- whether a switch can use its link to a neighbour
+  pub links : List ((SwitchId × SwitchId) × Bool)
+
+-- whether a switch has members of a group, as it told last; the table rises by switch and group
+abbrev pub Members : Type 0
+Members = List ((SwitchId × ℕ) × Bool)
+
+-- a pseudo address, the actual address of its host, the IPv4 address that was told last with it, and the switch that told it first
+pub record LearntAddress : Type 0 where
+  pub switch : SwitchId
+  pub pmac : Pmac
+  pub amac : Mac
+  pub ip : Option Ip4
+
+-- what was learnt of addresses
+pub record Learnt : Type 0 where
+  -- each once, the newest first
+  pub addresses : List LearntAddress
+  -- the pseudo address with which an IPv4 address was told last, by rising IPv4 address
+  pub owners : List (Ip4 × Pmac)
+
+-- all that the manager knows
+pub record ManagerView : Type 0 where
+  -- of a fabric of switches of so many ports
+  pub k : ℕ
+  pub told : Told
+  pub members : Members
+  -- the switches that asked for the number of a pod, each once, the newest first
+  pub askers : List SwitchId
+  pub learnt : Learnt
+
+-- at first it knows nothing
+abbrev pub booted_manager : ℕ → ManagerView
+booted_manager k = record {
+  k = k;
+  told = record { places = []; links = [] };
+  members = [];
+  askers = [];
+  learnt = record { addresses = []; owners = [] };
+}
+
+-- the switches that told a place or a link, each as often as something is known of it
+abbrev pub tellers : Told → List SwitchId
+tellers told = map (λ p. p.0) told.places ++ map (λ l. l.0.0) told.links
+
+-- the same of all that switches tell
+abbrev pub speakers : ManagerView → List SwitchId
+speakers view = tellers view.told ++ (map (λ m. m.0.0) view.members ++ (view.askers ++ map (λ a. a.switch) view.learnt.addresses))
+
+-- a switch was heard where something that it told is known; one that only asked a question is not among them
+abbrev pub is_heard : ManagerView → SwitchId → Bool
+is_heard view s = list_any (λ t. same_switch t s) (speakers view)
+
+-- the items in rising order, none twice
+abbrev pub in_order : {K : Type 0} → (K → K → Ordering) → List K → List K
+in_order cmp [] = []
+in_order cmp (x ∷ xs) = insert_key cmp (in_order cmp xs) x
+
+-- ids in the order of their numbers
+abbrev pub id_cmp : SwitchId → SwitchId → Ordering
+id_cmp a b = nat_cmp a.0 b.0
+
+-- by switch, then by neighbour
+abbrev pub link_cmp : SwitchId × SwitchId → SwitchId × SwitchId → Ordering
+link_cmp a b = ordering_then (id_cmp a.0 b.0) (id_cmp a.1 b.1)
+
+-- by switch, then by group
+abbrev pub members_cmp : SwitchId × ℕ → SwitchId × ℕ → Ordering
+members_cmp a b = ordering_then (id_cmp a.0 b.0) (nat_cmp a.1 b.1)
+
+-- what a table has at a key
+abbrev pub value_at : {K X : Type 0} → (K → K → Ordering) → List (K × X) → K → Option X
+value_at cmp entries key = table.lookup (is_at (cmp key)) entries
+
+-- the switches that told a place or a link, by rising id
+abbrev pub switches : Told → List SwitchId
+switches told = in_order id_cmp (tellers told)
+
+-- the place that a switch told last; nothing is known of one that told none
+abbrev pub place_of : Told → SwitchId → Place
+place_of told s = unwrap_or (value_at id_cmp told.places s) nowhere
+
+-- 0 is the level of an edge switch, 1 of an aggregation switch, 2 of a core switch
+abbrev pub has_level : Told → SwitchId → ℕ → Bool
+has_level told s level = is_known (place_of told s).level level
+
+-- whether a switch told that it is of this pod
+abbrev pub has_pod : Told → SwitchId → ℕ → Bool
+has_pod told s pod = is_known (place_of told s).pod pod
+
+-- the neighbours that a switch told of, by rising id
+abbrev pub neighbours : Told → SwitchId → List SwitchId
+neighbours told s = in_order id_cmp (map (λ l. l.0.1) (filter (λ l. same_switch l.0.0 s) told.links))
+
+-- whether the last that a switch told of its link to this neighbour is that it is usable
+abbrev pub is_told_usable : Told → SwitchId → SwitchId → Bool
+is_told_usable told s u = unwrap_or (value_at link_cmp told.links (s, u)) false
+
+-- a link is alive where both of its ends told that it is usable
+abbrev pub is_alive : Told → SwitchId → SwitchId → Bool
+is_alive told a b = is_told_usable told a b && is_told_usable told b a
+
+-- the neighbours of a switch over links that are alive, by rising id
+abbrev pub alive_neighbours : Told → SwitchId → List SwitchId
+alive_neighbours told s = filter (is_alive told s) (neighbours told s)
+
+-- those of one level, by rising id
+abbrev pub alive_at_level : Told → SwitchId → ℕ → List SwitchId
+alive_at_level told s level = filter (λ u. has_level told u level) (alive_neighbours told s)
+
+-- an edge switch that told its pod and its position
+pub record PlacedEdge : Type 0 where
+  pub switch : SwitchId
+  pub pod : ℕ
+  pub position : ℕ
+
+-- a switch with this level, position and pod as a placed edge switch, if it is one
+abbrev pub edge_with : SwitchId → Option ℕ → Option ℕ → Option ℕ → Option PlacedEdge
+edge_with s (Some level) (Some position) (Some pod) = if level == 0 then Some (record { switch = s; pod = pod; position = position }) else None
+edge_with s level position pod = None
+
+-- the same of a place
+abbrev pub edge_at : SwitchId → Place → Option PlacedEdge
+edge_at s place = edge_with s place.level place.position place.pod
+
+-- all of them, by rising id
+abbrev pub placed_edges : Told → List PlacedEdge
+placed_edges told = filter_map (λ s. edge_at s (place_of told s)) (switches told)
+
+-- the switches that told last that they have members of a group, by rising id
+abbrev pub with_members : Members → ℕ → List SwitchId
+with_members members group = in_order id_cmp (map (λ m. m.0.0) (filter (λ m. m.0.1 == group && m.1) members))
+
+-- a switch that asked for a pod, and the number that it was given
+pub record PodGiven : Type 0 where
+  pub switch : SwitchId
+  pub pod : ℕ
+
+-- the pods are numbered 0, 1, 2 and so on in the order of asking; a switch that asks again has its number
+abbrev pub pods_given : List SwitchId → List PodGiven
+pods_given [] = []
+pods_given (s ∷ askers) =
+    if list_any (λ g. same_switch g.switch s) (pods_given askers) then pods_given askers
+    else record { switch = s; pod = length (pods_given askers) } ∷ pods_given askers
+
+-- the number that a switch was given
+abbrev pub pod_given : List SwitchId → SwitchId → Option ℕ
+pod_given askers s = option_map (λ g. g.pod) (find (λ g. same_switch g.switch s) (pods_given askers))
+
+-- a pseudo address, the actual address of its host, its registration number, and the switch that told it first
+pub record Registration : Type 0 where
+  pub pmac : Pmac
+  pub amac : Mac
+  pub number : ℕ
+  pub switch : SwitchId
+
+-- the addresses are numbered 1, 2, 3 and so on in the order in which they were first learnt; the newest stands first
+abbrev pub numbered : List LearntAddress → List Registration
+numbered [] = []
+numbered (a ∷ addresses) =
+    if list_any (λ r. same_pmac r.pmac a.pmac) (numbered addresses) then numbered addresses
+    else record { pmac = a.pmac; amac = a.amac; number = length (numbered addresses) + 1; switch = a.switch } ∷ numbered addresses
+
+-- the registrations, the newest first
+abbrev pub registry : Learnt → List Registration
+registry learnt = numbered learnt.addresses
+
+-- what is registered of a pseudo address
+abbrev pub registration : Learnt → Pmac → Option Registration
+registration learnt x = find (λ r. same_pmac r.pmac x) (registry learnt)
+
+-- the newest address of an actual address
+abbrev pub newest : Learnt → Mac → Option Registration
+newest learnt a = find (λ r. same_mac r.amac a) (registry learnt)
+
+-- the IPv4 address that was told last with a pseudo address
+abbrev pub ip_of : Learnt → Pmac → Option Ip4
+ip_of learnt x = option_and_then (λ a. a.ip) (find (λ a. same_pmac a.pmac x) learnt.addresses)
+
+-- the pseudo address with which an IPv4 address was told last
+abbrev pub told_with : Learnt → Ip4 → Option Pmac
+told_with learnt ip = value_at ip_cmp learnt.owners ip
+
+-- the owner of an IPv4 address is the actual address of that one
+abbrev pub owner : Learnt → Ip4 → Option Mac
+owner learnt ip = option_map (λ r. r.amac) (option_and_then (registration learnt) (told_with learnt ip))
+
+-- whom a question for an IPv4 address finds: the newest address of its owner
+abbrev pub lookup : Learnt → Ip4 → Option Pmac
+lookup learnt ip = option_map (λ r. r.pmac) (option_and_then (newest learnt) (owner learnt ip))

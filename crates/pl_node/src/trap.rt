@@ -1,0 +1,26 @@
+ghost use Rattle.std.specs.Prelude.{◌≡◌};
+ghost use Rattle.pl_node.specs.Traps.{newer_trap};
+
+use pl_frame::Ip4;
+use pl_pmac::Pmac;
+
+/// Where frames for an address that a host has left go on to: its newer address, the registration number
+/// of that one, and the host's IPv4 address, if it is known.
+#[derive(Clone, Copy, Debug, PartialEq, Eq)]
+pub struct Trap {
+    pub new: Pmac,
+    pub number: u64,
+    pub ip: Option<Ip4>,
+}
+
+impl Trap {
+    /// This trap, or the one that stands already, where that has a larger number.
+    pub fn or_newer(self, standing: Option<Trap>) -> Trap
+        ensures { result ≡ newer_trap self standing }
+    {
+        match standing {
+            Some(standing) if self.number < standing.number => standing,
+            _ => self,
+        }
+    }
+}

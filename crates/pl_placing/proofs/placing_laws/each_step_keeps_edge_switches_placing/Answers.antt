@@ -1,5 +1,0 @@
-use Rattle.pl_placing.proofs.Runs.{step_places}
-use Rattle.pl_placing.proofs.placing_laws.each_step_keeps_edge_switches_placing.Goals as goal
-
-pub returns : goal.returns
-returns g c = step_places g.H.HostLogic.rule g.met.H.HostLogic.sends

@@ -1,3 +1,0 @@
-pub mod PlainViews
-pub mod Settling
-pub mod Proposals

@@ -1,5 +1,0 @@
-pub mod Numbers
-pub mod Managing
-pub mod Steps
-pub mod Keeping
-pub mod Booted

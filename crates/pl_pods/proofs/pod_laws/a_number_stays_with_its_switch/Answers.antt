@@ -1,5 +1,0 @@
-use Rattle.pl_pods.proofs.Numbers.{number_stays}
-use Rattle.pl_pods.proofs.pod_laws.a_number_stays_with_its_switch.Goals as goal
-
-pub returns : goal.returns
-returns c = number_stays

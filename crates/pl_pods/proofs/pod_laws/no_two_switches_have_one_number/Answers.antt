@@ -1,5 +1,0 @@
-use Rattle.pl_pods.proofs.Numbers.{numbers_differ}
-use Rattle.pl_pods.proofs.pod_laws.no_two_switches_have_one_number.Goals as goal
-
-pub returns : goal.returns
-returns c = numbers_differ

@@ -1,0 +1,9 @@
+pub mod Indices
+pub mod NextBits
+pub mod Marks
+pub mod QueueArrays
+pub mod Pooled
+pub mod Ranges
+pub mod TallySums
+pub mod TallyChanges
+pub mod Exports

@@ -1,5 +1,0 @@
-use Rattle.pl_records.proofs.Running.{step_ordered}
-use Rattle.pl_records.proofs.record_laws.each_step_keeps_orders.Goals as goal
-
-pub returns : goal.returns
-returns g c = step_ordered g.H.HostLogic.rule g.met.H.HostLogic.sends

@@ -1,5 +1,0 @@
-use Rattle.pl_records.proofs.LinkRuns.{run_links}
-use Rattle.pl_records.proofs.record_laws.links_are_told_in_every_run.Goals as goal
-
-pub returns : goal.returns
-returns g c = run_links g.H.HostLogic.rule g.met.H.HostLogic.sends g.met.H.HostLogic.owns

@@ -1,5 +1,0 @@
-pub mod Records
-pub mod Pods
-pub mod Placed
-pub mod Proposals
-pub mod Runs

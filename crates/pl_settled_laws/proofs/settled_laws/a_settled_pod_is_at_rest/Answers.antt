@@ -1,5 +1,0 @@
-use Rattle.pl_settled_laws.proofs.Pods.{resting_pod}
-use Rattle.pl_settled_laws.proofs.settled_laws.a_settled_pod_is_at_rest.Goals as goal
-
-pub returns : goal.returns
-returns c = λ w kept placing settled few pod whole. resting_pod w kept settled placing few pod whole

@@ -1,5 +1,0 @@
-use Rattle.pl_settled_laws.proofs.Pods.{settled_positions}
-use Rattle.pl_settled_laws.proofs.settled_laws.edge_switches_of_a_settled_pod_have_positions.Goals as goal
-
-pub returns : goal.returns
-returns c = λ w kept placing settled few pod whole. settled_positions w kept settled placing few pod whole

@@ -1,5 +1,0 @@
-use Rattle.pl_settled_laws.proofs.Placed.{receivers_placed}
-use Rattle.pl_settled_laws.proofs.settled_laws.edge_switches_of_a_settled_pod_that_received_frames_of_hosts_are_placed.Goals as goal
-
-pub returns : goal.returns
-returns c = λ w kept placing settled few pod whole. receivers_placed w placing kept settled few pod whole

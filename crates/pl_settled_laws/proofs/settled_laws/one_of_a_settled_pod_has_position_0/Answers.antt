@@ -1,5 +1,0 @@
-use Rattle.pl_settled_laws.proofs.Pods.{settled_first}
-use Rattle.pl_settled_laws.proofs.settled_laws.one_of_a_settled_pod_has_position_0.Goals as goal
-
-pub returns : goal.returns
-returns c = λ w kept placing settled few pod whole. settled_first w kept settled placing few pod whole

@@ -1,0 +1,3 @@
+-- What other crates may name of these proofs.
+pub use Rattle.pl_shelf.proofs.Changed.{Changes-appended, with_end-none}
+pub use Rattle.pl_shelf.proofs.Written.{Written}

@@ -1,0 +1,11 @@
+pub mod Agreeing
+pub mod Copied
+pub mod Growing
+pub mod Nothing
+pub mod HostsKnown
+pub mod Settled
+pub mod Rows
+pub mod Votes
+pub mod EdgeRows
+pub mod Tables
+pub mod Exports

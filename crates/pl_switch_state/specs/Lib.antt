@@ -1,0 +1,3 @@
+pub mod StateViews
+pub mod Settling
+pub mod Proposals

@@ -1,0 +1,120 @@
+//! `learn SWITCH PMAC MAC [IP]`, `lookup IP`, `newest MAC`, `pod SWITCH`; a switch is its id.
+use pl_frame::{Memory, SwitchId};
+use pl_pmac::{Pmac, pack};
+use pl_registry::{Askers, Learning, Registry};
+use pl_test_words::{first_word, id, is_remark, pmac, say};
+use pl_wiring::text::{ip, mac};
+use std::alloc::Global;
+
+pub(crate) fn play_registry(alloc: Global, lines: &[&str], out: &mut String) -> Result<(), Memory> {
+    let mut bench = Bench {
+        registry: Registry::new(alloc),
+        askers: Askers::new(alloc),
+    };
+    for line in lines {
+        bench.play(alloc, line, out)?;
+    }
+    Ok(())
+}
+
+/// What was learnt of addresses, and the switches that asked for a pod.
+#[derive(Drop)]
+struct Bench {
+    registry: Registry,
+    askers: Askers,
+}
+
+impl Bench {
+    fn play(&mut self, alloc: Global, line: &str, out: &mut String) -> Result<(), Memory> {
+        if is_remark(line) {
+            return say(out, line);
+        }
+        let (verb, rest) = first_word(line);
+        match verb {
+            "learn" => self.learn(alloc, rest, out),
+            "lookup" => self.lookup(alloc, rest, out),
+            "newest" => self.newest(alloc, rest, out),
+            "pod" => self.pod(alloc, rest, out),
+            _ => say(out, "not understood"),
+        }
+    }
+
+    // SWITCH PMAC MAC [IP]
+    fn learn(&mut self, alloc: Global, rest: &str, out: &mut String) -> Result<(), Memory> {
+        let (switch, rest) = first_word(rest);
+        let (address, rest) = first_word(rest);
+        let (amac, given) = first_word(rest);
+        match (id(switch), pmac(address), mac(amac)) {
+            (Some(switch), Some(pmac), Some(amac)) => {
+                let learning = self.registry.learn(switch, pmac, amac, ip(given))?;
+                say_learning(alloc, learning, out)
+            }
+            _ => say(out, "not understood"),
+        }
+    }
+
+    // IP
+    fn lookup(&self, alloc: Global, rest: &str, out: &mut String) -> Result<(), Memory> {
+        match ip(rest) {
+            Some(ip) => say_address(alloc, self.registry.lookup(ip), out),
+            None => say(out, "not understood"),
+        }
+    }
+
+    // MAC
+    fn newest(&self, alloc: Global, rest: &str, out: &mut String) -> Result<(), Memory> {
+        let Some(amac) = mac(rest) else {
+            return say(out, "not understood");
+        };
+        match self.registry.newest(amac) {
+            Some((pmac, number)) => {
+                let pmac = pack(pmac);
+                let line = format!(in alloc; "{pmac} number {number}")?;
+                say(out, line.as_str())
+            }
+            None => say(out, "none"),
+        }
+    }
+
+    // SWITCH
+    fn pod(&mut self, alloc: Global, rest: &str, out: &mut String) -> Result<(), Memory> {
+        match id(rest) {
+            Some(switch) if self.askers.len() < 65536 => {
+                let pod = self.askers.ask(switch)?;
+                let line = format!(in alloc; "pod {pod}")?;
+                say(out, line.as_str())
+            }
+            _ => say(out, "not understood"),
+        }
+    }
+}
+
+fn say_learning(alloc: Global, learning: Option<Learning>, out: &mut String) -> Result<(), Memory> {
+    let Some(learning) = learning else {
+        return say(out, "known");
+    };
+    let number = learning.number;
+    let line = format!(in alloc; "number {number}")?;
+    say(out, line.as_str())?;
+    let Some(replaced) = learning.replaced else {
+        return Ok(());
+    };
+    let SwitchId(switch) = replaced.switch;
+    let old = pack(replaced.pmac);
+    let line = match replaced.ip {
+        Some(ip) => format!(in alloc; "replaces {old} of {switch} for {ip}")?,
+        None => format!(in alloc; "replaces {old} of {switch}")?,
+    };
+    say(out, line.as_str())
+}
+
+fn say_address(alloc: Global, address: Option<Pmac>, out: &mut String) -> Result<(), Memory> {
+    match address {
+        Some(pmac) => {
+            let pmac = pack(pmac);
+            let line = format!(in alloc; "{pmac}")?;
+            say(out, line.as_str())
+        }
+        None => say(out, "none"),
+    }
+}

@@ -1,9 +1,0 @@
-use Rattle.pl_kept.proofs.Keeping.{run_keeps_all}
-use Rattle.pl_ledger_runs.proofs.Runs.{entered_in_run}
-use Rattle.pl_told.proofs.Stepping.{numbers_well}
-use Rattle.pl_told.proofs.run_laws.the_manager_numbers_well_in_every_run.Goals as goal
-
-pub returns : goal.returns
-returns g c = λ plan limits moments new can run.
-    numbers_well new (run_keeps_all g.H.HostLogic.rule g.met.H.HostLogic.sends g.met.H.HostLogic.owns plan limits moments new can run)
-    (entered_in_run g.H.HostLogic.rule g.met.H.HostLogic.sends g.met.H.HostLogic.owns plan limits can moments new run)

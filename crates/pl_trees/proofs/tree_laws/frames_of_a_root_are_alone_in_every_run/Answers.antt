@@ -1,9 +1,0 @@
-use Rattle.pl_kept.proofs.Keeping.{run_keeps_all}
-use Rattle.pl_copies.proofs.Alone.{alone}
-use Rattle.pl_trees.proofs.Running.{run_once}
-use Rattle.pl_trees.proofs.tree_laws.frames_of_a_root_are_alone_in_every_run.Goals as goal
-
-pub returns : goal.returns
-returns g c = λ plan limits moments new can run. alone new
-    (run_keeps_all g.H.HostLogic.rule g.met.H.HostLogic.sends g.met.H.HostLogic.owns plan limits moments new can run).counted.formed.plan
-    (run_once g.H.HostLogic.rule g.met.H.HostLogic.sends g.met.H.HostLogic.owns plan limits moments new can run).come

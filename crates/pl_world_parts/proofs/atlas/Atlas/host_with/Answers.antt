@@ -1,4 +1,0 @@
-use Rattle.pl_world_parts.proofs.atlas.Atlas.host_with.Goals as goal
-
-pub returns : goal.returns
-returns c = cc (c.self.invariant.hosts c.args.mac)

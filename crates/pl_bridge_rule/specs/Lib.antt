@@ -1,0 +1,4 @@
+pub mod BridgeRule
+pub mod Tree
+pub mod QuietManager
+pub mod BridgeExamples

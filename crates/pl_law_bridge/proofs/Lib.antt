@@ -1,0 +1,15 @@
+pub mod Queued
+pub mod PortsApart
+pub mod Changing
+pub mod TravelChanges
+pub mod Spreading
+pub mod Acting
+pub mod Turning
+pub mod Happening
+pub mod LiveLinks
+pub mod Keeping
+pub mod Beginning
+pub mod Consequences
+pub mod Failures
+pub mod Tables
+pub mod GoingAlone

@@ -1,0 +1,5 @@
+use Rattle.pl_law_bridge.proofs.Keeping.{run_keeps}
+use Rattle.pl_law_bridge.proofs.run_laws.each_run_keeps_to_the_tree.Goals as goal
+
+pub returns : goal.returns
+returns g c = run_keeps g.M.ManagerLogic.rule g.H.HostLogic.rule g.met.H.HostLogic.sends

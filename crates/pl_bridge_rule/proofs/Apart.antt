@@ -30,4 +30,4 @@ apart v t u x a b = grind (arith, nat_tests)
 
 -- A frame that came from u to v goes on to no switch that it could not come to from u.
 pub within : (u v w x : Label) → leads_to v w x ≡ true → (u ≡ w → ⊥) → leads_to u v v ≡ true → leads_to u v x ≡ true
-within u v w x a other joined = grind (arith, nat_tests)
+within u v w x a other adjacent = grind (arith, nat_tests)

@@ -3,19 +3,19 @@ use Rattle.std.proofs.Common.{◌≡◌, ◌⊎◌, Some, true, List, [], ◌∷
 use Rattle.std.proofs.lemmas.Bool.{false≢true}
 use Rattle.std.proofs.lemmas.Bool.Decides.{nat_tests}
 use Rattle.pl_wiring.specs.declared.label.Label.{Label}
-use Rattle.pl_bridge_rule.specs.Tree.{IsWay, end_of, is_joined_in_tree, is_of_tree, leads_to, parent, rises, towards}
+use Rattle.pl_bridge_rule.specs.Tree.{IsWay, end_of, is_tree_link, is_of_tree, leads_to, parent, rises, towards}
 use Rattle.pl_bridge_rule.proofs.Apart.{apart, not_here, within}
 
 -- a link of the tree leads to its other end
-pub joined_leads : (a b : Label) → is_joined_in_tree a b ≡ true → leads_to a b b ≡ true
+pub joined_leads : (a b : Label) → is_tree_link a b ≡ true → leads_to a b b ≡ true
 joined_leads a b is = grind (arith, nat_tests)
 
 -- and it is one from its other end too
-pub either_way : (a b : Label) → is_joined_in_tree a b ≡ true → is_joined_in_tree b a ≡ true
+pub either_way : (a b : Label) → is_tree_link a b ≡ true → is_tree_link b a ≡ true
 either_way a b is = grind (arith, nat_tests)
 
 -- a link of the tree is one between a switch and the one above it
-pub joined_by_parent : (a b : Label) → is_joined_in_tree a b ≡ true → (parent a ≡ Some b) ⊎ (parent b ≡ Some a)
+pub joined_by_parent : (a b : Label) → is_tree_link a b ≡ true → (parent a ≡ Some b) ⊎ (parent b ≡ Some a)
 joined_by_parent a b is = grind (arith, nat_tests)
 
 pub parent_joins : (a b : Label) → parent a ≡ Some b → rises a b ≡ true

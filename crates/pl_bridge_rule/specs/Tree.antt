@@ -16,8 +16,8 @@ rises (Aggregation p j) (Core g m) = (j == 0) && ((g == 0) && (m == 0))
 rises a b = false
 
 -- whether a link of the tree joins the two
-abbrev pub is_joined_in_tree : Label → Label → Bool
-is_joined_in_tree a b = rises a b || rises b a
+abbrev pub is_tree_link : Label → Label → Bool
+is_tree_link a b = rises a b || rises b a
 
 abbrev pub is_in_pod : ℕ → Label → Bool
 is_in_pod p (Edge q i) = p == q
@@ -57,8 +57,8 @@ towards (Core g m) x = Core 0 0
 abbrev pub IsWay : List Label → Type 0
 IsWay [] = Unit {0}
 IsWay (a ∷ []) = Unit {0}
-IsWay (a ∷ b ∷ []) = is_joined_in_tree a b ≡ true
-IsWay (a ∷ b ∷ c ∷ more) = (is_joined_in_tree a b ≡ true) × ((a ≡ c → ⊥) × IsWay (b ∷ c ∷ more))
+IsWay (a ∷ b ∷ []) = is_tree_link a b ≡ true
+IsWay (a ∷ b ∷ c ∷ more) = (is_tree_link a b ≡ true) × ((a ≡ c → ⊥) × IsWay (b ∷ c ∷ more))
 
 -- where it ends
 abbrev pub end_of : Label → List Label → Label

@@ -59,7 +59,7 @@ travels_at_first plan limits = record {
   new = λ id later. refl;
   at_hosts = λ h. none_waits (WaitsAtHost [] 0) (length plan.hosts) h;
   at_ports = λ n. none_waits (WaitsAtPort plan [] 0 n) (switch_count plan.k * plan.k) n;
-  joined = λ id. tt;
+  adjacent = λ id. tt;
   arrived = tt;
 }
 

@@ -12,7 +12,7 @@ use Rattle.pl_bridge_rule.specs.Tree.{IsWay}
 use Rattle.pl_law_bridge.specs.Reaching.{ReachesOnce, Target, times_reached}
 use Rattle.pl_law_bridge.specs.Reaching.Target.{Crossing}
 use Rattle.pl_law_bridge.specs.TreeWorld.{KeepsToTree}
-use Rattle.pl_law_bridge.specs.Travelling.{AreJoined, times_on}
+use Rattle.pl_law_bridge.specs.Travelling.{AreAdjacentInTree, times_on}
 use Rattle.pl_law_bridge.proofs.Spreading.{same_switch}
 
 pub reached_at_most_once : (w : WorldView) → ReachesOnce w → (r : ℕ) (target : Target) → times_reached w.plan (reverse w.journal) r target ≤ 1
@@ -74,15 +74,15 @@ crossed_at_most_once w c id x =
     omega arith
 
 -- a line in which no switch stands twice does not turn back
-way_of : (k : ℕ) (switches : List ℕ) → ((x : ℕ) → times_on x switches ≤ 1) → AreJoined k switches → IsWay (map (label_of k) switches)
-way_of k [] once joined = tt
-way_of k (s ∷ []) once joined = tt
-way_of k (s ∷ t ∷ []) once joined = joined.0
-way_of k (s ∷ t ∷ u ∷ more) once joined = (
-  joined.0,
+way_of : (k : ℕ) (switches : List ℕ) → ((x : ℕ) → times_on x switches ≤ 1) → AreAdjacentInTree k switches → IsWay (map (label_of k) switches)
+way_of k [] once adjacent = tt
+way_of k (s ∷ []) once adjacent = tt
+way_of k (s ∷ t ∷ []) once adjacent = adjacent.0
+way_of k (s ∷ t ∷ u ∷ more) once adjacent = (
+  adjacent.0,
   (
     λ same. absurd (let twice = at_both (s == s) (t == s) (u == s) (times_on s more) (eq-eqb s s refl) (eq-eqb u s (sym (same_switch k s u same))) in let most = once s in omega (arith, twice, most)),
-    way_of k (t ∷ u ∷ more) (λ x. shorter (s == x) (times_on x (t ∷ u ∷ more)) (once x)) joined.1,
+    way_of k (t ∷ u ∷ more) (λ x. shorter (s == x) (times_on x (t ∷ u ∷ more)) (once x)) adjacent.1,
   ),
 )
   where
@@ -97,4 +97,4 @@ way_of k (s ∷ t ∷ u ∷ more) once joined = (
     shorter false n less = less
 
 pub lines_are_ways : (w : WorldView) → KeepsToTree w → (id : ℕ) → IsWay (map (label_of w.plan.k) (trail (reverse w.journal) id))
-lines_are_ways w is id = way_of w.plan.k (trail (reverse w.journal) id) (crossed_at_most_once w is.once id) (is.travels.joined id)
+lines_are_ways w is id = way_of w.plan.k (trail (reverse w.journal) id) (crossed_at_most_once w is.once id) (is.travels.adjacent id)

@@ -54,7 +54,7 @@ use Rattle.pl_world.specs.Worlds.{WorldView}
 use Rattle.pl_world.proofs.Exports.{all_at, all_found, born_once, failed_left, Happened, happened, head_is_item, heard_rest, lost_left, manager_acts_left, noted_owes, one, Owes, peer_is_port, repaired_left, says_rest, sent_is_item, skip_left, Sound, sound, ticked_heard, times_in-data, took_host_balance, took_out_balance, Writes}
 use Rattle.pl_world.proofs.Exports.Happened.{Asked, Departed, Failed, FromHost, Lost, Ordered, OutOfPort, OverLink, PlayedFrame, Repaired, Reported, Ticked}
 use Rattle.pl_bridge_rule.specs.BridgeRule.{Bridges, bridge_step, bridges, goes_on, other_ports, port_for, with_source}
-use Rattle.pl_bridge_rule.specs.Tree.{is_joined_in_tree}
+use Rattle.pl_bridge_rule.specs.Tree.{is_tree_link}
 use Rattle.pl_bridge_rule.proofs.Exports.{either_way}
 use Rattle.pl_law_bridge.specs.Reaching.{ReachesOnce, Target, standing}
 use Rattle.pl_law_bridge.specs.TreeWorld.{LiveIsTree}
@@ -198,13 +198,13 @@ module _ (accounts : AccountsForFrames Bridges) (w : WorldView) (counted : IsCou
   -- ---- a data frame crosses a switch, and goes on
   crosses : (t : ℕ) (from : Option ℕ) (id : ℕ) (frame : List ℕ) (from_hosts out : List (List Item)) (acts : List Act) (bound : Target → ℕ) →
       ((x : Target) → here t x + used w.plan t x acts ≤ bound x) → IsNowhere id from_hosts out →
-      ((u : ℕ) → from ≡ Some u → is_joined_in_tree (label_of w.plan.k t) (label_of w.plan.k u) ≡ true) → IsUnderWay past w.begun from id frame →
+      ((u : ℕ) → from ≡ Some u → is_tree_link (label_of w.plan.k t) (label_of w.plan.k u) ≡ true) → IsUnderWay past w.begun from id frame →
       IsKept w.plan at past from_hosts out w.begun (λ r there. of_root past id (bound there) r) →
       IsKept w.plan at (reverse (w.journal ++ Crossed id (switch_no t) ∷ [])) from_hosts out w.begun
       (in_hand w.plan t (reverse (w.journal ++ Crossed id (switch_no t) ∷ [])) acts (Waiting id false))
       × IsUnderWay (reverse (w.journal ++ Crossed id (switch_no t) ∷ [])) w.begun (Some t) id frame
-  crosses t from id frame from_hosts out acts bound few nowhere joined under c =
-      let moves = travel_crossed w.plan past from_hosts out w.begun id (switch_no t) from frame nowhere.at_hosts nowhere.at_ports joined under c.travels in
+  crosses t from id frame from_hosts out acts bound few nowhere adjacent under c =
+      let moves = travel_crossed w.plan past from_hosts out w.begun id (switch_no t) from frame nowhere.at_hosts nowhere.at_ports adjacent under c.travels in
       subst (λ p. IsKept w.plan at p from_hosts out w.begun (in_hand w.plan t p acts (Waiting id false)) × IsUnderWay p w.begun (Some t) id frame)
       (sym (past_more w.journal (Crossed id (switch_no t)))) (
         record {
@@ -215,10 +215,10 @@ module _ (accounts : AccountsForFrames Bridges) (w : WorldView) (counted : IsCou
         moves.1,
       )
 
-  joined_back : (s t : ℕ) → is_joined_in_tree (label_of w.plan.k s) (label_of w.plan.k t) ≡ true → (u : ℕ) → Some s ≡ Some u →
-      is_joined_in_tree (label_of w.plan.k t) (label_of w.plan.k u) ≡ true
+  joined_back : (s t : ℕ) → is_tree_link (label_of w.plan.k s) (label_of w.plan.k t) ≡ true → (u : ℕ) → Some s ≡ Some u →
+      is_tree_link (label_of w.plan.k t) (label_of w.plan.k u) ≡ true
   joined_back s t is u same =
-      subst (λ n. is_joined_in_tree (label_of w.plan.k t) (label_of w.plan.k n) ≡ true) (same_Some s u same) (either_way (label_of w.plan.k s) (label_of w.plan.k t) is)
+      subst (λ n. is_tree_link (label_of w.plan.k t) (label_of w.plan.k n) ≡ true) (same_Some s u same) (either_way (label_of w.plan.k s) (label_of w.plan.k t) is)
 
   -- it comes over a link
   data_comes_over : (s port id : ℕ) (frame : List ℕ) (items : List Item) (t : SwitchNo) (q : ℕ) → port < w.plan.k → out_of w s port ≡ Data id frame ∷ items →
@@ -231,15 +231,15 @@ module _ (accounts : AccountsForFrames Bridges) (w : WorldView) (counted : IsCou
       let size : v.k ≡ w.plan.k = all_found (λ (u : SwitchView). u.k ≡ w.plan.k) w.switches t.0 v turn.found so.rest.ports in
       let taken = take_port w.plan past w.from_hosts w.out w.begun n (Data id frame) items head kept.travels in
       let held = port_held w.plan past w.begun s port id frame within taken.1 in
-      let joined : is_joined_in_tree (label_of w.plan.k s) (label_of w.plan.k t.0) ≡ true = held.0 t q peer in
+      let adjacent : is_tree_link (label_of w.plan.k s) (label_of w.plan.k t.0) ≡ true = held.0 t q peer in
       let way : Option ℕ = port_for (with_source v q frame) (destination_of frame) in
       let acts : goes_on w.plan.k q frame way ≡ turn.acts = sym (turn.ruled.done ∙ comes_acts v q frame is_frame.kind ∙ ap (λ m. goes_on m q frame way) size) in
       let few : (x : Target) → here t.0 x + used w.plan t.0 x turn.acts ≤ claim w.plan s port x =
       λ x. subst (λ a. here t.0 x + used w.plan t.0 x a ≤ claim w.plan s port x) acts
-      (over_link_few w.plan is_plan s port t (switch_no s) q frame way x refl peer (peer_back w.plan s port t q is_plan peer) joined) in
+      (over_link_few w.plan is_plan s port t (switch_no s) q frame way x refl peer (peer_back w.plan s port t q is_plan peer) adjacent) in
       let owes = took_out_balance w.plan w.from_hosts w.out w.journal w.begun (λ i. 0) (λ i. times_in i (Data id frame ∷ [])) n (Data id frame) items head (λ i. omega arith) so.balance in
       let w1 : WorldView = taken_out w s port items in
-      let c = crosses t.0 (Some s) id frame w.from_hosts w1.out turn.acts (claim w.plan s port) few (owed_is_nowhere w1 id frame owes) (joined_back s t.0 joined) held.1 (record {
+      let c = crosses t.0 (Some s) id frame w.from_hosts w1.out turn.acts (claim w.plan s port) few (owed_is_nowhere w1 id frame owes) (joined_back s t.0 adjacent) held.1 (record {
         once = take_out w.plan at past w.from_hosts w.out w.begun s port id frame items within head kept.once;
         travels = taken.0;
       }) in
@@ -380,8 +380,8 @@ module _ (accounts : AccountsForFrames Bridges) (w : WorldView) (counted : IsCou
 
     by_case : Happened Bridges manager rule w happens new → IsKeptIn new
     by_case (FromHost h item items attachment is head found comes) = from_host h.0 item items attachment head found comes
-    by_case (OverLink s port item items t q is head joined comes) = over_link s.0 port item items t q (within_port s port is) head joined comes
-    by_case (OutOfPort s port item items is head joined comes) = out_of_port rule s.0 port item items (within_port s port is) head joined comes
+    by_case (OverLink s port item items t q is head adjacent comes) = over_link s.0 port item items t q (within_port s port is) head adjacent comes
+    by_case (OutOfPort s port item items is head adjacent comes) = out_of_port rule s.0 port item items (within_port s port is) head adjacent comes
     by_case (Reported s told items is head turn) =
         manager_acts_left Keeps IsIdle keeps_writes (λ pmac n. tt) (λ u t says c. record { once = c.once; travels = c.travels }) manager (record w { to_manager = set w.to_manager s.0 items }) s.0 told new turn kept
     by_case (Ordered s says items is head turn) = says_keep s.0 says items turn

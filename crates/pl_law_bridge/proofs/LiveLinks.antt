@@ -12,7 +12,7 @@ use Rattle.pl_wiring.specs.Plan.{Plan}
 use Rattle.pl_wiring.proofs.Exports.{peer_says}
 use Rattle.pl_node.proofs.Exports.{among_of_Contains, IsAmong}
 use Rattle.pl_world.specs.LinksAndMoves.{with_link}
-use Rattle.pl_bridge_rule.specs.Tree.{is_joined_in_tree}
+use Rattle.pl_bridge_rule.specs.Tree.{is_tree_link}
 use Rattle.pl_bridge_rule.proofs.Exports.{either_way}
 use Rattle.pl_law_bridge.specs.TreeWorld.{LiveIsTree, is_off_tree, only_tree}
 
@@ -113,11 +113,11 @@ tree_is_left plan live s port is t q peer =
     let link : Link = says.0 in
     elim (cases_Bool (is_off_tree plan.k link)) [
       | inl off ↦ absurd (off_is_out plan.k live plan.links link s port (among_of_Contains link plan.links says.1) off (has_end link s port t.0 q says.2) is)
-      | inr on ↦ ends says.2 (not_not (is_joined_in_tree (label_of plan.k link.lower.0) (label_of plan.k link.upper.0)) on)
+      | inr on ↦ ends says.2 (not_not (is_tree_link (label_of plan.k link.lower.0) (label_of plan.k link.upper.0)) on)
     ]
   where
-    ends : {l : Link} → HasEnds l s port t.0 q → is_joined_in_tree (label_of plan.k l.lower.0) (label_of plan.k l.upper.0) ≡ true →
-        is_joined_in_tree (label_of plan.k s) (label_of plan.k t.0) ≡ true
-    ends {l} (inl up) j = subst (λ n. is_joined_in_tree (label_of plan.k s) (label_of plan.k n) ≡ true) up.2 (subst (λ n. is_joined_in_tree (label_of plan.k n) (label_of plan.k l.upper.0) ≡ true) up.0 j)
-    ends {l} (inr down) j = subst (λ n. is_joined_in_tree (label_of plan.k s) (label_of plan.k n) ≡ true) down.2
-        (subst (λ n. is_joined_in_tree (label_of plan.k n) (label_of plan.k l.lower.0) ≡ true) down.0 (either_way (label_of plan.k l.lower.0) (label_of plan.k l.upper.0) j))
+    ends : {l : Link} → HasEnds l s port t.0 q → is_tree_link (label_of plan.k l.lower.0) (label_of plan.k l.upper.0) ≡ true →
+        is_tree_link (label_of plan.k s) (label_of plan.k t.0) ≡ true
+    ends {l} (inl up) j = subst (λ n. is_tree_link (label_of plan.k s) (label_of plan.k n) ≡ true) up.2 (subst (λ n. is_tree_link (label_of plan.k n) (label_of plan.k l.upper.0) ≡ true) up.0 j)
+    ends {l} (inr down) j = subst (λ n. is_tree_link (label_of plan.k s) (label_of plan.k n) ≡ true) down.2
+        (subst (λ n. is_tree_link (label_of plan.k n) (label_of plan.k l.lower.0) ≡ true) down.0 (either_way (label_of plan.k l.lower.0) (label_of plan.k l.upper.0) j))

@@ -13,7 +13,7 @@ use Rattle.pl_journal.specs.Places.{EdgePort}
 use Rattle.pl_node.specs.declared.acts.Act.{Act}
 use Rattle.pl_node.specs.declared.acts.Act.TheVariants as act
 use Rattle.pl_bridge_rule.specs.BridgeRule.{goes_on, other_ports}
-use Rattle.pl_bridge_rule.specs.Tree.{is_joined_in_tree, leads_to}
+use Rattle.pl_bridge_rule.specs.Tree.{is_tree_link, leads_to}
 use Rattle.pl_bridge_rule.proofs.Exports.{apart, joined_leads, not_here, within}
 use Rattle.pl_law_bridge.specs.Reaching.{Target, is_crossing_of, may_reach, may_reach_by, switch_at}
 use Rattle.pl_law_bridge.specs.Reaching.Target.{Arrival, Crossing}
@@ -136,13 +136,13 @@ from_host_few plan is_plan t q frame o x = crossed_and_used plan is_plan t x q f
 
 -- a frame that came over a link of the tree might reach what lies behind it
 pub over_link_few : (plan : Plan) → IsPlan plan → (s port : ℕ) (t from : SwitchNo) (q : ℕ) (frame : List ℕ) (o : Option ℕ) (x : Target) → from.0 ≡ s →
-    peer_of plan s port ≡ Switch t q → peer_of plan t.0 q ≡ Switch from port → is_joined_in_tree (label_of plan.k s) (label_of plan.k t.0) ≡ true →
+    peer_of plan s port ≡ Switch t q → peer_of plan t.0 q ≡ Switch from port → is_tree_link (label_of plan.k s) (label_of plan.k t.0) ≡ true →
     here t.0 x + used plan t.0 x (goes_on plan.k q frame o) ≤ claim plan s port x
-over_link_few plan is_plan s port t from q frame o x itself peer back joined =
+over_link_few plan is_plan s port t from q frame o x itself peer back adjacent =
     crossed_and_used plan is_plan t.0 x q frame (claim plan s port x) o (λ same. at_itself (crossing_at x same)) (λ p other may. on p other (leads_by plan t.0 p x may))
   where
     leads : leads_to (label_of plan.k s) (label_of plan.k t.0) (label_of plan.k t.0) ≡ true
-    leads = joined_leads (label_of plan.k s) (label_of plan.k t.0) joined
+    leads = joined_leads (label_of plan.k s) (label_of plan.k t.0) adjacent
 
     crossing_at : (y : Target) → is_crossing_of t.0 y ≡ true → t.0 ≡ switch_at y
     crossing_at (Crossing n) is = eqb-true t.0 n is

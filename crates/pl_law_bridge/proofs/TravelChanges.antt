@@ -16,8 +16,8 @@ use Rattle.pl_queues.specs.Queues.{items_at}
 use Rattle.pl_world.specs.declared.item.Item.{Item}
 use Rattle.pl_world.specs.declared.item.Item.TheVariants.{Control, Data}
 use Rattle.pl_world.specs.Flying.{times_in, times_in_all}
-use Rattle.pl_bridge_rule.specs.Tree.{is_joined_in_tree}
-use Rattle.pl_law_bridge.specs.Travelling.{AreJoined, ArriveAsSent, ArrivesAsSent, IsUnderWay, LeadsOverTree, Travel, WaitsAtHost, WaitsAtPort}
+use Rattle.pl_bridge_rule.specs.Tree.{is_tree_link}
+use Rattle.pl_law_bridge.specs.Travelling.{AreAdjacentInTree, ArriveAsSent, ArrivesAsSent, IsUnderWay, LeadsOverTree, Travel, WaitsAtHost, WaitsAtPort}
 use Rattle.pl_law_bridge.proofs.Changing.{IsIdle}
 
 -- another queue at one place
@@ -84,7 +84,7 @@ module _ (plan : Plan) where
     new = t.new;
     at_hosts = t.at_hosts;
     at_ports = set_kept (WaitsAtPort plan past many) out n items t.at_ports all;
-    joined = t.joined;
+    adjacent = t.adjacent;
     arrived = t.arrived;
   }
 
@@ -106,7 +106,7 @@ module _ (plan : Plan) where
     new = t.new;
     at_hosts = set_kept (λ n. WaitsAtHost past many) from_hosts h items t.at_hosts all;
     at_ports = t.at_ports;
-    joined = t.joined;
+    adjacent = t.adjacent;
     arrived = t.arrived;
   }
 
@@ -125,13 +125,13 @@ module _ (plan : Plan) where
   -- ---- entries
   -- what the journal says later of the frames that have begun is what it said before
   travel_on : (past next : List Entry) (from_hosts out : List (List Item)) (many more : ℕ) → many ≤ more → ((id : ℕ) → id ≤ many → beginning next id ≡ beginning past id) →
-      ((id : ℕ) → id ≤ many → trail next id ≡ trail past id) → ((id : ℕ) → more < id → trail next id ≡ []) → ((id : ℕ) → AreJoined plan.k (trail next id)) →
+      ((id : ℕ) → id ≤ many → trail next id ≡ trail past id) → ((id : ℕ) → more < id → trail next id ≡ []) → ((id : ℕ) → AreAdjacentInTree plan.k (trail next id)) →
       ArriveAsSent plan next → Travel plan past from_hosts out many → Travel plan next from_hosts out more
-  travel_on past next from_hosts out many more le bytes crossed new joined arrived t = record {
+  travel_on past next from_hosts out many more le bytes crossed new adjacent arrived t = record {
     new = new;
     at_hosts = λ h. all_weaker (WaitsAtHost past many) (WaitsAtHost next more) at_host (items_at from_hosts h) (t.at_hosts h);
     at_ports = λ n. all_weaker (WaitsAtPort plan past many n) (WaitsAtPort plan next more n) (at_port n) (items_at out n) (t.at_ports n);
-    joined = joined;
+    adjacent = adjacent;
     arrived = arrived;
   }
     where
@@ -151,29 +151,29 @@ module _ (plan : Plan) where
   travel_idle past from_hosts out many (Crossed id s) idle t = absurd idle
   travel_idle past from_hosts out many (Arrived id h frame) idle t = absurd idle
   travel_idle past from_hosts out many (Moved h s port) idle t = absurd idle
-  travel_idle past from_hosts out many (Line n) idle t = travel_on past (Line n ∷ past) from_hosts out many many (omega arith) (λ g le. refl) (λ g le. refl) t.new t.joined t.arrived t
-  travel_idle past from_hosts out many (Skipped h skip) idle t = travel_on past (Skipped h skip ∷ past) from_hosts out many many (omega arith) (λ g le. refl) (λ g le. refl) t.new t.joined t.arrived t
-  travel_idle past from_hosts out many (Redirected id old new) idle t = travel_on past (Redirected id old new ∷ past) from_hosts out many many (omega arith) (λ g le. refl) (λ g le. refl) t.new t.joined t.arrived t
-  travel_idle past from_hosts out many (Taken id s) idle t = travel_on past (Taken id s ∷ past) from_hosts out many many (omega arith) (λ g le. refl) (λ g le. refl) t.new t.joined t.arrived t
-  travel_idle past from_hosts out many (Dropped id why) idle t = travel_on past (Dropped id why ∷ past) from_hosts out many many (omega arith) (λ g le. refl) (λ g le. refl) t.new t.joined t.arrived t
-  travel_idle past from_hosts out many (Granted x h e p) idle t = travel_on past (Granted x h e p ∷ past) from_hosts out many many (omega arith) (λ g le. refl) (λ g le. refl) t.new t.joined t.arrived t
-  travel_idle past from_hosts out many (Registered x n) idle t = travel_on past (Registered x n ∷ past) from_hosts out many many (omega arith) (λ g le. refl) (λ g le. refl) t.new t.joined t.arrived t
-  travel_idle past from_hosts out many (Placed s place) idle t = travel_on past (Placed s place ∷ past) from_hosts out many many (omega arith) (λ g le. refl) (λ g le. refl) t.new t.joined t.arrived t
-  travel_idle past from_hosts out many (LinkDown x y) idle t = travel_on past (LinkDown x y ∷ past) from_hosts out many many (omega arith) (λ g le. refl) (λ g le. refl) t.new t.joined t.arrived t
-  travel_idle past from_hosts out many (LinkUp x y) idle t = travel_on past (LinkUp x y ∷ past) from_hosts out many many (omega arith) (λ g le. refl) (λ g le. refl) t.new t.joined t.arrived t
-  travel_idle past from_hosts out many (Settled n) idle t = travel_on past (Settled n ∷ past) from_hosts out many many (omega arith) (λ g le. refl) (λ g le. refl) t.new t.joined t.arrived t
-  travel_idle past from_hosts out many (Unsettled n) idle t = travel_on past (Unsettled n ∷ past) from_hosts out many many (omega arith) (λ g le. refl) (λ g le. refl) t.new t.joined t.arrived t
+  travel_idle past from_hosts out many (Line n) idle t = travel_on past (Line n ∷ past) from_hosts out many many (omega arith) (λ g le. refl) (λ g le. refl) t.new t.adjacent t.arrived t
+  travel_idle past from_hosts out many (Skipped h skip) idle t = travel_on past (Skipped h skip ∷ past) from_hosts out many many (omega arith) (λ g le. refl) (λ g le. refl) t.new t.adjacent t.arrived t
+  travel_idle past from_hosts out many (Redirected id old new) idle t = travel_on past (Redirected id old new ∷ past) from_hosts out many many (omega arith) (λ g le. refl) (λ g le. refl) t.new t.adjacent t.arrived t
+  travel_idle past from_hosts out many (Taken id s) idle t = travel_on past (Taken id s ∷ past) from_hosts out many many (omega arith) (λ g le. refl) (λ g le. refl) t.new t.adjacent t.arrived t
+  travel_idle past from_hosts out many (Dropped id why) idle t = travel_on past (Dropped id why ∷ past) from_hosts out many many (omega arith) (λ g le. refl) (λ g le. refl) t.new t.adjacent t.arrived t
+  travel_idle past from_hosts out many (Granted x h e p) idle t = travel_on past (Granted x h e p ∷ past) from_hosts out many many (omega arith) (λ g le. refl) (λ g le. refl) t.new t.adjacent t.arrived t
+  travel_idle past from_hosts out many (Registered x n) idle t = travel_on past (Registered x n ∷ past) from_hosts out many many (omega arith) (λ g le. refl) (λ g le. refl) t.new t.adjacent t.arrived t
+  travel_idle past from_hosts out many (Placed s place) idle t = travel_on past (Placed s place ∷ past) from_hosts out many many (omega arith) (λ g le. refl) (λ g le. refl) t.new t.adjacent t.arrived t
+  travel_idle past from_hosts out many (LinkDown x y) idle t = travel_on past (LinkDown x y ∷ past) from_hosts out many many (omega arith) (λ g le. refl) (λ g le. refl) t.new t.adjacent t.arrived t
+  travel_idle past from_hosts out many (LinkUp x y) idle t = travel_on past (LinkUp x y ∷ past) from_hosts out many many (omega arith) (λ g le. refl) (λ g le. refl) t.new t.adjacent t.arrived t
+  travel_idle past from_hosts out many (Settled n) idle t = travel_on past (Settled n ∷ past) from_hosts out many many (omega arith) (λ g le. refl) (λ g le. refl) t.new t.adjacent t.arrived t
+  travel_idle past from_hosts out many (Unsettled n) idle t = travel_on past (Unsettled n ∷ past) from_hosts out many many (omega arith) (λ g le. refl) (λ g le. refl) t.new t.adjacent t.arrived t
 
   pub travel_moved : (past : List Entry) (from_hosts out : List (List Item)) (many : ℕ) (h : HostNo) (s : SwitchNo) (port : ℕ) → Travel plan past from_hosts out many →
       Travel plan (Moved h s port ∷ past) from_hosts out many
   travel_moved past from_hosts out many h s port t =
-      travel_on past (Moved h s port ∷ past) from_hosts out many many (omega arith) (λ g le. refl) (λ g le. refl) t.new t.joined t.arrived t
+      travel_on past (Moved h s port ∷ past) from_hosts out many many (omega arith) (λ g le. refl) (λ g le. refl) t.new t.adjacent t.arrived t
 
   -- a frame arrives with the bytes with which it waited
   pub travel_arrived : (past : List Entry) (from_hosts out : List (List Item)) (many id : ℕ) (h : HostNo) (frame : List ℕ) → ArrivesAsSent plan past id h.0 frame →
       Travel plan past from_hosts out many → Travel plan (Arrived id h frame ∷ past) from_hosts out many
   travel_arrived past from_hosts out many id h frame same t =
-      travel_on past (Arrived id h frame ∷ past) from_hosts out many many (omega arith) (λ g le. refl) (λ g le. refl) t.new t.joined (same, t.arrived) t
+      travel_on past (Arrived id h frame ∷ past) from_hosts out many many (omega arith) (λ g le. refl) (λ g le. refl) t.new t.adjacent (same, t.arrived) t
 
   -- a frame begins at a host
   pub travel_sent : (past : List Entry) (from_hosts out : List (List Item)) (many : ℕ) (h : HostNo) (frame : List ℕ) → Travel plan past from_hosts out many →
@@ -181,7 +181,7 @@ module _ (plan : Plan) where
   travel_sent past from_hosts out many h frame t = (
     travel_on past (Sent (many + 1) h frame ∷ past) from_hosts out many (many + 1) (omega arith)
         (λ g le. cond-false ((many + 1) == g) frame (beginning past g) (ne_eqb (many + 1) g (λ is. absurd (omega (arith, is, le))))) (λ g le. refl)
-        (λ g later. t.new g (omega (arith, later))) t.joined t.arrived t,
+        (λ g later. t.new g (omega (arith, later))) t.adjacent t.arrived t,
     record {
       begun = omega arith;
       bytes = sym (cond-true ((many + 1) == (many + 1)) frame (beginning past (many + 1)) (eq-eqb (many + 1) (many + 1) refl));
@@ -198,7 +198,7 @@ module _ (plan : Plan) where
     travel_on past (Copied id (many + 1) ∷ past) from_hosts out many (many + 1) (omega arith) (λ g le. ap (beginning past) (other g (λ same. absurd (omega (arith, same, le)))))
         (λ g le. ap (trail past) (other g (λ same. absurd (omega (arith, same, le)))))
         (λ g later. ap (trail past) (other g (λ same. absurd (omega (arith, same, later)))) ∙ t.new g (omega (arith, later)))
-        (λ g. t.joined (before_copy id (many + 1) g)) t.arrived t,
+        (λ g. t.adjacent (before_copy id (many + 1) g)) t.arrived t,
     (
       record { begun = omega arith; bytes = is.bytes ∙ sym (ap (beginning past) copy); crossed = ap (λ g. first_of (trail past g)) copy ∙ is.crossed },
       still_under_way past (Copied id (many + 1) ∷ past) many (many + 1) last id frame (omega arith) (ap (beginning past) itself) (ap (trail past) itself) is,
@@ -216,7 +216,7 @@ module _ (plan : Plan) where
 
   -- a frame that waits nowhere crosses a switch to which its way leads on
   pub travel_crossed : (past : List Entry) (from_hosts out : List (List Item)) (many id : ℕ) (s : SwitchNo) (last : Option ℕ) (frame : List ℕ) → times_in_all id from_hosts ≡ 0 →
-      times_in_all id out ≡ 0 → ((t : ℕ) → last ≡ Some t → is_joined_in_tree (label_of plan.k s.0) (label_of plan.k t) ≡ true) → IsUnderWay past many last id frame →
+      times_in_all id out ≡ 0 → ((t : ℕ) → last ≡ Some t → is_tree_link (label_of plan.k s.0) (label_of plan.k t) ≡ true) → IsUnderWay past many last id frame →
       Travel plan past from_hosts out many → Travel plan (Crossed id s ∷ past) from_hosts out many × IsUnderWay (Crossed id s ∷ past) many (Some s.0) id frame
   travel_crossed past from_hosts out many id s last frame not_at_hosts not_out leads is t = (
     record {
@@ -230,10 +230,10 @@ module _ (plan : Plan) where
             still_under_way past (Crossed id s ∷ past) many many (Some (n / plan.k)) g f (omega arith) refl (cond-false (id == g) (s.0 ∷ trail past g) (trail past g) apart) waits.1,
           ))
           (items_at out n) (none_at id out n not_out) (t.at_ports n);
-      joined = λ g. elim (cases_Bool (id == g)) [
-        | inl same ↦ subst (AreJoined plan.k) (sym (cond-true (id == g) (s.0 ∷ trail past g) (trail past g) same))
-            (subst (λ x. AreJoined plan.k (s.0 ∷ trail past x)) (eqb-true id g same) longer)
-        | inr apart ↦ subst (AreJoined plan.k) (sym (cond-false (id == g) (s.0 ∷ trail past g) (trail past g) apart)) (t.joined g)
+      adjacent = λ g. elim (cases_Bool (id == g)) [
+        | inl same ↦ subst (AreAdjacentInTree plan.k) (sym (cond-true (id == g) (s.0 ∷ trail past g) (trail past g) same))
+            (subst (λ x. AreAdjacentInTree plan.k (s.0 ∷ trail past x)) (eqb-true id g same) longer)
+        | inr apart ↦ subst (AreAdjacentInTree plan.k) (sym (cond-false (id == g) (s.0 ∷ trail past g) (trail past g) apart)) (t.adjacent g)
       ];
       arrived = t.arrived;
     },
@@ -243,9 +243,9 @@ module _ (plan : Plan) where
       others : (g : ℕ) → (id ≡ g → ⊥) → trail (Crossed id s ∷ past) g ≡ trail past g
       others g apart = cond-false (id == g) (s.0 ∷ trail past g) (trail past g) (ne_eqb id g apart)
 
-      on : (switches : List ℕ) → first_of switches ≡ last → AreJoined plan.k switches → AreJoined plan.k (s.0 ∷ switches)
+      on : (switches : List ℕ) → first_of switches ≡ last → AreAdjacentInTree plan.k switches → AreAdjacentInTree plan.k (s.0 ∷ switches)
       on [] at all = tt
       on (x ∷ switches) at all = (leads x (sym at), all)
 
-      longer : AreJoined plan.k (s.0 ∷ trail past id)
-      longer = on (trail past id) is.crossed (t.joined id)
+      longer : AreAdjacentInTree plan.k (s.0 ∷ trail past id)
+      longer = on (trail past id) is.crossed (t.adjacent id)

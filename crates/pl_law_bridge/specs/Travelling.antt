@@ -17,11 +17,11 @@ use Rattle.pl_world.specs.declared.item.Item.{Item}
 use Rattle.pl_world.specs.declared.item.Item.TheVariants.{Control, Data}
 use Rattle.pl_world.specs.Changes.{is_address_of}
 use Rattle.pl_world.specs.Worlds.{WorldView}
-use Rattle.pl_bridge_rule.specs.Tree.{is_joined_in_tree}
+use Rattle.pl_bridge_rule.specs.Tree.{is_tree_link}
 
 -- a link at this port is one of the tree
 abbrev pub LeadsOverTree : Plan → ℕ → ℕ → Type 0
-LeadsOverTree plan s port = (t : SwitchNo) (q : ℕ) → peer_of plan s port ≡ Switch t q → is_joined_in_tree (label_of plan.k s) (label_of plan.k t.0) ≡ true
+LeadsOverTree plan s port = (t : SwitchNo) (q : ℕ) → peer_of plan s port ≡ Switch t q → is_tree_link (label_of plan.k s) (label_of plan.k t.0) ≡ true
 
 -- A frame that has begun, with the bytes that it began with; where it crossed a switch, this was the last one.
 pub record IsUnderWay (past : List Entry) (many : ℕ) (last : Option ℕ) (id : ℕ) (frame : List ℕ) : Type 0 where
@@ -40,10 +40,10 @@ WaitsAtPort plan past many n (Control frame) = Unit {0}
 WaitsAtPort plan past many n (Data id frame) = LeadsOverTree plan (n / plan.k) (n % plan.k) × IsUnderWay past many (Some (n / plan.k)) id frame
 
 -- each switch is joined to the next one by a link of the tree
-abbrev pub AreJoined : ℕ → List ℕ → Type 0
-AreJoined k [] = Unit {0}
-AreJoined k (s ∷ []) = Unit {0}
-AreJoined k (s ∷ t ∷ switches) = (is_joined_in_tree (label_of k s) (label_of k t) ≡ true) × AreJoined k (t ∷ switches)
+abbrev pub AreAdjacentInTree : ℕ → List ℕ → Type 0
+AreAdjacentInTree k [] = Unit {0}
+AreAdjacentInTree k (s ∷ []) = Unit {0}
+AreAdjacentInTree k (s ∷ t ∷ switches) = (is_tree_link (label_of k s) (label_of k t) ≡ true) × AreAdjacentInTree k (t ∷ switches)
 
 -- a frame to a group, or to this host's own address
 abbrev pub is_for_host : Plan → ℕ → List ℕ → Bool
@@ -64,7 +64,7 @@ pub record Travel (plan : Plan) (past : List Entry) (from_hosts out : List (List
   pub new : (id : ℕ) → many < id → trail past id ≡ []
   pub at_hosts : (h : ℕ) → AllByRecursion (WaitsAtHost past many) (items_at from_hosts h)
   pub at_ports : (n : ℕ) → AllByRecursion (WaitsAtPort plan past many n) (items_at out n)
-  pub joined : (id : ℕ) → AreJoined plan.k (trail past id)
+  pub adjacent : (id : ℕ) → AreAdjacentInTree plan.k (trail past id)
   pub arrived : ArriveAsSent plan past
 
 -- So it is in a world.

@@ -13,7 +13,7 @@ use Rattle.pl_world.specs.LinksAndMoves.{link_failed, with_link}
 use Rattle.pl_world.specs.Runs.{Moment}
 use Rattle.pl_world.specs.Runs.Moment.{Mark, Step}
 use Rattle.pl_world.specs.Worlds.{WorldView}
-use Rattle.pl_bridge_rule.specs.Tree.{is_joined_in_tree}
+use Rattle.pl_bridge_rule.specs.Tree.{is_tree_link}
 use Rattle.pl_law_bridge.specs.Reaching.{ReachesOnce}
 use Rattle.pl_law_bridge.specs.Travelling.{LeadsOverTree, TravelsOnTree}
 
@@ -23,7 +23,7 @@ LiveIsTree plan links = (s port : ℕ) → is_live_at links s port ≡ true → 
 
 -- the link is none of the tree
 abbrev pub is_off_tree : ℕ → Link → Bool
-is_off_tree k link = not (is_joined_in_tree (label_of k link.lower.0) (label_of k link.upper.0))
+is_off_tree k link = not (is_tree_link (label_of k link.lower.0) (label_of k link.upper.0))
 
 -- of these links, those that are none of the tree fail, one after the other
 abbrev pub only_tree : ℕ → LivePorts → List Link → LivePorts

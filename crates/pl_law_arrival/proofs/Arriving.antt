@@ -60,7 +60,7 @@ module _ (w : WorldView) (counted : IsCounted w) (id : ℕ) (over : 1 ≤ ends w
 
   -- so a frame on its track that has ended has come
   has_come : (h g t : ℕ) (x : Pmac) → IsOnTrack w h g t x id → (frame : List ℕ) × Contains w.journal (Arrived id (host_no g) frame)
-  has_come h g t x (Waits frame among plain) = absurd (not_flying (let some = waits_in_all id frame w.from_hosts h among in omega (arith, some)))
+  has_come h g t x (Waits frame among to_one_host) = absurd (not_flying (let some = waits_in_all id frame w.from_hosts h among in omega (arith, some)))
   has_come h g t x (Under s p u frame l among one to headed) = absurd (not_flying (let some = waits_in_all id frame w.out _ among in omega (arith, some)))
   has_come h g t x (Leaves frame among one mac) = absurd (not_flying (let some = waits_in_all id frame w.out _ among in omega (arith, some)))
   has_come h g t x (Came frame among) = (frame, Contains-of_among (Arrived id (host_no g) frame) w.journal among)
@@ -182,7 +182,7 @@ module _ (host : HostRule) (sends : HostsSendData host) (owns : HostsSendOwn hos
         let first = (run_is_orderly host sends owns plan limits before old can run).kept.counted in
         let waits = waits_at_once old sure.moment sure.sent id h sure.frame first sure.befalls sure.entry sure.at_once in
         let reach = (sure_at_first id h g sure.address sure.sent moments new sure.stays).reaches in
-        let at_end = stays_on plan limits can id h g sure.address (before ++ sure.moment ∷ []) sure.sent longer moments new reach (Waits sure.frame waits sure.plain) sure.stays in
+        let at_end = stays_on plan limits can id h g sure.address (before ++ sure.moment ∷ []) sure.sent longer moments new reach (Waits sure.frame waits sure.to_one_host) sure.stays in
         has_come new counted id over h g at_end.0 sure.address at_end.1
 
     -- and whatever befalls the world then, that stays its one end

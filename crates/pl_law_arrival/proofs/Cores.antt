@@ -35,6 +35,6 @@ module _ (switch : SwitchRule) (manager : ManagerRule) (host : HostRule) (obeys 
     entry = sure.entry;
     at_once = sure.at_once;
     address = sure.address;
-    plain = sure.plain;
+    to_one_host = sure.to_one_host;
     stays = stays_lawful id h g sure.address sure.sent moments new sure.stays;
   }

@@ -117,26 +117,26 @@ module _ (choose : Choice) (port : ℕ) (frame : List ℕ) (readable : (is_arp f
 
   -- what it learns says nothing of the frame
   pub record IsEntered (v : SwitchView) : Type 0 where
-    pub mild : List Act
-    pub all : AreOfNoFrame mild
+    pub frameless : List Act
+    pub all : AreOfNoFrame frameless
     pub acts : (switch_step choose v (Comes port frame)).acts
-        ≡ mild ++ (sends_in choose (with_pmac (switch_step choose v (Comes port frame)).view port frame) (switch_step choose v (Comes port frame)).view).acts
+        ≡ frameless ++ (sends_in choose (with_pmac (switch_step choose v (Comes port frame)).view port frame) (switch_step choose v (Comes port frame)).view).acts
 
   pub enters : (v : SwitchView) → is_control frame ≡ false → is_open_to_hosts (port_of v port) ≡ true →
       (is_known v.place.level 1 || is_known v.place.level 2) ≡ false → HasInUse (switch_step choose v (Comes port frame)).view port (source_of frame) → IsEntered v
   enters v data_frame accepts edge is = record {
-    mild = (hears v).acts;
+    frameless = (hears v).acts;
     all = all_append IsOfNoFrame (finds_host v port).acts (learns_source (finds_host v port).view port frame).acts
-        (changes_acts IsOfNoFrame mild_grants v (with_host v port) mild_change) (learns_source_acts IsOfNoFrame mild_grants (finds_host v port).view port frame);
+        (changes_acts IsOfNoFrame frameless_grants v (with_host v port) frameless_change) (learns_source_acts IsOfNoFrame frameless_grants (finds_host v port).view port frame);
     acts = ap (λ (s : SwitchStep). s.acts) step ∙ ap (λ (s : SwitchStep). (hears v).acts ++ s.acts) (sent_in (hears v).view is_learnt)
         ∙ ap (λ w. (hears v).acts ++ (sends_in choose (with_pmac w port frame) w).acts) (sym view);
   }
     where
-      mild_grants : GrantActs IsOfNoFrame
-      mild_grants = record { granted = λ address amac. tt; learnt = λ address amac ip. tt }
+      frameless_grants : GrantActs IsOfNoFrame
+      frameless_grants = record { granted = λ address amac. tt; learnt = λ address amac ip. tt }
 
-      mild_change : ChangeActs (with_host v port).place IsOfNoFrame
-      mild_change = record { placed = tt; linked = λ neighbour usable. tt; wanted = λ position. tt }
+      frameless_change : ChangeActs (with_host v port).place IsOfNoFrame
+      frameless_change = record { placed = tt; linked = λ neighbour usable. tt; wanted = λ position. tt }
 
       step : switch_step choose v (Comes port frame) ≡ (hears v) ▹ takes_in_or_spent choose port frame
       step =

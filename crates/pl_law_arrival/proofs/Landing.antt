@@ -32,12 +32,12 @@ abbrev pub AreOfNoFrame : List Act → Type 0
 AreOfNoFrame acts = AllByRecursion IsOfNoFrame acts
 
 -- such acts leave it open what becomes of the frame
-mild_waits : (s : ℕ) (d : DuringActs) (acts : List Act) → AreOfNoFrame acts → (acts_done s d acts).speech ≡ d.speech
-mild_waits s d [] all = refl
-mild_waits s d (act.Control port frame ∷ acts) all = mild_waits s (act_done s d (act.Control port frame)) acts all.1
-mild_waits s d (act.Tell told ∷ acts) all = mild_waits s (act_done s d (act.Tell told)) acts all.1
-mild_waits s d (act.Grant pmac amac ∷ acts) all = mild_waits s (act_done s d (act.Grant pmac amac)) acts all.1
-mild_waits s d (a ∷ acts) all = absurd all.0
+frameless_waits : (s : ℕ) (d : DuringActs) (acts : List Act) → AreOfNoFrame acts → (acts_done s d acts).speech ≡ d.speech
+frameless_waits s d [] all = refl
+frameless_waits s d (act.Control port frame ∷ acts) all = frameless_waits s (act_done s d (act.Control port frame)) acts all.1
+frameless_waits s d (act.Tell told ∷ acts) all = frameless_waits s (act_done s d (act.Tell told)) acts all.1
+frameless_waits s d (act.Grant pmac amac ∷ acts) all = frameless_waits s (act_done s d (act.Grant pmac amac)) acts all.1
+frameless_waits s d (a ∷ acts) all = absurd all.0
 
 acts_append : (s : ℕ) (d : DuringActs) (xs ys : List Act) → acts_done s d (xs ++ ys) ≡ acts_done s (acts_done s d xs) ys
 acts_append s d [] ys = refl
@@ -55,18 +55,18 @@ pass_lands s d id again n frame waits live within =
 
 -- the frame that a switch got is where the switch put it
 pub lands : (rule : SwitchRule) (w : WorldView) (s : ℕ) (input : SwitchInput) (id n : ℕ) (frame : List ℕ) (new : WorldView) (turn : SwitchTurn rule w s input (spoken_frame.Waiting id false) new)
-    (mild : List Act) → turn.acts ≡ mild ++ act.Pass n frame ∷ [] → AreOfNoFrame mild → is_failed_at w s n ≡ false → port_index w.plan.k s n < length w.out →
+    (frameless : List Act) → turn.acts ≡ frameless ++ act.Pass n frame ∷ [] → AreOfNoFrame frameless → is_failed_at w s n ≡ false → port_index w.plan.k s n < length w.out →
     IsAmong (Data id frame) (items_at new.out (port_index w.plan.k s n))
-lands rule w s input id n frame new turn mild acts all live within =
+lands rule w s input id n frame new turn frameless acts all live within =
     let start : WorldView = record w { switches = set w.switches s turn.after } in
     let first = begins start (spoken_frame.Waiting id false) in
-    let d = acts_done s first mild in
-    let goes : Goes w d.world = goes_then w start d.world (goes_views w (set w.switches s turn.after)) (goes_acts s first mild) in
+    let d = acts_done s first frameless in
+    let goes : Goes w d.world = goes_then w start d.world (goes_views w (set w.switches s turn.after)) (goes_acts s first frameless) in
     let size : d.world.plan.k ≡ w.plan.k = ap (λ p. p.k) goes.plan in
-    let there = pass_lands s d id false n frame (mild_waits s first mild all) (same_failed w d.world s n goes ∙ live)
+    let there = pass_lands s d id false n frame (frameless_waits s first frameless all) (same_failed w d.world s n goes ∙ live)
     (subst (λ m. port_index d.world.plan.k s n < m) (sym goes.many) (subst (λ k. port_index k s n < length w.out) (sym size) within)) in
     let e = act_done s d (act.Pass n frame) in
-    let last : acts_done s first turn.acts ≡ e = ap (acts_done s first) acts ∙ acts_append s first mild (act.Pass n frame ∷ []) in
+    let last : acts_done s first turn.acts ≡ e = ap (acts_done s first) acts ∙ acts_append s first frameless (act.Pass n frame ∷ []) in
     let at : IsAmong (Data id frame) (items_at (acts_done s first turn.acts).world.out (port_index w.plan.k s n)) =
     subst (λ (x : DuringActs). IsAmong (Data id frame) (items_at x.world.out (port_index w.plan.k s n))) (sym last)
     (subst (λ k. IsAmong (Data id frame) (items_at e.world.out (port_index k s n))) size there) in

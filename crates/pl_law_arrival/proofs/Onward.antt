@@ -102,14 +102,14 @@ module _ (old new : WorldView) (r : Ready old) (alike : Alike (fabric_of old) (f
     index_here s n there within = subst (λ m. port_index old.plan.k s n < m) (sym many) (index_within old r s n there within)
 
     -- a frame that the addressed edge switch puts out at the port of the host leaves for it
-    pub leaves_for : (input : SwitchInput) (frame : List ℕ) (turn : SwitchTurn Loose mid end input (Waiting id false) new) (mild : List Act) →
-        turn.acts ≡ mild ++ Pass x.port (arriving frame None (Some to.grant.amac)) ∷ [] → AreOfNoFrame mild → 14 ≤ length frame → IsOnTrack new h g end x id
-    leaves_for input frame turn mild acts all long =
+    pub leaves_for : (input : SwitchInput) (frame : List ℕ) (turn : SwitchTurn Loose mid end input (Waiting id false) new) (frameless : List Act) →
+        turn.acts ≡ frameless ++ Pass x.port (arriving frame None (Some to.grant.amac)) ∷ [] → AreOfNoFrame frameless → 14 ≤ length frame → IsOnTrack new h g end x id
+    leaves_for input frame turn frameless acts all long =
         let at = at_edge old r g x to in
         let sent = arriving frame None (Some to.grant.amac) in
         let free = subst (λ n. peer_of old.plan end n ≡ HostPort) (sym to.at_port) at.free in
         let within = subst (λ n. n < old.plan.k) (sym to.at_port) at.port in
-        let among = lands Loose mid end input id x.port sent new turn mild acts all (free_port old r end x.port free) (index_here end x.port (edge_within old r g x to) within) in
+        let among = lands Loose mid end input id x.port sent new turn frameless acts all (free_port old r end x.port free) (index_here end x.port (edge_within old r g x to) within) in
         let mac = ap (λ (m : Mac). m.0) to.by_host in
         let is_mac = host_address old.plan r.counted.formed.plan g to.host to.is in
         let six : length to.grant.amac.0 ≡ 6 = ap length mac ∙ is_mac.six_bytes in

@@ -76,7 +76,7 @@ module _ (old new : WorldView) (r : Ready old) (ahead : Ready new) (h g : ℕ) (
     abbrev mid : WorldView
     mid = record old { steps = steps; heard = heard; from_hosts = from_hosts; out = out; journal = journal }
 
-    module _ (frame : List ℕ) (plain : IsUnicastTo frame x) (data_frame : is_control frame ≡ false) (long : 14 ≤ length frame) (own : source_of frame ≡ from.host.mac)
+    module _ (frame : List ℕ) (to_one_host : IsUnicastTo frame x) (data_frame : is_control frame ≡ false) (long : 14 ≤ length frame) (own : source_of frame ≡ from.host.mac)
         (turn : SwitchTurn Loose mid here (Comes from.attachment.port frame) (Waiting id false) new) where
       goes : Goes mid new
       goes = goes_switch Loose mid here (Comes from.attachment.port frame) (Waiting id false) new turn
@@ -98,16 +98,16 @@ module _ (old new : WorldView) (r : Ready old) (ahead : Ready new) (h g : ℕ) (
       sent_to = destination_kept from.edge from.attachment.port frame long
 
       one : is_group (destination_of sent) ≡ false
-      one = ap is_group sent_to ∙ plain.unicast
+      one = ap is_group sent_to ∙ to_one_host.unicast
 
       dest : pmac_of (destination_of sent) ≡ x
-      dest = ap pmac_of sent_to ∙ plain.to
+      dest = ap pmac_of sent_to ∙ to_one_host.to
 
       -- what it did
       pub record IsSentIn : Type 0 where
-        pub mild : List Act
-        pub all : AreOfNoFrame mild
-        pub acts : turn.acts ≡ mild ++ (sends_in turn.ruled.choose sent from.edge).acts
+        pub frameless : List Act
+        pub all : AreOfNoFrame frameless
+        pub acts : turn.acts ≡ frameless ++ (sends_in turn.ruled.choose sent from.edge).acts
 
       sent_in : IsSentIn
       sent_in =
@@ -123,11 +123,11 @@ module _ (old new : WorldView) (r : Ready old) (ahead : Ready new) (h g : ℕ) (
           let edge = no_upper v.place.level (λ y e. (r.calm.own here).level y (ap (λ (u : SwitchView). u.place.level) view ∙ e) ∙ ap label_level (label_of-edge old.plan.k here low)) in
           let u = turn.ruled.steps.view in
           let used = subst (λ w. HasInUse w from.attachment.port (source_of frame)) (sym after_is ∙ u) in_use in
-          let e = enters turn.ruled.choose from.attachment.port frame plain.readable plain.not_taken v data_frame accepts edge used in
+          let e = enters turn.ruled.choose from.attachment.port frame to_one_host.readable to_one_host.not_taken v data_frame accepts edge used in
           record {
-            mild = e.mild;
+            frameless = e.frameless;
             all = e.all;
-            acts = turn.ruled.steps.done ∙ e.acts ∙ ap (λ w. e.mild ++ (sends_in turn.ruled.choose (with_pmac w from.attachment.port frame) w).acts) (sym u ∙ after_is);
+            acts = turn.ruled.steps.done ∙ e.acts ∙ ap (λ w. e.frameless ++ (sends_in turn.ruled.choose (with_pmac w from.attachment.port frame) w).acts) (sym u ∙ after_is);
           }
 
       -- the frame is put out at a port that is not failed
@@ -138,7 +138,7 @@ module _ (old new : WorldView) (r : Ready old) (ahead : Ready new) (h g : ℕ) (
           let there = edge_within new ahead h reached.from.0 from in
           let inside : port_index old.plan.k here n < length out =
           subst (λ m. port_index old.plan.k here n < m) (sym many) (index_within old r here n (subst (λ m. here < switch_count m) (sym k) there) (subst (λ m. n < m) (sym k) within)) in
-          let among = lands Loose mid here (Comes from.attachment.port frame) id n f new turn sent_in.mild (sent_in.acts ∙ ap (λ a. sent_in.mild ++ a) acts) sent_in.all
+          let among = lands Loose mid here (Comes from.attachment.port frame) id n f new turn sent_in.frameless (sent_in.acts ∙ ap (λ a. sent_in.frameless ++ a) acts) sent_in.all
           (sym (same_failed mid new here n goes) ∙ live) inside in
           subst (λ m. IsAmong (Data id f) (items_at new.out (port_index m here n))) k among
 

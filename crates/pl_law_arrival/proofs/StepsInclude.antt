@@ -131,8 +131,8 @@ module _ (host : HostRule) (keeps : HostsKeepFrames host) (old new : WorldView) 
         rest on_moved = keep host keeps old new r ahead h g x id reach reached moved goes alike on_moved
 
         by : IsOnTrack old h g end x id → Stays
-        by (Waits frame among plain) = elim (cases_eq h m) [
-          | inr other ↦ rest (Waits frame (emptied old.from_hosts m h (Data id frame) other among) plain)
+        by (Waits frame among to_one_host) = elim (cases_eq h m) [
+          | inr other ↦ rest (Waits frame (emptied old.from_hosts m h (Data id frame) other among) to_one_host)
           | inl same ↦
               let before = subst (λ n. IsRegisteredBy old n reach.from.0) same reach.from.1 in
               let after = subst (λ n. IsRegisteredBy new n reached.from.0) same reached.from.1 in

@@ -54,7 +54,7 @@ module _ (f g : Fabric) (is : IsPlan f.plan) (same : Alike f g) where
 
     -- what stays in its queue stays on its track
     pub still_on : (h host t : ℕ) (x : Pmac) (id : ℕ) → OnTrack f from_hosts out journal h host t x id → OnTrack g later_hosts later after h host t x id
-    still_on h host t x id (Waits frame among plain) = Waits frame (hosts h (Data id frame) among) plain
+    still_on h host t x id (Waits frame among to_one_host) = Waits frame (hosts h (Data id frame) among) to_one_host
     still_on h host t x id (Under s p u frame l among one to headed) =
         Under s p u frame (still_by f g is same s p u l) (index_now s p (Data id frame) among) one to (still_headed x.pod t s p u l headed)
     still_on h host t x id (Leaves frame among one mac) =
@@ -85,12 +85,12 @@ pub record IsTakenWaiting (n : ℕ) (item : Item) (h : ℕ) (x : Pmac) (id : ℕ
   pub frame : List ℕ
   pub at : h ≡ n
   pub is : item ≡ Data id frame
-  pub plain : IsUnicastTo frame x
+  pub to_one_host : IsUnicastTo frame x
 
 pub split_out : (f : Fabric) (from_hosts out : List (List Item)) (journal : List Entry) (n : ℕ) (item : Item) (items : List Item) → items_at out n ≡ item ∷ items →
     (h g t : ℕ) (x : Pmac) (id : ℕ) → OnTrack f from_hosts out journal h g t x id →
     OnTrack f from_hosts (set out n items) journal h g t x id ⊎ (IsTakenUnder f n item t x id ⊎ IsTakenLeaving f n item g t x id)
-split_out f from_hosts out journal n item items head h g t x id (Waits frame among plain) = inl (Waits frame among plain)
+split_out f from_hosts out journal n item items head h g t x id (Waits frame among to_one_host) = inl (Waits frame among to_one_host)
 split_out f from_hosts out journal n item items head h g t x id (Came frame among) = inl (Came frame among)
 split_out f from_hosts out journal n item items head h g t x id (Under s p u frame l among one to headed) = elim (left_over out n (port_index f.plan.k s p) (Data id frame) item items head among) [
   | inl both ↦ inr (inl (record { s = s; p = p; u = u; frame = frame; leads = l; at = both.0; is = both.1; one = one; to = to; headed = headed }))
@@ -104,9 +104,9 @@ split_out f from_hosts out journal n item items head h g t x id (Leaves frame am
 pub split_hosts : (f : Fabric) (from_hosts out : List (List Item)) (journal : List Entry) (n : ℕ) (item : Item) (items : List Item) → items_at from_hosts n ≡ item ∷ items →
     (h g t : ℕ) (x : Pmac) (id : ℕ) → OnTrack f from_hosts out journal h g t x id →
     OnTrack f (set from_hosts n items) out journal h g t x id ⊎ IsTakenWaiting n item h x id
-split_hosts f from_hosts out journal n item items head h g t x id (Waits frame among plain) = elim (left_over from_hosts n h (Data id frame) item items head among) [
-  | inl both ↦ inr (record { frame = frame; at = both.0; is = both.1; plain = plain })
-  | inr rest ↦ inl (Waits frame rest plain)
+split_hosts f from_hosts out journal n item items head h g t x id (Waits frame among to_one_host) = elim (left_over from_hosts n h (Data id frame) item items head among) [
+  | inl both ↦ inr (record { frame = frame; at = both.0; is = both.1; to_one_host = to_one_host })
+  | inr rest ↦ inl (Waits frame rest to_one_host)
 ]
 split_hosts f from_hosts out journal n item items head h g t x id (Under s p u frame l among one to headed) = inl (Under s p u frame l among one to headed)
 split_hosts f from_hosts out journal n item items head h g t x id (Leaves frame among one mac) = inl (Leaves frame among one mac)

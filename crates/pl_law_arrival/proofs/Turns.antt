@@ -132,7 +132,7 @@ module _ (host : HostRule) (keeps : HostsKeepFrames host) (old new : WorldView) 
         let with_frame = subst (λ y. ComesIn Loose (from_mid h items) h y (slice_get old.attachments h) new) taken.is at_h in
         let turn = subst (λ o. ComesIn Loose (from_mid h items) h (Data id taken.frame) o new) attachments with_frame in
         subst (λ t. IsOnTrack new h g t x id) (sym (stays_at_edge old new r ahead alike g x reach.to reached.to))
-        (sends_out old new r ahead h g x id reached _ _ _ _ _ refl taken.frame taken.plain is_frame.kind is_frame.whole.low own turn)
+        (sends_out old new r ahead h g x id reached _ _ _ _ _ refl taken.frame taken.to_one_host is_frame.kind is_frame.whole.low own turn)
 
     pub from_host : (n : ℕ) (items : List Item) → items_at old.from_hosts n ≡ items → DeliversFromHost Loose (record old { steps = steps }) n items new → IsOnTrack new h g end x id
     from_host n [] head comes = absurd comes

@@ -34,5 +34,5 @@ pub record IsSure (switch : SwitchRule) (manager : ManagerRule) (host : HostRule
   pub entry : Contains sent.journal (Sent id (host_no h) frame)
   pub at_once : Contains old.journal (Sent id (host_no h) frame) → ⊥
   pub address : Pmac
-  pub plain : IsUnicastTo frame address
+  pub to_one_host : IsUnicastTo frame address
   pub stays : StaysSure switch manager host id h g address sent moments new

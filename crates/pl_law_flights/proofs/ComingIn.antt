@@ -49,7 +49,7 @@ use Rattle.pl_law_flights.proofs.TakingIn.{IsNew, sends_in_good, takes_in_good}
 
 -- What acts do with a host's frame: they are good, or they are once an address was granted, silently before.
 pub data Coming (plan : Plan) (place : ℕ → Place) (now : List Entry) (t h : ℕ) (f : Flight) (acts : List Act) : Type 0 where
-  Plain : GoodActs plan place (history_of now) t acts (Waits f false) → Coming plan place now t h f acts
+  NoGrant : GoodActs plan place (history_of now) t acts (Waits f false) → Coming plan place now t h f acts
   Grants : (silent : List Act) (pmac : Pmac) (amac : Mac) (rest : List Act) → acts ≡ silent ++ act.Grant pmac amac ∷ rest → AreSilent silent →
       mac_of_host plan h ≡ Some amac → IsGrantable plan now pmac h (at_port t pmac.port) →
       GoodActs plan place (history_of (Granted pmac (host_no h) (switch_no t) pmac.port ∷ now)) t rest
@@ -134,7 +134,7 @@ module _ (plan : Plan) (place : ℕ → Place) (past : List Entry) (t : ℕ) (v 
   plainly : (learnt : SwitchStep) → AreSilent learnt.acts →
       GoodActs plan place (history_of past) t (takes_in_or_spent choose port frame learnt.view).acts (Waits (come_in past id h frame t port) false) → IsComing (Then learnt)
   plainly learnt silent good =
-      Plain (silent_good plan place (history_of past) t ((changes_told v (with_host v port) ++ []) ++ learnt.acts) _ (Waits (come_in past id h frame t port) false)
+      NoGrant (silent_good plan place (history_of past) t ((changes_told v (with_host v port) ++ []) ++ learnt.acts) _ (Waits (come_in past id h frame t port) false)
       (silent_append (changes_told v (with_host v port) ++ []) learnt.acts silent_found silent) good)
 
   module _ (level : v.place.level ≡ Some 0) (placed : is_placed v.place ≡ true) where
@@ -258,7 +258,7 @@ module _ (plan : Plan) (place : ℕ → Place) (past : List Entry) (t : ℕ) (v 
   comes_good =
       let stays : has_become_placed v.place (with_host v port).place ≡ false = host_unsettled v port hosts.positions in
       cond_both (is_known v.place.level 1 || is_known v.place.level 2) (does v (act.Drop NotPlaced ∷ [])) _ IsComing
-      (λ no_hosts. Plain (tt, tt))
+      (λ no_hosts. NoGrant (tt, tt))
       (λ edge. subst (λ (step : SwitchStep). IsComing (step ▹ (λ w. learns_source w port frame) ▹ takes_in_or_spent choose port frame)) (sym (host_found v port stays))
       (elim (cases_Bool (is_placed v.place)) [
         | inl placed ↦ placed_comes (edge_level v.place placed edge) placed

@@ -30,7 +30,7 @@ use Rattle.pl_world.proofs.Exports.{all_at, all_found, HasRest, heard_rest, note
 use Rattle.pl_law_flights.specs.OnTheWay.{IsJournaled, IsWaiting, history_of, place_in, edge_port_of_attachment}
 use Rattle.pl_law_flights.specs.Standing.{IsMore, StandsOn, StandsOnHosts}
 use Rattle.pl_law_flights.proofs.ComingIn.{Coming, comes_good}
-use Rattle.pl_law_flights.proofs.ComingIn.Coming.{Grants, Plain}
+use Rattle.pl_law_flights.proofs.ComingIn.Coming.{Grants, NoGrant}
 use Rattle.pl_law_flights.proofs.Entering.{come_in, enters, taken_from}
 use Rattle.pl_law_flights.proofs.FromManager.{good_grown}
 use Rattle.pl_law_flights.proofs.GrantingAmid.{GoodBehind, entering_turn, sourced}
@@ -102,7 +102,7 @@ module _ (w : WorldView) (counted : IsCounted w) (told : IsJournaled w) (on : St
       let none : trail past id ≡ [] =
       ap (λ (x : Flight). x.trail) (subst (λ l. AllByRecursion (IsWaiting w.plan past h) l) head (told.flying.waiting h)).0 in
       elim coming [
-        | Plain good ↦ turn_told Loose accounts w1 s (Comes attachment.port frame) (Waiting id false) new turn (rw (item.kind) refl)
+        | NoGrant good ↦ turn_told Loose accounts w1 s (Comes attachment.port frame) (Waiting id false) new turn (rw (item.kind) refl)
             (λ x same. record { within = subst (λ n. attachment.port < n) (sym same) there.1; whole = item.whole }) owes rest (Waits f false) now amid
             (good_grown w.plan (place_in w.switches) later more (history_of now) s turn.acts (Waits f false) good)
         | Grants silent pmac amac others is are of_host may good ↦

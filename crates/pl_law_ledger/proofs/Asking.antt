@@ -41,7 +41,7 @@ module _ (f g : ControlPlane) (is : IsPlan f.plan) (placed : ArePlaced f.plan f)
     where
       by : Seen f g → (s : ℕ) → IsTrueOf (f.view s).place (g.view s).place
       by (Gone same left) s = rw (same s) (true_of_itself (f.view s).place)
-      by (Quiet m t st turn mild ports) s = subst (λ (v : SwitchView). IsTrueOf v.place (g.view s).place) (turn.left.view s) ((turned_grown f m g t st turn).later s)
+      by (Quiet m t st turn votes_left ports) s = subst (λ (v : SwitchView). IsTrueOf v.place (g.view s).place) (turn.left.view s) ((turned_grown f m g t st turn).later s)
       by (Ticks t turn) s = (turned_grown f f g t _ turn).later s
       by (Hears m t q x port read adjacent taken good turn) s = subst (λ (v : SwitchView). IsTrueOf v.place (g.view s).place) (turn.left.view s) ((turned_grown f m g x _ turn).later s)
 

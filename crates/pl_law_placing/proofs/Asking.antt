@@ -41,7 +41,7 @@ use Rattle.pl_law_control_plane.proofs.Exports.{any_append, flat_map_append}
 use Rattle.pl_law_addresses.proofs.Exports.{place_is}
 use Rattle.pl_law_places.specs.Places.{ArePlaced, ArePodNumbers, IsPodNumber}
 use Rattle.pl_law_places.specs.Told.{IsTrueOf}
-use Rattle.pl_law_votes.proofs.Exports.{aside_data, changes, mild_manager, proposal_stance, same_stance, Stance}
+use Rattle.pl_law_votes.proofs.Exports.{aside_data, changes, manager_leaves_votes, proposal_stance, same_stance, Stance}
 use Rattle.pl_law_placing.specs.Asking.{HaveAsked, is_number, is_wish}
 use Rattle.pl_law_placing.proofs.Voting.{counts_says}
 
@@ -119,7 +119,7 @@ step_asks choose v (Comes port frame) =
     (either_asks v (port_of v port).host (rests v) (hears_control v port (control_in (payload_of frame))) (same_asks v (rests v) refl)
     (hears_asks v port (control_in (payload_of frame))))
     (same_asks v (data_comes choose v port frame) (ap (λ (x : Stance). x.position) (aside_data choose v port frame).same))
-step_asks choose v (Says says) = same_asks v (switch_step choose v (Says says)) (ap (λ (x : Stance). x.position) (mild_manager choose v says).same)
+step_asks choose v (Says says) = same_asks v (switch_step choose v (Says says)) (ap (λ (x : Stance). x.position) (manager_leaves_votes choose v says).same)
 
 -- A switch that hears the number of its pod takes it.
 takes : (v : SwitchView) (n : ℕ) → v.place.level ≡ Some 0 → v.place.position ≡ Some 0 → v.place.pod ≡ None → n < 65535 → (hears_pod v n).view.place.pod ≡ Some n
@@ -199,8 +199,8 @@ module _ (f : ControlPlane) (is : IsPlan f.plan) where
         (λ position. subst (λ a. ((m.view s).place.position ≡ Some 0) ⊎ (list_any is_wish (tells a) ≡ true)) (sym turns.ruled.steps.done)
         (step_asks turns.ruled.choose (m.view s) input (ap (λ (v : SwitchView). v.place.position) (sym (view_then m s input turns)) ∙ position)))) has
 
-    plain_turn : (s : ℕ) (input : SwitchInput) → SwitchTurns Loose f s input g → HaveAsked g
-    plain_turn s input turns = turn_asked f s input (λ t. refl) (λ t. refl) (λ t other. refl) turns (turn_owes f s input refl turns (asked s))
+    turn_of_switch : (s : ℕ) (input : SwitchInput) → SwitchTurns Loose f s input g → HaveAsked g
+    turn_of_switch s input turns = turn_asked f s input (λ t. refl) (λ t. refl) (λ t other. refl) turns (turn_owes f s input refl turns (asked s))
 
     taken_turn : (m : ControlPlane) (t q s : ℕ) (first : List Control) (input : SwitchInput) → MessageIsTaken f t q first m → SwitchTurns Loose m s input g → HaveAsked g
     taken_turn m t q s first input taken turns =
@@ -217,7 +217,7 @@ module _ (f : ControlPlane) (is : IsPlan f.plan) where
         HasAsked (g.view s) (f.reports s ++ tells turns.acts) (m.orders s)
     order_owes m s (say.Pod n) same first turns = λ at none.
         let view = view_then m s (Says (say.Pod n)) turns in
-        let was : (m.view s).place.position ≡ Some 0 = ap (λ (x : Stance). x.position) (sym (mild_manager turns.ruled.choose (m.view s) (say.Pod n)).same)
+        let was : (m.view s).place.position ≡ Some 0 = ap (λ (x : Stance). x.position) (sym (manager_leaves_votes turns.ruled.choose (m.view s) (say.Pod n)).same)
         ∙ ap (λ (v : SwitchView). v.place.position) (sym view) ∙ at in
         let level = ap (λ (v : SwitchView). v.place.level) same ∙ ((placed.own s).position 0 (ap (λ (v : SwitchView). v.place.position) (sym same) ∙ was)).0 in
         let number : n < 65535 = (subst (AllByRecursion IsPodNumber) first (numbers s)).0 in
@@ -283,9 +283,9 @@ module _ (f : ControlPlane) (is : IsPlan f.plan) where
     step_asked (Left left) kept = λ t.
         subst (λ v. HasAsked v (g.reports t) (g.orders t)) (sym (left.view t))
         (subst (λ r. HasAsked (f.view t) r (g.orders t)) (sym (kept.reports t)) (subst (HasAsked (f.view t) (f.reports t)) (sym (kept.orders t)) (asked t)))
-    step_asked (Ticked s turns) kept = plain_turn s Tick turns
+    step_asked (Ticked s turns) kept = turn_of_switch s Tick turns
     step_asked (Heard t q s port frame m adjacent control taken turns) kept = taken_turn m t q s _ (Comes port frame) taken turns
     step_asked (Carried t q s port frame m adjacent control carries taken turns) kept = taken_turn m t q s _ (Comes port frame) taken turns
-    step_asked (Entered s port frame edge within free control turns) kept = plain_turn s (Comes port frame) turns
+    step_asked (Entered s port frame edge within free control turns) kept = turn_of_switch s (Comes port frame) turns
     step_asked (Ordered s says m taken turns) kept = order_turn m s says taken turns
     step_asked (Managed s id told m there named taken turns) kept = manager_turn m s id told named taken turns

@@ -52,7 +52,7 @@ turned_later f m g x st turn s = elim (cases_eq s x) [
 
 pub seen_later : (f g : ControlPlane) → Seen f g → (s : ℕ) → IsTrueOf (f.view s).place (g.view s).place
 seen_later f g (Gone same left) s = subst (λ (v : SwitchView). IsTrueOf (f.view s).place v.place) (sym (same s)) (true_of_itself (f.view s).place)
-seen_later f g (Quiet m x st turn mild ports) s = turned_later f m g x st turn s
+seen_later f g (Quiet m x st turn votes_left ports) s = turned_later f m g x st turn s
 seen_later f g (Ticks x turn) s = turned_later f f g x _ turn s
 seen_later f g (Hears m t q x port read adjacent taken good turn) s = turned_later f m g x _ turn s
 

@@ -25,7 +25,7 @@ use Rattle.pl_law_places.specs.Told.{IsGoodMessage, IsTrueOf, has_heard}
 use Rattle.pl_law_places.proofs.Exports.{carried_turn, control_turn, entered_turn, IsGoodTurn, left_keeps, order_turn, tick_turn, true_of_itself}
 use Rattle.pl_law_votes.specs.Voting.{aggregation_no}
 use Rattle.pl_law_placing.proofs.Ports.{ports_carried, ports_manager}
-use Rattle.pl_law_votes.proofs.Exports.{aside_data, LeavesVotes, mild, mild_manager}
+use Rattle.pl_law_votes.proofs.Exports.{aside_data, LeavesVotes, votes_left, manager_leaves_votes}
 
 -- a switch steps, after items left queues
 pub record Turned (f m g : ControlPlane) (s : ℕ) (st : SwitchStep) : Type 0 where
@@ -105,7 +105,7 @@ module _ (manager : ManagerRule) (f g : ControlPlane) (is : IsPlan f.plan) (old 
       let comes = data_comes turns.ruled.choose view port frame in
       let step : switch_step turns.ruled.choose view (Comes port frame) ≡ comes =
       ap (λ b. if◌then◌else◌ {A = SwitchStep} b (control_comes view port frame) comes) data_frame in
-      Quiet m s comes (turned f m g s (Comes port frame) comes left turns step good) (mild view comes (aside_data turns.ruled.choose view port frame)) ports
+      Quiet m s comes (turned f m g s (Comes port frame) comes left turns step good) (votes_left view comes (aside_data turns.ruled.choose view port frame)) ports
 
   pub step_seen : PlaneStep Loose manager f g → Seen f g
   step_seen (Left left) = Gone left.view left.says
@@ -130,7 +130,7 @@ module _ (manager : ManagerRule) (f g : ControlPlane) (is : IsPlan f.plan) (old 
       Quiet m s st
       (turned f m g s (Says says) st taken.left turns refl
       (order_turn f.plan m s is placed (there_of m s taken.left.plan turns.there) turns.ruled.choose says turns.ruled.is_choice small.0))
-      (mild_manager turns.ruled.choose (m.view s) says)
+      (manager_leaves_votes turns.ruled.choose (m.view s) says)
       (λ pod j here. ports_manager turns.ruled.choose (m.view s) says)
   step_seen (Managed s id told m there named taken turns) =
       Gone (λ t. turns.view t ∙ taken.left.view t)

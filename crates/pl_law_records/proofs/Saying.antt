@@ -112,26 +112,26 @@ abbrev pub OrdersNothing : ManagerAct → Type 0
 OrdersNothing (Say to says) = IsNoOrder says
 OrdersNothing (Number pmac n) = Unit {0}
 
-mild_invalidation : (learnt : Learnt) (new : Pmac) (number : ℕ) (old : Option Registration) → AllByRecursion OrdersNothing (invalidation learnt new number old)
-mild_invalidation learnt new number None = tt
-mild_invalidation learnt new number (Some old) = (tt, tt)
+invalidation_orders_nothing : (learnt : Learnt) (new : Pmac) (number : ℕ) (old : Option Registration) → AllByRecursion OrdersNothing (invalidation learnt new number old)
+invalidation_orders_nothing learnt new number None = tt
+invalidation_orders_nothing learnt new number (Some old) = (tt, tt)
 
-mild_answer : (asker : Pmac) (asker_ip ip : Ip4) (found : Option Pmac) → IsNoOrder (answer_to asker asker_ip ip found)
-mild_answer asker asker_ip ip None = tt
-mild_answer asker asker_ip ip (Some pmac) = tt
+answer_orders_nothing : (asker : Pmac) (asker_ip ip : Ip4) (found : Option Pmac) → IsNoOrder (answer_to asker asker_ip ip found)
+answer_orders_nothing asker asker_ip ip None = tt
+answer_orders_nothing asker asker_ip ip (Some pmac) = tt
 
-mild_reply : (before after : ManagerView) (s : SwitchId) (told : ToManager) → AllByRecursion OrdersNothing (reply before after s told)
-mild_reply before after s tell.PodWanted = (tt, tt)
-mild_reply before after s (tell.Place place) = tt
-mild_reply before after s (tell.Link u usable) = tt
-mild_reply before after s (tell.Members group any) = tt
-mild_reply before after s (tell.Query asker asker_ip ip) = (mild_answer asker asker_ip ip (lookup after.learnt ip), tt)
-mild_reply before after s (tell.Learned pmac amac ip) = by (list_any (λ r. same_pmac r.pmac pmac) (registry before.learnt))
+reply_orders_nothing : (before after : ManagerView) (s : SwitchId) (told : ToManager) → AllByRecursion OrdersNothing (reply before after s told)
+reply_orders_nothing before after s tell.PodWanted = (tt, tt)
+reply_orders_nothing before after s (tell.Place place) = tt
+reply_orders_nothing before after s (tell.Link u usable) = tt
+reply_orders_nothing before after s (tell.Members group any) = tt
+reply_orders_nothing before after s (tell.Query asker asker_ip ip) = (answer_orders_nothing asker asker_ip ip (lookup after.learnt ip), tt)
+reply_orders_nothing before after s (tell.Learned pmac amac ip) = by (list_any (λ r. same_pmac r.pmac pmac) (registry before.learnt))
   where
     by : (b : Bool) → AllByRecursion OrdersNothing (if b then []
         else Number pmac (length (registry before.learnt) + 1) ∷ invalidation after.learnt pmac (length (registry before.learnt) + 1) (newest before.learnt amac))
     by true = tt
-    by false = (tt, mild_invalidation after.learnt pmac (length (registry before.learnt) + 1) (newest before.learnt amac))
+    by false = (tt, invalidation_orders_nothing after.learnt pmac (length (registry before.learnt) + 1) (newest before.learnt amac))
 
 silent_of : {X : Type 0} (said : ToSwitch → Option X) (id : SwitchId) → ((w : ToSwitch) → IsNoOrder w → said w ≡ None) → (acts : List ManagerAct) → AllByRecursion OrdersNothing acts →
     AllByRecursion (IsSilent said id) acts
@@ -142,4 +142,4 @@ silent_of said id each (Number pmac n ∷ acts) all = (tt, silent_of said id eac
 pub reply_silent : {X : Type 0} (said : ToSwitch → Option X) (id : SwitchId) → ((w : ToSwitch) → IsNoOrder w → said w ≡ None) → (before after : ManagerView) (s : SwitchId) (told : ToManager)
     (x : X) → then_said said id x (reply before after s told) ≡ x
 reply_silent said id each before after s told x =
-    then_silent said id x (reply before after s told) (silent_of said id each (reply before after s told) (mild_reply before after s told))
+    then_silent said id x (reply before after s told) (silent_of said id each (reply before after s told) (reply_orders_nothing before after s told))

@@ -55,8 +55,8 @@ pub record LeavesVotesAndPlace (v : SwitchView) (s : SwitchStep) : Type 0 where
   pub stays_placed : v.place.level ≡ Some 0 → s.view.place ≡ v.place
   pub unsaid : AreUnsaid s.acts
 
-pub mild : (v : SwitchView) (s : SwitchStep) → LeavesVotesAndPlace v s → LeavesVotes v s
-mild v s aside = record { same = aside.same; holds = aside.holds; unsaid = aside.unsaid }
+pub votes_left : (v : SwitchView) (s : SwitchStep) → LeavesVotesAndPlace v s → LeavesVotes v s
+votes_left v s aside = record { same = aside.same; holds = aside.holds; unsaid = aside.unsaid }
 
 -- What acts say.
 
@@ -153,17 +153,17 @@ pub aside_manager : (choose : Choice) (v : SwitchView) (says : ToSwitch) → ((p
 aside_manager choose v says other = aside v (hears_manager choose v says) (manager_keeps choose v says other) (unsaid_manager choose v says)
 
 -- and one that does
-mild_pod : (v : SwitchView) (pod : ℕ) → LeavesVotes v (hears_pod v pod)
-mild_pod v pod = by (takes_pod v pod)
+pod_leaves_votes : (v : SwitchView) (pod : ℕ) → LeavesVotes v (hears_pod v pod)
+pod_leaves_votes v pod = by (takes_pod v pod)
   where
     by : (b : Bool) → LeavesVotes v (if◌then◌else◌ {A = SwitchStep} b (changes_to v (with_pod v (Some pod))) (rests v))
     by true = let c = changes v (with_pod v (Some pod)) in record { same = c.same; holds = c.holds; unsaid = c.unsaid }
     by false = record { same = refl; holds = refl; unsaid = tt }
 
-pub mild_manager : (choose : Choice) (v : SwitchView) (says : ToSwitch) → LeavesVotes v (hears_manager choose v says)
-mild_manager choose v (Pod pod) = mild_pod v pod
-mild_manager choose v (Avoid list) = mild v _ (aside_manager choose v (Avoid list) (λ pod is. absurd (cc is)))
-mild_manager choose v (Tree group part) = mild v _ (aside_manager choose v (Tree group part) (λ pod is. absurd (cc is)))
-mild_manager choose v (Answer asker asker_ip ip pmac) = mild v _ (aside_manager choose v (Answer asker asker_ip ip pmac) (λ pod is. absurd (cc is)))
-mild_manager choose v (Flood asker asker_ip ip) = mild v _ (aside_manager choose v (Flood asker asker_ip ip) (λ pod is. absurd (cc is)))
-mild_manager choose v (Invalidate old new number ip) = mild v _ (aside_manager choose v (Invalidate old new number ip) (λ pod is. absurd (cc is)))
+pub manager_leaves_votes : (choose : Choice) (v : SwitchView) (says : ToSwitch) → LeavesVotes v (hears_manager choose v says)
+manager_leaves_votes choose v (Pod pod) = pod_leaves_votes v pod
+manager_leaves_votes choose v (Avoid list) = votes_left v _ (aside_manager choose v (Avoid list) (λ pod is. absurd (cc is)))
+manager_leaves_votes choose v (Tree group part) = votes_left v _ (aside_manager choose v (Tree group part) (λ pod is. absurd (cc is)))
+manager_leaves_votes choose v (Answer asker asker_ip ip pmac) = votes_left v _ (aside_manager choose v (Answer asker asker_ip ip pmac) (λ pod is. absurd (cc is)))
+manager_leaves_votes choose v (Flood asker asker_ip ip) = votes_left v _ (aside_manager choose v (Flood asker asker_ip ip) (λ pod is. absurd (cc is)))
+manager_leaves_votes choose v (Invalidate old new number ip) = votes_left v _ (aside_manager choose v (Invalidate old new number ip) (λ pod is. absurd (cc is)))

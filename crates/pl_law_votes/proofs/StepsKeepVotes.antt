@@ -28,7 +28,7 @@ use Rattle.pl_law_votes.specs.Counting.{IsCounting, LeadsToAggregation}
 use Rattle.pl_law_votes.specs.Pairs.{IsGoodPair, Voter, voter_of}
 use Rattle.pl_law_votes.specs.Voting.{CanTell, IsVoting, aggregation_no, edge_no}
 use Rattle.pl_law_votes.proofs.AggregationTurns.{HoldsIds}
-use Rattle.pl_law_votes.proofs.Aside.{aside_data, mild, mild_manager}
+use Rattle.pl_law_votes.proofs.Aside.{aside_data, votes_left, manager_leaves_votes}
 use Rattle.pl_law_votes.proofs.Hearing.{AreOf, IsHearing, IsTurn, drop_down, drop_up, hearing, turn_aside, turn_tick}
 use Rattle.pl_law_votes.proofs.Majority.{one_port_to}
 use Rattle.pl_law_votes.proofs.Messages.{tick_says}
@@ -253,7 +253,7 @@ module _ (plan : Plan) (is : IsPlan plan) where
       let step : switch_step turns.ruled.choose view (Comes port frame) ≡ comes =
       ap (λ b. if◌then◌else◌ {A = SwitchStep} b (control_comes view port frame) comes) data_frame in
       turn_votes m g s (Comes port frame) v turns
-      (subst (IsTurn view) (sym step) (turn_aside view comes (mild view comes (aside_data turns.ruled.choose view port frame))))
+      (subst (IsTurn view) (sym step) (turn_aside view comes (votes_left view comes (aside_data turns.ruled.choose view port frame))))
 
   ticks_votes : (f g : ControlPlane) (s : ℕ) → f.plan ≡ plan → CanTell f → IsVoting plan f.view f.says → SwitchTurns Loose f s Tick g → IsVoting plan g.view g.says
   ticks_votes f g s same can v turns =
@@ -274,7 +274,7 @@ plane_votes manager f g can v (Carried t q s port frame mid adjacent control car
 plane_votes manager f g can v (Entered s port frame edge within free control turns) = data_votes f.plan can.plan f g s port frame v control turns
 plane_votes manager f g can v (Ordered s says mid taken turns) =
     turn_votes f.plan can.plan mid g s (Says says) (left_votes f.plan can.plan f mid taken.left.view taken.left.says v) turns
-    (turn_aside (mid.view s) (switch_step turns.ruled.choose (mid.view s) (Says says)) (mild_manager turns.ruled.choose (mid.view s) says))
+    (turn_aside (mid.view s) (switch_step turns.ruled.choose (mid.view s) (Says says)) (manager_leaves_votes turns.ruled.choose (mid.view s) says))
 plane_votes manager f g can v (Managed s id told mid there named taken turns) =
     left_votes f.plan can.plan mid g turns.view (λ t port. record { gone = []; split = sym (turns.says t port) })
     (left_votes f.plan can.plan f mid taken.left.view taken.left.says v)

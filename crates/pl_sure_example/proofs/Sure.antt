@@ -93,9 +93,9 @@ sure_moment w was_sent ended last is = record {
   };
 }
 
-plain : IsUnicastTo a_to_b pmac_b
+to_one_host : IsUnicastTo a_to_b pmac_b
 unfolding decode_pairs
-plain = record { unicast = refl; to = refl; not_taken = refl; readable = refl }
+to_one_host = record { unicast = refl; to = refl; not_taken = refl; readable = refl }
 
 pub assembled : (rest : Option WorldView) → AllLead start rest → option_map (λ w. list_any (is_sent 3) w.journal) rest ≡ Some false →
     option_map snapshot (then_made rest plays) ≡ Some (sure_with true 0 (Some (Sent 3 a a_to_b))) →
@@ -124,7 +124,7 @@ assembled rest all rest_is sent_is crossed_is arrived_is =
         entry = contains_at s.0.journal (length s.0.journal - 1) (Sent 3 a a_to_b) (ap (λ (x : Snapshot). x.last) s.2);
         at_once = λ there. true≢false (none_there (is_sent 3) r.0.journal r.2 there.0 (Sent 3 a a_to_b) (at_index r.0.journal (Sent 3 a a_to_b) there));
         address = pmac_b;
-        plain = plain;
+        to_one_host = to_one_host;
         stays = (
           sure_moment s.0 true 0 (Some (Sent 3 a a_to_b)) s.2,
           λ lost. lost,

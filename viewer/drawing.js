@@ -5,6 +5,8 @@
 globalThis.Drawing = (() => {
     // Boxes that are narrower than this have neither outlines nor texts.
     const BARE = 10;
+    const BESIDE = 3; // points around a box in which its outline is
+    const [TWO_ROWS, THREE_ROWS] = [19, 27]; // heights from which a switch has so many texts
 
     // What a switch knows of its place, in texts that fall in length. An unknown part is - as in a journal.
     const placeTexts = ({ level, position, pod }) => {
@@ -15,14 +17,28 @@ globalThis.Drawing = (() => {
         return [`pod ${part(pod)} \u00b7 pos ${part(position)}`, `${part(pod)}.${part(position)}`];
     };
 
-    // What the boxes look like: what each switch knows of its place and, where loads are shown, its level and, in boxes that have texts, its
-    // number of frames; and where the hosts stand with which address.
+    // What the boxes look like: what each switch knows of its place and, where loads are shown, its level and, in boxes that have it as a
+    // text, its number of frames; and where the hosts stand with which address.
     const lookOf = p => {
-        const { state, isLoads } = p;
+        const { state, isLoads, layout } = p;
         p.mostCrossings = isLoads ? Ground.largest(state.crossings) : 0;
-        const hasTexts = p.layout.folded.length > 0 || p.layout.box[0] * p.scale >= BARE;
-        const loads = Float64Array.from(isLoads ? state.crossings : [], count => (hasTexts ? 8 * count : 0) + Ground.levelOf(count, p.mostCrossings));
-        return { loads, places: state.places.slice(), spots: state.spots.slice(), newest: state.newest.slice() };
+        const loads = new Float64Array(isLoads ? state.crossings.length : 0);
+        for (let n = 0; n < loads.length; n++) {
+            const box = layout.switches[n];
+            const isText = box.pod !== undefined || (box.width * p.scale >= BARE && box.height * p.scale >= TWO_ROWS);
+            loads[n] = (isText ? 8 * state.crossings[n] : 0) + Ground.levelOf(state.crossings[n], p.mostCrossings);
+        }
+        return { loads, places: state.places.slice(), spots: state.spots.slice(), newest: state.newest.slice(), ...hostsOf(p) };
+    };
+
+    // which host stands at each port of an edge switch, -1 where none does, and how many stand in each pod
+    const hostsOf = ({ fabric: { k }, state: { spots } }) => {
+        const [hostAt, hostsIn] = [new Int32Array(k * k * k / 2).fill(-1), new Int32Array(k)];
+        for (let host = 0; host < spots.length; host++) {
+            hostAt[spots[host]] = host;
+            hostsIn[Math.floor(spots[host] / (k * k / 2))]++;
+        }
+        return { hostAt, hostsIn };
     };
 
     // They look the same while this does.
@@ -31,8 +47,9 @@ globalThis.Drawing = (() => {
         return [counts[placed], counts[granted], counts[freed], counts[moved], isLoads ? counts[crossed] : 0].join(" ");
     };
 
-    // the places on the canvas where two looks differ: the boxes of what changed
-    const changes = (p, before, now) => {
+    // The places on the canvas where two looks differ, which are the boxes of what changed; all of them where these are no more than `most`.
+    // A box of a folded pod is `alone` where its place meets no other box.
+    const changes = (p, before, now, most) => {
         const boxes = new Set();
         now.places.forEach((place, number) => {
             if (place !== before.places[number] || now.loads[number] !== before.loads[number]) boxes.add(p.layout.switches[number]);
@@ -41,9 +58,11 @@ globalThis.Drawing = (() => {
             if (spot === before.spots[host] && now.newest[host] === before.newest[host]) return;
             boxes.add(p.layout.cells.get(spot)).add(p.layout.cells.get(before.spots[host]));
         });
-        return [...boxes].map(box => {
+        const isApart = p.layout.apart * p.scale >= 2 * BESIDE + 2;
+        return boxes.size > most ? [...boxes] : [...boxes].map(box => {
             const { x, y, width, height } = p.shown(box);
-            return { x: x - width / 2 - 3, y: y - height / 2 - 3, width: width + 6, height: height + 6 };
+            const place = { x: x - width / 2 - BESIDE, y: y - height / 2 - BESIDE, width: width + 2 * BESIDE, height: height + 2 * BESIDE };
+            return { ...place, alone: isApart && box.pod !== undefined ? box : null };
         });
     };
 
@@ -60,12 +79,12 @@ globalThis.Drawing = (() => {
         const room = at.width - 4;
         const names = s.level === 2 ? [s.label] : [s.label, s.label.replace(/^.*\./, ".")];
         const last = p.isLoads ? [Words.plural(state.crossings[s.number], "frame"), `${state.crossings[s.number]}`] : placeTexts(place);
-        if (at.height >= 27) {
+        if (at.height >= THREE_ROWS) {
             const size = Math.min(13, at.height / 3.5);
             pen.write(names, at.x, at.y - at.height * 0.27, room, size, ink, true);
             pen.write([`id ${s.id}`, `#${s.id}`], at.x, at.y + at.height * 0.01, room, size * 0.85, p.isLoads ? ink : colour.muted);
             pen.write(last, at.x, at.y + at.height * 0.29, room, size * 0.9, ink);
-        } else if (at.height >= 19) {
+        } else if (at.height >= TWO_ROWS) {
             pen.write(names, at.x, at.y - at.height * 0.2, room, Math.min(11, at.height / 2.1), ink, true);
             pen.write(last, at.x, at.y + at.height * 0.25, room, Math.min(9, at.height / 2.5), ink);
         } else pen.write(names, at.x, at.y + 0.5, room, Math.min(11, Math.max(6.5, at.height * 0.8)), ink, true);
@@ -125,11 +144,12 @@ globalThis.Drawing = (() => {
         if (rows > 2) pen.write([host.ip], at.x, lineAt(2), room, size * 0.85, colour.muted);
     };
 
-    // what a folded pod's box of one level says of its switches
-    const foldedBox = (p, box, letter, numbers) => {
-        const at = p.shown(box);
-        if (!p.isSeen(at)) return;
-        const { state, colour, pen } = p;
+    // what a folded pod's box of one level, of which switches are named by this letter, says of them
+    const switchesBox = (p, box, at) => {
+        const { state, colour, pen, fabric: { k } } = p;
+        const letter = box.of;
+        const first = (letter === "a" ? k + box.pod : box.pod) * (k / 2);
+        const numbers = Array.from({ length: k / 2 }, (_, n) => first + n);
         const places = numbers.map(number => At.place(state, number));
         const placed = places.filter(At.isPlaced).length;
         const known = places.find(place => place.level !== null);
@@ -143,23 +163,22 @@ globalThis.Drawing = (() => {
         pen.write(count, at.x, at.y + at.height * 0.24, at.width - 3, 9, ink);
     };
 
-    const folded = p => {
-        const { fabric, layout, pen, colour } = p;
-        const h = fabric.k / 2;
-        const hosts = new Map();
-        for (const spot of p.state.spots) {
-            const { pod } = fabric.switches[Math.floor(spot / fabric.k)];
-            hosts.set(pod, (hosts.get(pod) || 0) + 1);
-        }
-        for (const { pod, aggregation, edge, hosts: box } of layout.folded) {
-            const numbers = Array.from({ length: h }, (_, n) => pod * h + n);
-            foldedBox(p, aggregation, "a", numbers.map(number => number + fabric.k * h));
-            foldedBox(p, edge, "e", numbers);
-            const at = p.shown(box);
-            const count = hosts.get(pod) || 0;
-            pen.box(at, count > 0 ? colour.host : colour.paper, colour.ink, 0.9, count > 0 ? [] : [3, 3]);
-            if (at.width >= 18) pen.write([`${count} hosts`, `${count}`], at.x, at.y, at.width - 3, 11, colour.ink);
-        }
+    const hostsBox = (p, box, at, count) => {
+        const { pen, colour } = p;
+        pen.box(at, count > 0 ? colour.host : colour.paper, colour.ink, 0.9, count > 0 ? [] : [3, 3]);
+        if (at.width >= 18) pen.write([`${count} hosts`, `${count}`], at.x, at.y, at.width - 3, 11, colour.ink);
+    };
+
+    // one box of a folded pod
+    const foldedBox = (p, { hostsIn }, box) => {
+        const at = p.shown(box);
+        if (!p.isSeen(at)) return;
+        if (box.of === "hosts") hostsBox(p, box, at, hostsIn[box.pod]);
+        else switchesBox(p, box, at);
+    };
+
+    const folded = (p, look) => {
+        for (const { aggregation, edge, hosts } of p.layout.folded) for (const box of [aggregation, edge, hosts]) foldedBox(p, look, box);
     };
 
     // the names of the groups of core switches, where these are too small for theirs
@@ -168,17 +187,27 @@ globalThis.Drawing = (() => {
         if (core.width >= 20) return;
         p.layout.groups.forEach((group, n) => {
             const at = p.shown(group);
-            p.pen.write([`c${n}.x`, `c${n}`], at.x, at.y + 7, at.width, 10, p.colour.muted);
+            const isSeen = p.isSeen({ x: at.x, y: at.y + 7, width: at.width, height: 12 });
+            if (isSeen) p.pen.write([`c${n}.x`, `c${n}`], at.x, at.y + 7, at.width, 10, p.colour.muted);
         });
     };
 
-    const draw = p => {
-        const taken = new Set(p.state.spots);
-        for (const [spot, box] of p.layout.cells) if (box.pod === undefined && !taken.has(spot)) port(p, spot, box);
-        folded(p);
+    // the boxes of ports for hosts, and of the hosts at them; those of folded pods are in these
+    const ports = (p, { hostAt }) => {
+        const { layout, fabric } = p;
+        if (layout.folded.length === fabric.k) return;
+        for (const [spot, box] of layout.cells) {
+            if (box.pod !== undefined || !p.isSeen(p.shown(box))) continue;
+            if (hostAt[spot] >= 0) oneHost(p, fabric.hosts[hostAt[spot]]);
+            else port(p, spot, box);
+        }
+    };
+
+    const draw = (p, look) => {
+        folded(p, look);
         groups(p);
         for (const s of p.fabric.switches) if (p.layout.switches[s.number].pod === undefined) oneSwitch(p, s);
-        for (const host of p.fabric.hosts) if (p.layout.cells.get(p.state.spots[host.number]).pod === undefined) oneHost(p, host);
+        ports(p, look);
     };
 
     // A switch or a host of a folded pod by its name, at a place of the canvas.
@@ -190,5 +219,5 @@ globalThis.Drawing = (() => {
         pen.write([p.nameOf(place)], at.x, at.y + 0.5, at.width - 4, 11, colour.ink, true);
     };
 
-    return { draw, lookOf, keyOf, changes, oneSwitch, oneHost, named, placeTexts };
+    return { draw, drawAlone: foldedBox, lookOf, keyOf, changes, oneSwitch, oneHost, named, placeTexts };
 })();

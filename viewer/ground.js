@@ -2,12 +2,10 @@
 // Draws the ground of a picture: pods, and the links as they are once so many entries have happened. A failed link is dashed with a
 // cross; a load is told by width as well as by colour.
 globalThis.Ground = (() => {
-    // Of more links than this each is drawn fainter, on a canvas that is wide enough for so many.
-    const MANY = 80;
     const LEVELS = 8; // of the look of a line: its failed links times this, and the level of its load
     const PIECE = 64; // points of a line for which one place is drawn anew
     const BESIDE = 6; // points around it
-    const faded = (p, count) => Math.max(0.1, Math.min(1, Math.min(MANY, p.width / 6) / count));
+    const FAINT = 0.2; // a link that is this faint or fainter is drawn below its failure too
 
     // the level of a load from 0 to 5, by its logarithm in that of the largest
     const levelOf = (count, most) => (count === 0 ? 0 : Math.min(5, 1 + Math.floor(4.999 * Math.log(count) / Math.log(Math.max(2, most)))));
@@ -33,90 +31,74 @@ globalThis.Ground = (() => {
         });
     };
 
-    // What is drawn of the links of a layout, made once of it: `of` has the line of each link, and `ends` the four ends of each
-    // line, in units of the drawing. A line is one link, or all links between a folded pod and a group of core switches, or in it.
-    const linesOf = (fabric, layout) => {
-        const { switches, pods: places, groups: middles } = layout;
-        const h = fabric.k / 2;
-        const lines = { of: new Int32Array(fabric.links.length), ends: [], isOne: [], view: "", segments: [] };
-        const bundles = new Map();
-        const add = (a, b, isOne) => {
-            lines.ends.push(a.x, a.y - a.height / 2, b.x, b.y + b.height / 2);
-            return lines.isOne.push(isOne) - 1;
-        };
-        fabric.links.forEach((link, n) => {
-            const { pod } = fabric.switches[link.a];
-            const [a, b] = [switches[link.a], switches[link.b]];
-            if (places[pod].isOpen) {
-                lines.of[n] = add(a, b, true);
-                return;
-            }
-            const isInPod = b.pod !== undefined;
-            const key = isInPod ? -1 - pod : pod * h + (link.a % h);
-            if (!bundles.has(key)) bundles.set(key, add(a, isInPod ? b : { x: middles[link.a % h].x, y: middles[link.a % h].y, height: 0 }, false));
-            lines.of[n] = bundles.get(key);
-        });
-        return lines;
+    // Whether the lines look the same whatever happens but for failures above them, so that they are drawn once.
+    const isKept = p => {
+        if (p.isLoads) return false;
+        const { count } = Lines.shown(p);
+        return Lines.faded(p, count) <= FAINT || p.lines.isOne.every(one => one === 0);
     };
 
-    // the lines in sight, each by its number and with its ends on the canvas
-    const segmentsOf = p => {
-        const { x, y, scale, width, height } = p;
-        if (p.lines === null) p.lines = linesOf(p.fabric, p.layout);
-        const { ends, isOne } = p.lines;
-        const view = [x, y, scale, width, height].join(" ");
-        if (p.lines.view === view) return p.lines.segments;
-        p.lines.view = view;
-        p.lines.segments = [];
-        for (let number = 0; number < isOne.length; number++) {
-            const at = 4 * number;
-            const line = [(ends[at] - x) * scale, (ends[at + 1] - y) * scale, (ends[at + 2] - x) * scale, (ends[at + 3] - y) * scale];
-            if (p.isCrossing(line)) p.lines.segments.push({ number, ends: line, isOne: isOne[number] });
-        }
-        return p.lines.segments;
+    // what is drawn of the ground once: pods, and lines that look the same
+    const bed = {
+        keyOf: () => "",
+        lookOf: () => null,
+        changes: () => [],
+        draw: p => {
+            pods(p);
+            if (isKept(p)) plain(p, () => true);
+        },
     };
 
-    // the line from a host's box to its edge switch, none in a folded pod
+    // links as they are while no loads are shown
+    const plain = (p, isWanted) => {
+        const isStory = p.scene && p.scene.subject !== null;
+        const alpha = Lines.faded(p, Lines.shown(p).count) * (isStory ? 0.55 : 1);
+        p.pen.faint(alpha, () => Lines.draw(p, p.colour.link, Math.max(0.4, Math.min(1.4, p.scale * 1.1)), isWanted));
+    };
+
+    // the line from a host's port to its edge switch, none in a folded pod
     const hostLink = (p, spot) => {
-        const box = p.layout.cells.get(spot);
-        if (box.pod !== undefined) return null;
-        const cell = p.shown(box);
-        const edge = p.shown(p.layout.switches[Math.floor(spot / p.fabric.k)]);
-        return [cell.x, cell.y, cell.x, Math.min(cell.y, edge.y + edge.height / 2)];
+        const [x, y, toY] = p.lines.hosts.subarray(3 * spot, 3 * spot + 3);
+        if (Number.isNaN(x)) return null;
+        return [(x - p.x) * p.scale, (y - p.y) * p.scale, (x - p.x) * p.scale, (toY - p.y) * p.scale];
     };
 
-    // the lines from all hosts to their edge switches
-    const hostLinks = p => {
-        const short = [];
-        for (const spot of p.state.spots) {
-            const line = hostLink(p, spot);
-            if (line) short.push(line);
+    // the lines from all hosts to their edge switches, and in folded pods
+    const hostLinks = (p, spots) => {
+        const { pen, layout, sight, scale } = p;
+        const { hosts } = p.lines;
+        const [left, right] = [sight.x - BESIDE, sight.x + sight.width + BESIDE];
+        const [above, below] = [sight.y - BESIDE, sight.y + sight.height + BESIDE];
+        pen.beginLines(p.colour.link, 1);
+        for (let host = 0; host < spots.length; host++) {
+            const at = 3 * spots[host];
+            const x = (hosts[at] - p.x) * scale;
+            if (!(x > left && x < right)) continue;
+            const y = (hosts[at + 1] - p.y) * scale;
+            const toY = (hosts[at + 2] - p.y) * scale;
+            if (y > above && toY < below) pen.line(x, y, x, toY);
         }
-        for (const { edge, hosts } of p.layout.folded) {
-            const [above, below] = [p.shown(edge), p.shown(hosts)];
-            short.push([below.x, above.y + above.height / 2, below.x, below.y]);
+        for (const { edge, hosts: box } of layout.folded) {
+            const [from, to] = [p.shown(edge), p.shown(box)];
+            if (to.x > left && to.x < right && to.y > above && from.y < below) pen.line(to.x, from.y + from.height / 2, to.x, to.y);
         }
-        return short;
+        pen.endLines();
     };
 
     // What the ground looks like: each line by how many of its links are failed and, where loads are shown, the level of the largest
-    // of their loads, with the lines in sight that are live and those that are broken; and where the hosts stand.
+    // of their loads; those of its lines that are broken; and where the hosts stand.
     const lookOf = p => {
         const { state, isLoads } = p;
-        const segments = segmentsOf(p);
+        Lines.shown(p);
         const { of, isOne } = p.lines;
         const [lines, loads] = [new Int32Array(isOne.length), new Int32Array(isLoads ? isOne.length : 0)];
         for (let n = 0; n < of.length; n++) lines[of[n]] += LEVELS * state.failed[n];
         if (isLoads) {
             for (let n = 0; n < of.length; n++) if (state.carried[n] > loads[of[n]]) loads[of[n]] = state.carried[n];
             const most = largest(state.carried);
-            loads.forEach((load, n) => {
-                lines[n] += levelOf(load, most);
-            });
+            for (let n = 0; n < loads.length; n++) lines[n] += levelOf(loads[n], most);
         }
-        const isBroken = ({ number }) => lines[number] >= LEVELS;
-        const live = segments.filter(segment => !segment.isOne || !isBroken(segment));
-        return { lines, live, broken: segments.filter(isBroken), spots: state.spots.slice(), short: hostLinks(p) };
+        return { lines, isBroken: lines.some(line => line >= LEVELS), spots: state.spots.slice() };
     };
 
     // It looks the same while this does.
@@ -137,49 +119,54 @@ globalThis.Ground = (() => {
         return [...pieces, { x: x + width / 2 - 30, y: y + height / 2 - 10, width: 60, height: 20 }];
     };
 
-    // the places on the canvas where two looks differ
-    const changes = (p, before, now) => {
+    // the places on the canvas where two looks differ, all of them where these are no more than `most`
+    const changes = (p, before, now, most) => {
+        const { count, number, ends } = Lines.shown(p);
         const places = [];
-        for (const { number, ends } of segmentsOf(p)) if (before.lines[number] !== now.lines[number]) places.push(...placesOf(ends));
+        for (let n = 0; n < count && places.length <= most; n++) {
+            if (before.lines[number[n]] !== now.lines[number[n]]) places.push(...placesOf(ends.subarray(4 * n, 4 * n + 4)));
+        }
         now.spots.forEach((spot, host) => {
-            if (spot === before.spots[host]) return;
+            if (spot === before.spots[host] || places.length > most) return;
             for (const line of [hostLink(p, spot), hostLink(p, before.spots[host])]) if (line) places.push(...placesOf(line));
         });
         return places;
     };
 
-    const links = (p, look) => {
-        const { colour, pen, scale } = p;
-        const width = Math.max(0.4, Math.min(1.4, scale * 1.1));
-        const isStory = p.scene && p.scene.subject !== null;
-        const live = look.live.filter(({ ends }) => p.isCrossing(ends));
-        if (p.isLoads) loaded(p, live, look, width);
-        else pen.faint(faded(p, segmentsOf(p).length) * (isStory ? 0.55 : 1), () => pen.lines(live.map(({ ends }) => ends), colour.link, width, []));
-        pen.lines(look.broken.map(({ ends }) => ends), colour.failed, 1.6, [5, 4]);
-        for (const { number, isOne, ends: [x, y, toX, toY] } of look.broken) {
-            const failed = Math.floor(look.lines[number] / LEVELS);
-            const [middleX, middleY] = [(x + toX) / 2, (y + toY) / 2];
+    // failed links, above the others
+    const broken = (p, look) => {
+        const { colour, pen, sight } = p;
+        const { count, number, ends } = Lines.shown(p);
+        for (let n = 0; n < count; n++) {
+            const failed = Math.floor(look.lines[number[n]] / LEVELS);
+            if (failed === 0 || !Lines.isCrossing(sight, ends, 4 * n)) continue;
+            const line = ends.subarray(4 * n, 4 * n + 4);
+            pen.lines([line], colour.failed, 1.6, [5, 4]);
+            const [middleX, middleY] = [(line[0] + line[2]) / 2, (line[1] + line[3]) / 2];
             pen.cross(middleX, middleY, 4, colour.failed);
-            if (!isOne && failed > 1) pen.write([`${failed}`], middleX + 10, middleY, 30, 10, colour.failed, true);
+            if (p.lines.isOne[number[n]] === 0 && failed > 1) pen.write([`${failed}`], middleX + 10, middleY, 30, 10, colour.failed, true);
         }
-        pen.lines(look.short.filter(segment => p.isCrossing(segment)), colour.link, 1, []);
     };
 
     // links by the frames that came over them: the more, the wider and the farther from the paper's colour
-    const loaded = (p, segments, look, width) => {
-        const count = segmentsOf(p).length;
+    const loaded = (p, look, isLive) => {
+        const { count } = Lines.shown(p);
         const wider = Math.max(0.12, Math.min(1, 80 / count)) * Math.max(0.5, Math.min(1, p.scale)); // for each level
-        for (let level = 0; level <= 5; level++) {
-            const drawn = segments.filter(({ number }) => look.lines[number] % LEVELS === level).map(({ ends }) => ends);
-            if (level === 0) p.pen.faint(Math.min(0.6, faded(p, count)), () => p.pen.lines(drawn, p.colour.link, width, []));
-            else p.pen.lines(drawn, p.colour[`load${level}`], 0.5 + level * wider, []);
-        }
+        const isAt = level => number => look.lines[number] % LEVELS === level && isLive(number);
+        const faint = Math.min(0.6, Lines.faded(p, count));
+        p.pen.faint(faint, () => Lines.draw(p, p.colour.link, Math.max(0.4, Math.min(1.4, p.scale * 1.1)), isAt(0)));
+        for (let level = 1; level <= 5; level++) Lines.draw(p, p.colour[`load${level}`], 0.5 + level * wider, isAt(level));
     };
 
+    // what is drawn above its bed
     const draw = (p, look) => {
-        pods(p);
-        links(p, look);
+        const { isOne } = p.lines;
+        const isLive = number => isOne[number] === 0 || look.lines[number] < LEVELS;
+        if (p.isLoads) loaded(p, look, isLive);
+        else if (!isKept(p)) plain(p, isLive);
+        if (look.isBroken) broken(p, look);
+        hostLinks(p, look.spots);
     };
 
-    return { draw, lookOf, keyOf, changes, levelOf, largest, bounds };
+    return { bed, draw, lookOf, keyOf, changes, levelOf, largest, bounds };
 })();

@@ -48,12 +48,15 @@
     };
 
     // the colours of the layer of loads, with the least number of frames of each
+    let scaled = -1; // the most frames of a link that it was drawn for
     const drawScale = () => {
         const { isLoads } = picture;
         $("loads").setAttribute("aria-pressed", String(isLoads));
         $("scale").hidden = !isLoads;
         if (!isLoads) return;
         const most = Ground.largest(page.state.carried);
+        if (most === scaled) return;
+        scaled = most;
         const bounds = Ground.bounds(most);
         $("scale").replaceChildren("over a link:", ...bounds.flatMap((least, n) => {
             const top = n < 4 ? bounds[n + 1] - 1 : most;

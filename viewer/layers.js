@@ -1,17 +1,19 @@
 "use strict";
-// What is drawn of a picture's fabric, kept on two canvases: the ground, and that with the boxes over it. Where a step changes what is
-// seen at a few places, these are drawn anew alone, so that it costs little in a large fabric too.
+// What is drawn of a picture's fabric, kept on canvases that lie on each other: the bed of the ground, the ground above it, and the boxes.
+// Where a step changes what is seen at a few places, these are drawn anew alone, so that it costs little in a large fabric too.
 globalThis.Layers = (() => {
     // Of more places than this all is drawn anew.
-    const MOST_OF_GROUND = 60;
-    const MOST_OF_BOXES = 10;
+    const MOST_OF_GROUND = 40;
+    const MOST_OF_BOXES = 60;
     const ALL = null;
 
     class Layer {
-        constructor(drawer, most) {
+        // `below` is the layer that it has a copy of below what it draws; a layer without one is clear where nothing is drawn.
+        constructor(drawer, most, below, isClear) {
             this.canvas = document.createElement("canvas");
-            this.context = this.canvas.getContext("2d", { alpha: false });
-            Object.assign(this, { drawer, most, view: "", key: "", look: null });
+            this.context = this.canvas.getContext("2d", { alpha: isClear });
+            this.pen = Pen.of(this.context);
+            Object.assign(this, { drawer, most, below, isClear, view: "", key: "", look: null });
         }
 
         // The places where it is to be drawn anew now, or ALL of it.
@@ -20,31 +22,46 @@ globalThis.Layers = (() => {
             const key = drawer.keyOf(p);
             if (view === this.view && key === this.key) return [];
             this.look = drawer.lookOf(p);
-            const places = view === this.view ? drawer.changes(p, before, this.look) : ALL;
+            const places = view === this.view ? drawer.changes(p, before, this.look, this.most) : ALL;
             this.view = view;
             this.key = key;
             return places;
         }
 
-        // Draws it anew at these places; `under` draws what stands below it. Answers the places where it was drawn.
-        renew(p, places, { width, height, ratio }, under) {
-            const { context, canvas, drawer, look } = this;
-            const pen = p.pen;
-            p.pen = Pen.of(context);
-            const isAll = places === ALL || places.length > this.most;
-            if (isAll) {
+        // brings it up to now
+        renew(p, view, size) {
+            const { canvas, pen, most } = this;
+            const places = this.stale(p, view);
+            const { pen: former } = p;
+            p.pen = pen;
+            if (places === ALL || places.length > most) {
                 if (canvas.width !== p.canvas.width) canvas.width = p.canvas.width;
                 if (canvas.height !== p.canvas.height) canvas.height = p.canvas.height;
-                p.prepare(context, width, height, ratio);
-                under(context);
-                drawer.draw(p, look);
-            } else for (const place of places) p.within(whole(place, ratio), context, () => {
-                p.prepare(context, width, height, ratio);
-                under(context);
-                drawer.draw(p, look);
-            });
-            p.pen = pen;
-            return isAll ? ALL : places;
+                this.draw(p, size);
+            } else for (const place of places) this.drawPlace(p, size, place);
+            p.pen = former;
+        }
+
+        // draws a place anew: the box that is alone there, or all that is in sight there
+        drawPlace(p, size, place) {
+            const { context, drawer, look } = this;
+            const { x, y, width, height } = whole(place, size.ratio);
+            if (place.alone) {
+                context.clearRect(x, y, width, height);
+                drawer.drawAlone(p, look, place.alone);
+            } else p.within({ x, y, width, height }, context, () => this.draw(p, size));
+        }
+
+        // draws what is in sight
+        draw(p, { width, height, ratio }) {
+            const { context, below, isClear } = this;
+            p.prepare(width, height, ratio, isClear);
+            if (below) {
+                context.setTransform(1, 0, 0, 1, 0, 0);
+                context.drawImage(below.canvas, 0, 0);
+                context.setTransform(ratio, 0, 0, ratio, 0, 0);
+            }
+            this.drawer.draw(p, this.look);
         }
     }
 
@@ -57,28 +74,21 @@ globalThis.Layers = (() => {
 
     class Layers {
         constructor() {
-            this.ground = new Layer(Ground, MOST_OF_GROUND);
-            this.boxes = new Layer(Drawing, MOST_OF_BOXES);
+            this.bed = new Layer(Ground.bed, 0, null, false);
+            this.ground = new Layer(Ground, MOST_OF_GROUND, this.bed, false);
+            this.boxes = new Layer(Drawing, MOST_OF_BOXES, null, true);
         }
 
         // all is drawn anew the next time
         forget() {
-            this.ground.view = this.boxes.view = "";
+            this.bed.view = this.ground.view = this.boxes.view = "";
         }
 
-        // brings both up to now, and answers the canvas that has the fabric
+        // brings all up to now, and answers the canvases that have the fabric, the lower one first
         bring(p, size) {
             const view = [...Object.values(size), p.scale, p.x, p.y, p.isLoads, p.scene.subject !== null].join(" ");
-            const below = this.ground.renew(p, this.ground.stale(p, view), size, () => {});
-            const own = this.boxes.stale(p, view);
-            const places = below === ALL || own === ALL ? ALL : [...below, ...own];
-            this.boxes.renew(p, places, size, context => {
-                context.save();
-                context.setTransform(1, 0, 0, 1, 0, 0);
-                context.drawImage(this.ground.canvas, 0, 0);
-                context.restore();
-            });
-            return this.boxes.canvas;
+            for (const layer of [this.bed, this.ground, this.boxes]) layer.renew(p, view, size);
+            return [this.ground.canvas, this.boxes.canvas];
         }
     }
 

@@ -13,6 +13,7 @@ globalThis.Layout = (() => {
     const SIZES = { 4: [ROOMY, NARROW], 6: [MIDDLE, LARGE] };
     const FOLDED = { least: 11, most: 40, beside: 22 }; // width of a folded pod; `beside` an open one
     const READABLE = 20; // points on the screen: a narrower column cannot be read
+    const BETWEEN = 4; // between a folded pod's box and the next one, besides the gap between pods
     const HEAD = 24; // above the first row
     const FOOT = 46; // below the hosts: the pod's name
 
@@ -95,9 +96,9 @@ globalThis.Layout = (() => {
     const placeFolded = (fabric, layout, size, pod, rows) => {
         const h = fabric.k / 2;
         const { column } = layout.pods[pod];
-        const box = y => ({ x: column.x + column.width / 2, y, width: column.width - 4, height: size.box[1] * 0.8, pod });
-        const [aggregation, edge] = [box(rows.aggregation), box(rows.edge)];
-        const hosts = box(rows.edge + size.box[1] + 22);
+        const box = (of, y) => ({ x: column.x + column.width / 2, y, width: column.width - BETWEEN, height: size.box[1] * 0.8, pod, of });
+        const [aggregation, edge] = [box("a", rows.aggregation), box("e", rows.edge)];
+        const hosts = box("hosts", rows.edge + size.box[1] + 22);
         layout.folded.push({ pod, aggregation, edge, hosts });
         for (let n = 0; n < h; n++) {
             layout.switches[pod * h + n] = edge;
@@ -128,7 +129,7 @@ globalThis.Layout = (() => {
         const below = FOOT + (isAnyOpen ? Math.ceil(h / size.across) * (size.cell[1] + 3) : size.box[1] + 12);
         const rows = rowsOf(Math.max(0.5, canvas.width / Math.max(1, canvas.height)), width, size, core, below);
         const layout = { width, height: rows.height, gap: size.gap, box: size.box, cell: size.cell, across: size.across, folds: size.folds,
-            switches: [], pods: [], folded: [], cells: new Map() };
+            apart: size.gap + BETWEEN, switches: [], pods: [], folded: [], cells: new Map() };
         const top = rows.aggregation - size.box[1] / 2 - 8;
         layout.pods = columns.map((column, pod) => ({ x: column.x - size.gap * 0.3, y: top, width: column.width + size.gap * 0.6,
             height: rows.height - top - 6, isOpen: isOpen(pod), column }));

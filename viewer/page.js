@@ -221,8 +221,8 @@ globalThis.Page = (() => {
         page.moving = isMoving && now && now.from && !still.matches ? performance.now() : -1000;
         if (now && now.place && now.place.link === undefined && page.revealed !== page.state.entry) picture.reveal(now.place);
         page.revealed = page.state.entry;
+        drawLists(); // first, since it asks where the lists are: behind another change the page would be laid out for that
         drawNow();
-        drawLists();
         $("canvas").setAttribute("aria-label", summary());
         $("canvas").classList.toggle("near", !picture.isWhole);
         for (const follow of page.followers) follow(page);

@@ -4,30 +4,43 @@ globalThis.Pen = (() => {
     const FONT = "system-ui, 'DejaVu Sans', sans-serif";
     const SMALLEST = 6; // no text is written smaller
     const STEPS = 4; // sizes of a font in a point
-    const [MEASURED, MOST] = [100, 20000]; // the size at which texts are measured, and how many widths are kept
-    const widths = new Map();
+    const MEASURED = 100; // the size at which characters are measured
+    const WIDTHS = { plain: new Map(), bold: new Map() };
 
     class Pen {
         constructor(context) {
             this.c = context;
+            this.begin(1);
+        }
+
+        // From now on a point is so many of the screen, and the context has another font than the last that was written in.
+        begin(ratio) {
+            this.ratio = ratio;
+            this.fontSize = 0; // of the context's font, below 0 where it is bold
         }
 
         // In steps, so that there are few fonts: a browser takes long for each that is new.
         font(size, isBold) {
-            this.c.font = `${isBold ? "bold " : ""}${Math.floor(size * STEPS) / STEPS}px ${FONT}`;
+            const fontSize = Math.floor(size * STEPS) / STEPS * (isBold ? -1 : 1);
+            if (fontSize === this.fontSize) return;
+            this.fontSize = fontSize;
+            this.c.font = `${isBold ? "bold " : ""}${Math.abs(fontSize)}px ${FONT}`;
         }
 
-        // how wide a text is, which grows as its size does
+        // How wide a text is: as its characters together, which are measured once.
         widthOf(text, size, isBold) {
-            const key = isBold ? `b${text}` : `n${text}`;
-            let width = widths.get(key);
-            if (width === undefined) {
-                this.font(MEASURED, isBold);
-                width = this.c.measureText(text).width;
-                if (widths.size >= MOST) widths.clear();
-                widths.set(key, width);
+            const widths = isBold ? WIDTHS.bold : WIDTHS.plain;
+            let sum = 0;
+            for (const character of text) {
+                let width = widths.get(character);
+                if (width === undefined) {
+                    this.font(MEASURED, isBold);
+                    width = this.c.measureText(character).width;
+                    widths.set(character, width);
+                }
+                sum += width;
             }
-            return width * size / MEASURED;
+            return sum * size / MEASURED;
         }
 
         // Writes the first of the texts that fits at nearly this size, else the last one smaller; nothing where that is too small.
@@ -100,6 +113,39 @@ globalThis.Pen = (() => {
                 c.stroke();
             }
             c.setLineDash([]);
+        }
+
+        // Begins lines of one width without dashes, `line` adds each, and `endLines` is behind the last one. Lines that are no wider than two points
+        // of the screen are drawn together, one that is wider than a point as two beside each other: a browser draws such fine ones in half the
+        // time. Others, and all in Svg, are each drawn as they are.
+        beginLines(ink, width) {
+            const { c, ratio } = this;
+            const isFine = !c.isText && width * ratio <= 2;
+            this.isTogether = isFine;
+            this.apart = isFine ? Math.max(0, width - 1 / ratio) : 0;
+            c.strokeStyle = ink;
+            c.lineWidth = width - this.apart;
+            c.setLineDash([]);
+            c.beginPath();
+        }
+
+        line(x, y, toX, toY) {
+            const { c, apart } = this;
+            const part = apart / 2 / Math.max(1e-6, Math.hypot(toX - x, toY - y));
+            const [across, down] = [(y - toY) * part, (toX - x) * part];
+            c.moveTo(x + across, y + down);
+            c.lineTo(toX + across, toY + down);
+            if (apart > 0) {
+                c.moveTo(x - across, y - down);
+                c.lineTo(toX - across, toY - down);
+            }
+            if (this.isTogether) return;
+            c.stroke();
+            c.beginPath();
+        }
+
+        endLines() {
+            if (this.isTogether) this.c.stroke();
         }
 
         cross(x, y, size, ink) {

@@ -4,7 +4,6 @@
 globalThis.Picture = (() => {
     const NAMES = ["paper", "ink", "muted", "link", "pod", "edge", "aggregation", "core", "host", "now", "nowink", "failed",
         "load1", "load2", "load3", "load4", "load5", "loadink"];
-    const WIDE = 3; // no line is wider on either side
 
     class Picture {
         constructor(canvas) {
@@ -41,7 +40,7 @@ globalThis.Picture = (() => {
         // lays the fabric out in the shape that the canvas has now
         lay() {
             this.measure();
-            this.lines = null; // Ground makes them of the layout
+            this.lines = null; // Lines makes them of the layout
             this.layout = Layout.of(this.fabric, { width: this.width, height: this.height }, this.open);
             this.layers.forget();
         }
@@ -130,6 +129,7 @@ globalThis.Picture = (() => {
             act();
             this.place = null;
             context.restore();
+            this.pen.begin(this.pen.ratio);
         }
 
         isSeen({ x, y, width, height }) {
@@ -168,23 +168,18 @@ globalThis.Picture = (() => {
             return [from.x, from.y - from.height / 2, to.x, to.y + to.height / 2];
         }
 
-        // whether a line may cross what is drawn on, as a line in a box that meets it does
-        isCrossing(line) {
-            const { sight } = this;
-            const [x, toX, left, right] = [line[0], line[2], sight.x - WIDE, sight.x + sight.width + WIDE];
-            if ((x <= left && toX <= left) || (x >= right && toX >= right)) return false;
-            const [y, toY, top, bottom] = [line[1], line[3], sight.y - WIDE, sight.y + sight.height + WIDE];
-            if ((y <= top && toY <= top) || (y >= bottom && toY >= bottom)) return false;
-            const side = (atX, atY) => Math.sign((toX - x) * (atY - y) - (toY - y) * (atX - x));
-            return Math.abs(side(left, top) + side(right, top) + side(left, bottom) + side(right, bottom)) < 4;
-        }
-
-        prepare(context, width, height, ratio) {
+        // begins to draw with its pen, on paper or, where it is clear, on nothing
+        prepare(width, height, ratio, isClear = false) {
+            const { c: context } = this.pen;
+            this.pen.begin(ratio);
             context.setTransform(ratio, 0, 0, ratio, 0, 0);
             context.textAlign = "center";
             context.textBaseline = "middle";
-            context.fillStyle = this.colour.paper;
-            context.fillRect(0, 0, width, height);
+            if (isClear) context.clearRect(0, 0, width, height);
+            else {
+                context.fillStyle = this.colour.paper;
+                context.fillRect(0, 0, width, height);
+            }
         }
 
         draw() {
@@ -192,11 +187,11 @@ globalThis.Picture = (() => {
             const ratio = window.devicePixelRatio || 1;
             if (canvas.width !== Math.round(width * ratio)) canvas.width = Math.round(width * ratio);
             if (canvas.height !== Math.round(height * ratio)) canvas.height = Math.round(height * ratio);
-            this.prepare(screen, width, height, ratio);
+            this.prepare(width, height, ratio);
             if (!this.scene || width === 0 || height === 0) return;
             const fabric = this.layers.bring(this, { width, height, ratio });
             screen.setTransform(1, 0, 0, 1, 0, 0);
-            screen.drawImage(fabric, 0, 0);
+            for (const layer of fabric) screen.drawImage(layer, 0, 0);
             screen.setTransform(ratio, 0, 0, ratio, 0, 0);
             Traces.draw(this);
         }
@@ -205,10 +200,8 @@ globalThis.Picture = (() => {
         paint(context, height, ratio) {
             const { pen } = this;
             this.pen = Pen.of(context);
-            this.prepare(context, this.width, height, ratio);
-            Ground.draw(this, Ground.lookOf(this));
-            Drawing.lookOf(this);
-            Drawing.draw(this);
+            this.prepare(this.width, height, ratio);
+            for (const drawer of [Ground.bed, Ground, Drawing]) drawer.draw(this, drawer.lookOf(this));
             Traces.draw(this);
             this.pen = pen;
         }

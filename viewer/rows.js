@@ -7,7 +7,9 @@ globalThis.Rows = (() => {
 
     class Rows {
         constructor(box, fill, choose, role) {
-            Object.assign(this, { box, fill, choose, role, count: 0, marked: -1, isNow: true, top: -1 }); // `top`: where it was drawn last
+            Object.assign(this, { box, fill, choose, role, count: 0, marked: -1, isNow: true });
+            Object.assign(this, { isCentred: false, shown: 0 }); // whether `show` scrolled, and where to
+            Object.assign(this, { drawn: new Map(), top: -1, height: 0 }); // its rows by number, where it was drawn, and how high it was
             this.inner = document.createElement("div");
             this.inner.className = "rows";
             if (role === "row") this.inner.setAttribute("role", "presentation");
@@ -15,6 +17,12 @@ globalThis.Rows = (() => {
             box.addEventListener("scroll", () => {
                 if (box.scrollTop !== this.top) this.draw();
             });
+            // It has another height, as where more stands above it: what was brought into sight stays there, unless somebody scrolled.
+            new ResizeObserver(() => {
+                if (box.clientHeight === this.height) return;
+                if (this.marked >= 0 && box.scrollTop === this.shown) this.show(this.marked, this.isCentred);
+                this.draw();
+            }).observe(box);
             box.addEventListener("keydown", event => this.key(event));
             this.inner.addEventListener("click", event => {
                 const row = event.target.closest(".row");
@@ -47,31 +55,41 @@ globalThis.Rows = (() => {
             return row;
         }
 
+        // Draws the rows in sight; those that were drawn since `set` stay.
         draw() {
-            const { box, inner } = this;
+            const { box, inner, drawn } = this;
             inner.style.height = `${Math.min(this.longest, LONGEST)}px`;
             const { scrollTop, clientHeight } = box;
             this.top = scrollTop;
+            this.height = clientHeight;
             const from = scrollTop * this.ratio;
-            const rows = [];
+            const first = Math.max(0, Math.floor(from / HEIGHT));
             const last = Math.min(this.count, Math.ceil((from + clientHeight) / HEIGHT) + 1);
-            for (let n = Math.max(0, Math.floor(from / HEIGHT)); n < last; n++) {
-                const row = this.row(n);
-                row.style.top = `${scrollTop + n * HEIGHT - from}px`;
-                rows.push(row);
+            for (const [n, row] of drawn) {
+                if (n >= first && n < last) continue;
+                row.remove();
+                drawn.delete(n);
             }
-            inner.replaceChildren(...rows);
-            const marked = rows.find(row => Number(row.dataset.row) === this.marked);
+            let next = inner.firstChild;
+            for (let n = first; n < last; n++) {
+                const row = drawn.get(n) || this.row(n);
+                drawn.set(n, row);
+                row.style.top = `${scrollTop + n * HEIGHT - from}px`;
+                if (row === next) next = next.nextSibling;
+                else inner.insertBefore(row, next);
+            }
+            const marked = drawn.get(this.marked);
             if (marked) box.setAttribute("aria-activedescendant", marked.id);
             else box.removeAttribute("aria-activedescendant");
         }
 
-        // brings a row into sight
-        show(n) {
+        // brings a row into sight, in the middle where it is out of it or is wanted there
+        show(n, isWanted = false) {
             const { box, ratio } = this;
             const from = box.scrollTop * ratio;
-            if (n * HEIGHT >= from && (n + 1) * HEIGHT <= from + box.clientHeight) return;
-            box.scrollTop = Math.max(0, n * HEIGHT - box.clientHeight / 2) / ratio;
+            this.isCentred = isWanted || n * HEIGHT < from || (n + 1) * HEIGHT > from + box.clientHeight;
+            if (this.isCentred) box.scrollTop = Math.max(0, n * HEIGHT - box.clientHeight / 2) / ratio;
+            this.shown = box.scrollTop;
         }
 
         // up and down choose the row before and the next one; of rows of a table none is chosen
@@ -88,6 +106,8 @@ globalThis.Rows = (() => {
             Object.assign(this, { count, marked, isNow });
             this.inner.style.height = `${Math.min(this.longest, LONGEST)}px`;
             if (marked >= 0) this.show(marked);
+            this.drawn.clear();
+            this.inner.replaceChildren();
             this.draw();
         }
     }

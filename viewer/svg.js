@@ -10,6 +10,7 @@ globalThis.Svg = (() => {
             this.measure = measure;
             this.parts = [];
             this.path = [];
+            this.isText = true;
             Object.assign(this, { fillStyle: "#000", strokeStyle: "#000", lineWidth: 1, globalAlpha: 1, textAlign: "center", dash: [], font: "" });
         }
 

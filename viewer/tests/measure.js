@@ -5,8 +5,9 @@
 //
 //     node viewer/tests/measure.js PROGRAM [STEPS [PASSES [KINDS]]]
 //
-// PROGRAM is a Chromium; so many steps of each kind, 1,000 where it is not said. Of more passes over the same steps than one the least
-// of each step is taken, which is what it costs itself, whatever came between. KINDS are the first so many kinds.
+// PROGRAM is a Chromium; so many steps of each kind, 1,000 where it is not said. Of more passes over the same steps than one the first is
+// told, and the least of each step, which is what it costs itself, whatever came between. Of KINDS, from one number to another as 1-4, those
+// are measured alone.
 const fs = require("fs");
 const os = require("os");
 const path = require("path");
@@ -81,6 +82,7 @@ const KINDS = [
     ["a step at which a switch is placed or an address granted, with all pods open", `${OPEN}; Page.step(4500)`, around("granted", "placed")],
     ["a step at which a link fails or comes back, with all pods open", OPEN, around("linkdown", "linkup")],
     ["a step back with all pods open and the loads", `${LOADS}; ${OPEN}`, BACK],
+    ["a step far away with all pods open and the loads", `${LOADS}; ${OPEN}`, FAR],
 ];
 
 const leastOf = passes => passes[0].map((_, n) => Math.min(...passes.map(pass => pass[n])));
@@ -89,18 +91,23 @@ const main = async () => {
     const browser = await begin(process.argv[2], 1920, 1080);
     try {
         const run = files();
-        const [count, passes, kinds] = [Number(process.argv[3] || 1000), Number(process.argv[4] || 1), Number(process.argv[5] || KINDS.length)];
+        const [count, passes] = [Number(process.argv[3] || 1000), Number(process.argv[4] || 1)];
+        const [from, to = from] = (process.argv[5] || `1-${KINDS.length}`).split("-").map(Number);
         console.log(`before: ${os.loadavg()[0]} programs at work on ${os.cpus().length} processors`);
         await browser.call("Performance.enable");
         const openings = [];
         for (let n = 0; n < TIMES; n++) openings.push(await opened(browser, run));
         console.log(`opening: ${said(LATE, openings)}`);
-        for (const [name, before, to] of KINDS.slice(0, kinds)) {
+        for (const [name, before, goes] of KINDS.slice(from - 1, to)) {
             await opened(browser, run);
-            const taken = [await steps(browser, count, before, to)];
-            while (taken.length < passes) taken.push(await steps(browser, count, "", to));
-            const of = what => said(SLOW, leastOf(taken.map(pass => pass[what])));
-            console.log(`${name}:\n    by the clock: ${of("clock")}\n    of processor: ${of("processor")}`);
+            const taken = [await steps(browser, count, before, goes)];
+            while (taken.length < passes) taken.push(await steps(browser, count, "", goes));
+            console.log(`${name}, beside ${os.loadavg()[0]} programs:`);
+            for (const [what, told] of [["clock", "by the clock"], ["processor", "of processor"]]) {
+                const of = taken.map(pass => pass[what]);
+                console.log(`    ${told}, first: ${said(SLOW, of[0])}`);
+                if (passes > 1) console.log(`    ${told}, least of ${passes}: ${said(SLOW, leastOf(of))}`);
+            }
         }
         console.log(`behind: ${os.loadavg()[0]} programs at work`);
     } finally {

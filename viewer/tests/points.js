@@ -201,8 +201,8 @@ const a_place_is_drawn_anew_as_all_is = async browser => {
     const changing = run.journal.split("\n").flatMap((line, n) => (/^(linkdown|linkup|moved|granted) /.test(line) ? [n + 1] : []));
     for (const key of ["0", "l"]) {
         await browser.press(key);
-        const differ = await browser.value(`(() => { const { layers } = Page.picture; const differ = [];
-            const points = () => { const { canvas, context } = layers.boxes; return context.getImageData(0, 0, canvas.width, canvas.height).data; };
+        const differ = await browser.value(`(() => { const { layers, canvas, screen } = Page.picture; const differ = [];
+            const points = () => screen.getImageData(0, 0, canvas.width, canvas.height).data;
             for (const n of ${JSON.stringify(changing.slice(-8))}) { Page.step(n - 1); Page.step(n); const kept = points(); layers.forget(); Page.draw(false);
                 const whole = points(); let most = 0; for (let at = 0; at < kept.length; at++) most = Math.max(most, Math.abs(whole[at] - kept[at]));
                 if (most > 128) differ.push(n); } return differ; })()`);

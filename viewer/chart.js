@@ -56,7 +56,7 @@ globalThis.Chart = (() => {
             const count = ({ name }) => (name === "sent" || name === "arrived" ? state.counts[KIND[name]] : state.causes[CAUSES.indexOf(name)]);
             const texts = chart.rows.map(row => `${row.name} ${count(row)}`);
             box.querySelectorAll(".keys b").forEach((element, n) => {
-                element.textContent = count(chart.rows[n]);
+                Texts.put(element, `${count(chart.rows[n])}`);
             });
             box.querySelector(".mark").style.left = `calc(${state.entry / Math.max(1, chart.run.count) * 100}% - 1px)`;
             box.setAttribute("aria-label", `Frames so far: ${texts.join(", ")}`);

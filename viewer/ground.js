@@ -5,6 +5,7 @@ globalThis.Ground = (() => {
     const LEVELS = 8; // of the look of a line: its failed links times this, and the level of its load
     const PIECE = 64; // points of a line for which one place is drawn anew
     const BESIDE = 6; // points around it
+    const LONG = 1000; // more lines than this take long
     const FAINT = 0.2; // a link that is this faint or fainter is drawn below its failure too
 
     // the level of a load from 0 to 5, by its logarithm in that of the largest
@@ -35,7 +36,7 @@ globalThis.Ground = (() => {
     const isKept = p => {
         if (p.isLoads) return false;
         const { count } = Lines.shown(p);
-        return Lines.faded(p, count) <= FAINT || p.lines.isOne.every(one => one === 0);
+        return Lines.faded(p, count) <= FAINT || p.lines.isFolded;
     };
 
     // what is drawn of the ground once: pods, and lines that look the same
@@ -148,25 +149,46 @@ globalThis.Ground = (() => {
         }
     };
 
-    // links by the frames that came over them: the more, the wider and the farther from the paper's colour
-    const loaded = (p, look, isLive) => {
-        const { count } = Lines.shown(p);
-        const wider = Math.max(0.12, Math.min(1, 80 / count)) * Math.max(0.5, Math.min(1, p.scale)); // for each level
-        const isAt = level => number => look.lines[number] % LEVELS === level && isLive(number);
-        const faint = Math.min(0.6, Lines.faded(p, count));
-        p.pen.faint(faint, () => Lines.draw(p, p.colour.link, Math.max(0.4, Math.min(1.4, p.scale * 1.1)), isAt(0)));
-        for (let level = 1; level <= 5; level++) Lines.draw(p, p.colour[`load${level}`], 0.5 + level * wider, isAt(level));
+    // links over which no frame came
+    const unused = (p, isWanted) => {
+        const faint = Math.min(0.6, Lines.faded(p, Lines.shown(p).count));
+        p.pen.faint(faint, () => Lines.draw(p, p.colour.link, Math.max(0.4, Math.min(1.4, p.scale * 1.1)), isWanted));
     };
+
+    // links by the frames that came over them: the more, the wider and the farther from the paper's colour
+    const used = (p, look, isLive) => {
+        const wider = Math.max(0.12, Math.min(1, 80 / Lines.shown(p).count)) * Math.max(0.5, Math.min(1, p.scale)); // for each level
+        for (let level = 1; level <= 5; level++) {
+            Lines.draw(p, p.colour[`load${level}`], 0.5 + level * wider, number => look.lines[number] % LEVELS === level && isLive(number));
+        }
+    };
+
+    // whether a line is not failed: each by its number, as many links together always
+    const liveOf = (p, look) => number => p.lines.isOne[number] === 0 || look.lines[number] < LEVELS;
 
     // what is drawn above its bed
     const draw = (p, look) => {
-        const { isOne } = p.lines;
-        const isLive = number => isOne[number] === 0 || look.lines[number] < LEVELS;
-        if (p.isLoads) loaded(p, look, isLive);
-        else if (!isKept(p)) plain(p, isLive);
+        const isLive = liveOf(p, look);
+        if (p.isLoads) {
+            unused(p, number => look.lines[number] % LEVELS === 0 && isLive(number));
+            used(p, look, isLive);
+        } else if (!isKept(p)) plain(p, isLive);
         if (look.isBroken) broken(p, look);
         hostLinks(p, look.spots);
     };
 
-    return { bed, draw, lookOf, keyOf, changes, levelOf, largest, bounds };
+    // How it is drawn by a Raster where it takes longer than a step may: so many lines with their loads. `begin` is drawn once for a view.
+    const coarse = {
+        isWanted: p => p.isLoads && Lines.shown(p).count > LONG,
+        begin: p => unused(p, () => true),
+        draw: (p, look) => {
+            used(p, look, liveOf(p, look));
+            hostLinks(p, look.spots);
+        },
+        above: (p, look) => {
+            if (look.isBroken) broken(p, look);
+        },
+    };
+
+    return { bed, draw, coarse, lookOf, keyOf, changes, levelOf, largest, bounds };
 })();

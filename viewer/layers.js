@@ -1,6 +1,7 @@
 "use strict";
 // What is drawn of a picture's fabric, kept on canvases that lie on each other: the bed of the ground, the ground above it, and the boxes.
-// Where a step changes what is seen at a few places, these are drawn anew alone, so that it costs little in a large fabric too.
+// Where a step changes what is seen at a few places, these are drawn anew alone, so that it costs little in a large fabric too. Where it
+// changes thousands of lines they are drawn coarsely, until no other step comes for a while.
 globalThis.Layers = (() => {
     // Of more places than this all is drawn anew.
     const MOST_OF_GROUND = 40;
@@ -13,7 +14,13 @@ globalThis.Layers = (() => {
             this.canvas = document.createElement("canvas");
             this.context = this.canvas.getContext("2d", { alpha: isClear });
             this.pen = Pen.of(this.context);
-            Object.assign(this, { drawer, most, below, isClear, view: "", key: "", look: null });
+            Object.assign(this, { drawer, most, below, isClear, view: "", key: "", look: null, raster: null, isCoarse: false });
+        }
+
+        // all is drawn anew the next time
+        forget() {
+            this.view = "";
+            this.raster = null;
         }
 
         // The places where it is to be drawn anew now, or ALL of it.
@@ -30,14 +37,17 @@ globalThis.Layers = (() => {
 
         // brings it up to now
         renew(p, view, size) {
-            const { canvas, pen, most } = this;
+            const { canvas, pen, most, drawer } = this;
             const places = this.stale(p, view);
             const { pen: former } = p;
             p.pen = pen;
-            if (places === ALL || places.length > most) {
+            const isAll = places === ALL || places.length > (this.isCoarse ? 0 : most);
+            if (isAll) {
                 if (canvas.width !== p.canvas.width) canvas.width = p.canvas.width;
                 if (canvas.height !== p.canvas.height) canvas.height = p.canvas.height;
-                this.draw(p, size);
+                this.isCoarse = drawer.coarse !== undefined && drawer.coarse.isWanted(p);
+                if (this.isCoarse) this.drawCoarsely(p, view, size);
+                else this.draw(p, size);
             } else for (const place of places) this.drawPlace(p, size, place);
             p.pen = former;
         }
@@ -50,6 +60,28 @@ globalThis.Layers = (() => {
                 context.clearRect(x, y, width, height);
                 drawer.drawAlone(p, look, place.alone);
             } else p.within({ x, y, width, height }, context, () => this.draw(p, size));
+        }
+
+        // draws what is in sight, its many lines by a raster
+        drawCoarsely(p, view, { ratio }) {
+            const { context, below, drawer: { coarse }, look, pen } = this;
+            if (!this.raster) this.raster = Raster.make();
+            p.pen = this.raster;
+            this.raster.begin(below.context, view, ratio, p.colour.paper, () => coarse.begin(p));
+            coarse.draw(p, look);
+            p.pen = pen;
+            context.putImageData(this.raster.image, 0, 0);
+            p.ready(ratio);
+            coarse.above(p, look);
+        }
+
+        // draws as it is to stay what was drawn coarsely
+        finish(p, size) {
+            const { pen: former } = p;
+            p.pen = this.pen;
+            this.draw(p, size);
+            this.isCoarse = false;
+            p.pen = former;
         }
 
         // draws what is in sight
@@ -81,7 +113,16 @@ globalThis.Layers = (() => {
 
         // all is drawn anew the next time
         forget() {
-            this.bed.view = this.ground.view = this.boxes.view = "";
+            for (const layer of [this.bed, this.ground, this.boxes]) layer.forget();
+        }
+
+        // whether a part of it waits to be drawn as it is to stay
+        get isCoarse() {
+            return this.ground.isCoarse;
+        }
+
+        finish(p, size) {
+            if (this.ground.isCoarse) this.ground.finish(p, size);
         }
 
         // brings all up to now, and answers the canvases that have the fabric, the lower one first

@@ -10,7 +10,7 @@ globalThis.Lines = (() => {
     const faded = (p, count) => Math.max(0.1, Math.min(1, Math.min(MANY, p.width / 6) / count));
 
     // The lines of a layout: `of` has the line of each link, `ends` the four ends of each line in units of the drawing, `isOne` whether
-    // it is one link, and `hosts` those to hosts.
+    // it is one link, `isFolded` whether none is, and `hosts` those to hosts.
     const ofLayout = (fabric, layout) => {
         const { switches, pods, groups } = layout;
         const h = fabric.k / 2;
@@ -31,7 +31,8 @@ globalThis.Lines = (() => {
             if (!bundles.has(key)) bundles.set(key, add(a, isInPod ? b : { x: groups[link.a % h].x, y: groups[link.a % h].y, height: 0 }, 0));
             of[n] = bundles.get(key);
         });
-        return { of, ends: Float64Array.from(ends), isOne: Uint8Array.from(isOne), hosts: hostsOf(fabric, layout), view: "", shown: null };
+        const isFolded = isOne.every(one => one === 0);
+        return { of, ends: Float64Array.from(ends), isOne: Uint8Array.from(isOne), isFolded, hosts: hostsOf(fabric, layout), view: "", shown: null };
     };
 
     // the line from each port for hosts in an open pod to its edge switch: where it is across, and its two ends down

@@ -8,6 +8,7 @@ globalThis.Page = (() => {
         files: {}, run: null, states: null, script: null, state: null,
         subject: null, story: null, // whose story is shown, and its entries
         known: null, // what the Fabric list shows
+        rules: "", // those that stand below the sentence
         followers: [], // called with each new state: what goes with this page
         playing: 0, owed: 0, way: 1, // when the last picture was made while playing; entries that are due; 1 is on, -1 back
         revealed: -1, // the entry whose place was brought into sight
@@ -16,7 +17,7 @@ globalThis.Page = (() => {
 
     const BEGINNING = "The beginning: nothing has happened. No switch knows more than its id and its ports.";
 
-    const row = (name, parts) => {
+    const row = ([name, ...parts]) => {
         const tr = document.createElement("tr");
         const th = document.createElement("th");
         th.textContent = name;
@@ -49,32 +50,42 @@ globalThis.Page = (() => {
         return tr;
     };
 
-    const section = (title, rows) => {
-        const h2 = document.createElement("h2");
-        h2.textContent = title;
-        const table = document.createElement("table");
-        table.append(...rows);
-        return [h2, table];
-    };
-
     const capital = text => text[0].toUpperCase() + text.slice(1);
+
+    // Two tables with titles: of whose story is shown, and of a frame's header. They stay, and so do rows that are as they were.
+    const section = makeRow => {
+        const [title, table] = [document.createElement("h2"), document.createElement("table")];
+        $("facts").append(title, table);
+        return { title, table, makeRow, run: null, keys: [] };
+    };
+    const [about, header] = [section(row), section(headerRow)];
+
+    // `title` is a text, and behind it a button where there is one
+    const fillSection = (shown, title, rows) => {
+        const { table, makeRow, keys } = shown;
+        shown.title.hidden = table.hidden = rows.length === 0;
+        const isOther = shown.run !== page.run;
+        shown.run = page.run;
+        [title, ...rows].forEach((parts, n) => {
+            const key = JSON.stringify(parts);
+            if (!isOther && keys[n] === key) return;
+            keys[n] = key;
+            if (n === 0) shown.title.replaceChildren(...parts.flatMap(part => (typeof part === "string" ? [part] : [" ", button(part)])));
+            else if (n > table.rows.length) table.append(makeRow(parts));
+            else table.rows[n - 1].replaceWith(makeRow(parts));
+        });
+        while (table.rows.length > rows.length) table.lastChild.remove();
+        keys.length = rows.length + 1;
+    };
 
     const drawFacts = () => {
         const { run, state, subject } = page;
-        const parts = [];
-        if (subject) {
-            const rows = Facts.of(run, state, subject).map(([name, ...rest]) => row(name, rest));
-            parts.push(...section(capital(Facts.name(run, subject)), rows));
-        }
+        fillSection(about, subject ? [capital(Facts.name(run, subject))] : [], subject ? Facts.of(run, state, subject) : []);
         const now = state.entry > 0 ? Journal.frameOf(run, state.entry - 1) : 0;
         const id = subject && subject.frame !== undefined ? subject.frame : now;
-        const header = id > 0 ? Facts.header(run, state, id) : null;
-        if (header) {
-            const [title, table] = section(header.title, header.rows.map(headerRow));
-            if (!subject || subject.frame !== id) title.append(" ", button({ text: "its story", subject: { frame: id } }));
-            parts.push(title, table);
-        }
-        $("facts").replaceChildren(...parts);
+        const { title, rows } = (id > 0 && Facts.header(run, state, id)) || { title: "", rows: [] };
+        const isTold = subject && subject.frame === id;
+        fillSection(header, isTold || rows.length === 0 ? [title] : [title, { text: "its story", subject: { frame: id } }], rows);
     };
 
     const elementOf = (name, text) => {
@@ -86,7 +97,10 @@ globalThis.Page = (() => {
     // the rules behind the entry of now, each as what the table of rules says and the files that it stands in
     const drawRule = n => {
         const rules = n < 0 ? [] : Rules.of(page.run, n);
-        $("look").textContent = n < 0 ? "" : Rules.look(page.run, n);
+        Texts.put($("look"), n < 0 ? "" : Rules.look(page.run, n));
+        const key = JSON.stringify(rules);
+        if (key === page.rules) return;
+        page.rules = key;
         $("rule").replaceChildren(...rules.flatMap(({ says, files }, at) => {
             const parts = says.split("`").map((text, i) => (i % 2 === 1 ? elementOf("code", text) : text));
             const names = files.flatMap((file, i) => [i === 0 ? " in " : ", ", elementOf("code", file)]);
@@ -106,13 +120,13 @@ globalThis.Page = (() => {
         const { run, state, script } = page;
         const n = state.entry - 1;
         const line = state.line < 0 ? "" : `, line ${run.a[state.line]} of the script`;
-        $("where").textContent = `entry ${state.entry} of ${run.count}${line}`;
-        $("said").textContent = n < 0 ? BEGINNING : Words.sentence(run, n, script);
+        Texts.put($("where"), `entry ${state.entry} of ${run.count}${line}`);
+        Texts.put($("said"), n < 0 ? BEGINNING : Words.sentence(run, n, script));
         $("said").setAttribute("aria-live", page.playing ? "off" : "polite");
-        $("raw").textContent = n < 0 ? "" : Journal.text(run, n, 400);
+        Texts.put($("raw"), n < 0 ? "" : Journal.text(run, n, 400));
         drawRule(n);
         chart.set(state);
-        $("counts").textContent = countsText();
+        Texts.put($("counts"), countsText());
         $("slider").value = state.entry;
         $("entry").value = state.entry;
         $("line").value = state.line < 0 ? "" : run.a[state.line];
@@ -126,23 +140,24 @@ globalThis.Page = (() => {
     const markedRow = () => (page.story ? Stories.happened(page.story, page.state.entry) : page.state.entry) - 1;
     const isNow = row => row >= 0 && entryOfRow(row) === page.state.entry - 1;
 
+    // a row's text as it stands in its file, and below it what that means
+    const fillTexts = (element, text, meaning) => {
+        if (!element.firstChild) element.append(document.createElement("code"), document.createElement("span"));
+        Texts.put(element.firstChild, text);
+        Texts.put(element.lastChild, meaning);
+        element.title = meaning;
+    };
+
     const fillEntry = (element, n) => {
         const entry = entryOfRow(n);
-        const [code, span] = [document.createElement("code"), document.createElement("span")];
-        code.textContent = `${entry + 1}  ${Journal.text(page.run, entry, 90)}`;
-        span.textContent = Words.sentence(page.run, entry, page.script);
-        element.title = span.textContent;
-        if (page.run.kind[entry] === Journal.KIND.line) element.classList.add("line");
-        element.append(code, span);
+        fillTexts(element, `${entry + 1}  ${Journal.text(page.run, entry, 90)}`, Words.sentence(page.run, entry, page.script));
+        return page.run.kind[entry] === Journal.KIND.line ? "line" : "";
     };
 
     const fillLine = (element, n) => {
-        const [code, span] = [document.createElement("code"), document.createElement("span")];
-        code.textContent = `${n + 1}  ${page.script[n]}`;
-        span.textContent = Script.sentence(page.script[n]);
+        fillTexts(element, `${n + 1}  ${page.script[n]}`, Script.sentence(page.script[n]));
         const entry = Journal.ofLine(page.run, n + 1);
-        if (entry < 0 || page.run.a[entry] !== n + 1) element.classList.add("idle");
-        element.append(code, span);
+        return entry < 0 || page.run.a[entry] !== n + 1 ? "idle" : "";
     };
 
     const linkTo = (text, title, act) => {
@@ -156,7 +171,6 @@ globalThis.Page = (() => {
 
     const fillKnown = (element, n) => {
         const { subject, cells, entries: happened, note } = Knowledge.row(page.known, $("knowledge").value, knownRows[n], page.state.entry);
-        element.classList.add("cells");
         const number = elementOf("span", `${knownRows[n] + 1}`);
         number.className = "number";
         const name = document.createElement("span");
@@ -164,8 +178,9 @@ globalThis.Page = (() => {
         const when = document.createElement("span");
         for (const [word, entry] of happened) when.append(linkTo(`${word} ${entry + 1}`, `to entry ${entry + 1}`, () => step(entry + 1)), " ");
         if (note) when.append(note);
-        element.append(number, name, elementOf("span", cells[1]), when);
+        element.replaceChildren(number, name, elementOf("span", cells[1]), when);
         for (const cell of element.children) cell.setAttribute("role", "cell");
+        return "cells";
     };
 
     const entries = Rows.make($("journal"), fillEntry, n => go(entryOfRow(n) + 1));
@@ -181,23 +196,27 @@ globalThis.Page = (() => {
     const drawKnown = () => {
         if ($("fabric").hidden) return;
         if (!page.known) page.known = Knowledge.of(page.run);
-        const { entry } = page.state;
+        const { entry, counts } = page.state;
         const list = $("knowledge").value;
+        const { placed, granted, registered, freed } = Journal.KIND;
+        const key = [counts[placed], counts[granted], counts[registered], counts[freed], list, $("filter").value].join(" ");
+        if (key === page.known.key) return; // nothing in it has happened
+        page.known.key = key;
         knownRows = Knowledge.rows(page.known, list, $("filter").value, entry);
         [...$("heads").children].slice(1).forEach((head, n) => {
             head.textContent = HEADS[list][n];
         });
-        knowledge.set(knownRows.length, -1);
+        knowledge.set(knownRows.length, -1, true, knownRows);
         const shown = $("filter").value.trim() === "" ? "" : `; ${Words.plural(knownRows.length, "row")} with this text`;
         $("known").textContent = `${Knowledge.summary(page.known, list, entry)}${shown}`;
     };
 
     const drawLists = () => {
         const marked = markedRow();
-        entries.set(page.story ? page.story.length : page.run.count, marked, isNow(marked));
+        entries.set(page.story ? page.story.length : page.run.count, marked, isNow(marked), page.story || page.run);
         const line = page.state.line < 0 ? -1 : page.run.a[page.state.line] - 1;
-        if (page.script && !$("script").hidden) lines.set(page.script.length, line);
-        $("telling").textContent = page.subject ? storyName() : "";
+        if (page.script && !$("script").hidden) lines.set(page.script.length, line, true, page.script);
+        Texts.put($("telling"), page.subject ? storyName() : "");
         $("all").hidden = !page.subject;
         drawKnown();
     };

@@ -4,6 +4,7 @@
 globalThis.Picture = (() => {
     const NAMES = ["paper", "ink", "muted", "link", "pod", "edge", "aggregation", "core", "host", "now", "nowink", "failed",
         "load1", "load2", "load3", "load4", "load5", "loadink"];
+    const REST = 200; // milliseconds without another picture after which one is finished
 
     class Picture {
         constructor(canvas) {
@@ -12,7 +13,7 @@ globalThis.Picture = (() => {
             this.layers = Layers.make();
             this.pen = Pen.of(this.screen);
             Object.assign(this, { width: 0, height: 0, scale: 1, x: 0, y: 0, progress: 1, isLoads: false, open: new Set(), touched: null, place: null });
-            Object.assign(this, { run: null, fabric: null, layout: null, state: null, scene: null, names: new Map(), lines: null });
+            Object.assign(this, { run: null, fabric: null, layout: null, state: null, scene: null, names: new Map(), lines: null, finishing: 0 });
         }
 
         // Takes the size that the canvas has on the page, in points. It is asked for where that may have changed alone: a page that
@@ -168,13 +169,19 @@ globalThis.Picture = (() => {
             return [from.x, from.y - from.height / 2, to.x, to.y + to.height / 2];
         }
 
-        // begins to draw with its pen, on paper or, where it is clear, on nothing
-        prepare(width, height, ratio, isClear = false) {
+        // its pen draws in the canvas's own points
+        ready(ratio) {
             const { c: context } = this.pen;
             this.pen.begin(ratio);
             context.setTransform(ratio, 0, 0, ratio, 0, 0);
             context.textAlign = "center";
             context.textBaseline = "middle";
+        }
+
+        // begins to draw with its pen, on paper or, where it is clear, on nothing
+        prepare(width, height, ratio, isClear = false) {
+            const { c: context } = this.pen;
+            this.ready(ratio);
             if (isClear) context.clearRect(0, 0, width, height);
             else {
                 context.fillStyle = this.colour.paper;
@@ -190,10 +197,19 @@ globalThis.Picture = (() => {
             this.prepare(width, height, ratio);
             if (!this.scene || width === 0 || height === 0) return;
             const fabric = this.layers.bring(this, { width, height, ratio });
+            clearTimeout(this.finishing);
+            if (this.layers.isCoarse) this.finishing = setTimeout(() => this.finish(), REST);
             screen.setTransform(1, 0, 0, 1, 0, 0);
             for (const layer of fabric) screen.drawImage(layer, 0, 0);
             screen.setTransform(ratio, 0, 0, ratio, 0, 0);
             Traces.draw(this);
+        }
+
+        // draws what was drawn coarsely as it is to stay
+        finish() {
+            if (!this.scene || !this.layers.isCoarse) return;
+            this.layers.finish(this, { width: this.width, height: this.height, ratio: window.devicePixelRatio || 1 });
+            this.draw();
         }
 
         // draws all of it by another context, of this height at least, in the canvas's own points

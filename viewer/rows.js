@@ -1,6 +1,6 @@
 "use strict";
-// A list of any length of which only the rows in sight are made. Where it is longer than a browser can scroll, the bar moves it
-// by more than a pixel for a pixel.
+// A list of any length of which only the rows in sight are made; one that goes out of sight becomes one that comes into it, so that a step
+// makes no elements. Where the list is longer than a browser can scroll, the bar moves it by more than a pixel for a pixel.
 globalThis.Rows = (() => {
     const HEIGHT = 40;
     const LONGEST = 8e6;
@@ -9,7 +9,8 @@ globalThis.Rows = (() => {
         constructor(box, fill, choose, role) {
             Object.assign(this, { box, fill, choose, role, count: 0, marked: -1, isNow: true });
             Object.assign(this, { isCentred: false, shown: 0 }); // whether `show` scrolled, and where to
-            Object.assign(this, { drawn: new Map(), top: -1, height: 0 }); // its rows by number, where it was drawn, and how high it was
+            Object.assign(this, { rows: [], first: 0, what: null }); // the rows from number `first` on, and what they are filled of
+            Object.assign(this, { top: -1, height: 0, long: "" }); // where it was drawn, how high it was, and how long all rows are
             this.inner = document.createElement("div");
             this.inner.className = "rows";
             if (role === "row") this.inner.setAttribute("role", "presentation");
@@ -40,46 +41,69 @@ globalThis.Rows = (() => {
             return this.longest > LONGEST ? hidden(this.longest) / hidden(LONGEST) : 1;
         }
 
-        row(n) {
-            const row = document.createElement("div");
-            row.className = n !== this.marked ? "row" : this.isNow ? "row now" : "row last";
-            row.dataset.row = n;
-            row.id = `${this.box.id}-${n}`;
-            row.setAttribute("role", this.role);
-            if (this.role === "option") {
-                row.setAttribute("aria-selected", String(n === this.marked && this.isNow));
-                row.setAttribute("aria-posinset", n + 1);
-                row.setAttribute("aria-setsize", this.count);
-            } else row.setAttribute("aria-rowindex", n + 2); // the first row has the heads
-            this.fill(row, n);
-            return row;
+        // so many rows of numbers from `first` on, in their order: those that are in sight still stay, and the others go to the other end
+        arrange(first, count) {
+            const { rows, inner } = this;
+            const isNear = Math.abs(first - this.first) < rows.length;
+            for (; isNear && this.first < first; this.first++) {
+                rows.push(rows.shift());
+                inner.append(rows[rows.length - 1].element);
+            }
+            for (; isNear && this.first > first; this.first--) {
+                rows.unshift(rows.pop());
+                inner.prepend(rows[0].element);
+            }
+            this.first = first;
+            while (rows.length > count) rows.pop().element.remove();
+            while (rows.length < count) rows.push(this.make());
         }
 
-        // Draws the rows in sight; those that were drawn since `set` stay.
+        make() {
+            const element = document.createElement("div");
+            element.setAttribute("role", this.role);
+            this.inner.append(element);
+            return { element, number: -1, what: null, kind: "", look: "", top: "" };
+        }
+
+        // makes a row that of this number
+        become(row, number) {
+            const { element } = row;
+            Object.assign(row, { number, what: this.what });
+            element.dataset.row = number;
+            element.id = `${this.box.id}-${number}`;
+            if (this.role === "option") {
+                element.setAttribute("aria-posinset", number + 1);
+                element.setAttribute("aria-setsize", this.count);
+            } else element.setAttribute("aria-rowindex", number + 2); // the first row has the heads
+            row.kind = this.fill(element, number);
+        }
+
+        // how a row looks: as that of now, as the last one before it, or as any
+        mark(row) {
+            const isMarked = row.number === this.marked;
+            const look = ["row", row.kind, isMarked && this.isNow ? "now" : isMarked ? "last" : ""].filter(word => word !== "").join(" ");
+            if (look === row.look) return;
+            row.look = row.element.className = look;
+            if (this.role === "option") row.element.setAttribute("aria-selected", String(isMarked && this.isNow));
+        }
+
+        // Draws the rows in sight; those that were filled of the same stay as they are.
         draw() {
-            const { box, inner, drawn } = this;
-            inner.style.height = `${Math.min(this.longest, LONGEST)}px`;
+            const { box, rows } = this;
             const { scrollTop, clientHeight } = box;
-            this.top = scrollTop;
-            this.height = clientHeight;
             const from = scrollTop * this.ratio;
             const first = Math.max(0, Math.floor(from / HEIGHT));
             const last = Math.min(this.count, Math.ceil((from + clientHeight) / HEIGHT) + 1);
-            for (const [n, row] of drawn) {
-                if (n >= first && n < last) continue;
-                row.remove();
-                drawn.delete(n);
-            }
-            let next = inner.firstChild;
-            for (let n = first; n < last; n++) {
-                const row = drawn.get(n) || this.row(n);
-                drawn.set(n, row);
-                row.style.top = `${scrollTop + n * HEIGHT - from}px`;
-                if (row === next) next = next.nextSibling;
-                else inner.insertBefore(row, next);
-            }
-            const marked = drawn.get(this.marked);
-            if (marked) box.setAttribute("aria-activedescendant", marked.id);
+            Object.assign(this, { top: scrollTop, height: clientHeight });
+            this.arrange(first, Math.max(0, last - first));
+            rows.forEach((row, n) => {
+                if (row.number !== first + n || row.what !== this.what) this.become(row, first + n);
+                this.mark(row);
+                const top = `${scrollTop + row.number * HEIGHT - from}px`;
+                if (top !== row.top) row.top = row.element.style.top = top;
+            });
+            const marked = rows[this.marked - first];
+            if (marked) box.setAttribute("aria-activedescendant", marked.element.id);
             else box.removeAttribute("aria-activedescendant");
         }
 
@@ -101,17 +125,18 @@ globalThis.Rows = (() => {
             if (row >= 0 && row < this.count) this.choose(row);
         }
 
-        // so many rows, and the one that is marked: as that of now, or as the last one before it
-        set(count, marked, isNow = true) {
-            Object.assign(this, { count, marked, isNow });
-            this.inner.style.height = `${Math.min(this.longest, LONGEST)}px`;
+        // So many rows, and the one that is marked: as that of now, or as the last one before it. `what` is what they are filled of: where it
+        // is the same as before, they are too.
+        set(count, marked, isNow, what) {
+            Object.assign(this, { count, marked, isNow, what });
+            const long = `${Math.min(this.longest, LONGEST)}px`;
+            if (long !== this.long) this.long = this.inner.style.height = long;
             if (marked >= 0) this.show(marked);
-            this.drawn.clear();
-            this.inner.replaceChildren();
             this.draw();
         }
     }
 
-    // `fill(element, n)` makes row n; `choose(n)` is called where row n is clicked. Rows are options of a list box, or rows of a table.
+    // `fill(element, n)` makes row n, as which its element may have been another one before, and answers what kind of row it is, as a class;
+    // `choose(n)` is called where row n is clicked. Rows are options of a list box, or rows of a table.
     return { make: (box, fill, choose, role = "option") => new Rows(box, fill, choose, role) };
 })();

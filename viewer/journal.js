@@ -1,12 +1,13 @@
 "use strict";
 // Reads a journal's text into columns of numbers, a row for each entry, so that a million entries take little room. Frames
 // stay in the text and are read where they are shown. A line that is no entry's line, or names what is not there, is refused
-// with its number: a page that shows what a journal says must not guess what it might have said.
+// with its number: a page that shows what a journal says must not guess what it might have said. A line that begins with another word
+// than those that are known is an entry of which nothing is known but its text; a file that begins with one is no journal.
 globalThis.Journal = (() => {
     // the words that lines begin with; an entry's kind is the place of its word here
     const WORDS = ["line", "sent", "skipped", "made", "crossed", "redirected", "copied", "arrived", "taken", "dropped",
         "granted", "registered", "placed", "linkdown", "linkup", "moved", "settled", "unsettled", "freed", "restarted"];
-    const KIND = Object.fromEntries(WORDS.map((word, kind) => [word, kind]));
+    const KIND = Object.fromEntries([...WORDS, "other"].map((word, kind) => [word, kind]));
     const CAUSES = ["NotPlaced", "NoNextHop", "NoAddress", "HostGone", "LinkDown", "Lost", "Spent", "BadArp", "NoMember"];
     const SKIPS = ["CutRecord", "Short", "Long", "ForeignSource", "ControlType", "RecordedArp", "NoOwner", "HoldFull"];
 
@@ -54,7 +55,7 @@ globalThis.Journal = (() => {
             throw error;
         }
 
-        // the kind of the line that begins here
+        // The kind of the line that begins here. One that is not known is gone over to its end.
         word() {
             const { bytes, at } = this;
             let end = at;
@@ -63,11 +64,17 @@ globalThis.Journal = (() => {
             const spelled = kind < 0 ? [] : SPELLED[kind];
             let same = 0;
             while (same < spelled.length && bytes[at + same] === spelled[same]) same++;
-            if (same === 0 || same !== end - at || same !== spelled.length) {
+            const isKnown = same > 0 && same === end - at && same === spelled.length;
+            if (!isKnown && (this.line === 1 || !/^[a-z]+$/.test(this.text(at, end)))) {
                 this.refuse(`\`${this.text(at, end)}\` begins no line of a journal`);
             }
-            this.at = end;
-            return kind;
+            this.at = isKnown ? end : this.endOfLine(end);
+            return isKnown ? kind : KIND.other;
+        }
+
+        endOfLine(from) {
+            const found = this.bytes.indexOf(NEWLINE, from);
+            return found < 0 ? this.bytes.length : found;
         }
 
         text(from, to) {
@@ -324,7 +331,7 @@ globalThis.Journal = (() => {
         else if (kind === KIND.moved) moved(lines, run, n);
         else if (kind === KIND.freed) free(lines, run, n);
         else if (kind === KIND.restarted) restart(lines, run, n);
-        else {
+        else if (kind !== KIND.other) {
             run.a[n] = lines.number("a number");
             if (kind === KIND.line) run.scriptLines.push(n);
         }

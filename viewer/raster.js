@@ -1,8 +1,8 @@
 "use strict";
 // Draws thousands of fine lines on the pixels of a canvas, without smoothing: each has one pixel in each column, or in each row where it
-// is steep, half of which stays what it was. It takes a fourth of the time that a canvas takes for smooth ones.
+// is steep, a fourth of which stays what it was. It takes a fourth of the time that a canvas takes for smooth ones.
 globalThis.Raster = (() => {
-    const HALF = 0xfefefe; // of each part of a colour, the lowest digit apart
+    const FOURTHS = 0xfcfcfc; // of each part of a colour what can be divided by four
     const UNIT = 65536; // of a place across a line, as a whole number
 
     // the parts of a colour that is written #rrggbb
@@ -10,7 +10,7 @@ globalThis.Raster = (() => {
 
     class Raster {
         constructor() {
-            Object.assign(this, { view: "", image: null, former: null, pixels: null, ratio: 1, alpha: 1, half: 0, paper: "#ffffff" });
+            Object.assign(this, { view: "", image: null, former: null, pixels: null, ratio: 1, alpha: 1, most: 0, paper: "#ffffff" });
         }
 
         // begins with what a context shows, and what `act` draws on it: both are the same for the same view
@@ -35,10 +35,10 @@ globalThis.Raster = (() => {
 
         // Lines of this colour and width: a fine or faint one is nearer to the paper's colour.
         beginLines(ink, width) {
-            const part = Math.min(1, 2 * this.alpha * width * this.ratio);
+            const part = Math.min(1, 1.3 * this.alpha * width * this.ratio);
             const paper = partsOf(this.paper);
             const [red, green, blue] = partsOf(ink).map((of, n) => Math.round(paper[n] + (of - paper[n]) * part));
-            this.half = (((red | green << 8 | blue << 16) & HALF) >> 1) | 0xff << 24;
+            this.most = 3 * (((red | green << 8 | blue << 16) & FOURTHS) >> 2) | 0xff << 24; // three fourths of it
         }
 
         line(x, y, toX, toY) {
@@ -64,11 +64,11 @@ globalThis.Raster = (() => {
         }
 
         put(from, end, next, v, slope, beside) {
-            const { pixels, half } = this;
+            const { pixels, most } = this;
             const step = Math.round(slope * UNIT);
             for (let [at, across] = [from, Math.floor(v * UNIT)]; at < end; at += next, across += step) {
                 const n = at + (across >> 16) * beside;
-                pixels[n] = ((pixels[n] & HALF) >> 1) + half;
+                pixels[n] = ((pixels[n] & FOURTHS) >> 2) + most;
             }
         }
 

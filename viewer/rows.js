@@ -9,7 +9,8 @@ globalThis.Rows = (() => {
         constructor(box, fill, choose, role) {
             Object.assign(this, { box, fill, choose, role, count: 0, marked: -1, isNow: true });
             Object.assign(this, { isCentred: false, shown: 0 }); // whether `show` scrolled, and where to
-            Object.assign(this, { rows: [], first: 0, what: null }); // the rows from number `first` on, and what they are filled of
+            Object.assign(this, { rows: [], first: 0, spare: [] }); // the rows from number `first` on, and those that are not wanted now
+            this.what = null; // what they are filled of
             Object.assign(this, { top: -1, height: 0, long: "" }); // where it was drawn, how high it was, and how long all rows are
             this.inner = document.createElement("div");
             this.inner.className = "rows";
@@ -43,7 +44,7 @@ globalThis.Rows = (() => {
 
         // so many rows of numbers from `first` on, in their order: those that are in sight still stay, and the others go to the other end
         arrange(first, count) {
-            const { rows, inner } = this;
+            const { rows, spare, inner } = this;
             const isNear = Math.abs(first - this.first) < rows.length;
             for (; isNear && this.first < first; this.first++) {
                 rows.push(rows.shift());
@@ -54,14 +55,19 @@ globalThis.Rows = (() => {
                 inner.prepend(rows[0].element);
             }
             this.first = first;
-            while (rows.length > count) rows.pop().element.remove();
-            while (rows.length < count) rows.push(this.make());
+            while (rows.length > count) {
+                spare.push(rows.pop());
+                spare[spare.length - 1].element.remove();
+            }
+            while (rows.length < count) {
+                rows.push(spare.pop() || this.make());
+                inner.append(rows[rows.length - 1].element);
+            }
         }
 
         make() {
             const element = document.createElement("div");
             element.setAttribute("role", this.role);
-            this.inner.append(element);
             return { element, number: -1, what: null, kind: "", look: "", top: "" };
         }
 

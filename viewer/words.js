@@ -235,6 +235,13 @@ globalThis.Words = (() => {
         return isBefore ? `${linkOf(run, n)} is left out before the first line: a learning bridge wants a tree.` : `${linkOf(run, n)} fails.`;
     };
 
+    // A learning bridge copies also a frame that is for one host alone.
+    const copied = (run, n) => {
+        const isFlooded = Journal.isOfBridge(run) && !Frames.isGroup(asBegun(run, n).destination);
+        const why = isFlooded ? ` The bridge floods it: it has not learnt where ${Frames.macText(asBegun(run, n).destination)} stands.` : "";
+        return `At ${switchOf(run, run.at[n])} frame ${run.a[n]} goes one more way: frame ${run.b[n]} is its copy.${why}`;
+    };
+
     const SENTENCES = {
         line,
         sent: (run, n) => begins(run, n, `Host ${hostOf(run, run.b[n])} sends`),
@@ -242,7 +249,7 @@ globalThis.Words = (() => {
         made: (run, n) => begins(run, n, `Switch ${switchOf(run, run.b[n])} makes`),
         crossed,
         redirected,
-        copied: (run, n) => `At ${switchOf(run, run.at[n])} frame ${run.a[n]} goes one more way: frame ${run.b[n]} is its copy.`,
+        copied,
         arrived,
         taken,
         dropped,
@@ -259,8 +266,10 @@ globalThis.Words = (() => {
         restarted,
     };
 
+    const other = (run, n) => `A line of a kind that this page does not know, of which it draws nothing: \`${Journal.text(run, n, 90)}\`.`;
+
     // what entry n means; `script` are the lines of the script, or null
-    const sentence = (run, n, script = null) => SENTENCES[Journal.WORDS[run.kind[n]]](run, n, script);
+    const sentence = (run, n, script = null) => (run.kind[n] === KIND.other ? other(run, n) : SENTENCES[Journal.WORDS[run.kind[n]]](run, n, script));
 
     // A header as rows of a name, a value, and what the value means once n entries have happened.
     const header = (run, frame, n) => {

@@ -210,6 +210,59 @@ const a_place_is_drawn_anew_as_all_is = async browser => {
     }
 };
 
+// Thousands of lines with their loads are drawn by pixels while steps follow each other, and as they are to stay behind the last one.
+const many_lines_are_finished_behind_the_last_step = async browser => {
+    await openedLarge(browser, 24, 30001);
+    await browser.press("l");
+    await browser.value("Page.picture.openPods(Page.picture.layout.pods.keys())");
+    const points = "(() => { const { canvas, context } = Page.picture.layers.ground; return context.getImageData(0, 0, canvas.width, canvas.height).data; })()";
+    for (const entry of [24000, 30001]) {
+        const wasCoarse = await browser.value(`(() => { Page.step(${entry}); Page.toCompare = ${points}; return Page.picture.layers.isCoarse; })()`);
+        assert(wasCoarse, `${entry}`);
+        await browser.until("!Page.picture.layers.isCoarse");
+        const apart = await browser.value(`(() => { const now = ${points}; let sum = 0; for (let at = 0; at < now.length; at++) sum += Math.abs(now[at] - Page.toCompare[at]);
+            return sum / now.length; })()`);
+        assert(apart > 0 && apart < 12, `${apart} apart at ${entry}`); // of 255
+    }
+    const differ = await browser.value(`(() => { const kept = ${points}; Ground.coarse.isWanted = () => false; Page.picture.layers.forget(); Page.draw(false); const whole = ${points};
+        let differ = 0; for (let at = 0; at < kept.length; at++) if (kept[at] !== whole[at]) differ++; return differ; })()`);
+    assert.equal(differ, 0);
+};
+
+// A step makes no rows anew, so that it leaves no elements behind.
+const rows_stay_from_step_to_step = async browser => {
+    const run = await opened(browser, "examples/storm");
+    await browser.value("(() => { Page.seen = new Set(); Page.most = 0; })()");
+    for (const entry of [300, 299, 320, 700, 5, 6, 1000, 980, 12]) {
+        await browser.value(`Page.step(${entry})`);
+        await says(browser, run, entry);
+        const order = await browser.value(`(() => { const rows = [...document.querySelectorAll("#journal .row")]; rows.forEach(row => Page.seen.add(row));
+            Page.most = Math.max(Page.most, rows.length); return rows.map(row => Number(row.dataset.row)); })()`);
+        assert.deepEqual(order, order.map((_, n) => order[0] + n));
+    }
+    assert.equal(await browser.value("Page.seen.size - Page.most"), 0);
+    await browser.value("Page.step(5)");
+    await browser.press("f");
+    const story = Stories.of(run.run, { frame: run.run.a[4] });
+    const shown = await browser.value("[...document.querySelectorAll('#journal .row code')].map(code => code.textContent)");
+    assert.deepEqual(shown, story.slice(0, shown.length).map(n => `${n + 1}  ${Journal.text(run.run, n, 90)}`));
+};
+
+const a_line_of_another_kind_stops_nothing = async browser => {
+    const folder = path.join(top, "examples/four-hosts");
+    const lines = fs.readFileSync(path.join(folder, "expected/journal.txt"), "utf8").split("\n");
+    lines.splice(60, 0, "paused 3 e0.0");
+    const journal = path.join(work, "journal.txt");
+    fs.writeFileSync(journal, lines.join("\n"));
+    await browser.open(PAGE);
+    await browser.choose([path.join(folder, "topology.toml"), journal]);
+    await browser.until(isOpen(95));
+    await browser.value("Page.step(61)");
+    assert.equal(await browser.text("said"), "A line of a kind that this page does not know, of which it draws nothing: `paused 3 e0.0`.");
+    await browser.press("End");
+    assert.equal(await browser.text("raw"), lines[94]);
+};
+
 const rowsOfTable = browser => browser.value("[...document.querySelectorAll('#table .row')].map(row => [...row.children].map(cell => cell.textContent.trim()))");
 
 const what_the_fabric_knows = async (browser, width) => {
@@ -335,6 +388,7 @@ const aging_restarts_and_bridges_are_told = async browser => {
 module.exports = {
     the_page_fits_its_screen, fingers_name_and_zoom, nothing_covers_switches_or_names, what_is_found_is_not_taken_for_now,
     a_large_fabric_is_read, keys_reach_everything, the_rule_stands_below_the_sentence, loads_and_the_chart,
-    a_place_is_drawn_anew_as_all_is, what_the_fabric_knows, a_second_run_goes_beside,
+    a_place_is_drawn_anew_as_all_is, many_lines_are_finished_behind_the_last_step, rows_stay_from_step_to_step,
+    a_line_of_another_kind_stops_nothing, what_the_fabric_knows, a_second_run_goes_beside,
     the_welcome_page_shows_an_example, a_moment_is_kept, packed_pages_open_at_a_moment, aging_restarts_and_bridges_are_told,
 };

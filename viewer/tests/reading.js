@@ -106,6 +106,7 @@ const a_line_that_is_no_entry_is_refused_with_its_number = () => {
     const table = [
         ["nothing\n", 1, "begins no line"],
         ["line 1\n\n", 2, "begins no line"],
+        ["line 1\nLine 2\n", 2, "begins no line"],
         ["line\n", 1, "missing"],
         ["line 1 2\n", 1, "too many"],
         ["line 01\n", 1, "none"],
@@ -134,6 +135,23 @@ const a_line_that_is_no_entry_is_refused_with_its_number = () => {
     for (const [text, line, what] of table) {
         assert.throws(() => openTexts(HOSTS, text), error => error.message.includes(`line ${line}: `) && error.message.includes(what), text);
     }
+};
+
+// What comes to the fabric later has words that are not known here: they are shown, and the rest is read as before.
+const a_line_of_another_kind_is_shown_as_it_is = () => {
+    const lines = ["line 1", `sent 1 a ${FRAME}`, "paused 3 e0.0 - x:y", "crossed 1 e0.0", "resumed"];
+    const run = openTexts(HOSTS, `${lines.join("\n")}\n`);
+    assert.deepEqual(lines.map((_, n) => Journal.text(run, n)), lines);
+    assert.deepEqual([2, 4].map(n => run.kind[n]), [Journal.KIND.other, Journal.KIND.other]);
+    const said = text => `A line of a kind that this page does not know, of which it draws nothing: \`${text}\`.`;
+    for (const n of [2, 4]) {
+        assert.equal(Words.sentence(run, n), said(lines[n]));
+        assert.deepEqual([Rules.of(run, n), Rules.look(run, n), Journal.frameOf(run, n)], [[], "", 0]);
+        const { now } = Scene.of(run, At.at(At.run(run), n + 1));
+        assert.deepEqual([now.place, now.note], [null, ""]);
+    }
+    assert.equal(At.at(At.run(run), 5).flying.get(1), 3);
+    assert.equal(openTexts(HOSTS, "line 1\npaused").count, 2);
 };
 
 const an_address_is_freed_granted_and_registered_again = () => {
@@ -211,7 +229,7 @@ const files_are_known_by_name_or_first_word = () => {
 module.exports = {
     a_toml_document_is_read, what_is_no_toml_is_refused_with_its_line, a_wiring_is_a_fat_tree, other_ids_and_ports_are_read,
     a_topology_that_does_not_fit_is_refused, each_stored_journal_is_read_and_spelled_again,
-    a_line_that_is_no_entry_is_refused_with_its_number, an_address_is_freed_granted_and_registered_again, a_last_line_needs_no_newline, a_pseudo_address_has_four_parts,
+    a_line_that_is_no_entry_is_refused_with_its_number, a_line_of_another_kind_is_shown_as_it_is, an_address_is_freed_granted_and_registered_again, a_last_line_needs_no_newline, a_pseudo_address_has_four_parts,
     headers_of_frames_are_read, membership_reports_of_several_groups_are_read, ports_of_whole_packets_are_read,
     each_line_of_the_stored_scripts_has_a_sentence, files_are_known_by_name_or_first_word,
 };

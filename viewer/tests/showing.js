@@ -4,7 +4,7 @@
 const assert = require("assert");
 const fs = require("fs");
 const path = require("path");
-const { top, folders, open, openFiles } = require("./load.js");
+const { top, folders, open, openFiles, openTexts } = require("./load.js");
 
 // run, line of the journal, words of its rules, and how what to look at begins
 const RULES = [
@@ -65,21 +65,42 @@ const what_aging_restarts_and_bridges_bring_is_said = () => {
     assert.equal(At.at(states, run.count).newest[run.fabric.names.get("b")], run.addresses.indexOf(again[1]));
 };
 
+// A learning bridge copies frames for one host too, which PortLand never does.
+const a_flood_of_a_bridge_is_told = () => {
+    const topology = 'k = 4\n[[host]]\nname = "a"\nmac = "02:00:00:00:00:0a"\nip = "10.0.0.1"\nedge = "e0.0"\nport = 0\n';
+    const sent = `sent 1 a 02000000000b02000000000a88b6${"00".repeat(46)}`;
+    const flood = openTexts(topology, `linkdown e0.0 a0.1\nline 1\n${sent}\ncrossed 1 e0.0\ncopied 1 2\ndropped 2 HostGone\n`);
+    assert.equal(Words.sentence(flood, 4), "At e0.0 frame 1 goes one more way: frame 2 is its copy. "
+        + "The bridge floods it: it has not learnt where 02:00:00:00:00:0b stands.");
+    assert.equal(Words.sentence(flood, 5), "Frame 2 ends after switch e0.0, which it crossed last: HostGone, nobody stands at that port, "
+        + "or it is for another host than the one there.");
+    for (const name of ["bridge-learnt", "bridge-link-fails"]) {
+        const { run } = openFiles(`viewer/tests/runs/${name}`, "portland.txt");
+        for (let n = 0; n < run.count; n++) assert(!Words.sentence(run, n).includes("floods"), `${name}, line ${n + 1}`);
+    }
+};
+
 const the_second_run_is_in_step_by_line = () => {
-    const { run: second } = open("viewer/tests/runs/bridge-learnt");
-    const { run: first } = openFiles("viewer/tests/runs/bridge-learnt", "portland.txt");
+    for (const name of ["bridge-learnt", "bridge-link-fails"]) inStep(`viewer/tests/runs/${name}`);
+};
+
+const inStep = folder => {
+    const { run: second } = open(folder);
+    const { run: first } = openFiles(folder, "portland.txt");
     const states = At.run(first);
     const at = entry => Step.of(first, second, entry, At.at(states, entry).line);
-    for (let n = 1; n <= 6; n++) {
+    const last = first.a[first.scriptLines[first.scriptLines.length - 1]];
+    assert(last >= 6);
+    for (let n = 1; n <= last; n++) {
         const [begin, other] = [Journal.ofLine(first, n), Journal.ofLine(second, n)];
         assert.equal(at(begin + 1), other + 1);
-        const end = n < 6 ? Journal.ofLine(first, n + 1) : first.count;
-        assert.equal(at(end), n < 6 ? Journal.ofLine(second, n + 1) : second.count);
+        const end = n < last ? Journal.ofLine(first, n + 1) : first.count;
+        assert.equal(at(end), n < last ? Journal.ofLine(second, n + 1) : second.count);
     }
-    let last = 0;
+    let before = 0;
     for (let n = 0; n <= first.count; n++) {
-        assert(at(n) >= last, `${n}`);
-        last = at(n);
+        assert(at(n) >= before, `${n}`);
+        before = at(n);
     }
 };
 
@@ -136,6 +157,6 @@ const a_link_names_a_moment = () => {
 
 module.exports = {
     the_rule_of_an_entry_is_that_of_the_table, a_copy_that_comes_back_says_why_it_ends, what_aging_restarts_and_bridges_bring_is_said,
-    the_second_run_is_in_step_by_line, what_is_known_is_what_has_happened, loads_are_the_crossings,
+    a_flood_of_a_bridge_is_told, the_second_run_is_in_step_by_line, what_is_known_is_what_has_happened, loads_are_the_crossings,
     the_chart_counts_what_the_summary_counts, a_link_names_a_moment,
 };

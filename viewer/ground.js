@@ -5,7 +5,7 @@ globalThis.Ground = (() => {
     const LEVELS = 8; // of the look of a line: its failed links times this, and the level of its load
     const PIECE = 64; // points of a line for which one place is drawn anew
     const BESIDE = 6; // points around it
-    const LONG = 1000; // more lines than this take long
+    const LONG = 1000; // more lines with their loads than this take long
     const FAINT = 0.2; // a link that is this faint or fainter is drawn below its failure too
 
     // the level of a load from 0 to 5, by its logarithm in that of the largest

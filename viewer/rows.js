@@ -137,7 +137,9 @@ globalThis.Rows = (() => {
             Object.assign(this, { count, marked, isNow, what });
             const long = `${Math.min(this.longest, LONGEST)}px`;
             if (long !== this.long) this.long = this.inner.style.height = long;
-            if (marked >= 0) this.show(marked);
+            // it has grown since, and was not brought to the middle yet
+            const isOwed = this.isCentred && this.box.clientHeight !== this.height && this.box.scrollTop === this.shown;
+            if (marked >= 0) this.show(marked, isOwed);
             this.draw();
         }
     }

@@ -248,6 +248,18 @@ const rows_stay_from_step_to_step = async browser => {
     assert.deepEqual(shown, story.slice(0, shown.length).map(n => `${n + 1}  ${Journal.text(run.run, n, 90)}`));
 };
 
+// The list is lower below a long sentence; steps that follow each other at once leave the row of now in its middle all the same.
+const the_row_of_now_stays_in_the_middle = async browser => {
+    await opened(browser, "examples/storm");
+    const at = steps => browser.value(`(async () => { for (const n of ${JSON.stringify(steps)}) Page.step(n); await new Promise(done => requestAnimationFrame(() => setTimeout(done, 50)));
+        const middle = e => { const r = e.getBoundingClientRect(); return r.y + r.height / 2; };
+        return middle(document.querySelector("#journal .row.now")) - middle(document.getElementById("journal")); })()`);
+    for (const steps of [[700], [40, 700, 699], [300, 301]]) {
+        const apart = await at(steps);
+        assert(Math.abs(apart) <= 62, `${steps}: ${apart}`);
+    }
+};
+
 const a_line_of_another_kind_stops_nothing = async browser => {
     const folder = path.join(top, "examples/four-hosts");
     const lines = fs.readFileSync(path.join(folder, "expected/journal.txt"), "utf8").split("\n");
@@ -389,6 +401,6 @@ module.exports = {
     the_page_fits_its_screen, fingers_name_and_zoom, nothing_covers_switches_or_names, what_is_found_is_not_taken_for_now,
     a_large_fabric_is_read, keys_reach_everything, the_rule_stands_below_the_sentence, loads_and_the_chart,
     a_place_is_drawn_anew_as_all_is, many_lines_are_finished_behind_the_last_step, rows_stay_from_step_to_step,
-    a_line_of_another_kind_stops_nothing, what_the_fabric_knows, a_second_run_goes_beside,
+    the_row_of_now_stays_in_the_middle, a_line_of_another_kind_stops_nothing, what_the_fabric_knows, a_second_run_goes_beside,
     the_welcome_page_shows_an_example, a_moment_is_kept, packed_pages_open_at_a_moment, aging_restarts_and_bridges_are_told,
 };

@@ -13,6 +13,7 @@ globalThis.Journal = (() => {
 
     const [BLANK, NEWLINE, DASH] = [32, 10, 45];
     const LARGEST = 2 ** 31 - 1;
+    const DECODER = new TextDecoder();
 
     // the value of a hexadecimal digit, else 255
     const DIGITS = new Uint8Array(256).fill(255);
@@ -357,7 +358,7 @@ globalThis.Journal = (() => {
     const text = (run, n, most = Infinity) => {
         const from = run.start[n];
         const to = run.start[n + 1] - 1;
-        const shown = new TextDecoder().decode(run.bytes.subarray(from, Math.min(to, from + most)));
+        const shown = DECODER.decode(run.bytes.subarray(from, Math.min(to, from + most)));
         return to - from > most ? `${shown}\u2026` : shown;
     };
 

@@ -145,8 +145,15 @@ globalThis.Page = (() => {
         if (!element.firstChild) element.append(document.createElement("code"), document.createElement("span"));
         Texts.put(element.firstChild, text);
         Texts.put(element.lastChild, meaning);
-        element.title = meaning;
+        if (element.title !== "") element.title = meaning;
     };
+
+    // a row has its meaning as a title, which may be longer than its place, once a pointer has come to it
+    const entitle = event => {
+        const row = event.target.closest(".row");
+        if (row) row.title = row.lastChild.textContent;
+    };
+    for (const list of ["journal", "script"]) $(list).addEventListener("pointerover", entitle);
 
     const fillEntry = (element, n) => {
         const entry = entryOfRow(n);

@@ -194,14 +194,16 @@ globalThis.Picture = (() => {
             const ratio = window.devicePixelRatio || 1;
             if (canvas.width !== Math.round(width * ratio)) canvas.width = Math.round(width * ratio);
             if (canvas.height !== Math.round(height * ratio)) canvas.height = Math.round(height * ratio);
-            this.prepare(width, height, ratio);
-            if (!this.scene || width === 0 || height === 0) return;
+            if (!this.scene || width === 0 || height === 0) {
+                this.prepare(width, height, ratio);
+                return;
+            }
             const fabric = this.layers.bring(this, { width, height, ratio });
             clearTimeout(this.finishing);
             if (this.layers.isCoarse) this.finishing = setTimeout(() => this.finish(), REST);
             screen.setTransform(1, 0, 0, 1, 0, 0);
-            for (const layer of fabric) screen.drawImage(layer, 0, 0);
-            screen.setTransform(ratio, 0, 0, ratio, 0, 0);
+            for (const layer of fabric) screen.drawImage(layer, 0, 0); // the first covers all
+            this.ready(ratio);
             Traces.draw(this);
         }
 

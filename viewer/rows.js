@@ -11,10 +11,14 @@ globalThis.Rows = (() => {
             Object.assign(this, { isCentred: false, shown: 0 }); // whether `show` scrolled, and where to
             Object.assign(this, { rows: [], first: 0, spare: [] }); // the rows from number `first` on, and those that are not wanted now
             this.what = null; // what they are filled of
-            Object.assign(this, { top: -1, height: 0, long: "" }); // where it was drawn, how high it was, and how long all rows are
+            Object.assign(this, { top: -1, height: 0 }); // where it was drawn, and how high it was
+            Object.assign(this, { place: "", long: "" }); // where its rows are, and how long all of them are
             this.inner = document.createElement("div");
             this.inner.className = "rows";
-            if (role === "row") this.inner.setAttribute("role", "presentation");
+            this.block = document.createElement("div"); // which has them below each other
+            this.block.className = "block";
+            for (const element of [this.inner, this.block]) if (role === "row") element.setAttribute("role", "presentation");
+            this.inner.append(this.block);
             box.append(this.inner);
             box.addEventListener("scroll", () => {
                 if (box.scrollTop !== this.top) this.draw();
@@ -44,15 +48,15 @@ globalThis.Rows = (() => {
 
         // so many rows of numbers from `first` on, in their order: those that are in sight still stay, and the others go to the other end
         arrange(first, count) {
-            const { rows, spare, inner } = this;
+            const { rows, spare, block } = this;
             const isNear = Math.abs(first - this.first) < rows.length;
             for (; isNear && this.first < first; this.first++) {
                 rows.push(rows.shift());
-                inner.append(rows[rows.length - 1].element);
+                block.append(rows[rows.length - 1].element);
             }
             for (; isNear && this.first > first; this.first--) {
                 rows.unshift(rows.pop());
-                inner.prepend(rows[0].element);
+                block.prepend(rows[0].element);
             }
             this.first = first;
             while (rows.length > count) {
@@ -61,14 +65,14 @@ globalThis.Rows = (() => {
             }
             while (rows.length < count) {
                 rows.push(spare.pop() || this.make());
-                inner.append(rows[rows.length - 1].element);
+                block.append(rows[rows.length - 1].element);
             }
         }
 
         make() {
             const element = document.createElement("div");
             element.setAttribute("role", this.role);
-            return { element, number: -1, what: null, kind: "", look: "", top: "" };
+            return { element, number: -1, what: null, kind: "", look: "" };
         }
 
         // makes a row that of this number
@@ -105,9 +109,9 @@ globalThis.Rows = (() => {
             rows.forEach((row, n) => {
                 if (row.number !== first + n || row.what !== this.what) this.become(row, first + n);
                 this.mark(row);
-                const top = `${scrollTop + row.number * HEIGHT - from}px`;
-                if (top !== row.top) row.top = row.element.style.top = top;
             });
+            const place = `${scrollTop + first * HEIGHT - from}px`;
+            if (place !== this.place) this.place = this.block.style.top = place;
             const marked = rows[this.marked - first];
             if (marked) box.setAttribute("aria-activedescendant", marked.element.id);
             else box.removeAttribute("aria-activedescendant");

@@ -216,8 +216,8 @@ const many_lines_are_finished_behind_the_last_step = async browser => {
     await browser.press("l");
     await browser.value("Page.picture.openPods(Page.picture.layout.pods.keys())");
     const points = "(() => { const { canvas, context } = Page.picture.layers.ground; return context.getImageData(0, 0, canvas.width, canvas.height).data; })()";
-    for (const entry of [24000, 30001]) {
-        const wasCoarse = await browser.value(`(() => { Page.step(${entry}); Page.toCompare = ${points}; return Page.picture.layers.isCoarse; })()`);
+    for (const [entry, zoomed] of [[24000, ""], [30001, ""], [24000, "Page.picture.zoom(3, 100, 200)"], [30001, "Page.picture.fit()"]]) {
+        const wasCoarse = await browser.value(`(() => { ${zoomed}; Page.step(${entry}); Page.toCompare = ${points}; return Page.picture.layers.isCoarse; })()`);
         assert(wasCoarse, `${entry}`);
         await browser.until("!Page.picture.layers.isCoarse");
         const apart = await browser.value(`(() => { const now = ${points}; let sum = 0; for (let at = 0; at < now.length; at++) sum += Math.abs(now[at] - Page.toCompare[at]);

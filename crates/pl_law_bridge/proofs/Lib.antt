@@ -1,6 +1,7 @@
 pub mod Queued
 pub mod PortsApart
 pub mod Changing
+pub mod GoingOut
 pub mod TravelChanges
 pub mod Spreading
 pub mod Acting

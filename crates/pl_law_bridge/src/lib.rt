@@ -14,8 +14,8 @@ pub use learnt_laws::{
 };
 pub use run_laws::{
     an_address_is_at_one_port_in_every_run, each_run_keeps_to_the_tree,
-    each_step_keeps_to_the_tree, the_first_world_is_reached_by_failures,
-    the_first_world_keeps_to_the_tree,
+    each_step_keeps_to_the_tree, one_copy_goes_out_of_each_port,
+    the_first_world_is_reached_by_failures, the_first_world_keeps_to_the_tree,
 };
 
 mod journal_laws;

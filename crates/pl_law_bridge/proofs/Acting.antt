@@ -198,7 +198,7 @@ module _ (unsaid : ℕ → Target → ℕ) (s k : ℕ) (frame : List ℕ) (w : W
       let now : List Entry = Copied id n ∷ past in
       let new = is_new s k w (Passed id) late st in
       let f : ℕ → Target → ℕ = λ r there. of_root past id (claim w.plan s port there + used w.plan s there acts) r in
-      let moves = travel_copied w.plan past w.from_hosts w.out w.begun id (Some s) frame a.held a.kept.travels in
+      let moves = travel_copied w.plan past w.from_hosts w.out w.begun id s frame a.held a.kept.travels in
       let c1 : IsKept unsaid w.plan at now w.from_hosts w.out n f = record {
         once = copy_one unsaid w.plan at past w.from_hosts w.out w.begun id f f new.at_hosts new.at_ports (λ r there. omega arith) a.kept.once;
         travels = moves.0;

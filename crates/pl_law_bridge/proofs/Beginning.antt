@@ -57,6 +57,7 @@ once_at_first plan limits = record {
 travels_at_first : (plan : Plan) (limits : Limits) → TravelsOnTree (booted plan limits)
 travels_at_first plan limits = record {
   new = λ id later. refl;
+  uncopied = λ id later. refl;
   at_hosts = λ h. none_waits (WaitsAtHost [] 0) (length plan.hosts) h;
   at_ports = λ n. none_waits (WaitsAtPort plan [] 0 n) (switch_count plan.k * plan.k) n;
   adjacent = λ id. tt;

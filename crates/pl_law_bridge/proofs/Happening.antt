@@ -132,24 +132,24 @@ pub comes_acts : (v : SwitchView) (port : ℕ) (frame : List ℕ) → is_control
     (bridge_step v (Comes port frame)).acts ≡ goes_on v.k port frame (port_for (with_source v port frame) (destination_of frame))
 comes_acts v port frame kind = ap (λ (x : SwitchStep). x.acts) (cond-false (is_control frame) (rests v) (bridges v port frame) kind)
 
-control_acts : (v : SwitchView) (port : ℕ) (frame : List ℕ) → is_control frame ≡ true → (bridge_step v (Comes port frame)).acts ≡ []
+pub control_acts : (v : SwitchView) (port : ℕ) (frame : List ℕ) → is_control frame ≡ true → (bridge_step v (Comes port frame)).acts ≡ []
 control_acts v port frame kind = ap (λ (x : SwitchStep). x.acts) (cond-true (is_control frame) (rests v) (bridges v port frame) kind)
 
 passes_onward : (frame ports : List ℕ) → AllByRecursion (IsOnward frame) (map (λ p. act.Pass p frame) ports)
 passes_onward frame [] = tt
 passes_onward frame (p ∷ ports) = (refl, passes_onward frame ports)
 
-all_onward : (k port : ℕ) (frame : List ℕ) (o : Option ℕ) → AllByRecursion (IsOnward frame) (goes_on k port frame o)
+pub all_onward : (k port : ℕ) (frame : List ℕ) (o : Option ℕ) → AllByRecursion (IsOnward frame) (goes_on k port frame o)
 all_onward k port frame None = passes_onward frame (other_ports k port)
 all_onward k port frame (Some out) =
     cond_both (out == port) (act.Drop NoNextHop ∷ []) (act.Pass out frame ∷ []) (AllByRecursion (IsOnward frame)) (λ back. (tt, tt)) (λ on. (refl, tt))
 
 -- a frame that is owed waits nowhere
-record IsNowhere (id : ℕ) (from_hosts out : List (List Item)) : Type 0 where
-  at_hosts : times_in_all id from_hosts ≡ 0
-  at_ports : times_in_all id out ≡ 0
+pub record IsNowhere (id : ℕ) (from_hosts out : List (List Item)) : Type 0 where
+  pub at_hosts : times_in_all id from_hosts ≡ 0
+  pub at_ports : times_in_all id out ≡ 0
 
-owed_is_nowhere : (w : WorldView) (id : ℕ) (frame : List ℕ) → Owes w (λ i. times_in i (Data id frame ∷ [])) → IsNowhere id w.from_hosts w.out
+pub owed_is_nowhere : (w : WorldView) (id : ℕ) (frame : List ℕ) → Owes w (λ i. times_in i (Data id frame ∷ [])) → IsNowhere id w.from_hosts w.out
 owed_is_nowhere w id frame owes =
     let all = owes.flights id in
     let most = born_once id w.begun in

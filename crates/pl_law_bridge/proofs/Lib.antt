@@ -14,3 +14,10 @@ pub mod Consequences
 pub mod Failures
 pub mod Tables
 pub mod GoingAlone
+pub mod Waiting
+pub mod Sparing
+pub mod Untouched
+pub mod StandingApart
+pub mod Hops
+pub mod ExactWays
+pub mod ExactRuns

@@ -4,3 +4,4 @@ pub mod GoingOut
 pub mod Travelling
 pub mod TreeWorld
 pub mod Learnt
+pub mod ExactWay

@@ -10,7 +10,8 @@ pub use journal_laws::{
     no_switch_is_crossed_twice, one_copy_arrives_at_each_port,
 };
 pub use learnt_laws::{
-    a_frame_from_a_link_goes_where_it_is_learnt, a_frame_of_a_host_goes_where_it_is_learnt,
+    a_frame_from_a_link_goes_where_it_is_learnt, a_frame_goes_the_way_that_is_learnt,
+    a_frame_of_a_host_goes_where_it_is_learnt,
 };
 pub use run_laws::{
     an_address_is_at_one_port_in_every_run, each_run_keeps_to_the_tree,

@@ -1,5 +1,5 @@
 -- A way of switches, and the port by which a frame goes on from each of them.
-use Rattle.std.proofs.Common.{◌≡◌, ℕ, ◌+◌, ◌<◌, ◌&&◌, not, false, List, [], ◌∷◌, ◌++◌, map, reverse, length, Some, slice_get, refl, sym, ap, ◌∙◌, subst}
+use Rattle.std.proofs.Common.{◌≡◌, ℕ, ◌<◌, ◌&&◌, not, false, List, [], ◌∷◌, ◌++◌, map, reverse, length, Some, slice_get, refl, sym, ap, ◌∙◌, subst}
 use Rattle.std.proofs.lemmas.List.{append_assoc, reverse-append}
 use Rattle.std.proofs.lemmas.Option.{slice_get_within}
 use Rattle.pl_frame.specs.declared.address.Mac.{Mac}

@@ -5,3 +5,4 @@ pub mod Travelling
 pub mod TreeWorld
 pub mod Learnt
 pub mod ExactWay
+pub mod WayExample

@@ -8,7 +8,7 @@ use Rattle.pl_wiring.specs.Labels.{label_of}
 use Rattle.pl_wiring.specs.Peers.{peer_of}
 use Rattle.pl_wiring.specs.Plan.{Plan}
 use Rattle.pl_journal.specs.declared.entry.Entry.{Entry}
-use Rattle.pl_journal.specs.declared.entry.Entry.TheVariants.{Arrived, Crossed}
+use Rattle.pl_journal.specs.declared.entry.Entry.TheVariants.{Arrived, Crossed, Moved}
 use Rattle.pl_journal.specs.Flights.{root}
 use Rattle.pl_journal.specs.Places.{EdgePort, at_port, edge_port_of, is_at, same_edge_port}
 use Rattle.pl_world.specs.declared.attachment.AttachmentPoint.{AttachmentPoint}
@@ -68,6 +68,13 @@ times_reached plan (Crossed id s ∷ past) r target =
 times_reached plan (Arrived id h frame ∷ past) r target =
     if (root past id == r) && is_arrival_at (edge_port_of plan past h.0) target then suc (times_reached plan past r target) else times_reached plan past r target
 times_reached plan (entry ∷ past) r target = times_reached plan past r target
+
+-- how many frames of this root a host got since it moved last
+abbrev pub got_since_move : List Entry → ℕ → ℕ → ℕ
+got_since_move [] r h = 0
+got_since_move (Arrived id g frame ∷ past) r h = if (root past id == r) && (g.0 == h) then suc (got_since_move past r h) else got_since_move past r h
+got_since_move (Moved g e p ∷ past) r h = if g.0 == h then 0 else got_since_move past r h
+got_since_move (entry ∷ past) r h = got_since_move past r h
 
 -- where hosts stand
 abbrev pub standing : List AttachmentPoint → ℕ → Option EdgePort

@@ -6,8 +6,8 @@
 #![tactic(auto)]
 
 pub use journal_laws::{
-    a_line_of_crossings_is_a_path_of_the_tree, frames_arrive_as_they_were_sent,
-    no_switch_is_crossed_twice, one_copy_arrives_at_each_port,
+    a_host_that_stays_gets_one_copy, a_line_of_crossings_is_a_path_of_the_tree,
+    frames_arrive_as_they_were_sent, no_switch_is_crossed_twice, one_copy_arrives_at_each_port,
 };
 pub use learnt_laws::{
     a_frame_from_a_link_goes_where_it_is_learnt, a_frame_goes_the_way_that_is_learnt,

@@ -1,8 +1,8 @@
 //! Laws of learning bridges on a tree, over the definitions of the world and of the bridge's rule alone.
 //!
 //! From the first moment on no switch is crossed twice by a frame and its copies, each line of crossings is
-//! a path of the tree, at most one copy arrives at each port for hosts, and whatever arrives has the bytes
-//! that were sent.
+//! a path of the tree, at most one copy goes out of each port for hosts, and whatever arrives has the bytes
+//! that were sent. A frame whose way over the tree is learnt, live and left alone goes just that way.
 #![tactic(auto)]
 
 pub use journal_laws::{

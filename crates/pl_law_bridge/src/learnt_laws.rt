@@ -47,8 +47,9 @@ pub fn a_frame_of_a_host_goes_where_it_is_learnt<M: ManagerLogic, H: HostLogic>(
 {}
 
 /// A frame waits at its host, for another host. As long as each switch of the way over the tree has its
-/// destination at the port towards it, the links of the way are live, no host moves and the frame is not lost: once it
-/// has ended it has crossed just that way, was not copied, and has arrived. So it stays, whatever befalls then.
+/// destination at the port towards it, the links of the way are live, no host moves and the frame is not
+/// lost: once it has ended it has crossed just that way, was not copied, and has arrived. So it stays,
+/// whatever befalls then.
 pub fn a_frame_goes_the_way_that_is_learnt<M: ManagerLogic, H: HostLogic>()
     ensures { (plan : Plan) (limits : Limits) (before moments more : List Moment) (old new last : WorldView) (id h g : ℕ) (frame : List ℕ) (way : List SwitchNo) →
         CanBegin plan → AllByRecursion RepairsNothing before → WorldRun Bridges M.rule H.rule (tree_world plan limits) before old →

@@ -1,10 +1,15 @@
 -- What an event lets go out of ports for hosts counts for these ports as targets, and for nothing else.
-use Rattle.std.proofs.Common.{◌≡◌, ℕ, ◌&&◌, if◌then◌else◌, List, Some, reverse, refl, ap, ◌∙◌}
+use Rattle.std.proofs.Common.{◌≡◌, ℕ, ◌/◌, ◌%◌, ◌≤◌, ◌&&◌, nat_lt, Bool, true, false, if◌then◌else◌, List, Some, reverse, refl, ap, ◌∙◌, arith}
+use Rattle.std.proofs.lemmas.Bool.{and_parts, ltb-true}
+use Rattle.std.proofs.lemmas.Nat.{div-mul-add, mod-mul-add}
 use Rattle.std.proofs.lemmas.Option.{none-some}
 use Rattle.pl_wiring.specs.declared.label.SwitchNo.{SwitchNo}
 use Rattle.pl_wiring.specs.declared.link.Peer.{Peer}
 use Rattle.pl_wiring.specs.declared.link.Peer.TheVariants.{HostPort, Switch}
+use Rattle.pl_wiring.specs.Index.{port_index}
 use Rattle.pl_wiring.specs.Peers.{peer_of}
+use Rattle.pl_journal.specs.declared.entry.Entry.{Entry}
+use Rattle.pl_journal.proofs.Exports.{host_port_is, same_edge_port_itself}
 use Rattle.pl_journal.specs.Places.{EdgePort, at_port, is_host_port, same_edge_port}
 use Rattle.pl_node.specs.HostInputs.{HostInput}
 use Rattle.pl_world.specs.declared.event.Event.{Event}
@@ -14,10 +19,13 @@ use Rattle.pl_world.specs.declared.item.Item.{Item}
 use Rattle.pl_world.specs.Changes.{out_of}
 use Rattle.pl_world.specs.Worlds.{WorldView}
 use Rattle.pl_world.proofs.Exports.{asked_by}
-use Rattle.pl_law_bridge.specs.GoingOut.{goes_out_by, heads}
-use Rattle.pl_law_bridge.specs.Reaching.{Target}
+use Rattle.pl_queues.specs.Queues.{items_at}
+use Rattle.pl_law_bridge.specs.Counting.{count_in, has_root}
+use Rattle.pl_law_bridge.specs.GoingOut.{goes_out_by, heads, waiting_at}
+use Rattle.pl_law_bridge.specs.Reaching.{Target, may_reach, may_reach_by, reaches_from_place, still_to_reach}
 use Rattle.pl_law_bridge.specs.Reaching.Target.{Arrival, Crossing, Departure}
 use Rattle.pl_law_bridge.proofs.Changing.{departs_at}
+use Rattle.pl_law_bridge.proofs.Queued.{count_all-one, count_in-and}
 
 abbrev pub gone_by : WorldView → Event → ℕ → Target → ℕ
 gone_by w e r (Departure there) = goes_out_by w e r there
@@ -78,3 +86,28 @@ pub gone_stepped : (w : WorldView) (steps : ℕ) (e : Event) (r : ℕ) (there : 
 gone_stepped w steps e r (Crossing x) = refl
 gone_stepped w steps e r (Arrival there) = refl
 gone_stepped w steps e r (Departure there) = steps_apart w steps e r there
+
+-- what waits behind a port for hosts may go out there
+pub waiting_may_go : (w : WorldView) (r : ℕ) (there : EdgePort) → waiting_at w r there ≤ still_to_reach w.plan (reverse w.journal) w.from_hosts w.out r (Departure there)
+waiting_may_go w r there = by (nat_lt there.port w.plan.k && is_host_port (peer_of w.plan there.edge there.port)) refl
+  where
+    n : ℕ
+    n = port_index w.plan.k there.edge there.port
+
+    past : List Entry
+    past = reverse w.journal
+
+    by : (b : Bool) → (nat_lt there.port w.plan.k && is_host_port (peer_of w.plan there.edge there.port)) ≡ b →
+        (if b then count_in (has_root past r) (items_at w.out n) else 0) ≤ still_to_reach w.plan past w.from_hosts w.out r (Departure there)
+    by false is = omega arith
+    by true is =
+        let both = and_parts (nat_lt there.port w.plan.k) (is_host_port (peer_of w.plan there.edge there.port)) is in
+        let within = ltb-true there.port w.plan.k both.0 in
+        let reaches : may_reach_by w.plan (n / w.plan.k) (n % w.plan.k) (Departure there) ≡ true =
+        ap (λ a. may_reach_by w.plan a (n % w.plan.k) (Departure there)) (div-mul-add there.edge w.plan.k there.port within)
+        ∙ ap (λ p. may_reach_by w.plan there.edge p (Departure there)) (mod-mul-add there.edge w.plan.k there.port within)
+        ∙ ap (λ p. may_reach w.plan.k there.edge there.port p (Departure there)) (host_port_is (peer_of w.plan there.edge there.port) both.1)
+        ∙ same_edge_port_itself there in
+        let more = count_in-and (has_root past r) (may_reach_by w.plan (n / w.plan.k) (n % w.plan.k) (Departure there)) reaches (items_at w.out n) in
+        let one = count_all-one (reaches_from_place w.plan past r (Departure there)) w.out n in
+        omega (arith, more, one)

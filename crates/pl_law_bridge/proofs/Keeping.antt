@@ -1,5 +1,5 @@
 -- Each step and each mark keeps to the tree, where no link is repaired; and so does each run.
-use Rattle.std.proofs.Common.{◌≡◌, ℕ, ◌+◌, ◌≤◌, List, [], ◌∷◌, None, ◌∙◌, subst, sym, refl, arith}
+use Rattle.std.proofs.Common.{◌≡◌, ℕ, ◌+◌, ◌≤◌, List, [], ◌∷◌, None, ◌∙◌, subst, sym, refl, arith, reverse}
 use Rattle.std.specs.List.{AllByRecursion}
 use Rattle.pl_journal.specs.declared.entry.Entry.{Entry}
 use Rattle.pl_journal.specs.declared.entry.Entry.TheVariants.{Arrived, Copied, Crossed, Dropped, Granted, Line, LinkDown, LinkUp, Made, Moved, Placed, Redirected, Registered, Sent, Settled, Skipped, Taken, Unsettled}
@@ -19,12 +19,12 @@ use Rattle.pl_world.proofs.Exports.Left.{LinkFails, Moves, Repairs, Stays}
 use Rattle.pl_bridge_rule.specs.BridgeRule.{Bridges}
 use Rattle.pl_bridge_rule.proofs.Exports.{accounts}
 use Rattle.pl_journal.specs.Places.{EdgePort}
-use Rattle.pl_law_bridge.specs.GoingOut.{goes_out_at, times_gone_out}
-use Rattle.pl_law_bridge.specs.Reaching.{Target, nothing_unsaid}
+use Rattle.pl_law_bridge.specs.GoingOut.{goes_out_at, times_gone_out, waiting_at}
+use Rattle.pl_law_bridge.specs.Reaching.{Target, nothing_unsaid, still_to_reach}
 use Rattle.pl_law_bridge.specs.Reaching.Target.{Departure}
 use Rattle.pl_law_bridge.specs.TreeWorld.{IsNoRepair, KeepsToTree, LiveIsTree, RepairsNothing}
 use Rattle.pl_law_bridge.proofs.Changing.{IsIdle}
-use Rattle.pl_law_bridge.proofs.GoingOut.{gone_by, gone_stepped}
+use Rattle.pl_law_bridge.proofs.GoingOut.{gone_by, gone_stepped, waiting_may_go}
 use Rattle.pl_law_bridge.proofs.Happening.{fewer, happens_kept, noted_kept}
 use Rattle.pl_law_bridge.proofs.LiveLinks.{fails_keep}
 use Rattle.pl_law_bridge.proofs.Turning.{IsKeptIn}
@@ -110,8 +110,13 @@ module _ (manager : ManagerRule) (host : HostRule) (sends : HostsSendData host) 
 
   run_counts : (unsaid : ℕ → Target → ℕ) (old : WorldView) (moments : List Moment) (new : WorldView) → AllByRecursion RepairsNothing moments →
       (run : WorldRun Bridges manager host old moments new) → KeepsToTree old → IsKeptIn unsaid old → (r : ℕ) (there : EdgePort) →
-      times_gone_out Bridges manager host old moments new run r there + unsaid r (Departure there) ≤ 1
-  run_counts unsaid old [] new none run is kept r there = (let all = kept.once.once r (Departure there) in let most = born_once r old.begun in omega arith)
+      times_gone_out Bridges manager host old moments new run r there + waiting_at new r there + unsaid r (Departure there) ≤ 1
+  run_counts unsaid old [] new none run is kept r there =
+      let all = kept.once.once r (Departure there) in
+      let most = born_once r old.begun in
+      let waits : waiting_at new r there ≤ still_to_reach old.plan (reverse old.journal) old.from_hosts old.out r (Departure there) =
+      subst (λ (w : WorldView). waiting_at w r there ≤ still_to_reach old.plan (reverse old.journal) old.from_hosts old.out r (Departure there)) (sym run) (waiting_may_go old r there) in
+      omega (arith, all, most, waits)
   run_counts unsaid old (moment ∷ moments) new none run is kept r there =
       let rest = run_counts (λ r there. at_moment old moment r there + unsaid r there) run.0 moments new none.1 run.2
       (moment_keeps old moment run.0 none.0 run.1 is)
@@ -121,6 +126,6 @@ module _ (manager : ManagerRule) (host : HostRule) (sends : HostsSendData host) 
 
   pub goes_out_once : (old : WorldView) (moments : List Moment) (new : WorldView) → AllByRecursion RepairsNothing moments →
       (run : WorldRun Bridges manager host old moments new) → KeepsToTree old → (r : ℕ) (there : EdgePort) →
-      times_gone_out Bridges manager host old moments new run r there ≤ 1
+      times_gone_out Bridges manager host old moments new run r there + waiting_at new r there ≤ 1
   goes_out_once old moments new none run is r there =
       let all = run_counts nothing_unsaid old moments new none run is (record { once = is.once; travels = is.travels }) r there in omega arith

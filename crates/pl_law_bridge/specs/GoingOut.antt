@@ -1,5 +1,5 @@
--- How many frames of a root go out of a port for hosts in a run.
-use Rattle.std.specs.Prelude.{ℕ, ◌+◌, ◌==◌, ◌&&◌, if◌then◌else◌, List, [], ◌∷◌, reverse}
+-- How many frames of a root go out of a port for hosts in a run, and how many wait there.
+use Rattle.std.specs.Prelude.{ℕ, ◌+◌, ◌==◌, ◌&&◌, nat_lt, if◌then◌else◌, List, [], ◌∷◌, reverse}
 use Rattle.pl_wiring.specs.Peers.{peer_of}
 use Rattle.pl_journal.specs.declared.entry.Entry.{Entry}
 use Rattle.pl_journal.specs.Flights.{root}
@@ -16,6 +16,7 @@ use Rattle.pl_world.specs.Changes.{out_of}
 use Rattle.pl_world.specs.Runs.{Moment, WorldRun}
 use Rattle.pl_world.specs.Runs.Moment.{Mark, Step}
 use Rattle.pl_world.specs.Worlds.{WorldView}
+use Rattle.pl_law_bridge.specs.Counting.{count_in, has_root}
 
 -- 1 where the head of a queue is a frame of this root
 abbrev pub heads : List Entry → ℕ → List Item → ℕ
@@ -39,3 +40,8 @@ abbrev pub times_gone_out : (switch : SwitchRule) (manager : ManagerRule) (host 
 times_gone_out switch manager host old [] new run r there = 0
 times_gone_out switch manager host old (moment ∷ moments) new run r there =
     goes_out_at old moment r there + times_gone_out switch manager host run.0 moments new run.2 r there
+
+-- how many frames of a root wait behind a port, where it is one for hosts
+abbrev pub waiting_at : WorldView → ℕ → EdgePort → ℕ
+waiting_at w r there =
+    if nat_lt there.port w.plan.k && is_host_port (peer_of w.plan there.edge there.port) then count_in (has_root (reverse w.journal) r) (out_of w there.edge there.port) else 0

@@ -36,8 +36,8 @@ use Rattle.pl_law_bridge.proofs.Spreading.{used}
 use Rattle.pl_law_bridge.proofs.TravelChanges.{port_holds, put_port, travel_copied, travel_idle}
 
 -- both of what is kept
-pub record IsKept (plan : Plan) (at : ℕ → Option EdgePort) (past : List Entry) (from_hosts out : List (List Item)) (many : ℕ) (owed : ℕ → Target → ℕ) : Type 0 where
-  pub once : ReachOnce plan at past from_hosts out many owed
+pub record IsKept (unsaid : ℕ → Target → ℕ) (plan : Plan) (at : ℕ → Option EdgePort) (past : List Entry) (from_hosts out : List (List Item)) (many : ℕ) (owed : ℕ → Target → ℕ) : Type 0 where
+  pub once : ReachOnce unsaid plan at past from_hosts out many owed
   pub travels : Travel plan past from_hosts out many
 
 -- what a bridge does with a frame
@@ -65,8 +65,8 @@ IsHeld past many s frame (Passed id) = IsUnderWay past many (Some s) id frame
 IsHeld past many s frame Over = Unit {0}
 
 -- amid the acts of switch s
-pub record IsAmid (s : ℕ) (frame : List ℕ) (acts : List Act) (w : WorldView) (speech : SpokenFrame) (late : List Entry) : Type 0 where
-  pub kept : IsKept w.plan (standing w.attachments) (reverse w.journal) w.from_hosts w.out w.begun (in_hand w.plan s (reverse w.journal) acts speech)
+pub record IsAmid (unsaid : ℕ → Target → ℕ) (s : ℕ) (frame : List ℕ) (acts : List Act) (w : WorldView) (speech : SpokenFrame) (late : List Entry) : Type 0 where
+  pub kept : IsKept unsaid w.plan (standing w.attachments) (reverse w.journal) w.from_hosts w.out w.begun (in_hand w.plan s (reverse w.journal) acts speech)
   pub held : IsHeld (reverse w.journal) w.begun s frame speech
   pub late_idle : AllByRecursion IsIdle late
   pub onward : AllByRecursion (IsOnward frame) acts
@@ -87,32 +87,32 @@ of_root_less past id a b r less = by_test (root past id == r)
     by_test true = less
     by_test false = omega arith
 
-module _ (plan : Plan) (at : ℕ → Option EdgePort) where
+module _ (unsaid : ℕ → Target → ℕ) (plan : Plan) (at : ℕ → Option EdgePort) where
   pub kept_weaker : (past : List Entry) (from_hosts out : List (List Item)) (many : ℕ) (f g : ℕ → Target → ℕ) → ((r : ℕ) (there : Target) → g r there ≤ f r there) →
-      IsKept plan at past from_hosts out many f → IsKept plan at past from_hosts out many g
-  kept_weaker past from_hosts out many f g less c = record { once = weaker plan at past from_hosts out many f g less c.once; travels = c.travels }
+      IsKept unsaid plan at past from_hosts out many f → IsKept unsaid plan at past from_hosts out many g
+  kept_weaker past from_hosts out many f g less c = record { once = weaker unsaid plan at past from_hosts out many f g less c.once; travels = c.travels }
 
   pub kept_idle : (past : List Entry) (from_hosts out : List (List Item)) (many : ℕ) (g : ℕ → Target → ℕ) (e : Entry) → IsIdle e →
-      IsKept plan at past from_hosts out many g → IsKept plan at (e ∷ past) from_hosts out many g
+      IsKept unsaid plan at past from_hosts out many g → IsKept unsaid plan at (e ∷ past) from_hosts out many g
   kept_idle past from_hosts out many g e idle c =
-      record { once = note_idle plan at past from_hosts out many g e idle c.once; travels = travel_idle plan past from_hosts out many e idle c.travels }
+      record { once = note_idle unsaid plan at past from_hosts out many g e idle c.once; travels = travel_idle plan past from_hosts out many e idle c.travels }
 
   -- several entries, one after the other
   pub kept_entries : (from_hosts out : List (List Item)) (many : ℕ) (g : ℕ → Target → ℕ) (entries journal : List Entry) → AllByRecursion IsIdle entries →
-      IsKept plan at (reverse journal) from_hosts out many g → IsKept plan at (reverse (journal ++ entries)) from_hosts out many g
-  kept_entries from_hosts out many g [] journal idle c = subst (λ p. IsKept plan at p from_hosts out many g) (sym (ap reverse (append-nil journal))) c
+      IsKept unsaid plan at (reverse journal) from_hosts out many g → IsKept unsaid plan at (reverse (journal ++ entries)) from_hosts out many g
+  kept_entries from_hosts out many g [] journal idle c = subst (λ p. IsKept unsaid plan at p from_hosts out many g) (sym (ap reverse (append-nil journal))) c
   kept_entries from_hosts out many g (e ∷ entries) journal idle c =
-      subst (λ j. IsKept plan at (reverse j) from_hosts out many g) (append_assoc journal (e ∷ []) entries)
+      subst (λ j. IsKept unsaid plan at (reverse j) from_hosts out many g) (append_assoc journal (e ∷ []) entries)
       (kept_entries from_hosts out many g entries (journal ++ e ∷ []) idle.1
-      (subst (λ p. IsKept plan at p from_hosts out many g) (sym (past_more journal e)) (kept_idle (reverse journal) from_hosts out many g e idle.0 c)))
+      (subst (λ p. IsKept unsaid plan at p from_hosts out many g) (sym (past_more journal e)) (kept_idle (reverse journal) from_hosts out many g e idle.0 c)))
 
   -- what is owed is put into a queue
   pub kept_put : (past : List Entry) (from_hosts out : List (List Item)) (many : ℕ) (g : ℕ → Target → ℕ) (s port id : ℕ) (frame : List ℕ) → port < plan.k →
       LeadsOverTree plan s port → IsUnderWay past many (Some s) id frame →
-      IsKept plan at past from_hosts out many (λ r there. of_root past id (claim plan s port there) r + g r there) →
-      IsKept plan at past from_hosts (set out (port_index plan.k s port) (get_or out (port_index plan.k s port) [] ++ Data id frame ∷ [])) many g
+      IsKept unsaid plan at past from_hosts out many (λ r there. of_root past id (claim plan s port there) r + g r there) →
+      IsKept unsaid plan at past from_hosts (set out (port_index plan.k s port) (get_or out (port_index plan.k s port) [] ++ Data id frame ∷ [])) many g
   kept_put past from_hosts out many g s port id frame within leads under c = record {
-    once = put_out plan at past from_hosts out many g s port id frame within c.once;
+    once = put_out unsaid plan at past from_hosts out many g s port id frame within c.once;
     travels = put_port plan past from_hosts out many (port_index plan.k s port) (Data id frame) (port_holds plan past many s port id frame within leads under) c.travels;
   }
 
@@ -143,22 +143,22 @@ live_way w s port fine live t q peer =
 one_entry : (P : List Entry → Type 0) (journal : List Entry) (e : Entry) → P (e ∷ reverse journal) → P (reverse (journal ++ e ∷ []))
 one_entry P journal e is = subst P (sym (past_more journal e)) is
 
-module _ (s k : ℕ) (frame : List ℕ) (w : WorldView) (acts : List Act) where
+module _ (unsaid : ℕ → Target → ℕ) (s k : ℕ) (frame : List ℕ) (w : WorldView) (acts : List Act) where
   abbrev at : ℕ → Option EdgePort
   at = standing w.attachments
 
   out_or_not : (failed : Bool) (now : List Entry) (id n port : ℕ) (many : ℕ) (out : List (List Item)) (f : ℕ → Target → ℕ) → port < w.plan.k → (failed ≡ false → LeadsOverTree w.plan s port) →
       IsUnderWay now many (Some s) n frame →
       ((r : ℕ) (there : Target) → of_root now n (claim w.plan s port there) r + of_root now id (used w.plan s there acts) r ≤ f r there) →
-      IsKept w.plan at now w.from_hosts out many f →
-      IsKept w.plan at now w.from_hosts
+      IsKept unsaid w.plan at now w.from_hosts out many f →
+      IsKept unsaid w.plan at now w.from_hosts
       (if failed then out else set out (port_index w.plan.k s port) (get_or out (port_index w.plan.k s port) [] ++ Data n frame ∷ []))
       many (λ r there. of_root now id (used w.plan s there acts) r)
   out_or_not true now id n port many out f within leads under less c =
-      kept_weaker w.plan at now w.from_hosts out many f _ (λ r there. omega (arith, less r there)) c
+      kept_weaker unsaid w.plan at now w.from_hosts out many f _ (λ r there. omega (arith, less r there)) c
   out_or_not false now id n port many out f within leads under less c =
-      kept_put w.plan at now w.from_hosts out many (λ r there. of_root now id (used w.plan s there acts) r) s port n frame within (leads refl) under
-      (kept_weaker w.plan at now w.from_hosts out many f _ less c)
+      kept_put unsaid w.plan at now w.from_hosts out many (λ r there. of_root now id (used w.plan s there acts) r) s port n frame within (leads refl) under
+      (kept_weaker unsaid w.plan at now w.from_hosts out many f _ less c)
 
   idle_end : (failed : Bool) (late : List Entry) (id : ℕ) → AllByRecursion IsIdle late → AllByRecursion IsIdle (if failed then late ++ Dropped id cause.LinkDown ∷ [] else late)
   idle_end true late id idle = all_append IsIdle late (Dropped id cause.LinkDown ∷ []) idle (tt, tt)
@@ -171,12 +171,12 @@ module _ (s k : ℕ) (frame : List ℕ) (w : WorldView) (acts : List Act) where
   again P false id no_more is = subst P (sym (ap reverse (append-nil w.journal))) is
 
   -- it is passed on, or copied
-  passes : (id : ℕ) (b : Bool) (late : List Entry) (port : ℕ) → port < w.plan.k → IsAmid s frame (act.Pass port frame ∷ acts) w (Waiting id b) late →
-      IsAmid s frame acts (act_done s (amid w (Waiting id b) late) (act.Pass port frame)).world (Passed id)
+  passes : (id : ℕ) (b : Bool) (late : List Entry) (port : ℕ) → port < w.plan.k → IsAmid unsaid s frame (act.Pass port frame ∷ acts) w (Waiting id b) late →
+      IsAmid unsaid s frame acts (act_done s (amid w (Waiting id b) late) (act.Pass port frame)).world (Passed id)
       (act_done s (amid w (Waiting id b) late) (act.Pass port frame)).late
   passes id b late port within a =
       let now : List Entry = reverse (w.journal ++ (if b then Crossed id (switch_no s) ∷ [] else [])) in
-      let P : List Entry → Type 0 = λ p. IsKept w.plan at p w.from_hosts w.out w.begun (λ r there. of_root p id (claim w.plan s port there + used w.plan s there acts) r) in
+      let P : List Entry → Type 0 = λ p. IsKept unsaid w.plan at p w.from_hosts w.out w.begun (λ r there. of_root p id (claim w.plan s port there + used w.plan s there acts) r) in
       let c : P now = again P b id a.fresh a.kept in
       let under : IsUnderWay now w.begun (Some s) id frame = again (λ p. IsUnderWay p w.begun (Some s) id frame) b id a.fresh a.held in
       record {
@@ -189,8 +189,8 @@ module _ (s k : ℕ) (frame : List ℕ) (w : WorldView) (acts : List Act) where
         live = a.live;
       }
 
-  copies : (id : ℕ) (late : List Entry) (port : ℕ) → port < w.plan.k → Steady s k w (Passed id) late → IsAmid s frame (act.Pass port frame ∷ acts) w (Passed id) late →
-      IsAmid s frame acts (act_done s (amid w (Passed id) late) (act.Pass port frame)).world (Passed id)
+  copies : (id : ℕ) (late : List Entry) (port : ℕ) → port < w.plan.k → Steady s k w (Passed id) late → IsAmid unsaid s frame (act.Pass port frame ∷ acts) w (Passed id) late →
+      IsAmid unsaid s frame acts (act_done s (amid w (Passed id) late) (act.Pass port frame)).world (Passed id)
       (act_done s (amid w (Passed id) late) (act.Pass port frame)).late
   copies id late port within st a =
       let n : ℕ = w.begun + 1 in
@@ -198,14 +198,14 @@ module _ (s k : ℕ) (frame : List ℕ) (w : WorldView) (acts : List Act) where
       let now : List Entry = Copied id n ∷ past in
       let new = is_new s k w (Passed id) late st in
       let f : ℕ → Target → ℕ = λ r there. of_root past id (claim w.plan s port there + used w.plan s there acts) r in
-      let moves = travel_copied w.plan past w.from_hosts w.out w.begun id (Some s) frame a.held a.kept.travels in
-      let c1 : IsKept w.plan at now w.from_hosts w.out n f = record {
-        once = copy_one w.plan at past w.from_hosts w.out w.begun id f f new.at_hosts new.at_ports (λ r there. omega arith) a.kept.once;
+      let moves = travel_copied w.plan past w.from_hosts w.out w.begun id s frame a.held a.kept.travels in
+      let c1 : IsKept unsaid w.plan at now w.from_hosts w.out n f = record {
+        once = copy_one unsaid w.plan at past w.from_hosts w.out w.begun id f f new.at_hosts new.at_ports (λ r there. omega arith) a.kept.once;
         travels = moves.0;
       } in
-      let same : root now id ≡ root past id = root_kept w.plan at past id n in
-      let copy : root now n ≡ root past id = copied_root w.plan at past id n in
-      let Q : List Entry → Type 0 = λ p. (b : Bool) → (b ≡ false → LeadsOverTree w.plan s port) → IsKept w.plan at p w.from_hosts
+      let same : root now id ≡ root past id = root_kept past id n in
+      let copy : root now n ≡ root past id = copied_root past id n in
+      let Q : List Entry → Type 0 = λ p. (b : Bool) → (b ≡ false → LeadsOverTree w.plan s port) → IsKept unsaid w.plan at p w.from_hosts
       (if b then w.out else set w.out (port_index w.plan.k s port) (get_or w.out (port_index w.plan.k s port) [] ++ Data n frame ∷ [])) n
       (λ r there. of_root p id (used w.plan s there acts) r) in
       let less : (r : ℕ) (there : Target) → of_root now n (claim w.plan s port there) r + of_root now id (used w.plan s there acts) r ≤ f r there =
@@ -225,14 +225,14 @@ module _ (s k : ℕ) (frame : List ℕ) (w : WorldView) (acts : List Act) where
       }
 
   -- it ends
-  ends_here : (id : ℕ) (b : Bool) (late : List Entry) (e : Entry) → IsIdle e → (a : Act) → IsAmid s frame (a ∷ acts) w (Waiting id b) late → AllByRecursion (IsOnward frame) acts →
-      IsAmid s frame acts (record w { journal = (w.journal ++ (if b then Crossed id (switch_no s) ∷ [] else [])) ++ e ∷ [] }) Over late
+  ends_here : (id : ℕ) (b : Bool) (late : List Entry) (e : Entry) → IsIdle e → (a : Act) → IsAmid unsaid s frame (a ∷ acts) w (Waiting id b) late → AllByRecursion (IsOnward frame) acts →
+      IsAmid unsaid s frame acts (record w { journal = (w.journal ++ (if b then Crossed id (switch_no s) ∷ [] else [])) ++ e ∷ [] }) Over late
   ends_here id b late e idle a is few =
-      let P : List Entry → Type 0 = λ p. IsKept w.plan at p w.from_hosts w.out w.begun (λ r there. 0) in
-      let c0 : P (reverse w.journal) = kept_weaker w.plan at (reverse w.journal) w.from_hosts w.out w.begun _ (λ r there. 0) (λ r there. omega arith) is.kept in
+      let P : List Entry → Type 0 = λ p. IsKept unsaid w.plan at p w.from_hosts w.out w.begun (λ r there. 0) in
+      let c0 : P (reverse w.journal) = kept_weaker unsaid w.plan at (reverse w.journal) w.from_hosts w.out w.begun _ (λ r there. 0) (λ r there. omega arith) is.kept in
       let c1 = again P b id is.fresh c0 in
       record {
-        kept = one_entry P (w.journal ++ (if b then Crossed id (switch_no s) ∷ [] else [])) e (kept_idle w.plan at _ w.from_hosts w.out w.begun _ e idle c1);
+        kept = one_entry P (w.journal ++ (if b then Crossed id (switch_no s) ∷ [] else [])) e (kept_idle unsaid w.plan at _ w.from_hosts w.out w.begun _ e idle c1);
         held = tt;
         late_idle = is.late_idle;
         onward = few;
@@ -240,15 +240,15 @@ module _ (s k : ℕ) (frame : List ℕ) (w : WorldView) (acts : List Act) where
         live = is.live;
       }
 
-abbrev pub IsAmidDoing : ℕ → List ℕ → List Act → DuringActs → Type 0
-IsAmidDoing s frame acts d = IsAmid s frame acts d.world d.speech d.late
+abbrev pub IsAmidDoing : (ℕ → Target → ℕ) → ℕ → List ℕ → List Act → DuringActs → Type 0
+IsAmidDoing unsaid s frame acts d = IsAmid unsaid s frame acts d.world d.speech d.late
 
 -- an act of a frame that is not in hand
-passed_by : (s : ℕ) (frame : List ℕ) (w : WorldView) (speech : SpokenFrame) (late : List Entry) (a : Act) (acts : List Act) →
+passed_by : (unsaid : ℕ → Target → ℕ) (s : ℕ) (frame : List ℕ) (w : WorldView) (speech : SpokenFrame) (late : List Entry) (a : Act) (acts : List Act) →
     ((r : ℕ) (there : Target) → in_hand w.plan s (reverse w.journal) acts speech r there ≤ in_hand w.plan s (reverse w.journal) (a ∷ acts) speech r there) →
-    IsAmid s frame (a ∷ acts) w speech late → IsAmid s frame acts w speech late
-passed_by s frame w speech late a acts less m = record {
-  kept = kept_weaker w.plan (standing w.attachments) (reverse w.journal) w.from_hosts w.out w.begun _ _ less m.kept;
+    IsAmid unsaid s frame (a ∷ acts) w speech late → IsAmid unsaid s frame acts w speech late
+passed_by unsaid s frame w speech late a acts less m = record {
+  kept = kept_weaker unsaid w.plan (standing w.attachments) (reverse w.journal) w.from_hosts w.out w.begun _ _ less m.kept;
   held = m.held;
   late_idle = m.late_idle;
   onward = m.onward.1;
@@ -257,52 +257,52 @@ passed_by s frame w speech late a acts less m = record {
 }
 
 -- one act
-act_kept : (s k : ℕ) (frame : List ℕ) (w : WorldView) (speech : SpokenFrame) (late : List Entry) (a : Act) (acts : List Act) → IsFit k a → Steady s k w speech late →
-    IsAmid s frame (a ∷ acts) w speech late → IsAmidDoing s frame acts (act_done s (amid w speech late) a)
-act_kept s k frame w speech late (act.Control port bytes) acts fit st a = absurd a.onward.0
-act_kept s k frame w speech late (act.Tell told) acts fit st a = absurd a.onward.0
-act_kept s k frame w speech late (act.Grant pmac amac) acts fit st a = absurd a.onward.0
-act_kept s k frame w speech late (act.Make bytes) acts fit st a = absurd a.onward.0
-act_kept s k frame w speech late (act.Redirect old new) acts fit st a = absurd a.onward.0
-act_kept s k frame w speech late act.Take acts fit st a = absurd a.onward.0
-act_kept s k frame w Silent late (act.Pass port bytes) acts fit st a = passed_by s frame w Silent late (act.Pass port bytes) acts (λ r there. omega arith) a
-act_kept s k frame w (Waiting id b) late (act.Pass port bytes) acts fit st a =
-    subst (λ x. IsAmidDoing s frame acts (act_done s (amid w (Waiting id b) late) (act.Pass port x))) (sym a.onward.0)
-    (passes s k frame w acts id b late port (subst (λ n. port < n) (sym st.size) fit.within) (subst (λ x. IsAmid s frame (act.Pass port x ∷ acts) w (Waiting id b) late) a.onward.0 a))
-act_kept s k frame w (Passed id) late (act.Pass port bytes) acts fit st a =
-    subst (λ x. IsAmidDoing s frame acts (act_done s (amid w (Passed id) late) (act.Pass port x))) (sym a.onward.0)
-    (copies s k frame w acts id late port (subst (λ n. port < n) (sym st.size) fit.within) st (subst (λ x. IsAmid s frame (act.Pass port x ∷ acts) w (Passed id) late) a.onward.0 a))
-act_kept s k frame w Over late (act.Pass port bytes) acts fit st a = passed_by s frame w Over late (act.Pass port bytes) acts (λ r there. omega arith) a
-act_kept s k frame w Silent late (act.Drop why) acts fit st a = passed_by s frame w Silent late (act.Drop why) acts (λ r there. omega arith) a
-act_kept s k frame w (Waiting id b) late (act.Drop why) acts fit st a = ends_here s k frame w acts id b late (Dropped id why) tt (act.Drop why) a a.onward.1
-act_kept s k frame w (Passed id) late (act.Drop why) acts fit st a = passed_by s frame w (Passed id) late (act.Drop why) acts (λ r there. omega arith) a
-act_kept s k frame w Over late (act.Drop why) acts fit st a = passed_by s frame w Over late (act.Drop why) acts (λ r there. omega arith) a
+act_kept : (unsaid : ℕ → Target → ℕ) (s k : ℕ) (frame : List ℕ) (w : WorldView) (speech : SpokenFrame) (late : List Entry) (a : Act) (acts : List Act) → IsFit k a → Steady s k w speech late →
+    IsAmid unsaid s frame (a ∷ acts) w speech late → IsAmidDoing unsaid s frame acts (act_done s (amid w speech late) a)
+act_kept unsaid s k frame w speech late (act.Control port bytes) acts fit st a = absurd a.onward.0
+act_kept unsaid s k frame w speech late (act.Tell told) acts fit st a = absurd a.onward.0
+act_kept unsaid s k frame w speech late (act.Grant pmac amac) acts fit st a = absurd a.onward.0
+act_kept unsaid s k frame w speech late (act.Make bytes) acts fit st a = absurd a.onward.0
+act_kept unsaid s k frame w speech late (act.Redirect old new) acts fit st a = absurd a.onward.0
+act_kept unsaid s k frame w speech late act.Take acts fit st a = absurd a.onward.0
+act_kept unsaid s k frame w Silent late (act.Pass port bytes) acts fit st a = passed_by unsaid s frame w Silent late (act.Pass port bytes) acts (λ r there. omega arith) a
+act_kept unsaid s k frame w (Waiting id b) late (act.Pass port bytes) acts fit st a =
+    subst (λ x. IsAmidDoing unsaid s frame acts (act_done s (amid w (Waiting id b) late) (act.Pass port x))) (sym a.onward.0)
+    (passes unsaid s k frame w acts id b late port (subst (λ n. port < n) (sym st.size) fit.within) (subst (λ x. IsAmid unsaid s frame (act.Pass port x ∷ acts) w (Waiting id b) late) a.onward.0 a))
+act_kept unsaid s k frame w (Passed id) late (act.Pass port bytes) acts fit st a =
+    subst (λ x. IsAmidDoing unsaid s frame acts (act_done s (amid w (Passed id) late) (act.Pass port x))) (sym a.onward.0)
+    (copies unsaid s k frame w acts id late port (subst (λ n. port < n) (sym st.size) fit.within) st (subst (λ x. IsAmid unsaid s frame (act.Pass port x ∷ acts) w (Passed id) late) a.onward.0 a))
+act_kept unsaid s k frame w Over late (act.Pass port bytes) acts fit st a = passed_by unsaid s frame w Over late (act.Pass port bytes) acts (λ r there. omega arith) a
+act_kept unsaid s k frame w Silent late (act.Drop why) acts fit st a = passed_by unsaid s frame w Silent late (act.Drop why) acts (λ r there. omega arith) a
+act_kept unsaid s k frame w (Waiting id b) late (act.Drop why) acts fit st a = ends_here unsaid s k frame w acts id b late (Dropped id why) tt (act.Drop why) a a.onward.1
+act_kept unsaid s k frame w (Passed id) late (act.Drop why) acts fit st a = passed_by unsaid s frame w (Passed id) late (act.Drop why) acts (λ r there. omega arith) a
+act_kept unsaid s k frame w Over late (act.Drop why) acts fit st a = passed_by unsaid s frame w Over late (act.Drop why) acts (λ r there. omega arith) a
 
 -- all acts
-acts_kept : (s k : ℕ) (frame : List ℕ) (w : WorldView) (speech : SpokenFrame) (late : List Entry) (acts : List Act) → AllByRecursion (IsFit k) acts →
-    is_said (fold frame_state_after (said_by speech) acts) ≡ true → Steady s k w speech late → IsAmid s frame acts w speech late →
-    IsAmidDoing s frame [] (acts_done s (amid w speech late) acts)
-acts_kept s k frame w speech late [] fits said st a = a
-acts_kept s k frame w speech late (x ∷ acts) fits said st a =
+acts_kept : (unsaid : ℕ → Target → ℕ) (s k : ℕ) (frame : List ℕ) (w : WorldView) (speech : SpokenFrame) (late : List Entry) (acts : List Act) → AllByRecursion (IsFit k) acts →
+    is_said (fold frame_state_after (said_by speech) acts) ≡ true → Steady s k w speech late → IsAmid unsaid s frame acts w speech late →
+    IsAmidDoing unsaid s frame [] (acts_done s (amid w speech late) acts)
+acts_kept unsaid s k frame w speech late [] fits said st a = a
+acts_kept unsaid s k frame w speech late (x ∷ acts) fits said st a =
     let legal : IsLegal (frame_state_after (said_by speech) x) = said_is_legal (frame_state_after (said_by speech) x) acts said in
     let d : DuringActs = act_done s (amid w speech late) x in
     let same : said_by d.speech ≡ frame_state_after (said_by speech) x = act_said s w speech late x legal in
-    acts_kept s k frame d.world d.speech d.late acts fits.1 (rw same said) (act_steady s k w speech late x fits.0 legal st)
-    (act_kept s k frame w speech late x acts fits.0 st a)
+    acts_kept unsaid s k frame d.world d.speech d.late acts fits.1 (rw same said) (act_steady s k w speech late x fits.0 legal st)
+    (act_kept unsaid s k frame w speech late x acts fits.0 st a)
 
 -- a whole step: the ends that were put off are written, and then the place
-pub step_kept : (s k : ℕ) (frame : List ℕ) (w : WorldView) (speech : SpokenFrame) (old new : Place) (acts : List Act) → AllByRecursion (IsFit k) acts →
-    is_said (fold frame_state_after (said_by speech) acts) ≡ true → Steady s k w speech [] → IsAmid s frame acts w speech [] → (after : WorldView) →
+pub step_kept : (unsaid : ℕ → Target → ℕ) (s k : ℕ) (frame : List ℕ) (w : WorldView) (speech : SpokenFrame) (old new : Place) (acts : List Act) → AllByRecursion (IsFit k) acts →
+    is_said (fold frame_state_after (said_by speech) acts) ≡ true → Steady s k w speech [] → IsAmid unsaid s frame acts w speech [] → (after : WorldView) →
     after ≡ place_noted s old new (with_late (acts_done s (amid w speech []) acts)) →
-    IsKept after.plan (standing after.attachments) (reverse after.journal) after.from_hosts after.out after.begun (λ r there. 0)
-step_kept s k frame w speech old new acts fits said st a after is =
+    IsKept unsaid after.plan (standing after.attachments) (reverse after.journal) after.from_hosts after.out after.begun (λ r there. 0)
+step_kept unsaid s k frame w speech old new acts fits said st a after is =
     let d : DuringActs = acts_done s (amid w speech []) acts in
-    let done = acts_kept s k frame w speech [] acts fits said st a in
+    let done = acts_kept unsaid s k frame w speech [] acts fits said st a in
     let at : ℕ → Option EdgePort = standing d.world.attachments in
-    let c = kept_entries d.world.plan at d.world.from_hosts d.world.out d.world.begun (λ r there. 0) d.late d.world.journal done.late_idle
-    (kept_weaker d.world.plan at (reverse d.world.journal) d.world.from_hosts d.world.out d.world.begun _ (λ r there. 0) (λ r there. omega arith) done.kept) in
-    subst (λ (x : WorldView). IsKept x.plan (standing x.attachments) (reverse x.journal) x.from_hosts x.out x.begun (λ r there. 0)) (sym is)
-    (kept_entries d.world.plan at d.world.from_hosts d.world.out d.world.begun (λ r there. 0) (if same_place old new then [] else Placed (switch_no s) new ∷ [])
+    let c = kept_entries unsaid d.world.plan at d.world.from_hosts d.world.out d.world.begun (λ r there. 0) d.late d.world.journal done.late_idle
+    (kept_weaker unsaid d.world.plan at (reverse d.world.journal) d.world.from_hosts d.world.out d.world.begun _ (λ r there. 0) (λ r there. omega arith) done.kept) in
+    subst (λ (x : WorldView). IsKept unsaid x.plan (standing x.attachments) (reverse x.journal) x.from_hosts x.out x.begun (λ r there. 0)) (sym is)
+    (kept_entries unsaid d.world.plan at d.world.from_hosts d.world.out d.world.begun (λ r there. 0) (if same_place old new then [] else Placed (switch_no s) new ∷ [])
     (d.world.journal ++ d.late) (placed (same_place old new)) c)
   where
     placed : (b : Bool) → AllByRecursion IsIdle (if b then [] else Placed (switch_no s) new ∷ [])

@@ -18,7 +18,7 @@ use Rattle.pl_world.specs.LinksAndMoves.{joins, link_between, link_failed, with_
 use Rattle.pl_world.specs.Worlds.{WorldView}
 use Rattle.pl_world.proofs.Exports.{booted_is_counted, born_none, counted as to_counted, failed_left, fails, found_contained, Sound, sound, Writes}
 use Rattle.pl_law_bridge.specs.Counting.{count_all, has_root}
-use Rattle.pl_law_bridge.specs.Reaching.{ReachesOnce, reaches_from_place, standing}
+use Rattle.pl_law_bridge.specs.Reaching.{ReachesOnce, nothing_unsaid, reaches_from_place, standing}
 use Rattle.pl_law_bridge.specs.TreeWorld.{KeepsToTree, LiveIsTree, is_off_tree, only_tree, tree_from, tree_world}
 use Rattle.pl_law_bridge.specs.Travelling.{TravelsOnTree, WaitsAtHost, WaitsAtPort}
 use Rattle.pl_law_bridge.proofs.Changing.{IsIdle, empty_out}
@@ -57,6 +57,7 @@ once_at_first plan limits = record {
 travels_at_first : (plan : Plan) (limits : Limits) → TravelsOnTree (booted plan limits)
 travels_at_first plan limits = record {
   new = λ id later. refl;
+  uncopied = λ id later. refl;
   at_hosts = λ h. none_waits (WaitsAtHost [] 0) (length plan.hosts) h;
   at_ports = λ n. none_waits (WaitsAtPort plan [] 0 n) (switch_count plan.k * plan.k) n;
   adjacent = λ id. tt;
@@ -65,20 +66,20 @@ travels_at_first plan limits = record {
 
 -- ---- a link fails
 abbrev Keeps : WorldView → WorldView → Type 0
-Keeps a b = IsKeptIn a → IsKeptIn b
+Keeps a b = IsKeptIn nothing_unsaid a → IsKeptIn nothing_unsaid b
 
 keeps_writes : Writes Keeps IsIdle
 keeps_writes = record {
   same = λ w c. c;
   on = λ a b d one next c. next (one c);
-  entry = λ w e idle c. noted_kept w (λ r there. 0) e idle c;
+  entry = λ w e idle c. noted_kept nothing_unsaid w (λ r there. 0) e idle c;
   dropped = λ id why. tt;
 }
 
-fails_kept : (w : WorldView) (link : Link) → IsKeptIn w → IsKeptIn (link_failed w link)
+fails_kept : (w : WorldView) (link : Link) → IsKeptIn nothing_unsaid w → IsKeptIn nothing_unsaid (link_failed w link)
 fails_kept w link = failed_left Keeps IsIdle keeps_writes
     (λ u i c. record {
-      once = empty_out u.plan (standing u.attachments) (reverse u.journal) u.from_hosts u.out u.begun i (λ r there. 0) c.once;
+      once = empty_out nothing_unsaid u.plan (standing u.attachments) (reverse u.journal) u.from_hosts u.out u.begun i (λ r there. 0) c.once;
       travels = set_port u.plan (reverse u.journal) u.from_hosts u.out u.begun i [] tt c.travels;
     }) w link tt (λ u links c. c)
 
@@ -122,7 +123,7 @@ failed_if b w link = if b then link_failed (record w { steps = w.steps + 1 }) li
 record IsReadied (plan : Plan) (w : WorldView) : Type 0 where
   plan_stays : w.plan ≡ plan
   sound : Sound w
-  kept : IsKeptIn w
+  kept : IsKeptIn nothing_unsaid w
 
 failed_readied : (plan : Plan) (b : Bool) (w : WorldView) (link : Link) → IsPlan plan → IsAmong link plan.links → IsReadied plan w → IsReadied plan (failed_if b w link)
 failed_readied plan true w link is among r = record {

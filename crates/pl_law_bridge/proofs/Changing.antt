@@ -12,14 +12,15 @@ use Rattle.pl_journal.specs.declared.entry.Entry.TheVariants.{Arrived, Copied, C
 use Rattle.pl_wiring.specs.declared.host.HostNo.{HostNo}
 use Rattle.pl_wiring.specs.declared.label.SwitchNo.{SwitchNo}
 use Rattle.pl_journal.specs.Flights.{root}
-use Rattle.pl_journal.specs.Places.{EdgePort, at_port, edge_port_of}
+use Rattle.pl_journal.specs.Places.{EdgePort, at_port, edge_port_of, same_edge_port}
 use Rattle.pl_world.specs.declared.item.Item.{Item}
 use Rattle.pl_world.specs.declared.item.Item.TheVariants.{Control, Data}
 use Rattle.pl_world.specs.Flying.{times_in_all}
 use Rattle.pl_world.proofs.Exports.{born_more, one}
 use Rattle.pl_law_bridge.specs.Counting.{count_in, has_root}
+use Rattle.pl_law_bridge.specs.GoingOut.{heads}
 use Rattle.pl_law_bridge.specs.Reaching.{ReachOnce, Target, is_arrival_at, is_crossing_of, is_port_at, may_reach, may_reach_by, reaches_from_place, times_reached}
-use Rattle.pl_law_bridge.specs.Reaching.Target.{Arrival, Crossing}
+use Rattle.pl_law_bridge.specs.Reaching.Target.{Arrival, Crossing, Departure}
 use Rattle.pl_law_bridge.proofs.Queued.{count_all-empty, count_all-put, count_all-same, count_all-take}
 
 -- 1 where a frame that leaves by a port may reach the target
@@ -29,6 +30,15 @@ claim plan s port there = if may_reach_by plan s port there then 1 else 0
 -- of one root alone
 abbrev pub of_root : List Entry → ℕ → ℕ → ℕ → ℕ
 of_root past id many r = if root past id == r then many else 0
+
+-- 1 where a frame that comes out of a port may arrive at the target
+abbrev pub arrives_at : ℕ → ℕ → Target → ℕ
+arrives_at s port target = if is_arrival_at (Some (at_port s port)) target then 1 else 0
+
+-- of the frames that go out of a port, those that reach a target by that
+abbrev pub departs_at : ℕ → ℕ → Target → ℕ → ℕ
+departs_at s port (Departure there) many = if same_edge_port (at_port s port) there then many else 0
+departs_at s port target many = 0
 
 -- an entry that begins nothing, and with which nothing crosses a switch, nothing arrives and no host moves
 abbrev pub IsIdle : Entry → Type 0
@@ -51,9 +61,20 @@ claim_at_most_one plan s port there = at_most (may_reach_by plan s port there)
     at_most true = omega arith
     at_most false = omega arith
 
-module _ (plan : Plan) (at : ℕ → Option EdgePort) where
+-- a copy has the root of its frame, which keeps its own
+pub copied_root : (past : List Entry) (id n : ℕ) → root (Copied id n ∷ past) n ≡ root past id
+copied_root past id n = ap (root past) (cond-true (n == n) id n (eq-eqb n n refl))
+
+pub root_kept : (past : List Entry) (id n : ℕ) → root (Copied id n ∷ past) id ≡ root past id
+root_kept past id n = ap (root past) (either (n == id))
+  where
+    either : (b : Bool) → (if b then id else id) ≡ id
+    either true = refl
+    either false = refl
+
+module _ (unsaid : ℕ → Target → ℕ) (plan : Plan) (at : ℕ → Option EdgePort) where
   pub weaker : (past : List Entry) (from_hosts out : List (List Item)) (many : ℕ) (f g : ℕ → Target → ℕ) → ((r : ℕ) (there : Target) → g r there ≤ f r there) →
-      ReachOnce plan at past from_hosts out many f → ReachOnce plan at past from_hosts out many g
+      ReachOnce unsaid plan at past from_hosts out many f → ReachOnce unsaid plan at past from_hosts out many g
   weaker past from_hosts out many f g less c = record {
     standing = c.standing;
     unbegun = c.unbegun;
@@ -70,8 +91,8 @@ module _ (plan : Plan) (at : ℕ → Option EdgePort) where
 
   -- what is owed is put into a queue
   pub put_out : (past : List Entry) (from_hosts out : List (List Item)) (many : ℕ) (g : ℕ → Target → ℕ) (s port id : ℕ) (frame : List ℕ) → port < plan.k →
-      ReachOnce plan at past from_hosts out many (λ r there. of_root past id (claim plan s port there) r + g r there) →
-      ReachOnce plan at past from_hosts (set out (port_index plan.k s port) (get_or out (port_index plan.k s port) [] ++ Data id frame ∷ [])) many g
+      ReachOnce unsaid plan at past from_hosts out many (λ r there. of_root past id (claim plan s port there) r + g r there) →
+      ReachOnce unsaid plan at past from_hosts (set out (port_index plan.k s port) (get_or out (port_index plan.k s port) [] ++ Data id frame ∷ [])) many g
   put_out past from_hosts out many g s port id frame within c = record {
     standing = c.standing;
     unbegun = c.unbegun;
@@ -84,7 +105,7 @@ module _ (plan : Plan) (at : ℕ → Option EdgePort) where
   }
 
   pub put_control : (past : List Entry) (from_hosts out : List (List Item)) (many : ℕ) (g : ℕ → Target → ℕ) (n : ℕ) (frame : List ℕ) →
-      ReachOnce plan at past from_hosts out many g → ReachOnce plan at past from_hosts (set out n (get_or out n [] ++ Control frame ∷ [])) many g
+      ReachOnce unsaid plan at past from_hosts out many g → ReachOnce unsaid plan at past from_hosts (set out n (get_or out n [] ++ Control frame ∷ [])) many g
   put_control past from_hosts out many g n frame c = record {
     standing = c.standing;
     unbegun = c.unbegun;
@@ -92,8 +113,8 @@ module _ (plan : Plan) (at : ℕ → Option EdgePort) where
   }
 
   pub put_host : (past : List Entry) (from_hosts out : List (List Item)) (many : ℕ) (g : ℕ → Target → ℕ) (h id : ℕ) (frame : List ℕ) →
-      ReachOnce plan at past from_hosts out many (λ r there. of_root past id 1 r + g r there) →
-      ReachOnce plan at past (set from_hosts h (get_or from_hosts h [] ++ Data id frame ∷ [])) out many g
+      ReachOnce unsaid plan at past from_hosts out many (λ r there. of_root past id 1 r + g r there) →
+      ReachOnce unsaid plan at past (set from_hosts h (get_or from_hosts h [] ++ Data id frame ∷ [])) out many g
   put_host past from_hosts out many g h id frame c = record {
     standing = c.standing;
     unbegun = c.unbegun;
@@ -102,8 +123,8 @@ module _ (plan : Plan) (at : ℕ → Option EdgePort) where
 
   -- the head of a queue is owed, where it is a data frame
   pub take_out : (past : List Entry) (from_hosts out : List (List Item)) (many s port id : ℕ) (frame : List ℕ) (items : List Item) → port < plan.k →
-      get_or out (port_index plan.k s port) [] ≡ Data id frame ∷ items → ReachOnce plan at past from_hosts out many (λ r there. 0) →
-      ReachOnce plan at past from_hosts (set out (port_index plan.k s port) items) many (λ r there. of_root past id (claim plan s port there) r)
+      get_or out (port_index plan.k s port) [] ≡ Data id frame ∷ items → ReachOnce unsaid plan at past from_hosts out many (λ r there. 0) →
+      ReachOnce unsaid plan at past from_hosts (set out (port_index plan.k s port) items) many (λ r there. of_root past id (claim plan s port there) r)
   take_out past from_hosts out many s port id frame items within is c = record {
     standing = c.standing;
     unbegun = c.unbegun;
@@ -116,8 +137,8 @@ module _ (plan : Plan) (at : ℕ → Option EdgePort) where
   }
 
   pub take_any : (past : List Entry) (from_hosts out : List (List Item)) (many n : ℕ) (item : Item) (items : List Item) →
-      get_or out n [] ≡ item ∷ items → ReachOnce plan at past from_hosts out many (λ r there. 0) →
-      ReachOnce plan at past from_hosts (set out n items) many (λ r there. 0)
+      get_or out n [] ≡ item ∷ items → ReachOnce unsaid plan at past from_hosts out many (λ r there. 0) →
+      ReachOnce unsaid plan at past from_hosts (set out n items) many (λ r there. 0)
   take_any past from_hosts out many n item items is c = record {
     standing = c.standing;
     unbegun = c.unbegun;
@@ -125,8 +146,8 @@ module _ (plan : Plan) (at : ℕ → Option EdgePort) where
   }
 
   pub take_host : (past : List Entry) (from_hosts out : List (List Item)) (many h id : ℕ) (frame : List ℕ) (items : List Item) →
-      get_or from_hosts h [] ≡ Data id frame ∷ items → ReachOnce plan at past from_hosts out many (λ r there. 0) →
-      ReachOnce plan at past (set from_hosts h items) out many (λ r there. of_root past id 1 r)
+      get_or from_hosts h [] ≡ Data id frame ∷ items → ReachOnce unsaid plan at past from_hosts out many (λ r there. 0) →
+      ReachOnce unsaid plan at past (set from_hosts h items) out many (λ r there. of_root past id 1 r)
   take_host past from_hosts out many h id frame items is c = record {
     standing = c.standing;
     unbegun = c.unbegun;
@@ -134,7 +155,7 @@ module _ (plan : Plan) (at : ℕ → Option EdgePort) where
   }
 
   pub empty_out : (past : List Entry) (from_hosts out : List (List Item)) (many n : ℕ) (g : ℕ → Target → ℕ) →
-      ReachOnce plan at past from_hosts out many g → ReachOnce plan at past from_hosts (set out n []) many g
+      ReachOnce unsaid plan at past from_hosts out many g → ReachOnce unsaid plan at past from_hosts (set out n []) many g
   empty_out past from_hosts out many n g c = record {
     standing = c.standing;
     unbegun = c.unbegun;
@@ -142,7 +163,7 @@ module _ (plan : Plan) (at : ℕ → Option EdgePort) where
   }
 
   pub empty_host : (past : List Entry) (from_hosts out : List (List Item)) (many h : ℕ) (g : ℕ → Target → ℕ) →
-      ReachOnce plan at past from_hosts out many g → ReachOnce plan at past (set from_hosts h []) out many g
+      ReachOnce unsaid plan at past from_hosts out many g → ReachOnce unsaid plan at past (set from_hosts h []) out many g
   empty_host past from_hosts out many h g c = record {
     standing = c.standing;
     unbegun = c.unbegun;
@@ -151,7 +172,7 @@ module _ (plan : Plan) (at : ℕ → Option EdgePort) where
 
   -- an idle entry is written
   pub note_idle : (past : List Entry) (from_hosts out : List (List Item)) (many : ℕ) (g : ℕ → Target → ℕ) (e : Entry) → IsIdle e →
-      ReachOnce plan at past from_hosts out many g → ReachOnce plan at (e ∷ past) from_hosts out many g
+      ReachOnce unsaid plan at past from_hosts out many g → ReachOnce unsaid plan at (e ∷ past) from_hosts out many g
   note_idle past from_hosts out many g (Copied id copy) idle c = absurd idle
   note_idle past from_hosts out many g (Arrived id h frame) idle c = absurd idle
   note_idle past from_hosts out many g (Line n) idle c = record { standing = c.standing; unbegun = c.unbegun; once = c.once }
@@ -172,13 +193,13 @@ module _ (plan : Plan) (at : ℕ → Option EdgePort) where
   note_idle past from_hosts out many g (Unsettled n) idle c = record { standing = c.standing; unbegun = c.unbegun; once = c.once }
 
   pub note_sent : (past : List Entry) (from_hosts out : List (List Item)) (many : ℕ) (g : ℕ → Target → ℕ) (id : ℕ) (h : HostNo) (frame : List ℕ) →
-      ReachOnce plan at past from_hosts out many g → ReachOnce plan at (Sent id h frame ∷ past) from_hosts out many g
+      ReachOnce unsaid plan at past from_hosts out many g → ReachOnce unsaid plan at (Sent id h frame ∷ past) from_hosts out many g
   note_sent past from_hosts out many g id h frame c = record { standing = c.standing; unbegun = c.unbegun; once = c.once }
 
   -- a frame begins: it is owed once at each target
   pub begin_one : (past : List Entry) (from_hosts out : List (List Item)) (many : ℕ) (g : ℕ → Target → ℕ) →
-      ReachOnce plan at past from_hosts out many g →
-      ReachOnce plan at past from_hosts out (many + 1) (λ r there. of_root past (many + 1) 1 r + g r there)
+      ReachOnce unsaid plan at past from_hosts out many g →
+      ReachOnce unsaid plan at past from_hosts out (many + 1) (λ r there. of_root past (many + 1) 1 r + g r there)
   begin_one past from_hosts out many g c = record {
     standing = c.standing;
     unbegun = λ id later. c.unbegun id (omega arith);
@@ -191,19 +212,9 @@ module _ (plan : Plan) (at : ℕ → Option EdgePort) where
       of_number n r = if n == r then 1 else 0
 
   -- a frame is copied
-  pub copied_root : (past : List Entry) (id n : ℕ) → root (Copied id n ∷ past) n ≡ root past id
-  copied_root past id n = ap (root past) (cond-true (n == n) id n (eq-eqb n n refl))
-
-  pub root_kept : (past : List Entry) (id n : ℕ) → root (Copied id n ∷ past) id ≡ root past id
-  root_kept past id n = ap (root past) (either (n == id))
-    where
-      either : (b : Bool) → (if b then id else id) ≡ id
-      either true = refl
-      either false = refl
-
   pub copy_one : (past : List Entry) (from_hosts out : List (List Item)) (many id : ℕ) (f g : ℕ → Target → ℕ) → times_in_all (many + 1) from_hosts ≡ 0 →
-      times_in_all (many + 1) out ≡ 0 → ((r : ℕ) (there : Target) → g r there ≤ f r there) → ReachOnce plan at past from_hosts out many f →
-      ReachOnce plan at (Copied id (many + 1) ∷ past) from_hosts out (many + 1) g
+      times_in_all (many + 1) out ≡ 0 → ((r : ℕ) (there : Target) → g r there ≤ f r there) → ReachOnce unsaid plan at past from_hosts out many f →
+      ReachOnce unsaid plan at (Copied id (many + 1) ∷ past) from_hosts out (many + 1) g
   copy_one past from_hosts out many id f g not_at_hosts not_out less c =
       let n : ℕ = many + 1 in
       let now : List Entry = Copied id n ∷ past in
@@ -220,8 +231,8 @@ module _ (plan : Plan) (at : ℕ → Option EdgePort) where
 
   -- a frame that is owed crosses a switch
   pub cross_one : (past : List Entry) (from_hosts out : List (List Item)) (many id : ℕ) (s : SwitchNo) (g : Target → ℕ) →
-      ReachOnce plan at past from_hosts out many (λ r there. of_root past id ((if is_crossing_of s.0 there then 1 else 0) + g there) r) →
-      ReachOnce plan at (Crossed id s ∷ past) from_hosts out many (λ r there. of_root past id (g there) r)
+      ReachOnce unsaid plan at past from_hosts out many (λ r there. of_root past id ((if is_crossing_of s.0 there then 1 else 0) + g there) r) →
+      ReachOnce unsaid plan at (Crossed id s ∷ past) from_hosts out many (λ r there. of_root past id (g there) r)
   cross_one past from_hosts out many id s g c = record {
     standing = c.standing;
     unbegun = c.unbegun;
@@ -235,34 +246,65 @@ module _ (plan : Plan) (at : ℕ → Option EdgePort) where
       one_more false here rest before = omega arith
 
   -- a frame arrives at the port out of which it came
-  pub arrive_one : (past : List Entry) (from_hosts out : List (List Item)) (many s port id : ℕ) (bytes : List ℕ) (h : HostNo) → peer_of plan s port ≡ HostPort →
+  pub arrive_one : (past : List Entry) (from_hosts out : List (List Item)) (many s port id : ℕ) (bytes : List ℕ) (h : HostNo) →
       edge_port_of plan past h.0 ≡ Some (at_port s port) →
-      ReachOnce plan at past from_hosts out many (λ r there. of_root past id (claim plan s port there) r) →
-      ReachOnce plan at (Arrived id h bytes ∷ past) from_hosts out many (λ r there. 0)
-  arrive_one past from_hosts out many s port id bytes h peer stands c = record {
+      ReachOnce unsaid plan at past from_hosts out many (λ r there. of_root past id (arrives_at s port there) r) →
+      ReachOnce unsaid plan at (Arrived id h bytes ∷ past) from_hosts out many (λ r there. 0)
+  arrive_one past from_hosts out many s port id bytes h stands c = record {
     standing = c.standing;
     unbegun = c.unbegun;
     once = λ r there.
-        let here : may_reach_by plan s port there ≡ is_arrival_at (edge_port_of plan past h.0) there =
-        ap (λ p. may_reach plan.k s port p there) peer ∙ at_its_port there ∙ sym (ap (λ o. is_arrival_at o there) stands) in
-        let more = came (root past id == r) (is_arrival_at (edge_port_of plan past h.0) there) (may_reach_by plan s port there) (times_reached plan past r there) here in
+        let more = came (root past id == r) (is_arrival_at (edge_port_of plan past h.0) there) (is_arrival_at (Some (at_port s port)) there) (times_reached plan past r there)
+        (ap (λ o. is_arrival_at o there) (sym stands)) in
         omega (arith, c.once r there, more);
   }
     where
-      at_its_port : (there : Target) → is_port_at s port there ≡ is_arrival_at (Some (at_port s port)) there
-      at_its_port (Crossing x) = refl
-      at_its_port (Arrival place) = refl
-
       came : (own at may : Bool) (before : ℕ) → may ≡ at → (if own && at then suc before else before) ≤ (if own then (if may then 1 else 0) else 0) + before
       came true true may before is = rw is (omega arith)
       came true false may before is = omega arith
       came false at may before is = omega arith
 
+  -- a frame goes out of a port for hosts, where it may arrive
+  pub depart_one : (past : List Entry) (from_hosts out : List (List Item)) (many s port id : ℕ) (frame : List ℕ) (items : List Item) → peer_of plan s port ≡ HostPort →
+      ReachOnce unsaid plan at past from_hosts out many (λ r there. of_root past id (claim plan s port there) r) →
+      ReachOnce (λ r there. departs_at s port there (heads past r (Data id frame ∷ items)) + unsaid r there) plan at past from_hosts out many
+      (λ r there. of_root past id (arrives_at s port there) r)
+  depart_one past from_hosts out many s port id frame items peer c = record {
+    standing = c.standing;
+    unbegun = c.unbegun;
+    once = λ r there.
+        let here : may_reach_by plan s port there ≡ is_port_at s port there = ap (λ p. may_reach plan.k s port p there) peer in
+        let more = both (root past id == r) there (may_reach_by plan s port there) here in
+        omega (arith, c.once r there, more);
+  }
+    where
+      both : (own : Bool) (there : Target) (may : Bool) → may ≡ is_port_at s port there →
+          (if own then arrives_at s port there else 0) + departs_at s port there (if own then 1 else 0) ≤ (if own then (if may then 1 else 0) else 0)
+      both true (Crossing x) may is = omega arith
+      both true (Arrival place) may is = rw is (omega arith)
+      both true (Departure place) may is = rw is (omega arith)
+      both false (Crossing x) may is = omega arith
+      both false (Arrival place) may is = omega arith
+      both false (Departure place) may is = none (same_edge_port (at_port s port) place)
+        where
+          none : (b : Bool) → 0 + (if b then 0 else 0) ≤ 0
+          none true = omega arith
+          none false = omega arith
+
+-- less is left unsaid
+pub less_unsaid : (f g : ℕ → Target → ℕ) (plan : Plan) (at : ℕ → Option EdgePort) (past : List Entry) (from_hosts out : List (List Item)) (many : ℕ) (owed : ℕ → Target → ℕ) →
+    ((r : ℕ) (there : Target) → g r there ≤ f r there) → ReachOnce f plan at past from_hosts out many owed → ReachOnce g plan at past from_hosts out many owed
+less_unsaid f g plan at past from_hosts out many owed less c = record {
+  standing = c.standing;
+  unbegun = c.unbegun;
+  once = λ r there. omega (arith, c.once r there, less r there);
+}
+
 -- a host moves
-pub note_moved : (plan : Plan) (at later : ℕ → Option EdgePort) (past : List Entry) (from_hosts out : List (List Item)) (many : ℕ) (g : ℕ → Target → ℕ)
+pub note_moved : (unsaid : ℕ → Target → ℕ) (plan : Plan) (at later : ℕ → Option EdgePort) (past : List Entry) (from_hosts out : List (List Item)) (many : ℕ) (g : ℕ → Target → ℕ)
     (h : HostNo) (e : SwitchNo) (port : ℕ) → ((x : ℕ) → later x ≡ (if h.0 == x then Some (at_port e.0 port) else at x)) →
-    ReachOnce plan at past from_hosts out many g → ReachOnce plan later (Moved h e port ∷ past) from_hosts out many g
-note_moved plan at later past from_hosts out many g h e port moved c = record {
+    ReachOnce unsaid plan at past from_hosts out many g → ReachOnce unsaid plan later (Moved h e port ∷ past) from_hosts out many g
+note_moved unsaid plan at later past from_hosts out many g h e port moved c = record {
   standing = λ x. ap (λ o. if◌then◌else◌ {A = Option EdgePort} (h.0 == x) (Some (at_port e.0 port)) o) (c.standing x) ∙ sym (moved x);
   unbegun = c.unbegun;
   once = c.once;

@@ -1,6 +1,7 @@
 pub mod Queued
 pub mod PortsApart
 pub mod Changing
+pub mod GoingOut
 pub mod TravelChanges
 pub mod Spreading
 pub mod Acting
@@ -13,3 +14,10 @@ pub mod Consequences
 pub mod Failures
 pub mod Tables
 pub mod GoingAlone
+pub mod Waiting
+pub mod Sparing
+pub mod Untouched
+pub mod StandingApart
+pub mod Hops
+pub mod ExactWays
+pub mod ExactRuns

@@ -84,7 +84,7 @@ live_before k live (link ∷ links) s port is =
 moved : (x : LivePorts) (s port a b : ℕ) → s ≡ a → port ≡ b → is_live_at x s port ≡ true → is_live_at x a b ≡ true
 moved x s port a b sa pb on = subst (λ n. is_live_at x a n ≡ true) pb (subst (λ n. is_live_at x n port ≡ true) sa on)
 
-at_end : (live : LivePorts) (link : Link) (s port : ℕ) → IsAt link s port → is_live_at (with_link live link false) s port ≡ true → ⊥
+pub at_end : (live : LivePorts) (link : Link) (s port : ℕ) → IsAt link s port → is_live_at (with_link live link false) s port ≡ true → ⊥
 at_end live link s port (inl low) is = low_out live link (moved (with_link live link false) s port link.lower.0 link.lower_port (sym low.0) (sym low.1) is)
 at_end live link s port (inr high) is = high_out live link (moved (with_link live link false) s port link.upper.0 link.upper_port (sym high.0) (sym high.1) is)
 

@@ -1,6 +1,6 @@
 -- How many frames of queues pass a test: where an item is put, a head is taken, a queue is emptied, and where the test changes for a frame that
 -- is not there.
-use Rattle.std.proofs.Common.{◌≡◌, ℕ, zero, suc, ◌+◌, ◌≤◌, ◌==◌, Bool, true, false, if◌then◌else◌, List, [], ◌∷◌, ◌++◌, get_or, set, refl, sym, ap, ◌∙◌, arith, inl, inr}
+use Rattle.std.proofs.Common.{◌≡◌, ℕ, zero, suc, ◌+◌, ◌≤◌, ◌==◌, ◌&&◌, Bool, true, false, if◌then◌else◌, List, [], ◌∷◌, ◌++◌, get_or, set, refl, sym, ap, ◌∙◌, arith, inl, inr}
 use Rattle.std.proofs.lemmas.Bool.{cases_Bool, cond-false, cond-true, eqb-false, ne_eqb}
 use Rattle.pl_world.specs.declared.item.Item.{Item}
 use Rattle.pl_world.specs.declared.item.Item.TheVariants.{Control, Data}
@@ -44,6 +44,23 @@ count_all-take test queues n item items is =
 
 pub count_all-empty : (test : ℕ → ℕ → List ℕ → Bool) (queues : List (List Item)) (n : ℕ) → count_all test (set queues n []) ≤ count_all test queues
 count_all-empty test queues n = omega (arith, count_all-set test queues n [])
+
+-- one queue among all
+pub count_all-one : (test : ℕ → ℕ → List ℕ → Bool) (queues : List (List Item)) (n : ℕ) → count_in (test n) (get_or queues n []) ≤ count_all test queues
+count_all-one test [] n = omega arith
+count_all-one test (queue ∷ queues) zero = omega arith
+count_all-one test (queue ∷ queues) (suc n) = omega (arith, count_all-one (λ i. test (suc i)) queues n)
+
+-- a further test that each passes
+pub count_in-and : (p : ℕ → List ℕ → Bool) (b : Bool) → b ≡ true → (items : List Item) → count_in p items ≤ count_in (λ id frame. p id frame && b) items
+count_in-and p b is [] = omega arith
+count_in-and p b is (Control frame ∷ items) = count_in-and p b is items
+count_in-and p b is (Data id frame ∷ items) = by (p id frame) b is (count_in p items) (count_in (λ g f. p g f && b) items) (count_in-and p b is items)
+  where
+    by : (a b : Bool) → b ≡ true → (m n : ℕ) → m ≤ n → (if a then suc m else m) ≤ (if a && b then suc n else n)
+    by true true is m n less = omega (arith, less)
+    by true false is m n less = absurd (cc is)
+    by false b is m n less = less
 
 -- tests that agree but for one frame
 count_in-same : (p q : ℕ → List ℕ → Bool) (c : ℕ) → ((id : ℕ) (frame : List ℕ) → (c == id) ≡ false → p id frame ≡ q id frame) →

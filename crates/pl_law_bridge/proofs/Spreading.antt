@@ -9,14 +9,13 @@ use Rattle.pl_wiring.specs.Peers.{peer_of}
 use Rattle.pl_wiring.specs.Plan.{IsPlan, Plan}
 use Rattle.pl_wiring.proofs.Exports.{number_of-label_of}
 use Rattle.pl_journal.specs.declared.cause.Cause.TheVariants.{NoNextHop}
-use Rattle.pl_journal.specs.Places.{EdgePort}
 use Rattle.pl_node.specs.declared.acts.Act.{Act}
 use Rattle.pl_node.specs.declared.acts.Act.TheVariants as act
 use Rattle.pl_bridge_rule.specs.BridgeRule.{goes_on, other_ports}
 use Rattle.pl_bridge_rule.specs.Tree.{is_tree_link, leads_to}
 use Rattle.pl_bridge_rule.proofs.Exports.{apart, joined_leads, not_here, within}
-use Rattle.pl_law_bridge.specs.Reaching.{Target, is_crossing_of, may_reach, may_reach_by, switch_at}
-use Rattle.pl_law_bridge.specs.Reaching.Target.{Arrival, Crossing}
+use Rattle.pl_law_bridge.specs.Reaching.{Target, is_crossing_of, is_port_at, may_reach, may_reach_by, switch_at}
+use Rattle.pl_law_bridge.specs.Reaching.Target.{Arrival, Crossing, Departure}
 use Rattle.pl_law_bridge.proofs.Changing.{claim, claim_at_most_one}
 use Rattle.pl_law_bridge.proofs.PortsApart.{CountsAlone, one_only, one_port, sum_of}
 
@@ -45,25 +44,38 @@ claim_none plan t p x is = cond-false (may_reach_by plan t p x) 1 0 is
 
 -- a port by which a target is reached: itself, or one that leads to it
 data Leads (plan : Plan) (t p : ℕ) (x : Target) : Type 0 where
-  Itself : (there : EdgePort) → peer_of plan t p ≡ HostPort → x ≡ Arrival there → t ≡ there.edge → p ≡ there.port → Leads plan t p x
+  Itself : peer_of plan t p ≡ HostPort → is_port_at t p x ≡ true → Leads plan t p x
   Over : (to : SwitchNo) (at : ℕ) → peer_of plan t p ≡ Switch to at → leads_to (label_of plan.k t) (label_of plan.k to.0) (label_of plan.k (switch_at x)) ≡ true → Leads plan t p x
 
 leads_by : (plan : Plan) (t p : ℕ) (x : Target) → may_reach_by plan t p x ≡ true → Leads plan t p x
 leads_by plan t p x is = by_peer (peer_of plan t p) refl x is
   where
     by_peer : (o : Peer) → peer_of plan t p ≡ o → (x : Target) → may_reach_by plan t p x ≡ true → Leads plan t p x
-    by_peer HostPort e (Crossing y) is = absurd (false≢true (sym (ap (λ o. may_reach plan.k t p o (Crossing y)) e) ∙ is))
-    by_peer HostPort e (Arrival there) is =
-        let both = and_parts (t == there.edge) (p == there.port) (sym (ap (λ o. may_reach plan.k t p o (Arrival there)) e) ∙ is) in
-        Itself there e refl (eqb-true t there.edge both.0) (eqb-true p there.port both.1)
+    by_peer HostPort e x is = Itself e (sym (ap (λ o. may_reach plan.k t p o x) e) ∙ is)
     by_peer (Switch u r) e x is = Over u r e (sym (ap (λ o. may_reach plan.k t p o x) e) ∙ is)
 
-same_arrival : (a b : EdgePort) → Arrival a ≡ Arrival b → a ≡ b
-same_arrival a b e = ap edge_port e
-  where
-    edge_port : Target → EdgePort
-    edge_port (Crossing x) = a
-    edge_port (Arrival there) = there
+-- of a port that is the target
+at_switch : (t p : ℕ) (x : Target) → is_port_at t p x ≡ true → t ≡ switch_at x
+at_switch t p (Crossing y) is = absurd (false≢true is)
+at_switch t p (Arrival there) is = eqb-true t there.edge (and_parts (t == there.edge) (p == there.port) is).0
+at_switch t p (Departure there) is = eqb-true t there.edge (and_parts (t == there.edge) (p == there.port) is).0
+
+same_port : (t p r : ℕ) (x : Target) → is_port_at t p x ≡ true → is_port_at t r x ≡ true → p ≡ r
+same_port t p r (Crossing y) is also = absurd (false≢true is)
+same_port t p r (Arrival there) is also =
+    eqb-true p there.port (and_parts (t == there.edge) (p == there.port) is).1 ∙ sym (eqb-true r there.port (and_parts (t == there.edge) (r == there.port) also).1)
+same_port t p r (Departure there) is also =
+    eqb-true p there.port (and_parts (t == there.edge) (p == there.port) is).1 ∙ sym (eqb-true r there.port (and_parts (t == there.edge) (r == there.port) also).1)
+
+no_crossing : (t p : ℕ) (x : Target) → is_port_at t p x ≡ true → is_crossing_of t x ≡ true → ⊥
+no_crossing t p (Crossing y) is crossing = false≢true is
+no_crossing t p (Arrival there) is crossing = false≢true crossing
+no_crossing t p (Departure there) is crossing = false≢true crossing
+
+crossing_at : (t : ℕ) (x : Target) → is_crossing_of t x ≡ true → t ≡ switch_at x
+crossing_at t (Crossing n) is = eqb-true t n is
+crossing_at t (Arrival there) is = absurd (false≢true is)
+crossing_at t (Departure there) is = absurd (false≢true is)
 
 module _ (plan : Plan) (is_plan : IsPlan plan) (t : ℕ) (x : Target) where
   -- what leads over a link does not lead to the switch itself
@@ -72,9 +84,9 @@ module _ (plan : Plan) (is_plan : IsPlan plan) (t : ℕ) (x : Target) where
       false≢true (sym (not_here (label_of plan.k t) (label_of plan.k to.0)) ∙ ap (λ n. leads_to (label_of plan.k t) (label_of plan.k to.0) (label_of plan.k n)) same ∙ leads)
 
   two_ways : (p r : ℕ) → Leads plan t p x → Leads plan t r x → p ≡ r
-  two_ways p r (Itself there e is s at) (Itself other f also u by) = at ∙ ap (λ (n : EdgePort). n.port) (same_arrival there other (sym is ∙ also)) ∙ sym by
-  two_ways p r (Itself there e is s at) (Over to q f leads) = absurd (not_back to (s ∙ sym (ap switch_at is)) leads)
-  two_ways p r (Over to q f leads) (Itself there e is s at) = absurd (not_back to (s ∙ sym (ap switch_at is)) leads)
+  two_ways p r (Itself e is) (Itself f also) = same_port t p r x is also
+  two_ways p r (Itself e is) (Over to q f leads) = absurd (not_back to (at_switch t p x is) leads)
+  two_ways p r (Over to q f leads) (Itself e is) = absurd (not_back to (at_switch t r x is) leads)
   two_ways p r (Over to q f leads) (Over u o g also) =
       one_port plan is_plan t p r q o to u f g
       (same_switch plan.k to.0 u.0 (apart (label_of plan.k t) (label_of plan.k to.0) (label_of plan.k u.0) (label_of plan.k (switch_at x)) leads also))
@@ -108,12 +120,8 @@ module _ (plan : Plan) (is_plan : IsPlan plan) (t : ℕ) (x : Target) where
         by_case on (inr never) = (let none = claim_none plan t out x never in omega arith)
 
     not_itself : (p : ℕ) → is_crossing_of t x ≡ true → Leads plan t p x → ⊥
-    not_itself p same (Itself there e is s at) = false≢true (sym (ap (is_crossing_of t) is) ∙ same)
-    not_itself p same (Over to r e leads) = not_back to (crossing_at x same) leads
-      where
-        crossing_at : (y : Target) → is_crossing_of t y ≡ true → t ≡ switch_at y
-        crossing_at (Crossing s) is = eqb-true t s is
-        crossing_at (Arrival there) is = absurd (false≢true is)
+    not_itself p same (Itself e is) = no_crossing t p x is same
+    not_itself p same (Over to r e leads) = not_back to (crossing_at t x same) leads
 
     -- the switch itself, and what its acts let go, are within what might have come
     module _ (bound : ℕ) (o : Option ℕ) (itself : is_crossing_of t x ≡ true → 1 ≤ bound) (some : (p : ℕ) → not (p == q) ≡ true → may_reach_by plan t p x ≡ true → 1 ≤ bound) where
@@ -139,14 +147,10 @@ pub over_link_few : (plan : Plan) → IsPlan plan → (s port : ℕ) (t from : S
     peer_of plan s port ≡ Switch t q → peer_of plan t.0 q ≡ Switch from port → is_tree_link (label_of plan.k s) (label_of plan.k t.0) ≡ true →
     here t.0 x + used plan t.0 x (goes_on plan.k q frame o) ≤ claim plan s port x
 over_link_few plan is_plan s port t from q frame o x itself peer back adjacent =
-    crossed_and_used plan is_plan t.0 x q frame (claim plan s port x) o (λ same. at_itself (crossing_at x same)) (λ p other may. on p other (leads_by plan t.0 p x may))
+    crossed_and_used plan is_plan t.0 x q frame (claim plan s port x) o (λ same. at_itself (crossing_at t.0 x same)) (λ p other may. on p other (leads_by plan t.0 p x may))
   where
     leads : leads_to (label_of plan.k s) (label_of plan.k t.0) (label_of plan.k t.0) ≡ true
     leads = joined_leads (label_of plan.k s) (label_of plan.k t.0) adjacent
-
-    crossing_at : (y : Target) → is_crossing_of t.0 y ≡ true → t.0 ≡ switch_at y
-    crossing_at (Crossing n) is = eqb-true t.0 n is
-    crossing_at (Arrival there) is = absurd (false≢true is)
 
     least : leads_to (label_of plan.k s) (label_of plan.k t.0) (label_of plan.k (switch_at x)) ≡ true → 1 ≤ claim plan s port x
     least is = (let one = claim_one plan s port x (ap (λ o. may_reach plan.k s port o x) peer ∙ is) in omega arith)
@@ -155,7 +159,7 @@ over_link_few plan is_plan s port t from q frame o x itself peer back adjacent =
     at_itself same = least (ap (λ n. leads_to (label_of plan.k s) (label_of plan.k t.0) (label_of plan.k n)) (sym same) ∙ leads)
 
     on : (p : ℕ) → not (p == q) ≡ true → Leads plan t.0 p x → 1 ≤ claim plan s port x
-    on p other (Itself there e is same at) = at_itself (same ∙ sym (ap switch_at is))
+    on p other (Itself e is) = at_itself (at_switch t.0 p x is)
     on p other (Over to r e far) = least (within (label_of plan.k s) (label_of plan.k t.0) (label_of plan.k to.0) (label_of plan.k (switch_at x)) far
         (λ same. absurd (let back_again : p ≡ q = one_port plan is_plan t.0 p q r port to from e back (same_switch plan.k to.0 from.0 (sym same ∙ ap (label_of plan.k) (sym itself))) in
         false≢true (sym (ap not (eq-eqb p q back_again)) ∙ other)))

@@ -3,6 +3,7 @@ use Rattle.std.proofs.Common.{◌≡◌, ℕ, zero, suc, ◌+◌, ◌/◌, ◌%�
 use Rattle.std.specs.List.{AllByRecursion}
 use Rattle.std.proofs.lemmas.Bool.{cases_Bool, cond-false, cond-true, eq-eqb, eqb-true, ne_eqb}
 use Rattle.std.proofs.lemmas.Nat.{div-mul-add, mod-mul-add}
+use Rattle.std.proofs.lemmas.Option.{none-some}
 use Rattle.pl_lemmas.proofs.Exports.{all_append, all_weaker}
 use Rattle.pl_wiring.specs.declared.host.HostNo.{HostNo}
 use Rattle.pl_wiring.specs.declared.label.SwitchNo.{SwitchNo}
@@ -17,7 +18,7 @@ use Rattle.pl_world.specs.declared.item.Item.{Item}
 use Rattle.pl_world.specs.declared.item.Item.TheVariants.{Control, Data}
 use Rattle.pl_world.specs.Flying.{times_in, times_in_all}
 use Rattle.pl_bridge_rule.specs.Tree.{is_tree_link}
-use Rattle.pl_law_bridge.specs.Travelling.{AreAdjacentInTree, ArriveAsSent, ArrivesAsSent, IsUnderWay, LeadsOverTree, Travel, WaitsAtHost, WaitsAtPort}
+use Rattle.pl_law_bridge.specs.Travelling.{AreAdjacentInTree, ArriveAsSent, ArrivesAsSent, copies_made, IsUnderWay, LeadsOverTree, Travel, WaitsAtHost, WaitsAtPort}
 use Rattle.pl_law_bridge.proofs.Changing.{IsIdle}
 
 -- another queue at one place
@@ -51,11 +52,12 @@ but_one P Q c control data_too (Data id frame ∷ items) none all = elim (cases_
 
 -- a frame is on its way as before, where the journal says the same of it
 pub still_under_way : (past next : List Entry) (many more : ℕ) (last : Option ℕ) (id : ℕ) (frame : List ℕ) → many ≤ more → beginning next id ≡ beginning past id →
-    trail next id ≡ trail past id → IsUnderWay past many last id frame → IsUnderWay next more last id frame
-still_under_way past next many more last id frame le bytes crossed is = record {
+    trail next id ≡ trail past id → (first_of (trail past id) ≡ None → copies_made next id ≡ copies_made past id) → IsUnderWay past many last id frame → IsUnderWay next more last id frame
+still_under_way past next many more last id frame le bytes crossed copies is = record {
   begun = (let b = is.begun in omega (arith, b, le));
   bytes = is.bytes ∙ sym bytes;
   crossed = ap first_of crossed ∙ is.crossed;
+  single = λ none. copies (is.crossed ∙ none) ∙ is.single none;
 }
 
 module _ (plan : Plan) where
@@ -82,6 +84,7 @@ module _ (plan : Plan) where
       Travel plan past from_hosts out many → Travel plan past from_hosts (set out n items) many
   set_port past from_hosts out many n items all t = record {
     new = t.new;
+    uncopied = t.uncopied;
     at_hosts = t.at_hosts;
     at_ports = set_kept (WaitsAtPort plan past many) out n items t.at_ports all;
     adjacent = t.adjacent;
@@ -104,6 +107,7 @@ module _ (plan : Plan) where
       Travel plan past from_hosts out many → Travel plan past (set from_hosts h items) out many
   set_host past from_hosts out many h items all t = record {
     new = t.new;
+    uncopied = t.uncopied;
     at_hosts = set_kept (λ n. WaitsAtHost past many) from_hosts h items t.at_hosts all;
     at_ports = t.at_ports;
     adjacent = t.adjacent;
@@ -125,10 +129,12 @@ module _ (plan : Plan) where
   -- ---- entries
   -- what the journal says later of the frames that have begun is what it said before
   travel_on : (past next : List Entry) (from_hosts out : List (List Item)) (many more : ℕ) → many ≤ more → ((id : ℕ) → id ≤ many → beginning next id ≡ beginning past id) →
-      ((id : ℕ) → id ≤ many → trail next id ≡ trail past id) → ((id : ℕ) → more < id → trail next id ≡ []) → ((id : ℕ) → AreAdjacentInTree plan.k (trail next id)) →
+      ((id : ℕ) → id ≤ many → trail next id ≡ trail past id) → ((id : ℕ) → first_of (trail past id) ≡ None → copies_made next id ≡ copies_made past id) →
+      ((id : ℕ) → more < id → trail next id ≡ []) → ((id : ℕ) → more < id → copies_made next id ≡ 0) → ((id : ℕ) → AreAdjacentInTree plan.k (trail next id)) →
       ArriveAsSent plan next → Travel plan past from_hosts out many → Travel plan next from_hosts out more
-  travel_on past next from_hosts out many more le bytes crossed new adjacent arrived t = record {
+  travel_on past next from_hosts out many more le bytes crossed copies new uncopied adjacent arrived t = record {
     new = new;
+    uncopied = uncopied;
     at_hosts = λ h. all_weaker (WaitsAtHost past many) (WaitsAtHost next more) at_host (items_at from_hosts h) (t.at_hosts h);
     at_ports = λ n. all_weaker (WaitsAtPort plan past many n) (WaitsAtPort plan next more n) (at_port n) (items_at out n) (t.at_ports n);
     adjacent = adjacent;
@@ -137,11 +143,11 @@ module _ (plan : Plan) where
     where
       at_host : (item : Item) → WaitsAtHost past many item → WaitsAtHost next more item
       at_host (Control frame) is = tt
-      at_host (Data id frame) is = still_under_way past next many more None id frame le (bytes id is.begun) (crossed id is.begun) is
+      at_host (Data id frame) is = still_under_way past next many more None id frame le (bytes id is.begun) (crossed id is.begun) (copies id) is
 
       at_port : (n : ℕ) (item : Item) → WaitsAtPort plan past many n item → WaitsAtPort plan next more n item
       at_port n (Control frame) is = tt
-      at_port n (Data id frame) is = (is.0, still_under_way past next many more (Some (n / plan.k)) id frame le (bytes id is.1.begun) (crossed id is.1.begun) is.1)
+      at_port n (Data id frame) is = (is.0, still_under_way past next many more (Some (n / plan.k)) id frame le (bytes id is.1.begun) (crossed id is.1.begun) (copies id) is.1)
 
   pub travel_idle : (past : List Entry) (from_hosts out : List (List Item)) (many : ℕ) (e : Entry) → IsIdle e → Travel plan past from_hosts out many →
       Travel plan (e ∷ past) from_hosts out many
@@ -151,57 +157,65 @@ module _ (plan : Plan) where
   travel_idle past from_hosts out many (Crossed id s) idle t = absurd idle
   travel_idle past from_hosts out many (Arrived id h frame) idle t = absurd idle
   travel_idle past from_hosts out many (Moved h s port) idle t = absurd idle
-  travel_idle past from_hosts out many (Line n) idle t = travel_on past (Line n ∷ past) from_hosts out many many (omega arith) (λ g le. refl) (λ g le. refl) t.new t.adjacent t.arrived t
-  travel_idle past from_hosts out many (Skipped h skip) idle t = travel_on past (Skipped h skip ∷ past) from_hosts out many many (omega arith) (λ g le. refl) (λ g le. refl) t.new t.adjacent t.arrived t
-  travel_idle past from_hosts out many (Redirected id old new) idle t = travel_on past (Redirected id old new ∷ past) from_hosts out many many (omega arith) (λ g le. refl) (λ g le. refl) t.new t.adjacent t.arrived t
-  travel_idle past from_hosts out many (Taken id s) idle t = travel_on past (Taken id s ∷ past) from_hosts out many many (omega arith) (λ g le. refl) (λ g le. refl) t.new t.adjacent t.arrived t
-  travel_idle past from_hosts out many (Dropped id why) idle t = travel_on past (Dropped id why ∷ past) from_hosts out many many (omega arith) (λ g le. refl) (λ g le. refl) t.new t.adjacent t.arrived t
-  travel_idle past from_hosts out many (Granted x h e p) idle t = travel_on past (Granted x h e p ∷ past) from_hosts out many many (omega arith) (λ g le. refl) (λ g le. refl) t.new t.adjacent t.arrived t
-  travel_idle past from_hosts out many (Registered x n) idle t = travel_on past (Registered x n ∷ past) from_hosts out many many (omega arith) (λ g le. refl) (λ g le. refl) t.new t.adjacent t.arrived t
-  travel_idle past from_hosts out many (Placed s place) idle t = travel_on past (Placed s place ∷ past) from_hosts out many many (omega arith) (λ g le. refl) (λ g le. refl) t.new t.adjacent t.arrived t
-  travel_idle past from_hosts out many (LinkDown x y) idle t = travel_on past (LinkDown x y ∷ past) from_hosts out many many (omega arith) (λ g le. refl) (λ g le. refl) t.new t.adjacent t.arrived t
-  travel_idle past from_hosts out many (LinkUp x y) idle t = travel_on past (LinkUp x y ∷ past) from_hosts out many many (omega arith) (λ g le. refl) (λ g le. refl) t.new t.adjacent t.arrived t
-  travel_idle past from_hosts out many (Settled n) idle t = travel_on past (Settled n ∷ past) from_hosts out many many (omega arith) (λ g le. refl) (λ g le. refl) t.new t.adjacent t.arrived t
-  travel_idle past from_hosts out many (Unsettled n) idle t = travel_on past (Unsettled n ∷ past) from_hosts out many many (omega arith) (λ g le. refl) (λ g le. refl) t.new t.adjacent t.arrived t
+  travel_idle past from_hosts out many (Line n) idle t = travel_on past (Line n ∷ past) from_hosts out many many (omega arith) (λ g le. refl) (λ g le. refl) (λ g le. refl) t.new t.uncopied t.adjacent t.arrived t
+  travel_idle past from_hosts out many (Skipped h skip) idle t = travel_on past (Skipped h skip ∷ past) from_hosts out many many (omega arith) (λ g le. refl) (λ g le. refl) (λ g le. refl) t.new t.uncopied t.adjacent t.arrived t
+  travel_idle past from_hosts out many (Redirected id old new) idle t = travel_on past (Redirected id old new ∷ past) from_hosts out many many (omega arith) (λ g le. refl) (λ g le. refl) (λ g le. refl) t.new t.uncopied t.adjacent t.arrived t
+  travel_idle past from_hosts out many (Taken id s) idle t = travel_on past (Taken id s ∷ past) from_hosts out many many (omega arith) (λ g le. refl) (λ g le. refl) (λ g le. refl) t.new t.uncopied t.adjacent t.arrived t
+  travel_idle past from_hosts out many (Dropped id why) idle t = travel_on past (Dropped id why ∷ past) from_hosts out many many (omega arith) (λ g le. refl) (λ g le. refl) (λ g le. refl) t.new t.uncopied t.adjacent t.arrived t
+  travel_idle past from_hosts out many (Granted x h e p) idle t = travel_on past (Granted x h e p ∷ past) from_hosts out many many (omega arith) (λ g le. refl) (λ g le. refl) (λ g le. refl) t.new t.uncopied t.adjacent t.arrived t
+  travel_idle past from_hosts out many (Registered x n) idle t = travel_on past (Registered x n ∷ past) from_hosts out many many (omega arith) (λ g le. refl) (λ g le. refl) (λ g le. refl) t.new t.uncopied t.adjacent t.arrived t
+  travel_idle past from_hosts out many (Placed s place) idle t = travel_on past (Placed s place ∷ past) from_hosts out many many (omega arith) (λ g le. refl) (λ g le. refl) (λ g le. refl) t.new t.uncopied t.adjacent t.arrived t
+  travel_idle past from_hosts out many (LinkDown x y) idle t = travel_on past (LinkDown x y ∷ past) from_hosts out many many (omega arith) (λ g le. refl) (λ g le. refl) (λ g le. refl) t.new t.uncopied t.adjacent t.arrived t
+  travel_idle past from_hosts out many (LinkUp x y) idle t = travel_on past (LinkUp x y ∷ past) from_hosts out many many (omega arith) (λ g le. refl) (λ g le. refl) (λ g le. refl) t.new t.uncopied t.adjacent t.arrived t
+  travel_idle past from_hosts out many (Settled n) idle t = travel_on past (Settled n ∷ past) from_hosts out many many (omega arith) (λ g le. refl) (λ g le. refl) (λ g le. refl) t.new t.uncopied t.adjacent t.arrived t
+  travel_idle past from_hosts out many (Unsettled n) idle t = travel_on past (Unsettled n ∷ past) from_hosts out many many (omega arith) (λ g le. refl) (λ g le. refl) (λ g le. refl) t.new t.uncopied t.adjacent t.arrived t
 
   pub travel_moved : (past : List Entry) (from_hosts out : List (List Item)) (many : ℕ) (h : HostNo) (s : SwitchNo) (port : ℕ) → Travel plan past from_hosts out many →
       Travel plan (Moved h s port ∷ past) from_hosts out many
   travel_moved past from_hosts out many h s port t =
-      travel_on past (Moved h s port ∷ past) from_hosts out many many (omega arith) (λ g le. refl) (λ g le. refl) t.new t.adjacent t.arrived t
+      travel_on past (Moved h s port ∷ past) from_hosts out many many (omega arith) (λ g le. refl) (λ g le. refl) (λ g le. refl) t.new t.uncopied t.adjacent t.arrived t
 
   -- a frame arrives with the bytes with which it waited
   pub travel_arrived : (past : List Entry) (from_hosts out : List (List Item)) (many id : ℕ) (h : HostNo) (frame : List ℕ) → ArrivesAsSent plan past id h.0 frame →
       Travel plan past from_hosts out many → Travel plan (Arrived id h frame ∷ past) from_hosts out many
   travel_arrived past from_hosts out many id h frame same t =
-      travel_on past (Arrived id h frame ∷ past) from_hosts out many many (omega arith) (λ g le. refl) (λ g le. refl) t.new t.adjacent (same, t.arrived) t
+      travel_on past (Arrived id h frame ∷ past) from_hosts out many many (omega arith) (λ g le. refl) (λ g le. refl) (λ g le. refl) t.new t.uncopied t.adjacent (same, t.arrived) t
 
   -- a frame begins at a host
   pub travel_sent : (past : List Entry) (from_hosts out : List (List Item)) (many : ℕ) (h : HostNo) (frame : List ℕ) → Travel plan past from_hosts out many →
       Travel plan (Sent (many + 1) h frame ∷ past) from_hosts out (many + 1) × IsUnderWay (Sent (many + 1) h frame ∷ past) (many + 1) None (many + 1) frame
   travel_sent past from_hosts out many h frame t = (
     travel_on past (Sent (many + 1) h frame ∷ past) from_hosts out many (many + 1) (omega arith)
-        (λ g le. cond-false ((many + 1) == g) frame (beginning past g) (ne_eqb (many + 1) g (λ is. absurd (omega (arith, is, le))))) (λ g le. refl)
-        (λ g later. t.new g (omega (arith, later))) t.adjacent t.arrived t,
+        (λ g le. cond-false ((many + 1) == g) frame (beginning past g) (ne_eqb (many + 1) g (λ is. absurd (omega (arith, is, le))))) (λ g le. refl) (λ g le. refl)
+        (λ g later. t.new g (omega (arith, later))) (λ g later. t.uncopied g (omega (arith, later))) t.adjacent t.arrived t,
     record {
       begun = omega arith;
       bytes = sym (cond-true ((many + 1) == (many + 1)) frame (beginning past (many + 1)) (eq-eqb (many + 1) (many + 1) refl));
       crossed = ap first_of (t.new (many + 1) (omega arith));
+      single = λ none. t.uncopied (many + 1) (omega arith);
     },
   )
 
   -- a frame is copied: the copy has its way and its bytes
-  pub travel_copied : (past : List Entry) (from_hosts out : List (List Item)) (many id : ℕ) (last : Option ℕ) (frame : List ℕ) → IsUnderWay past many last id frame →
+  pub travel_copied : (past : List Entry) (from_hosts out : List (List Item)) (many id last : ℕ) (frame : List ℕ) → IsUnderWay past many (Some last) id frame →
       Travel plan past from_hosts out many →
-      Travel plan (Copied id (many + 1) ∷ past) from_hosts out (many + 1) × (IsUnderWay (Copied id (many + 1) ∷ past) (many + 1) last (many + 1) frame
-      × IsUnderWay (Copied id (many + 1) ∷ past) (many + 1) last id frame)
+      Travel plan (Copied id (many + 1) ∷ past) from_hosts out (many + 1) × (IsUnderWay (Copied id (many + 1) ∷ past) (many + 1) (Some last) (many + 1) frame
+      × IsUnderWay (Copied id (many + 1) ∷ past) (many + 1) (Some last) id frame)
   travel_copied past from_hosts out many id last frame is t = (
     travel_on past (Copied id (many + 1) ∷ past) from_hosts out many (many + 1) (omega arith) (λ g le. ap (beginning past) (other g (λ same. absurd (omega (arith, same, le)))))
-        (λ g le. ap (trail past) (other g (λ same. absurd (omega (arith, same, le)))))
+        (λ g le. ap (trail past) (other g (λ same. absurd (omega (arith, same, le))))) not_copied
         (λ g later. ap (trail past) (other g (λ same. absurd (omega (arith, same, later)))) ∙ t.new g (omega (arith, later)))
+        (λ g later. of_another g (λ same. absurd (let b = is.begun in omega (arith, b, same, later))) ∙ t.uncopied g (omega (arith, later)))
         (λ g. t.adjacent (before_copy id (many + 1) g)) t.arrived t,
     (
-      record { begun = omega arith; bytes = is.bytes ∙ sym (ap (beginning past) copy); crossed = ap (λ g. first_of (trail past g)) copy ∙ is.crossed },
-      still_under_way past (Copied id (many + 1) ∷ past) many (many + 1) last id frame (omega arith) (ap (beginning past) itself) (ap (trail past) itself) is,
+      record {
+        begun = omega arith;
+        bytes = is.bytes ∙ sym (ap (beginning past) copy);
+        crossed = ap (λ g. first_of (trail past g)) copy ∙ is.crossed;
+        single = λ none. absurd (none-some last (sym none));
+      },
+      still_under_way past (Copied id (many + 1) ∷ past) many (many + 1) (Some last) id frame (omega arith) (ap (beginning past) itself) (ap (trail past) itself)
+          (λ none. absurd (none-some last (sym none ∙ is.crossed))) is,
     ),
   )
     where
@@ -214,6 +228,12 @@ module _ (plan : Plan) where
       itself : before_copy id (many + 1) id ≡ id
       itself = other id (λ same. absurd (let b = is.begun in omega (arith, b, same)))
 
+      of_another : (g : ℕ) → (id ≡ g → ⊥) → copies_made (Copied id (many + 1) ∷ past) g ≡ copies_made past g
+      of_another g apart = cond-false (id == g) (suc (copies_made past g)) (copies_made past g) (ne_eqb id g apart)
+
+      not_copied : (g : ℕ) → first_of (trail past g) ≡ None → copies_made (Copied id (many + 1) ∷ past) g ≡ copies_made past g
+      not_copied g none = of_another g (λ same. absurd (none-some last (sym none ∙ ap (λ x. first_of (trail past x)) (sym same) ∙ is.crossed)))
+
   -- a frame that waits nowhere crosses a switch to which its way leads on
   pub travel_crossed : (past : List Entry) (from_hosts out : List (List Item)) (many id : ℕ) (s : SwitchNo) (last : Option ℕ) (frame : List ℕ) → times_in_all id from_hosts ≡ 0 →
       times_in_all id out ≡ 0 → ((t : ℕ) → last ≡ Some t → is_tree_link (label_of plan.k s.0) (label_of plan.k t) ≡ true) → IsUnderWay past many last id frame →
@@ -221,13 +241,14 @@ module _ (plan : Plan) where
   travel_crossed past from_hosts out many id s last frame not_at_hosts not_out leads is t = (
     record {
       new = λ g later. others g (λ same. absurd (let b = is.begun in omega (arith, b, later, same))) ∙ t.new g later;
+      uncopied = t.uncopied;
       at_hosts = λ h. but_one (WaitsAtHost past many) (WaitsAtHost (Crossed id s ∷ past) many) id (λ f. tt)
-          (λ g f apart waits. still_under_way past (Crossed id s ∷ past) many many None g f (omega arith) refl (cond-false (id == g) (s.0 ∷ trail past g) (trail past g) apart) waits)
+          (λ g f apart waits. still_under_way past (Crossed id s ∷ past) many many None g f (omega arith) refl (cond-false (id == g) (s.0 ∷ trail past g) (trail past g) apart) (λ none. refl) waits)
           (items_at from_hosts h) (none_at id from_hosts h not_at_hosts) (t.at_hosts h);
       at_ports = λ n. but_one (WaitsAtPort plan past many n) (WaitsAtPort plan (Crossed id s ∷ past) many n) id (λ f. tt)
           (λ g f apart waits. (
             waits.0,
-            still_under_way past (Crossed id s ∷ past) many many (Some (n / plan.k)) g f (omega arith) refl (cond-false (id == g) (s.0 ∷ trail past g) (trail past g) apart) waits.1,
+            still_under_way past (Crossed id s ∷ past) many many (Some (n / plan.k)) g f (omega arith) refl (cond-false (id == g) (s.0 ∷ trail past g) (trail past g) apart) (λ none. refl) waits.1,
           ))
           (items_at out n) (none_at id out n not_out) (t.at_ports n);
       adjacent = λ g. elim (cases_Bool (id == g)) [
@@ -237,7 +258,12 @@ module _ (plan : Plan) where
       ];
       arrived = t.arrived;
     },
-    record { begun = is.begun; bytes = is.bytes; crossed = ap first_of (cond-true (id == id) (s.0 ∷ trail past id) (trail past id) (eq-eqb id id refl)) },
+    record {
+      begun = is.begun;
+      bytes = is.bytes;
+      crossed = ap first_of (cond-true (id == id) (s.0 ∷ trail past id) (trail past id) (eq-eqb id id refl));
+      single = λ none. absurd (none-some s.0 (sym none));
+    },
   )
     where
       others : (g : ℕ) → (id ≡ g → ⊥) → trail (Crossed id s ∷ past) g ≡ trail past g

@@ -1,5 +1,5 @@
--- How many frames of one root reached a target, and how many may still reach it: a switch that they cross, or a port for hosts where they arrive. The
--- entries that are past have the newest first.
+-- How many frames of one root reached a target, and how many may still reach it: a switch that they cross, a port for hosts where they arrive, or one
+-- out of which they go. The entries that are past have the newest first.
 use Rattle.std.specs.Prelude.{◌≡◌, ◌≤◌, ◌<◌, ℕ, ◌+◌, ◌/◌, ◌%◌, ◌==◌, ◌&&◌, suc, Bool, false, if◌then◌else◌, List, [], ◌∷◌, Option, reverse, slice_get}
 use Rattle.std.specs.Option.{option_map}
 use Rattle.pl_wiring.specs.declared.link.Peer.{Peer}
@@ -8,7 +8,7 @@ use Rattle.pl_wiring.specs.Labels.{label_of}
 use Rattle.pl_wiring.specs.Peers.{peer_of}
 use Rattle.pl_wiring.specs.Plan.{Plan}
 use Rattle.pl_journal.specs.declared.entry.Entry.{Entry}
-use Rattle.pl_journal.specs.declared.entry.Entry.TheVariants.{Arrived, Crossed}
+use Rattle.pl_journal.specs.declared.entry.Entry.TheVariants.{Arrived, Crossed, Moved}
 use Rattle.pl_journal.specs.Flights.{root}
 use Rattle.pl_journal.specs.Places.{EdgePort, at_port, edge_port_of, is_at, same_edge_port}
 use Rattle.pl_world.specs.declared.attachment.AttachmentPoint.{AttachmentPoint}
@@ -21,15 +21,18 @@ use Rattle.pl_law_bridge.specs.Counting.{count_all, has_root}
 pub data Target : Type 0 where
   Crossing : ℕ → Target
   Arrival : EdgePort → Target
+  Departure : EdgePort → Target
 
 -- the switch that is crossed, or to which the port belongs
 abbrev pub switch_at : Target → ℕ
 switch_at (Crossing x) = x
 switch_at (Arrival there) = there.edge
+switch_at (Departure there) = there.edge
 
 abbrev pub is_port_at : ℕ → ℕ → Target → Bool
 is_port_at s port (Crossing x) = false
 is_port_at s port (Arrival there) = same_edge_port (at_port s port) there
+is_port_at s port (Departure there) = same_edge_port (at_port s port) there
 
 -- whether a frame that leaves by a port, with this at its other end, may reach a target
 abbrev pub may_reach : ℕ → ℕ → ℕ → Peer → Target → Bool
@@ -50,12 +53,14 @@ still_to_reach plan past from_hosts out r target = count_all (λ h. has_root pas
 abbrev pub is_crossing_of : ℕ → Target → Bool
 is_crossing_of s (Crossing x) = s == x
 is_crossing_of s (Arrival there) = false
+is_crossing_of s (Departure there) = false
 
 abbrev pub is_arrival_at : Option EdgePort → Target → Bool
 is_arrival_at from (Crossing x) = false
 is_arrival_at from (Arrival there) = is_at from there
+is_arrival_at from (Departure there) = false
 
--- how often frames of this root reached a target
+-- how often frames of this root reached a target, as the journal says it; of what goes out of ports it does not speak
 abbrev pub times_reached : Plan → List Entry → ℕ → Target → ℕ
 times_reached plan [] r target = 0
 times_reached plan (Crossed id s ∷ past) r target =
@@ -64,17 +69,28 @@ times_reached plan (Arrived id h frame ∷ past) r target =
     if (root past id == r) && is_arrival_at (edge_port_of plan past h.0) target then suc (times_reached plan past r target) else times_reached plan past r target
 times_reached plan (entry ∷ past) r target = times_reached plan past r target
 
+-- how many frames of this root a host got since it moved last
+abbrev pub got_since_move : List Entry → ℕ → ℕ → ℕ
+got_since_move [] r h = 0
+got_since_move (Arrived id g frame ∷ past) r h = if (root past id == r) && (g.0 == h) then suc (got_since_move past r h) else got_since_move past r h
+got_since_move (Moved g e p ∷ past) r h = if g.0 == h then 0 else got_since_move past r h
+got_since_move (entry ∷ past) r h = got_since_move past r h
+
 -- where hosts stand
 abbrev pub standing : List AttachmentPoint → ℕ → Option EdgePort
 standing attachments h = option_map (λ (attachment : AttachmentPoint). at_port attachment.edge.0 attachment.port) (slice_get attachments h)
 
--- The journal has hosts where they stand. Of each root the frames that reached a target, that may still reach it and that are owed are at most one,
--- and none of a root that has not begun.
-pub record ReachOnce (plan : Plan) (at : ℕ → Option EdgePort) (past : List Entry) (from_hosts out : List (List Item)) (many : ℕ) (owed : ℕ → Target → ℕ) : Type 0 where
+-- The journal has hosts where they stand. Of each root the frames that reached a target, by the journal or unsaid there, that may still reach it and that
+-- are owed are at most one, and none of a root that has not begun.
+pub record ReachOnce (unsaid : ℕ → Target → ℕ) (plan : Plan) (at : ℕ → Option EdgePort) (past : List Entry) (from_hosts out : List (List Item)) (many : ℕ) (owed : ℕ → Target → ℕ) : Type 0 where
   pub standing : (h : ℕ) → edge_port_of plan past h ≡ at h
   pub unbegun : (id : ℕ) → many < id → root past id ≡ id
-  pub once : (r : ℕ) (target : Target) → still_to_reach plan past from_hosts out r target + owed r target + times_reached plan past r target ≤ born r many
+  pub once : (r : ℕ) (target : Target) → still_to_reach plan past from_hosts out r target + owed r target + times_reached plan past r target + unsaid r target ≤ born r many
+
+-- nothing is left unsaid
+abbrev pub nothing_unsaid : ℕ → Target → ℕ
+nothing_unsaid r target = 0
 
 -- So it is in a world, where nothing is owed.
 abbrev pub ReachesOnce : WorldView → Type 0
-ReachesOnce w = ReachOnce w.plan (standing w.attachments) (reverse w.journal) w.from_hosts w.out w.begun (λ r target. 0)
+ReachesOnce w = ReachOnce nothing_unsaid w.plan (standing w.attachments) (reverse w.journal) w.from_hosts w.out w.begun (λ r target. 0)

@@ -8,7 +8,7 @@ use Rattle.pl_wiring.specs.Labels.{label_of}
 use Rattle.pl_wiring.specs.Peers.{peer_of}
 use Rattle.pl_wiring.specs.Plan.{Plan}
 use Rattle.pl_journal.specs.declared.entry.Entry.{Entry}
-use Rattle.pl_journal.specs.declared.entry.Entry.TheVariants.{Arrived}
+use Rattle.pl_journal.specs.declared.entry.Entry.TheVariants.{Arrived, Copied}
 use Rattle.pl_journal.specs.Flights.{beginning, first_of, trail}
 use Rattle.pl_journal.specs.Lossy.{mac_of_host}
 use Rattle.pl_layouts.specs.Memberships.{is_group}
@@ -23,11 +23,18 @@ use Rattle.pl_bridge_rule.specs.Tree.{is_tree_link}
 abbrev pub LeadsOverTree : Plan → ℕ → ℕ → Type 0
 LeadsOverTree plan s port = (t : SwitchNo) (q : ℕ) → peer_of plan s port ≡ Switch t q → is_tree_link (label_of plan.k s) (label_of plan.k t.0) ≡ true
 
--- A frame that has begun, with the bytes that it began with; where it crossed a switch, this was the last one.
+-- how many copies were made of a frame, and not of its copies
+abbrev pub copies_made : List Entry → ℕ → ℕ
+copies_made [] id = 0
+copies_made (Copied g c ∷ past) id = if g == id then suc (copies_made past id) else copies_made past id
+copies_made (entry ∷ past) id = copies_made past id
+
+-- A frame that has begun, with the bytes that it began with; where it crossed a switch, this was the last one, and else it was not copied.
 pub record IsUnderWay (past : List Entry) (many : ℕ) (last : Option ℕ) (id : ℕ) (frame : List ℕ) : Type 0 where
   pub begun : id ≤ many
   pub bytes : frame ≡ beginning past id
   pub crossed : first_of (trail past id) ≡ last
+  pub single : last ≡ None → copies_made past id ≡ 0
 
 -- what waits at a host has crossed no switch
 abbrev pub WaitsAtHost : List Entry → ℕ → Item → Type 0
@@ -62,6 +69,7 @@ ArriveAsSent plan (entry ∷ past) = ArriveAsSent plan past
 
 pub record Travel (plan : Plan) (past : List Entry) (from_hosts out : List (List Item)) (many : ℕ) : Type 0 where
   pub new : (id : ℕ) → many < id → trail past id ≡ []
+  pub uncopied : (id : ℕ) → many < id → copies_made past id ≡ 0
   pub at_hosts : (h : ℕ) → AllByRecursion (WaitsAtHost past many) (items_at from_hosts h)
   pub at_ports : (n : ℕ) → AllByRecursion (WaitsAtPort plan past many n) (items_at out n)
   pub adjacent : (id : ℕ) → AreAdjacentInTree plan.k (trail past id)

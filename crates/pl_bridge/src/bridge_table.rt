@@ -3,8 +3,8 @@ ghost use Rattle.std.specs.List.{filter};
 ghost use Rattle.pl_members.specs.Reached.{AreMembersAtPorts, IsMac};
 ghost use Rattle.pl_bridge_rule.specs.BridgeRule.{is_entry_of, learns, port_among, stands_at, table_entry};
 
-use crate::ranked::Ranked;
 use pl_frame::Mac;
+use pl_members::RankedMember;
 use pl_node::{Member, Memory};
 use std::alloc::Global;
 use std::collections::BTreeSet;
@@ -14,7 +14,7 @@ use std::marker::Model;
 /// rising.
 #[derive(Debug, Drop)]
 pub struct BridgeTable {
-    learnt: BTreeSet<Ranked>,
+    learnt: BTreeSet<RankedMember>,
 }
 
 impl Model for BridgeTable {
@@ -68,7 +68,7 @@ impl BridgeTable {
 }
 
 // An address is at no port.
-fn forget(learnt: &mut BTreeSet<Ranked>, mac: Mac)
+fn forget(learnt: &mut BTreeSet<RankedMember>, mac: Mac)
     requires { AreMembersAtPorts learnt.old.keys }
     ensures keys { learnt.new.keys ≡ filter (λ m. not (is_entry_of mac m)) learnt.old.keys }
     ensures at_ports { AreMembersAtPorts learnt.new.keys }
@@ -78,11 +78,11 @@ fn forget(learnt: &mut BTreeSet<Ranked>, mac: Mac)
     }
 }
 
-fn entry(port: u8, mac: Mac) -> Ranked
+fn entry(port: u8, mac: Mac) -> RankedMember
     ensures entry { result ≡ table_entry port mac }
     ensures mac { IsMac mac }
 {
-    Ranked::new(Member {
+    RankedMember::new(Member {
         group: 0,
         port,
         amac: mac,

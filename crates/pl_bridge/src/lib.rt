@@ -13,6 +13,5 @@ mod bridge_switch;
 mod bridge_table;
 mod flooding;
 mod quiet_manager;
-mod ranked;
 mod receiving;
 mod table_laws;

@@ -112,7 +112,7 @@ fn has_its_parts<S: SwitchFacts, M: ManagerLogic>(manager: &M, switch: &S) -> bo
 fn is_same_list(a: &AvoidList, b: &AvoidList) -> bool
     ensures { IsTrue result ↔ (a.now ≡ b.now) }
 {
-    a.as_slice() == b.as_slice()
+    a.is(b)
 }
 
 fn is_told<S: SwitchFacts, M: ManagerLogic>(manager: &M, switch: &S) -> bool

@@ -89,15 +89,21 @@ fn is_list_of(lists: &Lists, switch: SwitchId, list: &AvoidList) -> bool
     ensures { result ≡ same_avoid_list list.now (unwrap_or (value_at id_cmp lists.now.entries switch) []) }
 {
     match lists.get(&switch) {
-        Some(other) => is_same(list.as_slice(), other.as_slice()),
-        None => is_same(list.as_slice(), &[]),
+        Some(other) => is_same(list, other),
+        None => is_none(list),
     }
 }
 
-fn is_same(a: &[(SwitchId, u16, u8)], b: &[(SwitchId, u16, u8)]) -> bool
+fn is_same(a: &AvoidList, b: &AvoidList) -> bool
     ensures { result ≡ same_avoid_list a.now b.now }
 {
-    a == b
+    a.is(b)
+}
+
+fn is_none(list: &AvoidList) -> bool
+    ensures { result ≡ same_avoid_list list.now [] }
+{
+    list.is_empty()
 }
 
 /// The list of a switch, if it has one.

@@ -28,13 +28,13 @@ pub fn load_inputs<S: Shelf>(
     shelf: &mut S,
     files: &Files<'_>,
 ) -> Result<Inputs, Status>
-    ensures ok { IfOk result (λ i. AreRead (S.held shelf.old) (asked files.now) (inputs_of i)) }
-    ensures err { IfErr result (λ e. IsUnread (S.held shelf.old) (asked files.now) e) }
-    ensures same { Same (S.held shelf.old) (S.held shelf.new) }
-    ensures reads { Reads result (S.read_faults shelf.old) (S.read_faults shelf.new) }
-    ensures writes { S.write_faults shelf.new ≡ S.write_faults shelf.old }
+    ensures ok { IfOk result (λ i. AreRead (S.moment shelf.old).held (asked files.now) (inputs_of i)) }
+    ensures err { IfErr result (λ e. IsUnread (S.moment shelf.old).held (asked files.now) e) }
+    ensures same { Same (S.moment shelf.old).held (S.moment shelf.new).held }
+    ensures reads { Reads result (S.moment shelf.old).read_faults (S.moment shelf.new).read_faults }
+    ensures writes { (S.moment shelf.new).write_faults ≡ (S.moment shelf.old).write_faults }
     ensures capacity { S.capacity shelf.new ≡ S.capacity shelf.old }
-    ensures unpromised { IfErr result (λ e. IsUnpromised (S.capacity shelf.new) (S.held shelf.new) e) }
+    ensures unpromised { IfErr result (λ e. IsUnpromised (S.capacity shelf.new) (S.moment shelf.new).held e) }
 {
     let wiring = load_wiring(alloc, shelf, files.topology)?;
     let script = load_script(alloc, shelf, files.script, &wiring)?;

@@ -45,7 +45,7 @@ use Rattle.pl_law_addresses.proofs.TurnQueues.{Parts, one_quiet, parts_of}
 use Rattle.pl_law_addresses.proofs.Entries.{IsNoAddressEntry}
 use Rattle.pl_law_addresses.specs.GrantedOnce.{times_granted}
 use Rattle.pl_law_addresses.specs.InOrder.{AddressesAreInOrder}
-use Rattle.pl_law_addresses.proofs.Turns.{InOrder}
+use Rattle.pl_law_addresses.proofs.TurnsKeepAddresses.{InOrder}
 
 -- ---- a step, and a run
 pub mark_quiet : (e : Entry) → IsMark e → IsNoAddressEntry e

@@ -17,7 +17,7 @@ use Rattle.pl_node.specs.ManagerViews.{Registration}
 use Rattle.pl_law_addresses.specs.OwnAddresses.{IsOwnIp}
 use Rattle.pl_law_addresses.specs.Registries.{IsGoodRegistry, Registry}
 use Rattle.pl_law_addresses.specs.EdgeAddresses.{Edge, IsGoodEdge, IsGoodOrder, IsGoodWord, IsRegisteredHere, recalls, tells, tells_ip}
-use Rattle.pl_law_addresses.proofs.Changes.{KeepsRegistered, leads_kept}
+use Rattle.pl_law_addresses.proofs.ChangesKeepAddresses.{KeepsRegistered, leads_kept}
 use Rattle.pl_law_addresses.proofs.Registering.{HearsAgain, HearsIp, HearsNew, new_or_old}
 
 -- what waits to the manager, once a word was taken: what is missing is known

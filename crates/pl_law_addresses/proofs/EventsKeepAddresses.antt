@@ -49,7 +49,7 @@ use Rattle.pl_law_addresses.proofs.OwnHosts.{own_frame, shorter_own}
 use Rattle.pl_law_addresses.proofs.SwitchSteps.{Brings, IsOfHost, brings_frame, brings_order, brings_tick}
 use Rattle.pl_law_addresses.proofs.TurnQueues.{Parts, one_quiet, parts_of}
 use Rattle.pl_law_addresses.proofs.Entries.{IsNoAddressEntry, quiet_ends, quiet_times}
-use Rattle.pl_law_addresses.proofs.Turns.{InOrder, delivers_to_manager, exists_at, filled_within, host_turn, switch_turn}
+use Rattle.pl_law_addresses.proofs.TurnsKeepAddresses.{InOrder, delivers_to_manager, exists_at, filled_within, host_turn, switch_turn}
 
 -- what is known of the forms of a world
 pub record Facts (w : WorldView) : Type 0 where

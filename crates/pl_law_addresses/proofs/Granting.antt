@@ -25,9 +25,9 @@ use Rattle.pl_switch_rule.proofs.Exports.{granted_parts}
 use Rattle.pl_law_addresses.specs.OwnAddresses.{IsOwnIp}
 use Rattle.pl_law_addresses.specs.Registries.{Registry}
 use Rattle.pl_law_addresses.specs.EdgeAddresses.{IsGoodAddressTable, edge_of, is_settled, tells, tells_ip}
-use Rattle.pl_law_addresses.proofs.Words.{any_before, any_behind}
-use Rattle.pl_law_addresses.proofs.Changes.{changed, keeps_grantees}
-use Rattle.pl_law_addresses.proofs.Numbers.{IsInUse, granted_here, local_here, none_used, now_at, number_past, number_push_other, number_push_same, number_set_other, number_set_same, number_within, others_at, used_is}
+use Rattle.pl_law_addresses.proofs.AddressLemmas.{any_before, any_behind}
+use Rattle.pl_law_addresses.proofs.ChangesKeepAddresses.{changed, keeps_grantees}
+use Rattle.pl_law_addresses.proofs.GrantsByNumber.{IsInUse, granted_here, local_here, none_used, now_at, number_past, number_push_other, number_push_same, number_set_other, number_set_same, number_within, others_at, used_is}
 use Rattle.pl_law_addresses.proofs.RowsLeaveAddresses.{Good, Grows, Keeps, keeps_either, keeps_then, rests_keeps}
 
 -- ---- the lists of a switch

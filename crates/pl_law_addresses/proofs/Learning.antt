@@ -32,11 +32,11 @@ use Rattle.pl_law_addresses.specs.OwnAddresses.{IsOwnIp, own_ip}
 use Rattle.pl_law_addresses.specs.Registries.{IsGoodRegistry, Registry, registry_of}
 use Rattle.pl_law_addresses.specs.EdgeAddresses.{Edge, IsGoodEdge, IsGoodOrder, IsGoodWord, IsGrantedTo, IsRegisteredHere, edge_of, recalls, tells, tells_ip}
 use Rattle.pl_law_addresses.specs.Addressed.{AreAddressed, AreApart}
-use Rattle.pl_law_addresses.proofs.Changes.{KeepsRegistered, orders_kept}
+use Rattle.pl_law_addresses.proofs.ChangesKeepAddresses.{KeepsRegistered, orders_kept}
 use Rattle.pl_law_addresses.proofs.EdgeHears.{IsTakenFrom, again_current, again_here, heard_good, new_current, nothing_taken, word_taken}
 use Rattle.pl_law_addresses.proofs.Registering.{HearsAgain, HearsIp, HearsNew, again, again_good, again_grows, first, hears_ip, new_good, new_grows, new_or_old}
-use Rattle.pl_law_addresses.proofs.Saying.{Extra, IsSaid, all_said, place_is, place_only, said_at, said_extra, said_flat_map, said_map, said_stays}
-use Rattle.pl_law_addresses.proofs.Words.{any_before, any_behind, any_rest}
+use Rattle.pl_law_addresses.proofs.SaidByManager.{Extra, IsSaid, all_said, place_is, place_only, said_at, said_extra, said_flat_map, said_map, said_stays}
+use Rattle.pl_law_addresses.proofs.AddressLemmas.{any_before, any_behind, any_rest}
 
 -- ---- acts that recall nothing
 module _ (plan : Plan) (own : Mac → Option Ip4) (n : Registry) (switches : List SwitchView) where

@@ -1,6 +1,6 @@
-pub mod Words
-pub mod Changes
-pub mod Numbers
+pub mod AddressLemmas
+pub mod ChangesKeepAddresses
+pub mod GrantsByNumber
 pub mod RowsLeaveAddresses
 pub mod Granting
 pub mod Asides
@@ -12,10 +12,10 @@ pub mod Entries
 pub mod TurnQueues
 pub mod Registering
 pub mod EdgeHears
-pub mod Saying
+pub mod SaidByManager
 pub mod Learning
 pub mod OwnHosts
-pub mod Turns
+pub mod TurnsKeepAddresses
 pub mod EventsKeepAddresses
 pub mod AddressesInRuns
 pub mod OwnRuns

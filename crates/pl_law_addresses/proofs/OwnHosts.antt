@@ -29,7 +29,7 @@ use Rattle.pl_law_addresses.specs.OwnAddresses.{IsOwnIp, own_ip}
 use Rattle.pl_law_addresses.specs.OwnFrames.{AreOwnHosts, IsOwnHost, IsOwnItem}
 use Rattle.pl_law_addresses.proofs.Registering.{found_if_any}
 use Rattle.pl_law_addresses.proofs.TurnQueues.{all_put, items_sent, put_here, put_there}
-use Rattle.pl_law_addresses.proofs.Words.{find_passes, find_place, get-set_other, get-set_same, one_index}
+use Rattle.pl_law_addresses.proofs.AddressLemmas.{find_passes, find_place, get-set_other, get-set_same, one_index}
 
 -- ---- what a frame of a host says of IPv4 addresses
 passes_somewhere : {X : Type 0} (p : X → Bool) (xs : List X) (i : ℕ) (x : X) → slice_get xs i ≡ Some x → p x ≡ true → (y : X) × (find p xs ≡ Some y)

@@ -31,7 +31,7 @@ use Rattle.pl_law_addresses.specs.OwnFrames.{AreOwnHosts, HostsAreOwn}
 use Rattle.pl_law_addresses.proofs.OwnHosts.{host_step_own, shorter_own}
 use Rattle.pl_law_addresses.proofs.AddressesInRuns.{boots_in_order}
 use Rattle.pl_law_addresses.proofs.TurnQueues.{Parts, host_parts}
-use Rattle.pl_law_addresses.proofs.Turns.{filled_within}
+use Rattle.pl_law_addresses.proofs.TurnsKeepAddresses.{filled_within}
 
 -- of hosts alone: what stays where their part stays
 pub record HostsPart : Type 0 where

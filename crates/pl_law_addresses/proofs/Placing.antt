@@ -28,9 +28,9 @@ use Rattle.pl_switch_rule.proofs.Exports.{all_range, none_granted}
 use Rattle.pl_law_addresses.specs.Registries.{Registry}
 use Rattle.pl_law_addresses.specs.EdgeAddresses.{KeepsGrantees, is_settled}
 use Rattle.pl_law_addresses.proofs.Asides.{changes_silent}
-use Rattle.pl_law_addresses.proofs.Changes.{orders_kept, words_kept}
+use Rattle.pl_law_addresses.proofs.ChangesKeepAddresses.{orders_kept, words_kept}
 use Rattle.pl_law_addresses.proofs.Granting.{keeps_grants_remembered}
-use Rattle.pl_law_addresses.proofs.Numbers.{settled_is}
+use Rattle.pl_law_addresses.proofs.GrantsByNumber.{settled_is}
 use Rattle.pl_law_addresses.proofs.RowsLeaveAddresses.{Good, Grows, LeavesAddresses, Keeps, aside_does, aside_keeps, grows_from, grows_then, keeps_either, keeps_then, rests_keeps, same_good, same_grantees, told_append, told_by}
 
 -- an address has this place

@@ -16,8 +16,8 @@ use Rattle.pl_manager_rule.specs.Histories.{Word, known, registered_after}
 use Rattle.pl_manager_rule.proofs.Exports.{ips_said, registrations_are_told}
 use Rattle.pl_law_addresses.specs.OwnAddresses.{IsOwnIp}
 use Rattle.pl_law_addresses.specs.Registries.{IsGoodRegistry, Registry, registry_of}
-use Rattle.pl_law_addresses.proofs.Changes.{KeepsRegistered}
-use Rattle.pl_law_addresses.proofs.Words.{is_or_other}
+use Rattle.pl_law_addresses.proofs.ChangesKeepAddresses.{KeepsRegistered}
+use Rattle.pl_law_addresses.proofs.AddressLemmas.{is_or_other}
 
 -- ---- lists
 module _ {X : Type 0} (p : X → Bool) where

@@ -23,7 +23,7 @@ use Rattle.pl_steps.specs.Steps.{SwitchStep, does, rests, ◌▹◌}
 use Rattle.pl_switch_rule.specs.Granting.{granted}
 use Rattle.pl_law_addresses.specs.Registries.{Registry}
 use Rattle.pl_law_addresses.specs.EdgeAddresses.{Edge, IsGoodAddressTable, IsGoodEdge, IsGoodWord, IsGrantedTo, KeepsGrantees, edge_of, is_settled}
-use Rattle.pl_law_addresses.proofs.Changes.{tells_more}
+use Rattle.pl_law_addresses.proofs.ChangesKeepAddresses.{tells_more}
 
 -- what acts tell the manager
 abbrev pub told_by : List Act → List ToManager

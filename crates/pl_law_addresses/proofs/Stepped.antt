@@ -16,10 +16,10 @@ use Rattle.pl_law_addresses.specs.OwnAddresses.{own_ip}
 use Rattle.pl_law_addresses.specs.Registries.{Registry, registry_of}
 use Rattle.pl_law_addresses.specs.EdgeAddresses.{IsGoodAddressTable, IsGoodEdge, edge_of, is_settled}
 use Rattle.pl_law_addresses.specs.Addressed.{AreAddressed, AreApart}
-use Rattle.pl_law_addresses.proofs.Numbers.{local_settled}
+use Rattle.pl_law_addresses.proofs.GrantsByNumber.{local_settled}
 use Rattle.pl_law_addresses.proofs.Placing.{IsUnknown, has_place}
 use Rattle.pl_law_addresses.proofs.RowsLeaveAddresses.{Good}
-use Rattle.pl_law_addresses.proofs.Words.{get-set_other, get-set_same}
+use Rattle.pl_law_addresses.proofs.AddressLemmas.{get-set_other, get-set_same}
 
 -- what waits at one place and at each other
 pub record Waits {T : Type 0} (before after : List (List T)) (s : ℕ) (items : List T) : Type 0 where

@@ -39,9 +39,9 @@ use Rattle.pl_law_addresses.specs.OwnAddresses.{IsOwnIp}
 use Rattle.pl_law_addresses.specs.Registries.{Registry}
 use Rattle.pl_law_addresses.specs.EdgeAddresses.{IsGoodRecall, edge_of, is_settled, recalls}
 use Rattle.pl_law_addresses.proofs.Asides.{floods_aside, makes_aside, proposal_aside, switch_frame_aside, takes_in_aside, ticks_aside}
-use Rattle.pl_law_addresses.proofs.Changes.{takes_order}
+use Rattle.pl_law_addresses.proofs.ChangesKeepAddresses.{takes_order}
 use Rattle.pl_law_addresses.proofs.Granting.{keeps_learns_source}
-use Rattle.pl_law_addresses.proofs.Numbers.{number_within}
+use Rattle.pl_law_addresses.proofs.GrantsByNumber.{number_within}
 use Rattle.pl_law_addresses.proofs.Placing.{IsUnknown, Steps, aside_steps, edge_placing, keeps_changes, keeps_steps, message_placing, pod_placing, steps_changes, steps_either, steps_then, vote_placing}
 use Rattle.pl_law_addresses.proofs.RowsLeaveAddresses.{Good, Grows, aside_does, aside_keeps, rests_keeps, told_by}
 use Rattle.pl_law_addresses.proofs.Trapping.{Invalidated, recall_good}

@@ -22,11 +22,11 @@ use Rattle.pl_law_addresses.specs.OwnAddresses.{IsOwnIp}
 use Rattle.pl_law_addresses.specs.Registries.{LeadsToNewer, Registry}
 use Rattle.pl_law_addresses.specs.EdgeAddresses.{IsGoodRecall, KeepsGrantees, edge_of, recalls}
 use Rattle.pl_law_addresses.proofs.Asides.{forgets_members_aside, probes_aside}
-use Rattle.pl_law_addresses.proofs.Changes.{changed, keeps_grantees}
+use Rattle.pl_law_addresses.proofs.ChangesKeepAddresses.{changed, keeps_grantees}
 use Rattle.pl_law_addresses.proofs.Granting.{address_table_with_grants}
-use Rattle.pl_law_addresses.proofs.Numbers.{local_settled, now_at, number_set_other, number_set_same, number_within, others_at}
+use Rattle.pl_law_addresses.proofs.GrantsByNumber.{local_settled, now_at, number_set_other, number_set_same, number_within, others_at}
 use Rattle.pl_law_addresses.proofs.RowsLeaveAddresses.{Good, Grows, LeavesAddresses, aside_keeps, aside_then, grows_aside, grows_from, told_by}
-use Rattle.pl_law_addresses.proofs.Words.{any_rest, other_turned}
+use Rattle.pl_law_addresses.proofs.AddressLemmas.{any_rest, other_turned}
 
 module _ (own : Mac → Option Ip4) (r : Registry) (id : Option SwitchId) (rest : List ToSwitch) (old new : Pmac) (number : ℕ) (ip : Option Ip4) where
   order : ToSwitch

@@ -31,11 +31,11 @@ use Rattle.pl_law_arrival.proofs.JustSent.{waits_since}
 use Rattle.pl_law_arrival.proofs.Following.{stays_written}
 use Rattle.pl_law_arrival.proofs.Orders.{run_is_orderly}
 use Rattle.pl_law_arrival.proofs.Ready.{Ready, net, stays_at_edge}
-use Rattle.pl_law_arrival.proofs.Staying.{Goes, goes_noted}
+use Rattle.pl_law_arrival.proofs.LeftByAStep.{Goes, goes_noted}
 use Rattle.pl_law_arrival.proofs.StepsInclude.{step_keeps}
 use Rattle.pl_law_arrival.proofs.Track.{IsOnTrack}
 use Rattle.pl_law_arrival.proofs.Track.OnTrack.{Came, Leaves, Under, Waits}
-use Rattle.pl_law_arrival.proofs.Turns.{keep}
+use Rattle.pl_law_arrival.proofs.SureFramesOnTrack.{keep}
 
 -- ---- a frame in a queue has not ended
 waits_once : (id : ℕ) (frame : List ℕ) (items : List Item) → IsAmong (Data id frame) items → 1 ≤ times_in id items

@@ -18,7 +18,7 @@ use Rattle.pl_manager_rule.proofs.Exports.{avoided_is_listed, listed_is_avoided,
 use Rattle.pl_switch_rule.specs.Granting.{is_local}
 use Rattle.pl_law_places.specs.Known.{pod_of}
 use Rattle.pl_law_arrival.specs.Ways.{AreLinked}
-use Rattle.pl_law_arrival.proofs.Words.{differ_not_same, not_both}
+use Rattle.pl_law_arrival.proofs.ArrivalLemmas.{differ_not_same, not_both}
 use Rattle.pl_law_arrival.proofs.Calm.{Calm, Net, fabric, here, there, told_alive}
 use Rattle.pl_journal.specs.Flights.{label_level}
 

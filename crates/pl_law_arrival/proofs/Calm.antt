@@ -19,7 +19,7 @@ use Rattle.pl_law_control_plane.specs.ControlPlanes.{AreAdjacent}
 use Rattle.pl_law_control_plane.proofs.Exports.{adjacent_there, adjacent_turned}
 use Rattle.pl_law_places.specs.Known.{HasAllGiven, IsPlaceOfLabel, pod_of}
 use Rattle.pl_law_arrival.specs.Ways.{AreLinked, Fabric, LeadsBy}
-use Rattle.pl_law_arrival.proofs.Words.{not_both}
+use Rattle.pl_law_arrival.proofs.ArrivalLemmas.{not_both}
 
 pub record Net : Type 0 where
   pub plan : Plan

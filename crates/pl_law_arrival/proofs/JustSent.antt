@@ -26,7 +26,7 @@ use Rattle.pl_world.specs.WorldRule.{HostTurn, ManagerTurn, SwitchTurn, WorldSte
 use Rattle.pl_world.specs.Worlds.{WorldView}
 use Rattle.pl_world.proofs.Exports.{empties_of, failed_left, manager_acts_left, moved_left, repaired_left, switch_acts_left, SwitchesWrite, Takes, Turned, turned, Writes}
 use Rattle.pl_world.proofs.Exports.Turned.{NoTurn, OfFailed, OfHost, OfManager, OfMoved, OfRepaired, OfSwitch}
-use Rattle.pl_law_arrival.proofs.Staying.{put_keeps, put_there}
+use Rattle.pl_law_arrival.proofs.LeftByAStep.{put_keeps, put_there}
 
 -- The frames that were sent since are in the queues of their hosts.
 abbrev pub WaitSince : List Entry → WorldView → Type 0

@@ -19,7 +19,7 @@ use Rattle.pl_world.specs.Changes.{is_failed_at}
 use Rattle.pl_world.specs.SwitchActs.{DuringActs, act_done, acts_done, begins, passed}
 use Rattle.pl_world.specs.WorldRule.{SwitchTurn}
 use Rattle.pl_world.specs.Worlds.{WorldView}
-use Rattle.pl_law_arrival.proofs.Staying.{Goes, goes_acts, goes_behind, goes_then, goes_views, put_there}
+use Rattle.pl_law_arrival.proofs.LeftByAStep.{Goes, goes_acts, goes_behind, goes_then, goes_views, put_there}
 
 -- acts that speak of no frame
 abbrev pub IsOfNoFrame : Act → Type 0

@@ -11,7 +11,7 @@ use Rattle.pl_node.specs.ManagerViews.{alive_at_level, alive_neighbours, has_lev
 use Rattle.pl_node.proofs.Exports.{among_filter, among_filtered, any_among, IsAmong, member_passes}
 use Rattle.pl_manager_rule.proofs.Exports.{near_usable}
 use Rattle.pl_law_arrival.specs.Ways.{AreLinked, IsLast, IsTop, LeadsDown}
-use Rattle.pl_law_arrival.proofs.Words.{known_other, not_both, up_at_one, up_at_two}
+use Rattle.pl_law_arrival.proofs.ArrivalLemmas.{known_other, not_both, up_at_one, up_at_two}
 use Rattle.pl_law_arrival.proofs.Calm.{Calm, Net, alive_leads, fabric, there, told_alive}
 
 module _ (n : Net) (calm : Calm n) where

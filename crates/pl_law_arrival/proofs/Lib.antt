@@ -1,13 +1,13 @@
-pub mod Staying
-pub mod Words
+pub mod LeftByAStep
+pub mod ArrivalLemmas
 pub mod Landing
 pub mod Calm
 pub mod Leading
 pub mod Avoiding
 pub mod RowsSendOn
 pub mod Starting
-pub mod Passing
-pub mod Entering
+pub mod SureFramesPassedOn
+pub mod SureFramesEnter
 pub mod Alike
 pub mod Track
 pub mod Ready
@@ -15,7 +15,7 @@ pub mod Onward
 pub mod Views
 pub mod Sending
 pub mod Hosting
-pub mod Turns
+pub mod SureFramesOnTrack
 pub mod StepsInclude
 pub mod Grounds
 pub mod Orders

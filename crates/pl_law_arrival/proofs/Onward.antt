@@ -45,15 +45,15 @@ use Rattle.pl_law_addresses.specs.Registered.{IsRegisteredBy}
 use Rattle.pl_law_arrival.specs.Ways.{Alike, HasPortOn, IsLast, IsTop, LeadsBy, fabric_of}
 use Rattle.pl_law_arrival.proofs.Alike.{still_by}
 use Rattle.pl_law_arrival.proofs.Calm.{place_of_port, turned}
-use Rattle.pl_law_arrival.proofs.Entering.{local_is_placed}
+use Rattle.pl_law_arrival.proofs.SureFramesEnter.{local_is_placed}
 use Rattle.pl_law_arrival.proofs.Landing.{AreOfNoFrame, lands}
-use Rattle.pl_law_arrival.proofs.Passing.{ComesWell, arrives_over_link, chosen, goes_by}
+use Rattle.pl_law_arrival.proofs.SureFramesPassedOn.{ComesWell, arrives_over_link, chosen, goes_by}
 use Rattle.pl_law_arrival.proofs.Ready.{Ready, at_edge, edge_within, free_port, home, index_within, live_port, local_there, net, no_trap, view_is}
 use Rattle.pl_law_arrival.proofs.RowsSendOn.{first_goes_on, last_goes_down, last_goes_up_and_down, top_goes_on}
 use Rattle.pl_law_arrival.proofs.Track.{IsHeaded, IsOnTrack, still_headed}
 use Rattle.pl_law_arrival.proofs.Track.IsHeaded.{FromEdge, FromFirst, FromLast, FromTop}
 use Rattle.pl_law_arrival.proofs.Track.OnTrack.{Leaves, Under}
-use Rattle.pl_law_arrival.proofs.Words.{known_other}
+use Rattle.pl_law_arrival.proofs.ArrivalLemmas.{known_other}
 
 some_is : {X : Type 0} (o : Option X) (y : X) → o ≡ Some y → is_none o ≡ false
 some_is o y e = ap is_none e

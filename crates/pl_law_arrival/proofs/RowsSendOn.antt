@@ -21,7 +21,7 @@ use Rattle.pl_law_control_plane.proofs.Exports.{adjacent_labels}
 use Rattle.pl_law_places.specs.Known.{pod_of}
 use Rattle.pl_law_places.proofs.Exports.{near_edge}
 use Rattle.pl_law_arrival.specs.Ways.{AreLinked, HasPortOn, IsOfOtherPod, IsLast, IsTop, LeadsBy, LeadsDown}
-use Rattle.pl_law_arrival.proofs.Words.{at_aggregation, at_core, at_edge, known_other, level_differs}
+use Rattle.pl_law_arrival.proofs.ArrivalLemmas.{at_aggregation, at_core, at_edge, known_other, level_differs}
 use Rattle.pl_law_arrival.proofs.Calm.{Calm, Net, back, fabric, here, id_of_port, place_of_port, port_here, port_usable, there, usable_leads}
 use Rattle.pl_law_arrival.proofs.Leading.{down_leads, leads_is_down, leads_is_top, top_leads}
 use Rattle.pl_law_arrival.proofs.Avoiding.{IsHome, edge_label, leads_unless, not_avoided, one_edge_pod}

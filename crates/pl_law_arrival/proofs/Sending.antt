@@ -41,14 +41,14 @@ use Rattle.pl_law_control_plane.proofs.Exports.{adjacent_there}
 use Rattle.pl_law_arrival.specs.Reach.{IsUnicastTo, Reaches}
 use Rattle.pl_law_addresses.specs.Registered.{IsRegisteredBy}
 use Rattle.pl_law_arrival.specs.Ways.{HasPortOn, LeadsDown, fabric_of}
-use Rattle.pl_law_arrival.proofs.Entering.{HasInUse, destination_kept, enters, length_kept, sends_home, sends_on}
+use Rattle.pl_law_arrival.proofs.SureFramesEnter.{HasInUse, destination_kept, enters, length_kept, sends_home, sends_on}
 use Rattle.pl_law_arrival.proofs.Landing.{AreOfNoFrame, lands, same_failed}
 use Rattle.pl_law_arrival.proofs.Onward.{host_address, host_mac, not_group}
-use Rattle.pl_law_arrival.proofs.Passing.{chosen}
+use Rattle.pl_law_arrival.proofs.SureFramesPassedOn.{chosen}
 use Rattle.pl_law_arrival.proofs.Ready.{Ready, at_edge, edge_is, edge_within, free_port, home, index_within, live_port, local_there, net, no_trap, one_edge, view_is}
 use Rattle.pl_law_arrival.proofs.RowsSendOn.{edge_goes_on}
 use Rattle.pl_law_arrival.proofs.Starting.{starts}
-use Rattle.pl_law_arrival.proofs.Staying.{Goes, goes_switch}
+use Rattle.pl_law_arrival.proofs.LeftByAStep.{Goes, goes_switch}
 use Rattle.pl_law_arrival.proofs.Track.{IsOnTrack}
 use Rattle.pl_law_arrival.proofs.Track.IsHeaded.{FromEdge}
 use Rattle.pl_law_arrival.proofs.Track.OnTrack.{Leaves, Under}

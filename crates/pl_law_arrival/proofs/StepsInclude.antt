@@ -54,10 +54,10 @@ use Rattle.pl_law_arrival.specs.Ways.{Alike, fabric_of}
 use Rattle.pl_law_arrival.proofs.Alike.{alike_by_manager, alike_by_views, one_of_both}
 use Rattle.pl_law_arrival.proofs.Hosting.{somebody}
 use Rattle.pl_law_arrival.proofs.Ready.{Ready, at_edge, net, stays_at_edge}
-use Rattle.pl_law_arrival.proofs.Staying.{Goes, goes_beside, goes_host, goes_lost, goes_manager, goes_skip, goes_switch, goes_then}
+use Rattle.pl_law_arrival.proofs.LeftByAStep.{Goes, goes_beside, goes_host, goes_lost, goes_manager, goes_skip, goes_switch, goes_then}
 use Rattle.pl_law_arrival.proofs.Track.{IsOnTrack, OnTrack, split_out, still_on}
 use Rattle.pl_law_arrival.proofs.Track.OnTrack.{Came, Leaves, Under, Waits}
-use Rattle.pl_law_arrival.proofs.Turns.{comes_in_goes, comes_over_goes, from_host, keep, out_of_port}
+use Rattle.pl_law_arrival.proofs.SureFramesOnTrack.{comes_in_goes, comes_over_goes, from_host, keep, out_of_port}
 
 -- ---- what is not refused
 

@@ -18,7 +18,7 @@ use Rattle.pl_world.specs.Worlds.{WorldView}
 use Rattle.pl_law_arrival.specs.Reach.{IsUnicastTo}
 use Rattle.pl_law_arrival.specs.Ways.{Alike, Fabric, IsLast, IsTop, LeadsBy, LeadsDown, fabric_of}
 use Rattle.pl_law_arrival.proofs.Alike.{from_there, still_by, still_down, still_last, still_level, still_top}
-use Rattle.pl_law_arrival.proofs.Staying.{left_over}
+use Rattle.pl_law_arrival.proofs.LeftByAStep.{left_over}
 
 -- Between switches s and u on its way to edge switch t: from an edge switch to one from which a way leads down; from an aggregation switch to
 -- such a core switch; from a core switch to the last one; from the last one to t.

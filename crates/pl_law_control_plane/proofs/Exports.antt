@@ -6,8 +6,8 @@ pub use Rattle.pl_law_control_plane.proofs.Reading.{grant_writable, ldm_writable
 pub use Rattle.pl_law_control_plane.proofs.Silent.{changes_to_silent, changes_told_still, IsSilent, IsStill, learns_source_silent, mute_sends_none, silent_then, still_does, still_mute, still_step, well_passes}
 pub use Rattle.pl_law_control_plane.proofs.SilentFrames.{comes_from_switch_silent}
 pub use Rattle.pl_law_control_plane.proofs.SilentHosts.{answers_silent, floods_silent, invalidates_silent, takes_in_or_spent_silent}
-pub use Rattle.pl_law_control_plane.proofs.Standing.{hosts_at_first}
-pub use Rattle.pl_law_control_plane.proofs.Staying.{plan_stays}
+pub use Rattle.pl_law_control_plane.proofs.HostsAtEdgePorts.{hosts_at_first}
+pub use Rattle.pl_law_control_plane.proofs.HostsStayWithoutMoves.{plan_stays}
 pub use Rattle.pl_law_control_plane.proofs.StepsOfPlane.{step_in_plane, whole_step}
 pub use Rattle.pl_law_control_plane.proofs.Taking.{nothing_left}
-pub use Rattle.pl_law_control_plane.proofs.Turning.{solid, switch_turns}
+pub use Rattle.pl_law_control_plane.proofs.TurnsInControlPlane.{solid, switch_turns}

@@ -20,8 +20,8 @@ use Rattle.pl_wiring.specs.Plan.{Plan}
 use Rattle.pl_world.proofs.Exports.{booted_is_counted, marked_counted, step_is_counted}
 use Rattle.pl_law_control_plane.specs.ControlPlanes.{control_plane}
 use Rattle.pl_law_control_plane.specs.HostsAtEdges.{HostsAtEdges}
-use Rattle.pl_law_control_plane.proofs.Standing.{hosts_at_first}
-use Rattle.pl_law_control_plane.proofs.Staying.{plan_stays, step_attachments}
+use Rattle.pl_law_control_plane.proofs.HostsAtEdgePorts.{hosts_at_first}
+use Rattle.pl_law_control_plane.proofs.HostsStayWithoutMoves.{plan_stays, step_attachments}
 use Rattle.pl_law_control_plane.proofs.StepsOfPlane.{step_in_plane}
 
 module _ (switch : SwitchRule) (manager : ManagerRule) (host : HostRule) (accounts : AccountsForFrames switch) (sends : HostsSendData host) where

@@ -21,7 +21,7 @@ use Rattle.pl_law_control_plane.specs.Ids.{HasIds}
 use Rattle.pl_law_control_plane.specs.PlaneSteps.{IsLeft, PlaneStep, SwitchTurns}
 use Rattle.pl_law_control_plane.specs.PlaneSteps.PlaneStep.{Carried, Entered, Heard, Left, Managed, Ordered, Ticked}
 use Rattle.pl_law_control_plane.proofs.KeptInRuns.{kept_in_run, step_keeps_hosts}
-use Rattle.pl_law_control_plane.proofs.Standing.{hosts_at_first}
+use Rattle.pl_law_control_plane.proofs.HostsAtEdgePorts.{hosts_at_first}
 use Rattle.pl_law_control_plane.proofs.StepsOfPlane.{step_in_plane}
 
 ids_left : (f g : ControlPlane) → IsLeft f g → HasIds f → HasIds g

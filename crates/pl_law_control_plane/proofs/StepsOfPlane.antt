@@ -43,7 +43,7 @@ use Rattle.pl_law_control_plane.specs.PlaneSteps.{IsLeft, PlaneStep, SwitchTurns
 use Rattle.pl_law_control_plane.specs.PlaneSteps.PlaneStep.{Carried, Entered, Heard, Left, Managed, Ordered, Ticked}
 use Rattle.pl_law_control_plane.proofs.Managing.{manager_turns}
 use Rattle.pl_law_control_plane.proofs.Taking.{cut_out, data_first, item_taken, left_then, nothing_left, order_taken, report_taken}
-use Rattle.pl_law_control_plane.proofs.Turning.{IsSolid, solid, switch_turns}
+use Rattle.pl_law_control_plane.proofs.TurnsInControlPlane.{IsSolid, solid, switch_turns}
 
 -- what is asked of the world before a step
 pub record IsReady (w : WorldView) : Type 0 where

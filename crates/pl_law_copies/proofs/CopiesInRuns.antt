@@ -35,9 +35,9 @@ use Rattle.pl_world.specs.Worlds.{WorldView}
 use Rattle.pl_world.proofs.Exports.{born_none, born_once, counted as to_counted, event_is_not_refused, same_refusal, sound}
 use Rattle.pl_law_copies.specs.Copies.{ComesOnce, came_to, comes_from_place, count_all, count_in, has_root, may_come, may_come_by, standing}
 use Rattle.pl_law_copies.specs.Standing.{KnowTrees}
-use Rattle.pl_law_copies.proofs.Changing.{claim, of_root, one_there}
+use Rattle.pl_law_copies.proofs.CopiesInSmallChanges.{claim, of_root, one_there}
 use Rattle.pl_law_copies.proofs.Happening.{happens_once, noted_once}
-use Rattle.pl_law_copies.proofs.Queued.{count_in-cons}
+use Rattle.pl_law_copies.proofs.CopiesInQueues.{count_in-cons}
 
 -- At the beginning.
 

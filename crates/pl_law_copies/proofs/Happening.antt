@@ -55,10 +55,10 @@ use Rattle.pl_world.proofs.Exports.{all_at, all_found, failed_left, Happened, ha
 use Rattle.pl_world.proofs.Exports.Happened.{Asked, Departed, Failed, FromHost, Lost, Ordered, OutOfPort, OverLink, PlayedFrame, Repaired, Reported, Ticked}
 use Rattle.pl_law_copies.specs.Copies.{ComeOnce, ComesOnce, standing}
 use Rattle.pl_law_copies.specs.Standing.{KnowTrees}
-use Rattle.pl_law_copies.proofs.Acting.{MakesFew, in_hand, note_all, of_root_less, used}
-use Rattle.pl_law_copies.proofs.Changing.{IsNoCopyEntry, arrive_one, claim, empty_host, empty_out, note_moved, note_quiet, of_root, take_any, take_host, take_out, weaker}
+use Rattle.pl_law_copies.proofs.ActsKeepOneCopy.{MakesFew, in_hand, note_all, of_root_less, used}
+use Rattle.pl_law_copies.proofs.CopiesInSmallChanges.{IsNoCopyEntry, arrive_one, claim, empty_host, empty_out, note_moved, note_quiet, of_root, take_any, take_host, take_out, weaker}
 use Rattle.pl_law_copies.proofs.SinglePasses.{AreSingle, hears_single, host_single, quiet_still, single_few, single_used, still_is_single}
-use Rattle.pl_law_copies.proofs.Turning.{host_comes, over_link_few, peer_back, switch_comes}
+use Rattle.pl_law_copies.proofs.TurnsKeepOneCopy.{host_comes, over_link_few, peer_back, switch_comes}
 
 abbrev pub taken_out : WorldView → ℕ → ℕ → List Item → WorldView
 taken_out w s port items = record w { out = set w.out (port_index w.plan.k s port) items }

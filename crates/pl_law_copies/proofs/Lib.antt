@@ -1,10 +1,10 @@
-pub mod Queued
-pub mod Changing
-pub mod Acting
+pub mod CopiesInQueues
+pub mod CopiesInSmallChanges
+pub mod ActsKeepOneCopy
 pub mod Ways
 pub mod Spreading
 pub mod SinglePasses
-pub mod Turning
+pub mod TurnsKeepOneCopy
 pub mod Happening
 pub mod CopiesInRuns
 pub mod Alone

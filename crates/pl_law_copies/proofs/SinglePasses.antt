@@ -35,8 +35,8 @@ use Rattle.pl_switch_rule.specs.Intake.{comes_from_host, hears_members, packet_a
 use Rattle.pl_switch_rule.specs.Levels.{finds_host}
 use Rattle.pl_switch_rule.specs.Messages.{answer_frame, flood_frame, floods, forgets_members, hears_manager, invalidates, probes, probes_at, sets_trap}
 use Rattle.pl_switch_rule.proofs.Exports.{AreGrantedAt, arp_acts, granted_at, groups_acts, IsQuiet, quiet_finds_host, quiet_forgets_members, quiet_hears_pod, quiet_learns_source, quiet_sets_trap, quiet_then_quiet, redirects_acts, taken_in}
-use Rattle.pl_law_copies.proofs.Acting.{MakesFew, used}
-use Rattle.pl_law_copies.proofs.Changing.{claim_at_most_one}
+use Rattle.pl_law_copies.proofs.ActsKeepOneCopy.{MakesFew, used}
+use Rattle.pl_law_copies.proofs.CopiesInSmallChanges.{claim_at_most_one}
 
 -- each frame that acts speak of is passed on at most once; whether the one in hand still may be
 abbrev pub AreSingle : Bool → List Act → Type 0

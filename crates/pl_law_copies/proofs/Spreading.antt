@@ -29,8 +29,8 @@ use Rattle.pl_switch_rule.specs.Forwarding.{came_between, came_by}
 use Rattle.pl_switch_rule.specs.GroupForwarding.{at_most_one, destination_group, forwards_group, group_ports, is_down, is_reached, is_source, is_up, no_way, passes_or_drops, way_of}
 use Rattle.pl_law_copies.specs.Copies.{leads_to, may_come}
 use Rattle.pl_law_copies.specs.Standing.{KnowsTree}
-use Rattle.pl_law_copies.proofs.Changing.{claim, claim_at_most_one}
-use Rattle.pl_law_copies.proofs.Acting.{used}
+use Rattle.pl_law_copies.proofs.CopiesInSmallChanges.{claim, claim_at_most_one}
+use Rattle.pl_law_copies.proofs.ActsKeepOneCopy.{used}
 use Rattle.pl_law_copies.proofs.Ways.{CountsAlone, LeadsDown, Rung, leads_apart, leads_within, may_come_down, one_only, one_port, rung, sum_of}
 use Rattle.pl_law_copies.proofs.Ways.Rung.{DownFromCore, DownToEdge, UpFromEdge, UpToCore}
 use Rattle.pl_journal.specs.Flights.{label_level}

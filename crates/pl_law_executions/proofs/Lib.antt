@@ -1,3 +1,3 @@
-pub mod Executions
+pub mod OneWayOfExecutions
 pub mod Rests
 pub mod OneEnd

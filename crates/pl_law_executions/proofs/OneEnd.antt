@@ -24,7 +24,7 @@ use Rattle.pl_fabric.specs.Executions.{Execution, Makes, MakesAll, Times}
 use Rattle.pl_fabric.specs.Draws.{Draws}
 use Rattle.pl_fabric.specs.Rounds.{Sweeps, TicksAll}
 use Rattle.pl_law_executions.specs.OneWay.{GoesOneWayFrom}
-use Rattle.pl_law_executions.proofs.Executions.{draws_one_way, goes_rounds_one_way, makes_all_one_way, makes_one_way, sweeps_one_way, ticks_all_one_way, times_one_way}
+use Rattle.pl_law_executions.proofs.OneWayOfExecutions.{draws_one_way, goes_rounds_one_way, makes_all_one_way, makes_one_way, sweeps_one_way, ticks_all_one_way, times_one_way}
 use Rattle.pl_law_executions.proofs.Rests.{settles_one_way, settles_unrefused}
 use Rattle.pl_script_rule.specs.declared.stop.Stop.{Stop}
 use Rattle.pl_script_rule.specs.declared.stop.Stop.TheVariants.{ExpectFailed, Refused}

@@ -11,7 +11,7 @@ use Rattle.pl_fabric.specs.declared.settling.Settling.{Settling}
 use Rattle.pl_fabric.specs.declared.settling.Settling.TheVariants.{NotSettled, Settled}
 use Rattle.pl_fabric.specs.Executions.{Execution, GoesOnBehind}
 use Rattle.pl_fabric.specs.Settlings.{GoesRounds, IsSettlingAnswer, IsAtRest, Settles}
-use Rattle.pl_law_executions.proofs.Executions.{goes_round_one_way, goes_rounds_one_way}
+use Rattle.pl_law_executions.proofs.OneWayOfExecutions.{goes_round_one_way, goes_rounds_one_way}
 
 -- where an execution came to its end, each part of it did
 came_through : (next : Execution) (before : Option StepError) (between new : WorldView) → GoesOnBehind next before between None new → before ≡ None

@@ -40,9 +40,9 @@ use Rattle.pl_world.specs.Worlds.{WorldView}
 use Rattle.pl_world.proofs.Exports.{noted_owes, Sound, sound, times_in-data}
 use Rattle.pl_law_flights.specs.Given.{AreMembersByThePast, ComesFirst}
 use Rattle.pl_law_flights.specs.OnTheWay.{IsGoing, IsLeaving, IsJournaled, AttachmentsAgree, JournalSays, history_of, place_in, edge_port_of_attachment}
-use Rattle.pl_law_flights.proofs.HostTurns.{host_told}
+use Rattle.pl_law_flights.proofs.HostTurns.{host_journaled}
 use Rattle.pl_law_flights.proofs.KeepingFlights.{kept, same_history}
-use Rattle.pl_law_flights.proofs.Noting.{note, note_drop, reverse_noted}
+use Rattle.pl_law_flights.proofs.EntriesOfFlights.{note, note_drop, reverse_noted}
 use Rattle.pl_law_flights.proofs.OverLinks.{taken, taken_out}
 
 pub some_passes : {T : Type 0} (p : T → Bool) (xs : List T) (h : ℕ) (x : T) → slice_get xs h ≡ Some x → p x ≡ true → position_or_len p xs < length xs
@@ -229,11 +229,11 @@ module _ (w : WorldView) (counted : IsCounted w) (told : IsJournaled w) (s port 
       left_is o there h is at gone = rw (is, at) (ap not gone)
 
   -- it arrives, or is refused by a host that is no member of its group
-  reception_told : (rule : HostRule) → HostsKeepFrames rule → (is_group (destination_of frame) ≡ true → ComesFirst w s port id) → (h : ℕ) → receiver w s port frame ≡ Some h →
+  reception_journaled : (rule : HostRule) → HostsKeepFrames rule → (is_group (destination_of frame) ≡ true → ComesFirst w s port id) → (h : ℕ) → receiver w s port frame ≡ Some h →
       (reception : Reception) → (is_routed (group_of (destination_of frame)) ≡ false → reception ≡ Kept) →
       (reception ≡ Kept → is_group (destination_of frame) ≡ true → is_member (reverse w.journal) h (group_of (destination_of frame)) ≡ true) →
       IsJournaled (reception_noted (taken_out w s port items) h id frame reception)
-  reception_told rule keeps groups h is Kept so members =
+  reception_journaled rule keeps groups h is Kept so members =
       let past : List Entry = reverse w.journal in
       let took = taken w counted told s port id frame items within head in
       let e : Entry = Arrived id (host_no h) frame in
@@ -247,7 +247,7 @@ module _ (w : WorldView) (counted : IsCounted w) (told : IsJournaled w) (s port 
       (note w.plan (place_in w.switches) past w.links w.attachments w.from_hosts (taken_out w s port items).out e id
       (record { not_at_hosts = took.flies.not_at_hosts; not_out = took.flies.not_out }) (λ g other. kept w.plan past e g tt) (same_history (history_of past)) needs tt
       took.tells.links_agree took.tells.attachments_agree took.tells)
-  reception_told rule keeps groups h is NotMember so members =
+  reception_journaled rule keeps groups h is NotMember so members =
       let past : List Entry = reverse w.journal in
       let took = taken w counted told s port id frame items within head in
       let routed : is_routed (group_of (destination_of frame)) ≡ true = elim (cases_Bool (is_routed (group_of (destination_of frame)))) [
@@ -281,9 +281,9 @@ module _ (w : WorldView) (counted : IsCounted w) (told : IsJournaled w) (s port 
   }
 
   -- whatever becomes of it there
-  pub comes_out_told : (rule : HostRule) → HostsKeepFrames rule → HostsSendData rule → (is_group (destination_of frame) ≡ true → ComesFirst w s port id) → AreMembersByThePast rule w → (to : Option ℕ) →
+  pub comes_out_journaled : (rule : HostRule) → HostsKeepFrames rule → HostsSendData rule → (is_group (destination_of frame) ≡ true → ComesFirst w s port id) → AreMembersByThePast rule w → (to : Option ℕ) →
       receiver w s port frame ≡ to → (new : WorldView) → ComesAtHost rule (taken_out w s port items) id frame to new → IsJournaled new
-  comes_out_told rule keeps sends groups members None nobody new is =
+  comes_out_journaled rule keeps sends groups members None nobody new is =
       let past : List Entry = reverse w.journal in
       let took = taken w counted told s port id frame items within head in
       subst IsJournaled (sym is)
@@ -291,9 +291,9 @@ module _ (w : WorldView) (counted : IsCounted w) (told : IsJournaled w) (s port 
       (sym (reverse_noted w.journal past (Dropped id cause.HostGone) refl))
       (note_drop w.plan (place_in w.switches) past w.links w.attachments w.from_hosts (taken_out w s port items).out id cause.HostGone
       (record { not_at_hosts = took.flies.not_at_hosts; not_out = took.flies.not_out }) took.flies.flies (nobody_there nobody) took.tells))
-  comes_out_told rule keeps sends groups members (Some h) found new receives =
-      host_told rule sends _ h _ _ new (reception_sound h receives.reception)
-      (reception_told rule keeps groups h found receives.reception
+  comes_out_journaled rule keeps sends groups members (Some h) found new receives =
+      host_journaled rule sends _ h _ _ new (reception_sound h receives.reception)
+      (reception_journaled rule keeps groups h found receives.reception
       (λ fine. keeps receives.turn.before frame receives.turn.after receives.turn.acts receives.reception fine receives.turn.ruled)
       (λ kept group. members h receives.turn.before receives.turn.after receives.turn.acts frame
       (sym (ap (λ hosts. slice_get hosts h) (same_hosts h receives.reception)) ∙ receives.turn.found)

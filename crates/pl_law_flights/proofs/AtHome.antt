@@ -47,7 +47,7 @@ use Rattle.pl_law_flights.proofs.ForwardActs.{crossed_at}
 use Rattle.pl_law_flights.proofs.Hands.{GoodActs, Hand, made_here}
 use Rattle.pl_law_flights.proofs.Hands.Hand.{Waits}
 use Rattle.pl_law_flights.proofs.HomeActs.{IsHere, leaves_then}
-use Rattle.pl_law_flights.proofs.OverLinks.{IsGoodAtHome, comes_told, taken, taken_out}
+use Rattle.pl_law_flights.proofs.OverLinks.{IsGoodAtHome, comes_journaled, taken, taken_out}
 use Rattle.pl_law_flights.proofs.Redirects.{home_good}
 
 -- an ARP packet is in an ARP frame
@@ -116,10 +116,10 @@ module _ (plan : Plan) (place : ℕ → Place) (history : AddressHistory) (t : �
         (tells_good (trap_for v (destination frame))) knows choose is level placed frame long f again here own)
 
 -- a data frame comes over a link
-pub over_link_told : (w : WorldView) → IsCounted w → IsJournaled w → StandsOn w → KnowTrees w → AccountsForFrames Loose → (s port id : ℕ) (frame : List ℕ) (items : List Item) →
+pub over_link_journaled : (w : WorldView) → IsCounted w → IsJournaled w → StandsOn w → KnowTrees w → AccountsForFrames Loose → (s port id : ℕ) (frame : List ℕ) (items : List Item) →
     port < w.plan.k → out_of w s port ≡ Data id frame ∷ items → (t : SwitchNo) (q : ℕ) → peer_of w.plan s port ≡ Switch t q → (new : WorldView) →
     SwitchTurn Loose (noted (taken_out w s port items) (Crossed id t)) t.0 (Comes q frame) (Waiting id false) new → IsJournaled new
-over_link_told w counted told on trees accounts s port id frame items within head t q peer new turn =
+over_link_journaled w counted told on trees accounts s port id frame items within head t q peer new turn =
     let took = taken w counted told s port id frame items within head in
     let past = reverse w.journal in
     let b : IsBetweenSwitches w.plan (place_in w.switches) (history_of past) (flight_of w.plan past id) (was_live past id s t.0) frame s t.0 =
@@ -140,4 +140,4 @@ over_link_told w counted told on trees accounts s port id frame items within hea
       sender = (b.one unicast).sender;
       unaltered = (b.one unicast).unaltered;
     }) own in
-    comes_told w counted told on s port id frame items within head t q peer accounts trees home new turn
+    comes_journaled w counted told on s port id frame items within head t q peer accounts trees home new turn

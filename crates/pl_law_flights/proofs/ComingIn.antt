@@ -36,7 +36,7 @@ use Rattle.pl_world.specs.Changes.{host_no, switch_no}
 use Rattle.pl_law_flights.specs.OnTheWay.{AddressHistory, CameInPlaced, history_of}
 use Rattle.pl_law_addresses.specs.EdgeAddresses.{is_settled}
 use Rattle.pl_law_flights.specs.Standing.{IsGranted, IsNextAddress, KnowsAddresses, KnowsHosts, KnowsNeighbours, KnowsPlaces}
-use Rattle.pl_law_flights.proofs.Entering.{come_in}
+use Rattle.pl_law_flights.proofs.HostFramesCross.{come_in}
 use Rattle.pl_law_flights.proofs.FindingHosts.{LooksAlike, alike_then, host_alike, host_found, host_unsettled, neighbours_alike, with_host}
 use Rattle.pl_law_flights.proofs.GrantingAmid.{sourced}
 use Rattle.pl_law_flights.proofs.Hands.{GoodActs}

@@ -38,7 +38,7 @@ use Rattle.pl_world.specs.Worlds.{WorldView}
 use Rattle.pl_world.proofs.Exports.{head_is_item, peer_is_port, says_rest, Sound, sound, took_out_balance}
 use Rattle.pl_law_flights.specs.OnTheWay.{IsJournaled, history_of, place_in}
 use Rattle.pl_law_flights.specs.Standing.{IsMore}
-use Rattle.pl_law_flights.proofs.Beginning.{lost_told}
+use Rattle.pl_law_flights.proofs.NoFlightAtFirst.{lost_journaled}
 use Rattle.pl_law_flights.proofs.Hands.Hand.{Empty}
 use Rattle.pl_law_flights.proofs.OverLinks.{taken_out}
 use Rattle.pl_law_flights.proofs.Settling.{GrantsWell, HasNoneJustIn, settling_turn}
@@ -83,11 +83,11 @@ pub record MaySettle (w : WorldView) (t : ℕ) (acts : List Act) : Type 0 where
   pub none_just_in : HasNoneJustIn w.plan (reverse w.journal) t
 
 -- a control frame comes over a link
-pub control_told : (w : WorldView) (s port : ℕ) (frame : List ℕ) (items : List Item) (t : SwitchNo) (q : ℕ) (new : WorldView) → AccountsForFrames Loose →
+pub control_journaled : (w : WorldView) (s port : ℕ) (frame : List ℕ) (items : List Item) (t : SwitchNo) (q : ℕ) (new : WorldView) → AccountsForFrames Loose →
     IsCounted w → IsJournaled w → port < w.plan.k → out_of w s port ≡ ControlItem frame ∷ items → peer_of w.plan s port ≡ Switch t q →
     (turn : SwitchTurn Loose (taken_out w s port items) t.0 (Comes q frame) Silent new) → (settles_by turn.before q (control_in (payload_of frame)) ≡ false) ⊎ MaySettle w t.0 turn.acts →
     IsMore (place_in w.switches) (place_in new.switches) → IsJournaled new
-control_told w s port frame items t q new accounts counted told within head peer turn by more =
+control_journaled w s port frame items t q new accounts counted told within head peer turn by more =
     let so = sound w counted in
     let item : IsFrame true frame = head_is_item w.out (port_index w.plan.k s port) (ControlItem frame) items head so.balance.port_items in
     let port_there = subst (λ (p : Peer). IsPort w.plan.k p) peer (peer_is_port w.plan s port so.rest.is_plan) in
@@ -100,7 +100,7 @@ control_told w s port frame items t q new accounts counted told within head peer
           (λ i. omega arith) so.balance;
       rest = so.rest;
     } in
-    let told_taken : IsJournaled (taken_out w s port items) = lost_told w s port (ControlItem frame) items counted told within head in
+    let told_taken : IsJournaled (taken_out w s port items) = lost_journaled w s port (ControlItem frame) items counted told within head in
     elim by [
       | inl stays ↦ silent_turn Loose accounts (taken_out w s port items) t.0 (Comes q frame) new (rw (item.kind) refl)
           (λ u size. record { within = subst (λ n. q < n) (sym size) port_there.1; whole = item.whole }) so_taken told_taken turn more
@@ -111,10 +111,10 @@ control_told w s port frame items t q new accounts counted told within head peer
     ]
 
 -- and it learns a pod
-pub pod_told : (w : WorldView) (t pod : ℕ) (rest : List ToSwitch) (new : WorldView) → AccountsForFrames Loose → IsCounted w → IsJournaled w →
+pub pod_journaled : (w : WorldView) (t pod : ℕ) (rest : List ToSwitch) (new : WorldView) → AccountsForFrames Loose → IsCounted w → IsJournaled w →
     (turn : SwitchTurn Loose (record w { from_manager = set w.from_manager t rest }) t (Says (Pod pod)) Silent new) →
     (has_become_placed turn.before.place (with_pod turn.before (Some pod)).place ≡ false) ⊎ MaySettle w t turn.acts → IsMore (place_in w.switches) (place_in new.switches) → IsJournaled new
-pod_told w t pod rest new accounts counted told turn by more =
+pod_journaled w t pod rest new accounts counted told turn by more =
     let so = sound w counted in
     let so_said : Sound (record w { from_manager = set w.from_manager t rest }) = record {
       balance = so.balance;

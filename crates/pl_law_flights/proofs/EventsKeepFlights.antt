@@ -45,21 +45,21 @@ use Rattle.pl_world.proofs.Exports.Happened.{Asked, Departed, Failed, FromHost, 
 use Rattle.pl_law_flights.specs.Given.{IsGroundForStep}
 use Rattle.pl_law_flights.specs.OnTheWay.{IsJournaled}
 use Rattle.pl_law_flights.specs.Standing.{StandsOn, StandsOnHosts}
-use Rattle.pl_law_flights.proofs.Arriving.{comes_out_told}
-use Rattle.pl_law_flights.proofs.AtHome.{over_link_told}
-use Rattle.pl_law_flights.proofs.Beginning.{lost_told}
-use Rattle.pl_law_flights.proofs.Failing.{fails_told, repaired_told}
+use Rattle.pl_law_flights.proofs.Arriving.{comes_out_journaled}
+use Rattle.pl_law_flights.proofs.AtHome.{over_link_journaled}
+use Rattle.pl_law_flights.proofs.NoFlightAtFirst.{lost_journaled}
+use Rattle.pl_law_flights.proofs.Failing.{fails_journaled, repaired_journaled}
 use Rattle.pl_law_flights.proofs.BecomingPlaced.{control_well, pod_well, unplaced_before, was_unplaced}
-use Rattle.pl_law_flights.proofs.ControlFrames.{control_told, pod_told, settles_by}
-use Rattle.pl_law_flights.proofs.FromHosts.{from_host_told}
-use Rattle.pl_law_flights.proofs.FromManager.{says_told}
-use Rattle.pl_law_flights.proofs.HostTurns.{host_told, plays_told}
-use Rattle.pl_law_flights.proofs.Moving.{goes_told}
+use Rattle.pl_law_flights.proofs.ControlFrames.{control_journaled, pod_journaled, settles_by}
+use Rattle.pl_law_flights.proofs.FromHosts.{from_host_journaled}
+use Rattle.pl_law_flights.proofs.FromManager.{says_journaled}
+use Rattle.pl_law_flights.proofs.HostTurns.{host_journaled, plays_journaled}
+use Rattle.pl_law_flights.proofs.Moving.{goes_journaled}
 use Rattle.pl_law_flights.proofs.NoneJustIn.{none_just_in}
-use Rattle.pl_law_flights.proofs.Numbering.{manager_told}
+use Rattle.pl_law_flights.proofs.Numbering.{manager_journaled}
 use Rattle.pl_law_flights.proofs.OverLinks.{taken_out}
 use Rattle.pl_law_flights.proofs.Settling.{GrantsWell}
-use Rattle.pl_law_flights.proofs.SilentSteps.{ticks_told}
+use Rattle.pl_law_flights.proofs.SilentSteps.{ticks_journaled}
 use Rattle.pl_law_flights.proofs.SwitchTurns.{turn_switches}
 
 dead_before : (b : Bool) → (if are_alike b true then Some AlreadySo else None) ≡ None → b ≡ false
@@ -114,10 +114,10 @@ module _ (manager : ManagerRule) (host : HostRule) (accounts : AccountsForFrames
       (after_there (record w { from_manager = set w.from_manager t rest }) t (Says (Pod pod)) turn ∙ ap Some turn.ruled.steps.view))
 
   -- an item comes to the other end
-  over_told : (s port : ℕ) (item : Item) (items : List Item) (peer : Peer) → port < w.plan.k → out_of w s port ≡ item ∷ items → peer_of w.plan s port ≡ peer →
+  over_journaled : (s port : ℕ) (item : Item) (items : List Item) (peer : Peer) → port < w.plan.k → out_of w s port ≡ item ∷ items → peer_of w.plan s port ≡ peer →
       ComesOver Loose host (taken_out w s port items) s port item peer new → IsJournaled new
-  over_told s port (Control frame) items (Switch t q) within head peer turn =
-      control_told w s port frame items t q new accounts counted told within head peer turn
+  over_journaled s port (Control frame) items (Switch t q) within head peer turn =
+      control_journaled w s port frame items t q new accounts counted told within head peer turn
       (elim (cases_Bool (settles_by turn.before q (control_in (payload_of frame)))) [
         | inl settles ↦ inr (record {
           grants = settled_grants s port t q frame items head peer turn settles;
@@ -125,15 +125,15 @@ module _ (manager : ManagerRule) (host : HostRule) (accounts : AccountsForFrames
         })
         | inr stays ↦ inl stays
       ]) given.more
-  over_told s port (Data id frame) items (Switch t q) within head peer turn =
-      over_link_told w counted told on given.trees accounts s port id frame items within head t q peer new turn
-  over_told s port (Control frame) items HostPort within head peer is = subst IsJournaled (sym is) (lost_told w s port (Control frame) items counted told within head)
-  over_told s port (Data id frame) items HostPort within head peer comes =
-      comes_out_told w counted told s port id frame items within head peer host keeps sends (given.come_first s port id frame items within peer head) given.members (receiver w s port frame) refl new comes
+  over_journaled s port (Data id frame) items (Switch t q) within head peer turn =
+      over_link_journaled w counted told on given.trees accounts s port id frame items within head t q peer new turn
+  over_journaled s port (Control frame) items HostPort within head peer is = subst IsJournaled (sym is) (lost_journaled w s port (Control frame) items counted told within head)
+  over_journaled s port (Data id frame) items HostPort within head peer comes =
+      comes_out_journaled w counted told s port id frame items within head peer host keeps sends (given.come_first s port id frame items within peer head) given.members (receiver w s port frame) refl new comes
 
-  from_manager_told : (t : ℕ) (items : List ToSwitch) → DeliversFromManager Loose w t items new → IsJournaled new
-  from_manager_told t [] comes = absurd comes
-  from_manager_told t (Pod pod ∷ items) turn = pod_told w t pod items new accounts counted told turn
+  from_manager_journaled : (t : ℕ) (items : List ToSwitch) → DeliversFromManager Loose w t items new → IsJournaled new
+  from_manager_journaled t [] comes = absurd comes
+  from_manager_journaled t (Pod pod ∷ items) turn = pod_journaled w t pod items new accounts counted told turn
       (elim (cases_Bool (has_become_placed turn.before.place (with_pod turn.before (Some pod)).place)) [
         | inl settles ↦ inr (record {
           grants = pod_grants t pod items turn settles;
@@ -142,11 +142,11 @@ module _ (manager : ManagerRule) (host : HostRule) (accounts : AccountsForFrames
         })
         | inr stays ↦ inl stays
       ]) given.more
-  from_manager_told t (Avoid list ∷ items) turn = says_told w t (Avoid list) items new accounts counted told on tt turn
-  from_manager_told t (Tree group part ∷ items) turn = says_told w t (Tree group part) items new accounts counted told on tt turn
-  from_manager_told t (Answer asker asker_ip ip pmac ∷ items) turn = says_told w t (Answer asker asker_ip ip pmac) items new accounts counted told on tt turn
-  from_manager_told t (Flood asker asker_ip ip ∷ items) turn = says_told w t (Flood asker asker_ip ip) items new accounts counted told on tt turn
-  from_manager_told t (Invalidate old to number ip ∷ items) turn = says_told w t (Invalidate old to number ip) items new accounts counted told on tt turn
+  from_manager_journaled t (Avoid list ∷ items) turn = says_journaled w t (Avoid list) items new accounts counted told on tt turn
+  from_manager_journaled t (Tree group part ∷ items) turn = says_journaled w t (Tree group part) items new accounts counted told on tt turn
+  from_manager_journaled t (Answer asker asker_ip ip pmac ∷ items) turn = says_journaled w t (Answer asker asker_ip ip pmac) items new accounts counted told on tt turn
+  from_manager_journaled t (Flood asker asker_ip ip ∷ items) turn = says_journaled w t (Flood asker asker_ip ip) items new accounts counted told on tt turn
+  from_manager_journaled t (Invalidate old to number ip ∷ items) turn = says_journaled w t (Invalidate old to number ip) items new accounts counted told on tt turn
 
   module _ (happens : Event) (fine : refusal_of_event w happens ≡ None) where
     free : (e : Event) → happens ≡ e → refusal_of_event w e ≡ None
@@ -160,36 +160,36 @@ module _ (manager : ManagerRule) (host : HostRule) (accounts : AccountsForFrames
 
     by_case : Happened Loose manager host w happens new → IsJournaled new
     by_case (FromHost h item items attachment is head at comes) =
-        from_host_told w counted told on hosts accounts h.0 new given.more
+        from_host_journaled w counted told on hosts accounts h.0 new given.more
         (subst (λ (xs : List Item). DeliversFromHost Loose w h.0 xs new) (sym head)
         (subst (λ (o : Option AttachmentPoint). ComesIn Loose (record w { from_hosts = set w.from_hosts h.0 items }) h.0 item o new) (sym at) comes))
-    by_case (OverLink s port item items t q is head adjacent comes) = over_told s.0 port item items (Switch t q) (within_port s port is) head adjacent comes
-    by_case (OutOfPort s port item items is head adjacent comes) = over_told s.0 port item items HostPort (within_port s port is) head adjacent comes
+    by_case (OverLink s port item items t q is head adjacent comes) = over_journaled s.0 port item items (Switch t q) (within_port s port is) head adjacent comes
+    by_case (OutOfPort s port item items is head adjacent comes) = over_journaled s.0 port item items HostPort (within_port s port is) head adjacent comes
     by_case (Reported s says items is head turn) =
-        manager_told manager w s.0 says items new counted told turn (given.numbers s.0 says items turn.id turn.after turn.acts head turn.found turn.ruled)
-    by_case (Ordered s says items is head turn) = from_manager_told s.0 (says ∷ items) turn
-    by_case (Ticked s is turn) = ticks_told w s.0 new accounts counted told turn given.more
+        manager_journaled manager w s.0 says items new counted told turn (given.numbers s.0 says items turn.id turn.after turn.acts head turn.found turn.ruled)
+    by_case (Ordered s says items is head turn) = from_manager_journaled s.0 (says ∷ items) turn
+    by_case (Ticked s is turn) = ticks_journaled w s.0 new accounts counted told turn given.more
     by_case (Failed a b link is found failed) =
         let live = live_before (is_live w.links link) (subst (λ (o : Option Link). refusal_of_link w false o ≡ None) found (free (event.Fail a b) is)) in
         subst IsJournaled (sym failed)
-        (fails_told w link counted told (found_contained (joins a.0 b.0) w.plan.links link found) live
+        (fails_journaled w link counted told (found_contained (joins a.0 b.0) w.plan.links link found) live
         (to_counted (link_failed w link) (fails w a.0 b.0 (Some link) (link_failed w link) found (sound w counted) refl)))
     by_case (Repaired a b link is found repaired) =
         let dead = dead_before (is_live w.links link) (subst (λ (o : Option Link). refusal_of_link w true o ≡ None) found (free (event.Repair a b) is)) in
-        subst IsJournaled (sym repaired) (repaired_told w link counted told (found_contained (joins a.0 b.0) w.plan.links link found) dead)
+        subst IsJournaled (sym repaired) (repaired_journaled w link counted told (found_contained (joins a.0 b.0) w.plan.links link found) dead)
     by_case (Lost s port item items is head gone) =
         let linked = and_parts (has_port w.plan s.0 port) (not (is_host_port (peer_of w.plan s.0 port)))
         (there_is (is_linked w.plan s.0 port) _ (free (event.Lose s port) is)) in
         let there = and_parts (has_switch w.plan s.0) (nat_lt port w.plan.k) linked.0 in
-        subst IsJournaled (sym gone) (lost_told w s.0 port item items counted told (ltb-true port w.plan.k there.1) head)
+        subst IsJournaled (sym gone) (lost_journaled w s.0 port item items counted told (ltb-true port w.plan.k there.1) head)
     by_case (Departed h s port from is at turn) =
         let may = move_fine (has_host w.plan h.0) (is_for_hosts w.plan s.0 port) h.0 (host_at w s.0 port) (free (event.Move h s port) is) in
-        goes_told w counted told h.0 (record { edge = s; port = port }) from at may.0 may.1 may.2 host sends new turn
-    by_case (PlayedFrame h input skip is turn) = plays_told host sends w h.0 input new (sound w counted) told (record { skip = skip; turn = turn })
-    by_case (Asked h input is turn) = host_told host sends w h.0 _ _ new (sound w counted) told turn
+        goes_journaled w counted told h.0 (record { edge = s; port = port }) from at may.0 may.1 may.2 host sends new turn
+    by_case (PlayedFrame h input skip is turn) = plays_journaled host sends w h.0 input new (sound w counted) told (record { skip = skip; turn = turn })
+    by_case (Asked h input is turn) = host_journaled host sends w h.0 _ _ new (sound w counted) told turn
 
-    pub happens_told : Happens Loose manager host w happens new → IsJournaled new
-    happens_told does = by_case (happened Loose manager host w happens new does)
+    pub happens_journaled : Happens Loose manager host w happens new → IsJournaled new
+    happens_journaled does = by_case (happened Loose manager host w happens new does)
 
 -- the same, once the step is counted
 stepped_given : (manager : ManagerRule) (host : HostRule) (old new : WorldView) (n : ℕ) → IsGroundForStep manager host old new → IsGroundForStep manager host (record old { steps = n }) new
@@ -210,10 +210,10 @@ stepped_given manager host old new n given = record {
 }
 
 -- each step
-pub step_told : (manager : ManagerRule) (host : HostRule) → HostsSendData host → HostsKeepFrames host → (old : WorldView) (happens : Event) (new : WorldView) →
+pub step_journaled : (manager : ManagerRule) (host : HostRule) → HostsSendData host → HostsKeepFrames host → (old : WorldView) (happens : Event) (new : WorldView) →
     IsCounted old → IsGroundForStep manager host old new → refusal old happens ≡ None → WorldStep Loose manager host old happens new → IsJournaled old → IsJournaled new
-step_told manager host sends keeps old happens new counted given none step told =
+step_journaled manager host sends keeps old happens new counted given none step told =
     let so = sound old counted in
     let w : WorldView = record old { steps = old.steps + 1 } in
-    happens_told manager host loose_steps_are_accounted sends keeps w (to_counted w (record { balance = so.balance; rest = so.rest })) told new
+    happens_journaled manager host loose_steps_are_accounted sends keeps w (to_counted w (record { balance = so.balance; rest = so.rest })) told new
     (stepped_given manager host old new (old.steps + 1) given) happens (same_refusal old happens ∙ event_is_not_refused old happens none) step

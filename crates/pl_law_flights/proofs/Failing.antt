@@ -31,7 +31,7 @@ use Rattle.pl_world.specs.Changes.{ends_of}
 use Rattle.pl_law_flights.specs.OnTheWay.{Flying, IsBetweenSwitches, IsGoing, IsOut, IsJournaled, LinksAgree, JournalSays, history_of, place_in}
 use Rattle.pl_law_flights.proofs.Counting.{Counts, counts, nobody, owed}
 use Rattle.pl_law_flights.proofs.KeepingFlights.{between_kept, goes_on, kept, same_history}
-use Rattle.pl_law_flights.proofs.Noting.{ends_here, grown, note_drop, reverse_grown, reverse_noted}
+use Rattle.pl_law_flights.proofs.EntriesOfFlights.{ends_here, grown, note_drop, reverse_grown, reverse_noted}
 use Rattle.pl_law_flights.proofs.HandSteps.{begun_grown}
 use Rattle.pl_law_flights.proofs.Queues.{set_out}
 use Rattle.pl_law_flights.proofs.Rungs.{any_contained, failed_here}
@@ -80,10 +80,10 @@ ends_counted [] past id = omega arith
 ends_counted (e ∷ entries) past id = omega (arith, ends_counted entries (e ∷ past) id, ends-cons e entries id, ends-cons e past id)
 
 -- a world whose last entries are ends, each of which is counted
-pub ends_told : (new : WorldView) (entries journal past : List Entry) → new.journal ≡ journal ++ entries → reverse journal ≡ past → begun entries ≡ 0 →
+pub ends_journaled : (new : WorldView) (entries journal past : List Entry) → new.journal ≡ journal ++ entries → reverse journal ≡ past → begun entries ≡ 0 →
     IsCounted new → AllByRecursion (IsEnding new.plan past) entries →
     JournalSays new.plan (place_in new.switches) past new.links new.attachments new.from_hosts new.out → IsJournaled new
-ends_told new entries journal past is back none counted all t =
+ends_journaled new entries journal past is back none counted all t =
     let grew : reverse new.journal ≡ grown entries past = ap reverse is ∙ reverse_grown entries journal past back in
     let c = counts new (grown entries past) (λ i. 0) grew (sound new counted).balance in
     let before : Counts past new.from_hosts new.out (λ i. ends entries i) = record {
@@ -232,9 +232,9 @@ ends_shown plan place past later s port t q peer failed same (Data id frame ∷ 
     (ap (touches_failed_link plan later) (ap first_of (same id) ∙ b.last) ∙ failed, ends_shown plan place past later s port t q peer failed same items all.1)
 
 -- a link fails
-pub fails_told : (w : WorldView) (link : Link) → IsCounted w → IsJournaled w → Contains w.plan.links link → is_live w.links link ≡ true →
+pub fails_journaled : (w : WorldView) (link : Link) → IsCounted w → IsJournaled w → Contains w.plan.links link → is_live w.links link ≡ true →
     IsCounted (link_failed w link) → IsJournaled (link_failed w link)
-fails_told w link counted told there live after =
+fails_journaled w link counted told there live after =
     let so = sound w counted in
     let plan : Plan = w.plan in
     let past : List Entry = reverse w.journal in
@@ -268,15 +268,15 @@ fails_told w link counted told there live after =
     all_append (IsEnding plan now) (ends_of cause.LinkDown one) (ends_of cause.LinkDown two)
     (ends_shown plan place past now link.lower.0 link.lower_port link.upper link.upper_port up_is failed_low (λ id. refl) one (told.flying.going link.lower.0 link.lower_port ports.0))
     (ends_shown plan place past now link.upper.0 link.upper_port link.lower link.lower_port down_is failed_high (λ id. refl) two (f1.going link.upper.0 link.upper_port ports.1)) in
-    ends_told (link_failed w link) (ends_of cause.LinkDown one ++ ends_of cause.LinkDown two) (w.journal ++ down_now ∷ []) now
+    ends_journaled (link_failed w link) (ends_of cause.LinkDown one ++ ends_of cause.LinkDown two) (w.journal ++ down_now ∷ []) now
     (append_assoc (w.journal ++ down_now ∷ []) (ends_of cause.LinkDown one) (ends_of cause.LinkDown two)) (reverse_noted w.journal past down_now refl)
     (let a = ends_of-begun cause.LinkDown one in let b = ends_of-begun cause.LinkDown two in
     omega (arith, begun-append (ends_of cause.LinkDown one) (ends_of cause.LinkDown two))) after all t1
 
 -- and is repaired
-pub repaired_told : (w : WorldView) (link : Link) → IsCounted w → IsJournaled w → Contains w.plan.links link → is_live w.links link ≡ false →
+pub repaired_journaled : (w : WorldView) (link : Link) → IsCounted w → IsJournaled w → Contains w.plan.links link → is_live w.links link ≡ false →
     IsJournaled (link_repaired w link)
-repaired_told w link counted told there dead =
+repaired_journaled w link counted told there dead =
     let so = sound w counted in
     let plan : Plan = w.plan in
     let past : List Entry = reverse w.journal in

@@ -41,7 +41,7 @@ use Rattle.pl_law_flights.specs.Standing.{KnowsAddresses, KnowsNeighbours, Knows
 use Rattle.pl_law_flights.proofs.GroupLegs.{AreWaysOn, IsWayOn, all_filtered, first_alone, ways_on}
 use Rattle.pl_law_flights.proofs.Hands.{GoodActs, MayEnd, MayLeave}
 use Rattle.pl_law_flights.proofs.Hands.Hand.{Spreads, Waits}
-use Rattle.pl_law_flights.proofs.Passing.{passes_on}
+use Rattle.pl_law_flights.proofs.RoutesByCandidates.{passes_on}
 use Rattle.pl_law_flights.proofs.PmacNumbers.{number_of_mac}
 
 -- the frame once it has crossed switch t

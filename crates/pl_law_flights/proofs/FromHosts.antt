@@ -31,14 +31,14 @@ use Rattle.pl_law_flights.specs.OnTheWay.{IsJournaled, IsWaiting, history_of, pl
 use Rattle.pl_law_flights.specs.Standing.{IsMore, StandsOn, StandsOnHosts}
 use Rattle.pl_law_flights.proofs.ComingIn.{Coming, comes_good}
 use Rattle.pl_law_flights.proofs.ComingIn.Coming.{Grants, NoGrant}
-use Rattle.pl_law_flights.proofs.Entering.{come_in, enters, taken_from}
+use Rattle.pl_law_flights.proofs.HostFramesCross.{come_in, enters, taken_from}
 use Rattle.pl_law_flights.proofs.FromManager.{good_grown}
 use Rattle.pl_law_flights.proofs.GrantingAmid.{GoodBehind, entering_turn, sourced}
-use Rattle.pl_law_flights.proofs.Growing.{tells_grown}
+use Rattle.pl_law_flights.proofs.RoutesStay.{tells_grown}
 use Rattle.pl_law_flights.proofs.Hands.{IsAmid}
 use Rattle.pl_law_flights.proofs.Hands.Hand.{Waits}
 use Rattle.pl_law_flights.proofs.Hosts.{host_by_mac}
-use Rattle.pl_law_flights.proofs.SwitchTurns.{turn_told}
+use Rattle.pl_law_flights.proofs.SwitchTurns.{turn_journaled}
 
 -- a frame that crosses its first switch has just come in, and no other one
 just_itself : (past : List Entry) (id s : ℕ) → is_empty (trail past id) ≡ true → has_just_come_in (Crossed id (switch_no s) ∷ past) id ≡ true
@@ -64,10 +64,10 @@ module _ (w : WorldView) (counted : IsCounted w) (told : IsJournaled w) (on : St
         puts_off = tt;
       }
 
-  pub enters_told : (new : WorldView) → IsMore (place_in w.switches) (place_in new.switches) →
+  pub enters_journaled : (new : WorldView) → IsMore (place_in w.switches) (place_in new.switches) →
       SwitchTurn Loose (noted (heard_item (taken_from w h items) h (Data id frame)) (Crossed id (switch_no attachment.edge.0))) attachment.edge.0 (Comes attachment.port frame)
       (Waiting id false) new → IsJournaled new
-  enters_told new more turn =
+  enters_journaled new more turn =
       let s : ℕ = attachment.edge.0 in
       let past : List Entry = reverse w.journal in
       let now : List Entry = Crossed id (switch_no s) ∷ past in
@@ -102,7 +102,7 @@ module _ (w : WorldView) (counted : IsCounted w) (told : IsJournaled w) (on : St
       let none : trail past id ≡ [] =
       ap (λ (x : Flight). x.trail) (subst (λ l. AllByRecursion (IsWaiting w.plan past h) l) head (told.flying.waiting h)).0 in
       elim coming [
-        | NoGrant good ↦ turn_told Loose accounts w1 s (Comes attachment.port frame) (Waiting id false) new turn (rw (item.kind) refl)
+        | NoGrant good ↦ turn_journaled Loose accounts w1 s (Comes attachment.port frame) (Waiting id false) new turn (rw (item.kind) refl)
             (λ x same. record { within = subst (λ n. attachment.port < n) (sym same) there.1; whole = item.whole }) owes rest (Waits f false) now amid
             (good_grown w.plan (place_in w.switches) later more (history_of now) s turn.acts (Waits f false) good)
         | Grants silent pmac amac others is are of_host may good ↦
@@ -118,14 +118,14 @@ module _ (w : WorldView) (counted : IsCounted w) (told : IsJournaled w) (on : St
       ]
 
 -- the head of a host's queue is delivered
-pub from_host_told : (w : WorldView) → IsCounted w → IsJournaled w → StandsOn w → StandsOnHosts w → AccountsForFrames Loose → (h : ℕ) (new : WorldView) →
+pub from_host_journaled : (w : WorldView) → IsCounted w → IsJournaled w → StandsOn w → StandsOnHosts w → AccountsForFrames Loose → (h : ℕ) (new : WorldView) →
     IsMore (place_in w.switches) (place_in new.switches) → DeliversFromHost Loose w h (items_at w.from_hosts h) new → IsJournaled new
-from_host_told w counted told on hosts accounts h new more = by_items (items_at w.from_hosts h) refl
+from_host_journaled w counted told on hosts accounts h new more = by_items (items_at w.from_hosts h) refl
   where
     by_attachment : (id : ℕ) (frame : List ℕ) (items : List Item) → items_at w.from_hosts h ≡ Data id frame ∷ items → (o : Option AttachmentPoint) → slice_get w.attachments h ≡ o →
         ComesIn Loose (record w { from_hosts = set w.from_hosts h items }) h (Data id frame) o new → IsJournaled new
     by_attachment id frame items head None found comes = absurd comes
-    by_attachment id frame items head (Some attachment) found turn = enters_told w counted told on hosts accounts h id frame items head attachment found new more turn
+    by_attachment id frame items head (Some attachment) found turn = enters_journaled w counted told on hosts accounts h id frame items head attachment found new more turn
 
     by_items : (items : List Item) → items_at w.from_hosts h ≡ items → DeliversFromHost Loose w h items new → IsJournaled new
     by_items [] head comes = absurd comes

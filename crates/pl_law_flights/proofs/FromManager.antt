@@ -37,11 +37,11 @@ use Rattle.pl_world.specs.Worlds.{WorldView}
 use Rattle.pl_world.proofs.Exports.{says_rest, sound}
 use Rattle.pl_law_flights.specs.OnTheWay.{AddressHistory, IsJournaled, history_of, known_place, place_in}
 use Rattle.pl_law_flights.specs.Standing.{IsMore, KnowsAddresses, KnowsNeighbours, KnowsPlaces, StandsOn}
-use Rattle.pl_law_flights.proofs.Growing.{between_grown, leaving_grown}
+use Rattle.pl_law_flights.proofs.RoutesStay.{between_grown, leaving_grown}
 use Rattle.pl_law_flights.proofs.Hands.{GoodActs, Hand, MayLeave, made_here, turned}
 use Rattle.pl_law_flights.proofs.Hands.Hand.{Empty, Spreads, Waits}
 use Rattle.pl_switch_rule.proofs.Exports.{begins_stays, groups_acts, probes_stay}
-use Rattle.pl_law_flights.proofs.Saying.{answer_good, flood_good, probe_good}
+use Rattle.pl_law_flights.proofs.ManagerKeepsFlights.{answer_good, flood_good, probe_good}
 use Rattle.pl_law_flights.proofs.SilentSteps.{AreSilent, IsSilent, silent_good, silent_turn}
 use Rattle.pl_law_flights.proofs.SwitchTurns.{turn_switches}
 
@@ -146,9 +146,9 @@ module _ (plan : Plan) (place : ℕ → Place) (history : AddressHistory) (t : �
   heard (Invalidate old new number ip) none = invalidated old (record { new = new; number = number; ip = ip }) (granted v old) refl
 
 -- a message of the manager that gives no pod
-pub says_told : (w : WorldView) (t : ℕ) (says : ToSwitch) (rest : List ToSwitch) (new : WorldView) → AccountsForFrames Loose → IsCounted w → IsJournaled w → StandsOn w →
+pub says_journaled : (w : WorldView) (t : ℕ) (says : ToSwitch) (rest : List ToSwitch) (new : WorldView) → AccountsForFrames Loose → IsCounted w → IsJournaled w → StandsOn w →
     GivesNoPod says → SwitchTurn Loose (record w { from_manager = set w.from_manager t rest }) t (Says says) Silent new → IsJournaled new
-says_told w t says rest new accounts counted told on none turn =
+says_journaled w t says rest new accounts counted told on none turn =
     let so = sound w counted in
     let history : AddressHistory = history_of (reverse w.journal) in
     let v : SwitchView = turn.before in

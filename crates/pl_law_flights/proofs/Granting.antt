@@ -18,7 +18,7 @@ use Rattle.pl_world.specs.declared.attachment.AttachmentPoint.{AttachmentPoint}
 use Rattle.pl_law_flights.specs.OnTheWay.{JournalSays, history_of}
 use Rattle.pl_law_flights.proofs.Counting.{IsNowhere}
 use Rattle.pl_law_flights.proofs.KeepingFlights.{Keeps, KeepsHistory}
-use Rattle.pl_law_flights.proofs.Noting.{note}
+use Rattle.pl_law_flights.proofs.EntriesOfFlights.{note}
 
 -- what nobody holds was granted nowhere
 nowhere_granted : (past : List Entry) (x : ℕ) → holder past x ≡ None → edge_port past x ≡ None

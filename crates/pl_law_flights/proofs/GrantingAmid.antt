@@ -24,12 +24,12 @@ use Rattle.pl_world.specs.Changes.{host_no, host_of, switch_no}
 use Rattle.pl_world.specs.SwitchActs.{DuringActs, act_done, acts_done, granted}
 use Rattle.pl_world.specs.Worlds.{WorldView}
 use Rattle.pl_law_flights.specs.OnTheWay.{IsJournaled, history_of, place_in}
-use Rattle.pl_law_flights.proofs.Acting.{IsDone, acts_told, control_amid, done_told}
+use Rattle.pl_law_flights.proofs.ActsKeepFlights.{IsDone, acts_journaled, control_amid, done_journaled}
 use Rattle.pl_law_flights.proofs.Counting.{counts, owed}
 use Rattle.pl_law_flights.proofs.Granting.{granted_source, note_grant}
 use Rattle.pl_law_flights.proofs.Hands.{GoodActs, IsAmid, IsHeld}
 use Rattle.pl_law_flights.proofs.Hands.Hand.{Waits}
-use Rattle.pl_law_flights.proofs.Noting.{reverse_noted}
+use Rattle.pl_law_flights.proofs.EntriesOfFlights.{reverse_noted}
 use Rattle.pl_law_flights.proofs.SilentSteps.{AreSilent}
 
 -- the frame in hand once its sender was granted an address, by the journal then
@@ -49,13 +49,13 @@ module _ (place : ℕ → Place) (s k : ℕ) (id : ℕ) (f : Flight) (pmac : Pma
       IsAmid place s (Waits f false) past w (Waiting id false) [] → has_just_come_in past id ≡ true →
       ((g : ℕ) → (id == g) ≡ false → has_just_come_in past g ≡ false) → GoodBehind w past o →
       IsDone place s k (acts_done s (amid (granted w s pmac o) (Waiting id false) []) rest)
-  by_host w past None st st2 fits said a just away good = acts_told place s k w (Waiting id false) [] past (Waits f false) rest fits said st a good
+  by_host w past None st st2 fits said a just away good = acts_journaled place s k w (Waiting id false) [] past (Waits f false) rest fits said st a good
   by_host w past (Some h) st st2 fits said a just away good =
       let e : Entry = Granted pmac (host_no h) (switch_no s) pmac.port in
       let held : IsHeld w.plan s f past id false = a.holds.1 in
       let here : one id id + 0 ≡ 1 + 0 = ap (λ n. n + 0) (cond-true (id == id) 1 0 (eq-eqb id id refl)) in
       let o = owed w.plan past w.from_hosts w.out (λ i. one id i + ends [] i) id 0 a.tells.run (counts w past _ a.is st.balance) here in
-      acts_told place s k (granted w s pmac (Some h)) (Waiting id false) [] (e ∷ past) (Waits (sourced (e ∷ past) f) false) rest fits said st2
+      acts_journaled place s k (granted w s pmac (Some h)) (Waiting id false) [] (e ∷ past) (Waits (sourced (e ∷ past) f) false) rest fits said st2
       (record {
         is = reverse_noted w.journal past e a.is;
         tells = note_grant w.plan place past w.links w.attachments w.from_hosts w.out id pmac (host_no h) (switch_no s) pmac.port
@@ -118,5 +118,5 @@ entering_turn rule accounts w s input new same can id f past owes r turn silent 
     let said_all : is_said (fold frame_state_after SaidWaiting (silent ++ act.Grant pmac amac ∷ rest)) ≡ true =
     subst (λ acts. is_said (fold frame_state_after SaidWaiting acts) ≡ true) is said in
     let done = grants_amid (place_in new.switches) s k id f pmac amac rest silent w1 past are fits_all said_all start a just away good in
-    done_told (place_in new.switches) s k (acts_done s (amid w1 (Waiting id false) []) turn.acts) turn.before.place turn.after.place
+    done_journaled (place_in new.switches) s k (acts_done s (amid w1 (Waiting id false) []) turn.acts) turn.before.place turn.after.place
     (subst (λ acts. IsDone (place_in new.switches) s k (acts_done s (amid w1 (Waiting id false) []) acts)) (sym is) done) new turn.changed

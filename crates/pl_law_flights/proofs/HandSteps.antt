@@ -32,8 +32,8 @@ use Rattle.pl_law_flights.proofs.Counting.{Counts, IsNowhere, IsOwed, next_nowhe
 use Rattle.pl_law_flights.proofs.Hands.{Hand, InHand, IsAmid, IsHeld, IsPutOff, IsSpentThere, MayEnd, MayLeave, MayTake, MayTurn, again_past, made_here, turned}
 use Rattle.pl_law_flights.proofs.Hands.Hand.{Empty, Spreads, Waits}
 use Rattle.pl_law_flights.proofs.KeepingFlights.{kept, same_history}
-use Rattle.pl_law_flights.proofs.Noting.{grown, late_kept, late_written, note, note_drop, reverse_grown, reverse_noted}
-use Rattle.pl_law_flights.proofs.Leaving.{goes_out_told}
+use Rattle.pl_law_flights.proofs.EntriesOfFlights.{grown, late_kept, late_written, note, note_drop, reverse_grown, reverse_noted}
+use Rattle.pl_law_flights.proofs.FlightsLeaveByPorts.{goes_out_journaled}
 
 pub crossed_first : (switches : List ℕ) (s : ℕ) → first_of switches ≡ Some s → is_empty switches ≡ false
 crossed_first [] s is = absurd (cc)
@@ -162,11 +162,11 @@ module _ (place : ℕ → Place) (s : ℕ) (w : WorldView) where
           }
 
   -- it is dropped
-  pub drop_told : (again : Bool) (id : ℕ) (f : Flight) (past late : List Entry) (why : Cause) → Again again id past late → ends late id ≡ 0 →
+  pub drop_journaled : (again : Bool) (id : ℕ) (f : Flight) (past late : List Entry) (why : Cause) → Again again id past late → ends late id ≡ 0 →
       IsHeld w.plan s f past id again → MayEnd (history_of (again_past s id again past)) f why →
       IsAmid place s Empty (Dropped id why ∷ again_past s id again past)
       (record w { journal = (w.journal ++ (if again then Crossed id (switch_no s) ∷ [] else [])) ++ Dropped id why ∷ [] }) Over late
-  drop_told again id f past late why a none held may =
+  drop_journaled again id f past late why a none held may =
       let now : List Entry = again_past s id again past in
       record {
         is = reverse_noted (w.journal ++ (if again then Crossed id (switch_no s) ∷ [] else [])) now (Dropped id why) a.is;
@@ -176,11 +176,11 @@ module _ (place : ℕ → Place) (s : ℕ) (w : WorldView) where
       }
 
   -- the switch takes it
-  pub take_told : (again : Bool) (id : ℕ) (f : Flight) (past late : List Entry) → Again again id past late → ends late id ≡ 0 →
+  pub take_journaled : (again : Bool) (id : ℕ) (f : Flight) (past late : List Entry) → Again again id past late → ends late id ≡ 0 →
       IsHeld w.plan s f past id again → MayTake s f →
       IsAmid place s Empty (Taken id (switch_no s) ∷ again_past s id again past)
       (record w { journal = (w.journal ++ (if again then Crossed id (switch_no s) ∷ [] else [])) ++ Taken id (switch_no s) ∷ [] }) Over late
-  take_told again id f past late a none held may =
+  take_journaled again id f past late a none held may =
       let now : List Entry = again_past s id again past in
       let flight : flight_of w.plan now id ≡ f = held.in_hand.flight in
       let taken : IsTakenBy now id s = record {
@@ -197,11 +197,11 @@ module _ (place : ℕ → Place) (s : ℕ) (w : WorldView) where
       }
 
   -- it is redirected
-  pub turn_told : (again : Bool) (id : ℕ) (f : Flight) (past late : List Entry) (old new : Pmac) → Counts past w.from_hosts w.out (λ i. one id i + ends late i) →
+  pub turn_journaled : (again : Bool) (id : ℕ) (f : Flight) (past late : List Entry) (old new : Pmac) → Counts past w.from_hosts w.out (λ i. one id i + ends late i) →
       IsAmid place s (Waits f again) past w (Waiting id again) late → MayTurn (history_of past) s f old new →
       IsAmid place s (Waits (turned s f again new) true) (Redirected id old new ∷ past)
       (record w { journal = w.journal ++ Redirected id old new ∷ [] }) (Waiting id true) late
-  turn_told again id f past late old new c a may =
+  turn_journaled again id f past late old new c a may =
       let here : one id id + ends late id ≡ 1 + ends late id = ap (λ n. n + ends late id) (cond-true (id == id) 1 0 (eq-eqb id id refl)) in
       let o = owed w.plan past w.from_hosts w.out (λ i. one id i + ends late i) id (ends late id) a.tells.run c here in
       record {
@@ -215,7 +215,7 @@ module _ (place : ℕ → Place) (s : ℕ) (w : WorldView) where
       }
 
   -- it is passed on
-  pub pass_told : (again : Bool) (id port : ℕ) (f : Flight) (frame : List ℕ) (past late : List Entry) → IsPlan w.plan → port < w.plan.k →
+  pub pass_journaled : (again : Bool) (id port : ℕ) (f : Flight) (frame : List ℕ) (past late : List Entry) → IsPlan w.plan → port < w.plan.k →
       Again again id past late → IsHeld w.plan s f past id again →
       MayLeave w.plan place (history_of (again_past s id again past)) s port (peer_of w.plan s port) f frame →
       IsAmid place s (Spreads f) (again_past s id again past) (record w {
@@ -223,9 +223,9 @@ module _ (place : ℕ → Place) (s : ℕ) (w : WorldView) where
         out = if is_failed_at w s port then w.out
             else set w.out (port_index w.plan.k s port) (get_or w.out (port_index w.plan.k s port) [] ++ Data id frame ∷ []);
       }) (Passed id) (if is_failed_at w s port then late ++ Dropped id cause.LinkDown ∷ [] else late)
-  pass_told again id port f frame past late is_plan within a held may =
+  pass_journaled again id port f frame past late is_plan within a held may =
       let now : List Entry = again_past s id again past in
-      let o = goes_out_told place s w now (is_failed_at w s port) id port f frame late refl within is_plan a.tells held.in_hand may a.puts_off in
+      let o = goes_out_journaled place s w now (is_failed_at w s port) id port f frame late refl within is_plan a.tells held.in_hand may a.puts_off in
       record {
         is = a.is;
         tells = record {
@@ -240,7 +240,7 @@ module _ (place : ℕ → Place) (s : ℕ) (w : WorldView) where
       }
 
   -- it is copied, and the copy passed on
-  pub copy_told : (id port : ℕ) (f : Flight) (frame : List ℕ) (past late : List Entry) → IsPlan w.plan → port < w.plan.k →
+  pub copy_journaled : (id port : ℕ) (f : Flight) (frame : List ℕ) (past late : List Entry) → IsPlan w.plan → port < w.plan.k →
       begun past ≡ w.begun → Counts past w.from_hosts w.out (λ i. 0 + ends late i) → IsAmid place s (Spreads f) past w (Passed id) late →
       is_group (destination_of f.beginning) ≡ true → MayLeave w.plan place (history_of past) s port (peer_of w.plan s port) f frame →
       IsAmid place s (Spreads f) (Copied id (w.begun + 1) ∷ past) (record w {
@@ -249,7 +249,7 @@ module _ (place : ℕ → Place) (s : ℕ) (w : WorldView) where
         out = if is_failed_at w s port then w.out
             else set w.out (port_index w.plan.k s port) (get_or w.out (port_index w.plan.k s port) [] ++ Data (w.begun + 1) frame ∷ []);
       }) (Passed id) (if is_failed_at w s port then late ++ Dropped (w.begun + 1) cause.LinkDown ∷ [] else late)
-  copy_told id port f frame past late is_plan within many c a group may =
+  copy_journaled id port f frame past late is_plan within many c a group may =
       let n : ℕ = w.begun + 1 in
       let next : n ≡ begun past + 1 = ap (λ m. m + 1) (sym many) in
       let new : is_begun past n ≡ false = next_is_new w.plan past n a.tells.run next in
@@ -273,7 +273,7 @@ module _ (place : ℕ → Place) (s : ℕ) (w : WorldView) where
         live = λ u. rw other (in_hand.live u);
         last = in_hand.last;
       } in
-      let o = goes_out_told place s w now (is_failed_at w s port) n port f frame late refl within is_plan t copy may all in
+      let o = goes_out_journaled place s w now (is_failed_at w s port) n port f frame late refl within is_plan t copy may all in
       record {
         is = reverse_noted w.journal past (Copied id n) a.is;
         tells = record { run = t.run; trail = t.trail; links_agree = t.links_agree; attachments_agree = t.attachments_agree; flying = o.flying };
@@ -282,7 +282,7 @@ module _ (place : ℕ → Place) (s : ℕ) (w : WorldView) where
       }
 
   -- one is made, and crosses the switch
-  pub make_told : (hand : Hand) (speech : SpokenFrame) (frame : List ℕ) (past late : List Entry) → begun past ≡ w.begun → begun late ≡ 0 →
+  pub make_journaled : (hand : Hand) (speech : SpokenFrame) (frame : List ℕ) (past late : List Entry) → begun past ≡ w.begun → begun late ≡ 0 →
       Counts past w.from_hosts w.out (λ i. ends late i) → IsAmid place s hand past w speech late →
       IsAmid place s (Waits (made_here (w.begun + 1) s frame) false)
       (Crossed (w.begun + 1) (switch_no s) ∷ Made (w.begun + 1) (switch_no s) frame ∷ grown late past)
@@ -290,7 +290,7 @@ module _ (place : ℕ → Place) (s : ℕ) (w : WorldView) where
         journal = ((w.journal ++ late) ++ Made (w.begun + 1) (switch_no s) frame ∷ []) ++ Crossed (w.begun + 1) (switch_no s) ∷ [];
         begun = w.begun + 1;
       }) (Waiting (w.begun + 1) false) []
-  make_told hand speech frame past late many none c a =
+  make_journaled hand speech frame past late many none c a =
       let n : ℕ = w.begun + 1 in
       let made : Entry = Made n (switch_no s) frame in
       let crossed : Entry = Crossed n (switch_no s) in

@@ -22,12 +22,12 @@ use Rattle.pl_world.proofs.Exports.{all_found, host_act, hosts_rest, hosts_withi
 use Rattle.pl_law_flights.specs.OnTheWay.{IsJournaled, JournalSays, history_of, place_in}
 use Rattle.pl_law_flights.proofs.Counting.{begun_is, counts, next_nowhere, nobody}
 use Rattle.pl_law_flights.proofs.KeepingFlights.{kept, same_history}
-use Rattle.pl_law_flights.proofs.Noting.{note, reverse_noted}
+use Rattle.pl_law_flights.proofs.EntriesOfFlights.{note, reverse_noted}
 use Rattle.pl_law_flights.proofs.Queues.{put_host}
 
 -- a host sends a frame
-pub sent_told : (w : WorldView) (h : ℕ) (a : HostAct) → Sound w → IsJournaled w → IsJournaled (host_act_done h w a)
-sent_told w h (Send frame) so told =
+pub sent_journaled : (w : WorldView) (h : ℕ) (a : HostAct) → Sound w → IsJournaled w → IsJournaled (host_act_done h w a)
+sent_journaled w h (Send frame) so told =
     let past : List Entry = reverse w.journal in
     let n : ℕ = w.begun + 1 in
     let sent : Entry = Sent n (host_no h) frame in
@@ -52,12 +52,12 @@ all_sent : (w : WorldView) (h : ℕ) (acts : List HostAct) → h < length w.from
 all_sent w h [] within are so told = told
 all_sent w h (a ∷ acts) within are so told =
     let both = and_parts (is_data (sent_by a)) (are_data (map sent_by acts)) are in
-    all_sent (host_act_done h w a) h acts (hosts_within w h a within) both.1 (host_act w h a within both.0 so) (sent_told w h a so told)
+    all_sent (host_act_done h w a) h acts (hosts_within w h a within) both.1 (host_act w h a within both.0 so) (sent_journaled w h a so told)
 
 -- a turn of a host
-pub host_told : (rule : HostRule) → HostsSendData rule → (w : WorldView) (h : ℕ) (input : HostInput) (answer : HostAnswer) (new : WorldView) →
+pub host_journaled : (rule : HostRule) → HostsSendData rule → (w : WorldView) (h : ℕ) (input : HostInput) (answer : HostAnswer) (new : WorldView) →
     Sound w → IsJournaled w → HostTurn rule w h input answer new → IsJournaled new
-host_told rule sends w h input answer new so told turn =
+host_journaled rule sends w h input answer new so told turn =
     let holds : HoldsData turn.before = all_found HoldsData w.hosts h turn.before turn.found so.rest.holding in
     let owed = sends turn.before input turn.after turn.acts answer holds turn.ruled in
     let within : h < length w.hosts = slice_get_within w.hosts h turn.before turn.found in
@@ -67,9 +67,9 @@ host_told rule sends w h input answer new so told turn =
     (record { balance = so.balance; rest = hosts_rest w h turn.after owed.holds so.rest }) told)
 
 -- a recorded frame that is passed over
-skip_told : (w : WorldView) (h : ℕ) (skip : Option Skip) → Sound w → IsJournaled w → IsJournaled (skip_noted w h skip)
-skip_told w h None so told = told
-skip_told w h (Some skip) so told =
+skip_journaled : (w : WorldView) (h : ℕ) (skip : Option Skip) → Sound w → IsJournaled w → IsJournaled (skip_noted w h skip)
+skip_journaled w h None so told = told
+skip_journaled w h (Some skip) so told =
     let past : List Entry = reverse w.journal in
     let e : Entry = Skipped (host_no h) skip in
     subst (λ p. JournalSays w.plan (place_in w.switches) p w.links w.attachments w.from_hosts w.out) (sym (reverse_noted w.journal past e refl))
@@ -84,7 +84,7 @@ skip_sound w h (Some skip) so = record {
 }
 
 -- a host plays a recorded frame
-pub plays_told : (rule : HostRule) → HostsSendData rule → (w : WorldView) (h : ℕ) (input : HostInput) (new : WorldView) → Sound w → IsJournaled w →
+pub plays_journaled : (rule : HostRule) → HostsSendData rule → (w : WorldView) (h : ℕ) (input : HostInput) (new : WorldView) → Sound w → IsJournaled w →
     HostPlays rule w h input new → IsJournaled new
-plays_told rule sends w h input new so told plays =
-    host_told rule sends (skip_noted w h plays.skip) h input _ new (skip_sound w h plays.skip so) (skip_told w h plays.skip so told) plays.turn
+plays_journaled rule sends w h input new so told plays =
+    host_journaled rule sends (skip_noted w h plays.skip) h input _ new (skip_sound w h plays.skip so) (skip_journaled w h plays.skip so told) plays.turn

@@ -40,11 +40,11 @@ use Rattle.pl_world.specs.Worlds.{WorldView}
 use Rattle.pl_world.proofs.Exports.{all_found, attachments_rest, begun-append, counted as to_counted, emptied_host_balance, emptied_out_balance, ends_of-begun, heard_rest, noted_owes, Sound, sound}
 use Rattle.pl_law_flights.specs.OnTheWay.{IsGoing, IsOut, IsJournaled, IsWaiting, AttachmentsAgree, JournalSays, history_of, place_in, edge_port_of_attachment}
 use Rattle.pl_law_flights.proofs.Arriving.{found_at}
-use Rattle.pl_law_flights.proofs.Failing.{IsEnding, ends_told}
+use Rattle.pl_law_flights.proofs.Failing.{IsEnding, ends_journaled}
 use Rattle.pl_law_flights.proofs.Counting.{counts, nobody}
-use Rattle.pl_law_flights.proofs.HostTurns.{host_told}
+use Rattle.pl_law_flights.proofs.HostTurns.{host_journaled}
 use Rattle.pl_law_flights.proofs.KeepingFlights.{goes_on, kept, same_history}
-use Rattle.pl_law_flights.proofs.Noting.{reverse_noted}
+use Rattle.pl_law_flights.proofs.EntriesOfFlights.{reverse_noted}
 use Rattle.pl_law_flights.proofs.Queues.{set_host, set_out}
 
 is_there : {T : Type 0} (xs : List T) (n : ℕ) → n < length xs → IsSome (slice_get xs n)
@@ -183,8 +183,8 @@ module _ (w : WorldView) (counted : IsCounted w) (told : IsJournaled w) (h : ℕ
         rest = heard_rest (record w { attachments = set w.attachments h to }) _ (length-set w.heard h _) (attachments_rest w h to there s.rest);
       }
 
-  pub moved_told : IsJournaled (host_moved w h from to)
-  moved_told =
+  pub moved_journaled : IsJournaled (host_moved w h from to)
+  moved_journaled =
       let plan : Plan = w.plan in
       let past : List Entry = reverse w.journal in
       let place : ℕ → Place = place_in w.switches in
@@ -214,11 +214,11 @@ module _ (w : WorldView) (counted : IsCounted w) (told : IsJournaled w) (h : ℕ
       all_append (IsEnding plan now) (ends_of cause.HostGone one) (ends_of cause.HostGone two)
       (left_shown plan past h to one (told.flying.waiting h))
       (gone_shown plan place past h to from.edge.0 from.port peer gone two (told.flying.going from.edge.0 from.port within)) in
-      ends_told (host_moved w h from to) (ends_of cause.HostGone one ++ ends_of cause.HostGone two) (w.journal ++ e ∷ []) now
+      ends_journaled (host_moved w h from to) (ends_of cause.HostGone one ++ ends_of cause.HostGone two) (w.journal ++ e ∷ []) now
       (append_assoc (w.journal ++ e ∷ []) (ends_of cause.HostGone one) (ends_of cause.HostGone two)) (reverse_noted w.journal past e refl)
       (let a = ends_of-begun cause.HostGone one in let b = ends_of-begun cause.HostGone two in
       omega (arith, begun-append (ends_of cause.HostGone one) (ends_of cause.HostGone two))) (to_counted (host_moved w h from to) moved_sound) all t
 
   -- a host moves, and does there what it does after a move
-  pub goes_told : (rule : HostRule) → HostsSendData rule → (new : WorldView) → HostMoves rule w h to (Some from) new → IsJournaled new
-  goes_told rule sends new turn = host_told rule sends (host_moved w h from to) h _ _ new moved_sound moved_told turn
+  pub goes_journaled : (rule : HostRule) → HostsSendData rule → (new : WorldView) → HostMoves rule w h to (Some from) new → IsJournaled new
+  goes_journaled rule sends new turn = host_journaled rule sends (host_moved w h from to) h _ _ new moved_sound moved_journaled turn

@@ -43,10 +43,10 @@ use Rattle.pl_law_flights.proofs.Hands.{GoodActs, InHand, IsAmid}
 use Rattle.pl_law_flights.proofs.Hands.Hand.{Waits}
 use Rattle.pl_law_flights.proofs.HandSteps.{crossed_first}
 use Rattle.pl_law_flights.proofs.KeepingFlights.{between_kept, kept, same_history}
-use Rattle.pl_law_flights.proofs.Noting.{note, reverse_noted}
+use Rattle.pl_law_flights.proofs.EntriesOfFlights.{note, reverse_noted}
 use Rattle.pl_law_flights.proofs.Queues.{set_out}
 use Rattle.pl_law_flights.proofs.Rungs.{adjacent}
-use Rattle.pl_law_flights.proofs.SwitchTurns.{turn_switches, turn_told}
+use Rattle.pl_law_flights.proofs.SwitchTurns.{turn_switches, turn_journaled}
 use Rattle.pl_switch_rule.proofs.Exports.{switch_frame_stays}
 
 set_found : {T : Type 0} (xs : List T) (n : ℕ) (x : T) → slice_get xs n ≡ Some x → set xs n x ≡ xs
@@ -99,9 +99,9 @@ IsGoodAtHome w t id frame = (v : SwitchView) (choose : Choice) → slice_get w.s
 module _ (w : WorldView) (counted : IsCounted w) (told : IsJournaled w) (on : StandsOn w) (s port id : ℕ) (frame : List ℕ) (items : List Item)
     (within : port < w.plan.k) (head : out_of w s port ≡ Data id frame ∷ items) (t : SwitchNo) (q : ℕ) (peer : peer_of w.plan s port ≡ Switch t q)
     (accounts : AccountsForFrames Loose) (trees : KnowTrees w) (home : IsGoodAtHome w t.0 id frame) where
-  pub comes_told : (new : WorldView) → SwitchTurn Loose (noted (taken_out w s port items) (Crossed id t)) t.0 (Comes q frame) (Waiting id false) new →
+  pub comes_journaled : (new : WorldView) → SwitchTurn Loose (noted (taken_out w s port items) (Crossed id t)) t.0 (Comes q frame) (Waiting id false) new →
       IsJournaled new
-  comes_told new turn =
+  comes_journaled new turn =
       let past : List Entry = reverse w.journal in
       let place : ℕ → Place = place_in w.switches in
       let w1 : WorldView = taken_out w s port items in
@@ -153,7 +153,7 @@ module _ (w : WorldView) (counted : IsCounted w) (told : IsJournaled w) (on : St
       × GoodActs w.plan (place_in vs) (history_of now) t.0 turn.acts (Waits (crossed_at t.0 f) false) in
       let all : P new.switches = subst P same (amid, good_there) in
       let port_there = subst (λ (p : Peer). IsPort w.plan.k p) peer (peer_is_port w.plan s port is_plan) in
-      turn_told Loose accounts (noted w1 (Crossed id t)) t.0 (Comes q frame) (Waiting id false) new turn
+      turn_journaled Loose accounts (noted w1 (Crossed id t)) t.0 (Comes q frame) (Waiting id false) new turn
       (rw (took.is_frame.kind) refl) (λ u size. record { within = subst (λ n. q < n) (sym size) port_there.1; whole = took.is_frame.whole })
       (noted_owes w1 (λ i. times_in i (Data id frame ∷ [])) (λ i. one id i + 0) (Crossed id t ∷ []) refl (λ i. omega (arith, times_in-data i id frame [])) took.owes)
       so.rest (Waits (crossed_at t.0 f) false) now all.0 all.1

@@ -25,13 +25,13 @@ use Rattle.pl_world.specs.Worlds.{WorldView}
 use Rattle.pl_world.proofs.Exports.{act_steady, all_found, amid, Sound, Steady, switches_rest}
 use Rattle.pl_law_flights.specs.OnTheWay.{IsJournaled, place_in}
 use Rattle.pl_law_flights.specs.Standing.{IsMore}
-use Rattle.pl_law_flights.proofs.Acting.{IsDone, control_amid, done_told}
+use Rattle.pl_law_flights.proofs.ActsKeepFlights.{IsDone, control_amid, done_journaled}
 use Rattle.pl_law_flights.proofs.Counting.{counts, nobody}
 use Rattle.pl_law_flights.proofs.Granting.{note_grant}
-use Rattle.pl_law_flights.proofs.Growing.{tells_grown}
+use Rattle.pl_law_flights.proofs.RoutesStay.{tells_grown}
 use Rattle.pl_law_flights.proofs.Hands.{IsAmid}
 use Rattle.pl_law_flights.proofs.Hands.Hand.{Empty}
-use Rattle.pl_law_flights.proofs.Noting.{reverse_noted}
+use Rattle.pl_law_flights.proofs.EntriesOfFlights.{reverse_noted}
 
 abbrev pub GrantsFor : (List Entry → Type 0) → Plan → ℕ → List Entry → Pmac → Option ℕ → Type 0
 GrantsFor next plan s past pmac None = next past
@@ -110,5 +110,5 @@ settling_turn rule accounts w s input new same can so told turn more well away =
       holds = tt;
       puts_off = tt;
     } in
-    done_told (place_in new.switches) s k (acts_done s (amid w1 Silent []) turn.acts) turn.before.place turn.after.place
+    done_journaled (place_in new.switches) s k (acts_done s (amid w1 Silent []) turn.acts) turn.before.place turn.after.place
     (settles (place_in new.switches) s k w1 (reverse w.journal) turn.acts kept.fit said start a well away) new turn.changed

@@ -21,10 +21,10 @@ use Rattle.pl_world.specs.Worlds.{WorldView}
 use Rattle.pl_world.proofs.Exports.{heard_rest, Sound, sound, ticked_heard}
 use Rattle.pl_law_flights.specs.OnTheWay.{AddressHistory, IsJournaled, history_of, place_in}
 use Rattle.pl_law_flights.specs.Standing.{IsMore}
-use Rattle.pl_law_flights.proofs.Growing.{tells_grown}
+use Rattle.pl_law_flights.proofs.RoutesStay.{tells_grown}
 use Rattle.pl_law_flights.proofs.Hands.{GoodActs, Hand}
 use Rattle.pl_law_flights.proofs.Hands.Hand.{Empty}
-use Rattle.pl_law_flights.proofs.SwitchTurns.{turn_told}
+use Rattle.pl_law_flights.proofs.SwitchTurns.{turn_journaled}
 use Rattle.pl_layouts.specs.declared.place.Place.{Place}
 use Rattle.pl_switch_rule.proofs.Exports.{ChangeActs, ticks_acts, told_acts}
 
@@ -67,7 +67,7 @@ pub silent_turn : (rule : SwitchRule) → AccountsForFrames rule → (w : WorldV
     IsMore (place_in w.switches) (place_in new.switches) →
     GoodActs w.plan (place_in new.switches) (history_of (reverse w.journal)) s turn.acts Empty → IsJournaled new
 silent_turn rule accounts w s input new same can so told turn more good =
-    turn_told rule accounts w s input Silent new turn same can so.balance so.rest Empty (reverse w.journal)
+    turn_journaled rule accounts w s input Silent new turn same can so.balance so.rest Empty (reverse w.journal)
     (record {
       is = refl;
       tells = tells_grown (place_in w.switches) (place_in new.switches) more w.plan (reverse w.journal) w.links w.attachments w.from_hosts w.out told;
@@ -76,9 +76,9 @@ silent_turn rule accounts w s input new same can so told turn more good =
     }) good
 
 -- a switch ticks
-pub ticks_told : (w : WorldView) (s : ℕ) (new : WorldView) → AccountsForFrames Loose → IsCounted w → IsJournaled w → Ticks Loose w s new →
+pub ticks_journaled : (w : WorldView) (s : ℕ) (new : WorldView) → AccountsForFrames Loose → IsCounted w → IsJournaled w → Ticks Loose w s new →
     IsMore (place_in w.switches) (place_in new.switches) → IsJournaled new
-ticks_told w s new accounts counted told turn more =
+ticks_journaled w s new accounts counted told turn more =
     let so = sound w counted in
     let heard : WorldView = record w { heard = heard_after_tick s w.attachments w.heard } in
     let v : SwitchView = turn.before in

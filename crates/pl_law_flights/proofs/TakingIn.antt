@@ -37,7 +37,7 @@ use Rattle.pl_law_flights.proofs.Hands.{GoodActs, MayTake}
 use Rattle.pl_law_flights.proofs.Hands.Hand.{Waits}
 use Rattle.pl_law_flights.proofs.HomeActs.{IsHere, leaves_then}
 use Rattle.pl_law_flights.proofs.Rewriting.{arriving_twice}
-use Rattle.pl_law_flights.proofs.Saying.{spreads_good}
+use Rattle.pl_law_flights.proofs.ManagerKeepsFlights.{spreads_good}
 use Rattle.pl_law_flights.proofs.SilentSteps.{IsSilent, silent_good}
 
 -- A frame of a host in hand at switch t, which it crossed alone.

@@ -3,5 +3,5 @@ pub mod Grounding
 pub mod KeepingControl
 pub mod LawfulRuns
 pub mod ControlInRuns
-pub mod Executions
+pub mod ExecutionsKeepInvariant
 pub mod Exports

@@ -46,7 +46,7 @@ use Rattle.pl_law_addresses.specs.Registries.{registry_of}
 use Rattle.pl_law_addresses.specs.Addressed.{AreAddressed, KnowNeighbours}
 use Rattle.pl_law_addresses.proofs.Exports.{Brings, brings_frame, brings_order, brings_tick, exists_at, Facts, filled_within, get-set_other, get-set_same, IsOfHost, own_frame}
 use Rattle.pl_law_ledger.specs.Ledgers.{HasStoodThere}
-use Rattle.pl_law_ledger.proofs.Turning.{AreFormed, IsIn, StoodAt, host_is, manager_ledger, source_is, switch_ledger}
+use Rattle.pl_law_ledger.proofs.TurnsKeepLedger.{AreFormed, IsIn, StoodAt, host_is, manager_ledger, source_is, switch_ledger}
 use Rattle.pl_law_ledger.proofs.GrantsWritten.{IsNoGrantEntry, Parts, one_quiet, one_written, parts_of, quiet_ends, quiet_parts, quiet_written, written}
 
 -- ---- what is written besides

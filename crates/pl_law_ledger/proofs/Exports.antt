@@ -3,4 +3,4 @@ pub use Rattle.pl_law_ledger.proofs.AddressTables.{held_somewhere, IsAlike, IsLa
 pub use Rattle.pl_law_ledger.proofs.LedgerInRuns.{entered_first, entered_in_run, entered_mark, entered_step, grounds, in_bounds, IsEnteredAll, kept_in_run, places_grow}
 pub use Rattle.pl_law_ledger.proofs.Numbering.{learns, LearnsBy, LearnsOne, Numbering, numberings}
 pub use Rattle.pl_law_ledger.proofs.StepsKeepLedger.{fits_there}
-pub use Rattle.pl_law_ledger.proofs.Turning.{source_is}
+pub use Rattle.pl_law_ledger.proofs.TurnsKeepLedger.{source_is}

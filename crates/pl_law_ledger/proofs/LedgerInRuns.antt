@@ -38,9 +38,9 @@ use Rattle.pl_law_invariant.proofs.Exports.{grounded, run_keeps_all}
 use Rattle.pl_law_pods.proofs.Exports.{given_below, numbers_fit}
 use Rattle.pl_law_pods.specs.Pods.{id_of}
 use Rattle.pl_law_ledger.specs.Ledgers.{AreInBounds, IsLedger, ledger}
-use Rattle.pl_law_ledger.proofs.Beginning.{boot_ledger, step_ledger}
+use Rattle.pl_law_ledger.proofs.LedgerAtFirst.{boot_ledger, step_ledger}
 use Rattle.pl_law_ledger.proofs.GrantsWritten.{one_quiet, parts_of}
-use Rattle.pl_law_ledger.proofs.Turning.{IsIn}
+use Rattle.pl_law_ledger.proofs.TurnsKeepLedger.{IsIn}
 use Rattle.pl_law_ledger.specs.Askers.{IsWishOf, ZerosAsk}
 use Rattle.pl_law_ledger.proofs.Asking.{few_numbers_given, plane_asking, plane_grown}
 

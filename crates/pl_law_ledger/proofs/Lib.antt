@@ -6,9 +6,9 @@ pub mod GrantsWritten
 pub mod AddressTables
 pub mod StepsKeepLedger
 pub mod Numbering
-pub mod Turning
+pub mod TurnsKeepLedger
 pub mod EventsKeepLedger
-pub mod Beginning
+pub mod LedgerAtFirst
 pub mod Asking
 pub mod LedgerInRuns
 pub mod Exports

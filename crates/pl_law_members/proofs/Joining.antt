@@ -26,7 +26,7 @@ use Rattle.pl_world.specs.Worlds.{WorldView}
 use Rattle.pl_world.proofs.Exports.{all_found, Turned, turned}
 use Rattle.pl_world.proofs.Exports.Turned.{NoTurn, OfFailed, OfHost, OfManager, OfMoved, OfRepaired, OfSwitch}
 use Rattle.pl_law_members.specs.Joined.{HaveJoined}
-use Rattle.pl_law_members.proofs.Growing.{IsUnsent, Leaves, failed_leaves, joined_kept, leaves_takes, leaves_then, leaves_writes, manager_leaves, moved_leaves, repaired_leaves, turn_leaves}
+use Rattle.pl_law_members.proofs.HostsLeftAlone.{IsUnsent, Leaves, failed_leaves, joined_kept, leaves_takes, leaves_then, leaves_writes, manager_leaves, moved_leaves, repaired_leaves, turn_leaves}
 
 -- where hosts are as they were, and no frame of theirs was written
 pub left_joined : (w new : WorldView) → Leaves w new → HaveJoined w → HaveJoined new

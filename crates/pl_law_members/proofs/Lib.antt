@@ -1,4 +1,4 @@
-pub mod Growing
+pub mod HostsLeftAlone
 pub mod Joining
 pub mod MembersInRuns
 pub mod Exports

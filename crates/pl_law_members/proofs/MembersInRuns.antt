@@ -32,7 +32,7 @@ use Rattle.pl_world.specs.WorldRule.{WorldStep}
 use Rattle.pl_world.specs.Worlds.{WorldView}
 use Rattle.pl_world.proofs.Exports.{marked_counted, step_is_counted}
 use Rattle.pl_law_members.specs.Joined.{AreMembers, HaveJoined, HostsKeepTheirGroups}
-use Rattle.pl_law_members.proofs.Growing.{AreUnsent, grows_by}
+use Rattle.pl_law_members.proofs.HostsLeftAlone.{AreUnsent, grows_by}
 use Rattle.pl_law_members.proofs.Joining.{happens_joined, left_joined}
 
 -- The rule of the hosts.

@@ -21,8 +21,8 @@ use Rattle.pl_law_control_plane.specs.PlaneSteps.{IsLeft, IsOrderTaken, MessageI
 use Rattle.pl_law_control_plane.specs.PlaneSteps.PlaneStep.{Carried, Entered, Heard, Left, Managed, Ordered, Ticked}
 use Rattle.pl_law_places.specs.Places.{ArePlaced, ArePodNumbers, IsPodNumber, PositionsDiffer}
 use Rattle.pl_law_places.specs.Told.{IsGoodMessage, has_heard}
-use Rattle.pl_law_places.proofs.Entering.{carried_turn, entered_turn}
-use Rattle.pl_law_places.proofs.Hearing.{control_turn}
+use Rattle.pl_law_places.proofs.HostFramesKeepPlaces.{carried_turn, entered_turn}
+use Rattle.pl_law_places.proofs.DiscoveryKeepsPlaces.{control_turn}
 use Rattle.pl_law_places.proofs.Later.{IsGoodTurn, left_keeps, true_of_itself, turn_keeps, zero_later}
 use Rattle.pl_law_places.proofs.Obeying.{order_turn}
 use Rattle.pl_law_places.proofs.Ticking.{tick_turn}

@@ -1,13 +1,13 @@
 pub mod Later
-pub mod Turns
+pub mod TurnsWithoutControlFrames
 pub mod Ticking
 pub mod Voting
 pub mod Neighbours
 pub mod Given
-pub mod Hearing
-pub mod Entering
+pub mod DiscoveryKeepsPlaces
+pub mod HostFramesKeepPlaces
 pub mod Obeying
 pub mod KeepingPlaces
-pub mod Beginning
+pub mod PlacesAtFirst
 pub mod StepsKeepPlaces
 pub mod Exports

@@ -14,7 +14,7 @@ use Rattle.pl_law_control_plane.specs.ControlPlanes.{ControlPlane}
 use Rattle.pl_law_control_plane.proofs.Exports.{answers_silent, changes_to_silent, floods_silent, invalidates_silent, still_does, still_step}
 use Rattle.pl_law_places.specs.Places.{ArePlaced}
 use Rattle.pl_law_places.proofs.Later.{IsGoodTurn}
-use Rattle.pl_law_places.proofs.Turns.{IsGoodView, new_view, same_ports, silent_turn, view_itself}
+use Rattle.pl_law_places.proofs.TurnsWithoutControlFrames.{IsGoodView, new_view, same_ports, silent_turn, view_itself}
 use Rattle.pl_node.specs.declared.messages.ToSwitch.{ToSwitch}
 use Rattle.pl_node.specs.declared.messages.ToSwitch.TheVariants.{Answer, Avoid, Flood, Invalidate, Pod, Tree}
 use Rattle.pl_switch_rule.specs.Forwarding.{Choice}

@@ -29,7 +29,7 @@ use Rattle.pl_law_places.specs.Known.{IsAble, IsPlaceOfLabel, IsSoundView}
 use Rattle.pl_law_places.specs.Places.{ArePlaced}
 use Rattle.pl_law_places.specs.Told.{IsGoodMessage, has_heard}
 use Rattle.pl_law_places.proofs.Later.{IsGoodTurn, true_of_itself}
-use Rattle.pl_law_places.proofs.Turns.{IsGoodView, SamePorts, full_same, homes_same, same_view}
+use Rattle.pl_law_places.proofs.TurnsWithoutControlFrames.{IsGoodView, SamePorts, full_same, homes_same, same_view}
 use Rattle.pl_journal.specs.Flights.{label_level}
 
 level_low : (label : Label) → label_level label < 3

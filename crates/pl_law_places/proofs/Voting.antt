@@ -30,7 +30,7 @@ use Rattle.pl_law_control_plane.proofs.Exports.{changes_to_silent, grant_writabl
 use Rattle.pl_law_places.specs.Places.{ArePlaced}
 use Rattle.pl_law_places.specs.Told.{IsGoodMessage, IsOf, has_heard}
 use Rattle.pl_law_places.proofs.Later.{IsGoodTurn}
-use Rattle.pl_law_places.proofs.Turns.{IsGoodView, homes_same, new_view, same_ports, same_view, silent_turn, view_itself}
+use Rattle.pl_law_places.proofs.TurnsWithoutControlFrames.{IsGoodView, homes_same, new_view, same_ports, same_view, silent_turn, view_itself}
 
 -- Holds.
 

@@ -33,7 +33,7 @@ use Rattle.pl_law_votes.specs.Voting.{CanTell, aggregation_no, edge_no}
 use Rattle.pl_law_votes.proofs.Exports.{after_proposal, changes, leads_up, learnt, same_end, same_stance, SaysPlace, SaysProposal, sends_none, Stance, stance, tick_says, TickSays, vote_elsewhere, vote_here, vote_holds, vote_said}
 use Rattle.pl_law_placing.specs.Trying.{AreTryingBy, HasReason, IsHolder, IsTrueVote, NamesSomeHolder}
 use Rattle.pl_law_placing.proofs.Below.{edge_adjacent}
-use Rattle.pl_law_placing.proofs.Growing.{Owes, OwesHolds, holds_same, left_trying, reason_same, trying_same, turned_trying, vote_later}
+use Rattle.pl_law_placing.proofs.TriesStayInOrder.{Owes, OwesHolds, holds_same, left_trying, reason_same, trying_same, turned_trying, vote_later}
 use Rattle.pl_law_placing.proofs.Held.{freed_was, proposal_from, told_from}
 use Rattle.pl_law_placing.proofs.Seeing.{Seen}
 use Rattle.pl_law_placing.proofs.Seeing.Seen.{Gone, Hears, Quiet, Ticks}

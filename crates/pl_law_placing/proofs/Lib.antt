@@ -2,13 +2,13 @@ pub mod Ports
 pub mod Seeing
 pub mod Held
 pub mod Below
-pub mod Growing
+pub mod TriesStayInOrder
 pub mod Voting
 pub mod KeepingPlacing
-pub mod Noting
+pub mod NotesOfAggregations
 pub mod TellingOfPlacing
 pub mod Notes
-pub mod Booted
+pub mod NothingTriedAtFirst
 pub mod Bounding
 pub mod Wishes
 pub mod Asking

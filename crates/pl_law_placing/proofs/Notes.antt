@@ -33,7 +33,7 @@ use Rattle.pl_law_votes.specs.Pairs.{IsNoProposal, IsRising}
 use Rattle.pl_law_votes.specs.Voting.{CanTell, IsVoting, aggregation_no, edge_no}
 use Rattle.pl_law_votes.proofs.Exports.{answer_to, changes, ids_differ, is_there, number_there, one_port_to, same_end, sends_none, tick_says, vote_elsewhere, vote_here, vote_said}
 use Rattle.pl_law_placing.specs.Noting.{AreNotedBy, IsNoted}
-use Rattle.pl_law_placing.proofs.Noting.{left_noted, silent_tick, turned_noted}
+use Rattle.pl_law_placing.proofs.NotesOfAggregations.{left_noted, silent_tick, turned_noted}
 use Rattle.pl_law_placing.proofs.Seeing.{Seen}
 use Rattle.pl_law_placing.proofs.Seeing.Seen.{Gone, Hears, Quiet, Ticks}
 use Rattle.pl_law_placing.proofs.TellingOfPlacing.{Fits, heard_here, heard_there, noted_other}

@@ -28,7 +28,7 @@ use Rattle.pl_law_placing.specs.Trying.{AreTryingBy}
 use Rattle.pl_law_placing.proofs.Asking.{step_asked}
 use Rattle.pl_law_placing.proofs.Bounding.{seen_bounded}
 use Rattle.pl_world.proofs.Exports.{one_more_step}
-use Rattle.pl_law_placing.proofs.Booted.{asked_at_first, bounded_at_first, crossed_at_first, first_at_first, noted_at_first, trying_at_first}
+use Rattle.pl_law_placing.proofs.NothingTriedAtFirst.{asked_at_first, bounded_at_first, crossed_at_first, first_at_first, noted_at_first, trying_at_first}
 use Rattle.pl_law_placing.proofs.Firsts.{step_first}
 use Rattle.pl_law_placing.proofs.KeepingPlacing.{seen_trying}
 use Rattle.pl_law_placing.proofs.Levels.{seen_later, step_levels}

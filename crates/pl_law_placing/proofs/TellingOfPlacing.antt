@@ -25,7 +25,7 @@ use Rattle.pl_law_votes.specs.Pairs.{IsRising}
 use Rattle.pl_law_votes.proofs.Exports.{changes, learnt, vote_holds}
 use Rattle.pl_law_placing.specs.Noting.{IsNoted}
 use Rattle.pl_law_placing.proofs.Held.{proposal_from, told_from}
-use Rattle.pl_law_placing.proofs.Noting.{told_level, told_marks}
+use Rattle.pl_law_placing.proofs.NotesOfAggregations.{told_level, told_marks}
 use Rattle.pl_law_placing.proofs.Ports.{ports_changes, ports_vote}
 
 -- a told position is one of the pod, and what is told fits together

@@ -1,6 +1,6 @@
-pub mod Numbers
+pub mod NumbersGiven
 pub mod Managing
 pub mod StepsKeepPods
 pub mod KeepingPods
-pub mod Booted
+pub mod PodsAtFirst
 pub mod Exports

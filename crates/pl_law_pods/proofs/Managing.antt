@@ -22,7 +22,7 @@ use Rattle.pl_manager_rule.specs.ManagerRule.{answer_to, avoid_acts, changed, ch
 use Rattle.pl_manager_rule.proofs.Exports.{asker_has_pod}
 use Rattle.pl_law_control_plane.specs.PlaneSteps.{is_to, ordered, ordered_by}
 use Rattle.pl_law_pods.specs.Pods.{IsPodGiven, id_of}
-use Rattle.pl_law_pods.proofs.Numbers.{number_stays}
+use Rattle.pl_law_pods.proofs.NumbersGiven.{number_stays}
 
 -- an act says no pod but the one that was given
 abbrev pub IsDue : List SwitchId → ManagerAct → Type 0

@@ -6,4 +6,4 @@ pub use Rattle.pl_law_records.proofs.Questions.{question_reports_nothing}
 pub use Rattle.pl_law_records.proofs.Recording.{one_switch}
 pub use Rattle.pl_law_records.proofs.RecordsInRuns.{run_ordered, run_reported}
 pub use Rattle.pl_law_records.proofs.Strangers.{neighbour_is, neighbours_at_rest}
-pub use Rattle.pl_law_records.proofs.Turning.{parts_then, tells_right}
+pub use Rattle.pl_law_records.proofs.ToldInTurns.{parts_then, tells_right}

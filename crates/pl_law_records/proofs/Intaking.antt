@@ -34,7 +34,7 @@ use Rattle.pl_node.specs.declared.neighbour.PortRecord.{PortRecord}
 use Rattle.pl_node.specs.PortRecords.{heard_id, id_at, is_usable, new_port}
 use Rattle.pl_law_records.proofs.Linking.{IsOnlyAt, LinksAreTold, either_told, still_told, then_told, unheard}
 use Rattle.pl_law_records.proofs.TellingLinks.{IsStill, does_still, either_still, groups_are_told, groups_no_link, groups_no_place, rests_still, step_still, then_still}
-use Rattle.pl_law_records.proofs.Passing.{changes_right, floods_still, learns_source_still, makes_still, packet_still, probes_still, sends_in_still, switch_frame_still}
+use Rattle.pl_law_records.proofs.DataTellsNoPlace.{changes_right, floods_still, learns_source_still, makes_still, packet_still, probes_still, sends_in_still, switch_frame_still}
 use Rattle.pl_switch_rule.proofs.Exports.{taken_in}
 
 -- Frames of hosts.

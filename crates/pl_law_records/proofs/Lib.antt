@@ -1,13 +1,13 @@
 pub mod Last
 pub mod TellingLinks
 pub mod Linking
-pub mod Passing
+pub mod DataTellsNoPlace
 pub mod Intaking
-pub mod Turning
+pub mod ToldInTurns
 pub mod Recording
 pub mod Reporting
-pub mod Saying
-pub mod Changing
+pub mod SaidToOneSwitch
+pub mod ListsOfRecords
 pub mod Ordering
 pub mod RecordsInRuns
 pub mod Pairing

@@ -30,11 +30,11 @@ use Rattle.pl_law_control_plane.specs.PlaneSteps.{IsOrderTaken, IsReportTaken, L
 use Rattle.pl_law_control_plane.specs.PlaneSteps.PlaneStep.{Carried, Entered, Heard, Left, Managed, Ordered, Ticked}
 use Rattle.pl_law_records.specs.Records.{HasOrders, HaveOrders}
 use Rattle.pl_law_records.specs.Words.{avoid_said, last_said, part_said}
-use Rattle.pl_law_records.proofs.Changing.{avoids_of_trees, avoids_sent, groups_stay, parts_of_avoids, tellers_stay, trees_sent}
+use Rattle.pl_law_records.proofs.ListsOfRecords.{avoids_of_trees, avoids_sent, groups_stay, parts_of_avoids, tellers_stay, trees_sent}
 use Rattle.pl_law_records.proofs.Intaking.{parts_after}
 use Rattle.pl_law_records.proofs.Last.{last_append, no_avoid, no_part}
-use Rattle.pl_law_records.proofs.Saying.{all_said_to, ordered_is, reply_silent, then_more, then_said}
-use Rattle.pl_law_records.proofs.Turning.{avoid_after, parts_then, tells_right}
+use Rattle.pl_law_records.proofs.SaidToOneSwitch.{all_said_to, ordered_is, reply_silent, then_more, then_said}
+use Rattle.pl_law_records.proofs.ToldInTurns.{avoid_after, parts_then, tells_right}
 
 -- The parts that a switch holds, once its part of a group was replaced.
 

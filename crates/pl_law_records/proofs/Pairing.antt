@@ -36,7 +36,7 @@ use Rattle.pl_law_records.proofs.Last.{last_append, last_silent, silent_link}
 use Rattle.pl_law_records.proofs.Linking.{IsOnlyAt, unheard}
 use Rattle.pl_law_records.proofs.Recording.{link_heard, one_switch}
 use Rattle.pl_law_records.proofs.Reporting.{IsSameTo, heard_last, queue_front}
-use Rattle.pl_law_records.proofs.Turning.{tells_right}
+use Rattle.pl_law_records.proofs.ToldInTurns.{tells_right}
 
 -- Two switches are joined by one link at most.
 

@@ -31,7 +31,7 @@ use Rattle.pl_law_control_plane.specs.HostsAtEdges.{HostsAtEdges}
 use Rattle.pl_law_control_plane.proofs.Exports.{hosts_at_first, kept_in_run, step_keeps_hosts, whole_step}
 use Rattle.pl_law_records.specs.Records.{HaveOrders, HaveReported}
 use Rattle.pl_law_records.specs.Words.{avoid_said, last_said, part_said}
-use Rattle.pl_law_records.proofs.Changing.{no_list, no_part}
+use Rattle.pl_law_records.proofs.ListsOfRecords.{no_list, no_part}
 use Rattle.pl_law_records.proofs.Ordering.{plane_ordered}
 use Rattle.pl_law_records.proofs.Reporting.{plane_reported}
 

@@ -21,7 +21,7 @@ use Rattle.pl_law_records.specs.Records.{HasReported, HaveReported, has_told_mem
 use Rattle.pl_law_records.specs.Words.{last_said}
 use Rattle.pl_law_records.proofs.Last.{last_append}
 use Rattle.pl_law_records.proofs.Recording.{if_of, members_heard, one_switch, place_heard}
-use Rattle.pl_law_records.proofs.Turning.{tells_right}
+use Rattle.pl_law_records.proofs.ToldInTurns.{tells_right}
 
 -- the wiring, the views, the reports and the manager are the same
 pub record IsSameTo (f g : ControlPlane) : Type 0 where

@@ -31,7 +31,7 @@ use Rattle.pl_law_records.specs.Words.{IsNoReport, last_said}
 use Rattle.pl_law_records.proofs.Last.{last_append, last_silent, silent_link}
 use Rattle.pl_law_records.proofs.Recording.{link_heard}
 use Rattle.pl_law_records.proofs.Reporting.{IsSameTo, heard_last, queue_front}
-use Rattle.pl_law_records.proofs.Turning.{tells_right}
+use Rattle.pl_law_records.proofs.ToldInTurns.{tells_right}
 
 any_of : (test : ℕ → Bool) (xs : List ℕ) → list_any test xs ≡ true → (x : ℕ) × (test x ≡ true)
 any_of test [] h = absurd (true≢false (sym h))

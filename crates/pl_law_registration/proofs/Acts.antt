@@ -24,7 +24,7 @@ use Rattle.pl_world.specs.Changes.{begun_by, host_no, host_of, is_failed_at, sen
 use Rattle.pl_world.specs.SwitchActs.{DuringActs, act_done, acts_done, begins, crossed_again, ended, goes_out, granted, in_world, made, passed, redirected, switch_stepped, with_late}
 use Rattle.pl_world.specs.Worlds.{WorldView}
 use Rattle.pl_law_registration.specs.Stays.{Stay, first_stay, is_among, stay_after, stay_of}
-use Rattle.pl_law_registration.proofs.Numbers.{AllQueues, AreOld, Grows, IsNumber, IsPast, all_put, grows_then, new_number, number_later, older, put_grows}
+use Rattle.pl_law_registration.proofs.NumbersOfArpFrames.{AllQueues, AreOld, Grows, IsNumber, IsPast, all_put, grows_then, new_number, number_later, older, put_grows}
 
 -- what the acts of a switch leave alone
 pub record Rest : Type 0 where

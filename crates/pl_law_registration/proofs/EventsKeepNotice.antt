@@ -36,15 +36,15 @@ use Rattle.pl_world.specs.Worlds.{WorldView}
 use Rattle.pl_law_registration.specs.BeingRegistered.{AreAttachedApart}
 use Rattle.pl_law_registration.specs.Stays.{Stay, stay_of}
 use Rattle.pl_law_registration.specs.Probes.{is_packet, is_probe}
-use Rattle.pl_law_registration.proofs.Numbers.{IsPast, all_set}
+use Rattle.pl_law_registration.proofs.NumbersOfArpFrames.{IsPast, all_set}
 use Rattle.pl_law_registration.proofs.Acts.{AreOtherEntries, noted_quiet}
 use Rattle.pl_law_registration.proofs.Facts.{Facts}
-use Rattle.pl_law_registration.proofs.Leaving.{IsAsked, noticed_popped, reached_noted, told_noted, told_popped}
+use Rattle.pl_law_registration.proofs.DeliveredOutOfPorts.{IsAsked, noticed_popped, reached_noted, noted_all_noticed, popped_all_noticed}
 use Rattle.pl_law_registration.proofs.Places.{Attends, place_of, edge_port_of}
 use Rattle.pl_law_registration.proofs.RowsAttendHosts.{order_known, tick_still}
 use Rattle.pl_law_registration.proofs.Sending.{Keeps, any_edge_port, kept_places, turn_keeps}
 use Rattle.pl_law_registration.proofs.Noticing.{AreAllNoticed, AllNoticed}
-use Rattle.pl_law_registration.proofs.Turns.{NoticedIn, noticed_on, turn_told}
+use Rattle.pl_law_registration.proofs.TurnsOfAKnownHost.{NoticedIn, noticed_on, turn_all_noticed}
 
 pub quiet_ends : (h : ℕ) (c : Cause) (items : List Item) → AreOtherEntries h (ends_of c items)
 quiet_ends h c [] = tt
@@ -57,10 +57,10 @@ module _ (h : ℕ) (w : WorldView) (f : Facts w) (apart : AreAttachedApart w.att
   from_manager s [] new turn = absurd turn
   from_manager s (says ∷ rest) new turn =
       let u : WorldView = record w { from_manager = set w.from_manager s rest } in
-      let t : AreAllNoticed h u = record { numbers = a.told.numbers; past = a.told.past; soon = a.told.soon } in
+      let t : AreAllNoticed h u = record { numbers = a.all_noticed.numbers; past = a.all_noticed.past; soon = a.all_noticed.soon } in
       record {
         rest = kept_places h w u s (Says says) Silent new turn t tt refl refl;
-        told = turn_told (any_edge_port h) u s (Says says) Silent new turn t tt;
+        all_noticed = turn_all_noticed (any_edge_port h) u s (Says says) Silent new turn t tt;
         noticed = λ host attachment at_host at_attachment.
             let p = place_of w f h host attachment at_host at_attachment in
             let edge = f.at_edges h attachment at_attachment in
@@ -71,10 +71,10 @@ module _ (h : ℕ) (w : WorldView) (f : Facts w) (apart : AreAttachedApart w.att
   pub ticks_on : (s : ℕ) (new : WorldView) → SwitchTurn Loose (record w { heard = heard_after_tick s w.attachments w.heard }) s Tick Silent new → Keeps h w new
   ticks_on s new turn =
       let u : WorldView = record w { heard = heard_after_tick s w.attachments w.heard } in
-      let t : AreAllNoticed h u = record { numbers = a.told.numbers; past = a.told.past; soon = a.told.soon } in
+      let t : AreAllNoticed h u = record { numbers = a.all_noticed.numbers; past = a.all_noticed.past; soon = a.all_noticed.soon } in
       record {
         rest = kept_places h w u s Tick Silent new turn t tt refl refl;
-        told = turn_told (any_edge_port h) u s Tick Silent new turn t tt;
+        all_noticed = turn_all_noticed (any_edge_port h) u s Tick Silent new turn t tt;
         noticed = λ host attachment at_host at_attachment.
             let p = place_of w f h host attachment at_host at_attachment in
             let edge = f.at_edges h attachment at_attachment in
@@ -95,10 +95,10 @@ module _ (h : ℕ) (w : WorldView) (f : Facts w) (apart : AreAttachedApart w.att
   same_keeps : (new : WorldView) → IsSame new → Keeps h w new
   same_keeps new same = record {
     rest = (same.plan, same.attachments);
-    told = subst (λ (s : Stay). AllNoticed h s new.begun new.out new.from_hosts) (sym same.stay)
+    all_noticed = subst (λ (s : Stay). AllNoticed h s new.begun new.out new.from_hosts) (sym same.stay)
         (subst (λ (n : ℕ). AllNoticed h (stay_of w.journal h) n new.out new.from_hosts) (sym same.begun)
         (subst (λ (out : List (List Item)). AllNoticed h (stay_of w.journal h) w.begun out new.from_hosts) (sym same.out)
-        (subst (λ (xs : List (List Item)). AllNoticed h (stay_of w.journal h) w.begun w.out xs) (sym same.from_hosts) a.told)));
+        (subst (λ (xs : List (List Item)). AllNoticed h (stay_of w.journal h) w.begun w.out xs) (sym same.from_hosts) a.all_noticed)));
     noticed = λ host attachment at_host at_attachment.
         noticed_on (edge_port_of h host attachment) w new (record {
           switches = same.switches;
@@ -163,10 +163,10 @@ module _ (h : ℕ) (w : WorldView) (f : Facts w) (apart : AreAttachedApart w.att
       ∙ noted_quiet h w.journal down ((λ x. refl), tt) in
       subst (λ (x : WorldView). Keeps h w x) (sym same) (record {
         rest = (refl, refl);
-        told = subst (λ (s : Stay). AllNoticed h s w.begun (set first upper []) w.from_hosts) (sym stay_is) (record {
-          numbers = a.told.numbers;
-          past = all_set (IsPast (stay_of w.journal h) w.begun) first upper [] (all_set (IsPast (stay_of w.journal h) w.begun) w.out lower [] a.told.past tt) tt;
-          soon = a.told.soon;
+        all_noticed = subst (λ (s : Stay). AllNoticed h s w.begun (set first upper []) w.from_hosts) (sym stay_is) (record {
+          numbers = a.all_noticed.numbers;
+          past = all_set (IsPast (stay_of w.journal h) w.begun) first upper [] (all_set (IsPast (stay_of w.journal h) w.begun) w.out lower [] a.all_noticed.past tt) tt;
+          soon = a.all_noticed.soon;
         });
         noticed = λ host attachment at_host at_attachment.
             let edge = f.at_edges h attachment at_attachment in
@@ -207,19 +207,19 @@ module _ (h : ℕ) (w : WorldView) (f : Facts w) (apart : AreAttachedApart w.att
     pub lost_on : (new : WorldView) → new ≡ item_lost (record w { out = set w.out (port_index w.plan.k s port) rest }) item → Keeps h w new
     lost_on new same = subst (λ (x : WorldView). Keeps h w x) (sym same) (by item)
       where
-        told : AreAllNoticed h (record w { out = set w.out (port_index w.plan.k s port) rest })
-        told = told_popped h w f apart a s port item rest head within
+        all_noticed : AreAllNoticed h (record w { out = set w.out (port_index w.plan.k s port) rest })
+        all_noticed = popped_all_noticed h w f apart a s port item rest head within
 
         noticed : (host : Host) (attachment : AttachmentPoint) → slice_get w.plan.hosts h ≡ Some host → slice_get w.attachments h ≡ Some attachment → NoticedIn (edge_port_of h host attachment) (record w { out = set w.out (port_index w.plan.k s port) rest })
         noticed host attachment at_host at_attachment = noticed_popped h w f apart a s port item rest head within host attachment at_host at_attachment (never_asked host attachment at_attachment)
 
         by : (i : Item) → Keeps h w (item_lost (record w { out = set w.out (port_index w.plan.k s port) rest }) i)
-        by (Control frame) = record { rest = (refl, refl); told = told; noticed = noticed }
+        by (Control frame) = record { rest = (refl, refl); all_noticed = all_noticed; noticed = noticed }
         by (Data id frame) =
             let u : WorldView = record w { out = set w.out (port_index w.plan.k s port) rest } in
             record {
               rest = (refl, refl);
-              told = told_noted h u (Dropped id cause.Lost) (λ x. refl) told;
+              all_noticed = noted_all_noticed h u (Dropped id cause.Lost) (λ x. refl) all_noticed;
               noticed = λ host attachment at_host at_attachment.
                   noticed_on (edge_port_of h host attachment) u (noted u (Dropped id cause.Lost))
                   (record { switches = refl; reached = λ now. sym (reached_noted (edge_port_of h host attachment) u (Dropped id cause.Lost) (λ x. refl)) ∙ now; out = λ x. x; mine = λ x. x })

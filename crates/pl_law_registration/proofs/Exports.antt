@@ -1,2 +1,2 @@
 -- What other crates may name of these proofs.
-pub use Rattle.pl_law_registration.proofs.Settled.{longer}
+pub use Rattle.pl_law_registration.proofs.LeftBySettlings.{longer}

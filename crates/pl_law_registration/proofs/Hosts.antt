@@ -35,19 +35,19 @@ use Rattle.pl_world.proofs.Exports.{by_host}
 use Rattle.pl_law_registration.specs.Probes.{asks_for, is_packet, is_probe}
 use Rattle.pl_law_registration.specs.Stays.{is_readable}
 use Rattle.pl_law_registration.proofs.Frames.{packet_is_readable}
-use Rattle.pl_law_registration.proofs.Numbers.{any_last}
+use Rattle.pl_law_registration.proofs.NumbersOfArpFrames.{any_last}
 use Rattle.pl_law_registration.proofs.Noticing.{HostSends, AreAllNoticed, host_sends, one_sent}
-use Rattle.pl_law_registration.proofs.Turns.{Follows, EdgePort}
+use Rattle.pl_law_registration.proofs.TurnsOfAKnownHost.{Follows, EdgePort}
 
 module _ (at : EdgePort) (rule : HostRule) (w : WorldView) (g : ℕ) (input : HostInput) (answer : HostAnswer) (new : WorldView) (turn : HostTurn rule w g input answer new) (t : AreAllNoticed at.h w) where
   sends : HostSends at.h w new
   sends =
       let first : WorldView = record w { hosts = set w.hosts g turn.after } in
       let s = host_sends at.h g first turn.acts (record { numbers = t.numbers; past = t.past; soon = t.soon }) in
-      subst (λ (x : WorldView). HostSends at.h w x) (sym turn.changed) (record { told = s.told; reached = s.reached; out = s.out; mine = s.mine })
+      subst (λ (x : WorldView). HostSends at.h w x) (sym turn.changed) (record { all_noticed = s.all_noticed; reached = s.reached; out = s.out; mine = s.mine })
 
-  pub turn_is_told : AreAllNoticed at.h new
-  turn_is_told = sends.told
+  pub host_all_noticed : AreAllNoticed at.h new
+  host_all_noticed = sends.all_noticed
 
   pub host_follows : Follows at w new
   host_follows = let same = by_host rule w g input answer new turn in record {
@@ -136,7 +136,7 @@ module _ (at : EdgePort) (rule : HostRule) (lawful : (view : HostView) (input : 
       let waits : list_any is_packet (items_at next.from_hosts at.h) ≡ true =
       ap (λ (xs : List Item). list_any is_packet xs) (get_or-set_same w.from_hosts at.h (items_at w.from_hosts at.h ++ Data (w.begun + 1) r.frame ∷ []) [] within)
       ∙ any_last is_packet (items_at w.from_hosts at.h) (Data (w.begun + 1) r.frame) r.readable in
-      let told = one_sent at.h first at.h r.frame (record { numbers = t.numbers; past = t.past; soon = t.soon }) in
-      let more = host_sends at.h at.h next r.rest told in
+      let all_noticed = one_sent at.h first at.h r.frame (record { numbers = t.numbers; past = t.past; soon = t.soon }) in
+      let more = host_sends at.h at.h next r.rest all_noticed in
       ap (λ (x : WorldView). list_any is_packet (items_at x.from_hosts at.h)) (turn.changed ∙ ap (λ (xs : List HostAct). fold (host_act_done at.h) first xs) acts)
       ∙ more.mine at.h is_packet waits

@@ -36,16 +36,16 @@ use Rattle.pl_world.proofs.Exports.Happened.{Asked, Departed, Failed, FromHost, 
 use Rattle.pl_law_invariant.specs.ControlInvariant.{ControlInvariant}
 use Rattle.pl_law_registration.specs.BeingRegistered.{AreAttachedApart}
 use Rattle.pl_law_registration.specs.Stays.{first_stay}
-use Rattle.pl_law_registration.proofs.Numbers.{IsPast, IsSoon}
+use Rattle.pl_law_registration.proofs.NumbersOfArpFrames.{IsPast, IsSoon}
 use Rattle.pl_law_registration.proofs.Acts.{IsOtherEntry}
 use Rattle.pl_law_registration.proofs.EventsKeepNotice.{fails_on, from_manager, lost_on, repaired_on, ticks_on, to_manager}
 use Rattle.pl_law_registration.proofs.Facts.{Facts, facts_of}
-use Rattle.pl_law_registration.proofs.Leaving.{over_there, reached_noted, told_noted}
+use Rattle.pl_law_registration.proofs.DeliveredOutOfPorts.{over_there, reached_noted, noted_all_noticed}
 use Rattle.pl_law_registration.proofs.Moves.{goes_on, plays_on, sends_on}
 use Rattle.pl_law_registration.proofs.Places.{Attends, boots_apart, edge_port_of}
 use Rattle.pl_law_registration.proofs.RegistrationInRuns.{kept_from_beginning}
 use Rattle.pl_law_registration.proofs.Sending.{Keeps, from_host}
-use Rattle.pl_law_registration.proofs.Turns.{noticed_on}
+use Rattle.pl_law_registration.proofs.TurnsOfAKnownHost.{noticed_on}
 
 -- what is kept beside: hosts stand apart, and each is noticed where it stands
 pub record AttendsAll (w : WorldView) : Type 0 where
@@ -62,7 +62,7 @@ module _ (rule : HostRule) (lawful : (view : HostView) (input : HostInput) (afte
     after : (new : WorldView) → Keeps h w new → After h new
     after new k = (
       record {
-        told = k.told;
+        all_noticed = k.all_noticed;
         noticed = λ host attachment at_host at_attachment.
             k.noticed host attachment (ap (λ (p : Plan). slice_get p.hosts h) (sym k.rest.0) ∙ at_host) (ap (λ (xs : List AttachmentPoint). slice_get xs h) (sym k.rest.1) ∙ at_attachment);
       },
@@ -103,7 +103,7 @@ module _ (rule : HostRule) (lawful : (view : HostView) (input : HostInput) (afte
       let w : WorldView = record old { steps = old.steps + 1 } in
       let one : (h : ℕ) → After h new = (λ h.
       let a = all.each h in
-      by_case h w (facts_of old kept) all.apart (record { told = record { numbers = a.told.numbers; past = a.told.past; soon = a.told.soon }; noticed = a.noticed }) e new
+      by_case h w (facts_of old kept) all.apart (record { all_noticed = record { numbers = a.all_noticed.numbers; past = a.all_noticed.past; soon = a.all_noticed.soon }; noticed = a.noticed }) e new
       (same_refusal old e ∙ event_is_not_refused old e none) (happened Loose manager_rule rule w e new step)) in
       record { apart = (one 0).1; each = λ h. (one h).0 }
 
@@ -118,7 +118,7 @@ module _ (rule : HostRule) (lawful : (view : HostView) (input : HostInput) (afte
   mark_attends w e is all = record {
     apart = all.apart;
     each = λ h. let a = all.each h in record {
-      told = told_noted h w e (mark_quiet h e is) a.told;
+      all_noticed = noted_all_noticed h w e (mark_quiet h e is) a.all_noticed;
       noticed = λ host attachment at_host at_attachment.
           noticed_on (edge_port_of h host attachment) w (noted w e)
           (record { switches = refl; reached = λ now. sym (reached_noted (edge_port_of h host attachment) w e (mark_quiet h e is)) ∙ now; out = λ x. x; mine = λ x. x })
@@ -137,7 +137,7 @@ module _ (rule : HostRule) (lawful : (view : HostView) (input : HostInput) (afte
     boots_being_registered = record {
       apart = boots_apart plan can;
       each = λ h. record {
-        told = record {
+        all_noticed = record {
           numbers = tt;
           past = λ i. subst (λ (xs : List Item). AllByRecursion (IsPast first_stay 0) xs) (sym (nothing_at (switch_count plan.k * plan.k) i)) tt;
           soon = λ g. subst (λ (xs : List Item). AllByRecursion (IsSoon first_stay 0 (g ≡ h)) xs) (sym (nothing_at (length plan.hosts) g)) tt;

@@ -1,4 +1,4 @@
-pub mod Numbers
+pub mod NumbersOfArpFrames
 pub mod Acts
 pub mod Noticing
 pub mod Frames
@@ -6,11 +6,11 @@ pub mod Sources
 pub mod Settling
 pub mod RowsAttendHosts
 pub mod Facts
-pub mod Turns
+pub mod TurnsOfAKnownHost
 pub mod Hosts
 pub mod Places
 pub mod Sending
-pub mod Leaving
+pub mod DeliveredOutOfPorts
 pub mod EventsKeepNotice
 pub mod Moves
 pub mod RegistrationInRuns
@@ -22,5 +22,5 @@ pub mod StoodActs
 pub mod StoodEvents
 pub mod StoodRuns
 pub mod Empty
-pub mod Settled
+pub mod LeftBySettlings
 pub mod Exports

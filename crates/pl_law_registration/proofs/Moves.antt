@@ -26,25 +26,25 @@ use Rattle.pl_law_addresses.proofs.Exports.{get-set_other}
 use Rattle.pl_law_registration.specs.BeingRegistered.{AreAttachedApart}
 use Rattle.pl_law_registration.specs.Stays.{Stay, first_stay, stay_of}
 use Rattle.pl_law_registration.specs.Probes.{is_packet, is_probe}
-use Rattle.pl_law_registration.proofs.Numbers.{IsPast, IsSoon, all_set, found_after}
+use Rattle.pl_law_registration.proofs.NumbersOfArpFrames.{IsPast, IsSoon, all_set, found_after}
 use Rattle.pl_law_registration.proofs.Acts.{noted_quiet, stay_then}
 use Rattle.pl_law_registration.proofs.EventsKeepNotice.{quiet_ends}
 use Rattle.pl_law_registration.proofs.Facts.{Facts}
-use Rattle.pl_law_registration.proofs.Hosts.{host_follows, turn_is_told}
-use Rattle.pl_law_registration.proofs.Leaving.{reached_noted, told_noted}
+use Rattle.pl_law_registration.proofs.Hosts.{host_follows, host_all_noticed}
+use Rattle.pl_law_registration.proofs.DeliveredOutOfPorts.{reached_noted, noted_all_noticed}
 use Rattle.pl_law_registration.proofs.Places.{Attends, moved_apart, edge_port_of}
 use Rattle.pl_law_registration.proofs.Sending.{Keeps, any_edge_port}
-use Rattle.pl_law_registration.proofs.Noticing.{AreAllNoticed, Later, AllNoticed, told_on}
-use Rattle.pl_law_registration.proofs.Turns.{NoticedIn, noticed_on}
+use Rattle.pl_law_registration.proofs.Noticing.{AreAllNoticed, Later, AllNoticed, all_noticed_on}
+use Rattle.pl_law_registration.proofs.TurnsOfAKnownHost.{NoticedIn, noticed_on}
 
 module _ (h : ℕ) (w : WorldView) (f : Facts w) (apart : AreAttachedApart w.attachments) (a : Attends h w) (rule : HostRule) where
   -- ---- a host does what it is told
   pub sends_on : (g : ℕ) (input : HostInput) (answer : HostAnswer) (new : WorldView) → HostTurn rule w g input answer new → Keeps h w new
   sends_on g input answer new turn = let same = by_host rule w g input answer new turn in record {
     rest = (ap (λ (x : WorldView). x.plan) same, ap (λ (x : WorldView). x.attachments) same);
-    told = turn_is_told (any_edge_port h) rule w g input answer new turn a.told;
+    all_noticed = host_all_noticed (any_edge_port h) rule w g input answer new turn a.all_noticed;
     noticed = λ host attachment at_host at_attachment.
-        noticed_on (edge_port_of h host attachment) w new (host_follows (edge_port_of h host attachment) rule w g input answer new turn a.told) (a.noticed host attachment at_host at_attachment);
+        noticed_on (edge_port_of h host attachment) w new (host_follows (edge_port_of h host attachment) rule w g input answer new turn a.all_noticed) (a.noticed host attachment at_host at_attachment);
   }
 
   pub plays_on : (g : ℕ) (input : HostInput) (new : WorldView) → HostPlays rule w g input new → Keeps h w new
@@ -55,11 +55,11 @@ module _ (h : ℕ) (w : WorldView) (f : Facts w) (apart : AreAttachedApart w.att
       by (Some skip) answer turn =
           let e = Skipped (host_no g) skip in
           let u : WorldView = noted w e in
-          let t = told_noted h w e (λ x. refl) a.told in
+          let t = noted_all_noticed h w e (λ x. refl) a.all_noticed in
           let same = by_host rule u g input answer new turn in
           record {
             rest = (ap (λ (x : WorldView). x.plan) same, ap (λ (x : WorldView). x.attachments) same);
-            told = turn_is_told (any_edge_port h) rule u g input answer new turn t;
+            all_noticed = host_all_noticed (any_edge_port h) rule u g input answer new turn t;
             noticed = λ host attachment at_host at_attachment.
                 noticed_on (edge_port_of h host attachment) u new (host_follows (edge_port_of h host attachment) rule u g input answer new turn t)
                 (noticed_on (edge_port_of h host attachment) w u
@@ -88,12 +88,12 @@ module _ (h : ℕ) (w : WorldView) (f : Facts w) (apart : AreAttachedApart w.att
 
     later : (b : Bool) → Later (stay_of w.journal h) w.begun (if b then first_stay else stay_of w.journal h) w.begun
     later true = record { more = omega arith; numbers = tt; on = λ id le among. absurd (false≢true among) }
-    later false = record { more = omega arith; numbers = a.told.numbers; on = λ id le among. (among, λ reached. reached) }
+    later false = record { more = omega arith; numbers = a.all_noticed.numbers; on = λ id le among. (among, λ reached. reached) }
 
-    told_moved : AreAllNoticed h moved
-    told_moved =
+    moved_all_noticed : AreAllNoticed h moved
+    moved_all_noticed =
         let next : Stay = if g == h then first_stay else stay_of w.journal h in
-        let t = told_on (stay_of w.journal h) w.begun next w.begun (later (g == h)) h w.out w.from_hosts a.told in
+        let t = all_noticed_on (stay_of w.journal h) w.begun next w.begun (later (g == h)) h w.out w.from_hosts a.all_noticed in
         subst (λ (s : Stay). AllNoticed h s w.begun (set w.out (port_index w.plan.k from.edge.0 from.port) []) (set w.from_hosts g [])) (sym stay_is) (record {
           numbers = t.numbers;
           past = all_set (IsPast next w.begun) w.out (port_index w.plan.k from.edge.0 from.port) [] t.past tt;
@@ -128,9 +128,9 @@ module _ (h : ℕ) (w : WorldView) (f : Facts w) (apart : AreAttachedApart w.att
     goes_on answer new turn =
         let same = by_host rule moved g HasMoved answer new turn in (
           record {
-            told = turn_is_told (any_edge_port h) rule moved g HasMoved answer new turn told_moved;
+            all_noticed = host_all_noticed (any_edge_port h) rule moved g HasMoved answer new turn moved_all_noticed;
             noticed = λ host attachment at_host at_attachment.
-                noticed_on (edge_port_of h host attachment) moved new (host_follows (edge_port_of h host attachment) rule moved g HasMoved answer new turn told_moved)
+                noticed_on (edge_port_of h host attachment) moved new (host_follows (edge_port_of h host attachment) rule moved g HasMoved answer new turn moved_all_noticed)
                 (noticed_moved host attachment (ap (λ (p : Plan). slice_get p.hosts h) (sym (ap (λ (x : WorldView). x.plan) same)) ∙ at_host)
                 (ap (λ (xs : List AttachmentPoint). slice_get xs h) (sym (ap (λ (x : WorldView). x.attachments) same)) ∙ at_attachment));
           },

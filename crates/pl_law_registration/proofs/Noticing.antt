@@ -14,7 +14,7 @@ use Rattle.pl_world.specs.Changes.{host_no, sent_by_host}
 use Rattle.pl_world.specs.OtherActs.{host_act_done}
 use Rattle.pl_world.specs.Worlds.{WorldView}
 use Rattle.pl_law_registration.specs.Stays.{Stay, is_among, is_readable, stay_of}
-use Rattle.pl_law_registration.proofs.Numbers.{AllQueues, AreOld, Grows, IsNumber, IsPast, IsSoon, IsSoonNumber, all_map, among_old, found_after, grows_then, new_number, older, put_grows, sent_too}
+use Rattle.pl_law_registration.proofs.NumbersOfArpFrames.{AllQueues, AreOld, Grows, IsNumber, IsPast, IsSoon, IsSoonNumber, all_map, among_old, found_after, grows_then, new_number, older, put_grows, sent_too}
 use Rattle.pl_law_registration.proofs.Acts.{Rest, Stepped, stay_then}
 
 -- of one host: all frames that wait have begun, and those of its readable ARP frames that are past its edge switch were noticed
@@ -48,8 +48,8 @@ module _ (stay : Stay) (begun : ℕ) (next : Stay) (many : ℕ) (l : Later stay 
         through = λ among. let two = l.on id is.old among in elim (is.through two.0) [ inl reached ↦ inl (two.1 reached) | inr own ↦ inr own ];
       }
 
-  pub told_on : (h : ℕ) (out from_hosts : List (List Item)) → AllNoticed h stay begun out from_hosts → AllNoticed h next many out from_hosts
-  told_on h out from_hosts t = record {
+  pub all_noticed_on : (h : ℕ) (out from_hosts : List (List Item)) → AllNoticed h stay begun out from_hosts → AllNoticed h next many out from_hosts
+  all_noticed_on h out from_hosts t = record {
     numbers = l.numbers;
     past = λ i. all_map (IsPast stay begun) (IsPast next many) (items_at out i) past_on (t.past i);
     soon = λ g. all_map (IsSoon stay begun (g ≡ h)) (IsSoon next many (g ≡ h)) (items_at from_hosts g) (soon_on (g ≡ h)) (t.soon g);
@@ -105,12 +105,12 @@ module _ (h : ℕ) where
   sends_by g frame stay begun out from_hosts true is t =
       let two = and_parts (g == h) (is_readable frame) is in
       put_soon g (sent_too stay (begun + 1)) (begun + 1) out from_hosts (begun + 1) frame
-      (told_on stay begun (sent_too stay (begun + 1)) (begun + 1) (sent_later stay begun t.numbers) h out from_hosts t)
+      (all_noticed_on stay begun (sent_too stay (begun + 1)) (begun + 1) (sent_later stay begun t.numbers) h out from_hosts t)
       (record { old = omega arith; through = λ among. inr (host_number g two.0, two.1) })
   sends_by g frame stay begun out from_hosts false is t =
       let number = new_number stay begun t.numbers in
       put_soon g stay (begun + 1) out from_hosts (begun + 1) frame
-      (told_on stay begun stay (begun + 1) (same_later stay begun t.numbers) h out from_hosts t)
+      (all_noticed_on stay begun stay (begun + 1) (same_later stay begun t.numbers) h out from_hosts t)
       (record { old = omega arith; through = λ among. inl (number.through among) })
 
   abbrev pub AreAllNoticed : WorldView → Type 0
@@ -123,8 +123,8 @@ module _ (h : ℕ) where
       (sends_by g frame (stay_of w.journal h) w.begun w.out w.from_hosts ((g == h) && is_readable frame) refl t)
 
   -- after a step of a switch
-  pub switch_told : (w new : WorldView) (switches : List SwitchView) → AreAllNoticed w → Stepped h (stay_of w.journal h) w new switches → AreAllNoticed new
-  switch_told w new switches t step =
+  pub switch_all_noticed : (w new : WorldView) (switches : List SwitchView) → AreAllNoticed w → Stepped h (stay_of w.journal h) w new switches → AreAllNoticed new
+  switch_all_noticed w new switches t step =
       subst (λ (s : Stay). AllNoticed h s new.begun new.out new.from_hosts) (sym step.is)
       (subst (λ (r : Rest). AllNoticed h (stay_of w.journal h) new.begun new.out r.from_hosts) (sym step.rest)
       (record {
@@ -137,7 +137,7 @@ module _ (h : ℕ) where
 
   -- what a host's acts leave and bring about
   pub record HostSends (w new : WorldView) : Type 0 where
-    pub told : AreAllNoticed new
+    pub all_noticed : AreAllNoticed new
     pub reached : (stay_of new.journal h).reached ≡ (stay_of w.journal h).reached
     pub out : new.out ≡ w.out
     pub mine : Grows w.from_hosts new.from_hosts
@@ -147,12 +147,12 @@ module _ (h : ℕ) where
   reached_if false stay id = refl
 
   pub host_sends : (g : ℕ) (w : WorldView) (acts : List HostAct) → AreAllNoticed w → HostSends w (fold (host_act_done g) w acts)
-  host_sends g w [] t = record { told = t; reached = refl; out = refl; mine = λ i p is. is }
+  host_sends g w [] t = record { all_noticed = t; reached = refl; out = refl; mine = λ i p is. is }
   host_sends g w (Send frame ∷ acts) t =
       let next : WorldView = sent_by_host w g frame in
       let rest = host_sends g next acts (one_sent w g frame t) in
       record {
-        told = rest.told;
+        all_noticed = rest.all_noticed;
         reached = rest.reached ∙ ap (λ (s : Stay). s.reached) (stay_then h w.journal (Sent (w.begun + 1) (host_no g) frame ∷ []))
             ∙ reached_if ((g == h) && is_readable frame) (stay_of w.journal h) (w.begun + 1);
         out = rest.out;

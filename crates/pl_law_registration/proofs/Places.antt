@@ -31,7 +31,7 @@ use Rattle.pl_law_addresses.proofs.Exports.{first_passes, get-set_other, none_pa
 use Rattle.pl_law_registration.specs.BeingRegistered.{AreAttachedApart}
 use Rattle.pl_law_registration.specs.Stays.{is_readable}
 use Rattle.pl_law_registration.proofs.Facts.{Facts}
-use Rattle.pl_law_registration.proofs.Turns.{IsPlace, NoticedIn, EdgePort}
+use Rattle.pl_law_registration.proofs.TurnsOfAKnownHost.{IsPlace, NoticedIn, EdgePort}
 use Rattle.pl_law_registration.proofs.Noticing.{AreAllNoticed}
 
 -- ---- a host of the wiring at its place
@@ -40,7 +40,7 @@ edge_port_of h host attachment = record { h = h; me = me_of host; edge = attachm
 
 -- of one host: it is noticed where it stands
 pub record Attends (h : ℕ) (w : WorldView) : Type 0 where
-  pub told : AreAllNoticed h w
+  pub all_noticed : AreAllNoticed h w
   pub noticed : (host : Host) (attachment : AttachmentPoint) → slice_get w.plan.hosts h ≡ Some host → slice_get w.attachments h ≡ Some attachment → NoticedIn (edge_port_of h host attachment) w
 
 -- ---- what the wiring says of a host

@@ -31,19 +31,19 @@ use Rattle.pl_law_addresses.specs.EdgeAddresses.{is_settled}
 use Rattle.pl_law_registration.specs.BeingRegistered.{AreAttachedApart}
 use Rattle.pl_law_registration.specs.Stays.{Stay, is_among, is_readable, stay_of}
 use Rattle.pl_law_registration.specs.Probes.{is_packet}
-use Rattle.pl_law_registration.proofs.Numbers.{IsSoon, IsSoonNumber, found_after}
+use Rattle.pl_law_registration.proofs.NumbersOfArpFrames.{IsSoon, IsSoonNumber, found_after}
 use Rattle.pl_law_registration.proofs.Acts.{IsSpoken, Rest, stay_then}
 use Rattle.pl_law_registration.proofs.Facts.{Facts}
 use Rattle.pl_law_registration.proofs.Places.{Attends, own_is, place_of, edge_port_of}
 use Rattle.pl_law_registration.proofs.RowsAttendHosts.{KnowsOrProbes, comes_still, frame_known}
 use Rattle.pl_law_registration.proofs.Sources.{KnowsAt}
-use Rattle.pl_law_registration.proofs.Noticing.{AreAllNoticed, AllNoticed, crossed_stay, crossing_later, crossing_number, told_on}
-use Rattle.pl_law_registration.proofs.Turns.{IsPlace, Noticed, NoticedIn, EdgePort, Waits, has_reached_in, noticed_on, queue_to, turn_noticed, turn_rest, turn_told}
+use Rattle.pl_law_registration.proofs.Noticing.{AreAllNoticed, AllNoticed, crossed_stay, crossing_later, crossing_number, all_noticed_on}
+use Rattle.pl_law_registration.proofs.TurnsOfAKnownHost.{IsPlace, Noticed, NoticedIn, EdgePort, Waits, has_reached_in, noticed_on, queue_to, turn_noticed, turn_rest, turn_all_noticed}
 
 -- what an event leaves of the wiring and of where hosts stand, and what is kept of one host
 pub record Keeps (h : ℕ) (w new : WorldView) : Type 0 where
   pub rest : (new.plan ≡ w.plan) × (new.attachments ≡ w.attachments)
-  pub told : AreAllNoticed h new
+  pub all_noticed : AreAllNoticed h new
   pub noticed : (host : Host) (attachment : AttachmentPoint) → slice_get w.plan.hosts h ≡ Some host → slice_get w.attachments h ≡ Some attachment → NoticedIn (edge_port_of h host attachment) new
 
 -- a turn of a switch in which all that is known stays known
@@ -82,20 +82,20 @@ module _ (h : ℕ) (w : WorldView) (f : Facts w) (apart : AreAttachedApart w.att
   mid = noted (heard_item (record w { from_hosts = set w.from_hosts g rest }) g (Data id frame)) (Crossed id (switch_no gs.edge.0))
 
   soon : IsSoonNumber (stay_of w.journal h) w.begun (g ≡ h) id frame
-  soon = (subst (λ (xs : List Item). AllByRecursion (IsSoon (stay_of w.journal h) w.begun (g ≡ h)) xs) head (a.told.soon g)).0
+  soon = (subst (λ (xs : List Item). AllByRecursion (IsSoon (stay_of w.journal h) w.begun (g ≡ h)) xs) head (a.all_noticed.soon g)).0
 
   stay_is : stay_of mid.journal h ≡ crossed_stay (stay_of w.journal h) id
   stay_is = stay_then h w.journal (Crossed id (switch_no gs.edge.0) ∷ [])
 
-  told_mid : AreAllNoticed h mid
-  told_mid =
+  mid_all_noticed : AreAllNoticed h mid
+  mid_all_noticed =
       subst (λ (s : Stay). AllNoticed h s w.begun w.out (set w.from_hosts g rest)) (sym stay_is)
-      (told_on (stay_of w.journal h) w.begun (crossed_stay (stay_of w.journal h) id) w.begun (crossing_later (stay_of w.journal h) w.begun id a.told.numbers) h w.out (set w.from_hosts g rest)
+      (all_noticed_on (stay_of w.journal h) w.begun (crossed_stay (stay_of w.journal h) id) w.begun (crossing_later (stay_of w.journal h) w.begun id a.all_noticed.numbers) h w.out (set w.from_hosts g rest)
       (record {
-        numbers = a.told.numbers;
-        past = a.told.past;
-        soon = λ n. found_after (λ (xs : List Item). AllByRecursion (IsSoon (stay_of w.journal h) w.begun (n ≡ h)) xs) w.from_hosts g n rest (a.told.soon n)
-            (λ same. (subst (λ (xs : List Item). AllByRecursion (IsSoon (stay_of w.journal h) w.begun (n ≡ h)) xs) (ap (λ m. items_at w.from_hosts m) same ∙ head) (a.told.soon n)).1);
+        numbers = a.all_noticed.numbers;
+        past = a.all_noticed.past;
+        soon = λ n. found_after (λ (xs : List Item). AllByRecursion (IsSoon (stay_of w.journal h) w.begun (n ≡ h)) xs) w.from_hosts g n rest (a.all_noticed.soon n)
+            (λ same. (subst (λ (xs : List Item). AllByRecursion (IsSoon (stay_of w.journal h) w.begun (n ≡ h)) xs) (ap (λ m. items_at w.from_hosts m) same ∙ head) (a.all_noticed.soon n)).1);
       }))
 
   spoken_mid : IsSpoken h (stay_of mid.journal h) w.begun (Waiting id false)
@@ -119,7 +119,7 @@ module _ (h : ℕ) (w : WorldView) (f : Facts w) (apart : AreAttachedApart w.att
     -- a frame of another host
     others : g ≢ h → NoticedIn (edge_port_of h host attachment) new
     others other =
-        turn_keeps (edge_port_of h host attachment) mid gs.edge.0 (Comes gs.port frame) (Waiting id false) new turn told_mid spoken_mid place_mid
+        turn_keeps (edge_port_of h host attachment) mid gs.edge.0 (Comes gs.port frame) (Waiting id false) new turn mid_all_noticed spoken_mid place_mid
         (noticed_on (edge_port_of h host attachment) w mid (record {
           switches = refl;
           reached = λ now. elim (reached_before now) [ inl before ↦ before | inr mine ↦ absurd (other mine.0) ];
@@ -138,7 +138,7 @@ module _ (h : ℕ) (w : WorldView) (f : Facts w) (apart : AreAttachedApart w.att
         let attachment_is : attachment ≡ gs = same_Some attachment gs (sym at_attachment ∙ ap (λ n. slice_get w.attachments n) (sym same) ∙ at_gs) in
         let mine = own_is (me_of host) frame (own same) in
         let edge = f.at_edges h attachment at_attachment in
-        turn_noticed (edge_port_of h host attachment) mid gs.edge.0 (Comes gs.port frame) (Waiting id false) new turn told_mid spoken_mid place_mid
+        turn_noticed (edge_port_of h host attachment) mid gs.edge.0 (Comes gs.port frame) (Waiting id false) new turn mid_all_noticed spoken_mid place_mid
         (λ v edges found choose reached.
         let here : slice_get w.switches attachment.edge.0 ≡ Some v = ap (λ n. slice_get w.switches n) edges ∙ found in
         let home = f.homes attachment.edge.0 attachment.port v edge.edge edge.port edge.free here in
@@ -185,13 +185,13 @@ module _ (h : ℕ) (w : WorldView) (f : Facts w) (apart : AreAttachedApart w.att
   comes_in g item rest new head None at_gs comes = absurd comes
   comes_in g (Control frame) rest new head (Some gs) at_gs comes = absurd (data_only w.from_hosts g (Control frame) rest f.host_items head)
   comes_in g (Data id frame) rest new head (Some gs) at_gs turn =
-      let t = told_mid h w f apart a g id frame rest head gs at_gs in
+      let t = mid_all_noticed h w f apart a g id frame rest head gs at_gs in
       let spoken = spoken_mid h w f apart a g id frame rest head gs at_gs in
       let u = mid h w f apart a g id frame rest head gs at_gs in
       let is_data = data_only w.from_hosts g (Data id frame) rest f.host_items head in
       record {
         rest = kept_places h w u gs.edge.0 (Comes gs.port frame) (Waiting id false) new turn t spoken refl refl;
-        told = turn_told (any_edge_port h) u gs.edge.0 (Comes gs.port frame) (Waiting id false) new turn t spoken;
+        all_noticed = turn_all_noticed (any_edge_port h) u gs.edge.0 (Comes gs.port frame) (Waiting id false) new turn t spoken;
         noticed = λ host attachment at_host at_attachment.
             frame_noticed h w f apart a g id frame rest head gs at_gs new turn host attachment at_host at_attachment is_data.kind
             (λ same. own_item host at_host (subst (λ (n : ℕ). items_at w.from_hosts n ≡ Data id frame ∷ rest) same head));

@@ -1,4 +1,4 @@
--- The rules of the plain switch, the manager and the hosts leave no choice.
+-- The rules of the switch, the manager and the hosts leave no choice.
 use Rattle.std.proofs.Common.{◌≡◌, List, sym, ◌∙◌, ap}
 use Rattle.pl_node.specs.declared.acts.HostAct.{HostAct}
 use Rattle.pl_node.specs.HostInputs.{HostAnswer}

@@ -24,28 +24,28 @@ use Rattle.pl_law_invariant.specs.ControlInvariant.{ControlInvariant}
 use Rattle.pl_law_ledger.proofs.Exports.{entered_first, entered_mark, entered_step, IsEnteredAll, kept_in_run}
 use Rattle.pl_law_flights.specs.Given.{IsGroundForStep}
 use Rattle.pl_law_flights.specs.OnTheWay.{IsJournaled, JournalSays, history_of, place_in}
-use Rattle.pl_law_flights.proofs.Exports.{booted_told, counts, kept, nobody, note, reverse_noted, same_history, step_told}
+use Rattle.pl_law_flights.proofs.Exports.{booted_journaled, counts, kept, nobody, note, reverse_noted, same_history, step_journaled}
 use Rattle.pl_law_theorem.specs.Groups.{GroupsAreWell, GroupsArriveWell}
 use Rattle.pl_law_theorem.proofs.Hosting.{stands_on, stands_on_hosts}
 use Rattle.pl_law_theorem.proofs.StepsKeepJournal.{first_addresses, is_more, numbers_well, stays_granted}
 
 -- ---- a mark of a script
-pub mark_told : (w : WorldView) (entry : Entry) → IsMark entry → IsCounted w → IsJournaled w → IsJournaled (noted w entry)
-mark_told w entry is counted told = by entry is
+pub mark_journaled : (w : WorldView) (entry : Entry) → IsMark entry → IsCounted w → IsJournaled w → IsJournaled (noted w entry)
+mark_journaled w entry is counted journaled = by entry is
   where
     by : (e : Entry) → IsMark e → IsJournaled (noted w e)
     by (Line n) is = subst (λ p. JournalSays w.plan (place_in w.switches) p w.links w.attachments w.from_hosts w.out) (sym (reverse_noted w.journal (reverse w.journal) (Line n) refl))
         (note w.plan (place_in w.switches) (reverse w.journal) w.links w.attachments w.from_hosts w.out (Line n) 0
         (nobody (reverse w.journal) w.from_hosts w.out (λ i. 0) (counts w (reverse w.journal) (λ i. 0) refl (sound w counted).balance))
-        (λ g other. kept w.plan (reverse w.journal) (Line n) g tt) (same_history (history_of (reverse w.journal))) tt tt told.links_agree told.attachments_agree told)
+        (λ g other. kept w.plan (reverse w.journal) (Line n) g tt) (same_history (history_of (reverse w.journal))) tt tt journaled.links_agree journaled.attachments_agree journaled)
     by (Settled n) is = subst (λ p. JournalSays w.plan (place_in w.switches) p w.links w.attachments w.from_hosts w.out) (sym (reverse_noted w.journal (reverse w.journal) (Settled n) refl))
         (note w.plan (place_in w.switches) (reverse w.journal) w.links w.attachments w.from_hosts w.out (Settled n) 0
         (nobody (reverse w.journal) w.from_hosts w.out (λ i. 0) (counts w (reverse w.journal) (λ i. 0) refl (sound w counted).balance))
-        (λ g other. kept w.plan (reverse w.journal) (Settled n) g tt) (same_history (history_of (reverse w.journal))) tt tt told.links_agree told.attachments_agree told)
+        (λ g other. kept w.plan (reverse w.journal) (Settled n) g tt) (same_history (history_of (reverse w.journal))) tt tt journaled.links_agree journaled.attachments_agree journaled)
     by (Unsettled n) is = subst (λ p. JournalSays w.plan (place_in w.switches) p w.links w.attachments w.from_hosts w.out) (sym (reverse_noted w.journal (reverse w.journal) (Unsettled n) refl))
         (note w.plan (place_in w.switches) (reverse w.journal) w.links w.attachments w.from_hosts w.out (Unsettled n) 0
         (nobody (reverse w.journal) w.from_hosts w.out (λ i. 0) (counts w (reverse w.journal) (λ i. 0) refl (sound w counted).balance))
-        (λ g other. kept w.plan (reverse w.journal) (Unsettled n) g tt) (same_history (history_of (reverse w.journal))) tt tt told.links_agree told.attachments_agree told)
+        (λ g other. kept w.plan (reverse w.journal) (Unsettled n) g tt) (same_history (history_of (reverse w.journal))) tt tt journaled.links_agree journaled.attachments_agree journaled)
     by e is = absurd is
 
 module _ (host : HostRule) (sends : HostsSendData host) (owns : HostsSendOwn host) (keeps : HostsKeepFrames host) where
@@ -68,7 +68,7 @@ module _ (host : HostRule) (sends : HostsSendData host) (owns : HostsSendOwn hos
 
   record HoldsBoth (w : WorldView) : Type 0 where
     entered : IsEnteredAll w
-    told : IsJournaled w
+    journaled : IsJournaled w
 
   step_both : (old : WorldView) (event : Event) (new : WorldView) → ControlInvariant old → ControlInvariant new → GroupsArriveWell host old → HoldsBoth old → refusal old event ≡ None →
       WorldStep Loose manager_rule host old event new → HoldsBoth new
@@ -76,14 +76,14 @@ module _ (host : HostRule) (sends : HostsSendData host) (owns : HostsSendOwn hos
       let entered = entered_step host old event new kept kept_then both.entered none step in
       record {
         entered = entered;
-        told = step_told manager_rule host sends keeps old event new kept.counted (is_given old event new kept kept_then both.entered entered groups none step) none step both.told;
+        journaled = step_journaled manager_rule host sends keeps old event new kept.counted (is_given old event new kept kept_then both.entered entered groups none step) none step both.journaled;
       }
 
   mark_both : (w : WorldView) (entry : Entry) → IsMark entry → ControlInvariant w → HoldsBoth w → HoldsBoth (noted w entry)
-  mark_both w entry is kept both = record { entered = entered_mark w entry is kept both.entered; told = mark_told w entry is kept.counted both.told }
+  mark_both w entry is kept both = record { entered = entered_mark w entry is kept both.entered; journaled = mark_journaled w entry is kept.counted both.journaled }
 
-  pub told_in_run : (plan : Plan) (limits : Limits) → CanBegin plan → GroupsAreWell host plan limits → (moments : List Moment) (new : WorldView) →
+  pub journaled_in_run : (plan : Plan) (limits : Limits) → CanBegin plan → GroupsAreWell host plan limits → (moments : List Moment) (new : WorldView) →
       WorldRun Loose manager_rule host (booted plan limits) moments new → IsJournaled new
-  told_in_run plan limits can groups moments new run =
+  journaled_in_run plan limits can groups moments new run =
       (kept_in_run host sends owns (GroupsArriveWell host) HoldsBoth step_both mark_both plan limits can groups
-      (record { entered = entered_first plan limits; told = booted_told plan limits can }) moments new run).told
+      (record { entered = entered_first plan limits; journaled = booted_journaled plan limits can }) moments new run).journaled

@@ -1,4 +1,4 @@
-pub mod Beginning
+pub mod FabricsCanBegin
 pub mod Knowing
 pub mod Addressing
 pub mod Hosting

@@ -76,7 +76,7 @@ pub record NetworkInvariant (w : WorldView) : Type 0 where
   -- hosts have joined the groups that their frames said
   pub joined : HaveJoined w
   -- each frame that has not ended waits where the journal says, and the journal is a run of one lossy switch with good trails
-  pub told : IsJournaled w
+  pub journaled : IsJournaled w
   pub run : Run w.plan w.journal
   pub trails : GoodTrail w.plan w.journal
   -- its last entry of a switch's place is what the switch knows, and its registrations are those of the manager, in order

@@ -44,7 +44,7 @@ pub record IsOneSwitch (switch : SwitchRule) (manager : ManagerRule) (host : Hos
   -- a frame to one host crosses at most five switches for each address, none twice, up and then down, over links that were live
   pub trails : GoodTrail w.plan w.journal
   -- each frame that has not ended waits where the journal says
-  pub told : IsJournaled w
+  pub journaled : IsJournaled w
   -- what nodes know and what waits between them is in order, now and at each moment before
   pub invariant : NetworkInvariant w
   pub moments : HoldsAtEachMoment switch manager host w

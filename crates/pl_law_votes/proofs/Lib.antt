@@ -9,6 +9,6 @@ pub mod AggregationTurns
 pub mod Hearing
 pub mod Wired
 pub mod StepsKeepVotes
-pub mod Booted
+pub mod VotesAtFirst
 pub mod Differing
 pub mod Exports

@@ -19,31 +19,12 @@ use Rattle.pl_frame.specs.declared.address.SwitchId.{SwitchId}
 use Rattle.pl_layouts.specs.declared.place.Place.{Place}
 use Rattle.pl_node.specs.ManagerViews.{Members, PlacedEdge, Told, alive_at_level, alive_neighbours, edge_at, edge_with, has_level, id_cmp, is_alive, neighbours, place_of, placed_edges, switches, tellers, value_at, with_members}
 use Rattle.pl_node.specs.AvoidLists.{Avoids, avoid_list, avoided_at, avoided_cmp, is_above, is_cut, is_sent_down, leads_to}
-use Rattle.pl_node.proofs.Exports.{among_filter, among_filter_map, among_filter_mapped, among_filtered, among_flat_map, among_flat_mapped, among_in_order, among_left, among_map, among_mapped, among_of_Contains, among_ordered, Contains-of_among, id_total, IsAmong, rising_in_order}
+use Rattle.pl_node.proofs.Exports.{avoided_exact, avoided_total, id_exact, among_filter, among_filter_map, among_filter_mapped, among_filtered, among_flat_map, among_flat_mapped, among_in_order, among_left, among_map, among_mapped, among_of_Contains, among_ordered, Contains-of_among, id_total, IsAmong, rising_in_order}
 use Rattle.pl_layouts.specs.Equality.{same_switch}
 
 -- ---- the orders
-pub id_exact : CmpEqualImpliesEq id_cmp
-id_exact a b e = ap (λ n. let s : SwitchId = record { 0 = n } in s) (exact_unsigned a.0 b.0 e)
-
 pub same_is : (a b : SwitchId) → same_switch a b ≡ true → a ≡ b
 same_is a b e = ap (λ n. let s : SwitchId = record { 0 = n } in s) (eqb-true a.0 b.0 e)
-
-pub avoided_total : IsTotalOrder avoided_cmp
-avoided_total = then_total (then_total (on_total (λ (x : SwitchId × ℕ × ℕ). x.0) id_total) (on_total (λ (x : SwitchId × ℕ × ℕ). x.1) nat_cmp_total))
-    (on_total (λ (x : SwitchId × ℕ × ℕ). x.2) nat_cmp_total)
-
-pub both_equal : (a b : Ordering) → ordering_then a b ≡ Equal → (a ≡ Equal) × (b ≡ Equal)
-both_equal Less b e = cc
-both_equal Equal b e = (refl, e)
-both_equal Greater b e = cc
-
-pub avoided_exact : CmpEqualImpliesEq avoided_cmp
-avoided_exact x y e =
-    let two = both_equal (ordering_then (id_cmp x.0 y.0) (nat_cmp x.1 y.1)) (nat_cmp x.2 y.2) e in
-    let one = both_equal (id_cmp x.0 y.0) (nat_cmp x.1 y.1) two.0 in
-    let u = id_exact x.0 y.0 one.0 in let p = exact_unsigned x.1 y.1 one.1 in let q = exact_unsigned x.2 y.2 two.1 in
-    λ i. (u i, p i, q i)
 
 -- ---- placed edge switches
 -- one that told a level told something

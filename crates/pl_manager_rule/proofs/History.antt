@@ -21,7 +21,8 @@ use Rattle.pl_node.specs.ManagerViews.{LearntAddress, PodGiven, Registration, id
 use Rattle.pl_node.proofs.Exports.{id_total}
 use Rattle.pl_manager_rule.specs.ManagerRule.{manager_hears, told_again, view_after, with_address, with_asker}
 use Rattle.pl_manager_rule.specs.Histories.{Word, ip_said, known, link_said, members_said, owner_said, place_said, pods_after, pods_asked, registered, registered_after, said_by, said_last}
-use Rattle.pl_manager_rule.proofs.Avoided.{id_exact, same_is}
+use Rattle.pl_manager_rule.proofs.Avoided.{same_is}
+use Rattle.pl_node.proofs.Exports.{id_exact}
 use Rattle.pl_manager_rule.proofs.HeardSwitches.{same_numbers}
 use Rattle.pl_manager_rule.proofs.Kept.{ip_exact, ip_total, learnt_is_registered, link_exact, link_total, members_exact, members_total}
 use Rattle.pl_manager_rule.proofs.ToldLast.{registered_is_learnt}

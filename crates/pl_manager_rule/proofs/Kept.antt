@@ -21,7 +21,8 @@ use Rattle.pl_node.proofs.Exports.{among_filtered, among_in_order, among_map, am
 use Rattle.pl_manager_rule.specs.ManagerRule.{manager_hears, told_again, view_after, with_address, with_asker, with_owner}
 use Rattle.pl_manager_rule.specs.Histories.{Word, known}
 use Rattle.pl_manager_rule.specs.Repeats.{TablesAreInOrder}
-use Rattle.pl_manager_rule.proofs.Avoided.{both_equal, id_exact, same_is}
+use Rattle.pl_manager_rule.proofs.Avoided.{same_is}
+use Rattle.pl_node.proofs.Exports.{both_equal, id_exact}
 use Rattle.pl_manager_rule.proofs.Registered.{pmac_turned, switch_turned}
 use Rattle.pl_manager_rule.proofs.Tables.{found_key, rising_put}
 

@@ -19,7 +19,7 @@ use Rattle.pl_node.specs.AvoidLists.{avoid_list}
 use Rattle.pl_manager_rule.specs.ManagerRule.{ManagerStep, acts_of, avoid_acts, invalidation, manager_hears, part_in, reply, same_avoid_list, same_part, told_again, tree_acts, tree_acts_of, view_after, with_address, with_learnt}
 use Rattle.pl_manager_rule.specs.Repeats.{HasToldLast, TablesAreInOrder, IsKnownAddress, answers}
 use Rattle.pl_manager_rule.proofs.Kept.{ip_exact, ip_total, link_exact, link_total, members_exact, members_total}
-use Rattle.pl_manager_rule.proofs.Avoided.{id_exact}
+use Rattle.pl_node.proofs.Exports.{id_exact}
 use Rattle.pl_manager_rule.proofs.Sameness.{avoid_lists_alike, parts_alike}
 use Rattle.pl_manager_rule.proofs.Tables.{put_again}
 use Rattle.pl_node.proofs.Exports.{id_total}

@@ -11,7 +11,8 @@ use Rattle.pl_layouts.specs.Equality.{same_switch}
 use Rattle.pl_layouts.proofs.Exports.{switch_itself}
 use Rattle.pl_node.specs.AvoidLists.{avoided_cmp}
 use Rattle.pl_manager_rule.specs.ManagerRule.{same_avoid_list, same_part, same_up}
-use Rattle.pl_manager_rule.proofs.Avoided.{avoided_exact, avoided_total, same_is}
+use Rattle.pl_manager_rule.proofs.Avoided.{same_is}
+use Rattle.pl_node.proofs.Exports.{avoided_exact, avoided_total}
 
 pub avoid_lists_alike : (xs ys : List (SwitchId × ℕ × ℕ)) → (same_avoid_list xs ys ≡ true) ↔ (xs ≡ ys)
 avoid_lists_alike = pointwise_decides (λ x y.

@@ -7,6 +7,7 @@
 
 pub use members::Members;
 pub use pl_node::{Memory, PortSet};
+pub use ranked_member::RankedMember;
 
 mod members;
-mod ranked;
+mod ranked_member;

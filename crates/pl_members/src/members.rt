@@ -5,7 +5,7 @@ ghost use Rattle.pl_lists.specs.Ports.{ports_of};
 ghost use Rattle.pl_members.specs.Reached.{end_of, has_member_at, ports_with_member, start_of};
 ghost use Rattle.pl_switch_rule.specs.Intake.{groups_of, has_member_of, is_member, joins, leaves};
 
-use crate::ranked::Ranked;
+use crate::ranked_member::RankedMember;
 use pl_frame::Mac;
 use pl_node::{Member, Memory, PortSet};
 use std::alloc::Global;
@@ -16,7 +16,7 @@ use std::marker::Model;
 /// rising by group, port and address.
 #[derive(Debug, Drop)]
 pub struct Members {
-    members: BTreeSet<Ranked>,
+    members: BTreeSet<RankedMember>,
 }
 
 impl Model for Members {
@@ -47,7 +47,7 @@ impl Members {
         ensures err { OnErr result (self.new ≡ self.old) }
     {
         self.members
-            .insert(Ranked::new(Member { group, port, amac }))?;
+            .insert(RankedMember::new(Member { group, port, amac }))?;
         Ok(())
     }
 
@@ -56,7 +56,7 @@ impl Members {
         ensures { self.new ≡ leaves port amac group self.old }
     {
         self.members
-            .remove(&Ranked::new(Member { group, port, amac }));
+            .remove(&RankedMember::new(Member { group, port, amac }));
     }
 
     /// All that it joined at this port is forgotten. Takes no memory.
@@ -109,10 +109,10 @@ impl Members {
 }
 
 // What stands before all memberships of a group.
-fn start_of(group: u32) -> Ranked
+fn start_of(group: u32) -> RankedMember
     ensures { result ≡ start_of group }
 {
-    Ranked::new(Member {
+    RankedMember::new(Member {
         group,
         port: 0,
         amac: Mac([0; 6]),
@@ -120,10 +120,10 @@ fn start_of(group: u32) -> Ranked
 }
 
 // What stands behind all of them: no switch has so many ports.
-fn end_of(group: u32) -> Ranked
+fn end_of(group: u32) -> RankedMember
     ensures { result ≡ end_of group }
 {
-    Ranked::new(Member {
+    RankedMember::new(Member {
         group,
         port: u8::MAX,
         amac: Mac([0; 6]),

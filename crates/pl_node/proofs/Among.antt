@@ -130,7 +130,7 @@ module _ {K : Type 0} (R : K → K → Ordering) where
       by rest Greater (inl is) = inr (inl is)
       by rest Greater (inr j) = elim (rest j) [ inl is ↦ inl is | inr i ↦ inr (inr i) ]
 
-  among_kept : (k x : K) (xs : List K) → IsAmong x xs → IsAmong x (insert_key R xs k)
+  pub among_kept : (k x : K) (xs : List K) → IsAmong x xs → IsAmong x (insert_key R xs k)
   among_kept k x [] h = absurd h
   among_kept k x (y ∷ xs) h = by (λ j. among_kept k x xs j) (R k y) h
     where
@@ -146,7 +146,7 @@ module _ {K : Type 0} (R : K → K → Ordering) where
   among_ordered x (y ∷ xs) h = elim (among_insert y x (in_order R xs) h) [ inl is ↦ inl is | inr k ↦ inr (among_ordered x xs k) ]
 
   module _ (exact : CmpEqualImpliesEq R) where
-    among_inserted : (k : K) (xs : List K) → IsAmong k (insert_key R xs k)
+    pub among_inserted : (k : K) (xs : List K) → IsAmong k (insert_key R xs k)
     among_inserted k [] = inl refl
     among_inserted k (y ∷ xs) = by (among_inserted k xs) (R k y) refl
       where

@@ -11,6 +11,7 @@ pub mod HostInputs
 pub mod HostDuties
 pub mod ManagerViews
 pub mod AvoidLists
+pub mod AvoidRows
 pub mod Trees
 pub mod ManagerDuties
 pub mod ManagerFacts

@@ -6,6 +6,7 @@
 #![tactic(auto)]
 
 pub use acts::{Act, HostAct, ManagerAct};
+pub use avoid_list::AvoidList;
 pub use host_logic::HostLogic;
 pub use host_table::HostTable;
 pub use manager_logic::ManagerLogic;
@@ -17,12 +18,14 @@ pub use pl_journal::{Cause, Entry, Journal, Skip};
 pub use pl_layouts::{Change, Control, ControlError, Ldm, Place, Proposal, Vote};
 pub use pl_lists::{Items, PortSet, Queue, Rising};
 pub use reception::Reception;
-pub use switch_lists::{AvoidList, SwitchList};
+pub use switch_lists::SwitchList;
 pub use switch_logic::{SwitchFacts, SwitchLogic};
 pub use switch_records::{Grant, Hold, Member, Source};
 pub use trap::Trap;
 
 mod acts;
+mod avoid_list;
+mod avoid_row;
 mod host_logic;
 mod host_table;
 mod manager_logic;

@@ -12,7 +12,7 @@ use Rattle.pl_journal.specs.declared.entry.Entry.{Entry}
 use Rattle.pl_output.specs.declared.summary.Rest.{Rest}
 use Rattle.pl_output.specs.declared.summary.tally.Tally.{Tally}
 use Rattle.pl_output.specs.declared.summary.totals.Totals.{Totals}
-use Rattle.pl_output.specs.Summary.{totals_of, count_of, sender_of, receiver_of, skipper_of, ending_of, is_line, is_sent, is_made, is_copied, is_arrived, is_taken, is_dropped, index_of, counts_of, host_line, host_lines}
+use Rattle.pl_output.specs.Summary.{totals_of, count_of, sender_of, receiver_of, skipper_of, ending_of, is_line, is_sent, is_made, is_copied, is_arrived, is_taken, is_dropped, is_crossed, index_of, counts_of, host_line, host_lines}
 use Rattle.pl_output.specs.Tallied.{AreCountsOf, IsTallyOf, plus, with_one}
 
 pub counted_none : (many : ℕ) (number : Entry → Option ℕ) → AreCountsOf (replicate many 0) many number []
@@ -51,8 +51,8 @@ module _ (counts : List ℕ) (many : ℕ) (number : Entry → Option ℕ) (past 
   pub counted_more : AreCountsOf (with_one counts (number e)) many number (past ++ e ∷ [])
   counted_more = counted_one (number e) refl
 
-abbrev made : ℕ → ℕ → ℕ → ℕ → ℕ → ℕ → ℕ → Totals
-made l s m c a t d = record { lines = l; sent = s; made = m; copied = c; arrived = a; taken = t; dropped = d }
+abbrev made : ℕ → ℕ → ℕ → ℕ → ℕ → ℕ → ℕ → ℕ → Totals
+made l s m c a t d x = record { lines = l; sent = s; made = m; copied = c; arrived = a; taken = t; dropped = d; crossed = x }
 
 count_push : (p : Entry → Bool) (past : List Entry) (e : Entry) → count_by p (past ++ e ∷ []) ≡ count_by p past + count_by p (e ∷ [])
 count_push p past e = sum_by-append (λ x. cond (p x) 1 0) past (e ∷ [])
@@ -61,13 +61,14 @@ totals_push : (past : List Entry) (e : Entry) → totals_of (past ++ e ∷ []) �
 totals_push past e =
     let n : (Entry → Bool) → ℕ = λ p. count_by p (past ++ e ∷ []) in
     let m : (Entry → Bool) → ℕ = λ p. count_by p past + count_by p (e ∷ []) in
-    ap (λ x. made x (n is_sent) (n is_made) (n is_copied) (n is_arrived) (n is_taken) (n is_dropped)) (count_push is_line past e)
-    ∙ ap (λ x. made (m is_line) x (n is_made) (n is_copied) (n is_arrived) (n is_taken) (n is_dropped)) (count_push is_sent past e)
-    ∙ ap (λ x. made (m is_line) (m is_sent) x (n is_copied) (n is_arrived) (n is_taken) (n is_dropped)) (count_push is_made past e)
-    ∙ ap (λ x. made (m is_line) (m is_sent) (m is_made) x (n is_arrived) (n is_taken) (n is_dropped)) (count_push is_copied past e)
-    ∙ ap (λ x. made (m is_line) (m is_sent) (m is_made) (m is_copied) x (n is_taken) (n is_dropped)) (count_push is_arrived past e)
-    ∙ ap (λ x. made (m is_line) (m is_sent) (m is_made) (m is_copied) (m is_arrived) x (n is_dropped)) (count_push is_taken past e)
-    ∙ ap (λ x. made (m is_line) (m is_sent) (m is_made) (m is_copied) (m is_arrived) (m is_taken) x) (count_push is_dropped past e)
+    ap (λ x. made x (n is_sent) (n is_made) (n is_copied) (n is_arrived) (n is_taken) (n is_dropped) (n is_crossed)) (count_push is_line past e)
+    ∙ ap (λ x. made (m is_line) x (n is_made) (n is_copied) (n is_arrived) (n is_taken) (n is_dropped) (n is_crossed)) (count_push is_sent past e)
+    ∙ ap (λ x. made (m is_line) (m is_sent) x (n is_copied) (n is_arrived) (n is_taken) (n is_dropped) (n is_crossed)) (count_push is_made past e)
+    ∙ ap (λ x. made (m is_line) (m is_sent) (m is_made) x (n is_arrived) (n is_taken) (n is_dropped) (n is_crossed)) (count_push is_copied past e)
+    ∙ ap (λ x. made (m is_line) (m is_sent) (m is_made) (m is_copied) x (n is_taken) (n is_dropped) (n is_crossed)) (count_push is_arrived past e)
+    ∙ ap (λ x. made (m is_line) (m is_sent) (m is_made) (m is_copied) (m is_arrived) x (n is_dropped) (n is_crossed)) (count_push is_taken past e)
+    ∙ ap (λ x. made (m is_line) (m is_sent) (m is_made) (m is_copied) (m is_arrived) (m is_taken) x (n is_crossed)) (count_push is_dropped past e)
+    ∙ ap (λ x. made (m is_line) (m is_sent) (m is_made) (m is_copied) (m is_arrived) (m is_taken) (m is_dropped) x) (count_push is_crossed past e)
 
 pub tally_more : (old new : Tally) (hosts : ℕ) (past : List Entry) (e : Entry) → IsTallyOf old hosts past →
     new.totals ≡ plus old.totals (totals_of (e ∷ [])) →

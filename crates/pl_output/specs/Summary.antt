@@ -8,7 +8,7 @@ use Rattle.pl_wiring.specs.Plan.{Plan}
 use Rattle.pl_journal.specs.declared.cause.Cause.{Cause}
 use Rattle.pl_journal.specs.declared.cause.Cause.TheVariants as causes
 use Rattle.pl_journal.specs.declared.entry.Entry.{Entry}
-use Rattle.pl_journal.specs.declared.entry.Entry.TheVariants.{Line, Sent, Skipped, Made, Copied, Arrived, Taken, Dropped}
+use Rattle.pl_journal.specs.declared.entry.Entry.TheVariants.{Line, Sent, Skipped, Made, Crossed, Copied, Arrived, Taken, Dropped}
 use Rattle.pl_journal.specs.Text.{cause_text}
 use Rattle.pl_output.specs.declared.summary.Rest.{Rest}
 use Rattle.pl_output.specs.declared.summary.host_counts.HostCounts.{HostCounts}
@@ -43,6 +43,10 @@ abbrev pub is_dropped : Entry → Bool
 is_dropped (Dropped id cause) = true
 is_dropped _ = false
 
+abbrev pub is_crossed : Entry → Bool
+is_crossed (Crossed id switch) = true
+is_crossed _ = false
+
 abbrev pub totals_of : List Entry → Totals
 totals_of journal = record {
   lines = count_by is_line journal;
@@ -52,6 +56,7 @@ totals_of journal = record {
   arrived = count_by is_arrived journal;
   taken = count_by is_taken journal;
   dropped = count_by is_dropped journal;
+  crossed = count_by is_crossed journal;
 }
 
 -- the frames that began and did not end
@@ -139,6 +144,9 @@ abbrev pub host_lines : List Entry → ℕ → List Host → List Rest → List 
 host_lines journal n (host ∷ hosts) (rest ∷ rests) = host_line host (counts_of n journal) rest ++ host_lines journal (n + 1) hosts rests
 host_lines journal n _ _ = []
 
+unfoldable pub crossings_line : ℕ → List ℕ
+crossings_line crossed = codes "crossings " ++ decimal crossed ++ codes "\n"
+
 abbrev pub settled_line : Bool → List ℕ
 settled_line settled = if settled then codes "settled yes\n" else codes "settled no\n"
 
@@ -146,4 +154,4 @@ unfoldable pub summary_text : Plan → List Entry → ℕ → List Rest → Bool
 summary_text plan journal steps rests settled =
     fabric_line plan ++ steps_line (totals_of journal).lines steps (length journal) ++ frames_line (totals_of journal)
     ++ flat_map (λ cause. cause_line cause (count_of ending_of (index_of cause) journal)) all_causes
-    ++ host_lines journal 0 plan.hosts rests ++ settled_line settled
+    ++ host_lines journal 0 plan.hosts rests ++ crossings_line (totals_of journal).crossed ++ settled_line settled

@@ -15,6 +15,7 @@ plus s t = record {
   arrived = s.arrived + t.arrived;
   taken = s.taken + t.taken;
   dropped = s.dropped + t.dropped;
+  crossed = s.crossed + t.crossed;
 }
 
 -- one more at a number, if there is one

@@ -1,7 +1,7 @@
 ghost use Rattle.std.specs.Prelude.{◌≡◌, ◌⊎◌, ◌++◌, All, OnOk, OnErr, codes};
 ghost use Rattle.pl_shelf.specs.Held.{Same, Changes, IsCutOff, created, with_end};
 ghost use Rattle.pl_shelf.specs.Capacity.{FitsBehind, IsFull};
-ghost use Rattle.pl_shelf.specs.Faults.{Counts};
+ghost use Rattle.pl_shelf.specs.Faults.{CountsWrites};
 ghost use Rattle.pl_journal.specs.Text.{IsNamed, journal_text, parted, texts};
 ghost use Rattle.pl_output.specs.Printed.{BreaksOff, IsPrinted};
 
@@ -26,16 +26,15 @@ pub fn save_journal<S: Shelf>(
     piece: &mut Piece,
 ) -> Result<(), SaveError>
     requires { All (IsNamed wiring.now) journal.now }
-    ensures ok { OnOk result (Changes (S.held shelf.old) (S.held shelf.new) name.now
-        (with_end (created name.now (S.held shelf.old name.now)) (journal_text wiring.now journal.now))) }
-    ensures err { OnErr result (Same (S.held shelf.old) (S.held shelf.new)
-        ⊎ IsCutOff (S.held shelf.old) (S.held shelf.new) name.now
-        (created name.now (S.held shelf.old name.now)) (journal_text wiring.now journal.now)) }
-    ensures faults { Counts result (S.write_faults shelf.old) (S.write_faults shelf.new)
-        (S.read_faults shelf.old) (S.read_faults shelf.new) }
+    ensures ok { OnOk result (Changes (S.moment shelf.old).held (S.moment shelf.new).held name.now
+        (with_end (created name.now ((S.moment shelf.old).held name.now)) (journal_text wiring.now journal.now))) }
+    ensures err { OnErr result (Same (S.moment shelf.old).held (S.moment shelf.new).held
+        ⊎ IsCutOff (S.moment shelf.old).held (S.moment shelf.new).held name.now
+        (created name.now ((S.moment shelf.old).held name.now)) (journal_text wiring.now journal.now)) }
+    ensures faults { CountsWrites result (S.moment shelf.old) (S.moment shelf.new) }
     ensures capacity { S.capacity shelf.new ≡ S.capacity shelf.old }
     ensures unfit { OnErr result (FitsBehind (S.capacity shelf.old name.now)
-        (created name.now (S.held shelf.old name.now)) (journal_text wiring.now journal.now) → ⊥) }
+        (created name.now ((S.moment shelf.old).held name.now)) (journal_text wiring.now journal.now) → ⊥) }
 {
     shelf.create(name)?;
     append_entries(shelf, name, wiring, journal.as_slice(), piece)
@@ -50,14 +49,13 @@ fn append_entries<S: Shelf>(
     piece: &mut Piece,
 ) -> Result<(), SaveError>
     requires { All (IsNamed wiring.now) entries.now }
-    ensures ok { OnOk result (Changes (S.held shelf.old) (S.held shelf.new) name.now
-        (with_end (S.held shelf.old name.now) (journal_text wiring.now entries.now))) }
-    ensures err { OnErr result (IsCutOff (S.held shelf.old) (S.held shelf.new) name.now
-        (S.held shelf.old name.now) (journal_text wiring.now entries.now)) }
-    ensures faults { Counts result (S.write_faults shelf.old) (S.write_faults shelf.new)
-        (S.read_faults shelf.old) (S.read_faults shelf.new) }
+    ensures ok { OnOk result (Changes (S.moment shelf.old).held (S.moment shelf.new).held name.now
+        (with_end ((S.moment shelf.old).held name.now) (journal_text wiring.now entries.now))) }
+    ensures err { OnErr result (IsCutOff (S.moment shelf.old).held (S.moment shelf.new).held name.now
+        ((S.moment shelf.old).held name.now) (journal_text wiring.now entries.now)) }
+    ensures faults { CountsWrites result (S.moment shelf.old) (S.moment shelf.new) }
     ensures capacity { S.capacity shelf.new ≡ S.capacity shelf.old }
-    ensures full { OnErr result (IsFull (S.capacity shelf.new name.now) (S.held shelf.new name.now)) }
+    ensures full { OnErr result (IsFull (S.capacity shelf.new name.now) ((S.moment shelf.new).held name.now)) }
 {
     piece.clear();
     print_entries(shelf, name, wiring, entries, piece)?;
@@ -72,14 +70,13 @@ fn print_entries<S: Shelf>(
     piece: &mut Piece,
 ) -> Result<(), SaveError>
     requires { All (IsNamed wiring.now) entries.now }
-    ensures ok { OnOk result (IsPrinted (S.held shelf.old) (S.held shelf.new) name.now
+    ensures ok { OnOk result (IsPrinted (S.moment shelf.old).held (S.moment shelf.new).held name.now
         piece.old piece.new (journal_text wiring.now entries.now)) }
-    ensures err { OnErr result (BreaksOff (S.held shelf.old) (S.held shelf.new) name.now
+    ensures err { OnErr result (BreaksOff (S.moment shelf.old).held (S.moment shelf.new).held name.now
         piece.old (journal_text wiring.now entries.now)) }
-    ensures faults { Counts result (S.write_faults shelf.old) (S.write_faults shelf.new)
-        (S.read_faults shelf.old) (S.read_faults shelf.new) }
+    ensures faults { CountsWrites result (S.moment shelf.old) (S.moment shelf.new) }
     ensures capacity { S.capacity shelf.new ≡ S.capacity shelf.old }
-    ensures full { OnErr result (IsFull (S.capacity shelf.new name.now) (S.held shelf.new name.now)) }
+    ensures full { OnErr result (IsFull (S.capacity shelf.new name.now) ((S.moment shelf.new).held name.now)) }
 {
     for entry in entries {
         print_line(shelf, name, &entry.words(wiring), piece)?;
@@ -94,14 +91,13 @@ fn print_line<S: Shelf>(
     words: &Words,
     piece: &mut Piece,
 ) -> Result<(), SaveError>
-    ensures ok { OnOk result (IsPrinted (S.held shelf.old) (S.held shelf.new) name.now
+    ensures ok { OnOk result (IsPrinted (S.moment shelf.old).held (S.moment shelf.new).held name.now
         piece.old piece.new (parted (texts words.now) ++ codes "\n")) }
-    ensures err { OnErr result (BreaksOff (S.held shelf.old) (S.held shelf.new) name.now
+    ensures err { OnErr result (BreaksOff (S.moment shelf.old).held (S.moment shelf.new).held name.now
         piece.old (parted (texts words.now) ++ codes "\n")) }
-    ensures faults { Counts result (S.write_faults shelf.old) (S.write_faults shelf.new)
-        (S.read_faults shelf.old) (S.read_faults shelf.new) }
+    ensures faults { CountsWrites result (S.moment shelf.old) (S.moment shelf.new) }
     ensures capacity { S.capacity shelf.new ≡ S.capacity shelf.old }
-    ensures full { OnErr result (IsFull (S.capacity shelf.new name.now) (S.held shelf.new name.now)) }
+    ensures full { OnErr result (IsFull (S.capacity shelf.new name.now) ((S.moment shelf.new).held name.now)) }
 {
     piece.print_words(shelf, name, words)?;
     piece.print(shelf, name, b"\n")

@@ -1,5 +1,5 @@
 ghost use Rattle.std.specs.Prelude.{◌≡◌, ℕ, List, [], ◌∷◌, All, IfErr, OnOk, OnErr, string_bytes};
-ghost use Rattle.pl_shelf.specs.Faults.{Counts};
+ghost use Rattle.pl_shelf.specs.Faults.{CountsWrites};
 ghost use Rattle.pl_shelf.specs.Held.{standard_output};
 ghost use Rattle.pl_journal.specs.Text.{IsNamed, journal_text};
 ghost use Rattle.pl_output.specs.InTurn.{BreaksInTurn, BreaksOne, SavedInTurn, SavesOne};
@@ -33,16 +33,15 @@ pub fn save_all<S: Shelf>(
     requires savable { All (IsSavable wiring.now) journal.now }
     requires piece { texts.piece ≡ [] }
     ensures ok { (out : List ℕ) → AreTexts out wiring.now journal.now texts →
-        OnOk result (AreSaved (S.held shelf.old) (S.held shelf.new)
+        OnOk result (AreSaved (S.moment shelf.old).held (S.moment shelf.new).held
         (saved_texts out wiring.now journal.now (string_bytes texts.summary))) }
     ensures err { (out : List ℕ) → AreTexts out wiring.now journal.now texts →
-        IfErr result (λ name. BreaksOff (S.held shelf.old) (S.held shelf.new)
+        IfErr result (λ name. BreaksOff (S.moment shelf.old).held (S.moment shelf.new).held
         (saved_texts out wiring.now journal.now (string_bytes texts.summary)) name) }
-    ensures faults { Counts result (S.write_faults shelf.old) (S.write_faults shelf.new)
-        (S.read_faults shelf.old) (S.read_faults shelf.new) }
+    ensures faults { CountsWrites result (S.moment shelf.old) (S.moment shelf.new) }
     ensures capacity { S.capacity shelf.new ≡ S.capacity shelf.old }
     ensures unfit { (out : List ℕ) → AreTexts out wiring.now journal.now texts →
-        OnErr result (HaveRoom (S.capacity shelf.old) (S.held shelf.old)
+        OnErr result (HaveRoom (S.capacity shelf.old) (S.moment shelf.old).held
         (saved_texts out wiring.now journal.now (string_bytes texts.summary)) → ⊥) }
 {
     // The wiring's invariant is that no two hosts have one name.
@@ -58,15 +57,14 @@ fn save_in_turn<S: Shelf>(
 ) -> Result<(), Name>
     requires savable { All (IsSavable wiring.now) journal.now }
     requires piece { texts.piece ≡ [] }
-    ensures ok { OnOk result (SavedInTurn (S.held shelf.old)
-        (savings_of wiring.now journal.now texts) (S.held shelf.new)) }
+    ensures ok { OnOk result (SavedInTurn (S.moment shelf.old).held
+        (savings_of wiring.now journal.now texts) (S.moment shelf.new).held) }
     ensures err { IfErr result (λ name.
-        BreaksInTurn (S.held shelf.old) (savings_of wiring.now journal.now texts) name
-        (S.held shelf.new)) }
-    ensures faults { Counts result (S.write_faults shelf.old) (S.write_faults shelf.new)
-        (S.read_faults shelf.old) (S.read_faults shelf.new) }
+        BreaksInTurn (S.moment shelf.old).held (savings_of wiring.now journal.now texts) name
+        (S.moment shelf.new).held) }
+    ensures faults { CountsWrites result (S.moment shelf.old) (S.moment shelf.new) }
     ensures capacity { S.capacity shelf.new ≡ S.capacity shelf.old }
-    ensures unfit { OnErr result (HaveRoomInTurn (S.capacity shelf.old) (S.held shelf.old)
+    ensures unfit { OnErr result (HaveRoomInTurn (S.capacity shelf.old) (S.moment shelf.old).held
         (savings_of wiring.now journal.now texts) → ⊥) }
 {
     let Texts {
@@ -90,15 +88,14 @@ fn save_entries<S: Shelf>(
 ) -> Result<(), Name>
     requires named { All (IsNamed wiring.now) journal.now }
     requires piece { piece.old ≡ [] }
-    ensures ok { OnOk result (SavesOne (S.held shelf.old) (S.held shelf.new)
+    ensures ok { OnOk result (SavesOne (S.moment shelf.old).held (S.moment shelf.new).held
         (record { name = name; text = journal_text wiring.now journal.now })) }
     ensures named { IfErr result (λ told. name ≡ told) }
-    ensures err { OnErr result (BreaksOne (S.held shelf.old) (S.held shelf.new)
+    ensures err { OnErr result (BreaksOne (S.moment shelf.old).held (S.moment shelf.new).held
         (record { name = name; text = journal_text wiring.now journal.now })) }
-    ensures faults { Counts result (S.write_faults shelf.old) (S.write_faults shelf.new)
-        (S.read_faults shelf.old) (S.read_faults shelf.new) }
+    ensures faults { CountsWrites result (S.moment shelf.old) (S.moment shelf.new) }
     ensures capacity { S.capacity shelf.new ≡ S.capacity shelf.old }
-    ensures unfit { OnErr result (HasRoom (S.capacity shelf.old) (S.held shelf.old)
+    ensures unfit { OnErr result (HasRoom (S.capacity shelf.old) (S.moment shelf.old).held
         (record { name = name; text = journal_text wiring.now journal.now }) → ⊥) }
 {
     match save_journal(shelf, name.text(), wiring, journal, piece) {
@@ -108,15 +105,14 @@ fn save_entries<S: Shelf>(
 }
 
 fn save_summary<S: Shelf>(shelf: &mut S, output: Name, summary: &str) -> Result<(), Name>
-    ensures ok { OnOk result (SavesOne (S.held shelf.old) (S.held shelf.new)
+    ensures ok { OnOk result (SavesOne (S.moment shelf.old).held (S.moment shelf.new).held
         (record { name = output; text = summary.now })) }
     ensures named { IfErr result (λ told. output ≡ told) }
-    ensures err { OnErr result (BreaksOne (S.held shelf.old) (S.held shelf.new)
+    ensures err { OnErr result (BreaksOne (S.moment shelf.old).held (S.moment shelf.new).held
         (record { name = output; text = summary.now })) }
-    ensures faults { Counts result (S.write_faults shelf.old) (S.write_faults shelf.new)
-        (S.read_faults shelf.old) (S.read_faults shelf.new) }
+    ensures faults { CountsWrites result (S.moment shelf.old) (S.moment shelf.new) }
     ensures capacity { S.capacity shelf.new ≡ S.capacity shelf.old }
-    ensures unfit { OnErr result (HasRoom (S.capacity shelf.old) (S.held shelf.old)
+    ensures unfit { OnErr result (HasRoom (S.capacity shelf.old) (S.moment shelf.old).held
         (record { name = output; text = summary.now }) → ⊥) }
 {
     match save(shelf, output.text(), summary.as_bytes()) {
@@ -128,14 +124,13 @@ fn save_summary<S: Shelf>(shelf: &mut S, output: Name, summary: &str) -> Result<
 /// Saves one text: on standard output it stands behind what was there. Takes no memory, and answers the
 /// name where a write failed: it is then as it was, or got a proper front of the text.
 pub fn print<S: Shelf>(shelf: &mut S, output: Name, text: &str) -> Result<(), Name>
-    ensures ok { OnOk result (AreSaved (S.held shelf.old) (S.held shelf.new)
+    ensures ok { OnOk result (AreSaved (S.moment shelf.old).held (S.moment shelf.new).held
         (record { name = output; text = text.now } ∷ [])) }
-    ensures err { IfErr result (λ name. BreaksOff (S.held shelf.old) (S.held shelf.new)
+    ensures err { IfErr result (λ name. BreaksOff (S.moment shelf.old).held (S.moment shelf.new).held
         (record { name = output; text = text.now } ∷ []) name) }
-    ensures faults { Counts result (S.write_faults shelf.old) (S.write_faults shelf.new)
-        (S.read_faults shelf.old) (S.read_faults shelf.new) }
+    ensures faults { CountsWrites result (S.moment shelf.old) (S.moment shelf.new) }
     ensures capacity { S.capacity shelf.new ≡ S.capacity shelf.old }
-    ensures unfit { OnErr result (HasRoom (S.capacity shelf.old) (S.held shelf.old)
+    ensures unfit { OnErr result (HasRoom (S.capacity shelf.old) (S.moment shelf.old).held
         (record { name = output; text = text.now }) → ⊥) }
 {
     save_summary(shelf, output, text)

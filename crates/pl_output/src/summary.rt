@@ -1,10 +1,12 @@
 ghost use Rattle.std.specs.Prelude.{◌≡◌, ◌++◌, ℕ, List, length, string_bytes, IfOk, OnOk};
 ghost use Rattle.std.specs.List.{flat_map};
 ghost use Rattle.pl_journal.specs.declared.entry.Entry.{Entry};
-ghost use Rattle.pl_output.specs.Summary.{all_causes, cause_line, count_of, ending_of, fabric_line, frames_line, host_line, host_lines, index_of, steps_line, summary_text};
+ghost use Rattle.pl_output.specs.Summary.{all_causes, cause_line, count_of, crossings_line, ending_of, fabric_line, frames_line, host_line, host_lines, index_of, settled_line, steps_line, summary_text};
 ghost use Rattle.pl_output.specs.Tallied.{IsTallyOf};
 
-use crate::summary::lines::{CauseLine, FabricLine, HostLine, StepsLine, settled_line};
+use crate::summary::lines::{
+    CauseLine, CrossingsLine, FabricLine, HostLine, StepsLine, settled_line,
+};
 use crate::summary::tally::Tally;
 use crate::summary::totals::Totals;
 use pl_frame::Memory;
@@ -60,7 +62,7 @@ pub fn summary(
     let mut text = first_lines(alloc, wiring, tally.totals, steps, entries.len())?;
     add_cause_lines(alloc, &mut text, &tally)?;
     add_host_lines(alloc, &mut text, hosts, &tally, rests)?;
-    text.push_str(settled_line(settled))?;
+    add_last_lines(alloc, &mut text, tally.totals.crossed, settled)?;
     Ok(text)
 }
 
@@ -137,4 +139,19 @@ fn add_host_line(alloc: Global, text: &mut String, line: &HostLine) -> Result<()
 {
     let line = format!(in alloc; "{line}")?;
     text.push_str(&line)
+}
+
+// How many switches were crossed, and whether the network is settled.
+fn add_last_lines(
+    alloc: Global,
+    text: &mut String,
+    crossed: u64,
+    settled: bool,
+) -> Result<(), Memory>
+    ensures { OnOk result (string_bytes text.new ≡ string_bytes text.old ++ crossings_line crossed ++ settled_line settled) }
+{
+    let line = CrossingsLine(crossed);
+    let line = format!(in alloc; "{line}")?;
+    text.push_str(&line)?;
+    text.push_str(settled_line(settled))
 }

@@ -1,7 +1,7 @@
 -- What is known of a script that was played.
 use Rattle.std.proofs.Common.{◌≡◌, ◌≤◌, ◌↔◌, ℕ, suc, Bool, IsTrue, All, List, [], ◌∷◌, length, Option, None, Some, refl, sym, ap, ◌∙◌, subst}
 use Rattle.pl_shelf.specs.Faults.{Rose}
-use Rattle.pl_shelf.specs.Held.{standard_output}
+use Rattle.pl_shelf.specs.Held.{ShelfMoment, standard_output}
 use Rattle.pl_wiring.specs.Plan.{Plan}
 use Rattle.pl_inputs.specs.declared.capture.Capture.{Capture}
 use Rattle.pl_inputs.specs.Inputs.{Inputs}
@@ -28,7 +28,7 @@ use Rattle.pl_output.specs.Saved.{AreSaved, BreaksOff, Saving}
 use Rattle.pl_output.specs.Summary.{summary_text}
 use Rattle.pl_inputs.specs.declared.status.Status.TheVariants as status
 use Rattle.pl_world.specs.declared.error.StepError.TheVariants as error
-use Rattle.pl_playing.specs.Outcomes.{Comes, HostsDoAsAsked, IsPlayed, IsStopped, ShelfMoment, PlaysTo, outcome, printed_of, records_of, rests_from, run_limits, summary_of, texts_of}
+use Rattle.pl_playing.specs.Outcomes.{Comes, HostsDoAsAsked, IsPlayed, IsStopped, PlaysTo, outcome, printed_of, records_of, rests_from, run_limits, summary_of, texts_of}
 use Rattle.pl_playing.specs.Plays.{IsPlayedOver, IsPlayedTo, IsUnplayed, Played, summary_by}
 use Rattle.pl_playing.proofs.Remaining.{records_are}
 

@@ -10,7 +10,8 @@ use Rattle.pl_script_rule.specs.declared.stop.Stop.{Stop}
 use Rattle.pl_script_rule.specs.declared.stop.Stop.TheVariants.{ExpectFailed, Refused}
 use Rattle.pl_inputs.specs.declared.status.Status.TheVariants as status
 use Rattle.pl_world.specs.declared.error.StepError.TheVariants as error
-use Rattle.pl_playing.specs.Outcomes.{Comes, IsPlayed, IsStopped, IsUntouched, ShelfMoment, outcome}
+use Rattle.pl_playing.specs.Outcomes.{Comes, IsPlayed, IsStopped, IsUntouched, outcome}
+use Rattle.pl_shelf.specs.Held.{ShelfMoment}
 use Rattle.pl_playing.specs.Plays.{IsUnplayed}
 
 -- the answers that a stopped script has

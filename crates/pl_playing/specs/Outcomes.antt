@@ -1,7 +1,7 @@
 -- What comes of inputs that are played.
 use Rattle.std.specs.Prelude.{◌≡◌, ◌≤◌, ◌↔◌, ℕ, suc, ◌-◌, Bool, IsTrue, List, [], ◌∷◌, length, map, slice_get, Option, None, Some}
 use Rattle.std.specs.Option.{option_map_or}
-use Rattle.pl_shelf.specs.Held.{Held, Same, standard_output}
+use Rattle.pl_shelf.specs.Held.{Held, Same, ShelfMoment, standard_output}
 use Rattle.pl_shelf.specs.Faults.{Rose}
 use Rattle.pl_wiring.specs.declared.host.Host.{Host}
 use Rattle.pl_inputs.specs.declared.status.Status.{Status}
@@ -48,15 +48,6 @@ rests_from n (file ∷ files) scene =
 
 abbrev pub summary_of : Inputs → Scene → Bool → List ℕ
 summary_of i scene settled = summary_text i.plan scene.world.journal scene.world.steps (rests_from 0 i.captures scene) settled
-
--- a shelf at a moment: what it holds by name, and how many of its calls failed
-pub record ShelfMoment : Type 0 where
-  pub held : List ℕ → Held
-  pub read_faults : ℕ
-  pub write_faults : ℕ
-
-abbrev pub moment : (List ℕ → Held) → ℕ → ℕ → ShelfMoment
-moment held reads writes = record { held = held; read_faults = reads; write_faults = writes }
 
 -- each name holds what it held, and no call failed
 pub record IsUntouched (old new : ShelfMoment) : Type 0 where

@@ -2,7 +2,7 @@ ghost use Rattle.std.specs.Prelude.{◌≡◌, length};
 ghost use Rattle.pl_inputs.specs.Inputs.{Inputs as Given};
 ghost use Rattle.pl_inputs.specs.Loaded.{inputs_of};
 ghost use Rattle.pl_world.specs.Flying.{IsCounted};
-ghost use Rattle.pl_playing.specs.Outcomes.{Comes, moment, printed_of};
+ghost use Rattle.pl_playing.specs.Outcomes.{Comes, printed_of};
 ghost use Rattle.pl_playing.specs.Plays.{IsPlayedTo, answer_of, played_over};
 ghost use Rattle.pl_playing.specs.Prepared.{HasRoomFor, NamesNoFault};
 
@@ -25,10 +25,9 @@ pub fn play_and_print<S: LooseSwitch, M: LawfulManager, H: LawfulHost, D: Shelf>
     shelf: &mut D,
 ) -> Result<(), Status>
     ensures comes { Comes S.rule M.rule H.rule
-        (moment (D.held shelf.old) (D.read_faults shelf.old) (D.write_faults shelf.old))
-        (moment (D.held shelf.new) (D.read_faults shelf.new) (D.write_faults shelf.new))
+        (D.moment shelf.old) (D.moment shelf.new)
         (inputs_of inputs) (printed_of S.rule M.rule H.rule (inputs_of inputs)) (answer_of result) }
-    ensures prepared { HasRoomFor S.rule M.rule H.rule (D.capacity shelf.old) (D.held shelf.old) (inputs_of inputs) (printed_of S.rule M.rule H.rule (inputs_of inputs)) →
+    ensures prepared { HasRoomFor S.rule M.rule H.rule (D.capacity shelf.old) (D.moment shelf.old).held (inputs_of inputs) (printed_of S.rule M.rule H.rule (inputs_of inputs)) →
         NamesNoFault (answer_of result) }
 {
     let (fabric, captures) = play::<S, M, H>(alloc, inputs)?;
@@ -45,11 +44,10 @@ fn print_played<S: LooseSwitch, M: LawfulManager, H: LawfulHost, D: Shelf>(
     requires counted { IsCounted fabric.now.world }
     requires many { length captures.now ≡ length fabric.now.world.plan.hosts }
     ensures comes { (i : Given) → IsPlayedTo S.rule M.rule H.rule i (played_over fabric.now captures.now) → Comes S.rule M.rule H.rule
-        (moment (D.held shelf.old) (D.read_faults shelf.old) (D.write_faults shelf.old))
-        (moment (D.held shelf.new) (D.read_faults shelf.new) (D.write_faults shelf.new))
+        (D.moment shelf.old) (D.moment shelf.new)
         i (printed_of S.rule M.rule H.rule i) (answer_of result) }
     ensures prepared { (i : Given) → IsPlayedTo S.rule M.rule H.rule i (played_over fabric.now captures.now) →
-        HasRoomFor S.rule M.rule H.rule (D.capacity shelf.old) (D.held shelf.old) i (printed_of S.rule M.rule H.rule i) → NamesNoFault (answer_of result) }
+        HasRoomFor S.rule M.rule H.rule (D.capacity shelf.old) (D.moment shelf.old).held i (printed_of S.rule M.rule H.rule i) → NamesNoFault (answer_of result) }
 {
     let is_settled = settled(fabric.world());
     let summary = summary_of(alloc, fabric, captures, is_settled)?;

@@ -4,7 +4,7 @@ ghost use Rattle.pl_inputs.specs.Loaded.{inputs_of};
 ghost use Rattle.pl_journal.specs.Savable.{IsSavable};
 ghost use Rattle.pl_output.specs.Texts.{AreTexts};
 ghost use Rattle.pl_world.specs.Flying.{IsCounted};
-ghost use Rattle.pl_playing.specs.Outcomes.{Comes, moment, texts_of};
+ghost use Rattle.pl_playing.specs.Outcomes.{Comes, texts_of};
 ghost use Rattle.pl_playing.specs.Plays.{IsPlayedTo, answer_of, played_over, summary_by};
 ghost use Rattle.pl_playing.specs.Prepared.{HasRoomFor, NamesNoFault};
 
@@ -28,10 +28,9 @@ pub fn play_and_save<S: LooseSwitch, M: LawfulManager, H: LawfulHost, D: Shelf>(
     shelf: &mut D,
 ) -> Result<(), Status>
     ensures comes { Comes S.rule M.rule H.rule
-        (moment (D.held shelf.old) (D.read_faults shelf.old) (D.write_faults shelf.old))
-        (moment (D.held shelf.new) (D.read_faults shelf.new) (D.write_faults shelf.new))
+        (D.moment shelf.old) (D.moment shelf.new)
         (inputs_of inputs) (texts_of S.rule M.rule H.rule out.now (inputs_of inputs)) (answer_of result) }
-    ensures prepared { HasRoomFor S.rule M.rule H.rule (D.capacity shelf.old) (D.held shelf.old) (inputs_of inputs) (texts_of S.rule M.rule H.rule out.now (inputs_of inputs)) →
+    ensures prepared { HasRoomFor S.rule M.rule H.rule (D.capacity shelf.old) (D.moment shelf.old).held (inputs_of inputs) (texts_of S.rule M.rule H.rule out.now (inputs_of inputs)) →
         NamesNoFault (answer_of result) }
 {
     let (fabric, captures) = play::<S, M, H>(alloc, inputs)?;
@@ -50,11 +49,10 @@ fn save_played<S: LooseSwitch, M: LawfulManager, H: LawfulHost, D: Shelf>(
     requires savable { All (IsSavable fabric.now.world.plan) fabric.now.world.journal }
     requires many { length captures.now ≡ length fabric.now.world.plan.hosts }
     ensures comes { (i : Given) → IsPlayedTo S.rule M.rule H.rule i (played_over fabric.now captures.now) → Comes S.rule M.rule H.rule
-        (moment (D.held shelf.old) (D.read_faults shelf.old) (D.write_faults shelf.old))
-        (moment (D.held shelf.new) (D.read_faults shelf.new) (D.write_faults shelf.new))
+        (D.moment shelf.old) (D.moment shelf.new)
         i (texts_of S.rule M.rule H.rule out.now i) (answer_of result) }
     ensures prepared { (i : Given) → IsPlayedTo S.rule M.rule H.rule i (played_over fabric.now captures.now) →
-        HasRoomFor S.rule M.rule H.rule (D.capacity shelf.old) (D.held shelf.old) i (texts_of S.rule M.rule H.rule out.now i) → NamesNoFault (answer_of result) }
+        HasRoomFor S.rule M.rule H.rule (D.capacity shelf.old) (D.moment shelf.old).held i (texts_of S.rule M.rule H.rule out.now i) → NamesNoFault (answer_of result) }
 {
     let world = fabric.world();
     let is_settled = settled(world);

@@ -1,4 +1,3 @@
-pub mod Ordering
 pub mod Telling
 pub mod Sorting
 pub mod Liveness

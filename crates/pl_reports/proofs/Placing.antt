@@ -20,7 +20,7 @@ use Rattle.pl_manager_rule.specs.ManagerRule.{with_link, with_place}
 use Rattle.pl_manager_rule.proofs.Exports.{found_key, id_exact, id_is, same_is, switches_rise, value_after, value_put}
 use Rattle.pl_reports.specs.Kept.{with_edge}
 use Rattle.pl_reports.proofs.Liveness.{not_here}
-use Rattle.pl_reports.proofs.Ordering.{same_rising}
+use Rattle.pl_node.proofs.Exports.{same_rising}
 use Rattle.pl_reports.proofs.Sorting.{among_put_before, among_put_now, put_in}
 use Rattle.pl_reports.proofs.Telling.{switches_linked, switches_placed}
 

@@ -9,7 +9,7 @@ use Rattle.pl_frame.specs.declared.address.SwitchId.{SwitchId}
 use Rattle.pl_node.specs.ManagerViews.{id_cmp, in_order}
 use Rattle.pl_node.proofs.Exports.{among_in_order, among_insert, among_ordered, id_total, IsAmong, rising_in_order, rising_inserted}
 use Rattle.pl_manager_rule.proofs.Exports.{id_exact}
-use Rattle.pl_reports.proofs.Ordering.{same_rising}
+use Rattle.pl_node.proofs.Exports.{same_rising}
 
 abbrev pub put_in : List SwitchId → SwitchId → List SwitchId
 put_in = insert_key id_cmp

@@ -18,7 +18,7 @@ use Rattle.pl_node.proofs.Exports.{among_append, among_filter, among_filtered, a
 use Rattle.pl_manager_rule.specs.ManagerRule.{with_link, with_place}
 use Rattle.pl_manager_rule.proofs.Exports.{among_put, found_key, id_exact, link_exact, same_is, value_put}
 use Rattle.pl_reports.specs.Kept.{near_of, with_neighbour}
-use Rattle.pl_reports.proofs.Ordering.{same_order}
+use Rattle.pl_node.proofs.Exports.{same_order}
 
 pub link_total : IsTotalOrder link_cmp
 link_total = then_total (on_total (λ (l : SwitchId × SwitchId). l.0) id_total) (on_total (λ (l : SwitchId × SwitchId). l.1) id_total)

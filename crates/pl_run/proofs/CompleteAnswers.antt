@@ -1,7 +1,7 @@
 -- Inputs that are accepted are played, and what they come to is the answer.
 use Rattle.std.proofs.Common.{◌≡◌, ℕ, suc, List, take, Option, None, Some, refl, sym, ap, ◌∙◌, subst, inl, inr}
 use Rattle.std.proofs.lemmas.List.Elements.{All-take}
-use Rattle.pl_shelf.specs.Held.{Held, IsLonger}
+use Rattle.pl_shelf.specs.Held.{Held, IsLonger, ShelfMoment}
 use Rattle.pl_wiring.specs.declared.host.Host.{Host}
 use Rattle.pl_wiring.specs.Plan.{Plan}
 use Rattle.pl_script.specs.declared.error.ScriptError.TheVariants.{Line}
@@ -14,7 +14,7 @@ use Rattle.pl_inputs.specs.Words.{Asked}
 use Rattle.pl_script_rule.specs.declared.stop.Stop.{Stop}
 use Rattle.pl_script_rule.specs.Scenes.{Scene}
 use Rattle.pl_inputs.specs.declared.status.Status.TheVariants as status
-use Rattle.pl_playing.specs.Outcomes.{ShelfMoment, outcome}
+use Rattle.pl_playing.specs.Outcomes.{outcome}
 use Rattle.pl_run.specs.Answers.{Answers}
 use Rattle.pl_run.specs.Complete.{AnswersByPlaying, AnswersInputs, AreCapturesShown, AreShown, IsCaptureShown}
 use Rattle.pl_run.proofs.Complete.{one_input, one_plan}

@@ -1,6 +1,6 @@
 -- What is answered where the shelf tells the captures, and one is refused or too long.
 use Rattle.std.proofs.Common.{◌≡◌, ℕ, suc, ◌+◌, List, take, refl, sym, ap, ◌∙◌, subst, inl, inr, arith}
-use Rattle.pl_shelf.specs.Held.{Held, IsLonger}
+use Rattle.pl_shelf.specs.Held.{Held, IsLonger, ShelfMoment}
 use Rattle.pl_wiring.specs.declared.host.Host.{Host}
 use Rattle.pl_wiring.specs.Plan.{Plan}
 use Rattle.pl_script.specs.declared.error.ScriptError.TheVariants.{Line}
@@ -11,7 +11,6 @@ use Rattle.pl_inputs.specs.Inputs.{AreCaptures, AreRead, HasPlan, Inputs, text_l
 use Rattle.pl_inputs.specs.Unread.{ComesTo, IsRefusedCapture, IsTooMuch}
 use Rattle.pl_inputs.specs.Words.{Asked}
 use Rattle.pl_inputs.specs.declared.status.Status.TheVariants as status
-use Rattle.pl_playing.specs.Outcomes.{ShelfMoment}
 use Rattle.pl_run.specs.Answers.{Answers}
 use Rattle.pl_run.specs.Complete.{AnswersBadCapture, AnswersLongCapture, AreCapturesShown, IsComplete, IsShown, refusal}
 use Rattle.pl_run.proofs.Complete.{one_plan}

@@ -1,7 +1,7 @@
 -- What comes of inputs that were read, told of the shelf at first.
 use Rattle.std.proofs.Common.{◌≡◌, ℕ, ◌≤◌, List, [], ◌∷◌, ◌++◌, take, All, Err, refl, sym, ap, ◌∙◌, subst, inl, inr}
 use Rattle.std.proofs.lemmas.List.Elements.{All-weaker}
-use Rattle.pl_shelf.specs.Held.{Held, Same}
+use Rattle.pl_shelf.specs.Held.{Held, Same, ShelfMoment}
 use Rattle.pl_shelf.specs.Faults.{Rose}
 use Rattle.pl_wiring.specs.Plan.{Plan}
 use Rattle.pl_inputs.specs.declared.status.Status.{Status}
@@ -13,7 +13,7 @@ use Rattle.pl_inputs.specs.Words.{Asked}
 use Rattle.pl_output.specs.Saved.{AreSaved, BreaksOff, IsBroken, IsSavedWhole, OthersStay, Saving, once_saved}
 use Rattle.pl_generator.specs.Generated.{AreGenerated}
 use Rattle.pl_inputs.specs.declared.status.Status.TheVariants as status
-use Rattle.pl_playing.specs.Outcomes.{IsUntouched, ShelfMoment, Saves, SavingFails}
+use Rattle.pl_playing.specs.Outcomes.{IsUntouched, Saves, SavingFails}
 use Rattle.pl_host_rule.specs.HostRule.{host_rule}
 use Rattle.pl_manager_rule.specs.ManagerRule.{manager_rule}
 use Rattle.pl_switch_rule.specs.SwitchRule.{Exact}

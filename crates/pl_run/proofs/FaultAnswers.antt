@@ -1,12 +1,12 @@
 -- A count of failed calls that rose is told by the answer.
 use Rattle.std.proofs.Common.{◌≡◌, ℕ, ◌<◌, List, refl, arith}
-use Rattle.pl_shelf.specs.Held.{Held}
+use Rattle.pl_shelf.specs.Held.{Held, ShelfMoment}
 use Rattle.pl_inputs.specs.declared.status.Status.{Status}
 use Rattle.pl_inputs.specs.Inputs.{Inputs}
 use Rattle.pl_inputs.specs.Words.{Asked, Check, Generate, Run, Task}
 use Rattle.pl_output.specs.Saved.{Saving}
 use Rattle.pl_inputs.specs.declared.status.Status.TheVariants as status
-use Rattle.pl_playing.specs.Outcomes.{IsUntouched, ShelfMoment, ReadFails, Saves, SavingFails}
+use Rattle.pl_playing.specs.Outcomes.{IsUntouched, ReadFails, Saves, SavingFails}
 use Rattle.pl_run.specs.Answers.{Answers, IsRun}
 use Rattle.pl_run.specs.Checks.{AnswersCheck, line_of}
 use Rattle.pl_run.specs.Faults.{TellsFaults}

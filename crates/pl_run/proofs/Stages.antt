@@ -1,6 +1,6 @@
 -- At which stage a run or a check ended: at its topology, at its script, or behind them.
 use Rattle.std.proofs.Common.{◌≡◌, ◌⊎◌, ℕ, ◌-◌, ◌^◌, ◌<◌, List, Err, refl, sym, ap, ◌∙◌, subst, inl, inr, arith}
-use Rattle.pl_shelf.specs.Held.{Held, IsLonger}
+use Rattle.pl_shelf.specs.Held.{Held, IsLonger, ShelfMoment}
 use Rattle.pl_shelf.specs.Faults.{Rose}
 use Rattle.pl_wiring.specs.Plan.{Plan}
 use Rattle.pl_script.specs.declared.error.ScriptError.{ScriptError}
@@ -15,7 +15,6 @@ use Rattle.pl_inputs.specs.Inputs.{HasLines, HasPlan, IsLoaded, text_limit}
 use Rattle.pl_inputs.specs.Unread.{AreTextsRead}
 use Rattle.pl_inputs.specs.Words.{Asked}
 use Rattle.pl_inputs.specs.declared.status.Status.TheVariants as status
-use Rattle.pl_playing.specs.Outcomes.{ShelfMoment}
 use Rattle.pl_run.specs.Answers.{Answers, IsRun}
 use Rattle.pl_run.specs.Checks.{AnswersCheck}
 use Rattle.pl_run.specs.Complete.{AnswersBadScript, AnswersBadTopology, AnswersLongScript, AnswersLongTopology, AnswersTopology, IsShown, NoFaults}

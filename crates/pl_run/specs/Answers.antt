@@ -4,7 +4,8 @@ use Rattle.pl_inputs.specs.Inputs.{AreRead, Inputs}
 use Rattle.pl_inputs.specs.Unread.{IsUnread}
 use Rattle.pl_inputs.specs.Words.{Asked}
 use Rattle.pl_inputs.specs.declared.status.Status.TheVariants as status
-use Rattle.pl_playing.specs.Outcomes.{ShelfMoment, IsUntouched, ReadFails}
+use Rattle.pl_playing.specs.Outcomes.{IsUntouched, ReadFails}
+use Rattle.pl_shelf.specs.Held.{ShelfMoment}
 use Rattle.pl_run.specs.Fabric.{Comes, texts_of}
 
 -- What each answer says of a run whose inputs are read from the shelf: they were read and something came of them; or they were not.

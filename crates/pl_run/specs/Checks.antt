@@ -1,6 +1,6 @@
 -- What is answered where a topology is checked.
 use Rattle.std.specs.Prelude.{ℕ, List, [], ◌∷◌}
-use Rattle.pl_shelf.specs.Held.{standard_output}
+use Rattle.pl_shelf.specs.Held.{ShelfMoment, standard_output}
 use Rattle.pl_wiring.specs.Plan.{Plan}
 use Rattle.pl_inputs.specs.declared.status.Status.{Status}
 use Rattle.pl_inputs.specs.Inputs.{HasPlan}
@@ -8,7 +8,7 @@ use Rattle.pl_inputs.specs.Loads.{IsUnplanned}
 use Rattle.pl_output.specs.Saved.{Saving}
 use Rattle.pl_output.specs.WiringText.{wiring_line}
 use Rattle.pl_inputs.specs.declared.status.Status.TheVariants as status
-use Rattle.pl_playing.specs.Outcomes.{IsUntouched, ShelfMoment, ReadFails, Saves, SavingFails}
+use Rattle.pl_playing.specs.Outcomes.{IsUntouched, ReadFails, Saves, SavingFails}
 
 -- what is printed of a wiring
 abbrev pub line_of : Plan → List Saving

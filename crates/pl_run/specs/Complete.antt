@@ -1,6 +1,6 @@
 -- What is answered where the shelf tells what is read, and no call fails: what the bytes ask for.
 use Rattle.std.specs.Prelude.{◌≡◌, ◌⊎◌, ℕ, ◌+◌, ◌-◌, ◌^◌, ◌<◌, List, All, take, Option, None, Some, Err}
-use Rattle.pl_shelf.specs.Held.{Held, IsLonger, holds}
+use Rattle.pl_shelf.specs.Held.{Held, IsLonger, ShelfMoment, holds}
 use Rattle.pl_capture.specs.CaptureError.{offset_of}
 use Rattle.pl_wiring.specs.declared.host.Host.{Host}
 use Rattle.pl_wiring.specs.declared.host.HostNo.{HostNo}
@@ -20,7 +20,7 @@ use Rattle.pl_inputs.specs.Words.{Asked}
 use Rattle.pl_script_rule.specs.declared.stop.Stop.{Stop}
 use Rattle.pl_script_rule.specs.Scenes.{Scene}
 use Rattle.pl_inputs.specs.declared.status.Status.TheVariants as status
-use Rattle.pl_playing.specs.Outcomes.{ShelfMoment, outcome}
+use Rattle.pl_playing.specs.Outcomes.{outcome}
 use Rattle.pl_run.specs.Fabric.{PlaysTo}
 
 -- the shelf tells what this name holds

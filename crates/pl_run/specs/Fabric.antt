@@ -1,6 +1,6 @@
 -- What the program plays: switches that pass frames on by their flows, the fabric manager and hosts, each by its rule.
 use Rattle.std.specs.Prelude.{ℕ, List, Option}
-use Rattle.pl_shelf.specs.Held.{Held}
+use Rattle.pl_shelf.specs.Held.{Held, ShelfMoment}
 use Rattle.pl_inputs.specs.declared.status.Status.{Status}
 use Rattle.pl_inputs.specs.Inputs.{Inputs}
 use Rattle.pl_host_rule.specs.HostRule.{host_rule}
@@ -9,7 +9,6 @@ use Rattle.pl_switch_rule.specs.SwitchRule.{Exact}
 use Rattle.pl_script_rule.specs.declared.stop.Stop.{Stop}
 use Rattle.pl_script_rule.specs.Scenes.{Scene}
 use Rattle.pl_output.specs.Saved.{Saving}
-use Rattle.pl_playing.specs.Outcomes.{ShelfMoment}
 use Rattle.pl_playing.specs.Outcomes as playing
 use Rattle.pl_playing.specs.Prepared as prepared
 

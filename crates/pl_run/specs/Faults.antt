@@ -2,7 +2,7 @@
 use Rattle.std.specs.Prelude.{◌≡◌, ◌<◌, ℕ, List}
 use Rattle.pl_inputs.specs.declared.status.Status.{Status}
 use Rattle.pl_inputs.specs.declared.status.Status.TheVariants as status
-use Rattle.pl_playing.specs.Outcomes.{ShelfMoment}
+use Rattle.pl_shelf.specs.Held.{ShelfMoment}
 
 -- the answer names a read that failed
 abbrev pub IsReadFault : Status → Type 0

@@ -1,6 +1,6 @@
 -- What is answered where a run is generated.
 use Rattle.std.specs.Prelude.{ℕ, List, [], codes}
-use Rattle.pl_shelf.specs.Held.{Held}
+use Rattle.pl_shelf.specs.Held.{Held, ShelfMoment}
 use Rattle.pl_inputs.specs.declared.status.Status.{Status}
 use Rattle.pl_inputs.specs.Inputs.{AreRead, Inputs}
 use Rattle.pl_inputs.specs.Unread.{IsUnread}
@@ -8,7 +8,7 @@ use Rattle.pl_inputs.specs.Words.{Asked}
 use Rattle.pl_inputs.specs.declared.words.Generation.{Generation}
 use Rattle.pl_generator.specs.Generated.{AreGenerated}
 use Rattle.pl_inputs.specs.declared.status.Status.TheVariants as status
-use Rattle.pl_playing.specs.Outcomes.{IsUntouched, ShelfMoment}
+use Rattle.pl_playing.specs.Outcomes.{IsUntouched}
 use Rattle.pl_run.specs.Fabric.{Comes, printed_of}
 
 -- the names of the generated files; nothing is saved

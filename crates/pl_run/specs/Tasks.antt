@@ -1,7 +1,7 @@
 -- What is answered for each command.
 use Rattle.pl_inputs.specs.declared.status.Status.{Status}
 use Rattle.pl_inputs.specs.Words.{Task, Run, Check, Generate}
-use Rattle.pl_playing.specs.Outcomes.{ShelfMoment}
+use Rattle.pl_shelf.specs.Held.{ShelfMoment}
 use Rattle.pl_run.specs.Answers.{Answers}
 use Rattle.pl_run.specs.Checks.{AnswersCheck}
 use Rattle.pl_run.specs.Generated.{AnswersGenerated}

@@ -1,5 +1,4 @@
 ghost use Rattle.pl_output.specs.Room.{HaveRoom};
-ghost use Rattle.pl_playing.specs.Outcomes.{moment};
 ghost use Rattle.pl_playing.specs.Plays.{answer_of};
 ghost use Rattle.pl_playing.specs.Prepared.{NamesNoFault};
 ghost use Rattle.pl_run.specs.Checks.{AnswersCheck, EndsCheck, line_of};
@@ -14,10 +13,9 @@ use std::alloc::Global;
 /// Reads a topology, and prints the line of its wiring.
 pub(crate) fn check<S: Shelf>(alloc: Global, topology: &str, shelf: &mut S) -> Result<(), Status>
     ensures answers { AnswersCheck
-        (moment (S.held shelf.old) (S.read_faults shelf.old) (S.write_faults shelf.old))
-        (moment (S.held shelf.new) (S.read_faults shelf.new) (S.write_faults shelf.new))
+        (S.moment shelf.old) (S.moment shelf.new)
         topology.now (answer_of result) }
-    ensures prepared { IsPreparedCheck (S.capacity shelf.old) (S.held shelf.old) topology.now → NamesNoFault (answer_of result) }
+    ensures prepared { IsPreparedCheck (S.capacity shelf.old) (S.moment shelf.old).held topology.now → NamesNoFault (answer_of result) }
 {
     let wiring = load_wiring(alloc, shelf, topology)?;
     print_wiring(alloc, &wiring, shelf)
@@ -25,10 +23,9 @@ pub(crate) fn check<S: Shelf>(alloc: Global, topology: &str, shelf: &mut S) -> R
 
 fn print_wiring<S: Shelf>(alloc: Global, wiring: &Wiring, shelf: &mut S) -> Result<(), Status>
     ensures ends { EndsCheck
-        (moment (S.held shelf.old) (S.read_faults shelf.old) (S.write_faults shelf.old))
-        (moment (S.held shelf.new) (S.read_faults shelf.new) (S.write_faults shelf.new))
+        (S.moment shelf.old) (S.moment shelf.new)
         wiring.now (answer_of result) }
-    ensures prepared { HaveRoom (S.capacity shelf.old) (S.held shelf.old) (line_of wiring.now) → NamesNoFault (answer_of result) }
+    ensures prepared { HaveRoom (S.capacity shelf.old) (S.moment shelf.old).held (line_of wiring.now) → NamesNoFault (answer_of result) }
 {
     let line = wiring_line(alloc, wiring)?;
     let output = Name::copy(alloc, "-")?;

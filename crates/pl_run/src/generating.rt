@@ -1,7 +1,6 @@
 ghost use Rattle.std.specs.Prelude.{◌≡◌, IfErr, IfOk};
 ghost use Rattle.pl_inputs.specs.Loaded.{inputs_of};
 ghost use Rattle.pl_inputs.specs.Met.{MayBeMade, asked};
-ghost use Rattle.pl_playing.specs.Outcomes.{moment};
 ghost use Rattle.pl_playing.specs.Plays.{answer_of};
 ghost use Rattle.pl_playing.specs.Prepared.{NamesNoFault};
 ghost use Rattle.pl_run.specs.Generated.{AnswersGenerated, IsUngenerated, ReadsGenerated, generated_files, without_read_fault};
@@ -36,10 +35,9 @@ pub(crate) fn generate_and_run<S: Shelf>(
 ) -> Result<(), Status>
     requires { MayBeMade generation }
     ensures answers { AnswersGenerated
-        (moment (S.held shelf.old) (S.read_faults shelf.old) (S.write_faults shelf.old))
-        (moment (S.held shelf.new) (S.read_faults shelf.new) (S.write_faults shelf.new))
+        (S.moment shelf.old) (S.moment shelf.new)
         generation.k generation.number generation.frames (answer_of result) }
-    ensures prepared { IsPreparedGenerated (S.capacity shelf.old) (S.held shelf.old) generation → NamesNoFault (answer_of result) }
+    ensures prepared { IsPreparedGenerated (S.capacity shelf.old) (S.moment shelf.old).held generation → NamesNoFault (answer_of result) }
 {
     let inputs = generated_inputs(alloc, generation)?;
     play_and_print::<TableSwitch, Manager, Host, S>(alloc, inputs, shelf)

@@ -2,7 +2,7 @@ ghost use Rattle.std.specs.Prelude.{◌≡◌, ◌↔◌, ℕ, List, Some, None}
 ghost use Rattle.pl_inputs.specs.Met.{IsWithinLimits, task, texts};
 ghost use Rattle.pl_inputs.specs.Words.{Asked, Check, Generate, Run, Task as Asking, task_of};
 ghost use Rattle.pl_inputs.specs.declared.words.Generation.{Generation as Drawn};
-ghost use Rattle.pl_playing.specs.Outcomes.{IsUntouched, moment};
+ghost use Rattle.pl_playing.specs.Outcomes.{IsUntouched};
 ghost use Rattle.pl_playing.specs.Plays.{answer_of};
 ghost use Rattle.pl_playing.specs.Prepared.{NamesNoFault};
 ghost use Rattle.pl_run.specs.Answers.{Answers};
@@ -37,42 +37,35 @@ pub fn portland<S: Shelf>(alloc: Global, words: &[&str], shelf: &mut S) -> Statu
     // The words are no command, and nothing is done.
     ensures usage { (result ≡ Status.Usage) ↔ (task_of (texts words.now) ≡ None) }
     ensures nothing_done { result ≡ Status.Usage → IsUntouched
-        (moment (S.held shelf.old) (S.read_faults shelf.old) (S.write_faults shelf.old))
-        (moment (S.held shelf.new) (S.read_faults shelf.new) (S.write_faults shelf.new)) }
+        (S.moment shelf.old) (S.moment shelf.new) }
 
     // They are one, and the answer tells what came of it.
     ensures answers { (asked : Asked) → task_of (texts words.now) ≡ Some (Run asked) → Answers
-        (moment (S.held shelf.old) (S.read_faults shelf.old) (S.write_faults shelf.old))
-        (moment (S.held shelf.new) (S.read_faults shelf.new) (S.write_faults shelf.new))
+        (S.moment shelf.old) (S.moment shelf.new)
         asked result }
     ensures check { (topology : List ℕ) → task_of (texts words.now) ≡ Some (Check topology) → AnswersCheck
-        (moment (S.held shelf.old) (S.read_faults shelf.old) (S.write_faults shelf.old))
-        (moment (S.held shelf.new) (S.read_faults shelf.new) (S.write_faults shelf.new))
+        (S.moment shelf.old) (S.moment shelf.new)
         topology result }
     ensures generated { (g : Drawn) → task_of (texts words.now) ≡ Some (Generate g) → AnswersGenerated
-        (moment (S.held shelf.old) (S.read_faults shelf.old) (S.write_faults shelf.old))
-        (moment (S.held shelf.new) (S.read_faults shelf.new) (S.write_faults shelf.new))
+        (S.moment shelf.old) (S.moment shelf.new)
         g.k g.number g.frames result }
 
     // Over a shelf that tells what is read, with no failed call, it is the one that the bytes ask for.
     ensures complete { (asked : Asked) → task_of (texts words.now) ≡ Some (Run asked) → IsComplete
-        (moment (S.held shelf.old) (S.read_faults shelf.old) (S.write_faults shelf.old))
-        (moment (S.held shelf.new) (S.read_faults shelf.new) (S.write_faults shelf.new))
+        (S.moment shelf.old) (S.moment shelf.new)
         asked result }
     ensures complete_check { (topology : List ℕ) → task_of (texts words.now) ≡ Some (Check topology) → IsCompleteCheck
-        (moment (S.held shelf.old) (S.read_faults shelf.old) (S.write_faults shelf.old))
-        (moment (S.held shelf.new) (S.read_faults shelf.new) (S.write_faults shelf.new))
+        (S.moment shelf.old) (S.moment shelf.new)
         topology result }
 
     // Where a count of failed calls is larger than before, it is `ReadFault`, or `WriteFault`, whatever memory is found.
     ensures faults { TellsFaults
-        (moment (S.held shelf.old) (S.read_faults shelf.old) (S.write_faults shelf.old))
-        (moment (S.held shelf.new) (S.read_faults shelf.new) (S.write_faults shelf.new))
+        (S.moment shelf.old) (S.moment shelf.new)
         result }
 
     // It is neither, where the shelf promises that all that is read can be, and has room for all that is saved.
     ensures prepared { (t : Asking) → task_of (texts words.now) ≡ Some t →
-        IsPrepared (S.capacity shelf.old) (S.held shelf.old) t → NamesNoFault result }
+        IsPrepared (S.capacity shelf.old) (S.moment shelf.old).held t → NamesNoFault result }
 {
     let Some(task) = task_of(words) else {
         return Status::Usage;
@@ -93,10 +86,9 @@ fn status_of(ended: Result<(), Status>) -> Status
 fn perform<S: Shelf>(alloc: Global, asked: &Task<'_>, shelf: &mut S) -> Result<(), Status>
     requires { IsWithinLimits asked.now }
     ensures answers { AnswersTask
-        (moment (S.held shelf.old) (S.read_faults shelf.old) (S.write_faults shelf.old))
-        (moment (S.held shelf.new) (S.read_faults shelf.new) (S.write_faults shelf.new))
+        (S.moment shelf.old) (S.moment shelf.new)
         (task asked.now) (answer_of result) }
-    ensures prepared { IsPrepared (S.capacity shelf.old) (S.held shelf.old) (task asked.now) → NamesNoFault (answer_of result) }
+    ensures prepared { IsPrepared (S.capacity shelf.old) (S.moment shelf.old).held (task asked.now) → NamesNoFault (answer_of result) }
 {
     match asked {
         Task::Run(files) => run(alloc, files, shelf),

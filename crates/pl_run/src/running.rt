@@ -1,5 +1,4 @@
 ghost use Rattle.pl_inputs.specs.Met.{asked};
-ghost use Rattle.pl_playing.specs.Outcomes.{moment};
 ghost use Rattle.pl_playing.specs.Plays.{answer_of};
 ghost use Rattle.pl_playing.specs.Prepared.{NamesNoFault};
 ghost use Rattle.pl_run.specs.Answers.{Answers};
@@ -16,10 +15,9 @@ use std::alloc::Global;
 /// Reads what the words name, plays the script to its end, and saves what came of it.
 pub(crate) fn run<S: Shelf>(alloc: Global, files: &Files<'_>, shelf: &mut S) -> Result<(), Status>
     ensures answers { Answers
-        (moment (S.held shelf.old) (S.read_faults shelf.old) (S.write_faults shelf.old))
-        (moment (S.held shelf.new) (S.read_faults shelf.new) (S.write_faults shelf.new))
+        (S.moment shelf.old) (S.moment shelf.new)
         (asked files.now) (answer_of result) }
-    ensures prepared { IsPreparedRun (S.capacity shelf.old) (S.held shelf.old) (asked files.now) → NamesNoFault (answer_of result) }
+    ensures prepared { IsPreparedRun (S.capacity shelf.old) (S.moment shelf.old).held (asked files.now) → NamesNoFault (answer_of result) }
 {
     let inputs = load_inputs(alloc, shelf, files)?;
     play_and_save::<TableSwitch, Manager, Host, S>(alloc, files.out, inputs, shelf)

@@ -149,8 +149,8 @@ module _ (n : ℕ) where
     turned w h input answer pre new all has turn = by_test (h == n) w h input answer pre new refl all has turn
 
     -- nothing was written, and it answers nothing
-    plain_before : (w : WorldView) (h : ℕ) → Has (behaviour_in n old.journal) w → Has (before_turn (h == n) []) w
-    plain_before w h has = record {
+    before_with_nothing : (w : WorldView) (h : ℕ) → Has (behaviour_in n old.journal) w → Has (before_turn (h == n) []) w
+    before_with_nothing w h has = record {
       same = has.same;
       there = has.there;
       shown = has.shown ∙ sym (append-nil (behaviour_in n old.journal)) ∙ ap (λ (ds : List Behaviour). behaviour_in n old.journal ++ ds) (sym (either (h == n) []));
@@ -168,8 +168,8 @@ module _ (n : ℕ) where
 
     plays_by : (w : WorldView) (h : ℕ) (frame : List ℕ) (original : ℕ) (raw : Bool) (skip : Option Skip) (new : WorldView) → Has (behaviour_in n old.journal) w →
         HostTurn rule (skip_noted w h skip) h (played_as raw frame original) (Played skip) new → So (if h == n then played_as raw frame original ∷ [] else []) new
-    plays_by w h frame original true None new has turn = turned w h (PlaysRaw frame original) (Played None) [] new (λ acts. refl) (plain_before w h has) turn
-    plays_by w h frame original false None new has turn = turned w h (Plays frame original) (Played None) [] new (λ acts. refl) (plain_before w h has) turn
+    plays_by w h frame original true None new has turn = turned w h (PlaysRaw frame original) (Played None) [] new (λ acts. refl) (before_with_nothing w h has) turn
+    plays_by w h frame original false None new has turn = turned w h (Plays frame original) (Played None) [] new (λ acts. refl) (before_with_nothing w h has) turn
     plays_by w h frame original true (Some skip) new has turn =
         turned (noted w (Skipped (host_no h) skip)) h (PlaysRaw frame original) (Played (Some skip)) (PassesOver skip ∷ []) new (λ acts. refl)
         (one_before w h (Skipped (host_no h) skip) (PassesOver skip) refl has) turn
@@ -184,7 +184,7 @@ module _ (n : ℕ) where
         (one_before w h (Arrived id (host_no h) frame) (Gets frame) refl has) turn
     receives_by w h id frame NotMember new has turn =
         turned (noted w (Dropped id cause.NoMember)) h (Receives frame) (Received NotMember) [] new (λ acts. refl)
-        (plain_before (noted w (Dropped id cause.NoMember)) h
+        (before_with_nothing (noted w (Dropped id cause.NoMember)) h
         (notes n old.plan (slice_get old.hosts n) w (Dropped id cause.NoMember) (behaviour_in n old.journal) refl has)) turn
 
     receives : (w : WorldView) (h id : ℕ) (frame : List ℕ) (new : WorldView) → Has (behaviour_in n old.journal) w → HostReceives rule w h id frame new → So [] new
@@ -194,7 +194,7 @@ module _ (n : ℕ) where
     told : (w : WorldView) (h : ℕ) (input : HostInput) (new : WorldView) → ((acts : List HostAct) → seen input Nothing acts ≡ map given acts) →
         filter is_asked (input ∷ []) ≡ input ∷ [] → Has (behaviour_in n old.journal) w → HostTurn rule w h input Nothing new → So (if h == n then input ∷ [] else []) new
     told w h input new all asked has turn =
-        subst (λ (asks : List HostInput). So (if h == n then asks else []) new) asked (turned w h input Nothing [] new all (plain_before w h has) turn)
+        subst (λ (asks : List HostInput). So (if h == n then asks else []) new) asked (turned w h input Nothing [] new all (before_with_nothing w h has) turn)
 
     -- ---- what comes out of a port
     at_host : (w : WorldView) (id : ℕ) (frame : List ℕ) (to : Option ℕ) (new : WorldView) → Has (behaviour_in n old.journal) w → ComesAtHost rule w id frame to new → So [] new

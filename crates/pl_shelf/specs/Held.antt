@@ -8,6 +8,12 @@ pub data Held : Type 0 where
   absent : Held
   holds : List ℕ → Held
 
+-- what a shelf tells at a moment: what each name holds, and how many of its calls failed so far
+pub record ShelfMoment : Type 0 where
+  pub held : List ℕ → Held
+  pub read_faults : ℕ
+  pub write_faults : ℕ
+
 -- the name of standard output
 abbrev pub standard_output : List ℕ
 standard_output = codes "-"

@@ -9,7 +9,7 @@ use Rattle.std.specs.BTreeMap.{BTreeMap}
 use Rattle.std.specs.FinMap.{FinMap, from_entries, get, insert, empty}
 use Rattle.std.specs.FinMap as map
 use Rattle.std.specs.Coded.{Coded, code_by, coded×, coded_ℕ, coded_list, coded_option}
-use Rattle.pl_shelf.specs.Held.{Held, absent, holds, standard_output}
+use Rattle.pl_shelf.specs.Held.{Held, ShelfMoment, absent, holds, standard_output}
 
 -- A name that was held or allowed: the bytes that it holds, None while it is absent, and how many it may hold.
 pub record Place : Type 0 where
@@ -65,6 +65,10 @@ held_of (Some bs) = holds bs
 -- what a name holds, as a shelf tells it
 abbrev pub held_in : Places → List ℕ → Held
 held_in places name = held_of (content_in places name)
+
+-- what a shelf tells at a moment
+abbrev pub memory_moment : MemoryState → ShelfMoment
+memory_moment m = record { held = held_in m.places; read_faults = m.read_faults; write_faults = m.write_faults }
 
 -- how many bytes more a place takes: none while it is absent
 abbrev pub room_behind : ℕ → Option (List ℕ) → ℕ

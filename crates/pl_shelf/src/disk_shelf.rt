@@ -23,8 +23,8 @@ pub struct DiskShelf<R: Files + Print + Drop> {
 
 impl<R: Files + Print + Drop> DiskShelf<R> {
     pub fn new(alloc: Global, rt: R) -> Self
-        ensures read_faults { ⟦<DiskShelf<R> as Shelf>⟧.read_faults result ≡ 0 }
-        ensures write_faults { ⟦<DiskShelf<R> as Shelf>⟧.write_faults result ≡ 0 }
+        ensures read_faults { (⟦<DiskShelf<R> as Shelf>⟧.moment result).read_faults ≡ 0 }
+        ensures write_faults { (⟦<DiskShelf<R> as Shelf>⟧.moment result).write_faults ≡ 0 }
     {
         DiskShelf {
             handles: Handles::new(alloc, rt),
@@ -35,11 +35,7 @@ impl<R: Files + Print + Drop> DiskShelf<R> {
 }
 
 impl<R: Files + Print + Drop> Shelf for DiskShelf<R> {
-    ghost held = { λ _ _. unknown };
-
-    ghost read_faults = { λ s. s.read_faults };
-
-    ghost write_faults = { λ s. s.write_faults };
+    ghost moment = { λ s. record { held = λ _. unknown; read_faults = s.read_faults; write_faults = s.write_faults } };
 
     ghost capacity = { λ _ _. None };
 

@@ -4,7 +4,7 @@ ghost use Rattle.std.specs.FinMap.{get};
 ghost use Rattle.pl_shelf.specs.Held.{Same, Changes, IsRead, created, with_end, standard_output};
 ghost use Rattle.pl_shelf.specs.Capacity.{IsFull, IsReadable};
 ghost use Rattle.pl_shelf.specs.Faults.{Counts};
-ghost use Rattle.pl_shelf.specs.MemoryShelf.{IsToFail, allowed, capacity_of, content_in, counted, created_memory, empty_memory, held_in, longer_memory, one_more, placed, read_failed, room_in, write_failed};
+ghost use Rattle.pl_shelf.specs.MemoryShelf.{IsToFail, allowed, capacity_of, content_in, counted, created_memory, empty_memory, held_in, longer_memory, memory_moment, one_more, placed, read_failed, room_in, write_failed};
 
 use crate::kept::Kept;
 use crate::places::{add_at, content_of, empty_at, put};
@@ -131,11 +131,7 @@ fn copy_from(content: &[u8], at: u64, buf: &mut [u8]) -> usize
 }
 
 impl Shelf for MemoryShelf {
-    ghost held = { λ m. held_in m.places };
-
-    ghost read_faults = { λ m. m.read_faults };
-
-    ghost write_faults = { λ m. m.write_faults };
+    ghost moment = { memory_moment };
 
     ghost capacity = { λ m. capacity_of m };
 

@@ -54,15 +54,15 @@ pub fn load<S: Shelf>(
     name: &str,
     limit: u64,
 ) -> Result<Bytes, LoadError>
-    ensures whole { IfOk result (λ found. HoldsExactly (S.held shelf.old name.now) found) }
+    ensures whole { IfOk result (λ found. HoldsExactly ((S.moment shelf.old).held name.now) found) }
     ensures limit { IfOk result (λ found. length found ≤ limit) }
-    ensures too_long { result ≡ Err LoadError.TooLong → IsLonger (S.held shelf.old name.now) limit }
-    ensures same { Same (S.held shelf.old) (S.held shelf.new) }
-    ensures faults { ReadCount result (S.read_faults shelf.old) (S.read_faults shelf.new) }
-    ensures write_faults { S.write_faults shelf.new ≡ S.write_faults shelf.old }
+    ensures too_long { result ≡ Err LoadError.TooLong → IsLonger ((S.moment shelf.old).held name.now) limit }
+    ensures same { Same (S.moment shelf.old).held (S.moment shelf.new).held }
+    ensures faults { ReadCount result (S.moment shelf.old).read_faults (S.moment shelf.new).read_faults }
+    ensures write_faults { (S.moment shelf.new).write_faults ≡ (S.moment shelf.old).write_faults }
     ensures capacity { S.capacity shelf.new ≡ S.capacity shelf.old }
     ensures unreadable { result ≡ Err LoadError.Fault →
-        IsReadable (S.capacity shelf.new name.now) (S.held shelf.new name.now) → ⊥ }
+        IsReadable (S.capacity shelf.new name.now) ((S.moment shelf.new).held name.now) → ⊥ }
 {
     let mut bytes = Vec::new(alloc);
     let mut filled = 0;

@@ -7,7 +7,7 @@ ghost use Rattle.pl_switch_state.specs.StateViews.{is_placed_edge};
 
 use pl_edge::EdgeTable;
 use pl_frame::SwitchId;
-use pl_node::{AvoidList, Memory, Rising, TreePart};
+use pl_node::{AvoidList, Memory, TreePart};
 use pl_ports::Ports;
 use pl_position::{Holder, Proposer};
 use std::alloc::Global;
@@ -50,7 +50,7 @@ impl SwitchState {
             proposer: Proposer::new(k),
             holder: Holder::new(k),
             edge,
-            avoid: Rising::new(alloc),
+            avoid: AvoidList::new(alloc),
             parts: BTreeMap::new(alloc),
         })
     }

@@ -1,60 +1,19 @@
 -- Rows that follow a new avoid list, entry by entry and port by port.
-use Rattle.std.proofs.Common.{◌≡◌, ℕ, ◌+◌, ◌/◌, ◌%◌, ◌<◌, ◌≢◌, ◌==◌, nat_lt, ◌&&◌, ◌||◌, not, Bool, true, false, if◌then◌else◌, List, [], length, get_or, take, Option, Some, None, Result, Ok, Err, OnOk, refl, sym, ap, ◌∙◌, inl, inr, arith}
+use Rattle.std.proofs.Common.{◌≡◌, ℕ, ◌+◌, ◌/◌, ◌%◌, ◌<◌, ◌≢◌, ◌==◌, nat_lt, ◌&&◌, ◌||◌, not, Bool, true, false, if◌then◌else◌, List, [], ◌∷◌, length, get_or, take, Option, Some, None, Result, Ok, Err, OnOk, refl, sym, ap, subst, ◌∙◌, inl, inr, arith}
 use Rattle.std.specs.List.{list_any}
-use Rattle.std.proofs.lemmas.Bool.{and_parts, cases_lt, cases_order, eq-eqb, eqb-true, ne_eqb, lt-ltb, le-ltb}
+use Rattle.std.specs.Ordering.{is_eq}
+use Rattle.std.proofs.lemmas.Bool.{and_from, and_parts, cases_lt, cases_order, eq-eqb, eqb-true, ne_eqb, lt-ltb, le-ltb}
 use Rattle.std.proofs.lemmas.List.{get_or_past}
 use Rattle.std.proofs.lemmas.List.Folds.{list_any_more}
 use Rattle.pl_lemmas.proofs.Exports.{and_false, and_true}
 use Rattle.pl_frame.specs.declared.address.SwitchId.{SwitchId}
+use Rattle.pl_node.specs.AvoidLists.{avoided_cmp}
+use Rattle.pl_node.specs.AvoidRows.{is_listed}
+use Rattle.pl_node.proofs.Exports.{is_itself, is_same, same_test}
 use Rattle.pl_tables.specs.declared.lead.Lead.{Lead}
 use Rattle.pl_tables.specs.declared.port_rows.PortRow.{PortRow}
 use Rattle.pl_tables.specs.Leads.{avoids_by, has, is_entry_for, is_entry_of, lead_at, no_lead, AreAvoided, SetsEach, SetsWhere}
 use Rattle.pl_tables.specs.Rows.{ports_at}
-
-abbrev has_entry : List (SwitchId × ℕ × ℕ) → SwitchId × ℕ × ℕ → Bool
-has_entry list entry = list_any (λ a. (a.0.0 == entry.0.0) && ((a.1 == entry.1) && (a.2 == entry.2))) list
-
--- an entry for a neighbour and a key is in a list where the list avoids the neighbour for the key
-same_entry : (list : List (SwitchId × ℕ × ℕ)) (entry : SwitchId × ℕ × ℕ) (u : SwitchId) (key : ℕ) → is_entry_of u key entry ≡ true → has_entry list entry ≡ avoids_by list (Some u) key
-same_entry list entry u key is =
-    let parts = and_parts (entry.0.0 == u.0) ((entry.1 == key / 256) && (entry.2 == key % 256)) is in
-    let rest = and_parts (entry.1 == key / 256) (entry.2 == key % 256) parts.1 in
-    ap (λ n. list_any (λ a. (a.0.0 == n) && ((a.1 == entry.1) && (a.2 == entry.2))) list) (eqb-true entry.0.0 u.0 parts.0)
-    ∙ ap (λ n. list_any (λ a. (a.0.0 == u.0) && ((a.1 == n) && (a.2 == entry.2))) list) (eqb-true entry.1 (key / 256) rest.0)
-    ∙ ap (λ n. list_any (λ a. (a.0.0 == u.0) && ((a.1 == key / 256) && (a.2 == n))) list) (eqb-true entry.2 (key % 256) rest.1)
-
-not_in : (list : List (SwitchId × ℕ × ℕ)) (entry : SwitchId × ℕ × ℕ) (u : Option SwitchId) (key : ℕ) (b : Bool) → has_entry list entry ≡ b →
-    (is_entry_for u key entry && not (avoids_by list u key)) ≡ (is_entry_for u key entry && not b)
-not_in list entry None key b is = refl
-not_in list entry (Some u) key b is = by (is_entry_of u key entry) refl
-  where
-    by : (c : Bool) → is_entry_of u key entry ≡ c → (c && not (avoids_by list (Some u) key)) ≡ (c && not b)
-    by true h = ap not (sym (same_entry list entry u key h) ∙ is)
-    by false h = refl
-
--- an entry that the other list has changes nothing
-pub entry_kept : (rows : List PortRow) (leads : List Lead) (other : List (SwitchId × ℕ × ℕ)) (entry : SwitchId × ℕ × ℕ) (is_in : Bool) → has_entry other entry ≡ true →
-    SetsEach rows rows is_in (λ key q. is_entry_for (lead_at leads q).up key entry && not (avoids_by other (lead_at leads q).up key))
-entry_kept rows leads other entry is_in is key q =
-    sym (ap (λ b. if b then is_in else has (ports_at rows key) q) (not_in other entry (lead_at leads q).up key true is ∙ and_false (is_entry_for (lead_at leads q).up key entry)))
-
--- one that it has not is set
-pub entry_changed : {E : Type 0} (old new : List PortRow) (leads : List Lead) (other : List (SwitchId × ℕ × ℕ)) (entry : SwitchId × ℕ × ℕ) (is_in : Bool) (result : Result (Unit {0}) E) → has_entry other entry ≡ false →
-    OnOk result (SetsEach old new is_in (λ key q. is_entry_for (lead_at leads q).up key entry)) →
-    OnOk result (SetsEach old new is_in (λ key q. is_entry_for (lead_at leads q).up key entry && not (avoids_by other (lead_at leads q).up key)))
-entry_changed old new leads other entry is_in (Err e) is sets = sets
-entry_changed old new leads other entry is_in (Ok d) is sets = λ key q.
-    sets key q ∙ ap (λ b. if b then is_in else has (ports_at old key) q)
-    (sym (not_in other entry (lead_at leads q).up key false is ∙ and_true (is_entry_for (lead_at leads q).up key entry)))
-
-twice : (a b other is_in was : Bool) → (if b && not other then is_in else (if a && not other then is_in else was)) ≡ (if (a || b) && not other then is_in else was)
-twice true true true is_in was = refl
-twice true true false is_in was = refl
-twice true false true is_in was = refl
-twice true false false is_in was = refl
-twice false true true is_in was = refl
-twice false true false is_in was = refl
-twice false false other is_in was = refl
 
 more : (list : List (SwitchId × ℕ × ℕ)) (i : ℕ) (entry : SwitchId × ℕ × ℕ) (u : Option SwitchId) (key : ℕ) → i < length list → entry ≡ get_or list i entry →
     avoids_by (take (i + 1) list) u key ≡ (avoids_by (take i list) u key || is_entry_for u key entry)
@@ -62,27 +21,72 @@ more list i entry None key within is = refl
 more list i entry (Some u) key within is =
     list_any_more (is_entry_of u key) list i entry within ∙ ap (λ e. list_any (is_entry_of u key) (take i list) || is_entry_of u key e) (sym is)
 
+twice : (a b is_in was : Bool) → (if b then is_in else (if a then is_in else was)) ≡ (if a || b then is_in else was)
+twice true true is_in was = refl
+twice true false is_in was = refl
+twice false true is_in was = refl
+twice false false is_in was = refl
+
 -- one entry more of a list
-pub beyond_more : (start old new : List PortRow) (leads : List Lead) (list other : List (SwitchId × ℕ × ℕ)) (i : ℕ) (entry : SwitchId × ℕ × ℕ) (is_in : Bool) → i < length list → entry ≡ get_or list i entry →
-    SetsEach start old is_in (λ key q. avoids_by (take i list) (lead_at leads q).up key && not (avoids_by other (lead_at leads q).up key)) →
-    SetsEach old new is_in (λ key q. is_entry_for (lead_at leads q).up key entry && not (avoids_by other (lead_at leads q).up key)) →
-    SetsEach start new is_in (λ key q. avoids_by (take (i + 1) list) (lead_at leads q).up key && not (avoids_by other (lead_at leads q).up key))
-beyond_more start old new leads list other i entry is_in within is before sets key q =
+pub entries_more : (start old new : List PortRow) (leads : List Lead) (list : List (SwitchId × ℕ × ℕ)) (i : ℕ) (entry : SwitchId × ℕ × ℕ) (is_in : Bool) →
+    i < length list → entry ≡ get_or list i entry →
+    SetsEach start old is_in (λ key q. avoids_by (take i list) (lead_at leads q).up key) →
+    SetsEach old new is_in (λ key q. is_entry_for (lead_at leads q).up key entry) →
+    SetsEach start new is_in (λ key q. avoids_by (take (i + 1) list) (lead_at leads q).up key)
+entries_more start old new leads list i entry is_in within is before sets key q =
     let u = (lead_at leads q).up in
     sets key q
-    ∙ ap (λ b. if is_entry_for u key entry && not (avoids_by other u key) then is_in else b) (before key q)
-    ∙ twice (avoids_by (take i list) u key) (is_entry_for u key entry) (avoids_by other u key) is_in (has (ports_at start key) q)
-    ∙ sym (ap (λ b. if b && not (avoids_by other u key) then is_in else has (ports_at start key) q) (more list i entry u key within is))
+    ∙ ap (λ b. if is_entry_for u key entry then is_in else b) (before key q)
+    ∙ twice (avoids_by (take i list) u key) (is_entry_for u key entry) is_in (has (ports_at start key) q)
+    ∙ sym (ap (λ b. if b then is_in else has (ports_at start key) q) (more list i entry u key within is))
 
 none_before : (u : Option SwitchId) (key : ℕ) → avoids_by [] u key ≡ false
 none_before None key = refl
 none_before (Some u) key = refl
 
 -- of no entry
-pub beyond_none : (rows : List PortRow) (leads : List Lead) (list other : List (SwitchId × ℕ × ℕ)) (is_in : Bool) →
-    SetsEach rows rows is_in (λ key q. avoids_by (take 0 list) (lead_at leads q).up key && not (avoids_by other (lead_at leads q).up key))
-beyond_none rows leads list other is_in key q =
-    sym (ap (λ b. if b && not (avoids_by other (lead_at leads q).up key) then is_in else has (ports_at rows key) q) (none_before (lead_at leads q).up key))
+pub entries_none : (rows : List PortRow) (leads : List Lead) (list : List (SwitchId × ℕ × ℕ)) (is_in : Bool) →
+    SetsEach rows rows is_in (λ key q. avoids_by (take 0 list) (lead_at leads q).up key)
+entries_none rows leads list is_in key q = sym (ap (λ b. if b then is_in else has (ports_at rows key) q) (none_before (lead_at leads q).up key))
+
+-- a list avoids a neighbour for a key where the entry of both is listed
+listed_by : (u : SwitchId) (key : ℕ) (list : List (SwitchId × ℕ × ℕ)) → avoids_by list (Some u) key ≡ is_listed (u, key / 256, key % 256) list
+listed_by u key [] = refl
+listed_by u key (a ∷ list) =
+    ap (λ b. b || list_any (is_entry_of u key) list) (one a) ∙ ap (λ b. is_eq (avoided_cmp (u, key / 256, key % 256) a) || b) (listed_by u key list)
+  where
+    x : SwitchId × ℕ × ℕ
+    x = (u, key / 256, key % 256)
+
+    one : (e : SwitchId × ℕ × ℕ) → is_entry_of u key e ≡ is_eq (avoided_cmp x e)
+    one e = same_test (is_entry_of u key e) (is_eq (avoided_cmp x e))
+        (λ h.
+        let parts = and_parts (e.0.0 == u.0) ((e.1 == key / 256) && (e.2 == key % 256)) h in
+        let rest = and_parts (e.1 == key / 256) (e.2 == key % 256) parts.1 in
+        let of : e.0 ≡ u = ap (λ n. let s : SwitchId = record { 0 = n } in s) (eqb-true e.0.0 u.0 parts.0) in
+        let pod = eqb-true e.1 (key / 256) rest.0 in
+        let position = eqb-true e.2 (key % 256) rest.1 in
+        let is : e ≡ x = (λ i. (of i, pod i, position i)) in
+        subst (λ z. is_eq (avoided_cmp x z) ≡ true) (sym is) (is_itself x))
+        (λ h. subst (λ z. is_entry_of u key z ≡ true) (is_same x e h)
+        (and_from (u.0 == u.0) ((key / 256 == key / 256) && (key % 256 == key % 256)) (eq-eqb u.0 u.0 refl)
+        (and_from (key / 256 == key / 256) (key % 256 == key % 256) (eq-eqb (key / 256) (key / 256) refl) (eq-eqb (key % 256) (key % 256) refl))))
+
+beyond_by : (beyond list other : List (SwitchId × ℕ × ℕ)) → ((x : SwitchId × ℕ × ℕ) → is_listed x beyond ≡ (is_listed x list && not (is_listed x other))) →
+    (u : Option SwitchId) (key : ℕ) → avoids_by beyond u key ≡ (avoids_by list u key && not (avoids_by other u key))
+beyond_by beyond list other is None key = refl
+beyond_by beyond list other is (Some u) key =
+    listed_by u key beyond ∙ is (u, key / 256, key % 256)
+    ∙ sym (λ i. listed_by u key list i && not (listed_by u key other i))
+
+-- what one list has and another has not
+pub beyond_set : {E : Type 0} (old new : List PortRow) (leads : List Lead) (beyond list other : List (SwitchId × ℕ × ℕ)) (is_in : Bool) (result : Result (Unit {0}) E) →
+    ((x : SwitchId × ℕ × ℕ) → is_listed x beyond ≡ (is_listed x list && not (is_listed x other))) →
+    OnOk result (SetsEach old new is_in (λ key q. avoids_by beyond (lead_at leads q).up key)) →
+    OnOk result (SetsEach old new is_in (λ key q. avoids_by list (lead_at leads q).up key && not (avoids_by other (lead_at leads q).up key)))
+beyond_set old new leads beyond list other is_in (Err e) is sets = sets
+beyond_set old new leads beyond list other is_in (Ok d) is sets = λ key q.
+    sets key q ∙ ap (λ b. if b then is_in else has (ports_at old key) q) (beyond_by beyond list other is (lead_at leads q).up key)
 
 -- the ports before one are set
 abbrev pub AreSetBefore : List PortRow → List PortRow → List Lead → SwitchId × ℕ × ℕ → Bool → ℕ → Type 0

@@ -5,7 +5,7 @@ ghost use Rattle.pl_tables.specs.Leads.{avoids_by, has, is_entry_of, SetsWhere};
 
 use crate::PortRows;
 use pl_frame::SwitchId;
-use pl_lists::{Memory, PortSet};
+use pl_lists::{Memory, PortSet, Rising};
 use pl_node::AvoidList;
 
 /// Sets or clears a port under the keys of all entries of an avoid list for a neighbour, if there is one.
@@ -35,7 +35,21 @@ fn set_entries(
     requires { port < 32 }
     ensures { OnOk result (SetsWhere rows.old rows.new port is_in (avoids_by list.now (Some neighbour))) }
 {
-    for entry in list.as_slice() {
+    let entries = list.entries()?;
+    set_each(rows, &entries, neighbour, port, is_in)
+}
+
+fn set_each(
+    rows: &mut PortRows,
+    entries: &Rising<(SwitchId, u16, u8)>,
+    neighbour: SwitchId,
+    port: u8,
+    is_in: bool,
+) -> Result<(), Memory>
+    requires { port < 32 }
+    ensures { OnOk result (SetsWhere rows.old rows.new port is_in (avoids_by entries.now (Some neighbour))) }
+{
+    for entry in entries.as_slice() {
         set_entry(rows, *entry, neighbour, port, is_in)?;
     }
     Ok(())

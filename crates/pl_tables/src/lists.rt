@@ -1,12 +1,11 @@
-ghost use Rattle.std.specs.Prelude.{◌≡◌, ℕ, ◌==◌, ◌&&◌, not, ◌<◌, true, OnOk, length};
-ghost use Rattle.std.specs.List.{list_any};
+ghost use Rattle.std.specs.Prelude.{◌≡◌, ◌&&◌, not, ◌<◌, OnOk, length};
 ghost use Rattle.pl_tables.specs.Leads.{avoids_by, is_entry_for, lead_at, AreAvoided, SetsEach, SetsWhere};
 
 use crate::PortRows;
 use crate::filling::set_entry;
 use crate::lead::Lead;
 use pl_frame::SwitchId;
-use pl_lists::Memory;
+use pl_lists::{Memory, Rising};
 use pl_node::AvoidList;
 
 /// The rows of the ports up follow a new avoid list: what it no longer has is cleared, what it has anew is
@@ -35,66 +34,24 @@ fn set_beyond(
     requires { length leads.now ≡ 24 }
     ensures { OnOk result (SetsEach rows.old rows.new is_in (λ key q. avoids_by list.now (lead_at leads.now q).up key && not (avoids_by other.now (lead_at leads.now q).up key))) }
 {
-    let mut at = 0;
-    for entry in list.as_slice() {
-        at = index_from(other.as_slice(), at, *entry);
-        set_unless(rows, leads, *entry, other, at, is_in)?;
-    }
-    Ok(())
+    let beyond = list.without(other)?;
+    set_all(rows, leads, &beyond, is_in)
 }
 
-// The first index from `from` on at which the entry may be in a list that rises. Where each search begins at the
-// index of the one before, all of them together go through the list once.
-fn index_from(entries: &[(SwitchId, u16, u8)], from: usize, entry: (SwitchId, u16, u8)) -> usize {
-    for at in from..entries.len() {
-        if entries[at] >= entry {
-            return at;
-        }
-    }
-    entries.len()
-}
-
-// The same for one entry of the first list, which the other one may have at an index.
-fn set_unless(
+// The same for all of these entries.
+fn set_all(
     rows: &mut PortRows,
     leads: &[Lead; 24],
-    entry: (SwitchId, u16, u8),
-    other: &AvoidList,
-    at: usize,
+    entries: &Rising<(SwitchId, u16, u8)>,
     is_in: bool,
 ) -> Result<(), Memory>
     requires { length leads.now ≡ 24 }
-    ensures { OnOk result (SetsEach rows.old rows.new is_in (λ key q. is_entry_for (lead_at leads.now q).up key entry && not (avoids_by other.now (lead_at leads.now q).up key))) }
+    ensures { OnOk result (SetsEach rows.old rows.new is_in (λ key q. avoids_by entries.now (lead_at leads.now q).up key)) }
 {
-    if has_entry(other, at, entry) {
-        return Ok(());
+    for entry in entries.as_slice() {
+        set_at_ports(rows, leads, *entry, is_in)?;
     }
-    set_at_ports(rows, leads, entry, is_in)
-}
-
-// Whether a list has an entry: at this index, or elsewhere.
-fn has_entry(list: &AvoidList, at: usize, entry: (SwitchId, u16, u8)) -> bool
-    ensures { result ≡ list_any (λ a. (a.0.0 == entry.0.0) && ((a.1 == entry.1) && (a.2 == entry.2))) list.now }
-{
-    if is_at(list.as_slice(), at, entry) {
-        return true;
-    }
-    list.contains(&entry)
-}
-
-fn is_at(entries: &[(SwitchId, u16, u8)], at: usize, entry: (SwitchId, u16, u8)) -> bool
-    ensures { result ≡ true → list_any (λ a. (a.0.0 == entry.0.0) && ((a.1 == entry.1) && (a.2 == entry.2))) entries.now ≡ true }
-{
-    match entries.get(at) {
-        Some(other) => is_same(*other, entry),
-        None => false,
-    }
-}
-
-fn is_same(a: (SwitchId, u16, u8), b: (SwitchId, u16, u8)) -> bool
-    ensures { result ≡ ((a.0.0 == b.0.0) && ((a.1 == b.1) && (a.2 == b.2))) }
-{
-    a.0.0 == b.0.0 && (a.1 == b.1 && a.2 == b.2)
+    Ok(())
 }
 
 // Sets or clears each port to the neighbour of an entry under its key.

@@ -42,7 +42,8 @@ pub(crate) fn say_switches(
 /// The items of an avoid list, each as its id, pod and position.
 pub(crate) fn say_list(alloc: Global, list: &AvoidList, out: &mut String) -> Result<(), Memory> {
     out.push_str("avoids")?;
-    for (SwitchId(id), pod, position) in list.as_slice() {
+    let entries = list.entries()?;
+    for (SwitchId(id), pod, position) in entries.as_slice() {
         let item = format!(in alloc; " {id}/{pod}/{position}")?;
         out.push_str(item.as_str())?;
     }

@@ -77,7 +77,7 @@ impl Tally {
             let made = matrix.avoid_for(switch)?;
             self.lists = self.lists.wrapping_add(1);
             let same = match matrix.list(switch) {
-                Some(kept) => kept.as_slice() == made.as_slice(),
+                Some(kept) => kept.is(&made),
                 None => made.is_empty(),
             };
             if !same {

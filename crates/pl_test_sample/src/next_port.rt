@@ -9,7 +9,6 @@ use pl_frame::{Frame, Memory, SwitchId};
 use pl_layouts::frames::is_control;
 use pl_layouts::{Control, Ldm, Place};
 use pl_ldp::write_control;
-use pl_lists::Rising;
 use pl_node::{Act, AvoidList, Outbox, PortRecord, SwitchFacts, SwitchLogic, ToSwitch, TreePart};
 use std::alloc::Global;
 
@@ -133,7 +132,7 @@ impl SwitchLogic for NextPort {
             alloc,
             id,
             k,
-            avoid: Rising::new(alloc),
+            avoid: AvoidList::new(alloc),
         })
     }
 

@@ -5,7 +5,6 @@ ghost use Rattle.pl_test_sample.specs.Silence.{SaysNothing};
 
 use pl_frame::{Ip4, Mac, Memory, SwitchId};
 use pl_layouts::Place;
-use pl_lists::Rising;
 use pl_node::{AvoidList, ManagerLogic, ManagerOutbox, ToManager, TreePart};
 use pl_pmac::Pmac;
 use std::alloc::Global;
@@ -31,7 +30,7 @@ impl ManagerLogic for Silent {
     fn boot(alloc: Global, k: u8) -> Result<Silent, Memory> {
         Ok(Silent {
             k,
-            avoid: Rising::new(alloc),
+            avoid: AvoidList::new(alloc),
         })
     }
 

@@ -63,7 +63,7 @@ fn play_scenario(
         "ports" => play_ports(alloc, words, lines, out),
         "tables" => play_tables(alloc, words, lines, out),
         "votes" => play_votes(alloc, words, lines, out),
-        "book" => play_address_table(alloc, words, lines, out),
+        "addresses" => play_address_table(alloc, words, lines, out),
         "edge" => play_edge(alloc, words, lines, out),
         "members" => play_members(alloc, lines, out),
         "flows" => play_flows(alloc, lines, out),

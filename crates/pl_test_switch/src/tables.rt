@@ -4,7 +4,7 @@
 use crate::members::say_ports;
 use crate::numbers::switch;
 use pl_frame::SwitchId;
-use pl_lists::{Queue, Rising};
+use pl_lists::Queue;
 use pl_node::{AvoidList, Memory, Outbox, SwitchFacts, SwitchLogic, ToSwitch};
 use pl_tables::{PortRow, PortRows, TableSwitch};
 use pl_test_words::{byte, first_word, frame, id, is_remark, number, say};
@@ -91,7 +91,7 @@ fn avoid(
 }
 
 fn avoid_list(alloc: Global, text: &str) -> Result<Option<AvoidList>, Memory> {
-    let mut list: AvoidList = Rising::new(alloc);
+    let mut list = AvoidList::new(alloc);
     if text == "nothing" {
         return Ok(Some(list));
     }

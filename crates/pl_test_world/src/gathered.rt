@@ -177,7 +177,7 @@ fn begin_world(
         "next-port" => play_world::<NextPort, Silent>(alloc, wiring, limits, rest, out),
         "two-ports" => play_world::<TwoPorts, Silent>(alloc, wiring, limits, rest, out),
         "pod-asker" => play_world::<PodAsker, PodGiver>(alloc, wiring, limits, rest, out),
-        "plain" => play_world::<ReferenceSwitch, Manager>(alloc, wiring, limits, rest, out),
+        "reference" => play_world::<ReferenceSwitch, Manager>(alloc, wiring, limits, rest, out),
         "tables" => play_world::<TableSwitch, Manager>(alloc, wiring, limits, rest, out),
         _ => refuse(out),
     }

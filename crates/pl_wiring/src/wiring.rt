@@ -138,6 +138,14 @@ impl Wiring {
         }
     }
 
+    /// The links in link order.
+    pub fn links(&self) -> &[Link]
+        ensures links { result.now ≡ self.now.links }
+        ensures plan { IsPlan self.now }
+    {
+        self.links.as_slice()
+    }
+
     /// The hosts in the order of the file.
     pub fn hosts(&self) -> &[Host]
         ensures hosts { result.now ≡ self.now.hosts }

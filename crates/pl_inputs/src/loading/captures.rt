@@ -26,14 +26,14 @@ pub(crate) fn load_captures<S: Shelf>(
     folder: &str,
     wiring: &Wiring,
 ) -> Result<Vec<Capture>, Status>
-    ensures ok { IfOk result (λ captures. AreCaptures (S.held shelf.old) folder.now wiring.now.hosts (files_of captures.items)) }
+    ensures ok { IfOk result (λ captures. AreCaptures (S.moment shelf.old).held folder.now wiring.now.hosts (files_of captures.items)) }
     ensures limit { IfOk result (λ captures. all_bytes (files_of captures.items) ≤ captures_limit) }
-    ensures err { IfErr result (λ e. IsUngathered (S.held shelf.old) folder.now wiring.now.hosts e) }
-    ensures same { Same (S.held shelf.old) (S.held shelf.new) }
-    ensures reads { Reads result (S.read_faults shelf.old) (S.read_faults shelf.new) }
-    ensures writes { S.write_faults shelf.new ≡ S.write_faults shelf.old }
+    ensures err { IfErr result (λ e. IsUngathered (S.moment shelf.old).held folder.now wiring.now.hosts e) }
+    ensures same { Same (S.moment shelf.old).held (S.moment shelf.new).held }
+    ensures reads { Reads result (S.moment shelf.old).read_faults (S.moment shelf.new).read_faults }
+    ensures writes { (S.moment shelf.new).write_faults ≡ (S.moment shelf.old).write_faults }
     ensures capacity { S.capacity shelf.new ≡ S.capacity shelf.old }
-    ensures unpromised { IfErr result (λ e. IsUnpromised (S.capacity shelf.new) (S.held shelf.new) e) }
+    ensures unpromised { IfErr result (λ e. IsUnpromised (S.capacity shelf.new) (S.moment shelf.new).held e) }
 {
     let mut captures = Vec::new(alloc);
     let mut left = CAPTURES_LIMIT;
@@ -54,14 +54,14 @@ fn load_capture<S: Shelf>(
     host: &Host,
     left: u64,
 ) -> Result<Capture, Status>
-    ensures ok { IfOk result (λ c. IsCaptureAt (S.held shelf.old) folder.now host.now.capture c.bytes.items) }
+    ensures ok { IfOk result (λ c. IsCaptureAt (S.moment shelf.old).held folder.now host.now.capture c.bytes.items) }
     ensures limit { IfOk result (λ c. length c.bytes.items ≤ left) }
-    ensures err { IfErr result (λ e. IsUntaken (S.held shelf.old) folder.now host.now.capture number.0 left e) }
-    ensures same { Same (S.held shelf.old) (S.held shelf.new) }
-    ensures reads { Reads result (S.read_faults shelf.old) (S.read_faults shelf.new) }
-    ensures writes { S.write_faults shelf.new ≡ S.write_faults shelf.old }
+    ensures err { IfErr result (λ e. IsUntaken (S.moment shelf.old).held folder.now host.now.capture number.0 left e) }
+    ensures same { Same (S.moment shelf.old).held (S.moment shelf.new).held }
+    ensures reads { Reads result (S.moment shelf.old).read_faults (S.moment shelf.new).read_faults }
+    ensures writes { (S.moment shelf.new).write_faults ≡ (S.moment shelf.old).write_faults }
     ensures capacity { S.capacity shelf.new ≡ S.capacity shelf.old }
-    ensures unpromised { IfErr result (λ e. IsUnpromised (S.capacity shelf.new) (S.held shelf.new) e) }
+    ensures unpromised { IfErr result (λ e. IsUnpromised (S.capacity shelf.new) (S.moment shelf.new).held e) }
 {
     match &host.capture {
         None => Ok(Capture::none(alloc)),

@@ -15,13 +15,13 @@ pub(crate) fn load_named<S: Shelf>(
     name: Name,
     limit: u64,
 ) -> Result<Bytes, Status>
-    ensures ok { IfOk result (λ found. IsLoaded (S.held shelf.old) name limit found) }
-    ensures err { IfErr result (λ e. IsUnloaded (S.held shelf.old) name limit e) }
-    ensures same { Same (S.held shelf.old) (S.held shelf.new) }
-    ensures reads { Reads result (S.read_faults shelf.old) (S.read_faults shelf.new) }
-    ensures writes { S.write_faults shelf.new ≡ S.write_faults shelf.old }
+    ensures ok { IfOk result (λ found. IsLoaded (S.moment shelf.old).held name limit found) }
+    ensures err { IfErr result (λ e. IsUnloaded (S.moment shelf.old).held name limit e) }
+    ensures same { Same (S.moment shelf.old).held (S.moment shelf.new).held }
+    ensures reads { Reads result (S.moment shelf.old).read_faults (S.moment shelf.new).read_faults }
+    ensures writes { (S.moment shelf.new).write_faults ≡ (S.moment shelf.old).write_faults }
     ensures capacity { S.capacity shelf.new ≡ S.capacity shelf.old }
-    ensures unpromised { IfErr result (λ e. IsUnpromised (S.capacity shelf.new) (S.held shelf.new) e) }
+    ensures unpromised { IfErr result (λ e. IsUnpromised (S.capacity shelf.new) (S.moment shelf.new).held e) }
 {
     match load(alloc, shelf, name.text(), limit) {
         Ok(bytes) => Ok(bytes),

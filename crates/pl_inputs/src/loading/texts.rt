@@ -20,13 +20,13 @@ const TEXT_LIMIT: u64 = 16 << 20;
 ///
 /// `ReadFault` and `TooLong` name the file, and `BadTopology` has the first thing that is wrong with it.
 pub fn load_wiring<S: Shelf>(alloc: Global, shelf: &mut S, name: &str) -> Result<Wiring, Status>
-    ensures ok { IfOk result (λ wiring. HasPlan (S.held shelf.old) name.now wiring) }
-    ensures err { IfErr result (λ e. IsUnplanned (S.held shelf.old) name.now e) }
-    ensures same { Same (S.held shelf.old) (S.held shelf.new) }
-    ensures reads { Reads result (S.read_faults shelf.old) (S.read_faults shelf.new) }
-    ensures writes { S.write_faults shelf.new ≡ S.write_faults shelf.old }
+    ensures ok { IfOk result (λ wiring. HasPlan (S.moment shelf.old).held name.now wiring) }
+    ensures err { IfErr result (λ e. IsUnplanned (S.moment shelf.old).held name.now e) }
+    ensures same { Same (S.moment shelf.old).held (S.moment shelf.new).held }
+    ensures reads { Reads result (S.moment shelf.old).read_faults (S.moment shelf.new).read_faults }
+    ensures writes { (S.moment shelf.new).write_faults ≡ (S.moment shelf.old).write_faults }
     ensures capacity { S.capacity shelf.new ≡ S.capacity shelf.old }
-    ensures unpromised { IfErr result (λ e. IsUnpromised (S.capacity shelf.new) (S.held shelf.new) e) }
+    ensures unpromised { IfErr result (λ e. IsUnpromised (S.capacity shelf.new) (S.moment shelf.new).held e) }
 {
     let name = Name::copy(alloc, name)?;
     let file = load_named(alloc, shelf, name, TEXT_LIMIT)?;
@@ -40,13 +40,13 @@ pub(crate) fn load_script<S: Shelf>(
     name: &str,
     wiring: &Wiring,
 ) -> Result<Script, Status>
-    ensures ok { IfOk result (λ script. HasLines (S.held shelf.old) name.now wiring.now script) }
-    ensures err { IfErr result (λ e. IsUnscripted (S.held shelf.old) name.now wiring.now e) }
-    ensures same { Same (S.held shelf.old) (S.held shelf.new) }
-    ensures reads { Reads result (S.read_faults shelf.old) (S.read_faults shelf.new) }
-    ensures writes { S.write_faults shelf.new ≡ S.write_faults shelf.old }
+    ensures ok { IfOk result (λ script. HasLines (S.moment shelf.old).held name.now wiring.now script) }
+    ensures err { IfErr result (λ e. IsUnscripted (S.moment shelf.old).held name.now wiring.now e) }
+    ensures same { Same (S.moment shelf.old).held (S.moment shelf.new).held }
+    ensures reads { Reads result (S.moment shelf.old).read_faults (S.moment shelf.new).read_faults }
+    ensures writes { (S.moment shelf.new).write_faults ≡ (S.moment shelf.old).write_faults }
     ensures capacity { S.capacity shelf.new ≡ S.capacity shelf.old }
-    ensures unpromised { IfErr result (λ e. IsUnpromised (S.capacity shelf.new) (S.held shelf.new) e) }
+    ensures unpromised { IfErr result (λ e. IsUnpromised (S.capacity shelf.new) (S.moment shelf.new).held e) }
 {
     let name = Name::copy(alloc, name)?;
     let file = load_named(alloc, shelf, name, TEXT_LIMIT)?;

@@ -1,6 +1,6 @@
 ghost use Rattle.std.specs.Prelude.{◌≡◌, OnOk, OnErr};
 ghost use Rattle.pl_shelf.specs.Capacity.{IsFull};
-ghost use Rattle.pl_shelf.specs.Faults.{Counts};
+ghost use Rattle.pl_shelf.specs.Faults.{CountsWrites};
 ghost use Rattle.pl_journal.specs.Text.{field_text, parted, text_after_blank, texts};
 ghost use Rattle.pl_output.specs.Printed.{BreaksOff, IsPrinted};
 
@@ -16,14 +16,13 @@ impl Piece {
         name: &str,
         words: &Words,
     ) -> Result<(), SaveError>
-        ensures ok { OnOk result (IsPrinted (S.held shelf.old) (S.held shelf.new) name.now
+        ensures ok { OnOk result (IsPrinted (S.moment shelf.old).held (S.moment shelf.new).held name.now
             self.old self.new (parted (texts words.now))) }
-        ensures err { OnErr result (BreaksOff (S.held shelf.old) (S.held shelf.new) name.now
+        ensures err { OnErr result (BreaksOff (S.moment shelf.old).held (S.moment shelf.new).held name.now
             self.old (parted (texts words.now))) }
-        ensures faults { Counts result (S.write_faults shelf.old) (S.write_faults shelf.new)
-            (S.read_faults shelf.old) (S.read_faults shelf.new) }
+        ensures faults { CountsWrites result (S.moment shelf.old) (S.moment shelf.new) }
         ensures capacity { S.capacity shelf.new ≡ S.capacity shelf.old }
-        ensures full { OnErr result (IsFull (S.capacity shelf.new name.now) (S.held shelf.new name.now)) }
+        ensures full { OnErr result (IsFull (S.capacity shelf.new name.now) ((S.moment shelf.new).held name.now)) }
     {
         self.print(shelf, name, words.word.as_bytes())?;
         for field in words.fields.as_slice() {
@@ -39,14 +38,13 @@ impl Piece {
         name: &str,
         field: Option<Field>,
     ) -> Result<(), SaveError>
-        ensures ok { OnOk result (IsPrinted (S.held shelf.old) (S.held shelf.new) name.now
+        ensures ok { OnOk result (IsPrinted (S.moment shelf.old).held (S.moment shelf.new).held name.now
             self.old self.new (text_after_blank field.entry)) }
-        ensures err { OnErr result (BreaksOff (S.held shelf.old) (S.held shelf.new) name.now
+        ensures err { OnErr result (BreaksOff (S.moment shelf.old).held (S.moment shelf.new).held name.now
             self.old (text_after_blank field.entry)) }
-        ensures faults { Counts result (S.write_faults shelf.old) (S.write_faults shelf.new)
-            (S.read_faults shelf.old) (S.read_faults shelf.new) }
+        ensures faults { CountsWrites result (S.moment shelf.old) (S.moment shelf.new) }
         ensures capacity { S.capacity shelf.new ≡ S.capacity shelf.old }
-        ensures full { OnErr result (IsFull (S.capacity shelf.new name.now) (S.held shelf.new name.now)) }
+        ensures full { OnErr result (IsFull (S.capacity shelf.new name.now) ((S.moment shelf.new).held name.now)) }
     {
         match field {
             None => Ok(()),
@@ -63,14 +61,13 @@ impl Piece {
         name: &str,
         field: Field,
     ) -> Result<(), SaveError>
-        ensures ok { OnOk result (IsPrinted (S.held shelf.old) (S.held shelf.new) name.now
+        ensures ok { OnOk result (IsPrinted (S.moment shelf.old).held (S.moment shelf.new).held name.now
             self.old self.new (field_text field.entry)) }
-        ensures err { OnErr result (BreaksOff (S.held shelf.old) (S.held shelf.new) name.now
+        ensures err { OnErr result (BreaksOff (S.moment shelf.old).held (S.moment shelf.new).held name.now
             self.old (field_text field.entry)) }
-        ensures faults { Counts result (S.write_faults shelf.old) (S.write_faults shelf.new)
-            (S.read_faults shelf.old) (S.read_faults shelf.new) }
+        ensures faults { CountsWrites result (S.moment shelf.old) (S.moment shelf.new) }
         ensures capacity { S.capacity shelf.new ≡ S.capacity shelf.old }
-        ensures full { OnErr result (IsFull (S.capacity shelf.new name.now) (S.held shelf.new name.now)) }
+        ensures full { OnErr result (IsFull (S.capacity shelf.new name.now) ((S.moment shelf.new).held name.now)) }
     {
         match field {
             Field::Number(n) => self.print_number(shelf, name, n),

@@ -1,7 +1,7 @@
 ghost use Rattle.std.specs.Prelude.{◌≡◌, ◌≤◌, length, OnOk, OnErr};
 ghost use Rattle.hex.specs.Hex.{encode_lower};
 ghost use Rattle.pl_shelf.specs.Capacity.{IsFull};
-ghost use Rattle.pl_shelf.specs.Faults.{Counts};
+ghost use Rattle.pl_shelf.specs.Faults.{CountsWrites};
 ghost use Rattle.pl_frame.specs.Address.{hex_pair, mac_text};
 ghost use Rattle.pl_output.specs.Printed.{BreaksOff, IsPrinted};
 
@@ -20,14 +20,13 @@ impl Piece {
         name: &str,
         bytes: &[u8],
     ) -> Result<(), SaveError>
-        ensures ok { OnOk result (IsPrinted (S.held shelf.old) (S.held shelf.new) name.now
+        ensures ok { OnOk result (IsPrinted (S.moment shelf.old).held (S.moment shelf.new).held name.now
             self.old self.new (encode_lower bytes.now)) }
-        ensures err { OnErr result (BreaksOff (S.held shelf.old) (S.held shelf.new) name.now
+        ensures err { OnErr result (BreaksOff (S.moment shelf.old).held (S.moment shelf.new).held name.now
             self.old (encode_lower bytes.now)) }
-        ensures faults { Counts result (S.write_faults shelf.old) (S.write_faults shelf.new)
-            (S.read_faults shelf.old) (S.read_faults shelf.new) }
+        ensures faults { CountsWrites result (S.moment shelf.old) (S.moment shelf.new) }
         ensures capacity { S.capacity shelf.new ≡ S.capacity shelf.old }
-        ensures full { OnErr result (IsFull (S.capacity shelf.new name.now) (S.held shelf.new name.now)) }
+        ensures full { OnErr result (IsFull (S.capacity shelf.new name.now) ((S.moment shelf.new).held name.now)) }
     {
         let mut rest = bytes;
         while !rest.is_empty() {
@@ -45,14 +44,13 @@ impl Piece {
         chunk: &[u8],
     ) -> Result<(), SaveError>
         requires { length chunk.now ≤ 256 }
-        ensures ok { OnOk result (IsPrinted (S.held shelf.old) (S.held shelf.new) name.now
+        ensures ok { OnOk result (IsPrinted (S.moment shelf.old).held (S.moment shelf.new).held name.now
             self.old self.new (encode_lower chunk.now)) }
-        ensures err { OnErr result (BreaksOff (S.held shelf.old) (S.held shelf.new) name.now
+        ensures err { OnErr result (BreaksOff (S.moment shelf.old).held (S.moment shelf.new).held name.now
             self.old (encode_lower chunk.now)) }
-        ensures faults { Counts result (S.write_faults shelf.old) (S.write_faults shelf.new)
-            (S.read_faults shelf.old) (S.read_faults shelf.new) }
+        ensures faults { CountsWrites result (S.moment shelf.old) (S.moment shelf.new) }
         ensures capacity { S.capacity shelf.new ≡ S.capacity shelf.old }
-        ensures full { OnErr result (IsFull (S.capacity shelf.new name.now) (S.held shelf.new name.now)) }
+        ensures full { OnErr result (IsFull (S.capacity shelf.new name.now) ((S.moment shelf.new).held name.now)) }
     {
         let mut digits = [0; 2 * CHUNK_LEN];
         let digits = &mut digits[..2 * chunk.len()];
@@ -67,14 +65,13 @@ impl Piece {
         name: &str,
         mac: Mac,
     ) -> Result<(), SaveError>
-        ensures ok { OnOk result (IsPrinted (S.held shelf.old) (S.held shelf.new) name.now
+        ensures ok { OnOk result (IsPrinted (S.moment shelf.old).held (S.moment shelf.new).held name.now
             self.old self.new (mac_text mac)) }
-        ensures err { OnErr result (BreaksOff (S.held shelf.old) (S.held shelf.new) name.now
+        ensures err { OnErr result (BreaksOff (S.moment shelf.old).held (S.moment shelf.new).held name.now
             self.old (mac_text mac)) }
-        ensures faults { Counts result (S.write_faults shelf.old) (S.write_faults shelf.new)
-            (S.read_faults shelf.old) (S.read_faults shelf.new) }
+        ensures faults { CountsWrites result (S.moment shelf.old) (S.moment shelf.new) }
         ensures capacity { S.capacity shelf.new ≡ S.capacity shelf.old }
-        ensures full { OnErr result (IsFull (S.capacity shelf.new name.now) (S.held shelf.new name.now)) }
+        ensures full { OnErr result (IsFull (S.capacity shelf.new name.now) ((S.moment shelf.new).held name.now)) }
     {
         self.print(shelf, name, &address_text(mac))
     }

@@ -1,7 +1,7 @@
 ghost use Rattle.std.specs.Prelude.{◌≡◌, ◌++◌, OnOk, OnErr, codes, decimal};
 ghost use Rattle.std.specs.List.{flat_map};
 ghost use Rattle.pl_shelf.specs.Capacity.{IsFull};
-ghost use Rattle.pl_shelf.specs.Faults.{Counts};
+ghost use Rattle.pl_shelf.specs.Faults.{CountsWrites};
 ghost use Rattle.pl_wiring.specs.Labels.{label_text};
 ghost use Rattle.pl_output.specs.Printed.{BreaksOff, IsPrinted};
 
@@ -17,14 +17,13 @@ impl Piece {
         name: &str,
         label: Label,
     ) -> Result<(), SaveError>
-        ensures ok { OnOk result (IsPrinted (S.held shelf.old) (S.held shelf.new) name.now
+        ensures ok { OnOk result (IsPrinted (S.moment shelf.old).held (S.moment shelf.new).held name.now
             self.old self.new (label_text label)) }
-        ensures err { OnErr result (BreaksOff (S.held shelf.old) (S.held shelf.new) name.now
+        ensures err { OnErr result (BreaksOff (S.moment shelf.old).held (S.moment shelf.new).held name.now
             self.old (label_text label)) }
-        ensures faults { Counts result (S.write_faults shelf.old) (S.write_faults shelf.new)
-            (S.read_faults shelf.old) (S.read_faults shelf.new) }
+        ensures faults { CountsWrites result (S.moment shelf.old) (S.moment shelf.new) }
         ensures capacity { S.capacity shelf.new ≡ S.capacity shelf.old }
-        ensures full { OnErr result (IsFull (S.capacity shelf.new name.now) (S.held shelf.new name.now)) }
+        ensures full { OnErr result (IsFull (S.capacity shelf.new name.now) ((S.moment shelf.new).held name.now)) }
     {
         let (letter, first, second) = parts(label);
         let mut first_digits = itoa::Buffer::new();
@@ -41,14 +40,13 @@ impl Piece {
         name: &str,
         parts: &[&[u8]],
     ) -> Result<(), SaveError>
-        ensures ok { OnOk result (IsPrinted (S.held shelf.old) (S.held shelf.new) name.now
+        ensures ok { OnOk result (IsPrinted (S.moment shelf.old).held (S.moment shelf.new).held name.now
             self.old self.new (flat_map (λ part. part.now) parts.now)) }
-        ensures err { OnErr result (BreaksOff (S.held shelf.old) (S.held shelf.new) name.now
+        ensures err { OnErr result (BreaksOff (S.moment shelf.old).held (S.moment shelf.new).held name.now
             self.old (flat_map (λ part. part.now) parts.now)) }
-        ensures faults { Counts result (S.write_faults shelf.old) (S.write_faults shelf.new)
-            (S.read_faults shelf.old) (S.read_faults shelf.new) }
+        ensures faults { CountsWrites result (S.moment shelf.old) (S.moment shelf.new) }
         ensures capacity { S.capacity shelf.new ≡ S.capacity shelf.old }
-        ensures full { OnErr result (IsFull (S.capacity shelf.new name.now) (S.held shelf.new name.now)) }
+        ensures full { OnErr result (IsFull (S.capacity shelf.new name.now) ((S.moment shelf.new).held name.now)) }
     {
         for part in parts {
             self.print(shelf, name, part)?;
@@ -63,14 +61,13 @@ impl Piece {
         name: &str,
         n: u64,
     ) -> Result<(), SaveError>
-        ensures ok { OnOk result (IsPrinted (S.held shelf.old) (S.held shelf.new) name.now
+        ensures ok { OnOk result (IsPrinted (S.moment shelf.old).held (S.moment shelf.new).held name.now
             self.old self.new (decimal n)) }
-        ensures err { OnErr result (BreaksOff (S.held shelf.old) (S.held shelf.new) name.now
+        ensures err { OnErr result (BreaksOff (S.moment shelf.old).held (S.moment shelf.new).held name.now
             self.old (decimal n)) }
-        ensures faults { Counts result (S.write_faults shelf.old) (S.write_faults shelf.new)
-            (S.read_faults shelf.old) (S.read_faults shelf.new) }
+        ensures faults { CountsWrites result (S.moment shelf.old) (S.moment shelf.new) }
         ensures capacity { S.capacity shelf.new ≡ S.capacity shelf.old }
-        ensures full { OnErr result (IsFull (S.capacity shelf.new name.now) (S.held shelf.new name.now)) }
+        ensures full { OnErr result (IsFull (S.capacity shelf.new name.now) ((S.moment shelf.new).held name.now)) }
     {
         let mut buffer = itoa::Buffer::new();
         self.print(shelf, name, buffer.format(n).as_bytes())

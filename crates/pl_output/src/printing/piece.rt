@@ -1,7 +1,7 @@
 ghost use Rattle.std.specs.Prelude.{◌≡◌, ◌+◌, ◌-◌, ◌≤◌, [], ◌++◌, length, IfOk, OnOk, OnErr};
 ghost use Rattle.pl_shelf.specs.Held.{Changes, IsCutOff, with_end};
 ghost use Rattle.pl_shelf.specs.Capacity.{IsFull};
-ghost use Rattle.pl_shelf.specs.Faults.{Counts};
+ghost use Rattle.pl_shelf.specs.Faults.{CountsWrites};
 ghost use Rattle.pl_output.specs.Printed.{BreaksOff, IsPrinted};
 
 use pl_frame::Memory;
@@ -50,14 +50,13 @@ impl Piece {
         name: &str,
         text: &[u8],
     ) -> Result<(), SaveError>
-        ensures ok { OnOk result (IsPrinted (S.held shelf.old) (S.held shelf.new) name.now
+        ensures ok { OnOk result (IsPrinted (S.moment shelf.old).held (S.moment shelf.new).held name.now
             self.old self.new text.now) }
-        ensures err { OnErr result (BreaksOff (S.held shelf.old) (S.held shelf.new) name.now
+        ensures err { OnErr result (BreaksOff (S.moment shelf.old).held (S.moment shelf.new).held name.now
             self.old text.now) }
-        ensures faults { Counts result (S.write_faults shelf.old) (S.write_faults shelf.new)
-            (S.read_faults shelf.old) (S.read_faults shelf.new) }
+        ensures faults { CountsWrites result (S.moment shelf.old) (S.moment shelf.new) }
         ensures capacity { S.capacity shelf.new ≡ S.capacity shelf.old }
-        ensures full { OnErr result (IsFull (S.capacity shelf.new name.now) (S.held shelf.new name.now)) }
+        ensures full { OnErr result (IsFull (S.capacity shelf.new name.now) ((S.moment shelf.new).held name.now)) }
     {
         let mut rest = text;
         while rest.len() > self.room() {
@@ -72,15 +71,14 @@ impl Piece {
 
     /// Adds the piece at the end of what the name holds, and empties it.
     pub fn send<S: Shelf>(&mut self, shelf: &mut S, name: &str) -> Result<(), SaveError>
-        ensures ok { OnOk result (Changes (S.held shelf.old) (S.held shelf.new) name.now
-            (with_end (S.held shelf.old name.now) self.old)) }
+        ensures ok { OnOk result (Changes (S.moment shelf.old).held (S.moment shelf.new).held name.now
+            (with_end ((S.moment shelf.old).held name.now) self.old)) }
         ensures empty { OnOk result (self.new ≡ []) }
-        ensures err { OnErr result (IsCutOff (S.held shelf.old) (S.held shelf.new) name.now
-            (S.held shelf.old name.now) self.old) }
-        ensures faults { Counts result (S.write_faults shelf.old) (S.write_faults shelf.new)
-            (S.read_faults shelf.old) (S.read_faults shelf.new) }
+        ensures err { OnErr result (IsCutOff (S.moment shelf.old).held (S.moment shelf.new).held name.now
+            ((S.moment shelf.old).held name.now) self.old) }
+        ensures faults { CountsWrites result (S.moment shelf.old) (S.moment shelf.new) }
         ensures capacity { S.capacity shelf.new ≡ S.capacity shelf.old }
-        ensures full { OnErr result (IsFull (S.capacity shelf.new name.now) (S.held shelf.new name.now)) }
+        ensures full { OnErr result (IsFull (S.capacity shelf.new name.now) ((S.moment shelf.new).held name.now)) }
     {
         append(shelf, name, &self.bytes)?;
         self.clear();

@@ -3,7 +3,7 @@ ghost use Rattle.std.specs.List.{flat_map};
 ghost use Rattle.pl_capture.specs.declared.endianness.Endianness.TheVariants.{Little};
 ghost use Rattle.pl_capture.specs.Spelling.{packet_bytes, saved_bytes, saved_packet};
 ghost use Rattle.pl_shelf.specs.Capacity.{FitsBehind, IsFull};
-ghost use Rattle.pl_shelf.specs.Faults.{Counts};
+ghost use Rattle.pl_shelf.specs.Faults.{CountsWrites};
 ghost use Rattle.pl_shelf.specs.Held.{Changes, IsCutOff, Same, created, with_end};
 ghost use Rattle.pl_output.specs.InTurn.{BreaksInTurn, BreaksOne, SavedInTurn, SavesOne};
 ghost use Rattle.pl_output.specs.Mail.{frame_at, packets_at};
@@ -26,15 +26,14 @@ pub(crate) fn save_captures<S: Shelf>(
     inboxes: Vec<Inbox>,
 ) -> Result<(), Name>
     requires { All ArrivesCarried journal.now }
-    ensures ok { OnOk result (SavedInTurn (S.held shelf.old)
-        (map (capture_in journal.now) inboxes.items) (S.held shelf.new)) }
+    ensures ok { OnOk result (SavedInTurn (S.moment shelf.old).held
+        (map (capture_in journal.now) inboxes.items) (S.moment shelf.new).held) }
     ensures err { IfErr result (λ name.
-        BreaksInTurn (S.held shelf.old) (map (capture_in journal.now) inboxes.items) name
-        (S.held shelf.new)) }
-    ensures faults { Counts result (S.write_faults shelf.old) (S.write_faults shelf.new)
-        (S.read_faults shelf.old) (S.read_faults shelf.new) }
+        BreaksInTurn (S.moment shelf.old).held (map (capture_in journal.now) inboxes.items) name
+        (S.moment shelf.new).held) }
+    ensures faults { CountsWrites result (S.moment shelf.old) (S.moment shelf.new) }
     ensures capacity { S.capacity shelf.new ≡ S.capacity shelf.old }
-    ensures unfit { OnErr result (HaveRoomInTurn (S.capacity shelf.old) (S.held shelf.old)
+    ensures unfit { OnErr result (HaveRoomInTurn (S.capacity shelf.old) (S.moment shelf.old).held
         (map (capture_in journal.now) inboxes.items) → ⊥) }
 {
     for inbox in inboxes {
@@ -45,15 +44,14 @@ pub(crate) fn save_captures<S: Shelf>(
 
 fn save_inbox<S: Shelf>(shelf: &mut S, journal: &Journal, inbox: Inbox) -> Result<(), Name>
     requires { All ArrivesCarried journal.now }
-    ensures ok { OnOk result (SavesOne (S.held shelf.old) (S.held shelf.new)
+    ensures ok { OnOk result (SavesOne (S.moment shelf.old).held (S.moment shelf.new).held
         (capture_in journal.now inbox)) }
     ensures named { IfErr result (λ name. inbox.name ≡ name) }
-    ensures err { OnErr result (BreaksOne (S.held shelf.old) (S.held shelf.new)
+    ensures err { OnErr result (BreaksOne (S.moment shelf.old).held (S.moment shelf.new).held
         (capture_in journal.now inbox)) }
-    ensures faults { Counts result (S.write_faults shelf.old) (S.write_faults shelf.new)
-        (S.read_faults shelf.old) (S.read_faults shelf.new) }
+    ensures faults { CountsWrites result (S.moment shelf.old) (S.moment shelf.new) }
     ensures capacity { S.capacity shelf.new ≡ S.capacity shelf.old }
-    ensures unfit { OnErr result (HasRoom (S.capacity shelf.old) (S.held shelf.old)
+    ensures unfit { OnErr result (HasRoom (S.capacity shelf.old) (S.moment shelf.old).held
         (capture_in journal.now inbox) → ⊥) }
 {
     match save_capture(shelf, inbox.name(), journal, inbox.receipts()) {
@@ -71,18 +69,17 @@ pub(crate) fn save_capture<S: Shelf>(
     receipts: &[Receipt],
 ) -> Result<(), SaveError>
     requires { All ArrivesCarried journal.now }
-    ensures ok { OnOk result (Changes (S.held shelf.old) (S.held shelf.new) name.now
-        (with_end (created name.now (S.held shelf.old name.now))
+    ensures ok { OnOk result (Changes (S.moment shelf.old).held (S.moment shelf.new).held name.now
+        (with_end (created name.now ((S.moment shelf.old).held name.now))
         (saved_bytes (packets_at journal.now receipts.now)))) }
-    ensures err { OnErr result (Same (S.held shelf.old) (S.held shelf.new)
-        ⊎ IsCutOff (S.held shelf.old) (S.held shelf.new) name.now
-        (created name.now (S.held shelf.old name.now))
+    ensures err { OnErr result (Same (S.moment shelf.old).held (S.moment shelf.new).held
+        ⊎ IsCutOff (S.moment shelf.old).held (S.moment shelf.new).held name.now
+        (created name.now ((S.moment shelf.old).held name.now))
         (saved_bytes (packets_at journal.now receipts.now))) }
-    ensures faults { Counts result (S.write_faults shelf.old) (S.write_faults shelf.new)
-        (S.read_faults shelf.old) (S.read_faults shelf.new) }
+    ensures faults { CountsWrites result (S.moment shelf.old) (S.moment shelf.new) }
     ensures capacity { S.capacity shelf.new ≡ S.capacity shelf.old }
     ensures unfit { OnErr result (FitsBehind (S.capacity shelf.old name.now)
-        (created name.now (S.held shelf.old name.now)) (saved_bytes (packets_at journal.now receipts.now)) → ⊥) }
+        (created name.now ((S.moment shelf.old).held name.now)) (saved_bytes (packets_at journal.now receipts.now)) → ⊥) }
 {
     save(shelf, name, &write_header())?;
     append_packets(shelf, name, journal, receipts)
@@ -96,16 +93,15 @@ fn append_packets<S: Shelf>(
     receipts: &[Receipt],
 ) -> Result<(), SaveError>
     requires { All ArrivesCarried journal.now }
-    ensures ok { OnOk result (Changes (S.held shelf.old) (S.held shelf.new) name.now
-        (with_end (S.held shelf.old name.now)
+    ensures ok { OnOk result (Changes (S.moment shelf.old).held (S.moment shelf.new).held name.now
+        (with_end ((S.moment shelf.old).held name.now)
         (flat_map (packet_bytes Little) (packets_at journal.now receipts.now)))) }
-    ensures err { OnErr result (IsCutOff (S.held shelf.old) (S.held shelf.new) name.now
-        (S.held shelf.old name.now)
+    ensures err { OnErr result (IsCutOff (S.moment shelf.old).held (S.moment shelf.new).held name.now
+        ((S.moment shelf.old).held name.now)
         (flat_map (packet_bytes Little) (packets_at journal.now receipts.now))) }
-    ensures faults { Counts result (S.write_faults shelf.old) (S.write_faults shelf.new)
-        (S.read_faults shelf.old) (S.read_faults shelf.new) }
+    ensures faults { CountsWrites result (S.moment shelf.old) (S.moment shelf.new) }
     ensures capacity { S.capacity shelf.new ≡ S.capacity shelf.old }
-    ensures full { OnErr result (IsFull (S.capacity shelf.new name.now) (S.held shelf.new name.now)) }
+    ensures full { OnErr result (IsFull (S.capacity shelf.new name.now) ((S.moment shelf.new).held name.now)) }
 {
     for receipt in receipts {
         append_packet(shelf, name, *receipt, frame_at(journal, receipt.entry))?;
@@ -121,16 +117,15 @@ fn append_packet<S: Shelf>(
     frame: &[u8],
 ) -> Result<(), SaveError>
     requires { length frame.now < 2 ^ 32 }
-    ensures ok { OnOk result (Changes (S.held shelf.old) (S.held shelf.new) name.now
-        (with_end (S.held shelf.old name.now)
+    ensures ok { OnOk result (Changes (S.moment shelf.old).held (S.moment shelf.new).held name.now
+        (with_end ((S.moment shelf.old).held name.now)
         (packet_bytes Little (saved_packet receipt.seconds receipt.micros frame.now)))) }
-    ensures err { OnErr result (IsCutOff (S.held shelf.old) (S.held shelf.new) name.now
-        (S.held shelf.old name.now)
+    ensures err { OnErr result (IsCutOff (S.moment shelf.old).held (S.moment shelf.new).held name.now
+        ((S.moment shelf.old).held name.now)
         (packet_bytes Little (saved_packet receipt.seconds receipt.micros frame.now))) }
-    ensures faults { Counts result (S.write_faults shelf.old) (S.write_faults shelf.new)
-        (S.read_faults shelf.old) (S.read_faults shelf.new) }
+    ensures faults { CountsWrites result (S.moment shelf.old) (S.moment shelf.new) }
     ensures capacity { S.capacity shelf.new ≡ S.capacity shelf.old }
-    ensures full { OnErr result (IsFull (S.capacity shelf.new name.now) (S.held shelf.new name.now)) }
+    ensures full { OnErr result (IsFull (S.capacity shelf.new name.now) ((S.moment shelf.new).held name.now)) }
 {
     let len = frame.len() as u32;
     append(

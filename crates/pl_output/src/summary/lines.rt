@@ -1,5 +1,5 @@
 ghost use Rattle.std.specs.Prelude.{◌≡◌, Some};
-ghost use Rattle.pl_output.specs.Summary.{cause_line, fabric_line, host_line, rest_text, settled_line, steps_line};
+ghost use Rattle.pl_output.specs.Summary.{cause_line, crossings_line, fabric_line, host_line, rest_text, settled_line, steps_line};
 
 use crate::summary::Rest;
 use crate::summary::host_counts::HostCounts;
@@ -94,6 +94,20 @@ impl fmt::Display for Rest {
     fn fmt<W: fmt::Write>(&self, f: &mut fmt::Formatter<W>) -> fmt::Result {
         let Rest { held, unread, tail } = self;
         write!(f, "held {held} unread {unread} tail {tail}")
+    }
+}
+
+/// The line of the switches that frames crossed.
+#[derive(Clone, Copy)]
+pub(crate) struct CrossingsLine(pub u64);
+
+impl fmt::Display for CrossingsLine {
+    ghost output = { λ line. Some (crossings_line line.0) };
+
+    #[tactic(auto, unfolding(crate::specs::Summary::crossings_line))]
+    fn fmt<W: fmt::Write>(&self, f: &mut fmt::Formatter<W>) -> fmt::Result {
+        let crossed = self.0;
+        write!(f, "crossings {crossed}\n")
     }
 }
 

@@ -17,6 +17,7 @@ pub(crate) struct Totals {
     pub arrived: u64,
     pub taken: u64,
     pub dropped: u64,
+    pub crossed: u64,
 }
 
 impl Totals {
@@ -31,6 +32,7 @@ impl Totals {
             arrived: 0,
             taken: 0,
             dropped: 0,
+            crossed: 0,
         }
     }
 
@@ -45,6 +47,7 @@ impl Totals {
             Entry::Arrived(_, _, _) => self.arrived = one_more(self.arrived)?,
             Entry::Taken(_, _) => self.taken = one_more(self.taken)?,
             Entry::Dropped(_, _) => self.dropped = one_more(self.dropped)?,
+            Entry::Crossed(_, _) => self.crossed = one_more(self.crossed)?,
             _ => {}
         }
         Ok(())

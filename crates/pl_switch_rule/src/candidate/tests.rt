@@ -4,7 +4,6 @@ ghost use Rattle.pl_switch_rule.specs.HostsAlone.{hosts_alone};
 use super::*;
 use pl_frame::SwitchId;
 use pl_layouts::Place;
-use pl_lists::Rising;
 use pl_node::{AvoidList, PortRecord, TreePart};
 use std::test::Fail;
 
@@ -78,7 +77,7 @@ impl SwitchFacts for HostsAlone {
 #[test]
 fn a_switch_with_hosts_alone_has_no_candidates(rt: HostRuntime) -> Result<(), Fail> {
     let switch = HostsAlone {
-        avoid: Rising::new(rt.alloc()),
+        avoid: AvoidList::new(rt.alloc()),
     };
     let to = Pmac {
         pod: 1,

@@ -10,7 +10,7 @@ use Rattle.pl_law_registration.specs.Registering.{AreRegistered}
 use Rattle.pl_law_theorem.specs.OneSwitch.{IsOneSwitch}
 use Rattle.pl_law_calls.specs.Moments.{IsOfRun}
 use Rattle.pl_law_calls.proofs.Going.{goes_on, promised}
-use Rattle.pl_law_calls.proofs.Settled.{is_at_rest_then, is_settled_then, settling_runs}
+use Rattle.pl_law_calls.proofs.LeftBySettling.{is_at_rest_then, is_settled_then, settling_runs}
 use Rattle.pl_law_calls.proofs.fabric.settle.Goals as goal
 
 pub returns : goal.returns

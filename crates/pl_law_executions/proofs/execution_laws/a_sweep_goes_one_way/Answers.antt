@@ -1,4 +1,4 @@
-use Rattle.pl_law_executions.proofs.Executions.{sweeps_one_way}
+use Rattle.pl_law_executions.proofs.OneWayOfExecutions.{sweeps_one_way}
 use Rattle.pl_law_executions.proofs.execution_laws.a_sweep_goes_one_way.Goals as goal
 
 pub returns : goal.returns

@@ -1,4 +1,4 @@
-use Rattle.pl_law_executions.proofs.Executions.{draws_one_way}
+use Rattle.pl_law_executions.proofs.OneWayOfExecutions.{draws_one_way}
 use Rattle.pl_law_executions.proofs.execution_laws.drawn_steps_go_one_way.Goals as goal
 
 pub returns : goal.returns

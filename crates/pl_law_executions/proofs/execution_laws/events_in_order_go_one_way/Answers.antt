@@ -1,4 +1,4 @@
-use Rattle.pl_law_executions.proofs.Executions.{makes_all_one_way, makes_one_way, ticks_all_one_way}
+use Rattle.pl_law_executions.proofs.OneWayOfExecutions.{makes_all_one_way, makes_one_way, ticks_all_one_way}
 use Rattle.pl_law_executions.proofs.execution_laws.events_in_order_go_one_way.Goals as goal
 
 pub returns-clause-one : goal.returns-clause-one

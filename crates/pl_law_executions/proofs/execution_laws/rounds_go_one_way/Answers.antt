@@ -1,4 +1,4 @@
-use Rattle.pl_law_executions.proofs.Executions.{goes_round_one_way, goes_rounds_one_way}
+use Rattle.pl_law_executions.proofs.OneWayOfExecutions.{goes_round_one_way, goes_rounds_one_way}
 use Rattle.pl_law_executions.proofs.execution_laws.rounds_go_one_way.Goals as goal
 
 pub returns-clause-one : goal.returns-clause-one

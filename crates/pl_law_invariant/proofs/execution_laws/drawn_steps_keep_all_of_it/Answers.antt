@@ -1,4 +1,4 @@
-use Rattle.pl_law_invariant.proofs.Executions.{draws_keep}
+use Rattle.pl_law_invariant.proofs.ExecutionsKeepInvariant.{draws_keep}
 use Rattle.pl_law_invariant.proofs.ControlInRuns.{lawful_run_keeps}
 use Rattle.pl_law_invariant.proofs.execution_laws.drawn_steps_keep_all_of_it.Goals as goal
 

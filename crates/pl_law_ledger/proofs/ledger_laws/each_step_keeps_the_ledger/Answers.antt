@@ -1,4 +1,4 @@
-use Rattle.pl_law_ledger.proofs.Beginning.{step_ledger}
+use Rattle.pl_law_ledger.proofs.LedgerAtFirst.{step_ledger}
 use Rattle.pl_law_ledger.proofs.ledger_laws.each_step_keeps_the_ledger.Goals as goal
 
 pub returns : goal.returns

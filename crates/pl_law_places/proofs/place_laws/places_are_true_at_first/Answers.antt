@@ -1,4 +1,4 @@
-use Rattle.pl_law_places.proofs.Beginning.{placed_at_first}
+use Rattle.pl_law_places.proofs.PlacesAtFirst.{placed_at_first}
 use Rattle.pl_law_places.proofs.place_laws.places_are_true_at_first.Goals as goal
 
 pub returns : goal.returns

@@ -1,4 +1,4 @@
-use Rattle.pl_law_pods.proofs.Numbers.{numbers_differ}
+use Rattle.pl_law_pods.proofs.NumbersGiven.{numbers_differ}
 use Rattle.pl_law_pods.proofs.pod_laws.no_two_switches_have_one_number.Goals as goal
 
 pub returns : goal.returns

@@ -1,5 +1,5 @@
 use Rattle.pl_script_rule.proofs.Exports.{plays_is_run}
-use Rattle.pl_law_registration.proofs.Settled.{rest_registers}
+use Rattle.pl_law_registration.proofs.LeftBySettlings.{rest_registers}
 use Rattle.pl_law_registration.proofs.script_laws.a_script_that_ends_at_rest_leaves_hosts_registered.Goals as goal
 
 pub returns : goal.returns

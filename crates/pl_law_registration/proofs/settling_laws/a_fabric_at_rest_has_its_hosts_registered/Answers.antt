@@ -1,4 +1,4 @@
-use Rattle.pl_law_registration.proofs.Settled.{rest_registers}
+use Rattle.pl_law_registration.proofs.LeftBySettlings.{rest_registers}
 use Rattle.pl_law_registration.proofs.settling_laws.a_fabric_at_rest_has_its_hosts_registered.Goals as goal
 
 pub returns : goal.returns

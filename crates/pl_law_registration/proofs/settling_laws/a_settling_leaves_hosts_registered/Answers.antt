@@ -1,4 +1,4 @@
-use Rattle.pl_law_registration.proofs.Settled.{settling_registers}
+use Rattle.pl_law_registration.proofs.LeftBySettlings.{settling_registers}
 use Rattle.pl_law_registration.proofs.settling_laws.a_settling_leaves_hosts_registered.Goals as goal
 
 pub returns : goal.returns

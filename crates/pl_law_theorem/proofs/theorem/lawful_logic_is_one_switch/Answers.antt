@@ -11,7 +11,7 @@ returns g c = λ plan limits moments new can run.
     record {
       run = now.run;
       trails = now.trails;
-      told = now.told;
+      journaled = now.journaled;
       invariant = now;
       moments = λ limit before after old began went.
           let from : Plan → Type 0 = λ p. WorldRun g.S.SwitchLogic.rule g.M.ManagerLogic.rule g.H.HostLogic.rule (booted p limit) before old in

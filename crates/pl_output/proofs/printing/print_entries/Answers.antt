@@ -10,7 +10,7 @@ returns-in_err-print_line-clause-err g c =
     let p = err_from_is_err_and c.from_residual.result c.from_residual.ensures.1 in
     let plan = c.args.wiring.now in
     let line = ap (λ ws. parted ws ++ codes "\n") c.words.ensures ∙ ap (line_of plan) c.entry-item.is in
-    let cut = subst (BreaksOff (g.S.Shelf.held c.loop-entry.shelf) (g.S.Shelf.held c.print_line.new.shelf) c.args.name.now c.loop-entry.piece)
+    let cut = subst (BreaksOff (g.S.Shelf.moment c.loop-entry.shelf).held (g.S.Shelf.moment c.print_line.new.shelf).held c.args.name.now c.loop-entry.piece)
     line c.in_err-print_line.ensures.err in
     rw p.1
     (broken_more (line_of plan) [] c.args.entries.now c.loop-entry.entry-index c.entry-item.result c.loop-entry-test.true _ _ _ _ _ _
@@ -21,7 +21,7 @@ loop-entry-preserved g c =
     let plan = c.args.wiring.now in
     let line = ap (λ ws. parted ws ++ codes "\n") c.words.ensures ∙ ap (line_of plan) c.entry-item.is in
     let next = subst
-    (IsPrinted (g.S.Shelf.held c.loop-entry.shelf) (g.S.Shelf.held c.print_line.new.shelf) c.args.name.now c.loop-entry.piece c.print_line.new.piece)
+    (IsPrinted (g.S.Shelf.moment c.loop-entry.shelf).held (g.S.Shelf.moment c.print_line.new.shelf).held c.args.name.now c.loop-entry.piece c.print_line.new.piece)
     line c.in_ok-print_line.ensures.ok in
     record {
       printed = printed_more (line_of plan) [] c.args.entries.now c.loop-entry.entry-index c.entry-item.result c.loop-entry-test.true _ _ _ _ _ _

@@ -15,7 +15,7 @@ pub returns-clause-unfit : goal.returns-clause-unfit
 returns-clause-unfit g c =
     let S = g.S.Shelf in
     let name = c.args.name.now in
-    let old = S.held c.args.shelf.now in
+    let old = (S.moment c.args.shelf.now).held in
     cut_unfit c.append_entries.result (S.capacity c.args.shelf.now) _ old _ name (created name (old name)) (journal_text c.args.wiring.now c.args.journal.now)
     (c.append_entries.ensures.capacity ∙ c.in_ok-create.ensures.capacity)
     (on_err_weaker c.append_entries.result (λ cut. cut_after _ _ _ _ _ _ c.in_ok-create.ensures.ok cut)

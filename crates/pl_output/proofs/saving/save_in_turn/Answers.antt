@@ -41,7 +41,7 @@ returns-in_err-save_entries-clause-unfit g c =
     let p = err_from_is_err_and c.from_residual-in_err-save_entries.result c.from_residual-in_err-save_entries.ensures.1 in
     let entries : Saving = record { name = c.args.texts.journal; text = journal_text c.args.wiring.now c.args.journal.now } in
     rw p.1
-    (λ room. no_room_still (S.capacity c.args.shelf.now) (S.capacity c.save_captures.new.shelf) (S.held c.save_captures.new.shelf) entries
+    (λ room. no_room_still (S.capacity c.args.shelf.now) (S.capacity c.save_captures.new.shelf) (S.moment c.save_captures.new.shelf).held entries
     c.in_ok-save_captures.ensures.capacity c.in_err-save_entries.ensures.unfit
     (room_behind _ _ _ _ _ c.in_ok-save_captures.ensures.ok room).0)
 
@@ -51,7 +51,7 @@ returns-clause-unfit g c =
     let told : Saving = record { name = c.args.texts.output; text = string_bytes c.args.texts.summary } in
     let unfit = rw c.deref.ensures at c.save_summary.ensures.unfit in
     on_err_weaker c.save_summary.result
-    (λ none room. no_room_still (S.capacity c.args.shelf.now) (S.capacity c.save_entries.new.shelf) (S.held c.save_entries.new.shelf) told
+    (λ none room. no_room_still (S.capacity c.args.shelf.now) (S.capacity c.save_entries.new.shelf) (S.moment c.save_entries.new.shelf).held told
     (c.in_ok-save_entries.ensures.capacity ∙ c.in_ok-save_captures.ensures.capacity) none
-    ((room_behind _ _ _ _ _ c.in_ok-save_captures.ensures.ok room).1 (S.held c.save_entries.new.shelf) c.in_ok-save_entries.ensures.ok).0)
+    ((room_behind _ _ _ _ _ c.in_ok-save_captures.ensures.ok room).1 (S.moment c.save_entries.new.shelf).held c.in_ok-save_entries.ensures.ok).0)
     unfit

@@ -1,5 +1,4 @@
-use Rattle.std.proofs.Common.{◌++◌, ap, sym, ◌∙◌}
-use Rattle.std.specs.String.{string_bytes}
+use Rattle.std.proofs.Common.{sym}
 use Rattle.pl_output.proofs.SummaryText.{summary_is}
 use Rattle.pl_output.proofs.summary.summary.Goals as goal
 
@@ -13,4 +12,4 @@ returns c =
     c.in_ok-text.ensures
     (c.in_ok-add_cause_lines.ensures _ _ tallied)
     (c.in_ok-add_host_lines.ensures _ tallied)
-    (c.in_ok-push_str.ensures.bytes ∙ ap (λ line. string_bytes c.add_host_lines.new.text ++ line) c.settled_line.ensures))
+    c.in_ok-add_last_lines.ensures)

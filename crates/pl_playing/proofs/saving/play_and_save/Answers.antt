@@ -2,7 +2,8 @@ use Rattle.std.proofs.Common.{List, length, refl, sym, ap, ◌∙◌, subst}
 use Rattle.std.proofs.lemmas.Result.{err_from_is_err_and}
 use Rattle.pl_inputs.specs.declared.capture.Capture.{Capture}
 use Rattle.pl_inputs.specs.Loaded.{inputs_of}
-use Rattle.pl_playing.specs.Outcomes.{Comes, ShelfMoment, texts_of}
+use Rattle.pl_playing.specs.Outcomes.{Comes, texts_of}
+use Rattle.pl_shelf.specs.Held.{ShelfMoment}
 use Rattle.pl_playing.specs.Plays.{IsPlayedTo, answer_of, played_over}
 use Rattle.pl_playing.proofs.Stopped.{unplayed_comes}
 use Rattle.pl_playing.specs.Prepared.{NamesNoFault}
@@ -21,7 +22,7 @@ save_played-requires-clause-many g c = ap (λ (cs : List Capture). length cs) c.
 pub returns-in_err-fabric-clause-comes : goal.returns-in_err-fabric-clause-comes
 returns-in_err-fabric-clause-comes g c =
     let D = g.D.Shelf in
-    let old : ShelfMoment = record { held = D.held c.args.shelf.now; read_faults = D.read_faults c.args.shelf.now; write_faults = D.write_faults c.args.shelf.now } in
+    let old : ShelfMoment = D.moment c.args.shelf.now in
     let i = inputs_of c.args.inputs in
     let texts = texts_of g.S.SwitchLogic.rule g.M.ManagerLogic.rule g.H.HostLogic.rule c.args.out.now i in
     let p = err_from_is_err_and c.from_residual.result c.from_residual.ensures.1 in

@@ -5,7 +5,7 @@ use Rattle.pl_output.specs.Saved.{AreSaved, BreaksOff}
 use Rattle.pl_output.specs.Texts.{AreTexts}
 use Rattle.pl_world.specs.Worlds.{WorldView}
 use Rattle.pl_output.specs.Room.{HaveRoom}
-use Rattle.pl_playing.specs.Outcomes.{ShelfMoment}
+use Rattle.pl_shelf.specs.Held.{ShelfMoment}
 use Rattle.pl_playing.specs.Plays.{played_over}
 use Rattle.pl_playing.proofs.Playing.{breaks_run, of_lent, saves_run}
 use Rattle.pl_playing.proofs.Preparing.{room_for_run}
@@ -14,12 +14,8 @@ use Rattle.pl_playing.proofs.saving.save_played.Goals as goal
 pub returns-in-Ok-clause-comes : goal.returns-in-Ok-clause-comes
 returns-in-Ok-clause-comes g c i to =
     let D = g.D.Shelf in
-    let old : ShelfMoment = record { held = D.held c.args.shelf.now; read_faults = D.read_faults c.args.shelf.now; write_faults = D.write_faults c.args.shelf.now } in
-    let new : ShelfMoment = record {
-      held = D.held c.save_all.new.shelf;
-      read_faults = D.read_faults c.save_all.new.shelf;
-      write_faults = D.write_faults c.save_all.new.shelf;
-    } in
+    let old : ShelfMoment = D.moment c.args.shelf.now in
+    let new : ShelfMoment = D.moment c.save_all.new.shelf in
     let world : WorldView = c.args.fabric.now.world in
     let out = c.args.out.now in
     let texts = c.in_ok-texts.texts in
@@ -35,12 +31,8 @@ returns-in-Ok-clause-comes g c i to =
 pub returns-in-Err-clause-comes : goal.returns-in-Err-clause-comes
 returns-in-Err-clause-comes g c i to =
     let D = g.D.Shelf in
-    let old : ShelfMoment = record { held = D.held c.args.shelf.now; read_faults = D.read_faults c.args.shelf.now; write_faults = D.write_faults c.args.shelf.now } in
-    let new : ShelfMoment = record {
-      held = D.held c.save_all.new.shelf;
-      read_faults = D.read_faults c.save_all.new.shelf;
-      write_faults = D.write_faults c.save_all.new.shelf;
-    } in
+    let old : ShelfMoment = D.moment c.args.shelf.now in
+    let new : ShelfMoment = D.moment c.save_all.new.shelf in
     let world : WorldView = c.args.fabric.now.world in
     let out = c.args.out.now in
     let texts = c.in_ok-texts.texts in
@@ -57,7 +49,7 @@ pub returns-in-Err-clause-prepared : goal.returns-in-Err-clause-prepared
 returns-in-Err-clause-prepared g c i to room =
     let D = g.D.Shelf in
     let capacity = D.capacity c.args.shelf.now in
-    let held = D.held c.args.shelf.now in
+    let held = (D.moment c.args.shelf.now).held in
     let world : WorldView = c.args.fabric.now.world in
     let out = c.args.out.now in
     let texts = c.in_ok-texts.texts in

@@ -9,7 +9,7 @@ pub returns-clause-prepared : goal.returns-clause-prepared
 returns-clause-prepared g c room =
     let S = g.S.Shelf in
     let capacity = S.capacity c.args.shelf.now in
-    let held = S.held c.args.shelf.now in
+    let held = (S.moment c.args.shelf.now).held in
     let told : Saving = record { name = standard_output; text = wiring_line c.args.wiring.now } in
     c.in-Err.ensures.unfit
     (subst (λ name. HasRoom capacity held (record { name = name; text = c.deref.result.now })) (sym c.in_ok-output.ensures)

@@ -1,5 +1,6 @@
 use Rattle.std.proofs.Common.{rules}
-use Rattle.pl_playing.specs.Outcomes.{ShelfMoment, records_of, run_limits}
+use Rattle.pl_playing.specs.Outcomes.{records_of, run_limits}
+use Rattle.pl_shelf.specs.Held.{ShelfMoment}
 use Rattle.pl_playing.specs.Plays.{answer_of}
 use Rattle.pl_run.specs.Answers.{Answers}
 use Rattle.pl_run.proofs.CompleteAnswers.{OneEnd}
@@ -10,12 +11,8 @@ use Rattle.pl_run.proofs.program.portland.Goals as goal
 pub returns-clause-complete : goal.returns-clause-complete
 returns-clause-complete g c asked is =
     let S = g.S.Shelf in
-    let old : ShelfMoment = record { held = S.held c.args.shelf.now; read_faults = S.read_faults c.args.shelf.now; write_faults = S.write_faults c.args.shelf.now } in
-    let new : ShelfMoment = record {
-      held = S.held c.perform.new.shelf;
-      read_faults = S.read_faults c.perform.new.shelf;
-      write_faults = S.write_faults c.perform.new.shelf;
-    } in
+    let old : ShelfMoment = S.moment c.args.shelf.now in
+    let new : ShelfMoment = S.moment c.perform.new.shelf in
     let one : OneEnd = λ i end other scene another plays also.
     (c.one_script_one_end.ensures i.plan run_limits (records_of i) i.lines end other scene another plays also).0 in
     let answers : Answers old new asked c.status_of.result = search rules in
@@ -24,10 +21,6 @@ returns-clause-complete g c asked is =
 pub returns-clause-faults : goal.returns-clause-faults
 returns-clause-faults g c =
     let S = g.S.Shelf in
-    let old : ShelfMoment = record { held = S.held c.args.shelf.now; read_faults = S.read_faults c.args.shelf.now; write_faults = S.write_faults c.args.shelf.now } in
-    let new : ShelfMoment = record {
-      held = S.held c.perform.new.shelf;
-      read_faults = S.read_faults c.perform.new.shelf;
-      write_faults = S.write_faults c.perform.new.shelf;
-    } in
+    let old : ShelfMoment = S.moment c.args.shelf.now in
+    let new : ShelfMoment = S.moment c.perform.new.shelf in
     rw c.status_of.ensures (task_tells old new _ (answer_of c.perform.result) c.perform.ensures.answers)

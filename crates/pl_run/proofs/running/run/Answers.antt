@@ -2,7 +2,7 @@ use Rattle.std.proofs.Common.{sym, subst}
 use Rattle.std.proofs.lemmas.Result.{err_from_is_err_and}
 use Rattle.pl_inputs.specs.Loaded.{inputs_of}
 use Rattle.pl_inputs.specs.Met.{asked}
-use Rattle.pl_playing.specs.Outcomes.{ShelfMoment}
+use Rattle.pl_shelf.specs.Held.{ShelfMoment}
 use Rattle.pl_playing.specs.Plays.{answer_of}
 use Rattle.pl_playing.specs.Prepared.{NamesNoFault}
 use Rattle.pl_run.proofs.Ending.{comes_since, run_answers}
@@ -13,17 +13,9 @@ use Rattle.pl_run.specs.Fabric.{texts_of}
 pub returns-clause-answers : goal.returns-clause-answers
 returns-clause-answers g c =
     let S = g.S.Shelf in
-    let old : ShelfMoment = record { held = S.held c.args.shelf.now; read_faults = S.read_faults c.args.shelf.now; write_faults = S.write_faults c.args.shelf.now } in
-    let mid : ShelfMoment = record {
-      held = S.held c.load_inputs.new.shelf;
-      read_faults = S.read_faults c.load_inputs.new.shelf;
-      write_faults = S.write_faults c.load_inputs.new.shelf;
-    } in
-    let new : ShelfMoment = record {
-      held = S.held c.play_and_save.new.shelf;
-      read_faults = S.read_faults c.play_and_save.new.shelf;
-      write_faults = S.write_faults c.play_and_save.new.shelf;
-    } in
+    let old : ShelfMoment = S.moment c.args.shelf.now in
+    let mid : ShelfMoment = S.moment c.load_inputs.new.shelf in
+    let new : ShelfMoment = S.moment c.play_and_save.new.shelf in
     let e = c.in_ok-inputs.ensures in
     let i = inputs_of c.in_ok-inputs.inputs in
     run_answers old new (asked c.args.files.now) i e.ok (answer_of c.play_and_save.result)
@@ -37,7 +29,7 @@ returns-in_err-inputs-clause-prepared g c is =
     let e = c.in_err-inputs.ensures in
     subst (λ r. NamesNoFault (answer_of r)) (sym p.1)
     (subst (λ e. NamesNoFault e) (sym p.2)
-    (unread_names_none (S.capacity c.args.shelf.now) (S.capacity c.load_inputs.new.shelf) (S.held c.args.shelf.now) (S.held c.load_inputs.new.shelf)
+    (unread_names_none (S.capacity c.args.shelf.now) (S.capacity c.load_inputs.new.shelf) (S.moment c.args.shelf.now).held (S.moment c.load_inputs.new.shelf).held
     (asked c.args.files.now) e.capacity e.same is _ e.err e.unpromised))
 
 pub returns-clause-prepared : goal.returns-clause-prepared
@@ -46,5 +38,5 @@ returns-clause-prepared g c is =
     let e = c.in_ok-inputs.ensures in
     let i = inputs_of c.in_ok-inputs.inputs in
     c.play_and_save.ensures.prepared
-    (room_since (S.capacity c.args.shelf.now) (S.capacity c.load_inputs.new.shelf) (S.held c.args.shelf.now) (S.held c.load_inputs.new.shelf) i
+    (room_since (S.capacity c.args.shelf.now) (S.capacity c.load_inputs.new.shelf) (S.moment c.args.shelf.now).held (S.moment c.load_inputs.new.shelf).held i
     (texts_of c.args.files.now.out.now i) e.capacity e.same (is.saves i e.ok))

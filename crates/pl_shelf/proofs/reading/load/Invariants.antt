@@ -7,10 +7,10 @@ abbrev pub invariant-loop-filled : goal.invariant-loop-filled
 invariant-loop-filled g l = record {
   filled : l.filled ≤ vec_len l.bytes;
   within : vec_len l.bytes ≤ l.limit + 1;
-  front : IsFront (g.S.Shelf.held l.fn.shelf l.name) (take l.filled l.bytes.items);
-  same : Same (g.S.Shelf.held l.fn.shelf) (g.S.Shelf.held l.shelf);
-  read_faults : g.S.Shelf.read_faults l.shelf ≡ g.S.Shelf.read_faults l.fn.shelf;
-  write_faults : g.S.Shelf.write_faults l.shelf ≡ g.S.Shelf.write_faults l.fn.shelf;
+  front : IsFront ((g.S.Shelf.moment l.fn.shelf).held l.name) (take l.filled l.bytes.items);
+  same : Same (g.S.Shelf.moment l.fn.shelf).held (g.S.Shelf.moment l.shelf).held;
+  read_faults : (g.S.Shelf.moment l.shelf).read_faults ≡ (g.S.Shelf.moment l.fn.shelf).read_faults;
+  write_faults : (g.S.Shelf.moment l.shelf).write_faults ≡ (g.S.Shelf.moment l.fn.shelf).write_faults;
   capacity : g.S.Shelf.capacity l.shelf ≡ g.S.Shelf.capacity l.fn.shelf;
 }
 

@@ -14,7 +14,7 @@ pub loop-rest-preserved : goal.loop-rest-preserved
 loop-rest-preserved g c =
     let changes = c.in_ok-n.ensures.ok in
     record {
-      written = subst (Written (g.S.Shelf.held c.args.shelf.now) (g.S.Shelf.held c.write.new.self) c.args.name.now c.args.bytes.now) (sym c.split_at.ensures.back)
+      written = subst (Written (g.S.Shelf.moment c.args.shelf.now).held (g.S.Shelf.moment c.write.new.self).held c.args.name.now c.args.bytes.now) (sym c.split_at.ensures.back)
           (written_more _ _ _ _ _ _ _ c.loop-rest.invariant.written changes);
       write_faults = c.in_ok-n.ensures.faults.ok ∙ c.loop-rest.invariant.write_faults;
       read_faults = c.in_ok-n.ensures.faults.other ∙ c.loop-rest.invariant.read_faults;

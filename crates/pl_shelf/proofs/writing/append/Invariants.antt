@@ -4,9 +4,9 @@ use Rattle.pl_shelf.proofs.writing.append.Given as goal
 
 abbrev pub invariant-loop-rest : goal.invariant-loop-rest
 invariant-loop-rest g l = record {
-  written : Written (g.S.Shelf.held l.fn.shelf) (g.S.Shelf.held l.shelf) l.name l.bytes l.rest;
-  write_faults : g.S.Shelf.write_faults l.shelf ≡ g.S.Shelf.write_faults l.fn.shelf;
-  read_faults : g.S.Shelf.read_faults l.shelf ≡ g.S.Shelf.read_faults l.fn.shelf;
+  written : Written (g.S.Shelf.moment l.fn.shelf).held (g.S.Shelf.moment l.shelf).held l.name l.bytes l.rest;
+  write_faults : (g.S.Shelf.moment l.shelf).write_faults ≡ (g.S.Shelf.moment l.fn.shelf).write_faults;
+  read_faults : (g.S.Shelf.moment l.shelf).read_faults ≡ (g.S.Shelf.moment l.fn.shelf).read_faults;
   capacity : g.S.Shelf.capacity l.shelf ≡ g.S.Shelf.capacity l.fn.shelf;
 }
 

@@ -12,7 +12,7 @@ returns-in_err-capture-clause-err g c =
     let l = c.loop-n in
     let hosts = c.hosts-host-items.result.now in
     let stands = slice_get_read hosts (length hosts) l.n c.host-item.result refl c.loop-n-test.true c.host-item.is in
-    let u = untaken (S.held c.args.shelf.now) (S.held l.shelf) c.args.folder.now hosts l.n (files_of l.captures.items) l.left c.host-item.result
+    let u = untaken (S.moment c.args.shelf.now).held (S.moment l.shelf).held c.args.folder.now hosts l.n (files_of l.captures.items) l.left c.host-item.result
     l.invariant.gathers stands c.in_err-capture.field-0.0 c.in_err-capture.ensures.err in
     search rules
 
@@ -24,7 +24,7 @@ loop-n-preserved g c =
     let hosts = c.hosts-host-items.result.now in
     let file = c.in_ok-capture.capture.bytes.items in
     let stands = slice_get_read hosts (length hosts) l.n c.host-item.result refl c.loop-n-test.true c.host-item.is in
-    let next = gathers_on (S.held c.args.shelf.now) (S.held l.shelf) (S.held c.load_capture.new.shelf) c.args.folder.now hosts l.n (files_of l.captures.items) l.left
+    let next = gathers_on (S.moment c.args.shelf.now).held (S.moment l.shelf).held (S.moment c.load_capture.new.shelf).held c.args.folder.now hosts l.n (files_of l.captures.items) l.left
     c.host-item.result file l.invariant.gathers c.in_ok-capture.ensures.same stands c.in_ok-capture.ensures.ok
     ((c.in_ok-capture.capture.records.items, c.in_ok-capture.capture.tail), c.in_ok-capture.capture.read) c.in_ok-capture.ensures.limit in
     let files = ap files_of c.in_ok-push.ensures.items ∙ map-append (λ x. x.bytes.items) l.captures.items (c.in_ok-capture.capture ∷ []) in

@@ -13,14 +13,14 @@ returns-in_err-append-clause-err g c =
 
 pub returns-clause-ok : goal.returns-clause-ok
 returns-clause-ok g c =
-    let old = g.S.Shelf.held c.args.shelf.now in
+    let old = (g.S.Shelf.moment c.args.shelf.now).held in
     let head = rw c.write_record_head.ensures at c.in_ok-append.ensures.ok in
     on_ok_weaker c.append-2.result (Changes-appended old _ _ c.args.name.now (old c.args.name.now)
     (saved_head c.args.receipt.seconds c.args.receipt.micros (length c.args.frame.now)) c.args.frame.now head) c.append-2.ensures.ok
 
 pub returns-clause-err : goal.returns-clause-err
 returns-clause-err g c =
-    let old = g.S.Shelf.held c.args.shelf.now in
+    let old = (g.S.Shelf.moment c.args.shelf.now).held in
     let head = rw c.write_record_head.ensures at c.in_ok-append.ensures.ok in
     on_err_weaker c.append-2.result (cut_behind old _ _ c.args.name.now (old c.args.name.now)
     (saved_head c.args.receipt.seconds c.args.receipt.micros (length c.args.frame.now)) c.args.frame.now head) c.append-2.ensures.err

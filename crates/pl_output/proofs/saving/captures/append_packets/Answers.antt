@@ -12,7 +12,7 @@ returns-in_err-append_packet-clause-err g c =
     let d : Receipt = record { seconds = 0; micros = 0; entry = 0 } in
     let cut = rw c.frame_at.ensures.frame at c.in_err-append_packet.ensures.err in
     rw p.1
-    (records_cut_off (g.S.Shelf.held c.args.shelf.now) (g.S.Shelf.held c.loop-receipt.shelf) _ c.args.name.now c.args.journal.now receipts i d (omega arith)
+    (records_cut_off (g.S.Shelf.moment c.args.shelf.now).held (g.S.Shelf.moment c.loop-receipt.shelf).held _ c.args.name.now c.args.journal.now receipts i d (omega arith)
     c.loop-receipt.invariant.written cut)
 
 pub loop-receipt-preserved : goal.loop-receipt-preserved
@@ -22,7 +22,7 @@ loop-receipt-preserved g c =
     let d : Receipt = record { seconds = 0; micros = 0; entry = 0 } in
     let changes = rw c.frame_at.ensures.frame at c.in_ok-append_packet.ensures.ok in
     record {
-      written = records_written (g.S.Shelf.held c.args.shelf.now) (g.S.Shelf.held c.loop-receipt.shelf) _ c.args.name.now c.args.journal.now receipts i d (omega arith)
+      written = records_written (g.S.Shelf.moment c.args.shelf.now).held (g.S.Shelf.moment c.loop-receipt.shelf).held _ c.args.name.now c.args.journal.now receipts i d (omega arith)
           c.loop-receipt.invariant.written changes;
       write_faults = c.in_ok-append_packet.ensures.faults.ok ∙ c.loop-receipt.invariant.write_faults;
       read_faults = c.in_ok-append_packet.ensures.faults.other ∙ c.loop-receipt.invariant.read_faults;

@@ -8,10 +8,10 @@ use Rattle.pl_output.proofs.saving.captures.append_packets.Given as goal
 
 abbrev pub invariant-loop-receipt : goal.invariant-loop-receipt
 invariant-loop-receipt g l = record {
-  written : Written (g.S.Shelf.held l.fn.shelf) (g.S.Shelf.held l.shelf) l.name
+  written : Written (g.S.Shelf.moment l.fn.shelf).held (g.S.Shelf.moment l.shelf).held l.name
       (flat_map (packet_bytes Little) (packets_at l.journal l.receipts))
       (flat_map (packet_bytes Little) (packets_at l.journal (drop l.receipt-index l.receipts)));
-  write_faults : g.S.Shelf.write_faults l.shelf ≡ g.S.Shelf.write_faults l.fn.shelf;
-  read_faults : g.S.Shelf.read_faults l.shelf ≡ g.S.Shelf.read_faults l.fn.shelf;
+  write_faults : (g.S.Shelf.moment l.shelf).write_faults ≡ (g.S.Shelf.moment l.fn.shelf).write_faults;
+  read_faults : (g.S.Shelf.moment l.shelf).read_faults ≡ (g.S.Shelf.moment l.fn.shelf).read_faults;
   capacity : g.S.Shelf.capacity l.shelf ≡ g.S.Shelf.capacity l.fn.shelf;
 }

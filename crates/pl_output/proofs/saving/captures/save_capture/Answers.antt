@@ -21,7 +21,7 @@ returns-in_err-save-clause-err g c =
 
 pub returns-clause-ok : goal.returns-clause-ok
 returns-clause-ok g c =
-    let old = g.S.Shelf.held c.args.shelf.now in
+    let old = (g.S.Shelf.moment c.args.shelf.now).held in
     let name = c.args.name.now in
     let head = rw c.write_header.ensures at c.in_ok-save.ensures.ok in
     on_ok_weaker c.append_packets.result (Changes-appended old _ _ name (created name (old name)) saved_header
@@ -29,7 +29,7 @@ returns-clause-ok g c =
 
 pub returns-clause-err : goal.returns-clause-err
 returns-clause-err g c =
-    let old = g.S.Shelf.held c.args.shelf.now in
+    let old = (g.S.Shelf.moment c.args.shelf.now).held in
     let name = c.args.name.now in
     let head = rw c.write_header.ensures at c.in_ok-save.ensures.ok in
     on_err_weaker c.append_packets.result (λ cut. inr (cut_behind old _ _ name (created name (old name)) saved_header
@@ -44,7 +44,7 @@ returns-in_err-save-clause-unfit g c =
 pub returns-clause-unfit : goal.returns-clause-unfit
 returns-clause-unfit g c =
     let S = g.S.Shelf in
-    let old = S.held c.args.shelf.now in
+    let old = (S.moment c.args.shelf.now).held in
     let name = c.args.name.now in
     let head = rw c.write_header.ensures at c.in_ok-save.ensures.ok in
     let records = flat_map (packet_bytes Little) (packets_at c.args.journal.now c.args.receipts.now) in

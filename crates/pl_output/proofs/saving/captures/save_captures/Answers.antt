@@ -15,6 +15,6 @@ returns-in_err-save_inbox-clause-unfit g c =
     rw p.1
     (λ room.
     let left = l.invariant.room
-    (subst (λ xs. HaveRoomInTurn capacity (S.held c.args.shelf.now) (map (capture_in journal) xs)) (sym c.into_iter-inbox-iterator.ensures.into_iter_gives.0) room) in
-    let next = subst (λ xs. HaveRoomInTurn capacity (S.held l.shelf) (map (capture_in journal) xs)) c.in-Some.ensures.steps.0 left in
-    no_room_still capacity (S.capacity l.shelf) (S.held l.shelf) (capture_in journal c.in-Some.inbox) l.invariant.capacity c.in_err-save_inbox.ensures.unfit next.0)
+    (subst (λ xs. HaveRoomInTurn capacity (S.moment c.args.shelf.now).held (map (capture_in journal) xs)) (sym c.into_iter-inbox-iterator.ensures.into_iter_gives.0) room) in
+    let next = subst (λ xs. HaveRoomInTurn capacity (S.moment l.shelf).held (map (capture_in journal) xs)) c.in-Some.ensures.steps.0 left in
+    no_room_still capacity (S.capacity l.shelf) (S.moment l.shelf).held (capture_in journal c.in-Some.inbox) l.invariant.capacity c.in_err-save_inbox.ensures.unfit next.0)

@@ -9,15 +9,15 @@ use Rattle.pl_output.proofs.saving.captures.save_captures.Given as goal
 abbrev pub invariant-loop-inbox : goal.invariant-loop-inbox
 invariant-loop-inbox g l = record {
   saved : (new : List ℕ → Held) →
-      SavedInTurn (g.S.Shelf.held l.shelf) (map (capture_in l.journal) (into_iter_items l.inbox-iterator)) new →
-      SavedInTurn (g.S.Shelf.held l.fn.shelf) (map (capture_in l.journal) (into_iter_items l.initial.inbox-iterator)) new;
+      SavedInTurn (g.S.Shelf.moment l.shelf).held (map (capture_in l.journal) (into_iter_items l.inbox-iterator)) new →
+      SavedInTurn (g.S.Shelf.moment l.fn.shelf).held (map (capture_in l.journal) (into_iter_items l.initial.inbox-iterator)) new;
   broken : (name : List ℕ) (new : List ℕ → Held) →
-      BreaksInTurn (g.S.Shelf.held l.shelf) (map (capture_in l.journal) (into_iter_items l.inbox-iterator)) name new →
-      BreaksInTurn (g.S.Shelf.held l.fn.shelf) (map (capture_in l.journal) (into_iter_items l.initial.inbox-iterator)) name new;
-  write_faults : g.S.Shelf.write_faults l.shelf ≡ g.S.Shelf.write_faults l.fn.shelf;
-  read_faults : g.S.Shelf.read_faults l.shelf ≡ g.S.Shelf.read_faults l.fn.shelf;
+      BreaksInTurn (g.S.Shelf.moment l.shelf).held (map (capture_in l.journal) (into_iter_items l.inbox-iterator)) name new →
+      BreaksInTurn (g.S.Shelf.moment l.fn.shelf).held (map (capture_in l.journal) (into_iter_items l.initial.inbox-iterator)) name new;
+  write_faults : (g.S.Shelf.moment l.shelf).write_faults ≡ (g.S.Shelf.moment l.fn.shelf).write_faults;
+  read_faults : (g.S.Shelf.moment l.shelf).read_faults ≡ (g.S.Shelf.moment l.fn.shelf).read_faults;
   capacity : g.S.Shelf.capacity l.shelf ≡ g.S.Shelf.capacity l.fn.shelf;
-  room : HaveRoomInTurn (g.S.Shelf.capacity l.fn.shelf) (g.S.Shelf.held l.fn.shelf) (map (capture_in l.journal) (into_iter_items l.initial.inbox-iterator)) →
-      HaveRoomInTurn (g.S.Shelf.capacity l.fn.shelf) (g.S.Shelf.held l.shelf) (map (capture_in l.journal) (into_iter_items l.inbox-iterator));
+  room : HaveRoomInTurn (g.S.Shelf.capacity l.fn.shelf) (g.S.Shelf.moment l.fn.shelf).held (map (capture_in l.journal) (into_iter_items l.initial.inbox-iterator)) →
+      HaveRoomInTurn (g.S.Shelf.capacity l.fn.shelf) (g.S.Shelf.moment l.shelf).held (map (capture_in l.journal) (into_iter_items l.inbox-iterator));
   long : into_iter_len l.inbox-iterator ≡ length (into_iter_items l.inbox-iterator);
 }

@@ -5,9 +5,9 @@ use Rattle.pl_output.proofs.printing.piece.Piece.print.Given as goal
 -- what the piece holds and the rest are still to be sent
 abbrev pub invariant-loop-rest : goal.invariant-loop-rest
 invariant-loop-rest g l = record {
-  printed : IsPrinted (g.S.Shelf.held l.fn.shelf) (g.S.Shelf.held l.shelf) l.name l.fn.self (l.self ++ l.rest) l.text;
-  write_faults : g.S.Shelf.write_faults l.shelf ≡ g.S.Shelf.write_faults l.fn.shelf;
-  read_faults : g.S.Shelf.read_faults l.shelf ≡ g.S.Shelf.read_faults l.fn.shelf;
+  printed : IsPrinted (g.S.Shelf.moment l.fn.shelf).held (g.S.Shelf.moment l.shelf).held l.name l.fn.self (l.self ++ l.rest) l.text;
+  write_faults : (g.S.Shelf.moment l.shelf).write_faults ≡ (g.S.Shelf.moment l.fn.shelf).write_faults;
+  read_faults : (g.S.Shelf.moment l.shelf).read_faults ≡ (g.S.Shelf.moment l.fn.shelf).read_faults;
   capacity : g.S.Shelf.capacity l.shelf ≡ g.S.Shelf.capacity l.fn.shelf;
 }
 

@@ -31,6 +31,6 @@ loop-field-preserved g c =
 
 pub returns-clause-ok : goal.returns-clause-ok
 returns-clause-ok g c =
-    subst (IsPrinted (g.S.Shelf.held c.args.shelf.now) (g.S.Shelf.held c.loop-field.shelf) c.args.name.now c.args.self.now c.loop-field.self)
+    subst (IsPrinted (g.S.Shelf.moment c.args.shelf.now).held (g.S.Shelf.moment c.loop-field.shelf).held c.args.name.now c.args.self.now c.loop-field.self)
     (all_printed c.args.words.now.word.now c.args.words.now.fields c.loop-field.field-index (omega (arith, ap length c.as_slice-field-items.ensures)))
     c.loop-field.invariant.printed

@@ -1,0 +1,9 @@
+use Rattle.pl_manager_rule.proofs.Exports.{avoid_lists_alike}
+use Rattle.pl_manager_rule.specs.ManagerRule.{same_avoid_list}
+use Rattle.pl_node.proofs.Exports.{same_test}
+use Rattle.pl_faults.proofs.lists.is_same.Goals as goal
+
+pub returns : goal.returns
+returns c =
+    let alike = avoid_lists_alike c.args.a.now c.args.b.now in
+    same_test c.is.result (same_avoid_list c.args.a.now c.args.b.now) (λ h. alike.1 (c.is.ensures.0 h)) (λ h. c.is.ensures.1 (alike.0 h))

@@ -1,0 +1,231 @@
+-- The turns of switches, hosts and the manager keep addresses in order.
+use Rattle.std.proofs.Common.{◌≡◌, if◌then◌else◌, ◌≢◌, ◌<◌, ◌≤◌, ◌+◌, ℕ, zero, suc, set, List, [], ◌∷◌, ◌++◌, length, Option, Some, None, slice_get, refl, sym, ap, subst, ◌∙◌, inl, inr, arith}
+use Rattle.std.specs.List.{AllByRecursion}
+use Rattle.std.proofs.lemmas.Bool.{cases_eq, cases_lt}
+use Rattle.std.proofs.lemmas.List.{get_or_past}
+use Rattle.std.proofs.lemmas.Option.{none-some, same_Some, slice_get_within}
+use Rattle.pl_lemmas.proofs.Exports.{all_found}
+use Rattle.pl_pmac.specs.declared.pmac.Pmac.{Pmac}
+use Rattle.pl_layouts.specs.Equality.{same_pmac}
+use Rattle.pl_world.specs.Changes.{host_of}
+use Rattle.pl_wiring.specs.Plan.{IsPlan, Plan}
+use Rattle.pl_node.specs.declared.acts.Act.{Act}
+use Rattle.pl_node.specs.declared.acts.Act.TheVariants as act
+use Rattle.pl_node.specs.declared.acts.ManagerAct.{ManagerAct}
+use Rattle.pl_node.specs.declared.messages.ToManager.{ToManager}
+use Rattle.pl_node.specs.declared.messages.ToSwitch.{ToSwitch}
+use Rattle.pl_node.specs.HostDuties.{HoldsData, HostsSendData, HostsSendOwn}
+use Rattle.pl_node.specs.HostInputs.{HostAnswer, HostInput, HostRule}
+use Rattle.pl_node.specs.ManagerViews.{ManagerView}
+use Rattle.pl_node.specs.SwitchInputs.{SwitchInput}
+use Rattle.pl_node.specs.SwitchViews.{SwitchView}
+use Rattle.pl_layouts.specs.declared.place.Place.{Place}
+use Rattle.pl_manager_rule.specs.Histories.{known}
+use Rattle.pl_manager_rule.specs.ManagerRule.{manager_hears, manager_rule}
+use Rattle.pl_queues.specs.Queues.{items_at}
+use Rattle.pl_switch_rule.specs.Forwarding.{Choice}
+use Rattle.pl_switch_rule.specs.Granting.{granted}
+use Rattle.pl_switch_rule.specs.SwitchRule.{Loose, switch_step}
+use Rattle.pl_switch_rule.proofs.Exports.{granted_parts}
+use Rattle.pl_world.specs.declared.spoken_frame.SpokenFrame.{SpokenFrame}
+use Rattle.pl_world.specs.WorldRule.{DeliversToManager, HostTurn, ManagerTurn, SwitchTurn}
+use Rattle.pl_world.specs.Worlds.{WorldView}
+use Rattle.pl_law_addresses.specs.OwnAddresses.{own_ip}
+use Rattle.pl_law_addresses.specs.OwnFrames.{AreOwnHosts}
+use Rattle.pl_law_addresses.specs.Registries.{registry_of}
+use Rattle.pl_law_addresses.specs.EdgeAddresses.{IsGrantedTo, KeepsGrantees, is_settled}
+use Rattle.pl_law_addresses.specs.GrantedOnce.{HasGranted, IsOnce, times_granted}
+use Rattle.pl_law_addresses.specs.Addressed.{AreAddressed, AreApart, StayGranted}
+use Rattle.pl_law_addresses.proofs.Learning.{heard_addressed}
+use Rattle.pl_law_addresses.proofs.OwnHosts.{host_step_own}
+use Rattle.pl_law_addresses.proofs.Placing.{IsUnknown}
+use Rattle.pl_law_addresses.proofs.RowsLeaveAddresses.{Good, Grows, IsGrantedThen, grant_acts, some_grant, told_by}
+use Rattle.pl_law_addresses.proofs.SaidByManager.{all_said, said_parts}
+use Rattle.pl_law_addresses.proofs.Stepped.{switch_addressed, unknown_there}
+use Rattle.pl_law_addresses.proofs.SwitchSteps.{Brings}
+use Rattle.pl_law_addresses.proofs.AddressLemmas.{get-set_other, get-set_same}
+use Rattle.pl_law_addresses.proofs.TurnQueues.{Parts, all_put, granted_more, host_parts, items_sent, parts_of, put_here, put_there, stepped_parts, times_after}
+
+-- how much more often an address is granted
+more_bounds : (plan : Plan) (x : Pmac) (t : Pmac → ℕ) (acts : List Act) → (t x ≤ times_after plan t acts x) × (times_after plan t acts x ≤ t x + grant_acts x acts)
+more_bounds plan x t [] = (omega arith, omega arith)
+more_bounds plan x t (act.Grant y mac ∷ acts) = by (host_of plan mac) (λ o. more_bounds plan x (granted_more t y o) acts)
+  where
+    by : (o : Option ℕ) → ((q : Option ℕ) → (granted_more t y q x ≤ times_after plan (granted_more t y q) acts x) × (times_after plan (granted_more t y q) acts x ≤ granted_more t y q x + grant_acts x acts)) →
+        (t x ≤ times_after plan (granted_more t y o) acts x) × (times_after plan (granted_more t y o) acts x ≤ t x + ((if same_pmac y x then 1 else 0) + grant_acts x acts))
+    by None rest = let two = rest None in let low = two.0 in let high = two.1 in (low, omega (arith, high))
+    by (Some h) rest = let two = rest (Some h) in let low = two.0 in let high = two.1 in (omega (arith, low), omega (arith, high))
+more_bounds plan x t (a ∷ acts) = more_bounds plan x t acts
+
+-- it was not granted before where a switch grants it now, and is granted then
+once_then : (switches : List SwitchView) (s : ℕ) (v after : SwitchView) (x : Pmac) (before now more : ℕ) → slice_get switches s ≡ Some v → AreApart (set switches s after) →
+    KeepsGrantees (λ y. granted v y) (λ y. granted after y) → before ≤ now → now ≤ before + more → more ≤ 1 → (1 ≤ more → IsGrantedThen v after x) →
+    IsOnce switches before x → IsOnce (set switches s after) now x
+once_then switches s v after x before now more found apart stays low high few grants old = elim (cases_lt 0 more) [
+  | inr none ↦
+      let same : now ≡ before = omega (arith, low, high, none) in
+      elim old [ inl never_yet ↦ inl (same ∙ never_yet) | inr one ↦ inr (same ∙ one.0, still one.1) ]
+  | inl some ↦
+      let it = grants (omega (arith, some)) in
+      elim old [
+        | inr one ↦ absurd (never it one.1)
+        | inl never_yet ↦ elim (cases_lt 0 now) [
+          | inr nothing ↦ inl (omega (arith, nothing))
+          | inl once ↦
+              inr (
+                omega (arith, once, high, few, never_yet),
+                record { switch = s; view = after; mac = it.mac; found = get-set_same switches s after (slice_get_within switches s v found); granted_to = it.granted_to },
+              )
+        ]
+      ]
+]
+  where
+    is_v : (h : HasGranted switches x) → h.switch ≡ s → h.view ≡ v
+    is_v h same = same_Some h.view v (sym h.found ∙ ap (slice_get switches) same ∙ found)
+
+    still : HasGranted switches x → HasGranted (set switches s after) x
+    still h = elim (cases_eq h.switch s) [
+      | inr other ↦ record { switch = h.switch; view = h.view; mac = h.mac; found = get-set_other switches s h.switch after other ∙ h.found; granted_to = h.granted_to }
+      | inl same ↦ record {
+        switch = s;
+        view = after;
+        mac = h.mac;
+        found = get-set_same switches s after (slice_get_within switches s v found);
+        granted_to = stays x h.mac (subst (λ (u : SwitchView). IsGrantedTo (λ y. granted u y) x h.mac) (is_v h same) h.granted_to);
+      }
+    ]
+
+    never : IsGrantedThen v after x → HasGranted switches x → ⊥
+    never it h = elim (cases_eq h.switch s) [
+      | inl same ↦
+          let was = subst (λ (u : SwitchView). IsGrantedTo (λ y. granted u y) x h.mac) (is_v h same) h.granted_to in
+          none-some was.grant (sym it.none ∙ was.found)
+      | inr other ↦
+          other (apart h.switch s h.view after x (get-set_other switches s h.switch after other ∙ h.found)
+          (get-set_same switches s after (slice_get_within switches s v found)) (granted_parts h.view x h.granted_to.grant h.granted_to.found).0
+          (granted_parts after x it.granted_to.grant it.granted_to.found).0)
+    ]
+
+-- addresses are in order, and hosts send frames of their own
+pub record InOrder (before : List SwitchView) (p : Parts) : Type 0 where
+  pub addressed : AreAddressed p.plan p.manager p.switches p.up p.down
+  pub own : AreOwnHosts p.plan p.hosts p.from_hosts
+  -- and what was granted before is still granted
+  pub since : StayGranted before p.switches
+  -- no address was granted twice
+  pub once : (x : Pmac) → IsOnce p.switches (p.times x) x
+
+-- ---- lists
+pub exists_at : {X : Type 0} (xs : List X) (i : ℕ) → i < length xs → (x : X) × (slice_get xs i ≡ Some x)
+exists_at [] i h = absurd (omega (arith, h))
+exists_at (x ∷ xs) zero h = (x, refl)
+exists_at (x ∷ xs) (suc i) h = exists_at xs i (omega (arith, h))
+
+pub filled_within : {X : Type 0} (queues : List (List X)) (i : ℕ) (x : X) (xs : List X) → items_at queues i ≡ x ∷ xs → i < length queues
+filled_within queues i x xs is = elim (cases_lt i (length queues)) [
+  | inl less ↦ less
+  | inr past ↦
+      let none : length (items_at queues i) ≡ 0 = ap (λ ys. length ys) (get_or_past queues i [] past) in
+      let some : length (items_at queues i) ≡ suc (length xs) = ap (λ ys. length ys) is in
+      absurd (omega (arith, none, some))
+]
+
+module _ (first : List SwitchView) where
+  -- ---- a switch
+  pub switch_turn : (w : WorldView) (s : ℕ) (input : SwitchInput) (speech : SpokenFrame) (new : WorldView) (down : List (List ToSwitch)) →
+      InOrder first (record (parts_of w) { down = down }) → ((t : ℕ) → t ≢ s → items_at w.from_manager t ≡ items_at down t) → length w.to_manager ≡ length w.switches →
+      AreApart new.switches →
+      ((v : SwitchView) → slice_get w.switches s ≡ Some v → (choose : Choice) →
+      Brings (λ mac. own_ip w.plan mac) (registry_of w.manager.learnt) (slice_get w.plan.ids s) choose (items_at down s) (items_at w.from_manager s) v (switch_step choose v input)) →
+      SwitchTurn Loose w s input speech new → InOrder first (parts_of new)
+  switch_turn w s input speech new down o there many apart brings turn =
+      let step = switch_step turn.ruled.choose turn.before input in
+      let b = brings turn.before turn.found turn.ruled.choose in
+      let after : turn.after ≡ step.view = turn.ruled.steps.view in
+      let acts : turn.acts ≡ step.acts = turn.ruled.steps.done in
+      let parts : parts_of new ≡ record (parts_of w) { switches = set w.switches s turn.after; up = all_put s w.to_manager (told_by turn.acts); times = times_after w.plan (λ x. times_granted x w.journal) turn.acts } =
+      ap parts_of turn.changed ∙ stepped_parts w s turn.before turn.after speech turn.acts in
+      let switches : AreApart (set w.switches s turn.after) = subst (λ (p : Parts). AreApart p.switches) parts apart in
+      let within : s < length w.to_manager = subst (λ n. s < n) (sym many) (slice_get_within w.switches s turn.before turn.found) in
+      let unknown : IsUnknown (registry_of w.manager.learnt) turn.before step.view.place =
+      subst (λ (v : SwitchView). IsUnknown (registry_of w.manager.learnt) turn.before v.place) after
+      (unknown_there w.plan w.manager w.switches w.to_manager down o.addressed s turn.before turn.after turn.found switches) in
+      let ready : Good (λ mac. own_ip w.plan mac) (registry_of w.manager.learnt) (slice_get w.plan.ids s) (items_at down s) turn.before (items_at w.to_manager s) = record { edge = o.addressed.edges s turn.before turn.found; address_table = o.addressed.address_tables s turn.before turn.found } in
+      let grown : Grows turn.before step = b.grows (items_at w.to_manager s) unknown ready in
+      subst (λ (p : Parts). InOrder first p) (sym parts) (record {
+        addressed = switch_addressed w.plan w.manager w.switches w.to_manager down o.addressed s turn.before turn.after turn.found switches
+            (all_put s w.to_manager (told_by turn.acts)) w.from_manager (items_at w.to_manager s ++ told_by turn.acts) (items_at w.from_manager s)
+            (record { here = put_here s w.to_manager (told_by turn.acts) within; there = put_there s w.to_manager (told_by turn.acts) })
+            (record { here = refl; there = there })
+            (λ good.
+            subst (λ (v : SwitchView). Good (λ mac. own_ip w.plan mac) (registry_of w.manager.learnt) (slice_get w.plan.ids s) (items_at w.from_manager s) v
+            (items_at w.to_manager s ++ told_by turn.acts)) (sym after)
+            (subst (λ (xs : List Act). Good (λ mac. own_ip w.plan mac) (registry_of w.manager.learnt) (slice_get w.plan.ids s) (items_at w.from_manager s) step.view
+            (items_at w.to_manager s ++ told_by xs)) (sym acts) (b.good unknown (items_at w.to_manager s) good)))
+            (λ good settled. ap (λ (v : SwitchView). v.place) after ∙ b.place (items_at w.to_manager s) good settled);
+        own = o.own;
+        once = λ x.
+            let bounds = more_bounds w.plan x (λ y. times_granted y w.journal) turn.acts in
+            let count : grant_acts x turn.acts ≡ grant_acts x step.acts = ap (λ xs. grant_acts x xs) acts in
+            let few = grown.once x in
+            once_then w.switches s turn.before turn.after x (times_granted x w.journal) (times_after w.plan (λ y. times_granted y w.journal) turn.acts x) (grant_acts x turn.acts)
+            turn.found switches
+            (λ y mac h. subst (λ (u : SwitchView). IsGrantedTo (λ z. granted u z) y mac) (sym after) (grown.stays y mac h)) bounds.0 bounds.1 (omega (arith, count, few))
+            (λ some. subst (λ (u : SwitchView). IsGrantedThen turn.before u x) (sym after) (some_grant turn.before step.view x step.acts grown.fresh (omega (arith, count, some))))
+            (o.once x);
+        since = λ t v is. let still = o.since t v is in elim (cases_eq t s) [
+          | inr other ↦ record { view = still.view; found = get-set_other w.switches s t turn.after other ∙ still.found; keeps = still.keeps; place = still.place }
+          | inl same ↦
+              let view : still.view ≡ turn.before = same_Some still.view turn.before (sym still.found ∙ ap (slice_get w.switches) same ∙ turn.found) in
+              record {
+                view = turn.after;
+                found = ap (slice_get (set w.switches s turn.after)) same ∙ get-set_same w.switches s turn.after (slice_get_within w.switches s turn.before turn.found);
+                keeps = λ x mac h.
+                    subst (λ (u : SwitchView). IsGrantedTo (λ y. granted u y) x mac) (sym after)
+                    (grown.stays x mac (subst (λ (u : SwitchView). IsGrantedTo (λ y. granted u y) x mac) view (still.keeps x mac h)));
+                place = λ settled.
+                    let p : turn.before.place ≡ v.place = ap (λ (u : SwitchView). u.place) (sym view) ∙ still.place settled in
+                    ap (λ (u : SwitchView). u.place) after ∙ b.place (items_at w.to_manager s) ready (ap (λ (q : Place). is_settled q) p ∙ settled) ∙ p;
+              }
+        ];
+      })
+
+  -- ---- a host
+  pub host_turn : (rule : HostRule) → HostsSendData rule → HostsSendOwn rule → (w : WorldView) (h : ℕ) (input : HostInput) (answer : HostAnswer) (new : WorldView) →
+      InOrder first (parts_of w) → AllByRecursion HoldsData w.hosts → length w.from_hosts ≡ length w.hosts → HostTurn rule w h input answer new → InOrder first (parts_of new)
+  host_turn rule sends owns w h input answer new o holding many turn =
+      let parts : parts_of new ≡ record (parts_of w) { hosts = set w.hosts h turn.after; from_hosts = all_put h w.from_hosts (items_sent w.begun turn.acts) } =
+      ap parts_of turn.changed ∙ host_parts h (record w { hosts = set w.hosts h turn.after }) turn.acts in
+      let within : h < length w.from_hosts = subst (λ n. h < n) (sym many) (slice_get_within w.hosts h turn.before turn.found) in
+      subst (λ (p : Parts). InOrder first p) (sym parts) (record {
+        addressed = o.addressed;
+        own = host_step_own rule sends owns w.plan w.hosts w.from_hosts h w.begun turn.before turn.after input turn.acts answer turn.found
+            (all_found HoldsData w.hosts h turn.before holding turn.found) within turn.ruled o.own;
+        since = o.since;
+        once = o.once;
+      })
+
+  -- ---- the manager
+  module _ (w : WorldView) (is_plan : IsPlan w.plan) (o : InOrder first (parts_of w)) (ups : length w.to_manager ≡ length w.switches) (ids : length w.switches ≡ length w.plan.ids)
+      (downs : length w.from_manager ≡ length w.plan.ids) (apart : AreApart w.switches) where
+    manager_turn : (s : ℕ) (told : ToManager) (items : List ToManager) (new : WorldView) → items_at w.to_manager s ≡ told ∷ items →
+        ManagerTurn manager_rule (record w { to_manager = set w.to_manager s items }) s told new → InOrder first (parts_of new)
+    manager_turn s told items new head turn =
+        let tale = o.addressed.told in
+        let sender = exists_at w.switches s (subst (λ n. s < n) (sym ids) (slice_get_within w.plan.ids s turn.id turn.found)) in
+        let before : AreAddressed w.plan (known w.plan.k tale.words) w.switches w.to_manager w.from_manager =
+        subst (λ (m : ManagerView). AreAddressed w.plan m w.switches w.to_manager w.from_manager) tale.knows o.addressed in
+        let heard = heard_addressed w.plan is_plan tale.words w.switches w.to_manager w.from_manager before downs apart s turn.id turn.found sender.0 sender.1 items
+        (filled_within w.to_manager s told items head) told head in
+        let view : turn.after ≡ (manager_hears (known w.plan.k tale.words) turn.id told).view = turn.ruled.0 ∙ ap (λ (m : ManagerView). (manager_hears m turn.id told).view) tale.knows in
+        let acts : turn.acts ≡ (manager_hears (known w.plan.k tale.words) turn.id told).acts = turn.ruled.1 ∙ ap (λ (m : ManagerView). (manager_hears m turn.id told).acts) tale.knows in
+        let parts : parts_of new ≡ record (parts_of w) { manager = turn.after; up = set w.to_manager s items; down = all_said w.plan w.from_manager turn.acts } =
+        ap parts_of turn.changed ∙ said_parts (record w { to_manager = set w.to_manager s items; manager = turn.after }) turn.acts in
+        let goal : AreAddressed w.plan turn.after w.switches (set w.to_manager s items) (all_said w.plan w.from_manager turn.acts) =
+        subst (λ (m : ManagerView). AreAddressed w.plan m w.switches (set w.to_manager s items) (all_said w.plan w.from_manager turn.acts)) (sym view)
+        (subst (λ (xs : List ManagerAct). AreAddressed w.plan (manager_hears (known w.plan.k tale.words) turn.id told).view w.switches (set w.to_manager s items) (all_said w.plan w.from_manager xs)) (sym acts) heard) in
+        subst (λ (p : Parts). InOrder first p) (sym parts) (record { addressed = goal; own = o.own; since = o.since; once = o.once })
+
+    pub delivers_to_manager : (s : ℕ) (items : List ToManager) (new : WorldView) → items_at w.to_manager s ≡ items → DeliversToManager manager_rule w s items new → InOrder first (parts_of new)
+    delivers_to_manager s [] new is turn = absurd turn
+    delivers_to_manager s (told ∷ items) new is turn = manager_turn s told items new is turn

@@ -1,0 +1,150 @@
+ghost use Rattle.std.specs.Prelude.{◌≡◌, ◌==◌, ◌&&◌, ◌||◌, ◌<◌, ℕ, IfSome, IsTrue, OnErr, OnOk, false, length, slice_index_or};
+ghost use Rattle.std.specs.List.{list_any};
+ghost use Rattle.pl_bits.specs.Bits.{has_bit};
+ghost use Rattle.pl_frame.specs.declared.address.SwitchId.{SwitchId};
+ghost use Rattle.pl_layouts.specs.Equality.{same_switch};
+ghost use Rattle.pl_node.specs.declared.avoid_row.AvoidRow.{AvoidRow};
+ghost use Rattle.pl_node.specs.AvoidRows.{entry_of, number_of, row_has, rows_have};
+
+use crate::Memory;
+use pl_bits::bit_of;
+use pl_frame::SwitchId;
+
+/// What a neighbour cannot reach, a bit for each pod below 24 and position below 12.
+#[derive(Clone, Copy, Debug, PartialEq, Eq)]
+pub(crate) struct AvoidRow {
+    pub(crate) neighbour: SwitchId,
+    pub(crate) words: [u64; 5],
+}
+
+/// How many bits of a row stand for a pod and a position.
+pub(crate) const NUMBERS: usize = 288;
+
+impl AvoidRow {
+    /// A row of no bits.
+    fn of(neighbour: SwitchId) -> AvoidRow
+        ensures neighbour { result.neighbour ≡ neighbour }
+        ensures none { (n : ℕ) → has_bit result.words n ≡ false }
+    {
+        AvoidRow {
+            neighbour,
+            words: [0; 5],
+        }
+    }
+
+    /// Whether a bit is set.
+    pub(crate) fn has(&self, number: usize) -> bool
+        requires { number < 288 }
+        ensures { result ≡ has_bit self.now.words number }
+    {
+        bit_of(&self.words, number)
+    }
+
+    /// What a bit stands for.
+    pub(crate) fn entry(&self, number: usize) -> (SwitchId, u16, u8)
+        requires { number < 288 }
+        ensures { result ≡ entry_of self.now.neighbour number }
+    {
+        (self.neighbour, (number / 12) as u16, (number % 12) as u8)
+    }
+
+    /// The row with one more bit.
+    fn with(self, number: usize) -> AvoidRow
+        requires { number < 288 }
+        ensures neighbour { result.neighbour ≡ self.neighbour }
+        ensures bits { (n : ℕ) → has_bit result.words n ≡ ((n == number) || has_bit self.words n) }
+    {
+        let mut words = self.words;
+        words[number / 64] |= 1 << (number % 64);
+        AvoidRow {
+            neighbour: self.neighbour,
+            words,
+        }
+    }
+}
+
+/// The number of the bit of a pod and a position, where they have one.
+pub(crate) fn number_of(pod: u16, position: u8) -> Option<usize>
+    ensures number { result ≡ number_of pod position }
+    ensures below { IfSome result (λ number. number < 288) }
+{
+    if pod < 24 && position < 12 {
+        return Some(usize::from(pod) * 12 + usize::from(position));
+    }
+    None
+}
+
+/// Sets a bit in the row of a neighbour.
+pub(crate) fn put(
+    rows: &mut Vec<AvoidRow>,
+    neighbour: SwitchId,
+    number: usize,
+) -> Result<(), Memory>
+    requires { number < 288 }
+    ensures ok { OnOk result ((u : SwitchId) (n : ℕ) → list_any (row_has u n) rows.new.items
+        ≡ ((same_switch neighbour u && (n == number)) || list_any (row_has u n) rows.old.items)) }
+    ensures err { OnErr result (rows.new.items ≡ rows.old.items) }
+{
+    match row_at(rows.as_slice(), neighbour) {
+        Some(i) => {
+            set_at(rows, i, neighbour, number);
+            Ok(())
+        }
+        None => {
+            rows.push(AvoidRow::of(neighbour).with(number))?;
+            Ok(())
+        }
+    }
+}
+
+// The same in the row at an index, which is that neighbour's.
+fn set_at(rows: &mut Vec<AvoidRow>, i: usize, neighbour: SwitchId, number: usize)
+    requires number { number < 288 }
+    requires row { i < length rows.old.items }
+    requires neighbour { (d : AvoidRow) → (slice_index_or rows.old.items i d).neighbour ≡ neighbour }
+    ensures { (u : SwitchId) (n : ℕ) → list_any (row_has u n) rows.new.items
+        ≡ ((same_switch neighbour u && (n == number)) || list_any (row_has u n) rows.old.items) }
+{
+    rows[i] = rows[i].with(number);
+}
+
+// The row of a neighbour.
+fn row_at(rows: &[AvoidRow], neighbour: SwitchId) -> Option<usize>
+    ensures { IfSome result (λ i. (i < length rows.now) × ((d : AvoidRow) → (slice_index_or rows.now i d).neighbour ≡ neighbour)) }
+{
+    for i in 0..rows.len() {
+        if rows[i].neighbour == neighbour {
+            return Some(i);
+        }
+    }
+    None
+}
+
+/// Whether some row has an entry.
+pub(crate) fn rows_have(rows: &[AvoidRow], entry: (SwitchId, u16, u8)) -> bool
+    ensures { result ≡ rows_have entry.0 (number_of entry.1 entry.2) rows.now }
+{
+    match number_of(entry.1, entry.2) {
+        Some(number) => has_number(rows, entry.0, number),
+        None => false,
+    }
+}
+
+fn has_number(rows: &[AvoidRow], neighbour: SwitchId, number: usize) -> bool
+    requires { number < 288 }
+    ensures { result ≡ list_any (row_has neighbour number) rows.now }
+{
+    for row in rows {
+        if row_has(row, neighbour, number) {
+            return true;
+        }
+    }
+    false
+}
+
+fn row_has(row: &AvoidRow, neighbour: SwitchId, number: usize) -> bool
+    requires { number < 288 }
+    ensures { result ≡ row_has neighbour number row.now }
+{
+    row.neighbour.0 == neighbour.0 && row.has(number)
+}

@@ -101,6 +101,14 @@ def takes_all(verb, at):
     return (verb in ("start", "retry", "tick") and at == 0) or (verb in ("send", "raw") and at == 1)
 
 
+NOT_FOR_BRIDGES = {
+    "repair": "a link that was left out of the tree of bridges stays out, since frames would go round for ever",
+    "random": "what is drawn depends on queues that bridges do not have",
+    "expect address": "bridges have no pseudo addresses",
+    "expect settled": "bridges do not settle; `settle N` sweeps until all queues are empty",
+}
+
+
 def line_fault(fabric, words):
     """The reason, the index of the word, and the hint of a line that is refused."""
     verb, rest, before = words[0], words[1:], 1
@@ -271,6 +279,15 @@ def nothing_there(fabric, script, number, words):
     if words[0] in ("deliver", "lose"):
         return f"nothing waits from {words[1]} to {words[2]} at this line: `./portland until {number} ..` shows what happened before"
     return None
+
+
+def bridge_hints(script, number, words):
+    """What is wrong with a line that `run` takes and `bridge` does not."""
+    line = script.words(number)
+    if words[:1] != ["bridge"] or " ".join(line[: 2 if line[:1] == ["expect"] else 1]) not in NOT_FOR_BRIDGES:
+        return []
+    verb = " ".join(line[: 2 if line[0] == "expect" else 1])
+    return shown_line(script.lines, number) + [f"hint: `bridge` takes no `{verb}`: {NOT_FOR_BRIDGES[verb]}"]
 
 
 def expectation_hints(script, number, words):

@@ -15,7 +15,7 @@ until_line() {
         way=try
         shift
     fi
-    [ "${1:-}" = run ] || set -- run "$@"
+    is_play "${1:-}" || set -- run "$@"
     make_work
     take_script "$work/before" "$@"
     eval "set -- $words"

@@ -3,6 +3,7 @@ ghost use Rattle.pl_bridge_rule.proofs.Exports.{accounts};
 
 use crate::BridgeTable;
 use crate::receiving::bridge;
+use pl_bridge_rule::LearningBridge;
 use pl_frame::SwitchId;
 use pl_layouts::Place;
 use pl_layouts::frames::is_control;
@@ -69,6 +70,10 @@ impl SwitchFacts for BridgeSwitch {
     fn group(&self, n: usize) -> Option<u32> {
         self.booted.group(n)
     }
+}
+
+impl LearningBridge for BridgeSwitch {
+    ghost bridges = { λ old input new acts step. step };
 }
 
 impl SwitchLogic for BridgeSwitch {

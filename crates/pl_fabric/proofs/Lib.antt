@@ -5,3 +5,4 @@ pub mod Deciding
 pub mod ExecutionRuns
 pub mod QueueOrder
 pub mod Exports
+pub mod Waiting

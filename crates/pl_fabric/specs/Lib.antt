@@ -3,3 +3,4 @@ pub mod Rounds
 pub mod Settled
 pub mod Settlings
 pub mod Draws
+pub mod Drains

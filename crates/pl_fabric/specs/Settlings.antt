@@ -17,6 +17,11 @@ pub record IsAtRest (w : WorldView) : Type 0 where
   pub settled : IsSettled w
   pub empty : next_queue w 0 ≡ None
 
+-- an execution so often, before each time of which the world is not at rest
+abbrev pub GoesUntil : (WorldView → Type 0) → Execution → ℕ → Execution
+GoesUntil Rest execution zero = Stays
+GoesUntil Rest execution (suc n) = λ old end new. (Rest old → ⊥) × Then execution (GoesUntil Rest execution n) old end new
+
 -- what is answered of a fabric at the end, after so many rounds
 abbrev pub IsSettlingAnswer : WorldView → ℕ → Settling → Type 0
 IsSettlingAnswer w used (Settled rounds) = IsSettled w × (rounds ≡ used)
@@ -25,8 +30,7 @@ IsSettlingAnswer w used (NotSettled waiting) = (IsSettled w → ⊥) × (waiting
 module _ (switch : SwitchRule) (manager : ManagerRule) (host : HostRule) where
   -- so many rounds, before each of which the fabric is not at rest
   abbrev pub GoesRounds : ℕ → Execution
-  GoesRounds zero = Stays
-  GoesRounds (suc n) = λ old end new. (IsAtRest old → ⊥) × Then (GoesRound switch manager host) (GoesRounds n) old end new
+  GoesRounds = GoesUntil IsAtRest (GoesRound switch manager host)
 
   -- The least number of rounds is made, at most as many as asked, after which the fabric is at rest.
   pub record Settles (asked : ℕ) (old : WorldView) (answer : Settling) (new : WorldView) : Type 0 where

@@ -4,6 +4,7 @@
 //! and the hosts have; `specs/Settled.antt` says when a fabric is settled.
 #![tactic(auto)]
 
+pub use draining::{drain, drained};
 pub use draws::random;
 pub use fabric::settled;
 pub use making::{make, tick_all};
@@ -14,6 +15,7 @@ pub use run_laws::{
 };
 pub use settling::{Settling, settle};
 
+mod draining;
 mod draws;
 mod ends;
 mod fabric;

@@ -1,23 +1,24 @@
 -- What a command asks for, by the value of each of its items.
 use Rattle.std.proofs.Common.{◌≡◌, ℕ, List, [], codes, Option, Some, None, ap, ◌∙◌}
 use Rattle.std.specs.Option.{option_and_then}
+use Rattle.pl_inputs.specs.declared.words.Network.{Network}
 use Rattle.pl_inputs.specs.Words.{Given, Task, before, check_by, check_items, generate_by, generate_items, run_by, run_items, value_in, values_in}
 
 abbrev pub value : Option (List Given) → List ℕ → Option (List ℕ)
 value items name = option_and_then (value_in name) items
 
-abbrev run_from : Option (List ℕ) → Option (List ℕ) → Option (List ℕ) → Option (List ℕ) → Option Task
-run_from t s c o = option_and_then run_by (before t (before s (before c (before o (Some [])))))
+abbrev run_from : Network → Option (List ℕ) → Option (List ℕ) → Option (List ℕ) → Option (List ℕ) → Option Task
+run_from network t s c o = option_and_then (run_by network) (before t (before s (before c (before o (Some [])))))
 
-pub run_is : (items : Option (List Given)) (t s c o : Option (List ℕ)) →
+pub run_is : (network : Network) (items : Option (List Given)) (t s c o : Option (List ℕ)) →
     t ≡ value items (codes "--topology") → s ≡ value items (codes "--script") → c ≡ value items (codes "--captures") → o ≡ value items (codes "--out") →
-    run_from t s c o ≡ option_and_then run_by (option_and_then (values_in run_items) items)
-run_is None t s c o is_t is_s is_c is_o = ap (λ x. run_from x s c o) is_t
-run_is (Some items) t s c o is_t is_s is_c is_o =
-    ap (λ x. run_from x s c o) is_t
-    ∙ ap (λ x. run_from (value_in (codes "--topology") items) x c o) is_s
-    ∙ ap (λ x. run_from (value_in (codes "--topology") items) (value_in (codes "--script") items) x o) is_c
-    ∙ ap (λ x. run_from (value_in (codes "--topology") items) (value_in (codes "--script") items) (value_in (codes "--captures") items) x) is_o
+    run_from network t s c o ≡ option_and_then (run_by network) (option_and_then (values_in run_items) items)
+run_is network None t s c o is_t is_s is_c is_o = ap (λ x. run_from network x s c o) is_t
+run_is network (Some items) t s c o is_t is_s is_c is_o =
+    ap (λ x. run_from network x s c o) is_t
+    ∙ ap (λ x. run_from network (value_in (codes "--topology") items) x c o) is_s
+    ∙ ap (λ x. run_from network (value_in (codes "--topology") items) (value_in (codes "--script") items) x o) is_c
+    ∙ ap (λ x. run_from network (value_in (codes "--topology") items) (value_in (codes "--script") items) (value_in (codes "--captures") items) x) is_o
 
 abbrev check_from : Option (List ℕ) → Option Task
 check_from topology = option_and_then check_by (before topology (Some []))

@@ -14,6 +14,7 @@ use Rattle.pl_inputs.specs.declared.status.Status.TheVariants as status
 use Rattle.pl_inputs.specs.Gathered.{IsRefusedFile, IsUngathered, IsUntaken}
 use Rattle.pl_inputs.specs.Folders.{in_folder}
 use Rattle.pl_inputs.specs.Inputs.{AreCaptures, HasLines, HasPlan, IsCaptureFile, IsCaptureAt, IsLoaded, all_bytes, captures_limit, text_limit}
+use Rattle.pl_inputs.specs.declared.words.Network.{Network}
 use Rattle.pl_inputs.specs.Loads.{IsUnplanned, IsUnscripted}
 use Rattle.pl_inputs.specs.Unread.{AreTextsRead, ComesTo, IsNextCapture, IsRefusedCapture, IsTooMuch, IsUnread}
 use Rattle.pl_inputs.specs.Words.{Asked}
@@ -38,8 +39,9 @@ same_captures same folder (h ∷ hosts) [] are = are
 same_captures same folder (h ∷ hosts) (file ∷ files) are =
     (same_capture same folder h.capture file are.0, are.1, same_captures same folder hosts files are.2)
 
-same_lines : {old new : List ℕ → Held} → Same old new → (name : List ℕ) (plan : Plan) (lines : List ScriptLine) → HasLines new name plan lines → HasLines old name plan lines
-same_lines same name plan lines has = (has.0, same_loaded same name text_limit has.0 has.1, has.2)
+same_lines : {old new : List ℕ → Held} → Same old new → (network : Network) (name : List ℕ) (plan : Plan) (lines : List ScriptLine) → HasLines new network name plan lines →
+    HasLines old network name plan lines
+same_lines same network name plan lines has = (has.0, same_loaded same name text_limit has.0 has.1, has.2)
 
 abbrev same_comes : {old new : List ℕ → Held} → Same old new → (folder : List ℕ) (hosts : List Host) (n : ℕ) (host : Host) → ComesTo new folder hosts n host → ComesTo old folder hosts n host
 same_comes same folder hosts n host comes = record {
@@ -90,7 +92,7 @@ unplanned held asked _ u = absurd u
 
 -- a script that was not read, or is refused
 pub unscripted : (old new : List ℕ → Held) → Same old new → (asked : Asked) (plan : Plan) → HasPlan old asked.topology plan → (e : Status) →
-    IsUnscripted new asked.script plan e → IsUnread old asked e
+    IsUnscripted new asked.network asked.script plan e → IsUnread old asked e
 unscripted old new same asked plan has (status.ReadFault name) u = inr (inl (plan, has, u))
 unscripted old new same asked plan has (status.TooLong name) u =
     inr (inl (plan, has, u.0, same_longer same name text_limit (subst (λ n. IsLonger (new n) text_limit) (sym u.0) u.1)))
@@ -99,13 +101,13 @@ unscripted old new same asked plan has status.OutOfMemory u = tt
 unscripted old new same asked plan has _ u = absurd u
 
 texts_read : {old new : List ℕ → Held} → Same old new → (asked : Asked) (plan : Plan) (lines : List ScriptLine) → HasPlan old asked.topology plan →
-    HasLines new asked.script plan lines → AreTextsRead old asked plan
+    HasLines new asked.network asked.script plan lines → AreTextsRead old asked plan
 texts_read same asked plan lines has written =
-    record { lines = lines; topology = has; script = same_lines same asked.script plan lines written }
+    record { lines = lines; topology = has; script = same_lines same asked.network asked.script plan lines written }
 
 -- captures that were not all read; the second shelf is that of the script, the third that of the captures
 pub ungathered : (old mid new : List ℕ → Held) → Same old mid → Same old new → (asked : Asked) (plan : Plan) (lines : List ScriptLine) →
-    HasPlan old asked.topology plan → HasLines mid asked.script plan lines → (e : Status) → IsUngathered new asked.captures plan.hosts e → IsUnread old asked e
+    HasPlan old asked.topology plan → HasLines mid asked.network asked.script plan lines → (e : Status) → IsUngathered new asked.captures plan.hosts e → IsUnread old asked e
 ungathered old mid new first same asked plan lines has written (status.ReadFault name) u =
     inr (inr (plan, texts_read first asked plan lines has written, same_next same asked.captures plan.hosts name u))
 ungathered old mid new first same asked plan lines has written (status.TooLong name) u =

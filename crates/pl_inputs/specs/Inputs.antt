@@ -1,5 +1,5 @@
 -- What a run reads: a topology, a script, and the captures of the hosts.
-use Rattle.std.specs.Prelude.{◌≡◌, ℕ, ◌≤◌, List, [], ◌∷◌, length, Option, None, Some, Ok}
+use Rattle.std.specs.Prelude.{◌≡◌, ℕ, ◌≤◌, List, [], ◌∷◌, length, Option, None, Some, Ok, Result}
 use Rattle.std.specs.List.{sum_by}
 use Rattle.pl_shelf.specs.Held.{Held, HoldsExactly}
 use Rattle.pl_capture.specs.declared.records.Captured.{Captured}
@@ -7,9 +7,13 @@ use Rattle.pl_wiring.specs.declared.host.Host.{Host}
 use Rattle.pl_topology.specs.Meaning.{topology_of}
 use Rattle.pl_wiring.specs.Plan.{Plan}
 use Rattle.pl_script.specs.declared.script.ScriptLine.{ScriptLine}
+use Rattle.pl_script.specs.declared.error.ScriptError.{ScriptError}
+use Rattle.pl_script.specs.ForBridges.{bridge_script_of}
 use Rattle.pl_script.specs.Meaning.{script_of}
 use Rattle.pl_inputs.specs.Folders.{in_folder}
 use Rattle.pl_inputs.specs.Readings.{reading_of}
+use Rattle.pl_inputs.specs.declared.words.Network.{Network}
+use Rattle.pl_inputs.specs.declared.words.Network.TheVariants.{Bridges, Fabric}
 use Rattle.pl_inputs.specs.Words.{Asked}
 
 -- the most bytes that are read of a topology or of a script, and of all captures together
@@ -52,12 +56,17 @@ pub record Inputs : Type 0 where
 abbrev pub HasPlan : (List ℕ → Held) → List ℕ → Plan → Type 0
 HasPlan held name plan = (file : List ℕ) × IsLoaded held name text_limit file × (topology_of file ≡ Ok plan)
 
-abbrev pub HasLines : (List ℕ → Held) → List ℕ → Plan → List ScriptLine → Type 0
-HasLines held name plan lines = (file : List ℕ) × IsLoaded held name text_limit file × (script_of plan file ≡ Ok lines)
+-- what a script asks of the network that it is played on
+abbrev pub script_for : Network → Plan → List ℕ → Result (List ScriptLine) ScriptError
+script_for Fabric plan file = script_of plan file
+script_for Bridges plan file = bridge_script_of plan file
+
+abbrev pub HasLines : (List ℕ → Held) → Network → List ℕ → Plan → List ScriptLine → Type 0
+HasLines held network name plan lines = (file : List ℕ) × IsLoaded held name text_limit file × (script_for network plan file ≡ Ok lines)
 
 -- All of it was read, and accepted.
 pub record AreRead (held : List ℕ → Held) (asked : Asked) (i : Inputs) : Type 0 where
   pub topology : HasPlan held asked.topology i.plan
-  pub script : HasLines held asked.script i.plan i.lines
+  pub script : HasLines held asked.network asked.script i.plan i.lines
   pub captures : AreCaptures held asked.captures i.plan.hosts i.captures
   pub limit : all_bytes i.captures ≤ captures_limit

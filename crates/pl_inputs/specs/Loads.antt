@@ -7,10 +7,10 @@ use Rattle.pl_topology.specs.declared.error.TopologyError.TheVariants as topolog
 use Rattle.pl_topology.specs.Meaning.{topology_of}
 use Rattle.pl_wiring.specs.Plan.{Plan}
 use Rattle.pl_script.specs.declared.error.ScriptError.TheVariants.{Line}
-use Rattle.pl_script.specs.Meaning.{script_of}
 use Rattle.pl_inputs.specs.declared.status.Status.{Status}
 use Rattle.pl_inputs.specs.declared.status.Status.TheVariants as status
-use Rattle.pl_inputs.specs.Inputs.{IsLoaded, text_limit}
+use Rattle.pl_inputs.specs.declared.words.Network.{Network}
+use Rattle.pl_inputs.specs.Inputs.{IsLoaded, script_for, text_limit}
 
 -- a name was not read
 abbrev pub IsUnloaded : (List ℕ → Held) → List ℕ → ℕ → Status → Type 0
@@ -26,10 +26,10 @@ IsUnplanned held name (status.BadTopology reason) =
 IsUnplanned held name e = IsUnloaded held name text_limit e
 
 -- the same of a script
-abbrev pub IsUnscripted : (List ℕ → Held) → List ℕ → Plan → Status → Type 0
-IsUnscripted held name plan (status.BadScript n reason) =
-    (file : List ℕ) × IsLoaded held name text_limit file × (script_of plan file ≡ Err (Line n reason))
-IsUnscripted held name plan e = IsUnloaded held name text_limit e
+abbrev pub IsUnscripted : (List ℕ → Held) → Network → List ℕ → Plan → Status → Type 0
+IsUnscripted held network name plan (status.BadScript n reason) =
+    (file : List ℕ) × IsLoaded held name text_limit file × (script_for network plan file ≡ Err (Line n reason))
+IsUnscripted held network name plan e = IsUnloaded held name text_limit e
 
 -- The count of failed reads rises where the answer is one, and else it stays.
 abbrev pub Reads : {T : Type 0} → Result T Status → ℕ → ℕ → Type 0

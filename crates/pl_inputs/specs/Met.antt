@@ -14,7 +14,7 @@ texts words = map (λ w. w.now) words
 
 abbrev pub asked : Files → Asked
 asked files =
-    record { topology = files.topology.now; script = files.script.now; captures = files.captures.now; out = files.out.now }
+    record { network = files.network; topology = files.topology.now; script = files.script.now; captures = files.captures.now; out = files.out.now }
 
 abbrev pub task : Told → Task
 task (told.Run files) = Run (asked files)

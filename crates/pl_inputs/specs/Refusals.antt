@@ -4,8 +4,9 @@ use Rattle.pl_topology.specs.declared.error.TopologyError.TheVariants as topolog
 use Rattle.pl_topology.specs.Meaning.{topology_of}
 use Rattle.pl_wiring.specs.Plan.{Plan}
 use Rattle.pl_script.specs.declared.error.ScriptError.TheVariants.{Line}
-use Rattle.pl_script.specs.Meaning.{script_of}
 use Rattle.pl_inputs.specs.declared.status.Status.{Status}
+use Rattle.pl_inputs.specs.declared.words.Network.{Network}
+use Rattle.pl_inputs.specs.Inputs.{script_for}
 use Rattle.pl_inputs.specs.declared.status.Status.TheVariants as status
 
 abbrev pub IsRefusedPlan : List ℕ → Status → Type 0
@@ -13,7 +14,7 @@ IsRefusedPlan file (status.BadTopology reason) = (reason ≢ topology.Memory) ×
 IsRefusedPlan file status.OutOfMemory = Unit {0}
 IsRefusedPlan file _ = ⊥
 
-abbrev pub IsRefusedScript : Plan → List ℕ → Status → Type 0
-IsRefusedScript plan file (status.BadScript n reason) = script_of plan file ≡ Err (Line n reason)
-IsRefusedScript plan file status.OutOfMemory = Unit {0}
-IsRefusedScript plan file _ = ⊥
+abbrev pub IsRefusedScript : Network → Plan → List ℕ → Status → Type 0
+IsRefusedScript network plan file (status.BadScript n reason) = script_for network plan file ≡ Err (Line n reason)
+IsRefusedScript network plan file status.OutOfMemory = Unit {0}
+IsRefusedScript network plan file _ = ⊥

@@ -56,7 +56,7 @@ section_place_text (Some at) = codes " at byte " ++ decimal at
 section_place_text None = []
 
 abbrev pub usage_text : List ℕ
-usage_text = codes "usage: run --topology T --script S --captures DIR --out DIR, check --topology T, gen --k K --number N --frames F"
+usage_text = codes "usage: run --topology T --script S --captures DIR --out DIR, bridge --topology T --script S --captures DIR --out DIR, check --topology T, gen --k K --number N --frames F"
 
 -- what befell, in words
 abbrev pub told : Status → List ℕ

@@ -8,21 +8,20 @@ use Rattle.pl_wiring.specs.declared.host.Host.{Host}
 use Rattle.pl_wiring.specs.Plan.{Plan}
 use Rattle.pl_script.specs.declared.error.ScriptError.TheVariants.{Line}
 use Rattle.pl_script.specs.declared.script.ScriptLine.{ScriptLine}
-use Rattle.pl_script.specs.Meaning.{script_of}
 use Rattle.pl_inputs.specs.declared.fault.CaptureFault.{CaptureFault}
 use Rattle.pl_inputs.specs.declared.fault.CaptureFault.TheVariants.{OfRecords, OfSections}
 use Rattle.pl_inputs.specs.declared.status.Status.{Status}
 use Rattle.pl_inputs.specs.declared.status.Status.TheVariants as status
 use Rattle.pl_inputs.specs.Words.{Asked}
 use Rattle.pl_inputs.specs.Folders.{in_folder}
-use Rattle.pl_inputs.specs.Inputs.{AreCaptures, HasLines, HasPlan, IsCaptureAt, IsLoaded, all_bytes, captures_limit, text_limit}
+use Rattle.pl_inputs.specs.Inputs.{AreCaptures, HasLines, HasPlan, IsCaptureAt, IsLoaded, all_bytes, captures_limit, script_for, text_limit}
 use Rattle.pl_inputs.specs.Readings.{reading_of}
 
 -- the topology and the script were accepted
 pub record AreTextsRead (held : List ℕ → Held) (asked : Asked) (plan : Plan) : Type 0 where
   pub lines : List ScriptLine
   pub topology : HasPlan held asked.topology plan
-  pub script : HasLines held asked.script plan lines
+  pub script : HasLines held asked.network asked.script plan lines
 
 -- the captures of the hosts before this one were accepted
 pub record ComesTo (held : List ℕ → Held) (folder : List ℕ) (hosts : List Host) (n : ℕ) (host : Host) : Type 0 where
@@ -82,7 +81,7 @@ IsUnread held asked (status.BadTopology reason) =
     × ((file : List ℕ) × IsLoaded held asked.topology text_limit file × (topology_of file ≡ Err reason))
 IsUnread held asked (status.BadScript n reason) =
     (plan : Plan) × HasPlan held asked.topology plan
-    × ((file : List ℕ) × IsLoaded held asked.script text_limit file × (script_of plan file ≡ Err (Line n reason)))
+    × ((file : List ℕ) × IsLoaded held asked.script text_limit file × (script_for asked.network plan file ≡ Err (Line n reason)))
 IsUnread held asked (status.BadCapture host e at) =
     (plan : Plan) × AreTextsRead held asked plan × IsRefusedCapture held asked.captures plan.hosts host.0 (OfRecords e) × (at ≡ offset_of e)
 IsUnread held asked (status.BadSection host e) =

@@ -1,6 +1,7 @@
 -- Worked examples of what words ask for.
 use Rattle.std.specs.Prelude.{◌≡◌, ℕ, List, [], ◌∷◌, ◌++◌, codes, Option, Some, None, refl}
 use Rattle.pl_script.specs.Numbers.{number_of}
+use Rattle.pl_inputs.specs.declared.words.Network.TheVariants.{Bridges, Fabric}
 use Rattle.pl_inputs.specs.Words.{Task, Run, Check, Generate, given_by, given_in, items_of, generation_of, task_of}
 
 abbrev asks : List (List ℕ) → Option Task
@@ -12,7 +13,7 @@ abbrev three : List (List ℕ)
 three = codes "--topology=t" ∷ codes "--script" ∷ codes "s" ∷ codes "--captures=c" ∷ []
 
 abbrev runs_into : List ℕ → Option Task
-runs_into out = Some (Run (record { topology = codes "t"; script = codes "s"; captures = codes "c"; out = out }))
+runs_into out = Some (Run (record { network = Fabric; topology = codes "t"; script = codes "s"; captures = codes "c"; out = out }))
 
 in_any_order_and_form : asks (codes "run" ∷ codes "--out" ∷ codes "o=p" ∷ three) ≡ runs_into (codes "o=p")
 unfolding given_by given_in items_of task_of
@@ -45,6 +46,17 @@ twice = refl
 an_item_of_gen : asks (codes "run" ∷ codes "--out=o" ∷ codes "--k=4" ∷ three) ≡ None
 unfolding given_by given_in items_of task_of
 an_item_of_gen = refl
+
+-- bridge
+
+on_bridges : asks (codes "bridge" ∷ codes "--out" ∷ codes "o" ∷ three)
+    ≡ Some (Run (record { network = Bridges; topology = codes "t"; script = codes "s"; captures = codes "c"; out = codes "o" }))
+unfolding given_by given_in items_of task_of
+on_bridges = refl
+
+one_is_missing_too : asks (codes "bridge" ∷ three) ≡ None
+unfolding given_by given_in items_of task_of
+one_is_missing_too = refl
 
 -- check
 

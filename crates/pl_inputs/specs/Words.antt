@@ -6,9 +6,12 @@ use Rattle.std.specs.List.{list_any, before_first, after_first}
 use Rattle.std.specs.Str.{bytes_eq}
 use Rattle.pl_script.specs.Numbers.{number_of}
 use Rattle.pl_inputs.specs.declared.words.Generation.{Generation}
+use Rattle.pl_inputs.specs.declared.words.Network.{Network}
+use Rattle.pl_inputs.specs.declared.words.Network.TheVariants.{Bridges, Fabric}
 
--- the files that a run reads, and the folder that it saves into
+-- what a run is played on, the files that it reads, and the folder that it saves into
 pub record Asked : Type 0 where
+  pub network : Network
   pub topology : List ℕ
   pub script : List ℕ
   pub captures : List ℕ
@@ -115,9 +118,9 @@ unfoldable pub generation_of : List ℕ → List ℕ → List ℕ → Option Gen
 generation_of k number frames = all_drawn (arity_in k) (number_in 0 18446744073709551615 number) (number_in 1 100000 frames)
 
 -- what a command asks for with the values of its items
-abbrev pub run_by : List (List ℕ) → Option Task
-run_by (t ∷ s ∷ c ∷ o ∷ []) = Some (Run (record { topology = t; script = s; captures = c; out = o }))
-run_by _ = None
+abbrev pub run_by : Network → List (List ℕ) → Option Task
+run_by network (t ∷ s ∷ c ∷ o ∷ []) = Some (Run (record { network = network; topology = t; script = s; captures = c; out = o }))
+run_by network _ = None
 
 abbrev pub check_by : List (List ℕ) → Option Task
 check_by (topology ∷ []) = Some (Check topology)
@@ -130,7 +133,8 @@ generate_by _ = None
 -- the program's name, then the command, then its items in any order
 unfoldable pub task_of : List (List ℕ) → Option Task
 task_of (program ∷ command ∷ words) =
-    if bytes_eq command (codes "run") then option_and_then run_by (values_by run_items words)
+    if bytes_eq command (codes "run") then option_and_then (run_by Fabric) (values_by run_items words)
+    else if bytes_eq command (codes "bridge") then option_and_then (run_by Bridges) (values_by run_items words)
     else if bytes_eq command (codes "check") then option_and_then check_by (values_by check_items words)
     else if bytes_eq command (codes "gen") then option_and_then generate_by (values_by generate_items words)
     else None

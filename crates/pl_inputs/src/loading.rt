@@ -37,7 +37,7 @@ pub fn load_inputs<S: Shelf>(
     ensures unpromised { IfErr result (λ e. IsUnpromised (S.capacity shelf.new) (S.moment shelf.new).held e) }
 {
     let wiring = load_wiring(alloc, shelf, files.topology)?;
-    let script = load_script(alloc, shelf, files.script, &wiring)?;
+    let script = load_script(alloc, shelf, files.network, files.script, &wiring)?;
     let captures = load_captures(alloc, shelf, files.captures, &wiring)?;
     Ok(Inputs {
         wiring,

@@ -94,6 +94,7 @@ impl fmt::Display for Status {
                 write!(
                     f,
                     "usage: run --topology T --script S --captures DIR --out DIR, \
+                     bridge --topology T --script S --captures DIR --out DIR, \
                      check --topology T, gen --k K --number N --frames F"
                 )
             }

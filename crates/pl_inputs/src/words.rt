@@ -13,7 +13,7 @@ mod items;
 /// What the program is asked to do.
 #[derive(Clone, Copy, Debug)]
 pub enum Task<'a> {
-    /// To play a script over captures.
+    /// To play a script over captures, on the network of the files.
     Run(Files<'a>),
     /// To read a topology and to tell of its wiring.
     Check { topology: &'a str },
@@ -21,9 +21,19 @@ pub enum Task<'a> {
     Generate(Generation),
 }
 
+/// What a script is played on.
+#[derive(Clone, Copy, Debug, PartialEq, Eq)]
+pub enum Network {
+    /// The fabric: switches with pseudo addresses, the fabric manager and hosts.
+    Fabric,
+    /// Learning bridges on a tree of its links, to compare the fabric with.
+    Bridges,
+}
+
 /// The files that a run reads, and the folder that it saves into.
 #[derive(Clone, Copy, Debug)]
 pub struct Files<'a> {
+    pub network: Network,
     pub topology: &'a str,
     pub script: &'a str,
     pub captures: &'a str,
@@ -57,7 +67,9 @@ pub fn task_of<'a>(words: &[&'a str]) -> Option<Task<'a>>
     let (_program, words) = words.split_first()?;
     let (command, words) = words.split_first()?;
     if *command == "run" {
-        run(words)
+        run(Network::Fabric, words)
+    } else if *command == "bridge" {
+        run(Network::Bridges, words)
     } else if *command == "check" {
         check(words)
     } else if *command == "gen" {
@@ -67,8 +79,8 @@ pub fn task_of<'a>(words: &[&'a str]) -> Option<Task<'a>>
     }
 }
 
-fn run<'a>(words: &[&'a str]) -> Option<Task<'a>>
-    ensures exact { option_map task result ≡ option_and_then run_by (values_by run_items (texts words.now)) }
+fn run<'a>(network: Network, words: &[&'a str]) -> Option<Task<'a>>
+    ensures exact { option_map task result ≡ option_and_then (run_by network) (values_by run_items (texts words.now)) }
     ensures within { IfSome result IsWithinLimits }
 {
     let items = Items {
@@ -76,6 +88,7 @@ fn run<'a>(words: &[&'a str]) -> Option<Task<'a>>
         words,
     };
     Some(Task::Run(Files {
+        network,
         topology: items.value("--topology")?,
         script: items.value("--script")?,
         captures: items.value("--captures")?,

@@ -21,3 +21,4 @@ pub mod StandingApart
 pub mod Hops
 pub mod ExactWays
 pub mod ExactRuns
+pub mod Exports

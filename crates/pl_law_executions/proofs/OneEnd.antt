@@ -3,7 +3,7 @@ use Rattle.std.proofs.Common.{◌≡◌, ◌⊎◌, ℕ, zero, suc, Bool, true, 
 use Rattle.pl_wiring.specs.declared.host.HostNo.{HostNo}
 use Rattle.pl_wiring.specs.Plan.{Plan}
 use Rattle.pl_script.specs.declared.command.Command.{Command}
-use Rattle.pl_script.specs.declared.command.Command.TheVariants.{Deliver, ExpectAddress, ExpectArrived, ExpectDropped, ExpectSettled, Fail, Join, Leave, Lose, Move, Random, Raw, Repair, Retry, Send, Settle, Start, Sweep, Tick}
+use Rattle.pl_script.specs.declared.command.Command.TheVariants.{Deliver, Drain, ExpectAddress, ExpectArrived, ExpectDropped, ExpectSettled, Fail, Join, Leave, Lose, Move, Random, Raw, Repair, Retry, Send, Settle, Start, Sweep, Tick}
 use Rattle.pl_script.specs.declared.command.Count.{Count}
 use Rattle.pl_script.specs.declared.command.Count.TheVariants as count
 use Rattle.pl_script.specs.declared.command.Count.TheVariants.{N}
@@ -24,12 +24,12 @@ use Rattle.pl_fabric.specs.Executions.{Execution, Makes, MakesAll, Times}
 use Rattle.pl_fabric.specs.Draws.{Draws}
 use Rattle.pl_fabric.specs.Rounds.{Sweeps, TicksAll}
 use Rattle.pl_law_executions.specs.OneWay.{GoesOneWayFrom}
-use Rattle.pl_law_executions.proofs.OneWayOfExecutions.{draws_one_way, goes_rounds_one_way, makes_all_one_way, makes_one_way, sweeps_one_way, ticks_all_one_way, times_one_way}
-use Rattle.pl_law_executions.proofs.Rests.{settles_one_way, settles_unrefused}
+use Rattle.pl_law_executions.proofs.OneWayOfExecutions.{draws_one_way, goes_rounds_one_way, goes_sweeps_one_way, makes_all_one_way, makes_one_way, sweeps_one_way, ticks_all_one_way, times_one_way}
+use Rattle.pl_law_executions.proofs.Rests.{drains_one_way, drains_unrefused, settles_one_way, settles_unrefused}
 use Rattle.pl_script_rule.specs.declared.stop.Stop.{Stop}
 use Rattle.pl_script_rule.specs.declared.stop.Stop.TheVariants.{ExpectFailed, Refused}
 use Rattle.pl_script_rule.specs.Expecting.{IsNewest, arrivals, ended_settled, endings}
-use Rattle.pl_script_rule.specs.Lines.{Asks, AsksNext, Does, DoesLine, DoesLines, Expects, GoesOn, Happen, PlaysRecord, Plays, SettlesAsAsked, hosts_meant, left_of, outcome, records_at}
+use Rattle.pl_script_rule.specs.Lines.{Asks, AsksNext, Does, DoesLine, DoesLines, DrainsAsAsked, Expects, GoesOn, Happen, PlaysRecord, Plays, SettlesAsAsked, hosts_meant, left_of, outcome, records_at}
 use Rattle.pl_script_rule.specs.Queues.{delivery, loss, port_towards, queue_between}
 use Rattle.pl_script_rule.specs.Scenes.{SceneExecution, GoesOnFrom, OfWorld, Often, SceneStays, Scene, asked_more, asked_of, begun, first_scene}
 
@@ -111,6 +111,21 @@ module _ (switch : SwitchRule) (manager : ManagerRule) (host : HostRule) (switch
       let same = goes_rounds_one_way switch manager host switches managers hosts rounds old.world (Some a.0) (Some b.0) one.world other.world a.1 b.1 in
       (a.2 ∙ ap (λ (reason : Option StepError). option_map Refused reason) same.0 ∙ sym b.2, same_scene one other same.1 (a.3 ∙ sym b.3))
 
+  drains_once : (sweeps : ℕ) → OneEnd (DrainsAsAsked switch manager host sweeps)
+  drains_once sweeps old end stop one other (inl a) (inl b) =
+      let same = drains_one_way switch manager host switches managers hosts sweeps old.world a.1 b.1 a.0 b.0 a.2 b.2 in (
+        a.3 ∙ sym b.3,
+        a.4 ∙ ap (λ (answer : Settling). made (noted a.1 (outcome answer)) old.asked) same.0 ∙ ap (λ (w : WorldView). made (noted w (outcome b.0)) old.asked) same.1
+            ∙ sym b.4,
+      )
+  drains_once sweeps old end stop one other (inl a) (inr b) =
+      absurd (drains_unrefused switch manager host switches managers hosts sweeps old.world a.1 other.world a.0 b.0 a.2 b.1)
+  drains_once sweeps old end stop one other (inr a) (inl b) =
+      absurd (drains_unrefused switch manager host switches managers hosts sweeps old.world b.1 one.world b.0 a.0 b.2 a.1)
+  drains_once sweeps old end stop one other (inr a) (inr b) =
+      let same = goes_sweeps_one_way switch manager host switches managers hosts sweeps old.world (Some a.0) (Some b.0) one.world other.world a.1 b.1 in
+      (a.2 ∙ ap (λ (reason : Option StepError). option_map Refused reason) same.0 ∙ sym b.2, same_scene one other same.1 (a.3 ∙ sym b.3))
+
   does_once : (records : List (List Recorded)) (command : Command) → OneEnd (Does switch manager host records command)
   does_once records (Start who) = λ old. happens_once (map event.Start (hosts_meant old.world.plan who)) old
   does_once records (Send h count) = asks_once records h false count
@@ -129,6 +144,7 @@ module _ (switch : SwitchRule) (manager : ManagerRule) (host : HostRule) (switch
       of_world_once (Times times (Sweeps switch manager host)) old
       (times_one_way times (Sweeps switch manager host) (sweeps_one_way switch manager host switches managers hosts) old.world)
   does_once records (Settle rounds) = settles_once rounds
+  does_once records (Drain sweeps) = drains_once sweeps
   does_once records (Random number steps) = λ old.
       of_world_once (Draws switch manager host steps number) old (draws_one_way switch manager host switches managers hosts steps number old.world)
   does_once records (ExpectArrived h many) = λ old. expects_once (arrivals old.world.journal h ≡ many) old
@@ -145,7 +161,7 @@ module _ (switch : SwitchRule) (manager : ManagerRule) (host : HostRule) (switch
   goes_on_once number rest None between end last one other way a b = way a b
   goes_on_once number rest (Some stop) between end last one other way a b = (a.0 ∙ sym b.0, a.1 ∙ sym b.1)
 
-  lines_once : (records : List (List Recorded)) (lines : List ScriptLine) (old : Scene) (end last : Option (ℕ × Stop)) (one other : Scene) →
+  pub lines_once : (records : List (List Recorded)) (lines : List ScriptLine) (old : Scene) (end last : Option (ℕ × Stop)) (one other : Scene) →
       DoesLines switch manager host records lines old end one → DoesLines switch manager host records lines old last other → (end ≡ last) × (one ≡ other)
   lines_once records [] old end last one other a b = (a.0 ∙ sym b.0, a.1 ∙ sym b.1)
   lines_once records (line ∷ lines) old end last one other a b =

@@ -15,7 +15,8 @@ use Rattle.pl_law_runs.proofs.Exports.{steps_agree}
 use Rattle.pl_fabric.specs.Executions.{Execution, GoesOnBehind, Makes, MakesAll, Stays, Then, Times}
 use Rattle.pl_fabric.specs.Draws.{Draws, drawn, next_number}
 use Rattle.pl_fabric.specs.Rounds.{GoesRound, Sweeps, TicksAll, Visits, VisitsAll, queues_from, ticks, waiting}
-use Rattle.pl_fabric.specs.Settlings.{GoesRounds}
+use Rattle.pl_fabric.specs.Drains.{GoesSweeps, IsDrained}
+use Rattle.pl_fabric.specs.Settlings.{GoesRounds, GoesUntil, IsAtRest}
 use Rattle.pl_law_executions.specs.OneWay.{GoesOneWayFrom, IsOneWay}
 
 pub stays_one_way : IsOneWay Stays
@@ -40,6 +41,11 @@ then_one_way first next way on = λ old. then_from first next old (way old) on
 pub times_one_way : (n : ℕ) (execution : Execution) → IsOneWay execution → IsOneWay (Times n execution)
 times_one_way zero execution way = stays_one_way
 times_one_way (suc n) execution way = then_one_way execution (Times n execution) way (times_one_way n execution way)
+
+pub until_one_way : (Rest : WorldView → Type 0) (execution : Execution) → IsOneWay execution → (n : ℕ) → IsOneWay (GoesUntil Rest execution n)
+until_one_way Rest execution way zero = stays_one_way
+until_one_way Rest execution way (suc n) = λ old end stop one other a b.
+    then_one_way execution (GoesUntil Rest execution n) way (until_one_way Rest execution way n) old end stop one other a.1 b.1
 
 module _ (switch : SwitchRule) (manager : ManagerRule) (host : HostRule) (switches : LeavesSwitchNoChoice switch) (managers : LeavesManagerNoChoice manager)
     (hosts : LeavesHostNoChoice host) where
@@ -79,9 +85,10 @@ module _ (switch : SwitchRule) (manager : ManagerRule) (host : HostRule) (switch
       (times_one_way 4 (Sweeps switch manager host) sweeps_one_way)
 
   pub goes_rounds_one_way : (n : ℕ) → IsOneWay (GoesRounds switch manager host n)
-  goes_rounds_one_way zero = stays_one_way
-  goes_rounds_one_way (suc n) = λ old end stop one other a b.
-      then_one_way (GoesRound switch manager host) (GoesRounds switch manager host n) goes_round_one_way (goes_rounds_one_way n) old end stop one other a.1 b.1
+  goes_rounds_one_way = until_one_way IsAtRest (GoesRound switch manager host) goes_round_one_way
+
+  pub goes_sweeps_one_way : (n : ℕ) → IsOneWay (GoesSweeps switch manager host n)
+  goes_sweeps_one_way = until_one_way IsDrained (Sweeps switch manager host) sweeps_one_way
 
   pub draws_one_way : (n x : ℕ) → IsOneWay (Draws switch manager host n x)
   draws_one_way zero x = stays_one_way

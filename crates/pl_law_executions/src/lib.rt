@@ -9,7 +9,7 @@ pub use execution_laws::{
     a_settling_goes_one_way, a_sweep_goes_one_way, drawn_steps_go_one_way,
     events_in_order_go_one_way, rounds_go_one_way,
 };
-pub use script_laws::{a_script_goes_one_way, one_script_one_end};
+pub use script_laws::{a_script_goes_one_way, one_script_one_end, one_script_one_end_of_bridges};
 
 mod execution_laws;
 mod script_laws;

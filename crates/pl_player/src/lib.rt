@@ -9,6 +9,7 @@ pub use player::{Player, Stopped};
 mod expecting;
 mod hosts;
 mod lines;
+mod on_tree;
 mod player;
 mod queues;
 mod records;

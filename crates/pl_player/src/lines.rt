@@ -77,6 +77,7 @@ impl<S: SwitchLogic, M: ManagerLogic, H: HostLogic> Player<S, M, H> {
             Command::Tick(None) => self.tick_all(),
             Command::Sweep(times) => self.sweep(times),
             Command::Settle(rounds) => self.settle(rounds),
+            Command::Drain(sweeps) => self.drain(sweeps),
             Command::Random(number, steps) => self.random(number, steps),
             Command::ExpectArrived(h, many) => self.expect_arrived(h, many),
             Command::ExpectDropped(cause, many) => self.expect_dropped(cause, many),

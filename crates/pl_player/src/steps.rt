@@ -4,13 +4,13 @@ ghost use Rattle.pl_world.specs.Ready.{CanStep};
 ghost use Rattle.pl_fabric.specs.Executions.{Times};
 ghost use Rattle.pl_fabric.specs.Draws.{Draws};
 ghost use Rattle.pl_fabric.specs.Rounds.{Sweeps, TicksAll};
-ghost use Rattle.pl_script_rule.specs.Lines.{Happen, SettlesAsAsked, hosts_meant, outcome};
+ghost use Rattle.pl_script_rule.specs.Lines.{DrainsAsAsked, Happen, SettlesAsAsked, hosts_meant, outcome};
 ghost use Rattle.pl_script_rule.specs.Queues.{delivery, loss, port_towards, queue_between};
 ghost use Rattle.pl_script_rule.specs.Scenes.{Ends, OfWorld};
 
 use crate::hosts::{retry_all, start_all};
 use crate::player::Player;
-use pl_fabric::{Settling, make, random, settle, sweep_often, tick_all};
+use pl_fabric::{Settling, drain, make, random, settle, sweep_often, tick_all};
 use pl_journal::Entry;
 use pl_node::{HostLogic, ManagerLogic, SwitchLogic};
 use pl_script::{End, Who};
@@ -157,6 +157,17 @@ impl<S: SwitchLogic, M: ManagerLogic, H: HostLogic> Player<S, M, H> {
         ensures orderly { Ends result (λ _. CanStep self.new.world) }
     {
         let answer = settle(&mut self.world, rounds)?;
+        self.world.mark(outcome(answer))?;
+        Ok(())
+    }
+
+    /// Sweeps until no queue has items, at most so many; the journal says how that ended.
+    pub(crate) fn drain(&mut self, sweeps: u32) -> Result<(), Stop>
+        requires orderly { CanStep self.old.world }
+        ensures does { Ends result (λ end. DrainsAsAsked S.rule M.rule H.rule sweeps self.old end self.new) }
+        ensures orderly { Ends result (λ _. CanStep self.new.world) }
+    {
+        let answer = drain(&mut self.world, sweeps)?;
         self.world.mark(outcome(answer))?;
         Ok(())
     }

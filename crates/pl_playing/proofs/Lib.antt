@@ -1,5 +1,6 @@
 pub mod Remaining
 pub mod Stopped
+pub mod Failing
 pub mod Playing
 pub mod Preparing
 pub mod Exports

@@ -1,9 +1,10 @@
 -- What is known of a script that was played.
-use Rattle.std.proofs.Common.{◌≡◌, ◌≤◌, ◌↔◌, ℕ, suc, Bool, IsTrue, All, List, [], ◌∷◌, length, Option, None, Some, refl, sym, ap, ◌∙◌, subst}
-use Rattle.pl_shelf.specs.Faults.{Rose}
+use Rattle.std.proofs.Common.{◌≡◌, ◌↔◌, ℕ, suc, Bool, IsTrue, All, List, [], ◌∷◌, length, Option, None, Some, refl, sym, ap, ◌∙◌, subst}
 use Rattle.pl_shelf.specs.Held.{ShelfMoment, standard_output}
 use Rattle.pl_wiring.specs.Plan.{Plan}
 use Rattle.pl_inputs.specs.declared.capture.Capture.{Capture}
+use Rattle.pl_inputs.specs.declared.words.Network.{Network}
+use Rattle.pl_inputs.specs.declared.words.Network.TheVariants.{Bridges, Fabric}
 use Rattle.pl_inputs.specs.Inputs.{Inputs}
 use Rattle.pl_inputs.specs.Loaded.{files_of}
 use Rattle.pl_inputs.specs.Records.{Recorded, records_of as records_walked}
@@ -16,20 +17,21 @@ use Rattle.pl_world.specs.Worlds.{WorldView}
 use Rattle.pl_node.specs.HostInputs.{HostRule}
 use Rattle.pl_node.specs.ManagerDuties.{ManagerRule}
 use Rattle.pl_node.specs.SwitchInputs.{SwitchRule}
-use Rattle.pl_fabric.specs.Settled.{IsSettled}
-use Rattle.pl_law_theorem.specs.OneSwitch.{IsOneSwitch}
 use Rattle.pl_script_rule.specs.declared.stop.Stop.{Stop}
 use Rattle.pl_script_rule.specs.declared.stop.Stop.TheVariants.{ExpectFailed, Refused}
 use Rattle.pl_inputs.specs.declared.status.Status.{Status}
-use Rattle.pl_script_rule.specs.Lines.{DoesLines, Plays}
+use Rattle.pl_script_rule.specs.Lines.{DoesLines}
+use Rattle.pl_script_rule.specs.OnTree.{PlaysOn, scene_on}
 use Rattle.pl_script_rule.specs.Scenes.{Scene, UnlessWanting, first_scene}
+use Rattle.pl_player.specs.Leaving.{left_on}
 use Rattle.pl_output.specs.Receipts.{saved_texts}
-use Rattle.pl_output.specs.Saved.{AreSaved, BreaksOff, Saving}
+use Rattle.pl_output.specs.Saved.{Saving}
 use Rattle.pl_output.specs.Summary.{summary_text}
 use Rattle.pl_inputs.specs.declared.status.Status.TheVariants as status
 use Rattle.pl_world.specs.declared.error.StepError.TheVariants as error
-use Rattle.pl_playing.specs.Outcomes.{Comes, HostsDoAsAsked, IsPlayed, IsStopped, PlaysTo, outcome, printed_of, records_of, rests_from, run_limits, summary_of, texts_of}
-use Rattle.pl_playing.specs.Plays.{IsPlayedOver, IsPlayedTo, IsUnplayed, Played, summary_by}
+use Rattle.pl_playing.specs.Networks.{PlaysTo}
+use Rattle.pl_playing.specs.Outcomes.{Comes, Course, EndsSaving, IsPlayed, IsStopped, Play, SavingFails, Saves, outcome, printed_of, records_of, rests_from, run_limits, summary_of, texts_of}
+use Rattle.pl_playing.specs.Plays.{IsPlayedOver, IsPlayedTo, IsUnplayed, Played, printed_by, summary_by, texts_by}
 use Rattle.pl_playing.proofs.Remaining.{records_are}
 
 -- a capture has one file
@@ -48,29 +50,12 @@ of_lent P plan lent journal read is was p = subst (λ j. P plan j) was (subst (�
 abbrev pub one : List ℕ → List ℕ → List Saving
 one name text = record { name = name; text = text } ∷ []
 
-module _ (switch : SwitchRule) (manager : ManagerRule) (host : HostRule) where
-  -- a script that was played over what was walked is played over what was read
-  pub plays_to : (plan : Plan) (captures : List Capture) (lines : List ScriptLine) (end : Option (ℕ × Stop)) (scene : Scene) →
-      Plays switch manager host plan run_limits (records_walked captures) lines end scene →
-      PlaysTo switch manager host (record { plan = plan; lines = lines; captures = files_of captures }) end scene
-  plays_to plan captures lines end scene plays =
-      subst (λ records. Plays switch manager host plan run_limits records lines end scene) (records_are captures) plays
-
-  -- the same, from what the player says
-  pub plays_over : (plan : Plan) (captures cs : List Capture) (lines ls : List ScriptLine) (begins scene : Scene) (end : Option (ℕ × Stop)) →
-      cs ≡ captures → ls ≡ lines → begins ≡ first_scene plan run_limits → DoesLines switch manager host (records_walked cs) ls begins end scene →
-      PlaysTo switch manager host (record { plan = plan; lines = lines; captures = files_of captures }) end scene
-  plays_over plan captures cs lines ls begins scene end walked read begun does =
-      plays_to plan captures lines end scene
-      (subst (λ b. DoesLines switch manager host (records_walked captures) lines b end scene) begun
-      (subst (λ l. DoesLines switch manager host (records_walked captures) l begins end scene) read
-      (subst (λ c. DoesLines switch manager host (records_walked c) ls begins end scene) walked does)))
-
-  stopped_so : (i : Inputs) (line : ℕ) (stop : Stop) (scene : Scene) → PlaysTo switch manager host i (Some (line, stop)) scene → IsStopped switch manager host i (outcome (Some (line, stop)))
+module _ (leads : Course) where
+  stopped_so : (i : Inputs) (line : ℕ) (stop : Stop) (scene : Scene) → leads i (Some (line, stop)) scene → IsStopped leads i (outcome (Some (line, stop)))
   stopped_so i line stop scene plays = record { stopped = (line, stop); scene = scene; played = plays; answered = refl }
 
   -- what is answered for a script that was stopped
-  unplayed_so : (i : Inputs) (line : ℕ) (stop : Stop) (scene : Scene) → UnlessWanting stop (PlaysTo switch manager host i (Some (line, stop)) scene) → IsUnplayed switch manager host i (outcome (Some (line, stop)))
+  unplayed_so : (i : Inputs) (line : ℕ) (stop : Stop) (scene : Scene) → UnlessWanting stop (leads i (Some (line, stop)) scene) → IsUnplayed leads i (outcome (Some (line, stop)))
   unplayed_so i line ExpectFailed scene u = stopped_so i line ExpectFailed scene u
   unplayed_so i line (Refused error.StepsSpent) scene u = stopped_so i line (Refused error.StepsSpent) scene u
   unplayed_so i line (Refused error.JournalFull) scene u = stopped_so i line (Refused error.JournalFull) scene u
@@ -81,106 +66,94 @@ module _ (switch : SwitchRule) (manager : ManagerRule) (host : HostRule) where
   unplayed_so i line (Refused error.Memory) scene u = tt
 
   pub unplayed : (i : Inputs) (line : ℕ) (stop : Stop) (scene : Scene) (e : Status) → e ≡ outcome (Some (line, stop)) →
-      UnlessWanting stop (PlaysTo switch manager host i (Some (line, stop)) scene) → IsUnplayed switch manager host i e
-  unplayed i line stop scene e is u = subst (λ x. IsUnplayed switch manager host i x) (sym is) (unplayed_so i line stop scene u)
+      UnlessWanting stop (leads i (Some (line, stop)) scene) → IsUnplayed leads i e
+  unplayed i line stop scene e is u = subst (λ x. IsUnplayed leads i x) (sym is) (unplayed_so i line stop scene u)
 
-  -- what the laws say of a script that was played on a fabric
-  pub record AreLaws (plan : Plan) : Type 0 where
-    pub run : (end : Option (ℕ × Stop)) (records : List (List Recorded)) (lines : List ScriptLine) (scene : Scene) →
-        Plays switch manager host plan run_limits records lines end scene →
-        (moments : List Stretch) × WorldRun switch manager host (booted plan run_limits) moments scene.world
-    pub wiring : (moments : List Stretch) (new : WorldView) → WorldRun switch manager host (booted plan run_limits) moments new → new.plan ≡ plan
-    pub savable : (moments : List Stretch) (new : WorldView) → WorldRun switch manager host (booted plan run_limits) moments new →
-        All (IsSavable plan) new.journal
-    pub one_switch : (moments : List Stretch) (new : WorldView) → WorldRun switch manager host (booted plan run_limits) moments new →
-        IsOneSwitch switch manager host new
+-- what is left of a network of which no line was played
+left_first : (network : Network) (plan : Plan) → left_on network (first_scene plan run_limits) ≡ scene_on network plan run_limits
+left_first Fabric plan = refl
+left_first Bridges plan = refl
 
-  pub played_to : (i : Inputs) (p : Played) → AreLaws i.plan → HostsDoAsAsked switch manager host i p.fabric → length i.captures ≡ length i.plan.hosts → IsPlayedOver switch manager host i p → IsPlayedTo switch manager host i p
-  played_to i p laws behaviour many over =
-      let run = laws.run None (records_of i) i.lines p.fabric over.played in
+module _ (network : Network) (switch : SwitchRule) (manager : ManagerRule) (host : HostRule) where
+  -- a script that was played over what was walked is played over what was read
+  plays_to : (plan : Plan) (captures : List Capture) (lines : List ScriptLine) (end : Option (ℕ × Stop)) (scene : Scene) →
+      PlaysOn network switch manager host plan run_limits (records_walked captures) lines end scene →
+      PlaysTo switch manager host network (record { plan = plan; lines = lines; captures = files_of captures }) end scene
+  plays_to plan captures lines end scene plays =
+      subst (λ records. PlaysOn network switch manager host plan run_limits records lines end scene) (records_are captures) plays
+
+  -- the same, from what the player says
+  pub plays_over : (plan : Plan) (captures cs : List Capture) (lines ls : List ScriptLine) (begins scene : Scene) (end : Option (ℕ × Stop)) →
+      cs ≡ captures → ls ≡ lines → begins ≡ first_scene plan run_limits → DoesLines switch manager host (records_walked cs) ls (left_on network begins) end scene →
+      PlaysTo switch manager host network (record { plan = plan; lines = lines; captures = files_of captures }) end scene
+  plays_over plan captures cs lines ls begins scene end walked read begun does =
+      plays_to plan captures lines end scene
+      (subst (λ b. DoesLines switch manager host (records_walked captures) lines b end scene) (ap (left_on network) begun ∙ left_first network plan)
+      (subst (λ l. DoesLines switch manager host (records_walked captures) l (left_on network begins) end scene) read
+      (subst (λ c. DoesLines switch manager host (records_walked c) ls (left_on network begins) end scene) walked does)))
+
+  -- what the laws say of a script that was played to its end
+  pub record AreLaws (play : Play) (i : Inputs) : Type 0 where
+    pub run : (scene : Scene) → play.leads i None scene → (moments : List Stretch) × WorldRun switch manager host (booted i.plan run_limits) moments scene.world
+    pub wiring : (moments : List Stretch) (new : WorldView) → WorldRun switch manager host (booted i.plan run_limits) moments new → new.plan ≡ i.plan
+    pub savable : (moments : List Stretch) (new : WorldView) → WorldRun switch manager host (booted i.plan run_limits) moments new →
+        All (IsSavable i.plan) new.journal
+    pub known : (scene : Scene) → play.leads i None scene → play.known i scene
+
+  pub played_to : (play : Play) (i : Inputs) (p : Played) → AreLaws play i → length i.captures ≡ length i.plan.hosts → IsPlayedOver play.leads i p → IsPlayedTo play i p
+  played_to play i p laws many over =
+      let run = laws.run p.fabric over.played in
       let same : p.fabric.world.plan ≡ i.plan = laws.wiring run.0 p.fabric.world run.1 in
       record {
         over = over;
         plan = same;
         savable = subst (λ plan. All (IsSavable plan) p.fabric.world.journal) (sym same) (laws.savable run.0 p.fabric.world run.1);
-        behaviour = behaviour;
-        one_switch = laws.one_switch run.0 p.fabric.world run.1;
+        known = laws.known p.fabric over.played;
         many = as_many p.captures ∙ ap (λ fs. length fs) over.captures ∙ many ∙ ap (λ (plan : Plan). length plan.hosts) (sym same);
       }
 
+module _ (play : Play) (i : Inputs) (p : Played) (to : IsPlayedTo play i p) (settled : Bool) where
   -- what is saved of it
-  abbrev pub is_played : (i : Inputs) (p : Played) → IsPlayedTo switch manager host i p → (settled : Bool) → IsTrue settled ↔ IsSettled p.fabric.world → IsPlayed switch manager host i
-  is_played i p to settled is = record { scene = p.fabric; played = to.over.played; wiring = to.plan; behaviour = to.behaviour; one_switch = to.one_switch; settled = settled; is_settled = is }
+  abbrev pub is_played : IsTrue settled ↔ play.rests p.fabric.world → IsPlayed play i
+  is_played is = record { scene = p.fabric; played = to.over.played; wiring = to.plan; known = to.known; settled = settled; is_settled = is }
 
-  summary_as : (i : Inputs) (p : Played) → IsPlayedTo switch manager host i p → (settled : Bool) → summary_by p settled ≡ summary_of i p.fabric settled
-  summary_as i p to settled =
+  summary_as : summary_by p settled ≡ summary_of i p.fabric settled
+  summary_as =
       ap (λ plan. summary_text plan p.fabric.world.journal p.fabric.world.steps (rests_from 0 (files_of p.captures) p.fabric) settled) to.plan
       ∙ ap (λ files. summary_text i.plan p.fabric.world.journal p.fabric.world.steps (rests_from 0 files p.fabric) settled) to.over.captures
 
-  pub texts_are : (i : Inputs) (p : Played) → IsPlayedTo switch manager host i p → (out : List ℕ) (settled : Bool) (text : List ℕ) → text ≡ summary_by p settled →
-      saved_texts out p.fabric.world.plan p.fabric.world.journal text ≡ saved_texts out i.plan p.fabric.world.journal (summary_of i p.fabric settled)
-  texts_are i p to out settled text is =
-      ap (λ plan. saved_texts out plan p.fabric.world.journal text) to.plan
-      ∙ ap (λ t. saved_texts out i.plan p.fabric.world.journal t) (is ∙ summary_as i p to settled)
+  pub texts_are : (out : List ℕ) → texts_by out p settled ≡ saved_texts out i.plan p.fabric.world.journal (summary_of i p.fabric settled)
+  texts_are out =
+      ap (λ plan. saved_texts out plan p.fabric.world.journal (summary_by p settled)) to.plan
+      ∙ ap (λ t. saved_texts out i.plan p.fabric.world.journal t) summary_as
 
-  pub printed_is : (i : Inputs) (p : Played) → IsPlayedTo switch manager host i p → (settled : Bool) (text : List ℕ) → text ≡ summary_by p settled → text ≡ summary_of i p.fabric settled
-  printed_is i p to settled text is = is ∙ summary_as i p to settled
+  pub printed_is : printed_by p settled ≡ record { name = standard_output; text = summary_of i p.fabric settled } ∷ []
+  printed_is = ap (λ (text : List ℕ). let first : Saving = record { name = standard_output; text = text } in first ∷ []) summary_as
 
-  -- what comes of it, once all was saved or a write failed
-  pub saves_run : (old new : ShelfMoment) (i : Inputs) (p : Played) (to : IsPlayedTo switch manager host i p) (settled : Bool) → IsTrue settled ↔ IsSettled p.fabric.world →
-      (out text : List ℕ) → text ≡ summary_by p settled → AreSaved old.held new.held (saved_texts out p.fabric.world.plan p.fabric.world.journal text) →
-      new.read_faults ≡ old.read_faults → new.write_faults ≡ old.write_faults → Comes switch manager host old new i (texts_of switch manager host out i) status.Done
-  unfolding saved_texts
-  saves_run old new i p to settled is out text told saved reads writes = (
-    is_played i p to settled is,
-    record {
-      saved = subst (λ s. AreSaved old.held new.held s) (texts_are i p to out settled text told) saved;
-      reads = reads;
-      writes = writes;
-    },
-  )
+-- What comes of what was played, once its texts were saved, or a write failed.
+comes_so : (play : Play) (old new : ShelfMoment) (i : Inputs) (texts : IsPlayed play i → List Saving) (is : IsPlayed play i) (savings : List Saving) → savings ≡ texts is →
+    (e : Status) → EndsSaving old new savings e → Comes play old new i texts e
+comes_so play old new i texts is savings are status.Done ends = (is, subst (λ s. Saves old new s) are ends)
+comes_so play old new i texts is savings are (status.WriteFault name) ends = (is, subst (λ s. SavingFails old new s name) are ends)
+comes_so play old new i texts is savings are status.OutOfMemory ends = ends
+comes_so play old new i texts is savings are status.Usage ends = absurd ends
+comes_so play old new i texts is savings are (status.ReadFault name) ends = absurd ends
+comes_so play old new i texts is savings are (status.TooLong name) ends = absurd ends
+comes_so play old new i texts is savings are (status.BadTopology reason) ends = absurd ends
+comes_so play old new i texts is savings are (status.BadScript line reason) ends = absurd ends
+comes_so play old new i texts is savings are (status.BadCapture host e at) ends = absurd ends
+comes_so play old new i texts is savings are (status.BadSection host e) ends = absurd ends
+comes_so play old new i texts is savings are (status.ExpectFailed line) ends = absurd ends
+comes_so play old new i texts is savings are (status.Refused line reason) ends = absurd ends
+comes_so play old new i texts is savings are (status.StepsSpent line) ends = absurd ends
+comes_so play old new i texts is savings are (status.JournalFull line) ends = absurd ends
 
-  pub breaks_run : (old new : ShelfMoment) (i : Inputs) (p : Played) (to : IsPlayedTo switch manager host i p) (settled : Bool) → IsTrue settled ↔ IsSettled p.fabric.world →
-      (out text name : List ℕ) → text ≡ summary_by p settled → BreaksOff old.held new.held (saved_texts out p.fabric.world.plan p.fabric.world.journal text) name →
-      new.read_faults ≡ old.read_faults → old.write_faults ≤ new.write_faults → Rose old.write_faults new.write_faults →
-      Comes switch manager host old new i (texts_of switch manager host out i) (status.WriteFault name)
-  unfolding saved_texts
-  breaks_run old new i p to settled is out text name told saved reads grows rose = (
-    is_played i p to settled is,
-    record {
-      saved = subst (λ s. BreaksOff old.held new.held s name) (texts_are i p to out settled text told) saved;
-      reads = reads;
-      grows = grows;
-      rose = rose;
-    },
-  )
+pub saved_comes : (play : Play) (old new : ShelfMoment) (i : Inputs) (p : Played) (to : IsPlayedTo play i p) (settled : Bool) → IsTrue settled ↔ play.rests p.fabric.world →
+    (out : List ℕ) (e : Status) → EndsSaving old new (texts_by out p settled) e → Comes play old new i (texts_of play out i) e
+saved_comes play old new i p to settled is out e ends =
+    comes_so play old new i (texts_of play out i) (is_played play i p to settled is) (texts_by out p settled) (texts_are play i p to settled out) e ends
 
-  pub one_is : (i : Inputs) (p : Played) → IsPlayedTo switch manager host i p → (settled : Bool) (output text : List ℕ) → output ≡ standard_output → text ≡ summary_by p settled →
-      one output text ≡ one standard_output (summary_of i p.fabric settled)
-  one_is i p to settled output text is told = ap (λ n. one n text) is ∙ ap (λ t. one standard_output t) (told ∙ summary_as i p to settled)
-
-  pub prints_run : (old new : ShelfMoment) (i : Inputs) (p : Played) (to : IsPlayedTo switch manager host i p) (settled : Bool) → IsTrue settled ↔ IsSettled p.fabric.world →
-      (output text : List ℕ) → output ≡ standard_output → text ≡ summary_by p settled → AreSaved old.held new.held (one output text) →
-      new.read_faults ≡ old.read_faults → new.write_faults ≡ old.write_faults → Comes switch manager host old new i (printed_of switch manager host i) status.Done
-  prints_run old new i p to settled is output text named told saved reads writes = (
-    is_played i p to settled is,
-    record {
-      saved = subst (λ s. AreSaved old.held new.held s) (one_is i p to settled output text named told) saved;
-      reads = reads;
-      writes = writes;
-    },
-  )
-
-  pub print_breaks : (old new : ShelfMoment) (i : Inputs) (p : Played) (to : IsPlayedTo switch manager host i p) (settled : Bool) → IsTrue settled ↔ IsSettled p.fabric.world →
-      (output text name : List ℕ) → output ≡ standard_output → text ≡ summary_by p settled → BreaksOff old.held new.held (one output text) name →
-      new.read_faults ≡ old.read_faults → old.write_faults ≤ new.write_faults → Rose old.write_faults new.write_faults →
-      Comes switch manager host old new i (printed_of switch manager host i) (status.WriteFault name)
-  print_breaks old new i p to settled is output text name named told saved reads grows rose = (
-    is_played i p to settled is,
-    record {
-      saved = subst (λ s. BreaksOff old.held new.held s name) (one_is i p to settled output text named told) saved;
-      reads = reads;
-      grows = grows;
-      rose = rose;
-    },
-  )
+pub printed_comes : (play : Play) (old new : ShelfMoment) (i : Inputs) (p : Played) (to : IsPlayedTo play i p) (settled : Bool) → IsTrue settled ↔ play.rests p.fabric.world →
+    (e : Status) → EndsSaving old new (printed_by p settled) e → Comes play old new i (printed_of play i) e
+printed_comes play old new i p to settled is e ends =
+    comes_so play old new i (printed_of play i) (is_played play i p to settled is) (printed_by p settled) (printed_is play i p to settled) e ends

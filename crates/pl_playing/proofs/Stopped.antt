@@ -2,15 +2,12 @@
 use Rattle.std.proofs.Common.{◌≡◌, ℕ, Bool, true, false, List, Some, refl, ap, ◌∙◌}
 use Rattle.pl_inputs.specs.declared.status.Status.{Status}
 use Rattle.pl_inputs.specs.Inputs.{Inputs}
-use Rattle.pl_node.specs.HostInputs.{HostRule}
-use Rattle.pl_node.specs.ManagerDuties.{ManagerRule}
-use Rattle.pl_node.specs.SwitchInputs.{SwitchRule}
 use Rattle.pl_output.specs.Saved.{Saving}
 use Rattle.pl_script_rule.specs.declared.stop.Stop.{Stop}
 use Rattle.pl_script_rule.specs.declared.stop.Stop.TheVariants.{ExpectFailed, Refused}
 use Rattle.pl_inputs.specs.declared.status.Status.TheVariants as status
 use Rattle.pl_world.specs.declared.error.StepError.TheVariants as error
-use Rattle.pl_playing.specs.Outcomes.{Comes, IsPlayed, IsStopped, IsUntouched, outcome}
+use Rattle.pl_playing.specs.Outcomes.{Comes, Course, IsPlayed, IsStopped, IsUntouched, Play, outcome}
 use Rattle.pl_shelf.specs.Held.{ShelfMoment}
 use Rattle.pl_playing.specs.Plays.{IsUnplayed}
 
@@ -36,14 +33,14 @@ outcome_is (line, Refused error.Memory) = refl
 not_both : (b : Bool) → b ≡ false → b ≡ true → ⊥
 not_both b is was = cc
 
-module _ (switch : SwitchRule) (manager : ManagerRule) (host : HostRule) where
-  pub no_stop : (i : Inputs) (e : Status) → is_of_stop e ≡ false → IsStopped switch manager host i e → ⊥
-  no_stop i e other s = not_both (is_of_stop e) other (ap is_of_stop s.answered ∙ outcome_is s.stopped)
+pub no_stop : (leads : Course) (i : Inputs) (e : Status) → is_of_stop e ≡ false → IsStopped leads i e → ⊥
+no_stop leads i e other s = not_both (is_of_stop e) other (ap is_of_stop s.answered ∙ outcome_is s.stopped)
 
+module _ (play : Play) where
   -- a script that was not played to its end
-  pub unplayed_comes : (old new : ShelfMoment) → IsUntouched old new → (i : Inputs) (texts : IsPlayed switch manager host i → List Saving) (e : Status) → IsUnplayed switch manager host i e → Comes switch manager host old new i texts e
-  unplayed_comes old new stays i texts status.Done u = absurd (no_stop i status.Done refl u)
-  unplayed_comes old new stays i texts (status.WriteFault name) u = absurd (no_stop i (status.WriteFault name) refl u)
+  pub unplayed_comes : (old new : ShelfMoment) → IsUntouched old new → (i : Inputs) (texts : IsPlayed play i → List Saving) (e : Status) → IsUnplayed play.leads i e → Comes play old new i texts e
+  unplayed_comes old new stays i texts status.Done u = absurd (no_stop play.leads i status.Done refl u)
+  unplayed_comes old new stays i texts (status.WriteFault name) u = absurd (no_stop play.leads i (status.WriteFault name) refl u)
   unplayed_comes old new stays i texts status.OutOfMemory u = stays
   unplayed_comes old new stays i texts status.Usage u = (u, stays)
   unplayed_comes old new stays i texts (status.ReadFault name) u = (u, stays)

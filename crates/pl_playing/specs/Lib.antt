@@ -1,3 +1,4 @@
 pub mod Outcomes
+pub mod Networks
 pub mod Plays
 pub mod Prepared

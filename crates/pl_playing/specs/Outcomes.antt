@@ -3,22 +3,15 @@ use Rattle.std.specs.Prelude.{◌≡◌, ◌≤◌, ◌↔◌, ℕ, suc, ◌-◌
 use Rattle.std.specs.Option.{option_map_or}
 use Rattle.pl_shelf.specs.Held.{Held, Same, ShelfMoment, standard_output}
 use Rattle.pl_shelf.specs.Faults.{Rose}
-use Rattle.pl_wiring.specs.declared.host.Host.{Host}
 use Rattle.pl_inputs.specs.declared.status.Status.{Status}
 use Rattle.pl_inputs.specs.Inputs.{Inputs}
 use Rattle.pl_inputs.specs.Records.{Recorded, records_in_file, tail_of_file}
 use Rattle.pl_node.specs.HostViews.{held_count}
-use Rattle.pl_node.specs.HostInputs.{HostRule}
-use Rattle.pl_node.specs.ManagerDuties.{ManagerRule}
-use Rattle.pl_node.specs.SwitchInputs.{SwitchRule}
 use Rattle.pl_world.specs.declared.error.StepError.{StepError}
 use Rattle.pl_world.specs.declared.limits.Limits.{Limits}
-use Rattle.pl_fabric.specs.Settled.{IsSettled}
-use Rattle.pl_law_theorem.specs.OneSwitch.{IsOneSwitch}
+use Rattle.pl_world.specs.Worlds.{WorldView}
 use Rattle.pl_script_rule.specs.declared.stop.Stop.{Stop}
 use Rattle.pl_script_rule.specs.declared.stop.Stop.TheVariants.{ExpectFailed, Refused}
-use Rattle.pl_script_rule.specs.Asked.{DoesAsAsked}
-use Rattle.pl_script_rule.specs.Lines.{Plays}
 use Rattle.pl_script_rule.specs.Scenes.{Scene, asked_of}
 use Rattle.pl_output.specs.declared.summary.Rest.{Rest}
 use Rattle.pl_output.specs.Receipts.{saved_texts}
@@ -90,27 +83,39 @@ outcome None = status.Done
 outcome (Some (line, ExpectFailed)) = status.ExpectFailed line
 outcome (Some (line, Refused reason)) = refused_at line reason
 
-module _ (switch : SwitchRule) (manager : ManagerRule) (host : HostRule) where
-  -- The script of what was read is played on a fabric of switches, the manager and hosts, by these rules: up to its last line,
-  -- or up to the first line that is stopped.
-  abbrev pub PlaysTo : Inputs → Option (ℕ × Stop) → Scene → Type 0
-  PlaysTo i end scene = Plays switch manager host i.plan run_limits (records_of i) i.lines end scene
+-- what a script makes of what was read: at which scene it ends, and why it was stopped, if it was
+abbrev pub Course : Type 1
+Course = Inputs → Option (ℕ × Stop) → Scene → Type 0
 
-  -- each host did just what the script asks of it, and what the frames that arrived bring about
-  abbrev pub HostsDoAsAsked : Inputs → Scene → Type 0
-  HostsDoAsAsked i scene =
-      (n : ℕ) (at : Host) → slice_get i.plan.hosts n ≡ Some at → DoesAsAsked host i.plan (records_of i) i.lines n at scene.world
+-- What a network makes of a script, what is known of a scene in which a script ended, and when a world is settled.
+pub record Play : Type 1 where
+  pub leads : Course
+  pub known : Inputs → Scene → Type 0
+  pub rests : WorldView → Type 0
 
-  -- Inputs that were played to the end of the script, and whether the fabric is settled then. To its hosts the fabric is one lossy switch, and the
-  -- journal is a run of that.
+-- the script was stopped, and this is what is answered for it
+pub record IsStopped (leads : Course) (i : Inputs) (e : Status) : Type 0 where
+  pub stopped : ℕ × Stop
+  pub scene : Scene
+  pub played : leads i (Some stopped) scene
+  pub answered : e ≡ outcome (Some stopped)
+
+-- these texts were to be saved of what was played
+abbrev pub EndsSaving : ShelfMoment → ShelfMoment → List Saving → Status → Type 0
+EndsSaving old new savings status.Done = Saves old new savings
+EndsSaving old new savings (status.WriteFault name) = SavingFails old new savings name
+EndsSaving old new savings status.OutOfMemory = IsUntouched old new
+EndsSaving old new savings e = ⊥
+
+module _ (play : Play) where
+  -- Inputs that were played to the end of the script, what is known then, and whether the world is settled.
   pub record IsPlayed (i : Inputs) : Type 0 where
     pub scene : Scene
-    pub played : PlaysTo i None scene
+    pub played : play.leads i None scene
     pub wiring : scene.world.plan ≡ i.plan
-    pub behaviour : HostsDoAsAsked i scene
-    pub one_switch : IsOneSwitch switch manager host scene.world
+    pub known : play.known i scene
     pub settled : Bool
-    pub is_settled : IsTrue settled ↔ IsSettled scene.world
+    pub is_settled : IsTrue settled ↔ play.rests scene.world
 
   -- what is saved of them in this folder: the captures that the hosts receive, the journal and the summary
   abbrev pub texts_of : List ℕ → (i : Inputs) → IsPlayed i → List Saving
@@ -120,17 +125,10 @@ module _ (switch : SwitchRule) (manager : ManagerRule) (host : HostRule) where
   abbrev pub printed_of : (i : Inputs) → IsPlayed i → List Saving
   printed_of i is = record { name = standard_output; text = summary_of i is.scene is.settled } ∷ []
 
-  -- the script was stopped, and this is what is answered for it
-  pub record IsStopped (i : Inputs) (e : Status) : Type 0 where
-    pub stopped : ℕ × Stop
-    pub scene : Scene
-    pub played : PlaysTo i (Some stopped) scene
-    pub answered : e ≡ outcome (Some stopped)
-
   -- What comes of inputs that were read, of which these texts are saved once they were played. Want of memory has no cause that could be
   -- told, and it leaves all as it was, as each stop does.
   abbrev pub Comes : ShelfMoment → ShelfMoment → (i : Inputs) → (IsPlayed i → List Saving) → Status → Type 0
   Comes old new i texts status.Done = (is : IsPlayed i) × Saves old new (texts is)
   Comes old new i texts (status.WriteFault name) = (is : IsPlayed i) × SavingFails old new (texts is) name
   Comes old new i texts status.OutOfMemory = IsUntouched old new
-  Comes old new i texts e = IsStopped i e × IsUntouched old new
+  Comes old new i texts e = IsStopped play.leads i e × IsUntouched old new

@@ -1,51 +1,34 @@
-ghost use Rattle.std.specs.Prelude.{◌≡◌, ◌<◌, ◌-◌, ◌^◌, IfErr, IfOk, Some, length, slice_index_or, [], string_bytes};
+ghost use Rattle.std.specs.Prelude.{◌≡◌, ◌<◌, ◌-◌, ◌^◌, ◌↔◌, IfErr, IfOk, IsTrue, Some, length, slice_index_or, [], string_bytes};
 ghost use Rattle.pl_inputs.specs.Loaded.{files_of, inputs_of};
 ghost use Rattle.pl_inputs.specs.Records.{records_of};
+ghost use Rattle.pl_fabric.specs.Drains.{IsDrained};
+ghost use Rattle.pl_fabric.specs.Settled.{IsSettled};
+ghost use Rattle.pl_world.specs.Flying.{IsCounted};
 ghost use Rattle.pl_script_rule.specs.Lines.{left_of};
 ghost use Rattle.pl_script_rule.specs.declared.stop.Stop.TheVariants as stop;
+ghost use Rattle.pl_playing.specs.Networks.{PlaysTo};
 ghost use Rattle.pl_playing.specs.Outcomes.{held_at, outcome, rests_from};
-ghost use Rattle.pl_playing.specs.Plays.{IsPlayedOver, IsPlayedTo, IsUnplayed, played_over, summary_by};
+ghost use Rattle.pl_playing.specs.Plays.{IsPlayedOver, IsUnplayed, played_over, summary_by};
 
+use pl_fabric::{drained, settled};
 use pl_frame::Memory;
-use pl_host_rule::LawfulHost;
-use pl_inputs::{Capture, Inputs, Status, StepReason};
-use pl_law_runs::{each_run_keeps_the_wiring, every_entry_can_be_saved};
-use pl_law_theorem::lawful_logic_is_one_switch;
-use pl_manager_rule::LawfulManager;
-use pl_node::HostLogic;
+use pl_inputs::{Capture, Inputs, Network, Status, StepReason};
+use pl_node::{HostLogic, ManagerLogic, SwitchLogic};
 use pl_output::summary::{Rest, summary};
 use pl_player::{Player, Stopped};
-use pl_script_rule::{Stop, a_script_is_a_run, hosts_do_what_is_asked};
-use pl_switch_rule::LooseSwitch;
+use pl_script_rule::Stop;
 use pl_wiring::HostNo;
 use pl_world::{Limits, StepError};
 use std::alloc::Global;
 
-/// Plays the script of what was read: a fabric on which it was played to its end, and the captures that it was played over. What came of it is a run
-/// of the fabric, so that it can be saved.
-pub(crate) fn play<S: LooseSwitch, M: LawfulManager, H: LawfulHost>(
+/// Plays the script of what was read: a network on which it was played to its end, and the captures that it was played over.
+pub(crate) fn play_script<S: SwitchLogic, M: ManagerLogic, H: HostLogic>(
     alloc: Global,
+    network: Network,
     inputs: Inputs,
 ) -> Result<(Player<S, M, H>, Vec<Capture>), Status>
-    ensures ok { IfOk result (λ played. IsPlayedTo S.rule M.rule H.rule (inputs_of inputs) (played_over played.0 played.1.items)) }
-    ensures err { IfErr result (λ e. IsUnplayed S.rule M.rule H.rule (inputs_of inputs) e) }
-{
-    a_script_is_a_run::<S, M, H>();
-    hosts_do_what_is_asked::<S, M, H>();
-    every_entry_can_be_saved::<S, M, H>();
-    each_run_keeps_the_wiring::<S, M, H>();
-    lawful_logic_is_one_switch::<S, M, H>();
-    // The laws are of plans, and the wiring's is one.
-    let _hosts = inputs.wiring.hosts();
-    play_script(alloc, inputs)
-}
-
-fn play_script<S: LooseSwitch, M: LawfulManager, H: LawfulHost>(
-    alloc: Global,
-    inputs: Inputs,
-) -> Result<(Player<S, M, H>, Vec<Capture>), Status>
-    ensures ok { IfOk result (λ played. IsPlayedOver S.rule M.rule H.rule (inputs_of inputs) (played_over played.0 played.1.items)) }
-    ensures err { IfErr result (λ e. IsUnplayed S.rule M.rule H.rule (inputs_of inputs) e) }
+    ensures ok { IfOk result (λ played. IsPlayedOver (PlaysTo S.rule M.rule H.rule network) (inputs_of inputs) (played_over played.0 played.1.items)) }
+    ensures err { IfErr result (λ e. IsUnplayed (PlaysTo S.rule M.rule H.rule network) (inputs_of inputs) e) }
 {
     let Inputs {
         wiring,
@@ -59,7 +42,7 @@ fn play_script<S: LooseSwitch, M: LawfulManager, H: LawfulHost>(
         bytes: 268_435_456,
     };
     let mut fabric: Player<S, M, H> = Player::begin(alloc, wiring, limits)?;
-    match fabric.play(&captures, script.lines()) {
+    match fabric.play_on(network, &captures, script.lines()) {
         Ok(()) => Ok((fabric, captures)),
         Err(stopped) => Err(status_of(stopped)),
     }
@@ -89,8 +72,27 @@ fn refused_at(line: u32, reason: StepError) -> Status
     }
 }
 
-/// The text of the summary; `is_settled` says whether the fabric is settled now.
-pub(crate) fn summary_of<S: LooseSwitch, M: LawfulManager, H: LawfulHost>(
+/// Whether a fabric is settled.
+pub(crate) fn is_settled<S: SwitchLogic, M: ManagerLogic, H: HostLogic>(
+    fabric: &Player<S, M, H>,
+) -> bool
+    requires { IsCounted fabric.now.world }
+    ensures { IsTrue result ↔ IsSettled fabric.now.world }
+{
+    settled(fabric.world())
+}
+
+/// Whether no queue of bridges has items.
+pub(crate) fn is_drained<S: SwitchLogic, M: ManagerLogic, H: HostLogic>(
+    bridges: &Player<S, M, H>,
+) -> bool
+    ensures { IsTrue result ↔ IsDrained bridges.now.world }
+{
+    drained(bridges.world())
+}
+
+/// The text of the summary; `is_settled` says whether the network is settled now.
+pub(crate) fn summary_of<S: SwitchLogic, M: ManagerLogic, H: HostLogic>(
     alloc: Global,
     fabric: &Player<S, M, H>,
     captures: &[Capture],
@@ -114,7 +116,7 @@ pub(crate) fn summary_of<S: LooseSwitch, M: LawfulManager, H: LawfulHost>(
 }
 
 // What is left of each host.
-fn rests<S: LooseSwitch, M: LawfulManager, H: LawfulHost>(
+fn rests<S: SwitchLogic, M: ManagerLogic, H: HostLogic>(
     alloc: Global,
     fabric: &Player<S, M, H>,
     captures: &[Capture],
@@ -131,7 +133,7 @@ fn rests<S: LooseSwitch, M: LawfulManager, H: LawfulHost>(
     Ok(rests)
 }
 
-fn rest_of<S: LooseSwitch, M: LawfulManager, H: LawfulHost>(
+fn rest_of<S: SwitchLogic, M: ManagerLogic, H: HostLogic>(
     fabric: &Player<S, M, H>,
     captures: &[Capture],
     h: HostNo,

@@ -5,10 +5,10 @@ use Rattle.pl_shelf.specs.Held.{Held, IsLonger, HoldsExactly, holds}
 use Rattle.pl_wiring.specs.declared.host.Host.{Host}
 use Rattle.pl_wiring.specs.Plan.{Plan}
 use Rattle.pl_script.specs.declared.script.ScriptLine.{ScriptLine}
-use Rattle.pl_script.specs.Meaning.{script_of}
 use Rattle.pl_topology.specs.Meaning.{topology_of}
 use Rattle.pl_inputs.specs.Folders.{in_folder}
-use Rattle.pl_inputs.specs.Inputs.{AreCaptures, AreRead, HasLines, HasPlan, Inputs, IsCaptureAt}
+use Rattle.pl_inputs.specs.Inputs.{AreCaptures, AreRead, HasLines, HasPlan, Inputs, IsCaptureAt, script_for}
+use Rattle.pl_inputs.specs.declared.words.Network.{Network}
 use Rattle.pl_inputs.specs.Words.{Asked}
 use Rattle.pl_run.specs.Complete.{AreCapturesShown, AreShown, IsCaptureShown, IsShown}
 
@@ -43,11 +43,11 @@ one_plan held name told plan other is was =
     let same : is.0 ≡ was.0 = one_file held name told is.0 was.0 is.1.whole was.1.whole in
     one_ok (topology_of is.0) plan other is.2 (ap topology_of same ∙ was.2)
 
-pub one_script : (held : List ℕ → Held) (name : List ℕ) → IsShown held name → (plan : Plan) (lines others : List ScriptLine) → HasLines held name plan lines →
-    HasLines held name plan others → lines ≡ others
-one_script held name told plan lines others is was =
+pub one_script : (held : List ℕ → Held) (network : Network) (name : List ℕ) → IsShown held name → (plan : Plan) (lines others : List ScriptLine) → HasLines held network name plan lines →
+    HasLines held network name plan others → lines ≡ others
+one_script held network name told plan lines others is was =
     let same : is.0 ≡ was.0 = one_file held name told is.0 was.0 is.1.whole was.1.whole in
-    one_ok (script_of plan is.0) lines others is.2 (ap (script_of plan) same ∙ was.2)
+    one_ok (script_for network plan is.0) lines others is.2 (ap (script_for network plan) same ∙ was.2)
 
 pub one_capture : (held : List ℕ → Held) (folder : List ℕ) (capture : Option (List ℕ)) → IsCaptureShown held folder capture → (file other : List ℕ) →
     IsCaptureAt held folder capture file → IsCaptureAt held folder capture other → file ≡ other
@@ -73,8 +73,8 @@ made plan lines captures = record { plan = plan; lines = lines; captures = captu
 pub one_input : (held : List ℕ → Held) (asked : Asked) (i j : Inputs) → AreShown held asked i.plan.hosts → AreRead held asked i → AreRead held asked j → i ≡ j
 one_input held asked i j told is was =
     let plan : i.plan ≡ j.plan = one_plan held asked.topology told.topology i.plan j.plan is.topology was.topology in
-    let lines : i.lines ≡ j.lines = one_script held asked.script told.script i.plan i.lines j.lines is.script
-    (subst (λ p. HasLines held asked.script p j.lines) (sym plan) was.script) in
+    let lines : i.lines ≡ j.lines = one_script held asked.network asked.script told.script i.plan i.lines j.lines is.script
+    (subst (λ p. HasLines held asked.network asked.script p j.lines) (sym plan) was.script) in
     let captures : i.captures ≡ j.captures = one_list held asked.captures i.plan.hosts told.captures i.captures j.captures is.captures
     (subst (λ (p : Plan). AreCaptures held asked.captures p.hosts j.captures) (sym plan) was.captures) in
     ap (λ p. made p i.lines i.captures) plan ∙ ap (λ l. made j.plan l i.captures) lines ∙ ap (λ c. made j.plan j.lines c) captures

@@ -10,6 +10,8 @@ use Rattle.pl_inputs.specs.declared.fault.CaptureFault.TheVariants.{OfRecords, O
 use Rattle.pl_inputs.specs.declared.status.Status.{Status}
 use Rattle.pl_inputs.specs.Inputs.{AreRead, Inputs, text_limit}
 use Rattle.pl_inputs.specs.Unread.{IsLongName, IsRefusedCapture, IsTooMuch}
+use Rattle.pl_inputs.specs.declared.words.Network.{Network}
+use Rattle.pl_inputs.specs.declared.words.Network.TheVariants as networks
 use Rattle.pl_inputs.specs.Words.{Asked}
 use Rattle.pl_script_rule.specs.declared.stop.Stop.{Stop}
 use Rattle.pl_script_rule.specs.Scenes.{Scene}
@@ -23,15 +25,15 @@ use Rattle.pl_run.proofs.Stages.{no_bad_script, no_bad_topology, no_long_script,
 use Rattle.pl_run.specs.Fabric.{IsStopped, PlaysTo}
 
 -- the inputs that were played are these
-abbrev pub IsPlayedAs : Inputs → Status → Type 0
-IsPlayedAs i e = (end : Option (ℕ × Stop)) × (scene : Scene) × PlaysTo i end scene × (e ≡ outcome end)
+abbrev pub IsPlayedAs : Network → Inputs → Status → Type 0
+IsPlayedAs network i e = (end : Option (ℕ × Stop)) × (scene : Scene) × PlaysTo network i end scene × (e ≡ outcome end)
 
-stopped_as : (i j : Inputs) (e : Status) → j ≡ i → IsStopped j e → IsPlayedAs i e
-stopped_as i j e same s = (Some s.stopped, s.scene, subst (λ x. PlaysTo x (Some s.stopped) s.scene) same s.played, s.answered)
+stopped_as : (network : Network) (i j : Inputs) (e : Status) → j ≡ i → IsStopped network j e → IsPlayedAs network i e
+stopped_as network i j e same s = (Some s.stopped, s.scene, subst (λ x. PlaysTo network x (Some s.stopped) s.scene) same s.played, s.answered)
 
 played_as : (held : List ℕ → Held) (asked : Asked) (i j : Inputs) (e : Status) → AreShown held asked i.plan.hosts → AreRead held asked i → AreRead held asked j →
-    IsStopped j e → IsPlayedAs i e
-played_as held asked i j e told is was s = stopped_as i j e (sym (one_input held asked i j told is was)) s
+    IsStopped asked.network j e → IsPlayedAs asked.network i e
+played_as held asked i j e told is was s = stopped_as asked.network i j e (sym (one_input held asked i j told is was)) s
 
 shown_front : (held : List ℕ → Held) (folder : List ℕ) (hosts : List Host) (n : ℕ) → AreCapturesShown held folder hosts → AreCapturesShown held folder (take n hosts)
 shown_front held folder hosts n told = All-take (λ h. IsCaptureShown held folder h.capture) n hosts told
@@ -60,7 +62,7 @@ no_long_name held asked i told is name (inr (inr l)) =
 pub answers_by_playing : (old new : ShelfMoment) (asked : Asked) (e : Status) → Answers old new asked e → AnswersByPlaying old new asked e
 answers_by_playing old new asked status.Done a i is told none =
     let same : a.0 ≡ i = sym (one_input old.held asked i a.0 told is a.1) in
-    inl (None, a.2.0.scene, subst (λ x. PlaysTo x None a.2.0.scene) same a.2.0.played, refl)
+    inl (None, a.2.0.scene, subst (λ x. PlaysTo asked.network x None a.2.0.scene) same a.2.0.played, refl)
 answers_by_playing old new asked (status.ExpectFailed line) a i is told none =
     inl (played_as old.held asked i a.0 (status.ExpectFailed line) told is a.1 a.2.0)
 answers_by_playing old new asked (status.Refused line reason) a i is told none =
@@ -87,10 +89,17 @@ answers_by_playing old new asked status.Usage a i is told none = absurd a.0
 
 -- one script comes to one end
 abbrev pub OneEnd : Type 0
-OneEnd = (i : Inputs) (end other : Option (ℕ × Stop)) (scene another : Scene) → PlaysTo i end scene → PlaysTo i other another → end ≡ other
+OneEnd = (network : Network) (i : Inputs) (end other : Option (ℕ × Stop)) (scene another : Scene) → PlaysTo network i end scene → PlaysTo network i other another → end ≡ other
+
+abbrev pub OneEndOn : Network → Type 0
+OneEndOn network = (i : Inputs) (end other : Option (ℕ × Stop)) (scene another : Scene) → PlaysTo network i end scene → PlaysTo network i other another → end ≡ other
+
+pub one_end : OneEndOn networks.Fabric → OneEndOn networks.Bridges → OneEnd
+one_end fabric bridges networks.Fabric = fabric
+one_end fabric bridges networks.Bridges = bridges
 
 pub answers_inputs : OneEnd → (old new : ShelfMoment) (asked : Asked) (e : Status) → Answers old new asked e → AnswersInputs old new asked e
 answers_inputs one old new asked e a i end scene is told none plays = elim (answers_by_playing old new asked e a i is told none) [
-  | inl p ↦ inl (p.3 ∙ ap outcome (one i p.0 end p.1 scene p.2 plays))
+  | inl p ↦ inl (p.3 ∙ ap outcome (one asked.network i p.0 end p.1 scene p.2 plays))
   | inr memory ↦ inr memory
 ]

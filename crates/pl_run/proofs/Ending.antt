@@ -6,6 +6,8 @@ use Rattle.pl_shelf.specs.Faults.{Rose}
 use Rattle.pl_wiring.specs.Plan.{Plan}
 use Rattle.pl_inputs.specs.declared.status.Status.{Status}
 use Rattle.pl_inputs.specs.declared.words.Generation.{Generation}
+use Rattle.pl_inputs.specs.declared.words.Network.{Network}
+use Rattle.pl_inputs.specs.declared.words.Network.TheVariants.{Fabric}
 use Rattle.pl_inputs.specs.Inputs.{AreRead, HasPlan, Inputs}
 use Rattle.pl_inputs.specs.Loads.{IsUnplanned, Reads}
 use Rattle.pl_inputs.specs.Unread.{IsUnread}
@@ -14,14 +16,11 @@ use Rattle.pl_output.specs.Saved.{AreSaved, BreaksOff, IsBroken, IsSavedWhole, O
 use Rattle.pl_generator.specs.Generated.{AreGenerated}
 use Rattle.pl_inputs.specs.declared.status.Status.TheVariants as status
 use Rattle.pl_playing.specs.Outcomes.{IsUntouched, Saves, SavingFails}
-use Rattle.pl_host_rule.specs.HostRule.{host_rule}
-use Rattle.pl_manager_rule.specs.ManagerRule.{manager_rule}
-use Rattle.pl_switch_rule.specs.SwitchRule.{Exact}
 use Rattle.pl_playing.proofs.Exports.{no_stop}
 use Rattle.pl_run.specs.Answers.{Answers}
 use Rattle.pl_run.specs.Checks.{AnswersCheck, EndsCheck, line_of}
 use Rattle.pl_run.specs.Generated.{AnswersGenerated, IsUngenerated, ReadsGenerated, generated_files, without_read_fault}
-use Rattle.pl_run.specs.Fabric.{Comes, IsPlayed, printed_of, texts_of}
+use Rattle.pl_run.specs.Fabric.{Comes, IsPlayed, play_on, printed_of, texts_of}
 
 -- a shelf that holds the same, and of which no call failed
 pub record IsSameMoment (old new : ShelfMoment) : Type 0 where
@@ -75,24 +74,25 @@ fails_since old mid new is savings name s = record {
   rose = subst (λ n. Rose n new.write_faults) is.writes s.rose;
 }
 
-pub comes_since : (old mid new : ShelfMoment) → IsSameMoment old mid → (i : Inputs) (texts : IsPlayed i → List Saving) (e : Status) → Comes mid new i texts e → Comes old new i texts e
-comes_since old mid new is i texts status.Done c = (c.0, saves_since old mid new is (texts c.0) c.1)
-comes_since old mid new is i texts (status.WriteFault name) c = (c.0, fails_since old mid new is (texts c.0) name c.1)
-comes_since old mid new is i texts status.OutOfMemory c = untouched_since old mid new is c
-comes_since old mid new is i texts status.Usage c = (c.0, untouched_since old mid new is c.1)
-comes_since old mid new is i texts (status.ReadFault name) c = (c.0, untouched_since old mid new is c.1)
-comes_since old mid new is i texts (status.TooLong name) c = (c.0, untouched_since old mid new is c.1)
-comes_since old mid new is i texts (status.BadTopology reason) c = (c.0, untouched_since old mid new is c.1)
-comes_since old mid new is i texts (status.BadScript line reason) c = (c.0, untouched_since old mid new is c.1)
-comes_since old mid new is i texts (status.BadCapture host e at) c = (c.0, untouched_since old mid new is c.1)
-comes_since old mid new is i texts (status.BadSection host e) c = (c.0, untouched_since old mid new is c.1)
-comes_since old mid new is i texts (status.ExpectFailed line) c = (c.0, untouched_since old mid new is c.1)
-comes_since old mid new is i texts (status.Refused line reason) c = (c.0, untouched_since old mid new is c.1)
-comes_since old mid new is i texts (status.StepsSpent line) c = (c.0, untouched_since old mid new is c.1)
-comes_since old mid new is i texts (status.JournalFull line) c = (c.0, untouched_since old mid new is c.1)
+pub comes_since : (network : Network) (old mid new : ShelfMoment) → IsSameMoment old mid → (i : Inputs) (texts : IsPlayed network i → List Saving) (e : Status) →
+    Comes network mid new i texts e → Comes network old new i texts e
+comes_since network old mid new is i texts status.Done c = (c.0, saves_since old mid new is (texts c.0) c.1)
+comes_since network old mid new is i texts (status.WriteFault name) c = (c.0, fails_since old mid new is (texts c.0) name c.1)
+comes_since network old mid new is i texts status.OutOfMemory c = untouched_since old mid new is c
+comes_since network old mid new is i texts status.Usage c = (c.0, untouched_since old mid new is c.1)
+comes_since network old mid new is i texts (status.ReadFault name) c = (c.0, untouched_since old mid new is c.1)
+comes_since network old mid new is i texts (status.TooLong name) c = (c.0, untouched_since old mid new is c.1)
+comes_since network old mid new is i texts (status.BadTopology reason) c = (c.0, untouched_since old mid new is c.1)
+comes_since network old mid new is i texts (status.BadScript line reason) c = (c.0, untouched_since old mid new is c.1)
+comes_since network old mid new is i texts (status.BadCapture host e at) c = (c.0, untouched_since old mid new is c.1)
+comes_since network old mid new is i texts (status.BadSection host e) c = (c.0, untouched_since old mid new is c.1)
+comes_since network old mid new is i texts (status.ExpectFailed line) c = (c.0, untouched_since old mid new is c.1)
+comes_since network old mid new is i texts (status.Refused line reason) c = (c.0, untouched_since old mid new is c.1)
+comes_since network old mid new is i texts (status.StepsSpent line) c = (c.0, untouched_since old mid new is c.1)
+comes_since network old mid new is i texts (status.JournalFull line) c = (c.0, untouched_since old mid new is c.1)
 
 -- a run whose inputs were read
-pub run_answers : (old new : ShelfMoment) (asked : Asked) (i : Inputs) → AreRead old.held asked i → (e : Status) → Comes old new i (texts_of asked.out i) e → Answers old new asked e
+pub run_answers : (old new : ShelfMoment) (asked : Asked) (i : Inputs) → AreRead old.held asked i → (e : Status) → Comes asked.network old new i (texts_of asked.network asked.out i) e → Answers old new asked e
 run_answers old new asked i read status.Done c = (i, read, c)
 run_answers old new asked i read (status.WriteFault name) c = (i, read, c)
 run_answers old new asked i read (status.ExpectFailed line) c = (i, read, c)
@@ -100,13 +100,13 @@ run_answers old new asked i read (status.Refused line reason) c = (i, read, c)
 run_answers old new asked i read (status.StepsSpent line) c = (i, read, c)
 run_answers old new asked i read (status.JournalFull line) c = (i, read, c)
 run_answers old new asked i read status.OutOfMemory c = (tt, c)
-run_answers old new asked i read status.Usage c = absurd (no_stop Exact manager_rule host_rule i status.Usage refl c.0)
-run_answers old new asked i read (status.ReadFault name) c = absurd (no_stop Exact manager_rule host_rule i (status.ReadFault name) refl c.0)
-run_answers old new asked i read (status.TooLong name) c = absurd (no_stop Exact manager_rule host_rule i (status.TooLong name) refl c.0)
-run_answers old new asked i read (status.BadTopology reason) c = absurd (no_stop Exact manager_rule host_rule i (status.BadTopology reason) refl c.0)
-run_answers old new asked i read (status.BadScript line reason) c = absurd (no_stop Exact manager_rule host_rule i (status.BadScript line reason) refl c.0)
-run_answers old new asked i read (status.BadCapture host e at) c = absurd (no_stop Exact manager_rule host_rule i (status.BadCapture host e at) refl c.0)
-run_answers old new asked i read (status.BadSection host e) c = absurd (no_stop Exact manager_rule host_rule i (status.BadSection host e) refl c.0)
+run_answers old new asked i read status.Usage c = absurd (no_stop (play_on asked.network).leads i status.Usage refl c.0)
+run_answers old new asked i read (status.ReadFault name) c = absurd (no_stop (play_on asked.network).leads i (status.ReadFault name) refl c.0)
+run_answers old new asked i read (status.TooLong name) c = absurd (no_stop (play_on asked.network).leads i (status.TooLong name) refl c.0)
+run_answers old new asked i read (status.BadTopology reason) c = absurd (no_stop (play_on asked.network).leads i (status.BadTopology reason) refl c.0)
+run_answers old new asked i read (status.BadScript line reason) c = absurd (no_stop (play_on asked.network).leads i (status.BadScript line reason) refl c.0)
+run_answers old new asked i read (status.BadCapture host e at) c = absurd (no_stop (play_on asked.network).leads i (status.BadCapture host e at) refl c.0)
+run_answers old new asked i read (status.BadSection host e) c = absurd (no_stop (play_on asked.network).leads i (status.BadSection host e) refl c.0)
 
 -- a run whose inputs were not read
 pub unread_answers : (old new : ShelfMoment) (asked : Asked) → Same old.held new.held → new.write_faults ≡ old.write_faults → (e : Status) →
@@ -165,7 +165,7 @@ unplanned_answers old new topology same writes (status.StepsSpent line) u reads 
 unplanned_answers old new topology same writes (status.JournalFull line) u reads = absurd u
 
 -- generated files that were read
-pub generated_answers : (old new : ShelfMoment) (g : Generation) (i : Inputs) → ReadsGenerated g i → (e : Status) → Comes old new i (printed_of i) e →
+pub generated_answers : (old new : ShelfMoment) (g : Generation) (i : Inputs) → ReadsGenerated g i → (e : Status) → Comes Fabric old new i (printed_of Fabric i) e →
     AnswersGenerated old new g.k g.number g.frames e
 generated_answers old new g i read status.Done c = (read.0, read.1, (i, read.2, c))
 generated_answers old new g i read (status.WriteFault name) c = (read.0, read.1, (i, read.2, c))
@@ -174,13 +174,13 @@ generated_answers old new g i read (status.Refused line reason) c = (read.0, rea
 generated_answers old new g i read (status.StepsSpent line) c = (read.0, read.1, (i, read.2, c))
 generated_answers old new g i read (status.JournalFull line) c = (read.0, read.1, (i, read.2, c))
 generated_answers old new g i read status.OutOfMemory c = c
-generated_answers old new g i read status.Usage c = absurd (no_stop Exact manager_rule host_rule i status.Usage refl c.0)
-generated_answers old new g i read (status.ReadFault name) c = absurd (no_stop Exact manager_rule host_rule i (status.ReadFault name) refl c.0)
-generated_answers old new g i read (status.TooLong name) c = absurd (no_stop Exact manager_rule host_rule i (status.TooLong name) refl c.0)
-generated_answers old new g i read (status.BadTopology reason) c = absurd (no_stop Exact manager_rule host_rule i (status.BadTopology reason) refl c.0)
-generated_answers old new g i read (status.BadScript line reason) c = absurd (no_stop Exact manager_rule host_rule i (status.BadScript line reason) refl c.0)
-generated_answers old new g i read (status.BadCapture host e at) c = absurd (no_stop Exact manager_rule host_rule i (status.BadCapture host e at) refl c.0)
-generated_answers old new g i read (status.BadSection host e) c = absurd (no_stop Exact manager_rule host_rule i (status.BadSection host e) refl c.0)
+generated_answers old new g i read status.Usage c = absurd (no_stop (play_on Fabric).leads i status.Usage refl c.0)
+generated_answers old new g i read (status.ReadFault name) c = absurd (no_stop (play_on Fabric).leads i (status.ReadFault name) refl c.0)
+generated_answers old new g i read (status.TooLong name) c = absurd (no_stop (play_on Fabric).leads i (status.TooLong name) refl c.0)
+generated_answers old new g i read (status.BadTopology reason) c = absurd (no_stop (play_on Fabric).leads i (status.BadTopology reason) refl c.0)
+generated_answers old new g i read (status.BadScript line reason) c = absurd (no_stop (play_on Fabric).leads i (status.BadScript line reason) refl c.0)
+generated_answers old new g i read (status.BadCapture host e at) c = absurd (no_stop (play_on Fabric).leads i (status.BadCapture host e at) refl c.0)
+generated_answers old new g i read (status.BadSection host e) c = absurd (no_stop (play_on Fabric).leads i (status.BadSection host e) refl c.0)
 
 -- and those that were not
 pub ungenerated_answers : (old new : ShelfMoment) → IsUntouched old new → (g : Generation) (e : Status) → IsUngenerated g e → AnswersGenerated old new g.k g.number g.frames e

@@ -3,6 +3,8 @@ use Rattle.std.proofs.Common.{◌≡◌, ℕ, ◌<◌, List, refl, arith}
 use Rattle.pl_shelf.specs.Held.{Held, ShelfMoment}
 use Rattle.pl_inputs.specs.declared.status.Status.{Status}
 use Rattle.pl_inputs.specs.Inputs.{Inputs}
+use Rattle.pl_inputs.specs.declared.words.Network.{Network}
+use Rattle.pl_inputs.specs.declared.words.Network.TheVariants.{Fabric}
 use Rattle.pl_inputs.specs.Words.{Asked, Check, Generate, Run, Task}
 use Rattle.pl_output.specs.Saved.{Saving}
 use Rattle.pl_inputs.specs.declared.status.Status.TheVariants as status
@@ -42,24 +44,24 @@ write_tells old new savings name is = record {
   writes = λ more. (name, refl);
 }
 
-comes_tells : (old new : ShelfMoment) (i : Inputs) (texts : IsPlayed i → List Saving) (e : Status) → Comes old new i texts e → TellsFaults old new e
-comes_tells old new i texts status.Done c = saves_tells old new (texts c.0) status.Done c.1
-comes_tells old new i texts (status.WriteFault name) c = write_tells old new (texts c.0) name c.1
-comes_tells old new i texts status.OutOfMemory c = untouched_tells old new status.OutOfMemory c
-comes_tells old new i texts status.Usage c = untouched_tells old new status.Usage c.1
-comes_tells old new i texts (status.ReadFault name) c = untouched_tells old new (status.ReadFault name) c.1
-comes_tells old new i texts (status.TooLong name) c = untouched_tells old new (status.TooLong name) c.1
-comes_tells old new i texts (status.BadTopology reason) c = untouched_tells old new (status.BadTopology reason) c.1
-comes_tells old new i texts (status.BadScript line reason) c = untouched_tells old new (status.BadScript line reason) c.1
-comes_tells old new i texts (status.BadCapture host e at) c = untouched_tells old new (status.BadCapture host e at) c.1
-comes_tells old new i texts (status.BadSection host e) c = untouched_tells old new (status.BadSection host e) c.1
-comes_tells old new i texts (status.ExpectFailed line) c = untouched_tells old new (status.ExpectFailed line) c.1
-comes_tells old new i texts (status.Refused line reason) c = untouched_tells old new (status.Refused line reason) c.1
-comes_tells old new i texts (status.StepsSpent line) c = untouched_tells old new (status.StepsSpent line) c.1
-comes_tells old new i texts (status.JournalFull line) c = untouched_tells old new (status.JournalFull line) c.1
+comes_tells : (network : Network) (old new : ShelfMoment) (i : Inputs) (texts : IsPlayed network i → List Saving) (e : Status) → Comes network old new i texts e → TellsFaults old new e
+comes_tells network old new i texts status.Done c = saves_tells old new (texts c.0) status.Done c.1
+comes_tells network old new i texts (status.WriteFault name) c = write_tells old new (texts c.0) name c.1
+comes_tells network old new i texts status.OutOfMemory c = untouched_tells old new status.OutOfMemory c
+comes_tells network old new i texts status.Usage c = untouched_tells old new status.Usage c.1
+comes_tells network old new i texts (status.ReadFault name) c = untouched_tells old new (status.ReadFault name) c.1
+comes_tells network old new i texts (status.TooLong name) c = untouched_tells old new (status.TooLong name) c.1
+comes_tells network old new i texts (status.BadTopology reason) c = untouched_tells old new (status.BadTopology reason) c.1
+comes_tells network old new i texts (status.BadScript line reason) c = untouched_tells old new (status.BadScript line reason) c.1
+comes_tells network old new i texts (status.BadCapture host e at) c = untouched_tells old new (status.BadCapture host e at) c.1
+comes_tells network old new i texts (status.BadSection host e) c = untouched_tells old new (status.BadSection host e) c.1
+comes_tells network old new i texts (status.ExpectFailed line) c = untouched_tells old new (status.ExpectFailed line) c.1
+comes_tells network old new i texts (status.Refused line reason) c = untouched_tells old new (status.Refused line reason) c.1
+comes_tells network old new i texts (status.StepsSpent line) c = untouched_tells old new (status.StepsSpent line) c.1
+comes_tells network old new i texts (status.JournalFull line) c = untouched_tells old new (status.JournalFull line) c.1
 
 run_tells : (old new : ShelfMoment) (asked : Asked) (e : Status) → IsRun old new asked e → TellsFaults old new e
-run_tells old new asked e a = comes_tells old new a.0 (texts_of asked.out a.0) e a.2
+run_tells old new asked e a = comes_tells asked.network old new a.0 (texts_of asked.network asked.out a.0) e a.2
 
 answers_tells : (old new : ShelfMoment) (asked : Asked) (e : Status) → Answers old new asked e → TellsFaults old new e
 answers_tells old new asked status.Done a = run_tells old new asked status.Done a
@@ -95,7 +97,7 @@ check_tells old new topology (status.JournalFull line) a = untouched_tells old n
 
 -- a run over generated files
 made_tells : (old new : ShelfMoment) (held : List ℕ → Held) (e : Status) → IsGeneratedRun old new held e → TellsFaults old new e
-made_tells old new held e a = comes_tells old new a.0 (printed_of a.0) e a.2
+made_tells old new held e a = comes_tells Fabric old new a.0 (printed_of Fabric a.0) e a.2
 
 over_tells : (old new : ShelfMoment) (held : List ℕ → Held) (e : Status) → AnswersOver old new held e → TellsFaults old new e
 over_tells old new held status.Done a = made_tells old new held status.Done a

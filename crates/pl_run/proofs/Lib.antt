@@ -6,3 +6,4 @@ pub mod CompleteAnswers
 pub mod CompleteStops
 pub mod FaultAnswers
 pub mod Preparing
+pub mod OnBridges

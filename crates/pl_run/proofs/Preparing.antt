@@ -5,6 +5,7 @@ use Rattle.pl_shelf.specs.Capacity.{FitsBehind, IsReadable}
 use Rattle.pl_shelf.specs.Held.{Held, Same, created}
 use Rattle.pl_inputs.specs.declared.status.Status.{Status}
 use Rattle.pl_inputs.specs.declared.words.Generation.{Generation}
+use Rattle.pl_inputs.specs.declared.words.Network.{Network}
 use Rattle.pl_inputs.specs.Inputs.{Inputs}
 use Rattle.pl_inputs.specs.Loads.{IsUnplanned, IsUnpromised}
 use Rattle.pl_inputs.specs.Unread.{IsUnread}
@@ -35,9 +36,9 @@ pub have_room_since : (before after : List ℕ → Option ℕ) (old new : List �
 have_room_since before after old new savings kept same are =
     All-weaker (HasRoom before old) (HasRoom after new) (λ s is. has_room_since before after old new s kept same is) savings are
 
-pub room_since : (before after : List ℕ → Option ℕ) (old new : List ℕ → Held) (i : Inputs) (texts : IsPlayed i → List Saving) → after ≡ before → Same old new →
-    HasRoomFor before old i texts → HasRoomFor after new i texts
-room_since before after old new i texts kept same room = λ is. have_room_since before after old new (texts is) kept same (room is)
+pub room_since : (network : Network) (before after : List ℕ → Option ℕ) (old new : List ℕ → Held) (i : Inputs) (texts : IsPlayed network i → List Saving) → after ≡ before → Same old new →
+    HasRoomFor network before old i texts → HasRoomFor network after new i texts
+room_since network before after old new i texts kept same room = λ is. have_room_since before after old new (texts is) kept same (room is)
 
 -- a run whose inputs were not read
 pub unread_names_none : (before after : List ℕ → Option ℕ) (old new : List ℕ → Held) (asked : Asked) → after ≡ before → Same old new →

@@ -7,11 +7,10 @@ use Rattle.pl_script.specs.declared.error.ScriptError.{ScriptError}
 use Rattle.pl_script.specs.declared.error.ScriptError.TheVariants.{Line, Memory}
 use Rattle.pl_script.specs.declared.error.ScriptReason.{ScriptReason}
 use Rattle.pl_script.specs.declared.script.ScriptLine.{ScriptLine}
-use Rattle.pl_script.specs.Meaning.{script_of}
 use Rattle.pl_topology.specs.declared.error.TopologyError.{TopologyError}
 use Rattle.pl_topology.specs.Meaning.{topology_of}
 use Rattle.pl_inputs.specs.declared.status.Status.{Status}
-use Rattle.pl_inputs.specs.Inputs.{HasLines, HasPlan, IsLoaded, text_limit}
+use Rattle.pl_inputs.specs.Inputs.{HasLines, HasPlan, IsLoaded, script_for, text_limit}
 use Rattle.pl_inputs.specs.Unread.{AreTextsRead}
 use Rattle.pl_inputs.specs.Words.{Asked}
 use Rattle.pl_inputs.specs.declared.status.Status.TheVariants as status
@@ -37,7 +36,7 @@ pub no_long_topology : (held : List ℕ → Held) (topology : List ℕ) (plan : 
     IsLonger (held topology) text_limit → ⊥
 no_long_topology held topology plan told has longer = not_longer held topology told has.0 text_limit has.1.whole has.1.within longer
 
-pub no_long_script : (held : List ℕ → Held) (asked : Asked) (plan : Plan) (lines : List ScriptLine) → IsShown held asked.script → HasLines held asked.script plan lines →
+pub no_long_script : (held : List ℕ → Held) (asked : Asked) (plan : Plan) (lines : List ScriptLine) → IsShown held asked.script → HasLines held asked.network asked.script plan lines →
     IsLonger (held asked.script) text_limit → ⊥
 no_long_script held asked plan lines told has longer = not_longer held asked.script told has.0 text_limit has.1.whole has.1.within longer
 
@@ -48,12 +47,12 @@ no_bad_topology held topology plan told has file reason loaded refused =
     ok_err (topology_of file) plan reason (ap topology_of same ∙ has.2) refused
 
 pub no_bad_script : (held : List ℕ → Held) (asked : Asked) (plan other : Plan) (lines : List ScriptLine) → IsShown held asked.topology → IsShown held asked.script →
-    HasPlan held asked.topology plan → HasPlan held asked.topology other → HasLines held asked.script plan lines → (file : List ℕ) (e : ScriptError) →
-    IsLoaded held asked.script text_limit file → script_of other file ≡ Err e → ⊥
+    HasPlan held asked.topology plan → HasPlan held asked.topology other → HasLines held asked.network asked.script plan lines → (file : List ℕ) (e : ScriptError) →
+    IsLoaded held asked.script text_limit file → script_for asked.network other file ≡ Err e → ⊥
 no_bad_script held asked plan other lines topology script has had written file e loaded refused =
     let plans : other ≡ plan = one_plan held asked.topology topology other plan had has in
     let same : file ≡ written.0 = one_file held asked.script script file written.0 loaded.whole written.1.whole in
-    ok_err (script_of other file) lines e (ap (λ p. script_of p file) plans ∙ ap (script_of plan) same ∙ written.2) refused
+    ok_err (script_for asked.network other file) lines e (ap (λ p. script_for asked.network p file) plans ∙ ap (script_for asked.network plan) same ∙ written.2) refused
 
 -- the ways in which a topology's stage may end
 abbrev IsAccepted : ShelfMoment → List ℕ → Type 0
@@ -78,7 +77,7 @@ TopologyStage old new topology e = IsAccepted old topology ⊎ (IsRefused old to
 abbrev IsScriptRefused : ShelfMoment → Asked → Status → Type 0
 IsScriptRefused old asked e =
     (plan : Plan) × (file : List ℕ) × (line : ℕ) × (reason : ScriptReason) × HasPlan old.held asked.topology plan
-    × IsLoaded old.held asked.script text_limit file × (script_of plan file ≡ Err (Line line reason)) × (e ≡ status.BadScript line reason)
+    × IsLoaded old.held asked.script text_limit file × (script_for asked.network plan file ≡ Err (Line line reason)) × (e ≡ status.BadScript line reason)
 
 abbrev IsScriptTooLong : ShelfMoment → Asked → Status → Type 0
 IsScriptTooLong old asked e =
@@ -209,8 +208,8 @@ bad_script_by old new asked e (inl a) plan file line reason topology script has 
 bad_script_by old new asked e (inr (inl s)) plan file line reason topology script has loaded refused none =
     let plans : s.0 ≡ plan = one_plan old.held asked.topology topology s.0 plan s.4 has in
     let same : s.1 ≡ file = one_file old.held asked.script script s.1 file s.5.whole loaded.whole in
-    let was : script_of plan file ≡ Err (Line s.2 s.3) = ap (λ p. script_of p file) (sym plans) ∙ ap (script_of s.0) (sym same) ∙ s.6 in
-    inl (s.7 ∙ ap script_status (one_err (script_of plan file) (Line s.2 s.3) (Line line reason) was refused))
+    let was : script_for asked.network plan file ≡ Err (Line s.2 s.3) = ap (λ p. script_for asked.network p file) (sym plans) ∙ ap (script_for asked.network s.0) (sym same) ∙ s.6 in
+    inl (s.7 ∙ ap script_status (one_err (script_for asked.network plan file) (Line s.2 s.3) (Line line reason) was refused))
 bad_script_by old new asked e (inr (inr (inl l))) plan file line reason topology script has loaded refused none =
     absurd (not_longer old.held asked.script script file text_limit loaded.whole loaded.within l.1)
 bad_script_by old new asked e (inr (inr (inr (inl r)))) plan file line reason topology script has loaded refused none =

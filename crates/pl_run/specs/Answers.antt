@@ -10,7 +10,7 @@ use Rattle.pl_run.specs.Fabric.{Comes, texts_of}
 
 -- What each answer says of a run whose inputs are read from the shelf: they were read and something came of them; or they were not.
 abbrev pub IsRun : ShelfMoment → ShelfMoment → Asked → Status → Type 0
-IsRun old new asked e = (i : Inputs) × AreRead old.held asked i × Comes old new i (texts_of asked.out i) e
+IsRun old new asked e = (i : Inputs) × AreRead old.held asked i × Comes asked.network old new i (texts_of asked.network asked.out i) e
 
 abbrev pub Answers : ShelfMoment → ShelfMoment → Asked → Status → Type 0
 Answers old new asked status.Done = IsRun old new asked status.Done

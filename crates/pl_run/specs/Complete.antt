@@ -7,14 +7,13 @@ use Rattle.pl_wiring.specs.declared.host.HostNo.{HostNo}
 use Rattle.pl_wiring.specs.Plan.{Plan}
 use Rattle.pl_script.specs.declared.error.ScriptError.TheVariants.{Line}
 use Rattle.pl_script.specs.declared.error.ScriptReason.{ScriptReason}
-use Rattle.pl_script.specs.Meaning.{script_of}
 use Rattle.pl_topology.specs.declared.error.TopologyError.{TopologyError}
 use Rattle.pl_topology.specs.Meaning.{topology_of}
 use Rattle.pl_inputs.specs.declared.fault.CaptureFault.{CaptureFault}
 use Rattle.pl_inputs.specs.declared.fault.CaptureFault.TheVariants.{OfRecords, OfSections}
 use Rattle.pl_inputs.specs.declared.status.Status.{Status}
 use Rattle.pl_inputs.specs.Folders.{in_folder}
-use Rattle.pl_inputs.specs.Inputs.{AreRead, HasPlan, Inputs, IsLoaded, text_limit}
+use Rattle.pl_inputs.specs.Inputs.{AreRead, HasPlan, Inputs, IsLoaded, script_for, text_limit}
 use Rattle.pl_inputs.specs.Unread.{AreTextsRead, IsRefusedCapture, IsTooMuch}
 use Rattle.pl_inputs.specs.Words.{Asked}
 use Rattle.pl_script_rule.specs.declared.stop.Stop.{Stop}
@@ -56,13 +55,13 @@ AnswersButForMemory result e = (result ≡ e) ⊎ (result ≡ status.OutOfMemory
 abbrev pub AnswersByPlaying : ShelfMoment → ShelfMoment → Asked → Status → Type 0
 AnswersByPlaying old new asked result =
     (i : Inputs) → AreRead old.held asked i → AreShown old.held asked i.plan.hosts → NoFaults old new
-    → ((end : Option (ℕ × Stop)) × (scene : Scene) × PlaysTo i end scene × (result ≡ outcome end)) ⊎ (result ≡ status.OutOfMemory)
+    → ((end : Option (ℕ × Stop)) × (scene : Scene) × PlaysTo asked.network i end scene × (result ≡ outcome end)) ⊎ (result ≡ status.OutOfMemory)
 
 -- whatever they come to by being played, that is the answer
 abbrev pub AnswersInputs : ShelfMoment → ShelfMoment → Asked → Status → Type 0
 AnswersInputs old new asked result =
     (i : Inputs) (end : Option (ℕ × Stop)) (scene : Scene) → AreRead old.held asked i → AreShown old.held asked i.plan.hosts
-    → NoFaults old new → PlaysTo i end scene → AnswersButForMemory result (outcome end)
+    → NoFaults old new → PlaysTo asked.network i end scene → AnswersButForMemory result (outcome end)
 
 -- a topology of this name that is accepted is enough for its wiring to be told
 abbrev pub AnswersTopology : ShelfMoment → ShelfMoment → List ℕ → Status → Type 0
@@ -84,7 +83,7 @@ AnswersLongTopology old new topology result =
 abbrev pub AnswersBadScript : ShelfMoment → ShelfMoment → Asked → Status → Type 0
 AnswersBadScript old new asked result =
     (plan : Plan) (file : List ℕ) (line : ℕ) (reason : ScriptReason) → IsShown old.held asked.topology → IsShown old.held asked.script
-    → HasPlan old.held asked.topology plan → IsLoaded old.held asked.script text_limit file → script_of plan file ≡ Err (Line line reason)
+    → HasPlan old.held asked.topology plan → IsLoaded old.held asked.script text_limit file → script_for asked.network plan file ≡ Err (Line line reason)
     → NoFaults old new → AnswersButForMemory result (status.BadScript line reason)
 
 -- a script that is longer than is allowed is answered with its name

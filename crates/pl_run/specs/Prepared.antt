@@ -4,6 +4,7 @@ use Rattle.pl_shelf.specs.Capacity.{IsReadable}
 use Rattle.pl_shelf.specs.Held.{Held}
 use Rattle.pl_wiring.specs.Plan.{Plan}
 use Rattle.pl_inputs.specs.declared.words.Generation.{Generation}
+use Rattle.pl_inputs.specs.declared.words.Network.TheVariants.{Fabric}
 use Rattle.pl_inputs.specs.Inputs.{AreRead, HasPlan, Inputs}
 use Rattle.pl_inputs.specs.Unread.{IsReadName}
 use Rattle.pl_inputs.specs.Words.{Asked, Check, Generate, Run, Task}
@@ -15,7 +16,7 @@ use Rattle.pl_run.specs.Fabric.{HasRoomFor, printed_of, texts_of}
 -- for a run: each name that it reads, and whatever it then saves
 pub record IsPreparedRun (capacity : List ℕ → Option ℕ) (held : List ℕ → Held) (asked : Asked) : Type 0 where
   pub reads : (name : List ℕ) → IsReadName held asked name → IsReadable (capacity name) (held name)
-  pub saves : (i : Inputs) → AreRead held asked i → HasRoomFor capacity held i (texts_of asked.out i)
+  pub saves : (i : Inputs) → AreRead held asked i → HasRoomFor asked.network capacity held i (texts_of asked.network asked.out i)
 
 -- for a topology that is checked
 pub record IsPreparedCheck (capacity : List ℕ → Option ℕ) (held : List ℕ → Held) (topology : List ℕ) : Type 0 where
@@ -24,7 +25,7 @@ pub record IsPreparedCheck (capacity : List ℕ → Option ℕ) (held : List ℕ
 
 -- for a run that is generated
 abbrev pub IsPreparedGenerated : (List ℕ → Option ℕ) → (List ℕ → Held) → Generation → Type 0
-IsPreparedGenerated capacity held g = (i : Inputs) → ReadsGenerated g i → HasRoomFor capacity held i (printed_of i)
+IsPreparedGenerated capacity held g = (i : Inputs) → ReadsGenerated g i → HasRoomFor Fabric capacity held i (printed_of Fabric i)
 
 abbrev pub IsPrepared : (List ℕ → Option ℕ) → (List ℕ → Held) → Task → Type 0
 IsPrepared capacity held (Run asked) = IsPreparedRun capacity held asked

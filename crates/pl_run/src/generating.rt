@@ -8,7 +8,7 @@ ghost use Rattle.pl_run.specs.Prepared.{IsPreparedGenerated};
 
 use pl_generator::generate;
 use pl_host::Host;
-use pl_inputs::{Files, Generation, Inputs, Status, load_inputs};
+use pl_inputs::{Files, Generation, Inputs, Network, Status, load_inputs};
 use pl_manager::Manager;
 use pl_playing::play_and_print;
 use pl_shelf::Shelf;
@@ -20,6 +20,7 @@ fn generated_files() -> Files<'static>
     ensures { asked result ≡ generated_files }
 {
     Files {
+        network: Network::Fabric,
         topology: "topology.toml",
         script: "script",
         captures: "captures",

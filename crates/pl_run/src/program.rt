@@ -17,7 +17,7 @@ use crate::check::check;
 use crate::generating::generate_and_run;
 use crate::running::run;
 use pl_inputs::{Status, Task, task_of};
-use pl_law_executions::one_script_one_end;
+use pl_law_executions::{one_script_one_end, one_script_one_end_of_bridges};
 use pl_shelf::Shelf;
 use std::alloc::Global;
 
@@ -28,6 +28,9 @@ use std::alloc::Global;
 /// capture of each that names one; it plays the script on a whole fabric, up to its last line or to the
 /// first that is stopped; and then it saves each host's capture in order, the journal and, on standard
 /// output, the summary. Nothing takes memory from the first name that is created on.
+///
+/// `bridge` takes the same items and does the same on learning bridges, on the tree that is left when before
+/// the first line all links but those of the tree fail.
 ///
 /// `check` takes `--topology`, reads it, and prints the line of its wiring on standard output.
 ///
@@ -71,6 +74,7 @@ pub fn portland<S: Shelf>(alloc: Global, words: &[&str], shelf: &mut S) -> Statu
         return Status::Usage;
     };
     one_script_one_end();
+    one_script_one_end_of_bridges();
     status_of(perform(alloc, &task, shelf))
 }
 

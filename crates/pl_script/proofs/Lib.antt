@@ -3,3 +3,5 @@ pub mod LineLemmas
 pub mod NumberLemmas
 pub mod NameLemmas
 pub mod Readings
+pub mod BridgeLines
+pub mod Exports

@@ -6,3 +6,4 @@ pub mod Names
 pub mod Numbers
 pub mod Forms
 pub mod Meaning
+pub mod ForBridges

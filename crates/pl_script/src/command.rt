@@ -56,6 +56,8 @@ pub enum Command {
     Sweep(u32),
     /// Rounds until the fabric is settled, at most so many.
     Settle(u32),
+    /// Sweeps until no queue has items, at most so many: what `settle` asks of bridges. No other line has it.
+    Drain(u32),
     /// Random steps: the number that they begin from, and how many.
     Random(u64, u32),
     /// The host is to have received so many frames.

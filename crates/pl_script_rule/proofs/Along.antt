@@ -15,7 +15,8 @@ use Rattle.pl_world.specs.Worlds.{WorldView}
 use Rattle.pl_fabric.specs.Executions.{Execution, GoesOnBehind, Makes, MakesAll, Stays, Then, Times}
 use Rattle.pl_fabric.specs.Draws.{Draws, delivery_or_tick, drawn, next_number}
 use Rattle.pl_fabric.specs.Rounds.{GoesRound, Sweeps, TicksAll, Visits, VisitsAll, queues_from, waiting}
-use Rattle.pl_fabric.specs.Settlings.{GoesRounds}
+use Rattle.pl_fabric.specs.Drains.{GoesSweeps, IsDrained}
+use Rattle.pl_fabric.specs.Settlings.{GoesRounds, GoesUntil, IsAtRest}
 
 -- from any world to the one that the execution comes to
 abbrev pub Along : (WorldView → WorldView → Type 0) → Execution → Type 0
@@ -63,6 +64,11 @@ module _ (switch : SwitchRule) (manager : ManagerRule) (host : HostRule) (R : Wo
   times_along zero execution way = stays_along
   times_along (suc n) execution way = then_along execution (Times n execution) way (times_along n execution way)
 
+  until_along : (Rest : WorldView → Type 0) (execution : Execution) → Along R execution → (n : ℕ) → Along R (GoesUntil Rest execution n)
+  until_along Rest execution way zero = stays_along
+  until_along Rest execution way (suc n) = λ old end new done.
+      then_along execution (GoesUntil Rest execution n) way (until_along Rest execution way n) old end new done.1
+
   module _ (delivered : (name : QueueName) → Holds switch manager host R (Deliver name)) (ticked : (s : ℕ) → Holds switch manager host R (Tick (switch_no s))) where
     deliveries : (name : QueueName) (n : ℕ) → HoldsOfAll switch manager host R (replicate n (Deliver name))
     deliveries name zero = tt
@@ -91,9 +97,10 @@ module _ (switch : SwitchRule) (manager : ManagerRule) (host : HostRule) (R : Wo
     round_along = then_along (TicksAll switch manager host) (Times 4 (Sweeps switch manager host)) ticks_along (times_along 4 (Sweeps switch manager host) sweeps_along)
 
     pub rounds_along : (n : ℕ) → Along R (GoesRounds switch manager host n)
-    rounds_along zero = stays_along
-    rounds_along (suc n) = λ old end new done.
-        then_along (GoesRound switch manager host) (GoesRounds switch manager host n) round_along (rounds_along n) old end new done.1
+    rounds_along = until_along IsAtRest (GoesRound switch manager host) round_along
+
+    pub drains_along : (n : ℕ) → Along R (GoesSweeps switch manager host n)
+    drains_along = until_along IsDrained (Sweeps switch manager host) sweeps_along
 
     by_name : (o : Option QueueName) (s : ℕ) → Holds switch manager host R (delivery_or_tick o s)
     by_name None s = ticked s

@@ -1,5 +1,5 @@
 -- What a script that is played to its end asks of a host.
-use Rattle.std.proofs.Common.{◌≡◌, ◌≢◌, ℕ, zero, suc, ◌+◌, ◌-◌, ◌<◌, ◌≤◌, ◌==◌, Bool, true, false, if◌then◌else◌, List, [], ◌∷◌, ◌++◌, length, map, take, drop, MatchOption, Option, Some, None, option_map, set, slice_get, slice_index_or, inl, inr, refl, sym, ◌∙◌, ap, subst, arith}
+use Rattle.std.proofs.Common.{◌≡◌, ◌≢◌, ℕ, zero, suc, ◌+◌, ◌-◌, ◌<◌, ◌≤◌, ◌==◌, Bool, true, false, if◌then◌else◌, List, [], ◌∷◌, ◌++◌, length, map, replicate, take, drop, MatchOption, Option, Some, None, option_map, set, slice_get, slice_index_or, inl, inr, refl, sym, ◌∙◌, ap, subst, arith}
 use Rattle.std.specs.List.{flat_map, range_with_len}
 use Rattle.std.proofs.Math.Numerals.{add-one}
 use Rattle.std.proofs.lemmas.Bool.{cases_lt, eqb-false, eqb-true}
@@ -10,11 +10,12 @@ use Rattle.std.proofs.Math.ListN.{drop_of_length-le}
 use Rattle.pl_wiring.specs.declared.host.Host.{Host}
 use Rattle.pl_wiring.specs.declared.host.HostNo.{HostNo}
 use Rattle.pl_wiring.specs.declared.label.SwitchNo.{SwitchNo}
+use Rattle.pl_wiring.specs.declared.link.Link.{Link}
 use Rattle.pl_wiring.specs.Plan.{Plan}
 use Rattle.pl_journal.specs.declared.entry.Entry.{Entry}
 use Rattle.pl_journal.specs.declared.entry.Entry.TheVariants.{Line}
 use Rattle.pl_script.specs.declared.command.Command.{Command}
-use Rattle.pl_script.specs.declared.command.Command.TheVariants.{Deliver, ExpectAddress, ExpectArrived, ExpectDropped, ExpectSettled, Fail, Join, Leave, Lose, Move, Random, Raw, Repair, Retry, Send, Settle, Start, Sweep, Tick}
+use Rattle.pl_script.specs.declared.command.Command.TheVariants.{Deliver, Drain, ExpectAddress, ExpectArrived, ExpectDropped, ExpectSettled, Fail, Join, Leave, Lose, Move, Random, Raw, Repair, Retry, Send, Settle, Start, Sweep, Tick}
 use Rattle.pl_script.specs.declared.command.Count.{Count}
 use Rattle.pl_script.specs.declared.command.Count.TheVariants as count
 use Rattle.pl_script.specs.declared.command.Count.TheVariants.{N}
@@ -37,6 +38,8 @@ use Rattle.pl_world.specs.declared.limits.Limits.{Limits}
 use Rattle.pl_world.specs.Booting.{booted, host_table, me_of}
 use Rattle.pl_world.specs.Changes.{host_no, noted, switch_no}
 use Rattle.pl_world.specs.Refusals.{refusal}
+use Rattle.pl_world.specs.Runs.{WorldRun}
+use Rattle.pl_world.specs.Runs.Moment.{Step}
 use Rattle.pl_world.specs.WorldRule.{WorldStep, played_as as played_in}
 use Rattle.pl_world.specs.Worlds.{WorldView}
 use Rattle.pl_fabric.specs.declared.settling.Settling.{Settling}
@@ -44,13 +47,14 @@ use Rattle.pl_fabric.specs.declared.settling.Settling.TheVariants.{NotSettled, S
 use Rattle.pl_fabric.specs.Executions.{Execution, GoesOnBehind as StepsOn, Makes, MakesAll, Then, Times}
 use Rattle.pl_fabric.specs.Draws.{Draws}
 use Rattle.pl_fabric.specs.Rounds.{Sweeps, TicksAll}
+use Rattle.pl_law_bridge.specs.TreeWorld.{failures_of, is_off_tree}
 use Rattle.pl_script_rule.specs.declared.stop.Stop.{Stop}
 use Rattle.pl_script_rule.specs.declared.stop.Stop.TheVariants.{Refused}
 use Rattle.pl_script_rule.specs.Asked.{Behaviour, DoesAsAsked, Lives, asked_along, asked_by, asked_of_host, behaviour_in, is_meant, later_records, left_by, next_records, played_as}
-use Rattle.pl_script_rule.specs.Lines.{Asks as AsksFor, AsksNext, Does, DoesLine, DoesLines, GoesOn, Happen, Plays as Played, PlaysRecord, SettlesAsAsked, hosts_meant, left_of, outcome, records_at}
+use Rattle.pl_script_rule.specs.Lines.{Asks as AsksFor, AsksNext, Does, DoesLine, DoesLines, DrainsAsAsked, GoesOn, Happen, Plays as Played, PlaysRecord, SettlesAsAsked, hosts_meant, left_of, outcome, records_at}
 use Rattle.pl_script_rule.specs.Queues.{delivery, loss, port_towards, queue_between}
 use Rattle.pl_script_rule.specs.Scenes.{SceneExecution, GoesOnFrom, OfWorld, Often, Scene, asked_more, asked_of, begun, first_scene}
-use Rattle.pl_script_rule.proofs.Along.{Along, Holds, draws_along, rounds_along, sweeps_along, ticks_along, times_along}
+use Rattle.pl_script_rule.proofs.Along.{Along, Holds, drains_along, draws_along, rounds_along, sweeps_along, ticks_along, times_along}
 use Rattle.pl_script_rule.proofs.HostSteps.{Asks, asks_more, asks_nothing, notes}
 use Rattle.pl_script_rule.proofs.HostTurns.{asked_in, step_asks, unseen}
 
@@ -230,6 +234,18 @@ module _ (switch : SwitchRule) (manager : ManagerRule) (rule : HostRule) (n : �
         })
     settles rounds left old new at (inr done) = let refused : None ≡ Some (Refused done.0) = done.2 in absurd (cc)
 
+    drains : (sweeps : ℕ) (left : List Recorded) (old new : Scene) → At left old → DrainsAsAsked switch manager rule sweeps old None new → So [] left old new
+    drains sweeps left old new at (inl done) =
+        let asks : AsksNothing old.world (noted done.1 (outcome done.0)) =
+        quiet_on old.world done.1 (noted done.1 (outcome done.0))
+        (drains_along switch manager rule AsksNothing quiet quiet_on delivered ticked done.2.used old.world None done.1 done.2.sweeps)
+        (writes done.1 (outcome done.0) (outcome_shows done.0)) in
+        subst (λ (s : Scene). So [] left old s) (sym done.4) (record {
+          asks_of = asks;
+          stage = record { planned = asks.same ∙ at.planned; counted = at.counted; left_are = at.left_are };
+        })
+    drains sweeps left old new at (inr done) = let refused : None ≡ Some (Refused done.0) = done.2 in absurd (cc)
+
     -- ---- records
     -- the record that was asked for, and those that are left then
     record Next (raw : Bool) (left : List Recorded) (old new : Scene) : Type 0 where
@@ -378,6 +394,7 @@ module _ (switch : SwitchRule) (manager : ManagerRule) (rule : HostRule) (n : �
         (times_along switch manager rule AsksNothing quiet quiet_on times (Sweeps switch manager rule) (sweeps_along switch manager rule AsksNothing quiet quiet_on delivered ticked))
         left old new at done
     does (Settle rounds) left old new at done = settles rounds left old new at done
+    does (Drain sweeps) left old new at done = drains sweeps left old new at done
     does (Random number steps) left old new at done =
         of_quiet (Draws switch manager rule steps number) (draws_along switch manager rule AsksNothing quiet quiet_on delivered ticked steps number) left old new at done
     does (ExpectArrived h many) left old new at done = did_nothing left old new at done.0
@@ -408,17 +425,22 @@ module _ (switch : SwitchRule) (manager : ManagerRule) (rule : HostRule) (n : �
         asks_more rule n old.world done.1.world new.world (asked_by n left line.command) (asked_along n (left_by n left line.command) lines) first.asks_of
         (does_lines lines (left_by n left line.command) done.1 new first.stage on.1)
 
-  pub does_as_asked : (plan : Plan) (limits : Limits) (records : List (List Recorded)) (lines : List ScriptLine) (scene : Scene) (host : Host) →
-      slice_get plan.hosts n ≡ Some host → Played switch manager rule plan limits records lines None scene → DoesAsAsked rule plan records lines n host scene.world
+  -- from a scene on in which nothing was asked of any host
+  pub does_as_asked_from : (plan : Plan) (limits : Limits) (records : List (List Recorded)) (lines : List ScriptLine) (first : WorldView) (scene : Scene) (host : Host) →
+      slice_get plan.hosts n ≡ Some host → Asks rule n (booted plan limits) [] first →
+      DoesLines switch manager rule records lines (record { world = first; asked = replicate (length plan.hosts) 0 }) None scene →
+      DoesAsAsked rule plan records lines n host scene.world
   unfolding asked_of_host
-  does_as_asked plan limits records lines scene host found done =
+  does_as_asked_from plan limits records lines first scene host found begins done =
       let there : n < length plan.hosts = slice_get_within plan.hosts n host found in
-      let asks : Asks rule n (booted plan limits) (asked_along n (slice_index_or records n []) lines) scene.world =
-      does_lines records plan there lines (slice_index_or records n []) (first_scene plan limits) scene (record {
-        planned = refl;
+      let on : Asks rule n first (asked_along n (slice_index_or records n []) lines) scene.world =
+      does_lines records plan there lines (slice_index_or records n []) (record { world = first; asked = replicate (length plan.hosts) 0 }) scene (record {
+        planned = begins.same;
         counted = length-replicate (length plan.hosts) 0;
         left_are = ap (λ (i : ℕ). drop i (slice_index_or records n [])) (sym (get_or-replicate (length plan.hosts) n 0 0 there));
       }) done in
+      let asks : Asks rule n (booted plan limits) (asked_along n (slice_index_or records n []) lines) scene.world =
+      asks_more rule n (booted plan limits) first scene.world [] (asked_along n (slice_index_or records n []) lines) begins on in
       let boots : slice_get (booted plan limits).hosts n ≡ Some (boot_host (me_of host) (host_table plan)) =
       slice_get-map (λ (h : Host). boot_host (me_of h) (host_table plan)) plan.hosts n ∙ ap (option_map (λ (h : Host). boot_host (me_of h) (host_table plan))) found in
       let lived = asks.lives (boot_host (me_of host) (host_table plan)) boots in
@@ -429,3 +451,19 @@ module _ (switch : SwitchRule) (manager : ManagerRule) (rule : HostRule) (n : �
         asked = lived.asked;
         now = lived.now;
       }
+
+  pub does_as_asked : (plan : Plan) (limits : Limits) (records : List (List Recorded)) (lines : List ScriptLine) (scene : Scene) (host : Host) →
+      slice_get plan.hosts n ≡ Some host → Played switch manager rule plan limits records lines None scene → DoesAsAsked rule plan records lines n host scene.world
+  does_as_asked plan limits records lines scene host found done =
+      does_as_asked_from plan limits records lines (booted plan limits) scene host found (quiet (booted plan limits)) done
+
+  -- failing links ask nothing
+  pub failures_ask_nothing : (k : ℕ) (links : List Link) (old new : WorldView) → WorldRun switch manager rule old (failures_of k links) new → Asks rule n old [] new
+  failures_ask_nothing k [] old new run = subst (λ (w : WorldView). Asks rule n old [] w) (sym run) (quiet old)
+  failures_ask_nothing k (link ∷ links) old new run = by (is_off_tree k link) (λ first rest. failures_ask_nothing k links first new rest) run
+    where
+      by : (b : Bool) → ((first : WorldView) → WorldRun switch manager rule first (failures_of k links) new → Asks rule n first [] new) →
+          WorldRun switch manager rule old (if b then Step (event.Fail link.lower link.upper) ∷ failures_of k links else failures_of k links) new → Asks rule n old [] new
+      by true next fails =
+          quiet_on old fails.0 new (step_asks n switch manager rule old (event.Fail link.lower link.upper) fails.0 fails.1.1) (next fails.0 fails.2)
+      by false next stays = next old stays

@@ -1,5 +1,6 @@
 pub mod Along
 pub mod ScriptRuns
+pub mod TreeRuns
 pub mod HostSteps
 pub mod HostTurns
 pub mod HostScripts

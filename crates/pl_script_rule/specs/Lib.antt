@@ -3,3 +3,4 @@ pub mod Queues
 pub mod Expecting
 pub mod Lines
 pub mod Asked
+pub mod OnTree

@@ -6,7 +6,7 @@ use Rattle.pl_wiring.specs.Plan.{Plan}
 use Rattle.pl_journal.specs.declared.entry.Entry.{Entry}
 use Rattle.pl_journal.specs.declared.entry.Entry.TheVariants as entry
 use Rattle.pl_script.specs.declared.command.Command.{Command}
-use Rattle.pl_script.specs.declared.command.Command.TheVariants.{Deliver, ExpectAddress, ExpectArrived, ExpectDropped, ExpectSettled, Fail, Join, Leave, Lose, Move, Random, Raw, Repair, Retry, Send, Settle, Start, Sweep, Tick}
+use Rattle.pl_script.specs.declared.command.Command.TheVariants.{Deliver, Drain, ExpectAddress, ExpectArrived, ExpectDropped, ExpectSettled, Fail, Join, Leave, Lose, Move, Random, Raw, Repair, Retry, Send, Settle, Start, Sweep, Tick}
 use Rattle.pl_script.specs.declared.command.Count.{Count}
 use Rattle.pl_script.specs.declared.command.Count.TheVariants as count
 use Rattle.pl_script.specs.declared.command.Count.TheVariants.{N}
@@ -28,6 +28,7 @@ use Rattle.pl_world.specs.Worlds.{WorldView}
 use Rattle.pl_fabric.specs.declared.settling.Settling.{Settling}
 use Rattle.pl_fabric.specs.declared.settling.Settling.TheVariants.{NotSettled, Settled}
 use Rattle.pl_fabric.specs.Executions.{Makes, MakesAll, Times}
+use Rattle.pl_fabric.specs.Drains.{Drains, GoesSweeps}
 use Rattle.pl_fabric.specs.Draws.{Draws}
 use Rattle.pl_fabric.specs.Rounds.{Sweeps, TicksAll}
 use Rattle.pl_fabric.specs.Settlings.{GoesRounds, Settles}
@@ -86,6 +87,14 @@ module _ (switch : SwitchRule) (manager : ManagerRule) (host : HostRule) where
       ⊎ ((reason : StepError) × GoesRounds switch manager host rounds old.world (Some reason) new.world
       × (end ≡ Some (Refused reason)) × (new.asked ≡ old.asked))
 
+  -- sweeps until no queue has items, and how that ended; or a step of them is refused
+  abbrev pub DrainsAsAsked : ℕ → SceneExecution
+  DrainsAsAsked sweeps old end new =
+      ((answer : Settling) × (between : WorldView) × Drains switch manager host sweeps old.world answer between
+      × (end ≡ None) × (new ≡ record old { world = noted between (outcome answer) }))
+      ⊎ ((reason : StepError) × GoesSweeps switch manager host sweeps old.world (Some reason) new.world
+      × (end ≡ Some (Refused reason)) × (new.asked ≡ old.asked))
+
   -- what a command asks for
   abbrev pub Does : List (List Recorded) → Command → SceneExecution
   Does records (Start who) = λ old. Happen (map event.Start (hosts_meant old.world.plan who)) old
@@ -103,6 +112,7 @@ module _ (switch : SwitchRule) (manager : ManagerRule) (host : HostRule) where
   Does records (Tick None) = OfWorld (TicksAll switch manager host)
   Does records (Sweep times) = OfWorld (Times times (Sweeps switch manager host))
   Does records (Settle rounds) = SettlesAsAsked rounds
+  Does records (Drain sweeps) = DrainsAsAsked sweeps
   Does records (Random number steps) = OfWorld (Draws switch manager host steps number)
   Does records (ExpectArrived h many) = λ old. Expects (arrivals old.world.journal h ≡ many) old
   Does records (ExpectDropped cause many) = λ old. Expects (endings old.world.journal cause ≡ many) old

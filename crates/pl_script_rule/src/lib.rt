@@ -4,6 +4,11 @@
 
 pub use laws::{a_script_is_a_run, hosts_do_what_is_asked};
 pub use stop::Stop;
+pub use tree_laws::{
+    a_script_on_the_tree_is_a_run, a_script_on_the_tree_keeps_to_it,
+    hosts_on_the_tree_do_what_is_asked,
+};
 
 mod laws;
 mod stop;
+mod tree_laws;

@@ -1,14 +1,15 @@
 ghost use Rattle.std.specs.Prelude.{◌≡◌, IfOk, IfErr, Ok};
 ghost use Rattle.pl_shelf.specs.Held.{Same};
 ghost use Rattle.pl_topology.specs.Meaning.{topology_of};
-ghost use Rattle.pl_script.specs.Meaning.{script_of};
-ghost use Rattle.pl_inputs.specs.Inputs.{HasLines, HasPlan};
+ghost use Rattle.pl_script.specs.Reading.{LineGives};
+ghost use Rattle.pl_inputs.specs.Inputs.{HasLines, HasPlan, script_for};
 ghost use Rattle.pl_inputs.specs.Refusals.{IsRefusedPlan, IsRefusedScript};
 ghost use Rattle.pl_inputs.specs.Loads.{IsUnplanned, IsUnpromised, IsUnscripted, Reads};
 
 use crate::loading::named::load_named;
 use crate::status::Status;
-use pl_script::{Script, ScriptError};
+use crate::words::Network;
+use pl_script::{Script, ScriptError, read_for_bridges};
 use pl_shelf::Shelf;
 use pl_topology::TopologyError;
 use pl_wiring::{Name, Wiring};
@@ -33,15 +34,16 @@ pub fn load_wiring<S: Shelf>(alloc: Global, shelf: &mut S, name: &str) -> Result
     wiring_in(alloc, file.bytes())
 }
 
-/// The lines of a script's file.
+/// The lines of a script's file, for the network that it is played on.
 pub(crate) fn load_script<S: Shelf>(
     alloc: Global,
     shelf: &mut S,
+    network: Network,
     name: &str,
     wiring: &Wiring,
 ) -> Result<Script, Status>
-    ensures ok { IfOk result (λ script. HasLines (S.moment shelf.old).held name.now wiring.now script) }
-    ensures err { IfErr result (λ e. IsUnscripted (S.moment shelf.old).held name.now wiring.now e) }
+    ensures ok { IfOk result (λ script. HasLines (S.moment shelf.old).held network name.now wiring.now script) }
+    ensures err { IfErr result (λ e. IsUnscripted (S.moment shelf.old).held network name.now wiring.now e) }
     ensures same { Same (S.moment shelf.old).held (S.moment shelf.new).held }
     ensures reads { Reads result (S.moment shelf.old).read_faults (S.moment shelf.new).read_faults }
     ensures writes { (S.moment shelf.new).write_faults ≡ (S.moment shelf.old).write_faults }
@@ -50,7 +52,7 @@ pub(crate) fn load_script<S: Shelf>(
 {
     let name = Name::copy(alloc, name)?;
     let file = load_named(alloc, shelf, name, TEXT_LIMIT)?;
-    script_in(alloc, file.bytes(), wiring)
+    script_in(alloc, network, file.bytes(), wiring)
 }
 
 fn wiring_in(alloc: Global, file: &[u8]) -> Result<Wiring, Status>
@@ -64,13 +66,32 @@ fn wiring_in(alloc: Global, file: &[u8]) -> Result<Wiring, Status>
     }
 }
 
-fn script_in(alloc: Global, file: &[u8], wiring: &Wiring) -> Result<Script, Status>
-    ensures ok { IfOk result (λ script. script_of wiring.now file.now ≡ Ok script) }
-    ensures err { IfErr result (λ e. IsRefusedScript wiring.now file.now e) }
+fn script_in(
+    alloc: Global,
+    network: Network,
+    file: &[u8],
+    wiring: &Wiring,
+) -> Result<Script, Status>
+    ensures ok { IfOk result (λ script. script_for network wiring.now file.now ≡ Ok script) }
+    ensures err { IfErr result (λ e. IsRefusedScript network wiring.now file.now e) }
 {
-    match pl_script::read(alloc, file, wiring) {
+    match read_for(alloc, network, file, wiring) {
         Ok(script) => Ok(script),
         Err(ScriptError::Line(n, reason)) => Err(Status::BadScript(n, reason)),
         Err(ScriptError::Memory) => Err(Status::OutOfMemory),
+    }
+}
+
+fn read_for(
+    alloc: Global,
+    network: Network,
+    file: &[u8],
+    wiring: &Wiring,
+) -> Result<Script, ScriptError>
+    ensures exact { LineGives result (script_for network wiring.now file.now) }
+{
+    match network {
+        Network::Fabric => pl_script::read(alloc, file, wiring),
+        Network::Bridges => read_for_bridges(alloc, file, wiring),
     }
 }

@@ -1,35 +1,47 @@
-use Rattle.std.proofs.Common.{◌↔◌, ◌∙◌, IsTrue, arith, subst}
-use Rattle.pl_fabric.specs.Settled.{IsSettled}
-use Rattle.pl_output.specs.Saved.{Saving}
-use Rattle.pl_shelf.specs.Held.{ShelfMoment}
-use Rattle.pl_playing.specs.Plays.{played_over}
-use Rattle.pl_playing.proofs.Playing.{print_breaks, prints_run}
-use Rattle.pl_playing.proofs.Preparing.{room_for_print}
+use Rattle.std.proofs.Common.{◌≡◌, ◌∙◌, List, ap, arith, subst, sym}
+use Rattle.pl_shelf.specs.Held.{ShelfMoment, standard_output}
+use Rattle.pl_output.specs.Room.{HaveRoom}
+use Rattle.pl_output.specs.Saved.{AreSaved, BreaksOff, Saving}
+use Rattle.pl_playing.specs.Plays.{played_over, printed_by, summary_by}
+use Rattle.pl_playing.proofs.Playing.{one}
 use Rattle.pl_playing.proofs.printing.print_played.Goals as goal
 
-pub returns-in-Ok-clause-comes : goal.returns-in-Ok-clause-comes
-returns-in-Ok-clause-comes g c i to =
+pub returns-in-Ok-clause-ends : goal.returns-in-Ok-clause-ends
+returns-in-Ok-clause-ends g c =
     let D = g.D.Shelf in
     let old : ShelfMoment = D.moment c.args.shelf.now in
     let new : ShelfMoment = D.moment c.print.new.shelf in
-    prints_run g.S.SwitchLogic.rule g.M.ManagerLogic.rule g.H.HostLogic.rule old new i (played_over c.args.fabric.now c.args.captures.now) to c.settled-is_settled.result
-    (subst (λ w. IsTrue c.settled-is_settled.result ↔ IsSettled w) c.world.ensures c.settled-is_settled.ensures) c.in_ok-output.output c.deref.result.now
-    c.in_ok-output.ensures (c.deref.ensures ∙ c.in_ok-summary.ensures) c.in-Ok.ensures.ok c.in-Ok.ensures.faults.other c.in-Ok.ensures.faults.ok
+    let text : c.deref.result.now ≡ summary_by (played_over c.args.network.now c.args.captures.now) c.args.is_settled = c.deref.ensures ∙ c.in_ok-summary.ensures in
+    let are : one c.in_ok-output.output c.deref.result.now ≡ printed_by (played_over c.args.network.now c.args.captures.now) c.args.is_settled =
+    ap (λ n. one n c.deref.result.now) c.in_ok-output.ensures ∙ ap (λ t. one standard_output t) text in
+    record {
+      saved = subst (λ s. AreSaved old.held new.held s) are c.in-Ok.ensures.ok;
+      reads = c.in-Ok.ensures.faults.other;
+      writes = c.in-Ok.ensures.faults.ok;
+    }
 
-pub returns-clause-comes : goal.returns-clause-comes
-returns-clause-comes g c i to =
+pub returns-clause-ends : goal.returns-clause-ends
+returns-clause-ends g c =
     let D = g.D.Shelf in
     let old : ShelfMoment = D.moment c.args.shelf.now in
     let new : ShelfMoment = D.moment c.print.new.shelf in
-    print_breaks g.S.SwitchLogic.rule g.M.ManagerLogic.rule g.H.HostLogic.rule old new i (played_over c.args.fabric.now c.args.captures.now) to c.settled-is_settled.result
-    (subst (λ w. IsTrue c.settled-is_settled.result ↔ IsSettled w) c.world.ensures c.settled-is_settled.ensures) c.in_ok-output.output c.deref.result.now c.in-Err.name
-    c.in_ok-output.ensures (c.deref.ensures ∙ c.in_ok-summary.ensures) c.in-Err.ensures.err c.in-Err.ensures.faults.other c.in-Err.ensures.faults.grows c.in-Err.ensures.faults.err
+    let text : c.deref.result.now ≡ summary_by (played_over c.args.network.now c.args.captures.now) c.args.is_settled = c.deref.ensures ∙ c.in_ok-summary.ensures in
+    let are : one c.in_ok-output.output c.deref.result.now ≡ printed_by (played_over c.args.network.now c.args.captures.now) c.args.is_settled =
+    ap (λ n. one n c.deref.result.now) c.in_ok-output.ensures ∙ ap (λ t. one standard_output t) text in
+    record {
+      saved = subst (λ s. BreaksOff old.held new.held s c.in-Err.name) are c.in-Err.ensures.err;
+      reads = c.in-Err.ensures.faults.other;
+      grows = c.in-Err.ensures.faults.grows;
+      rose = c.in-Err.ensures.faults.err;
+    }
 
 pub returns-clause-prepared : goal.returns-clause-prepared
-returns-clause-prepared g c i to room =
+returns-clause-prepared g c room =
     let D = g.D.Shelf in
+    let text : c.deref.result.now ≡ summary_by (played_over c.args.network.now c.args.captures.now) c.args.is_settled = c.deref.ensures ∙ c.in_ok-summary.ensures in
+    let are : one c.in_ok-output.output c.deref.result.now ≡ printed_by (played_over c.args.network.now c.args.captures.now) c.args.is_settled =
+    ap (λ n. one n c.deref.result.now) c.in_ok-output.ensures ∙ ap (λ t. one standard_output t) text in
     let first : Saving = record { name = c.in_ok-output.output; text = c.deref.result.now } in
-    c.in-Err.ensures.unfit
-    (room_for_print g.S.SwitchLogic.rule g.M.ManagerLogic.rule g.H.HostLogic.rule (D.capacity c.args.shelf.now) (D.moment c.args.shelf.now).held i (played_over c.args.fabric.now c.args.captures.now) to c.settled-is_settled.result
-    (subst (λ w. IsTrue c.settled-is_settled.result ↔ IsSettled w) c.world.ensures c.settled-is_settled.ensures) c.in_ok-output.output c.deref.result.now
-    c.in_ok-output.ensures (c.deref.ensures ∙ c.in_ok-summary.ensures) room 0 first (omega arith))
+    let fits : HaveRoom (D.capacity c.args.shelf.now) (D.moment c.args.shelf.now).held (one c.in_ok-output.output c.deref.result.now) =
+    subst (λ s. HaveRoom (D.capacity c.args.shelf.now) (D.moment c.args.shelf.now).held s) (sym are) room in
+    c.in-Err.ensures.unfit (fits 0 first (omega arith))

@@ -1,63 +1,64 @@
-use Rattle.std.proofs.Common.{◌≡◌, ◌↔◌, ◌∙◌, IsTrue, ap, subst, sym, string_bytes}
-use Rattle.pl_fabric.specs.Settled.{IsSettled}
+use Rattle.std.proofs.Common.{◌≡◌, ◌∙◌, List, ap, subst, sym, string_bytes}
 use Rattle.pl_output.specs.Receipts.{saved_texts}
 use Rattle.pl_output.specs.Saved.{AreSaved, BreaksOff}
 use Rattle.pl_output.specs.Texts.{AreTexts}
 use Rattle.pl_world.specs.Worlds.{WorldView}
 use Rattle.pl_output.specs.Room.{HaveRoom}
 use Rattle.pl_shelf.specs.Held.{ShelfMoment}
-use Rattle.pl_playing.specs.Plays.{played_over}
-use Rattle.pl_playing.proofs.Playing.{breaks_run, of_lent, saves_run}
-use Rattle.pl_playing.proofs.Preparing.{room_for_run}
+use Rattle.pl_playing.proofs.Playing.{of_lent}
 use Rattle.pl_playing.proofs.saving.save_played.Goals as goal
 
-pub returns-in-Ok-clause-comes : goal.returns-in-Ok-clause-comes
-returns-in-Ok-clause-comes g c i to =
+pub returns-in-Ok-clause-ends : goal.returns-in-Ok-clause-ends
+returns-in-Ok-clause-ends g c =
     let D = g.D.Shelf in
     let old : ShelfMoment = D.moment c.args.shelf.now in
     let new : ShelfMoment = D.moment c.save_all.new.shelf in
-    let world : WorldView = c.args.fabric.now.world in
+    let world : WorldView = c.args.network.now.world in
     let out = c.args.out.now in
     let texts = c.in_ok-texts.texts in
     let plan : c.wiring.result.now ≡ world.plan = c.wiring.ensures ∙ ap (λ (w : WorldView). w.plan) c.world-world.ensures in
     let journal : c.journal.result.now ≡ world.journal = c.journal.ensures ∙ ap (λ (w : WorldView). w.journal) c.world-world.ensures in
-    let settled = subst (λ w. IsTrue c.settled-is_settled.result ↔ IsSettled w) c.world-world.ensures c.settled-is_settled.ensures in
     let are = of_lent (λ p j. AreTexts out p j texts) c.wiring.result.now world.plan c.journal.result.now world.journal (sym plan) (sym journal) c.in_ok-texts.ensures.are in
-    saves_run g.S.SwitchLogic.rule g.M.ManagerLogic.rule g.H.HostLogic.rule old new i (played_over c.args.fabric.now c.args.captures.now) to c.settled-is_settled.result settled out (string_bytes texts.summary) c.in_ok-texts.ensures.summary
-    (of_lent (λ p j. AreSaved old.held new.held (saved_texts out p j (string_bytes texts.summary))) world.plan c.wiring.result.now world.journal c.journal.result.now plan journal
-    (c.in-Ok.ensures.ok out are))
-    c.in-Ok.ensures.faults.other c.in-Ok.ensures.faults.ok
+    record {
+      saved = subst (λ t. AreSaved old.held new.held (saved_texts out world.plan world.journal t)) c.in_ok-texts.ensures.summary
+          (of_lent (λ p j. AreSaved old.held new.held (saved_texts out p j (string_bytes texts.summary))) world.plan c.wiring.result.now world.journal c.journal.result.now
+          plan journal (c.in-Ok.ensures.ok out are));
+      reads = c.in-Ok.ensures.faults.other;
+      writes = c.in-Ok.ensures.faults.ok;
+    }
 
-pub returns-in-Err-clause-comes : goal.returns-in-Err-clause-comes
-returns-in-Err-clause-comes g c i to =
+pub returns-in-Err-clause-ends : goal.returns-in-Err-clause-ends
+returns-in-Err-clause-ends g c =
     let D = g.D.Shelf in
     let old : ShelfMoment = D.moment c.args.shelf.now in
     let new : ShelfMoment = D.moment c.save_all.new.shelf in
-    let world : WorldView = c.args.fabric.now.world in
+    let world : WorldView = c.args.network.now.world in
     let out = c.args.out.now in
     let texts = c.in_ok-texts.texts in
     let plan : c.wiring.result.now ≡ world.plan = c.wiring.ensures ∙ ap (λ (w : WorldView). w.plan) c.world-world.ensures in
     let journal : c.journal.result.now ≡ world.journal = c.journal.ensures ∙ ap (λ (w : WorldView). w.journal) c.world-world.ensures in
-    let settled = subst (λ w. IsTrue c.settled-is_settled.result ↔ IsSettled w) c.world-world.ensures c.settled-is_settled.ensures in
     let are = of_lent (λ p j. AreTexts out p j texts) c.wiring.result.now world.plan c.journal.result.now world.journal (sym plan) (sym journal) c.in_ok-texts.ensures.are in
-    breaks_run g.S.SwitchLogic.rule g.M.ManagerLogic.rule g.H.HostLogic.rule old new i (played_over c.args.fabric.now c.args.captures.now) to c.settled-is_settled.result settled out (string_bytes texts.summary) c.in-Err.name c.in_ok-texts.ensures.summary
-    (of_lent (λ p j. BreaksOff old.held new.held (saved_texts out p j (string_bytes texts.summary)) c.in-Err.name) world.plan c.wiring.result.now world.journal c.journal.result.now plan journal
-    (c.in-Err.ensures.err out are))
-    c.in-Err.ensures.faults.other c.in-Err.ensures.faults.grows c.in-Err.ensures.faults.err
+    record {
+      saved = subst (λ t. BreaksOff old.held new.held (saved_texts out world.plan world.journal t) c.in-Err.name) c.in_ok-texts.ensures.summary
+          (of_lent (λ p j. BreaksOff old.held new.held (saved_texts out p j (string_bytes texts.summary)) c.in-Err.name) world.plan c.wiring.result.now world.journal
+          c.journal.result.now plan journal (c.in-Err.ensures.err out are));
+      reads = c.in-Err.ensures.faults.other;
+      grows = c.in-Err.ensures.faults.grows;
+      rose = c.in-Err.ensures.faults.err;
+    }
 
 pub returns-in-Err-clause-prepared : goal.returns-in-Err-clause-prepared
-returns-in-Err-clause-prepared g c i to room =
+returns-in-Err-clause-prepared g c room =
     let D = g.D.Shelf in
     let capacity = D.capacity c.args.shelf.now in
     let held = (D.moment c.args.shelf.now).held in
-    let world : WorldView = c.args.fabric.now.world in
+    let world : WorldView = c.args.network.now.world in
     let out = c.args.out.now in
     let texts = c.in_ok-texts.texts in
     let plan : c.wiring.result.now ≡ world.plan = c.wiring.ensures ∙ ap (λ (w : WorldView). w.plan) c.world-world.ensures in
     let journal : c.journal.result.now ≡ world.journal = c.journal.ensures ∙ ap (λ (w : WorldView). w.journal) c.world-world.ensures in
-    let settled = subst (λ w. IsTrue c.settled-is_settled.result ↔ IsSettled w) c.world-world.ensures c.settled-is_settled.ensures in
     let are = of_lent (λ p j. AreTexts out p j texts) c.wiring.result.now world.plan c.journal.result.now world.journal (sym plan) (sym journal) c.in_ok-texts.ensures.are in
     c.in-Err.ensures.unfit out are
     (of_lent (λ p j. HaveRoom capacity held (saved_texts out p j (string_bytes texts.summary))) c.wiring.result.now world.plan c.journal.result.now world.journal
     (sym plan) (sym journal)
-    (room_for_run g.S.SwitchLogic.rule g.M.ManagerLogic.rule g.H.HostLogic.rule capacity held i (played_over c.args.fabric.now c.args.captures.now) to c.settled-is_settled.result settled out (string_bytes texts.summary) c.in_ok-texts.ensures.summary room))
+    (subst (λ t. HaveRoom capacity held (saved_texts out world.plan world.journal t)) (sym c.in_ok-texts.ensures.summary) room))

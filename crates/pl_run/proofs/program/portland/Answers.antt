@@ -3,7 +3,7 @@ use Rattle.pl_playing.specs.Outcomes.{records_of, run_limits}
 use Rattle.pl_shelf.specs.Held.{ShelfMoment}
 use Rattle.pl_playing.specs.Plays.{answer_of}
 use Rattle.pl_run.specs.Answers.{Answers}
-use Rattle.pl_run.proofs.CompleteAnswers.{OneEnd}
+use Rattle.pl_run.proofs.CompleteAnswers.{OneEnd, one_end}
 use Rattle.pl_run.proofs.CompleteStops.{is_complete}
 use Rattle.pl_run.proofs.FaultAnswers.{task_tells}
 use Rattle.pl_run.proofs.program.portland.Goals as goal
@@ -13,8 +13,9 @@ returns-clause-complete g c asked is =
     let S = g.S.Shelf in
     let old : ShelfMoment = S.moment c.args.shelf.now in
     let new : ShelfMoment = S.moment c.perform.new.shelf in
-    let one : OneEnd = λ i end other scene another plays also.
-    (c.one_script_one_end.ensures i.plan run_limits (records_of i) i.lines end other scene another plays also).0 in
+    let one : OneEnd = one_end
+    (λ i end other scene another plays also. (c.one_script_one_end.ensures i.plan run_limits (records_of i) i.lines end other scene another plays also).0)
+    (λ i end other scene another plays also. (c.one_script_one_end_of_bridges.ensures i.plan run_limits (records_of i) i.lines end other scene another plays also).0) in
     let answers : Answers old new asked c.status_of.result = search rules in
     is_complete one old new asked c.status_of.result answers
 

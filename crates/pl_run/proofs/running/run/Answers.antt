@@ -6,21 +6,28 @@ use Rattle.pl_shelf.specs.Held.{ShelfMoment}
 use Rattle.pl_playing.specs.Plays.{answer_of}
 use Rattle.pl_playing.specs.Prepared.{NamesNoFault}
 use Rattle.pl_run.proofs.Ending.{comes_since, run_answers}
+use Rattle.pl_run.proofs.OnBridges.{none_repaired}
 use Rattle.pl_run.proofs.Preparing.{room_since, unread_names_none}
 use Rattle.pl_run.proofs.running.run.Goals as goal
 use Rattle.pl_run.specs.Fabric.{texts_of}
+
+pub play_on-requires : goal.play_on-requires
+play_on-requires g c is =
+    let S = g.S.Shelf in
+    let i = inputs_of c.in_ok-inputs.inputs in
+    none_repaired (S.moment c.args.shelf.now).held c.args.files.now.network c.args.files.now.script.now i.plan i.lines is c.in_ok-inputs.ensures.ok.script
 
 pub returns-clause-answers : goal.returns-clause-answers
 returns-clause-answers g c =
     let S = g.S.Shelf in
     let old : ShelfMoment = S.moment c.args.shelf.now in
     let mid : ShelfMoment = S.moment c.load_inputs.new.shelf in
-    let new : ShelfMoment = S.moment c.play_and_save.new.shelf in
+    let new : ShelfMoment = S.moment c.play_on.new.shelf in
     let e = c.in_ok-inputs.ensures in
     let i = inputs_of c.in_ok-inputs.inputs in
-    run_answers old new (asked c.args.files.now) i e.ok (answer_of c.play_and_save.result)
-    (comes_since old mid new (record { same = e.same; reads = e.reads; writes = e.writes }) i (texts_of c.args.files.now.out.now i) (answer_of c.play_and_save.result)
-    c.play_and_save.ensures.comes)
+    run_answers old new (asked c.args.files.now) i e.ok (answer_of c.play_on.result)
+    (comes_since c.args.files.now.network old mid new (record { same = e.same; reads = e.reads; writes = e.writes }) i (texts_of c.args.files.now.network c.args.files.now.out.now i) (answer_of c.play_on.result)
+    c.play_on.ensures.comes)
 
 pub returns-in_err-inputs-clause-prepared : goal.returns-in_err-inputs-clause-prepared
 returns-in_err-inputs-clause-prepared g c is =
@@ -37,6 +44,6 @@ returns-clause-prepared g c is =
     let S = g.S.Shelf in
     let e = c.in_ok-inputs.ensures in
     let i = inputs_of c.in_ok-inputs.inputs in
-    c.play_and_save.ensures.prepared
-    (room_since (S.capacity c.args.shelf.now) (S.capacity c.load_inputs.new.shelf) (S.moment c.args.shelf.now).held (S.moment c.load_inputs.new.shelf).held i
-    (texts_of c.args.files.now.out.now i) e.capacity e.same (is.saves i e.ok))
+    c.play_on.ensures.prepared
+    (room_since c.args.files.now.network (S.capacity c.args.shelf.now) (S.capacity c.load_inputs.new.shelf) (S.moment c.args.shelf.now).held (S.moment c.load_inputs.new.shelf).held i
+    (texts_of c.args.files.now.network c.args.files.now.out.now i) e.capacity e.same (is.saves i e.ok))

@@ -1,0 +1,11 @@
+pub mod Cuts
+pub mod NumeralLemmas
+pub mod HexadecimalLemmas
+pub mod NameLemmas
+pub mod Everything
+pub mod AddressLemmas
+pub mod OneSpelling
+pub mod RowLemmas
+pub mod Printed
+pub mod Lines
+pub mod Exports

@@ -1,0 +1,5 @@
+pub mod LiveLinks
+pub mod Frames
+pub mod Table
+pub mod LegLemmas
+pub mod MovesByNumbers

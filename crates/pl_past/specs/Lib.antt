@@ -1,0 +1,4 @@
+pub mod Links
+pub mod Kept
+pub mod Legs
+pub mod Moves

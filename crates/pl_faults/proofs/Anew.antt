@@ -16,8 +16,9 @@ use Rattle.pl_manager_rule.specs.ManagerRule.{with_link, with_place}
 use Rattle.pl_manager_rule.proofs.Exports.{id_among, id_exact, id_is, id_itself}
 use Rattle.pl_reports.specs.Kept.{has_told}
 use Rattle.pl_reports.proofs.Exports.{key_of_near, switches_linked, switches_placed}
-use Rattle.pl_faults.specs.Kept.{AreListsOf, AreListsRenewed, IsRenewed, ListsBySwitch, handed, handed_in, list_of, with_note}
+use Rattle.pl_faults.specs.Kept.{AreListsOf, AreListsRenewed, AreTablesRenewed, IsListRenewed, IsRenewed, ListsBySwitch, handed, handed_in, list_of, with_note}
 use Rattle.pl_faults.specs.Making.{Avoided}
+use Rattle.pl_faults.specs.declared.tables.Tables.{Tables}
 use Rattle.pl_faults.proofs.Filling.{among_put_in}
 
 -- ---- who told something
@@ -156,3 +157,26 @@ all_renewed told after lists before l2 b2 some h stays told_now same r = record 
     by : (t : SwitchId) (b : Bool) → some t ≡ b → cond b (Some (avoid_list after t)) (value_at id_cmp lists t) ≡ list_of after t
     by t true e = ap (λ x. cond x (Some (avoid_list after t)) None) (sym (told_now t e))
     by t false e = h.current t ∙ same t e
+
+-- ---- the lists of tables
+module _ (old : Tables) where
+  pub no_table_renewed : AreTablesRenewed (λ t. false) old old
+  no_table_renewed = record { told = refl; leading = refl; renewed = none_renewed old.reports old.lists.entries old.before.entries }
+
+  pub one_table_renewed : (some more : SwitchId → Bool) (s : SwitchId) (mid new : Tables) → ((t : SwitchId) → more t ≡ (some t || is_at (id_cmp t) s)) →
+      AreTablesRenewed some old mid → IsListRenewed s (avoid_list mid.reports s) mid new → AreTablesRenewed more old new
+  one_table_renewed some more s mid new grows h r = record {
+    told = r.told ∙ h.told;
+    leading = r.leading ∙ h.leading;
+    renewed =
+        one_more_renewed old.reports old.lists.entries old.before.entries some more s (avoid_list mid.reports s) mid.lists.entries mid.before.entries
+        new.lists.entries new.before.entries (ap (λ (t : Told). avoid_list t s) h.told) grows h.renewed r.renewed;
+  }
+
+  pub tables_renewed_of : (some more : SwitchId → Bool) (new : Tables) → ((t : SwitchId) → some t ≡ more t) →
+      AreTablesRenewed some old new → AreTablesRenewed more old new
+  tables_renewed_of some more new same h = record {
+    told = h.told;
+    leading = h.leading;
+    renewed = renewed_of old.reports old.lists.entries old.before.entries some more new.lists.entries new.before.entries same h.renewed;
+  }

@@ -1,11 +1,11 @@
 -- Which edge switches each switch misses, switch by switch.
-use Rattle.std.proofs.Common.{◌≡◌, ℕ, ◌<◌, ◌+◌, ◌==◌, ◌&&◌, zero, suc, arith, Bool, true, false, cond, not, List, [], ◌∷◌, ◌++◌, length, take, get_or, Option, Some, None, refl, sym, ap, ◌∙◌, inl, inr}
+use Rattle.std.proofs.Common.{◌≡◌, ℕ, ◌<◌, ◌+◌, ◌==◌, ◌&&◌, zero, suc, arith, Bool, true, false, cond, not, List, [], ◌∷◌, ◌++◌, length, take, get_or, Option, Some, None, refl, sym, ap, ◌∙◌, subst}
 use Rattle.std.specs.Bool.{Decides}
 use Rattle.std.specs.List.{filter}
 use Rattle.std.specs.BTreeMap.{is_at}
-use Rattle.std.proofs.lemmas.Bool.{false≢true, or_cases}
+use Rattle.std.specs.BTreeSet.{insert_key}
+use Rattle.std.proofs.lemmas.Bool.{false≢true}
 use Rattle.std.proofs.lemmas.Bool.Decides.{Decides-and, Decides-eqb}
-use Rattle.std.proofs.lemmas.List.Folds.{list_any_more}
 use Rattle.std.proofs.lemmas.List.{append-nil, take_more}
 use Rattle.std.proofs.lemmas.List.Elements.{filter-append}
 use Rattle.pl_lemmas.proofs.Exports.{false_before}
@@ -15,11 +15,12 @@ use Rattle.pl_node.specs.AvoidLists.{leads_to}
 use Rattle.pl_manager_rule.proofs.Exports.{id_is}
 use Rattle.pl_reports.specs.Kept.{has_told}
 use Rattle.pl_faults.specs.declared.edges.Edge.{Edge}
-use Rattle.pl_faults.specs.Missed.{AreMissed, AreTurned, Misses, is_upper, missed_at, missed_by, missed_in, with_unled}
+use Rattle.pl_faults.specs.Missed.{AreMissed, AreMissesRenewed, Misses, is_upper, missed_at, missed_by, missed_in, with_unled}
 use Rattle.pl_faults.specs.declared.reach.Reach.{Reach}
 use Rattle.pl_faults.specs.Listed.{is_in}
 use Rattle.pl_faults.specs.Rows.{HasSameRows, IsReach, leads_at, value_of}
-use Rattle.pl_faults.proofs.Reaching.{leads_by_rows, level_told}
+use Rattle.pl_faults.proofs.Gathered.{in_itself}
+use Rattle.pl_faults.proofs.Reaching.{leads_by_rows, level_told, look_more}
 
 -- one that told nothing misses none
 untold_misses : (told : Told) (edges : List Edge) (u : SwitchId) → has_told told u ≡ false → missed_at told edges u ≡ []
@@ -29,15 +30,18 @@ untold_misses told edges u none = by (place_of told u).level refl
     by None e = refl
     by (Some level) e = absurd (false≢true (sym none ∙ level_told told u level e))
 
--- all are put down anew
-pub misses_whole : (told : Told) (edges : List Edge) (first missed : Misses) (ss : List SwitchId) → ss ≡ switches told → first ≡ [] →
-    ((t : SwitchId) → missed_in missed t ≡ cond (is_in ss t) (missed_at told edges t) (missed_in first t)) → AreMissed told edges missed
-misses_whole told edges first missed ss is none h u =
-    h u ∙ (λ i. cond (is_in (is i) u) (missed_at told edges u) (missed_in (none i) u)) ∙ by (has_told told u) refl
+-- all are put down anew; who told nothing misses none, before and after
+pub misses_whole : (told after : Told) (before edges : List Edge) (first missed : Misses) (ss : List SwitchId) → ss ≡ switches after →
+    AreMissed told before first → ((t : SwitchId) → has_told told t ≡ true → has_told after t ≡ true) →
+    ((t : SwitchId) → missed_in missed t ≡ cond (is_in ss t) (missed_at after edges t) (missed_in first t)) → AreMissed after edges missed
+misses_whole told after before edges first missed ss is was stays h u =
+    h u ∙ ap (λ xs. cond (is_in xs u) (missed_at after edges u) (missed_in first u)) is ∙ by (has_told after u) refl
   where
-    by : (b : Bool) → has_told told u ≡ b → cond b (missed_at told edges u) [] ≡ missed_at told edges u
+    by : (b : Bool) → has_told after u ≡ b → cond b (missed_at after edges u) (missed_in first u) ≡ missed_at after edges u
     by true e = refl
-    by false e = sym (untold_misses told edges u e)
+    by false e =
+        was u ∙ untold_misses told before u (false_before (has_told told u) (has_told after u) (stays u) e)
+        ∙ sym (untold_misses after edges u e)
 
 -- one more edge switch
 kept_more : (f : Edge → Bool) (es : List Edge) (i : ℕ) (d : Edge) → i < length es →
@@ -83,33 +87,39 @@ module _ (told after : Told) (edges : List Edge) (old new : Reach) (was : IsReac
       by true e = refl
       by false e = h u ∙ same_missed u (places u e) (same u e)
 
-pub missed_still : (turned : List SwitchId) (now was fresh : List Edge) (t : SwitchId) → is_in turned t ≡ false →
-    now ≡ cond (is_in turned t) fresh was → now ≡ was
-missed_still turned now was fresh t out put = put ∙ ap (λ b. cond b fresh was) out
-
 -- ---- those that miss others
-pub turned_more : (old new : Misses) (ss : List SwitchId) (i : ℕ) (d : SwitchId) → i < length ss → (turned more : List SwitchId) →
-    AreTurned old new (take i ss) turned → ((t : SwitchId) → is_in turned t ≡ true → is_in more t ≡ true) →
-    (is_in more (get_or ss i d) ≡ false → missed_in new (get_or ss i d) ≡ missed_in old (get_or ss i d)) → AreTurned old new (take (i + 1) ss) more
-turned_more old new ss i d within turned more h kept same t some out =
-    elim (or_cases (is_in (take i ss) t) (is_at (id_cmp t) (get_or ss i d)) (sym (list_any_more (is_at (id_cmp t)) ss i d within) ∙ some)) [
-      | inl before ↦ h t before (false_before (is_in turned t) (is_in more t) (kept t) out)
-      | inr own ↦
-          let is : t ≡ get_or ss i d = id_is t (get_or ss i d) own in
-          ap (missed_in new) is ∙ same (ap (is_in more) (sym is) ∙ out) ∙ ap (missed_in old) (sym is)
-    ]
+pub none_missed_anew : (told : Told) (edges : List Edge) (misses : Misses) (changed : List SwitchId) → AreMissesRenewed told edges [] misses misses changed
+none_missed_anew told edges misses changed = record { now = λ t. refl; same = λ t out. refl }
 
--- who told nothing misses none, before and after
-pub turned_whole : (told after : Told) (before edges : List Edge) (old new : Misses) (turned : List SwitchId) → AreMissed told before old →
-    AreMissed after edges new → ((t : SwitchId) → has_told told t ≡ true → has_told after t ≡ true) → AreTurned old new (switches after) turned →
-    (t : SwitchId) → is_in turned t ≡ false → missed_in new t ≡ missed_in old t
-turned_whole told after before edges old new turned was now stays h t out = by (has_told after t) refl
+pub misses_more : (told : Told) (edges : List Edge) (ss : List SwitchId) (i : ℕ) (d : SwitchId) → i < length ss →
+    (first misses after : Misses) (changed more : List SwitchId) (one : List Edge) → AreMissesRenewed told edges (take i ss) first misses changed →
+    one ≡ missed_at told edges (get_or ss i d) →
+    ((t : SwitchId) → missed_in after t ≡ cond (is_at (id_cmp (get_or ss i d)) t) one (missed_in misses t)) →
+    ((t : SwitchId) → is_in changed t ≡ true → is_in more t ≡ true) →
+    ((t : SwitchId) → is_in more t ≡ false → missed_in after t ≡ missed_in misses t) → AreMissesRenewed told edges (take (i + 1) ss) first after more
+misses_more told edges ss i d within first misses after changed more one h is put stays same = record {
+  now = look_more (missed_at told edges) (missed_in misses) (missed_in after) (missed_in first) ss i d one within h.now is put;
+  same = λ t out. same t out ∙ h.same t (false_before (is_in changed t) (is_in more t) (stays t) out);
+}
+
+-- a switch that is not put among those that changed misses what it missed
+pub missed_apart : (s t : SwitchId) (changed : List SwitchId) (old new : Misses) (one : List Edge) → is_in (insert_key id_cmp changed s) t ≡ false →
+    missed_in new t ≡ cond (is_at (id_cmp s) t) one (missed_in old t) → missed_in new t ≡ missed_in old t
+missed_apart s t changed old new one out put = put ∙ by (is_at (id_cmp s) t) refl
   where
-    by : (b : Bool) → has_told after t ≡ b → missed_in new t ≡ missed_in old t
-    by true e = h t e out
-    by false e =
-        now t ∙ untold_misses after edges t e ∙ sym (untold_misses told before t (false_before (has_told told t) (has_told after t) (stays t) e))
-        ∙ sym (was t)
+    by : (b : Bool) → is_at (id_cmp s) t ≡ b → cond b one (missed_in old t) ≡ missed_in old t
+    by false e = refl
+    by true e =
+        absurd (false≢true (sym out ∙ subst (λ z. is_in (insert_key id_cmp changed s) z ≡ true) (id_is s t e) (in_itself s changed)))
+
+-- one that misses these already
+pub missed_just : (s t : SwitchId) (misses : Misses) (one : List Edge) → missed_in misses s ≡ one →
+    missed_in misses t ≡ cond (is_at (id_cmp s) t) one (missed_in misses t)
+missed_just s t misses one is = by (is_at (id_cmp s) t) refl
+  where
+    by : (b : Bool) → is_at (id_cmp s) t ≡ b → missed_in misses t ≡ cond b one (missed_in misses t)
+    by true e = ap (missed_in misses) (sym (id_is s t e)) ∙ is
+    by false e = refl
 
 -- `==` at edge switches tells just those apart that differ
 edge : ℕ → ℕ → ℕ → Edge

@@ -12,7 +12,8 @@ use Rattle.pl_manager_rule.proofs.Exports.{among_placed, id_is, IsPlacedAs, plac
 use Rattle.pl_reports.specs.Kept.{has_told}
 use Rattle.pl_faults.specs.declared.edges.Edge.{Edge}
 use Rattle.pl_faults.specs.declared.leading.Leading.{Leading}
-use Rattle.pl_faults.specs.Kept.{AreListsRenewed, AreListsAsTold, IsKeptUp, IsPlaceWord, IsRenewed, IsWordOf, IsWordWithin, ListsBySwitch, list_of}
+use Rattle.pl_faults.specs.declared.tables.Tables.{Tables}
+use Rattle.pl_faults.specs.Kept.{AreListsOf, AreListsRenewed, AreTablesOf, AreTablesRenewed, IsKeptUp, IsListRenewed, IsPlaceWord, IsWordOf, IsWordWithin, ListsBySwitch, handed_by, list_of}
 use Rattle.pl_faults.specs.Listed.{AreHeard, Hearers, is_in, with_below}
 use Rattle.pl_faults.specs.Making.{Avoided, placed_as}
 use Rattle.pl_faults.specs.Missed.{AreMissed, IsLeading, IsTurned, avoided_of, is_some_edge, is_upper, missed_at, missed_by}
@@ -84,12 +85,23 @@ no_rows told after level f g edges rows none h = record {
 pub still_all_heard : (told after : Told) {s : SwitchId} (w : IsPlaceWord s told after) (hearers : Hearers) → AreHeard told hearers → AreHeard after hearers
 still_all_heard told after w hearers h t u near = h t u (ap (λ us. is_in us u) (sym (w.near t)) ∙ near)
 
-pub unplaced_kept : (s : SwitchId) (told after : Told) (word : IsPlaceWord s told after) (known : Leading) (lists before l2 b2 : ListsBySwitch) →
-    AreListsAsTold told known lists before → is_some_edge known.edges.items ≡ false → is_some (edge_at s (place_of after s)) ≡ false →
-    IsRenewed s [] lists before l2 b2 → IsKeptUp after lists before known l2 b2
-unplaced_kept s told after word known lists before l2 b2 kept empty unplaced renewed = record {
+-- the parts of what is kept, over tables that were made anew
+pub kept_up : (old new : Tables) (known : Leading) → new.reports ≡ old.reports → new.leading ≡ known → IsLeading old.reports known →
+    AreListsOf old.reports new.lists.entries new.before.entries → ((t : SwitchId) → handed_by new t ≡ handed_by old t) → IsKeptUp old new
+kept_up old new known reports leading led listed handed = record {
+  told = reports;
   kept = record {
-    leading = record {
+    leading = subst (λ (t : Told). IsLeading t new.leading) (sym reports) (subst (IsLeading old.reports) (sym leading) led);
+    listed = subst (λ (t : Told). AreListsOf t new.lists.entries new.before.entries) (sym reports) listed;
+  };
+  handed = handed;
+}
+
+pub unplaced_kept : (s : SwitchId) (told : Told) (old new : Tables) (word : IsPlaceWord s told old.reports) → AreTablesOf told old →
+    is_some_edge old.leading.edges.items ≡ false → is_some (edge_at s (place_of old.reports s)) ≡ false → IsListRenewed s [] old new → IsKeptUp old new
+unplaced_kept s told old new word kept empty unplaced renewed =
+    kept_up old new known renewed.told renewed.leading
+    (record {
       placed = ap (map placed_as) is_empty ∙ sym none;
       reach = record {
         by_link = no_rows told after 1 (leads_down told) (leads_down after) edges known.reach.down.entries is_empty kept.leading.reach.by_link;
@@ -100,18 +112,28 @@ unplaced_kept s told after word known lists before l2 b2 kept empty unplaced ren
       };
       missed_are = missed_none;
       heard = still_all_heard told after word known.hearers.entries kept.leading.heard;
-    };
-    listed = record {
+    })
+    (record {
       current = λ t. r.now t ∙ by t (is_at (id_cmp t) s) refl;
       heard = λ t e. elim (or_cases (is_some (value_at id_cmp before t)) (is_at (id_cmp t) s) (r.noted t e)) [
         | inl was ↦ stays_heard s told after w t (kept.listed.heard t was)
         | inr own ↦ subst (λ z. has_told after z ≡ true) (sym (id_is t s own)) w.itself
       ];
-    };
-  };
-  handed = r.handed_stays;
-}
+    })
+    r.handed_stays
   where
+    after : Told
+    after = old.reports
+
+    known : Leading
+    known = old.leading
+
+    lists : ListsBySwitch
+    lists = old.lists.entries
+
+    before : ListsBySwitch
+    before = old.before.entries
+
     w : IsWordOf s told after
     w = word.word
 
@@ -132,10 +154,10 @@ unplaced_kept s told after word known lists before l2 b2 kept empty unplaced ren
     none : placed_edges after ≡ []
     none = none_placed s told after w none_told unplaced
 
-    r : AreListsRenewed after (λ t. is_at (id_cmp t) s) lists before l2 b2
+    r : AreListsRenewed after (λ t. is_at (id_cmp t) s) lists before new.lists.entries new.before.entries
     r =
-        one_more_renewed after lists before (λ t. false) (λ t. is_at (id_cmp t) s) s [] lists before l2 b2
-        (sym (nothing_avoided after s none)) (λ t. refl) (none_renewed after lists before) renewed
+        one_more_renewed after lists before (λ t. false) (λ t. is_at (id_cmp t) s) s [] lists before new.lists.entries new.before.entries
+        (sym (nothing_avoided after s none)) (λ t. refl) (none_renewed after lists before) renewed.renewed
 
     by : (t : SwitchId) (b : Bool) → is_at (id_cmp t) s ≡ b → cond b (Some (avoid_list after t)) (value_at id_cmp lists t) ≡ list_of after t
     by t true own =
@@ -207,14 +229,31 @@ module _ (s : SwitchId) (told after : Told) (w : IsWordOf s told after) (was kno
     | inr low ↦ below_told after t low.0 low.1
   ]
 
-  pub near_kept : (lists before l2 b2 : ListsBySwitch) (asked : List SwitchId) → AreListsAsTold told was lists before → asked ≡ touched →
-      AreListsRenewed after (is_in asked) lists before l2 b2 → IsKeptUp after lists before known l2 b2
-  near_kept lists before l2 b2 asked kept is r =
-      let on : AreListsRenewed after (is_in touched) lists before l2 b2 = subst (λ xs. AreListsRenewed after (is_in xs) lists before l2 b2) is r in
-      record {
-        kept = record {
-          leading = led.leading;
-          listed = all_renewed told after lists before l2 b2 (is_in touched) kept.listed (stays_heard s told after w) touched_told untouched on;
-        };
-        handed = on.handed_stays;
-      }
+  touched_lists : (lists before l2 b2 : ListsBySwitch) → AreListsOf told lists before → AreListsRenewed after (is_in touched) lists before l2 b2 →
+      AreListsOf after l2 b2
+  touched_lists lists before l2 b2 listed on =
+      all_renewed told after lists before l2 b2 (is_in touched) listed (stays_heard s told after w) touched_told untouched on
+
+-- the tables, where new rows and what is missed by them were put in first
+abbrev pub with_leading : Tables → Leading → Tables
+with_leading tables known = record {
+  alloc = tables.alloc;
+  reports = tables.reports;
+  leading = known;
+  lists = tables.lists;
+  before = tables.before;
+}
+
+pub near_kept : (s : SwitchId) (told : Told) (old new : Tables) (w : IsWordOf s told old.reports) (known : Leading) (turned first : List SwitchId)
+    (led : IsTurned old.reports old.leading known turned) (within : IsWordWithin first neighbours told old.reports) (own : is_in first s ≡ true)
+    (first_told : (t : SwitchId) → is_in first t ≡ true → has_told old.reports t ≡ true) (asked : List SwitchId) → AreTablesOf told old →
+    asked ≡ fold (with_below old.reports known.hearers.entries) first turned →
+    AreTablesRenewed (is_in asked) (with_leading old known) new → IsKeptUp old new
+near_kept s told old new w known turned first led within own first_told asked kept is r =
+    let lists = old.lists.entries in let before = old.before.entries in let l2 = new.lists.entries in let b2 = new.before.entries in
+    let list = fold (with_below old.reports known.hearers.entries) first turned in
+    let on : AreListsRenewed old.reports (is_in list) lists before l2 b2 =
+    subst (λ xs. AreListsRenewed old.reports (is_in xs) lists before l2 b2) is r.renewed in
+    kept_up old new known r.told r.leading led.leading
+    (touched_lists s told old.reports w old.leading known turned first kept.leading led within own first_told lists before l2 b2 kept.listed on)
+    on.handed_stays

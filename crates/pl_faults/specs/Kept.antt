@@ -9,6 +9,7 @@ use Rattle.pl_node.specs.AvoidLists.{avoid_list}
 use Rattle.pl_manager_rule.specs.ManagerRule.{same_avoid_list}
 use Rattle.pl_reports.specs.Kept.{has_told, nothing_told}
 use Rattle.pl_faults.specs.declared.leading.Leading.{Leading}
+use Rattle.pl_faults.specs.declared.tables.Tables.{Tables}
 use Rattle.pl_faults.specs.Listed.{is_in}
 use Rattle.pl_faults.specs.Making.{Avoided}
 use Rattle.pl_faults.specs.Missed.{IsLeading}
@@ -105,7 +106,28 @@ pub record AreListsAsTold (told : Told) (known : Leading) (lists before : ListsB
   pub leading : IsLeading told known
   pub listed : AreListsOf told lists before
 
--- the same after a word, where what was handed out stays
-pub record IsKeptUp (told : Told) (lists before : ListsBySwitch) (known : Leading) (lists_after before_after : ListsBySwitch) : Type 0 where
-  pub kept : AreListsAsTold told known lists_after before_after
-  pub handed : (s : SwitchId) → handed_in lists_after before_after s ≡ handed_in lists before s
+-- the same of tables, whatever their reports are
+abbrev pub AreTablesOf : Told → Tables → Type 0
+AreTablesOf told tables = AreListsAsTold told tables.leading tables.lists.entries tables.before.entries
+
+-- the list of a switch that was last handed out, by tables
+abbrev pub handed_by : Tables → SwitchId → List Avoided
+handed_by tables = handed_in tables.lists.entries tables.before.entries
+
+-- the list of one switch is made anew, and no more
+pub record IsListRenewed (s : SwitchId) (list : List Avoided) (old new : Tables) : Type 0 where
+  pub told : new.reports ≡ old.reports
+  pub leading : new.leading ≡ old.leading
+  pub renewed : IsRenewed s list old.lists.entries old.before.entries new.lists.entries new.before.entries
+
+-- the lists of some switches are made anew, and no more
+pub record AreTablesRenewed (some : SwitchId → Bool) (old new : Tables) : Type 0 where
+  pub told : new.reports ≡ old.reports
+  pub leading : new.leading ≡ old.leading
+  pub renewed : AreListsRenewed old.reports some old.lists.entries old.before.entries new.lists.entries new.before.entries
+
+-- all is by what was told now, where what was handed out stays
+pub record IsKeptUp (old new : Tables) : Type 0 where
+  pub told : new.reports ≡ old.reports
+  pub kept : AreTablesOf new.reports new
+  pub handed : (s : SwitchId) → handed_by new s ≡ handed_by old s

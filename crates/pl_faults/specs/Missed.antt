@@ -60,9 +60,10 @@ pub record AreMissedAnew (told : Told) (edges : List Edge) (known : Reach) (old 
   pub missed_are : AreMissed told edges new
   pub same : (t : SwitchId) → is_in turned t ≡ false → missed_in new t ≡ missed_in old t
 
--- of some switches all but those that turned miss in a new table what they missed in the old one
-abbrev pub AreTurned : Misses → Misses → List SwitchId → List SwitchId → Type 0
-AreTurned old new some turned = (t : SwitchId) → is_in some t ≡ true → is_in turned t ≡ false → missed_in new t ≡ missed_in old t
+-- what some switches miss is put down anew, and all but the changed ones miss what they missed
+pub record AreMissesRenewed (told : Told) (edges : List Edge) (asked : List SwitchId) (old new : Misses) (changed : List SwitchId) : Type 0 where
+  pub now : (t : SwitchId) → missed_in new t ≡ (if is_in asked t then missed_at told edges t else missed_in old t)
+  pub same : (t : SwitchId) → is_in changed t ≡ false → missed_in new t ≡ missed_in old t
 
 -- whether a switch at this place sends down for a pod
 abbrev pub sends_down : Place → ℕ → Bool

@@ -10,7 +10,7 @@ ghost use Rattle.pl_faults.specs.Rows.{IsReach};
 
 use crate::edges::{Edge, edge_at, placed_edges};
 use crate::listed::{Hearers, around, ends_of, hear, put_all};
-use crate::missed::{Misses, renew_misses, turned_among};
+use crate::missed::{Misses, renew_misses};
 use crate::reach::{Reach, no_reach, reach_of, renew_reach};
 use pl_frame::SwitchId;
 use pl_node::{Memory, SwitchList};
@@ -45,7 +45,7 @@ pub(crate) fn no_leading(alloc: Global) -> Leading
     }
 }
 
-/// Brings it up to a word on a link, which was told already. Answers the switches that may miss others.
+/// Brings it up to a word on a link, which was told already. Answers the switches that miss others.
 pub(crate) fn link_leading(
     leading: &mut Leading,
     alloc: Global,
@@ -70,7 +70,7 @@ pub(crate) fn link_leading(
     Ok(turned)
 }
 
-/// Brings it up to a word of a switch on its place, which was told already. Answers the switches that may
+/// Brings it up to a word of a switch on its place, which was told already. Answers the switches that
 /// miss others.
 pub(crate) fn place_leading(
     leading: &mut Leading,
@@ -100,19 +100,16 @@ fn renew_leading(
 {
     let edges = placed_edges(alloc, reports)?;
     let reach = reach_of(alloc, reports, edges.as_slice())?;
-    let mut misses = BTreeMap::new(alloc);
-    renew_misses(
-        &mut misses,
+    let turned = renew_misses(
+        &mut leading.misses,
         alloc,
         reports,
         edges.as_slice(),
         &reach,
         reports.switches(),
     )?;
-    let turned = turned_among(alloc, &leading.misses, &misses, reports.switches())?;
     leading.edges = edges;
     leading.reach = reach;
-    leading.misses = misses;
     Ok(turned)
 }
 
@@ -141,7 +138,7 @@ fn move_leading(
 }
 
 // Brings the rows and what is missed up to a word, which was told already, left all switches but `ends`, and
-// left all but those that moved where they are. Answers the switches that may miss others.
+// left all but those that moved where they are. Answers the switches that miss others.
 fn renew_beside(
     reach: &mut Reach,
     misses: &mut Misses,
@@ -156,9 +153,9 @@ fn renew_beside(
         IsReach told edges.now reach.old → AreMissed told edges.now misses.old.entries →
         AreMissedAnew reports.now edges.now reach.new misses.old.entries misses.new.entries turned) }
 {
-    let mut turned = renew_reach(reach, alloc, reports, edges, ends)?;
-    put_all(&mut turned, moved)?;
-    renew_misses(misses, alloc, reports, edges, reach, turned.as_slice())?;
+    let mut near = renew_reach(reach, alloc, reports, edges, ends)?;
+    put_all(&mut near, moved)?;
+    let turned = renew_misses(misses, alloc, reports, edges, reach, near.as_slice())?;
     Ok(turned)
 }
 

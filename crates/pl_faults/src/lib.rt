@@ -15,4 +15,5 @@ mod missed;
 mod reach;
 mod renewing;
 mod row;
+mod tables;
 mod telling;

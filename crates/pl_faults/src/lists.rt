@@ -6,7 +6,7 @@ ghost use Rattle.std.specs.Map.{keys_of};
 ghost use Rattle.pl_frame.specs.declared.address.SwitchId.{SwitchId};
 ghost use Rattle.pl_node.specs.ManagerViews.{id_cmp, value_at};
 ghost use Rattle.pl_manager_rule.specs.ManagerRule.{same_avoid_list};
-ghost use Rattle.pl_faults.specs.Kept.{IsRenewed, with_differing, with_note};
+ghost use Rattle.pl_faults.specs.Kept.{with_differing, with_note};
 
 use pl_frame::SwitchId;
 use pl_node::{AvoidList, Memory, SwitchList};
@@ -16,23 +16,8 @@ use std::collections::BTreeMap;
 /// Lists of switches.
 pub(crate) type Lists = BTreeMap<SwitchId, AvoidList>;
 
-/// Puts a new list of a switch in the place of the one before, and notes that one unless one is noted.
-pub(crate) fn renew(
-    lists: &mut Lists,
-    before: &mut Lists,
-    alloc: Global,
-    switch: SwitchId,
-    list: AvoidList,
-) -> Result<(), Memory>
-    ensures { OnOk result (IsRenewed switch list lists.old.entries before.old.entries lists.new.entries before.new.entries) }
-{
-    let old = replace(lists, alloc, switch, list)?;
-    note(before, switch, old)?;
-    Ok(())
-}
-
-// Puts in a list, and takes out the one before, an empty one where there was none.
-fn replace(
+/// Puts in a list, and takes out the one before, an empty one where there was none.
+pub(crate) fn replace(
     lists: &mut Lists,
     alloc: Global,
     switch: SwitchId,
@@ -47,8 +32,8 @@ fn replace(
     }
 }
 
-// Notes a list, unless one is noted.
-fn note(before: &mut Lists, switch: SwitchId, old: AvoidList) -> Result<(), Memory>
+/// Notes a list, unless one is noted.
+pub(crate) fn note(before: &mut Lists, switch: SwitchId, old: AvoidList) -> Result<(), Memory>
     ensures { OnOk result ((t : SwitchId) → value_at id_cmp before.new.entries t ≡ with_note (value_at id_cmp before.old.entries t) (is_at (id_cmp switch) t) old) }
 {
     if before.contains_key(&switch) {

@@ -1,8 +1,9 @@
-ghost use Rattle.std.specs.Prelude.{◌≡◌, [], IfOk, IsTrue, OnOk, fold, true};
+ghost use Rattle.std.specs.Prelude.{◌≡◌, [], IfOk, IsTrue, OnOk, fold};
 ghost use Rattle.std.specs.BTreeSet.{insert_key};
-ghost use Rattle.pl_node.specs.AvoidLists.{avoid_list, avoided_at, avoided_cmp, is_above, is_level_above};
+ghost use Rattle.pl_node.specs.AvoidLists.{avoid_list, avoided_cmp, is_level_above};
+ghost use Rattle.pl_node.specs.ManagerViews.{place_of};
 ghost use Rattle.pl_faults.specs.Making.{with_neighbour};
-ghost use Rattle.pl_faults.specs.Missed.{IsLeading, is_avoided, missed_in, sends_down, with_missed};
+ghost use Rattle.pl_faults.specs.Missed.{IsLeading, avoided_of, is_avoided, sends_down, with_missed};
 
 use crate::edges::Edge;
 use crate::leading::Leading;
@@ -22,53 +23,54 @@ pub(crate) fn avoid_list_of(
 ) -> Result<AvoidList, Memory>
     ensures { IfOk result (λ list. IsLeading reports.now leading.now → list ≡ avoid_list reports.now switch) }
 {
+    let place = reports.place_of(switch);
     let mut list = AvoidList::new(alloc);
     for neighbour in reports.neighbours(switch) {
-        add_neighbour(&mut list, reports, leading, switch, *neighbour)?;
+        add_neighbour(&mut list, reports, leading, place, switch, *neighbour)?;
     }
     Ok(list)
 }
 
-// Puts in for which addresses a switch avoids a neighbour.
+// Puts in for which addresses a switch at this place avoids a neighbour.
 fn add_neighbour(
     list: &mut AvoidList,
     reports: &Reports,
     leading: &Leading,
+    place: Place,
     switch: SwitchId,
     neighbour: SwitchId,
 ) -> Result<(), Memory>
-    ensures { OnOk result (IsLeading reports.now leading.now →
+    ensures { OnOk result (place ≡ place_of reports.now switch → IsLeading reports.now leading.now →
         list.new ≡ with_neighbour reports.now switch list.old neighbour) }
 {
-    if misses_none(leading, neighbour) {
+    let missed = missed_in(&leading.misses, neighbour);
+    if is_none(missed) {
         return Ok(());
     }
-    if is_above(reports, switch, neighbour) {
-        add_missed(list, reports, leading, switch, neighbour)?;
+    let level = reports.place_of(neighbour).level;
+    if is_level_above(place.level, level) {
+        add_missed(list, missed, place, switch, neighbour)?;
     }
     Ok(())
 }
 
-fn misses_none(leading: &Leading, neighbour: SwitchId) -> bool
-    ensures { IsTrue result → missed_in leading.now.misses.entries neighbour ≡ [] }
+fn is_none(missed: &[Edge]) -> bool
+    ensures { IsTrue result → missed.now ≡ [] }
 {
-    missed_in(&leading.misses, neighbour).is_empty()
+    missed.is_empty()
 }
 
 // Puts in those that a neighbour above misses.
 fn add_missed(
     list: &mut AvoidList,
-    reports: &Reports,
-    leading: &Leading,
+    missed: &[Edge],
+    place: Place,
     switch: SwitchId,
     neighbour: SwitchId,
 ) -> Result<(), Memory>
-    requires { is_above reports.now switch neighbour ≡ true }
-    ensures { OnOk result (IsLeading reports.now leading.now →
-        list.new ≡ fold (insert_key avoided_cmp) list.old (avoided_at reports.now switch neighbour)) }
+    ensures { OnOk result (list.new ≡ fold (insert_key avoided_cmp) list.old (avoided_of place switch neighbour missed.now)) }
 {
-    let place = reports.place_of(switch);
-    for edge in missed_in(&leading.misses, neighbour) {
+    for edge in missed {
         add_edge(list, edge, place, switch, neighbour)?;
     }
     Ok(())
@@ -94,16 +96,6 @@ fn is_avoided(place: Place, switch: SwitchId, edge: &Edge) -> bool
     ensures { result ≡ is_avoided place switch edge.now }
 {
     edge.switch != switch && !sends_down(place, edge.pod)
-}
-
-// Whether a neighbour is one level above a switch.
-fn is_above(reports: &Reports, switch: SwitchId, neighbour: SwitchId) -> bool
-    ensures { result ≡ is_above reports.now switch neighbour }
-{
-    is_level_above(
-        reports.place_of(switch).level,
-        reports.place_of(neighbour).level,
-    )
 }
 
 /// Whether the second of two levels is one above the first.

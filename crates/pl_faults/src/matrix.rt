@@ -5,9 +5,8 @@ ghost use Rattle.pl_node.specs.AvoidLists.{avoid_list};
 ghost use Rattle.pl_manager_rule.specs.ManagerRule.{with_link, with_place};
 ghost use Rattle.pl_faults.specs.Kept.{changed_lists, empty_matrix, handed, list_of};
 
-use crate::leading::{Leading, no_leading};
-use crate::lists::{Lists, copy_in, differing, list_in};
-use crate::telling::{keep_link, keep_place};
+use crate::lists::{copy_in, differing, list_in};
+use crate::tables::Tables;
 use pl_frame::SwitchId;
 use pl_node::{AvoidList, Memory, Place, SwitchList};
 use pl_reports::Reports;
@@ -19,21 +18,17 @@ use std::marker::Model;
 /// as they were handed out that were made anew since. After want of memory in a call nothing is told.
 #[derive(Debug, Drop)]
 pub struct Matrix {
-    alloc: Global,
-    reports: Reports,
-    leading: Leading,
-    lists: Lists,
-    before: Lists,
+    tables: Tables,
 }
 
 impl Model for Matrix {
-    ghost use Rattle.pl_faults.specs.Kept.{AreListsAsTold, MatrixView};
+    ghost use Rattle.pl_faults.specs.Kept.{AreTablesOf, MatrixView};
 
     ghost Value = { MatrixView };
 
-    ghost view = { λ m. record { told = m.reports; before = m.before.entries } };
+    ghost view = { λ m. record { told = m.tables.reports; before = m.tables.before.entries } };
 
-    ghost invariant = { λ m. AreListsAsTold m.reports m.leading m.lists.entries m.before.entries };
+    ghost invariant = { λ m. AreTablesOf m.tables.reports m.tables };
 }
 
 impl Matrix {
@@ -41,11 +36,7 @@ impl Matrix {
         ensures { result ≡ empty_matrix }
     {
         Matrix {
-            alloc,
-            reports: Reports::new(alloc),
-            leading: no_leading(alloc),
-            lists: BTreeMap::new(alloc),
-            before: BTreeMap::new(alloc),
+            tables: Tables::new(alloc),
         }
     }
 
@@ -53,7 +44,7 @@ impl Matrix {
     pub fn reports(&self) -> &Reports
         ensures { result.now ≡ self.now.told }
     {
-        &self.reports
+        &self.tables.reports
     }
 
     /// A switch tells its place.
@@ -62,16 +53,8 @@ impl Matrix {
         ensures handed { OnOk result ((s : SwitchId) → handed self.new s ≡ handed self.old s) }
         ensures err { OnErr result (self.new ≡ empty_matrix) }
     {
-        let alloc = self.alloc;
-        match keep_place(
-            &mut self.reports,
-            &mut self.leading,
-            &mut self.lists,
-            &mut self.before,
-            alloc,
-            switch,
-            place,
-        ) {
+        let alloc = self.tables.alloc;
+        match self.tables.keep_place(switch, place) {
             Ok(()) => Ok(()),
             Err(memory) => {
                 *self = Matrix::new(alloc);
@@ -91,17 +74,8 @@ impl Matrix {
         ensures handed { OnOk result ((s : SwitchId) → handed self.new s ≡ handed self.old s) }
         ensures err { OnErr result (self.new ≡ empty_matrix) }
     {
-        let alloc = self.alloc;
-        match keep_link(
-            &mut self.reports,
-            &mut self.leading,
-            &mut self.lists,
-            &mut self.before,
-            alloc,
-            switch,
-            neighbour,
-            usable,
-        ) {
+        let alloc = self.tables.alloc;
+        match self.tables.keep_link(switch, neighbour, usable) {
             Ok(()) => Ok(()),
             Err(memory) => {
                 *self = Matrix::new(alloc);
@@ -114,14 +88,14 @@ impl Matrix {
     pub fn list(&self, switch: SwitchId) -> Option<&AvoidList>
         ensures { option_copied result ≡ list_of self.now.told switch }
     {
-        list_in(&self.lists, switch)
+        list_in(&self.tables.lists, switch)
     }
 
     /// A copy of it; an empty list for one that told neither.
     pub fn avoid_for(&self, switch: SwitchId) -> Result<AvoidList, Memory>
         ensures { IfOk result (λ list. list ≡ avoid_list self.now.told switch) }
     {
-        let list = copy_in(self.alloc, &self.lists, switch)?;
+        let list = copy_in(self.tables.alloc, &self.tables.lists, switch)?;
         Ok(list)
     }
 
@@ -133,8 +107,9 @@ impl Matrix {
         ensures handed { OnOk result ((s : SwitchId) → handed self.new s ≡ avoid_list self.old.told s) }
         ensures err { OnErr result (self.new ≡ self.old) }
     {
-        let list = differing(self.alloc, &self.lists, &self.before)?;
-        self.before = BTreeMap::new(self.alloc);
+        let alloc = self.tables.alloc;
+        let list = differing(alloc, &self.tables.lists, &self.tables.before)?;
+        self.tables.before = BTreeMap::new(alloc);
         Ok(list)
     }
 }

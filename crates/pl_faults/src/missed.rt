@@ -3,7 +3,7 @@ ghost use Rattle.pl_faults.specs.Listed.{is_in};
 ghost use Rattle.pl_frame.specs.declared.address.SwitchId.{SwitchId};
 ghost use Rattle.pl_node.specs.ManagerViews.{id_cmp, place_of};
 ghost use Rattle.std.specs.BTreeMap.{is_at};
-ghost use Rattle.pl_faults.specs.Missed.{AreTurned, is_upper, missed_at, missed_by, missed_in, with_unled};
+ghost use Rattle.pl_faults.specs.Missed.{AreMissesRenewed, is_upper, missed_at, missed_by, missed_in, with_unled};
 ghost use Rattle.pl_faults.specs.Rows.{IsReach};
 
 use crate::edges::Edge;
@@ -65,7 +65,7 @@ impl Missed {
     }
 }
 
-/// Puts down anew what these switches miss.
+/// Puts down anew what these switches miss. Answers those that miss others than before.
 pub(crate) fn renew_misses(
     misses: &mut Misses,
     alloc: Global,
@@ -73,20 +73,47 @@ pub(crate) fn renew_misses(
     edges: &[Edge],
     reach: &Reach,
     asked: &[SwitchId],
-) -> Result<(), Memory>
-    ensures { OnOk result (IsReach reports.now edges.now reach.now → (t : SwitchId) →
-        missed_in misses.new.entries t
-        ≡ (if is_in asked.now t then missed_at reports.now edges.now t else missed_in misses.old.entries t)) }
+) -> Result<SwitchList, Memory>
+    ensures { IfOk result (λ changed. IsReach reports.now edges.now reach.now →
+        AreMissesRenewed reports.now edges.now asked.now misses.old.entries misses.new.entries changed) }
 {
+    let mut changed = SwitchList::new(alloc);
     for switch in asked {
         let missed = missed_at(alloc, reports, edges, reach, *switch)?;
-        put_missed(misses, *switch, missed)?;
+        put_missed(misses, &mut changed, *switch, missed)?;
     }
+    Ok(changed)
+}
+
+// Puts in what a switch misses, and the switch among those that changed, unless it misses just these.
+fn put_missed(
+    misses: &mut Misses,
+    changed: &mut SwitchList,
+    switch: SwitchId,
+    missed: Missed,
+) -> Result<(), Memory>
+    ensures now { OnOk result ((t : SwitchId) →
+        missed_in misses.new.entries t ≡ (if is_at (id_cmp switch) t then missed else missed_in misses.old.entries t)) }
+    ensures stays { OnOk result ((t : SwitchId) → is_in changed.old t ≡ true → is_in changed.new t ≡ true) }
+    ensures same { OnOk result ((t : SwitchId) → is_in changed.new t ≡ false →
+        missed_in misses.new.entries t ≡ missed_in misses.old.entries t) }
+{
+    if misses_just(misses, switch, &missed) {
+        return Ok(());
+    }
+    set_missed(misses, switch, missed)?;
+    changed.insert(switch)?;
     Ok(())
 }
 
+fn misses_just(misses: &Misses, switch: SwitchId, missed: &Missed) -> bool
+    ensures { IsTrue result → missed_in misses.now.entries switch ≡ missed.now }
+{
+    are_same(missed_in(misses, switch), missed.as_slice())
+}
+
 // A switch that misses none has no entry.
-fn put_missed(misses: &mut Misses, switch: SwitchId, missed: Missed) -> Result<(), Memory>
+fn set_missed(misses: &mut Misses, switch: SwitchId, missed: Missed) -> Result<(), Memory>
     ensures { OnOk result ((t : SwitchId) →
         missed_in misses.new.entries t ≡ (if is_at (id_cmp switch) t then missed else missed_in misses.old.entries t)) }
 {
@@ -157,38 +184,6 @@ pub(crate) fn missed_in(misses: &Misses, switch: SwitchId) -> &[Edge]
         Some(missed) => missed.as_slice(),
         None => &[],
     }
-}
-
-/// Those of these switches that miss others in a new table than in the old one.
-pub(crate) fn turned_among(
-    alloc: Global,
-    old: &Misses,
-    new: &Misses,
-    switches: &[SwitchId],
-) -> Result<SwitchList, Memory>
-    ensures { IfOk result (λ turned. AreTurned old.now.entries new.now.entries switches.now turned) }
-{
-    let mut turned = SwitchList::new(alloc);
-    for switch in switches {
-        put_turned(&mut turned, old, new, *switch)?;
-    }
-    Ok(turned)
-}
-
-fn put_turned(
-    turned: &mut SwitchList,
-    old: &Misses,
-    new: &Misses,
-    switch: SwitchId,
-) -> Result<(), Memory>
-    ensures kept { OnOk result ((t : SwitchId) → is_in turned.old t ≡ true → is_in turned.new t ≡ true) }
-    ensures same { OnOk result (is_in turned.new switch ≡ false →
-        missed_in new.now.entries switch ≡ missed_in old.now.entries switch) }
-{
-    if !are_same(missed_in(new, switch), missed_in(old, switch)) {
-        turned.insert(switch)?;
-    }
-    Ok(())
 }
 
 fn are_same(a: &[Edge], b: &[Edge]) -> bool

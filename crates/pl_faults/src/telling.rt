@@ -5,38 +5,88 @@ ghost use Rattle.pl_node.specs.ManagerViews.{neighbours, place_of};
 ghost use Rattle.pl_frame.specs.declared.address.SwitchId.{SwitchId};
 ghost use Rattle.pl_manager_rule.specs.ManagerRule.{with_link, with_place};
 ghost use Rattle.pl_reports.specs.Kept.{has_told};
-ghost use Rattle.pl_faults.specs.Kept.{AreListsAsTold, handed_in};
+ghost use Rattle.pl_faults.specs.Kept.{AreTablesOf, handed_by};
 
-use crate::leading::Leading;
-use crate::lists::Lists;
-use crate::renewing::{renew_near, renew_placed};
+use crate::tables::Tables;
 use pl_frame::SwitchId;
 use pl_node::{Memory, Place};
 use pl_reports::Reports;
-use std::alloc::Global;
 
-/// A switch tells its place. No list changes where it is there already.
-pub(crate) fn keep_place(
-    reports: &mut Reports,
-    leading: &mut Leading,
-    lists: &mut Lists,
-    before: &mut Lists,
-    alloc: Global,
-    switch: SwitchId,
-    place: Place,
-) -> Result<(), Memory>
-    requires { AreListsAsTold reports.old leading.old lists.old.entries before.old.entries }
-    ensures told { OnOk result (reports.new ≡ with_place reports.old switch place) }
-    ensures kept { OnOk result (AreListsAsTold reports.new leading.new lists.new.entries before.new.entries) }
-    ensures handed { OnOk result ((s : SwitchId) → handed_in lists.new.entries before.new.entries s ≡ handed_in lists.old.entries before.old.entries s) }
-{
-    let known = is_told_place(reports, switch, place);
-    reports.set_place(switch, place)?;
-    if known {
-        return Ok(());
+impl Tables {
+    /// A switch tells its place. No list changes where it is there already.
+    pub(crate) fn keep_place(&mut self, switch: SwitchId, place: Place) -> Result<(), Memory>
+        requires { AreTablesOf self.old.reports self.old }
+        ensures told { OnOk result (self.new.reports ≡ with_place self.old.reports switch place) }
+        ensures kept { OnOk result (AreTablesOf self.new.reports self.new) }
+        ensures handed { OnOk result ((s : SwitchId) → handed_by self.new s ≡ handed_by self.old s) }
+    {
+        let known = is_told_place(&self.reports, switch, place);
+        self.reports.set_place(switch, place)?;
+        if known {
+            return Ok(());
+        }
+        self.renew_placed(switch)?;
+        Ok(())
     }
-    renew_placed(reports, leading, lists, before, alloc, switch)?;
-    Ok(())
+
+    /// A switch tells whether its link to a neighbour is usable.
+    pub(crate) fn keep_link(
+        &mut self,
+        switch: SwitchId,
+        neighbour: SwitchId,
+        usable: bool,
+    ) -> Result<(), Memory>
+        requires { AreTablesOf self.old.reports self.old }
+        ensures told { OnOk result (self.new.reports ≡ with_link self.old.reports switch neighbour usable) }
+        ensures kept { OnOk result (AreTablesOf self.new.reports self.new) }
+        ensures handed { OnOk result ((s : SwitchId) → handed_by self.new s ≡ handed_by self.old s) }
+    {
+        if knows(&self.reports, switch, neighbour) {
+            self.keep_known_link(switch, neighbour, usable)?;
+            return Ok(());
+        }
+        self.keep_new_link(switch, neighbour, usable)?;
+        Ok(())
+    }
+
+    fn keep_new_link(
+        &mut self,
+        switch: SwitchId,
+        neighbour: SwitchId,
+        usable: bool,
+    ) -> Result<(), Memory>
+        requires { AreTablesOf self.old.reports self.old }
+        ensures told { OnOk result (self.new.reports ≡ with_link self.old.reports switch neighbour usable) }
+        ensures kept { OnOk result (AreTablesOf self.new.reports self.new) }
+        ensures handed { OnOk result ((s : SwitchId) → handed_by self.new s ≡ handed_by self.old s) }
+    {
+        self.reports.report(switch, neighbour, usable)?;
+        self.renew_near(switch, neighbour)?;
+        Ok(())
+    }
+
+    // No list changes where the link is as alive as it was.
+    fn keep_known_link(
+        &mut self,
+        switch: SwitchId,
+        neighbour: SwitchId,
+        usable: bool,
+    ) -> Result<(), Memory>
+        requires kept { AreTablesOf self.old.reports self.old }
+        requires known { list_any (λ x. same_switch x neighbour) (neighbours self.old.reports switch) ≡ true }
+        ensures told { OnOk result (self.new.reports ≡ with_link self.old.reports switch neighbour usable) }
+        ensures kept { OnOk result (AreTablesOf self.new.reports self.new) }
+        ensures handed { OnOk result ((s : SwitchId) → handed_by self.new s ≡ handed_by self.old s) }
+    {
+        let was = self.reports.is_alive(switch, neighbour);
+        self.reports.report(switch, neighbour, usable)?;
+        let now = self.reports.is_alive(switch, neighbour);
+        if is_still(now, was) {
+            return Ok(());
+        }
+        self.renew_near(switch, neighbour)?;
+        Ok(())
+    }
 }
 
 // Whether a switch told something, and this is its place.
@@ -52,34 +102,6 @@ fn is_same_place(a: Place, b: Place) -> bool
     a == b
 }
 
-/// A switch tells whether its link to a neighbour is usable.
-pub(crate) fn keep_link(
-    reports: &mut Reports,
-    leading: &mut Leading,
-    lists: &mut Lists,
-    before: &mut Lists,
-    alloc: Global,
-    switch: SwitchId,
-    neighbour: SwitchId,
-    usable: bool,
-) -> Result<(), Memory>
-    requires { AreListsAsTold reports.old leading.old lists.old.entries before.old.entries }
-    ensures told { OnOk result (reports.new ≡ with_link reports.old switch neighbour usable) }
-    ensures kept { OnOk result (AreListsAsTold reports.new leading.new lists.new.entries before.new.entries) }
-    ensures handed { OnOk result ((s : SwitchId) → handed_in lists.new.entries before.new.entries s ≡ handed_in lists.old.entries before.old.entries s) }
-{
-    if knows(reports, switch, neighbour) {
-        keep_known_link(
-            reports, leading, lists, before, alloc, switch, neighbour, usable,
-        )?;
-        return Ok(());
-    }
-    keep_new_link(
-        reports, leading, lists, before, alloc, switch, neighbour, usable,
-    )?;
-    Ok(())
-}
-
 // Whether a switch told of a neighbour.
 fn knows(reports: &Reports, switch: SwitchId, neighbour: SwitchId) -> bool
     ensures { result ≡ list_any (λ x. same_switch x neighbour) (neighbours reports.now switch) }
@@ -91,53 +113,6 @@ fn is_among(switches: &[SwitchId], switch: SwitchId) -> bool
     ensures { result ≡ list_any (λ x. same_switch x switch) switches.now }
 {
     switches.iter().any(|x| x.0 == switch.0)
-}
-
-fn keep_new_link(
-    reports: &mut Reports,
-    leading: &mut Leading,
-    lists: &mut Lists,
-    before: &mut Lists,
-    alloc: Global,
-    switch: SwitchId,
-    neighbour: SwitchId,
-    usable: bool,
-) -> Result<(), Memory>
-    requires { AreListsAsTold reports.old leading.old lists.old.entries before.old.entries }
-    ensures told { OnOk result (reports.new ≡ with_link reports.old switch neighbour usable) }
-    ensures kept { OnOk result (AreListsAsTold reports.new leading.new lists.new.entries before.new.entries) }
-    ensures handed { OnOk result ((s : SwitchId) → handed_in lists.new.entries before.new.entries s ≡ handed_in lists.old.entries before.old.entries s) }
-{
-    reports.report(switch, neighbour, usable)?;
-    renew_near(reports, leading, lists, before, alloc, switch, neighbour)?;
-    Ok(())
-}
-
-// No list changes where the link is as alive as it was.
-fn keep_known_link(
-    reports: &mut Reports,
-    leading: &mut Leading,
-    lists: &mut Lists,
-    before: &mut Lists,
-    alloc: Global,
-    switch: SwitchId,
-    neighbour: SwitchId,
-    usable: bool,
-) -> Result<(), Memory>
-    requires kept { AreListsAsTold reports.old leading.old lists.old.entries before.old.entries }
-    requires known { list_any (λ x. same_switch x neighbour) (neighbours reports.old switch) ≡ true }
-    ensures told { OnOk result (reports.new ≡ with_link reports.old switch neighbour usable) }
-    ensures kept { OnOk result (AreListsAsTold reports.new leading.new lists.new.entries before.new.entries) }
-    ensures handed { OnOk result ((s : SwitchId) → handed_in lists.new.entries before.new.entries s ≡ handed_in lists.old.entries before.old.entries s) }
-{
-    let was = reports.is_alive(switch, neighbour);
-    reports.report(switch, neighbour, usable)?;
-    let now = reports.is_alive(switch, neighbour);
-    if is_still(now, was) {
-        return Ok(());
-    }
-    renew_near(reports, leading, lists, before, alloc, switch, neighbour)?;
-    Ok(())
 }
 
 // Whether something is now what it was.

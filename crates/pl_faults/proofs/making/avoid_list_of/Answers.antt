@@ -11,7 +11,7 @@ pub loop-neighbour-preserved : goal.loop-neighbour-preserved
 loop-neighbour-preserved c led =
     let told = c.args.reports.now in let s = c.args.switch in let us = c.neighbours-neighbour-items.result.now in
     let i = c.loop-neighbour.neighbour-index in let d : SwitchId = record { 0 = 0 } in
-    c.in_ok-add_neighbour.ensures led
+    c.in_ok-add_neighbour.ensures c.place_of-place.ensures led
     ∙ ap (λ list. with_neighbour told s list (get_or us i d)) (c.loop-neighbour.invariant led)
     ∙ sym (fold_more (with_neighbour told s) [] us i d c.loop-neighbour-test.true)
 

@@ -1,18 +1,18 @@
-use Rattle.std.proofs.Common.{◌∙◌, ap, cond, sym}
-use Rattle.std.specs.BTreeMap.{is_at}
-use Rattle.std.specs.Prelude.{[]}
-use Rattle.pl_node.specs.ManagerViews.{id_cmp, value_at}
-use Rattle.pl_faults.specs.Missed.{missed_in}
-use Rattle.pl_faults.proofs.Reaching.{look_put, look_taken}
+use Rattle.std.proofs.Common.{◌≡◌, ◌∙◌, true, ap, subst, sym}
+use Rattle.pl_faults.specs.Listed.{is_in}
+use Rattle.pl_faults.proofs.Gathered.{in_more}
+use Rattle.pl_faults.proofs.Missing.{missed_apart, missed_just}
 use Rattle.pl_faults.proofs.missed.put_missed.Goals as goal
 
-pub returns-then-is_empty : goal.returns-then-is_empty
-returns-then-is_empty c t =
-    let own = is_at (id_cmp c.args.switch) t in let old = c.args.misses.now.entries in
-    look_taken (value_at id_cmp old t) (value_at id_cmp c.remove-gone.new.self.entries t) [] own (c.remove-gone.ensures.updates.0 t)
-    ∙ ap (λ none. cond own none (missed_in old t)) (sym (c.is_empty.ensures c.if-is_empty.true))
+pub returns-then-misses_just-clause-now : goal.returns-then-misses_just-clause-now
+returns-then-misses_just-clause-now c t =
+    missed_just c.args.switch t c.args.misses.now.entries c.args.missed (c.misses_just.ensures c.if-misses_just.true)
 
-pub returns : goal.returns
-returns c t =
-    look_put (value_at id_cmp c.args.misses.now.entries t) (value_at id_cmp c.insert.new.self.entries t) [] c.args.missed
-    (is_at (id_cmp c.args.switch) t) (c.in_ok-insert.ensures.updates.0 t)
+pub returns-clause-stays : goal.returns-clause-stays
+returns-clause-stays c t h =
+    subst (λ xs. is_in xs t ≡ true) (sym c.in_ok-insert.ensures.ok) (in_more c.args.switch t c.args.changed.now h)
+
+pub returns-clause-same : goal.returns-clause-same
+returns-clause-same c t out =
+    missed_apart c.args.switch t c.args.changed.now c.args.misses.now.entries c.set_missed.new.misses.entries c.args.missed
+    (ap (λ xs. is_in xs t) (sym c.in_ok-insert.ensures.ok) ∙ out) (c.in_ok-set_missed.ensures t)

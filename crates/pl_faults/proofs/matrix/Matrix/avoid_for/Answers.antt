@@ -10,5 +10,5 @@ pub returns : goal.returns
 returns c =
     c.in_ok-list.ensures
     ∙ ap (λ (o : Option (List Avoided)). unwrap_or o []) (c.self.invariant.listed.current c.args.switch)
-    ∙ avoid_of c.self.inside.reports c.args.switch
+    ∙ avoid_of c.self.inside.tables.reports c.args.switch
     ∙ ap (λ (v : MatrixView). avoid_list v.told c.args.switch) c.self.view_is

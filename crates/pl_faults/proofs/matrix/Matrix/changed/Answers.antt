@@ -6,5 +6,5 @@ use Rattle.pl_faults.proofs.matrix.Matrix.changed.Goals as goal
 pub returns-clause-changed : goal.returns-clause-changed
 returns-clause-changed c =
     c.in_ok-list.ensures.list
-    ∙ found_are_changed c.self.inside.reports c.self.inside.lists.entries c.self.inside.before.entries c.self.invariant.listed c.differing.ensures.rising
+    ∙ found_are_changed c.self.inside.tables.reports c.self.inside.tables.lists.entries c.self.inside.tables.before.entries c.self.invariant.listed c.differing.ensures.rising
     ∙ ap changed_lists c.self.view_is

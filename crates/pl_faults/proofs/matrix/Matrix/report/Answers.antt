@@ -5,7 +5,7 @@ use Rattle.pl_faults.proofs.matrix.Matrix.report.Goals as goal
 
 pub returns-in-Ok-clause-handed : goal.returns-in-Ok-clause-handed
 returns-in-Ok-clause-handed c s =
-    sym (handed_of c.keep_link.new.reports c.keep_link.new.lists.entries c.keep_link.new.before.entries c.in-Ok.ensures.kept.listed s)
+    sym (handed_of c.keep_link.new.self.reports c.keep_link.new.self.lists.entries c.keep_link.new.self.before.entries c.in-Ok.ensures.kept.listed s)
     ∙ c.in-Ok.ensures.handed s
-    ∙ handed_of c.self.inside.reports c.self.inside.lists.entries c.self.inside.before.entries c.self.invariant.listed s
+    ∙ handed_of c.self.inside.tables.reports c.self.inside.tables.lists.entries c.self.inside.tables.before.entries c.self.invariant.listed s
     ∙ ap (λ (v : MatrixView). handed v s) c.self.view_is

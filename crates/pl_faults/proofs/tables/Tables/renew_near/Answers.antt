@@ -5,16 +5,15 @@ use Rattle.pl_node.specs.ManagerViews.{id_cmp}
 use Rattle.pl_faults.specs.Listed.{with_below}
 use Rattle.pl_faults.proofs.Touched.{near_kept}
 use Rattle.pl_faults.proofs.Within.{alone, alone_told, link_lists}
-use Rattle.pl_faults.proofs.renewing.renew_near.Goals as goal
+use Rattle.pl_faults.proofs.tables.Tables.renew_near.Goals as goal
 
 pub returns : goal.returns
 returns c told word kept =
-    let after = c.args.reports.now in let s = c.args.switch in
+    let old = c.args.self.now in let after = old.reports in let s = c.args.switch in
     let t = c.in_ok-turned.ensures told word kept.leading in let known = c.link_leading.new.leading in
     let first : c.insert.new.self ≡ s ∷ [] = c.in_ok-insert.ensures.ok ∙ ap (λ xs. insert_key id_cmp xs s) c.new-touched.ensures in
-    near_kept s told after word.word c.args.leading.now known c.in_ok-turned.turned (s ∷ []) kept.leading t
+    near_kept s told old c.renew_lists.new.self word.word known c.in_ok-turned.turned (s ∷ []) t
     (link_lists s c.args.neighbour told after word) (alone s) (alone_told s told after word.word)
-    c.args.lists.now.entries c.args.before.now.entries c.renew_lists.new.lists.entries c.renew_lists.new.before.entries
     c.as_slice-2.result.now kept
     (c.as_slice-2.ensures.items ∙ c.in_ok-put_all_below.ensures
     ∙ (λ i. fold (with_below after known.hearers.entries) (first i) (c.as_slice.ensures.items i)))

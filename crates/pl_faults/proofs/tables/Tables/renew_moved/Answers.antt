@@ -3,16 +3,15 @@ use Rattle.std.specs.Prelude.{fold}
 use Rattle.pl_faults.specs.Listed.{with_below}
 use Rattle.pl_faults.proofs.Touched.{near_kept}
 use Rattle.pl_faults.proofs.Within.{first, first_told, itself_first, place_lists}
-use Rattle.pl_faults.proofs.renewing.renew_moved.Goals as goal
+use Rattle.pl_faults.proofs.tables.Tables.renew_moved.Goals as goal
 
 pub returns : goal.returns
 returns c told word kept =
-    let after = c.args.reports.now in let s = c.args.switch in
+    let old = c.args.self.now in let after = old.reports in let s = c.args.switch in
     let t = c.in_ok-turned.ensures told word kept.leading in let known = c.place_leading.new.leading in
     let hearers = known.hearers.entries in let heard = t.leading.heard in
-    near_kept s told after word.word c.args.leading.now known c.in_ok-turned.turned (first s told after word hearers heard) kept.leading t
+    near_kept s told old c.renew_lists.new.self word.word known c.in_ok-turned.turned (first s told after word hearers heard) t
     (place_lists s told after word hearers heard) (itself_first s told after word hearers heard) (first_told s told after word hearers heard)
-    c.args.lists.now.entries c.args.before.now.entries c.renew_lists.new.lists.entries c.renew_lists.new.before.entries
     c.as_slice-2.result.now kept
     (c.as_slice-2.ensures.items ∙ c.in_ok-put_all_below.ensures
     ∙ (λ i. fold (with_below after hearers) (c.in_ok-touched.ensures i) (c.as_slice.ensures.items i)))

@@ -1,5 +1,6 @@
 pub mod Filling
 pub mod Made
+pub mod ByRows
 pub mod Anew
 pub mod Changed
 pub mod Gathered

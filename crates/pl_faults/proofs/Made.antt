@@ -16,7 +16,7 @@ use Rattle.pl_reports.proofs.Exports.{placed_in}
 use Rattle.pl_faults.specs.declared.edges.Edge.{Edge}
 use Rattle.pl_faults.specs.declared.leading.Leading.{Leading}
 use Rattle.pl_faults.specs.Making.{Avoided, placed_as, with_neighbour, with_placed}
-use Rattle.pl_faults.specs.Missed.{IsLeading, avoided_of, is_avoided, is_upper, missed_by, missed_in, with_missed}
+use Rattle.pl_faults.specs.Missed.{IsLeading, avoided_of, is_avoided, is_upper, missed_by, missed_in}
 use Rattle.pl_faults.proofs.Filling.{fold_in_order}
 
 -- what passes a test, and then another
@@ -52,14 +52,16 @@ module _ (told : Told) (s : SwitchId) where
       ∙ fold_in_order avoided_cmp avoided_total avoided_exact (flat_map (avoided_at told s) (filter (is_above told s) (neighbours told s)))
 
 -- ---- what is avoided, by what a neighbour misses
-pub missed_put : (place : Place) (s u : SwitchId) (es : List Edge) (list : List Avoided) →
-    fold (with_missed place s u) list es ≡ fold (insert_key avoided_cmp) list (avoided_of place s u es)
-missed_put place s u [] list = refl
-missed_put place s u (e ∷ es) list = by (λ l. missed_put place s u es l) (is_avoided place s e)
+pub put_where : (test : Edge → Bool) (u : SwitchId) (es : List Edge) (list : List Avoided) →
+    fold (λ (l : List Avoided) (e : Edge). cond (test e) (insert_key avoided_cmp l (u, e.pod, e.position)) l) list es
+    ≡ fold (insert_key avoided_cmp) list (map (λ (e : Edge). (u, e.pod, e.position)) (filter test es))
+put_where test u [] list = refl
+put_where test u (e ∷ es) list = by (λ l. put_where test u es l) (test e)
   where
-    by : ((l : List Avoided) → fold (with_missed place s u) l es ≡ fold (insert_key avoided_cmp) l (avoided_of place s u es)) → (b : Bool) →
-        fold (with_missed place s u) (cond b (insert_key avoided_cmp list (u, e.pod, e.position)) list) es
-        ≡ fold (insert_key avoided_cmp) list (map (λ (x : Edge). (u, x.pod, x.position)) (cond b (e ∷ filter (is_avoided place s) es) (filter (is_avoided place s) es)))
+    by : ((l : List Avoided) → fold (λ (m : List Avoided) (x : Edge). cond (test x) (insert_key avoided_cmp m (u, x.pod, x.position)) m) l es
+        ≡ fold (insert_key avoided_cmp) l (map (λ (x : Edge). (u, x.pod, x.position)) (filter test es))) → (b : Bool) →
+        fold (λ (m : List Avoided) (x : Edge). cond (test x) (insert_key avoided_cmp m (u, x.pod, x.position)) m) (cond b (insert_key avoided_cmp list (u, e.pod, e.position)) list) es
+        ≡ fold (insert_key avoided_cmp) list (map (λ (x : Edge). (u, x.pod, x.position)) (cond b (e ∷ filter test es) (filter test es)))
     by rest true = rest (insert_key avoided_cmp list (u, e.pod, e.position))
     by rest false = rest list
 

@@ -1,5 +1,5 @@
 -- The placed edge switches to which a switch does not lead on, and what the switches below it avoid for them.
-use Rattle.std.specs.Prelude.{◌≡◌, ◌==◌, ◌&&◌, ℕ, Bool, true, false, not, List, [], ◌∷◌, ◌++◌, if◌then◌else◌, Option, Some, None, map, unwrap_or}
+use Rattle.std.specs.Prelude.{◌≡◌, ◌==◌, ◌&&◌, ℕ, Bool, true, false, not, List, [], ◌∷◌, ◌++◌, if◌then◌else◌, Option, Some, None, is_some, map, unwrap_or}
 use Rattle.std.specs.List.{filter}
 use Rattle.std.specs.BTreeSet.{insert_key}
 use Rattle.pl_frame.specs.declared.address.SwitchId.{SwitchId}
@@ -8,6 +8,7 @@ use Rattle.pl_layouts.specs.Equality.{same_switch}
 use Rattle.pl_layouts.specs.Placement.{is_known}
 use Rattle.pl_node.specs.ManagerViews.{Told, id_cmp, place_of, placed_edges, value_at}
 use Rattle.pl_node.specs.AvoidLists.{avoided_cmp}
+use Rattle.pl_node.specs.AvoidRows.{number_of}
 use Rattle.pl_faults.specs.declared.edges.Edge.{Edge}
 use Rattle.pl_faults.specs.declared.leading.Leading.{Leading}
 use Rattle.pl_faults.specs.declared.reach.Reach.{Reach}
@@ -77,9 +78,22 @@ is_avoided place s e = not (same_switch e.switch s) && not (sends_down place e.p
 abbrev pub avoided_of : Place → SwitchId → SwitchId → List Edge → List Avoided
 avoided_of place s u es = map (λ e. (u, e.pod, e.position)) (filter (is_avoided place s) es)
 
--- one more that u misses
-abbrev pub with_missed : Place → SwitchId → SwitchId → List Avoided → Edge → List Avoided
-with_missed place s u list e = if is_avoided place s e then insert_key avoided_cmp list (u, e.pod, e.position) else list
+-- whether a number is that of a bit
+abbrev pub is_number : ℕ → Option ℕ → Bool
+is_number n None = false
+is_number n (Some m) = n == m
+
+-- whether s at this place avoids a neighbour above for an edge switch whose bit has this number
+abbrev pub is_numbered : Place → SwitchId → ℕ → Edge → Bool
+is_numbered place s n e = is_avoided place s e && is_number n (number_of e.pod e.position)
+
+-- the same where it has no bit
+abbrev pub is_other : Place → SwitchId → Edge → Bool
+is_other place s e = not (is_some (number_of e.pod e.position)) && is_avoided place s e
+
+-- one more that u misses and that has no bit
+abbrev pub with_other : Place → SwitchId → SwitchId → List Avoided → Edge → List Avoided
+with_other place s u list e = if is_other place s e then insert_key avoided_cmp list (u, e.pod, e.position) else list
 
 -- one more that is led to or not
 abbrev pub with_unled : Bool → List Edge → Edge → List Edge

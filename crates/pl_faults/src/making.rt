@@ -1,16 +1,18 @@
-ghost use Rattle.std.specs.Prelude.{◌≡◌, [], IfOk, IsTrue, OnOk, fold};
+ghost use Rattle.std.specs.Prelude.{◌≡◌, [], ℕ, ◌<◌, ◌||◌, IfOk, IfSome, IsTrue, OnOk, fold};
 ghost use Rattle.std.specs.BTreeSet.{insert_key};
+ghost use Rattle.std.specs.List.{list_any};
+ghost use Rattle.pl_bits.specs.Bits.{has_bit};
 ghost use Rattle.pl_node.specs.AvoidLists.{avoid_list, avoided_cmp, is_level_above};
 ghost use Rattle.pl_node.specs.ManagerViews.{place_of};
 ghost use Rattle.pl_faults.specs.Making.{with_neighbour};
-ghost use Rattle.pl_faults.specs.Missed.{IsLeading, avoided_of, is_avoided, sends_down, with_missed};
+ghost use Rattle.pl_faults.specs.Missed.{IsLeading, avoided_of, is_avoided, is_number, is_numbered, is_other, sends_down, with_other};
 
 use crate::edges::Edge;
 use crate::leading::Leading;
 use crate::missed::missed_in;
 use crate::reach::{has_level, has_pod};
 use pl_frame::SwitchId;
-use pl_node::{AvoidList, Memory, Place};
+use pl_node::{AvoidList, AvoidRow, Memory, Place};
 use pl_reports::Reports;
 use std::alloc::Global;
 
@@ -60,7 +62,7 @@ fn is_none(missed: &[Edge]) -> bool
     missed.is_empty()
 }
 
-// Puts in those that a neighbour above misses.
+// Puts in those that a neighbour above misses: by a row of bits, and one by one where they have no bit.
 fn add_missed(
     list: &mut AvoidList,
     missed: &[Edge],
@@ -70,25 +72,81 @@ fn add_missed(
 ) -> Result<(), Memory>
     ensures { OnOk result (list.new ≡ fold (insert_key avoided_cmp) list.old (avoided_of place switch neighbour missed.now)) }
 {
+    let row = row_of(missed, place, switch, neighbour);
+    list.insert_row(row)?;
+    add_others(list, missed, place, switch, neighbour)?;
+    Ok(())
+}
+
+// The bits of those that a switch at this place avoids a neighbour for.
+fn row_of(missed: &[Edge], place: Place, switch: SwitchId, neighbour: SwitchId) -> AvoidRow
+    ensures neighbour { result.neighbour ≡ neighbour }
+    ensures bits { (n : ℕ) → has_bit result.words n ≡ list_any (is_numbered place switch n) missed.now }
+{
+    let mut row = AvoidRow::of(neighbour);
     for edge in missed {
-        add_edge(list, edge, place, switch, neighbour)?;
+        row = with_edge(row, edge, place, switch);
+    }
+    row
+}
+
+fn with_edge(row: AvoidRow, edge: &Edge, place: Place, switch: SwitchId) -> AvoidRow
+    ensures neighbour { result.neighbour ≡ row.neighbour }
+    ensures bits { (n : ℕ) → has_bit result.words n ≡ (is_numbered place switch n edge.now || has_bit row.words n) }
+{
+    if !is_avoided(place, switch, edge) {
+        return row;
+    }
+    with_number(row, AvoidRow::number_of(edge.pod, edge.position))
+}
+
+fn with_number(row: AvoidRow, number: Option<usize>) -> AvoidRow
+    requires { IfSome number (λ n. n < 288) }
+    ensures neighbour { result.neighbour ≡ row.neighbour }
+    ensures bits { (n : ℕ) → has_bit result.words n ≡ (is_number n number || has_bit row.words n) }
+{
+    match number {
+        Some(number) => row.with(number),
+        None => row,
+    }
+}
+
+// Puts in those that have no bit.
+fn add_others(
+    list: &mut AvoidList,
+    missed: &[Edge],
+    place: Place,
+    switch: SwitchId,
+    neighbour: SwitchId,
+) -> Result<(), Memory>
+    ensures { OnOk result (list.new ≡ fold (with_other place switch neighbour) list.old missed.now) }
+{
+    for edge in missed {
+        add_other(list, edge, place, switch, neighbour)?;
     }
     Ok(())
 }
 
-fn add_edge(
+fn add_other(
     list: &mut AvoidList,
     edge: &Edge,
     place: Place,
     switch: SwitchId,
     neighbour: SwitchId,
 ) -> Result<(), Memory>
-    ensures { OnOk result (list.new ≡ with_missed place switch neighbour list.old edge.now) }
+    ensures { OnOk result (list.new ≡ with_other place switch neighbour list.old edge.now) }
 {
-    if is_avoided(place, switch, edge) {
+    if is_other(place, switch, edge) {
         list.insert((neighbour, edge.pod, edge.position))?;
     }
     Ok(())
+}
+
+// Whether a switch at this place avoids a neighbour for an edge switch, and that has no bit.
+fn is_other(place: Place, switch: SwitchId, edge: &Edge) -> bool
+    ensures { result ≡ is_other place switch edge.now }
+{
+    AvoidRow::number_of(edge.pod, edge.position).is_none() && is_avoided(place, switch, edge)
 }
 
 // Whether a switch at this place avoids a neighbour for an edge switch that the neighbour misses.

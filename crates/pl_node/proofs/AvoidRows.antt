@@ -1,5 +1,6 @@
 -- What an avoid list that is kept in rows has, and how it gains an entry.
 use Rattle.std.proofs.Common.{Result, Ok, Err, OnOk, IsTrue, take, ◌≡◌, ℕ, zero, suc, ◌+◌, ◌*◌, ◌/◌, ◌%◌, ◌<◌, ◌≤◌, ◌≢◌, ◌==◌, ◌&&◌, ◌||◌, ◌↔◌, not, nat_lt, Bool, true, false, cond, List, [], ◌∷◌, ◌++◌, map, length, get_or, set, Option, Some, None, refl, sym, ap, ◌∙◌, subst, inl, inr, arith}
+use Rattle.std.specs.Prelude.{fold}
 use Rattle.std.specs.List.{filter, flat_map, list_any, range_with_len}
 use Rattle.std.specs.List.Sorted.{IsStrictlySortedBy}
 use Rattle.std.specs.Ordering.{is_eq}
@@ -78,7 +79,7 @@ below_of_range (suc n) m a (inr h) = let less = below_of_range n m (a + 1) h in 
 has_number : (pod position : ℕ) → pod < 24 → position < 12 → number_of pod position ≡ Some (pod * 12 + position)
 has_number pod position low small = rw (lt-ltb pod 24 low, lt-ltb position 12 small) refl
 
-number_back : (n : ℕ) → n < 288 → number_of (n / 12) (n % 12) ≡ Some n
+pub number_back : (n : ℕ) → n < 288 → number_of (n / 12) (n % 12) ≡ Some n
 number_back n h = has_number (n / 12) (n % 12) (omega arith) (omega arith) ∙ ap Some (omega arith)
 
 pub of_number : (pod position n : ℕ) → number_of pod position ≡ Some n → (pod ≡ n / 12) × (position ≡ n % 12) × (n < 288)
@@ -504,3 +505,58 @@ blank_row = record { neighbour = record { 0 = 0 }; words = [] }
 
 abbrev pub blank_entry : Avoided
 blank_entry = (record { 0 = 0 }, 0, 0)
+
+-- ---- one more row
+pub listed_folded : (x : Avoided) (more xs : List Avoided) →
+    is_listed x (fold (insert_key avoided_cmp) xs more) ≡ (is_listed x more || is_listed x xs)
+listed_folded x [] xs = refl
+listed_folded x (k ∷ more) xs =
+    listed_folded x more (insert_key avoided_cmp xs k)
+    ∙ ap (λ b. is_listed x more || b) (listed_inserted x k xs)
+    ∙ sym (or_moved (is_eq (avoided_cmp x k)) (is_listed x more) (is_listed x xs))
+    ∙ by (is_eq (avoided_cmp x k)) (is_listed x more) (is_listed x xs)
+  where
+    by : (a b c : Bool) → (a || (b || c)) ≡ ((a || b) || c)
+    by true b c = refl
+    by false b c = refl
+
+pub folded_rises : (more xs : List Avoided) → IsStrictlySortedBy avoided_cmp xs → IsStrictlySortedBy avoided_cmp (fold (insert_key avoided_cmp) xs more)
+folded_rises [] xs s = s
+folded_rises (k ∷ more) xs s = folded_rises more (insert_key avoided_cmp xs k) (rising_inserted avoided_cmp avoided_total k xs s)
+
+none_set : (f : ℕ → Bool) (xs : List ℕ) → ((n : ℕ) → f n ≡ false) → filter f xs ≡ []
+none_set f [] none = refl
+none_set f (n ∷ xs) none = ap (λ b. cond b (n ∷ filter f xs) (filter f xs)) (none n) ∙ none_set f xs none
+
+pub stands_for_none : (row : AvoidRow) → ((n : ℕ) → has_bit row.words n ≡ false) → entries_of row ≡ []
+stands_for_none row none = ap (map (entry_of row.neighbour)) (none_set (has_bit row.words) (range_with_len 0 288) none)
+
+rows_one_more : (x : Avoided) (row : AvoidRow) (o : Option ℕ) (rows : List AvoidRow) → rows_have x.0 o (rows ++ row ∷ []) ≡ (rows_have x.0 o (row ∷ []) || rows_have x.0 o rows)
+rows_one_more x row None rows = refl
+rows_one_more x row (Some n) rows =
+    list_any-append (row_has x.0 n) rows (row ∷ []) ∙ by (list_any (row_has x.0 n) rows) (list_any (row_has x.0 n) (row ∷ []))
+  where
+    by : (a b : Bool) → (a || b) ≡ (b || a)
+    by true true = refl
+    by true false = refl
+    by false true = refl
+    by false false = refl
+
+pub gains_row : (rows : List AvoidRow) (others : List Avoided) (row : AvoidRow) →
+    listed_in (rows ++ row ∷ []) others ≡ fold (insert_key avoided_cmp) (listed_in rows others) (entries_of row)
+gains_row rows others row =
+    same_listed (listed_in (rows ++ row ∷ []) others) (fold (insert_key avoided_cmp) (listed_in rows others) (entries_of row))
+    (list_rises (rows ++ row ∷ []) others) (folded_rises (entries_of row) (listed_in rows others) (list_rises rows others)) each
+  where
+    each : (x : Avoided) → is_listed x (listed_in (rows ++ row ∷ []) others) ≡ is_listed x (fold (insert_key avoided_cmp) (listed_in rows others) (entries_of row))
+    each x =
+        lists x (rows ++ row ∷ []) others
+        ∙ ap (λ b. b || is_listed x others) (rows_one_more x row (number_of x.1 x.2) rows)
+        ∙ by (rows_have x.0 (number_of x.1 x.2) (row ∷ [])) (rows_have x.0 (number_of x.1 x.2) rows) (is_listed x others)
+        ∙ ap (λ b. b || (rows_have x.0 (number_of x.1 x.2) rows || is_listed x others)) (sym (row_lists x row))
+        ∙ ap (λ b. is_listed x (entries_of row) || b) (sym (lists x rows others))
+        ∙ sym (listed_folded x (entries_of row) (listed_in rows others))
+      where
+        by : (a b c : Bool) → ((a || b) || c) ≡ (a || (b || c))
+        by true b c = refl
+        by false b c = refl

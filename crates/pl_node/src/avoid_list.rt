@@ -1,4 +1,4 @@
-ghost use Rattle.std.specs.Prelude.{◌≡◌, ◌↔◌, ◌&&◌, ◌<◌, ℕ, List, not, [], IfOk, IsTrue, OnErr, OnOk};
+ghost use Rattle.std.specs.Prelude.{◌≡◌, ◌↔◌, ◌&&◌, ◌<◌, ℕ, List, not, [], IfOk, IsTrue, OnErr, OnOk, fold};
 ghost use Rattle.std.specs.BTreeSet.{insert_key};
 ghost use Rattle.std.specs.Ordering.{is_eq};
 ghost use Rattle.std.specs.List.{list_any};
@@ -9,7 +9,7 @@ ghost use Rattle.pl_node.specs.AvoidLists.{avoided_cmp};
 ghost use Rattle.pl_node.specs.AvoidRows.{AreListed, Gains, entries_of, entry_of, is_listed, listed_in};
 
 use crate::Memory;
-use crate::avoid_row::{AvoidRow, NUMBERS, number_of, put, rows_have};
+use crate::avoid_row::{AvoidRow, NUMBERS, put, rows_have};
 use pl_frame::SwitchId;
 use pl_lists::Rising;
 use std::alloc::Global;
@@ -60,6 +60,15 @@ impl AvoidList {
         ensures err { OnErr result (self.new ≡ self.old) }
     {
         put_entry(&mut self.rows, &mut self.others, entry)
+    }
+
+    /// Puts in what the bits of a row stand for.
+    pub fn insert_row(&mut self, row: AvoidRow) -> Result<(), Memory>
+        ensures ok { OnOk result (self.new ≡ fold (insert_key avoided_cmp) self.old (entries_of row)) }
+        ensures err { OnErr result (self.new ≡ self.old) }
+        ensures rising { IsStrictlySortedBy avoided_cmp self.old }
+    {
+        put_row(&mut self.rows, self.others.as_slice(), row)
     }
 
     /// Those of its entries that another list has not.
@@ -147,10 +156,34 @@ fn put_entry(
     ensures ok { OnOk result (listed_in rows.new.items others.new ≡ insert_key avoided_cmp (listed_in rows.old.items others.old) entry) }
     ensures err { OnErr result (listed_in rows.new.items others.new ≡ listed_in rows.old.items others.old) }
 {
-    match number_of(entry.1, entry.2) {
+    match AvoidRow::number_of(entry.1, entry.2) {
         Some(number) => put(rows, entry.0, number),
         None => others.insert(entry),
     }
+}
+
+// One more row, unless it has no bit.
+fn put_row(
+    rows: &mut Vec<AvoidRow>,
+    others: &[(SwitchId, u16, u8)],
+    row: AvoidRow,
+) -> Result<(), Memory>
+    ensures ok { OnOk result (listed_in rows.new.items others.now ≡ fold (insert_key avoided_cmp) (listed_in rows.old.items others.now) (entries_of row)) }
+    ensures err { OnErr result (rows.new.items ≡ rows.old.items) }
+    ensures rising { IsStrictlySortedBy avoided_cmp (listed_in rows.old.items others.now) }
+{
+    if is_blank(&row) {
+        return Ok(());
+    }
+    rows.push(row)?;
+    Ok(())
+}
+
+fn is_blank(row: &AvoidRow) -> bool
+    ensures { IsTrue result → entries_of row.now ≡ [] }
+{
+    let blank = AvoidRow::of(row.neighbour);
+    is_same_row(row, &blank)
 }
 
 // What the rows and the entries beside them have that another list has not.

@@ -12,9 +12,9 @@ use pl_frame::SwitchId;
 
 /// What a neighbour cannot reach, a bit for each pod below 24 and position below 12.
 #[derive(Clone, Copy, Debug, PartialEq, Eq)]
-pub(crate) struct AvoidRow {
-    pub(crate) neighbour: SwitchId,
-    pub(crate) words: [u64; 5],
+pub struct AvoidRow {
+    pub neighbour: SwitchId,
+    pub words: [u64; 5],
 }
 
 /// How many bits of a row stand for a pod and a position.
@@ -22,7 +22,7 @@ pub(crate) const NUMBERS: usize = 288;
 
 impl AvoidRow {
     /// A row of no bits.
-    fn of(neighbour: SwitchId) -> AvoidRow
+    pub fn of(neighbour: SwitchId) -> AvoidRow
         ensures neighbour { result.neighbour ≡ neighbour }
         ensures none { (n : ℕ) → has_bit result.words n ≡ false }
     {
@@ -30,6 +30,17 @@ impl AvoidRow {
             neighbour,
             words: [0; 5],
         }
+    }
+
+    /// The number of the bit of a pod and a position, where they have one.
+    pub fn number_of(pod: u16, position: u8) -> Option<usize>
+        ensures number { result ≡ number_of pod position }
+        ensures below { IfSome result (λ number. number < 288) }
+    {
+        if pod < 24 && position < 12 {
+            return Some(usize::from(pod) * 12 + usize::from(position));
+        }
+        None
     }
 
     /// Whether a bit is set.
@@ -49,7 +60,7 @@ impl AvoidRow {
     }
 
     /// The row with one more bit.
-    fn with(self, number: usize) -> AvoidRow
+    pub fn with(self, number: usize) -> AvoidRow
         requires { number < 288 }
         ensures neighbour { result.neighbour ≡ self.neighbour }
         ensures bits { (n : ℕ) → has_bit result.words n ≡ ((n == number) || has_bit self.words n) }
@@ -61,17 +72,6 @@ impl AvoidRow {
             words,
         }
     }
-}
-
-/// The number of the bit of a pod and a position, where they have one.
-pub(crate) fn number_of(pod: u16, position: u8) -> Option<usize>
-    ensures number { result ≡ number_of pod position }
-    ensures below { IfSome result (λ number. number < 288) }
-{
-    if pod < 24 && position < 12 {
-        return Some(usize::from(pod) * 12 + usize::from(position));
-    }
-    None
 }
 
 /// Sets a bit in the row of a neighbour.
@@ -124,7 +124,7 @@ fn row_at(rows: &[AvoidRow], neighbour: SwitchId) -> Option<usize>
 pub(crate) fn rows_have(rows: &[AvoidRow], entry: (SwitchId, u16, u8)) -> bool
     ensures { result ≡ rows_have entry.0 (number_of entry.1 entry.2) rows.now }
 {
-    match number_of(entry.1, entry.2) {
+    match AvoidRow::number_of(entry.1, entry.2) {
         Some(number) => has_number(rows, entry.0, number),
         None => false,
     }

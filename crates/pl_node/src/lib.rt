@@ -7,6 +7,7 @@
 
 pub use acts::{Act, HostAct, ManagerAct};
 pub use avoid_list::AvoidList;
+pub use avoid_row::AvoidRow;
 pub use host_logic::HostLogic;
 pub use host_table::HostTable;
 pub use manager_logic::ManagerLogic;

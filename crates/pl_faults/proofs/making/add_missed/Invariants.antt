@@ -1,7 +1,0 @@
-use Rattle.std.proofs.Common.{◌≡◌, take}
-use Rattle.std.specs.Prelude.{fold}
-use Rattle.pl_faults.specs.Missed.{with_missed}
-use Rattle.pl_faults.proofs.making.add_missed.Given as goal
-
-abbrev pub invariant-loop-edge : goal.invariant-loop-edge
-invariant-loop-edge l = l.list ≡ fold (with_missed l.place l.switch l.neighbour) l.initial.list (take l.edge-index l.missed)

@@ -1,0 +1,10 @@
+use Rattle.std.proofs.Common.{◌∙◌, ap}
+use Rattle.std.specs.Prelude.{fold}
+use Rattle.std.proofs.lemmas.List.{take_all}
+use Rattle.pl_faults.specs.Missed.{with_other}
+use Rattle.pl_faults.proofs.making.add_others.Goals as goal
+
+pub returns : goal.returns
+returns c =
+    c.loop-edge.invariant
+    ∙ ap (fold (with_other c.args.place c.args.switch c.args.neighbour) c.args.list.now) (take_all c.loop-edge.edge-index c.args.missed.now c.loop-edge-test.false)

@@ -17,21 +17,17 @@ use Rattle.pl_world.specs.Booting.{CanBegin, all_live, booted, first_attachment}
 use Rattle.pl_world.specs.LinksAndMoves.{joins, link_between, link_failed, with_link}
 use Rattle.pl_world.specs.Worlds.{WorldView}
 use Rattle.pl_world.proofs.Exports.{booted_is_counted, born_none, counted as to_counted, failed_left, fails, found_contained, Sound, sound, Writes}
-use Rattle.pl_law_bridge.specs.Counting.{count_all, has_root}
-use Rattle.pl_law_bridge.specs.Reaching.{ReachesOnce, nothing_unsaid, reaches_from_place, standing}
+use Rattle.pl_law_counts.specs.Counting.{comes_from_place, has_root, standing}
+use Rattle.pl_law_counts.proofs.Exports.{empty_out, none_in}
+use Rattle.pl_law_bridge.specs.Reaching.{ReachesOnce, nothing_unsaid, to_targets}
 use Rattle.pl_law_bridge.specs.TreeWorld.{KeepsToTree, LiveIsTree, is_off_tree, only_tree, tree_from, tree_world}
 use Rattle.pl_law_bridge.specs.Travelling.{TravelsOnTree, WaitsAtHost, WaitsAtPort}
-use Rattle.pl_law_bridge.proofs.Changing.{IsIdle, empty_out}
-use Rattle.pl_law_bridge.proofs.Happening.{noted_kept}
+use Rattle.pl_law_bridge.proofs.Acting.{IsKeptIn, noted_kept}
+use Rattle.pl_law_bridge.proofs.Changing.{IsIdle}
 use Rattle.pl_law_bridge.proofs.LiveLinks.{tree_is_left}
 use Rattle.pl_law_bridge.proofs.TravelChanges.{set_port}
-use Rattle.pl_law_bridge.proofs.Turning.{IsKeptIn}
 
 -- ---- at boot
-none_in : (test : ℕ → ℕ → List ℕ → Bool) (n : ℕ) → count_all test (replicate n []) ≡ 0
-none_in test zero = refl
-none_in test (suc n) = omega (arith, none_in (λ i. test (suc i)) n)
-
 none_waits : (P : Item → Type 0) (many n : ℕ) → AllByRecursion P (get_or (replicate many []) n [])
 none_waits P zero n = tt
 none_waits P (suc many) zero = tt
@@ -49,7 +45,7 @@ once_at_first plan limits = record {
   once = λ r there. omega (
     arith,
     none_in (λ h. has_root [] r) (length plan.hosts),
-    none_in (reaches_from_place plan [] r there) (switch_count plan.k * plan.k),
+    none_in (comes_from_place (to_targets nothing_unsaid) plan [] r there) (switch_count plan.k * plan.k),
     born_none r,
   );
 }
@@ -72,14 +68,14 @@ keeps_writes : Writes Keeps IsIdle
 keeps_writes = record {
   same = λ w c. c;
   on = λ a b d one next c. next (one c);
-  entry = λ w e idle c. noted_kept nothing_unsaid w (λ r there. 0) e idle c;
+  entry = noted_kept nothing_unsaid;
   dropped = λ id why. tt;
 }
 
 fails_kept : (w : WorldView) (link : Link) → IsKeptIn nothing_unsaid w → IsKeptIn nothing_unsaid (link_failed w link)
 fails_kept w link = failed_left Keeps IsIdle keeps_writes
     (λ u i c. record {
-      once = empty_out nothing_unsaid u.plan (standing u.attachments) (reverse u.journal) u.from_hosts u.out u.begun i (λ r there. 0) c.once;
+      once = empty_out (to_targets nothing_unsaid) u i c.once;
       travels = set_port u.plan (reverse u.journal) u.from_hosts u.out u.begun i [] tt c.travels;
     }) w link tt (λ u links c. c)
 

@@ -56,13 +56,12 @@ use Rattle.pl_law_bridge.specs.ExactWay.{Disturbs, IsClear, LeadsBy}
 use Rattle.pl_law_bridge.specs.Learnt.{GoesOnAlone, HasAt}
 use Rattle.pl_law_bridge.specs.Travelling.{copies_made}
 use Rattle.pl_law_bridge.proofs.GoingAlone.{from_host_alone, over_link_alone}
-use Rattle.pl_law_bridge.proofs.Happening.{taken_out}
 use Rattle.pl_law_bridge.proofs.Hops.{Hop, hop, IsHop, leads_behind, numbers, onto, same_hop, way_behind}
 use Rattle.pl_law_bridge.proofs.LiveLinks.{at_end}
 use Rattle.pl_law_bridge.proofs.Sparing.{host_spares, IsAside, IsThere, Spares, spares_noted, Whereabouts}
 use Rattle.pl_law_bridge.proofs.Sparing.Whereabouts.{AtEnd, AtHost, AtPlace}
 use Rattle.pl_law_bridge.proofs.StandingApart.{comes_to, IsAtHostPort, StandApart}
-use Rattle.pl_law_bridge.proofs.Turning.{peer_back}
+use Rattle.pl_law_counts.proofs.Exports.{peer_back, taken_out}
 use Rattle.pl_law_bridge.proofs.Untouched.{befell, Befell, IsLeftAlone}
 use Rattle.pl_law_bridge.proofs.Untouched.Befell.{LeavesHost, LeavesPort, Spared}
 use Rattle.pl_law_bridge.proofs.Waiting.{arrived_ends, put_there, waits_in_all}

@@ -35,7 +35,8 @@ use Rattle.pl_world.specs.Worlds.{WorldView}
 use Rattle.pl_world.proofs.Exports.{head_is_item, sent_is_item, sound}
 use Rattle.pl_bridge_rule.specs.BridgeRule.{Bridges, bridges, goes_on, port_for, with_source}
 use Rattle.pl_law_bridge.specs.Learnt.{GoesOnAlone, HasAt}
-use Rattle.pl_law_bridge.proofs.Happening.{comes_acts, taken_out}
+use Rattle.pl_law_counts.proofs.Exports.{taken_out}
+use Rattle.pl_law_bridge.proofs.Happening.{comes_acts}
 use Rattle.pl_law_bridge.proofs.Tables.{turn_switches}
 
 same_number_itself : (o : Option ℕ) → same_number o o ≡ true

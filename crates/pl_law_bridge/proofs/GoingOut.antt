@@ -1,6 +1,6 @@
 -- What an event lets go out of ports for hosts counts for these ports as targets, and for nothing else.
 use Rattle.std.proofs.Common.{◌≡◌, ℕ, ◌/◌, ◌%◌, ◌≤◌, ◌&&◌, nat_lt, Bool, true, false, if◌then◌else◌, List, Some, reverse, refl, ap, ◌∙◌, arith}
-use Rattle.std.proofs.lemmas.Bool.{and_parts, ltb-true}
+use Rattle.std.proofs.lemmas.Bool.{and_from, and_parts, ltb-true}
 use Rattle.std.proofs.lemmas.Nat.{div-mul-add, mod-mul-add}
 use Rattle.std.proofs.lemmas.Option.{none-some}
 use Rattle.pl_wiring.specs.declared.label.SwitchNo.{SwitchNo}
@@ -20,12 +20,12 @@ use Rattle.pl_world.specs.Changes.{out_of}
 use Rattle.pl_world.specs.Worlds.{WorldView}
 use Rattle.pl_world.proofs.Exports.{asked_by}
 use Rattle.pl_queues.specs.Queues.{items_at}
-use Rattle.pl_law_bridge.specs.Counting.{count_in, has_root}
+use Rattle.pl_law_counts.specs.Counting.{comes_from_place, count_in, has_root, still_to_come}
+use Rattle.pl_law_counts.proofs.Exports.{count_all-one, fewer_in}
 use Rattle.pl_law_bridge.specs.GoingOut.{goes_out_by, heads, waiting_at}
-use Rattle.pl_law_bridge.specs.Reaching.{Target, may_reach, may_reach_by, reaches_from_place, still_to_reach}
+use Rattle.pl_law_bridge.specs.Reaching.{Target, may_reach, may_reach_by, nothing_unsaid, to_targets}
 use Rattle.pl_law_bridge.specs.Reaching.Target.{Arrival, Crossing, Departure}
 use Rattle.pl_law_bridge.proofs.Changing.{departs_at}
-use Rattle.pl_law_bridge.proofs.Queued.{count_all-one, count_in-and}
 
 abbrev pub gone_by : WorldView → Event → ℕ → Target → ℕ
 gone_by w e r (Departure there) = goes_out_by w e r there
@@ -88,7 +88,7 @@ gone_stepped w steps e r (Arrival there) = refl
 gone_stepped w steps e r (Departure there) = steps_apart w steps e r there
 
 -- what waits behind a port for hosts may go out there
-pub waiting_may_go : (w : WorldView) (r : ℕ) (there : EdgePort) → waiting_at w r there ≤ still_to_reach w.plan (reverse w.journal) w.from_hosts w.out r (Departure there)
+pub waiting_may_go : (w : WorldView) (r : ℕ) (there : EdgePort) → waiting_at w r there ≤ still_to_come (to_targets nothing_unsaid) w.plan (reverse w.journal) w.from_hosts w.out r (Departure there)
 waiting_may_go w r there = by (nat_lt there.port w.plan.k && is_host_port (peer_of w.plan there.edge there.port)) refl
   where
     n : ℕ
@@ -98,7 +98,7 @@ waiting_may_go w r there = by (nat_lt there.port w.plan.k && is_host_port (peer_
     past = reverse w.journal
 
     by : (b : Bool) → (nat_lt there.port w.plan.k && is_host_port (peer_of w.plan there.edge there.port)) ≡ b →
-        (if b then count_in (has_root past r) (items_at w.out n) else 0) ≤ still_to_reach w.plan past w.from_hosts w.out r (Departure there)
+        (if b then count_in (has_root past r) (items_at w.out n) else 0) ≤ still_to_come (to_targets nothing_unsaid) w.plan past w.from_hosts w.out r (Departure there)
     by false is = omega arith
     by true is =
         let both = and_parts (nat_lt there.port w.plan.k) (is_host_port (peer_of w.plan there.edge there.port)) is in
@@ -108,6 +108,7 @@ waiting_may_go w r there = by (nat_lt there.port w.plan.k && is_host_port (peer_
         ∙ ap (λ p. may_reach_by w.plan there.edge p (Departure there)) (mod-mul-add there.edge w.plan.k there.port within)
         ∙ ap (λ p. may_reach w.plan.k there.edge there.port p (Departure there)) (host_port_is (peer_of w.plan there.edge there.port) both.1)
         ∙ same_edge_port_itself there in
-        let more = count_in-and (has_root past r) (may_reach_by w.plan (n / w.plan.k) (n % w.plan.k) (Departure there)) reaches (items_at w.out n) in
-        let one = count_all-one (reaches_from_place w.plan past r (Departure there)) w.out n in
+        let test : ℕ → ℕ → List ℕ → Bool = comes_from_place (to_targets nothing_unsaid) w.plan past r (Departure there) in
+        let more = fewer_in (has_root past r) (test n) (λ id frame own. and_from (has_root past r id frame) (may_reach_by w.plan (n / w.plan.k) (n % w.plan.k) (Departure there)) own reaches) (items_at w.out n) in
+        let one = count_all-one test w.out n in
         omega (arith, more, one)

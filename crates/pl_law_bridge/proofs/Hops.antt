@@ -22,9 +22,8 @@ use Rattle.pl_world.proofs.Exports.{all_found, peer_is_port}
 use Rattle.pl_bridge_rule.specs.Tree.{IsWay}
 use Rattle.pl_law_bridge.specs.ExactWay.{LeadsBy}
 use Rattle.pl_law_bridge.specs.Learnt.{HasAt}
-use Rattle.pl_law_bridge.proofs.PortsApart.{one_port}
 use Rattle.pl_law_bridge.proofs.StandingApart.{IsAtHostPort, StandApart}
-use Rattle.pl_law_bridge.proofs.Turning.{peer_back}
+use Rattle.pl_law_counts.proofs.Exports.{one_port, peer_back}
 
 -- the switches that were crossed, the last one first, before those that are ahead
 abbrev pub onto : List SwitchNo → List SwitchNo → List SwitchNo

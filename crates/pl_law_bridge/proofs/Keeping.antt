@@ -19,15 +19,16 @@ use Rattle.pl_world.proofs.Exports.Left.{LinkFails, Moves, Repairs, Stays}
 use Rattle.pl_bridge_rule.specs.BridgeRule.{Bridges}
 use Rattle.pl_bridge_rule.proofs.Exports.{accounts}
 use Rattle.pl_journal.specs.Places.{EdgePort}
+use Rattle.pl_law_counts.specs.Counting.{still_to_come}
 use Rattle.pl_law_bridge.specs.GoingOut.{goes_out_at, times_gone_out, waiting_at}
-use Rattle.pl_law_bridge.specs.Reaching.{Target, nothing_unsaid, still_to_reach}
+use Rattle.pl_law_bridge.specs.Reaching.{Target, nothing_unsaid, to_targets}
 use Rattle.pl_law_bridge.specs.Reaching.Target.{Departure}
 use Rattle.pl_law_bridge.specs.TreeWorld.{IsNoRepair, KeepsToTree, LiveIsTree, RepairsNothing}
+use Rattle.pl_law_bridge.proofs.Acting.{IsKeptIn, noted_kept}
 use Rattle.pl_law_bridge.proofs.Changing.{IsIdle}
 use Rattle.pl_law_bridge.proofs.GoingOut.{gone_by, gone_stepped, waiting_may_go}
-use Rattle.pl_law_bridge.proofs.Happening.{fewer, happens_kept, noted_kept}
+use Rattle.pl_law_bridge.proofs.Happening.{fewer, happens_kept}
 use Rattle.pl_law_bridge.proofs.LiveLinks.{fails_keep}
-use Rattle.pl_law_bridge.proofs.Turning.{IsKeptIn}
 
 -- ---- which links are live
 stays_live : (a b : WorldView) → ByTurns a b → LiveIsTree a.plan a.links → LiveIsTree b.plan b.links
@@ -77,7 +78,7 @@ module _ (unsaid : ℕ → Target → ℕ) (manager : ManagerRule) (host : HostR
       manager host e (same_refusal old e ∙ event_is_not_refused old e befalls.0) befalls.1)
   moment_counts old (Mark e) new befalls counted live kept =
       fewer unsaid new (λ r there. 0 + unsaid r there) (λ r there. omega arith)
-      (subst (IsKeptIn unsaid) (sym befalls.1) (noted_kept unsaid old (λ r there. 0) e (mark_is_idle e befalls.0) (record { once = kept.once; travels = kept.travels })))
+      (subst (IsKeptIn unsaid) (sym befalls.1) (noted_kept unsaid old e (mark_is_idle e befalls.0) (record { once = kept.once; travels = kept.travels })))
 
 module _ (manager : ManagerRule) (host : HostRule) (sends : HostsSendData host) where
   moment_keeps : (old : WorldView) (moment : Moment) (new : WorldView) → RepairsNothing moment → Befalls Bridges manager host old moment new → KeepsToTree old → KeepsToTree new
@@ -114,8 +115,8 @@ module _ (manager : ManagerRule) (host : HostRule) (sends : HostsSendData host) 
   run_counts unsaid old [] new none run is kept r there =
       let all = kept.once.once r (Departure there) in
       let most = born_once r old.begun in
-      let waits : waiting_at new r there ≤ still_to_reach old.plan (reverse old.journal) old.from_hosts old.out r (Departure there) =
-      subst (λ (w : WorldView). waiting_at w r there ≤ still_to_reach old.plan (reverse old.journal) old.from_hosts old.out r (Departure there)) (sym run) (waiting_may_go old r there) in
+      let waits : waiting_at new r there ≤ still_to_come (to_targets nothing_unsaid) old.plan (reverse old.journal) old.from_hosts old.out r (Departure there) =
+      subst (λ (w : WorldView). waiting_at w r there ≤ still_to_come (to_targets nothing_unsaid) old.plan (reverse old.journal) old.from_hosts old.out r (Departure there)) (sym run) (waiting_may_go old r there) in
       omega (arith, all, most, waits)
   run_counts unsaid old (moment ∷ moments) new none run is kept r there =
       let rest = run_counts (λ r there. at_moment old moment r there + unsaid r there) run.0 moments new none.1 run.2

@@ -1,11 +1,8 @@
-pub mod Queued
-pub mod PortsApart
+pub mod Spreading
 pub mod Changing
 pub mod GoingOut
 pub mod TravelChanges
-pub mod Spreading
 pub mod Acting
-pub mod Turning
 pub mod Happening
 pub mod LiveLinks
 pub mod Keeping

@@ -9,21 +9,17 @@ use Rattle.pl_wiring.specs.Peers.{peer_of}
 use Rattle.pl_wiring.specs.Plan.{IsPlan, Plan}
 use Rattle.pl_wiring.proofs.Exports.{number_of-label_of}
 use Rattle.pl_journal.specs.declared.cause.Cause.TheVariants.{NoNextHop}
-use Rattle.pl_node.specs.declared.acts.Act.{Act}
 use Rattle.pl_node.specs.declared.acts.Act.TheVariants as act
 use Rattle.pl_bridge_rule.specs.BridgeRule.{goes_on, other_ports}
 use Rattle.pl_bridge_rule.specs.Tree.{is_tree_link, leads_to}
 use Rattle.pl_bridge_rule.proofs.Exports.{apart, joined_leads, not_here, within}
-use Rattle.pl_law_bridge.specs.Reaching.{Target, is_crossing_of, is_port_at, may_reach, may_reach_by, switch_at}
+use Rattle.pl_law_counts.proofs.Exports.{one_at_most, CountsAlone, one_only, one_port, sum_of, used}
+use Rattle.pl_law_bridge.specs.Reaching.{Target, is_crossing_of, is_port_at, may_reach, may_reach_by, may_reach_with, switch_at}
 use Rattle.pl_law_bridge.specs.Reaching.Target.{Arrival, Crossing, Departure}
-use Rattle.pl_law_bridge.proofs.Changing.{claim, claim_at_most_one}
-use Rattle.pl_law_bridge.proofs.PortsApart.{CountsAlone, one_only, one_port, sum_of}
 
--- how many of the frame in hand the acts let go to a target
-abbrev pub used : Plan → ℕ → Target → List Act → ℕ
-used plan s there [] = 0
-used plan s there (act.Pass port frame ∷ acts) = claim plan s port there + used plan s there acts
-used plan s there (a ∷ acts) = used plan s there acts
+-- 1 where a frame that leaves by a port may reach the target
+abbrev pub claim : Plan → ℕ → ℕ → Target → ℕ
+claim plan s port there = if may_reach_by plan s port there then 1 else 0
 
 -- 1 where the switch itself is the target
 abbrev pub here : ℕ → Target → ℕ
@@ -32,7 +28,7 @@ here t x = if is_crossing_of t x then 1 else 0
 pub same_switch : (k s t : ℕ) → label_of k s ≡ label_of k t → s ≡ t
 same_switch k s t same = sym (number_of-label_of k s) ∙ ap (number_of k) same ∙ number_of-label_of k t
 
-passes_used : (plan : Plan) (t : ℕ) (x : Target) (frame ports : List ℕ) → used plan t x (map (λ p. act.Pass p frame) ports) ≡ sum_of (λ p. claim plan t p x) ports
+passes_used : (plan : Plan) (t : ℕ) (x : Target) (frame ports : List ℕ) → used may_reach_with plan t x (map (λ p. act.Pass p frame) ports) ≡ sum_of (λ p. claim plan t p x) ports
 passes_used plan t x frame [] = refl
 passes_used plan t x frame (p ∷ ports) = ap (λ n. claim plan t p x + n) (passes_used plan t x frame ports)
 
@@ -97,7 +93,7 @@ module _ (plan : Plan) (is_plan : IsPlan plan) (t : ℕ) (x : Target) where
     alone most some p other = elim (cases_Bool (may_reach_by plan t p x)) [
       | inr never ↦ inl (claim_none plan t p x never)
       | inl may ↦ inr (
-        (let least = some p other may in let one = claim_at_most_one plan t p x in omega arith),
+        (let least = some p other may in let one = one_at_most (may_reach_by plan t p x) in omega arith),
         λ r also apart_from. elim (cases_Bool (may_reach_by plan t r x)) [
           | inr never ↦ claim_none plan t r x never
           | inl may_too ↦ absurd (apart_from (two_ways p r (leads_by plan t p x may) (leads_by plan t r x may_too)))
@@ -107,16 +103,16 @@ module _ (plan : Plan) (is_plan : IsPlan plan) (t : ℕ) (x : Target) where
 
     -- all acts of a bridge together
     most_used : (most : ℕ) (o : Option ℕ) → ((p : ℕ) → not (p == q) ≡ true → may_reach_by plan t p x ≡ true → 1 ≤ most) →
-        used plan t x (goes_on plan.k q frame o) ≤ most
+        used may_reach_with plan t x (goes_on plan.k q frame o) ≤ most
     most_used most None some =
         let sum = one_only (λ p. not (p == q)) (λ p. claim plan t p x) most 0 plan.k (alone most some) in
         let all = passes_used plan t x frame (other_ports plan.k q) in
         omega arith
-    most_used most (Some out) some = cond_both (out == q) (act.Drop NoNextHop ∷ []) (act.Pass out frame ∷ []) (λ acts. used plan t x acts ≤ most)
+    most_used most (Some out) some = cond_both (out == q) (act.Drop NoNextHop ∷ []) (act.Pass out frame ∷ []) (λ acts. used may_reach_with plan t x acts ≤ most)
         (λ back. omega arith) (λ on. by_case on (cases_Bool (may_reach_by plan t out x)))
       where
-        by_case : (out == q) ≡ false → (may_reach_by plan t out x ≡ true) ⊎ (may_reach_by plan t out x ≡ false) → used plan t x (act.Pass out frame ∷ []) ≤ most
-        by_case on (inl may) = (let least = some out (ap not on) may in let one = claim_at_most_one plan t out x in omega arith)
+        by_case : (out == q) ≡ false → (may_reach_by plan t out x ≡ true) ⊎ (may_reach_by plan t out x ≡ false) → used may_reach_with plan t x (act.Pass out frame ∷ []) ≤ most
+        by_case on (inl may) = (let least = some out (ap not on) may in let one = one_at_most (may_reach_by plan t out x) in omega arith)
         by_case on (inr never) = (let none = claim_none plan t out x never in omega arith)
 
     not_itself : (p : ℕ) → is_crossing_of t x ≡ true → Leads plan t p x → ⊥
@@ -125,7 +121,7 @@ module _ (plan : Plan) (is_plan : IsPlan plan) (t : ℕ) (x : Target) where
 
     -- the switch itself, and what its acts let go, are within what might have come
     module _ (bound : ℕ) (o : Option ℕ) (itself : is_crossing_of t x ≡ true → 1 ≤ bound) (some : (p : ℕ) → not (p == q) ≡ true → may_reach_by plan t p x ≡ true → 1 ≤ bound) where
-      pub crossed_and_used : here t x + used plan t x (goes_on plan.k q frame o) ≤ bound
+      pub crossed_and_used : here t x + used may_reach_with plan t x (goes_on plan.k q frame o) ≤ bound
       crossed_and_used = elim (cases_Bool (is_crossing_of t x)) [
         | inl same ↦
             let one : here t x ≡ 1 = cond-true (is_crossing_of t x) 1 0 same in
@@ -139,13 +135,13 @@ module _ (plan : Plan) (is_plan : IsPlan plan) (t : ℕ) (x : Target) where
       ]
 
 -- a frame of a host might reach each target
-pub from_host_few : (plan : Plan) → IsPlan plan → (t q : ℕ) (frame : List ℕ) (o : Option ℕ) (x : Target) → here t x + used plan t x (goes_on plan.k q frame o) ≤ 1
+pub from_host_few : (plan : Plan) → IsPlan plan → (t q : ℕ) (frame : List ℕ) (o : Option ℕ) (x : Target) → here t x + used may_reach_with plan t x (goes_on plan.k q frame o) ≤ 1
 from_host_few plan is_plan t q frame o x = crossed_and_used plan is_plan t x q frame 1 o (λ same. omega arith) (λ p other may. omega arith)
 
 -- a frame that came over a link of the tree might reach what lies behind it
 pub over_link_few : (plan : Plan) → IsPlan plan → (s port : ℕ) (t from : SwitchNo) (q : ℕ) (frame : List ℕ) (o : Option ℕ) (x : Target) → from.0 ≡ s →
     peer_of plan s port ≡ Switch t q → peer_of plan t.0 q ≡ Switch from port → is_tree_link (label_of plan.k s) (label_of plan.k t.0) ≡ true →
-    here t.0 x + used plan t.0 x (goes_on plan.k q frame o) ≤ claim plan s port x
+    here t.0 x + used may_reach_with plan t.0 x (goes_on plan.k q frame o) ≤ claim plan s port x
 over_link_few plan is_plan s port t from q frame o x itself peer back adjacent =
     crossed_and_used plan is_plan t.0 x q frame (claim plan s port x) o (λ same. at_itself (crossing_at t.0 x same)) (λ p other may. on p other (leads_by plan t.0 p x may))
   where

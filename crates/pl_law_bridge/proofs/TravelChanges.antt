@@ -11,7 +11,7 @@ use Rattle.pl_wiring.specs.Index.{port_index}
 use Rattle.pl_wiring.specs.Labels.{label_of}
 use Rattle.pl_wiring.specs.Plan.{Plan}
 use Rattle.pl_journal.specs.declared.entry.Entry.{Entry}
-use Rattle.pl_journal.specs.declared.entry.Entry.TheVariants.{Arrived, Copied, Crossed, Dropped, Granted, Line, LinkDown, LinkUp, Made, Moved, Placed, Redirected, Registered, Sent, Settled, Skipped, Taken, Unsettled}
+use Rattle.pl_journal.specs.declared.entry.Entry.TheVariants.{Arrived, Copied, Crossed, Made, Moved, Sent}
 use Rattle.pl_journal.specs.Flights.{beginning, before_copy, first_of, trail}
 use Rattle.pl_queues.specs.Queues.{items_at}
 use Rattle.pl_world.specs.declared.item.Item.{Item}
@@ -59,6 +59,14 @@ still_under_way past next many more last id frame le bytes crossed copies is = r
   crossed = ap first_of crossed ∙ is.crossed;
   single = λ none. copies (is.crossed ∙ none) ∙ is.single none;
 }
+
+-- and so by an idle entry
+pub idle_under_way : (past : List Entry) (many : ℕ) (last : Option ℕ) (id : ℕ) (frame : List ℕ) (e : Entry) → IsIdle e → IsUnderWay past many last id frame → IsUnderWay (e ∷ past) many last id frame
+idle_under_way past many last id frame (Copied g copy) idle is = absurd idle
+idle_under_way past many last id frame (Sent g h f) idle is = absurd idle
+idle_under_way past many last id frame (Made g s f) idle is = absurd idle
+idle_under_way past many last id frame (Crossed g s) idle is = absurd idle
+idle_under_way past many last id frame e idle is = record { begun = is.begun; bytes = is.bytes; crossed = is.crossed; single = is.single }
 
 module _ (plan : Plan) where
   -- ---- queues
@@ -157,18 +165,7 @@ module _ (plan : Plan) where
   travel_idle past from_hosts out many (Crossed id s) idle t = absurd idle
   travel_idle past from_hosts out many (Arrived id h frame) idle t = absurd idle
   travel_idle past from_hosts out many (Moved h s port) idle t = absurd idle
-  travel_idle past from_hosts out many (Line n) idle t = travel_on past (Line n ∷ past) from_hosts out many many (omega arith) (λ g le. refl) (λ g le. refl) (λ g le. refl) t.new t.uncopied t.adjacent t.arrived t
-  travel_idle past from_hosts out many (Skipped h skip) idle t = travel_on past (Skipped h skip ∷ past) from_hosts out many many (omega arith) (λ g le. refl) (λ g le. refl) (λ g le. refl) t.new t.uncopied t.adjacent t.arrived t
-  travel_idle past from_hosts out many (Redirected id old new) idle t = travel_on past (Redirected id old new ∷ past) from_hosts out many many (omega arith) (λ g le. refl) (λ g le. refl) (λ g le. refl) t.new t.uncopied t.adjacent t.arrived t
-  travel_idle past from_hosts out many (Taken id s) idle t = travel_on past (Taken id s ∷ past) from_hosts out many many (omega arith) (λ g le. refl) (λ g le. refl) (λ g le. refl) t.new t.uncopied t.adjacent t.arrived t
-  travel_idle past from_hosts out many (Dropped id why) idle t = travel_on past (Dropped id why ∷ past) from_hosts out many many (omega arith) (λ g le. refl) (λ g le. refl) (λ g le. refl) t.new t.uncopied t.adjacent t.arrived t
-  travel_idle past from_hosts out many (Granted x h e p) idle t = travel_on past (Granted x h e p ∷ past) from_hosts out many many (omega arith) (λ g le. refl) (λ g le. refl) (λ g le. refl) t.new t.uncopied t.adjacent t.arrived t
-  travel_idle past from_hosts out many (Registered x n) idle t = travel_on past (Registered x n ∷ past) from_hosts out many many (omega arith) (λ g le. refl) (λ g le. refl) (λ g le. refl) t.new t.uncopied t.adjacent t.arrived t
-  travel_idle past from_hosts out many (Placed s place) idle t = travel_on past (Placed s place ∷ past) from_hosts out many many (omega arith) (λ g le. refl) (λ g le. refl) (λ g le. refl) t.new t.uncopied t.adjacent t.arrived t
-  travel_idle past from_hosts out many (LinkDown x y) idle t = travel_on past (LinkDown x y ∷ past) from_hosts out many many (omega arith) (λ g le. refl) (λ g le. refl) (λ g le. refl) t.new t.uncopied t.adjacent t.arrived t
-  travel_idle past from_hosts out many (LinkUp x y) idle t = travel_on past (LinkUp x y ∷ past) from_hosts out many many (omega arith) (λ g le. refl) (λ g le. refl) (λ g le. refl) t.new t.uncopied t.adjacent t.arrived t
-  travel_idle past from_hosts out many (Settled n) idle t = travel_on past (Settled n ∷ past) from_hosts out many many (omega arith) (λ g le. refl) (λ g le. refl) (λ g le. refl) t.new t.uncopied t.adjacent t.arrived t
-  travel_idle past from_hosts out many (Unsettled n) idle t = travel_on past (Unsettled n ∷ past) from_hosts out many many (omega arith) (λ g le. refl) (λ g le. refl) (λ g le. refl) t.new t.uncopied t.adjacent t.arrived t
+  travel_idle past from_hosts out many e idle t = travel_on past (e ∷ past) from_hosts out many many (omega arith) (λ g le. refl) (λ g le. refl) (λ g le. refl) t.new t.uncopied t.adjacent t.arrived t
 
   pub travel_moved : (past : List Entry) (from_hosts out : List (List Item)) (many : ℕ) (h : HostNo) (s : SwitchNo) (port : ℕ) → Travel plan past from_hosts out many →
       Travel plan (Moved h s port ∷ past) from_hosts out many

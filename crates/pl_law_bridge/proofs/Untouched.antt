@@ -34,7 +34,8 @@ use Rattle.pl_bridge_rule.specs.BridgeRule.{Bridges, port_for, with_source}
 use Rattle.pl_frame.specs.Ethernet.{destination_of}
 use Rattle.pl_layouts.specs.Control.{is_control}
 use Rattle.pl_law_bridge.proofs.Acting.{IsOnward}
-use Rattle.pl_law_bridge.proofs.Happening.{all_onward, comes_acts, control_acts, IsNowhere, owed_is_nowhere, taken_out}
+use Rattle.pl_law_counts.proofs.Exports.{taken_out}
+use Rattle.pl_law_bridge.proofs.Happening.{all_onward, comes_acts, control_acts, IsNowhere, owed_is_nowhere}
 use Rattle.pl_law_bridge.proofs.Sparing.{host_spares, IsAside, IsThere, manager_spares, Spares, spares_beside, spares_entries, spares_noted, spares_writes, ends_aside, turn_spares, Whereabouts}
 use Rattle.pl_law_bridge.proofs.Sparing.Whereabouts.{AtEnd, AtHost, AtPlace}
 use Rattle.pl_law_bridge.proofs.Waiting.{arrived_ends, emptied, left_over, waits_in_all}

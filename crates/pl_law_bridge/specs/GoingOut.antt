@@ -16,7 +16,7 @@ use Rattle.pl_world.specs.Changes.{out_of}
 use Rattle.pl_world.specs.Runs.{Moment, WorldRun}
 use Rattle.pl_world.specs.Runs.Moment.{Mark, Step}
 use Rattle.pl_world.specs.Worlds.{WorldView}
-use Rattle.pl_law_bridge.specs.Counting.{count_in, has_root}
+use Rattle.pl_law_counts.specs.Counting.{count_in, has_root}
 
 -- 1 where the head of a queue is a frame of this root
 abbrev pub heads : List Entry → ℕ → List Item → ℕ

@@ -1,4 +1,3 @@
-pub mod Counting
 pub mod Reaching
 pub mod GoingOut
 pub mod Travelling

@@ -1,7 +1,6 @@
 -- How many frames of one root reached a target, and how many may still reach it: a switch that they cross, a port for hosts where they arrive, or one
 -- out of which they go. The entries that are past have the newest first.
-use Rattle.std.specs.Prelude.{◌≡◌, ◌≤◌, ◌<◌, ℕ, ◌+◌, ◌/◌, ◌%◌, ◌==◌, ◌&&◌, suc, Bool, false, if◌then◌else◌, List, [], ◌∷◌, Option, reverse, slice_get}
-use Rattle.std.specs.Option.{option_map}
+use Rattle.std.specs.Prelude.{ℕ, ◌+◌, ◌==◌, ◌&&◌, suc, Bool, false, if◌then◌else◌, List, [], ◌∷◌, Option}
 use Rattle.pl_wiring.specs.declared.link.Peer.{Peer}
 use Rattle.pl_wiring.specs.declared.link.Peer.TheVariants.{HostPort, Switch}
 use Rattle.pl_wiring.specs.Labels.{label_of}
@@ -11,12 +10,9 @@ use Rattle.pl_journal.specs.declared.entry.Entry.{Entry}
 use Rattle.pl_journal.specs.declared.entry.Entry.TheVariants.{Arrived, Crossed, Moved}
 use Rattle.pl_journal.specs.Flights.{root}
 use Rattle.pl_journal.specs.Places.{EdgePort, at_port, edge_port_of, is_at, same_edge_port}
-use Rattle.pl_world.specs.declared.attachment.AttachmentPoint.{AttachmentPoint}
-use Rattle.pl_world.specs.declared.item.Item.{Item}
-use Rattle.pl_world.specs.Flying.{born}
 use Rattle.pl_world.specs.Worlds.{WorldView}
 use Rattle.pl_bridge_rule.specs.Tree.{leads_to}
-use Rattle.pl_law_bridge.specs.Counting.{count_all, has_root}
+use Rattle.pl_law_counts.specs.Counting.{ComesOnceTo, Targets}
 
 pub data Target : Type 0 where
   Crossing : ℕ → Target
@@ -41,14 +37,6 @@ may_reach k s port (Switch t q) target = leads_to (label_of k s) (label_of k t.0
 
 abbrev pub may_reach_by : Plan → ℕ → ℕ → Target → Bool
 may_reach_by plan s port target = may_reach plan.k s port (peer_of plan s port) target
-
--- a frame of this root in the queue out of a port, by the port's place among all ports
-abbrev pub reaches_from_place : Plan → List Entry → ℕ → Target → ℕ → ℕ → List ℕ → Bool
-reaches_from_place plan past r target n id frame = has_root past r id frame && may_reach_by plan (n / plan.k) (n % plan.k) target
-
--- how many frames of this root wait that may still reach a target
-abbrev pub still_to_reach : Plan → List Entry → List (List Item) → List (List Item) → ℕ → Target → ℕ
-still_to_reach plan past from_hosts out r target = count_all (λ h. has_root past r) from_hosts + count_all (reaches_from_place plan past r target) out
 
 abbrev pub is_crossing_of : ℕ → Target → Bool
 is_crossing_of s (Crossing x) = s == x
@@ -76,21 +64,17 @@ got_since_move (Arrived id g frame ∷ past) r h = if (root past id == r) && (g.
 got_since_move (Moved g e p ∷ past) r h = if g.0 == h then 0 else got_since_move past r h
 got_since_move (entry ∷ past) r h = got_since_move past r h
 
--- where hosts stand
-abbrev pub standing : List AttachmentPoint → ℕ → Option EdgePort
-standing attachments h = option_map (λ (attachment : AttachmentPoint). at_port attachment.edge.0 attachment.port) (slice_get attachments h)
+-- What is counted, with what is left unsaid: so many frames of a root reached a target that the journal does not speak of. One frame may reach what another may.
+abbrev pub may_reach_with : Plan → ℕ → ℕ → Target → List ℕ → Bool
+may_reach_with plan s port target frame = may_reach_by plan s port target
 
--- The journal has hosts where they stand. Of each root the frames that reached a target, by the journal or unsaid there, that may still reach it and that
--- are owed are at most one, and none of a root that has not begun.
-pub record ReachOnce (unsaid : ℕ → Target → ℕ) (plan : Plan) (at : ℕ → Option EdgePort) (past : List Entry) (from_hosts out : List (List Item)) (many : ℕ) (owed : ℕ → Target → ℕ) : Type 0 where
-  pub standing : (h : ℕ) → edge_port_of plan past h ≡ at h
-  pub unbegun : (id : ℕ) → many < id → root past id ≡ id
-  pub once : (r : ℕ) (target : Target) → still_to_reach plan past from_hosts out r target + owed r target + times_reached plan past r target + unsaid r target ≤ born r many
+abbrev pub to_targets : (ℕ → Target → ℕ) → Targets Target
+to_targets unsaid = record { may_come = may_reach_with; came = λ plan past r target. times_reached plan past r target + unsaid r target }
 
 -- nothing is left unsaid
 abbrev pub nothing_unsaid : ℕ → Target → ℕ
 nothing_unsaid r target = 0
 
--- So it is in a world, where nothing is owed.
+-- Of each root the frames that reached a target and that may still reach it are at most one.
 abbrev pub ReachesOnce : WorldView → Type 0
-ReachesOnce w = ReachOnce nothing_unsaid w.plan (standing w.attachments) (reverse w.journal) w.from_hosts w.out w.begun (λ r target. 0)
+ReachesOnce w = ComesOnceTo (to_targets nothing_unsaid) w

@@ -1,11 +1,11 @@
 -- How many frames of queues pass a test: where an item is put, a head is taken, a queue is emptied, and where the test changes for a frame that
--- is not there.
-use Rattle.std.proofs.Common.{◌≡◌, ℕ, zero, suc, ◌+◌, ◌≤◌, ◌==◌, ◌&&◌, Bool, true, false, if◌then◌else◌, List, [], ◌∷◌, ◌++◌, get_or, set, refl, sym, ap, ◌∙◌, arith, inl, inr}
-use Rattle.std.proofs.lemmas.Bool.{cases_Bool, cond-false, cond-true, eqb-false, ne_eqb}
+-- is not there, or lets more pass.
+use Rattle.std.proofs.Common.{◌≡◌, ℕ, zero, suc, ◌+◌, ◌≤◌, ◌==◌, Bool, true, false, if◌then◌else◌, List, [], ◌∷◌, ◌++◌, get_or, replicate, set, refl, sym, ap, ◌∙◌, arith, inl, inr}
+use Rattle.std.proofs.lemmas.Bool.{cases_Bool, cond-false, cond-true, eqb-false, false≢true, ne_eqb}
 use Rattle.pl_world.specs.declared.item.Item.{Item}
 use Rattle.pl_world.specs.declared.item.Item.TheVariants.{Control, Data}
 use Rattle.pl_world.specs.Flying.{times_in, times_in_all}
-use Rattle.pl_law_bridge.specs.Counting.{count_all, count_in}
+use Rattle.pl_law_counts.specs.Counting.{count_all, count_in}
 
 pub one_more : (b : Bool) (n : ℕ) → (if b then suc n else n) ≡ (if b then 1 else 0) + n
 one_more true n = omega arith
@@ -51,16 +51,30 @@ count_all-one test [] n = omega arith
 count_all-one test (queue ∷ queues) zero = omega arith
 count_all-one test (queue ∷ queues) (suc n) = omega (arith, count_all-one (λ i. test (suc i)) queues n)
 
--- a further test that each passes
-pub count_in-and : (p : ℕ → List ℕ → Bool) (b : Bool) → b ≡ true → (items : List Item) → count_in p items ≤ count_in (λ id frame. p id frame && b) items
-count_in-and p b is [] = omega arith
-count_in-and p b is (Control frame ∷ items) = count_in-and p b is items
-count_in-and p b is (Data id frame ∷ items) = by (p id frame) b is (count_in p items) (count_in (λ g f. p g f && b) items) (count_in-and p b is items)
+-- empty queues
+pub none_in : (test : ℕ → ℕ → List ℕ → Bool) (n : ℕ) → count_all test (replicate n []) ≡ 0
+none_in test zero = refl
+none_in test (suc n) = omega (arith, none_in (λ i. test (suc i)) n)
+
+-- what passes one test passes another
+pub fewer_in : (p q : ℕ → List ℕ → Bool) → ((id : ℕ) (frame : List ℕ) → p id frame ≡ true → q id frame ≡ true) → (items : List Item) → count_in p items ≤ count_in q items
+fewer_in p q also [] = omega arith
+fewer_in p q also (Control frame ∷ items) = fewer_in p q also items
+fewer_in p q also (Data id frame ∷ items) = by (p id frame) (q id frame) (also id frame) (count_in p items) (count_in q items) (fewer_in p q also items)
   where
-    by : (a b : Bool) → b ≡ true → (m n : ℕ) → m ≤ n → (if a then suc m else m) ≤ (if a && b then suc n else n)
-    by true true is m n less = omega (arith, less)
-    by true false is m n less = absurd (cc is)
-    by false b is m n less = less
+    by : (a b : Bool) → (a ≡ true → b ≡ true) → (m n : ℕ) → m ≤ n → (if a then suc m else m) ≤ (if b then suc n else n)
+    by true true also m n le = omega (arith, le)
+    by true false also m n le = absurd (false≢true (also refl))
+    by false true also m n le = omega (arith, le)
+    by false false also m n le = le
+
+pub fewer_all : (p q : ℕ → ℕ → List ℕ → Bool) → ((n id : ℕ) (frame : List ℕ) → p n id frame ≡ true → q n id frame ≡ true) → (queues : List (List Item)) →
+    count_all p queues ≤ count_all q queues
+fewer_all p q also [] = omega arith
+fewer_all p q also (queue ∷ queues) =
+    let here = fewer_in (p 0) (q 0) (also 0) queue in
+    let rest = fewer_all (λ n. p (suc n)) (λ n. q (suc n)) (λ n. also (suc n)) queues in
+    omega (arith, here, rest)
 
 -- tests that agree but for one frame
 count_in-same : (p q : ℕ → List ℕ → Bool) (c : ℕ) → ((id : ℕ) (frame : List ℕ) → (c == id) ≡ false → p id frame ≡ q id frame) →

@@ -1,4 +1,5 @@
--- Two ports of a switch do not lead to the same one; and sums over the ports of a switch of which at most one counts.
+-- The ports of a switch lead apart: from a switch to the next one a link leads up or down, two ports do not lead to the same switch, and the port at the
+-- other end leads back; and sums over the ports of a switch of which at most one counts.
 use Rattle.std.proofs.Common.{◌≡◌, ℕ, zero, suc, ◌+◌, ◌≤◌, ◌⊎◌, Bool, true, List, [], ◌∷◌, refl, sym, ap, ◌∙◌, subst, arith, inl, inr}
 use Rattle.std.specs.List.{filter, range_with_len}
 use Rattle.std.proofs.lemmas.Bool.{cases_Bool, cond-false, cond-true}
@@ -8,13 +9,14 @@ use Rattle.pl_wiring.specs.declared.label.SwitchNo.{SwitchNo}
 use Rattle.pl_wiring.specs.declared.link.Link.{Link}
 use Rattle.pl_wiring.specs.declared.link.Peer.TheVariants.{Switch}
 use Rattle.pl_wiring.specs.FatTree.{IsBelow, IsTreeLink}
-use Rattle.pl_wiring.specs.Labels.{label_of}
+use Rattle.pl_wiring.specs.Labels.{IsLabel, label_of}
 use Rattle.pl_wiring.specs.Peers.{LinksSwitches, IsPeer, peer_of}
 use Rattle.pl_wiring.specs.Plan.{IsPlan, Plan}
-use Rattle.pl_wiring.proofs.Exports.{at_contained, label_of-number_of, peer_says, same_between}
+use Rattle.pl_wiring.proofs.Exports.{at_contained, IsPeer-is, IsPeer-turned, label_of-number_of, peer_says, same_between}
+use Rattle.pl_world.specs.Changes.{switch_no}
 
 -- from one switch to the other a link leads up, or down
-data Rung (k s t : ℕ) : Type 0 where
+pub data Rung (k s t : ℕ) : Type 0 where
   UpFromEdge : (p i j : ℕ) → label_of k s ≡ Edge p i → label_of k t ≡ Aggregation p j → Rung k s t
   UpToCore : (p j m : ℕ) → label_of k s ≡ Aggregation p j → label_of k t ≡ Core j m → Rung k s t
   DownFromCore : (p j m : ℕ) → label_of k s ≡ Core j m → label_of k t ≡ Aggregation p j → Rung k s t
@@ -44,7 +46,7 @@ module _ (plan : Plan) (is_plan : IsPlan plan) where
     says : IsPeer plan.links s q (Switch t p)
     says = subst (λ peer. IsPeer plan.links s q peer) peer (peer_says plan.links s q)
 
-    rung : Rung plan.k s t.0
+    pub rung : Rung plan.k s t.0
     rung =
         let tree : IsTreeLink plan.k says.0 = at_contained (IsTreeLink plan.k) plan.links says.0 is_plan.tree.no_other says.1 in
         let low : label_of plan.k says.0.lower.0 ≡ tree.lower = ap (label_of plan.k) tree.joins.0 ∙ label_of-number_of plan.k tree.lower tree.lower_in_range in
@@ -53,6 +55,17 @@ module _ (plan : Plan) (is_plan : IsPlan plan) where
         elim (says.2) [
           | inl up ↦ subst (λ n. Rung plan.k s n) up.2 (subst (λ n. Rung plan.k n says.0.upper.0) up.0 both.0)
           | inr down ↦ subst (λ n. Rung plan.k s n) down.2 (subst (λ n. Rung plan.k n says.0.lower.0) down.0 both.1)
+        ]
+
+    -- the label of the switch at the other end is one of the tree
+    pub label_there : IsLabel plan.k (label_of plan.k t.0)
+    label_there =
+        let tree : IsTreeLink plan.k says.0 = at_contained (IsTreeLink plan.k) plan.links says.0 is_plan.tree.no_other says.1 in
+        let low : label_of plan.k says.0.lower.0 ≡ tree.lower = ap (label_of plan.k) tree.joins.0 ∙ label_of-number_of plan.k tree.lower tree.lower_in_range in
+        let high : label_of plan.k says.0.upper.0 ≡ tree.upper = ap (label_of plan.k) tree.joins.1 ∙ label_of-number_of plan.k tree.upper tree.upper_in_range in
+        elim (says.2) [
+          | inl up ↦ subst (λ l. IsLabel plan.k l) (sym high ∙ ap (label_of plan.k) up.2) tree.upper_in_range
+          | inr down ↦ subst (λ l. IsLabel plan.k l) (sym low ∙ ap (label_of plan.k) down.2) tree.lower_in_range
         ]
 
     between : LinksSwitches says.0 s t.0
@@ -74,6 +87,12 @@ module _ (plan : Plan) (is_plan : IsPlan plan) where
           | inr also ↦ sym down.1 ∙ ap (λ (x : Link). x.upper_port) one ∙ also.1
         ]
       ]
+
+-- the port at the other end leads back
+pub peer_back : (plan : Plan) (s port : ℕ) (t : SwitchNo) (q : ℕ) → IsPlan plan → peer_of plan s port ≡ Switch t q → peer_of plan t.0 q ≡ Switch (switch_no s) port
+peer_back plan s port t q is peer =
+    let says : IsPeer plan.links s port (Switch t q) = subst (λ p. IsPeer plan.links s port p) peer (peer_says plan.links s port) in
+    sym (IsPeer-is plan.k plan.links t.0 q (Switch (switch_no s) port) is.tree (IsPeer-turned plan.links (switch_no s) port t q says))
 
 -- Sums over the ports that pass a test.
 

@@ -1,5 +1,5 @@
 -- Where at most one frame of a root comes to each port for hosts, at most one is on its way up, and at most one waits in each queue.
-use Rattle.std.proofs.Common.{◌≡◌, ◌≤◌, ◌<◌, ◌+◌, ◌/◌, ◌%◌, ◌==◌, ◌&&◌, ◌||◌, ℕ, zero, suc, not, nat_lt, Bool, true, false, if◌then◌else◌, List, [], ◌∷◌, reverse, refl, sym, ap, ◌∙◌, subst, arith}
+use Rattle.std.proofs.Common.{◌≡◌, ◌<◌, ◌/◌, ◌%◌, ◌==◌, ◌&&◌, ℕ, not, nat_lt, Bool, true, List, reverse, refl, ap, ◌∙◌, subst, arith}
 use Rattle.std.proofs.lemmas.Bool.{and_from, and_parts, eq-eqb, false≢true, or_right}
 use Rattle.std.proofs.lemmas.Nat.{div-mul-add, mod-mul-add}
 use Rattle.pl_frame.specs.Ethernet.{destination_of}
@@ -14,39 +14,16 @@ use Rattle.pl_wiring.specs.Peers.{peer_of}
 use Rattle.pl_wiring.specs.Plan.{IsPlan, Plan}
 use Rattle.pl_wiring.proofs.Exports.{label_of-number_of}
 use Rattle.pl_layouts.specs.Memberships.{is_group}
-use Rattle.pl_journal.specs.declared.entry.Entry.{Entry}
 use Rattle.pl_journal.specs.Places.{EdgePort, at_port}
-use Rattle.pl_world.specs.declared.item.Item.{Item}
-use Rattle.pl_world.specs.declared.item.Item.TheVariants.{Control, Data}
 use Rattle.pl_world.specs.Changes.{out_of}
 use Rattle.pl_world.specs.Worlds.{WorldView}
 use Rattle.pl_world.proofs.Exports.{born_once}
-use Rattle.pl_law_copies.specs.Alone.{AreAlone, goes_up, is_above, rising}
-use Rattle.pl_law_copies.specs.Copies.{ComesOnce, comes_from_place, count_all, count_in, has_root, leads_to, may_come, may_come_by}
-use Rattle.pl_law_copies.proofs.CopiesInRuns.{count_all-at}
-use Rattle.pl_law_copies.proofs.Ways.{Rung, label_there, rung}
-use Rattle.pl_law_copies.proofs.Ways.Rung.{DownFromCore, DownToEdge, UpFromEdge, UpToCore}
+use Rattle.pl_law_counts.specs.Counting.{comes_from_place, has_root}
+use Rattle.pl_law_counts.proofs.Exports.{count_all-one, fewer_all, fewer_in, label_there, Rung, rung}
+use Rattle.pl_law_counts.proofs.Exports.Rung.{DownFromCore, DownToEdge, UpFromEdge, UpToCore}
+use Rattle.pl_law_copies.specs.Alone.{AreAlone, goes_up, is_above}
+use Rattle.pl_law_copies.specs.Copies.{ComesOnce, leads_to, may_come, may_come_by, to_ports}
 use Rattle.pl_journal.specs.Flights.{label_level}
-
--- what passes one test passes another
-fewer_in : (p q : ℕ → List ℕ → Bool) → ((id : ℕ) (frame : List ℕ) → p id frame ≡ true → q id frame ≡ true) → (items : List Item) → count_in p items ≤ count_in q items
-fewer_in p q also [] = omega arith
-fewer_in p q also (Control frame ∷ items) = fewer_in p q also items
-fewer_in p q also (Data id frame ∷ items) = by (p id frame) (q id frame) (also id frame) (count_in p items) (count_in q items) (fewer_in p q also items)
-  where
-    by : (a b : Bool) → (a ≡ true → b ≡ true) → (m n : ℕ) → m ≤ n → (if a then suc m else m) ≤ (if b then suc n else n)
-    by true true also m n le = omega (arith, le)
-    by true false also m n le = absurd (false≢true (also refl))
-    by false true also m n le = omega (arith, le)
-    by false false also m n le = le
-
-fewer_all : (p q : ℕ → ℕ → List ℕ → Bool) → ((n id : ℕ) (frame : List ℕ) → p n id frame ≡ true → q n id frame ≡ true) → (queues : List (List Item)) →
-    count_all p queues ≤ count_all q queues
-fewer_all p q also [] = omega arith
-fewer_all p q also (queue ∷ queues) =
-    let here = fewer_in (p 0) (q 0) (also 0) queue in
-    let rest = fewer_all (λ n. p (suc n)) (λ n. q (suc n)) (λ n. also (suc n)) queues in
-    omega (arith, here, rest)
 
 -- what goes up may come to every port for hosts
 up_leads : (from to : Label) (itself : Bool) (edge : Label) → nat_lt (label_level from) (label_level to) ≡ true → leads_to from to itself edge ≡ true
@@ -101,7 +78,7 @@ pub alone : (w : WorldView) → IsPlan w.plan → ComesOnce w → AreAlone w
 alone w is come = record {
   up = λ r.
       let there : EdgePort = at_port 0 0 in
-      let fewer = fewer_all (goes_up w.plan (reverse w.journal) r) (comes_from_place w.plan (reverse w.journal) r there) (λ n id frame passes.
+      let fewer = fewer_all (goes_up w.plan (reverse w.journal) r) (comes_from_place to_ports w.plan (reverse w.journal) r there) (λ n id frame passes.
       let both = and_parts (has_root (reverse w.journal) r id frame) (is_above w.plan.k (n / w.plan.k) (peer_of w.plan (n / w.plan.k) (n % w.plan.k))) passes in
       and_from (has_root (reverse w.journal) r id frame) (may_come_by w.plan (n / w.plan.k) (n % w.plan.k) there frame) both.0
       (or_right (not (is_group (destination_of frame))) _ (up_comes w.plan.k (n / w.plan.k) (n % w.plan.k) (peer_of w.plan (n / w.plan.k) (n % w.plan.k)) there both.1))) w.out in
@@ -111,9 +88,9 @@ alone w is come = record {
   waiting = λ s port r within.
       let it = reaches w.plan is s port in
       let n : ℕ = port_index w.plan.k s port in
-      let test : ℕ → ℕ → List ℕ → Bool = comes_from_place w.plan (reverse w.journal) r it.there in
+      let test : ℕ → ℕ → List ℕ → Bool = comes_from_place to_ports w.plan (reverse w.journal) r it.there in
       let few = fewer_in (has_root (reverse w.journal) r) (test n) (λ id frame passes. here r s port it.there it.may id frame within passes) (out_of w s port) in
-      let among = count_all-at test w.out n in
+      let among = count_all-one test w.out n in
       let all = come.once r it.there in
       let most = born_once r w.begun in
       omega (arith, few, among, all, most);
@@ -121,7 +98,7 @@ alone w is come = record {
   where
     -- each frame of the root in the queue counts
     here : (r s port : ℕ) (there : EdgePort) → may_come w.plan.k s port (peer_of w.plan s port) there ≡ true → (id : ℕ) (frame : List ℕ) → port < w.plan.k →
-        has_root (reverse w.journal) r id frame ≡ true → comes_from_place w.plan (reverse w.journal) r there (port_index w.plan.k s port) id frame ≡ true
+        has_root (reverse w.journal) r id frame ≡ true → comes_from_place to_ports w.plan (reverse w.journal) r there (port_index w.plan.k s port) id frame ≡ true
     here r s port there may id frame within passes =
         ap (λ b. b && may_come_by w.plan (port_index w.plan.k s port / w.plan.k) (port_index w.plan.k s port % w.plan.k) there frame) passes
         ∙ from_place (port_index w.plan.k s port / w.plan.k) (port_index w.plan.k s port % w.plan.k) (div-mul-add s w.plan.k port within) (mod-mul-add s w.plan.k port within)

@@ -1,6 +1,6 @@
 -- At the beginning nothing is on its way; each step keeps it that at each port at most one frame of each root comes; and what is kept says so of
 -- the journal.
-use Rattle.std.proofs.Common.{◌≡◌, ℕ, zero, suc, ◌+◌, ◌*◌, ◌≤◌, ◌<◌, ◌==◌, ◌&&◌, ◌||◌, not, Bool, true, false, if◌then◌else◌, List, [], ◌∷◌, length, map, replicate, None, get_or, reverse, slice_get, refl, ap, ◌∙◌, arith}
+use Rattle.std.proofs.Common.{◌≡◌, ℕ, zero, suc, ◌+◌, ◌*◌, ◌≤◌, ◌<◌, ◌==◌, ◌&&◌, ◌||◌, not, Bool, true, false, if◌then◌else◌, List, [], ◌∷◌, length, map, None, get_or, reverse, slice_get, refl, ap, ◌∙◌, arith}
 use Rattle.std.specs.Option.{option_map}
 use Rattle.std.proofs.lemmas.Bool.{and_from, cond-true, eq-eqb, or_right}
 use Rattle.pl_wiring.specs.declared.host.Host.{Host}
@@ -12,7 +12,7 @@ use Rattle.pl_wiring.specs.Plan.{Plan}
 use Rattle.pl_frame.specs.Ethernet.{destination_of}
 use Rattle.pl_layouts.specs.Memberships.{is_group}
 use Rattle.pl_journal.specs.declared.entry.Entry.{Entry}
-use Rattle.pl_journal.specs.declared.entry.Entry.TheVariants.{Arrived, Copied, Crossed, Dropped, Granted, Line, LinkDown, LinkUp, Made, Moved, Placed, Redirected, Registered, Sent, Settled, Skipped, Taken, Unsettled}
+use Rattle.pl_journal.specs.declared.entry.Entry.TheVariants.{Arrived, Line, Settled, Unsettled}
 use Rattle.pl_journal.specs.Causes.{goes_to_group}
 use Rattle.pl_journal.specs.Flights.{root, root_arrived_at}
 use Rattle.pl_journal.specs.Lossy.{copies_at}
@@ -33,17 +33,14 @@ use Rattle.pl_world.specs.Runs.{IsMark}
 use Rattle.pl_world.specs.WorldRule.{WorldStep}
 use Rattle.pl_world.specs.Worlds.{WorldView}
 use Rattle.pl_world.proofs.Exports.{born_none, born_once, counted as to_counted, event_is_not_refused, same_refusal, sound}
-use Rattle.pl_law_copies.specs.Copies.{ComesOnce, came_to, comes_from_place, count_all, count_in, has_root, may_come, may_come_by, standing}
+use Rattle.pl_law_counts.specs.Counting.{comes_from_place, count_in, has_root, standing}
+use Rattle.pl_law_counts.proofs.Exports.{claim, count_all-one, count_in-cons, none_in, of_root, one_there}
+use Rattle.pl_law_copies.specs.Copies.{ComesOnce, came_to, may_come, may_come_by, to_ports}
 use Rattle.pl_law_copies.specs.Standing.{KnowTrees}
-use Rattle.pl_law_copies.proofs.CopiesInSmallChanges.{claim, of_root, one_there}
-use Rattle.pl_law_copies.proofs.Happening.{happens_once, noted_once}
-use Rattle.pl_law_copies.proofs.CopiesInQueues.{count_in-cons}
+use Rattle.pl_law_copies.proofs.Happening.{happens_once}
+use Rattle.pl_law_copies.proofs.TurnsKeepOneCopy.{noted_once}
 
 -- At the beginning.
-
-none_in : (test : ℕ → ℕ → List ℕ → Bool) (n : ℕ) → count_all test (replicate n []) ≡ 0
-none_in test zero = refl
-none_in test (suc n) = omega (arith, none_in (λ i. test (suc i)) n)
 
 first_attachments : (hosts : List Host) (h : ℕ) → option_map (λ (x : Host). at_port x.edge.0 x.port) (slice_get hosts h) ≡ standing (map first_attachment hosts) h
 first_attachments [] h = refl
@@ -57,7 +54,7 @@ once_at_first plan limits = record {
   once = λ r there. omega (
     arith,
     none_in (λ h. has_root [] r) (length plan.hosts),
-    none_in (comes_from_place plan [] r there) (switch_count plan.k * plan.k),
+    none_in (comes_from_place to_ports plan [] r there) (switch_count plan.k * plan.k),
     born_none r,
   );
 }
@@ -73,24 +70,10 @@ step_once manager rule old event new counted trees none step come =
     (record { free = trees.free; each = trees.each; closed = trees.closed }) manager rule event (same_refusal old event ∙ event_is_not_refused old event none) step
 
 pub mark_once : (w : WorldView) (e : Entry) → IsMark e → ComesOnce w → ComesOnce (noted w e)
-mark_once w (Line n) is c = noted_once w (λ r there. 0) (Line n) tt c
-mark_once w (Settled rounds) is c = noted_once w (λ r there. 0) (Settled rounds) tt c
-mark_once w (Unsettled pending) is c = noted_once w (λ r there. 0) (Unsettled pending) tt c
-mark_once w (Sent id host frame) is c = absurd is
-mark_once w (Skipped host skip) is c = absurd is
-mark_once w (Made id switch frame) is c = absurd is
-mark_once w (Crossed id switch) is c = absurd is
-mark_once w (Redirected id old new) is c = absurd is
-mark_once w (Copied id new) is c = absurd is
-mark_once w (Arrived id host frame) is c = absurd is
-mark_once w (Taken id switch) is c = absurd is
-mark_once w (Dropped id cause) is c = absurd is
-mark_once w (Granted pmac host switch port) is c = absurd is
-mark_once w (Registered pmac number) is c = absurd is
-mark_once w (Placed switch place) is c = absurd is
-mark_once w (LinkDown x y) is c = absurd is
-mark_once w (LinkUp x y) is c = absurd is
-mark_once w (Moved host edge port) is c = absurd is
+mark_once w (Line n) is c = noted_once w (Line n) tt c
+mark_once w (Settled rounds) is c = noted_once w (Settled rounds) tt c
+mark_once w (Unsettled pending) is c = noted_once w (Unsettled pending) tt c
+mark_once w e is c = absurd is
 
 -- What is kept says this of the journal.
 
@@ -108,23 +91,7 @@ copies_at_most_came plan (Arrived id h frame ∷ past) r there = by_tests (goes_
     by_tests true false m n less = omega arith
     by_tests false true m n less = omega arith
     by_tests false false m n less = omega arith
-copies_at_most_came plan (Line n ∷ past) r there = copies_at_most_came plan past r there
-copies_at_most_came plan (Sent id h frame ∷ past) r there = copies_at_most_came plan past r there
-copies_at_most_came plan (Skipped h skip ∷ past) r there = copies_at_most_came plan past r there
-copies_at_most_came plan (Made id s frame ∷ past) r there = copies_at_most_came plan past r there
-copies_at_most_came plan (Crossed id s ∷ past) r there = copies_at_most_came plan past r there
-copies_at_most_came plan (Redirected id old new ∷ past) r there = copies_at_most_came plan past r there
-copies_at_most_came plan (Copied id new ∷ past) r there = copies_at_most_came plan past r there
-copies_at_most_came plan (Taken id s ∷ past) r there = copies_at_most_came plan past r there
-copies_at_most_came plan (Dropped id why ∷ past) r there = copies_at_most_came plan past r there
-copies_at_most_came plan (Granted x h e p ∷ past) r there = copies_at_most_came plan past r there
-copies_at_most_came plan (Registered x n ∷ past) r there = copies_at_most_came plan past r there
-copies_at_most_came plan (Placed s place ∷ past) r there = copies_at_most_came plan past r there
-copies_at_most_came plan (LinkDown x y ∷ past) r there = copies_at_most_came plan past r there
-copies_at_most_came plan (LinkUp x y ∷ past) r there = copies_at_most_came plan past r there
-copies_at_most_came plan (Moved h s port ∷ past) r there = copies_at_most_came plan past r there
-copies_at_most_came plan (Settled n ∷ past) r there = copies_at_most_came plan past r there
-copies_at_most_came plan (Unsettled n ∷ past) r there = copies_at_most_came plan past r there
+copies_at_most_came plan (e ∷ past) r there = copies_at_most_came plan past r there
 
 pub none_came : (plan : Plan) (past : List Entry) (r : ℕ) (there : EdgePort) → came_to plan past r there ≡ 0 → root_arrived_at plan past r there ≡ false
 none_came plan [] r there none = refl
@@ -134,32 +101,11 @@ none_came plan (Arrived id h frame ∷ past) r there none =
     by_test : (b : Bool) (n : ℕ) (before : Bool) → (n ≡ 0 → before ≡ false) → (if b then suc n else n) ≡ 0 → (b || before) ≡ false
     by_test true n before earlier zero_now = absurd (omega arith)
     by_test false n before earlier zero_now = earlier zero_now
-none_came plan (Line n ∷ past) r there none = none_came plan past r there none
-none_came plan (Sent id h frame ∷ past) r there none = none_came plan past r there none
-none_came plan (Skipped h skip ∷ past) r there none = none_came plan past r there none
-none_came plan (Made id s frame ∷ past) r there none = none_came plan past r there none
-none_came plan (Crossed id s ∷ past) r there none = none_came plan past r there none
-none_came plan (Redirected id old new ∷ past) r there none = none_came plan past r there none
-none_came plan (Copied id new ∷ past) r there none = none_came plan past r there none
-none_came plan (Taken id s ∷ past) r there none = none_came plan past r there none
-none_came plan (Dropped id why ∷ past) r there none = none_came plan past r there none
-none_came plan (Granted x h e p ∷ past) r there none = none_came plan past r there none
-none_came plan (Registered x n ∷ past) r there none = none_came plan past r there none
-none_came plan (Placed s place ∷ past) r there none = none_came plan past r there none
-none_came plan (LinkDown x y ∷ past) r there none = none_came plan past r there none
-none_came plan (LinkUp x y ∷ past) r there none = none_came plan past r there none
-none_came plan (Moved h s port ∷ past) r there none = none_came plan past r there none
-none_came plan (Settled n ∷ past) r there none = none_came plan past r there none
-none_came plan (Unsettled n ∷ past) r there none = none_came plan past r there none
+none_came plan (e ∷ past) r there none = none_came plan past r there none
 
 -- a frame that waits at a port for hosts is the first of its root there
 
-pub count_all-at : (test : ℕ → ℕ → List ℕ → Bool) (queues : List (List Item)) (n : ℕ) → count_in (test n) (get_or queues n []) ≤ count_all test queues
-count_all-at test [] n = omega arith
-count_all-at test (queue ∷ queues) zero = omega arith
-count_all-at test (queue ∷ queues) (suc n) = omega (arith, count_all-at (λ i. test (suc i)) queues n)
-
-claims_its_port : (plan : Plan) (s port : ℕ) (frame : List ℕ) → peer_of plan s port ≡ HostPort → claim plan s port (at_port s port) frame ≡ 1
+claims_its_port : (plan : Plan) (s port : ℕ) (frame : List ℕ) → peer_of plan s port ≡ HostPort → claim may_come_by plan s port (at_port s port) frame ≡ 1
 claims_its_port plan s port frame peer = cond-true (may_come_by plan s port (at_port s port) frame) 1 0
     (or_right (not (is_group (destination_of frame))) _ (ap (λ p. may_come plan.k s port p (at_port s port)) peer
     ∙ and_from (s == s) (port == port) (eq-eqb s s refl) (eq-eqb port port refl)))
@@ -170,10 +116,10 @@ first_there w come s port id frame items within peer head =
     let past : List Entry = reverse w.journal in
     let r : ℕ = root past id in
     let there : EdgePort = at_port s port in
-    let test : ℕ → ℕ → List ℕ → Bool = comes_from_place w.plan past r there in
+    let test : ℕ → ℕ → List ℕ → Bool = comes_from_place to_ports w.plan past r there in
     let n : ℕ = port_index w.plan.k s port in
-    let here : count_in (test n) (Data id frame ∷ []) ≡ of_root past id (claim w.plan s port there frame) r = one_there w.plan (standing w.attachments) past r there s port id frame within in
-    let own : of_root past id (claim w.plan s port there frame) r ≡ 1 = cond-true (r == r) (claim w.plan s port there frame) 0 (eq-eqb r r refl) ∙ claims_its_port w.plan s port frame peer in
+    let here : count_in (test n) (Data id frame ∷ []) ≡ of_root past id (claim may_come_by w.plan s port there frame) r = one_there to_ports w r there s port id frame within in
+    let own : of_root past id (claim may_come_by w.plan s port there frame) r ≡ 1 = cond-true (r == r) (claim may_come_by w.plan s port there frame) 0 (eq-eqb r r refl) ∙ claims_its_port w.plan s port frame peer in
     let all : count_in (test n) (get_or w.out n []) ≡ count_in (test n) (Data id frame ∷ items) = ap (count_in (test n)) head in
     let most = born_once r w.begun in
-    none_came w.plan past r there (omega (arith, come.once r there, count_all-at test w.out n, count_in-cons (test n) (Data id frame) items, here, own, all, most))
+    none_came w.plan past r there (omega (arith, come.once r there, count_all-one test w.out n, count_in-cons (test n) (Data id frame) items, here, own, all, most))

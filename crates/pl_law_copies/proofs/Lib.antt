@@ -1,5 +1,3 @@
-pub mod CopiesInQueues
-pub mod CopiesInSmallChanges
 pub mod ActsKeepOneCopy
 pub mod Ways
 pub mod Spreading

@@ -35,8 +35,9 @@ use Rattle.pl_switch_rule.specs.Intake.{comes_from_host, hears_members, packet_a
 use Rattle.pl_switch_rule.specs.Levels.{finds_host}
 use Rattle.pl_switch_rule.specs.Messages.{answer_frame, flood_frame, floods, forgets_members, hears_manager, invalidates, probes, probes_at, sets_trap}
 use Rattle.pl_switch_rule.proofs.Exports.{AreGrantedAt, arp_acts, granted_at, groups_acts, IsQuiet, quiet_finds_host, quiet_forgets_members, quiet_hears_pod, quiet_learns_source, quiet_sets_trap, quiet_then_quiet, redirects_acts, taken_in}
-use Rattle.pl_law_copies.proofs.ActsKeepOneCopy.{MakesFew, used}
-use Rattle.pl_law_copies.proofs.CopiesInSmallChanges.{claim_at_most_one}
+use Rattle.pl_law_counts.proofs.Exports.{one_at_most, used}
+use Rattle.pl_law_copies.specs.Copies.{may_come_by}
+use Rattle.pl_law_copies.proofs.ActsKeepOneCopy.{MakesFew}
 
 -- each frame that acts speak of is passed on at most once; whether the one in hand still may be
 abbrev pub AreSingle : Bool → List Act → Type 0
@@ -55,7 +56,7 @@ abbrev pub AreStill : List Act → Type 0
 AreStill acts = AllByRecursion IsStill acts
 
 module _ (plan : Plan) (s : ℕ) (there : EdgePort) where
-  pub single_used : (may : Bool) (acts : List Act) → AreSingle may acts → used plan s there acts ≤ (if may then 1 else 0)
+  pub single_used : (may : Bool) (acts : List Act) → AreSingle may acts → used may_come_by plan s there acts ≤ (if may then 1 else 0)
   single_used true [] single = omega arith
   single_used false [] single = omega arith
   single_used may (act.Control port frame ∷ acts) single = single_used may acts single
@@ -65,7 +66,7 @@ module _ (plan : Plan) (s : ℕ) (there : EdgePort) where
   single_used false (act.Make frame ∷ acts) single = omega arith
   single_used may (act.Redirect old new ∷ acts) single = single_used may acts single
   single_used true (act.Pass port frame ∷ acts) single =
-      (let rest = single_used false acts single.1 in let here = claim_at_most_one plan s port there frame in omega arith)
+      (let rest = single_used false acts single.1 in let here = one_at_most (may_come_by plan s port there frame) in omega arith)
   single_used false (act.Pass port frame ∷ acts) single = absurd (false≢true single.0)
   single_used may (act.Take ∷ acts) single = single_used may acts single
   single_used may (act.Drop why ∷ acts) single = single_used may acts single

@@ -27,12 +27,11 @@ use Rattle.pl_switch_rule.specs.declared.came.Way.{Way}
 use Rattle.pl_switch_rule.specs.declared.came.Way.TheVariants.{Down, Nowhere, ToHosts, Up}
 use Rattle.pl_switch_rule.specs.Forwarding.{came_between, came_by}
 use Rattle.pl_switch_rule.specs.GroupForwarding.{at_most_one, destination_group, forwards_group, group_ports, is_down, is_reached, is_source, is_up, no_way, passes_or_drops, way_of}
-use Rattle.pl_law_copies.specs.Copies.{leads_to, may_come}
+use Rattle.pl_law_counts.proofs.Exports.{one_at_most, claim, CountsAlone, one_only, one_port, Rung, rung, sum_of, used}
+use Rattle.pl_law_counts.proofs.Exports.Rung.{DownFromCore, DownToEdge, UpFromEdge, UpToCore}
+use Rattle.pl_law_copies.specs.Copies.{leads_to, may_come, may_come_by}
 use Rattle.pl_law_copies.specs.Standing.{KnowsTree}
-use Rattle.pl_law_copies.proofs.CopiesInSmallChanges.{claim, claim_at_most_one}
-use Rattle.pl_law_copies.proofs.ActsKeepOneCopy.{used}
-use Rattle.pl_law_copies.proofs.Ways.{CountsAlone, LeadsDown, Rung, leads_apart, leads_within, may_come_down, one_only, one_port, rung, sum_of}
-use Rattle.pl_law_copies.proofs.Ways.Rung.{DownFromCore, DownToEdge, UpFromEdge, UpToCore}
+use Rattle.pl_law_copies.proofs.Ways.{LeadsDown, leads_apart, leads_within, may_come_down}
 use Rattle.pl_journal.specs.Flights.{label_level}
 
 -- which way a frame of a group goes, by the level of the switch and of the neighbour that it came from
@@ -63,21 +62,21 @@ ways (Some a) position pod (Some b) own other is also =
 
 -- of a frame of a group, each pass to a port
 sum_used : (plan : Plan) (t : ℕ) (there : EdgePort) (frame : List ℕ) (ports : List ℕ) →
-    used plan t there (map (λ p. act.Pass p frame) ports) ≡ sum_of (λ p. claim plan t p there frame) ports
+    used may_come_by plan t there (map (λ p. act.Pass p frame) ports) ≡ sum_of (λ p. claim may_come_by plan t p there frame) ports
 sum_used plan t there frame [] = refl
-sum_used plan t there frame (p ∷ ports) = ap (λ n. claim plan t p there frame + n) (sum_used plan t there frame ports)
+sum_used plan t there frame (p ∷ ports) = ap (λ n. claim may_come_by plan t p there frame + n) (sum_used plan t there frame ports)
 
 passed_used : (plan : Plan) (t : ℕ) (there : EdgePort) (frame : List ℕ) (why : Cause) (ports : List ℕ) →
-    used plan t there (passes_or_drops ports frame why) ≡ sum_of (λ p. claim plan t p there frame) ports
+    used may_come_by plan t there (passes_or_drops ports frame why) ≡ sum_of (λ p. claim may_come_by plan t p there frame) ports
 passed_used plan t there frame why [] = refl
 passed_used plan t there frame why (p ∷ ports) = sum_used plan t there frame (p ∷ ports)
 
-one_used : (plan : Plan) (t : ℕ) (there : EdgePort) (frame : List ℕ) (ports : List ℕ) → sum_of (λ p. claim plan t p there frame) (at_most_one ports) ≤ 1
+one_used : (plan : Plan) (t : ℕ) (there : EdgePort) (frame : List ℕ) (ports : List ℕ) → sum_of (λ p. claim may_come_by plan t p there frame) (at_most_one ports) ≤ 1
 one_used plan t there frame [] = omega arith
-one_used plan t there frame (p ∷ ports) = (let most = claim_at_most_one plan t p there frame in omega arith)
+one_used plan t there frame (p ∷ ports) = (let most = one_at_most (may_come_by plan t p there frame) in omega arith)
 
 claim_of_group : (plan : Plan) (t p : ℕ) (there : EdgePort) (frame : List ℕ) (b : Bool) → is_group (destination_of frame) ≡ true → may_come plan.k t p (peer_of plan t p) there ≡ b →
-    claim plan t p there frame ≡ (if b then 1 else 0)
+    claim may_come_by plan t p there frame ≡ (if b then 1 else 0)
 claim_of_group plan t p there frame b group is =
     ap (λ g. if◌then◌else◌ {A = ℕ} (not g || may_come plan.k t p (peer_of plan t p) there) 1 0) group ∙ ap (λ c. if◌then◌else◌ {A = ℕ} c 1 0) is
 
@@ -89,11 +88,11 @@ module _ (plan : Plan) (is_plan : IsPlan plan) (t : ℕ) (there : EdgePort) (fra
 
   counts_alone : (test : ℕ → Bool) (most : ℕ) → ((p : ℕ) → test p ≡ true → LeadsDown plan t p) →
       ((p : ℕ) → LeadsDown plan t p → may_come plan.k t p (peer_of plan t p) there ≡ true → 1 ≤ most) → (q : ℕ) → test q ≡ true →
-      CountsAlone test (λ p. claim plan t p there frame) most q
+      CountsAlone test (λ p. claim may_come_by plan t p there frame) most q
   counts_alone test most down within q passes = elim (cases_Bool (may_come plan.k t q (peer_of plan t q) there)) [
     | inr never ↦ inl (claim_of_group plan t q there frame false group never)
     | inl may ↦ inr (
-      (let some = within q (down q passes) may in let one = claim_at_most_one plan t q there frame in omega arith),
+      (let some = within q (down q passes) may in let one = one_at_most (may_come_by plan t q there frame) in omega arith),
       λ p also other.
           elim (cases_Bool (may_come plan.k t p (peer_of plan t p) there)) [
             | inr never ↦ claim_of_group plan t p there frame false group never
@@ -109,11 +108,11 @@ module _ (plan : Plan) (is_plan : IsPlan plan) (t : ℕ) (there : EdgePort) (fra
 
   -- and so do ports for hosts
   hosts_alone : (test : ℕ → Bool) (most : ℕ) → ((p : ℕ) → test p ≡ true → peer_of plan t p ≡ HostPort) →
-      ((p : ℕ) → same_edge_port (at_port t p) there ≡ true → 1 ≤ most) → (q : ℕ) → test q ≡ true → CountsAlone test (λ p. claim plan t p there frame) most q
+      ((p : ℕ) → same_edge_port (at_port t p) there ≡ true → 1 ≤ most) → (q : ℕ) → test q ≡ true → CountsAlone test (λ p. claim may_come_by plan t p there frame) most q
   hosts_alone test most at within q passes = elim (cases_Bool (same_edge_port (at_port t q) there)) [
     | inr never ↦ inl (claim_of_group plan t q there frame false group (ap (λ p. may_come plan.k t q p there) (at q passes) ∙ never))
     | inl may ↦ inr (
-      (let some = within q may in let one = claim_at_most_one plan t q there frame in omega arith),
+      (let some = within q may in let one = one_at_most (may_come_by plan t q there frame) in omega arith),
       λ p also other.
           elim (cases_Bool (same_edge_port (at_port t p) there)) [
             | inr never ↦ claim_of_group plan t p there frame false group (ap (λ o. may_come plan.k t p o there) (at p also) ∙ never)
@@ -193,23 +192,23 @@ module _ (plan : Plan) (is_plan : IsPlan plan) (t : ℕ) (v : SwitchView) (knows
     came_rung : Rung plan.k s t
     came_rung = subst (λ n. Rung plan.k s n) itself (rung plan is_plan s port at q peer)
 
-    claim_is : (b : Bool) → leads_to (label_of plan.k s) (label_of plan.k t) (t == there.edge) (label_of plan.k there.edge) ≡ b → claim plan s port there frame ≡ (if b then 1 else 0)
+    claim_is : (b : Bool) → leads_to (label_of plan.k s) (label_of plan.k t) (t == there.edge) (label_of plan.k there.edge) ≡ b → claim may_come_by plan s port there frame ≡ (if b then 1 else 0)
     claim_is b is = claim_of_group plan s port there frame b group (ap (λ p. may_come plan.k s port p there) peer
         ∙ ap (λ n. leads_to (label_of plan.k s) (label_of plan.k n) (n == there.edge) (label_of plan.k there.edge)) itself ∙ is)
 
-    most_up : label_level (label_of plan.k s) < label_level (label_of plan.k t) → claim plan s port there frame ≡ 1
+    most_up : label_level (label_of plan.k s) < label_level (label_of plan.k t) → claim may_come_by plan s port there frame ≡ 1
     most_up less = by_rung came_rung
       where
-        by_rung : Rung plan.k s t → claim plan s port there frame ≡ 1
+        by_rung : Rung plan.k s t → claim may_come_by plan s port there frame ≡ 1
         by_rung (UpFromEdge p i j from to) = claim_is true (rw from refl)
         by_rung (UpToCore p j m from to) = claim_is true (rw (from, to) refl)
         by_rung (DownFromCore p j m from to) = (let x = ap label_level from in let y = ap label_level to in absurd (omega arith))
         by_rung (DownToEdge p i j from to) = (let x = ap label_level from in let y = ap label_level to in absurd (omega arith))
 
-    most_at_core : label_level (label_of plan.k t) ≡ 2 → claim plan s port there frame ≡ 1
+    most_at_core : label_level (label_of plan.k t) ≡ 2 → claim may_come_by plan s port there frame ≡ 1
     most_at_core two = by_rung came_rung
       where
-        by_rung : Rung plan.k s t → claim plan s port there frame ≡ 1
+        by_rung : Rung plan.k s t → claim may_come_by plan s port there frame ≡ 1
         by_rung (UpFromEdge p i j from to) = (let y = ap label_level to in absurd (omega arith))
         by_rung (UpToCore p j m from to) = claim_is true (rw (from, to) refl)
         by_rung (DownFromCore p j m from to) = (let y = ap label_level to in absurd (omega arith))
@@ -217,10 +216,10 @@ module _ (plan : Plan) (is_plan : IsPlan plan) (t : ℕ) (v : SwitchView) (knows
 
     -- from above to an aggregation switch
     from_core : (p : ℕ) → label_level (label_of plan.k t) ≡ 1 → label_level (label_of plan.k t) < label_level (label_of plan.k s) → LeadsDown plan t p →
-        may_come plan.k t p (peer_of plan t p) there ≡ true → 1 ≤ claim plan s port there frame
+        may_come plan.k t p (peer_of plan t p) there ≡ true → 1 ≤ claim may_come_by plan s port there frame
     from_core p one above d may = by_rung came_rung
       where
-        by_rung : Rung plan.k s t → 1 ≤ claim plan s port there frame
+        by_rung : Rung plan.k s t → 1 ≤ claim may_come_by plan s port there frame
         by_rung (UpFromEdge p2 i j from to) = (let x = ap label_level from in let y = ap label_level to in absurd (omega arith))
         by_rung (UpToCore p2 j m from to) = (let y = ap label_level to in absurd (omega arith))
         by_rung (DownToEdge p2 i j from to) = (let y = ap label_level to in absurd (omega arith))
@@ -231,10 +230,10 @@ module _ (plan : Plan) (is_plan : IsPlan plan) (t : ℕ) (v : SwitchView) (knows
             omega arith
 
     -- from above to an edge switch
-    at_edge : (p : ℕ) → label_level (label_of plan.k t) ≡ 0 → same_edge_port (at_port t p) there ≡ true → 1 ≤ claim plan s port there frame
+    at_edge : (p : ℕ) → label_level (label_of plan.k t) ≡ 0 → same_edge_port (at_port t p) there ≡ true → 1 ≤ claim may_come_by plan s port there frame
     at_edge p zero_rank may = by_rung came_rung
       where
-        by_rung : Rung plan.k s t → 1 ≤ claim plan s port there frame
+        by_rung : Rung plan.k s t → 1 ≤ claim may_come_by plan s port there frame
         by_rung (UpFromEdge p2 i j from to) = (let y = ap label_level to in absurd (omega arith))
         by_rung (UpToCore p2 j m from to) = (let y = ap label_level to in absurd (omega arith))
         by_rung (DownFromCore p2 j m from to) = (let y = ap label_level to in absurd (omega arith))
@@ -243,7 +242,7 @@ module _ (plan : Plan) (is_plan : IsPlan plan) (t : ℕ) (v : SwitchView) (knows
             omega arith
 
     few_by : (way : Way) (number : ℕ) (source : Pmac) → GoesBy (label_level (label_of plan.k t)) (label_level (label_of plan.k s)) way →
-        sum_of (λ p. claim plan t p there frame) (group_ports v way number source) ≤ claim plan s port there frame
+        sum_of (λ p. claim may_come_by plan t p there frame) (group_ports v way number source) ≤ claim may_come_by plan s port there frame
     few_by Up number source less =
         let most = most_up less in
         let one = one_used plan t there frame (filter (λ p. is_usable v p && is_up (part_of v number) (id_at v p)) (range_with_len 0 v.k)) in omega arith
@@ -251,23 +250,23 @@ module _ (plan : Plan) (is_plan : IsPlan plan) (t : ℕ) (v : SwitchView) (knows
         let most = most_at_core two in
         let test : ℕ → Bool = λ p. is_usable v p && is_down (part_of v number) (id_at v p) in
         let down : (p : ℕ) → test p ≡ true → LeadsDown plan t p = λ p passes. leads_down number p passes in
-        one_only test (λ p. claim plan t p there frame) (claim plan s port there frame) 0 v.k
-        (counts_alone plan is_plan t there frame group test (claim plan s port there frame) down (λ p d may. omega arith))
+        one_only test (λ p. claim may_come_by plan t p there frame) (claim may_come_by plan s port there frame) 0 v.k
+        (counts_alone plan is_plan t there frame group test (claim may_come_by plan s port there frame) down (λ p d may. omega arith))
     few_by Down number source (inr below_core) =
         let test : ℕ → Bool = λ p. is_usable v p && is_down (part_of v number) (id_at v p) in
         let down : (p : ℕ) → test p ≡ true → LeadsDown plan t p = λ p passes. leads_down number p passes in
-        one_only test (λ p. claim plan t p there frame) (claim plan s port there frame) 0 v.k
-        (counts_alone plan is_plan t there frame group test (claim plan s port there frame) down (λ p d may. from_core p below_core.0 below_core.1 d may))
+        one_only test (λ p. claim may_come_by plan t p there frame) (claim may_come_by plan s port there frame) 0 v.k
+        (counts_alone plan is_plan t there frame group test (claim may_come_by plan s port there frame) down (λ p d may. from_core p below_core.0 below_core.1 d may))
     few_by ToHosts number source zero_rank =
         let test : ℕ → Bool = λ p. is_reached v number p && not (is_source v source p) in
-        one_only test (λ p. claim plan t p there frame) (claim plan s port there frame) 0 v.k
-        (hosts_alone plan is_plan t there frame group test (claim plan s port there frame) (λ p passes. for_hosts number p source passes)
+        one_only test (λ p. claim may_come_by plan t p there frame) (claim may_come_by plan s port there frame) 0 v.k
+        (hosts_alone plan is_plan t there frame group test (claim may_come_by plan s port there frame) (λ p passes. for_hosts number p source passes)
         (λ p may. at_edge p zero_rank may))
     few_by Nowhere number source nothing = omega arith
 
     -- so it passes no more on
     pub group_few : peer_of plan t q ≡ Switch (record { 0 = s }) port →
-        used plan t there (forwards_group v (came_by v q) frame).acts ≤ claim plan s port there frame
+        used may_come_by plan t there (forwards_group v (came_by v q) frame).acts ≤ claim may_come_by plan s port there frame
     group_few back =
         let number : ℕ = destination_group frame in
         let source : Pmac = pmac_of (source_of frame) in

@@ -8,7 +8,7 @@ use Rattle.pl_wiring.specs.Plan.{Plan}
 use Rattle.pl_journal.specs.declared.entry.Entry.{Entry}
 use Rattle.pl_world.specs.Changes.{out_of}
 use Rattle.pl_world.specs.Worlds.{WorldView}
-use Rattle.pl_law_copies.specs.Copies.{count_all, count_in, has_root}
+use Rattle.pl_law_counts.specs.Counting.{count_all, count_in, has_root}
 use Rattle.pl_journal.specs.Flights.{label_level}
 
 -- what is at the other end of a port of switch s is a switch of a higher level

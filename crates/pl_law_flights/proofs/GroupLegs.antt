@@ -21,9 +21,10 @@ use Rattle.pl_switch_rule.specs.declared.came.Way.TheVariants.{Down, Nowhere, To
 use Rattle.pl_switch_rule.specs.Forwarding.{came_by}
 use Rattle.pl_switch_rule.specs.GroupForwarding.{at_most_one, group_ports, is_down, is_reached, is_source, is_up, way_of}
 use Rattle.pl_law_copies.specs.Standing.{KnowsTree}
-use Rattle.pl_law_copies.proofs.Exports.{above, below, for_hosts, GoesBy, named_down, Rung, rung, ways}
+use Rattle.pl_law_copies.proofs.Exports.{above, below, for_hosts, GoesBy, named_down, ways}
+use Rattle.pl_law_counts.proofs.Exports.{Rung, rung}
 use Rattle.pl_law_flights.specs.Routes.{fallen, levels, risen_or_fallen}
-use Rattle.pl_law_copies.proofs.Exports.Rung.{DownFromCore, DownToEdge, UpFromEdge, UpToCore}
+use Rattle.pl_law_counts.proofs.Exports.Rung.{DownFromCore, DownToEdge, UpFromEdge, UpToCore}
 
 pub all_filtered : (P : ℕ → Type 0) (test : ℕ → Bool) → ((p : ℕ) → test p ≡ true → P p) → (ports : List ℕ) → AllByRecursion P (filter test ports)
 all_filtered P test passes [] = tt

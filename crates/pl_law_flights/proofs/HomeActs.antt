@@ -39,8 +39,8 @@ use Rattle.pl_law_flights.proofs.Hands.{GoodActs, Hand, MayLeave}
 use Rattle.pl_law_flights.proofs.Hands.Hand.{Empty, Spreads, Waits}
 use Rattle.pl_law_flights.proofs.Legs.{level_at}
 use Rattle.pl_law_flights.proofs.PmacNumbers.{number_in}
-use Rattle.pl_law_copies.proofs.Exports.{Rung, rung}
-use Rattle.pl_law_copies.proofs.Exports.Rung.{DownFromCore, DownToEdge, UpFromEdge, UpToCore}
+use Rattle.pl_law_counts.proofs.Exports.{Rung, rung}
+use Rattle.pl_law_counts.proofs.Exports.Rung.{DownFromCore, DownToEdge, UpFromEdge, UpToCore}
 
 two_levels : (n m : ℕ) → n ≡ 0 → n ≡ suc m → ⊥
 two_levels n m none some = omega arith

@@ -34,7 +34,7 @@ use Rattle.pl_world.specs.Worlds.{WorldView}
 use Rattle.pl_world.proofs.Exports.{head_is_item, noted_owes, one, Owes, peer_is_port, sound, times_in-data, took_out_balance}
 use Rattle.pl_law_flights.specs.OnTheWay.{IsBetweenSwitches, IsGoing, IsOut, IsJournaled, JournalSays, history_of, place_in}
 use Rattle.pl_law_copies.specs.Standing.{KnowTrees}
-use Rattle.pl_law_copies.proofs.Exports.{peer_back}
+use Rattle.pl_law_counts.proofs.Exports.{peer_back}
 use Rattle.pl_law_flights.specs.Standing.{StandsOn}
 use Rattle.pl_law_flights.proofs.Counting.{IsNowhere, IsOwed, counts, owed}
 use Rattle.pl_law_flights.proofs.Crossing.{crosses_well}

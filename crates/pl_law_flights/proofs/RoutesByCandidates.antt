@@ -24,8 +24,8 @@ use Rattle.pl_law_flights.specs.Routes.{IsOfOtherPod, Route}
 use Rattle.pl_law_flights.specs.Routes.Route.{Climbs, Enters, Falls, Leaves, Turns}
 use Rattle.pl_law_flights.specs.Standing.{KnowsNeighbours, KnowsPlaces}
 use Rattle.pl_law_flights.proofs.Legs.{level_at}
-use Rattle.pl_law_copies.proofs.Exports.{Rung, rung}
-use Rattle.pl_law_copies.proofs.Exports.Rung.{DownFromCore, DownToEdge, UpFromEdge, UpToCore}
+use Rattle.pl_law_counts.proofs.Exports.{Rung, rung}
+use Rattle.pl_law_counts.proofs.Exports.Rung.{DownFromCore, DownToEdge, UpFromEdge, UpToCore}
 
 or_none : (b : Bool) → (b || false) ≡ true → b ≡ true
 or_none true is = refl

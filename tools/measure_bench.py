@@ -59,9 +59,16 @@ class Pair:
     def count(self, word):
         return self.whole.count(word) - self.base.count(word)
 
+    def told(self, form):
+        """A text of these seconds, or why there is none."""
+        return form(self.seconds) if self.seconds else self.base.ended or self.whole.ended or "-"
+
+    def more(self):
+        return self.told(figure)
+
     def rate(self, count):
-        """So many things in these seconds, as a text."""
-        return f"{count / self.seconds:,.0f}" if self.seconds else self.base.ended or self.whole.ended or "-"
+        """So many things in these seconds."""
+        return self.told(lambda took: f"{count / took:,.0f}")
 
 
 @dataclass
@@ -88,7 +95,8 @@ class Bench:
         reading.ended = self.why_stopped(int(status), said)
         if int(status) and not reading.ended:
             first = said.read_text(errors="replace").strip().splitlines()[:1]
-            raise Fault(f"{pathlib.Path(command.words[0]).name} ended with status {status}: {''.join(first)}\n  {' '.join(map(str, command.words))}")
+            name = pathlib.Path(command.words[0]).name
+            raise Fault(f"{name} ended with status {status}: {''.join(first)}\n  {' '.join(map(str, command.words))}")
         return reading
 
     def why_stopped(self, status, said):
@@ -99,7 +107,7 @@ class Bench:
         return ""
 
     def in_turn(self, commands):
-        """The best reading of each of some commands by their names: they are read in turn, since the machine is not the same all the time."""
+        """The best reading of each of some commands, by their names. They are read in turn, since a machine does not stay the same."""
         best = {}
         for _ in range(self.rounds):
             for name, command in commands.items():
@@ -154,7 +162,7 @@ class Bench:
             }[name]
             done = subprocess.run([compiler, *map(str, words)], capture_output=True, text=True, check=False)
             if done.returncode:
-                raise Fault(f"{compiler} does not build {words[-3] if name == 'limit' else NS3}:\n{done.stderr.strip()}")
+                raise Fault(f"{compiler} does not build tools/measure_{name}:\n{done.stderr.strip()}")
             self.built[name] = target
         return self.built[name]
 
@@ -171,14 +179,13 @@ def proved_program():
 # Figures as text.
 
 
-def seconds(reading):
-    """Of one reading; of two the difference."""
-    return reading.ended or plain(reading.seconds)
-
-
-def plain(number):
+def figure(number):
     return f"{number:.2f}" if number < 10 else f"{number:.0f}"
 
 
-def mebibytes(reading):
+def seconds_of(reading):
+    return reading.ended or figure(reading.seconds)
+
+
+def mebibytes_of(reading):
     return f"{reading.kibibytes / 1024:,.0f}"

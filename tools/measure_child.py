@@ -2,8 +2,9 @@
 
     python3 -I -S tools/measure_child.py SECONDS BYTES OUT ERROR COMMAND..
 
-Prints its processor time in seconds, its largest memory in KiB, and its status, or the signal below 0. Linux counts into a program's largest
-memory what the process had that it was forked from, so that one has to be small. SECONDS of processor and BYTES of memory are limits, and 0 is none.
+Prints its processor time in seconds, its largest memory in KiB, and its status, or the signal below 0. Linux counts into a
+program's largest memory what the process had that it was forked from, so that one has to be small. SECONDS of processor and
+BYTES of memory are limits, and 0 is none.
 """
 
 import os

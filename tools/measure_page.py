@@ -95,7 +95,7 @@ def block(text, name):
     """Where the block of a name stands in a page: its text between the two markers."""
     found = re.search(rf"(?<=<!-- measure {name} -->\n).*?(?=<!-- end -->)", text, re.S)
     if found is None:
-        raise Fault(f"the page has no block of {name}: between the lines `<!-- measure {name} -->` and `<!-- end -->` its figures are written")
+        raise Fault(f"the page has no block of {name}: its figures go between the lines `<!-- measure {name} -->` and `<!-- end -->`")
     return found
 
 
@@ -116,12 +116,11 @@ def check_page(path, names, is_whole):
     text = read_page(path)
     for name in (MACHINE, *names):
         block(text, name)
-    if not is_whole and block(text, MACHINE)[0].strip() != machine_text():
+    stored = block(text, MACHINE)[0].strip()
+    if not is_whole and stored and stored != machine_text():
         raise Fault(f"the figures of {path} were read on another machine, or by another toolchain: measure all parts, without --only")
 
 
-def write_page(path, texts):
+def write_page(path, name, new):
     text = with_block(read_page(path), MACHINE, machine_text())
-    for name, new in texts.items():
-        text = with_block(text, name, new)
-    pathlib.Path(path).write_text(text)
+    pathlib.Path(path).write_text(with_block(text, name, new))

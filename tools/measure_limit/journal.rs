@@ -83,7 +83,9 @@ fn put_entry(text: &mut Vec<u8>, entry: &Entry, names: &Names) {
         }
         Entry::Sent(id, host, frame) => put_frame(text, b"sent ", *id, &names.hosts[*host as usize], frame),
         Entry::Crossed(id, switch) => put_words(text, b"crossed ", *id, &names.switches[*switch as usize]),
-        Entry::Arrived(id, host, frame) => put_frame(text, b"arrived ", *id, &names.hosts[*host as usize], frame),
+        Entry::Arrived(id, host, frame) => {
+            put_frame(text, b"arrived ", *id, &names.hosts[*host as usize], frame)
+        }
     }
     text.push(b'\n');
 }

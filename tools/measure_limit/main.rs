@@ -23,8 +23,6 @@ use world::World;
 /// Frames that are sent between two times that all queues are emptied.
 const CHUNK: u64 = 1000;
 
-// The runs.
-
 fn play(k: usize, frames: u64, steps: Option<u64>) -> World {
     let mut world = World::new(k);
     let mut waiting = 0;
@@ -43,11 +41,17 @@ fn play(k: usize, frames: u64, steps: Option<u64>) -> World {
     world
 }
 
+/// The words `--NAME=VALUE`.
+fn words() -> HashMap<String, String> {
+    let split = |word: String| {
+        let (name, value) = word.strip_prefix("--")?.split_once('=')?;
+        Some((name.to_string(), value.to_string()))
+    };
+    std::env::args().skip(1).filter_map(split).collect()
+}
+
 fn main() -> io::Result<()> {
-    let words: HashMap<String, String> = std::env::args()
-        .skip(1)
-        .filter_map(|word| Some(word.strip_prefix("--")?.split_once('=').map(|(name, value)| (name.into(), value.into()))?))
-        .collect();
+    let words = words();
     let number = |name: &str| words.get(name).map(|word| word.parse::<u64>().expect("a number"));
     let k = number("k").expect("--k=K is given") as usize;
     assert!(k % 2 == 0 && (4..=PORTS).contains(&k), "k is even, from 4 to {PORTS}");
@@ -72,9 +76,16 @@ mod tests {
             let half = k / 2;
             let hops = |host: usize, number| {
                 let (a, b) = (host / half, partner(host, number, k * half * half) / half);
-                if a == b { 1 } else if a / half == b / half { 3 } else { 5 }
+                if a == b {
+                    1
+                } else if a / half == b / half {
+                    3
+                } else {
+                    5
+                }
             };
-            let due: u64 = turns(frames, k * half * half).flat_map(|(host, ns)| ns.map(move |n| hops(host, n))).sum();
+            let due: u64 =
+                turns(frames, k * half * half).flat_map(|(host, ns)| ns.map(move |n| hops(host, n))).sum();
             let world = play(k, frames, None);
             assert_eq!((world.arrived, world.crossed), (frames, due));
         }

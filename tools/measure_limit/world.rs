@@ -244,7 +244,9 @@ impl World {
         journal::save(&self.journal, &Names::new(self.k), File::create(format!("{folder}/journal.txt"))?)?;
         for (host, capture) in self.captures.iter().enumerate() {
             let mut file = BufWriter::new(File::create(format!("{folder}/h{host}.pcap"))?);
-            file.write_all(&[0xd4, 0xc3, 0xb2, 0xa1, 2, 0, 4, 0, 0, 0, 0, 0, 0, 0, 0, 0, 0, 0, 4, 0, 1, 0, 0, 0])?;
+            file.write_all(&[
+                0xd4, 0xc3, 0xb2, 0xa1, 2, 0, 4, 0, 0, 0, 0, 0, 0, 0, 0, 0, 0, 0, 4, 0, 1, 0, 0, 0,
+            ])?;
             file.write_all(capture)?;
             file.flush()?;
         }

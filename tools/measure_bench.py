@@ -86,11 +86,9 @@ class Bench:
             shutil.rmtree(command.out, ignore_errors=True)
             command.out.mkdir(parents=True)
         printed, said = self.work / "printed", self.work / "said"
-        words = [str(word) for word in (self.seconds, self.memory, printed, said, *command.words)]
-        done = subprocess.run([sys.executable, "-I", "-S", str(CHILD), *words], stdout=subprocess.PIPE, text=True, check=True)
+        seconds, kibibytes, status = told_by([CHILD, self.seconds, self.memory, printed, said, *command.words])
         if command.out:
             shutil.rmtree(command.out)
-        seconds, kibibytes, status = done.stdout.split()
         reading = Reading(float(seconds), int(kibibytes), text=printed.read_text(errors="replace"))
         reading.ended = self.why_stopped(int(status), said)
         if int(status) and not reading.ended:
@@ -165,6 +163,17 @@ class Bench:
                 raise Fault(f"{compiler} does not build tools/measure_{name}:\n{done.stderr.strip()}")
             self.built[name] = target
         return self.built[name]
+
+
+def told_by(words):
+    """The words that a script of Python prints. It and what it runs end when this process is stopped."""
+    command = [sys.executable, "-I", "-S", *map(str, words)]
+    with subprocess.Popen(command, stdout=subprocess.PIPE, text=True, start_new_session=True) as script:
+        try:
+            return script.communicate()[0].split()
+        except BaseException:
+            os.killpg(script.pid, signal.SIGKILL)
+            raise
 
 
 def proved_program():

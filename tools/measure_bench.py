@@ -74,7 +74,8 @@ class Pair:
 @dataclass
 class Bench:
     program: str
-    work: pathlib.Path
+    work: pathlib.Path  # a folder of its own
+    inputs: pathlib.Path  # the folder of what is played
     rounds: int
     seconds: int
     memory: int  # bytes

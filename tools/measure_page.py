@@ -26,9 +26,11 @@ class Table:
     remarks: list = field(default_factory=list)
 
     def text(self):
+        if not self.rows:
+            return "\n\n".join(self.remarks)
         lines = [f"| {' | '.join(map(str, row))} |" for row in (self.head, *self.rows)]
         lines.insert(1, "|" + "---|" * len(self.head))
-        lines += ["", "```sh", *self.commands, "```"]
+        lines += ["", "```sh", *self.commands, "```"] if self.commands else []
         return "\n".join(lines + [line for remark in self.remarks for line in ("", remark)])
 
 
@@ -58,7 +60,7 @@ def machine_text():
         ["the limit", printed("rustc", "--version") or "rustc is not here"],
         ["the peer", f"ns-3 {ns3}, as Debian builds it" if ns3 else "ns-3 is not here"],
     ]
-    return Table(["what", "which"], rows, []).text().split("\n\n")[0]
+    return Table(["what", "which"], rows, []).text()
 
 
 def sitting(program):

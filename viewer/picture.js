@@ -1,6 +1,6 @@
 "use strict";
 // A picture of a scene on a canvas: what part of the drawing is in sight, and where things are there. The fabric itself is kept
-// as a picture of its own, in Layers, so that a step draws its frames alone.
+// on canvases of its own, in Layers, so that a step draws its frames alone.
 globalThis.Picture = (() => {
     const NAMES = ["paper", "ink", "muted", "link", "pod", "edge", "aggregation", "core", "host", "now", "nowink", "failed",
         "load1", "load2", "load3", "load4", "load5", "loadink"];
@@ -9,9 +9,8 @@ globalThis.Picture = (() => {
     class Picture {
         constructor(canvas) {
             this.canvas = canvas;
-            this.screen = canvas.getContext("2d", { alpha: false });
-            this.layers = Layers.make();
-            this.pen = Pen.of(this.screen);
+            this.layers = Layers.make(canvas);
+            this.pen = Pen.of(canvas.getContext("2d"));
             Object.assign(this, { width: 0, height: 0, scale: 1, x: 0, y: 0, progress: 1, isLoads: false, open: new Set(), touched: null, place: null });
             Object.assign(this, { run: null, fabric: null, layout: null, state: null, scene: null, names: new Map(), lines: null, finishing: 0 });
         }
@@ -190,28 +189,27 @@ globalThis.Picture = (() => {
         }
 
         draw() {
-            const { canvas, screen, width, height } = this;
+            const { canvas, width, height } = this;
             const ratio = window.devicePixelRatio || 1;
             if (canvas.width !== Math.round(width * ratio)) canvas.width = Math.round(width * ratio);
             if (canvas.height !== Math.round(height * ratio)) canvas.height = Math.round(height * ratio);
+            clearTimeout(this.finishing);
             if (!this.scene || width === 0 || height === 0) {
-                this.prepare(width, height, ratio);
+                this.prepare(width, height, ratio, true);
                 return;
             }
-            const fabric = this.layers.bring(this, { width, height, ratio });
-            clearTimeout(this.finishing);
+            this.layers.bring(this, { width, height, ratio });
             if (this.layers.isCoarse) this.finishing = setTimeout(() => this.finish(), REST);
-            screen.setTransform(1, 0, 0, 1, 0, 0);
-            for (const layer of fabric) screen.drawImage(layer, 0, 0); // the first covers all
+            this.layers.putBoxes(this.pen.c);
             this.ready(ratio);
             Traces.draw(this);
         }
 
-        // draws what was drawn coarsely as it is to stay
+        // draws what was drawn coarsely as it is to stay, part by part so that a step need not wait for all of it
         finish() {
             if (!this.scene || !this.layers.isCoarse) return;
             this.layers.finish(this, { width: this.width, height: this.height, ratio: window.devicePixelRatio || 1 });
-            this.draw();
+            if (this.layers.isCoarse) this.finishing = setTimeout(() => this.finish());
         }
 
         // draws all of it by another context, of this height at least, in the canvas's own points

@@ -16,6 +16,10 @@ globalThis.Drawing = (() => {
         return [`pod ${part(pod)} \u00b7 pos ${part(position)}`, `${part(pod)}.${part(position)}`];
     };
 
+    // what a switch knows of its place; learning bridges have none, and are drawn as they stand
+    const placeOf = (p, s) => (p.isOfBridge ? { level: s.level, position: null, pod: null } : At.place(p.state, s.number));
+    const isReady = (p, place) => p.isOfBridge || At.isPlaced(place);
+
     // What the boxes look like: what each switch knows of its place and, where loads are shown, its level and, in boxes that have it as a
     // text, its number of frames; and where the hosts stand with which address.
     const lookOf = p => {
@@ -90,7 +94,8 @@ globalThis.Drawing = (() => {
         const { pen, colour, state } = p;
         const room = at.width - 4;
         const names = s.level === 2 ? [s.label] : [s.label, s.label.replace(/^.*\./, ".")];
-        const last = p.isLoads ? [Words.plural(state.crossings[s.number], "frame"), `${state.crossings[s.number]}`] : placeTexts(place);
+        const loads = [Words.plural(state.crossings[s.number], "frame"), `${state.crossings[s.number]}`];
+        const last = p.isLoads ? loads : p.isOfBridge ? [] : placeTexts(place);
         if (at.height >= THREE_ROWS) {
             const size = Math.min(13, at.height / 3.5);
             pen.write(names, at.x, at.y - at.height * 0.27, room, size, ink, true);
@@ -113,14 +118,14 @@ globalThis.Drawing = (() => {
     const oneSwitch = (p, s, isMarked = false) => {
         const at = p.shown(p.layout.switches[s.number]);
         if (!p.isSeen(at)) return;
-        const place = At.place(p.state, s.number);
+        const place = placeOf(p, s);
         const isBare = at.width < BARE && !isMarked;
         const [fill, ink] = switchColours(p, s, place, isBare);
         if (isBare) {
             p.pen.fillSmall([at], fill);
             return;
         }
-        frame(p, at, fill, place.level !== null, At.isPlaced(place), isMarked);
+        frame(p, at, fill, place.level !== null, isReady(p, place), isMarked);
         switchTexts(p, s, at, place, ink);
     };
 
@@ -130,7 +135,7 @@ globalThis.Drawing = (() => {
         for (const s of switches) {
             const at = p.shown(p.layout.switches[s.number]);
             if (!p.isSeen(at)) continue;
-            const [fill] = switchColours(p, s, At.place(p.state, s.number), true);
+            const [fill] = switchColours(p, s, placeOf(p, s), true);
             if (boxes.has(fill)) boxes.get(fill).push(at);
             else boxes.set(fill, [at]);
         }
@@ -163,7 +168,7 @@ globalThis.Drawing = (() => {
         const at = p.shown(layout.cells.get(spot));
         if (!p.isSeen(at)) return;
         const address = p.run.addresses[p.state.newest[host.number]];
-        const isHere = address !== undefined && address.edge * p.fabric.k + address.port === spot;
+        const isHere = p.isOfBridge || (address !== undefined && address.edge * p.fabric.k + address.port === spot);
         if (at.width < BARE && !isMarked) {
             pen.fillSmall([at], isHere ? colour.host : colour.muted);
             return;
@@ -174,8 +179,8 @@ globalThis.Drawing = (() => {
         const room = at.width - 4;
         const lineAt = n => at.y + 0.5 + (n - (rows - 1) / 2) * (at.height / (rows + 0.6));
         pen.write([host.name], at.x, lineAt(0), room, size, colour.ink, true);
-        if (rows > 1) pen.write(addressTexts(address, isHere), at.x, lineAt(1), room, size * 0.95, colour.ink);
-        if (rows > 2) pen.write([host.ip], at.x, lineAt(2), room, size * 0.85, colour.muted);
+        if (rows > 1) pen.write(p.isOfBridge ? [host.ip] : addressTexts(address, isHere), at.x, lineAt(1), room, size * 0.95, colour.ink);
+        if (rows > 2 && !p.isOfBridge) pen.write([host.ip], at.x, lineAt(2), room, size * 0.85, colour.muted);
     };
 
     // what a folded pod's box of one level, of which switches are named by this letter, says of them
@@ -184,8 +189,8 @@ globalThis.Drawing = (() => {
         const letter = box.of;
         const first = (letter === "a" ? k + box.pod : box.pod) * (k / 2);
         const numbers = Array.from({ length: k / 2 }, (_, n) => first + n);
-        const places = numbers.map(number => At.place(state, number));
-        const placed = places.filter(At.isPlaced).length;
+        const places = numbers.map(number => placeOf(p, p.fabric.switches[number]));
+        const placed = places.filter(place => isReady(p, place)).length;
         const known = places.find(place => place.level !== null);
         const most = Ground.largest(numbers.map(number => state.crossings[number]));
         const total = numbers.reduce((sum, number) => sum + state.crossings[number], 0);
@@ -193,7 +198,8 @@ globalThis.Drawing = (() => {
         pen.box(at, fill, colour.ink, placed === numbers.length ? 1.7 : 0.9, known ? [] : [3, 3]);
         if (at.width < 18) return;
         pen.write([`${letter}${box.pod}.x`, `${letter}${box.pod}`, letter], at.x, at.y - at.height * 0.2, at.width - 3, 11, ink, true);
-        const count = p.isLoads ? [`${total}`] : [`${placed} of ${numbers.length}`, `${placed}/${numbers.length}`, `${placed}`];
+        const ready = p.isOfBridge ? [`${placed} bridges`, `${placed}`] : [`${placed} of ${numbers.length}`, `${placed}/${numbers.length}`, `${placed}`];
+        const count = p.isLoads ? [`${total}`] : ready;
         pen.write(count, at.x, at.y + at.height * 0.24, at.width - 3, 9, ink);
     };
 

@@ -1,8 +1,9 @@
 "use strict";
 // Draws the ground of a picture: pods, and the links as they are once so many entries have happened. A failed link is dashed with a
-// cross; a load is told by width as well as by colour.
+// cross, one that is none of a tree of learning bridges dotted; a load is told by width as well as by colour.
 globalThis.Ground = (() => {
     const LEVELS = 8; // of the look of a line: its failed links times this, and the level of its load
+    const OUT = 2 ** 20; // instead, where none of its links is of the tree of learning bridges
     const PIECE = 64; // points of a line for which one place is drawn anew
     const BESIDE = 6; // points around it
     const LONG = 1000; // more lines with their loads than this take long
@@ -41,7 +42,7 @@ globalThis.Ground = (() => {
 
     // Whether the lines look the same whatever happens but for failures above them, so that they are drawn once.
     const isKept = p => {
-        if (p.isLoads) return false;
+        if (p.isLoads || p.isOfBridge) return false;
         const { count } = Lines.shown(p);
         return Lines.faded(p, count) <= FAINT || p.lines.isFolded;
     };
@@ -105,11 +106,12 @@ globalThis.Ground = (() => {
         const { state, isLoads } = p;
         Lines.shown(p);
         const { of, isOne } = p.lines;
-        const lines = new Int32Array(isOne.length);
+        const lines = new Int32Array(isOne.length).fill(OUT);
         let failures = 0;
         for (let n = 0; n < of.length; n++) {
-            lines[of[n]] += LEVELS * state.failed[n];
-            failures += state.failed[n];
+            const failed = state.failed[n];
+            failures += failed;
+            if (failed !== At.LEFT_OUT) lines[of[n]] = lines[of[n]] % OUT + LEVELS * failed;
         }
         if (isLoads) addLoads(lines, of, state.carried);
         return { lines, isBroken: failures > 0, spots: state.spots.slice() };
@@ -155,12 +157,24 @@ globalThis.Ground = (() => {
         return places.length > most ? ALL : places;
     };
 
+    // those that are none of the tree, where they are not too many to be told apart
+    const leftOut = (p, look) => {
+        const { number, ends, count } = Lines.shown(p);
+        if (!p.isOfBridge || count > LONG) return;
+        const lines = [];
+        for (let n = 0; n < count; n++) {
+            if (look.lines[number[n]] >= OUT && Lines.isCrossing(p.sight, ends, 4 * n)) lines.push(ends.subarray(4 * n, 4 * n + 4));
+        }
+        p.pen.faint(Math.max(0.3, Lines.faded(p, count)), () => p.pen.lines(lines, p.colour.link, 1, [1, 5]));
+    };
+
     // failed links, above the others
     const broken = (p, look) => {
         const { colour, pen, sight } = p;
         const { count, number, ends } = Lines.shown(p);
+        leftOut(p, look);
         for (let n = 0; n < count; n++) {
-            const failed = Math.floor(look.lines[number[n]] / LEVELS);
+            const failed = Math.floor(look.lines[number[n]] % OUT / LEVELS);
             if (failed === 0 || !Lines.isCrossing(sight, ends, 4 * n)) continue;
             const line = ends.subarray(4 * n, 4 * n + 4);
             pen.lines([line], colour.failed, 1.6, [5, 4]);
@@ -180,7 +194,7 @@ globalThis.Ground = (() => {
     };
 
     // whether a line is not failed: each by its number, as many links together always
-    const liveOf = (p, look) => number => p.lines.isOne[number] === 0 || look.lines[number] < LEVELS;
+    const liveOf = (p, look) => number => look.lines[number] < (p.lines.isOne[number] === 0 ? OUT : LEVELS);
 
     // the lines that are not failed in parts, those of a lower level first
     const loadParts = (p, look) => {

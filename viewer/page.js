@@ -156,7 +156,7 @@ globalThis.Page = (() => {
     };
 
     const fillLine = (element, n) => {
-        fillTexts(element, `${n + 1}  ${page.script[n]}`, Script.sentence(page.script[n]));
+        fillTexts(element, `${n + 1}  ${page.script[n]}`, Script.sentence(page.script[n], Journal.isOfBridge(page.run)));
         const entry = Journal.ofLine(page.run, n + 1);
         return entry < 0 || page.run.a[entry] !== n + 1 ? "idle" : "";
     };

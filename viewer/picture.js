@@ -11,7 +11,7 @@ globalThis.Picture = (() => {
             this.canvas = canvas;
             this.layers = Layers.make(canvas);
             this.pen = Pen.of(canvas.getContext("2d"));
-            Object.assign(this, { width: 0, height: 0, scale: 1, x: 0, y: 0, progress: 1, isLoads: false, open: new Set(), touched: null, place: null });
+            Object.assign(this, { width: 0, height: 0, scale: 1, x: 0, y: 0, progress: 1, isLoads: false, isOfBridge: false, open: new Set(), touched: null, place: null });
             Object.assign(this, { run: null, fabric: null, layout: null, state: null, scene: null, names: new Map(), lines: null, finishing: 0 });
         }
 
@@ -32,6 +32,7 @@ globalThis.Picture = (() => {
         show(run) {
             this.run = run;
             this.fabric = run.fabric;
+            this.isOfBridge = Journal.isOfBridge(run);
             this.open = new Set();
             this.touched = null;
             this.arrange();

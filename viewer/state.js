@@ -25,6 +25,8 @@ globalThis.At = (() => {
         };
     };
 
+    const LEFT_OUT = 2; // of a link in `failed`: it is none of the tree of learning bridges
+
     // what a state has a row of numbers of
     const ROWS = ["places", "failed", "spots", "newest", "crossings", "carried", "counts", "causes"];
 
@@ -64,7 +66,7 @@ globalThis.At = (() => {
             case KIND.settled:
             case KIND.unsettled: state.rest = n; break;
             case KIND.placed: state.places[a] = b; break;
-            case KIND.linkdown: state.failed[a] = 1; break;
+            case KIND.linkdown: state.failed[a] = Journal.isLeftOut(run, n) ? LEFT_OUT : 1; break;
             case KIND.linkup: state.failed[a] = 0; break;
             case KIND.moved: state.spots[a] = b * run.fabric.k + c; break;
             case KIND.granted: state.newest[b] = a; break;
@@ -154,5 +156,5 @@ globalThis.At = (() => {
         return Frames.read(Journal.frame(journal, Journal.beginning(journal, journal.a[n]))).destination;
     };
 
-    return { start, step, run, at, place, isPlaced, spot, where, past, newest, address };
+    return { LEFT_OUT, start, step, run, at, place, isPlaced, spot, where, past, newest, address };
 })();

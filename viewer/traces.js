@@ -3,8 +3,8 @@
 globalThis.Traces = (() => {
     // Whether a text beside a box would cover much of it, or of the next one: then a dot stands for a frame.
     const isWideFor = (text, at) => 7 * text.length + 10 > 0.6 * at.width;
-    // In a narrower box a frame fills it: dots would lie on each other, and thousands of them take long.
-    const NARROW = 6;
+    // In a narrower box, which has no name, a frame fills it: dots would lie on each other, and thousands of them take long.
+    const NARROW = 10;
 
     const place = (p, where, isMarked) => {
         if (where.link !== undefined) return;

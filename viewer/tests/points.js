@@ -3,12 +3,11 @@
 const assert = require("assert");
 const fs = require("fs");
 const path = require("path");
-const { top, open } = require("./load.js");
+const { top, open, besideOf } = require("./load.js");
 const wide = require("./wide.js");
 const { patience, PAGE, work, filesOf, isOpen, opened, packed, says, picture } = require("./pages.js");
 
-const RUNS = "viewer/tests/runs";
-const LEARNT = path.join(top, RUNS, "bridge-learnt");
+const LEARNT = path.join(top, "tests/bridge/learnt");
 
 // the texts that the picture shows now: those of its SVG
 const texts = async browser => {
@@ -335,11 +334,11 @@ const what_the_fabric_knows = async (browser, width) => {
 
 const a_second_run_goes_beside = async (browser, width) => {
     const journal = path.join(work, "journal.txt");
-    fs.copyFileSync(path.join(LEARNT, "portland.txt"), journal);
+    fs.copyFileSync(besideOf("learnt"), journal);
     await browser.open(PAGE);
     await browser.choose([path.join(LEARNT, "topology.toml"), journal, path.join(LEARNT, "script")]);
     await browser.until(isOpen(93));
-    await browser.choose([path.join(LEARNT, "expected/journal.txt")], "#beside");
+    await browser.choose([path.join(LEARNT, "expected-bridge/journal.txt")], "#beside");
     await browser.until("document.getElementById('second').hidden === false");
     const bridge = open(LEARNT);
     const at = entry => `learning bridge: entry ${entry} of 525`;
@@ -363,7 +362,7 @@ const a_second_run_goes_beside = async (browser, width) => {
     await fits(browser);
     await browser.clickOn("#alone");
     assert.equal(await browser.value("document.getElementById('second').hidden"), true);
-    await browser.choose([path.join(LEARNT, "expected/journal.txt")], "#beside");
+    await browser.choose([path.join(LEARNT, "expected-bridge/journal.txt")], "#beside");
     await browser.until("document.getElementById('second').hidden === false");
     await browser.choose(filesOf(path.join(top, "examples/group")));
     await browser.until("document.getElementById('second').hidden === true");
@@ -419,8 +418,8 @@ const packed_pages_open_at_a_moment = async browser => {
 };
 
 const aging_restarts_and_bridges_are_told = async browser => {
-    for (const name of ["address-given-again", "restart-after-aging", "bridge-learnt"]) {
-        const run = await opened(browser, path.join(RUNS, name));
+    for (const name of ["viewer/tests/runs/address-given-again", "viewer/tests/runs/restart-after-aging", "tests/bridge/learnt"]) {
+        const run = await opened(browser, name);
         for (const word of ["freed", "restarted", "linkdown"]) {
             const entry = run.journal.split("\n").findIndex(line => line.startsWith(`${word} `)) + 1;
             if (entry > 0) {

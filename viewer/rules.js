@@ -15,6 +15,8 @@ globalThis.Rules = (() => {
     const rowOf = name => OF_FABRIC.find(({ names }) => names.includes(name)) || null;
     const OF_WORD = WORDS.map(rowOf);
     const OF_CAUSE = CAUSES.map(rowOf);
+    // the causes among which a switch chooses, by what it knows; the others are those of links, hosts and the script
+    const OF_SWITCH = ["NotPlaced", "NoNextHop", "NoAddress", "Spent", "BadArp", "NoMember"];
     const OF_EACH_CAUSE = OF_FABRIC.find(({ says }) => says.includes('"cause_of"')) || null;
 
     // what learning bridges have a row of their own for, else that of the fabric
@@ -53,8 +55,9 @@ globalThis.Rules = (() => {
     const part = row => (row ? [{ says: row.says.replace(/"/g, "`"), files: row.files }] : []);
 
     const ofFabric = (run, n) => {
-        const isDrop = run.kind[n] === KIND.dropped;
-        return [...part(isDrop ? OF_CAUSE[run.b[n]] : OF_WORD[run.kind[n]]), ...(isDrop ? part(OF_EACH_CAUSE) : [])];
+        if (run.kind[n] !== KIND.dropped) return part(OF_WORD[run.kind[n]]);
+        const cause = run.b[n];
+        return [...part(OF_CAUSE[cause]), ...(OF_SWITCH.includes(CAUSES[cause]) ? part(OF_EACH_CAUSE) : [])];
     };
 
     const ofBridge = (run, n) => {

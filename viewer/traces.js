@@ -67,6 +67,12 @@ globalThis.Traces = (() => {
         frameLabel(p, `${focus}`, x - to.width * 0.3, y - to.height / 2 - 6, true);
     };
 
+    // how far down a note stands that would stand here, so that it covers no name
+    const clearOf = (p, text, x, y) => {
+        const width = 8 * text.length + 10;
+        return p.freePlace({ x: Math.min(Math.max(x, width / 2), p.width - width / 2), y, width }).y;
+    };
+
     const noteOfNow = p => {
         const { now } = p.scene;
         if (!now || !now.place || p.progress < 1 || now.note === "") return;
@@ -78,7 +84,7 @@ globalThis.Traces = (() => {
         const at = p.spotOf(now.place);
         const below = at.y + at.height / 2 + 12;
         const isBelow = now.place.host !== undefined || at.y - at.height / 2 < 34;
-        note(p, now.note, at.x, isBelow ? below : at.y - at.height / 2 - 22, now.note.startsWith("\u2715"));
+        note(p, now.note, at.x, clearOf(p, now.note, at.x, isBelow ? below : at.y - at.height / 2 - 22), now.note.startsWith("\u2715"));
     };
 
     // the name of what a finger touched

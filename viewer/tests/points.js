@@ -432,6 +432,21 @@ const aging_restarts_and_bridges_are_told = async browser => {
     }
 };
 
+// Links that are none of the tree are dotted, and one of the tree that fails is crossed out; switches have no places, and hosts no addresses of theirs.
+const the_tree_of_bridges_is_told_apart = async (browser, width) => {
+    const run = await opened(browser, "tests/bridge/a-link-of-the-tree-fails");
+    const fails = run.journal.split("\n").indexOf("linkdown e1.0 a1.0") + 1;
+    for (const [entry, outside, failed] of [[0, 0, 0], [20, 20, 0], [fails, 20, 1]]) {
+        await browser.value(`Page.step(${entry})`);
+        const svg = await browser.value("Moment.svg(Page.picture, 'where', 'said')");
+        const dashed = dash => svg.split(`stroke-dasharray="${dash}"`).length - 1;
+        assert.deepEqual([dashed("1 5"), dashed("5 4")], [outside, failed], `at entry ${entry}`);
+    }
+    const shown = await texts(browser);
+    assert(["a", "e0.0", "10.0.0.1"].every(text => shown.includes(text)) && !["?", "core", "no address"].some(text => shown.includes(text)), `${shown}`);
+    await picture(browser, `bridges-${width}`);
+};
+
 module.exports = {
     the_page_fits_its_screen, fingers_name_and_zoom, nothing_covers_switches_or_names, what_is_found_is_not_taken_for_now,
     a_large_fabric_is_read, keys_reach_everything, the_rule_stands_below_the_sentence, loads_and_the_chart,
@@ -439,4 +454,5 @@ module.exports = {
     a_step_comes_between_the_parts_of_many_lines, rows_stay_from_step_to_step,
     the_row_of_now_stays_in_the_middle, a_line_of_another_kind_stops_nothing, what_the_fabric_knows, a_second_run_goes_beside,
     the_welcome_page_shows_an_example, a_moment_is_kept, packed_pages_open_at_a_moment, aging_restarts_and_bridges_are_told,
+    the_tree_of_bridges_is_told_apart,
 };

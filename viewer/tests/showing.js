@@ -22,6 +22,8 @@ const the_rule_of_an_entry_is_that_of_the_table = () => {
         assert(rules.some(rule => rule.says.includes(says) && rule.files.includes(file)), `${name}, line ${line}: ${JSON.stringify(rules)}`);
         assert(Rules.look(run, line - 1).startsWith(look) && (look !== "" || Rules.look(run, line - 1) === ""));
     }
+    const { run: failing } = open("tests/fabric/link-fails-with-frames");
+    assert(!Rules.of(failing, 103).some(({ says }) => says.includes("cause_of")), "of a link, and not a switch's choice");
     const { run } = open("examples/four-hosts");
     assert.deepEqual(Rules.of(run, 0), []); // `line 1`, which the player of the script writes
     for (const cause of Journal.CAUSES) assert(Rules.rowOf(cause), cause);

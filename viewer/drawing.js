@@ -179,7 +179,8 @@ globalThis.Drawing = (() => {
         const room = at.width - 4;
         const lineAt = n => at.y + 0.5 + (n - (rows - 1) / 2) * (at.height / (rows + 0.6));
         pen.write([host.name], at.x, lineAt(0), room, size, colour.ink, true);
-        if (rows > 1) pen.write(p.isOfBridge ? [host.ip] : addressTexts(address, isHere), at.x, lineAt(1), room, size * 0.95, colour.ink);
+        const addresses = p.isOfBridge ? [host.ip, host.ip.replace(/^\d+\.\d+/, "")] : addressTexts(address, isHere);
+        if (rows > 1) pen.write(addresses, at.x, lineAt(1), room, size * 0.95, colour.ink);
         if (rows > 2 && !p.isOfBridge) pen.write([host.ip], at.x, lineAt(2), room, size * 0.85, colour.muted);
     };
 

@@ -223,9 +223,9 @@ globalThis.Ground = (() => {
     // while the view and `keyOf` do.
     const coarse = {
         isWanted: p => p.isLoads && Lines.shown(p).count > LONG,
-        keyOf: p => p.state.counts[Journal.KIND.moved],
+        keyOf: ({ state: { counts }, isOfBridge }) => `${counts[Journal.KIND.moved]} ${isOfBridge ? counts[Journal.KIND.linkdown] : 0}`,
         begin: (p, look, raster) => {
-            const { count, ends } = Lines.shown(p);
+            const { count, number, ends } = Lines.shown(p);
             const hosts = [];
             eachHostLink(p, look.spots, (x, y, toY) => hosts.push(x, y, x, toY));
             const all = new Float64Array(4 * count + hosts.length);
@@ -233,7 +233,8 @@ globalThis.Ground = (() => {
             all.set(hosts, 4 * count);
             raster.take(all);
             const levels = new Uint8Array(all.length / 4);
-            levels.fill(1, 0, count).fill(2, count);
+            levels.fill(2, count);
+            for (let n = 0; n < count; n++) levels[n] = look.lines[number[n]] < OUT ? 1 : 0;
             const [unused] = inksOf(p);
             const toHosts = { ...unused, width: HOST_LINK, alpha: 1 };
             raster.draw(levels, [null, { ...unused, level: 1 }, { ...toHosts, level: 2 }], p.colour.paper);

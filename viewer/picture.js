@@ -162,11 +162,11 @@ globalThis.Picture = (() => {
             return this.names.get(this.nameOf(place)) || this.nameBox(place);
         }
 
-        // from the upper edge of the lower end to the lower edge of the upper one
-        segmentOf(link) {
-            const { switches } = this.layout;
-            const [from, to] = [this.shown(switches[link.a]), this.shown(switches[link.b])];
-            return [from.x, from.y - from.height / 2, to.x, to.y + to.height / 2];
+        // the middle of the line by which a link is drawn
+        middleOf(link) {
+            const { of, ends } = this.lines;
+            const [x, y, toX, toY] = ends.subarray(4 * of[link], 4 * of[link] + 4);
+            return { x: ((x + toX) / 2 - this.x) * this.scale, y: ((y + toY) / 2 - this.y) * this.scale };
         }
 
         // its pen draws in the canvas's own points

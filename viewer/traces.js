@@ -77,8 +77,8 @@ globalThis.Traces = (() => {
         const { now } = p.scene;
         if (!now || !now.place || p.progress < 1 || now.note === "") return;
         if (now.place.link !== undefined) {
-            const [x, y, toX, toY] = p.segmentOf(p.fabric.links[now.place.link]);
-            note(p, now.note, (x + toX) / 2, (y + toY) / 2 - 18, p.state.failed[now.place.link] === 1);
+            const { x, y } = p.middleOf(now.place.link);
+            note(p, now.note, x, y - 18, p.state.failed[now.place.link] === 1);
             return;
         }
         const at = p.spotOf(now.place);

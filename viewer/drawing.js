@@ -5,7 +5,6 @@
 globalThis.Drawing = (() => {
     // Boxes that are narrower than this have neither outlines nor texts.
     const BARE = 10;
-    const BESIDE = 3; // points around a box in which its outline is
     const [TWO_ROWS, THREE_ROWS] = [19, 27]; // heights from which a switch has so many texts
 
     // What a switch knows of its place, in texts that fall in length. An unknown part is - as in a journal.
@@ -17,16 +16,20 @@ globalThis.Drawing = (() => {
         return [`pod ${part(pod)} \u00b7 pos ${part(position)}`, `${part(pod)}.${part(position)}`];
     };
 
+    // what a switch knows of its place; learning bridges have none, and are drawn as they stand
+    const placeOf = (p, s) => (p.isOfBridge ? { level: s.level, position: null, pod: null } : At.place(p.state, s.number));
+    const isReady = (p, place) => p.isOfBridge || At.isPlaced(place);
+
     // What the boxes look like: what each switch knows of its place and, where loads are shown, its level and, in boxes that have it as a
     // text, its number of frames; and where the hosts stand with which address.
     const lookOf = p => {
         const { state, isLoads, layout } = p;
-        p.mostCrossings = isLoads ? Ground.largest(state.crossings) : 0;
+        p.levels = Ground.levelsTo(isLoads ? Ground.largest(state.crossings) : 0);
         const loads = new Float64Array(isLoads ? state.crossings.length : 0);
         for (let n = 0; n < loads.length; n++) {
             const box = layout.switches[n];
             const isText = box.pod !== undefined || (box.width * p.scale >= BARE && box.height * p.scale >= TWO_ROWS);
-            loads[n] = (isText ? 8 * state.crossings[n] : 0) + Ground.levelOf(state.crossings[n], p.mostCrossings);
+            loads[n] = (isText ? 8 * state.crossings[n] : 0) + p.levels[state.crossings[n]];
         }
         return { loads, places: state.places.slice(), spots: state.spots.slice(), newest: state.newest.slice(), ...hostsOf(p) };
     };
@@ -47,30 +50,43 @@ globalThis.Drawing = (() => {
         return [counts[placed], counts[granted], counts[freed], counts[moved], isLoads ? counts[crossed] : 0].join(" ");
     };
 
-    // The places on the canvas where two looks differ, which are the boxes of what changed; all of them where these are no more than `most`.
-    // A box of a folded pod is `alone` where its place meets no other box.
-    const changes = (p, before, now, most) => {
-        const boxes = new Set();
-        now.places.forEach((place, number) => {
-            if (place !== before.places[number] || now.loads[number] !== before.loads[number]) boxes.add(p.layout.switches[number]);
-        });
+    // an act that draws a box on a clear place: it has no point in common with another
+    const anew = (p, box, draw) => () => {
+        p.pen.c.clearRect(...p.pen.placeOf(p.shown(box)));
+        draw();
+    };
+
+    const isSmall = (p, box) => box.pod === undefined && box.width * p.scale < BARE;
+
+    // where two looks differ, as acts that draw it anew: of each box that is another one, where a small one of a switch covers what it was
+    const changes = (p, before, now) => {
+        const [boxes, small] = [new Map(), []];
+        const { switches, cells } = p.layout;
+        for (let number = 0; number < switches.length; number++) {
+            if (now.places[number] === before.places[number] && now.loads[number] === before.loads[number]) continue;
+            const box = switches[number];
+            if (isSmall(p, box)) small.push(p.fabric.switches[number]);
+            else if (!boxes.has(box)) boxes.set(box, box.pod === undefined ? () => oneSwitch(p, p.fabric.switches[number]) : () => foldedBox(p, now, box));
+        }
         now.spots.forEach((spot, host) => {
             if (spot === before.spots[host] && now.newest[host] === before.newest[host]) return;
-            boxes.add(p.layout.cells.get(spot)).add(p.layout.cells.get(before.spots[host]));
+            for (const one of [spot, before.spots[host]]) {
+                const box = cells.get(one);
+                boxes.set(box, box.pod === undefined ? () => atPort(p, now, one) : () => foldedBox(p, now, box));
+            }
         });
-        const isApart = p.layout.apart * p.scale >= 2 * BESIDE + 2;
-        return boxes.size > most ? [...boxes] : [...boxes].map(box => {
-            const { x, y, width, height } = p.shown(box);
-            const place = { x: x - width / 2 - BESIDE, y: y - height / 2 - BESIDE, width: width + 2 * BESIDE, height: height + 2 * BESIDE };
-            return { ...place, alone: isApart && box.pod !== undefined ? box : null };
-        });
+        const acts = [...boxes].map(([box, draw]) => anew(p, box, draw));
+        return acts.length + small.length === 0 ? [] : [() => {
+            smallSwitches(p, small);
+            p.pen.together(() => acts.forEach(draw => draw()));
+        }];
     };
 
     const fillOf = (p, level) => (level === null ? p.colour.paper : [p.colour.edge, p.colour.aggregation, p.colour.core][level]);
 
     // the colour of a box by a load, and of the texts in it
     const loadColours = (p, count) => {
-        const level = Ground.levelOf(count, p.mostCrossings);
+        const level = p.levels[count];
         return level === 0 ? [p.colour.paper, p.colour.ink] : [p.colour[`load${level}`], level > 2 ? p.colour.loadink : p.colour.ink];
     };
 
@@ -78,7 +94,8 @@ globalThis.Drawing = (() => {
         const { pen, colour, state } = p;
         const room = at.width - 4;
         const names = s.level === 2 ? [s.label] : [s.label, s.label.replace(/^.*\./, ".")];
-        const last = p.isLoads ? [Words.plural(state.crossings[s.number], "frame"), `${state.crossings[s.number]}`] : placeTexts(place);
+        const loads = [Words.plural(state.crossings[s.number], "frame"), `${state.crossings[s.number]}`];
+        const last = p.isLoads ? loads : p.isOfBridge ? [] : placeTexts(place);
         if (at.height >= THREE_ROWS) {
             const size = Math.min(13, at.height / 3.5);
             pen.write(names, at.x, at.y - at.height * 0.27, room, size, ink, true);
@@ -90,25 +107,44 @@ globalThis.Drawing = (() => {
         } else pen.write(names, at.x, at.y + 0.5, room, Math.min(11, Math.max(6.5, at.height * 0.8)), ink, true);
     };
 
+    // the colour of the box of a switch, which is another one where it is too small for an outline, and of the texts in it
+    const switchColours = (p, s, { level }, isBare) => {
+        if (isBare && level === null) return [p.colour.muted];
+        if (!p.isLoads) return [fillOf(p, level), p.colour.ink];
+        const count = p.state.crossings[s.number];
+        return isBare && count === 0 ? [p.colour.link] : loadColours(p, count);
+    };
+
     const oneSwitch = (p, s, isMarked = false) => {
         const at = p.shown(p.layout.switches[s.number]);
         if (!p.isSeen(at)) return;
-        const place = At.place(p.state, s.number);
-        const [fill, ink] = p.isLoads ? loadColours(p, p.state.crossings[s.number]) : [fillOf(p, place.level), p.colour.ink];
-        frame(p, at, fill, place.level !== null, At.isPlaced(place), isMarked);
-        if (at.width >= BARE || isMarked) switchTexts(p, s, at, place, ink);
+        const place = placeOf(p, s);
+        const isBare = at.width < BARE && !isMarked;
+        const [fill, ink] = switchColours(p, s, place, isBare);
+        if (isBare) {
+            p.pen.fillSmall([at], fill);
+            return;
+        }
+        frame(p, at, fill, place.level !== null, isReady(p, place), isMarked);
+        switchTexts(p, s, at, place, ink);
+    };
+
+    // small boxes of switches, those of a colour together
+    const smallSwitches = (p, switches) => {
+        const boxes = new Map(); // by their colour
+        for (const s of switches) {
+            const at = p.shown(p.layout.switches[s.number]);
+            if (!p.isSeen(at)) continue;
+            const [fill] = switchColours(p, s, placeOf(p, s), true);
+            if (boxes.has(fill)) boxes.get(fill).push(at);
+            else boxes.set(fill, [at]);
+        }
+        for (const [fill, places] of boxes) p.pen.fillSmall(places, fill);
     };
 
     const frame = (p, at, fill, isKnown, isThick, isMarked) => {
-        const { c } = p.pen;
-        const { ink, muted, now } = p.colour;
-        if (at.width < BARE && !isMarked) {
-            c.fillStyle = isKnown ? fill : muted;
-            c.fillRect(at.x - at.width / 2, at.y - at.height / 2, at.width, at.height);
-            return;
-        }
         const width = isMarked ? 3 : isThick ? 1.7 : 0.9;
-        p.pen.box(at, fill, isMarked ? now : ink, width, isKnown ? [] : [3, 3]);
+        p.pen.box(at, fill, isMarked ? p.colour.now : p.colour.ink, width, isKnown ? [] : [3, 3]);
     };
 
     // a port for hosts at which none stands
@@ -132,16 +168,20 @@ globalThis.Drawing = (() => {
         const at = p.shown(layout.cells.get(spot));
         if (!p.isSeen(at)) return;
         const address = p.run.addresses[p.state.newest[host.number]];
-        const isHere = address !== undefined && address.edge * p.fabric.k + address.port === spot;
+        const isHere = p.isOfBridge || (address !== undefined && address.edge * p.fabric.k + address.port === spot);
+        if (at.width < BARE && !isMarked) {
+            pen.fillSmall([at], isHere ? colour.host : colour.muted);
+            return;
+        }
         frame(p, at, isHere ? colour.host : colour.paper, isHere, isHere, isMarked);
-        if (at.width < BARE && !isMarked) return;
         const rows = at.height > 32 ? 3 : at.height > 17 ? 2 : 1;
         const size = Math.min(12, at.height / (rows + 0.4));
         const room = at.width - 4;
         const lineAt = n => at.y + 0.5 + (n - (rows - 1) / 2) * (at.height / (rows + 0.6));
         pen.write([host.name], at.x, lineAt(0), room, size, colour.ink, true);
-        if (rows > 1) pen.write(addressTexts(address, isHere), at.x, lineAt(1), room, size * 0.95, colour.ink);
-        if (rows > 2) pen.write([host.ip], at.x, lineAt(2), room, size * 0.85, colour.muted);
+        const addresses = p.isOfBridge ? [host.ip, host.ip.replace(/^\d+\.\d+/, "")] : addressTexts(address, isHere);
+        if (rows > 1) pen.write(addresses, at.x, lineAt(1), room, size * 0.95, colour.ink);
+        if (rows > 2 && !p.isOfBridge) pen.write([host.ip], at.x, lineAt(2), room, size * 0.85, colour.muted);
     };
 
     // what a folded pod's box of one level, of which switches are named by this letter, says of them
@@ -150,8 +190,8 @@ globalThis.Drawing = (() => {
         const letter = box.of;
         const first = (letter === "a" ? k + box.pod : box.pod) * (k / 2);
         const numbers = Array.from({ length: k / 2 }, (_, n) => first + n);
-        const places = numbers.map(number => At.place(state, number));
-        const placed = places.filter(At.isPlaced).length;
+        const places = numbers.map(number => placeOf(p, p.fabric.switches[number]));
+        const placed = places.filter(place => isReady(p, place)).length;
         const known = places.find(place => place.level !== null);
         const most = Ground.largest(numbers.map(number => state.crossings[number]));
         const total = numbers.reduce((sum, number) => sum + state.crossings[number], 0);
@@ -159,7 +199,8 @@ globalThis.Drawing = (() => {
         pen.box(at, fill, colour.ink, placed === numbers.length ? 1.7 : 0.9, known ? [] : [3, 3]);
         if (at.width < 18) return;
         pen.write([`${letter}${box.pod}.x`, `${letter}${box.pod}`, letter], at.x, at.y - at.height * 0.2, at.width - 3, 11, ink, true);
-        const count = p.isLoads ? [`${total}`] : [`${placed} of ${numbers.length}`, `${placed}/${numbers.length}`, `${placed}`];
+        const ready = p.isOfBridge ? [`${placed} bridges`, `${placed}`] : [`${placed} of ${numbers.length}`, `${placed}/${numbers.length}`, `${placed}`];
+        const count = p.isLoads ? [`${total}`] : ready;
         pen.write(count, at.x, at.y + at.height * 0.24, at.width - 3, 9, ink);
     };
 
@@ -192,23 +233,27 @@ globalThis.Drawing = (() => {
         });
     };
 
-    // the boxes of ports for hosts, and of the hosts at them; those of folded pods are in these
-    const ports = (p, { hostAt }) => {
-        const { layout, fabric } = p;
-        if (layout.folded.length === fabric.k) return;
-        for (const [spot, box] of layout.cells) {
-            if (box.pod !== undefined || !p.isSeen(p.shown(box))) continue;
-            if (hostAt[spot] >= 0) oneHost(p, fabric.hosts[hostAt[spot]]);
-            else port(p, spot, box);
-        }
+    // the box of a port for hosts, or of the host at it
+    const atPort = (p, { hostAt }, spot) => {
+        if (hostAt[spot] >= 0) oneHost(p, p.fabric.hosts[hostAt[spot]]);
+        else port(p, spot, p.layout.cells.get(spot));
     };
 
-    const draw = (p, look) => {
+    // those in open pods
+    const ports = (p, look) => {
+        const { layout, fabric } = p;
+        if (layout.folded.length === fabric.k) return;
+        for (const [spot, box] of layout.cells) if (box.pod === undefined && p.isSeen(p.shown(box))) atPort(p, look, spot);
+    };
+
+    const draw = (p, look) => p.pen.together(() => {
         folded(p, look);
         groups(p);
-        for (const s of p.fabric.switches) if (p.layout.switches[s.number].pod === undefined) oneSwitch(p, s);
+        const open = p.fabric.switches.filter(s => p.layout.switches[s.number].pod === undefined);
+        smallSwitches(p, open.filter(s => isSmall(p, p.layout.switches[s.number])));
+        for (const s of open) if (!isSmall(p, p.layout.switches[s.number])) oneSwitch(p, s);
         ports(p, look);
-    };
+    });
 
     // A switch or a host of a folded pod by its name, at a place of the canvas.
     const named = (p, place, at, isMarked) => {
@@ -219,5 +264,5 @@ globalThis.Drawing = (() => {
         pen.write([p.nameOf(place)], at.x, at.y + 0.5, at.width - 4, 11, colour.ink, true);
     };
 
-    return { draw, drawAlone: foldedBox, lookOf, keyOf, changes, oneSwitch, oneHost, named, placeTexts };
+    return { draw, lookOf, keyOf, changes, oneSwitch, oneHost, named, placeTexts };
 })();

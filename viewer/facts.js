@@ -22,12 +22,14 @@ globalThis.Facts = (() => {
         return here.length === 0 ? ["none"] : [...here.slice(0, 40), ...more];
     };
 
+    const LINKS = ["live", "failed", "none of the tree"];
+
     const portOf = (run, state, s, port) => {
         const number = s.ports[port];
         if (number >= 0) {
             const link = run.fabric.links[number];
             const other = link.a === s.number ? link.b : link.a;
-            return [place(run, other), state.failed[number] === 1 ? "failed" : "live"];
+            return [place(run, other), LINKS[state.failed[number]]];
         }
         const found = state.spots.indexOf(s.number * run.fabric.k + port);
         return found < 0 ? ["for a host, none is there"] : ["host", host(run, found)];
@@ -37,11 +39,11 @@ globalThis.Facts = (() => {
         const s = run.fabric.switches[number];
         const known = At.place(state, number);
         const pod = s.pod === null ? "" : `, in pod ${s.pod} of the wiring`;
+        const knows = [["knows", Words.placeText(known)], ["placed", At.isPlaced(known) ? "yes" : "no"]];
         return [
             ["id", `${s.id}`],
             ["stands", `${Fabric.LEVELS[s.level]} switch${pod}`],
-            ["knows", Words.placeText(known)],
-            ["placed", At.isPlaced(known) ? "yes" : "no"],
+            ...(Journal.isOfBridge(run) ? [] : knows),
             ["frames", ...flyingAt(run, state, { switch: number })],
             ...s.ports.map((_, port) => [`port ${port}`, ...portOf(run, state, s, port)]),
         ];
@@ -59,12 +61,13 @@ globalThis.Facts = (() => {
         const { mac, ip } = run.fabric.hosts[number];
         const spot = At.spot(run.fabric, state, number);
         const granted = addressFacts(run, state, number);
+        const none = Journal.isOfBridge(run) ? [] : [["pseudo address", "none was granted so far"]];
         return [
             ["own address", mac],
             ["IP address", ip],
             ["stands at", `port ${spot.port} of`, place(run, spot.edge)],
             ["its frames", ...flyingAt(run, state, { host: number })],
-            ...(granted.length > 0 ? granted : [["pseudo address", "none was granted so far"]]),
+            ...(granted.length > 0 ? granted : none),
         ];
     };
 

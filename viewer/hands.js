@@ -199,6 +199,7 @@
     const nameOf = found => {
         if (found.pod !== undefined) return `pod ${found.pod}: ${picture.open.has(found.pod) ? "fold" : "open"} it`;
         if (found.host !== undefined) return `${Facts.name(page.run, found)}, ${page.run.fabric.hosts[found.host].ip}`;
+        if (picture.isOfBridge) return Facts.name(page.run, found);
         return `${Facts.name(page.run, found)}, ${Drawing.placeTexts(At.place(page.state, found.switch))[0].replace("?", "place not known")}`;
     };
     Pointers.on($("canvas"), picture, {

@@ -407,9 +407,11 @@ globalThis.Journal = (() => {
 
     // Whether a learning bridge played the run: it takes links out before the first line of the script.
     const isOfBridge = run => run.count > 0 && run.kind[0] === KIND.linkdown;
+    // whether entry n, that a link fails, is one of these
+    const isLeftOut = (run, n) => isOfBridge(run) && (run.scriptLines.length === 0 || n < run.scriptLines[0]);
 
     return {
         WORDS, KIND, CAUSES, SKIPS, read, text, frame, hasFrame, frameOf, beginning, ofLine, unpackPlace,
-        grantAt, isFreed, registrationAt, isOfBridge,
+        grantAt, isFreed, registrationAt, isOfBridge, isLeftOut,
     };
 })();

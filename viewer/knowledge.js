@@ -56,6 +56,7 @@ globalThis.Knowledge = (() => {
     };
 
     const summary = ({ run, placings: entries, grants }, list, now) => {
+        if (Journal.isOfBridge(run)) return list === "placed" ? "learning bridges have no places" : "learning bridges grant no addresses";
         if (list === "placed") {
             return `${Stories.happened(entries, now)} of ${Words.plural(run.fabric.switches.length, "switch", "switches")} are placed`;
         }

@@ -3,18 +3,20 @@
 // Where a step changes what is seen at a few places, these are drawn anew alone, so that it costs little in a large fabric too. Where it
 // changes thousands of lines they are drawn coarsely, until no other step comes for a while.
 globalThis.Layers = (() => {
-    // Of more places than this all is drawn anew.
-    const MOST_OF_GROUND = 40;
-    const MOST_OF_BOXES = 60;
+    const MOST_OF_GROUND = 40; // of more places than this all of the ground is drawn anew
     const ALL = null;
 
     class Layer {
         // `below` is the layer that it has a copy of below what it draws; a layer without one is clear where nothing is drawn.
         constructor(drawer, most, below, isClear) {
             this.canvas = document.createElement("canvas");
+            this.canvas.className = "layer";
+            this.canvas.setAttribute("aria-hidden", "true");
             this.context = this.canvas.getContext("2d", { alpha: isClear });
             this.pen = Pen.of(this.context);
-            Object.assign(this, { drawer, most, below, isClear, view: "", key: "", look: null, raster: null, isCoarse: false });
+            Object.assign(this, { drawer, most, below, isClear, view: "", key: "", look: null, isCoarse: false });
+            Object.assign(this, { raster: null, rasterKey: "" }); // by what it is drawn coarsely, and of what
+            Object.assign(this, { draft: null, parts: [] }); // on which it is finished, and what is to be drawn there still
         }
 
         // all is drawn anew the next time
@@ -37,65 +39,88 @@ globalThis.Layers = (() => {
 
         // brings it up to now
         renew(p, view, size) {
-            const { canvas, pen, most, drawer } = this;
+            const { canvas, pen, drawer } = this;
             const places = this.stale(p, view);
             const { pen: former } = p;
             p.pen = pen;
-            const isAll = places === ALL || places.length > (this.isCoarse ? 0 : most);
+            const isAll = places === ALL || (this.isCoarse && places.length > 0);
             if (isAll) {
                 if (canvas.width !== p.canvas.width) canvas.width = p.canvas.width;
                 if (canvas.height !== p.canvas.height) canvas.height = p.canvas.height;
                 this.isCoarse = drawer.coarse !== undefined && drawer.coarse.isWanted(p);
+                this.parts = [];
                 if (this.isCoarse) this.drawCoarsely(p, view, size);
                 else this.draw(p, size);
             } else for (const place of places) this.drawPlace(p, size, place);
             p.pen = former;
         }
 
-        // draws a place anew: the box that is alone there, or all that is in sight there
+        // draws a place anew: by an act that does so alone, or all that is in sight there
         drawPlace(p, size, place) {
-            const { context, drawer, look } = this;
-            const { x, y, width, height } = whole(place, size.ratio);
-            if (place.alone) {
-                context.clearRect(x, y, width, height);
-                drawer.drawAlone(p, look, place.alone);
-            } else p.within({ x, y, width, height }, context, () => this.draw(p, size));
+            if (typeof place === "function") place();
+            else p.within(whole(place, size.ratio), this.context, () => this.draw(p, size));
         }
 
         // draws what is in sight, its many lines by a raster
         drawCoarsely(p, view, { ratio }) {
-            const { context, below, drawer: { coarse }, look, pen } = this;
-            if (!this.raster) this.raster = Raster.make();
-            p.pen = this.raster;
-            this.raster.begin(below.context, view, ratio, p.colour.paper, () => coarse.begin(p));
-            coarse.draw(p, look);
-            p.pen = pen;
-            context.putImageData(this.raster.image, 0, 0);
+            const { context, below, drawer: { coarse }, look } = this;
+            const key = `${view} ${coarse.keyOf(p)}`;
+            if (this.raster === null || this.rasterKey !== key) {
+                this.raster = Raster.of(below.context, ratio);
+                this.rasterKey = key;
+                coarse.begin(p, look, this.raster);
+            }
+            coarse.draw(p, look, this.raster);
+            this.raster.put(context);
             p.ready(ratio);
             coarse.above(p, look);
         }
 
-        // draws as it is to stay what was drawn coarsely
+        // Draws the next part of what is to stay in place of what was drawn coarsely, on a canvas of its own until the last one.
         finish(p, size) {
             const { pen: former } = p;
-            p.pen = this.pen;
-            this.draw(p, size);
-            this.isCoarse = false;
+            if (this.draft === null) this.draft = draftOf();
+            const { canvas, context, pen } = this.draft;
+            p.pen = pen;
+            if (this.parts.length === 0) {
+                [canvas.width, canvas.height] = [this.canvas.width, this.canvas.height];
+                this.prepare(p, size);
+                this.parts = this.drawer.partsOf(p, this.look);
+            } else this.parts.shift()();
+            context.getImageData(0, 0, 1, 1); // so that the part is drawn now, and not with all others behind the last one
             p.pen = former;
+            if (this.parts.length > 0) return;
+            this.context.setTransform(1, 0, 0, 1, 0, 0);
+            this.context.drawImage(canvas, 0, 0);
+            this.isCoarse = false;
+        }
+
+        // begins to draw with the picture's pen, on a copy of what is below
+        prepare(p, { width, height, ratio }) {
+            const { below, isClear } = this;
+            if (!below) {
+                p.prepare(width, height, ratio, isClear);
+                return;
+            }
+            p.pen.c.setTransform(1, 0, 0, 1, 0, 0);
+            p.pen.c.drawImage(below.canvas, 0, 0);
+            p.ready(ratio);
         }
 
         // draws what is in sight
-        draw(p, { width, height, ratio }) {
-            const { context, below, isClear } = this;
-            p.prepare(width, height, ratio, isClear);
-            if (below) {
-                context.setTransform(1, 0, 0, 1, 0, 0);
-                context.drawImage(below.canvas, 0, 0);
-                context.setTransform(ratio, 0, 0, ratio, 0, 0);
-            }
+        draw(p, size) {
+            this.raster = null;
+            this.prepare(p, size);
             this.drawer.draw(p, this.look);
         }
     }
+
+    // a canvas that is looked at once a part is drawn
+    const draftOf = () => {
+        const canvas = document.createElement("canvas");
+        const context = canvas.getContext("2d", { alpha: false, willReadFrequently: true });
+        return { canvas, context, pen: Pen.of(context) };
+    };
 
     // the place in whole points of the screen
     const whole = ({ x, y, width, height }, ratio) => {
@@ -104,11 +129,14 @@ globalThis.Layers = (() => {
         return { x: left / ratio, y: top / ratio, width: (right - left) / ratio, height: (bottom - top) / ratio };
     };
 
+    // The ground lies below the canvas of a picture, on which there is a copy of the boxes below what moves: a browser without a graphics card
+    // takes a copy of each canvas that is on the page in each step, whether it has changed or not.
     class Layers {
-        constructor() {
+        constructor(canvas) {
             this.bed = new Layer(Ground.bed, 0, null, false);
             this.ground = new Layer(Ground, MOST_OF_GROUND, this.bed, false);
-            this.boxes = new Layer(Drawing, MOST_OF_BOXES, null, true);
+            this.boxes = new Layer(Drawing, 0, null, true);
+            canvas.before(this.ground.canvas);
         }
 
         // all is drawn anew the next time
@@ -125,13 +153,20 @@ globalThis.Layers = (() => {
             if (this.ground.isCoarse) this.ground.finish(p, size);
         }
 
-        // brings all up to now, and answers the canvases that have the fabric, the lower one first
+        // the boxes on a canvas, and nothing else
+        putBoxes(context) {
+            context.setTransform(1, 0, 0, 1, 0, 0);
+            context.globalCompositeOperation = "copy";
+            context.drawImage(this.boxes.canvas, 0, 0);
+            context.globalCompositeOperation = "source-over";
+        }
+
+        // brings all up to now
         bring(p, size) {
             const view = [...Object.values(size), p.scale, p.x, p.y, p.isLoads, p.scene.subject !== null].join(" ");
             for (const layer of [this.bed, this.ground, this.boxes]) layer.renew(p, view, size);
-            return [this.ground.canvas, this.boxes.canvas];
         }
     }
 
-    return { make: () => new Layers() };
+    return { make: canvas => new Layers(canvas) };
 })();

@@ -10,7 +10,7 @@ globalThis.Lines = (() => {
     const faded = (p, count) => Math.max(0.1, Math.min(1, Math.min(MANY, p.width / 6) / count));
 
     // The lines of a layout: `of` has the line of each link, `ends` the four ends of each line in units of the drawing, `isOne` whether
-    // it is one link, `isFolded` whether none is, and `hosts` those to hosts.
+    // it is one link, `isFolded` whether none is, `hosts` those to hosts, and `hostsTop` what none of these is above.
     const ofLayout = (fabric, layout) => {
         const { switches, pods, groups } = layout;
         const h = fabric.k / 2;
@@ -32,7 +32,8 @@ globalThis.Lines = (() => {
             of[n] = bundles.get(key);
         });
         const isFolded = isOne.every(one => one === 0);
-        return { of, ends: Float64Array.from(ends), isOne: Uint8Array.from(isOne), isFolded, hosts: hostsOf(fabric, layout), view: "", shown: null };
+        const hostsTop = Math.min(...switches.slice(0, fabric.k * h).map(edge => edge.y));
+        return { of, ends: Float64Array.from(ends), isOne: Uint8Array.from(isOne), isFolded, hosts: hostsOf(fabric, layout), hostsTop, view: "", shown: null };
     };
 
     // the line from each port for hosts in an open pod to its edge switch: where it is across, and its two ends down
@@ -94,5 +95,16 @@ globalThis.Lines = (() => {
         pen.endLines();
     };
 
-    return { shown, draw, faded, isCrossing };
+    // draws those of the lines in sight that have these places among them
+    const drawSome = (p, ink, width, places) => {
+        const { pen, sight } = p;
+        const { ends } = shown(p);
+        pen.beginLines(ink, width);
+        for (const n of places) {
+            if (isCrossing(sight, ends, 4 * n)) pen.line(ends[4 * n], ends[4 * n + 1], ends[4 * n + 2], ends[4 * n + 3]);
+        }
+        pen.endLines();
+    };
+
+    return { shown, draw, drawSome, faded, isCrossing };
 })();

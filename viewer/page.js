@@ -8,7 +8,6 @@ globalThis.Page = (() => {
         files: {}, run: null, states: null, script: null, state: null,
         subject: null, story: null, // whose story is shown, and its entries
         known: null, // what the Fabric list shows
-        rules: "", // those that stand below the sentence
         followers: [], // called with each new state: what goes with this page
         playing: 0, owed: 0, way: 1, // when the last picture was made while playing; entries that are due; 1 is on, -1 back
         revealed: -1, // the entry whose place was brought into sight
@@ -17,65 +16,68 @@ globalThis.Page = (() => {
 
     const BEGINNING = "The beginning: nothing has happened. No switch knows more than its id and its ports.";
 
-    const row = ([name, ...parts]) => {
-        const tr = document.createElement("tr");
-        const th = document.createElement("th");
-        th.textContent = name;
-        const td = document.createElement("td");
-        td.className = "wide";
-        td.colSpan = 2;
-        td.append(...parts.flatMap(part => [typeof part === "string" ? part : button(part), " "]));
-        tr.append(th, td);
-        return tr;
-    };
-
-    const button = ({ text, subject }) => {
-        const element = document.createElement("button");
-        element.type = "button";
-        element.className = "link";
+    const elementOf = (name, text) => {
+        const element = document.createElement(name);
         element.textContent = text;
-        element.title = `the story of ${Facts.name(page.run, subject)}`;
-        element.addEventListener("click", () => tell(subject));
         return element;
     };
 
-    const headerRow = cells => {
+    // parts of a text: one in the letters of a program, and a button that shows a story
+    const CODE = { name: "code", tag: "CODE", make: () => document.createElement("code"), put: (element, { code }) => Texts.put(element, code) };
+    const BUTTON = {
+        name: "subject",
+        tag: "BUTTON",
+        make: () => {
+            const element = elementOf("button", "");
+            element.type = "button";
+            element.className = "link";
+            element.addEventListener("click", () => tell(element.subject));
+            return element;
+        },
+        put: (element, { text, subject }) => {
+            Texts.put(element, text);
+            element.subject = subject;
+            element.title = `the story of ${Facts.name(page.run, subject)}`;
+        },
+    };
+    const putParts = (element, parts) => Texts.putParts(element, parts, [CODE, BUTTON]);
+
+    const rowOf = (cells, wide) => {
         const tr = document.createElement("tr");
-        cells.forEach((cell, n) => {
-            const td = document.createElement(n === 0 ? "th" : "td");
-            td.textContent = cell;
-            tr.append(td);
-        });
+        tr.append(document.createElement("th"), ...Array.from({ length: cells - 1 }, () => document.createElement("td")));
         tr.lastChild.className = "wide";
+        tr.lastChild.colSpan = wide;
         return tr;
     };
 
     const capital = text => text[0].toUpperCase() + text.slice(1);
 
-    // Two tables with titles: of whose story is shown, and of a frame's header. They stay, and so do rows that are as they were.
-    const section = makeRow => {
+    // Two tables with titles: of whose story is shown, where a row is a name and parts, and of a frame's header, where it is three texts.
+    // They stay, and so do rows and what is in them.
+    const section = (makeRow, putRow) => {
         const [title, table] = [document.createElement("h2"), document.createElement("table")];
         $("facts").append(title, table);
-        return { title, table, makeRow, run: null, keys: [] };
+        return { title, table, makeRow, putRow, keys: [] };
     };
-    const [about, header] = [section(row), section(headerRow)];
+    const about = section(() => rowOf(2, 2), (tr, [name, ...parts]) => {
+        Texts.put(tr.firstChild, name);
+        putParts(tr.lastChild, parts.flatMap(part => [part, " "]));
+    });
+    const header = section(() => rowOf(3, 1), (tr, cells) => cells.forEach((cell, n) => Texts.put(tr.children[n], cell)));
 
-    // `title` is a text, and behind it a button where there is one
-    const fillSection = (shown, title, rows) => {
-        const { table, makeRow, keys } = shown;
-        shown.title.hidden = table.hidden = rows.length === 0;
-        const isOther = shown.run !== page.run;
-        shown.run = page.run;
-        [title, ...rows].forEach((parts, n) => {
-            const key = JSON.stringify(parts);
-            if (!isOther && keys[n] === key) return;
+    // `title` are parts
+    const fillSection = ({ title: heading, table, makeRow, putRow, keys }, title, rows) => {
+        heading.hidden = table.hidden = rows.length === 0;
+        putParts(heading, title);
+        rows.forEach((row, n) => {
+            const key = JSON.stringify(row);
+            if (n === table.rows.length) table.append(makeRow());
+            else if (keys[n] === key) return;
             keys[n] = key;
-            if (n === 0) shown.title.replaceChildren(...parts.flatMap(part => (typeof part === "string" ? [part] : [" ", button(part)])));
-            else if (n > table.rows.length) table.append(makeRow(parts));
-            else table.rows[n - 1].replaceWith(makeRow(parts));
+            putRow(table.rows[n], row);
         });
         while (table.rows.length > rows.length) table.lastChild.remove();
-        keys.length = rows.length + 1;
+        keys.length = rows.length;
     };
 
     const drawFacts = () => {
@@ -85,25 +87,16 @@ globalThis.Page = (() => {
         const id = subject && subject.frame !== undefined ? subject.frame : now;
         const { title, rows } = (id > 0 && Facts.header(run, state, id)) || { title: "", rows: [] };
         const isTold = subject && subject.frame === id;
-        fillSection(header, isTold || rows.length === 0 ? [title] : [title, { text: "its story", subject: { frame: id } }], rows);
-    };
-
-    const elementOf = (name, text) => {
-        const element = document.createElement(name);
-        element.textContent = text;
-        return element;
+        fillSection(header, isTold || rows.length === 0 ? [title] : [`${title} `, { text: "its story", subject: { frame: id } }], rows);
     };
 
     // the rules behind the entry of now, each as what the table of rules says and the files that it stands in
     const drawRule = n => {
         const rules = n < 0 ? [] : Rules.of(page.run, n);
         Texts.put($("look"), n < 0 ? "" : Rules.look(page.run, n));
-        const key = JSON.stringify(rules);
-        if (key === page.rules) return;
-        page.rules = key;
-        $("rule").replaceChildren(...rules.flatMap(({ says, files }, at) => {
-            const parts = says.split("`").map((text, i) => (i % 2 === 1 ? elementOf("code", text) : text));
-            const names = files.flatMap((file, i) => [i === 0 ? " in " : ", ", elementOf("code", file)]);
+        putParts($("rule"), rules.flatMap(({ says, files }, at) => {
+            const parts = says.split("`").map((text, i) => (i % 2 === 1 ? { code: text } : text));
+            const names = files.flatMap((file, i) => [i === 0 ? " in " : ", ", { code: file }]);
             return [at === 0 ? "Rule: " : "; ", ...parts, ...names];
         }));
     };
@@ -129,7 +122,8 @@ globalThis.Page = (() => {
         Texts.put($("counts"), countsText());
         $("slider").value = state.entry;
         $("entry").value = state.entry;
-        $("line").value = state.line < 0 ? "" : run.a[state.line];
+        const number = state.line < 0 ? "" : `${run.a[state.line]}`;
+        if ($("line").value !== number) $("line").value = number;
         $("back").disabled = $("first").disabled = $("lineback").disabled = state.entry === 0;
         $("next").disabled = $("last").disabled = $("lineon").disabled = state.entry === run.count;
         drawFacts();
@@ -162,7 +156,7 @@ globalThis.Page = (() => {
     };
 
     const fillLine = (element, n) => {
-        fillTexts(element, `${n + 1}  ${page.script[n]}`, Script.sentence(page.script[n]));
+        fillTexts(element, `${n + 1}  ${page.script[n]}`, Script.sentence(page.script[n], Journal.isOfBridge(page.run)));
         const entry = Journal.ofLine(page.run, n + 1);
         return entry < 0 || page.run.a[entry] !== n + 1 ? "idle" : "";
     };
@@ -367,9 +361,22 @@ globalThis.Page = (() => {
         go(n, n > page.state.entry);
     };
 
+    // What stands above the list keeps the height that it had, so that the list stays in its place from step to step.
+    const now = { height: 0, width: 0 };
+    const keepHeight = height => {
+        now.height = height;
+        $("now").style.setProperty("--kept", `${height}px`);
+    };
+    new ResizeObserver(() => {
+        const { offsetHeight: height, offsetWidth: width } = $("now");
+        if (height > now.height || width !== now.width) keepHeight(width === now.width ? height : 0);
+        now.width = width;
+    }).observe($("now"));
+
     // shows the story of a frame, a host or a switch alone; of null the whole journal again
     const tell = subject => {
         if (!page.run) return;
+        keepHeight(0);
         page.subject = subject;
         page.story = subject ? Stories.of(page.run, subject) : null;
         choose("journal");
@@ -407,6 +414,7 @@ globalThis.Page = (() => {
     const show = (opened, name) => {
         if (page.playing) stop();
         Object.assign(page, opened, { state: At.at(opened.states, 0), subject: null, story: null, known: null });
+        keepHeight(0);
         $("welcome").hidden = true;
         $("tools").hidden = false;
         picture.show(page.run);

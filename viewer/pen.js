@@ -10,6 +10,7 @@ globalThis.Pen = (() => {
     class Pen {
         constructor(context) {
             this.c = context;
+            this.waiting = null; // the texts that are written later
             this.begin(1);
         }
 
@@ -45,29 +46,72 @@ globalThis.Pen = (() => {
 
         // Writes the first of the texts that fits at nearly this size, else the last one smaller; nothing where that is too small.
         write(texts, x, y, width, size, ink, isBold = false) {
-            const { c } = this;
             if (size < SMALLEST) return;
             for (const [n, text] of texts.entries()) {
                 const fits = Math.min(size, size * width / Math.max(1, this.widthOf(text, size, isBold)));
                 if (fits < (n < texts.length - 1 ? Math.max(SMALLEST, 0.75 * size) : SMALLEST)) continue;
-                this.font(fits, isBold);
-                c.fillStyle = ink;
-                c.fillText(text, x, y);
+                const one = { text, x, y, size: fits, isBold, ink };
+                if (this.waiting) this.waiting.push(one);
+                else this.writeOne(one);
                 return;
             }
         }
 
-        // a box by its middle
+        writeOne({ text, x, y, size, isBold, ink }) {
+            const { c } = this;
+            this.font(size, isBold);
+            c.fillStyle = ink;
+            c.fillText(text, x, y);
+        }
+
+        // Draws by `act`, and behind it the texts that it writes, those of a font together: a browser takes long to change it.
+        together(act) {
+            this.waiting = [];
+            act();
+            const texts = this.waiting;
+            this.waiting = null;
+            const orderOf = ({ size, isBold }) => (isBold ? -1 : 1) * Math.floor(size * STEPS);
+            texts.sort((a, b) => orderOf(a) - orderOf(b)).forEach(text => this.writeOne(text));
+        }
+
+        // where a box is: on whole points of the screen, so that boxes beside each other have no point in common
+        placeOf({ x, y, width, height }) {
+            const grain = this.c.isText ? 100 : this.ratio;
+            const left = Math.round((x - width / 2) * grain) / grain;
+            const top = Math.round((y - height / 2) * grain) / grain;
+            return [left, top, Math.round((x + width / 2) * grain) / grain - left, Math.round((y + height / 2) * grain) / grain - top];
+        }
+
+        // Fills boxes that are too small for outlines: a point smaller, so that there is one between each and the next.
+        fillSmall(boxes, ink) {
+            const { c } = this;
+            const less = c.isText ? 0 : 1 / this.ratio;
+            c.fillStyle = ink;
+            for (const at of boxes) {
+                const [x, y, width, height] = this.placeOf(at);
+                c.fillRect(x, y, Math.max(less, width - less), Math.max(less, height - less));
+            }
+        }
+
+        // a box by its middle, with its outline in it
         box(at, fill, ink, width, dash) {
             const { c } = this;
-            c.beginPath();
-            c.roundRect(at.x - at.width / 2, at.y - at.height / 2, at.width, at.height, Math.min(5, at.width / 5));
-            c.fillStyle = fill;
-            c.fill();
-            c.strokeStyle = ink;
-            c.lineWidth = width;
+            const [x, y, wide, high] = this.placeOf(at);
+            const radius = Math.min(5, wide / 5);
+            const shape = (less, colour) => {
+                c.beginPath();
+                c.roundRect(x + less, y + less, Math.max(0, wide - 2 * less), Math.max(0, high - 2 * less), Math.max(0, radius - less));
+                c.fillStyle = colour;
+                c.fill();
+            };
+            if (dash.length === 0 && !c.isText) {
+                shape(0, ink); // two shapes take a browser less time than one and its outline
+                shape(width, fill);
+                return;
+            }
+            shape(width / 2, fill);
             c.setLineDash(dash);
-            c.stroke();
+            this.outline(ink, width);
             c.setLineDash([]);
         }
 

@@ -1,6 +1,6 @@
 "use strict";
 // A picture of a scene on a canvas: what part of the drawing is in sight, and where things are there. The fabric itself is kept
-// as a picture of its own, in Layers, so that a step draws its frames alone.
+// on canvases of its own, in Layers, so that a step draws its frames alone.
 globalThis.Picture = (() => {
     const NAMES = ["paper", "ink", "muted", "link", "pod", "edge", "aggregation", "core", "host", "now", "nowink", "failed",
         "load1", "load2", "load3", "load4", "load5", "loadink"];
@@ -9,10 +9,9 @@ globalThis.Picture = (() => {
     class Picture {
         constructor(canvas) {
             this.canvas = canvas;
-            this.screen = canvas.getContext("2d", { alpha: false });
-            this.layers = Layers.make();
-            this.pen = Pen.of(this.screen);
-            Object.assign(this, { width: 0, height: 0, scale: 1, x: 0, y: 0, progress: 1, isLoads: false, open: new Set(), touched: null, place: null });
+            this.layers = Layers.make(canvas);
+            this.pen = Pen.of(canvas.getContext("2d"));
+            Object.assign(this, { width: 0, height: 0, scale: 1, x: 0, y: 0, progress: 1, isLoads: false, isOfBridge: false, open: new Set(), touched: null, place: null });
             Object.assign(this, { run: null, fabric: null, layout: null, state: null, scene: null, names: new Map(), lines: null, finishing: 0 });
         }
 
@@ -33,6 +32,7 @@ globalThis.Picture = (() => {
         show(run) {
             this.run = run;
             this.fabric = run.fabric;
+            this.isOfBridge = Journal.isOfBridge(run);
             this.open = new Set();
             this.touched = null;
             this.arrange();
@@ -162,11 +162,11 @@ globalThis.Picture = (() => {
             return this.names.get(this.nameOf(place)) || this.nameBox(place);
         }
 
-        // from the upper edge of the lower end to the lower edge of the upper one
-        segmentOf(link) {
-            const { switches } = this.layout;
-            const [from, to] = [this.shown(switches[link.a]), this.shown(switches[link.b])];
-            return [from.x, from.y - from.height / 2, to.x, to.y + to.height / 2];
+        // the middle of the line by which a link is drawn
+        middleOf(link) {
+            const { of, ends } = this.lines;
+            const [x, y, toX, toY] = ends.subarray(4 * of[link], 4 * of[link] + 4);
+            return { x: ((x + toX) / 2 - this.x) * this.scale, y: ((y + toY) / 2 - this.y) * this.scale };
         }
 
         // its pen draws in the canvas's own points
@@ -190,28 +190,27 @@ globalThis.Picture = (() => {
         }
 
         draw() {
-            const { canvas, screen, width, height } = this;
+            const { canvas, width, height } = this;
             const ratio = window.devicePixelRatio || 1;
             if (canvas.width !== Math.round(width * ratio)) canvas.width = Math.round(width * ratio);
             if (canvas.height !== Math.round(height * ratio)) canvas.height = Math.round(height * ratio);
+            clearTimeout(this.finishing);
             if (!this.scene || width === 0 || height === 0) {
-                this.prepare(width, height, ratio);
+                this.prepare(width, height, ratio, true);
                 return;
             }
-            const fabric = this.layers.bring(this, { width, height, ratio });
-            clearTimeout(this.finishing);
+            this.layers.bring(this, { width, height, ratio });
             if (this.layers.isCoarse) this.finishing = setTimeout(() => this.finish(), REST);
-            screen.setTransform(1, 0, 0, 1, 0, 0);
-            for (const layer of fabric) screen.drawImage(layer, 0, 0); // the first covers all
+            this.layers.putBoxes(this.pen.c);
             this.ready(ratio);
             Traces.draw(this);
         }
 
-        // draws what was drawn coarsely as it is to stay
+        // draws what was drawn coarsely as it is to stay, part by part so that a step need not wait for all of it
         finish() {
             if (!this.scene || !this.layers.isCoarse) return;
             this.layers.finish(this, { width: this.width, height: this.height, ratio: window.devicePixelRatio || 1 });
-            this.draw();
+            if (this.layers.isCoarse) this.finishing = setTimeout(() => this.finish());
         }
 
         // draws all of it by another context, of this height at least, in the canvas's own points

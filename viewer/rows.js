@@ -8,7 +8,7 @@ globalThis.Rows = (() => {
     class Rows {
         constructor(box, fill, choose, role) {
             Object.assign(this, { box, fill, choose, role, count: 0, marked: -1, isNow: true });
-            Object.assign(this, { isCentred: false, shown: 0 }); // whether `show` scrolled, and where to
+            this.shown = 0; // where `show` left it
             Object.assign(this, { rows: [], first: 0, spare: [] }); // the rows from number `first` on, and those that are not wanted now
             this.what = null; // what they are filled of
             Object.assign(this, { top: -1, height: 0 }); // where it was drawn, and how high it was
@@ -23,10 +23,12 @@ globalThis.Rows = (() => {
             box.addEventListener("scroll", () => {
                 if (box.scrollTop !== this.top) this.draw();
             });
-            // It has another height, as where more stands above it: what was brought into sight stays there, unless somebody scrolled.
             new ResizeObserver(() => {
                 if (box.clientHeight === this.height) return;
-                if (this.marked >= 0 && box.scrollTop === this.shown) this.show(this.marked, this.isCentred);
+                if (this.marked >= 0 && box.scrollTop === this.shown) {
+                    this.keepMiddle();
+                    this.show(this.marked);
+                }
                 this.draw();
             }).observe(box);
             box.addEventListener("keydown", event => this.key(event));
@@ -117,13 +119,22 @@ globalThis.Rows = (() => {
             else box.removeAttribute("aria-activedescendant");
         }
 
-        // brings a row into sight, in the middle where it is out of it or is wanted there
-        show(n, isWanted = false) {
+        // brings a row into sight, in the middle where it is out of it
+        show(n) {
             const { box, ratio } = this;
             const from = box.scrollTop * ratio;
-            this.isCentred = isWanted || n * HEIGHT < from || (n + 1) * HEIGHT > from + box.clientHeight;
-            if (this.isCentred) box.scrollTop = Math.max(0, n * HEIGHT - box.clientHeight / 2) / ratio;
+            const isSeen = n * HEIGHT >= from && (n + 1) * HEIGHT <= from + box.clientHeight;
+            if (!isSeen) box.scrollTop = Math.max(0, n * HEIGHT - box.clientHeight / 2) / ratio;
             this.shown = box.scrollTop;
+        }
+
+        // Where it is lower or higher than it was drawn, as below a longer text, what was brought into sight stays as far from its middle, unless
+        // somebody scrolled since.
+        keepMiddle() {
+            const { box, height, shown, ratio } = this;
+            const { scrollTop, clientHeight } = box;
+            if (height === 0 || clientHeight === 0 || clientHeight === height || scrollTop !== shown || scrollTop === 0) return;
+            box.scrollTop += (height - clientHeight) / 2 / ratio;
         }
 
         // up and down choose the row before and the next one; of rows of a table none is chosen
@@ -141,9 +152,10 @@ globalThis.Rows = (() => {
             Object.assign(this, { count, marked, isNow, what });
             const long = `${Math.min(this.longest, LONGEST)}px`;
             if (long !== this.long) this.long = this.inner.style.height = long;
-            // it has grown since, and was not brought to the middle yet
-            const isOwed = this.isCentred && this.box.clientHeight !== this.height && this.box.scrollTop === this.shown;
-            if (marked >= 0) this.show(marked, isOwed);
+            if (marked >= 0) {
+                this.keepMiddle();
+                this.show(marked);
+            }
             this.draw();
         }
     }

@@ -1,19 +1,28 @@
 "use strict";
-// The rule behind an entry: the definitions and files that docs/RULES.md names for its line, and for the cause of a drop also
-// what to look at.
+// The rule behind an entry: the definitions and files that docs/RULES.md names for its line, on the fabric or on learning bridges, and for
+// the cause of a drop also what to look at.
 globalThis.Rules = (() => {
     const { KIND, CAUSES, WORDS } = Journal;
 
     // A row of the table: what its line or cause is, what defines it, and the files. In `Table` quotes stand for backticks.
     const cellsOf = line => line.split("|").slice(1, -1).map(cell => cell.trim());
     const fileOf = name => (name.endsWith(".rt") ? `crates/${name}` : `crates/${name.replace(/\/([^/]+)$/, "/specs/$1.antt")}`);
-    const ROWS = Table.trim().split("\n").map(cellsOf).map(([what, says, files]) => (
+    const isRow = cells => cells[2].includes("/"); // and no head of a table
+    const rowsOf = text => text.trim().split("\n").map(cellsOf).filter(isRow).map(([what, says, files]) => (
         { names: [...what.matchAll(/"([A-Za-z]+)/g)].map(found => found[1]), what, says, files: files.split(", ").map(fileOf) }));
+    const [OF_FABRIC, OF_BRIDGE] = [rowsOf(Table.fabric), rowsOf(Table.bridge)];
 
-    const rowOf = name => ROWS.find(({ names }) => names.includes(name)) || null;
+    const rowOf = name => OF_FABRIC.find(({ names }) => names.includes(name)) || null;
     const OF_WORD = WORDS.map(rowOf);
     const OF_CAUSE = CAUSES.map(rowOf);
-    const OF_EACH_CAUSE = ROWS.find(({ says }) => says.includes('"cause_of"')) || null;
+    // the causes among which a switch chooses, by what it knows; the others are those of links, hosts and the script
+    const OF_SWITCH = ["NotPlaced", "NoNextHop", "NoAddress", "Spent", "BadArp", "NoMember"];
+    const OF_EACH_CAUSE = OF_FABRIC.find(({ says }) => says.includes('"cause_of"')) || null;
+
+    // what learning bridges have a row of their own for, else that of the fabric
+    const bridgeRowOf = name => OF_BRIDGE.find(({ names }) => names.includes(name)) || rowOf(name);
+    const BRIDGE_OF_WORD = WORDS.map(bridgeRowOf);
+    const BRIDGE_OF_CAUSE = CAUSES.map(bridgeRowOf);
 
     // what to look at where a frame ended so
     const LOOK = {
@@ -33,24 +42,40 @@ globalThis.Rules = (() => {
         NoMember: "Look at the `join` and `leave` lines of the script for that group, and at whether the reports arrived.",
     };
     const BACK = "No loss: the tree of a group, or of a flood, reaches the sender's own switch too, and nobody else there is to have a copy.";
-    const BRIDGE = "A learning bridge floods what it has not learnt, and sends the rest by the port where it last heard the address.";
+    const LOOK_AT_BRIDGES = {
+        NoNextHop: "No loss, unless its host moved and has not sent since: it stands on the side of the tree from which the frame came, where a flood "
+            + "has reached it.",
+        HostGone: "Look at the frame's destination, and at where its host stands. A flood ends so at each port where that host does not stand, which "
+            + "is no loss; and a host that moved gets its frames at the old port until it sends.",
+        LinkDown: "Look at the link: the picture crosses it out. A flood ends so at each link that is none of the tree, which is no loss; where a "
+            + "link of the tree failed since, bridges find no other way.",
+        NoMember: "No loss: bridges flood what is for a group, and a host that has not joined it takes none of it.",
+    };
 
     const part = row => (row ? [{ says: row.says.replace(/"/g, "`"), files: row.files }] : []);
 
-    // The rules of entry n, as parts of what is said and the files that it stands in; of a line that the script's player
-    // writes there is none. A learning bridge has rules of its own, which that table does not have.
-    const of = (run, n) => {
-        const kind = run.kind[n];
-        if (Journal.isOfBridge(run)) return [];
-        const isDrop = kind === KIND.dropped;
-        return [...part(isDrop ? OF_CAUSE[run.b[n]] : OF_WORD[kind]), ...(isDrop ? part(OF_EACH_CAUSE) : [])];
+    const ofFabric = (run, n) => {
+        if (run.kind[n] !== KIND.dropped) return part(OF_WORD[run.kind[n]]);
+        const cause = run.b[n];
+        return [...part(OF_CAUSE[cause]), ...(OF_SWITCH.includes(CAUSES[cause]) ? part(OF_EACH_CAUSE) : [])];
     };
+
+    const ofBridge = (run, n) => {
+        const kind = run.kind[n];
+        if (kind === KIND.linkdown && !Journal.isLeftOut(run, n)) return part(OF_WORD[kind]);
+        return part(kind === KIND.dropped ? BRIDGE_OF_CAUSE[run.b[n]] : BRIDGE_OF_WORD[kind]);
+    };
+
+    // The rules of entry n, as parts of what is said and the files that it stands in; of a line that the script's player writes
+    // there is none.
+    const of = (run, n) => (Journal.isOfBridge(run) ? ofBridge(run, n) : ofFabric(run, n));
 
     const look = (run, n) => {
         if (run.kind[n] !== KIND.dropped) return "";
-        if (Journal.isOfBridge(run)) return BRIDGE;
-        return Words.isBack(run, n) ? BACK : LOOK[CAUSES[run.b[n]]];
+        const cause = CAUSES[run.b[n]];
+        if (Journal.isOfBridge(run)) return LOOK_AT_BRIDGES[cause] || LOOK[cause];
+        return Words.isBack(run, n) ? BACK : LOOK[cause];
     };
 
-    return { of, look, rowOf };
+    return { of, look, rowOf, bridgeRowOf };
 })();

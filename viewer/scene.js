@@ -37,7 +37,7 @@ globalThis.Scene = (() => {
             case KIND.registered: return "address registered";
             case KIND.placed: return "place learnt";
             case KIND.moved: return "moved here";
-            case KIND.linkdown: return "\u2715 link fails";
+            case KIND.linkdown: return Journal.isLeftOut(run, n) ? "left out" : "\u2715 link fails";
             case KIND.linkup: return "link repaired";
             case KIND.freed: return "address freed";
             default: return "";

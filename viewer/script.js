@@ -29,6 +29,11 @@ globalThis.Script = (() => {
         expect: ([what, ...rest]) => (Object.hasOwn(CHECKS, what) ? `it is checked that ${CHECKS[what](rest)}` : rest.join(" ")),
     };
 
+    // what a word asks for where learning bridges play
+    const ON_BRIDGES = {
+        settle: ([n]) => `sweeps until nothing waits in the queues, ${n} at most`,
+    };
+
     const CHECKS = {
         arrived: ([host, n]) => `${n} frames have arrived at host ${host}`,
         dropped: ([cause, n]) => `${n} frames were dropped as ${cause}`,
@@ -44,11 +49,12 @@ globalThis.Script = (() => {
 
     const wordsOf = line => line.replace(/#.*/, "").split(/[ \t]+/).filter(word => word !== "");
 
-    const sentence = line => {
+    const sentence = (line, isOfBridge = false) => {
         const [first, ...rest] = wordsOf(line);
         if (first === undefined) return "";
         const isWhole = rest.length > 0 || first === "restart";
-        return Object.hasOwn(SENTENCES, first) && isWhole ? SENTENCES[first](rest) : rest.join(" ");
+        const said = isOfBridge && Object.hasOwn(ON_BRIDGES, first) ? ON_BRIDGES : SENTENCES;
+        return Object.hasOwn(said, first) && isWhole ? said[first](rest) : rest.join(" ");
     };
 
     return { read, wordsOf, sentence };

@@ -25,24 +25,22 @@ globalThis.At = (() => {
         };
     };
 
-    const copy = state => ({
-        ...state,
-        places: state.places.slice(),
-        failed: state.failed.slice(),
-        spots: state.spots.slice(),
-        newest: state.newest.slice(),
-        crossings: state.crossings.slice(),
-        carried: state.carried.slice(),
-        flying: new Map(state.flying),
-        counts: state.counts.slice(),
-        causes: state.causes.slice(),
-    });
+    const LEFT_OUT = 2; // of a link in `failed`: it is none of the tree of learning bridges
+
+    // what a state has a row of numbers of
+    const ROWS = ["places", "failed", "spots", "newest", "crossings", "carried", "counts", "causes"];
+
+    const copy = state => ({ ...state, ...Object.fromEntries(ROWS.map(name => [name, state[name].slice()])) });
 
     // A mark holds its flying frames as a plain row of numbers, which takes less than a map.
-    const markOf = state => ({ ...copy({ ...state, flying: [] }), flying: Int32Array.from([...state.flying].flat()) });
+    const markOf = state => ({ ...copy(state), flying: Int32Array.from([...state.flying].flat()) });
 
-    const fromMark = mark => {
-        const state = copy({ ...mark, flying: [] });
+    // a mark as a state: as one that is used up, where there is one, whose rows are written anew
+    const fromMark = (mark, used) => {
+        const state = used || { ...copy(mark), flying: new Map() };
+        if (used) for (const name of ROWS) used[name].set(mark[name]);
+        [state.entry, state.line, state.rest] = [mark.entry, mark.line, mark.rest];
+        state.flying.clear();
         for (let i = 0; i < mark.flying.length; i += 2) state.flying.set(mark.flying[i], mark.flying[i + 1]);
         return state;
     };
@@ -68,7 +66,7 @@ globalThis.At = (() => {
             case KIND.settled:
             case KIND.unsettled: state.rest = n; break;
             case KIND.placed: state.places[a] = b; break;
-            case KIND.linkdown: state.failed[a] = 1; break;
+            case KIND.linkdown: state.failed[a] = Journal.isLeftOut(run, n) ? LEFT_OUT : 1; break;
             case KIND.linkup: state.failed[a] = 0; break;
             case KIND.moved: state.spots[a] = b * run.fabric.k + c; break;
             case KIND.granted: state.newest[b] = a; break;
@@ -111,11 +109,11 @@ globalThis.At = (() => {
         return marks[low];
     };
 
-    // The state once n entries have happened. `from`, where given, is a state that is used up: the next entries are played on it
-    // where that is shorter.
+    // The state once n entries have happened. `from`, where given, is a state of the same run that is used up, and becomes this one: the
+    // next entries are played on it where that is shorter.
     const at = (states, n, from = null) => {
         const mark = markBefore(states.marks, n);
-        const state = from && from.entry <= n && from.entry >= mark.entry ? from : fromMark(mark);
+        const state = from && from.entry <= n && from.entry >= mark.entry ? from : fromMark(mark, from);
         while (state.entry < n) step(states.journal, state);
         return state;
     };
@@ -158,5 +156,5 @@ globalThis.At = (() => {
         return Frames.read(Journal.frame(journal, Journal.beginning(journal, journal.a[n]))).destination;
     };
 
-    return { start, step, run, at, place, isPlaced, spot, where, past, newest, address };
+    return { LEFT_OUT, start, step, run, at, place, isPlaced, spot, where, past, newest, address };
 })();

@@ -1,6 +1,7 @@
 "use strict";
 // The tables of docs/RULES.md that lead from a line of a journal to its rule; viewer/take has made this file of it.
-globalThis.Table = String.raw`
+globalThis.Table = {
+    fabric: String.raw`
 | line | definition | file |
 |---|---|---|
 | "sent ID HOST HEX" | "sent_by_host": a host put a frame out, by "starting", "playing", "playing_raw", "retrying", "moving", "joining", "leaving" or "receiving" | pl_world/Changes, pl_host_rule/HostRule |
@@ -30,4 +31,14 @@ globalThis.Table = String.raw`
 | "NoMember" | "no_way"; at a host that has not joined "reception_noted" | pl_switch_rule/GroupForwarding, pl_world/OtherActs |
 | which of a switch's, by what it knows then, in their order: of a frame that came; of one that the switch made | "cause_of"; "cause_of_made" | pl_switch_rule/CauseOf |
 | all of them: which frames a step drops; what the journal shows | "dropped"; "CauseShows" | pl_world/Drops, pl_journal/Causes |
-`;
+`,
+    bridge: String.raw`
+| line, or cause of "dropped" | definition | file |
+|---|---|---|
+| "linkdown A B" before the first line | "tree_world", of a link that "is_off_tree" | pl_law_bridge/TreeWorld |
+| "crossed ID SWITCH" | "ComesAtSwitch"; what the switch learns of it, by "learns_source" | pl_world/WorldRule, pl_bridge_rule/BridgeRule |
+| "copied ID NEWID" | "passed", by "goes_on": to each further one of "other_ports" | pl_world/SwitchActs, pl_bridge_rule/BridgeRule |
+| "NoNextHop" | "goes_on" where "port_for" is the port by which it came | pl_bridge_rule/BridgeRule |
+| "NoMember" | "reception_noted", at a host that has not joined | pl_world/OtherActs |
+`,
+};

@@ -3,8 +3,8 @@
 globalThis.Traces = (() => {
     // Whether a text beside a box would cover much of it, or of the next one: then a dot stands for a frame.
     const isWideFor = (text, at) => 7 * text.length + 10 > 0.6 * at.width;
-    // In a narrower box a frame fills it: dots would lie on each other, and thousands of them take long.
-    const NARROW = 6;
+    // In a narrower box, which has no name, a frame fills it: dots would lie on each other, and thousands of them take long.
+    const NARROW = 10;
 
     const place = (p, where, isMarked) => {
         if (where.link !== undefined) return;
@@ -67,18 +67,24 @@ globalThis.Traces = (() => {
         frameLabel(p, `${focus}`, x - to.width * 0.3, y - to.height / 2 - 6, true);
     };
 
+    // how far down a note stands that would stand here, so that it covers no name
+    const clearOf = (p, text, x, y) => {
+        const width = 8 * text.length + 10;
+        return p.freePlace({ x: Math.min(Math.max(x, width / 2), p.width - width / 2), y, width }).y;
+    };
+
     const noteOfNow = p => {
         const { now } = p.scene;
         if (!now || !now.place || p.progress < 1 || now.note === "") return;
         if (now.place.link !== undefined) {
-            const [x, y, toX, toY] = p.segmentOf(p.fabric.links[now.place.link]);
-            note(p, now.note, (x + toX) / 2, (y + toY) / 2 - 18, p.state.failed[now.place.link] === 1);
+            const { x, y } = p.middleOf(now.place.link);
+            note(p, now.note, x, y - 18, p.state.failed[now.place.link] === 1);
             return;
         }
         const at = p.spotOf(now.place);
         const below = at.y + at.height / 2 + 12;
         const isBelow = now.place.host !== undefined || at.y - at.height / 2 < 34;
-        note(p, now.note, at.x, isBelow ? below : at.y - at.height / 2 - 22, now.note.startsWith("\u2715"));
+        note(p, now.note, at.x, clearOf(p, now.note, at.x, isBelow ? below : at.y - at.height / 2 - 22), now.note.startsWith("\u2715"));
     };
 
     // the name of what a finger touched

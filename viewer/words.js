@@ -20,6 +20,7 @@ globalThis.Words = (() => {
         NoNextHop: "its destination stands behind the port by which it came",
         HostGone: "nobody stands at that port, or it is for another host than the one there",
         LinkDown: "the link that it was put on is failed, or none of the tree",
+        NoMember: "that host has not joined its group",
     };
     const SKIP = {
         CutRecord: "the capture holds only a part of the frame",
@@ -64,8 +65,9 @@ globalThis.Words = (() => {
     const pseudoWho = (run, value, n) => {
         const address = grantedSoFar(run, value, n);
         if (address) return `pseudo address of ${hostOf(run, address.host)}: ${parts(value)}`;
-        if (value % 65536 === 0) return `sender of a probe: ${parts(value)}`;
+        if (value % 65536 === 0 && !Journal.isOfBridge(run)) return `sender of a probe: ${parts(value)}`;
         if (Journal.grantAt(run, value, n)) return `freed, granted to nobody now; as a pseudo address: ${parts(value)}`;
+        if (Journal.isOfBridge(run)) return "own address of no host here";
         return `granted to nobody so far; as a pseudo address: ${parts(value)}`;
     };
 
@@ -85,7 +87,8 @@ globalThis.Words = (() => {
         if (address) return `${hostOf(run, address.host)}'s pseudo address`;
         if (run.fabric.macs.has(value)) return `${hostOf(run, run.fabric.macs.get(value))}'s own address`;
         if (Frames.isGroup(value)) return groupText(value);
-        return value % 65536 === 0 ? `${Frames.macText(value)}, the sender of a probe` : Frames.macText(value);
+        const isOfProbe = value % 65536 === 0 && !Journal.isOfBridge(run);
+        return isOfProbe ? `${Frames.macText(value)}, the sender of a probe` : Frames.macText(value);
     };
 
     const arpText = arp => {
@@ -215,7 +218,7 @@ globalThis.Words = (() => {
     const line = (run, n, script) => {
         const text = script ? script[run.a[n] - 1] : undefined;
         if (text === undefined) return `What follows comes of line ${run.a[n]} of the script.`;
-        return `Line ${run.a[n]} of the script, \`${Script.wordsOf(text).join(" ")}\`: ${Script.sentence(text)}.`;
+        return `Line ${run.a[n]} of the script, \`${Script.wordsOf(text).join(" ")}\`: ${Script.sentence(text, Journal.isOfBridge(run))}.`;
     };
 
     const skipped = (run, n) => {
@@ -231,8 +234,7 @@ globalThis.Words = (() => {
     const linkOf = (run, n) => `The link between ${switchOf(run, run.b[n])} and ${switchOf(run, run.c[n])}`;
 
     const linkdown = (run, n) => {
-        const isBefore = Journal.isOfBridge(run) && (run.scriptLines.length === 0 || n < run.scriptLines[0]);
-        return isBefore ? `${linkOf(run, n)} is left out before the first line: a learning bridge wants a tree.` : `${linkOf(run, n)} fails.`;
+        return Journal.isLeftOut(run, n) ? `${linkOf(run, n)} is left out before the first line: a learning bridge wants a tree.` : `${linkOf(run, n)} fails.`;
     };
 
     // A learning bridge copies also a frame that is for one host alone.
@@ -240,6 +242,18 @@ globalThis.Words = (() => {
         const isFlooded = Journal.isOfBridge(run) && !Frames.isGroup(asBegun(run, n).destination);
         const why = isFlooded ? ` The bridge floods it: it has not learnt where ${Frames.macText(asBegun(run, n).destination)} stands.` : "";
         return `At ${switchOf(run, run.at[n])} frame ${run.a[n]} goes one more way: frame ${run.b[n]} is its copy.${why}`;
+    };
+
+    // On bridges such a line makes sweeps, until nothing waits.
+    const settled = (run, n) => {
+        if (Journal.isOfBridge(run)) return `A \`settle\` line ends after ${plural(run.a[n], "sweep")}: nothing waits in a queue.`;
+        return `A \`settle\` line ends after ${plural(run.a[n], "round")}: the fabric is settled.`;
+    };
+
+    const unsettled = (run, n) => {
+        const waits = Journal.isOfBridge(run) ? `${plural(run.a[n], "item waits in a queue", "items wait in queues")}`
+            : `the fabric is not settled: ${plural(run.a[n], "thing that stands against it waits", "things that stand against it wait")}`;
+        return `A \`settle\` line ends and ${waits}.`;
     };
 
     const SENTENCES = {
@@ -259,9 +273,8 @@ globalThis.Words = (() => {
         linkdown,
         linkup: (run, n) => `${linkOf(run, n)} is repaired.`,
         moved: (run, n) => `Host ${hostOf(run, run.a[n])} moves to port ${run.c[n]} of ${switchOf(run, run.b[n])}.`,
-        settled: (run, n) => `A \`settle\` line ends after ${plural(run.a[n], "round")}: the fabric is settled.`,
-        unsettled: (run, n) => `A \`settle\` line ends and the fabric is not settled: `
-            + `${plural(run.a[n], "thing that stands against it waits", "things that stand against it wait")}.`,
+        settled,
+        unsettled,
         freed,
         restarted,
     };

@@ -4,6 +4,7 @@ const { spawn } = require("child_process");
 const fs = require("fs");
 const os = require("os");
 const path = require("path");
+const { patience } = require("./load.js");
 
 // Keys that are no letters, as the protocol wants them.
 const CODES = { ArrowLeft: 37, ArrowRight: 39, ArrowUp: 38, ArrowDown: 40, Home: 36, End: 35, Escape: 27, Enter: 13, " ": 32 };
@@ -90,7 +91,7 @@ class Browser {
     }
 
     async until(expression, seconds = 20) {
-        const end = Date.now() + seconds * 1000;
+        const end = Date.now() + seconds * patience() * 1000;
         while (!await this.value(expression)) {
             if (Date.now() > end) throw new Error(`never came: ${expression}; the page says: ${this.errors.join("; ")}`);
             await new Promise(done => setTimeout(done, 10));

@@ -5,11 +5,13 @@ const fs = require("fs");
 const net = require("net");
 const os = require("os");
 const path = require("path");
+const { patience } = require("./load.js");
 
 // Keys that are no letters, as WebDriver names them.
 const KEYS = { ArrowLeft: "\uE012", ArrowRight: "\uE014", ArrowUp: "\uE013", ArrowDown: "\uE015", Home: "\uE011", End: "\uE010", Escape: "\uE00C", Enter: "\uE007", Tab: "\uE004" };
 const SHIFT = "\uE008";
 const ELEMENT = "element-6066-11e4-a52e-4f735466cecf";
+const LONG = 300000; // milliseconds that a script or a page may take on a busy machine
 const PREFERENCES = {
     "marionette.port": 0, "ui.prefersReducedMotion": 1, "browser.shell.checkDefaultBrowser": false, "app.update.enabled": false,
     "datareporting.policy.dataSubmissionEnabled": false, "toolkit.telemetry.enabled": false, "browser.dom.window.dump.enabled": true,
@@ -35,7 +37,7 @@ class Firefox {
     // the port that the browser listens at
     async port(seconds = 60) {
         const file = path.join(this.folder, "MarionetteActivePort");
-        for (const end = Date.now() + seconds * 1000; Date.now() < end;) {
+        for (const end = Date.now() + seconds * patience() * 1000; Date.now() < end;) {
             const text = fs.existsSync(file) ? fs.readFileSync(file, "utf8").trim() : "";
             if (text) return Number(text);
             await new Promise(done => setTimeout(done, 50));
@@ -59,6 +61,7 @@ class Firefox {
         this.socket.on("error", () => {});
         this.process.once("exit", () => this.waiting.forEach(({ fail }) => fail(new Error("the browser ended"))));
         await this.call("WebDriver:NewSession", { capabilities: { alwaysMatch: { acceptInsecureCerts: true } } });
+        await this.call("WebDriver:SetTimeouts", { script: LONG, pageLoad: LONG });
         await this.size(width, height);
     }
 
@@ -121,7 +124,7 @@ class Firefox {
     }
 
     async until(expression, seconds = 30) {
-        const end = Date.now() + seconds * 1000;
+        const end = Date.now() + seconds * patience() * 1000;
         while (!await this.value(expression)) {
             if (Date.now() > end) throw new Error(`never came: ${expression}; the page says: ${this.errors.join("; ")}`);
             await new Promise(done => setTimeout(done, 10));

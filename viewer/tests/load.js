@@ -10,11 +10,15 @@ for (const name of ["toml", "fabric", "journal", "frames", "state", "stories", "
     require(path.join(top, "viewer", `${name}.js`));
 }
 
-const journalOf = folder => [path.join(folder, "journal.txt"), path.join(folder, "expected/journal.txt")].find(file => fs.existsSync(file));
+const EXPECTED = ["", "expected", "expected-bridge"]; // where a run's journal stands, and its summary
+const journalOf = folder => EXPECTED.map(name => path.join(folder, name, "journal.txt")).find(file => fs.existsSync(file));
 
 // the folders of stored runs that have a journal
-const folders = () => ["examples", "tests/fabric", "viewer/tests/runs"].flatMap(parent => fs.readdirSync(path.join(top, parent)).sort()
+const folders = () => ["examples", "tests/fabric", "tests/bridge", "viewer/tests/runs"].flatMap(parent => fs.readdirSync(path.join(top, parent)).sort()
     .map(name => path.join(top, parent, name)).filter(folder => journalOf(folder)));
+
+// those of which each entry can be looked at whole
+const shortFolders = () => folders().filter(folder => fs.statSync(journalOf(folder)).size < 3e5);
 
 const open = name => {
     const folder = path.isAbsolute(name) ? name : path.join(top, name);
@@ -25,7 +29,7 @@ const open = name => {
         journal: read(journalOf(folder)),
         script: fs.existsSync(script) ? read(script) : undefined,
     });
-    const summary = path.join(folder, "expected/summary");
+    const summary = path.join(path.dirname(journalOf(folder)), "summary");
     return {
         ...opened, folder,
         journal: fs.readFileSync(journalOf(folder), "utf8"),
@@ -33,10 +37,12 @@ const open = name => {
     };
 };
 
-// another journal of a stored run's topology
-const openFiles = (name, journal) => {
-    const folder = path.join(top, name);
-    return Files.runOf({ topology: fs.readFileSync(path.join(folder, "topology.toml")), journal: new Uint8Array(fs.readFileSync(path.join(folder, journal))) });
+// what the fabric makes of scripts that tests/bridge has on learning bridges
+const BESIDE = ["learnt", "a-link-of-the-tree-fails"];
+const besideOf = name => path.join(top, "viewer/tests/beside", `${name}.txt`);
+const openBeside = name => {
+    const topology = fs.readFileSync(path.join(top, "tests/bridge", name, "topology.toml"));
+    return Files.runOf({ topology, journal: new Uint8Array(fs.readFileSync(besideOf(name))) });
 };
 
 // a run of a topology and a journal that a test has as texts
@@ -45,4 +51,4 @@ const openTexts = (topology, journal) => Files.runOf({ topology: Buffer.from(top
 // A machine that has more to do than it can takes so many times as long.
 const patience = () => 1 + os.loadavg()[0] / os.cpus().length;
 
-module.exports = { patience, top, folders, open, openFiles, openTexts, journalOf };
+module.exports = { patience, top, folders, shortFolders, open, BESIDE, besideOf, openBeside, openTexts, journalOf };

@@ -60,11 +60,13 @@ const the_page_reaches_no_network = () => {
 // What viewer/take takes from elsewhere is as it stands there.
 const what_was_taken_is_not_behind = () => {
     const rules = stored("docs/RULES.md");
-    const from = rules.indexOf("## From a line of a journal to its rule");
-    const section = rules.slice(from, rules.indexOf("\n## ", from));
-    const rows = section.split("\n").filter(line => line.startsWith("|"));
-    assert(rows.length > 20);
-    assert.deepEqual(Table.trim().split("\n"), rows.map(row => row.replace(/`/g, '"')), "run viewer/take: docs/RULES.md has changed");
+    for (const [table, heading, least] of [[Table.fabric, "## From a line of a journal to its rule\n", 20], [Table.bridge, "### From a line of a journal of bridges to its rule\n", 7]]) {
+        const from = rules.indexOf(heading);
+        const section = rules.slice(from, rules.indexOf("\n##", from));
+        const rows = section.split("\n").filter(line => line.startsWith("|"));
+        assert(from > 0 && rows.length >= least, heading);
+        assert.deepEqual(table.trim().split("\n"), rows.map(row => row.replace(/`/g, '"')), "run viewer/take: docs/RULES.md has changed");
+    }
     const unpacked = text => zlib.gunzipSync(Buffer.from(text, "base64")).toString();
     for (const [kind, file] of [["topology", "topology.toml"], ["script", "script"], ["journal", "expected/journal.txt"]]) {
         assert.equal(unpacked(Example[kind]), stored(`examples/${Example.name}/${file}`), "run viewer/take: the example has changed");
@@ -72,12 +74,14 @@ const what_was_taken_is_not_behind = () => {
 };
 
 const a_second_journal_is_packed = () => {
-    const folder = "viewer/tests/runs/bridge-learnt";
-    const { status, stdout } = pack(folder, `${folder}/portland.txt`, `${folder}/expected/journal.txt`);
+    const folder = "tests/bridge/learnt";
+    const [first, second] = ["viewer/tests/beside/learnt.txt", `${folder}/expected-bridge/journal.txt`];
+    const { status, stdout } = pack(folder, first, path.dirname(second));
     assert.equal(status, 0);
-    assert.equal(packed(stdout, "journal"), stored(`${folder}/portland.txt`));
-    assert.equal(packed(stdout, "second"), stored(`${folder}/expected/journal.txt`));
-    assert.equal(pack(folder, `${folder}/portland.txt`, "nowhere").status, 2);
+    assert.equal(packed(stdout, "journal"), stored(first));
+    assert.equal(packed(stdout, "second"), stored(second));
+    assert.equal(pack(folder, first, "nowhere").status, 2);
+    assert.equal(packed(pack(folder).stdout, "journal"), stored(second));
 };
 
 module.exports = {

@@ -1,7 +1,7 @@
 "use strict";
 // The state at an entry: what a journal says of the fabric once so many of its entries have happened.
 const assert = require("assert");
-const { folders, open, patience } = require("./load.js");
+const { folders, shortFolders, open, patience } = require("./load.js");
 const long = require("./long.js");
 
 const plain = state => ({
@@ -79,7 +79,7 @@ const links_fail_and_are_repaired = () => {
 
 // Marks that stand near together, and states that are gone to in any order, are those of a play from the beginning.
 const any_entry_is_gone_to_as_it_is_played_to = () => {
-    for (const folder of folders()) {
+    for (const folder of shortFolders()) {
         const { run } = open(folder);
         const states = At.run(run, 7);
         const played = At.start(run);

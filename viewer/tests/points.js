@@ -3,12 +3,11 @@
 const assert = require("assert");
 const fs = require("fs");
 const path = require("path");
-const { top, open } = require("./load.js");
+const { top, open, besideOf } = require("./load.js");
 const wide = require("./wide.js");
 const { patience, PAGE, work, filesOf, isOpen, opened, packed, says, picture } = require("./pages.js");
 
-const RUNS = "viewer/tests/runs";
-const LEARNT = path.join(top, RUNS, "bridge-learnt");
+const LEARNT = path.join(top, "tests/bridge/learnt");
 
 // the texts that the picture shows now: those of its SVG
 const texts = async browser => {
@@ -152,7 +151,7 @@ const keys_reach_everything = async browser => {
     await browser.press("ArrowUp");
     assert.equal(await browser.value("Page.page.state.entry"), 1900);
     const nameless = await browser.value(`[...document.querySelectorAll("button, input, select, canvas, [role=listbox], [role=table]")]
-        .filter(e => !(e.getAttribute("aria-label") || e.textContent.trim() || e.title || e.closest("label"))).map(e => e.id)`);
+        .filter(e => !(e.getAttribute("aria-hidden") || e.getAttribute("aria-label") || e.textContent.trim() || e.title || e.closest("label"))).map(e => e.id)`);
     assert.deepEqual(nameless, []);
 };
 
@@ -195,18 +194,42 @@ const loads_and_the_chart = async (browser, width) => {
     assert(label.startsWith(`Frames so far: sent ${counts[Journal.KIND.sent]}, arrived ${counts[Journal.KIND.arrived]}, NoNextHop ${causes[1]}`), label);
 };
 
+// the points of a picture's canvas, or of all of its canvases as they lie on each other
+const points = canvas => `(() => { const { canvas: top, layers } = Page.picture; const sheet = document.createElement("canvas");
+    [sheet.width, sheet.height] = [top.width, top.height]; const context = sheet.getContext("2d", { willReadFrequently: true });
+    for (const layer of ${canvas || "[layers.ground.canvas, top]"}) context.drawImage(layer, 0, 0);
+    return context.getImageData(0, 0, sheet.width, sheet.height).data; })()`;
+const GROUND = points("[layers.ground.canvas]");
+const BOXES = points("[layers.boxes.canvas]");
+
+// how many numbers of the ground's points are other ones where all of it is drawn at once
+const UNLIKE_WHOLE = `(() => { const kept = ${GROUND}; Ground.coarse.isWanted = () => false; Page.picture.layers.forget(); Page.draw(false); const whole = ${GROUND};
+    let differ = 0; for (let at = 0; at < kept.length; at++) if (kept[at] !== whole[at]) differ++; return differ; })()`;
+
 // Where a step draws a few places of the fabric anew, the picture is that of a fabric that is drawn whole, but for the edges of lines.
 const a_place_is_drawn_anew_as_all_is = async browser => {
     const run = await opened(browser, "tests/fabric/random-04");
     const changing = run.journal.split("\n").flatMap((line, n) => (/^(linkdown|linkup|moved|granted) /.test(line) ? [n + 1] : []));
     for (const key of ["0", "l"]) {
         await browser.press(key);
-        const differ = await browser.value(`(() => { const { layers, canvas, screen } = Page.picture; const differ = [];
-            const points = () => screen.getImageData(0, 0, canvas.width, canvas.height).data;
-            for (const n of ${JSON.stringify(changing.slice(-8))}) { Page.step(n - 1); Page.step(n); const kept = points(); layers.forget(); Page.draw(false);
-                const whole = points(); let most = 0; for (let at = 0; at < kept.length; at++) most = Math.max(most, Math.abs(whole[at] - kept[at]));
+        const differ = await browser.value(`(() => { const { layers } = Page.picture; const differ = [];
+            for (const n of ${JSON.stringify(changing.slice(-8))}) { Page.step(n - 1); Page.step(n); const kept = ${points()}; layers.forget(); Page.draw(false);
+                const whole = ${points()}; let most = 0; for (let at = 0; at < kept.length; at++) most = Math.max(most, Math.abs(whole[at] - kept[at]));
                 if (most > 128) differ.push(n); } return differ; })()`);
         assert.deepEqual(differ, [], `behind ${key}`);
+    }
+};
+
+// Boxes that are too small for outlines are drawn over themselves, near and far, with loads and without: all of them look the same.
+const small_boxes_are_drawn_over_themselves = async (browser, width) => {
+    await openedLarge(browser, 24, 30001);
+    await browser.value("Page.picture.openPods(Page.picture.layout.pods.keys())");
+    for (const key of ["0", "l"]) {
+        await browser.press(key);
+        const differ = await browser.value(`(() => { const { layers } = Page.picture; let differ = 0; Page.step(3000);
+            for (const n of [3700, 4500, 4502, 30001, 9000, 9002, 20000, 3400]) { Page.step(n); const kept = ${BOXES}; layers.boxes.forget(); Page.draw(false);
+                const whole = ${BOXES}; for (let at = 0; at < kept.length; at++) if (kept[at] !== whole[at]) differ++; } return differ; })()`);
+        assert.equal(differ, 0, `behind ${key} at ${width}`);
     }
 };
 
@@ -215,18 +238,30 @@ const many_lines_are_finished_behind_the_last_step = async browser => {
     await openedLarge(browser, 24, 30001);
     await browser.press("l");
     await browser.value("Page.picture.openPods(Page.picture.layout.pods.keys())");
-    const points = "(() => { const { canvas, context } = Page.picture.layers.ground; return context.getImageData(0, 0, canvas.width, canvas.height).data; })()";
     for (const [entry, zoomed] of [[24000, ""], [30001, ""], [24000, "Page.picture.zoom(3, 100, 200)"], [30001, "Page.picture.fit()"]]) {
-        const wasCoarse = await browser.value(`(() => { ${zoomed}; Page.step(${entry}); Page.toCompare = ${points}; return Page.picture.layers.isCoarse; })()`);
+        const wasCoarse = await browser.value(`(() => { ${zoomed}; Page.step(${entry}); Page.toCompare = ${GROUND}; return Page.picture.layers.isCoarse; })()`);
         assert(wasCoarse, `${entry}`);
         await browser.until("!Page.picture.layers.isCoarse");
-        const apart = await browser.value(`(() => { const now = ${points}; let sum = 0; for (let at = 0; at < now.length; at++) sum += Math.abs(now[at] - Page.toCompare[at]);
+        const apart = await browser.value(`(() => { const now = ${GROUND}; let sum = 0; for (let at = 0; at < now.length; at++) sum += Math.abs(now[at] - Page.toCompare[at]);
             return sum / now.length; })()`);
         assert(apart > 0 && apart < 12, `${apart} apart at ${entry}`); // of 255
     }
-    const differ = await browser.value(`(() => { const kept = ${points}; Ground.coarse.isWanted = () => false; Page.picture.layers.forget(); Page.draw(false); const whole = ${points};
-        let differ = 0; for (let at = 0; at < kept.length; at++) if (kept[at] !== whole[at]) differ++; return differ; })()`);
-    assert.equal(differ, 0);
+    assert.equal(await browser.value(UNLIKE_WHOLE), 0);
+};
+
+// They are finished part by part, and a step that comes between begins that anew.
+const a_step_comes_between_the_parts_of_many_lines = async browser => {
+    await openedLarge(browser, 24, 30001);
+    await browser.press("l");
+    await browser.value("Page.picture.openPods(Page.picture.layout.pods.keys())");
+    const left = "Page.picture.layers.ground.parts.length";
+    const lefts = await browser.value(`(async () => { Page.step(24000); const { picture } = Page; const lefts = [];
+        while (lefts.length < 4) { picture.finish(); lefts.push(${left}); } Page.step(30001); return [...lefts, ${left}, picture.layers.isCoarse]; })()`);
+    const [most] = lefts;
+    assert(most > 4, `${lefts}`);
+    assert.deepEqual(lefts, [most, most - 1, most - 2, most - 3, 0, true]);
+    await browser.until("!Page.picture.layers.isCoarse");
+    assert.equal(await browser.value(UNLIKE_WHOLE), 0);
 };
 
 // A step makes no rows anew, so that it leaves no elements behind.
@@ -299,11 +334,11 @@ const what_the_fabric_knows = async (browser, width) => {
 
 const a_second_run_goes_beside = async (browser, width) => {
     const journal = path.join(work, "journal.txt");
-    fs.copyFileSync(path.join(LEARNT, "portland.txt"), journal);
+    fs.copyFileSync(besideOf("learnt"), journal);
     await browser.open(PAGE);
     await browser.choose([path.join(LEARNT, "topology.toml"), journal, path.join(LEARNT, "script")]);
     await browser.until(isOpen(93));
-    await browser.choose([path.join(LEARNT, "expected/journal.txt")], "#beside");
+    await browser.choose([path.join(LEARNT, "expected-bridge/journal.txt")], "#beside");
     await browser.until("document.getElementById('second').hidden === false");
     const bridge = open(LEARNT);
     const at = entry => `learning bridge: entry ${entry} of 525`;
@@ -327,7 +362,7 @@ const a_second_run_goes_beside = async (browser, width) => {
     await fits(browser);
     await browser.clickOn("#alone");
     assert.equal(await browser.value("document.getElementById('second').hidden"), true);
-    await browser.choose([path.join(LEARNT, "expected/journal.txt")], "#beside");
+    await browser.choose([path.join(LEARNT, "expected-bridge/journal.txt")], "#beside");
     await browser.until("document.getElementById('second').hidden === false");
     await browser.choose(filesOf(path.join(top, "examples/group")));
     await browser.until("document.getElementById('second').hidden === true");
@@ -383,8 +418,8 @@ const packed_pages_open_at_a_moment = async browser => {
 };
 
 const aging_restarts_and_bridges_are_told = async browser => {
-    for (const name of ["address-given-again", "restart-after-aging", "bridge-learnt"]) {
-        const run = await opened(browser, path.join(RUNS, name));
+    for (const name of ["viewer/tests/runs/address-given-again", "viewer/tests/runs/restart-after-aging", "tests/bridge/learnt"]) {
+        const run = await opened(browser, name);
         for (const word of ["freed", "restarted", "linkdown"]) {
             const entry = run.journal.split("\n").findIndex(line => line.startsWith(`${word} `)) + 1;
             if (entry > 0) {
@@ -397,10 +432,27 @@ const aging_restarts_and_bridges_are_told = async browser => {
     }
 };
 
+// Links that are none of the tree are dotted, and one of the tree that fails is crossed out; switches have no places, and hosts no addresses of theirs.
+const the_tree_of_bridges_is_told_apart = async (browser, width) => {
+    const run = await opened(browser, "tests/bridge/a-link-of-the-tree-fails");
+    const fails = run.journal.split("\n").indexOf("linkdown e1.0 a1.0") + 1;
+    for (const [entry, outside, failed] of [[0, 0, 0], [20, 20, 0], [fails, 20, 1]]) {
+        await browser.value(`Page.step(${entry})`);
+        const svg = await browser.value("Moment.svg(Page.picture, 'where', 'said')");
+        const dashed = dash => svg.split(`stroke-dasharray="${dash}"`).length - 1;
+        assert.deepEqual([dashed("1 5"), dashed("5 4")], [outside, failed], `at entry ${entry}`);
+    }
+    const shown = await texts(browser);
+    assert(["a", "e0.0", "10.0.0.1"].every(text => shown.includes(text)) && !["?", "core", "no address"].some(text => shown.includes(text)), `${shown}`);
+    await picture(browser, `bridges-${width}`);
+};
+
 module.exports = {
     the_page_fits_its_screen, fingers_name_and_zoom, nothing_covers_switches_or_names, what_is_found_is_not_taken_for_now,
     a_large_fabric_is_read, keys_reach_everything, the_rule_stands_below_the_sentence, loads_and_the_chart,
-    a_place_is_drawn_anew_as_all_is, many_lines_are_finished_behind_the_last_step, rows_stay_from_step_to_step,
+    a_place_is_drawn_anew_as_all_is, small_boxes_are_drawn_over_themselves, many_lines_are_finished_behind_the_last_step,
+    a_step_comes_between_the_parts_of_many_lines, rows_stay_from_step_to_step,
     the_row_of_now_stays_in_the_middle, a_line_of_another_kind_stops_nothing, what_the_fabric_knows, a_second_run_goes_beside,
     the_welcome_page_shows_an_example, a_moment_is_kept, packed_pages_open_at_a_moment, aging_restarts_and_bridges_are_told,
+    the_tree_of_bridges_is_told_apart,
 };

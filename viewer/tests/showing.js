@@ -4,7 +4,7 @@
 const assert = require("assert");
 const fs = require("fs");
 const path = require("path");
-const { top, folders, open, openFiles, openTexts } = require("./load.js");
+const { top, folders, open, BESIDE, openBeside, openTexts } = require("./load.js");
 
 // run, line of the journal, words of its rules, and how what to look at begins
 const RULES = [
@@ -22,6 +22,8 @@ const the_rule_of_an_entry_is_that_of_the_table = () => {
         assert(rules.some(rule => rule.says.includes(says) && rule.files.includes(file)), `${name}, line ${line}: ${JSON.stringify(rules)}`);
         assert(Rules.look(run, line - 1).startsWith(look) && (look !== "" || Rules.look(run, line - 1) === ""));
     }
+    const { run: failing } = open("tests/fabric/link-fails-with-frames");
+    assert(!Rules.of(failing, 103).some(({ says }) => says.includes("cause_of")), "of a link, and not a switch's choice");
     const { run } = open("examples/four-hosts");
     assert.deepEqual(Rules.of(run, 0), []); // `line 1`, which the player of the script writes
     for (const cause of Journal.CAUSES) assert(Rules.rowOf(cause), cause);
@@ -40,16 +42,18 @@ const a_copy_that_comes_back_says_why_it_ends = () => {
 
 // run, line of the journal, and what is said of it: aging, a manager that restarts, and a learning bridge
 const LATER = [
-    ["address-given-again", "freed 00:01:00:00:00:01", "Switch e1.0 frees the pseudo address 00:01:00:00:00:01, which host d had: nobody uses it now, and port 0 may grant it again."],
-    ["restart-before-a-move-was-told", "restarted 1", "The fabric manager restarts, for the 1st time: it has forgotten all, what was on its way to it and from it is lost, and each switch tells it anew what it knows."],
-    ["restart-before-a-move-was-told", "registered 00:01:00:00:00:01 4294967301", "The fabric manager has learnt anew 00:01:00:00:00:01 of host d, with number 4294967301."],
-    ["bridge-learnt", "linkdown e0.0 a0.1", "The link between e0.0 and a0.1 is left out before the first line: a learning bridge wants a tree."],
-    ["bridge-link-fails", "linkdown e1.0 a1.0", "The link between e1.0 and a1.0 fails."],
+    ["viewer/tests/runs/address-given-again", "freed 00:01:00:00:00:01", "Switch e1.0 frees the pseudo address 00:01:00:00:00:01, which host d had: nobody uses it now, and port 0 may grant it again."],
+    ["viewer/tests/runs/restart-before-a-move-was-told", "restarted 1", "The fabric manager restarts, for the 1st time: it has forgotten all, what was on its way to it and from it is lost, and each switch tells it anew what it knows."],
+    ["viewer/tests/runs/restart-before-a-move-was-told", "registered 00:01:00:00:00:01 4294967301", "The fabric manager has learnt anew 00:01:00:00:00:01 of host d, with number 4294967301."],
+    ["tests/bridge/learnt", "linkdown e0.0 a0.1", "The link between e0.0 and a0.1 is left out before the first line: a learning bridge wants a tree."],
+    ["tests/bridge/a-link-of-the-tree-fails", "linkdown e1.0 a1.0", "The link between e1.0 and a1.0 fails."],
+    ["tests/bridge/learnt", "settled 3", "A `settle` line ends after 3 sweeps: nothing waits in a queue."],
+    ["tests/bridge/random-01", "unsettled 1", "A `settle` line ends and 1 item waits in a queue."],
 ];
 
 const what_aging_restarts_and_bridges_bring_is_said = () => {
     for (const [name, line, wanted] of LATER) {
-        const { run, journal } = open(`viewer/tests/runs/${name}`);
+        const { run, journal } = open(name);
         const n = journal.split("\n").indexOf(line);
         assert(n >= 0, `${name}: ${line}`);
         assert.equal(Words.sentence(run, n), wanted);
@@ -74,19 +78,61 @@ const a_flood_of_a_bridge_is_told = () => {
         + "The bridge floods it: it has not learnt where 02:00:00:00:00:0b stands.");
     assert.equal(Words.sentence(flood, 5), "Frame 2 ends after switch e0.0, which it crossed last: HostGone, nobody stands at that port, "
         + "or it is for another host than the one there.");
-    for (const name of ["bridge-learnt", "bridge-link-fails"]) {
-        const { run } = openFiles(`viewer/tests/runs/${name}`, "portland.txt");
+    for (const name of BESIDE) {
+        const { run } = openBeside(name);
         for (let n = 0; n < run.count; n++) assert(!Words.sentence(run, n).includes("floods"), `${name}, line ${n + 1}`);
     }
 };
 
-const the_second_run_is_in_step_by_line = () => {
-    for (const name of ["bridge-learnt", "bridge-link-fails"]) inStep(`viewer/tests/runs/${name}`);
+// The words of a line of a bridge's journal, or of a cause, and what its rule names: of the bridge's own rows, or of those of the fabric.
+const BRIDGE_RULES = {
+    linkdown: "`tree_world`", crossed: "`learns_source`", copied: "`goes_on`", sent: "`sent_by_host`", arrived: "`reception_noted`", moved: "`host_moved`",
+    skipped: "`skip_noted`", NoNextHop: "`port_for`", HostGone: "`ComesAtHost`", LinkDown: "`goes_out`", Lost: "`item_lost`", NoMember: "`reception_noted`",
 };
 
-const inStep = folder => {
-    const { run: second } = open(folder);
-    const { run: first } = openFiles(folder, "portland.txt");
+const each_entry_of_a_bridge_has_its_rule = () => {
+    const seen = new Set();
+    for (const folder of folders().filter(name => name.includes("tests/bridge"))) {
+        const { run } = open(folder);
+        if (!Journal.isOfBridge(run)) continue;
+        for (let n = 0; n < run.count; n++) {
+            const word = Journal.WORDS[run.kind[n]];
+            const name = word === "dropped" ? Journal.CAUSES[run.b[n]] : word;
+            const wanted = name === "linkdown" && !Journal.isLeftOut(run, n) ? "`link_failed`" : BRIDGE_RULES[name];
+            const rules = Rules.of(run, n);
+            seen.add(wanted);
+            assert.deepEqual(rules.map(({ says }) => says.includes(wanted)), wanted ? [true] : [], `${folder}, line ${n + 1}`);
+            assert.equal(Rules.look(run, n) !== "", word === "dropped", `${folder}, line ${n + 1}`);
+        }
+    }
+    for (const wanted of ["`link_failed`", ...Object.values(BRIDGE_RULES)]) assert(seen.has(wanted), wanted);
+    for (const name of [...Journal.WORDS, ...Journal.CAUSES]) {
+        for (const file of (Rules.bridgeRowOf(name) || { files: [] }).files) assert(fs.existsSync(path.join(top, file)), file);
+    }
+};
+
+// What the fabric alone has is not told of bridges: places, and addresses that are granted.
+const bridges_have_no_places = () => {
+    const { run, states, script } = open("tests/bridge/learnt");
+    const state = At.at(states, run.count);
+    for (const subject of [{ switch: 0 }, { host: 0 }]) {
+        const facts = JSON.stringify(Facts.of(run, state, subject));
+        assert(!/placed|not known|pseudo/.test(facts), facts);
+    }
+    const known = Knowledge.of(run);
+    assert.equal(Knowledge.summary(known, "placed", run.count), "learning bridges have no places");
+    assert.equal(Knowledge.summary(known, "addresses", run.count), "learning bridges grant no addresses");
+    assert.equal(Words.who(run, 0x02000000aa00, run.count), "own address of no host here");
+    assert.equal(Script.sentence(script[1], true), "sweeps until nothing waits in the queues, 64 at most");
+};
+
+const the_second_run_is_in_step_by_line = () => {
+    BESIDE.forEach(inStep);
+};
+
+const inStep = name => {
+    const { run: second } = open(`tests/bridge/${name}`);
+    const { run: first } = openBeside(name);
     const states = At.run(first);
     const at = entry => Step.of(first, second, entry, At.at(states, entry).line);
     const last = first.a[first.scriptLines[first.scriptLines.length - 1]];
@@ -157,6 +203,6 @@ const a_link_names_a_moment = () => {
 
 module.exports = {
     the_rule_of_an_entry_is_that_of_the_table, a_copy_that_comes_back_says_why_it_ends, what_aging_restarts_and_bridges_bring_is_said,
-    a_flood_of_a_bridge_is_told, the_second_run_is_in_step_by_line, what_is_known_is_what_has_happened, loads_are_the_crossings,
+    a_flood_of_a_bridge_is_told, each_entry_of_a_bridge_has_its_rule, bridges_have_no_places, the_second_run_is_in_step_by_line, what_is_known_is_what_has_happened, loads_are_the_crossings,
     the_chart_counts_what_the_summary_counts, a_link_names_a_moment,
 };

@@ -1,7 +1,7 @@
 "use strict";
 // What is said of entries and of subjects, and what is drawn: functions of the journal and the topology.
 const assert = require("assert");
-const { folders, open, openTexts } = require("./load.js");
+const { folders, shortFolders, open, openTexts } = require("./load.js");
 
 // run, line of the journal, and the sentence that says what it means
 const SENTENCES = [
@@ -134,7 +134,7 @@ const a_frame_is_drawn_where_its_host_stood = () => {
 };
 
 const each_frame_in_flight_is_drawn_once = () => {
-    for (const folder of folders()) {
+    for (const folder of shortFolders()) {
         const { run, states } = open(folder);
         let state = null;
         for (let n = 0; n <= run.count; n++) {

@@ -1,16 +1,15 @@
 -- Addresses: their holders, their ports and their numbers.
-use Rattle.std.proofs.Common.{◌≡◌, ◌≢◌, ℕ, ◌≤◌, Bool, true, false, cond, ◌==◌, List, [], ◌∷◌, ◌++◌, Option, Some, None, is_some, IsSome, refl, sym, ap, ◌∙◌, inl, inr, arith}
-use Rattle.std.proofs.lemmas.Bool.{eqb-true, eq-eqb, ne_eqb, cases_Bool, cond-true, cond-false}
+use Rattle.std.proofs.Common.{◌≡◌, ◌≢◌, ℕ, ◌≤◌, Bool, true, false, cond, not, ◌||◌, ◌==◌, List, [], ◌∷◌, ◌++◌, Option, Some, None, is_some, IsSome, refl, sym, ap, ◌∙◌, inl, inr, arith}
+use Rattle.std.proofs.lemmas.Bool.{and_from, and_parts, both_ways, cases_Bool, cond-false, cond-true, eq-eqb, eqb-true, ne_eqb, not_from_false, or_parts, or_right}
 use Rattle.std.proofs.lemmas.Option.{none-some, same_Some}
-use Rattle.pl_lemmas.proofs.Exports.{none_of}
 use Rattle.pl_pmac.specs.declared.pmac.Pmac.{Pmac}
 use Rattle.pl_pmac.specs.Pmac.{pmac_number}
 use Rattle.pl_wiring.specs.declared.label.SwitchNo.{SwitchNo}
 use Rattle.pl_wiring.specs.declared.host.HostNo.{HostNo}
 use Rattle.pl_wiring.specs.Plan.{Plan}
 use Rattle.pl_journal.specs.declared.entry.Entry.{Entry}
-use Rattle.pl_journal.specs.declared.entry.Entry.TheVariants.{Granted, Registered}
-use Rattle.pl_journal.specs.Places.{EdgePort, at_port, holder, number, registered, edge_port}
+use Rattle.pl_journal.specs.declared.entry.Entry.TheVariants.{Freed, Granted, Registered}
+use Rattle.pl_journal.specs.Places.{EdgePort, are_freed, at_port, holder, is_live, number, registered, edge_port}
 use Rattle.pl_journal.specs.Lossy.{RunTo}
 
 pub holder_of_granted : (past : List Entry) (x : Pmac) (host : HostNo) (edge : SwitchNo) (port : ℕ) →
@@ -45,31 +44,85 @@ held_at_a_edge_port [] y = refl
 held_at_a_edge_port (Granted x host edge port ∷ past) y = both_some (pmac_number x == y) (at_port edge.0 port) host.0 (edge_port past y) (holder past y) (held_at_a_edge_port past y)
 held_at_a_edge_port (entry ∷ past) y = held_at_a_edge_port past y
 
--- a value that stays where a fresh one is set
-stays : {A : Type 0} (x y : ℕ) (f : ℕ → Option A) (old new : A) → f x ≡ None → f y ≡ Some old → cond (x == y) (Some new) (f y) ≡ Some old
-stays x y f old new fresh before = elim (cases_Bool (x == y)) [
-  | inl same ↦ absurd (none-some old (sym fresh ∙ ap f (eqb-true x y same) ∙ before))
-  | inr other ↦ cond-false (x == y) (Some new) (f y) other ∙ before
+-- a live address is held
+pub live_held : (past : List Entry) (x : ℕ) → is_live past x ≡ true → IsSome (holder past x)
+live_held [] x live = absurd (cc)
+live_held (Granted y h e p ∷ past) x live = elim (cases_Bool (pmac_number y == x)) [
+  | inl same ↦ ap is_some (cond-true (pmac_number y == x) (Some h.0) (holder past x) same)
+  | inr other ↦ ap is_some (cond-false (pmac_number y == x) (Some h.0) (holder past x) other)
+      ∙ live_held past x (sym (ap (λ b. b || is_live past x) other) ∙ live)
+]
+live_held (Freed y ∷ past) x live = live_held past x (and_parts (not (pmac_number y == x)) (is_live past x) live).1
+live_held (entry ∷ past) x live = live_held past x live
+
+-- one without a holder is not live, and has no port
+pub not_held_not_live : (past : List Entry) (x : ℕ) → holder past x ≡ None → is_live past x ≡ false
+not_held_not_live past x none = elim (cases_Bool (is_live past x)) [
+  | inl live ↦ absurd (both_ways (is_some (holder past x)) (ap is_some none) (live_held past x live))
+  | inr other ↦ other
 ]
 
-pub holder_stays : (plan : Plan) (newer past : List Entry) (x host : ℕ) → RunTo plan (newer ++ past) → holder past x ≡ Some host → holder (newer ++ past) x ≡ Some host
-holder_stays plan [] past x host run held = held
-holder_stays plan (Granted y h e p ∷ newer) past x host run held =
-    stays (pmac_number y) x (holder (newer ++ past)) host h.0 run.1.fresh (holder_stays plan newer past x host run.0 held)
-holder_stays plan (entry ∷ newer) past x host run held = holder_stays plan newer past x host run.0 held
+pub not_held_nowhere : (past : List Entry) (x : ℕ) (there : EdgePort) → holder past x ≡ None → edge_port past x ≢ Some there
+not_held_nowhere past x there none is =
+    both_ways (is_some (holder past x)) (ap is_some none) (sym (held_at_a_edge_port past x) ∙ ap is_some is)
 
-pub edge_port_stays : (plan : Plan) (newer past : List Entry) (x : ℕ) (there : EdgePort) → RunTo plan (newer ++ past) → edge_port past x ≡ Some there → edge_port (newer ++ past) x ≡ Some there
-edge_port_stays plan [] past x there run stands = stands
-edge_port_stays plan (Granted y h e p ∷ newer) past x there run stands =
-    let fresh = none_of (edge_port (newer ++ past) (pmac_number y)) (held_at_a_edge_port (newer ++ past) (pmac_number y) ∙ ap is_some run.1.fresh) in
-    stays (pmac_number y) x (edge_port (newer ++ past)) there (at_port e.0 p) fresh (edge_port_stays plan newer past x there run.0 stands)
-edge_port_stays plan (entry ∷ newer) past x there run stands = edge_port_stays plan newer past x there run.0 stands
+-- an address that is not freed is live as long as it was
+pub live_stays : (plan : Plan) (newer past : List Entry) (x : ℕ) → RunTo plan (newer ++ past) → are_freed newer x ≡ false → is_live past x ≡ true →
+    is_live (newer ++ past) x ≡ true
+live_stays plan [] past x run kept live = live
+live_stays plan (Granted y h e p ∷ newer) past x run kept live = or_right (pmac_number y == x) (is_live (newer ++ past) x) (live_stays plan newer past x run.0 kept live)
+live_stays plan (Freed y ∷ newer) past x run kept live =
+    let parts = or_parts (pmac_number y == x) (are_freed newer x) kept in
+    and_from (not (pmac_number y == x)) (is_live (newer ++ past) x) (not_from_false (pmac_number y == x) parts.0) (live_stays plan newer past x run.0 parts.1 live)
+live_stays plan (entry ∷ newer) past x run kept live = live_stays plan newer past x run.0 kept live
 
-pub number_stays : (plan : Plan) (newer past : List Entry) (x n : ℕ) → RunTo plan (newer ++ past) → number past x ≡ Some n → number (newer ++ past) x ≡ Some n
-number_stays plan [] past x n run has = has
-number_stays plan (Registered y m ∷ newer) past x n run has =
-    stays (pmac_number y) x (number (newer ++ past)) n m run.1.1 (number_stays plan newer past x n run.0 has)
-number_stays plan (entry ∷ newer) past x n run has = number_stays plan newer past x n run.0 has
+-- an address that is granted was not live
+pub granted_apart : (past : List Entry) (y x : ℕ) → is_live past y ≡ false → is_live past x ≡ true → (y == x) ≡ false
+granted_apart past y x fresh live = elim (cases_Bool (y == x)) [
+  | inl same ↦ let e : true ≡ false = sym live ∙ ap (is_live past) (sym (eqb-true y x same)) ∙ fresh in absurd (cc)
+  | inr other ↦ other
+]
+
+pub holder_stays : (plan : Plan) (newer past : List Entry) (x : ℕ) → RunTo plan (newer ++ past) → are_freed newer x ≡ false → is_live past x ≡ true →
+    holder (newer ++ past) x ≡ holder past x
+holder_stays plan [] past x run kept live = refl
+holder_stays plan (Granted y h e p ∷ newer) past x run kept live =
+    let other = granted_apart (newer ++ past) (pmac_number y) x run.1.fresh (live_stays plan newer past x run.0 kept live) in
+    cond-false (pmac_number y == x) (Some h.0) (holder (newer ++ past) x) other ∙ holder_stays plan newer past x run.0 kept live
+holder_stays plan (Freed y ∷ newer) past x run kept live = holder_stays plan newer past x run.0 (or_parts (pmac_number y == x) (are_freed newer x) kept).1 live
+holder_stays plan (entry ∷ newer) past x run kept live = holder_stays plan newer past x run.0 kept live
+
+pub edge_port_stays : (plan : Plan) (newer past : List Entry) (x : ℕ) → RunTo plan (newer ++ past) → are_freed newer x ≡ false → is_live past x ≡ true →
+    edge_port (newer ++ past) x ≡ edge_port past x
+edge_port_stays plan [] past x run kept live = refl
+edge_port_stays plan (Granted y h e p ∷ newer) past x run kept live =
+    let other = granted_apart (newer ++ past) (pmac_number y) x run.1.fresh (live_stays plan newer past x run.0 kept live) in
+    cond-false (pmac_number y == x) (Some (at_port e.0 p)) (edge_port (newer ++ past) x) other ∙ edge_port_stays plan newer past x run.0 kept live
+edge_port_stays plan (Freed y ∷ newer) past x run kept live = edge_port_stays plan newer past x run.0 (or_parts (pmac_number y == x) (are_freed newer x) kept).1 live
+edge_port_stays plan (entry ∷ newer) past x run kept live = edge_port_stays plan newer past x run.0 kept live
+
+pub number_stays : (plan : Plan) (newer past : List Entry) (x n : ℕ) → RunTo plan (newer ++ past) → are_freed newer x ≡ false → is_live past x ≡ true →
+    number past x ≡ Some n → number (newer ++ past) x ≡ Some n
+number_stays plan [] past x n run kept live has = has
+number_stays plan (Granted y h e p ∷ newer) past x n run kept live has =
+    let other = granted_apart (newer ++ past) (pmac_number y) x run.1.fresh (live_stays plan newer past x run.0 kept live) in
+    cond-false (pmac_number y == x) None (number (newer ++ past) x) other ∙ number_stays plan newer past x n run.0 kept live has
+number_stays plan (Registered y m ∷ newer) past x n run kept live has =
+    let before = number_stays plan newer past x n run.0 kept live has in
+    elim (cases_Bool (pmac_number y == x)) [
+      | inl same ↦ absurd (none-some n (sym run.1.1 ∙ ap (number (newer ++ past)) (eqb-true (pmac_number y) x same) ∙ before))
+      | inr other ↦ cond-false (pmac_number y == x) (Some m) (number (newer ++ past) x) other ∙ before
+    ]
+number_stays plan (Freed y ∷ newer) past x n run kept live has =
+    number_stays plan newer past x n run.0 (or_parts (pmac_number y == x) (are_freed newer x) kept).1 live has
+number_stays plan (entry ∷ newer) past x n run kept live has = number_stays plan newer past x n run.0 kept live has
+
+-- a number is not of an address that has just been granted
+number_before : (past : List Entry) (y : Pmac) (h : HostNo) (e : SwitchNo) (p x n : ℕ) → number (Granted y h e p ∷ past) x ≡ Some n → number past x ≡ Some n
+number_before past y h e p x n has = elim (cases_Bool (pmac_number y == x)) [
+  | inl same ↦ absurd (none-some n (sym (cond-true (pmac_number y == x) None (number past x) same) ∙ has))
+  | inr other ↦ sym (cond-false (pmac_number y == x) None (number past x) other) ∙ has
+]
 
 pub number_within : (plan : Plan) (past : List Entry) (x n : ℕ) → RunTo plan past → number past x ≡ Some n → (1 ≤ n) × (n ≤ registered past)
 number_within plan [] x n run has = absurd (none-some n has)
@@ -82,15 +135,16 @@ number_within plan (Registered y m ∷ past) x n run has = elim (cases_Bool (pma
       let before = number_within plan past x n run.0 (sym (cond-false (pmac_number y == x) (Some m) (number past x) other) ∙ has) in
       (before.0, omega arith)
 ]
+number_within plan (Granted y h e p ∷ past) x n run has = number_within plan past x n run.0 (number_before past y h e p x n has)
 number_within plan (entry ∷ past) x n run has = number_within plan past x n run.0 has
 
 pub number_granted : (plan : Plan) (past : List Entry) (x n : ℕ) → RunTo plan past → number past x ≡ Some n → IsSome (holder past x)
 number_granted plan [] x n run has = absurd (none-some n has)
 number_granted plan (Registered y m ∷ past) x n run has = elim (cases_Bool (pmac_number y == x)) [
-  | inl same ↦ ap (λ z. is_some (holder past z)) (sym (eqb-true (pmac_number y) x same)) ∙ run.1.0
+  | inl same ↦ ap (λ z. is_some (holder past z)) (sym (eqb-true (pmac_number y) x same)) ∙ live_held past (pmac_number y) run.1.0
   | inr other ↦ number_granted plan past x n run.0 (sym (cond-false (pmac_number y == x) (Some m) (number past x) other) ∙ has)
 ]
-number_granted plan (Granted y h e p ∷ past) x n run has = still_some (pmac_number y == x) h.0 (holder past x) (number_granted plan past x n run.0 has)
+number_granted plan (Granted y h e p ∷ past) x n run has = still_some (pmac_number y == x) h.0 (holder past x) (number_granted plan past x n run.0 (number_before past y h e p x n has))
   where
     still_some : (b : Bool) (k : ℕ) (o : Option ℕ) → is_some o ≡ true → is_some (cond b (Some k) o) ≡ true
     still_some true k o some = refl
@@ -121,4 +175,6 @@ numbers_apart plan (Registered z m ∷ past) x y n run has also_has = elim (case
 
     not_both : (w : ℕ) → m ≡ n → number past w ≡ Some n → ⊥
     not_both w same old = let within = number_within plan past w n run.0 old in let next = run.1.2 in omega arith
+numbers_apart plan (Granted z h e p ∷ past) x y n run has also_has =
+    numbers_apart plan past x y n run.0 (number_before past z h e p x n has) (number_before past z h e p y n also_has)
 numbers_apart plan (entry ∷ past) x y n run has also_has = numbers_apart plan past x y n run.0 has also_has

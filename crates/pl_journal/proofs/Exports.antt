@@ -1,4 +1,6 @@
 -- What other crates may name of these proofs.
+pub use Rattle.pl_journal.proofs.Addressees.{just_held, live_one}
+pub use Rattle.pl_journal.proofs.Addresses.{granted_apart, live_held, not_held_not_live, not_held_nowhere}
 pub use Rattle.pl_journal.proofs.Groups.{unicast_is_not_routed}
 pub use Rattle.pl_journal.proofs.Hexadecimal.{encode_append, pair_at}
 pub use Rattle.pl_journal.proofs.Hosts.{edge_port_of_moved, edge_port_of_others, hosts_apart, same_edge_port_itself}

@@ -5,6 +5,7 @@ pub mod Numbered
 pub mod Unbegun
 pub mod Trails
 pub mod Addresses
+pub mod Addressees
 pub mod Hosts
 pub mod Links
 pub mod Copies

@@ -13,7 +13,7 @@ use Rattle.pl_wiring.specs.Plan.{Plan}
 use Rattle.pl_journal.specs.declared.entry.Entry.{Entry}
 use Rattle.pl_journal.specs.declared.entry.Entry.TheVariants.{Sent, Made, Crossed, Redirected, Copied, Arrived, Taken, Dropped, Granted, LinkDown, Moved}
 use Rattle.pl_layouts.specs.Frames.{mac_number}
-use Rattle.pl_journal.specs.Places.{EdgePort, is_at, same_ends, edge_port_of, granted_at, is_adjacent, is_failed}
+use Rattle.pl_journal.specs.Places.{EdgePort, is_at, live_holder, same_ends, edge_port_of, granted_at, is_adjacent, is_failed}
 
 -- the frame that an entry begins, if it begins one
 abbrev pub begun_by : Entry → Option ℕ
@@ -84,6 +84,32 @@ address (Made g s f ∷ past) id = if g == id then mac_number (destination_of f)
 address (Redirected g old new ∷ past) id = if g == id then pmac_number new else address past id
 address (Copied g c ∷ past) id = address past (before_copy g c id)
 address (entry ∷ past) id = address past id
+
+-- whether the newest entry is a crossing of the frame
+abbrev pub has_just_crossed : List Entry → ℕ → Bool
+has_just_crossed (Crossed g s ∷ past) id = g == id
+has_just_crossed _ id = false
+
+-- the host that held a live address when the frame crossed its last switch, at the latest by the entry that directly follows that crossing
+abbrev pub held_at_crossing : List Entry → ℕ → ℕ → Option ℕ
+held_at_crossing [] id x = None
+held_at_crossing (Crossed g s ∷ past) id x = if g == id then live_holder past x else held_at_crossing past id x
+held_at_crossing (Granted y h e p ∷ past) id x =
+    if has_just_crossed past id then live_holder (Granted y h e p ∷ past) x else held_at_crossing past id x
+held_at_crossing (Copied g c ∷ past) id x = held_at_crossing past (before_copy g c id) x
+held_at_crossing (entry ∷ past) id x = held_at_crossing past id x
+
+-- one of these entries is a crossing of the frame
+abbrev pub is_crossed : List Entry → ℕ → Bool
+is_crossed [] id = false
+is_crossed (Crossed g s ∷ entries) id = (g == id) || is_crossed entries id
+is_crossed (entry ∷ entries) id = is_crossed entries id
+
+-- The host that a frame for one host is for: the one that held its present address then. It is no part of what is said of its flight, since
+-- a grant that another switch makes next may change it while the frame is between switches. So a frame that waits in the queue of a host's port
+-- is for the same host while its address is freed or granted again.
+abbrev pub addressee : List Entry → ℕ → Option ℕ
+addressee past id = held_at_crossing past id (address past id)
 
 abbrev pub is_redirected : List Entry → ℕ → Bool
 is_redirected [] id = false

@@ -11,11 +11,11 @@ use Rattle.pl_pmac.specs.Pmac.{pmac_number, mac_of}
 use Rattle.pl_wiring.specs.Plan.{Plan}
 use Rattle.pl_layouts.specs.declared.membership.Change.{Change}
 use Rattle.pl_journal.specs.declared.entry.Entry.{Entry}
-use Rattle.pl_journal.specs.declared.entry.Entry.TheVariants.{Line, Sent, Skipped, Made, Crossed, Redirected, Copied, Arrived, Taken, Dropped, Granted, Registered, Placed, LinkDown, LinkUp, Moved, Settled, Unsettled}
+use Rattle.pl_journal.specs.declared.entry.Entry.TheVariants.{Line, Sent, Skipped, Made, Crossed, Redirected, Copied, Arrived, Taken, Dropped, Granted, Registered, Freed, Placed, LinkDown, LinkUp, Moved, Settled, Unsettled}
 use Rattle.pl_layouts.specs.Memberships.{group_of, group_number, changes_in, flood}
 use Rattle.pl_layouts.specs.Frames.{mac_number, arriving, is_takeable}
-use Rattle.pl_journal.specs.Places.{EdgePort, at_port, is_at, holder, edge_port, edge_port_of, has_stood, is_free, is_of_edge, number, registered, is_adjacent, is_failed}
-use Rattle.pl_journal.specs.Flights.{address, beginning, begun, first_of, is_flying, is_good_leg, is_led_to, is_redirected, leg, root, root_arrived_at, sender, sender_address}
+use Rattle.pl_journal.specs.Places.{EdgePort, at_port, is_at, holder, is_live, edge_port, edge_port_of, has_stood, is_free, is_of_edge, number, registered, is_adjacent, is_failed}
+use Rattle.pl_journal.specs.Flights.{address, addressee, beginning, begun, first_of, is_flying, is_good_leg, is_led_to, is_redirected, leg, root, root_arrived_at, sender, sender_address}
 use Rattle.pl_journal.specs.Causes.{CauseShows, goes_to_group}
 
 -- what the last of these changes for a group says, else what was before
@@ -77,9 +77,10 @@ is_turning (s ∷ switches) redirected (Some there) = s == there.edge
 abbrev pub goes_well : Plan → List Entry → ℕ → List ℕ → ℕ → Bool
 goes_well plan past id switches s = is_good_leg plan.k (s ∷ switches) && is_led_to plan past id switches s
 
--- a frame to one host: the host holds the frame's present address, stands where it was granted, and the frame has come to that edge switch
+-- a frame to one host: the frame is for the host, which stands where the frame's present address was granted, and the frame has come to that
+-- edge switch
 pub record ArrivesByAddress (plan : Plan) (past : List Entry) (id host : ℕ) (frame : List ℕ) : Type 0 where
-  pub held : holder past (address past id) ≡ Some host
+  pub held : addressee past id ≡ Some host
   pub stands_there : edge_port_of plan past host ≡ edge_port past (address past id)
   pub reached : EndsAt (leg past id) (edge_port_of plan past host)
   pub unaltered : Unaltered plan past id (mac_of_host plan host) frame
@@ -96,6 +97,7 @@ pub record ArrivesByGroup (plan : Plan) (past : List Entry) (id host : ℕ) (fra
 -- empty since it was redirected there just before
 pub record GoesToNewer (past : List Entry) (id : ℕ) (old new : Pmac) : Type 0 where
   pub present : address past id ≡ pmac_number old
+  pub live : IsTrue (is_live past (pmac_number old)) × IsTrue (is_live past (pmac_number new))
   pub same_host : holder past (pmac_number new) ≡ holder past (pmac_number old)
   pub newer : IsNewer (number past (pmac_number old)) (number past (pmac_number new))
   pub turns : IsTrue (is_turning (leg past id) (is_redirected past id) (edge_port past (pmac_number old)))
@@ -106,9 +108,9 @@ pub record IsTakenBy (past : List Entry) (id switch : ℕ) : Type 0 where
   pub alone : leg past id ≡ switch ∷ []
   pub takeable : IsTrue (is_takeable (beginning past id))
 
--- an address is granted once, to a host that stands or has stood at its port; pod and position are those of one edge switch
+-- an address is granted that is not live, to a host that stands or has stood at its port; pod and position are those of one edge switch
 pub record IsGrantable (plan : Plan) (past : List Entry) (x : Pmac) (host : ℕ) (there : EdgePort) : Type 0 where
-  pub fresh : holder past (pmac_number x) ≡ None
+  pub fresh : IsFalse (is_live past (pmac_number x))
   pub port : x.port ≡ there.port
   pub stood : IsTrue (has_stood plan past host there)
   pub edge : IsTrue (is_of_edge past x there.edge)
@@ -131,7 +133,8 @@ Needs plan past (Arrived id h f) =
 Needs plan past (Taken id s) = IsTrue (is_flying past id) × IsTakenBy past id s.0
 Needs plan past (Dropped id cause) = IsTrue (is_flying past id) × CauseShows plan past id cause
 Needs plan past (Granted x h e p) = IsGrantable plan past x h.0 (at_port e.0 p)
-Needs plan past (Registered x n) = IsSome (holder past (pmac_number x)) × (number past (pmac_number x) ≡ None) × (n ≡ registered past + 1)
+Needs plan past (Freed x) = IsTrue (is_live past (pmac_number x))
+Needs plan past (Registered x n) = IsTrue (is_live past (pmac_number x)) × (number past (pmac_number x) ≡ None) × (n ≡ registered past + 1)
 Needs plan past (Moved h e p) = IsSome (slice_get plan.hosts h.0) × IsTrue (is_free plan past (at_port e.0 p))
 Needs plan past (LinkDown x y) = IsLink plan past x.0 y.0 false
 Needs plan past (LinkUp x y) = IsLink plan past x.0 y.0 true

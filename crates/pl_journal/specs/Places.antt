@@ -11,7 +11,7 @@ use Rattle.pl_wiring.specs.Labels.{edge_count}
 use Rattle.pl_wiring.specs.Plan.{Plan}
 use Rattle.pl_wiring.specs.Peers.{peer_of}
 use Rattle.pl_journal.specs.declared.entry.Entry.{Entry}
-use Rattle.pl_journal.specs.declared.entry.Entry.TheVariants.{Granted, Registered, LinkDown, LinkUp, Moved}
+use Rattle.pl_journal.specs.declared.entry.Entry.TheVariants.{Freed, Granted, Registered, LinkDown, LinkUp, Moved}
 
 -- a port of an edge switch
 pub record EdgePort : Type 0 where
@@ -69,6 +69,23 @@ edge_port [] x = None
 edge_port (Granted y h e p ∷ past) x = if pmac_number y == x then Some (at_port e.0 p) else edge_port past x
 edge_port (entry ∷ past) x = edge_port past x
 
+-- an address is live once it was granted, until it is freed
+abbrev pub is_live : List Entry → ℕ → Bool
+is_live [] x = false
+is_live (Granted y h e p ∷ past) x = (pmac_number y == x) || is_live past x
+is_live (Freed y ∷ past) x = not (pmac_number y == x) && is_live past x
+is_live (entry ∷ past) x = is_live past x
+
+-- one of these entries frees it
+abbrev pub are_freed : List Entry → ℕ → Bool
+are_freed [] x = false
+are_freed (Freed y ∷ entries) x = (pmac_number y == x) || are_freed entries x
+are_freed (entry ∷ entries) x = are_freed entries x
+
+-- the host that holds a live address
+abbrev pub live_holder : List Entry → ℕ → Option ℕ
+live_holder past x = if is_live past x then holder past x else None
+
 -- the address that a host was granted last at a port
 abbrev pub granted_at : List Entry → ℕ → EdgePort → Option Pmac
 granted_at [] host there = None
@@ -94,9 +111,17 @@ is_of_edge [] x edge = true
 is_of_edge (Granted y h e p ∷ past) x edge = are_alike (same_pod_and_position x y) (e.0 == edge) && is_of_edge past x edge
 is_of_edge (entry ∷ past) x edge = is_of_edge past x edge
 
--- the registration number that an address was given last
+-- whether each address that these entries grant at a port is live
+abbrev pub are_live_there : (ℕ → Bool) → List Entry → EdgePort → Bool
+are_live_there live [] there = true
+are_live_there live (Granted y h e p ∷ entries) there =
+    (not (same_edge_port (at_port e.0 p) there) || live (pmac_number y)) && are_live_there live entries there
+are_live_there live (entry ∷ entries) there = are_live_there live entries there
+
+-- the registration number that an address was given since it was granted last
 abbrev pub number : List Entry → ℕ → Option ℕ
 number [] x = None
+number (Granted y h e p ∷ past) x = if pmac_number y == x then None else number past x
 number (Registered y n ∷ past) x = if pmac_number y == x then Some n else number past x
 number (entry ∷ past) x = number past x
 

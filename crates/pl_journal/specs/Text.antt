@@ -14,7 +14,7 @@ use Rattle.pl_journal.specs.declared.cause.Skip.{Skip}
 use Rattle.pl_journal.specs.declared.cause.Skip.TheVariants as skips
 use Rattle.pl_layouts.specs.declared.place.Place.{Place}
 use Rattle.pl_journal.specs.declared.entry.Entry.{Entry}
-use Rattle.pl_journal.specs.declared.entry.Entry.TheVariants.{Line, Sent, Skipped, Made, Crossed, Redirected, Copied, Arrived, Taken, Dropped, Granted, Registered, Placed, LinkDown, LinkUp, Moved, Settled, Unsettled}
+use Rattle.pl_journal.specs.declared.entry.Entry.TheVariants.{Line, Sent, Skipped, Made, Crossed, Redirected, Copied, Arrived, Taken, Dropped, Granted, Registered, Freed, Placed, LinkDown, LinkUp, Moved, Settled, Unsettled}
 use Rattle.pl_journal.specs.declared.words.Field.{Field}
 use Rattle.pl_journal.specs.declared.words.Field.TheVariants.{Number, Unknown, Address, Switch, Text, Bytes}
 use Rattle.pl_journal.specs.declared.words.Words.{Words}
@@ -73,6 +73,7 @@ words_of plan (Dropped id cause) = codes "dropped" ∷ decimal id ∷ cause_text
 words_of plan (Granted pmac host edge port) =
     codes "granted" ∷ address_text pmac ∷ host_text plan host.0 ∷ switch_text plan edge.0 ∷ decimal port ∷ []
 words_of plan (Registered pmac number) = codes "registered" ∷ address_text pmac ∷ decimal number ∷ []
+words_of plan (Freed pmac) = codes "freed" ∷ address_text pmac ∷ []
 words_of plan (Placed switch place) = codes "placed" ∷ switch_text plan switch.0 ∷ place_texts place
 words_of plan (LinkDown a b) = codes "linkdown" ∷ switch_text plan a.0 ∷ switch_text plan b.0 ∷ []
 words_of plan (LinkUp a b) = codes "linkup" ∷ switch_text plan a.0 ∷ switch_text plan b.0 ∷ []

@@ -1,4 +1,4 @@
-ghost use Rattle.std.specs.Prelude.{◌≡◌, ◌≢◌, ℕ, ◌≤◌, List, ◌∷◌, ◌++◌, Some, IsSome, is_some};
+ghost use Rattle.std.specs.Prelude.{◌≡◌, ◌≢◌, ℕ, ◌≤◌, List, ◌∷◌, ◌++◌, Some, IsSome, false, is_some, true};
 ghost use Rattle.pl_pmac.specs.declared.pmac.Pmac.{Pmac};
 ghost use Rattle.pl_pmac.specs.Pmac.{pmac_number};
 ghost use Rattle.pl_wiring.specs.declared.label.SwitchNo.{SwitchNo};
@@ -6,7 +6,8 @@ ghost use Rattle.pl_wiring.specs.declared.host.HostNo.{HostNo};
 ghost use Rattle.pl_wiring.specs.Plan.{Plan};
 ghost use Rattle.pl_journal.specs.declared.entry.Entry.{Entry};
 ghost use Rattle.pl_journal.specs.declared.entry.Entry.TheVariants.{Granted, Registered};
-ghost use Rattle.pl_journal.specs.Places.{EdgePort, at_port, holder, number, registered, edge_port};
+ghost use Rattle.pl_journal.specs.Places.{at_port, are_freed, holder, is_live, number, registered, edge_port};
+ghost use Rattle.pl_journal.specs.Flights.{held_at_crossing, is_begun, is_crossed};
 ghost use Rattle.pl_journal.specs.Lossy.{RunTo};
 
 /// A grant gives an address its holder and its port, and leaves those of each other address.
@@ -32,16 +33,16 @@ pub fn a_registration_gives_a_number()
         number (Registered x n ∷ past) y ≡ number past y }
 {}
 
-/// In a run an address keeps its holder, its port and its number, whatever follows.
-pub fn an_address_stays_with_its_host()
-    ensures holder { (plan : Plan) (newer past : List Entry) (x host : ℕ) →
-        RunTo plan (newer ++ past) → holder past x ≡ Some host →
-        holder (newer ++ past) x ≡ Some host }
-    ensures edge_port { (plan : Plan) (newer past : List Entry) (x : ℕ) (there : EdgePort) →
-        RunTo plan (newer ++ past) → edge_port past x ≡ Some there →
-        edge_port (newer ++ past) x ≡ Some there }
-    ensures number { (plan : Plan) (newer past : List Entry) (x n : ℕ) →
-        RunTo plan (newer ++ past) → number past x ≡ Some n →
+/// In a run a live address keeps its holder, its port and its number, whatever follows, until it is freed.
+pub fn a_live_address_stays_with_its_host()
+    ensures live { (plan : Plan) (newer past : List Entry) (x : ℕ) → RunTo plan (newer ++ past) →
+        are_freed newer x ≡ false → is_live past x ≡ true → is_live (newer ++ past) x ≡ true }
+    ensures holder { (plan : Plan) (newer past : List Entry) (x : ℕ) → RunTo plan (newer ++ past) →
+        are_freed newer x ≡ false → is_live past x ≡ true → holder (newer ++ past) x ≡ holder past x }
+    ensures edge_port { (plan : Plan) (newer past : List Entry) (x : ℕ) → RunTo plan (newer ++ past) →
+        are_freed newer x ≡ false → is_live past x ≡ true → edge_port (newer ++ past) x ≡ edge_port past x }
+    ensures number { (plan : Plan) (newer past : List Entry) (x n : ℕ) → RunTo plan (newer ++ past) →
+        are_freed newer x ≡ false → is_live past x ≡ true → number past x ≡ Some n →
         number (newer ++ past) x ≡ Some n }
 {}
 
@@ -54,4 +55,12 @@ pub fn registered_addresses_have_numbers_of_their_own()
         number past x ≡ Some n → number past y ≡ Some n → x ≡ y }
     ensures granted { (plan : Plan) (past : List Entry) (x n : ℕ) → RunTo plan past →
         number past x ≡ Some n → IsSome (holder past x) }
+{}
+
+/// A frame that waits is for the same host all the while, in a run: also while its present address is freed, or
+/// granted again.
+pub fn a_waiting_frame_keeps_its_addressee()
+    ensures { (plan : Plan) (newer past : List Entry) (id x host : ℕ) → RunTo plan (newer ++ past) →
+        is_begun past id ≡ true → is_crossed newer id ≡ false → held_at_crossing past id x ≡ Some host →
+        held_at_crossing (newer ++ past) id x ≡ Some host }
 {}

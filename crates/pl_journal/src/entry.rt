@@ -33,6 +33,8 @@ pub enum Entry {
     Granted(Pmac, HostNo, SwitchNo, u8),
     /// The fabric manager learns an address, and numbers it.
     Registered(Pmac, u64),
+    /// An edge switch frees an address that is not used: it may be granted again.
+    Freed(Pmac),
     /// A switch knows more of its place.
     Placed(SwitchNo, Place),
     /// A link fails; the switch that is first in label order stands first.

@@ -7,8 +7,8 @@
 #![tactic(auto)]
 
 pub use address_laws::{
-    a_grant_gives_an_address, a_registration_gives_a_number, an_address_stays_with_its_host,
-    registered_addresses_have_numbers_of_their_own,
+    a_grant_gives_an_address, a_live_address_stays_with_its_host, a_registration_gives_a_number,
+    a_waiting_frame_keeps_its_addressee, registered_addresses_have_numbers_of_their_own,
 };
 pub use cause::{Cause, Skip};
 pub use entry::Entry;

@@ -27,6 +27,7 @@ impl Entry {
             Entry::Dropped(id, cause) => two("dropped", number(*id), text(cause.name())),
             Entry::Granted(pmac, host, edge, port) => granted(wiring, *pmac, *host, *edge, *port),
             Entry::Registered(pmac, n) => two("registered", address(*pmac), number(*n)),
+            Entry::Freed(pmac) => one("freed", address(*pmac)),
             Entry::Placed(switch, place) => placed(label(wiring, *switch), *place),
             Entry::LinkDown(a, b) => two("linkdown", label(wiring, *a), label(wiring, *b)),
             Entry::LinkUp(a, b) => two("linkup", label(wiring, *a), label(wiring, *b)),

@@ -1,5 +1,0 @@
-use Rattle.pl_journal.proofs.Addresses.{holder_stays, number_stays, edge_port_stays}
-use Rattle.pl_journal.proofs.address_laws.an_address_stays_with_its_host.Goals as goal
-
-pub returns : goal.returns
-returns c = record { holder = holder_stays; edge_port = edge_port_stays; number = number_stays }

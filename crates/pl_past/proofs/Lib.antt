@@ -3,3 +3,4 @@ pub mod Frames
 pub mod Table
 pub mod LegLemmas
 pub mod MovesByNumbers
+pub mod HoldersByNumbers

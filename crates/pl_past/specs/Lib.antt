@@ -2,3 +2,4 @@ pub mod Links
 pub mod Kept
 pub mod Legs
 pub mod Moves
+pub mod Addressees

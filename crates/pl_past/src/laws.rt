@@ -6,13 +6,14 @@ ghost use Rattle.pl_wiring.specs.Plan.{Plan};
 ghost use Rattle.pl_journal.specs.declared.cause.Cause.{Cause};
 ghost use Rattle.pl_journal.specs.declared.entry.Entry.{Entry};
 ghost use Rattle.pl_journal.specs.declared.entry.Entry.TheVariants.{Arrived, Copied, Crossed, Dropped, Granted, Made, Redirected, Sent, Taken};
-ghost use Rattle.pl_journal.specs.Places.{is_of_edge};
-ghost use Rattle.pl_journal.specs.Flights.{address_at, begun, came_in, has_just_come_in, has_moved_since, is_flying, leg, sender, was_live};
+ghost use Rattle.pl_journal.specs.Places.{is_of_edge, live_holder};
+ghost use Rattle.pl_journal.specs.Flights.{address_at, begun, came_in, has_just_come_in, has_moved_since, held_at_crossing, is_flying, leg, sender, was_live};
 ghost use Rattle.pl_journal.specs.Lossy.{RunTo, goes_well};
 ghost use Rattle.pl_past.specs.Moves.{edge_of, is_none_or, is_none_or_alike, moved_at, address_of_edge, sent_at};
 ghost use Rattle.pl_past.specs.Links.{live_since, was_live_by_numbers};
 ghost use Rattle.pl_past.specs.Kept.{IsTable, Kept, crossing, ending, entrance, first_kept, granting, kept, redirecting, touched_by};
 ghost use Rattle.pl_past.specs.Legs.{goes_well_by};
+ghost use Rattle.pl_past.specs.Addressees.{asked_at, held_as_of, tenures};
 
 /// Whether a link was live since a frame's last crossing is told by two numbers, and whether a crossing goes on
 /// well by what is kept of the frame.
@@ -76,4 +77,11 @@ pub fn moves_and_edges_by_numbers_and_tables()
     ensures edge { (plan : Plan) (past : List Entry) (x : Pmac) (edge : ℕ) → RunTo plan past →
         is_of_edge past x edge
         ≡ (is_none_or (edge_of past x) edge && is_none_or_alike (address_of_edge past edge) x) }
+{}
+
+/// Whom a frame is for is told by one number, and by who held its address since when.
+pub fn one_number_tells_whom_a_frame_is_for()
+    ensures now { (past : List Entry) (x : ℕ) → live_holder past x ≡ held_as_of (length past) (tenures past x) }
+    ensures crossing { (past : List Entry) (id x : ℕ) →
+        held_at_crossing past id x ≡ held_as_of (asked_at past id) (tenures past x) }
 {}

@@ -6,8 +6,9 @@
 #![tactic(auto)]
 
 pub use laws::{
-    moves_and_edges_by_numbers_and_tables, one_place_of_the_table_changes,
-    two_numbers_tell_whether_a_link_was_live, what_is_kept_of_a_frame_changes_by_its_own_entries,
+    moves_and_edges_by_numbers_and_tables, one_number_tells_whom_a_frame_is_for,
+    one_place_of_the_table_changes, two_numbers_tell_whether_a_link_was_live,
+    what_is_kept_of_a_frame_changes_by_its_own_entries,
 };
 
 mod laws;

@@ -20,7 +20,7 @@ from itertools import pairwise
 CAUSES = {
     "NotPlaced": "the switch does not know its own place yet, or not that of its neighbour",
     "NoNextHop": "no usable port leads on to its address",
-    "NoAddress": "its address was never given to a host",
+    "NoAddress": "its address was never given to a host, or was freed since",
     "HostGone": "the host that it is for does not stand at that port",
     "LinkDown": "the link was down, or failed with the frame on it",
     "Lost": "an event of the script took it from its queue",
@@ -65,6 +65,7 @@ FORMS = {
     "dropped": {"frame": int, "cause": str},
     "granted": {"address": str, "host": str, "switch": str, "port": int},
     "registered": {"address": str, "number": int},
+    "freed": {"address": str},
     "placed": {"switch": str, "level": part, "position": part, "pod": part},
     "linkdown": {"a": str, "b": str},
     "linkup": {"a": str, "b": str},
@@ -170,7 +171,7 @@ class State:
         self.places = {switch.label: Place() for switch in fabric.switches}
         self.failed = set()  # of links, each by its two ends in both orders
         self.spots = {host.name: (host.edge, host.port) for host in fabric.hosts}
-        self.granted = {}  # for each pseudo address the host, the edge switch and the port that it was granted for
+        self.granted = {}  # for each pseudo address that is live the host, the edge switch and the port that it was granted for
         self.addresses = {host.name: [] for host in fabric.hosts}  # for each host its registered ones, the newest last
         self.is_settled = False  # as of the last `settle` line, and no link failed or host moved since
 
@@ -183,6 +184,11 @@ class State:
         elif kind == "registered":
             if entry.address in self.granted:
                 self.addresses[self.granted[entry.address][0]].append(entry.address)
+        elif kind == "freed":
+            host = self.granted.pop(entry.address)[0]
+            # an address that is older than one that was freed is not the newest again
+            older = self.addresses[host].index(entry.address) + 1 if entry.address in self.addresses[host] else 0
+            del self.addresses[host][:older]
         elif kind == "moved":
             self.spots[entry.host] = entry.switch, entry.port
         elif kind == "linkdown":

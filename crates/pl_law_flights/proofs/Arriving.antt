@@ -19,9 +19,9 @@ use Rattle.pl_journal.specs.declared.cause.Cause.TheVariants as cause
 use Rattle.pl_journal.specs.declared.entry.Entry.{Entry}
 use Rattle.pl_journal.specs.declared.entry.Entry.TheVariants.{Arrived, Dropped}
 use Rattle.pl_journal.specs.Causes.{CauseShows, goes_to_group, has_left, is_routed}
-use Rattle.pl_journal.specs.Flights.{address, first_of, flight_of, leg, root}
+use Rattle.pl_journal.specs.Flights.{address, addressee, first_of, flight_of, leg, root}
 use Rattle.pl_journal.specs.Lossy.{ArrivesByAddress, ArrivesByGroup, EndsAt, Needs, UnalteredFrom, is_member, is_root_there, is_same_place, mac_of_host}
-use Rattle.pl_journal.specs.Places.{EdgePort, at_port, holder, is_at, edge_port, edge_port_of}
+use Rattle.pl_journal.specs.Places.{EdgePort, at_port, is_at, edge_port, edge_port_of}
 use Rattle.pl_journal.proofs.Exports.{hosts_apart, unicast_is_not_routed}
 use Rattle.pl_node.specs.declared.reception.Reception.{Reception}
 use Rattle.pl_node.specs.declared.reception.Reception.TheVariants.{Kept, NotMember}
@@ -147,7 +147,7 @@ by_kind false p q = q refl
 
 module _ (w : WorldView) (counted : IsCounted w) (told : IsJournaled w) (s port id : ℕ) (frame : List ℕ) (items : List Item)
     (within : port < w.plan.k) (head : out_of w s port ≡ Data id frame ∷ items) (peer : peer_of w.plan s port ≡ HostPort) where
-  leaving : IsLeaving w.plan (place_in w.switches) (history_of (reverse w.journal)) (flight_of w.plan (reverse w.journal) id) frame s port
+  leaving : IsLeaving w.plan (place_in w.switches) (addressee (reverse w.journal) id) (history_of (reverse w.journal)) (flight_of w.plan (reverse w.journal) id) frame s port
   leaving = subst (λ (p : Peer). IsGoing w.plan (place_in w.switches) (reverse w.journal) s port p id frame) peer
       (taken w counted told s port id frame items within head).going
 
@@ -202,7 +202,7 @@ module _ (w : WorldView) (counted : IsCounted w) (told : IsJournaled w) (s port 
           | inl at ↦ absurd (not_gone one.host one.mac (at_is (edge_port_of w.plan past one.host) at))
           | inr away ↦ away
         ] in
-        inr (inl (left_is (holder past (address past id)) (edge_port past (address past id)) one.host one.held one.there gone))
+        inr (inl (left_is (addressee past id) (edge_port past (address past id)) one.host one.held one.there gone))
   ]
     where
       at_is : (o : Option EdgePort) → is_at o (at_port s port) ≡ true → o ≡ Some (at_port s port)

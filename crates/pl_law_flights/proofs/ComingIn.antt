@@ -17,7 +17,7 @@ use Rattle.pl_journal.specs.declared.cause.Cause.TheVariants.{NotPlaced, Spent}
 use Rattle.pl_journal.specs.declared.entry.Entry.{Entry}
 use Rattle.pl_journal.specs.declared.entry.Entry.TheVariants.{Crossed, Granted}
 use Rattle.pl_journal.specs.Flights.{Flight}
-use Rattle.pl_journal.specs.Lossy.{IsGrantable, mac_of_host}
+use Rattle.pl_journal.specs.Lossy.{mac_of_host}
 use Rattle.pl_journal.specs.Places.{EdgePort, at_port, same_edge_port, edge_port_of}
 use Rattle.pl_journal.proofs.Exports.{same_edge_port_itself}
 use Rattle.pl_node.specs.declared.acts.Act.{Act}
@@ -46,12 +46,13 @@ use Rattle.pl_law_flights.proofs.Learning.{AgreesWith, Learns, knows_agreed, kno
 use Rattle.pl_law_addresses.proofs.Exports.{granted_here, local_here, used_is}
 use Rattle.pl_law_flights.proofs.SilentSteps.{AreSilent, silent_append, silent_changes, silent_good}
 use Rattle.pl_law_flights.proofs.TakingIn.{IsNew, sends_in_good, takes_in_good}
+use Rattle.pl_law_flights.proofs.Granting.{IsGivable}
 
 -- What acts do with a host's frame: they are good, or they are once an address was granted, silently before.
 pub data Coming (plan : Plan) (place : ℕ → Place) (now : List Entry) (t h : ℕ) (f : Flight) (acts : List Act) : Type 0 where
   NoGrant : GoodActs plan place (history_of now) t acts (Waits f false) → Coming plan place now t h f acts
   Grants : (silent : List Act) (pmac : Pmac) (amac : Mac) (rest : List Act) → acts ≡ silent ++ act.Grant pmac amac ∷ rest → AreSilent silent →
-      mac_of_host plan h ≡ Some amac → IsGrantable plan now pmac h (at_port t pmac.port) →
+      mac_of_host plan h ≡ Some amac → IsGivable plan now pmac h (at_port t pmac.port) →
       GoodActs plan place (history_of (Granted pmac (host_no h) (switch_no t) pmac.port ∷ now)) t rest
       (Waits (sourced (Granted pmac (host_no h) (switch_no t) pmac.port ∷ now) f) false) → Coming plan place now t h f acts
 
@@ -198,7 +199,7 @@ module _ (plan : Plan) (place : ℕ → Place) (past : List Entry) (t : ℕ) (v 
         let x : Pmac = address_at_port (with_host v port) port m in
         let same : x ≡ address_at_port v port m = same_address v (with_host v port) port m alike.place in
         let was : IsNextAddress past t x = subst (λ (y : Pmac). IsNextAddress past t y) (sym same) (hosts.next port peer within settled left) in
-        let may : IsNextAddress (Crossed id (switch_no t) ∷ past) t x = record { fresh = was.fresh; edge = was.edge; fits = was.fits; own = was.own } in
+        let may : IsNextAddress (Crossed id (switch_no t) ∷ past) t x = record { fresh = was.fresh; again = was.again; edge = was.edge; fits = was.fits; own = was.own } in
         let src : Mac = source_of frame in
         let w : SwitchView = with_grants (with_host v port) port (grants_at v port ++ new_grant src (sender_ip frame) ∷ []) in
         let e : Entry = Granted x (host_no h) (switch_no t) port in
@@ -213,7 +214,7 @@ module _ (plan : Plan) (place : ℕ → Place) (past : List Entry) (t : ℕ) (v 
         Grants (changes_told v (with_host v port) ++ []) x src (told ++ (takes_in_or_spent choose port frame w).acts)
         (append_assoc (changes_told v (with_host v port) ++ []) (act.Grant x src ∷ told) (takes_in_or_spent choose port frame w).acts)
         silent_found mac
-        (record { fresh = may.fresh; port = refl; stood = stood_there plan past h (at_port t port) attachments; edge = may.edge })
+        (record { may = record { fresh = may.fresh; port = refl; stood = stood_there plan past h (at_port t port) attachments; edge = may.edge }; again = may.again })
         (rest_good plan place t port frame is_plan places choose is (history_of (e ∷ Crossed id (switch_no t) ∷ past)) w f2 m
         (record { of_host = refl; alone = refl; once = refl; beginning = refl; address = refl; long = long })
         (neighbours_alike plan place t v w all neighbours)

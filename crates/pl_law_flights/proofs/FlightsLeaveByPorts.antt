@@ -12,8 +12,8 @@ use Rattle.pl_layouts.specs.declared.place.Place.{Place}
 use Rattle.pl_journal.specs.declared.cause.Cause.TheVariants as cause
 use Rattle.pl_journal.specs.declared.entry.Entry.{Entry}
 use Rattle.pl_journal.specs.declared.entry.Entry.TheVariants.{Dropped}
-use Rattle.pl_journal.specs.Flights.{Flight, first_of, flight_of, was_live}
-use Rattle.pl_journal.specs.Places.{is_failed, is_host_port}
+use Rattle.pl_journal.specs.Flights.{Flight, address, addressee, first_of, flight_of, was_live}
+use Rattle.pl_journal.specs.Places.{is_failed, is_host_port, live_holder}
 use Rattle.pl_world.specs.declared.item.Item.TheVariants.{Control, Data}
 use Rattle.pl_world.specs.Changes.{is_failed_at}
 use Rattle.pl_world.specs.Worlds.{WorldView}
@@ -32,15 +32,16 @@ module _ (place : ℕ → Place) (s : ℕ) (w : WorldView) (past : List Entry) w
   -- the frame in hand goes out where the link is live
   goes : (id port : ℕ) (f : Flight) (frame : List ℕ) (peer : Peer) → peer_of w.plan s port ≡ peer → is_failed_at w s port ≡ false →
       JournalSays w.plan place past w.links w.attachments w.from_hosts w.out → flight_of w.plan past id ≡ f →
-      ((t : ℕ) → was_live past id s t ≡ not (is_failed past s t)) → MayLeave w.plan place (history_of past) s port peer f frame →
-      IsGoing w.plan place past s port peer id frame
-  goes id port f frame (Switch t q) peer live t0 flight since may =
+      ((t : ℕ) → was_live past id s t ≡ not (is_failed past s t)) → addressee past id ≡ live_holder past (address past id) →
+      MayLeave w.plan place (history_of past) s port peer f frame → IsGoing w.plan place past s port peer id frame
+  goes id port f frame (Switch t q) peer live t0 flight since for may =
       let flag : not (is_live_at w.links s port) ≡ false = sym (live_link w past s port (Switch t q) peer) ∙ live in
       let on : not (is_failed past s t.0) ≡ true = sym (t0.links_agree s port t q peer) ∙ not-false (is_live_at w.links s port) flag in
       between_kept w.plan place (history_of past) (history_of past) f (flight_of w.plan past id) true (was_live past id s t.0) frame s t.0 flight (λ h. since t.0 ∙ on)
       (same_history (history_of past)) may
-  goes id port f frame HostPort peer live t0 flight since may =
-      leaving_kept w.plan place (history_of past) (history_of past) f (flight_of w.plan past id) frame s port flight (same_history (history_of past)) may
+  goes id port f frame HostPort peer live t0 flight since for may =
+      leaving_kept w.plan place (history_of past) (history_of past) ((history_of past).hold f.address) (addressee past id) f (flight_of w.plan past id) frame s port flight
+      (λ h held. for ∙ ap (λ v. live_holder past v.address) flight ∙ held) (same_history (history_of past)) may
 
   -- and is put off where it is failed
   stays : (id port : ℕ) (f : Flight) (peer : Peer) → peer_of w.plan s port ≡ peer → is_failed_at w s port ≡ true → IsPlan w.plan →
@@ -82,6 +83,6 @@ module _ (place : ℕ → Place) (s : ℕ) (w : WorldView) (past : List Entry) w
   }
   goes_out_journaled false id port f frame late live within is_plan t h may all = record {
     flying = put_out w.plan place past w.from_hosts w.out s port (Data id frame) within
-        (goes id port f frame (peer_of w.plan s port) refl live t h.flight h.live may) t.flying;
+        (goes id port f frame (peer_of w.plan s port) refl live t h.flight h.live h.to may) t.flying;
     puts_off = all;
   }

@@ -49,7 +49,7 @@ use Rattle.pl_law_flights.proofs.SwitchTurns.{turn_switches}
 module _ (plan : Plan) (place later : ℕ → Place) (more : IsMore place later) (history : AddressHistory) (s : ℕ) where
   leave_grown : (port : ℕ) (peer : Peer) (f : Flight) (frame : List ℕ) → MayLeave plan place history s port peer f frame → MayLeave plan later history s port peer f frame
   leave_grown port (Switch t q) f frame may = between_grown place later more plan history f true frame s t.0 may
-  leave_grown port HostPort f frame may = leaving_grown place later more plan history f frame s port may
+  leave_grown port HostPort f frame may = leaving_grown place later more plan (history.hold f.address) history f frame s port may
 
   pub good_grown : (acts : List Act) (hand : Hand) → GoodActs plan place history s acts hand → GoodActs plan later history s acts hand
   good_grown [] hand good = tt

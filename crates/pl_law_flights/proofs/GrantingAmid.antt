@@ -1,15 +1,14 @@
 -- Amid the step in which a host's frame comes, its host is granted an address, directly behind the frame's first crossing.
 use Rattle.std.proofs.Common.{arith, ◌<◌, length, set, ◌≡◌, ℕ, ◌+◌, ◌==◌, true, false, List, [], ◌∷◌, ◌++◌, Option, None, Some, refl, sym, ◌∙◌, ap, subst}
 use Rattle.std.specs.List.{AllByRecursion, fold}
-use Rattle.std.proofs.lemmas.Bool.{cond-true, eq-eqb, false≢true}
+use Rattle.std.proofs.lemmas.Bool.{cond-true, eq-eqb, false≢true, and_parts}
 use Rattle.pl_pmac.specs.declared.pmac.Pmac.{Pmac}
 use Rattle.pl_frame.specs.declared.address.Mac.{Mac}
 use Rattle.pl_layouts.specs.declared.place.Place.{Place}
 use Rattle.pl_journal.specs.declared.entry.Entry.{Entry}
-use Rattle.pl_journal.specs.declared.entry.Entry.TheVariants.{Granted}
-use Rattle.pl_journal.specs.Flights.{Flight, address_at, ends, has_just_come_in}
-use Rattle.pl_journal.specs.Lossy.{IsGrantable}
-use Rattle.pl_journal.specs.Places.{at_port}
+use Rattle.pl_journal.specs.declared.entry.Entry.TheVariants.{Granted, Crossed}
+use Rattle.pl_journal.specs.Flights.{Flight, address_at, ends, has_just_come_in, address, has_just_crossed, held_at_crossing}
+use Rattle.pl_journal.specs.Places.{at_port, live_holder}
 use Rattle.pl_node.specs.declared.acts.Act.{Act}
 use Rattle.pl_node.specs.declared.acts.Act.TheVariants as act
 use Rattle.std.proofs.lemmas.Option.{slice_get_within}
@@ -26,7 +25,7 @@ use Rattle.pl_world.specs.Worlds.{WorldView}
 use Rattle.pl_law_flights.specs.OnTheWay.{IsJournaled, history_of, place_in}
 use Rattle.pl_law_flights.proofs.ActsKeepFlights.{IsDone, acts_journaled, control_amid, done_journaled}
 use Rattle.pl_law_flights.proofs.Counting.{counts, owed}
-use Rattle.pl_law_flights.proofs.Granting.{granted_source, note_grant}
+use Rattle.pl_law_flights.proofs.Granting.{granted_source, note_grant, IsGivable}
 use Rattle.pl_law_flights.proofs.Hands.{GoodActs, IsAmid, IsHeld}
 use Rattle.pl_law_flights.proofs.Hands.Hand.{Waits}
 use Rattle.pl_law_flights.proofs.EntriesOfFlights.{reverse_noted}
@@ -36,11 +35,16 @@ use Rattle.pl_law_flights.proofs.SilentSteps.{AreSilent}
 abbrev pub sourced : List Entry → Flight → Flight
 sourced past f = record f { source = address_at past f.sender f.came_in }
 
+come_crossed : (past : List Entry) (id : ℕ) → has_just_come_in past id ≡ true → has_just_crossed past id ≡ true
+come_crossed [] id just = absurd (cc)
+come_crossed (Crossed g s ∷ past) id just = (and_parts (g == id) _ just).0
+come_crossed (entry ∷ past) id just = absurd (cc)
+
 module _ (place : ℕ → Place) (s k : ℕ) (id : ℕ) (f : Flight) (pmac : Pmac) (amac : Mac) (rest : List Act) where
   -- what the acts behind the grant may be, with the larger history
   abbrev pub GoodBehind : WorldView → List Entry → Option ℕ → Type 0
   GoodBehind w past None = GoodActs w.plan place (history_of past) s rest (Waits f false)
-  GoodBehind w past (Some h) = IsGrantable w.plan past pmac h (at_port s pmac.port)
+  GoodBehind w past (Some h) = IsGivable w.plan past pmac h (at_port s pmac.port)
       × GoodActs w.plan place (history_of (Granted pmac (host_no h) (switch_no s) pmac.port ∷ past)) s rest
       (Waits (sourced (Granted pmac (host_no h) (switch_no s) pmac.port ∷ past) f) false)
 
@@ -68,6 +72,7 @@ module _ (place : ℕ → Place) (s k : ℕ) (id : ℕ) (f : Flight) (pmac : Pma
               flight = granted_source w.plan past pmac (host_no h) (switch_no s) pmac.port id f held.in_hand.flight just;
               live = held.in_hand.live;
               last = held.in_hand.last;
+              to = cond-true (has_just_crossed past id) (live_holder (e ∷ past) (address past id)) (held_at_crossing past id (address past id)) (come_crossed past id just);
             };
             turned = tt;
           },

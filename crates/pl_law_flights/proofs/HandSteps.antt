@@ -16,10 +16,10 @@ use Rattle.pl_journal.specs.declared.cause.Cause.TheVariants as cause
 use Rattle.pl_journal.specs.declared.entry.Entry.{Entry}
 use Rattle.pl_journal.specs.declared.entry.Entry.TheVariants.{Copied, Crossed, Dropped, Made, Redirected, Taken}
 use Rattle.pl_journal.specs.Causes.{CauseShows, came_in_at_spent_port, goes_to_group, is_bad_arp, is_routed}
-use Rattle.pl_journal.specs.Flights.{Flight, begun, ends, first_flight, first_of, flight_of, is_begun, is_empty, is_flying, is_redirected, leg, sender, trail}
+use Rattle.pl_journal.specs.Flights.{Flight, begun, ends, first_flight, first_of, flight_of, is_begun, is_empty, is_flying, is_redirected, leg, sender, trail, address}
 use Rattle.pl_journal.specs.Lossy.{GoesToNewer, IsTakenBy, goes_well, is_turning}
 use Rattle.pl_journal.specs.Places.{EdgePort, at_port}
-use Rattle.pl_journal.proofs.Exports.{ends_after_it_begins, flight_made, flying_is_begun, next_is_new}
+use Rattle.pl_journal.proofs.Exports.{ends_after_it_begins, flight_made, flying_is_begun, live_one, next_is_new}
 use Rattle.pl_world.specs.declared.item.Item.TheVariants.{Data}
 use Rattle.pl_world.specs.declared.spoken_frame.SpokenFrame.{SpokenFrame}
 use Rattle.pl_world.specs.declared.spoken_frame.SpokenFrame.TheVariants.{Over, Passed, Waiting}
@@ -34,6 +34,7 @@ use Rattle.pl_law_flights.proofs.Hands.Hand.{Empty, Spreads, Waits}
 use Rattle.pl_law_flights.proofs.KeepingFlights.{kept, same_history}
 use Rattle.pl_law_flights.proofs.EntriesOfFlights.{grown, late_kept, late_written, note, note_drop, reverse_grown, reverse_noted}
 use Rattle.pl_law_flights.proofs.FlightsLeaveByPorts.{goes_out_journaled}
+use Rattle.pl_law_flights.proofs.Granting.{live_holds, not_live}
 
 pub crossed_first : (switches : List ℕ) (s : ℕ) → first_of switches ≡ Some s → is_empty switches ≡ false
 crossed_first [] s is = absurd (cc)
@@ -62,7 +63,7 @@ module _ (plan : Plan) (s : ℕ) where
   shown past id f cause.NotPlaced h may = ap not (crossed_first (trail past id) s (ap (λ w. first_of w.trail) h.flight ∙ h.last))
   shown past id f cause.NoNextHop h may = ap not (crossed_first (trail past id) s (ap (λ w. first_of w.trail) h.flight ∙ h.last))
   shown past id f cause.Lost h may = ap not (crossed_first (trail past id) s (ap (λ w. first_of w.trail) h.flight ∙ h.last))
-  shown past id f cause.NoAddress h may = ap (λ w. (history_of past).hold w.address) h.flight ∙ may
+  shown past id f cause.NoAddress h may = not_live past (address past id) (ap (λ w. (history_of past).hold w.address) h.flight ∙ may)
   shown past id f cause.HostGone h may = absurd may
   shown past id f cause.LinkDown h may = absurd may
   shown past id f cause.Spent h may = ap (λ w. came_in_at_spent_port past w.came_in) h.flight ∙ spent_shown past f.came_in may
@@ -83,6 +84,7 @@ module _ (plan : Plan) (s : ℕ) where
           flight = rw (e, some) (ap {A = Flight} (λ w. record w { address = pmac_number new; redirected = true; leg = s ∷ []; trail = s ∷ w.trail }) h.in_hand.flight);
           live = λ t. rw e refl;
           last = refl;
+          to = rw e refl;
         };
         turned = (rw e refl, rw e refl, some);
       }
@@ -95,6 +97,7 @@ module _ (plan : Plan) (s : ℕ) where
           flight = rw (e, some) (ap {A = Flight} (λ w. record w { address = pmac_number new; redirected = true; leg = s ∷ [] }) flight);
           live = λ t. rw e refl;
           last = h.in_hand.last;
+          to = rw e refl;
         };
         turned = (rw e refl, rw e refl, some);
       }
@@ -103,13 +106,15 @@ module _ (plan : Plan) (s : ℕ) where
       MayTurn (history_of past) s f old new → GoesToNewer past id old new
   goes_newer past id f false old new h may = record {
     present = ap (λ w. w.address) h.in_hand.flight ∙ may.present;
-    same_host = may.same_host;
+    live = (live_one past (pmac_number old) may.host may.held, live_one past (pmac_number new) may.host (may.same_host ∙ may.held));
+    same_host = live_holds past (pmac_number new) may.host (may.same_host ∙ may.held) ∙ sym (live_holds past (pmac_number old) may.host may.held);
     newer = may.newer;
     turns = turning (leg past id) (is_redirected past id) s may.port _ (ap (λ w. first_of w.leg) h.in_hand.flight ∙ may.reached) may.here;
   }
   goes_newer past id f true old new h may = record {
     present = ap (λ w. w.address) h.in_hand.flight ∙ may.present;
-    same_host = may.same_host;
+    live = (live_one past (pmac_number old) may.host may.held, live_one past (pmac_number new) may.host (may.same_host ∙ may.held));
+    same_host = live_holds past (pmac_number new) may.host (may.same_host ∙ may.held) ∙ sym (live_holds past (pmac_number old) may.host may.held);
     newer = may.newer;
     turns = rw (h.turned.0) (h.turned.1);
   }
@@ -267,11 +272,13 @@ module _ (place : ℕ → Place) (s : ℕ) (w : WorldView) where
         flight = rw here in_hand.flight;
         live = λ u. rw here (in_hand.live u);
         last = in_hand.last;
+        to = rw here in_hand.to;
       } in
       let itself : InHand w.plan s f now id = record {
         flight = rw other in_hand.flight;
         live = λ u. rw other (in_hand.live u);
         last = in_hand.last;
+        to = rw other in_hand.to;
       } in
       let o = goes_out_journaled place s w now (is_failed_at w s port) n port f frame late refl within is_plan t copy may all in
       record {
@@ -313,6 +320,7 @@ module _ (place : ℕ → Place) (s : ℕ) (w : WorldView) where
         flight = made_crosses w.plan s (made ∷ old) n (mac_number (destination_of frame)) frame flight;
         live = λ u. rw here refl;
         last = refl;
+        to = rw here refl;
       } in
       record {
         is = reverse_noted ((w.journal ++ late) ++ made ∷ []) (made ∷ old) crossed

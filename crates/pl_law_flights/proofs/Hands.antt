@@ -17,9 +17,9 @@ use Rattle.pl_journal.specs.declared.cause.Cause.TheVariants as cause
 use Rattle.pl_journal.specs.declared.entry.Entry.{Entry}
 use Rattle.pl_journal.specs.declared.entry.Entry.TheVariants.{Crossed, Dropped}
 use Rattle.pl_journal.specs.Causes.{is_bad_arp, is_routed}
-use Rattle.pl_journal.specs.Flights.{Flight, first_flight, first_of, flight_of, is_empty, is_flying, is_redirected, leg, trail, was_live}
+use Rattle.pl_journal.specs.Flights.{Flight, address, addressee, first_flight, first_of, flight_of, is_empty, is_flying, is_redirected, leg, trail, was_live}
 use Rattle.pl_journal.specs.Lossy.{IsNewer}
-use Rattle.pl_journal.specs.Places.{EdgePort, at_port, has_failed_link, is_failed}
+use Rattle.pl_journal.specs.Places.{EdgePort, at_port, has_failed_link, is_failed, live_holder}
 use Rattle.pl_node.specs.declared.acts.Act.{Act}
 use Rattle.pl_node.specs.declared.acts.Act.TheVariants as act
 use Rattle.pl_world.specs.declared.item.Item.{Item}
@@ -47,11 +47,13 @@ pub data Hand : Type 0 where
 
 abbrev pub MayLeave : Plan → (ℕ → Place) → AddressHistory → ℕ → ℕ → Peer → Flight → List ℕ → Type 0
 MayLeave plan place history s port (Switch t q) f frame = IsBetweenSwitches plan place history f true frame s t.0
-MayLeave plan place history s port HostPort f frame = IsLeaving plan place history f frame s port
+MayLeave plan place history s port HostPort f frame = IsLeaving plan place (history.hold f.address) history f frame s port
 
 pub record MayTurn (history : AddressHistory) (s : ℕ) (f : Flight) (old new : Pmac) : Type 0 where
   pub present : f.address ≡ pmac_number old
   pub same_host : history.hold (pmac_number new) ≡ history.hold (pmac_number old)
+  pub host : ℕ
+  pub held : history.hold (pmac_number old) ≡ Some host
   pub newer : IsNewer (history.numbers (pmac_number old)) (history.numbers (pmac_number new))
   pub port : ℕ
   pub here : history.edge_ports (pmac_number old) ≡ Some (at_port s port)
@@ -119,6 +121,7 @@ pub record InHand (plan : Plan) (s : ℕ) (f : Flight) (past : List Entry) (id :
   pub flight : flight_of plan past id ≡ f
   pub live : (t : ℕ) → was_live past id s t ≡ not (is_failed past s t)
   pub last : first_of f.trail ≡ Some s
+  pub to : addressee past id ≡ live_holder past (address past id)
 
 -- a frame that was redirected has crossed nothing since, and something before
 abbrev pub IsTurned : List Entry → ℕ → Bool → Type 0

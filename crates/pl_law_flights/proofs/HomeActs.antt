@@ -88,7 +88,7 @@ module _ (plan : Plan) (place : ℕ → Place) (history : AddressHistory) (t : �
       let same : f.address ≡ pmac_number (destination frame) = here.address ∙ sym (number_of_destination frame) in
       let out : destination_of (arriving frame None (Some grant.amac)) ≡ grant.amac = destination_of-arriving frame None (Some grant.amac) here.long tt is.six in
       let one_host : is_group (destination_of (arriving frame None (Some grant.amac))) ≡ false = ap is_group out ∙ is.unicast in
-      let leaves : IsLeaving plan place history f (arriving frame None (Some grant.amac)) t (destination frame).port = record {
+      let leaves : IsLeaving plan place (history.hold f.address) history f (arriving frame None (Some grant.amac)) t (destination frame).port = record {
         last = here.last;
         group = here.began ∙ sym one_host;
         kept = λ group. absurd (both_ways (is_group (destination_of (arriving frame None (Some grant.amac)))) one_host group);

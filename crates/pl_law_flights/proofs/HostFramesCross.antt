@@ -93,7 +93,7 @@ enters w counted told h id frame items head attachment found =
       holds = (
         refl,
         record {
-          in_hand = record { flight = first_crossing plan past id h s attachment.port frame all.0 at; live = λ u. rw e refl; last = refl };
+          in_hand = record { flight = first_crossing plan past id h s attachment.port frame all.0 at; live = λ u. rw e refl; last = refl; to = rw e refl };
           turned = tt;
         },
       );

@@ -1,5 +1,5 @@
 -- What the journal says of a frame stays when entries follow that do not name it.
-use Rattle.std.proofs.Common.{◌≡◌, ℕ, ◌==◌, Bool, true, false, List, ◌∷◌, Some, refl, sym, ◌∙◌, ap, subst}
+use Rattle.std.proofs.Common.{◌≡◌, ℕ, ◌==◌, Bool, true, false, List, ◌∷◌, Option, Some, refl, sym, ◌∙◌, ap, subst}
 use Rattle.pl_frame.specs.Ethernet.{source_of}
 use Rattle.pl_pmac.specs.Pmac.{pmac_number}
 use Rattle.pl_layouts.specs.declared.place.Place.{Place}
@@ -11,7 +11,7 @@ use Rattle.pl_wiring.specs.Peers.{peer_of}
 use Rattle.pl_wiring.specs.Plan.{Plan}
 use Rattle.pl_journal.specs.declared.entry.Entry.{Entry}
 use Rattle.pl_journal.specs.declared.entry.Entry.TheVariants.{Copied, Crossed, Granted, LinkDown, Made, Redirected, Sent}
-use Rattle.pl_journal.specs.Flights.{Flight, flight_of, was_live}
+use Rattle.pl_journal.specs.Flights.{Flight, addressee, flight_of, was_live}
 use Rattle.pl_journal.specs.Places.{EdgePort, at_port, is_at}
 use Rattle.pl_world.specs.declared.item.Item.{Item}
 use Rattle.pl_law_flights.proofs.PmacNumbers.{number_of_mac}
@@ -22,14 +22,14 @@ use Rattle.pl_law_flights.proofs.Counting.{IsNowhere, all_kept, not_in_one}
 pub record Keeps (plan : Plan) (past later : List Entry) (g : ℕ) : Type 0 where
   pub flight : flight_of plan later g ≡ flight_of plan past g
   pub live : (a b : ℕ) → was_live past g a b ≡ true → was_live later g a b ≡ true
+  pub to : (h : ℕ) → addressee past g ≡ Some h → addressee later g ≡ Some h
 
--- and each address is held that was
+-- and each address has the port that it had
 pub record KeepsHistory (history later : AddressHistory) : Type 0 where
-  pub held : (x h : ℕ) → history.hold x ≡ Some h → later.hold x ≡ Some h
   pub there : (x : ℕ) (at : EdgePort) → history.edge_ports x ≡ Some at → later.edge_ports x ≡ Some at
 
 pub same_history : (history : AddressHistory) → KeepsHistory history history
-same_history history = record { held = λ x h is. is; there = λ x at is. is }
+same_history history = record { there = λ x at is. is }
 
 abbrev pub LeavesAlone : Entry → ℕ → Type 0
 LeavesAlone (Sent n h f) g = (n == g) ≡ false
@@ -42,17 +42,17 @@ LeavesAlone (LinkDown x y) g = ⊥
 LeavesAlone entry g = Unit {0}
 
 pub kept : (plan : Plan) (past : List Entry) (e : Entry) (g : ℕ) → LeavesAlone e g → Keeps plan past (e ∷ past) g
-kept plan past (Sent n h f) g is = record { flight = rw is refl; live = λ a b live. live }
-kept plan past (Made n s f) g is = record { flight = rw is refl; live = λ a b live. live }
-kept plan past (Crossed n s) g is = record { flight = rw is refl; live = λ a b live. rw is live }
-kept plan past (Redirected n old new) g is = record { flight = rw is refl; live = λ a b live. live }
-kept plan past (Copied n c) g is = record { flight = rw is refl; live = λ a b live. rw is live }
+kept plan past (Sent n h f) g is = record { flight = rw is refl; live = λ a b live. live; to = λ k held. rw is held }
+kept plan past (Made n s f) g is = record { flight = rw is refl; live = λ a b live. live; to = λ k held. rw is held }
+kept plan past (Crossed n s) g is = record { flight = rw is refl; live = λ a b live. rw is live; to = λ k held. rw is held }
+kept plan past (Redirected n old new) g is = record { flight = rw is refl; live = λ a b live. live; to = λ k held. rw is held }
+kept plan past (Copied n c) g is = record { flight = rw is refl; live = λ a b live. rw is live; to = λ k held. rw is held }
 kept plan past (Granted x h e p) g is = absurd is
 kept plan past (LinkDown x y) g is = absurd is
-kept plan past entry g is = record { flight = refl; live = λ a b live. live }
+kept plan past entry g is = record { flight = refl; live = λ a b live. live; to = λ k held. held }
 
 pub kept_twice : (plan : Plan) (past later last : List Entry) (g : ℕ) → Keeps plan past later g → Keeps plan later last g → Keeps plan past last g
-kept_twice plan past later last g one next = record { flight = next.flight ∙ one.flight; live = λ a b live. next.live a b (one.live a b live) }
+kept_twice plan past later last g one next = record { flight = next.flight ∙ one.flight; live = λ a b live. next.live a b (one.live a b live); to = λ h held. next.to h (one.to h held) }
 
 module _ (plan : Plan) (place : ℕ → Place) where
   many_kept : (history later : AddressHistory) (f : Flight) (frame : List ℕ) → KeepsHistory history later → IsForMany history f frame → IsForMany later f frame
@@ -79,9 +79,9 @@ module _ (plan : Plan) (place : ℕ → Place) where
     one = λ unicast. let w = b.one unicast in record { route = w.route; whole = more w.whole; unaltered = w.unaltered; sender = w.sender };
   })
 
-  pub leaving_kept : (history later : AddressHistory) (f g : Flight) (frame : List ℕ) (s port : ℕ) → g ≡ f → KeepsHistory history later →
-      IsLeaving plan place history f frame s port → IsLeaving plan place later g frame s port
-  leaving_kept history later f g frame s port same more b = subst (λ h. IsLeaving plan place later h frame s port) (sym same) (record {
+  pub leaving_kept : (history later : AddressHistory) (to then_to : Option ℕ) (f g : Flight) (frame : List ℕ) (s port : ℕ) → g ≡ f → ((h : ℕ) → to ≡ Some h → then_to ≡ Some h) →
+      KeepsHistory history later → IsLeaving plan place to history f frame s port → IsLeaving plan place then_to later g frame s port
+  leaving_kept history later to then_to f g frame s port same for more b = subst (λ h. IsLeaving plan place then_to later h frame s port) (sym same) (record {
     last = b.last;
     group = b.group;
     kept = b.kept;
@@ -96,7 +96,7 @@ module _ (plan : Plan) (place : ℕ → Place) where
         ap (λ o. is_at o (at_port s port)) (is ∙ sym was) ∙ b.not_back group;
     one = λ unicast. let w = b.one unicast in record {
       host = w.host;
-      held = more.held f.address w.host w.held;
+      held = for w.host w.held;
       there = more.there f.address _ w.there;
       reached = w.reached;
       mac = w.mac;
@@ -109,7 +109,7 @@ module _ (plan : Plan) (place : ℕ → Place) where
   going_kept past later s port (Switch t q) g frame keeps history is =
       between_kept (history_of past) (history_of later) (flight_of plan past g) (flight_of plan later g) _ _ frame s t.0 keeps.flight (keeps.live s t.0) history is
   going_kept past later s port HostPort g frame keeps history is =
-      leaving_kept (history_of past) (history_of later) (flight_of plan past g) (flight_of plan later g) frame s port keeps.flight history is
+      leaving_kept (history_of past) (history_of later) (addressee past g) (addressee later g) (flight_of plan past g) (flight_of plan later g) frame s port keeps.flight keeps.to history is
 
   -- each frame in a queue goes on as it was, where entries follow that name another one alone
   pub goes_on : (past later : List Entry) (from_hosts out : List (List Item)) (id : ℕ) → IsNowhere from_hosts out id →

@@ -16,8 +16,8 @@ use Rattle.pl_layouts.specs.Memberships.{is_group}
 use Rattle.pl_layouts.proofs.Exports.{mac_itself, pmac_itself}
 use Rattle.pl_journal.specs.declared.entry.Entry.{Entry}
 use Rattle.pl_journal.specs.declared.entry.Entry.TheVariants.{Granted}
-use Rattle.pl_journal.specs.Lossy.{mac_of_host}
-use Rattle.pl_journal.specs.Places.{EdgePort, at_port, holder, edge_port}
+use Rattle.pl_journal.specs.Lossy.{mac_of_host, IsNewer}
+use Rattle.pl_journal.specs.Places.{EdgePort, at_port, edge_port, live_holder, number}
 use Rattle.pl_node.specs.declared.switch_records.Grant.{Grant}
 use Rattle.pl_node.specs.declared.trap.Trap.{Trap}
 use Rattle.pl_node.specs.SwitchViews.{SwitchView}
@@ -29,10 +29,11 @@ use Rattle.pl_law_flights.specs.OnTheWay.{AddressHistory, history_of}
 use Rattle.pl_law_addresses.specs.EdgeAddresses.{is_settled}
 use Rattle.pl_law_flights.specs.Standing.{IsGranted, IsNextAddress, KnowsAddresses, TrapLeadsOn}
 use Rattle.pl_law_flights.proofs.FindingHosts.{LooksAlike}
-use Rattle.pl_law_flights.proofs.Granting.{history_more}
+use Rattle.pl_law_flights.proofs.Granting.{history_more, live_more, live_now, live_other}
 use Rattle.pl_law_flights.proofs.KeepingFlights.{KeepsHistory}
 use Rattle.pl_law_addresses.proofs.Exports.{granted_here, is_or_other, local_here, now_at, number_push_other, number_push_same, number_set_other, number_set_same, number_within, others_at}
 use Rattle.pl_law_flights.proofs.SilentSteps.{AreSilent}
+use Rattle.pl_journal.proofs.Exports.{granted_apart, live_one}
 
 -- ---- the address in use
 module _ {X : Type 0} (p : X → Bool) where
@@ -188,6 +189,15 @@ module _ (plan : Plan) (past : List Entry) (t : ℕ) (v : SwitchView) (port h : 
   abbrev pub granted_past : List Entry
   granted_past = Granted (address_at_port v port (length (grants_at v port) + 1)) (host_no h) (switch_no t) port ∷ past
 
+  still_newer : (o p q r : Option ℕ) → q ≡ o → r ≡ p → IsNewer o p → IsNewer q r
+  still_newer o p q r a b is = subst (λ (x : Option ℕ). IsNewer x r) (sym a) (subst (λ (x : Option ℕ). IsNewer o x) (sym b) is)
+
+  -- the number of an address that is held stays
+  number_apart_from : (y g : ℕ) → live_holder past y ≡ Some g → number granted_past y ≡ number past y
+  number_apart_from y g held =
+      let n : ℕ = pmac_number (address_at_port v port (length (grants_at v port) + 1)) in
+      cond-false (n == y) None (number past y) (granted_apart past n y may.fresh (live_one past y g held))
+
   pub knows_next : KnowsAddresses plan (history_of granted_past) t (with_grants v port (grants_at v port ++ new_grant mac ip ∷ []))
   unfolding next more
   knows_next =
@@ -196,10 +206,10 @@ module _ (plan : Plan) (past : List Entry) (t : ℕ) (v : SwitchView) (port h : 
       let now : granted (with_grants v port more) next ≡ Some (new_grant mac ip) = now_at v next more within here ∙ number_push_same (grants_at v port) (new_grant mac ip) in
       let others : (y : Pmac) → same_pmac y next ≡ false → granted (with_grants v port more) y ≡ granted v y =
       others_at v next more within here (number_push_other (grants_at v port) (new_grant mac ip)) in
-      let keeps : KeepsHistory (history_of past) (history_of granted_past) = history_more plan past next (host_no h) (switch_no t) port may.fresh in
+      let keeps : KeepsHistory (history_of past) (history_of granted_past) = history_more plan past next (host_no h) (switch_no t) port may.again in
       let itself : IsGranted plan (history_of granted_past) t next (new_grant mac ip) = record {
         host = h;
-        held = cond-true (n == n) (Some h) (holder past n) (eq-eqb n n refl);
+        held = live_now past next (host_no h) (switch_no t) port;
         there = cond-true (n == n) (Some (at_port t port)) (edge_port past n) (eq-eqb n n refl);
         mac = of_host;
         six = six;
@@ -217,7 +227,7 @@ module _ (plan : Plan) (past : List Entry) (t : ℕ) (v : SwitchView) (port h : 
               let was = knows.granted_here y g (sym (others y other) ∙ is) in
               record {
                 host = was.host;
-                held = keeps.held (pmac_number y) was.host was.held;
+                held = live_more past next (host_no h) (switch_no t) port (pmac_number y) was.host may.fresh was.held;
                 there = keeps.there (pmac_number y) _ was.there;
                 mac = was.mac;
                 six = was.six;
@@ -230,7 +240,7 @@ module _ (plan : Plan) (past : List Entry) (t : ℕ) (v : SwitchView) (port h : 
         not_granted = λ y fits own is. elim (is_or_other y next) [
           | inl it ↦ absurd (none-some (new_grant mac ip) (sym is ∙ ap (λ z. granted (with_grants v port more) z) it ∙ now))
           | inr other ↦
-              cond-false (n == pmac_number y) (Some h) (holder past (pmac_number y))
+              live_other past next (host_no h) (switch_no t) port (pmac_number y)
               (ne_eqb n (pmac_number y) (λ same. false≢true (sym other ∙ ap (λ z. same_pmac y z) (sym (same_pmac_number y next fits may.fits (sym same))) ∙ pmac_itself y)))
               ∙ knows.not_granted y fits own (sym (others y other) ∙ is)
         ];
@@ -242,8 +252,10 @@ module _ (plan : Plan) (past : List Entry) (t : ℕ) (v : SwitchView) (port h : 
               let some = trap_there (granted v y) trap before in
               let was = knows.granted_here y some.0 some.1 in
               record {
-                same_host = keeps.held (pmac_number trap.new) was.host (leads.same_host ∙ was.held) ∙ sym (keeps.held (pmac_number y) was.host was.held);
-                newer = leads.newer;
+                same_host = live_more past next (host_no h) (switch_no t) port (pmac_number trap.new) was.host may.fresh (leads.same_host ∙ was.held)
+                    ∙ sym (live_more past next (host_no h) (switch_no t) port (pmac_number y) was.host may.fresh was.held);
+                newer = still_newer (number past (pmac_number y)) (number past (pmac_number trap.new)) _ _
+                    (number_apart_from (pmac_number y) was.host was.held) (number_apart_from (pmac_number trap.new) was.host (leads.same_host ∙ was.held)) leads.newer;
                 fits = leads.fits;
                 unicast = leads.unicast;
               }

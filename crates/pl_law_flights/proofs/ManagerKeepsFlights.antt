@@ -161,7 +161,7 @@ module _ (plan : Plan) (place : ℕ → Place) (history : AddressHistory) (t : �
       let out : destination_of (arriving probe None (Some grant.amac)) ≡ grant.amac = destination_of-arriving probe None (Some grant.amac) long tt x.six in
       let one_host : is_group (destination_of (arriving probe None (Some grant.amac))) ≡ false = ap is_group out ∙ x.unicast in
       let same : mac_number (destination_of probe) ≡ pmac_number old = ap mac_number to ∙ number_of_mac old x.fits in
-      let leaves : IsLeaving plan place history f (arriving probe None (Some grant.amac)) t old.port = record {
+      let leaves : IsLeaving plan place (history.hold f.address) history f (arriving probe None (Some grant.amac)) t old.port = record {
         last = refl;
         group = began ∙ sym one_host;
         kept = λ group. absurd (both_ways (is_group (destination_of (arriving probe None (Some grant.amac)))) one_host group);

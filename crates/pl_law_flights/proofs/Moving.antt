@@ -22,9 +22,9 @@ use Rattle.pl_journal.specs.declared.cause.Cause.TheVariants as cause
 use Rattle.pl_journal.specs.declared.entry.Entry.{Entry}
 use Rattle.pl_journal.specs.declared.entry.Entry.TheVariants.{Moved}
 use Rattle.pl_journal.specs.Causes.{CauseShows, has_left}
-use Rattle.pl_journal.specs.Flights.{address, sender, trail}
+use Rattle.pl_journal.specs.Flights.{address, addressee, sender, trail}
 use Rattle.pl_journal.specs.Lossy.{RunTo}
-use Rattle.pl_journal.specs.Places.{EdgePort, at_port, holder, is_at, is_free, is_host_port, is_left_free, edge_port, edge_port_of}
+use Rattle.pl_journal.specs.Places.{EdgePort, at_port, is_at, is_free, is_host_port, is_left_free, edge_port, edge_port_of}
 use Rattle.pl_journal.proofs.Exports.{edge_port_of_moved, edge_port_of_others, host_port_is, hosts_apart}
 use Rattle.pl_world.specs.declared.item.Item.{Item}
 use Rattle.pl_world.specs.declared.item.Item.TheVariants.{Control, Data}
@@ -79,7 +79,7 @@ module _ (plan : Plan) (place : ℕ → Place) (past : List Entry) (h : ℕ) (to
         | inl group ↦ inl (b.group ∙ group)
         | inr unicast ↦
             let one = b.one unicast in
-            inr (inl (left_is (holder past (address past id)) (edge_port past (address past id)) one.host one.held one.there))
+            inr (inl (left_is (addressee past id) (edge_port past (address past id)) one.host one.held one.there))
       ] in
       (shows, gone_shown items all.1)
 

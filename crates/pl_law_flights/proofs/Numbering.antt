@@ -44,7 +44,7 @@ numbers_journaled (Number pmac n ∷ acts) w plan past same is well so told =
     let needs : Needs w.plan (reverse w.journal) e = subst (λ p. Needs w.plan p e) (sym is) (subst (λ q. Needs q past e) (sym same) well.0) in
     let t = note w.plan (place_in w.switches) (reverse w.journal) w.links w.attachments w.from_hosts w.out e 0
     (nobody (reverse w.journal) w.from_hosts w.out (λ i. 0) (counts w (reverse w.journal) (λ i. 0) refl so.balance))
-    (λ g other. kept w.plan (reverse w.journal) e g tt) (record { held = λ x h is. is; there = λ x at is. is }) needs tt told.links_agree told.attachments_agree told in
+    (λ g other. kept w.plan (reverse w.journal) e g tt) (record { there = λ x at is. is }) needs tt told.links_agree told.attachments_agree told in
     numbers_journaled acts (record w { journal = w.journal ++ e ∷ [] }) plan (e ∷ past) same (reverse_noted w.journal past e is) well.1
     (record { balance = noted_owes w (λ i. 0) (λ i. 0) (e ∷ []) refl (λ i. refl) so.balance; rest = so.rest })
     (subst (λ p. JournalSays w.plan (place_in w.switches) p w.links w.attachments w.from_hosts w.out) (sym (reverse_noted w.journal (reverse w.journal) e refl)) t)

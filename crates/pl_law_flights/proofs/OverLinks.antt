@@ -124,6 +124,7 @@ module _ (w : WorldView) (counted : IsCounted w) (told : IsJournaled w) (on : St
         flight = rw (e, some) refl;
         live = λ u. rw e refl;
         last = refl;
+        to = rw e refl;
       } in
       let amid : IsAmid place t.0 (Waits (crossed_at t.0 f) false) now (noted w1 (Crossed id t)) (Waiting id false) [] = record {
         is = reverse_noted w.journal past (Crossed id t) refl;

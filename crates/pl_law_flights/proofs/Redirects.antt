@@ -119,7 +119,7 @@ module _ (plan : Plan) (place : ℕ → Place) (history : AddressHistory) (t : �
       let leads : TrapLeadsOn history x next = knows.trapped x next trapped in
       let grant = grant_there (granted v x) next trapped in
       let here = knows.granted_here x grant.0 grant.1 in
-      record { present = present; same_host = leads.same_host; newer = leads.newer; port = x.port; here = here.there; reached = reached }
+      record { present = present; same_host = leads.same_host; host = here.host; held = here.held; newer = leads.newer; port = x.port; here = here.there; reached = reached }
 
   turning_on : (f : Flight) (again : Bool) (x : Pmac) (next : Trap) → first_of f.trail ≡ Some t → is_group (destination_of f.beginning) ≡ false → WillBeUnaltered f frame →
       CameInPlaced place f.came_in → (is_arp frame ≡ false → is_group (source_of frame) ≡ false) → trap_for v x ≡ Some next → IsTurning (turned t f again next.new) next

@@ -1,14 +1,14 @@
 -- A switch that becomes a placed edge switch may grant what it grants to the sources that it remembers.
 use Rattle.std.proofs.Common.{◌≡◌, ◌≢◌, ℕ, zero, suc, ◌+◌, ◌<◌, ◌==◌, not, nat_lt, true, false, List, [], ◌∷◌, ◌++◌, length, Option, None, Some, set, refl, sym, ◌∙◌, ap, ap₂, subst, arith, get_or-set_other}
 use Rattle.std.specs.List.{AllByRecursion, range_with_len}
-use Rattle.std.proofs.lemmas.Bool.{and_from, cond-false, eq-eqb, ne_eqb}
+use Rattle.std.proofs.lemmas.Bool.{and_from, cond-false, eq-eqb, ne_eqb, or_from}
 use Rattle.pl_pmac.specs.declared.pmac.Pmac.{Pmac}
 use Rattle.pl_pmac.specs.Pmac.{pmac_number}
 use Rattle.pl_pmac.proofs.Exports.{same_pmac_number}
 use Rattle.pl_wiring.specs.Plan.{Plan}
 use Rattle.pl_journal.specs.declared.entry.Entry.{Entry}
 use Rattle.pl_journal.specs.declared.entry.Entry.TheVariants.{Granted}
-use Rattle.pl_journal.specs.Places.{are_alike, at_port, has_stood, holder, is_of_edge, same_pod_and_position}
+use Rattle.pl_journal.specs.Places.{are_alike, at_port, has_stood, is_of_edge, same_pod_and_position, is_live, edge_port}
 use Rattle.pl_node.specs.declared.acts.Act.{Act}
 use Rattle.pl_node.specs.declared.acts.Act.TheVariants as act
 use Rattle.pl_node.specs.declared.switch_records.Grant.{Grant}
@@ -77,7 +77,8 @@ module _ (plan : Plan) (t : ℕ) where
       record {
         empty = r.empty;
         may = record {
-          fresh = cond-false (pmac_number x == pmac_number y) (Some g) (holder past (pmac_number y)) differ ∙ r.may.fresh;
+          fresh = or_from (pmac_number x == pmac_number y) (is_live past (pmac_number y)) differ r.may.fresh;
+          again = λ at is. r.may.again at (sym (cond-false (pmac_number x == pmac_number y) (Some (at_port t p)) (edge_port past (pmac_number y)) differ) ∙ is);
           edge = and_from (are_alike (same_pod_and_position y x) (t == t)) (is_of_edge past y t) alike r.may.edge;
           fits = r.may.fits;
           own = r.may.own;
@@ -108,7 +109,7 @@ module _ (plan : Plan) (t : ℕ) where
       by_host source (Some h) found of further =
           let x : Pmac = address_at_port v p 1 in
           let later : List Entry = Granted x (host_no h) (switch_no t) p ∷ past in (
-            record { fresh = all.0.may.fresh; port = refl; stood = all.0.stood h source found of; edge = all.0.may.edge },
+            record { may = record { fresh = all.0.may.fresh; port = refl; stood = all.0.stood h source found of; edge = all.0.may.edge }; again = all.0.may.again },
             further _ later
                 (mapped (IsReady past v) _ p
                 (λ q other r. ready_after later v p (grants_at v p ++ new_grant source.amac source.ip ∷ []) q other (ready_granted past v p h q other all.0.may r))

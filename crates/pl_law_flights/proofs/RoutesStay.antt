@@ -12,7 +12,7 @@ use Rattle.pl_wiring.specs.LiveLinks.{LivePorts}
 use Rattle.pl_wiring.specs.Peers.{peer_of}
 use Rattle.pl_wiring.specs.Plan.{Plan}
 use Rattle.pl_journal.specs.declared.entry.Entry.{Entry}
-use Rattle.pl_journal.specs.Flights.{Flight, flight_of, was_live}
+use Rattle.pl_journal.specs.Flights.{addressee, Flight, flight_of, was_live}
 use Rattle.pl_world.specs.declared.item.Item.{Item}
 use Rattle.pl_world.specs.declared.item.Item.TheVariants.{Control, Data}
 use Rattle.pl_world.specs.declared.attachment.AttachmentPoint.{AttachmentPoint}
@@ -86,9 +86,9 @@ module _ (place later : ℕ → Place) (more : IsMore place later) where
     one = λ unicast. let w = b.one unicast in record { route = route_grown plan.k _ f.leg s t w.route; whole = w.whole; unaltered = w.unaltered; sender = w.sender };
   }
 
-  pub leaving_grown : (plan : Plan) (history : AddressHistory) (f : Flight) (frame : List ℕ) (s port : ℕ) → IsLeaving plan place history f frame s port →
-      IsLeaving plan later history f frame s port
-  leaving_grown plan history f frame s port b = record {
+  pub leaving_grown : (plan : Plan) (to : Option ℕ) (history : AddressHistory) (f : Flight) (frame : List ℕ) (s port : ℕ) → IsLeaving plan place to history f frame s port →
+      IsLeaving plan later to history f frame s port
+  leaving_grown plan to history f frame s port b = record {
     last = b.last;
     group = b.group;
     kept = b.kept;
@@ -102,7 +102,7 @@ module _ (place later : ℕ → Place) (more : IsMore place later) where
   going_grown : (plan : Plan) (past : List Entry) (s port : ℕ) (peer : Peer) (id : ℕ) (frame : List ℕ) → IsGoing plan place past s port peer id frame →
       IsGoing plan later past s port peer id frame
   going_grown plan past s port (Switch t q) id frame b = between_grown plan (history_of past) (flight_of plan past id) (was_live past id s t.0) frame s t.0 b
-  going_grown plan past s port HostPort id frame is = leaving_grown plan (history_of past) (flight_of plan past id) frame s port is
+  going_grown plan past s port HostPort id frame is = leaving_grown plan (addressee past id) (history_of past) (flight_of plan past id) frame s port is
 
   all_grown : (plan : Plan) (past : List Entry) (s port : ℕ) (items : List Item) → AllByRecursion (IsOut plan place past s port) items →
       AllByRecursion (IsOut plan later past s port) items

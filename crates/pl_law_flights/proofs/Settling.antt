@@ -9,7 +9,6 @@ use Rattle.pl_layouts.specs.declared.place.Place.{Place}
 use Rattle.pl_journal.specs.declared.entry.Entry.{Entry}
 use Rattle.pl_journal.specs.declared.entry.Entry.TheVariants.{Granted}
 use Rattle.pl_journal.specs.Flights.{came_in, has_just_come_in}
-use Rattle.pl_journal.specs.Lossy.{IsGrantable}
 use Rattle.pl_journal.specs.Places.{EdgePort, at_port}
 use Rattle.pl_node.specs.declared.acts.Act.{Act}
 use Rattle.pl_node.specs.declared.acts.Act.TheVariants as act
@@ -27,7 +26,7 @@ use Rattle.pl_law_flights.specs.OnTheWay.{IsJournaled, place_in}
 use Rattle.pl_law_flights.specs.Standing.{IsMore}
 use Rattle.pl_law_flights.proofs.ActsKeepFlights.{IsDone, control_amid, done_journaled}
 use Rattle.pl_law_flights.proofs.Counting.{counts, nobody}
-use Rattle.pl_law_flights.proofs.Granting.{note_grant}
+use Rattle.pl_law_flights.proofs.Granting.{note_grant, IsGivable}
 use Rattle.pl_law_flights.proofs.RoutesStay.{tells_grown}
 use Rattle.pl_law_flights.proofs.Hands.{IsAmid}
 use Rattle.pl_law_flights.proofs.Hands.Hand.{Empty}
@@ -36,7 +35,7 @@ use Rattle.pl_law_flights.proofs.EntriesOfFlights.{reverse_noted}
 abbrev pub GrantsFor : (List Entry → Type 0) → Plan → ℕ → List Entry → Pmac → Option ℕ → Type 0
 GrantsFor next plan s past pmac None = next past
 GrantsFor next plan s past pmac (Some h) =
-    IsGrantable plan past pmac h (at_port s pmac.port) × next (Granted pmac (host_no h) (switch_no s) pmac.port ∷ past)
+    IsGivable plan past pmac h (at_port s pmac.port) × next (Granted pmac (host_no h) (switch_no s) pmac.port ∷ past)
 
 -- what the part on addresses gives: each address that is granted may be granted then
 abbrev pub GrantsWell : Plan → ℕ → List Act → List Entry → Type 0

@@ -1,5 +1,5 @@
 -- Where each frame of a world is on its way, by what the journal says of it. The entries that are past have the newest first.
-use Rattle.std.specs.Prelude.{◌≡◌, ◌<◌, ℕ, not, Bool, false, true, List, length, Option, None, Some, reverse, slice_get}
+use Rattle.std.specs.Prelude.{◌≡◌, ◌<◌, ℕ, not, Bool, false, true, List, length, Option, None, Some, reverse, slice_get, ◌&&◌}
 use Rattle.std.specs.List.{AllByRecursion}
 use Rattle.std.specs.Option.{option_map}
 use Rattle.pl_frame.specs.declared.address.Mac.{Mac}
@@ -18,9 +18,9 @@ use Rattle.pl_layouts.specs.Frames.{arriving, is_arp, mac_number}
 use Rattle.pl_layouts.specs.Memberships.{is_group}
 use Rattle.pl_layouts.specs.Placement.{is_placed, nowhere}
 use Rattle.pl_journal.specs.declared.entry.Entry.{Entry}
-use Rattle.pl_journal.specs.Flights.{Flight, first_flight, first_of, flight_of, level_of, was_live}
+use Rattle.pl_journal.specs.Flights.{Flight, addressee, first_flight, first_of, flight_of, level_of, was_live}
 use Rattle.pl_journal.specs.Lossy.{GoodTrailTo, RunTo, UnalteredFrom, mac_of_host}
-use Rattle.pl_journal.specs.Places.{EdgePort, at_port, holder, is_at, is_failed, is_spent, number, edge_port, edge_port_of}
+use Rattle.pl_journal.specs.Places.{EdgePort, at_port, live_holder, is_at, is_failed, is_spent, number, edge_port, edge_port_of, are_live_there, is_live}
 use Rattle.pl_node.specs.SwitchViews.{SwitchView}
 use Rattle.pl_queues.specs.Queues.{items_at}
 use Rattle.pl_world.specs.declared.item.Item.{Item}
@@ -53,7 +53,8 @@ pub record IsOnWay (plan : Plan) (place : ℕ → Place) (f : Flight) (live : Bo
   pub unaltered : WillBeUnaltered f frame
   pub sender : is_arp frame ≡ false → is_group (source_of frame) ≡ false
 
--- what was granted and numbered: who holds an address, the port where it was granted, its number, and which ports have no vmid left
+-- what was granted and numbered: who holds a live address, the port where an address was granted last, its number since then, and which ports
+-- have no vmid left and no address that is free
 pub record AddressHistory : Type 0 where
   pub hold : ℕ → Option ℕ
   pub edge_ports : ℕ → Option EdgePort
@@ -61,7 +62,12 @@ pub record AddressHistory : Type 0 where
   pub spent : EdgePort → Bool
 
 abbrev pub history_of : List Entry → AddressHistory
-history_of past = record { hold = holder past; edge_ports = edge_port past; numbers = number past; spent = is_spent past }
+history_of past = record {
+  hold = live_holder past;
+  edge_ports = edge_port past;
+  numbers = number past;
+  spent = λ there. is_spent past there && are_live_there (is_live past) past there;
+}
 
 -- A frame of a group crossed on one leg all that it crossed, and no byte differs but its source's. Its source is an address that was granted.
 pub record IsForMany (history : AddressHistory) (f : Flight) (frame : List ℕ) : Type 0 where
@@ -85,10 +91,10 @@ pub record IsBetweenSwitches (plan : Plan) (place : ℕ → Place) (history : Ad
   pub rises : is_group (destination_of frame) ≡ true → levels plan.k f.leg ≡ risen_or_fallen (level_of plan.k s) (level_of plan.k t)
   pub one : is_group (destination_of frame) ≡ false → IsOnWay plan place f live frame s t
 
--- a frame leaves by a port for the host that holds its present address, which was granted there
-pub record IsForHost (plan : Plan) (history : AddressHistory) (f : Flight) (frame : List ℕ) (s port : ℕ) : Type 0 where
+-- a frame leaves by a port for the host that it is for (`to`), and its present address was granted there
+pub record IsForHost (plan : Plan) (to : Option ℕ) (history : AddressHistory) (f : Flight) (frame : List ℕ) (s port : ℕ) : Type 0 where
   pub host : ℕ
-  pub held : history.hold f.address ≡ Some host
+  pub held : to ≡ Some host
   pub there : history.edge_ports f.address ≡ Some (at_port s port)
   pub reached : first_of f.leg ≡ Some s
   pub mac : mac_of_host plan host ≡ Some (destination_of frame)
@@ -96,7 +102,7 @@ pub record IsForHost (plan : Plan) (history : AddressHistory) (f : Flight) (fram
 
 -- a frame leaves by a host port of the switch that it crossed last, which is not the port of its source where it goes to a group: such a one came down to
 -- that edge switch from a core switch
-pub record IsLeaving (plan : Plan) (place : ℕ → Place) (history : AddressHistory) (f : Flight) (frame : List ℕ) (s port : ℕ) : Type 0 where
+pub record IsLeaving (plan : Plan) (place : ℕ → Place) (to : Option ℕ) (history : AddressHistory) (f : Flight) (frame : List ℕ) (s port : ℕ) : Type 0 where
   pub last : first_of f.trail ≡ Some s
   pub group : is_group (destination_of f.beginning) ≡ is_group (destination_of frame)
   pub kept : is_group (destination_of frame) ≡ true → destination_of f.beginning ≡ destination_of frame
@@ -104,7 +110,7 @@ pub record IsLeaving (plan : Plan) (place : ℕ → Place) (history : AddressHis
   pub many : is_group (destination_of frame) ≡ true → IsForMany history f frame
   pub rises : is_group (destination_of frame) ≡ true → levels plan.k f.leg ≡ fallen 0
   pub not_back : is_group (destination_of frame) ≡ true → is_at (history.edge_ports (mac_number (source_of frame))) (at_port s port) ≡ false
-  pub one : is_group (destination_of frame) ≡ false → IsForHost plan history f frame s port
+  pub one : is_group (destination_of frame) ≡ false → IsForHost plan to history f frame s port
 
 -- what waits at a host is as it was sent
 abbrev pub IsWaiting : Plan → List Entry → ℕ → Item → Type 0
@@ -114,7 +120,7 @@ IsWaiting plan past h (Data id frame) = flight_of plan past id ≡ first_flight 
 -- what goes out of a port, by what is there
 abbrev pub IsGoing : Plan → (ℕ → Place) → List Entry → ℕ → ℕ → Peer → ℕ → List ℕ → Type 0
 IsGoing plan place past s port (Switch t q) id frame = IsBetweenSwitches plan place (history_of past) (flight_of plan past id) (was_live past id s t.0) frame s t.0
-IsGoing plan place past s port HostPort id frame = IsLeaving plan place (history_of past) (flight_of plan past id) frame s port
+IsGoing plan place past s port HostPort id frame = IsLeaving plan place (addressee past id) (history_of past) (flight_of plan past id) frame s port
 
 abbrev pub IsOut : Plan → (ℕ → Place) → List Entry → ℕ → ℕ → Item → Type 0
 IsOut plan place past s port (Control frame) = Unit {0}

@@ -1,5 +1,5 @@
 -- What the way of frames needs of the other parts: that what switches know of places is so.
-use Rattle.std.specs.Prelude.{◌≡◌, ◌<◌, ◌+◌, ◌^◌, ℕ, true, false, Contains, List, [], length, None, Some, reverse, slice_get}
+use Rattle.std.specs.Prelude.{◌≡◌, ◌<◌, ◌+◌, ◌^◌, ℕ, true, false, Contains, List, [], length, None, Some, reverse, slice_get, ◌&&◌}
 use Rattle.pl_wiring.specs.declared.label.Label.TheVariants.{Aggregation, Edge}
 use Rattle.pl_wiring.specs.declared.label.SwitchNo.{SwitchNo}
 use Rattle.pl_frame.specs.declared.address.Mac.{Mac}
@@ -15,7 +15,7 @@ use Rattle.pl_journal.specs.Flights.{level_of}
 use Rattle.pl_layouts.specs.Memberships.{is_group}
 use Rattle.pl_journal.specs.Lossy.{IsNewer, mac_of_host}
 use Rattle.pl_journal.specs.declared.entry.Entry.{Entry}
-use Rattle.pl_journal.specs.Places.{at_port, granted_at, has_stood, holder, is_host_port, is_of_edge, is_spent}
+use Rattle.pl_journal.specs.Places.{at_port, granted_at, has_stood, is_host_port, is_of_edge, is_spent, EdgePort, are_live_there, is_live, edge_port}
 use Rattle.pl_node.specs.declared.switch_records.Grant.{Grant}
 use Rattle.pl_node.specs.declared.switch_records.Source.{Source}
 use Rattle.pl_node.specs.declared.trap.Trap.{Trap}
@@ -79,7 +79,8 @@ pub record KnowsAddresses (plan : Plan) (history : AddressHistory) (t : ℕ) (v 
 
 -- an address that may be granted next at the edge switch t
 pub record IsNextAddress (past : List Entry) (t : ℕ) (x : Pmac) : Type 0 where
-  pub fresh : holder past (pmac_number x) ≡ None
+  pub fresh : is_live past (pmac_number x) ≡ false
+  pub again : (at : EdgePort) → edge_port past (pmac_number x) ≡ Some at → at ≡ at_port t x.port
   pub edge : is_of_edge past x t ≡ true
   pub fits : PmacFits x
   pub own : is_group (mac_of x) ≡ false
@@ -92,7 +93,7 @@ pub record KnowsHosts (plan : Plan) (past : List Entry) (t : ℕ) (v : SwitchVie
   pub tables : length v.grants ≡ v.k
   pub used : (port vmid h : ℕ) (amac : Mac) → is_settled v.place ≡ true → in_use (grants_at v port) amac ≡ Some vmid → mac_of_host plan h ≡ Some amac →
       granted_at past h (at_port t port) ≡ Some (address_at_port v port vmid)
-  pub spent : (port : ℕ) → is_settled v.place ≡ true → is_port_spent v port ≡ true → is_spent past (at_port t port) ≡ true
+  pub spent : (port : ℕ) → is_settled v.place ≡ true → is_port_spent v port ≡ true → (is_spent past (at_port t port) && are_live_there (is_live past) past (at_port t port)) ≡ true
   pub empty : is_settled v.place ≡ false → (port : ℕ) → grants_at v port ≡ []
   pub stood : (port h : ℕ) (source : Source) → remembered_at v port ≡ Some source → host_of plan source.amac ≡ Some h → has_stood plan past h (at_port t port) ≡ true
   pub next : (port : ℕ) → peer_of plan t port ≡ HostPort → port < plan.k → is_settled v.place ≡ true → is_port_spent v port ≡ false →

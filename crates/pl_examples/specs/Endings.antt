@@ -87,7 +87,7 @@ no_frame_goes_on_that_crossed_nothing run = false≢true run.1.1.turns
 its_link_failed : Run two_pods at_old_place → Run two_pods (at_old_place ++ Redirected 4 pmac_d pmac_moved ∷ LinkDown e10 (switch 11) ∷ Dropped 4 Failed ∷ [])
 unfolding decode_pairs
 its_link_failed run =
-    run ▸ (refl, record { present = refl; same_host = refl; newer = lit< tt; turns = refl }) ▸ record { ordered = lit< tt; adjacent = refl; state = refl } ▸ (refl, refl)
+    run ▸ (refl, record { present = refl; live = (refl, refl); same_host = refl; newer = lit< tt; turns = refl }) ▸ record { ordered = lit< tt; adjacent = refl; state = refl } ▸ (refl, refl)
 
 -- the link of e0.0 failed behind it
 another_link_failed : ¬ Run two_pods (at_old_place ++ LinkDown e00 a00 ∷ Dropped 4 Failed ∷ [])

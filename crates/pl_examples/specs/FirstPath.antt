@@ -1,7 +1,7 @@
 -- Two hosts on one edge switch say who they are, and then one sends a frame to the other: a run of the lossy switch. Changes of it that are none.
-use Rattle.std.specs.Prelude.{ℕ, ◌+◌, List, [], ◌∷◌, ◌++◌, codes, map, take, slice_index, ◌==◌, None, is_none, refl}
+use Rattle.std.specs.Prelude.{ℕ, ◌+◌, List, [], ◌∷◌, ◌++◌, codes, map, take, slice_index, ◌==◌, None, refl}
 use Rattle.std.specs.List.{range_with_len}
-use Rattle.std.proofs.Common.{ap}
+use Rattle.std.proofs.Common.{ap, sym}
 use Rattle.std.proofs.lemmas.Bool.{false≢true}
 use Rattle.hex.specs.Hex.{decode_pairs}
 use Rattle.pl_frame.specs.declared.address.Mac.{Mac}
@@ -101,9 +101,9 @@ no_byte_of_its_payload_is : ¬ Run two_hosts (then on_its_way (Arrived 3 b (take
 unfolding decode_pairs
 no_byte_of_its_payload_is run = false≢true (ap (λ frame. slice_index frame 59 == 0) run.1.1.unaltered)
 
-no_address_is_granted_twice : ¬ Run two_hosts (then both_started (Granted pmac_b b e00 1))
+no_live_address_is_granted : ¬ Run two_hosts (then both_started (Granted pmac_b b e00 1))
 unfolding decode_pairs
-no_address_is_granted_twice run = false≢true (ap is_none run.1.fresh)
+no_live_address_is_granted run = false≢true (sym run.1.fresh)
 
 -- the next frame is number 3
 no_number_is_left_out : ¬ Run two_hosts (then both_started (Sent 4 a a_to_b))
@@ -118,7 +118,7 @@ a_switch_does_not_take_it run = false≢true run.1.1.takeable
 -- its address was granted
 it_is_not_dropped_for_want_of_an_address : ¬ Run two_hosts (then on_its_way (Dropped 3 NoAddress))
 unfolding decode_pairs
-it_is_not_dropped_for_want_of_an_address run = false≢true (ap is_none run.1.1)
+it_is_not_dropped_for_want_of_an_address run = false≢true (sym run.1.1)
 
 -- b stands at port 1, and port 2 has a link
 no_host_moves_to_where_another_stands : ¬ Run two_hosts (then both_started (Moved a e00 1))

@@ -99,7 +99,7 @@ a_moved_host_is_a_run =
     ▸ refl ▸ record { fresh = refl; port = refl; stood = refl; edge = refl } ▸ (refl, record { of_host = refl; alone = refl; takeable = refl })
     ▸ (refl, refl, refl)
     ▸ tt ▸ refl ▸ refl ▸ refl ▸ refl ▸ refl ▸ refl
-    ▸ (refl, record { present = refl; same_host = refl; newer = lit< tt; turns = refl })
+    ▸ (refl, record { present = refl; live = (refl, refl); same_host = refl; newer = lit< tt; turns = refl })
     ▸ refl ▸ refl ▸ refl ▸ refl ▸ refl
     ▸ (refl, record { held = refl; stands_there = refl; reached = (refl, refl); unaltered = refl })
 

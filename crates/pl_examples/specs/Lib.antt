@@ -3,6 +3,7 @@ pub mod ExampleFrames
 pub mod FirstPath
 pub mod Journeys
 pub mod Endings
+pub mod FreedAddresses
 pub mod FlowExamples
 pub mod VoteExamples
 pub mod SwitchExamples

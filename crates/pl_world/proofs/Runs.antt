@@ -1,7 +1,7 @@
 -- What each step and each mark keeps, each run keeps.
 use Rattle.std.proofs.Common.{◌≡◌, ℕ, ◌+◌, List, [], ◌∷◌, refl, sym, subst}
 use Rattle.pl_journal.specs.declared.entry.Entry.{Entry}
-use Rattle.pl_journal.specs.declared.entry.Entry.TheVariants.{Arrived, Copied, Crossed, Dropped, Granted, Line, LinkDown, LinkUp, Made, Moved, Placed, Redirected, Registered, Sent, Settled, Skipped, Taken, Unsettled}
+use Rattle.pl_journal.specs.declared.entry.Entry.TheVariants.{Arrived, Copied, Crossed, Dropped, Freed, Granted, Line, LinkDown, LinkUp, Made, Moved, Placed, Redirected, Registered, Sent, Settled, Skipped, Taken, Unsettled}
 use Rattle.pl_journal.specs.Flights.{begun, ends}
 use Rattle.pl_node.specs.Accounting.{AccountsForFrames}
 use Rattle.pl_node.specs.HostDuties.{HostsSendData}
@@ -37,6 +37,7 @@ marked w (Taken id switch) is counted = absurd is
 marked w (Dropped id cause) is counted = absurd is
 marked w (Granted pmac host switch port) is counted = absurd is
 marked w (Registered pmac number) is counted = absurd is
+marked w (Freed pmac) is counted = absurd is
 marked w (Placed switch place) is counted = absurd is
 marked w (LinkDown x y) is counted = absurd is
 marked w (LinkUp x y) is counted = absurd is
